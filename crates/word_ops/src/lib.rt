@@ -1,0 +1,20 @@
+//! The operators on words and memories, and what each gives: the 55 integer operates of the Alpha, six further operators
+//! of terms, and a memory of 64-bit words.
+//!
+//! A word is a number below 2 ^ 64, a memory is a finite map from places below 2 ^ 61 to words that aren't 0, and a world
+//! has the registers, the memory at entry and the declared operators that a term is read in.
+#![tactic(auto)]
+
+mod arithmetic;
+mod bitwise;
+mod bytes;
+mod comparison;
+mod memory;
+mod names;
+mod operators;
+mod sorts;
+
+pub use memory::Mem;
+pub use names::{op_name, op_of};
+pub use operators::{WordOp, apply, arity};
+pub use sorts::{Arity, Op, Sort};

@@ -1,0 +1,92 @@
+// The operators of terms and graphs: on words, on memories, and declared by the input.
+ghost use Rattle.std.specs.Prelude.{◌≡◌, ◌<◌};
+ghost use Rattle.word_ops.specs.Meanings as meanings;
+
+use crate::operators::{WordOp, arity};
+
+/// What a value is.
+#[derive(Clone, Copy, PartialEq, Eq, Debug)]
+pub enum Sort {
+    Word,
+    Memory,
+}
+
+/// How many operands a declared operator takes.
+#[derive(Clone, Copy, PartialEq, Eq, Debug)]
+pub enum Arity {
+    One,
+    Two,
+    Three,
+    Four,
+}
+
+/// An operator of a term.
+#[derive(Clone, Copy, PartialEq, Eq, Debug)]
+pub enum Op {
+    /// The memory at entry.
+    Entry,
+    /// The word of a register, given by its number.
+    Input(u8),
+    Constant(u64),
+    Word(WordOp),
+    /// The word at an address of a memory.
+    Select,
+    /// A memory with a word put at an address.
+    Store,
+    /// `Select` at a base and a displacement, as an instruction has them.
+    Load,
+    /// `Store` at a base and a displacement.
+    Put,
+    /// An operator that the input declares; `index` is its place in a list of names.
+    Declared { index: u8, arity: Arity },
+}
+
+impl Arity {
+    pub fn count(self) -> usize
+        ensures { result ≡ meanings.count_of self }
+    {
+        match self {
+            Arity::One => 1,
+            Arity::Two => 2,
+            Arity::Three => 3,
+            Arity::Four => 4,
+        }
+    }
+}
+
+impl Op {
+    /// The number of operands, 0 to 4.
+    pub fn arity(self) -> usize
+        ensures { result ≡ meanings.arity_of_op self }
+    {
+        match self {
+            Op::Entry | Op::Input(_) | Op::Constant(_) => 0,
+            Op::Word(op) => arity(op),
+            Op::Select => 2,
+            Op::Store | Op::Load => 3,
+            Op::Put => 4,
+            Op::Declared { arity, .. } => arity.count(),
+        }
+    }
+
+    /// What the operator gives.
+    pub fn sort(self) -> Sort
+        ensures { result ≡ meanings.sort_of self }
+    {
+        match self {
+            Op::Entry | Op::Store | Op::Put => Sort::Memory,
+            _ => Sort::Word,
+        }
+    }
+
+    /// What it takes as operand `at`, from 0.
+    pub fn operand_sort(self, at: usize) -> Sort
+        requires { at < meanings.arity_of_op self }
+        ensures { result ≡ meanings.operand_sort self at }
+    {
+        match self {
+            Op::Select | Op::Store | Op::Load | Op::Put if at == 0 => Sort::Memory,
+            _ => Sort::Word,
+        }
+    }
+}
