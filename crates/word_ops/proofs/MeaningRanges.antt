@@ -1,5 +1,5 @@
 -- What an operator of a term gives is a value of its sort, where its operands are values of theirs.
-use Rattle.std.proofs.Common.{◌≡◌, ℕ, ◌<◌, ◌^◌, zero, suc, List, length, get_or, slice_index, sym, ap, subst, ◌∙◌, refl, arith, ◌⊎◌, ⊎_elim}
+use Rattle.std.proofs.Common.{◌≡◌, ℕ, ◌<◌, ◌^◌, List, length, get_or, sym, subst, refl, arith, ⊎_elim}
 use Rattle.std.proofs.lemmas.Bool.{cases_lt}
 use Rattle.std.proofs.lemmas.List.{get_or_past}
 use Rattle.word_ops.specs.Words.{IsWord}
@@ -11,7 +11,7 @@ use Rattle.word_ops.specs.declared.sorts.Sort.TheVariants as sorts
 use Rattle.word_ops.specs.declared.sorts.Op.{Op}
 use Rattle.word_ops.specs.declared.sorts.Op.TheVariants.{Entry, Input, Constant, Word, Select, Store, Load, Put, Declared}
 use Rattle.word_ops.proofs.ValueRanges.{value_at-lt, operand-lt, lda-lt}
-use Rattle.word_ops.proofs.Stored.{word_at-lt, IsMemory-put_word, IsMemory-empty}
+use Rattle.word_ops.proofs.Stored.{word_at-lt, IsMemory-put_word}
 
 word_of_value : (sort : Sort) (v : Value) → IsValue sort v → IsWord (as_word v)
 word_of_value sorts.Word (word n) h = h

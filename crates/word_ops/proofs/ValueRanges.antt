@@ -1,5 +1,5 @@
 -- Each operator gives a word where its operands are words.
-use Rattle.std.proofs.Common.{◌≡◌, ℕ, ◌+◌, ◌-◌, ◌*◌, ◌/◌, ◌%◌, ◌^◌, ◌<◌, ◌≤◌, Bool, true, false, List, [], ◌∷◌, All, length, slice_index, arith, ◌⊎◌, ⊎_elim, subst, sym, mul-le-mul}
+use Rattle.std.proofs.Common.{ℕ, ◌-◌, ◌*◌, ◌/◌, ◌%◌, ◌^◌, ◌<◌, ◌≤◌, Bool, true, false, List, All, length, slice_index, arith, ⊎_elim, subst, sym, mul-le-mul}
 use Rattle.std.proofs.Math.Nat.{mod-le}
 use Rattle.std.proofs.lemmas.Bool.{cases_lt}
 use Rattle.std.proofs.lemmas.List.{get_or_past}
@@ -7,7 +7,7 @@ use Rattle.std.proofs.lemmas.Nat.{pow_pos, and_le_l, or_lt, xor_lt, mod_below, s
 use Rattle.word_ops.specs.declared.operators.WordOp.{WordOp}
 use Rattle.word_ops.specs.declared.operators.WordOp.TheVariants.{Addl, S4addl, Subl, S4subl, Cmpbge, S8addl, S8subl, Cmpult, Addq, S4addq, Subq, S4subq, Cmpeq, S8addq, S8subq, Cmpule, Cmplt, Cmple, And, Bic, Bis, Ornot, Xor, Eqv, Mskbl, Extbl, Insbl, Mskwl, Extwl, Inswl, Mskll, Extll, Insll, Zap, Zapnot, Mskql, Srl, Extql, Sll, Insql, Sra, Mskwh, Inswh, Extwh, Msklh, Inslh, Extlh, Mskqh, Insqh, Extqh, Mull, Mulq, Umulh, Sextb, Sextw, Neg, Not, Selectb, Storeb, Lda, Ldah}
 use Rattle.word_ops.specs.Words.{IsWord}
-use Rattle.word_ops.specs.Values.{addq, subq, mulq, s4addq, s8addq, s4subq, s8subq, umulh, neg, sextb, sextw, lda, ldah, flag, cmpeq, cmplt, cmple, cmpult, cmpule, cmpbge, and, bic, bis, ornot, xor, eqv, not, ext_low, ext_high, ins_high, msk_high, selectb}
+use Rattle.word_ops.specs.Values.{addq, subq, mulq, s4addq, s8addq, s4subq, s8subq, umulh, neg, sextb, sextw, lda, ldah, flag, cmpeq, cmplt, cmple, cmpult, cmpule, cmpbge, and, bic, ornot, xor, eqv, not, ext_low, ext_high, ins_high, msk_high, selectb}
 use Rattle.word_ops.specs.Operators.{value_at, value_of}
 use Rattle.word_ops.proofs.WordBits.{word_of-lt}
 use Rattle.word_ops.proofs.OperatorBits.{sign_extended-lt, sll-lt, srl-lt, sra-lt, zap-lt, zapnot-lt, storeb-lt}

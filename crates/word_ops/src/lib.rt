@@ -20,3 +20,6 @@ pub use memory::Mem;
 pub use names::{op_name, op_of};
 pub use operators::{WordOp, apply, arity};
 pub use sorts::{Arity, Op, Sort};
+
+#[cfg(test)]
+mod tests;
