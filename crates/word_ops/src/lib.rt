@@ -18,7 +18,7 @@ mod sorts;
 pub use laws::{meanings_are_in_range, memories_with_the_same_words};
 pub use memory::Mem;
 pub use names::{op_name, op_of};
-pub use operators::{WordOp, apply, arity};
+pub use operators::{OPERATORS, WordOp, apply, arity};
 pub use sorts::{Arity, Op, Sort};
 
 #[cfg(test)]
