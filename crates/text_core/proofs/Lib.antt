@@ -3,3 +3,4 @@ pub mod Cuts
 pub mod Lexemes
 pub mod Atoms
 pub mod Outcomes
+pub mod Within
