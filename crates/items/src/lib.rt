@@ -5,6 +5,8 @@
 #![tactic(auto)]
 
 mod list;
+#[cfg(test)]
+mod tests;
 
 pub use list::Items;
 use std::alloc::AllocError;

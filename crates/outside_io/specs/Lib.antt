@@ -1,0 +1,5 @@
+pub mod Causes
+pub mod InMemory
+pub mod Putting
+pub mod Streams
+pub mod Taking

@@ -1,0 +1,29 @@
+//! Where bytes come from and where they go, with a count of what failed there.
+//!
+//! A `Source` or a `Sink` that tells its bytes is one that contracts can speak of byte by byte: those in memory do.
+//! Standard input and output tell none, and are the trusted edge.
+#![tactic(auto)]
+
+mod failing_sink;
+mod failing_source;
+mod mem_sink;
+mod mem_source;
+mod reading;
+mod sink;
+mod source;
+mod std_sink;
+mod std_source;
+#[cfg(test)]
+mod tests;
+mod writing;
+
+pub use failing_sink::FailingSink;
+pub use failing_source::FailingSource;
+pub use mem_sink::MemSink;
+pub use mem_source::MemSource;
+pub use reading::{ReadAllFault, read_all};
+pub use sink::Sink;
+pub use source::{Failed, Source};
+pub use std_sink::StdSink;
+pub use std_source::StdSource;
+pub use writing::{SinkFault, write_all};

@@ -1,0 +1,5 @@
+pub mod Values
+pub mod Cuts
+pub mod Lexemes
+pub mod Atoms
+pub mod Outcomes
