@@ -1,4 +1,4 @@
--- The opcode and the function code of each operate. From the Alpha Architecture Handbook, version 4, the tables of opcodes
+-- The opcode of each instruction, and the function code of each operate. From the Alpha Architecture Handbook, version 4, the tables of opcodes
 -- and function codes; the operators that are no instruction have none.
 use Rattle.std.specs.Prelude.{ℕ, Option, Some, None, Bool, false, ◌==◌, ◌&&◌, find}
 use Rattle.std.specs.Option.{option_map_or}
@@ -6,6 +6,22 @@ use Rattle.word_ops.specs.declared.operators.WordOp.{WordOp}
 use Rattle.word_ops.specs.declared.operators.WordOp.TheVariants.{Addl, S4addl, Subl, S4subl, Cmpbge, S8addl, S8subl, Cmpult, Addq, S4addq, Subq, S4subq, Cmpeq, S8addq, S8subq, Cmpule, Cmplt, Cmple, And, Bic, Bis, Ornot, Xor, Eqv, Mskbl, Extbl, Insbl, Mskwl, Extwl, Inswl, Mskll, Extll, Insll, Zap, Zapnot, Mskql, Srl, Extql, Sll, Insql, Sra, Mskwh, Inswh, Extwh, Msklh, Inslh, Extlh, Mskqh, Insqh, Extqh, Mull, Mulq, Umulh, Sextb, Sextw}
 use Rattle.word_ops.specs.Operators.{operators, arity_of}
 
+abbrev pub lda_opcode : ℕ
+lda_opcode = 0x08
+
+abbrev pub ldah_opcode : ℕ
+ldah_opcode = 0x09
+
+abbrev pub ldq_u_opcode : ℕ
+ldq_u_opcode = 0x0B
+
+abbrev pub stq_u_opcode : ℕ
+stq_u_opcode = 0x0F
+
+abbrev pub beq_opcode : ℕ
+beq_opcode = 0x39
+
+-- opcode and function code
 abbrev pub code_of : WordOp → Option (ℕ × ℕ)
 code_of Addl = Some (0x10, 0x00)
 code_of S4addl = Some (0x10, 0x02)

@@ -8,7 +8,7 @@ use Rattle.alpha_encode.specs.declared.instructions.Second.{Second}
 use Rattle.alpha_encode.specs.declared.instructions.Second.TheVariants.{Reg, Literal}
 use Rattle.alpha_encode.specs.declared.instructions.Instr.{Instr}
 use Rattle.alpha_encode.specs.declared.instructions.Instr.TheVariants.{Operate, Lda, Ldah, LdqU, StqU, Beq}
-use Rattle.alpha_encode.specs.Codes.{operate_of, is_unary}
+use Rattle.alpha_encode.specs.Codes.{lda_opcode, ldah_opcode, ldq_u_opcode, stq_u_opcode, beq_opcode, operate_of, is_unary}
 
 -- the field of some width whose lowest bit is `low`
 abbrev pub field : ℕ → ℕ → ℕ → ℕ
@@ -51,9 +51,9 @@ operate word = option_and_then (operate_with word) (operate_of (opcode word) (fi
 
 abbrev pub decoded : ℕ → Option Instr
 decoded word =
-    if opcode word == 0x08 then Some (Lda (ra word) (rb word) (displacement word)) else
-    (if opcode word == 0x09 then Some (Ldah (ra word) (rb word) (displacement word)) else
-    (if opcode word == 0x0B then Some (LdqU (ra word) (rb word) (displacement word)) else
-    (if opcode word == 0x0F then Some (StqU (ra word) (rb word) (displacement word)) else
-    (if opcode word == 0x39 then Some (Beq (ra word) (branch_displacement word)) else
+    if opcode word == lda_opcode then Some (Lda (ra word) (rb word) (displacement word)) else
+    (if opcode word == ldah_opcode then Some (Ldah (ra word) (rb word) (displacement word)) else
+    (if opcode word == ldq_u_opcode then Some (LdqU (ra word) (rb word) (displacement word)) else
+    (if opcode word == stq_u_opcode then Some (StqU (ra word) (rb word) (displacement word)) else
+    (if opcode word == beq_opcode then Some (Beq (ra word) (branch_displacement word)) else
     operate word))))

@@ -7,7 +7,7 @@ use Rattle.alpha_encode.specs.declared.instructions.Second.{Second}
 use Rattle.alpha_encode.specs.declared.instructions.Second.TheVariants.{Reg, Literal}
 use Rattle.alpha_encode.specs.declared.instructions.Instr.{Instr}
 use Rattle.alpha_encode.specs.declared.instructions.Instr.TheVariants.{Operate, Lda, Ldah, LdqU, StqU, Beq}
-use Rattle.alpha_encode.specs.Codes.{code_of, is_unary}
+use Rattle.alpha_encode.specs.Codes.{lda_opcode, ldah_opcode, ldq_u_opcode, stq_u_opcode, beq_opcode, code_of, is_unary}
 
 -- the number fits in k bits of two's complement
 abbrev pub FitsBits : ℕ → ℤ → Type 0
@@ -53,8 +53,8 @@ branch_word opcode ra disp = opcode * 2 ^ 26 + ra * 2 ^ 21 + bits_of 21 disp
 -- the word of an instruction
 abbrev pub encoded : Instr → ℕ
 encoded (Operate op ra second rc) = option_map_or (λ code. operate_word code ra (second_bits second) rc) (code_of op) 0
-encoded (Lda ra rb disp) = memory_word 0x08 ra rb disp
-encoded (Ldah ra rb disp) = memory_word 0x09 ra rb disp
-encoded (LdqU ra rb disp) = memory_word 0x0B ra rb disp
-encoded (StqU ra rb disp) = memory_word 0x0F ra rb disp
-encoded (Beq ra disp) = branch_word 0x39 ra disp
+encoded (Lda ra rb disp) = memory_word lda_opcode ra rb disp
+encoded (Ldah ra rb disp) = memory_word ldah_opcode ra rb disp
+encoded (LdqU ra rb disp) = memory_word ldq_u_opcode ra rb disp
+encoded (StqU ra rb disp) = memory_word stq_u_opcode ra rb disp
+encoded (Beq ra disp) = branch_word beq_opcode ra disp

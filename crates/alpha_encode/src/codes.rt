@@ -1,10 +1,20 @@
-// The opcode and function code of each operate.
+// The opcode of each instruction, and the function code of each operate.
 ghost use Rattle.std.specs.Prelude.{◌≡◌, find};
 ghost use Rattle.alpha_encode.specs.Codes as codes;
 
 use word_ops::WordOp;
 
-// Opcode and function code, for the 55 operates.
+pub(crate) const LDA: u32 = 0x08;
+
+pub(crate) const LDAH: u32 = 0x09;
+
+pub(crate) const LDQ_U: u32 = 0x0b;
+
+pub(crate) const STQ_U: u32 = 0x0f;
+
+pub(crate) const BEQ: u32 = 0x39;
+
+// Opcode and function code of the 55 operates.
 pub(crate) fn code(op: WordOp) -> Option<(u32, u32)>
     ensures { result ≡ codes.code_of op }
 {

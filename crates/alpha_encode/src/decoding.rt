@@ -1,10 +1,10 @@
 // From a word to its instruction.
-ghost use Rattle.std.specs.Prelude.{◌≡◌, ◌≢◌, ◌<◌, ◌≤◌, ◌+◌, ◌^◌, IfSome, IfNone};
+ghost use Rattle.std.specs.Prelude.{◌≡◌, ◌≢◌, ◌<◌, IfSome, IfNone};
 ghost use Rattle.alpha_encode.specs.Formats.{IsWellFormed, encoded};
 ghost use Rattle.alpha_encode.specs.Decoded as decoding;
 ghost use Rattle.alpha_encode.specs.declared.instructions.Instr.{Instr as Instruction};
 
-use crate::codes::find_operate;
+use crate::codes::{BEQ, LDA, LDAH, LDQ_U, STQ_U, find_operate};
 use crate::instructions::{Instr, Second};
 use word_ops::{OPERATORS, WordOp, arity};
 
@@ -18,11 +18,11 @@ pub fn decode(word: u32) -> Option<Instr>
     let rb = register(word, 16);
     let disp = displacement(word);
     match field(word, 26, 6) {
-        0x08 => Some(Instr::Lda { ra, rb, disp }),
-        0x09 => Some(Instr::Ldah { ra, rb, disp }),
-        0x0b => Some(Instr::LdqU { ra, rb, disp }),
-        0x0f => Some(Instr::StqU { ra, rb, disp }),
-        0x39 => Some(Instr::Beq {
+        LDA => Some(Instr::Lda { ra, rb, disp }),
+        LDAH => Some(Instr::Ldah { ra, rb, disp }),
+        LDQ_U => Some(Instr::LdqU { ra, rb, disp }),
+        STQ_U => Some(Instr::StqU { ra, rb, disp }),
+        BEQ => Some(Instr::Beq {
             ra,
             disp: branch_displacement(word),
         }),

@@ -1,11 +1,11 @@
 // From an instruction to its word.
-ghost use Rattle.std.specs.Prelude.{◌≡◌, ◌<◌, ◌^◌, ◌-◌, IsSome, Some};
+ghost use Rattle.std.specs.Prelude.{◌≡◌, ◌<◌, ◌^◌, IsSome};
 ghost use Rattle.std.specs.Option.{option_map_or};
 ghost use Rattle.alpha_encode.specs.Codes.{code_of};
 ghost use Rattle.alpha_encode.specs.Formats.{IsWellFormed, IsSecond, FitsBits, encoded, operate_word, second_bits, memory_word, branch_word};
 ghost use Rattle.alpha_encode.specs.Decoded.{decoded};
 
-use crate::codes::code;
+use crate::codes::{BEQ, LDA, LDAH, LDQ_U, STQ_U, code};
 use crate::instructions::{Instr, Second};
 use word_ops::WordOp;
 
@@ -17,11 +17,11 @@ pub fn encode(instr: Instr) -> u32
 {
     match instr {
         Instr::Operate { op, ra, second, rc } => operate(op, ra, second, rc),
-        Instr::Lda { ra, rb, disp } => memory(0x08, ra, rb, disp),
-        Instr::Ldah { ra, rb, disp } => memory(0x09, ra, rb, disp),
-        Instr::LdqU { ra, rb, disp } => memory(0x0b, ra, rb, disp),
-        Instr::StqU { ra, rb, disp } => memory(0x0f, ra, rb, disp),
-        Instr::Beq { ra, disp } => branch(0x39, ra, disp),
+        Instr::Lda { ra, rb, disp } => memory(LDA, ra, rb, disp),
+        Instr::Ldah { ra, rb, disp } => memory(LDAH, ra, rb, disp),
+        Instr::LdqU { ra, rb, disp } => memory(LDQ_U, ra, rb, disp),
+        Instr::StqU { ra, rb, disp } => memory(STQ_U, ra, rb, disp),
+        Instr::Beq { ra, disp } => branch(BEQ, ra, disp),
     }
 }
 
@@ -40,6 +40,7 @@ fn operate(op: WordOp, ra: u8, second: Second, rc: u8) -> u32
                 + (function << 5)
                 + u32::from(rc)
         }
+        // Not reached: the operator has a code.
         None => 0,
     }
 }
