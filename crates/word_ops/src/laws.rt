@@ -1,8 +1,8 @@
-// Laws of the definitions, each as the contract of a function that does nothing.
-ghost use Rattle.std.specs.Prelude.{◌≡◌, ℕ, List, All};
+// Laws of the definitions, as contracts of functions that do nothing.
+ghost use Rattle.std.specs.Prelude.{◌≡◌, ◌≢◌, ◌<◌, ◌^◌, ℕ, List, All};
 ghost use Rattle.word_ops.specs.Words.{IsWord};
-ghost use Rattle.word_ops.specs.Operators.{value_at, value_of};
-ghost use Rattle.word_ops.specs.Memory.{Memory, IsMemory, word_at};
+ghost use Rattle.word_ops.specs.Operators.{value_of};
+ghost use Rattle.word_ops.specs.Memory.{Memory, IsMemory, word_at, put_word};
 ghost use Rattle.word_ops.specs.Worlds.{Value, World, IsWorld, IsValue};
 ghost use Rattle.word_ops.specs.Meanings.{meaning, sort_of, AreOperands, IsInRange};
 ghost use Rattle.word_ops.specs.declared.operators.WordOp.{WordOp as Operator};
@@ -15,7 +15,16 @@ pub fn meanings_are_in_range()
         IsWorld world → IsInRange op → AreOperands op vs → IsValue (sort_of op) (meaning world names op vs) }
 {}
 
-/// Two memories are equal where each place holds the same word in both.
-pub fn memories_with_the_same_words()
-    ensures { (m n : Memory) → IsMemory m → IsMemory n → ((place : ℕ) → word_at m place ≡ word_at n place) → m ≡ n }
+/// A memory after a write: the place holds the word, every other place what it held. Two memories are equal where each
+/// place holds the same word in both.
+pub fn memories_hold_words()
+    ensures put { (m : Memory) (place v : ℕ) → word_at (put_word m place v) place ≡ v }
+    ensures others { (m : Memory) (place v other : ℕ) → other ≢ place →
+        word_at (put_word m place v) other ≡ word_at m other }
+    ensures again { (m : Memory) (place v w : ℕ) →
+        put_word (put_word m place v) place w ≡ put_word m place w }
+    ensures is_memory { (m : Memory) (place v : ℕ) → IsMemory m → place < 2 ^ 61 → IsWord v →
+        IsMemory (put_word m place v) }
+    ensures equal { (m n : Memory) → IsMemory m → IsMemory n →
+        ((place : ℕ) → word_at m place ≡ word_at n place) → m ≡ n }
 {}
