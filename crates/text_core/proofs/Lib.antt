@@ -3,3 +3,11 @@ pub mod Cuts
 pub mod Lexemes
 pub mod Atoms
 pub mod Outcomes
+pub mod Forests
+pub mod Depths
+pub mod Partners
+pub mod Misplaced
+pub mod Builds
+pub mod Outermost
+pub mod Steps
+pub mod Readings

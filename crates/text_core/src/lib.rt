@@ -10,13 +10,17 @@ mod laws;
 mod lexer;
 mod names;
 mod numbers;
+mod parser;
 mod pieces;
+mod sexps;
 mod tokens;
 
 pub use faults::{Fault, Kind, TextFault};
-pub use laws::one_lexing;
+pub use laws::{one_lexing, one_parsing};
 pub use lexer::lex;
 pub use names::Name;
+pub use parser::tree;
+pub use sexps::Sexp;
 pub use tokens::{Token, TokenKind};
 
 #[cfg(test)]

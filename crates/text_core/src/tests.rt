@@ -1,5 +1,7 @@
 // Texts with their tokens, trees, lines and faults, worked by hand.
-use crate::{Fault, Kind, Name, TextFault, TokenKind, lex};
+use crate::{Fault, Kind, Name, Sexp, TextFault, TokenKind, lex, tree};
+use itoa::Buffer;
+use std::alloc::{AllocError, Global};
 use std::test::Fail;
 
 const TOKENS: [(&[u8], &[(TokenKind, u32, u32)]); 20] = [
@@ -134,4 +136,135 @@ fn names_and_faults_are_printed(rt: HostRuntime) -> Result<(), Fail> {
         b"fault 0 BadLine".as_slice()
     );
     Ok(())
+}
+
+// The places of the atoms and of the parentheses.
+fn print(places: &mut Vec<u8>, trees: &[Sexp]) -> Result<(), AllocError> {
+    for tree in trees {
+        match tree {
+            Sexp::Atom(token) => {
+                places.extend_from_slice(Buffer::new().format(token.place).as_bytes())?;
+                places.push(b' ')?;
+            }
+            Sexp::List { place, parts } => {
+                places.push(b'(')?;
+                places.extend_from_slice(Buffer::new().format(*place).as_bytes())?;
+                places.push(b' ')?;
+                print(places, parts)?;
+                places.push(b')')?;
+            }
+        }
+    }
+    Ok(())
+}
+
+// What a text gives: the places of its trees, or its fault.
+fn trees(alloc: Global, text: &[u8]) -> Result<Vec<u8>, TextFault> {
+    if text.len() > 1000 {
+        return Err(TextFault::Memory);
+    }
+    let tokens = lex(alloc, text)?;
+    if tokens.len() > 1000 {
+        return Err(TextFault::Memory);
+    }
+    let mut places = Vec::new(alloc);
+    match print(&mut places, &tree(alloc, &tokens)?) {
+        Ok(()) => Ok(places),
+        Err(_) => Err(TextFault::Memory),
+    }
+}
+
+const TREES: [(&[u8], &[u8]); 7] = [
+    (b"", b""),
+    (b"; (", b""),
+    (b"()", b"(0 )"),
+    (b"a (b) c", b"0 (2 3 )6 "),
+    (b"(()(()))", b"(0 (1 )(3 (4 )))"),
+    (b"(a 1 $2)\n(b;)\n)", b"(0 1 3 5 )(9 10 )"),
+    (b"x", b"0 "),
+];
+
+const NESTING: [(&[u8], u32, Kind); 14] = [
+    (b"(", 0, Kind::Unclosed),
+    (b")", 0, Kind::Unopened),
+    (b"a b (", 4, Kind::Unclosed),
+    (b"(a) b)", 5, Kind::Unopened),
+    (b"(()", 0, Kind::Unclosed),
+    (b"()(()", 2, Kind::Unclosed),
+    (b"())", 2, Kind::Unopened),
+    (b") (", 0, Kind::Unopened),
+    (b"( ) ) (", 4, Kind::Unopened),
+    (b"(a (b) (c", 0, Kind::Unclosed),
+    (b"(a)\n(b (c)\n", 4, Kind::Unclosed),
+    (b"(;)\n", 0, Kind::Unclosed),
+    // An earlier fault of the bytes decides, also behind one of the parentheses.
+    (b") -", 2, Kind::BadByte),
+    (b"(0x", 1, Kind::BadNumber),
+];
+
+#[test]
+fn tokens_are_read_as_trees(rt: HostRuntime) {
+    for (text, places) in &TREES {
+        let found = trees(rt.alloc(), text).ok().expect(&rt, "trees");
+        assert_eq!(rt; found.as_slice(), *places);
+    }
+    for (text, place, kind) in &NESTING {
+        let fault = Fault {
+            place: *place,
+            kind: *kind,
+        };
+        let found = trees(rt.alloc(), text).err();
+        assert_eq!(rt; found, Some(TextFault::Fault(fault)), "at {place}");
+    }
+}
+
+// Some parentheses that open, some that close, some that open again, and an atom.
+fn nested(alloc: Global, opening: usize, closing: usize, again: usize) -> Result<Vec<u8>, Fail> {
+    let mut text = vec![in alloc; b'('; opening]?;
+    text.extend_from_slice(&vec![in alloc; b')'; closing]?)?;
+    text.extend_from_slice(&vec![in alloc; b'('; again]?)?;
+    text.push(b'a')?;
+    Ok(text)
+}
+
+const DEPTHS: [(usize, usize, usize, Option<(u32, Kind)>); 9] = [
+    (64, 64, 0, None),
+    (65, 65, 0, Some((64, Kind::TooDeep))),
+    (66, 66, 0, Some((64, Kind::TooDeep))),
+    // The outermost is closed or not.
+    (65, 64, 0, Some((0, Kind::Unclosed))),
+    (65, 65, 1, Some((64, Kind::TooDeep))),
+    (65, 66, 0, Some((64, Kind::TooDeep))),
+    (64, 65, 0, Some((128, Kind::Unopened))),
+    (64, 64, 65, Some((128, Kind::Unclosed))),
+    (65, 1, 1, Some((0, Kind::Unclosed))),
+];
+
+#[test]
+fn nesting_is_limited(rt: HostRuntime) -> Result<(), Fail> {
+    for (opening, closing, again, fault) in &DEPTHS {
+        let text = nested(rt.alloc(), *opening, *closing, *again)?;
+        let found = trees(rt.alloc(), &text).err();
+        let fault = fault.map(|(place, kind)| TextFault::Fault(Fault { place, kind }));
+        assert_eq!(rt; found, fault, "{opening} {closing} {again}");
+    }
+    Ok(())
+}
+
+const GOAL: &[u8] = b"(goal g (in a $16) (set x a))";
+
+#[test]
+fn a_goal_that_is_cut_is_unclosed(rt: HostRuntime) {
+    for length in 0..=GOAL.len() {
+        let found = trees(rt.alloc(), &GOAL[..length]).err();
+        let fault = if length == 0 || length == GOAL.len() {
+            None
+        } else {
+            Some(TextFault::Fault(Fault {
+                place: 0,
+                kind: Kind::Unclosed,
+            }))
+        };
+        assert_eq!(rt; found, fault, "{length}");
+    }
 }
