@@ -11,3 +11,8 @@ pub mod Builds
 pub mod Outermost
 pub mod Steps
 pub mod Readings
+pub mod Indexes
+pub mod LinesIn
+pub mod BadLines
+pub mod Splits
+pub mod LineFaults

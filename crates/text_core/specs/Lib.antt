@@ -7,3 +7,5 @@ pub mod Trees
 pub mod Nesting
 pub mod Sexps
 pub mod Building
+pub mod Lines
+pub mod LineIndex

@@ -1,5 +1,5 @@
 // Texts with their tokens, trees, lines and faults, worked by hand.
-use crate::{Fault, Kind, Name, Sexp, TextFault, TokenKind, lex, tree};
+use crate::{Fault, Kind, Name, Sexp, TextFault, TokenKind, lex, lines, tree};
 use itoa::Buffer;
 use std::alloc::{AllocError, Global};
 use std::test::Fail;
@@ -267,4 +267,99 @@ fn a_goal_that_is_cut_is_unclosed(rt: HostRuntime) {
         };
         assert_eq!(rt; found, fault, "{length}");
     }
+}
+
+// The lines of a text with their places, and each word between bars; or its fault.
+fn words(alloc: Global, text: &[u8]) -> Result<Vec<u8>, TextFault> {
+    if text.len() > 1000 {
+        return Err(TextFault::Memory);
+    }
+    let found = match lines(alloc, text) {
+        Ok(found) => found,
+        Err(fault) => return Err(fault),
+    };
+    let mut printed = Vec::new(alloc);
+    for line in 0..found.count() {
+        printed.extend_from_slice(Buffer::new().format(found.place(line)).as_bytes())?;
+        for at in 0..found.words(line) {
+            printed.push(b'|')?;
+            printed.extend_from_slice(found.word(line, at))?;
+        }
+        printed.push(b' ')?;
+    }
+    printed.extend_from_slice(Buffer::new().format(found.place(found.count())).as_bytes())?;
+    Ok(printed)
+}
+
+const LINES: [(&[u8], &[u8]); 5] = [
+    (b"", b"0"),
+    (b"a\n", b"0|a 2"),
+    (b"denali 1\n", b"0|denali|1 9"),
+    (
+        b"~ !\"#\nin a 16 1\nend\n",
+        b"0|~|!\"# 6|in|a|16|1 16|end 20",
+    ),
+    (b"()\n;\n", b"0|() 3|; 5"),
+];
+
+const FAULTY_LINES: [(&[u8], u32, Kind); 17] = [
+    (b"\n", 0, Kind::BadLine),
+    (b"a", 0, Kind::BadLine),
+    (b" ", 0, Kind::BadLine),
+    (b"a\n\n", 2, Kind::BadLine),
+    (b"a\n\nb", 2, Kind::BadLine),
+    (b" a\n", 0, Kind::BadLine),
+    (b"a \n", 0, Kind::BadLine),
+    (b"a\nb  c\n", 2, Kind::BadLine),
+    (b"a\nb c", 2, Kind::BadLine),
+    (b"a\nb c ", 2, Kind::BadLine),
+    (b"\xff", 0, Kind::BadByte),
+    (b"a\tb\n", 1, Kind::BadByte),
+    (b"a\r\n", 1, Kind::BadByte),
+    (b"a\x7f\n", 1, Kind::BadByte),
+    (b"a\n\x00", 2, Kind::BadByte),
+    // A byte that isn't allowed decides, wherever it stands.
+    (b"\n  a\n\xff\x00", 5, Kind::BadByte),
+    (b"a  b\n\nc", 0, Kind::BadLine),
+];
+
+#[test]
+fn texts_are_read_as_lines(rt: HostRuntime) {
+    for (text, printed) in &LINES {
+        let found = words(rt.alloc(), text).ok().expect(&rt, "lines");
+        assert_eq!(rt; found.as_slice(), *printed);
+    }
+    for (text, place, kind) in &FAULTY_LINES {
+        let fault = Fault {
+            place: *place,
+            kind: *kind,
+        };
+        let found = words(rt.alloc(), text).err();
+        assert_eq!(rt; found, Some(TextFault::Fault(fault)), "at {place}");
+    }
+}
+
+const ANSWER: &[u8] =
+    b"denali 1\nencoding 1\ntable ev6\ngoal g\nrounds 0 stop rounds\nrows 4\n0 memory\n1 input 16\n2 input 17\n3 addq 1 2\nentry 0\nin a 16 1\nin b 17 2\npool 1\nset x 3\nscheduled 1\nlaunch 0 U0 3\nword 42110401 addq $16, $17, $1\nwhere x 1\nrefute 0 1\n4 0 1 0\nend\n";
+
+#[test]
+fn an_answer_that_is_cut_has_a_bad_last_line(rt: HostRuntime) {
+    let mut line = 0u32;
+    for length in 0..=241u32 {
+        let end = length as usize;
+        if end > 0 && ANSWER[end - 1] == b'\n' {
+            line = length;
+        }
+        let found = words(rt.alloc(), &ANSWER[..end]).err();
+        let fault = if line == length {
+            None
+        } else {
+            Some(TextFault::Fault(Fault {
+                place: line,
+                kind: Kind::BadLine,
+            }))
+        };
+        assert_eq!(rt; found, fault, "{length}");
+    }
+    assert_eq!(rt; line, 241);
 }
