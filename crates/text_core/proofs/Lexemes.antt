@@ -258,3 +258,6 @@ no_fault text ts place kind has fault =
 
 pub read_none : (text : List ℕ) → IsReadTo text 0 []
 read_none text = record { pieces = []; consists = pieces.nothing; read = lexing.nothing; placed = refl }
+
+pub no_first_fault : (text : List ℕ) (ts : List Token) (place : ℕ) (kind : Kind) → HasTokens text ts → IsFirst (IsLexFault text) place kind → ⊥
+no_first_fault text ts place kind has first = no_fault text ts place kind has first.found

@@ -4,3 +4,16 @@ pub mod Lexemes
 pub mod Atoms
 pub mod Outcomes
 pub mod Within
+pub mod Forests
+pub mod Depths
+pub mod Partners
+pub mod Misplaced
+pub mod Builds
+pub mod Outermost
+pub mod Steps
+pub mod Readings
+pub mod Indexes
+pub mod LinesIn
+pub mod BadLines
+pub mod Splits
+pub mod LineFaults

@@ -7,17 +7,17 @@ use Rattle.text_core.specs.declared.faults.Kind.TheVariants.{BadByte, BadNumber}
 use Rattle.text_core.specs.declared.pieces.Sort.TheVariants.{White, Comment, Opening, Closing, Atom, Stray}
 use Rattle.text_core.specs.declared.tokens.Token.{Token}
 use Rattle.text_core.specs.declared.tokens.TokenKind.{TokenKind}
-use Rattle.text_core.specs.declared.tokens.TokenKind.TheVariants as tokens
+use Rattle.text_core.specs.declared.tokens.TokenKind.TheVariants as kinds
 use Rattle.text_core.specs.Numbers.{IsNumber}
 use Rattle.text_core.specs.Pieces.{sort_of, IsPiece, Consists}
 
 -- What token a piece is. An atom that begins with a dollar sign is a register, one that begins with a digit is a number.
 pub data IsToken : List ℕ → TokenKind → Type 0 where
-  opening : {first : ℕ} {more : List ℕ} → sort_of first ≡ Opening → IsToken (first ∷ more) tokens.Opening
-  closing : {first : ℕ} {more : List ℕ} → sort_of first ≡ Closing → IsToken (first ∷ more) tokens.Closing
-  register : {more : List ℕ} → IsToken (36 ∷ more) tokens.Register
-  number : {first : ℕ} {more : List ℕ} {n : ℕ} → sort_of first ≡ Atom → is_ascii_digit first ≡ true → IsNumber (first ∷ more) n → IsToken (first ∷ more) (tokens.Number n)
-  name : {first : ℕ} {more : List ℕ} → sort_of first ≡ Atom → (first == 36) ≡ false → is_ascii_digit first ≡ false → IsToken (first ∷ more) tokens.Name
+  opening : {first : ℕ} {more : List ℕ} → sort_of first ≡ Opening → IsToken (first ∷ more) kinds.Opening
+  closing : {first : ℕ} {more : List ℕ} → sort_of first ≡ Closing → IsToken (first ∷ more) kinds.Closing
+  register : {more : List ℕ} → IsToken (36 ∷ more) kinds.Register
+  number : {first : ℕ} {more : List ℕ} {n : ℕ} → sort_of first ≡ Atom → is_ascii_digit first ≡ true → IsNumber (first ∷ more) n → IsToken (first ∷ more) (kinds.Number n)
+  name : {first : ℕ} {more : List ℕ} → sort_of first ≡ Atom → (first == 36) ≡ false → is_ascii_digit first ≡ false → IsToken (first ∷ more) kinds.Name
 
 -- what is no token, and no fault either
 pub data IsSkipped : List ℕ → Type 0 where

@@ -3,3 +3,9 @@ pub mod Numbers
 pub mod Pieces
 pub mod Lexing
 pub mod ReadTo
+pub mod Trees
+pub mod Nesting
+pub mod Sexps
+pub mod Building
+pub mod Lines
+pub mod LineIndex

@@ -8,15 +8,23 @@
 mod faults;
 mod laws;
 mod lexer;
+mod line_index;
 mod names;
 mod numbers;
+mod parser;
 mod pieces;
+mod sexps;
+mod splitter;
 mod tokens;
 
 pub use faults::{Fault, Kind, TextFault};
-pub use laws::one_lexing;
+pub use laws::{one_lexing, one_parsing, one_splitting};
 pub use lexer::lex;
+pub use line_index::TextLines;
 pub use names::Name;
+pub use parser::tree;
+pub use sexps::Sexp;
+pub use splitter::lines;
 pub use tokens::{Token, TokenKind};
 
 #[cfg(test)]

@@ -1,5 +1,7 @@
 // Texts with their tokens, trees, lines and faults, worked by hand.
-use crate::{Fault, Kind, Name, TextFault, TokenKind, lex};
+use crate::{Fault, Kind, Name, Sexp, TextFault, TokenKind, lex, lines, tree};
+use itoa::Buffer;
+use std::alloc::{AllocError, Global};
 use std::test::Fail;
 
 const TOKENS: [(&[u8], &[(TokenKind, u32, u32)]); 20] = [
@@ -134,4 +136,230 @@ fn names_and_faults_are_printed(rt: HostRuntime) -> Result<(), Fail> {
         b"fault 0 BadLine".as_slice()
     );
     Ok(())
+}
+
+// The places of the atoms and of the parentheses.
+fn print(places: &mut Vec<u8>, trees: &[Sexp]) -> Result<(), AllocError> {
+    for tree in trees {
+        match tree {
+            Sexp::Atom(token) => {
+                places.extend_from_slice(Buffer::new().format(token.place).as_bytes())?;
+                places.push(b' ')?;
+            }
+            Sexp::List { place, parts } => {
+                places.push(b'(')?;
+                places.extend_from_slice(Buffer::new().format(*place).as_bytes())?;
+                places.push(b' ')?;
+                print(places, parts)?;
+                places.push(b')')?;
+            }
+        }
+    }
+    Ok(())
+}
+
+// What a text gives: the places of its trees, or its fault.
+fn trees(alloc: Global, text: &[u8]) -> Result<Vec<u8>, TextFault> {
+    if text.len() > 1000 {
+        return Err(TextFault::Memory);
+    }
+    let tokens = lex(alloc, text)?;
+    if tokens.len() > 1000 {
+        return Err(TextFault::Memory);
+    }
+    let mut places = Vec::new(alloc);
+    match print(&mut places, &tree(alloc, &tokens)?) {
+        Ok(()) => Ok(places),
+        Err(_) => Err(TextFault::Memory),
+    }
+}
+
+const TREES: [(&[u8], &[u8]); 7] = [
+    (b"", b""),
+    (b"; (", b""),
+    (b"()", b"(0 )"),
+    (b"a (b) c", b"0 (2 3 )6 "),
+    (b"(()(()))", b"(0 (1 )(3 (4 )))"),
+    (b"(a 1 $2)\n(b;)\n)", b"(0 1 3 5 )(9 10 )"),
+    (b"x", b"0 "),
+];
+
+const NESTING: [(&[u8], u32, Kind); 14] = [
+    (b"(", 0, Kind::Unclosed),
+    (b")", 0, Kind::Unopened),
+    (b"a b (", 4, Kind::Unclosed),
+    (b"(a) b)", 5, Kind::Unopened),
+    (b"(()", 0, Kind::Unclosed),
+    (b"()(()", 2, Kind::Unclosed),
+    (b"())", 2, Kind::Unopened),
+    (b") (", 0, Kind::Unopened),
+    (b"( ) ) (", 4, Kind::Unopened),
+    (b"(a (b) (c", 0, Kind::Unclosed),
+    (b"(a)\n(b (c)\n", 4, Kind::Unclosed),
+    (b"(;)\n", 0, Kind::Unclosed),
+    // An earlier fault of the bytes decides, also behind one of the parentheses.
+    (b") -", 2, Kind::BadByte),
+    (b"(0x", 1, Kind::BadNumber),
+];
+
+#[test]
+fn tokens_are_read_as_trees(rt: HostRuntime) {
+    for (text, places) in &TREES {
+        let found = trees(rt.alloc(), text).ok().expect(&rt, "trees");
+        assert_eq!(rt; found.as_slice(), *places);
+    }
+    for (text, place, kind) in &NESTING {
+        let fault = Fault {
+            place: *place,
+            kind: *kind,
+        };
+        let found = trees(rt.alloc(), text).err();
+        assert_eq!(rt; found, Some(TextFault::Fault(fault)), "at {place}");
+    }
+}
+
+// Some parentheses that open, some that close, some that open again, and an atom.
+fn nested(alloc: Global, opening: usize, closing: usize, again: usize) -> Result<Vec<u8>, Fail> {
+    let mut text = vec![in alloc; b'('; opening]?;
+    text.extend_from_slice(&vec![in alloc; b')'; closing]?)?;
+    text.extend_from_slice(&vec![in alloc; b'('; again]?)?;
+    text.push(b'a')?;
+    Ok(text)
+}
+
+const DEPTHS: [(usize, usize, usize, Option<(u32, Kind)>); 9] = [
+    (64, 64, 0, None),
+    (65, 65, 0, Some((64, Kind::TooDeep))),
+    (66, 66, 0, Some((64, Kind::TooDeep))),
+    // The outermost is closed or not.
+    (65, 64, 0, Some((0, Kind::Unclosed))),
+    (65, 65, 1, Some((64, Kind::TooDeep))),
+    (65, 66, 0, Some((64, Kind::TooDeep))),
+    (64, 65, 0, Some((128, Kind::Unopened))),
+    (64, 64, 65, Some((128, Kind::Unclosed))),
+    (65, 1, 1, Some((0, Kind::Unclosed))),
+];
+
+#[test]
+fn nesting_is_limited(rt: HostRuntime) -> Result<(), Fail> {
+    for (opening, closing, again, fault) in &DEPTHS {
+        let text = nested(rt.alloc(), *opening, *closing, *again)?;
+        let found = trees(rt.alloc(), &text).err();
+        let fault = fault.map(|(place, kind)| TextFault::Fault(Fault { place, kind }));
+        assert_eq!(rt; found, fault, "{opening} {closing} {again}");
+    }
+    Ok(())
+}
+
+const GOAL: &[u8] = b"(goal g (in a $16) (set x a))";
+
+#[test]
+fn a_goal_that_is_cut_is_unclosed(rt: HostRuntime) {
+    for length in 0..=GOAL.len() {
+        let found = trees(rt.alloc(), &GOAL[..length]).err();
+        let fault = if length == 0 || length == GOAL.len() {
+            None
+        } else {
+            Some(TextFault::Fault(Fault {
+                place: 0,
+                kind: Kind::Unclosed,
+            }))
+        };
+        assert_eq!(rt; found, fault, "{length}");
+    }
+}
+
+// The lines of a text with their places, and each word between bars; or its fault.
+fn words(alloc: Global, text: &[u8]) -> Result<Vec<u8>, TextFault> {
+    if text.len() > 1000 {
+        return Err(TextFault::Memory);
+    }
+    let found = match lines(alloc, text) {
+        Ok(found) => found,
+        Err(fault) => return Err(fault),
+    };
+    let mut printed = Vec::new(alloc);
+    for line in 0..found.count() {
+        printed.extend_from_slice(Buffer::new().format(found.place(line)).as_bytes())?;
+        for at in 0..found.words(line) {
+            printed.push(b'|')?;
+            printed.extend_from_slice(found.word(line, at))?;
+        }
+        printed.push(b' ')?;
+    }
+    printed.extend_from_slice(Buffer::new().format(found.place(found.count())).as_bytes())?;
+    Ok(printed)
+}
+
+const LINES: [(&[u8], &[u8]); 5] = [
+    (b"", b"0"),
+    (b"a\n", b"0|a 2"),
+    (b"denali 1\n", b"0|denali|1 9"),
+    (
+        b"~ !\"#\nin a 16 1\nend\n",
+        b"0|~|!\"# 6|in|a|16|1 16|end 20",
+    ),
+    (b"()\n;\n", b"0|() 3|; 5"),
+];
+
+const FAULTY_LINES: [(&[u8], u32, Kind); 17] = [
+    (b"\n", 0, Kind::BadLine),
+    (b"a", 0, Kind::BadLine),
+    (b" ", 0, Kind::BadLine),
+    (b"a\n\n", 2, Kind::BadLine),
+    (b"a\n\nb", 2, Kind::BadLine),
+    (b" a\n", 0, Kind::BadLine),
+    (b"a \n", 0, Kind::BadLine),
+    (b"a\nb  c\n", 2, Kind::BadLine),
+    (b"a\nb c", 2, Kind::BadLine),
+    (b"a\nb c ", 2, Kind::BadLine),
+    (b"\xff", 0, Kind::BadByte),
+    (b"a\tb\n", 1, Kind::BadByte),
+    (b"a\r\n", 1, Kind::BadByte),
+    (b"a\x7f\n", 1, Kind::BadByte),
+    (b"a\n\x00", 2, Kind::BadByte),
+    // A byte that isn't allowed decides, wherever it stands.
+    (b"\n  a\n\xff\x00", 5, Kind::BadByte),
+    (b"a  b\n\nc", 0, Kind::BadLine),
+];
+
+#[test]
+fn texts_are_read_as_lines(rt: HostRuntime) {
+    for (text, printed) in &LINES {
+        let found = words(rt.alloc(), text).ok().expect(&rt, "lines");
+        assert_eq!(rt; found.as_slice(), *printed);
+    }
+    for (text, place, kind) in &FAULTY_LINES {
+        let fault = Fault {
+            place: *place,
+            kind: *kind,
+        };
+        let found = words(rt.alloc(), text).err();
+        assert_eq!(rt; found, Some(TextFault::Fault(fault)), "at {place}");
+    }
+}
+
+const ANSWER: &[u8] =
+    b"denali 1\nencoding 1\ntable ev6\ngoal g\nrounds 0 stop rounds\nrows 4\n0 memory\n1 input 16\n2 input 17\n3 addq 1 2\nentry 0\nin a 16 1\nin b 17 2\npool 1\nset x 3\nscheduled 1\nlaunch 0 U0 3\nword 42110401 addq $16, $17, $1\nwhere x 1\nrefute 0 1\n4 0 1 0\nend\n";
+
+#[test]
+fn an_answer_that_is_cut_has_a_bad_last_line(rt: HostRuntime) {
+    let mut line = 0u32;
+    for length in 0..=241u32 {
+        let end = length as usize;
+        if end > 0 && ANSWER[end - 1] == b'\n' {
+            line = length;
+        }
+        let found = words(rt.alloc(), &ANSWER[..end]).err();
+        let fault = if line == length {
+            None
+        } else {
+            Some(TextFault::Fault(Fault {
+                place: line,
+                kind: Kind::BadLine,
+            }))
+        };
+        assert_eq!(rt; found, fault, "{length}");
+    }
+    assert_eq!(rt; line, 241);
 }
