@@ -3,9 +3,11 @@
 
 mod hints;
 mod lines;
+mod text;
 mod values;
 
 pub use lines::{Rejected, check, check_lemmas};
+pub use text::print;
 pub use values::Marks;
 
 #[cfg(test)]

@@ -108,10 +108,10 @@ fn check_line(cnf: &Cnf, earlier: &[Line], line: &Line, marks: &mut [Mark]) -> R
     if line.id != clauses + number {
         return Err(1);
     }
-    if !assume(line.lits.as_slice(), marks, number) {
-        return Err(2);
-    }
-    if !are_names(line.hints.as_slice(), clauses + (number - 1)) {
+    let earlier_ids = clauses + (number - 1);
+    if !assume(line.lits.as_slice(), marks, number)
+        || !are_names(line.hints.as_slice(), earlier_ids)
+    {
         return Err(2);
     }
     conflict(cnf, earlier, line, marks, number)

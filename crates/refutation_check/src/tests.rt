@@ -3,7 +3,7 @@ ghost use Rattle.std.specs.Prelude.{◌<◌, ◌≤◌, ◌↔◌, IsTrue};
 ghost use Rattle.std.specs.List.{All};
 ghost use Rattle.cnf_core.specs.Formula.{IsLitOf};
 
-use crate::{Marks, check, check_lemmas};
+use crate::{Marks, check, check_lemmas, print};
 use cnf_core::{Cnf, Line, Lines, Lit};
 use items::{Items, NoMemory};
 use std::alloc::Global;
@@ -261,6 +261,13 @@ const ROWS: [Row; 30] = [
     },
 ];
 
+const PRINTED: [(u32, &[i32], &[u32]); 4] = [
+    (4, &[], &[1]),
+    (8, &[1, -3], &[1, 2]),
+    (2147483647, &[-2147483647, 10], &[2147483646, 9]),
+    (2000000003, &[7], &[]),
+];
+
 fn literals(alloc: Global, numbers: &[i32]) -> Result<Vec<Lit>, NoMemory> {
     let mut lits = Vec::new(alloc);
     for number in numbers {
@@ -329,5 +336,17 @@ fn lines_are_accepted_or_refused(rt: HostRuntime) -> Result<(), Fail> {
             row.name
         );
     }
+    Ok(())
+}
+
+#[test]
+fn lines_are_printed(rt: HostRuntime) -> Result<(), Fail> {
+    let lines = lines_of(rt.alloc(), &PRINTED)?;
+    let text = print(rt.alloc(), &lines)?;
+    let wanted =
+        b"4 0 1 0\n8 1 -3 0 1 2 0\n2147483647 -2147483647 10 0 2147483646 9 0\n2000000003 7 0 0\n";
+    assert_eq!(rt; text.as_slice(), wanted.as_slice());
+    let none = print(rt.alloc(), &lines_of(rt.alloc(), &[])?)?;
+    assert!(rt; none.is_empty());
     Ok(())
 }
