@@ -1,0 +1,5 @@
+pub mod Faults
+pub mod Numbers
+pub mod Pieces
+pub mod Lexing
+pub mod ReadTo

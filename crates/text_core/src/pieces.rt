@@ -1,0 +1,75 @@
+// The pieces of a text of goals: white space, comments, parentheses and atoms.
+ghost use Rattle.std.specs.Prelude.{◌≡◌, ◌<◌, ◌≤◌, length, drop, take, true};
+ghost use Rattle.std.specs.List.{list_all};
+ghost use Rattle.text_core.specs.Pieces.{sort_of, goes_on, is_word_byte, IsPiece, IsStopped};
+
+/// What a byte begins that stands in no comment and continues no atom.
+#[derive(Clone, Copy, Debug, PartialEq, Eq)]
+pub(crate) enum Sort {
+    White,
+    Comment,
+    Opening,
+    Closing,
+    Atom,
+    Stray,
+}
+
+fn is_word(byte: u8) -> bool
+    ensures { result ≡ is_word_byte byte }
+{
+    byte.is_ascii_alphanumeric() || byte == b'_'
+}
+
+#[tactic(auto, unfolding(crate::specs::Pieces::sort_of))]
+pub(crate) fn begun(byte: u8) -> Sort
+    ensures { result ≡ sort_of byte }
+{
+    match byte {
+        b' ' | b'\t' | b'\r' | b'\n' => Sort::White,
+        b';' => Sort::Comment,
+        b'(' => Sort::Opening,
+        b')' => Sort::Closing,
+        b'$' => Sort::Atom,
+        _ => {
+            if is_word(byte) {
+                Sort::Atom
+            } else {
+                Sort::Stray
+            }
+        }
+    }
+}
+
+fn continues(sort: Sort, byte: u8) -> bool
+    ensures { result ≡ goes_on sort byte }
+{
+    match sort {
+        Sort::Comment => byte != b'\n',
+        Sort::Atom => is_word(byte),
+        _ => false,
+    }
+}
+
+/// How many bytes at the front of a text go on with a piece of the sort.
+fn run(text: &[u8], sort: Sort) -> usize
+    ensures within { result ≤ length text.now }
+    ensures each { list_all (goes_on sort) (take result text.now) ≡ true }
+    ensures whole { IsStopped (goes_on sort) (drop result text.now) }
+{
+    for (index, byte) in text.iter().enumerate() {
+        if !continues(sort, *byte) {
+            return index;
+        }
+    }
+    text.len()
+}
+
+/// The length of the piece at the front of a text, which has a byte. The cost is linear in that length.
+pub(crate) fn piece_len(text: &[u8]) -> usize
+    requires { 0 < length text.now }
+    ensures some { 0 < result }
+    ensures within { result ≤ length text.now }
+    ensures piece { IsPiece (take result text.now) (drop result text.now) }
+{
+    1 + run(&text[1..], begun(text[0]))
+}
