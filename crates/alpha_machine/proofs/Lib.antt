@@ -1,2 +1,3 @@
+pub mod Outcomes
 pub mod Standing
-pub mod Stepping
+pub mod StepsOfRuns

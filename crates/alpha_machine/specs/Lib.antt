@@ -1,5 +1,4 @@
-pub mod Formats
-pub mod RegisterOperates
+pub mod Refusals
 pub mod Runs
 pub mod States
 pub mod Steps

@@ -4,13 +4,11 @@ use Rattle.std.specs.Prelude.{◌≡◌, ℕ, ◌+◌, ◌-◌, ◌*◌, ◌/◌
 use Rattle.std.specs.Option.{option_map_or}
 use Rattle.alpha_machine.specs.States.{MachineState}
 use Rattle.alpha_machine.specs.Steps.{step}
-use Rattle.alpha_machine.specs.Formats.{decoded}
-use Rattle.alpha_machine.specs.declared.instructions.Instr.{Instr}
-use Rattle.alpha_machine.specs.declared.instructions.Instr.TheVariants.{Beq}
+use Rattle.alpha_encode.specs.Decoded.{decoded}
+use Rattle.alpha_encode.specs.declared.instructions.Instr.{Instr}
+use Rattle.alpha_encode.specs.declared.instructions.Instr.TheVariants.{Beq}
 use Rattle.alpha_machine.specs.declared.running.End.{End}
 use Rattle.alpha_machine.specs.declared.running.End.TheVariants.{Fall, Exit}
-use Rattle.alpha_machine.specs.declared.running.RunFault.{RunFault}
-use Rattle.alpha_machine.specs.declared.running.RunFault.TheVariants.{Bad, Memory}
 
 -- one step of the instruction at pc div 4; past the words nothing happens
 abbrev pub stepped : List Instr → MachineState → MachineState
@@ -52,8 +50,3 @@ pub record IsFirstBad (words : List ℕ) (at word : ℕ) : Type 0 where
   pub there : slice_get words at ≡ Some word
   pub bad : ¬ MayStandAt (length words) at word
   pub first : (j other : ℕ) → j < at → slice_get words j ≡ Some other → MayStandAt (length words) j other
-
--- Why words weren't run, and what is left then. No word that is run so far takes memory.
-abbrev pub IsRefused : List ℕ → MachineState → MachineState → RunFault → Type 0
-IsRefused words old new (Bad at word) = IsFirstBad words at word × (new ≡ old)
-IsRefused words old new Memory = ⊥

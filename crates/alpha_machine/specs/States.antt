@@ -3,7 +3,7 @@
 use Rattle.std.specs.Prelude.{◌≡◌, ℕ, List, length, slice_index, refl}
 use Rattle.std.specs.Coded.{Coded, code_by, coded×, coded_ℕ, coded_list}
 use Rattle.std.specs.FinMap.{code}
-use Rattle.word_ops.specs.Memory.{Memory}
+use Rattle.word_ops.specs.Memory.{Memory, IsMemory}
 
 -- the registers' words, the memory, and the address of the next word
 pub record MachineState : Type 0 where
@@ -14,6 +14,7 @@ pub record MachineState : Type 0 where
 pub record IsState (s : MachineState) : Type 0 where
   pub registers : length s.registers ≡ 32
   pub zero_register : slice_index s.registers 31 ≡ 0
+  pub memory : IsMemory s.memory
 
 -- a state is stored as its fields
 abbrev pub machine_state_code : Coded MachineState

@@ -1,17 +1,17 @@
 -- What one instruction does.
 -- Source: Alpha Architecture Handbook, version 4, "Instruction Descriptions": the integer operates, LDA, LDAH, LDQ_U,
 -- STQ_U and BEQ.
-use Rattle.std.specs.Prelude.{ℕ, ℤ, ◌+◌, ◌*◌, ◌/◌, ◌%◌, ◌^◌, List, slice_index, set, ◌==◌, if◌then◌else◌, Bool, true, false}
+use Rattle.std.specs.Prelude.{ℕ, ℤ, ◌+◌, ◌*◌, ◌/◌, ◌%◌, ◌^◌, List, slice_index, set, ◌==◌, if◌then◌else◌, ◌≢◌}
 use Rattle.std.specs.Int.{cast_unsigned, w64}
 use Rattle.word_ops.specs.Memory.{word_at, put_word}
 use Rattle.word_ops.specs.Operators.{value_at}
 use Rattle.word_ops.specs.declared.operators.WordOp.{WordOp}
-use Rattle.word_ops.specs.declared.operators.WordOp.TheVariants as ops
+pub use Rattle.alpha_encode.specs.Codes.{is_unary}
 use Rattle.alpha_machine.specs.States.{MachineState}
-use Rattle.alpha_machine.specs.declared.instructions.Second.{Second}
-use Rattle.alpha_machine.specs.declared.instructions.Second.TheVariants.{Reg, Literal}
-use Rattle.alpha_machine.specs.declared.instructions.Instr.{Instr}
-use Rattle.alpha_machine.specs.declared.instructions.Instr.TheVariants.{Operate, Lda, Ldah, LdqU, StqU, Beq}
+use Rattle.alpha_encode.specs.declared.instructions.Second.{Second}
+use Rattle.alpha_encode.specs.declared.instructions.Second.TheVariants.{Reg, Literal}
+use Rattle.alpha_encode.specs.declared.instructions.Instr.{Instr}
+use Rattle.alpha_encode.specs.declared.instructions.Instr.TheVariants.{Operate, Lda, Ldah, LdqU, StqU, Beq}
 
 -- a write to register 31 is ignored
 abbrev pub written : List ℕ → ℕ → ℕ → List ℕ
@@ -20,12 +20,6 @@ written registers r v = if r == 31 then registers else set registers r v
 abbrev pub second_value : Second → List ℕ → ℕ
 second_value (Reg r) registers = slice_index registers r
 second_value (Literal n) registers = n
-
--- the operates of one operand
-abbrev pub is_unary : WordOp → Bool
-is_unary ops.Sextb = true
-is_unary ops.Sextw = true
-is_unary _ = false
 
 -- an operate of one operand has it in its second place
 abbrev pub operate_value : WordOp → ℕ → ℕ → ℕ
@@ -59,3 +53,8 @@ step (Beq ra disp) s = record {
   memory = s.memory;
   pc = if slice_index s.registers ra == 0 then address (next_pc s.pc) 4 disp else next_pc s.pc;
 }
+
+-- the instruction stores a word that isn't 0; no other takes memory of the host
+abbrev pub TakesMemory : Instr → MachineState → Type 0
+TakesMemory (StqU ra rb disp) s = slice_index s.registers ra ≢ 0
+TakesMemory _ s = ⊥

@@ -1,27 +1,40 @@
 // Running words.
-ghost use Rattle.std.specs.Prelude.{◌≡◌, ◌<◌, ◌^◌, IfOk, IfErr, MatchOption, IfSome, IsSome, length, slice_index};
-ghost use Rattle.alpha_machine.specs.Formats.{decoded};
-ghost use Rattle.alpha_machine.specs.Steps.{step, next_pc};
-ghost use Rattle.alpha_machine.specs.Runs.{Runs, IsRefused, AllMayStand, IsFirstBad};
+ghost use Rattle.std.specs.Prelude.{◌≡◌, ◌<◌, ◌^◌, IfOk, OnOk, IfErr, MatchOption, IsTrue, IsFalse, length, slice_index};
+ghost use Rattle.alpha_machine.specs.Runs.{Runs, MayStandAt, AllMayStand, IsFirstBad};
+ghost use Rattle.alpha_machine.specs.Refusals.{IsRunRefused};
 
-use crate::decoding::decode;
 use crate::states::State;
+use crate::stepping::step;
+use alpha_encode::{Instr, decode};
 
 /// Where a run ends.
 #[derive(Clone, Copy, PartialEq, Eq, Debug)]
 pub enum End {
     /// Behind the last word.
     Fall,
-    /// One word further, by the branch.
+    /// One word further, by a branch.
     Exit,
 }
 
 /// Why words weren't run.
 #[derive(Clone, Copy, PartialEq, Eq, Debug)]
 pub enum RunFault {
-    /// The first word that is no instruction, or a branch to another place than the one behind the words.
+    /// The first word that is no instruction, or a branch that leads elsewhere than one word behind the last.
     Bad { at: u32, word: u32 },
     Memory,
+}
+
+fn may_stand(word: u32, at: usize, count: usize) -> bool
+    requires at { at < count }
+    requires few { count < 2 ^ 29 }
+    ensures yes { IsTrue result → MayStandAt count at word }
+    ensures no { IsFalse result → ¬ MayStandAt count at word }
+{
+    match decode(word) {
+        Some(Instr::Beq { disp, .. }) => disp == (count - at) as i32,
+        Some(_) => true,
+        None => false,
+    }
 }
 
 /// The place of the first word that may not stand where it does.
@@ -30,29 +43,21 @@ fn first_bad(words: &[u32]) -> Option<u32>
     ensures { MatchOption result (AllMayStand words.now) (λ at. IsFirstBad words.now at (slice_index words.now at)) }
 {
     for (at, word) in words.iter().enumerate() {
-        if decode(*word).is_none() {
+        if !may_stand(*word, at, words.len()) {
             return Some(at as u32);
         }
     }
     None
 }
 
-/// Does what the word does, where it is one of the private decoder's.
-fn step_word(state: &mut State, word: u32)
-    ensures step { IfSome (decoded word) (λ i. state.new ≡ step i state.old) }
-    ensures next { IsSome (decoded word) → state.new.pc ≡ next_pc state.old.pc }
-{
-    if let Some(operate) = decode(word) {
-        state.operate(operate);
-    }
-}
-
-/// Runs the words, which stand from address 0 on. A word that isn't allowed is found before the first step.
+/// Runs the words, which stand from address 0 on. A word that isn't allowed is found before the first step. Each word is
+/// executed at most once, since all branches lead behind the words.
 pub fn run(words: &[u32], state: &mut State) -> Result<End, RunFault>
     requires few { length words.now < 2 ^ 29 }
     requires start { state.old.pc ≡ 0 }
     ensures runs { IfOk result (λ end. Runs words.now state.old end state.new) }
-    ensures refused { IfErr result (IsRefused words.now state.old state.new) }
+    ensures allowed { OnOk result (AllMayStand words.now) }
+    ensures refused { IfErr result (IsRunRefused words.now state.old state.new) }
 {
     if let Some(at) = first_bad(words) {
         return Err(RunFault::Bad {
@@ -60,8 +65,15 @@ pub fn run(words: &[u32], state: &mut State) -> Result<End, RunFault>
             word: words[at as usize],
         });
     }
+    let fall = 4 * words.len() as u64;
     for word in words {
-        step_word(state, *word);
+        // Each word is an instruction, so memory alone can be missing.
+        if step(state, *word).is_err() {
+            return Err(RunFault::Memory);
+        }
+        if state.pc() > fall {
+            return Ok(End::Exit);
+        }
     }
     Ok(End::Fall)
 }

@@ -1,12 +1,16 @@
-// The state of the machine.
-ghost use Rattle.std.specs.Prelude.{◌≡◌, ◌<◌, slice_index};
+// The state of the machine, and what each kind of instruction does to it.
+ghost use Rattle.std.specs.Prelude.{◌≡◌, ◌<◌, slice_index, OnOk, OnErr, IsSome};
+ghost use Rattle.alpha_encode.specs.Codes.{code_of};
+ghost use Rattle.alpha_encode.specs.Formats.{IsWellFormed, IsSecond};
+ghost use Rattle.alpha_encode.specs.declared.instructions.Instr.TheVariants as instructions;
 ghost use Rattle.alpha_machine.specs.States.{IsState};
-ghost use Rattle.alpha_machine.specs.Steps.{step};
-ghost use Rattle.alpha_machine.specs.RegisterOperates.{IsRegisterOperate, instr_of};
+ghost use Rattle.alpha_machine.specs.Steps as steps;
 
-use crate::decoding::RegisterOperate;
+use crate::values::{address, operate_value};
+use alpha_encode::{Instr, Second};
+use items::NoMemory;
 use std::marker::Model;
-use word_ops::{Mem, apply};
+use word_ops::{Mem, WordOp};
 
 /// 32 registers, of which number 31 is 0, a memory, and the address of the next word.
 #[derive(Drop)]
@@ -17,8 +21,7 @@ pub struct State {
 }
 
 impl Model for State {
-    ghost use Rattle.std.specs.Prelude.{◌≡◌, length, slice_index};
-    ghost use Rattle.alpha_machine.specs.States.{MachineState, machine_state_code};
+    ghost use Rattle.alpha_machine.specs.States.{MachineState, IsState, machine_state_code};
 
     ghost Value = { MachineState };
 
@@ -26,7 +29,7 @@ impl Model for State {
 
     ghost view = { λ s. record { registers = s.regs; memory = s.memory; pc = s.pc } };
 
-    ghost invariant = { λ s. (length s.regs ≡ 32) × (slice_index s.regs 31 ≡ 0) };
+    ghost invariant = { λ s. IsState (record { registers = s.regs; memory = s.memory; pc = s.pc }) };
 }
 
 impl State {
@@ -35,6 +38,8 @@ impl State {
         requires { slice_index regs 31 ≡ 0 }
         ensures { result ≡ record { registers = regs; memory = memory; pc = 0 } }
     {
+        // A memory says what it is when it is read.
+        let _ = memory.get(0);
         State {
             regs,
             memory,
@@ -56,24 +61,120 @@ impl State {
         &self.memory
     }
 
+    /// The address of the next word.
     pub fn pc(&self) -> u64
         ensures { result ≡ self.now.pc }
     {
         self.pc
     }
 
-    /// Does what an operate does.
-    pub(crate) fn operate(&mut self, instr: RegisterOperate)
-        requires { IsRegisterOperate instr }
-        ensures { self.new ≡ step (instr_of instr) self.old }
+    /// Does what the instruction does. Only a store of a word that isn't 0 takes memory.
+    pub(crate) fn execute(&mut self, instr: Instr) -> Result<(), NoMemory>
+        requires { IsWellFormed instr }
+        ensures ok { OnOk result (self.new ≡ steps.step instr self.old) }
+        ensures err { OnErr result ((self.new ≡ self.old) × steps.TakesMemory instr self.old) }
     {
-        let value = apply(
-            instr.op,
-            &[self.regs[instr.ra as usize], self.regs[instr.rb as usize]],
-        );
-        if instr.rc != 31 {
-            self.regs[instr.rc as usize] = value;
+        match instr {
+            Instr::Operate { op, ra, second, rc } => self.operate(op, ra, second, rc),
+            Instr::Lda { ra, rb, disp } => self.load_address(ra, rb, disp),
+            Instr::Ldah { ra, rb, disp } => self.load_address_high(ra, rb, disp),
+            Instr::LdqU { ra, rb, disp } => self.load(ra, rb, disp),
+            Instr::StqU { ra, rb, disp } => return self.store(ra, rb, disp),
+            Instr::Beq { ra, disp } => self.branch(ra, disp),
         }
-        self.pc = self.pc.wrapping_add(4);
+        Ok(())
+    }
+
+    fn operate(&mut self, op: WordOp, ra: u8, second: Second, rc: u8)
+        requires op { IsSome (code_of op) }
+        requires ra { ra < 32 }
+        requires second { IsSecond second }
+        requires rc { rc < 32 }
+        ensures { self.new ≡ steps.step (instructions.Operate op ra second rc) self.old }
+    {
+        let second = self.second(second);
+        let value = operate_value(op, self.register(ra), second);
+        self.write(rc, value);
+    }
+
+    fn load_address(&mut self, ra: u8, rb: u8, disp: i16)
+        requires ra { ra < 32 }
+        requires rb { rb < 32 }
+        ensures { self.new ≡ steps.step (instructions.Lda ra rb disp) self.old }
+    {
+        let value = address(self.register(rb), 1, i64::from(disp));
+        self.write(ra, value);
+    }
+
+    fn load_address_high(&mut self, ra: u8, rb: u8, disp: i16)
+        requires ra { ra < 32 }
+        requires rb { rb < 32 }
+        ensures { self.new ≡ steps.step (instructions.Ldah ra rb disp) self.old }
+    {
+        let value = address(self.register(rb), 65536, i64::from(disp));
+        self.write(ra, value);
+    }
+
+    fn load(&mut self, ra: u8, rb: u8, disp: i16)
+        requires ra { ra < 32 }
+        requires rb { rb < 32 }
+        ensures { self.new ≡ steps.step (instructions.LdqU ra rb disp) self.old }
+    {
+        let place = address(self.register(rb), 1, i64::from(disp)) / 8;
+        let value = self.memory.get(place);
+        self.write(ra, value);
+    }
+
+    fn store(&mut self, ra: u8, rb: u8, disp: i16) -> Result<(), NoMemory>
+        requires ra { ra < 32 }
+        requires rb { rb < 32 }
+        ensures ok { OnOk result (self.new ≡ steps.step (instructions.StqU ra rb disp) self.old) }
+        ensures err { OnErr result ((self.new ≡ self.old) × steps.TakesMemory (instructions.StqU ra rb disp) self.old) }
+    {
+        let address = address(self.register(rb), 1, i64::from(disp));
+        let value = self.register(ra);
+        self.memory.set(address / 8, value)?;
+        self.pc = self.next_pc();
+        Ok(())
+    }
+
+    // A branch counts from the word after it.
+    fn branch(&mut self, ra: u8, disp: i32)
+        requires { ra < 32 }
+        ensures { self.new ≡ steps.step (instructions.Beq ra disp) self.old }
+    {
+        let next = self.next_pc();
+        self.pc = if self.register(ra) == 0 {
+            address(next, 4, i64::from(disp))
+        } else {
+            next
+        };
+    }
+
+    fn second(&self, second: Second) -> u64
+        requires { IsSecond second }
+        ensures { result ≡ steps.second_value second self.now.registers }
+    {
+        match second {
+            Second::Reg(register) => self.register(register),
+            Second::Literal(literal) => u64::from(literal),
+        }
+    }
+
+    // Register 31 stays 0.
+    fn write(&mut self, register: u8, value: u64)
+        requires { register < 32 }
+        ensures { self.new ≡ steps.with_register self.old register value }
+    {
+        if register != 31 {
+            self.regs[register as usize] = value;
+        }
+        self.pc = self.next_pc();
+    }
+
+    fn next_pc(&self) -> u64
+        ensures { result ≡ steps.next_pc self.now.pc }
+    {
+        self.pc.wrapping_add(4)
     }
 }

@@ -1,462 +1,61 @@
-// What an Alpha emulator computed (QEMU) for words that an assembler made (GNU as), and the words that are refused.
+// What an emulator computed, two short programs, and effects worked by hand from the Handbook.
 ghost use Rattle.std.specs.Prelude.{◌≡◌, slice_index};
 ghost use Rattle.std.specs.FinMap.{empty};
 
-use crate::{End, RunFault, State, run};
+mod emulated;
+
+use crate::{End, RunFault, State, StepFault, run, step};
+use emulated::VALUES;
 use std::alloc::Global;
 use word_ops::Mem;
 
-/// Word, the values of registers 16 and 17, and the value that register 1 has after it.
-const VALUES: [(u32, u64, u64, u64); 70] = [
-    (
-        0x42110401,
-        0x0000000000000000,
-        0x0000000000000000,
-        0x0000000000000000,
-    ),
-    (
-        0x42110401,
-        0x0000000000000000,
-        0x0000000000000001,
-        0x0000000000000001,
-    ),
-    (
-        0x42110401,
-        0x0000000000000001,
-        0x0000000000000000,
-        0x0000000000000001,
-    ),
-    (
-        0x42110401,
-        0xFFFFFFFFFFFFFFFF,
-        0x0000000000000001,
-        0x0000000000000000,
-    ),
-    (
-        0x42110401,
-        0x0000000000000001,
-        0xFFFFFFFFFFFFFFFF,
-        0x0000000000000000,
-    ),
-    (
-        0x42110401,
-        0xFFFFFFFFFFFFFFFF,
-        0xFFFFFFFFFFFFFFFF,
-        0xFFFFFFFFFFFFFFFE,
-    ),
-    (
-        0x42110401,
-        0x8000000000000000,
-        0x8000000000000000,
-        0x0000000000000000,
-    ),
-    (
-        0x42110401,
-        0x7FFFFFFFFFFFFFFF,
-        0x0000000000000001,
-        0x8000000000000000,
-    ),
-    (
-        0x42110401,
-        0x919E9BC7F4A02D92,
-        0x67D1191FDA80A0BD,
-        0xF96FB4E7CF20CE4F,
-    ),
-    (
-        0x42110401,
-        0xB14CF51964CD1715,
-        0xFD95588C5E4EF10B,
-        0xAEE24DA5C31C0820,
-    ),
-    (
-        0x42110401,
-        0x344D04CB5F0F2C02,
-        0xD561CAB77E4D173D,
-        0x09AECF82DD5C433F,
-    ),
-    (
-        0x42110401,
-        0x929E04E213311E91,
-        0x3C85B930B9F0920F,
-        0xCF23BE12CD21B0A0,
-    ),
-    (
-        0x42110401,
-        0xC5E1FB5BB643EDF4,
-        0x1B0B5A92CA9F1DAE,
-        0xE0ED55EE80E30BA2,
-    ),
-    (
-        0x42110401,
-        0xF86C67B35A0AC810,
-        0xFECE6B989A323EAE,
-        0xF73AD34BF43D06BE,
-    ),
-    (
-        0x42110521,
-        0x0000000000000000,
-        0x0000000000000000,
-        0x0000000000000000,
-    ),
-    (
-        0x42110521,
-        0x0000000000000000,
-        0x0000000000000001,
-        0xFFFFFFFFFFFFFFFF,
-    ),
-    (
-        0x42110521,
-        0x0000000000000001,
-        0x0000000000000000,
-        0x0000000000000001,
-    ),
-    (
-        0x42110521,
-        0xFFFFFFFFFFFFFFFF,
-        0x0000000000000001,
-        0xFFFFFFFFFFFFFFFE,
-    ),
-    (
-        0x42110521,
-        0x0000000000000001,
-        0xFFFFFFFFFFFFFFFF,
-        0x0000000000000002,
-    ),
-    (
-        0x42110521,
-        0xFFFFFFFFFFFFFFFF,
-        0xFFFFFFFFFFFFFFFF,
-        0x0000000000000000,
-    ),
-    (
-        0x42110521,
-        0x8000000000000000,
-        0x8000000000000000,
-        0x0000000000000000,
-    ),
-    (
-        0x42110521,
-        0x7FFFFFFFFFFFFFFF,
-        0x0000000000000001,
-        0x7FFFFFFFFFFFFFFE,
-    ),
-    (
-        0x42110521,
-        0x919E9BC7F4A02D92,
-        0x67D1191FDA80A0BD,
-        0x29CD82A81A1F8CD5,
-    ),
-    (
-        0x42110521,
-        0xB14CF51964CD1715,
-        0xFD95588C5E4EF10B,
-        0xB3B79C8D067E260A,
-    ),
-    (
-        0x42110521,
-        0x344D04CB5F0F2C02,
-        0xD561CAB77E4D173D,
-        0x5EEB3A13E0C214C5,
-    ),
-    (
-        0x42110521,
-        0x929E04E213311E91,
-        0x3C85B930B9F0920F,
-        0x56184BB159408C82,
-    ),
-    (
-        0x42110521,
-        0xC5E1FB5BB643EDF4,
-        0x1B0B5A92CA9F1DAE,
-        0xAAD6A0C8EBA4D046,
-    ),
-    (
-        0x42110521,
-        0xF86C67B35A0AC810,
-        0xFECE6B989A323EAE,
-        0xF99DFC1ABFD88962,
-    ),
-    (
-        0x46110001,
-        0x0000000000000000,
-        0x0000000000000000,
-        0x0000000000000000,
-    ),
-    (
-        0x46110001,
-        0x0000000000000000,
-        0x0000000000000001,
-        0x0000000000000000,
-    ),
-    (
-        0x46110001,
-        0x0000000000000001,
-        0x0000000000000000,
-        0x0000000000000000,
-    ),
-    (
-        0x46110001,
-        0xFFFFFFFFFFFFFFFF,
-        0x0000000000000001,
-        0x0000000000000001,
-    ),
-    (
-        0x46110001,
-        0x0000000000000001,
-        0xFFFFFFFFFFFFFFFF,
-        0x0000000000000001,
-    ),
-    (
-        0x46110001,
-        0xFFFFFFFFFFFFFFFF,
-        0xFFFFFFFFFFFFFFFF,
-        0xFFFFFFFFFFFFFFFF,
-    ),
-    (
-        0x46110001,
-        0x8000000000000000,
-        0x8000000000000000,
-        0x8000000000000000,
-    ),
-    (
-        0x46110001,
-        0x7FFFFFFFFFFFFFFF,
-        0x0000000000000001,
-        0x0000000000000001,
-    ),
-    (
-        0x46110001,
-        0x919E9BC7F4A02D92,
-        0x67D1191FDA80A0BD,
-        0x01901907D0802090,
-    ),
-    (
-        0x46110001,
-        0xB14CF51964CD1715,
-        0xFD95588C5E4EF10B,
-        0xB1045008444C1101,
-    ),
-    (
-        0x46110001,
-        0x344D04CB5F0F2C02,
-        0xD561CAB77E4D173D,
-        0x144100835E0D0400,
-    ),
-    (
-        0x46110001,
-        0x929E04E213311E91,
-        0x3C85B930B9F0920F,
-        0x1084002011301201,
-    ),
-    (
-        0x46110001,
-        0xC5E1FB5BB643EDF4,
-        0x1B0B5A92CA9F1DAE,
-        0x01015A1282030DA4,
-    ),
-    (
-        0x46110001,
-        0xF86C67B35A0AC810,
-        0xFECE6B989A323EAE,
-        0xF84C63901A020800,
-    ),
-    (
-        0x46110401,
-        0x0000000000000000,
-        0x0000000000000000,
-        0x0000000000000000,
-    ),
-    (
-        0x46110401,
-        0x0000000000000000,
-        0x0000000000000001,
-        0x0000000000000001,
-    ),
-    (
-        0x46110401,
-        0x0000000000000001,
-        0x0000000000000000,
-        0x0000000000000001,
-    ),
-    (
-        0x46110401,
-        0xFFFFFFFFFFFFFFFF,
-        0x0000000000000001,
-        0xFFFFFFFFFFFFFFFF,
-    ),
-    (
-        0x46110401,
-        0x0000000000000001,
-        0xFFFFFFFFFFFFFFFF,
-        0xFFFFFFFFFFFFFFFF,
-    ),
-    (
-        0x46110401,
-        0xFFFFFFFFFFFFFFFF,
-        0xFFFFFFFFFFFFFFFF,
-        0xFFFFFFFFFFFFFFFF,
-    ),
-    (
-        0x46110401,
-        0x8000000000000000,
-        0x8000000000000000,
-        0x8000000000000000,
-    ),
-    (
-        0x46110401,
-        0x7FFFFFFFFFFFFFFF,
-        0x0000000000000001,
-        0x7FFFFFFFFFFFFFFF,
-    ),
-    (
-        0x46110401,
-        0x919E9BC7F4A02D92,
-        0x67D1191FDA80A0BD,
-        0xF7DF9BDFFEA0ADBF,
-    ),
-    (
-        0x46110401,
-        0xB14CF51964CD1715,
-        0xFD95588C5E4EF10B,
-        0xFDDDFD9D7ECFF71F,
-    ),
-    (
-        0x46110401,
-        0x344D04CB5F0F2C02,
-        0xD561CAB77E4D173D,
-        0xF56DCEFF7F4F3F3F,
-    ),
-    (
-        0x46110401,
-        0x929E04E213311E91,
-        0x3C85B930B9F0920F,
-        0xBE9FBDF2BBF19E9F,
-    ),
-    (
-        0x46110401,
-        0xC5E1FB5BB643EDF4,
-        0x1B0B5A92CA9F1DAE,
-        0xDFEBFBDBFEDFFDFE,
-    ),
-    (
-        0x46110401,
-        0xF86C67B35A0AC810,
-        0xFECE6B989A323EAE,
-        0xFEEE6FBBDA3AFEBE,
-    ),
-    (
-        0x46110801,
-        0x0000000000000000,
-        0x0000000000000000,
-        0x0000000000000000,
-    ),
-    (
-        0x46110801,
-        0x0000000000000000,
-        0x0000000000000001,
-        0x0000000000000001,
-    ),
-    (
-        0x46110801,
-        0x0000000000000001,
-        0x0000000000000000,
-        0x0000000000000001,
-    ),
-    (
-        0x46110801,
-        0xFFFFFFFFFFFFFFFF,
-        0x0000000000000001,
-        0xFFFFFFFFFFFFFFFE,
-    ),
-    (
-        0x46110801,
-        0x0000000000000001,
-        0xFFFFFFFFFFFFFFFF,
-        0xFFFFFFFFFFFFFFFE,
-    ),
-    (
-        0x46110801,
-        0xFFFFFFFFFFFFFFFF,
-        0xFFFFFFFFFFFFFFFF,
-        0x0000000000000000,
-    ),
-    (
-        0x46110801,
-        0x8000000000000000,
-        0x8000000000000000,
-        0x0000000000000000,
-    ),
-    (
-        0x46110801,
-        0x7FFFFFFFFFFFFFFF,
-        0x0000000000000001,
-        0x7FFFFFFFFFFFFFFE,
-    ),
-    (
-        0x46110801,
-        0x919E9BC7F4A02D92,
-        0x67D1191FDA80A0BD,
-        0xF64F82D82E208D2F,
-    ),
-    (
-        0x46110801,
-        0xB14CF51964CD1715,
-        0xFD95588C5E4EF10B,
-        0x4CD9AD953A83E61E,
-    ),
-    (
-        0x46110801,
-        0x344D04CB5F0F2C02,
-        0xD561CAB77E4D173D,
-        0xE12CCE7C21423B3F,
-    ),
-    (
-        0x46110801,
-        0x929E04E213311E91,
-        0x3C85B930B9F0920F,
-        0xAE1BBDD2AAC18C9E,
-    ),
-    (
-        0x46110801,
-        0xC5E1FB5BB643EDF4,
-        0x1B0B5A92CA9F1DAE,
-        0xDEEAA1C97CDCF05A,
-    ),
-    (
-        0x46110801,
-        0xF86C67B35A0AC810,
-        0xFECE6B989A323EAE,
-        0x06A20C2BC038F6BE,
-    ),
-];
-
-fn state_with(alloc: Global, a: u64, b: u64) -> State
+// Registers 16, 17 and 18 hold these words.
+fn state_with(alloc: Global, a: u64, b: u64, c: u64) -> State
     ensures { result.pc ≡ 0 }
 {
     let mut regs = [0; 32];
     regs[16] = a;
     regs[17] = b;
+    regs[18] = c;
     State::new(regs, Mem::new(alloc))
 }
 
 #[test]
 fn values_of_an_emulator(rt: HostRuntime) {
     for (word, a, b, value) in &VALUES {
-        let mut state = state_with(rt.alloc(), *a, *b);
+        let mut state = state_with(rt.alloc(), *a, *b, 0);
         assert_eq!(rt; run(&[*word], &mut state), Ok(End::Fall));
         assert_eq!(rt; state.register(1), *value, "word {word} at {a} and {b}");
-        assert_eq!(rt; state.register(16), *a);
-        assert_eq!(rt; state.register(17), *b);
+        assert_eq!(rt; (state.register(16), state.register(17)), (*a, *b));
         assert_eq!(rt; state.pc(), 4);
         assert_eq!(rt; state.memory().get(0), 0);
+    }
+}
+
+// cmpult $16, $18, $0; beq $0, 2; stq_u $16, 8($17)
+const COMPARE_AND_STORE: [u32; 3] = [0x421203a0, 0xe4000002, 0x3e110008];
+
+#[test]
+fn a_branch_leaves_or_falls_through(rt: HostRuntime) {
+    // The end, register 0, the pc and the word at address 208, by register 18.
+    let rows = [(50, End::Exit, 0, 16, 0), (500, End::Fall, 1, 12, 100)];
+    for (bound, end, less, pc, stored) in &rows {
+        let mut state = state_with(rt.alloc(), 100, 203, *bound);
+        assert_eq!(rt; run(&COMPARE_AND_STORE, &mut state), Ok(*end));
+        assert_eq!(rt; (state.register(0), state.pc()), (*less, *pc));
+        assert_eq!(rt;
+            (state.register(16), state.register(17), state.register(18)),
+            (100, 203, *bound)
+        );
+        assert_eq!(rt; state.memory().get(26), *stored);
     }
 }
 
 #[test]
 fn words_follow_each_other(rt: HostRuntime) {
     // addq $16, $17, $0; xor $0, $16, $1; addq $16, $17, $31
-    let words = [0x42110400, 0x44100801, 0x4211041F];
-    let mut state = state_with(rt.alloc(), 6, 3);
+    let words = [0x42110400, 0x44100801, 0x4211041f];
+    let mut state = state_with(rt.alloc(), 6, 3, 0);
     assert_eq!(rt; run(&words, &mut state), Ok(End::Fall));
     assert_eq!(rt;
         (state.register(0), state.register(1), state.register(31)),
@@ -466,16 +65,111 @@ fn words_follow_each_other(rt: HostRuntime) {
 }
 
 #[test]
-fn the_first_word_that_is_none_is_told(rt: HostRuntime) {
-    let good = 0x42110401;
-    // No opcode, no function, a literal, a bit that must be zero.
-    for bad in [0x00000000, 0x42110801, 0x42001401, 0x42112401] {
-        let mut state = state_with(rt.alloc(), 6, 3);
-        let got = run(&[good, bad, 0], &mut state);
-        assert_eq!(rt; got, Err(RunFault::Bad { at: 1, word: bad }));
+fn the_first_word_that_may_not_stand_is_told(rt: HostRuntime) {
+    // No opcode, no function, a bit that must be zero, a Ra that sextb doesn't read, and branches elsewhere than behind.
+    let rows = [
+        0x00000000, 0x42110421, 0x42112401, 0x70100001, 0xe4000001, 0xe4000003, 0xe41fffff,
+    ];
+    for bad in &rows {
+        let mut state = state_with(rt.alloc(), 6, 3, 0);
+        let got = run(&[0x42110401, *bad, 0], &mut state);
+        assert_eq!(rt; got, Err(RunFault::Bad { at: 1, word: *bad }));
         assert_eq!(rt; (state.register(1), state.pc()), (0, 0));
     }
-    let mut state = state_with(rt.alloc(), 6, 3);
+    let mut state = state_with(rt.alloc(), 6, 3, 0);
     assert_eq!(rt; run(&[], &mut state), Ok(End::Fall));
     assert_eq!(rt; state.pc(), 0);
+}
+
+#[test]
+fn effects_on_a_register(rt: HostRuntime) {
+    // Word, register 16, and what register 1 holds after it.
+    let rows = [
+        // lda $1, 300($31); lda $1, 256($16); lda $1, -8($16)
+        (0x203f012c, 7, 300),
+        (0x20300100, u64::MAX, 255),
+        (0x2030fff8, 3, u64::MAX - 4),
+        // ldah $1, 1($16); ldah $1, -1($16)
+        (0x24300001, 5, 65541),
+        (0x2430ffff, 5, 0xffffffffffff0005),
+        // addq $16, 255, $1; subq $16, 1, $1
+        (0x421ff401, 2, 257),
+        (0x42003521, 0, u64::MAX),
+        // sextb $16, $1; sextb 5, $1; sextw $16, $1
+        (0x73f00001, 0x1234580, 0xffffffffffffff80),
+        (0x73e0b001, 0x80, 5),
+        (0x73f00021, 0x12347fff, 0x7fff),
+        // lda $31, 256($16); addq $16, $16, $31
+        (0x23f00100, 9, 0),
+        (0x4210041f, 9, 0),
+    ];
+    for (word, base, value) in &rows {
+        let mut state = state_with(rt.alloc(), *base, 0, 0);
+        assert_eq!(rt; step(&mut state, *word), Ok(()));
+        assert_eq!(rt; state.register(1), *value, "word {word}");
+        assert_eq!(rt;
+            (state.register(16), state.register(31), state.pc()),
+            (*base, 0, 4)
+        );
+    }
+}
+
+#[test]
+fn effects_on_memory(rt: HostRuntime) {
+    // A store of register 16 and a load into register 1, register 17, and the place.
+    let rows = [
+        // stq_u $16, 8($17); ldq_u $1, 8($17)
+        (0x3e110008, 0x2c310008, 203, 26),
+        (0x3e110008, 0x2c310008, u64::MAX, 0),
+        // stq_u $16, -8($17); ldq_u $1, -8($17)
+        (0x3e11fff8, 0x2c31fff8, 16, 1),
+        (0x3e11fff8, 0x2c31fff8, 3, (1 << 61) - 1),
+    ];
+    for (store, load, base, place) in &rows {
+        let mut state = state_with(rt.alloc(), 100, *base, 0);
+        assert_eq!(rt; step(&mut state, *store), Ok(()));
+        assert!(rt;
+            *place < 1 << 61 && state.memory().get(*place) == 100,
+            "store {store}"
+        );
+        assert_eq!(rt; step(&mut state, *load), Ok(()));
+        assert_eq!(rt;
+            (state.register(1), state.register(17), state.pc()),
+            (100, *base, 8)
+        );
+    }
+}
+
+#[test]
+fn effects_on_the_pc(rt: HostRuntime) {
+    // beq $0, 2; beq $0, -1; beq $31, -1048576; beq $16, 1048575
+    let rows = [
+        (0xe4000002, 12),
+        (0xe41fffff, 0),
+        (0xe7f00000, u64::MAX - 4194299),
+        (0xe60fffff, 4),
+    ];
+    for (word, pc) in &rows {
+        let mut state = state_with(rt.alloc(), 1, 0, 0);
+        assert_eq!(rt; step(&mut state, *word), Ok(()));
+        assert_eq!(rt; state.pc(), *pc, "word {word}");
+    }
+    // beq $31, -2; bis $31, $31, $31: the pc is a word of 64 bits
+    let mut state = state_with(rt.alloc(), 1, 0, 0);
+    assert_eq!(rt; step(&mut state, 0xe7fffffe), Ok(()));
+    assert_eq!(rt; state.pc(), u64::MAX - 3);
+    assert_eq!(rt; step(&mut state, 0x47ff041f), Ok(()));
+    assert_eq!(rt; state.pc(), 0);
+}
+
+#[test]
+fn a_word_of_no_instruction_is_refused(rt: HostRuntime) {
+    for word in [0x00000000, 0x42112401, 0xa4000000] {
+        let mut state = state_with(rt.alloc(), 6, 3, 1);
+        assert_eq!(rt; step(&mut state, word), Err(StepFault::NotWord));
+        assert_eq!(rt;
+            (state.register(16), state.register(18), state.pc()),
+            (6, 1, 0)
+        );
+    }
 }

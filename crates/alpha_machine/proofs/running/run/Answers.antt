@@ -1,17 +1,43 @@
 -- Each word of a list that may stand is stepped from its own place.
-use Rattle.std.proofs.Common.{◌≡◌, sym, ◌∙◌, ap, arith, length, ◌*◌}
+use Rattle.std.proofs.Common.{◌≡◌, ◌*◌, ◌<◌, sym, ◌∙◌, ap, arith, length}
 use Rattle.std.proofs.lemmas.Option.{slice_get-get_or}
 use Rattle.alpha_machine.specs.Runs.{after}
-use Rattle.alpha_machine.proofs.Stepping.{reached_more, pc_more, decode_all, instrs_of}
+use Rattle.alpha_machine.proofs.Outcomes.{when_err, when_ok}
+use Rattle.alpha_machine.proofs.StepsOfRuns.{reached_more, pc_more, pc_leaves, leads_out, before_store, decode_all, instrs_of}
 use Rattle.alpha_machine.proofs.running.run.Goals as goal
+
+pub returns-then-is_err-clause-refused : goal.returns-then-is_err-clause-refused
+returns-then-is_err-clause-refused c =
+    let there = slice_get-get_or c.args.words.now c.loop-word.word-index 0 c.loop-word-test.true in
+    let stand = c.in_default.ensures in
+    let fault = when_err c.step.result c.is_err.result _ c.is_err.ensures.value c.if-is_err.true c.step.ensures.refused in
+    (stand, before_store _ _ _ _ _ _ stand there c.loop-word.invariant.reached c.loop-word.invariant.pc fault.0 c.loop-word-test.true fault.1)
+
+pub returns-then-pc-fall-clause-runs : goal.returns-then-pc-fall-clause-runs
+returns-then-pc-fall-clause-runs c =
+    let there = slice_get-get_or c.args.words.now c.loop-word.word-index 0 c.loop-word-test.true in
+    let stand = c.in_default.ensures in
+    let did = when_ok c.step.result c.is_err.result _ c.is_err.ensures.value c.if-is_err.false c.step.ensures.ok in
+    let reached = reached_more _ _ _ _ _ _ stand there c.loop-word.invariant.reached c.loop-word.invariant.pc did in
+    let out : 4 * length c.args.words.now < c.step.new.state.pc = omega (arith, c.pc.ensures, c.if-pc-fall.true) in
+    let ends = pc_leaves _ _ _ _ _ _ stand there c.loop-word.invariant.reached c.loop-word.invariant.pc c.loop-word-test.true c.requires.few did out in
+    record {
+      instrs = instrs_of c.args.words.now;
+      decode = decode_all c.args.words.now stand;
+      begins = c.requires.start;
+      steps = leads_out _ _ _ _ _ _ stand there c.loop-word.invariant.reached c.loop-word.invariant.pc c.loop-word-test.true reached ends;
+      ends = ends;
+    }
 
 pub loop-word-preserved : goal.loop-word-preserved
 loop-word-preserved c =
     let there = slice_get-get_or c.args.words.now c.loop-word.word-index 0 c.loop-word-test.true in
     let stand = c.in_default.ensures in
+    let did = when_ok c.step.result c.is_err.result _ c.is_err.ensures.value c.if-is_err.false c.step.ensures.ok in
     record {
-      reached = reached_more _ _ _ _ _ _ stand there c.loop-word.invariant.reached c.loop-word.invariant.pc c.step_word.ensures.step;
-      pc = pc_more c.args.words.now c.loop-word.word-index _ c.args.state.now c.loop-word.state c.step_word.new.state stand there (omega (arith, c.loop-word-test.true, c.requires.few)) c.loop-word.invariant.pc c.step_word.ensures.next;
+      reached = reached_more _ _ _ _ _ _ stand there c.loop-word.invariant.reached c.loop-word.invariant.pc did;
+      pc = pc_more _ _ _ _ _ _ stand there c.loop-word.invariant.reached c.loop-word.invariant.pc c.loop-word-test.true c.requires.few did
+          (λ out. omega (arith, c.pc.ensures, c.if-pc-fall.false, out));
     }
 
 pub returns-clause-runs : goal.returns-clause-runs

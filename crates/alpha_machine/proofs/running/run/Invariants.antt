@@ -1,6 +1,6 @@
 use Rattle.std.proofs.Common.{◌≡◌, ◌*◌}
 use Rattle.alpha_machine.specs.Runs.{after}
-use Rattle.alpha_machine.proofs.Stepping.{instrs_of}
+use Rattle.alpha_machine.proofs.StepsOfRuns.{instrs_of}
 use Rattle.alpha_machine.proofs.running.run.Given as goal
 
 -- The words so far were stepped, each from its own place.

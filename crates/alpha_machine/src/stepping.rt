@@ -1,0 +1,24 @@
+// One step.
+ghost use Rattle.std.specs.Prelude.{◌≡◌, OnOk, IfErr, IsSomeAnd};
+ghost use Rattle.alpha_encode.specs.Decoded.{decoded};
+ghost use Rattle.alpha_machine.specs.Steps as steps;
+ghost use Rattle.alpha_machine.specs.Refusals.{IsStepRefused};
+
+use crate::states::State;
+use alpha_encode::decode;
+
+/// Why a word wasn't executed.
+#[derive(Clone, Copy, PartialEq, Eq, Debug)]
+pub enum StepFault {
+    NotWord,
+    Memory,
+}
+
+/// Does what the word's instruction does, wherever the word stands.
+pub fn step(state: &mut State, word: u32) -> Result<(), StepFault>
+    ensures ok { OnOk result (IsSomeAnd (decoded word) (λ instr. state.new ≡ steps.step instr state.old)) }
+    ensures refused { IfErr result (IsStepRefused word state.old state.new) }
+{
+    let instr = decode(word).ok_or(StepFault::NotWord)?;
+    state.execute(instr).map_err(|_| StepFault::Memory)
+}

@@ -1,0 +1,25 @@
+// What operates and addresses come to.
+ghost use Rattle.std.specs.Prelude.{◌≡◌, IsSome};
+ghost use Rattle.alpha_encode.specs.Codes.{code_of};
+ghost use Rattle.alpha_machine.specs.Steps as steps;
+
+use word_ops::{WordOp, apply, arity};
+
+/// What an operate gives. One of a single operand has it in its second place.
+pub(crate) fn operate_value(op: WordOp, first: u64, second: u64) -> u64
+    requires { IsSome (code_of op) }
+    ensures { result ≡ steps.operate_value op first second }
+{
+    if arity(op) == 1 {
+        apply(op, &[second])
+    } else {
+        apply(op, &[first, second])
+    }
+}
+
+/// The address that lies `disp` times `scale` bytes behind `base`.
+pub(crate) fn address(base: u64, scale: u64, disp: i64) -> u64
+    ensures { result ≡ steps.address base scale disp }
+{
+    base.wrapping_add(scale.wrapping_mul(disp.cast_unsigned()))
+}
