@@ -1,25 +1,24 @@
 -- Running the one word of an answered goal.
-use Rattle.std.proofs.Common.{◌≡◌, ◌≢◌, ℕ, zero, suc, ◌<◌, List, [], ◌∷◌, length, refl, sym, ◌∙◌, ap, subst, inl, inr, arith, false, cond, set}
+use Rattle.std.proofs.Common.{◌≡◌, ◌≢◌, ℕ, zero, suc, ◌<◌, List, [], ◌∷◌, length, refl, sym, ◌∙◌, ap, subst, inl, inr, arith, cond, Some, set}
 use Rattle.std.specs.Prelude.{AllPairs, slice_index, if◌then◌else◌}
 use Rattle.std.specs.List.{AllZip}
 use Rattle.std.proofs.lemmas.Bool.Decides.{eqb_tells}
 use Rattle.std.proofs.lemmas.List.{get_or-set_same, get_or-set_other}
 use Rattle.std.proofs.lemmas.List.Elements.{All-nil, All-cons, All-head, All-tail}
-use Rattle.word_ops.specs.declared.operators.WordOp.{WordOp}
-use Rattle.word_ops.specs.declared.operators.WordOp.TheVariants as ops
 use Rattle.word_ops.specs.declared.sorts.Op.TheVariants as op
 use Rattle.word_ops.specs.Operators.{value_at}
 use Rattle.word_ops.specs.Worlds.{World, IsWorld, Value, word}
 use Rattle.word_ops.specs.Meanings.{as_word}
 use Rattle.alpha_machine.specs.States.{MachineState}
-use Rattle.alpha_machine.specs.Steps.{is_unary, operate_value, written}
+use Rattle.alpha_machine.specs.Steps.{operate_value, written}
 use Rattle.alpha_machine.specs.Runs.{Runs}
 use Rattle.alpha_machine.specs.declared.running.End.TheVariants.{Fall}
-use Rattle.denali_run.specs.Goals.{Goal, IsGoal, IsAnswered, input_of}
-use Rattle.denali_run.specs.RegisterWords.{instr_of}
+use Rattle.denali_run.specs.Goals.{Goal, IsGoal, input_of}
+use Rattle.alpha_encode.specs.Decoded.{decoded}
+use Rattle.alpha_encode.specs.Formats.{encoded}
 use Rattle.denali_run.specs.Graphs.{IsProper, IsTrueIn}
 use Rattle.denali_run.specs.Outcomes.{entry_state, Falls}
-use Rattle.denali_run.specs.Answers.{graph_of, class_of, words_of, wheres_of, word_of, plain_row}
+use Rattle.denali_run.specs.Answers.{graph_of, class_of, words_of, wheres_of, instr_of, plain_row}
 use Rattle.denali_run.specs.RightAnswers.{asked, Leaves, IsRightAnswer}
 use Rattle.denali_run.specs.declared.forms.InputPlace.{InputPlace}
 use Rattle.denali_run.specs.declared.forms.InputPlace.TheVariants.{First, Second}
@@ -29,15 +28,7 @@ use Rattle.denali_run.specs.declared.graphs.SetClass.{SetClass}
 use Rattle.denali_run.specs.declared.listings.Where.{Where}
 use Rattle.denali_run.specs.declared.graphs.LaunchGraph.{LaunchGraph}
 use Rattle.denali_run.proofs.OneLaunch.{fits, nothing_fits, target_is_entry, input_one, input_two}
-use Rattle.denali_run.proofs.OneWord.{listing, are_words, obeys, decodes, targets_are}
-
-binary_is : (op : WordOp) → IsAnswered op → is_unary op ≡ false
-binary_is ops.Addq h = refl
-binary_is ops.Subq h = refl
-binary_is ops.And h = refl
-binary_is ops.Bis h = refl
-binary_is ops.Xor h = refl
-binary_is _ h = absurd h
+use Rattle.denali_run.proofs.OneWord.{listing, obeys, targets_are, binary_is}
 
 -- a register below 31 is written
 low_is_written : (registers : List ℕ) (r v : ℕ) → r < 31 → written registers r v ≡ set registers r v
@@ -63,7 +54,7 @@ three_apart a b c ab ac bc (suc (suc i)) (suc (suc (suc j))) d lt len = absurd (
 abbrev is_low : ℕ → Type 0
 is_low r = r < 31
 
-module _ (goal : Goal) (valid : IsGoal goal) where
+module _ (goal : Goal) (valid : IsGoal goal) (back : decoded (encoded (instr_of goal)) ≡ Some (instr_of goal)) where
   abbrev g : LaunchGraph
   g = graph_of goal
 
@@ -92,8 +83,8 @@ module _ (goal : Goal) (valid : IsGoal goal) where
 
     runs : Runs (words_of goal) (entry_state w) Fall end_state
     runs = record {
-      instrs = instr_of (word_of goal) ∷ [];
-      decode = ap (λ o. o ∷ []) (decodes goal valid);
+      instrs = instr_of goal ∷ [];
+      decode = ap (λ o. o ∷ []) back;
       begins = refl;
       steps = refl;
       ends = refl;
@@ -156,7 +147,7 @@ module _ (goal : Goal) (valid : IsGoal goal) where
     proper = proper;
     fits = fits goal valid;
     listing = listing goal valid;
-    words = are_words goal valid;
+    words = ap (λ o. o ∷ []) back;
     obeys = obeys goal valid;
     leaves = leaves;
     right = record { falls = λ w value is_world true_in stays. falls w value is_world true_in; exits = λ w value is_world true_in left. absurd left };

@@ -1,75 +1,29 @@
 -- The word of an answered goal is its launch's, keeps to the table, and computes the goal's value.
-use Rattle.std.proofs.Common.{◌≡◌, ℕ, zero, suc, ◌+◌, ◌*◌, ◌/◌, ◌%◌, ◌^◌, ◌<◌, ◌≤◌, List, [], ◌∷◌, refl, sym, ◌∙◌, ap, arith, Bool, true, cond, Option, Some, None, map}
-use Rattle.std.specs.Prelude.{IsTrue, slice_get, unwrap_or, option_map, position, nat_lt, not, ◌==◌, ◌&&◌}
+use Rattle.std.proofs.Common.{◌≡◌, ℕ, zero, suc, ◌+◌, ◌<◌, ◌≤◌, List, [], ◌∷◌, refl, sym, ◌∙◌, ap, arith, Bool, true, false, cond, Option, Some, None, map}
+use Rattle.std.specs.Prelude.{IsSome, IsTrue, slice_get, unwrap_or, position, nat_lt, not, ◌&&◌}
 use Rattle.std.specs.Option.{option_map_or}
 use Rattle.std.proofs.lemmas.List.Sorted.{IsPermutation-refl}
 use Rattle.word_ops.specs.declared.operators.WordOp.{WordOp}
 use Rattle.word_ops.specs.declared.operators.WordOp.TheVariants as ops
-use Rattle.alpha_machine.specs.Formats.{decoded, operate_of}
-use Rattle.alpha_machine.specs.declared.instructions.Second.TheVariants.{Reg}
-use Rattle.alpha_machine.specs.declared.instructions.Instr.{Instr}
-use Rattle.alpha_machine.specs.declared.instructions.Instr.TheVariants as instrs
+use Rattle.alpha_encode.specs.Codes.{code_of, is_unary}
+use Rattle.alpha_encode.specs.Formats.{IsWellFormed}
+use Rattle.alpha_encode.specs.declared.instructions.Second.TheVariants.{Reg}
+use Rattle.alpha_encode.specs.declared.instructions.Instr.{Instr}
+use Rattle.alpha_encode.specs.declared.instructions.Instr.TheVariants as instrs
 use Rattle.denali_run.specs.Goals.{Goal, IsGoal, IsAnswered, input_of}
-use Rattle.denali_run.specs.RegisterWords.{operate_word, instr_of}
 use Rattle.denali_run.specs.Tables.{ev6, MayUse}
 use Rattle.denali_run.specs.Launches.{StandsBefore, is_store}
 use Rattle.denali_run.specs.Listings as listings
 use Rattle.denali_run.specs.Listings.{IsListing}
 use Rattle.denali_run.specs.Obeys.{Obeys, latency_in, kind_of}
-use Rattle.denali_run.specs.Outcomes.{AreWordsOf}
-use Rattle.denali_run.specs.Answers.{graph_of, launches, launch, class_of, items_of, words_of, wheres_of, word_of}
+use Rattle.denali_run.specs.Answers.{graph_of, launches, launch, class_of, items_of, wheres_of, instr_of}
 use Rattle.denali_run.specs.declared.forms.InputPlace.{InputPlace}
 use Rattle.denali_run.specs.declared.forms.InputPlace.TheVariants.{First, Second}
 use Rattle.denali_run.specs.declared.graphs.LaunchGraph.{LaunchGraph}
 use Rattle.denali_run.specs.declared.graphs.SetClass.{SetClass}
 use Rattle.denali_run.specs.declared.listings.Item.{Item}
 use Rattle.denali_run.specs.declared.listings.Where.{Where}
-use Rattle.denali_run.proofs.OneLaunch.{may_use, latency_is, all_one, pairs_one, gives_it, not_memory}
-
--- ---- decoding
-
-module _ (opcode function a b c : ℕ) (low : function < 2 ^ 7) (la : a < 2 ^ 5) (lb : b < 2 ^ 5) (lc : c < 2 ^ 5) where
-  abbrev pub w : ℕ
-  w = opcode * 2 ^ 26 + a * 2 ^ 21 + b * 2 ^ 16 + function * 2 ^ 5 + c
-
-  zeros : w / 2 ^ 12 % 2 ^ 4 ≡ 0
-  zeros = omega arith
-
-  opcode_of : w / 2 ^ 26 ≡ opcode
-  opcode_of = omega arith
-
-  function_of : w / 2 ^ 5 % 2 ^ 7 ≡ function
-  function_of = omega arith
-
-  ra_of : w / 2 ^ 21 % 2 ^ 5 ≡ a
-  ra_of = omega arith
-
-  rb_of : w / 2 ^ 16 % 2 ^ 5 ≡ b
-  rb_of = omega arith
-
-  rc_of : w % 2 ^ 5 ≡ c
-  rc_of = omega arith
-
-  pub decoded_as : (op : WordOp) → operate_of opcode function ≡ Some op → decoded w ≡ Some (instrs.Operate op a (Reg b) c)
-  unfolding decoded
-  decoded_as op found =
-      let is_zero : (w / 2 ^ 12 % 2 ^ 4 == 0) ≡ true = ap (λ n. n == 0) zeros in
-      rw is_zero (
-      ap (λ n. option_map (λ o. instrs.Operate o (w / 2 ^ 21 % 2 ^ 5) (Reg (w / 2 ^ 16 % 2 ^ 5)) (w % 2 ^ 5)) (operate_of n (w / 2 ^ 5 % 2 ^ 7))) opcode_of
-      ∙ ap (λ n. option_map (λ o. instrs.Operate o (w / 2 ^ 21 % 2 ^ 5) (Reg (w / 2 ^ 16 % 2 ^ 5)) (w % 2 ^ 5)) (operate_of opcode n)) function_of
-      ∙ ap (option_map (λ o. instrs.Operate o (w / 2 ^ 21 % 2 ^ 5) (Reg (w / 2 ^ 16 % 2 ^ 5)) (w % 2 ^ 5))) found
-      ∙ ap (λ n. Some (instrs.Operate op n (Reg (w / 2 ^ 16 % 2 ^ 5)) (w % 2 ^ 5))) ra_of
-      ∙ ap (λ n. Some (instrs.Operate op a (Reg n) (w % 2 ^ 5))) rb_of
-      ∙ ap (λ n. Some (instrs.Operate op a (Reg b) n)) rc_of)
-
--- the printed word is the instruction that is printed beside it
-pub word_decodes : (op : WordOp) (a b c : ℕ) → IsAnswered op → a < 2 ^ 5 → b < 2 ^ 5 → c < 2 ^ 5 → decoded (operate_word op a b c) ≡ Some (instrs.Operate op a (Reg b) c)
-word_decodes ops.Addq a b c h la lb lc = (let e : operate_word ops.Addq a b c ≡ 0x10 * 2 ^ 26 + a * 2 ^ 21 + b * 2 ^ 16 + 0x20 * 2 ^ 5 + c = omega arith in ap decoded e ∙ decoded_as 0x10 0x20 a b c (omega arith) la lb lc ops.Addq refl)
-word_decodes ops.Subq a b c h la lb lc = (let e : operate_word ops.Subq a b c ≡ 0x10 * 2 ^ 26 + a * 2 ^ 21 + b * 2 ^ 16 + 0x29 * 2 ^ 5 + c = omega arith in ap decoded e ∙ decoded_as 0x10 0x29 a b c (omega arith) la lb lc ops.Subq refl)
-word_decodes ops.And a b c h la lb lc = (let e : operate_word ops.And a b c ≡ 0x11 * 2 ^ 26 + a * 2 ^ 21 + b * 2 ^ 16 + 0x00 * 2 ^ 5 + c = omega arith in ap decoded e ∙ decoded_as 0x11 0x00 a b c (omega arith) la lb lc ops.And refl)
-word_decodes ops.Bis a b c h la lb lc = (let e : operate_word ops.Bis a b c ≡ 0x11 * 2 ^ 26 + a * 2 ^ 21 + b * 2 ^ 16 + 0x20 * 2 ^ 5 + c = omega arith in ap decoded e ∙ decoded_as 0x11 0x20 a b c (omega arith) la lb lc ops.Bis refl)
-word_decodes ops.Xor a b c h la lb lc = (let e : operate_word ops.Xor a b c ≡ 0x11 * 2 ^ 26 + a * 2 ^ 21 + b * 2 ^ 16 + 0x40 * 2 ^ 5 + c = omega arith in ap decoded e ∙ decoded_as 0x11 0x40 a b c (omega arith) la lb lc ops.Xor refl)
-word_decodes _ a b c h la lb lc = absurd h
+use Rattle.denali_run.proofs.OneLaunch.{may_use, latency_is, all_one, pairs_one, gives_it, not_memory, false_true}
 
 -- ---- the listing
 
@@ -101,7 +55,7 @@ module _ (goal : Goal) (valid : IsGoal goal) where
   second_is First = refl
   second_is Second = refl
 
-  instr_is : listings.instr_of g ev6 launches 0 launch ≡ instr_of (word_of goal)
+  instr_is : listings.instr_of g ev6 launches 0 launch ≡ instr_of goal
   instr_is =
       row_is g 0 goal.op (class_of goal.left ∷ class_of goal.right ∷ []) valid.op
       ∙ ap (λ r. instrs.Operate goal.op r (listings.second_for g ev6 launches launch (class_of goal.right)) goal.pool) (reg_is goal.left)
@@ -136,20 +90,10 @@ module _ (goal : Goal) (valid : IsGoal goal) where
     wheres_are = wheres_are;
   }
 
-  reg_low : (place : InputPlace) → (input_of goal place).register < 2 ^ 5
-  reg_low First = (let l = valid.one_low in omega arith)
-  reg_low Second = (let l = valid.two_low in omega arith)
-
-  pub decodes : decoded (word_of goal).word ≡ Some (instr_of (word_of goal))
-  decodes = word_decodes goal.op _ _ _ valid.op (reg_low goal.left) (reg_low goal.right) (let l = valid.pool_low in omega arith)
-
-  pub are_words : AreWordsOf (items_of goal) (words_of goal)
-  are_words = ap (λ o. o ∷ []) decodes
-
   abbrev item : Item
-  item = record { instr = instr_of (word_of goal); cycle = 0; slot = 0 }
+  item = record { instr = instr_of goal; cycle = 0; slot = 0 }
 
-  latency_one : latency_in ev6 (instr_of (word_of goal)) ≡ 1
+  latency_one : latency_in ev6 (instr_of goal) ≡ 1
   latency_one = ap (λ o. unwrap_or o 0) (latency_is goal.op valid.op)
 
   first_only : (i : ℕ) (x : Item) → slice_get (items_of goal) i ≡ Some x → i ≡ 0
@@ -166,3 +110,34 @@ module _ (goal : Goal) (valid : IsGoal goal) where
     operands = λ i x there r m reads not_zero last. absurd (let e = first_only i x there in let l = last.earlier in omega (arith, e, l));
     one_store = pairs_one (λ a b. IsTrue (is_store (kind_of a.instr)) → IsTrue (is_store (kind_of b.instr)) → ¬ (a.cycle ≡ b.cycle)) item;
   }
+
+-- ---- the instruction is one that has a word
+
+has_code : (op : WordOp) → IsAnswered op → IsSome (code_of op)
+has_code ops.Addq h = refl
+has_code ops.Subq h = refl
+has_code ops.And h = refl
+has_code ops.Bis h = refl
+has_code ops.Xor h = refl
+has_code _ h = absurd h
+
+pub binary_is : (op : WordOp) → IsAnswered op → is_unary op ≡ false
+binary_is ops.Addq h = refl
+binary_is ops.Subq h = refl
+binary_is ops.And h = refl
+binary_is ops.Bis h = refl
+binary_is ops.Xor h = refl
+binary_is _ h = absurd h
+
+reg_low : (goal : Goal) → IsGoal goal → (place : InputPlace) → (input_of goal place).register < 32
+reg_low goal valid First = (let l = valid.one_low in omega arith)
+reg_low goal valid Second = (let l = valid.two_low in omega arith)
+
+pub is_well_formed : (goal : Goal) → IsGoal goal → IsWellFormed (instr_of goal)
+is_well_formed goal valid = (
+  has_code goal.op valid.op,
+  reg_low goal valid goal.left,
+  reg_low goal valid goal.right,
+  (let l = valid.pool_low in omega arith),
+  λ unary. absurd (false_true (sym (binary_is goal.op valid.op) ∙ unary)),
+)

@@ -14,7 +14,9 @@ use Rattle.denali_run.specs.declared.graphs.SetClass.{SetClass}
 use Rattle.denali_run.specs.declared.graphs.LaunchGraph.{LaunchGraph}
 use Rattle.denali_run.specs.declared.schedules.Launch.{Launch}
 use Rattle.denali_run.specs.declared.listings.Where.{Where}
-use Rattle.denali_run.specs.declared.words.RegisterWord.{RegisterWord}
+use Rattle.alpha_encode.specs.Formats.{encoded}
+use Rattle.alpha_encode.specs.Texts.{text_of}
+use Rattle.alpha_encode.specs.declared.instructions.Instr.{Instr}
 
 -- numbers, each with a space before it
 abbrev pub number_words : List ℕ → List ℕ
@@ -78,11 +80,8 @@ abbrev pub launch_line : Table → Launch → List ℕ
 launch_line table l =
     codes "launch " ++ decimal l.cycle ++ codes " " ++ slot_name table l.slot ++ codes " " ++ decimal l.row ++ codes "\n"
 
-abbrev pub registers_of_word : RegisterWord → List ℕ
-registers_of_word w = codes " $" ++ decimal w.ra ++ codes ", $" ++ decimal w.rb ++ codes ", $" ++ decimal w.rc
-
-unfoldable pub word_line : RegisterWord → List ℕ
-word_line w = codes "word " ++ hex_text w.word ++ codes " " ++ name_of w.op ++ registers_of_word w ++ codes "\n"
+unfoldable pub word_line : Instr → List ℕ
+word_line instr = codes "word " ++ hex_text (encoded instr) ++ codes " " ++ text_of instr ++ codes "\n"
 
 abbrev pub where_line : Where → List ℕ
 where_line w = codes "where " ++ w.name ++ codes " " ++ decimal w.reg ++ codes "\n"

@@ -6,8 +6,10 @@ use Rattle.word_ops.specs.declared.sorts.Op.{Op}
 use Rattle.word_ops.specs.declared.sorts.Op.TheVariants as op
 use Rattle.denali_run.specs.Tables.{ev6}
 use Rattle.denali_run.specs.Goals.{Goal, input_of}
-use Rattle.denali_run.specs.RegisterWords.{operate_word, instr_of}
-use Rattle.denali_run.specs.declared.words.RegisterWord.{RegisterWord}
+use Rattle.alpha_encode.specs.Formats.{encoded}
+use Rattle.alpha_encode.specs.declared.instructions.Second.TheVariants.{Reg}
+use Rattle.alpha_encode.specs.declared.instructions.Instr.{Instr}
+use Rattle.alpha_encode.specs.declared.instructions.Instr.TheVariants.{Operate}
 use Rattle.denali_run.specs.AnswerTexts.{graph_text, launch_line, word_line, where_line}
 use Rattle.denali_run.specs.declared.forms.InputPlace.{InputPlace}
 use Rattle.denali_run.specs.declared.forms.InputPlace.TheVariants.{First, Second}
@@ -48,18 +50,15 @@ launch = record { cycle = 0; slot = 0; row = 3 }
 abbrev pub launches : List Launch
 launches = launch ∷ []
 
--- its word, into the pool's register
-abbrev pub word_of : Goal → RegisterWord
-word_of goal =
-    let a = (input_of goal goal.left).register in
-    let b = (input_of goal goal.right).register in
-    record { word = operate_word goal.op a b goal.pool; op = goal.op; ra = a; rb = b; rc = goal.pool }
+-- its instruction, into the pool's register
+abbrev pub instr_of : Goal → Instr
+instr_of goal = Operate goal.op (input_of goal goal.left).register (Reg (input_of goal goal.right).register) goal.pool
 
 abbrev pub items_of : Goal → List Item
-items_of goal = record { instr = instr_of (word_of goal); cycle = 0; slot = 0 } ∷ []
+items_of goal = record { instr = instr_of goal; cycle = 0; slot = 0 } ∷ []
 
 abbrev pub words_of : Goal → List ℕ
-words_of goal = (word_of goal).word ∷ []
+words_of goal = encoded (instr_of goal) ∷ []
 
 abbrev pub wheres_of : Goal → List Where
 wheres_of goal = record { name = goal.target; reg = goal.pool } ∷ []
@@ -73,7 +72,7 @@ head_text goal = codes "denali 1\nencoding 1\ntable ev6\ngoal " ++ goal.name ++ 
 
 unfoldable pub code_text : Goal → List ℕ
 code_text goal =
-    codes "scheduled 1\n" ++ flat_map (launch_line ev6) launches ++ word_line (word_of goal) ++ flat_map where_line (wheres_of goal)
+    codes "scheduled 1\n" ++ flat_map (launch_line ev6) launches ++ word_line (instr_of goal) ++ flat_map where_line (wheres_of goal)
 
 unfoldable pub answer_text : Goal → List ℕ
 answer_text goal = head_text goal ++ graph_text (graph_of goal) ++ code_text goal ++ tail_text

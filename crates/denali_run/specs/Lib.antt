@@ -12,7 +12,6 @@ pub mod Listings
 pub mod Obeys
 pub mod Outcomes
 pub mod Reading
-pub mod RegisterWords
 pub mod Resolving
 pub mod RightAnswers
 pub mod Statuses

@@ -8,10 +8,10 @@ use Rattle.word_ops.specs.declared.operators.WordOp.TheVariants as ops
 use Rattle.denali_run.specs.Tables.{cluster_of}
 use Rattle.denali_run.specs.Graphs.{constant_of, is_memory_name}
 use Rattle.denali_run.specs.Launches.{launches, gives_word, class_at, ready_in, IsInWordOrder}
-use Rattle.alpha_machine.specs.declared.instructions.Second.{Second}
-use Rattle.alpha_machine.specs.declared.instructions.Second.TheVariants.{Reg, Literal}
-use Rattle.alpha_machine.specs.declared.instructions.Instr.{Instr}
-use Rattle.alpha_machine.specs.declared.instructions.Instr.TheVariants.{Operate, Lda, Ldah, LdqU, StqU, Beq}
+use Rattle.alpha_encode.specs.declared.instructions.Second.{Second}
+use Rattle.alpha_encode.specs.declared.instructions.Second.TheVariants.{Reg, Literal}
+use Rattle.alpha_encode.specs.declared.instructions.Instr.{Instr}
+use Rattle.alpha_encode.specs.declared.instructions.Instr.TheVariants.{Operate, Lda, Ldah, LdqU, StqU, Beq}
 use Rattle.word_ops.specs.declared.sorts.Op.{Op}
 use Rattle.word_ops.specs.declared.sorts.Op.TheVariants as op
 use Rattle.denali_run.specs.declared.listings.Item.{Item}

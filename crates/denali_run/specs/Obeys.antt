@@ -3,13 +3,13 @@
 use Rattle.std.specs.Prelude.{◌≡◌, ℕ, ◌+◌, ◌<◌, ◌≤◌, List, [], ◌∷◌, Option, Some, None, unwrap_or, All, AllPairs, IsTrue, slice_get, if◌then◌else◌, Contains}
 use Rattle.denali_run.specs.Tables.{MayUse, latency_of, cluster_of, ready}
 use Rattle.denali_run.specs.Launches.{is_store}
-use Rattle.alpha_machine.specs.Steps.{is_unary}
+use Rattle.alpha_encode.specs.Codes.{is_unary}
 use Rattle.denali_run.specs.declared.tables.InstrKind.{InstrKind}
 use Rattle.denali_run.specs.declared.tables.InstrKind.TheVariants as kinds
-use Rattle.alpha_machine.specs.declared.instructions.Second.{Second}
-use Rattle.alpha_machine.specs.declared.instructions.Second.TheVariants.{Reg, Literal}
-use Rattle.alpha_machine.specs.declared.instructions.Instr.{Instr}
-use Rattle.alpha_machine.specs.declared.instructions.Instr.TheVariants.{Operate, Lda, Ldah, LdqU, StqU, Beq}
+use Rattle.alpha_encode.specs.declared.instructions.Second.{Second}
+use Rattle.alpha_encode.specs.declared.instructions.Second.TheVariants.{Reg, Literal}
+use Rattle.alpha_encode.specs.declared.instructions.Instr.{Instr}
+use Rattle.alpha_encode.specs.declared.instructions.Instr.TheVariants.{Operate, Lda, Ldah, LdqU, StqU, Beq}
 use Rattle.denali_run.specs.declared.listings.Item.{Item}
 use Rattle.denali_run.specs.declared.tables.Table.{Table}
 

@@ -4,11 +4,11 @@
 use Rattle.std.specs.Prelude.{◌≡◌, ℕ, zero, suc, List, [], ◌∷◌, map, length, Option, Some, None, ◌/◌, slice_get, slice_index, All, IsTrue, IsSomeAnd}
 use Rattle.std.specs.List.{AllZip}
 use Rattle.word_ops.specs.Worlds.{World, IsWorld, Value, word, memory}
-use Rattle.alpha_machine.specs.Formats.{decoded}
+use Rattle.alpha_encode.specs.Decoded.{decoded}
 use Rattle.alpha_machine.specs.States.{MachineState}
 use Rattle.alpha_machine.specs.Runs.{Runs, stepped}
 use Rattle.alpha_machine.specs.declared.running.End.TheVariants.{Fall, Exit}
-use Rattle.alpha_machine.specs.declared.instructions.Instr.{Instr}
+use Rattle.alpha_encode.specs.declared.instructions.Instr.{Instr}
 use Rattle.denali_run.specs.Graphs.{memory_target, IsTrueIn}
 use Rattle.denali_run.specs.Launches.{is_load, is_held}
 use Rattle.denali_run.specs.Obeys.{kind_of}

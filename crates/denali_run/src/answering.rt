@@ -1,6 +1,8 @@
 // The text of an answer.
-ghost use Rattle.std.specs.Prelude.{◌≡◌, ◌++◌, IfOk, OnOk};
-ghost use Rattle.denali_run.specs.Answers.{answer_text, head_text, code_text};
+ghost use Rattle.std.specs.Prelude.{◌≡◌, ◌++◌, IfOk, OnOk, Some};
+ghost use Rattle.denali_run.specs.Answers.{answer_text, head_text, code_text, instr_of};
+ghost use Rattle.alpha_encode.specs.Decoded.{decoded};
+ghost use Rattle.alpha_encode.specs.Formats.{encoded};
 ghost use Rattle.denali_run.specs.Goals.{IsGoal};
 ghost use Rattle.denali_run.specs.Views.{goal_view};
 
@@ -8,7 +10,7 @@ use crate::building::{graph_of, wheres_of};
 use crate::forms::GoalForm;
 use crate::printing::{put_graph, put_launches, put_wheres, put_word};
 use crate::schedules::Launch;
-use crate::words::word_of;
+use crate::words::instr_of;
 use items::NoMemory;
 use std::alloc::Global;
 
@@ -34,12 +36,13 @@ fn put_head(text: &mut Vec<u8>, goal: &GoalForm) -> Result<(), NoMemory>
 #[tactic(auto, unfolding(crate::specs::Answers::code_text))]
 fn put_code(alloc: Global, text: &mut Vec<u8>, goal: &GoalForm) -> Result<(), NoMemory>
     requires { IsGoal (goal_view goal.now) }
-    ensures { OnOk result (text.new.items ≡ text.old.items ++ code_text (goal_view goal.now)) }
+    ensures text { OnOk result (text.new.items ≡ text.old.items ++ code_text (goal_view goal.now)) }
+    ensures back { OnOk result (decoded (encoded (instr_of (goal_view goal.now))) ≡ Some (instr_of (goal_view goal.now))) }
 {
     let wheres = wheres_of(alloc, goal)?;
     text.extend_from_slice(b"scheduled 1\n")?;
     put_launches(text, &[LAUNCH])?;
-    put_word(text, word_of(goal))?;
+    put_word(alloc, text, instr_of(goal))?;
     put_wheres(text, wheres.as_slice())?;
     Ok(())
 }
@@ -48,7 +51,8 @@ fn put_code(alloc: Global, text: &mut Vec<u8>, goal: &GoalForm) -> Result<(), No
 #[tactic(auto, unfolding(crate::specs::Answers::answer_text))]
 pub(crate) fn print(alloc: Global, goal: &GoalForm) -> Result<Vec<u8>, NoMemory>
     requires { IsGoal (goal_view goal.now) }
-    ensures { IfOk result (λ text. text.items ≡ answer_text (goal_view goal.now)) }
+    ensures text { IfOk result (λ text. text.items ≡ answer_text (goal_view goal.now)) }
+    ensures back { OnOk result (decoded (encoded (instr_of (goal_view goal.now))) ≡ Some (instr_of (goal_view goal.now))) }
 {
     let graph = graph_of(alloc, goal)?;
     let mut text = Vec::new(alloc);

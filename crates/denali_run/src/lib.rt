@@ -5,7 +5,6 @@ mod answering;
 mod building;
 mod forms;
 mod graphs;
-mod laws;
 mod lexemes;
 mod listings;
 mod printing;
@@ -18,7 +17,6 @@ mod words;
 mod worked;
 
 pub use graphs::{Guard, InputClass, LaunchGraph, LaunchRow, SetClass};
-pub use laws::answers_are_right;
 pub use listings::{Item, Listing, Where};
 pub use schedules::{Launch, Schedule};
 pub use solving::{Report, Status, TextError, solve_text};

@@ -1,15 +1,18 @@
 // Printing the lines of an answer, a line a function.
-ghost use Rattle.std.specs.Prelude.{◌≡◌, ◌++◌, ◌<◌, OnOk, decimal};
+ghost use Rattle.std.specs.Prelude.{◌≡◌, ◌++◌, ◌<◌, OnOk, Some, decimal};
 ghost use Rattle.std.specs.List.{flat_map};
+ghost use Rattle.alpha_encode.specs.Decoded.{decoded};
+ghost use Rattle.alpha_encode.specs.Formats.{IsWellFormed, encoded};
 ghost use Rattle.denali_run.specs.AnswerTexts as texts;
 ghost use Rattle.denali_run.specs.Tables.{ev6};
 
 use crate::graphs::{Guard, InputClass, LaunchGraph, LaunchRow, SetClass};
 use crate::listings::Where;
 use crate::schedules::Launch;
-use crate::words::RegisterWord;
+use alpha_encode::{Instr, encode};
 use items::NoMemory;
 use itoa::Buffer;
+use std::alloc::Global;
 use word_ops::{Op, op_name};
 
 pub(crate) fn put_number(text: &mut Vec<u8>, number: u64) -> Result<(), NoMemory>
@@ -245,28 +248,17 @@ fn put_hex(text: &mut Vec<u8>, word: u32) -> Result<(), NoMemory>
     Ok(())
 }
 
-fn put_word_registers(text: &mut Vec<u8>, word: RegisterWord) -> Result<(), NoMemory>
-    ensures { OnOk result (text.new.items ≡ text.old.items ++ texts.registers_of_word word) }
-{
-    text.extend_from_slice(b" $")?;
-    put_number(text, u64::from(word.ra))?;
-    text.extend_from_slice(b", $")?;
-    put_number(text, u64::from(word.rb))?;
-    text.extend_from_slice(b", $")?;
-    put_number(text, u64::from(word.rc))?;
-    Ok(())
-}
-
-/// The line of a word: its number and its text.
+/// The line of a word: its number and its text. The word is read back as the instruction.
 #[tactic(auto, unfolding(crate::specs::AnswerTexts::word_line))]
-pub(crate) fn put_word(text: &mut Vec<u8>, word: RegisterWord) -> Result<(), NoMemory>
-    ensures { OnOk result (text.new.items ≡ text.old.items ++ texts.word_line word) }
+pub(crate) fn put_word(alloc: Global, text: &mut Vec<u8>, instr: Instr) -> Result<(), NoMemory>
+    requires { IsWellFormed instr }
+    ensures line { OnOk result (text.new.items ≡ text.old.items ++ texts.word_line instr) }
+    ensures back { OnOk result (decoded (encoded instr) ≡ Some instr) }
 {
     text.extend_from_slice(b"word ")?;
-    put_hex(text, word.word)?;
+    put_hex(text, encode(instr))?;
     text.extend_from_slice(b" ")?;
-    text.extend_from_slice(op_name(word.op))?;
-    put_word_registers(text, word)?;
+    text.extend_from_slice(&alpha_encode::text(alloc, instr)?)?;
     text.extend_from_slice(b"\n")?;
     Ok(())
 }

@@ -33,4 +33,5 @@ returns-clause-answered c =
     (c.in-Ok-lexemes.ensures ∙ ap (map (lexeme_at text)) c.deref.ensures.value)
     (subst (λ ls. WritesGoal (map lexeme ls) (goal_view c.in-Some.goal)) c.deref-2.ensures.value c.in-Some.ensures)
     (search rules)
-    c.in-Ok-print.ensures
+    c.in-Ok-print.ensures.text
+    c.in-Ok-print.ensures.back
