@@ -28,11 +28,15 @@ pub record TakesFront (limit : ℕ) (old new : Option (List ℕ)) (bytes : List 
   pub taken : Consumes old new bytes
   pub within : length bytes ≤ limit + 1
 
+-- At most a byte more than the limit was taken.
+abbrev pub TakesWithin : ℕ → Option (List ℕ) → Option (List ℕ) → Type 0
+TakesWithin limit old new = (bytes : List ℕ) × TakesFront limit old new bytes
+
 -- What each refusal took.
 abbrev pub TakesUpTo : ℕ → Option (List ℕ) → Option (List ℕ) → ReadAllFault → Type 0
-TakesUpTo limit old new SourceFault = (bytes : List ℕ) × TakesFront limit old new bytes
+TakesUpTo limit old new SourceFault = TakesWithin limit old new
 TakesUpTo limit old new TooLong = (bytes : List ℕ) × ReadsPast limit old new bytes
-TakesUpTo limit old new Memory = (bytes : List ℕ) × TakesFront limit old new bytes
+TakesUpTo limit old new Memory = TakesWithin limit old new
 
 -- A fault of the source is answered exactly where its count went up.
 abbrev pub HasReadCause : ℕ → ℕ → ReadAllFault → Type 0

@@ -1,6 +1,6 @@
 // Reading to the end of the input.
 ghost use Rattle.std.specs.Prelude.{◌≡◌, ◌<◌, ◌^◌, IfOk, IfErr, OnOk};
-ghost use Rattle.outside_io.specs.Taking.{ReadsWhole, TakesUpTo, HasReadCause};
+ghost use Rattle.outside_io.specs.Taking.{ReadsWhole, TakesUpTo, TakesWithin, HasReadCause};
 
 use crate::Source;
 use std::alloc::Global;
@@ -26,6 +26,7 @@ pub fn read_all<S: Source>(
 ) -> Result<Vec<u8>, ReadAllFault>
     ensures whole { IfOk result (λ v. ReadsWhole limit (S.left source.old) (S.left source.new) v.items) }
     ensures refused { IfErr result (TakesUpTo limit (S.left source.old) (S.left source.new)) }
+    ensures taken { TakesWithin limit (S.left source.old) (S.left source.new) }
     ensures no_fault { OnOk result (S.faults source.new ≡ S.faults source.old) }
     ensures fault { IfErr result (HasReadCause (S.faults source.old) (S.faults source.new)) }
 {

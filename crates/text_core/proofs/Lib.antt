@@ -3,6 +3,7 @@ pub mod Cuts
 pub mod Lexemes
 pub mod Atoms
 pub mod Outcomes
+pub mod Within
 pub mod Forests
 pub mod Depths
 pub mod Partners

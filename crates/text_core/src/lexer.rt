@@ -1,5 +1,5 @@
 // The first pass over a text of goals: its bytes as tokens.
-ghost use Rattle.std.specs.Prelude.{◌≡◌, ◌+◌, ◌<◌, ◌≤◌, ◌^◌, ℕ, List, IfOk, IfErr, MatchOption, MatchResult, length, slice_index};
+ghost use Rattle.std.specs.Prelude.{◌≡◌, ◌+◌, ◌<◌, ◌≤◌, ◌^◌, ℕ, List, All, IfOk, IfErr, MatchOption, MatchResult, length, slice_index};
 ghost use Rattle.text_core.specs.Faults.{IsFirst, IsFaultBy, GivesUnlessMemory, RefusesUnlessMemory};
 ghost use Rattle.text_core.specs.Pieces.{sort_of};
 ghost use Rattle.text_core.specs.Lexing.{HasTokens, IsLexFault, IsToken, IsSkipped, IsFaulty};
@@ -78,6 +78,7 @@ fn step(tokens: &mut Vec<Token>, text: &[u8], at: usize) -> Result<usize, TextFa
 fn tokens_of(alloc: Global, text: &[u8]) -> Result<Vec<Token>, TextFault>
     requires { length text.now < 2 ^ 29 }
     ensures tokens { IfOk result (λ tokens. HasTokens text.now tokens.items) }
+    ensures within { IfOk result (λ tokens. All (λ t. t.place + t.len ≤ length text.now) tokens.items) }
     ensures fault { IfErr result (IsFaultBy (IsFirst (IsLexFault text.now))) }
 {
     let mut tokens = Vec::new(alloc);
@@ -95,6 +96,8 @@ pub fn lex(alloc: Global, text: &[u8]) -> Result<Vec<Token>, TextFault>
     // What is read is in the grammar, and what is in it is read.
     ensures tokens { IfOk result (λ tokens. HasTokens text.now tokens.items) }
     ensures read { (tokens : List Token) → HasTokens text.now tokens → GivesUnlessMemory (λ read. read.items ≡ tokens) result }
+
+    ensures within { IfOk result (λ tokens. All (λ t. t.place + t.len ≤ length text.now) tokens.items) }
 
     // A fault is the first one, and where there is one it is answered.
     ensures fault { IfErr result (IsFaultBy (IsFirst (IsLexFault text.now))) }

@@ -5,3 +5,5 @@ pub mod StoredByte
 pub mod NameSearch
 pub mod Stored
 pub mod StoredEntries
+pub mod ValueRanges
+pub mod MeaningRanges

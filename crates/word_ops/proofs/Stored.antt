@@ -1,11 +1,11 @@
 -- What a memory holds after a write.
-use Rattle.std.proofs.Common.{◌≡◌, ℕ, zero, suc, ◌/◌, ◌^◌, ◌<◌, ◌≢◌, Bool, true, false, cond, ◌==◌, Option, None, Some, refl, sym, ap, subst, ◌∙◌, arith, ◌⊎◌, ⊎_elim, inl, inr}
+use Rattle.std.proofs.Common.{◌≡◌, ℕ, zero, suc, ◌^◌, ◌<◌, ◌≢◌, Bool, true, false, cond, ◌==◌, Option, None, Some, refl, sym, ap, subst, ◌∙◌, arith, ◌⊎◌, ⊎_elim, inl, inr}
 use Rattle.std.specs.Ordering.{nat_cmp, eq_by_cmp}
 use Rattle.std.specs.Cmp.{nat_cmp_total}
 use Rattle.std.specs.FinMap.{empty, get, insert, remove, get-empty, get-insert, get-remove, same_map, nat_cmp-IsAntisymmetric}
 use Rattle.std.specs.Option.{unwrap_or}
 use Rattle.std.proofs.lemmas.Bool.Decides.{nat_tests}
-use Rattle.word_ops.specs.Memory.{Memory, IsMemory, word_at, put_word, select, store}
+use Rattle.word_ops.specs.Memory.{Memory, IsMemory, word_at, put_word}
 
 pub word_at-put_word_same : (m : Memory) (p v : ℕ) → word_at (put_word m p v) p ≡ v
 unfolding word_at put_word
@@ -30,18 +30,6 @@ pub put_word-put_word : (m : Memory) (p v w : ℕ) → put_word (put_word m p v)
 put_word-put_word m p v w = same_map nat_cmp_total nat_cmp-IsAntisymmetric _ _ (λ q.
     get-put_word (put_word m p v) p w q ∙ ap (cond (eq_by_cmp nat_cmp q p) (cond (w == 0) None (Some w))) (get-put_word m p v q)
     ∙ twice (eq_by_cmp nat_cmp q p) _ _ _ ∙ sym (get-put_word m p w q))
-
-pub select-store_same : (m : Memory) (a v : ℕ) → select (store m a v) a ≡ v
-unfolding select store
-select-store_same m a v = word_at-put_word_same m (a / 8) v
-
-pub store-store_same : (m : Memory) (a v w : ℕ) → store (store m a v) a w ≡ store m a w
-unfolding store
-store-store_same m a v w = put_word-put_word m (a / 8) v w
-
-pub select-store_apart : (m : Memory) (a b v : ℕ) → b / 8 ≢ a / 8 → select (store m a v) b ≡ select m b
-unfolding select store
-select-store_apart m a b v h = word_at-put_word_other m (a / 8) v (b / 8) h
 
 none_some : (v : ℕ) → None ≡ Some v → ⊥
 none_some v e = cc

@@ -156,7 +156,7 @@ msk_low w a b = zap a (width_mask w b)
 unfoldable pub msk_high : ℕ → ℕ → ℕ → ℕ
 msk_high w a b = zap a (width_mask w b / 2 ^ 8)
 
--- ---- operators that are no single instruction of their own name
+-- ---- operators that no operate has: of Denali, and of a base with a displacement
 
 -- byte y mod 8 of x
 unfoldable pub selectb : ℕ → ℕ → ℕ

@@ -9,12 +9,17 @@ mod arithmetic;
 mod bitwise;
 mod bytes;
 mod comparison;
+mod laws;
 mod memory;
 mod names;
 mod operators;
 mod sorts;
 
+pub use laws::{meanings_are_in_range, memories_hold_words};
 pub use memory::Mem;
 pub use names::{op_name, op_of};
-pub use operators::{WordOp, apply, arity};
+pub use operators::{OPERATORS, WordOp, apply, arity};
 pub use sorts::{Arity, Op, Sort};
+
+#[cfg(test)]
+mod tests;

@@ -1,0 +1,2 @@
+pub mod CodeSearch
+pub mod RoundTrips

@@ -1,0 +1,4 @@
+pub mod Codes
+pub mod Formats
+pub mod Decoded
+pub mod Texts

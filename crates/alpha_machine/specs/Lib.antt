@@ -1,0 +1,5 @@
+pub mod Formats
+pub mod RegisterOperates
+pub mod Runs
+pub mod States
+pub mod Steps

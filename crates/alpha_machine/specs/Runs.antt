@@ -1,0 +1,59 @@
+-- What running a list of words is.
+-- Source: this project, over the Handbook's steps. The words stand from address 0 on, four bytes each.
+use Rattle.std.specs.Prelude.{◌≡◌, ℕ, ◌+◌, ◌-◌, ◌*◌, ◌/◌, ◌<◌, zero, suc, pos, List, length, map, slice_get, Some, IsSomeAnd}
+use Rattle.std.specs.Option.{option_map_or}
+use Rattle.alpha_machine.specs.States.{MachineState}
+use Rattle.alpha_machine.specs.Steps.{step}
+use Rattle.alpha_machine.specs.Formats.{decoded}
+use Rattle.alpha_machine.specs.declared.instructions.Instr.{Instr}
+use Rattle.alpha_machine.specs.declared.instructions.Instr.TheVariants.{Beq}
+use Rattle.alpha_machine.specs.declared.running.End.{End}
+use Rattle.alpha_machine.specs.declared.running.End.TheVariants.{Fall, Exit}
+use Rattle.alpha_machine.specs.declared.running.RunFault.{RunFault}
+use Rattle.alpha_machine.specs.declared.running.RunFault.TheVariants.{Bad, Memory}
+
+-- one step of the instruction at pc div 4; past the words nothing happens
+abbrev pub stepped : List Instr → MachineState → MachineState
+stepped instrs s = option_map_or (λ i. step i s) (slice_get instrs (s.pc / 4)) s
+
+-- the state after n steps
+abbrev pub after : ℕ → List Instr → MachineState → MachineState
+after zero instrs s = s
+after (suc n) instrs s = after n instrs (stepped instrs s)
+
+-- where n words end: they fall through behind the last one, or leave to the place one word further
+abbrev pub end_pc : End → ℕ → ℕ
+end_pc Fall n = 4 * n
+end_pc Exit n = 4 * n + 4
+
+-- from pc 0 the words lead, in at most as many steps as there are words, to this end and state
+pub record Runs (words : List ℕ) (start : MachineState) (end : End) (state : MachineState) : Type 0 where
+  pub instrs : List Instr
+  pub decode : map decoded words ≡ map Some instrs
+  pub begins : start.pc ≡ 0
+  pub steps : after (length words) instrs start ≡ state
+  pub ends : state.pc ≡ end_pc end (length words)
+
+-- a branch at a place leaves to the one place that is allowed
+abbrev pub IsAllowedAt : ℕ → ℕ → Instr → Type 0
+IsAllowedAt count at (Beq ra disp) = disp ≡ pos (count - at)
+IsAllowedAt count at _ = Unit {0}
+
+-- the word is an instruction that may stand at this place of so many words
+abbrev pub MayStandAt : ℕ → ℕ → ℕ → Type 0
+MayStandAt count at word = IsSomeAnd (decoded word) (IsAllowedAt count at)
+
+-- each word may stand where it does
+abbrev pub AllMayStand : List ℕ → Type 0
+AllMayStand words = (at word : ℕ) → slice_get words at ≡ Some word → MayStandAt (length words) at word
+
+-- the first word that may not stand where it does
+pub record IsFirstBad (words : List ℕ) (at word : ℕ) : Type 0 where
+  pub there : slice_get words at ≡ Some word
+  pub bad : ¬ MayStandAt (length words) at word
+  pub first : (j other : ℕ) → j < at → slice_get words j ≡ Some other → MayStandAt (length words) j other
+
+-- Why words weren't run, and what is left then. No word that is run so far takes memory.
+abbrev pub IsRefused : List ℕ → MachineState → MachineState → RunFault → Type 0
+IsRefused words old new (Bad at word) = IsFirstBad words at word × (new ≡ old)
+IsRefused words old new Memory = ⊥

@@ -1,0 +1,61 @@
+-- What one instruction does.
+-- Source: Alpha Architecture Handbook, version 4, "Instruction Descriptions": the integer operates, LDA, LDAH, LDQ_U,
+-- STQ_U and BEQ.
+use Rattle.std.specs.Prelude.{ℕ, ℤ, ◌+◌, ◌*◌, ◌/◌, ◌%◌, ◌^◌, List, slice_index, set, ◌==◌, if◌then◌else◌, Bool, true, false}
+use Rattle.std.specs.Int.{cast_unsigned, w64}
+use Rattle.word_ops.specs.Memory.{word_at, put_word}
+use Rattle.word_ops.specs.Operators.{value_at}
+use Rattle.word_ops.specs.declared.operators.WordOp.{WordOp}
+use Rattle.word_ops.specs.declared.operators.WordOp.TheVariants as ops
+use Rattle.alpha_machine.specs.States.{MachineState}
+use Rattle.alpha_machine.specs.declared.instructions.Second.{Second}
+use Rattle.alpha_machine.specs.declared.instructions.Second.TheVariants.{Reg, Literal}
+use Rattle.alpha_machine.specs.declared.instructions.Instr.{Instr}
+use Rattle.alpha_machine.specs.declared.instructions.Instr.TheVariants.{Operate, Lda, Ldah, LdqU, StqU, Beq}
+
+-- a write to register 31 is ignored
+abbrev pub written : List ℕ → ℕ → ℕ → List ℕ
+written registers r v = if r == 31 then registers else set registers r v
+
+abbrev pub second_value : Second → List ℕ → ℕ
+second_value (Reg r) registers = slice_index registers r
+second_value (Literal n) registers = n
+
+-- the operates of one operand
+abbrev pub is_unary : WordOp → Bool
+is_unary ops.Sextb = true
+is_unary ops.Sextw = true
+is_unary _ = false
+
+-- an operate of one operand has it in its second place
+abbrev pub operate_value : WordOp → ℕ → ℕ → ℕ
+operate_value op a b = if is_unary op then value_at op b 0 0 else value_at op a b 0
+
+-- base + scale * displacement, modulo 2 ^ 64
+abbrev pub address : ℕ → ℕ → ℤ → ℕ
+address base scale disp = (base + scale * cast_unsigned w64 disp) % 2 ^ 64
+
+abbrev pub next_pc : ℕ → ℕ
+next_pc pc = (pc + 4) % 2 ^ 64
+
+-- the register is written and the pc goes on
+abbrev pub with_register : MachineState → ℕ → ℕ → MachineState
+with_register s r v = record { registers = written s.registers r v; memory = s.memory; pc = next_pc s.pc }
+
+-- the state after one instruction
+abbrev pub step : Instr → MachineState → MachineState
+step (Operate op ra second rc) s =
+    with_register s rc (operate_value op (slice_index s.registers ra) (second_value second s.registers))
+step (Lda ra rb disp) s = with_register s ra (address (slice_index s.registers rb) 1 disp)
+step (Ldah ra rb disp) s = with_register s ra (address (slice_index s.registers rb) 65536 disp)
+step (LdqU ra rb disp) s = with_register s ra (word_at s.memory (address (slice_index s.registers rb) 1 disp / 8))
+step (StqU ra rb disp) s = record {
+  registers = s.registers;
+  memory = put_word s.memory (address (slice_index s.registers rb) 1 disp / 8) (slice_index s.registers ra);
+  pc = next_pc s.pc;
+}
+step (Beq ra disp) s = record {
+  registers = s.registers;
+  memory = s.memory;
+  pc = if slice_index s.registers ra == 0 then address (next_pc s.pc) 4 disp else next_pc s.pc;
+}

@@ -1,0 +1,7 @@
+use Rattle.std.proofs.Common.{◌≡◌, ◌++◌, map}
+use Rattle.std.specs.List.{range_with_len}
+use Rattle.cnf_core.specs.Counter.{keeps}
+use Rattle.cnf_core.proofs.counter.keep_row.Given as goal
+
+abbrev pub invariant-loop-j : goal.invariant-loop-j
+invariant-loop-j l = l.clauses ≡ l.initial.clauses ++ map (keeps l.old l.width l.i) (range_with_len 0 l.j)

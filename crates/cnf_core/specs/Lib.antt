@@ -1,0 +1,6 @@
+pub mod Counter
+pub mod Formula
+pub mod Outcome
+pub mod Pieces
+pub mod Refutation
+pub mod Values

@@ -1,0 +1,285 @@
+//! Counters against the lists of a second program, counters by counting, and formulas by their satisfying values.
+ghost use Rattle.std.specs.Prelude.{◌≡◌, ◌<◌, ◌≤◌, ◌↔◌, length, IsTrue};
+ghost use Rattle.std.specs.List.{All};
+ghost use Rattle.cnf_core.specs.Formula.{IsLitOf};
+
+use crate::{Cnf, Lit, at_most, at_most_one, satisfied};
+use items::NoMemory;
+use std::alloc::Global;
+use std::process::Abort;
+use std::test::Fail;
+
+/// A literal by its number, which is negative for a negated one.
+fn literal(number: i32) -> Lit {
+    Lit {
+        var: number.unsigned_abs(),
+        positive: number > 0,
+    }
+}
+
+fn literals(alloc: Global, numbers: &[i32]) -> Result<Vec<Lit>, NoMemory> {
+    let mut lits = Vec::new(alloc);
+    for number in numbers {
+        lits.push(literal(*number))?;
+    }
+    Ok(lits)
+}
+
+fn same(clause: &[Lit], numbers: &[i32]) -> bool {
+    clause.len() == numbers.len()
+        && clause
+            .iter()
+            .zip(numbers)
+            .all(|(lit, number)| *lit == literal(*number))
+}
+
+fn are_over(vars: u32, lits: &[Lit]) -> bool
+    ensures { IsTrue result ↔ All (IsLitOf vars) lits.now }
+{
+    lits.iter().all(|lit| 1 <= lit.var && lit.var <= vars)
+}
+
+fn formula(rt: &impl Abort, alloc: Global, vars: u32) -> Cnf {
+    let mut cnf = Cnf::new(alloc);
+    for made in 0..vars {
+        assert!(rt; cnf.vars() < 100);
+        assert_eq!(rt; cnf.fresh(), made + 1);
+    }
+    cnf
+}
+
+/// `at_most` after a test of what it wants.
+#[tactic(auto, using(crate::proofs::Range::small_counter))]
+fn count(
+    rt: &impl Abort,
+    alloc: Global,
+    cnf: &mut Cnf,
+    lits: &[Lit],
+    n: u32,
+) -> Result<(), NoMemory> {
+    assert!(rt; are_over(cnf.vars(), lits));
+    assert!(rt; lits.len() < 100 && n < 100 && cnf.vars() < 100 && cnf.clauses() < 100);
+    at_most(alloc, cnf, lits, n)
+}
+
+/// `at_most_one` after a test of what it wants.
+#[tactic(auto, using(crate::proofs::Range::small_counter))]
+fn count_one(rt: &impl Abort, alloc: Global, cnf: &mut Cnf, lits: &[Lit]) -> Result<(), NoMemory> {
+    let one = 1u32;
+    assert!(rt; are_over(cnf.vars(), lits));
+    assert!(rt; lits.len() < 100 && one < 100 && cnf.vars() < 100 && cnf.clauses() < 100);
+    at_most_one(alloc, cnf, lits)
+}
+
+/// The values of so many variables, the first in the lowest bit.
+fn set_values(values: &mut Vec<bool>, bits: u32, vars: u32) -> Result<(), NoMemory> {
+    values.clear();
+    let mut rest = bits;
+    for _ in 0..vars {
+        values.push(rest % 2 == 1)?;
+        rest /= 2;
+    }
+    Ok(())
+}
+
+fn holds(cnf: &Cnf, values: &[bool]) -> bool {
+    values.len() == cnf.vars() as usize && satisfied(cnf, values)
+}
+
+struct Counter {
+    vars: u32,
+    lits: &'static [i32],
+    bound: u32,
+    after: u32,
+    clauses: &'static [&'static [i32]],
+}
+
+const COUNTERS: [Counter; 9] = [
+    Counter {
+        vars: 4,
+        lits: &[1, 2, 3, 4],
+        bound: 2,
+        after: 10,
+        clauses: &[
+            &[-1, 5],
+            &[-2, 7],
+            &[-3, 9],
+            &[-5, 7],
+            &[-6, 8],
+            &[-7, 9],
+            &[-8, 10],
+            &[-2, -5, 8],
+            &[-3, -7, 10],
+            &[-2, -6],
+            &[-3, -8],
+            &[-4, -10],
+        ],
+    },
+    Counter {
+        vars: 3,
+        lits: &[1, 2, 3],
+        bound: 1,
+        after: 5,
+        clauses: &[&[-1, 4], &[-2, 5], &[-4, 5], &[-2, -4], &[-3, -5]],
+    },
+    Counter {
+        vars: 2,
+        lits: &[1, -2, 1],
+        bound: 1,
+        after: 4,
+        clauses: &[&[-1, 3], &[2, 4], &[-3, 4], &[2, -3], &[-1, -4]],
+    },
+    Counter {
+        vars: 4,
+        lits: &[3, -1, 2, -4],
+        bound: 3,
+        after: 13,
+        clauses: &[
+            &[-3, 5],
+            &[1, 8],
+            &[-2, 11],
+            &[-5, 8],
+            &[-6, 9],
+            &[-7, 10],
+            &[-8, 11],
+            &[-9, 12],
+            &[-10, 13],
+            &[1, -5, 9],
+            &[1, -6, 10],
+            &[-2, -8, 12],
+            &[-2, -9, 13],
+            &[1, -7],
+            &[-2, -10],
+            &[4, -13],
+        ],
+    },
+    Counter {
+        vars: 2,
+        lits: &[1, 2],
+        bound: 0,
+        after: 2,
+        clauses: &[&[-1], &[-2]],
+    },
+    Counter {
+        vars: 2,
+        lits: &[1, 2],
+        bound: 2,
+        after: 2,
+        clauses: &[],
+    },
+    Counter {
+        vars: 1,
+        lits: &[-1],
+        bound: 0,
+        after: 1,
+        clauses: &[&[1]],
+    },
+    Counter {
+        vars: 1,
+        lits: &[1],
+        bound: 1,
+        after: 1,
+        clauses: &[],
+    },
+    Counter {
+        vars: 0,
+        lits: &[],
+        bound: 0,
+        after: 0,
+        clauses: &[],
+    },
+];
+
+#[test]
+fn counters_are_the_listed_clauses(rt: HostRuntime) -> Result<(), Fail> {
+    for row in &COUNTERS {
+        let mut cnf = formula(&rt, rt.alloc(), row.vars);
+        let lits = literals(rt.alloc(), row.lits)?;
+        count(&rt, rt.alloc(), &mut cnf, &lits, row.bound)?;
+        assert_eq!(rt; cnf.vars(), row.after);
+        assert_eq!(rt; cnf.clauses() as usize, row.clauses.len());
+        for (at, numbers) in row.clauses.iter().enumerate() {
+            assert!(rt; at < cnf.clauses() as usize);
+            assert!(rt; same(cnf.clause(at as u32 + 1), numbers), "clause {at}");
+        }
+    }
+    Ok(())
+}
+
+/// How many values of five variables, the lowest bit first, are those of the signs.
+fn matching(bits: u32, signs: &[bool]) -> u32 {
+    let mut rest = bits;
+    let mut count = 0u32;
+    for sign in signs {
+        count = count.wrapping_add(((rest % 2 == 1) == *sign) as u32);
+        rest /= 2;
+    }
+    count
+}
+
+#[test]
+fn counters_count(rt: HostRuntime) -> Result<(), Fail> {
+    let signs = [true, false, true, true, false];
+    for (bound, extensions) in [
+        (0, 1),
+        (1, 16),
+        (2, 256),
+        (3, 4096),
+        (4, 65536),
+        (5, 1),
+        (6, 1),
+    ] {
+        let mut cnf = formula(&rt, rt.alloc(), 5);
+        let lits = literals(rt.alloc(), &[1, -2, 3, 4, -5])?;
+        count(&rt, rt.alloc(), &mut cnf, &lits, bound)?;
+        let mut values = Vec::new(rt.alloc());
+        for bits in 0..32u32 {
+            let mut found = false;
+            for extension in 0..extensions {
+                set_values(&mut values, bits + 32 * extension, cnf.vars())?;
+                if holds(&cnf, &values) {
+                    found = true;
+                    break;
+                }
+            }
+            assert_eq!(rt;
+                found,
+                matching(bits, &signs) <= bound,
+                "bound {bound} values {bits}"
+            );
+        }
+    }
+    Ok(())
+}
+
+#[test]
+fn formulas_hold_where_each_clause_does(rt: HostRuntime) -> Result<(), Fail> {
+    let mut cnf = formula(&rt, rt.alloc(), 3);
+    assert!(rt; holds(&cnf, &[false, false, false]));
+    for numbers in &[[1, -2].as_slice(), [2, 3, 2].as_slice()] {
+        let lits = literals(rt.alloc(), numbers)?;
+        assert!(rt; are_over(cnf.vars(), &lits) && cnf.clauses() < 100);
+        cnf.add(&lits)?;
+    }
+    let mut values = Vec::new(rt.alloc());
+    for (bits, right) in [
+        (0, false),
+        (1, false),
+        (2, false),
+        (3, true),
+        (4, true),
+        (5, true),
+        (6, false),
+        (7, true),
+    ] {
+        set_values(&mut values, bits, 3)?;
+        assert_eq!(rt; holds(&cnf, &values), right, "values {bits}");
+    }
+    let lits = literals(rt.alloc(), &[1, 2, 3])?;
+    count_one(&rt, rt.alloc(), &mut cnf, &lits)?;
+    assert_eq!(rt; cnf.vars(), 5);
+    assert_eq!(rt; cnf.clauses(), 7);
+    cnf.add(&[])?;
+    assert!(rt; !holds(&cnf, &[false, false, true, true, true]));
+    Ok(())
+}

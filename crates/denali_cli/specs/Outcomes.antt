@@ -1,0 +1,60 @@
+-- How a run of the program ends: what its words and its input decide, and what of that was written.
+-- Source: this project; `Keeps` and `Appends` are std's.
+use Rattle.std.specs.Prelude.{◌≡◌, ℕ, ◌≤◌, List, length, None, Some}
+use Rattle.std.specs.declared.option.Option.{Option}
+use Rattle.std.specs.Io.KnownBytes.{Keeps, Appends}
+use Rattle.outside_io.specs.Putting.{AppendsFront}
+use Rattle.outside_io.specs.Taking.{IsRead, TakesWithin}
+use Rattle.denali_run.specs.Answers.{answer_text}
+use Rattle.denali_run.specs.Forms.{Spells}
+use Rattle.denali_run.specs.Goals.{Goal}
+use Rattle.denali_run.specs.RightAnswers.{IsRightAnswer}
+use Rattle.denali_run.specs.declared.solving.Status.{Status}
+use Rattle.denali_run.specs.declared.solving.Status.TheVariants.{Usage, Memory, SourceFault, SinkFault}
+use Rattle.denali_cli.specs.declared.words.Command.{Command}
+use Rattle.denali_cli.specs.Replies.{limit_of, usage_line, Reply}
+
+-- What the words and the input decide: which bytes are to be written, and the status. `left` and `left'` are what the source
+-- has left before and after.
+abbrev pub Decides : Option Command → Option (List ℕ) → Option (List ℕ) → List ℕ → Status → Type 0
+Decides None left left' output status = Keeps left left' × (output ≡ usage_line) × (status ≡ Usage)
+Decides (Some command) left left' output status = (text : List ℕ) × IsRead (limit_of command) left left' text × Reply command text output status
+
+-- nothing was read, and no read failed
+abbrev pub IsUnread : Option (List ℕ) → Option (List ℕ) → ℕ → ℕ → Type 0
+IsUnread left left' before now = Keeps left left' × (now ≡ before)
+
+-- what is taken from the source, whatever the status: nothing without a command, and at most a byte more than its limit with one
+abbrev pub Takes : Option Command → Option (List ℕ) → Option (List ℕ) → Type 0
+Takes None left left' = Keeps left left'
+Takes (Some command) left left' = TakesWithin (limit_of command) left left'
+
+-- a status under which all of the output is written
+abbrev pub IsWhole : Status → Type 0
+IsWhole Memory = ⊥
+IsWhole SourceFault = ⊥
+IsWhole SinkFault = ⊥
+IsWhole _ = Unit {0}
+
+-- All of the output was written, and the run ended with its status.
+pub record Writes (said : Option Command) (left left' written written' : Option (List ℕ)) (status : Status) : Type 0 where
+  pub output : List ℕ
+  pub decided : Decides said left left' output status
+  pub appended : Appends written written' output
+
+-- A front of the output was written, whatever its status would have been.
+pub record WritesFront (said : Option Command) (left left' written written' : Option (List ℕ)) : Type 0 where
+  pub output : List ℕ
+  pub status : Status
+  pub decided : Decides said left left' output status
+  pub appended : AppendsFront written written' output
+
+-- The input spells a goal, and its right answer was written.
+pub record Solves (command : Command) (left left' written written' : Option (List ℕ)) : Type 0 where
+  pub text : List ℕ
+  pub goal : Goal
+  pub read : IsRead (limit_of command) left left' text
+  pub within : length text ≤ limit_of command
+  pub spelled : Spells text goal
+  pub appended : Appends written written' (answer_text goal)
+  pub right : IsRightAnswer goal

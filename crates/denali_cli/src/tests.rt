@@ -1,0 +1,334 @@
+// The program over sources and sinks in memory.
+ghost use Rattle.std.specs.Prelude.{◌≡◌, ◌≤◌, slice_index};
+
+use crate::top::run;
+use alpha_machine::{End, State};
+use denali_run::Status;
+use outside_io::{FailingSink, FailingSource, MemSink, MemSource};
+use std::alloc::Global;
+use std::test::Fail;
+use word_ops::Mem;
+
+const WORDS: [&str; 3] = ["solve", "--rounds", "0"];
+
+const SUM: &[u8] = b"(goal g (in a $16) (in b $17) (pool $1) (set x (addq a b)))";
+
+const ANSWER: &[u8] = b"denali 1
+encoding 1
+table ev6
+goal g
+rounds 0 stop rounds
+rows 4
+0 memory
+1 input 16
+2 input 17
+3 addq 1 2
+entry 0
+in a 16 1
+in b 17 2
+pool 1
+set x 3
+scheduled 1
+launch 0 U0 3
+word 42110401 addq $16, $17, $1
+where x 1
+refute 0 1
+4 0 1 0
+end
+";
+
+/// What the program writes for a text, and its status.
+fn reply(alloc: Global, words: &[&str], text: &[u8], step: usize) -> Result<(Vec<u8>, Status), Fail>
+    requires { 1 ≤ step }
+{
+    let mut sink = MemSink::new(alloc, 1000, step)?;
+    let status = run(
+        alloc,
+        words,
+        &mut MemSource::new(text.to_vec(alloc)?, step),
+        &mut sink,
+    );
+    Ok((sink.written().to_vec(alloc)?, status))
+}
+
+#[test]
+fn answers_a_sum(rt: HostRuntime) -> Result<(), Fail> {
+    let alloc = rt.alloc();
+    let (whole, status) = reply(alloc, &WORDS, SUM, 1000)?;
+    assert_eq!(rt; status, Status::Done);
+    assert_eq!(rt; whole.as_slice(), ANSWER);
+    let (slowly, status) = reply(alloc, &WORDS, SUM, 1)?;
+    assert_eq!(rt; status, Status::Done);
+    assert_eq!(rt; slowly.as_slice(), ANSWER);
+    Ok(())
+}
+
+/// Operator, its line in the answer (as GNU as makes the word), the word, two operands, and the value of an emulator.
+const OPERATES: [(&[u8], &[u8], u32, u64, u64, u64); 5] = [
+    (
+        b"addq",
+        b"\nword 42110401 addq $16, $17, $1\n",
+        0x42110401,
+        0xF86C67B35A0AC810,
+        0xFECE6B989A323EAE,
+        0xF73AD34BF43D06BE,
+    ),
+    (
+        b"subq",
+        b"\nword 42110521 subq $16, $17, $1\n",
+        0x42110521,
+        0xF86C67B35A0AC810,
+        0xFECE6B989A323EAE,
+        0xF99DFC1ABFD88962,
+    ),
+    (
+        b"and",
+        b"\nword 46110001 and $16, $17, $1\n",
+        0x46110001,
+        0xF86C67B35A0AC810,
+        0xFECE6B989A323EAE,
+        0xF84C63901A020800,
+    ),
+    (
+        b"bis",
+        b"\nword 46110401 bis $16, $17, $1\n",
+        0x46110401,
+        0xF86C67B35A0AC810,
+        0xFECE6B989A323EAE,
+        0xFEEE6FBBDA3AFEBE,
+    ),
+    (
+        b"xor",
+        b"\nword 46110801 xor $16, $17, $1\n",
+        0x46110801,
+        0xF86C67B35A0AC810,
+        0xFECE6B989A323EAE,
+        0x06A20C2BC038F6BE,
+    ),
+];
+
+fn state_with(alloc: Global, a: u64, b: u64) -> State
+    ensures { result.pc ≡ 0 }
+{
+    let mut regs = [0; 32];
+    regs[16] = a;
+    regs[17] = b;
+    State::new(regs, Mem::new(alloc))
+}
+
+#[test]
+fn the_words_compute(rt: HostRuntime) -> Result<(), Fail> {
+    let alloc = rt.alloc();
+    for (name, line, word, a, b, value) in &OPERATES {
+        let mut text = Vec::from_slice(alloc, b"(goal g (in a $16) (in b $17) (pool $1) (set x (")?;
+        text.extend_from_slice(name)?;
+        text.extend_from_slice(b" a b)))")?;
+        let (written, status) = reply(alloc, &WORDS, &text, 64)?;
+        assert_eq!(rt; status, Status::Done);
+        assert!(rt;
+            written.windows(line.len()).any(|w| w == *line),
+            "word {word}"
+        );
+        let mut state = state_with(alloc, *a, *b);
+        assert_eq!(rt; alpha_machine::run(&[*word], &mut state), Ok(End::Fall));
+        assert_eq!(rt; state.register(1), *value, "word {word}");
+    }
+    Ok(())
+}
+
+#[test]
+fn other_words_are_usage(rt: HostRuntime) -> Result<(), Fail> {
+    let alloc = rt.alloc();
+    let table: [&[&str]; 7] = [
+        &[],
+        &["solve"],
+        &["solved", "--rounds", "0"],
+        &["solve", "--rounds", "1"],
+        &["solve", "--rounds", "00"],
+        &["solve", "--rounds", "0", "0"],
+        &["solve", "--nodes", "0"],
+    ];
+    for words in table {
+        // A source that fails at its first call is not asked.
+        let mut source = FailingSource::new(SUM.to_vec(alloc)?, 8, vec![in alloc; 1]?);
+        let mut sink = MemSink::new(alloc, 100, 100)?;
+        assert_eq!(rt; run(alloc, words, &mut source, &mut sink), Status::Usage);
+        assert_eq!(rt; sink.written(), b"usage\n".as_slice());
+    }
+    Ok(())
+}
+
+#[test]
+fn other_texts_are_not_yet_answered(rt: HostRuntime) -> Result<(), Fail> {
+    let alloc = rt.alloc();
+    let table: [(&[u8], bool); 22] = [
+        (
+            b"(goal g (in a $0) (in b $30) (pool $10) (set x (addq a a)))",
+            true,
+        ),
+        (
+            b" (\tgoal goal(in lda $1)(in load $2)(pool$3)(set addq(xor load lda)))\r\n",
+            true,
+        ),
+        (
+            b"(goal g (in a $16) (in b $17) (pool $1) (set a (subq b a)))",
+            true,
+        ),
+        (b"", false),
+        (b"(goal g (set x 0))", false),
+        (
+            b"(goal g (in a $16) (in b $17) (pool $1) (set x (mulq a b)))",
+            false,
+        ),
+        (
+            b"(goal g (in a $16) (in b $17) (pool $1) (set x (addq a c)))",
+            false,
+        ),
+        (
+            b"(goal g (in a $16) (in b $17) (pool $1) (set x (addq a 1)))",
+            false,
+        ),
+        (
+            b"(goal g (in a $16) (in a $17) (pool $1) (set x (addq a a)))",
+            false,
+        ),
+        (
+            b"(goal g (in a $16) (in b $16) (pool $1) (set x (addq a b)))",
+            false,
+        ),
+        (
+            b"(goal g (in a $16) (in b $17) (pool $17) (set x (addq a b)))",
+            false,
+        ),
+        (
+            b"(goal g (in a $16) (in b $17) (pool $16) (set x (addq a b)))",
+            false,
+        ),
+        (
+            b"(goal g (in a $16) (in b $31) (pool $1) (set x (addq a b)))",
+            false,
+        ),
+        (
+            b"(goal g (in a $16) (in b $017) (pool $1) (set x (addq a b)))",
+            false,
+        ),
+        (
+            b"(goal g (in M $16) (in b $17) (pool $1) (set x (addq M b)))",
+            false,
+        ),
+        (
+            b"(goal g (in a $16) (in select $17) (pool $1) (set x (addq a a)))",
+            false,
+        ),
+        (
+            b"(goal g (in a $16) (in cmpult $17) (pool $1) (set x (addq a a)))",
+            false,
+        ),
+        (
+            b"(goal g (in a $16) (in b $17) (pool $1) (set M (addq a b)))",
+            false,
+        ),
+        (
+            b"(goal g (in a $16) (in b $17) (pool $1 $2) (set x (addq a b)))",
+            false,
+        ),
+        (
+            b"(goal g (in a $16) (in b $17) (pool $1) (set x (addq a b))); ",
+            false,
+        ),
+        (
+            b"(goal g (in a $16) (in b $17) (pool $1) (set x (addq a b))) 1",
+            false,
+        ),
+        (
+            b"(goal g (in a $16) (in b $17) (pool $1) (set x (addq a b))",
+            false,
+        ),
+    ];
+    for (at, (text, answered)) in table.iter().enumerate() {
+        let (written, status) = reply(alloc, &WORDS, text, 7)?;
+        if *answered {
+            assert_eq!(rt; status, Status::Done, "text {at}");
+        } else {
+            assert_eq!(rt; status, Status::ReadFault, "text {at}");
+            assert_eq!(rt; written.as_slice(), b"fault 0 NotYet\n".as_slice());
+        }
+    }
+    Ok(())
+}
+
+#[test]
+fn a_long_text_is_refused(rt: HostRuntime) -> Result<(), Fail> {
+    let alloc = rt.alloc();
+    let mut sink = MemSink::new(alloc, 100, 100)?;
+    let mut source = MemSource::new(vec![in alloc; b' '; 1048577]?, 1000000);
+    assert_eq!(rt;
+        run(alloc, &WORDS, &mut source, &mut sink),
+        Status::ReadFault
+    );
+    assert_eq!(rt; sink.written(), b"fault 1048576 TooLong\n".as_slice());
+    let mut sink = MemSink::new(alloc, 100, 100)?;
+    let mut source = MemSource::new(vec![in alloc; b' '; 1048576]?, 1000000);
+    assert_eq!(rt;
+        run(alloc, &WORDS, &mut source, &mut sink),
+        Status::ReadFault
+    );
+    assert_eq!(rt; sink.written(), b"fault 0 NotYet\n".as_slice());
+    Ok(())
+}
+
+#[test]
+fn a_failed_read_writes_nothing(rt: HostRuntime) -> Result<(), Fail> {
+    let alloc = rt.alloc();
+    for fails in [1, 2] {
+        let mut source = FailingSource::new(SUM.to_vec(alloc)?, 8, vec![in alloc; fails]?);
+        let mut sink = MemSink::new(alloc, 1000, 1000)?;
+        assert_eq!(rt;
+            run(alloc, &WORDS, &mut source, &mut sink),
+            Status::SourceFault
+        );
+        assert!(rt; sink.written().is_empty());
+    }
+    Ok(())
+}
+
+#[test]
+fn a_failed_write_leaves_a_front(rt: HostRuntime) -> Result<(), Fail> {
+    let alloc = rt.alloc();
+    for (fails, front) in [(1, 0), (2, 16), (3, 32)] {
+        let mut source = MemSource::new(SUM.to_vec(alloc)?, 8);
+        let mut sink = FailingSink::new(alloc, 1000, 16, vec![in alloc; fails]?)?;
+        assert_eq!(rt;
+            run(alloc, &WORDS, &mut source, &mut sink),
+            Status::SinkFault
+        );
+        assert!(rt; front <= ANSWER.len());
+        assert_eq!(rt; sink.written(), &ANSWER[..front]);
+    }
+    let mut source = MemSource::new(SUM.to_vec(alloc)?, 8);
+    let mut sink = MemSink::new(alloc, 10, 1000)?;
+    assert_eq!(rt;
+        run(alloc, &WORDS, &mut source, &mut sink),
+        Status::SinkFault
+    );
+    assert_eq!(rt; sink.written(), &ANSWER[..10]);
+    Ok(())
+}
+
+#[test]
+fn statuses_have_their_codes(rt: HostRuntime) {
+    let table = [
+        Status::Done,
+        Status::Missing,
+        Status::Usage,
+        Status::ReadFault,
+        Status::Spent,
+        Status::Memory,
+        Status::SourceFault,
+        Status::SinkFault,
+        Status::NoWorld,
+    ];
+    for (code, status) in table.iter().enumerate() {
+        assert_eq!(rt; usize::from(status.code()), code);
+    }
+}

@@ -1,0 +1,12 @@
+pub mod Decide
+pub mod Deciding
+pub mod Memory
+pub mod Rules
+pub mod Fitting
+pub mod Printed
+pub mod ReadBack
+pub mod Resolved
+pub mod OneLaunch
+pub mod OneWord
+pub mod OneRun
+pub mod Answered

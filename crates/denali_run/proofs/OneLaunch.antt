@@ -1,0 +1,201 @@
+-- The one launch of an answered goal fits, and nothing fits in fewer cycles.
+use Rattle.std.proofs.Common.{◌≡◌, ℕ, zero, suc, ◌+◌, ◌≤◌, List, [], ◌∷◌, refl, sym, ◌∙◌, ap, subst, inl, inr, ◌⊎◌, arith, Bool, true, false, cond, Some, None, codes}
+use Rattle.std.specs.Prelude.{All, AllPairs, Any, IsTrue, IsSomeAnd, count_by, unwrap_or}
+use Rattle.std.specs.Option.{option_map_or}
+use Rattle.std.proofs.lemmas.List.Elements.{All-nil, All-cons, All-head}
+use Rattle.std.proofs.lemmas.Slice.Eq.{bytes_eq-Decides}
+use Rattle.word_ops.specs.declared.operators.WordOp.{WordOp}
+use Rattle.word_ops.specs.declared.operators.WordOp.TheVariants as ops
+use Rattle.denali_run.specs.InstrOrder.{is_operate}
+use Rattle.denali_run.specs.Tables.{ev6, MayUse, latency_of}
+use Rattle.denali_run.specs.Graphs.{is_memory_name, memory_target}
+use Rattle.denali_run.specs.Launches.{instr_at, word_instr, launches as launches_test, gives_word, is_load, is_store, operands_at, class_at, IsInput, Gives, plain, Operand, memory_class_at, IsFree, IsReadable, IsZero}
+use Rattle.denali_run.specs.Fits.{Fits, CanLaunch, CanRead, EndsBy, IsReached, KeepsMemory, Waits, UsesMemory, Collide, IsLeft}
+use Rattle.denali_run.specs.Goals.{Goal, IsGoal, IsAnswered}
+use Rattle.denali_run.specs.Answers.{graph_of, launches, launch, class_of}
+use Rattle.denali_run.specs.declared.forms.InputPlace.{InputPlace}
+use Rattle.denali_run.specs.declared.forms.InputPlace.TheVariants.{First, Second}
+use Rattle.denali_run.specs.declared.tables.InstrKind.TheVariants.{Operate, Beq}
+use Rattle.denali_run.specs.declared.graphs.LaunchGraph.{LaunchGraph}
+use Rattle.denali_run.specs.declared.graphs.InputClass.{InputClass}
+use Rattle.denali_run.specs.declared.graphs.SetClass.{SetClass}
+use Rattle.denali_run.specs.declared.schedules.Launch.{Launch}
+use Rattle.denali_run.proofs.Decide.{any_cases, any_nil}
+
+-- ---- what is said of each answered operator
+
+pub word_instr_is : (g : LaunchGraph) (op : WordOp) (operands : List ℕ) → IsAnswered op → word_instr g op operands ≡ Some (Operate op)
+word_instr_is g ops.Addq operands h = refl
+word_instr_is g ops.Subq operands h = refl
+word_instr_is g ops.And operands h = refl
+word_instr_is g ops.Bis operands h = refl
+word_instr_is g ops.Xor operands h = refl
+word_instr_is g _ operands h = absurd h
+
+pub may_use : (op : WordOp) → IsAnswered op → MayUse ev6 (Operate op) 0
+may_use ops.Addq h = (0, omega arith, refl)
+may_use ops.Subq h = (0, omega arith, refl)
+may_use ops.And h = (0, omega arith, refl)
+may_use ops.Bis h = (0, omega arith, refl)
+may_use ops.Xor h = (0, omega arith, refl)
+may_use _ h = absurd h
+
+pub latency_is : (op : WordOp) → IsAnswered op → latency_of ev6 (Operate op) ≡ Some 1
+latency_is ops.Addq h = refl
+latency_is ops.Subq h = refl
+latency_is ops.And h = refl
+latency_is ops.Bis h = refl
+latency_is ops.Xor h = refl
+latency_is _ h = absurd h
+
+operate_is : (op : WordOp) → IsAnswered op → is_operate op ≡ true
+operate_is ops.Addq h = refl
+operate_is ops.Subq h = refl
+operate_is ops.And h = refl
+operate_is ops.Bis h = refl
+operate_is ops.Xor h = refl
+operate_is _ h = absurd h
+
+pub false_true : false ≡ true → ⊥
+false_true e = cc
+
+-- ---- lists of one
+
+pub all_one : {X : Type 0} (P : X → Type 0) (x : X) → P x → All P (x ∷ [])
+all_one P x p = All-cons P x [] p (All-nil P)
+
+pub pairs_one : {X : Type 0} (R : X → X → Type 0) (x : X) → AllPairs R (x ∷ [])
+pairs_one R x i j d lt len = absurd (omega arith)
+
+abbrev pub input_one : Goal → InputClass
+input_one goal = record { name = goal.one.name; reg = goal.one.register; class = 1 }
+
+abbrev pub input_two : Goal → InputClass
+input_two goal = record { name = goal.two.name; reg = goal.two.register; class = 2 }
+
+module _ (goal : Goal) (valid : IsGoal goal) where
+  abbrev g : LaunchGraph
+  g = graph_of goal
+
+  pub instr_is : instr_at g 3 ≡ Some (Operate goal.op)
+  instr_is = word_instr_is g goal.op (class_of goal.left ∷ class_of goal.right ∷ []) valid.op
+
+  pub gives_it : launches_test g gives_word launch ≡ true
+  gives_it = ap (λ o. option_map_or gives_word o false) instr_is
+
+  no_load : launches_test g is_load launch ≡ false
+  no_load = ap (λ o. option_map_or is_load o false) instr_is
+
+  no_store : launches_test g is_store launch ≡ false
+  no_store = ap (λ o. option_map_or is_store o false) instr_is
+
+  pub not_memory : is_memory_name goal.target ≡ false
+  not_memory = not_true (is_memory_name goal.target) (λ e. valid.not_memory ((bytes_eq-Decides goal.target (codes "M")).0 e))
+    where
+      not_true : (b : Bool) → (b ≡ true → ⊥) → b ≡ false
+      not_true true h = absurd (h refl)
+      not_true false h = refl
+
+  pub target_is_entry : memory_target g ≡ 0
+  target_is_entry = ap (λ b. option_map_or (λ (s : SetClass). s.class) (cond b (Some (record { name = goal.target; class = 3 })) None) 0) not_memory
+
+  pub is_input : (place : InputPlace) → IsInput g (class_of place)
+  is_input First = (0, input_one goal, omega arith, refl, refl)
+  is_input Second = (1, input_two goal, omega arith, refl, refl)
+
+  operands_are : operands_at g 3 ≡ plain (class_of goal.left) ∷ record { class = class_of goal.right; second = true } ∷ []
+  operands_are = ap (λ b. cond b (plain (class_of goal.left) ∷ record { class = class_of goal.right; second = true } ∷ []) (plain (class_of goal.left) ∷ [])) (operate_is goal.op valid.op)
+
+  abbrev second_operand : Operand
+  second_operand = record { class = class_of goal.right; second = true }
+
+  abbrev Reads : Operand → Type 0
+  Reads = λ o. IsFree g o ⊎ IsReadable g ev6 launches o.class 0 0
+
+  can_read : CanRead g ev6 launches launch
+  can_read =
+      subst (All Reads) (sym operands_are)
+      (All-cons Reads (plain (class_of goal.left)) (second_operand ∷ []) (inr (inl (is_input goal.left))) (all_one Reads second_operand (inr (inl (is_input goal.right)))))
+
+  no_memory : UsesMemory g launch → ⊥
+  no_memory (inl h) = false_true (sym no_load ∙ h)
+  no_memory (inr h) = false_true (sym no_store ∙ h)
+
+  abbrev not_stored : (P : Launch → Type 0) → All (λ m. IsTrue (launches_test g is_store m) → P m) launches
+  not_stored P = all_one (λ m. IsTrue (launches_test g is_store m) → P m) launch (λ h. absurd (false_true (sym no_store ∙ h)))
+
+  keeps_memory : KeepsMemory g launches
+  keeps_memory = record {
+    each = all_one (λ l. UsesMemory g l → IsLeft g launches l.cycle (memory_class_at g l.row)) launch (λ u. absurd (no_memory u));
+    single = pairs_one (λ l m. IsTrue (launches_test g is_store l) → IsTrue (launches_test g is_store m) → ¬ (l.cycle ≡ m.cycle)) launch;
+    last = λ t after. inl (target_is_entry, not_stored (λ m. t ≤ m.cycle));
+  }
+
+  pub given : Any (Gives g 3) launches
+  given = (0, launch, omega arith, refl, (gives_it, refl))
+
+  waits : Waits g launches launch
+  waits (inl h) = absurd (false_true (sym no_store ∙ h))
+  waits (inr h) = absurd (false_true (sym no_load ∙ h.0))
+
+  ends : EndsBy g ev6 1 launch
+  ends =
+      let e : unwrap_or (latency_of ev6 (unwrap_or (instr_at g 3) Beq)) 0 ≡ 1 = ap (λ o. unwrap_or (latency_of ev6 (unwrap_or o Beq)) 0) instr_is ∙ ap (λ o. unwrap_or o 0) (latency_is goal.op valid.op) in
+      omega (arith, e)
+
+  pub fits : Fits g ev6 1 launches
+  fits = record {
+    rows = all_one (CanLaunch g ev6) launch (subst (λ o. IsSomeAnd o (λ i. MayUse ev6 i 0)) (sym instr_is) (may_use goal.op valid.op));
+    apart = pairs_one (λ l m. ¬ Collide l m) launch;
+    operands = all_one (CanRead g ev6 launches) launch can_read;
+    in_time = all_one (EndsBy g ev6 1) launch ends;
+    targets = all_one (IsReached g launches) (record { name = goal.target; class = 3 }) (inr (inr (inr given)));
+    memory = keeps_memory;
+    one_branch = tt;
+    after_branch = all_one (Waits g launches) launch waits;
+    pool = (let e : count_by (launches_test g gives_word) launches ≡ 1 = ap (λ b. 0 + cond b 1 0) gives_it in omega (arith, e));
+  }
+
+  -- ---- nothing fits in 0 cycles
+
+  class_three : (row : ℕ) → class_at g row ≡ 3 → row ≡ 3
+  class_three zero e = cc
+  class_three (suc zero) e = cc
+  class_three (suc (suc zero)) e = cc
+  class_three (suc (suc (suc zero))) e = refl
+  class_three (suc (suc (suc (suc row)))) e = cc
+
+  abbrev is_three : InputClass → Type 0
+  is_three i = i.class ≡ 3
+
+  no_input : IsInput g 3 → ⊥
+  no_input h = elim (any_cases is_three (input_one goal) (input_two goal ∷ []) h) [ inl e ↦ one_three e | inr more ↦ elim (any_cases is_three (input_two goal) [] more) [ inl e ↦ two_three e | inr none ↦ any_nil is_three none ] ]
+    where
+      one_three : suc zero ≡ 3 → ⊥
+      one_three e = cc
+
+      two_three : suc (suc zero) ≡ 3 → ⊥
+      two_three e = cc
+
+  no_zero : IsZero g 3 → ⊥
+  no_zero e = cc
+
+  -- a launch of the application takes a cycle
+  takes_a_cycle : (l : Launch) → EndsBy g ev6 0 l → Gives g 3 l → ⊥
+  takes_a_cycle l ends gives =
+      let row : l.row ≡ 3 = class_three l.row gives.1 in
+      let e : unwrap_or (latency_of ev6 (unwrap_or (instr_at g l.row) Beq)) 0 ≡ 1 =
+      ap (λ r. unwrap_or (latency_of ev6 (unwrap_or (instr_at g r) Beq)) 0) row
+      ∙ ap (λ o. unwrap_or (latency_of ev6 (unwrap_or o Beq)) 0) instr_is ∙ ap (λ o. unwrap_or o 0) (latency_is goal.op valid.op) in
+      let late : l.cycle + unwrap_or (latency_of ev6 (unwrap_or (instr_at g l.row) Beq)) 0 ≤ 0 = ends in
+      omega (arith, e, late)
+
+  no_launch : (ls : List Launch) → All (EndsBy g ev6 0) ls → Any (Gives g 3) ls → ⊥
+  no_launch ls all h = takes_a_cycle h.1 (subst (EndsBy g ev6 0) h.3 (all h.0 h.1 h.2)) h.4
+
+  pub nothing_fits : (ls : List Launch) → Fits g ev6 0 ls → ⊥
+  nothing_fits ls f =
+      elim (All-head (IsReached g ls) (record { name = goal.target; class = 3 }) [] f.targets) [
+        | inl memory ↦ false_true (sym not_memory ∙ memory)
+        | inr rest ↦ elim rest [ inl input ↦ no_input input | inr rest ↦ elim rest [ inl is_zero ↦ no_zero is_zero | inr launched ↦ no_launch ls f.in_time launched ] ]
+      ]

@@ -1,0 +1,293 @@
+// Printing the lines of an answer, a line a function.
+ghost use Rattle.std.specs.Prelude.{◌≡◌, ◌++◌, ◌<◌, OnOk, decimal};
+ghost use Rattle.std.specs.List.{flat_map};
+ghost use Rattle.denali_run.specs.AnswerTexts as texts;
+ghost use Rattle.denali_run.specs.Tables.{ev6};
+
+use crate::graphs::{Guard, InputClass, LaunchGraph, LaunchRow, SetClass};
+use crate::listings::Where;
+use crate::schedules::Launch;
+use crate::words::RegisterWord;
+use items::NoMemory;
+use itoa::Buffer;
+use word_ops::{Op, op_name};
+
+pub(crate) fn put_number(text: &mut Vec<u8>, number: u64) -> Result<(), NoMemory>
+    ensures { OnOk result (text.new.items ≡ text.old.items ++ decimal number) }
+{
+    let mut buffer = Buffer::new();
+    text.extend_from_slice(buffer.format(number).as_bytes())?;
+    Ok(())
+}
+
+/// Each class with a space before it.
+#[tactic(auto, using(crate::proofs::Printed::each_more))]
+fn put_classes(text: &mut Vec<u8>, classes: &[u32]) -> Result<(), NoMemory>
+    ensures { OnOk result (text.new.items ≡ text.old.items ++ texts.number_words classes.now) }
+{
+    for class in classes {
+        text.extend_from_slice(b" ")?;
+        put_number(text, u64::from(*class))?;
+    }
+    Ok(())
+}
+
+/// Each register with a space before it.
+#[tactic(auto, using(crate::proofs::Printed::each_more))]
+fn put_registers(text: &mut Vec<u8>, registers: &[u8]) -> Result<(), NoMemory>
+    ensures { OnOk result (text.new.items ≡ text.old.items ++ texts.number_words registers.now) }
+{
+    for register in registers {
+        text.extend_from_slice(b" ")?;
+        put_number(text, u64::from(*register))?;
+    }
+    Ok(())
+}
+
+fn put_op(text: &mut Vec<u8>, op: Op, name: &[u8]) -> Result<(), NoMemory>
+    ensures { OnOk result (text.new.items ≡ text.old.items ++ texts.op_text op name.now) }
+{
+    match op {
+        Op::Entry => text.extend_from_slice(b"memory")?,
+        Op::Input(register) => {
+            text.extend_from_slice(b"input ")?;
+            put_number(text, u64::from(register))?;
+        }
+        Op::Constant(word) => {
+            text.extend_from_slice(b"const ")?;
+            put_number(text, word)?;
+        }
+        Op::Word(op) => text.extend_from_slice(op_name(op))?,
+        Op::Select => text.extend_from_slice(b"select")?,
+        Op::Store => text.extend_from_slice(b"store")?,
+        Op::Load => text.extend_from_slice(b"load")?,
+        Op::Put => text.extend_from_slice(b"put")?,
+        Op::Declared { .. } => {
+            text.extend_from_slice(b"use ")?;
+            text.extend_from_slice(name)?;
+        }
+    }
+    Ok(())
+}
+
+fn put_row(text: &mut Vec<u8>, row: &LaunchRow) -> Result<(), NoMemory>
+    ensures { OnOk result (text.new.items ≡ text.old.items ++ texts.row_line row.now) }
+{
+    put_number(text, u64::from(row.class))?;
+    text.extend_from_slice(b" ")?;
+    put_op(text, row.op, row.name.bytes())?;
+    put_classes(text, row.operands.as_slice())?;
+    text.extend_from_slice(b"\n")?;
+    Ok(())
+}
+
+#[tactic(auto, using(crate::proofs::Printed::each_more))]
+fn put_rows(text: &mut Vec<u8>, rows: &[LaunchRow]) -> Result<(), NoMemory>
+    ensures { OnOk result (text.new.items ≡ text.old.items ++ flat_map texts.row_line rows.now) }
+{
+    for row in rows {
+        put_row(text, row)?;
+    }
+    Ok(())
+}
+
+fn put_input(text: &mut Vec<u8>, input: &InputClass) -> Result<(), NoMemory>
+    ensures { OnOk result (text.new.items ≡ text.old.items ++ texts.in_line input.now) }
+{
+    text.extend_from_slice(b"in ")?;
+    text.extend_from_slice(input.name.bytes())?;
+    text.extend_from_slice(b" ")?;
+    put_number(text, u64::from(input.reg))?;
+    text.extend_from_slice(b" ")?;
+    put_number(text, u64::from(input.class))?;
+    text.extend_from_slice(b"\n")?;
+    Ok(())
+}
+
+#[tactic(auto, using(crate::proofs::Printed::each_more))]
+fn put_inputs(text: &mut Vec<u8>, inputs: &[InputClass]) -> Result<(), NoMemory>
+    ensures { OnOk result (text.new.items ≡ text.old.items ++ flat_map texts.in_line inputs.now) }
+{
+    for input in inputs {
+        put_input(text, input)?;
+    }
+    Ok(())
+}
+
+fn put_guard(text: &mut Vec<u8>, guard: Option<Guard>) -> Result<(), NoMemory>
+    ensures { OnOk result (text.new.items ≡ text.old.items ++ texts.guard_line guard) }
+{
+    let Some(guard) = guard else {
+        return Ok(());
+    };
+    text.extend_from_slice(b"guard ")?;
+    put_number(text, u64::from(guard.class))?;
+    if guard.held {
+        text.extend_from_slice(b" held\n")?;
+        return Ok(());
+    }
+    text.extend_from_slice(b" free\n")?;
+    Ok(())
+}
+
+fn put_set(text: &mut Vec<u8>, set: &SetClass) -> Result<(), NoMemory>
+    ensures { OnOk result (text.new.items ≡ text.old.items ++ texts.set_line set.now) }
+{
+    text.extend_from_slice(b"set ")?;
+    text.extend_from_slice(set.name.bytes())?;
+    text.extend_from_slice(b" ")?;
+    put_number(text, u64::from(set.class))?;
+    text.extend_from_slice(b"\n")?;
+    Ok(())
+}
+
+#[tactic(auto, using(crate::proofs::Printed::each_more))]
+fn put_sets(text: &mut Vec<u8>, sets: &[SetClass]) -> Result<(), NoMemory>
+    ensures { OnOk result (text.new.items ≡ text.old.items ++ flat_map texts.set_line sets.now) }
+{
+    for set in sets {
+        put_set(text, set)?;
+    }
+    Ok(())
+}
+
+/// The rows, and the class of the memory at entry.
+fn put_rows_text(text: &mut Vec<u8>, graph: &LaunchGraph) -> Result<(), NoMemory>
+    ensures { OnOk result (text.new.items ≡ text.old.items ++ texts.rows_text graph.now) }
+{
+    text.extend_from_slice(b"rows ")?;
+    put_number(text, graph.rows.len() as u64)?;
+    text.extend_from_slice(b"\n")?;
+    put_rows(text, graph.rows.as_slice())?;
+    text.extend_from_slice(b"entry ")?;
+    put_number(text, u64::from(graph.entry))?;
+    text.extend_from_slice(b"\n")?;
+    Ok(())
+}
+
+/// The inputs' registers, and those of the pool.
+fn put_registers_text(text: &mut Vec<u8>, graph: &LaunchGraph) -> Result<(), NoMemory>
+    ensures { OnOk result (text.new.items ≡ text.old.items ++ texts.registers_text graph.now) }
+{
+    put_inputs(text, graph.inputs.as_slice())?;
+    text.extend_from_slice(b"pool")?;
+    put_registers(text, graph.pool.as_slice())?;
+    text.extend_from_slice(b"\n")?;
+    Ok(())
+}
+
+/// The lines of a graph.
+#[tactic(auto, unfolding(crate::specs::AnswerTexts::graph_text))]
+pub(crate) fn put_graph(text: &mut Vec<u8>, graph: &LaunchGraph) -> Result<(), NoMemory>
+    ensures { OnOk result (text.new.items ≡ text.old.items ++ texts.graph_text graph.now) }
+{
+    put_rows_text(text, graph)?;
+    put_registers_text(text, graph)?;
+    put_guard(text, graph.guard)?;
+    put_sets(text, graph.sets.as_slice())?;
+    Ok(())
+}
+
+/// The name of a slot of the table `ev6`, and nothing for one that isn't there.
+fn slot_name(slot: u32) -> &'static [u8]
+    ensures { result.now ≡ texts.slot_name ev6 slot }
+{
+    match slot {
+        0 => b"U0",
+        1 => b"U1",
+        2 => b"L0",
+        3 => b"L1",
+        _ => b"",
+    }
+}
+
+fn put_launch(text: &mut Vec<u8>, launch: Launch) -> Result<(), NoMemory>
+    ensures { OnOk result (text.new.items ≡ text.old.items ++ texts.launch_line ev6 launch) }
+{
+    text.extend_from_slice(b"launch ")?;
+    put_number(text, u64::from(launch.cycle))?;
+    text.extend_from_slice(b" ")?;
+    text.extend_from_slice(slot_name(launch.slot))?;
+    text.extend_from_slice(b" ")?;
+    put_number(text, u64::from(launch.row))?;
+    text.extend_from_slice(b"\n")?;
+    Ok(())
+}
+
+#[tactic(auto, using(crate::proofs::Printed::each_more))]
+pub(crate) fn put_launches(text: &mut Vec<u8>, launches: &[Launch]) -> Result<(), NoMemory>
+    ensures { OnOk result (text.new.items ≡ text.old.items ++ flat_map (texts.launch_line ev6) launches.now) }
+{
+    for launch in launches {
+        put_launch(text, *launch)?;
+    }
+    Ok(())
+}
+
+fn hex_digit(digit: u32) -> u8
+    requires { digit < 16 }
+    ensures { result ≡ texts.hex_digit digit }
+{
+    if digit < 10 {
+        b'0' + digit as u8
+    } else {
+        b'A' - 10 + digit as u8
+    }
+}
+
+#[tactic(auto, unfolding(crate::specs::AnswerTexts::hex_text))]
+fn put_hex(text: &mut Vec<u8>, word: u32) -> Result<(), NoMemory>
+    ensures { OnOk result (text.new.items ≡ text.old.items ++ texts.hex_text word) }
+{
+    for at in 0..8u32 {
+        text.push(hex_digit((word >> (28 - 4 * at)) % 16))?;
+    }
+    Ok(())
+}
+
+fn put_word_registers(text: &mut Vec<u8>, word: RegisterWord) -> Result<(), NoMemory>
+    ensures { OnOk result (text.new.items ≡ text.old.items ++ texts.registers_of_word word) }
+{
+    text.extend_from_slice(b" $")?;
+    put_number(text, u64::from(word.ra))?;
+    text.extend_from_slice(b", $")?;
+    put_number(text, u64::from(word.rb))?;
+    text.extend_from_slice(b", $")?;
+    put_number(text, u64::from(word.rc))?;
+    Ok(())
+}
+
+/// The line of a word: its number and its text.
+#[tactic(auto, unfolding(crate::specs::AnswerTexts::word_line))]
+pub(crate) fn put_word(text: &mut Vec<u8>, word: RegisterWord) -> Result<(), NoMemory>
+    ensures { OnOk result (text.new.items ≡ text.old.items ++ texts.word_line word) }
+{
+    text.extend_from_slice(b"word ")?;
+    put_hex(text, word.word)?;
+    text.extend_from_slice(b" ")?;
+    text.extend_from_slice(op_name(word.op))?;
+    put_word_registers(text, word)?;
+    text.extend_from_slice(b"\n")?;
+    Ok(())
+}
+
+fn put_where(text: &mut Vec<u8>, place: &Where) -> Result<(), NoMemory>
+    ensures { OnOk result (text.new.items ≡ text.old.items ++ texts.where_line place.now) }
+{
+    text.extend_from_slice(b"where ")?;
+    text.extend_from_slice(place.name.bytes())?;
+    text.extend_from_slice(b" ")?;
+    put_number(text, u64::from(place.reg))?;
+    text.extend_from_slice(b"\n")?;
+    Ok(())
+}
+
+#[tactic(auto, using(crate::proofs::Printed::each_more))]
+pub(crate) fn put_wheres(text: &mut Vec<u8>, wheres: &[Where]) -> Result<(), NoMemory>
+    ensures { OnOk result (text.new.items ≡ text.old.items ++ flat_map texts.where_line wheres.now) }
+{
+    for place in wheres {
+        put_where(text, place)?;
+    }
+    Ok(())
+}

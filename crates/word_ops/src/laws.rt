@@ -1,0 +1,30 @@
+// Laws of the definitions, as contracts of functions that do nothing.
+ghost use Rattle.std.specs.Prelude.{◌≡◌, ◌≢◌, ◌<◌, ◌^◌, ℕ, List, All};
+ghost use Rattle.word_ops.specs.Words.{IsWord};
+ghost use Rattle.word_ops.specs.Operators.{value_of};
+ghost use Rattle.word_ops.specs.Memory.{Memory, IsMemory, word_at, put_word};
+ghost use Rattle.word_ops.specs.Worlds.{Value, World, IsWorld, IsValue};
+ghost use Rattle.word_ops.specs.Meanings.{meaning, sort_of, AreOperands, IsInRange};
+ghost use Rattle.word_ops.specs.declared.operators.WordOp.{WordOp as Operator};
+ghost use Rattle.word_ops.specs.declared.sorts.Op.{Op as TermOperator};
+
+/// What an operator gives is in range where its operands are.
+pub fn meanings_are_in_range()
+    ensures words { (op : Operator) (vs : List ℕ) → All IsWord vs → IsWord (value_of op vs) }
+    ensures values { (world : World) (names : ℕ → List ℕ) (op : TermOperator) (vs : List Value) →
+        IsWorld world → IsInRange op → AreOperands op vs → IsValue (sort_of op) (meaning world names op vs) }
+{}
+
+/// A memory after a write: the place holds the word, every other place what it held. Two memories are equal where each
+/// place holds the same word in both.
+pub fn memories_hold_words()
+    ensures put { (m : Memory) (place v : ℕ) → word_at (put_word m place v) place ≡ v }
+    ensures others { (m : Memory) (place v other : ℕ) → other ≢ place →
+        word_at (put_word m place v) other ≡ word_at m other }
+    ensures again { (m : Memory) (place v w : ℕ) →
+        put_word (put_word m place v) place w ≡ put_word m place w }
+    ensures is_memory { (m : Memory) (place v : ℕ) → IsMemory m → place < 2 ^ 61 → IsWord v →
+        IsMemory (put_word m place v) }
+    ensures equal { (m n : Memory) → IsMemory m → IsMemory n →
+        ((place : ℕ) → word_at m place ≡ word_at n place) → m ≡ n }
+{}
