@@ -45,6 +45,9 @@ nothing_open frames xs none (within _ _ _ _ _ _ _ _) = cc
 regroup : (a b d : List Token) (o c : Token) → ((a ++ b ++ o ∷ []) ++ d) ++ c ∷ [] ≡ a ++ (b ++ (o ∷ d ++ c ∷ []))
 regroup a b d o c = simp append_assoc
 
+deeper : (a b d : List Token) (p o : Token) → a ++ p ∷ (b ++ d ++ o ∷ []) ≡ (a ++ p ∷ b) ++ d ++ o ∷ []
+deeper a b d p o = simp append_assoc
+
 -- what stands before the innermost open list, and its parenthesis
 record IsInnermost (frames : List Frame) (frame : Frame) (tokens : List Token) : Type 0 where
   front : List Token
@@ -81,7 +84,7 @@ open_less (g ∷ frames) frame xs all split (within {frame = f} {frames = more} 
       front = first ++ p ∷ rest.front;
       back = rest.back;
       opening = rest.opening;
-      whole = same ∙ (ap (λ zs. first ++ p ∷ zs) rest.whole ∙ (sym (append_assoc first (p ∷ rest.front ++ rest.back) (rest.opening ∷ [])) ∙ ap (λ zs. zs ++ rest.opening ∷ []) (sym (append_assoc first (p ∷ rest.front) rest.back))));
+      whole = same ∙ (ap (λ zs. first ++ p ∷ zs) rest.whole ∙ deeper first rest.front rest.back p rest.opening);
       lists = subst (λ (h : Frame). AreOpen (h ∷ frames) (first ++ p ∷ rest.front)) head (within first p rest.front each opens place rest.lists refl);
       spelled = rest.spelled;
       opens = rest.opens;

@@ -3,6 +3,9 @@ ghost use Rattle.std.specs.Prelude.{◌≡◌, ◌≤◌, ◌^◌, ◌<◌, ℕ,
 ghost use Rattle.std.specs.Str.Parse.{AllDigits, digits_value};
 ghost use Rattle.text_core.specs.Numbers.{IsNumber, IsBelowLimit};
 
+/// How many hexadecimal digits a number may have.
+const MOST_DIGITS: usize = 16;
+
 /// The value of digits in a base, where it is below 2 ^ 64.
 fn value(digits: &[u8], base: u32) -> Option<u64>
     requires low { 2 ≤ base }
@@ -28,7 +31,7 @@ fn hexadecimal(digits: &[u8]) -> Option<u64>
     if digits.is_empty() {
         return None;
     }
-    if digits.len() > 16 {
+    if digits.len() > MOST_DIGITS {
         return None;
     }
     value(digits, 16)
