@@ -1,7 +1,12 @@
 pub mod Assuming
 pub mod Checking
 pub mod Following
+pub mod OneReading
+pub mod Printing
 pub mod Reaching
+pub mod LineReading
+pub mod Runs
 pub mod Showing
 pub mod Sound
 pub mod Units
+pub mod Wording

@@ -1,3 +1,4 @@
 pub mod LineText
+pub mod LineWords
 pub mod Marked
 pub mod Placing

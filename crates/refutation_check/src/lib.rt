@@ -3,12 +3,17 @@
 
 mod hints;
 mod lines;
+mod reading;
 mod text;
 mod values;
+mod words;
 
 pub use lines::{Rejected, check, check_lemmas};
+pub use reading::read;
 pub use text::print;
 pub use values::Marks;
 
+#[cfg(test)]
+mod reading_tests;
 #[cfg(test)]
 mod tests;

@@ -1,7 +1,10 @@
 // The text of lines.
-ghost use Rattle.std.specs.Prelude.{◌≡◌, ◌++◌, IfOk, OnOk};
-ghost use Rattle.std.specs.List.{flat_map};
-ghost use Rattle.refutation_check.specs.LineText.{literal_text, hint_text, line_text, lines_text};
+ghost use Rattle.std.specs.Prelude.{◌≡◌, ◌++◌, length, IfOk, OnOk};
+ghost use Rattle.std.specs.List.{All, flat_map};
+ghost use Rattle.cnf_core.specs.declared.line.Line.{Line as Row};
+ghost use Rattle.text_core.specs.Lines.{IsLine, HasLines};
+ghost use Rattle.refutation_check.specs.LineWords.{IsReadable, AreLinesAt, line_words};
+ghost use Rattle.refutation_check.specs.LineText.{literal_text, hint_text, line_text, lines_text, text_lines};
 
 use cnf_core::{Line, Lines, Lit};
 use items::NoMemory;
@@ -10,7 +13,11 @@ use std::alloc::Global;
 
 /// The lines in decimal, each ended by a line feed.
 pub fn print(alloc: Global, lines: &Lines) -> Result<Vec<u8>, NoMemory>
-    ensures { IfOk result (λ text. text.items ≡ lines_text lines.now.lines) }
+    ensures text { IfOk result (λ text. text.items ≡ lines_text lines.now.lines) }
+
+    // Numbers below 2 ^ 31, and none of them 0 but an id: then the text is lines of words, and `read` gives the lines back.
+    ensures line { (line : Row) → IsReadable line → IsLine (line_words line) (line_text line) }
+    ensures lines { All IsReadable lines.now.lines → HasLines (lines_text lines.now.lines) (text_lines 0 lines.now.lines) × AreLinesAt (text_lines 0 lines.now.lines) 0 (length lines.now.lines) lines.now.lines }
 {
     let mut text = Vec::new(alloc);
     for line in lines.lines.as_slice() {
