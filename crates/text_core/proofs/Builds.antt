@@ -59,37 +59,32 @@ record IsInnermost (frames : List Frame) (frame : Frame) (tokens : List Token) :
   opens : opening.kind ≡ kinds.Opening
   placed : opening.place ≡ frame.place
 
+deepen : (g frame : Frame) (frames : List Frame) (first behind xs : List Token) (p : Token) → SpellAll (all_of g.before) first → p.kind ≡ kinds.Opening → p.place ≡ g.place → xs ≡ first ++ p ∷ behind → IsInnermost frames frame behind → IsInnermost (g ∷ frames) frame xs
+deepen g frame frames first behind xs p each opens place same rest = record {
+  front = first ++ p ∷ rest.front;
+  back = rest.back;
+  opening = rest.opening;
+  whole = same ∙ (ap (λ zs. first ++ p ∷ zs) rest.whole ∙ deeper first rest.front rest.back p rest.opening);
+  lists = within first p rest.front each opens place rest.lists refl;
+  spelled = rest.spelled;
+  opens = rest.opens;
+  placed = rest.placed;
+}
+
+innermost : (f : Frame) (first xs : List Token) (p : Token) → SpellAll (all_of f.before) first → p.kind ≡ kinds.Opening → p.place ≡ f.place → xs ≡ first ++ p ∷ [] → IsInnermost [] f xs
+innermost f first xs p each opens place same = record { front = []; back = first; opening = p; whole = same; lists = closed; spelled = each; opens = opens; placed = place }
+
 open_less : (frames : List Frame) (frame : Frame) (xs : List Token) (all : List Frame) → all ≡ frames ++ frame ∷ [] → AreOpen all xs → IsInnermost frames frame xs
 open_less [] frame xs all split closed = cc
 open_less [] frame xs all split (within {frame = f} {frames = more} first p behind each opens place others same) =
     let head : f ≡ frame = cc in
     let tail : more ≡ [] = cc in
-    let none = nothing_open more behind tail others in
-    record {
-      front = [];
-      back = first;
-      opening = p;
-      whole = same ∙ ap (λ zs. first ++ p ∷ zs) none;
-      lists = closed;
-      spelled = subst (λ (g : Frame). SpellAll (all_of g.before) first) head each;
-      opens = opens;
-      placed = place ∙ ap (λ (g : Frame). g.place) head;
-    }
+    subst (λ (g : Frame). IsInnermost [] g xs) head (innermost f first xs p each opens place (same ∙ ap (λ zs. first ++ p ∷ zs) (nothing_open more behind tail others)))
 open_less (g ∷ frames) frame xs all split closed = cc
 open_less (g ∷ frames) frame xs all split (within {frame = f} {frames = more} first p behind each opens place others same) =
     let head : f ≡ g = cc in
     let tail : more ≡ frames ++ frame ∷ [] = cc in
-    let rest = open_less frames frame behind more tail others in
-    record {
-      front = first ++ p ∷ rest.front;
-      back = rest.back;
-      opening = rest.opening;
-      whole = same ∙ (ap (λ zs. first ++ p ∷ zs) rest.whole ∙ deeper first rest.front rest.back p rest.opening);
-      lists = subst (λ (h : Frame). AreOpen (h ∷ frames) (first ++ p ∷ rest.front)) head (within first p rest.front each opens place rest.lists refl);
-      spelled = rest.spelled;
-      opens = rest.opens;
-      placed = rest.placed;
-    }
+    subst (λ (h : Frame). IsInnermost (h ∷ frames) frame xs) head (deepen f frame frames first behind xs p each opens place same (open_less frames frame behind more tail others))
 
 -- the innermost list is closed
 pub built_leave : (frames : List Frame) (frame : Frame) (parts : List Tree) (xs : List Token) (c : Token) → AreBuilt (frames ++ frame ∷ []) parts xs → c.kind ≡ kinds.Closing → AreBuilt frames (frame.before ++ list frame.place (all_of parts) ∷ []) (xs ++ c ∷ [])

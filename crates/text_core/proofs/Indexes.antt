@@ -1,5 +1,5 @@
 -- What the index of a text of lines says of its lines and words.
-use Rattle.std.proofs.Common.{◌≡◌, ℕ, zero, suc, ◌+◌, ◌-◌, ◌<◌, ◌≤◌, ◌^◌, List, [], ◌∷◌, ◌++◌, length, take, drop, get_or, refl, sym, ap, ◌∙◌, subst, arith, append_assoc, length-append, one-add, add-one, zero-add}
+use Rattle.std.proofs.Common.{◌≡◌, ◌≢◌, ℕ, zero, suc, ◌+◌, ◌-◌, ◌<◌, ◌≤◌, ◌^◌, List, [], ◌∷◌, ◌++◌, length, take, drop, get_or, refl, sym, ap, ◌∙◌, subst, arith, append_assoc, length-append, one-add, add-one, zero-add}
 use Rattle.std.proofs.Math.Seq.{take-append_seam, drop-append-add}
 use Rattle.text_core.specs.Lines.{Line, IsWord, IsLine, last, word, AreLines, none, line, line_at, word_at, line_length, text_length}
 use Rattle.text_core.specs.LineIndex.{IsIndex, word_places, all_words, first_words}
@@ -36,24 +36,43 @@ next_place place [] i bound = absurd (omega arith)
 next_place place (w ∷ ws) zero bound = front_place (place + (length w + 1)) ws
 next_place place (w ∷ ws) (suc i) bound = next_place (place + (length w + 1)) ws i (omega arith)
 
+pub line_length-append : (ws vs : List (List ℕ)) → line_length (ws ++ vs) ≡ line_length ws + line_length vs
+line_length-append [] vs = omega arith
+line_length-append (w ∷ ws) vs = omega (arith, line_length-append ws vs)
+
+pub length-all : (ls : List Line) → text_length ls ≡ line_length (all_words ls)
+length-all [] = refl
+length-all (l ∷ ls) = omega (arith, line_length-append l.words (all_words ls), length-all ls)
+
+place_le : (place : ℕ) (ws : List (List ℕ)) (i : ℕ) → i ≤ length ws → get_or (word_places place ws) i 0 ≤ place + line_length ws
+place_le place [] zero bound = omega arith
+place_le place [] (suc i) bound = absurd (omega arith)
+place_le place (w ∷ ws) zero bound = omega arith
+place_le place (w ∷ ws) (suc i) bound = omega (arith, place_le (place + (length w + 1)) ws i (omega arith))
+
 -- What stands at a word's place.
 pub record IsWordAt (text w : List ℕ) (at : ℕ) : Type 0 where
   pub is : IsWord w
+  pub some : 0 < length w
   pub found : take (length w) (drop at text) ≡ w
   pub within : at + length w < length text
+
+some_of : (xs : List ℕ) → xs ≢ [] → 0 < length xs
+some_of [] some = absurd (some refl)
+some_of (x ∷ xs) some = omega arith
 
 shifted : (w v rest : List ℕ) (sep at : ℕ) → IsWordAt rest w at → IsWordAt (v ++ sep ∷ rest) w (length v + 1 + at)
 shifted w v rest sep at here =
     let e : length v + (1 + at) ≡ length v + 1 + at = omega arith in
     let behind : drop (length v + 1 + at) (v ++ sep ∷ rest) ≡ drop at rest = rw (← e, drop-append-add v (sep ∷ rest) (1 + at), one-add) refl in
-    record { is = here.is; found = rw behind here.found; within = omega (arith, here.within, length-append v (sep ∷ rest)) }
+    record { is = here.is; some = here.some; found = rw behind here.found; within = omega (arith, here.within, length-append v (sep ∷ rest)) }
 
 word_here : (place : ℕ) (ws : List (List ℕ)) (text : List ℕ) (i : ℕ) → AreWords ws text → i < length ws → (place ≤ get_or (word_places place ws) i 0) × IsWordAt text (get_or ws i []) (get_or (word_places place ws) i 0 - place)
 unfolding AreWords
 word_here place [] text i are bound = absurd (omega arith)
 word_here place (w ∷ ws) text zero are bound =
     let none : place - place ≡ 0 = omega arith in
-    let here : IsWordAt text w 0 = record { is = are.0; found = ap (take (length w)) are.3 ∙ take-append_seam w (are.1 ∷ are.2); within = omega (arith, ap length are.3, length-append w (are.1 ∷ are.2)) } in
+    let here : IsWordAt text w 0 = record { is = are.0; some = some_of w are.0.some; found = ap (take (length w)) are.3 ∙ take-append_seam w (are.1 ∷ are.2); within = omega (arith, ap length are.3, length-append w (are.1 ∷ are.2)) } in
     (omega arith, subst (IsWordAt text w) (sym none) here)
 word_here place (w ∷ ws) text (suc i) are bound =
     let rest = word_here (place + (length w + 1)) ws are.2 i are.4 (omega arith) in
@@ -194,6 +213,10 @@ module _ (text : List ℕ) (ls : List Line) (words firsts : List ℕ) (index : I
 
   pub end_is : (k : ℕ) → k ≡ length ls → get_or words (get_or firsts k 0) 0 ≡ text_length ls
   end_is k end = place_of k ∙ ((line_place 0 0 ls text k index.lines_are (omega arith)).3 end ∙ zero-add (text_length ls))
+
+  pub place_small : (i : ℕ) → i < length words → get_or words i 0 < 2 ^ 29
+  place_small i bound =
+      omega (arith, index.small, place_le 0 (all_words ls) i (omega (arith, bound, words_counted)), ap (λ xs. get_or xs i 0) index.words_are, length-all ls, length-text 0 ls text index.lines_are)
 
   pub words_of : (k : ℕ) → k < length ls → get_or firsts (k + 1) 0 ≡ get_or firsts k 0 + length (line_at ls k).words
   words_of k bound = rw (add-one, index.firsts_are) (next_first 0 ls k bound)

@@ -4,15 +4,15 @@ use Rattle.std.specs.List.{list_all, concat}
 use Rattle.std.specs.Str.Parse.{digits_value}
 use Rattle.std.proofs.lemmas.List.Folds.{concat-append}
 use Rattle.text_core.specs.declared.faults.Kind.{Kind}
-use Rattle.text_core.specs.declared.pieces.Sort.{Sort}
-use Rattle.text_core.specs.declared.pieces.Sort.TheVariants.{Atom}
+use Rattle.text_core.specs.declared.pieces.PieceKind.{PieceKind}
+use Rattle.text_core.specs.declared.pieces.PieceKind.TheVariants.{Atom}
 use Rattle.text_core.specs.declared.tokens.Token.{Token}
 use Rattle.text_core.specs.declared.tokens.TokenKind.{TokenKind}
 use Rattle.text_core.specs.declared.tokens.TokenKind.TheVariants as tokens
 use Rattle.text_core.specs.Faults.{IsFirst, IsNotBehind, number_of}
 use Rattle.text_core.specs.Numbers.{IsNumber, decimal, hexadecimal}
 use Rattle.text_core.specs.Pieces as pieces
-use Rattle.text_core.specs.Pieces.{sort_of, goes_on, IsStopped, IsPiece, Consists, front}
+use Rattle.text_core.specs.Pieces.{kind_begun, goes_on, IsStopped, IsPiece, Consists, front}
 use Rattle.text_core.specs.Lexing.{IsToken, IsSkipped, IsFaulty, AreTokens, HasTokens, IsLexFault, token_at, opening, closing, register, number, name, white, comment, stray, no_number, skipped, token}
 use Rattle.text_core.specs.Lexing as lexing
 use Rattle.text_core.specs.ReadTo.{IsReadTo}
@@ -26,7 +26,7 @@ piece_once (x ∷ xs) [] rest other _ two same = elim two [ ]
 piece_once (x ∷ xs) (y ∷ ys) rest other (pieces.piece each stopped) (pieces.piece each' stopped') same =
     let head : y ≡ x = cc in
     let tail : xs ++ rest ≡ ys ++ other = cc in
-    let more = run_once (goes_on (sort_of x)) xs ys rest other each stopped (subst (λ (f : ℕ). list_all (goes_on (sort_of f)) ys ≡ true) head each') (subst (λ (f : ℕ). IsStopped (goes_on (sort_of f)) other) head stopped') tail in
+    let more = run_once (goes_on (kind_begun x)) xs ys rest other each stopped (subst (λ (f : ℕ). list_all (goes_on (kind_begun f)) ys ≡ true) head each') (subst (λ (f : ℕ). IsStopped (goes_on (kind_begun f)) other) head stopped') tail in
     (cc (head, more.0), more.1)
 
 piece_some : (p rest : List ℕ) → IsPiece p rest → 0 < length p
@@ -34,11 +34,11 @@ piece_some [] rest one = elim one [ ]
 piece_some (x ∷ xs) rest _ = omega arith
 
 -- what goes on after the first byte
-pub piece_at : (text after : List ℕ) (n : ℕ) (sort : Sort) → 0 < length text → after ≡ drop 1 text → sort ≡ sort_of (get_or text 0 0) → list_all (goes_on sort) (take n after) ≡ true → IsStopped (goes_on sort) (drop n after) → IsPiece (take (1 + n) text) (drop (1 + n) text)
+pub piece_at : (text after : List ℕ) (n : ℕ) (sort : PieceKind) → 0 < length text → after ≡ drop 1 text → sort ≡ kind_begun (get_or text 0 0) → list_all (goes_on sort) (take n after) ≡ true → IsStopped (goes_on sort) (drop n after) → IsPiece (take (1 + n) text) (drop (1 + n) text)
 piece_at [] after n sort some is begins each whole = absurd (omega arith)
 piece_at (x ∷ xs) after n sort some is begins each whole =
-    let P : List ℕ → Type 0 = λ ys. (list_all (goes_on (sort_of x)) (take n ys) ≡ true) × IsStopped (goes_on (sort_of x)) (drop n ys) in
-    let Q : Sort → Type 0 = λ s. (list_all (goes_on s) (take n after) ≡ true) × IsStopped (goes_on s) (drop n after) in
+    let P : List ℕ → Type 0 = λ ys. (list_all (goes_on (kind_begun x)) (take n ys) ≡ true) × IsStopped (goes_on (kind_begun x)) (drop n ys) in
+    let Q : PieceKind → Type 0 = λ s. (list_all (goes_on s) (take n after) ≡ true) × IsStopped (goes_on s) (drop n after) in
     let both = subst P is (subst Q begins (each, whole)) in
     rw one-add (pieces.piece both.0 both.1)
 
@@ -50,8 +50,8 @@ number_once bytes n m (hexadecimal {digits = ds} is some short below) (hexadecim
     let same : ds ≡ es = cc in
     ap (digits_value 16) same
 
-dollar_begins : sort_of 36 ≡ Atom
-unfolding sort_of
+dollar_begins : kind_begun 36 ≡ Atom
+unfolding kind_begun
 dollar_begins = refl
 
 token_once : (p : List ℕ) (k l : TokenKind) → IsToken p k → IsToken p l → k ≡ l

@@ -8,7 +8,7 @@ use Rattle.text_core.specs.Lines.{Line, IsWord, IsLine, last, word, AreLines, no
 use Rattle.text_core.specs.Lines as lines
 use Rattle.text_core.specs.LineIndex.{IsSplitTo, AreLineBytes, spaced, word_places, all_words, first_words}
 use Rattle.text_core.proofs.Cuts.{both_true}
-use Rattle.text_core.proofs.Indexes.{length-text, length-word_places}
+use Rattle.text_core.proofs.Indexes.{length-all, length-text, length-word_places, line_length-append}
 use Rattle.text_core.proofs.LinesIn.{not_feed, no_feed, no_feed_more, body_of}
 
 -- one line more
@@ -35,14 +35,6 @@ all_more (v ∷ done) w each is = (each.0, all_more done w each.1 is)
 length-spaced : (done : List (List ℕ)) → length (spaced done) ≡ line_length done
 length-spaced [] = refl
 length-spaced (w ∷ done) = omega (arith, length-append w (32 ∷ spaced done), length-spaced done)
-
-line_length-append : (ws vs : List (List ℕ)) → line_length (ws ++ vs) ≡ line_length ws + line_length vs
-line_length-append [] vs = omega arith
-line_length-append (w ∷ ws) vs = omega (arith, line_length-append ws vs)
-
-length-all : (ls : List Line) → text_length ls ≡ line_length (all_words ls)
-length-all [] = refl
-length-all (l ∷ ls) = omega (arith, line_length-append l.words (all_words ls), length-all ls)
 
 places_more : (place end : ℕ) (ws : List (List ℕ)) (w : List ℕ) → end ≡ place + line_length ws + (length w + 1) → word_places place (ws ++ w ∷ []) ≡ word_places place ws ++ end ∷ []
 places_more place end [] w is = let e : place + (length w + 1) ≡ end = omega arith in ap (λ n. place ∷ n ∷ []) e

@@ -1,11 +1,12 @@
 -- One token more, as a parser takes it.
-use Rattle.std.proofs.Common.{◌≡◌, ℕ, ◌+◌, ◌<◌, ◌≤◌, List, [], ◌∷◌, ◌++◌, length, take, drop, get_or, refl, sym, ap, ◌∙◌, subst, arith, append_assoc, length-append, length-take}
+use Rattle.std.proofs.Common.{◌≡◌, ℕ, ◌+◌, ◌<◌, ◌≤◌, List, [], ◌∷◌, ◌++◌, length, take, drop, get_or, map, refl, sym, ap, ◌∙◌, subst, arith, append_assoc, length-append, length-take}
 use Rattle.std.proofs.lemmas.List.{take_all}
 use Rattle.text_core.specs.declared.faults.Kind.TheVariants.{Unclosed, Unopened}
+use Rattle.text_core.specs.declared.parser.OpenList.{OpenList}
 use Rattle.text_core.specs.declared.tokens.Token.{Token}
 use Rattle.text_core.specs.declared.tokens.TokenKind.{TokenKind}
 use Rattle.text_core.specs.declared.tokens.TokenKind.TheVariants as kinds
-use Rattle.text_core.specs.Building.{Frame, AreOpen, closed, within, AreBuilt, IsStillOpen, peak, peak_before}
+use Rattle.text_core.specs.Building.{Frame, frame_of, AreOpen, closed, within, AreBuilt, IsStillOpen, peak, peak_before}
 use Rattle.text_core.specs.Nesting.{IsFirstTreeFault}
 use Rattle.text_core.specs.Sexps.{all_of}
 use Rattle.text_core.specs.Trees.{Tree, atom, list, IsAtom, name, register, number, SpellAll, as_atom, HasTrees}
@@ -126,3 +127,9 @@ pub read_all : (frames : List Frame) (parts : List Tree) (tokens : List Token) (
 read_all frames parts tokens at none end read =
     let spelled = subst (SpellAll (all_of parts)) (take_all at tokens end) (built_whole parts (take at tokens) (subst (λ fs. AreBuilt fs parts (take at tokens)) none read.built)) in
     record { spelled = spelled; nested = omega (arith, (spelled_levels (all_of parts) tokens spelled).peaks, ap peak (take_all at tokens end), read.nested) }
+
+-- the outermost of the parser's open lists is unclosed in the end
+pub unclosed_list : (items : List OpenList) (outermost : OpenList) (parts : List Tree) (tokens : List Token) (at : ℕ) → 0 < length items → outermost ≡ get_or items 0 outermost → length tokens ≤ at → IsRead (map frame_of items) parts tokens at → IsFirstTreeFault tokens outermost.place Unclosed
+unclosed_list [] outermost parts tokens at some first end read = absurd (omega arith)
+unclosed_list (x ∷ items) outermost parts tokens at some first end read =
+    subst (λ (o : OpenList). IsFirstTreeFault tokens o.place Unclosed) (sym first) (unclosed_fault (frame_of x) (map frame_of items) (frame_of x ∷ map frame_of items) parts tokens at x.place refl refl end read)

@@ -56,12 +56,14 @@ fault_text f = codes "fault " ++ decimal f.place ++ codes " " ++ kind_name f.kin
 
 -- the first fault isn't behind the second one: by place, and at one place by number
 abbrev pub IsNotBehind : ℕ → Kind → ℕ → Kind → Type 0
-IsNotBehind place kind other_place other_kind = (place < other_place) ⊎ ((place ≡ other_place) × (number_of kind ≤ number_of other_kind))
+IsNotBehind place kind other_place other_kind =
+    (place < other_place) ⊎ ((place ≡ other_place) × (number_of kind ≤ number_of other_kind))
 
 -- A fault of a pass, where `IsAt` says which faults it finds at which place, and no fault of it comes earlier.
 pub record IsFirst (IsAt : ℕ → Kind → Type 0) (place : ℕ) (kind : Kind) : Type 0 where
   pub found : IsAt place kind
-  pub earliest : (other_place : ℕ) (other_kind : Kind) → IsAt other_place other_kind → IsNotBehind place kind other_place other_kind
+  pub earliest : (other_place : ℕ) (other_kind : Kind) → IsAt other_place other_kind
+      → IsNotBehind place kind other_place other_kind
 
 -- A fault of the text is as stated. Out of memory says nothing of the text.
 abbrev pub IsFaultBy : (ℕ → Kind → Type 0) → TextFault → Type 0

@@ -21,7 +21,8 @@ pub record IsWord (word : List ℕ) : Type 0 where
 -- the bytes of a line of these words: a word and a line feed, or a word, one space and a line of the others
 pub data IsLine : List (List ℕ) → List ℕ → Type 0 where
   last : {word text : List ℕ} → IsWord word → text ≡ word ++ 10 ∷ [] → IsLine (word ∷ []) text
-  word : {word text : List ℕ} {words : List (List ℕ)} (rest : List ℕ) → IsWord word → IsLine words rest → text ≡ word ++ 32 ∷ rest → IsLine (word ∷ words) text
+  word : {word text : List ℕ} {words : List (List ℕ)} (rest : List ℕ)
+      → IsWord word → IsLine words rest → text ≡ word ++ 32 ∷ rest → IsLine (word ∷ words) text
 
 -- a line, and the offset of its first byte in the text, from 0
 pub record Line : Type 0 where
@@ -83,8 +84,11 @@ pub record IsBadLine (text : List ℕ) (place : ℕ) (kind : Kind) : Type 0 wher
 
 -- The first byte that isn't allowed, wherever it stands; where there is none, the first line that isn't one.
 pub data IsFirstLineFault : List ℕ → ℕ → Kind → Type 0 where
-  bad_byte : {text : List ℕ} {place : ℕ} {kind : Kind} → IsFirst (IsBadByte text) place kind → IsFirstLineFault text place kind
-  bad_line : {text : List ℕ} {place : ℕ} {kind : Kind} → ((other_place : ℕ) (other_kind : Kind) → IsBadByte text other_place other_kind → ⊥) → IsFirst (IsBadLine text) place kind → IsFirstLineFault text place kind
+  bad_byte : {text : List ℕ} {place : ℕ} {kind : Kind}
+      → IsFirst (IsBadByte text) place kind → IsFirstLineFault text place kind
+  bad_line : {text : List ℕ} {place : ℕ} {kind : Kind}
+      → ((other_place : ℕ) (other_kind : Kind) → IsBadByte text other_place other_kind → ⊥)
+      → IsFirst (IsBadLine text) place kind → IsFirstLineFault text place kind
 
 -- a line by its number from 0
 abbrev pub line_at : List Line → ℕ → Line

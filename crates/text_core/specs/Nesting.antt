@@ -37,9 +37,12 @@ pub data IsInside : ℕ → List Token → Type 0 where
 
 -- what is wrong with a token that stands between these
 pub data IsMisplaced : List Token → Token → List Token → Kind → Type 0 where
-  unclosed : {before behind : List Token} {token : Token} → token.kind ≡ kinds.Opening → (IsClosed behind → ⊥) → IsMisplaced before token behind Unclosed
-  unopened : {before behind : List Token} {token : Token} → token.kind ≡ kinds.Closing → (IsOpened before → ⊥) → IsMisplaced before token behind Unopened
-  too_deep : {before behind : List Token} {token : Token} → token.kind ≡ kinds.Opening → IsInside 64 before → IsMisplaced before token behind TooDeep
+  unclosed : {before behind : List Token} {token : Token}
+      → token.kind ≡ kinds.Opening → (IsClosed behind → ⊥) → IsMisplaced before token behind Unclosed
+  unopened : {before behind : List Token} {token : Token}
+      → token.kind ≡ kinds.Closing → (IsOpened before → ⊥) → IsMisplaced before token behind Unopened
+  too_deep : {before behind : List Token} {token : Token}
+      → token.kind ≡ kinds.Opening → IsInside 64 before → IsMisplaced before token behind TooDeep
 
 -- the token of this index has a fault of this kind
 pub record IsTreeFault (tokens : List Token) (index : ℕ) (kind : Kind) : Type 0 where

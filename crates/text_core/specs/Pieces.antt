@@ -2,8 +2,8 @@
 use Rattle.std.specs.Prelude.{ℕ, ◌≡◌, ⊤, Bool, true, false, not, ◌||◌, ◌==◌, if◌then◌else◌, List, [], ◌∷◌, ◌++◌}
 use Rattle.std.specs.List.{list_all}
 use Rattle.std.specs.Char.{is_ascii_alphanumeric}
-use Rattle.text_core.specs.declared.pieces.Sort.{Sort}
-use Rattle.text_core.specs.declared.pieces.Sort.TheVariants.{White, Comment, Opening, Closing, Atom, Stray}
+use Rattle.text_core.specs.declared.pieces.PieceKind.{PieceKind}
+use Rattle.text_core.specs.declared.pieces.PieceKind.TheVariants.{White, Comment, Opening, Closing, Atom, Stray}
 
 -- a letter, a digit or an underscore
 abbrev pub is_word_byte : ℕ → Bool
@@ -15,8 +15,8 @@ is_white b = (b == 32) || (b == 9) || (b == 13) || (b == 10)
 
 -- What a byte begins that stands in no comment and continues no atom: a semicolon begins a comment, and a letter, a
 -- digit, an underscore or a dollar sign begins an atom.
-unfoldable pub sort_of : ℕ → Sort
-sort_of b =
+unfoldable pub kind_begun : ℕ → PieceKind
+kind_begun b =
     if is_white b then White
     else if b == 59 then Comment
     else if b == 40 then Opening
@@ -25,7 +25,7 @@ sort_of b =
     else Stray
 
 -- A comment goes on before a line feed, and an atom with letters, digits and underscores. The others are one byte.
-abbrev pub goes_on : Sort → ℕ → Bool
+abbrev pub goes_on : PieceKind → ℕ → Bool
 goes_on Comment b = not (b == 10)
 goes_on Atom b = is_word_byte b
 goes_on _ b = false
@@ -37,7 +37,9 @@ IsStopped test (b ∷ bs) = test b ≡ false
 
 -- A piece before the rest of a text: a first byte, and as much more as goes on.
 pub data IsPiece : List ℕ → List ℕ → Type 0 where
-  piece : {first : ℕ} {more rest : List ℕ} → list_all (goes_on (sort_of first)) more ≡ true → IsStopped (goes_on (sort_of first)) rest → IsPiece (first ∷ more) rest
+  piece : {first : ℕ} {more rest : List ℕ}
+      → list_all (goes_on (kind_begun first)) more ≡ true → IsStopped (goes_on (kind_begun first)) rest
+      → IsPiece (first ∷ more) rest
 
 -- A text is these pieces, one after another, and then the rest.
 pub data Consists : List ℕ → List (List ℕ) → List ℕ → Type 0 where

@@ -1,22 +1,22 @@
 // The first pass over a text of goals: its bytes as tokens.
 ghost use Rattle.std.specs.Prelude.{◌≡◌, ◌+◌, ◌<◌, ◌≤◌, ◌^◌, ℕ, List, All, IfOk, IfErr, MatchOption, MatchResult, length, slice_index};
 ghost use Rattle.text_core.specs.Faults.{IsFirst, IsFaultBy, GivesUnlessMemory, RefusesUnlessMemory};
-ghost use Rattle.text_core.specs.Pieces.{sort_of};
-ghost use Rattle.text_core.specs.Lexing.{HasTokens, IsLexFault, IsToken, IsSkipped, IsFaulty};
+ghost use Rattle.text_core.specs.Pieces.{kind_begun};
+ghost use Rattle.text_core.specs.Lexing.{HasTokens, IsLexFault, IsToken, IsTokenOf, IsSkipped, IsFaulty};
 ghost use Rattle.text_core.specs.ReadTo.{IsReadTo};
-ghost use Rattle.text_core.specs.declared.pieces.Sort.TheVariants.{Atom};
+ghost use Rattle.text_core.specs.declared.pieces.PieceKind.TheVariants.{Atom};
 ghost use Rattle.text_core.specs.declared.tokens.Token.{Token};
 ghost use Rattle.text_core.specs.declared.faults.Kind.{Kind};
 
 use crate::numbers::number;
-use crate::pieces::{Sort, begun, piece_len};
+use crate::pieces::{PieceKind, begun, piece_len};
 use crate::{Fault, Kind, TextFault, Token, TokenKind};
 use std::alloc::Global;
 
 /// What token an atom is.
 fn atom(piece: &[u8]) -> Result<TokenKind, Kind>
     requires some { 0 < length piece.now }
-    requires atom { sort_of (slice_index piece.now 0) ≡ Atom }
+    requires atom { kind_begun (slice_index piece.now 0) ≡ Atom }
     ensures { MatchResult result (IsToken piece.now) (IsFaulty piece.now) }
 {
     if piece[0] == b'$' {
@@ -34,15 +34,17 @@ fn atom(piece: &[u8]) -> Result<TokenKind, Kind>
 /// What token a piece is, or none for white space and comments.
 fn token(piece: &[u8]) -> Result<Option<TokenKind>, Kind>
     requires { 0 < length piece.now }
-    ensures { MatchResult result (λ token. MatchOption token (IsSkipped piece.now) (IsToken piece.now)) (IsFaulty piece.now) }
+    ensures { MatchResult result
+        (λ token. MatchOption token (IsSkipped piece.now) (IsToken piece.now))
+        (IsFaulty piece.now) }
 {
     match begun(piece[0]) {
-        Sort::White => Ok(None),
-        Sort::Comment => Ok(None),
-        Sort::Opening => Ok(Some(TokenKind::Opening)),
-        Sort::Closing => Ok(Some(TokenKind::Closing)),
-        Sort::Atom => Ok(Some(atom(piece)?)),
-        Sort::Stray => Err(Kind::BadByte),
+        PieceKind::White => Ok(None),
+        PieceKind::Comment => Ok(None),
+        PieceKind::Opening => Ok(Some(TokenKind::Opening)),
+        PieceKind::Closing => Ok(Some(TokenKind::Closing)),
+        PieceKind::Atom => Ok(Some(atom(piece)?)),
+        PieceKind::Stray => Err(Kind::BadByte),
     }
 }
 
@@ -95,13 +97,18 @@ pub fn lex(alloc: Global, text: &[u8]) -> Result<Vec<Token>, TextFault>
 
     // What is read is in the grammar, and what is in it is read.
     ensures tokens { IfOk result (λ tokens. HasTokens text.now tokens.items) }
-    ensures read { (tokens : List Token) → HasTokens text.now tokens → GivesUnlessMemory (λ read. read.items ≡ tokens) result }
+    ensures read { (tokens : List Token) → HasTokens text.now tokens
+        → GivesUnlessMemory (λ read. read.items ≡ tokens) result }
 
+    // Each token is that of the bytes at its place.
     ensures within { IfOk result (λ tokens. All (λ t. t.place + t.len ≤ length text.now) tokens.items) }
+    ensures each { IfOk result (λ tokens. All (IsTokenOf text.now) tokens.items) }
+    ensures few { IfOk result (λ tokens. length tokens.items ≤ length text.now) }
 
     // A fault is the first one, and where there is one it is answered.
     ensures fault { IfErr result (IsFaultBy (IsFirst (IsLexFault text.now))) }
-    ensures refused { (place : ℕ) (kind : Kind) → IsFirst (IsLexFault text.now) place kind → RefusesUnlessMemory place kind result }
+    ensures refused { (place : ℕ) (kind : Kind) → IsFirst (IsLexFault text.now) place kind
+        → RefusesUnlessMemory place kind result }
 {
     tokens_of(alloc, text)
 }

@@ -1,5 +1,5 @@
 // The lines and the words of a text, by their numbers.
-ghost use Rattle.std.specs.Prelude.{◌≡◌, ◌<◌, ◌≤◌, length};
+ghost use Rattle.std.specs.Prelude.{◌≡◌, ◌<◌, ◌≤◌, ◌^◌, length};
 ghost use Rattle.text_core.specs.Lines.{IsWord, line_at, word_at, text_length};
 ghost use Rattle.text_core.specs.LineIndex.{IsIndex, lines_in};
 
@@ -43,7 +43,8 @@ impl<'a> TextLines<'a> {
 
     /// The number of lines.
     pub fn count(&self) -> u32
-        ensures { result ≡ length self.now }
+        ensures count { result ≡ length self.now }
+        ensures few { result < 2 ^ 29 }
     {
         self.firsts.len() as u32 - 1
     }
@@ -53,6 +54,7 @@ impl<'a> TextLines<'a> {
         requires { line ≤ length self.now }
         ensures line { line < length self.now → result ≡ (line_at self.now line).place }
         ensures end { line ≡ length self.now → result ≡ text_length self.now }
+        ensures small { result < 2 ^ 29 }
     {
         self.words[self.firsts[line as usize] as usize]
     }
@@ -62,6 +64,7 @@ impl<'a> TextLines<'a> {
         requires { line < length self.now }
         ensures count { result ≡ length (line_at self.now line).words }
         ensures some { 0 < result }
+        ensures few { result < 2 ^ 29 }
     {
         self.firsts[line as usize + 1] - self.firsts[line as usize]
     }
@@ -72,6 +75,7 @@ impl<'a> TextLines<'a> {
         requires at { at < length (line_at self.now line).words }
         ensures value { result.now ≡ word_at self.now line at }
         ensures word { IsWord result.now }
+        ensures small { length result.now < 2 ^ 29 }
     {
         let index = self.firsts[line as usize] as usize + at as usize;
         let start = self.words[index] as usize;

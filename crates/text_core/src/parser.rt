@@ -33,14 +33,16 @@ struct Parser {
 impl Parser {
     fn add(&mut self, tree: Sexp) -> Result<(), NoMemory>
         ensures outer { OnOk result (self.new.outer.items ≡ self.old.outer.items) }
-        ensures parts { OnOk result (map tree_of self.new.parts.items ≡ map tree_of self.old.parts.items ++ tree_of tree ∷ []) }
+        ensures parts { OnOk result (map tree_of self.new.parts.items
+            ≡ map tree_of self.old.parts.items ++ tree_of tree ∷ []) }
     {
         self.parts.push(tree)?;
         Ok(())
     }
 
     fn enter(&mut self, alloc: Global, place: u32) -> Result<(), NoMemory>
-        ensures outer { OnOk result (map frame_of self.new.outer.items ≡ map frame_of self.old.outer.items ++ (record { place = place; before = map tree_of self.old.parts.items }) ∷ []) }
+        ensures outer { OnOk result (map frame_of self.new.outer.items ≡ map frame_of self.old.outer.items
+            ++ (record { place = place; before = map tree_of self.old.parts.items }) ∷ []) }
         ensures parts { OnOk result (map tree_of self.new.parts.items ≡ []) }
     {
         let before = replace(&mut self.parts, Vec::new(alloc));
@@ -50,7 +52,8 @@ impl Parser {
 
     fn leave(&mut self, list: OpenList) -> Result<(), NoMemory>
         ensures outer { OnOk result (self.new.outer.items ≡ self.old.outer.items) }
-        ensures parts { OnOk result (map tree_of self.new.parts.items ≡ map tree_of list.before.items ++ tree.list list.place (all_of (map tree_of self.old.parts.items)) ∷ []) }
+        ensures parts { OnOk result (map tree_of self.new.parts.items ≡ map tree_of list.before.items
+            ++ tree.list list.place (all_of (map tree_of self.old.parts.items)) ∷ []) }
     {
         let OpenList { place, before } = list;
         let parts = replace(&mut self.parts, before);
@@ -109,7 +112,7 @@ fn fault_inside(tokens: &[Token], at: usize, outermost: u32) -> Fault
     requires within { at < length tokens.now }
     requires opening { IsOpeningAt tokens.now at }
     requires nested { peak (take at tokens.now) ≤ 64 }
-    requires inside { IsStillOpen tokens.now at outermost at 64 }
+    requires inside { IsStillOpen tokens.now at outermost at MOST_DEPTH }
     ensures { IsFirstTreeFault tokens.now result.place result.kind }
 {
     let mut depth = MOST_DEPTH;
@@ -155,11 +158,14 @@ pub fn tree(alloc: Global, tokens: &[Token]) -> Result<Vec<Sexp>, TextFault>
 
     // What is read is in the grammar, and what is in it is read.
     ensures trees { IfOk result (λ trees. HasTrees tokens.now (trees_of trees.items)) }
-    ensures read { (trees : Trees) → HasTrees tokens.now trees → GivesUnlessMemory (λ read. trees_of read.items ≡ trees) result }
+    ensures read { (trees : Trees) → HasTrees tokens.now trees
+        → GivesUnlessMemory (λ read. trees_of read.items ≡ trees) result }
+    ensures few { IfOk result (λ trees. length trees.items ≤ length tokens.now) }
 
     // A fault is the first one, and where there is one it is answered.
     ensures fault { IfErr result (IsFaultBy (IsFirstTreeFault tokens.now)) }
-    ensures refused { (place : ℕ) (kind : Kind) → IsFirstTreeFault tokens.now place kind → RefusesUnlessMemory place kind result }
+    ensures refused { (place : ℕ) (kind : Kind) → IsFirstTreeFault tokens.now place kind
+        → RefusesUnlessMemory place kind result }
 {
     forest(alloc, tokens)
 }

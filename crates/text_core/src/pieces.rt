@@ -1,11 +1,11 @@
 // The pieces of a text of goals: white space, comments, parentheses and atoms.
 ghost use Rattle.std.specs.Prelude.{◌≡◌, ◌<◌, ◌≤◌, length, drop, take, true};
 ghost use Rattle.std.specs.List.{list_all};
-ghost use Rattle.text_core.specs.Pieces.{sort_of, goes_on, is_word_byte, IsPiece, IsStopped};
+ghost use Rattle.text_core.specs.Pieces.{kind_begun, goes_on, is_word_byte, IsPiece, IsStopped};
 
 /// What a byte begins that stands in no comment and continues no atom.
 #[derive(Clone, Copy, Debug, PartialEq, Eq)]
-pub(crate) enum Sort {
+pub(crate) enum PieceKind {
     White,
     Comment,
     Opening,
@@ -20,44 +20,44 @@ fn is_word(byte: u8) -> bool
     byte.is_ascii_alphanumeric() || byte == b'_'
 }
 
-#[tactic(auto, unfolding(crate::specs::Pieces::sort_of))]
-pub(crate) fn begun(byte: u8) -> Sort
-    ensures { result ≡ sort_of byte }
+#[tactic(auto, unfolding(crate::specs::Pieces::kind_begun))]
+pub(crate) fn begun(byte: u8) -> PieceKind
+    ensures { result ≡ kind_begun byte }
 {
     match byte {
-        b' ' | b'\t' | b'\r' | b'\n' => Sort::White,
-        b';' => Sort::Comment,
-        b'(' => Sort::Opening,
-        b')' => Sort::Closing,
-        b'$' => Sort::Atom,
+        b' ' | b'\t' | b'\r' | b'\n' => PieceKind::White,
+        b';' => PieceKind::Comment,
+        b'(' => PieceKind::Opening,
+        b')' => PieceKind::Closing,
+        b'$' => PieceKind::Atom,
         _ => {
             if is_word(byte) {
-                Sort::Atom
+                PieceKind::Atom
             } else {
-                Sort::Stray
+                PieceKind::Stray
             }
         }
     }
 }
 
-fn continues(sort: Sort, byte: u8) -> bool
-    ensures { result ≡ goes_on sort byte }
+fn continues(kind: PieceKind, byte: u8) -> bool
+    ensures { result ≡ goes_on kind byte }
 {
-    match sort {
-        Sort::Comment => byte != b'\n',
-        Sort::Atom => is_word(byte),
+    match kind {
+        PieceKind::Comment => byte != b'\n',
+        PieceKind::Atom => is_word(byte),
         _ => false,
     }
 }
 
-/// How many bytes at the front of a text go on with a piece of the sort.
-fn run(text: &[u8], sort: Sort) -> usize
+/// How many bytes at the front of a text go on with a piece of the kind.
+fn run(text: &[u8], kind: PieceKind) -> usize
     ensures within { result ≤ length text.now }
-    ensures each { list_all (goes_on sort) (take result text.now) ≡ true }
-    ensures whole { IsStopped (goes_on sort) (drop result text.now) }
+    ensures each { list_all (goes_on kind) (take result text.now) ≡ true }
+    ensures whole { IsStopped (goes_on kind) (drop result text.now) }
 {
     for (index, byte) in text.iter().enumerate() {
-        if !continues(sort, *byte) {
+        if !continues(kind, *byte) {
             return index;
         }
     }

@@ -87,8 +87,10 @@ impl Splitter {
         requires small { length text.now < 2 ^ 29 }
         requires bytes { AreLineBytes text.now }
         requires within { at < length text.now }
-        requires split { IsSplitTo text.now at self.old.line self.old.start self.old.words.items self.old.firsts.items self.old.first }
-        ensures split { OnOk result (IsSplitTo text.now (at + 1) self.new.line self.new.start self.new.words.items self.new.firsts.items self.new.first) }
+        requires split { IsSplitTo text.now at
+            self.old.line self.old.start self.old.words.items self.old.firsts.items self.old.first }
+        ensures split { OnOk result (IsSplitTo text.now (at + 1)
+            self.new.line self.new.start self.new.words.items self.new.firsts.items self.new.first) }
         ensures fault { IfErr result (IsFaultBy (IsFirstLineFault text.now)) }
     {
         match text[at] {
@@ -114,7 +116,8 @@ impl Splitter {
     fn finish<'a>(mut self, text: &'a [u8]) -> Result<TextLines<'a>, TextFault>
         requires small { length text.now < 2 ^ 29 }
         requires bytes { AreLineBytes text.now }
-        requires split { IsSplitTo text.now (length text.now) self.line self.start self.words.items self.firsts.items self.first }
+        requires split { IsSplitTo text.now (length text.now)
+            self.line self.start self.words.items self.firsts.items self.first }
         ensures lines { IfOk result (λ lines. HasLines text.now lines) }
         ensures fault { IfErr result (IsFaultBy (IsFirstLineFault text.now)) }
     {
@@ -157,11 +160,13 @@ pub fn lines<'a>(alloc: Global, text: &'a [u8]) -> Result<TextLines<'a>, TextFau
 
     // What is read is in the grammar, and what is in it is read.
     ensures lines { IfOk result (λ lines. HasLines text.now lines) }
-    ensures read { (lines : List Line) → HasLines text.now lines → GivesUnlessMemory (λ read. read ≡ lines) result }
+    ensures read { (lines : List Line) → HasLines text.now lines
+        → GivesUnlessMemory (λ read. read ≡ lines) result }
 
     // A fault is the first one, and where there is one it is answered.
     ensures fault { IfErr result (IsFaultBy (IsFirstLineFault text.now)) }
-    ensures refused { (place : ℕ) (kind : Kind) → IsFirstLineFault text.now place kind → RefusesUnlessMemory place kind result }
+    ensures refused { (place : ℕ) (kind : Kind) → IsFirstLineFault text.now place kind
+        → RefusesUnlessMemory place kind result }
 {
     split(alloc, text)
 }

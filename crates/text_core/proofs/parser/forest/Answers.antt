@@ -1,9 +1,9 @@
 -- The tokens are read when no list is open in the end.
-use Rattle.std.proofs.Common.{ap, map, refl, arith}
+use Rattle.std.proofs.Common.{◌<◌, length, ap, map, arith}
 use Rattle.std.proofs.lemmas.Bool.Decides.{nat_tests}
 use Rattle.text_core.specs.Building.{frame_of}
 use Rattle.text_core.specs.Sexps.{tree_of}
-use Rattle.text_core.proofs.Steps.{first_of, empty_of, read_none, read_all, unclosed_fault}
+use Rattle.text_core.proofs.Steps.{empty_of, read_none, read_all, unclosed_list}
 use Rattle.text_core.proofs.parser.forest.Goals as goal
 
 pub loop-at-init : goal.loop-at-init
@@ -20,5 +20,5 @@ returns-then-is_empty-clause-trees c =
 pub returns-clause-fault : goal.returns-clause-fault
 returns-clause-fault c =
     let parser = c.loop-at.parser in
-    let first = first_of parser.outer.items c.index.result.now (grind (arith, nat_tests, parser.outer.ok.0, c.is_empty.ensures, c.if-is_empty.false)) c.index.ensures in
-    unclosed_fault (frame_of c.index.result.now) (map frame_of first.0) (map frame_of parser.outer.items) (map tree_of parser.parts.items) c.args.tokens.now c.loop-at.at c.index.result.now.place (ap (map frame_of) first.1) refl c.loop-at-test.false (record { built = c.loop-at.invariant.built; nested = c.loop-at.invariant.nested })
+    let some : 0 < length parser.outer.items = grind (arith, nat_tests, parser.outer.ok.0, c.is_empty.ensures, c.if-is_empty.false) in
+    unclosed_list parser.outer.items c.index.result.now (map tree_of parser.parts.items) c.args.tokens.now c.loop-at.at some c.index.ensures c.loop-at-test.false (record { built = c.loop-at.invariant.built; nested = c.loop-at.invariant.nested })

@@ -5,4 +5,4 @@ use Rattle.text_core.proofs.pieces.run.Given as goal
 
 -- The bytes so far go on with the piece.
 abbrev pub invariant-loop-index : goal.invariant-loop-index
-invariant-loop-index l = list_all (goes_on l.sort) (take l.index l.text) ≡ true
+invariant-loop-index l = list_all (goes_on l.kind) (take l.index l.text) ≡ true

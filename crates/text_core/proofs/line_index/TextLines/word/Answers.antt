@@ -28,28 +28,28 @@ overflow_sub-result c =
     let a = c.self.inside in
     let index = seen a.text.now _ c.args.self.now a.words.items a.firsts.items c.self.view_is c.self.invariant in
     let cut = word_cut _ _ _ _ c.args.line c.args.at c.index.result.now c.index-2.result.now c.index-3.result.now index c.requires.line c.requires.at c.index.ensures c.index-2.ensures c.index-3.ensures in
-    omega (arith, cut.1)
+    omega (arith, cut.1, cut.0.some)
 
 pub slice_bounds-result-count : goal.slice_bounds-result-count
 slice_bounds-result-count c =
     let a = c.self.inside in
     let index = seen a.text.now _ c.args.self.now a.words.items a.firsts.items c.self.view_is c.self.invariant in
     let cut = word_cut _ _ _ _ c.args.line c.args.at c.index.result.now c.index-2.result.now c.index-3.result.now index c.requires.line c.requires.at c.index.ensures c.index-2.ensures c.index-3.ensures in
-    omega (arith, cut.1)
+    omega (arith, cut.1, cut.0.some)
 
 pub slice_bounds-result-start : goal.slice_bounds-result-start
 slice_bounds-result-start c =
     let a = c.self.inside in
     let index = seen a.text.now _ c.args.self.now a.words.items a.firsts.items c.self.view_is c.self.invariant in
     let cut = word_cut _ _ _ _ c.args.line c.args.at c.index.result.now c.index-2.result.now c.index-3.result.now index c.requires.line c.requires.at c.index.ensures c.index-2.ensures c.index-3.ensures in
-    omega (arith, cut.1, cut.0.within)
+    omega (arith, cut.1, cut.0.some, cut.0.within)
 
 pub slice_bounds-result-end : goal.slice_bounds-result-end
 slice_bounds-result-end c =
     let a = c.self.inside in
     let index = seen a.text.now _ c.args.self.now a.words.items a.firsts.items c.self.view_is c.self.invariant in
     let cut = word_cut _ _ _ _ c.args.line c.args.at c.index.result.now c.index-2.result.now c.index-3.result.now index c.requires.line c.requires.at c.index.ensures c.index-2.ensures c.index-3.ensures in
-    omega (arith, cut.1, cut.0.within)
+    omega (arith, cut.1, cut.0.some, cut.0.within)
 
 pub returns-clause-value : goal.returns-clause-value
 returns-clause-value c =
