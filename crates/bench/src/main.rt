@@ -1,0 +1,44 @@
+//! Does the work of one layer once over standard input, and prints how much of it there was. It is there to be timed.
+//!
+//! The first word names the layer: `lex`, `tree` or `lines`.
+#![tactic(auto)]
+
+mod texts;
+
+use outside_io::{StdSource, read_all};
+use std::env::Args;
+use std::process::ExitCode;
+use std::{env, io};
+use texts::{Layer, count};
+
+/// How many bytes are read at most.
+const LIMIT: u32 = 1 << 28;
+
+fn main(rt: HostRuntime) -> ExitCode {
+    let done = match env::args(&rt) {
+        Ok(args) => measured(&rt, args).unwrap_or(false),
+        Err(_) => false,
+    };
+    ExitCode::from(if done { 0 } else { 1 })
+}
+
+/// Whether a layer was named, its input was read, and its count was printed.
+fn measured(rt: &HostRuntime, args: Args) -> io::Result<bool> {
+    let alloc = rt.alloc();
+    let words: Vec<String> = args.skip(1).collect(alloc).map_err(|_| no_memory())?;
+    let Some(layer) = words.first().and_then(|word| Layer::named(word.as_str())) else {
+        return Ok(false);
+    };
+    let Ok(text) = read_all(alloc, &mut StdSource::new(rt.stdin()), LIMIT) else {
+        return Ok(false);
+    };
+    match count(alloc, layer, &text) {
+        Some(count) => println!(rt; "{count}")?,
+        None => println!(rt; "fault")?,
+    }
+    Ok(true)
+}
+
+fn no_memory() -> io::Error {
+    io::Error::from(io::ErrorKind::OutOfMemory)
+}
