@@ -43,8 +43,7 @@ impl<'a> TextLines<'a> {
 
     /// The number of lines.
     pub fn count(&self) -> u32
-        ensures count { result ≡ length self.now }
-        ensures few { result < 2 ^ 29 }
+        ensures { result ≡ length self.now }
     {
         self.firsts.len() as u32 - 1
     }
