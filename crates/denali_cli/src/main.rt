@@ -2,6 +2,7 @@
 #![tactic(auto)]
 
 mod decide;
+mod laws;
 #[cfg(test)]
 mod tests;
 mod top;

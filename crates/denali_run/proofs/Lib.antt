@@ -10,3 +10,5 @@ pub mod OneLaunch
 pub mod OneWord
 pub mod OneRun
 pub mod Answered
+pub mod WellFormedTables
+pub mod OneGraph

@@ -27,6 +27,7 @@ use Rattle.denali_run.specs.declared.graphs.InputClass.{InputClass}
 use Rattle.denali_run.specs.declared.graphs.SetClass.{SetClass}
 use Rattle.denali_run.specs.declared.listings.Where.{Where}
 use Rattle.denali_run.specs.declared.graphs.LaunchGraph.{LaunchGraph}
+use Rattle.denali_run.proofs.OneGraph.{well_formed}
 use Rattle.denali_run.proofs.OneLaunch.{fits, nothing_fits, target_is_entry, input_one, input_two}
 use Rattle.denali_run.proofs.OneWord.{listing, obeys, targets_are, binary_is}
 
@@ -144,6 +145,7 @@ module _ (goal : Goal) (valid : IsGoal goal) (back : decoded (encoded (instr_of 
 
   pub right_answer : IsRightAnswer goal
   right_answer = record {
+    graph = well_formed goal valid;
     proper = proper;
     fits = fits goal valid;
     listing = listing goal valid;

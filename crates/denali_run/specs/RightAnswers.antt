@@ -8,6 +8,7 @@ use Rattle.alpha_machine.specs.Runs.{Runs}
 use Rattle.alpha_machine.specs.declared.running.End.TheVariants.{Fall}
 use Rattle.denali_run.specs.Tables.{ev6}
 use Rattle.denali_run.specs.Graphs.{IsProper}
+use Rattle.denali_run.specs.WellFormed.{IsLaunchGraph}
 use Rattle.denali_run.specs.Fits.{Fits}
 use Rattle.denali_run.specs.Listings.{IsListing}
 use Rattle.denali_run.specs.Obeys.{Obeys}
@@ -34,6 +35,7 @@ pub record Leaves (goal : Goal) (w : World) : Type 0 where
   pub two : slice_index state.registers goal.two.register ≡ slice_index w.registers goal.two.register
 
 pub record IsRightAnswer (goal : Goal) : Type 0 where
+  pub graph : IsLaunchGraph (graph_of goal)
   pub proper : IsProper (graph_of goal)
   -- the printed launch fits in one cycle, and the printed word and place are its own
   pub fits : Fits (graph_of goal) ev6 1 launches
