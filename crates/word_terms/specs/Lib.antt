@@ -1,0 +1,6 @@
+pub mod Signature
+pub mod Tree
+pub mod View
+pub mod Keys
+pub mod Small
+pub mod Laws
