@@ -1,8 +1,9 @@
 //! Does the work of one layer once over standard input, and prints how much of it there was. It is there to be timed.
 //!
-//! The first word names the layer: `lex`, `tree` or `lines`.
+//! The first word names the layer: `lex`, `tree`, `lines`, `read` or `check`.
 #![tactic(auto)]
 
+mod refutations;
 mod texts;
 
 use outside_io::{StdSource, read_all};

@@ -1,6 +1,7 @@
-// The layers of texts.
+// The layers, and what is counted of a text in each.
 ghost use Rattle.std.specs.Prelude.{◌≤◌, ◌^◌, length};
 
+use crate::refutations::{count_checked, count_read};
 use std::alloc::Global;
 use text_core::{lex, lines, tree};
 
@@ -13,6 +14,10 @@ pub(crate) enum Layer {
     Tree,
     /// Its lines.
     Lines,
+    /// Its lines as lines of a refutation.
+    Read,
+    /// The same, as a refutation of a chain of clauses.
+    Check,
 }
 
 impl Layer {
@@ -21,6 +26,8 @@ impl Layer {
             "lex" => Some(Layer::Lex),
             "tree" => Some(Layer::Tree),
             "lines" => Some(Layer::Lines),
+            "read" => Some(Layer::Read),
+            "check" => Some(Layer::Check),
             _ => None,
         }
     }
@@ -37,5 +44,7 @@ pub(crate) fn count(alloc: Global, layer: Layer, text: &[u8]) -> Option<usize>
             Some(tree(alloc, &tokens).ok()?.len())
         }
         Layer::Lines => Some(lines(alloc, text).ok()?.count() as usize),
+        Layer::Read => count_read(alloc, text),
+        Layer::Check => count_checked(alloc, text),
     }
 }
