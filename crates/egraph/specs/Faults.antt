@@ -1,0 +1,12 @@
+-- What the refusal of a merge says.
+use Rattle.std.specs.Prelude.{ℕ}
+use Rattle.word_terms.specs.Signature.{Signature}
+use Rattle.egraph.specs.Graph.{Graph}
+use Rattle.egraph.specs.Joined.{Clash}
+use Rattle.egraph.specs.declared.faults.MergeFault.{MergeFault}
+use Rattle.egraph.specs.declared.faults.MergeFault.TheVariants.{NoWorld, Memory}
+
+-- that the merge of a and b puts two constants into one class; that there is no memory says nothing of the graph
+abbrev pub FaultIs : {O : Type 0} → Signature O → Graph O → ℕ → ℕ → MergeFault → Type 0
+FaultIs s g a b (NoWorld class x y) = Clash s g a b class x y
+FaultIs s g a b Memory = Unit {0}

@@ -1,0 +1,5 @@
+pub mod Graph
+pub mod Joined
+pub mod Values
+pub mod Faults
+pub mod Steps

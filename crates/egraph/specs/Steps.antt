@@ -1,0 +1,19 @@
+-- What the steps of a merge do. No public clause rests on these.
+use Rattle.std.specs.Prelude.{◌≢◌, ℕ, List, slice_index_or, eqb, if◌then◌else◌}
+use Rattle.word_terms.specs.Signature.{Signature}
+use Rattle.egraph.specs.declared.rows.Row.{Row}
+use Rattle.egraph.specs.Graph.{Agree, HasConstant}
+
+-- `to` in place of `from`
+abbrev pub moved : ℕ → ℕ → ℕ → ℕ
+moved from to class = if eqb class from then to else class
+
+-- the rows at two places agree
+abbrev pub AgreesAt : {O : Type 0} → List (Row O) → ℕ → ℕ → Type 0
+AgreesAt {O} rows i j = (d : Row O) → Agree (slice_index_or rows i d) (slice_index_or rows j d)
+
+-- the class has two different constants
+pub record HasTwoConstants {O : Type 0} (s : Signature O) (rows : List (Row O)) (class x y : ℕ) : Type 0 where
+  pub first : HasConstant s rows class x
+  pub second : HasConstant s rows class y
+  pub differ : x ≢ y
