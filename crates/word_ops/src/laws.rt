@@ -1,6 +1,8 @@
 // Laws of the definitions, as contracts of functions that do nothing.
-ghost use Rattle.std.specs.Prelude.{◌≡◌, ◌≢◌, ◌<◌, ◌^◌, ℕ, List, All};
+ghost use Rattle.std.specs.Prelude.{◌≡◌, ◌≢◌, ◌<◌, ◌≤◌, ◌+◌, ◌-◌, ◌/◌, ◌%◌, ◌^◌, min, ℕ, List, All};
+ghost use Rattle.std.specs.Int.{bit_at};
 ghost use Rattle.word_ops.specs.Words.{IsWord};
+ghost use Rattle.word_ops.specs.Values as value;
 ghost use Rattle.word_ops.specs.Operators.{value_of};
 ghost use Rattle.word_ops.specs.Memory.{Memory, IsMemory, word_at, put_word};
 ghost use Rattle.word_ops.specs.Worlds.{Value, World, IsWorld, IsValue};
@@ -27,4 +29,16 @@ pub fn memories_hold_words()
         IsMemory (put_word m place v) }
     ensures equal { (m n : Memory) → IsMemory m → IsMemory n →
         ((place : ℕ) → word_at m place ≡ word_at n place) → m ≡ n }
+{}
+
+/// The bits of a shift, of a sign extended and of a mask of bytes; and a byte put into a word, by the byte operators.
+pub fn words_have_bits()
+    ensures shifted_left { (a b i : ℕ) → i < 64 → b % 64 ≤ i →
+        bit_at (value.sll a b) i ≡ bit_at a (i - b % 64) }
+    ensures shifted_right { (a b i : ℕ) → i < 64 → bit_at (value.sra a b) i ≡ bit_at a (min (i + b % 64) 63) }
+    ensures sign_extended { (sign a i : ℕ) → sign < 64 → i < 64 →
+        bit_at (value.sign_extended (sign + 1) a) i ≡ bit_at a (min i sign) }
+    ensures byte_mask { (mask i : ℕ) → i < 64 → bit_at (value.byte_mask mask) i ≡ bit_at mask (i / 8) }
+    ensures stored_byte { (x y z : ℕ) →
+        value.storeb x y z ≡ value.bis (value.msk_low 1 x y) (value.ins_low 1 z y) }
 {}

@@ -15,7 +15,7 @@ mod names;
 mod operators;
 mod sorts;
 
-pub use laws::{meanings_are_in_range, memories_hold_words};
+pub use laws::{meanings_are_in_range, memories_hold_words, words_have_bits};
 pub use memory::Mem;
 pub use names::{op_name, op_of};
 pub use operators::{OPERATORS, WordOp, apply, arity};

@@ -1,0 +1,10 @@
+pub mod Arithmetic
+pub mod Logic
+pub mod Shifts
+pub mod Bytes
+pub mod Storage
+pub mod Rows
+pub mod Variables
+pub mod Truth
+pub mod Built
+pub mod Sides

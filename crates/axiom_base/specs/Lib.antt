@@ -1,0 +1,4 @@
+pub mod Codes
+pub mod Sorting
+pub mod Rewrites
+pub mod Equations

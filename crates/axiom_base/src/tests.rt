@@ -1,0 +1,244 @@
+// Each equation at words and memories: both sides worked out operator by operator.
+use crate::{Rule, equations, equations_are_true};
+use items::NoMemory;
+use std::alloc::Global;
+use std::test::Fail;
+use word_ops::{Mem, Op, Sort, WordOp, apply, arity};
+use word_terms::{Term, same};
+
+#[derive(Drop)]
+enum Value {
+    Word(u64),
+    Memory(Mem),
+}
+
+fn copied(value: &Value) -> Result<Value, NoMemory> {
+    match value {
+        Value::Word(word) => Ok(Value::Word(*word)),
+        Value::Memory(memory) => Ok(Value::Memory(memory.copy()?)),
+    }
+}
+
+// The word at a place of the list, or 0.
+fn word_at(values: &[Value], at: usize) -> u64 {
+    match values.get(at) {
+        Some(Value::Word(word)) => *word,
+        _ => 0,
+    }
+}
+
+// A copy of the memory that stands first, or an empty one.
+fn first_memory(alloc: Global, values: &[Value]) -> Result<Mem, NoMemory> {
+    match values.first() {
+        Some(Value::Memory(memory)) => memory.copy(),
+        _ => Ok(Mem::new(alloc)),
+    }
+}
+
+fn word_value(op: WordOp, values: &[Value]) -> u64 {
+    let words = [word_at(values, 0), word_at(values, 1), word_at(values, 2)];
+    let count = arity(op);
+    if count <= 3 {
+        apply(op, &words[..count])
+    } else {
+        0
+    }
+}
+
+fn displaced(values: &[Value]) -> u64 {
+    apply(WordOp::Lda, &[word_at(values, 1), word_at(values, 2)])
+}
+
+fn read(alloc: Global, values: &[Value], address: u64) -> Result<Value, NoMemory> {
+    Ok(Value::Word(first_memory(alloc, values)?.get(address / 8)))
+}
+
+fn written(alloc: Global, values: &[Value], address: u64, word: u64) -> Result<Value, NoMemory> {
+    let mut memory = first_memory(alloc, values)?;
+    memory.set(address / 8, word)?;
+    Ok(Value::Memory(memory))
+}
+
+fn applied(alloc: Global, op: Op, values: &[Value]) -> Result<Value, NoMemory> {
+    match op {
+        Op::Constant(word) => Ok(Value::Word(word)),
+        Op::Word(op) => Ok(Value::Word(word_value(op, values))),
+        Op::Select => read(alloc, values, word_at(values, 1)),
+        Op::Load => read(alloc, values, displaced(values)),
+        Op::Store => written(alloc, values, word_at(values, 1), word_at(values, 2)),
+        Op::Put => written(alloc, values, displaced(values), word_at(values, 3)),
+        _ => Ok(Value::Word(0)),
+    }
+}
+
+fn worked_out(alloc: Global, term: &Term<Op>, values: &[Value]) -> Result<Value, NoMemory> {
+    match term {
+        Term::Var(n) => match values.get(*n as usize) {
+            Some(found) => copied(found),
+            None => Ok(Value::Word(0)),
+        },
+        Term::App(op, operands) => {
+            let mut found = Vec::new(alloc);
+            for operand in operands {
+                found.push(worked_out(alloc, operand, values)?)?;
+            }
+            applied(alloc, *op, &found)
+        }
+    }
+}
+
+fn equal(a: &Value, b: &Value) -> Result<bool, NoMemory> {
+    match (a, b) {
+        (Value::Word(x), Value::Word(y)) => Ok(*x == *y),
+        (Value::Memory(m), Value::Memory(n)) => Ok(m.entries()? == n.entries()?),
+        _ => Ok(false),
+    }
+}
+
+const EDGES: [u64; 12] = [
+    0,
+    1,
+    0x8000000000000000,
+    0xffffffffffffffff,
+    0xff,
+    7,
+    8,
+    0x7fffffffffffffff,
+    0x8877665544332211,
+    0xffff8000,
+    64,
+    0x8080,
+];
+
+// A word of a world, by number: edges in the first worlds, scattered ones in the others.
+fn word_of_world(world: u64, number: u64) -> u64 {
+    let mixed = world.wrapping_mul(5).wrapping_add(number.wrapping_mul(3));
+    if world < 12 {
+        EDGES[(mixed % 12) as usize]
+    } else {
+        let step = mixed.wrapping_mul(6364136223846793005);
+        step.wrapping_add(1442695040888963407)
+            .rotate_left(29)
+            .wrapping_mul(0x9e3779b97f4a7c15)
+    }
+}
+
+fn values_of_world(alloc: Global, sorts: &[Sort], world: u64) -> Result<Vec<Value>, NoMemory> {
+    let mut values = Vec::new(alloc);
+    let mut number = 0u64;
+    for sort in sorts {
+        number = number.wrapping_add(1);
+        let word = word_of_world(world, number);
+        if *sort == Sort::Word {
+            values.push(Value::Word(word))?;
+        } else {
+            let mut memory = Mem::new(alloc);
+            memory.set(word_of_world(world, 2) / 8, word)?;
+            memory.set(world % 64, 255)?;
+            values.push(Value::Memory(memory))?;
+        }
+    }
+    Ok(values)
+}
+
+// In how many of 20 worlds both sides have one value.
+fn worlds_that_agree(alloc: Global, rule: &Rule) -> Result<u32, NoMemory> {
+    let mut agree = 0u32;
+    for world in 0..20u64 {
+        let values = values_of_world(alloc, rule.variables(), world)?;
+        let left = worked_out(alloc, rule.left(), &values)?;
+        let right = worked_out(alloc, rule.right(), &values)?;
+        if equal(&left, &right)? {
+            agree = agree.wrapping_add(1);
+        }
+    }
+    Ok(agree)
+}
+
+#[test]
+fn both_sides_have_one_value(rt: HostRuntime) -> Result<(), Fail> {
+    let alloc = rt.alloc();
+    let rules = equations(alloc)?;
+    assert_eq!(rt; rules.len(), 48);
+    for (at, rule) in rules.as_slice().iter().enumerate() {
+        let agree = worlds_that_agree(alloc, rule)?;
+        assert_eq!(rt; agree, 20, "row {at}");
+    }
+    equations_are_true();
+    Ok(())
+}
+
+fn applied_to(alloc: Global, op: Op, numbers: &[u32]) -> Result<Term<Op>, NoMemory> {
+    let mut operands = Vec::new(alloc);
+    for number in numbers {
+        operands.push(Term::Var(*number))?;
+    }
+    Ok(Term::App(op, operands))
+}
+
+#[test]
+fn first_and_last_rows_stand_as_written(rt: HostRuntime) -> Result<(), Fail> {
+    let alloc = rt.alloc();
+    let rules = equations(alloc)?;
+    let first = rules.as_slice().first().expect(&rt, "a first row");
+    let addq = Op::Word(WordOp::Addq);
+    assert!(rt; same(first.left(), &applied_to(alloc, addq, &[0, 1])?));
+    assert!(rt; same(first.right(), &applied_to(alloc, addq, &[1, 0])?));
+    assert_eq!(rt; first.variables(), [Sort::Word, Sort::Word].as_slice());
+    let last = rules.as_slice().last().expect(&rt, "a last row");
+    assert!(rt; same(last.right(), &applied_to(alloc, Op::Put, &[0, 1, 2, 3])?));
+    assert_eq!(rt; last.variables().len(), 4);
+    Ok(())
+}
+
+fn makes(alloc: Global, left: Term<Op>, right: Term<Op>) -> Result<bool, NoMemory> {
+    Ok(Rule::new(alloc, left, right)?.is_some())
+}
+
+#[test]
+fn two_sides_make_a_rule_or_none(rt: HostRuntime) -> Result<(), Fail> {
+    let alloc = rt.alloc();
+    let addq = Op::Word(WordOp::Addq);
+    let sum = applied_to(alloc, addq, &[1, 0])?;
+    let made = Rule::new(alloc, sum.copy(alloc)?, Term::Var(0))?.expect(&rt, "a rule");
+    assert!(rt; same(made.left(), &sum) && same(made.right(), &Term::Var(0)));
+    assert_eq!(rt; made.variables(), [Sort::Word, Sort::Word].as_slice());
+    let store = applied_to(alloc, Op::Store, &[2, 0, 1])?;
+    assert!(rt;
+        makes(alloc, store.copy(alloc)?, Term::Var(2))?,
+        "the memory comes last"
+    );
+    assert!(rt;
+        makes(
+            alloc,
+            sum.copy(alloc)?,
+            applied_to(alloc, Op::Constant(7), &[])?
+        )?
+    );
+    assert!(rt;
+        !makes(alloc, Term::Var(0), sum.copy(alloc)?)?,
+        "a variable on the left"
+    );
+    assert!(rt;
+        !makes(alloc, sum.copy(alloc)?, Term::Var(2))?,
+        "a new variable on the right"
+    );
+    assert!(rt;
+        !makes(alloc, store.copy(alloc)?, Term::Var(0))?,
+        "two sorts"
+    );
+    assert!(rt;
+        !makes(alloc, applied_to(alloc, addq, &[0, 2])?, Term::Var(0))?,
+        "a gap"
+    );
+    assert!(rt;
+        !makes(alloc, applied_to(alloc, addq, &[0])?, Term::Var(0))?,
+        "one operand"
+    );
+    let both = applied_to(alloc, Op::Select, &[0, 0])?;
+    assert!(rt;
+        !makes(alloc, both, Term::Var(0))?,
+        "a word that is a memory"
+    );
+    Ok(())
+}
