@@ -1,0 +1,14 @@
+pub mod Advancing
+pub mod Agreeing
+pub mod Bound
+pub mod Ending
+pub mod Holding
+pub mod Leading
+pub mod Looking
+pub mod Marking
+pub mod Picking
+pub mod Rounds
+pub mod Searching
+pub mod Settling
+pub mod States
+pub mod Walking

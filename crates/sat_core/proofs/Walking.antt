@@ -1,0 +1,266 @@
+-- The walk back along the trail: a step that isn't needed, that is kept, that is resolved.
+use Rattle.std.proofs.Common.{◌≡◌, ◌≢◌, ℕ, ◌+◌, ◌-◌, ◌<◌, ◌≤◌, ◌⊎◌, Bool, true, false, not, List, [], ◌∷◌, ◌++◌, length, take, set, get_or, refl, sym, ap, ◌∙◌, subst, arith, inl, inr, Option, Some, None}
+use Rattle.std.specs.Prelude.{is_none, nat_le, ◌&&◌}
+use Rattle.std.specs.List.{All, AllPairs}
+use Rattle.std.proofs.lemmas.Bool.{cases_Bool, cases_eq, cases_lt, cond-true, cond-false, false≢true}
+use Rattle.std.proofs.lemmas.List.{length-set, get_or-take, length-take, get_or_default}
+use Rattle.std.proofs.lemmas.List.Elements.{All-nil, All-push, All-weaker, Contains-append_left}
+use Rattle.std.proofs.lemmas.List.Quantifiers.{all_pairs_push}
+use Rattle.cnf_core.specs.declared.literal.Lit.{Lit}
+use Rattle.cnf_core.specs.Formula.{IsLitOf, AreOver, negated}
+use Rattle.cnf_core.specs.Values.{Partial, IsFalse, IsOpenClause}
+use Rattle.cnf_core.specs.Refutation.{clause_at}
+use Rattle.sat_core.specs.declared.trail.Step.{Step}
+use Rattle.sat_core.specs.declared.conflict.Analysis.{Analysis}
+use Rattle.sat_core.specs.Steps.{held, IsReason, AreSteps}
+use Rattle.sat_core.specs.Conflicts.{Apart, AreNames}
+use Rattle.sat_core.specs.Walks.{place_of, IsStepOf, is_marked, late_count, AreClear, IsLastDecision, IsFirstDecision, IsKeptAt, Keeps, Resolves, IsAsserting, IsWalked, Stays, stay_of}
+use Rattle.sat_core.proofs.Holding.{held-at, step-of, free-before}
+use Rattle.sat_core.proofs.States.{clause-exists}
+use Rattle.sat_core.proofs.Leading.{others-later}
+use Rattle.sat_core.proofs.Marking.{late_early, late_unmarked, late-clear, late-some, late-one, clear-unmarked}
+
+free-weaker : (steps : List Step) (i : ℕ) (lits : List Lit) → All (λ (l : Lit). held (take (i + 1) steps) l.var ≡ None) lits → All (λ (l : Lit). held (take i steps) l.var ≡ None) lits
+free-weaker steps i lits free =
+    All-weaker (λ (l : Lit). held (take (i + 1) steps) l.var ≡ None) (λ (l : Lit). held (take i steps) l.var ≡ None)
+    (λ l none. free-before steps i (i + 1) l.var (omega arith) none) lits free
+
+-- **a step that isn't needed**
+pub walked-skip : (clauses : List (List Lit)) (n : ℕ) (steps : List Step) (i : ℕ) (a : Analysis) → IsWalked clauses n steps (i + 1) a → is_marked a.needed.items i ≡ false → IsWalked clauses n steps i a
+walked-skip clauses n steps i a h unmarked =
+    record {
+      size = h.size;
+      clear = λ k low. elim (cases_eq k i) [
+        | inl same ↦ ap (is_marked a.needed.items) same ∙ unmarked
+        | inr other ↦ h.clear k (omega arith)
+      ];
+      count = h.count;
+      exist = h.exist;
+      free = free-weaker steps i a.lits.items h.free;
+      differ = h.differ;
+      names = h.names;
+      many = h.many;
+      one = h.one;
+      root = h.root;
+    }
+
+not-not : (b : Bool) → not (not b) ≡ b
+not-not true = refl
+not-not false = refl
+
+-- where nothing from i on is marked, nothing of a last level from i on is
+clear-late : (i last : ℕ) (needed : List Bool) → i ≤ last → AreClear i needed → AreClear last needed
+clear-late i last needed low clear k above = clear k (omega arith)
+
+-- no step of the last level but this one was needed
+kept-late : (clauses : List (List Lit)) (n : ℕ) (steps : List Step) (i first : ℕ) (d : Step) (a b : Analysis)
+    → IsLastDecision steps a.last → i < length steps → IsWalked clauses n steps (i + 1) a → is_marked a.needed.items i ≡ true
+    → ((get_or steps i d).reason ≡ None) ⊎ IsKeptAt first a.last a.late i → Keeps i (get_or steps i d).lit a b → b.late ≡ 0
+kept-late clauses n steps i first d a b last few h marked why k =
+    let size = h.size in
+    let needed = a.needed.items in
+    let now : b.late ≡ late_count a.last (set needed i false) =
+    k.late ∙ ap (λ (m : ℕ). late_count m b.needed.items) k.last ∙ ap (late_count a.last) k.needed in
+    elim (cases_lt i a.last) [
+      | inl early ↦
+          (let e = late_early a.last i needed false early in
+          let none = late-clear a.last needed (clear-late (i + 1) a.last needed (omega arith) h.clear) in
+          now ∙ e ∙ none)
+      | inr low ↦
+          (let e = late_unmarked a.last i needed (omega arith) low marked in
+          let count = h.count in
+          let is-one : late_count a.last needed ≡ 1 = elim why [
+            | inl decides ↦
+                (let at : i ≡ a.last = elim (cases_eq i a.last) [
+                  | inl same ↦ same
+                  | inr other ↦ absurd (last.after i d (omega arith) few decides)
+                ] in
+                late-one a.last needed (omega arith) (subst (λ (j : ℕ). is_marked needed j ≡ true) at marked) (subst (λ (j : ℕ). AreClear (j + 1) needed) at h.clear))
+            | inr kept ↦ elim kept [
+              | inl alone ↦ sym count ∙ alone.1
+              | inr earlier ↦ (let below = earlier.0 in absurd (omega arith))
+            ]
+          ] in
+          omega arith)
+    ]
+
+-- **a step that is kept**
+pub walked-keep : (clauses : List (List Lit)) (n : ℕ) (steps : List Step) (values : List (Option Bool)) (places : List ℕ) (i first : ℕ) (d : Step) (a b : Analysis)
+    → AreSteps clauses n steps values places → IsFirstDecision steps first → IsLastDecision steps a.last → i < length steps
+    → IsWalked clauses n steps (i + 1) a → is_marked a.needed.items i ≡ true → ((get_or steps i d).reason ≡ None) ⊎ IsKeptAt first a.last a.late i
+    → Keeps i (get_or steps i d).lit a b → IsWalked clauses n steps i b
+walked-keep clauses n steps values places i first d a b s is-first last few h marked why k =
+    let l = (get_or steps i d).lit in
+    let size = h.size in
+    let zero' = kept-late clauses n steps i first d a b last few h marked why k in
+    let at = s.exist i d few in
+    let free-i : held (take i steps) l.var ≡ None = (s.trail i d few).free in
+    record {
+      size = ap length k.needed ∙ length-set a.needed.items i false ∙ size;
+      clear = subst (AreClear i) (sym k.needed) (clear-unmarked i a.needed.items (omega arith) h.clear);
+      count = k.late;
+      exist = subst (All (IsLitOf n)) (sym k.lits) (All-push (IsLitOf n) a.lits.items (negated l) h.exist (record { above = at.above; within = at.within }));
+      free = subst (All (λ (m : Lit). held (take i steps) m.var ≡ None)) (sym k.lits)
+          (All-push (λ (m : Lit). held (take i steps) m.var ≡ None) a.lits.items (negated l) (free-weaker steps i a.lits.items h.free) free-i);
+      differ = subst (AllPairs Apart) (sym k.lits) (all_pairs_push Apart a.lits.items (negated l) h.differ (others-later clauses steps i d a.lits.items s.trail few h.free));
+      names = subst (AreNames clauses) (sym k.hints) h.names;
+      many = λ some in-level. absurd (omega arith);
+      one = λ none in-level'.
+          (let in-level : a.last < length steps = (let e = k.last in omega arith) in
+          let asserts : IsAsserting (held (take a.last steps)) b.lits.items = elim (cases_lt i a.last) [
+            | inl early ↦
+                (let count = h.count in
+                let none' = late-clear a.last a.needed.items (clear-late (i + 1) a.last a.needed.items (omega arith) h.clear) in
+                let before = h.one (omega arith) in-level in
+                record {
+                  first = before.first;
+                  rest = before.rest ++ negated l ∷ [];
+                  is = k.lits ∙ ap (λ (ls : List Lit). ls ++ negated l ∷ []) before.is;
+                  free = before.free;
+                  false' = All-push (IsFalse (held (take a.last steps))) before.rest (negated l) before.false'
+                      (held-at clauses steps a.last i d s.trail early few ∙ ap (λ (p : Bool). Some p) (sym (not-not l.positive)));
+                })
+            | inr low ↦
+                (let count = h.count in
+                let some = late-some a.last i a.needed.items (omega arith) low marked in
+                record {
+                  first = negated l;
+                  rest = [];
+                  is = k.lits ∙ ap (λ (ls : List Lit). ls ++ negated l ∷ []) (h.many (omega arith) in-level);
+                  free = free-before steps a.last i l.var low free-i;
+                  false' = All-nil (IsFalse (held (take a.last steps)));
+                })
+          ] in
+          subst (λ (m : ℕ). IsAsserting (held (take m steps)) b.lits.items) (sym k.last) asserts);
+      root = λ forced. absurd (elim why [
+        | inl decides ↦ forced i d few decides
+        | inr kept ↦ elim kept [
+          | inl alone ↦ (let low = alone.0 in forced a.last d (omega arith) (last.decides d (omega arith)))
+          | inr earlier ↦ (let low = earlier.1 in forced first d (omega arith) (is-first d (omega arith)))
+        ]
+      ]);
+    }
+
+-- the steps of a reason's literals are before the step or the step itself
+pub reason-steps : (clauses : List (List Lit)) (n : ℕ) (steps : List Step) (values : List (Option Bool)) (places : List ℕ) (i id : ℕ) (d : Step)
+    → AreSteps clauses n steps values places → AreOver n clauses → i < length steps → IsReason (held (take i steps)) clauses id (get_or steps i d).lit
+    → All (IsStepOf places (i + 1)) (clause_at clauses id)
+reason-steps clauses n steps values places i id d s over few reason k e few' =
+    let c = clause_at clauses id in
+    let m = get_or c k e in
+    let at = clause-exists clauses n id over reason.low reason.high k e few' in
+    let high = at.within in
+    let slots = s.slots in
+    let before : place_of places m < i + 1 = elim (reason.unit.others k e few') [
+      | inl same ↦ (let p = ap (place_of places) same ∙ s.placed i d few in omega arith)
+      | inr false' ↦
+          (let (j, few-j, is) = step-of (take i steps) m.var (not m.positive) false' in
+          let size = length-take i steps in
+          let below : j < i = omega arith in
+          let var : (get_or steps j d).lit.var ≡ m.var = ap (λ (x : Step). x.lit.var) (sym (get_or-take i steps j d below)) ∙ (is d).0 in
+          let p = ap (λ (x : ℕ). get_or places (x - 1) 0) (sym var) ∙ s.placed j d (omega arith) in
+          omega arith)
+    ] in
+    record { above = at.above; within = omega arith; before = before }
+
+-- **a step that is resolved**
+pub walked-resolve : (clauses : List (List Lit)) (n : ℕ) (steps : List Step) (values : List (Option Bool)) (places : List ℕ) (i id : ℕ) (d : Step) (a b : Analysis)
+    → AreSteps clauses n steps values places → AreOver n clauses → i < length steps → IsWalked clauses n steps (i + 1) a → is_marked a.needed.items i ≡ true
+    → IsReason (held (take i steps)) clauses id (get_or steps i d).lit → (a.last ≤ i → a.late ≢ 1) → Resolves clauses places id i a b → IsWalked clauses n steps i b
+walked-resolve clauses n steps values places i id d a b s over few h marked reason more r =
+    let size = h.size in
+    let mid-size = r.needs.size in
+    let count = h.count in
+    let added = r.needs.count in
+    let mid-clear : AreClear (i + 1) r.mid = r.needs.only (i + 1) (reason-steps clauses n steps values places i id d s over few reason) h.clear in
+    let now : b.late ≡ late_count a.last (set r.mid i false) = r.late ∙ ap (λ (m : ℕ). late_count m b.needed.items) r.last ∙ ap (late_count a.last) r.needed in
+    record {
+      size = ap length r.needed ∙ length-set r.mid i false ∙ mid-size ∙ size;
+      clear = subst (AreClear i) (sym r.needed) (clear-unmarked i r.mid (omega arith) mid-clear);
+      count = r.late;
+      exist = subst (All (IsLitOf n)) (sym r.lits) h.exist;
+      free = subst (All (λ (m : Lit). held (take i steps) m.var ≡ None)) (sym r.lits) (free-weaker steps i a.lits.items h.free);
+      differ = subst (AllPairs Apart) (sym r.lits) h.differ;
+      names = subst (AreNames clauses) (sym r.hints) (All-push (λ x. (1 ≤ x) × (x ≤ length clauses)) a.hints.items id h.names (reason.low, reason.high));
+      many = λ some in-level'.
+          (let in-level : a.last < length steps = (let e = r.last in omega arith) in
+          elim (cases_lt i a.last) [
+            | inl early ↦
+                (let e = late_early a.last i r.mid false early in
+                let none = late-clear a.last r.mid (clear-late (i + 1) a.last r.mid (omega arith) mid-clear) in
+                absurd (omega arith))
+            | inr low ↦
+                (let some' = late-some a.last i a.needed.items (omega arith) low marked in
+                r.lits ∙ h.many (omega arith) in-level)
+          ]);
+      one = λ none in-level'.
+          (let in-level : a.last < length steps = (let e = r.last in omega arith) in
+          let asserts : IsAsserting (held (take a.last steps)) b.lits.items = elim (cases_lt i a.last) [
+            | inl early ↦
+                (let none' = late-clear a.last a.needed.items (clear-late (i + 1) a.last a.needed.items (omega arith) h.clear) in
+                subst (IsAsserting (held (take a.last steps))) (sym r.lits) (h.one (omega arith) in-level))
+            | inr low ↦
+                (let some' = late-some a.last i a.needed.items (omega arith) low marked in
+                let e = late_unmarked a.last i r.mid (omega arith) low (r.needs.keeps i marked) in
+                let ne = more low in
+                absurd (omega arith))
+          ] in
+          subst (λ (m : ℕ). IsAsserting (held (take m steps)) b.lits.items) (sym r.last) asserts);
+      root = λ forced. r.lits ∙ h.root forced;
+    }
+
+-- a clause that is open stays so with literals more
+open-append : (s : Partial) (c more : List Lit) → IsOpenClause s c → IsOpenClause s (c ++ more)
+open-append s c more o =
+    elim o [
+      | inl one ↦ (let (l, there, h) = one in inl (l, Contains-append_left c more l there, h))
+      | inr two ↦ (let (l, m, in-l, in-m, differ, free-l, free-m) = two in inr (l, m, Contains-append_left c more l in-l, Contains-append_left c more m in-m, differ, free-l, free-m))
+    ]
+
+-- two literals of different free variables
+open-two : (s : Partial) (c : List Lit) → 2 ≤ length c → AllPairs Apart c → All (λ (l : Lit). s l.var ≡ None) c → IsOpenClause s c
+open-two s c few differ free =
+    let d : Lit = record { var = 0; positive = false } in
+    let l = get_or c 0 d in
+    let m = get_or c 1 d in
+    inr (
+      l,
+      m,
+      (0, (omega arith), get_or_default c 0 l d (omega arith)),
+      (1, (omega arith), get_or_default c 1 m d (omega arith)),
+      (λ same. differ 0 1 d (omega arith) (omega arith) (ap (λ (x : Lit). x.var) same)),
+      free 0 d (omega arith),
+      free 1 d (omega arith),
+    )
+
+not-le : (n : ℕ) → nat_le n 1 ≡ false → 2 ≤ n
+not-le n e = grind arith
+
+-- **before each decision that stays, from this step on, the lemma is open**
+pub stays-more : (clauses : List (List Lit)) (n : ℕ) (steps : List Step) (i : ℕ) (d : Step) (stay stay' : ℕ) (lits lits' more : List Lit) (b : Analysis)
+    → IsWalked clauses n steps i b → b.lits.items ≡ lits' → lits' ≡ lits ++ more → i < length steps → stay' ≡ stay_of (get_or steps i d) (length lits') i stay
+    → Stays steps (i + 1) stay lits → Stays steps i stay' lits'
+stays-more clauses n steps i d stay stay' lits lits' more b h is-b is few is-stay before k e low below few' decides =
+    let step = get_or steps i d in
+    let test = is_none step.reason && nat_le (length lits') 1 in
+    elim (cases_Bool test) [
+      | inl aims ↦ (let at : stay' ≡ i = is-stay ∙ cond-true test i stay aims in absurd (omega arith))
+      | inr stays ↦
+          (let at : stay' ≡ stay = is-stay ∙ cond-false test i stay stays in
+          elim (cases_eq k i) [
+            | inl same ↦
+                (let here : step.reason ≡ None = ap (λ (x : Step). x.reason) (get_or_default steps i d e few) ∙ ap (λ (j : ℕ). (get_or steps j e).reason) (sym same) ∙ decides in
+                let long : nat_le (length lits') 1 ≡ false = and-right (is_none step.reason) (nat_le (length lits') 1) (ap is_none here) stays in
+                let free = subst (All (λ (l : Lit). held (take i steps) l.var ≡ None)) is-b h.free in
+                let differ = subst (AllPairs Apart) is-b h.differ in
+                subst (λ (j : ℕ). IsOpenClause (held (take j steps)) lits') (sym same)
+                (open-two (held (take i steps)) lits' (not-le (length lits') long) differ free))
+            | inr other ↦
+                subst (IsOpenClause (held (take k steps))) (sym is)
+                (open-append (held (take k steps)) lits more (before k e (omega arith) (omega arith) few' decides))
+          ])
+    ]
+  where
+    and-right : (p q : Bool) → p ≡ true → (p && q) ≡ false → q ≡ false
+    and-right true q e f = f
+    and-right false q e f = absurd (false≢true e)

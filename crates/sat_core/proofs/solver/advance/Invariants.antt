@@ -1,0 +1,13 @@
+use Rattle.std.proofs.Common.{◌≡◌, ◌-◌, length}
+use Rattle.sat_core.specs.Steps.{IsState, AreClosedBefore, vars_of}
+use Rattle.sat_core.proofs.solver.advance.Given as goal
+
+abbrev pub invariant-loop-id : goal.invariant-loop-id
+invariant-loop-id g l = record {
+  state : IsState l.clauses (vars_of l.initial.trail) l.trail;
+  before : AreClosedBefore l.clauses l.trail.steps.items;
+  size : vars_of l.trail ≡ vars_of l.initial.trail;
+}
+
+abbrev pub decreases-loop-id : goal.decreases-loop-id
+decreases-loop-id g l = vars_of l.trail - length l.trail.steps.items

@@ -1,0 +1,63 @@
+-- The literals that the search made true, in order, each by decision or by a clause that is unit for it: the field's trail.
+-- This project's own form; no public clause cites it.
+use Rattle.std.specs.Prelude.{◌≡◌, ◌≢◌, ℕ, ◌+◌, ◌-◌, ◌<◌, ◌≤◌, List, ◌++◌, map, length, take, Option, Some, None, Bool, is_none, slice_index}
+use Rattle.std.specs.List.{slice_index_or, All, count_by}
+use Rattle.cnf_core.specs.declared.literal.Lit.{Lit}
+use Rattle.cnf_core.specs.Formula.{IsLitOf}
+use Rattle.cnf_core.specs.Values.{Partial, value_in, IsFree, IsUnit, IsClosed}
+use Rattle.cnf_core.specs.Refutation.{clause_at}
+use Rattle.sat_core.specs.declared.trail.Step.{Step}
+use Rattle.sat_core.specs.declared.trail.Trail.{Trail}
+
+-- the value of each variable, that of x at the place x - 1
+unfoldable pub given : List (Option Bool) → Partial
+given values x = slice_index_or values (x - 1) None
+
+-- the literals that the steps made true
+abbrev pub lits_of : List Step → List Lit
+lits_of steps = map (λ (s : Step). s.lit) steps
+
+-- the values that the steps gave
+abbrev pub held : List Step → Partial
+held steps = value_in (lits_of steps)
+
+-- the clause with this id is unit for the literal
+pub record IsReason (s : Partial) (clauses : List (List Lit)) (id : ℕ) (l : Lit) : Type 0 where
+  pub low : 1 ≤ id
+  pub high : id ≤ length clauses
+  pub unit : IsUnit s (clause_at clauses id) l
+
+-- a step makes a free literal true, by decision or by a clause that is unit for it under the steps before it
+pub record IsRightStep (clauses : List (List Lit)) (before : List Step) (step : Step) : Type 0 where
+  pub free : IsFree (held before) step.lit
+  pub forced : (id : ℕ) → step.reason ≡ Some id → IsReason (held before) clauses id step.lit
+
+-- the steps are right, one after another
+abbrev pub IsTrail : List (List Lit) → List Step → Type 0
+IsTrail clauses steps = (k : ℕ) (d : Step) → k < length steps → IsRightStep clauses (take k steps) (slice_index_or steps k d)
+
+-- steps over n variables, the values that they gave, and the place of each step by its variable
+pub record AreSteps (clauses : List (List Lit)) (n : ℕ) (steps : List Step) (values : List (Option Bool)) (places : List ℕ) : Type 0 where
+  pub trail : IsTrail clauses steps
+  pub exist : All (λ (s : Step). IsLitOf n s.lit) steps
+  pub size : length values ≡ n
+  pub shows : (x : ℕ) → 1 ≤ x → x ≤ n → held steps x ≡ given values x
+  pub room : length steps + count_by is_none values ≡ n
+  pub slots : length places ≡ n
+  pub placed : (k : ℕ) (d : Step) → k < length steps → slice_index places ((slice_index_or steps k d).lit.var - 1) ≡ k
+
+abbrev pub IsState : List (List Lit) → ℕ → Trail → Type 0
+IsState clauses n trail = AreSteps clauses n trail.steps.items trail.values.items trail.places.items
+
+-- how many variables there are
+abbrev pub vars_of : Trail → ℕ
+vars_of trail = length trail.values.items
+
+-- the new steps are the old ones and then steps by clauses
+abbrev pub Propagates : List Step → List Step → Type 0
+Propagates old new = (added : List Step) × (new ≡ old ++ added) × All (λ (s : Step). s.reason ≢ None) added
+
+-- before each decision the values were closed for all clauses
+abbrev pub AreClosedBefore : List (List Lit) → List Step → Type 0
+AreClosedBefore clauses steps =
+    (k : ℕ) (d : Step) → k < length steps → (slice_index_or steps k d).reason ≡ None → IsClosed (held (take k steps)) clauses

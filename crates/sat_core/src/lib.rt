@@ -1,0 +1,15 @@
+//! Finds values that satisfy a formula, or lines that refute it: conflict-driven clause learning.
+//!
+//! Whoever doubts a refutation can check its lines without this crate.
+#![tactic(auto)]
+
+mod conflict;
+mod decision;
+mod propagation;
+mod solver;
+mod trail;
+
+pub use solver::{Verdict, solve};
+
+#[cfg(test)]
+mod tests;

@@ -1,0 +1,116 @@
+// The search: propagation, decisions, and a lemma for each conflict.
+ghost use Rattle.std.specs.Prelude.{◌≡◌, ◌+◌, ◌^◌, ◌<◌, ◌≤◌, [], length, map, OnOk, IfOk, MatchOption, unwrap_or, false};
+ghost use Rattle.cnf_core.specs.Formula.{AreOver};
+ghost use Rattle.cnf_core.specs.Values.{IsClosed};
+ghost use Rattle.cnf_core.specs.Outcome.{IsSolved, IsRefuted, IsSpent};
+ghost use Rattle.pick_rule.specs.Places.{AnswersPlaces};
+ghost use Rattle.sat_core.specs.Steps.{given, vars_of, IsState, AreClosedBefore};
+ghost use Rattle.sat_core.specs.Looks.{IsFalsified};
+ghost use Rattle.sat_core.specs.Picks.{free_list};
+ghost use Rattle.sat_core.specs.Verdicts.{IfSat, IfRefuted, IfSpent};
+
+use crate::conflict::learn;
+use crate::decision::decide;
+use crate::propagation::propagate;
+use crate::trail::Trail;
+use cnf_core::{Clauses, Cnf, Lines};
+use items::{Items, NoMemory};
+use pick_rule::Picker;
+use std::alloc::Global;
+
+/// What a search came to.
+#[derive(Drop)]
+pub enum Verdict {
+    /// A value for each variable, that of variable x at the place x - 1, and they satisfy every clause.
+    Sat(Items<bool>),
+    /// Lines that refute the formula.
+    Refuted(Lines),
+    /// As many lemmas as the budget allows, none of which unit propagation could find from the clauses before it.
+    Spent(Lines),
+}
+
+/// Searches for values that satisfy the formula, with at most so many conflicts. Each decision is the free variable at the
+/// picker's place among one score for each free variable, rising, and it is tried false first. Each conflict takes one
+/// line: the first unique implication point, with the clauses that it was resolved from as hints. Propagation looks at all
+/// clauses for each literal; memory grows with the formula and with what is learnt, not with `conflicts`.
+pub fn solve<F: Fn(&[u64]) -> usize>(
+    alloc: Global,
+    cnf: &Cnf,
+    picker: &Picker<F>,
+    conflicts: u32,
+) -> Result<Verdict, NoMemory>
+    requires picker { AnswersPlaces F.Fn picker.now }
+    requires conflicts { (1 ≤ conflicts) × (conflicts ≤ 1000000) }
+    ensures solved { IfOk result (λ verdict. IfSat verdict (IsSolved cnf.now)) }
+    ensures refuted { IfOk result (λ verdict. IfRefuted verdict (IsRefuted cnf.now conflicts)) }
+    ensures spent { IfOk result (λ verdict. IfSpent verdict (IsSpent cnf.now conflicts)) }
+{
+    let mut trail = Trail::new(alloc, cnf.vars())?;
+    let mut clauses = clauses_of(alloc, cnf)?;
+    let mut lines = Items::new(alloc);
+    for made in 0..conflicts {
+        match advance(alloc, &clauses, picker, &mut trail)? {
+            None => return Ok(Verdict::Sat(all_values(alloc, trail.values.as_slice())?)),
+            Some(id) => {
+                let line = learn(alloc, &clauses, &mut trail, id)?;
+                let refuted = line.lits.is_empty();
+                clauses.push(line.lits.as_slice())?;
+                lines.push(line)?;
+                if refuted {
+                    return Ok(Verdict::Refuted(Lines { lines }));
+                }
+            }
+        }
+    }
+    Ok(Verdict::Spent(Lines { lines }))
+}
+
+/// The formula's clauses, in a list to which lemmas are added.
+fn clauses_of(alloc: Global, cnf: &Cnf) -> Result<Clauses, NoMemory>
+    ensures same { IfOk result (λ clauses. clauses ≡ cnf.now.clauses) }
+    ensures few { OnOk result (length cnf.now.clauses ≤ 2 ^ 30) }
+{
+    let mut clauses = Clauses::new(alloc);
+    for index in 0..cnf.clauses() {
+        clauses.push(cnf.clause(index + 1))?;
+    }
+    Ok(clauses)
+}
+
+/// Propagates and decides until a clause is false, the id of which is told, or every variable has a value.
+fn advance<F: Fn(&[u64]) -> usize>(
+    alloc: Global,
+    clauses: &Clauses,
+    picker: &Picker<F>,
+    trail: &mut Trail,
+) -> Result<Option<u32>, NoMemory>
+    requires picker { AnswersPlaces F.Fn picker.now }
+    requires few { length clauses.now < 2 ^ 31 }
+    requires few_vars { vars_of trail.old < 2 ^ 29 }
+    requires exist { AreOver (vars_of trail.old) clauses.now }
+    requires state { IsState clauses.now (vars_of trail.old) trail.old }
+    requires before { AreClosedBefore clauses.now trail.old.steps.items }
+    ensures state { OnOk result (IsState clauses.now (vars_of trail.old) trail.new) }
+    ensures before { OnOk result (AreClosedBefore clauses.now trail.new.steps.items) }
+    ensures done { IfOk result (λ o. MatchOption o (IsClosed (given trail.new.values.items) clauses.now × (free_list trail.new.values.items ≡ [])) (IsFalsified (given trail.new.values.items) clauses.now)) }
+{
+    loop {
+        if let Some(id) = propagate(clauses, trail)? {
+            return Ok(Some(id));
+        }
+        if !decide(alloc, picker, trail)? {
+            return Ok(None);
+        }
+    }
+}
+
+/// The values, where all are there.
+fn all_values(alloc: Global, values: &[Option<bool>]) -> Result<Items<bool>, NoMemory>
+    ensures { IfOk result (λ all. all ≡ map (λ o. unwrap_or o false) values.now) }
+{
+    let mut all = Items::new(alloc);
+    for value in values {
+        all.push(value.unwrap_or(false))?;
+    }
+    Ok(all)
+}

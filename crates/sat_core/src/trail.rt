@@ -1,0 +1,70 @@
+// The literals that were made true, in order, and the value of each variable.
+ghost use Rattle.std.specs.Prelude.{◌≡◌, ℕ, ◌≤◌, [], ◌∷◌, ◌++◌, List, length, take, OnOk, IfOk, Some, slice_set, MatchOption};
+ghost use Rattle.std.specs.List.{All};
+ghost use Rattle.cnf_core.specs.declared.literal.Lit.{Lit as Literal};
+ghost use Rattle.cnf_core.specs.Formula.{IsLitOf};
+ghost use Rattle.sat_core.specs.Steps.{IsState, IsRightStep, vars_of};
+
+use cnf_core::Lit;
+use items::NoMemory;
+use std::alloc::Global;
+
+/// A literal that was made true by the clause or lemma with this id, or by decision where there is none.
+#[derive(Clone, Copy)]
+pub(crate) struct Step {
+    pub(crate) lit: Lit,
+    pub(crate) reason: Option<u32>,
+}
+
+/// The steps so far. The place of a step is kept by its variable, and stays when the step is taken back.
+#[derive(Drop)]
+pub(crate) struct Trail {
+    pub(crate) steps: Vec<Step>,
+    pub(crate) values: Vec<Option<bool>>,
+    pub(crate) places: Vec<usize>,
+}
+
+impl Trail {
+    /// No step, over this many variables.
+    pub(crate) fn new(alloc: Global, vars: u32) -> Result<Trail, NoMemory>
+        ensures state { IfOk result (λ trail. (clauses : List (List Literal)) → IsState clauses vars trail) }
+        ensures none { IfOk result (λ trail. trail.steps.items ≡ []) }
+    {
+        let none: Option<bool> = None;
+        let values = vec![in alloc; none; vars as usize]?;
+        let places = vec![in alloc; 0usize; vars as usize]?;
+        Ok(Trail {
+            steps: Vec::new(alloc),
+            values,
+            places,
+        })
+    }
+
+    /// Makes a free literal true.
+    pub(crate) fn assign(&mut self, step: Step) -> Result<(), NoMemory>
+        requires exist { IsLitOf (vars_of self.old) step.lit }
+        requires slots { length self.old.places.items ≡ vars_of self.old }
+        ensures state { OnOk result ((clauses : List (List Literal)) → IsState clauses (vars_of self.old) self.old → IsRightStep clauses self.old.steps.items step → IsState clauses (vars_of self.old) self.new) }
+        ensures steps { OnOk result (self.new.steps.items ≡ self.old.steps.items ++ step ∷ []) }
+    {
+        let place = self.steps.len();
+        self.steps.push(step)?;
+        let index = (step.lit.var - 1) as usize;
+        self.values[index] = Some(step.lit.positive);
+        self.places[index] = place;
+        Ok(())
+    }
+
+    /// Takes all steps back but the first, as many as `count`.
+    pub(crate) fn cut(&mut self, count: usize)
+        requires exist { All (λ s. IsLitOf (vars_of self.old) s.lit) self.old.steps.items }
+        ensures state { (clauses : List (List Literal)) → IsState clauses (vars_of self.old) self.old → IsState clauses (vars_of self.old) self.new }
+        ensures steps { self.new.steps.items ≡ take count self.old.steps.items }
+    {
+        while self.steps.len() > count {
+            if let Some(step) = self.steps.pop() {
+                self.values[(step.lit.var - 1) as usize] = None;
+            }
+        }
+    }
+}
