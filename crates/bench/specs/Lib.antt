@@ -1,0 +1,2 @@
+pub mod WordsOnly
+pub mod Laws

@@ -1,10 +1,14 @@
 //! Does the work of one layer once over standard input, and prints how much of it there was. It is there to be timed.
 //!
-//! The first word names the layer: `lex`, `tree`, `lines`, `read` or `check`.
+//! The first word names the layer: `lex`, `tree`, `lines`, `read`, `check`, `graph` or `sat`; after `sat` a
+//! number may follow, the most conflicts that its solver may have.
 #![tactic(auto)]
 
+mod graphs;
 mod refutations;
+mod searches;
 mod texts;
+mod words_only;
 
 use outside_io::{StdSource, read_all};
 use std::env::Args;
@@ -14,6 +18,9 @@ use texts::{Layer, count};
 
 /// How many bytes are read at most.
 const LIMIT: u32 = 1 << 28;
+
+/// How many conflicts a solver may have where no number says so.
+const BUDGET: u32 = 1_000_000;
 
 fn main(rt: HostRuntime) -> ExitCode {
     let done = match env::args(&rt) {
@@ -30,10 +37,14 @@ fn measured(rt: &HostRuntime, args: Args) -> io::Result<bool> {
     let Some(layer) = words.first().and_then(|word| Layer::named(word.as_str())) else {
         return Ok(false);
     };
+    let budget = words
+        .get(1)
+        .and_then(|word| u32::from_str_radix(word.as_str(), 10).ok())
+        .unwrap_or(BUDGET);
     let Ok(text) = read_all(alloc, &mut StdSource::new(rt.stdin()), LIMIT) else {
         return Ok(false);
     };
-    match count(alloc, layer, &text) {
+    match count(alloc, layer, budget, &text) {
         Some(count) => println!(rt; "{count}")?,
         None => println!(rt; "fault")?,
     }

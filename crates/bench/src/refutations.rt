@@ -33,7 +33,7 @@ pub(crate) fn count_checked(alloc: Global, text: &[u8]) -> Option<usize>
     Some(count)
 }
 
-fn read_whole(alloc: Global, text: &[u8]) -> Option<Lines>
+pub(crate) fn read_whole(alloc: Global, text: &[u8]) -> Option<Lines>
     requires { length text.now < 2 ^ 29 }
 {
     let text = lines(alloc, text).ok()?;
@@ -64,7 +64,7 @@ fn add(cnf: &mut Cnf, lits: &[Lit], last: u32) -> Option<()>
     cnf.add(lits).ok()
 }
 
-fn are_over(vars: u32, lits: &[Lit]) -> bool
+pub(crate) fn are_over(vars: u32, lits: &[Lit]) -> bool
     ensures { IsTrue result ↔ All (IsLitOf vars) lits.now }
 {
     lits.iter().all(|lit| 1 <= lit.var && lit.var <= vars)

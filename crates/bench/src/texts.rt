@@ -1,7 +1,9 @@
 // The layers, and what is counted of a text in each.
 ghost use Rattle.std.specs.Prelude.{◌≤◌, ◌^◌, length};
 
+use crate::graphs::count_rows;
 use crate::refutations::{count_checked, count_read};
+use crate::searches::count_learnt;
 use std::alloc::Global;
 use text_core::{lex, lines, tree};
 
@@ -18,6 +20,10 @@ pub(crate) enum Layer {
     Read,
     /// The same, as a refutation of a chain of clauses.
     Check,
+    /// The rows of an E-graph after a script of inserts and merges.
+    Graph,
+    /// The lines that a solver learns from the clauses of a formula.
+    Sat,
 }
 
 impl Layer {
@@ -28,13 +34,15 @@ impl Layer {
             "lines" => Some(Layer::Lines),
             "read" => Some(Layer::Read),
             "check" => Some(Layer::Check),
+            "graph" => Some(Layer::Graph),
+            "sat" => Some(Layer::Sat),
             _ => None,
         }
     }
 }
 
-/// How many tokens, trees or lines the text has, or none where it has a fault.
-pub(crate) fn count(alloc: Global, layer: Layer, text: &[u8]) -> Option<usize>
+/// How much there is of what the layer makes of the text, or none where the text has a fault. A solver stops at `budget` conflicts.
+pub(crate) fn count(alloc: Global, layer: Layer, budget: u32, text: &[u8]) -> Option<usize>
     requires { length text.now ≤ 2 ^ 28 }
 {
     match layer {
@@ -46,5 +54,7 @@ pub(crate) fn count(alloc: Global, layer: Layer, text: &[u8]) -> Option<usize>
         Layer::Lines => Some(lines(alloc, text).ok()?.count() as usize),
         Layer::Read => count_read(alloc, text),
         Layer::Check => count_checked(alloc, text),
+        Layer::Graph => count_rows(alloc, text),
+        Layer::Sat => count_learnt(alloc, budget, text),
     }
 }
