@@ -191,54 +191,63 @@ fn first_and_last_rows_stand_as_written(rt: HostRuntime) -> Result<(), Fail> {
     Ok(())
 }
 
-fn makes(alloc: Global, left: Term<Op>, right: Term<Op>) -> Result<bool, NoMemory> {
+// An operator over variables, or the first of them alone.
+type Side = (Option<Op>, &'static [u32]);
+
+const SUM: Option<Op> = Some(Op::Word(WordOp::Addq));
+
+const STORE: Option<Op> = Some(Op::Store);
+
+const SELECT: Option<Op> = Some(Op::Select);
+
+const SEVEN: Option<Op> = Some(Op::Constant(7));
+
+// Two sides, and whether they make a rule.
+const PAIRS: [(Side, Side, bool); 10] = [
+    ((SUM, &[1, 0]), (None, &[0]), true),
+    ((STORE, &[2, 0, 1]), (None, &[2]), true),
+    ((SUM, &[0, 0]), (SEVEN, &[]), true),
+    // A variable on the left.
+    ((None, &[0]), (SUM, &[0, 0]), false),
+    // A new variable on the right.
+    ((SUM, &[0, 1]), (None, &[2]), false),
+    // Two sorts.
+    ((STORE, &[2, 0, 1]), (None, &[0]), false),
+    // A gap in the numbers.
+    ((SUM, &[0, 2]), (None, &[0]), false),
+    // Too few operands, on the left and on the right.
+    ((SUM, &[0]), (None, &[0]), false),
+    ((SUM, &[0, 1]), (SUM, &[1]), false),
+    // A word that is a memory.
+    ((SELECT, &[0, 0]), (None, &[0]), false),
+];
+
+fn side_of(alloc: Global, side: Side) -> Result<Term<Op>, NoMemory> {
+    match side {
+        (Some(op), numbers) => applied_to(alloc, op, numbers),
+        (None, numbers) => Ok(Term::Var(numbers.first().copied().unwrap_or(0))),
+    }
+}
+
+fn makes(alloc: Global, left: Side, right: Side) -> Result<bool, NoMemory> {
+    let (left, right) = (side_of(alloc, left)?, side_of(alloc, right)?);
     Ok(Rule::new(alloc, left, right)?.is_some())
 }
 
 #[test]
 fn two_sides_make_a_rule_or_none(rt: HostRuntime) -> Result<(), Fail> {
+    for (left, right, wanted) in &PAIRS {
+        assert_eq!(rt; makes(rt.alloc(), *left, *right)?, *wanted);
+    }
+    Ok(())
+}
+
+#[test]
+fn a_rule_has_its_sides_and_sorts(rt: HostRuntime) -> Result<(), Fail> {
     let alloc = rt.alloc();
-    let addq = Op::Word(WordOp::Addq);
-    let sum = applied_to(alloc, addq, &[1, 0])?;
+    let sum = applied_to(alloc, Op::Word(WordOp::Addq), &[1, 0])?;
     let made = Rule::new(alloc, sum.copy(alloc)?, Term::Var(0))?.expect(&rt, "a rule");
     assert!(rt; same(made.left(), &sum) && same(made.right(), &Term::Var(0)));
     assert_eq!(rt; made.variables(), [Sort::Word, Sort::Word].as_slice());
-    let store = applied_to(alloc, Op::Store, &[2, 0, 1])?;
-    assert!(rt;
-        makes(alloc, store.copy(alloc)?, Term::Var(2))?,
-        "the memory comes last"
-    );
-    assert!(rt;
-        makes(
-            alloc,
-            sum.copy(alloc)?,
-            applied_to(alloc, Op::Constant(7), &[])?
-        )?
-    );
-    assert!(rt;
-        !makes(alloc, Term::Var(0), sum.copy(alloc)?)?,
-        "a variable on the left"
-    );
-    assert!(rt;
-        !makes(alloc, sum.copy(alloc)?, Term::Var(2))?,
-        "a new variable on the right"
-    );
-    assert!(rt;
-        !makes(alloc, store.copy(alloc)?, Term::Var(0))?,
-        "two sorts"
-    );
-    assert!(rt;
-        !makes(alloc, applied_to(alloc, addq, &[0, 2])?, Term::Var(0))?,
-        "a gap"
-    );
-    assert!(rt;
-        !makes(alloc, applied_to(alloc, addq, &[0])?, Term::Var(0))?,
-        "one operand"
-    );
-    let both = applied_to(alloc, Op::Select, &[0, 0])?;
-    assert!(rt;
-        !makes(alloc, both, Term::Var(0))?,
-        "a word that is a memory"
-    );
     Ok(())
 }
