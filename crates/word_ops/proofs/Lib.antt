@@ -2,6 +2,7 @@ pub mod WordBits
 pub mod OperatorBits
 pub mod LoopSteps
 pub mod StoredByte
+pub mod Numbers
 pub mod NameSearch
 pub mod Stored
 pub mod StoredEntries

@@ -51,9 +51,9 @@ pub meaning_in_range : (world : World) (names : ℕ → List ℕ) (op : Op) (vs 
 meaning_in_range world names Entry vs w r h = w.memory_is
 meaning_in_range world names (Input register) vs w r h = operand-lt world.registers register w.each
 meaning_in_range world names (Constant c) vs w r h = r
-meaning_in_range world names (Word op) vs w r h = value_at-lt op _ _ _ (word_operand-lt _ vs h 0) (word_operand-lt _ vs h 1) (word_operand-lt _ vs h 2)
+meaning_in_range world names (Word op) vs w r h = value_at-lt op _ _ _ (word_operand-lt (Word op) vs h 0) (word_operand-lt (Word op) vs h 1) (word_operand-lt (Word op) vs h 2)
 meaning_in_range world names Select vs w r h = select-lt _ _ (memory_operand-is Select vs refl (omega arith) h)
-meaning_in_range world names Store vs w r h = store-is _ _ _ (memory_operand-is Store vs refl (omega arith) h) (word_operand-lt _ vs h 1) (word_operand-lt _ vs h 2)
+meaning_in_range world names Store vs w r h = store-is _ _ _ (memory_operand-is Store vs refl (omega arith) h) (word_operand-lt Store vs h 1) (word_operand-lt Store vs h 2)
 meaning_in_range world names Load vs w r h = load-lt _ _ _ (memory_operand-is Load vs refl (omega arith) h)
-meaning_in_range world names Put vs w r h = put-is _ _ _ _ (memory_operand-is Put vs refl (omega arith) h) (word_operand-lt _ vs h 3)
+meaning_in_range world names Put vs w r h = put-is _ _ _ _ (memory_operand-is Put vs refl (omega arith) h) (word_operand-lt Put vs h 3)
 meaning_in_range world names (Declared index arity) vs w r h = w.declared _ _

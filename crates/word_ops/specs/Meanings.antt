@@ -1,6 +1,6 @@
--- What an operator of a term takes and gives. From Denali (PLDI 2002); this project's are `load` and `put`, a `select` and a
--- `store` with a displacement.
-use Rattle.std.specs.Prelude.{◌≡◌, ℕ, ◌<◌, ◌==◌, ◌&&◌, Bool, true, false, if◌then◌else◌, List, length, map, get_or, slice_index}
+-- What an operator of a term takes and gives. From Denali (PLDI 2002); this project's are `load` and `put`, a
+-- `select` and a `store` with a displacement.
+use Rattle.std.specs.Prelude.{◌≡◌, ℕ, ◌<◌, ◌==◌, ◌&&◌, Bool, true, false, if◌then◌else◌, List, length, map, slice_index, slice_index_or, Option, Some, None, IfSome}
 use Rattle.std.specs.FinMap.{empty}
 use Rattle.word_ops.specs.Words.{IsWord}
 use Rattle.word_ops.specs.Operators.{arity_of, value_at}
@@ -48,15 +48,23 @@ takes_memory _ = false
 abbrev pub operand_sort : Op → ℕ → Sort
 operand_sort op at = if takes_memory op && at == 0 then sorts.Memory else sorts.Word
 
+-- the constant that the operator is, if it is one
+abbrev pub constant_in : Op → Option ℕ
+constant_in (Constant c) = Some c
+constant_in _ = None
+
+-- so many values, of which each is in range and of the sort for its place
+pub record AreValuesOf (number : ℕ) (sort_at : ℕ → Sort) (vs : List Value) : Type 0 where
+  pub count : length vs ≡ number
+  pub each : (at : ℕ) → at < length vs → IsValue (sort_at at) (slice_index_or vs at (word 0))
+
 -- as many operands as the operator takes, each of its sort and in range
-pub record AreOperands (op : Op) (vs : List Value) : Type 0 where
-  pub count : length vs ≡ arity_of_op op
-  pub each : (at : ℕ) → at < length vs → IsValue (operand_sort op at) (get_or vs at (word 0))
+abbrev pub AreOperands : Op → List Value → Type 0
+AreOperands op vs = AreValuesOf (arity_of_op op) (operand_sort op) vs
 
 -- an operator's own constant is a word
 abbrev pub IsInRange : Op → Type 0
-IsInRange (Constant c) = IsWord c
-IsInRange _ = Unit {0}
+IsInRange op = IfSome (constant_in op) IsWord
 
 -- a value as a word or as a memory; at the other sort 0, or the memory that holds 0 everywhere
 abbrev pub as_word : Value → ℕ
@@ -68,10 +76,10 @@ as_memory (word n) = empty
 as_memory (memory m) = m
 
 abbrev pub word_operand : List Value → ℕ → ℕ
-word_operand vs at = as_word (get_or vs at (word 0))
+word_operand vs at = as_word (slice_index_or vs at (word 0))
 
 abbrev pub memory_operand : List Value → Memory
-memory_operand vs = as_memory (get_or vs 0 (word 0))
+memory_operand vs = as_memory (slice_index_or vs 0 (word 0))
 
 -- what the operator gives for the operands in a world; `names` has the name of each declared operator's number
 abbrev pub meaning : World → (ℕ → List ℕ) → Op → List Value → Value
@@ -82,5 +90,6 @@ meaning world names (Word op) vs = word (value_at op (word_operand vs 0) (word_o
 meaning world names Select vs = word (select (memory_operand vs) (word_operand vs 1))
 meaning world names Store vs = memory (store (memory_operand vs) (word_operand vs 1) (word_operand vs 2))
 meaning world names Load vs = word (load (memory_operand vs) (word_operand vs 1) (word_operand vs 2))
-meaning world names Put vs = memory (put (memory_operand vs) (word_operand vs 1) (word_operand vs 2) (word_operand vs 3))
+meaning world names Put vs =
+    memory (put (memory_operand vs) (word_operand vs 1) (word_operand vs 2) (word_operand vs 3))
 meaning world names (Declared index arity) vs = word (world.declared (names index) (map as_word vs))

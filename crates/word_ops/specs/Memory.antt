@@ -1,7 +1,7 @@
--- A memory: a finite map from places to words that aren't 0; a place that is absent holds 0, and address a has the place
--- a div 8. From the Alpha Architecture Handbook, LDQ_U and STQ_U, which ignore an address's low three bits; `select` and
--- `store` are Denali's (PLDI 2002).
-use Rattle.std.specs.Prelude.{ℕ, ◌≡◌, ◌<◌, ◌^◌, ◌/◌, ◌==◌, cond, Some}
+-- A memory: a finite map from places to words that aren't 0; a place that is absent holds 0, and address a has the
+-- place a div 8. From the Alpha Architecture Handbook, LDQ_U and STQ_U, which ignore an address's low three bits;
+-- `select` and `store` are Denali's (PLDI 2002).
+use Rattle.std.specs.Prelude.{ℕ, ◌≡◌, ◌<◌, ◌^◌, ◌/◌, ◌==◌, if◌then◌else◌, Some}
 use Rattle.std.specs.Ordering.{nat_cmp}
 use Rattle.std.specs.FinMap.{FinMap, get, insert, remove}
 use Rattle.std.specs.Option.{unwrap_or}
@@ -21,7 +21,7 @@ word_at m place = unwrap_or (get m place) 0
 
 -- the memory with a word put at a place: a word 0 takes the entry away
 unfoldable pub put_word : Memory → ℕ → ℕ → Memory
-put_word m place v = cond (v == 0) (remove m place) (insert m place v)
+put_word m place v = if v == 0 then remove m place else insert m place v
 
 -- the word at the place of address a
 unfoldable pub select : Memory → ℕ → ℕ

@@ -1,7 +1,7 @@
 -- What each operator on words gives, for operands below 2 ^ 64. From the Alpha Architecture Handbook, version 4, the
 -- descriptions of the integer instructions; the byte operations on high bytes shift by (64 - 8o) mod 64 at every
 -- offset o, which is this project's reading, and `selectb` and `storeb` are Denali's (PLDI 2002).
-use Rattle.std.specs.Prelude.{ℕ, ◌+◌, ◌-◌, ◌*◌, ◌/◌, ◌%◌, ◌^◌, min, Bool, cond, nat_lt, nat_le, ◌&&◌, ◌==◌, int_lt, int_le, bit_and, bit_or, bit_xor}
+use Rattle.std.specs.Prelude.{ℕ, ◌+◌, ◌-◌, ◌*◌, ◌/◌, ◌%◌, ◌^◌, min, Bool, if◌then◌else◌, nat_lt, nat_le, ◌&&◌, ◌==◌, int_lt, int_le, bit_and, bit_or, bit_xor}
 use Rattle.std.specs.Int.{bit_at, cast_signed, w64}
 use Rattle.word_ops.specs.Bits.{word_of}
 
@@ -33,7 +33,7 @@ s8subq a b = (8 * a + (2 ^ 64 - b)) % 2 ^ 64
 
 -- the low k bits of a, sign-extended: where bit k - 1 is 1, the bits from k to 63 are 1 too
 unfoldable pub sign_extended : ℕ → ℕ → ℕ
-sign_extended k a = cond (bit_at a (k - 1) == 0) (a % 2 ^ k) (2 ^ 64 - 2 ^ k + a % 2 ^ k)
+sign_extended k a = if bit_at a (k - 1) == 0 then a % 2 ^ k else 2 ^ 64 - 2 ^ k + a % 2 ^ k
 
 -- the high 64 bits of the unsigned product
 unfoldable pub umulh : ℕ → ℕ → ℕ
@@ -43,7 +43,7 @@ umulh a b = a * b / 2 ^ 64
 
 -- 1 where the test holds, else 0
 abbrev pub flag : Bool → ℕ
-flag t = cond t 1 0
+flag t = if t then 1 else 0
 
 unfoldable pub cmpeq : ℕ → ℕ → ℕ
 cmpeq a b = flag (a == b)
@@ -164,7 +164,7 @@ selectb x y = byte x (y % 8)
 
 -- x with its byte y mod 8 replaced by the low byte of z
 unfoldable pub storeb : ℕ → ℕ → ℕ → ℕ
-storeb x y z = word_of (λ i. cond (i / 8 == y % 8) (bit_at z (i % 8)) (bit_at x i))
+storeb x y z = word_of (λ i. if i / 8 == y % 8 then bit_at z (i % 8) else bit_at x i)
 
 -- x + e and x + 65536 e, where e is the low 16 bits of k, sign-extended
 unfoldable pub lda : ℕ → ℕ → ℕ

@@ -1,14 +1,22 @@
 // Laws of the definitions, as contracts of functions that do nothing.
-ghost use Rattle.std.specs.Prelude.{◌≡◌, ◌≢◌, ◌<◌, ◌≤◌, ◌+◌, ◌-◌, ◌/◌, ◌%◌, ◌^◌, min, ℕ, List, All};
+ghost use Rattle.std.specs.Prelude.{◌≡◌, ◌≢◌, ◌<◌, ◌≤◌, ◌+◌, ◌-◌, ◌/◌, ◌%◌, ◌^◌, ◌↔◌, min, ℕ, List, All, Contains, Some, slice_get};
 ghost use Rattle.std.specs.Int.{bit_at};
 ghost use Rattle.word_ops.specs.Words.{IsWord};
 ghost use Rattle.word_ops.specs.Values as value;
-ghost use Rattle.word_ops.specs.Operators.{value_of};
+ghost use Rattle.word_ops.specs.Operators.{operators, number_of, value_of};
+ghost use Rattle.word_ops.specs.Names.{name_of};
 ghost use Rattle.word_ops.specs.Memory.{Memory, IsMemory, word_at, put_word};
 ghost use Rattle.word_ops.specs.Worlds.{Value, World, IsWorld, IsValue};
 ghost use Rattle.word_ops.specs.Meanings.{meaning, sort_of, AreOperands, IsInRange};
 ghost use Rattle.word_ops.specs.declared.operators.WordOp.{WordOp as Operator};
 ghost use Rattle.word_ops.specs.declared.sorts.Op.{Op as TermOperator};
+
+/// Each operator is in the list of all of them, at its number and nowhere else, and has a name of its own.
+pub fn operators_are_listed()
+    ensures each { (op : Operator) → Contains operators op }
+    ensures numbers { (op : Operator) (n : ℕ) → (slice_get operators n ≡ Some op) ↔ (n ≡ number_of op) }
+    ensures names { (op other : Operator) → name_of op ≡ name_of other → op ≡ other }
+{}
 
 /// What an operator gives is in range where its operands are.
 pub fn meanings_are_in_range()

@@ -1,8 +1,8 @@
-//! The operators on words and memories, and what each gives: the 55 integer operates of the Alpha, six further operators
-//! of terms, and a memory of 64-bit words.
+//! The operators on words and memories, and what each gives: the 55 integer operates of the Alpha, six further
+//! operators of terms, and a memory of 64-bit words.
 //!
-//! A word is a number below 2 ^ 64, a memory is a finite map from places below 2 ^ 61 to words that aren't 0, and a world
-//! has the registers, the memory at entry and the declared operators that a term is read in.
+//! A word is a number below 2 ^ 64, a memory is a finite map from places below 2 ^ 61 to words that aren't 0, and a
+//! world has the registers, the memory at entry and the declared operators that a term is read in.
 #![tactic(auto)]
 
 mod arithmetic;
@@ -15,7 +15,7 @@ mod names;
 mod operators;
 mod sorts;
 
-pub use laws::{meanings_are_in_range, memories_hold_words, words_have_bits};
+pub use laws::{meanings_are_in_range, memories_hold_words, operators_are_listed, words_have_bits};
 pub use memory::Mem;
 pub use names::{op_name, op_of};
 pub use operators::{OPERATORS, WordOp, apply, arity};

@@ -44,6 +44,13 @@ impl Mem {
         }
     }
 
+    /// Does nothing. Its clause says what each memory is.
+    pub fn holds_words(&self)
+        ensures is_memory { memory.IsMemory self.now }
+    {
+        let _words = &self.words;
+    }
+
     pub fn get(&self, place: u64) -> u64
         requires { place < 2 ^ 61 }
         ensures is_memory { memory.IsMemory self.now }

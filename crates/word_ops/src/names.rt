@@ -77,7 +77,6 @@ pub fn op_name(op: WordOp) -> &'static [u8]
 /// The operator of that name. It looks at each operator in turn.
 pub fn op_of(name: &[u8]) -> Option<WordOp>
     ensures found { (op : Operator) → (result ≡ Some op) ↔ (name_of op ≡ name.now) }
-    ensures each { MatchOption result ((op : Operator) → name_of op ≢ name.now) (λ op. name_of op ≡ name.now) }
 {
     find_name(name, &OPERATORS)
 }

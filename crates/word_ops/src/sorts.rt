@@ -1,6 +1,7 @@
 // The operators of terms and graphs: on words, on memories, and declared by the input.
-ghost use Rattle.std.specs.Prelude.{◌≡◌, ◌<◌};
+ghost use Rattle.std.specs.Prelude.{◌≡◌, ◌<◌, ◌↔◌, Some};
 ghost use Rattle.word_ops.specs.Meanings as meanings;
+ghost use Rattle.word_ops.specs.declared.sorts.Arity.{Arity as ArityOf};
 
 use crate::operators::{WordOp, arity};
 
@@ -42,6 +43,19 @@ pub enum Op {
 }
 
 impl Arity {
+    /// The arity of so many operands, or `None` where there is none.
+    pub fn of(count: usize) -> Option<Arity>
+        ensures exact { (arity : ArityOf) → (result ≡ Some arity) ↔ (meanings.count_of arity ≡ count) }
+    {
+        match count {
+            1 => Some(Arity::One),
+            2 => Some(Arity::Two),
+            3 => Some(Arity::Three),
+            4 => Some(Arity::Four),
+            _ => None,
+        }
+    }
+
     pub fn count(self) -> usize
         ensures { result ≡ meanings.count_of self }
     {
@@ -55,6 +69,11 @@ impl Arity {
 }
 
 impl Op {
+    /// Does nothing. Its clause says that a constant is a word.
+    pub fn has_word_constant(self)
+        ensures in_range { meanings.IsInRange self }
+    {}
+
     /// The number of operands, 0 to 4.
     pub fn arity(self) -> usize
         ensures { result ≡ meanings.arity_of_op self }
