@@ -2,7 +2,7 @@
 use Rattle.std.proofs.Common.{◌≡◌, ℕ, ◌+◌, ◌<◌, ◌⊎◌, inl, inr, List, [], ◌∷◌, ◌++◌, length, refl, sym, ap, ◌∙◌, subst, arith, append_assoc, length-append, Bool, true, false}
 use Rattle.std.specs.List.{list_all}
 use Rattle.std.proofs.lemmas.Bool.{cases_lt, true≢false}
-use Rattle.text_core.specs.Lines.{Line, IsWord, IsLine, last, word, AreLines, none, line, HasLines, IsBehind, IsBefore, HasEmptyWord, IsBadLine, is_printed}
+use Rattle.text_core.specs.Lines.{Line, IsLineWord, IsLine, last, word, AreLines, none, line, HasLines, IsBehind, IsBefore, HasEmptyWord, IsBadLine, is_printed}
 use Rattle.text_core.specs.Lines as lines
 use Rattle.text_core.specs.Pieces.{IsStopped}
 use Rattle.text_core.proofs.Cuts.{both_true, run_once, cut_inside, cut_outside}
@@ -23,14 +23,14 @@ snoc_same (x ∷ xs) (y ∷ ys) a b same =
     cc (head, snoc_same xs ys a b tail)
 
 -- a word has no empty word in it
-word_whole : (w left right : List ℕ) → IsWord w → w ≡ left ++ right → IsBehind 32 left → IsBefore 32 right → ⊥
+word_whole : (w left right : List ℕ) → IsLineWord w → w ≡ left ++ right → IsBehind 32 left → IsBefore 32 right → ⊥
 word_whole w left right is cut lines.front lines.end = is.some cut
 word_whole w left right is cut lines.front (lines.before more begins) =
     fails_within is_printed [] more 32 (subst (λ xs. list_all is_printed xs ≡ true) (cut ∙ begins) is.printed) refl
 word_whole w left right is cut (lines.behind more ends) _ =
     fails_within is_printed more right 32 (subst (λ xs. list_all is_printed xs ≡ true) (cut ∙ (ap (λ zs. zs ++ right) ends ∙ append_assoc more (32 ∷ []) right)) is.printed) refl
 
-front_of_word : (w rest right : List ℕ) → IsWord w → w ++ 32 ∷ rest ≡ right → IsBefore 32 right → ⊥
+front_of_word : (w rest right : List ℕ) → IsLineWord w → w ++ 32 ∷ rest ≡ right → IsBefore 32 right → ⊥
 front_of_word [] rest right is cut _ = is.some refl
 front_of_word (x ∷ w) rest right is cut lines.end = cc
 front_of_word (x ∷ w) rest right is cut (lines.before more begins) =

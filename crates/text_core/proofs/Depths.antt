@@ -4,9 +4,9 @@ use Rattle.text_core.specs.declared.tokens.Token.{Token}
 use Rattle.text_core.specs.declared.tokens.TokenKind.{TokenKind}
 use Rattle.text_core.specs.declared.tokens.TokenKind.TheVariants as kinds
 use Rattle.text_core.specs.Building.{peak, peak_before, Frame, AreOpen, closed, within, AreBuilt}
-use Rattle.text_core.specs.Nesting.{IsClosed, IsOpened, IsInside, outside, inside}
+use Rattle.text_core.specs.Nesting.{HasClosing, HasOpening, IsInside, outside, inside}
 use Rattle.text_core.specs.Sexps.{all_of}
-use Rattle.text_core.specs.Trees.{Tree, Trees, IsAtom, name, register, number, Spells, SpellAll, as_atom, as_list, no_more, one_more, depth, most_depth}
+use Rattle.text_core.specs.Trees.{SexpTree, SexpTrees, IsAtom, name, register, number, Spells, SpellAll, as_atom, as_list, no_more, one_more, depth, most_depth}
 
 abbrev pub need_before : TokenKind → ℕ → ℕ
 need_before kinds.Opening n = n - 1
@@ -114,13 +114,13 @@ both xs ys m n one two = record {
 }
 
 mutual
-  tree_levels : (tree : Tree) (xs : List Token) → Spells tree xs → HasLevels xs 0 (depth tree)
+  tree_levels : (tree : SexpTree) (xs : List Token) → Spells tree xs → HasLevels xs 0 (depth tree)
   tree_levels tree xs (as_atom {token = token} is same) = subst (λ ys. HasLevels ys 0 0) (sym same) (one_level token is)
   tree_levels tree xs (as_list {parts = parts} o c inner opens place each closes same) =
       subst (λ ys. HasLevels ys 0 (1 + most_depth parts)) (sym same) (between o c inner (most_depth parts) opens closes (spelled_levels parts inner each))
 
   -- tokens that spell trees leave nothing open, and their peak is the depth of the trees
-  pub spelled_levels : (trees : Trees) (xs : List Token) → SpellAll trees xs → HasLevels xs 0 (most_depth trees)
+  pub spelled_levels : (trees : SexpTrees) (xs : List Token) → SpellAll trees xs → HasLevels xs 0 (most_depth trees)
   spelled_levels trees xs no_more = record { needs = refl; extras = refl; peaks = refl }
   spelled_levels trees xs (one_more {tree = tree} {trees = rest} front back one others same) =
       subst (λ ys. HasLevels ys 0 (max (depth tree) (most_depth rest))) (sym same) (both front back (depth tree) (most_depth rest) (tree_levels tree front one) (spelled_levels rest back others))
@@ -134,7 +134,7 @@ open_levels frames xs (within {frame = frame} {frames = more} front o behind spe
       omega (arith, ap extra same, extra-append front (o ∷ behind), extra-opening o behind opens, levels.extras, rest.0, rest.1),
     )
 
-pub built_levels : (frames : List Frame) (parts : List Tree) (xs : List Token) → AreBuilt frames parts xs → (need xs ≡ 0) × (extra xs ≡ length frames)
+pub built_levels : (frames : List Frame) (parts : List SexpTree) (xs : List Token) → AreBuilt frames parts xs → (need xs ≡ 0) × (extra xs ≡ length frames)
 built_levels frames parts xs built =
     let lists = open_levels frames built.front built.lists in
     let levels = spelled_levels (all_of parts) built.back built.spelled in (
@@ -150,12 +150,12 @@ inside_extra n xs (inside {n = m} opened more) =
     let rest = inside_extra m opened.front more in
     omega (arith, ap extra opened.whole, extra-append opened.front (opened.opening ∷ opened.inner), extra-opening opened.opening opened.inner opened.opens, need-opening opened.opening opened.inner opened.opens, levels.needs, levels.extras, rest)
 
-pub not_opened : (xs : List Token) → extra xs ≡ 0 → IsOpened xs → ⊥
+pub not_opened : (xs : List Token) → extra xs ≡ 0 → HasOpening xs → ⊥
 not_opened xs none opened =
     let levels = spelled_levels opened.balanced.trees opened.inner opened.balanced.spelled in
     omega (arith, ap extra opened.whole, extra-append opened.front (opened.opening ∷ opened.inner), extra-opening opened.opening opened.inner opened.opens, levels.needs, levels.extras)
 
-pub not_closed : (xs : List Token) → need xs ≡ 0 → IsClosed xs → ⊥
+pub not_closed : (xs : List Token) → need xs ≡ 0 → HasClosing xs → ⊥
 not_closed xs none found =
     let levels = spelled_levels found.balanced.trees found.inner found.balanced.spelled in
     omega (arith, ap need found.whole, need-append found.inner (found.closing ∷ found.rest), need-closing found.closing found.rest found.closes, levels.extras)

@@ -7,19 +7,19 @@ use Rattle.text_core.specs.declared.sexps.Sexp.TheOpen as shapes
 use Rattle.text_core.specs.declared.sexps.Sexp.TheFolds.{fold-roll-Sexp}
 use Rattle.text_core.specs.declared.sexps.Sexp.TheVariants
 use Rattle.text_core.specs.declared.tokens.Token.{Token}
-use Rattle.text_core.specs.Sexps.{all_of, tree_of, tree_step}
-use Rattle.text_core.specs.Trees.{Tree, atom, list, Spells, SpellAll, no_more, one_more}
+use Rattle.text_core.specs.Sexps.{all_of, sexp_tree, sexp_step}
+use Rattle.text_core.specs.Trees.{SexpTree, atom, list, Spells, SpellAll, no_more, one_more}
 
-pub tree_atom : (token : Token) → tree_of (TheVariants.Atom token) ≡ atom token
-unfolding tree_of
-tree_atom token = ap tree_of (sym (TheVariants.rolls-Atom token)) ∙ fold-roll-Sexp Tree tree_step (shapes.Atom token)
+pub tree_atom : (token : Token) → sexp_tree (TheVariants.Atom token) ≡ atom token
+unfolding sexp_tree
+tree_atom token = ap sexp_tree (sym (TheVariants.rolls-Atom token)) ∙ fold-roll-Sexp SexpTree sexp_step (shapes.Atom token)
 
-pub tree_list : (place : ℕ) (parts : Vec Sexp Global) → tree_of (TheVariants.List place parts) ≡ list place (all_of (map tree_of parts.items))
-unfolding tree_of
-tree_list place parts = ap tree_of (sym (TheVariants.rolls-List place parts)) ∙ fold-roll-Sexp Tree tree_step (shapes.List place parts)
+pub tree_list : (place : ℕ) (parts : Vec Sexp Global) → sexp_tree (TheVariants.List place parts) ≡ list place (all_of (map sexp_tree parts.items))
+unfolding sexp_tree
+tree_list place parts = ap sexp_tree (sym (TheVariants.rolls-List place parts)) ∙ fold-roll-Sexp SexpTree sexp_step (shapes.List place parts)
 
 -- one tree more
-pub spelled_more : (trees : List Tree) (tree : Tree) (xs ys : List Token) → SpellAll (all_of trees) xs → Spells tree ys → SpellAll (all_of (trees ++ tree ∷ [])) (xs ++ ys)
+pub spelled_more : (trees : List SexpTree) (tree : SexpTree) (xs ys : List Token) → SpellAll (all_of trees) xs → Spells tree ys → SpellAll (all_of (trees ++ tree ∷ [])) (xs ++ ys)
 spelled_more [] tree xs ys no_more one = one_more ys [] one no_more (sym (append-nil ys))
 spelled_more (t ∷ trees) tree xs ys (one_more front back first others is) one =
     one_more front (back ++ ys) first (spelled_more trees tree back ys others one) (ap (λ zs. zs ++ ys) is ∙ append_assoc front back ys)

@@ -1,13 +1,13 @@
 -- What the index of a text of lines says of its lines and words.
 use Rattle.std.proofs.Common.{◌≡◌, ◌≢◌, ℕ, zero, suc, ◌+◌, ◌-◌, ◌<◌, ◌≤◌, ◌^◌, List, [], ◌∷◌, ◌++◌, length, take, drop, get_or, refl, sym, ap, ◌∙◌, subst, arith, append_assoc, length-append, one-add, add-one, zero-add}
 use Rattle.std.proofs.Math.Seq.{take-append_seam, drop-append-add}
-use Rattle.text_core.specs.Lines.{Line, IsWord, IsLine, last, word, AreLines, none, line, line_at, word_at, line_length, text_length}
+use Rattle.text_core.specs.Lines.{Line, IsLineWord, IsLine, last, word, AreLines, none, line, line_at, line_word, line_length, text_length}
 use Rattle.text_core.specs.LineIndex.{IsIndex, word_places, all_words, first_words}
 
 -- words, each with one byte behind it
 AreWords : List (List ℕ) → List ℕ → Type 0
 AreWords [] text = text ≡ []
-AreWords (w ∷ ws) text = IsWord w × (sep : ℕ) × (rest : List ℕ) × (text ≡ w ++ sep ∷ rest) × AreWords ws rest
+AreWords (w ∷ ws) text = IsLineWord w × (sep : ℕ) × (rest : List ℕ) × (text ≡ w ++ sep ∷ rest) × AreWords ws rest
 
 line_words : (ws : List (List ℕ)) (text rest : List ℕ) (more : List (List ℕ)) → IsLine ws text → AreWords more rest → AreWords (ws ++ more) (text ++ rest)
 unfolding AreWords
@@ -52,7 +52,7 @@ place_le place (w ∷ ws) (suc i) bound = omega (arith, place_le (place + (lengt
 
 -- What stands at a word's place.
 pub record IsWordAt (text w : List ℕ) (at : ℕ) : Type 0 where
-  pub is : IsWord w
+  pub is : IsLineWord w
   pub some : 0 < length w
   pub found : take (length w) (drop at text) ≡ w
   pub within : at + length w < length text
@@ -106,7 +106,7 @@ get_or_right (x ∷ xs) ys (suc i) j is = get_or_right xs ys i j (omega arith)
 
 -- a word of a line is one of all words
 word_among : (count : ℕ) (ls : List Line) (k at : ℕ) → k < length ls → at < length (line_at ls k).words
-    → (count ≤ get_or (first_words count ls) k 0) × (get_or (first_words count ls) k 0 + at < count + length (all_words ls)) × (get_or (all_words ls) (get_or (first_words count ls) k 0 + at - count) [] ≡ word_at ls k at)
+    → (count ≤ get_or (first_words count ls) k 0) × (get_or (first_words count ls) k 0 + at < count + length (all_words ls)) × (get_or (all_words ls) (get_or (first_words count ls) k 0 + at - count) [] ≡ line_word ls k at)
 word_among count [] k at bound in_line = absurd (omega arith)
 word_among count (l ∷ ls) zero at bound in_line =
     let e : count + at - count ≡ at = omega arith in
@@ -229,20 +229,20 @@ module _ (text : List ℕ) (ls : List Line) (words firsts : List ℕ) (index : I
       let among = word_among 0 ls k at bound in_line in
       omega (arith, among.1, ap (λ xs. get_or xs k 0) index.firsts_are)
 
-  pub word_is : (k at : ℕ) → k < length ls → at < length (line_at ls k).words → IsWordAt text (word_at ls k at) (get_or words (get_or firsts k 0 + at) 0)
+  pub word_is : (k at : ℕ) → k < length ls → at < length (line_at ls k).words → IsWordAt text (line_word ls k at) (get_or words (get_or firsts k 0 + at) 0)
   word_is k at bound in_line =
       let among = word_among 0 ls k at bound in_line in
       let here = word_here 0 (all_words ls) text (get_or firsts k 0 + at) (text_words 0 ls text index.lines_are) (word_within k at bound in_line) in
       let e : get_or firsts k 0 + at ≡ get_or (first_words 0 ls) k 0 + at - 0 = omega (arith, ap (λ xs. get_or xs k 0) index.firsts_are) in
-      let same : get_or (all_words ls) (get_or firsts k 0 + at) [] ≡ word_at ls k at = ap (λ n. get_or (all_words ls) n []) e ∙ among.2 in
+      let same : get_or (all_words ls) (get_or firsts k 0 + at) [] ≡ line_word ls k at = ap (λ n. get_or (all_words ls) n []) e ∙ among.2 in
       let f : get_or (word_places 0 (all_words ls)) (get_or firsts k 0 + at) 0 - 0 ≡ get_or words (get_or firsts k 0 + at) 0 = omega (arith, ap (λ xs. get_or xs (get_or firsts k 0 + at) 0) index.words_are) in
       subst (λ (w : List ℕ). IsWordAt text w (get_or words (get_or firsts k 0 + at) 0)) same (subst (IsWordAt text (get_or (all_words ls) (get_or firsts k 0 + at) [])) f here.1)
 
-  pub next_is : (k at : ℕ) → k < length ls → at < length (line_at ls k).words → get_or words (get_or firsts k 0 + at + 1) 0 ≡ get_or words (get_or firsts k 0 + at) 0 + (length (word_at ls k at) + 1)
+  pub next_is : (k at : ℕ) → k < length ls → at < length (line_at ls k).words → get_or words (get_or firsts k 0 + at + 1) 0 ≡ get_or words (get_or firsts k 0 + at) 0 + (length (line_word ls k at) + 1)
   next_is k at bound in_line =
       let among = word_among 0 ls k at bound in_line in
       let e : get_or firsts k 0 + at ≡ get_or (first_words 0 ls) k 0 + at - 0 = omega (arith, ap (λ xs. get_or xs k 0) index.firsts_are) in
-      let same : get_or (all_words ls) (get_or firsts k 0 + at) [] ≡ word_at ls k at = ap (λ n. get_or (all_words ls) n []) e ∙ among.2 in
+      let same : get_or (all_words ls) (get_or firsts k 0 + at) [] ≡ line_word ls k at = ap (λ n. get_or (all_words ls) n []) e ∙ among.2 in
       let next = next_place 0 (all_words ls) (get_or firsts k 0 + at) (word_within k at bound in_line) in
       let step : get_or words (get_or firsts k 0 + at + 1) 0 ≡ get_or (word_places 0 (all_words ls)) (suc (get_or firsts k 0 + at)) 0 = rw (add-one, index.words_are) refl in
       omega (arith, step, next, ap (λ xs. get_or xs (get_or firsts k 0 + at) 0) index.words_are, ap length same)
@@ -264,11 +264,11 @@ word_slice text w start next here is =
 
 -- the bytes of a word, by what the code read
 pub word_cut : (text : List ℕ) (ls : List Line) (words firsts : List ℕ) (k at first start next : ℕ) → IsIndex text ls words firsts → k < length ls → at < length (line_at ls k).words → first ≡ get_or firsts k first → start ≡ get_or words (first + at) start → next ≡ get_or words (first + at + 1) next
-    → IsWordAt text (word_at ls k at) start × (next ≡ start + (length (word_at ls k at) + 1))
+    → IsWordAt text (line_word ls k at) start × (next ≡ start + (length (line_word ls k at) + 1))
 word_cut text ls words firsts k at first start next index bound in_line is_first is_start is_next =
     let one = read_at firsts k first is_first (omega (arith, counted text ls words firsts index)) in
     let many = words_counted text ls words firsts index in
     let inner = word_within text ls words firsts index k at bound in_line in
     let two = read_at words (first + at) start is_start (omega (arith, one, many, inner)) ∙ ap (λ n. get_or words (n + at) 0) one in
     let three = read_at words (first + at + 1) next is_next (omega (arith, one, many, inner)) ∙ ap (λ n. get_or words (n + at + 1) 0) one in
-    (subst (IsWordAt text (word_at ls k at)) (sym two) (word_is text ls words firsts index k at bound in_line), omega (arith, two, three, next_is text ls words firsts index k at bound in_line))
+    (subst (IsWordAt text (line_word ls k at)) (sym two) (word_is text ls words firsts index k at bound in_line), omega (arith, two, three, next_is text ls words firsts index k at bound in_line))

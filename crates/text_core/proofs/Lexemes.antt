@@ -9,7 +9,7 @@ use Rattle.text_core.specs.declared.pieces.PieceKind.TheVariants.{Atom}
 use Rattle.text_core.specs.declared.tokens.Token.{Token}
 use Rattle.text_core.specs.declared.tokens.TokenKind.{TokenKind}
 use Rattle.text_core.specs.declared.tokens.TokenKind.TheVariants as tokens
-use Rattle.text_core.specs.Faults.{IsFirst, IsNotBehind, number_of}
+use Rattle.text_core.specs.Faults.{IsFirst, IsNotBehind, fault_number}
 use Rattle.text_core.specs.Numbers.{IsNumber, decimal, hexadecimal}
 use Rattle.text_core.specs.Pieces as pieces
 use Rattle.text_core.specs.Pieces.{kind_begun, goes_on, IsStopped, IsPiece, Consists, front}
@@ -228,7 +228,7 @@ faulty_place : (rest behind p q after after' : List ℕ) (ms : List (List ℕ)) 
 faulty_place rest behind p q after after' ms kind kind' at place is one fault pieces.nothing is' one' fault' placed =
     let once = piece_once p q after after' one one' (sym is ∙ is') in
     let same = fault_once q kind kind' (subst (λ ys. IsFaulty ys kind) once.0 fault) fault' in
-    inr (omega arith, omega (arith, ap number_of same))
+    inr (omega arith, omega (arith, ap fault_number same))
 faulty_place rest behind p q after after' ms kind kind' at place is one fault (front {front = m} {after = next} {pieces = ms'} _ some _) is' one' fault' placed =
     inl (omega (arith, piece_some m next some, length-append m (concat ms')))
 

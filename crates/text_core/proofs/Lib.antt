@@ -4,6 +4,8 @@ pub mod Lexemes
 pub mod Atoms
 pub mod Outcomes
 pub mod Within
+pub mod Named
+pub mod Rising
 pub mod Forests
 pub mod Depths
 pub mod Partners
@@ -17,3 +19,5 @@ pub mod LinesIn
 pub mod BadLines
 pub mod Splits
 pub mod LineFaults
+pub mod Decimals
+pub mod Printing

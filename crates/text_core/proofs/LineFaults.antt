@@ -7,8 +7,8 @@ use Rattle.std.proofs.lemmas.List.{take_all, drop_all}
 use Rattle.std.proofs.lemmas.List.Folds.{list_all-append}
 use Rattle.text_core.specs.declared.faults.Kind.{Kind}
 use Rattle.text_core.specs.declared.faults.Kind.TheVariants.{BadByte, BadLine}
-use Rattle.text_core.specs.Faults.{IsNotBehind, number_of}
-use Rattle.text_core.specs.Lines.{Line, IsWord, IsLine, last, word, AreLines, none, line, HasLines, IsBehind, IsBefore, HasEmptyWord, IsBadByte, IsBadLine, IsFirstLineFault, bad_byte, bad_line, is_printed, is_line_byte}
+use Rattle.text_core.specs.Faults.{IsNotBehind, fault_number}
+use Rattle.text_core.specs.Lines.{Line, IsLineWord, IsLine, last, word, AreLines, none, line, HasLines, IsBehind, IsBefore, HasEmptyWord, IsBadByte, IsBadLine, IsFirstLineFault, bad_byte, bad_line, is_printed, is_line_byte}
 use Rattle.text_core.specs.Lines as lines
 use Rattle.text_core.specs.LineIndex.{IsIndex, IsSplitTo, AreLineBytes, IsFirstRefused, spaced, word_places, all_words, lines_in}
 use Rattle.text_core.proofs.BadLines.{good_lines, fails_within}
@@ -22,7 +22,7 @@ later : (place index : ℕ) (kind other : Kind) → kind ≡ other → (index < 
 later place index kind other same never =
     elim (cases_lt index place) [
       | inl less ↦ absurd (never less)
-      | inr more ↦ elim (cases_lt place index) [ inl less ↦ inl less | inr more' ↦ inr (omega arith, omega (arith, ap number_of same)) ]
+      | inr more ↦ elim (cases_lt place index) [ inl less ↦ inl less | inr more' ↦ inr (omega arith, omega (arith, ap fault_number same)) ]
     ]
 
 split_at : (text : List ℕ) (at : ℕ) → at < length text → drop at text ≡ get_or text at 0 ∷ drop (at + 1) text

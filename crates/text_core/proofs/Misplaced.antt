@@ -6,18 +6,18 @@ use Rattle.text_core.specs.declared.faults.Kind.TheVariants.{Unclosed, Unopened,
 use Rattle.text_core.specs.declared.tokens.Token.{Token}
 use Rattle.text_core.specs.declared.tokens.TokenKind.TheVariants as kinds
 use Rattle.text_core.specs.Building.{peak}
-use Rattle.text_core.specs.Faults.{IsNotBehind, number_of}
-use Rattle.text_core.specs.Nesting.{IsClosed, IsInside, IsMisplaced, unclosed, unopened, too_deep, IsTreeFault, IsFirstTreeFault}
-use Rattle.text_core.specs.Trees.{Trees, SpellAll, HasTrees}
+use Rattle.text_core.specs.Faults.{IsNotBehind, fault_number}
+use Rattle.text_core.specs.Nesting.{HasClosing, IsInside, IsMisplaced, unclosed, unopened, too_deep, IsTreeFault, IsFirstTreeFault}
+use Rattle.text_core.specs.Trees.{SexpTrees, SpellAll, HasTrees}
 use Rattle.text_core.proofs.Cuts.{cut_inside, cut_same}
 use Rattle.text_core.proofs.Depths.{need, need-append, peak-append, peak-opening, inside_extra, not_opened, not_closed, spelled_levels}
 use Rattle.text_core.proofs.Partners.{closed_before, closed_in_trees, opened_in_trees}
 
 -- a token within trees can only be too deep
-only_deep : (trees : Trees) (w m b r : List Token) (t : Token) (kind : Kind) → SpellAll trees w → w ++ m ≡ b ++ t ∷ r → length b < length w → IsMisplaced b t r kind → (kind ≡ TooDeep) × (t.kind ≡ kinds.Opening) × IsInside 64 b
+only_deep : (trees : SexpTrees) (w m b r : List Token) (t : Token) (kind : Kind) → SpellAll trees w → w ++ m ≡ b ++ t ∷ r → length b < length w → IsMisplaced b t r kind → (kind ≡ TooDeep) × (t.kind ≡ kinds.Opening) × IsInside 64 b
 only_deep trees w m b r t kind spelled same less (unclosed opens never) =
     let found = cut_inside w m b r t same less in
-    absurd (never (subst IsClosed (sym found.2) (closed_before found.0 m (closed_in_trees trees w b found.0 t spelled found.1 opens))))
+    absurd (never (subst HasClosing (sym found.2) (closed_before found.0 m (closed_in_trees trees w b found.0 t spelled found.1 opens))))
 only_deep trees w m b r t kind spelled same less (unopened closes never) =
     let found = cut_inside w m b r t same less in
     absurd (never (opened_in_trees trees w b found.0 t spelled found.1 closes))
@@ -30,7 +30,7 @@ not_deep w m b r t needs low same less opens enclosed =
     omega (arith, inside_extra 64 b enclosed, ap need found.1, need-append b (t ∷ found.0), ap peak found.1, peak-append b (t ∷ found.0), peak-opening t found.0 opens)
 
 -- no fault stands within trees of a low peak
-pub none_within : (trees : Trees) (tokens w m : List Token) (index : ℕ) (kind : Kind) → SpellAll trees w → peak w ≤ 64 → tokens ≡ w ++ m → IsTreeFault tokens index kind → index < length w → ⊥
+pub none_within : (trees : SexpTrees) (tokens w m : List Token) (index : ℕ) (kind : Kind) → SpellAll trees w → peak w ≤ 64 → tokens ≡ w ++ m → IsTreeFault tokens index kind → index < length w → ⊥
 none_within trees tokens w m index kind spelled low same fault less =
     let cut = sym same ∙ fault.whole in
     let deep = only_deep trees w m fault.before fault.behind fault.token kind spelled cut (omega (arith, fault.indexed)) fault.misplaced in
@@ -44,18 +44,18 @@ same_place tokens b r t index kind whole fault same =
 apart : (t : Token) → t.kind ≡ kinds.Opening → t.kind ≡ kinds.Closing → ⊥
 apart t opens closes = cc
 
-closing_is_unopened : (b r : List Token) (t : Token) (kind : Kind) → t.kind ≡ kinds.Closing → IsMisplaced b t r kind → number_of Unopened ≤ number_of kind
+closing_is_unopened : (b r : List Token) (t : Token) (kind : Kind) → t.kind ≡ kinds.Closing → IsMisplaced b t r kind → fault_number Unopened ≤ fault_number kind
 closing_is_unopened b r t kind closes (unclosed opens _) = absurd (apart t opens closes)
 closing_is_unopened b r t kind closes (unopened _ _) = omega arith
 closing_is_unopened b r t kind closes (too_deep opens _) = absurd (apart t opens closes)
 
-unclosed_is_least : (b r : List Token) (t : Token) (kind : Kind) → IsMisplaced b t r kind → number_of Unclosed ≤ number_of kind
+unclosed_is_least : (b r : List Token) (t : Token) (kind : Kind) → IsMisplaced b t r kind → fault_number Unclosed ≤ fault_number kind
 unclosed_is_least b r t kind (unclosed _ _) = omega arith
 unclosed_is_least b r t kind (unopened _ _) = omega arith
 unclosed_is_least b r t kind (too_deep _ _) = omega arith
 
 -- a fault at or behind a place
-later : (place index : ℕ) (kind other : Kind) → (index < place → ⊥) → (index ≡ place → number_of kind ≤ number_of other) → IsNotBehind place kind index other
+later : (place index : ℕ) (kind other : Kind) → (index < place → ⊥) → (index ≡ place → fault_number kind ≤ fault_number other) → IsNotBehind place kind index other
 later place index kind other never here =
     elim (cases_lt index place) [
       | inl less ↦ absurd (never less)
@@ -66,7 +66,7 @@ later place index kind other never here =
     ]
 
 -- a closing parenthesis behind trees is unopened
-pub unopened_first : (trees : Trees) (tokens w r : List Token) (c : Token) → tokens ≡ w ++ c ∷ r → SpellAll trees w → peak w ≤ 64 → c.kind ≡ kinds.Closing → IsFirstTreeFault tokens c.place Unopened
+pub unopened_first : (trees : SexpTrees) (tokens w r : List Token) (c : Token) → tokens ≡ w ++ c ∷ r → SpellAll trees w → peak w ≤ 64 → c.kind ≡ kinds.Closing → IsFirstTreeFault tokens c.place Unopened
 unopened_first trees tokens w r c whole spelled low closes = record {
   index = length w;
   first = record {
@@ -77,7 +77,7 @@ unopened_first trees tokens w r c whole spelled low closes = record {
 }
 
 -- an opening parenthesis behind trees is unclosed where each closing one behind it has its partner behind it
-pub unclosed_first : (trees : Trees) (tokens w r : List Token) (o : Token) → tokens ≡ w ++ o ∷ r → SpellAll trees w → peak w ≤ 64 → o.kind ≡ kinds.Opening → need r ≡ 0 → IsFirstTreeFault tokens o.place Unclosed
+pub unclosed_first : (trees : SexpTrees) (tokens w r : List Token) (o : Token) → tokens ≡ w ++ o ∷ r → SpellAll trees w → peak w ≤ 64 → o.kind ≡ kinds.Opening → need r ≡ 0 → IsFirstTreeFault tokens o.place Unclosed
 unclosed_first trees tokens w r o whole spelled low opens needs = record {
   index = length w;
   first = record {
@@ -87,11 +87,11 @@ unclosed_first trees tokens w r o whole spelled low opens needs = record {
   placed = refl;
 }
 
-deep_number : (kind : Kind) → kind ≡ TooDeep → number_of TooDeep ≤ number_of kind
-deep_number kind same = omega (arith, ap number_of same)
+deep_number : (kind : Kind) → kind ≡ TooDeep → fault_number TooDeep ≤ fault_number kind
+deep_number kind same = omega (arith, ap fault_number same)
 
 -- an opening parenthesis inside 64 others is the first that is too deep, and is so where trees go on behind it
-pub too_deep_first : (trees : Trees) (tokens w m b r : List Token) (o : Token) → tokens ≡ b ++ o ∷ r → tokens ≡ w ++ m → SpellAll trees w → length b < length w → need b ≡ 0 → peak b ≤ 64 → o.kind ≡ kinds.Opening → IsInside 64 b → IsFirstTreeFault tokens o.place TooDeep
+pub too_deep_first : (trees : SexpTrees) (tokens w m b r : List Token) (o : Token) → tokens ≡ b ++ o ∷ r → tokens ≡ w ++ m → SpellAll trees w → length b < length w → need b ≡ 0 → peak b ≤ 64 → o.kind ≡ kinds.Opening → IsInside 64 b → IsFirstTreeFault tokens o.place TooDeep
 too_deep_first trees tokens w m b r o whole same spelled less needs low opens deep = record {
   index = length b;
   first = record {
@@ -108,7 +108,7 @@ too_deep_first trees tokens w m b r o whole same spelled less needs low opens de
 }
 
 -- tokens with trees have no fault
-pub no_tree_fault : (tokens : List Token) (trees : Trees) (index : ℕ) (kind : Kind) → HasTrees tokens trees → IsTreeFault tokens index kind → ⊥
+pub no_tree_fault : (tokens : List Token) (trees : SexpTrees) (index : ℕ) (kind : Kind) → HasTrees tokens trees → IsTreeFault tokens index kind → ⊥
 no_tree_fault tokens trees index kind has fault =
     let levels = spelled_levels trees tokens has.spelled in
     none_within trees tokens tokens [] index kind has.spelled (omega (arith, levels.peaks, has.nested)) (sym (append-nil tokens)) fault (omega (arith, fault.indexed, ap length fault.whole, length-append fault.before (fault.token ∷ fault.behind)))

@@ -8,7 +8,7 @@ use Rattle.text_core.specs.declared.tokens.TokenKind.TheVariants as kinds
 use Rattle.text_core.specs.Building.{Frame, within, AreBuilt, IsStillOpen, peak, depth_behind}
 use Rattle.text_core.specs.Nesting.{IsInside, IsFirstTreeFault}
 use Rattle.text_core.specs.Sexps.{all_of}
-use Rattle.text_core.specs.Trees.{Tree, Trees, atom, list, IsAtom, name, register, number, SpellAll, as_atom, as_list}
+use Rattle.text_core.specs.Trees.{SexpTree, SexpTrees, atom, list, IsAtom, name, register, number, SpellAll, as_atom, as_list}
 use Rattle.text_core.proofs.Builds.{built_tree, built_enter, built_leave, built_whole, built_inside, last_of}
 use Rattle.text_core.proofs.Cuts.{cut_inside}
 use Rattle.text_core.proofs.Depths.{built_levels, peak-append}
@@ -18,7 +18,7 @@ use Rattle.text_core.proofs.Misplaced.{too_deep_first, unclosed_first}
 -- all that is open, the outermost list with it
 record IsAllBuilt (count : ℕ) (tokens : List Token) : Type 0 where
   frames : List Frame
-  parts : List Tree
+  parts : List SexpTree
   built : AreBuilt frames parts tokens
   counted : length frames ≡ count
 
@@ -39,7 +39,7 @@ all_built tokens at place index count still =
     }
 
 -- with one token more, where the outermost list is still open
-still_with : (tokens : List Token) (at place index next count new : ℕ) (t : Token) (frames : List Frame) (parts : List Tree) (still : IsStillOpen tokens at place index count) → take next tokens ≡ take index tokens ++ t ∷ [] → AreBuilt frames parts (still.behind ++ t ∷ []) → new ≡ 1 + length frames → IsStillOpen tokens at place next new
+still_with : (tokens : List Token) (at place index next count new : ℕ) (t : Token) (frames : List Frame) (parts : List SexpTree) (still : IsStillOpen tokens at place index count) → take next tokens ≡ take index tokens ++ t ∷ [] → AreBuilt frames parts (still.behind ++ t ∷ []) → new ≡ 1 + length frames → IsStillOpen tokens at place next new
 still_with tokens at place index next count new t frames parts still more built counted = record {
   before = still.before;
   frames = frames;
@@ -98,7 +98,7 @@ nothing_else [] one = refl
 nothing_else (f ∷ frames) one = absurd (omega arith)
 
 -- the token that closes the outermost list ends trees
-ended : (tokens : List Token) (at place index : ℕ) (c : Token) → IsStillOpen tokens at place index 1 → c.kind ≡ kinds.Closing → take (index + 1) tokens ≡ take index tokens ++ c ∷ [] → (trees : Trees) × SpellAll trees (take (index + 1) tokens)
+ended : (tokens : List Token) (at place index : ℕ) (c : Token) → IsStillOpen tokens at place index 1 → c.kind ≡ kinds.Closing → take (index + 1) tokens ≡ take index tokens ++ c ∷ [] → (trees : SexpTrees) × SpellAll trees (take (index + 1) tokens)
 ended tokens at place index c still closes more =
     let none = nothing_else still.frames still.counted in
     let inner = built_whole still.parts still.behind (subst (λ fs. AreBuilt fs still.parts still.behind) none still.built) in

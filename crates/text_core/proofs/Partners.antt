@@ -4,11 +4,11 @@ use Rattle.std.proofs.lemmas.Bool.{cases_lt}
 use Rattle.text_core.specs.declared.tokens.Token.{Token}
 use Rattle.text_core.specs.declared.tokens.TokenKind.{TokenKind}
 use Rattle.text_core.specs.declared.tokens.TokenKind.TheVariants as kinds
-use Rattle.text_core.specs.Nesting.{IsClosed, IsOpened}
-use Rattle.text_core.specs.Trees.{Tree, Trees, IsAtom, Spells, SpellAll, as_atom, as_list, no_more, one_more}
+use Rattle.text_core.specs.Nesting.{HasClosing, HasOpening}
+use Rattle.text_core.specs.Trees.{SexpTree, SexpTrees, IsAtom, Spells, SpellAll, as_atom, as_list, no_more, one_more}
 use Rattle.text_core.proofs.Cuts.{cut_inside, cut_outside, cut_one, cut_none}
 
-pub closed_before : (xs ys : List Token) → IsClosed xs → IsClosed (xs ++ ys)
+pub closed_before : (xs ys : List Token) → HasClosing xs → HasClosing (xs ++ ys)
 closed_before xs ys found = record {
   inner = found.inner;
   closing = found.closing;
@@ -18,7 +18,7 @@ closed_before xs ys found = record {
   balanced = found.balanced;
 }
 
-pub opened_behind : (xs ys : List Token) → IsOpened ys → IsOpened (xs ++ ys)
+pub opened_behind : (xs ys : List Token) → HasOpening ys → HasOpening (xs ++ ys)
 opened_behind xs ys found = record {
   front = xs ++ found.front;
   opening = found.opening;
@@ -46,7 +46,7 @@ apart : (t u : Token) → t ≡ u → t.kind ≡ kinds.Opening → u.kind ≡ ki
 apart t u same opens closes = let kind : t.kind ≡ u.kind = ap (λ (v : Token). v.kind) same in cc
 
 mutual
-  closed_in_tree : (tree : Tree) (w b n : List Token) (t : Token) → Spells tree w → w ≡ b ++ t ∷ n → t.kind ≡ kinds.Opening → IsClosed n
+  closed_in_tree : (tree : SexpTree) (w b n : List Token) (t : Token) → Spells tree w → w ≡ b ++ t ∷ n → t.kind ≡ kinds.Opening → HasClosing n
   closed_in_tree tree w b n t (as_atom {token = token} is same) cut opens =
       let one = cut_one token t b n (sym same ∙ cut) in
       absurd (no_atom_opens token.kind is (ap (λ (v : Token). v.kind) one.1 ∙ opens))
@@ -58,7 +58,7 @@ mutual
       elim (cases_lt (length b) (length inner)) [
         | inl less ↦
             let found = cut_inside inner (c ∷ []) b n t tail less in
-            subst IsClosed (sym found.2) (closed_before found.0 (c ∷ []) (closed_in_trees parts inner b found.0 t each found.1 opens))
+            subst HasClosing (sym found.2) (closed_before found.0 (c ∷ []) (closed_in_trees parts inner b found.0 t each found.1 opens))
         | inr more ↦
             let found = cut_outside inner (c ∷ []) b n t tail more in
             let one = cut_one c t found.0 n found.2 in
@@ -66,20 +66,20 @@ mutual
       ]
 
   -- an opening parenthesis has its closing one behind it
-  pub closed_in_trees : (trees : Trees) (w b n : List Token) (t : Token) → SpellAll trees w → w ≡ b ++ t ∷ n → t.kind ≡ kinds.Opening → IsClosed n
+  pub closed_in_trees : (trees : SexpTrees) (w b n : List Token) (t : Token) → SpellAll trees w → w ≡ b ++ t ∷ n → t.kind ≡ kinds.Opening → HasClosing n
   closed_in_trees trees w b n t no_more cut opens = absurd (cut_none t b n cut)
   closed_in_trees trees w b n t (one_more {tree = tree} {trees = others} front back one each same) cut opens =
       elim (cases_lt (length b) (length front)) [
         | inl less ↦
             let found = cut_inside front back b n t (sym same ∙ cut) less in
-            subst IsClosed (sym found.2) (closed_before found.0 back (closed_in_tree tree front b found.0 t one found.1 opens))
+            subst HasClosing (sym found.2) (closed_before found.0 back (closed_in_tree tree front b found.0 t one found.1 opens))
         | inr more ↦
             let found = cut_outside front back b n t (sym same ∙ cut) more in
             closed_in_trees others back found.0 n t each found.2 opens
       ]
 
 mutual
-  opened_in_tree : (tree : Tree) (w b n : List Token) (t : Token) → Spells tree w → w ≡ b ++ t ∷ n → t.kind ≡ kinds.Closing → IsOpened b
+  opened_in_tree : (tree : SexpTree) (w b n : List Token) (t : Token) → Spells tree w → w ≡ b ++ t ∷ n → t.kind ≡ kinds.Closing → HasOpening b
   opened_in_tree tree w b n t (as_atom {token = token} is same) cut closes =
       let one = cut_one token t b n (sym same ∙ cut) in
       absurd (no_atom_closes token.kind is (ap (λ (v : Token). v.kind) one.1 ∙ closes))
@@ -101,7 +101,7 @@ mutual
       ]
 
   -- a closing parenthesis has its opening one before it
-  pub opened_in_trees : (trees : Trees) (w b n : List Token) (t : Token) → SpellAll trees w → w ≡ b ++ t ∷ n → t.kind ≡ kinds.Closing → IsOpened b
+  pub opened_in_trees : (trees : SexpTrees) (w b n : List Token) (t : Token) → SpellAll trees w → w ≡ b ++ t ∷ n → t.kind ≡ kinds.Closing → HasOpening b
   opened_in_trees trees w b n t no_more cut closes = absurd (cut_none t b n cut)
   opened_in_trees trees w b n t (one_more {tree = tree} {trees = others} front back one each same) cut closes =
       elim (cases_lt (length b) (length front)) [
@@ -110,5 +110,5 @@ mutual
             opened_in_tree tree front b found.0 t one found.1 closes
         | inr more ↦
             let found = cut_outside front back b n t (sym same ∙ cut) more in
-            subst IsOpened (sym found.1) (opened_behind front found.0 (opened_in_trees others back found.0 n t each found.2 closes))
+            subst HasOpening (sym found.1) (opened_behind front found.0 (opened_in_trees others back found.0 n t each found.2 closes))
       ]

@@ -10,7 +10,7 @@ use Rattle.text_core.specs.Lexing.{IsToken, AreTokens, HasTokens, opening, closi
 use Rattle.text_core.specs.Lexing as lexing
 use Rattle.text_core.specs.Nesting.{IsTreeFault, IsTreeFaultAt, IsFirstTreeFault}
 use Rattle.text_core.specs.Trees as trees
-use Rattle.text_core.specs.Trees.{Tree, Trees, list, IsAtom, Spells, SpellAll, as_atom, as_list, no_more, one_more, HasTrees}
+use Rattle.text_core.specs.Trees.{SexpTree, SexpTrees, list, IsAtom, Spells, SpellAll, as_atom, as_list, no_more, one_more, HasTrees}
 use Rattle.text_core.proofs.Cuts.{cut_same, cut_outside}
 use Rattle.text_core.proofs.Misplaced.{no_tree_fault}
 use Rattle.text_core.proofs.Outcomes.{first_once}
@@ -28,7 +28,7 @@ atom_no_list : (t o : Token) → t ≡ o → IsAtom t.kind → o.kind ≡ kinds.
 atom_no_list t o same is opens = no_atom_opens t.kind is (ap (λ (v : Token). v.kind) same ∙ opens)
 
 -- a tree doesn't begin with a closing parenthesis
-no_end : (tree : Tree) (xs rest : List Token) → Spells tree xs → IsEnd (xs ++ rest) → ⊥
+no_end : (tree : SexpTree) (xs rest : List Token) → Spells tree xs → IsEnd (xs ++ rest) → ⊥
 unfolding IsEnd
 no_end tree xs rest (as_atom {token = t} is same) closes =
     no_atom_closes t.kind is (subst (λ ys. IsEnd (ys ++ rest)) same closes)
@@ -38,7 +38,7 @@ no_end tree xs rest (as_list o c inner opens _ _ _ same) closes =
 mutual
   unfolding IsEnd
 
-  tree_once : (t u : Tree) (xs ys r s : List Token) → Spells t xs → Spells u ys → xs ++ r ≡ ys ++ s → (t ≡ u) × (r ≡ s)
+  tree_once : (t u : SexpTree) (xs ys r s : List Token) → Spells t xs → Spells u ys → xs ++ r ≡ ys ++ s → (t ≡ u) × (r ≡ s)
   tree_once t u xs ys r s (as_atom {token = a} is same) (as_atom {token = b} is' same') cut =
       let joined : a ∷ r ≡ b ∷ s = ap (λ zs. zs ++ r) (sym same) ∙ (cut ∙ ap (λ zs. zs ++ s) same') in
       let head : a ≡ b = cc in
@@ -60,7 +60,7 @@ mutual
       let behind : c ∷ r ≡ c' ∷ s = parts.1 in
       (cc (here, parts.0), cc)
 
-  trees_once : (ts us : Trees) (xs ys r s : List Token) → SpellAll ts xs → SpellAll us ys → xs ++ r ≡ ys ++ s → IsEnd r → IsEnd s → (ts ≡ us) × (r ≡ s)
+  trees_once : (ts us : SexpTrees) (xs ys r s : List Token) → SpellAll ts xs → SpellAll us ys → xs ++ r ≡ ys ++ s → IsEnd r → IsEnd s → (ts ≡ us) × (r ≡ s)
   trees_once ts us xs ys r s no_more no_more cut _ _ = (refl, cut)
   trees_once ts us xs ys r s no_more (one_more {tree = u} front back one each same) cut end _ =
       absurd (no_end u front (back ++ s) one (subst IsEnd (cut ∙ (ap (λ zs. zs ++ s) same ∙ append_assoc front back s)) end))
@@ -73,11 +73,11 @@ mutual
       (cc (first.0, more.0), more.1)
 
 -- tokens spell one list of trees at most
-pub one_forest : (tokens : List Token) (ts us : Trees) → HasTrees tokens ts → HasTrees tokens us → ts ≡ us
+pub one_forest : (tokens : List Token) (ts us : SexpTrees) → HasTrees tokens ts → HasTrees tokens us → ts ≡ us
 unfolding IsEnd
 one_forest tokens ts us one two = (trees_once ts us tokens tokens [] [] one.spelled two.spelled refl tt tt).0
 
-pub no_first_tree_fault : (tokens : List Token) (ts : Trees) (place : ℕ) (kind : Kind) → HasTrees tokens ts → IsFirstTreeFault tokens place kind → ⊥
+pub no_first_tree_fault : (tokens : List Token) (ts : SexpTrees) (place : ℕ) (kind : Kind) → HasTrees tokens ts → IsFirstTreeFault tokens place kind → ⊥
 no_first_tree_fault tokens ts place kind has fault = no_tree_fault tokens ts fault.index kind has fault.first.found
 
 pub first_tree_fault_once : (tokens : List Token) (p q : ℕ) (k l : Kind) → IsFirstTreeFault tokens p k → IsFirstTreeFault tokens q l → (p ≡ q) × (k ≡ l)

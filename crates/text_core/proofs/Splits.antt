@@ -4,7 +4,7 @@ use Rattle.std.specs.List.{list_all, AllByRecursion}
 use Rattle.std.proofs.lemmas.Bool.Decides.{nat_tests}
 use Rattle.std.proofs.lemmas.List.{take_more}
 use Rattle.std.proofs.lemmas.List.Folds.{list_all-append}
-use Rattle.text_core.specs.Lines.{Line, IsWord, IsLine, last, word, AreLines, none, line, HasLines, IsBehind, IsBefore, HasEmptyWord, IsBadByte, IsBadLine, IsFirstLineFault, bad_byte, bad_line, is_printed, is_line_byte, line_length, text_length}
+use Rattle.text_core.specs.Lines.{Line, IsLineWord, IsLine, last, word, AreLines, none, line, HasLines, IsBehind, IsBefore, HasEmptyWord, IsBadByte, IsBadLine, IsFirstLineFault, bad_byte, bad_line, is_printed, is_line_byte, line_length, text_length}
 use Rattle.text_core.specs.Lines as lines
 use Rattle.text_core.specs.LineIndex.{IsSplitTo, AreLineBytes, spaced, word_places, all_words, first_words}
 use Rattle.text_core.proofs.Cuts.{both_true}
@@ -19,7 +19,7 @@ lines_more place at ls ws front t none each is =
 lines_more place at ls ws front t (line {lines = more} first rest one others cut) each is =
     line first (rest ++ t) one (lines_more (place + length first) at more ws rest t others each (omega (arith, is, ap length cut, length-append first rest))) (ap (λ zs. zs ++ t) cut ∙ append_assoc first rest t)
 
-line_done : (done : List (List ℕ)) (part : List ℕ) → AllByRecursion IsWord done → IsWord part → IsLine (done ++ part ∷ []) (spaced done ++ (part ++ 10 ∷ []))
+line_done : (done : List (List ℕ)) (part : List ℕ) → AllByRecursion IsLineWord done → IsLineWord part → IsLine (done ++ part ∷ []) (spaced done ++ (part ++ 10 ∷ []))
 line_done [] part each is = last is refl
 line_done (w ∷ done) part each is =
     word (spaced done ++ (part ++ 10 ∷ [])) each.0 (line_done done part each.1 is) (append_assoc w (32 ∷ spaced done) (part ++ 10 ∷ []))
@@ -28,7 +28,7 @@ spaced-more : (done : List (List ℕ)) (w : List ℕ) → spaced (done ++ w ∷ 
 spaced-more [] w = refl
 spaced-more (v ∷ done) w = ap (λ zs. v ++ 32 ∷ zs) (spaced-more done w) ∙ sym (append_assoc v (32 ∷ spaced done) (w ++ 32 ∷ []))
 
-all_more : (done : List (List ℕ)) (w : List ℕ) → AllByRecursion IsWord done → IsWord w → AllByRecursion IsWord (done ++ w ∷ [])
+all_more : (done : List (List ℕ)) (w : List ℕ) → AllByRecursion IsLineWord done → IsLineWord w → AllByRecursion IsLineWord (done ++ w ∷ [])
 all_more [] w each is = (is, tt)
 all_more (v ∷ done) w each is = (each.0, all_more done w each.1 is)
 
@@ -80,7 +80,7 @@ behind_lines place ls front none = lines.front
 behind_lines place ls front (line {words = ws} {lines = more} first rest each others cut) =
     behind_line ws first rest front each (behind_lines (place + length first) more rest others) cut
 
-pub open_feeds : (done : List (List ℕ)) (part : List ℕ) → AllByRecursion IsWord done → list_all is_printed part ≡ true → list_all not_feed (spaced done ++ part) ≡ true
+pub open_feeds : (done : List (List ℕ)) (part : List ℕ) → AllByRecursion IsLineWord done → list_all is_printed part ≡ true → list_all not_feed (spaced done ++ part) ≡ true
 open_feeds [] part each is = no_feed part is
 open_feeds (w ∷ done) part each is =
     rw (append_assoc w (32 ∷ spaced done) part) (no_feed_more w (spaced done ++ part) each.0.printed (open_feeds done part each.1 is))
@@ -134,7 +134,7 @@ module _ (text : List ℕ) (at start_line start : ℕ) (words firsts : List ℕ)
       firsts_are = split.firsts_are;
     }
 
-    part_word : (at ≡ start → ⊥) → IsWord split.part
+    part_word : (at ≡ start → ⊥) → IsLineWord split.part
     part_word apart = record { some = λ none. apart (omega (arith, at_is, split.start_is, ap length none)); printed = split.printed }
 
     -- where the next word begins

@@ -11,8 +11,8 @@ use Rattle.text_core.specs.declared.tokens.TokenKind.{TokenKind}
 use Rattle.text_core.specs.Pieces.{Consists}
 use Rattle.text_core.specs.Pieces as pieces
 use Rattle.text_core.specs.Lexing.{IsToken, IsTokenOf, AreTokens, HasTokens, token_at}
-use Rattle.text_core.specs.Sexps.{all_of, tree_of, trees_of}
-use Rattle.text_core.specs.Trees.{Tree, Spells, SpellAll, as_atom, as_list, no_more, one_more, HasTrees}
+use Rattle.text_core.specs.Sexps.{all_of, sexp_tree, sexp_trees}
+use Rattle.text_core.specs.Trees.{SexpTree, Spells, SpellAll, as_atom, as_list, no_more, one_more, HasTrees}
 use Rattle.text_core.specs.Lexing as lexing
 
 pieces_make : (text : List ℕ) (ps : List (List ℕ)) (rest : List ℕ) → Consists text ps rest → length text ≡ length (concat ps) + length rest
@@ -39,7 +39,7 @@ pub tokens_within : (text : List ℕ) (ts : List Token) → HasTokens text ts �
 tokens_within text ts read = tokens_end 0 (length text) read.pieces ts read.read (let e = pieces_make text read.pieces [] read.consists in omega (arith, e))
 
 -- a piece behind other bytes
-piece_found : (text before piece after : List ℕ) (place : ℕ) → text ≡ before ++ (piece ++ after) → place ≡ length before → take (length piece) (drop place text) ≡ piece
+pub piece_found : (text before piece after : List ℕ) (place : ℕ) → text ≡ before ++ (piece ++ after) → place ≡ length before → take (length piece) (drop place text) ≡ piece
 piece_found text before piece after place whole placed =
     ap (λ xs. take (length piece) (drop place xs)) whole ∙ (ap (λ n. take (length piece) (drop n (before ++ (piece ++ after)))) placed ∙ (ap (take (length piece)) (drop-append_seam before (piece ++ after)) ∙ take-append_seam piece after))
 
@@ -76,14 +76,14 @@ pub few_tokens : (text : List ℕ) (ts : List Token) → HasTokens text ts → l
 few_tokens text ts read = omega (arith, fewer 0 read.pieces ts read.read, pieces_make text read.pieces [] read.consists)
 
 -- trees have no more tokens than their text
-tree_some : (tree : Tree) (xs : List Token) → Spells tree xs → 0 < length xs
+tree_some : (tree : SexpTree) (xs : List Token) → Spells tree xs → 0 < length xs
 tree_some tree xs (as_atom _ same) = omega (arith, ap length same)
 tree_some tree xs (as_list o c inner _ _ _ _ same) = omega (arith, ap length same)
 
-trees_fewer : (sexps : List Tree) (xs : List Token) → SpellAll (all_of sexps) xs → length sexps ≤ length xs
+trees_fewer : (sexps : List SexpTree) (xs : List Token) → SpellAll (all_of sexps) xs → length sexps ≤ length xs
 trees_fewer [] xs no_more = omega arith
 trees_fewer (t ∷ sexps) xs (one_more front back one others same) =
     omega (arith, ap length same, length-append front back, tree_some t front one, trees_fewer sexps back others)
 
-pub few_trees : (sexps : List Sexp) (xs : List Token) → HasTrees xs (trees_of sexps) → length sexps ≤ length xs
-few_trees sexps xs has = omega (arith, length-map sexps tree_of, trees_fewer (map tree_of sexps) xs has.spelled)
+pub few_trees : (sexps : List Sexp) (xs : List Token) → HasTrees xs (sexp_trees sexps) → length sexps ≤ length xs
+few_trees sexps xs has = omega (arith, length-map sexps sexp_tree, trees_fewer (map sexp_tree sexps) xs has.spelled)

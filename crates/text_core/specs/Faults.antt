@@ -8,26 +8,26 @@ use Rattle.text_core.specs.declared.faults.Fault.{Fault}
 use Rattle.text_core.specs.declared.faults.TextFault.{TextFault}
 use Rattle.text_core.specs.declared.faults.TextFault.TheVariants as answers
 
-abbrev pub number_of : Kind → ℕ
-number_of BadByte = 1
-number_of Unclosed = 2
-number_of Unopened = 3
-number_of BadNumber = 4
-number_of TooDeep = 5
-number_of BadForm = 6
-number_of UnknownName = 7
-number_of Twice = 8
-number_of WrongArity = 9
-number_of WrongSort = 10
-number_of BadRegister = 11
-number_of BadAxiom = 12
-number_of LimitPassed = 13
-number_of BadSlot = 14
-number_of BadLatency = 15
-number_of OpTwice = 16
-number_of BadRow = 17
-number_of BadClass = 18
-number_of BadLine = 19
+abbrev pub fault_number : Kind → ℕ
+fault_number BadByte = 1
+fault_number Unclosed = 2
+fault_number Unopened = 3
+fault_number BadNumber = 4
+fault_number TooDeep = 5
+fault_number BadForm = 6
+fault_number UnknownName = 7
+fault_number Twice = 8
+fault_number WrongArity = 9
+fault_number WrongSort = 10
+fault_number BadRegister = 11
+fault_number BadAxiom = 12
+fault_number LimitPassed = 13
+fault_number BadSlot = 14
+fault_number BadLatency = 15
+fault_number OpTwice = 16
+fault_number BadRow = 17
+fault_number BadClass = 18
+fault_number BadLine = 19
 
 abbrev pub kind_name : Kind → List ℕ
 kind_name BadByte = codes "BadByte"
@@ -57,7 +57,7 @@ fault_text f = codes "fault " ++ decimal f.place ++ codes " " ++ kind_name f.kin
 -- the first fault isn't behind the second one: by place, and at one place by number
 abbrev pub IsNotBehind : ℕ → Kind → ℕ → Kind → Type 0
 IsNotBehind place kind other_place other_kind =
-    (place < other_place) ⊎ ((place ≡ other_place) × (number_of kind ≤ number_of other_kind))
+    (place < other_place) ⊎ ((place ≡ other_place) × (fault_number kind ≤ fault_number other_kind))
 
 -- A fault of a pass, where `IsAt` says which faults it finds at which place, and no fault of it comes earlier.
 pub record IsFirst (IsAt : ℕ → Kind → Type 0) (place : ℕ) (kind : Kind) : Type 0 where

@@ -11,7 +11,8 @@ use Rattle.text_core.specs.declared.tokens.TokenKind.TheVariants as kinds
 use Rattle.text_core.specs.Numbers.{IsNumber}
 use Rattle.text_core.specs.Pieces.{kind_begun, IsPiece, Consists}
 
--- What token a piece is. An atom that begins with a dollar sign is a register, one that begins with a digit is a number.
+-- What token a piece is. An atom that begins with a dollar sign is a register, one that begins with a digit is a
+-- number.
 pub data IsToken : List ℕ → TokenKind → Type 0 where
   opening : {first : ℕ} {more : List ℕ} → kind_begun first ≡ Opening → IsToken (first ∷ more) kinds.Opening
   closing : {first : ℕ} {more : List ℕ} → kind_begun first ≡ Closing → IsToken (first ∷ more) kinds.Closing

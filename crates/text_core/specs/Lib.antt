@@ -2,10 +2,13 @@ pub mod Faults
 pub mod Numbers
 pub mod Pieces
 pub mod Lexing
+pub mod Names
 pub mod ReadTo
 pub mod Trees
 pub mod Nesting
 pub mod Sexps
+pub mod Places
 pub mod Building
 pub mod Lines
+pub mod LineTexts
 pub mod LineIndex

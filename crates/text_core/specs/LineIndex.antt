@@ -1,7 +1,7 @@
 -- Where the lines and the words of a text stand. Source: this project.
 use Rattle.std.specs.Prelude.{ℕ, ◌≡◌, ◌+◌, ◌<◌, ◌^◌, ◌==◌, List, [], ◌∷◌, ◌++◌, length, take, slice_index, true, false}
 use Rattle.std.specs.List.{slice_split, list_all, AllByRecursion}
-use Rattle.text_core.specs.Lines.{Line, HasLines, AreLines, IsWord, is_printed, is_line_byte}
+use Rattle.text_core.specs.Lines.{Line, HasLines, AreLines, IsLineWord, is_printed, is_line_byte}
 
 -- what stands between spaces
 abbrev pub words_in : List ℕ → List (List ℕ)
@@ -11,7 +11,8 @@ words_in line = slice_split (λ b. b == 32) line
 abbrev pub lines_from : ℕ → List (List ℕ) → List Line
 lines_from place [] = []
 lines_from place (part ∷ []) = []
-lines_from place (part ∷ next ∷ parts) = (record { place = place; words = words_in part }) ∷ lines_from (place + (length part + 1)) (next ∷ parts)
+lines_from place (part ∷ next ∷ parts) =
+    (record { place = place; words = words_in part }) ∷ lines_from (place + (length part + 1)) (next ∷ parts)
 
 -- the lines of a text that has lines; of any other text this says nothing
 unfoldable pub lines_in : List ℕ → List Line
@@ -53,7 +54,7 @@ pub record IsSplitTo (text : List ℕ) (at line start : ℕ) (words firsts : Lis
   pub part : List ℕ
   pub whole : take at text ≡ front ++ (spaced done ++ part)
   pub lines_are : AreLines 0 lines front
-  pub words_done : AllByRecursion IsWord done
+  pub words_done : AllByRecursion IsLineWord done
   pub printed : list_all is_printed part ≡ true
   pub line_is : line ≡ length front
   pub start_is : start ≡ length front + length (spaced done)

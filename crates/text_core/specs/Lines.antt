@@ -1,5 +1,5 @@
 -- Texts of lines of words: answers and programs. Source: this project.
-use Rattle.std.specs.Prelude.{ℕ, ◌≡◌, ◌≢◌, ◌+◌, ◌⊎◌, Bool, true, false, not, ◌||◌, ◌==◌, List, [], ◌∷◌, ◌++◌, length, get_or}
+use Rattle.std.specs.Prelude.{ℕ, ◌≡◌, ◌≢◌, ◌+◌, ◌⊎◌, Bool, true, false, not, ◌||◌, ◌==◌, List, [], ◌∷◌, ◌++◌, length, slice_index_or}
 use Rattle.std.specs.Int.{is_in_range}
 use Rattle.std.specs.List.{list_all}
 use Rattle.text_core.specs.declared.faults.Kind.{Kind}
@@ -14,15 +14,15 @@ is_printed b = is_in_range 33 126 b
 abbrev pub is_line_byte : ℕ → Bool
 is_line_byte b = is_in_range 32 126 b || (b == 10)
 
-pub record IsWord (word : List ℕ) : Type 0 where
+pub record IsLineWord (word : List ℕ) : Type 0 where
   pub some : word ≢ []
   pub printed : list_all is_printed word ≡ true
 
 -- the bytes of a line of these words: a word and a line feed, or a word, one space and a line of the others
 pub data IsLine : List (List ℕ) → List ℕ → Type 0 where
-  last : {word text : List ℕ} → IsWord word → text ≡ word ++ 10 ∷ [] → IsLine (word ∷ []) text
+  last : {word text : List ℕ} → IsLineWord word → text ≡ word ++ 10 ∷ [] → IsLine (word ∷ []) text
   word : {word text : List ℕ} {words : List (List ℕ)} (rest : List ℕ)
-      → IsWord word → IsLine words rest → text ≡ word ++ 32 ∷ rest → IsLine (word ∷ words) text
+      → IsLineWord word → IsLine words rest → text ≡ word ++ 32 ∷ rest → IsLine (word ∷ words) text
 
 -- a line, and the offset of its first byte in the text, from 0
 pub record Line : Type 0 where
@@ -92,11 +92,11 @@ pub data IsFirstLineFault : List ℕ → ℕ → Kind → Type 0 where
 
 -- a line by its number from 0
 abbrev pub line_at : List Line → ℕ → Line
-line_at lines index = get_or lines index (record { place = 0; words = [] })
+line_at lines index = slice_index_or lines index (record { place = 0; words = [] })
 
 -- a word of a line, both by their numbers from 0
-abbrev pub word_at : List Line → ℕ → ℕ → List ℕ
-word_at lines index at = get_or (line_at lines index).words at []
+abbrev pub line_word : List Line → ℕ → ℕ → List ℕ
+line_word lines index at = slice_index_or (line_at lines index).words at []
 
 -- each word of a line has one byte behind it
 abbrev pub line_length : List (List ℕ) → ℕ

@@ -5,15 +5,15 @@ use Rattle.text_core.specs.declared.faults.Kind.TheVariants.{Unclosed, Unopened,
 use Rattle.text_core.specs.declared.tokens.Token.{Token}
 use Rattle.text_core.specs.declared.tokens.TokenKind.TheVariants as kinds
 use Rattle.text_core.specs.Faults.{IsFirst}
-use Rattle.text_core.specs.Trees.{Trees, SpellAll}
+use Rattle.text_core.specs.Trees.{SexpTrees, SpellAll}
 
 -- the tokens spell trees, so each parenthesis among them has its partner among them
 pub record IsBalanced (tokens : List Token) : Type 0 where
-  pub trees : Trees
+  pub trees : SexpTrees
   pub spelled : SpellAll trees tokens
 
 -- The tokens behind an opening parenthesis have its closing one: what stands between the two is balanced.
-pub record IsClosed (behind : List Token) : Type 0 where
+pub record HasClosing (behind : List Token) : Type 0 where
   pub inner : List Token
   pub closing : Token
   pub rest : List Token
@@ -22,7 +22,7 @@ pub record IsClosed (behind : List Token) : Type 0 where
   pub balanced : IsBalanced inner
 
 -- The tokens before a closing parenthesis have its opening one.
-pub record IsOpened (before : List Token) : Type 0 where
+pub record HasOpening (before : List Token) : Type 0 where
   pub front : List Token
   pub opening : Token
   pub inner : List Token
@@ -33,14 +33,15 @@ pub record IsOpened (before : List Token) : Type 0 where
 -- At least so many parentheses stand open behind these tokens.
 pub data IsInside : ℕ → List Token → Type 0 where
   outside : {before : List Token} → IsInside 0 before
-  inside : {n : ℕ} {before : List Token} (opened : IsOpened before) → IsInside n opened.front → IsInside (suc n) before
+  inside : {n : ℕ} {before : List Token} (opened : HasOpening before) → IsInside n opened.front
+      → IsInside (suc n) before
 
 -- what is wrong with a token that stands between these
 pub data IsMisplaced : List Token → Token → List Token → Kind → Type 0 where
   unclosed : {before behind : List Token} {token : Token}
-      → token.kind ≡ kinds.Opening → (IsClosed behind → ⊥) → IsMisplaced before token behind Unclosed
+      → token.kind ≡ kinds.Opening → (HasClosing behind → ⊥) → IsMisplaced before token behind Unclosed
   unopened : {before behind : List Token} {token : Token}
-      → token.kind ≡ kinds.Closing → (IsOpened before → ⊥) → IsMisplaced before token behind Unopened
+      → token.kind ≡ kinds.Closing → (HasOpening before → ⊥) → IsMisplaced before token behind Unopened
   too_deep : {before behind : List Token} {token : Token}
       → token.kind ≡ kinds.Opening → IsInside 64 before → IsMisplaced before token behind TooDeep
 

@@ -12,4 +12,5 @@ pub record IsBelowLimit (base : ℕ) (digits : List ℕ) : Type 0 where
 pub data IsNumber : List ℕ → ℕ → Type 0 where
   decimal : {bytes : List ℕ} → bytes ≢ [] → IsBelowLimit 10 bytes → IsNumber bytes (digits_value 10 bytes)
   hexadecimal : {bytes digits : List ℕ}
-      → bytes ≡ 48 ∷ 120 ∷ digits → digits ≢ [] → length digits ≤ 16 → IsBelowLimit 16 digits → IsNumber bytes (digits_value 16 digits)
+      → bytes ≡ 48 ∷ 120 ∷ digits → digits ≢ [] → length digits ≤ 16 → IsBelowLimit 16 digits
+      → IsNumber bytes (digits_value 16 digits)

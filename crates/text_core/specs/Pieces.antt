@@ -1,4 +1,5 @@
--- What a text of goals, axioms and machines consists of: white space, comments, parentheses and atoms. Source: this project.
+-- What a text of goals, axioms and machines consists of: white space, comments, parentheses and atoms. Source: this
+-- project.
 use Rattle.std.specs.Prelude.{ℕ, ◌≡◌, ⊤, Bool, true, false, not, ◌||◌, ◌==◌, if◌then◌else◌, List, [], ◌∷◌, ◌++◌}
 use Rattle.std.specs.List.{list_all}
 use Rattle.std.specs.Char.{is_ascii_alphanumeric}

@@ -1,6 +1,6 @@
 // The faults of a text, and how they print.
 ghost use Rattle.std.specs.Prelude.{◌≡◌, IfOk, Some};
-ghost use Rattle.text_core.specs.Faults.{fault_text, kind_name, number_of};
+ghost use Rattle.text_core.specs.Faults.{fault_text, kind_name, fault_number};
 ghost use Rattle.text_core.specs.declared.faults.TextFault.TheVariants.{Memory};
 
 use items::NoMemory;
@@ -54,7 +54,7 @@ pub enum Kind {
 impl Kind {
     /// From 1 to 19, in the order of the declaration.
     pub fn number(self) -> u8
-        ensures { result ≡ number_of self }
+        ensures { result ≡ fault_number self }
     {
         self as u8
     }

@@ -18,10 +18,11 @@ mod splitter;
 mod tokens;
 
 pub use faults::{Fault, Kind, TextFault};
-pub use laws::{one_lexing, one_parsing, one_splitting};
+pub use laws::{one_lexing, one_parsing, one_splitting, printed_lines_are_lines, sexps_are_trees};
 pub use lexer::lex;
 pub use line_index::TextLines;
-pub use names::Name;
+pub use names::{Name, is_name};
+pub use numbers::decimal;
 pub use parser::tree;
 pub use sexps::Sexp;
 pub use splitter::lines;

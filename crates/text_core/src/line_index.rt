@@ -1,6 +1,6 @@
 // The lines and the words of a text, by their numbers.
 ghost use Rattle.std.specs.Prelude.{◌≡◌, ◌<◌, ◌≤◌, ◌^◌, length};
-ghost use Rattle.text_core.specs.Lines.{IsWord, line_at, word_at, text_length};
+ghost use Rattle.text_core.specs.Lines.{IsLineWord, line_at, line_word, text_length};
 ghost use Rattle.text_core.specs.LineIndex.{IsIndex, lines_in};
 
 use std::marker::Model;
@@ -43,7 +43,8 @@ impl<'a> TextLines<'a> {
 
     /// The number of lines.
     pub fn count(&self) -> u32
-        ensures { result ≡ length self.now }
+        ensures count { result ≡ length self.now }
+        ensures few { result < 2 ^ 29 }
     {
         self.firsts.len() as u32 - 1
     }
@@ -72,8 +73,8 @@ impl<'a> TextLines<'a> {
     pub fn word(&self, line: u32, at: u32) -> &[u8]
         requires line { line < length self.now }
         requires at { at < length (line_at self.now line).words }
-        ensures value { result.now ≡ word_at self.now line at }
-        ensures word { IsWord result.now }
+        ensures value { result.now ≡ line_word self.now line at }
+        ensures word { IsLineWord result.now }
         ensures small { length result.now < 2 ^ 29 }
     {
         let index = self.firsts[line as usize] as usize + at as usize;

@@ -1,6 +1,8 @@
 // Names: bytes of a text that are kept apart from it.
 ghost use Rattle.std.specs.Prelude.{◌≡◌, ◌↔◌, IfOk, IsTrue};
+ghost use Rattle.text_core.specs.Names.{IsName};
 
+use crate::pieces::is_word;
 use items::NoMemory;
 use std::alloc::Global;
 use std::marker::Model;
@@ -17,6 +19,24 @@ impl Model for Name {
     ghost Value = { List ℕ };
 
     ghost view = { λ name. name.bytes.items };
+}
+
+/// Whether bytes are a name: letters, digits and underscores, with no digit first. The cost is linear in them.
+pub fn is_name(bytes: &[u8]) -> bool
+    ensures { IsTrue result ↔ IsName bytes.now }
+{
+    if bytes.is_empty() {
+        return false;
+    }
+    if bytes[0].is_ascii_digit() {
+        return false;
+    }
+    for byte in bytes {
+        if !is_word(*byte) {
+            return false;
+        }
+    }
+    true
 }
 
 impl Name {

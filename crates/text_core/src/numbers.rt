@@ -1,5 +1,6 @@
 // Numbers of a text, in decimal or in hexadecimal.
 ghost use Rattle.std.specs.Prelude.{◌≡◌, ◌≤◌, ◌^◌, ◌<◌, ℕ, IfSome, IfNone, ◌∷◌, length};
+ghost use Rattle.std.specs.Prelude as std;
 ghost use Rattle.std.specs.Str.Parse.{AllDigits, digits_value};
 ghost use Rattle.text_core.specs.Numbers.{IsNumber, IsBelowLimit};
 
@@ -47,4 +48,18 @@ pub(crate) fn number(bytes: &[u8]) -> Option<u64>
         Some(digits) => hexadecimal(digits),
         None => value(bytes, 10),
     }
+}
+
+/// The number that a word of a line writes: decimal digits without a needless zero, below 2 ^ 64.
+pub fn decimal(word: &[u8]) -> Option<u64>
+    ensures some { IfSome result (λ n. (word.now ≡ std.decimal n) × (n < 2 ^ 64)) }
+    ensures none { IfNone result ((n : ℕ) → n < 2 ^ 64 → word.now ≡ std.decimal n → ⊥) }
+{
+    if word.is_empty() {
+        return None;
+    }
+    if word[0] == b'0' && word.len() > 1 {
+        return None;
+    }
+    value(word, 10)
 }

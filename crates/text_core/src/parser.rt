@@ -3,9 +3,9 @@ ghost use Rattle.std.specs.Prelude.{◌≡◌, ◌+◌, ◌<◌, ◌≤◌, ◌^
 ghost use Rattle.text_core.specs.Building.{IsOpeningAt, IsParsedTo, IsStillOpen, depth_behind, frame_of, peak};
 ghost use Rattle.text_core.specs.Faults.{IsFaultBy, GivesUnlessMemory, RefusesUnlessMemory};
 ghost use Rattle.text_core.specs.Nesting.{IsFirstTreeFault};
-ghost use Rattle.text_core.specs.Sexps.{all_of, tree_of, trees_of};
+ghost use Rattle.text_core.specs.Sexps.{all_of, sexp_tree, sexp_trees};
 ghost use Rattle.text_core.specs.Trees as tree;
-ghost use Rattle.text_core.specs.Trees.{Trees, HasTrees};
+ghost use Rattle.text_core.specs.Trees.{SexpTrees, HasTrees};
 ghost use Rattle.text_core.specs.declared.faults.Kind.{Kind};
 
 use crate::{Fault, Kind, Sexp, TextFault, Token, TokenKind};
@@ -33,8 +33,8 @@ struct Parser {
 impl Parser {
     fn add(&mut self, tree: Sexp) -> Result<(), NoMemory>
         ensures outer { OnOk result (self.new.outer.items ≡ self.old.outer.items) }
-        ensures parts { OnOk result (map tree_of self.new.parts.items
-            ≡ map tree_of self.old.parts.items ++ tree_of tree ∷ []) }
+        ensures parts { OnOk result (map sexp_tree self.new.parts.items
+            ≡ map sexp_tree self.old.parts.items ++ sexp_tree tree ∷ []) }
     {
         self.parts.push(tree)?;
         Ok(())
@@ -42,8 +42,8 @@ impl Parser {
 
     fn enter(&mut self, alloc: Global, place: u32) -> Result<(), NoMemory>
         ensures outer { OnOk result (map frame_of self.new.outer.items ≡ map frame_of self.old.outer.items
-            ++ (record { place = place; before = map tree_of self.old.parts.items }) ∷ []) }
-        ensures parts { OnOk result (map tree_of self.new.parts.items ≡ []) }
+            ++ (record { place = place; before = map sexp_tree self.old.parts.items }) ∷ []) }
+        ensures parts { OnOk result (map sexp_tree self.new.parts.items ≡ []) }
     {
         let before = replace(&mut self.parts, Vec::new(alloc));
         self.outer.push(OpenList { place, before })?;
@@ -52,8 +52,8 @@ impl Parser {
 
     fn leave(&mut self, list: OpenList) -> Result<(), NoMemory>
         ensures outer { OnOk result (self.new.outer.items ≡ self.old.outer.items) }
-        ensures parts { OnOk result (map tree_of self.new.parts.items ≡ map tree_of list.before.items
-            ++ tree.list list.place (all_of (map tree_of self.old.parts.items)) ∷ []) }
+        ensures parts { OnOk result (map sexp_tree self.new.parts.items ≡ map sexp_tree list.before.items
+            ++ tree.list list.place (all_of (map sexp_tree self.old.parts.items)) ∷ []) }
     {
         let OpenList { place, before } = list;
         let parts = replace(&mut self.parts, before);
@@ -133,7 +133,7 @@ fn fault_inside(tokens: &[Token], at: usize, outermost: u32) -> Fault
 
 fn forest(alloc: Global, tokens: &[Token]) -> Result<Vec<Sexp>, TextFault>
     requires { length tokens.now < 2 ^ 29 }
-    ensures trees { IfOk result (λ trees. HasTrees tokens.now (trees_of trees.items)) }
+    ensures trees { IfOk result (λ trees. HasTrees tokens.now (sexp_trees trees.items)) }
     ensures fault { IfErr result (IsFaultBy (IsFirstTreeFault tokens.now)) }
 {
     let mut parser = Parser {
@@ -157,9 +157,9 @@ pub fn tree(alloc: Global, tokens: &[Token]) -> Result<Vec<Sexp>, TextFault>
     requires { length tokens.now < 2 ^ 29 }
 
     // What is read is in the grammar, and what is in it is read.
-    ensures trees { IfOk result (λ trees. HasTrees tokens.now (trees_of trees.items)) }
-    ensures read { (trees : Trees) → HasTrees tokens.now trees
-        → GivesUnlessMemory (λ read. trees_of read.items ≡ trees) result }
+    ensures trees { IfOk result (λ trees. HasTrees tokens.now (sexp_trees trees.items)) }
+    ensures read { (trees : SexpTrees) → HasTrees tokens.now trees
+        → GivesUnlessMemory (λ read. sexp_trees read.items ≡ trees) result }
     ensures few { IfOk result (λ trees. length trees.items ≤ length tokens.now) }
 
     // A fault is the first one, and where there is one it is answered.

@@ -14,7 +14,8 @@ pub(crate) enum PieceKind {
     Stray,
 }
 
-fn is_word(byte: u8) -> bool
+/// Whether the byte is a letter, a digit or an underscore.
+pub(crate) fn is_word(byte: u8) -> bool
     ensures { result ≡ is_word_byte byte }
 {
     byte.is_ascii_alphanumeric() || byte == b'_'

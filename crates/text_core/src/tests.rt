@@ -1,5 +1,5 @@
 // Texts with their tokens, trees, lines and faults, worked by hand.
-use crate::{Fault, Kind, Name, Sexp, TextFault, TokenKind, lex, lines, tree};
+use crate::{Fault, Kind, Name, Sexp, TextFault, TokenKind, decimal, is_name, lex, lines, tree};
 use itoa::Buffer;
 use std::alloc::{AllocError, Global};
 use std::test::Fail;
@@ -107,6 +107,34 @@ fn the_first_faulty_byte_is_told(rt: HostRuntime) {
             kind: *kind,
         };
         assert_eq!(rt; found, Some(TextFault::Fault(fault)), "at {place}");
+    }
+}
+
+// A word, the number that it is, and whether it is a name.
+const WORDS: [(&[u8], Option<u64>, bool); 16] = [
+    (b"", None, false),
+    (b"0", Some(0), false),
+    (b"00", None, false),
+    (b"01", None, false),
+    (b"10", Some(10), false),
+    (b"+1", None, false),
+    (b"-0", None, false),
+    (b"0x1", None, false),
+    (b"18446744073709551615", Some(18446744073709551615), false),
+    (b"18446744073709551616", None, false),
+    (b"a", None, true),
+    (b"_9", None, true),
+    (b"9a", None, false),
+    (b"a-b", None, false),
+    (b"a b", None, false),
+    (b"Z_z0", None, true),
+];
+
+#[test]
+fn words_are_numbers_or_names(rt: HostRuntime) {
+    for (word, number, name) in &WORDS {
+        assert_eq!(rt; decimal(word), *number, "{word:?}");
+        assert_eq!(rt; is_name(word), *name, "{word:?}");
     }
 }
 
@@ -339,18 +367,17 @@ fn texts_are_read_as_lines(rt: HostRuntime) {
     }
 }
 
-const ANSWER: &[u8] =
-    b"denali 1\nencoding 1\ntable ev6\ngoal g\nrounds 0 stop rounds\nrows 4\n0 memory\n1 input 16\n2 input 17\n3 addq 1 2\nentry 0\nin a 16 1\nin b 17 2\npool 1\nset x 3\nscheduled 1\nlaunch 0 U0 3\nword 42110401 addq $16, $17, $1\nwhere x 1\nrefute 0 1\n4 0 1 0\nend\n";
+const THREE_LINES: &[u8] = b"word 42110401 addq $16, $17, $1\nwhere x 1\nend\n";
 
 #[test]
-fn an_answer_that_is_cut_has_a_bad_last_line(rt: HostRuntime) {
+fn a_text_that_is_cut_has_a_bad_last_line(rt: HostRuntime) {
     let mut line = 0u32;
-    for length in 0..=241u32 {
+    for length in 0..=46u32 {
         let end = length as usize;
-        if end > 0 && ANSWER[end - 1] == b'\n' {
+        if end > 0 && THREE_LINES[end - 1] == b'\n' {
             line = length;
         }
-        let found = words(rt.alloc(), &ANSWER[..end]).err();
+        let found = words(rt.alloc(), &THREE_LINES[..end]).err();
         let fault = if line == length {
             None
         } else {
@@ -361,5 +388,5 @@ fn an_answer_that_is_cut_has_a_bad_last_line(rt: HostRuntime) {
         };
         assert_eq!(rt; found, fault, "{length}");
     }
-    assert_eq!(rt; line, 241);
+    assert_eq!(rt; line, 46);
 }

@@ -12,4 +12,4 @@ pub returns : goal.returns
 returns c =
     let a = c.self.inside in
     let index = seen a.text.now _ c.args.self.now a.words.items a.firsts.items c.self.view_is c.self.invariant in
-    omega (arith, c.len.ensures, a.firsts.ok.0, counted _ _ _ _ index)
+    omega (arith, c.len.ensures, a.firsts.ok.0, counted _ _ _ _ index, few_lines _ _ _ _ index)

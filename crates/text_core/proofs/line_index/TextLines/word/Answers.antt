@@ -1,5 +1,5 @@
 use Rattle.std.proofs.Common.{arith, subst, sym}
-use Rattle.text_core.specs.Lines.{IsWord}
+use Rattle.text_core.specs.Lines.{IsLineWord}
 use Rattle.text_core.proofs.Indexes.{seen, counted, words_counted, word_within, word_cut, read_at, word_slice}
 use Rattle.text_core.proofs.line_index.TextLines.word.Goals as goal
 
@@ -63,4 +63,4 @@ returns-clause-word c =
     let a = c.self.inside in
     let index = seen a.text.now _ c.args.self.now a.words.items a.firsts.items c.self.view_is c.self.invariant in
     let cut = word_cut _ _ _ _ c.args.line c.args.at c.index.result.now c.index-2.result.now c.index-3.result.now index c.requires.line c.requires.at c.index.ensures c.index-2.ensures c.index-3.ensures in
-    subst IsWord (sym (word_slice _ _ _ _ cut.0 cut.1)) cut.0.is
+    subst IsLineWord (sym (word_slice _ _ _ _ cut.0 cut.1)) cut.0.is
