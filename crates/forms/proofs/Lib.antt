@@ -1,0 +1,5 @@
+pub mod First
+pub mod Views
+pub mod Told
+pub mod Unique
+pub mod Printed

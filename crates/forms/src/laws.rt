@@ -1,0 +1,60 @@
+// What holds of all texts, of their forms and of forms that are printed. The calls do nothing: their clauses are laws.
+ghost use Rattle.std.specs.Prelude.{◌≡◌, ◌+◌, ◌≤◌, ℕ, All, List, length};
+ghost use Rattle.std.specs.declared.alloc.Global.{Global as GlobalOf};
+ghost use Rattle.std.specs.declared.vec.Vec.{Vec as VecOf};
+ghost use Rattle.forms.specs.Forms.{Stands, Stand, atom, list, atom_of, token_bytes, forms_from, forms_of, sexp_form, sexp_forms};
+ghost use Rattle.forms.specs.Printing.{Plains, CanPrintAll, most_levels, lines_of, plains_of};
+ghost use Rattle.forms.specs.Reading.{TextHasTrees, IsFirstReadFault, IsNamedToken, IsOf};
+ghost use Rattle.text_core.specs.Sexps.{sexp_trees};
+ghost use Rattle.text_core.specs.Trees.{SexpTrees};
+ghost use Rattle.text_core.specs.declared.faults.Kind.{Kind};
+ghost use Rattle.text_core.specs.declared.sexps.Sexp.{Sexp};
+ghost use Rattle.text_core.specs.declared.sexps.Sexp.TheVariants as sexps;
+ghost use Rattle.text_core.specs.declared.tokens.Token.{Token};
+
+use text_core::{one_lexing, one_parsing, sexps_are_trees};
+
+/// The form that an atom is, and the one that a list is. An atom of a text stands within it, and the bytes of a name
+/// are a name; the parts of a list of a text are trees of the text. A form of a text begins somewhere, and its parts
+/// stand one behind the other.
+pub fn sexps_are_forms()
+    ensures atoms { (text : List ℕ) (token : Token)
+        → sexp_form text (sexps.Atom token) ≡ atom token.place (atom_of token.kind (token_bytes text token)) }
+    ensures lists { (text : List ℕ) (place : ℕ) (parts : VecOf Sexp GlobalOf)
+        → sexp_form text (sexps.List place parts) ≡ list place (forms_from (sexp_forms text parts.items)) }
+    ensures within { (text : List ℕ) (token : Token)
+        → IsOf text (sexps.Atom token) → token.place + token.len ≤ length text }
+    ensures named { (text : List ℕ) (token : Token) → IsOf text (sexps.Atom token) → IsNamedToken text token }
+    ensures parts { (text : List ℕ) (place : ℕ) (parts : VecOf Sexp GlobalOf)
+        → IsOf text (sexps.List place parts) → All (IsOf text) parts.items }
+    ensures stands { (text : List ℕ) (form : Sexp)
+        → IsOf text form → (low : ℕ) × (high : ℕ) × Stands low high (sexp_form text form) }
+{
+    sexps_are_trees();
+}
+
+/// A text has trees of one form at most, and then neither its bytes nor its tokens have a fault. The trees are of the
+/// text, and its forms stand one behind the other within it. The first fault is one.
+pub fn one_reading()
+    ensures trees { (text : List ℕ) (trees others : SexpTrees)
+        → TextHasTrees text trees → TextHasTrees text others → trees ≡ others }
+    ensures of { (text : List ℕ) (forms : List Sexp)
+        → TextHasTrees text (sexp_trees forms) → All (IsOf text) forms }
+    ensures stand { (text : List ℕ) (trees : SexpTrees)
+        → TextHasTrees text trees → Stand 0 (length text) (forms_of text trees) }
+    ensures apart { (text : List ℕ) (trees : SexpTrees) (place : ℕ) (kind : Kind)
+        → TextHasTrees text trees → IsFirstReadFault text place kind → ⊥ }
+    ensures first { (text : List ℕ) (place other : ℕ) (kind another : Kind)
+        → IsFirstReadFault text place kind → IsFirstReadFault text other another
+        → (place ≡ other) × (kind ≡ another) }
+{
+    one_lexing();
+    one_parsing();
+}
+
+/// The lines of printed forms have trees, whose forms are those that were printed.
+pub fn printed_lines_are_read()
+    ensures { (printed : Plains) → CanPrintAll printed → most_levels printed ≤ 64
+        → (trees : SexpTrees) × TextHasTrees (lines_of printed) trees
+        × (plains_of (forms_of (lines_of printed) trees) ≡ printed) }
+{}

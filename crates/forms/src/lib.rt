@@ -1,0 +1,16 @@
+//! Forms: the trees of a text with what their atoms say, and the faults that a form and its parts may have.
+//!
+//! Goals, axioms and machine tables are read from forms. Each reader says which faults a form has of its own and what
+//! its parts are to be read as; which faults there are then, and which of them is first, is defined here once.
+#![tactic(auto)]
+
+mod laws;
+mod reading;
+mod texts;
+
+pub use laws::{one_reading, printed_lines_are_read, sexps_are_forms};
+pub use reading::{at, name, number, parts, place, register};
+pub use texts::trees;
+
+#[cfg(test)]
+mod tests;
