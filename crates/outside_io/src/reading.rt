@@ -4,12 +4,16 @@ ghost use Rattle.outside_io.specs.Taking.{ReadsWhole, TakesUpTo, TakesWithin, Ha
 
 use crate::Source;
 use std::alloc::Global;
+use thiserror::Error;
 
 /// Why the input wasn't read.
-#[derive(Clone, Copy, Debug, PartialEq, Eq)]
+#[derive(Clone, Copy, Debug, PartialEq, Eq, Error)]
 pub enum ReadAllFault {
+    #[error("a read failed")]
     SourceFault,
+    #[error("the input is too long")]
     TooLong,
+    #[error("out of memory")]
     Memory,
 }
 

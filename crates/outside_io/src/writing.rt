@@ -5,9 +5,11 @@ ghost use Rattle.outside_io.specs.Causes.{HasCause};
 ghost use Rattle.outside_io.specs.Putting.{AppendsFront};
 
 use crate::Sink;
+use thiserror::Error;
 
 /// The sink failed, and has counted it.
-#[derive(Clone, Copy, Debug, PartialEq, Eq)]
+#[derive(Clone, Copy, Debug, PartialEq, Eq, Error)]
+#[error("a write failed")]
 pub struct SinkFault;
 
 /// Appends the bytes, or after a fault a front of them. Each write is handed the whole rest.
