@@ -114,3 +114,9 @@ applications_same p q v w a b e f o h = ap tree_of e ∙ together p q v w o h �
 -- an application of copies of the operands
 pub copied : {O : Type 0} (op : O) (v w : Vec (Term O) Global) (t : Term O) → t ≡ App op v → trees_of w.items ≡ trees_of v.items → tree_of (App op w) ≡ tree_of t
 copied op v w t is e = together op op w v refl e ∙ ap tree_of (sym is)
+
+-- a term with that tree keeps each value
+pub keeps_value : {O : Type 0} (trees : List (Tree O)) (t u : Tree O) → u ≡ substituted trees t →
+    {W N V : Type 0} (meaning : W → N → O → List V → V) (world : W) (names : N) (words : ℕ → V) →
+    value (meaning world names) words u ≡ value (meaning world names) (λ n. value (meaning world names) words (put_in trees n)) t
+keeps_value trees t u e meaning world names words = ap (value (meaning world names) words) e ∙ value-substituted (meaning world names) words trees t

@@ -4,3 +4,5 @@ pub mod View
 pub mod Keys
 pub mod Small
 pub mod Laws
+pub mod Sorting
+pub mod Codes

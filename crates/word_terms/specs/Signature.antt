@@ -1,8 +1,9 @@
--- What an operator type says of its operators. From Denali (PLDI 2002): a term is an operator applied to terms, on words and
--- memories.
-use Rattle.std.specs.Prelude.{◌≡◌, ℕ, ◌<◌, List, length, get_or, Option, Some}
+-- What an operator type says of its operators. From Denali (PLDI 2002): a term is an operator applied to terms, on
+-- words and memories.
+use Rattle.std.specs.Prelude.{ℕ, List, Option, IfSome}
 use Rattle.word_ops.specs.Words.{IsWord}
-use Rattle.word_ops.specs.Worlds.{Value, word, World, IsValue}
+use Rattle.word_ops.specs.Worlds.{Value, World}
+use Rattle.word_ops.specs.Meanings.{AreValuesOf}
 use Rattle.word_ops.specs.declared.sorts.Sort.{Sort}
 
 pub record Signature (O : Type 0) : Type 0 where
@@ -22,10 +23,9 @@ abbrev pub Meaning : Type 0 → Type 0
 Meaning O = World → (ℕ → List ℕ) → O → List Value → Value
 
 -- as many values as the operator takes, each of its sort and in range
-pub record AreOperandsOf {O : Type 0} (s : Signature O) (op : O) (vs : List Value) : Type 0 where
-  pub count : length vs ≡ s.arity op
-  pub each : (at : ℕ) → at < length vs → IsValue (s.operand_sort op at) (get_or vs at (word 0))
+abbrev pub AreOperandsOf : {O : Type 0} → Signature O → O → List Value → Type 0
+AreOperandsOf s op vs = AreValuesOf (s.arity op) (s.operand_sort op) vs
 
 -- an operator's own constant is a word
 abbrev pub HasWordConstant : {O : Type 0} → Signature O → O → Type 0
-HasWordConstant s op = (n : ℕ) → s.constant op ≡ Some n → IsWord n
+HasWordConstant s op = IfSome (s.constant op) IsWord

@@ -1,11 +1,10 @@
 -- The small operator type: each of its operators is used as one of `Op` is, and gives what that gives.
 use Rattle.std.specs.Prelude.{ℕ}
-use Rattle.word_ops.specs.Meanings.{arity_of_op, sort_of, operand_sort, meaning}
+use Rattle.word_ops.specs.Meanings.{arity_of_op, sort_of, operand_sort, constant_in, meaning}
 use Rattle.word_ops.specs.declared.operators.WordOp.TheVariants.{Addq}
 use Rattle.word_ops.specs.declared.sorts.Op.{Op}
 use Rattle.word_ops.specs.declared.sorts.Op.TheVariants as ops
 use Rattle.word_terms.specs.Signature.{Signature, Meaning}
-use Rattle.word_terms.specs.Keys.{constant_of}
 use Rattle.word_terms.specs.declared.small.SmallOp.{SmallOp}
 use Rattle.word_terms.specs.declared.small.SmallOp.TheVariants.{Number, Leaf, Entry, Sum, Look}
 
@@ -28,7 +27,7 @@ small_signature = record {
   arity = λ op. arity_of_op (as_op op);
   sort = λ op. sort_of (as_op op);
   operand_sort = λ op. operand_sort (as_op op);
-  constant = λ op. constant_of (as_op op);
+  constant = λ op. constant_in (as_op op);
   key = small_key;
 }
 

@@ -17,7 +17,8 @@ abbrev pub operands_of : {O : Type 0} → List (Tree O) → Trees O
 operands_of [] = none
 operands_of (t ∷ ts) = more t (operands_of ts)
 
--- the value of a tree, where `meaning` gives each operator's value for those of its operands, and `values` each variable's
+-- the value of a tree, where `meaning` gives each operator's value for those of its operands, and `values` each
+-- variable's
 abbrev mutual
   pub value : {O V : Type 0} → (O → List V → V) → (ℕ → V) → Tree O → V
   value meaning values (variable n) = values n

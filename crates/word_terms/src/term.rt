@@ -1,6 +1,7 @@
 // Terms.
 ghost use Rattle.std.specs.Prelude.{◌≡◌, ℕ, List, ◌↔◌, length, IfOk, IsTrue};
 ghost use Rattle.word_ops.specs.Worlds.{Value, World};
+ghost use Rattle.word_terms.specs.Tree as tree;
 ghost use Rattle.word_terms.specs.Tree.{AreBelow, put_in, substituted, value};
 ghost use Rattle.word_terms.specs.View.{tree_of, trees_of};
 
@@ -33,6 +34,20 @@ impl<O: Operator> Term<O> {
     }
 }
 
+#[tactic(auto, using(crate::proofs::Trees::tree_of_variable))]
+pub fn variable<O: Operator>(number: u32) -> Term<O>
+    ensures tree { tree_of result ≡ tree.variable number }
+{
+    Term::Var(number)
+}
+
+#[tactic(auto, using(crate::proofs::Trees::tree_of_application))]
+pub fn application<O: Operator>(op: O, operands: Vec<Term<O>>) -> Term<O>
+    ensures tree { tree_of result ≡ tree.application op (tree.operands_of (trees_of operands.items)) }
+{
+    Term::App(op, operands)
+}
+
 /// The term with a copy of `values[n]` in place of each variable n. Costs what is written.
 pub fn subst<O: Operator>(
     alloc: Global,
@@ -43,21 +58,15 @@ pub fn subst<O: Operator>(
     ensures tree { IfOk result (λ t. tree_of t ≡ substituted (trees_of values.now) (tree_of term.now)) }
     ensures keeps_value { IfOk result (λ t. (world : World) (names : ℕ → List ℕ) (words : ℕ → Value) →
         value (O.meaning world names) words (tree_of t)
-        ≡ value (O.meaning world names) (λ n. value (O.meaning world names) words (put_in (trees_of values.now) n)) (tree_of term.now)) }
-{
-    Ok(put(alloc, term, values)?)
-}
-
-fn put<O: Operator>(alloc: Global, term: &Term<O>, values: &[Term<O>]) -> Result<Term<O>, NoMemory>
-    requires variables { AreBelow (length values.now) (tree_of term.now) }
-    ensures { IfOk result (λ t. tree_of t ≡ substituted (trees_of values.now) (tree_of term.now)) }
+        ≡ value (O.meaning world names) (λ n. value (O.meaning world names) words (put_in (trees_of values.now) n))
+        (tree_of term.now)) }
 {
     match term {
         Term::Var(n) => values[*n as usize].copy(alloc),
         Term::App(op, operands) => {
             let mut made = Vec::new(alloc);
             for operand in operands {
-                made.push(put(alloc, operand, values)?)?;
+                made.push(subst(alloc, operand, values)?)?;
             }
             Ok(Term::App(*op, made))
         }
@@ -85,8 +94,9 @@ pub fn same<O: Operator>(a: &Term<O>, b: &Term<O>) -> bool
     }
 }
 
-fn same_operator<O: Operator>(op: O, other: O) -> bool
-    ensures { IsTrue result ↔ (op ≡ other) }
+/// Whether the two are the same operator.
+pub fn same_operator<O: Operator>(op: O, other: O) -> bool
+    ensures exact { IsTrue result ↔ (op ≡ other) }
 {
     same_key(op.key(), other.key())
 }

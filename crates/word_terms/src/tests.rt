@@ -24,7 +24,8 @@ fn of_two<O: Operator>(alloc: Global, op: O, a: Term<O>, b: Term<O>) -> Result<T
 // x + (y + x), for the two terms
 fn sum<O: Operator>(alloc: Global, op: O, x: &Term<O>, y: &Term<O>) -> Result<Term<O>, NoMemory>
     ensures { IfOk result (λ t. tree_of t
-        ≡ application op (more (tree_of x.now) (more (application op (more (tree_of y.now) (more (tree_of x.now) none))) none))) }
+        ≡ application op (more (tree_of x.now) (more (application op
+        (more (tree_of y.now) (more (tree_of x.now) none))) none))) }
 {
     let inner = of_two(alloc, op, y.copy(alloc)?, x.copy(alloc)?)?;
     of_two(alloc, op, x.copy(alloc)?, inner)

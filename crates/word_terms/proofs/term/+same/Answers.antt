@@ -17,7 +17,7 @@ returns-then-not-same_operator g t c =
     let at = c.in-App-App in
     are_not (λ h. elim c.then-not-same_operator.branch [
       | then-not-same_operator-via-then-not-same_operator w ↦
-          let never = c.same_operator.ensures.1 (operators_same at.p at.q at.xs at.ys _ _ at.is-0 at.is-1 h) in cc
+          let never = c.same_operator.ensures.exact.1 (operators_same at.p at.q at.xs at.ys _ _ at.is-0 at.is-1 h) in cc
       | then-not-same_operator-via-else-not-same_operator+then-len w ↦
           let e = lengths_same at.p at.q at.xs at.ys _ _ at.is-0 at.is-1 h in grind (arith, e, w.if-len)
     ])
@@ -46,7 +46,7 @@ returns-after-loop-i g t c =
     let all_ys = take_all c.loop-i.i at.ys.items (grind (arith, items)) in
     let trees : trees_of at.xs.items ≡ trees_of at.ys.items =
     sym (ap trees_of (ap (take c.loop-i.i) items ∙ all_xs)) ∙ c.loop-i.invariant ∙ ap trees_of all_ys in
-    let op : at.p ≡ at.q = c.same_operator.ensures.0 (grind (arith, nat_tests, c.if-not-same_operator.false)) in
+    let op : at.p ≡ at.q = c.same_operator.ensures.exact.0 (grind (arith, nat_tests, c.if-not-same_operator.false)) in
     record { exact = (λ h. applications_same at.p at.q at.xs at.ys _ _ at.is-0 at.is-1 op trees, λ e. refl) }
 
 pub returns-in_default : goal.returns-in_default

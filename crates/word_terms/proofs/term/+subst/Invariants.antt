@@ -1,7 +1,7 @@
 use Rattle.std.proofs.Common.{◌≡◌, map, take, length, All}
 use Rattle.word_terms.specs.Tree.{substituted, AreBelow}
 use Rattle.word_terms.specs.View.{tree_of, trees_of}
-use Rattle.word_terms.proofs.term.+put.Given as goal
+use Rattle.word_terms.proofs.term.+subst.Given as goal
 
 abbrev pub invariant-loop-operand : goal.invariant-loop-operand
 invariant-loop-operand g l = record {
