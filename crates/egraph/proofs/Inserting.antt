@@ -3,28 +3,15 @@ use Rattle.std.proofs.Common.{map, ◌≡◌, ℕ, ◌<◌, ◌^◌, List, [], �
 use Rattle.std.proofs.lemmas.List.{length-map, get_or-map, length_push, get_or_push, get_or_append_left}
 use Rattle.std.proofs.lemmas.List.Elements.{All-map, All-push, All-weaker, Contains-get_or, Contains-push_cases, Contains-append_left, Contains-push}
 use Rattle.std.proofs.lemmas.List.Quantifiers.{all_pairs_push}
-use Rattle.word_terms.specs.Signature.{Signature}
+use Rattle.word_terms.specs.Signature.{Signature, HasWordConstant}
 use Rattle.egraph.specs.declared.rows.Row.{Row}
-use Rattle.egraph.specs.Graph.{Graph, Agree, HasClass, IsPresent, IsGraph, HasOneConstantEach, HasOneSortEach, HasSortedOperands, HasRow, HaveSorts, AreMade, read_through, IsInserted, with_row}
+use Rattle.egraph.specs.Graph.{Graph, Agree, HasClass, IsPresent, IsGraph, HasOneConstantEach, HasOneSortEach, HasSortedOperands, HasRow, AreMade, read_through, IsInserted, with_row}
+use Rattle.egraph.specs.Sorts.{FitOperator}
 use Rattle.egraph.proofs.Merging.{row_made, operands_have, current_has}
-
-pub no_rows : {O : Type 0} (s : Signature O) → IsGraph s (record { rows = []; current = [] })
-no_rows s = record {
-  distinct = λ i j d l h. absurd (omega arith);
-  classes = λ k d l. absurd (omega arith);
-  operands = λ k d l. absurd (omega arith);
-  inhabited = λ k d l. absurd (omega arith);
-  arities = λ k d l. absurd (omega arith);
-  one_sort = λ r t h. absurd (omega arith);
-  operand_sorts = λ r t at h. absurd (omega arith);
-  constants = λ class x y h. absurd (let l = h.there in omega arith);
-  few = omega arith;
-  few_rows = omega arith;
-}
 
 -- the graph with a row that it lacked is a graph
 module _ {O : Type 0} (s : Signature O) (g : Graph O) (is : IsGraph s g) (op : O) (operands : List ℕ)
-    (arity : length operands ≡ s.arity op) (made : AreMade g.current operands) (sorts : HaveSorts s g op operands) (few : length g.current < 2 ^ 31)
+    (arity : length operands ≡ s.arity op) (made : AreMade g.current operands) (sorts : FitOperator s g op operands) (own_word : HasWordConstant s op) (few : length g.current < 2 ^ 31)
     (absent : (c : ℕ) → ¬ HasRow g.rows op (read_through g operands) c) where
   abbrev next : ℕ
   next = length g.current
@@ -113,17 +100,18 @@ module _ {O : Type 0} (s : Signature O) (g : Graph O) (is : IsGraph s g) (op : O
     one_sort = rows_of_one_sort;
     operand_sorts = operands_of_sort;
     constants = one_constant_each;
+    words = All-push (λ r. HasWordConstant s r.op) g.rows added is.words own_word;
     few = omega (arith, few, length_push g.current next);
     few_rows = omega (arith, is.few_rows, length_push g.current next, length_push g.rows added);
   }
 
 -- a graph is one after an insert
-pub stays_graph : {O : Type 0} (s : Signature O) (old : Graph O) → IsGraph s old → (op : O) (operands : List ℕ) → length operands ≡ s.arity op → AreMade old.current operands → HaveSorts s old op operands →
+pub stays_graph : {O : Type 0} (s : Signature O) (old : Graph O) → IsGraph s old → (op : O) (operands : List ℕ) → length operands ≡ s.arity op → AreMade old.current operands → FitOperator s old op operands → HasWordConstant s op →
     length old.current < 2 ^ 31 → (class : ℕ) (new : Graph O) → IsInserted old op operands class new → IsGraph s new
-stays_graph s old is op operands arity made sorts few class new i =
+stays_graph s old is op operands arity made sorts own_word few class new i =
     elim i [
       | inl h ↦ subst (IsGraph s) (sym h.1) is
-      | inr h ↦ subst (IsGraph s) (sym h.2) (inserted_is_graph s old is op operands arity made sorts few h.0)
+      | inr h ↦ subst (IsGraph s) (sym h.2) (inserted_is_graph s old is op operands arity made sorts own_word few h.0)
     ]
 
 -- what the code puts at the ends is the graph with one more row

@@ -5,7 +5,7 @@ use Rattle.std.proofs.lemmas.Bool.Decides.{eqb_tells}
 use Rattle.word_terms.specs.Signature.{Signature}
 use Rattle.egraph.specs.Graph.{Graph, HasClass, IsGraph, AreMade, IsInserted, read_through, with_row}
 use Rattle.egraph.specs.Joined.{Joined, kept, pair, back, through, congruent, IsMerged}
-use Rattle.egraph.specs.Values.{AllTrue, KeepsValues, ExtendsValues}
+use Rattle.egraph.specs.Values.{AllTrue, KeepsValues, ExtendsValues, JoinedHaveOneValue}
 use Rattle.egraph.proofs.Lists.{map_agree, map-map, map_at_each}
 use Rattle.egraph.proofs.Merging.{at, row_present, has_made, has_present, operands_have, current_has}
 
@@ -20,9 +20,9 @@ module _ {O V : Type 0} (s : Signature O) (old : Graph O) (is : IsGraph s old) (
       let at_r : map value r.operands ≡ map (λ x. value (at old x)) r.operands = map_agree value (λ x. value (at old x)) r.operands (λ n d b. ap value (sym (has_present s old is (get_or r.operands n d) (operands_have s old is r h n d b)))) in
       let at_t : map value t.operands ≡ map (λ x. value (at old x)) t.operands = map_agree value (λ x. value (at old x)) t.operands (λ n d b. ap value (sym (has_present s old is (get_or t.operands n d) (operands_have s old is t k n d b)))) in
       let ops = map_at_each (λ x. value (at old x)) r.operands t.operands l (λ n b. one_value (each n b)) in
-      let true_r = All-contains (λ q. meaning q.op (map value q.operands) ≡ value q.class) old.rows r true h in
-      let true_t = All-contains (λ q. meaning q.op (map value q.operands) ≡ value q.class) old.rows t true k in
-      ap value (row_present s old is r h) ∙ sym true_r ∙ ap (meaning r.op) (at_r ∙ ops ∙ sym at_t) ∙ ap (λ o. meaning o (map value t.operands)) op ∙ true_t ∙ ap value (sym (row_present s old is t k))
+      let true_r = All-contains (λ q. value q.class ≡ meaning q.op (map value q.operands)) old.rows r true h in
+      let true_t = All-contains (λ q. value q.class ≡ meaning q.op (map value q.operands)) old.rows t true k in
+      ap value (row_present s old is r h) ∙ true_r ∙ ap (meaning r.op) (at_r ∙ ops ∙ sym at_t) ∙ ap (λ o. meaning o (map value t.operands)) op ∙ sym true_t ∙ ap value (sym (row_present s old is t k))
 
   module _ (new : Graph O) (m : IsMerged old a b new) where
     value_now : (x : ℕ) → x < length old.current → value (at new x) ≡ value (at old x)
@@ -36,14 +36,17 @@ module _ {O V : Type 0} (s : Signature O) (old : Graph O) (is : IsGraph s old) (
     stays_true : AllTrue meaning value new.rows
     stays_true = λ k d l.
         let u = m.from_old (get_or new.rows k d) (Contains-get_or new.rows k d l) in
-        let old_true = All-contains (λ q. meaning q.op (map value q.operands) ≡ value q.class) old.rows u.0 true u.1 in
-        subst (λ q. meaning q.op (map value q.operands) ≡ value q.class) (sym u.2)
-        (ap (meaning u.0.op) (map-map value (at new) u.0.operands ∙ map_agree (λ x. value (at new x)) value u.0.operands (λ n e b. value_has (get_or u.0.operands n e) (operands_have s old is u.0 u.1 n e b)))
-        ∙ old_true ∙ sym (value_has u.0.class (record { row = u.0; there = u.1; is = refl })))
+        let old_true = All-contains (λ q. value q.class ≡ meaning q.op (map value q.operands)) old.rows u.0 true u.1 in
+        subst (λ q. value q.class ≡ meaning q.op (map value q.operands)) (sym u.2)
+        (value_has u.0.class (record { row = u.0; there = u.1; is = refl }) ∙ old_true
+        ∙ sym (ap (meaning u.0.op) (map-map value (at new) u.0.operands ∙ map_agree (λ x. value (at new x)) value u.0.operands (λ n e b. value_has (get_or u.0.operands n e) (operands_have s old is u.0 u.1 n e b)))))
 
 pub keeps_values : {O : Type 0} (V : Type 0) (s : Signature O) (old : Graph O) (is : IsGraph s old) (a b : ℕ) (new : Graph O) → IsMerged old a b new → KeepsValues V old a b new
 keeps_values V s old is a b new m = λ meaning value true one.
     (stays_true s old is a b meaning value true one new m, λ c l. value_now s old is a b meaning value true one new m c l)
+
+pub joined_have_one_value : {O : Type 0} (V : Type 0) (s : Signature O) (old : Graph O) (is : IsGraph s old) (a b : ℕ) → JoinedHaveOneValue V old a b
+joined_have_one_value V s old is a b = λ meaning value true one x y j. one_value s old is a b meaning value true one j
 
 module _ {O V : Type 0} (s : Signature O) (g : Graph O) (is : IsGraph s g) (meaning : O → List V → V) (value : ℕ → V) (true : AllTrue meaning value g.rows)
     (op : O) (here : List ℕ) (have : All (HasClass g) here) where
@@ -65,13 +68,13 @@ module _ {O V : Type 0} (s : Signature O) (g : Graph O) (is : IsGraph s g) (mean
 
   inserted_true : AllTrue meaning value_then (with_row g op here).rows
   inserted_true =
-      All-push (λ r. meaning r.op (map value_then r.operands) ≡ value_then r.class) g.rows (record { op = op; operands = here; class = length g.current })
+      All-push (λ r. value_then r.class ≡ meaning r.op (map value_then r.operands)) g.rows (record { op = op; operands = here; class = length g.current })
       (λ k d l.
       let r = get_or g.rows k d in
       let h = Contains-get_or g.rows k d l in
       let ops : map value_then r.operands ≡ map value r.operands = map_agree value_then value r.operands (λ n e b. value_has_before (get_or r.operands n e) (operands_have s g is r h n e b)) in
-      ap (meaning r.op) ops ∙ true k d l ∙ sym (value_has_before r.class (record { row = r; there = h; is = refl })))
-      (ap (meaning op) (map_agree value_then value here (λ n e b. value_has_before (get_or here n e) (have n e b))) ∙ sym value_added)
+      value_has_before r.class (record { row = r; there = h; is = refl }) ∙ true k d l ∙ sym (ap (meaning r.op) ops))
+      (value_added ∙ sym (ap (meaning op) (map_agree value_then value here (λ n e b. value_has_before (get_or here n e) (have n e b)))))
 
 pub extends_values : {O : Type 0} (V : Type 0) (s : Signature O) (old : Graph O) (is : IsGraph s old) (op : O) (operands : List ℕ) (made : AreMade old.current operands) (class : ℕ) (new : Graph O) →
     IsInserted old op operands class new → ExtendsValues V old new

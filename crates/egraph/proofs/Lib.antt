@@ -4,3 +4,4 @@ pub mod MergeSteps
 pub mod Inserting
 pub mod KeptValues
 pub mod RowSearch
+pub mod Sorts

@@ -1,8 +1,9 @@
 -- What each step of a merge keeps, and what it gives at the end.
 use Rattle.std.proofs.Common.{◌≡◌, ℕ, ◌<◌, ◌≤◌, map, length, get_or, Contains, AllPairs, All, remove, refl, sym, ap, ◌∙◌, subst, inl, inr, arith}
-use Rattle.word_terms.specs.Signature.{Signature}
+use Rattle.word_terms.specs.Signature.{Signature, HasWordConstant}
 use Rattle.egraph.specs.declared.rows.Row.{Row}
-use Rattle.egraph.specs.Graph.{Graph, Agree, HasClass, IsPresent, IsGraph, HasOneConstantEach, HasOneSortEach, HasSortedOperands, AreOfOneSort}
+use Rattle.egraph.specs.Graph.{Graph, Agree, HasClass, IsPresent, IsGraph, HasOneConstantEach, HasOneSortEach, HasSortedOperands}
+use Rattle.egraph.specs.Sorts.{AreOfOneSort}
 use Rattle.egraph.specs.Joined.{Joined, kept, pair, back, through, congruent, relabel, IsMerged}
 use Rattle.egraph.specs.Steps.{moved}
 use Rattle.std.proofs.lemmas.List.{length-map, get_or-map, get_or_default}
@@ -266,6 +267,9 @@ module _ {O : Type 0} (s : Signature O) (old : Graph O) (is : IsGraph s old) (a 
       one_sort = rows_of_one_sort la lb one;
       operand_sorts = operands_of_sort la lb one;
       constants = constants;
+      words = λ k d l.
+          let u = m.from_old (get_or new.rows k d) (Contains-get_or new.rows k d l) in
+          subst (λ r. HasWordConstant s r.op) (sym u.2) (All-contains (λ r. HasWordConstant s r.op) old.rows u.0 is.words u.1);
       few = omega (arith, m.made, is.few);
       few_rows = omega (arith, m.made, m.no_more, is.few_rows);
     }

@@ -1,7 +1,7 @@
--- An E-graph as contracts see it, and what is true of each. From Denali (PLDI 2002): rows of operators over classes of terms
--- that have one value.
+-- An E-graph as contracts see it, and what is true of each. From Denali (PLDI 2002): rows of operators over classes
+-- of terms that have one value.
 use Rattle.std.specs.Prelude.{◌≡◌, ℕ, ◌<◌, ◌≤◌, ◌^◌, List, [], ◌∷◌, ◌++◌, ◌⊎◌, map, length, slice_index, Some, All, Contains, AllPairs}
-use Rattle.word_terms.specs.Signature.{Signature}
+use Rattle.word_terms.specs.Signature.{Signature, HasWordConstant}
 use Rattle.egraph.specs.declared.rows.Row.{Row}
 
 -- the rows in order, and for each class ever made, by its number, the class that it is in at present
@@ -65,6 +65,7 @@ pub record IsGraph {O : Type 0} (s : Signature O) (g : Graph O) : Type 0 where
   pub one_sort : HasOneSortEach s g.rows
   pub operand_sorts : HasSortedOperands s g.rows
   pub constants : HasOneConstantEach s g.rows
+  pub words : All (λ r. HasWordConstant s r.op) g.rows
   pub few : length g.current ≤ 2 ^ 31
   pub few_rows : length g.rows ≤ length g.current
 
@@ -83,25 +84,6 @@ HasRow rows op operands class = Contains rows (record { op = op; operands = oper
 -- no row has this operator and these operands
 abbrev pub LacksRow : {O : Type 0} → List (Row O) → O → List ℕ → Type 0
 LacksRow rows op operands = (class : ℕ) → ¬ HasRow rows op operands class
-
--- the classes are of the sorts that the operator takes
-abbrev pub HaveSorts : {O : Type 0} → Signature O → Graph O → O → List ℕ → Type 0
-HaveSorts {O} s g op classes =
-    (at : ℕ) (t : Row O) →
-    at < length classes →
-    Contains g.rows t →
-    t.class ≡ slice_index g.current (slice_index classes at) →
-    s.operand_sort op at ≡ s.sort t.op
-
--- the two classes are of one sort
-abbrev pub AreOfOneSort : {O : Type 0} → Signature O → Graph O → ℕ → ℕ → Type 0
-AreOfOneSort {O} s g a b =
-    (r t : Row O) →
-    Contains g.rows r →
-    Contains g.rows t →
-    r.class ≡ slice_index g.current a →
-    t.class ≡ slice_index g.current b →
-    s.sort r.op ≡ s.sort t.op
 
 -- the graph with one more row, of a class of its own
 abbrev pub with_row : {O : Type 0} → Graph O → O → List ℕ → Graph O

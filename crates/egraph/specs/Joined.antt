@@ -4,8 +4,8 @@ use Rattle.word_terms.specs.Signature.{Signature}
 use Rattle.egraph.specs.declared.rows.Row.{Row}
 use Rattle.egraph.specs.Graph.{Graph}
 
--- the least equivalence on the classes ever made that has the old equalities and the pair, and that joins two rows of one
--- operator whose operands it joins
+-- the least equivalence on the classes ever made that has the old equalities and the pair, and that joins two rows of
+-- one operator whose operands it joins
 pub data Joined {O : Type 0} (g : Graph O) (a b : ℕ) : ℕ → ℕ → Type 0 where
   kept :
       (x y : ℕ) →
@@ -29,8 +29,8 @@ pub data Joined {O : Type 0} (g : Graph O) (a b : ℕ) : ℕ → ℕ → Type 0 
 abbrev pub relabel : {O : Type 0} → (ℕ → ℕ) → Row O → Row O
 relabel f r = record { op = r.op; operands = map f r.operands; class = f r.class }
 
--- `new` comes of `old` by joining a and b, and nothing that this doesn't force; which of the joined classes stays, and the
--- order of the rows, is left open
+-- `new` comes of `old` by joining a and b, and nothing that this doesn't force; which of the joined classes stays,
+-- and the order of the rows, is left open
 pub record IsMerged {O : Type 0} (old : Graph O) (a b : ℕ) (new : Graph O) : Type 0 where
   pub made : length new.current ≡ length old.current
   -- two classes are one exactly where the closure joins them

@@ -1,4 +1,5 @@
 pub mod Graph
+pub mod Sorts
 pub mod Joined
 pub mod Values
 pub mod Faults

@@ -1,12 +1,12 @@
 -- What the steps of a merge do. No public clause rests on these.
-use Rattle.std.specs.Prelude.{◌≢◌, ℕ, List, slice_index_or, eqb, if◌then◌else◌}
+use Rattle.std.specs.Prelude.{◌≢◌, ℕ, List, slice_index_or, ◌==◌, if◌then◌else◌}
 use Rattle.word_terms.specs.Signature.{Signature}
 use Rattle.egraph.specs.declared.rows.Row.{Row}
 use Rattle.egraph.specs.Graph.{Agree, HasConstant}
 
 -- `to` in place of `from`
 abbrev pub moved : ℕ → ℕ → ℕ → ℕ
-moved from to class = if eqb class from then to else class
+moved from to class = if class == from then to else class
 
 -- the rows at two places agree
 abbrev pub AgreesAt : {O : Type 0} → List (Row O) → ℕ → ℕ → Type 0

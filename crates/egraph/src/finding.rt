@@ -6,7 +6,7 @@ ghost use Rattle.egraph.specs.Steps.{AgreesAt};
 use crate::rows::Row;
 use items::NoMemory;
 use std::alloc::Global;
-use word_terms::Operator;
+use word_terms::{Operator, same_operator};
 
 /// The classes that these are in at present.
 pub(crate) fn read_all(
@@ -46,7 +46,7 @@ fn is_row<O: Operator>(row: &Row<O>, current: &[u32], op: O, operands: &[u32]) -
     ensures { IsTrue result ↔ Agree row.now
         (record { op = op; operands = map (slice_index current.now) operands.now; class = row.now.class }) }
 {
-    row.op.key() == op.key() && reads_as(row.operands.as_slice(), operands, current)
+    same_operator(row.op, op) && reads_as(row.operands.as_slice(), operands, current)
 }
 
 /// The class of the row with this operator and these operands, read through `current`.

@@ -1,9 +1,11 @@
 // The E-graph.
 ghost use Rattle.std.specs.Prelude.{◌≡◌, ℕ, ◌<◌, ◌^◌, [], map, length, slice_index, slice_get, Some, MatchOption, IfOk, OnOk, OnErr, IfErr};
 ghost use Rattle.word_ops.specs.Worlds.{Value};
-ghost use Rattle.egraph.specs.Graph.{IsGraph, AreMade, read_through, HasRow, LacksRow, HaveSorts, AreOfOneSort, IsInserted, HasConstant, LacksConstant};
+ghost use Rattle.word_terms.specs.Signature.{HasWordConstant};
+ghost use Rattle.egraph.specs.Graph.{IsGraph, AreMade, read_through, HasRow, LacksRow, IsInserted, HasConstant, LacksConstant};
+ghost use Rattle.egraph.specs.Sorts.{IsOfSort, KeepsSorts, FitOperator, AreOfOneSort};
 ghost use Rattle.egraph.specs.Joined.{relabel, IsMerged, Clash};
-ghost use Rattle.egraph.specs.Values.{KeepsValues, ExtendsValues};
+ghost use Rattle.egraph.specs.Values.{KeepsValues, ExtendsValues, JoinedHaveOneValue};
 ghost use Rattle.egraph.specs.Faults.{FaultIs};
 ghost use Rattle.egraph.specs.Steps.{moved};
 
@@ -16,8 +18,8 @@ use std::alloc::Global;
 use std::marker::Model;
 use word_terms::Operator;
 
-/// Rows in the order in which they came, until a merge; the order after a merge isn't promised. Rows name present classes.
-/// A class that a call takes may be any class ever made, and a class that a call gives is a present one.
+/// Rows in the order in which they came, until a merge; the order after a merge isn't promised. Rows name present
+/// classes. A class that a call takes may be any class ever made, and a class that a call gives is a present one.
 #[derive(Drop)]
 pub struct Egraph<O: Operator> {
     rows: Vec<Row<O>>,
@@ -59,7 +61,7 @@ impl<O: Operator> Egraph<O> {
     /// The class that this one is in at present.
     pub fn now(&self, class: u32) -> u32
         requires made { class < length self.now.current }
-        ensures { result ≡ slice_index self.now.current class }
+        ensures present { result ≡ slice_index self.now.current class }
     {
         self.current[class as usize]
     }
@@ -75,7 +77,7 @@ impl<O: Operator> Egraph<O> {
     /// The row at a place, from 0.
     pub fn row(&self, at: u32) -> &Row<O>
         requires { at < length self.now.rows }
-        ensures { slice_get self.now.rows at ≡ Some result.now }
+        ensures row { slice_get self.now.rows at ≡ Some result.now }
     {
         &self.rows[at as usize]
     }
@@ -83,7 +85,7 @@ impl<O: Operator> Egraph<O> {
     /// The class of the row with this operator and these operands. It looks at each row.
     pub fn class_of(&self, op: O, operands: &[u32]) -> Option<u32>
         requires made { AreMade self.now.current operands.now }
-        ensures { MatchOption result
+        ensures row { MatchOption result
             (LacksRow self.now.rows op (read_through self.now operands.now))
             (HasRow self.now.rows op (read_through self.now operands.now)) }
     {
@@ -93,28 +95,31 @@ impl<O: Operator> Egraph<O> {
     /// The constant that the class has. It looks at each row.
     pub fn constant_of(&self, class: u32) -> Option<u64>
         requires made { class < length self.now.current }
-        ensures { MatchOption result
+        ensures constant { MatchOption result
             (LacksConstant O.signature self.now.rows (slice_index self.now.current class))
             (HasConstant O.signature self.now.rows (slice_index self.now.current class)) }
     {
         find_constant(&self.rows, self.current[class as usize])
     }
 
-    /// The class of the row with this operator and these operands, which is put at the end, with a class of its own, where
-    /// there is none. It looks at each row.
+    /// The class of the row with this operator and these operands, which is put at the end, with a class of its own,
+    /// where there is none. It looks at each row.
     pub fn insert(&mut self, op: O, operands: &[u32]) -> Result<u32, NoMemory>
         requires arity { length operands.now ≡ O.signature.arity op }
         requires made { AreMade self.old.current operands.now }
-        requires sorts { HaveSorts O.signature self.old op operands.now }
+        requires sorts { FitOperator O.signature self.old op operands.now }
         requires few { length self.old.current < 2 ^ 31 }
         ensures ok { IfOk result (λ class. IsInserted self.old op operands.now class self.new) }
         ensures values { OnOk result (ExtendsValues Value self.old self.new) }
+        ensures keeps_sorts { KeepsSorts O.signature self.old self.new }
+        ensures sort { IfOk result (λ class. IsOfSort O.signature self.new class (O.signature.sort op)) }
         ensures err { OnErr result (self.new ≡ self.old) }
         ensures graph { IsGraph O.signature self.new }
     {
         if let Some(class) = find_row(&self.rows, &self.current, op, operands) {
             return Ok(class);
         }
+        has_word_constant(op);
         let present = read_all(self.alloc, &self.current, operands)?;
         let class = self.current.len() as u32;
         self.current.reserve(1)?;
@@ -127,14 +132,16 @@ impl<O: Operator> Egraph<O> {
         Ok(class)
     }
 
-    /// Puts the classes a and b into one, and whatever congruence then joins. Each of the classes joined costs a search for
-    /// two rows that agree, of all pairs of rows, and a walk over all rows and classes.
+    /// Puts the classes a and b into one, and whatever congruence then joins. Each of the classes joined costs a
+    /// search for two rows that agree, of all pairs of rows, and a walk over all rows and classes.
     pub fn merge(self, a: u32, b: u32) -> Result<Egraph<O>, MergeFault>
         requires a_made { a < length self.current }
         requires b_made { b < length self.current }
         requires one_sort { AreOfOneSort O.signature self a b }
         ensures merged { IfOk result (IsMerged self a b) }
         ensures values { IfOk result (KeepsValues Value self a b) }
+        ensures keeps_sorts { IfOk result (KeepsSorts O.signature self) }
+        ensures joined_values { JoinedHaveOneValue Value self a b }
         ensures no_clash { OnOk result ((class x y : ℕ) → ¬ Clash O.signature self a b class x y) }
         ensures graph { IfOk result (IsGraph O.signature) }
         ensures fault { IfErr result (FaultIs O.signature self a b) }
@@ -160,6 +167,13 @@ impl<O: Operator> Egraph<O> {
             }),
         }
     }
+}
+
+/// Does nothing. A constant is a word by its type.
+fn has_word_constant<O: Operator>(op: O)
+    ensures { HasWordConstant O.signature op }
+{
+    let _constant = op.constant();
 }
 
 /// Puts the class `to` in place of `from` everywhere.

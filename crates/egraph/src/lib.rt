@@ -8,10 +8,14 @@ mod constants;
 mod faults;
 mod finding;
 mod graph;
+mod laws;
 mod rows;
 
 pub use faults::MergeFault;
 pub use graph::Egraph;
+pub use laws::{
+    classes_have_one_sort, inserts_keep_rows, merges_keep_classes, rows_name_present_classes,
+};
 pub use rows::Row;
 
 #[cfg(test)]

@@ -7,7 +7,7 @@ ghost use Rattle.egraph.specs.Steps.{moved};
 use items::Items;
 use std::alloc::Global;
 use std::mem;
-use word_terms::Operator;
+use word_terms::{Operator, same_operator};
 
 /// An operator applied to classes, and the class of what it gives.
 #[derive(Drop)]
@@ -22,7 +22,7 @@ impl<O: Operator> Row<O> {
     pub(crate) fn agrees(&self, other: &Row<O>) -> bool
         ensures { IsTrue result ↔ Agree self.now other.now }
     {
-        self.op.key() == other.op.key() && self.operands.as_slice() == other.operands.as_slice()
+        same_operator(self.op, other.op) && self.operands.as_slice() == other.operands.as_slice()
     }
 
     fn move_class(&mut self, alloc: Global, from: u32, to: u32)

@@ -1,6 +1,7 @@
 // Closures worked by hand, at two operator types.
 ghost use Rattle.std.specs.Prelude.{◌≡◌, ◌<◌, IsTrue, length, slice_index, Contains};
-ghost use Rattle.egraph.specs.Graph.{AreMade, HaveSorts, AreOfOneSort};
+ghost use Rattle.egraph.specs.Graph.{AreMade};
+ghost use Rattle.egraph.specs.Sorts.{FitOperator, AreOfOneSort};
 ghost use Rattle.egraph.specs.declared.rows.Row.{Row as RowOf};
 
 use crate::{Egraph, MergeFault};
@@ -8,7 +9,7 @@ use items::NoMemory;
 use std::alloc::Global;
 use std::process::Abort;
 use std::test::Fail;
-use word_ops::{Op, Sort, WordOp};
+use word_ops::{Arity, Op, Sort, WordOp};
 use word_terms::{Operator, SmallOp};
 
 /// Whether each row of the class is of this sort.
@@ -31,7 +32,7 @@ fn is_of_sort<O: Operator>(graph: &Egraph<O>, class: u32, sort: Sort) -> bool
 fn fit<O: Operator>(graph: &Egraph<O>, op: O, operands: &[u32]) -> bool
     requires arity { length operands.now ≡ O.signature.arity op }
     ensures made { IsTrue result → AreMade graph.now.current operands.now }
-    ensures sorts { IsTrue result → HaveSorts O.signature graph.now op operands.now }
+    ensures sorts { IsTrue result → FitOperator O.signature graph.now op operands.now }
 {
     for (at, operand) in operands.iter().enumerate() {
         if *operand >= graph.made() {
@@ -358,5 +359,63 @@ fn rows_name_present_classes(rt: HostRuntime) -> Result<(), Fail> {
     let last = graph.row(3);
     assert!(rt; last.op == SmallOp::Look && last.class == 3);
     assert_eq!(rt; last.operands.as_slice(), [0, kept].as_slice());
+    Ok(())
+}
+
+#[test]
+fn memories_that_are_one_have_one_word_at_an_address(rt: HostRuntime) -> Result<(), Fail> {
+    let alloc = rt.alloc();
+    let mut graph = Egraph::new(alloc);
+    assert_eq!(rt; put(&rt, &mut graph, Op::Entry, &[])?, 0);
+    assert_eq!(rt; put(&rt, &mut graph, Op::Input(16), &[])?, 1);
+    assert_eq!(rt; put(&rt, &mut graph, Op::Input(17), &[])?, 2);
+    assert_eq!(rt; put(&rt, &mut graph, Op::Store, &[0, 1, 2])?, 3);
+    assert_eq!(rt; put(&rt, &mut graph, Op::Select, &[0, 1])?, 4);
+    assert_eq!(rt; put(&rt, &mut graph, Op::Select, &[3, 1])?, 5);
+    assert_eq!(rt; put(&rt, &mut graph, Op::Put, &[0, 1, 2, 1])?, 6);
+    assert_eq!(rt; put(&rt, &mut graph, Op::Put, &[3, 1, 2, 1])?, 7);
+    assert_eq!(rt; put(&rt, &mut graph, Op::Put, &[3, 1, 2, 2])?, 8);
+    let mut graph = join(&rt, graph, 0, 3)?;
+    assert_eq!(rt;
+        partition(&rt, alloc, &graph)?.as_slice(),
+        [0, 1, 2, 0, 4, 4, 6, 6, 8].as_slice()
+    );
+    assert_eq!(rt; graph.rows(), 7);
+    assert_eq!(rt;
+        put(&rt, &mut graph, Op::Store, &[3, 1, 2])?,
+        now(&rt, &graph, 0)
+    );
+    Ok(())
+}
+
+#[test]
+fn operands_have_an_order(rt: HostRuntime) -> Result<(), Fail> {
+    let alloc = rt.alloc();
+    let subq = Op::Word(WordOp::Subq);
+    let mut graph = towers(&rt, alloc, [Op::Input(16), Op::Input(17)], subq, 0)?;
+    assert_eq!(rt; put(&rt, &mut graph, subq, &[0, 1])?, 2);
+    assert_eq!(rt; put(&rt, &mut graph, subq, &[1, 0])?, 3);
+    let graph = join(&rt, graph, 2, 2)?;
+    assert_eq!(rt;
+        partition(&rt, alloc, &graph)?.as_slice(),
+        [0, 1, 2, 3].as_slice()
+    );
+    let graph = join(&rt, graph, 0, 1)?;
+    assert_eq!(rt;
+        partition(&rt, alloc, &graph)?.as_slice(),
+        [0, 0, 2, 2].as_slice()
+    );
+    Ok(())
+}
+
+#[test]
+fn declared_operators_differ_by_arity(rt: HostRuntime) -> Result<(), Fail> {
+    let declared = |arity| Op::Declared { index: 5, arity };
+    let mut graph = Egraph::new(rt.alloc());
+    assert_eq!(rt; put(&rt, &mut graph, Op::Input(16), &[])?, 0);
+    assert_eq!(rt; put(&rt, &mut graph, declared(Arity::One), &[0])?, 1);
+    assert_eq!(rt; put(&rt, &mut graph, declared(Arity::Two), &[0, 0])?, 2);
+    assert_eq!(rt; put(&rt, &mut graph, declared(Arity::One), &[0])?, 1);
+    assert_eq!(rt; put(&rt, &mut graph, declared(Arity::Two), &[0, 0])?, 2);
     Ok(())
 }

@@ -6,10 +6,10 @@ use Rattle.egraph.proofs.tests.is_of_sort.Goals.{else-row-present-via-then-row-p
 pub loop-at-preserved : goal.loop-at-preserved
 loop-at-preserved g c =
     below_more _ _ c.loop-at.invariant (λ d e.
-    let v = get_or_from_slice_get c.args.graph.now.rows c.loop-at.at c.row-row.result.now d c.row-row.ensures in
+    let v = get_or_from_slice_get c.args.graph.now.rows c.loop-at.at c.row-row.result.now d c.row-row.ensures.row in
     elim c.else-row-present.branch [
       | else-row-present-via-then-row-present+else-ne w ↦ grind (arith, v, w.sort.ensures, w.ne.ensures, w.if-ne.false)
-      | else-row-present-via-else-row-present w ↦ absurd (grind (arith, v, e, c.now-present.ensures, w.if-row-present.false))
+      | else-row-present-via-else-row-present w ↦ absurd (grind (arith, v, e, c.now-present.ensures.present, w.if-row-present.false))
     ])
 
 pub returns : goal.returns

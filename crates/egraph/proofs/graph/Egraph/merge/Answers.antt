@@ -8,7 +8,8 @@ use Rattle.egraph.specs.Steps.{moved, AgreesAt, HasTwoConstants}
 use Rattle.egraph.proofs.Lists.{row_at}
 use Rattle.egraph.proofs.Merging.{IsMerging, is_graph, is_merged}
 use Rattle.egraph.proofs.MergeSteps.{first_step, next_step, pair_after_first, pair_kept, clash_from, no_clash}
-use Rattle.egraph.proofs.KeptValues.{keeps_values}
+use Rattle.egraph.proofs.KeptValues.{keeps_values, joined_have_one_value}
+use Rattle.egraph.proofs.Sorts.{merge_keeps_sorts}
 use Rattle.egraph.proofs.graph.Egraph.merge.Goals as goal
 
 pub loop-first-init : goal.loop-first-init
@@ -100,3 +101,16 @@ returns-in-None-clause-no_clash g c =
 
 pub returns-in-None-clause-graph : goal.returns-in-None-clause-graph
 returns-in-None-clause-graph g c = invariant_of-result g c
+
+pub returns-in-Some-find_clash-clause-joined_values : goal.returns-in-Some-find_clash-clause-joined_values
+returns-in-Some-find_clash-clause-joined_values g c =
+    joined_have_one_value Value g.O.Operator.signature c.args.self c.loop-first.invariant.graph c.args.a c.args.b
+
+pub returns-in-None-clause-joined_values : goal.returns-in-None-clause-joined_values
+returns-in-None-clause-joined_values g c =
+    joined_have_one_value Value g.O.Operator.signature c.args.self c.loop-first.invariant.graph c.args.a c.args.b
+
+pub returns-in-None-clause-keeps_sorts : goal.returns-in-None-clause-keeps_sorts
+returns-in-None-clause-keeps_sorts g c =
+    let new : Graph g.row.O.Denot = record { rows = c.loop-first.rows.items; current = c.loop-first.current.items } in
+    merge_keeps_sorts g.O.Operator.signature c.args.self c.loop-first.invariant.graph c.args.a c.args.b new (returns-in-None-clause-merged g c)
