@@ -6,5 +6,5 @@ pub mod Storage
 pub mod Rows
 pub mod Variables
 pub mod Truth
-pub mod Built
+pub mod Rules
 pub mod Sides

@@ -1,5 +1,5 @@
 -- Each equation is true, row by row in the order of the table: the law of its operators, read at the variables' values.
-use Rattle.std.proofs.Common.{◌≡◌, ℕ, ◌+◌, ◌-◌, ◌%◌, ◌<◌, ◌≤◌, min, List, ◌++◌, refl, ap, ◌∙◌}
+use Rattle.std.proofs.Common.{◌≡◌, ℕ, ◌+◌, ◌-◌, ◌%◌, ◌<◌, ◌≤◌, min, List, refl, ap, ◌∙◌}
 use Rattle.std.specs.Prelude.{All}
 use Rattle.std.specs.Int.{bit_at}
 use Rattle.word_ops.specs.Words.{IsWord}
@@ -8,9 +8,9 @@ use Rattle.word_ops.specs.declared.operators.WordOp.{WordOp}
 use Rattle.word_ops.specs.Memory.{Memory, word_at, put_word}
 use Rattle.word_ops.specs.Operators.{value_at, value_of}
 use Rattle.word_ops.specs.Worlds.{word, memory, World}
-use Rattle.axiom_base.specs.Rewrites.{Rewrite, IsTrueIn}
-use Rattle.axiom_base.specs.Equations.{additions, differences, products, shifts, scaled_sums, ands, ors, exclusive_ors, inversions, comparisons, bytes, memories, equations}
-use Rattle.axiom_base.proofs.Rows.{Each, done, ◌▸◌, All-Each}
+use Rattle.axiom_base.specs.Rewrites.{IsTrueIn}
+use Rattle.axiom_base.specs.Equations.{additions, differences, multiplications, shifts, scaled_sums, ands, ors, exclusive_ors, inversions, comparisons, bytes, memories, equations}
+use Rattle.axiom_base.proofs.Rows.{Each, done, ◌▸◌, All-Each, joined}
 use Rattle.axiom_base.proofs.Variables.{x_is_word, x_in_range, v_is_word}
 use Rattle.axiom_base.proofs.Arithmetic as arithmetic
 use Rattle.axiom_base.proofs.Shifts as shift
@@ -38,9 +38,9 @@ module _ (world : World) (names : ℕ → List ℕ) where
       ▸ (λ vs f. ap word (arithmetic.neg_of_neg _ (x_in_range f refl)) ∙ x_is_word f refl)
       ▸ done
 
-  pub products_are_true : Each (IsTrueIn world names) products
+  pub multiplications_are_true : Each (IsTrueIn world names) multiplications
   unfolding value_at
-  products_are_true =
+  multiplications_are_true =
       (λ vs f. ap word (arithmetic.mulq_is_commutative _ _))
       ▸ (λ vs f. ap word (arithmetic.mulq_is_associative _ _ _))
       ▸ (λ vs f. ap word (arithmetic.mulq_by_1 _ (x_in_range f refl)) ∙ x_is_word f refl)
@@ -138,9 +138,5 @@ module _
         ▸ (λ vs f. ap memory (storage.store_of_lda_is_put _ _ _ _))
         ▸ done
 
-    joined : (xs ys : List Rewrite) → Each (IsTrueIn world names) xs → Each (IsTrueIn world names) ys → Each (IsTrueIn world names) (xs ++ ys)
-    joined _ ys done k = k
-    joined _ ys (h ▸ hs) k = h ▸ joined _ ys hs k
-
     pub equations_are_true : All (IsTrueIn world names) equations
-    equations_are_true = All-Each _ _ (joined _ _ (additions_are_true world names) (joined _ _ (differences_are_true world names) (joined _ _ (products_are_true world names) (joined _ _ (shifts_are_true world names) (joined _ _ (scaled_sums_are_true world names) (joined _ _ (ands_are_true world names) (joined _ _ (ors_are_true world names) (joined _ _ (exclusive_ors_are_true world names) (joined _ _ (inversions_are_true world names) (joined _ _ (comparisons_are_true world names) (joined _ _ bytes_are_true memories_are_true)))))))))))
+    equations_are_true = All-Each _ _ (joined (additions_are_true world names) (joined (differences_are_true world names) (joined (multiplications_are_true world names) (joined (shifts_are_true world names) (joined (scaled_sums_are_true world names) (joined (ands_are_true world names) (joined (ors_are_true world names) (joined (exclusive_ors_are_true world names) (joined (inversions_are_true world names) (joined (comparisons_are_true world names) (joined bytes_are_true memories_are_true)))))))))))

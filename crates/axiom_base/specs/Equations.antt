@@ -1,6 +1,6 @@
 -- The equations between operators by which a goal's terms are rewritten. From Denali (PLDI 2002), its axioms of the
--- operators; the choice is this project's. In each row the left side comes first, and the variables are named in the order
--- of their numbers.
+-- operators; the choice is this project's. In each row the left side comes first, and the variables are named in the
+-- order of their numbers.
 use Rattle.std.specs.Prelude.{ℕ, List, [], ◌∷◌, ◌++◌}
 use Rattle.word_ops.specs.declared.operators.WordOp.{WordOp}
 use Rattle.word_ops.specs.declared.operators.WordOp.TheVariants.{Addq, Subq, Neg, Mulq, Umulh, Sll, Srl, Sra, S4addq, S8addq, S4subq, S8subq, And, Bis, Xor, Not, Bic, Ornot, Eqv, Cmpeq, Selectb, Extbl, Storeb, Mskbl, Insbl, Sextb, Sextw, Lda}
@@ -24,17 +24,17 @@ w3 op a b c = application (Word op) (more a (more b (more c none)))
 abbrev pub constant : ℕ → Tree Op
 constant n = application (Constant n) none
 
-abbrev pub select : Tree Op → Tree Op → Tree Op
-select m a = application Select (more m (more a none))
+abbrev pub select_of : Tree Op → Tree Op → Tree Op
+select_of m a = application Select (more m (more a none))
 
-abbrev pub store : Tree Op → Tree Op → Tree Op → Tree Op
-store m a v = application Store (more m (more a (more v none)))
+abbrev pub store_of : Tree Op → Tree Op → Tree Op → Tree Op
+store_of m a v = application Store (more m (more a (more v none)))
 
-abbrev pub load : Tree Op → Tree Op → Tree Op → Tree Op
-load m x k = application Load (more m (more x (more k none)))
+abbrev pub load_of : Tree Op → Tree Op → Tree Op → Tree Op
+load_of m x k = application Load (more m (more x (more k none)))
 
-abbrev pub put : Tree Op → Tree Op → Tree Op → Tree Op → Tree Op
-put m x k v = application Put (more m (more x (more k (more v none))))
+abbrev pub put_of : Tree Op → Tree Op → Tree Op → Tree Op → Tree Op
+put_of m x k v = application Put (more m (more x (more k (more v none))))
 
 -- ---- rules
 
@@ -99,8 +99,8 @@ differences =
     ∷ words_1 (λ x. (w1 Neg (w1 Neg x), x))
     ∷ []
 
-abbrev pub products : List Rewrite
-products =
+abbrev pub multiplications : List Rewrite
+multiplications =
     words_2 (λ x y. (w2 Mulq x y, w2 Mulq y x))
     ∷ words_3 (λ x y z. (w2 Mulq (w2 Mulq x y) z, w2 Mulq x (w2 Mulq y z)))
     ∷ words_1 (λ x. (w2 Mulq x (constant 1), x))
@@ -170,13 +170,13 @@ bytes =
 
 abbrev pub memories : List Rewrite
 memories =
-    memory_2 (λ m a v. (select (store m a v) a, v))
-    ∷ memory_3 (λ m a v w. (store (store m a v) a w, store m a w))
-    ∷ memory_2 (λ m x k. (select m (w2 Lda x k), load m x k))
-    ∷ memory_3 (λ m x k v. (store m (w2 Lda x k) v, put m x k v))
+    memory_2 (λ m a v. (select_of (store_of m a v) a, v))
+    ∷ memory_3 (λ m a v w. (store_of (store_of m a v) a w, store_of m a w))
+    ∷ memory_2 (λ m x k. (select_of m (w2 Lda x k), load_of m x k))
+    ∷ memory_3 (λ m x k v. (store_of m (w2 Lda x k) v, put_of m x k v))
     ∷ []
 
 abbrev pub equations : List Rewrite
 equations =
-    additions ++ differences ++ products ++ shifts ++ scaled_sums ++ ands ++ ors ++ exclusive_ors ++ inversions ++ comparisons
-    ++ bytes ++ memories
+    additions ++ differences ++ multiplications ++ shifts ++ scaled_sums ++ ands ++ ors ++ exclusive_ors ++ inversions
+    ++ comparisons ++ bytes ++ memories

@@ -1,4 +1,4 @@
-pub mod Codes
-pub mod Sorting
 pub mod Rewrites
 pub mod Equations
+pub mod Codes
+pub mod Steps

@@ -1,12 +1,13 @@
 -- A rewrite rule, and when it is true: both of its sides have one value, for all values of its variables. From Denali
 -- (PLDI 2002), its axioms.
-use Rattle.std.specs.Prelude.{◌≡◌, ℕ, ◌<◌, List, [], length, get_or, Contains}
+use Rattle.std.specs.Prelude.{◌≡◌, ℕ, ◌<◌, List, [], length, slice_index_or, Contains}
 use Rattle.word_ops.specs.declared.sorts.Op.{Op}
 use Rattle.word_ops.specs.declared.sorts.Sort.{Sort}
 use Rattle.word_ops.specs.Worlds.{Value, word, World, IsValue}
 use Rattle.word_ops.specs.Meanings.{meaning}
+use Rattle.word_terms.specs.Keys.{op_signature}
 use Rattle.word_terms.specs.Tree.{Tree, value}
-use Rattle.axiom_base.specs.Sorting.{sort_at, HasSort, Occurs, IsApplication}
+use Rattle.word_terms.specs.Sorting.{sort_at, HasSort, Occurs, IsApplication}
 
 -- where the left side stands, the right side equals it
 pub record Rewrite : Type 0 where
@@ -22,24 +23,27 @@ abbrev pub rewrite : List Sort → Tree Op → Tree Op → Rewrite
 rewrite variables left right = record { variables = variables; left = left; right = right; constants = [] }
 
 -- a value for each variable, of its sort and in range; a constant's is its word
-pub record Fits (r : Rewrite) (values : List Value) : Type 0 where
+pub record AreValuesFor (r : Rewrite) (values : List Value) : Type 0 where
   pub count : length values ≡ length r.variables
-  pub sorts : (n : ℕ) → n < length values → IsValue (sort_at r.variables n) (get_or values n (word 0))
-  pub constants : (n c : ℕ) → Contains r.constants (n, c) → get_or values n (word 0) ≡ word c
+  pub sorts : (n : ℕ) → n < length values → IsValue (sort_at r.variables n) (slice_index_or values n (word 0))
+  pub constants : (n c : ℕ) → Contains r.constants (n, c) → slice_index_or values n (word 0) ≡ word c
 
 -- the value of a tree; `names` has the name of each declared operator's number
 abbrev pub value_in : World → (ℕ → List ℕ) → List Value → Tree Op → Value
-value_in world names values = value (meaning world names) (λ n. get_or values n (word 0))
+value_in world names values = value (meaning world names) (λ n. slice_index_or values n (word 0))
 
 abbrev pub IsTrueIn : World → (ℕ → List ℕ) → Rewrite → Type 0
 IsTrueIn world names r =
-    (values : List Value) → Fits r values → value_in world names values r.left ≡ value_in world names values r.right
+    (values : List Value) →
+    AreValuesFor r values →
+    value_in world names values r.left ≡ value_in world names values r.right
 
--- the left side is an application; both sides are well formed and of one sort, with one sort for each variable; the left
--- side has all variables, which are numbered from 0 without a gap; and no variable stands for a constant. So a variable of
--- the right side stands in the left side too.
+-- the left side is an application; both sides are well formed and of one sort, with one sort for each variable; the
+-- left side has all variables, which are numbered from 0 without a gap; and no variable stands for a constant. So a
+-- variable of the right side stands in the left side too.
 pub record IsRule (r : Rewrite) : Type 0 where
   pub application : IsApplication r.left
-  pub sides : (sort : Sort) × HasSort r.variables sort r.left × HasSort r.variables sort r.right
+  pub sides :
+      (sort : Sort) × HasSort op_signature r.variables sort r.left × HasSort op_signature r.variables sort r.right
   pub all : (n : ℕ) → n < length r.variables → Occurs n r.left
   pub free : r.constants ≡ []

@@ -1,5 +1,5 @@
-//! Rewrite rules over terms, and the 48 equations between operators by which terms are rewritten, each of them true for all
-//! words and memories.
+//! Rewrite rules over terms, and the 48 equations between operators by which terms are rewritten, each of them true
+//! for all words and memories.
 #![tactic(auto)]
 
 mod building;

@@ -34,8 +34,8 @@ impl Model for Rule {
 }
 
 impl Rule {
-    /// The rule of two sides, or `None` where they make none. Costs the number of variables times the length of the left
-    /// side, beside the length of both.
+    /// The rule of two sides, or `None` where they make none. Costs the number of variables times the length of the
+    /// left side, beside the length of both.
     pub fn new(alloc: Global, left: Term<Op>, right: Term<Op>) -> Result<Option<Rule>, NoMemory>
         ensures some { IfOk result (λ made. IfSome made (λ rule.
             (rule.left ≡ tree_of left) × (rule.right ≡ tree_of right) × IsRule rule)) }

@@ -5,14 +5,15 @@ ghost use Rattle.axiom_base.specs.Equations as trees;
 ghost use Rattle.axiom_base.specs.Equations.{w1, w2, words_1, words_2, words_3};
 ghost use Rattle.word_ops.specs.declared.operators.WordOp.TheVariants.{Addq, Sll, Sra};
 
-use crate::building::{constant, one, two, variable};
+use crate::building::{constant, one, two};
 use crate::rule::Rule;
 use items::NoMemory;
 use std::alloc::Global;
 use word_ops::{Sort, WordOp};
+use word_terms::variable;
 
 /// The operands may change places.
-pub fn commutative(alloc: Global, op: WordOp) -> Result<Rule, NoMemory>
+pub(crate) fn commutative(alloc: Global, op: WordOp) -> Result<Rule, NoMemory>
     requires { arity_of op ≡ 2 }
     ensures { IfOk result (λ rule. rule ≡ words_2 (λ x y. (w2 op x y, w2 op y x))) }
 {
@@ -22,7 +23,7 @@ pub fn commutative(alloc: Global, op: WordOp) -> Result<Rule, NoMemory>
 }
 
 /// Of three operands, the last two may be taken first.
-pub fn associative(alloc: Global, op: WordOp) -> Result<Rule, NoMemory>
+pub(crate) fn associative(alloc: Global, op: WordOp) -> Result<Rule, NoMemory>
     requires { arity_of op ≡ 2 }
     ensures { IfOk result (λ rule. rule ≡ words_3 (λ x y z. (w2 op (w2 op x y) z, w2 op x (w2 op y z)))) }
 {
@@ -34,7 +35,7 @@ pub fn associative(alloc: Global, op: WordOp) -> Result<Rule, NoMemory>
 }
 
 /// The word as second operand gives the first.
-pub fn neutral(alloc: Global, op: WordOp, word: u64) -> Result<Rule, NoMemory>
+pub(crate) fn neutral(alloc: Global, op: WordOp, word: u64) -> Result<Rule, NoMemory>
     requires { arity_of op ≡ 2 }
     ensures { IfOk result (λ rule. rule ≡ words_1 (λ x. (w2 op x (trees.constant word), x))) }
 {
@@ -44,7 +45,7 @@ pub fn neutral(alloc: Global, op: WordOp, word: u64) -> Result<Rule, NoMemory>
 }
 
 /// The word as second operand gives that word.
-pub fn absorbing(alloc: Global, op: WordOp, word: u64) -> Result<Rule, NoMemory>
+pub(crate) fn absorbing(alloc: Global, op: WordOp, word: u64) -> Result<Rule, NoMemory>
     requires { arity_of op ≡ 2 }
     ensures { IfOk result (λ rule. rule ≡ words_1 (λ x. (w2 op x (trees.constant word), trees.constant word))) }
 {
@@ -54,7 +55,7 @@ pub fn absorbing(alloc: Global, op: WordOp, word: u64) -> Result<Rule, NoMemory>
 }
 
 /// Two equal operands give that operand.
-pub fn idempotent(alloc: Global, op: WordOp) -> Result<Rule, NoMemory>
+pub(crate) fn idempotent(alloc: Global, op: WordOp) -> Result<Rule, NoMemory>
     requires { arity_of op ≡ 2 }
     ensures { IfOk result (λ rule. rule ≡ words_1 (λ x. (w2 op x x, x))) }
 {
@@ -64,7 +65,7 @@ pub fn idempotent(alloc: Global, op: WordOp) -> Result<Rule, NoMemory>
 }
 
 /// Two equal operands give 0.
-pub fn cancelling(alloc: Global, op: WordOp) -> Result<Rule, NoMemory>
+pub(crate) fn cancelling(alloc: Global, op: WordOp) -> Result<Rule, NoMemory>
     requires { arity_of op ≡ 2 }
     ensures { IfOk result (λ rule. rule ≡ words_1 (λ x. (w2 op x x, trees.constant 0))) }
 {
@@ -74,7 +75,7 @@ pub fn cancelling(alloc: Global, op: WordOp) -> Result<Rule, NoMemory>
 }
 
 /// Twice gives the operand.
-pub fn involutive(alloc: Global, op: WordOp) -> Result<Rule, NoMemory>
+pub(crate) fn involutive(alloc: Global, op: WordOp) -> Result<Rule, NoMemory>
     requires { arity_of op ≡ 1 }
     ensures { IfOk result (λ rule. rule ≡ words_1 (λ x. (w1 op (w1 op x), x))) }
 {
@@ -85,7 +86,7 @@ pub fn involutive(alloc: Global, op: WordOp) -> Result<Rule, NoMemory>
 }
 
 /// An operator of one operand is `op` with 0 before it.
-pub fn from_zero(alloc: Global, inverse: WordOp, op: WordOp) -> Result<Rule, NoMemory>
+pub(crate) fn from_zero(alloc: Global, inverse: WordOp, op: WordOp) -> Result<Rule, NoMemory>
     requires inverse { arity_of inverse ≡ 1 }
     requires op { arity_of op ≡ 2 }
     ensures { IfOk result (λ rule. rule ≡ words_1 (λ x. (w1 inverse x, w2 op (trees.constant 0) x))) }
@@ -96,7 +97,7 @@ pub fn from_zero(alloc: Global, inverse: WordOp, op: WordOp) -> Result<Rule, NoM
 }
 
 /// `outer` with the inverse as second operand is `op`.
-pub fn of_inverse(
+pub(crate) fn of_inverse(
     alloc: Global,
     outer: WordOp,
     inverse: WordOp,
@@ -114,7 +115,7 @@ pub fn of_inverse(
 }
 
 /// `op` is `outer` with the inverse as second operand.
-pub fn by_inverse(
+pub(crate) fn by_inverse(
     alloc: Global,
     op: WordOp,
     outer: WordOp,
@@ -132,10 +133,16 @@ pub fn by_inverse(
 }
 
 /// `op` of a first operand that is shifted to the left is `scaled`.
-pub fn scaled(alloc: Global, op: WordOp, distance: u64, scaled: WordOp) -> Result<Rule, NoMemory>
+pub(crate) fn scaled(
+    alloc: Global,
+    op: WordOp,
+    distance: u64,
+    scaled: WordOp,
+) -> Result<Rule, NoMemory>
     requires op { arity_of op ≡ 2 }
     requires scaled { arity_of scaled ≡ 2 }
-    ensures { IfOk result (λ rule. rule ≡ words_2 (λ x y. (w2 op (w2 Sll x (trees.constant distance)) y, w2 scaled x y))) }
+    ensures { IfOk result (λ rule. rule ≡
+        words_2 (λ x y. (w2 op (w2 Sll x (trees.constant distance)) y, w2 scaled x y))) }
 {
     let shifted = two(alloc, WordOp::Sll, variable(0), constant(alloc, distance))?;
     let left = two(alloc, op, shifted, variable(1))?;
@@ -143,8 +150,8 @@ pub fn scaled(alloc: Global, op: WordOp, distance: u64, scaled: WordOp) -> Resul
     Rule::over(alloc, &[Sort::Word, Sort::Word], left, right)
 }
 
-/// Both operators are the same.
-pub fn renamed(alloc: Global, op: WordOp, other: WordOp) -> Result<Rule, NoMemory>
+/// Both operators give the same.
+pub(crate) fn renamed(alloc: Global, op: WordOp, other: WordOp) -> Result<Rule, NoMemory>
     requires op { arity_of op ≡ 2 }
     requires other { arity_of other ≡ 2 }
     ensures { IfOk result (λ rule. rule ≡ words_2 (λ x y. (w2 op x y, w2 other x y))) }
@@ -155,9 +162,10 @@ pub fn renamed(alloc: Global, op: WordOp, other: WordOp) -> Result<Rule, NoMemor
 }
 
 /// Shifted to the left and back with the sign is `extend`.
-pub fn sign_extended(alloc: Global, distance: u64, extend: WordOp) -> Result<Rule, NoMemory>
+pub(crate) fn sign_extended(alloc: Global, distance: u64, extend: WordOp) -> Result<Rule, NoMemory>
     requires { arity_of extend ≡ 1 }
-    ensures { IfOk result (λ rule. rule ≡ words_1 (λ x. (w2 Sra (w2 Sll x (trees.constant distance)) (trees.constant distance), w1 extend x))) }
+    ensures { IfOk result (λ rule. rule ≡ words_1 (λ x.
+        (w2 Sra (w2 Sll x (trees.constant distance)) (trees.constant distance), w1 extend x))) }
 {
     let shifted = two(alloc, WordOp::Sll, variable(0), constant(alloc, distance))?;
     let left = two(alloc, WordOp::Sra, shifted, constant(alloc, distance))?;
@@ -166,7 +174,7 @@ pub fn sign_extended(alloc: Global, distance: u64, extend: WordOp) -> Result<Rul
 }
 
 /// A word added to itself is shifted by 1.
-pub fn doubled(alloc: Global) -> Result<Rule, NoMemory>
+pub(crate) fn doubled(alloc: Global) -> Result<Rule, NoMemory>
     ensures { IfOk result (λ rule. rule ≡ words_1 (λ x. (w2 Addq x x, w2 Sll x (trees.constant 1)))) }
 {
     let left = two(alloc, WordOp::Addq, variable(0), variable(0))?;
@@ -175,7 +183,7 @@ pub fn doubled(alloc: Global) -> Result<Rule, NoMemory>
 }
 
 /// A word shifted by 1 is added to itself.
-pub fn shifted_by_one(alloc: Global) -> Result<Rule, NoMemory>
+pub(crate) fn shifted_by_one(alloc: Global) -> Result<Rule, NoMemory>
     ensures { IfOk result (λ rule. rule ≡ words_1 (λ x. (w2 Sll x (trees.constant 1), w2 Addq x x))) }
 {
     let left = two(alloc, WordOp::Sll, variable(0), constant(alloc, 1))?;

@@ -4,15 +4,17 @@ ghost use Rattle.axiom_base.specs.Equations as trees;
 ghost use Rattle.axiom_base.specs.Equations.{w2, w3, words_3, memory_2, memory_3};
 ghost use Rattle.word_ops.specs.declared.operators.WordOp.TheVariants.{Storeb, Bis, Mskbl, Insbl, Lda};
 
-use crate::building::{load, put, select, store, three, two, variable};
+use crate::building::{load, put, select, store, three, two};
 use crate::rule::Rule;
 use items::NoMemory;
 use std::alloc::Global;
 use word_ops::{Sort, WordOp};
+use word_terms::variable;
 
 /// A byte put into a word: the word without that byte, joined with the byte in its place.
-pub fn stored_byte(alloc: Global) -> Result<Rule, NoMemory>
-    ensures { IfOk result (λ rule. rule ≡ words_3 (λ x y z. (w3 Storeb x y z, w2 Bis (w2 Mskbl x y) (w2 Insbl z y)))) }
+pub(crate) fn stored_byte(alloc: Global) -> Result<Rule, NoMemory>
+    ensures { IfOk result (λ rule. rule ≡
+        words_3 (λ x y z. (w3 Storeb x y z, w2 Bis (w2 Mskbl x y) (w2 Insbl z y)))) }
 {
     let left = three(alloc, WordOp::Storeb, variable(0), variable(1), variable(2))?;
     let masked = two(alloc, WordOp::Mskbl, variable(0), variable(1))?;
@@ -22,8 +24,8 @@ pub fn stored_byte(alloc: Global) -> Result<Rule, NoMemory>
 }
 
 /// What was stored at an address is read there.
-pub fn read_back(alloc: Global) -> Result<Rule, NoMemory>
-    ensures { IfOk result (λ rule. rule ≡ memory_2 (λ m a v. (trees.select (trees.store m a v) a, v))) }
+pub(crate) fn read_back(alloc: Global) -> Result<Rule, NoMemory>
+    ensures { IfOk result (λ rule. rule ≡ memory_2 (λ m a v. (trees.select_of (trees.store_of m a v) a, v))) }
 {
     let stored = store(alloc, variable(0), variable(1), variable(2))?;
     let left = select(alloc, stored, variable(1))?;
@@ -32,8 +34,9 @@ pub fn read_back(alloc: Global) -> Result<Rule, NoMemory>
 }
 
 /// The second of two stores at an address stands.
-pub fn stored_again(alloc: Global) -> Result<Rule, NoMemory>
-    ensures { IfOk result (λ rule. rule ≡ memory_3 (λ m a v w. (trees.store (trees.store m a v) a w, trees.store m a w))) }
+pub(crate) fn stored_again(alloc: Global) -> Result<Rule, NoMemory>
+    ensures { IfOk result (λ rule. rule ≡
+        memory_3 (λ m a v w. (trees.store_of (trees.store_of m a v) a w, trees.store_of m a w))) }
 {
     let stored = store(alloc, variable(0), variable(1), variable(2))?;
     let left = store(alloc, stored, variable(1), variable(3))?;
@@ -47,8 +50,9 @@ pub fn stored_again(alloc: Global) -> Result<Rule, NoMemory>
 }
 
 /// A read at a base and a displacement.
-pub fn read_displaced(alloc: Global) -> Result<Rule, NoMemory>
-    ensures { IfOk result (λ rule. rule ≡ memory_2 (λ m x k. (trees.select m (w2 Lda x k), trees.load m x k))) }
+pub(crate) fn read_displaced(alloc: Global) -> Result<Rule, NoMemory>
+    ensures { IfOk result (λ rule. rule ≡
+        memory_2 (λ m x k. (trees.select_of m (w2 Lda x k), trees.load_of m x k))) }
 {
     let address = two(alloc, WordOp::Lda, variable(1), variable(2))?;
     let left = select(alloc, variable(0), address)?;
@@ -57,8 +61,9 @@ pub fn read_displaced(alloc: Global) -> Result<Rule, NoMemory>
 }
 
 /// A store at a base and a displacement.
-pub fn stored_displaced(alloc: Global) -> Result<Rule, NoMemory>
-    ensures { IfOk result (λ rule. rule ≡ memory_3 (λ m x k v. (trees.store m (w2 Lda x k) v, trees.put m x k v))) }
+pub(crate) fn stored_displaced(alloc: Global) -> Result<Rule, NoMemory>
+    ensures { IfOk result (λ rule. rule ≡
+        memory_3 (λ m x k v. (trees.store_of m (w2 Lda x k) v, trees.put_of m x k v))) }
 {
     let address = two(alloc, WordOp::Lda, variable(1), variable(2))?;
     let left = store(alloc, variable(0), address, variable(3))?;

@@ -1,7 +1,7 @@
 // The table of the equations, row by row.
 ghost use Rattle.std.specs.Prelude.{◌≡◌, ℕ, List, All, IfOk, OnOk};
 ghost use Rattle.word_ops.specs.Worlds.{World};
-ghost use Rattle.axiom_base.specs.Rewrites.{IsTrueIn};
+ghost use Rattle.axiom_base.specs.Rewrites.{IsRule, IsTrueIn};
 ghost use Rattle.axiom_base.specs.Equations as rows;
 
 use crate::rule::Rule;
@@ -23,7 +23,7 @@ pub fn equations(alloc: Global) -> Result<Items<Rule>, NoMemory>
     equations_are_true();
     let mut rules = additions(alloc)?;
     rules.append(&mut differences(alloc)?)?;
-    rules.append(&mut products(alloc)?)?;
+    rules.append(&mut multiplications(alloc)?)?;
     rules.append(&mut shifts(alloc)?)?;
     rules.append(&mut scaled_sums(alloc)?)?;
     rules.append(&mut ands(alloc)?)?;
@@ -36,8 +36,9 @@ pub fn equations(alloc: Global) -> Result<Items<Rule>, NoMemory>
     Ok(Items::from(rules))
 }
 
-/// Does nothing. Its clause is a law: each equation is true in every world.
+/// Does nothing. Its clauses are laws: each equation is a rule, and is true in every world.
 pub fn equations_are_true()
+    ensures rules { All IsRule rows.equations }
     ensures true_rows { (world : World) (names : ℕ → List ℕ) → All (IsTrueIn world names) rows.equations }
 {
     meanings_are_in_range();
@@ -68,8 +69,8 @@ fn differences(alloc: Global) -> Result<Vec<Rule>, NoMemory>
     Ok(rules)
 }
 
-fn products(alloc: Global) -> Result<Vec<Rule>, NoMemory>
-    ensures { IfOk result (λ rules. rules.items ≡ rows.products) }
+fn multiplications(alloc: Global) -> Result<Vec<Rule>, NoMemory>
+    ensures { IfOk result (λ rules. rules.items ≡ rows.multiplications) }
 {
     let mut rules = Vec::new(alloc);
     rules.push(commutative(alloc, WordOp::Mulq)?)?;

@@ -251,3 +251,26 @@ fn a_rule_has_its_sides_and_sorts(rt: HostRuntime) -> Result<(), Fail> {
     assert_eq!(rt; made.variables(), [Sort::Word, Sort::Word].as_slice());
     Ok(())
 }
+
+// The word of a memory that is stored in, at a sum.
+fn read_at_a_sum(alloc: Global, memory: u32) -> Result<Term<Op>, NoMemory> {
+    let sum = applied_to(alloc, Op::Word(WordOp::Addq), &[2, 0])?;
+    let stored = applied_to(alloc, Op::Store, &[memory, 3, 0])?;
+    Ok(Term::App(Op::Select, vec![in alloc; stored, sum]?))
+}
+
+#[test]
+fn sorts_are_found_below_the_first_operands(rt: HostRuntime) -> Result<(), Fail> {
+    let alloc = rt.alloc();
+    let left = read_at_a_sum(alloc, 1)?;
+    let right = applied_to(alloc, Op::Select, &[1, 3])?;
+    let made = Rule::new(alloc, left, right)?.expect(&rt, "a rule");
+    assert_eq!(rt;
+        made.variables(),
+        [Sort::Word, Sort::Memory, Sort::Word, Sort::Word].as_slice()
+    );
+    // The word 2 is a memory too, and a variable is left out.
+    assert!(rt; Rule::new(alloc, read_at_a_sum(alloc, 2)?, Term::Var(0))?.is_none());
+    assert!(rt; Rule::new(alloc, read_at_a_sum(alloc, 4)?, Term::Var(0))?.is_none());
+    Ok(())
+}

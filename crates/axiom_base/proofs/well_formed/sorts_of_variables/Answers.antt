@@ -1,6 +1,6 @@
 use Rattle.std.proofs.Common.{subst}
 use Rattle.word_terms.specs.View.{tree_of}
-use Rattle.axiom_base.specs.Sorting.{IsSortOf}
+use Rattle.axiom_base.specs.Steps.{IsSortOf}
 use Rattle.axiom_base.proofs.Sides.{one_more_sort}
 use Rattle.axiom_base.proofs.well_formed.sorts_of_variables.Goals as goal
 

@@ -1,6 +1,7 @@
 use Rattle.std.proofs.Common.{ℕ, ◌-◌, ◌^◌, ◌<◌, length}
 use Rattle.word_terms.specs.View.{tree_of}
-use Rattle.axiom_base.specs.Sorting.{IsSortOf, sort_at}
+use Rattle.word_terms.specs.Sorting.{sort_at}
+use Rattle.axiom_base.specs.Steps.{IsSortOf}
 use Rattle.axiom_base.proofs.well_formed.sorts_of_variables.Given as goal
 
 abbrev pub invariant-loop-found : goal.invariant-loop-found
