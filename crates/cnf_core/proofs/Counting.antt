@@ -9,7 +9,7 @@ use Rattle.std.proofs.lemmas.List.Elements.{All-append, All-head, All-tail, All-
 use Rattle.std.proofs.lemmas.Nat.{div-mul-add, mod-mul-add}
 use Rattle.cnf_core.specs.declared.literal.Lit.{Lit}
 use Rattle.cnf_core.specs.Formula.{lit_true, clause_true, Satisfies, IsLitOf, negated}
-use Rattle.cnf_core.specs.Counter.{rows, lit_at, counter, counts_first, keeps, counts_next, stops, counter_clauses, count_true, Extends, HasExtension, SayAtMost, at_most_clauses}
+use Rattle.cnf_core.specs.Counter.{counter_rows, lit_at, counter, counts_first, keeps, counts_next, stops, counter_clauses, count_true, Extends, HasExtension, SayAtMost, at_most_clauses}
 use Rattle.cnf_core.proofs.Truth.{All-left, All-right, All-to_map, All-from_map, All-to_rows, All-from_rows, All-unmap, lit_true-negated, implies-out, implies-in, implies2-out, implies2-in, excludes-out, excludes-in}
 
 -- what the four rows of clauses say of an assignment, by the literals' values
@@ -23,8 +23,8 @@ pub counts-out : (w : ℕ → Bool) (old p : ℕ) (lits : List Lit) → Satisfie
 counts-out w old p lits h =
     let P : List Lit → Type 0 = λ c. clause_true w c ≡ true in
     let a = map (counts_first old p lits) (range_with_len 0 (length lits - 1)) in
-    let b = rows (keeps old p) (length lits - 2) p in
-    let c = rows (counts_next old p lits) (length lits - 2) (p - 1) in
+    let b = counter_rows (keeps old p) (length lits - 2) p in
+    let c = counter_rows (counts_next old p lits) (length lits - 2) (p - 1) in
     let d = map (stops old p lits) (range_with_len 0 (length lits - 1)) in
     let habc = All-left P (a ++ b ++ c) d h in
     let hab = All-left P (a ++ b) c habc in
@@ -39,8 +39,8 @@ pub counts-in : (w : ℕ → Bool) (old p : ℕ) (lits : List Lit) → Counts w 
 counts-in w old p lits h =
     let P : List Lit → Type 0 = λ c. clause_true w c ≡ true in
     let a = map (counts_first old p lits) (range_with_len 0 (length lits - 1)) in
-    let b = rows (keeps old p) (length lits - 2) p in
-    let c = rows (counts_next old p lits) (length lits - 2) (p - 1) in
+    let b = counter_rows (keeps old p) (length lits - 2) p in
+    let c = counter_rows (counts_next old p lits) (length lits - 2) (p - 1) in
     let d = map (stops old p lits) (range_with_len 0 (length lits - 1)) in
     All-append P (a ++ b ++ c) d
     (All-append P (a ++ b) c

@@ -6,7 +6,7 @@ use Rattle.std.proofs.lemmas.List.Elements.{All-nil, All-cons, All-append, All-m
 use Rattle.std.proofs.Math.Nat.{mul-le-mul, mul-le-mul_right}
 use Rattle.cnf_core.specs.declared.literal.Lit.{Lit}
 use Rattle.cnf_core.specs.Formula.{IsLitOf, AreOver, negated}
-use Rattle.cnf_core.specs.Counter.{rows, lit_at, counter, counts_first, keeps, counts_next, stops, counter_clauses, at_most_clauses, at_most_size, at_most_vars}
+use Rattle.cnf_core.specs.Counter.{counter_rows, lit_at, counter, counts_first, keeps, counts_next, stops, counter_clauses, at_most_clauses, at_most_size, at_most_vars}
 use Rattle.cnf_core.proofs.Truth.{All-to_map, All-to_rows}
 use Rattle.cnf_core.proofs.Rows.{length_counter_clauses}
 
@@ -42,8 +42,8 @@ counter-over old p lits some more exist =
     let counted : (i j : ℕ) → i < length lits - 1 → j < p → IsLitOf n (counter old p i j) = counter-within old p (length lits - 1) in
     let denied : (i j : ℕ) → i < length lits - 1 → j < p → IsLitOf n (negated (counter old p i j)) = λ i j few less. negated-within n (counter old p i j) (counted i j few less) in
     let a = map (counts_first old p lits) (range_with_len 0 (length lits - 1)) in
-    let b = rows (keeps old p) (length lits - 2) p in
-    let c = rows (counts_next old p lits) (length lits - 2) (p - 1) in
+    let b = counter_rows (keeps old p) (length lits - 2) p in
+    let c = counter_rows (counts_next old p lits) (length lits - 2) (p - 1) in
     let d = map (stops old p lits) (range_with_len 0 (length lits - 1)) in
     All-append P (a ++ b ++ c) d
     (All-append P (a ++ b) c

@@ -1,8 +1,7 @@
 -- Parts of a list by the places where they end: one more part, fewer parts, and each part by its place.
-use Rattle.std.proofs.Common.{◌≡◌, ℕ, zero, suc, ◌+◌, ◌-◌, ◌<◌, ◌≤◌, List, [], ◌∷◌, ◌++◌, length, take, drop, get_or, refl, sym, ap, ◌∙◌, subst, arith, append_assoc, Some}
-use Rattle.std.specs.Prelude.{slice_range, slice_get}
-use Rattle.std.proofs.lemmas.List.{take-append-le, drop-append-le, take-append-drop, length-drop, length-append, length-take-le, take_all, take_more}
-use Rattle.std.proofs.lemmas.Option.{get_or_from_slice_get, slice_get_within}
+use Rattle.std.proofs.Common.{◌≡◌, ℕ, zero, suc, ◌+◌, ◌-◌, ◌<◌, ◌≤◌, List, [], ◌∷◌, ◌++◌, length, take, drop, get_or, refl, sym, ap, ◌∙◌, subst, arith}
+use Rattle.std.specs.Prelude.{slice_range}
+use Rattle.std.proofs.lemmas.List.{take-append-le, drop-append-le, take-append-drop, length-drop, length-append, length-take-le, take_all}
 use Rattle.std.proofs.Math.Seq.{drop-append_seam}
 use Rattle.cnf_core.specs.Pieces.{pieces, AreEnds}
 
@@ -126,10 +125,3 @@ kept-all ends xs parts k is few =
     let size = length_pieces 0 ends xs in
     let same = ap length is in
     sym (take_all k parts (omega arith))
-
--- one more part of another list
-pub appended-one : {X : Type 0} (xs ys : List X) (k : ℕ) (y : X) → slice_get ys k ≡ Some y → (xs ++ take k ys) ++ y ∷ [] ≡ xs ++ take (k + 1) ys
-appended-one xs ys k y is =
-    let last = get_or_from_slice_get ys k y y is in
-    append_assoc xs (take k ys) (y ∷ [])
-    ∙ ap (λ (zs : List _). xs ++ zs) (ap (λ (z : _). take k ys ++ z ∷ []) (sym last) ∙ sym (take_more ys k y (slice_get_within ys k y is)))

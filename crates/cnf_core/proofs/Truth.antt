@@ -7,7 +7,7 @@ use Rattle.std.proofs.lemmas.List.Elements.{All-nil, All-cons, All-head, All-tai
 use Rattle.std.proofs.lemmas.List.FromFn.{get_or-range_with_len, get_or-map-range_with_len, length-range_with_len, length-map-range_with_len}
 use Rattle.cnf_core.specs.declared.literal.Lit.{Lit}
 use Rattle.cnf_core.specs.Formula.{lit_true, clause_true, negated}
-use Rattle.cnf_core.specs.Counter.{rows}
+use Rattle.cnf_core.specs.Counter.{counter_rows}
 
 -- All over an append, apart
 pub All-left : {X : Type 0} (P : X → Type 0) → (xs ys : List X) → All P (xs ++ ys) → All P xs
@@ -45,21 +45,21 @@ All-from_flat P f (x ∷ xs) h =
     All-cons (λ y. All P (f y)) x xs (All-left P (f x) (flat_map f xs) h) (All-from_flat P f xs (All-right P (f x) (flat_map f xs) h))
 
 -- All over rows i of maps of j
-pub All-to_rows : {X : Type 0} (P : X → Type 0) → (f : ℕ → ℕ → X) (m n : ℕ) → ((i j : ℕ) → i < m → j < n → P (f i j)) → All P (rows f m n)
-unfolding rows
+pub All-to_rows : {X : Type 0} (P : X → Type 0) → (f : ℕ → ℕ → X) (m n : ℕ) → ((i j : ℕ) → i < m → j < n → P (f i j)) → All P (counter_rows f m n)
+unfolding counter_rows
 All-to_rows P f m n h =
     All-to_flat P (λ i. map (f i) (range_with_len 0 n)) (range_with_len 0 m) (λ k d lt.
     let few : k < m = omega (arith, length-range_with_len 0 m) in
     subst (λ (x : ℕ). All P (map (f x) (range_with_len 0 n))) (sym (get_or-range_with_len 0 m k d few))
     (subst (λ (x : ℕ). All P (map (f x) (range_with_len 0 n))) (omega arith) (All-to_map P (f k) n (λ j l. h k j few l))))
 
-pub All-from_rows : {X : Type 0} (P : X → Type 0) → (f : ℕ → ℕ → X) (m n : ℕ) → All P (rows f m n) → (i j : ℕ) → i < m → j < n → P (f i j)
-unfolding rows
+pub All-from_rows : {X : Type 0} (P : X → Type 0) → (f : ℕ → ℕ → X) (m n : ℕ) → All P (counter_rows f m n) → (i j : ℕ) → i < m → j < n → P (f i j)
+unfolding counter_rows
 All-from_rows P f m n h i j l k =
-    let rows : All (λ x. All P (map (f x) (range_with_len 0 n))) (range_with_len 0 m) = All-from_flat P (λ x. map (f x) (range_with_len 0 n)) (range_with_len 0 m) h in
+    let each : All (λ x. All P (map (f x) (range_with_len 0 n))) (range_with_len 0 m) = All-from_flat P (λ x. map (f x) (range_with_len 0 n)) (range_with_len 0 m) h in
     let few : i < length (range_with_len 0 m) = omega (arith, length-range_with_len 0 m) in
     let e : get_or (range_with_len 0 m) i 0 ≡ i = get_or-range_with_len 0 m i 0 l ∙ omega arith in
-    All-from_map P (f i) n (subst (λ (x : ℕ). All P (map (f x) (range_with_len 0 n))) e (rows i 0 few)) j k
+    All-from_map P (f i) n (subst (λ (x : ℕ). All P (map (f x) (range_with_len 0 n))) e (each i 0 few)) j k
 
 -- the opposite literal has the opposite value
 flip : (p b : Bool) → cond (not p) b (not b) ≡ not (cond p b (not b))

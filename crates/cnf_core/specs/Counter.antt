@@ -6,8 +6,8 @@ use Rattle.cnf_core.specs.declared.literal.Lit.{Lit}
 use Rattle.cnf_core.specs.Formula.{lit_true, Satisfies, negated}
 
 -- what f gives at i and j, for i below m and j below n, by i then j
-unfoldable pub rows : {X : Type 0} → (ℕ → ℕ → X) → ℕ → ℕ → List X
-rows f m n = flat_map (λ i. map (f i) (range_with_len 0 n)) (range_with_len 0 m)
+unfoldable pub counter_rows : {X : Type 0} → (ℕ → ℕ → X) → ℕ → ℕ → List X
+counter_rows f m n = flat_map (λ i. map (f i) (range_with_len 0 n)) (range_with_len 0 m)
 
 -- the literal at the place i, from 0
 abbrev pub lit_at : List Lit → ℕ → Lit
@@ -38,8 +38,8 @@ stops old p lits i = negated (lit_at lits (i + 1)) ∷ negated (counter old p i 
 abbrev pub counter_clauses : ℕ → ℕ → List Lit → List (List Lit)
 counter_clauses old p lits =
     map (counts_first old p lits) (range_with_len 0 (length lits - 1))
-    ++ rows (keeps old p) (length lits - 2) p
-    ++ rows (counts_next old p lits) (length lits - 2) (p - 1)
+    ++ counter_rows (keeps old p) (length lits - 2) p
+    ++ counter_rows (counts_next old p lits) (length lits - 2) (p - 1)
     ++ map (stops old p lits) (range_with_len 0 (length lits - 1))
 
 -- the clauses which say that at most p of the literals are true, where `old` is the last variable before

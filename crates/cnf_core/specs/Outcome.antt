@@ -4,17 +4,18 @@ use Rattle.std.specs.List.{slice_index_or}
 use Rattle.cnf_core.specs.declared.line.Line.{Line}
 use Rattle.cnf_core.specs.Formula.{Formula, Satisfies, assigned}
 use Rattle.cnf_core.specs.Values.{Partial, IsClosed}
-use Rattle.cnf_core.specs.Refutation.{known, AreAccepted, Refutes, IsFresh}
+use Rattle.cnf_core.specs.Refutation.{known, AreAccepted, Refutes, HaveNoSolution, IsFresh}
 
 -- a value for each variable, and they satisfy the formula
 pub record IsSolved (f : Formula) (values : List Bool) : Type 0 where
   pub size : length values ≡ f.vars
   pub satisfied : Satisfies (assigned values) f.clauses
 
--- lines within the budget, which refute the formula
+-- lines within the budget, which refute the formula; so no assignment satisfies it
 pub record IsRefuted (f : Formula) (conflicts : ℕ) (lines : List Line) : Type 0 where
   pub few : length lines ≤ conflicts
   pub refutes : Refutes f lines
+  pub none : HaveNoSolution f.clauses
 
 -- exactly as many lines as the budget, each accepted and fresh; so the budget is below 3 to the number of variables, and
 -- unit propagation alone doesn't refute the formula

@@ -5,7 +5,7 @@ use Rattle.std.specs.List.{All, AllPairs, Contains, slice_index_or}
 use Rattle.cnf_core.specs.declared.literal.Lit.{Lit}
 use Rattle.cnf_core.specs.declared.line.Line.{Line}
 use Rattle.cnf_core.specs.Formula.{Formula, IsLitOf, Satisfies, negated}
-use Rattle.cnf_core.specs.Values.{Partial, value_in, IsUnit, IsFalseClause, IsClosed, IsHeld, IsFalse}
+use Rattle.cnf_core.specs.Values.{Partial, partial_of, IsUnit, IsFalseClause, IsClosed, IsHeld, IsFalse}
 
 -- the formula's clauses and the lemmas of these lines
 abbrev pub known : List (List Lit) → List Line → List (List Lit)
@@ -18,7 +18,7 @@ clause_at clauses hint = slice_index_or clauses (hint - 1) []
 -- from these true literals, each hint in order is a unit clause, and makes its literal true
 abbrev pub Reaches : List (List Lit) → List Lit → List ℕ → List Lit → Type 0
 Reaches clauses s [] t = s ≡ t
-Reaches clauses s (hint ∷ hints) t = (l : Lit) × IsUnit (value_in s) (clause_at clauses hint) l × Reaches clauses (l ∷ s) hints t
+Reaches clauses s (hint ∷ hints) t = (l : Lit) × IsUnit (partial_of s) (clause_at clauses hint) l × Reaches clauses (l ∷ s) hints t
 
 -- all literals of the lemma are false
 abbrev pub refuted : List Lit → List Lit
@@ -28,11 +28,19 @@ refuted lemma = map negated lemma
 abbrev pub IsNumbered : Formula → List Line → Line → Type 0
 IsNumbered f earlier line = line.id ≡ length f.clauses + length earlier + 1
 
+-- no two of the literals are of one variable
+abbrev pub HaveDifferentVars : List Lit → Type 0
+HaveDifferentVars lits = AllPairs (λ (l m : Lit). l.var ≢ m.var) lits
+
+-- the hints are among 1 to n
+abbrev pub AreNames : ℕ → List ℕ → Type 0
+AreNames n hints = All (λ h. (1 ≤ h) × (h ≤ n)) hints
+
 -- its literals are of different variables of the formula, and its hints name clauses or earlier lemmas
 pub record IsNamed (f : Formula) (earlier : List Line) (line : Line) : Type 0 where
   pub exist : All (IsLitOf f.vars) line.lits
-  pub differ : AllPairs (λ (l m : Lit). l.var ≢ m.var) line.lits
-  pub hints : All (λ h. (1 ≤ h) × (h ≤ length f.clauses + length earlier)) line.hints
+  pub differ : HaveDifferentVars line.lits
+  pub hints : AreNames (length f.clauses + length earlier) line.hints
 
 -- each hint before the last is unit
 abbrev pub HasUnits : Formula → List Line → Line → Type 0
@@ -45,7 +53,7 @@ EndsFalse f earlier line =
     (t : List Lit)
     × Reaches (known f.clauses earlier) (refuted line.lits) (take (length line.hints - 1) line.hints) t
     × (1 ≤ length line.hints)
-    × IsFalseClause (value_in t) (clause_at (known f.clauses earlier) (slice_index line.hints (length line.hints - 1)))
+    × IsFalseClause (partial_of t) (clause_at (known f.clauses earlier) (slice_index line.hints (length line.hints - 1)))
 
 -- none of the reasons 1 to 4 refuses the line
 pub record IsAccepted (f : Formula) (earlier : List Line) (line : Line) : Type 0 where
@@ -58,8 +66,8 @@ abbrev pub AreAccepted : Formula → List Line → Type 0
 AreAccepted f lines = (k : ℕ) (d : Line) → k < length lines → IsAccepted f (take k lines) (slice_index_or lines k d)
 
 -- the lemma is empty exactly in the last line
-abbrev pub IsPlaced : List Line → ℕ → Line → Type 0
-IsPlaced lines k line = (line.lits ≡ []) ↔ (k + 1 ≡ length lines)
+abbrev pub IsEmptyOnlyLast : List Line → ℕ → Line → Type 0
+IsEmptyOnlyLast lines k line = (line.lits ≡ []) ↔ (k + 1 ≡ length lines)
 
 -- the lemma isn't empty
 abbrev pub IsFilled : ℕ → Line → Type 0
@@ -73,7 +81,7 @@ pub record AreRight (Placed : ℕ → Line → Type 0) (f : Formula) (lines : Li
 
 -- the lines refute the formula: all are accepted, the last lemma is empty and no other is
 abbrev pub Refutes : Formula → List Line → Type 0
-Refutes f lines = AreRight (IsPlaced lines) f lines
+Refutes f lines = AreRight (IsEmptyOnlyLast lines) f lines
 
 -- the lines are lemmas of the formula: all are accepted, and no lemma is empty
 abbrev pub AreLemmas : Formula → List Line → Type 0
@@ -111,7 +119,7 @@ HaveNoSolution clauses = (v : ℕ → Bool) → Satisfies v clauses → ⊥
 -- negations of all its literals but one, and not that one
 pub record IsFresh (earlier : List (List Lit)) (lemma : List Lit) : Type 0 where
   pub some : 1 ≤ length lemma
-  pub differ : AllPairs (λ (l m : Lit). l.var ≢ m.var) lemma
+  pub differ : HaveDifferentVars lemma
   pub values : Partial
   pub closed : IsClosed values earlier
   pub last : Lit

@@ -10,13 +10,13 @@ abbrev pub Partial : Type 0
 Partial = ℕ → Option Bool
 
 -- the values under which these literals are true, the first of a variable
-abbrev pub value_in : List Lit → Partial
-value_in [] x = None
-value_in (l ∷ ls) x = if l.var == x then Some l.positive else value_in ls x
+abbrev pub partial_of : List Lit → Partial
+partial_of [] x = None
+partial_of (l ∷ ls) x = if l.var == x then Some l.positive else partial_of ls x
 
 -- the literal's variable has no value
-abbrev pub IsFree : Partial → Lit → Type 0
-IsFree s l = s l.var ≡ None
+abbrev pub IsUnassigned : Partial → Lit → Type 0
+IsUnassigned s l = s l.var ≡ None
 
 -- the literal is in the set
 abbrev pub IsHeld : Partial → Lit → Type 0
@@ -33,14 +33,14 @@ IsFalseClause s c = All (IsFalse s) c
 -- exactly the literal l of the clause has no value, and all others are false
 pub record IsUnit (s : Partial) (c : List Lit) (l : Lit) : Type 0 where
   pub among : Contains c l
-  pub free : IsFree s l
+  pub free : IsUnassigned s l
   pub others : All (λ m. (m ≡ l) ⊎ IsFalse s m) c
 
 -- the clause is neither unit nor false: it has a literal that is held, or two different literals without a value
 abbrev pub IsOpenClause : Partial → List Lit → Type 0
 IsOpenClause s c =
     ((l : Lit) × Contains c l × IsHeld s l)
-    ⊎ ((l : Lit) × (m : Lit) × Contains c l × Contains c m × (l ≢ m) × IsFree s l × IsFree s m)
+    ⊎ ((l : Lit) × (m : Lit) × Contains c l × Contains c m × (l ≢ m) × IsUnassigned s l × IsUnassigned s m)
 
 -- unit propagation can take no step from these values, and meets no conflict
 abbrev pub IsClosed : Partial → List (List Lit) → Type 0

@@ -1,74 +1,93 @@
 // Counters: clauses that say that at most so many of some literals are true.
-ghost use Rattle.std.specs.Prelude.{◌≡◌, ◌+◌, ◌-◌, ◌*◌, ◌^◌, ◌<◌, ◌≤◌, [], ◌∷◌, ◌++◌, length, map, IfOk, OnOk, OnErr};
+ghost use Rattle.std.specs.Prelude.{◌≡◌, ◌+◌, ◌-◌, ◌*◌, ◌^◌, ◌<◌, ◌≤◌, [], ◌∷◌, ◌++◌, length, map, take, OnOk, OnErr};
 ghost use Rattle.std.specs.List.{All, range_with_len};
 ghost use Rattle.cnf_core.specs.Formula.{Formula, IsLitOf, negated};
-ghost use Rattle.cnf_core.specs.Counter.{rows, lit_at, counter, counts_first, keeps, counts_next, stops, counter_clauses, at_most_clauses, at_most_size, at_most_vars, SayAtMost};
+ghost use Rattle.cnf_core.specs.Counter.{counter_rows, lit_at, counter, counts_first, keeps, counts_next, stops, counter_clauses, at_most_clauses, at_most_size, at_most_vars};
 
 use crate::{Clauses, Cnf, Lit};
 use items::NoMemory;
-use std::alloc::Global;
 
 /// Adds a sequential counter: clauses that say that at most `n` of the literals are true. Nothing is added where there
-/// are no more than `n` literals. The clauses are built apart and then joined, so a refused call adds none.
-pub fn at_most(alloc: Global, cnf: &mut Cnf, lits: &[Lit], n: u32) -> Result<(), NoMemory>
+/// are no more than `n` literals.
+pub fn at_most(cnf: &mut Cnf, lits: &[Lit], n: u32) -> Result<(), NoMemory>
     requires exist { All (IsLitOf cnf.old.vars) lits.now }
     requires short { length lits.now < 2 ^ 29 }
     requires vars { cnf.old.vars + at_most_vars n (length lits.now) < 2 ^ 29 }
     requires room { length cnf.old.clauses + at_most_size n (length lits.now) < 2 ^ 30 }
     ensures exact { OnOk result (cnf.new ≡ record { vars = cnf.old.vars + at_most_vars n (length lits.now); clauses = cnf.old.clauses ++ at_most_clauses cnf.old.vars n lits.now }) }
     ensures err { OnErr result (cnf.new ≡ cnf.old) }
-    ensures meaning { SayAtMost cnf.old.vars n lits.now (at_most_clauses cnf.old.vars n lits.now) }
-    ensures size { length (at_most_clauses cnf.old.vars n lits.now) ≡ at_most_size n (length lits.now) }
 {
-    let clauses = clauses_of(alloc, lits, cnf.vars(), n)?;
-    cnf.join(vars_of(lits.len(), n), &clauses)
+    cnf.add_counter(lits, n)
 }
 
 /// `at_most` with `n` one.
-pub fn at_most_one(alloc: Global, cnf: &mut Cnf, lits: &[Lit]) -> Result<(), NoMemory>
+pub fn at_most_one(cnf: &mut Cnf, lits: &[Lit]) -> Result<(), NoMemory>
     requires exist { All (IsLitOf cnf.old.vars) lits.now }
     requires short { length lits.now < 2 ^ 29 }
     requires vars { cnf.old.vars + at_most_vars 1 (length lits.now) < 2 ^ 29 }
     requires room { length cnf.old.clauses + at_most_size 1 (length lits.now) < 2 ^ 30 }
     ensures exact { OnOk result (cnf.new ≡ record { vars = cnf.old.vars + at_most_vars 1 (length lits.now); clauses = cnf.old.clauses ++ at_most_clauses cnf.old.vars 1 lits.now }) }
     ensures err { OnErr result (cnf.new ≡ cnf.old) }
-    ensures meaning { SayAtMost cnf.old.vars 1 lits.now (at_most_clauses cnf.old.vars 1 lits.now) }
-    ensures size { length (at_most_clauses cnf.old.vars 1 lits.now) ≡ at_most_size 1 (length lits.now) }
 {
-    at_most(alloc, cnf, lits, 1)
+    at_most(cnf, lits, 1)
 }
 
-/// How many variables a counter of so many literals up to `n` has.
-fn vars_of(count: usize, n: u32) -> u32
-    requires few { count < 2 ^ 29 }
-    requires room { at_most_vars n count < 2 ^ 29 }
-    ensures { result ≡ at_most_vars n count }
+/// How many variables `at_most` adds for so many literals. It takes no memory, so callers can count before they build.
+pub fn at_most_vars(n: u32, literals: usize) -> u64
+    requires short { literals < 2 ^ 29 }
+    ensures value { result ≡ at_most_vars n literals }
+    ensures few { result < 2 ^ 60 }
 {
-    if count <= n as usize {
+    if literals <= n as usize {
         0
     } else {
-        (count as u32 - 1) * n
+        (literals as u64 - 1) * n as u64
     }
 }
 
-/// The clauses of a counter up to `n` whose variables begin after `old`.
-fn clauses_of(alloc: Global, lits: &[Lit], old: u32, n: u32) -> Result<Clauses, NoMemory>
+/// How many clauses `at_most` adds for so many literals. It takes no memory, so callers can count before they build.
+pub fn at_most_size(n: u32, literals: usize) -> u64
+    requires short { literals < 2 ^ 29 }
+    ensures value { result ≡ at_most_size n literals }
+    ensures few { result < 2 ^ 60 }
+{
+    if literals <= n as usize {
+        return 0;
+    }
+    if n == 0 {
+        return literals as u64;
+    }
+    let width = n as u64;
+    let last = literals as u64 - 1;
+    last + (last - 1) * width + (last - 1) * (width - 1) + last
+}
+
+/// Puts the clauses of a counter up to `n` whose variables begin after `old`. Some of them may be there after a refusal.
+pub(crate) fn put_counter(
+    clauses: &mut Clauses,
+    lits: &[Lit],
+    old: u32,
+    n: u32,
+) -> Result<(), NoMemory>
     requires short { length lits.now < 2 ^ 29 }
     requires vars { old + at_most_vars n (length lits.now) < 2 ^ 29 }
-    ensures { IfOk result (λ clauses. clauses ≡ at_most_clauses old n lits.now) }
+    ensures ok { OnOk result (clauses.new ≡ clauses.old ++ at_most_clauses old n lits.now) }
+    ensures err { OnErr result (take (length clauses.old) clauses.new ≡ clauses.old) }
 {
-    let mut clauses = Clauses::new(alloc);
     if n == 0 {
-        deny_all(&mut clauses, lits)?;
+        deny_all(clauses, lits)
     } else if (n as usize) < lits.len() {
-        count_up(&mut clauses, lits, old, n)?;
+        count_up(clauses, lits, old, n)
+    } else {
+        Ok(())
     }
-    Ok(clauses)
 }
 
 /// Puts a clause for each literal that says that it is false.
+#[tactic(auto, using(crate::proofs::Rows::front_alone, crate::proofs::Rows::front_kept))]
 fn deny_all(clauses: &mut Clauses, lits: &[Lit]) -> Result<(), NoMemory>
-    ensures { OnOk result (clauses.new ≡ clauses.old ++ map (λ l. negated l ∷ []) lits.now) }
+    ensures ok { OnOk result (clauses.new ≡ clauses.old ++ map (λ l. negated l ∷ []) lits.now) }
+    ensures err { OnErr result (take (length clauses.old) clauses.new ≡ clauses.old) }
 {
     for lit in lits {
         clauses.push(&[lit.negated()])?;
@@ -77,11 +96,13 @@ fn deny_all(clauses: &mut Clauses, lits: &[Lit]) -> Result<(), NoMemory>
 }
 
 /// Puts the four rows of a counter, whose variables begin after `old`.
+#[tactic(auto, using(crate::proofs::Rows::front_alone, crate::proofs::Rows::front_kept))]
 fn count_up(clauses: &mut Clauses, lits: &[Lit], old: u32, width: u32) -> Result<(), NoMemory>
     requires more { width < length lits.now }
     requires some { 1 ≤ width }
     requires vars { old + (length lits.now - 1) * width < 2 ^ 29 }
-    ensures { OnOk result (clauses.new ≡ clauses.old ++ counter_clauses old width lits.now) }
+    ensures ok { OnOk result (clauses.new ≡ clauses.old ++ counter_clauses old width lits.now) }
+    ensures err { OnErr result (take (length clauses.old) clauses.new ≡ clauses.old) }
 {
     let last = lits.len() as u32 - 1;
     first_row(clauses, lits, old, width)?;
@@ -90,12 +111,13 @@ fn count_up(clauses: &mut Clauses, lits: &[Lit], old: u32, width: u32) -> Result
     stop_row(clauses, lits, old, width)
 }
 
-#[tactic(auto, using(crate::proofs::Rows::added_one))]
+#[tactic(auto, using(crate::proofs::Rows::added_one, crate::proofs::Rows::front_alone, crate::proofs::Rows::front_kept))]
 fn first_row(clauses: &mut Clauses, lits: &[Lit], old: u32, width: u32) -> Result<(), NoMemory>
     requires more { width < length lits.now }
     requires some { 1 ≤ width }
     requires vars { old + (length lits.now - 1) * width < 2 ^ 29 }
-    ensures { OnOk result (clauses.new ≡ clauses.old ++ map (counts_first old width lits.now) (range_with_len 0 (length lits.now - 1))) }
+    ensures ok { OnOk result (clauses.new ≡ clauses.old ++ map (counts_first old width lits.now) (range_with_len 0 (length lits.now - 1))) }
+    ensures err { OnErr result (take (length clauses.old) clauses.new ≡ clauses.old) }
 {
     let last = lits.len() as u32 - 1;
     for i in 0..last {
@@ -104,10 +126,11 @@ fn first_row(clauses: &mut Clauses, lits: &[Lit], old: u32, width: u32) -> Resul
     Ok(())
 }
 
-#[tactic(auto, using(crate::proofs::Rows::added_one))]
+#[tactic(auto, using(crate::proofs::Rows::added_one, crate::proofs::Rows::front_alone, crate::proofs::Rows::front_kept))]
 fn keep_row(clauses: &mut Clauses, old: u32, width: u32, i: u32) -> Result<(), NoMemory>
     requires vars { old + (i + 2) * width < 2 ^ 29 }
-    ensures { OnOk result (clauses.new ≡ clauses.old ++ map (keeps old width i) (range_with_len 0 width)) }
+    ensures ok { OnOk result (clauses.new ≡ clauses.old ++ map (keeps old width i) (range_with_len 0 width)) }
+    ensures err { OnErr result (take (length clauses.old) clauses.new ≡ clauses.old) }
 {
     for j in 0..width {
         let kept = counter(old, width, i, j);
@@ -116,10 +139,11 @@ fn keep_row(clauses: &mut Clauses, old: u32, width: u32, i: u32) -> Result<(), N
     Ok(())
 }
 
-#[tactic(auto, using(crate::proofs::Rows::rows_more, crate::proofs::Rows::rows_none))]
+#[tactic(auto, using(crate::proofs::Rows::rows_more, crate::proofs::Rows::rows_none, crate::proofs::Rows::front_alone, crate::proofs::Rows::front_kept))]
 fn keep_rows(clauses: &mut Clauses, count: u32, old: u32, width: u32) -> Result<(), NoMemory>
     requires vars { old + (count + 1) * width < 2 ^ 29 }
-    ensures { OnOk result (clauses.new ≡ clauses.old ++ rows (keeps old width) count width) }
+    ensures ok { OnOk result (clauses.new ≡ clauses.old ++ counter_rows (keeps old width) count width) }
+    ensures err { OnErr result (take (length clauses.old) clauses.new ≡ clauses.old) }
 {
     for i in 0..count {
         keep_row(clauses, old, width, i)?;
@@ -127,7 +151,7 @@ fn keep_rows(clauses: &mut Clauses, count: u32, old: u32, width: u32) -> Result<
     Ok(())
 }
 
-#[tactic(auto, using(crate::proofs::Rows::added_one))]
+#[tactic(auto, using(crate::proofs::Rows::added_one, crate::proofs::Rows::front_alone, crate::proofs::Rows::front_kept))]
 fn next_row(
     clauses: &mut Clauses,
     lits: &[Lit],
@@ -138,7 +162,8 @@ fn next_row(
     requires some { 1 ≤ width }
     requires place { i + 1 < length lits.now }
     requires vars { old + (i + 2) * width < 2 ^ 29 }
-    ensures { OnOk result (clauses.new ≡ clauses.old ++ map (counts_next old width lits.now i) (range_with_len 0 (width - 1))) }
+    ensures ok { OnOk result (clauses.new ≡ clauses.old ++ map (counts_next old width lits.now i) (range_with_len 0 (width - 1))) }
+    ensures err { OnErr result (take (length clauses.old) clauses.new ≡ clauses.old) }
 {
     for j in 0..width - 1 {
         let counted = counter(old, width, i, j);
@@ -151,12 +176,13 @@ fn next_row(
     Ok(())
 }
 
-#[tactic(auto, using(crate::proofs::Rows::rows_more, crate::proofs::Rows::rows_none))]
+#[tactic(auto, using(crate::proofs::Rows::rows_more, crate::proofs::Rows::rows_none, crate::proofs::Rows::front_alone, crate::proofs::Rows::front_kept))]
 fn next_rows(clauses: &mut Clauses, lits: &[Lit], old: u32, width: u32) -> Result<(), NoMemory>
     requires more { width < length lits.now }
     requires some { 1 ≤ width }
     requires vars { old + (length lits.now - 1) * width < 2 ^ 29 }
-    ensures { OnOk result (clauses.new ≡ clauses.old ++ rows (counts_next old width lits.now) (length lits.now - 2) (width - 1)) }
+    ensures ok { OnOk result (clauses.new ≡ clauses.old ++ counter_rows (counts_next old width lits.now) (length lits.now - 2) (width - 1)) }
+    ensures err { OnErr result (take (length clauses.old) clauses.new ≡ clauses.old) }
 {
     let count = lits.len() as u32 - 2;
     for i in 0..count {
@@ -165,12 +191,13 @@ fn next_rows(clauses: &mut Clauses, lits: &[Lit], old: u32, width: u32) -> Resul
     Ok(())
 }
 
-#[tactic(auto, using(crate::proofs::Rows::added_one))]
+#[tactic(auto, using(crate::proofs::Rows::added_one, crate::proofs::Rows::front_alone, crate::proofs::Rows::front_kept))]
 fn stop_row(clauses: &mut Clauses, lits: &[Lit], old: u32, width: u32) -> Result<(), NoMemory>
     requires more { width < length lits.now }
     requires some { 1 ≤ width }
     requires vars { old + (length lits.now - 1) * width < 2 ^ 29 }
-    ensures { OnOk result (clauses.new ≡ clauses.old ++ map (stops old width lits.now) (range_with_len 0 (length lits.now - 1))) }
+    ensures ok { OnOk result (clauses.new ≡ clauses.old ++ map (stops old width lits.now) (range_with_len 0 (length lits.now - 1))) }
+    ensures err { OnErr result (take (length clauses.old) clauses.new ≡ clauses.old) }
 {
     let last = lits.len() as u32 - 1;
     for i in 0..last {

@@ -1,21 +1,24 @@
 // A formula in conjunctive normal form.
 ghost use Rattle.std.specs.Prelude.{◌≡◌, ◌+◌, ◌-◌, ◌^◌, ◌<◌, ◌≤◌, ◌↔◌, [], ◌∷◌, ◌++◌, length, IsTrue, OnOk, OnErr, slice_get, Some};
 ghost use Rattle.std.specs.List.{All};
+ghost use Rattle.cnf_core.specs.Counter.{at_most_clauses, at_most_size, at_most_vars};
 ghost use Rattle.cnf_core.specs.Formula.{Formula, IsLitOf, AreOver, Satisfies, assigned, clause_true};
 
+use crate::counter::{at_most_vars, put_counter};
 use crate::{Clauses, Lit};
 use items::NoMemory;
 use std::alloc::Global;
 use std::marker::Model;
 
 /// Variables, numbered from 1, and clauses over them, numbered from 1.
-#[derive(Drop)]
+#[derive(Debug, Drop)]
 pub struct Cnf {
     vars: u32,
     clauses: Clauses,
 }
 
 impl Model for Cnf {
+    ghost use Rattle.cnf_core.specs.Counter.{at_most_clauses, at_most_size, at_most_vars};
     ghost use Rattle.cnf_core.specs.Formula.{Formula, IsFormula};
 
     ghost Value = { Formula };
@@ -73,6 +76,13 @@ impl Cnf {
         self.clauses.get((id - 1) as usize)
     }
 
+    /// Whether each literal is of a variable of the formula.
+    pub fn has(&self, lits: &[Lit]) -> bool
+        ensures { IsTrue result ↔ All (IsLitOf self.now.vars) lits.now }
+    {
+        lits.iter().all(|lit| 1 <= lit.var && lit.var <= self.vars)
+    }
+
     /// Adds a clause.
     pub fn add(&mut self, lits: &[Lit]) -> Result<(), NoMemory>
         requires exist { All (IsLitOf self.old.vars) lits.now }
@@ -83,16 +93,21 @@ impl Cnf {
         self.clauses.push(lits)
     }
 
-    /// Adds variables and clauses, or nothing.
-    pub(crate) fn join(&mut self, vars: u32, clauses: &Clauses) -> Result<(), NoMemory>
-        requires few { self.old.vars + vars < 2 ^ 29 }
-        requires room { length self.old.clauses + length clauses.now ≤ 2 ^ 30 }
-        requires exist { AreOver (self.old.vars + vars) clauses.now }
-        ensures ok { OnOk result (self.new ≡ record { vars = self.old.vars + vars; clauses = self.old.clauses ++ clauses.now }) }
+    /// Adds a counter up to `n` over the literals, its variables first, or nothing.
+    pub(crate) fn add_counter(&mut self, lits: &[Lit], n: u32) -> Result<(), NoMemory>
+        requires exist { All (IsLitOf self.old.vars) lits.now }
+        requires short { length lits.now < 2 ^ 29 }
+        requires vars { self.old.vars + at_most_vars n (length lits.now) < 2 ^ 29 }
+        requires room { length self.old.clauses + at_most_size n (length lits.now) < 2 ^ 30 }
+        ensures ok { OnOk result (self.new ≡ record { vars = self.old.vars + at_most_vars n (length lits.now); clauses = self.old.clauses ++ at_most_clauses self.old.vars n lits.now }) }
         ensures err { OnErr result (self.new ≡ self.old) }
     {
-        self.clauses.append(clauses)?;
-        self.vars += vars;
+        let count = self.clauses.len();
+        if let Err(fault) = put_counter(&mut self.clauses, lits, self.vars, n) {
+            self.clauses.truncate(count);
+            return Err(fault);
+        }
+        self.vars += at_most_vars(n, lits.len()) as u32;
         Ok(())
     }
 }

@@ -5,15 +5,19 @@
 
 mod counter;
 mod formula;
+mod laws;
 mod line;
 mod literal;
 mod store;
+mod values;
 
-pub use counter::{at_most, at_most_one};
+pub use counter::{at_most, at_most_one, at_most_size, at_most_vars};
 pub use formula::{Cnf, satisfied};
+pub use laws::{counters_count, refutations_leave_no_solution};
 pub use line::{Line, Lines};
 pub use literal::Lit;
 pub use store::Clauses;
+pub use values::{Look, Values, look_at};
 
 #[cfg(test)]
 mod tests;

@@ -4,7 +4,7 @@ use items::Items;
 
 /// A lemma with its id and, as hints, the ids of the clauses and lemmas that show it, in the order in which unit
 /// propagation takes them.
-#[derive(Drop)]
+#[derive(Debug, Drop)]
 pub struct Line {
     pub id: u32,
     pub lits: Items<Lit>,
@@ -12,7 +12,7 @@ pub struct Line {
 }
 
 /// Lemmas, each shown by the formula and by those before it.
-#[derive(Drop)]
+#[derive(Debug, Drop)]
 pub struct Lines {
     pub lines: Items<Line>,
 }

@@ -1,6 +1,6 @@
 // Clauses that share one block of memory.
 ghost use Rattle.cnf_core.specs.Pieces.{AreEnds};
-ghost use Rattle.std.specs.Prelude.{◌≡◌, ◌<◌, ◌≤◌, ◌↔◌, [], ◌∷◌, ◌++◌, length, take, slice_get, slice_index, slice_range, Some, OnOk, OnErr, IsTrue};
+ghost use Rattle.std.specs.Prelude.{◌≡◌, ◌<◌, ◌≤◌, [], ◌∷◌, ◌++◌, length, take, slice_get, slice_index, slice_range, Some, OnOk, OnErr};
 
 use crate::Lit;
 use items::NoMemory;
@@ -9,7 +9,7 @@ use std::marker::Model;
 
 /// A list of clauses, by their places from 0. The literals of all of them lie in one vector, so a clause costs its
 /// literals and one number.
-#[derive(Drop)]
+#[derive(Debug, Drop)]
 pub struct Clauses {
     literals: Vec<Lit>,
     ends: Vec<usize>,
@@ -38,18 +38,12 @@ impl Clauses {
         }
     }
 
+    /// The number of clauses.
     #[tactic(auto, using(crate::proofs::Splitting::length_pieces))]
     pub fn len(&self) -> usize
         ensures { result ≡ length self.now }
     {
         self.ends.len()
-    }
-
-    #[tactic(auto, using(crate::proofs::Splitting::length_pieces))]
-    pub fn is_empty(&self) -> bool
-        ensures { IsTrue result ↔ (length self.now ≡ 0) }
-    {
-        self.ends.is_empty()
     }
 
     /// The clause at a place.
@@ -72,7 +66,7 @@ impl Clauses {
     }
 
     /// Keeps the first clauses, as many as `count`, and drops the rest.
-    pub fn truncate(&mut self, count: usize)
+    pub(crate) fn truncate(&mut self, count: usize)
         ensures { self.new ≡ take count self.old }
     {
         if count < self.ends.len() {
@@ -80,21 +74,6 @@ impl Clauses {
             self.literals.truncate(end);
             self.ends.truncate(count);
         }
-    }
-
-    /// Puts all clauses of another list at the end, or none.
-    pub fn append(&mut self, other: &Clauses) -> Result<(), NoMemory>
-        ensures ok { OnOk result (self.new ≡ self.old ++ other.now) }
-        ensures err { OnErr result (self.new ≡ self.old) }
-    {
-        let count = self.len();
-        for place in 0..other.len() {
-            if let Err(fault) = self.push(other.get(place)) {
-                self.truncate(count);
-                return Err(fault);
-            }
-        }
-        Ok(())
     }
 }
 

@@ -3,7 +3,7 @@ ghost use Rattle.std.specs.Prelude.{◌≡◌, ◌<◌, ◌≤◌, ◌↔◌, le
 ghost use Rattle.std.specs.List.{All};
 ghost use Rattle.cnf_core.specs.Formula.{IsLitOf};
 
-use crate::{Cnf, Lit, at_most, at_most_one, satisfied};
+use crate::{Cnf, Lit, at_most, at_most_one, at_most_size, at_most_vars, satisfied};
 use items::NoMemory;
 use std::alloc::Global;
 use std::process::Abort;
@@ -33,12 +33,6 @@ fn same(clause: &[Lit], numbers: &[i32]) -> bool {
             .all(|(lit, number)| *lit == literal(*number))
 }
 
-fn are_over(vars: u32, lits: &[Lit]) -> bool
-    ensures { IsTrue result ↔ All (IsLitOf vars) lits.now }
-{
-    lits.iter().all(|lit| 1 <= lit.var && lit.var <= vars)
-}
-
 fn formula(rt: &impl Abort, alloc: Global, vars: u32) -> Cnf {
     let mut cnf = Cnf::new(alloc);
     for made in 0..vars {
@@ -50,25 +44,19 @@ fn formula(rt: &impl Abort, alloc: Global, vars: u32) -> Cnf {
 
 /// `at_most` after a test of what it wants.
 #[tactic(auto, using(crate::proofs::Range::small_counter))]
-fn count(
-    rt: &impl Abort,
-    alloc: Global,
-    cnf: &mut Cnf,
-    lits: &[Lit],
-    n: u32,
-) -> Result<(), NoMemory> {
-    assert!(rt; are_over(cnf.vars(), lits));
+fn count(rt: &impl Abort, cnf: &mut Cnf, lits: &[Lit], n: u32) -> Result<(), NoMemory> {
+    assert!(rt; cnf.has(lits));
     assert!(rt; lits.len() < 100 && n < 100 && cnf.vars() < 100 && cnf.clauses() < 100);
-    at_most(alloc, cnf, lits, n)
+    at_most(cnf, lits, n)
 }
 
 /// `at_most_one` after a test of what it wants.
 #[tactic(auto, using(crate::proofs::Range::small_counter))]
-fn count_one(rt: &impl Abort, alloc: Global, cnf: &mut Cnf, lits: &[Lit]) -> Result<(), NoMemory> {
+fn count_one(rt: &impl Abort, cnf: &mut Cnf, lits: &[Lit]) -> Result<(), NoMemory> {
     let one = 1u32;
-    assert!(rt; are_over(cnf.vars(), lits));
+    assert!(rt; cnf.has(lits));
     assert!(rt; lits.len() < 100 && one < 100 && cnf.vars() < 100 && cnf.clauses() < 100);
-    at_most_one(alloc, cnf, lits)
+    at_most_one(cnf, lits)
 }
 
 /// The values of so many variables, the first in the lowest bit.
@@ -195,7 +183,16 @@ fn counters_are_the_listed_clauses(rt: HostRuntime) -> Result<(), Fail> {
     for row in &COUNTERS {
         let mut cnf = formula(&rt, rt.alloc(), row.vars);
         let lits = literals(rt.alloc(), row.lits)?;
-        count(&rt, rt.alloc(), &mut cnf, &lits, row.bound)?;
+        assert!(rt; lits.len() < 100);
+        assert_eq!(rt;
+            at_most_vars(row.bound, lits.len()),
+            row.after.wrapping_sub(row.vars) as u64
+        );
+        assert_eq!(rt;
+            at_most_size(row.bound, lits.len()),
+            row.clauses.len() as u64
+        );
+        count(&rt, &mut cnf, &lits, row.bound)?;
         assert_eq!(rt; cnf.vars(), row.after);
         assert_eq!(rt; cnf.clauses() as usize, row.clauses.len());
         for (at, numbers) in row.clauses.iter().enumerate() {
@@ -218,7 +215,7 @@ fn matching(bits: u32, signs: &[bool]) -> u32 {
 }
 
 #[test]
-fn counters_count(rt: HostRuntime) -> Result<(), Fail> {
+fn counters_say_what_counting_says(rt: HostRuntime) -> Result<(), Fail> {
     let signs = [true, false, true, true, false];
     for (bound, extensions) in [
         (0, 1),
@@ -231,7 +228,7 @@ fn counters_count(rt: HostRuntime) -> Result<(), Fail> {
     ] {
         let mut cnf = formula(&rt, rt.alloc(), 5);
         let lits = literals(rt.alloc(), &[1, -2, 3, 4, -5])?;
-        count(&rt, rt.alloc(), &mut cnf, &lits, bound)?;
+        count(&rt, &mut cnf, &lits, bound)?;
         let mut values = Vec::new(rt.alloc());
         for bits in 0..32u32 {
             let mut found = false;
@@ -253,12 +250,27 @@ fn counters_count(rt: HostRuntime) -> Result<(), Fail> {
 }
 
 #[test]
+fn formulas_have_literals_of_their_variables(rt: HostRuntime) -> Result<(), Fail> {
+    let cnf = formula(&rt, rt.alloc(), 3);
+    for (numbers, right) in &[
+        ([].as_slice(), true),
+        ([3, -1, 3].as_slice(), true),
+        ([1, 0].as_slice(), false),
+        ([-4, 1].as_slice(), false),
+    ] {
+        let lits = literals(rt.alloc(), numbers)?;
+        assert_eq!(rt; cnf.has(&lits), *right);
+    }
+    Ok(())
+}
+
+#[test]
 fn formulas_hold_where_each_clause_does(rt: HostRuntime) -> Result<(), Fail> {
     let mut cnf = formula(&rt, rt.alloc(), 3);
     assert!(rt; holds(&cnf, &[false, false, false]));
     for numbers in &[[1, -2].as_slice(), [2, 3, 2].as_slice()] {
         let lits = literals(rt.alloc(), numbers)?;
-        assert!(rt; are_over(cnf.vars(), &lits) && cnf.clauses() < 100);
+        assert!(rt; cnf.has(&lits) && cnf.clauses() < 100);
         cnf.add(&lits)?;
     }
     let mut values = Vec::new(rt.alloc());
@@ -276,7 +288,7 @@ fn formulas_hold_where_each_clause_does(rt: HostRuntime) -> Result<(), Fail> {
         assert_eq!(rt; holds(&cnf, &values), right, "values {bits}");
     }
     let lits = literals(rt.alloc(), &[1, 2, 3])?;
-    count_one(&rt, rt.alloc(), &mut cnf, &lits)?;
+    count_one(&rt, &mut cnf, &lits)?;
     assert_eq!(rt; cnf.vars(), 5);
     assert_eq!(rt; cnf.clauses(), 7);
     cnf.add(&[])?;
