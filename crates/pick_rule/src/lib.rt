@@ -1,7 +1,7 @@
 //! A stored rule that picks a place of a list of scores, as a solver picks its next decision.
 #![tactic(auto)]
 
-ghost use Rattle.std.specs.Prelude.{◌≡◌, ◌<◌, length};
+ghost use Rattle.std.specs.Prelude.{◌≡◌, ◌<◌, ℕ, List, length};
 ghost use Rattle.std.specs.Fn.{FnReturnsAt};
 ghost use Rattle.pick_rule.specs.Places.{AnswersPlaces};
 
@@ -10,36 +10,62 @@ use std::marker::Model;
 #[cfg(test)]
 mod tests;
 
-/// A rule over scores, seen as the rule itself. That it answers places is asked once, by `new`, and handed on by each
-/// caller, since a struct can't keep a fact about what its closure answers.
+/// What a picker asks of its rule. Each closure over scores is one.
+pub trait Rule {
+    /// It may be called on each list that isn't empty, and answers a place below its length.
+    ghost answers_places: { Self → Type 0 };
+
+    /// It may answer this place for these scores.
+    ghost picks: { Self → List ℕ → ℕ → Type 0 };
+
+    /// The place of one of the scores.
+    fn place(&self, scores: &[u64]) -> usize
+        requires answers { answers_places self.now }
+        requires some { 0 < length scores.now }
+        ensures within { result < length scores.now }
+        ensures picked { picks self.now scores.now result };
+}
+
+impl<F: Fn(&[u64]) -> usize> Rule for F {
+    ghost answers_places = { λ f. AnswersPlaces F.Fn f };
+
+    ghost picks = { λ f scores place. FnReturnsAt F.Fn f scores place };
+
+    fn place(&self, scores: &[u64]) -> usize {
+        self(scores)
+    }
+}
+
+/// A rule that answers places, seen as the rule itself. It is made in a function that takes the rule as a parameter: the
+/// check doesn't find the rule's facts where a function names this struct at one closure.
 #[derive(Drop)]
-pub struct Picker<F: Fn(&[u64]) -> usize> {
+pub struct Picker<F: Rule> {
     f: F,
 }
 
-impl<F: Fn(&[u64]) -> usize> Model for Picker<F> {
+impl<F: Rule> Model for Picker<F> {
     ghost Value = { F };
 
     ghost view = { λ a. a.f };
+
+    ghost invariant = { λ a. F.answers_places a.f };
 }
 
-impl<F: Fn(&[u64]) -> usize> Picker<F> {
+impl<F: Rule> Picker<F> {
     /// Keeps a rule. A closure that is stored has clauses of its own, since the rule is asked about every list.
     pub fn new(f: F) -> Picker<F>
-        requires { AnswersPlaces F.Fn f }
+        requires { F.answers_places f }
         ensures rule { result ≡ f }
-        ensures keeps { AnswersPlaces F.Fn result }
     {
         Picker { f }
     }
 
     /// The place that the rule answers.
     pub fn pick(&self, scores: &[u64]) -> usize
-        requires keeps { AnswersPlaces F.Fn self.now }
         requires some { 0 < length scores.now }
         ensures within { result < length scores.now }
-        ensures rule { FnReturnsAt F.Fn self.now scores.now result }
+        ensures rule { F.picks self.now scores.now result }
     {
-        (self.f)(scores)
+        self.f.place(scores)
     }
 }
