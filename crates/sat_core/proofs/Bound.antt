@@ -7,9 +7,8 @@ use Rattle.std.proofs.lemmas.List.Elements.{All-contains, recursion_from_All, Co
 use Rattle.std.proofs.lemmas.Map.Steps.{length-le_from_distinct_below}
 use Rattle.cnf_core.specs.declared.literal.Lit.{Lit}
 use Rattle.cnf_core.specs.Formula.{IsLitOf}
-use Rattle.cnf_core.specs.Values.{value_in, IsFalse, IsHeld, IsOpenClause}
-use Rattle.cnf_core.specs.Refutation.{IsFresh}
-use Rattle.sat_core.specs.Conflicts.{Apart}
+use Rattle.cnf_core.specs.Values.{partial_of, IsFalse, IsHeld, IsOpenClause}
+use Rattle.cnf_core.specs.Refutation.{HaveDifferentVars, IsFresh}
 use Rattle.sat_core.proofs.Holding.{none≢some}
 
 -- each lemma is fresh for the clauses and the lemmas before it, and of the variables 1 to n
@@ -45,43 +44,43 @@ digit-same (Some false) (Some false) e = refl
 -- the number of a lemma over the variables 1 to n
 code : ℕ → List Lit → ℕ
 code zero c = 0
-code (suc n) c = 3 * code n c + digit (value_in c (n + 1))
+code (suc n) c = 3 * code n c + digit (partial_of c (n + 1))
 
 code-few : (n : ℕ) (c : List Lit) → code n c < 3 ^ n
 unfolding code
 code-few zero c = omega arith
 code-few (suc n) c =
-    let d = digit-few (value_in c (n + 1)) in
+    let d = digit-few (partial_of c (n + 1)) in
     let before = code-few n c in
     let e : 3 ^ suc n ≡ 3 * 3 ^ n = grind arith in
     omega arith
 
-code-same : (n : ℕ) (a b : List Lit) → code n a ≡ code n b → (x : ℕ) → 1 ≤ x → x ≤ n → value_in a x ≡ value_in b x
+code-same : (n : ℕ) (a b : List Lit) → code n a ≡ code n b → (x : ℕ) → 1 ≤ x → x ≤ n → partial_of a x ≡ partial_of b x
 unfolding code
 code-same zero a b e x low high = absurd (omega arith)
 code-same (suc n) a b e x low high =
-    let da = digit-few (value_in a (n + 1)) in
-    let db = digit-few (value_in b (n + 1)) in
-    let digits : digit (value_in a (n + 1)) ≡ digit (value_in b (n + 1)) = omega arith in
+    let da = digit-few (partial_of a (n + 1)) in
+    let db = digit-few (partial_of b (n + 1)) in
+    let digits : digit (partial_of a (n + 1)) ≡ digit (partial_of b (n + 1)) = omega arith in
     let rest : code n a ≡ code n b = omega arith in
     elim (cases_eq x (n + 1)) [
-      | inl same ↦ subst (λ (y : ℕ). value_in a y ≡ value_in b y) (sym same) (digit-same (value_in a (n + 1)) (value_in b (n + 1)) digits)
+      | inl same ↦ subst (λ (y : ℕ). partial_of a y ≡ partial_of b y) (sym same) (digit-same (partial_of a (n + 1)) (partial_of b (n + 1)) digits)
       | inr other ↦ code-same n a b rest x low (omega arith)
     ]
 
 -- a member of a clause of different variables has its value there
-member-value : (c : List Lit) (k : ℕ) (d : Lit) → AllPairs Apart c → k < length c → value_in c (get_or c k d).var ≡ Some (get_or c k d).positive
+member-value : (c : List Lit) (k : ℕ) (d : Lit) → HaveDifferentVars c → k < length c → partial_of c (get_or c k d).var ≡ Some (get_or c k d).positive
 member-value [] k d apart few = absurd (omega arith)
-member-value (l ∷ ls) zero d apart few = cond-true (eqb l.var l.var) (Some l.positive) (value_in ls l.var) (eq-eqb l.var l.var refl)
+member-value (l ∷ ls) zero d apart few = cond-true (eqb l.var l.var) (Some l.positive) (partial_of ls l.var) (eq-eqb l.var l.var refl)
 member-value (l ∷ ls) (suc k) d apart few =
     let m = get_or ls k d in
     let other : l.var ≡ m.var → ⊥ = apart 0 (suc k) d (omega arith) few in
-    cond-false (eqb l.var m.var) (Some l.positive) (value_in ls m.var) (ne_eqb l.var m.var other)
+    cond-false (eqb l.var m.var) (Some l.positive) (partial_of ls m.var) (ne_eqb l.var m.var other)
     ∙ member-value ls k d (λ i j e less few'. apart (suc i) (suc j) e (omega arith) (omega arith)) (omega arith)
 
-contains-value : (c : List Lit) (l : Lit) → AllPairs Apart c → Contains c l → value_in c l.var ≡ Some l.positive
+contains-value : (c : List Lit) (l : Lit) → HaveDifferentVars c → Contains c l → partial_of c l.var ≡ Some l.positive
 contains-value c l apart there =
-    subst (λ (m : Lit). value_in c m.var ≡ Some m.positive) there.2 (member-value c there.0 l apart there.1)
+    subst (λ (m : Lit). partial_of c m.var ≡ Some m.positive) there.2 (member-value c there.0 l apart there.1)
 
 lit-same : (m l : Lit) → m.var ≡ l.var → m.positive ≡ l.positive → m ≡ l
 lit-same m l v b =
@@ -89,23 +88,23 @@ lit-same m l v b =
     ∙ ap (λ (y : Bool). let k : Lit = record { var = l.var; positive = y } in k) b
 
 -- and a variable with a value has a literal
-value-member : (c : List Lit) (l : Lit) → value_in c l.var ≡ Some l.positive → Contains c l
+value-member : (c : List Lit) (l : Lit) → partial_of c l.var ≡ Some l.positive → Contains c l
 value-member [] l e = absurd (none≢some e)
 value-member (m ∷ ms) l e =
     elim (cases_Bool (eqb m.var l.var)) [
       | inl same ↦
-          (let p : Some m.positive ≡ Some l.positive = sym (cond-true (eqb m.var l.var) (Some m.positive) (value_in ms l.var) same) ∙ e in
+          (let p : Some m.positive ≡ Some l.positive = sym (cond-true (eqb m.var l.var) (Some m.positive) (partial_of ms l.var) same) ∙ e in
           let v = eqb-true m.var l.var same in
           let b : m.positive ≡ l.positive = cc in
           let is : m ≡ l = lit-same m l v b in
           (0, (omega arith), is))
       | inr other ↦
-          (let (k, few, at) = value-member ms l (sym (cond-false (eqb m.var l.var) (Some m.positive) (value_in ms l.var) other) ∙ e) in
+          (let (k, few, at) = value-member ms l (sym (cond-false (eqb m.var l.var) (Some m.positive) (partial_of ms l.var) other) ∙ e) in
           (suc k, (omega arith), at))
     ]
 
 -- a fresh lemma has another number than each earlier clause of different variables
-fresh-other : (n : ℕ) (clauses : List (List Lit)) (c lemma : List Lit) → IsFresh clauses lemma → Contains clauses c → AllPairs Apart c → All (IsLitOf n) c → code n c ≡ code n lemma → ⊥
+fresh-other : (n : ℕ) (clauses : List (List Lit)) (c lemma : List Lit) → IsFresh clauses lemma → Contains clauses c → HaveDifferentVars c → All (IsLitOf n) c → code n c ≡ code n lemma → ⊥
 fresh-other n clauses c lemma fresh there apart exist same =
     let values = code-same n c lemma same in
     let s = fresh.values in

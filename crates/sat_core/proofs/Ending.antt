@@ -1,22 +1,22 @@
 -- What the walk found at the trail's first step: the line of the conflict, that it is fresh, and the trail that stays.
-use Rattle.std.proofs.Common.{◌≡◌, ◌≢◌, ℕ, ◌+◌, ◌-◌, ◌<◌, ◌≤◌, Bool, true, false, not, List, [], ◌∷◌, ◌++◌, length, take, get_or, refl, sym, ap, ◌∙◌, subst, arith, inl, inr, suc, zero, Option, Some, None}
+use Rattle.std.proofs.Common.{◌≡◌, ◌≢◌, ℕ, ◌+◌, ◌-◌, ◌<◌, ◌≤◌, Bool, true, false, not, List, [], ◌∷◌, ◌++◌, length, take, get_or, refl, sym, ap, ◌∙◌, subst, arith, inl, inr, suc, zero, Option, Some, None, append-nil}
 use Rattle.std.specs.Prelude.{reverse, slice_index, replicate}
-use Rattle.std.specs.List.{All, AllPairs}
+use Rattle.std.specs.List.{All}
 use Rattle.std.proofs.lemmas.Bool.{cases_lt}
 use Rattle.std.proofs.lemmas.List.{take_at, get_or_at, length_push, length-append, get_or_append_left, get_or-take, length-take, take-take, reverse-append, get_or-replicate, length-replicate}
 use Rattle.std.proofs.lemmas.List.Elements.{All-nil, All-cons, All-head, All-tail, All-push, All-weaker, All-contains}
 use Rattle.cnf_core.specs.declared.literal.Lit.{Lit}
 use Rattle.cnf_core.specs.declared.line.Line.{Line}
 use Rattle.cnf_core.specs.Formula.{IsLitOf, AreOver}
-use Rattle.cnf_core.specs.Values.{Partial, value_in, IsUnit, IsFalse, IsFalseClause, IsOpenClause, IsClosed}
-use Rattle.cnf_core.specs.Refutation.{clause_at, Reaches, refuted, IsFresh}
+use Rattle.cnf_core.specs.Values.{Partial, partial_of, IsUnit, IsFalse, IsFalseClause, IsOpenClause, IsClosed}
+use Rattle.cnf_core.specs.Refutation.{clause_at, Reaches, refuted, AreNames, HaveDifferentVars, IsAccepted, IsFresh}
 use Rattle.sat_core.specs.declared.trail.Step.{Step}
 use Rattle.sat_core.specs.declared.trail.Trail.{Trail}
 use Rattle.sat_core.specs.declared.conflict.Analysis.{Analysis}
-use Rattle.sat_core.specs.Steps.{given, held, IsState, AreSteps, AreClosedBefore}
+use Rattle.sat_core.specs.Steps.{given, held, IsTrailState, AreSteps, AreClosedBefore}
 use Rattle.sat_core.specs.Looks.{IsFalsified}
-use Rattle.sat_core.specs.Conflicts.{Apart, AreNames, Ends, IsShown, GoesOn}
-use Rattle.sat_core.specs.Walks.{place_of, IsStepOf, is_marked, late_count, AreClear, IsLastDecision, IsAsserting, IsWalked, Needs, Leads, Stays}
+use Rattle.sat_core.specs.Conflicts.{GoesOn}
+use Rattle.sat_core.specs.Walks.{step_place, IsStepOf, is_marked, last_level_count, AreClear, IsLastDecision, IsAsserting, IsWalked, Needs, Leads, IsBackjump}
 use Rattle.sat_core.proofs.Holding.{none≢some, held-whole, held-at, step-of}
 use Rattle.sat_core.proofs.States.{clause-exists, falsified-held}
 use Rattle.sat_core.proofs.Marking.{late-clear, late-some}
@@ -38,7 +38,7 @@ false-steps clauses n steps values places c s exist false' k d few =
 -- a false clause that was open before a decision has a literal of the last level
 late-literal : (clauses : List (List Lit)) (n : ℕ) (steps : List Step) (values : List (Option Bool)) (places : List ℕ) (last : ℕ) (c : List Lit) (needed : List Bool)
     → AreSteps clauses n steps values places → All (IsLitOf n) c → IsFalseClause (held steps) c → IsOpenClause (held (take last steps)) c
-    → All (λ l. is_marked needed (place_of places l) ≡ true) c → length needed ≡ length steps → 1 ≤ late_count last needed
+    → All (λ l. is_marked needed (step_place places l) ≡ true) c → length needed ≡ length steps → 1 ≤ last_level_count last needed
 late-literal clauses n steps values places last c needed s exist false' open' marked size =
     elim open' [
       | inl one ↦
@@ -48,8 +48,8 @@ late-literal clauses n steps values places last c needed s exist false' open' ma
           (let (l, m, in-l, in-m, differ, free-l, free-m) = two in
           let e : Step = record { lit = l; reason = None } in
           let (j, few-j, is) = step-of steps l.var (not l.positive) (All-contains (IsFalse (held steps)) c l false' in-l) in
-          let p : place_of places l ≡ j = ap (λ (x : ℕ). get_or places (x - 1) 0) (sym (is e).0) ∙ s.placed j e few-j in
-          let mark : is_marked needed j ≡ true = ap (is_marked needed) (sym p) ∙ All-contains (λ x. is_marked needed (place_of places x) ≡ true) c l marked in-l in
+          let p : step_place places l ≡ j = ap (λ (x : ℕ). get_or places (x - 1) 0) (sym (is e).0) ∙ s.placed j e few-j in
+          let mark : is_marked needed j ≡ true = ap (is_marked needed) (sym p) ∙ All-contains (λ x. is_marked needed (step_place places x) ≡ true) c l marked in-l in
           elim (cases_lt j last) [
             | inr low ↦ late-some last j needed (omega arith) low mark
             | inl early ↦
@@ -66,12 +66,12 @@ late-literal clauses n steps values places last c needed s exist false' open' ma
     held-at' j e early few = held-at clauses steps last j e s.trail early few
 
 -- **at the end of the trail**
-pub walked-start : (clauses : List (List Lit)) (n : ℕ) (steps : List Step) (values : List (Option Bool)) (places : List ℕ) (id last late added : ℕ) (old : List Bool) (c : List Lit) (a : Analysis)
+pub walked-start : (clauses : List (List Lit)) (n : ℕ) (steps : List Step) (values : List (Option Bool)) (places : List ℕ) (id last at_last_level added : ℕ) (old : List Bool) (c : List Lit) (a : Analysis)
     → AreSteps clauses n steps values places → AreOver n clauses → AreClosedBefore clauses steps → IsFalsified (given values) clauses id → IsLastDecision steps last
     → c ≡ clause_at clauses id → old ≡ replicate (length steps) false → Needs places c c last old a.needed.items added
-    → a.late ≡ added → a.last ≡ last → a.lits.items ≡ [] → a.hints.items ≡ []
+    → a.at_last_level ≡ added → a.last ≡ last → a.lits.items ≡ [] → a.hints.items ≡ []
     → IsWalked clauses n steps (length steps) a × Leads clauses steps (length steps) a.needed.items a.lits.items (reverse a.hints.items) (clause_at clauses id)
-walked-start clauses n steps values places id last late added old c a s over before f is-last is-c is-old needs is-late last-is no-lits no-hints =
+walked-start clauses n steps values places id last at_last_level added old c a s over before f is-last is-c is-old needs is-late last-is no-lits no-hints =
     let c' = clause_at clauses id in
     let false' = falsified-held clauses n steps values places id s over f in
     let exist = clause-exists clauses n id over f.low f.high in
@@ -85,11 +85,11 @@ walked-start clauses n steps values places id last late added old c a s over bef
     (record {
       size = size;
       clear = needs'.only (length steps) (false-steps clauses n steps values places c' s exist false') (λ k low. old-clear k (omega arith));
-      count = (let e : added ≡ late_count last a.needed.items = omega arith in is-late ∙ e ∙ ap (λ (m : ℕ). late_count m a.needed.items) (sym last-is));
+      count = (let e : added ≡ last_level_count last a.needed.items = omega arith in is-late ∙ e ∙ ap (λ (m : ℕ). last_level_count m a.needed.items) (sym last-is));
       exist = subst (All (IsLitOf n)) (sym no-lits) (All-nil (IsLitOf n));
       free = subst (All (λ (l : Lit). held (take (length steps) steps) l.var ≡ None)) (sym no-lits) (All-nil (λ (l : Lit). held (take (length steps) steps) l.var ≡ None));
-      differ = subst (AllPairs Apart) (sym no-lits) (λ i j d l k. absurd (omega (arith, k)));
-      names = subst (AreNames clauses) (sym no-hints) (All-nil (λ h. (1 ≤ h) × (h ≤ length clauses)));
+      differ = subst HaveDifferentVars (sym no-lits) (λ i j d l k. absurd (omega (arith, k)));
+      names = subst (AreNames (length clauses)) (sym no-hints) (All-nil (λ h. (1 ≤ h) × (h ≤ length clauses)));
       many = λ some in-level. no-lits;
       one = λ zero' in-level.
           (let e : Step = record { lit = record { var = 0; positive = false }; reason = None } in
@@ -121,16 +121,24 @@ walked-start clauses n steps values places id last late added old c a s over bef
         past-end (x ∷ xs) (suc k) past = past-end xs k (omega arith)
 
 -- names in the other order
-names-reverse : (clauses : List (List Lit)) (hints : List ℕ) → AreNames clauses hints → AreNames clauses (reverse hints)
+names-reverse : (clauses : List (List Lit)) (hints : List ℕ) → AreNames (length clauses) hints → AreNames (length clauses) (reverse hints)
 names-reverse clauses [] names = names
 names-reverse clauses (h ∷ hs) names =
     let P : ℕ → Type 0 = λ x. (1 ≤ x) × (x ≤ length clauses) in
     subst (All P) (sym (reverse-append (h ∷ []) hs)) (All-push P (reverse hs) h (names-reverse clauses hs (All-tail P h hs names)) (All-head P h hs names))
 
+-- there is a last hint, and it is false once those before it made their literals true
+abbrev EndIn : List (List Lit) → List Lit → List ℕ → Type 0
+EndIn cs lits hints =
+    (t : List Lit)
+    × Reaches cs (refuted lits) (take (length hints - 1) hints) t
+    × (1 ≤ length hints)
+    × IsFalseClause (partial_of t) (clause_at cs (slice_index hints (length hints - 1)))
+
 -- **the line is accepted**
 pub line-shown : (clauses : List (List Lit)) (n : ℕ) (steps : List Step) (a : Analysis) (id : ℕ) (line : Line)
     → IsWalked clauses n steps 0 a → Leads clauses steps 0 a.needed.items a.lits.items (reverse a.hints.items) (clause_at clauses id) → 1 ≤ id → id ≤ length clauses
-    → line.id ≡ length clauses + 1 → line.lits ≡ a.lits.items → line.hints ≡ reverse a.hints.items ++ id ∷ [] → IsShown clauses n line
+    → line.id ≡ length clauses + 1 → line.lits ≡ a.lits.items → line.hints ≡ reverse a.hints.items ++ id ∷ [] → IsAccepted (record { vars = n; clauses = clauses }) [] line
 line-shown clauses n steps a id line h leads low high is-id is-lits is-hints =
     let front = reverse a.hints.items in
     let all = front ++ id ∷ [] in
@@ -139,25 +147,31 @@ line-shown clauses n steps a id line h leads low high is-id is-lits is-hints =
     let (u, way, false') = leads (refuted a.lits.items) (λ k d below few mark. absurd (omega arith)) (λ x free. refl) in
     let first : take (length all - 1) all ≡ front = take_at front (id ∷ []) (length all - 1) (sym count) in
     let last : slice_index all (length all - 1) ≡ id = get_or_at front id [] 0 (length all - 1) (sym count) in
-    let ends : Ends clauses a.lits.items all = (
+    let ends : EndIn clauses a.lits.items all = (
       u,
       subst (λ (hs : List ℕ). Reaches clauses (refuted a.lits.items) hs u) (sym first) way,
       (omega arith),
-      subst (λ (x : ℕ). IsFalseClause (value_in u) (clause_at clauses x)) (sym last) false',
+      subst (λ (x : ℕ). IsFalseClause (partial_of u) (clause_at clauses x)) (sym last) false',
     ) in
+    let count' : length clauses ≡ length clauses + 0 = omega arith in
+    let names : AreNames (length clauses) line.hints = subst (AreNames (length clauses)) (sym is-hints) (All-push (λ x. (1 ≤ x) × (x ≤ length clauses)) front id (names-reverse clauses a.hints.items h.names) (low, high)) in
+    let ends' : EndIn clauses line.lits line.hints =
+    subst (λ (ls : List Lit). EndIn clauses ls line.hints) (sym is-lits) (subst (λ (hs : List ℕ). EndIn clauses a.lits.items hs) (sym is-hints) ends) in
     record {
-      numbered = is-id;
-      exist = subst (All (IsLitOf n)) (sym is-lits) h.exist;
-      differ = subst (AllPairs Apart) (sym is-lits) h.differ;
-      hints = subst (AreNames clauses) (sym is-hints) (All-push (λ x. (1 ≤ x) × (x ≤ length clauses)) front id (names-reverse clauses a.hints.items h.names) (low, high));
-      ends = subst (λ (ls : List Lit). Ends clauses ls line.hints) (sym is-lits) (subst (λ (hs : List ℕ). Ends clauses a.lits.items hs) (sym is-hints) ends);
+      numbered = is-id ∙ ap (λ (m : ℕ). m + 1) count';
+      named = record {
+        exist = subst (All (IsLitOf n)) (sym is-lits) h.exist;
+        differ = subst HaveDifferentVars (sym is-lits) h.differ;
+        hints = subst (λ (m : ℕ). AreNames m line.hints) count' names;
+      };
+      ends = subst (λ (cs : List (List Lit)). EndIn cs line.lits line.hints) (sym (append-nil clauses)) ends';
     }
 
 -- **the lemma is fresh** where it isn't empty: under the values before the last decision one literal is free, the others are false
-fresh-from : (clauses : List (List Lit)) (s : Partial) (lits : List Lit) → IsClosed s clauses → AllPairs Apart lits → IsAsserting s lits → IsFresh clauses lits
+fresh-from : (clauses : List (List Lit)) (s : Partial) (lits : List Lit) → IsClosed s clauses → HaveDifferentVars lits → IsAsserting s lits → IsFresh clauses lits
 fresh-from clauses s lits closed differ asserts =
     let all = asserts.first ∷ asserts.rest in
-    let differ' = subst (AllPairs Apart) asserts.is differ in
+    let differ' = subst HaveDifferentVars asserts.is differ in
     subst (IsFresh clauses) (sym asserts.is)
     (record {
       some = omega arith;
@@ -200,8 +214,8 @@ steps-over clauses more n steps values places h =
 
 -- **the search goes on**
 pub line-goes_on : (clauses : List (List Lit)) (n : ℕ) (old new : Trail) (a : Analysis) (lits : List Lit)
-    → AreClosedBefore clauses old.steps.items → IsLastDecision old.steps.items a.last → IsWalked clauses n old.steps.items 0 a → Stays old.steps.items 0 a.stay a.lits.items
-    → IsState clauses n new → new.steps.items ≡ take a.stay old.steps.items → lits ≡ a.lits.items → (lits ≢ []) → GoesOn clauses n lits new
+    → AreClosedBefore clauses old.steps.items → IsLastDecision old.steps.items a.last → IsWalked clauses n old.steps.items 0 a → IsBackjump old.steps.items 0 a.backjump a.lits.items
+    → IsTrailState clauses n new → new.steps.items ≡ take a.backjump old.steps.items → lits ≡ a.lits.items → (lits ≢ []) → GoesOn clauses n lits new
 line-goes_on clauses n old new a lits before is-last h stays state is is-lits some =
     let steps = old.steps.items in
     let d : Step = record { lit = record { var = 0; positive = false }; reason = None } in
@@ -210,18 +224,18 @@ line-goes_on clauses n old new a lits before is-last h stays state is is-lits so
       | inl in' ↦ in'
       | inr past ↦ absurd (some (is-lits ∙ h.root (is-last.none (omega arith))))
     ] in
-    let zero' : a.late ≡ 0 = h.count ∙ late-clear a.last a.needed.items (λ k low. h.clear k (omega arith)) in
+    let zero' : a.at_last_level ≡ 0 = h.count ∙ late-clear a.last a.needed.items (λ k low. h.clear k (omega arith)) in
     let closed = before a.last d in-level (is-last.decides d in-level) in
     let fresh = fresh-from clauses (held (take a.last steps)) a.lits.items closed h.differ (h.one zero' in-level) in
     record {
       fresh = subst (IsFresh clauses) (sym is-lits) fresh;
       state = steps-over clauses (lits ∷ []) n new.steps.items new.values.items new.places.items state;
       before = subst (AreClosedBefore (clauses ++ lits ∷ [])) (sym is) (λ k e few decides.
-          (let size = length-take a.stay steps in
-          let below : k < a.stay = omega arith in
+          (let size = length-take a.backjump steps in
+          let below : k < a.backjump = omega arith in
           let few' : k < length steps = omega arith in
-          let decides' = subst (λ (x : Step). x.reason ≡ None) (get_or-take a.stay steps k e below) decides in
-          subst (λ (xs : List Step). IsClosed (held xs) (clauses ++ lits ∷ [])) (sym (take-take k a.stay steps (omega arith)))
+          let decides' = subst (λ (x : Step). x.reason ≡ None) (get_or-take a.backjump steps k e below) decides in
+          subst (λ (xs : List Step). IsClosed (held xs) (clauses ++ lits ∷ [])) (sym (take-take k a.backjump steps (omega arith)))
           (All-push (IsOpenClause (held (take k steps))) clauses lits (before k e few' decides')
           (subst (IsOpenClause (held (take k steps))) (sym is-lits) (stays k e (omega arith) below few' decides')))));
     }

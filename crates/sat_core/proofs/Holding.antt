@@ -3,7 +3,7 @@ use Rattle.std.proofs.Common.{◌≡◌, ℕ, ◌+◌, ◌<◌, ◌≤◌, Bool,
 use Rattle.std.proofs.lemmas.Bool.{cases_Bool, cond-true, cond-false, eq-eqb, ne_eqb, eqb-true}
 use Rattle.std.proofs.lemmas.List.{take_more, take-append-drop, take-take, map_push, map-append}
 use Rattle.cnf_core.specs.declared.literal.Lit.{Lit}
-use Rattle.cnf_core.specs.Values.{value_in, IsFree}
+use Rattle.cnf_core.specs.Values.{partial_of, IsUnassigned}
 use Rattle.sat_core.specs.declared.trail.Step.{Step}
 use Rattle.sat_core.specs.Steps.{lits_of, held, IsTrail}
 
@@ -14,43 +14,43 @@ pub some-same : (a b : Bool) → Some a ≡ Some b → a ≡ b
 some-same a b e = cc
 
 -- values after one literal more at the end
-pub value_in-push-other : (s : List Lit) (l : Lit) (x : ℕ) → (l.var ≡ x → ⊥) → value_in (s ++ l ∷ []) x ≡ value_in s x
-value_in-push-other [] l x other = cond-false (eqb l.var x) (Some l.positive) None (ne_eqb l.var x other)
-value_in-push-other (m ∷ ms) l x other = ap (λ (o : Option Bool). cond (eqb m.var x) (Some m.positive) o) (value_in-push-other ms l x other)
+pub partial_of-push-other : (s : List Lit) (l : Lit) (x : ℕ) → (l.var ≡ x → ⊥) → partial_of (s ++ l ∷ []) x ≡ partial_of s x
+partial_of-push-other [] l x other = cond-false (eqb l.var x) (Some l.positive) None (ne_eqb l.var x other)
+partial_of-push-other (m ∷ ms) l x other = ap (λ (o : Option Bool). cond (eqb m.var x) (Some m.positive) o) (partial_of-push-other ms l x other)
 
-pub value_in-push-same : (s : List Lit) (l : Lit) → value_in s l.var ≡ None → value_in (s ++ l ∷ []) l.var ≡ Some l.positive
-value_in-push-same [] l free = cond-true (eqb l.var l.var) (Some l.positive) None (eq-eqb l.var l.var refl)
-value_in-push-same (m ∷ ms) l free =
+pub partial_of-push-same : (s : List Lit) (l : Lit) → partial_of s l.var ≡ None → partial_of (s ++ l ∷ []) l.var ≡ Some l.positive
+partial_of-push-same [] l free = cond-true (eqb l.var l.var) (Some l.positive) None (eq-eqb l.var l.var refl)
+partial_of-push-same (m ∷ ms) l free =
     elim (cases_Bool (eqb m.var l.var)) [
-      | inl same ↦ absurd (none≢some (sym free ∙ cond-true (eqb m.var l.var) (Some m.positive) (value_in ms l.var) same))
-      | inr other ↦ cond-false (eqb m.var l.var) (Some m.positive) (value_in (ms ++ l ∷ []) l.var) other ∙ value_in-push-same ms l (sym (cond-false (eqb m.var l.var) (Some m.positive) (value_in ms l.var) other) ∙ free)
+      | inl same ↦ absurd (none≢some (sym free ∙ cond-true (eqb m.var l.var) (Some m.positive) (partial_of ms l.var) same))
+      | inr other ↦ cond-false (eqb m.var l.var) (Some m.positive) (partial_of (ms ++ l ∷ []) l.var) other ∙ partial_of-push-same ms l (sym (cond-false (eqb m.var l.var) (Some m.positive) (partial_of ms l.var) other) ∙ free)
     ]
 
 -- and after one more at the front
-pub value_in-cons-same : (l : Lit) (s : List Lit) (x : ℕ) → l.var ≡ x → value_in (l ∷ s) x ≡ Some l.positive
-value_in-cons-same l s x same = cond-true (eqb l.var x) (Some l.positive) (value_in s x) (eq-eqb l.var x same)
+pub partial_of-cons-same : (l : Lit) (s : List Lit) (x : ℕ) → l.var ≡ x → partial_of (l ∷ s) x ≡ Some l.positive
+partial_of-cons-same l s x same = cond-true (eqb l.var x) (Some l.positive) (partial_of s x) (eq-eqb l.var x same)
 
-pub value_in-cons-other : (l : Lit) (s : List Lit) (x : ℕ) → (l.var ≡ x → ⊥) → value_in (l ∷ s) x ≡ value_in s x
-value_in-cons-other l s x other = cond-false (eqb l.var x) (Some l.positive) (value_in s x) (ne_eqb l.var x other)
+pub partial_of-cons-other : (l : Lit) (s : List Lit) (x : ℕ) → (l.var ≡ x → ⊥) → partial_of (l ∷ s) x ≡ partial_of s x
+partial_of-cons-other l s x other = cond-false (eqb l.var x) (Some l.positive) (partial_of s x) (ne_eqb l.var x other)
 
 pub held-push-other : (steps : List Step) (step : Step) (x : ℕ) → (step.lit.var ≡ x → ⊥) → held (steps ++ step ∷ []) x ≡ held steps x
-held-push-other steps step x other = ap (λ (ls : List Lit). value_in ls x) (map_push (λ (s : Step). s.lit) steps step) ∙ value_in-push-other (lits_of steps) step.lit x other
+held-push-other steps step x other = ap (λ (ls : List Lit). partial_of ls x) (map_push (λ (s : Step). s.lit) steps step) ∙ partial_of-push-other (lits_of steps) step.lit x other
 
-pub held-push-same : (steps : List Step) (step : Step) → IsFree (held steps) step.lit → held (steps ++ step ∷ []) step.lit.var ≡ Some step.lit.positive
-held-push-same steps step free = ap (λ (ls : List Lit). value_in ls step.lit.var) (map_push (λ (s : Step). s.lit) steps step) ∙ value_in-push-same (lits_of steps) step.lit free
+pub held-push-same : (steps : List Step) (step : Step) → IsUnassigned (held steps) step.lit → held (steps ++ step ∷ []) step.lit.var ≡ Some step.lit.positive
+held-push-same steps step free = ap (λ (ls : List Lit). partial_of ls step.lit.var) (map_push (λ (s : Step). s.lit) steps step) ∙ partial_of-push-same (lits_of steps) step.lit free
 
 -- a value stays when literals come after
-value_in-append : (s t : List Lit) (x : ℕ) (b : Bool) → value_in s x ≡ Some b → value_in (s ++ t) x ≡ Some b
-value_in-append [] t x b e = absurd (none≢some e)
-value_in-append (m ∷ ms) t x b e =
+partial_of-append : (s t : List Lit) (x : ℕ) (b : Bool) → partial_of s x ≡ Some b → partial_of (s ++ t) x ≡ Some b
+partial_of-append [] t x b e = absurd (none≢some e)
+partial_of-append (m ∷ ms) t x b e =
     elim (cases_Bool (eqb m.var x)) [
-      | inl same ↦ cond-true (eqb m.var x) (Some m.positive) (value_in (ms ++ t) x) same ∙ sym (cond-true (eqb m.var x) (Some m.positive) (value_in ms x) same) ∙ e
-      | inr other ↦ cond-false (eqb m.var x) (Some m.positive) (value_in (ms ++ t) x) other
-          ∙ value_in-append ms t x b (sym (cond-false (eqb m.var x) (Some m.positive) (value_in ms x) other) ∙ e)
+      | inl same ↦ cond-true (eqb m.var x) (Some m.positive) (partial_of (ms ++ t) x) same ∙ sym (cond-true (eqb m.var x) (Some m.positive) (partial_of ms x) same) ∙ e
+      | inr other ↦ cond-false (eqb m.var x) (Some m.positive) (partial_of (ms ++ t) x) other
+          ∙ partial_of-append ms t x b (sym (cond-false (eqb m.var x) (Some m.positive) (partial_of ms x) other) ∙ e)
     ]
 
 pub held-append : (before ss : List Step) (x : ℕ) (b : Bool) → held before x ≡ Some b → held (before ++ ss) x ≡ Some b
-held-append before ss x b e = ap (λ (ls : List Lit). value_in ls x) (map-append (λ (s : Step). s.lit) before ss) ∙ value_in-append (lits_of before) (lits_of ss) x b e
+held-append before ss x b e = ap (λ (ls : List Lit). partial_of ls x) (map-append (λ (s : Step). s.lit) before ss) ∙ partial_of-append (lits_of before) (lits_of ss) x b e
 
 pub held-whole : (steps : List Step) (i x : ℕ) (b : Bool) → held (take i steps) x ≡ Some b → held steps x ≡ Some b
 held-whole steps i x b e = subst (λ (xs : List Step). held xs x ≡ Some b) (take-append-drop i steps) (held-append (take i steps) (drop i steps) x b e)

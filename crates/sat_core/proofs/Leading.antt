@@ -6,16 +6,16 @@ use Rattle.std.proofs.lemmas.List.{get_or-take, length-take, take_all, map_push,
 use Rattle.std.proofs.lemmas.List.Elements.{All-head, All-tail, All-weaker}
 use Rattle.cnf_core.specs.declared.literal.Lit.{Lit}
 use Rattle.cnf_core.specs.Formula.{negated}
-use Rattle.cnf_core.specs.Values.{value_in, IsHeld, IsFalse, IsFalseClause, IsUnit}
+use Rattle.cnf_core.specs.Values.{partial_of, IsHeld, IsFalse, IsFalseClause, IsUnit}
 use Rattle.cnf_core.specs.Refutation.{clause_at, refuted}
 use Rattle.sat_core.specs.declared.trail.Step.{Step}
 use Rattle.sat_core.specs.Steps.{held, IsTrail, IsReason, AreSteps}
-use Rattle.sat_core.specs.Walks.{place_of, is_marked, Covers, Leads}
-use Rattle.sat_core.proofs.Holding.{none≢some, value_in-push-same, value_in-push-other, value_in-cons-same, value_in-cons-other, held-step, held-at, step-of, free-before}
+use Rattle.sat_core.specs.Walks.{step_place, is_marked, Covers, Leads}
+use Rattle.sat_core.proofs.Holding.{none≢some, partial_of-push-same, partial_of-push-other, partial_of-cons-same, partial_of-cons-other, held-step, held-at, step-of, free-before}
 
 -- a literal that is false under the steps before i is false by its marked step
 pub covered-false : (clauses : List (List Lit)) (n : ℕ) (steps : List Step) (values : List (Option Bool)) (places : List ℕ) (i : ℕ) (needed : List Bool) (t : List Lit) (l : Lit)
-    → AreSteps clauses n steps values places → Covers steps i needed t → IsFalse (held (take i steps)) l → is_marked needed (place_of places l) ≡ true → IsFalse (value_in t) l
+    → AreSteps clauses n steps values places → Covers steps i needed t → IsFalse (held (take i steps)) l → is_marked needed (step_place places l) ≡ true → IsFalse (partial_of t) l
 covered-false clauses n steps values places i needed t l h covers false' marked =
     let (j, few, at) = step-of (take i steps) l.var (not l.positive) false' in
     let size = length-take i steps in
@@ -26,13 +26,13 @@ covered-false clauses n steps values places i needed t l h covers false' marked 
     let same : get_or (take i steps) j d ≡ s = get_or-take i steps j d below in
     let var : s.lit.var ≡ l.var = ap (λ (x : Step). x.lit.var) (sym same) ∙ (at d).0 in
     let positive : s.lit.positive ≡ not l.positive = ap (λ (x : Step). x.lit.positive) (sym same) ∙ (at d).1 in
-    let place : place_of places l ≡ j = ap (λ (x : ℕ). get_or places (x - 1) 0) (sym var) ∙ h.placed j d few' in
+    let place : step_place places l ≡ j = ap (λ (x : ℕ). get_or places (x - 1) 0) (sym var) ∙ h.placed j d few' in
     let mark : is_marked needed j ≡ true = ap (is_marked needed) (sym place) ∙ marked in
-    ap (value_in t) (sym var) ∙ covers j d below few' mark ∙ ap (λ (b : Bool). Some b) positive
+    ap (partial_of t) (sym var) ∙ covers j d below few' mark ∙ ap (λ (b : Bool). Some b) positive
 
 -- at the end of the trail the conflict is false already
 pub leads-start : (clauses : List (List Lit)) (n : ℕ) (steps : List Step) (values : List (Option Bool)) (places : List ℕ) (needed : List Bool) (conflict : List Lit)
-    → AreSteps clauses n steps values places → IsFalseClause (held steps) conflict → All (λ l. is_marked needed (place_of places l) ≡ true) conflict → Leads clauses steps (length steps) needed [] [] conflict
+    → AreSteps clauses n steps values places → IsFalseClause (held steps) conflict → All (λ l. is_marked needed (step_place places l) ≡ true) conflict → Leads clauses steps (length steps) needed [] [] conflict
 leads-start clauses n steps values places needed conflict h false' marked t covers rest = (
   t,
   refl,
@@ -54,11 +54,11 @@ leads-skip clauses steps i needed lits hints conflict unmarked leads t covers re
     (λ x free. rest x (free-before steps i (i + 1) x (omega arith) free))
 
 -- a lemma says nothing of a variable that none of its literals has
-pub refuted-none : (lits : List Lit) (x : ℕ) → All (λ (l : Lit). l.var ≢ x) lits → value_in (refuted lits) x ≡ None
+pub refuted-none : (lits : List Lit) (x : ℕ) → All (λ (l : Lit). l.var ≢ x) lits → partial_of (refuted lits) x ≡ None
 refuted-none [] x others = refl
 refuted-none (l ∷ ls) x others =
     let P : Lit → Type 0 = λ m. m.var ≢ x in
-    value_in-cons-other (negated l) (refuted ls) x (All-head P l ls others) ∙ refuted-none ls x (All-tail P l ls others)
+    partial_of-cons-other (negated l) (refuted ls) x (All-head P l ls others) ∙ refuted-none ls x (All-tail P l ls others)
 
 not-not : (b : Bool) → not (not b) ≡ b
 not-not true = refl
@@ -77,25 +77,25 @@ pub leads-keep : (clauses : List (List Lit)) (steps : List Step) (i : ℕ) (d : 
 leads-keep clauses steps i d needed needed' lits hints conflict trail few free is leads t covers rest =
     let l = (get_or steps i d).lit in
     let all : refuted (lits ++ negated l ∷ []) ≡ refuted lits ++ negated (negated l) ∷ [] = map_push negated lits (negated l) in
-    let at-l : value_in t l.var ≡ Some l.positive =
-    rest l.var (trail i d few).free ∙ ap (λ (ls : List Lit). value_in ls l.var) all
-    ∙ value_in-push-same (refuted lits) (negated (negated l)) (refuted-none lits l.var (others-later clauses steps i d lits trail few free))
+    let at-l : partial_of t l.var ≡ Some l.positive =
+    rest l.var (trail i d few).free ∙ ap (λ (ls : List Lit). partial_of ls l.var) all
+    ∙ partial_of-push-same (refuted lits) (negated (negated l)) (refuted-none lits l.var (others-later clauses steps i d lits trail few free))
     ∙ ap (λ (b : Bool). Some b) (not-not l.positive) in
     leads t
     (λ k e below few' mark. elim (cases_eq k i) [
-      | inl same ↦ subst (λ (j : ℕ). IsHeld (value_in t) (get_or steps j e).lit) (sym same)
-          (subst (λ (s : Step). IsHeld (value_in t) s.lit) (get_or_default steps i d e few) at-l)
+      | inl same ↦ subst (λ (j : ℕ). IsHeld (partial_of t) (get_or steps j e).lit) (sym same)
+          (subst (λ (s : Step). IsHeld (partial_of t) s.lit) (get_or_default steps i d e few) at-l)
       | inr other ↦ covers k e (omega arith) few' (ap (λ (ns : List Bool). is_marked ns k) is ∙ get_or-set_other needed i k false false other ∙ mark)
     ])
     (λ x free-x.
     let other : l.var ≢ x = λ same. none≢some (sym free-x ∙ ap (held (take (i + 1) steps)) (sym same) ∙ held-step clauses steps i d trail few) in
-    rest x (free-before steps i (i + 1) x (omega arith) free-x) ∙ ap (λ (ls : List Lit). value_in ls x) all ∙ value_in-push-other (refuted lits) (negated (negated l)) x other)
+    rest x (free-before steps i (i + 1) x (omega arith) free-x) ∙ ap (λ (ls : List Lit). partial_of ls x) all ∙ partial_of-push-other (refuted lits) (negated (negated l)) x other)
 
 -- a step that is resolved with its reason
 pub leads-resolve : (clauses : List (List Lit)) (n : ℕ) (steps : List Step) (values : List (Option Bool)) (places : List ℕ) (i : ℕ) (d : Step) (id : ℕ) (needed mid needed' : List Bool) (lits : List Lit) (hints : List ℕ) (conflict : List Lit)
     → AreSteps clauses n steps values places → i < length steps → All (λ (l : Lit). held (take (i + 1) steps) l.var ≡ None) lits
     → IsReason (held (take i steps)) clauses id (get_or steps i d).lit
-    → ((k : ℕ) → is_marked needed k ≡ true → is_marked mid k ≡ true) → All (λ l. is_marked mid (place_of places l) ≡ true) (clause_at clauses id) → needed' ≡ set mid i false
+    → ((k : ℕ) → is_marked needed k ≡ true → is_marked mid k ≡ true) → All (λ l. is_marked mid (step_place places l) ≡ true) (clause_at clauses id) → needed' ≡ set mid i false
     → Leads clauses steps (i + 1) needed lits hints conflict → Leads clauses steps i needed' lits (id ∷ hints) conflict
 leads-resolve clauses n steps values places i d id needed mid needed' lits hints conflict h few free reason keeps marked is leads t covers rest =
     let l = (get_or steps i d).lit in
@@ -103,7 +103,7 @@ leads-resolve clauses n steps values places i d id needed mid needed' lits hints
     let mid-covers : Covers steps i mid t = λ k e below few' mark.
     (let ne : k ≢ i = λ same. absurd (omega arith) in
     covers k e below few' (ap (λ (ns : List Bool). is_marked ns k) is ∙ get_or-set_other mid i k false false ne ∙ mark)) in
-    let unit : IsUnit (value_in t) c l = record {
+    let unit : IsUnit (partial_of t) c l = record {
       among = reason.unit.among;
       free = rest l.var (h.trail i d few).free ∙ refuted-none lits l.var (others-later clauses steps i d lits h.trail few free);
       others = λ k e few'. elim (reason.unit.others k e few') [
@@ -113,14 +113,14 @@ leads-resolve clauses n steps values places i d id needed mid needed' lits hints
     } in
     let next = leads (l ∷ t)
     (λ k e below few' mark. elim (cases_eq k i) [
-      | inl same ↦ subst (λ (j : ℕ). IsHeld (value_in (l ∷ t)) (get_or steps j e).lit) (sym same)
-          (subst (λ (s : Step). IsHeld (value_in (l ∷ t)) s.lit) (get_or_default steps i d e few) (value_in-cons-same l t l.var refl))
+      | inl same ↦ subst (λ (j : ℕ). IsHeld (partial_of (l ∷ t)) (get_or steps j e).lit) (sym same)
+          (subst (λ (s : Step). IsHeld (partial_of (l ∷ t)) s.lit) (get_or_default steps i d e few) (partial_of-cons-same l t l.var refl))
       | inr other ↦
           (let s = get_or steps k e in
           let apart : l.var ≢ s.lit.var = λ same. none≢some (sym (h.trail i d few).free ∙ ap (held (take i steps)) same ∙ held-at clauses steps i k e h.trail (omega arith) few') in
-          value_in-cons-other l t s.lit.var apart ∙ mid-covers k e (omega arith) few' (keeps k mark))
+          partial_of-cons-other l t s.lit.var apart ∙ mid-covers k e (omega arith) few' (keeps k mark))
     ])
     (λ x free-x.
     let other : l.var ≢ x = λ same. none≢some (sym free-x ∙ ap (held (take (i + 1) steps)) (sym same) ∙ held-step clauses steps i d h.trail few) in
-    value_in-cons-other l t x other ∙ rest x (free-before steps i (i + 1) x (omega arith) free-x)) in
+    partial_of-cons-other l t x other ∙ rest x (free-before steps i (i + 1) x (omega arith) free-x)) in
     (next.0, (l, unit, next.1), next.2)

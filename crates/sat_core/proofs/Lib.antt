@@ -4,11 +4,10 @@ pub mod Bound
 pub mod Ending
 pub mod Holding
 pub mod Leading
-pub mod Looking
 pub mod Marking
 pub mod Picking
 pub mod Rounds
 pub mod Searching
-pub mod Settling
+pub mod Resolving
 pub mod States
 pub mod Walking

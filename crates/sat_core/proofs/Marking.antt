@@ -6,13 +6,13 @@ use Rattle.std.proofs.lemmas.List.{drop-set-add, drop-set-lt, get_or-drop, lengt
 use Rattle.std.proofs.lemmas.List.Sums.{sum_by-set, sum_by-cons, count_by-le-length}
 use Rattle.std.proofs.lemmas.List.Elements.{All-more, All-weaker}
 use Rattle.cnf_core.specs.declared.literal.Lit.{Lit}
-use Rattle.sat_core.specs.Walks.{place_of, is_marked, late_count, AreClear, Needs}
+use Rattle.sat_core.specs.Walks.{step_place, is_marked, last_level_count, AreClear, Needs}
 
 one : Bool → ℕ
 one b = cond {A = ℕ} b 1 0
 
-pub late_set : (last i : ℕ) (xs : List Bool) (v : Bool) → i < length xs → last ≤ i → late_count last (set xs i v) + cond {A = ℕ} (is_marked xs i) 1 0 ≡ late_count last xs + cond {A = ℕ} v 1 0
-unfolding late_count
+pub late_set : (last i : ℕ) (xs : List Bool) (v : Bool) → i < length xs → last ≤ i → last_level_count last (set xs i v) + cond {A = ℕ} (is_marked xs i) 1 0 ≡ last_level_count last xs + cond {A = ℕ} v 1 0
+unfolding last_level_count
 late_set last i xs v few low =
     let j = i - last in
     let at : last + j ≡ i = omega arith in
@@ -24,8 +24,8 @@ late_set last i xs v few low =
     subst (λ (ys : List Bool). count_by (λ b. b) ys + cond {A = ℕ} (is_marked xs i) 1 0 ≡ count_by (λ b. b) (drop last xs) + cond {A = ℕ} v 1 0) (sym moved)
     (subst (λ (b : Bool). count_by (λ b. b) (set (drop last xs) j v) + cond {A = ℕ} b 1 0 ≡ count_by (λ b. b) (drop last xs) + cond {A = ℕ} v 1 0) here sum)
 
-pub late_early : (last i : ℕ) (xs : List Bool) (v : Bool) → i < last → late_count last (set xs i v) ≡ late_count last xs
-unfolding late_count
+pub late_early : (last i : ℕ) (xs : List Bool) (v : Bool) → i < last → last_level_count last (set xs i v) ≡ last_level_count last xs
+unfolding last_level_count
 late_early last i xs v early = ap (count_by (λ b. b)) (drop-set-lt last xs i v early)
 
 one-true : (b : Bool) → b ≡ true → cond {A = ℕ} b 1 0 ≡ 1
@@ -34,13 +34,13 @@ one-true b e = cond-true {A = ℕ} b 1 0 e
 one-false : (b : Bool) → b ≡ false → cond {A = ℕ} b 1 0 ≡ 0
 one-false b e = cond-false {A = ℕ} b 1 0 e
 
-pub late_marked : (last i : ℕ) (xs : List Bool) → i < length xs → last ≤ i → is_marked xs i ≡ false → late_count last (set xs i true) ≡ late_count last xs + 1
+pub late_marked : (last i : ℕ) (xs : List Bool) → i < length xs → last ≤ i → is_marked xs i ≡ false → last_level_count last (set xs i true) ≡ last_level_count last xs + 1
 late_marked last i xs few low off =
     let e = late_set last i xs true few low in
     let zero' = one-false (is_marked xs i) off in
     omega arith
 
-pub late_again : (last i : ℕ) (xs : List Bool) → i < length xs → is_marked xs i ≡ true → late_count last (set xs i true) ≡ late_count last xs
+pub late_again : (last i : ℕ) (xs : List Bool) → i < length xs → is_marked xs i ≡ true → last_level_count last (set xs i true) ≡ last_level_count last xs
 late_again last i xs few on =
     elim (cases_lt i last) [
       | inl early ↦ late_early last i xs true early
@@ -50,7 +50,7 @@ late_again last i xs few on =
           omega arith)
     ]
 
-pub late_unmarked : (last i : ℕ) (xs : List Bool) → i < length xs → last ≤ i → is_marked xs i ≡ true → late_count last xs ≡ late_count last (set xs i false) + 1
+pub late_unmarked : (last i : ℕ) (xs : List Bool) → i < length xs → last ≤ i → is_marked xs i ≡ true → last_level_count last xs ≡ last_level_count last (set xs i false) + 1
 late_unmarked last i xs few low on =
     let e = late_set last i xs false few low in
     let one' = one-true (is_marked xs i) on in
@@ -65,15 +65,15 @@ count-clear (x ∷ xs) clear =
     omega arith
 
 -- where no step of the last level is marked
-pub late-clear : (last : ℕ) (xs : List Bool) → AreClear last xs → late_count last xs ≡ 0
-unfolding late_count
+pub late-clear : (last : ℕ) (xs : List Bool) → AreClear last xs → last_level_count last xs ≡ 0
+unfolding last_level_count
 late-clear last xs clear = count-clear (drop last xs) (λ k. get_or-drop last xs k false ∙ clear (last + k) (omega arith))
 
-pub late-some : (last i : ℕ) (xs : List Bool) → i < length xs → last ≤ i → is_marked xs i ≡ true → 1 ≤ late_count last xs
+pub late-some : (last i : ℕ) (xs : List Bool) → i < length xs → last ≤ i → is_marked xs i ≡ true → 1 ≤ last_level_count last xs
 late-some last i xs few low on = (let e = late_unmarked last i xs few low on in omega arith)
 
 -- where the first step of the last level alone is marked
-pub late-one : (last : ℕ) (xs : List Bool) → last < length xs → is_marked xs last ≡ true → AreClear (last + 1) xs → late_count last xs ≡ 1
+pub late-one : (last : ℕ) (xs : List Bool) → last < length xs → is_marked xs last ≡ true → AreClear (last + 1) xs → last_level_count last xs ≡ 1
 late-one last xs few on clear =
     let e = late_unmarked last last xs few (omega arith) on in
     let none = late-clear last (set xs last false) (λ k low. elim (cases_eq k last) [
@@ -82,8 +82,8 @@ late-one last xs few on clear =
     ]) in
     omega arith
 
-pub late-le : (last : ℕ) (xs : List Bool) → late_count last xs ≤ length xs
-unfolding late_count
+pub late-le : (last : ℕ) (xs : List Bool) → last_level_count last xs ≤ length xs
+unfolding last_level_count
 late-le last xs = (let a = count_by-le-length (λ (b : Bool). b) (drop last xs) in let b = length-drop last xs in omega arith)
 
 -- the mark of a step is taken
@@ -96,16 +96,16 @@ clear-unmarked i xs few clear k low =
 
 -- one literal more
 pub needs-more : (places : List ℕ) (clause : List Lit) (last i : ℕ) (d : Lit) (old mid new : List Bool) (added more : ℕ)
-    → i < length clause → place_of places (get_or clause i d) < length mid → Needs places (take i clause) clause last old mid added
-    → new ≡ set mid (place_of places (get_or clause i d)) true → late_count last new ≡ late_count last mid + more → Needs places (take (i + 1) clause) clause last old new (added + more)
+    → i < length clause → step_place places (get_or clause i d) < length mid → Needs places (take i clause) clause last old mid added
+    → new ≡ set mid (step_place places (get_or clause i d)) true → last_level_count last new ≡ last_level_count last mid + more → Needs places (take (i + 1) clause) clause last old new (added + more)
 needs-more places clause last i d old mid new added more few within h is count =
-    let p = place_of places (get_or clause i d) in
+    let p = step_place places (get_or clause i d) in
     let kept : (k : ℕ) → is_marked mid k ≡ true → is_marked new k ≡ true = λ k on. ap (λ (ns : List Bool). is_marked ns k) is ∙ stays k on in
     record {
       size = ap length is ∙ length-set mid p true ∙ h.size;
       keeps = λ k on. kept k (h.keeps k on);
-      all = All-more (λ l. is_marked new (place_of places l) ≡ true) clause i d few
-          (All-weaker (λ l. is_marked mid (place_of places l) ≡ true) (λ l. is_marked new (place_of places l) ≡ true) (λ l on. kept (place_of places l) on) (take i clause) h.all)
+      all = All-more (λ l. is_marked new (step_place places l) ≡ true) clause i d few
+          (All-weaker (λ l. is_marked mid (step_place places l) ≡ true) (λ l. is_marked new (step_place places l) ≡ true) (λ l on. kept (step_place places l) on) (take i clause) h.all)
           (ap (λ (ns : List Bool). is_marked ns p) is ∙ get_or-set_same mid p true false within);
       only = λ n steps clear k low.
           (let at = steps i d few in
@@ -114,9 +114,9 @@ needs-more places clause last i d old mid new added more few within h is count =
       count = (let c = h.count in omega arith);
     }
   where
-    stays : (k : ℕ) → is_marked mid k ≡ true → is_marked (set mid (place_of places (get_or clause i d)) true) k ≡ true
+    stays : (k : ℕ) → is_marked mid k ≡ true → is_marked (set mid (step_place places (get_or clause i d)) true) k ≡ true
     stays k on =
-        elim (cases_eq k (place_of places (get_or clause i d))) [
-          | inl same ↦ ap (λ (j : ℕ). is_marked (set mid (place_of places (get_or clause i d)) true) j) same ∙ get_or-set_same mid (place_of places (get_or clause i d)) true false within
-          | inr other ↦ get_or-set_other mid (place_of places (get_or clause i d)) k true false other ∙ on
+        elim (cases_eq k (step_place places (get_or clause i d))) [
+          | inl same ↦ ap (λ (j : ℕ). is_marked (set mid (step_place places (get_or clause i d)) true) j) same ∙ get_or-set_same mid (step_place places (get_or clause i d)) true false within
+          | inr other ↦ get_or-set_other mid (step_place places (get_or clause i d)) k true false other ∙ on
         ]

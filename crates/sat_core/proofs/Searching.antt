@@ -1,6 +1,6 @@
 -- What the search keeps, one more line, and what its three answers rest on.
 use Rattle.std.proofs.Common.{◌≡◌, ℕ, ◌+◌, ◌-◌, ◌<◌, ◌≤◌, Bool, true, false, not, cond, List, [], ◌∷◌, ◌++◌, length, map, take, get_or, refl, sym, ap, ◌∙◌, subst, arith, inl, inr, suc, zero, Option, Some, None, append-nil, append_assoc}
-use Rattle.std.specs.Prelude.{unwrap_or}
+use Rattle.std.specs.Prelude.{unwrap_or, slice_index}
 use Rattle.std.specs.List.{All, Contains}
 use Rattle.std.proofs.lemmas.Bool.{cases_lt}
 use Rattle.std.proofs.lemmas.List.{get_or-map, map_push, take_at, take-append-le, get_or_append_left, get_or_push, length_push, length-append, length-map}
@@ -9,13 +9,13 @@ use Rattle.std.proofs.lemmas.List.Elements.{All-contains, All-push}
 use Rattle.cnf_core.specs.declared.literal.Lit.{Lit}
 use Rattle.cnf_core.specs.declared.line.Line.{Line}
 use Rattle.cnf_core.specs.Formula.{Formula, IsLitOf, AreOver, assigned, lit_true, clause_true}
-use Rattle.cnf_core.specs.Values.{IsClosed}
-use Rattle.cnf_core.specs.Refutation.{known, IsAccepted, AreAccepted, IsFresh}
+use Rattle.cnf_core.specs.Values.{partial_of, IsFalseClause, IsClosed}
+use Rattle.cnf_core.specs.Refutation.{known, clause_at, Reaches, refuted, AreNames, IsAccepted, AreAccepted, Refutes, HaveNoSolution, IsFresh}
 use Rattle.cnf_core.specs.Outcome.{IsSolved, IsRefuted, IsSpent}
 use Rattle.sat_core.specs.declared.trail.Trail.{Trail}
-use Rattle.sat_core.specs.Steps.{given, vars_of, IsState, AreClosedBefore}
+use Rattle.sat_core.specs.Steps.{given, vars_of, IsTrailState, AreClosedBefore}
 use Rattle.sat_core.specs.Picks.{free_list}
-use Rattle.sat_core.specs.Conflicts.{IsShown, GoesOn}
+use Rattle.sat_core.specs.Conflicts.{GoesOn}
 use Rattle.sat_core.proofs.Holding.{some-same}
 use Rattle.sat_core.proofs.Picking.{none-free}
 use Rattle.sat_core.proofs.Bound.{AreFresh, fresh-few}
@@ -29,7 +29,7 @@ pub record IsSearch (f : Formula) (lines : List Line) (clauses : List (List Lit)
   pub known' : clauses ≡ known f.clauses lines
   pub exist : AreOver f.vars clauses
   pub vars : vars_of trail ≡ f.vars
-  pub state : IsState clauses (vars_of trail) trail
+  pub state : IsTrailState clauses (vars_of trail) trail
   pub before : AreClosedBefore clauses trail.steps.items
   pub accepted : AreAccepted f lines
   pub fresh : AreFreshLines f lines
@@ -43,14 +43,14 @@ known-push clauses lines line =
     ∙ sym (append_assoc clauses (map (λ (l : Line). l.lits) lines) (line.lits ∷ []))
 
 -- at the start
-pub search-none : (f : Formula) (clauses : List (List Lit)) (trail : Trail) → clauses ≡ f.clauses → AreOver f.vars f.clauses → ((cs : List (List Lit)) → IsState cs f.vars trail) → trail.steps.items ≡ [] → IsSearch f [] clauses trail
+pub search-none : (f : Formula) (clauses : List (List Lit)) (trail : Trail) → clauses ≡ f.clauses → AreOver f.vars f.clauses → ((cs : List (List Lit)) → IsTrailState cs f.vars trail) → trail.steps.items ≡ [] → IsSearch f [] clauses trail
 search-none f clauses trail is over state none =
     let size = (state clauses).size in
     record {
       known' = is ∙ sym (append-nil f.clauses);
       exist = subst (AreOver f.vars) (sym is) over;
       vars = size;
-      state = subst (λ (n : ℕ). IsState clauses n trail) (sym size) (state clauses);
+      state = subst (λ (n : ℕ). IsTrailState clauses n trail) (sym size) (state clauses);
       before = subst (AreClosedBefore clauses) (sym none) (λ k d few. absurd (omega (arith, few)));
       accepted = λ k d few. absurd (omega (arith, few));
       fresh = λ k d few. absurd (omega (arith, few));
@@ -70,34 +70,41 @@ each-push P lines line each last k d few =
           (subst (P lines) (sym (get_or_push lines line d k here)) last))
     ]
 
--- a line that is shown by the clauses so far is accepted
-shown-accepted : (f : Formula) (lines : List Line) (clauses : List (List Lit)) (line : Line) → clauses ≡ known f.clauses lines → IsShown clauses f.vars line → IsAccepted f lines line
+-- there is a last hint, and it is false once those before it made their literals true
+abbrev EndIn : List (List Lit) → Line → Type 0
+EndIn cs line =
+    (t : List Lit)
+    × Reaches cs (refuted line.lits) (take (length line.hints - 1) line.hints) t
+    × (1 ≤ length line.hints)
+    × IsFalseClause (partial_of t) (clause_at cs (slice_index line.hints (length line.hints - 1)))
+
+-- a line that is accepted after the clauses so far is accepted after the formula and the lines
+shown-accepted : (f : Formula) (lines : List Line) (clauses : List (List Lit)) (line : Line) → clauses ≡ known f.clauses lines → IsAccepted (record { vars = f.vars; clauses = clauses }) [] line → IsAccepted f lines line
 shown-accepted f lines clauses line is shown =
-    let s = subst (λ (cs : List (List Lit)). IsShown cs f.vars line) is shown in
-    let size = length-known f.clauses lines in
+    let size : length clauses + 0 ≡ length f.clauses + length lines = omega (arith, ap length is ∙ length-known f.clauses lines) in
     record {
-      numbered = s.numbered ∙ ap (λ (n : ℕ). n + 1) size;
+      numbered = shown.numbered ∙ ap (λ (n : ℕ). n + 1) size;
       named = record {
-        exist = s.exist;
-        differ = s.differ;
-        hints = subst (λ (n : ℕ). All (λ h. (1 ≤ h) × (h ≤ n)) line.hints) size s.hints;
+        exist = shown.named.exist;
+        differ = shown.named.differ;
+        hints = subst (λ (n : ℕ). AreNames n line.hints) size shown.named.hints;
       };
-      ends = s.ends;
+      ends = subst (λ (cs : List (List Lit)). EndIn cs line) (append-nil clauses ∙ is) shown.ends;
     }
 
 -- **the search goes on with one line more**
 pub search-more : (f : Formula) (lines lines' : List Line) (clauses clauses' : List (List Lit)) (old new : Trail) (line : Line)
-    → IsSearch f lines clauses old → vars_of new ≡ vars_of old → IsShown clauses (vars_of old) line → GoesOn clauses (vars_of old) line.lits new
+    → IsSearch f lines clauses old → vars_of new ≡ vars_of old → IsAccepted (record { vars = vars_of old; clauses = clauses }) [] line → GoesOn clauses (vars_of old) line.lits new
     → clauses' ≡ clauses ++ line.lits ∷ [] → lines' ≡ lines ++ line ∷ [] → IsSearch f lines' clauses' new
 search-more f lines lines' clauses clauses' old new line h same-vars shown' on is-clauses is-lines =
-    let shown = subst (λ (n : ℕ). IsShown clauses n line) h.vars shown' in
+    let shown = subst (λ (n : ℕ). IsAccepted (record { vars = n; clauses = clauses }) [] line) h.vars shown' in
     subst (λ (ls : List Line). IsSearch f ls clauses' new) (sym is-lines)
     (subst (λ (cs : List (List Lit)). IsSearch f (lines ++ line ∷ []) cs new) (sym is-clauses)
     (record {
       known' = ap (λ (cs : List (List Lit)). cs ++ line.lits ∷ []) h.known' ∙ sym (known-push f.clauses lines line);
-      exist = All-push (All (IsLitOf f.vars)) clauses line.lits h.exist shown.exist;
+      exist = All-push (All (IsLitOf f.vars)) clauses line.lits h.exist shown.named.exist;
       vars = same-vars ∙ h.vars;
-      state = subst (λ (n : ℕ). IsState (clauses ++ line.lits ∷ []) n new) (sym same-vars) on.state;
+      state = subst (λ (n : ℕ). IsTrailState (clauses ++ line.lits ∷ []) n new) (sym same-vars) on.state;
       before = on.before;
       accepted = each-push (IsAccepted f) lines line h.accepted (shown-accepted f lines clauses line h.known' shown);
       fresh = each-push (λ (front : List Line) (l : Line). IsFresh (known f.clauses front) l.lits) lines line h.fresh (subst (λ (cs : List (List Lit)). IsFresh cs line.lits) h.known' on.fresh);
@@ -105,32 +112,35 @@ search-more f lines lines' clauses clauses' old new line h same-vars shown' on i
 
 -- **an empty lemma ends a refutation**
 pub search-refuted : (f : Formula) (lines lines' : List Line) (clauses : List (List Lit)) (trail : Trail) (line : Line) (made conflicts : ℕ)
-    → IsSearch f lines clauses trail → IsShown clauses (vars_of trail) line → line.lits ≡ [] → lines' ≡ lines ++ line ∷ [] → length lines ≡ made → made < conflicts
+    → ((g : Formula) (ls : List Line) → Refutes g ls → HaveNoSolution g.clauses)
+    → IsSearch f lines clauses trail → IsAccepted (record { vars = vars_of trail; clauses = clauses }) [] line → line.lits ≡ [] → lines' ≡ lines ++ line ∷ [] → length lines ≡ made → made < conflicts
     → IsRefuted f conflicts lines'
-search-refuted f lines lines' clauses trail line made conflicts h shown' empty is-lines count below =
-    let shown = subst (λ (n : ℕ). IsShown clauses n line) h.vars shown' in
+search-refuted f lines lines' clauses trail line made conflicts law h shown' empty is-lines count below =
+    let shown = subst (λ (n : ℕ). IsAccepted (record { vars = n; clauses = clauses }) [] line) h.vars shown' in
     let long = length_push lines line in
     let all = lines ++ line ∷ [] in
+    let refutes : Refutes f all = record {
+      some = omega arith;
+      accepted = each-push (IsAccepted f) lines line h.accepted (shown-accepted f lines clauses line h.known' shown);
+      placed = λ k d few. elim (cases_lt k (length lines)) [
+        | inl before ↦
+            (let at = get_or_append_left lines (line ∷ []) d k before in
+            let fresh = h.fresh k d before in (
+              (λ none. (let some = fresh.some in let n = ap length (sym (ap (λ (l : Line). l.lits) at) ∙ none) in absurd (omega arith))),
+              (λ last. absurd (omega arith)),
+            ))
+        | inr at ↦
+            (let here : length lines ≡ k = omega arith in (
+              (λ none. omega arith),
+              (λ last. ap (λ (l : Line). l.lits) (get_or_push lines line d k here) ∙ empty),
+            ))
+      ];
+    } in
     subst (λ (ls : List Line). IsRefuted f conflicts ls) (sym is-lines)
     (record {
       few = omega arith;
-      refutes = record {
-        some = omega arith;
-        accepted = each-push (IsAccepted f) lines line h.accepted (shown-accepted f lines clauses line h.known' shown);
-        placed = λ k d few. elim (cases_lt k (length lines)) [
-          | inl before ↦
-              (let at = get_or_append_left lines (line ∷ []) d k before in
-              let fresh = h.fresh k d before in (
-                (λ none. (let some = fresh.some in let n = ap length (sym (ap (λ (l : Line). l.lits) at) ∙ none) in absurd (omega arith))),
-                (λ last. absurd (omega arith)),
-              ))
-          | inr at ↦
-              (let here : length lines ≡ k = omega arith in (
-                (λ none. omega arith),
-                (λ last. ap (λ (l : Line). l.lits) (get_or_push lines line d k here) ∙ empty),
-              ))
-        ];
-      };
+      refutes = refutes;
+      none = law f all refutes;
     })
 
 lits-few : (f : Formula) (lines : List Line) → AreFreshLines f lines → AreAccepted f lines → AreFresh f.vars f.clauses (map (λ (l : Line). l.lits) lines)
@@ -209,13 +219,13 @@ search-solved f lines clauses n values all is over size closed empty is-all =
     })
 
 -- the trail moved on between two conflicts
-pub search-moved : (f : Formula) (lines : List Line) (clauses : List (List Lit)) (old new : Trail) → IsSearch f lines clauses old → IsState clauses (vars_of old) new → AreClosedBefore clauses new.steps.items → IsSearch f lines clauses new
+pub search-moved : (f : Formula) (lines : List Line) (clauses : List (List Lit)) (old new : Trail) → IsSearch f lines clauses old → IsTrailState clauses (vars_of old) new → AreClosedBefore clauses new.steps.items → IsSearch f lines clauses new
 search-moved f lines clauses old new h state before =
     record {
       known' = h.known';
       exist = h.exist;
       vars = state.size ∙ h.vars;
-      state = subst (λ (n : ℕ). IsState clauses n new) (sym state.size) state;
+      state = subst (λ (n : ℕ). IsTrailState clauses n new) (sym state.size) state;
       before = before;
       accepted = h.accepted;
       fresh = h.fresh;

@@ -1,7 +1,7 @@
 -- The walk back along the trail: a step that isn't needed, that is kept, that is resolved.
 use Rattle.std.proofs.Common.{◌≡◌, ◌≢◌, ℕ, ◌+◌, ◌-◌, ◌<◌, ◌≤◌, ◌⊎◌, Bool, true, false, not, List, [], ◌∷◌, ◌++◌, length, take, set, get_or, refl, sym, ap, ◌∙◌, subst, arith, inl, inr, Option, Some, None}
 use Rattle.std.specs.Prelude.{is_none, nat_le, ◌&&◌}
-use Rattle.std.specs.List.{All, AllPairs}
+use Rattle.std.specs.List.{All}
 use Rattle.std.proofs.lemmas.Bool.{cases_Bool, cases_eq, cases_lt, cond-true, cond-false, false≢true}
 use Rattle.std.proofs.lemmas.List.{length-set, get_or-take, length-take, get_or_default}
 use Rattle.std.proofs.lemmas.List.Elements.{All-nil, All-push, All-weaker, Contains-append_left}
@@ -9,12 +9,11 @@ use Rattle.std.proofs.lemmas.List.Quantifiers.{all_pairs_push}
 use Rattle.cnf_core.specs.declared.literal.Lit.{Lit}
 use Rattle.cnf_core.specs.Formula.{IsLitOf, AreOver, negated}
 use Rattle.cnf_core.specs.Values.{Partial, IsFalse, IsOpenClause}
-use Rattle.cnf_core.specs.Refutation.{clause_at}
+use Rattle.cnf_core.specs.Refutation.{clause_at, AreNames, HaveDifferentVars}
 use Rattle.sat_core.specs.declared.trail.Step.{Step}
 use Rattle.sat_core.specs.declared.conflict.Analysis.{Analysis}
 use Rattle.sat_core.specs.Steps.{held, IsReason, AreSteps}
-use Rattle.sat_core.specs.Conflicts.{Apart, AreNames}
-use Rattle.sat_core.specs.Walks.{place_of, IsStepOf, is_marked, late_count, AreClear, IsLastDecision, IsFirstDecision, IsKeptAt, Keeps, Resolves, IsAsserting, IsWalked, Stays, stay_of}
+use Rattle.sat_core.specs.Walks.{step_place, IsStepOf, is_marked, last_level_count, AreClear, IsLastDecision, IsFirstDecision, IsKeptAt, Keeps, Resolves, IsAsserting, IsWalked, IsBackjump, backjump_after}
 use Rattle.sat_core.proofs.Holding.{held-at, step-of, free-before}
 use Rattle.sat_core.proofs.States.{clause-exists}
 use Rattle.sat_core.proofs.Leading.{others-later}
@@ -55,12 +54,12 @@ clear-late i last needed low clear k above = clear k (omega arith)
 -- no step of the last level but this one was needed
 kept-late : (clauses : List (List Lit)) (n : ℕ) (steps : List Step) (i first : ℕ) (d : Step) (a b : Analysis)
     → IsLastDecision steps a.last → i < length steps → IsWalked clauses n steps (i + 1) a → is_marked a.needed.items i ≡ true
-    → ((get_or steps i d).reason ≡ None) ⊎ IsKeptAt first a.last a.late i → Keeps i (get_or steps i d).lit a b → b.late ≡ 0
+    → ((get_or steps i d).reason ≡ None) ⊎ IsKeptAt first a.last a.at_last_level i → Keeps i (get_or steps i d).lit a b → b.at_last_level ≡ 0
 kept-late clauses n steps i first d a b last few h marked why k =
     let size = h.size in
     let needed = a.needed.items in
-    let now : b.late ≡ late_count a.last (set needed i false) =
-    k.late ∙ ap (λ (m : ℕ). late_count m b.needed.items) k.last ∙ ap (late_count a.last) k.needed in
+    let now : b.at_last_level ≡ last_level_count a.last (set needed i false) =
+    k.at_last_level ∙ ap (λ (m : ℕ). last_level_count m b.needed.items) k.last ∙ ap (last_level_count a.last) k.needed in
     elim (cases_lt i a.last) [
       | inl early ↦
           (let e = late_early a.last i needed false early in
@@ -69,7 +68,7 @@ kept-late clauses n steps i first d a b last few h marked why k =
       | inr low ↦
           (let e = late_unmarked a.last i needed (omega arith) low marked in
           let count = h.count in
-          let is-one : late_count a.last needed ≡ 1 = elim why [
+          let is-one : last_level_count a.last needed ≡ 1 = elim why [
             | inl decides ↦
                 (let at : i ≡ a.last = elim (cases_eq i a.last) [
                   | inl same ↦ same
@@ -87,7 +86,7 @@ kept-late clauses n steps i first d a b last few h marked why k =
 -- **a step that is kept**
 pub walked-keep : (clauses : List (List Lit)) (n : ℕ) (steps : List Step) (values : List (Option Bool)) (places : List ℕ) (i first : ℕ) (d : Step) (a b : Analysis)
     → AreSteps clauses n steps values places → IsFirstDecision steps first → IsLastDecision steps a.last → i < length steps
-    → IsWalked clauses n steps (i + 1) a → is_marked a.needed.items i ≡ true → ((get_or steps i d).reason ≡ None) ⊎ IsKeptAt first a.last a.late i
+    → IsWalked clauses n steps (i + 1) a → is_marked a.needed.items i ≡ true → ((get_or steps i d).reason ≡ None) ⊎ IsKeptAt first a.last a.at_last_level i
     → Keeps i (get_or steps i d).lit a b → IsWalked clauses n steps i b
 walked-keep clauses n steps values places i first d a b s is-first last few h marked why k =
     let l = (get_or steps i d).lit in
@@ -98,12 +97,12 @@ walked-keep clauses n steps values places i first d a b s is-first last few h ma
     record {
       size = ap length k.needed ∙ length-set a.needed.items i false ∙ size;
       clear = subst (AreClear i) (sym k.needed) (clear-unmarked i a.needed.items (omega arith) h.clear);
-      count = k.late;
+      count = k.at_last_level;
       exist = subst (All (IsLitOf n)) (sym k.lits) (All-push (IsLitOf n) a.lits.items (negated l) h.exist (record { above = at.above; within = at.within }));
       free = subst (All (λ (m : Lit). held (take i steps) m.var ≡ None)) (sym k.lits)
           (All-push (λ (m : Lit). held (take i steps) m.var ≡ None) a.lits.items (negated l) (free-weaker steps i a.lits.items h.free) free-i);
-      differ = subst (AllPairs Apart) (sym k.lits) (all_pairs_push Apart a.lits.items (negated l) h.differ (others-later clauses steps i d a.lits.items s.trail few h.free));
-      names = subst (AreNames clauses) (sym k.hints) h.names;
+      differ = subst (HaveDifferentVars) (sym k.lits) (all_pairs_push (λ (l m : Lit). l.var ≢ m.var) a.lits.items (negated l) h.differ (others-later clauses steps i d a.lits.items s.trail few h.free));
+      names = subst (AreNames (length clauses)) (sym k.hints) h.names;
       many = λ some in-level. absurd (omega arith);
       one = λ none in-level'.
           (let in-level : a.last < length steps = (let e = k.last in omega arith) in
@@ -151,8 +150,8 @@ reason-steps clauses n steps values places i id d s over few reason k e few' =
     let at = clause-exists clauses n id over reason.low reason.high k e few' in
     let high = at.within in
     let slots = s.slots in
-    let before : place_of places m < i + 1 = elim (reason.unit.others k e few') [
-      | inl same ↦ (let p = ap (place_of places) same ∙ s.placed i d few in omega arith)
+    let before : step_place places m < i + 1 = elim (reason.unit.others k e few') [
+      | inl same ↦ (let p = ap (step_place places) same ∙ s.placed i d few in omega arith)
       | inr false' ↦
           (let (j, few-j, is) = step-of (take i steps) m.var (not m.positive) false' in
           let size = length-take i steps in
@@ -166,22 +165,22 @@ reason-steps clauses n steps values places i id d s over few reason k e few' =
 -- **a step that is resolved**
 pub walked-resolve : (clauses : List (List Lit)) (n : ℕ) (steps : List Step) (values : List (Option Bool)) (places : List ℕ) (i id : ℕ) (d : Step) (a b : Analysis)
     → AreSteps clauses n steps values places → AreOver n clauses → i < length steps → IsWalked clauses n steps (i + 1) a → is_marked a.needed.items i ≡ true
-    → IsReason (held (take i steps)) clauses id (get_or steps i d).lit → (a.last ≤ i → a.late ≢ 1) → Resolves clauses places id i a b → IsWalked clauses n steps i b
+    → IsReason (held (take i steps)) clauses id (get_or steps i d).lit → (a.last ≤ i → a.at_last_level ≢ 1) → Resolves clauses places id i a b → IsWalked clauses n steps i b
 walked-resolve clauses n steps values places i id d a b s over few h marked reason more r =
     let size = h.size in
     let mid-size = r.needs.size in
     let count = h.count in
     let added = r.needs.count in
     let mid-clear : AreClear (i + 1) r.mid = r.needs.only (i + 1) (reason-steps clauses n steps values places i id d s over few reason) h.clear in
-    let now : b.late ≡ late_count a.last (set r.mid i false) = r.late ∙ ap (λ (m : ℕ). late_count m b.needed.items) r.last ∙ ap (late_count a.last) r.needed in
+    let now : b.at_last_level ≡ last_level_count a.last (set r.mid i false) = r.at_last_level ∙ ap (λ (m : ℕ). last_level_count m b.needed.items) r.last ∙ ap (last_level_count a.last) r.needed in
     record {
       size = ap length r.needed ∙ length-set r.mid i false ∙ mid-size ∙ size;
       clear = subst (AreClear i) (sym r.needed) (clear-unmarked i r.mid (omega arith) mid-clear);
-      count = r.late;
+      count = r.at_last_level;
       exist = subst (All (IsLitOf n)) (sym r.lits) h.exist;
       free = subst (All (λ (m : Lit). held (take i steps) m.var ≡ None)) (sym r.lits) (free-weaker steps i a.lits.items h.free);
-      differ = subst (AllPairs Apart) (sym r.lits) h.differ;
-      names = subst (AreNames clauses) (sym r.hints) (All-push (λ x. (1 ≤ x) × (x ≤ length clauses)) a.hints.items id h.names (reason.low, reason.high));
+      differ = subst (HaveDifferentVars) (sym r.lits) h.differ;
+      names = subst (AreNames (length clauses)) (sym r.hints) (All-push (λ x. (1 ≤ x) × (x ≤ length clauses)) a.hints.items id h.names (reason.low, reason.high));
       many = λ some in-level'.
           (let in-level : a.last < length steps = (let e = r.last in omega arith) in
           elim (cases_lt i a.last) [
@@ -218,7 +217,7 @@ open-append s c more o =
     ]
 
 -- two literals of different free variables
-open-two : (s : Partial) (c : List Lit) → 2 ≤ length c → AllPairs Apart c → All (λ (l : Lit). s l.var ≡ None) c → IsOpenClause s c
+open-two : (s : Partial) (c : List Lit) → 2 ≤ length c → HaveDifferentVars c → All (λ (l : Lit). s l.var ≡ None) c → IsOpenClause s c
 open-two s c few differ free =
     let d : Lit = record { var = 0; positive = false } in
     let l = get_or c 0 d in
@@ -237,22 +236,22 @@ not-le : (n : ℕ) → nat_le n 1 ≡ false → 2 ≤ n
 not-le n e = grind arith
 
 -- **before each decision that stays, from this step on, the lemma is open**
-pub stays-more : (clauses : List (List Lit)) (n : ℕ) (steps : List Step) (i : ℕ) (d : Step) (stay stay' : ℕ) (lits lits' more : List Lit) (b : Analysis)
-    → IsWalked clauses n steps i b → b.lits.items ≡ lits' → lits' ≡ lits ++ more → i < length steps → stay' ≡ stay_of (get_or steps i d) (length lits') i stay
-    → Stays steps (i + 1) stay lits → Stays steps i stay' lits'
-stays-more clauses n steps i d stay stay' lits lits' more b h is-b is few is-stay before k e low below few' decides =
+pub stays-more : (clauses : List (List Lit)) (n : ℕ) (steps : List Step) (i : ℕ) (d : Step) (backjump backjump' : ℕ) (lits lits' more : List Lit) (b : Analysis)
+    → IsWalked clauses n steps i b → b.lits.items ≡ lits' → lits' ≡ lits ++ more → i < length steps → backjump' ≡ backjump_after (get_or steps i d) (length lits') i backjump
+    → IsBackjump steps (i + 1) backjump lits → IsBackjump steps i backjump' lits'
+stays-more clauses n steps i d backjump backjump' lits lits' more b h is-b is few is-stay before k e low below few' decides =
     let step = get_or steps i d in
     let test = is_none step.reason && nat_le (length lits') 1 in
     elim (cases_Bool test) [
-      | inl aims ↦ (let at : stay' ≡ i = is-stay ∙ cond-true test i stay aims in absurd (omega arith))
+      | inl aims ↦ (let at : backjump' ≡ i = is-stay ∙ cond-true test i backjump aims in absurd (omega arith))
       | inr stays ↦
-          (let at : stay' ≡ stay = is-stay ∙ cond-false test i stay stays in
+          (let at : backjump' ≡ backjump = is-stay ∙ cond-false test i backjump stays in
           elim (cases_eq k i) [
             | inl same ↦
                 (let here : step.reason ≡ None = ap (λ (x : Step). x.reason) (get_or_default steps i d e few) ∙ ap (λ (j : ℕ). (get_or steps j e).reason) (sym same) ∙ decides in
                 let long : nat_le (length lits') 1 ≡ false = and-right (is_none step.reason) (nat_le (length lits') 1) (ap is_none here) stays in
                 let free = subst (All (λ (l : Lit). held (take i steps) l.var ≡ None)) is-b h.free in
-                let differ = subst (AllPairs Apart) is-b h.differ in
+                let differ = subst (HaveDifferentVars) is-b h.differ in
                 subst (λ (j : ℕ). IsOpenClause (held (take j steps)) lits') (sym same)
                 (open-two (held (take i steps)) lits' (not-le (length lits') long) differ free))
             | inr other ↦

@@ -1,19 +1,11 @@
--- What a look at one clause, and at all clauses, says of them under some values: this project; no public clause cites it.
+-- What a look at all clauses says of them under some values: this project; no public clause cites it.
 use Rattle.std.specs.Prelude.{ℕ, ◌-◌, ◌≤◌, List, length, if◌then◌else◌, nat_lt}
 use Rattle.cnf_core.specs.declared.literal.Lit.{Lit}
-use Rattle.cnf_core.specs.Values.{Partial, IsUnit, IsFalseClause, IsOpenClause, IsClosed}
+use Rattle.cnf_core.specs.Values.{Partial, IsFalseClause, IsClosed}
 use Rattle.cnf_core.specs.Refutation.{clause_at}
-use Rattle.sat_core.specs.declared.propagation.Look.{Look}
-use Rattle.sat_core.specs.declared.propagation.Look.TheVariants.{Unit as UnitLook, Falsified, Open}
 use Rattle.sat_core.specs.declared.propagation.Found.{Found}
 use Rattle.sat_core.specs.declared.propagation.Found.TheVariants.{Reason, Conflict, Closed}
 use Rattle.sat_core.specs.Steps.{IsReason}
-
--- what a look says of a clause
-abbrev pub LookSays : Partial → List Lit → Look → Type 0
-LookSays s c (UnitLook l) = IsUnit s c l
-LookSays s c Falsified = IsFalseClause s c
-LookSays s c Open = IsOpenClause s c
 
 -- the clause with this id is false
 pub record IsFalsified (s : Partial) (clauses : List (List Lit)) (id : ℕ) : Type 0 where

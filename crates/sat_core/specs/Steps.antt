@@ -4,7 +4,7 @@ use Rattle.std.specs.Prelude.{◌≡◌, ◌≢◌, ℕ, ◌+◌, ◌-◌, ◌<�
 use Rattle.std.specs.List.{slice_index_or, All, count_by}
 use Rattle.cnf_core.specs.declared.literal.Lit.{Lit}
 use Rattle.cnf_core.specs.Formula.{IsLitOf}
-use Rattle.cnf_core.specs.Values.{Partial, value_in, IsFree, IsUnit, IsClosed}
+use Rattle.cnf_core.specs.Values.{Partial, partial_of, IsUnassigned, IsUnit, IsClosed}
 use Rattle.cnf_core.specs.Refutation.{clause_at}
 use Rattle.sat_core.specs.declared.trail.Step.{Step}
 use Rattle.sat_core.specs.declared.trail.Trail.{Trail}
@@ -19,7 +19,7 @@ lits_of steps = map (λ (s : Step). s.lit) steps
 
 -- the values that the steps gave
 abbrev pub held : List Step → Partial
-held steps = value_in (lits_of steps)
+held steps = partial_of (lits_of steps)
 
 -- the clause with this id is unit for the literal
 pub record IsReason (s : Partial) (clauses : List (List Lit)) (id : ℕ) (l : Lit) : Type 0 where
@@ -29,7 +29,7 @@ pub record IsReason (s : Partial) (clauses : List (List Lit)) (id : ℕ) (l : Li
 
 -- a step makes a free literal true, by decision or by a clause that is unit for it under the steps before it
 pub record IsRightStep (clauses : List (List Lit)) (before : List Step) (step : Step) : Type 0 where
-  pub free : IsFree (held before) step.lit
+  pub free : IsUnassigned (held before) step.lit
   pub forced : (id : ℕ) → step.reason ≡ Some id → IsReason (held before) clauses id step.lit
 
 -- the steps are right, one after another
@@ -46,8 +46,8 @@ pub record AreSteps (clauses : List (List Lit)) (n : ℕ) (steps : List Step) (v
   pub slots : length places ≡ n
   pub placed : (k : ℕ) (d : Step) → k < length steps → slice_index places ((slice_index_or steps k d).lit.var - 1) ≡ k
 
-abbrev pub IsState : List (List Lit) → ℕ → Trail → Type 0
-IsState clauses n trail = AreSteps clauses n trail.steps.items trail.values.items trail.places.items
+abbrev pub IsTrailState : List (List Lit) → ℕ → Trail → Type 0
+IsTrailState clauses n trail = AreSteps clauses n trail.steps.items trail.values.items trail.places.items
 
 -- how many variables there are
 abbrev pub vars_of : Trail → ℕ

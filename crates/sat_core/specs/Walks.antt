@@ -1,31 +1,30 @@
 -- The walk back along the trail that finds the lemma of a conflict: this project; no public clause cites it.
 use Rattle.std.specs.Prelude.{◌≡◌, ◌≢◌, ℕ, ◌+◌, ◌-◌, ◌<◌, ◌≤◌, ◌⊎◌, Bool, true, false, List, [], ◌∷◌, ◌++◌, length, take, drop, None, is_none, nat_le, ◌&&◌, if◌then◌else◌, slice_index, slice_set}
-use Rattle.std.specs.List.{slice_index_or, All, AllPairs, count_by}
+use Rattle.std.specs.List.{slice_index_or, All, count_by}
 use Rattle.cnf_core.specs.declared.literal.Lit.{Lit}
 use Rattle.cnf_core.specs.Formula.{IsLitOf, negated}
-use Rattle.cnf_core.specs.Values.{Partial, value_in, IsHeld, IsFree, IsFalse, IsFalseClause, IsOpenClause}
-use Rattle.cnf_core.specs.Refutation.{clause_at, Reaches, refuted}
+use Rattle.cnf_core.specs.Values.{Partial, partial_of, IsHeld, IsUnassigned, IsFalse, IsFalseClause, IsOpenClause}
+use Rattle.cnf_core.specs.Refutation.{clause_at, Reaches, refuted, AreNames, HaveDifferentVars}
 use Rattle.sat_core.specs.declared.trail.Step.{Step}
 use Rattle.sat_core.specs.declared.conflict.Analysis.{Analysis}
 use Rattle.sat_core.specs.Steps.{held}
-use Rattle.sat_core.specs.Conflicts.{Apart, AreNames}
 
 -- the place of a literal's step
-abbrev pub place_of : List ℕ → Lit → ℕ
-place_of places l = slice_index places (l.var - 1)
+abbrev pub step_place : List ℕ → Lit → ℕ
+step_place places l = slice_index places (l.var - 1)
 
 -- it is among the first n
 pub record IsStepOf (places : List ℕ) (n : ℕ) (l : Lit) : Type 0 where
   pub above : 1 ≤ l.var
   pub within : l.var ≤ length places
-  pub before : place_of places l < n
+  pub before : step_place places l < n
 
 abbrev pub is_marked : List Bool → ℕ → Bool
 is_marked needed k = slice_index_or needed k false
 
 -- how many places from `last` on are marked
-unfoldable pub late_count : ℕ → List Bool → ℕ
-late_count last needed = count_by (λ b. b) (drop last needed)
+unfoldable pub last_level_count : ℕ → List Bool → ℕ
+last_level_count last needed = count_by (λ b. b) (drop last needed)
 
 -- no place from n on is marked
 abbrev pub AreClear : ℕ → List Bool → Type 0
@@ -35,9 +34,9 @@ AreClear n needed = (k : ℕ) → n ≤ k → is_marked needed k ≡ false
 pub record Needs (places : List ℕ) (front clause : List Lit) (last : ℕ) (old new : List Bool) (added : ℕ) : Type 0 where
   pub size : length new ≡ length old
   pub keeps : (k : ℕ) → is_marked old k ≡ true → is_marked new k ≡ true
-  pub all : All (λ l. is_marked new (place_of places l) ≡ true) front
+  pub all : All (λ l. is_marked new (step_place places l) ≡ true) front
   pub only : (n : ℕ) → All (IsStepOf places n) clause → AreClear n old → AreClear n new
-  pub count : late_count last new ≡ late_count last old + added
+  pub count : last_level_count last new ≡ last_level_count last old + added
 
 -- all steps are by clauses
 abbrev pub AreForced : List Step → Type 0
@@ -56,16 +55,16 @@ IsFirstDecision steps first = (d : Step) → first < length steps → (slice_ind
 
 -- why a needed step is kept: it is the only one of the last level, or of an earlier one
 abbrev pub IsKeptAt : ℕ → ℕ → ℕ → ℕ → Type 0
-IsKeptAt first last late place = ((last ≤ place) × (late ≡ 1)) ⊎ ((place < last) × (first ≤ place))
+IsKeptAt first last at_last_level place = ((last ≤ place) × (at_last_level ≡ 1)) ⊎ ((place < last) × (first ≤ place))
 
 -- the step at a place was kept: the opposite of its literal is in the lemma
 pub record Keeps (place : ℕ) (lit : Lit) (old new : Analysis) : Type 0 where
   pub needed : new.needed.items ≡ slice_set old.needed.items place false
-  pub late : new.late ≡ late_count new.last new.needed.items
+  pub at_last_level : new.at_last_level ≡ last_level_count new.last new.needed.items
   pub lits : new.lits.items ≡ old.lits.items ++ negated lit ∷ []
   pub hints : new.hints.items ≡ old.hints.items
   pub last : new.last ≡ old.last
-  pub stay : new.stay ≡ old.stay
+  pub backjump : new.backjump ≡ old.backjump
 
 -- the step at a place was resolved with the clause that has this id
 pub record Resolves (clauses : List (List Lit)) (places : List ℕ) (id place : ℕ) (old new : Analysis) : Type 0 where
@@ -73,53 +72,53 @@ pub record Resolves (clauses : List (List Lit)) (places : List ℕ) (id place : 
   pub added : ℕ
   pub needs : Needs places (clause_at clauses id) (clause_at clauses id) old.last old.needed.items mid added
   pub needed : new.needed.items ≡ slice_set mid place false
-  pub late : new.late ≡ late_count new.last new.needed.items
+  pub at_last_level : new.at_last_level ≡ last_level_count new.last new.needed.items
   pub lits : new.lits.items ≡ old.lits.items
   pub hints : new.hints.items ≡ old.hints.items ++ id ∷ []
   pub last : new.last ≡ old.last
-  pub stay : new.stay ≡ old.stay
+  pub backjump : new.backjump ≡ old.backjump
 
 -- one literal is free and all after it are false
 pub record IsAsserting (s : Partial) (lits : List Lit) : Type 0 where
   pub first : Lit
   pub rest : List Lit
   pub is : lits ≡ first ∷ rest
-  pub free : IsFree s first
+  pub free : IsUnassigned s first
   pub false' : All (IsFalse s) rest
 
 -- what the walk keeps, once it looked at the steps from i on
 pub record IsWalked (clauses : List (List Lit)) (n : ℕ) (steps : List Step) (i : ℕ) (a : Analysis) : Type 0 where
   pub size : length a.needed.items ≡ length steps
   pub clear : AreClear i a.needed.items
-  pub count : a.late ≡ late_count a.last a.needed.items
+  pub count : a.at_last_level ≡ last_level_count a.last a.needed.items
   pub exist : All (IsLitOf n) a.lits.items
   pub free : All (λ l. held (take i steps) l.var ≡ None) a.lits.items
-  pub differ : AllPairs Apart a.lits.items
-  pub names : AreNames clauses a.hints.items
-  pub many : 1 ≤ a.late → a.last < length steps → a.lits.items ≡ []
-  pub one : a.late ≡ 0 → a.last < length steps → IsAsserting (held (take a.last steps)) a.lits.items
+  pub differ : HaveDifferentVars a.lits.items
+  pub names : AreNames (length clauses) a.hints.items
+  pub many : 1 ≤ a.at_last_level → a.last < length steps → a.lits.items ≡ []
+  pub one : a.at_last_level ≡ 0 → a.last < length steps → IsAsserting (held (take a.last steps)) a.lits.items
   pub root : AreForced steps → a.lits.items ≡ []
 
 -- these literals hold the marked steps before i
 abbrev pub Covers : List Step → ℕ → List Bool → List Lit → Type 0
 Covers steps i needed t =
-    (k : ℕ) (d : Step) → k < i → k < length steps → is_marked needed k ≡ true → IsHeld (value_in t) (slice_index_or steps k d).lit
+    (k : ℕ) (d : Step) → k < i → k < length steps → is_marked needed k ≡ true → IsHeld (partial_of t) (slice_index_or steps k d).lit
 
 -- of other variables they hold what refutes the lemma
-abbrev pub Refutes : List Step → ℕ → List Lit → List Lit → Type 0
-Refutes steps i lits t = (x : ℕ) → held (take i steps) x ≡ None → value_in t x ≡ value_in (refuted lits) x
+abbrev pub HoldsRefuted : List Step → ℕ → List Lit → List Lit → Type 0
+HoldsRefuted steps i lits t = (x : ℕ) → held (take i steps) x ≡ None → partial_of t x ≡ partial_of (refuted lits) x
 
 -- from such literals the hints lead to the conflict
 abbrev pub Leads : List (List Lit) → List Step → ℕ → List Bool → List Lit → List ℕ → List Lit → Type 0
 Leads clauses steps i needed lits hints conflict =
-    (t : List Lit) → Covers steps i needed t → Refutes steps i lits t
-    → (u : List Lit) × Reaches clauses t hints u × IsFalseClause (value_in u) conflict
+    (t : List Lit) → Covers steps i needed t → HoldsRefuted steps i lits t
+    → (u : List Lit) × Reaches clauses t hints u × IsFalseClause (partial_of u) conflict
 
 -- under the steps before each decision from i on that stays, the lemma is open
-abbrev pub Stays : List Step → ℕ → ℕ → List Lit → Type 0
-Stays steps i stay lits =
-    (k : ℕ) (d : Step) → i ≤ k → k < stay → k < length steps → (slice_index_or steps k d).reason ≡ None → IsOpenClause (held (take k steps)) lits
+abbrev pub IsBackjump : List Step → ℕ → ℕ → List Lit → Type 0
+IsBackjump steps i backjump lits =
+    (k : ℕ) (d : Step) → i ≤ k → k < backjump → k < length steps → (slice_index_or steps k d).reason ≡ None → IsOpenClause (held (take k steps)) lits
 
--- how many steps stay after a look at one
-abbrev pub stay_of : Step → ℕ → ℕ → ℕ → ℕ
-stay_of step count place stay = if is_none step.reason && nat_le count 1 then place else stay
+-- how many steps a backjump leaves, after a look at one
+abbrev pub backjump_after : Step → ℕ → ℕ → ℕ → ℕ
+backjump_after step count place backjump = if is_none step.reason && nat_le count 1 then place else backjump

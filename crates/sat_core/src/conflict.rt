@@ -1,13 +1,14 @@
 // The line of a conflict: the first unique implication point, and how far the trail is taken back.
 ghost use Rattle.std.specs.Prelude.{◌≡◌, ◌≢◌, ◌⊎◌, ℕ, ◌+◌, ◌-◌, ◌^◌, ◌<◌, ◌≤◌, ◌↔◌, [], ◌∷◌, ◌++◌, List, Bool, Some, None, true, false, length, reverse, slice_set, IsTrue, OnOk, IfOk, MatchOption};
-ghost use Rattle.std.specs.List.{All};
+ghost use Rattle.std.specs.List.{All, slice_index_or};
+ghost use Rattle.sat_core.specs.declared.trail.Step.{Step as Taken};
 ghost use Rattle.cnf_core.specs.declared.literal.Lit.{Lit as Literal};
 ghost use Rattle.cnf_core.specs.Formula.{AreOver};
-ghost use Rattle.cnf_core.specs.Refutation.{clause_at};
-ghost use Rattle.sat_core.specs.Steps.{given, vars_of, IsState, AreClosedBefore};
+ghost use Rattle.cnf_core.specs.Refutation.{clause_at, IsAccepted};
+ghost use Rattle.sat_core.specs.Steps.{given, vars_of, IsTrailState, AreClosedBefore};
 ghost use Rattle.sat_core.specs.Looks.{IsFalsified};
-ghost use Rattle.sat_core.specs.Conflicts.{IsShown, GoesOn};
-ghost use Rattle.sat_core.specs.Walks.{is_marked, late_count, IsStepOf, Needs, IsLastDecision, IsFirstDecision, IsKeptAt, Keeps, Resolves, IsWalked, Leads, Stays, stay_of};
+ghost use Rattle.sat_core.specs.Conflicts.{GoesOn};
+ghost use Rattle.sat_core.specs.Walks.{is_marked, last_level_count, IsStepOf, Needs, IsLastDecision, IsFirstDecision, IsKeptAt, Keeps, Resolves, IsWalked, Leads, IsBackjump, backjump_after};
 
 use crate::trail::{Step, Trail};
 use cnf_core::{Clauses, Line, Lit};
@@ -20,19 +21,19 @@ struct Analysis {
     /// Of each step, whether its literal is needed and not yet resolved or kept.
     needed: Vec<bool>,
     /// How many steps of the last level are needed.
-    late: usize,
+    at_last_level: usize,
     /// The place of the last decision, or the number of steps.
     last: usize,
     /// The literals of the lemma.
     lits: Vec<Lit>,
     /// The clauses that were resolved, the last first.
     hints: Vec<u32>,
-    /// How many steps stay: up to the first decision before which all literals of the lemma but one are false already.
-    stay: usize,
+    /// How many steps a backjump leaves: those before the first decision under which the lemma is unit already.
+    backjump: usize,
 }
 
-/// The line of a conflict with the clause that has this id. Where its lemma isn't empty, the trail is taken back as far as
-/// it goes with no decision lost before which the lemma isn't unit.
+/// The line of a conflict with the clause that has this id. Where its lemma isn't empty, the trail is taken back to the
+/// first decision before which the lemma is unit already.
 pub(crate) fn learn(
     alloc: Global,
     clauses: &Clauses,
@@ -41,15 +42,15 @@ pub(crate) fn learn(
 ) -> Result<Line, NoMemory>
     requires few { length clauses.now < 2 ^ 31 }
     requires exist { AreOver (vars_of trail.old) clauses.now }
-    requires state { IsState clauses.now (vars_of trail.old) trail.old }
+    requires state { IsTrailState clauses.now (vars_of trail.old) trail.old }
     requires before { AreClosedBefore clauses.now trail.old.steps.items }
     requires falsified { IsFalsified (given trail.old.values.items) clauses.now id }
-    ensures shown { IfOk result (IsShown clauses.now (vars_of trail.old)) }
+    ensures shown { IfOk result (IsAccepted (record { vars = vars_of trail.old; clauses = clauses.now }) []) }
     ensures size { OnOk result (vars_of trail.new ≡ vars_of trail.old) }
     ensures goes_on { IfOk result (λ line. line.lits ≢ [] → GoesOn clauses.now (vars_of trail.old) line.lits trail.new) }
 {
     let analysis = analyze(alloc, clauses, trail, id)?;
-    trail.cut(analysis.stay);
+    trail.cut(analysis.backjump);
     let mut hints = analysis.hints;
     hints.reverse();
     hints.push(id)?;
@@ -64,13 +65,13 @@ pub(crate) fn learn(
 fn analyze(alloc: Global, clauses: &Clauses, trail: &Trail, id: u32) -> Result<Analysis, NoMemory>
     requires few { length clauses.now < 2 ^ 31 }
     requires exist { AreOver (vars_of trail.now) clauses.now }
-    requires state { IsState clauses.now (vars_of trail.now) trail.now }
+    requires state { IsTrailState clauses.now (vars_of trail.now) trail.now }
     requires before { AreClosedBefore clauses.now trail.now.steps.items }
     requires falsified { IsFalsified (given trail.now.values.items) clauses.now id }
     ensures last { IfOk result (λ a. IsLastDecision trail.now.steps.items a.last) }
     ensures walked { IfOk result (IsWalked clauses.now (vars_of trail.now) trail.now.steps.items 0) }
     ensures leads { IfOk result (λ a. Leads clauses.now trail.now.steps.items 0 a.needed.items a.lits.items (reverse a.hints.items) (clause_at clauses.now id)) }
-    ensures stays { IfOk result (λ a. Stays trail.now.steps.items 0 a.stay a.lits.items) }
+    ensures stays { IfOk result (λ a. IsBackjump trail.now.steps.items 0 a.backjump a.lits.items) }
 {
     let count = trail.steps.len();
     let first = first_decision(&trail.steps);
@@ -84,18 +85,18 @@ fn analyze(alloc: Global, clauses: &Clauses, trail: &Trail, id: u32) -> Result<A
 /// What is known at the end of the trail: the steps of the false clause's literals are needed.
 fn start(alloc: Global, clauses: &Clauses, trail: &Trail, id: u32) -> Result<Analysis, NoMemory>
     requires exist { AreOver (vars_of trail.now) clauses.now }
-    requires state { IsState clauses.now (vars_of trail.now) trail.now }
+    requires state { IsTrailState clauses.now (vars_of trail.now) trail.now }
     requires before { AreClosedBefore clauses.now trail.now.steps.items }
     requires falsified { IsFalsified (given trail.now.values.items) clauses.now id }
     ensures last { IfOk result (λ a. IsLastDecision trail.now.steps.items a.last) }
     ensures walked { IfOk result (IsWalked clauses.now (vars_of trail.now) trail.now.steps.items (length trail.now.steps.items)) }
     ensures leads { IfOk result (λ a. Leads clauses.now trail.now.steps.items (length trail.now.steps.items) a.needed.items a.lits.items (reverse a.hints.items) (clause_at clauses.now id)) }
-    ensures stays { IfOk result (λ a. a.stay ≡ length trail.now.steps.items) }
+    ensures stays { IfOk result (λ a. a.backjump ≡ length trail.now.steps.items) }
 {
     let count = trail.steps.len();
     let last = last_decision(&trail.steps);
     let mut needed = vec![in alloc; false; count]?;
-    let late = need(
+    let at_last_level = mark_clause(
         clauses.get((id - 1) as usize),
         &trail.places,
         last,
@@ -103,17 +104,18 @@ fn start(alloc: Global, clauses: &Clauses, trail: &Trail, id: u32) -> Result<Ana
     );
     Ok(Analysis {
         needed,
-        late,
+        at_last_level,
         last,
         lits: Vec::new(alloc),
         hints: Vec::new(alloc),
-        stay: count,
+        backjump: count,
     })
 }
 
 /// The place of the first decision, or the number of steps.
 fn first_decision(steps: &[Step]) -> usize
-    ensures { IsFirstDecision steps.now result }
+    ensures decides { IsFirstDecision steps.now result }
+    ensures before { (k : ℕ) (d : Taken) → k < result → (slice_index_or steps.now k d).reason ≢ None }
 {
     for place in 0..steps.len() {
         if steps[place].reason.is_none() {
@@ -138,7 +140,7 @@ fn last_decision(steps: &[Step]) -> usize
 }
 
 /// Marks the steps of a clause's literals. How many of the last level weren't marked before.
-fn need(clause: &[Lit], places: &[usize], last: usize, needed: &mut [bool]) -> usize
+fn mark_clause(clause: &[Lit], places: &[usize], last: usize, needed: &mut [bool]) -> usize
     requires steps { All (IsStepOf places.now (length needed.old)) clause.now }
     ensures needs { Needs places.now clause.now clause.now last needed.old needed.new result }
 {
@@ -153,7 +155,7 @@ fn need(clause: &[Lit], places: &[usize], last: usize, needed: &mut [bool]) -> u
 fn mark(needed: &mut [bool], place: usize, last: usize) -> usize
     requires within { place < length needed.old }
     ensures marks { needed.new ≡ slice_set needed.old place true }
-    ensures count { late_count last needed.new ≡ late_count last needed.old + result }
+    ensures count { last_level_count last needed.new ≡ last_level_count last needed.old + result }
     ensures few { result ≤ 1 }
 {
     let was = needed[place];
@@ -169,7 +171,7 @@ fn unmark(needed: &mut [bool], place: usize, last: usize) -> usize
     requires within { place < length needed.old }
     requires marked { is_marked needed.old place ≡ true }
     ensures marks { needed.new ≡ slice_set needed.old place false }
-    ensures count { late_count last needed.old ≡ late_count last needed.new + result }
+    ensures count { last_level_count last needed.old ≡ last_level_count last needed.new + result }
 {
     needed[place] = false;
     if last <= place {
@@ -189,7 +191,7 @@ impl Analysis {
     ) -> Result<(), NoMemory>
         requires few { length clauses.now < 2 ^ 31 }
         requires exist { AreOver (vars_of trail.now) clauses.now }
-        requires state { IsState clauses.now (vars_of trail.now) trail.now }
+        requires state { IsTrailState clauses.now (vars_of trail.now) trail.now }
         requires first { IsFirstDecision trail.now.steps.items first }
         requires last { IsLastDecision trail.now.steps.items self.old.last }
         requires within { place < length trail.now.steps.items }
@@ -197,15 +199,15 @@ impl Analysis {
         ensures last { OnOk result (self.new.last ≡ self.old.last) }
         ensures walked { OnOk result (IsWalked clauses.now (vars_of trail.now) trail.now.steps.items place self.new) }
         ensures leads { OnOk result ((conflict : List Literal) → Leads clauses.now trail.now.steps.items (place + 1) self.old.needed.items self.old.lits.items (reverse self.old.hints.items) conflict → Leads clauses.now trail.now.steps.items place self.new.needed.items self.new.lits.items (reverse self.new.hints.items) conflict) }
-        ensures stays { OnOk result (Stays trail.now.steps.items (place + 1) self.old.stay self.old.lits.items → Stays trail.now.steps.items place self.new.stay self.new.lits.items) }
+        ensures stays { OnOk result (IsBackjump trail.now.steps.items (place + 1) self.old.backjump self.old.lits.items → IsBackjump trail.now.steps.items place self.new.backjump self.new.lits.items) }
     {
-        self.settle(clauses, trail, place, first)?;
-        self.aim(trail.steps[place], place);
+        self.resolve_or_keep(clauses, trail, place, first)?;
+        self.set_backjump(trail.steps[place], place);
         Ok(())
     }
 
     /// Resolves or keeps the step where it is needed.
-    fn settle(
+    fn resolve_or_keep(
         &mut self,
         clauses: &Clauses,
         trail: &Trail,
@@ -214,13 +216,13 @@ impl Analysis {
     ) -> Result<(), NoMemory>
         requires few { length clauses.now < 2 ^ 31 }
         requires exist { AreOver (vars_of trail.now) clauses.now }
-        requires state { IsState clauses.now (vars_of trail.now) trail.now }
+        requires state { IsTrailState clauses.now (vars_of trail.now) trail.now }
         requires first { IsFirstDecision trail.now.steps.items first }
         requires last { IsLastDecision trail.now.steps.items self.old.last }
         requires within { place < length trail.now.steps.items }
         requires walked { IsWalked clauses.now (vars_of trail.now) trail.now.steps.items (place + 1) self.old }
         ensures last { OnOk result (self.new.last ≡ self.old.last) }
-        ensures stay { OnOk result (self.new.stay ≡ self.old.stay) }
+        ensures backjump { OnOk result (self.new.backjump ≡ self.old.backjump) }
         ensures grows { OnOk result ((more : List Literal) × (self.new.lits.items ≡ self.old.lits.items ++ more)) }
         ensures walked { OnOk result (IsWalked clauses.now (vars_of trail.now) trail.now.steps.items place self.new) }
         ensures leads { OnOk result ((conflict : List Literal) → Leads clauses.now trail.now.steps.items (place + 1) self.old.needed.items self.old.lits.items (reverse self.old.hints.items) conflict → Leads clauses.now trail.now.steps.items place self.new.needed.items self.new.lits.items (reverse self.new.hints.items) conflict) }
@@ -238,10 +240,10 @@ impl Analysis {
     /// The clause with which a needed step is resolved, or none where it is kept. Kept are the last one of the last level,
     /// and those of earlier levels but the steps before any decision.
     fn resolvent(&self, step: Step, place: usize, first: usize) -> Option<u32>
-        ensures { MatchOption result ((step.reason ≡ None) ⊎ IsKeptAt first self.now.last self.now.late place) (λ id. (step.reason ≡ Some id) × (self.now.last ≤ place → self.now.late ≢ 1)) }
+        ensures { MatchOption result ((step.reason ≡ None) ⊎ IsKeptAt first self.now.last self.now.at_last_level place) (λ id. (step.reason ≡ Some id) × (self.now.last ≤ place → self.now.at_last_level ≢ 1)) }
     {
         let keeps = if self.last <= place {
-            self.late == 1
+            self.at_last_level == 1
         } else {
             first <= place
         };
@@ -260,10 +262,10 @@ impl Analysis {
         requires steps { All (IsStepOf trail.now.places.items (length self.old.needed.items)) (clause_at clauses.now id) }
         requires within { place < length self.old.needed.items }
         requires marked { is_marked self.old.needed.items place ≡ true }
-        requires late { self.old.late ≡ late_count self.old.last self.old.needed.items }
+        requires at_last_level { self.old.at_last_level ≡ last_level_count self.old.last self.old.needed.items }
         ensures { OnOk result (Resolves clauses.now trail.now.places.items id place self.old self.new) }
     {
-        let added = need(
+        let added = mark_clause(
             clauses.get((id - 1) as usize),
             &trail.places,
             self.last,
@@ -271,28 +273,28 @@ impl Analysis {
         );
         self.hints.push(id)?;
         let done = unmark(self.needed.as_mut_slice(), place, self.last);
-        self.late = self.late + added - done;
+        self.at_last_level = self.at_last_level + added - done;
         Ok(())
     }
 
     fn keep(&mut self, lit: Lit, place: usize) -> Result<(), NoMemory>
         requires within { place < length self.old.needed.items }
         requires marked { is_marked self.old.needed.items place ≡ true }
-        requires late { self.old.late ≡ late_count self.old.last self.old.needed.items }
+        requires at_last_level { self.old.at_last_level ≡ last_level_count self.old.last self.old.needed.items }
         ensures { OnOk result (Keeps place lit self.old self.new) }
     {
         self.lits.push(lit.negated())?;
         let done = unmark(self.needed.as_mut_slice(), place, self.last);
-        self.late -= done;
+        self.at_last_level -= done;
         Ok(())
     }
 
     /// Where the step is a decision before which the lemma is unit, all from it on is to be taken back.
-    fn aim(&mut self, step: Step, place: usize)
-        ensures { self.new ≡ record self.old { stay = stay_of step (length self.old.lits.items) place self.old.stay } }
+    fn set_backjump(&mut self, step: Step, place: usize)
+        ensures { self.new ≡ record self.old { backjump = backjump_after step (length self.old.lits.items) place self.old.backjump } }
     {
         if step.reason.is_none() && self.lits.len() <= 1 {
-            self.stay = place;
+            self.backjump = place;
         }
     }
 }

@@ -1,26 +1,24 @@
 // Decisions: a free variable at the picker's place, tried false first.
 ghost use Rattle.std.specs.Prelude.{◌≡◌, ℕ, ◌+◌, ◌^◌, ◌<◌, ◌≤◌, [], ◌∷◌, ◌++◌, length, map, OnOk, IfOk, MatchBool, None, replicate, false, slice_index};
 ghost use Rattle.cnf_core.specs.Formula.{AreOver};
-ghost use Rattle.sat_core.specs.Steps.{given, vars_of, IsState};
-ghost use Rattle.sat_core.specs.Picks.{free_list, Decides};
-ghost use Rattle.pick_rule.specs.Places.{AnswersPlaces};
+ghost use Rattle.sat_core.specs.Steps.{given, vars_of, IsTrailState};
+ghost use Rattle.sat_core.specs.Picks.{free_list, IsDecidedBy};
 
 use crate::trail::{Step, Trail};
 use cnf_core::Lit;
 use items::NoMemory;
-use pick_rule::Picker;
+use pick_rule::{Picker, Rule};
 use std::alloc::Global;
 
 /// Decides the free variable at the picker's place, false. No where there is none.
-pub(crate) fn decide<F: Fn(&[u64]) -> usize>(
+pub(crate) fn decide<F: Rule>(
     alloc: Global,
     picker: &Picker<F>,
     trail: &mut Trail,
 ) -> Result<bool, NoMemory>
-    requires keeps { AnswersPlaces F.Fn picker.now }
     requires few { vars_of trail.old < 2 ^ 29 }
     requires slots { length trail.old.places.items ≡ vars_of trail.old }
-    ensures decided { IfOk result (λ more. MatchBool more (Decides F.Fn picker.now trail.old trail.new) ((free_list trail.old.values.items ≡ []) × (trail.new ≡ trail.old))) }
+    ensures decided { IfOk result (λ more. MatchBool more (IsDecidedBy F.picks picker.now trail.old trail.new) ((free_list trail.old.values.items ≡ []) × (trail.new ≡ trail.old))) }
 {
     let free = free_vars(alloc, trail.values.as_slice())?;
     if free.is_empty() {

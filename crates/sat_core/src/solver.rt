@@ -3,8 +3,7 @@ ghost use Rattle.std.specs.Prelude.{◌≡◌, ◌+◌, ◌^◌, ◌<◌, ◌≤
 ghost use Rattle.cnf_core.specs.Formula.{AreOver};
 ghost use Rattle.cnf_core.specs.Values.{IsClosed};
 ghost use Rattle.cnf_core.specs.Outcome.{IsSolved, IsRefuted, IsSpent};
-ghost use Rattle.pick_rule.specs.Places.{AnswersPlaces};
-ghost use Rattle.sat_core.specs.Steps.{given, vars_of, IsState, AreClosedBefore};
+ghost use Rattle.sat_core.specs.Steps.{given, vars_of, IsTrailState, AreClosedBefore};
 ghost use Rattle.sat_core.specs.Looks.{IsFalsified};
 ghost use Rattle.sat_core.specs.Picks.{free_list};
 ghost use Rattle.sat_core.specs.Verdicts.{IfSat, IfRefuted, IfSpent};
@@ -13,13 +12,13 @@ use crate::conflict::learn;
 use crate::decision::decide;
 use crate::propagation::propagate;
 use crate::trail::Trail;
-use cnf_core::{Clauses, Cnf, Lines};
+use cnf_core::{Clauses, Cnf, Lines, refutations_leave_no_solution};
 use items::{Items, NoMemory};
-use pick_rule::Picker;
+use pick_rule::{Picker, Rule};
 use std::alloc::Global;
 
 /// What a search came to.
-#[derive(Drop)]
+#[derive(Debug, Drop)]
 pub enum Verdict {
     /// A value for each variable, that of variable x at the place x - 1, and they satisfy every clause.
     Sat(Items<bool>),
@@ -33,13 +32,12 @@ pub enum Verdict {
 /// picker's place among one score for each free variable, rising, and it is tried false first. Each conflict takes one
 /// line: the first unique implication point, with the clauses that it was resolved from as hints. Propagation looks at all
 /// clauses for each literal; memory grows with the formula and with what is learnt, not with `conflicts`.
-pub fn solve<F: Fn(&[u64]) -> usize>(
+pub fn solve<F: Rule>(
     alloc: Global,
     cnf: &Cnf,
     picker: &Picker<F>,
     conflicts: u32,
 ) -> Result<Verdict, NoMemory>
-    requires picker { AnswersPlaces F.Fn picker.now }
     requires conflicts { (1 ≤ conflicts) × (conflicts ≤ 1000000) }
     ensures solved { IfOk result (λ verdict. IfSat verdict (IsSolved cnf.now)) }
     ensures refuted { IfOk result (λ verdict. IfRefuted verdict (IsRefuted cnf.now conflicts)) }
@@ -57,6 +55,7 @@ pub fn solve<F: Fn(&[u64]) -> usize>(
                 clauses.push(line.lits.as_slice())?;
                 lines.push(line)?;
                 if refuted {
+                    refutations_leave_no_solution();
                     return Ok(Verdict::Refuted(Lines { lines }));
                 }
             }
@@ -78,19 +77,18 @@ fn clauses_of(alloc: Global, cnf: &Cnf) -> Result<Clauses, NoMemory>
 }
 
 /// Propagates and decides until a clause is false, the id of which is told, or every variable has a value.
-fn advance<F: Fn(&[u64]) -> usize>(
+fn advance<F: Rule>(
     alloc: Global,
     clauses: &Clauses,
     picker: &Picker<F>,
     trail: &mut Trail,
 ) -> Result<Option<u32>, NoMemory>
-    requires picker { AnswersPlaces F.Fn picker.now }
     requires few { length clauses.now < 2 ^ 31 }
     requires few_vars { vars_of trail.old < 2 ^ 29 }
     requires exist { AreOver (vars_of trail.old) clauses.now }
-    requires state { IsState clauses.now (vars_of trail.old) trail.old }
+    requires state { IsTrailState clauses.now (vars_of trail.old) trail.old }
     requires before { AreClosedBefore clauses.now trail.old.steps.items }
-    ensures state { OnOk result (IsState clauses.now (vars_of trail.old) trail.new) }
+    ensures state { OnOk result (IsTrailState clauses.now (vars_of trail.old) trail.new) }
     ensures before { OnOk result (AreClosedBefore clauses.now trail.new.steps.items) }
     ensures done { IfOk result (λ o. MatchOption o (IsClosed (given trail.new.values.items) clauses.now × (free_list trail.new.values.items ≡ [])) (IsFalsified (given trail.new.values.items) clauses.now)) }
 {

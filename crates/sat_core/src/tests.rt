@@ -6,7 +6,7 @@ ghost use Rattle.cnf_core.specs.Formula.{IsLitOf};
 use crate::{Verdict, solve};
 use cnf_core::{Cnf, Line, Lit, satisfied};
 use items::NoMemory;
-use pick_rule::Picker;
+use pick_rule::{Picker, Rule};
 use std::alloc::Global;
 use std::process::Abort;
 use std::test::Fail;
@@ -17,12 +17,6 @@ fn literal(number: i32) -> Lit {
         var: number.unsigned_abs(),
         positive: number > 0,
     }
-}
-
-fn are_over(vars: u32, lits: &[Lit]) -> bool
-    ensures { IsTrue result ↔ All (IsLitOf vars) lits.now }
-{
-    lits.iter().all(|lit| 1 <= lit.var && lit.var <= vars)
 }
 
 fn over(rt: &impl Abort, alloc: Global, vars: u32) -> Cnf {
@@ -39,7 +33,7 @@ fn add(rt: &impl Abort, alloc: Global, cnf: &mut Cnf, numbers: &[i32]) -> Result
     for number in numbers {
         lits.push(literal(*number))?;
     }
-    assert!(rt; are_over(cnf.vars(), &lits) && cnf.clauses() < 1000);
+    assert!(rt; cnf.has(&lits) && cnf.clauses() < 1000);
     cnf.add(&lits)
 }
 
@@ -51,17 +45,33 @@ fn formula(rt: &impl Abort, alloc: Global, vars: u32, clauses: &[&[i32]]) -> Res
     Ok(cnf)
 }
 
+/// The verdict with the places that a rule picks.
+fn picked<F: Rule + Drop>(
+    alloc: Global,
+    cnf: &Cnf,
+    rule: F,
+    conflicts: u32,
+) -> Result<Verdict, NoMemory>
+    requires rule { F.answers_places rule }
+    requires some { 1 ≤ conflicts }
+    requires few { conflicts ≤ 1000000 }
+{
+    solve(alloc, cnf, &Picker::new(rule), conflicts)
+}
+
 /// The verdict with the first free variable picked.
 fn first_picked(alloc: Global, cnf: &Cnf, conflicts: u32) -> Result<Verdict, NoMemory>
     requires some { 1 ≤ conflicts }
     requires few { conflicts ≤ 1000000 }
 {
-    let picker = Picker::new(
+    picked(
+        alloc,
+        cnf,
         |_scores: &[u64]|
             ensures { result ≡ 0 }
         { 0 },
-    );
-    solve(alloc, cnf, &picker, conflicts)
+        conflicts,
+    )
 }
 
 /// The verdict with the last free variable picked.
@@ -69,13 +79,34 @@ fn last_picked(alloc: Global, cnf: &Cnf, conflicts: u32) -> Result<Verdict, NoMe
     requires some { 1 ≤ conflicts }
     requires few { conflicts ≤ 1000000 }
 {
-    let picker = Picker::new(
+    picked(
+        alloc,
+        cnf,
         |scores: &[u64]|
             requires { 0 < length scores.now }
             ensures { result < length scores.entry.now }
         { scores.len() - 1 },
-    );
-    solve(alloc, cnf, &picker, conflicts)
+        conflicts,
+    )
+}
+
+/// The verdict with a free variable of an end picked: the last one, but where the first one's score is higher.
+fn end_picked(alloc: Global, cnf: &Cnf, conflicts: u32) -> Result<Verdict, NoMemory>
+    requires some { 1 ≤ conflicts }
+    requires few { conflicts ≤ 1000000 }
+{
+    picked(
+        alloc,
+        cnf,
+        |scores: &[u64]|
+            requires { 0 < length scores.now }
+            ensures { result < length scores.entry.now }
+        {
+            let last = scores.len() - 1;
+            if scores[0] > scores[last] { 0 } else { last }
+        },
+        conflicts,
+    )
 }
 
 /// The values of so many variables, the first in the lowest bit.
@@ -108,21 +139,17 @@ fn has(lits: &[Lit], lit: Lit) -> bool {
     lits.iter().any(|other| *other == lit)
 }
 
-/// The clause or lemma with this id, or an empty clause.
-fn named<'a>(cnf: &'a Cnf, lines: &'a [Line], id: u32) -> &'a [Lit] {
+/// The clause or earlier lemma with this id.
+fn named<'a>(cnf: &'a Cnf, earlier: &'a [Line], id: u32) -> Option<&'a [Lit]> {
     let count = cnf.clauses();
     if id == 0 {
-        return &[];
+        return None;
     }
     if id <= count {
-        return cnf.clause(id);
+        return Some(cnf.clause(id));
     }
-    let place = (id - count - 1) as usize;
-    if place < lines.len() {
-        lines[place].lits.as_slice()
-    } else {
-        &[]
-    }
+    let line = earlier.get((id - count - 1) as usize)?;
+    Some(line.lits.as_slice())
 }
 
 /// The literals of a clause that aren't false, each once.
@@ -136,8 +163,19 @@ fn left(alloc: Global, clause: &[Lit], held: &[Lit]) -> Result<Vec<Lit>, NoMemor
     Ok(left)
 }
 
-/// Whether the hints of a line, among these lines, lead from the negation of its lemma to a false clause.
-fn accepts(alloc: Global, cnf: &Cnf, lines: &[Line], line: &Line) -> Result<bool, NoMemory> {
+/// Whether a line has the next id, and literals of different variables of the formula.
+fn is_well_formed(cnf: &Cnf, earlier: &[Line], line: &Line) -> bool {
+    let lits = line.lits.as_slice();
+    line.id as usize
+        == (cnf.clauses() as usize)
+            .wrapping_add(earlier.len())
+            .wrapping_add(1)
+        && cnf.has(lits)
+        && lits.iter().all(|lit| lits.iter().filter(|other| other.var == lit.var).count() == 1)
+}
+
+/// Whether the hints of a line lead from the negation of its lemma to a false clause.
+fn leads(alloc: Global, cnf: &Cnf, earlier: &[Line], line: &Line) -> Result<bool, NoMemory> {
     let mut held = Vec::new(alloc);
     for lit in line.lits.as_slice() {
         held.push(lit.negated())?;
@@ -145,7 +183,11 @@ fn accepts(alloc: Global, cnf: &Cnf, lines: &[Line], line: &Line) -> Result<bool
     let mut rest = line.hints.len();
     for hint in line.hints.as_slice() {
         rest = rest.wrapping_sub(1);
-        let left = left(alloc, named(cnf, lines, *hint), &held)?;
+        let clause = match named(cnf, earlier, *hint) {
+            Some(clause) => clause,
+            None => return Ok(false),
+        };
+        let left = left(alloc, clause, &held)?;
         if rest == 0 {
             return Ok(left.is_empty());
         }
@@ -157,14 +199,15 @@ fn accepts(alloc: Global, cnf: &Cnf, lines: &[Line], line: &Line) -> Result<bool
     Ok(false)
 }
 
-/// Whether all lines are accepted, and as many lemmas are empty as are to be.
+/// Whether each line is accepted after those before it, and as many lemmas are empty as are to be.
 fn walked(alloc: Global, cnf: &Cnf, lines: &[Line], empty: usize) -> Result<bool, NoMemory> {
     let mut count = 0usize;
-    for line in lines {
+    for at in 0..lines.len() {
+        let line = &lines[at];
         if line.lits.is_empty() {
             count = count.wrapping_add(1);
         }
-        if !accepts(alloc, cnf, lines, line)? {
+        if !is_well_formed(cnf, &lines[..at], line) || !leads(alloc, cnf, &lines[..at], line)? {
             return Ok(false);
         }
     }
@@ -180,11 +223,16 @@ fn is_right(alloc: Global, cnf: &Cnf, verdict: &Verdict, solution: bool) -> Resu
     }
 }
 
-/// Whether both pickers come to the right verdict.
-fn both_right(alloc: Global, cnf: &Cnf, solution: bool) -> Result<bool, NoMemory> {
+/// Whether each of the three rules comes to the right verdict.
+fn all_right(alloc: Global, cnf: &Cnf, solution: bool) -> Result<bool, NoMemory> {
     let first = first_picked(alloc, cnf, 1000)?;
     let last = last_picked(alloc, cnf, 1000)?;
-    Ok(is_right(alloc, cnf, &first, solution)? && is_right(alloc, cnf, &last, solution)?)
+    let end = end_picked(alloc, cnf, 1000)?;
+    Ok(
+        is_right(alloc, cnf, &first, solution)?
+            && is_right(alloc, cnf, &last, solution)?
+            && is_right(alloc, cnf, &end, solution)?,
+    )
 }
 
 const SMALL: [(u32, &[&[i32]]); 8] = [
@@ -204,7 +252,7 @@ fn small_formulas(rt: HostRuntime) -> Result<(), Fail> {
         let cnf = formula(&rt, rt.alloc(), *vars, clauses)?;
         let solution = has_solution(rt.alloc(), &cnf)?;
         assert!(rt;
-            both_right(rt.alloc(), &cnf, solution)?,
+            all_right(rt.alloc(), &cnf, solution)?,
             "{vars} {clauses:?}"
         );
     }
@@ -246,28 +294,28 @@ fn all_formulas_of_four_clauses(rt: HostRuntime) -> Result<(), Fail> {
         if bits.count_ones() <= 4 {
             let cnf = chosen(&rt, rt.alloc(), bits)?;
             let solution = has_solution(rt.alloc(), &cnf)?;
-            assert!(rt; both_right(rt.alloc(), &cnf, solution)?, "clauses {bits}");
+            assert!(rt; all_right(rt.alloc(), &cnf, solution)?, "clauses {bits}");
         }
     }
     Ok(())
 }
 
+/// Three pigeons in two holes: the variable of pigeon p in hole h is p * 2 + h + 1.
+const THREE_PIGEONS: &[&[i32]] = &[
+    &[1, 2],
+    &[3, 4],
+    &[5, 6],
+    &[-1, -3],
+    &[-1, -5],
+    &[-3, -5],
+    &[-2, -4],
+    &[-2, -6],
+    &[-4, -6],
+];
+
 /// One pigeon more than holes: the variable of pigeon p in hole h is p * holes + h + 1.
 const PIGEONS: [(u32, &[&[i32]]); 2] = [
-    (
-        6,
-        &[
-            &[1, 2],
-            &[3, 4],
-            &[5, 6],
-            &[-1, -3],
-            &[-1, -5],
-            &[-3, -5],
-            &[-2, -4],
-            &[-2, -6],
-            &[-4, -6],
-        ],
-    ),
+    (6, THREE_PIGEONS),
     (
         12,
         &[
@@ -301,27 +349,105 @@ const PIGEONS: [(u32, &[&[i32]]); 2] = [
 fn pigeons_are_refuted(rt: HostRuntime) -> Result<(), Fail> {
     for (vars, clauses) in &PIGEONS {
         let cnf = formula(&rt, rt.alloc(), *vars, clauses)?;
-        assert!(rt; both_right(rt.alloc(), &cnf, false)?);
+        assert!(rt; all_right(rt.alloc(), &cnf, false)?);
     }
     Ok(())
 }
 
-/// Whether a budget of one is spent on one lemma that isn't empty.
-fn is_spent(alloc: Global, cnf: &Cnf) -> Result<bool, NoMemory> {
-    match first_picked(alloc, cnf, 1)? {
-        Verdict::Spent(lines) => {
-            Ok(lines.lines.len() == 1 && walked(alloc, cnf, lines.lines.as_slice(), 0)?)
-        }
+/// How many lines refute the formula, as the first place is picked.
+fn count_refuted(alloc: Global, cnf: &Cnf, conflicts: u32) -> Result<Option<usize>, NoMemory>
+    requires some { 1 ≤ conflicts }
+    requires few { conflicts ≤ 1000000 }
+{
+    match first_picked(alloc, cnf, conflicts)? {
+        Verdict::Refuted(lines) => Ok(Some(lines.lines.len())),
+        _ => Ok(None),
+    }
+}
+
+/// Whether the whole budget is spent, on lemmas that aren't empty.
+fn is_spent(alloc: Global, cnf: &Cnf, conflicts: u32) -> Result<bool, NoMemory>
+    requires some { 1 ≤ conflicts }
+    requires few { conflicts ≤ 1000000 }
+{
+    match first_picked(alloc, cnf, conflicts)? {
+        Verdict::Spent(lines) => Ok(
+            lines.lines.len() == conflicts as usize
+                && walked(alloc, cnf, lines.lines.as_slice(), 0)?,
+        ),
         _ => Ok(false),
     }
 }
 
-/// Unit propagation alone doesn't refute the pigeons, so no single line does.
+/// A budget of as many conflicts as the refutation has lines is enough, and each lower one is spent. Unit propagation alone
+/// doesn't refute the pigeons, so one line isn't enough.
 #[test]
-fn a_budget_of_one_is_spent(rt: HostRuntime) -> Result<(), Fail> {
+fn budgets_are_spent_or_enough(rt: HostRuntime) -> Result<(), Fail> {
     for (vars, clauses) in &PIGEONS {
         let cnf = formula(&rt, rt.alloc(), *vars, clauses)?;
-        assert!(rt; is_spent(rt.alloc(), &cnf)?);
+        let count = count_refuted(rt.alloc(), &cnf, 1000)?.unwrap_or(0);
+        assert!(rt; 1 < count && count < 1000);
+        let enough = count as u32;
+        assert_eq!(rt; count_refuted(rt.alloc(), &cnf, enough)?, Some(count));
+        for less in 1..enough {
+            assert!(rt; is_spent(rt.alloc(), &cnf, less)?, "budget {less}");
+        }
+    }
+    Ok(())
+}
+
+struct Lemma {
+    vars: u32,
+    clauses: &'static [&'static [i32]],
+    id: u32,
+    lits: &'static [i32],
+    hints: &'static [u32],
+}
+
+/// The first lemma of formulas as the first place is picked, worked by hand: the first unique implication point, where
+/// literals of earlier levels are kept.
+const LEMMAS: [Lemma; 2] = [
+    Lemma {
+        vars: 5,
+        clauses: &[&[1, 2], &[3, 4], &[-2, -4, 5], &[-4, -5]],
+        id: 5,
+        lits: &[-4, -2],
+        hints: &[3, 4],
+    },
+    Lemma {
+        vars: 6,
+        clauses: THREE_PIGEONS,
+        id: 10,
+        lits: &[-2],
+        hints: &[7, 8, 2, 3, 6],
+    },
+];
+
+fn is_lemma(line: &Line, lemma: &Lemma) -> bool {
+    line.id == lemma.id
+        && line.lits.len() == lemma.lits.len()
+        && line
+            .lits
+            .as_slice()
+            .iter()
+            .zip(lemma.lits)
+            .all(|(lit, number)| *lit == literal(*number))
+        && line.hints.as_slice() == lemma.hints
+}
+
+#[test]
+fn lemmas_are_the_first_implication_points(rt: HostRuntime) -> Result<(), Fail> {
+    for lemma in &LEMMAS {
+        let cnf = formula(&rt, rt.alloc(), lemma.vars, lemma.clauses)?;
+        let verdict = first_picked(rt.alloc(), &cnf, 1)?;
+        match &verdict {
+            Verdict::Spent(lines) => {
+                let lines = lines.lines.as_slice();
+                assert_eq!(rt; lines.len(), 1);
+                assert!(rt; is_lemma(&lines[0], lemma), "{lines:?}");
+            }
+            _ => assert!(rt; false, "{verdict:?}"),
+        }
     }
     Ok(())
 }
@@ -340,5 +466,6 @@ fn order_of_tries(rt: HostRuntime) -> Result<(), Fail> {
     let cnf = formula(&rt, rt.alloc(), 3, &[&[1, 2, 3]])?;
     assert!(rt; gives(&first_picked(rt.alloc(), &cnf, 1)?, &[false, false, true]));
     assert!(rt; gives(&last_picked(rt.alloc(), &cnf, 1)?, &[true, false, false]));
+    assert!(rt; gives(&end_picked(rt.alloc(), &cnf, 1)?, &[true, false, false]));
     Ok(())
 }

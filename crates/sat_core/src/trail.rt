@@ -3,9 +3,9 @@ ghost use Rattle.std.specs.Prelude.{◌≡◌, ℕ, ◌≤◌, [], ◌∷◌, �
 ghost use Rattle.std.specs.List.{All};
 ghost use Rattle.cnf_core.specs.declared.literal.Lit.{Lit as Literal};
 ghost use Rattle.cnf_core.specs.Formula.{IsLitOf};
-ghost use Rattle.sat_core.specs.Steps.{IsState, IsRightStep, vars_of};
+ghost use Rattle.sat_core.specs.Steps.{given, IsTrailState, IsRightStep, vars_of};
 
-use cnf_core::Lit;
+use cnf_core::{Lit, Values};
 use items::NoMemory;
 use std::alloc::Global;
 
@@ -24,10 +24,21 @@ pub(crate) struct Trail {
     pub(crate) places: Vec<usize>,
 }
 
+impl Values for Trail {
+    ghost last = { λ trail. length trail.values.items };
+
+    ghost partial = { λ trail. given trail.values.items };
+
+    #[tactic(auto, unfolding(crate::specs::Steps::given))]
+    fn value(&self, var: u32) -> Option<bool> {
+        self.values[(var - 1) as usize]
+    }
+}
+
 impl Trail {
     /// No step, over this many variables.
     pub(crate) fn new(alloc: Global, vars: u32) -> Result<Trail, NoMemory>
-        ensures state { IfOk result (λ trail. (clauses : List (List Literal)) → IsState clauses vars trail) }
+        ensures state { IfOk result (λ trail. (clauses : List (List Literal)) → IsTrailState clauses vars trail) }
         ensures none { IfOk result (λ trail. trail.steps.items ≡ []) }
     {
         let none: Option<bool> = None;
@@ -44,7 +55,7 @@ impl Trail {
     pub(crate) fn assign(&mut self, step: Step) -> Result<(), NoMemory>
         requires exist { IsLitOf (vars_of self.old) step.lit }
         requires slots { length self.old.places.items ≡ vars_of self.old }
-        ensures state { OnOk result ((clauses : List (List Literal)) → IsState clauses (vars_of self.old) self.old → IsRightStep clauses self.old.steps.items step → IsState clauses (vars_of self.old) self.new) }
+        ensures state { OnOk result ((clauses : List (List Literal)) → IsTrailState clauses (vars_of self.old) self.old → IsRightStep clauses self.old.steps.items step → IsTrailState clauses (vars_of self.old) self.new) }
         ensures steps { OnOk result (self.new.steps.items ≡ self.old.steps.items ++ step ∷ []) }
     {
         let place = self.steps.len();
@@ -58,7 +69,7 @@ impl Trail {
     /// Takes all steps back but the first, as many as `count`.
     pub(crate) fn cut(&mut self, count: usize)
         requires exist { All (λ s. IsLitOf (vars_of self.old) s.lit) self.old.steps.items }
-        ensures state { (clauses : List (List Literal)) → IsState clauses (vars_of self.old) self.old → IsState clauses (vars_of self.old) self.new }
+        ensures state { (clauses : List (List Literal)) → IsTrailState clauses (vars_of self.old) self.old → IsTrailState clauses (vars_of self.old) self.new }
         ensures steps { self.new.steps.items ≡ take count self.old.steps.items }
     {
         while self.steps.len() > count {

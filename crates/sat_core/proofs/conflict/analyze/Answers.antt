@@ -2,7 +2,7 @@ use Rattle.std.proofs.Common.{◌≡◌, ℕ, ◌+◌, ◌-◌, length, sym, ◌
 use Rattle.std.specs.Prelude.{reverse}
 use Rattle.cnf_core.specs.Refutation.{clause_at}
 use Rattle.sat_core.specs.Steps.{vars_of}
-use Rattle.sat_core.specs.Walks.{IsLastDecision, IsWalked, Leads, Stays}
+use Rattle.sat_core.specs.Walks.{IsLastDecision, IsWalked, Leads, IsBackjump}
 use Rattle.sat_core.proofs.conflict.analyze.Goals as goal
 
 pub loop-back-preserved : goal.loop-back-preserved
@@ -23,8 +23,8 @@ loop-back-preserved c =
       walked = subst (λ (i : ℕ). IsWalked clauses (vars_of t) steps i b) here c.in_ok-visit.ensures.walked;
       leads = subst (λ (i : ℕ). Leads clauses steps i b.needed.items b.lits.items (reverse b.hints.items) conflict) here
           (c.in_ok-visit.ensures.leads conflict (subst (λ (i : ℕ). Leads clauses steps i a.needed.items a.lits.items (reverse a.hints.items) conflict) before h.leads));
-      stays = subst (λ (i : ℕ). Stays steps i b.stay b.lits.items) here
-          (c.in_ok-visit.ensures.stays (subst (λ (i : ℕ). Stays steps i a.stay a.lits.items) before h.stays));
+      stays = subst (λ (i : ℕ). IsBackjump steps i b.backjump b.lits.items) here
+          (c.in_ok-visit.ensures.stays (subst (λ (i : ℕ). IsBackjump steps i a.backjump a.lits.items) before h.stays));
     }
 
 pub returns-clause-leads : goal.returns-clause-leads

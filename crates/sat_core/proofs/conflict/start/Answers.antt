@@ -14,8 +14,8 @@ use Rattle.sat_core.proofs.States.{clause-exists, falsified-held}
 use Rattle.sat_core.proofs.Ending.{false-steps, walked-start}
 use Rattle.sat_core.proofs.conflict.start.Goals as goal
 
-pub need-late-requires : goal.need-late-requires
-need-late-requires c =
+pub mark_clause-at_last_level-requires : goal.mark_clause-at_last_level-requires
+mark_clause-at_last_level-requires c =
     let t = c.args.trail.now in
     let clauses = c.args.clauses.now in
     let n = vars_of t in
@@ -30,7 +30,7 @@ need-late-requires c =
     record { steps = subst (λ (x : List Lit). All (IsStepOf c.deref-2.result.now (length c.as_mut_slice.result.now)) x) is steps'' }
 
 abbrev analysis-of : goal.After-new-2 → Analysis
-analysis-of c = record { needed = with_items c.in_ok-needed.needed c.need-late.new.needed; late = c.need-late.result; last = c.last_decision-last.result; lits = c.new.result; hints = c.new-2.result; stay = c.len-count.result }
+analysis-of c = record { needed = with_items c.in_ok-needed.needed c.mark_clause-at_last_level.new.needed; at_last_level = c.mark_clause-at_last_level.result; last = c.last_decision-last.result; lits = c.new.result; hints = c.new-2.result; backjump = c.len-count.result }
 
 started : (c : goal.After-new-2) → IsWalked c.args.clauses.now (vars_of c.args.trail.now) c.args.trail.now.steps.items (length c.args.trail.now.steps.items) (analysis-of c) × Leads c.args.clauses.now c.args.trail.now.steps.items (length c.args.trail.now.steps.items) (analysis-of c).needed.items (analysis-of c).lits.items (reverse (analysis-of c).hints.items) (clause_at c.args.clauses.now c.args.id)
 started c =
@@ -40,14 +40,14 @@ started c =
     let count : c.len-count.result ≡ length t.steps.items = c.len-count.ensures ∙ t.steps.ok.0 in
     let old-is : c.as_mut_slice.result.now ≡ replicate (length t.steps.items) false = c.as_mut_slice.ensures.value ∙ search rules ∙ ap (λ (m : ℕ). replicate m false) count in
     let last = c.last_decision-last.result in
-    let new = c.need-late.new.needed in
+    let new = c.mark_clause-at_last_level.new.needed in
     let is-last = subst (λ (ss : List Step). IsLastDecision ss last) c.deref.ensures.value c.last_decision-last.ensures in
-    let needs = subst (λ (ps : List ℕ). Needs ps c.get.result.now c.get.result.now last c.as_mut_slice.result.now new c.need-late.result) c.deref-2.ensures.value c.need-late.ensures.needs in
+    let needs = subst (λ (ps : List ℕ). Needs ps c.get.result.now c.get.result.now last c.as_mut_slice.result.now new c.mark_clause-at_last_level.result) c.deref-2.ensures.value c.mark_clause-at_last_level.ensures.needs in
     let there : take c.in_ok-needed.needed.len (new ++ drop (length new) c.in_ok-needed.needed.items) ≡ new =
     take_at new (drop (length new) c.in_ok-needed.needed.items) c.in_ok-needed.needed.len (needs.size ∙ ap length c.as_mut_slice.ensures.value ∙ sym c.in_ok-needed.needed.ok.0) in
-    walked-start clauses (vars_of t) t.steps.items t.values.items t.places.items c.args.id last c.need-late.result c.need-late.result c.as_mut_slice.result.now c.get.result.now (analysis-of c)
+    walked-start clauses (vars_of t) t.steps.items t.values.items t.places.items c.args.id last c.mark_clause-at_last_level.result c.mark_clause-at_last_level.result c.as_mut_slice.result.now c.get.result.now (analysis-of c)
     c.requires.state c.requires.exist c.requires.before c.requires.falsified is-last (sym is) old-is
-    (subst (λ (xs : List Bool). Needs t.places.items c.get.result.now c.get.result.now last c.as_mut_slice.result.now xs c.need-late.result) (sym there) needs)
+    (subst (λ (xs : List Bool). Needs t.places.items c.get.result.now c.get.result.now last c.as_mut_slice.result.now xs c.mark_clause-at_last_level.result) (sym there) needs)
     refl refl c.new.ensures.items c.new-2.ensures.items
 
 pub returns-clause-walked : goal.returns-clause-walked

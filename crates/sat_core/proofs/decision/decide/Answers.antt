@@ -4,7 +4,6 @@ use Rattle.sat_core.specs.Steps.{vars_of}
 use Rattle.sat_core.specs.Picks.{free_list, denied}
 use Rattle.sat_core.proofs.Picking.{picked-at}
 use Rattle.sat_core.proofs.States.{decision-right}
-use Rattle.std.specs.Fn.{FnReturnsAt}
 use Rattle.sat_core.proofs.decision.decide.Goals as goal
 
 pub assign-requires-clause-exist : goal.assign-requires-clause-exist
@@ -25,7 +24,7 @@ returns g c =
     record {
       decided = record {
         place = c.pick-place.result;
-        picked = subst (λ (xs : List ℕ). FnReturnsAt g.F.Fn c.args.picker.now xs c.pick-place.result) (scores ∙ ap (λ (xs : List ℕ). replicate (length xs) 0) free) c.pick-place.ensures.rule;
+        picked = subst (λ (xs : List ℕ). g.F.Rule.picks c.args.picker.now xs c.pick-place.result) (scores ∙ ap (λ (xs : List ℕ). replicate (length xs) 0) free) c.pick-place.ensures.rule;
         within = p.within;
         steps = c.in_ok-assign.ensures.steps ∙ ap (λ (x : ℕ). old.steps.items ++ denied x ∷ []) p.is;
         state = λ clauses h. c.in_ok-assign.ensures.state clauses h

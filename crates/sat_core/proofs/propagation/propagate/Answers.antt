@@ -1,22 +1,19 @@
-use Rattle.std.proofs.Common.{◌≡◌, ℕ, List, Option, Bool, length, Some, None, arith, sym, ap, ◌∙◌, subst}
+use Rattle.std.proofs.Common.{◌≡◌, ℕ, length, Some, None, arith, sym, ap, ◌∙◌, subst}
 use Rattle.std.proofs.lemmas.List.{length_push}
-use Rattle.cnf_core.specs.Values.{IsClosed}
 use Rattle.sat_core.specs.declared.trail.Step.{Step}
-use Rattle.sat_core.specs.Steps.{given, vars_of, IsState, IsReason}
+use Rattle.sat_core.specs.Steps.{vars_of, IsTrailState}
 use Rattle.sat_core.proofs.States.{reason-right, propagates-push}
 use Rattle.sat_core.proofs.propagation.propagate.Goals as goal
 
-new-state : (c : goal.In_ok-assign-in-Reason) → IsState c.args.clauses.now (vars_of c.args.trail.now) c.assign.new.self
+new-state : (c : goal.In_ok-assign-in-Reason) → IsTrailState c.args.clauses.now (vars_of c.args.trail.now) c.assign.new.self
 new-state c =
     let clauses = c.args.clauses.now in
     let n = vars_of c.args.trail.now in
     let t = c.loop-id.trail in
     let h = c.loop-id.invariant in
-    let reason : IsReason (given t.values.items) clauses c.in-Reason.id c.in-Reason.lit =
-    subst (λ (vs : List (Option Bool)). IsReason (given vs) clauses c.in-Reason.id c.in-Reason.lit) c.as_slice.ensures.value c.in-Reason.ensures in
-    let right = reason-right clauses n t.steps.items t.values.items t.places.items c.in-Reason.lit c.in-Reason.id h.state c.requires.exist reason in
-    subst (λ (k : ℕ). IsState clauses k c.assign.new.self) h.size
-    (c.in_ok-assign-in-Reason.ensures.state clauses (subst (λ (k : ℕ). IsState clauses k t) (sym h.size) h.state) right.1)
+    let right = reason-right clauses n t.steps.items t.values.items t.places.items c.in-Reason.lit c.in-Reason.id h.state c.requires.exist c.in-Reason.ensures in
+    subst (λ (k : ℕ). IsTrailState clauses k c.assign.new.self) h.size
+    (c.in_ok-assign-in-Reason.ensures.state clauses (subst (λ (k : ℕ). IsTrailState clauses k t) (sym h.size) h.state) right.1)
 
 pub loop-id-smaller : goal.loop-id-smaller
 loop-id-smaller c =
@@ -40,7 +37,3 @@ loop-id-preserved c =
   where
     some-id : (id : ℕ) → Some id ≡ None → ⊥
     some-id id e = cc
-
-pub returns-in-Closed-clause-done : goal.returns-in-Closed-clause-done
-returns-in-Closed-clause-done c =
-    subst (λ (vs : List (Option Bool)). IsClosed (given vs) c.args.clauses.now) c.as_slice.ensures.value c.in-Closed.ensures

@@ -4,7 +4,7 @@ use Rattle.cnf_core.specs.Values.{IsClosed}
 use Rattle.sat_core.specs.declared.trail.Trail.{Trail}
 use Rattle.sat_core.specs.Steps.{given, vars_of, AreClosedBefore}
 use Rattle.sat_core.specs.Looks.{IsFalsified}
-use Rattle.sat_core.specs.Picks.{Decides, free_list, denied}
+use Rattle.sat_core.specs.Picks.{IsDecidedBy, free_list, denied}
 use Rattle.sat_core.proofs.States.{propagated-closed}
 use Rattle.sat_core.proofs.Advancing.{advanced}
 use Rattle.sat_core.proofs.solver.advance.Goals as goal
@@ -15,7 +15,7 @@ returns-in-Some-clause-before g c = propagated-closed c.args.clauses.now c.loop-
 pub returns-then-not-branch-clause-before : goal.returns-then-not-branch-clause-before
 returns-then-not-branch-clause-before g c =
     let mid = c.propagate.new.trail in
-    let decided = subst (λ (b : Bool). MatchBool b (Decides g.F.Fn c.args.picker.now mid c.decide.new.trail) ((free_list mid.values.items ≡ []) × (c.decide.new.trail ≡ mid))) c.if-not-branch.true c.in_ok-decide.ensures.decided in
+    let decided = subst (λ (b : Bool). MatchBool b (IsDecidedBy g.F.Rule.picks c.args.picker.now mid c.decide.new.trail) ((free_list mid.values.items ≡ []) × (c.decide.new.trail ≡ mid))) c.if-not-branch.true c.in_ok-decide.ensures.decided in
     subst (λ (t : Trail). AreClosedBefore c.args.clauses.now t.steps.items) (sym decided.1)
     (propagated-closed c.args.clauses.now c.loop-id.trail.steps.items mid.steps.items c.loop-id.invariant.before c.in_ok-id.ensures.adds)
 
@@ -23,7 +23,7 @@ pub returns-then-not-branch-clause-done : goal.returns-then-not-branch-clause-do
 returns-then-not-branch-clause-done g c =
     let mid = c.propagate.new.trail in
     let clauses = c.args.clauses.now in
-    let decided = subst (λ (b : Bool). MatchBool b (Decides g.F.Fn c.args.picker.now mid c.decide.new.trail) ((free_list mid.values.items ≡ []) × (c.decide.new.trail ≡ mid))) c.if-not-branch.true c.in_ok-decide.ensures.decided in
+    let decided = subst (λ (b : Bool). MatchBool b (IsDecidedBy g.F.Rule.picks c.args.picker.now mid c.decide.new.trail) ((free_list mid.values.items ≡ []) × (c.decide.new.trail ≡ mid))) c.if-not-branch.true c.in_ok-decide.ensures.decided in
     let closed = subst (λ (o : Option ℕ). MatchOption o (IsClosed (given mid.values.items) clauses) (IsFalsified (given mid.values.items) clauses)) c.in_default.is c.in_ok-id.ensures.done in
     subst (λ (t : Trail). IsClosed (given t.values.items) clauses × (free_list t.values.items ≡ [])) (sym decided.1) (closed, decided.0)
 
@@ -32,7 +32,7 @@ loop-id-preserved g c =
     let mid = c.propagate.new.trail in
     let clauses = c.args.clauses.now in
     let h = c.loop-id.invariant in
-    let d = subst (λ (b : Bool). MatchBool b (Decides g.F.Fn c.args.picker.now mid c.decide.new.trail) ((free_list mid.values.items ≡ []) × (c.decide.new.trail ≡ mid))) c.if-not-branch.false c.in_ok-decide.ensures.decided in
+    let d = subst (λ (b : Bool). MatchBool b (IsDecidedBy g.F.Rule.picks c.args.picker.now mid c.decide.new.trail) ((free_list mid.values.items ≡ []) × (c.decide.new.trail ≡ mid))) c.if-not-branch.false c.in_ok-decide.ensures.decided in
     let closed = subst (λ (o : Option ℕ). MatchOption o (IsClosed (given mid.values.items) clauses) (IsFalsified (given mid.values.items) clauses)) c.in_default.is c.in_ok-id.ensures.done in
     let a = advanced clauses (vars_of c.args.trail.now) c.loop-id.trail mid c.decide.new.trail (denied (slice_index (free_list mid.values.items) d.place)) c.requires.exist h.size h.before c.in_ok-id.ensures.state c.in_ok-id.ensures.adds closed d.steps d.state in
     record { state = a.state; before = a.before; size = a.size }
@@ -42,7 +42,7 @@ loop-id-smaller g c =
     let mid = c.propagate.new.trail in
     let clauses = c.args.clauses.now in
     let h = c.loop-id.invariant in
-    let d = subst (λ (b : Bool). MatchBool b (Decides g.F.Fn c.args.picker.now mid c.decide.new.trail) ((free_list mid.values.items ≡ []) × (c.decide.new.trail ≡ mid))) c.if-not-branch.false c.in_ok-decide.ensures.decided in
+    let d = subst (λ (b : Bool). MatchBool b (IsDecidedBy g.F.Rule.picks c.args.picker.now mid c.decide.new.trail) ((free_list mid.values.items ≡ []) × (c.decide.new.trail ≡ mid))) c.if-not-branch.false c.in_ok-decide.ensures.decided in
     let closed = subst (λ (o : Option ℕ). MatchOption o (IsClosed (given mid.values.items) clauses) (IsFalsified (given mid.values.items) clauses)) c.in_default.is c.in_ok-id.ensures.done in
     let a = advanced clauses (vars_of c.args.trail.now) c.loop-id.trail mid c.decide.new.trail (denied (slice_index (free_list mid.values.items) d.place)) c.requires.exist h.size h.before c.in_ok-id.ensures.state c.in_ok-id.ensures.adds closed d.steps d.state in
     let size = h.size in

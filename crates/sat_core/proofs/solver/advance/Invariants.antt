@@ -1,10 +1,10 @@
 use Rattle.std.proofs.Common.{◌≡◌, ◌-◌, length}
-use Rattle.sat_core.specs.Steps.{IsState, AreClosedBefore, vars_of}
+use Rattle.sat_core.specs.Steps.{IsTrailState, AreClosedBefore, vars_of}
 use Rattle.sat_core.proofs.solver.advance.Given as goal
 
 abbrev pub invariant-loop-id : goal.invariant-loop-id
 invariant-loop-id g l = record {
-  state : IsState l.clauses (vars_of l.initial.trail) l.trail;
+  state : IsTrailState l.clauses (vars_of l.initial.trail) l.trail;
   before : AreClosedBefore l.clauses l.trail.steps.items;
   size : vars_of l.trail ≡ vars_of l.initial.trail;
 }

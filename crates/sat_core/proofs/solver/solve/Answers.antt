@@ -5,7 +5,7 @@ use Rattle.std.proofs.lemmas.List.{length_push}
 use Rattle.cnf_core.specs.declared.literal.Lit.{Lit}
 use Rattle.cnf_core.specs.declared.line.Line.{Line}
 use Rattle.cnf_core.specs.Values.{IsClosed}
-use Rattle.sat_core.specs.Steps.{given, IsState}
+use Rattle.sat_core.specs.Steps.{given, IsTrailState}
 use Rattle.sat_core.specs.Looks.{IsFalsified}
 use Rattle.sat_core.specs.Picks.{free_list}
 use Rattle.sat_core.proofs.Searching.{IsSearch, search-none, search-moved, search-more, search-refuted, search-spent, search-solved}
@@ -19,7 +19,7 @@ loop-made-init g c =
     record {
       search = subst (λ (ls : List Line). IsSearch f ls clauses trail) (sym c.new-lines.ensures)
           (search-none f clauses trail c.in_ok-clauses.ensures.same c.vars.ensures.exist
-          (λ cs. subst (λ (n : ℕ). IsState cs n trail) c.vars.ensures.value (c.in_ok-trail.ensures.state cs)) c.in_ok-trail.ensures.none);
+          (λ cs. subst (λ (n : ℕ). IsTrailState cs n trail) c.vars.ensures.value (c.in_ok-trail.ensures.state cs)) c.in_ok-trail.ensures.none);
       count = ap length c.new-lines.ensures;
     }
 
@@ -40,7 +40,7 @@ returns-then-refuted-clause-refuted g c =
     let clauses = c.loop-made.clauses in
     let mid = c.advance.new.trail in
     let h = search-moved f c.loop-made.lines clauses c.loop-made.trail mid c.loop-made.invariant.search c.in_ok-advance.ensures.state c.in_ok-advance.ensures.before in
-    search-refuted f c.loop-made.lines c.push-in-Some.new.self clauses mid c.in_ok-line-in-Some.line c.loop-made.made c.args.conflicts h c.in_ok-line-in-Some.ensures.shown
+    search-refuted f c.loop-made.lines c.push-in-Some.new.self clauses mid c.in_ok-line-in-Some.line c.loop-made.made c.args.conflicts c.refutations_leave_no_solution.ensures h c.in_ok-line-in-Some.ensures.shown
     (c.is_empty-refuted.ensures.0 c.if-refuted.true) c.in_ok-push-in-Some-2.ensures.ok c.loop-made.invariant.count c.loop-made-test.true
 
 pub loop-made-preserved : goal.loop-made-preserved

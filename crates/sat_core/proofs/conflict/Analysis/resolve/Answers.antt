@@ -4,19 +4,19 @@ use Rattle.std.proofs.lemmas.List.{take_at, length-set}
 use Rattle.std.proofs.lemmas.Option.{get_or_from_slice_get}
 use Rattle.cnf_core.specs.declared.literal.Lit.{Lit}
 use Rattle.cnf_core.specs.Refutation.{clause_at}
-use Rattle.sat_core.specs.Walks.{Needs, late_count}
+use Rattle.sat_core.specs.Walks.{Needs, last_level_count}
 use Rattle.sat_core.proofs.Marking.{late-le}
 use Rattle.sat_core.proofs.conflict.Analysis.resolve.Goals as goal
 
 pub overflow_add-self : goal.overflow_add-self
 overflow_add-self c =
     let last = c.args.self.now.last in
-    let mid = c.need-added.new.needed in
-    let count : late_count last mid ≡ late_count last c.args.self.now.needed.items + c.need-added.result =
-    subst (λ (xs : List Bool). late_count last mid ≡ late_count last xs + c.need-added.result) c.as_mut_slice.ensures.value c.need-added.ensures.needs.count in
-    let size : length mid ≡ length c.args.self.now.needed.items = c.need-added.ensures.needs.size ∙ ap length c.as_mut_slice.ensures.value in
+    let mid = c.mark_clause-added.new.needed in
+    let count : last_level_count last mid ≡ last_level_count last c.args.self.now.needed.items + c.mark_clause-added.result =
+    subst (λ (xs : List Bool). last_level_count last mid ≡ last_level_count last xs + c.mark_clause-added.result) c.as_mut_slice.ensures.value c.mark_clause-added.ensures.needs.count in
+    let size : length mid ≡ length c.args.self.now.needed.items = c.mark_clause-added.ensures.needs.size ∙ ap length c.as_mut_slice.ensures.value in
     let few = late-le last mid in
-    let late = c.requires.late in
+    let at_last_level = c.requires.at_last_level in
     let ok = c.args.self.now.needed.ok in
     let small = c.args.self.now.needed.small in
     omega arith
@@ -25,13 +25,13 @@ pub returns : goal.returns
 returns c =
     let old = c.args.self.now in
     let last = old.last in
-    let mid = c.need-added.new.needed in
-    let added = c.need-added.result in
+    let mid = c.mark_clause-added.new.needed in
+    let added = c.mark_clause-added.result in
     let is : clause_at c.args.clauses.now c.args.id ≡ c.get.result.now = get_or_from_slice_get c.args.clauses.now (c.args.id - 1) c.get.result.now [] c.get.ensures in
     let needs = subst (λ (ps : List ℕ). Needs ps c.get.result.now c.get.result.now last old.needed.items mid added) c.deref.ensures.value
-    (subst (λ (xs : List Bool). Needs c.deref.result.now c.get.result.now c.get.result.now last xs mid added) c.as_mut_slice.ensures.value c.need-added.ensures.needs) in
+    (subst (λ (xs : List Bool). Needs c.deref.result.now c.get.result.now c.get.result.now last xs mid added) c.as_mut_slice.ensures.value c.mark_clause-added.ensures.needs) in
     let count = needs.count in
-    let late = c.requires.late in
+    let at_last_level = c.requires.at_last_level in
     let items = old.needed.items in
     let last-set = c.unmark-done.new.needed in
     let mid-size : length mid ≡ old.needed.len = needs.size ∙ sym old.needed.ok.0 in
@@ -41,16 +41,16 @@ returns c =
     let set-size : length last-set ≡ old.needed.len = ap length set-is ∙ length-set mid c.args.place false ∙ mid-size in
     let set-there : take old.needed.len (last-set ++ drop (length last-set) (take old.needed.len (mid ++ drop (length mid) items))) ≡ last-set =
     take_at last-set (drop (length last-set) (take old.needed.len (mid ++ drop (length mid) items))) old.needed.len set-size in
-    let done : late_count last mid ≡ late_count last c.unmark-done.new.needed + c.unmark-done.result =
-    subst (λ (xs : List Bool). late_count last xs ≡ late_count last c.unmark-done.new.needed + c.unmark-done.result) slice-is c.unmark-done.ensures.count in
+    let done : last_level_count last mid ≡ last_level_count last c.unmark-done.new.needed + c.unmark-done.result =
+    subst (λ (xs : List Bool). last_level_count last xs ≡ last_level_count last c.unmark-done.new.needed + c.unmark-done.result) slice-is c.unmark-done.ensures.count in
     record {
       mid = mid;
       added = added;
       needs = subst (λ (x : List Lit). Needs c.args.trail.now.places.items x x last old.needed.items mid added) (sym is) needs;
       needed = set-there ∙ set-is;
-      late = (let e : old.late + added - c.unmark-done.result ≡ late_count last c.unmark-done.new.needed = omega arith in e ∙ sym (ap (late_count last) set-there));
+      at_last_level = (let e : old.at_last_level + added - c.unmark-done.result ≡ last_level_count last c.unmark-done.new.needed = omega arith in e ∙ sym (ap (last_level_count last) set-there));
       lits = refl;
       hints = c.in_ok-push.ensures.items;
       last = refl;
-      stay = refl;
+      backjump = refl;
     }

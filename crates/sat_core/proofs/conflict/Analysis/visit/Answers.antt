@@ -4,7 +4,7 @@ use Rattle.cnf_core.specs.declared.literal.Lit.{Lit}
 use Rattle.sat_core.specs.declared.trail.Step.{Step}
 use Rattle.sat_core.specs.declared.conflict.Analysis.{Analysis}
 use Rattle.sat_core.specs.Steps.{vars_of}
-use Rattle.sat_core.specs.Walks.{Leads, stay_of}
+use Rattle.sat_core.specs.Walks.{Leads, backjump_after}
 use Rattle.sat_core.proofs.Walking.{stays-more}
 use Rattle.sat_core.proofs.conflict.Analysis.visit.Goals as goal
 
@@ -15,19 +15,19 @@ returns-clause-leads c =
     let i = c.args.place in
     let a = c.args.self.now in
     subst (λ (x : Analysis). (conflict : List Lit) → Leads clauses steps (i + 1) a.needed.items a.lits.items (reverse a.hints.items) conflict → Leads clauses steps i x.needed.items x.lits.items (reverse x.hints.items) conflict)
-    (sym c.aim.ensures) c.in_ok-settle.ensures.leads
+    (sym c.set_backjump.ensures) c.in_ok-resolve_or_keep.ensures.leads
 
 pub returns-clause-stays : goal.returns-clause-stays
 returns-clause-stays c = λ before.
     let steps = c.args.trail.now.steps.items in
     let i = c.args.place in
     let a = c.args.self.now in
-    let b = c.settle.new.self in
-    let m = c.aim.new.self in
+    let b = c.resolve_or_keep.new.self in
+    let m = c.set_backjump.new.self in
     let step = c.index.result.now in
-    let (more, is) = c.in_ok-settle.ensures.grows in
-    let lits : m.lits.items ≡ b.lits.items = ap (λ (x : Analysis). x.lits.items) c.aim.ensures in
-    let stay : m.stay ≡ stay_of step (length b.lits.items) i b.stay = ap (λ (x : Analysis). x.stay) c.aim.ensures in
-    stays-more c.args.clauses.now (vars_of c.args.trail.now) steps i step a.stay m.stay a.lits.items m.lits.items more b c.in_ok-settle.ensures.walked (sym lits) (lits ∙ is) c.requires.within
-    (stay ∙ ap (λ (x : Step). stay_of x (length b.lits.items) i b.stay) c.index.ensures ∙ ap (λ (n : ℕ). stay_of (get_or steps i step) n i b.stay) (ap length (sym lits)) ∙ ap (λ (n : ℕ). stay_of (get_or steps i step) (length m.lits.items) i n) c.in_ok-settle.ensures.stay)
+    let (more, is) = c.in_ok-resolve_or_keep.ensures.grows in
+    let lits : m.lits.items ≡ b.lits.items = ap (λ (x : Analysis). x.lits.items) c.set_backjump.ensures in
+    let backjump : m.backjump ≡ backjump_after step (length b.lits.items) i b.backjump = ap (λ (x : Analysis). x.backjump) c.set_backjump.ensures in
+    stays-more c.args.clauses.now (vars_of c.args.trail.now) steps i step a.backjump m.backjump a.lits.items m.lits.items more b c.in_ok-resolve_or_keep.ensures.walked (sym lits) (lits ∙ is) c.requires.within
+    (backjump ∙ ap (λ (x : Step). backjump_after x (length b.lits.items) i b.backjump) c.index.ensures ∙ ap (λ (n : ℕ). backjump_after (get_or steps i step) n i b.backjump) (ap length (sym lits)) ∙ ap (λ (n : ℕ). backjump_after (get_or steps i step) (length m.lits.items) i n) c.in_ok-resolve_or_keep.ensures.backjump)
     before

@@ -3,8 +3,8 @@ use Rattle.std.specs.Prelude.{reverse}
 use Rattle.cnf_core.specs.declared.literal.Lit.{Lit}
 use Rattle.sat_core.specs.Steps.{vars_of}
 use Rattle.sat_core.specs.Walks.{IsWalked, Leads, Resolves, Keeps}
-use Rattle.sat_core.proofs.Settling.{on-ok, mark-read, settled-skip, settled-keep, settled-resolve, reason-few}
-use Rattle.sat_core.proofs.conflict.Analysis.settle.Goals as goal
+use Rattle.sat_core.proofs.Resolving.{on-ok, mark-read, settled-skip, settled-keep, settled-resolve, reason-few}
+use Rattle.sat_core.proofs.conflict.Analysis.resolve_or_keep.Goals as goal
 
 pub returns-then-not-index-clause-walked : goal.returns-then-not-index-clause-walked
 returns-then-not-index-clause-walked c =

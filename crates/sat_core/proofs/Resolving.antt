@@ -35,10 +35,10 @@ settled-skip clauses n steps i a h unmarked =
 
 pub settled-keep : (clauses : List (List Lit)) (n : ℕ) (steps : List Step) (values : List (Option Bool)) (places : List ℕ) (i first : ℕ) (step : Step) (a b : Analysis)
     → AreSteps clauses n steps values places → IsFirstDecision steps first → IsLastDecision steps a.last → i < length steps
-    → IsWalked clauses n steps (i + 1) a → is_marked a.needed.items i ≡ true → step ≡ get_or steps i step → (step.reason ≡ None) ⊎ IsKeptAt first a.last a.late i
+    → IsWalked clauses n steps (i + 1) a → is_marked a.needed.items i ≡ true → step ≡ get_or steps i step → (step.reason ≡ None) ⊎ IsKeptAt first a.last a.at_last_level i
     → Keeps i step.lit a b → Settled clauses n steps i a b
 settled-keep clauses n steps values places i first step a b s is-first last few h marked is why k =
-    let why' = subst (λ (x : Step). (x.reason ≡ None) ⊎ IsKeptAt first a.last a.late i) is why in
+    let why' = subst (λ (x : Step). (x.reason ≡ None) ⊎ IsKeptAt first a.last a.at_last_level i) is why in
     let k' = subst (λ (x : Step). Keeps i x.lit a b) is k in
     record {
       walked = walked-keep clauses n steps values places i first step a b s is-first last few h marked why' k';
@@ -65,7 +65,7 @@ reason-few clauses n steps values places i id m step s over few is some size k d
 
 pub settled-resolve : (clauses : List (List Lit)) (n : ℕ) (steps : List Step) (values : List (Option Bool)) (places : List ℕ) (i id : ℕ) (step : Step) (a b : Analysis)
     → AreSteps clauses n steps values places → AreOver n clauses → i < length steps
-    → IsWalked clauses n steps (i + 1) a → is_marked a.needed.items i ≡ true → step ≡ get_or steps i step → step.reason ≡ Some id → (a.last ≤ i → a.late ≢ 1)
+    → IsWalked clauses n steps (i + 1) a → is_marked a.needed.items i ≡ true → step ≡ get_or steps i step → step.reason ≡ Some id → (a.last ≤ i → a.at_last_level ≢ 1)
     → Resolves clauses places id i a b → Settled clauses n steps i a b
 settled-resolve clauses n steps values places i id step a b s over few h marked is some more r =
     let reason = reason-of clauses n steps values places i id step s few is some in

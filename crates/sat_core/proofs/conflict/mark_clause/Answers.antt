@@ -1,8 +1,8 @@
 use Rattle.std.proofs.Common.{◌<◌, false, length, get_or, arith}
 use Rattle.cnf_core.specs.declared.literal.Lit.{Lit}
-use Rattle.sat_core.specs.Walks.{IsStepOf, place_of}
+use Rattle.sat_core.specs.Walks.{IsStepOf, step_place}
 use Rattle.sat_core.proofs.Marking.{needs-more, late-le}
-use Rattle.sat_core.proofs.conflict.need.Goals as goal
+use Rattle.sat_core.proofs.conflict.mark_clause.Goals as goal
 
 pub overflow_add-added : goal.overflow_add-added
 overflow_add-added c =
@@ -15,7 +15,7 @@ pub loop-lit-preserved : goal.loop-lit-preserved
 loop-lit-preserved c =
     let d : Lit = record { var = 0; positive = false } in
     let at : IsStepOf c.args.places.now (length c.args.needed.now) (get_or c.args.clause.now c.loop-lit.lit-index d) = c.requires.steps c.loop-lit.lit-index d c.loop-lit-test.true in
-    let before : place_of c.args.places.now (get_or c.args.clause.now c.loop-lit.lit-index d) < length c.args.needed.now = at.before in
+    let before : step_place c.args.places.now (get_or c.args.clause.now c.loop-lit.lit-index d) < length c.args.needed.now = at.before in
     let size = c.loop-lit.invariant.size in
     needs-more c.args.places.now c.args.clause.now c.args.last c.loop-lit.lit-index d c.args.needed.now c.loop-lit.needed c.mark-added.new.needed c.loop-lit.added c.mark-added.result
     c.loop-lit-test.true (omega arith) c.loop-lit.invariant c.mark-added.ensures.marks c.mark-added.ensures.count
