@@ -7,19 +7,19 @@ use Rattle.std.proofs.lemmas.List.Quantifiers.{all_pairs_push}
 use Rattle.cnf_core.specs.declared.literal.Lit.{Lit}
 use Rattle.cnf_core.specs.Formula.{IsLitOf}
 use Rattle.cnf_core.specs.Formula.{negated}
-use Rattle.cnf_core.specs.Values.{IsFree}
+use Rattle.cnf_core.specs.Values.{IsUnassigned}
 use Rattle.cnf_core.specs.Refutation.{refuted}
 use Rattle.refutation_check.specs.declared.values.Mark.{Mark}
-use Rattle.refutation_check.specs.Marked.{marked, Shows, with_true, AreUpTo, AreApart}
+use Rattle.refutation_check.specs.Marked.{marked, Shows, with_true, NoneIsLater, AreDistinctAmong}
 use Rattle.refutation_check.proofs.Showing.{Shows-none, Shows-push, free-differ, differ-free}
 
 -- the literals so far are apart, and the marks show that they are false
 pub record AssumedSoFar (line : ℕ) (marks : List Mark) (front : List Lit) : Type 0 where
-  pub apart : AreApart (length marks) front
+  pub apart : AreDistinctAmong (length marks) front
   pub shows : Shows line marks (refuted front)
-  pub bound : AreUpTo line marks
+  pub bound : NoneIsLater line marks
 
-pub assumed-none : (line : ℕ) (marks : List Mark) (lits : List Lit) → 1 ≤ line → AreUpTo (line - 1) marks → AssumedSoFar line marks (take 0 lits)
+pub assumed-none : (line : ℕ) (marks : List Mark) (lits : List Lit) → 1 ≤ line → NoneIsLater (line - 1) marks → AssumedSoFar line marks (take 0 lits)
 assumed-none line marks lits some h =
     let at : line - 1 + 1 ≡ line = omega arith in
     record {
@@ -28,7 +28,7 @@ assumed-none line marks lits some h =
       bound = All-weaker (λ (m : Mark). m.line ≤ line - 1) (λ (m : Mark). m.line ≤ line) (λ m p. omega arith) marks h;
     }
 
-pub assumed-more : (line : ℕ) (marks : List Mark) (lits : List Lit) (i : ℕ) (d : Lit) → i < length lits → AssumedSoFar line marks (take i lits) → IsLitOf (length marks) (get_or lits i d) → IsFree (marked line marks) (get_or lits i d) → AssumedSoFar line (with_true line marks (negated (get_or lits i d))) (take (i + 1) lits)
+pub assumed-more : (line : ℕ) (marks : List Mark) (lits : List Lit) (i : ℕ) (d : Lit) → i < length lits → AssumedSoFar line marks (take i lits) → IsLitOf (length marks) (get_or lits i d) → IsUnassigned (marked line marks) (get_or lits i d) → AssumedSoFar line (with_true line marks (negated (get_or lits i d))) (take (i + 1) lits)
 assumed-more line marks lits i d few h at free =
     let l = get_or lits i d in
     let n = length-set marks (l.var - 1) (record { line = line; positive = not l.positive }) in
@@ -46,7 +46,7 @@ assumed-more line marks lits i d few h at free =
     }
 
 -- a variable that has a value already: two literals are of it
-pub not-apart : (line : ℕ) (marks : List Mark) (lits : List Lit) (i : ℕ) (d : Lit) → i < length lits → AssumedSoFar line marks (take i lits) → IsLitOf (length marks) (get_or lits i d) → (IsFree (marked line marks) (get_or lits i d) → ⊥) → (n : ℕ) → AreApart n lits → ⊥
+pub not-apart : (line : ℕ) (marks : List Mark) (lits : List Lit) (i : ℕ) (d : Lit) → i < length lits → AssumedSoFar line marks (take i lits) → IsLitOf (length marks) (get_or lits i d) → (IsUnassigned (marked line marks) (get_or lits i d) → ⊥) → (n : ℕ) → AreDistinctAmong n lits → ⊥
 not-apart line marks lits i d few h at busy n apart =
     let l = get_or lits i d in
     busy (sym (h.shows l.var at.above at.within) ∙ differ-free (take i lits) l.var

@@ -7,11 +7,11 @@ use Rattle.std.proofs.lemmas.List.Elements.{All-set, All-contains}
 use Rattle.cnf_core.specs.declared.literal.Lit.{Lit}
 use Rattle.cnf_core.specs.declared.line.Line.{Line}
 use Rattle.cnf_core.specs.Formula.{Formula, IsLitOf}
-use Rattle.cnf_core.specs.Values.{value_in, IsUnit, IsFalseClause}
+use Rattle.cnf_core.specs.Values.{partial_of, IsUnit, IsFalseClause}
 use Rattle.cnf_core.specs.Refutation.{known, clause_at, Reaches, refuted, HasUnits, EndsFalse}
 use Rattle.refutation_check.proofs.Reaching.{reaches-more, reaches-stuck, reaches-unique, unit-agrees, false-agrees}
 use Rattle.refutation_check.specs.declared.values.Mark.{Mark}
-use Rattle.refutation_check.specs.Marked.{marked, Shows, with_true, AreUpTo, Follows}
+use Rattle.refutation_check.specs.Marked.{marked, Shows, with_true, NoneIsLater, Follows}
 use Rattle.refutation_check.proofs.Showing.{Shows-cons}
 
 -- a hint past the formula's clauses names a lemma
@@ -28,22 +28,22 @@ clause_at-lemma clauses earlier h d low high =
     ∙ get_or-lemmas earlier (h - length clauses - 1) d (omega arith)
 
 -- the marks and the literals which they show agree on a clause's variables
-agree : (line : ℕ) (marks : List Mark) (s : List Lit) (c : List Lit) → Shows line marks s → All (IsLitOf (length marks)) c → (m : Lit) → Contains c m → value_in s m.var ≡ marked line marks m.var
+agree : (line : ℕ) (marks : List Mark) (s : List Lit) (c : List Lit) → Shows line marks s → All (IsLitOf (length marks)) c → (m : Lit) → Contains c m → partial_of s m.var ≡ marked line marks m.var
 agree line marks s c h exist m there =
     let at = All-contains (IsLitOf (length marks)) c m exist there in
     h m.var at.above at.within
 
-pub unit-shown : (line : ℕ) (marks : List Mark) (s : List Lit) (c : List Lit) (l : Lit) → Shows line marks s → All (IsLitOf (length marks)) c → IsUnit (marked line marks) c l → IsUnit (value_in s) c l
-unit-shown line marks s c l h exist u = unit-agrees (marked line marks) (value_in s) c l (λ m there. sym (agree line marks s c h exist m there)) u
+pub unit-shown : (line : ℕ) (marks : List Mark) (s : List Lit) (c : List Lit) (l : Lit) → Shows line marks s → All (IsLitOf (length marks)) c → IsUnit (marked line marks) c l → IsUnit (partial_of s) c l
+unit-shown line marks s c l h exist u = unit-agrees (marked line marks) (partial_of s) c l (λ m there. sym (agree line marks s c h exist m there)) u
 
-pub unit-marked : (line : ℕ) (marks : List Mark) (s : List Lit) (c : List Lit) (l : Lit) → Shows line marks s → All (IsLitOf (length marks)) c → IsUnit (value_in s) c l → IsUnit (marked line marks) c l
-unit-marked line marks s c l h exist u = unit-agrees (value_in s) (marked line marks) c l (agree line marks s c h exist) u
+pub unit-marked : (line : ℕ) (marks : List Mark) (s : List Lit) (c : List Lit) (l : Lit) → Shows line marks s → All (IsLitOf (length marks)) c → IsUnit (partial_of s) c l → IsUnit (marked line marks) c l
+unit-marked line marks s c l h exist u = unit-agrees (partial_of s) (marked line marks) c l (agree line marks s c h exist) u
 
-pub false-shown : (line : ℕ) (marks : List Mark) (s : List Lit) (c : List Lit) → Shows line marks s → All (IsLitOf (length marks)) c → IsFalseClause (marked line marks) c → IsFalseClause (value_in s) c
-false-shown line marks s c h exist f = false-agrees (marked line marks) (value_in s) c (λ m there. sym (agree line marks s c h exist m there)) f
+pub false-shown : (line : ℕ) (marks : List Mark) (s : List Lit) (c : List Lit) → Shows line marks s → All (IsLitOf (length marks)) c → IsFalseClause (marked line marks) c → IsFalseClause (partial_of s) c
+false-shown line marks s c h exist f = false-agrees (marked line marks) (partial_of s) c (λ m there. sym (agree line marks s c h exist m there)) f
 
-pub false-marked : (line : ℕ) (marks : List Mark) (s : List Lit) (c : List Lit) → Shows line marks s → All (IsLitOf (length marks)) c → IsFalseClause (value_in s) c → IsFalseClause (marked line marks) c
-false-marked line marks s c h exist f = false-agrees (value_in s) (marked line marks) c (agree line marks s c h exist) f
+pub false-marked : (line : ℕ) (marks : List Mark) (s : List Lit) (c : List Lit) → Shows line marks s → All (IsLitOf (length marks)) c → IsFalseClause (partial_of s) c → IsFalseClause (marked line marks) c
+false-marked line marks s c h exist f = false-agrees (partial_of s) (marked line marks) c (agree line marks s c h exist) f
 
 -- one more hint that is unit
 pub follows-more : (cs : List (List Lit)) (hs : List ℕ) (i d line : ℕ) (old marks : List Mark) (c : List Lit) (n : ℕ) (l : Lit) → i < length hs → Follows true cs (take i hs) line old marks → c ≡ clause_at cs (get_or hs i d) → length marks ≡ n → All (IsLitOf n) c → IsUnit (marked line marks) c l → Follows true cs (take (i + 1) hs) line old (with_true line marks l)
@@ -51,17 +51,17 @@ follows-more cs hs i d line old marks c n l few before is size exist' unit s sho
     let (t, way, shows) = before s shown in
     let exist = subst (λ (k : ℕ). All (IsLitOf k) c) (sym size) exist' in
     let at = All-contains (IsLitOf (length marks)) c l exist unit.among in
-    (l ∷ t, reaches-more cs s hs i d t l few way (subst (λ (x : List Lit). IsUnit (value_in t) x l) is (unit-shown line marks t c l shows exist unit)), Shows-cons line marks t l shows at.above at.within)
+    (l ∷ t, reaches-more cs s hs i d t l few way (subst (λ (x : List Lit). IsUnit (partial_of t) x l) is (unit-shown line marks t c l shows exist unit)), Shows-cons line marks t l shows at.above at.within)
 
 -- a hint that is not unit
 pub follows-stuck : (cs : List (List Lit)) (hs : List ℕ) (i d line : ℕ) (old marks new : List Mark) (c : List Lit) (n : ℕ) → i < length hs → Follows true cs (take i hs) line old marks → c ≡ clause_at cs (get_or hs i d) → length marks ≡ n → All (IsLitOf n) c → ((l : Lit) → IsUnit (marked line marks) c l → ⊥) → Follows false cs hs line old new
 follows-stuck cs hs i d line old marks new c n few before is size exist' none s shown u way' =
     let (t, way, shows) = before s shown in
     let exist = subst (λ (k : ℕ). All (IsLitOf k) c) (sym size) exist' in
-    reaches-stuck cs s hs i d t u few way (λ l unit. none l (unit-marked line marks t c l shows exist (subst (λ (x : List Lit). IsUnit (value_in t) x l) (sym is) unit))) way'
+    reaches-stuck cs s hs i d t u few way (λ l unit. none l (unit-marked line marks t c l shows exist (subst (λ (x : List Lit). IsUnit (partial_of t) x l) (sym is) unit))) way'
 
 -- the mark of a literal that this line makes true
-pub bound-set : (line : ℕ) (marks : List Mark) (l : Lit) → AreUpTo line marks → AreUpTo line (with_true line marks l)
+pub bound-set : (line : ℕ) (marks : List Mark) (l : Lit) → NoneIsLater line marks → NoneIsLater line (with_true line marks l)
 bound-set line marks l h = All-set (λ (m : Mark). m.line ≤ line) marks (l.var - 1) (record { line = line; positive = l.positive }) (omega arith) h
 
 take-nil : (n : ℕ) → ◌≡◌ {A = List ℕ} (take n []) []
@@ -82,5 +82,5 @@ not-ends f earlier line number marks c t way shows size is exist' fails =
       (t, way),
       (λ ends.
           let same = reaches-unique (known f.clauses earlier) (refuted line.lits) (take (length line.hints - 1) line.hints) ends.0 t ends.1 way in
-          fails (false-marked number marks t c shows exist (subst (λ (x : List Lit). IsFalseClause (value_in x) c) same (subst (λ (x : List Lit). IsFalseClause (value_in ends.0) x) (sym is) ends.3)))),
+          fails (false-marked number marks t c shows exist (subst (λ (x : List Lit). IsFalseClause (partial_of x) c) same (subst (λ (x : List Lit). IsFalseClause (partial_of ends.0) x) (sym is) ends.3)))),
     )

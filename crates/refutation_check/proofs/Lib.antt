@@ -5,8 +5,7 @@ pub mod OneReading
 pub mod Printing
 pub mod Reaching
 pub mod LineReading
+pub mod Looking
 pub mod Runs
 pub mod Showing
-pub mod Sound
-pub mod Units
 pub mod Wording

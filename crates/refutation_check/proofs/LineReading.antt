@@ -11,12 +11,12 @@ use Rattle.std.proofs.Math.Seq.{drop-cons}
 use Rattle.std.proofs.Math.ListN.{drop_of_length-le}
 use Rattle.cnf_core.specs.declared.line.Line.{Line}
 use Rattle.cnf_core.specs.declared.literal.Lit.{Lit}
-use Rattle.refutation_check.specs.LineWords.{IsSmall, IsId, IsIdLiteral, literal_word, IsLineOf, AreLinesAt, IsFirstBadLine, IsReadFault, IsBadLineAt, AreUpTo, AreNone}
+use Rattle.refutation_check.specs.LineWords.{IsSmall, IsId, IsIdLiteral, literal_word, IsLineOf, AreLinesAt, IsFirstBadLine, IsReadFault, IsBadLineAt, IsRun, IsNoRun}
 use Rattle.refutation_check.proofs.Runs.{rest-same}
 use Rattle.refutation_check.proofs.Wording.{id-not_zero, literal-not_zero}
 
 pub line-read : (row : List (List ℕ)) (word d : List ℕ) (line : Line) (after end : ℕ) → 0 < length row → word ≡ get_or row 0 d → word ≡ decimal line.id → IsSmall line.id
-    → AreUpTo literal_word IsIdLiteral row 1 line.lits after → AreUpTo decimal IsId row after line.hints end → length row ≤ end → IsLineOf row line
+    → IsRun literal_word IsIdLiteral row 1 line.lits after → IsRun decimal IsId row after line.hints end → length row ≤ end → IsLineOf row line
 line-read row word d line after end few read is small lits hints all =
     record {
       words = drop-cons row 0 d few
@@ -32,18 +32,18 @@ line-empty row l none h = (let size = ap length h.words in absurd (omega arith))
 pub line-no_id : (row : List (List ℕ)) (word d : List ℕ) (l : Line) → word ≡ get_or row 0 d → ((n : ℕ) → IsSmall n → word ≡ decimal n → ⊥) → IsLineOf row l → ⊥
 line-no_id row word d l read none h = none l.id h.readable.id (read ∙ ap (λ (ws : List (List ℕ)). get_or ws 0 d) h.words)
 
-pub line-no_literals : (row : List (List ℕ)) (l : Line) → AreNone literal_word IsIdLiteral row 1 → IsLineOf row l → ⊥
+pub line-no_literals : (row : List (List ℕ)) (l : Line) → IsNoRun literal_word IsIdLiteral row 1 → IsLineOf row l → ⊥
 line-no_literals row l none h = none l.lits (map decimal l.hints ++ codes "0" ∷ []) h.readable.lits (ap (λ (ws : List (List ℕ)). drop 1 ws) h.words)
 
 -- what follows the literals
-after-literals : (row : List (List ℕ)) (lits : List Lit) (l : Line) (after : ℕ) → AreUpTo literal_word IsIdLiteral row 1 lits after → IsLineOf row l → drop after row ≡ map decimal l.hints ++ codes "0" ∷ []
+after-literals : (row : List (List ℕ)) (lits : List Lit) (l : Line) (after : ℕ) → IsRun literal_word IsIdLiteral row 1 lits after → IsLineOf row l → drop after row ≡ map decimal l.hints ++ codes "0" ∷ []
 after-literals row lits l after a h =
     rest-same literal_word IsIdLiteral literal-not_zero lits l.lits (drop after row) (map decimal l.hints ++ codes "0" ∷ []) a.fine h.readable.lits (sym a.words ∙ ap (λ (ws : List (List ℕ)). drop 1 ws) h.words)
 
-pub line-no_hints : (row : List (List ℕ)) (lits : List Lit) (l : Line) (after : ℕ) → AreUpTo literal_word IsIdLiteral row 1 lits after → AreNone decimal IsId row after → IsLineOf row l → ⊥
+pub line-no_hints : (row : List (List ℕ)) (lits : List Lit) (l : Line) (after : ℕ) → IsRun literal_word IsIdLiteral row 1 lits after → IsNoRun decimal IsId row after → IsLineOf row l → ⊥
 line-no_hints row lits l after a none h = none l.hints [] h.readable.hints (after-literals row lits l after a h)
 
-pub line-more : (row : List (List ℕ)) (lits : List Lit) (hints : List ℕ) (l : Line) (after end : ℕ) → AreUpTo literal_word IsIdLiteral row 1 lits after → AreUpTo decimal IsId row after hints end → end < length row → IsLineOf row l → ⊥
+pub line-more : (row : List (List ℕ)) (lits : List Lit) (hints : List ℕ) (l : Line) (after end : ℕ) → IsRun literal_word IsIdLiteral row 1 lits after → IsRun decimal IsId row after hints end → end < length row → IsLineOf row l → ⊥
 line-more row lits hints l after end a b more h =
     let rest : drop end row ≡ [] = rest-same decimal IsId id-not_zero hints l.hints (drop end row) [] b.fine h.readable.hints (sym b.words ∙ after-literals row lits l after a h) in
     let size : length (drop end row) ≡ 0 = ap length rest in

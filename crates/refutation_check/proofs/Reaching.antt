@@ -7,7 +7,7 @@ use Rattle.std.proofs.lemmas.Bool.{cases_eq, cases_lt}
 use Rattle.cnf_core.specs.declared.literal.Lit.{Lit}
 use Rattle.cnf_core.specs.declared.line.Line.{Line}
 use Rattle.cnf_core.specs.Formula.{Formula}
-use Rattle.cnf_core.specs.Values.{Partial, value_in, IsUnit, IsFalse, IsFalseClause}
+use Rattle.cnf_core.specs.Values.{Partial, partial_of, IsUnit, IsFalse, IsFalseClause}
 use Rattle.cnf_core.specs.Refutation.{clause_at, Reaches, IsAccepted, AreRight, IsRefusedFor, IsFirstRefusal}
 
 none≢some : {b : Bool} → None ≡ Some b → ⊥
@@ -24,19 +24,19 @@ unit-unique s c l m a b =
 pub reaches-unique : (cs : List (List Lit)) (s : List Lit) (hs : List ℕ) (t u : List Lit) → Reaches cs s hs t → Reaches cs s hs u → t ≡ u
 reaches-unique cs s [] t u a b = sym a ∙ b
 reaches-unique cs s (h ∷ hs) t u a b =
-    let e = unit-unique (value_in s) (clause_at cs h) b.0 a.0 b.1 a.1 in
+    let e = unit-unique (partial_of s) (clause_at cs h) b.0 a.0 b.1 a.1 in
     reaches-unique cs (a.0 ∷ s) hs t u a.2 (subst (λ (l : Lit). Reaches cs (l ∷ s) hs u) e b.2)
 
 -- one more unit hint
-pub reaches-push : (cs : List (List Lit)) (s : List Lit) (hs : List ℕ) (t : List Lit) (h : ℕ) (l : Lit) → Reaches cs s hs t → IsUnit (value_in t) (clause_at cs h) l → Reaches cs s (hs ++ h ∷ []) (l ∷ t)
-reaches-push cs s [] t h l r u = (l, subst (λ (x : List Lit). IsUnit (value_in x) (clause_at cs h) l) (sym r) u, ap (λ (x : List Lit). l ∷ x) r)
+pub reaches-push : (cs : List (List Lit)) (s : List Lit) (hs : List ℕ) (t : List Lit) (h : ℕ) (l : Lit) → Reaches cs s hs t → IsUnit (partial_of t) (clause_at cs h) l → Reaches cs s (hs ++ h ∷ []) (l ∷ t)
+reaches-push cs s [] t h l r u = (l, subst (λ (x : List Lit). IsUnit (partial_of x) (clause_at cs h) l) (sym r) u, ap (λ (x : List Lit). l ∷ x) r)
 reaches-push cs s (g ∷ hs) t h l r u = (r.0, r.1, reaches-push cs (r.0 ∷ s) hs t h l r.2 u)
 
-pub reaches-more : (cs : List (List Lit)) (s : List Lit) (hs : List ℕ) (i d : ℕ) (t : List Lit) (l : Lit) → i < length hs → Reaches cs s (take i hs) t → IsUnit (value_in t) (clause_at cs (get_or hs i d)) l → Reaches cs s (take (i + 1) hs) (l ∷ t)
+pub reaches-more : (cs : List (List Lit)) (s : List Lit) (hs : List ℕ) (i d : ℕ) (t : List Lit) (l : Lit) → i < length hs → Reaches cs s (take i hs) t → IsUnit (partial_of t) (clause_at cs (get_or hs i d)) l → Reaches cs s (take (i + 1) hs) (l ∷ t)
 reaches-more cs s hs i d t l few r u = subst (λ (xs : List ℕ). Reaches cs s xs (l ∷ t)) (sym (take_more hs i d few)) (reaches-push cs s (take i hs) t (get_or hs i d) l r u)
 
 -- where hints lead, each of them is unit after those before it
-pub reaches-at : (cs : List (List Lit)) (s : List Lit) (hs : List ℕ) (i d : ℕ) (u : List Lit) → i < length hs → Reaches cs s hs u → (t : List Lit) × (l : Lit) × Reaches cs s (take i hs) t × IsUnit (value_in t) (clause_at cs (get_or hs i d)) l
+pub reaches-at : (cs : List (List Lit)) (s : List Lit) (hs : List ℕ) (i d : ℕ) (u : List Lit) → i < length hs → Reaches cs s hs u → (t : List Lit) × (l : Lit) × Reaches cs s (take i hs) t × IsUnit (partial_of t) (clause_at cs (get_or hs i d)) l
 reaches-at cs s [] i d u few r = absurd (omega arith)
 reaches-at cs s (h ∷ hs) zero d u few r = (s, r.0, refl, r.1)
 reaches-at cs s (h ∷ hs) (suc i) d u few r =
@@ -44,10 +44,10 @@ reaches-at cs s (h ∷ hs) (suc i) d u few r =
     (t, l, (r.0, r.1, way), unit)
 
 -- so hints lead nowhere past one that is not unit
-pub reaches-stuck : (cs : List (List Lit)) (s : List Lit) (hs : List ℕ) (i d : ℕ) (t u : List Lit) → i < length hs → Reaches cs s (take i hs) t → ((l : Lit) → IsUnit (value_in t) (clause_at cs (get_or hs i d)) l → ⊥) → Reaches cs s hs u → ⊥
+pub reaches-stuck : (cs : List (List Lit)) (s : List Lit) (hs : List ℕ) (i d : ℕ) (t u : List Lit) → i < length hs → Reaches cs s (take i hs) t → ((l : Lit) → IsUnit (partial_of t) (clause_at cs (get_or hs i d)) l → ⊥) → Reaches cs s hs u → ⊥
 reaches-stuck cs s hs i d t u few way none r =
     let (t', l, way', unit) = reaches-at cs s hs i d u few r in
-    none l (subst (λ (x : List Lit). IsUnit (value_in x) (clause_at cs (get_or hs i d)) l) (reaches-unique cs s (take i hs) t' t way' way) unit)
+    none l (subst (λ (x : List Lit). IsUnit (partial_of x) (clause_at cs (get_or hs i d)) l) (reaches-unique cs s (take i hs) t' t way' way) unit)
 
 -- values that agree on the clause's variables make the same literal unit, and the same clauses false
 pub unit-agrees : (p q : Partial) (c : List Lit) (l : Lit) → ((m : Lit) → Contains c m → p m.var ≡ q m.var) → IsUnit p c l → IsUnit q c l

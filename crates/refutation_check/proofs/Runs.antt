@@ -6,7 +6,7 @@ use Rattle.std.proofs.lemmas.List.{map_push}
 use Rattle.std.proofs.lemmas.List.Elements.{All-nil, All-head, All-tail, All-push}
 use Rattle.std.proofs.Math.Seq.{drop-cons}
 use Rattle.std.proofs.Math.ListN.{drop_of_length-le}
-use Rattle.refutation_check.specs.LineWords.{AreUpTo, AreNone}
+use Rattle.refutation_check.specs.LineWords.{IsRun, IsNoRun}
 
 -- the first word of a list that isn't empty
 pub head-same : {X : Type 0} (x y : X) (xs ys : List X) → x ∷ xs ≡ y ∷ ys → x ≡ y
@@ -40,7 +40,7 @@ module _ {X : Type 0} (word_of : X → List ℕ) (IsFine : X → Type 0) (apart 
       }
 
   -- the zero after the items
-  pub ends-at_zero : (row : List (List ℕ)) (from : ℕ) (items : List X) (at : ℕ) (word d : List ℕ) → at < length row → word ≡ get_or row at d → word ≡ codes "0" → SoFar row from items at → AreUpTo word_of IsFine row from items (at + 1)
+  pub ends-at_zero : (row : List (List ℕ)) (from : ℕ) (items : List X) (at : ℕ) (word d : List ℕ) → at < length row → word ≡ get_or row at d → word ≡ codes "0" → SoFar row from items at → IsRun word_of IsFine row from items (at + 1)
   ends-at_zero row from items at word d few read is h =
       let next : drop at row ≡ codes "0" ∷ drop (at + 1) row =
       drop-cons row at d few ∙ ap (λ (w : List ℕ). w ∷ drop (suc at) row) (sym read ∙ is) ∙ ap (λ (n : ℕ). codes "0" ∷ drop n row) (sym (add-one at)) in
@@ -61,7 +61,7 @@ module _ {X : Type 0} (word_of : X → List ℕ) (IsFine : X → Type 0) (apart 
       clash xs ys tail rest (All-tail IsFine x xs a) (All-tail IsFine y ys b) no_zero no_item (tail-same (word_of x) (word_of y) (map word_of xs ++ tail) (map word_of ys ++ codes "0" ∷ rest) e)
 
   -- a word that is neither an item nor a zero
-  pub none-at : (row : List (List ℕ)) (from : ℕ) (items : List X) (at : ℕ) (word d : List ℕ) → at < length row → word ≡ get_or row at d → (word ≡ codes "0" → ⊥) → ((x : X) → IsFine x → word ≡ word_of x → ⊥) → SoFar row from items at → AreNone word_of IsFine row from
+  pub none-at : (row : List (List ℕ)) (from : ℕ) (items : List X) (at : ℕ) (word d : List ℕ) → at < length row → word ≡ get_or row at d → (word ≡ codes "0" → ⊥) → ((x : X) → IsFine x → word ≡ word_of x → ⊥) → SoFar row from items at → IsNoRun word_of IsFine row from
   none-at row from items at word d few read not_zero not_item h others rest fine is =
       let next : drop at row ≡ word ∷ drop (suc at) row = drop-cons row at d few ∙ ap (λ (w : List ℕ). w ∷ drop (suc at) row) (sym read) in
       clash items others (drop at row) rest h.fine fine
@@ -70,7 +70,7 @@ module _ {X : Type 0} (word_of : X → List ℕ) (IsFine : X → Type 0) (apart 
       (sym h.words ∙ is)
 
   -- no zero at all
-  pub none-past : (row : List (List ℕ)) (from : ℕ) (items : List X) (at : ℕ) → length row ≤ at → SoFar row from items at → AreNone word_of IsFine row from
+  pub none-past : (row : List (List ℕ)) (from : ℕ) (items : List X) (at : ℕ) → length row ≤ at → SoFar row from items at → IsNoRun word_of IsFine row from
   none-past row from items at all h others rest fine is =
       let next : drop at row ≡ [] = drop_of_length-le row all in
       clash items others (drop at row) rest h.fine fine

@@ -5,16 +5,16 @@ use Rattle.std.proofs.lemmas.Bool.{cases_Bool, cases_eq, cond-true, cond-false, 
 use Rattle.std.proofs.lemmas.List.{get_or-set_same, get_or-set_other, length-set}
 use Rattle.std.proofs.lemmas.List.Elements.{All-nil, All-cons, All-head, All-tail, All-get_or}
 use Rattle.cnf_core.specs.declared.literal.Lit.{Lit}
-use Rattle.cnf_core.specs.Values.{value_in}
+use Rattle.cnf_core.specs.Values.{partial_of}
 use Rattle.cnf_core.specs.Refutation.{refuted}
 use Rattle.refutation_check.specs.declared.values.Mark.{Mark}
-use Rattle.refutation_check.specs.Marked.{value_of_mark, marked, Shows, with_true, AreUpTo}
+use Rattle.refutation_check.specs.Marked.{value_of_mark, marked, Shows, with_true, NoneIsLater}
 
 none≢some : {b : Bool} → None ≡ Some b → ⊥
 none≢some e = cc
 
 -- a fresh line shows no literal
-pub Shows-none : (line : ℕ) (marks : List Mark) → AreUpTo line marks → Shows (line + 1) marks []
+pub Shows-none : (line : ℕ) (marks : List Mark) → NoneIsLater line marks → Shows (line + 1) marks []
 unfolding marked
 Shows-none line marks h x low high =
     let m = get_or marks (x - 1) (record { line = 0; positive = false }) in
@@ -40,20 +40,20 @@ pub Shows-cons : (line : ℕ) (marks : List Mark) (s : List Lit) (l : Lit) → S
 Shows-cons line marks s l h low high x low' high' =
     let n = length-set marks (l.var - 1) (record { line = line; positive = l.positive }) in
     elim (cases_eq l.var x) [
-      | inl same ↦ cond-true (eqb l.var x) (Some l.positive) (value_in s x) (eq-eqb l.var x same) ∙ sym (marked-same line marks l low high) ∙ ap (marked line (with_true line marks l)) same
-      | inr other ↦ cond-false (eqb l.var x) (Some l.positive) (value_in s x) (ne_eqb l.var x other) ∙ h x low' (omega arith) ∙ sym (marked-other line marks l x low low' other)
+      | inl same ↦ cond-true (eqb l.var x) (Some l.positive) (partial_of s x) (eq-eqb l.var x same) ∙ sym (marked-same line marks l low high) ∙ ap (marked line (with_true line marks l)) same
+      | inr other ↦ cond-false (eqb l.var x) (Some l.positive) (partial_of s x) (ne_eqb l.var x other) ∙ h x low' (omega arith) ∙ sym (marked-other line marks l x low low' other)
     ]
 
-value_in-push-other : (s : List Lit) (l : Lit) (x : ℕ) → (l.var ≡ x → ⊥) → value_in (s ++ l ∷ []) x ≡ value_in s x
-value_in-push-other [] l x other = cond-false (eqb l.var x) (Some l.positive) None (ne_eqb l.var x other)
-value_in-push-other (m ∷ ms) l x other = ap (λ (o : Option Bool). cond (eqb m.var x) (Some m.positive) o) (value_in-push-other ms l x other)
+partial_of-push-other : (s : List Lit) (l : Lit) (x : ℕ) → (l.var ≡ x → ⊥) → partial_of (s ++ l ∷ []) x ≡ partial_of s x
+partial_of-push-other [] l x other = cond-false (eqb l.var x) (Some l.positive) None (ne_eqb l.var x other)
+partial_of-push-other (m ∷ ms) l x other = ap (λ (o : Option Bool). cond (eqb m.var x) (Some m.positive) o) (partial_of-push-other ms l x other)
 
-value_in-push-same : (s : List Lit) (l : Lit) → value_in s l.var ≡ None → value_in (s ++ l ∷ []) l.var ≡ Some l.positive
-value_in-push-same [] l free = cond-true (eqb l.var l.var) (Some l.positive) None (eq-eqb l.var l.var refl)
-value_in-push-same (m ∷ ms) l free =
+partial_of-push-same : (s : List Lit) (l : Lit) → partial_of s l.var ≡ None → partial_of (s ++ l ∷ []) l.var ≡ Some l.positive
+partial_of-push-same [] l free = cond-true (eqb l.var l.var) (Some l.positive) None (eq-eqb l.var l.var refl)
+partial_of-push-same (m ∷ ms) l free =
     elim (cases_Bool (eqb m.var l.var)) [
-      | inl same ↦ absurd (none≢some (sym free ∙ cond-true (eqb m.var l.var) (Some m.positive) (value_in ms l.var) same))
-      | inr other ↦ cond-false (eqb m.var l.var) (Some m.positive) (value_in (ms ++ l ∷ []) l.var) other ∙ value_in-push-same ms l (sym (cond-false (eqb m.var l.var) (Some m.positive) (value_in ms l.var) other) ∙ free)
+      | inl same ↦ absurd (none≢some (sym free ∙ cond-true (eqb m.var l.var) (Some m.positive) (partial_of ms l.var) same))
+      | inr other ↦ cond-false (eqb m.var l.var) (Some m.positive) (partial_of (ms ++ l ∷ []) l.var) other ∙ partial_of-push-same ms l (sym (cond-false (eqb m.var l.var) (Some m.positive) (partial_of ms l.var) other) ∙ free)
     ]
 
 -- or after them, where its variable was free
@@ -61,24 +61,24 @@ pub Shows-push : (line : ℕ) (marks : List Mark) (s : List Lit) (l : Lit) → S
 Shows-push line marks s l h low high free x low' high' =
     let n = length-set marks (l.var - 1) (record { line = line; positive = l.positive }) in
     elim (cases_eq l.var x) [
-      | inl same ↦ subst (λ (y : ℕ). value_in (s ++ l ∷ []) y ≡ marked line (with_true line marks l) y) same
-          (value_in-push-same s l (h l.var low high ∙ free) ∙ sym (marked-same line marks l low high))
-      | inr other ↦ value_in-push-other s l x other ∙ h x low' (omega arith) ∙ sym (marked-other line marks l x low low' other)
+      | inl same ↦ subst (λ (y : ℕ). partial_of (s ++ l ∷ []) y ≡ marked line (with_true line marks l) y) same
+          (partial_of-push-same s l (h l.var low high ∙ free) ∙ sym (marked-same line marks l low high))
+      | inr other ↦ partial_of-push-other s l x other ∙ h x low' (omega arith) ∙ sym (marked-other line marks l x low low' other)
     ]
 
 -- a variable has no value exactly where no literal is of it
-pub free-differ : (xs : List Lit) (x : ℕ) → value_in (refuted xs) x ≡ None → All (λ (m : Lit). m.var ≢ x) xs
+pub free-differ : (xs : List Lit) (x : ℕ) → partial_of (refuted xs) x ≡ None → All (λ (m : Lit). m.var ≢ x) xs
 free-differ [] x free = All-nil (λ (m : Lit). m.var ≢ x)
 free-differ (m ∷ ms) x free =
     All-cons (λ (k : Lit). k.var ≢ x) m ms
-    (λ e. none≢some (sym free ∙ cond-true (eqb m.var x) (Some (not m.positive)) (value_in (refuted ms) x) (eq-eqb m.var x e)))
+    (λ e. none≢some (sym free ∙ cond-true (eqb m.var x) (Some (not m.positive)) (partial_of (refuted ms) x) (eq-eqb m.var x e)))
     (free-differ ms x (elim (cases_Bool (eqb m.var x)) [
-      | inl same ↦ absurd (none≢some (sym free ∙ cond-true (eqb m.var x) (Some (not m.positive)) (value_in (refuted ms) x) same))
-      | inr other ↦ sym (cond-false (eqb m.var x) (Some (not m.positive)) (value_in (refuted ms) x) other) ∙ free
+      | inl same ↦ absurd (none≢some (sym free ∙ cond-true (eqb m.var x) (Some (not m.positive)) (partial_of (refuted ms) x) same))
+      | inr other ↦ sym (cond-false (eqb m.var x) (Some (not m.positive)) (partial_of (refuted ms) x) other) ∙ free
     ]))
 
-pub differ-free : (xs : List Lit) (x : ℕ) → All (λ (m : Lit). m.var ≢ x) xs → value_in (refuted xs) x ≡ None
+pub differ-free : (xs : List Lit) (x : ℕ) → All (λ (m : Lit). m.var ≢ x) xs → partial_of (refuted xs) x ≡ None
 differ-free [] x h = refl
 differ-free (m ∷ ms) x h =
     let P : Lit → Type 0 = λ k. k.var ≢ x in
-    cond-false (eqb m.var x) (Some (not m.positive)) (value_in (refuted ms) x) (ne_eqb m.var x (All-head P m ms h)) ∙ differ-free ms x (All-tail P m ms h)
+    cond-false (eqb m.var x) (Some (not m.positive)) (partial_of (refuted ms) x) (ne_eqb m.var x (All-head P m ms h)) ∙ differ-free ms x (All-tail P m ms h)

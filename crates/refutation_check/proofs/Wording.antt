@@ -1,26 +1,21 @@
--- A word that is a number is ASCII, begins with a digit, and reads as this number and no other.
-use Rattle.std.proofs.Common.{refl, ◌≡◌, ℕ, Bool, true, false, cond, List, [], ◌∷◌, ◌++◌, length, take, drop, get_or, sym, ap, ◌∙◌, subst, arith, Some, Ok}
-use Rattle.std.specs.Prelude.{IsUtf8, decimal, codes, Result, Option, None, IfNone}
+-- A word that is a number begins with a digit, and is this number and no other.
+use Rattle.std.proofs.Common.{refl, ◌≡◌, ℕ, Bool, true, false, cond, List, [], ◌∷◌, ◌++◌, ◌^◌, ◌<◌, length, take, drop, get_or, sym, ap, ◌∙◌, arith, Some}
+use Rattle.std.specs.Prelude.{decimal, codes, Option, None, IfNone}
 use lib.Pointwise.{pointwise}
 use lib.Dec.{eqb}
 use Rattle.std.proofs.lemmas.Bool.{false≢true, eqb-true, and_parts}
-use Rattle.std.specs.Str.Parse.{ParsesUnsigned, digits_value}
-use Rattle.std.proofs.lemmas.Str.{IsUtf8-from_ascii}
+use Rattle.std.specs.Str.Parse.{digits_value}
 use Rattle.std.proofs.lemmas.Str.Parse.{digit_at}
-use Rattle.std.proofs.lemmas.Fmt.{parse-decimal, decimal_is_IsNumeral, IsAscii-decimal, decimal_digit}
+use Rattle.std.proofs.lemmas.Fmt.{decimal_is_IsNumeral, decimal_digit}
 use Rattle.cnf_core.specs.declared.literal.Lit.{Lit}
 use Rattle.refutation_check.specs.LineWords.{IsSmall, IsId, IsIdLiteral, literal_word}
 
-pub number-utf8 : (word : List ℕ) (n : ℕ) → IsSmall n → word ≡ decimal n → IsUtf8 word
-number-utf8 word n small is = subst IsUtf8 (sym is) (IsUtf8-from_ascii (decimal n) (IsAscii-decimal n (omega arith)))
-
-pub number-parses : {E : Type 0} (word text : List ℕ) (n : ℕ) (r : Result ℕ E) → text ≡ word → ParsesUnsigned 32 10 text r → IsSmall n → word ≡ decimal n → r ≡ Ok n
-number-parses word text n r same parses small is = parse-decimal 32 n text r (omega arith) (omega arith) (same ∙ is) parses
-
 -- two numbers whose words are equal
+pub decimal-same : (m n : ℕ) → m < 2 ^ 64 → n < 2 ^ 64 → decimal m ≡ decimal n → m ≡ n
+decimal-same m n a b is = sym (decimal_is_IsNumeral m a).1 ∙ ap (digits_value 10) is ∙ (decimal_is_IsNumeral n b).1
+
 pub decimal-one : (m n : ℕ) → IsSmall m → IsSmall n → decimal m ≡ decimal n → m ≡ n
-decimal-one m n a b is =
-    sym (decimal_is_IsNumeral m (omega arith)).1 ∙ ap (digits_value 10) is ∙ (decimal_is_IsNumeral n (omega arith)).1
+decimal-one m n a b is = decimal-same m n (omega arith) (omega arith) is
 
 -- no number begins with a minus
 pub number-no_minus : (n : ℕ) (ds : List ℕ) → IsSmall n → decimal n ≡ 45 ∷ ds → ⊥

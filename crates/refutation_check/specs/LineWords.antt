@@ -28,7 +28,7 @@ abbrev pub IsIdLiteral : Lit → Type 0
 IsIdLiteral l = IsId l.var
 
 -- the line can be read back
-pub record IsReadable (line : Line) : Type 0 where
+pub record IsReadableLine (line : Line) : Type 0 where
   pub id : IsSmall line.id
   pub lits : All IsIdLiteral line.lits
   pub hints : All IsId line.hints
@@ -36,7 +36,7 @@ pub record IsReadable (line : Line) : Type 0 where
 -- the words are this line
 pub record IsLineOf (row : List (List ℕ)) (line : Line) : Type 0 where
   pub words : row ≡ line_words line
-  pub readable : IsReadable line
+  pub readable : IsReadableLine line
 
 -- so many lines of the text from one on are these
 pub record AreLinesAt (text : List TextLine) (from count : ℕ) (lines : List Line) : Type 0 where
@@ -65,11 +65,11 @@ IsReadFault text from count (Fault fault) = (at : ℕ) × IsFirstBadLine text fr
 IsReadFault text from count Memory = ⊤
 
 -- the words from a place on are these items and a zero
-pub record AreUpTo {X : Type 0} (word_of : X → List ℕ) (IsFine : X → Type 0) (row : List (List ℕ)) (from : ℕ) (items : List X) (after : ℕ) : Type 0 where
+pub record IsRun {X : Type 0} (word_of : X → List ℕ) (IsFine : X → Type 0) (row : List (List ℕ)) (from : ℕ) (items : List X) (after : ℕ) : Type 0 where
   pub fine : All IsFine items
   pub words : drop from row ≡ map word_of items ++ codes "0" ∷ drop after row
   pub within : after ≤ length row
 
 -- the words from a place on are no items and a zero
-abbrev pub AreNone : {X : Type 0} → (X → List ℕ) → (X → Type 0) → List (List ℕ) → ℕ → Type 0
-AreNone {X} word_of IsFine row from = (items : List X) (rest : List (List ℕ)) → All IsFine items → drop from row ≡ map word_of items ++ codes "0" ∷ rest → ⊥
+abbrev pub IsNoRun : {X : Type 0} → (X → List ℕ) → (X → Type 0) → List (List ℕ) → ℕ → Type 0
+IsNoRun {X} word_of IsFine row from = (items : List X) (rest : List (List ℕ)) → All IsFine items → drop from row ≡ map word_of items ++ codes "0" ∷ rest → ⊥

@@ -1,12 +1,12 @@
 -- The values that a check keeps as marks of its lines, and how the marks show literals: this project; no public clause cites it.
-use Rattle.std.specs.Prelude.{◌≡◌, ◌≢◌, ℕ, slice_set, ◌-◌, ◌≤◌, Bool, false, if◌then◌else◌, ◌==◌, List, length, Option, Some, None}
-use Rattle.std.specs.List.{slice_index_or, All, AllPairs}
+use Rattle.std.specs.Prelude.{◌≡◌, ℕ, slice_set, ◌-◌, ◌≤◌, Bool, false, if◌then◌else◌, ◌==◌, List, length, Option, Some, None}
+use Rattle.std.specs.List.{slice_index_or, All}
 use Rattle.cnf_core.specs.Formula.{IsLitOf}
 use Rattle.cnf_core.specs.declared.literal.Lit.{Lit}
-use Rattle.cnf_core.specs.Values.{Partial, value_in}
+use Rattle.cnf_core.specs.Values.{Partial, partial_of}
 use Rattle.refutation_check.specs.declared.values.Mark.{Mark}
 use Rattle.cnf_core.specs.declared.line.Line.{Line}
-use Rattle.cnf_core.specs.Refutation.{Reaches}
+use Rattle.cnf_core.specs.Refutation.{Reaches, HaveDifferentVars}
 use Rattle.std.specs.Prelude.{MatchBool}
 
 -- the value of a mark that this line wrote
@@ -19,24 +19,20 @@ marked line marks x = value_of_mark line (slice_index_or marks (x - 1) (record {
 
 -- the marks of this line show which of these literals are true
 abbrev pub Shows : ℕ → List Mark → List Lit → Type 0
-Shows line marks s = (x : ℕ) → 1 ≤ x → x ≤ length marks → value_in s x ≡ marked line marks x
+Shows line marks s = (x : ℕ) → 1 ≤ x → x ≤ length marks → partial_of s x ≡ marked line marks x
 
 -- the marks after this line made a literal true
 abbrev pub with_true : ℕ → List Mark → Lit → List Mark
 with_true line marks l = slice_set marks (l.var - 1) (record { line = line; positive = l.positive })
 
 -- no mark is of a later line
-abbrev pub AreUpTo : ℕ → List Mark → Type 0
-AreUpTo line marks = All (λ (m : Mark). m.line ≤ line) marks
+abbrev pub NoneIsLater : ℕ → List Mark → Type 0
+NoneIsLater line marks = All (λ (m : Mark). m.line ≤ line) marks
 
 -- the literals are of different variables among 1 to n
-pub record AreApart (n : ℕ) (lits : List Lit) : Type 0 where
+pub record AreDistinctAmong (n : ℕ) (lits : List Lit) : Type 0 where
   pub exist : All (IsLitOf n) lits
-  pub differ : AllPairs (λ (l m : Lit). l.var ≢ m.var) lits
-
--- the hints are among 1 to n
-abbrev pub AreNames : ℕ → List ℕ → Type 0
-AreNames n hints = All (λ h. (1 ≤ h) × (h ≤ n)) hints
+  pub differ : HaveDifferentVars lits
 
 -- the lemmas have literals of 1 to n
 abbrev pub LemmasExist : ℕ → List Line → Type 0

@@ -2,13 +2,13 @@
 use Rattle.std.specs.Prelude.{◌≡◌, ◌≢◌, ℕ, ◌↔◌, List, []}
 use Rattle.cnf_core.specs.declared.literal.Lit.{Lit}
 use Rattle.cnf_core.specs.declared.line.Line.{Line}
-use Rattle.cnf_core.specs.Refutation.{IsPlaced, IsFilled}
+use Rattle.cnf_core.specs.Refutation.{IsEmptyOnlyLast, IsFilled}
 use Rattle.refutation_check.specs.declared.lines.Demand.{Demand}
 use Rattle.refutation_check.specs.declared.lines.Demand.TheVariants.{Refutation, Lemmas}
 
 -- what is asked of the lemma at a place
 abbrev pub Placed : Demand → List Line → ℕ → Line → Type 0
-Placed Refutation lines = IsPlaced lines
+Placed Refutation lines = IsEmptyOnlyLast lines
 Placed Lemmas lines = IsFilled
 
 -- the same of the literals of the lemma with this number, among so many

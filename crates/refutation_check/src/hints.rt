@@ -2,8 +2,8 @@
 ghost use Rattle.std.specs.Prelude.{◌≡◌, ◌⊎◌, ◌+◌, ◌-◌, ◌≤◌, ◌↔◌, length, IsTrue, OnOk, IfErr};
 ghost use Rattle.std.specs.List.{All};
 ghost use Rattle.cnf_core.specs.Formula.{IsLitOf};
-ghost use Rattle.cnf_core.specs.Refutation.{EndsFalse, HasUnits, refuted, known, clause_at};
-ghost use Rattle.refutation_check.specs.Marked.{Shows, AreUpTo, AreNames, LemmasExist, Follows};
+ghost use Rattle.cnf_core.specs.Refutation.{EndsFalse, HasUnits, AreNames, refuted, known, clause_at};
+ghost use Rattle.refutation_check.specs.Marked.{Shows, NoneIsLater, LemmasExist, Follows};
 
 use crate::values::{Mark, is_false_clause, set_true, unit_of};
 use cnf_core::{Cnf, Line, Lit};
@@ -36,8 +36,8 @@ fn follow(cnf: &Cnf, earlier: &[Line], hints: &[u32], marks: &mut [Mark], line: 
     requires vars { length marks.old ≡ cnf.now.vars }
     requires names { AreNames (length cnf.now.clauses + length earlier.now) hints.now }
     requires exist { LemmasExist cnf.now.vars earlier.now }
-    requires bound { AreUpTo line marks.old }
-    ensures bound { AreUpTo line marks.new }
+    requires bound { NoneIsLater line marks.old }
+    ensures bound { NoneIsLater line marks.new }
     ensures led { Follows result (known cnf.now.clauses earlier.now) hints.now line marks.old marks.new }
 {
     for hint in hints {
@@ -61,9 +61,9 @@ pub(crate) fn conflict(
     requires vars { length marks.old ≡ cnf.now.vars }
     requires names { AreNames (length cnf.now.clauses + length earlier.now) line.now.hints }
     requires exist { LemmasExist cnf.now.vars earlier.now }
-    requires bound { AreUpTo number marks.old }
+    requires bound { NoneIsLater number marks.old }
     requires shows { Shows number marks.old (refuted line.now.lits) }
-    ensures bound { AreUpTo number marks.new }
+    ensures bound { NoneIsLater number marks.new }
     ensures ok { OnOk result (EndsFalse cnf.now earlier.now line.now) }
     ensures err { IfErr result (λ why. ((why ≡ 3) × (HasUnits cnf.now earlier.now line.now → ⊥)) ⊎ ((why ≡ 4) × HasUnits cnf.now earlier.now line.now × (EndsFalse cnf.now earlier.now line.now → ⊥))) }
 {

@@ -2,12 +2,14 @@
 #![tactic(auto)]
 
 mod hints;
+mod laws;
 mod lines;
 mod reading;
 mod text;
 mod values;
 mod words;
 
+pub use laws::printed_lines_are_read_back;
 pub use lines::{Rejected, check, check_lemmas};
 pub use reading::read;
 pub use text::print;

@@ -1,18 +1,20 @@
 // Lines one after another: the first that is refused, and its least reason.
 ghost use Rattle.std.specs.Prelude.{◌≡◌, ◌+◌, ◌-◌, ◌^◌, ◌<◌, ◌≤◌, ◌↔◌, length, IsTrue, OnOk, IfErr, IsOk};
-ghost use Rattle.cnf_core.specs.Refutation.{IsAccepted, IsRefusedFor, IsFirstRefusal, AreRight, IsPlaced, IsFilled, Refutes, AreLemmas, HaveNoSolution, refuted};
-ghost use Rattle.refutation_check.specs.Marked.{Shows, AreUpTo, AreApart, LemmasExist};
+ghost use Rattle.cnf_core.specs.Refutation.{IsAccepted, IsRefusedFor, IsFirstRefusal, AreRight, IsEmptyOnlyLast, IsFilled, Refutes, AreLemmas, HaveNoSolution, refuted};
+ghost use Rattle.refutation_check.specs.Marked.{Shows, NoneIsLater, AreDistinctAmong, LemmasExist};
 ghost use Rattle.refutation_check.specs.Placing.{Placed, IsRightPlace};
 
 use crate::Marks;
 use crate::hints::{are_names, conflict};
 use crate::values::{Mark, clear, is_free, set_true};
-use cnf_core::{Cnf, Line, Lines, Lit};
+use cnf_core::{Cnf, Line, Lines, Lit, refutations_leave_no_solution};
+use thiserror::Error;
 
 /// The first refused line, from 1, and its least reason:
 /// 1 its id isn't the next number; 2 a literal or a hint names nothing, or a variable stands twice; 3 a hint before the
 /// last isn't unit; 4 there is no hint or the last isn't false; 5 its lemma is empty in the wrong place.
-#[derive(Clone, Copy, Debug, PartialEq, Eq)]
+#[derive(Clone, Copy, Debug, PartialEq, Eq, Error)]
+#[error("line {line} is refused for reason {why}")]
 pub struct Rejected {
     pub line: u32,
     pub why: u8,
@@ -31,9 +33,10 @@ pub fn check(cnf: &Cnf, lines: &Lines, marks: &mut Marks) -> Result<(), Rejected
     requires few { length lines.now.lines < 2 ^ 29 }
     ensures marks { marks.new ≡ marks.old }
     ensures exact { IsOk result ↔ Refutes cnf.now lines.now.lines }
-    ensures refused { IfErr result (λ e. IsFirstRefusal (IsPlaced lines.now.lines) cnf.now lines.now.lines e.line e.why) }
+    ensures refused { IfErr result (λ e. IsFirstRefusal (IsEmptyOnlyLast lines.now.lines) cnf.now lines.now.lines e.line e.why) }
     ensures sound { OnOk result (HaveNoSolution cnf.now.clauses) }
 {
+    refutations_leave_no_solution();
     check_lines(
         cnf,
         lines.lines.as_slice(),
@@ -97,9 +100,9 @@ fn check_lines(
 fn check_line(cnf: &Cnf, earlier: &[Line], line: &Line, marks: &mut [Mark]) -> Result<(), u8>
     requires vars { length marks.old ≡ cnf.now.vars }
     requires exist { LemmasExist cnf.now.vars earlier.now }
-    requires bound { AreUpTo (length earlier.now) marks.old }
+    requires bound { NoneIsLater (length earlier.now) marks.old }
     requires few { length earlier.now < 2 ^ 29 }
-    ensures bound { AreUpTo (length earlier.now + 1) marks.new }
+    ensures bound { NoneIsLater (length earlier.now + 1) marks.new }
     ensures ok { OnOk result (IsAccepted cnf.now earlier.now line.now) }
     ensures err { IfErr result (IsRefusedFor cnf.now earlier.now line.now) }
 {
@@ -120,9 +123,9 @@ fn check_line(cnf: &Cnf, earlier: &[Line], line: &Line, marks: &mut [Mark]) -> R
 /// Makes each literal of a lemma false, or says that they are not of different variables.
 fn assume(lits: &[Lit], marks: &mut [Mark], line: u32) -> bool
     requires some { 1 ≤ line }
-    requires fresh { AreUpTo (line - 1) marks.old }
-    ensures marks { AreUpTo line marks.new }
-    ensures apart { IsTrue result ↔ AreApart (length marks.old) lits.now }
+    requires fresh { NoneIsLater (line - 1) marks.old }
+    ensures marks { NoneIsLater line marks.new }
+    ensures apart { IsTrue result ↔ AreDistinctAmong (length marks.old) lits.now }
     ensures shows { IsTrue result → Shows line marks.new (refuted lits.now) }
 {
     for lit in lits {

@@ -2,7 +2,7 @@
 ghost use Rattle.std.specs.Prelude.{◌≡◌, ◌+◌, ◌<◌, ◌≤◌, List, length, decimal, IfOk, IfErr, MatchOption};
 ghost use Rattle.cnf_core.specs.declared.line.Line.{Line as Row};
 ghost use Rattle.text_core.specs.Lines.{line_at};
-ghost use Rattle.refutation_check.specs.LineWords.{IsId, IsIdLiteral, IsLineOf, AreLinesAt, IsReadFault, IsBadLineAt, literal_word, AreUpTo, AreNone};
+ghost use Rattle.refutation_check.specs.LineWords.{IsId, IsIdLiteral, IsLineOf, AreLinesAt, IsReadFault, IsBadLineAt, literal_word, IsRun, IsNoRun};
 
 use crate::words::{id, is_zero, literal, number};
 use cnf_core::{Line, Lines, Lit};
@@ -51,7 +51,7 @@ fn literals(
     from: u32,
 ) -> Result<Option<(Items<Lit>, u32)>, NoMemory>
     requires { line < length text.now }
-    ensures { IfOk result (λ found. MatchOption found (AreNone literal_word IsIdLiteral (line_at text.now line).words from) (λ p. AreUpTo literal_word IsIdLiteral (line_at text.now line).words from p.0 p.1)) }
+    ensures { IfOk result (λ found. MatchOption found (IsNoRun literal_word IsIdLiteral (line_at text.now line).words from) (λ p. IsRun literal_word IsIdLiteral (line_at text.now line).words from p.0 p.1)) }
 {
     let mut lits = Items::new(alloc);
     for at in from..text.words(line) {
@@ -75,7 +75,7 @@ fn hints(
     from: u32,
 ) -> Result<Option<(Items<u32>, u32)>, NoMemory>
     requires { line < length text.now }
-    ensures { IfOk result (λ found. MatchOption found (AreNone decimal IsId (line_at text.now line).words from) (λ p. AreUpTo decimal IsId (line_at text.now line).words from p.0 p.1)) }
+    ensures { IfOk result (λ found. MatchOption found (IsNoRun decimal IsId (line_at text.now line).words from) (λ p. IsRun decimal IsId (line_at text.now line).words from p.0 p.1)) }
 {
     let mut ids = Items::new(alloc);
     for at in from..text.words(line) {

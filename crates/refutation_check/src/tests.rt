@@ -1,7 +1,5 @@
 //! Lines that are accepted or refused for each reason, by the answers of a second checker.
-ghost use Rattle.std.specs.Prelude.{◌<◌, ◌≤◌, ◌↔◌, IsTrue};
-ghost use Rattle.std.specs.List.{All};
-ghost use Rattle.cnf_core.specs.Formula.{IsLitOf};
+ghost use Rattle.std.specs.Prelude.{◌<◌, ◌≤◌};
 
 use crate::{Marks, check, check_lemmas, print};
 use cnf_core::{Cnf, Line, Lines, Lit};
@@ -44,7 +42,7 @@ struct Row {
     lemmas: Option<(u32, u8)>,
 }
 
-const ROWS: [Row; 30] = [
+const ROWS: [Row; 34] = [
     Row {
         name: "a refutation",
         formula: &CHAIN,
@@ -253,6 +251,34 @@ const ROWS: [Row; 30] = [
         lemmas: Some((1, 2)),
     },
     Row {
+        name: "a wrong id after the empty clause",
+        formula: &EMPTY,
+        lines: &[(5, &[], &[1])],
+        refutation: Some((1, 1)),
+        lemmas: Some((1, 1)),
+    },
+    Row {
+        name: "the empty clause isn't unit",
+        formula: &EMPTY,
+        lines: &[(4, &[], &[1, 1])],
+        refutation: Some((1, 3)),
+        lemmas: Some((1, 3)),
+    },
+    Row {
+        name: "a unit clause as the last hint",
+        formula: &EMPTY,
+        lines: &[(4, &[], &[2])],
+        refutation: Some((1, 4)),
+        lemmas: Some((1, 4)),
+    },
+    Row {
+        name: "the empty clause after a unit clause",
+        formula: &EMPTY,
+        lines: &[(4, &[], &[2, 1])],
+        refutation: None,
+        lemmas: Some((1, 5)),
+    },
+    Row {
         name: "a lemma beside the empty clause",
         formula: &EMPTY,
         lines: &[(4, &[1], &[2])],
@@ -279,12 +305,6 @@ fn literals(alloc: Global, numbers: &[i32]) -> Result<Vec<Lit>, NoMemory> {
     Ok(lits)
 }
 
-fn are_over(vars: u32, lits: &[Lit]) -> bool
-    ensures { IsTrue result ↔ All (IsLitOf vars) lits.now }
-{
-    lits.iter().all(|lit| 1 <= lit.var && lit.var <= vars)
-}
-
 fn build(rt: &impl Abort, alloc: Global, formula: &Formula) -> Result<Cnf, NoMemory> {
     let mut cnf = Cnf::new(alloc);
     for _ in 0..formula.vars {
@@ -293,7 +313,7 @@ fn build(rt: &impl Abort, alloc: Global, formula: &Formula) -> Result<Cnf, NoMem
     }
     for numbers in formula.clauses {
         let lits = literals(alloc, numbers)?;
-        assert!(rt; are_over(cnf.vars(), &lits) && cnf.clauses() < 100);
+        assert!(rt; cnf.has(&lits) && cnf.clauses() < 100);
         cnf.add(&lits)?;
     }
     Ok(cnf)

@@ -3,10 +3,11 @@ ghost use Rattle.std.specs.Prelude.{◌≡◌, ◌+◌, ◌-◌, ◌<◌, ◌≤
 ghost use Rattle.std.specs.List.{All};
 ghost use Rattle.cnf_core.specs.declared.literal.Lit.{Lit as Literal};
 ghost use Rattle.cnf_core.specs.Formula.{IsLitOf};
-ghost use Rattle.cnf_core.specs.Values.{IsFree, IsFalse, IsFalseClause, IsUnit};
-ghost use Rattle.refutation_check.specs.Marked.{marked, with_true, AreUpTo};
+ghost use Rattle.cnf_core.specs.Looks.{LookSays};
+ghost use Rattle.cnf_core.specs.Values.{IsUnassigned, IsFalseClause, IsUnit};
+ghost use Rattle.refutation_check.specs.Marked.{marked, with_true, NoneIsLater};
 
-use cnf_core::Lit;
+use cnf_core::{Lit, Look, Values, look_at};
 use items::NoMemory;
 use std::alloc::Global;
 use std::marker::Model;
@@ -49,7 +50,7 @@ impl Marks {
 
 /// Forgets all lines.
 pub(crate) fn clear(marks: &mut [Mark])
-    ensures { AreUpTo 0 marks.new }
+    ensures { NoneIsLater 0 marks.new }
 {
     for mark in marks.iter_mut() {
         mark.line = 0;
@@ -71,6 +72,23 @@ fn value_at(marks: &[Mark], line: u32, var: u32) -> Option<bool>
     }
 }
 
+/// The values that one line gave.
+#[derive(Clone, Copy)]
+struct Given<'a> {
+    marks: &'a [Mark],
+    line: u32,
+}
+
+impl<'a> Values for Given<'a> {
+    ghost last = { λ given. length given.marks.now };
+
+    ghost partial = { λ given. marked given.line given.marks.now };
+
+    fn value(&self, var: u32) -> Option<bool> {
+        value_at(self.marks, self.line, var)
+    }
+}
+
 /// Makes a literal true.
 pub(crate) fn set_true(lit: Lit, marks: &mut [Mark], line: u32)
     requires { IsLitOf (length marks.old) lit }
@@ -82,22 +100,20 @@ pub(crate) fn set_true(lit: Lit, marks: &mut [Mark], line: u32)
     };
 }
 
-fn is_false(lit: Lit, marks: &[Mark], line: u32) -> bool
-    requires { IsLitOf (length marks.now) lit }
-    ensures { IsTrue result ↔ IsFalse (marked line marks.now) lit }
-{
-    match value_at(marks, line, lit.var) {
-        Some(positive) => positive != lit.positive,
-        None => false,
-    }
-}
-
 /// Whether a literal's variable has no value.
 pub(crate) fn is_free(lit: Lit, marks: &[Mark], line: u32) -> bool
     requires { IsLitOf (length marks.now) lit }
-    ensures { IsTrue result ↔ IsFree (marked line marks.now) lit }
+    ensures { IsTrue result ↔ IsUnassigned (marked line marks.now) lit }
 {
     value_at(marks, line, lit.var).is_none()
+}
+
+/// What a clause is under the values that this line gave.
+fn look(clause: &[Lit], marks: &[Mark], line: u32) -> Look
+    requires { All (IsLitOf (length marks.now)) clause.now }
+    ensures { LookSays (marked line marks.now) clause.now result }
+{
+    look_at(clause, &Given { marks, line })
 }
 
 /// Whether each literal of a clause is false.
@@ -105,38 +121,21 @@ pub(crate) fn is_false_clause(clause: &[Lit], marks: &[Mark], line: u32) -> bool
     requires { All (IsLitOf (length marks.now)) clause.now }
     ensures { IsTrue result ↔ IsFalseClause (marked line marks.now) clause.now }
 {
-    for lit in clause {
-        if !is_false(*lit, marks, line) {
-            return false;
-        }
+    match look(clause, marks, line) {
+        Look::Falsified => true,
+        Look::Unit(_) => false,
+        Look::Open => false,
     }
-    true
 }
 
-/// The one literal that a unit clause makes true. A literal that stands twice in the clause counts once.
+/// The one literal that a unit clause makes true.
 pub(crate) fn unit_of(clause: &[Lit], marks: &[Mark], line: u32) -> Option<Lit>
     requires { All (IsLitOf (length marks.now)) clause.now }
     ensures { MatchOption result ((l : Literal) → IsUnit (marked line marks.now) clause.now l → ⊥) (IsUnit (marked line marks.now) clause.now) }
 {
-    let mut found: Option<Lit> = None;
-    for lit in clause {
-        if !is_false(*lit, marks, line) {
-            if !is_free(*lit, marks, line) {
-                return None;
-            }
-            if let Some(other) = found {
-                if !same(other, *lit) {
-                    return None;
-                }
-            }
-            found = Some(*lit);
-        }
+    match look(clause, marks, line) {
+        Look::Unit(lit) => Some(lit),
+        Look::Falsified => None,
+        Look::Open => None,
     }
-    found
-}
-
-fn same(a: Lit, b: Lit) -> bool
-    ensures { IsTrue result ↔ (a ≡ b) }
-{
-    a.var == b.var && a.positive == b.positive
 }

@@ -1,10 +1,11 @@
 // Words of a text as numbers and literals.
-ghost use Rattle.std.specs.Prelude.{◌≡◌, ◌^◌, ◌<◌, ◌≤◌, ◌↔◌, ℕ, IfSome, IfNone, IsTrue, Some, codes, decimal};
+ghost use Rattle.std.specs.Prelude.{◌≡◌, ◌^◌, ◌<◌, ◌≤◌, ◌↔◌, ℕ, IfSome, IfNone, IsTrue, codes};
+ghost use Rattle.std.specs.Prelude as std;
 ghost use Rattle.cnf_core.specs.declared.literal.Lit.{Lit as Literal};
 ghost use Rattle.refutation_check.specs.LineWords.{IsSmall, IsId, IsIdLiteral, literal_word};
 
 use cnf_core::Lit;
-use itoa::Buffer;
+use text_core::decimal;
 
 /// Whether the word is the zero that ends literals and hints.
 pub(crate) fn is_zero(word: &[u8]) -> bool
@@ -13,33 +14,23 @@ pub(crate) fn is_zero(word: &[u8]) -> bool
     word == b"0".as_slice()
 }
 
-/// The number that a word is. What it would be printed as tells that it has no needless zero or sign.
+/// The number that a word is.
 pub(crate) fn number(word: &[u8]) -> Option<u32>
-    ensures some { IfSome result (λ n. (word.now ≡ decimal n) × IsSmall n) }
-    ensures none { IfNone result ((n : ℕ) → IsSmall n → word.now ≡ decimal n → ⊥) }
+    ensures some { IfSome result (λ n. (word.now ≡ std.decimal n) × IsSmall n) }
+    ensures none { IfNone result ((n : ℕ) → IsSmall n → word.now ≡ std.decimal n → ⊥) }
 {
-    let value = value(word)?;
-    if value < 1 << 31 && Buffer::new().format(value).as_bytes() == word {
-        Some(value)
+    let value = decimal(word)?;
+    if value < 1 << 31 {
+        Some(value as u32)
     } else {
         None
     }
 }
 
-/// The value of a word's digits, also where a plus sign or zeros stand in front of them.
-fn value(word: &[u8]) -> Option<u32>
-    ensures { (n : ℕ) → IsSmall n → word.now ≡ decimal n → result ≡ Some n }
-{
-    match str::from_utf8(word) {
-        Ok(text) => text.parse().ok(),
-        Err(_) => None,
-    }
-}
-
 /// The number that a word is, where it isn't 0.
 pub(crate) fn id(word: &[u8]) -> Option<u32>
-    ensures some { IfSome result (λ n. (word.now ≡ decimal n) × IsId n) }
-    ensures none { IfNone result ((n : ℕ) → IsId n → word.now ≡ decimal n → ⊥) }
+    ensures some { IfSome result (λ n. (word.now ≡ std.decimal n) × IsId n) }
+    ensures none { IfNone result ((n : ℕ) → IsId n → word.now ≡ std.decimal n → ⊥) }
 {
     match number(word) {
         Some(0) => None,
@@ -59,8 +50,8 @@ pub(crate) fn literal(word: &[u8]) -> Option<Lit>
 }
 
 fn signed(digits: &[u8], positive: bool) -> Option<Lit>
-    ensures some { IfSome result (λ l. (digits.now ≡ decimal l.var) × IsIdLiteral l × (l.positive ≡ positive)) }
-    ensures none { IfNone result ((n : ℕ) → IsId n → digits.now ≡ decimal n → ⊥) }
+    ensures some { IfSome result (λ l. (digits.now ≡ std.decimal l.var) × IsIdLiteral l × (l.positive ≡ positive)) }
+    ensures none { IfNone result ((n : ℕ) → IsId n → digits.now ≡ std.decimal n → ⊥) }
 {
     let var = id(digits)?;
     Some(Lit { var, positive })

@@ -1,14 +1,7 @@
-use Rattle.refutation_check.proofs.Printing.{printed-line, printed-lines}
+use Rattle.std.proofs.Common.{◌≡◌, ℕ, List, subst, arith}
+use Rattle.std.proofs.lemmas.Grind.{common_steps}
+use Rattle.refutation_check.proofs.Printing.{lines_text-words}
 use Rattle.refutation_check.proofs.text.print.Goals as goal
 
-pub returns-in_err-print_line-clause-line : goal.returns-in_err-print_line-clause-line
-returns-in_err-print_line-clause-line c = printed-line
-
-pub returns-in_err-print_line-clause-lines : goal.returns-in_err-print_line-clause-lines
-returns-in_err-print_line-clause-lines c = printed-lines c.args.lines.now.lines
-
-pub returns-clause-line : goal.returns-clause-line
-returns-clause-line c = printed-line
-
-pub returns-clause-lines : goal.returns-clause-lines
-returns-clause-lines c = printed-lines c.args.lines.now.lines
+pub returns : goal.returns
+returns c = subst (λ (xs : List ℕ). c.loop-line.text.items ≡ xs) (lines_text-words c.args.lines.now.lines) (grind (arith, common_steps))
