@@ -1,4 +1,5 @@
--- The opcode of each instruction, and the function code of each operate. From the Alpha Architecture Handbook, version 4, the tables of opcodes
+-- The opcode of each instruction, and the function code of each operate. From the Alpha Architecture Handbook, version
+-- 4, the tables of opcodes
 -- and function codes; the operators that are no instruction have none.
 use Rattle.std.specs.Prelude.{ℕ, Option, Some, None, Bool, false, ◌==◌, ◌&&◌, find}
 use Rattle.std.specs.Option.{option_map_or}

@@ -1,5 +1,7 @@
--- The instruction that a word is, if it is one, read off its fields. From the Alpha Architecture Handbook, version 4, the
--- memory, branch and operate formats. A word that no instruction has is none: an opcode or a function code that isn't in
+-- The instruction that a word is, if it is one, read off its fields. From the Alpha Architecture Handbook, version 4,
+-- the
+-- memory, branch and operate formats. A word that no instruction has is none: an opcode or a function code that isn't
+-- in
 -- the table, bits 15..13 that aren't zero beside a register, and a Ra other than 31 in sextb and sextw.
 use Rattle.std.specs.Prelude.{ℕ, ℤ, pos, negsuc, suc, ◌-◌, ◌/◌, ◌%◌, ◌^◌, ◌==◌, nat_lt, Bool, true, if◌then◌else◌, Option, Some, None}
 use Rattle.std.specs.Option.{option_map, option_and_then}

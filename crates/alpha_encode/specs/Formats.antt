@@ -21,7 +21,8 @@ IsSecond (Literal n) = n < 2 ^ 8
 -- an instruction that has a word: its operator is an operate, registers, literal and displacement are in range, and
 -- sextb and sextw have register 31 in the place that they don't read
 abbrev pub IsWellFormed : Instr → Type 0
-IsWellFormed (Operate op ra second rc) = IsSome (code_of op) × (ra < 32) × IsSecond second × (rc < 32) × (IsTrue (is_unary op) → ra ≡ 31)
+IsWellFormed (Operate op ra second rc) =
+    IsSome (code_of op) × (ra < 32) × IsSecond second × (rc < 32) × (IsTrue (is_unary op) → ra ≡ 31)
 IsWellFormed (Lda ra rb disp) = (ra < 32) × (rb < 32) × FitsSigned w16 disp
 IsWellFormed (Ldah ra rb disp) = (ra < 32) × (rb < 32) × FitsSigned w16 disp
 IsWellFormed (LdqU ra rb disp) = (ra < 32) × (rb < 32) × FitsSigned w16 disp

@@ -23,10 +23,12 @@ first_text op ra = if is_unary op then [] else register ra ++ codes ", "
 
 -- as `lda $1, 300($31)`
 abbrev pub memory_text : List ℕ → ℕ → ℕ → ℤ → List ℕ
-memory_text name ra rb disp = name ++ register ra ++ codes ", " ++ signed_decimal disp ++ codes "(" ++ register rb ++ codes ")"
+memory_text name ra rb disp =
+    name ++ register ra ++ codes ", " ++ signed_decimal disp ++ codes "(" ++ register rb ++ codes ")"
 
 abbrev pub operate_text : WordOp → ℕ → Second → ℕ → List ℕ
-operate_text op ra second rc = name_of op ++ codes " " ++ first_text op ra ++ second_text second ++ codes ", " ++ register rc
+operate_text op ra second rc =
+    name_of op ++ codes " " ++ first_text op ra ++ second_text second ++ codes ", " ++ register rc
 
 abbrev pub branch_text : ℕ → ℤ → List ℕ
 branch_text ra disp = codes "beq " ++ register ra ++ codes ", " ++ signed_decimal disp

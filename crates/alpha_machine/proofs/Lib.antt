@@ -1,3 +1,4 @@
+pub mod Displacements
 pub mod Outcomes
 pub mod Standing
 pub mod StepsOfRuns

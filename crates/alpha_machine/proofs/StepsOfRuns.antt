@@ -103,12 +103,12 @@ pc_out count at (Beq ra disp) s allowed pc within few out = by_test (slice_index
     by_test false out = omega (arith, pc, out)
 
 -- past the words nothing happens
-stays : (n : ℕ) (instrs : List Instr) (s : MachineState) → length instrs ≤ s.pc / 4 → after n instrs s ≡ s
+pub stays : (n : ℕ) (instrs : List Instr) (s : MachineState) → length instrs ≤ s.pc / 4 → after n instrs s ≡ s
 stays zero instrs s past = refl
 stays (suc n) instrs s past =
     ap (after n instrs) (ap (λ o. option_map_or (λ i. step i s) o s) (slice_get_past instrs (s.pc / 4) past)) ∙ stays n instrs s past
 
-after_sum : (m n : ℕ) (instrs : List Instr) (s : MachineState) → after (m + n) instrs s ≡ after n instrs (after m instrs s)
+pub after_sum : (m n : ℕ) (instrs : List Instr) (s : MachineState) → after (m + n) instrs s ≡ after n instrs (after m instrs s)
 after_sum zero n instrs s = (let e : 0 + n ≡ n = omega arith in ap (λ k. after k instrs s) e)
 after_sum (suc m) n instrs s =
     let e : suc m + n ≡ suc (m + n) = omega arith in

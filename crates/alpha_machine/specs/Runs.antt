@@ -1,6 +1,6 @@
 -- What running a list of words is.
 -- Source: this project, over the Handbook's steps. The words stand from address 0 on, four bytes each.
-use Rattle.std.specs.Prelude.{◌≡◌, ℕ, ◌+◌, ◌-◌, ◌*◌, ◌/◌, ◌<◌, zero, suc, pos, List, length, map, slice_get, Some, IsSomeAnd}
+use Rattle.std.specs.Prelude.{◌≡◌, ℕ, ◌+◌, ◌-◌, ◌*◌, ◌/◌, ◌<◌, zero, suc, pos, List, [], ◌∷◌, length, map, slice_get, Option, Some, None, IsSomeAnd}
 use Rattle.std.specs.Option.{option_map_or}
 use Rattle.alpha_machine.specs.States.{MachineState}
 use Rattle.alpha_machine.specs.Steps.{step}
@@ -18,6 +18,15 @@ stepped instrs s = option_map_or (λ i. step i s) (slice_get instrs (s.pc / 4)) 
 abbrev pub after : ℕ → List Instr → MachineState → MachineState
 after zero instrs s = s
 after (suc n) instrs s = after n instrs (stepped instrs s)
+
+abbrev pub stepped_first : Option Instr → List Instr → List Instr
+stepped_first None instrs = instrs
+stepped_first (Some i) instrs = i ∷ instrs
+
+-- the instructions that are stepped in n steps
+abbrev pub trace : ℕ → List Instr → MachineState → List Instr
+trace zero instrs s = []
+trace (suc n) instrs s = stepped_first (slice_get instrs (s.pc / 4)) (trace n instrs (stepped instrs s))
 
 -- where n words end: they fall through behind the last one, or leave to the place one word further
 abbrev pub end_pc : End → ℕ → ℕ

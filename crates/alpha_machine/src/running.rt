@@ -6,6 +6,7 @@ ghost use Rattle.alpha_machine.specs.Refusals.{IsRunRefused};
 use crate::states::State;
 use crate::stepping::step;
 use alpha_encode::{Instr, decode};
+use thiserror::Error;
 
 /// Where a run ends.
 #[derive(Clone, Copy, PartialEq, Eq, Debug)]
@@ -17,10 +18,12 @@ pub enum End {
 }
 
 /// Why words weren't run.
-#[derive(Clone, Copy, PartialEq, Eq, Debug)]
+#[derive(Clone, Copy, PartialEq, Eq, Debug, Error)]
 pub enum RunFault {
     /// The first word that is no instruction, or a branch that leads elsewhere than one word behind the last.
+    #[error("word {at}, {word:#010x}, can't be run")]
     Bad { at: u32, word: u32 },
+    #[error("out of memory")]
     Memory,
 }
 

@@ -1,8 +1,9 @@
 // The state of the machine, and what each kind of instruction does to it.
-ghost use Rattle.std.specs.Prelude.{◌≡◌, ◌<◌, slice_index, OnOk, OnErr, IsSome};
+ghost use Rattle.std.specs.Prelude.{◌≡◌, ◌<◌, slice_index, All, OnOk, OnErr, IsSome};
 ghost use Rattle.alpha_encode.specs.Codes.{code_of};
 ghost use Rattle.alpha_encode.specs.Formats.{IsWellFormed, IsSecond};
 ghost use Rattle.alpha_encode.specs.declared.instructions.Instr.TheVariants as instructions;
+ghost use Rattle.word_ops.specs.Words.{IsWord};
 ghost use Rattle.alpha_machine.specs.States.{IsState};
 ghost use Rattle.alpha_machine.specs.Steps as steps;
 
@@ -38,8 +39,8 @@ impl State {
         requires { slice_index regs 31 ≡ 0 }
         ensures { result ≡ record { registers = regs; memory = memory; pc = 0 } }
     {
-        // A memory says what it is when it is read.
-        let _ = memory.get(0);
+        memory.holds_words();
+        are_words(&regs);
         State {
             regs,
             memory,
@@ -56,14 +57,16 @@ impl State {
     }
 
     pub fn memory(&self) -> &Mem
-        ensures { result.now ≡ self.now.memory }
+        ensures state { IsState self.now }
+        ensures value { result.now ≡ self.now.memory }
     {
         &self.memory
     }
 
     /// The address of the next word.
     pub fn pc(&self) -> u64
-        ensures { result ≡ self.now.pc }
+        ensures state { IsState self.now }
+        ensures value { result ≡ self.now.pc }
     {
         self.pc
     }
@@ -178,3 +181,8 @@ impl State {
         self.pc.wrapping_add(4)
     }
 }
+
+/// Does nothing. Its clause says that registers hold words.
+fn are_words(registers: &[u64])
+    ensures { All IsWord registers.now }
+{}

@@ -3,15 +3,28 @@ ghost use Rattle.std.specs.Prelude.{◌≡◌, OnOk, IfErr, IsSomeAnd};
 ghost use Rattle.alpha_encode.specs.Decoded.{decoded};
 ghost use Rattle.alpha_machine.specs.Steps as steps;
 ghost use Rattle.alpha_machine.specs.Refusals.{IsStepRefused};
+ghost use Rattle.alpha_machine.specs.declared.stepping.StepFault.TheVariants.{Memory};
 
 use crate::states::State;
 use alpha_encode::decode;
+use items::NoMemory;
+use thiserror::Error;
 
 /// Why a word wasn't executed.
-#[derive(Clone, Copy, PartialEq, Eq, Debug)]
+#[derive(Clone, Copy, PartialEq, Eq, Debug, Error)]
 pub enum StepFault {
+    #[error("the word is no instruction")]
     NotWord,
+    #[error("out of memory")]
     Memory,
+}
+
+impl From<NoMemory> for StepFault {
+    ghost from_gives = { λ _ fault. fault ≡ Memory };
+
+    fn from(_: NoMemory) -> StepFault {
+        StepFault::Memory
+    }
 }
 
 /// Does what the word's instruction does, wherever the word stands.
@@ -20,5 +33,5 @@ pub fn step(state: &mut State, word: u32) -> Result<(), StepFault>
     ensures refused { IfErr result (IsStepRefused word state.old state.new) }
 {
     let instr = decode(word).ok_or(StepFault::NotWord)?;
-    state.execute(instr).map_err(|_| StepFault::Memory)
+    Ok(state.execute(instr)?)
 }
