@@ -8,14 +8,14 @@ use Rattle.text_core.specs.declared.tokens.Token.{Token}
 use Rattle.denali_run.specs.Goals.{Goal}
 use Rattle.denali_run.specs.Lexemes.{Lexeme, lexeme_at}
 use Rattle.denali_run.specs.Forms.{WritesGoal, HasNoComment}
-use Rattle.denali_run.specs.Answers.{answer_text, instr_of}
+use Rattle.denali_run.specs.OneOperate.{answer_text, the_instr}
 use Rattle.denali_run.specs.RightAnswers.{Answers}
 use Rattle.denali_run.specs.declared.solving.Status.TheVariants.{Done}
 use Rattle.denali_run.proofs.OneRun.{right_answer}
 
 pub answered : (text : List ℕ) (tokens : List Token) (ls : List Lexeme) (goal : Goal) (bytes : List ℕ)
     → HasTokens text tokens → ls ≡ map (lexeme_at text) tokens → WritesGoal ls goal → HasNoComment text → bytes ≡ answer_text goal
-    → decoded (encoded (instr_of goal)) ≡ Some (instr_of goal) → Answers text bytes Done
+    → decoded (encoded (the_instr goal)) ≡ Some (the_instr goal) → Answers text bytes Done
 answered text tokens ls goal bytes read same writes no_comment is back = record {
   goal = goal;
   spelled = record { tokens = tokens; read = read; writes = subst (λ l. WritesGoal l goal) same writes; no_comment = no_comment };

@@ -12,3 +12,4 @@ pub mod OneRun
 pub mod Answered
 pub mod WellFormedTables
 pub mod OneGraph
+pub mod OneGoal

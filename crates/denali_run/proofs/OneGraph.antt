@@ -3,22 +3,23 @@ use Rattle.std.proofs.Common.{◌≡◌, ℕ, zero, suc, ◌<◌, ◌≤◌, [],
 use Rattle.std.specs.Prelude.{All, AllPairs, IsTrue, is_some, slice_get, slice_index, take, if◌then◌else◌}
 use Rattle.std.proofs.lemmas.List.Elements.{All-nil, All-cons}
 use Rattle.std.proofs.lemmas.Option.{same_Some, none-some}
+use Rattle.text_core.specs.Names.{IsName}
 use Rattle.word_ops.specs.declared.operators.WordOp.{WordOp}
 use Rattle.word_ops.specs.declared.operators.WordOp.TheVariants as ops
 use Rattle.word_ops.specs.Operators.{arity_of}
-use Rattle.word_ops.specs.Meanings.{arity_of_op, sort_of, operand_sort}
+use Rattle.word_ops.specs.Meanings.{arity_of_op, sort_of, operand_sort, constant_in}
 use Rattle.word_ops.specs.declared.sorts.Op.TheVariants as op
 use Rattle.word_ops.specs.declared.sorts.Sort.TheVariants as sort
 use Rattle.denali_run.specs.Goals.{Goal, IsGoal, IsAnswered}
-use Rattle.denali_run.specs.Graphs.{constant_in, is_memory_name}
-use Rattle.denali_run.specs.WellFormed.{IsLaunchGraph, HasSort, next_class, declared_index}
-use Rattle.denali_run.specs.Answers.{graph_of, class_of, plain_row}
+use Rattle.denali_run.specs.Graphs.{is_memory_name, plain_row}
+use Rattle.denali_run.specs.WellFormed.{IsLaunchGraph, ClassHasSort, AreRows, TakesItsSorts, set_sort, next_class, declared_index, input_in}
+use Rattle.denali_run.specs.OneOperate.{graph_of, place_class}
 use Rattle.denali_run.specs.declared.forms.InputPlace.{InputPlace}
 use Rattle.denali_run.specs.declared.forms.InputPlace.TheVariants.{First, Second}
 use Rattle.denali_run.specs.declared.graphs.LaunchRow.{LaunchRow}
 use Rattle.denali_run.specs.declared.graphs.InputClass.{InputClass}
 use Rattle.denali_run.specs.declared.graphs.LaunchGraph.{LaunchGraph}
-use Rattle.denali_run.proofs.OneLaunch.{all_one, not_memory, input_one, input_two}
+use Rattle.denali_run.proofs.OneLaunch.{all_one, not_memory, input_one, input_two, false_true}
 use Rattle.denali_run.proofs.Decide.{pairs_cons, pairs_nil}
 
 arity_two : (o : WordOp) → IsAnswered o → arity_of o ≡ 2
@@ -39,7 +40,7 @@ abbrev row_two : Goal → LaunchRow
 row_two goal = plain_row 2 (op.Input goal.two.register) []
 
 abbrev row_three : Goal → LaunchRow
-row_three goal = plain_row 3 (op.Word goal.op) (class_of goal.left ∷ class_of goal.right ∷ [])
+row_three goal = plain_row 3 (op.Word goal.op) (place_class goal.left ∷ place_class goal.right ∷ [])
 
 -- a fact of each of the four rows at its place
 four_rows : (goal : Goal) (P : ℕ → LaunchRow → Type 0) → P 0 (row_zero goal) → P 1 (row_one goal) → P 2 (row_two goal) → P 3 (row_three goal)
@@ -52,6 +53,9 @@ four_rows goal P p0 p1 p2 p3 (suc (suc (suc (suc i)))) r e = absurd (none-some r
 
 abbrev IsConstant : LaunchRow → Type 0
 IsConstant r = (m : ℕ) → constant_in r.op ≡ Some m → ⊥
+
+abbrev HasLowRegister : LaunchRow → Type 0
+HasLowRegister r = (n : ℕ) → input_in r.op ≡ Some n → n < 31
 
 abbrev IsDeclared : LaunchRow → Type 0
 IsDeclared r = (n : ℕ) → declared_index r.op ≡ Some n → ⊥
@@ -78,10 +82,17 @@ module _ (goal : Goal) (valid : IsGoal goal) where
   class_is_place : (i : ℕ) (r : LaunchRow) → slice_get g.rows i ≡ Some r → r.class ≡ i
   class_is_place = four_rows goal (λ i r. r.class ≡ i) refl refl refl refl
 
-  same_sort : (r s : LaunchRow) (i j : ℕ) → slice_get g.rows i ≡ Some r → slice_get g.rows j ≡ Some s → r.class ≡ s.class → sort_of r.op ≡ sort_of s.op
-  same_sort r s i j ei ej same =
-      let place : i ≡ j = sym (class_is_place i r ei) ∙ same ∙ class_is_place j s ej in
-      ap (λ (x : LaunchRow). sort_of x.op) (same_Some r s (sym ei ∙ ap (slice_get g.rows) place ∙ ej))
+  same_sort : (r s : LaunchRow) (i j : ℕ) → AreRows g r s i j → r.class ≡ s.class → sort_of r.op ≡ sort_of s.op
+  same_sort r s i j are same =
+      let place : i ≡ j = sym (class_is_place i r are.0) ∙ same ∙ class_is_place j s are.1 in
+      ap (λ (x : LaunchRow). sort_of x.op) (same_Some r s (sym are.0 ∙ ap (slice_get g.rows) place ∙ are.1))
+
+  low_register : (i : ℕ) (r : LaunchRow) → slice_get g.rows i ≡ Some r → HasLowRegister r
+  low_register =
+      four_rows goal (λ i r. HasLowRegister r) (λ n e. absurd (none_some n e)) (λ n e. low_as n e valid.one_low) (λ n e. low_as n e valid.two_low) (λ n e. absurd (none_some n e))
+    where
+      low_as : {m : ℕ} (n : ℕ) → Some m ≡ Some n → m < 31 → n < 31
+      low_as {m} n e low = subst (λ k. k < 31) (same_Some m n e) low
 
   abbrev Differ : LaunchRow → LaunchRow → Type 0
   Differ r s = ¬ ((r.op ≡ s.op) × (r.operands ≡ s.operands))
@@ -108,14 +119,11 @@ module _ (goal : Goal) (valid : IsGoal goal) where
       (pairs_cons Differ (row_two goal) (row_three goal ∷ []) (all_one (Differ (row_two goal)) (row_three goal) (λ h. input_word _ _ h.0))
       (pairs_cons Differ (row_three goal) [] (All-nil (Differ (row_three goal))) (pairs_nil Differ))))
 
-  input_sort : (place : InputPlace) → HasSort g sort.Word (class_of place)
+  input_sort : (place : InputPlace) → ClassHasSort g sort.Word (place_class place)
   input_sort First = (1, row_one goal, omega arith, refl, (refl, refl))
   input_sort Second = (2, row_two goal, omega arith, refl, (refl, refl))
 
-  abbrev TakesSorts : LaunchRow → Type 0
-  TakesSorts r = (at : ℕ) → at < length r.operands → HasSort g (operand_sort r.op at) (slice_index r.operands at)
-
-  application_sorts : TakesSorts (row_three goal)
+  application_sorts : TakesItsSorts g (row_three goal)
   application_sorts zero lt = input_sort goal.left
   application_sorts (suc zero) lt = input_sort goal.right
   application_sorts (suc (suc at)) lt = absurd (omega arith)
@@ -124,7 +132,7 @@ module _ (goal : Goal) (valid : IsGoal goal) where
   nothing_below at lt = omega arith
 
   abbrev HasInputSort : InputClass → Type 0
-  HasInputSort i = HasSort g sort.Word i.class × (i.reg < 31)
+  HasInputSort i = ClassHasSort g sort.Word i.class × (i.reg < 31)
 
   pub well_formed : IsLaunchGraph g
   well_formed = record {
@@ -133,16 +141,22 @@ module _ (goal : Goal) (valid : IsGoal goal) where
     distinct = distinct;
     classes = four_rows goal (λ i r. r.class ≤ next_class (take i g.rows)) (omega arith) (omega arith) (omega arith) (omega arith);
     sorts = same_sort;
-    constants = λ r s i j m n ei ej same em en. absurd (no_constant i r ei m em);
+    constants = λ r s i j m n are same em en. absurd (no_constant i r are.0 m em);
     words = λ r i m e em. absurd (no_constant i r e m em);
-    operands = all_four TakesSorts (λ at lt. absurd (nothing_below at lt)) (λ at lt. absurd (nothing_below at lt)) (λ at lt. absurd (nothing_below at lt)) application_sorts;
+    registers = λ r i n e en. low_register i r e n en;
+    operands = all_four (TakesItsSorts g) (λ at lt. absurd (nothing_below at lt)) (λ at lt. absurd (nothing_below at lt)) (λ at lt. absurd (nothing_below at lt)) application_sorts;
     indexes = λ i n r e en. absurd (no_declared i r e n en);
     unnamed = all_four (λ r. (r.name ≡ []) ⊎ IsTrue (is_some (declared_index r.op))) (inl refl) (inl refl) (inl refl) (inl refl);
-    same_name = λ r s i j m n ei ej em en. absurd (no_declared i r ei m em);
+    same_name = λ r s i j m n are em en. absurd (no_declared i r are.0 m em);
+    named = all_four (λ r. IsTrue (is_some (declared_index r.op)) → IsName r.name) (λ h. absurd (false_true h)) (λ h. absurd (false_true h)) (λ h. absurd (false_true h)) (λ h. absurd (false_true h));
     entry = (0, row_zero goal, omega arith, refl, (refl, refl));
     inputs = All-cons HasInputSort (input_one goal) (input_two goal ∷ []) (input_sort First, valid.one_low) (all_one HasInputSort (input_two goal) (input_sort Second, valid.two_low));
     pool = all_one (λ r. r < 31) goal.pool valid.pool_low;
     guard = tt;
-    sets = all_one (λ s. HasSort g (if is_memory_name s.name then sort.Memory else sort.Word) s.class) (record { name = goal.target; class = 3 })
-        (subst (λ b. HasSort g (if b then sort.Memory else sort.Word) 3) (sym (not_memory goal valid)) (3, row_three goal, omega arith, refl, (refl, refl)));
+    sets = all_one (λ s. ClassHasSort g (set_sort s.name) s.class) (record { name = goal.target; class = 3 })
+        (subst (λ b. ClassHasSort g (if b then sort.Memory else sort.Word) 3) (sym (not_memory goal valid)) (3, row_three goal, omega arith, refl, (refl, refl)));
+    names = (
+      All-cons (λ (i : InputClass). IsName i.name) (input_one goal) (input_two goal ∷ []) (valid.named 1 [] (omega arith)) (all_one (λ (i : InputClass). IsName i.name) (input_two goal) (valid.named 2 [] (omega arith))),
+      all_one (λ s. IsName s.name) (record { name = goal.target; class = 3 }) (valid.named 3 [] (omega arith)),
+    );
   }

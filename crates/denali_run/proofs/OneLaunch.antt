@@ -1,4 +1,4 @@
--- The one launch of an answered goal fits, and nothing fits in fewer cycles.
+-- The one the_launch of an answered goal fits, and nothing fits in fewer cycles.
 use Rattle.std.proofs.Common.{◌≡◌, ℕ, zero, suc, ◌+◌, ◌≤◌, List, [], ◌∷◌, refl, sym, ◌∙◌, ap, subst, inl, inr, ◌⊎◌, arith, Bool, true, false, cond, Some, None, codes}
 use Rattle.std.specs.Prelude.{All, AllPairs, Any, IsTrue, IsSomeAnd, count_by, unwrap_or}
 use Rattle.std.specs.Option.{option_map_or}
@@ -9,10 +9,10 @@ use Rattle.word_ops.specs.declared.operators.WordOp.TheVariants as ops
 use Rattle.denali_run.specs.InstrOrder.{is_operate}
 use Rattle.denali_run.specs.Tables.{ev6, MayUse, latency_of}
 use Rattle.denali_run.specs.Graphs.{is_memory_name, memory_target}
-use Rattle.denali_run.specs.Launches.{instr_at, word_instr, launches as launches_test, gives_word, is_load, is_store, operands_at, class_at, IsInput, Gives, plain, Operand, memory_class_at, IsFree, IsReadable, IsZero}
+use Rattle.denali_run.specs.Launches.{instr_at, word_op_instr, launches, gives_word, is_load, is_store, operands_at, class_at, IsInput, Gives, plain, Operand, memory_class_at, IsFree, IsReadable, IsZero}
 use Rattle.denali_run.specs.Fits.{Fits, CanLaunch, CanRead, EndsBy, IsReached, KeepsMemory, Waits, UsesMemory, Collide, IsLeft}
 use Rattle.denali_run.specs.Goals.{Goal, IsGoal, IsAnswered}
-use Rattle.denali_run.specs.Answers.{graph_of, launches, launch, class_of}
+use Rattle.denali_run.specs.OneOperate.{graph_of, the_launches, the_launch, place_class}
 use Rattle.denali_run.specs.declared.forms.InputPlace.{InputPlace}
 use Rattle.denali_run.specs.declared.forms.InputPlace.TheVariants.{First, Second}
 use Rattle.denali_run.specs.declared.tables.InstrKind.TheVariants.{Operate, Beq}
@@ -24,13 +24,13 @@ use Rattle.denali_run.proofs.Decide.{any_cases, any_nil}
 
 -- ---- what is said of each answered operator
 
-pub word_instr_is : (g : LaunchGraph) (op : WordOp) (operands : List ℕ) → IsAnswered op → word_instr g op operands ≡ Some (Operate op)
-word_instr_is g ops.Addq operands h = refl
-word_instr_is g ops.Subq operands h = refl
-word_instr_is g ops.And operands h = refl
-word_instr_is g ops.Bis operands h = refl
-word_instr_is g ops.Xor operands h = refl
-word_instr_is g _ operands h = absurd h
+pub word_op_instr_is : (g : LaunchGraph) (op : WordOp) (operands : List ℕ) → IsAnswered op → word_op_instr g op operands ≡ Some (Operate op)
+word_op_instr_is g ops.Addq operands h = refl
+word_op_instr_is g ops.Subq operands h = refl
+word_op_instr_is g ops.And operands h = refl
+word_op_instr_is g ops.Bis operands h = refl
+word_op_instr_is g ops.Xor operands h = refl
+word_op_instr_is g _ operands h = absurd h
 
 pub may_use : (op : WordOp) → IsAnswered op → MayUse ev6 (Operate op) 0
 may_use ops.Addq h = (0, omega arith, refl)
@@ -78,15 +78,15 @@ module _ (goal : Goal) (valid : IsGoal goal) where
   g = graph_of goal
 
   pub instr_is : instr_at g 3 ≡ Some (Operate goal.op)
-  instr_is = word_instr_is g goal.op (class_of goal.left ∷ class_of goal.right ∷ []) valid.op
+  instr_is = word_op_instr_is g goal.op (place_class goal.left ∷ place_class goal.right ∷ []) valid.op
 
-  pub gives_it : launches_test g gives_word launch ≡ true
+  pub gives_it : launches g gives_word the_launch ≡ true
   gives_it = ap (λ o. option_map_or gives_word o false) instr_is
 
-  no_load : launches_test g is_load launch ≡ false
+  no_load : launches g is_load the_launch ≡ false
   no_load = ap (λ o. option_map_or is_load o false) instr_is
 
-  no_store : launches_test g is_store launch ≡ false
+  no_store : launches g is_store the_launch ≡ false
   no_store = ap (λ o. option_map_or is_store o false) instr_is
 
   pub not_memory : is_memory_name goal.target ≡ false
@@ -99,61 +99,61 @@ module _ (goal : Goal) (valid : IsGoal goal) where
   pub target_is_entry : memory_target g ≡ 0
   target_is_entry = ap (λ b. option_map_or (λ (s : SetClass). s.class) (cond b (Some (record { name = goal.target; class = 3 })) None) 0) not_memory
 
-  pub is_input : (place : InputPlace) → IsInput g (class_of place)
+  pub is_input : (place : InputPlace) → IsInput g (place_class place)
   is_input First = (0, input_one goal, omega arith, refl, refl)
   is_input Second = (1, input_two goal, omega arith, refl, refl)
 
-  operands_are : operands_at g 3 ≡ plain (class_of goal.left) ∷ record { class = class_of goal.right; second = true } ∷ []
-  operands_are = ap (λ b. cond b (plain (class_of goal.left) ∷ record { class = class_of goal.right; second = true } ∷ []) (plain (class_of goal.left) ∷ [])) (operate_is goal.op valid.op)
+  operands_are : operands_at g 3 ≡ plain (place_class goal.left) ∷ record { class = place_class goal.right; second = true } ∷ []
+  operands_are = ap (λ b. cond b (plain (place_class goal.left) ∷ record { class = place_class goal.right; second = true } ∷ []) (plain (place_class goal.left) ∷ [])) (operate_is goal.op valid.op)
 
   abbrev second_operand : Operand
-  second_operand = record { class = class_of goal.right; second = true }
+  second_operand = record { class = place_class goal.right; second = true }
 
   abbrev Reads : Operand → Type 0
-  Reads = λ o. IsFree g o ⊎ IsReadable g ev6 launches o.class 0 0
+  Reads = λ o. IsFree g o ⊎ IsReadable g ev6 the_launches o.class 0 0
 
-  can_read : CanRead g ev6 launches launch
+  can_read : CanRead g ev6 the_launches the_launch
   can_read =
       subst (All Reads) (sym operands_are)
-      (All-cons Reads (plain (class_of goal.left)) (second_operand ∷ []) (inr (inl (is_input goal.left))) (all_one Reads second_operand (inr (inl (is_input goal.right)))))
+      (All-cons Reads (plain (place_class goal.left)) (second_operand ∷ []) (inr (inl (is_input goal.left))) (all_one Reads second_operand (inr (inl (is_input goal.right)))))
 
-  no_memory : UsesMemory g launch → ⊥
+  no_memory : UsesMemory g the_launch → ⊥
   no_memory (inl h) = false_true (sym no_load ∙ h)
   no_memory (inr h) = false_true (sym no_store ∙ h)
 
-  abbrev not_stored : (P : Launch → Type 0) → All (λ m. IsTrue (launches_test g is_store m) → P m) launches
-  not_stored P = all_one (λ m. IsTrue (launches_test g is_store m) → P m) launch (λ h. absurd (false_true (sym no_store ∙ h)))
+  abbrev not_stored : (P : Launch → Type 0) → All (λ m. IsTrue (launches g is_store m) → P m) the_launches
+  not_stored P = all_one (λ m. IsTrue (launches g is_store m) → P m) the_launch (λ h. absurd (false_true (sym no_store ∙ h)))
 
-  keeps_memory : KeepsMemory g launches
+  keeps_memory : KeepsMemory g the_launches
   keeps_memory = record {
-    each = all_one (λ l. UsesMemory g l → IsLeft g launches l.cycle (memory_class_at g l.row)) launch (λ u. absurd (no_memory u));
-    single = pairs_one (λ l m. IsTrue (launches_test g is_store l) → IsTrue (launches_test g is_store m) → ¬ (l.cycle ≡ m.cycle)) launch;
+    each = all_one (λ l. UsesMemory g l → IsLeft g the_launches l.cycle (memory_class_at g l.row)) the_launch (λ u. absurd (no_memory u));
+    single = pairs_one (λ l m. IsTrue (launches g is_store l) → IsTrue (launches g is_store m) → ¬ (l.cycle ≡ m.cycle)) the_launch;
     last = λ t after. inl (target_is_entry, not_stored (λ m. t ≤ m.cycle));
   }
 
-  pub given : Any (Gives g 3) launches
-  given = (0, launch, omega arith, refl, (gives_it, refl))
+  pub given : Any (Gives g 3) the_launches
+  given = (0, the_launch, omega arith, refl, (gives_it, refl))
 
-  waits : Waits g launches launch
+  waits : Waits g the_launches the_launch
   waits (inl h) = absurd (false_true (sym no_store ∙ h))
   waits (inr h) = absurd (false_true (sym no_load ∙ h.0))
 
-  ends : EndsBy g ev6 1 launch
+  ends : EndsBy g ev6 1 the_launch
   ends =
       let e : unwrap_or (latency_of ev6 (unwrap_or (instr_at g 3) Beq)) 0 ≡ 1 = ap (λ o. unwrap_or (latency_of ev6 (unwrap_or o Beq)) 0) instr_is ∙ ap (λ o. unwrap_or o 0) (latency_is goal.op valid.op) in
       omega (arith, e)
 
-  pub fits : Fits g ev6 1 launches
+  pub fits : Fits g ev6 1 the_launches
   fits = record {
-    rows = all_one (CanLaunch g ev6) launch (subst (λ o. IsSomeAnd o (λ i. MayUse ev6 i 0)) (sym instr_is) (may_use goal.op valid.op));
-    apart = pairs_one (λ l m. ¬ Collide l m) launch;
-    operands = all_one (CanRead g ev6 launches) launch can_read;
-    in_time = all_one (EndsBy g ev6 1) launch ends;
-    targets = all_one (IsReached g launches) (record { name = goal.target; class = 3 }) (inr (inr (inr given)));
+    rows = all_one (CanLaunch g ev6) the_launch (subst (λ o. IsSomeAnd o (λ i. MayUse ev6 i 0)) (sym instr_is) (may_use goal.op valid.op));
+    apart = pairs_one (λ l m. ¬ Collide l m) the_launch;
+    operands = all_one (CanRead g ev6 the_launches) the_launch can_read;
+    in_time = all_one (EndsBy g ev6 1) the_launch ends;
+    targets = all_one (IsReached g the_launches) (record { name = goal.target; class = 3 }) (inr (inr (inr given)));
     memory = keeps_memory;
     one_branch = tt;
-    after_branch = all_one (Waits g launches) launch waits;
-    pool = (let e : count_by (launches_test g gives_word) launches ≡ 1 = ap (λ b. 0 + cond b 1 0) gives_it in omega (arith, e));
+    after_branch = all_one (Waits g the_launches) the_launch waits;
+    pool = (let e : count_by (launches g gives_word) the_launches ≡ 1 = ap (λ b. 0 + cond b 1 0) gives_it in omega (arith, e));
   }
 
   -- ---- nothing fits in 0 cycles
@@ -180,7 +180,7 @@ module _ (goal : Goal) (valid : IsGoal goal) where
   no_zero : IsZero g 3 → ⊥
   no_zero e = cc
 
-  -- a launch of the application takes a cycle
+  -- a the_launch of the application takes a cycle
   takes_a_cycle : (l : Launch) → EndsBy g ev6 0 l → Gives g 3 l → ⊥
   takes_a_cycle l ends gives =
       let row : l.row ≡ 3 = class_three l.row gives.1 in

@@ -16,10 +16,12 @@ use Rattle.alpha_machine.specs.declared.running.End.TheVariants.{Fall}
 use Rattle.denali_run.specs.Goals.{Goal, IsGoal, input_of}
 use Rattle.alpha_encode.specs.Decoded.{decoded}
 use Rattle.alpha_encode.specs.Formats.{encoded}
-use Rattle.denali_run.specs.Graphs.{IsProper, IsTrueIn}
+use Rattle.denali_run.specs.Graphs.{IsProper, IsTrueUnder, plain_row}
 use Rattle.denali_run.specs.Outcomes.{entry_state, Falls}
-use Rattle.denali_run.specs.Answers.{graph_of, class_of, words_of, wheres_of, instr_of, plain_row}
-use Rattle.denali_run.specs.RightAnswers.{asked, Leaves, IsRightAnswer}
+use Rattle.denali_run.specs.OneOperate.{graph_of, place_class, the_words, the_listing, the_instr, found_of}
+use Rattle.denali_run.specs.RightAnswers.{asked, Leaves, IsFound, IsRightAnswer}
+use Rattle.denali_run.specs.Fits.{Fits}
+use Rattle.denali_run.specs.Tables.{ev6}
 use Rattle.denali_run.specs.declared.forms.InputPlace.{InputPlace}
 use Rattle.denali_run.specs.declared.forms.InputPlace.TheVariants.{First, Second}
 use Rattle.denali_run.specs.declared.graphs.LaunchRow.{LaunchRow}
@@ -55,7 +57,7 @@ three_apart a b c ab ac bc (suc (suc i)) (suc (suc (suc j))) d lt len = absurd (
 abbrev is_low : ℕ → Type 0
 is_low r = r < 31
 
-module _ (goal : Goal) (valid : IsGoal goal) (back : decoded (encoded (instr_of goal)) ≡ Some (instr_of goal)) where
+module _ (goal : Goal) (valid : IsGoal goal) (back : decoded (encoded (the_instr goal)) ≡ Some (the_instr goal)) where
   abbrev g : LaunchGraph
   g = graph_of goal
 
@@ -82,9 +84,9 @@ module _ (goal : Goal) (valid : IsGoal goal) (back : decoded (encoded (instr_of 
     registers_are : end_state.registers ≡ set w.registers goal.pool (asked goal w)
     registers_are = low_is_written w.registers goal.pool (operate_value goal.op a b) valid.pool_low ∙ ap (set w.registers goal.pool) value_is
 
-    runs : Runs (words_of goal) (entry_state w) Fall end_state
+    runs : Runs (the_words goal) (entry_state w) Fall end_state
     runs = record {
-      instrs = instr_of goal ∷ [];
+      instrs = the_instr goal ∷ [];
       decode = ap (λ o. o ∷ []) back;
       begins = refl;
       steps = refl;
@@ -109,9 +111,9 @@ module _ (goal : Goal) (valid : IsGoal goal) (back : decoded (encoded (instr_of 
       two = kept goal.two.register valid.pool_apart_two;
     }
 
-  module _ (w : World) (value : ℕ → Value) (is_world : IsWorld w) (true_in : IsTrueIn g w value) where
+  module _ (w : World) (value : ℕ → Value) (is_world : IsWorld w) (true_in : IsTrueUnder g w value) where
     abbrev row : LaunchRow
-    row = plain_row 3 (op.Word goal.op) (class_of goal.left ∷ class_of goal.right ∷ [])
+    row = plain_row 3 (op.Word goal.op) (place_class goal.left ∷ place_class goal.right ∷ [])
 
     abbrev IsInputTrue : InputClass → Type 0
     IsInputTrue i = value i.class ≡ word (slice_index w.registers i.reg)
@@ -119,7 +121,7 @@ module _ (goal : Goal) (valid : IsGoal goal) (back : decoded (encoded (instr_of 
     abbrev IsInputKept : InputClass → Type 0
     IsInputKept i = slice_index (end_state w is_world).registers i.reg ≡ slice_index w.registers i.reg
 
-    input_value : (place : InputPlace) → value (class_of place) ≡ word (slice_index w.registers (input_of goal place).register)
+    input_value : (place : InputPlace) → value (place_class place) ≡ word (slice_index w.registers (input_of goal place).register)
     input_value First = All-head IsInputTrue (input_one goal) (input_two goal ∷ []) true_in.inputs
     input_value Second = All-head IsInputTrue (input_two goal) [] (All-tail IsInputTrue (input_one goal) (input_two goal ∷ []) true_in.inputs)
 
@@ -130,28 +132,28 @@ module _ (goal : Goal) (valid : IsGoal goal) (back : decoded (encoded (instr_of 
     application_value : value 3 ≡ word (asked goal w)
     application_value =
         true_in.rows 3 row (omega arith)
-        ∙ ap (λ v. word (value_at goal.op (as_word v) (as_word (value (class_of goal.right))) 0)) (input_value goal.left)
+        ∙ ap (λ v. word (value_at goal.op (as_word v) (as_word (value (place_class goal.right))) 0)) (input_value goal.left)
         ∙ ap (λ v. word (value_at goal.op (a w is_world) (as_word v) 0)) (input_value goal.right)
 
-    falls : Falls g w value (words_of goal) (wheres_of goal)
+    falls : Falls g w value (the_words goal) ((the_listing goal (the_instr goal)).wheres)
     falls = record {
       state = end_state w is_world;
       runs = runs w is_world;
-      targets = subst (AllZip IsPlaced (wheres_of goal)) (sym (targets_are goal valid)) ((refl, ap word (written_value w is_world) ∙ sym application_value), tt);
+      targets = subst (AllZip IsPlaced ((the_listing goal (the_instr goal)).wheres)) (sym (targets_are goal valid)) ((refl, ap word (written_value w is_world) ∙ sym application_value), tt);
       memory_is = sym (ap value (target_is_entry goal valid) ∙ true_in.entry);
       inputs = All-cons IsInputKept (input_one goal) (input_two goal ∷ []) (kept w is_world goal.one.register valid.pool_apart_one)
           (All-cons IsInputKept (input_two goal) [] (kept w is_world goal.two.register valid.pool_apart_two) (All-nil IsInputKept));
     }
 
-  pub right_answer : IsRightAnswer goal
-  right_answer = record {
-    graph = well_formed goal valid;
-    proper = proper;
+  found : IsFound ev6 1 (found_of goal)
+  found = record {
     fits = fits goal valid;
     listing = listing goal valid;
     words = ap (λ o. o ∷ []) back;
     obeys = obeys goal valid;
-    leaves = leaves;
     right = record { falls = λ w value is_world true_in stays. falls w value is_world true_in; exits = λ w value is_world true_in left. absurd left };
-    least = nothing_fits goal valid;
+    least = λ j ls below f. nothing_fits goal valid ls (subst (λ k. Fits g ev6 k ls) (omega (arith, below)) f);
   }
+
+  pub right_answer : IsRightAnswer goal
+  right_answer = record { graph = well_formed goal valid; proper = proper; found = found; leaves = leaves }

@@ -1,4 +1,4 @@
--- The word of an answered goal is its launch's, keeps to the table, and computes the goal's value.
+-- The word of an answered goal is its the_launch's, keeps to the table, and computes the goal's value.
 use Rattle.std.proofs.Common.{◌≡◌, ℕ, zero, suc, ◌+◌, ◌<◌, ◌≤◌, List, [], ◌∷◌, refl, sym, ◌∙◌, ap, arith, Bool, true, false, cond, Option, Some, None, map}
 use Rattle.std.specs.Prelude.{IsSome, IsTrue, slice_get, unwrap_or, position, nat_lt, not, ◌&&◌}
 use Rattle.std.specs.Option.{option_map_or}
@@ -16,7 +16,7 @@ use Rattle.denali_run.specs.Launches.{StandsBefore, is_store}
 use Rattle.denali_run.specs.Listings as listings
 use Rattle.denali_run.specs.Listings.{IsListing}
 use Rattle.denali_run.specs.Obeys.{Obeys, latency_in, kind_of}
-use Rattle.denali_run.specs.Answers.{graph_of, launches, launch, class_of, items_of, wheres_of, instr_of}
+use Rattle.denali_run.specs.OneOperate.{graph_of, the_launches, the_launch, place_class, the_listing, the_instr}
 use Rattle.denali_run.specs.declared.forms.InputPlace.{InputPlace}
 use Rattle.denali_run.specs.declared.forms.InputPlace.TheVariants.{First, Second}
 use Rattle.denali_run.specs.declared.graphs.LaunchGraph.{LaunchGraph}
@@ -28,7 +28,7 @@ use Rattle.denali_run.proofs.OneLaunch.{may_use, latency_is, all_one, pairs_one,
 -- ---- the listing
 
 -- the instruction of an operate, by its operands' registers
-row_is : (g : LaunchGraph) (i : ℕ) (op : WordOp) (operands : List ℕ) → IsAnswered op → listings.word_instr g ev6 launches i launch op operands ≡ listings.operate g ev6 launches i launch op operands
+row_is : (g : LaunchGraph) (i : ℕ) (op : WordOp) (operands : List ℕ) → IsAnswered op → listings.word_instr g ev6 the_launches i the_launch op operands ≡ listings.operate_instr g ev6 the_launches i the_launch op operands
 row_is g i ops.Addq operands h = refl
 row_is g i ops.Subq operands h = refl
 row_is g i ops.And operands h = refl
@@ -47,31 +47,31 @@ module _ (goal : Goal) (valid : IsGoal goal) where
   abbrev g : LaunchGraph
   g = graph_of goal
 
-  reg_is : (place : InputPlace) → listings.register_for g ev6 launches launch (class_of place) ≡ (input_of goal place).register
+  reg_is : (place : InputPlace) → listings.register_for g ev6 the_launches the_launch (place_class place) ≡ (input_of goal place).register
   reg_is First = refl
   reg_is Second = refl
 
-  second_is : (place : InputPlace) → listings.second_for g ev6 launches launch (class_of place) ≡ Reg (input_of goal place).register
+  second_is : (place : InputPlace) → listings.second_for g ev6 the_launches the_launch (place_class place) ≡ Reg (input_of goal place).register
   second_is First = refl
   second_is Second = refl
 
-  instr_is : listings.instr_of g ev6 launches 0 launch ≡ instr_of goal
+  instr_is : listings.instr_of g ev6 the_launches 0 the_launch ≡ the_instr goal
   instr_is =
-      row_is g 0 goal.op (class_of goal.left ∷ class_of goal.right ∷ []) valid.op
-      ∙ ap (λ r. instrs.Operate goal.op r (listings.second_for g ev6 launches launch (class_of goal.right)) goal.pool) (reg_is goal.left)
+      row_is g 0 goal.op (place_class goal.left ∷ place_class goal.right ∷ []) valid.op
+      ∙ ap (λ r. instrs.Operate goal.op r (listings.second_for g ev6 the_launches the_launch (place_class goal.right)) goal.pool) (reg_is goal.left)
       ∙ ap (λ r. instrs.Operate goal.op (input_of goal goal.left).register r goal.pool) (second_is goal.right)
 
-  items_are : items_of goal ≡ listings.items_of g ev6 launches
+  items_are : (the_listing goal (the_instr goal)).items ≡ listings.items_of g ev6 the_launches
   items_are = ap (λ (i : Instr). record { instr = i; cycle = 0; slot = 0 } ∷ []) (sym instr_is)
 
-  found : listings.gives g 3 launch ≡ true
+  found : listings.gives g 3 the_launch ≡ true
   found = ap (λ b. b && true) (gives_it goal valid)
 
-  place_is : listings.place_of g launches 3 ≡ goal.pool
-  place_is = ap (λ o. option_map_or (listings.register_at g launches) o 31) (first_place (λ l. listings.gives g 3 l && true) launch (ap (λ b. b && true) found))
+  place_is : listings.target_register g the_launches 3 ≡ goal.pool
+  place_is = ap (λ o. option_map_or (listings.register_at g the_launches) o 31) (first_place (λ l. listings.gives g 3 l && true) the_launch (ap (λ b. b && true) found))
 
   abbrev place : SetClass → Where
-  place s = record { name = s.name; reg = listings.place_of g launches s.class }
+  place s = record { name = s.name; reg = listings.target_register g the_launches s.class }
 
   abbrev target : SetClass
   target = record { name = goal.target; class = 3 }
@@ -79,28 +79,28 @@ module _ (goal : Goal) (valid : IsGoal goal) where
   pub targets_are : listings.word_targets g ≡ target ∷ []
   targets_are = ap (λ b. cond (not b) (target ∷ []) []) (not_memory goal valid)
 
-  wheres_are : wheres_of goal ≡ listings.wheres_of g launches
+  wheres_are : (the_listing goal (the_instr goal)).wheres ≡ listings.wheres_of g the_launches
   wheres_are = ap (λ (r : ℕ). record { name = goal.target; reg = r } ∷ []) (sym place_is) ∙ sym (ap (map place) targets_are)
 
-  pub listing : IsListing g ev6 launches (items_of goal) (wheres_of goal)
+  pub listing : IsListing g ev6 the_launches ((the_listing goal (the_instr goal)).items) ((the_listing goal (the_instr goal)).wheres)
   listing = record {
-    ordered = launches;
-    order = record { same = IsPermutation-refl launches; order = pairs_one (StandsBefore g) launch };
+    ordered = the_launches;
+    order = record { same = IsPermutation-refl the_launches; order = pairs_one (StandsBefore g) the_launch };
     items_are = items_are;
     wheres_are = wheres_are;
   }
 
   abbrev item : Item
-  item = record { instr = instr_of goal; cycle = 0; slot = 0 }
+  item = record { instr = the_instr goal; cycle = 0; slot = 0 }
 
-  latency_one : latency_in ev6 (instr_of goal) ≡ 1
+  latency_one : latency_in ev6 (the_instr goal) ≡ 1
   latency_one = ap (λ o. unwrap_or o 0) (latency_is goal.op valid.op)
 
-  first_only : (i : ℕ) (x : Item) → slice_get (items_of goal) i ≡ Some x → i ≡ 0
+  first_only : (i : ℕ) (x : Item) → slice_get ((the_listing goal (the_instr goal)).items) i ≡ Some x → i ≡ 0
   first_only zero x e = refl
   first_only (suc i) x e = cc
 
-  pub obeys : Obeys ev6 1 (items_of goal)
+  pub obeys : Obeys ev6 1 ((the_listing goal (the_instr goal)).items)
   obeys = record {
     rising = pairs_one (λ a b. a.cycle ≤ b.cycle) item;
     below = all_one (λ a. a.cycle < 1) item (omega arith);
@@ -133,7 +133,7 @@ reg_low : (goal : Goal) → IsGoal goal → (place : InputPlace) → (input_of g
 reg_low goal valid First = (let l = valid.one_low in omega arith)
 reg_low goal valid Second = (let l = valid.two_low in omega arith)
 
-pub is_well_formed : (goal : Goal) → IsGoal goal → IsWellFormed (instr_of goal)
+pub is_well_formed : (goal : Goal) → IsGoal goal → IsWellFormed (the_instr goal)
 is_well_formed goal valid = (
   has_code goal.op valid.op,
   reg_low goal valid goal.left,

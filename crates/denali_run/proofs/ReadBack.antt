@@ -8,7 +8,7 @@ use Rattle.denali_run.specs.Goals.{Input}
 use Rattle.denali_run.specs.Lexemes.{Lexeme, Opening, Closing, Name, Register, Number}
 use Rattle.denali_run.specs.Forms.{Written, lexemes_of, input_lexemes, register_lexeme}
 use Rattle.denali_run.specs.Resolving.{AreLow}
-use Rattle.denali_run.specs.Reading.{◌>>=◌, opening_at, closing_at, name_at, word_at, is_digit, register_number, register_of, register_at, input_at, pool_at, Application, application_at, set_at, written_at, is_empty}
+use Rattle.denali_run.specs.Reading.{◌>>=◌, opening_at, closing_at, name_at, keyword_at, is_digit, register_number, register_of, reg_at, input_at, pool_at, Application, application_at, set_at, written_at, is_empty}
 
 bind_some : {A B : Type 0} (o : Option A) (f : A → Option B) (y : B) → (o >>= f) ≡ Some y → (x : A) × (o ≡ Some x) × (f x ≡ Some y)
 bind_some None f y e = cc
@@ -53,7 +53,7 @@ name_takes (Name a ∷ ls) x e = let same : (a, ls) ≡ x = cc in ap (λ p. Name
 name_takes (Register a ∷ ls) x e = cc
 name_takes (Number n ∷ ls) x e = cc
 
-word_takes : (w : List ℕ) (ls rest : List Lexeme) → word_at w ls ≡ Some rest → ls ≡ Name w ∷ rest
+word_takes : (w : List ℕ) (ls rest : List Lexeme) → keyword_at w ls ≡ Some rest → ls ≡ Name w ∷ rest
 word_takes w ls rest e =
     let p = bind_some (name_at ls) (λ name. cond (bytes_eq name.0 w) (Some name.1) None) rest e in
     let g : (bytes_eq p.0.0 w ≡ true) × (Some p.0.1 ≡ Some rest) = guard_some _ _ _ p.2 in
@@ -159,7 +159,7 @@ register_of_takes (b ∷ digits) r e =
     let is : b ≡ 36 = grind arith in
     (ap (λ c. c ∷ digits) is ∙ ap (λ l. 36 ∷ l) n.0, n.1)
 
-register_takes : (ls : List Lexeme) (x : ℕ × List Lexeme) → register_at ls ≡ Some x → (ls ≡ register_lexeme x.0 ∷ x.1) × (x.0 < 31)
+register_takes : (ls : List Lexeme) (x : ℕ × List Lexeme) → reg_at ls ≡ Some x → (ls ≡ register_lexeme x.0 ∷ x.1) × (x.0 < 31)
 register_takes [] x e = cc
 register_takes (Opening ∷ ls) x e = cc
 register_takes (Closing ∷ ls) x e = cc
@@ -173,7 +173,7 @@ register_takes (Register bytes ∷ ls) x e =
 
 -- ( in NAME REGISTER ), from its parts
 input_joined : (ls a b : List Lexeme) (n : List ℕ × List Lexeme) (r : ℕ × List Lexeme) (rest : List Lexeme) (x : Input × List Lexeme)
-    → opening_at ls ≡ Some a → word_at (codes "in") a ≡ Some b → name_at b ≡ Some n → register_at n.1 ≡ Some r → closing_at r.1 ≡ Some rest → (record { name = n.0; register = r.0 }, rest) ≡ x
+    → opening_at ls ≡ Some a → keyword_at (codes "in") a ≡ Some b → name_at b ≡ Some n → reg_at n.1 ≡ Some r → closing_at r.1 ≡ Some rest → (record { name = n.0; register = r.0 }, rest) ≡ x
     → (ls ≡ input_lexemes x.0 ++ x.1) × (x.0.register < 31)
 input_joined ls a b n r rest x e1 e2 e3 e4 e5 same =
     let numbered = register_takes n.1 r e4 in
@@ -186,9 +186,9 @@ input_takes : (ls : List Lexeme) (x : Input × List Lexeme) → input_at ls ≡ 
 unfolding input_at
 input_takes ls x e =
     let a = bind_some (opening_at ls) _ x e in
-    let b = bind_some (word_at (codes "in") a.0) _ x a.2 in
+    let b = bind_some (keyword_at (codes "in") a.0) _ x a.2 in
     let c = bind_some (name_at b.0) _ x b.2 in
-    let d = bind_some (register_at c.0.1) _ x c.2 in
+    let d = bind_some (reg_at c.0.1) _ x c.2 in
     let f = bind_some (closing_at d.0.1) _ x d.2 in
     input_joined ls a.0 b.0 c.0 d.0 f.0 x a.1 b.1 c.1 d.1 f.1 (some_same _ _ f.2)
 
@@ -197,7 +197,7 @@ pool_lexemes r = Opening ∷ Name (codes "pool") ∷ register_lexeme r ∷ Closi
 
 -- ( pool REGISTER )
 pool_joined : (ls a b : List Lexeme) (r : ℕ × List Lexeme) (rest : List Lexeme) (x : ℕ × List Lexeme)
-    → opening_at ls ≡ Some a → word_at (codes "pool") a ≡ Some b → register_at b ≡ Some r → closing_at r.1 ≡ Some rest → (r.0, rest) ≡ x
+    → opening_at ls ≡ Some a → keyword_at (codes "pool") a ≡ Some b → reg_at b ≡ Some r → closing_at r.1 ≡ Some rest → (r.0, rest) ≡ x
     → (ls ≡ pool_lexemes x.0 ++ x.1) × (x.0 < 31)
 pool_joined ls a b r rest x e1 e2 e3 e4 same =
     let numbered = register_takes b r e3 in
@@ -210,8 +210,8 @@ pool_takes : (ls : List Lexeme) (x : ℕ × List Lexeme) → pool_at ls ≡ Some
 unfolding pool_at
 pool_takes ls x e =
     let a = bind_some (opening_at ls) _ x e in
-    let b = bind_some (word_at (codes "pool") a.0) _ x a.2 in
-    let c = bind_some (register_at b.0) _ x b.2 in
+    let b = bind_some (keyword_at (codes "pool") a.0) _ x a.2 in
+    let c = bind_some (reg_at b.0) _ x b.2 in
     let d = bind_some (closing_at c.0.1) _ x c.2 in
     pool_joined ls a.0 b.0 c.0 d.0 x a.1 b.1 c.1 d.1 (some_same _ _ d.2)
 
@@ -242,7 +242,7 @@ set_lexemes target v = Opening ∷ Name (codes "set") ∷ Name target ∷ (appli
 
 -- ( set NAME ( OP NAME NAME ) )
 set_joined : (ls a b : List Lexeme) (n : List ℕ × List Lexeme) (v : Application × List Lexeme) (rest : List Lexeme) (x : (List ℕ × Application) × List Lexeme)
-    → opening_at ls ≡ Some a → word_at (codes "set") a ≡ Some b → name_at b ≡ Some n → application_at n.1 ≡ Some v → closing_at v.1 ≡ Some rest → ((n.0, v.0), rest) ≡ x
+    → opening_at ls ≡ Some a → keyword_at (codes "set") a ≡ Some b → name_at b ≡ Some n → application_at n.1 ≡ Some v → closing_at v.1 ≡ Some rest → ((n.0, v.0), rest) ≡ x
     → ls ≡ set_lexemes x.0.0 x.0.1 ++ x.1
 set_joined ls a b n v rest x e1 e2 e3 e4 e5 same =
     opening_takes ls a e1 ∙ ap (λ t. Opening ∷ t) (word_takes (codes "set") a b e2 ∙ ap (λ t. Name (codes "set") ∷ t) (name_takes b n e3 ∙ ap (λ t. Name n.0 ∷ t)
@@ -253,7 +253,7 @@ set_takes : (ls : List Lexeme) (x : (List ℕ × Application) × List Lexeme) �
 unfolding set_at
 set_takes ls x e =
     let a = bind_some (opening_at ls) _ x e in
-    let b = bind_some (word_at (codes "set") a.0) _ x a.2 in
+    let b = bind_some (keyword_at (codes "set") a.0) _ x a.2 in
     let n = bind_some (name_at b.0) _ x b.2 in
     let v = bind_some (application_at n.0.1) _ x n.2 in
     let f = bind_some (closing_at v.0.1) _ x v.2 in
@@ -265,7 +265,7 @@ empty_list (l ∷ ls) e = cc
 
 -- the whole form, from its parts
 written_joined : (ls a b : List Lexeme) (n : List ℕ × List Lexeme) (one two : Input × List Lexeme) (pool : ℕ × List Lexeme) (set : (List ℕ × Application) × List Lexeme) (rest : List Lexeme)
-    → opening_at ls ≡ Some a → word_at (codes "goal") a ≡ Some b → name_at b ≡ Some n → input_at n.1 ≡ Some one → input_at one.1 ≡ Some two → pool_at two.1 ≡ Some pool → set_at pool.1 ≡ Some set → closing_at set.1 ≡ Some rest → is_empty rest ≡ true
+    → opening_at ls ≡ Some a → keyword_at (codes "goal") a ≡ Some b → name_at b ≡ Some n → input_at n.1 ≡ Some one → input_at one.1 ≡ Some two → pool_at two.1 ≡ Some pool → set_at pool.1 ≡ Some set → closing_at set.1 ≡ Some rest → is_empty rest ≡ true
     → (ls ≡ lexemes_of (record { name = n.0; one = one.0; two = two.0; pool = pool.0; target = set.0.0; operator = set.0.1.operator; left = set.0.1.left; right = set.0.1.right }))
     × AreLow (record { name = n.0; one = one.0; two = two.0; pool = pool.0; target = set.0.0; operator = set.0.1.operator; left = set.0.1.left; right = set.0.1.right })
 written_joined ls a b n one two pool set rest e1 e2 e3 e4 e5 e6 e7 e8 end =
@@ -283,7 +283,7 @@ pub written_takes : (ls : List Lexeme) (w : Written) → written_at ls ≡ Some 
 unfolding written_at
 written_takes ls w e =
     let a = bind_some (opening_at ls) _ w e in
-    let b = bind_some (word_at (codes "goal") a.0) _ w a.2 in
+    let b = bind_some (keyword_at (codes "goal") a.0) _ w a.2 in
     let n = bind_some (name_at b.0) _ w b.2 in
     let one = bind_some (input_at n.0.1) _ w n.2 in
     let two = bind_some (input_at one.0.1) _ w one.2 in

@@ -81,6 +81,20 @@ module _ (g : LaunchGraph) (table : Table) (k : ℕ) (ls : List Launch) where
   pub broken_does_not_fit : (i r : ℕ) → IsFirstBroken g table k ls i r → ¬ Fits g table k ls
   broken_does_not_fit i r b f = not_both b.which i (kept_where_fits f b.which) b.broken
 
+-- what fits in k cycles fits in more
+pub fits_longer : (g : LaunchGraph) (table : Table) (k m : ℕ) (ls : List Launch) → k ≤ m → Fits g table k ls → Fits g table m ls
+fits_longer g table k m ls le f = record {
+  rows = f.rows;
+  apart = f.apart;
+  operands = f.operands;
+  in_time = λ i d lt. (let ends = f.in_time i d lt in omega (arith, ends, le));
+  targets = f.targets;
+  memory = f.memory;
+  one_branch = f.one_branch;
+  after_branch = f.after_branch;
+  pool = f.pool;
+}
+
 -- ---- the two cases, found by computing
 
 abbrev rule_from : ℕ → Rule

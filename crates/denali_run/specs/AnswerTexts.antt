@@ -6,6 +6,8 @@ use Rattle.std.specs.Option.{option_map_or}
 use Rattle.word_ops.specs.Names.{name_of}
 use Rattle.word_ops.specs.declared.sorts.Op.{Op}
 use Rattle.word_ops.specs.declared.sorts.Op.TheVariants.{Entry, Input, Constant, Word, Select, Store, Load, Put, Declared}
+use Rattle.denali_run.specs.Tables.{ev6}
+use Rattle.denali_run.specs.declared.found.Found.{Found}
 use Rattle.denali_run.specs.declared.tables.Table.{Table}
 use Rattle.denali_run.specs.declared.graphs.LaunchRow.{LaunchRow}
 use Rattle.denali_run.specs.declared.graphs.InputClass.{InputClass}
@@ -14,7 +16,7 @@ use Rattle.denali_run.specs.declared.graphs.SetClass.{SetClass}
 use Rattle.denali_run.specs.declared.graphs.LaunchGraph.{LaunchGraph}
 use Rattle.denali_run.specs.declared.schedules.Launch.{Launch}
 use Rattle.denali_run.specs.declared.listings.Where.{Where}
-use Rattle.alpha_encode.specs.Formats.{encoded}
+use Rattle.alpha_encode.specs.Decoded.{decoded}
 use Rattle.alpha_encode.specs.Texts.{text_of}
 use Rattle.alpha_encode.specs.declared.instructions.Instr.{Instr}
 
@@ -50,7 +52,8 @@ set_line s = codes "set " ++ s.name ++ codes " " ++ decimal s.class ++ codes "\n
 
 abbrev pub rows_text : LaunchGraph → List ℕ
 rows_text g =
-    codes "rows " ++ decimal (length g.rows) ++ codes "\n" ++ flat_map row_line g.rows ++ codes "entry " ++ decimal g.entry ++ codes "\n"
+    codes "rows " ++ decimal (length g.rows) ++ codes "\n" ++ flat_map row_line g.rows ++ codes "entry "
+    ++ decimal g.entry ++ codes "\n"
 
 abbrev pub registers_text : LaunchGraph → List ℕ
 registers_text g = flat_map in_line g.inputs ++ codes "pool" ++ number_words g.pool ++ codes "\n"
@@ -59,6 +62,9 @@ unfoldable pub graph_text : LaunchGraph → List ℕ
 graph_text g = rows_text g ++ registers_text g ++ guard_line g.guard ++ flat_map set_line g.sets
 
 -- ---- the schedule and its words
+
+abbrev pub cycles_line : ℕ → List ℕ
+cycles_line k = codes "scheduled " ++ decimal k ++ codes "\n"
 
 -- the name of a slot
 abbrev pub slot_name : Table → ℕ → List ℕ
@@ -78,10 +84,25 @@ hex_text word = hex_digits 8 word
 
 abbrev pub launch_line : Table → Launch → List ℕ
 launch_line table l =
-    codes "launch " ++ decimal l.cycle ++ codes " " ++ slot_name table l.slot ++ codes " " ++ decimal l.row ++ codes "\n"
+    codes "launch " ++ decimal l.cycle ++ codes " " ++ slot_name table l.slot ++ codes " " ++ decimal l.row
+    ++ codes "\n"
 
-unfoldable pub word_line : Instr → List ℕ
-word_line instr = codes "word " ++ hex_text (encoded instr) ++ codes " " ++ text_of instr ++ codes "\n"
+-- the text of the instruction that a word is, with a space before it
+abbrev pub instr_text : Option Instr → List ℕ
+instr_text None = []
+instr_text (Some instr) = codes " " ++ text_of instr
+
+unfoldable pub word_line : ℕ → List ℕ
+word_line word = codes "word " ++ hex_text word ++ instr_text (decoded word) ++ codes "\n"
 
 abbrev pub where_line : Where → List ℕ
 where_line w = codes "where " ++ w.name ++ codes " " ++ decimal w.reg ++ codes "\n"
+
+-- a found schedule: its graph, its launches in so many cycles of the table `ev6`, its words, and the targets' places
+unfoldable pub found_text : ℕ → Found → List ℕ
+found_text k found =
+    graph_text found.graph
+    ++ cycles_line k
+    ++ flat_map (launch_line ev6) found.schedule.launches
+    ++ flat_map word_line found.words
+    ++ flat_map where_line found.listing.wheres

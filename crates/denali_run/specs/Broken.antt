@@ -15,7 +15,8 @@ NoEarlier ls i R = (j : ℕ) (m : Launch) → j < i → slice_get ls j ≡ Some 
 -- what rule 6 asks of the launch at place i
 pub record KeepsMemoryAt (g : LaunchGraph) (ls : List Launch) (i : ℕ) (l : Launch) : Type 0 where
   pub reads : UsesMemory g l → memory_class_at g l.row ≡ memory_before g ls l.cycle
-  pub single : IsTrue (launches g is_store l) → NoEarlier ls i (λ m. IsTrue (launches g is_store m) × (m.cycle ≡ l.cycle))
+  pub single : IsTrue (launches g is_store l)
+      → NoEarlier ls i (λ m. IsTrue (launches g is_store m) × (m.cycle ≡ l.cycle))
 
 -- The rules, each for a launch l at place i of the list, and three for the whole list.
 pub data Rule : Type 0 where

@@ -47,7 +47,8 @@ UsesMemory g l = IsTrue (launches g is_load l) ⊎ IsTrue (launches g is_store l
 
 pub record KeepsMemory (g : LaunchGraph) (ls : List Launch) : Type 0 where
   pub each : All (λ l. UsesMemory g l → IsLeft g ls l.cycle (memory_class_at g l.row)) ls
-  pub single : AllPairs (λ l m. IsTrue (launches g is_store l) → IsTrue (launches g is_store m) → ¬ (l.cycle ≡ m.cycle)) ls
+  pub single : AllPairs (λ l m. IsTrue (launches g is_store l) → IsTrue (launches g is_store m)
+      → ¬ (l.cycle ≡ m.cycle)) ls
   -- t is a cycle after all launches
   pub last : (t : ℕ) → All (λ l. l.cycle < t) ls → IsLeft g ls t (memory_target g)
 

@@ -1,4 +1,5 @@
--- How a goal is written: ( goal NAME ( in NAME REGISTER ) ( in NAME REGISTER ) ( pool REGISTER ) ( set NAME ( OP NAME NAME ) ) ),
+-- How a goal is written: ( goal NAME ( in NAME REGISTER ) ( in NAME REGISTER ) ( pool REGISTER ) ( set NAME ( OP NAME
+-- NAME ) ) ),
 -- without comments.
 -- Source: this project.
 use Rattle.std.specs.Prelude.{◌≡◌, ◌≢◌, ℕ, List, [], ◌∷◌, ◌++◌, codes, decimal, map, All}
@@ -58,12 +59,12 @@ abbrev pub WritesNoGoal : List Lexeme → Type 0
 WritesNoGoal lexemes = (goal : Goal) → WritesGoal lexemes goal → ⊥
 
 -- the text spells the goal
-pub record Spells (text : List ℕ) (goal : Goal) : Type 0 where
+pub record SpellsGoal (text : List ℕ) (goal : Goal) : Type 0 where
   pub tokens : List Token
   pub read : HasTokens text tokens
   pub writes : WritesGoal (map (lexeme_at text) tokens) goal
   pub no_comment : HasNoComment text
 
 -- the text spells no goal of this form
-unfoldable pub IsOther : List ℕ → Type 0
-IsOther text = (goal : Goal) → Spells text goal → ⊥
+unfoldable pub SpellsNoGoal : List ℕ → Type 0
+SpellsNoGoal text = (goal : Goal) → SpellsGoal text goal → ⊥

@@ -1,6 +1,7 @@
 -- The goals that are answered so far: (set target (op left right)) over two inputs, with a pool of one register.
 -- Source: this project; the notation follows Denali's guarded multi-assignment (PLDI 2002).
-use Rattle.std.specs.Prelude.{◌≢◌, ℕ, ◌<◌, List, codes}
+use Rattle.std.specs.Prelude.{◌≢◌, ℕ, ◌<◌, List, [], ◌∷◌, All, codes}
+use Rattle.text_core.specs.Names.{IsName}
 use Rattle.word_ops.specs.Names.{name_of}
 use Rattle.word_ops.specs.declared.operators.WordOp.{WordOp}
 use Rattle.word_ops.specs.declared.operators.WordOp.TheVariants as ops
@@ -59,3 +60,4 @@ pub record IsGoal (goal : Goal) : Type 0 where
   pub pool_apart_one : goal.one.register ≢ goal.pool
   pub pool_apart_two : goal.two.register ≢ goal.pool
   pub not_memory : goal.target ≢ codes "M"
+  pub named : All IsName (goal.name ∷ goal.one.name ∷ goal.two.name ∷ goal.target ∷ [])

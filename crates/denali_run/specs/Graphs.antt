@@ -3,15 +3,14 @@
 use Rattle.std.specs.Prelude.{◌≡◌, ◌≢◌, ℕ, ◌<◌, List, [], ◌∷◌, ◌++◌, map, Option, Some, None, find, ◌==◌, All, AllPairs, if◌then◌else◌, codes, Bool, bytes_eq, slice_index}
 use Rattle.std.specs.Option.{option_map_or}
 use Rattle.word_ops.specs.Worlds.{Value, word, memory, World, IsValue}
-use Rattle.word_ops.specs.Meanings.{meaning, sort_of}
+use Rattle.word_ops.specs.Meanings.{meaning, sort_of, constant_in}
 use Rattle.word_ops.specs.declared.sorts.Op.{Op}
-use Rattle.word_ops.specs.declared.sorts.Op.TheVariants.{Constant}
 use Rattle.denali_run.specs.declared.graphs.LaunchRow.{LaunchRow}
 use Rattle.denali_run.specs.declared.graphs.LaunchGraph.{LaunchGraph}
 
-abbrev pub constant_in : Op → Option ℕ
-constant_in (Constant n) = Some n
-constant_in _ = None
+-- a row of an operator that isn't declared
+abbrev pub plain_row : ℕ → Op → List ℕ → LaunchRow
+plain_row class o operands = record { class = class; op = o; name = []; operands = operands }
 
 abbrev pub or_else : Option ℕ → Option ℕ → Option ℕ
 or_else (Some n) _ = Some n
@@ -47,7 +46,7 @@ abbrev pub row_meaning : World → LaunchRow → List Value → Value
 row_meaning world r vs = meaning world (λ _. r.name) r.op vs
 
 -- under these values of classes every row is true in the world
-pub record IsTrueIn (g : LaunchGraph) (world : World) (value : ℕ → Value) : Type 0 where
+pub record IsTrueUnder (g : LaunchGraph) (world : World) (value : ℕ → Value) : Type 0 where
   pub rows : All (λ r. value r.class ≡ row_meaning world r (map value r.operands)) g.rows
   pub sorts : All (λ r. IsValue (sort_of r.op) (value r.class)) g.rows
   pub inputs : All (λ i. value i.class ≡ word (slice_index world.registers i.reg)) g.inputs

@@ -23,14 +23,14 @@ use Rattle.denali_run.specs.declared.schedules.Launch.{Launch}
 abbrev pub displaced : LaunchGraph → InstrKind → ℕ → Option InstrKind
 displaced g instr class = if is_some (constant_of g class) then Some instr else None
 
-abbrev pub word_instr : LaunchGraph → WordOp → List ℕ → Option InstrKind
-word_instr g ops.Lda operands = displaced g Lda (slice_index operands 1)
-word_instr g ops.Ldah operands = displaced g Ldah (slice_index operands 1)
-word_instr g op operands = if is_operate op then Some (Operate op) else None
+abbrev pub word_op_instr : LaunchGraph → WordOp → List ℕ → Option InstrKind
+word_op_instr g ops.Lda operands = displaced g Lda (slice_index operands 1)
+word_op_instr g ops.Ldah operands = displaced g Ldah (slice_index operands 1)
+word_op_instr g op operands = if is_operate op then Some (Operate op) else None
 
 -- the instruction of a row that can be launched
 abbrev pub op_instr : LaunchGraph → Op → List ℕ → Option InstrKind
-op_instr g (Word op) operands = word_instr g op operands
+op_instr g (Word op) operands = word_op_instr g op operands
 op_instr g Select operands = Some LdqU
 op_instr g Store operands = Some StqU
 op_instr g Load operands = displaced g LdqU (slice_index operands 2)

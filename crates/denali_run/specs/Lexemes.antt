@@ -1,6 +1,7 @@
 -- Tokens with the bytes or the number that they stand for.
 -- Source: this project.
 use Rattle.std.specs.Prelude.{ℕ, ◌+◌, List, slice_range}
+use Rattle.text_core.specs.Names.{IsName}
 use Rattle.text_core.specs.declared.tokens.Token.{Token}
 use Rattle.text_core.specs.declared.tokens.TokenKind.{TokenKind}
 use Rattle.text_core.specs.declared.tokens.TokenKind.TheVariants as tokens
@@ -22,6 +23,11 @@ lexeme_of (tokens.Number n) bytes = Number n
 -- what a token of a text stands for
 abbrev pub lexeme_at : List ℕ → Token → Lexeme
 lexeme_at text token = lexeme_of token.kind (slice_range text token.place (token.place + token.len))
+
+-- the bytes of a name are one
+abbrev pub HasNameBytes : Lexeme → Type 0
+HasNameBytes (Name bytes) = IsName bytes
+HasNameBytes _ = Unit {0}
 
 -- what the code's lexemes stand for
 abbrev pub lexeme : Held → Lexeme

@@ -1,5 +1,5 @@
 pub mod AnswerTexts
-pub mod Answers
+pub mod OneOperate
 pub mod Broken
 pub mod Fits
 pub mod Forms

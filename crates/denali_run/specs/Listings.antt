@@ -44,14 +44,15 @@ is_zero g class = option_map_or (λ n. n == 0) (constant_of g class) false
 abbrev pub register_by : LaunchGraph → List Launch → (Launch → Bool) → ℕ → ℕ
 register_by g ordered test class =
     if is_zero g class then 31
-    else or_register (input_register g class) (option_map_or (register_at g ordered) (position (λ l. gives g class l && test l) ordered) 31)
+    else or_register (input_register g class) (option_map_or (register_at g ordered) (position (λ l. gives g class l
+    && test l) ordered) 31)
 
 abbrev pub register_for : LaunchGraph → Table → List Launch → Launch → ℕ → ℕ
 register_for g table ordered l class =
     register_by g ordered (λ m. nat_le (ready_in g table (cluster_of table l.slot) m) l.cycle) class
 
-abbrev pub place_of : LaunchGraph → List Launch → ℕ → ℕ
-place_of g ordered class = register_by g ordered (λ m. true) class
+abbrev pub target_register : LaunchGraph → List Launch → ℕ → ℕ
+target_register g ordered class = register_by g ordered (λ m. true) class
 
 abbrev pub literal_or : Option ℕ → Second → Second
 literal_or None second = second
@@ -61,8 +62,8 @@ abbrev pub second_for : LaunchGraph → Table → List Launch → Launch → ℕ
 second_for g table ordered l class = literal_or (constant_of g class) (Reg (register_for g table ordered l class))
 
 -- the low 16 bits of the constant, with sign
-abbrev pub displacement : LaunchGraph → ℕ → ℤ
-displacement g class = cast_signed w16 (unwrap_or (constant_of g class) 0 % 2 ^ 16)
+abbrev pub displacement_of : LaunchGraph → ℕ → ℤ
+displacement_of g class = cast_signed w16 (unwrap_or (constant_of g class) 0 % 2 ^ 16)
 
 module _ (g : LaunchGraph) (table : Table) (ordered : List Launch) (i : ℕ) (l : Launch) where
   abbrev pub reg : ℕ → ℕ
@@ -71,22 +72,23 @@ module _ (g : LaunchGraph) (table : Table) (ordered : List Launch) (i : ℕ) (l 
   abbrev pub own : ℕ
   own = register_at g ordered i
 
-  abbrev pub operate : WordOp → List ℕ → Instr
-  operate op [] = Operate op 31 (Reg 31) own
-  operate op (x ∷ []) = Operate op 31 (second_for g table ordered l x) own
-  operate op (x ∷ y ∷ ys) = Operate op (reg x) (second_for g table ordered l y) own
+  abbrev pub operate_instr : WordOp → List ℕ → Instr
+  operate_instr op [] = Operate op 31 (Reg 31) own
+  operate_instr op (x ∷ []) = Operate op 31 (second_for g table ordered l x) own
+  operate_instr op (x ∷ y ∷ ys) = Operate op (reg x) (second_for g table ordered l y) own
 
   abbrev pub word_instr : WordOp → List ℕ → Instr
-  word_instr ops.Lda operands = Lda own (reg (slice_index operands 0)) (displacement g (slice_index operands 1))
-  word_instr ops.Ldah operands = Ldah own (reg (slice_index operands 0)) (displacement g (slice_index operands 1))
-  word_instr op operands = operate op operands
+  word_instr ops.Lda operands = Lda own (reg (slice_index operands 0)) (displacement_of g (slice_index operands 1))
+  word_instr ops.Ldah operands = Ldah own (reg (slice_index operands 0)) (displacement_of g (slice_index operands 1))
+  word_instr op operands = operate_instr op operands
 
   abbrev pub row_instr : Op → List ℕ → Instr
   row_instr (op.Word o) operands = word_instr o operands
   row_instr op.Select operands = LdqU own (reg (slice_index operands 1)) (pos 0)
-  row_instr op.Load operands = LdqU own (reg (slice_index operands 1)) (displacement g (slice_index operands 2))
+  row_instr op.Load operands = LdqU own (reg (slice_index operands 1)) (displacement_of g (slice_index operands 2))
   row_instr op.Store operands = StqU (reg (slice_index operands 2)) (reg (slice_index operands 1)) (pos 0)
-  row_instr op.Put operands = StqU (reg (slice_index operands 3)) (reg (slice_index operands 1)) (displacement g (slice_index operands 2))
+  row_instr op.Put operands =
+      StqU (reg (slice_index operands 3)) (reg (slice_index operands 1)) (displacement_of g (slice_index operands 2))
   row_instr _ operands = Operate ops.Bis 31 (Reg 31) 31
 
   abbrev pub branch_class : ℕ
@@ -94,7 +96,8 @@ module _ (g : LaunchGraph) (table : Table) (ordered : List Launch) (i : ℕ) (l 
 
   -- the word of the launch l at place i
   abbrev pub instr_of : Instr
-  instr_of = option_map_or (λ r. row_instr r.op r.operands) (slice_get g.rows l.row) (Beq (reg branch_class) (pos (length ordered - i)))
+  instr_of =
+      option_map_or (λ r. row_instr r.op r.operands) (slice_get g.rows l.row) (Beq (reg branch_class) (pos (length ordered - i)))
 
   abbrev pub item_of : Item
   item_of = record { instr = instr_of; cycle = l.cycle; slot = l.slot }
@@ -110,7 +113,7 @@ abbrev pub word_targets : LaunchGraph → List SetClass
 word_targets g = filter (λ s. not (is_memory_name s.name)) g.sets
 
 abbrev pub wheres_of : LaunchGraph → List Launch → List Where
-wheres_of g ordered = map (λ s. record { name = s.name; reg = place_of g ordered s.class }) (word_targets g)
+wheres_of g ordered = map (λ s. record { name = s.name; reg = target_register g ordered s.class }) (word_targets g)
 
 -- the items and places of a schedule
 pub record IsListing (g : LaunchGraph) (table : Table) (ls : List Launch) (items : List Item) (wheres : List Where) : Type 0 where

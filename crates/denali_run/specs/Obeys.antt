@@ -66,4 +66,5 @@ pub record Obeys (table : Table) (k : ℕ) (items : List Item) : Type 0 where
   pub slots : All (λ a. MayUse table (kind_of a.instr) a.slot) items
   pub apart : AllPairs (λ a b. ¬ ((a.cycle ≡ b.cycle) × (a.slot ≡ b.slot))) items
   pub operands : (i : ℕ) (item : Item) → slice_get items i ≡ Some item → HasOperands table items i item
-  pub one_store : AllPairs (λ a b. IsTrue (is_store (kind_of a.instr)) → IsTrue (is_store (kind_of b.instr)) → ¬ (a.cycle ≡ b.cycle)) items
+  pub one_store : AllPairs (λ a b. IsTrue (is_store (kind_of a.instr)) → IsTrue (is_store (kind_of b.instr))
+      → ¬ (a.cycle ≡ b.cycle)) items

@@ -1,15 +1,16 @@
 -- What running the words of a schedule must do, in each world in which the graph's rows are true.
--- Source: Denali (PLDI 2002), guarded multi-assignment: all new values are those of the old state, and the block is left by
+-- Source: Denali (PLDI 2002), guarded multi-assignment: all new values are those of the old state, and the block is
+-- left by
 -- its branch where the guard is 0.
-use Rattle.std.specs.Prelude.{◌≡◌, ℕ, zero, suc, List, [], ◌∷◌, map, length, Option, Some, None, ◌/◌, slice_get, slice_index, All, IsTrue, IsSomeAnd}
+use Rattle.std.specs.Prelude.{◌≡◌, ℕ, List, map, length, Some, slice_index, All, IsTrue, IsSomeAnd}
 use Rattle.std.specs.List.{AllZip}
 use Rattle.word_ops.specs.Worlds.{World, IsWorld, Value, word, memory}
 use Rattle.alpha_encode.specs.Decoded.{decoded}
 use Rattle.alpha_machine.specs.States.{MachineState}
-use Rattle.alpha_machine.specs.Runs.{Runs, stepped}
+use Rattle.alpha_machine.specs.Runs.{Runs, trace}
 use Rattle.alpha_machine.specs.declared.running.End.TheVariants.{Fall, Exit}
 use Rattle.alpha_encode.specs.declared.instructions.Instr.{Instr}
-use Rattle.denali_run.specs.Graphs.{memory_target, IsTrueIn}
+use Rattle.denali_run.specs.Graphs.{memory_target, IsTrueUnder}
 use Rattle.denali_run.specs.Launches.{is_load, is_held}
 use Rattle.denali_run.specs.Obeys.{kind_of}
 use Rattle.denali_run.specs.Listings.{word_targets}
@@ -32,22 +33,15 @@ AreWordsOf items words = map decoded words ≡ map Some (instrs_of items)
 abbrev pub KeepsInputs : LaunchGraph → World → MachineState → Type 0
 KeepsInputs g w s = All (λ i. slice_index s.registers i.reg ≡ slice_index w.registers i.reg) g.inputs
 
--- the words run to their end, and leave each target's value where the listing says, memory with its new value, and the inputs
+-- the words run to their end, and leave each target's value where the listing says, memory with its new value, and the
+-- inputs
 pub record Falls (g : LaunchGraph) (w : World) (value : ℕ → Value) (words : List ℕ) (wheres : List Where) : Type 0 where
   pub state : MachineState
   pub runs : Runs words (entry_state w) Fall state
-  pub targets : AllZip (λ p s. (p.name ≡ s.name) × (word (slice_index state.registers p.reg) ≡ value s.class)) wheres (word_targets g)
+  pub targets : AllZip (λ p s. (p.name ≡ s.name)
+      × (word (slice_index state.registers p.reg) ≡ value s.class)) wheres (word_targets g)
   pub memory_is : memory state.memory ≡ value (memory_target g)
   pub inputs : KeepsInputs g w state
-
-abbrev pub stepped_first : Option Instr → List Instr → List Instr
-stepped_first None is = is
-stepped_first (Some i) is = i ∷ is
-
--- the instructions that are stepped in n steps
-abbrev pub trace : ℕ → List Instr → MachineState → List Instr
-trace zero instrs s = []
-trace (suc n) instrs s = stepped_first (slice_get instrs (s.pc / 4)) (trace n instrs (stepped instrs s))
 
 -- the words leave by the branch, with memory and inputs as at entry, and no load that is held was stepped
 pub record Exits (g : LaunchGraph) (w : World) (items : List Item) (words : List ℕ) : Type 0 where
@@ -55,7 +49,8 @@ pub record Exits (g : LaunchGraph) (w : World) (items : List Item) (words : List
   pub runs : Runs words (entry_state w) Exit state
   pub memory_is : state.memory ≡ w.memory_at_entry
   pub inputs : KeepsInputs g w state
-  pub no_load : IsTrue (is_held g) → All (λ i. ¬ IsTrue (is_load (kind_of i))) (trace (length items) (instrs_of items) (entry_state w))
+  pub no_load : IsTrue (is_held g)
+      → All (λ i. ¬ IsTrue (is_load (kind_of i))) (trace (length items) (instrs_of items) (entry_state w))
 
 -- there is a guard, and its value is 0
 abbrev pub IsExit : LaunchGraph → (ℕ → Value) → Type 0
@@ -63,5 +58,7 @@ IsExit g value = IsSomeAnd g.guard (λ guard. value guard.class ≡ word 0)
 
 -- in each world where the graph's rows are true the words do what the graph says
 pub record IsRight (g : LaunchGraph) (items : List Item) (words : List ℕ) (wheres : List Where) : Type 0 where
-  pub falls : (w : World) (value : ℕ → Value) → IsWorld w → IsTrueIn g w value → ¬ IsExit g value → Falls g w value words wheres
-  pub exits : (w : World) (value : ℕ → Value) → IsWorld w → IsTrueIn g w value → IsExit g value → Exits g w items words
+  pub falls : (w : World) (value : ℕ → Value) → IsWorld w → IsTrueUnder g w value → ¬ IsExit g value
+      → Falls g w value words wheres
+  pub exits : (w : World) (value : ℕ → Value) → IsWorld w → IsTrueUnder g w value → IsExit g value
+      → Exits g w items words

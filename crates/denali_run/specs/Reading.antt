@@ -31,8 +31,8 @@ name_at (Name bytes ∷ rest) = Some (bytes, rest)
 name_at _ = None
 
 -- the lexemes after this name
-abbrev pub word_at : List ℕ → List Lexeme → Option (List Lexeme)
-word_at word lexemes = do
+abbrev pub keyword_at : List ℕ → List Lexeme → Option (List Lexeme)
+keyword_at word lexemes = do
   name ← name_at lexemes
   if bytes_eq name.0 word then Some name.1 else None
 
@@ -43,7 +43,8 @@ is_digit b = nat_le 48 b && nat_le b 57
 unfoldable pub register_number : List ℕ → Option ℕ
 register_number (a ∷ []) = if is_digit a then Some (a - 48) else None
 register_number (a ∷ b ∷ []) =
-    if is_digit a && nat_le 49 a && is_digit b && nat_lt (10 * (a - 48) + (b - 48)) 31 then Some (10 * (a - 48) + (b - 48)) else None
+    if is_digit a && nat_le 49 a && is_digit b
+    && nat_lt (10 * (a - 48) + (b - 48)) 31 then Some (10 * (a - 48) + (b - 48)) else None
 register_number _ = None
 
 -- the register of a dollar sign and a number
@@ -51,19 +52,19 @@ abbrev pub register_of : List ℕ → Option ℕ
 register_of [] = None
 register_of (b ∷ digits) = if b == 36 then register_number digits else None
 
-abbrev pub register_at : List Lexeme → Option (ℕ × List Lexeme)
-register_at (Register bytes ∷ rest) = do
+abbrev pub reg_at : List Lexeme → Option (ℕ × List Lexeme)
+reg_at (Register bytes ∷ rest) = do
   register ← register_of bytes
   Some (register, rest)
-register_at _ = None
+reg_at _ = None
 
 -- ( in NAME REGISTER )
 unfoldable pub input_at : List Lexeme → Option (Input × List Lexeme)
 input_at lexemes = do
   a ← opening_at lexemes
-  b ← word_at (codes "in") a
+  b ← keyword_at (codes "in") a
   name ← name_at b
-  register ← register_at name.1
+  register ← reg_at name.1
   rest ← closing_at register.1
   Some (record { name = name.0; register = register.0 }, rest)
 
@@ -71,8 +72,8 @@ input_at lexemes = do
 unfoldable pub pool_at : List Lexeme → Option (ℕ × List Lexeme)
 pool_at lexemes = do
   a ← opening_at lexemes
-  b ← word_at (codes "pool") a
-  register ← register_at b
+  b ← keyword_at (codes "pool") a
+  register ← reg_at b
   rest ← closing_at register.1
   Some (register.0, rest)
 
@@ -96,7 +97,7 @@ application_at lexemes = do
 unfoldable pub set_at : List Lexeme → Option ((List ℕ × Application) × List Lexeme)
 set_at lexemes = do
   a ← opening_at lexemes
-  b ← word_at (codes "set") a
+  b ← keyword_at (codes "set") a
   target ← name_at b
   value ← application_at target.1
   rest ← closing_at value.1
@@ -106,7 +107,7 @@ set_at lexemes = do
 unfoldable pub written_at : List Lexeme → Option Written
 written_at lexemes = do
   a ← opening_at lexemes
-  b ← word_at (codes "goal") a
+  b ← keyword_at (codes "goal") a
   name ← name_at b
   one ← input_at name.1
   two ← input_at one.1
@@ -114,5 +115,14 @@ written_at lexemes = do
   set ← set_at pool.1
   rest ← closing_at set.1
   if is_empty rest
-      then Some (record { name = name.0; one = one.0; two = two.0; pool = pool.0; target = set.0.0; operator = set.0.1.operator; left = set.0.1.left; right = set.0.1.right })
+      then Some (record {
+        name = name.0;
+        one = one.0;
+        two = two.0;
+        pool = pool.0;
+        target = set.0.0;
+        operator = set.0.1.operator;
+        left = set.0.1.left;
+        right = set.0.1.right;
+      })
       else None

@@ -1,6 +1,7 @@
 -- Which input a name means, and when names and registers are apart.
 -- Source: this project.
-use Rattle.std.specs.Prelude.{◌≡◌, ◌≢◌, ℕ, ◌<◌, List, codes}
+use Rattle.std.specs.Prelude.{◌≡◌, ◌≢◌, ℕ, ◌<◌, List, [], ◌∷◌, All, codes}
+use Rattle.text_core.specs.Names.{IsName}
 use Rattle.denali_run.specs.Goals.{IsInputName}
 use Rattle.denali_run.specs.Forms.{Written}
 use Rattle.denali_run.specs.declared.forms.InputPlace.{InputPlace}
@@ -19,6 +20,10 @@ pub record AreApart (w : Written) : Type 0 where
   pub pool_apart_one : w.one.register ≢ w.pool
   pub pool_apart_two : w.two.register ≢ w.pool
   pub not_memory : w.target ≢ codes "M"
+
+-- names that reading gives
+abbrev pub AreNamed : Written → Type 0
+AreNamed w = All IsName (w.name ∷ w.one.name ∷ w.two.name ∷ w.target ∷ [])
 
 -- registers that reading gives
 pub record AreLow (w : Written) : Type 0 where

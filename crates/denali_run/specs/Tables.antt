@@ -1,5 +1,6 @@
 -- A table of slots and latencies, and when a value is ready in a cluster; the table `ev6`.
--- Source: Alpha 21264 Hardware Reference Manual, "Instruction Issue Rules", for the four integer pipes in two clusters with a
+-- Source: Alpha 21264 Hardware Reference Manual, "Instruction Issue Rules", for the four integer pipes in two clusters
+-- with a
 -- delay between them; which instructions go where and how long they take in `ev6` is this project's profile.
 use Rattle.std.specs.Prelude.{ℕ, ◌+◌, ◌<◌, ◌≤◌, ◌≢◌, List, [], ◌∷◌, ◌++◌, map, length, slice_index, Option, find, ◌==◌, option_map, unwrap_or, IsSomeAnd, Contains, All, AllPairs, if◌then◌else◌, IsTrue, codes, Bool, true}
 use Rattle.word_ops.specs.declared.operators.WordOp.{WordOp}
@@ -62,10 +63,16 @@ abbrev pub other_use : InstrKind → ℕ → List ℕ → List Use
 other_use instr latency slots = record { instr = instr; latency = latency; slots = slots } ∷ []
 
 abbrev pub plain_operates : List WordOp
-plain_operates = ops.Addl ∷ ops.S4addl ∷ ops.Subl ∷ ops.S4subl ∷ ops.Cmpbge ∷ ops.S8addl ∷ ops.S8subl ∷ ops.Cmpult ∷ ops.Addq ∷ ops.S4addq ∷ ops.Subq ∷ ops.S4subq ∷ ops.Cmpeq ∷ ops.S8addq ∷ ops.S8subq ∷ ops.Cmpule ∷ ops.Cmplt ∷ ops.Cmple ∷ ops.And ∷ ops.Bic ∷ ops.Bis ∷ ops.Ornot ∷ ops.Xor ∷ ops.Eqv ∷ []
+plain_operates =
+    ops.Addl ∷ ops.S4addl ∷ ops.Subl ∷ ops.S4subl ∷ ops.Cmpbge ∷ ops.S8addl ∷ ops.S8subl ∷ ops.Cmpult ∷ ops.Addq
+    ∷ ops.S4addq ∷ ops.Subq ∷ ops.S4subq ∷ ops.Cmpeq ∷ ops.S8addq ∷ ops.S8subq ∷ ops.Cmpule ∷ ops.Cmplt ∷ ops.Cmple
+    ∷ ops.And ∷ ops.Bic ∷ ops.Bis ∷ ops.Ornot ∷ ops.Xor ∷ ops.Eqv ∷ []
 
 abbrev pub byte_operates : List WordOp
-byte_operates = ops.Mskbl ∷ ops.Extbl ∷ ops.Insbl ∷ ops.Mskwl ∷ ops.Extwl ∷ ops.Inswl ∷ ops.Mskll ∷ ops.Extll ∷ ops.Insll ∷ ops.Zap ∷ ops.Zapnot ∷ ops.Mskql ∷ ops.Srl ∷ ops.Extql ∷ ops.Sll ∷ ops.Insql ∷ ops.Sra ∷ ops.Mskwh ∷ ops.Inswh ∷ ops.Extwh ∷ ops.Msklh ∷ ops.Inslh ∷ ops.Extlh ∷ ops.Mskqh ∷ ops.Insqh ∷ ops.Extqh ∷ []
+byte_operates =
+    ops.Mskbl ∷ ops.Extbl ∷ ops.Insbl ∷ ops.Mskwl ∷ ops.Extwl ∷ ops.Inswl ∷ ops.Mskll ∷ ops.Extll ∷ ops.Insll ∷ ops.Zap
+    ∷ ops.Zapnot ∷ ops.Mskql ∷ ops.Srl ∷ ops.Extql ∷ ops.Sll ∷ ops.Insql ∷ ops.Sra ∷ ops.Mskwh ∷ ops.Inswh ∷ ops.Extwh
+    ∷ ops.Msklh ∷ ops.Inslh ∷ ops.Extlh ∷ ops.Mskqh ∷ ops.Insqh ∷ ops.Extqh ∷ []
 
 abbrev pub products : List WordOp
 products = ops.Mull ∷ ops.Mulq ∷ ops.Umulh ∷ []

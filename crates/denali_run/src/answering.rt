@@ -1,64 +1,33 @@
 // The text of an answer.
-ghost use Rattle.std.specs.Prelude.{◌≡◌, ◌++◌, IfOk, OnOk, Some};
-ghost use Rattle.denali_run.specs.Answers.{answer_text, head_text, code_text, instr_of};
-ghost use Rattle.alpha_encode.specs.Decoded.{decoded};
-ghost use Rattle.alpha_encode.specs.Formats.{encoded};
-ghost use Rattle.denali_run.specs.Goals.{IsGoal};
-ghost use Rattle.denali_run.specs.Views.{goal_view};
+ghost use Rattle.std.specs.Prelude.{◌≡◌, ◌++◌, IfOk, OnOk};
+ghost use Rattle.denali_run.specs.OneOperate.{scheduled_text, head_text};
 
-use crate::building::{graph_of, wheres_of};
-use crate::forms::GoalForm;
-use crate::printing::{put_graph, put_launches, put_wheres, put_word};
-use crate::schedules::Launch;
-use crate::words::instr_of;
+use crate::found::Found;
+use crate::printing::put_found;
 use items::NoMemory;
 use std::alloc::Global;
 
-/// The application in the first slot of the first cycle.
-const LAUNCH: Launch = Launch {
-    cycle: 0,
-    slot: 0,
-    row: 3,
-};
+/// How many cycles each schedule has so far.
+const CYCLES: u32 = 1;
 
 /// The lines before the graph.
-#[tactic(auto, unfolding(crate::specs::Answers::head_text))]
-fn put_head(text: &mut Vec<u8>, goal: &GoalForm) -> Result<(), NoMemory>
-    ensures { OnOk result (text.new.items ≡ text.old.items ++ head_text (goal_view goal.now)) }
+fn put_head(text: &mut Vec<u8>, name: &[u8]) -> Result<(), NoMemory>
+    ensures { OnOk result (text.new.items ≡ text.old.items ++ head_text name.now) }
 {
     text.extend_from_slice(b"denali 1\nencoding 1\ntable ev6\ngoal ")?;
-    text.extend_from_slice(goal.name)?;
+    text.extend_from_slice(name)?;
     text.extend_from_slice(b"\nrounds 0 stop rounds\n")?;
     Ok(())
 }
 
-/// The schedule, its word, and where the target is at the end.
-#[tactic(auto, unfolding(crate::specs::Answers::code_text))]
-fn put_code(alloc: Global, text: &mut Vec<u8>, goal: &GoalForm) -> Result<(), NoMemory>
-    requires { IsGoal (goal_view goal.now) }
-    ensures text { OnOk result (text.new.items ≡ text.old.items ++ code_text (goal_view goal.now)) }
-    ensures back { OnOk result (decoded (encoded (instr_of (goal_view goal.now))) ≡ Some (instr_of (goal_view goal.now))) }
+/// The lines of the answer to a goal of this name.
+#[tactic(auto, unfolding(crate::specs::OneOperate::scheduled_text))]
+pub(crate) fn print(alloc: Global, name: &[u8], found: &Found) -> Result<Vec<u8>, NoMemory>
+    ensures { IfOk result (λ text. text.items ≡ scheduled_text name.now found.now) }
 {
-    let wheres = wheres_of(alloc, goal)?;
-    text.extend_from_slice(b"scheduled 1\n")?;
-    put_launches(text, &[LAUNCH])?;
-    put_word(alloc, text, instr_of(goal))?;
-    put_wheres(text, wheres.as_slice())?;
-    Ok(())
-}
-
-/// The lines of the answer to a goal.
-#[tactic(auto, unfolding(crate::specs::Answers::answer_text))]
-pub(crate) fn print(alloc: Global, goal: &GoalForm) -> Result<Vec<u8>, NoMemory>
-    requires { IsGoal (goal_view goal.now) }
-    ensures text { IfOk result (λ text. text.items ≡ answer_text (goal_view goal.now)) }
-    ensures back { OnOk result (decoded (encoded (instr_of (goal_view goal.now))) ≡ Some (instr_of (goal_view goal.now))) }
-{
-    let graph = graph_of(alloc, goal)?;
     let mut text = Vec::new(alloc);
-    put_head(&mut text, goal)?;
-    put_graph(&mut text, &graph)?;
-    put_code(alloc, &mut text, goal)?;
+    put_head(&mut text, name)?;
+    put_found(alloc, &mut text, CYCLES, found)?;
     text.extend_from_slice(b"refute 0 1\n4 0 1 0\nend\n")?;
     Ok(text)
 }

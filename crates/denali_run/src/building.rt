@@ -1,18 +1,24 @@
-// The graph and the places of a goal.
+// The graph of a goal, and its schedule.
 ghost use Rattle.std.specs.Prelude.{◌≡◌, IfOk, [], ◌∷◌};
-ghost use Rattle.denali_run.specs.Answers.{graph_of, wheres_of, class_of, plain_row};
+ghost use Rattle.denali_run.specs.Goals.{IsGoal};
+ghost use Rattle.denali_run.specs.Graphs.{plain_row};
+ghost use Rattle.denali_run.specs.OneOperate.{graph_of, found_of, the_listing, place_class};
 ghost use Rattle.denali_run.specs.Views.{goal_view};
 
 use crate::forms::{GoalForm, InputPlace};
+use crate::found::Found;
 use crate::graphs::{InputClass, LaunchGraph, LaunchRow, SetClass};
-use crate::listings::Where;
+use crate::instructions::instr_of;
+use crate::listings::{Item, Listing, Where};
+use crate::schedules::{Launch, Schedule};
+use alpha_encode::{Instr, encode};
 use items::{Items, NoMemory};
 use std::alloc::Global;
 use text_core::Name;
 use word_ops::Op;
 
 fn class_of(place: InputPlace) -> u32
-    ensures { result ≡ class_of place }
+    ensures { result ≡ place_class place }
 {
     match place {
         InputPlace::First => 1,
@@ -62,7 +68,7 @@ fn inputs(alloc: Global, goal: &GoalForm) -> Result<Items<InputClass>, NoMemory>
 }
 
 /// The goal's graph.
-pub(crate) fn graph_of(alloc: Global, goal: &GoalForm) -> Result<LaunchGraph, NoMemory>
+fn graph_of(alloc: Global, goal: &GoalForm) -> Result<LaunchGraph, NoMemory>
     ensures { IfOk result (λ graph. graph ≡ graph_of (goal_view goal.now)) }
 {
     let mut sets = Items::new(alloc);
@@ -80,14 +86,43 @@ pub(crate) fn graph_of(alloc: Global, goal: &GoalForm) -> Result<LaunchGraph, No
     })
 }
 
-/// Where the target is at the end.
-pub(crate) fn wheres_of(alloc: Global, goal: &GoalForm) -> Result<Items<Where>, NoMemory>
-    ensures { IfOk result (λ wheres. wheres ≡ wheres_of (goal_view goal.now)) }
+/// The application in the first slot of the first cycle.
+const LAUNCH: Launch = Launch {
+    cycle: 0,
+    slot: 0,
+    row: 3,
+};
+
+/// The instruction of the launch, and where the target is at the end.
+fn listing_of(alloc: Global, goal: &GoalForm, instr: Instr) -> Result<Listing, NoMemory>
+    ensures { IfOk result (λ listing. listing ≡ the_listing (goal_view goal.now) instr) }
 {
+    let mut items = Items::new(alloc);
+    items.push(Item {
+        instr,
+        cycle: LAUNCH.cycle,
+        slot: LAUNCH.slot,
+    })?;
     let mut wheres = Items::new(alloc);
     wheres.push(Where {
         name: Name::new(alloc, goal.target)?,
         reg: goal.pool,
     })?;
-    Ok(wheres)
+    Ok(Listing { items, wheres })
+}
+
+/// The goal's graph and its schedule in one cycle.
+pub(crate) fn found_of(alloc: Global, goal: &GoalForm) -> Result<Found, NoMemory>
+    requires { IsGoal (goal_view goal.now) }
+    ensures { IfOk result (λ found. found ≡ found_of (goal_view goal.now)) }
+{
+    let instr = instr_of(goal);
+    Ok(Found {
+        graph: graph_of(alloc, goal)?,
+        schedule: Schedule {
+            launches: Items::from_slice(alloc, &[LAUNCH])?,
+        },
+        listing: listing_of(alloc, goal, instr)?,
+        words: Items::from_slice(alloc, &[encode(instr)])?,
+    })
 }

@@ -4,7 +4,10 @@
 mod answering;
 mod building;
 mod forms;
+mod found;
 mod graphs;
+mod instructions;
+mod laws;
 mod lexemes;
 mod listings;
 mod printing;
@@ -13,10 +16,11 @@ mod resolving;
 mod schedules;
 mod solving;
 mod tables;
-mod words;
 mod worked;
 
+pub use found::Found;
 pub use graphs::{Guard, InputClass, LaunchGraph, LaunchRow, SetClass};
+pub use laws::{one_goal, schedules_fit_or_break};
 pub use listings::{Item, Listing, Where};
 pub use schedules::{Launch, Schedule};
 pub use solving::{Report, Status, TextError, solve_text};

@@ -1,15 +1,15 @@
 // Printing the lines of an answer, a line a function.
-ghost use Rattle.std.specs.Prelude.{◌≡◌, ◌++◌, ◌<◌, OnOk, Some, decimal};
+ghost use Rattle.std.specs.Prelude.{◌≡◌, ◌++◌, ◌<◌, OnOk, IfSome, decimal};
 ghost use Rattle.std.specs.List.{flat_map};
-ghost use Rattle.alpha_encode.specs.Decoded.{decoded};
-ghost use Rattle.alpha_encode.specs.Formats.{IsWellFormed, encoded};
+ghost use Rattle.alpha_encode.specs.Formats.{IsWellFormed};
 ghost use Rattle.denali_run.specs.AnswerTexts as texts;
 ghost use Rattle.denali_run.specs.Tables.{ev6};
 
+use crate::found::Found;
 use crate::graphs::{Guard, InputClass, LaunchGraph, LaunchRow, SetClass};
 use crate::listings::Where;
 use crate::schedules::Launch;
-use alpha_encode::{Instr, encode};
+use alpha_encode::{Instr, decode};
 use items::NoMemory;
 use itoa::Buffer;
 use std::alloc::Global;
@@ -181,7 +181,7 @@ fn put_registers_text(text: &mut Vec<u8>, graph: &LaunchGraph) -> Result<(), NoM
 
 /// The lines of a graph.
 #[tactic(auto, unfolding(crate::specs::AnswerTexts::graph_text))]
-pub(crate) fn put_graph(text: &mut Vec<u8>, graph: &LaunchGraph) -> Result<(), NoMemory>
+fn put_graph(text: &mut Vec<u8>, graph: &LaunchGraph) -> Result<(), NoMemory>
     ensures { OnOk result (text.new.items ≡ text.old.items ++ texts.graph_text graph.now) }
 {
     put_rows_text(text, graph)?;
@@ -218,7 +218,7 @@ fn put_launch(text: &mut Vec<u8>, launch: Launch) -> Result<(), NoMemory>
 }
 
 #[tactic(auto, using(crate::proofs::Printed::each_more))]
-pub(crate) fn put_launches(text: &mut Vec<u8>, launches: &[Launch]) -> Result<(), NoMemory>
+fn put_launches(text: &mut Vec<u8>, launches: &[Launch]) -> Result<(), NoMemory>
     ensures { OnOk result (text.new.items ≡ text.old.items ++ flat_map (texts.launch_line ev6) launches.now) }
 {
     for launch in launches {
@@ -248,18 +248,37 @@ fn put_hex(text: &mut Vec<u8>, word: u32) -> Result<(), NoMemory>
     Ok(())
 }
 
-/// The line of a word: its number and its text. The word is read back as the instruction.
+/// The line of a word: its number, and the text of the instruction that it is.
 #[tactic(auto, unfolding(crate::specs::AnswerTexts::word_line))]
-pub(crate) fn put_word(alloc: Global, text: &mut Vec<u8>, instr: Instr) -> Result<(), NoMemory>
-    requires { IsWellFormed instr }
-    ensures line { OnOk result (text.new.items ≡ text.old.items ++ texts.word_line instr) }
-    ensures back { OnOk result (decoded (encoded instr) ≡ Some instr) }
+fn put_word(alloc: Global, text: &mut Vec<u8>, word: u32) -> Result<(), NoMemory>
+    ensures { OnOk result (text.new.items ≡ text.old.items ++ texts.word_line word) }
 {
     text.extend_from_slice(b"word ")?;
-    put_hex(text, encode(instr))?;
-    text.extend_from_slice(b" ")?;
-    text.extend_from_slice(&alpha_encode::text(alloc, instr)?)?;
+    put_hex(text, word)?;
+    put_instr(alloc, text, decode(word))?;
     text.extend_from_slice(b"\n")?;
+    Ok(())
+}
+
+/// The text of an instruction with a space before it, and nothing for a word that is none.
+fn put_instr(alloc: Global, text: &mut Vec<u8>, instr: Option<Instr>) -> Result<(), NoMemory>
+    requires { IfSome instr IsWellFormed }
+    ensures { OnOk result (text.new.items ≡ text.old.items ++ texts.instr_text instr) }
+{
+    if let Some(instr) = instr {
+        text.extend_from_slice(b" ")?;
+        text.extend_from_slice(&alpha_encode::text(alloc, instr)?)?;
+    }
+    Ok(())
+}
+
+#[tactic(auto, using(crate::proofs::Printed::each_more))]
+fn put_words(alloc: Global, text: &mut Vec<u8>, words: &[u32]) -> Result<(), NoMemory>
+    ensures { OnOk result (text.new.items ≡ text.old.items ++ flat_map texts.word_line words.now) }
+{
+    for word in words {
+        put_word(alloc, text, *word)?;
+    }
     Ok(())
 }
 
@@ -275,11 +294,39 @@ fn put_where(text: &mut Vec<u8>, place: &Where) -> Result<(), NoMemory>
 }
 
 #[tactic(auto, using(crate::proofs::Printed::each_more))]
-pub(crate) fn put_wheres(text: &mut Vec<u8>, wheres: &[Where]) -> Result<(), NoMemory>
+fn put_wheres(text: &mut Vec<u8>, wheres: &[Where]) -> Result<(), NoMemory>
     ensures { OnOk result (text.new.items ≡ text.old.items ++ flat_map texts.where_line wheres.now) }
 {
     for place in wheres {
         put_where(text, place)?;
     }
+    Ok(())
+}
+
+/// How many cycles the schedule has.
+fn put_cycles(text: &mut Vec<u8>, cycles: u32) -> Result<(), NoMemory>
+    ensures { OnOk result (text.new.items ≡ text.old.items ++ texts.cycles_line cycles) }
+{
+    text.extend_from_slice(b"scheduled ")?;
+    put_number(text, u64::from(cycles))?;
+    text.extend_from_slice(b"\n")?;
+    Ok(())
+}
+
+/// The lines of a graph and its schedule in so many cycles.
+#[tactic(auto, unfolding(crate::specs::AnswerTexts::found_text))]
+pub(crate) fn put_found(
+    alloc: Global,
+    text: &mut Vec<u8>,
+    cycles: u32,
+    found: &Found,
+) -> Result<(), NoMemory>
+    ensures { OnOk result (text.new.items ≡ text.old.items ++ texts.found_text cycles found.now) }
+{
+    put_graph(text, &found.graph)?;
+    put_cycles(text, cycles)?;
+    put_launches(text, found.schedule.launches.as_slice())?;
+    put_words(alloc, text, found.words.as_slice())?;
+    put_wheres(text, found.listing.wheres.as_slice())?;
     Ok(())
 }

@@ -1,7 +1,7 @@
 // Reading the form from the front of its lexemes, a phrase a function.
 ghost use Rattle.std.specs.Prelude.{◌≡◌, ◌<◌, IfSome, map, option_map};
 ghost use Rattle.denali_run.specs.Lexemes.{lexeme};
-ghost use Rattle.denali_run.specs.Reading.{opening_at, closing_at, name_at, word_at, register_number, register_of, register_at, input_at, pool_at, application_at, set_at, written_at, is_empty};
+ghost use Rattle.denali_run.specs.Reading.{opening_at, closing_at, name_at, keyword_at, register_number, register_of, reg_at, input_at, pool_at, application_at, set_at, written_at, is_empty};
 ghost use Rattle.denali_run.specs.Views.{input_view, application_view, written_view};
 
 use crate::forms::{ApplicationForm, InputForm, WrittenForm};
@@ -35,7 +35,7 @@ fn name<'a>(lexemes: &'a [Lexeme<'a>]) -> Option<(&'a [u8], &'a [Lexeme<'a>])>
 }
 
 fn word<'a>(lexemes: &'a [Lexeme<'a>], word: &[u8]) -> Option<&'a [Lexeme<'a>]>
-    ensures { option_map (λ r. map lexeme r.now) result ≡ word_at word.now (map lexeme lexemes.now) }
+    ensures { option_map (λ r. map lexeme r.now) result ≡ keyword_at word.now (map lexeme lexemes.now) }
 {
     let (bytes, rest) = name(lexemes)?;
     if bytes == word { Some(rest) } else { None }
@@ -66,7 +66,7 @@ fn register_of(bytes: &[u8]) -> Option<u8>
 }
 
 fn register<'a>(lexemes: &'a [Lexeme<'a>]) -> Option<(u8, &'a [Lexeme<'a>])>
-    ensures { option_map (λ r. (r.0, map lexeme r.1.now)) result ≡ register_at (map lexeme lexemes.now) }
+    ensures { option_map (λ r. (r.0, map lexeme r.1.now)) result ≡ reg_at (map lexeme lexemes.now) }
 {
     match lexemes {
         [Lexeme::Register(bytes), rest @ ..] => {

@@ -5,7 +5,7 @@ ghost use Rattle.word_ops.specs.declared.operators.WordOp.{WordOp as Operator};
 ghost use Rattle.denali_run.specs.Goals.{Goal, IsGoal, IsAnswered, IsBuiltIn, IsInputName};
 ghost use Rattle.denali_run.specs.Forms.{written_of};
 ghost use Rattle.denali_run.specs.Views.{goal_view, written_view};
-ghost use Rattle.denali_run.specs.Resolving.{IsPlaceOf, AreApart, AreLow};
+ghost use Rattle.denali_run.specs.Resolving.{IsPlaceOf, AreApart, AreLow, AreNamed};
 
 use crate::forms::{GoalForm, InputPlace, WrittenForm};
 use word_ops::{WordOp, op_of};
@@ -80,6 +80,7 @@ fn are_apart(form: &WrittenForm) -> bool
 /// The goal that is written, where it is one.
 pub(crate) fn resolve<'a>(form: &WrittenForm<'a>) -> Option<GoalForm<'a>>
     requires low { AreLow (written_view form.now) }
+    requires named { AreNamed (written_view form.now) }
     ensures { MatchOption result
         ((goal : Goal) → IsGoal goal → written_of goal ≢ written_view form.now)
         (λ g. IsGoal (goal_view g) × (written_of (goal_view g) ≡ written_view form.now)) }

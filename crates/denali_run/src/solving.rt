@@ -1,18 +1,23 @@
 // The work of `solve`.
-ghost use Rattle.std.specs.Prelude.{◌≡◌, ◌<◌, ◌^◌, IfOk, IsErrOf, MatchOption, length, map};
-ghost use Rattle.denali_run.specs.Forms.{IsOther, WritesGoal, WritesNoGoal};
-ghost use Rattle.denali_run.specs.Lexemes.{lexeme};
+ghost use Rattle.std.specs.Prelude.{◌≡◌, ◌<◌, ◌^◌, IfOk, IsErrOf, MatchOption, All, length, map};
+ghost use Rattle.denali_run.specs.Forms.{SpellsNoGoal, WritesGoal, WritesNoGoal};
+ghost use Rattle.denali_run.specs.Lexemes.{lexeme, HasNameBytes};
 ghost use Rattle.denali_run.specs.RightAnswers.{Answers};
-ghost use Rattle.denali_run.specs.Statuses.{code_of};
+ghost use Rattle.denali_run.specs.Statuses.{status_code};
 ghost use Rattle.denali_run.specs.Views.{goal_view};
+ghost use Rattle.denali_run.specs.declared.solving.TextError.TheVariants.{Memory};
 
 use crate::answering::print;
+use crate::building::found_of;
 use crate::forms::GoalForm;
 use crate::lexemes::{Lexeme, lexemes};
 use crate::reading::written;
 use crate::resolving::resolve;
+use alpha_encode::words_and_instructions;
+use items::NoMemory;
 use std::alloc::Global;
-use text_core::{TextFault, lex};
+use text_core::{TextFault, lex, one_lexing};
+use thiserror::Error;
 
 /// How a command ends.
 ///
@@ -35,7 +40,7 @@ pub enum Status {
 impl Status {
     /// The program's exit status, 0 to 8.
     pub fn code(self) -> u8
-        ensures { result ≡ code_of self }
+        ensures { result ≡ status_code self }
     {
         match self {
             Status::Done => 0,
@@ -59,15 +64,25 @@ pub struct Report {
 }
 
 /// Why a text has no answer.
-#[derive(Clone, Copy, PartialEq, Eq, Debug)]
+#[derive(Clone, Copy, PartialEq, Eq, Debug, Error)]
 pub enum TextError {
-    /// It isn't of the form that is answered so far.
+    #[error("the text isn't of the form that is answered so far")]
     NotYet,
+    #[error("out of memory")]
     Memory,
+}
+
+impl From<NoMemory> for TextError {
+    ghost from_gives = { λ _ fault. fault ≡ Memory };
+
+    fn from(_: NoMemory) -> TextError {
+        TextError::Memory
+    }
 }
 
 /// The goal that the lexemes write.
 fn goal<'a>(lexemes: &'a [Lexeme<'a>]) -> Option<GoalForm<'a>>
+    requires { All HasNameBytes (map lexeme lexemes.now) }
     ensures { MatchOption result (WritesNoGoal (map lexeme lexemes.now)) (λ g. WritesGoal (map lexeme lexemes.now) (goal_view g)) }
 {
     match written(lexemes) {
@@ -77,11 +92,11 @@ fn goal<'a>(lexemes: &'a [Lexeme<'a>]) -> Option<GoalForm<'a>>
 }
 
 /// The answer to a text of the one form. Any other text is `NotYet`. The cost is linear in the length of the text.
-#[tactic(auto, unfolding(crate::specs::Forms::IsOther))]
+#[tactic(auto, unfolding(crate::specs::Forms::SpellsNoGoal))]
 pub fn solve_text(alloc: Global, text: &[u8]) -> Result<Report, TextError>
     requires { length text.now < 2 ^ 29 }
     ensures answered { IfOk result (λ report. Answers text.now report.bytes.items report.status) }
-    ensures other { IsErrOf result TextError.NotYet → IsOther text.now }
+    ensures other { IsErrOf result TextError.NotYet → SpellsNoGoal text.now }
 {
     if text.contains(&b';') {
         return Err(TextError::NotYet);
@@ -91,17 +106,15 @@ pub fn solve_text(alloc: Global, text: &[u8]) -> Result<Report, TextError>
         Err(TextFault::Fault(_)) => return Err(TextError::NotYet),
         Err(TextFault::Memory) => return Err(TextError::Memory),
     };
-    let Ok(lexemes) = lexemes(alloc, text, &tokens) else {
-        return Err(TextError::Memory);
-    };
+    one_lexing();
+    let lexemes = lexemes(alloc, text, &tokens)?;
     let Some(goal) = goal(&lexemes) else {
         return Err(TextError::NotYet);
     };
-    let Ok(bytes) = print(alloc, &goal) else {
-        return Err(TextError::Memory);
-    };
+    words_and_instructions();
+    let found = found_of(alloc, &goal)?;
     Ok(Report {
-        bytes,
+        bytes: print(alloc, goal.name, &found)?,
         status: Status::Done,
     })
 }

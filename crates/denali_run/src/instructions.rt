@@ -1,7 +1,7 @@
 // The instruction of a goal's application.
 ghost use Rattle.std.specs.Prelude.{◌≡◌};
 ghost use Rattle.alpha_encode.specs.Formats.{IsWellFormed};
-ghost use Rattle.denali_run.specs.Answers.{instr_of};
+ghost use Rattle.denali_run.specs.OneOperate.{the_instr};
 ghost use Rattle.denali_run.specs.Goals.{IsGoal, input_of};
 ghost use Rattle.denali_run.specs.Views.{goal_view};
 
@@ -21,7 +21,7 @@ fn register_of(goal: &GoalForm, place: InputPlace) -> u8
 #[tactic(auto, using(crate::proofs::OneWord::is_well_formed))]
 pub(crate) fn instr_of(goal: &GoalForm) -> Instr
     requires { IsGoal (goal_view goal.now) }
-    ensures instr { result ≡ instr_of (goal_view goal.now) }
+    ensures instr { result ≡ the_instr (goal_view goal.now) }
     ensures well_formed { IsWellFormed result }
 {
     Instr::Operate {

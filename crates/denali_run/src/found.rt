@@ -1,0 +1,14 @@
+// What was found for a graph.
+use crate::graphs::LaunchGraph;
+use crate::listings::Listing;
+use crate::schedules::Schedule;
+use items::Items;
+
+/// A graph and a schedule of it, the instructions and places that the schedule means, and the instructions' words.
+#[derive(Drop)]
+pub struct Found {
+    pub graph: LaunchGraph,
+    pub schedule: Schedule,
+    pub listing: Listing,
+    pub words: Items<u32>,
+}
