@@ -1,25 +1,21 @@
--- What a run that ends with `Done` has done.
+-- What a run whose status reports on goals has done.
 use Rattle.std.proofs.Common.{◌≡◌, ℕ, List, None, Some, sym, ◌∙◌, subst}
 use Rattle.std.specs.declared.option.Option.{Option}
 use Rattle.std.specs.Io.KnownBytes.{Appends}
-use Rattle.outside_io.specs.Taking.{IsRead}
 use Rattle.denali_run.specs.declared.solving.Status.{Status}
-use Rattle.denali_run.specs.declared.solving.Status.TheVariants.{Done, Usage, ReadFault}
+use Rattle.denali_run.specs.declared.solving.Status.TheVariants.{Usage, ReadFault}
 use Rattle.denali_cli.specs.declared.words.Command.{Command}
 use Rattle.denali_cli.specs.declared.words.Command.TheVariants.{Solve}
 use Rattle.denali_cli.specs.Replies.{limit_of, Reply, too_long, not_yet, answered}
-use Rattle.denali_cli.specs.Outcomes.{Decides, Solves}
+use Rattle.denali_cli.specs.Outcomes.{Decides, IsReported, ReadsWithin, Solves}
 
-usage_done : Usage ≡ Done → ⊥
-usage_done e = cc
+no_fault : (status : Status) → status ≡ ReadFault → IsReported status → ⊥
+no_fault status is reported = subst IsReported is reported
 
-fault_done : ReadFault ≡ Done → ⊥
-fault_done e = cc
-
-solved_reply : (l l' w w' : Option (List ℕ)) (text out : List ℕ) (status : Status) → IsRead (limit_of Solve) l l' text → Appends w w' out → status ≡ Done → Reply Solve text out status → Solves Solve l l' w w'
-solved_reply l l' w w' text out status read wrote done (too_long long line is) = absurd (fault_done (sym is ∙ done))
-solved_reply l l' w w' text out status read wrote done (not_yet within other line is) = absurd (fault_done (sym is ∙ done))
-solved_reply l l' w w' text out status read wrote done (answered within answer) = record {
+solved_reply : (l l' w w' : Option (List ℕ)) (text out : List ℕ) (status : Status) → ReadsWithin (limit_of Solve) l l' text → Appends w w' out → IsReported status → Reply Solve text out status → Solves l l' w w'
+solved_reply l l' w w' text out status read wrote reported (too_long limit has long line is) = absurd (no_fault status is reported)
+solved_reply l l' w w' text out status read wrote reported (not_yet within other line is) = absurd (no_fault status is reported)
+solved_reply l l' w w' text out status read wrote reported (answered within answer) = record {
   text = text;
   goal = answer.goal;
   read = read;
@@ -29,6 +25,9 @@ solved_reply l l' w w' text out status read wrote done (answered within answer) 
   right = answer.right;
 }
 
-pub solved : (said : Option Command) (l l' w w' : Option (List ℕ)) (out : List ℕ) (status : Status) → Decides said l l' out status → Appends w w' out → status ≡ Done → Solves Solve l l' w w'
-solved None l l' w w' out status decided wrote done = absurd (usage_done (sym decided.2 ∙ done))
-solved (Some Solve) l l' w w' out status decided wrote done = solved_reply l l' w w' decided.0 out status decided.1 wrote done decided.2
+none_some : (command : Command) → None ≡ Some command → ⊥
+none_some command e = cc
+
+pub solved : (said : Option Command) (l l' w w' : Option (List ℕ)) (out : List ℕ) (status : Status) → Decides said l l' out status → Appends w w' out → said ≡ Some Solve → IsReported status → Solves l l' w w'
+solved None l l' w w' out status decided wrote asked reported = absurd (none_some Solve asked)
+solved (Some Solve) l l' w w' out status decided wrote asked reported = solved_reply l l' w w' decided.0 out status decided.1 wrote reported decided.2

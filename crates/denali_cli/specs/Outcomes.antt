@@ -1,33 +1,45 @@
 -- How a run of the program ends: what its words and its input decide, and what of that was written.
 -- Source: this project; `Keeps` and `Appends` are std's.
-use Rattle.std.specs.Prelude.{◌≡◌, ℕ, ◌≤◌, List, length, None, Some}
+use Rattle.std.specs.Prelude.{◌≡◌, ℕ, List, [], None, Some}
 use Rattle.std.specs.declared.option.Option.{Option}
 use Rattle.std.specs.Io.KnownBytes.{Keeps, Appends}
 use Rattle.outside_io.specs.Putting.{AppendsFront}
 use Rattle.outside_io.specs.Taking.{IsRead, TakesWithin}
-use Rattle.denali_run.specs.Answers.{answer_text}
-use Rattle.denali_run.specs.Forms.{Spells}
+use Rattle.denali_run.specs.OneOperate.{answer_text}
+use Rattle.denali_run.specs.Forms.{SpellsGoal}
 use Rattle.denali_run.specs.Goals.{Goal}
 use Rattle.denali_run.specs.RightAnswers.{IsRightAnswer}
 use Rattle.denali_run.specs.declared.solving.Status.{Status}
-use Rattle.denali_run.specs.declared.solving.Status.TheVariants.{Usage, Memory, SourceFault, SinkFault}
+use Rattle.denali_run.specs.declared.solving.Status.TheVariants.{Done, Missing, Spent, NoWorld, Usage, Memory, SourceFault, SinkFault}
 use Rattle.denali_cli.specs.declared.words.Command.{Command}
-use Rattle.denali_cli.specs.Replies.{limit_of, usage_line, Reply}
+use Rattle.denali_cli.specs.declared.words.Command.TheVariants.{Solve}
+use Rattle.denali_cli.specs.Replies.{limit_of, IsWithinLimit, usage_line, Reply}
 
--- What the words and the input decide: which bytes are to be written, and the status. `left` and `left'` are what the source
--- has left before and after.
+-- what a command reads to the end, if it reads; `left` and `left'` are what the source has left before and after
+abbrev pub ReadsWithin : Option ℕ → Option (List ℕ) → Option (List ℕ) → List ℕ → Type 0
+ReadsWithin None left left' text = Keeps left left' × (text ≡ [])
+ReadsWithin (Some limit) left left' text = IsRead limit left left' text
+
+-- What the words and the input decide: which bytes are to be written, and the status.
 abbrev pub Decides : Option Command → Option (List ℕ) → Option (List ℕ) → List ℕ → Status → Type 0
 Decides None left left' output status = Keeps left left' × (output ≡ usage_line) × (status ≡ Usage)
-Decides (Some command) left left' output status = (text : List ℕ) × IsRead (limit_of command) left left' text × Reply command text output status
+Decides (Some command) left left' output status =
+    (text : List ℕ) × ReadsWithin (limit_of command) left left' text × Reply command text output status
 
 -- nothing was read, and no read failed
 abbrev pub IsUnread : Option (List ℕ) → Option (List ℕ) → ℕ → ℕ → Type 0
 IsUnread left left' before now = Keeps left left' × (now ≡ before)
 
--- what is taken from the source, whatever the status: nothing without a command, and at most a byte more than its limit with one
+-- what is taken for a command, whatever the status: nothing where it doesn't read, and else at most a byte more than its
+-- limit
+abbrev pub TakesFor : Option ℕ → Option (List ℕ) → Option (List ℕ) → Type 0
+TakesFor None left left' = Keeps left left'
+TakesFor (Some limit) left left' = TakesWithin limit left left'
+
+-- and without a command nothing
 abbrev pub Takes : Option Command → Option (List ℕ) → Option (List ℕ) → Type 0
 Takes None left left' = Keeps left left'
-Takes (Some command) left left' = TakesWithin (limit_of command) left left'
+Takes (Some command) left left' = TakesFor (limit_of command) left left'
 
 -- a status under which all of the output is written
 abbrev pub IsWhole : Status → Type 0
@@ -49,12 +61,20 @@ pub record WritesFront (said : Option Command) (left left' written written' : Op
   pub decided : Decides said left left' output status
   pub appended : AppendsFront written written' output
 
+-- a status that reports on goals: the input was read, and each of its goals has an answer
+abbrev pub IsReported : Status → Type 0
+IsReported Done = Unit {0}
+IsReported Missing = Unit {0}
+IsReported Spent = Unit {0}
+IsReported NoWorld = Unit {0}
+IsReported _ = ⊥
+
 -- The input spells a goal, and its right answer was written.
-pub record Solves (command : Command) (left left' written written' : Option (List ℕ)) : Type 0 where
+pub record Solves (left left' written written' : Option (List ℕ)) : Type 0 where
   pub text : List ℕ
   pub goal : Goal
-  pub read : IsRead (limit_of command) left left' text
-  pub within : length text ≤ limit_of command
-  pub spelled : Spells text goal
+  pub read : ReadsWithin (limit_of Solve) left left' text
+  pub within : IsWithinLimit Solve text
+  pub spelled : SpellsGoal text goal
   pub appended : Appends written written' (answer_text goal)
   pub right : IsRightAnswer goal

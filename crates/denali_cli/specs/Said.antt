@@ -1,6 +1,7 @@
 -- What the words after the program's name ask for: so far exactly `solve --rounds 0`.
 -- Source: this project.
-use Rattle.std.specs.Prelude.{ℕ, List, [], ◌∷◌, None, Some, codes, ◌&&◌, if◌then◌else◌}
+use Rattle.std.specs.Prelude.{ℕ, List, [], ◌∷◌, None, Some, map, codes, ◌&&◌, if◌then◌else◌}
+use Rattle.std.specs.Borrow.{Bor}
 use Rattle.std.specs.declared.option.Option.{Option}
 use Rattle.std.specs.Str.{bytes_eq}
 use Rattle.denali_cli.specs.declared.words.Command.{Command}
@@ -10,3 +11,7 @@ abbrev pub said : List (List ℕ) → Option Command
 said (a ∷ b ∷ c ∷ []) =
     if bytes_eq a (codes "solve") && bytes_eq b (codes "--rounds") && bytes_eq c (codes "0") then Some Solve else None
 said _ = None
+
+-- what the code's words ask for
+abbrev pub asked_by : List (Bor (List ℕ)) → Option Command
+asked_by words = said (map (λ word. word.now) words)

@@ -1,17 +1,35 @@
 // What is to be written, before any of it is.
-ghost use Rattle.std.specs.Prelude.{◌≡◌, ◌≢◌, None, Some, map, IfOk, IsErrOf, IfErr, IsSome, OnOk};
+ghost use Rattle.std.specs.Prelude.{◌≡◌, ◌≢◌, ◌++◌, None, Some, IfOk, OnOk, decimal, IsErrOf, IfErr, IsSome};
 ghost use Rattle.outside_io.specs.Causes.{IsCounted};
-ghost use Rattle.denali_cli.specs.Said.{said};
+ghost use Rattle.denali_cli.specs.Said.{asked_by};
+ghost use Rattle.denali_cli.specs.Replies.{too_long_line};
+ghost use Rattle.denali_cli.specs.declared.decide.Stop.TheVariants as stops;
 ghost use Rattle.denali_cli.specs.Outcomes.{Decides, IsUnread, IsWhole, Takes};
 
 use crate::words::{Command, command_of};
 use denali_run::{Report, Status, TextError, solve_text};
 use items::NoMemory;
+use itoa::Buffer;
 use outside_io::{ReadAllFault, Source, read_all};
 use std::alloc::Global;
 
 /// How many bytes `solve` reads at most.
 const LIMIT: u32 = 1048576;
+
+/// `fault LIMIT TooLong`, for an input of more bytes.
+fn too_long(alloc: Global, limit: u32) -> Result<Report, Stop>
+    ensures ok { IfOk result (λ r. (r.bytes.items ≡ too_long_line limit) × (r.status ≡ Status.ReadFault)) }
+    ensures err { IfErr result (λ e. e ≡ Stop.Memory) }
+{
+    let mut buffer = Buffer::new();
+    let mut line = Vec::from_slice(alloc, b"fault ")?;
+    line.extend_from_slice(buffer.format(limit).as_bytes())?;
+    line.extend_from_slice(b" TooLong\n")?;
+    Ok(Report {
+        bytes: line,
+        status: Status::ReadFault,
+    })
+}
 
 /// Why nothing is to be written.
 #[derive(Clone, Copy, Debug, PartialEq, Eq)]
@@ -20,14 +38,22 @@ pub(crate) enum Stop {
     Memory,
 }
 
+impl From<NoMemory> for Stop {
+    ghost from_gives = { λ _ stop. stop ≡ stops.Memory };
+
+    fn from(_: NoMemory) -> Stop {
+        Stop::Memory
+    }
+}
+
 fn report(alloc: Global, line: &[u8], status: Status) -> Result<Report, Stop>
     ensures ok { IfOk result (λ r. (r.bytes.items ≡ line.now) × (r.status ≡ status)) }
     ensures err { IfErr result (λ e. e ≡ Stop.Memory) }
 {
-    match Vec::from_slice(alloc, line) {
-        Ok(bytes) => Ok(Report { bytes, status }),
-        Err(NoMemory) => Err(Stop::Memory),
-    }
+    Ok(Report {
+        bytes: Vec::from_slice(alloc, line)?,
+        status,
+    })
 }
 
 /// Reading, text and work of `solve`, in this order. The first that fails decides.
@@ -43,11 +69,7 @@ fn solve<S: Source>(alloc: Global, source: &mut S) -> Result<Report, Stop>
     let text = match read_all(alloc, source, LIMIT) {
         Ok(text) => text,
         Err(ReadAllFault::SourceFault) => return Err(Stop::SourceFault),
-        Err(ReadAllFault::TooLong) => return report(
-            alloc,
-            b"fault 1048576 TooLong\n",
-            Status::ReadFault,
-        ),
+        Err(ReadAllFault::TooLong) => return too_long(alloc, LIMIT),
         Err(ReadAllFault::Memory) => return Err(Stop::Memory),
     };
     match solve_text(alloc, &text) {
@@ -63,14 +85,14 @@ pub(crate) fn decide<S: Source>(
     words: &[&str],
     source: &mut S,
 ) -> Result<Report, Stop>
-    ensures decided { IfOk result (λ r. Decides (said (map (λ w. w.now) words.now))
+    ensures decided { IfOk result (λ r. Decides (asked_by words.now)
         (S.left source.old) (S.left source.new) r.bytes.items r.status) }
     ensures whole { IfOk result (λ r. IsWhole r.status) }
-    ensures usage { IfOk result (λ r. r.status ≡ Status.Usage → said (map (λ w. w.now) words.now) ≡ None) }
-    ensures words_first { said (map (λ w. w.now) words.now) ≡ None
+    ensures usage { IfOk result (λ r. r.status ≡ Status.Usage → asked_by words.now ≡ None) }
+    ensures words_first { asked_by words.now ≡ None
         → IsUnread (S.left source.old) (S.left source.new) (S.faults source.old) (S.faults source.new) }
-    ensures taken { Takes (said (map (λ w. w.now) words.now)) (S.left source.old) (S.left source.new) }
-    ensures asked { IsErrOf result Stop.SourceFault → IsSome (said (map (λ w. w.now) words.now)) }
+    ensures taken { Takes (asked_by words.now) (S.left source.old) (S.left source.new) }
+    ensures asked { IsErrOf result Stop.SourceFault → IsSome (asked_by words.now) }
     ensures no_fault { OnOk result (S.faults source.new ≡ S.faults source.old) }
     ensures memory { IsErrOf result Stop.Memory → S.faults source.new ≡ S.faults source.old }
     ensures fault { IsErrOf result Stop.SourceFault → IsCounted (S.faults source.old) (S.faults source.new) }

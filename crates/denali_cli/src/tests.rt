@@ -63,6 +63,36 @@ fn answers_a_sum(rt: HostRuntime) -> Result<(), Fail> {
     Ok(())
 }
 
+/// The text of a form whose goal, inputs and target have long names, before and between them.
+const AROUND_NAMES: [&[u8]; 7] = [
+    b"(goal ",
+    b" (in ",
+    b" $16) (in b",
+    b" $17) (pool $1) (set x",
+    b" (addq ",
+    b" b",
+    b")))",
+];
+
+#[test]
+fn long_names_are_answered(rt: HostRuntime) -> Result<(), Fail> {
+    let alloc = rt.alloc();
+    let name = vec![in alloc; b'n'; 1000]?;
+    let mut text = Vec::new(alloc);
+    for (at, part) in AROUND_NAMES.iter().enumerate() {
+        text.extend_from_slice(part)?;
+        if at + 1 < AROUND_NAMES.len() {
+            text.extend_from_slice(&name)?;
+        }
+    }
+    let mut sink = MemSink::new(alloc, 10000, 4096)?;
+    let mut source = MemSource::new(text, 4096);
+    assert_eq!(rt; run(alloc, &WORDS, &mut source, &mut sink), Status::Done);
+    // Two names of a letter are longer by 999 bytes; the second input's, and the target's in its two lines, by 1,000.
+    assert_eq!(rt; sink.written().len(), ANSWER.len() + 2 * 999 + 3 * 1000);
+    Ok(())
+}
+
 /// Operator, its line in the answer (as GNU as makes the word), the word, two operands, and the value of an emulator.
 const OPERATES: [(&[u8], &[u8], u32, u64, u64, u64); 5] = [
     (

@@ -1,9 +1,9 @@
 // The top call.
-ghost use Rattle.std.specs.Prelude.{◌≡◌, None, Some, IsSome, map};
+ghost use Rattle.std.specs.Prelude.{◌≡◌, None, Some, IsSome};
 ghost use Rattle.std.specs.Io.KnownBytes.{Keeps};
 ghost use Rattle.outside_io.specs.Causes.{IsCounted};
-ghost use Rattle.denali_cli.specs.Said.{said};
-ghost use Rattle.denali_cli.specs.Outcomes.{IsUnread, IsWhole, Solves, Takes, Writes, WritesFront};
+ghost use Rattle.denali_cli.specs.Said.{asked_by};
+ghost use Rattle.denali_cli.specs.Outcomes.{IsReported, IsUnread, IsWhole, Solves, Takes, Writes, WritesFront};
 
 use crate::decide::{Stop, decide};
 use crate::words::Command;
@@ -20,20 +20,21 @@ pub fn run<S: Source, T: Sink>(
     sink: &mut T,
 ) -> Status
     // The bytes appended and the status are what the words and the input decide.
-    ensures reply { IsWhole result → Writes (said (map (λ w. w.now) words.now))
+    ensures reply { IsWhole result → Writes (asked_by words.now)
         (S.left source.old) (S.left source.new) (T.written sink.old) (T.written sink.new) result }
-    ensures usage { result ≡ Status.Usage → said (map (λ w. w.now) words.now) ≡ None }
+    ensures usage { result ≡ Status.Usage → asked_by words.now ≡ None }
 
-    // The headline: in each world the printed word leaves the goal's value where the answer says, within the printed cycles
-    // of the table's slots and latencies, and no schedule of the printed graph fits in fewer.
-    ensures right { result ≡ Status.Done → Solves Command.Solve
+    // The headline: where the status reports on goals, the input spells one, and its answer was written. In each world the
+    // printed word leaves the goal's value where the answer says, within the printed cycles of the table's slots and
+    // latencies, and no schedule of the printed graph fits in fewer.
+    ensures right { asked_by words.now ≡ Some Command.Solve → IsReported result → Solves
         (S.left source.old) (S.left source.new) (T.written sink.old) (T.written sink.new) }
 
     // Words come first: where they ask for nothing, nothing is read.
-    ensures words_first { said (map (λ w. w.now) words.now) ≡ None
+    ensures words_first { asked_by words.now ≡ None
         → IsUnread (S.left source.old) (S.left source.new) (S.faults source.old) (S.faults source.new) }
-    ensures taken { Takes (said (map (λ w. w.now) words.now)) (S.left source.old) (S.left source.new) }
-    ensures asked { result ≡ Status.SourceFault → IsSome (said (map (λ w. w.now) words.now)) }
+    ensures taken { Takes (asked_by words.now) (S.left source.old) (S.left source.new) }
+    ensures asked { result ≡ Status.SourceFault → IsSome (asked_by words.now) }
 
     // Refusals for memory and for a source or a sink that failed, and what they leave.
     ensures memory { result ≡ Status.Memory → Keeps (T.written sink.old) (T.written sink.new) }
@@ -41,7 +42,7 @@ pub fn run<S: Source, T: Sink>(
         → IsCounted (S.faults source.old) (S.faults source.new) × Keeps (T.written sink.old) (T.written sink.new) }
     ensures sink_fault { result ≡ Status.SinkFault
         → IsCounted (T.faults sink.old) (T.faults sink.new)
-        × WritesFront (said (map (λ w. w.now) words.now))
+        × WritesFront (asked_by words.now)
         (S.left source.old) (S.left source.new) (T.written sink.old) (T.written sink.new) }
 
     // No failed read or write is answered by another status.

@@ -1,0 +1,35 @@
+-- What the words and the input decide, from what the calls gave.
+use Rattle.std.proofs.Common.{◌≡◌, ℕ, ◌<◌, List, length, refl, subst, arith, Some}
+use Rattle.std.specs.Prelude.{IfOk}
+use Rattle.std.specs.declared.option.Option.{Option}
+use Rattle.std.specs.declared.result.Result.{Result}
+use Rattle.std.specs.declared.result.Result.TheVariants.{Ok, Err}
+use Rattle.outside_io.specs.Taking.{TakesUpTo}
+use Rattle.outside_io.specs.declared.reading.ReadAllFault.TheVariants.{TooLong}
+use Rattle.denali_run.specs.declared.solving.Report.{Report}
+use Rattle.denali_run.specs.declared.solving.Status.TheVariants.{ReadFault}
+use Rattle.denali_cli.specs.declared.decide.Stop.{Stop}
+use Rattle.denali_cli.specs.declared.words.Command.{Command}
+use Rattle.denali_cli.specs.declared.words.Command.TheVariants.{Solve}
+use Rattle.denali_cli.specs.Replies.{too_long_line, too_long}
+use Rattle.denali_cli.specs.Outcomes.{Decides}
+
+-- the report is what the words and the input decide
+abbrev pub IsDecided : Option Command → Option (List ℕ) → Option (List ℕ) → Report → Type 0
+IsDecided said l l' r = Decides said l l' r.bytes.items r.status
+
+abbrev pub IsTooLong : Report → Type 0
+IsTooLong r = (r.bytes.items ≡ too_long_line 1048576) × (r.status ≡ ReadFault)
+
+pub decided_past : (result : Result Report Stop) (l l' : Option (List ℕ)) → IfOk result IsTooLong → TakesUpTo 1048576 l l' TooLong → IfOk result (IsDecided (Some Solve) l l')
+decided_past (Ok r) l l' is took =
+    let past = took.1.past in
+    let long : 1048576 < length took.0 = omega (arith, past) in
+    (took.0, took.1.read, too_long 1048576 refl long is.0 is.1)
+decided_past (Err e) l l' is took = tt
+
+pub decided_as : (said other : Option Command) → said ≡ other → (result : Result Report Stop) (l l' : Option (List ℕ)) → IfOk result (IsDecided said l l') → IfOk result (IsDecided other l l')
+decided_as said other same result l l' decided = subst (λ o. IfOk result (IsDecided o l l')) same decided
+
+pub only_solve : (command : Command) → command ≡ Solve
+only_solve Solve = refl
