@@ -1,7 +1,6 @@
 -- The laws of the operators on words alone.
-use Rattle.std.proofs.Common.{◌≡◌, ℕ, ◌≤◌, ◌==◌, cond, List, [], Option, Some, None, refl, sym, ap, ◌∙◌, arith}
+use Rattle.std.proofs.Common.{◌≡◌, ℕ, ◌≤◌, ◌==◌, cond, List, [], Some, None, refl, sym, ap, ◌∙◌, arith}
 use Rattle.word_ops.specs.Worlds.{World, word}
-use Rattle.word_ops.specs.declared.sorts.Sort.{Sort}
 use Rattle.word_ops.specs.declared.sorts.Sort.TheVariants as sorts
 use Rattle.bench.specs.WordsOnly.{arity, key, words_meaning}
 use Rattle.bench.specs.declared.words_only.WordsOnly.{WordsOnly}

@@ -1,7 +1,8 @@
 //! Does the work of one layer once over standard input, and prints how much of it there was. It is there to be timed.
 //!
-//! The first word names the layer: `lex`, `tree`, `lines`, `read`, `check`, `graph` or `sat`; after `sat` a
-//! number may follow, the most conflicts that its solver may have.
+//! The first word names the layer: `lex`, `tree`, `lines`, `read`, `check`, `graph` or `sat`. After `check` comes the
+//! number of clauses of the chain that the text refutes; after `sat` may come the most conflicts that its solver may
+//! have. Where the input has a fault, or doesn't refute the chain, the program prints `fault` and ends with status 1.
 #![tactic(auto)]
 
 mod graphs;
@@ -19,9 +20,6 @@ use texts::{Layer, count};
 /// How many bytes are read at most.
 const LIMIT: u32 = 1 << 28;
 
-/// How many conflicts a solver may have where no number says so.
-const BUDGET: u32 = 1_000_000;
-
 fn main(rt: HostRuntime) -> ExitCode {
     let done = match env::args(&rt) {
         Ok(args) => measured(&rt, args).unwrap_or(false),
@@ -37,18 +35,22 @@ fn measured(rt: &HostRuntime, args: Args) -> io::Result<bool> {
     let Some(layer) = words.first().and_then(|word| Layer::named(word.as_str())) else {
         return Ok(false);
     };
-    let budget = words
+    let number = words
         .get(1)
-        .and_then(|word| u32::from_str_radix(word.as_str(), 10).ok())
-        .unwrap_or(BUDGET);
+        .and_then(|word| u32::from_str_radix(word.as_str(), 10).ok());
     let Ok(text) = read_all(alloc, &mut StdSource::new(rt.stdin()), LIMIT) else {
         return Ok(false);
     };
-    match count(alloc, layer, budget, &text) {
-        Some(count) => println!(rt; "{count}")?,
-        None => println!(rt; "fault")?,
+    match count(alloc, layer, number, &text) {
+        Some(count) => {
+            println!(rt; "{count}")?;
+            Ok(true)
+        }
+        None => {
+            println!(rt; "fault")?;
+            Ok(false)
+        }
     }
-    Ok(true)
 }
 
 fn no_memory() -> io::Error {

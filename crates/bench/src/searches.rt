@@ -1,31 +1,44 @@
 // The layer of the solver: it searches for values of a formula.
-ghost use Rattle.std.specs.Prelude.{◌≡◌, ◌<◌, ◌^◌, length};
+ghost use Rattle.std.specs.Prelude.{◌≡◌, ◌<◌, ◌≤◌, ◌^◌, length};
 
-use crate::refutations::{are_over, read_whole};
+use crate::refutations::read_whole;
+use crate::texts::Outcome;
 use cnf_core::{Cnf, Lines};
-use pick_rule::Picker;
+use pick_rule::{Picker, Rule};
 use sat_core::{Verdict, solve};
 use std::alloc::Global;
 
-/// How many lines the solver learns, at most `budget` of them; 0 where it finds values.
+/// What the solver comes to with at most `budget` conflicts, and how many lines it learns.
 ///
 /// Each line of the text is a clause, written as a refutation's line without hints: `5 1 -2 0 0` has the literals 1 and -2.
-pub(crate) fn count_learnt(alloc: Global, budget: u32, text: &[u8]) -> Option<usize>
+pub(crate) fn count_learnt(alloc: Global, budget: u32, text: &[u8]) -> Option<Outcome>
     requires { length text.now < 2 ^ 29 }
 {
     if budget < 1 || 1_000_000 < budget {
         return None;
     }
     let cnf = formula(alloc, &read_whole(alloc, text)?)?;
-    let first = Picker::new(
+    let verdict = picked(
+        alloc,
+        &cnf,
         |_scores: &[u64]|
             ensures { result ≡ 0 }
         { 0 },
-    );
-    match solve(alloc, &cnf, &first, budget).ok()? {
-        Verdict::Sat(_) => Some(0),
-        Verdict::Refuted(lines) | Verdict::Spent(lines) => Some(lines.lines.as_slice().len()),
+        budget,
+    )?;
+    match &verdict {
+        Verdict::Sat(_values) => Some(Outcome::Satisfied),
+        Verdict::Refuted(lines) => Some(Outcome::Refuted(lines.lines.len())),
+        Verdict::Spent(lines) => Some(Outcome::Spent(lines.lines.len())),
     }
+}
+
+fn picked<F: Rule + Drop>(alloc: Global, cnf: &Cnf, rule: F, budget: u32) -> Option<Verdict>
+    requires rule { F.answers_places rule }
+    requires some { 1 ≤ budget }
+    requires few { budget ≤ 1000000 }
+{
+    solve(alloc, cnf, &Picker::new(rule), budget).ok()
 }
 
 /// The formula of the lines' literals.
@@ -37,7 +50,7 @@ fn formula(alloc: Global, lines: &Lines) -> Option<Cnf> {
         }
     }
     for line in lines.lines.as_slice() {
-        if cnf.clauses() >= 1 << 29 || !are_over(cnf.vars(), line.lits.as_slice()) {
+        if cnf.clauses() >= 1 << 29 || !cnf.has(line.lits.as_slice()) {
             return None;
         }
         cnf.add(line.lits.as_slice()).ok()?;

@@ -5,7 +5,11 @@ use crate::graphs::count_rows;
 use crate::refutations::{count_checked, count_read};
 use crate::searches::count_learnt;
 use std::alloc::Global;
+use std::fmt::{self, Display, Formatter, Write};
 use text_core::{lex, lines, tree};
+
+/// How many conflicts a solver may have where no number says so.
+const MOST_CONFLICTS: u32 = 1_000_000;
 
 /// What is done with a text.
 #[derive(Clone, Copy, PartialEq, Eq, Debug)]
@@ -41,8 +45,46 @@ impl Layer {
     }
 }
 
-/// How much there is of what the layer makes of the text, or none where the text has a fault. A solver stops at `budget` conflicts.
-pub(crate) fn count(alloc: Global, layer: Layer, budget: u32, text: &[u8]) -> Option<usize>
+/// What a layer came to.
+#[derive(Clone, Copy, PartialEq, Eq, Debug)]
+pub(crate) enum Outcome {
+    /// Parts of the text, or rows.
+    Parts(usize),
+    /// A solver found values.
+    Satisfied,
+    /// So many lines refute the formula.
+    Refuted(usize),
+    /// So many lines were learnt, and no conflict is left.
+    Spent(usize),
+}
+
+impl Display for Outcome {
+    fn fmt<W: Write>(&self, f: &mut Formatter<W>) -> fmt::Result {
+        match self {
+            Outcome::Parts(count) => write!(f, "{count}"),
+            Outcome::Satisfied => write!(f, "satisfied"),
+            Outcome::Refuted(count) => write!(f, "refuted {count}"),
+            Outcome::Spent(count) => write!(f, "spent {count}"),
+        }
+    }
+}
+
+/// How much there is of what the layer makes of the text, or none where the text has a fault.
+pub(crate) fn count(
+    alloc: Global,
+    layer: Layer,
+    number: Option<u32>,
+    text: &[u8],
+) -> Option<Outcome>
+    requires { length text.now ≤ 2 ^ 28 }
+{
+    if layer == Layer::Sat {
+        return count_learnt(alloc, number.unwrap_or(MOST_CONFLICTS), text);
+    }
+    Some(Outcome::Parts(count_parts(alloc, layer, number, text)?))
+}
+
+fn count_parts(alloc: Global, layer: Layer, number: Option<u32>, text: &[u8]) -> Option<usize>
     requires { length text.now ≤ 2 ^ 28 }
 {
     match layer {
@@ -53,8 +95,8 @@ pub(crate) fn count(alloc: Global, layer: Layer, budget: u32, text: &[u8]) -> Op
         }
         Layer::Lines => Some(lines(alloc, text).ok()?.count() as usize),
         Layer::Read => count_read(alloc, text),
-        Layer::Check => count_checked(alloc, text),
+        Layer::Check => count_checked(alloc, number?, text),
         Layer::Graph => count_rows(alloc, text),
-        Layer::Sat => count_learnt(alloc, budget, text),
+        Layer::Sat => None,
     }
 }
