@@ -1,8 +1,6 @@
 -- The instruction that a word is, if it is one, read off its fields. From the Alpha Architecture Handbook, version 4,
--- the
--- memory, branch and operate formats. A word that no instruction has is none: an opcode or a function code that isn't
--- in
--- the table, bits 15..13 that aren't zero beside a register, and a Ra other than 31 in sextb and sextw.
+-- the memory, branch and operate formats. A word that no instruction has is none: an opcode or a function code that
+-- isn't in the table, bits 15..13 that aren't zero beside a register, and a Ra other than 31 in sextb and sextw.
 use Rattle.std.specs.Prelude.{ℕ, ℤ, pos, negsuc, suc, ◌-◌, ◌/◌, ◌%◌, ◌^◌, ◌==◌, nat_lt, Bool, true, if◌then◌else◌, Option, Some, None}
 use Rattle.std.specs.Option.{option_map, option_and_then}
 use Rattle.word_ops.specs.declared.operators.WordOp.{WordOp}
@@ -46,7 +44,8 @@ allows_ra op ra = if is_unary op then ra == 31 else true
 
 abbrev pub operate_with : ℕ → WordOp → Option Instr
 operate_with word op =
-    if allows_ra op (ra word) then option_map (λ second. Operate op (ra word) second (field word 0 5)) (second word) else None
+    if allows_ra op (ra word) then option_map (λ second. Operate op (ra word) second (field word 0 5))
+    (second word) else None
 
 abbrev pub operate : ℕ → Option Instr
 operate word = option_and_then (operate_with word) (operate_of (opcode word) (field word 5 7))

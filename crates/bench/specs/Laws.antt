@@ -32,7 +32,8 @@ constant_takes_none op n h = never n h
 pub constant_is_word : (op : WordsOnly) (n : ℕ) → None ≡ Some n → sorts.Word ≡ sorts.Word
 constant_is_word op n h = refl
 
-pub constant_means : (op : WordsOnly) (n : ℕ) → None ≡ Some n → (world : World) (names : ℕ → List ℕ) → words_meaning world names op [] ≡ word n
+pub constant_means : (op : WordsOnly) (n : ℕ) → None ≡ Some n → (world : World) (names : ℕ → List ℕ)
+    → words_meaning world names op [] ≡ word n
 constant_means op n h world names = never n h
 
 pub constant_is_own : (op other : WordsOnly) (n : ℕ) → None ≡ Some n → None ≡ Some n → op ≡ other

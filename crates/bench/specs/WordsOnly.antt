@@ -17,7 +17,14 @@ key Negation = (1, 0)
 key Sum = (2, 0)
 
 abbrev pub words_signature : Signature WordsOnly
-words_signature = record { arity = arity; sort = λ op. sorts.Word; operand_sort = λ op at. sorts.Word; constant = λ op. None; key = key }
+words_signature =
+    record {
+      arity = arity;
+      sort = λ op. sorts.Word;
+      operand_sort = λ op at. sorts.Word;
+      constant = λ op. None;
+      key = key;
+    }
 
 abbrev pub words_meaning : Meaning WordsOnly
 words_meaning world names op vs = word 0

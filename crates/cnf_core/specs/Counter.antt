@@ -1,5 +1,5 @@
--- Sequential counters: clauses that say that at most so many of some literals are true. The encoding is Sinz's
--- (Towards an Optimal CNF Encoding of Boolean Cardinality Constraints, 2005); the order of its clauses is this project's own.
+-- Sequential counters: clauses that say that at most so many of some literals are true. The encoding is Sinz's (Towards
+-- an Optimal CNF Encoding of Boolean Cardinality Constraints, 2005); the order of its clauses is this project's own.
 use Rattle.std.specs.Prelude.{◌≡◌, ℕ, ◌+◌, ◌-◌, ◌*◌, ◌≤◌, ◌==◌, nat_le, Bool, true, false, if◌then◌else◌, List, [], ◌∷◌, ◌++◌, map, length, ◌↔◌}
 use Rattle.std.specs.List.{range_with_len, flat_map, slice_index_or, count_by}
 use Rattle.cnf_core.specs.declared.literal.Lit.{Lit}
@@ -28,7 +28,8 @@ keeps old p i j = negated (counter old p i j) ∷ counter old p (i + 1) j ∷ []
 
 -- one more true literal counts one more
 abbrev pub counts_next : ℕ → ℕ → List Lit → ℕ → ℕ → List Lit
-counts_next old p lits i j = negated (lit_at lits (i + 1)) ∷ negated (counter old p i j) ∷ counter old p (i + 1) (j + 1) ∷ []
+counts_next old p lits i j =
+    negated (lit_at lits (i + 1)) ∷ negated (counter old p i j) ∷ counter old p (i + 1) (j + 1) ∷ []
 
 -- no true literal comes after p of them
 abbrev pub stops : ℕ → ℕ → List Lit → ℕ → List Lit
@@ -45,7 +46,8 @@ counter_clauses old p lits =
 -- the clauses which say that at most p of the literals are true, where `old` is the last variable before
 abbrev pub at_most_clauses : ℕ → ℕ → List Lit → List (List Lit)
 at_most_clauses old p lits =
-    if nat_le (length lits) p then [] else (if p == 0 then map (λ l. negated l ∷ []) lits else counter_clauses old p lits)
+    if nat_le (length lits) p then [] else
+    (if p == 0 then map (λ l. negated l ∷ []) lits else counter_clauses old p lits)
 
 -- how many clauses say that at most p of n literals are true
 abbrev pub at_most_size : ℕ → ℕ → ℕ

@@ -1,5 +1,6 @@
--- When the lines of a refutation are accepted, and which reason refuses a line: hints by reverse unit propagation, as in
--- LRAT without deletion and without resolution asymmetric tautologies. The numbers of the reasons are this project's own.
+-- When the lines of a refutation are accepted, and which reason refuses a line: hints by reverse unit propagation, as
+-- in LRAT without deletion and without resolution asymmetric tautologies. The numbers of the reasons are this project's
+-- own.
 use Rattle.std.specs.Prelude.{◌≡◌, ◌≢◌, ℕ, ◌+◌, ◌-◌, ◌<◌, ◌≤◌, ◌↔◌, ◌⊎◌, List, [], ◌∷◌, ◌++◌, map, length, take, slice_index, Bool}
 use Rattle.std.specs.List.{All, AllPairs, Contains, slice_index_or}
 use Rattle.cnf_core.specs.declared.literal.Lit.{Lit}
@@ -18,7 +19,8 @@ clause_at clauses hint = slice_index_or clauses (hint - 1) []
 -- from these true literals, each hint in order is a unit clause, and makes its literal true
 abbrev pub Reaches : List (List Lit) → List Lit → List ℕ → List Lit → Type 0
 Reaches clauses s [] t = s ≡ t
-Reaches clauses s (hint ∷ hints) t = (l : Lit) × IsUnit (partial_of s) (clause_at clauses hint) l × Reaches clauses (l ∷ s) hints t
+Reaches clauses s (hint ∷ hints) t =
+    (l : Lit) × IsUnit (partial_of s) (clause_at clauses hint) l × Reaches clauses (l ∷ s) hints t
 
 -- all literals of the lemma are false
 abbrev pub refuted : List Lit → List Lit
@@ -53,7 +55,8 @@ EndsFalse f earlier line =
     (t : List Lit)
     × Reaches (known f.clauses earlier) (refuted line.lits) (take (length line.hints - 1) line.hints) t
     × (1 ≤ length line.hints)
-    × IsFalseClause (partial_of t) (clause_at (known f.clauses earlier) (slice_index line.hints (length line.hints - 1)))
+    × IsFalseClause (partial_of t)
+    (clause_at (known f.clauses earlier) (slice_index line.hints (length line.hints - 1)))
 
 -- none of the reasons 1 to 4 refuses the line
 pub record IsAccepted (f : Formula) (earlier : List Line) (line : Line) : Type 0 where
@@ -108,15 +111,17 @@ IsRefusedAt Placed f lines k line why =
 pub record IsFirstRefusal (Placed : ℕ → Line → Type 0) (f : Formula) (lines : List Line) (number why : ℕ) : Type 0 where
   pub from_one : 1 ≤ number
   pub none : length lines < number → (number ≡ 1) × (why ≡ 5)
-  pub before : (k : ℕ) (d : Line) → k + 1 < number → IsAccepted f (take k lines) (slice_index_or lines k d) × Placed k (slice_index_or lines k d)
-  pub refused : (d : Line) → number ≤ length lines → IsRefusedAt Placed f lines (number - 1) (slice_index_or lines (number - 1) d) why
+  pub before : (k : ℕ) (d : Line) → k + 1 < number → IsAccepted f (take k lines) (slice_index_or lines k d)
+      × Placed k (slice_index_or lines k d)
+  pub refused : (d : Line) → number ≤ length lines
+      → IsRefusedAt Placed f lines (number - 1) (slice_index_or lines (number - 1) d) why
 
 -- no assignment satisfies the clauses
 abbrev pub HaveNoSolution : List (List Lit) → Type 0
 HaveNoSolution clauses = (v : ℕ → Bool) → Satisfies v clauses → ⊥
 
--- unit propagation from the earlier clauses and lemmas couldn't find the lemma: some set is closed for them that holds the
--- negations of all its literals but one, and not that one
+-- unit propagation from the earlier clauses and lemmas couldn't find the lemma: some set is closed for them that holds
+-- the negations of all its literals but one, and not that one
 pub record IsFresh (earlier : List (List Lit)) (lemma : List Lit) : Type 0 where
   pub some : 1 ≤ length lemma
   pub differ : HaveDifferentVars lemma

@@ -1,11 +1,11 @@
--- Values of some of the variables, seen as a set of literals without opposites, and when a clause is unit, false or open
--- under them: the field's unit propagation, as LRAT checkers take it.
+-- Values of some of the variables, seen as a set of literals without opposites, and when a clause is unit, false or
+-- open under them: the field's unit propagation, as LRAT checkers take it.
 use Rattle.std.specs.Prelude.{◌≡◌, ◌≢◌, ℕ, ◌⊎◌, Bool, not, if◌then◌else◌, ◌==◌, List, [], ◌∷◌, Option, Some, None}
 use Rattle.std.specs.List.{All, Contains}
 use Rattle.cnf_core.specs.declared.literal.Lit.{Lit}
 
--- values of some variables: a literal is in the set where its variable has the value that makes it true, so the set never
--- holds a literal together with its negation
+-- values of some variables: a literal is in the set where its variable has the value that makes it true, so the set
+-- never holds a literal together with its negation
 abbrev pub Partial : Type 0
 Partial = ℕ → Option Bool
 

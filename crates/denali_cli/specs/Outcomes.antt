@@ -30,8 +30,8 @@ Decides (Some command) left left' output status =
 abbrev pub IsUnread : Option (List ℕ) → Option (List ℕ) → ℕ → ℕ → Type 0
 IsUnread left left' before now = Keeps left left' × (now ≡ before)
 
--- what is taken for a command, whatever the status: nothing where it doesn't read, and else at most a byte more than its
--- limit
+-- what is taken for a command, whatever the status: nothing where it doesn't read, and else at most a byte more than
+-- its limit
 abbrev pub TakesFor : Option ℕ → Option (List ℕ) → Option (List ℕ) → Type 0
 TakesFor None left left' = Keeps left left'
 TakesFor (Some limit) left left' = TakesWithin limit left left'
@@ -49,7 +49,8 @@ IsWhole SinkFault = ⊥
 IsWhole _ = Unit {0}
 
 -- All of the output was written, and the run ended with its status.
-pub record Writes (said : Option Command) (left left' written written' : Option (List ℕ)) (status : Status) : Type 0 where
+pub record Writes (said : Option Command) (left left' written written' : Option (List ℕ))
+    (status : Status) : Type 0 where
   pub output : List ℕ
   pub decided : Decides said left left' output status
   pub appended : Appends written written' output

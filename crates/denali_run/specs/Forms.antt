@@ -1,6 +1,5 @@
 -- How a goal is written: ( goal NAME ( in NAME REGISTER ) ( in NAME REGISTER ) ( pool REGISTER ) ( set NAME ( OP NAME
--- NAME ) ) ),
--- without comments.
+-- NAME ) ) ), without comments.
 -- Source: this project.
 use Rattle.std.specs.Prelude.{◌≡◌, ◌≢◌, ℕ, List, [], ◌∷◌, ◌++◌, codes, decimal, map, All}
 use Rattle.word_ops.specs.Names.{name_of}

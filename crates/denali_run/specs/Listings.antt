@@ -97,7 +97,8 @@ module _ (g : LaunchGraph) (table : Table) (ordered : List Launch) (i : ℕ) (l 
   -- the word of the launch l at place i
   abbrev pub instr_of : Instr
   instr_of =
-      option_map_or (λ r. row_instr r.op r.operands) (slice_get g.rows l.row) (Beq (reg branch_class) (pos (length ordered - i)))
+      option_map_or (λ r. row_instr r.op r.operands) (slice_get g.rows l.row)
+      (Beq (reg branch_class) (pos (length ordered - i)))
 
   abbrev pub item_of : Item
   item_of = record { instr = instr_of; cycle = l.cycle; slot = l.slot }
@@ -116,7 +117,8 @@ abbrev pub wheres_of : LaunchGraph → List Launch → List Where
 wheres_of g ordered = map (λ s. record { name = s.name; reg = target_register g ordered s.class }) (word_targets g)
 
 -- the items and places of a schedule
-pub record IsListing (g : LaunchGraph) (table : Table) (ls : List Launch) (items : List Item) (wheres : List Where) : Type 0 where
+pub record IsListing (g : LaunchGraph) (table : Table) (ls : List Launch) (items : List Item)
+    (wheres : List Where) : Type 0 where
   pub ordered : List Launch
   pub order : IsInWordOrder g ls ordered
   pub items_are : items ≡ items_of g table ordered

@@ -1,7 +1,6 @@
 -- What running the words of a schedule must do, in each world in which the graph's rows are true.
 -- Source: Denali (PLDI 2002), guarded multi-assignment: all new values are those of the old state, and the block is
--- left by
--- its branch where the guard is 0.
+-- left by its branch where the guard is 0.
 use Rattle.std.specs.Prelude.{◌≡◌, ℕ, List, map, length, Some, slice_index, All, IsTrue, IsSomeAnd}
 use Rattle.std.specs.List.{AllZip}
 use Rattle.word_ops.specs.Worlds.{World, IsWorld, Value, word, memory}

@@ -25,7 +25,8 @@ use Rattle.denali_run.specs.declared.solving.Status.TheVariants.{Done}
 -- the value that the goal asks for, in a world
 abbrev pub asked : Goal → World → ℕ
 asked goal w =
-    value_at goal.op (slice_index w.registers (input_of goal goal.left).register) (slice_index w.registers (input_of goal goal.right).register) 0
+    value_at goal.op (slice_index w.registers (input_of goal goal.left).register)
+    (slice_index w.registers (input_of goal goal.right).register) 0
 
 -- the words run to their end and leave the value in the register of the `where` line, and memory and inputs as at entry
 pub record Leaves (goal : Goal) (w : World) : Type 0 where
@@ -37,9 +38,8 @@ pub record Leaves (goal : Goal) (w : World) : Type 0 where
   pub two : slice_index state.registers goal.two.register ≡ slice_index w.registers goal.two.register
 
 -- What stands for a found schedule in k cycles of a table: it fits the graph, the instructions and places are its own,
--- the
--- words are the instructions', they keep to the table, and do what the graph says in each world in which its rows are
--- true; and no schedule of the graph fits in fewer cycles.
+-- the words are the instructions', they keep to the table, and do what the graph says in each world in which its rows
+-- are true; and no schedule of the graph fits in fewer cycles.
 pub record IsFound (table : Table) (k : ℕ) (found : Found) : Type 0 where
   pub fits : Fits found.graph table k found.schedule.launches
   pub listing : IsListing found.graph table found.schedule.launches found.listing.items found.listing.wheres

@@ -1,7 +1,6 @@
 -- A table of slots and latencies, and when a value is ready in a cluster; the table `ev6`.
 -- Source: Alpha 21264 Hardware Reference Manual, "Instruction Issue Rules", for the four integer pipes in two clusters
--- with a
--- delay between them; which instructions go where and how long they take in `ev6` is this project's profile.
+-- with a delay between them; which instructions go where and how long they take in `ev6` is this project's profile.
 use Rattle.std.specs.Prelude.{ℕ, ◌+◌, ◌<◌, ◌≤◌, ◌≢◌, List, [], ◌∷◌, ◌++◌, map, length, slice_index, Option, find, ◌==◌, option_map, unwrap_or, IsSomeAnd, Contains, All, AllPairs, if◌then◌else◌, IsTrue, codes, Bool, true}
 use Rattle.word_ops.specs.declared.operators.WordOp.{WordOp}
 use Rattle.word_ops.specs.declared.operators.WordOp.TheVariants as ops

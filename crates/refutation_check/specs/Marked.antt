@@ -1,4 +1,5 @@
--- The values that a check keeps as marks of its lines, and how the marks show literals: this project; no public clause cites it.
+-- The values that a check keeps as marks of its lines, and how the marks show literals: this project; no public clause
+-- cites it.
 use Rattle.std.specs.Prelude.{◌≡◌, ℕ, slice_set, ◌-◌, ◌≤◌, Bool, false, if◌then◌else◌, ◌==◌, List, length, Option, Some, None}
 use Rattle.std.specs.List.{slice_index_or, All}
 use Rattle.cnf_core.specs.Formula.{IsLitOf}
@@ -42,4 +43,5 @@ LemmasExist n earlier = All (λ (l : Line). All (IsLitOf n) l.lits) earlier
 abbrev pub Follows : Bool → List (List Lit) → List ℕ → ℕ → List Mark → List Mark → Type 0
 Follows led clauses hints line old new =
     (s : List Lit) → Shows line old s
-    → MatchBool led ((t : List Lit) × Reaches clauses s hints t × Shows line new t) ((t : List Lit) → Reaches clauses s hints t → ⊥)
+    → MatchBool led ((t : List Lit) × Reaches clauses s hints t × Shows line new t)
+    ((t : List Lit) → Reaches clauses s hints t → ⊥)

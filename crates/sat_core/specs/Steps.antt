@@ -1,5 +1,5 @@
--- The literals that the search made true, in order, each by decision or by a clause that is unit for it: the field's trail.
--- This project's own form; no public clause cites it.
+-- The literals that the search made true, in order, each by decision or by a clause that is unit for it: the field's
+-- trail. This project's own form; no public clause cites it.
 use Rattle.std.specs.Prelude.{◌≡◌, ◌≢◌, ℕ, ◌+◌, ◌-◌, ◌<◌, ◌≤◌, List, ◌++◌, map, length, take, Option, Some, None, Bool, is_none, slice_index}
 use Rattle.std.specs.List.{slice_index_or, All, count_by}
 use Rattle.cnf_core.specs.declared.literal.Lit.{Lit}
@@ -34,10 +34,12 @@ pub record IsRightStep (clauses : List (List Lit)) (before : List Step) (step : 
 
 -- the steps are right, one after another
 abbrev pub IsTrail : List (List Lit) → List Step → Type 0
-IsTrail clauses steps = (k : ℕ) (d : Step) → k < length steps → IsRightStep clauses (take k steps) (slice_index_or steps k d)
+IsTrail clauses steps =
+    (k : ℕ) (d : Step) → k < length steps → IsRightStep clauses (take k steps) (slice_index_or steps k d)
 
 -- steps over n variables, the values that they gave, and the place of each step by its variable
-pub record AreSteps (clauses : List (List Lit)) (n : ℕ) (steps : List Step) (values : List (Option Bool)) (places : List ℕ) : Type 0 where
+pub record AreSteps (clauses : List (List Lit)) (n : ℕ) (steps : List Step) (values : List (Option Bool))
+    (places : List ℕ) : Type 0 where
   pub trail : IsTrail clauses steps
   pub exist : All (λ (s : Step). IsLitOf n s.lit) steps
   pub size : length values ≡ n
@@ -60,4 +62,5 @@ Propagates old new = (added : List Step) × (new ≡ old ++ added) × All (λ (s
 -- before each decision the values were closed for all clauses
 abbrev pub AreClosedBefore : List (List Lit) → List Step → Type 0
 AreClosedBefore clauses steps =
-    (k : ℕ) (d : Step) → k < length steps → (slice_index_or steps k d).reason ≡ None → IsClosed (held (take k steps)) clauses
+    (k : ℕ) (d : Step) → k < length steps → (slice_index_or steps k d).reason ≡ None
+    → IsClosed (held (take k steps)) clauses

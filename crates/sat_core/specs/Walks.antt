@@ -102,7 +102,8 @@ pub record IsWalked (clauses : List (List Lit)) (n : ℕ) (steps : List Step) (i
 -- these literals hold the marked steps before i
 abbrev pub Covers : List Step → ℕ → List Bool → List Lit → Type 0
 Covers steps i needed t =
-    (k : ℕ) (d : Step) → k < i → k < length steps → is_marked needed k ≡ true → IsHeld (partial_of t) (slice_index_or steps k d).lit
+    (k : ℕ) (d : Step) → k < i → k < length steps → is_marked needed k ≡ true
+    → IsHeld (partial_of t) (slice_index_or steps k d).lit
 
 -- of other variables they hold what refutes the lemma
 abbrev pub HoldsRefuted : List Step → ℕ → List Lit → List Lit → Type 0
@@ -117,7 +118,8 @@ Leads clauses steps i needed lits hints conflict =
 -- under the steps before each decision from i on that stays, the lemma is open
 abbrev pub IsBackjump : List Step → ℕ → ℕ → List Lit → Type 0
 IsBackjump steps i backjump lits =
-    (k : ℕ) (d : Step) → i ≤ k → k < backjump → k < length steps → (slice_index_or steps k d).reason ≡ None → IsOpenClause (held (take k steps)) lits
+    (k : ℕ) (d : Step) → i ≤ k → k < backjump → k < length steps → (slice_index_or steps k d).reason ≡ None
+    → IsOpenClause (held (take k steps)) lits
 
 -- how many steps a backjump leaves, after a look at one
 abbrev pub backjump_after : Step → ℕ → ℕ → ℕ → ℕ

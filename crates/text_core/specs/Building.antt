@@ -19,7 +19,8 @@ frame_of list = record { place = list.place; before = map sexp_tree list.before.
 -- the tokens up to the parenthesis of the innermost open list
 pub data AreOpen : List Frame → List Token → Type 0 where
   closed : AreOpen [] []
-  within : {frame : Frame} {frames : List Frame} {tokens : List Token} (front : List Token) (opening : Token) (behind : List Token)
+  within : {frame : Frame} {frames : List Frame} {tokens : List Token} (front : List Token) (opening : Token)
+      (behind : List Token)
       → SpellAll (all_of frame.before) front → opening.kind ≡ kinds.Opening → opening.place ≡ frame.place
       → AreOpen frames behind
       → tokens ≡ front ++ opening ∷ behind → AreOpen (frame ∷ frames) tokens
