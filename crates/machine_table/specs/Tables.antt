@@ -1,0 +1,94 @@
+-- A table of slots and latencies, and when a value is ready in a cluster; the table `ev6`. Source: Alpha 21264 Hardware
+-- Reference Manual, "Instruction Issue Rules", for the four integer pipes in two clusters with a delay between them;
+-- which instructions go where and how long they take in `ev6` is this project's profile.
+use Rattle.std.specs.Prelude.{ℕ, ◌+◌, ◌<◌, ◌≤◌, ◌≢◌, List, [], ◌∷◌, ◌++◌, map, length, slice_index, Option, find, ◌==◌, option_map, unwrap_or, IsSomeAnd, Contains, All, AllPairs, if◌then◌else◌, codes}
+use Rattle.machine_table.specs.InstrOrder.{kind_number}
+use Rattle.machine_table.specs.declared.tables.InstrKind.{InstrKind}
+use Rattle.machine_table.specs.declared.tables.InstrKind.TheVariants as kinds
+use Rattle.machine_table.specs.declared.tables.Slot.{Slot}
+use Rattle.machine_table.specs.declared.tables.Use.{Use}
+use Rattle.machine_table.specs.declared.tables.Table.{Table}
+
+-- what the table says of an instruction, if it names it
+abbrev pub use_of : Table → InstrKind → Option Use
+use_of table instr = find (λ u. kind_number u.instr == kind_number instr) table.uses
+
+abbrev pub latency_of : Table → InstrKind → Option ℕ
+latency_of table instr = option_map (λ u. u.latency) (use_of table instr)
+
+-- the table allows the slot for the instruction
+abbrev pub MayUse : Table → InstrKind → ℕ → Type 0
+MayUse table instr slot = IsSomeAnd (use_of table instr) (λ u. Contains u.slots slot)
+
+abbrev pub cluster_of : Table → ℕ → ℕ
+cluster_of table slot = slice_index (map (λ s. s.cluster) table.slots) slot
+
+-- the cycle from which a value that the instruction makes in this slot is seen in a cluster
+abbrev pub ready : Table → ℕ → ℕ → InstrKind → ℕ → ℕ
+ready table cycle slot instr cluster =
+    cycle + unwrap_or (latency_of table instr) 0 + (if cluster_of table slot == cluster then 0 else table.cross)
+
+-- One use of a table, within the limits: at least one slot, each of which exists and stands once.
+pub record IsUse (table : Table) (u : Use) : Type 0 where
+  pub latency : (1 ≤ u.latency) × (u.latency ≤ 16)
+  pub some : 0 < length u.slots
+  pub exist : All (λ s. s < length table.slots) u.slots
+  pub once : AllPairs (λ s r. s ≢ r) u.slots
+
+-- A table within the limits: its slots have different names, and its uses stand in the order of the instructions, so
+-- that each instruction has one at most.
+pub record IsTable (table : Table) : Type 0 where
+  pub slots : (1 ≤ length table.slots) × (length table.slots ≤ 8)
+  pub clusters : All (λ s. s.cluster ≤ 3) table.slots
+  pub names : AllPairs (λ s r. s.name ≢ r.name) table.slots
+  pub cross : table.cross ≤ 4
+  pub uses : All (IsUse table) table.uses
+  pub order : AllPairs (λ u v. kind_number u.instr < kind_number v.instr) table.uses
+
+-- ---- the table ev6
+
+abbrev pub slot_of : List ℕ → ℕ → Slot
+slot_of name cluster = record { name = name; cluster = cluster }
+
+-- uses of one latency and the same slots
+abbrev pub uses_of : ℕ → List ℕ → List InstrKind → List Use
+uses_of latency slots instrs = map (λ instr. record { instr = instr; latency = latency; slots = slots }) instrs
+
+-- the operates of opcodes 10 and 11, in hexadecimal
+abbrev pub plain_operates : List InstrKind
+plain_operates =
+    kinds.Addl ∷ kinds.S4addl ∷ kinds.Subl ∷ kinds.S4subl ∷ kinds.Cmpbge ∷ kinds.S8addl ∷ kinds.S8subl
+    ∷ kinds.Cmpult ∷ kinds.Addq ∷ kinds.S4addq ∷ kinds.Subq ∷ kinds.S4subq ∷ kinds.Cmpeq ∷ kinds.S8addq
+    ∷ kinds.S8subq ∷ kinds.Cmpule ∷ kinds.Cmplt ∷ kinds.Cmple ∷ kinds.And ∷ kinds.Bic ∷ kinds.Bis ∷ kinds.Ornot
+    ∷ kinds.Xor ∷ kinds.Eqv ∷ []
+
+-- those of opcode 12
+abbrev pub byte_operates : List InstrKind
+byte_operates =
+    kinds.Mskbl ∷ kinds.Extbl ∷ kinds.Insbl ∷ kinds.Mskwl ∷ kinds.Extwl ∷ kinds.Inswl ∷ kinds.Mskll ∷ kinds.Extll
+    ∷ kinds.Insll ∷ kinds.Zap ∷ kinds.Zapnot ∷ kinds.Mskql ∷ kinds.Srl ∷ kinds.Extql ∷ kinds.Sll ∷ kinds.Insql
+    ∷ kinds.Sra ∷ kinds.Mskwh ∷ kinds.Inswh ∷ kinds.Extwh ∷ kinds.Msklh ∷ kinds.Inslh ∷ kinds.Extlh ∷ kinds.Mskqh
+    ∷ kinds.Insqh ∷ kinds.Extqh ∷ []
+
+-- those of opcode 13
+abbrev pub products : List InstrKind
+products = kinds.Mull ∷ kinds.Mulq ∷ kinds.Umulh ∷ []
+
+-- those of opcode 1C
+abbrev pub extensions : List InstrKind
+extensions = kinds.Sextb ∷ kinds.Sextw ∷ []
+
+-- U0, U1, L0, L1: the upper slots are 0 and 1, the lower ones 2 and 3
+unfoldable pub ev6 : Table
+ev6 = record {
+  slots = slot_of (codes "U0") 0 ∷ slot_of (codes "U1") 1 ∷ slot_of (codes "L0") 0 ∷ slot_of (codes "L1") 1 ∷ [];
+  cross = 1;
+  uses = uses_of 1 (0 ∷ 1 ∷ 2 ∷ 3 ∷ []) plain_operates
+      ++ uses_of 1 (0 ∷ 1 ∷ []) byte_operates
+      ++ uses_of 7 (1 ∷ []) products
+      ++ uses_of 1 (0 ∷ 1 ∷ []) extensions
+      ++ uses_of 1 (0 ∷ 1 ∷ 2 ∷ 3 ∷ []) (kinds.Lda ∷ kinds.Ldah ∷ [])
+      ++ uses_of 3 (2 ∷ 3 ∷ []) (kinds.LdqU ∷ [])
+      ++ uses_of 1 (2 ∷ 3 ∷ []) (kinds.StqU ∷ [])
+      ++ uses_of 1 (0 ∷ 1 ∷ []) (kinds.Beq ∷ []);
+}
