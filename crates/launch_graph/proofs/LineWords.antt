@@ -1,0 +1,258 @@
+-- Each line of a well-formed graph is words of a line.
+use Rattle.std.proofs.Common.{◌≡◌, ◌≢◌, ℕ, zero, suc, ◌+◌, ◌<◌, ◌≤◌, ◌^◌, List, [], ◌∷◌, ◌++◌, length, map, get_or, refl, sym, ap, subst, ◌∙◌, arith, codes, decimal, inl, inr, ◌⊎◌, Option, Some, None, true, false, Bool, cond}
+use Rattle.std.specs.Prelude.{All, Contains, IfSome, IsTrue, is_some, slice_get}
+use Rattle.std.proofs.lemmas.List.Elements.{All-nil, All-cons, All-append, All-map, All-weaker, Contains-get_or}
+use Rattle.std.proofs.lemmas.Option.{slice_get-get_or}
+use Rattle.word_ops.specs.Names.{name_of}
+use Rattle.word_ops.specs.Meanings.{sort_of, constant_in}
+use Rattle.word_ops.specs.declared.operators.WordOp.{WordOp}
+use Rattle.word_ops.specs.declared.operators.WordOp.TheVariants as words
+use Rattle.word_ops.specs.declared.sorts.Op.{Op}
+use Rattle.word_ops.specs.declared.sorts.Op.TheVariants as op
+use Rattle.word_ops.specs.declared.sorts.Sort.{Sort}
+use Rattle.word_ops.specs.declared.sorts.Sort.TheVariants as sorts
+use Rattle.text_core.specs.Lines.{IsLineWord}
+use Rattle.text_core.specs.LineTexts.{Words, CanBeLine}
+use Rattle.text_core.specs.Names.{IsName}
+use Rattle.launch_graph.specs.declared.graphs.LaunchRow.{LaunchRow}
+use Rattle.launch_graph.specs.declared.graphs.InputClass.{InputClass}
+use Rattle.launch_graph.specs.declared.graphs.Guard.{Guard}
+use Rattle.launch_graph.specs.declared.graphs.SetClass.{SetClass}
+use Rattle.launch_graph.specs.declared.graphs.LaunchGraph.{LaunchGraph}
+use Rattle.launch_graph.specs.declared.row_lines.RowLine.{RowLine}
+use Rattle.launch_graph.specs.declared.row_lines.LineOp.{LineOp}
+use Rattle.launch_graph.specs.declared.row_lines.LineOp.TheVariants.{Plain, Use, Unknown}
+use Rattle.launch_graph.specs.GraphLines.{graph_lines, said, said_row, said_op, AreGraphLines, rows_words, entry_words, in_words, pool_words, guard_words, guard_lines, held_word, set_words}
+use Rattle.launch_graph.specs.RowLines.{row_words, line_op_words, IsRowLine, IsLineOp}
+use Rattle.launch_graph.specs.WellFormed.{IsLaunchGraph, ClassHasSort, TakesItsSorts, declared_index, input_in, set_sort}
+use Rattle.launch_graph.proofs.Classes.{class_below, rows_low}
+use Rattle.launch_graph.proofs.Printed.{map_count}
+
+pub operator_word : (op : WordOp) → IsLineWord (name_of op)
+operator_word words.Addl = record { some = λ e. cc; printed = refl }
+operator_word words.S4addl = record { some = λ e. cc; printed = refl }
+operator_word words.Subl = record { some = λ e. cc; printed = refl }
+operator_word words.S4subl = record { some = λ e. cc; printed = refl }
+operator_word words.Cmpbge = record { some = λ e. cc; printed = refl }
+operator_word words.S8addl = record { some = λ e. cc; printed = refl }
+operator_word words.S8subl = record { some = λ e. cc; printed = refl }
+operator_word words.Cmpult = record { some = λ e. cc; printed = refl }
+operator_word words.Addq = record { some = λ e. cc; printed = refl }
+operator_word words.S4addq = record { some = λ e. cc; printed = refl }
+operator_word words.Subq = record { some = λ e. cc; printed = refl }
+operator_word words.S4subq = record { some = λ e. cc; printed = refl }
+operator_word words.Cmpeq = record { some = λ e. cc; printed = refl }
+operator_word words.S8addq = record { some = λ e. cc; printed = refl }
+operator_word words.S8subq = record { some = λ e. cc; printed = refl }
+operator_word words.Cmpule = record { some = λ e. cc; printed = refl }
+operator_word words.Cmplt = record { some = λ e. cc; printed = refl }
+operator_word words.Cmple = record { some = λ e. cc; printed = refl }
+operator_word words.And = record { some = λ e. cc; printed = refl }
+operator_word words.Bic = record { some = λ e. cc; printed = refl }
+operator_word words.Bis = record { some = λ e. cc; printed = refl }
+operator_word words.Ornot = record { some = λ e. cc; printed = refl }
+operator_word words.Xor = record { some = λ e. cc; printed = refl }
+operator_word words.Eqv = record { some = λ e. cc; printed = refl }
+operator_word words.Mskbl = record { some = λ e. cc; printed = refl }
+operator_word words.Extbl = record { some = λ e. cc; printed = refl }
+operator_word words.Insbl = record { some = λ e. cc; printed = refl }
+operator_word words.Mskwl = record { some = λ e. cc; printed = refl }
+operator_word words.Extwl = record { some = λ e. cc; printed = refl }
+operator_word words.Inswl = record { some = λ e. cc; printed = refl }
+operator_word words.Mskll = record { some = λ e. cc; printed = refl }
+operator_word words.Extll = record { some = λ e. cc; printed = refl }
+operator_word words.Insll = record { some = λ e. cc; printed = refl }
+operator_word words.Zap = record { some = λ e. cc; printed = refl }
+operator_word words.Zapnot = record { some = λ e. cc; printed = refl }
+operator_word words.Mskql = record { some = λ e. cc; printed = refl }
+operator_word words.Srl = record { some = λ e. cc; printed = refl }
+operator_word words.Extql = record { some = λ e. cc; printed = refl }
+operator_word words.Sll = record { some = λ e. cc; printed = refl }
+operator_word words.Insql = record { some = λ e. cc; printed = refl }
+operator_word words.Sra = record { some = λ e. cc; printed = refl }
+operator_word words.Mskwh = record { some = λ e. cc; printed = refl }
+operator_word words.Inswh = record { some = λ e. cc; printed = refl }
+operator_word words.Extwh = record { some = λ e. cc; printed = refl }
+operator_word words.Msklh = record { some = λ e. cc; printed = refl }
+operator_word words.Inslh = record { some = λ e. cc; printed = refl }
+operator_word words.Extlh = record { some = λ e. cc; printed = refl }
+operator_word words.Mskqh = record { some = λ e. cc; printed = refl }
+operator_word words.Insqh = record { some = λ e. cc; printed = refl }
+operator_word words.Extqh = record { some = λ e. cc; printed = refl }
+operator_word words.Mull = record { some = λ e. cc; printed = refl }
+operator_word words.Mulq = record { some = λ e. cc; printed = refl }
+operator_word words.Umulh = record { some = λ e. cc; printed = refl }
+operator_word words.Sextb = record { some = λ e. cc; printed = refl }
+operator_word words.Sextw = record { some = λ e. cc; printed = refl }
+operator_word words.Neg = record { some = λ e. cc; printed = refl }
+operator_word words.Not = record { some = λ e. cc; printed = refl }
+operator_word words.Selectb = record { some = λ e. cc; printed = refl }
+operator_word words.Storeb = record { some = λ e. cc; printed = refl }
+operator_word words.Lda = record { some = λ e. cc; printed = refl }
+operator_word words.Ldah = record { some = λ e. cc; printed = refl }
+
+op_row : (o : Op) (name : List ℕ) → ((n : ℕ) → input_in o ≡ Some n → n < 31) → ((n : ℕ) → constant_in o ≡ Some n → n < 2 ^ 64)
+    → (IsTrue (is_some (declared_index o)) → IsName name) → IsLineOp (said_op o name)
+op_row op.Entry name low small named = tt
+op_row (op.Input r) name low small named = low r refl
+op_row (op.Constant n) name low small named = small n refl
+op_row (op.Word o) name low small named = tt
+op_row op.Select name low small named = tt
+op_row op.Store name low small named = tt
+op_row op.Load name low small named = tt
+op_row op.Put name low small named = tt
+op_row (op.Declared i a) name low small named = named refl
+
+module _ (g : LaunchGraph) (is : IsLaunchGraph g) where
+  count : length (map said_row g.rows) ≡ length g.rows
+  count = map_count said_row g.rows
+
+  abbrev SaysRow : LaunchRow → Type 0
+  SaysRow r = IsRowLine (row_words (said_row r)) (said_row r)
+
+  -- an operand is a class of some row
+  operands_low : (r : LaunchRow) → TakesItsSorts g r → All (λ n. n < length g.rows) r.operands
+  operands_low r takes k d lt =
+      subst (λ n. n < length g.rows) (at_default r.operands k d lt)
+      (class_below g is _ (get_or r.operands k 0) (takes k lt))
+    where
+      at_default : (xs : List ℕ) (k d : ℕ) → k < length xs → get_or xs k 0 ≡ get_or xs k d
+      at_default [] k d lt = absurd (omega arith)
+      at_default (x ∷ xs) zero d lt = refl
+      at_default (x ∷ xs) (suc k) d lt = at_default xs k d (omega arith)
+
+  says_rows : All SaysRow g.rows
+  says_rows k d lt =
+      let r : LaunchRow = get_or g.rows k d in
+      let at : slice_get g.rows k ≡ Some r = slice_get-get_or g.rows k d lt in
+      let few : length g.rows < 2 ^ 30 = is.few in
+      let low : r.class < length g.rows = rows_low g is k d lt in
+      record {
+        is = refl;
+        class = omega arith;
+        op = op_row r.op r.name (λ n e. is.registers r k n at e) (λ n e. is.words r k n at e) (is.named k d lt);
+        operands = All-weaker (λ n. n < length g.rows) (λ n. n < 2 ^ 31) (λ n h. omega arith) r.operands (operands_low r (is.operands k d lt));
+      }
+
+  class_fits : (sort : Sort) (class : ℕ) → ClassHasSort g sort class → class < 2 ^ 31
+  class_fits sort class h =
+      let few : length g.rows < 2 ^ 30 = is.few in
+      let low : class < length g.rows = class_below g is sort class h in
+      omega arith
+
+  entry_fits : g.entry < 2 ^ 31
+  entry_fits = class_fits sorts.Memory g.entry is.entry
+
+  abbrev InputFits : InputClass → Type 0
+  InputFits i = IsName i.name × (i.reg < 31) × (i.class < 2 ^ 31)
+
+  inputs_fit : All InputFits g.inputs
+  inputs_fit k d lt =
+      (is.names.0 k d lt, (is.inputs k d lt).1, class_fits sorts.Word (get_or g.inputs k d).class (is.inputs k d lt).0)
+
+  guard_fits : (guard : Option Guard) → IfSome guard (λ (o : Guard). ClassHasSort g sorts.Word o.class) → IfSome guard (λ (o : Guard). o.class < 2 ^ 31)
+  guard_fits None h = tt
+  guard_fits (Some o) h = class_fits sorts.Word o.class h
+
+  abbrev SetFits : SetClass → Type 0
+  SetFits s = IsName s.name × (s.class < 2 ^ 31)
+
+  sets_fit : All SetFits g.sets
+  sets_fit k d lt =
+      (is.names.1 k d lt, class_fits (set_sort (get_or g.sets k d).name) (get_or g.sets k d).class (is.sets k d lt))
+
+  pub are_graph_lines : length g.rows ≤ 1000000 → AreGraphLines (said g)
+  are_graph_lines few =
+      record {
+        few = (let n : length (map said_row g.rows) ≡ length g.rows = count in omega arith);
+        rows = All-map (λ (r : RowLine). IsRowLine (row_words r) r) said_row g.rows says_rows;
+        entry = entry_fits;
+        inputs = inputs_fit;
+        pool = is.pool;
+        guard = guard_fits g.guard is.guard;
+        sets = sets_fit;
+      }
+
+  module _ (number : (n : ℕ) → n < 2 ^ 64 → IsLineWord (decimal n)) (name : (bytes : List ℕ) → IsName bytes → IsLineWord bytes) where
+    fixed : (word : List ℕ) → IsLineWord word → (ws : Words) → All IsLineWord ws → CanBeLine (word ∷ ws)
+    fixed word one ws rest = record { some = λ e. cc; each = All-cons IsLineWord word ws one rest }
+
+    small_number : (n : ℕ) → n < 2 ^ 31 → IsLineWord (decimal n)
+    small_number n low = number n (omega arith)
+
+    numbers : (ns : List ℕ) → All (λ n. n < 2 ^ 31) ns → All IsLineWord (map decimal ns)
+    numbers ns low = All-map IsLineWord decimal ns (All-weaker (λ n. n < 2 ^ 31) (λ n. IsLineWord (decimal n)) small_number ns low)
+
+    one_word : (w : List ℕ) → IsLineWord w → All IsLineWord (w ∷ [])
+    one_word w h = All-cons IsLineWord w [] h (All-nil IsLineWord)
+
+    two_words : (v w : List ℕ) → IsLineWord v → IsLineWord w → All IsLineWord (v ∷ w ∷ [])
+    two_words v w h j = All-cons IsLineWord v (w ∷ []) h (one_word w j)
+
+    op_line : (o : Op) (bytes : List ℕ) → IsLineOp (said_op o bytes) → All IsLineWord (line_op_words (said_op o bytes))
+    op_line op.Entry bytes h = one_word (codes "memory") (record { some = λ e. cc; printed = refl })
+    op_line (op.Input r) bytes h = two_words (codes "input") (decimal r) (record { some = λ e. cc; printed = refl }) (number r (omega arith))
+    op_line (op.Constant n) bytes h = two_words (codes "const") (decimal n) (record { some = λ e. cc; printed = refl }) (number n h)
+    op_line (op.Word o) bytes h = one_word (name_of o) (operator_word o)
+    op_line op.Select bytes h = one_word (codes "select") (record { some = λ e. cc; printed = refl })
+    op_line op.Store bytes h = one_word (codes "store") (record { some = λ e. cc; printed = refl })
+    op_line op.Load bytes h = one_word (codes "load") (record { some = λ e. cc; printed = refl })
+    op_line op.Put bytes h = one_word (codes "put") (record { some = λ e. cc; printed = refl })
+    op_line (op.Declared i a) bytes h = two_words (codes "use") bytes (record { some = λ e. cc; printed = refl }) (name bytes h)
+
+    row_line : (r : LaunchRow) → SaysRow r → CanBeLine (row_words (said_row r))
+    row_line r h =
+        fixed (decimal r.class) (small_number r.class h.class) (line_op_words (said_op r.op r.name) ++ map decimal r.operands)
+        (All-append IsLineWord (line_op_words (said_op r.op r.name)) (map decimal r.operands) (op_line r.op r.name h.op) (numbers r.operands h.operands))
+
+    in_line : (i : InputClass) → InputFits i → CanBeLine (in_words i)
+    in_line i h =
+        fixed (codes "in") (record { some = λ e. cc; printed = refl }) (i.name ∷ decimal i.reg ∷ decimal i.class ∷ [])
+        (All-cons IsLineWord i.name (decimal i.reg ∷ decimal i.class ∷ []) (name i.name h.0)
+        (two_words (decimal i.reg) (decimal i.class) (number i.reg (let low : i.reg < 31 = h.1 in omega arith)) (small_number i.class h.2)))
+
+    held_printed : (held : Bool) → IsLineWord (held_word held)
+    held_printed true = record { some = λ e. cc; printed = refl }
+    held_printed false = record { some = λ e. cc; printed = refl }
+
+    guard_line : (guard : Option Guard) → IfSome guard (λ (o : Guard). o.class < 2 ^ 31) → All CanBeLine (guard_lines guard)
+    guard_line None h = All-nil CanBeLine
+    guard_line (Some o) h =
+        All-cons CanBeLine (guard_words o) []
+        (fixed (codes "guard") (record { some = λ e. cc; printed = refl }) (decimal o.class ∷ held_word o.held ∷ [])
+        (two_words (decimal o.class) (held_word o.held) (small_number o.class h) (held_printed o.held)))
+        (All-nil CanBeLine)
+
+    set_line : (s : SetClass) → SetFits s → CanBeLine (set_words s)
+    set_line s h =
+        fixed (codes "set") (record { some = λ e. cc; printed = refl }) (s.name ∷ decimal s.class ∷ [])
+        (two_words s.name (decimal s.class) (name s.name h.0) (small_number s.class h.1))
+
+    pub lines_have_words : All CanBeLine (graph_lines (said g))
+    lines_have_words =
+        let few : length g.rows < 2 ^ 30 = is.few in
+        let n : length (map said_row g.rows) ≡ length g.rows = count in
+        let sets : List Words = map set_words g.sets in
+        let last : List Words = guard_lines g.guard ++ sets in
+        let tail : List Words = pool_words g.pool ∷ last in
+        let inputs : List Words = map in_words g.inputs ++ tail in
+        let behind : List Words = entry_words g.entry ∷ inputs in
+        let rows : List Words = map row_words (map said_row g.rows) in
+        let sets_are : All CanBeLine sets = All-map CanBeLine set_words g.sets (All-weaker SetFits (λ s. CanBeLine (set_words s)) set_line g.sets sets_fit) in
+        let last_are : All CanBeLine last = All-append CanBeLine (guard_lines g.guard) sets (guard_line g.guard (guard_fits g.guard is.guard)) sets_are in
+        let pool_is : CanBeLine (pool_words g.pool) =
+        fixed (codes "pool") (record { some = λ e. cc; printed = refl }) (map decimal g.pool)
+        (numbers g.pool (All-weaker (λ n. n < 31) (λ n. n < 2 ^ 31) (λ n h. omega arith) g.pool is.pool)) in
+        let inputs_are : All CanBeLine (map in_words g.inputs) =
+        All-map CanBeLine in_words g.inputs (All-weaker InputFits (λ i. CanBeLine (in_words i)) in_line g.inputs inputs_fit) in
+        let rows_are : All CanBeLine rows =
+        All-map CanBeLine row_words (map said_row g.rows)
+        (All-map (λ (r : RowLine). CanBeLine (row_words r)) said_row g.rows
+        (All-weaker SaysRow (λ r. CanBeLine (row_words (said_row r))) row_line g.rows says_rows)) in
+        All-cons CanBeLine (rows_words (length (map said_row g.rows))) (rows ++ behind)
+        (fixed (codes "rows") (record { some = λ e. cc; printed = refl }) (decimal (length (map said_row g.rows)) ∷ [])
+        (one_word (decimal (length (map said_row g.rows))) (number (length (map said_row g.rows)) (omega arith))))
+        (All-append CanBeLine rows behind rows_are
+        (All-cons CanBeLine (entry_words g.entry) inputs
+        (fixed (codes "entry") (record { some = λ e. cc; printed = refl }) (decimal g.entry ∷ []) (one_word (decimal g.entry) (small_number g.entry entry_fits)))
+        (All-append CanBeLine (map in_words g.inputs) tail inputs_are (All-cons CanBeLine (pool_words g.pool) last pool_is last_are))))

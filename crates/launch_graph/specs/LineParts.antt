@@ -1,0 +1,8 @@
+-- Words as they stand behind others on a line. Source: this project.
+use Rattle.std.specs.Prelude.{ℕ, ◌++◌, List, codes}
+use Rattle.std.specs.List.{flat_map}
+use Rattle.text_core.specs.LineTexts.{Words}
+
+-- each word with a space before it
+abbrev pub words_behind : Words → List ℕ
+words_behind words = flat_map (λ (w : List ℕ). codes " " ++ w) words

@@ -1,0 +1,21 @@
+//! Launch graphs: the E-graph of a goal as it is printed, its rows and what the goal has of classes and registers.
+//!
+//! A graph is a list of rows, each an operator over classes in a class of its own. The layers above choose from it what
+//! to launch.
+#![tactic(auto)]
+
+mod graphs;
+mod laws;
+mod lookups;
+mod printing;
+mod row_lines;
+
+pub use graphs::{Guard, InputClass, LaunchGraph, LaunchRow, SetClass};
+pub use laws::{
+    classes_have_values, graphs_are_consistent, printed_graphs_are_lines, registers_are_apart,
+};
+pub use printing::{print, put_graph};
+pub use row_lines::{LineOp, RowLine};
+
+#[cfg(test)]
+mod tests;
