@@ -1,17 +1,18 @@
 -- Whether a schedule fits, or what it breaks first, found by computing.
 use Rattle.std.proofs.Common.{◌≡◌, ℕ, ◌+◌, ◌<◌, ◌≤◌, List, length, inl, inr, ◌⊎◌, arith, Option, Some, None}
 use Rattle.std.specs.Prelude.{IsTrue, count_by, unwrap_or, Contains}
-use Rattle.denali_run.specs.Tables.{MayUse, use_of, latency_of, cluster_of}
-use Rattle.denali_run.specs.Graphs.{memory_target, constant_of, is_memory_name}
+use Rattle.machine_table.specs.Tables.{MayUse, use_of, latency_of, cluster_of}
+use Rattle.launch_graph.specs.Graphs.{memory_target, constant_of, is_memory_name}
 use Rattle.denali_run.specs.Launches.{launches, is_store, is_load, is_branch, gives_word, memory_class_at, memory_before, memory_after, class_at, instr_at, operands_at, ready_in, IsFree, IsReadable, IsInput, Gives, Operand, is_held}
 use Rattle.denali_run.specs.Fits.{Collide, CanRead, IsReached, UsesMemory, Waits, Fits}
 use Rattle.denali_run.specs.Broken.{Rule, rows, apart, operands, in_time, targets, memory, one_branch, after_branch, pool, number, NoEarlier, KeepsMemoryAt, Asks, AsksOfAll, IsKept, Breaks}
-use Rattle.denali_run.specs.declared.tables.InstrKind.TheVariants.{Beq}
-use Rattle.denali_run.specs.declared.tables.Table.{Table}
-use Rattle.denali_run.specs.declared.graphs.SetClass.{SetClass}
-use Rattle.denali_run.specs.declared.graphs.LaunchGraph.{LaunchGraph}
+use Rattle.machine_table.specs.declared.tables.InstrKind.TheVariants.{Beq}
+use Rattle.machine_table.specs.declared.tables.Table.{Table}
+use Rattle.launch_graph.specs.declared.graphs.SetClass.{SetClass}
+use Rattle.launch_graph.specs.declared.graphs.LaunchGraph.{LaunchGraph}
 use Rattle.denali_run.specs.declared.schedules.Launch.{Launch}
-use Rattle.denali_run.proofs.Decide.{Dec, HoldBelow, FailsFirst, first, dec_nat, dec_lt, dec_le, dec_map, dec_true, dec_and, dec_or, dec_imp, dec_not, dec_all, dec_any, dec_some, dec_if_some, dec_contains, dec_constant, dec_small}
+use Rattle.machine_table.proofs.Decide.{Dec, dec_nat, dec_lt, dec_le, dec_map, dec_and, dec_not, dec_all}
+use Rattle.denali_run.proofs.Decide.{HoldBelow, FailsFirst, first, dec_true, dec_or, dec_imp, dec_any, dec_some, dec_if_some, dec_contains, dec_constant, dec_small}
 use Rattle.denali_run.proofs.Rules.{Found, Earlier, rule_step, next, no_rule_below, number_high, fits_where_kept, in_list}
 
 module _ (ls : List Launch) (i : ℕ) (R : Launch → Type 0) where

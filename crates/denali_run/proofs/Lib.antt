@@ -10,6 +10,6 @@ pub mod OneLaunch
 pub mod OneWord
 pub mod OneRun
 pub mod Answered
-pub mod WellFormedTables
+pub mod TwoSlots
 pub mod OneGraph
 pub mod OneGoal

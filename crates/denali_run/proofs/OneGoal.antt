@@ -9,8 +9,8 @@ use Rattle.denali_run.specs.Goals.{Input, Goal, IsGoal, input_of}
 use Rattle.denali_run.specs.Forms.{Written, written_of, SpellsGoal}
 use Rattle.denali_run.specs.Lexemes.{lexeme_at}
 use Rattle.denali_run.specs.Reading.{written_at}
-use Rattle.denali_run.specs.declared.forms.InputPlace.{InputPlace}
-use Rattle.denali_run.specs.declared.forms.InputPlace.TheVariants.{First, Second}
+use Rattle.denali_run.specs.declared.goal_forms.InputPlace.{InputPlace}
+use Rattle.denali_run.specs.declared.goal_forms.InputPlace.TheVariants.{First, Second}
 use Rattle.denali_run.proofs.Resolved.{read_back, some_same}
 
 -- an input of the two is told by its name

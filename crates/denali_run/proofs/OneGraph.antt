@@ -1,26 +1,26 @@
 -- The graph of an answered goal is well formed.
 use Rattle.std.proofs.Common.{◌≡◌, ℕ, zero, suc, ◌<◌, ◌≤◌, [], ◌∷◌, length, refl, sym, ◌∙◌, ap, subst, inl, ◌⊎◌, arith, Some, None}
-use Rattle.std.specs.Prelude.{All, AllPairs, IsTrue, is_some, slice_get, slice_index, take, if◌then◌else◌}
+use Rattle.std.specs.Prelude.{All, AllPairs, IsTrue, is_some, slice_get, take, if◌then◌else◌}
 use Rattle.std.proofs.lemmas.List.Elements.{All-nil, All-cons}
 use Rattle.std.proofs.lemmas.Option.{same_Some, none-some}
 use Rattle.text_core.specs.Names.{IsName}
 use Rattle.word_ops.specs.declared.operators.WordOp.{WordOp}
 use Rattle.word_ops.specs.declared.operators.WordOp.TheVariants as ops
 use Rattle.word_ops.specs.Operators.{arity_of}
-use Rattle.word_ops.specs.Meanings.{arity_of_op, sort_of, operand_sort, constant_in}
+use Rattle.word_ops.specs.Meanings.{arity_of_op, sort_of, constant_in}
 use Rattle.word_ops.specs.declared.sorts.Op.TheVariants as op
 use Rattle.word_ops.specs.declared.sorts.Sort.TheVariants as sort
 use Rattle.denali_run.specs.Goals.{Goal, IsGoal, IsAnswered}
-use Rattle.denali_run.specs.Graphs.{is_memory_name, plain_row}
-use Rattle.denali_run.specs.WellFormed.{IsLaunchGraph, ClassHasSort, AreRows, TakesItsSorts, set_sort, next_class, declared_index, input_in}
+use Rattle.launch_graph.specs.Graphs.{plain_row}
+use Rattle.launch_graph.specs.WellFormed.{IsLaunchGraph, ClassHasSort, AreRows, TakesItsSorts, set_sort, next_class, declared_index, input_in}
 use Rattle.denali_run.specs.OneOperate.{graph_of, place_class}
-use Rattle.denali_run.specs.declared.forms.InputPlace.{InputPlace}
-use Rattle.denali_run.specs.declared.forms.InputPlace.TheVariants.{First, Second}
-use Rattle.denali_run.specs.declared.graphs.LaunchRow.{LaunchRow}
-use Rattle.denali_run.specs.declared.graphs.InputClass.{InputClass}
-use Rattle.denali_run.specs.declared.graphs.LaunchGraph.{LaunchGraph}
+use Rattle.denali_run.specs.declared.goal_forms.InputPlace.{InputPlace}
+use Rattle.denali_run.specs.declared.goal_forms.InputPlace.TheVariants.{First, Second}
+use Rattle.launch_graph.specs.declared.graphs.LaunchRow.{LaunchRow}
+use Rattle.launch_graph.specs.declared.graphs.InputClass.{InputClass}
+use Rattle.launch_graph.specs.declared.graphs.LaunchGraph.{LaunchGraph}
 use Rattle.denali_run.proofs.OneLaunch.{all_one, not_memory, input_one, input_two, false_true}
-use Rattle.denali_run.proofs.Decide.{pairs_cons, pairs_nil}
+use Rattle.machine_table.proofs.Decide.{pairs_cons, pairs_nil}
 
 arity_two : (o : WordOp) → IsAnswered o → arity_of o ≡ 2
 arity_two ops.Addq h = refl

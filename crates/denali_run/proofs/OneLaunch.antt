@@ -1,30 +1,66 @@
 -- The one the_launch of an answered goal fits, and nothing fits in fewer cycles.
 use Rattle.std.proofs.Common.{◌≡◌, ℕ, zero, suc, ◌+◌, ◌≤◌, List, [], ◌∷◌, refl, sym, ◌∙◌, ap, subst, inl, inr, ◌⊎◌, arith, Bool, true, false, cond, Some, None, codes}
-use Rattle.std.specs.Prelude.{All, AllPairs, Any, IsTrue, IsSomeAnd, count_by, unwrap_or}
+use Rattle.std.specs.Prelude.{All, AllPairs, Any, IsTrue, IsSomeAnd, count_by, unwrap_or, is_some}
 use Rattle.std.specs.Option.{option_map_or}
 use Rattle.std.proofs.lemmas.List.Elements.{All-nil, All-cons, All-head}
 use Rattle.std.proofs.lemmas.Slice.Eq.{bytes_eq-Decides}
 use Rattle.word_ops.specs.declared.operators.WordOp.{WordOp}
 use Rattle.word_ops.specs.declared.operators.WordOp.TheVariants as ops
-use Rattle.denali_run.specs.InstrOrder.{is_operate}
-use Rattle.denali_run.specs.Tables.{ev6, MayUse, latency_of}
-use Rattle.denali_run.specs.Graphs.{is_memory_name, memory_target}
+use Rattle.machine_table.specs.InstrOrder.{operate_kind}
+use Rattle.machine_table.specs.Tables.{ev6, MayUse, latency_of}
+use Rattle.launch_graph.specs.Graphs.{is_memory_name, memory_target}
 use Rattle.denali_run.specs.Launches.{instr_at, word_op_instr, launches, gives_word, is_load, is_store, operands_at, class_at, IsInput, Gives, plain, Operand, memory_class_at, IsFree, IsReadable, IsZero}
 use Rattle.denali_run.specs.Fits.{Fits, CanLaunch, CanRead, EndsBy, IsReached, KeepsMemory, Waits, UsesMemory, Collide, IsLeft}
 use Rattle.denali_run.specs.Goals.{Goal, IsGoal, IsAnswered}
 use Rattle.denali_run.specs.OneOperate.{graph_of, the_launches, the_launch, place_class}
-use Rattle.denali_run.specs.declared.forms.InputPlace.{InputPlace}
-use Rattle.denali_run.specs.declared.forms.InputPlace.TheVariants.{First, Second}
-use Rattle.denali_run.specs.declared.tables.InstrKind.TheVariants.{Operate, Beq}
-use Rattle.denali_run.specs.declared.graphs.LaunchGraph.{LaunchGraph}
-use Rattle.denali_run.specs.declared.graphs.InputClass.{InputClass}
-use Rattle.denali_run.specs.declared.graphs.SetClass.{SetClass}
+use Rattle.denali_run.specs.declared.goal_forms.InputPlace.{InputPlace}
+use Rattle.denali_run.specs.declared.goal_forms.InputPlace.TheVariants.{First, Second}
+use Rattle.machine_table.specs.declared.tables.InstrKind.{InstrKind}
+use Rattle.machine_table.specs.declared.tables.InstrKind.TheVariants.{Beq}
+use Rattle.launch_graph.specs.declared.graphs.LaunchGraph.{LaunchGraph}
+use Rattle.launch_graph.specs.declared.graphs.InputClass.{InputClass}
+use Rattle.launch_graph.specs.declared.graphs.SetClass.{SetClass}
 use Rattle.denali_run.specs.declared.schedules.Launch.{Launch}
 use Rattle.denali_run.proofs.Decide.{any_cases, any_nil}
 
 -- ---- what is said of each answered operator
 
-pub word_op_instr_is : (g : LaunchGraph) (op : WordOp) (operands : List ℕ) → IsAnswered op → word_op_instr g op operands ≡ Some (Operate op)
+abbrev pub kind_of_op : WordOp → InstrKind
+kind_of_op op = unwrap_or (operate_kind op) Beq
+
+pub kind_is : (op : WordOp) → IsAnswered op → operate_kind op ≡ Some (kind_of_op op)
+kind_is ops.Addq h = refl
+kind_is ops.Subq h = refl
+kind_is ops.And h = refl
+kind_is ops.Bis h = refl
+kind_is ops.Xor h = refl
+kind_is _ h = absurd h
+
+gives_kind : (op : WordOp) → IsAnswered op → gives_word (kind_of_op op) ≡ true
+gives_kind ops.Addq h = refl
+gives_kind ops.Subq h = refl
+gives_kind ops.And h = refl
+gives_kind ops.Bis h = refl
+gives_kind ops.Xor h = refl
+gives_kind _ h = absurd h
+
+loads_none : (op : WordOp) → IsAnswered op → is_load (kind_of_op op) ≡ false
+loads_none ops.Addq h = refl
+loads_none ops.Subq h = refl
+loads_none ops.And h = refl
+loads_none ops.Bis h = refl
+loads_none ops.Xor h = refl
+loads_none _ h = absurd h
+
+stores_none : (op : WordOp) → IsAnswered op → is_store (kind_of_op op) ≡ false
+stores_none ops.Addq h = refl
+stores_none ops.Subq h = refl
+stores_none ops.And h = refl
+stores_none ops.Bis h = refl
+stores_none ops.Xor h = refl
+stores_none _ h = absurd h
+
+pub word_op_instr_is : (g : LaunchGraph) (op : WordOp) (operands : List ℕ) → IsAnswered op → word_op_instr g op operands ≡ Some (kind_of_op op)
 word_op_instr_is g ops.Addq operands h = refl
 word_op_instr_is g ops.Subq operands h = refl
 word_op_instr_is g ops.And operands h = refl
@@ -32,7 +68,8 @@ word_op_instr_is g ops.Bis operands h = refl
 word_op_instr_is g ops.Xor operands h = refl
 word_op_instr_is g _ operands h = absurd h
 
-pub may_use : (op : WordOp) → IsAnswered op → MayUse ev6 (Operate op) 0
+pub may_use : (op : WordOp) → IsAnswered op → MayUse ev6 (kind_of_op op) 0
+unfolding ev6
 may_use ops.Addq h = (0, omega arith, refl)
 may_use ops.Subq h = (0, omega arith, refl)
 may_use ops.And h = (0, omega arith, refl)
@@ -40,7 +77,8 @@ may_use ops.Bis h = (0, omega arith, refl)
 may_use ops.Xor h = (0, omega arith, refl)
 may_use _ h = absurd h
 
-pub latency_is : (op : WordOp) → IsAnswered op → latency_of ev6 (Operate op) ≡ Some 1
+pub latency_is : (op : WordOp) → IsAnswered op → latency_of ev6 (kind_of_op op) ≡ Some 1
+unfolding ev6
 latency_is ops.Addq h = refl
 latency_is ops.Subq h = refl
 latency_is ops.And h = refl
@@ -48,7 +86,7 @@ latency_is ops.Bis h = refl
 latency_is ops.Xor h = refl
 latency_is _ h = absurd h
 
-operate_is : (op : WordOp) → IsAnswered op → is_operate op ≡ true
+operate_is : (op : WordOp) → IsAnswered op → is_some (operate_kind op) ≡ true
 operate_is ops.Addq h = refl
 operate_is ops.Subq h = refl
 operate_is ops.And h = refl
@@ -77,17 +115,17 @@ module _ (goal : Goal) (valid : IsGoal goal) where
   abbrev g : LaunchGraph
   g = graph_of goal
 
-  pub instr_is : instr_at g 3 ≡ Some (Operate goal.op)
+  pub instr_is : instr_at g 3 ≡ Some (kind_of_op goal.op)
   instr_is = word_op_instr_is g goal.op (place_class goal.left ∷ place_class goal.right ∷ []) valid.op
 
   pub gives_it : launches g gives_word the_launch ≡ true
-  gives_it = ap (λ o. option_map_or gives_word o false) instr_is
+  gives_it = ap (λ o. option_map_or gives_word o false) instr_is ∙ gives_kind goal.op valid.op
 
   no_load : launches g is_load the_launch ≡ false
-  no_load = ap (λ o. option_map_or is_load o false) instr_is
+  no_load = ap (λ o. option_map_or is_load o false) instr_is ∙ loads_none goal.op valid.op
 
   no_store : launches g is_store the_launch ≡ false
-  no_store = ap (λ o. option_map_or is_store o false) instr_is
+  no_store = ap (λ o. option_map_or is_store o false) instr_is ∙ stores_none goal.op valid.op
 
   pub not_memory : is_memory_name goal.target ≡ false
   not_memory = not_true (is_memory_name goal.target) (λ e. valid.not_memory ((bytes_eq-Decides goal.target (codes "M")).0 e))
@@ -113,6 +151,7 @@ module _ (goal : Goal) (valid : IsGoal goal) where
   Reads = λ o. IsFree g o ⊎ IsReadable g ev6 the_launches o.class 0 0
 
   can_read : CanRead g ev6 the_launches the_launch
+  unfolding ev6
   can_read =
       subst (All Reads) (sym operands_are)
       (All-cons Reads (plain (place_class goal.left)) (second_operand ∷ []) (inr (inl (is_input goal.left))) (all_one Reads second_operand (inr (inl (is_input goal.right)))))

@@ -16,19 +16,19 @@ use Rattle.alpha_machine.specs.declared.running.End.TheVariants.{Fall}
 use Rattle.denali_run.specs.Goals.{Goal, IsGoal, input_of}
 use Rattle.alpha_encode.specs.Decoded.{decoded}
 use Rattle.alpha_encode.specs.Formats.{encoded}
-use Rattle.denali_run.specs.Graphs.{IsProper, IsTrueUnder, plain_row}
+use Rattle.launch_graph.specs.Graphs.{IsProper, IsTrueUnder, plain_row}
 use Rattle.denali_run.specs.Outcomes.{entry_state, Falls}
 use Rattle.denali_run.specs.OneOperate.{graph_of, place_class, the_words, the_listing, the_instr, found_of}
 use Rattle.denali_run.specs.RightAnswers.{asked, Leaves, IsFound, IsRightAnswer}
 use Rattle.denali_run.specs.Fits.{Fits}
-use Rattle.denali_run.specs.Tables.{ev6}
-use Rattle.denali_run.specs.declared.forms.InputPlace.{InputPlace}
-use Rattle.denali_run.specs.declared.forms.InputPlace.TheVariants.{First, Second}
-use Rattle.denali_run.specs.declared.graphs.LaunchRow.{LaunchRow}
-use Rattle.denali_run.specs.declared.graphs.InputClass.{InputClass}
-use Rattle.denali_run.specs.declared.graphs.SetClass.{SetClass}
+use Rattle.machine_table.specs.Tables.{ev6}
+use Rattle.denali_run.specs.declared.goal_forms.InputPlace.{InputPlace}
+use Rattle.denali_run.specs.declared.goal_forms.InputPlace.TheVariants.{First, Second}
+use Rattle.launch_graph.specs.declared.graphs.LaunchRow.{LaunchRow}
+use Rattle.launch_graph.specs.declared.graphs.InputClass.{InputClass}
+use Rattle.launch_graph.specs.declared.graphs.SetClass.{SetClass}
 use Rattle.denali_run.specs.declared.listings.Where.{Where}
-use Rattle.denali_run.specs.declared.graphs.LaunchGraph.{LaunchGraph}
+use Rattle.launch_graph.specs.declared.graphs.LaunchGraph.{LaunchGraph}
 use Rattle.denali_run.proofs.OneGraph.{well_formed}
 use Rattle.denali_run.proofs.OneLaunch.{fits, nothing_fits, target_is_entry, input_one, input_two}
 use Rattle.denali_run.proofs.OneWord.{listing, obeys, targets_are, binary_is}

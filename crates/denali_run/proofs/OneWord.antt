@@ -1,6 +1,6 @@
 -- The word of an answered goal is its the_launch's, keeps to the table, and computes the goal's value.
-use Rattle.std.proofs.Common.{◌≡◌, ℕ, zero, suc, ◌+◌, ◌<◌, ◌≤◌, List, [], ◌∷◌, refl, sym, ◌∙◌, ap, arith, Bool, true, false, cond, Option, Some, None, map}
-use Rattle.std.specs.Prelude.{IsSome, IsTrue, slice_get, unwrap_or, position, nat_lt, not, ◌&&◌}
+use Rattle.std.proofs.Common.{◌≡◌, ℕ, zero, suc, ◌+◌, ◌<◌, ◌≤◌, List, [], ◌∷◌, refl, sym, ◌∙◌, ap, subst, arith, Bool, true, false, cond, Option, Some, None, map}
+use Rattle.std.specs.Prelude.{IsSome, IsTrue, IsSomeAnd, slice_get, unwrap_or, position, nat_lt, not, ◌&&◌}
 use Rattle.std.specs.Option.{option_map_or}
 use Rattle.std.proofs.lemmas.List.Sorted.{IsPermutation-refl}
 use Rattle.word_ops.specs.declared.operators.WordOp.{WordOp}
@@ -11,19 +11,19 @@ use Rattle.alpha_encode.specs.declared.instructions.Second.TheVariants.{Reg}
 use Rattle.alpha_encode.specs.declared.instructions.Instr.{Instr}
 use Rattle.alpha_encode.specs.declared.instructions.Instr.TheVariants as instrs
 use Rattle.denali_run.specs.Goals.{Goal, IsGoal, IsAnswered, input_of}
-use Rattle.denali_run.specs.Tables.{ev6, MayUse}
-use Rattle.denali_run.specs.Launches.{StandsBefore, is_store}
+use Rattle.machine_table.specs.Tables.{ev6, MayUse, latency_of}
+use Rattle.denali_run.specs.Launches.{StandsBefore}
 use Rattle.denali_run.specs.Listings as listings
 use Rattle.denali_run.specs.Listings.{IsListing}
-use Rattle.denali_run.specs.Obeys.{Obeys, latency_in, kind_of}
+use Rattle.denali_run.specs.Obeys.{Obeys, latency_in, kind_of, stores}
 use Rattle.denali_run.specs.OneOperate.{graph_of, the_launches, the_launch, place_class, the_listing, the_instr}
-use Rattle.denali_run.specs.declared.forms.InputPlace.{InputPlace}
-use Rattle.denali_run.specs.declared.forms.InputPlace.TheVariants.{First, Second}
-use Rattle.denali_run.specs.declared.graphs.LaunchGraph.{LaunchGraph}
-use Rattle.denali_run.specs.declared.graphs.SetClass.{SetClass}
+use Rattle.denali_run.specs.declared.goal_forms.InputPlace.{InputPlace}
+use Rattle.denali_run.specs.declared.goal_forms.InputPlace.TheVariants.{First, Second}
+use Rattle.launch_graph.specs.declared.graphs.LaunchGraph.{LaunchGraph}
+use Rattle.launch_graph.specs.declared.graphs.SetClass.{SetClass}
 use Rattle.denali_run.specs.declared.listings.Item.{Item}
 use Rattle.denali_run.specs.declared.listings.Where.{Where}
-use Rattle.denali_run.proofs.OneLaunch.{may_use, latency_is, all_one, pairs_one, gives_it, not_memory, false_true}
+use Rattle.denali_run.proofs.OneLaunch.{may_use, latency_is, kind_is, all_one, pairs_one, gives_it, not_memory, false_true}
 
 -- ---- the listing
 
@@ -94,7 +94,7 @@ module _ (goal : Goal) (valid : IsGoal goal) where
   item = record { instr = the_instr goal; cycle = 0; slot = 0 }
 
   latency_one : latency_in ev6 (the_instr goal) ≡ 1
-  latency_one = ap (λ o. unwrap_or o 0) (latency_is goal.op valid.op)
+  latency_one = ap (λ o. option_map_or (λ kind. unwrap_or (latency_of ev6 kind) 0) o 0) (kind_is goal.op valid.op) ∙ ap (λ o. unwrap_or o 0) (latency_is goal.op valid.op)
 
   first_only : (i : ℕ) (x : Item) → slice_get ((the_listing goal (the_instr goal)).items) i ≡ Some x → i ≡ 0
   first_only zero x e = refl
@@ -105,10 +105,10 @@ module _ (goal : Goal) (valid : IsGoal goal) where
     rising = pairs_one (λ a b. a.cycle ≤ b.cycle) item;
     below = all_one (λ a. a.cycle < 1) item (omega arith);
     in_time = all_one (λ a. a.cycle + latency_in ev6 a.instr ≤ 1) item (let e = latency_one in omega (arith, e));
-    slots = all_one (λ a. MayUse ev6 (kind_of a.instr) a.slot) item (may_use goal.op valid.op);
+    slots = all_one (λ a. IsSomeAnd (kind_of a.instr) (λ kind. MayUse ev6 kind a.slot)) item (subst (λ o. IsSomeAnd o (λ kind. MayUse ev6 kind 0)) (sym (kind_is goal.op valid.op)) (may_use goal.op valid.op));
     apart = pairs_one (λ a b. ¬ ((a.cycle ≡ b.cycle) × (a.slot ≡ b.slot))) item;
     operands = λ i x there r m reads not_zero last. absurd (let e = first_only i x there in let l = last.earlier in omega (arith, e, l));
-    one_store = pairs_one (λ a b. IsTrue (is_store (kind_of a.instr)) → IsTrue (is_store (kind_of b.instr)) → ¬ (a.cycle ≡ b.cycle)) item;
+    one_store = pairs_one (λ a b. IsTrue (stores a.instr) → IsTrue (stores b.instr) → ¬ (a.cycle ≡ b.cycle)) item;
   }
 
 -- ---- the instruction is one that has a word

@@ -13,7 +13,7 @@ use Rattle.denali_run.specs.Forms.{Written, written_of, lexemes_of, WritesGoal, 
 use Rattle.denali_run.specs.Reading.{written_at}
 use Rattle.denali_run.specs.Resolving.{AreLow, AreNamed}
 use Rattle.denali_run.specs.Views.{goal_view}
-use Rattle.denali_run.specs.declared.forms.GoalForm.{GoalForm}
+use Rattle.denali_run.specs.declared.goal_forms.GoalForm.{GoalForm}
 use Rattle.denali_run.proofs.ReadBack.{written_takes, written_again}
 
 low_of : (goal : Goal) → IsGoal goal → AreLow (written_of goal)

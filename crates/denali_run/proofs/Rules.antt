@@ -5,11 +5,12 @@ use Rattle.std.proofs.lemmas.Option.{get_or_from_slice_get, slice_get-get_or, sl
 use Rattle.denali_run.specs.Launches.{launches, is_store, memory_class_at}
 use Rattle.denali_run.specs.Fits.{CanLaunch, Collide, CanRead, EndsBy, UsesMemory, Waits, KeepsMemory, Fits, IsLeft}
 use Rattle.denali_run.specs.Broken.{Rule, rows, apart, operands, in_time, targets, memory, one_branch, after_branch, pool, number, Asks, AsksOfAll, IsKept, Breaks, at, whole, IsFirstBroken}
-use Rattle.denali_run.specs.declared.tables.Table.{Table}
-use Rattle.denali_run.specs.declared.graphs.LaunchGraph.{LaunchGraph}
+use Rattle.machine_table.specs.declared.tables.Table.{Table}
+use Rattle.launch_graph.specs.declared.graphs.LaunchGraph.{LaunchGraph}
 use Rattle.denali_run.specs.declared.schedules.Launch.{Launch}
 use Rattle.denali_run.proofs.Memory as mem
-use Rattle.denali_run.proofs.Decide.{Dec, HoldBelow, FailsFirst}
+use Rattle.machine_table.proofs.Decide.{Dec}
+use Rattle.denali_run.proofs.Decide.{HoldBelow, FailsFirst}
 
 none_some : {X : Type 0} (x : X) → None ≡ Some x → ⊥
 none_some x h = cc

@@ -1,65 +1,18 @@
 -- The lines of an answer. Numbers are decimal, words of the machine are eight hexadecimal digits.
 -- Source: this project.
-use Rattle.std.specs.Prelude.{ℕ, zero, suc, ◌+◌, ◌*◌, ◌/◌, ◌%◌, ◌^◌, List, [], ◌∷◌, ◌++◌, length, codes, decimal, Option, None, Some, nat_lt, slice_get, if◌then◌else◌}
+use Rattle.std.specs.Prelude.{ℕ, zero, suc, ◌+◌, ◌*◌, ◌/◌, ◌%◌, ◌^◌, List, [], ◌∷◌, ◌++◌, codes, decimal, Option, None, Some, nat_lt, slice_get, if◌then◌else◌}
 use Rattle.std.specs.List.{flat_map}
 use Rattle.std.specs.Option.{option_map_or}
-use Rattle.word_ops.specs.Names.{name_of}
-use Rattle.word_ops.specs.declared.sorts.Op.{Op}
-use Rattle.word_ops.specs.declared.sorts.Op.TheVariants.{Entry, Input, Constant, Word, Select, Store, Load, Put, Declared}
-use Rattle.denali_run.specs.Tables.{ev6}
+use Rattle.text_core.specs.LineTexts.{lines_text}
+use Rattle.launch_graph.specs.GraphLines.{graph_lines, said}
+use Rattle.machine_table.specs.Tables.{ev6}
 use Rattle.denali_run.specs.declared.found.Found.{Found}
-use Rattle.denali_run.specs.declared.tables.Table.{Table}
-use Rattle.denali_run.specs.declared.graphs.LaunchRow.{LaunchRow}
-use Rattle.denali_run.specs.declared.graphs.InputClass.{InputClass}
-use Rattle.denali_run.specs.declared.graphs.Guard.{Guard}
-use Rattle.denali_run.specs.declared.graphs.SetClass.{SetClass}
-use Rattle.denali_run.specs.declared.graphs.LaunchGraph.{LaunchGraph}
+use Rattle.machine_table.specs.declared.tables.Table.{Table}
 use Rattle.denali_run.specs.declared.schedules.Launch.{Launch}
 use Rattle.denali_run.specs.declared.listings.Where.{Where}
 use Rattle.alpha_encode.specs.Decoded.{decoded}
 use Rattle.alpha_encode.specs.Texts.{text_of}
 use Rattle.alpha_encode.specs.declared.instructions.Instr.{Instr}
-
--- numbers, each with a space before it
-abbrev pub number_words : List ℕ → List ℕ
-number_words ns = flat_map (λ n. codes " " ++ decimal n) ns
-
--- ---- the graph
-
-abbrev pub op_text : Op → List ℕ → List ℕ
-op_text Entry name = codes "memory"
-op_text (Input register) name = codes "input " ++ decimal register
-op_text (Constant n) name = codes "const " ++ decimal n
-op_text (Word op) name = name_of op
-op_text Select name = codes "select"
-op_text Store name = codes "store"
-op_text Load name = codes "load"
-op_text Put name = codes "put"
-op_text (Declared index arity) name = codes "use " ++ name
-
-abbrev pub row_line : LaunchRow → List ℕ
-row_line r = decimal r.class ++ codes " " ++ op_text r.op r.name ++ number_words r.operands ++ codes "\n"
-
-abbrev pub in_line : InputClass → List ℕ
-in_line i = codes "in " ++ i.name ++ codes " " ++ decimal i.reg ++ codes " " ++ decimal i.class ++ codes "\n"
-
-abbrev pub guard_line : Option Guard → List ℕ
-guard_line None = []
-guard_line (Some g) = codes "guard " ++ decimal g.class ++ (if g.held then codes " held\n" else codes " free\n")
-
-abbrev pub set_line : SetClass → List ℕ
-set_line s = codes "set " ++ s.name ++ codes " " ++ decimal s.class ++ codes "\n"
-
-abbrev pub rows_text : LaunchGraph → List ℕ
-rows_text g =
-    codes "rows " ++ decimal (length g.rows) ++ codes "\n" ++ flat_map row_line g.rows ++ codes "entry "
-    ++ decimal g.entry ++ codes "\n"
-
-abbrev pub registers_text : LaunchGraph → List ℕ
-registers_text g = flat_map in_line g.inputs ++ codes "pool" ++ number_words g.pool ++ codes "\n"
-
-unfoldable pub graph_text : LaunchGraph → List ℕ
-graph_text g = rows_text g ++ registers_text g ++ guard_line g.guard ++ flat_map set_line g.sets
 
 -- ---- the schedule and its words
 
@@ -101,7 +54,7 @@ where_line w = codes "where " ++ w.name ++ codes " " ++ decimal w.reg ++ codes "
 -- a found schedule: its graph, its launches in so many cycles of the table `ev6`, its words, and the targets' places
 unfoldable pub found_text : ℕ → Found → List ℕ
 found_text k found =
-    graph_text found.graph
+    lines_text (graph_lines (said found.graph))
     ++ cycles_line k
     ++ flat_map (launch_line ev6) found.schedule.launches
     ++ flat_map word_line found.words

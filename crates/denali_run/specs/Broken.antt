@@ -1,11 +1,11 @@
 -- Which launch of a list breaks which rule first.
 -- Source: this project.
 use Rattle.std.specs.Prelude.{◌≡◌, ℕ, ◌<◌, ◌≤◌, List, length, Some, All, IsTrue, count_by, slice_get}
-use Rattle.denali_run.specs.Graphs.{memory_target}
+use Rattle.launch_graph.specs.Graphs.{memory_target}
 use Rattle.denali_run.specs.Launches.{launches, is_store, gives_word, memory_class_at, memory_before, memory_after}
 use Rattle.denali_run.specs.Fits.{CanLaunch, Collide, CanRead, EndsBy, IsReached, UsesMemory, HasOneBranch, Waits}
-use Rattle.denali_run.specs.declared.tables.Table.{Table}
-use Rattle.denali_run.specs.declared.graphs.LaunchGraph.{LaunchGraph}
+use Rattle.machine_table.specs.declared.tables.Table.{Table}
+use Rattle.launch_graph.specs.declared.graphs.LaunchGraph.{LaunchGraph}
 use Rattle.denali_run.specs.declared.schedules.Launch.{Launch}
 
 -- the launch m stands earlier in the list than place i, and R holds of it

@@ -1,14 +1,14 @@
 -- When a schedule fits a graph and a table in k cycles.
 -- Source: this project, over Denali (PLDI 2002): issue slots, latencies, clusters, memory in order, the guard's branch.
 use Rattle.std.specs.Prelude.{◌≡◌, ℕ, ◌+◌, ◌<◌, ◌≤◌, List, length, unwrap_or, All, AllPairs, Any, IsTrue, IsSomeAnd, IfSome, ◌⊎◌, count_by}
-use Rattle.denali_run.specs.Tables.{MayUse, latency_of, cluster_of}
-use Rattle.denali_run.specs.Graphs.{memory_target, is_memory_name}
+use Rattle.machine_table.specs.Tables.{MayUse, latency_of, cluster_of}
+use Rattle.launch_graph.specs.Graphs.{memory_target, is_memory_name}
 use Rattle.denali_run.specs.Launches.{instr_at, launches, is_load, is_store, is_branch, gives_word, operands_at, memory_class_at, class_at, IsZero, IsFree, IsInput, IsReadable, Gives, is_held}
-use Rattle.denali_run.specs.declared.tables.Table.{Table}
-use Rattle.denali_run.specs.declared.graphs.SetClass.{SetClass}
-use Rattle.denali_run.specs.declared.graphs.LaunchGraph.{LaunchGraph}
+use Rattle.machine_table.specs.declared.tables.Table.{Table}
+use Rattle.launch_graph.specs.declared.graphs.SetClass.{SetClass}
+use Rattle.launch_graph.specs.declared.graphs.LaunchGraph.{LaunchGraph}
 use Rattle.denali_run.specs.declared.schedules.Launch.{Launch}
-use Rattle.denali_run.specs.declared.tables.InstrKind.TheVariants.{Beq}
+use Rattle.machine_table.specs.declared.tables.InstrKind.TheVariants.{Beq}
 
 -- the row can be launched, or is the branch, in a slot that the table allows for its instruction
 abbrev pub CanLaunch : LaunchGraph → Table → Launch → Type 0

@@ -5,8 +5,8 @@ use Rattle.text_core.specs.Names.{IsName}
 use Rattle.word_ops.specs.Names.{name_of}
 use Rattle.word_ops.specs.declared.operators.WordOp.{WordOp}
 use Rattle.word_ops.specs.declared.operators.WordOp.TheVariants as ops
-use Rattle.denali_run.specs.declared.forms.InputPlace.{InputPlace}
-use Rattle.denali_run.specs.declared.forms.InputPlace.TheVariants.{First, Second}
+use Rattle.denali_run.specs.declared.goal_forms.InputPlace.{InputPlace}
+use Rattle.denali_run.specs.declared.goal_forms.InputPlace.TheVariants.{First, Second}
 
 pub record Input : Type 0 where
   pub name : List ℕ

@@ -2,19 +2,19 @@
 -- Source: this project, over the launches of Denali (PLDI 2002) and the clusters of the Alpha 21264.
 use Rattle.std.specs.Prelude.{◌≡◌, ℕ, ◌<◌, ◌≤◌, List, [], ◌∷◌, length, Option, Some, None, ◌==◌, ◌&&◌, nat_lt, Bool, true, false, unwrap_or, option_map, option_and_then, is_some, AllPairs, Any, if◌then◌else◌, IsTrue, ◌⊎◌, slice_get, slice_index, IsPermutation}
 use Rattle.std.specs.Option.{option_map_or}
-use Rattle.denali_run.specs.InstrOrder.{is_operate}
-use Rattle.denali_run.specs.Tables.{ready}
-use Rattle.denali_run.specs.Graphs.{constant_of}
+use Rattle.machine_table.specs.InstrOrder.{operate_kind}
+use Rattle.machine_table.specs.Tables.{ready}
+use Rattle.launch_graph.specs.Graphs.{constant_of}
 use Rattle.word_ops.specs.declared.operators.WordOp.{WordOp}
 use Rattle.word_ops.specs.declared.operators.WordOp.TheVariants as ops
-use Rattle.denali_run.specs.declared.tables.InstrKind.{InstrKind}
-use Rattle.denali_run.specs.declared.tables.InstrKind.TheVariants.{Operate, Lda, Ldah, LdqU, StqU, Beq}
+use Rattle.machine_table.specs.declared.tables.InstrKind.{InstrKind}
+use Rattle.machine_table.specs.declared.tables.InstrKind.TheVariants.{Lda, Ldah, LdqU, StqU, Beq}
 use Rattle.word_ops.specs.declared.sorts.Op.{Op}
 use Rattle.word_ops.specs.declared.sorts.Op.TheVariants.{Word, Select, Store, Load, Put}
-use Rattle.denali_run.specs.declared.graphs.Guard.{Guard}
-use Rattle.denali_run.specs.declared.tables.Table.{Table}
-use Rattle.denali_run.specs.declared.graphs.LaunchRow.{LaunchRow}
-use Rattle.denali_run.specs.declared.graphs.LaunchGraph.{LaunchGraph}
+use Rattle.launch_graph.specs.declared.graphs.Guard.{Guard}
+use Rattle.machine_table.specs.declared.tables.Table.{Table}
+use Rattle.launch_graph.specs.declared.graphs.LaunchRow.{LaunchRow}
+use Rattle.launch_graph.specs.declared.graphs.LaunchGraph.{LaunchGraph}
 use Rattle.denali_run.specs.declared.schedules.Launch.{Launch}
 
 -- ---- instructions
@@ -26,7 +26,7 @@ displaced g instr class = if is_some (constant_of g class) then Some instr else 
 abbrev pub word_op_instr : LaunchGraph → WordOp → List ℕ → Option InstrKind
 word_op_instr g ops.Lda operands = displaced g Lda (slice_index operands 1)
 word_op_instr g ops.Ldah operands = displaced g Ldah (slice_index operands 1)
-word_op_instr g op operands = if is_operate op then Some (Operate op) else None
+word_op_instr g op operands = operate_kind op
 
 -- the instruction of a row that can be launched
 abbrev pub op_instr : LaunchGraph → Op → List ℕ → Option InstrKind
@@ -86,7 +86,7 @@ operate_operands (x ∷ y ∷ ys) = plain x ∷ operate_operands (y ∷ ys)
 
 abbrev pub word_op_operands : WordOp → List ℕ → List Operand
 word_op_operands op operands =
-    if is_operate op then operate_operands operands else plain (slice_index operands 0) ∷ []
+    if is_some (operate_kind op) then operate_operands operands else plain (slice_index operands 0) ∷ []
 
 abbrev pub op_operands : Op → List ℕ → List Operand
 op_operands (Word op) operands = word_op_operands op operands

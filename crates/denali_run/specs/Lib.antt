@@ -4,8 +4,6 @@ pub mod Broken
 pub mod Fits
 pub mod Forms
 pub mod Goals
-pub mod Graphs
-pub mod InstrOrder
 pub mod Launches
 pub mod Lexemes
 pub mod Listings
@@ -15,7 +13,5 @@ pub mod Reading
 pub mod Resolving
 pub mod RightAnswers
 pub mod Statuses
-pub mod Tables
 pub mod Views
-pub mod WellFormed
 pub mod Worked

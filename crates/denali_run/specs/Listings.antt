@@ -1,12 +1,12 @@
 -- The instructions of a schedule in word order, and the places of its targets.
 -- Source: this project. Each launch that gives a word has a pool register of its own.
-use Rattle.std.specs.Prelude.{◌≡◌, ℕ, ℤ, pos, ◌+◌, ◌-◌, ◌%◌, ◌^◌, List, [], ◌∷◌, map, length, Option, Some, None, ◌==◌, ◌&&◌, nat_le, Bool, true, false, not, unwrap_or, option_map, find, position, count_by, filter, take, slice_index, slice_get, if◌then◌else◌}
+use Rattle.std.specs.Prelude.{◌≡◌, ℕ, ℤ, pos, ◌+◌, ◌-◌, ◌%◌, ◌^◌, List, [], ◌∷◌, map, length, Option, Some, None, ◌==◌, ◌&&◌, nat_le, Bool, true, false, not, unwrap_or, position, count_by, filter, take, slice_index, slice_get, if◌then◌else◌}
 use Rattle.std.specs.Option.{option_map_or}
 use Rattle.std.specs.Int.{cast_signed, w16}
 use Rattle.word_ops.specs.declared.operators.WordOp.{WordOp}
 use Rattle.word_ops.specs.declared.operators.WordOp.TheVariants as ops
-use Rattle.denali_run.specs.Tables.{cluster_of}
-use Rattle.denali_run.specs.Graphs.{constant_of, is_memory_name}
+use Rattle.machine_table.specs.Tables.{cluster_of}
+use Rattle.launch_graph.specs.Graphs.{constant_of, is_memory_name, input_register}
 use Rattle.denali_run.specs.Launches.{launches, gives_word, class_at, ready_in, IsInWordOrder}
 use Rattle.alpha_encode.specs.declared.instructions.Second.{Second}
 use Rattle.alpha_encode.specs.declared.instructions.Second.TheVariants.{Reg, Literal}
@@ -16,9 +16,9 @@ use Rattle.word_ops.specs.declared.sorts.Op.{Op}
 use Rattle.word_ops.specs.declared.sorts.Op.TheVariants as op
 use Rattle.denali_run.specs.declared.listings.Item.{Item}
 use Rattle.denali_run.specs.declared.listings.Where.{Where}
-use Rattle.denali_run.specs.declared.tables.Table.{Table}
-use Rattle.denali_run.specs.declared.graphs.SetClass.{SetClass}
-use Rattle.denali_run.specs.declared.graphs.LaunchGraph.{LaunchGraph}
+use Rattle.machine_table.specs.declared.tables.Table.{Table}
+use Rattle.launch_graph.specs.declared.graphs.SetClass.{SetClass}
+use Rattle.launch_graph.specs.declared.graphs.LaunchGraph.{LaunchGraph}
 use Rattle.denali_run.specs.declared.schedules.Launch.{Launch}
 
 -- ---- registers and words. `ordered` is the schedule in word order
@@ -33,9 +33,6 @@ gives g class l = launches g gives_word l && (class_at g l.row == class)
 abbrev pub or_register : Option ℕ → ℕ → ℕ
 or_register None r = r
 or_register (Some r) _ = r
-
-abbrev pub input_register : LaunchGraph → ℕ → Option ℕ
-input_register g class = option_map (λ i. i.reg) (find (λ i. i.class == class) g.inputs)
 
 abbrev pub is_zero : LaunchGraph → ℕ → Bool
 is_zero g class = option_map_or (λ n. n == 0) (constant_of g class) false

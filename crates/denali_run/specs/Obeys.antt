@@ -1,25 +1,34 @@
 -- When instructions with cycles and slots keep to a table in k cycles.
 -- Source: this project, over the pipes and clusters of the Alpha 21264 Hardware Reference Manual.
-use Rattle.std.specs.Prelude.{◌≡◌, ℕ, ◌+◌, ◌<◌, ◌≤◌, List, [], ◌∷◌, Option, Some, None, unwrap_or, All, AllPairs, IsTrue, slice_get, if◌then◌else◌, Contains}
-use Rattle.denali_run.specs.Tables.{MayUse, latency_of, cluster_of, ready}
-use Rattle.denali_run.specs.Launches.{is_store}
+use Rattle.std.specs.Prelude.{◌≡◌, ℕ, ◌+◌, ◌<◌, ◌≤◌, List, [], ◌∷◌, Option, Some, None, unwrap_or, All, AllPairs, IsTrue, IsSomeAnd, Bool, false, slice_get, if◌then◌else◌, Contains}
+use Rattle.std.specs.Option.{option_map_or}
+use Rattle.machine_table.specs.Tables.{MayUse, latency_of, cluster_of, ready}
+use Rattle.denali_run.specs.Launches.{is_load, is_store}
 use Rattle.alpha_encode.specs.Codes.{is_unary}
-use Rattle.denali_run.specs.declared.tables.InstrKind.{InstrKind}
-use Rattle.denali_run.specs.declared.tables.InstrKind.TheVariants as kinds
+use Rattle.machine_table.specs.InstrOrder.{operate_kind}
+use Rattle.machine_table.specs.declared.tables.InstrKind.{InstrKind}
+use Rattle.machine_table.specs.declared.tables.InstrKind.TheVariants as kinds
 use Rattle.alpha_encode.specs.declared.instructions.Second.{Second}
 use Rattle.alpha_encode.specs.declared.instructions.Second.TheVariants.{Reg, Literal}
 use Rattle.alpha_encode.specs.declared.instructions.Instr.{Instr}
 use Rattle.alpha_encode.specs.declared.instructions.Instr.TheVariants.{Operate, Lda, Ldah, LdqU, StqU, Beq}
 use Rattle.denali_run.specs.declared.listings.Item.{Item}
-use Rattle.denali_run.specs.declared.tables.Table.{Table}
+use Rattle.machine_table.specs.declared.tables.Table.{Table}
 
-abbrev pub kind_of : Instr → InstrKind
-kind_of (Operate op ra second rc) = kinds.Operate op
-kind_of (Lda ra rb disp) = kinds.Lda
-kind_of (Ldah ra rb disp) = kinds.Ldah
-kind_of (LdqU ra rb disp) = kinds.LdqU
-kind_of (StqU ra rb disp) = kinds.StqU
-kind_of (Beq ra disp) = kinds.Beq
+-- what the instruction is on a table; none where its operator is no operate, and then it has no word
+abbrev pub kind_of : Instr → Option InstrKind
+kind_of (Operate op ra second rc) = operate_kind op
+kind_of (Lda ra rb disp) = Some kinds.Lda
+kind_of (Ldah ra rb disp) = Some kinds.Ldah
+kind_of (LdqU ra rb disp) = Some kinds.LdqU
+kind_of (StqU ra rb disp) = Some kinds.StqU
+kind_of (Beq ra disp) = Some kinds.Beq
+
+abbrev pub loads : Instr → Bool
+loads i = option_map_or is_load (kind_of i) false
+
+abbrev pub stores : Instr → Bool
+stores i = option_map_or is_store (kind_of i) false
 
 abbrev pub second_reads : Second → List ℕ
 second_reads (Reg r) = r ∷ []
@@ -43,7 +52,11 @@ writes (LdqU ra rb disp) = Some ra
 writes _ = None
 
 abbrev pub latency_in : Table → Instr → ℕ
-latency_in table i = unwrap_or (latency_of table (kind_of i)) 0
+latency_in table i = option_map_or (λ kind. unwrap_or (latency_of table kind) 0) (kind_of i) 0
+
+-- the cycle from which what the item writes is seen in a cluster
+abbrev pub ready_from : Table → Item → ℕ → ℕ
+ready_from table item cluster = option_map_or (λ kind. ready table item.cycle item.slot kind cluster) (kind_of item.instr) 0
 
 -- of the items before place i, m is the last that writes the register
 pub record IsLastWriter (items : List Item) (i r : ℕ) (m : Item) : Type 0 where
@@ -57,14 +70,13 @@ pub record IsLastWriter (items : List Item) (i r : ℕ) (m : Item) : Type 0 wher
 abbrev pub HasOperands : Table → List Item → ℕ → Item → Type 0
 HasOperands table items i item =
     (r : ℕ) (m : Item) → Contains (reads item.instr) r → ¬ (r ≡ 31) → IsLastWriter items i r m →
-    ready table m.cycle m.slot (kind_of m.instr) (cluster_of table item.slot) ≤ item.cycle
+    ready_from table m (cluster_of table item.slot) ≤ item.cycle
 
 pub record Obeys (table : Table) (k : ℕ) (items : List Item) : Type 0 where
   pub rising : AllPairs (λ a b. a.cycle ≤ b.cycle) items
   pub below : All (λ a. a.cycle < k) items
   pub in_time : All (λ a. a.cycle + latency_in table a.instr ≤ k) items
-  pub slots : All (λ a. MayUse table (kind_of a.instr) a.slot) items
+  pub slots : All (λ a. IsSomeAnd (kind_of a.instr) (λ kind. MayUse table kind a.slot)) items
   pub apart : AllPairs (λ a b. ¬ ((a.cycle ≡ b.cycle) × (a.slot ≡ b.slot))) items
   pub operands : (i : ℕ) (item : Item) → slice_get items i ≡ Some item → HasOperands table items i item
-  pub one_store : AllPairs (λ a b. IsTrue (is_store (kind_of a.instr)) → IsTrue (is_store (kind_of b.instr))
-      → ¬ (a.cycle ≡ b.cycle)) items
+  pub one_store : AllPairs (λ a b. IsTrue (stores a.instr) → IsTrue (stores b.instr) → ¬ (a.cycle ≡ b.cycle)) items

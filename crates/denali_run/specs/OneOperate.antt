@@ -1,20 +1,18 @@
 -- The answer to a goal of one operate: its graph, its one the_launch, its word, and the text.
 -- Source: this project.
 use Rattle.std.specs.Prelude.{ℕ, List, [], ◌∷◌, ◌++◌, codes, None}
-use Rattle.word_ops.specs.declared.sorts.Op.{Op}
 use Rattle.word_ops.specs.declared.sorts.Op.TheVariants as op
 use Rattle.denali_run.specs.Goals.{Goal, input_of}
-use Rattle.denali_run.specs.Graphs.{plain_row}
+use Rattle.launch_graph.specs.Graphs.{plain_row}
 use Rattle.alpha_encode.specs.Formats.{encoded}
 use Rattle.alpha_encode.specs.declared.instructions.Second.TheVariants.{Reg}
 use Rattle.alpha_encode.specs.declared.instructions.Instr.{Instr}
 use Rattle.alpha_encode.specs.declared.instructions.Instr.TheVariants.{Operate}
 use Rattle.denali_run.specs.AnswerTexts.{found_text}
 use Rattle.denali_run.specs.declared.found.Found.{Found}
-use Rattle.denali_run.specs.declared.forms.InputPlace.{InputPlace}
-use Rattle.denali_run.specs.declared.forms.InputPlace.TheVariants.{First, Second}
-use Rattle.denali_run.specs.declared.graphs.LaunchRow.{LaunchRow}
-use Rattle.denali_run.specs.declared.graphs.LaunchGraph.{LaunchGraph}
+use Rattle.denali_run.specs.declared.goal_forms.InputPlace.{InputPlace}
+use Rattle.denali_run.specs.declared.goal_forms.InputPlace.TheVariants.{First, Second}
+use Rattle.launch_graph.specs.declared.graphs.LaunchGraph.{LaunchGraph}
 use Rattle.denali_run.specs.declared.schedules.Launch.{Launch}
 use Rattle.denali_run.specs.declared.listings.Listing.{Listing}
 

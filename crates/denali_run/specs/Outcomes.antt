@@ -9,13 +9,13 @@ use Rattle.alpha_machine.specs.States.{MachineState}
 use Rattle.alpha_machine.specs.Runs.{Runs, trace}
 use Rattle.alpha_machine.specs.declared.running.End.TheVariants.{Fall, Exit}
 use Rattle.alpha_encode.specs.declared.instructions.Instr.{Instr}
-use Rattle.denali_run.specs.Graphs.{memory_target, IsTrueUnder}
-use Rattle.denali_run.specs.Launches.{is_load, is_held}
-use Rattle.denali_run.specs.Obeys.{kind_of}
+use Rattle.launch_graph.specs.Graphs.{memory_target, IsTrueUnder}
+use Rattle.denali_run.specs.Launches.{is_held}
+use Rattle.denali_run.specs.Obeys.{loads}
 use Rattle.denali_run.specs.Listings.{word_targets}
 use Rattle.denali_run.specs.declared.listings.Item.{Item}
 use Rattle.denali_run.specs.declared.listings.Where.{Where}
-use Rattle.denali_run.specs.declared.graphs.LaunchGraph.{LaunchGraph}
+use Rattle.launch_graph.specs.declared.graphs.LaunchGraph.{LaunchGraph}
 
 -- at the first word, with any registers and memory
 abbrev pub entry_state : World → MachineState
@@ -49,7 +49,7 @@ pub record Exits (g : LaunchGraph) (w : World) (items : List Item) (words : List
   pub memory_is : state.memory ≡ w.memory_at_entry
   pub inputs : KeepsInputs g w state
   pub no_load : IsTrue (is_held g)
-      → All (λ i. ¬ IsTrue (is_load (kind_of i))) (trace (length items) (instrs_of items) (entry_state w))
+      → All (λ i. ¬ IsTrue (loads i)) (trace (length items) (instrs_of items) (entry_state w))
 
 -- there is a guard, and its value is 0
 abbrev pub IsExit : LaunchGraph → (ℕ → Value) → Type 0

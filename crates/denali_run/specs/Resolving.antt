@@ -4,8 +4,8 @@ use Rattle.std.specs.Prelude.{◌≡◌, ◌≢◌, ℕ, ◌<◌, List, [], ◌�
 use Rattle.text_core.specs.Names.{IsName}
 use Rattle.denali_run.specs.Goals.{IsInputName}
 use Rattle.denali_run.specs.Forms.{Written}
-use Rattle.denali_run.specs.declared.forms.InputPlace.{InputPlace}
-use Rattle.denali_run.specs.declared.forms.InputPlace.TheVariants.{First, Second}
+use Rattle.denali_run.specs.declared.goal_forms.InputPlace.{InputPlace}
+use Rattle.denali_run.specs.declared.goal_forms.InputPlace.TheVariants.{First, Second}
 
 abbrev pub IsPlaceOf : List ℕ → List ℕ → List ℕ → InputPlace → Type 0
 IsPlaceOf name one two First = one ≡ name

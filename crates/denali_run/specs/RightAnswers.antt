@@ -6,9 +6,9 @@ use Rattle.word_ops.specs.Worlds.{World, IsWorld}
 use Rattle.alpha_machine.specs.States.{MachineState}
 use Rattle.alpha_machine.specs.Runs.{Runs}
 use Rattle.alpha_machine.specs.declared.running.End.TheVariants.{Fall}
-use Rattle.denali_run.specs.Tables.{ev6}
-use Rattle.denali_run.specs.Graphs.{IsProper}
-use Rattle.denali_run.specs.WellFormed.{IsLaunchGraph}
+use Rattle.machine_table.specs.Tables.{ev6}
+use Rattle.launch_graph.specs.Graphs.{IsProper}
+use Rattle.launch_graph.specs.WellFormed.{IsLaunchGraph}
 use Rattle.denali_run.specs.Fits.{Fits}
 use Rattle.denali_run.specs.Listings.{IsListing}
 use Rattle.denali_run.specs.Obeys.{Obeys}
@@ -18,7 +18,7 @@ use Rattle.denali_run.specs.OneOperate.{graph_of, the_words, found_of, answer_te
 use Rattle.denali_run.specs.Forms.{SpellsGoal}
 use Rattle.denali_run.specs.declared.found.Found.{Found}
 use Rattle.denali_run.specs.declared.schedules.Launch.{Launch}
-use Rattle.denali_run.specs.declared.tables.Table.{Table}
+use Rattle.machine_table.specs.declared.tables.Table.{Table}
 use Rattle.denali_run.specs.declared.solving.Status.{Status}
 use Rattle.denali_run.specs.declared.solving.Status.TheVariants.{Done}
 

@@ -3,10 +3,10 @@
 use Rattle.denali_run.specs.Goals.{Input, Goal}
 use Rattle.denali_run.specs.Forms.{Written}
 use Rattle.denali_run.specs.Reading.{Application}
-use Rattle.denali_run.specs.declared.forms.InputForm.{InputForm}
-use Rattle.denali_run.specs.declared.forms.ApplicationForm.{ApplicationForm}
-use Rattle.denali_run.specs.declared.forms.WrittenForm.{WrittenForm}
-use Rattle.denali_run.specs.declared.forms.GoalForm.{GoalForm}
+use Rattle.denali_run.specs.declared.goal_forms.InputForm.{InputForm}
+use Rattle.denali_run.specs.declared.goal_forms.ApplicationForm.{ApplicationForm}
+use Rattle.denali_run.specs.declared.goal_forms.WrittenForm.{WrittenForm}
+use Rattle.denali_run.specs.declared.goal_forms.GoalForm.{GoalForm}
 
 abbrev pub input_view : InputForm → Input
 input_view f = record { name = f.name.now; register = f.register }

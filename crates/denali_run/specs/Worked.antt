@@ -2,15 +2,14 @@
 -- Source: this project.
 use Rattle.std.specs.Prelude.{ℕ, List, [], ◌∷◌, ◌++◌, None, Some, Bool, true, false, codes}
 use Rattle.word_ops.specs.declared.operators.WordOp.TheVariants as ops
-use Rattle.word_ops.specs.declared.sorts.Op.{Op}
 use Rattle.word_ops.specs.declared.sorts.Op.TheVariants as op
-use Rattle.denali_run.specs.Graphs.{plain_row}
-use Rattle.denali_run.specs.Tables.{slot_of, operate_uses}
-use Rattle.denali_run.specs.declared.tables.Table.{Table}
-use Rattle.denali_run.specs.declared.graphs.LaunchRow.{LaunchRow}
-use Rattle.denali_run.specs.declared.graphs.InputClass.{InputClass}
-use Rattle.denali_run.specs.declared.graphs.SetClass.{SetClass}
-use Rattle.denali_run.specs.declared.graphs.LaunchGraph.{LaunchGraph}
+use Rattle.launch_graph.specs.Graphs.{plain_row}
+use Rattle.machine_table.specs.Tables.{slot_of, uses_of}
+use Rattle.machine_table.specs.declared.tables.InstrKind.TheVariants as kinds
+use Rattle.machine_table.specs.declared.tables.Table.{Table}
+use Rattle.launch_graph.specs.declared.graphs.InputClass.{InputClass}
+use Rattle.launch_graph.specs.declared.graphs.SetClass.{SetClass}
+use Rattle.launch_graph.specs.declared.graphs.LaunchGraph.{LaunchGraph}
 use Rattle.denali_run.specs.declared.schedules.Launch.{Launch}
 
 abbrev pub input_class : List ℕ → ℕ → ℕ → InputClass
@@ -33,7 +32,7 @@ abbrev pub two_slots : Table
 two_slots = record {
   slots = slot_of (codes "A") 0 ∷ slot_of (codes "B") 1 ∷ [];
   cross = 1;
-  uses = operate_uses 1 (0 ∷ []) (ops.Addq ∷ []) ++ operate_uses 1 (1 ∷ []) (ops.Xor ∷ []);
+  uses = uses_of 1 (0 ∷ []) (kinds.Addq ∷ []) ++ uses_of 1 (1 ∷ []) (kinds.Xor ∷ []);
 }
 
 abbrev pub sum_graph : LaunchGraph

@@ -1,18 +1,18 @@
 // The graph of a goal, and its schedule.
 ghost use Rattle.std.specs.Prelude.{◌≡◌, IfOk, [], ◌∷◌};
 ghost use Rattle.denali_run.specs.Goals.{IsGoal};
-ghost use Rattle.denali_run.specs.Graphs.{plain_row};
+ghost use Rattle.launch_graph.specs.Graphs.{plain_row};
 ghost use Rattle.denali_run.specs.OneOperate.{graph_of, found_of, the_listing, place_class};
 ghost use Rattle.denali_run.specs.Views.{goal_view};
 
-use crate::forms::{GoalForm, InputPlace};
 use crate::found::Found;
-use crate::graphs::{InputClass, LaunchGraph, LaunchRow, SetClass};
+use crate::goal_forms::{GoalForm, InputPlace};
 use crate::instructions::instr_of;
 use crate::listings::{Item, Listing, Where};
 use crate::schedules::{Launch, Schedule};
 use alpha_encode::{Instr, encode};
 use items::{Items, NoMemory};
+use launch_graph::{InputClass, LaunchGraph, LaunchRow, SetClass};
 use std::alloc::Global;
 use text_core::Name;
 use word_ops::Op;

@@ -5,7 +5,7 @@ ghost use Rattle.denali_run.specs.OneOperate.{the_instr};
 ghost use Rattle.denali_run.specs.Goals.{IsGoal, input_of};
 ghost use Rattle.denali_run.specs.Views.{goal_view};
 
-use crate::forms::{GoalForm, InputPlace};
+use crate::goal_forms::{GoalForm, InputPlace};
 use alpha_encode::{Instr, Second};
 
 fn register_of(goal: &GoalForm, place: InputPlace) -> u8

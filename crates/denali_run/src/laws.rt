@@ -4,9 +4,9 @@ ghost use Rattle.denali_run.specs.Broken.{IsFirstBroken};
 ghost use Rattle.denali_run.specs.Fits.{Fits};
 ghost use Rattle.denali_run.specs.Forms.{SpellsGoal};
 ghost use Rattle.denali_run.specs.Goals.{Goal};
-ghost use Rattle.denali_run.specs.declared.graphs.LaunchGraph.{LaunchGraph as Graph};
+ghost use Rattle.launch_graph.specs.declared.graphs.LaunchGraph.{LaunchGraph as Graph};
 ghost use Rattle.denali_run.specs.declared.schedules.Launch.{Launch as LaunchOf};
-ghost use Rattle.denali_run.specs.declared.tables.Table.{Table as TableOf};
+ghost use Rattle.machine_table.specs.declared.tables.Table.{Table as TableOf};
 
 use text_core::one_lexing;
 use word_ops::operators_are_listed;

@@ -3,9 +3,8 @@
 
 mod answering;
 mod building;
-mod forms;
 mod found;
-mod graphs;
+mod goal_forms;
 mod instructions;
 mod laws;
 mod lexemes;
@@ -15,14 +14,11 @@ mod reading;
 mod resolving;
 mod schedules;
 mod solving;
-mod tables;
 mod worked;
 
 pub use found::Found;
-pub use graphs::{Guard, InputClass, LaunchGraph, LaunchRow, SetClass};
 pub use laws::{one_goal, schedules_fit_or_break};
 pub use listings::{Item, Listing, Where};
 pub use schedules::{Launch, Schedule};
 pub use solving::{Report, Status, TextError, solve_text};
-pub use tables::{InstrKind, Slot, Table, Use};
 pub use worked::worked_schedules;

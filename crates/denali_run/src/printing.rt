@@ -3,17 +3,16 @@ ghost use Rattle.std.specs.Prelude.{◌≡◌, ◌++◌, ◌<◌, OnOk, IfSome, 
 ghost use Rattle.std.specs.List.{flat_map};
 ghost use Rattle.alpha_encode.specs.Formats.{IsWellFormed};
 ghost use Rattle.denali_run.specs.AnswerTexts as texts;
-ghost use Rattle.denali_run.specs.Tables.{ev6};
+ghost use Rattle.machine_table.specs.Tables.{ev6};
 
 use crate::found::Found;
-use crate::graphs::{Guard, InputClass, LaunchGraph, LaunchRow, SetClass};
 use crate::listings::Where;
 use crate::schedules::Launch;
 use alpha_encode::{Instr, decode};
 use items::NoMemory;
 use itoa::Buffer;
+use launch_graph::put_graph;
 use std::alloc::Global;
-use word_ops::{Op, op_name};
 
 pub(crate) fn put_number(text: &mut Vec<u8>, number: u64) -> Result<(), NoMemory>
     ensures { OnOk result (text.new.items ≡ text.old.items ++ decimal number) }
@@ -23,175 +22,8 @@ pub(crate) fn put_number(text: &mut Vec<u8>, number: u64) -> Result<(), NoMemory
     Ok(())
 }
 
-/// Each class with a space before it.
-#[tactic(auto, using(crate::proofs::Printed::each_more))]
-fn put_classes(text: &mut Vec<u8>, classes: &[u32]) -> Result<(), NoMemory>
-    ensures { OnOk result (text.new.items ≡ text.old.items ++ texts.number_words classes.now) }
-{
-    for class in classes {
-        text.extend_from_slice(b" ")?;
-        put_number(text, u64::from(*class))?;
-    }
-    Ok(())
-}
-
-/// Each register with a space before it.
-#[tactic(auto, using(crate::proofs::Printed::each_more))]
-fn put_registers(text: &mut Vec<u8>, registers: &[u8]) -> Result<(), NoMemory>
-    ensures { OnOk result (text.new.items ≡ text.old.items ++ texts.number_words registers.now) }
-{
-    for register in registers {
-        text.extend_from_slice(b" ")?;
-        put_number(text, u64::from(*register))?;
-    }
-    Ok(())
-}
-
-fn put_op(text: &mut Vec<u8>, op: Op, name: &[u8]) -> Result<(), NoMemory>
-    ensures { OnOk result (text.new.items ≡ text.old.items ++ texts.op_text op name.now) }
-{
-    match op {
-        Op::Entry => text.extend_from_slice(b"memory")?,
-        Op::Input(register) => {
-            text.extend_from_slice(b"input ")?;
-            put_number(text, u64::from(register))?;
-        }
-        Op::Constant(word) => {
-            text.extend_from_slice(b"const ")?;
-            put_number(text, word)?;
-        }
-        Op::Word(op) => text.extend_from_slice(op_name(op))?,
-        Op::Select => text.extend_from_slice(b"select")?,
-        Op::Store => text.extend_from_slice(b"store")?,
-        Op::Load => text.extend_from_slice(b"load")?,
-        Op::Put => text.extend_from_slice(b"put")?,
-        Op::Declared { .. } => {
-            text.extend_from_slice(b"use ")?;
-            text.extend_from_slice(name)?;
-        }
-    }
-    Ok(())
-}
-
-fn put_row(text: &mut Vec<u8>, row: &LaunchRow) -> Result<(), NoMemory>
-    ensures { OnOk result (text.new.items ≡ text.old.items ++ texts.row_line row.now) }
-{
-    put_number(text, u64::from(row.class))?;
-    text.extend_from_slice(b" ")?;
-    put_op(text, row.op, row.name.bytes())?;
-    put_classes(text, row.operands.as_slice())?;
-    text.extend_from_slice(b"\n")?;
-    Ok(())
-}
-
-#[tactic(auto, using(crate::proofs::Printed::each_more))]
-fn put_rows(text: &mut Vec<u8>, rows: &[LaunchRow]) -> Result<(), NoMemory>
-    ensures { OnOk result (text.new.items ≡ text.old.items ++ flat_map texts.row_line rows.now) }
-{
-    for row in rows {
-        put_row(text, row)?;
-    }
-    Ok(())
-}
-
-fn put_input(text: &mut Vec<u8>, input: &InputClass) -> Result<(), NoMemory>
-    ensures { OnOk result (text.new.items ≡ text.old.items ++ texts.in_line input.now) }
-{
-    text.extend_from_slice(b"in ")?;
-    text.extend_from_slice(input.name.bytes())?;
-    text.extend_from_slice(b" ")?;
-    put_number(text, u64::from(input.reg))?;
-    text.extend_from_slice(b" ")?;
-    put_number(text, u64::from(input.class))?;
-    text.extend_from_slice(b"\n")?;
-    Ok(())
-}
-
-#[tactic(auto, using(crate::proofs::Printed::each_more))]
-fn put_inputs(text: &mut Vec<u8>, inputs: &[InputClass]) -> Result<(), NoMemory>
-    ensures { OnOk result (text.new.items ≡ text.old.items ++ flat_map texts.in_line inputs.now) }
-{
-    for input in inputs {
-        put_input(text, input)?;
-    }
-    Ok(())
-}
-
-fn put_guard(text: &mut Vec<u8>, guard: Option<Guard>) -> Result<(), NoMemory>
-    ensures { OnOk result (text.new.items ≡ text.old.items ++ texts.guard_line guard) }
-{
-    let Some(guard) = guard else {
-        return Ok(());
-    };
-    text.extend_from_slice(b"guard ")?;
-    put_number(text, u64::from(guard.class))?;
-    if guard.held {
-        text.extend_from_slice(b" held\n")?;
-        return Ok(());
-    }
-    text.extend_from_slice(b" free\n")?;
-    Ok(())
-}
-
-fn put_set(text: &mut Vec<u8>, set: &SetClass) -> Result<(), NoMemory>
-    ensures { OnOk result (text.new.items ≡ text.old.items ++ texts.set_line set.now) }
-{
-    text.extend_from_slice(b"set ")?;
-    text.extend_from_slice(set.name.bytes())?;
-    text.extend_from_slice(b" ")?;
-    put_number(text, u64::from(set.class))?;
-    text.extend_from_slice(b"\n")?;
-    Ok(())
-}
-
-#[tactic(auto, using(crate::proofs::Printed::each_more))]
-fn put_sets(text: &mut Vec<u8>, sets: &[SetClass]) -> Result<(), NoMemory>
-    ensures { OnOk result (text.new.items ≡ text.old.items ++ flat_map texts.set_line sets.now) }
-{
-    for set in sets {
-        put_set(text, set)?;
-    }
-    Ok(())
-}
-
-/// The rows, and the class of the memory at entry.
-fn put_rows_text(text: &mut Vec<u8>, graph: &LaunchGraph) -> Result<(), NoMemory>
-    ensures { OnOk result (text.new.items ≡ text.old.items ++ texts.rows_text graph.now) }
-{
-    text.extend_from_slice(b"rows ")?;
-    put_number(text, graph.rows.len() as u64)?;
-    text.extend_from_slice(b"\n")?;
-    put_rows(text, graph.rows.as_slice())?;
-    text.extend_from_slice(b"entry ")?;
-    put_number(text, u64::from(graph.entry))?;
-    text.extend_from_slice(b"\n")?;
-    Ok(())
-}
-
-/// The inputs' registers, and those of the pool.
-fn put_registers_text(text: &mut Vec<u8>, graph: &LaunchGraph) -> Result<(), NoMemory>
-    ensures { OnOk result (text.new.items ≡ text.old.items ++ texts.registers_text graph.now) }
-{
-    put_inputs(text, graph.inputs.as_slice())?;
-    text.extend_from_slice(b"pool")?;
-    put_registers(text, graph.pool.as_slice())?;
-    text.extend_from_slice(b"\n")?;
-    Ok(())
-}
-
-/// The lines of a graph.
-#[tactic(auto, unfolding(crate::specs::AnswerTexts::graph_text))]
-fn put_graph(text: &mut Vec<u8>, graph: &LaunchGraph) -> Result<(), NoMemory>
-    ensures { OnOk result (text.new.items ≡ text.old.items ++ texts.graph_text graph.now) }
-{
-    put_rows_text(text, graph)?;
-    put_registers_text(text, graph)?;
-    put_guard(text, graph.guard)?;
-    put_sets(text, graph.sets.as_slice())?;
-    Ok(())
-}
-
 /// The name of a slot of the table `ev6`, and nothing for one that isn't there.
+#[tactic(auto, unfolding(machine_table::specs::Tables::ev6))]
 fn slot_name(slot: u32) -> &'static [u8]
     ensures { result.now ≡ texts.slot_name ev6 slot }
 {

@@ -4,7 +4,7 @@ ghost use Rattle.denali_run.specs.Lexemes.{lexeme};
 ghost use Rattle.denali_run.specs.Reading.{opening_at, closing_at, name_at, keyword_at, register_number, register_of, reg_at, input_at, pool_at, application_at, set_at, written_at, is_empty};
 ghost use Rattle.denali_run.specs.Views.{input_view, application_view, written_view};
 
-use crate::forms::{ApplicationForm, InputForm, WrittenForm};
+use crate::goal_forms::{ApplicationForm, InputForm, WrittenForm};
 use crate::lexemes::Lexeme;
 
 fn opening<'a>(lexemes: &'a [Lexeme<'a>]) -> Option<&'a [Lexeme<'a>]>

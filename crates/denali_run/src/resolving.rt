@@ -7,7 +7,7 @@ ghost use Rattle.denali_run.specs.Forms.{written_of};
 ghost use Rattle.denali_run.specs.Views.{goal_view, written_view};
 ghost use Rattle.denali_run.specs.Resolving.{IsPlaceOf, AreApart, AreLow, AreNamed};
 
-use crate::forms::{GoalForm, InputPlace, WrittenForm};
+use crate::goal_forms::{GoalForm, InputPlace, WrittenForm};
 use word_ops::{WordOp, op_of};
 
 /// The operator of this name that goals may have so far.

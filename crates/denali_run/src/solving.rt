@@ -9,7 +9,7 @@ ghost use Rattle.denali_run.specs.declared.solving.TextError.TheVariants.{Memory
 
 use crate::answering::print;
 use crate::building::found_of;
-use crate::forms::GoalForm;
+use crate::goal_forms::GoalForm;
 use crate::lexemes::{Lexeme, lexemes};
 use crate::reading::written;
 use crate::resolving::resolve;

@@ -4,14 +4,14 @@ ghost use Rattle.alpha_encode.specs.Formats.{encoded};
 ghost use Rattle.denali_run.specs.Fits.{Fits};
 ghost use Rattle.denali_run.specs.Broken.{IsFirstBroken};
 ghost use Rattle.denali_run.specs.Worked.{sum_graph, two_slots, sum_in_three, sum_in_two, sum_twice, copy_graph, copy_graph_with, free_copy_graph, at_slot, copy_at, copy_with, copy_without_branch, copy_without_store, copy_without_sum, copy_of_no_row, copy_stored_above};
-ghost use Rattle.denali_run.specs.Tables.{IsTable, ev6};
+ghost use Rattle.machine_table.specs.Tables.{IsTable, ev6};
 ghost use Rattle.denali_run.specs.Listings.{items_of, wheres_of};
 
 /// `(set x (xor (addq a b) a))` on two slots in two clusters: it fits in 3 cycles; in 2 the second launch comes before its
 /// operand is seen in its cluster; and a launch that is given twice collides with itself. Then a loop that copies words,
 /// and for each rule a list of its launches that breaks that rule first.
 pub fn worked_schedules()
-    ensures tables { IsTable ev6 × IsTable two_slots }
+    ensures table { IsTable two_slots }
 
     ensures fits { Fits sum_graph two_slots 3 sum_in_three }
     ensures operand_too_early { IsFirstBroken sum_graph two_slots 2 sum_in_two 1 3 }

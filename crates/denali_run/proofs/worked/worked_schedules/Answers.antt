@@ -1,12 +1,14 @@
 -- Each is decided by computing.
 use Rattle.std.proofs.Common.{refl}
 use Rattle.denali_run.proofs.Fitting.{sum_fits, too_early, given_twice, copy_fits, free_copy_fits, operand_of_the_store_too_early, load_before_branch, store_in_another_slot, row_past_the_branch, store_too_late, target_not_reached, memory_not_reached, load_after_the_store, two_stores_at_once, no_branch, two_branches, store_before_the_branch, pool_too_small}
-use Rattle.denali_run.proofs.WellFormedTables.{ev6_is_table, two_slots_is_table}
+use Rattle.machine_table.specs.Tables.{ev6}
+use Rattle.denali_run.proofs.TwoSlots.{two_slots_is_table}
 use Rattle.denali_run.proofs.worked.worked_schedules.Goals as goal
 
 pub returns : goal.returns
+unfolding ev6
 returns c = record {
-  tables = (ev6_is_table, two_slots_is_table);
+  table = two_slots_is_table;
   fits = sum_fits;
   operand_too_early = too_early;
   given_twice = given_twice;
