@@ -8,3 +8,12 @@ pub mod Variables
 pub mod Truth
 pub mod Rules
 pub mod Sides
+pub mod ConstantValues
+pub mod Displacements
+pub mod ByteMasks
+pub mod Addresses
+pub mod ComputedTruth
+pub mod ComputedSides
+pub mod Folds
+pub mod AllSchemes
+pub mod Giving

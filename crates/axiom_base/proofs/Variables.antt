@@ -11,7 +11,7 @@ use Rattle.axiom_base.specs.Rewrites.{Rewrite, AreValuesFor}
 abbrev pub value_at_number : List Value → ℕ → Value
 value_at_number values n = get_or values n (word 0)
 
-has_its_sort : (r : Rewrite) (values : List Value) → AreValuesFor r values → (n : ℕ) → n < length r.variables → IsValue (sort_at r.variables n) (value_at_number values n)
+pub has_its_sort : (r : Rewrite) (values : List Value) → AreValuesFor r values → (n : ℕ) → n < length r.variables → IsValue (sort_at r.variables n) (value_at_number values n)
 has_its_sort r values fits n l = fits.sorts n (omega (arith, fits.count))
 
 of_sort : (s : Sort) (v : Value) → s ≡ sorts.Word → IsValue s v → IsValue sorts.Word v
@@ -26,10 +26,10 @@ value_in_range (word n) h = h
 value_in_range (memory m) h = absurd h
 
 -- the value of a variable of words
-is_word : (r : Rewrite) (values : List Value) → AreValuesFor r values → (n : ℕ) → n < length r.variables → sort_at r.variables n ≡ sorts.Word → word (as_word (value_at_number values n)) ≡ value_at_number values n
+pub is_word : (r : Rewrite) (values : List Value) → AreValuesFor r values → (n : ℕ) → n < length r.variables → sort_at r.variables n ≡ sorts.Word → word (as_word (value_at_number values n)) ≡ value_at_number values n
 is_word r values fits n l e = value_is_word _ (of_sort _ _ e (has_its_sort r values fits n l))
 
-in_range : (r : Rewrite) (values : List Value) → AreValuesFor r values → (n : ℕ) → n < length r.variables → sort_at r.variables n ≡ sorts.Word → IsWord (as_word (value_at_number values n))
+pub in_range : (r : Rewrite) (values : List Value) → AreValuesFor r values → (n : ℕ) → n < length r.variables → sort_at r.variables n ≡ sorts.Word → IsWord (as_word (value_at_number values n))
 in_range r values fits n l e = value_in_range _ (of_sort _ _ e (has_its_sort r values fits n l))
 
 -- of the one variable, a word

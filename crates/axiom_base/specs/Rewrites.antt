@@ -1,8 +1,9 @@
 -- A rewrite rule, and when it is true: both of its sides have one value, for all values of its variables. From Denali
 -- (PLDI 2002), its axioms.
-use Rattle.std.specs.Prelude.{◌≡◌, ℕ, ◌<◌, List, [], length, slice_index_or, Contains}
+use Rattle.std.specs.Prelude.{◌≡◌, ℕ, ◌<◌, ◌⊎◌, List, [], length, slice_index_or, Contains}
 use Rattle.word_ops.specs.declared.sorts.Op.{Op}
 use Rattle.word_ops.specs.declared.sorts.Sort.{Sort}
+use Rattle.word_ops.specs.declared.sorts.Sort.TheVariants as sorts
 use Rattle.word_ops.specs.Worlds.{Value, word, World, IsValue}
 use Rattle.word_ops.specs.Meanings.{meaning}
 use Rattle.word_terms.specs.Keys.{op_signature}
@@ -47,3 +48,18 @@ pub record IsRule (r : Rewrite) : Type 0 where
       (sort : Sort) × HasSort op_signature r.variables sort r.left × HasSort op_signature r.variables sort r.right
   pub all : (n : ℕ) → n < length r.variables → Occurs n r.left
   pub free : r.constants ≡ []
+
+-- what holds of each rule, also of those with constants: both sides are well formed and of one sort; the left side has
+-- all variables, which are numbered from 0 without a gap; constants stand for variables; and where the left side is
+-- itself a variable, each variable is a word that stands for a constant
+pub record IsUsable (r : Rewrite) : Type 0 where
+  pub sort : Sort
+  pub left : HasSort op_signature r.variables sort r.left
+  pub right : HasSort op_signature r.variables sort r.right
+  pub all : (n : ℕ) → n < length r.variables → Occurs n r.left
+  pub constants : (n c : ℕ) → Contains r.constants (n, c) → n < length r.variables
+  pub grounded :
+      IsApplication r.left
+      ⊎ ((n : ℕ) →
+      n < length r.variables →
+      (c : ℕ) × Contains r.constants (n, c) × (sort_at r.variables n ≡ sorts.Word))

@@ -1,5 +1,8 @@
 // Each equation at words and memories: both sides worked out operator by operator.
-use crate::{Rule, equations, equations_are_true};
+use crate::{
+    CALC_KINDS, Calc, Rule, calc, calc_left, calc_right, constants, equations, equations_are_true,
+    first_constant,
+};
 use items::NoMemory;
 use std::alloc::Global;
 use std::test::Fail;
@@ -272,5 +275,115 @@ fn sorts_are_found_below_the_first_operands(rt: HostRuntime) -> Result<(), Fail>
     // The word 2 is a memory too, and a variable is left out.
     assert!(rt; Rule::new(alloc, read_at_a_sum(alloc, 2)?, Term::Var(0))?.is_none());
     assert!(rt; Rule::new(alloc, read_at_a_sum(alloc, 4)?, Term::Var(0))?.is_none());
+    Ok(())
+}
+
+// The constants of a computed rule, and what they give.
+const GIVEN: [(Calc, &'static [u64], Option<u64>); 44] = [
+    (Calc::C1, &[0], None),
+    (Calc::C1, &[32767], Some(32767)),
+    (Calc::C1, &[32768], None),
+    (Calc::C1, &[0xffffffffffff8000], Some(0xffffffffffff8000)),
+    (Calc::C1, &[0xffffffffffff7fff], None),
+    (Calc::C2, &[0], None),
+    (Calc::C2, &[65536], Some(1)),
+    (Calc::C2, &[65537], None),
+    (Calc::C2, &[0x7fff0000], Some(32767)),
+    (Calc::C2, &[0x80000000], None),
+    (Calc::C2, &[0xffffffff80000000], Some(0xffffffffffff8000)),
+    (Calc::C3, &[300], Some(300)),
+    (Calc::C3, &[40000], None),
+    (Calc::C4, &[131072], Some(2)),
+    (Calc::C4, &[1], None),
+    (Calc::C5, &[300], None),
+    (Calc::C5, &[65536], None),
+    (Calc::C5, &[70000], Some(65536)),
+    (Calc::C5, &[98304], Some(131072)),
+    (Calc::C5, &[0x7fff7fff], Some(0x7fff0000)),
+    (Calc::C5, &[0x7fff8000], None),
+    (Calc::C5, &[0xffffffffffff63c0], Some(0xffffffffffff0000)),
+    (Calc::C6, &[1], None),
+    (Calc::C6, &[2], Some(1)),
+    (Calc::C6, &[0x8000000000000000], Some(63)),
+    (Calc::C7, &[1], None),
+    (Calc::C7, &[3], Some(2)),
+    (Calc::C7, &[0xffffffffffffffff], None),
+    (Calc::C8, &[0], None),
+    (Calc::C8, &[2], None),
+    (Calc::C8, &[3], Some(1)),
+    (Calc::C8, &[0x8000000000000001], Some(63)),
+    (Calc::C9, &[0], Some(0)),
+    (Calc::C9, &[65535], Some(3)),
+    (Calc::C9, &[0xff00000000000000], Some(128)),
+    (Calc::C9, &[254], None),
+    (Calc::C10, &[7], None),
+    (Calc::C10, &[0xfffffffffffffff8], Some(0xfffffffffffffff8)),
+    (Calc::C10, &[0xfffffffffffffff9], None),
+    (Calc::C11, &[8], Some(8)),
+    (Calc::C11, &[4], None),
+    (Calc::C12, &[8, 4], None),
+    (Calc::C12, &[8, 16], Some(16)),
+    (Calc::C12, &[16, 8], Some(8)),
+];
+
+fn given_by(kind: Calc, words: &[u64]) -> Option<u64> {
+    if words.len() == constants(kind) {
+        calc(kind, words)
+    } else {
+        None
+    }
+}
+
+// Values for the variables of a computed rule, the last of which are its constants.
+fn values_with(
+    alloc: Global,
+    kind: Calc,
+    words: &[u64],
+    world: u64,
+) -> Result<Vec<Value>, NoMemory> {
+    let sorts = match first_constant(kind) {
+        0 => [].as_slice(),
+        1 => [Sort::Word].as_slice(),
+        _ => [Sort::Memory, Sort::Word, Sort::Word].as_slice(),
+    };
+    let mut values = values_of_world(alloc, sorts, world)?;
+    for word in words {
+        values.push(Value::Word(*word))?;
+    }
+    Ok(values)
+}
+
+// In how many of 20 worlds both sides of the computed rule have one value.
+fn worlds_that_agree_on(alloc: Global, kind: Calc, words: &[u64], e: u64) -> Result<u32, NoMemory> {
+    let (left, right) = (calc_left(alloc, kind)?, calc_right(alloc, kind, e)?);
+    let mut agree = 0u32;
+    for world in 0..20u64 {
+        let values = values_with(alloc, kind, words, world)?;
+        let one = worked_out(alloc, &left, &values)?;
+        let other = worked_out(alloc, &right, &values)?;
+        if equal(&one, &other)? {
+            agree = agree.wrapping_add(1);
+        }
+    }
+    Ok(agree)
+}
+
+#[test]
+fn constants_give_a_constant_or_none(rt: HostRuntime) -> Result<(), Fail> {
+    for (kind, words, wanted) in &GIVEN {
+        assert_eq!(rt; given_by(*kind, words), *wanted, "{kind:?} {words:?}");
+    }
+    Ok(())
+}
+
+#[test]
+fn computed_rules_have_one_value(rt: HostRuntime) -> Result<(), Fail> {
+    assert_eq!(rt; CALC_KINDS.len(), 12);
+    for (kind, words, wanted) in &GIVEN {
+        if let Some(e) = *wanted {
+            let agree = worlds_that_agree_on(rt.alloc(), *kind, words, e)?;
+            assert_eq!(rt; agree, 20, "{kind:?} {words:?}");
+        }
+    }
     Ok(())
 }

@@ -1,0 +1,60 @@
+// Laws of the computed rules, of folding and of all schemes, as contracts of functions that do nothing.
+ghost use Rattle.std.specs.Prelude.{◌≡◌, ◌↔◌, ℕ, ◌+◌, ◌<◌, List, length, slice_index, All, Contains};
+ghost use Rattle.word_ops.specs.Words.{IsWord};
+ghost use Rattle.word_ops.specs.Operators.{arity_of};
+ghost use Rattle.word_ops.specs.Worlds.{World};
+ghost use Rattle.word_ops.specs.declared.operators.WordOp.{WordOp as Operator};
+ghost use Rattle.axiom_base.specs.Rewrites.{Rewrite, IsRule, IsTrueIn, IsUsable};
+ghost use Rattle.axiom_base.specs.Conditions.{IsCalc, constants_of};
+ghost use Rattle.axiom_base.specs.Computed.{calc_rewrite, calc_variables, first_constant, constants_from, fold_rewrite};
+ghost use Rattle.axiom_base.specs.Schemes.{Scheme, IsOf, IsRuleOf, calc_kinds, operators_in, weight};
+ghost use Rattle.axiom_base.specs.declared.kinds.Calc.{Calc as Kind};
+
+use crate::table::equations_are_true;
+use word_ops::{meanings_are_in_range, memories_hold_words, words_have_bits};
+
+/// Does nothing. Its clauses are laws of the computed rules: each is true in every world at the constants that meet its
+/// condition, and these give one constant; its sides are well formed at all constants, over variables that its left side
+/// has, of which the last are the constants'; and each kind is listed.
+pub fn computed_rules_are_true()
+    ensures true_rules { (world : World) (names : ℕ → List ℕ) (kind : Kind) (cs : List ℕ) (e : ℕ) →
+        IsCalc kind cs e → IsTrueIn world names (calc_rewrite kind cs e) }
+    ensures usable { (kind : Kind) (cs : List ℕ) (e : ℕ) → length cs ≡ constants_of kind → IsWord e →
+        IsUsable (calc_rewrite kind cs e) }
+    ensures last { (kind : Kind) → length (calc_variables kind) ≡ first_constant kind + constants_of kind }
+    ensures one { (kind : Kind) (cs : List ℕ) (e other : ℕ) → IsCalc kind cs e → IsCalc kind cs other → e ≡ other }
+    ensures listed { (kind : Kind) → Contains calc_kinds kind }
+{
+    memories_hold_words();
+    words_have_bits();
+}
+
+/// Does nothing. Its clause is a law of computed rules and folds: which variables stand for constants.
+pub fn constants_are_numbered()
+    ensures numbers { (k : ℕ) (cs : List ℕ) (n c : ℕ) → Contains (constants_from k cs) (n, c)
+        ↔ ((i : ℕ) × (i < length cs) × (n ≡ k + i) × (c ≡ slice_index cs i)) }
+{}
+
+/// Does nothing. Its clauses are laws of folding: an operator of constants is the constant that it gives, in every world.
+pub fn folds_are_true()
+    ensures true_rules { (world : World) (names : ℕ → List ℕ) (op : Operator) (cs : List ℕ) →
+        length cs ≡ arity_of op → IsTrueIn world names (fold_rewrite op cs) }
+    ensures usable { (op : Operator) (cs : List ℕ) → All IsWord cs → length cs ≡ arity_of op →
+        IsUsable (fold_rewrite op cs) }
+{
+    meanings_are_in_range();
+}
+
+/// Does nothing. Its clauses are laws of all rules of a saturation: each is true in a world where the program's axioms
+/// are, both of its sides are well formed, and the right sides of a scheme's rules have as many operators.
+pub fn schemes_are_true()
+    ensures true_rules { (world : World) (names : ℕ → List ℕ) (axioms : List Rewrite) (r : Rewrite) →
+        All (IsTrueIn world names) axioms → IsRuleOf axioms r → IsTrueIn world names r }
+    ensures usable { (axioms : List Rewrite) (r : Rewrite) → All IsRule axioms → IsRuleOf axioms r → IsUsable r }
+    ensures rules { (r : Rewrite) → IsRule r → IsUsable r }
+    ensures weights { (scheme : Scheme) (r : Rewrite) → IsOf scheme r → operators_in r.right ≡ weight scheme }
+{
+    equations_are_true();
+    computed_rules_are_true();
+    folds_are_true();
+}
