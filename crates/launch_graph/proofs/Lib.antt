@@ -4,3 +4,16 @@ pub mod Values
 pub mod Registers
 pub mod Printed
 pub mod LineWords
+pub mod Stages
+pub mod GraphRuns
+pub mod OneRow
+pub mod Between
+pub mod Blocks
+pub mod NoFaults
+pub mod FirstFaults
+pub mod GoodGraphs
+pub mod GoodRows
+pub mod ClassLines
+pub mod WholeGraphs
+pub mod OneGraph
+pub mod OneFault

@@ -1,10 +1,10 @@
 -- Each line of a well-formed graph is words of a line.
-use Rattle.std.proofs.Common.{◌≡◌, ◌≢◌, ℕ, zero, suc, ◌+◌, ◌<◌, ◌≤◌, ◌^◌, List, [], ◌∷◌, ◌++◌, length, map, get_or, refl, sym, ap, subst, ◌∙◌, arith, codes, decimal, inl, inr, ◌⊎◌, Option, Some, None, true, false, Bool, cond}
-use Rattle.std.specs.Prelude.{All, Contains, IfSome, IsTrue, is_some, slice_get}
-use Rattle.std.proofs.lemmas.List.Elements.{All-nil, All-cons, All-append, All-map, All-weaker, Contains-get_or}
+use Rattle.std.proofs.Common.{◌≡◌, ℕ, zero, suc, ◌<◌, ◌≤◌, ◌^◌, List, [], ◌∷◌, ◌++◌, length, map, get_or, refl, subst, arith, codes, decimal, Option, Some, None, true, false, Bool}
+use Rattle.std.specs.Prelude.{All, IfSome, IsTrue, is_some, slice_get}
+use Rattle.std.proofs.lemmas.List.Elements.{All-nil, All-cons, All-append, All-map, All-weaker}
 use Rattle.std.proofs.lemmas.Option.{slice_get-get_or}
 use Rattle.word_ops.specs.Names.{name_of}
-use Rattle.word_ops.specs.Meanings.{sort_of, constant_in}
+use Rattle.word_ops.specs.Meanings.{constant_in}
 use Rattle.word_ops.specs.declared.operators.WordOp.{WordOp}
 use Rattle.word_ops.specs.declared.operators.WordOp.TheVariants as words
 use Rattle.word_ops.specs.declared.sorts.Op.{Op}
@@ -20,8 +20,6 @@ use Rattle.launch_graph.specs.declared.graphs.Guard.{Guard}
 use Rattle.launch_graph.specs.declared.graphs.SetClass.{SetClass}
 use Rattle.launch_graph.specs.declared.graphs.LaunchGraph.{LaunchGraph}
 use Rattle.launch_graph.specs.declared.row_lines.RowLine.{RowLine}
-use Rattle.launch_graph.specs.declared.row_lines.LineOp.{LineOp}
-use Rattle.launch_graph.specs.declared.row_lines.LineOp.TheVariants.{Plain, Use, Unknown}
 use Rattle.launch_graph.specs.GraphLines.{graph_lines, said, said_row, said_op, AreGraphLines, rows_words, entry_words, in_words, pool_words, guard_words, guard_lines, held_word, set_words}
 use Rattle.launch_graph.specs.RowLines.{row_words, line_op_words, IsRowLine, IsLineOp}
 use Rattle.launch_graph.specs.WellFormed.{IsLaunchGraph, ClassHasSort, TakesItsSorts, declared_index, input_in, set_sort}

@@ -1,5 +1,11 @@
+pub mod CleanLines
 pub mod GraphLines
+pub mod GraphStages
+pub mod GraphTexts
 pub mod Graphs
+pub mod LineFaults
+pub mod LineFormats
 pub mod LineParts
+pub mod RowFaults
 pub mod RowLines
 pub mod WellFormed

@@ -5,7 +5,11 @@ ghost use Rattle.word_ops.specs.Words.{IsWord};
 ghost use Rattle.word_ops.specs.Worlds.{Value, World, IsValue, word, memory};
 ghost use Rattle.word_ops.specs.declared.sorts.Sort.{Sort as SortOf};
 ghost use Rattle.word_ops.specs.declared.sorts.Sort.TheVariants as sorts;
-ghost use Rattle.text_core.specs.Lines.{AreLines};
+ghost use Rattle.text_core.specs.Lines.{AreLines, Line};
+ghost use Rattle.text_core.specs.declared.faults.Kind.{Kind};
+ghost use Rattle.launch_graph.specs.GraphTexts.{IsGraphAt, EndsGraph};
+ghost use Rattle.launch_graph.specs.LineFaults.{IsFirstGraphFault};
+ghost use Rattle.launch_graph.specs.LineFormats.{words_between, words_from};
 ghost use Rattle.text_core.specs.LineTexts.{CanBeLine, lines_text, placed_lines};
 ghost use Rattle.launch_graph.specs.GraphLines.{AreGraphLines, graph_lines, said};
 ghost use Rattle.launch_graph.specs.Graphs.{IsProper, IsTrueUnder, constant_of, input_register, memory_target};
@@ -15,6 +19,7 @@ ghost use Rattle.launch_graph.specs.declared.graphs.InputClass.{InputClass as In
 ghost use Rattle.launch_graph.specs.declared.graphs.LaunchGraph.{LaunchGraph as Graph};
 
 use text_core::printed_lines_are_lines;
+use word_ops::operators_are_listed;
 
 /// In a well-formed graph each class has one sort and at most one constant, its number is below the number of rows, and
 /// a class with a constant or an input is a word.
@@ -68,4 +73,21 @@ pub fn printed_graphs_are_lines()
         → AreLines place (placed_lines place (graph_lines (said g))) (lines_text (graph_lines (said g))) }
 {
     printed_lines_are_lines();
+}
+
+/// Lines have one graph at most from a line on, and then no fault. The first fault is one. The lines that a well-formed
+/// graph prints have it, wherever they stand and whatever stands behind them that no graph goes on with.
+pub fn one_graph()
+    ensures graph { (lines : List Line) (from next other : ℕ) (g h : Graph)
+        → IsGraphAt lines from next g → IsGraphAt lines from other h → (next ≡ other) × (g ≡ h) }
+    ensures apart { (lines : List Line) (from next place : ℕ) (g : Graph) (kind : Kind)
+        → IsGraphAt lines from next g → IsFirstGraphFault lines from place kind → ⊥ }
+    ensures first { (lines : List Line) (from place other : ℕ) (kind another : Kind)
+        → IsFirstGraphFault lines from place kind → IsFirstGraphFault lines from other another
+        → (place ≡ other) × (kind ≡ another) }
+    ensures printed { (lines : List Line) (from next : ℕ) (g : Graph) → IsLaunchGraph g → length g.rows ≤ 1000000
+        → from ≤ next → next ≤ length lines → words_between lines from next ≡ graph_lines (said g)
+        → EndsGraph (words_from lines next) → IsGraphAt lines from next g }
+{
+    operators_are_listed();
 }

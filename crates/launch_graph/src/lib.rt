@@ -12,7 +12,8 @@ mod row_lines;
 
 pub use graphs::{Guard, InputClass, LaunchGraph, LaunchRow, SetClass};
 pub use laws::{
-    classes_have_values, graphs_are_consistent, printed_graphs_are_lines, registers_are_apart,
+    classes_have_values, graphs_are_consistent, one_graph, printed_graphs_are_lines,
+    registers_are_apart,
 };
 pub use printing::{print, put_graph};
 pub use row_lines::{LineOp, RowLine};

@@ -1,0 +1,24 @@
+use Rattle.launch_graph.specs.GraphTexts.{BeginsWithGraph, IsGraphText}
+use Rattle.launch_graph.proofs.LineWords.{are_graph_lines}
+use Rattle.launch_graph.proofs.OneFault.{once}
+use Rattle.launch_graph.proofs.OneGraph.{graph_once}
+use Rattle.launch_graph.proofs.WholeGraphs.{no_fault_whole}
+use Rattle.launch_graph.proofs.laws.one_graph.Goals as goal
+
+pub returns : goal.returns
+returns c =
+    let names = c.operators_are_listed.ensures.names in
+    record {
+      graph = λ lines from next other g h p q. graph_once names lines from next other g h p q;
+      apart = λ lines from next place g kind p f. no_fault_whole lines from next g p names f.at kind f.found;
+      first = λ lines from place other kind another. once BeginsWithGraph IsGraphText lines from place other kind another;
+      printed = λ lines from next g is few order within same ends.
+          record {
+            order = order;
+            within = within;
+            well_formed = is;
+            are = are_graph_lines g is few;
+            is = same;
+            ends = ends;
+          };
+    }
