@@ -1,0 +1,12 @@
+pub mod Comparisons
+pub mod Counted
+pub mod Decide
+pub mod Deciding
+pub mod WorkedFits
+pub mod LatestStores
+pub mod Loops
+pub mod Memory
+pub mod Ordered
+pub mod Places
+pub mod Rules
+pub mod TwoSlots

@@ -1,0 +1,5 @@
+pub mod Launches
+pub mod Fits
+pub mod Readers
+pub mod Broken
+pub mod Worked

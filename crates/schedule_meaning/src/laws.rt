@@ -1,0 +1,50 @@
+// What the definitions say of all schedules. The calls do nothing: their clauses are laws.
+ghost use Rattle.std.specs.Prelude.{◌≡◌, ◌*◌, ◌<◌, ◌≤◌, ◌⊎◌, ℕ, List, All, IsPermutation, length};
+ghost use Rattle.launch_graph.specs.Graphs.{memory_target};
+ghost use Rattle.launch_graph.specs.declared.graphs.LaunchGraph.{LaunchGraph as Graph};
+ghost use Rattle.machine_table.specs.Tables.{IsTable};
+ghost use Rattle.machine_table.specs.declared.tables.Table.{Table as TableOf};
+ghost use Rattle.schedule_meaning.specs.Broken.{IsFirstBroken};
+ghost use Rattle.schedule_meaning.specs.Fits.{Fits, HasSingleStores, IsLeft};
+ghost use Rattle.schedule_meaning.specs.Launches.{memory_after, memory_before, ready_in};
+ghost use Rattle.schedule_meaning.specs.declared.schedules.Launch.{Launch as LaunchOf};
+
+/// A schedule fits, or some rule is the least that it breaks and some launch the first that breaks it; never both, and
+/// no two rules or launches. What fits in k cycles fits in more.
+pub fn schedules_fit_or_break()
+    ensures either { (g : Graph) (table : TableOf) (k : ℕ) (ls : List LaunchOf)
+        → Fits g table k ls ⊎ ((i : ℕ) × (r : ℕ) × IsFirstBroken g table k ls i r) }
+    ensures apart { (g : Graph) (table : TableOf) (k : ℕ) (ls : List LaunchOf) (i r : ℕ)
+        → Fits g table k ls → IsFirstBroken g table k ls i r → ⊥ }
+    ensures once { (g : Graph) (table : TableOf) (k : ℕ) (ls : List LaunchOf) (i j r s : ℕ)
+        → IsFirstBroken g table k ls i r → IsFirstBroken g table k ls j s → (i ≡ j) × (r ≡ s) }
+    ensures longer { (g : Graph) (table : TableOf) (k m : ℕ) (ls : List LaunchOf)
+        → k ≤ m → Fits g table k ls → Fits g table m ls }
+{}
+
+/// What fits, fits in any order of its launches.
+pub fn fits_in_any_order()
+    ensures { (g : Graph) (table : TableOf) (k : ℕ) (ls ms : List LaunchOf)
+        → IsPermutation ls ms → Fits g table k ls → Fits g table k ms }
+{}
+
+/// A schedule that fits has launches in cycles below k and in eight slots at most, so at most eight for each cycle; and
+/// what one launches is seen in later cycles alone.
+pub fn fitting_schedules_are_small()
+    ensures few { (g : Graph) (table : TableOf) (k : ℕ) (ls : List LaunchOf)
+        → IsTable table → Fits g table k ls → length ls ≤ 8 * k }
+    ensures places { (g : Graph) (table : TableOf) (k : ℕ) (ls : List LaunchOf)
+        → IsTable table → Fits g table k ls → All (λ l. (l.cycle < k) × (l.slot < 8)) ls }
+    ensures later { (g : Graph) (table : TableOf) (k cluster : ℕ) (ls : List LaunchOf)
+        → IsTable table → Fits g table k ls → All (λ l. l.cycle < ready_in g table cluster l) ls }
+{}
+
+/// The class that the stores of earlier cycles leave is the one that `memory_before` computes, and where no cycle has
+/// two stores there is no other. After all launches it is the one of `memory_after`.
+pub fn memories_are_left()
+    ensures left { (g : Graph) (ls : List LaunchOf) (t : ℕ) → IsLeft g ls t (memory_before g ls t) }
+    ensures once { (g : Graph) (ls : List LaunchOf) (t a b : ℕ)
+        → HasSingleStores g ls → IsLeft g ls t a → IsLeft g ls t b → a ≡ b }
+    ensures after { (g : Graph) (ls : List LaunchOf) (t : ℕ)
+        → All (λ l. l.cycle < t) ls → memory_after g ls ≡ memory_before g ls t }
+{}

@@ -1,0 +1,127 @@
+// Whether launches read the memory that earlier stores leave.
+ghost use Rattle.std.specs.Prelude.{◌≡◌, ◌↔◌, ◌≤◌, ◌<◌, IsTrue, length, Some};
+ghost use Rattle.launch_graph.specs.Graphs as graphs;
+ghost use Rattle.schedule_meaning.specs.Launches as launches;
+ghost use Rattle.schedule_meaning.specs.Fits as rules;
+ghost use Rattle.schedule_meaning.specs.Readers.{is_store_below, later_of};
+ghost use Rattle.schedule_meaning.specs.Broken.{NoEarlier, KeepsMemoryAt};
+
+use crate::lookups::{class_at, is_load, is_store, memory_class_at};
+use crate::schedules::Launch;
+use launch_graph::LaunchGraph;
+
+fn is_store_below(graph: &LaunchGraph, cycle: Option<u32>, launch: Launch) -> bool
+    ensures { result ≡ is_store_below graph.now cycle launch }
+{
+    match cycle {
+        Some(cycle) => is_store(graph, launch) && launch.cycle < cycle,
+        None => is_store(graph, launch),
+    }
+}
+
+fn later_of(best: Option<Launch>, launch: Launch) -> Option<Launch>
+    ensures { result ≡ later_of best launch }
+{
+    match best {
+        Some(found) => {
+            if found.cycle < launch.cycle {
+                Some(launch)
+            } else {
+                Some(found)
+            }
+        }
+        None => Some(launch),
+    }
+}
+
+#[tactic(auto, using(crate::proofs::LatestStores::latest_more_yes, crate::proofs::LatestStores::latest_more_no))]
+fn latest_store(graph: &LaunchGraph, list: &[Launch], cycle: Option<u32>) -> Option<Launch>
+    ensures { result ≡ launches.latest (is_store_below graph.now cycle) list.now }
+{
+    let mut best = None;
+    for launch in list {
+        if is_store_below(graph, cycle, *launch) {
+            best = later_of(best, *launch);
+        }
+    }
+    best
+}
+
+fn memory_before(graph: &LaunchGraph, list: &[Launch], cycle: u32) -> u32
+    ensures { result ≡ launches.memory_before graph.now list.now cycle }
+{
+    match latest_store(graph, list, Some(cycle)) {
+        Some(store) => class_at(graph, store.row),
+        None => graph.entry,
+    }
+}
+
+fn memory_after(graph: &LaunchGraph, list: &[Launch]) -> u32
+    ensures { result ≡ launches.memory_after graph.now list.now }
+{
+    match latest_store(graph, list, None) {
+        Some(store) => class_at(graph, store.row),
+        None => graph.entry,
+    }
+}
+
+fn uses_memory(graph: &LaunchGraph, launch: Launch) -> bool
+    ensures { IsTrue result ↔ rules.UsesMemory graph.now launch }
+{
+    is_load(graph, launch) || is_store(graph, launch)
+}
+
+fn reads_memory(graph: &LaunchGraph, list: &[Launch], launch: Launch) -> bool
+    ensures { IsTrue result ↔ (rules.UsesMemory graph.now launch
+        → launches.memory_class_at graph.now launch.row ≡ launches.memory_before graph.now list.now launch.cycle) }
+{
+    !uses_memory(graph, launch)
+        || memory_class_at(graph, launch.row) == memory_before(graph, list, launch.cycle)
+}
+
+fn is_store_at(graph: &LaunchGraph, launch: Launch, cycle: u32) -> bool
+    ensures { IsTrue result ↔ (IsTrue (launches.launches graph.now launches.is_store launch) × (launch.cycle ≡ cycle)) }
+{
+    is_store(graph, launch) && launch.cycle == cycle
+}
+
+fn no_store_before(graph: &LaunchGraph, list: &[Launch], at: usize, cycle: u32) -> bool
+    requires { at ≤ length list.now }
+    ensures { IsTrue result
+        ↔ NoEarlier list.now at (λ m. IsTrue (launches.launches graph.now launches.is_store m) × (m.cycle ≡ cycle)) }
+{
+    for before in 0..at {
+        if is_store_at(graph, list[before], cycle) {
+            return false;
+        }
+    }
+    true
+}
+
+pub(crate) fn keeps_memory(graph: &LaunchGraph, list: &[Launch], at: usize, launch: Launch) -> bool
+    requires { at ≤ length list.now }
+    ensures { IsTrue result ↔ KeepsMemoryAt graph.now list.now at launch }
+{
+    if !reads_memory(graph, list, launch) {
+        return false;
+    }
+    !is_store(graph, launch) || no_store_before(graph, list, at, launch.cycle)
+}
+
+/// The class of the first set of the memory, or of the memory at entry.
+fn memory_target(graph: &LaunchGraph) -> u32
+    ensures { result ≡ graphs.memory_target graph.now }
+{
+    for set in graph.sets.as_slice() {
+        if set.is_memory() {
+            return set.class;
+        }
+    }
+    graph.entry
+}
+
+pub(crate) fn memory_is_left(graph: &LaunchGraph, list: &[Launch]) -> bool
+    ensures { IsTrue result ↔ (launches.memory_after graph.now list.now ≡ graphs.memory_target graph.now) }
+{
+    memory_after(graph, list) == memory_target(graph)
+}

@@ -1,0 +1,118 @@
+// What the rules on slots, cycles, branches and the pool ask of a launch, tested.
+ghost use Rattle.std.specs.Prelude.{◌≡◌, ◌↔◌, ◌⊎◌, ◌≤◌, ◌<◌, IsTrue, All, length, Some, count_by};
+ghost use Rattle.schedule_meaning.specs.Launches as launches;
+ghost use Rattle.schedule_meaning.specs.Fits as rules;
+ghost use Rattle.schedule_meaning.specs.Broken.{NoEarlier};
+
+use crate::lookups::{instr_at, is_branch, is_held, is_load, is_store};
+use crate::readers::words_before;
+use crate::schedules::Launch;
+use launch_graph::LaunchGraph;
+use machine_table::{InstrKind, Table};
+
+pub(crate) fn can_launch(graph: &LaunchGraph, table: &Table, launch: Launch) -> bool
+    ensures { IsTrue result ↔ rules.CanLaunch graph.now table.now launch }
+{
+    match instr_at(graph, launch.row) {
+        Some(instr) => table.may_use(instr, launch.slot),
+        None => false,
+    }
+}
+
+fn collide(left: Launch, right: Launch) -> bool
+    ensures { IsTrue result ↔ rules.Collide left right }
+{
+    left.cycle == right.cycle && left.slot == right.slot
+}
+
+/// No launch before the place has the launch's slot and cycle.
+pub(crate) fn is_alone(launches: &[Launch], at: usize, launch: Launch) -> bool
+    requires { at ≤ length launches.now }
+    ensures { IsTrue result ↔ NoEarlier launches.now at (rules.Collide launch) }
+{
+    for before in 0..at {
+        if collide(launch, launches[before]) {
+            return false;
+        }
+    }
+    true
+}
+
+pub(crate) fn ends_by(graph: &LaunchGraph, table: &Table, k: u32, launch: Launch) -> bool
+    ensures { IsTrue result ↔ rules.EndsBy graph.now table.now k launch }
+{
+    let instr = match instr_at(graph, launch.row) {
+        Some(instr) => instr,
+        None => InstrKind::Beq,
+    };
+    let latency = match table.latency(instr) {
+        Some(latency) => u64::from(latency),
+        None => 0,
+    };
+    u64::from(launch.cycle) + latency <= u64::from(k)
+}
+
+/// The other is no branch, or launches no later than the launch.
+fn no_later(graph: &LaunchGraph, other: Launch, launch: Launch) -> bool
+    ensures { IsTrue result
+        ↔ (IsTrue (launches.launches graph.now launches.is_branch other) → other.cycle ≤ launch.cycle) }
+{
+    !is_branch(graph, other) || other.cycle <= launch.cycle
+}
+
+/// No branch of the list launches after the launch.
+fn no_later_branch(graph: &LaunchGraph, list: &[Launch], launch: Launch) -> bool
+    ensures { IsTrue result
+        ↔ All (λ b. IsTrue (launches.launches graph.now launches.is_branch b) → b.cycle ≤ launch.cycle) list.now }
+{
+    for other in list {
+        if !no_later(graph, *other, launch) {
+            return false;
+        }
+    }
+    true
+}
+
+/// The launch is a store, or a load that is held.
+fn must_wait(graph: &LaunchGraph, launch: Launch) -> bool
+    ensures { IsTrue result
+        ↔ (IsTrue (launches.launches graph.now launches.is_store launch)
+        ⊎ (IsTrue (launches.launches graph.now launches.is_load launch) × IsTrue (launches.is_held graph.now))) }
+{
+    is_store(graph, launch) || (is_load(graph, launch) && is_held(graph))
+}
+
+pub(crate) fn waits(graph: &LaunchGraph, list: &[Launch], launch: Launch) -> bool
+    ensures { IsTrue result ↔ rules.Waits graph.now list.now launch }
+{
+    !must_wait(graph, launch) || no_later_branch(graph, list, launch)
+}
+
+/// How many launches of the list are branches.
+fn branches(graph: &LaunchGraph, list: &[Launch]) -> usize
+    ensures { result ≡ count_by (launches.launches graph.now launches.is_branch) list.now }
+{
+    let mut count = 0;
+    for launch in list {
+        if is_branch(graph, *launch) {
+            count += 1;
+        }
+    }
+    count
+}
+
+pub(crate) fn has_one_branch(graph: &LaunchGraph, list: &[Launch]) -> bool
+    ensures { IsTrue result ↔ rules.HasOneBranch graph.now list.now }
+{
+    match graph.guard {
+        Some(_) => branches(graph, list) == 1,
+        None => true,
+    }
+}
+
+pub(crate) fn has_room(graph: &LaunchGraph, list: &[Launch]) -> bool
+    ensures { IsTrue result
+        ↔ (count_by (launches.launches graph.now launches.gives_word) list.now ≤ length graph.now.pool) }
+{
+    words_before(graph, list, list.len()) <= graph.pool.len()
+}
