@@ -1,0 +1,156 @@
+-- Each instruction of a listing has a word.
+use Rattle.std.proofs.Common.{◌≡◌, ℕ, zero, suc, ◌-◌, ◌%◌, ◌^◌, ◌<◌, ◌≤◌, ◌&&◌, List, [], ◌∷◌, length, refl, sym, ◌∙◌, ap, subst, inl, inr, arith, Bool, true, false, pos, take, Option, Some, None}
+use Rattle.std.specs.Prelude.{All, IsSome, IsSomeAnd, slice_get, slice_index, nat_le, count_by, find, position, option_map, is_some, if◌then◌else◌, FitsSigned, unwrap_or, ◌==◌}
+use Rattle.std.specs.Option.{option_map_or, option_and_then}
+use Rattle.std.specs.Int.{cast_signed, w16}
+use Rattle.std.proofs.lemmas.Bool.{false≢true}
+use Rattle.std.proofs.lemmas.Bool.Decides.{nat_tests, leb_tells, eqb_tells}
+use Rattle.std.proofs.lemmas.Int.{ints}
+use Rattle.std.proofs.lemmas.Option.{same_Some, none-some}
+use Rattle.word_ops.specs.declared.operators.WordOp.{WordOp}
+use Rattle.word_ops.specs.declared.operators.WordOp.TheVariants as ops
+use Rattle.word_ops.specs.declared.sorts.Op.{Op}
+use Rattle.word_ops.specs.declared.sorts.Op.TheVariants as op
+use Rattle.word_ops.specs.Operators.{arity_of}
+use Rattle.word_ops.specs.Meanings.{arity_of_op}
+use Rattle.alpha_encode.specs.Codes.{code_of, is_unary}
+use Rattle.alpha_encode.specs.Formats.{IsWellFormed, IsSecond}
+use Rattle.alpha_encode.specs.declared.instructions.Second.TheVariants.{Reg, Literal}
+use Rattle.alpha_encode.specs.declared.instructions.Instr.TheVariants as instrs
+use Rattle.machine_table.specs.InstrOrder.{operate_kind}
+use Rattle.machine_table.specs.Tables.{MayUse, cluster_of}
+use Rattle.launch_graph.specs.Graphs.{constant_of}
+use Rattle.launch_graph.specs.WellFormed.{IsLaunchGraph}
+use Rattle.schedule_meaning.specs.Launches.{launches, gives_word, instr_at, op_instr, word_op_instr as launch_instr, ready_in}
+use Rattle.schedule_meaning.specs.Fits.{CanLaunch}
+use Rattle.register_assign.specs.Listings.{register_at, register_by, register_for, or_register, is_zero, literal_or, second_for, displacement_of, operate_instr, word_instr, row_instr, instr_of, branch_class, reg}
+use Rattle.launch_graph.specs.Graphs.{input_register}
+use Rattle.schedule_meaning.specs.Launches.{gives}
+use Rattle.launch_graph.specs.declared.graphs.LaunchRow.{LaunchRow}
+use Rattle.launch_graph.specs.declared.graphs.InputClass.{InputClass}
+use Rattle.launch_graph.specs.declared.graphs.LaunchGraph.{LaunchGraph}
+use Rattle.machine_table.specs.declared.tables.Table.{Table}
+use Rattle.machine_table.specs.declared.tables.InstrKind.{InstrKind}
+use Rattle.machine_table.specs.declared.tables.InstrKind.TheVariants as kinds
+use Rattle.schedule_meaning.specs.declared.schedules.Launch.{Launch}
+use Rattle.schedule_meaning.proofs.Rules.{at_each, in_list}
+use Rattle.register_assign.proofs.Reading.{found_passes}
+
+fits_16 : (c : ℕ) → FitsSigned w16 (cast_signed w16 (c % 2 ^ 16))
+fits_16 c = grind (arith, nat_tests, ints)
+
+has_code : (o : WordOp) → is_some (operate_kind o) ≡ true → IsSome (code_of o)
+has_code ops.Neg h = absurd (false≢true h)
+has_code ops.Not h = absurd (false≢true h)
+has_code ops.Selectb h = absurd (false≢true h)
+has_code ops.Storeb h = absurd (false≢true h)
+has_code ops.Lda h = absurd (false≢true h)
+has_code ops.Ldah h = absurd (false≢true h)
+has_code _ h = refl
+
+arities : (o : WordOp) → is_some (operate_kind o) ≡ true → (is_unary o ≡ true → arity_of o ≡ 1) × (is_unary o ≡ false → arity_of o ≡ 2)
+arities ops.Sextb h = ((λ e. refl), (λ e. absurd (false≢true (sym e))))
+arities ops.Sextw h = ((λ e. refl), (λ e. absurd (false≢true (sym e))))
+arities ops.Neg h = absurd (false≢true h)
+arities ops.Not h = absurd (false≢true h)
+arities ops.Selectb h = absurd (false≢true h)
+arities ops.Storeb h = absurd (false≢true h)
+arities ops.Lda h = absurd (false≢true h)
+arities ops.Ldah h = absurd (false≢true h)
+arities _ h = ((λ e. absurd (false≢true e)), (λ e. refl))
+
+index_low : (xs : List ℕ) (i : ℕ) → All (λ r. r < 31) xs → slice_index xs i < 32
+index_low [] i h = omega arith
+index_low (x ∷ xs) zero h = let l : x < 31 = h 0 0 (omega arith) in omega arith
+index_low (x ∷ xs) (suc i) h = index_low xs i (λ k d lt. h (suc k) d (omega arith))
+
+not_equal : (a b : ℕ) → a < b → (a == b) ≡ false
+not_equal a b h = elim (eqb_tells a b) [ inl t ↦ (let e : a ≡ b = t.1 in absurd (omega arith)) | inr t ↦ t.0 ]
+
+row_kind : (g : LaunchGraph) (l : Launch) (r : LaunchRow) → slice_get g.rows l.row ≡ Some r → instr_at g l.row ≡ op_instr g r.op r.operands
+row_kind g l r e =
+    ap (λ b. if b then option_map (λ _. kinds.Beq) g.guard else option_and_then (λ r. op_instr g r.op r.operands) (slice_get g.rows l.row)) (not_equal l.row (length g.rows) (in_list g.rows l.row r e))
+    ∙ ap (λ o. option_and_then (λ r. op_instr g r.op r.operands) o) e
+
+module _ (g : LaunchGraph) (graph : IsLaunchGraph g) (table : Table) (ordered : List Launch) where
+  own_low : (i : ℕ) → register_at g ordered i < 32
+  own_low i = index_low g.pool (count_by (launches g gives_word) (take i ordered)) graph.pool
+
+  input_low : (class : ℕ) (o : Option InputClass) → find (λ i. i.class == class) g.inputs ≡ o → (r : ℕ) → option_map (λ i. i.reg) o ≡ Some r → r < 32
+  input_low class None e r f = absurd (none-some r f)
+  input_low class (Some i) e r f =
+      let low : i.reg < 31 = (found_passes (λ x. x.class == class) (λ x. x.reg < 31) g.inputs i (λ k d lt. (graph.inputs k d lt).1) e).0 in
+      let same : i.reg ≡ r = same_Some i.reg r f in
+      omega arith
+
+  low_by : (class : ℕ) (z : Bool) (o : Option ℕ) → input_register g class ≡ o → (p : Option ℕ) → (if z then 31 else or_register o (option_map_or (register_at g ordered) p 31)) < 32
+  low_by class true o e p = omega arith
+  low_by class false (Some r) e p = input_low class (find (λ i. i.class == class) g.inputs) refl r e
+  low_by class false None e (Some j) = own_low j
+  low_by class false None e None = omega arith
+
+  pub register_low : (test : Launch → Bool) (class : ℕ) → register_by g ordered test class < 32
+  register_low test class = low_by class (is_zero g class) (input_register g class) refl (position (λ l. gives g class l && test l) ordered)
+
+  module _ (n : ℕ) (l : Launch) where
+    reads_low : (class : ℕ) → register_for g table ordered l class < 32
+    reads_low class = register_low (λ m. nat_le (ready_in g table (cluster_of table l.slot) m) l.cycle) class
+
+    literal_by : (b : Bool) (m y : ℕ) → (b ≡ true → m ≤ 255) → IsSecond (if b then Literal m else Reg (register_for g table ordered l y))
+    literal_by true m y h = let le = h refl in omega arith
+    literal_by false m y h = reads_low y
+
+    small_from : (m : ℕ) → nat_le m 255 ≡ true → m ≤ 255
+    small_from m h = elim (leb_tells m 255) [ inl t ↦ t.1 | inr t ↦ absurd (false≢true (sym t.0 ∙ h)) ]
+
+    second_by : (o : Option ℕ) (y : ℕ) → IsSecond (literal_or o (Reg (register_for g table ordered l y)))
+    second_by None y = reads_low y
+    second_by (Some m) y = literal_by (nat_le m 255) m y (small_from m)
+
+    second_low : (y : ℕ) → IsSecond (second_for g table ordered l y)
+    second_low y = second_by (constant_of g y) y
+
+    disp_fits : (class : ℕ) → FitsSigned w16 (displacement_of g class)
+    disp_fits class = fits_16 (unwrap_or (constant_of g class) 0)
+
+    operate_fits : (o : WordOp) (xs : List ℕ) → is_some (operate_kind o) ≡ true → length xs ≡ arity_of o → IsWellFormed (operate_instr g table ordered n l o xs)
+    operate_fits o [] h e = (has_code o h, omega arith, omega arith, own_low n, λ u. refl)
+    operate_fits o (x ∷ []) h e = (has_code o h, omega arith, second_low x, own_low n, λ u. refl)
+    operate_fits o (x ∷ y ∷ ys) h e =
+        (has_code o h, reads_low x, second_low y, own_low n, λ u. absurd (let one = (arities o h).0 u in more (length ys) (arity_of o) e one))
+      where
+        more : (n a : ℕ) → suc (suc n) ≡ a → a ≡ 1 → ⊥
+        more n a h k = omega arith
+
+    operate_by : (o : WordOp) (xs : List ℕ) → length xs ≡ arity_of o → (P : InstrKind → Type 0) (q : Option InstrKind) → operate_kind o ≡ q → IsSomeAnd q P → IsWellFormed (operate_instr g table ordered n l o xs)
+    operate_by o xs e P (Some i) t h = operate_fits o xs (ap is_some t) e
+    operate_by o xs e P None t h = absurd h
+
+    word_fits : (o : WordOp) (xs : List ℕ) (P : InstrKind → Type 0) → length xs ≡ arity_of o → IsSomeAnd (launch_instr g o xs) P → IsWellFormed (word_instr g table ordered n l o xs)
+    word_fits ops.Lda xs P e h = (own_low n, reads_low (slice_index xs 0), disp_fits (slice_index xs 1))
+    word_fits ops.Ldah xs P e h = (own_low n, reads_low (slice_index xs 0), disp_fits (slice_index xs 1))
+    word_fits o xs P e h = operate_by o xs e P (operate_kind o) refl h
+
+    no_disp : FitsSigned w16 (pos 0)
+    no_disp = grind (arith, nat_tests, ints)
+
+    row_fits : (o : Op) (xs : List ℕ) (P : InstrKind → Type 0) → length xs ≡ arity_of_op o → IsSomeAnd (op_instr g o xs) P → IsWellFormed (row_instr g table ordered n l o xs)
+    row_fits (op.Word o) xs P e h = word_fits o xs P e h
+    row_fits op.Select xs P e h = (own_low n, reads_low (slice_index xs 1), no_disp)
+    row_fits op.Load xs P e h = (own_low n, reads_low (slice_index xs 1), disp_fits (slice_index xs 2))
+    row_fits op.Store xs P e h = (reads_low (slice_index xs 2), reads_low (slice_index xs 1), no_disp)
+    row_fits op.Put xs P e h = (reads_low (slice_index xs 3), reads_low (slice_index xs 1), disp_fits (slice_index xs 2))
+    row_fits op.Entry xs P e h = absurd h
+    row_fits (op.Input r) xs P e h = absurd h
+    row_fits (op.Constant c) xs P e h = absurd h
+    row_fits (op.Declared d a) xs P e h = absurd h
+
+    instr_by : length ordered < 2 ^ 20 → CanLaunch g table l → (o : Option LaunchRow) → slice_get g.rows l.row ≡ o → IsWellFormed (option_map_or (λ r. row_instr g table ordered n l r.op r.operands) o (instrs.Beq (reg g table ordered n l (branch_class g table ordered n l)) (pos (length ordered - n))))
+    instr_by few h None e = (reads_low (branch_class g table ordered n l), omega arith)
+    instr_by few h (Some r) e =
+        row_fits r.op r.operands (λ i. MayUse table i l.slot) (at_each (λ r. length r.operands ≡ arity_of_op r.op) g.rows graph.arities l.row r e)
+        (subst (λ (q : Option InstrKind). IsSomeAnd q (λ i. MayUse table i l.slot)) (row_kind g l r e) h)
+
+    -- the word of a launch that can be made
+    pub encodable : length ordered < 2 ^ 20 → CanLaunch g table l → IsWellFormed (instr_of g table ordered n l)
+    encodable few h = instr_by few h (slice_get g.rows l.row) refl

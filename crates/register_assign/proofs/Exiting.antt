@@ -1,0 +1,282 @@
+-- A schedule whose guard's value is 0: its words leave by the branch, with memory and inputs as at entry.
+use Rattle.std.proofs.Common.{◌≡◌, ℕ, zero, suc, ◌+◌, ◌*◌, ◌/◌, ◌-◌, ◌<◌, ◌≤◌, List, [], ◌∷◌, length, take, refl, sym, ◌∙◌, ap, subst, inl, inr, ◌⊎◌, arith, Bool, true, false, cond, get_or, pos, Option, Some, None}
+use Rattle.std.specs.Prelude.{All, IsTrue, IsSomeAnd, IfSome, slice_get, slice_index, count_by, is_some, if◌then◌else◌}
+use Rattle.std.specs.Option.{option_map_or}
+use Rattle.std.proofs.lemmas.Bool.{false≢true}
+use Rattle.std.proofs.lemmas.List.Elements.{All-nil, All-cons, All-head, All-tail}
+use Rattle.std.proofs.lemmas.Option.{slice_get_past, slice_get_cases, same_Some}
+use Rattle.std.proofs.lemmas.List.Sums.{sum_by-cons}
+use Rattle.word_ops.specs.declared.operators.WordOp.{WordOp}
+use Rattle.word_ops.specs.declared.operators.WordOp.TheVariants as ops
+use Rattle.word_ops.specs.declared.sorts.Op.{Op}
+use Rattle.word_ops.specs.declared.sorts.Op.TheVariants as op
+use Rattle.word_ops.specs.Memory.{Memory}
+use Rattle.word_ops.specs.Worlds.{World, Value, word, memory}
+use Rattle.alpha_encode.specs.declared.instructions.Instr.{Instr}
+use Rattle.alpha_machine.specs.States.{MachineState}
+use Rattle.alpha_machine.specs.Steps.{step, address, next_pc}
+use Rattle.alpha_machine.specs.Runs.{stepped, after}
+use Rattle.launch_graph.specs.Graphs.{constant_of}
+use Rattle.schedule_meaning.specs.Launches.{launches, is_store, is_load, is_branch, is_held, op_instr, word_op_instr, class_at, latest, later, group_of}
+use Rattle.schedule_meaning.specs.Fits.{Waits}
+use Rattle.register_assign.specs.Listings.{items_of, instr_of}
+use Rattle.register_assign.specs.Obeys.{loads}
+use Rattle.register_assign.specs.Outcomes.{entry_state, instrs_of, AreWordsOf, IsExit, Exits}
+use Rattle.alpha_machine.specs.Runs.{trace, stepped_first}
+use Rattle.launch_graph.specs.declared.graphs.Guard.{Guard}
+use Rattle.launch_graph.specs.declared.graphs.LaunchRow.{LaunchRow}
+use Rattle.launch_graph.specs.declared.graphs.LaunchGraph.{LaunchGraph}
+use Rattle.machine_table.specs.declared.tables.Table.{Table}
+use Rattle.machine_table.specs.declared.tables.InstrKind.{InstrKind}
+use Rattle.machine_table.specs.declared.tables.InstrKind.TheVariants as kinds
+use Rattle.schedule_meaning.specs.declared.schedules.Launch.{Launch}
+use Rattle.schedule_meaning.proofs.Rules.{at_each, all_at, in_list}
+use Rattle.register_assign.proofs.Reached.{HasReached}
+use Rattle.register_assign.proofs.Scene.{IsScene, kind_is, can}
+use Rattle.register_assign.proofs.Proper.{inputs_apart}
+use Rattle.register_assign.proofs.Groups.{earlier_cycle, store_group, held_group, branch_group}
+use Rattle.register_assign.proofs.Stores.{at_take}
+use Rattle.register_assign.proofs.Branch.{branch_tests, other_step, left_by}
+use Rattle.register_assign.proofs.Obeying.{kind_at}
+use Rattle.register_assign.proofs.Operates.{branches_none}
+use Rattle.register_assign.proofs.Whole.{after_more, word_at_place, reached_after, reached_first}
+use Rattle.register_assign.proofs.Falling.{words_count, items_count}
+
+-- ---- the first that passes
+
+abbrev First : {X : Type 0} → (X → Bool) → List X → Type 0
+First {X} p xs = (i : ℕ) × (x : X) × (slice_get xs i ≡ Some x) × (p x ≡ true) × ((j : ℕ) (y : X) → j < i → slice_get xs j ≡ Some y → p y ≡ false)
+
+first_here : {X : Type 0} (p : X → Bool) (x : X) (xs : List X) → p x ≡ true → First p (x ∷ xs)
+first_here p x xs t = (0, x, refl, t, λ j y lt e. absurd (omega arith))
+
+first_later : {X : Type 0} (p : X → Bool) (x : X) (xs : List X) → p x ≡ false → First p xs → First p (x ∷ xs)
+first_later {X} p x xs f r = (suc r.0, r.1, r.2, r.3, before)
+  where
+    before : (j : ℕ) (y : X) → j < suc r.0 → slice_get (x ∷ xs) j ≡ Some y → p y ≡ false
+    before zero y lt e = ap p (sym (same_Some x y e)) ∙ f
+    before (suc j) y lt e = r.4 j y (omega arith) e
+
+first_step : {X : Type 0} (p : X → Bool) (x : X) (xs : List X) (b : Bool) → p x ≡ b → (0 < count_by p xs → First p xs) → 0 < cond b 1 0 + count_by p xs → First p (x ∷ xs)
+first_step p x xs true t rest h = first_here p x xs t
+first_step p x xs false t rest h = first_later p x xs t (rest (omega arith))
+
+first_counted : {X : Type 0} (p : X → Bool) (xs : List X) → 0 < count_by p xs → First p xs
+first_counted p [] h = absurd (omega arith)
+first_counted p (x ∷ xs) h = first_step p x xs (p x) refl (first_counted p xs) (subst (λ n. 0 < n) (sum_by-cons (λ y. cond (p y) 1 0) x xs) h)
+
+none_step : (test : Launch → Bool) (m : Launch) (o : Option Launch) (b : Bool) → b ≡ false → o ≡ None → cond b (later m o) o ≡ None
+none_step test m o true t e = absurd (false≢true (sym t))
+none_step test m o false t e = e
+
+latest_none : (test : Launch → Bool) (ls : List Launch) → All (λ m. test m ≡ false) ls → latest test ls ≡ None
+latest_none test [] h = refl
+latest_none test (m ∷ ls) h = none_step test m (latest test ls) (test m) (All-head (λ m. test m ≡ false) m ls h) (latest_none test ls (All-tail (λ m. test m ≡ false) m ls h))
+
+-- ---- past the words
+
+stays : (n : ℕ) (instrs : List Instr) (s : MachineState) → length instrs ≤ s.pc / 4 → after n instrs s ≡ s
+stays zero instrs s past = refl
+stays (suc n) instrs s past =
+    ap (after n instrs) (ap (λ o. option_map_or (λ i. step i s) o s) (slice_get_past instrs (s.pc / 4) past)) ∙ stays n instrs s past
+
+after_sum : (m n : ℕ) (instrs : List Instr) (s : MachineState) → after (m + n) instrs s ≡ after n instrs (after m instrs s)
+after_sum zero n instrs s = (let e : 0 + n ≡ n = omega arith in ap (λ k. after k instrs s) e)
+after_sum (suc m) n instrs s =
+    let e : suc m + n ≡ suc (m + n) = omega arith in
+    ap (λ k. after k instrs s) e ∙ after_sum m n instrs (stepped instrs s)
+
+nothing_traced : (n : ℕ) (instrs : List Instr) (s : MachineState) → length instrs ≤ s.pc / 4 → trace n instrs s ≡ []
+nothing_traced zero instrs s past = refl
+nothing_traced (suc n) instrs s past =
+    let none = slice_get_past instrs (s.pc / 4) past in
+    ap (λ o. stepped_first o (trace n instrs (stepped instrs s))) none
+    ∙ ap (trace n instrs) (ap (λ o. option_map_or (λ i. step i s) o s) none)
+    ∙ nothing_traced n instrs s past
+
+-- ---- no row is a branch
+
+not_branch_if : (b : Bool) (i : InstrKind) → is_branch i ≡ false → option_map_or is_branch (if b then Some i else None) false ≡ false
+not_branch_if true i h = h
+not_branch_if false i h = refl
+
+module _ (g : LaunchGraph) where
+  no_branch_word : (o : WordOp) (xs : List ℕ) → option_map_or is_branch (word_op_instr g o xs) false ≡ false
+  no_branch_word ops.Lda xs = not_branch_if (is_some (constant_of g (slice_index xs 1))) kinds.Lda refl
+  no_branch_word ops.Ldah xs = not_branch_if (is_some (constant_of g (slice_index xs 1))) kinds.Ldah refl
+  no_branch_word o xs = branches_none o
+
+  no_branch_op : (o : Op) (xs : List ℕ) → option_map_or is_branch (op_instr g o xs) false ≡ false
+  no_branch_op (op.Word o) xs = no_branch_word o xs
+  no_branch_op op.Select xs = refl
+  no_branch_op op.Store xs = refl
+  no_branch_op op.Load xs = not_branch_if (is_some (constant_of g (slice_index xs 2))) kinds.LdqU refl
+  no_branch_op op.Put xs = not_branch_if (is_some (constant_of g (slice_index xs 2))) kinds.StqU refl
+  no_branch_op op.Entry xs = refl
+  no_branch_op (op.Input r) xs = refl
+  no_branch_op (op.Constant c) xs = refl
+  no_branch_op (op.Declared d a) xs = refl
+
+module _ (g : LaunchGraph) (table : Table) (k : ℕ) (ordered : List Launch) (w : World) (value : ℕ → Value)
+    (scene : IsScene g table k ordered w value) (exit : IsExit g value)
+    (words : List ℕ) (are : AreWordsOf (items_of g table ordered) words) where
+  one_branch : (o : Option Guard) → IsSomeAnd o (λ guard. value guard.class ≡ word 0) → IfSome o (λ _. count_by (launches g is_branch) ordered ≡ 1) → count_by (launches g is_branch) ordered ≡ 1
+  one_branch None h c = absurd h
+  one_branch (Some guard) h c = c
+
+  the_branch : First (launches g is_branch) ordered
+  the_branch = first_counted (launches g is_branch) ordered (let c : count_by (launches g is_branch) ordered ≡ 1 = one_branch g.guard exit scene.fits.one_branch in omega arith)
+
+  abbrev b : ℕ
+  b = the_branch.0
+
+  abbrev l : Launch
+  l = the_branch.1
+
+  abbrev here : slice_get ordered b ≡ Some l
+  here = the_branch.2
+
+  inside : b < length ordered
+  inside = in_list ordered b l here
+
+  no_row_by : (o : Option LaunchRow) → slice_get g.rows l.row ≡ o → slice_get g.rows l.row ≡ None
+  no_row_by None e = e
+  no_row_by (Some r) e =
+      absurd (false≢true (sym (ap (λ q. option_map_or is_branch q false) (kind_is g table k ordered w value scene b l here r.class r.op r.name r.operands e) ∙ no_branch_op g r.op r.operands) ∙ the_branch.3))
+
+  no_row : slice_get g.rows l.row ≡ None
+  no_row = no_row_by (slice_get g.rows l.row) refl
+
+  waits : (j : ℕ) (m : Launch) → slice_get ordered j ≡ Some m → IsTrue (launches g is_store m) ⊎ (IsTrue (launches g is_load m) × IsTrue (is_held g)) → l.cycle ≤ m.cycle
+  waits j m e h =
+      at_each (λ b. IsTrue (launches g is_branch b) → b.cycle ≤ m.cycle) ordered (at_each (Waits g ordered) ordered scene.fits.after_branch j m e h) b l here the_branch.3
+
+  -- a launch that waits doesn't stand before the branch
+  not_before : (j : ℕ) (m : Launch) → j < b → slice_get ordered j ≡ Some m → IsTrue (launches g is_store m) ⊎ (IsTrue (launches g is_load m) × IsTrue (is_held g)) → 1 < group_of g m → ⊥
+  not_before j m lt e h more =
+      let le : l.cycle ≤ m.cycle = waits j m e h in
+      let less : m.cycle < l.cycle = earlier_cycle g ordered scene.order j b m l lt e here (let one : group_of g l ≡ 1 = branch_group g l the_branch.3 in omega arith) in
+      absurd (omega arith)
+
+  false_from : (q : Bool) → ¬ (q ≡ true) → q ≡ false
+  false_from true n = absurd (n refl)
+  false_from false n = refl
+
+  no_store : All (λ m. launches g is_store m ≡ false) (take b ordered)
+  no_store =
+      all_at (λ m. launches g is_store m ≡ false) (take b ordered) (λ j m lt e.
+      let p = at_take ordered b j m e in
+      false_from (launches g is_store m) (λ t. not_before j m p.0 p.1 (inl t) (let three : group_of g m ≡ 3 = store_group g m t in omega arith)))
+
+  abbrev instrs : List Instr
+  instrs = instrs_of (items_of g table ordered)
+
+  abbrev at_branch : MachineState
+  at_branch = after b instrs (entry_state w)
+
+  each : (n : ℕ) (m : Launch) (s : MachineState) → n < b → slice_get ordered n ≡ Some m → HasReached g w value ordered n s → HasReached g w value ordered (n + 1) (step (instr_of g table ordered n m) s)
+  each n m s lt e reached = other_step g table k ordered w value scene n m e s reached (the_branch.4 n m lt e)
+
+  reached_at : (n : ℕ) → n ≤ b → HasReached g w value ordered n (after n instrs (entry_state w))
+  reached_at n le = reached_after g table ordered w value b each n le (let i = inside in omega arith) (reached_first g w value ordered scene.world scene.true_in)
+
+  same_memory : {a c : Memory} → memory a ≡ memory c → a ≡ c
+  same_memory e = cc
+
+  memory_kept : at_branch.memory ≡ w.memory_at_entry
+  memory_kept =
+      same_memory
+      ((reached_at b (omega arith)).memory_is
+      ∙ ap (λ o. value (option_map_or (λ m. class_at g m.row) o g.entry)) (latest_none (launches g is_store) (take b ordered) no_store)
+      ∙ scene.true_in.entry)
+
+  abbrev left : MachineState
+  left = record { registers = at_branch.registers; memory = at_branch.memory; pc = address (next_pc at_branch.pc) 4 (pos (length ordered - b)) }
+
+  left_pc : left.pc ≡ 4 * length ordered + 4
+  left_pc =
+      let pc : at_branch.pc ≡ 4 * b = (reached_at b (omega arith)).pc in
+      let i = inside in
+      let few = scene.few in
+      ap (λ p. address (next_pc p) 4 (pos (length ordered - b))) pc ∙ omega arith
+
+  at_place : (n : ℕ) (m : Launch) → n ≤ b → slice_get ordered n ≡ Some m → slice_get instrs ((after n instrs (entry_state w)).pc / 4) ≡ Some (instr_of g table ordered n m)
+  at_place n m le e =
+      let pc : (after n instrs (entry_state w)).pc ≡ 4 * n = (reached_at n le).pc in
+      ap (slice_get instrs) (let p : (after n instrs (entry_state w)).pc / 4 ≡ n = omega arith in p) ∙ word_at_place g table ordered n m e
+
+  leaves : stepped instrs at_branch ≡ left
+  leaves =
+      ap (λ o. option_map_or (λ i. step i at_branch) o at_branch) (at_place b l (omega arith) here)
+      ∙ left_by g table k ordered w value scene b l here at_branch (reached_at b (omega arith)) no_row exit
+
+  count : length instrs ≡ length ordered
+  count = items_count g table ordered 0 ordered
+
+  past : length instrs ≤ left.pc / 4
+  past = let c = count in let p = left_pc in omega arith
+
+  ends : after (length words) instrs (entry_state w) ≡ left
+  ends =
+      let total : length words ≡ length ordered = words_count (items_of g table ordered) words are ∙ count in
+      let i = inside in
+      let parts : length words ≡ suc b + (length ordered - suc b) = omega arith in
+      ap (λ n. after n instrs (entry_state w)) parts
+      ∙ after_sum (suc b) (length ordered - suc b) instrs (entry_state w)
+      ∙ ap (after (length ordered - suc b) instrs) (after_more b instrs (entry_state w) ∙ leaves)
+      ∙ stays (length ordered - suc b) instrs left past
+
+  -- ---- what was stepped
+
+  abbrev IsNoLoad : Instr → Type 0
+  IsNoLoad i = ¬ IsTrue (loads i)
+
+  before_or_branch : (n : ℕ) → n ≤ b → (n < b) ⊎ (n ≡ b)
+  before_or_branch n h = grind arith
+
+  no_load_at : IsTrue (is_held g) → (n : ℕ) (m : Launch) → n ≤ b → slice_get ordered n ≡ Some m → IsNoLoad (instr_of g table ordered n m)
+  no_load_at held n m le e t =
+      let load : launches g is_load m ≡ true = ap (λ o. option_map_or is_load o false) (kind_at g table ordered n m (can g table k ordered w value scene n m e)) ∙ t in
+      elim (before_or_branch n le) [
+        | inl lt ↦ not_before n m lt e (inr (load, held)) (let two : group_of g m ≡ 2 = held_group g m held load in omega arith)
+        | inr same ↦ (
+            let one : m ≡ l = same_Some m l (sym e ∙ ap (slice_get ordered) same ∙ here) in
+            false≢true (sym (branch_tests g table k ordered w value scene b l here is_load no_row) ∙ ap (launches g is_load) (sym one) ∙ load))
+      ]
+
+  traced : IsTrue (is_held g) → (d n i : ℕ) → i + d ≡ b → All IsNoLoad (trace n instrs (after i instrs (entry_state w)))
+  traced held d zero i e = All-nil IsNoLoad
+  traced held zero (suc n) i e =
+      let same : i ≡ b = (omega arith) in
+      subst (λ k. All IsNoLoad (trace (suc n) instrs (after k instrs (entry_state w)))) (sym same)
+      (subst (All IsNoLoad)
+      (sym (ap (λ o. stepped_first o (trace n instrs (stepped instrs at_branch))) (at_place b l (omega arith) here)
+      ∙ ap (λ q. instr_of g table ordered b l ∷ q) (ap (trace n instrs) leaves ∙ nothing_traced n instrs left past)))
+      (All-cons IsNoLoad (instr_of g table ordered b l) [] (no_load_at held b l (omega arith) here) (All-nil IsNoLoad)))
+  traced held (suc d) (suc n) i e =
+      let lt : i < length ordered = (let q = inside in omega arith) in
+      let le : i ≤ b = omega arith in
+      let rest = traced held d n (suc i) (omega arith) in
+      elim ((slice_get_cases ordered i).1) [
+        | inl a ↦ (
+            subst (All IsNoLoad)
+            (sym (ap (λ o. stepped_first o (trace n instrs (stepped instrs (after i instrs (entry_state w))))) (at_place i a.0 le a.2)))
+            (All-cons IsNoLoad (instr_of g table ordered i a.0) (trace n instrs (stepped instrs (after i instrs (entry_state w)))) (no_load_at held i a.0 le a.2)
+            (subst (λ s. All IsNoLoad (trace n instrs s)) (after_more i instrs (entry_state w)) rest)))
+        | inr c ↦ (let q : length ordered ≤ i = c.0 in absurd (omega arith))
+      ]
+
+  pub exits : Exits g w (items_of g table ordered) words
+  exits = record {
+    state = left;
+    runs = record {
+      instrs = instrs;
+      decode = are;
+      begins = refl;
+      steps = ends;
+      ends = left_pc ∙ ap (λ n. 4 * n + 4) (sym (words_count (items_of g table ordered) words are ∙ count));
+    };
+    memory_is = memory_kept;
+    inputs = λ i d lt. (reached_at b (omega arith)).kept (get_or g.inputs i d).reg (inputs_apart g scene.proper i d lt);
+    no_load = λ held. traced held b (length (items_of g table ordered)) 0 (omega arith);
+  }

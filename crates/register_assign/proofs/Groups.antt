@@ -1,0 +1,58 @@
+-- Where loads, stores and the branch stand in word order.
+use Rattle.std.proofs.Common.{◌≡◌, ℕ, ◌<◌, ◌≤◌, List, refl, inl, inr, arith, Bool, true, false, Option, Some, None}
+use Rattle.std.specs.Prelude.{AllPairs, IsTrue, slice_get}
+use Rattle.std.specs.Option.{option_map_or}
+use Rattle.std.proofs.lemmas.Bool.{false≢true}
+use Rattle.schedule_meaning.specs.Launches.{launches, is_store, is_load, is_branch, instr_at, kind_group, group_of, is_held, StandsBefore}
+use Rattle.machine_table.specs.declared.tables.InstrKind.{InstrKind}
+use Rattle.machine_table.specs.declared.tables.InstrKind.TheVariants as kinds
+use Rattle.launch_graph.specs.declared.graphs.LaunchGraph.{LaunchGraph}
+use Rattle.schedule_meaning.specs.declared.schedules.Launch.{Launch}
+use Rattle.schedule_meaning.proofs.Rules.{at_pair}
+
+store_kind : (held : Bool) (o : Option InstrKind) → option_map_or is_store o false ≡ true → kind_group held o ≡ 3
+store_kind held None h = absurd (false≢true h)
+store_kind held (Some kinds.StqU) h = refl
+store_kind held (Some _) h = absurd (false≢true h)
+
+load_kind : (held : Bool) (o : Option InstrKind) → option_map_or is_load o false ≡ true → kind_group held o < 3
+load_kind held None h = absurd (false≢true h)
+load_kind true (Some kinds.LdqU) h = omega arith
+load_kind false (Some kinds.LdqU) h = omega arith
+load_kind held (Some _) h = absurd (false≢true h)
+
+held_kind : (held : Bool) (o : Option InstrKind) → held ≡ true → option_map_or is_load o false ≡ true → kind_group held o ≡ 2
+held_kind held None t h = absurd (false≢true h)
+held_kind true (Some kinds.LdqU) t h = refl
+held_kind false (Some kinds.LdqU) t h = absurd (false≢true t)
+held_kind held (Some _) t h = absurd (false≢true h)
+
+branch_kind : (held : Bool) (o : Option InstrKind) → option_map_or is_branch o false ≡ true → kind_group held o ≡ 1
+branch_kind held None h = absurd (false≢true h)
+branch_kind held (Some kinds.Beq) h = refl
+branch_kind held (Some _) h = absurd (false≢true h)
+
+module _ (g : LaunchGraph) (ordered : List Launch) (order : AllPairs (StandsBefore g) ordered) where
+  pub not_after : (i j : ℕ) (l m : Launch) → i < j → slice_get ordered i ≡ Some l → slice_get ordered j ≡ Some m → l.cycle ≤ m.cycle
+  not_after i j l m lt el em =
+      elim (at_pair (StandsBefore g) ordered order i j l m lt el em) [ inl h ↦ (let k : l.cycle < m.cycle = h in omega arith) | inr h ↦ (let k : l.cycle ≡ m.cycle = h.0 in omega arith) ]
+
+  -- of two groups the higher one stands earlier in an earlier cycle alone
+  pub earlier_cycle : (i j : ℕ) (l m : Launch) → i < j → slice_get ordered i ≡ Some l → slice_get ordered j ≡ Some m → group_of g m < group_of g l → l.cycle < m.cycle
+  earlier_cycle i j l m lt el em less =
+      elim (at_pair (StandsBefore g) ordered order i j l m lt el em) [
+        | inl h ↦ h
+        | inr h ↦ elim (h.1) [ inl a ↦ (let b : group_of g l < group_of g m = a in absurd (omega arith)) | inr a ↦ (let b : group_of g l ≡ group_of g m = a.0 in absurd (omega arith)) ]
+      ]
+
+pub store_group : (g : LaunchGraph) (l : Launch) → IsTrue (launches g is_store l) → group_of g l ≡ 3
+store_group g l h = store_kind (is_held g) (instr_at g l.row) h
+
+pub load_group : (g : LaunchGraph) (l : Launch) → IsTrue (launches g is_load l) → group_of g l < 3
+load_group g l h = load_kind (is_held g) (instr_at g l.row) h
+
+pub held_group : (g : LaunchGraph) (l : Launch) → IsTrue (is_held g) → IsTrue (launches g is_load l) → group_of g l ≡ 2
+held_group g l t h = held_kind (is_held g) (instr_at g l.row) t h
+
+pub branch_group : (g : LaunchGraph) (l : Launch) → IsTrue (launches g is_branch l) → group_of g l ≡ 1
+branch_group g l h = branch_kind (is_held g) (instr_at g l.row) h

@@ -1,0 +1,167 @@
+-- The items of a fitting schedule in word order obey the table.
+use Rattle.std.proofs.Common.{◌≡◌, ◌≢◌, ℕ, zero, suc, ◌+◌, ◌<◌, ◌≤◌, List, [], ◌∷◌, refl, sym, ◌∙◌, ap, subst, inl, inr, ◌⊎◌, arith, Bool, true, false, ◌&&◌, get_or, take, Option, Some, None}
+use Rattle.std.specs.Prelude.{All, AllPairs, Contains, IsTrue, IsSomeAnd, slice_get, unwrap_or, count_by, find, position, option_map, ◌==◌, nat_le, if◌then◌else◌}
+use Rattle.std.specs.Option.{option_map_or}
+use Rattle.std.proofs.lemmas.Option.{slice_get-get_or, same_Some, none-some}
+use Rattle.std.proofs.lemmas.List.Elements.{All-contains, Contains-get_or}
+use Rattle.std.proofs.lemmas.List.Quantifiers.{position-Some}
+use Rattle.machine_table.specs.Tables.{MayUse, latency_of, ready, cluster_of, IsTable}
+use Rattle.schedule_meaning.specs.Launches.{instr_at, launches, gives_word, is_store, ready_in, StandsBefore}
+use Rattle.schedule_meaning.specs.Fits.{CanLaunch, Collide, EndsBy, Fits}
+use Rattle.register_assign.specs.Listings.{item_of, items_from, items_of, instr_of, register_at, register_for, or_register, is_zero}
+use Rattle.launch_graph.specs.Graphs.{input_register}
+use Rattle.schedule_meaning.specs.Launches.{gives}
+use Rattle.register_assign.specs.Obeys.{kind_of, stores, reads, writes, latency_in, ready_from, HasOperands, Obeys}
+use Rattle.machine_table.specs.declared.tables.InstrKind.{InstrKind}
+use Rattle.machine_table.specs.declared.tables.InstrKind.TheVariants.{Beq}
+use Rattle.launch_graph.specs.declared.graphs.InputClass.{InputClass}
+use Rattle.register_assign.specs.declared.listings.Item.{Item}
+use Rattle.launch_graph.specs.declared.graphs.LaunchGraph.{LaunchGraph}
+use Rattle.machine_table.specs.declared.tables.Table.{Table}
+use Rattle.schedule_meaning.specs.declared.schedules.Launch.{Launch}
+use Rattle.schedule_meaning.proofs.Rules.{at_each, all_at, at_pair}
+use Rattle.register_assign.proofs.Running.{own_register, in_pool}
+use Rattle.register_assign.proofs.Reading.{found_passes}
+use Rattle.schedule_meaning.proofs.Comparisons.{and_left, and_right, true_le}
+use Rattle.schedule_meaning.proofs.Ordered.{latency_positive}
+use Rattle.register_assign.proofs.Obeying.{kind_at, writes_own, reads_chosen}
+
+module _ (g : LaunchGraph) (table : Table) (ordered : List Launch) where
+  item_from : (i : ℕ) (ls : List Launch) (n m : ℕ) (a : Item) → slice_get (items_from g table ordered i ls) n ≡ Some a → m ≡ i + n → (l : Launch) × (slice_get ls n ≡ Some l) × (item_of g table ordered m l ≡ a)
+  item_from i [] n m a e k = absurd (none-some a e)
+  item_from i (x ∷ ls) zero m a e k = (x, refl, ap (λ j. item_of g table ordered j x) (let j : m ≡ i = omega arith in j) ∙ same_Some (item_of g table ordered i x) a e)
+  item_from i (x ∷ ls) (suc n) m a e k = item_from (i + 1) ls n m a e (omega arith)
+
+  -- an item is that of the launch in its place
+  item_at : (n : ℕ) (a : Item) → slice_get (items_of g table ordered) n ≡ Some a → (l : Launch) × (slice_get ordered n ≡ Some l) × (item_of g table ordered n l ≡ a)
+  item_at n a e = item_from 0 ordered n n a e (omega arith)
+
+  pub all_items : (P : Item → Type 0) → ((n : ℕ) (l : Launch) → slice_get ordered n ≡ Some l → P (item_of g table ordered n l)) → All P (items_of g table ordered)
+  all_items P h = all_at P (items_of g table ordered) (λ n a lt e. let f = item_at n a e in subst P f.2 (h n f.0 f.1))
+
+  pair_items : (R : Item → Item → Type 0) → ((i j : ℕ) (l m : Launch) → i < j → slice_get ordered i ≡ Some l → slice_get ordered j ≡ Some m → R (item_of g table ordered i l) (item_of g table ordered j m)) → AllPairs R (items_of g table ordered)
+  pair_items R h i j d lt len =
+      let items = items_of g table ordered in
+      let fi = item_at i (get_or items i d) (slice_get-get_or items i d (omega arith)) in
+      let fj = item_at j (get_or items j d) (slice_get-get_or items j d len) in
+      subst (λ a. R a (get_or items j d)) fi.2 (subst (λ b. R (item_of g table ordered i fi.0) b) fj.2 (h i j fi.0 fj.0 lt fi.1 fj.1))
+
+  -- ---- the register that is chosen for a class
+
+  abbrev Source : Launch → ℕ → Type 0
+  Source l r =
+      (r ≡ 31)
+      ⊎ (¬ Contains g.pool r)
+      ⊎ ((j : ℕ) × (m : Launch) × (slice_get ordered j ≡ Some m) × IsTrue (launches g gives_word m) × (ready_in g table (cluster_of table l.slot) m ≤ l.cycle) × (r ≡ register_at g ordered j))
+
+  module _ (inputs_apart : All (λ i. ¬ Contains g.pool i.reg) g.inputs) (l : Launch) (class : ℕ) where
+    abbrev passes : Launch → Bool
+    passes m = gives g class m && nat_le (ready_in g table (cluster_of table l.slot) m) l.cycle
+
+    input_source : (o : Option InputClass) → find (λ i. i.class == class) g.inputs ≡ o → (r : ℕ) → option_map (λ i. i.reg) o ≡ Some r → ¬ Contains g.pool r
+    input_source None e r f = absurd (none-some r f)
+    input_source (Some i) e r f = subst (λ q. ¬ Contains g.pool q) (same_Some i.reg r f) (found_passes (λ x. x.class == class) (λ x. ¬ Contains g.pool x.reg) g.inputs i inputs_apart e).0
+
+    launch_source : (j : ℕ) → position passes ordered ≡ Some j → Source l (register_at g ordered j)
+    launch_source j e =
+        let there = position-Some passes ordered j l e in
+        let m : Launch = get_or ordered j l in
+        inr (inr (j, m, slice_get-get_or ordered j l there.0, and_left (launches g gives_word m) _ (and_left (gives g class m) _ there.1), true_le _ _ (and_right (gives g class m) (nat_le (ready_in g table (cluster_of table l.slot) m) l.cycle) there.1), refl))
+
+    source_by : (z : Bool) (o : Option ℕ) → input_register g class ≡ o → (p : Option ℕ) → position passes ordered ≡ p → Source l (if z then 31 else or_register o (option_map_or (register_at g ordered) p 31))
+    source_by true o i p e = inl refl
+    source_by false (Some r) i p e = inr (inl (input_source (find (λ i. i.class == class) g.inputs) refl r i))
+    source_by false None i (Some j) e = launch_source j e
+    source_by false None i None e = inl refl
+
+    source : Source l (register_for g table ordered l class)
+    source = source_by (is_zero g class) (input_register g class) refl (position passes ordered) refl
+
+  module _ (k : ℕ) (is_table : IsTable table) (fits : Fits g table k ordered) (order : AllPairs (StandsBefore g) ordered)
+      (differ : AllPairs (λ a b. a ≢ b) g.pool)
+      (low : All (λ r. r < 31) g.pool)
+      (inputs_apart : All (λ i. ¬ Contains g.pool i.reg) g.inputs) where
+    can : (n : ℕ) (l : Launch) → slice_get ordered n ≡ Some l → CanLaunch g table l
+    can n l e = at_each (CanLaunch g table) ordered fits.rows n l e
+
+    kind : (n : ℕ) (l : Launch) → slice_get ordered n ≡ Some l → instr_at g l.row ≡ kind_of (instr_of g table ordered n l)
+    kind n l e = kind_at g table ordered n l (can n l e)
+
+    abbrev takes_of : Option InstrKind → ℕ
+    takes_of q = option_map_or (λ i. unwrap_or (latency_of table i) 0) q 0
+
+    takes : (q : Option InstrKind) (P : InstrKind → Type 0) → IsSomeAnd q P → unwrap_or (latency_of table (unwrap_or q Beq)) 0 ≡ takes_of q
+    takes None P h = absurd h
+    takes (Some i) P h = refl
+
+    seen : (l : Launch) (c : ℕ) (q : Option InstrKind) (P : InstrKind → Type 0) → IsSomeAnd q P → option_map_or (λ i. ready table l.cycle l.slot i c) q 0 ≡ ready table l.cycle l.slot (unwrap_or q Beq) c
+    seen l c None P h = absurd h
+    seen l c (Some i) P h = refl
+
+    takes_some : (slot : ℕ) (q : Option InstrKind) → IsSomeAnd q (λ i. MayUse table i slot) → 1 ≤ takes_of q
+    takes_some slot None h = absurd h
+    takes_some slot (Some i) h = latency_positive table i slot is_table h
+
+    ends : (n : ℕ) (l : Launch) → slice_get ordered n ≡ Some l → l.cycle + latency_in table (instr_of g table ordered n l) ≤ k
+    ends n l e = subst (λ t. l.cycle + t ≤ k) (takes (instr_at g l.row) (λ i. MayUse table i l.slot) (can n l e) ∙ ap takes_of (kind n l e)) (at_each (EndsBy g table k) ordered fits.in_time n l e)
+
+    is_ready : (n : ℕ) (l : Launch) (c : ℕ) → slice_get ordered n ≡ Some l → ready_from table (item_of g table ordered n l) c ≡ ready_in g table c l
+    is_ready n l c e =
+        ap (λ q. option_map_or (λ i. ready table l.cycle l.slot i c) q 0) (sym (kind n l e))
+        ∙ seen l c (instr_at g l.row) (λ i. MayUse table i l.slot) (can n l e)
+
+    stores_at : (n : ℕ) (l : Launch) → slice_get ordered n ≡ Some l → IsTrue (stores (instr_of g table ordered n l)) → IsTrue (launches g is_store l)
+    stores_at n l e h = subst (λ o. IsTrue (option_map_or is_store o false)) (sym (kind n l e)) h
+
+    gives_at : (n : ℕ) (l : Launch) → slice_get ordered n ≡ Some l → IsTrue (option_map_or gives_word (kind_of (instr_of g table ordered n l)) false) → IsTrue (launches g gives_word l)
+    gives_at n l e h = subst (λ o. IsTrue (option_map_or gives_word o false)) (sym (kind n l e)) h
+
+    one_of_three : (a b : ℕ) → (a < b) ⊎ (b < a) ⊎ (a ≡ b)
+    one_of_three a b = grind arith
+
+    -- two launches with one register are one
+    same_register : (i j : ℕ) (l m : Launch) → slice_get ordered i ≡ Some l → slice_get ordered j ≡ Some m → IsTrue (launches g gives_word l) → IsTrue (launches g gives_word m) → register_at g ordered i ≡ register_at g ordered j → i ≡ j
+    same_register i j l m el em gl gm same =
+        elim (one_of_three i j) [
+          | inl h ↦ absurd (own_register g ordered fits.pool differ low i j l m h el em gl gm same)
+          | inr h ↦ elim h [ inl h ↦ absurd (own_register g ordered fits.pool differ low j i m l h em el gm gl (sym same)) | inr h ↦ h ]
+        ]
+
+    last_is_ready : (l : Launch) (r j : ℕ) (m : Launch) → slice_get ordered j ≡ Some m → IsTrue (launches g gives_word m) → r ≡ register_at g ordered j → ¬ (r ≡ 31) → Source l r → ready_in g table (cluster_of table l.slot) m ≤ l.cycle
+    last_is_ready l r j m em gm is not_31 (inl h) = absurd (not_31 h)
+    last_is_ready l r j m em gm is not_31 (inr (inl out)) =
+        absurd (out (subst (λ q. Contains g.pool q) (sym is) (Contains-get_or g.pool (count_by (launches g gives_word) (take j ordered)) 0 (in_pool g ordered fits.pool differ low j m em gm))))
+    last_is_ready l r j m em gm is not_31 (inr (inr (i, n, en, gn, ready, at))) =
+        let same : i ≡ j = same_register i j n m en em gn gm (sym at ∙ is) in
+        subst (λ x. ready_in g table (cluster_of table l.slot) x ≤ l.cycle) (same_Some n m (sym en ∙ ap (slice_get ordered) same ∙ em)) ready
+
+    chosen_source : (n : ℕ) (l : Launch) (r : ℕ) → (r ≡ 31) ⊎ ((class : ℕ) × (r ≡ register_for g table ordered l class)) → Source l r
+    chosen_source n l r (inl h) = inl h
+    chosen_source n l r (inr h) = subst (Source l) (sym h.1) (source inputs_apart l h.0)
+
+    operands_at : (n : ℕ) (l : Launch) → slice_get ordered n ≡ Some l → HasOperands table (items_of g table ordered) n (item_of g table ordered n l)
+    operands_at n l e r a reads_it not_31 last =
+        let f = item_at last.place a last.there in
+        let own = writes_own g table ordered last.place f.0 (can last.place f.0 f.1) r (ap (λ x. writes x.instr) f.2 ∙ last.writes_it) in
+        let gives : IsTrue (launches g gives_word f.0) = gives_at last.place f.0 f.1 own.0 in
+        let from : Source l r = chosen_source n l r (All-contains (λ q. (q ≡ 31) ⊎ ((class : ℕ) × (q ≡ register_for g table ordered l class))) (reads (instr_of g table ordered n l)) r (reads_chosen g table ordered n l) reads_it) in
+        subst (λ x. ready_from table x (cluster_of table l.slot) ≤ l.cycle) f.2
+        (subst (λ c. c ≤ l.cycle) (sym (is_ready last.place f.0 (cluster_of table l.slot) f.1)) (last_is_ready l r last.place f.0 f.1 gives own.1 not_31 from))
+
+    before : (i j : ℕ) (l m : Launch) → i < j → slice_get ordered i ≡ Some l → slice_get ordered j ≡ Some m → l.cycle ≤ m.cycle
+    before i j l m lt el em =
+        elim (at_pair (StandsBefore g) ordered order i j l m lt el em) [ inl h ↦ (let c : l.cycle < m.cycle = h in omega arith) | inr h ↦ (let c : l.cycle ≡ m.cycle = h.0 in omega arith) ]
+
+    positive : (n : ℕ) (l : Launch) → slice_get ordered n ≡ Some l → 1 ≤ latency_in table (instr_of g table ordered n l)
+    positive n l e = takes_some l.slot (kind_of (instr_of g table ordered n l)) (subst (λ o. IsSomeAnd o (λ i. MayUse table i l.slot)) (kind n l e) (can n l e))
+
+    pub obeys : Obeys table k (items_of g table ordered)
+    obeys = record {
+      rising = pair_items (λ a b. a.cycle ≤ b.cycle) (λ i j l m lt el em. before i j l m lt el em);
+      below = all_items (λ a. a.cycle < k) (λ n l e. let p = positive n l e in let q = ends n l e in omega arith);
+      in_time = all_items (λ a. a.cycle + latency_in table a.instr ≤ k) (λ n l e. ends n l e);
+      slots = all_items (λ a. IsSomeAnd (kind_of a.instr) (λ kind. MayUse table kind a.slot)) (λ n l e. subst (λ o. IsSomeAnd o (λ i. MayUse table i l.slot)) (kind n l e) (can n l e));
+      apart = pair_items (λ a b. ¬ ((a.cycle ≡ b.cycle) × (a.slot ≡ b.slot))) (λ i j l m lt el em. at_pair (λ x y. ¬ Collide x y) ordered fits.apart i j l m lt el em);
+      operands = λ n a e. let f = item_at n a e in subst (λ x. HasOperands table (items_of g table ordered) n x) f.2 (operands_at n f.0 f.1);
+      one_store = pair_items (λ a b. IsTrue (stores a.instr) → IsTrue (stores b.instr) → ¬ (a.cycle ≡ b.cycle)) (λ i j l m lt el em sl sm. at_pair (λ x y. IsTrue (launches g is_store x) → IsTrue (launches g is_store y) → ¬ (x.cycle ≡ y.cycle)) ordered fits.memory.single i j l m lt el em (stores_at i l el sl) (stores_at j m em sm));
+    }

@@ -1,0 +1,107 @@
+-- The premises of a run: a schedule that fits a proper graph, in word order, and a world in which the graph is true.
+use Rattle.std.proofs.Common.{◌≡◌, ℕ, zero, suc, ◌^◌, ◌<◌, ◌-◌, pos, List, [], ◌∷◌, length, map, refl, ◌∙◌, ap, subst, inl, inr, ◌⊎◌, arith, false, get_or, Option, Some}
+use Rattle.std.specs.Prelude.{All, AllPairs, IsSomeAnd, slice_get, slice_index, ◌==◌, if◌then◌else◌, option_map}
+use Rattle.std.specs.Option.{option_map_or, option_and_then}
+use Rattle.std.proofs.lemmas.Bool.Decides.{eqb_tells}
+use Rattle.std.proofs.lemmas.Option.{slice_get-get_or}
+use Rattle.word_ops.specs.Worlds.{World, IsWorld, Value, IsValue}
+use Rattle.word_ops.specs.Meanings.{sort_of, arity_of_op, operand_sort}
+use Rattle.word_ops.specs.declared.sorts.Op.{Op}
+use Rattle.word_ops.specs.declared.sorts.Sort.{Sort}
+use Rattle.machine_table.specs.Tables.{IsTable, cluster_of, MayUse}
+use Rattle.launch_graph.specs.Graphs.{IsProper, IsTrueUnder, row_meaning}
+use Rattle.launch_graph.specs.WellFormed.{IsLaunchGraph, ClassHasSort}
+use Rattle.schedule_meaning.specs.Launches.{instr_at, op_instr, class_at, ready_in, StandsBefore, IsFree, IsReadable, operands_at, op_operands, row_operands, guard_operands, memory_class_at}
+use Rattle.schedule_meaning.specs.Fits.{Fits, CanLaunch, CanRead}
+use Rattle.register_assign.specs.Listings.{instr_of, row_instr, branch_class, reg}
+use Rattle.alpha_encode.specs.declared.instructions.Instr.TheVariants as instrs
+use Rattle.launch_graph.specs.declared.graphs.LaunchRow.{LaunchRow}
+use Rattle.launch_graph.specs.declared.graphs.LaunchGraph.{LaunchGraph}
+use Rattle.machine_table.specs.declared.tables.Table.{Table}
+use Rattle.machine_table.specs.declared.tables.InstrKind.{InstrKind}
+use Rattle.machine_table.specs.declared.tables.InstrKind.TheVariants as kinds
+use Rattle.schedule_meaning.specs.declared.schedules.Launch.{Launch}
+use Rattle.schedule_meaning.proofs.Rules.{at_each, in_list}
+use Rattle.schedule_meaning.proofs.Ordered.{takes_time}
+
+pub record IsScene (g : LaunchGraph) (table : Table) (k : ℕ) (ordered : List Launch) (w : World) (value : ℕ → Value) : Type 0 where
+  pub is_table : IsTable table
+  pub graph : IsLaunchGraph g
+  pub proper : IsProper g
+  pub fits : Fits g table k ordered
+  pub order : AllPairs (StandsBefore g) ordered
+  pub few : length ordered < 2 ^ 32
+  pub world : IsWorld w
+  pub true_in : IsTrueUnder g w value
+
+abbrev pub row_with : ℕ → Op → List ℕ → List ℕ → LaunchRow
+row_with class o name xs = record { class = class; op = o; name = name; operands = xs }
+
+not_equal : (a b : ℕ) → a < b → (a == b) ≡ false
+not_equal a b h = elim (eqb_tells a b) [ inl t ↦ (let e : a ≡ b = t.1 in absurd (omega arith)) | inr t ↦ t.0 ]
+
+pub map_at : (f : ℕ → Value) (xs : List ℕ) (i : ℕ) (d : Value) → i < length xs → get_or (map f xs) i d ≡ f (slice_index xs i)
+map_at f [] i d h = absurd (omega arith)
+map_at f (x ∷ xs) zero d h = refl
+map_at f (x ∷ xs) (suc i) d h = map_at f xs i d (omega arith)
+
+module _ (g : LaunchGraph) (table : Table) (k : ℕ) (ordered : List Launch) (w : World) (value : ℕ → Value)
+    (scene : IsScene g table k ordered w value) where
+  pub positive : (j : ℕ) (m : Launch) (c : ℕ) → slice_get ordered j ≡ Some m → m.cycle < ready_in g table c m
+  positive = takes_time g table ordered scene.is_table scene.fits.rows
+
+  -- the value of a class of a sort
+  pub of_sort : (sort : Sort) (class : ℕ) → ClassHasSort g sort class → IsValue sort (value class)
+  of_sort sort class h =
+      let r : LaunchRow = h.1 in
+      let here : slice_get g.rows h.0 ≡ Some r = slice_get-get_or g.rows h.0 r h.2 ∙ ap Some h.3 in
+      let own : IsValue (sort_of r.op) (value r.class) = at_each (λ r. IsValue (sort_of r.op) (value r.class)) g.rows scene.true_in.sorts h.0 r here in
+      subst (λ s. IsValue s (value class)) h.4.1 (subst (λ c. IsValue (sort_of r.op) (value c)) h.4.0 own)
+
+  module _ (n : ℕ) (l : Launch) (here : slice_get ordered n ≡ Some l) where
+    pub can : CanLaunch g table l
+    can = at_each (CanLaunch g table) ordered scene.fits.rows n l here
+
+    pub can_read : CanRead g table ordered l
+    can_read = at_each (CanRead g table ordered) ordered scene.fits.operands n l here
+
+    pub place_few : n < 2 ^ 32
+    place_few = let a = in_list ordered n l here in let b = scene.few in omega arith
+
+    module _ (class : ℕ) (o : Op) (name : List ℕ) (xs : List ℕ) (row : slice_get g.rows l.row ≡ Some (row_with class o name xs)) where
+      pub is_row : (l.row == length g.rows) ≡ false
+      is_row = not_equal l.row (length g.rows) (in_list g.rows l.row _ row)
+
+      pub kind_is : instr_at g l.row ≡ op_instr g o xs
+      kind_is =
+          ap (λ b. if b then option_map (λ _. kinds.Beq) g.guard else option_and_then (λ r. op_instr g r.op r.operands) (slice_get g.rows l.row)) is_row
+          ∙ ap (λ o. option_and_then (λ r. op_instr g r.op r.operands) o) row
+
+      pub operands_are : operands_at g l.row ≡ op_operands o xs
+      operands_are =
+          ap (λ b. if b then guard_operands g.guard else row_operands (slice_get g.rows l.row)) is_row ∙ ap row_operands row
+
+      pub instr_is : instr_of g table ordered n l ≡ row_instr g table ordered n l o xs
+      instr_is = ap (λ q. option_map_or (λ r. row_instr g table ordered n l r.op r.operands) q (instrs.Beq (reg g table ordered n l (branch_class g table ordered n l)) (pos (length ordered - n)))) row
+
+      pub value_is : value (class_at g l.row) ≡ row_meaning w (row_with class o name xs) (map value xs)
+      value_is =
+          ap (λ q. value (option_map_or (λ r. r.class) q 0)) row
+          ∙ at_each (λ r. value r.class ≡ row_meaning w r (map value r.operands)) g.rows scene.true_in.rows l.row (row_with class o name xs) row
+
+      pub memory_class_is : memory_class_at g l.row ≡ slice_index xs 0
+      memory_class_is = ap (λ q. option_map_or (λ r. slice_index r.operands 0) q 0) row
+
+      pub arity_is : length xs ≡ arity_of_op o
+      arity_is = at_each (λ r. length r.operands ≡ arity_of_op r.op) g.rows scene.graph.arities l.row (row_with class o name xs) row
+
+      pub operand_value : (at : ℕ) → at < length xs → IsValue (operand_sort o at) (value (slice_index xs at))
+      operand_value at lt =
+          of_sort (operand_sort o at) (slice_index xs at)
+          (at_each (λ r. (at : ℕ) → at < length r.operands → ClassHasSort g (operand_sort r.op at) (slice_index r.operands at)) g.rows scene.graph.operands l.row (row_with class o name xs) row at lt)
+
+      pub can_is : IsSomeAnd (op_instr g o xs) (λ i. MayUse table i l.slot)
+      can_is = subst (λ (q : Option InstrKind). IsSomeAnd q (λ i. MayUse table i l.slot)) kind_is can
+
+      pub reads_is : All (λ p. IsFree g p ⊎ IsReadable g table ordered p.class l.cycle (cluster_of table l.slot)) (op_operands o xs)
+      reads_is = subst (All (λ p. IsFree g p ⊎ IsReadable g table ordered p.class l.cycle (cluster_of table l.slot))) operands_are can_read

@@ -1,0 +1,338 @@
+-- The step of each kind of word takes what is reached one word further.
+use Rattle.std.proofs.Common.{◌≡◌, ℕ, suc, ◌+◌, ◌*◌, ◌/◌, List, [], ◌∷◌, ◌++◌, length, map, take, refl, sym, ◌∙◌, ap, subst, inl, inr, ◌⊎◌, arith, Bool, true, false, pos, Option, Some, None}
+use Rattle.std.specs.Prelude.{All, IsTrue, IsSomeAnd, slice_get, slice_index, is_some, if◌then◌else◌}
+use Rattle.std.specs.Option.{option_map_or}
+use Rattle.std.proofs.lemmas.Bool.{false≢true}
+use Rattle.std.proofs.lemmas.List.Elements.{All-head, All-tail}
+use Rattle.std.proofs.lemmas.Option.{same_Some, none-some}
+use Rattle.word_ops.specs.declared.operators.WordOp.{WordOp}
+use Rattle.word_ops.specs.declared.operators.WordOp.TheVariants as ops
+use Rattle.word_ops.specs.declared.sorts.Op.{Op}
+use Rattle.word_ops.specs.declared.sorts.Op.TheVariants as op
+use Rattle.word_ops.specs.Operators.{value_at, arity_of}
+use Rattle.word_ops.specs.Values.{lda, ldah}
+use Rattle.word_ops.specs.Memory.{Memory, word_at, put_word, select, store, load, put}
+use Rattle.word_ops.specs.Worlds.{World, Value, word, memory}
+use Rattle.word_ops.specs.Meanings.{as_word, as_memory, arity_of_op}
+use Rattle.alpha_machine.specs.States.{MachineState}
+use Rattle.alpha_machine.specs.Steps.{step, second_value, is_unary, operate_value, address, with_register, next_pc}
+use Rattle.machine_table.specs.InstrOrder.{operate_kind}
+use Rattle.machine_table.specs.Tables.{cluster_of, MayUse}
+use Rattle.launch_graph.specs.Graphs.{row_meaning}
+use Rattle.schedule_meaning.specs.Launches.{launches, gives_word, is_store, is_load, instr_at, op_instr, word_op_instr as launch_instr, class_at, memory_after, IsFree, IsReadable, plain, op_operands, Operand, operate_operands, word_op_operands}
+use Rattle.register_assign.specs.Listings.{register_at, register_for, second_for, displacement_of, instr_of, row_instr, word_instr, operate_instr}
+use Rattle.alpha_encode.specs.declared.instructions.Instr.{Instr}
+use Rattle.launch_graph.specs.declared.graphs.LaunchRow.{LaunchRow}
+use Rattle.launch_graph.specs.declared.graphs.LaunchGraph.{LaunchGraph}
+use Rattle.machine_table.specs.declared.tables.Table.{Table}
+use Rattle.machine_table.specs.declared.tables.InstrKind.{InstrKind}
+use Rattle.machine_table.specs.declared.tables.InstrKind.TheVariants as kinds
+use Rattle.schedule_meaning.specs.declared.schedules.Launch.{Launch}
+use Rattle.register_assign.proofs.Operates.{operate_gives, operate_stores}
+use Rattle.register_assign.proofs.Reached.{HasReached}
+use Rattle.register_assign.proofs.Scene.{IsScene, row_with, kind_is, instr_is, value_is, arity_is, operand_value, can_is, reads_is, memory_class_is, place_few}
+use Rattle.register_assign.proofs.Operands.{displaced_constant, plain_reads, second_reads, address_reads, base_reads, high_base_reads}
+use Rattle.register_assign.proofs.Stores.{memory_found, all_stores_before, latest_push_last}
+use Rattle.register_assign.proofs.Running.{one_word_more, take_more, latest_push, less_or_last}
+use Rattle.register_assign.proofs.Proper.{pool_differs, pool_low}
+
+-- ---- the operators of the machine's own instructions
+
+lda_value : (a b c : ℕ) → value_at ops.Lda a b c ≡ lda a b
+unfolding value_at
+lda_value a b c = refl
+
+ldah_value : (a b c : ℕ) → value_at ops.Ldah a b c ≡ ldah a b
+unfolding value_at
+ldah_value a b c = refl
+
+select_is : (m : Memory) (a : ℕ) → word_at m (a / 8) ≡ select m a
+unfolding select
+select_is m a = refl
+
+store_is : (m : Memory) (a v : ℕ) → put_word m (a / 8) v ≡ store m a v
+unfolding store
+store_is m a v = refl
+
+load_is : (m : Memory) (x k : ℕ) → word_at m (lda x k / 8) ≡ load m x k
+unfolding load select
+load_is m x k = refl
+
+put_is : (m : Memory) (x k v : ℕ) → put_word m (lda x k / 8) v ≡ put m x k v
+unfolding put store
+put_is m x k v = refl
+
+operate_arity : (o : WordOp) (i : InstrKind) → operate_kind o ≡ Some i → ((is_unary o ≡ true) × (arity_of o ≡ 1)) ⊎ ((is_unary o ≡ false) × (arity_of o ≡ 2))
+operate_arity ops.Sextb i h = inl (refl, refl)
+operate_arity ops.Sextw i h = inl (refl, refl)
+operate_arity ops.Neg i h = absurd (none-some i h)
+operate_arity ops.Not i h = absurd (none-some i h)
+operate_arity ops.Selectb i h = absurd (none-some i h)
+operate_arity ops.Storeb i h = absurd (none-some i h)
+operate_arity ops.Lda i h = absurd (none-some i h)
+operate_arity ops.Ldah i h = absurd (none-some i h)
+operate_arity _ i h = inr (refl, refl)
+
+abbrev as_second_operand : ℕ → Operand
+as_second_operand y = record { class = y; second = true }
+
+-- ---- lists of a known length
+
+one_of : (xs : List ℕ) → length xs ≡ 1 → (x : ℕ) × (xs ≡ x ∷ [])
+one_of [] h = absurd (omega arith)
+one_of (x ∷ []) h = (x, refl)
+one_of (x ∷ y ∷ ys) h = absurd (omega arith)
+
+two_of : (xs : List ℕ) → length xs ≡ 2 → (x : ℕ) × (y : ℕ) × (xs ≡ x ∷ y ∷ [])
+two_of [] h = absurd (omega arith)
+two_of (x ∷ xs) h = let t = one_of xs (omega arith) in (x, t.0, ap (λ ys. x ∷ ys) t.1)
+
+three_of : (xs : List ℕ) → length xs ≡ 3 → (x : ℕ) × (y : ℕ) × (z : ℕ) × (xs ≡ x ∷ y ∷ z ∷ [])
+three_of [] h = absurd (omega arith)
+three_of (x ∷ xs) h = let t = two_of xs (omega arith) in (x, t.0, t.1, ap (λ ys. x ∷ ys) t.2)
+
+four_of : (xs : List ℕ) → length xs ≡ 4 → (x : ℕ) × (y : ℕ) × (z : ℕ) × (u : ℕ) × (xs ≡ x ∷ y ∷ z ∷ u ∷ [])
+four_of [] h = absurd (omega arith)
+four_of (x ∷ xs) h = let t = three_of xs (omega arith) in (x, t.0, t.1, t.2, ap (λ ys. x ∷ ys) t.3)
+
+module _ (g : LaunchGraph) (table : Table) (k : ℕ) (ordered : List Launch) (w : World) (value : ℕ → Value)
+    (scene : IsScene g table k ordered w value)
+    (n : ℕ) (l : Launch) (s : MachineState) (reached : HasReached g w value ordered n s) (here : slice_get ordered n ≡ Some l) where
+  operate_word_is : (o : WordOp) (xs : List ℕ) (i : InstrKind) → operate_kind o ≡ Some i → word_instr g table ordered n l o xs ≡ operate_instr g table ordered n l o xs
+  operate_word_is ops.Lda xs i h = absurd (none-some i h)
+  operate_word_is ops.Ldah xs i h = absurd (none-some i h)
+  operate_word_is _ xs i h = refl
+
+  abbrev Usable : Operand → Type 0
+  Usable p = IsFree g p ⊎ IsReadable g table ordered p.class l.cycle (cluster_of table l.slot)
+
+  abbrev Next : MachineState → Type 0
+  Next t = HasReached g w value ordered (n + 1) t
+
+  -- a word written to the launch's own register
+  given : (v : ℕ) → IsTrue (launches g gives_word l) → launches g is_store l ≡ false → word v ≡ value (class_at g l.row) → Next (with_register s (register_at g ordered n) v)
+  given v gives no_store is =
+      one_word_more g ordered scene.fits.pool (pool_differs g scene.proper) (pool_low g scene.proper) w value n s l v reached here gives no_store is (place_few g table k ordered w value scene n l here)
+
+  taken : take (n + 1) ordered ≡ take n ordered ++ l ∷ []
+  taken = ap (λ m. take m ordered) (let e : n + 1 ≡ suc n = omega arith in e) ∙ take_more ordered n l here
+
+  -- registers and the pc after a word that writes no register
+  no_word : (m : Memory) → launches g gives_word l ≡ false → memory m ≡ value (memory_after g (take (n + 1) ordered)) → Next (record { registers = s.registers; memory = m; pc = next_pc s.pc })
+  no_word m gives is =
+      let pc : s.pc ≡ 4 * n = reached.pc in
+      let few = place_few g table k ordered w value scene n l here in
+      record {
+        pc = omega arith;
+        count = reached.count;
+        memory_is = is;
+        kept = reached.kept;
+        given = λ j q lt e gq. elim (less_or_last g ordered scene.fits.pool (pool_differs g scene.proper) (pool_low g scene.proper) j n lt) [
+          | inl less ↦ reached.given j q less e gq
+          | inr same ↦ (
+              let one : q ≡ l = same_Some q l (sym e ∙ ap (slice_get ordered) same ∙ here) in
+              absurd (false≢true (sym gives ∙ subst (λ x. launches g gives_word x ≡ true) one gq)))
+        ];
+      }
+
+  stored : (m : Memory) → IsTrue (launches g is_store l) → launches g gives_word l ≡ false → memory m ≡ value (class_at g l.row) → Next (record { registers = s.registers; memory = m; pc = next_pc s.pc })
+  stored m is_one gives is =
+      no_word m gives
+      (is ∙ sym (ap (λ ls. value (memory_after g ls)) taken
+      ∙ ap (λ o. value (option_map_or (λ m. class_at g m.row) o g.entry)) (latest_push_last (launches g is_store) (take n ordered) l is_one (all_stores_before g ordered scene.order scene.fits.memory n l here (inr is_one)))))
+
+  -- a word that neither writes a register nor stores
+  pub passed : launches g is_store l ≡ false → launches g gives_word l ≡ false → Next (record { registers = s.registers; memory = s.memory; pc = next_pc s.pc })
+  passed no_store gives =
+      no_word s.memory gives
+      (reached.memory_is ∙ sym (ap (λ ls. value (memory_after g ls)) taken ∙ ap (λ o. value (option_map_or (λ m. class_at g m.row) o g.entry)) (latest_push (launches g is_store) (take n ordered) l no_store)))
+
+  module _ (class : ℕ) (o : Op) (name : List ℕ) (xs : List ℕ) (row : slice_get g.rows l.row ≡ Some (row_with class o name xs)) where
+    abbrev kind : instr_at g l.row ≡ op_instr g o xs
+    kind = kind_is g table k ordered w value scene n l here class o name xs row
+
+    abbrev reads : All Usable (op_operands o xs)
+    reads = reads_is g table k ordered w value scene n l here class o name xs row
+
+    abbrev can : IsSomeAnd (op_instr g o xs) (λ i. MayUse table i l.slot)
+    can = can_is g table k ordered w value scene n l here class o name xs row
+
+    abbrev meant : value (class_at g l.row) ≡ row_meaning w (row_with class o name xs) (map value xs)
+    meant = value_is g table k ordered w value scene n l here class o name xs row
+
+    abbrev instr : instr_of g table ordered n l ≡ row_instr g table ordered n l o xs
+    instr = instr_is g table k ordered w value scene n l here class o name xs row
+
+    -- the memory that a load or store finds
+    found : IsTrue (launches g is_load l) ⊎ IsTrue (launches g is_store l) → value (slice_index xs 0) ≡ memory s.memory
+    found uses =
+        ap value (sym (memory_class_is g table k ordered w value scene n l here class o name xs row) ∙ memory_found g ordered scene.order scene.fits.memory n l here uses)
+        ∙ sym reached.memory_is
+
+    does : (test : InstrKind → Bool) (b : Bool) → option_map_or test (op_instr g o xs) false ≡ b → launches g test l ≡ b
+    does test b h = ap (λ q. option_map_or test q false) kind ∙ h
+
+  abbrev now : Instr
+  now = instr_of g table ordered n l
+
+  -- ---- lda and ldah
+
+  module _ (class x d : ℕ) (name : List ℕ) (row : slice_get g.rows l.row ≡ Some (row_with class (op.Word ops.Lda) name (x ∷ d ∷ []))) where
+    lda_step : Next (step now s)
+    lda_step =
+        let c = displaced_constant g d kinds.Lda (λ i. MayUse table i l.slot) (can class (op.Word ops.Lda) name (x ∷ d ∷ []) row) in
+        let test : (f : InstrKind → Bool) → launches g f l ≡ f kinds.Lda = λ f. does class (op.Word ops.Lda) name (x ∷ d ∷ []) row f (f kinds.Lda) (ap (λ q. option_map_or f (if is_some q then Some kinds.Lda else None) false) c.1) in
+        subst (λ i. Next (step i s)) (sym (instr class (op.Word ops.Lda) name (x ∷ d ∷ []) row))
+        (given (address (slice_index s.registers (register_for g table ordered l x)) 1 (displacement_of g d)) (test gives_word) (test is_store)
+        (ap word (base_reads g table k ordered w value scene n l s reached here x d c.0 (All-head Usable (plain x) [] (reads class (op.Word ops.Lda) name (x ∷ d ∷ []) row)) c.1)
+        ∙ ap word (sym (lda_value (as_word (value x)) (as_word (value d)) 0))
+        ∙ sym (meant class (op.Word ops.Lda) name (x ∷ d ∷ []) row)))
+
+  module _ (class x d : ℕ) (name : List ℕ) (row : slice_get g.rows l.row ≡ Some (row_with class (op.Word ops.Ldah) name (x ∷ d ∷ []))) where
+    ldah_step : Next (step now s)
+    ldah_step =
+        let c = displaced_constant g d kinds.Ldah (λ i. MayUse table i l.slot) (can class (op.Word ops.Ldah) name (x ∷ d ∷ []) row) in
+        let test : (f : InstrKind → Bool) → launches g f l ≡ f kinds.Ldah = λ f. does class (op.Word ops.Ldah) name (x ∷ d ∷ []) row f (f kinds.Ldah) (ap (λ q. option_map_or f (if is_some q then Some kinds.Ldah else None) false) c.1) in
+        subst (λ i. Next (step i s)) (sym (instr class (op.Word ops.Ldah) name (x ∷ d ∷ []) row))
+        (given (address (slice_index s.registers (register_for g table ordered l x)) 65536 (displacement_of g d)) (test gives_word) (test is_store)
+        (ap word (high_base_reads g table k ordered w value scene n l s reached here x d c.0 (All-head Usable (plain x) [] (reads class (op.Word ops.Ldah) name (x ∷ d ∷ []) row)) c.1)
+        ∙ ap word (sym (ldah_value (as_word (value x)) (as_word (value d)) 0))
+        ∙ sym (meant class (op.Word ops.Ldah) name (x ∷ d ∷ []) row)))
+
+  -- ---- loads
+
+  module _ (class m a : ℕ) (name : List ℕ) (row : slice_get g.rows l.row ≡ Some (row_with class op.Select name (m ∷ a ∷ []))) where
+    select_step : Next (step now s)
+    select_step =
+        let test : (f : InstrKind → Bool) → launches g f l ≡ f kinds.LdqU = λ f. does class op.Select name (m ∷ a ∷ []) row f (f kinds.LdqU) refl in
+        subst (λ i. Next (step i s)) (sym (instr class op.Select name (m ∷ a ∷ []) row))
+        (given (word_at s.memory (address (slice_index s.registers (register_for g table ordered l a)) 1 (pos 0) / 8)) (test gives_word) (test is_store)
+        (ap (λ b. word (word_at s.memory (b / 8))) (address_reads g table k ordered w value scene n l s reached here a (All-head Usable (plain a) [] (reads class op.Select name (m ∷ a ∷ []) row)) (operand_value g table k ordered w value scene n l here class op.Select name (m ∷ a ∷ []) row 1 (omega arith)))
+        ∙ ap word (select_is s.memory (as_word (value a)))
+        ∙ ap (λ v. word (select (as_memory v) (as_word (value a)))) (sym (found class op.Select name (m ∷ a ∷ []) row (inl (test is_load))))
+        ∙ sym (meant class op.Select name (m ∷ a ∷ []) row)))
+
+  module _ (class m x d : ℕ) (name : List ℕ) (row : slice_get g.rows l.row ≡ Some (row_with class op.Load name (m ∷ x ∷ d ∷ []))) where
+    load_step : Next (step now s)
+    load_step =
+        let c = displaced_constant g d kinds.LdqU (λ i. MayUse table i l.slot) (can class op.Load name (m ∷ x ∷ d ∷ []) row) in
+        let test : (f : InstrKind → Bool) → launches g f l ≡ f kinds.LdqU = λ f. does class op.Load name (m ∷ x ∷ d ∷ []) row f (f kinds.LdqU) (ap (λ q. option_map_or f (if is_some q then Some kinds.LdqU else None) false) c.1) in
+        subst (λ i. Next (step i s)) (sym (instr class op.Load name (m ∷ x ∷ d ∷ []) row))
+        (given (word_at s.memory (address (slice_index s.registers (register_for g table ordered l x)) 1 (displacement_of g d) / 8)) (test gives_word) (test is_store)
+        (ap (λ b. word (word_at s.memory (b / 8))) (base_reads g table k ordered w value scene n l s reached here x d c.0 (All-head Usable (plain x) [] (reads class op.Load name (m ∷ x ∷ d ∷ []) row)) c.1)
+        ∙ ap word (load_is s.memory (as_word (value x)) (as_word (value d)))
+        ∙ ap (λ v. word (load (as_memory v) (as_word (value x)) (as_word (value d)))) (sym (found class op.Load name (m ∷ x ∷ d ∷ []) row (inl (test is_load))))
+        ∙ sym (meant class op.Load name (m ∷ x ∷ d ∷ []) row)))
+
+  -- ---- stores
+
+  module _ (class m a v : ℕ) (name : List ℕ) (row : slice_get g.rows l.row ≡ Some (row_with class op.Store name (m ∷ a ∷ v ∷ []))) where
+    store_step : Next (step now s)
+    store_step =
+        let test : (f : InstrKind → Bool) → launches g f l ≡ f kinds.StqU = λ f. does class op.Store name (m ∷ a ∷ v ∷ []) row f (f kinds.StqU) refl in
+        let both = reads class op.Store name (m ∷ a ∷ v ∷ []) row in
+        subst (λ i. Next (step i s)) (sym (instr class op.Store name (m ∷ a ∷ v ∷ []) row))
+        (stored (put_word s.memory (address (slice_index s.registers (register_for g table ordered l a)) 1 (pos 0) / 8) (slice_index s.registers (register_for g table ordered l v))) (test is_store) (test gives_word)
+        (ap (λ b. memory (put_word s.memory (b / 8) (slice_index s.registers (register_for g table ordered l v)))) (address_reads g table k ordered w value scene n l s reached here a (All-head Usable (plain a) (plain v ∷ []) both) (operand_value g table k ordered w value scene n l here class op.Store name (m ∷ a ∷ v ∷ []) row 1 (omega arith)))
+        ∙ ap memory (store_is s.memory (as_word (value a)) (slice_index s.registers (register_for g table ordered l v)))
+        ∙ ap (λ u. memory (store s.memory (as_word (value a)) (as_word u))) (plain_reads g table k ordered w value scene n l s reached here v (All-head Usable (plain v) [] (All-tail Usable (plain a) (plain v ∷ []) both)))
+        ∙ ap (λ u. memory (store (as_memory u) (as_word (value a)) (as_word (value v)))) (sym (found class op.Store name (m ∷ a ∷ v ∷ []) row (inr (test is_store))))
+        ∙ sym (meant class op.Store name (m ∷ a ∷ v ∷ []) row)))
+
+  module _ (class m x d v : ℕ) (name : List ℕ) (row : slice_get g.rows l.row ≡ Some (row_with class op.Put name (m ∷ x ∷ d ∷ v ∷ []))) where
+    put_step : Next (step now s)
+    put_step =
+        let c = displaced_constant g d kinds.StqU (λ i. MayUse table i l.slot) (can class op.Put name (m ∷ x ∷ d ∷ v ∷ []) row) in
+        let test : (f : InstrKind → Bool) → launches g f l ≡ f kinds.StqU = λ f. does class op.Put name (m ∷ x ∷ d ∷ v ∷ []) row f (f kinds.StqU) (ap (λ q. option_map_or f (if is_some q then Some kinds.StqU else None) false) c.1) in
+        let both = reads class op.Put name (m ∷ x ∷ d ∷ v ∷ []) row in
+        subst (λ i. Next (step i s)) (sym (instr class op.Put name (m ∷ x ∷ d ∷ v ∷ []) row))
+        (stored (put_word s.memory (address (slice_index s.registers (register_for g table ordered l x)) 1 (displacement_of g d) / 8) (slice_index s.registers (register_for g table ordered l v))) (test is_store) (test gives_word)
+        (ap (λ b. memory (put_word s.memory (b / 8) (slice_index s.registers (register_for g table ordered l v)))) (base_reads g table k ordered w value scene n l s reached here x d c.0 (All-head Usable (plain x) (plain v ∷ []) both) c.1)
+        ∙ ap memory (put_is s.memory (as_word (value x)) (as_word (value d)) (slice_index s.registers (register_for g table ordered l v)))
+        ∙ ap (λ u. memory (put s.memory (as_word (value x)) (as_word (value d)) (as_word u))) (plain_reads g table k ordered w value scene n l s reached here v (All-head Usable (plain v) [] (All-tail Usable (plain x) (plain v ∷ []) both)))
+        ∙ ap (λ u. memory (put (as_memory u) (as_word (value x)) (as_word (value d)) (as_word (value v)))) (sym (found class op.Put name (m ∷ x ∷ d ∷ v ∷ []) row (inr (test is_store))))
+        ∙ sym (meant class op.Put name (m ∷ x ∷ d ∷ v ∷ []) row)))
+
+  -- ---- operates
+
+  module _ (o : WordOp) (i : InstrKind) (is_op : operate_kind o ≡ Some i) where
+    kind_of_operate : (q : WordOp) (xs : List ℕ) → operate_kind q ≡ Some i → launch_instr g q xs ≡ Some i
+    kind_of_operate ops.Lda xs h = absurd (none-some i h)
+    kind_of_operate ops.Ldah xs h = absurd (none-some i h)
+    kind_of_operate _ xs h = h
+
+    operate_tests : (class : ℕ) (name xs : List ℕ) → slice_get g.rows l.row ≡ Some (row_with class (op.Word o) name xs) → (f : InstrKind → Bool) → launches g f l ≡ f i
+    operate_tests class name xs row f =
+        does class (op.Word o) name xs row f (f i) (ap (λ q. option_map_or f q false) (kind_of_operate o xs is_op))
+
+    operands_of : (xs : List ℕ) → word_op_operands o xs ≡ operate_operands xs
+    operands_of xs = ap (λ q. if is_some q then operate_operands xs else plain (slice_index xs 0) ∷ []) is_op
+
+    module _ (class x : ℕ) (name : List ℕ) (row : slice_get g.rows l.row ≡ Some (row_with class (op.Word o) name (x ∷ []))) (unary : is_unary o ≡ true) where
+      one_step : Next (step now s)
+      one_step =
+          let test : (f : InstrKind → Bool) → launches g f l ≡ f i = operate_tests class name (x ∷ []) row in
+          let usable : All Usable (operate_operands (x ∷ [])) = subst (All Usable) (operands_of (x ∷ [])) (reads class (op.Word o) name (x ∷ []) row) in
+          let second : ℕ = second_value (second_for g table ordered l x) s.registers in
+          subst (λ i. Next (step i s)) (sym (instr class (op.Word o) name (x ∷ []) row ∙ operate_word_is o (x ∷ []) i is_op))
+          (given (operate_value o (slice_index s.registers 31) second) (test gives_word ∙ operate_gives o i is_op) (test is_store ∙ operate_stores o i is_op)
+          (ap (λ b. word (if b then value_at o second 0 0 else value_at o (slice_index s.registers 31) second 0)) unary
+          ∙ ap (λ v. word (value_at o (as_word v) 0 0)) (second_reads g table k ordered w value scene n l s reached here x (All-head Usable (as_second_operand x) [] usable))
+          ∙ sym (meant class (op.Word o) name (x ∷ []) row)))
+
+    module _ (class x y : ℕ) (name : List ℕ) (row : slice_get g.rows l.row ≡ Some (row_with class (op.Word o) name (x ∷ y ∷ []))) (binary : is_unary o ≡ false) where
+      two_step : Next (step now s)
+      two_step =
+          let test : (f : InstrKind → Bool) → launches g f l ≡ f i = operate_tests class name (x ∷ y ∷ []) row in
+          let usable : All Usable (operate_operands (x ∷ y ∷ [])) = subst (All Usable) (operands_of (x ∷ y ∷ [])) (reads class (op.Word o) name (x ∷ y ∷ []) row) in
+          let first : ℕ = slice_index s.registers (register_for g table ordered l x) in
+          let second : ℕ = second_value (second_for g table ordered l y) s.registers in
+          subst (λ i. Next (step i s)) (sym (instr class (op.Word o) name (x ∷ y ∷ []) row ∙ operate_word_is o (x ∷ y ∷ []) i is_op))
+          (given (operate_value o first second) (test gives_word ∙ operate_gives o i is_op) (test is_store ∙ operate_stores o i is_op)
+          (ap (λ b. word (if b then value_at o second 0 0 else value_at o first second 0)) binary
+          ∙ ap (λ v. word (value_at o (as_word v) second 0)) (plain_reads g table k ordered w value scene n l s reached here x (All-head Usable (plain x) (as_second_operand y ∷ []) usable))
+          ∙ ap (λ v. word (value_at o (as_word (value x)) (as_word v) 0)) (second_reads g table k ordered w value scene n l s reached here y (All-head Usable (as_second_operand y) [] (All-tail Usable (plain x) (as_second_operand y ∷ []) usable)))
+          ∙ sym (meant class (op.Word o) name (x ∷ y ∷ []) row)))
+
+  -- ---- each row that can be launched
+
+  module _ (class : ℕ) (name xs : List ℕ) where
+    abbrev Row : Op → List ℕ → Type 0
+    Row o ys = slice_get g.rows l.row ≡ Some (row_with class o name ys)
+
+    as_list : (o : Op) (ys : List ℕ) → xs ≡ ys → Row o xs → Row o ys
+    as_list o ys e row = subst (Row o) e row
+
+    arity : (o : Op) → Row o xs → length xs ≡ arity_of_op o
+    arity o row = arity_is g table k ordered w value scene n l here class o name xs row
+
+    operate_step : (o : WordOp) (i : InstrKind) → operate_kind o ≡ Some i → Row (op.Word o) xs → Next (step now s)
+    operate_step o i is_op row =
+        elim (operate_arity o i is_op) [
+          | inl u ↦ (let t = one_of xs (arity (op.Word o) row ∙ u.1) in one_step o i is_op class t.0 name (as_list (op.Word o) (t.0 ∷ []) t.1 row) u.0)
+          | inr b ↦ (let t = two_of xs (arity (op.Word o) row ∙ b.1) in two_step o i is_op class t.0 t.1 name (as_list (op.Word o) (t.0 ∷ t.1 ∷ []) t.2 row) b.0)
+        ]
+
+    operate_by : (o : WordOp) → Row (op.Word o) xs → (q : Option InstrKind) → operate_kind o ≡ q → IsSomeAnd q (λ i. MayUse table i l.slot) → Next (step now s)
+    operate_by o row (Some i) e h = operate_step o i e row
+    operate_by o row None e h = absurd h
+
+    word_step : (o : WordOp) → Row (op.Word o) xs → IsSomeAnd (launch_instr g o xs) (λ i. MayUse table i l.slot) → Next (step now s)
+    word_step ops.Lda row h = (let t = two_of xs (arity (op.Word ops.Lda) row) in lda_step class t.0 t.1 name (as_list (op.Word ops.Lda) (t.0 ∷ t.1 ∷ []) t.2 row))
+    word_step ops.Ldah row h = (let t = two_of xs (arity (op.Word ops.Ldah) row) in ldah_step class t.0 t.1 name (as_list (op.Word ops.Ldah) (t.0 ∷ t.1 ∷ []) t.2 row))
+    word_step o row h = operate_by o row (operate_kind o) refl h
+
+    by_op : (o : Op) → Row o xs → IsSomeAnd (op_instr g o xs) (λ i. MayUse table i l.slot) → Next (step now s)
+    by_op (op.Word o) row h = word_step o row h
+    by_op op.Select row h = (let t = two_of xs (arity op.Select row) in select_step class t.0 t.1 name (as_list op.Select (t.0 ∷ t.1 ∷ []) t.2 row))
+    by_op op.Store row h = (let t = three_of xs (arity op.Store row) in store_step class t.0 t.1 t.2 name (as_list op.Store (t.0 ∷ t.1 ∷ t.2 ∷ []) t.3 row))
+    by_op op.Load row h = (let t = three_of xs (arity op.Load row) in load_step class t.0 t.1 t.2 name (as_list op.Load (t.0 ∷ t.1 ∷ t.2 ∷ []) t.3 row))
+    by_op op.Put row h = (let t = four_of xs (arity op.Put row) in put_step class t.0 t.1 t.2 t.3 name (as_list op.Put (t.0 ∷ t.1 ∷ t.2 ∷ t.3 ∷ []) t.4 row))
+    by_op op.Entry row h = absurd h
+    by_op (op.Input r) row h = absurd h
+    by_op (op.Constant c) row h = absurd h
+    by_op (op.Declared d a) row h = absurd h
+
+  -- a launch of a row
+  pub row_step : (r : LaunchRow) → slice_get g.rows l.row ≡ Some r → Next (step now s)
+  row_step r row = by_op r.class r.name r.operands r.op row (can r.class r.op r.name r.operands row)

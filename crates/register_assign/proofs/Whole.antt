@@ -1,0 +1,64 @@
+-- From one word more to all words.
+use Rattle.std.proofs.Common.{◌≡◌, ℕ, zero, suc, ◌+◌, ◌*◌, ◌/◌, ◌<◌, ◌≤◌, List, [], ◌∷◌, length, refl, sym, ◌∙◌, ap, subst, inl, inr, arith, Option, Some}
+use Rattle.std.specs.Prelude.{slice_get}
+use Rattle.std.specs.Option.{option_map_or}
+use Rattle.std.proofs.lemmas.Option.{slice_get_cases, same_Some, none-some}
+use Rattle.word_ops.specs.Worlds.{World, IsWorld, Value}
+use Rattle.launch_graph.specs.Graphs.{IsTrueUnder}
+use Rattle.alpha_machine.specs.States.{MachineState}
+use Rattle.alpha_machine.specs.Steps.{step}
+use Rattle.alpha_machine.specs.Runs.{stepped, after}
+use Rattle.register_assign.specs.Listings.{items_from, items_of, instr_of}
+use Rattle.register_assign.specs.Outcomes.{entry_state, instrs_of}
+use Rattle.register_assign.proofs.Reached.{HasReached}
+use Rattle.alpha_encode.specs.declared.instructions.Instr.{Instr}
+use Rattle.launch_graph.specs.declared.graphs.LaunchGraph.{LaunchGraph}
+use Rattle.machine_table.specs.declared.tables.Table.{Table}
+use Rattle.schedule_meaning.specs.declared.schedules.Launch.{Launch}
+
+pub after_more : (n : ℕ) (is : List Instr) (s : MachineState) → after (suc n) is s ≡ stepped is (after n is s)
+after_more zero is s = refl
+after_more (suc n) is s = after_more n is (stepped is s)
+
+module _ (g : LaunchGraph) (table : Table) (ordered : List Launch) where
+  word_from : (i : ℕ) (ls : List Launch) (n m : ℕ) (l : Launch) → slice_get ls n ≡ Some l → m ≡ i + n → slice_get (instrs_of (items_from g table ordered i ls)) n ≡ Some (instr_of g table ordered m l)
+  word_from i [] n m l e k = absurd (none-some l e)
+  word_from i (x ∷ ls) zero m l e k = ap (λ y. Some (instr_of g table ordered i y)) (same_Some x l e) ∙ ap (λ j. Some (instr_of g table ordered j l)) (let j : i ≡ m = omega arith in j)
+  word_from i (x ∷ ls) (suc n) m l e k = word_from (i + 1) ls n m l e (omega arith)
+
+  -- the word at place n is that of the launch there
+  pub word_at_place : (n : ℕ) (l : Launch) → slice_get ordered n ≡ Some l → slice_get (instrs_of (items_of g table ordered)) n ≡ Some (instr_of g table ordered n l)
+  word_at_place n l e = word_from 0 ordered n n l e (omega arith)
+
+  -- `each` is asked of the words before a place alone
+  module _ (w : World) (value : ℕ → Value) (bound : ℕ)
+      (each : (n : ℕ) (l : Launch) (s : MachineState) → n < bound → slice_get ordered n ≡ Some l → HasReached g w value ordered n s → HasReached g w value ordered (n + 1) (step (instr_of g table ordered n l) s)) where
+    abbrev words : List Instr
+    words = instrs_of (items_of g table ordered)
+
+    one_step : (n : ℕ) (s : MachineState) → n < bound → n < length ordered → HasReached g w value ordered n s → HasReached g w value ordered (n + 1) (stepped words s)
+    one_step n s inside lt h = elim ((slice_get_cases ordered n).1) [
+      | inl a ↦ (
+          let l = a.0 in
+          let pc : s.pc ≡ 4 * n = h.pc in
+          let at : slice_get words (s.pc / 4) ≡ Some (instr_of g table ordered n l) = ap (slice_get words) (let k : s.pc / 4 ≡ n = omega arith in k) ∙ word_at_place n l a.2 in
+          subst (λ (o : Option Instr). HasReached g w value ordered (n + 1) (option_map_or (λ i. step i s) o s)) (sym at) (each n l s inside a.2 h))
+      | inr b ↦ (let le : length ordered ≤ n = b.0 in absurd (omega arith))
+    ]
+
+    pub reached_after : (n : ℕ) → n ≤ bound → n ≤ length ordered → HasReached g w value ordered 0 (entry_state w) → HasReached g w value ordered n (after n words (entry_state w))
+    reached_after zero inside le h = h
+    reached_after (suc n) inside le h =
+        let more : HasReached g w value ordered (n + 1) (stepped words (after n words (entry_state w))) = one_step n (after n words (entry_state w)) (omega arith) (omega arith) (reached_after n (omega arith) (omega arith) h) in
+        subst (λ s. HasReached g w value ordered (suc n) s) (sym (after_more n words (entry_state w)))
+        (subst (λ k. HasReached g w value ordered k (stepped words (after n words (entry_state w)))) (let k : n + 1 ≡ suc n = omega arith in k) more)
+
+-- before the first word
+pub reached_first : (g : LaunchGraph) (w : World) (value : ℕ → Value) (ordered : List Launch) → IsWorld w → IsTrueUnder g w value → HasReached g w value ordered 0 (entry_state w)
+reached_first g w value ordered world t = record {
+  pc = omega arith;
+  count = world.registers;
+  memory_is = sym t.entry;
+  kept = λ r out. refl;
+  given = λ j l lt e gives. absurd (omega arith);
+}

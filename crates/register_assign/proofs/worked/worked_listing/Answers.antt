@@ -1,0 +1,11 @@
+-- Each is decided by computing.
+use Rattle.std.proofs.Common.{refl}
+use Rattle.machine_table.specs.Tables.{ev6}
+use Rattle.register_assign.proofs.worked.worked_listing.Goals as goal
+
+pub returns : goal.returns
+unfolding ev6
+returns c = record {
+  words = refl;
+  places = refl;
+}

@@ -1,0 +1,5 @@
+pub mod Listings
+pub mod Obeys
+pub mod Outcomes
+pub mod Places
+pub mod Assigned

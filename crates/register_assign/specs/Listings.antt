@@ -1,0 +1,119 @@
+-- The instructions of a schedule in word order, and the places of its targets.
+-- Source: this project. Each launch that gives a word has a pool register of its own.
+use Rattle.std.specs.Prelude.{◌≡◌, ℕ, ℤ, pos, ◌+◌, ◌-◌, ◌%◌, ◌^◌, List, [], ◌∷◌, map, length, Option, Some, None, ◌==◌, ◌&&◌, nat_le, Bool, true, false, not, unwrap_or, position, count_by, filter, take, slice_index, slice_get, if◌then◌else◌}
+use Rattle.std.specs.Option.{option_map_or}
+use Rattle.std.specs.Int.{cast_signed, w16}
+use Rattle.word_ops.specs.declared.operators.WordOp.{WordOp}
+use Rattle.word_ops.specs.declared.operators.WordOp.TheVariants as ops
+use Rattle.machine_table.specs.Tables.{cluster_of}
+use Rattle.launch_graph.specs.Graphs.{constant_of, input_register, is_memory_name}
+use Rattle.schedule_meaning.specs.Launches.{launches, gives_word, gives, ready_in, IsInWordOrder}
+use Rattle.alpha_encode.specs.declared.instructions.Second.{Second}
+use Rattle.alpha_encode.specs.declared.instructions.Second.TheVariants.{Reg, Literal}
+use Rattle.alpha_encode.specs.declared.instructions.Instr.{Instr}
+use Rattle.alpha_encode.specs.declared.instructions.Instr.TheVariants.{Operate, Lda, Ldah, LdqU, StqU, Beq}
+use Rattle.word_ops.specs.declared.sorts.Op.{Op}
+use Rattle.word_ops.specs.declared.sorts.Op.TheVariants as op
+use Rattle.register_assign.specs.declared.listings.Item.{Item}
+use Rattle.register_assign.specs.declared.listings.Where.{Where}
+use Rattle.machine_table.specs.declared.tables.Table.{Table}
+use Rattle.launch_graph.specs.declared.graphs.SetClass.{SetClass}
+use Rattle.launch_graph.specs.declared.graphs.LaunchGraph.{LaunchGraph}
+use Rattle.schedule_meaning.specs.declared.schedules.Launch.{Launch}
+
+-- ---- registers and words. `ordered` is the schedule in word order
+
+-- the register of the launch at place i that gives a word: the n-th such takes the n-th of the pool
+abbrev pub register_at : LaunchGraph → List Launch → ℕ → ℕ
+register_at g ordered i = slice_index g.pool (count_by (launches g gives_word) (take i ordered))
+
+abbrev pub or_register : Option ℕ → ℕ → ℕ
+or_register None r = r
+or_register (Some r) _ = r
+
+abbrev pub is_zero : LaunchGraph → ℕ → Bool
+is_zero g class = option_map_or (λ n. n == 0) (constant_of g class) false
+
+-- 31 for the zero class, or the first input's register, or that of the first launch that passes
+abbrev pub register_by : LaunchGraph → List Launch → (Launch → Bool) → ℕ → ℕ
+register_by g ordered test class =
+    if is_zero g class then 31
+    else or_register (input_register g class)
+    (option_map_or (register_at g ordered) (position (λ l. gives g class l && test l) ordered) 31)
+
+abbrev pub register_for : LaunchGraph → Table → List Launch → Launch → ℕ → ℕ
+register_for g table ordered l class =
+    register_by g ordered (λ m. nat_le (ready_in g table (cluster_of table l.slot) m) l.cycle) class
+
+abbrev pub target_register : LaunchGraph → List Launch → ℕ → ℕ
+target_register g ordered class = register_by g ordered (λ m. true) class
+
+abbrev pub literal_or : Option ℕ → Second → Second
+literal_or None second = second
+literal_or (Some n) second = if nat_le n 255 then Literal n else second
+
+abbrev pub second_for : LaunchGraph → Table → List Launch → Launch → ℕ → Second
+second_for g table ordered l class = literal_or (constant_of g class) (Reg (register_for g table ordered l class))
+
+-- the low 16 bits of the constant, with sign
+abbrev pub displacement_of : LaunchGraph → ℕ → ℤ
+displacement_of g class = cast_signed w16 (unwrap_or (constant_of g class) 0 % 2 ^ 16)
+
+module _ (g : LaunchGraph) (table : Table) (ordered : List Launch) (i : ℕ) (l : Launch) where
+  abbrev pub reg : ℕ → ℕ
+  reg class = register_for g table ordered l class
+
+  abbrev pub own : ℕ
+  own = register_at g ordered i
+
+  abbrev pub operate_instr : WordOp → List ℕ → Instr
+  operate_instr op [] = Operate op 31 (Reg 31) own
+  operate_instr op (x ∷ []) = Operate op 31 (second_for g table ordered l x) own
+  operate_instr op (x ∷ y ∷ ys) = Operate op (reg x) (second_for g table ordered l y) own
+
+  abbrev pub word_instr : WordOp → List ℕ → Instr
+  word_instr ops.Lda operands = Lda own (reg (slice_index operands 0)) (displacement_of g (slice_index operands 1))
+  word_instr ops.Ldah operands = Ldah own (reg (slice_index operands 0)) (displacement_of g (slice_index operands 1))
+  word_instr op operands = operate_instr op operands
+
+  abbrev pub row_instr : Op → List ℕ → Instr
+  row_instr (op.Word o) operands = word_instr o operands
+  row_instr op.Select operands = LdqU own (reg (slice_index operands 1)) (pos 0)
+  row_instr op.Load operands = LdqU own (reg (slice_index operands 1)) (displacement_of g (slice_index operands 2))
+  row_instr op.Store operands = StqU (reg (slice_index operands 2)) (reg (slice_index operands 1)) (pos 0)
+  row_instr op.Put operands =
+      StqU (reg (slice_index operands 3)) (reg (slice_index operands 1)) (displacement_of g (slice_index operands 2))
+  row_instr _ operands = Operate ops.Bis 31 (Reg 31) 31
+
+  abbrev pub branch_class : ℕ
+  branch_class = option_map_or (λ guard. guard.class) g.guard 0
+
+  -- the word of the launch l at place i
+  abbrev pub instr_of : Instr
+  instr_of =
+      option_map_or (λ r. row_instr r.op r.operands) (slice_get g.rows l.row)
+      (Beq (reg branch_class) (pos (length ordered - i)))
+
+  abbrev pub item_of : Item
+  item_of = record { instr = instr_of; cycle = l.cycle; slot = l.slot }
+
+abbrev pub items_from : LaunchGraph → Table → List Launch → ℕ → List Launch → List Item
+items_from g table ordered i [] = []
+items_from g table ordered i (l ∷ ls) = item_of g table ordered i l ∷ items_from g table ordered (i + 1) ls
+
+abbrev pub items_of : LaunchGraph → Table → List Launch → List Item
+items_of g table ordered = items_from g table ordered 0 ordered
+
+abbrev pub word_targets : LaunchGraph → List SetClass
+word_targets g = filter (λ s. not (is_memory_name s.name)) g.sets
+
+abbrev pub wheres_of : LaunchGraph → List Launch → List Where
+wheres_of g ordered = map (λ s. record { name = s.name; reg = target_register g ordered s.class }) (word_targets g)
+
+-- the items and places of a schedule
+pub record IsListing (g : LaunchGraph) (table : Table) (ls : List Launch) (items : List Item)
+    (wheres : List Where) : Type 0 where
+  pub ordered : List Launch
+  pub order : IsInWordOrder g ls ordered
+  pub items_are : items ≡ items_of g table ordered
+  pub wheres_are : wheres ≡ wheres_of g ordered

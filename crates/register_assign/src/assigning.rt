@@ -1,0 +1,55 @@
+// From a schedule to its listing.
+ghost use Rattle.std.specs.Prelude.{◌≡◌, ◌≤◌, ◌<◌, ◌^◌, length, IfOk};
+ghost use Rattle.machine_table.specs.Tables.{IsTable};
+ghost use Rattle.launch_graph.specs.WellFormed.{IsLaunchGraph};
+ghost use Rattle.schedule_meaning.specs.Launches.{IsInWordOrder};
+ghost use Rattle.schedule_meaning.specs.Fits.{Fits};
+ghost use Rattle.register_assign.specs.Assigned.{IsTheListing, HaveWords, MayRun, KeepsWord};
+
+use crate::listings::Listing;
+use crate::wording::{items_of, wheres_of};
+use items::NoMemory;
+use launch_graph::LaunchGraph;
+use machine_table::Table;
+use schedule_meaning::{Launch, Schedule, group_of};
+use std::alloc::Global;
+
+/// The launches in word order.
+pub(crate) fn in_word_order(
+    alloc: Global,
+    graph: &LaunchGraph,
+    launches: &[Launch],
+) -> Result<Vec<Launch>, NoMemory>
+    ensures { IfOk result (λ ordered. IsInWordOrder graph.now launches.now ordered.items) }
+{
+    let mut ordered = Vec::from_slice(alloc, launches)?;
+    ordered.sort_unstable_by_key(|launch| (launch.cycle, group_of(graph, *launch), launch.slot));
+    Ok(ordered)
+}
+
+/// The instructions of a schedule in word order, each launch that gives a word with a pool register of its own, and the
+/// registers of the word targets. On a proper graph the items keep to the table, and their words do what the graph
+/// says. It sorts the launches, and for each operand goes over the launches and the graph's rows.
+pub fn assign(
+    alloc: Global,
+    graph: &LaunchGraph,
+    table: &Table,
+    k: u32,
+    schedule: &Schedule,
+) -> Result<Listing, NoMemory>
+    requires graph { IsLaunchGraph graph.now }
+    requires table { IsTable table.now }
+    requires fits { Fits graph.now table.now k schedule.now.launches }
+    requires few { k ≤ 24 }
+    ensures listing { IfOk result
+        (λ l. IsTheListing graph.now table.now schedule.now.launches l.items l.wheres) }
+    ensures words { IfOk result (λ l. HaveWords l.items) }
+    ensures run { IfOk result (λ l. MayRun l.items) }
+    ensures keeps { IfOk result (λ l. KeepsWord graph.now table.now k l.items l.wheres) }
+{
+    let ordered = in_word_order(alloc, graph, schedule.launches.as_slice())?;
+    Ok(Listing {
+        items: items_of(alloc, graph, table, &ordered)?,
+        wheres: wheres_of(alloc, graph, table, &ordered)?,
+    })
+}

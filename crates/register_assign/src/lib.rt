@@ -1,0 +1,19 @@
+//! From a fitting schedule to instructions: word order, the register of each launch, and the places of the targets.
+//!
+//! The instructions keep to the machine's table, and their words do what the launch graph says.
+#![tactic(auto)]
+
+mod assigning;
+mod listings;
+mod registers;
+mod worded;
+mod wording;
+mod worked;
+
+pub use assigning::assign;
+pub use listings::{Item, Listing, Where};
+pub use worded::words_of;
+pub use worked::worked_listing;
+
+#[cfg(test)]
+mod tests;

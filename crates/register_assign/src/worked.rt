@@ -1,0 +1,13 @@
+// What the definitions say of a worked schedule.
+ghost use Rattle.std.specs.Prelude.{◌≡◌, ◌∷◌, [], map};
+ghost use Rattle.alpha_encode.specs.Formats.{encoded};
+ghost use Rattle.machine_table.specs.Tables.{ev6};
+ghost use Rattle.schedule_meaning.specs.Worked.{copy_graph, copy_with};
+ghost use Rattle.register_assign.specs.Listings.{items_of, wheres_of};
+
+/// A loop that copies words, on the Alpha 21264's own table: its words, and the registers of its two word targets.
+pub fn worked_listing()
+    ensures words { map (λ item. encoded item.instr) (items_of copy_graph ev6 (copy_with 1 4))
+        ≡ 1108476832 ∷ 1107366913 ∷ 1109464066 ∷ 3825205251 ∷ 745537536 ∷ 1014038528 ∷ [] }
+    ensures places { map (λ place. place.reg) (wheres_of copy_graph (copy_with 1 4)) ≡ 1 ∷ 2 ∷ [] }
+{}
