@@ -1,5 +1,5 @@
 -- The rows of the replies exclude one another.
-use Rattle.std.proofs.Common.{◌≡◌, ℕ, ◌<◌, ◌≤◌, ◌⊎◌, ◌↔◌, List, length, Some, sym, ap, ◌∙◌, subst, inl, inr, arith}
+use Rattle.std.proofs.Common.{◌≡◌, ℕ, ◌<◌, ◌⊎◌, ◌↔◌, List, length, Some, sym, ap, ◌∙◌, inl, inr, arith}
 use Rattle.denali_run.specs.Forms.{SpellsNoGoal, SpellsGoal}
 use Rattle.denali_run.specs.Goals.{Goal}
 use Rattle.denali_run.specs.OneOperate.{answer_text}

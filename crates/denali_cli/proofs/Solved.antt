@@ -1,9 +1,9 @@
 -- What a run whose status reports on goals has done.
-use Rattle.std.proofs.Common.{◌≡◌, ℕ, List, None, Some, sym, ◌∙◌, subst}
+use Rattle.std.proofs.Common.{◌≡◌, ℕ, List, None, Some, subst}
 use Rattle.std.specs.declared.option.Option.{Option}
 use Rattle.std.specs.Io.KnownBytes.{Appends}
 use Rattle.denali_run.specs.declared.solving.Status.{Status}
-use Rattle.denali_run.specs.declared.solving.Status.TheVariants.{Usage, ReadFault}
+use Rattle.denali_run.specs.declared.solving.Status.TheVariants.{ReadFault}
 use Rattle.denali_cli.specs.declared.words.Command.{Command}
 use Rattle.denali_cli.specs.declared.words.Command.TheVariants.{Solve}
 use Rattle.denali_cli.specs.Replies.{limit_of, Reply, too_long, not_yet, answered}

@@ -7,11 +7,11 @@ use Rattle.std.specs.Str.{bytes_eq}
 use Rattle.denali_cli.specs.declared.words.Command.{Command}
 use Rattle.denali_cli.specs.declared.words.Command.TheVariants.{Solve}
 
-abbrev pub said : List (List ℕ) → Option Command
-said (a ∷ b ∷ c ∷ []) =
+abbrev pub command_of : List (List ℕ) → Option Command
+command_of (a ∷ b ∷ c ∷ []) =
     if bytes_eq a (codes "solve") && bytes_eq b (codes "--rounds") && bytes_eq c (codes "0") then Some Solve else None
-said _ = None
+command_of _ = None
 
 -- what the code's words ask for
 abbrev pub asked_by : List (Bor (List ℕ)) → Option Command
-asked_by words = said (map (λ word. word.now) words)
+asked_by words = command_of (map (λ word. word.now) words)

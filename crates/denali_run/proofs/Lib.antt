@@ -1,8 +1,3 @@
-pub mod Decide
-pub mod Deciding
-pub mod Memory
-pub mod Rules
-pub mod Fitting
 pub mod Printed
 pub mod ReadBack
 pub mod Resolved
@@ -10,6 +5,6 @@ pub mod OneLaunch
 pub mod OneWord
 pub mod OneRun
 pub mod Answered
-pub mod TwoSlots
 pub mod OneGraph
 pub mod OneGoal
+pub mod OneFound

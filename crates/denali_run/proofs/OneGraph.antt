@@ -30,16 +30,16 @@ arity_two ops.Bis h = refl
 arity_two ops.Xor h = refl
 arity_two _ h = absurd h
 
-abbrev row_zero : Goal → LaunchRow
+abbrev pub row_zero : Goal → LaunchRow
 row_zero goal = plain_row 0 op.Entry []
 
-abbrev row_one : Goal → LaunchRow
+abbrev pub row_one : Goal → LaunchRow
 row_one goal = plain_row 1 (op.Input goal.one.register) []
 
-abbrev row_two : Goal → LaunchRow
+abbrev pub row_two : Goal → LaunchRow
 row_two goal = plain_row 2 (op.Input goal.two.register) []
 
-abbrev row_three : Goal → LaunchRow
+abbrev pub row_three : Goal → LaunchRow
 row_three goal = plain_row 3 (op.Word goal.op) (place_class goal.left ∷ place_class goal.right ∷ [])
 
 -- a fact of each of the four rows at its place

@@ -9,8 +9,8 @@ use Rattle.word_ops.specs.declared.operators.WordOp.TheVariants as ops
 use Rattle.machine_table.specs.InstrOrder.{operate_kind}
 use Rattle.machine_table.specs.Tables.{ev6, MayUse, latency_of}
 use Rattle.launch_graph.specs.Graphs.{is_memory_name, memory_target}
-use Rattle.denali_run.specs.Launches.{instr_at, word_op_instr, launches, gives_word, is_load, is_store, operands_at, class_at, IsInput, Gives, plain, Operand, memory_class_at, IsFree, IsReadable, IsZero}
-use Rattle.denali_run.specs.Fits.{Fits, CanLaunch, CanRead, EndsBy, IsReached, KeepsMemory, Waits, UsesMemory, Collide, IsLeft}
+use Rattle.schedule_meaning.specs.Launches.{instr_at, word_op_instr, launches, gives_word, is_load, is_store, operands_at, class_at, IsInput, Gives, plain, Operand, memory_class_at, IsFree, IsReadable, IsZero}
+use Rattle.schedule_meaning.specs.Fits.{Fits, CanLaunch, CanRead, EndsBy, IsReached, KeepsMemory, Waits, UsesMemory, Collide, IsLeft}
 use Rattle.denali_run.specs.Goals.{Goal, IsGoal, IsAnswered}
 use Rattle.denali_run.specs.OneOperate.{graph_of, the_launches, the_launch, place_class}
 use Rattle.denali_run.specs.declared.goal_forms.InputPlace.{InputPlace}
@@ -20,8 +20,8 @@ use Rattle.machine_table.specs.declared.tables.InstrKind.TheVariants.{Beq}
 use Rattle.launch_graph.specs.declared.graphs.LaunchGraph.{LaunchGraph}
 use Rattle.launch_graph.specs.declared.graphs.InputClass.{InputClass}
 use Rattle.launch_graph.specs.declared.graphs.SetClass.{SetClass}
-use Rattle.denali_run.specs.declared.schedules.Launch.{Launch}
-use Rattle.denali_run.proofs.Decide.{any_cases, any_nil}
+use Rattle.schedule_meaning.specs.declared.schedules.Launch.{Launch}
+use Rattle.launch_graph.proofs.Lists.{any_cases, any_nil}
 
 -- ---- what is said of each answered operator
 

@@ -1,42 +1,28 @@
--- Running the one word of an answered goal.
-use Rattle.std.proofs.Common.{◌≡◌, ◌≢◌, ℕ, zero, suc, ◌<◌, List, [], ◌∷◌, length, refl, sym, ◌∙◌, ap, subst, inl, inr, arith, cond, Some, set}
-use Rattle.std.specs.Prelude.{AllPairs, slice_index, if◌then◌else◌}
+-- What the graph of an answered goal says of the goal's word is what the goal asks for.
+use Rattle.std.proofs.Common.{◌≡◌, ◌≢◌, ℕ, zero, suc, ◌<◌, List, [], ◌∷◌, refl, sym, ◌∙◌, ap, subst, arith}
+use Rattle.std.specs.Prelude.{All, AllPairs, map, slice_index}
 use Rattle.std.specs.List.{AllZip}
-use Rattle.std.proofs.lemmas.Bool.Decides.{eqb_tells}
-use Rattle.std.proofs.lemmas.List.{get_or-set_same, get_or-set_other}
 use Rattle.std.proofs.lemmas.List.Elements.{All-nil, All-cons, All-head, All-tail}
-use Rattle.word_ops.specs.declared.sorts.Op.TheVariants as op
-use Rattle.word_ops.specs.Operators.{value_at}
-use Rattle.word_ops.specs.Worlds.{World, IsWorld, Value, word}
-use Rattle.word_ops.specs.Meanings.{as_word}
-use Rattle.alpha_machine.specs.States.{MachineState}
-use Rattle.alpha_machine.specs.Steps.{operate_value, written}
-use Rattle.alpha_machine.specs.Runs.{Runs}
-use Rattle.alpha_machine.specs.declared.running.End.TheVariants.{Fall}
-use Rattle.denali_run.specs.Goals.{Goal, IsGoal, input_of}
-use Rattle.alpha_encode.specs.Decoded.{decoded}
-use Rattle.alpha_encode.specs.Formats.{encoded}
-use Rattle.launch_graph.specs.Graphs.{IsProper, IsTrueUnder, plain_row}
-use Rattle.denali_run.specs.Outcomes.{entry_state, Falls}
-use Rattle.denali_run.specs.OneOperate.{graph_of, place_class, the_words, the_listing, the_instr, found_of}
-use Rattle.denali_run.specs.RightAnswers.{asked, Leaves, IsFound, IsRightAnswer}
-use Rattle.denali_run.specs.Fits.{Fits}
-use Rattle.machine_table.specs.Tables.{ev6}
-use Rattle.denali_run.specs.declared.goal_forms.InputPlace.{InputPlace}
-use Rattle.denali_run.specs.declared.goal_forms.InputPlace.TheVariants.{First, Second}
+use Rattle.word_ops.specs.declared.operators.WordOp.{WordOp}
+use Rattle.word_ops.specs.Meanings.{as_word, sort_of}
+use Rattle.word_ops.specs.Operators.{value_at, value_of}
+use Rattle.word_ops.specs.Words.{IsWord}
+use Rattle.word_ops.specs.Worlds.{World, IsWorld, IsValue, Value, word, memory}
+use Rattle.launch_graph.specs.Graphs.{IsProper, IsTrueUnder, row_meaning}
 use Rattle.launch_graph.specs.declared.graphs.LaunchRow.{LaunchRow}
 use Rattle.launch_graph.specs.declared.graphs.InputClass.{InputClass}
 use Rattle.launch_graph.specs.declared.graphs.SetClass.{SetClass}
-use Rattle.denali_run.specs.declared.listings.Where.{Where}
 use Rattle.launch_graph.specs.declared.graphs.LaunchGraph.{LaunchGraph}
-use Rattle.denali_run.proofs.OneGraph.{well_formed}
-use Rattle.denali_run.proofs.OneLaunch.{fits, nothing_fits, target_is_entry, input_one, input_two}
-use Rattle.denali_run.proofs.OneWord.{listing, obeys, targets_are, binary_is}
-
--- a register below 31 is written
-low_is_written : (registers : List ℕ) (r v : ℕ) → r < 31 → written registers r v ≡ set registers r v
-low_is_written registers r v low =
-    elim (eqb_tells r 31) [ inl t ↦ (let e : r ≡ 31 = t.1 in absurd (omega arith)) | inr t ↦ ap (λ b. if b then registers else set registers r v) t.0 ]
+use Rattle.register_assign.specs.Outcomes.{Falls, IsRight}
+use Rattle.register_assign.specs.declared.listings.Where.{Where}
+use Rattle.denali_run.specs.Goals.{Goal, IsGoal, input_of}
+use Rattle.denali_run.specs.OneOperate.{graph_of, place_class, the_words, the_listing, the_instr}
+use Rattle.denali_run.specs.RightAnswers.{asked, Leaves}
+use Rattle.denali_run.specs.declared.goal_forms.InputPlace.{InputPlace}
+use Rattle.denali_run.specs.declared.goal_forms.InputPlace.TheVariants.{First, Second}
+use Rattle.denali_run.proofs.OneGraph.{row_zero, row_one, row_two, row_three}
+use Rattle.denali_run.proofs.OneLaunch.{target_is_entry, input_one, input_two}
+use Rattle.denali_run.proofs.OneWord.{targets_are}
 
 -- ---- three registers that are apart
 
@@ -57,103 +43,100 @@ three_apart a b c ab ac bc (suc (suc i)) (suc (suc (suc j))) d lt len = absurd (
 abbrev is_low : ℕ → Type 0
 is_low r = r < 31
 
-module _ (goal : Goal) (valid : IsGoal goal) (back : decoded (encoded (the_instr goal)) ≡ Some (the_instr goal)) where
+same_word : {a b : ℕ} → word a ≡ word b → a ≡ b
+same_word e = ap as_word e
+
+module _ (goal : Goal) (valid : IsGoal goal) where
   abbrev g : LaunchGraph
   g = graph_of goal
 
-  proper : IsProper g
+  pub proper : IsProper g
   proper = record {
     differ = three_apart goal.one.register goal.two.register goal.pool valid.inputs_differ valid.pool_apart_one valid.pool_apart_two;
     low = All-cons is_low goal.one.register (goal.two.register ∷ goal.pool ∷ []) valid.one_low
         (All-cons is_low goal.two.register (goal.pool ∷ []) valid.two_low (All-cons is_low goal.pool [] valid.pool_low (All-nil is_low)));
   }
 
-  module _ (w : World) (is_world : IsWorld w) where
-    abbrev a : ℕ
-    a = slice_index w.registers (input_of goal goal.left).register
+  module _ (in_range : (op : WordOp) (vs : List ℕ) → All IsWord vs → IsWord (value_of op vs)) (w : World) (is_world : IsWorld w) where
+    abbrev register : InputPlace → ℕ
+    register place = slice_index w.registers (input_of goal place).register
 
-    abbrev b : ℕ
-    b = slice_index w.registers (input_of goal goal.right).register
+    -- the value of each class
+    abbrev values : ℕ → Value
+    values zero = memory w.memory_at_entry
+    values (suc zero) = word (slice_index w.registers goal.one.register)
+    values (suc (suc zero)) = word (slice_index w.registers goal.two.register)
+    values (suc (suc (suc class))) = word (asked goal w)
 
-    value_is : operate_value goal.op a b ≡ asked goal w
-    value_is = ap (λ u. cond u (value_at goal.op b 0 0) (value_at goal.op a b 0)) (binary_is goal.op valid.op)
+    input_at : (place : InputPlace) → as_word (values (place_class place)) ≡ register place
+    input_at First = refl
+    input_at Second = refl
 
-    abbrev end_state : MachineState
-    end_state = record { registers = written w.registers goal.pool (operate_value goal.op a b); memory = w.memory_at_entry; pc = 4 }
+    register_word : (r : ℕ) → r < 31 → IsWord (slice_index w.registers r)
+    register_word r low = is_world.each r 0 (let l = is_world.registers in omega (arith, l))
 
-    registers_are : end_state.registers ≡ set w.registers goal.pool (asked goal w)
-    registers_are = low_is_written w.registers goal.pool (operate_value goal.op a b) valid.pool_low ∙ ap (set w.registers goal.pool) value_is
+    input_word : (place : InputPlace) → IsWord (register place)
+    input_word First = register_word goal.one.register valid.one_low
+    input_word Second = register_word goal.two.register valid.two_low
 
-    runs : Runs (the_words goal) (entry_state w) Fall end_state
-    runs = record {
-      instrs = the_instr goal ∷ [];
-      decode = ap (λ o. o ∷ []) back;
-      begins = refl;
-      steps = refl;
-      ends = refl;
-    }
+    asked_word : IsWord (asked goal w)
+    asked_word =
+        in_range goal.op (register goal.left ∷ register goal.right ∷ [])
+        (All-cons IsWord (register goal.left) (register goal.right ∷ []) (input_word goal.left) (All-cons IsWord (register goal.right) [] (input_word goal.right) (All-nil IsWord)))
 
-    written_value : slice_index end_state.registers goal.pool ≡ asked goal w
-    written_value =
-        let room : goal.pool < length w.registers = (let l = is_world.registers in let p = valid.pool_low in omega (arith, l, p)) in
-        ap (λ rs. slice_index rs goal.pool) registers_are ∙ get_or-set_same w.registers goal.pool (asked goal w) 0 room
+    abbrev IsRowTrue : LaunchRow → Type 0
+    IsRowTrue r = values r.class ≡ row_meaning w r (map values r.operands)
 
-    kept : (r : ℕ) → r ≢ goal.pool → slice_index end_state.registers r ≡ slice_index w.registers r
-    kept r other = ap (λ rs. slice_index rs r) registers_are ∙ get_or-set_other w.registers goal.pool r (asked goal w) 0 other
+    application_true : IsRowTrue (row_three goal)
+    application_true =
+        sym
+        (ap (λ v. word (value_at goal.op v (as_word (values (place_class goal.right))) 0)) (input_at goal.left)
+        ∙ ap (λ v. word (value_at goal.op (register goal.left) v 0)) (input_at goal.right))
 
-    leaves : Leaves goal w
-    leaves = record {
-      state = end_state;
-      runs = runs;
-      value = written_value;
-      memory = refl;
-      one = kept goal.one.register valid.pool_apart_one;
-      two = kept goal.two.register valid.pool_apart_two;
-    }
+    abbrev IsInRange : LaunchRow → Type 0
+    IsInRange r = IsValue (sort_of r.op) (values r.class)
 
-  module _ (w : World) (value : ℕ → Value) (is_world : IsWorld w) (true_in : IsTrueUnder g w value) where
-    abbrev row : LaunchRow
-    row = plain_row 3 (op.Word goal.op) (place_class goal.left ∷ place_class goal.right ∷ [])
+    all_four : (P : LaunchRow → Type 0) → P (row_zero goal) → P (row_one goal) → P (row_two goal) → P (row_three goal) → All P g.rows
+    all_four P a b c d =
+        All-cons P (row_zero goal) (row_one goal ∷ row_two goal ∷ row_three goal ∷ []) a
+        (All-cons P (row_one goal) (row_two goal ∷ row_three goal ∷ []) b (All-cons P (row_two goal) (row_three goal ∷ []) c (All-cons P (row_three goal) [] d (All-nil P))))
 
     abbrev IsInputTrue : InputClass → Type 0
-    IsInputTrue i = value i.class ≡ word (slice_index w.registers i.reg)
+    IsInputTrue i = values i.class ≡ word (slice_index w.registers i.reg)
 
-    abbrev IsInputKept : InputClass → Type 0
-    IsInputKept i = slice_index (end_state w is_world).registers i.reg ≡ slice_index w.registers i.reg
-
-    input_value : (place : InputPlace) → value (place_class place) ≡ word (slice_index w.registers (input_of goal place).register)
-    input_value First = All-head IsInputTrue (input_one goal) (input_two goal ∷ []) true_in.inputs
-    input_value Second = All-head IsInputTrue (input_two goal) [] (All-tail IsInputTrue (input_one goal) (input_two goal ∷ []) true_in.inputs)
-
-    abbrev IsPlaced : Where → SetClass → Type 0
-    IsPlaced p s = (p.name ≡ s.name) × (word (slice_index (end_state w is_world).registers p.reg) ≡ value s.class)
-
-    -- the application's class has the value that is asked for
-    application_value : value 3 ≡ word (asked goal w)
-    application_value =
-        true_in.rows 3 row (omega arith)
-        ∙ ap (λ v. word (value_at goal.op (as_word v) (as_word (value (place_class goal.right))) 0)) (input_value goal.left)
-        ∙ ap (λ v. word (value_at goal.op (a w is_world) (as_word v) 0)) (input_value goal.right)
-
-    falls : Falls g w value (the_words goal) ((the_listing goal (the_instr goal)).wheres)
-    falls = record {
-      state = end_state w is_world;
-      runs = runs w is_world;
-      targets = subst (AllZip IsPlaced ((the_listing goal (the_instr goal)).wheres)) (sym (targets_are goal valid)) ((refl, ap word (written_value w is_world) ∙ sym application_value), tt);
-      memory_is = sym (ap value (target_is_entry goal valid) ∙ true_in.entry);
-      inputs = All-cons IsInputKept (input_one goal) (input_two goal ∷ []) (kept w is_world goal.one.register valid.pool_apart_one)
-          (All-cons IsInputKept (input_two goal) [] (kept w is_world goal.two.register valid.pool_apart_two) (All-nil IsInputKept));
+    is_true : IsTrueUnder g w values
+    is_true = record {
+      rows = all_four IsRowTrue refl refl refl application_true;
+      sorts = all_four IsInRange is_world.memory_is (input_word First) (input_word Second) asked_word;
+      inputs = All-cons IsInputTrue (input_one goal) (input_two goal ∷ []) refl (All-cons IsInputTrue (input_two goal) [] refl (All-nil IsInputTrue));
+      entry = refl;
     }
 
-  found : IsFound ev6 1 (found_of goal)
-  found = record {
-    fits = fits goal valid;
-    listing = listing goal valid;
-    words = ap (λ o. o ∷ []) back;
-    obeys = obeys goal valid;
-    right = record { falls = λ w value is_world true_in stays. falls w value is_world true_in; exits = λ w value is_world true_in left. absurd left };
-    least = λ j ls below f. nothing_fits goal valid ls (subst (λ k. Fits g ev6 k ls) (omega (arith, below)) f);
-  }
+    module _ (f : Falls g w values (the_words goal) ((the_listing goal (the_instr goal)).wheres)) where
+      abbrev IsPlaced : Where → SetClass → Type 0
+      IsPlaced p s = (p.name ≡ s.name) × (word (slice_index f.state.registers p.reg) ≡ values s.class)
 
-  pub right_answer : IsRightAnswer goal
-  right_answer = record { graph = well_formed goal valid; proper = proper; found = found; leaves = leaves }
+      placed : AllZip IsPlaced ((the_listing goal (the_instr goal)).wheres) (record { name = goal.target; class = 3 } ∷ [])
+      placed = subst (AllZip IsPlaced ((the_listing goal (the_instr goal)).wheres)) (targets_are goal valid) f.targets
+
+      abbrev IsKept : InputClass → Type 0
+      IsKept i = slice_index f.state.registers i.reg ≡ slice_index w.registers i.reg
+
+      memory_kept : f.state.memory ≡ w.memory_at_entry
+      memory_kept = same_memory (f.memory_is ∙ ap values (target_is_entry goal valid))
+        where
+          same_memory : memory f.state.memory ≡ memory w.memory_at_entry → f.state.memory ≡ w.memory_at_entry
+          same_memory e = cc
+
+      left_so : Leaves goal w
+      left_so = record {
+        state = f.state;
+        runs = f.runs;
+        value = same_word placed.0.1;
+        memory = memory_kept;
+        one = All-head IsKept (input_one goal) (input_two goal ∷ []) f.inputs;
+        two = All-head IsKept (input_two goal) [] (All-tail IsKept (input_one goal) (input_two goal ∷ []) f.inputs);
+      }
+
+    pub leaves_value : IsRight g ((the_listing goal (the_instr goal)).items) (the_words goal) ((the_listing goal (the_instr goal)).wheres) → Leaves goal w
+    leaves_value right = left_so (right.falls w values is_world is_true (λ guarded. guarded))

@@ -12,17 +12,17 @@ use Rattle.alpha_encode.specs.declared.instructions.Instr.{Instr}
 use Rattle.alpha_encode.specs.declared.instructions.Instr.TheVariants as instrs
 use Rattle.denali_run.specs.Goals.{Goal, IsGoal, IsAnswered, input_of}
 use Rattle.machine_table.specs.Tables.{ev6, MayUse, latency_of}
-use Rattle.denali_run.specs.Launches.{StandsBefore}
-use Rattle.denali_run.specs.Listings as listings
-use Rattle.denali_run.specs.Listings.{IsListing}
-use Rattle.denali_run.specs.Obeys.{Obeys, latency_in, kind_of, stores}
+use Rattle.schedule_meaning.specs.Launches.{StandsBefore, gives}
+use Rattle.register_assign.specs.Listings as listings
+use Rattle.register_assign.specs.Listings.{IsListing}
+use Rattle.register_assign.specs.Obeys.{Obeys, latency_in, kind_of, stores}
 use Rattle.denali_run.specs.OneOperate.{graph_of, the_launches, the_launch, place_class, the_listing, the_instr}
 use Rattle.denali_run.specs.declared.goal_forms.InputPlace.{InputPlace}
 use Rattle.denali_run.specs.declared.goal_forms.InputPlace.TheVariants.{First, Second}
 use Rattle.launch_graph.specs.declared.graphs.LaunchGraph.{LaunchGraph}
 use Rattle.launch_graph.specs.declared.graphs.SetClass.{SetClass}
-use Rattle.denali_run.specs.declared.listings.Item.{Item}
-use Rattle.denali_run.specs.declared.listings.Where.{Where}
+use Rattle.register_assign.specs.declared.listings.Item.{Item}
+use Rattle.register_assign.specs.declared.listings.Where.{Where}
 use Rattle.denali_run.proofs.OneLaunch.{may_use, latency_is, kind_is, all_one, pairs_one, gives_it, not_memory, false_true}
 
 -- ---- the listing
@@ -64,11 +64,11 @@ module _ (goal : Goal) (valid : IsGoal goal) where
   items_are : (the_listing goal (the_instr goal)).items ≡ listings.items_of g ev6 the_launches
   items_are = ap (λ (i : Instr). record { instr = i; cycle = 0; slot = 0 } ∷ []) (sym instr_is)
 
-  found : listings.gives g 3 the_launch ≡ true
+  found : gives g 3 the_launch ≡ true
   found = ap (λ b. b && true) (gives_it goal valid)
 
   place_is : listings.target_register g the_launches 3 ≡ goal.pool
-  place_is = ap (λ o. option_map_or (listings.register_at g the_launches) o 31) (first_place (λ l. listings.gives g 3 l && true) the_launch (ap (λ b. b && true) found))
+  place_is = ap (λ o. option_map_or (listings.register_at g the_launches) o 31) (first_place (λ l. gives g 3 l && true) the_launch (ap (λ b. b && true) found))
 
   abbrev place : SetClass → Where
   place s = record { name = s.name; reg = listings.target_register g the_launches s.class }

@@ -8,8 +8,8 @@ use Rattle.launch_graph.specs.GraphLines.{graph_lines, said}
 use Rattle.machine_table.specs.Tables.{ev6}
 use Rattle.denali_run.specs.declared.found.Found.{Found}
 use Rattle.machine_table.specs.declared.tables.Table.{Table}
-use Rattle.denali_run.specs.declared.schedules.Launch.{Launch}
-use Rattle.denali_run.specs.declared.listings.Where.{Where}
+use Rattle.schedule_meaning.specs.declared.schedules.Launch.{Launch}
+use Rattle.register_assign.specs.declared.listings.Where.{Where}
 use Rattle.alpha_encode.specs.Decoded.{decoded}
 use Rattle.alpha_encode.specs.Texts.{text_of}
 use Rattle.alpha_encode.specs.declared.instructions.Instr.{Instr}

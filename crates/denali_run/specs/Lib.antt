@@ -1,17 +1,10 @@
 pub mod AnswerTexts
 pub mod OneOperate
-pub mod Broken
-pub mod Fits
 pub mod Forms
 pub mod Goals
-pub mod Launches
 pub mod Lexemes
-pub mod Listings
-pub mod Obeys
-pub mod Outcomes
 pub mod Reading
 pub mod Resolving
 pub mod RightAnswers
 pub mod Statuses
 pub mod Views
-pub mod Worked

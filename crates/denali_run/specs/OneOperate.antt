@@ -13,8 +13,8 @@ use Rattle.denali_run.specs.declared.found.Found.{Found}
 use Rattle.denali_run.specs.declared.goal_forms.InputPlace.{InputPlace}
 use Rattle.denali_run.specs.declared.goal_forms.InputPlace.TheVariants.{First, Second}
 use Rattle.launch_graph.specs.declared.graphs.LaunchGraph.{LaunchGraph}
-use Rattle.denali_run.specs.declared.schedules.Launch.{Launch}
-use Rattle.denali_run.specs.declared.listings.Listing.{Listing}
+use Rattle.schedule_meaning.specs.declared.schedules.Launch.{Launch}
+use Rattle.register_assign.specs.declared.listings.Listing.{Listing}
 
 abbrev pub place_class : InputPlace → ℕ
 place_class First = 1

@@ -9,15 +9,15 @@ use Rattle.alpha_machine.specs.declared.running.End.TheVariants.{Fall}
 use Rattle.machine_table.specs.Tables.{ev6}
 use Rattle.launch_graph.specs.Graphs.{IsProper}
 use Rattle.launch_graph.specs.WellFormed.{IsLaunchGraph}
-use Rattle.denali_run.specs.Fits.{Fits}
-use Rattle.denali_run.specs.Listings.{IsListing}
-use Rattle.denali_run.specs.Obeys.{Obeys}
-use Rattle.denali_run.specs.Outcomes.{entry_state, AreWordsOf, IsRight}
+use Rattle.schedule_meaning.specs.Fits.{Fits}
+use Rattle.register_assign.specs.Listings.{IsListing}
+use Rattle.register_assign.specs.Obeys.{Obeys}
+use Rattle.register_assign.specs.Outcomes.{entry_state, AreWordsOf, IsRight}
 use Rattle.denali_run.specs.Goals.{Goal, input_of}
 use Rattle.denali_run.specs.OneOperate.{graph_of, the_words, found_of, answer_text}
 use Rattle.denali_run.specs.Forms.{SpellsGoal}
 use Rattle.denali_run.specs.declared.found.Found.{Found}
-use Rattle.denali_run.specs.declared.schedules.Launch.{Launch}
+use Rattle.schedule_meaning.specs.declared.schedules.Launch.{Launch}
 use Rattle.machine_table.specs.declared.tables.Table.{Table}
 use Rattle.denali_run.specs.declared.solving.Status.{Status}
 use Rattle.denali_run.specs.declared.solving.Status.TheVariants.{Done}

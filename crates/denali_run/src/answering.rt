@@ -2,13 +2,11 @@
 ghost use Rattle.std.specs.Prelude.{◌≡◌, ◌++◌, IfOk, OnOk};
 ghost use Rattle.denali_run.specs.OneOperate.{scheduled_text, head_text};
 
+use crate::building::CYCLES;
 use crate::found::Found;
 use crate::printing::put_found;
 use items::NoMemory;
 use std::alloc::Global;
-
-/// How many cycles each schedule has so far.
-const CYCLES: u32 = 1;
 
 /// The lines before the graph.
 fn put_head(text: &mut Vec<u8>, name: &[u8]) -> Result<(), NoMemory>

@@ -2,20 +2,20 @@
 ghost use Rattle.std.specs.Prelude.{◌≡◌, IfOk, [], ◌∷◌};
 ghost use Rattle.denali_run.specs.Goals.{IsGoal};
 ghost use Rattle.launch_graph.specs.Graphs.{plain_row};
-ghost use Rattle.denali_run.specs.OneOperate.{graph_of, found_of, the_listing, place_class};
+ghost use Rattle.denali_run.specs.OneOperate.{graph_of, found_of, place_class};
+ghost use Rattle.denali_run.specs.RightAnswers.{IsRightAnswer};
 ghost use Rattle.denali_run.specs.Views.{goal_view};
 
 use crate::found::Found;
 use crate::goal_forms::{GoalForm, InputPlace};
-use crate::instructions::instr_of;
-use crate::listings::{Item, Listing, Where};
-use crate::schedules::{Launch, Schedule};
-use alpha_encode::{Instr, encode};
 use items::{Items, NoMemory};
 use launch_graph::{InputClass, LaunchGraph, LaunchRow, SetClass};
+use machine_table::{ev6, tables_keep_limits};
+use register_assign::{assign, words_of};
+use schedule_meaning::{Launch, Schedule};
 use std::alloc::Global;
 use text_core::Name;
-use word_ops::Op;
+use word_ops::{Op, meanings_are_in_range};
 
 fn class_of(place: InputPlace) -> u32
     ensures { result ≡ place_class place }
@@ -86,6 +86,9 @@ fn graph_of(alloc: Global, goal: &GoalForm) -> Result<LaunchGraph, NoMemory>
     })
 }
 
+/// How many cycles the schedule has.
+pub(crate) const CYCLES: u32 = 1;
+
 /// The application in the first slot of the first cycle.
 const LAUNCH: Launch = Launch {
     cycle: 0,
@@ -93,36 +96,25 @@ const LAUNCH: Launch = Launch {
     row: 3,
 };
 
-/// The instruction of the launch, and where the target is at the end.
-fn listing_of(alloc: Global, goal: &GoalForm, instr: Instr) -> Result<Listing, NoMemory>
-    ensures { IfOk result (λ listing. listing ≡ the_listing (goal_view goal.now) instr) }
-{
-    let mut items = Items::new(alloc);
-    items.push(Item {
-        instr,
-        cycle: LAUNCH.cycle,
-        slot: LAUNCH.slot,
-    })?;
-    let mut wheres = Items::new(alloc);
-    wheres.push(Where {
-        name: Name::new(alloc, goal.target)?,
-        reg: goal.pool,
-    })?;
-    Ok(Listing { items, wheres })
-}
-
-/// The goal's graph and its schedule in one cycle.
+/// The goal's graph and its schedule in one cycle, with the listing and the word that it means.
 pub(crate) fn found_of(alloc: Global, goal: &GoalForm) -> Result<Found, NoMemory>
     requires { IsGoal (goal_view goal.now) }
-    ensures { IfOk result (λ found. found ≡ found_of (goal_view goal.now)) }
+    ensures found { IfOk result (λ found. found ≡ found_of (goal_view goal.now)) }
+    ensures right { IfOk result (λ _. IsRightAnswer (goal_view goal.now)) }
 {
-    let instr = instr_of(goal);
+    meanings_are_in_range();
+    tables_keep_limits();
+    let graph = graph_of(alloc, goal)?;
+    let schedule = Schedule {
+        launches: Items::from_slice(alloc, &[LAUNCH])?,
+    };
+    let table = ev6(alloc)?;
+    let listing = assign(alloc, &graph, &table, CYCLES, &schedule)?;
+    let words = words_of(alloc, listing.items.as_slice())?;
     Ok(Found {
-        graph: graph_of(alloc, goal)?,
-        schedule: Schedule {
-            launches: Items::from_slice(alloc, &[LAUNCH])?,
-        },
-        listing: listing_of(alloc, goal, instr)?,
-        words: Items::from_slice(alloc, &[encode(instr)])?,
+        graph,
+        schedule,
+        listing,
+        words: Items::from(words),
     })
 }

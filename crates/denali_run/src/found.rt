@@ -1,8 +1,8 @@
 // What was found for a graph.
-use crate::listings::Listing;
-use crate::schedules::Schedule;
 use items::Items;
 use launch_graph::LaunchGraph;
+use register_assign::Listing;
+use schedule_meaning::Schedule;
 
 /// A graph and a schedule of it, the instructions and places that the schedule means, and the instructions' words.
 #[derive(Drop)]

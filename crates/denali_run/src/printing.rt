@@ -6,12 +6,12 @@ ghost use Rattle.denali_run.specs.AnswerTexts as texts;
 ghost use Rattle.machine_table.specs.Tables.{ev6};
 
 use crate::found::Found;
-use crate::listings::Where;
-use crate::schedules::Launch;
 use alpha_encode::{Instr, decode};
 use items::NoMemory;
 use itoa::Buffer;
 use launch_graph::put_graph;
+use register_assign::Where;
+use schedule_meaning::Launch;
 use std::alloc::Global;
 
 pub(crate) fn put_number(text: &mut Vec<u8>, number: u64) -> Result<(), NoMemory>

@@ -1,6 +1,6 @@
 // The work of `solve`.
-ghost use Rattle.std.specs.Prelude.{◌≡◌, ◌<◌, ◌^◌, IfOk, IsErrOf, MatchOption, All, length, map};
-ghost use Rattle.denali_run.specs.Forms.{SpellsNoGoal, WritesGoal, WritesNoGoal};
+ghost use Rattle.std.specs.Prelude.{true, false, ◌≡◌, ◌<◌, ◌^◌, IfOk, IsErrOf, MatchOption, All, length, map};
+ghost use Rattle.denali_run.specs.Forms.{HasNoComment, SpellsNoGoal, WritesGoal, WritesNoGoal};
 ghost use Rattle.denali_run.specs.Lexemes.{lexeme, HasNameBytes};
 ghost use Rattle.denali_run.specs.RightAnswers.{Answers};
 ghost use Rattle.denali_run.specs.Statuses.{status_code};
@@ -13,7 +13,6 @@ use crate::goal_forms::GoalForm;
 use crate::lexemes::{Lexeme, lexemes};
 use crate::reading::written;
 use crate::resolving::resolve;
-use alpha_encode::words_and_instructions;
 use items::NoMemory;
 use std::alloc::Global;
 use text_core::{TextFault, lex, one_lexing};
@@ -80,6 +79,14 @@ impl From<NoMemory> for TextError {
     }
 }
 
+/// Whether a comment begins somewhere in the text.
+fn has_comment(text: &[u8]) -> bool
+    ensures yes { result ≡ true → ¬ HasNoComment text.now }
+    ensures no { result ≡ false → HasNoComment text.now }
+{
+    text.contains(&b';')
+}
+
 /// The goal that the lexemes write.
 fn goal<'a>(lexemes: &'a [Lexeme<'a>]) -> Option<GoalForm<'a>>
     requires { All HasNameBytes (map lexeme lexemes.now) }
@@ -98,7 +105,7 @@ pub fn solve_text(alloc: Global, text: &[u8]) -> Result<Report, TextError>
     ensures answered { IfOk result (λ report. Answers text.now report.bytes.items report.status) }
     ensures other { IsErrOf result TextError.NotYet → SpellsNoGoal text.now }
 {
-    if text.contains(&b';') {
+    if has_comment(text) {
         return Err(TextError::NotYet);
     }
     let tokens = match lex(alloc, text) {
@@ -111,7 +118,6 @@ pub fn solve_text(alloc: Global, text: &[u8]) -> Result<Report, TextError>
     let Some(goal) = goal(&lexemes) else {
         return Err(TextError::NotYet);
     };
-    words_and_instructions();
     let found = found_of(alloc, &goal)?;
     Ok(Report {
         bytes: print(alloc, goal.name, &found)?,

@@ -5,7 +5,6 @@ use Rattle.text_core.specs.declared.faults.TextFault.TheVariants as faults
 use Rattle.denali_run.specs.Forms.{WritesGoal, WritesNoGoal, SpellsNoGoal}
 use Rattle.denali_run.specs.Lexemes.{lexeme, lexeme_at, HasNameBytes}
 use Rattle.denali_run.proofs.Resolved.{spells_none, lexemes_named}
-use Rattle.denali_run.proofs.OneWord.{is_well_formed}
 use Rattle.denali_run.proofs.Answered.{answered}
 use Rattle.denali_run.specs.Views.{goal_view}
 use Rattle.denali_run.proofs.solving.solve_text.Goals as goal
@@ -42,6 +41,6 @@ returns-clause-answered c =
     c.in-Ok.ensures.tokens
     (c.in_ok-lexemes.ensures ∙ ap (map (lexeme_at text)) c.deref.ensures.value)
     writes
+    (c.has_comment.ensures.no c.if-has_comment.false)
     (search rules)
-    (search rules)
-    (c.words_and_instructions.ensures.back _ (is_well_formed _ writes.valid))
+    c.in_ok-found.ensures.right
