@@ -1,0 +1,119 @@
+-- The items of a goal that were read make the goal.
+use Rattle.std.proofs.Common.{◌≡◌, ◌≢◌, ℕ, ◌<◌, ◌++◌, if◌then◌else◌, ◌||◌, All, Bool, true, false, Option, None, Some, List, [], ◌∷◌, map, option_map, length, refl, sym, ap, ◌∙◌, subst, arith, codes}
+use Rattle.std.specs.Prelude.{AllPairs}
+use Rattle.std.specs.List.{list_any}
+use Rattle.std.proofs.lemmas.List.{length-map, append-nil}
+use Rattle.text_core.specs.declared.faults.Kind.TheVariants.{BadForm}
+use Rattle.word_terms.specs.View.{tree_of}
+use Rattle.forms.specs.Forms.{Form, Forms, atom, list, none, more, name, place_of, forms_from, forms_list, name_in}
+use Rattle.forms.specs.Faults.{own}
+use Rattle.machine_table.specs.Grammar.{Each, more_of, IsListOf, IsNameOf}
+use Rattle.machine_table.specs.Grammar as grammar
+use Rattle.goal_reader.specs.declared.scopes.DeclaredOp.{DeclaredOp}
+use Rattle.goal_reader.specs.declared.scopes.Scope.{Scope}
+use Rattle.goal_reader.specs.declared.goals.InputReg.{InputReg}
+use Rattle.goal_reader.specs.declared.goals.Set.{Set}
+use Rattle.goal_reader.specs.declared.goals.Goal.{Goal}
+use Rattle.goal_reader.specs.declared.drafts.Draft.{Draft}
+use Rattle.goal_reader.specs.Views.{TargetTree, goal_view, assume_view, target_view}
+use Rattle.goal_reader.specs.Drafts.{AreDifferent, KeepsSoFar, IsAssumed, IsTargeted, pool_read, IsDraft, IsWritten, IsPoolWritten, one_pool, pool_kept}
+use Rattle.goal_reader.specs.Grammar.{WritesInput, WritesAssume, WritesTarget, WritesGuard, WritesPool, WritesGoal, KeepsRules, absent, given}
+use Rattle.goal_reader.specs.Reading.{IsClear, registers_of}
+use Rattle.goal_reader.specs.Roles as roles
+use Rattle.goal_reader.specs.Roles.{Role, a_list, no_set, rank, is_of_rank, of_rank, goal_keywords, text_keywords, items_of, second_name, goal_scope}
+use Rattle.goal_reader.proofs.Different.{pairs_map, default_different}
+use Rattle.goal_reader.proofs.ItemForms.{keyworded_by, is_name, list_from_list}
+use Rattle.goal_reader.proofs.Keeping.{each_length}
+
+pub each_map : {X Y : Type 0} (W : Form → Y → Type 0) (v : X → Y) (fs : List Form) (xs : List X) → Each (λ f x. W f (v x)) fs xs → Each W fs (map v xs)
+each_map W v [] [] e = grammar.none
+each_map W v [] (x ∷ xs) e = elim e [ ]
+each_map W v (f ∷ fs) [] e = elim e [ ]
+each_map W v (f ∷ fs) (x ∷ xs) (more_of one others) = more_of one (each_map W v fs xs others)
+
+second_part : (p : ℕ) (h : Form) (rest : Forms) (bytes : List ℕ) → second_name (list p (more h rest)) ≡ Some bytes → (first : Form) × (others : Forms) × (rest ≡ more first others) × (name_in first ≡ Some bytes)
+second_part p h none bytes e = cc
+second_part p h (more first others) bytes e = (first, others, refl, e)
+
+set_there : (b : Bool) → (b ≡ false → ⊥) → b ≡ true
+set_there true h = refl
+set_there false h = absurd (h refl)
+
+pub has_set : (declared : List DeclaredOp) (names : List (List ℕ)) (form : Form) → IsClear (a_list (roles.goal declared names)) form → list_any (is_of_rank goal_keywords 4) (items_of form) ≡ true
+has_set declared names form clear = set_there (list_any (is_of_rank goal_keywords 4) (items_of form)) (λ e. clear (place_of form) BadForm (own (no_set e) refl))
+
+kept_some : (b : Bool) (f : Form) (rest : List Form) (other : Bool) → b || other ≡ true → (other ≡ true → 0 < length rest) → 0 < length (if b then f ∷ rest else rest)
+kept_some true f rest other e later = omega arith
+kept_some false f rest other e later = later e
+
+some_of_rank : (keywords : List (List ℕ)) (at : ℕ) (fs : List Form) → list_any (is_of_rank keywords at) fs ≡ true → 0 < length (of_rank keywords at fs)
+some_of_rank keywords at [] e = cc
+some_of_rank keywords at (f ∷ fs) e = kept_some (is_of_rank keywords at f) f (of_rank keywords at fs) (list_any (is_of_rank keywords at) fs) e (some_of_rank keywords at fs)
+
+pool_written : (inputs : List ℕ) (fs : List Form) (p : Option (List ℕ)) → IsPoolWritten fs p → WritesPool inputs fs (pool_kept inputs p)
+pool_written inputs [] None w = absent
+pool_written inputs fs (Some rs) (one_pool forms is each) = given forms is each
+pool_written inputs (f ∷ fs) None w = elim w [ ]
+
+registers_kept : (inputs : List ℕ) (p : Option (List ℕ)) → AreDifferent (inputs ++ pool_read p) → AreDifferent (inputs ++ pool_kept inputs p)
+registers_kept inputs None d = default_different inputs (subst AreDifferent (append-nil inputs) d)
+registers_kept inputs (Some rs) d = d
+
+module _ (declared : List DeclaredOp) (form : Form) (g : Goal) (d : Draft) (draft : IsDraft declared (items_of form) d) (w : IsWritten (items_of form) d) (k : KeepsSoFar declared d)
+    (inputs : g.inputs ≡ d.inputs) (pool : g.pool ≡ pool_kept (registers_of d.inputs) d.pool) (assumes : g.assumes ≡ d.assumes) (guard : g.guard ≡ d.guard) (sets : g.sets ≡ d.sets)
+    (some : list_any (is_of_rank goal_keywords 4) (items_of form) ≡ true) where
+  rules_kept : KeepsRules declared (goal_view g)
+  rules_kept =
+      let registers : AreDifferent (registers_of g.inputs ++ g.pool) =
+      subst (λ rs. AreDifferent (registers_of g.inputs ++ rs)) (sym pool) (subst (λ is. AreDifferent (registers_of is ++ pool_kept (registers_of d.inputs) d.pool)) (sym inputs) (registers_kept (registers_of d.inputs) d.pool k.registers)) in
+      let count = some_of_rank goal_keywords 4 (items_of form) some in
+      let same = each_length (IsTargeted d.scope) (of_rank goal_keywords 4 (items_of form)) d.sets w.targets in
+      let sets_length = length-map g.sets target_view in
+      let assumes_length = length-map g.assumes assume_view in
+      let s = ap length sets in
+      let a = ap length assumes in
+      let i = ap length inputs in
+      let few = k.few in
+      record {
+        input_names = subst (λ is. AllPairs (λ (a b : InputReg). a.name ≢ b.name) is) (sym inputs) k.input_names;
+        own_names = subst (λ is. All (λ (a : InputReg). roles.is_reserved a.name ≡ false) is) (sym inputs) k.own_names;
+        not_declared = subst (λ is. All (λ (a : InputReg). roles.is_among (roles.names_of_declared declared) a.name ≡ false) is) (sym inputs) k.not_declared;
+        registers = registers.pairs;
+        low = registers.low;
+        targets = pairs_map (λ (a b : TargetTree). a.name ≢ b.name) target_view g.sets (subst (λ ts. AllPairs (λ (a b : Set). a.name ≢ b.name) ts) (sym sets) k.targets);
+        some_target = omega (arith, count, same, sets_length, s);
+        few = (omega (arith, i, few.0), omega (arith, assumes_length, a, few.1), omega (arith, sets_length, s, few.2));
+      }
+
+  scope_is : d.scope ≡ goal_scope declared g.inputs
+  scope_is = draft.scope ∙ ap (goal_scope declared) (sym draft.inputs ∙ sym inputs)
+
+  pub goal_written : rank text_keywords form ≡ Some 3 → second_name form ≡ Some g.name → WritesGoal declared form (goal_view g)
+  goal_written e named =
+      let q = keyworded_by text_keywords 3 form e in
+      let second = second_part q.place (atom q.head (name (codes "goal"))) q.rest g.name (sym (ap second_name q.is) ∙ named) in
+      let first = second.0 in
+      let others = second.1 in
+      let whole : form ≡ list q.place (more (atom q.head (name (codes "goal"))) (more first others)) = q.is ∙ ap (λ r. list q.place (more (atom q.head (name (codes "goal"))) r)) second.2 in
+      let items : items_of form ≡ forms_list others = ap items_of whole in
+      let r : ℕ → List Form = λ n. of_rank goal_keywords n (items_of form) in
+      let sorted : forms_list others ≡ r 0 ++ (r 1 ++ (r 2 ++ (r 3 ++ r 4))) = sym items ∙ w.sorted in
+      let spread : more first others ≡ forms_from (first ∷ (r 0 ++ (r 1 ++ (r 2 ++ (r 3 ++ r 4))))) = ap (more first) (list_from_list others ∙ ap forms_from sorted) in
+      record {
+        name_form = first;
+        ins = r 0;
+        pools = r 1;
+        assumes = r 2;
+        whens = r 3;
+        sets = r 4;
+        is = record { place = q.place; head_place = q.head; is = whole ∙ ap (λ fs. list q.place (more (atom q.head (name (codes "goal"))) fs)) spread };
+        named = is_name first g.name second.3;
+        inputs = subst (λ is. Each WritesInput (r 0) is) (sym inputs) w.inputs;
+        pool = subst (λ rs. WritesPool (registers_of g.inputs) (r 1) rs) (sym pool) (subst (λ is. WritesPool (registers_of g.inputs) (r 1) (pool_kept (registers_of is) d.pool)) inputs (pool_written (registers_of g.inputs) (r 1) d.pool w.pool));
+        assumptions = each_map (WritesAssume (goal_scope declared g.inputs)) assume_view (r 2) g.assumes
+            (subst (λ xs. Each (IsAssumed (goal_scope declared g.inputs)) (r 2) xs) (sym assumes) (subst (λ (s : Scope). Each (IsAssumed s) (r 2) d.assumes) scope_is w.assumptions));
+        guard = subst (λ x. WritesGuard (goal_scope declared g.inputs) (r 3) (option_map tree_of x)) (sym guard) (subst (λ (s : Scope). WritesGuard s (r 3) (option_map tree_of d.guard)) scope_is w.guard);
+        targets = each_map (WritesTarget (goal_scope declared g.inputs)) target_view (r 4) g.sets
+            (subst (λ xs. Each (IsTargeted (goal_scope declared g.inputs)) (r 4) xs) (sym sets) (subst (λ (s : Scope). Each (IsTargeted s) (r 4) d.sets) scope_is w.targets));
+        rules = rules_kept;
+      }

@@ -1,0 +1,203 @@
+-- The items of a goal, one after another.
+use Rattle.std.proofs.Common.{◌≡◌, ℕ, zero, suc, ◌+◌, ◌-◌, ◌<◌, ◌≤◌, ◌++◌, ◌==◌, if◌then◌else◌, Bool, true, false, Option, None, Some, List, [], ◌∷◌, map, length, take, drop, get_or, refl, sym, ap, ◌∙◌, subst, arith, slice_get, filter_map, option_map, All, inl, inr}
+use Rattle.std.specs.List.{list_any, cons_option}
+use Rattle.std.specs.Option.{option_map_or}
+use Rattle.std.proofs.lemmas.Bool.{cases_order}
+use Rattle.std.proofs.lemmas.List.{take_all, length-drop}
+use Rattle.text_core.specs.declared.faults.Kind.{Kind}
+use Rattle.text_core.specs.declared.faults.Kind.TheVariants.{BadForm}
+use Rattle.text_core.specs.declared.sexps.Sexp.{Sexp}
+use Rattle.text_core.specs.Faults.{IsFirst}
+use Rattle.forms.specs.Forms.{Form, atom, list, place_of, parts_of, is_list, sexp_forms, forms_from}
+use Rattle.goal_reader.proofs.NewNames.{parts_form}
+use Rattle.forms.specs.Forms.{Stands}
+use Rattle.forms.proofs.First.{ClearTo, first_own, first_inside, no_fault}
+use Rattle.goal_reader.specs.declared.scopes.DeclaredOp.{DeclaredOp}
+use Rattle.goal_reader.specs.declared.scopes.Scope.{Scope}
+use Rattle.goal_reader.specs.declared.goals.InputReg.{InputReg}
+use Rattle.goal_reader.specs.declared.goals.Set.{Set}
+use Rattle.goal_reader.specs.declared.drafts.Draft.{Draft}
+use Rattle.goal_reader.specs.declared.order.Admission.TheVariants.{Admitted}
+use Rattle.goal_reader.specs.Roles as roles
+use Rattle.goal_reader.specs.Roles.{Role, a_list, wrong, fresh_name, goal, IsOwn, too_few, no_set, part_role, IsFaultAs, rank, is_of_rank, of_rank, goal_keywords, goal_bounds, bound_at, items_of, item_role, role_in, goal_scope, inputs_in, input_in, names_given, second_name}
+use Rattle.goal_reader.specs.Order.{IsAdmission}
+use Rattle.goal_reader.specs.Reading.{IsClear, names_of_targets, registers_of}
+use Rattle.goal_reader.specs.Drafts.{IsNext, IsDraft, draft_role, items_before, with_input, input_leaf}
+use Rattle.goal_reader.specs.Drafts as drafts
+use Rattle.goal_reader.proofs.Admitting.{role_told}
+use Rattle.goal_reader.proofs.Fixed.{got_within}
+use Rattle.goal_reader.proofs.Owns as owns
+use Rattle.goal_reader.proofs.Ranks.{of_rank_more}
+
+pub got_more : {X : Type 0} (xs : List X) (i : ℕ) (x : X) → slice_get xs i ≡ Some x → take (i + 1) xs ≡ take i xs ++ x ∷ []
+got_more [] i x g = cc
+got_more (y ∷ ys) zero x g = let same : y ≡ x = cc in ap (λ z. z ∷ []) same
+got_more (y ∷ ys) (suc i) x g =
+    ap (λ n. take n (y ∷ ys)) (let e : suc i + 1 ≡ suc (i + 1) = omega arith in e) ∙ ap (λ zs. y ∷ zs) (got_more ys i x g)
+
+pub rest_two : {X : Type 0} (xs : List X) → take (length xs - 2) (drop 2 xs) ≡ drop 2 xs
+rest_two xs = take_all (length xs - 2) (drop 2 xs) (let l = length-drop 2 xs in omega (arith, l))
+
+got_dropped : {X : Type 0} (xs : List X) (at : ℕ) → slice_get (drop 2 xs) at ≡ slice_get xs (suc (suc at))
+got_dropped [] at = refl
+got_dropped (x ∷ []) at = refl
+got_dropped (x ∷ y ∷ xs) at = refl
+
+dropped_map : (text : List ℕ) (parts : List Sexp) → sexp_forms text (drop 2 parts) ≡ drop 2 (sexp_forms text parts)
+dropped_map text [] = refl
+dropped_map text (x ∷ []) = refl
+dropped_map text (x ∷ y ∷ xs) = refl
+
+pub items_are : (text : List ℕ) (form : Form) (p : ℕ) (parts : List Sexp) → form ≡ list p (forms_from (sexp_forms text parts)) → sexp_forms text (take (length parts - 2) (drop 2 parts)) ≡ items_of form
+items_are text form p parts e = ap (sexp_forms text) (rest_two parts) ∙ dropped_map text parts ∙ ap (drop 2) (sym (parts_form form p (sexp_forms text parts) e))
+
+pub all_two : {X : Type 0} (P : X → Type 0) (xs rest : List X) → rest ≡ drop 2 xs → All P xs → All P rest
+all_two P [] rest e h = subst (All P) (sym e) h
+all_two P (x ∷ []) rest e h = subst (All P) (sym e) (λ k d l. absurd (omega (arith, l)))
+all_two P (x ∷ y ∷ xs) rest e h = subst (All P) (sym e) (λ k d l. h (suc (suc k)) d (omega (arith, l)))
+
+pub no_parts : (form : Form) → is_list form ≡ false → length (parts_of form) < 2
+no_parts (atom p a) e = omega arith
+no_parts (list p parts) e = cc
+
+-- ---- what an item adds to what the items before give
+pub same_rank : (at k : ℕ) (form : Form) (before : List Form) (b : Bool) → rank goal_keywords form ≡ Some at → (at == k) ≡ b
+    → of_rank goal_keywords k (before ++ form ∷ []) ≡ of_rank goal_keywords k before ++ (if b then form ∷ [] else [])
+same_rank at k form before b e t =
+    of_rank_more goal_keywords k before form
+    ∙ ap (λ o. of_rank goal_keywords k before ++ (if option_map_or (λ r. r == k) o false then form ∷ [] else [])) e
+    ∙ ap (λ x. of_rank goal_keywords k before ++ (if x then form ∷ [] else [])) t
+
+nothing_more : {X : Type 0} (xs : List X) → xs ++ [] ≡ xs
+nothing_more [] = refl
+nothing_more (x ∷ xs) = ap (λ ys. x ∷ ys) (nothing_more xs)
+
+cons_more : {X : Type 0} (o : Option X) (xs ys zs : List X) → xs ≡ ys ++ zs → cons_option o xs ≡ cons_option o ys ++ zs
+cons_more None xs ys zs e = e
+cons_more (Some x) xs ys zs e = ap (λ w. x ∷ w) e
+
+pub map_more : {X Y : Type 0} (f : X → Option Y) (xs : List X) (x : X) (y : Y) → f x ≡ Some y → filter_map f (xs ++ x ∷ []) ≡ filter_map f xs ++ y ∷ []
+map_more f [] x y e = ap (λ o. cons_option o []) e
+map_more f (z ∷ zs) x y e = cons_more (f z) _ _ _ (map_more f zs x y e)
+
+pub mapped_more : {X Y : Type 0} (f : X → Y) (xs : List X) (x : X) → map f (xs ++ x ∷ []) ≡ map f xs ++ f x ∷ []
+mapped_more f [] x = refl
+mapped_more f (y ∷ ys) x = ap (λ zs. f y ∷ zs) (mapped_more f ys x)
+
+other_inputs : (at : ℕ) (form : Form) (before : List Form) → rank goal_keywords form ≡ Some at → (at == 0) ≡ false → inputs_in (before ++ form ∷ []) ≡ inputs_in before
+other_inputs at form before e t = ap (filter_map input_in) (same_rank at 0 form before false e t ∙ nothing_more (of_rank goal_keywords 0 before))
+
+other_targets : (at : ℕ) (form : Form) (before : List Form) → rank goal_keywords form ≡ Some at → (at == 4) ≡ false → names_given (of_rank goal_keywords 4 (before ++ form ∷ [])) ≡ names_given (of_rank goal_keywords 4 before)
+other_targets at form before e t = ap names_given (same_rank at 4 form before false e t ∙ nothing_more (of_rank goal_keywords 4 before))
+
+one_input : (form : Form) (before : List Form) (i : InputReg) → rank goal_keywords form ≡ Some 0 → input_in form ≡ Some i → inputs_in (before ++ form ∷ []) ≡ inputs_in before ++ i ∷ []
+one_input form before i e is = ap (filter_map input_in) (same_rank 0 0 form before true e refl) ∙ map_more input_in (of_rank goal_keywords 0 before) form i is
+
+one_target : (form : Form) (before : List Form) (name : List ℕ) → rank goal_keywords form ≡ Some 4 → second_name form ≡ Some name → names_given (of_rank goal_keywords 4 (before ++ form ∷ [])) ≡ names_given (of_rank goal_keywords 4 before) ++ name ∷ []
+one_target form before name e is = ap names_given (same_rank 4 4 form before true e refl) ∙ map_more second_name (of_rank goal_keywords 4 before) form name is
+
+module _ (declared : List DeclaredOp) (before : List Form) (form : Form) (d : Draft) (h : IsDraft declared before d) where
+  -- an item that is no input and no target leaves these as they are
+  plain : (at : ℕ) (next : Draft) → rank goal_keywords form ≡ Some at → (at == 0) ≡ false → (at == 4) ≡ false → next.scope ≡ d.scope → next.inputs ≡ d.inputs → next.sets ≡ d.sets → IsDraft declared (before ++ form ∷ []) next
+  plain at next e t0 t4 scope inputs sets = record {
+    scope = scope ∙ h.scope ∙ ap (goal_scope declared) (sym (other_inputs at form before e t0));
+    inputs = inputs ∙ h.inputs ∙ sym (other_inputs at form before e t0);
+    targets = ap names_of_targets sets ∙ h.targets ∙ sym (other_targets at form before e t4);
+  }
+
+  pub next_draft : (at : ℕ) (next : Draft) → rank goal_keywords form ≡ Some at → IsNext form d at next → IsDraft declared (before ++ form ∷ []) next
+  next_draft at next e (drafts.input i is same) =
+      let inputs = one_input form before i e is in
+      let more : List InputReg → Scope = λ xs. goal_scope declared xs in
+      let leaves : d.scope.leaves ++ input_leaf i ∷ [] ≡ (goal_scope declared (inputs_in before ++ i ∷ [])).leaves =
+      ap (λ (s : Scope). s.leaves ++ input_leaf i ∷ []) h.scope ∙ ap (λ ls. ((goal_scope declared []).leaves) ++ ls) (sym (mapped_more input_leaf (inputs_in before) i)) in
+      record {
+        scope = ap (λ (x : Draft). x.scope) same ∙ ap (λ ls. record { declared = d.scope.declared; leaves = ls }) leaves
+            ∙ ap (λ ds. record { declared = ds; leaves = (goal_scope declared (inputs_in before ++ i ∷ [])).leaves }) (ap (λ (s : Scope). s.declared) h.scope) ∙ ap more (sym inputs);
+        inputs = ap (λ (x : Draft). x.inputs) same ∙ ap (λ xs. xs ++ i ∷ []) h.inputs ∙ sym inputs;
+        targets = ap (λ (x : Draft). names_of_targets x.sets) same ∙ h.targets ∙ sym (other_targets 0 form before e refl);
+      }
+  next_draft at next e (drafts.pool registers is same) = plain 1 next e refl refl (ap (λ (x : Draft). x.scope) same) (ap (λ (x : Draft). x.inputs) same) (ap (λ (x : Draft). x.sets) same)
+  next_draft at next e (drafts.assume one left right same) = plain 2 next e refl refl (ap (λ (x : Draft). x.scope) same) (ap (λ (x : Draft). x.inputs) same) (ap (λ (x : Draft). x.sets) same)
+  next_draft at next e (drafts.guard term is same) = plain 3 next e refl refl (ap (λ (x : Draft). x.scope) same) (ap (λ (x : Draft). x.inputs) same) (ap (λ (x : Draft). x.sets) same)
+  next_draft at next e (drafts.target one named value same) = record {
+    scope = ap (λ (x : Draft). x.scope) same ∙ h.scope ∙ ap (goal_scope declared) (sym (other_inputs 4 form before e refl));
+    inputs = ap (λ (x : Draft). x.inputs) same ∙ h.inputs ∙ sym (other_inputs 4 form before e refl);
+    targets = ap (λ (x : Draft). names_of_targets x.sets) same ∙ mapped_more (λ (t : Set). t.name) d.sets one ∙ ap (λ ns. ns ++ one.name ∷ []) h.targets ∙ sym (one_target form before one.name e named);
+  }
+
+  abbrev roles_of : List DeclaredOp → List InputReg → Scope → List (List ℕ) → ℕ → Role
+  roles_of ds is scope names at = get_or (a_list (roles.input ds is) ∷ a_list (roles.pool (registers_of is)) ∷ a_list (roles.assume scope) ∷ a_list (roles.guard scope) ∷ a_list (roles.set scope names) ∷ []) at wrong
+
+  -- what the code reads the item as is what the definition has
+  pub role_same : (at : ℕ) → draft_role d at ≡ item_role declared before at
+  role_same at =
+      ap (λ ds. roles_of ds d.inputs d.scope (names_of_targets d.sets) at) (ap (λ (s : Scope). s.declared) h.scope)
+      ∙ ap (λ is. roles_of declared is d.scope (names_of_targets d.sets) at) h.inputs
+      ∙ ap (λ s. roles_of declared (inputs_in before) s (names_of_targets d.sets) at) h.scope
+      ∙ ap (λ ns. roles_of declared (inputs_in before) (goal_scope declared (inputs_in before)) ns at) h.targets
+
+  pub admitted_role : (at : ℕ) → rank goal_keywords form ≡ Some at → IsAdmission goal_keywords before at (bound_at goal_bounds at).most Admitted → role_in goal_keywords goal_bounds before (item_role declared before) form ≡ draft_role d at
+  admitted_role at e admitted = role_told goal_keywords goal_bounds before (item_role declared before) form at Admitted e admitted ∙ sym (role_same at)
+
+-- ---- the faults of a goal
+module _ (declared : List DeclaredOp) (names : List (List ℕ)) (form : Form) where
+  abbrev pub whole : Role
+  whole = a_list (goal declared names)
+
+  pub goal_clear : 2 ≤ length (parts_of form) → list_any (is_of_rank goal_keywords 4) (items_of form) ≡ true → (k : Kind) → IsOwn whole form k → ⊥
+  goal_clear enough some k (too_few l) = absurd (omega (arith, enough, l))
+  goal_clear enough some k (no_set e) = let f : true ≡ false = sym some ∙ e in cc
+
+  pub item_at : (i : ℕ) (part : Form) → 2 ≤ i → slice_get (parts_of form) i ≡ Some part
+      → part_role whole form i ≡ Some (role_in goal_keywords goal_bounds (items_before form i) (item_role declared (items_before form i)) part)
+  item_at zero part l g = absurd (omega (arith, l))
+  item_at (suc zero) part l g = absurd (omega (arith, l))
+  item_at (suc (suc at)) part l g =
+      subst (λ n. part_role whole form (suc (suc at)) ≡ Some (role_in goal_keywords goal_bounds (take n (items_of form)) (item_role declared (take n (items_of form))) part))
+      (let e : at ≡ suc (suc at) - 2 = omega arith in e)
+      (ap (λ o. option_map (role_in goal_keywords goal_bounds (take at (items_of form)) (item_role declared (take at (items_of form)))) o) (got_dropped (parts_of form) at ∙ g))
+
+  pub before_next : (i : ℕ) (part : Form) → 2 ≤ i → slice_get (parts_of form) i ≡ Some part → items_before form (i + 1) ≡ items_before form i ++ part ∷ []
+  before_next zero part l g = absurd (omega (arith, l))
+  before_next (suc zero) part l g = absurd (omega (arith, l))
+  before_next (suc (suc at)) part l g =
+      ap (λ n. take n (items_of form)) (let e : suc (suc at) + 1 - 2 ≡ at + 1 = omega arith in e) ∙ got_more (items_of form) at part (got_dropped (parts_of form) at ∙ g)
+      ∙ ap (λ n. take n (items_of form) ++ part ∷ []) (let e : at ≡ suc (suc at) - 2 = omega arith in e)
+
+  pub all_items : (i : ℕ) → length (parts_of form) ≤ i → items_before form i ≡ items_of form
+  all_items i most = take_all (i - 2) (drop 2 (parts_of form)) (let l = length-drop 2 (parts_of form) in omega (arith, l, most))
+
+  pub clear_one : ClearTo IsOwn part_role whole form 1
+  clear_one zero part other place kind l g e fault = let f : None ≡ Some other = e in absurd cc
+  clear_one (suc j) part other place kind l g e fault = absurd (omega (arith, l))
+
+  -- one part more without a fault
+  pub clear_next : (i : ℕ) (part : Form) (role : Role) → slice_get (parts_of form) i ≡ Some part → part_role whole form i ≡ Some role → IsClear role part → ClearTo IsOwn part_role whole form i → ClearTo IsOwn part_role whole form (i + 1)
+  clear_next i part role g e is clear j other as_role place kind below got role_is fault =
+      elim (cases_order j i) [
+        | inl same ↦
+            let parts : Some part ≡ Some other = sym g ∙ ap (slice_get (parts_of form)) (sym same) ∙ got in
+            let part_is : other ≡ part = cc in
+            let both : Some as_role ≡ Some role = sym role_is ∙ ap (part_role whole form) same ∙ e in
+            let role_same : as_role ≡ role = cc in
+            is place kind (subst (λ (x : Role). IsFaultAs x part place kind) role_same (subst (λ (x : Form). IsFaultAs as_role x place kind) part_is fault))
+        | inr (inl before) ↦ clear j other as_role place kind before got role_is fault
+        | inr (inr after) ↦ absurd (omega (arith, below, after))
+      ]
+
+  pub whole_clear : (n : ℕ) → 2 ≤ length (parts_of form) → list_any (is_of_rank goal_keywords 4) (items_of form) ≡ true → length (parts_of form) ≤ n → ClearTo IsOwn part_role whole form n → IsClear whole form
+  whole_clear n enough some most clear =
+      no_fault IsOwn part_role whole form (goal_clear enough some)
+      (λ j part other place kind g e fault. clear j part other place kind (let l = got_within (parts_of form) j part g in omega (arith, l, most)) g e fault)
+
+  module _ (low high : ℕ) (h : Stands low high form) where
+    pub short_goal : length (parts_of form) < 2 → IsFirst (IsFaultAs whole form) (place_of form) BadForm
+    short_goal l = first_own IsOwn part_role whole form low high BadForm h (too_few l) (λ k is. owns.own_at_least is)
+
+    pub no_set_first : list_any (is_of_rank goal_keywords 4) (items_of form) ≡ false → IsFirst (IsFaultAs whole form) (place_of form) BadForm
+    no_set_first e = first_own IsOwn part_role whole form low high BadForm h (no_set e) (λ k is. owns.own_at_least is)
+
+    pub part_first : (i : ℕ) (part : Form) (role : Role) (place : ℕ) (kind : Kind) → 2 ≤ length (parts_of form) → list_any (is_of_rank goal_keywords 4) (items_of form) ≡ true
+        → slice_get (parts_of form) i ≡ Some part → part_role whole form i ≡ Some role → ClearTo IsOwn part_role whole form i → IsFirst (IsFaultAs role part) place kind → IsFirst (IsFaultAs whole form) place kind
+    part_first i part role place kind enough some g e clear first = first_inside IsOwn part_role whole form low high i part role place kind h (goal_clear enough some) g e clear first

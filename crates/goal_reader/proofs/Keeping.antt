@@ -1,0 +1,174 @@
+-- A goal without a fault keeps the rules of names, registers and numbers.
+use Rattle.std.proofs.Common.{◌≡◌, ◌≢◌, ℕ, suc, ◌<◌, ◌≤◌, ◌||◌, ◌++◌, false, Option, None, Some, List, [], ◌∷◌, length, take, refl, sym, ap, ◌∙◌, subst, arith, slice_get, codes, length-append}
+use Rattle.std.specs.List.{list_any}
+use Rattle.std.proofs.lemmas.List.{append-nil}
+use Rattle.std.proofs.lemmas.List.Elements.{All-push}
+use Rattle.std.proofs.lemmas.List.Quantifiers.{all_pairs_push}
+use Rattle.text_core.specs.declared.faults.Kind.TheVariants.{BadForm, Twice, LimitPassed}
+use Rattle.forms.specs.Forms.{Form, atom, list, more, name, place_of, parts_of, forms_list, name_in, register_in}
+use Rattle.forms.specs.Faults.{own, inside}
+use Rattle.machine_table.specs.Grammar.{Each, more_of, IsNameOf}
+use Rattle.goal_reader.specs.declared.scopes.DeclaredOp.{DeclaredOp}
+use Rattle.goal_reader.specs.declared.scopes.Scope.{Scope}
+use Rattle.goal_reader.specs.declared.goals.InputReg.{InputReg}
+use Rattle.goal_reader.specs.declared.goals.Set.{Set}
+use Rattle.goal_reader.specs.declared.drafts.Draft.{Draft}
+use Rattle.goal_reader.specs.Views.{TargetTree, target_view}
+use Rattle.goal_reader.specs.Drafts.{AreDifferent, KeepsSoFar, pool_read, IsNext, IsWritten, IsPoolWritten, no_pool, one_pool, draft_role, with_input, with_pool}
+use Rattle.goal_reader.specs.Drafts as drafts
+use Rattle.goal_reader.specs.Grammar.{IsRegister, WritesInput, WritesTarget}
+use Rattle.goal_reader.specs.Reading.{IsClear, names_of_inputs, names_of_targets, registers_of}
+use Rattle.goal_reader.specs.Roles as roles
+use Rattle.goal_reader.specs.Roles.{Role, a_list, own_name, fresh_name, fresh_register, name_used, name_taken, register_given, part_role, is_reserved, is_among, has_register, names_of_declared, rank, of_rank, is_later_than, goal_keywords, goal_bounds, bound_at, registers_in, register_of, register_number, ◌>>=◌}
+use Rattle.goal_reader.proofs.Different.{or_left, or_right, among_apart, one_more, all_more, register_low}
+use Rattle.goal_reader.proofs.GoalSteps.{mapped_more}
+use Rattle.goal_reader.proofs.ItemForms.{keyworded, bind_some, input_writes, register_known_by, target_writes}
+use Rattle.goal_reader.proofs.Names.{not_true}
+use Rattle.goal_reader.proofs.NewNames.{among_both}
+use Rattle.goal_reader.proofs.Ranks.{none_of}
+use Rattle.goal_reader.proofs.WrittenItems.{fewer_than_one}
+
+-- a part of a form without faults has none
+pub part_clear : (role other : Role) (form part : Form) (at : ℕ) → IsClear role form → slice_get (parts_of form) at ≡ Some part → part_role role form at ≡ Some other → IsClear other part
+part_clear role other form part at clear g e place kind fault =
+    clear place kind (inside at part other (λ o. clear (place_of form) BadForm (own o refl)) (λ o. clear (place_of form) LimitPassed (own o refl)) g e fault)
+
+pub name_free : (names : List (List ℕ)) (form : Form) (bytes : List ℕ) → IsNameOf bytes form → IsClear (own_name names) form → is_reserved bytes || is_among names bytes ≡ false
+name_free names form bytes n clear =
+    not_true (is_reserved bytes || is_among names bytes) (λ u. clear (place_of form) Twice (own (name_used (ap name_in n.is) u) refl))
+
+pub name_fresh : (names : List (List ℕ)) (form : Form) (bytes : List ℕ) → IsNameOf bytes form → IsClear (fresh_name names) form → is_among names bytes ≡ false
+name_fresh names form bytes n clear = not_true (is_among names bytes) (λ u. clear (place_of form) Twice (own (name_taken (ap name_in n.is) u) refl))
+
+register_fresh : (before : List ℕ) (form : Form) (r : ℕ) → register_of form ≡ Some r → IsClear (fresh_register before) form → has_register before r ≡ false
+register_fresh before form r e clear = not_true (has_register before r) (λ u. clear (place_of form) Twice (own (register_given e u) refl))
+
+register_told : (form : Form) (r : ℕ) → IsRegister r form → register_of form ≡ Some r
+register_told form r is = ap register_of is.is ∙ is.number
+
+below : (form : Form) (r : ℕ) → register_of form ≡ Some r → r < 31
+below form r e = let b = bind_some (register_in form) register_number r e in register_low b.0 r b.2
+
+pub each_length : {Y : Type 0} (W : Form → Y → Type 0) (fs : List Form) (ys : List Y) → Each W fs ys → length ys ≡ length fs
+each_length W [] [] e = refl
+each_length W [] (y ∷ ys) e = elim e [ ]
+each_length W (f ∷ fs) [] e = elim e [ ]
+each_length W (f ∷ fs) (y ∷ ys) (more_of one others) = ap suc (each_length W fs ys others)
+
+none_yet : (fs : List Form) (p : Option (List ℕ)) → fs ≡ [] → IsPoolWritten fs p → p ≡ None
+none_yet [] None e w = refl
+none_yet [] (Some rs) e w = elim w [ ]
+none_yet (f ∷ fs) p e w = cc
+
+longer : {X : Type 0} (xs : List X) (x : X) (n : ℕ) → length xs ≡ n → n < 16 → length (xs ++ x ∷ []) ≤ 16
+longer xs x n e l = let s = length-append xs (x ∷ []) in omega (arith, s, e, l)
+
+pub longer_by : {X : Type 0} (most : ℕ) (xs : List X) (x : X) (n : ℕ) → length xs ≡ n → n < most → length (xs ++ x ∷ []) ≤ most
+longer_by most xs x n e l = let s = length-append xs (x ∷ []) in omega (arith, s, e, l)
+
+-- ---- an input
+module _ (declared : List DeclaredOp) (inputs : List InputReg) (form : Form) (i : InputReg) (w : WritesInput form i) (clear : IsClear (a_list (roles.input declared inputs)) form) where
+  as_input : Role
+  as_input = a_list (roles.input declared inputs)
+
+  input_free : is_reserved i.name || is_among (names_of_declared declared ++ names_of_inputs inputs) i.name ≡ false
+  unfolding as_input
+  input_free =
+      name_free (names_of_declared declared ++ names_of_inputs inputs) w.first i.name w.named
+      (part_clear as_input (own_name (names_of_declared declared ++ names_of_inputs inputs)) form w.first 1 clear (ap (λ (f : Form). slice_get (parts_of f) 1) w.is.is) refl)
+
+  input_fresh : has_register (registers_of inputs) i.reg ≡ false
+  unfolding as_input
+  input_fresh =
+      register_fresh (registers_of inputs) w.second i.reg (register_told w.second i.reg w.placed)
+      (part_clear as_input (fresh_register (registers_of inputs)) form w.second 2 clear (ap (λ (f : Form). slice_get (parts_of f) 2) w.is.is) refl)
+
+target_free : (scope : Scope) (names : List (List ℕ)) (form : Form) (t : TargetTree) → WritesTarget scope form t → IsClear (a_list (roles.set scope names)) form → is_among names t.name ≡ false
+target_free scope names form t w clear =
+    name_fresh names w.first t.name w.named
+    (part_clear (a_list (roles.set scope names)) (fresh_name names) form w.first 1 clear (ap (λ (f : Form). slice_get (parts_of f) 1) w.is.is) refl)
+
+-- ---- a pool
+register_free : (before : List ℕ) (form : Form) → IsClear (fresh_register before) form → (r : ℕ) × (register_of form ≡ Some r) × (has_register before r ≡ false) × (r < 31)
+register_free before form clear =
+    let known = register_known_by before form (register_in form) refl clear in
+    (known.0, known.1, register_fresh before form known.0 known.1 clear, below form known.0 known.1)
+
+pool_free : (before : List ℕ) (form : Form) → rank goal_keywords form ≡ Some 1 → IsClear (a_list (roles.pool before)) form → AreDifferent before → AreDifferent (before ++ registers_in (parts_of form))
+pool_free before form e clear d =
+    let k = keyworded 1 form e in
+    let whole = list k.place (more (atom k.head (name (codes "pool"))) k.rest) in
+    let clear_whole : IsClear (a_list (roles.pool before)) whole = subst (λ (f : Form). IsClear (a_list (roles.pool before)) f) k.is clear in
+    let grown = all_more before (forms_list k.rest) (λ j part g. register_free (before ++ registers_in (take j (forms_list k.rest))) part
+    (part_clear (a_list (roles.pool before)) (fresh_register (before ++ registers_in (take j (forms_list k.rest)))) whole part (suc j) clear_whole g refl)) d in
+    subst (λ (f : Form). AreDifferent (before ++ registers_in (parts_of f))) (sym k.is) grown
+
+-- ---- one item more
+module _ (declared : List DeclaredOp) (before : List Form) (form : Form) (d : Draft) (w : IsWritten before d) (same_ops : d.scope.declared ≡ declared) (k : KeepsSoFar declared d) where
+  module _ (at : ℕ) (e : rank goal_keywords form ≡ Some at) (none_later : list_any (is_later_than goal_keywords at) before ≡ false) where
+    later_empty : (n : ℕ) → at < n → of_rank goal_keywords n before ≡ []
+    later_empty n l = none_of goal_keywords at n before l none_later
+
+  with_input_keeps : (i : InputReg) → WritesInput form i → IsClear (a_list (roles.input d.scope.declared d.inputs)) form → rank goal_keywords form ≡ Some 0 → list_any (is_later_than goal_keywords 0) before ≡ false
+      → length (of_rank goal_keywords 0 before) < 16 → KeepsSoFar declared (with_input d i)
+  with_input_keeps i wi clear e none_later few =
+      let free = input_free d.scope.declared d.inputs form i wi clear in
+      let among = or_right (is_reserved i.name) (is_among (names_of_declared d.scope.declared ++ names_of_inputs d.inputs) i.name) free in
+      let split = sym (among_both (names_of_declared d.scope.declared) (names_of_inputs d.inputs) i.name) ∙ among in
+      let no_pool_yet = ap pool_read (none_yet (of_rank goal_keywords 1 before) d.pool (later_empty 0 e none_later 1 (omega arith)) w.pool) in
+      let old : AreDifferent (registers_of d.inputs) = subst AreDifferent (ap (λ rs. registers_of d.inputs ++ rs) no_pool_yet ∙ append-nil (registers_of d.inputs)) k.registers in
+      let new = one_more (registers_of d.inputs) i.reg old (input_fresh d.scope.declared d.inputs form i wi clear) (below wi.second i.reg (register_told wi.second i.reg wi.placed)) in
+      record {
+        input_names = all_pairs_push (λ (a b : InputReg). a.name ≢ b.name) d.inputs i k.input_names
+            (among_apart (λ (a : InputReg). a.name) d.inputs i.name (or_right (is_among (names_of_declared d.scope.declared) i.name) (is_among (names_of_inputs d.inputs) i.name) split));
+        own_names = All-push (λ (a : InputReg). is_reserved a.name ≡ false) d.inputs i k.own_names (or_left (is_reserved i.name) (is_among (names_of_declared d.scope.declared ++ names_of_inputs d.inputs) i.name) free);
+        not_declared = All-push (λ (a : InputReg). is_among (names_of_declared declared) a.name ≡ false) d.inputs i k.not_declared
+            (subst (λ (ds : List DeclaredOp). is_among (names_of_declared ds) i.name ≡ false) same_ops (or_left (is_among (names_of_declared d.scope.declared) i.name) (is_among (names_of_inputs d.inputs) i.name) split));
+        registers = subst AreDifferent (sym (ap (λ rs. registers_of (d.inputs ++ i ∷ []) ++ rs) no_pool_yet ∙ append-nil (registers_of (d.inputs ++ i ∷ [])) ∙ mapped_more (λ (a : InputReg). a.reg) d.inputs i)) new;
+        targets = k.targets;
+        few = (longer d.inputs i _ (each_length WritesInput (of_rank goal_keywords 0 before) d.inputs w.inputs) few, k.few.1, k.few.2);
+      }
+
+  pub next_keeps : (at : ℕ) (next : Draft) → rank goal_keywords form ≡ Some at → list_any (is_later_than goal_keywords at) before ≡ false → length (of_rank goal_keywords at before) < (bound_at goal_bounds at).most
+      → IsNext form d at next → IsClear (draft_role d at) form → KeepsSoFar declared next
+  next_keeps at next e none_later few (drafts.input i is same) clear =
+      subst (KeepsSoFar declared) (sym same) (with_input_keeps i (input_writes d.scope.declared d.inputs form i e is clear) clear e none_later few)
+  next_keeps at next e none_later few (drafts.pool registers is same) clear =
+      let no_pool_yet = ap pool_read (none_yet (of_rank goal_keywords 1 before) d.pool (fewer_than_one (of_rank goal_keywords 1 before) few) w.pool) in
+      let old : AreDifferent (registers_of d.inputs) = subst AreDifferent (ap (λ rs. registers_of d.inputs ++ rs) no_pool_yet ∙ append-nil (registers_of d.inputs)) k.registers in
+      subst (KeepsSoFar declared) (sym same) (record {
+        input_names = k.input_names;
+        own_names = k.own_names;
+        not_declared = k.not_declared;
+        registers = subst (λ rs. AreDifferent (registers_of d.inputs ++ rs)) (sym is) (pool_free (registers_of d.inputs) form e clear old);
+        targets = k.targets;
+        few = k.few;
+      })
+  next_keeps at next e none_later few (drafts.assume one left right same) clear =
+      subst (KeepsSoFar declared) (sym same) (record {
+        input_names = k.input_names;
+        own_names = k.own_names;
+        not_declared = k.not_declared;
+        registers = k.registers;
+        targets = k.targets;
+        few = (k.few.0, longer d.assumes one _ (each_length (drafts.IsAssumed d.scope) (of_rank goal_keywords 2 before) d.assumes w.assumptions) few, k.few.2);
+      })
+  next_keeps at next e none_later few (drafts.guard term is same) clear =
+      subst (KeepsSoFar declared) (sym same) (record {
+        input_names = k.input_names;
+        own_names = k.own_names;
+        not_declared = k.not_declared;
+        registers = k.registers;
+        targets = k.targets;
+        few = k.few;
+      })
+  next_keeps at next e none_later few (drafts.target one named value same) clear =
+      let free = target_free d.scope (names_of_targets d.sets) form (target_view one) (target_writes d.scope (names_of_targets d.sets) form one e named value clear) clear in
+      subst (KeepsSoFar declared) (sym same) (record {
+        input_names = k.input_names;
+        own_names = k.own_names;
+        not_declared = k.not_declared;
+        registers = k.registers;
+        targets = all_pairs_push (λ (a b : Set). a.name ≢ b.name) d.sets one k.targets (among_apart (λ (t : Set). t.name) d.sets one.name free);
+        few = (k.few.0, k.few.1, longer d.sets one _ (each_length (drafts.IsTargeted d.scope) (of_rank goal_keywords 4 before) d.sets w.targets) few);
+      })

@@ -1,0 +1,116 @@
+-- Searches for names.
+use Rattle.std.proofs.Common.{◌≡◌, ◌≢◌, ℕ, suc, ◌+◌, ◌<◌, Bool, true, false, if◌then◌else◌, Some, None, find, List, [], ◌∷◌, length, get_or, drop, refl, sym, ap, ◌∙◌, subst, add-one, bytes_eq}
+use Rattle.std.proofs.Math.Seq.{drop-cons}
+use Rattle.std.proofs.lemmas.Slice.Eq.{bytes_eq-Decides}
+use Rattle.word_ops.specs.Operators.{operators}
+use Rattle.word_ops.specs.Names.{name_of}
+use Rattle.word_ops.specs.declared.operators.WordOp.{WordOp}
+use Rattle.word_ops.specs.declared.operators.WordOp.TheVariants as words
+use Rattle.word_ops.specs.declared.sorts.Op.TheVariants.{Declared}
+use Rattle.goal_reader.specs.declared.scopes.DeclaredOp.{DeclaredOp}
+use Rattle.goal_reader.specs.declared.scopes.Leaf.{Leaf}
+use Rattle.goal_reader.specs.Scopes.{leaf_named, declared_named, word_named, built_in_named, memory_operator_named, as_written, written_or_memory}
+
+pub leaf_here : (leaves : List Leaf) (i : ℕ) (leaf : Leaf) (name : List ℕ) → i < length leaves → leaf ≡ get_or leaves i leaf
+    → leaf_named (drop i leaves) name ≡ (if bytes_eq leaf.name name then Some leaf.named else leaf_named (drop (i + 1) leaves) name)
+leaf_here leaves i leaf name l e =
+    ap (λ ls. leaf_named ls name) (drop-cons leaves i leaf l) ∙ ap (λ (x : Leaf). leaf_named (x ∷ drop (suc i) leaves) name) (sym e)
+    ∙ ap (λ n. if bytes_eq leaf.name name then Some leaf.named else leaf_named (drop n leaves) name) (sym (add-one i))
+
+pub declared_here : (ops : List DeclaredOp) (i : ℕ) (op : DeclaredOp) (name : List ℕ) → i < length ops → op ≡ get_or ops i op
+    → declared_named i (drop i ops) name ≡ (if bytes_eq op.name name then Some (Declared i op.arity) else declared_named (i + 1) (drop (i + 1) ops) name)
+declared_here ops i op name l e =
+    ap (λ ls. declared_named i ls name) (drop-cons ops i op l) ∙ ap (λ (x : DeclaredOp). declared_named i (x ∷ drop (suc i) ops) name) (sym e)
+    ∙ ap (λ n. if bytes_eq op.name name then Some (Declared i op.arity) else declared_named (i + 1) (drop n ops) name) (sym (add-one i))
+
+find_own : (op : WordOp) → find (λ other. bytes_eq (name_of other) (name_of op)) operators ≡ Some op
+find_own words.Addl = refl
+find_own words.S4addl = refl
+find_own words.Subl = refl
+find_own words.S4subl = refl
+find_own words.Cmpbge = refl
+find_own words.S8addl = refl
+find_own words.S8subl = refl
+find_own words.Cmpult = refl
+find_own words.Addq = refl
+find_own words.S4addq = refl
+find_own words.Subq = refl
+find_own words.S4subq = refl
+find_own words.Cmpeq = refl
+find_own words.S8addq = refl
+find_own words.S8subq = refl
+find_own words.Cmpule = refl
+find_own words.Cmplt = refl
+find_own words.Cmple = refl
+find_own words.And = refl
+find_own words.Bic = refl
+find_own words.Bis = refl
+find_own words.Ornot = refl
+find_own words.Xor = refl
+find_own words.Eqv = refl
+find_own words.Mskbl = refl
+find_own words.Extbl = refl
+find_own words.Insbl = refl
+find_own words.Mskwl = refl
+find_own words.Extwl = refl
+find_own words.Inswl = refl
+find_own words.Mskll = refl
+find_own words.Extll = refl
+find_own words.Insll = refl
+find_own words.Zap = refl
+find_own words.Zapnot = refl
+find_own words.Mskql = refl
+find_own words.Srl = refl
+find_own words.Extql = refl
+find_own words.Sll = refl
+find_own words.Insql = refl
+find_own words.Sra = refl
+find_own words.Mskwh = refl
+find_own words.Inswh = refl
+find_own words.Extwh = refl
+find_own words.Msklh = refl
+find_own words.Inslh = refl
+find_own words.Extlh = refl
+find_own words.Mskqh = refl
+find_own words.Insqh = refl
+find_own words.Extqh = refl
+find_own words.Mull = refl
+find_own words.Mulq = refl
+find_own words.Umulh = refl
+find_own words.Sextb = refl
+find_own words.Sextw = refl
+find_own words.Neg = refl
+find_own words.Not = refl
+find_own words.Selectb = refl
+find_own words.Storeb = refl
+find_own words.Lda = refl
+find_own words.Ldah = refl
+
+pub not_true : (b : Bool) → (b ≡ true → ⊥) → b ≡ false
+not_true true n = absurd (n refl)
+not_true false n = refl
+
+decides_false : (xs ys : List ℕ) → xs ≢ ys → bytes_eq xs ys ≡ false
+decides_false xs ys h = not_true (bytes_eq xs ys) (λ e. h ((bytes_eq-Decides xs ys).0 e))
+
+find_none : (name : List ℕ) (ops : List WordOp) → ((op : WordOp) → name_of op ≢ name) → find (λ op. bytes_eq (name_of op) name) ops ≡ None
+find_none name [] h = refl
+find_none name (op ∷ ops) h =
+    ap (λ b. if b then Some op else find (λ other. bytes_eq (name_of other) name) ops) (decides_false (name_of op) name (h op)) ∙ find_none name ops h
+
+pub word_named_some : (op : WordOp) (name : List ℕ) → name_of op ≡ name → word_named name ≡ Some op
+unfolding word_named
+word_named_some op name e = subst (λ (n : List ℕ). find (λ other. bytes_eq (name_of other) n) operators ≡ Some op) e (find_own op)
+
+pub word_named_none : (name : List ℕ) → ((op : WordOp) → name_of op ≢ name) → word_named name ≡ None
+unfolding word_named
+word_named_none name h = find_none name operators h
+
+pub built_in_word : (op : WordOp) (name : List ℕ) → name_of op ≡ name → built_in_named name ≡ as_written op
+built_in_word op name e = ap (λ found. written_or_memory found name) (word_named_some op name e)
+
+pub built_in_other : (name : List ℕ) → ((op : WordOp) → name_of op ≢ name) → built_in_named name ≡ memory_operator_named name
+built_in_other name h = ap (λ found. written_or_memory found name) (word_named_none name h)
+
+pub none_some : (op : WordOp) → None ≡ Some op → ⊥
+none_some op e = cc

@@ -1,0 +1,169 @@
+use Rattle.std.proofs.Common.{◌≡◌, ◌<◌, List, [], ◌∷◌, Option, Some, length, sym, ◌∙◌, ap, refl, subst, arith}
+use Rattle.word_ops.specs.declared.sorts.Sort.{Sort}
+use Rattle.word_terms.specs.View.{tree_of}
+use Rattle.text_core.specs.declared.faults.Kind.TheVariants.{BadForm}
+use Rattle.text_core.specs.Faults.{IsFirst, IsFaultBy}
+use Rattle.forms.specs.Forms.{place_of, sexp_form, parts_of}
+use Rattle.forms.proofs.Told.{told, told_of_part}
+use Rattle.goal_reader.specs.Roles as roles
+use Rattle.goal_reader.specs.Roles.{Role, Shape, IsFaultAs, part, sort_in, ◌>>=◌, WritesTerm}
+use Rattle.goal_reader.proofs.Fixed.{short_first, clear_none, clear_more, part_first, whole_clear, wrong_first}
+use Rattle.goal_reader.proofs.NewNames.{nth_part, part_of, count_form, set_only, fresh_name_clear, target_told, target_sort_told}
+use Rattle.goal_reader.proofs.Apart.{writes_clear}
+use Rattle.goal_reader.specs.Roles.{target_sort}
+use Rattle.goal_reader.specs.Reading.{names_of_targets, sort_of_target}
+use Rattle.goal_reader.proofs.assumes.target.Goals as goal
+
+pub returns-then-parts-lt3-clause-fault : goal.returns-then-parts-lt3-clause-fault
+returns-then-parts-lt3-clause-fault c =
+    let text = c.args.text.now in
+    let form = sexp_form text c.args.form.now in
+    let scope = c.args.scope.now in
+    let s = c.sexps_are_forms.ensures.stands text c.args.form.now c.requires.of in
+    let parts = c.in-Some.parts.now in
+    let is = c.in-Some.ensures.parts text in
+    let shape : Shape = roles.set scope (names_of_targets c.args.targets.now) in
+    let second : Option Sort = target_sort form in
+    let each : List Role = roles.fresh_name (names_of_targets c.args.targets.now) ∷ roles.term scope second ∷ [] in
+    let only = set_only scope (names_of_targets c.args.targets.now) form in
+    let count = count_form text form (place_of form) parts is in
+    told (IsFaultAs (roles.a_list shape) form) c.at.result c.place.result (place_of form) _ c.at.ensures (c.place.ensures text)
+    (short_first shape form each s.0 s.1 s.2 only (λ at. refl) (let f = c.if-parts-lt3.true in omega (arith, count, f)))
+
+pub returns-in-Err-clause-fault : goal.returns-in-Err-clause-fault
+returns-in-Err-clause-fault c =
+    let text = c.args.text.now in
+    let form = sexp_form text c.args.form.now in
+    let scope = c.args.scope.now in
+    let s = c.sexps_are_forms.ensures.stands text c.args.form.now c.requires.of in
+    let parts = c.in-Some.parts.now in
+    let is = c.in-Some.ensures.parts text in
+    let shape : Shape = roles.set scope (names_of_targets c.args.targets.now) in
+    let second : Option Sort = target_sort form in
+    let each : List Role = roles.fresh_name (names_of_targets c.args.targets.now) ∷ roles.term scope second ∷ [] in
+    let only = set_only scope (names_of_targets c.args.targets.now) form in
+    let count = count_form text form (place_of form) parts is in
+    let enough : length (parts_of form) < 3 → ⊥ = λ l. (let f = c.if-parts-lt3.false in omega (arith, count, l, f)) in
+    let none = clear_none shape form each s.0 s.1 s.2 only (λ at. refl) in
+    let g1 = nth_part text form (place_of form) parts 1 c.index-parts-1.result is (let f = c.if-parts-lt3.false in omega (arith, f)) c.index-parts-1.is in
+    told_of_part (IsFaultAs (roles.fresh_name (names_of_targets c.args.targets.now)) (sexp_form text c.index-parts-1.result)) (IsFaultAs (roles.a_list shape) form)
+    (λ p k first. part_first shape form each s.0 s.1 s.2 only (λ at. refl) 0 (sexp_form text c.index-parts-1.result) p k enough none g1 first) c.in-Err.fault c.in-Err.ensures.fault
+
+pub returns-in-Err-term-clause-fault : goal.returns-in-Err-term-clause-fault
+returns-in-Err-term-clause-fault c =
+    let text = c.args.text.now in
+    let form = sexp_form text c.args.form.now in
+    let scope = c.args.scope.now in
+    let s = c.sexps_are_forms.ensures.stands text c.args.form.now c.requires.of in
+    let parts = c.in-Some.parts.now in
+    let is = c.in-Some.ensures.parts text in
+    let shape : Shape = roles.set scope (names_of_targets c.args.targets.now) in
+    let second : Option Sort = target_sort form in
+    let each : List Role = roles.fresh_name (names_of_targets c.args.targets.now) ∷ roles.term scope second ∷ [] in
+    let only = set_only scope (names_of_targets c.args.targets.now) form in
+    let count = count_form text form (place_of form) parts is in
+    let enough : length (parts_of form) < 3 → ⊥ = λ l. (let f = c.if-parts-lt3.false in omega (arith, count, l, f)) in
+    let none = clear_none shape form each s.0 s.1 s.2 only (λ at. refl) in
+    let g1 = nth_part text form (place_of form) parts 1 c.index-parts-1.result is (let f = c.if-parts-lt3.false in omega (arith, f)) c.index-parts-1.is in
+    let clear1 = clear_more shape form each s.0 s.1 s.2 only (λ at. refl) 0 (sexp_form text c.index-parts-1.result) none g1 (fresh_name_clear _ _ c.in-Ok.bytes.now c.in-Ok.ensures.named c.in-Ok.ensures.fresh) in
+    let g2 = nth_part text form (place_of form) parts 2 c.index-parts-2.result is (let f = c.if-parts-lt3.false in omega (arith, f)) c.index-parts-2.is in
+    let named = target_told form _ c.in-Ok.bytes.now g1 c.in-Ok.ensures.named in
+    let sorted : Some c.sort_wanted-sort.result ≡ second = ap Some c.sort_wanted-sort.ensures ∙ target_sort_told form c.in-Ok.bytes.now named in
+    let told = subst (λ w. IsFaultBy (IsFirst (IsFaultAs (roles.term scope w) (sexp_form text c.index-parts-2.result))) c.in-Err-term.fault) sorted c.in-Err-term.ensures.fault in
+    told_of_part (IsFaultAs (roles.term scope second) (sexp_form text c.index-parts-2.result)) (IsFaultAs (roles.a_list shape) form)
+    (λ p k first. part_first shape form each s.0 s.1 s.2 only (λ at. refl) 1 (sexp_form text c.index-parts-2.result) p k enough clear1 g2 first) c.in-Err-term.fault told
+
+pub returns-then-parts-gt3-clause-fault : goal.returns-then-parts-gt3-clause-fault
+returns-then-parts-gt3-clause-fault c =
+    let text = c.args.text.now in
+    let form = sexp_form text c.args.form.now in
+    let scope = c.args.scope.now in
+    let s = c.sexps_are_forms.ensures.stands text c.args.form.now c.requires.of in
+    let parts = c.in-Some.parts.now in
+    let is = c.in-Some.ensures.parts text in
+    let shape : Shape = roles.set scope (names_of_targets c.args.targets.now) in
+    let second : Option Sort = target_sort form in
+    let each : List Role = roles.fresh_name (names_of_targets c.args.targets.now) ∷ roles.term scope second ∷ [] in
+    let only = set_only scope (names_of_targets c.args.targets.now) form in
+    let count = count_form text form (place_of form) parts is in
+    let enough : length (parts_of form) < 3 → ⊥ = λ l. (let f = c.if-parts-lt3.false in omega (arith, count, l, f)) in
+    let none = clear_none shape form each s.0 s.1 s.2 only (λ at. refl) in
+    let g1 = nth_part text form (place_of form) parts 1 c.index-parts-1.result is (let f = c.if-parts-lt3.false in omega (arith, f)) c.index-parts-1.is in
+    let clear1 = clear_more shape form each s.0 s.1 s.2 only (λ at. refl) 0 (sexp_form text c.index-parts-1.result) none g1 (fresh_name_clear _ _ c.in-Ok.bytes.now c.in-Ok.ensures.named c.in-Ok.ensures.fresh) in
+    let g2 = nth_part text form (place_of form) parts 2 c.index-parts-2.result is (let f = c.if-parts-lt3.false in omega (arith, f)) c.index-parts-2.is in
+    let named = target_told form _ c.in-Ok.bytes.now g1 c.in-Ok.ensures.named in
+    let sorted : Some c.sort_wanted-sort.result ≡ second = ap Some c.sort_wanted-sort.ensures ∙ target_sort_told form c.in-Ok.bytes.now named in
+    let right = subst (λ w. WritesTerm scope w (sexp_form text c.index-parts-2.result) (tree_of c.in-Ok-term.value)) sorted c.in-Ok-term.ensures.term in
+    let clear2 = clear_more shape form each s.0 s.1 s.2 only (λ at. refl) 1 (sexp_form text c.index-parts-2.result) clear1 g2 (writes_clear right.writes second right.wanted_one) in
+    let g3 = nth_part text form (place_of form) parts 3 c.index-parts-3.result is c.if-parts-gt3.true c.index-parts-3.is in
+    let of = c.sexps_are_forms.ensures.stands text c.index-parts-3.result (part_of text parts 3 c.index-parts-3.result (c.in-Some.ensures.of text c.requires.of) c.if-parts-gt3.true c.index-parts-3.is) in
+    told (IsFaultAs (roles.a_list shape) form) c.at-then-parts-gt3.result c.place-then-parts-gt3.result (place_of (sexp_form text c.index-parts-3.result)) _ c.at-then-parts-gt3.ensures (c.place-then-parts-gt3.ensures text)
+    (part_first shape form each s.0 s.1 s.2 only (λ at. refl) 2 (sexp_form text c.index-parts-3.result) _ BadForm enough clear2 g3 (wrong_first (sexp_form text c.index-parts-3.result) of.0 of.1 of.2))
+
+pub returns-clause-named : goal.returns-clause-named
+returns-clause-named c =
+    let text = c.args.text.now in
+    let form = sexp_form text c.args.form.now in
+    let scope = c.args.scope.now in
+    let s = c.sexps_are_forms.ensures.stands text c.args.form.now c.requires.of in
+    let parts = c.in-Some.parts.now in
+    let is = c.in-Some.ensures.parts text in
+    let shape : Shape = roles.set scope (names_of_targets c.args.targets.now) in
+    let second : Option Sort = target_sort form in
+    let each : List Role = roles.fresh_name (names_of_targets c.args.targets.now) ∷ roles.term scope second ∷ [] in
+    let only = set_only scope (names_of_targets c.args.targets.now) form in
+    let count = count_form text form (place_of form) parts is in
+    let enough : length (parts_of form) < 3 → ⊥ = λ l. (let f = c.if-parts-lt3.false in omega (arith, count, l, f)) in
+    let none = clear_none shape form each s.0 s.1 s.2 only (λ at. refl) in
+    let g1 = nth_part text form (place_of form) parts 1 c.index-parts-1.result is (let f = c.if-parts-lt3.false in omega (arith, f)) c.index-parts-1.is in
+    let clear1 = clear_more shape form each s.0 s.1 s.2 only (λ at. refl) 0 (sexp_form text c.index-parts-1.result) none g1 (fresh_name_clear _ _ c.in-Ok.bytes.now c.in-Ok.ensures.named c.in-Ok.ensures.fresh) in
+    let g2 = nth_part text form (place_of form) parts 2 c.index-parts-2.result is (let f = c.if-parts-lt3.false in omega (arith, f)) c.index-parts-2.is in
+    let named = target_told form _ c.in-Ok.bytes.now g1 c.in-Ok.ensures.named in
+    let sorted : Some c.sort_wanted-sort.result ≡ second = ap Some c.sort_wanted-sort.ensures ∙ target_sort_told form c.in-Ok.bytes.now named in
+    named ∙ ap Some (sym c.in_ok-name.ensures)
+
+pub returns-clause-value : goal.returns-clause-value
+returns-clause-value c =
+    let text = c.args.text.now in
+    let form = sexp_form text c.args.form.now in
+    let scope = c.args.scope.now in
+    let s = c.sexps_are_forms.ensures.stands text c.args.form.now c.requires.of in
+    let parts = c.in-Some.parts.now in
+    let is = c.in-Some.ensures.parts text in
+    let shape : Shape = roles.set scope (names_of_targets c.args.targets.now) in
+    let second : Option Sort = target_sort form in
+    let each : List Role = roles.fresh_name (names_of_targets c.args.targets.now) ∷ roles.term scope second ∷ [] in
+    let only = set_only scope (names_of_targets c.args.targets.now) form in
+    let count = count_form text form (place_of form) parts is in
+    let enough : length (parts_of form) < 3 → ⊥ = λ l. (let f = c.if-parts-lt3.false in omega (arith, count, l, f)) in
+    let none = clear_none shape form each s.0 s.1 s.2 only (λ at. refl) in
+    let g1 = nth_part text form (place_of form) parts 1 c.index-parts-1.result is (let f = c.if-parts-lt3.false in omega (arith, f)) c.index-parts-1.is in
+    let clear1 = clear_more shape form each s.0 s.1 s.2 only (λ at. refl) 0 (sexp_form text c.index-parts-1.result) none g1 (fresh_name_clear _ _ c.in-Ok.bytes.now c.in-Ok.ensures.named c.in-Ok.ensures.fresh) in
+    let g2 = nth_part text form (place_of form) parts 2 c.index-parts-2.result is (let f = c.if-parts-lt3.false in omega (arith, f)) c.index-parts-2.is in
+    let named = target_told form _ c.in-Ok.bytes.now g1 c.in-Ok.ensures.named in
+    let sorted : Some c.sort_wanted-sort.result ≡ second = ap Some c.sort_wanted-sort.ensures ∙ target_sort_told form c.in-Ok.bytes.now named in
+    record { part = sexp_form text c.index-parts-2.result; found = g2; writes = subst (λ w. WritesTerm scope (Some w) (sexp_form text c.index-parts-2.result) (tree_of c.in-Ok-term.value)) (c.sort_wanted-sort.ensures ∙ ap sort_of_target (sym c.in_ok-name.ensures)) c.in-Ok-term.ensures.term }
+
+pub returns-clause-clear : goal.returns-clause-clear
+returns-clause-clear c =
+    let text = c.args.text.now in
+    let form = sexp_form text c.args.form.now in
+    let scope = c.args.scope.now in
+    let s = c.sexps_are_forms.ensures.stands text c.args.form.now c.requires.of in
+    let parts = c.in-Some.parts.now in
+    let is = c.in-Some.ensures.parts text in
+    let shape : Shape = roles.set scope (names_of_targets c.args.targets.now) in
+    let second : Option Sort = target_sort form in
+    let each : List Role = roles.fresh_name (names_of_targets c.args.targets.now) ∷ roles.term scope second ∷ [] in
+    let only = set_only scope (names_of_targets c.args.targets.now) form in
+    let count = count_form text form (place_of form) parts is in
+    let enough : length (parts_of form) < 3 → ⊥ = λ l. (let f = c.if-parts-lt3.false in omega (arith, count, l, f)) in
+    let none = clear_none shape form each s.0 s.1 s.2 only (λ at. refl) in
+    let g1 = nth_part text form (place_of form) parts 1 c.index-parts-1.result is (let f = c.if-parts-lt3.false in omega (arith, f)) c.index-parts-1.is in
+    let clear1 = clear_more shape form each s.0 s.1 s.2 only (λ at. refl) 0 (sexp_form text c.index-parts-1.result) none g1 (fresh_name_clear _ _ c.in-Ok.bytes.now c.in-Ok.ensures.named c.in-Ok.ensures.fresh) in
+    let g2 = nth_part text form (place_of form) parts 2 c.index-parts-2.result is (let f = c.if-parts-lt3.false in omega (arith, f)) c.index-parts-2.is in
+    let named = target_told form _ c.in-Ok.bytes.now g1 c.in-Ok.ensures.named in
+    let sorted : Some c.sort_wanted-sort.result ≡ second = ap Some c.sort_wanted-sort.ensures ∙ target_sort_told form c.in-Ok.bytes.now named in
+    let right = subst (λ w. WritesTerm scope w (sexp_form text c.index-parts-2.result) (tree_of c.in-Ok-term.value)) sorted c.in-Ok-term.ensures.term in
+    let clear2 = clear_more shape form each s.0 s.1 s.2 only (λ at. refl) 1 (sexp_form text c.index-parts-2.result) clear1 g2 (writes_clear right.writes second right.wanted_one) in
+    whole_clear shape form each s.0 s.1 s.2 only (λ at. refl) 2 enough (let f = c.if-parts-gt3.false in omega (arith, count, f)) clear2

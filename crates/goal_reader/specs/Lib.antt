@@ -1,0 +1,10 @@
+pub mod Scopes
+pub mod Terms
+pub mod Roles
+pub mod Grammar
+pub mod Reading
+pub mod Order
+pub mod Drafts
+pub mod Views
+pub mod TextFaults
+pub mod TextDrafts

@@ -1,0 +1,109 @@
+// Reading the declaration of an operator.
+ghost use Rattle.std.specs.Prelude.{◌≡◌, ◌||◌, IfOk, IfErr, Some};
+ghost use Rattle.text_core.specs.Faults.{IsFirst, IsFaultBy};
+ghost use Rattle.forms.specs.Forms.{sexp_form};
+ghost use Rattle.forms.specs.Reading.{IsOf};
+ghost use Rattle.goal_reader.specs.Roles as roles;
+ghost use Rattle.goal_reader.specs.Roles.{IsFaultAs, names_of_declared, declaration_in, arity_named, is_among};
+ghost use Rattle.goal_reader.specs.Reading.{IsClear, IsOwnName, IsArityOf};
+
+use crate::inputs::{is_declared, is_reserved};
+use crate::scopes::DeclaredOp;
+use forms::{at, name, number, parts, place, sexps_are_forms};
+use std::alloc::Global;
+use text_core::{Kind, Name, Sexp, TextFault};
+use word_ops::Arity;
+
+// A name that no operator and not the memory has.
+fn operator_name<'a>(
+    form: &Sexp,
+    text: &'a [u8],
+    declared: &[DeclaredOp],
+) -> Result<&'a [u8], TextFault>
+    requires of { IsOf text.now form.now }
+    ensures ok { IfOk result (λ bytes. IsOwnName (names_of_declared declared.now) (sexp_form text.now form.now) bytes.now) }
+    ensures fault { IfErr result (IsFaultBy (IsFirst (IsFaultAs (roles.own_name (names_of_declared declared.now)) (sexp_form text.now form.now)))) }
+{
+    sexps_are_forms();
+    let Some(bytes) = name(form, text) else {
+        return Err(at(place(form), Kind::BadForm));
+    };
+    if is_used_operator(bytes, declared) {
+        return Err(at(place(form), Kind::Twice));
+    }
+    Ok(bytes)
+}
+
+fn is_used_operator(name: &[u8], declared: &[DeclaredOp]) -> bool
+    ensures { result ≡ (roles.is_reserved name.now || is_among (names_of_declared declared.now) name.now) }
+{
+    let reserved = is_reserved(name);
+    let declared = is_declared(declared, name);
+    reserved || declared
+}
+
+fn arity_of(count: u64) -> Option<Arity>
+    ensures { result ≡ arity_named count }
+{
+    match count {
+        1 => Some(Arity::One),
+        2 => Some(Arity::Two),
+        3 => Some(Arity::Three),
+        4 => Some(Arity::Four),
+        _ => None,
+    }
+}
+
+// The number of operands of a declared operator.
+fn arity(form: &Sexp, text: &[u8]) -> Result<Arity, TextFault>
+    requires of { IsOf text.now form.now }
+    ensures arity { IfOk result (IsArityOf (sexp_form text.now form.now)) }
+    ensures clear { IfOk result (λ _. IsClear roles.an_arity (sexp_form text.now form.now)) }
+    ensures fault { IfErr result (IsFaultBy (IsFirst (IsFaultAs roles.an_arity (sexp_form text.now form.now)))) }
+{
+    sexps_are_forms();
+    let Some(count) = number(form) else {
+        return Err(at(place(form), Kind::BadForm));
+    };
+    if count == 0 {
+        return Err(at(place(form), Kind::BadForm));
+    }
+    if let Some(arity) = arity_of(count) {
+        return Ok(arity);
+    }
+    Err(at(place(form), Kind::LimitPassed))
+}
+
+/// Reads `( op NAME NUMBER )`, behind these declarations.
+pub fn declaration(
+    alloc: Global,
+    form: &Sexp,
+    text: &[u8],
+    declared: &[DeclaredOp],
+) -> Result<DeclaredOp, TextFault>
+    requires of { IsOf text.now form.now }
+    ensures declaration { IfOk result (λ d. declaration_in (sexp_form text.now form.now) ≡ Some d) }
+    ensures clear { IfOk result (λ _. IsClear (roles.a_list (roles.declaration declared.now)) (sexp_form text.now form.now)) }
+    ensures fault { IfErr result (IsFaultBy (IsFirst (IsFaultAs (roles.a_list (roles.declaration declared.now)) (sexp_form text.now form.now)))) }
+{
+    sexps_are_forms();
+    let Some(parts) = parts(form) else {
+        return Err(at(place(form), Kind::BadForm));
+    };
+    if parts.len() < 3 {
+        return Err(at(place(form), Kind::BadForm));
+    }
+    let bytes = match operator_name(&parts[1], text, declared) {
+        Ok(bytes) => bytes,
+        Err(fault) => return Err(fault),
+    };
+    let arity = match arity(&parts[2], text) {
+        Ok(arity) => arity,
+        Err(fault) => return Err(fault),
+    };
+    if parts.len() > 3 {
+        return Err(at(place(&parts[3]), Kind::BadForm));
+    }
+    let name = Name::new(alloc, bytes)?;
+    Ok(DeclaredOp { name, arity })
+}

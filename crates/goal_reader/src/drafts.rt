@@ -1,0 +1,223 @@
+// A goal that is being read, item by item.
+ghost use Rattle.std.specs.Prelude.{◌≡◌, ◌≤◌, ◌<◌, ℕ, List, length, IfOk, IfErr, Some, None, true, false};
+ghost use Rattle.text_core.specs.Faults.{IsFirst, IsFaultBy};
+ghost use Rattle.forms.specs.Forms.{sexp_form};
+ghost use Rattle.forms.specs.Reading.{IsOf};
+ghost use Rattle.goal_reader.specs.Roles.{IsFaultAs, is_of_rank, rank, goal_keywords};
+ghost use Rattle.goal_reader.specs.Reading.{IsClear};
+ghost use Rattle.goal_reader.specs.Drafts.{IsNext, draft_role};
+
+use crate::assumes::{assume, target};
+use crate::goals::{Assume, InputReg, Set};
+use crate::guards::guard;
+use crate::inputs::input;
+use crate::pools::pool;
+use crate::scopes::{Leaf, Named, Scope};
+use items::Items;
+use std::alloc::Global;
+use text_core::{Sexp, TextFault};
+use word_ops::Op;
+use word_terms::Term;
+
+/// What the items that were read give.
+#[derive(Drop)]
+pub struct Draft {
+    pub scope: Scope,
+    pub inputs: Items<InputReg>,
+    pub pool: Option<Items<u8>>,
+    pub assumes: Items<Assume>,
+    pub guard: Option<Term<Op>>,
+    pub sets: Items<Set>,
+}
+
+fn add_input(alloc: Global, form: &Sexp, text: &[u8], draft: Draft) -> Result<Draft, TextFault>
+    requires of { IsOf text.now form.now }
+    requires keyword { is_of_rank goal_keywords 0 (sexp_form text.now form.now) ≡ true }
+    ensures next { IfOk result (λ next. IsNext (sexp_form text.now form.now) draft 0 next) }
+    ensures clear { IfOk result (λ _. IsClear (draft_role draft 0) (sexp_form text.now form.now)) }
+    ensures fault { IfErr result (IsFaultBy (IsFirst (IsFaultAs (draft_role draft 0) (sexp_form text.now form.now)))) }
+{
+    let input = match input(
+        alloc,
+        form,
+        text,
+        draft.scope.declared.as_slice(),
+        draft.inputs.as_slice(),
+    ) {
+        Ok(input) => input,
+        Err(fault) => return Err(fault),
+    };
+    let Draft {
+        scope,
+        mut inputs,
+        pool,
+        assumes,
+        guard,
+        sets,
+    } = draft;
+    let Scope {
+        declared,
+        mut leaves,
+    } = scope;
+    let name = input.name.copy()?;
+    let named = Named::Input(input.reg);
+    leaves.push(Leaf { name, named })?;
+    inputs.push(input)?;
+    let scope = Scope { declared, leaves };
+    Ok(Draft {
+        scope,
+        inputs,
+        pool,
+        assumes,
+        guard,
+        sets,
+    })
+}
+
+fn add_pool(alloc: Global, form: &Sexp, text: &[u8], draft: Draft) -> Result<Draft, TextFault>
+    requires of { IsOf text.now form.now }
+    requires keyword { is_of_rank goal_keywords 1 (sexp_form text.now form.now) ≡ true }
+    ensures next { IfOk result (λ next. IsNext (sexp_form text.now form.now) draft 1 next) }
+    ensures clear { IfOk result (λ _. IsClear (draft_role draft 1) (sexp_form text.now form.now)) }
+    ensures fault { IfErr result (IsFaultBy (IsFirst (IsFaultAs (draft_role draft 1) (sexp_form text.now form.now)))) }
+{
+    let registers = match pool(alloc, form, text, draft.inputs.as_slice()) {
+        Ok(registers) => registers,
+        Err(fault) => return Err(fault),
+    };
+    let Draft {
+        scope,
+        inputs,
+        assumes,
+        guard,
+        sets,
+        ..
+    } = draft;
+    let pool = Some(Items::from(registers));
+    Ok(Draft {
+        scope,
+        inputs,
+        pool,
+        assumes,
+        guard,
+        sets,
+    })
+}
+
+fn add_assume(alloc: Global, form: &Sexp, text: &[u8], draft: Draft) -> Result<Draft, TextFault>
+    requires of { IsOf text.now form.now }
+    requires few { length draft.scope.declared ≤ 16 }
+    requires keyword { is_of_rank goal_keywords 2 (sexp_form text.now form.now) ≡ true }
+    ensures next { IfOk result (λ next. IsNext (sexp_form text.now form.now) draft 2 next) }
+    ensures clear { IfOk result (λ _. IsClear (draft_role draft 2) (sexp_form text.now form.now)) }
+    ensures fault { IfErr result (IsFaultBy (IsFirst (IsFaultAs (draft_role draft 2) (sexp_form text.now form.now)))) }
+{
+    let one = match assume(alloc, form, text, &draft.scope) {
+        Ok(one) => one,
+        Err(fault) => return Err(fault),
+    };
+    let Draft {
+        scope,
+        inputs,
+        pool,
+        mut assumes,
+        guard,
+        sets,
+    } = draft;
+    assumes.push(one)?;
+    Ok(Draft {
+        scope,
+        inputs,
+        pool,
+        assumes,
+        guard,
+        sets,
+    })
+}
+
+fn add_guard(alloc: Global, form: &Sexp, text: &[u8], draft: Draft) -> Result<Draft, TextFault>
+    requires of { IsOf text.now form.now }
+    requires few { length draft.scope.declared ≤ 16 }
+    requires keyword { is_of_rank goal_keywords 3 (sexp_form text.now form.now) ≡ true }
+    ensures next { IfOk result (λ next. IsNext (sexp_form text.now form.now) draft 3 next) }
+    ensures clear { IfOk result (λ _. IsClear (draft_role draft 3) (sexp_form text.now form.now)) }
+    ensures fault { IfErr result (IsFaultBy (IsFirst (IsFaultAs (draft_role draft 3) (sexp_form text.now form.now)))) }
+{
+    let term = match guard(alloc, form, text, &draft.scope) {
+        Ok(term) => term,
+        Err(fault) => return Err(fault),
+    };
+    let Draft {
+        scope,
+        inputs,
+        pool,
+        assumes,
+        sets,
+        ..
+    } = draft;
+    let guard = Some(term);
+    Ok(Draft {
+        scope,
+        inputs,
+        pool,
+        assumes,
+        guard,
+        sets,
+    })
+}
+
+fn add_target(alloc: Global, form: &Sexp, text: &[u8], draft: Draft) -> Result<Draft, TextFault>
+    requires of { IsOf text.now form.now }
+    requires few { length draft.scope.declared ≤ 16 }
+    requires keyword { is_of_rank goal_keywords 4 (sexp_form text.now form.now) ≡ true }
+    ensures next { IfOk result (λ next. IsNext (sexp_form text.now form.now) draft 4 next) }
+    ensures clear { IfOk result (λ _. IsClear (draft_role draft 4) (sexp_form text.now form.now)) }
+    ensures fault { IfErr result (IsFaultBy (IsFirst (IsFaultAs (draft_role draft 4) (sexp_form text.now form.now)))) }
+{
+    let one = match target(alloc, form, text, &draft.scope, draft.sets.as_slice()) {
+        Ok(one) => one,
+        Err(fault) => return Err(fault),
+    };
+    let Draft {
+        scope,
+        inputs,
+        pool,
+        assumes,
+        guard,
+        mut sets,
+    } = draft;
+    sets.push(one)?;
+    Ok(Draft {
+        scope,
+        inputs,
+        pool,
+        assumes,
+        guard,
+        sets,
+    })
+}
+
+/// Reads an item with the keyword of this number, behind what was read.
+pub fn item(
+    alloc: Global,
+    form: &Sexp,
+    text: &[u8],
+    at: usize,
+    draft: Draft,
+) -> Result<Draft, TextFault>
+    requires of { IsOf text.now form.now }
+    requires few { length draft.scope.declared ≤ 16 }
+    requires keyword { rank goal_keywords (sexp_form text.now form.now) ≡ Some at }
+    ensures next { IfOk result (λ next. IsNext (sexp_form text.now form.now) draft at next) }
+    ensures clear { IfOk result (λ _. IsClear (draft_role draft at) (sexp_form text.now form.now)) }
+    ensures fault { IfErr result (IsFaultBy (IsFirst (IsFaultAs (draft_role draft at) (sexp_form text.now form.now)))) }
+{
+    match at {
+        0 => add_input(alloc, form, text, draft),
+        1 => add_pool(alloc, form, text, draft),
+        2 => add_assume(alloc, form, text, draft),
+        3 => add_guard(alloc, form, text, draft),
+        4 => add_target(alloc, form, text, draft),
+        _ => Err(TextFault::Memory),
+    }
+}

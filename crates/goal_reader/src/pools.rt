@@ -1,0 +1,85 @@
+// Reading the pool of a goal.
+ghost use Rattle.std.specs.Prelude.{◌≡◌, ◌≤◌, ◌<◌, ◌++◌, ℕ, List, map, length, take, drop, IfOk, IfErr, Some, None, true, false};
+ghost use Rattle.text_core.specs.Faults.{IsFirst, IsFaultBy};
+ghost use Rattle.forms.specs.Forms.{sexp_form, parts_of};
+ghost use Rattle.forms.specs.Reading.{IsOf};
+ghost use Rattle.goal_reader.specs.Roles as roles;
+ghost use Rattle.goal_reader.specs.Roles.{IsFaultAs, has_register, registers_in, register_of, is_of_rank, goal_keywords};
+ghost use Rattle.goal_reader.specs.Reading.{IsClear, registers_of};
+
+use crate::goals::InputReg;
+use crate::inputs::{is_given, register_number};
+use forms::{at, parts, place, register, sexps_are_forms};
+use std::alloc::Global;
+use text_core::{Kind, Sexp, TextFault};
+
+fn is_in_pool(pool: &[u8], register: u8) -> bool
+    ensures { result ≡ has_register pool.now register }
+{
+    for given in pool {
+        if *given == register {
+            return true;
+        }
+    }
+    false
+}
+
+fn is_taken(inputs: &[InputReg], pool: &[u8], register: u8) -> bool
+    ensures { result ≡ has_register (registers_of inputs.now ++ pool.now) register }
+{
+    let given = is_given(inputs, register);
+    let pool = is_in_pool(pool, register);
+    given || pool
+}
+
+// A register that no input and no earlier place of the pool has.
+fn pool_register(
+    form: &Sexp,
+    text: &[u8],
+    inputs: &[InputReg],
+    pool: &[u8],
+) -> Result<u8, TextFault>
+    requires of { IsOf text.now form.now }
+    ensures register { IfOk result (λ r. register_of (sexp_form text.now form.now) ≡ Some r) }
+    ensures fresh { IfOk result (λ r. has_register (registers_of inputs.now ++ pool.now) r ≡ false) }
+    ensures fault { IfErr result (IsFaultBy (IsFirst (IsFaultAs (roles.fresh_register (registers_of inputs.now ++ pool.now)) (sexp_form text.now form.now)))) }
+{
+    sexps_are_forms();
+    let Some(bytes) = register(form, text) else {
+        return Err(at(place(form), Kind::BadForm));
+    };
+    let Some(number) = register_number(bytes) else {
+        return Err(at(place(form), Kind::BadRegister));
+    };
+    if is_taken(inputs, pool, number) {
+        return Err(at(place(form), Kind::Twice));
+    }
+    Ok(number)
+}
+
+/// Reads `( pool {REGISTER} )`, behind these inputs.
+pub fn pool(
+    alloc: Global,
+    form: &Sexp,
+    text: &[u8],
+    inputs: &[InputReg],
+) -> Result<Vec<u8>, TextFault>
+    requires of { IsOf text.now form.now }
+    requires keyword { is_of_rank goal_keywords 1 (sexp_form text.now form.now) ≡ true }
+    ensures pool { IfOk result (λ pool. pool.items ≡ registers_in (parts_of (sexp_form text.now form.now))) }
+    ensures clear { IfOk result (λ _. IsClear (roles.a_list (roles.pool (registers_of inputs.now))) (sexp_form text.now form.now)) }
+    ensures fault { IfErr result (IsFaultBy (IsFirst (IsFaultAs (roles.a_list (roles.pool (registers_of inputs.now))) (sexp_form text.now form.now)))) }
+{
+    sexps_are_forms();
+    let Some(parts) = parts(form) else {
+        return Err(TextFault::Memory);
+    };
+    let mut pool = Vec::new(alloc);
+    for index in 1..parts.len() {
+        match pool_register(&parts[index], text, inputs, &pool) {
+            Ok(register) => pool.push(register)?,
+            Err(fault) => return Err(fault),
+        }
+    }
+    Ok(pool)
+}

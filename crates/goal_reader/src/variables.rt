@@ -1,0 +1,168 @@
+// The variables of an axiom: their names, and what they mean on either side.
+ghost use Rattle.std.specs.Prelude.{◌≡◌, ◌≤◌, ◌<◌, ◌||◌, ◌++◌, IfOk, IfErr, false, true, length};
+ghost use Rattle.text_core.specs.Faults.{IsFirst, IsFaultBy};
+ghost use Rattle.forms.specs.Forms.{sexp_form, is_list, parts_of};
+ghost use Rattle.forms.specs.Reading.{IsOf};
+ghost use Rattle.goal_reader.specs.Grammar.{axiom_scope};
+ghost use Rattle.goal_reader.specs.Reading.{IsClear, IsOwnName, mentioned_scope, meaning_right};
+ghost use Rattle.goal_reader.specs.Roles as roles;
+ghost use Rattle.goal_reader.specs.Roles.{IsFaultAs, names_of_declared, names_in, is_among, mentions as is_mentioned};
+
+use crate::inputs::{is_declared, is_reserved};
+use crate::scopes::{DeclaredOp, Leaf, Named, Scope};
+use forms::{at, name, parts, place, sexps_are_forms};
+use items::{Items, NoMemory};
+use std::alloc::Global;
+use text_core::{Kind, Name, Sexp, TextFault};
+
+fn is_variable(names: &[Name], name: &[u8]) -> bool
+    ensures { result ≡ is_among names.now name.now }
+{
+    for other in names {
+        if other.bytes() == name {
+            return true;
+        }
+    }
+    false
+}
+
+fn is_used(name: &[u8], declared: &[DeclaredOp], names: &[Name]) -> bool
+    ensures { result ≡ (roles.is_reserved name.now || is_among (names_of_declared declared.now ++ names.now) name.now) }
+{
+    let reserved = is_reserved(name);
+    let declared = is_declared(declared, name);
+    let variable = is_variable(names, name);
+    reserved || declared || variable
+}
+
+/// A name that no operator, no earlier variable and not the memory has.
+fn variable_name<'a>(
+    form: &Sexp,
+    text: &'a [u8],
+    declared: &[DeclaredOp],
+    names: &[Name],
+) -> Result<&'a [u8], TextFault>
+    requires of { IsOf text.now form.now }
+    ensures ok { IfOk result (λ bytes. IsOwnName (names_of_declared declared.now ++ names.now) (sexp_form text.now form.now) bytes.now) }
+    ensures fault { IfErr result (IsFaultBy (IsFirst (IsFaultAs (roles.own_name (names_of_declared declared.now ++ names.now)) (sexp_form text.now form.now)))) }
+{
+    sexps_are_forms();
+    let Some(bytes) = name(form, text) else {
+        return Err(at(place(form), Kind::BadForm));
+    };
+    if is_used(bytes, declared, names) {
+        return Err(at(place(form), Kind::Twice));
+    }
+    Ok(bytes)
+}
+
+/// Reads `( NAME {NAME} )`, the variables of an axiom.
+pub fn variables(
+    alloc: Global,
+    form: &Sexp,
+    text: &[u8],
+    declared: &[DeclaredOp],
+) -> Result<Items<Name>, TextFault>
+    requires of { IsOf text.now form.now }
+    ensures names { IfOk result (λ names. names ≡ names_in (parts_of (sexp_form text.now form.now))) }
+    ensures list { IfOk result (λ _. is_list (sexp_form text.now form.now) ≡ true) }
+    ensures few { IfOk result (λ names. length names ≤ 8) }
+    ensures clear { IfOk result (λ _. IsClear (roles.a_list (roles.variables declared.now)) (sexp_form text.now form.now)) }
+    ensures fault { IfErr result (IsFaultBy (IsFirst (IsFaultAs (roles.a_list (roles.variables declared.now)) (sexp_form text.now form.now)))) }
+{
+    sexps_are_forms();
+    let Some(parts) = parts(form) else {
+        return Err(at(place(form), Kind::BadForm));
+    };
+    if parts.is_empty() {
+        return Err(at(place(form), Kind::BadForm));
+    }
+    let mut names = Items::new(alloc);
+    for index in 0..parts.len() {
+        let part = &parts[index];
+        if index >= 8 {
+            return Err(at(place(part), Kind::LimitPassed));
+        }
+        match variable_name(part, text, declared, names.as_slice()) {
+            Ok(bytes) => names.push(Name::new(alloc, bytes)?)?,
+            Err(fault) => return Err(fault),
+        }
+    }
+    Ok(names)
+}
+
+/// Whether the name stands in a term, other than as an operator.
+fn mentions(form: &Sexp, text: &[u8], wanted: &[u8]) -> bool
+    requires of { IsOf text.now form.now }
+    ensures { result ≡ is_mentioned wanted.now (sexp_form text.now form.now) }
+{
+    sexps_are_forms();
+    match form {
+        Sexp::Atom(_) => match name(form, text) {
+            Some(bytes) => bytes == wanted,
+            None => false,
+        },
+        Sexp::List { parts, .. } => {
+            if parts.is_empty() {
+                return false;
+            }
+            let operands = &parts[1..];
+            for operand in operands {
+                if mentions(operand, text, wanted) {
+                    return true;
+                }
+            }
+            false
+        }
+    }
+}
+
+/// The names of an axiom's variables, as its left side has them.
+pub fn left_scope(
+    alloc: Global,
+    declared: Items<DeclaredOp>,
+    names: &[Name],
+) -> Result<Scope, NoMemory>
+    requires few { length names.now ≤ 8 }
+    ensures { IfOk result (λ scope. scope ≡ axiom_scope declared names.now) }
+{
+    let mut leaves = Items::new(alloc);
+    for index in 0..names.len() {
+        let name = names[index].copy()?;
+        let named = Named::Variable(index as u32);
+        leaves.push(Leaf { name, named })?;
+    }
+    Ok(Scope { declared, leaves })
+}
+
+/// What a variable means on the right side of an axiom.
+fn right_meaning(name: &[u8], number: u32, left: &Sexp, text: &[u8]) -> Named
+    requires of { IsOf text.now left.now }
+    ensures { result ≡ meaning_right (sexp_form text.now left.now) name.now number }
+{
+    if mentions(left, text, name) {
+        return Named::Variable(number);
+    }
+    Named::Lacking
+}
+
+/// The same names on the right side, where the left side may lack some.
+pub fn right_scope(
+    alloc: Global,
+    declared: Items<DeclaredOp>,
+    names: &[Name],
+    left: &Sexp,
+    text: &[u8],
+) -> Result<Scope, NoMemory>
+    requires few { length names.now ≤ 8 }
+    requires of { IsOf text.now left.now }
+    ensures { IfOk result (λ scope. scope ≡ mentioned_scope declared names.now (sexp_form text.now left.now)) }
+{
+    let mut leaves = Items::new(alloc);
+    for index in 0..names.len() {
+        let named = right_meaning(names[index].bytes(), index as u32, left, text);
+        let name = names[index].copy()?;
+        leaves.push(Leaf { name, named })?;
+    }
+    Ok(Scope { declared, leaves })
+}

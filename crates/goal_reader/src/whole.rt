@@ -1,0 +1,227 @@
+// Reading a goal.
+ghost use Rattle.std.specs.Prelude.{◌≡◌, ◌≤◌, [], filter, not, length, IfOk, IfErr, Some, false};
+ghost use Rattle.std.specs.List.{list_any};
+ghost use Rattle.text_core.specs.Faults.{IsFirst, IsFaultBy};
+ghost use Rattle.forms.specs.Forms.{sexp_form, sexp_forms, name_in};
+ghost use Rattle.forms.specs.Reading.{IsOf};
+ghost use Rattle.std.specs.Prelude.{All};
+ghost use Rattle.goal_reader.specs.Roles as roles;
+ghost use Rattle.goal_reader.specs.Roles.{IsFaultAs, is_of_rank, goal_keywords, text_keywords, rank, has_register, is_among, second_name};
+ghost use Rattle.goal_reader.specs.Reading.{IsClear, registers_of};
+ghost use Rattle.goal_reader.specs.Drafts.{names_of_goals, IsDraft, IsWritten, KeepsSoFar, pool_kept};
+ghost use Rattle.goal_reader.specs.Grammar.{WritesGoal, default_pool as default_registers, free_registers};
+ghost use Rattle.goal_reader.specs.Views.{goal_view};
+ghost use Rattle.goal_reader.specs.Roles.{items_of};
+
+use crate::drafts::{Draft, item};
+use crate::goals::{Goal, InputReg};
+use crate::inputs::is_given;
+use crate::keywords::{admitted_item, goal_rank};
+use crate::order::Order;
+use crate::scopes::{DeclaredOp, Leaf, Named, Scope};
+use forms::{at, name, parts, place, sexps_are_forms};
+use items::{Items, NoMemory};
+use std::alloc::Global;
+use text_core::{Kind, Name, Sexp, TextFault};
+
+fn is_goal(goals: &[Goal], name: &[u8]) -> bool
+    ensures { result ≡ is_among (names_of_goals goals.now) name.now }
+{
+    for goal in goals {
+        if goal.name.bytes() == name {
+            return true;
+        }
+    }
+    false
+}
+
+// A name that no earlier goal has.
+fn goal_name<'a>(form: &Sexp, text: &'a [u8], goals: &[Goal]) -> Result<&'a [u8], TextFault>
+    requires of { IsOf text.now form.now }
+    ensures named { IfOk result (λ bytes. name_in (sexp_form text.now form.now) ≡ Some bytes.now) }
+    ensures fresh { IfOk result (λ bytes. is_among (names_of_goals goals.now) bytes.now ≡ false) }
+    ensures fault { IfErr result (IsFaultBy (IsFirst (IsFaultAs (roles.fresh_name (names_of_goals goals.now)) (sexp_form text.now form.now)))) }
+{
+    sexps_are_forms();
+    let Some(bytes) = name(form, text) else {
+        return Err(at(place(form), Kind::BadForm));
+    };
+    if is_goal(goals, bytes) {
+        return Err(at(place(form), Kind::Twice));
+    }
+    Ok(bytes)
+}
+
+fn is_set(form: &Sexp, text: &[u8]) -> bool
+    requires of { IsOf text.now form.now }
+    ensures { result ≡ is_of_rank goal_keywords 4 (sexp_form text.now form.now) }
+{
+    match goal_rank(form, text) {
+        Some(rank) => rank == 4,
+        None => false,
+    }
+}
+
+// Whether some item is a `set`.
+fn has_target(items: &[Sexp], text: &[u8]) -> bool
+    requires of { All (IsOf text.now) items.now }
+    ensures { result ≡ list_any (is_of_rank goal_keywords 4) (sexp_forms text.now items.now) }
+{
+    for item in items {
+        if is_set(item, text) {
+            return true;
+        }
+    }
+    false
+}
+
+// Before the first item.
+fn start(alloc: Global, declared: Items<DeclaredOp>) -> Result<Draft, NoMemory>
+    ensures draft { IfOk result (λ draft. IsDraft declared [] draft) }
+    ensures written { IfOk result (λ draft. IsWritten [] draft) }
+    ensures keeps { IfOk result (KeepsSoFar declared) }
+{
+    let mut leaves = Items::new(alloc);
+    let name = Name::new(alloc, b"M")?;
+    let named = Named::Memory;
+    leaves.push(Leaf { name, named })?;
+    Ok(Draft {
+        scope: Scope { declared, leaves },
+        inputs: Items::new(alloc),
+        pool: None,
+        assumes: Items::new(alloc),
+        guard: None,
+        sets: Items::new(alloc),
+    })
+}
+
+/// Reads the items of a goal.
+fn items(
+    alloc: Global,
+    form: &Sexp,
+    text: &[u8],
+    declared: Items<DeclaredOp>,
+    goals: &[Goal],
+) -> Result<(Name, Draft), TextFault>
+    requires of { IsOf text.now form.now }
+    requires few { length declared ≤ 16 }
+    ensures named { IfOk result (λ read. second_name (sexp_form text.now form.now) ≡ Some read.0) }
+    ensures draft { IfOk result (λ read. IsDraft declared (items_of (sexp_form text.now form.now)) read.1) }
+    ensures written { IfOk result (λ read. IsWritten (items_of (sexp_form text.now form.now)) read.1) }
+    ensures keeps { IfOk result (λ read. KeepsSoFar declared read.1) }
+    ensures fresh { IfOk result (λ read. is_among (names_of_goals goals.now) read.0 ≡ false) }
+    ensures clear { IfOk result (λ _. IsClear (roles.a_list (roles.goal declared (names_of_goals goals.now))) (sexp_form text.now form.now)) }
+    ensures fault { IfErr result (IsFaultBy (IsFirst (IsFaultAs (roles.a_list (roles.goal declared (names_of_goals goals.now))) (sexp_form text.now form.now)))) }
+{
+    sexps_are_forms();
+    let Some(parts) = parts(form) else {
+        return Err(at(place(form), Kind::BadForm));
+    };
+    if parts.len() < 2 {
+        return Err(at(place(form), Kind::BadForm));
+    }
+    if !has_target(&parts[2..], text) {
+        return Err(at(place(form), Kind::BadForm));
+    }
+    let bytes = match goal_name(&parts[1], text, goals) {
+        Ok(bytes) => bytes,
+        Err(fault) => return Err(fault),
+    };
+    let mut order = Order::new();
+    let mut draft = start(alloc, declared)?;
+    for index in 2..parts.len() {
+        let part = &parts[index];
+        let at = match admitted_item(part, text, &order) {
+            Ok(at) => at,
+            Err(fault) => return Err(fault),
+        };
+        draft = match item(alloc, part, text, at, draft) {
+            Ok(next) => next,
+            Err(fault) => return Err(fault),
+        };
+        order = order.after(at);
+    }
+    let name = Name::new(alloc, bytes)?;
+    Ok((name, draft))
+}
+
+/// The registers that are free where nothing else is said.
+const FREE_REGISTERS: [u8; 21] = [
+    0, 1, 2, 3, 4, 5, 6, 7, 8, 16, 17, 18, 19, 20, 21, 22, 23, 24, 25, 27, 28,
+];
+
+/// Those of the registers that no input has.
+fn not_given(alloc: Global, inputs: &[InputReg], among: &[u8]) -> Result<Items<u8>, NoMemory>
+    ensures { IfOk result (λ pool. pool ≡ filter (λ r. not (has_register (registers_of inputs.now) r)) among.now) }
+{
+    let mut pool = Items::new(alloc);
+    for register in among {
+        if !is_given(inputs, *register) {
+            pool.push(*register)?;
+        }
+    }
+    Ok(pool)
+}
+
+fn default_pool(alloc: Global, inputs: &[InputReg]) -> Result<Items<u8>, NoMemory>
+    ensures { IfOk result (λ pool. pool ≡ default_registers (registers_of inputs.now)) }
+{
+    not_given(alloc, inputs, &FREE_REGISTERS)
+}
+
+/// The pool that was read, or else the default one.
+fn pool_or_default(
+    alloc: Global,
+    pool: Option<Items<u8>>,
+    inputs: &[InputReg],
+) -> Result<Items<u8>, NoMemory>
+    ensures { IfOk result (λ kept. kept ≡ pool_kept (registers_of inputs.now) pool) }
+{
+    match pool {
+        Some(pool) => Ok(pool),
+        None => default_pool(alloc, inputs),
+    }
+}
+
+/// Reads a goal, behind these goals. The declared operators are given back. The cost is linear in the length of the
+/// text but for the search for names.
+pub fn goal(
+    alloc: Global,
+    form: &Sexp,
+    text: &[u8],
+    declared: Items<DeclaredOp>,
+    goals: &[Goal],
+) -> Result<(Goal, Items<DeclaredOp>), TextFault>
+    requires of { IsOf text.now form.now }
+    requires few { length declared ≤ 16 }
+    requires keyword { rank text_keywords (sexp_form text.now form.now) ≡ Some 3 }
+    ensures goal { IfOk result (λ read. WritesGoal declared (sexp_form text.now form.now) (goal_view read.0)) }
+    ensures fresh { IfOk result (λ read. is_among (names_of_goals goals.now) read.0.name ≡ false) }
+    ensures declared { IfOk result (λ read. read.1 ≡ declared) }
+    ensures clear { IfOk result (λ _. IsClear (roles.a_list (roles.goal declared (names_of_goals goals.now))) (sexp_form text.now form.now)) }
+    ensures fault { IfErr result (IsFaultBy (IsFirst (IsFaultAs (roles.a_list (roles.goal declared (names_of_goals goals.now))) (sexp_form text.now form.now)))) }
+{
+    let (name, draft) = match items(alloc, form, text, declared, goals) {
+        Ok(read) => read,
+        Err(fault) => return Err(fault),
+    };
+    let Draft {
+        scope,
+        inputs,
+        pool,
+        assumes,
+        guard,
+        sets,
+    } = draft;
+    let pool = pool_or_default(alloc, pool, inputs.as_slice())?;
+    let Scope { declared, .. } = scope;
+    let goal = Goal {
+        name,
+        inputs,
+        pool,
+        assumes,
+        guard,
+        sets,
+    };
+    Ok((goal, declared))
+}
