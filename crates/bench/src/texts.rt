@@ -18,6 +18,8 @@ pub(crate) enum Layer {
     Lex,
     /// Its trees, after its tokens.
     Tree,
+    /// The goals that it has.
+    Goals,
     /// Its lines.
     Lines,
     /// Its lines as lines of a refutation.
@@ -35,6 +37,7 @@ impl Layer {
         match word {
             "lex" => Some(Layer::Lex),
             "tree" => Some(Layer::Tree),
+            "goals" => Some(Layer::Goals),
             "lines" => Some(Layer::Lines),
             "read" => Some(Layer::Read),
             "check" => Some(Layer::Check),
@@ -93,6 +96,7 @@ fn count_parts(alloc: Global, layer: Layer, number: Option<u32>, text: &[u8]) ->
             let tokens = lex(alloc, text).ok()?;
             Some(tree(alloc, &tokens).ok()?.len())
         }
+        Layer::Goals => Some(goal_reader::read(alloc, text).ok()?.goals.as_slice().len()),
         Layer::Lines => Some(lines(alloc, text).ok()?.count() as usize),
         Layer::Read => count_read(alloc, text),
         Layer::Check => count_checked(alloc, number?, text),
