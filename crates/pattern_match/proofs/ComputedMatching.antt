@@ -1,0 +1,156 @@
+-- Matches of computed rules, by the placements of their left sides. What `axiom_base` promises of these rules is given
+-- here as arguments.
+use Rattle.std.proofs.Common.{◌≡◌, ℕ, ◌+◌, ◌<◌, List, length, get_or, drop, replicate, refl, sym, ap, ◌∙◌, subst, arith}
+use Rattle.std.specs.Prelude.{Contains, ◌↔◌, IsTrue, Bool, true, false, not}
+use Rattle.std.proofs.lemmas.List.{get_or-drop, length-drop, length-replicate}
+use Rattle.word_ops.specs.Words.{IsWord}
+use Rattle.word_ops.specs.declared.sorts.Op.{Op}
+use Rattle.word_terms.specs.Keys.{op_signature}
+use Rattle.word_terms.specs.Tree.{AreBelow}
+use Rattle.word_terms.specs.Sorting.{Occurs}
+use Rattle.axiom_base.specs.Rewrites.{Rewrite, IsUsable}
+use Rattle.axiom_base.specs.Conditions.{IsCalc, constants_of}
+use Rattle.axiom_base.specs.Computed.{calc_rewrite, calc_variables, calc_left, calc_right, first_constant, constants_from}
+use Rattle.axiom_base.specs.Schemes.{Scheme, computed, IsOf, itself, calculated, folded}
+use Rattle.axiom_base.specs.declared.kinds.Calc.{Calc}
+use Rattle.egraph.specs.Graph.{Graph, IsGraph, HasConstant}
+use Rattle.pattern_match.specs.Classes.{HaveOneClass, CanRead}
+use Rattle.pattern_match.specs.Bindings.{IsPlacement, CanGive, AreGiven, AreUnmet}
+use Rattle.pattern_match.specs.Matches.{IsMatch, IsUnmet, IsMatchOf, IsUnmetOf}
+use Rattle.pattern_match.proofs.Matching.{sort_below, placed_present, class_has, is_unmet, unmet_differs}
+use Rattle.pattern_match.proofs.ConstantsOf.{zip_length, zip_at, zip_from, one_list}
+
+-- some constant is given
+abbrev pub IsGiven : Graph Op → Calc → List ℕ → Type 0
+IsGiven g kind cs = (e : ℕ) × AreGiven g kind cs e
+
+computed_only : (s : Scheme) (q : Rewrite) (kind : Calc) → s ≡ computed kind → IsOf s q → (ws : List ℕ) × (e : ℕ) × IsCalc kind ws e × (q ≡ calc_rewrite kind ws e)
+computed_only s q kind p (itself r) = absurd (cc)
+computed_only s q kind p (calculated other ws e is) =
+    let k : other ≡ kind = cc in
+    (ws, e, subst (λ x. IsCalc x ws e) k is, ap (λ x. calc_rewrite x ws e) k)
+computed_only s q kind p (folded op cs words count) = absurd (cc)
+
+abbrev pub count_for : Calc → ℕ
+count_for kind = first_constant kind + constants_of kind
+
+abbrev pub AreWellFormed : Type 0
+AreWellFormed = (kind : Calc) (cs : List ℕ) (e : ℕ) → length cs ≡ constants_of kind → IsWord e → IsUsable (calc_rewrite kind cs e)
+
+abbrev pub EndInConstants : Type 0
+EndInConstants = (kind : Calc) → length (calc_variables kind) ≡ first_constant kind + constants_of kind
+
+abbrev pub AreNumbered : Type 0
+AreNumbered = (k : ℕ) (cs : List ℕ) (n c : ℕ) → Contains {X = ℕ × ℕ} (constants_from k cs) (n, c) ↔ ((i : ℕ) × (i < length cs) × (n ≡ k + i) × (c ≡ get_or cs i 0))
+
+-- a list of so many words
+abbrev some_words : ℕ → List ℕ
+some_words n = replicate n 0
+
+some_words-length : (n : ℕ) → length (some_words n) ≡ n
+some_words-length n = length-replicate n 0
+
+module _ (usable : AreWellFormed) (last : EndInConstants) where
+  usable_at : (kind : Calc) (e : ℕ) → IsWord e → IsUsable (calc_rewrite kind (some_words (constants_of kind)) e)
+  usable_at kind e w = usable kind (some_words (constants_of kind)) e (some_words-length (constants_of kind)) w
+
+  pub left_occurs : (kind : Calc) (n : ℕ) → n < count_for kind → Occurs n (calc_left kind)
+  left_occurs kind n l = (usable_at kind 0 (omega arith)).all n (omega (arith, l, last kind))
+
+  pub left_below : (kind : Calc) → AreBelow (count_for kind) (calc_left kind)
+  left_below kind = let u = usable_at kind 0 (omega arith) in subst (λ n. AreBelow n (calc_left kind)) (last kind) (sort_below (calc_variables kind) u.sort (calc_left kind) u.left)
+
+  right_below : (kind : Calc) (e : ℕ) → IsWord e → AreBelow (count_for kind) (calc_right kind e)
+  right_below kind e w = let u = usable_at kind e w in subst (λ n. AreBelow n (calc_right kind e)) (last kind) (sort_below (calc_variables kind) u.sort (calc_right kind e) u.right)
+
+  module _ (g : Graph Op) (is : IsGraph op_signature g) (kind : Calc) (cs : List ℕ) where
+    pub can_give : IsPlacement g (calc_left kind) (count_for kind) cs → CanGive g kind cs
+    can_give h = record { graph = is; present = placed_present g is (calc_left kind) (count_for kind) (left_occurs kind) cs h; count = h.length_is }
+
+    pub left_can : CanGive g kind cs → CanRead g cs (calc_left kind)
+    left_can h = record { graph = h.graph; present = h.present; below = subst (λ n. AreBelow n (calc_left kind)) (sym h.count) (left_below kind) }
+
+    pub right_can : (e : ℕ) → IsWord e → CanGive g kind cs → CanRead g cs (calc_right kind e)
+    right_can e w h = record { graph = h.graph; present = h.present; below = subst (λ n. AreBelow n (calc_right kind e)) (sym h.count) (right_below kind e w) }
+
+    module _ (numbers : AreNumbered) where
+      given_match : (h : IsPlacement g (calc_left kind) (count_for kind) cs) (e : ℕ) (a : AreGiven g kind cs e) → IsMatch g (calc_rewrite kind a.words e) cs h.class
+      given_match h e a = record {
+        count = h.length_is ∙ sym (last kind);
+        present = placed_present g is (calc_left kind) (count_for kind) (left_occurs kind) cs h;
+        left = h.left;
+        constants = λ n c k.
+            let m = (numbers (first_constant kind) a.words n c).0 k in
+            let long = zip_length (HasConstant op_signature g.rows) (drop (first_constant kind) cs) a.words a.constants in
+            let at = zip_at (HasConstant op_signature g.rows) (drop (first_constant kind) cs) a.words a.constants m.0 (omega (arith, m.1, long)) in
+            let place : get_or (drop (first_constant kind) cs) m.0 0 ≡ get_or cs n 0 = get_or-drop (first_constant kind) cs m.0 0 ∙ ap (λ j. get_or cs j 0) (sym m.2) in
+            let word : get_or a.words m.0 0 ≡ c = sym m.3 in
+            subst (λ x. HasConstant op_signature g.rows x c) place (subst (λ x. HasConstant op_signature g.rows (get_or (drop (first_constant kind) cs) m.0 0) x) word at);
+      }
+
+      match_given : (ws : List ℕ) (e c : ℕ) → IsCalc kind ws e → IsMatch g (calc_rewrite kind ws e) cs c → IsPlacement g (calc_left kind) (count_for kind) cs × AreGiven g kind cs e
+      match_given ws e c is_calc m = (
+        record { length_is = m.count ∙ last kind; class = c; has = class_has g cs (calc_left kind) m.present m.left; left = m.left },
+        record {
+          words = ws;
+          constants = zip_from (HasConstant op_signature g.rows) (drop (first_constant kind) cs) ws (omega (arith, length-drop (first_constant kind) cs, m.count, last kind, is_calc.count)) (λ i l.
+              let li : i < length ws = omega (arith, l, length-drop (first_constant kind) cs, m.count, last kind, is_calc.count) in
+              let k = (numbers (first_constant kind) ws (first_constant kind + i) (get_or ws i 0)).1 (i, li, refl, refl) in
+              subst (λ x. HasConstant op_signature g.rows x (get_or ws i 0)) (sym (get_or-drop (first_constant kind) cs i 0)) (m.constants (first_constant kind + i) (get_or ws i 0) k));
+          calc = is_calc;
+        },
+      )
+
+      pub computed_matched : IsPlacement g (calc_left kind) (count_for kind) cs × ((e : ℕ) × AreGiven g kind cs e) → IsMatchOf g (computed kind) cs
+      computed_matched h = record { rule = calc_rewrite kind h.1.1.words h.1.0; of = calculated kind h.1.1.words h.1.0 h.1.1.calc; class = h.0.class; match = given_match h.0 h.1.0 h.1.1 }
+
+      pub matched_computed : IsMatchOf g (computed kind) cs → IsPlacement g (calc_left kind) (count_for kind) cs × ((e : ℕ) × AreGiven g kind cs e)
+      matched_computed m =
+          let o = computed_only (computed kind) m.rule kind refl m.of in
+          let b = match_given o.0 o.1 m.class o.2 (subst (λ q. IsMatch g q cs m.class) o.3 m.match) in
+          (b.0, (o.1, b.1))
+
+      pub computed_unmet : IsPlacement g (calc_left kind) (count_for kind) cs × AreUnmet g kind cs → IsUnmetOf g (computed kind) cs
+      computed_unmet h =
+          let a = h.1.given in
+          record {
+            rule = calc_rewrite kind a.words h.1.e;
+            of = calculated kind a.words h.1.e a.calc;
+            class = h.0.class;
+            unmet = is_unmet g (calc_rewrite kind a.words h.1.e) cs h.0.class (given_match h.0 h.1.e a) h.1.unmet;
+          }
+
+      pub unmet_computed : IsUnmetOf g (computed kind) cs → IsPlacement g (calc_left kind) (count_for kind) cs × AreUnmet g kind cs
+      unmet_computed u =
+          let o = computed_only (computed kind) u.rule kind refl u.of in
+          let v = subst (λ q. IsUnmet g q cs u.class) o.3 u.unmet in
+          let b = match_given o.0 o.1 u.class o.2 v.match in
+          (b.0, record { e = o.1; given = b.1; unmet = unmet_differs g (calc_rewrite kind o.0 o.1) cs is.distinct u.class v })
+
+-- ---- one constant at most
+
+module _ (one : (kind : Calc) (cs : List ℕ) (e other : ℕ) → IsCalc kind cs e → IsCalc kind cs other → e ≡ other) (g : Graph Op) (is : IsGraph op_signature g) (kind : Calc) (cs : List ℕ) where
+  given_once : (e other : ℕ) → AreGiven g kind cs e → AreGiven g kind cs other → e ≡ other
+  given_once e other a b =
+      let same = one_list g is (drop (first_constant kind) cs) b.words a.words b.constants a.constants in
+      one kind a.words e other a.calc (subst (λ ws. IsCalc kind ws other) same b.calc)
+
+  pub unmet_exactly : (e : ℕ) (met : Bool) → AreGiven g kind cs e → (IsTrue met ↔ HaveOneClass g cs (calc_left kind) (calc_right kind e)) → (met ≡ false → AreUnmet g kind cs) × (AreUnmet g kind cs → met ≡ true → ⊥)
+  unmet_exactly e met a exact = (
+    λ f. record { e = e; given = a; unmet = λ h. let t = exact.1 h in absurd (cc) },
+    λ u t.
+        (let same = given_once u.e e u.given a in
+        u.unmet (subst (λ x. HaveOneClass g cs (calc_left kind) (calc_right kind x)) (sym same) (exact.0 t))),
+  )
+
+  pub unmet_test : (e : ℕ) (met : Bool) → AreGiven g kind cs e → (IsTrue met ↔ HaveOneClass g cs (calc_left kind) (calc_right kind e)) → IsTrue (not met) ↔ AreUnmet g kind cs
+  unmet_test e true a exact = (λ t. absurd (cc), λ u. absurd ((unmet_exactly e true a exact).1 u refl))
+  unmet_test e false a exact = (λ t. (unmet_exactly e false a exact).0 refl, λ u. refl)
+
+-- nothing is given
+module _ (g : Graph Op) (kind : Calc) (cs : List ℕ) (none : (e : ℕ) → AreGiven g kind cs e → ⊥) where
+  pub not_given : IsTrue false ↔ ((e : ℕ) × AreGiven g kind cs e)
+  not_given = (λ t. absurd (cc), λ a. absurd (none a.0 a.1))
+
+  pub not_unmet : IsTrue false ↔ AreUnmet g kind cs
+  not_unmet = (λ t. absurd (cc), λ u. absurd (none u.e u.given))

@@ -1,0 +1,12 @@
+pub mod Finding
+pub mod Walking
+pub mod Settling
+pub mod Choosing
+pub mod Matching
+pub mod ReadingSteps
+pub mod MatchSorts
+pub mod Needs
+pub mod ConstantsOf
+pub mod ComputedMatching
+pub mod FoldSteps
+pub mod FoldNeeds

@@ -1,0 +1,149 @@
+-- What the walk over a pattern knows of its variables' classes, and what its steps find. No public clause rests on
+-- these. From this project.
+use Rattle.std.specs.Prelude.{◌≡◌, ℕ, ◌+◌, ◌<◌, ◌⊎◌, List, length, get_or, drop, map, unwrap_or, Option, Some, None, All, AllPairs, Contains}
+use Rattle.std.specs.List.{AllZip}
+use Rattle.word_ops.specs.declared.sorts.Op.{Op}
+use Rattle.word_terms.specs.Tree.{Tree, Trees, variable, application, none, more, AreBelow, EachBelow}
+use Rattle.word_terms.specs.Sorting.{Occurs, OccursInOne}
+use Rattle.egraph.specs.declared.rows.Row.{Row}
+use Rattle.word_terms.specs.Keys.{op_signature}
+use Rattle.axiom_base.specs.Conditions.{IsCalc, constants_of}
+use Rattle.axiom_base.specs.Computed.{first_constant, calc_left, calc_right}
+use Rattle.axiom_base.specs.declared.kinds.Calc.{Calc}
+use Rattle.egraph.specs.Graph.{Graph, IsGraph, HasClass, HasConstant}
+use Rattle.pattern_match.specs.Classes.{IsClass, AreClasses, HaveOneClass}
+
+-- for each variable, by its number, the class that is known of it, if one is
+abbrev pub Binding : Type 0
+Binding = List (Option ℕ)
+
+-- the class that is known of the variable
+abbrev pub known : Binding → ℕ → Option ℕ
+known b v = get_or b v None
+
+-- the classes are as many as the variables, and what is known of them
+pub record Agrees (b : Binding) (cs : List ℕ) : Type 0 where
+  pub count : length cs ≡ length b
+  pub each : (v x : ℕ) → known b v ≡ Some x → get_or cs v 0 ≡ x
+
+-- some of the list agrees
+pub record Covered (bs : List Binding) (cs : List ℕ) : Type 0 where
+  pub binding : Binding
+  pub there : Contains bs binding
+  pub agrees : Agrees binding cs
+
+-- no classes agree with both
+abbrev pub Apart : Binding → Binding → Type 0
+Apart b d = (cs : List ℕ) → Agrees b cs → ¬ Agrees d cs
+
+-- the list has all classes with Q, each in one of its items
+pub record Finds (Q : List ℕ → Type 0) (out : List Binding) : Type 0 where
+  pub sound : (cs : List ℕ) → Covered out cs → Q cs
+  pub complete : (cs : List ℕ) → Q cs → Covered out cs
+  pub apart : AllPairs Apart out
+
+abbrev pub IsBound : Binding → ℕ → Type 0
+IsBound b v = (x : ℕ) × (known b v ≡ Some x)
+
+abbrev pub AreBound : List Binding → ℕ → Type 0
+AreBound bs v = All (λ b. IsBound b v) bs
+
+-- what each item of a list of extensions keeps and knows more, where V are the variables that the walk has seen
+pub record Keeps (bs : List Binding) (V : ℕ → Type 0) (out : List Binding) : Type 0 where
+  pub counts : (n : ℕ) → All (λ b. length b ≡ n) bs → All (λ b. length b ≡ n) out
+  pub bound : All (λ b. (v : ℕ) → AreBound bs v ⊎ V v → IsBound b v) out
+
+pub record CanExtend (p : Tree Op) (bs : List Binding) : Type 0 where
+  pub count : ℕ
+  pub counts : All (λ b. length b ≡ count) bs
+  pub below : AreBelow count p
+  pub apart : AllPairs Apart bs
+
+pub record CanExtendAll (ps : Trees Op) (bs : List Binding) : Type 0 where
+  pub count : ℕ
+  pub counts : All (λ b. length b ≡ count) bs
+  pub below : EachBelow count ps
+  pub apart : AllPairs Apart bs
+
+-- the items of `out` are those of `bs` with what gives the pattern the class
+pub record Extended (g : Graph Op) (p : Tree Op) (c : ℕ) (bs out : List Binding) : Type 0 where
+  pub finds : Finds (λ cs. Covered bs cs × IsClass g cs p c) out
+  pub keeps : Keeps bs (λ v. Occurs v p) out
+
+pub record ExtendedAll (g : Graph Op) (ps : Trees Op) (ds : List ℕ) (bs out : List Binding) : Type 0 where
+  pub finds : Finds (λ cs. Covered bs cs × AreClasses g cs ps ds) out
+  pub keeps : Keeps bs (λ v. OccursInOne v ps) out
+
+-- the same for an application by the rows before a place
+pub record IsByRow (g : Graph Op) (op : Op) (ps : Trees Op) (c end : ℕ) (cs : List ℕ) : Type 0 where
+  pub at : ℕ
+  pub before : at < end
+  pub row : Row Op
+  pub there : (d : Row Op) → get_or g.rows at d ≡ row
+  pub op_is : row.op ≡ op
+  pub class_is : row.class ≡ c
+  pub operands : AreClasses g cs ps row.operands
+
+pub record ExtendedBefore (g : Graph Op) (op : Op) (ps : Trees Op) (c end : ℕ) (bs out : List Binding) : Type 0 where
+  pub finds : Finds (λ cs. Covered bs cs × IsByRow g op ps c end cs) out
+  pub keeps : Keeps bs (λ v. OccursInOne v ps) out
+
+-- how many nodes a pattern has
+abbrev mutual
+  pub nodes : Tree Op → ℕ
+  nodes (variable n) = 1
+  nodes (application op ts) = 1 + nodes_all ts
+
+  pub nodes_all : Trees Op → ℕ
+  nodes_all none = 0
+  nodes_all (more t ts) = nodes t + nodes_all ts
+
+-- the classes, as many as `count`, give the pattern a class of the graph, which is below `end`
+pub record IsPlaced (g : Graph Op) (p : Tree Op) (count end : ℕ) (cs : List ℕ) : Type 0 where
+  pub length_is : length cs ≡ count
+  pub class : ℕ
+  pub before : class < end
+  pub has : HasClass g class
+  pub left : IsClass g cs p class
+
+pub record WalkedBefore (g : Graph Op) (p : Tree Op) (count end : ℕ) (out : List Binding) : Type 0 where
+  pub finds : Finds (IsPlaced g p count end) out
+  pub bound : All (λ b. (v : ℕ) → Occurs v p → IsBound b v) out
+  pub counts : All (λ b. length b ≡ count) out
+
+-- the classes, as many as `count`, give the pattern a class of the graph
+pub record IsPlacement (g : Graph Op) (p : Tree Op) (count : ℕ) (cs : List ℕ) : Type 0 where
+  pub length_is : length cs ≡ count
+  pub class : ℕ
+  pub has : HasClass g class
+  pub left : IsClass g cs p class
+
+-- each of the classes has the constant in its place
+abbrev pub HaveConstants : Graph Op → List ℕ → List ℕ → Type 0
+HaveConstants g classes words = AllZip (λ class word. HasConstant op_signature g.rows class word) classes words
+
+-- the classes are those of a graph of the program, as many as the kind's rules have variables
+pub record CanGive (g : Graph Op) (kind : Calc) (classes : List ℕ) : Type 0 where
+  pub graph : IsGraph op_signature g
+  pub present : All (HasClass g) classes
+  pub count : length classes ≡ first_constant kind + constants_of kind
+
+-- the classes behind those of other variables have constants that give e
+pub record AreGiven (g : Graph Op) (kind : Calc) (classes : List ℕ) (e : ℕ) : Type 0 where
+  pub words : List ℕ
+  pub constants : HaveConstants g (drop (first_constant kind) classes) words
+  pub calc : IsCalc kind words e
+
+-- they give a constant under which the rule's right side hasn't the class of its left
+pub record AreUnmet (g : Graph Op) (kind : Calc) (classes : List ℕ) : Type 0 where
+  pub e : ℕ
+  pub given : AreGiven g kind classes e
+  pub unmet : ¬ HaveOneClass g classes (calc_left kind) (calc_right kind e)
+
+-- nothing is known of `count` variables
+pub record IsUnknown (count : ℕ) (b : Binding) : Type 0 where
+  pub length_is : length b ≡ count
+  pub each : (v : ℕ) → known b v ≡ None
+
+abbrev pub settled : Binding → List ℕ
+settled b = map (λ o. unwrap_or o 0) b

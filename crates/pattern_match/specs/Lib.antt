@@ -1,0 +1,5 @@
+pub mod Classes
+pub mod Listing
+pub mod Matches
+pub mod Found
+pub mod Bindings

@@ -1,0 +1,23 @@
+//! Matches of rewrite rules in an E-graph: each list of classes for a rule's variables under which the graph has the
+//! rule's left side, and those of them under which its right side isn't in that class.
+#![tactic(auto)]
+
+mod computed;
+mod constants;
+mod folding;
+mod found;
+mod laws;
+mod placing;
+mod plain;
+mod reading;
+mod walk;
+
+pub use computed::{calc_matches, calc_need, calc_unmet};
+pub use folding::folds;
+pub use found::{Fold, Match};
+pub use laws::{matches_have_sorts, terms_have_one_class};
+pub use plain::{matches, need, unmet};
+pub use reading::class_of_pattern;
+
+#[cfg(test)]
+mod tests;

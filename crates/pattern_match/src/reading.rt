@@ -1,0 +1,59 @@
+// The class of a pattern, and whether two patterns have one class.
+ghost use Rattle.std.specs.Prelude.{ℕ, ◌↔◌, IsTrue, MatchOption, IfOk};
+ghost use Rattle.word_terms.specs.View.{tree_of};
+ghost use Rattle.pattern_match.specs.Classes.{IsClass, HaveOneClass, CanRead};
+
+use egraph::Egraph;
+use items::NoMemory;
+use std::alloc::Global;
+use word_ops::Op;
+use word_terms::Term;
+
+/// The class of the pattern where its variables stand for these classes. It looks at each row for each operator.
+pub fn class_of_pattern(
+    alloc: Global,
+    graph: &Egraph<Op>,
+    pattern: &Term<Op>,
+    places: &[u32],
+) -> Result<Option<u32>, NoMemory>
+    requires can { CanRead graph.now places.now (tree_of pattern.now) }
+    ensures exact { IfOk result (λ found. MatchOption found
+        ((c : ℕ) → IsClass graph.now places.now (tree_of pattern.now) c → ⊥)
+        (IsClass graph.now places.now (tree_of pattern.now))) }
+{
+    match pattern {
+        Term::Var(n) => Ok(Some(places[*n as usize])),
+        Term::App(op, operands) => {
+            let mut classes = Vec::new(alloc);
+            for operand in operands {
+                let Some(class) = class_of_pattern(alloc, graph, operand, places)? else {
+                    return Ok(None);
+                };
+                classes.push(class)?;
+            }
+            Ok(graph.class_of(*op, &classes))
+        }
+    }
+}
+
+/// Whether both patterns have a class, and the same one.
+pub(crate) fn have_one_class(
+    alloc: Global,
+    graph: &Egraph<Op>,
+    first: &Term<Op>,
+    second: &Term<Op>,
+    places: &[u32],
+) -> Result<bool, NoMemory>
+    requires first { CanRead graph.now places.now (tree_of first.now) }
+    requires second { CanRead graph.now places.now (tree_of second.now) }
+    ensures exact { IfOk result (λ one.
+        IsTrue one ↔ HaveOneClass graph.now places.now (tree_of first.now) (tree_of second.now)) }
+{
+    let Some(class) = class_of_pattern(alloc, graph, first, places)? else {
+        return Ok(false);
+    };
+    let Some(other) = class_of_pattern(alloc, graph, second, places)? else {
+        return Ok(false);
+    };
+    Ok(class == other)
+}

@@ -1,0 +1,337 @@
+// Matches in graphs worked by hand.
+ghost use Rattle.std.specs.Prelude.{◌≡◌, ◌<◌, IsTrue, length, slice_index, Contains};
+ghost use Rattle.egraph.specs.Graph.{AreMade};
+ghost use Rattle.egraph.specs.Sorts.{FitOperator, AreOfOneSort};
+ghost use Rattle.egraph.specs.declared.rows.Row.{Row as RowOf};
+
+use crate::{
+    Fold, calc_matches, calc_need, calc_unmet, class_of_pattern, folds, matches,
+    matches_have_sorts, need, terms_have_one_class, unmet,
+};
+use axiom_base::{Calc, Rule, equations};
+use egraph::{Egraph, MergeFault};
+use items::NoMemory;
+use std::alloc::Global;
+use std::process::Abort;
+use std::test::Fail;
+use word_ops::{Arity, Op, Sort, WordOp};
+use word_terms::{Operator, application};
+
+/// Whether each row of the class is of this sort.
+fn is_of_sort<O: Operator>(graph: &Egraph<O>, class: u32, sort: Sort) -> bool
+    requires made { class < length graph.now.current }
+    ensures { IsTrue result → ((t : RowOf O) → Contains graph.now.rows t →
+        t.class ≡ slice_index graph.now.current class → sort ≡ O.signature.sort t.op) }
+{
+    let present = graph.now(class);
+    for at in 0..graph.rows() {
+        let row = graph.row(at);
+        if row.class == present && row.op.sort() != sort {
+            return false;
+        }
+    }
+    true
+}
+
+/// Whether the classes were made and are of the operator's sorts.
+fn fit<O: Operator>(graph: &Egraph<O>, op: O, operands: &[u32]) -> bool
+    requires arity { length operands.now ≡ O.signature.arity op }
+    ensures made { IsTrue result → AreMade graph.now.current operands.now }
+    ensures sorts { IsTrue result → FitOperator O.signature graph.now op operands.now }
+{
+    for (at, operand) in operands.iter().enumerate() {
+        if *operand >= graph.made() {
+            return false;
+        }
+        if !is_of_sort(graph, *operand, op.operand_sort(at)) {
+            return false;
+        }
+    }
+    true
+}
+
+/// Whether the classes are of one sort.
+fn are_alike<O: Operator>(graph: &Egraph<O>, a: u32, b: u32) -> bool
+    requires a_made { a < length graph.now.current }
+    requires b_made { b < length graph.now.current }
+    ensures { IsTrue result → AreOfOneSort O.signature graph.now a b }
+{
+    if is_of_sort(graph, a, Sort::Word) {
+        return is_of_sort(graph, b, Sort::Word);
+    }
+    if is_of_sort(graph, a, Sort::Memory) {
+        return is_of_sort(graph, b, Sort::Memory);
+    }
+    false
+}
+
+/// `insert` after a test of what it wants.
+fn put<O: Operator>(
+    rt: &impl Abort,
+    graph: &mut Egraph<O>,
+    op: O,
+    operands: &[u32],
+) -> Result<u32, NoMemory> {
+    assert!(rt; operands.len() == op.arity());
+    assert!(rt; fit(graph, op, operands));
+    assert!(rt; graph.made() < 100);
+    graph.insert(op, operands)
+}
+
+/// `merge` after a test of what it wants.
+fn join<O: Operator>(
+    rt: &impl Abort,
+    graph: Egraph<O>,
+    a: u32,
+    b: u32,
+) -> Result<Egraph<O>, MergeFault> {
+    assert!(rt; a < graph.made() && b < graph.made());
+    assert!(rt; are_alike(&graph, a, b));
+    graph.merge(a, b)
+}
+
+// Rows in the order of their insertion; constant number k is the k-th word of a case.
+type Rows = &'static [(Op, &'static [u32])];
+
+const ADDQ: Op = Op::Word(WordOp::Addq);
+
+// A sum of two inputs, and of one with itself; a sum with a constant.
+const SUM: Rows = &[(Op::Input(16), &[]), (Op::Input(17), &[]), (ADDQ, &[0, 1])];
+
+const DOUBLE: Rows = &[(Op::Input(16), &[]), (ADDQ, &[0, 0])];
+
+const MORE: Rows = &[
+    (Op::Input(16), &[]),
+    (Op::Constant(0), &[]),
+    (ADDQ, &[0, 1]),
+];
+
+// Two sums, and a third whose first operand is the first of them.
+const SUMS: Rows = &[
+    (Op::Input(16), &[]),
+    (Op::Input(17), &[]),
+    (Op::Input(18), &[]),
+    (ADDQ, &[0, 1]),
+    (ADDQ, &[1, 2]),
+    (ADDQ, &[3, 2]),
+];
+
+const WORD: Rows = &[(Op::Constant(0), &[])];
+
+const LOADED: Rows = &[
+    (Op::Constant(0), &[]),
+    (Op::Constant(1), &[]),
+    (Op::Word(WordOp::Lda), &[1, 0]),
+];
+
+const PRODUCT: Rows = &[
+    (Op::Input(16), &[]),
+    (Op::Constant(0), &[]),
+    (Op::Word(WordOp::Mulq), &[0, 1]),
+];
+
+const MASKED: Rows = &[
+    (Op::Input(16), &[]),
+    (Op::Constant(0), &[]),
+    (Op::Word(WordOp::And), &[0, 1]),
+];
+
+// A word read behind a stored one, before it, and with both at constants from one address.
+const BEHIND: Rows = &[
+    (Op::Entry, &[]),
+    (Op::Input(16), &[]),
+    (Op::Input(17), &[]),
+    (Op::Constant(0), &[]),
+    (Op::Store, &[0, 1, 2]),
+    (ADDQ, &[1, 3]),
+    (Op::Select, &[4, 5]),
+];
+
+const BEFORE: Rows = &[
+    (Op::Entry, &[]),
+    (Op::Input(16), &[]),
+    (Op::Input(17), &[]),
+    (Op::Constant(0), &[]),
+    (ADDQ, &[1, 3]),
+    (Op::Store, &[0, 4, 2]),
+    (Op::Select, &[5, 1]),
+];
+
+const BESIDE: Rows = &[
+    (Op::Entry, &[]),
+    (Op::Input(16), &[]),
+    (Op::Input(17), &[]),
+    (Op::Constant(0), &[]),
+    (Op::Constant(1), &[]),
+    (ADDQ, &[1, 3]),
+    (ADDQ, &[1, 4]),
+    (Op::Store, &[0, 5, 2]),
+    (Op::Select, &[7, 6]),
+];
+
+fn graph_of(
+    rt: &impl Abort,
+    alloc: Global,
+    rows: Rows,
+    words: &[u64],
+    joined: Option<(u32, u32)>,
+) -> Result<Egraph<Op>, MergeFault> {
+    let mut graph = Egraph::new(alloc);
+    for (op, operands) in rows {
+        let op = match *op {
+            Op::Constant(at) => Op::Constant(words.get(at as usize).copied().unwrap_or(0)),
+            other => other,
+        };
+        match put(rt, &mut graph, op, operands) {
+            Ok(_) => {}
+            Err(_) => return Err(MergeFault::Memory),
+        }
+    }
+    match joined {
+        Some((a, b)) => join(rt, graph, a, b),
+        None => Ok(graph),
+    }
+}
+
+// Matches, unmet ones, and what these need.
+type Counts = (usize, usize, u64);
+
+fn counts_of(alloc: Global, graph: &Egraph<Op>, rule: &Rule) -> Result<Counts, NoMemory> {
+    let all = matches(alloc, graph, rule)?.len();
+    let open = unmet(alloc, graph, rule)?.len();
+    Ok((all, open, need(alloc, graph, rule)?))
+}
+
+fn calc_counts_of(alloc: Global, graph: &Egraph<Op>, kind: Calc) -> Result<Counts, NoMemory> {
+    let all = calc_matches(alloc, graph, kind)?.len();
+    let open = calc_unmet(alloc, graph, kind)?.len();
+    Ok((all, open, calc_need(alloc, graph, kind)?))
+}
+
+// A graph, two classes that are merged in it, and the number of an equation with its counts.
+const EQUATIONS: [(Rows, &'static [u64], Option<(u32, u32)>, usize, Counts); 10] = [
+    (SUM, &[], None, 0, (1, 1, 1)),
+    (SUM, &[], None, 14, (0, 0, 0)),
+    (DOUBLE, &[], None, 0, (1, 0, 0)),
+    // A variable that stands twice.
+    (DOUBLE, &[], None, 14, (1, 1, 2)),
+    // A constant in the left side; a variable as right side, which needs nothing.
+    (MORE, &[0], None, 2, (1, 1, 0)),
+    (MORE, &[1], None, 2, (0, 0, 0)),
+    (MORE, &[0], Some((0, 2)), 2, (1, 0, 0)),
+    // A class with two rows of one operator.
+    (SUMS, &[], Some((3, 4)), 0, (3, 3, 3)),
+    (SUMS, &[], Some((3, 4)), 1, (2, 2, 4)),
+    (SUMS, &[], None, 1, (1, 1, 2)),
+];
+
+#[test]
+fn equations_match_where_the_graph_has_their_left_side(rt: HostRuntime) -> Result<(), Fail> {
+    let alloc = rt.alloc();
+    let rules = equations(alloc)?;
+    for (rows, words, joined, at, wanted) in &EQUATIONS {
+        let graph = graph_of(&rt, alloc, rows, words, *joined)?;
+        let rule = rules.as_slice().get(*at).expect(&rt, "an equation");
+        assert_eq!(rt; counts_of(alloc, &graph, rule)?, *wanted);
+    }
+    Ok(())
+}
+
+// A kind of computed rules, a graph with its constants, and the counts.
+const COMPUTED: [(Calc, Rows, &'static [u64], Option<(u32, u32)>, Counts); 25] = [
+    (Calc::C1, MORE, &[300], None, (1, 1, 2)),
+    (Calc::C1, MORE, &[32768], None, (0, 0, 0)),
+    (Calc::C2, MORE, &[65536], None, (1, 1, 2)),
+    (Calc::C2, MORE, &[65537], None, (0, 0, 0)),
+    (Calc::C3, WORD, &[300], None, (1, 1, 3)),
+    (Calc::C3, WORD, &[0], None, (0, 0, 0)),
+    (Calc::C3, LOADED, &[300, 0], None, (1, 1, 3)),
+    (Calc::C3, LOADED, &[300, 0], Some((0, 2)), (1, 0, 0)),
+    (Calc::C4, WORD, &[65536], None, (1, 1, 3)),
+    (Calc::C4, WORD, &[1], None, (0, 0, 0)),
+    (Calc::C5, WORD, &[70000], None, (1, 1, 2)),
+    (Calc::C5, WORD, &[300], None, (0, 0, 0)),
+    (Calc::C6, PRODUCT, &[8], None, (1, 1, 2)),
+    (Calc::C6, PRODUCT, &[9], None, (0, 0, 0)),
+    (Calc::C7, PRODUCT, &[7], None, (1, 1, 3)),
+    (Calc::C7, PRODUCT, &[8], None, (0, 0, 0)),
+    (Calc::C8, PRODUCT, &[9], None, (1, 1, 3)),
+    (Calc::C9, MASKED, &[65535], None, (1, 1, 2)),
+    (Calc::C9, MASKED, &[254], None, (0, 0, 0)),
+    (Calc::C10, BEHIND, &[8], None, (1, 1, 2)),
+    (Calc::C10, BEHIND, &[4], None, (0, 0, 0)),
+    (Calc::C11, BEFORE, &[8], None, (1, 1, 1)),
+    (Calc::C11, BEFORE, &[4], None, (0, 0, 0)),
+    (Calc::C12, BESIDE, &[8, 16], None, (1, 1, 2)),
+    (Calc::C12, BESIDE, &[8, 12], None, (0, 0, 0)),
+];
+
+#[test]
+fn computed_rules_match_where_constants_meet_their_condition(rt: HostRuntime) -> Result<(), Fail> {
+    let alloc = rt.alloc();
+    for (kind, rows, words, joined, wanted) in &COMPUTED {
+        let graph = graph_of(&rt, alloc, rows, words, *joined)?;
+        assert_eq!(rt;
+            calc_counts_of(alloc, &graph, *kind)?,
+            *wanted,
+            "{kind:?} {words:?}"
+        );
+    }
+    Ok(())
+}
+
+// Operators of constants, of which the last one is no operator on words.
+const FOLDED: Rows = &[
+    (Op::Constant(0), &[]),
+    (Op::Constant(1), &[]),
+    (Op::Constant(2), &[]),
+    (Op::Input(16), &[]),
+    (ADDQ, &[0, 1]),
+    (ADDQ, &[0, 3]),
+    (Op::Word(WordOp::Neg), &[1]),
+    (ONE_OF_ITS_OWN, &[0]),
+];
+
+const ONE_OF_ITS_OWN: Op = Op::Declared {
+    index: 0,
+    arity: Arity::One,
+};
+
+const SUM_OF_5_AND_7: Fold = Fold {
+    class: 4,
+    value: 12,
+};
+
+const NEGATIVE_OF_7: Fold = Fold {
+    class: 6,
+    value: 0xfffffffffffffff9,
+};
+
+// Two classes that are merged, and the folds.
+const FOLDS: [(Option<(u32, u32)>, &'static [Fold]); 2] = [
+    (None, &[SUM_OF_5_AND_7, NEGATIVE_OF_7]),
+    (Some((4, 2)), &[NEGATIVE_OF_7]),
+];
+
+#[test]
+fn operators_of_constants_are_folded(rt: HostRuntime) -> Result<(), Fail> {
+    for (joined, wanted) in &FOLDS {
+        let graph = graph_of(&rt, rt.alloc(), FOLDED, &[5, 7, 12], *joined)?;
+        assert_eq!(rt; folds(rt.alloc(), &graph)?.as_slice(), *wanted);
+    }
+    Ok(())
+}
+
+#[test]
+fn a_constant_has_the_class_of_its_row(rt: HostRuntime) -> Result<(), Fail> {
+    let alloc = rt.alloc();
+    terms_have_one_class();
+    matches_have_sorts();
+    let graph = graph_of(&rt, alloc, LOADED, &[7, 5], None)?;
+    assert_eq!(rt; graph.made(), 3);
+    let there = application(Op::Constant(5), Vec::new(alloc));
+    assert_eq!(rt; class_of_pattern(alloc, &graph, &there, &[])?, Some(1));
+    let absent = application(Op::Constant(6), Vec::new(alloc));
+    assert_eq!(rt; class_of_pattern(alloc, &graph, &absent, &[])?, None);
+    Ok(())
+}
