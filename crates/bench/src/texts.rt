@@ -2,6 +2,7 @@
 ghost use Rattle.std.specs.Prelude.{◌≤◌, ◌^◌, length};
 
 use crate::graphs::count_rows;
+use crate::matches::count_matches;
 use crate::refutations::{count_checked, count_read};
 use crate::searches::count_learnt;
 use std::alloc::Global;
@@ -28,6 +29,8 @@ pub(crate) enum Layer {
     Check,
     /// The rows of an E-graph after a script of inserts and merges.
     Graph,
+    /// The matches of all equations in a chain of operates.
+    Matches,
     /// The lines that a solver learns from the clauses of a formula.
     Sat,
 }
@@ -42,6 +45,7 @@ impl Layer {
             "read" => Some(Layer::Read),
             "check" => Some(Layer::Check),
             "graph" => Some(Layer::Graph),
+            "matches" => Some(Layer::Matches),
             "sat" => Some(Layer::Sat),
             _ => None,
         }
@@ -51,7 +55,7 @@ impl Layer {
 /// What a layer came to.
 #[derive(Clone, Copy, PartialEq, Eq, Debug)]
 pub(crate) enum Outcome {
-    /// Parts of the text, or rows.
+    /// Parts of the text, rows, or matches.
     Parts(usize),
     /// A solver found values.
     Satisfied,
@@ -101,6 +105,7 @@ fn count_parts(alloc: Global, layer: Layer, number: Option<u32>, text: &[u8]) ->
         Layer::Read => count_read(alloc, text),
         Layer::Check => count_checked(alloc, number?, text),
         Layer::Graph => count_rows(alloc, text),
+        Layer::Matches => count_matches(alloc, number?),
         Layer::Sat => None,
     }
 }

@@ -8,14 +8,14 @@ use crate::{
     Fold, calc_matches, calc_need, calc_unmet, class_of_pattern, folds, matches,
     matches_have_sorts, need, terms_have_one_class, unmet,
 };
-use axiom_base::{Calc, Rule, equations};
+use axiom_base::{CALC_KINDS, Calc, Rule, equations};
 use egraph::{Egraph, MergeFault};
 use items::NoMemory;
 use std::alloc::Global;
 use std::process::Abort;
 use std::test::Fail;
 use word_ops::{Arity, Op, Sort, WordOp};
-use word_terms::{Operator, application};
+use word_terms::{Operator, Term, application};
 
 /// Whether each row of the class is of this sort.
 fn is_of_sort<O: Operator>(graph: &Egraph<O>, class: u32, sort: Sort) -> bool
@@ -237,8 +237,131 @@ fn equations_match_where_the_graph_has_their_left_side(rt: HostRuntime) -> Resul
     Ok(())
 }
 
+// Of each equation, in order: the counts in the graph of its left side, as another matcher has them, and the number of
+// an equation in whose graph it has no match.
+const LEFT_SIDES: [(Counts, usize); 48] = [
+    ((1, 1, 1), 3),
+    ((1, 1, 2), 2),
+    ((1, 1, 0), 3),
+    ((1, 1, 2), 4),
+    ((1, 1, 1), 5),
+    ((1, 1, 2), 6),
+    ((1, 1, 1), 7),
+    ((1, 1, 0), 8),
+    ((1, 1, 0), 9),
+    ((1, 1, 1), 13),
+    ((1, 1, 2), 11),
+    ((1, 1, 0), 12),
+    ((1, 1, 1), 13),
+    ((1, 1, 1), 14),
+    ((1, 1, 2), 15),
+    ((1, 1, 1), 16),
+    ((1, 1, 0), 17),
+    ((1, 1, 0), 18),
+    ((1, 1, 1), 19),
+    ((1, 1, 1), 20),
+    ((1, 1, 1), 21),
+    ((1, 1, 1), 22),
+    ((1, 1, 1), 26),
+    ((1, 1, 2), 24),
+    ((1, 1, 0), 25),
+    ((1, 1, 1), 26),
+    ((1, 1, 1), 30),
+    ((1, 1, 2), 28),
+    ((1, 1, 0), 29),
+    ((1, 1, 0), 30),
+    ((1, 1, 1), 34),
+    ((1, 1, 2), 32),
+    ((1, 1, 1), 33),
+    ((1, 1, 0), 34),
+    ((1, 1, 2), 39),
+    ((1, 1, 0), 36),
+    ((1, 1, 1), 37),
+    ((1, 1, 1), 38),
+    ((1, 1, 1), 39),
+    ((1, 1, 1), 40),
+    ((1, 1, 1), 41),
+    ((1, 1, 3), 42),
+    ((1, 1, 1), 43),
+    ((1, 1, 1), 44),
+    ((1, 1, 0), 45),
+    ((1, 1, 1), 46),
+    ((1, 1, 1), 47),
+    ((1, 1, 1), 0),
+];
+
+/// The class of a term in the graph, with the rows that it needs: inputs stand for word variables, the memory at entry
+/// for those of memories.
+fn grow(
+    rt: &impl Abort,
+    alloc: Global,
+    graph: &mut Egraph<Op>,
+    term: &Term<Op>,
+    sort: Sort,
+) -> Result<u32, NoMemory> {
+    match term {
+        Term::Var(number) => match sort {
+            Sort::Memory => put(rt, graph, Op::Entry, &[]),
+            Sort::Word => put(
+                rt,
+                graph,
+                Op::Input(u8::try_from(*number).unwrap_or(30)),
+                &[],
+            ),
+        },
+        Term::App(op, operands) => {
+            let mut classes = Vec::new(alloc);
+            for (at, operand) in operands.iter().enumerate() {
+                assert!(rt; at < op.arity());
+                classes.push(grow(rt, alloc, graph, operand, op.operand_sort(at))?)?;
+            }
+            put(rt, graph, *op, &classes)
+        }
+    }
+}
+
+fn graph_of_left(rt: &impl Abort, alloc: Global, rule: &Rule) -> Result<Egraph<Op>, NoMemory> {
+    let mut graph = Egraph::new(alloc);
+    grow(rt, alloc, &mut graph, rule.left(), Sort::Word)?;
+    Ok(graph)
+}
+
+#[test]
+fn each_equation_matches_its_left_side(rt: HostRuntime) -> Result<(), Fail> {
+    let alloc = rt.alloc();
+    let rules = equations(alloc)?;
+    for (at, (wanted, other)) in LEFT_SIDES.iter().enumerate() {
+        let rule = rules.as_slice().get(at).expect(&rt, "an equation");
+        let graph = graph_of_left(&rt, alloc, rule)?;
+        assert_eq!(rt; counts_of(alloc, &graph, rule)?, *wanted, "equation {at}");
+        let other = rules.as_slice().get(*other).expect(&rt, "an equation");
+        let graph = graph_of_left(&rt, alloc, other)?;
+        assert_eq!(rt; counts_of(alloc, &graph, rule)?, (0, 0, 0), "equation {at}");
+    }
+    Ok(())
+}
+
+/// What all equations, computed rules and folds need.
+fn need_of_all(alloc: Global, graph: &Egraph<Op>) -> Result<u64, NoMemory> {
+    let mut sum: u64 = folds(alloc, graph)?.len() as u64;
+    for rule in equations(alloc)?.as_slice() {
+        sum = sum.saturating_add(need(alloc, graph, rule)?);
+    }
+    for kind in &CALC_KINDS {
+        sum = sum.saturating_add(calc_need(alloc, graph, *kind)?);
+    }
+    Ok(sum)
+}
+
+#[test]
+fn a_sum_needs_its_operands_turned(rt: HostRuntime) -> Result<(), Fail> {
+    let graph = graph_of(&rt, rt.alloc(), SUM, &[], None)?;
+    assert_eq!(rt; need_of_all(rt.alloc(), &graph)?, 1);
+    Ok(())
+}
+
 // A kind of computed rules, a graph with its constants, and the counts.
-const COMPUTED: [(Calc, Rows, &'static [u64], Option<(u32, u32)>, Counts); 25] = [
+const COMPUTED: [(Calc, Rows, &'static [u64], Option<(u32, u32)>, Counts); 26] = [
     (Calc::C1, MORE, &[300], None, (1, 1, 2)),
     (Calc::C1, MORE, &[32768], None, (0, 0, 0)),
     (Calc::C2, MORE, &[65536], None, (1, 1, 2)),
@@ -256,6 +379,7 @@ const COMPUTED: [(Calc, Rows, &'static [u64], Option<(u32, u32)>, Counts); 25] =
     (Calc::C7, PRODUCT, &[7], None, (1, 1, 3)),
     (Calc::C7, PRODUCT, &[8], None, (0, 0, 0)),
     (Calc::C8, PRODUCT, &[9], None, (1, 1, 3)),
+    (Calc::C8, PRODUCT, &[8], None, (0, 0, 0)),
     (Calc::C9, MASKED, &[65535], None, (1, 1, 2)),
     (Calc::C9, MASKED, &[254], None, (0, 0, 0)),
     (Calc::C10, BEHIND, &[8], None, (1, 1, 2)),
