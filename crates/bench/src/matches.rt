@@ -25,14 +25,12 @@ fn chain(alloc: Global, operates: u32) -> Option<Egraph<Op>> {
     let input = leaf(&mut graph, 9)?;
     let mut last = input;
     for step in 0..operates {
-        if graph.made() >= 1 << 31 {
-            return None;
-        }
         last = operate(&mut graph, step % 2 == 0, last, input)?;
     }
     Some(graph)
 }
 
+/// The class of an input, a word.
 fn leaf(graph: &mut Egraph<Op>, register: u8) -> Option<u32>
     requires { length graph.old.current < 2 ^ 31 }
     ensures { IfSome result (λ class. IsOfSort op_signature graph.new class Word) }
@@ -42,13 +40,15 @@ fn leaf(graph: &mut Egraph<Op>, register: u8) -> Option<u32>
 
 /// The class of a sum, or else of an exclusive or, of two words.
 fn operate(graph: &mut Egraph<Op>, is_sum: bool, a: u32, b: u32) -> Option<u32>
-    requires few { length graph.old.current < 2 ^ 31 }
     requires a { IsOfSort op_signature graph.old a Word }
     requires b { IsOfSort op_signature graph.old b Word }
     ensures class { IfSome result (λ class. IsOfSort op_signature graph.new class Word) }
     ensures keeps { IfSome result (λ _. KeepsSorts op_signature graph.old graph.new) }
 {
     classes_have_one_sort::<Op>();
+    if graph.made() >= 1 << 31 {
+        return None;
+    }
     if is_sum {
         return graph.insert(Op::Word(WordOp::Addq), &[a, b]).ok();
     }
