@@ -2,20 +2,21 @@
 use crate::{Broken, Launch, Schedule, fits};
 use items::{Items, NoMemory};
 use launch_graph::{Guard, InputClass, LaunchGraph, LaunchRow, SetClass};
-use machine_table::{Table, ev6};
+use machine_table::{InstrKind, Slot, Table, Use, ev6};
 use std::alloc::Global;
 use std::test::Fail;
 use text_core::Name;
 use word_ops::{Op, WordOp};
 
 /// The loop that copies words, with a guard that holds its load, with one that doesn't, and with three registers; and a
-/// graph with no guard, whose two targets have places before anything is launched.
+/// graph with no guard, whose two targets have places before anything is launched. Last a sum, and an exclusive or of it.
 #[derive(Clone, Copy, PartialEq, Eq)]
 enum Shape {
     Held,
     Free,
     Small,
     Plain,
+    Sum,
 }
 
 type Row = (u32, Op, &'static [u32]);
@@ -50,9 +51,18 @@ const PLAIN_ROWS: [Row; 14] = [
     (12, Op::Select, &[0, 4]),
 ];
 
+const SUM_ROWS: [Row; 5] = [
+    (0, Op::Entry, &[]),
+    (1, Op::Input(16), &[]),
+    (2, Op::Input(17), &[]),
+    (3, Op::Word(WordOp::Addq), &[1, 2]),
+    (4, Op::Word(WordOp::Xor), &[3, 1]),
+];
+
 fn rows_of(alloc: Global, shape: Shape) -> Result<Items<LaunchRow>, NoMemory> {
     let list = match shape {
         Shape::Plain => PLAIN_ROWS.as_slice(),
+        Shape::Sum => SUM_ROWS.as_slice(),
         _ => COPY_ROWS.as_slice(),
     };
     let mut rows = Items::new(alloc);
@@ -70,6 +80,7 @@ fn rows_of(alloc: Global, shape: Shape) -> Result<Items<LaunchRow>, NoMemory> {
 fn inputs_of(alloc: Global, shape: Shape) -> Result<Items<InputClass>, NoMemory> {
     let list: &[(&[u8], u8, u32)] = match shape {
         Shape::Plain => &[(b"a", 16, 1)],
+        Shape::Sum => &[(b"a", 16, 1), (b"b", 17, 2)],
         _ => &[(b"p", 16, 1), (b"q", 17, 2), (b"r", 18, 3)],
     };
     let mut inputs = Items::new(alloc);
@@ -86,6 +97,7 @@ fn inputs_of(alloc: Global, shape: Shape) -> Result<Items<InputClass>, NoMemory>
 fn sets_of(alloc: Global, shape: Shape) -> Result<Items<SetClass>, NoMemory> {
     let list: &[(&[u8], u32)] = match shape {
         Shape::Plain => &[(b"x", 1), (b"y", 4)],
+        Shape::Sum => &[(b"x", 4)],
         _ => &[(b"M", 6), (b"p", 8), (b"q", 9)],
     };
     let mut sets = Items::new(alloc);
@@ -108,7 +120,7 @@ fn pool_of(shape: Shape) -> &'static [u8] {
 
 fn guard_of(shape: Shape) -> Option<Guard> {
     match shape {
-        Shape::Plain => None,
+        Shape::Plain | Shape::Sum => None,
         _ => Some(Guard {
             class: 4,
             held: shape != Shape::Free,
@@ -544,6 +556,38 @@ fn the_least_broken_rule_is_told(rt: HostRuntime) -> Result<(), Fail> {
         let graph = graph_of(rt.alloc(), *shape)?;
         let schedule = schedule_of(rt.alloc(), list)?;
         assert_eq!(rt; told(&graph, &table, *k, &schedule), *broken);
+    }
+    Ok(())
+}
+
+/// Two slots in two clusters, with so many cycles between them, the one for sums and the other for exclusive ors.
+fn two_clusters(alloc: Global, cross: u32) -> Result<Table, NoMemory> {
+    let mut slots = Items::new(alloc);
+    let mut uses = Items::new(alloc);
+    for (cluster, instr) in [(0, InstrKind::Addq), (1, InstrKind::Xor)] {
+        slots.push(Slot {
+            name: Name::new(alloc, b"A")?,
+            cluster,
+        })?;
+        uses.push(Use {
+            instr,
+            latency: 1,
+            slots: Items::from_slice(alloc, &[u32::from(cluster)])?,
+        })?;
+    }
+    Ok(Table { slots, cross, uses })
+}
+
+#[test]
+fn a_word_is_seen_later_in_the_other_cluster(rt: HostRuntime) -> Result<(), Fail> {
+    let graph = graph_of(rt.alloc(), Shape::Sum)?;
+    for cross in 0..5u32 {
+        let table = two_clusters(rt.alloc(), cross)?;
+        let in_time = schedule_of(rt.alloc(), &[(0, 0, 3), (1 + cross, 1, 4)])?;
+        assert_eq!(rt; told(&graph, &table, 2 + cross, &in_time), None);
+        assert_eq!(rt; told(&graph, &table, 1 + cross, &in_time), Some((1, 4)));
+        let early = schedule_of(rt.alloc(), &[(0, 0, 3), (cross, 1, 4)])?;
+        assert_eq!(rt; told(&graph, &table, 2 + cross, &early), Some((1, 3)));
     }
     Ok(())
 }

@@ -8,4 +8,6 @@ unfolding ev6
 returns c = record {
   words = refl;
   places = refl;
+  sum_words = refl;
+  sum_places = refl;
 }
