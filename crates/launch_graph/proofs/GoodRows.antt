@@ -55,7 +55,7 @@ sort_step r rs class sort true true is rest e =
 sort_step r rs class sort true false is rest e = any_there (λ (x : LaunchRow). (x.class ≡ class) × (sort_of x.op ≡ sort)) r rs (rest e)
 sort_step r rs class sort false c is rest e = any_there (λ (x : LaunchRow). (x.class ≡ class) × (sort_of x.op ≡ sort)) r rs (rest e)
 
-sort_said : (rs : List LaunchRow) (class : ℕ) (sort : Sort) → class_sort (map said_row rs) class ≡ Some sort
+pub sort_said : (rs : List LaunchRow) (class : ℕ) (sort : Sort) → class_sort (map said_row rs) class ≡ Some sort
     → Any (λ (x : LaunchRow). (x.class ≡ class) × (sort_of x.op ≡ sort)) rs
 sort_said [] class sort e = absurd (none-some sort e)
 sort_said (r ∷ rs) class sort e =
@@ -65,7 +65,7 @@ next_from : (n : ℕ) (rs : List LaunchRow) → fold (λ m (r : RowLine). max m 
 next_from n [] = refl
 next_from n (r ∷ rs) = next_from (max n (r.class + 1)) rs
 
-next_said : (rs : List LaunchRow) → next_line_class (map said_row rs) ≡ next_class rs
+pub next_said : (rs : List LaunchRow) → next_line_class (map said_row rs) ≡ next_class rs
 next_said rs = next_from 0 rs
 
 count_range : (a : Arity) → (1 ≤ count_of a) × (count_of a ≤ 4)

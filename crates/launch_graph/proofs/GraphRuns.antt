@@ -95,13 +95,13 @@ pool_told (words ∷ lines) u d (go (first_set s fits is) j) =
 pool_told (words ∷ lines) u d (go (leave_pool h) j) =
     record { guard_is = None; fits = tt; then = words ∷ lines; targets_are = no_sets (words ∷ lines) h; whole = refl }
 
-never_inputs : IsDone inputs → ⊥
+pub never_inputs : IsDone inputs → ⊥
 never_inputs (ends e) = elim e [ ]
 
-never_rows : (n : ℕ) → IsDone (rows n) → ⊥
+pub never_rows : (n : ℕ) → IsDone (rows n) → ⊥
 never_rows n (ends e) = elim e [ ]
 
-never_begun : IsDone start → ⊥
+pub never_begun : IsDone start → ⊥
 never_begun (ends e) = elim e [ ]
 
 more_inputs : (i : InputClass) (words : Words) (lines : List Words) → InputFits i → words ≡ in_words i → InputsThen lines → InputsThen (words ∷ lines)
@@ -130,7 +130,7 @@ inputs_told (words ∷ lines) u d (go (pool ns low is) j) =
       whole = ap (λ w. w ∷ lines) is;
     }
 
-row_itself : (words : Words) (r : RowLine) → IsRowLine words r → RowFits r
+pub row_itself : (words : Words) (r : RowLine) → IsRowLine words r → RowFits r
 row_itself words r h = record { is = refl; class = h.class; op = h.op; operands = h.operands }
 
 more_rows : (r : RowLine) (words : Words) (n : ℕ) (lines : List Words) → IsRowLine words r → RowsThen n lines → RowsThen (suc n) (words ∷ lines)

@@ -1,3 +1,5 @@
+pub mod BehindRows
+pub mod ClassMarks
 pub mod CleanLines
 pub mod GraphLines
 pub mod GraphStages
@@ -6,6 +8,12 @@ pub mod Graphs
 pub mod LineFaults
 pub mod LineFormats
 pub mod LineParts
+pub mod LineReading
+pub mod Numbering
+pub mod Readings
 pub mod RowFaults
 pub mod RowLines
+pub mod RowReading
+pub mod RowsRead
+pub mod SeenRows
 pub mod WellFormed

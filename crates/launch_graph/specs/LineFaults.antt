@@ -1,5 +1,5 @@
--- The faults of a text of lines, and which comes first. It serves each format whose lines may have a graph among
--- them. Source: this project.
+-- The faults of a text of lines, and which comes first. It serves each format whose lines may have a graph among them.
+-- Source: this project.
 use Rattle.std.specs.Prelude.{ℕ, ◌≡◌, ◌⊎◌, ◌+◌, ◌<◌, ◌≤◌, List, [], ◌∷◌, length, take, drop, codes, decimal}
 use Rattle.word_ops.specs.declared.sorts.Sort.{Sort}
 use Rattle.text_core.specs.Lines.{Line, line_at}
@@ -41,11 +41,9 @@ abbrev pub HasNoHeader : List Line → ℕ → ℕ → Type 0
 HasNoHeader lines from to = (n : ℕ) → from ≤ n → n < to → (words : Words)
     → (line_at lines n).words ≡ codes "rows" ∷ words → ⊥
 
--- A fault at the line of this number, where the lines from `from` on are to begin with a text of the format.
--- `IsText` are the lines
--- of such a text and what may stand behind it, `IsPart` those of the text alone. A number past the last line says
--- that a line is
--- missing.
+-- A fault at the line of this number, where the lines from `from` on are to begin with a text of the format. `IsText`
+-- are the lines of such a text and what may stand behind it, `IsPart` those of the text alone. A number past the last
+-- line says that a line is missing.
 pub data IsFaultAt (IsText IsPart : List Words → Type 0) (lines : List Line) (from : ℕ) : ℕ → Kind → Type 0 where
   bad_line : {at : ℕ} → from ≤ at → at < length lines → GoesOn IsText (words_between lines from at)
       → (GoesOn IsText (words_between lines from (at + 1)) → ⊥) → IsFaultAt IsText IsPart lines from at BadLine
@@ -75,8 +73,8 @@ line_rank BadRow = 1
 line_rank _ = 2
 
 -- The first faulty line decides, and on one line BadLine comes before BadRow, and BadRow before BadClass.
-pub record IsFirstFault (IsText IsPart : List Words
-    → Type 0) (lines : List Line) (from place : ℕ) (kind : Kind) : Type 0 where
+pub record IsFirstFault (IsText IsPart : List Words → Type 0) (lines : List Line) (from place : ℕ) (kind : Kind)
+    : Type 0 where
   pub at : ℕ
   pub found : IsFaultAt IsText IsPart lines from at kind
   pub placed : BeginsAt lines at place

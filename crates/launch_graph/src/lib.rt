@@ -4,11 +4,21 @@
 //! to launch.
 #![tactic(auto)]
 
+mod behind_rows;
+mod class_marks;
 mod graphs;
+mod index;
 mod laws;
+mod line_faults;
+mod line_reading;
 mod lookups;
+mod numbering;
 mod printing;
+mod reading;
 mod row_lines;
+mod row_reading;
+mod rows_reading;
+mod seen_rows;
 
 pub use graphs::{Guard, InputClass, LaunchGraph, LaunchRow, SetClass};
 pub use laws::{
@@ -16,7 +26,10 @@ pub use laws::{
     registers_are_apart,
 };
 pub use printing::{print, put_graph};
+pub use reading::read;
 pub use row_lines::{LineOp, RowLine};
 
+#[cfg(test)]
+mod fault_tests;
 #[cfg(test)]
 mod tests;

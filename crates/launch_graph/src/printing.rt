@@ -59,7 +59,8 @@ fn put_registers(text: &mut Vec<u8>, registers: &[u8]) -> Result<(), NoMemory>
 
 /// The words of an operator, each with a space before it.
 fn put_op(text: &mut Vec<u8>, op: Op, name: &[u8]) -> Result<(), NoMemory>
-    ensures { OnOk result (text.new.items ≡ text.old.items ++ words_behind (line_op_words (format.said_op op name.now))) }
+    ensures { OnOk result
+        (text.new.items ≡ text.old.items ++ words_behind (line_op_words (format.said_op op name.now))) }
 {
     match op {
         Op::Entry => put_word(text, b"memory"),
@@ -96,7 +97,8 @@ fn put_row(text: &mut Vec<u8>, row: &LaunchRow) -> Result<(), NoMemory>
 
 #[tactic(auto, using(crate::proofs::Printed::line_more))]
 fn put_rows(text: &mut Vec<u8>, rows: &[LaunchRow]) -> Result<(), NoMemory>
-    ensures { OnOk result (text.new.items ≡ text.old.items ++ lines_text (map (λ r. row_words (format.said_row r)) rows.now)) }
+    ensures { OnOk result
+        (text.new.items ≡ text.old.items ++ lines_text (map (λ r. row_words (format.said_row r)) rows.now)) }
 {
     for row in rows {
         put_row(text, row)?;

@@ -1,147 +1,125 @@
-//! Graphs as they print, by the answers of a second reader, and what a graph has of one class.
-use crate::{Guard, InputClass, LaunchGraph, LaunchRow, SetClass, print};
-use items::{Items, NoMemory};
+//! Graphs read from lines and printed, by the answers of a second reader, and what a graph has of one class.
+ghost use Rattle.std.specs.Prelude.{◌<◌, ◌^◌, length};
+
+use crate::{LaunchGraph, print, read};
 use std::alloc::Global;
 use std::test::Fail;
-use text_core::Name;
+use text_core::{TextFault, lines};
 use word_ops::{Arity, Op, WordOp};
 
-/// A graph by its parts: rows by class, operator, name and operands, inputs by name, register and class.
-struct Case {
-    rows: &'static [(u32, Op, &'static [u8], &'static [u32])],
-    inputs: &'static [(&'static [u8], u8, u32)],
-    pool: &'static [u8],
-    guard: Option<Guard>,
-    sets: &'static [(&'static [u8], u32)],
-    text: &'static [u8],
-}
-
-const F: Op = Op::Declared {
-    index: 0,
-    arity: Arity::One,
-};
-
-const F_1: Op = Op::Declared {
-    index: 1,
-    arity: Arity::Two,
-};
-
-const G: Op = Op::Declared {
-    index: 2,
-    arity: Arity::Three,
-};
-
-const H: Op = Op::Declared {
-    index: 3,
-    arity: Arity::Four,
-};
-
-const CASES: [Case; 3] = [
-    Case {
-        rows: &[
-            (0, Op::Entry, b"", &[]),
-            (1, Op::Input(16), b"", &[]),
-            (2, Op::Input(17), b"", &[]),
-            (3, Op::Word(WordOp::Addq), b"", &[1, 2]),
-        ],
-        inputs: &[(b"a", 16, 1), (b"b", 17, 2)],
-        pool: &[1],
-        guard: None,
-        sets: &[(b"x", 3)],
-        text: b"rows 4\n0 memory\n1 input 16\n2 input 17\n3 addq 1 2\nentry 0\nin a 16 1\nin b 17 2\npool 1\nset x 3\n",
-    },
-    Case {
-        rows: &[
-            (0, Op::Entry, b"", &[]),
-            (1, Op::Input(30), b"", &[]),
-            (2, Op::Constant(18446744073709551615), b"", &[]),
-            (3, Op::Word(WordOp::Sextb), b"", &[1]),
-            (4, Op::Select, b"", &[0, 1]),
-            (5, Op::Store, b"", &[0, 1, 4]),
-            (6, Op::Load, b"", &[5, 1, 2]),
-            (7, Op::Put, b"", &[5, 1, 2, 6]),
-            (8, F, b"f", &[6]),
-            (9, F_1, b"f_1", &[8, 3]),
-            (8, G, b"g2", &[1, 2, 3]),
-            (2, H, b"h", &[1, 2, 3, 4]),
-            (9, F, b"f", &[8]),
-        ],
-        inputs: &[(b"p", 30, 1)],
-        pool: &[0, 1, 2],
-        guard: Some(Guard {
-            class: 3,
-            held: true,
-        }),
-        sets: &[(b"M", 7), (b"y", 9), (b"z", 2)],
-        text: b"rows 13\n0 memory\n1 input 30\n2 const 18446744073709551615\n3 sextb 1\n4 select 0 1\n5 store 0 1 4\n6 load 5 1 2\n7 put 5 1 2 6\n8 use f 6\n9 use f_1 8 3\n8 use g2 1 2 3\n2 use h 1 2 3 4\n9 use f 8\nentry 0\nin p 30 1\npool 0 1 2\nguard 3 held\nset M 7\nset y 9\nset z 2\n",
-    },
-    Case {
-        rows: &[(0, Op::Entry, b"", &[])],
-        inputs: &[],
-        pool: &[],
-        guard: None,
-        sets: &[],
-        text: b"rows 1\n0 memory\nentry 0\npool\n",
-    },
+/// Texts that are the lines of a graph.
+const GRAPHS: [&[u8]; 6] = [
+    b"rows 4\n0 memory\n1 input 16\n2 input 17\n3 addq 1 2\nentry 0\nin a 16 1\nin b 17 2\npool 1\nset x 3\n",
+    b"rows 1\n0 memory\nentry 0\npool\n",
+    b"rows 4\n0 memory\n1 not 2\n2 not 1\n2 input 30\nentry 0\npool\n",
+    b"rows 13\n0 memory\n1 input 30\n2 const 18446744073709551615\n3 sextb 1\n4 select 0 1\n5 store 0 1 4\n6 load 5 1 2\n7 put 5 1 2 6\n8 use f 6\n9 use f_1 8 3\n8 use g2 1 2 3\n2 use h 1 2 3 4\n9 use f 8\nentry 0\nin p 30 1\npool 0 1 2\nguard 3 held\nset M 7\nset y 9\nset z 2\n",
+    b"rows 5\n0 memory\n1 input 0\n2 const 0\n1 const 1\n2 not 1\nentry 0\nin a 0 1\nin a 0 2\npool 0 0\nguard 2 free\nset M 0\nset M 0\n",
+    b"rows 63\n0 memory\n1 input 16\n2 addl 1 1\n3 s4addl 1 1\n4 subl 1 1\n5 s4subl 1 1\n6 cmpbge 1 1\n7 s8addl 1 1\n8 s8subl 1 1\n9 cmpult 1 1\n10 addq 1 1\n11 s4addq 1 1\n12 subq 1 1\n13 s4subq 1 1\n14 cmpeq 1 1\n15 s8addq 1 1\n16 s8subq 1 1\n17 cmpule 1 1\n18 cmplt 1 1\n19 cmple 1 1\n20 and 1 1\n21 bic 1 1\n22 bis 1 1\n23 ornot 1 1\n24 xor 1 1\n25 eqv 1 1\n26 mskbl 1 1\n27 extbl 1 1\n28 insbl 1 1\n29 mskwl 1 1\n30 extwl 1 1\n31 inswl 1 1\n32 mskll 1 1\n33 extll 1 1\n34 insll 1 1\n35 zap 1 1\n36 zapnot 1 1\n37 mskql 1 1\n38 srl 1 1\n39 extql 1 1\n40 sll 1 1\n41 insql 1 1\n42 sra 1 1\n43 mskwh 1 1\n44 inswh 1 1\n45 extwh 1 1\n46 msklh 1 1\n47 inslh 1 1\n48 extlh 1 1\n49 mskqh 1 1\n50 insqh 1 1\n51 extqh 1 1\n52 mull 1 1\n53 mulq 1 1\n54 umulh 1 1\n55 sextb 1\n56 sextw 1\n57 neg 1\n58 selectb 1 1\n59 storeb 1 1 1\n60 lda 1 1\n61 ldah 1 1\n62 not 1\nentry 0\nin a 16 1\npool\nset s0 2\nset s1 3\nset s2 4\n",
 ];
 
-fn rows_of(alloc: Global, case: &Case) -> Result<Items<LaunchRow>, NoMemory> {
-    let mut rows = Items::new(alloc);
-    for (class, op, name, operands) in case.rows {
-        rows.push(LaunchRow {
-            class: *class,
-            op: *op,
-            name: Name::new(alloc, name)?,
-            operands: Items::from_slice(alloc, operands)?,
-        })?;
-    }
-    Ok(rows)
-}
+/// Texts with other lines before or behind a graph: the line where it begins, the line behind it, and its own lines.
+const INSIDE: [(&[u8], u32, u32, &[u8]); 5] = [
+    (
+        b"goal g\nrounds 0 stop rounds\nrows 4\n0 memory\n1 input 16\n2 input 17\n3 addq 1 2\nentry 0\nin a 16 1\nin b 17 2\npool 1\nset x 3\nscheduled 1\nlaunch 0 U0 3\n",
+        2,
+        12,
+        b"rows 4\n0 memory\n1 input 16\n2 input 17\n3 addq 1 2\nentry 0\nin a 16 1\nin b 17 2\npool 1\nset x 3\n",
+    ),
+    (
+        b"rows 1\n0 memory\nentry 0\npool\nrows 1\n0 memory\nentry 0\npool\n",
+        4,
+        8,
+        b"rows 1\n0 memory\nentry 0\npool\n",
+    ),
+    (
+        b"rows 4\n0 memory\n1 input 16\n2 input 17\n3 addq 1 2\nentry 0\nin a 16 1\nin b 17 2\npool 1\nset x 3\nin c 18 1\n",
+        0,
+        10,
+        b"rows 4\n0 memory\n1 input 16\n2 input 17\n3 addq 1 2\nentry 0\nin a 16 1\nin b 17 2\npool 1\nset x 3\n",
+    ),
+    (
+        b"rows 4\n0 memory\n1 input 16\n2 input 17\n3 addq 1 2\nentry 0\nin a 16 1\nin b 17 2\npool 1\nset x 3\npool\n",
+        0,
+        10,
+        b"rows 4\n0 memory\n1 input 16\n2 input 17\n3 addq 1 2\nentry 0\nin a 16 1\nin b 17 2\npool 1\nset x 3\n",
+    ),
+    (
+        b"rows 4\n0 memory\n1 input 16\n2 input 17\n3 addq 1 2\nentry 0\nin a 16 1\nin b 17 2\npool 1\nset x 3\nscheduled 1\n",
+        0,
+        10,
+        b"rows 4\n0 memory\n1 input 16\n2 input 17\n3 addq 1 2\nentry 0\nin a 16 1\nin b 17 2\npool 1\nset x 3\n",
+    ),
+];
 
-fn inputs_of(alloc: Global, case: &Case) -> Result<Items<InputClass>, NoMemory> {
-    let mut inputs = Items::new(alloc);
-    for (name, reg, class) in case.inputs {
-        inputs.push(InputClass {
-            name: Name::new(alloc, name)?,
-            reg: *reg,
-            class: *class,
-        })?;
+/// The graph of a text's lines from one on, and the line behind it.
+fn graph_of(alloc: Global, text: &[u8], from: u32) -> Result<(LaunchGraph, u32), TextFault>
+    requires { length text.now < 2 ^ 29 }
+{
+    let text = lines(alloc, text)?;
+    if from > text.count() {
+        return Err(TextFault::Memory);
     }
-    Ok(inputs)
-}
-
-fn sets_of(alloc: Global, case: &Case) -> Result<Items<SetClass>, NoMemory> {
-    let mut sets = Items::new(alloc);
-    for (name, class) in case.sets {
-        sets.push(SetClass {
-            name: Name::new(alloc, name)?,
-            class: *class,
-        })?;
-    }
-    Ok(sets)
-}
-
-fn graph_of(alloc: Global, case: &Case) -> Result<LaunchGraph, NoMemory> {
-    Ok(LaunchGraph {
-        rows: rows_of(alloc, case)?,
-        entry: 0,
-        inputs: inputs_of(alloc, case)?,
-        pool: Items::from_slice(alloc, case.pool)?,
-        guard: case.guard,
-        sets: sets_of(alloc, case)?,
-    })
+    read(alloc, &text, from)
 }
 
 #[test]
-fn graphs_print(rt: HostRuntime) -> Result<(), Fail> {
-    for case in &CASES {
-        let graph = graph_of(rt.alloc(), case)?;
-        assert_eq!(rt; print(rt.alloc(), &graph)?.as_slice(), case.text);
+fn graphs_are_read_and_printed(rt: HostRuntime) -> Result<(), Fail> {
+    for text in &GRAPHS {
+        assert!(rt; text.len() < 2000);
+        let (graph, next) = graph_of(rt.alloc(), text, 0).ok().expect(&rt, "a graph");
+        assert_eq!(rt; print(rt.alloc(), &graph)?.as_slice(), *text);
+        let feeds = text.iter().filter(|byte| **byte == b'\n').count();
+        assert_eq!(rt; next as usize, feeds);
     }
     Ok(())
 }
 
-/// Each class of the second graph with its constant and the register of its input.
+#[test]
+fn graphs_are_read_inside_of_texts(rt: HostRuntime) -> Result<(), Fail> {
+    for (text, from, next, printed) in &INSIDE {
+        assert!(rt; text.len() < 2000);
+        let (graph, end) = graph_of(rt.alloc(), text, *from)
+            .ok()
+            .expect(&rt, "a graph");
+        assert_eq!(rt; print(rt.alloc(), &graph)?.as_slice(), *printed);
+        assert_eq!(rt; end, *next);
+    }
+    Ok(())
+}
+
+/// The operators of the rows of graph 3.
+const OPS: [Op; 13] = [
+    Op::Entry,
+    Op::Input(30),
+    Op::Constant(18446744073709551615),
+    Op::Word(WordOp::Sextb),
+    Op::Select,
+    Op::Store,
+    Op::Load,
+    Op::Put,
+    Op::Declared {
+        index: 0,
+        arity: Arity::One,
+    },
+    Op::Declared {
+        index: 1,
+        arity: Arity::Two,
+    },
+    Op::Declared {
+        index: 2,
+        arity: Arity::Three,
+    },
+    Op::Declared {
+        index: 3,
+        arity: Arity::Four,
+    },
+    Op::Declared {
+        index: 0,
+        arity: Arity::One,
+    },
+];
+
+/// Each class of graph 3 with its constant and the register of its input.
 const CLASSES: [(u32, Option<u64>, Option<u8>); 4] = [
     (0, None, None),
     (1, None, Some(30)),
@@ -150,8 +128,14 @@ const CLASSES: [(u32, Option<u64>, Option<u8>); 4] = [
 ];
 
 #[test]
-fn classes_are_looked_up(rt: HostRuntime) -> Result<(), Fail> {
-    let graph = graph_of(rt.alloc(), &CASES[1])?;
+fn rows_and_classes_are_looked_up(rt: HostRuntime) -> Result<(), Fail> {
+    let text = GRAPHS[3];
+    assert!(rt; text.len() < 2000);
+    let (graph, _) = graph_of(rt.alloc(), text, 0).ok().expect(&rt, "a graph");
+    assert_eq!(rt; graph.rows.len(), OPS.len());
+    for (row, op) in graph.rows.as_slice().iter().zip(&OPS) {
+        assert_eq!(rt; row.op, *op);
+    }
     for (class, constant, register) in &CLASSES {
         assert_eq!(rt; graph.constant_of(*class), *constant);
         assert_eq!(rt; graph.input_register(*class), *register);

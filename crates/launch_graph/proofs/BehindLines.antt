@@ -1,0 +1,269 @@
+-- A line behind the rows is clean, or has the first fault.
+use Rattle.std.proofs.Common.{◌≡◌, ◌≢◌, ℕ, zero, ◌+◌, ◌<◌, ◌≤◌, List, [], ◌∷◌, ◌++◌, length, map, get_or, refl, sym, ap, subst, ◌∙◌, arith, codes}
+use Rattle.std.proofs.lemmas.List.{map_push}
+use Rattle.std.proofs.lemmas.List.Elements.{All-nil, All-push}
+use Rattle.text_core.specs.Faults.{IsFaultBy}
+use Rattle.text_core.specs.Lines.{Line, line_at}
+use Rattle.text_core.specs.LineTexts.{Words}
+use Rattle.text_core.specs.declared.faults.Kind.{Kind}
+use Rattle.text_core.specs.declared.faults.Kind.TheVariants.{BadLine, BadClass}
+use Rattle.text_core.specs.declared.faults.TextFault.{TextFault}
+use Rattle.word_ops.specs.Names.{name_of}
+use Rattle.word_ops.specs.declared.operators.WordOp.{WordOp}
+use Rattle.word_ops.specs.declared.sorts.Sort.{Sort}
+use Rattle.word_ops.specs.declared.sorts.Sort.TheVariants as sorts
+use Rattle.launch_graph.specs.declared.class_marks.Mark.{Mark}
+use Rattle.launch_graph.specs.declared.graphs.InputClass.{InputClass}
+use Rattle.launch_graph.specs.declared.graphs.Guard.{Guard}
+use Rattle.launch_graph.specs.declared.graphs.SetClass.{SetClass}
+use Rattle.launch_graph.specs.declared.row_lines.RowLine.{RowLine}
+use Rattle.launch_graph.specs.BehindRows.{IsRight, IsBehind, IsFaultBehind, IsEntryAt, IsInputAt, IsGuardAt, IsSetAt, TakesSets, targets, no_guard, AreInputsAt, AreSetsAt}
+use Rattle.launch_graph.specs.ClassMarks.{AreMarks}
+use Rattle.launch_graph.specs.GraphLines.{in_words, set_words}
+use Rattle.launch_graph.specs.GraphStages.{Stage, rows, inputs, behind_pool, sets, over, Step, entry, input, pool, guard, first_set, set, leave_pool, leave, InputFits, SetFits}
+use Rattle.launch_graph.specs.GraphTexts.{IsNoTarget, IsClassLine}
+use Rattle.launch_graph.specs.GraphTexts as class_line
+use Rattle.launch_graph.specs.LineFaults.{IsFirstGraphFault}
+use Rattle.launch_graph.specs.LineFormats.{BeginsAt}
+use Rattle.launch_graph.specs.LineReading.{IsEntry, IsInput, IsPool, IsGuard, IsSet, IsNone}
+use Rattle.launch_graph.specs.RowFaults.{IsWrongClass}
+use Rattle.launch_graph.specs.RowsRead.{IsFaultOfLine}
+use Rattle.launch_graph.specs.WellFormed.{set_sort}
+use Rattle.launch_graph.proofs.Between.{between_more, between_none}
+use Rattle.launch_graph.proofs.ClassLines.{entry_class, input_class, pool_class, guard_class, set_class}
+use Rattle.launch_graph.proofs.FirstFaults.{missing_first, bad_line_first, wrong_class_first, clean_line}
+use Rattle.launch_graph.proofs.GraphRuns.{IsDone}
+
+-- ---- which lines can stand next
+
+pub no_entry : (words : Words) → IsNone IsEntry words → (t : Stage) → Step (rows zero) words t → ⊥
+no_entry words none t (entry class low is) = none class (record { small = low; is = is })
+
+pub no_pool : (words : Words) → IsNone IsInput words → IsNone IsPool words → (t : Stage) → Step inputs words t → ⊥
+no_pool words none never t (input i fits is) = none i (record { fits = fits; is = is })
+no_pool words none never t (pool ns low is) = never ns (record { low = low; is = is })
+
+guard_is_target : (words : Words) → get_or words 0 [] ≡ codes "guard" → IsNoTarget words → ⊥
+guard_is_target [] e h = cc
+guard_is_target (word ∷ words) e h = h.0 e
+
+set_is_target : (words : Words) → get_or words 0 [] ≡ codes "set" → IsNoTarget words → ⊥
+set_is_target [] e h = cc
+set_is_target (word ∷ words) e h = h.1 e
+
+pub is_no_target : (words : Words) → get_or words 0 [] ≢ codes "guard" → get_or words 0 [] ≢ codes "set" → IsNoTarget words
+is_no_target [] never none = tt
+is_no_target (word ∷ words) never none = (never, none)
+
+first_word : (words other : Words) → words ≡ other → get_or words 0 [] ≡ get_or other 0 []
+first_word words other e = ap (λ (ws : Words). get_or ws 0 []) e
+
+pub wrong_guard : (words : Words) → get_or words 0 [] ≡ codes "guard" → IsNone IsGuard words → (t : Stage) → Step behind_pool words t → ⊥
+wrong_guard words first none t (guard o low is) = none o (record { small = low; is = is })
+wrong_guard words first none t (first_set s fits is) = (let h : codes "guard" ≡ codes "set" = sym first ∙ first_word words (set_words s) is in cc)
+wrong_guard words first none t (leave_pool h) = guard_is_target words first h
+
+module _ (lines : List Line) (at : ℕ) (lt : at < length lines) where
+  abbrev words : Words
+  words = (line_at lines at).words
+
+  pub late_guard : get_or words 0 [] ≡ codes "guard" → (stage : Stage) → TakesSets lines at stage → (t : Stage) → Step stage words t → ⊥
+  late_guard first stage targets t (set s fits is) = (let h : codes "guard" ≡ codes "set" = sym first ∙ first_word words (set_words s) is in cc)
+  late_guard first stage targets t (leave h) = guard_is_target words first h
+  late_guard first stage (no_guard none) t step = none lt first
+
+  pub wrong_set : get_or words 0 [] ≡ codes "set" → IsNone IsSet words → (stage : Stage) → TakesSets lines at stage → (t : Stage) → Step stage words t → ⊥
+  wrong_set first none stage targets t (set s fits is) = none s (record { fits = fits; is = is })
+  wrong_set first none stage targets t (leave h) = set_is_target words first h
+  wrong_set first none stage (no_guard never) t (guard o low is) = (let h : codes "set" ≡ codes "guard" = sym first ∙ first_word words _ is in cc)
+  wrong_set first none stage (no_guard never) t (first_set s fits is) = none s (record { fits = fits; is = is })
+  wrong_set first none stage (no_guard never) t (leave_pool h) = set_is_target words first h
+
+  -- a target leads to the stage of targets
+  pub set_step : (stage : Stage) → TakesSets lines at stage → (s : SetClass) → IsSet words s → Step stage words sets
+  set_step stage targets s is = set s is.fits is.is
+  set_step stage (no_guard never) s is = first_set s is.fits is.is
+
+inputs_not_over : inputs ≢ over
+inputs_not_over e = cc
+
+pool_not_over : behind_pool ≢ over
+pool_not_over e = cc
+
+sets_not_over : sets ≢ over
+sets_not_over e = cc
+
+-- ---- a line by the graph before it
+
+module _ (names : (o p : WordOp) → name_of o ≡ name_of p → o ≡ p) (lines : List Line) (marks : List Mark) (at : ℕ) where
+  fault_is : (kind : Kind) (fault : TextFault) (from : ℕ) → IsFaultOfLine lines at kind fault
+      → ((place : ℕ) → BeginsAt lines at place → IsFirstGraphFault lines from place kind) → IsFaultBy (IsFirstGraphFault lines from) fault
+  fault_is kind fault from f h = subst (IsFaultBy (IsFirstGraphFault lines from)) (sym f.is) (h f.place f.placed)
+
+  pub ended : (stage : Stage) (fault : TextFault) → at ≡ length lines → (IsDone stage → ⊥) → IsFaultOfLine lines at BadLine fault
+      → IsFaultBehind lines marks at stage fault
+  ended stage fault end never f = λ from all b.
+      fault_is BadLine fault from f
+      (λ place placed. missing_first names lines from (length marks) all all at stage b.clean place end placed never)
+
+  module _ (lt : at < length lines) where
+    pub stuck : (stage : Stage) (fault : TextFault) → ((t : Stage) → Step stage (line_at lines at).words t → ⊥)
+        → IsFaultOfLine lines at BadLine fault → IsFaultBehind lines marks at stage fault
+    stuck stage fault never f = λ from all b.
+        fault_is BadLine fault from f
+        (λ place placed. bad_line_first names lines from (length marks) all all at stage b.clean place lt placed never)
+
+    module _ (stage next : Stage) (step : Step stage (line_at lines at).words next) (apart : next ≢ over) where
+      wrong : (class : ℕ) (sort : Sort) (fault : TextFault) → IsClassLine (line_at lines at).words class sort
+          → ((all : List RowLine) → AreMarks (length marks) all marks → IsWrongClass (length marks) all sort class)
+          → IsFaultOfLine lines at BadClass fault → IsFaultBehind lines marks at stage fault
+      wrong class sort fault is bad f = λ from all b.
+          fault_is BadClass fault from f
+          (λ place placed.
+          wrong_class_first names lines from (length marks) all all at stage b.clean next lt step apart b.full place class sort placed is
+          (bad all b.marks_are))
+
+      more : (from : ℕ) (all : List RowLine) → IsBehind lines from all marks at stage
+          → ((class : ℕ) (sort : Sort) → IsClassLine (line_at lines at).words class sort → IsRight marks sort class)
+          → IsBehind lines from all marks (at + 1) next
+      more from all b right =
+          record {
+            clean =
+                clean_line names lines from (length marks) all all at stage b.clean next lt step apart b.full
+                (λ class sort is bad. right class sort is all b.marks_are bad);
+            full = b.full;
+            marks_are = b.marks_are;
+          }
+
+    same_right : (class other : ℕ) (sort one : Sort) → (other ≡ class) × (one ≡ sort) → IsRight marks sort class → IsRight marks one other
+    same_right class other sort one same right =
+        subst (λ n. IsRight marks one n) (sym same.0) (subst (λ s. IsRight marks s class) (sym same.1) right)
+
+    -- ---- line by line
+
+    pub wrong_entry : (class : ℕ) (fault : TextFault) → IsEntry (line_at lines at).words class
+        → ((all : List RowLine) → AreMarks (length marks) all marks → IsWrongClass (length marks) all sorts.Memory class)
+        → IsFaultOfLine lines at BadClass fault → IsFaultBehind lines marks at (rows 0) fault
+    wrong_entry class fault is bad f =
+        wrong (rows 0) inputs (entry class is.small is.is) inputs_not_over class sorts.Memory fault (class_line.entry {words = []} is.small is.is refl) bad f
+
+    pub entry_more : (class : ℕ) → IsEntryAt lines marks at class → (from : ℕ) (all : List RowLine) → IsBehind lines from all marks at (rows 0)
+        → IsBehind lines from all marks (at + 1) inputs
+    entry_more class e from all b =
+        more (rows 0) inputs (entry class e.is.small e.is.is) inputs_not_over from all b
+        (λ other sort is.
+        same_right class other sorts.Memory sort
+        (entry_class class other sort e.is.small (subst (λ ws. IsClassLine ws other sort) e.is.is is)) e.right)
+
+    pub wrong_input : (i : InputClass) (fault : TextFault) → IsInput (line_at lines at).words i
+        → ((all : List RowLine) → AreMarks (length marks) all marks → IsWrongClass (length marks) all sorts.Word i.class)
+        → IsFaultOfLine lines at BadClass fault → IsFaultBehind lines marks at inputs fault
+    wrong_input i fault is bad f =
+        wrong inputs inputs (input i is.fits is.is) inputs_not_over i.class sorts.Word fault (class_line.input {words = []} is.fits.2 is.is refl) bad f
+
+    pub input_more : (i : InputClass) → IsInputAt lines marks at i → (from : ℕ) (all : List RowLine) → IsBehind lines from all marks at inputs
+        → IsBehind lines from all marks (at + 1) inputs
+    input_more i e from all b =
+        more inputs inputs (input i e.is.fits e.is.is) inputs_not_over from all b
+        (λ other sort is.
+        same_right i.class other sorts.Word sort
+        (input_class i other sort e.is.fits.2 (subst (λ ws. IsClassLine ws other sort) e.is.is is)) e.right)
+
+    pub pool_more : (ns : List ℕ) → IsPool (line_at lines at).words ns → (from : ℕ) (all : List RowLine) → IsBehind lines from all marks at inputs
+        → IsBehind lines from all marks (at + 1) behind_pool
+    pool_more ns e from all b =
+        more inputs behind_pool (pool ns e.low e.is) pool_not_over from all b
+        (λ other sort is. absurd (pool_class ns other sort (subst (λ ws. IsClassLine ws other sort) e.is is)))
+
+    pub wrong_guard_class : (o : Guard) (fault : TextFault) → IsGuard (line_at lines at).words o
+        → ((all : List RowLine) → AreMarks (length marks) all marks → IsWrongClass (length marks) all sorts.Word o.class)
+        → IsFaultOfLine lines at BadClass fault → IsFaultBehind lines marks at behind_pool fault
+    wrong_guard_class o fault is bad f =
+        wrong behind_pool sets (guard o is.small is.is) sets_not_over o.class sorts.Word fault (class_line.guard is.small is.is refl) bad f
+
+    pub guard_more : (o : Guard) → IsGuardAt lines marks at o → (from : ℕ) (all : List RowLine) → IsBehind lines from all marks at behind_pool
+        → IsBehind lines from all marks (at + 1) sets
+    guard_more o e from all b =
+        more behind_pool sets (guard o e.is.small e.is.is) sets_not_over from all b
+        (λ other sort is.
+        same_right o.class other sorts.Word sort
+        (guard_class o other sort e.is.small (subst (λ ws. IsClassLine ws other sort) e.is.is is)) e.right)
+
+    pub wrong_set_class : (s : SetClass) (fault : TextFault) (stage : Stage) → TakesSets lines at stage → IsSet (line_at lines at).words s
+        → ((all : List RowLine) → AreMarks (length marks) all marks → IsWrongClass (length marks) all (set_sort s.name) s.class)
+        → IsFaultOfLine lines at BadClass fault → IsFaultBehind lines marks at stage fault
+    wrong_set_class s fault stage takes is bad f =
+        wrong stage sets (set_step lines at lt stage takes s is) sets_not_over s.class (set_sort s.name) fault
+        (class_line.set {words = []} is.fits.1 is.is refl) bad f
+
+    pub set_more : (s : SetClass) (stage : Stage) → TakesSets lines at stage → IsSetAt lines marks at s → (from : ℕ) (all : List RowLine)
+        → IsBehind lines from all marks at stage → IsBehind lines from all marks (at + 1) sets
+    set_more s stage takes e from all b =
+        more stage sets (set_step lines at lt stage takes s e.is) sets_not_over from all b
+        (λ other sort is.
+        same_right s.class other (set_sort s.name) sort
+        (set_class s other sort e.is.fits.1 (subst (λ ws. IsClassLine ws other sort) e.is.is is)) e.right)
+
+    -- ---- one more line of a kind
+
+    abbrev InputRight : InputClass → Type 0
+    InputRight i = IsRight marks sorts.Word i.class
+
+    pub inputs_more : (first : ℕ) (is : List InputClass) (i : InputClass) → AreInputsAt lines marks first at is → IsInputAt lines marks at i
+        → AreInputsAt lines marks first (at + 1) (is ++ i ∷ [])
+    inputs_more first is i h e =
+        let o : first ≤ at = h.order in
+        record {
+          order = omega arith;
+          within = omega arith;
+          words =
+              between_more lines first at h.order lt
+              ∙ ap (λ (ws : List Words). ws ++ (line_at lines at).words ∷ []) h.words
+              ∙ ap (λ (w : Words). map in_words is ++ w ∷ []) e.is.is ∙ sym (map_push in_words is i);
+          fit = All-push InputFits is i h.fit e.is.fits;
+          right = All-push InputRight is i h.right e.right;
+          behind = λ from all b. input_more i e from all (h.behind from all b);
+        }
+
+    abbrev SetRight : SetClass → Type 0
+    SetRight s = IsRight marks (set_sort s.name) s.class
+
+    pub sets_more : (first : ℕ) (ss : List SetClass) (s : SetClass) → AreSetsAt lines marks first at ss → IsSetAt lines marks at s
+        → AreSetsAt lines marks first (at + 1) (ss ++ s ∷ [])
+    sets_more first ss s h e =
+        let o : first ≤ at = h.order in
+        record {
+          order = omega arith;
+          within = omega arith;
+          words =
+              between_more lines first at h.order lt
+              ∙ ap (λ (ws : List Words). ws ++ (line_at lines at).words ∷ []) h.words
+              ∙ ap (λ (w : Words). map set_words ss ++ w ∷ []) e.is.is ∙ sym (map_push set_words ss s);
+          fit = All-push SetFits ss s h.fit e.is.fits;
+          right = All-push SetRight ss s h.right e.right;
+          behind = λ from all b.
+              (let t = h.behind from all b in
+              record { stage = sets; takes = targets; behind = set_more s t.stage t.takes e from all t.behind });
+        }
+
+pub no_inputs : (lines : List Line) (marks : List Mark) (first : ℕ) → first ≤ length lines → AreInputsAt lines marks first first []
+no_inputs lines marks first le =
+    record {
+      order = omega arith;
+      within = le;
+      words = between_none lines first;
+      fit = All-nil InputFits;
+      right = All-nil (λ (i : InputClass). IsRight marks sorts.Word i.class);
+      behind = λ from all b. b;
+    }
+
+pub no_sets : (lines : List Line) (marks : List Mark) (first : ℕ) → first ≤ length lines → AreSetsAt lines marks first first []
+no_sets lines marks first le =
+    record {
+      order = omega arith;
+      within = le;
+      words = between_none lines first;
+      fit = All-nil SetFits;
+      right = All-nil (λ (s : SetClass). IsRight marks (set_sort s.name) s.class);
+      behind = λ from all b. b;
+    }

@@ -1,0 +1,53 @@
+use Rattle.std.proofs.Common.{◌+◌, ◌-◌, take, drop, sym, subst, ◌∙◌}
+use Rattle.std.proofs.lemmas.Result.{err_from_is_err_and}
+use Rattle.launch_graph.specs.BehindRows.{IsBehind, IsReadBehind}
+use Rattle.launch_graph.specs.ClassMarks.{HasMarks}
+use Rattle.launch_graph.specs.GraphStages.{rows}
+use Rattle.launch_graph.proofs.WholeReading.{block, behind_within, behind_here, graph_here}
+use Rattle.launch_graph.proofs.reading.graph_at.Goals as goal
+
+pub returns-in_err-so_far-clause-fault : goal.returns-in_err-so_far-clause-fault
+returns-in_err-so_far-clause-fault c =
+    let p = err_from_is_err_and c.from_residual-in_err-so_far.result c.from_residual-in_err-so_far.ensures.1 in
+    let lines = c.args.text.now in
+    let from = c.args.from in
+    let count = c.in_ok-count.count in
+    let end = c.block_end-end.result in
+    let m = subst (HasMarks (take (end - (from + 1)) (drop (from + 1) lines)) count) (sym c.deref.ensures.value) c.in_ok-marks.ensures in
+    rw (p.1, p.2) (c.in_err-so_far.ensures.fault from m.rows (block lines from count c.deref.result.now c.in_ok-count.ensures.header end c.block_end-end.ensures m))
+
+pub read_behind-requires : goal.read_behind-requires
+read_behind-requires c =
+    let lines = c.args.text.now in
+    let from = c.args.from in
+    let count = c.in_ok-count.count in
+    let end = c.block_end-end.result in
+    let m = subst (HasMarks (take (end - (from + 1)) (drop (from + 1) lines)) count) (sym c.deref.ensures.value) c.in_ok-marks.ensures in
+    behind_within c.operators_are_listed.ensures.names lines from count c.deref.result.now c.in_ok-count.ensures.header end c.block_end-end.ensures m
+    c.in_ok-so_far.so_far c.in_ok-so_far.ensures.ok
+
+pub returns-in_err-behind-clause-fault : goal.returns-in_err-behind-clause-fault
+returns-in_err-behind-clause-fault c =
+    let p = err_from_is_err_and c.from_residual-in_err-behind.result c.from_residual-in_err-behind.ensures.1 in
+    let lines = c.args.text.now in
+    let from = c.args.from in
+    let count = c.in_ok-count.count in
+    let end = c.block_end-end.result in
+    let m = subst (HasMarks (take (end - (from + 1)) (drop (from + 1) lines)) count) (sym c.deref.ensures.value) c.in_ok-marks.ensures in
+    rw (p.1, p.2)
+    (c.in_err-behind.ensures.fault from m.rows
+    (subst (λ ms. IsBehind lines from m.rows ms (from + 1 + count) (rows 0)) (c.deref.ensures.value ∙ sym c.deref-2.ensures.value)
+    (behind_here c.operators_are_listed.ensures.names lines from count c.deref.result.now c.in_ok-count.ensures.header end c.block_end-end.ensures m
+    c.in_ok-so_far.so_far c.in_ok-so_far.ensures.ok)))
+
+pub returns-clause-graph : goal.returns-clause-graph
+returns-clause-graph c =
+    let lines = c.args.text.now in
+    let from = c.args.from in
+    let count = c.in_ok-count.count in
+    let end = c.block_end-end.result in
+    let m = subst (HasMarks (take (end - (from + 1)) (drop (from + 1) lines)) count) (sym c.deref.ensures.value) c.in_ok-marks.ensures in
+    graph_here c.operators_are_listed.ensures.names lines from count c.deref.result.now c.in_ok-count.ensures.header end c.block_end-end.ensures m
+    c.in_ok-so_far.so_far c.in_ok-so_far.ensures.ok c.in_ok-behind.behind c.in_ok-behind.next
+    (subst (λ ms. IsReadBehind lines ms (from + 1 + count) c.in_ok-behind.next c.in_ok-behind.behind) (c.deref-2.ensures.value ∙ sym c.deref.ensures.value)
+    c.in_ok-behind.ensures.ok)

@@ -1,0 +1,166 @@
+// The lines of a graph that are no rows, each by itself.
+ghost use Rattle.std.specs.Prelude.{◌≡◌, ◌≢◌, ◌<◌, ◌^◌, [], length, codes, IfOk, MatchOption, IsTrue, ◌↔◌};
+ghost use Rattle.text_core.specs.Lines.{line_at, line_word};
+ghost use Rattle.launch_graph.specs.GraphLines.{held_word};
+ghost use Rattle.launch_graph.specs.LineReading.{IsHeader, IsEntry, IsInput, IsPool, IsGuard, IsSet, IsNone};
+
+use crate::graphs::{Guard, InputClass, SetClass};
+use crate::row_reading::{below, same};
+use items::{Items, NoMemory};
+use std::alloc::Global;
+use text_core::{Name, TextLines, is_name};
+
+/// The most rows that a text of a graph may have.
+const MOST_ROWS: u32 = 1_000_000;
+
+/// Whether a line begins with this word.
+pub(crate) fn begins_with(text: &TextLines<'_>, line: u32, first: &[u8]) -> bool
+    requires { line < length text.now }
+    ensures { IsTrue result ↔ (line_word text.now line 0 ≡ first.now) }
+{
+    text.words(line) > 0 && same(text.word(line, 0), first)
+}
+
+/// Whether a line has so many words, and this one first.
+fn has_form(text: &TextLines<'_>, line: u32, first: &[u8], count: u32) -> bool
+    requires { line < length text.now }
+    ensures { IsTrue result
+        ↔ ((length (line_at text.now line).words ≡ count) × (line_word text.now line 0 ≡ first.now)) }
+{
+    text.words(line) == count && begins_with(text, line, first)
+}
+
+/// The number of rows that a header tells.
+pub(crate) fn header_line(text: &TextLines<'_>, line: u32) -> Option<u32>
+    requires { line < length text.now }
+    ensures { MatchOption result (IsNone IsHeader (line_at text.now line).words)
+        (IsHeader (line_at text.now line).words) }
+{
+    if !has_form(text, line, b"rows", 2) {
+        return None;
+    }
+    below(text.word(line, 1), MOST_ROWS + 1)
+}
+
+/// The class of the memory at entry.
+pub(crate) fn entry_line(text: &TextLines<'_>, line: u32) -> Option<u32>
+    requires { line < length text.now }
+    ensures { MatchOption result (IsNone IsEntry (line_at text.now line).words)
+        (IsEntry (line_at text.now line).words) }
+{
+    if !has_form(text, line, b"entry", 2) {
+        return None;
+    }
+    below(text.word(line, 1), 1 << 31)
+}
+
+/// The input of a line.
+pub(crate) fn input_line(
+    alloc: Global,
+    text: &TextLines<'_>,
+    line: u32,
+) -> Result<Option<InputClass>, NoMemory>
+    requires { line < length text.now }
+    ensures { IfOk result (λ found. MatchOption found (IsNone IsInput (line_at text.now line).words)
+        (IsInput (line_at text.now line).words)) }
+{
+    if !has_form(text, line, b"in", 4) {
+        return Ok(None);
+    }
+    let name = text.word(line, 1);
+    if !is_name(name) {
+        return Ok(None);
+    }
+    let Some(register) = below(text.word(line, 2), 31) else {
+        return Ok(None);
+    };
+    let Some(class) = below(text.word(line, 3), 1 << 31) else {
+        return Ok(None);
+    };
+    Ok(Some(InputClass {
+        name: Name::new(alloc, name)?,
+        reg: register as u8,
+        class,
+    }))
+}
+
+/// The registers of the pool.
+pub(crate) fn pool_line(
+    alloc: Global,
+    text: &TextLines<'_>,
+    line: u32,
+) -> Result<Option<Items<u8>>, NoMemory>
+    requires { line < length text.now }
+    ensures { IfOk result (λ found. MatchOption found (IsNone IsPool (line_at text.now line).words)
+        (IsPool (line_at text.now line).words)) }
+{
+    if !begins_with(text, line, b"pool") {
+        return Ok(None);
+    }
+    let mut pool = Items::new(alloc);
+    for at in 1..text.words(line) {
+        match below(text.word(line, at), 31) {
+            Some(register) => pool.push(register as u8)?,
+            None => return Ok(None),
+        }
+    }
+    Ok(Some(pool))
+}
+
+/// Whether loads wait for the branch, by the last word of a guard's line.
+fn is_held(word: &[u8]) -> Option<bool>
+    ensures { MatchOption result ((word.now ≢ codes "held") × (word.now ≢ codes "free"))
+        (λ held. word.now ≡ held_word held) }
+{
+    if same(word, b"held") {
+        Some(true)
+    } else if same(word, b"free") {
+        Some(false)
+    } else {
+        None
+    }
+}
+
+/// The guard of a line.
+pub(crate) fn guard_line(text: &TextLines<'_>, line: u32) -> Option<Guard>
+    requires { line < length text.now }
+    ensures { MatchOption result (IsNone IsGuard (line_at text.now line).words)
+        (IsGuard (line_at text.now line).words) }
+{
+    if !has_form(text, line, b"guard", 3) {
+        return None;
+    }
+    let Some(class) = below(text.word(line, 1), 1 << 31) else {
+        return None;
+    };
+    let Some(held) = is_held(text.word(line, 2)) else {
+        return None;
+    };
+    Some(Guard { class, held })
+}
+
+/// The target of a line.
+pub(crate) fn set_line(
+    alloc: Global,
+    text: &TextLines<'_>,
+    line: u32,
+) -> Result<Option<SetClass>, NoMemory>
+    requires { line < length text.now }
+    ensures { IfOk result (λ found. MatchOption found (IsNone IsSet (line_at text.now line).words)
+        (IsSet (line_at text.now line).words)) }
+{
+    if !has_form(text, line, b"set", 3) {
+        return Ok(None);
+    }
+    let name = text.word(line, 1);
+    if !is_name(name) {
+        return Ok(None);
+    }
+    let Some(class) = below(text.word(line, 2), 1 << 31) else {
+        return Ok(None);
+    };
+    Ok(Some(SetClass {
+        name: Name::new(alloc, name)?,
+        class,
+    }))
+}
