@@ -38,7 +38,7 @@ numbered_by : (k : ℕ) (meaning : List ℕ → ℕ → Named) (n : List ℕ) (n
 numbered_by k meaning n names bytes true e later = ap (λ m. Some (meaning m k)) ((bytes_eq-Decides n bytes).0 e)
 numbered_by k meaning n names bytes false e later = later
 
-numbered : (k : ℕ) (meaning : List ℕ → ℕ → Named) (names : List (List ℕ)) (bytes : List ℕ) → leaf_named (numbered_leaves k meaning names) bytes ≡ option_map (meaning bytes) (rank_from k names bytes)
+pub numbered : (k : ℕ) (meaning : List ℕ → ℕ → Named) (names : List (List ℕ)) (bytes : List ℕ) → leaf_named (numbered_leaves k meaning names) bytes ≡ option_map (meaning bytes) (rank_from k names bytes)
 numbered k meaning [] bytes = refl
 numbered k meaning (n ∷ names) bytes = numbered_by k meaning n names bytes (bytes_eq n bytes) refl (numbered (k + 1) meaning names bytes)
 
@@ -62,7 +62,7 @@ no_input : (b : Bool) (n r : ℕ) → Input r ≡ (if b then Variable n else Lac
 no_input true n r e = cc
 no_input false n r e = cc
 
-same_number : (m n : ℕ) → Variable m ≡ Variable n → m ≡ n
+pub same_number : (m n : ℕ) → Variable m ≡ Variable n → m ≡ n
 same_number m n e = cc
 
 module _ (declared : List DeclaredOp) (names : List (List ℕ)) (left : Form) where
@@ -72,13 +72,13 @@ module _ (declared : List DeclaredOp) (names : List (List ℕ)) (left : Form) wh
   abbrev on_right : Scope
   on_right = mentioned_scope declared names left
 
-  left_told : (bytes : List ℕ) (x : Named) → leaf_named on_left.leaves bytes ≡ Some x → (n : ℕ) × (rank_from 0 names bytes ≡ Some n) × (x ≡ Variable n)
+  pub left_told : (bytes : List ℕ) (x : Named) → leaf_named on_left.leaves bytes ≡ Some x → (n : ℕ) × (rank_from 0 names bytes ≡ Some n) × (x ≡ Variable n)
   left_told bytes x e = left_number (rank_from 0 names bytes) x (sym (numbered 0 (λ name n. Variable n) names bytes) ∙ e)
 
   right_told : (bytes : List ℕ) (x : Named) → leaf_named on_right.leaves bytes ≡ Some x → (n : ℕ) × (rank_from 0 names bytes ≡ Some n) × (x ≡ meaning_right left bytes n)
   right_told bytes x e = right_number left bytes (rank_from 0 names bytes) x (sym (numbered 0 (meaning_right left) names bytes) ∙ e)
 
-  left_known : (bytes : List ℕ) (n : ℕ) → rank_from 0 names bytes ≡ Some n → leaf_named on_left.leaves bytes ≡ Some (Variable n)
+  pub left_known : (bytes : List ℕ) (n : ℕ) → rank_from 0 names bytes ≡ Some n → leaf_named on_left.leaves bytes ≡ Some (Variable n)
   left_known bytes n e = numbered 0 (λ name m. Variable m) names bytes ∙ ap (option_map (λ m. Variable m)) e
 
   mutual
@@ -116,7 +116,7 @@ module _ (declared : List DeclaredOp) (names : List (List ℕ)) (left : Form) wh
     mentioned_in (operand one others) n (inl o) = mentioned one n o
     mentioned_in (operand one others) n (inr o) = mentioned_in others n o
 
-  either : (a b : Bool) → a || b ≡ true → (a ≡ true) ⊎ (b ≡ true)
+  pub either : (a b : Bool) → a || b ≡ true → (a ≡ true) ⊎ (b ≡ true)
   either true b e = inl refl
   either false b e = inr e
 

@@ -1,5 +1,5 @@
 -- The items of a goal that were read make the goal.
-use Rattle.std.proofs.Common.{◌≡◌, ◌≢◌, ℕ, ◌<◌, ◌++◌, if◌then◌else◌, ◌||◌, All, Bool, true, false, Option, None, Some, List, [], ◌∷◌, map, option_map, length, refl, sym, ap, ◌∙◌, subst, arith, codes}
+use Rattle.std.proofs.Common.{◌≡◌, ◌≢◌, ℕ, ◌<◌, ◌++◌, if◌then◌else◌, ◌||◌, All, Ok, Err, Result, IfOk, Bool, true, false, Option, None, Some, List, [], ◌∷◌, map, option_map, length, refl, sym, ap, ◌∙◌, subst, arith, codes}
 use Rattle.std.specs.Prelude.{AllPairs}
 use Rattle.std.specs.List.{list_any}
 use Rattle.std.proofs.lemmas.List.{length-map, append-nil}
@@ -117,3 +117,8 @@ module _ (declared : List DeclaredOp) (form : Form) (g : Goal) (d : Draft) (draf
             (subst (λ xs. Each (IsTargeted (goal_scope declared g.inputs)) (r 4) xs) (sym sets) (subst (λ (s : Scope). Each (IsTargeted s) (r 4) d.sets) scope_is w.targets));
         rules = rules_kept;
       }
+
+-- two things that hold of an answer
+pub both_ok : {X E : Type 0} (P Q : X → Type 0) (r : Result X E) → IfOk r P → IfOk r Q → IfOk r (λ x. P x × Q x)
+both_ok P Q (Ok x) p q = (p, q)
+both_ok P Q (Err e) p q = tt

@@ -38,7 +38,7 @@ got_more (y ∷ ys) (suc i) x g =
 pub rest_two : {X : Type 0} (xs : List X) → take (length xs - 2) (drop 2 xs) ≡ drop 2 xs
 rest_two xs = take_all (length xs - 2) (drop 2 xs) (let l = length-drop 2 xs in omega (arith, l))
 
-got_dropped : {X : Type 0} (xs : List X) (at : ℕ) → slice_get (drop 2 xs) at ≡ slice_get xs (suc (suc at))
+pub got_dropped : {X : Type 0} (xs : List X) (at : ℕ) → slice_get (drop 2 xs) at ≡ slice_get xs (suc (suc at))
 got_dropped [] at = refl
 got_dropped (x ∷ []) at = refl
 got_dropped (x ∷ y ∷ xs) at = refl
@@ -68,7 +68,7 @@ same_rank at k form before b e t =
     ∙ ap (λ o. of_rank goal_keywords k before ++ (if option_map_or (λ r. r == k) o false then form ∷ [] else [])) e
     ∙ ap (λ x. of_rank goal_keywords k before ++ (if x then form ∷ [] else [])) t
 
-nothing_more : {X : Type 0} (xs : List X) → xs ++ [] ≡ xs
+pub nothing_more : {X : Type 0} (xs : List X) → xs ++ [] ≡ xs
 nothing_more [] = refl
 nothing_more (x ∷ xs) = ap (λ ys. x ∷ ys) (nothing_more xs)
 
@@ -84,16 +84,16 @@ pub mapped_more : {X Y : Type 0} (f : X → Y) (xs : List X) (x : X) → map f (
 mapped_more f [] x = refl
 mapped_more f (y ∷ ys) x = ap (λ zs. f y ∷ zs) (mapped_more f ys x)
 
-other_inputs : (at : ℕ) (form : Form) (before : List Form) → rank goal_keywords form ≡ Some at → (at == 0) ≡ false → inputs_in (before ++ form ∷ []) ≡ inputs_in before
+pub other_inputs : (at : ℕ) (form : Form) (before : List Form) → rank goal_keywords form ≡ Some at → (at == 0) ≡ false → inputs_in (before ++ form ∷ []) ≡ inputs_in before
 other_inputs at form before e t = ap (filter_map input_in) (same_rank at 0 form before false e t ∙ nothing_more (of_rank goal_keywords 0 before))
 
-other_targets : (at : ℕ) (form : Form) (before : List Form) → rank goal_keywords form ≡ Some at → (at == 4) ≡ false → names_given (of_rank goal_keywords 4 (before ++ form ∷ [])) ≡ names_given (of_rank goal_keywords 4 before)
+pub other_targets : (at : ℕ) (form : Form) (before : List Form) → rank goal_keywords form ≡ Some at → (at == 4) ≡ false → names_given (of_rank goal_keywords 4 (before ++ form ∷ [])) ≡ names_given (of_rank goal_keywords 4 before)
 other_targets at form before e t = ap names_given (same_rank at 4 form before false e t ∙ nothing_more (of_rank goal_keywords 4 before))
 
-one_input : (form : Form) (before : List Form) (i : InputReg) → rank goal_keywords form ≡ Some 0 → input_in form ≡ Some i → inputs_in (before ++ form ∷ []) ≡ inputs_in before ++ i ∷ []
+pub one_input : (form : Form) (before : List Form) (i : InputReg) → rank goal_keywords form ≡ Some 0 → input_in form ≡ Some i → inputs_in (before ++ form ∷ []) ≡ inputs_in before ++ i ∷ []
 one_input form before i e is = ap (filter_map input_in) (same_rank 0 0 form before true e refl) ∙ map_more input_in (of_rank goal_keywords 0 before) form i is
 
-one_target : (form : Form) (before : List Form) (name : List ℕ) → rank goal_keywords form ≡ Some 4 → second_name form ≡ Some name → names_given (of_rank goal_keywords 4 (before ++ form ∷ [])) ≡ names_given (of_rank goal_keywords 4 before) ++ name ∷ []
+pub one_target : (form : Form) (before : List Form) (name : List ℕ) → rank goal_keywords form ≡ Some 4 → second_name form ≡ Some name → names_given (of_rank goal_keywords 4 (before ++ form ∷ [])) ≡ names_given (of_rank goal_keywords 4 before) ++ name ∷ []
 one_target form before name e is = ap names_given (same_rank 4 4 form before true e refl) ∙ map_more second_name (of_rank goal_keywords 4 before) form name is
 
 module _ (declared : List DeclaredOp) (before : List Form) (form : Form) (d : Draft) (h : IsDraft declared before d) where

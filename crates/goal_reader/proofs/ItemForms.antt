@@ -41,7 +41,7 @@ rank_step n at k ks w false e later h =
     let low = rest.0 in
     (omega (arith, low), ap (λ m. get_or (k ∷ ks) m []) (let f : at - n ≡ suc (at - (n + 1)) = omega (arith, low) in f) ∙ rest.1)
 
-rank_from_is : (n at : ℕ) (ks : List (List ℕ)) (w : List ℕ) → rank_from n ks w ≡ Some at → (n ≤ at) × (get_or ks (at - n) [] ≡ w)
+pub rank_from_is : (n at : ℕ) (ks : List (List ℕ)) (w : List ℕ) → rank_from n ks w ≡ Some at → (n ≤ at) × (get_or ks (at - n) [] ≡ w)
 rank_from_is n at [] w h = cc
 rank_from_is n at (k ∷ ks) w h = rank_step n at k ks w (bytes_eq k w) refl (rank_from_is (n + 1) at ks w) h
 

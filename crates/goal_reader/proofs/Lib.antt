@@ -27,3 +27,17 @@ mod AxiomForms
 mod TextForms
 mod TextSteps
 mod TextEnd
+mod Grouped
+mod ReadParts
+mod Walks
+mod GoalClear
+mod AxiomClear
+mod TextRead
+mod Printed
+mod Moved
+mod PrintedNames
+mod PrintedForms
+mod PrintedTexts
+mod FormsPrint
+mod Fitting
+mod InputPrints

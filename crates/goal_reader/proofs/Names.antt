@@ -90,7 +90,7 @@ pub not_true : (b : Bool) → (b ≡ true → ⊥) → b ≡ false
 not_true true n = absurd (n refl)
 not_true false n = refl
 
-decides_false : (xs ys : List ℕ) → xs ≢ ys → bytes_eq xs ys ≡ false
+pub decides_false : (xs ys : List ℕ) → xs ≢ ys → bytes_eq xs ys ≡ false
 decides_false xs ys h = not_true (bytes_eq xs ys) (λ e. h ((bytes_eq-Decides xs ys).0 e))
 
 find_none : (name : List ℕ) (ops : List WordOp) → ((op : WordOp) → name_of op ≢ name) → find (λ op. bytes_eq (name_of op) name) ops ≡ None

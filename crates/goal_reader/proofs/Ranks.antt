@@ -42,7 +42,7 @@ or_together : (a b c : Bool) → a || (b || c) ≡ (a || b) || c
 or_together true b c = refl
 or_together false b c = refl
 
-of_rank_by : (f : Form) (b : Bool) (xs ys zs : List Form) → xs ≡ ys ++ zs → (if b then f ∷ xs else xs) ≡ (if b then f ∷ ys else ys) ++ zs
+pub of_rank_by : (f : Form) (b : Bool) (xs ys zs : List Form) → xs ≡ ys ++ zs → (if b then f ∷ xs else xs) ≡ (if b then f ∷ ys else ys) ++ zs
 of_rank_by f true xs ys zs e = ap (λ w. f ∷ w) e
 of_rank_by f false xs ys zs e = e
 
@@ -80,7 +80,7 @@ module _ (keywords : List (List ℕ)) where
   later_more at [] form = or_same (is_later_than keywords at form)
   later_more at (f ∷ fs) form = ap (λ b. is_later_than keywords at f || b) (later_more at fs form) ∙ or_together (is_later_than keywords at f) _ _
 
-  is_itself : (at : ℕ) (form : Form) → rank keywords form ≡ Some at → (is_later_than keywords at form ≡ false) × (length (of_rank keywords at (form ∷ [])) ≡ 1)
+  pub is_itself : (at : ℕ) (form : Form) → rank keywords form ≡ Some at → (is_later_than keywords at form ≡ false) × (length (of_rank keywords at (form ∷ [])) ≡ 1)
   is_itself at form e =
       let not_less : nat_lt at at ≡ false = grind (arith, nat_tests) in
       let equal : (at == at) ≡ true = grind (arith, nat_tests) in

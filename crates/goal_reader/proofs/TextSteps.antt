@@ -87,17 +87,17 @@ declaration_writes declared form o e is clear =
     }
 
 -- ---- what a form adds to what the forms before give
-same_rank : (at k : ℕ) (form : Form) (before : List Form) (b : Bool) → rank text_keywords form ≡ Some at → (at == k) ≡ b
+pub same_rank : (at k : ℕ) (form : Form) (before : List Form) (b : Bool) → rank text_keywords form ≡ Some at → (at == k) ≡ b
     → of_rank text_keywords k (before ++ form ∷ []) ≡ of_rank text_keywords k before ++ (if b then form ∷ [] else [])
 same_rank at k form before b e t =
     of_rank_more text_keywords k before form
     ∙ ap (λ o. of_rank text_keywords k before ++ (if option_map_or (λ r. r == k) o false then form ∷ [] else [])) e
     ∙ ap (λ x. of_rank text_keywords k before ++ (if x then form ∷ [] else [])) t
 
-other_declared : (at : ℕ) (form : Form) (before : List Form) → rank text_keywords form ≡ Some at → (at == 1) ≡ false → declared_in (before ++ form ∷ []) ≡ declared_in before
+pub other_declared : (at : ℕ) (form : Form) (before : List Form) → rank text_keywords form ≡ Some at → (at == 1) ≡ false → declared_in (before ++ form ∷ []) ≡ declared_in before
 other_declared at form before e t = ap (filter_map declaration_in) (same_rank at 1 form before false e t ∙ nothing_more (of_rank text_keywords 1 before))
 
-other_goals : (at : ℕ) (form : Form) (before : List Form) → rank text_keywords form ≡ Some at → (at == 3) ≡ false → names_given (of_rank text_keywords 3 (before ++ form ∷ [])) ≡ names_given (of_rank text_keywords 3 before)
+pub other_goals : (at : ℕ) (form : Form) (before : List Form) → rank text_keywords form ≡ Some at → (at == 3) ≡ false → names_given (of_rank text_keywords 3 (before ++ form ∷ [])) ≡ names_given (of_rank text_keywords 3 before)
 other_goals at form before e t = ap names_given (same_rank at 3 form before false e t ∙ nothing_more (of_rank text_keywords 3 before))
 
 goal_named : (declared : List DeclaredOp) (form : Form) (g : Goal) → IsGoalOf declared form g → second_name form ≡ Some g.name

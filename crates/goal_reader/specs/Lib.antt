@@ -8,3 +8,7 @@ pub mod Drafts
 pub mod Views
 pub mod TextFaults
 pub mod TextDrafts
+pub mod Printing
+pub mod Holds
+pub mod Outcomes
+pub mod InputNames

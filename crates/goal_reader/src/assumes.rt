@@ -33,9 +33,11 @@ pub fn assume(alloc: Global, form: &Sexp, text: &[u8], scope: &Scope) -> Result<
     requires few { length scope.now.declared ≤ 16 }
     requires keyword { is_of_rank goal_keywords 2 (sexp_form text.now form.now) ≡ true }
     ensures left { IfOk result (λ a. WritesPart scope.now None (sexp_form text.now form.now) 1 (tree_of a.left)) }
-    ensures right { IfOk result (λ a. WritesPart scope.now (Some (tree_sort (tree_of a.left))) (sexp_form text.now form.now) 2 (tree_of a.right)) }
+    ensures right { IfOk result (λ a. WritesPart scope.now (Some (tree_sort (tree_of a.left)))
+        (sexp_form text.now form.now) 2 (tree_of a.right)) }
     ensures clear { IfOk result (λ _. IsClear (roles.a_list (roles.assume scope.now)) (sexp_form text.now form.now)) }
-    ensures fault { IfErr result (IsFaultBy (IsFirst (IsFaultAs (roles.a_list (roles.assume scope.now)) (sexp_form text.now form.now)))) }
+    ensures fault { IfErr result (IsFaultBy (IsFirst (IsFaultAs (roles.a_list (roles.assume scope.now))
+        (sexp_form text.now form.now)))) }
 {
     sexps_are_forms();
     let Some(parts) = parts(form) else {
@@ -75,7 +77,8 @@ fn target_name<'a>(form: &Sexp, text: &'a [u8], targets: &[Set]) -> Result<&'a [
     requires of { IsOf text.now form.now }
     ensures named { IfOk result (λ bytes. name_in (sexp_form text.now form.now) ≡ Some bytes.now) }
     ensures fresh { IfOk result (λ bytes. is_among (names_of_targets targets.now) bytes.now ≡ false) }
-    ensures fault { IfErr result (IsFaultBy (IsFirst (IsFaultAs (roles.fresh_name (names_of_targets targets.now)) (sexp_form text.now form.now)))) }
+    ensures fault { IfErr result (IsFaultBy (IsFirst (IsFaultAs (roles.fresh_name (names_of_targets targets.now))
+        (sexp_form text.now form.now)))) }
 {
     sexps_are_forms();
     let Some(bytes) = name(form, text) else {
@@ -108,9 +111,12 @@ pub fn target(
     requires few { length scope.now.declared ≤ 16 }
     requires keyword { is_of_rank goal_keywords 4 (sexp_form text.now form.now) ≡ true }
     ensures named { IfOk result (λ t. second_name (sexp_form text.now form.now) ≡ Some t.name) }
-    ensures value { IfOk result (λ t. WritesPart scope.now (Some (sort_of_target t.name)) (sexp_form text.now form.now) 2 (tree_of t.value)) }
-    ensures clear { IfOk result (λ _. IsClear (roles.a_list (roles.set scope.now (names_of_targets targets.now))) (sexp_form text.now form.now)) }
-    ensures fault { IfErr result (IsFaultBy (IsFirst (IsFaultAs (roles.a_list (roles.set scope.now (names_of_targets targets.now))) (sexp_form text.now form.now)))) }
+    ensures value { IfOk result (λ t. WritesPart scope.now (Some (sort_of_target t.name))
+        (sexp_form text.now form.now) 2 (tree_of t.value)) }
+    ensures clear { IfOk result (λ _. IsClear (roles.a_list (roles.set scope.now (names_of_targets targets.now)))
+        (sexp_form text.now form.now)) }
+    ensures fault { IfErr result (IsFaultBy (IsFirst (IsFaultAs (roles.a_list (roles.set scope.now
+        (names_of_targets targets.now))) (sexp_form text.now form.now)))) }
 {
     sexps_are_forms();
     let Some(parts) = parts(form) else {

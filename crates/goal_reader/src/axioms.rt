@@ -1,14 +1,15 @@
 // Reading axioms.
-ghost use Rattle.std.specs.Prelude.{◌≡◌, ◌≤◌, length, List, IfOk, IfErr, Some, true};
+ghost use Rattle.std.specs.Prelude.{◌≡◌, ◌≤◌, ℕ, length, List, IfOk, IfErr, Some, true};
 ghost use Rattle.word_ops.specs.declared.sorts.Sort.TheVariants as sorts;
 ghost use Rattle.word_terms.specs.View.{tree_of};
-ghost use Rattle.text_core.specs.Faults.{IsFirst, IsFaultBy};
+ghost use Rattle.text_core.specs.Faults.{GivesUnlessMemory, IsFaultBy, IsFirst, RefusesUnlessMemory};
+ghost use Rattle.text_core.specs.declared.faults.Kind.{Kind as FaultKind};
 ghost use Rattle.forms.specs.Forms.{sexp_form, is_list};
 ghost use Rattle.forms.specs.Reading.{IsOf};
 ghost use Rattle.goal_reader.specs.Roles as roles;
 ghost use Rattle.goal_reader.specs.Roles.{IsFaultAs, WritesTerm, rank, text_keywords};
 ghost use Rattle.goal_reader.specs.Grammar.{WritesAxiom};
-ghost use Rattle.goal_reader.specs.Views.{axiom_view};
+ghost use Rattle.goal_reader.specs.Views.{AxiomTree, axiom_view};
 ghost use Rattle.goal_reader.specs.Reading.{IsClear};
 
 use crate::goals::Axiom;
@@ -34,7 +35,8 @@ pub fn left_side(
     ensures term { IfOk result (λ t. WritesTerm scope.now (Some sorts.Word) (sexp_form text.now form.now) (tree_of t)) }
     ensures application { IfOk result (λ _. is_list (sexp_form text.now form.now) ≡ true) }
     ensures clear { IfOk result (λ _. IsClear (roles.left_side scope.now) (sexp_form text.now form.now)) }
-    ensures fault { IfErr result (IsFaultBy (IsFirst (IsFaultAs (roles.left_side scope.now) (sexp_form text.now form.now)))) }
+    ensures fault { IfErr result (IsFaultBy (IsFirst (IsFaultAs (roles.left_side scope.now)
+        (sexp_form text.now form.now)))) }
 {
     let left = match term(alloc, form, text, scope, Some(Sort::Word)) {
         Ok(left) => left,
@@ -46,8 +48,7 @@ pub fn left_side(
     Ok(left)
 }
 
-/// Reads `( axiom ( NAME {NAME} ) term term )`. The declared operators are given back.
-pub fn axiom(
+fn read_axiom(
     alloc: Global,
     form: &Sexp,
     text: &[u8],
@@ -59,7 +60,8 @@ pub fn axiom(
     ensures axiom { IfOk result (λ read. WritesAxiom declared (sexp_form text.now form.now) (axiom_view read.0)) }
     ensures declared { IfOk result (λ read. read.1 ≡ declared) }
     ensures clear { IfOk result (λ _. IsClear (roles.a_list (roles.equation declared)) (sexp_form text.now form.now)) }
-    ensures fault { IfErr result (IsFaultBy (IsFirst (IsFaultAs (roles.a_list (roles.equation declared)) (sexp_form text.now form.now)))) }
+    ensures fault { IfErr result (IsFaultBy (IsFirst (IsFaultAs (roles.a_list (roles.equation declared))
+        (sexp_form text.now form.now)))) }
 {
     sexps_are_forms();
     let Some(parts) = parts(form) else {
@@ -94,4 +96,32 @@ pub fn axiom(
         right,
     };
     Ok((axiom, declared))
+}
+
+/// Reads `( axiom ( NAME {NAME} ) term term )`. The declared operators are given back.
+pub fn axiom(
+    alloc: Global,
+    form: &Sexp,
+    text: &[u8],
+    declared: Items<DeclaredOp>,
+) -> Result<(Axiom, Items<DeclaredOp>), TextFault>
+    requires of { IsOf text.now form.now }
+    requires few { length declared ≤ 16 }
+    requires keyword { rank text_keywords (sexp_form text.now form.now) ≡ Some 2 }
+
+    // What is read is in the grammar, and what is in it is read.
+    ensures axiom { IfOk result (λ read. WritesAxiom declared (sexp_form text.now form.now) (axiom_view read.0)) }
+    ensures read { (a : AxiomTree) → WritesAxiom declared (sexp_form text.now form.now) a
+        → GivesUnlessMemory (λ read. axiom_view read.0 ≡ a) result }
+    ensures declared { IfOk result (λ read. read.1 ≡ declared) }
+
+    // A fault is the first one, and where there is one it is answered.
+    ensures clear { IfOk result (λ _. IsClear (roles.a_list (roles.equation declared)) (sexp_form text.now form.now)) }
+    ensures fault { IfErr result (IsFaultBy (IsFirst
+        (IsFaultAs (roles.a_list (roles.equation declared)) (sexp_form text.now form.now)))) }
+    ensures refused { (place : ℕ) (kind : FaultKind)
+        → IsFirst (IsFaultAs (roles.a_list (roles.equation declared)) (sexp_form text.now form.now)) place kind
+        → RefusesUnlessMemory place kind result }
+{
+    read_axiom(alloc, form, text, declared)
 }

@@ -21,8 +21,10 @@ fn operator_name<'a>(
     declared: &[DeclaredOp],
 ) -> Result<&'a [u8], TextFault>
     requires of { IsOf text.now form.now }
-    ensures ok { IfOk result (λ bytes. IsOwnName (names_of_declared declared.now) (sexp_form text.now form.now) bytes.now) }
-    ensures fault { IfErr result (IsFaultBy (IsFirst (IsFaultAs (roles.own_name (names_of_declared declared.now)) (sexp_form text.now form.now)))) }
+    ensures ok { IfOk result (λ bytes. IsOwnName (names_of_declared declared.now)
+        (sexp_form text.now form.now) bytes.now) }
+    ensures fault { IfErr result (IsFaultBy (IsFirst (IsFaultAs (roles.own_name (names_of_declared declared.now))
+        (sexp_form text.now form.now)))) }
 {
     sexps_are_forms();
     let Some(bytes) = name(form, text) else {
@@ -83,8 +85,10 @@ pub fn declaration(
 ) -> Result<DeclaredOp, TextFault>
     requires of { IsOf text.now form.now }
     ensures declaration { IfOk result (λ d. declaration_in (sexp_form text.now form.now) ≡ Some d) }
-    ensures clear { IfOk result (λ _. IsClear (roles.a_list (roles.declaration declared.now)) (sexp_form text.now form.now)) }
-    ensures fault { IfErr result (IsFaultBy (IsFirst (IsFaultAs (roles.a_list (roles.declaration declared.now)) (sexp_form text.now form.now)))) }
+    ensures clear { IfOk result (λ _. IsClear (roles.a_list (roles.declaration declared.now))
+        (sexp_form text.now form.now)) }
+    ensures fault { IfErr result (IsFaultBy (IsFirst (IsFaultAs (roles.a_list (roles.declaration declared.now))
+        (sexp_form text.now form.now)))) }
 {
     sexps_are_forms();
     let Some(parts) = parts(form) else {

@@ -22,9 +22,11 @@ pub fn guard(alloc: Global, form: &Sexp, text: &[u8], scope: &Scope) -> Result<T
     requires of { IsOf text.now form.now }
     requires few { length scope.now.declared ≤ 16 }
     requires keyword { is_of_rank goal_keywords 3 (sexp_form text.now form.now) ≡ true }
-    ensures term { IfOk result (λ t. WritesPart scope.now (Some sorts.Word) (sexp_form text.now form.now) 1 (tree_of t)) }
+    ensures term { IfOk result (λ t. WritesPart scope.now (Some sorts.Word) (sexp_form text.now form.now) 1
+        (tree_of t)) }
     ensures clear { IfOk result (λ _. IsClear (roles.a_list (roles.guard scope.now)) (sexp_form text.now form.now)) }
-    ensures fault { IfErr result (IsFaultBy (IsFirst (IsFaultAs (roles.a_list (roles.guard scope.now)) (sexp_form text.now form.now)))) }
+    ensures fault { IfErr result (IsFaultBy (IsFirst (IsFaultAs (roles.a_list (roles.guard scope.now))
+        (sexp_form text.now form.now)))) }
 {
     sexps_are_forms();
     let Some(parts) = parts(form) else {

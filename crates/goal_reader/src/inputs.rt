@@ -78,7 +78,8 @@ pub fn is_reserved(name: &[u8]) -> bool
 }
 
 fn is_used(name: &[u8], declared: &[DeclaredOp], inputs: &[InputReg]) -> bool
-    ensures { result ≡ (roles.is_reserved name.now || is_among (names_of_declared declared.now ++ names_of_inputs inputs.now) name.now) }
+    ensures { result ≡ (roles.is_reserved name.now || is_among (names_of_declared declared.now
+        ++ names_of_inputs inputs.now) name.now) }
 {
     let reserved = is_reserved(name);
     let declared = is_declared(declared, name);
@@ -94,8 +95,10 @@ pub fn own_name<'a>(
     inputs: &[InputReg],
 ) -> Result<&'a [u8], TextFault>
     requires of { IsOf text.now form.now }
-    ensures ok { IfOk result (λ bytes. IsOwnName (names_of_declared declared.now ++ names_of_inputs inputs.now) (sexp_form text.now form.now) bytes.now) }
-    ensures fault { IfErr result (IsFaultBy (IsFirst (IsFaultAs (roles.own_name (names_of_declared declared.now ++ names_of_inputs inputs.now)) (sexp_form text.now form.now)))) }
+    ensures ok { IfOk result (λ bytes. IsOwnName (names_of_declared declared.now ++ names_of_inputs inputs.now)
+        (sexp_form text.now form.now) bytes.now) }
+    ensures fault { IfErr result (IsFaultBy (IsFirst (IsFaultAs (roles.own_name (names_of_declared declared.now
+        ++ names_of_inputs inputs.now)) (sexp_form text.now form.now)))) }
 {
     sexps_are_forms();
     let Some(bytes) = name(form, text) else {
@@ -112,7 +115,8 @@ pub fn fresh_register(form: &Sexp, text: &[u8], inputs: &[InputReg]) -> Result<u
     requires of { IsOf text.now form.now }
     ensures register { IfOk result (λ r. register_of (sexp_form text.now form.now) ≡ Some r) }
     ensures fresh { IfOk result (λ r. has_register (registers_of inputs.now) r ≡ false) }
-    ensures fault { IfErr result (IsFaultBy (IsFirst (IsFaultAs (roles.fresh_register (registers_of inputs.now)) (sexp_form text.now form.now)))) }
+    ensures fault { IfErr result (IsFaultBy (IsFirst (IsFaultAs (roles.fresh_register (registers_of inputs.now))
+        (sexp_form text.now form.now)))) }
 {
     sexps_are_forms();
     let Some(bytes) = register(form, text) else {
@@ -138,8 +142,10 @@ pub fn input(
     requires of { IsOf text.now form.now }
     requires keyword { is_of_rank goal_keywords 0 (sexp_form text.now form.now) ≡ true }
     ensures input { IfOk result (λ input. input_in (sexp_form text.now form.now) ≡ Some input) }
-    ensures clear { IfOk result (λ _. IsClear (roles.a_list (roles.input declared.now inputs.now)) (sexp_form text.now form.now)) }
-    ensures fault { IfErr result (IsFaultBy (IsFirst (IsFaultAs (roles.a_list (roles.input declared.now inputs.now)) (sexp_form text.now form.now)))) }
+    ensures clear { IfOk result (λ _. IsClear (roles.a_list (roles.input declared.now inputs.now))
+        (sexp_form text.now form.now)) }
+    ensures fault { IfErr result (IsFaultBy (IsFirst (IsFaultAs (roles.a_list (roles.input declared.now inputs.now))
+        (sexp_form text.now form.now)))) }
 {
     sexps_are_forms();
     let Some(parts) = parts(form) else {

@@ -87,8 +87,10 @@ pub fn admitted_item(form: &Sexp, text: &[u8], order: &Order) -> Result<usize, T
         → IsAdmission goal_keywords before at (bound_at goal_bounds at).most admissions.Admitted) }
     ensures later { IfOk result (λ at. order.now.last ≤ at) }
     ensures few { IfOk result (λ at. at ≡ order.now.last → order.now.count < 64) }
-    ensures fault { IfErr result (λ fault. (before : List Form) (inner : ℕ → Role) → IsOrderOf goal_keywords before order.now
-        → IsFaultBy (IsFirst (IsFaultAs (role_in goal_keywords goal_bounds before inner (sexp_form text.now form.now)) (sexp_form text.now form.now))) fault) }
+    ensures fault { IfErr result (λ fault. (before : List Form) (inner : ℕ → Role)
+        → IsOrderOf goal_keywords before order.now
+        → IsFaultBy (IsFirst (IsFaultAs (role_in goal_keywords goal_bounds before inner (sexp_form text.now form.now))
+        (sexp_form text.now form.now))) fault) }
 {
     sexps_are_forms();
     let Some(rank) = goal_rank(form, text) else {
@@ -165,8 +167,10 @@ pub fn admitted_form(form: &Sexp, text: &[u8], order: &Order) -> Result<usize, T
         → IsAdmission text_keywords before at (bound_at text_bounds at).most admissions.Admitted) }
     ensures later { IfOk result (λ at. order.now.last ≤ at) }
     ensures few { IfOk result (λ at. at ≡ order.now.last → order.now.count < 64) }
-    ensures fault { IfErr result (λ fault. (before : List Form) (inner : ℕ → Role) → IsOrderOf text_keywords before order.now
-        → IsFaultBy (IsFirst (IsFormFault (role_in text_keywords text_bounds before inner (sexp_form text.now form.now)) (sexp_form text.now form.now))) fault) }
+    ensures fault { IfErr result (λ fault. (before : List Form) (inner : ℕ → Role)
+        → IsOrderOf text_keywords before order.now
+        → IsFaultBy (IsFirst (IsFormFault (role_in text_keywords text_bounds before inner
+        (sexp_form text.now form.now)) (sexp_form text.now form.now))) fault) }
 {
     sexps_are_forms();
     let Some(rank) = text_rank(form, text) else {

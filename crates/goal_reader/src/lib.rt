@@ -2,6 +2,7 @@
 //!
 //! A text is read in passes: its bytes, its parentheses, and then its forms, each in the role that its keyword and the
 //! forms before give it. A machine form is read by `machine_table`. `term`, `axiom` and `goal` read one form each.
+//! `print` gives the canonical text of an input, which is read as that input again.
 #![tactic(auto)]
 
 mod assumes;
@@ -15,6 +16,7 @@ mod keywords;
 mod laws;
 mod order;
 mod pools;
+mod printing;
 mod reading;
 mod scopes;
 mod terms;
@@ -24,7 +26,11 @@ mod whole;
 
 pub use axioms::axiom;
 pub use goals::{Assume, Axiom, Goal, Input, InputReg, Set};
-pub use laws::{texts_have_one_first_fault, the_first_form_decides};
+pub use laws::{
+    axioms_hold_for_all_goals, goals_have_outcomes, printed_inputs_are_read,
+    texts_have_one_first_fault, texts_have_one_reading, the_first_form_decides,
+};
+pub use printing::print;
 pub use reading::read;
 pub use scopes::{DeclaredOp, Leaf, Named, Scope};
 pub use terms::term;

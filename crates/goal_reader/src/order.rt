@@ -31,8 +31,10 @@ impl Order {
 
     /// Whether a list of a keyword may come next, of which there may be so many.
     pub fn admits(&self, at: usize, most: usize) -> Admission
-        ensures admission { (keywords : List (List ℕ)) (before : List Form) → IsOrderOf keywords before self.now → IsAdmission keywords before at most result }
-        ensures next { result ≡ admissions.Admitted → (self.now.last ≤ at) × (at ≡ self.now.last → self.now.count < most) }
+        ensures admission { (keywords : List (List ℕ)) (before : List Form) → IsOrderOf keywords before self.now
+            → IsAdmission keywords before at most result }
+        ensures next { result ≡ admissions.Admitted → (self.now.last ≤ at) × (at ≡ self.now.last
+            → self.now.count < most) }
     {
         if at < self.last {
             return Admission::OutOfOrder;

@@ -42,7 +42,8 @@ fn pool_register(
     requires of { IsOf text.now form.now }
     ensures register { IfOk result (λ r. register_of (sexp_form text.now form.now) ≡ Some r) }
     ensures fresh { IfOk result (λ r. has_register (registers_of inputs.now ++ pool.now) r ≡ false) }
-    ensures fault { IfErr result (IsFaultBy (IsFirst (IsFaultAs (roles.fresh_register (registers_of inputs.now ++ pool.now)) (sexp_form text.now form.now)))) }
+    ensures fault { IfErr result (IsFaultBy (IsFirst (IsFaultAs (roles.fresh_register (registers_of inputs.now
+        ++ pool.now)) (sexp_form text.now form.now)))) }
 {
     sexps_are_forms();
     let Some(bytes) = register(form, text) else {
@@ -67,8 +68,10 @@ pub fn pool(
     requires of { IsOf text.now form.now }
     requires keyword { is_of_rank goal_keywords 1 (sexp_form text.now form.now) ≡ true }
     ensures pool { IfOk result (λ pool. pool.items ≡ registers_in (parts_of (sexp_form text.now form.now))) }
-    ensures clear { IfOk result (λ _. IsClear (roles.a_list (roles.pool (registers_of inputs.now))) (sexp_form text.now form.now)) }
-    ensures fault { IfErr result (IsFaultBy (IsFirst (IsFaultAs (roles.a_list (roles.pool (registers_of inputs.now))) (sexp_form text.now form.now)))) }
+    ensures clear { IfOk result (λ _. IsClear (roles.a_list (roles.pool (registers_of inputs.now)))
+        (sexp_form text.now form.now)) }
+    ensures fault { IfErr result (IsFaultBy (IsFirst (IsFaultAs (roles.a_list (roles.pool (registers_of inputs.now)))
+        (sexp_form text.now form.now)))) }
 {
     sexps_are_forms();
     let Some(parts) = parts(form) else {

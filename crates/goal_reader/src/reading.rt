@@ -7,7 +7,8 @@ ghost use Rattle.goal_reader.specs.Roles.{IsTextFault};
 ghost use Rattle.goal_reader.specs.TextDrafts.{IsTextWritten, KeepsText};
 ghost use Rattle.goal_reader.specs.Views.{input_view};
 ghost use Rattle.machine_table.specs.Tables.{ev6 as built_in};
-ghost use Rattle.text_core.specs.Faults.{IsFaultBy, IsFirst, RefusesUnlessMemory};
+ghost use Rattle.goal_reader.specs.Views.{InputTree};
+ghost use Rattle.text_core.specs.Faults.{GivesUnlessMemory, IsFaultBy, IsFirst, RefusesUnlessMemory};
 ghost use Rattle.text_core.specs.declared.faults.Kind.{Kind as FaultKind};
 
 use crate::goals::Input;
@@ -16,7 +17,7 @@ use crate::order::Order;
 use crate::texts::{TextDraft, start_text, text_form};
 use forms::{at, one_reading, trees};
 use items::NoMemory;
-use machine_table::{Table, ev6};
+use machine_table::{Table, ev6, one_table};
 use std::alloc::Global;
 use text_core::{Kind, Sexp, TextFault};
 
@@ -98,8 +99,10 @@ fn read_text(alloc: Global, bytes: &[u8]) -> Result<Input, TextFault>
 pub fn read(alloc: Global, bytes: &[u8]) -> Result<Input, TextFault>
     requires { length bytes.now < 2 ^ 29 }
 
-    // What is read is in the grammar.
+    // What is read is in the grammar, and what is in it is read.
     ensures input { IfOk result (λ input. Reads bytes.now (input_view input)) }
+    ensures read { (input : InputTree) → Reads bytes.now input
+        → GivesUnlessMemory (λ read. input_view read ≡ input) result }
 
     // A fault is the first one, of the bytes, else of the parentheses, else of the forms; and where there is one, it is
     // answered.
@@ -108,5 +111,6 @@ pub fn read(alloc: Global, bytes: &[u8]) -> Result<Input, TextFault>
         → RefusesUnlessMemory place kind result }
 {
     one_reading();
+    one_table();
     read_text(alloc, bytes)
 }

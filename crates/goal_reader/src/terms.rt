@@ -45,7 +45,8 @@ fn atom(
     requires of { IsOf text.now form.now }
     requires atom { is_list (sexp_form text.now form.now) ≡ false }
     ensures term { IfOk result (λ t. WritesTerm scope.now wanted (sexp_form text.now form.now) (tree_of t)) }
-    ensures fault { IfErr result (IsFaultBy (IsFirst (IsFaultAs (a_term scope.now wanted) (sexp_form text.now form.now)))) }
+    ensures fault { IfErr result (IsFaultBy (IsFirst (IsFaultAs (a_term scope.now wanted)
+        (sexp_form text.now form.now)))) }
 {
     sexps_are_forms();
     if let Some(value) = number(form) {
@@ -91,7 +92,8 @@ fn application(
     requires list { is_list (sexp_form text.now form.now) ≡ true }
     requires few { length scope.now.declared ≤ 16 }
     ensures op { IfOk result (λ op. IsApplication scope.now wanted (sexp_form text.now form.now) op) }
-    ensures fault { IfErr result (IsFaultBy (IsFirst (IsFaultAs (a_term scope.now wanted) (sexp_form text.now form.now)))) }
+    ensures fault { IfErr result (IsFaultBy (IsFirst (IsFaultAs (a_term scope.now wanted)
+        (sexp_form text.now form.now)))) }
 {
     sexps_are_forms();
     let Some(parts) = parts(form) else {
@@ -125,7 +127,8 @@ fn read_term(
     requires of { IsOf text.now form.now }
     requires few { length scope.now.declared ≤ 16 }
     ensures term { IfOk result (λ t. WritesTerm scope.now wanted (sexp_form text.now form.now) (tree_of t)) }
-    ensures fault { IfErr result (IsFaultBy (IsFirst (IsFaultAs (a_term scope.now wanted) (sexp_form text.now form.now)))) }
+    ensures fault { IfErr result (IsFaultBy (IsFirst (IsFaultAs (a_term scope.now wanted)
+        (sexp_form text.now form.now)))) }
 {
     sexps_are_forms();
     match form {
@@ -163,8 +166,10 @@ pub fn term(
         → GivesUnlessMemory (λ read. tree_of read ≡ t) result }
 
     // A fault is the first one, and where there is one it is answered.
-    ensures fault { IfErr result (IsFaultBy (IsFirst (IsFaultAs (a_term scope.now wanted) (sexp_form text.now form.now)))) }
-    ensures refused { (place : ℕ) (kind : FaultKind) → IsFirst (IsFaultAs (a_term scope.now wanted) (sexp_form text.now form.now)) place kind
+    ensures fault { IfErr result (IsFaultBy (IsFirst (IsFaultAs (a_term scope.now wanted)
+        (sexp_form text.now form.now)))) }
+    ensures refused { (place : ℕ) (kind : FaultKind) → IsFirst (IsFaultAs (a_term scope.now wanted)
+        (sexp_form text.now form.now)) place kind
         → RefusesUnlessMemory place kind result }
 {
     read_term(alloc, form, text, scope, wanted)

@@ -1,5 +1,5 @@
 // Goal texts: what they give, and their first faults, as another reader of the notation found them.
-use crate::{Input, read};
+use crate::{Input, print, read};
 use forms::at;
 use items::NoMemory;
 use std::alloc::Global;
@@ -172,6 +172,22 @@ const READ: [(&[u8], [usize; 7]); 8] = [
 /// An axiom with as many variables as are allowed.
 const AXIOM: &[u8] = b"(axiom (a b c d e f g h) (addq h a) h)";
 
+/// Texts, and the canonical text of each. The second has a table in another order, and what was written by default.
+const PRINTED: [(&[u8], &[u8]); 3] = [
+    (
+        b"(goal copy (in p $16) (in q $17) (in r $18) (when (cmpult p r)) (set M (store M q (select M p))) (set p (addq p 8)) (set q (addq q 8)))",
+        b"(goal copy (in p $16) (in q $17) (in r $18) (pool $0 $1 $2 $3 $4 $5 $6 $7 $8 $19 $20 $21 $22 $23 $24 $25 $27 $28) (when (cmpult p r)) (set M (store M q (select M p))) (set p (addq p 8)) (set q (addq q 8)))\n",
+    ),
+    (
+        b"(machine (slots (A 0) (B 1)) (cross 1)\n (ops 02 (B) xor) (ops 1 (A) sll addq)) ; two lists\n(op f 2)(axiom (x y) (f x y) (addq x 0x10))(goal g(in a $1)(pool)(assume M M)(set M (store M a (f a 1))))(goal h(pool $3 $2)(set x 7))",
+        b"(machine (slots (A 0) (B 1)) (cross 1) (ops 1 (A) addq) (ops 2 (B) xor) (ops 1 (A) sll))\n(op f 2)\n(axiom (x y) (f x y) (addq x 16))\n(goal g (in a $1) (pool) (assume M M) (set M (store M a (f a 1))))\n(goal h (pool $3 $2) (set x 7))\n",
+    ),
+    (
+        b"(machine (slots (A 0) (B 1)) (cross 1) (ops 1 (A) addq) (ops 1 (B) xor))(goal g (in a $16) (in b $17) (set x (xor (addq a b) a)))",
+        b"(machine (slots (A 0) (B 1)) (cross 1) (ops 1 (A) addq) (ops 1 (B) xor))\n(goal g (in a $16) (in b $17) (pool $0 $1 $2 $3 $4 $5 $6 $7 $8 $18 $19 $20 $21 $22 $23 $24 $25 $27 $28) (set x (xor (addq a b) a)))\n",
+    ),
+];
+
 fn input(alloc: Global, text: &[u8]) -> Result<Input, TextFault> {
     if text.len() > 10000 {
         return Err(TextFault::Memory);
@@ -203,6 +219,18 @@ fn axioms(alloc: Global, count: usize) -> Result<Vec<u8>, NoMemory> {
     Ok(text)
 }
 
+/// So many goals of different names.
+fn goals(alloc: Global, count: u8) -> Result<Vec<u8>, NoMemory> {
+    let mut text = Vec::new(alloc);
+    for number in 0..count {
+        text.extend_from_slice(b"(goal g")?;
+        text.push(b'0' + number / 10)?;
+        text.push(b'0' + number % 10)?;
+        text.extend_from_slice(b"(set x 1))")?;
+    }
+    Ok(text)
+}
+
 #[test]
 fn texts_are_read(rt: HostRuntime) {
     for (text, counts) in &READ {
@@ -227,4 +255,26 @@ fn axioms_are_64(rt: HostRuntime) {
     let more = axioms(rt.alloc(), 65).ok().expect(&rt, "a text");
     let fault = input(rt.alloc(), &more).err();
     assert_eq!(rt; fault, Some(at(2432, Kind::LimitPassed)));
+}
+
+#[test]
+fn goals_are_64(rt: HostRuntime) {
+    let most = goals(rt.alloc(), 64).ok().expect(&rt, "a text");
+    let input_of_most = input(rt.alloc(), &most).ok().expect(&rt, "an input");
+    assert_eq!(rt; input_of_most.goals.len(), 64);
+    let more = goals(rt.alloc(), 65).ok().expect(&rt, "a text");
+    let fault = input(rt.alloc(), &more).err();
+    assert_eq!(rt; fault, Some(at(1216, Kind::LimitPassed)));
+}
+
+#[test]
+fn printed_inputs_are_read(rt: HostRuntime) {
+    for (text, canonical) in &PRINTED {
+        let first = input(rt.alloc(), text).ok().expect(&rt, "an input");
+        let printed = print(rt.alloc(), &first).ok().expect(&rt, "a text");
+        assert!(rt; printed.as_slice() == *canonical, "{}", printed.len());
+        let second = input(rt.alloc(), &printed).ok().expect(&rt, "an input");
+        let again = print(rt.alloc(), &second).ok().expect(&rt, "a text");
+        assert!(rt; again.as_slice() == *canonical, "{}", again.len());
+    }
 }

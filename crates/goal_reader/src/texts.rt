@@ -177,7 +177,8 @@ pub fn text_form(
     requires keyword { rank text_keywords (sexp_form text.now form.now) ≡ Some at }
     ensures next { IfOk result (λ next. IsNextForm (sexp_form text.now form.now) draft at next) }
     ensures clear { IfOk result (λ _. IsClearForm (text_role draft at) (sexp_form text.now form.now)) }
-    ensures fault { IfErr result (IsFaultBy (IsFirst (IsFormFault (text_role draft at) (sexp_form text.now form.now)))) }
+    ensures fault { IfErr result (IsFaultBy (IsFirst (IsFormFault (text_role draft at)
+        (sexp_form text.now form.now)))) }
 {
     match at {
         0 => add_table(alloc, form, text, draft),

@@ -43,8 +43,10 @@ fn variable_name<'a>(
     names: &[Name],
 ) -> Result<&'a [u8], TextFault>
     requires of { IsOf text.now form.now }
-    ensures ok { IfOk result (λ bytes. IsOwnName (names_of_declared declared.now ++ names.now) (sexp_form text.now form.now) bytes.now) }
-    ensures fault { IfErr result (IsFaultBy (IsFirst (IsFaultAs (roles.own_name (names_of_declared declared.now ++ names.now)) (sexp_form text.now form.now)))) }
+    ensures ok { IfOk result (λ bytes. IsOwnName (names_of_declared declared.now ++ names.now)
+        (sexp_form text.now form.now) bytes.now) }
+    ensures fault { IfErr result (IsFaultBy (IsFirst (IsFaultAs (roles.own_name (names_of_declared declared.now
+        ++ names.now)) (sexp_form text.now form.now)))) }
 {
     sexps_are_forms();
     let Some(bytes) = name(form, text) else {
@@ -67,8 +69,10 @@ pub fn variables(
     ensures names { IfOk result (λ names. names ≡ names_in (parts_of (sexp_form text.now form.now))) }
     ensures list { IfOk result (λ _. is_list (sexp_form text.now form.now) ≡ true) }
     ensures few { IfOk result (λ names. length names ≤ 8) }
-    ensures clear { IfOk result (λ _. IsClear (roles.a_list (roles.variables declared.now)) (sexp_form text.now form.now)) }
-    ensures fault { IfErr result (IsFaultBy (IsFirst (IsFaultAs (roles.a_list (roles.variables declared.now)) (sexp_form text.now form.now)))) }
+    ensures clear { IfOk result (λ _. IsClear (roles.a_list (roles.variables declared.now))
+        (sexp_form text.now form.now)) }
+    ensures fault { IfErr result (IsFaultBy (IsFirst (IsFaultAs (roles.a_list (roles.variables declared.now))
+        (sexp_form text.now form.now)))) }
 {
     sexps_are_forms();
     let Some(parts) = parts(form) else {

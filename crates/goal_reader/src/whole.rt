@@ -1,7 +1,8 @@
 // Reading a goal.
-ghost use Rattle.std.specs.Prelude.{◌≡◌, ◌≤◌, [], filter, not, length, IfOk, IfErr, Some, false};
+ghost use Rattle.std.specs.Prelude.{◌≡◌, ◌≤◌, ℕ, [], filter, not, length, IfOk, IfErr, Some, false};
 ghost use Rattle.std.specs.List.{list_any};
-ghost use Rattle.text_core.specs.Faults.{IsFirst, IsFaultBy};
+ghost use Rattle.text_core.specs.Faults.{GivesUnlessMemory, IsFaultBy, IsFirst, RefusesUnlessMemory};
+ghost use Rattle.text_core.specs.declared.faults.Kind.{Kind as FaultKind};
 ghost use Rattle.forms.specs.Forms.{sexp_form, sexp_forms, name_in};
 ghost use Rattle.forms.specs.Reading.{IsOf};
 ghost use Rattle.std.specs.Prelude.{All};
@@ -10,7 +11,7 @@ ghost use Rattle.goal_reader.specs.Roles.{IsFaultAs, is_of_rank, goal_keywords, 
 ghost use Rattle.goal_reader.specs.Reading.{IsClear, registers_of};
 ghost use Rattle.goal_reader.specs.Drafts.{names_of_goals, IsDraft, IsWritten, KeepsSoFar, pool_kept};
 ghost use Rattle.goal_reader.specs.Grammar.{WritesGoal, default_pool as default_registers, free_registers};
-ghost use Rattle.goal_reader.specs.Views.{goal_view};
+ghost use Rattle.goal_reader.specs.Views.{GoalTree, goal_view};
 ghost use Rattle.goal_reader.specs.Roles.{items_of};
 
 use crate::drafts::{Draft, item};
@@ -40,7 +41,8 @@ fn goal_name<'a>(form: &Sexp, text: &'a [u8], goals: &[Goal]) -> Result<&'a [u8]
     requires of { IsOf text.now form.now }
     ensures named { IfOk result (λ bytes. name_in (sexp_form text.now form.now) ≡ Some bytes.now) }
     ensures fresh { IfOk result (λ bytes. is_among (names_of_goals goals.now) bytes.now ≡ false) }
-    ensures fault { IfErr result (IsFaultBy (IsFirst (IsFaultAs (roles.fresh_name (names_of_goals goals.now)) (sexp_form text.now form.now)))) }
+    ensures fault { IfErr result (IsFaultBy (IsFirst (IsFaultAs (roles.fresh_name (names_of_goals goals.now))
+        (sexp_form text.now form.now)))) }
 {
     sexps_are_forms();
     let Some(bytes) = name(form, text) else {
@@ -110,8 +112,10 @@ fn items(
     ensures written { IfOk result (λ read. IsWritten (items_of (sexp_form text.now form.now)) read.1) }
     ensures keeps { IfOk result (λ read. KeepsSoFar declared read.1) }
     ensures fresh { IfOk result (λ read. is_among (names_of_goals goals.now) read.0 ≡ false) }
-    ensures clear { IfOk result (λ _. IsClear (roles.a_list (roles.goal declared (names_of_goals goals.now))) (sexp_form text.now form.now)) }
-    ensures fault { IfErr result (IsFaultBy (IsFirst (IsFaultAs (roles.a_list (roles.goal declared (names_of_goals goals.now))) (sexp_form text.now form.now)))) }
+    ensures clear { IfOk result (λ _. IsClear (roles.a_list (roles.goal declared (names_of_goals goals.now)))
+        (sexp_form text.now form.now)) }
+    ensures fault { IfErr result (IsFaultBy (IsFirst (IsFaultAs (roles.a_list (roles.goal declared
+        (names_of_goals goals.now))) (sexp_form text.now form.now)))) }
 {
     sexps_are_forms();
     let Some(parts) = parts(form) else {
@@ -183,9 +187,7 @@ fn pool_or_default(
     }
 }
 
-/// Reads a goal, behind these goals. The declared operators are given back. The cost is linear in the length of the
-/// text but for the search for names.
-pub fn goal(
+fn read_goal(
     alloc: Global,
     form: &Sexp,
     text: &[u8],
@@ -198,8 +200,10 @@ pub fn goal(
     ensures goal { IfOk result (λ read. WritesGoal declared (sexp_form text.now form.now) (goal_view read.0)) }
     ensures fresh { IfOk result (λ read. is_among (names_of_goals goals.now) read.0.name ≡ false) }
     ensures declared { IfOk result (λ read. read.1 ≡ declared) }
-    ensures clear { IfOk result (λ _. IsClear (roles.a_list (roles.goal declared (names_of_goals goals.now))) (sexp_form text.now form.now)) }
-    ensures fault { IfErr result (IsFaultBy (IsFirst (IsFaultAs (roles.a_list (roles.goal declared (names_of_goals goals.now))) (sexp_form text.now form.now)))) }
+    ensures clear { IfOk result (λ _. IsClear (roles.a_list (roles.goal declared (names_of_goals goals.now)))
+        (sexp_form text.now form.now)) }
+    ensures fault { IfErr result (IsFaultBy (IsFirst (IsFaultAs (roles.a_list (roles.goal declared
+        (names_of_goals goals.now))) (sexp_form text.now form.now)))) }
 {
     let (name, draft) = match items(alloc, form, text, declared, goals) {
         Ok(read) => read,
@@ -224,4 +228,38 @@ pub fn goal(
         sets,
     };
     Ok((goal, declared))
+}
+
+/// Reads a goal, behind these goals. The declared operators are given back. The cost is linear in the length of the
+/// text but for the search for names.
+pub fn goal(
+    alloc: Global,
+    form: &Sexp,
+    text: &[u8],
+    declared: Items<DeclaredOp>,
+    goals: &[Goal],
+) -> Result<(Goal, Items<DeclaredOp>), TextFault>
+    requires of { IsOf text.now form.now }
+    requires few { length declared ≤ 16 }
+    requires keyword { rank text_keywords (sexp_form text.now form.now) ≡ Some 3 }
+
+    // What is read is in the grammar, and what is in it is read.
+    ensures goal { IfOk result (λ read. WritesGoal declared (sexp_form text.now form.now) (goal_view read.0)) }
+    ensures fresh { IfOk result (λ read. is_among (names_of_goals goals.now) read.0.name ≡ false) }
+    ensures read { (goal : GoalTree) → WritesGoal declared (sexp_form text.now form.now) goal
+        → is_among (names_of_goals goals.now) goal.name ≡ false
+        → GivesUnlessMemory (λ read. goal_view read.0 ≡ goal) result }
+    ensures declared { IfOk result (λ read. read.1 ≡ declared) }
+
+    // A fault is the first one, and where there is one it is answered.
+    ensures clear { IfOk result (λ _.
+        IsClear (roles.a_list (roles.goal declared (names_of_goals goals.now))) (sexp_form text.now form.now)) }
+    ensures fault { IfErr result (IsFaultBy (IsFirst
+        (IsFaultAs (roles.a_list (roles.goal declared (names_of_goals goals.now))) (sexp_form text.now form.now)))) }
+    ensures refused { (place : ℕ) (kind : FaultKind)
+        → IsFirst (IsFaultAs (roles.a_list (roles.goal declared (names_of_goals goals.now)))
+        (sexp_form text.now form.now)) place kind
+        → RefusesUnlessMemory place kind result }
+{
+    read_goal(alloc, form, text, declared, goals)
 }

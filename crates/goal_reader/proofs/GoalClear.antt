@@ -1,0 +1,291 @@
+-- A form that writes a goal has no fault.
+use Rattle.std.proofs.Common.{◌≡◌, ◌≢◌, ℕ, zero, suc, ◌+◌, ◌-◌, ◌<◌, ◌≤◌, ◌||◌, ◌++◌, ◌==◌, Bool, true, false, All, None, Some, List, [], ◌∷◌, map, length, take, get_or, slice_get, refl, sym, ap, ap₂, ◌∙◌, subst, arith, codes, length-append}
+use Rattle.std.specs.Prelude.{AllPairs}
+use Rattle.std.specs.List.{list_any, cons_option}
+use Rattle.std.specs.Option.{option_map_or}
+use Rattle.std.proofs.lemmas.Bool.Decides.{nat_tests}
+use Rattle.std.proofs.lemmas.List.{append-nil, append_assoc}
+use Rattle.word_ops.specs.declared.sorts.Sort.TheVariants as sorts
+use Rattle.forms.specs.Forms.{Form, atom, name, parts_of, name_in}
+use Rattle.forms.proofs.First.{no_fault}
+use Rattle.machine_table.specs.Grammar.{Each, more_of}
+use Rattle.text_core.specs.declared.faults.Kind.{Kind}
+use Rattle.goal_reader.specs.declared.goals.InputReg.{InputReg}
+use Rattle.goal_reader.specs.declared.order.Admission.TheVariants.{Admitted}
+use Rattle.goal_reader.specs.declared.scopes.DeclaredOp.{DeclaredOp}
+use Rattle.goal_reader.specs.declared.scopes.Scope.{Scope}
+use Rattle.goal_reader.specs.Grammar.{IsRegister, WritesInput, WritesPool, WritesAssume, WritesGuard, WritesTarget, WritesGoal, absent, given, unguarded, guarded}
+use Rattle.goal_reader.specs.Reading.{IsClear, names_of_inputs, registers_of, sort_of_target}
+use Rattle.goal_reader.specs.Roles as roles
+use Rattle.goal_reader.specs.Roles.{Role, a_list, wrong, IsOwn, too_few, part_role, own_name, fresh_name, fresh_register, term, is_reserved, is_among, has_register, names_of_declared, rank, of_rank, is_of_rank, goal_keywords, goal_bounds, bound_at, items_of, item_role, role_in, goal_scope, inputs_in, names_given, second_name, registers_in, register_of, WritesTerm}
+use Rattle.goal_reader.specs.Views.{TwoTrees, TargetTree, GoalTree}
+use Rattle.goal_reader.proofs.Admitting.{role_told}
+use Rattle.goal_reader.proofs.Apart.{writes_clear}
+use Rattle.goal_reader.proofs.GoalSteps.{got_dropped, goal_clear, item_at, other_inputs, other_targets, one_input, one_target, mapped_more}
+use Rattle.goal_reader.proofs.NewNames.{own_name_clear, fresh_name_clear, fresh_register_clear, input_only, guard_only, set_only, target_sort_told, among_both}
+use Rattle.goal_reader.proofs.ReadParts.{input_told, input_ranked, register_told, assume_ranked, target_ranked, target_named, parts_are, items_are, all_sets, goal_told}
+use Rattle.goal_reader.proofs.ReadParts as read
+use Rattle.goal_reader.proofs.Sorts.{assume_only, sort_of_part, writes_sort}
+use Rattle.goal_reader.proofs.Grouped.{AllOf, listed_rank}
+use Rattle.goal_reader.proofs.Heads.{list_from}
+use Rattle.goal_reader.proofs.Walks.{EachClear, parts_clear, no_role, as_role, Walk, walk_at, walk_both, group_walk, Behind, behind_more, behind_next, name_new, register_new}
+
+-- ---- one item
+or_both : (a b : Bool) → a ≡ false → b ≡ false → a || b ≡ false
+or_both a b e f = ap₂ (λ x y. x || y) e f
+
+pub input_clear : (declared : List DeclaredOp) (inputs : List InputReg) (form : Form) (i : InputReg) → WritesInput form i → is_reserved i.name ≡ false → is_among (names_of_declared declared) i.name ≡ false
+    → is_among (names_of_inputs inputs) i.name ≡ false → has_register (registers_of inputs) i.reg ≡ false → IsClear (a_list (roles.input declared inputs)) form
+input_clear declared inputs form i w own not_declared fresh free =
+    let names = names_of_declared declared ++ names_of_inputs inputs in
+    let among : is_among names i.name ≡ false = among_both (names_of_declared declared) (names_of_inputs inputs) i.name ∙ or_both _ _ not_declared fresh in
+    let parts = ap parts_of w.is.is in
+    parts_clear (a_list (roles.input declared inputs)) form _ parts (λ k o. let l = input_only declared inputs form k o in let n = ap length parts in omega (arith, l, n)) (
+      (λ other e. no_role other _ e),
+      (
+        (λ other e. as_role (own_name names) w.first (own_name_clear names w.first i.name (record { named = ap name_in w.named.is; free = or_both _ _ own among })) other e),
+        ((λ other e. as_role (fresh_register (registers_of inputs)) w.second (fresh_register_clear (registers_of inputs) w.second i.reg (register_told w.second i.reg w.placed) free) other e), tt),
+      ),
+    )
+
+-- registers behind others
+pool_each : (role : Role) (form : Form) (inputs before : List ℕ) (h : Form) (fs : List Form) (rs : List ℕ) (all : List ℕ) → (at : ℕ) → Each (λ f r. IsRegister r f) fs rs → all ≡ (inputs ++ before) ++ rs → AllPairs (λ a b. a ≢ b) all
+    → ((j : ℕ) → part_role role form (suc (at + j)) ≡ Some (fresh_register (inputs ++ (before ++ registers_in (take j fs))))) → EachClear role form (suc at) fs
+pool_each role form inputs before h [] [] all at e is apart each = tt
+pool_each role form inputs before h [] (r ∷ rs) all at e is apart each = elim e [ ]
+pool_each role form inputs before h (f ∷ fs) [] all at e is apart each = elim e [ ]
+pool_each role form inputs before h (f ∷ fs) (r ∷ rs) all at (more_of one others) is apart each =
+    let told = register_told f r one in
+    let new = register_new all (inputs ++ before) r rs is apart in
+    let here : part_role role form (suc at) ≡ Some (fresh_register (inputs ++ before)) =
+    ap (λ n. part_role role form (suc n)) (let e : at ≡ at + 0 = omega arith in e) ∙ each 0 ∙ ap (λ rs. Some (fresh_register (inputs ++ rs))) (append-nil before) in
+    let more : (before ++ r ∷ []) ++ [] ≡ before ++ r ∷ [] = append-nil (before ++ r ∷ []) in (
+      (λ other e. as_role (fresh_register (inputs ++ before)) f (fresh_register_clear (inputs ++ before) f r told new) other (sym here ∙ e)),
+      pool_each role form inputs (before ++ r ∷ []) h fs rs all (suc at) others
+          (is ∙ sym (append_assoc (inputs ++ before) (r ∷ []) rs) ∙ ap (λ xs. xs ++ rs) (append_assoc inputs before (r ∷ []))) apart
+          (λ j. ap (λ n. part_role role form (suc n)) (let e : suc at + j ≡ at + suc j = omega arith in e) ∙ each (suc j)
+          ∙ ap (λ o. Some (fresh_register (inputs ++ (before ++ cons_option o (registers_in (take j fs)))))) told ∙ ap (λ xs. Some (fresh_register (inputs ++ xs))) (sym (append_assoc before (r ∷ []) (registers_in (take j fs))))),
+    )
+
+pub pool_clear : (inputs : List ℕ) (form : Form) (fs : List Form) (rs : List ℕ) → WritesPool inputs (form ∷ fs) rs → AllPairs (λ a b. a ≢ b) (inputs ++ rs) → IsClear (a_list (roles.pool inputs)) form
+pool_clear inputs form _ rs (given forms is each) apart =
+    let role = a_list (roles.pool inputs) in
+    let h : Form = atom is.head_place (name (codes "pool")) in
+    let parts : parts_of form ≡ h ∷ forms = ap parts_of is.is ∙ ap (λ fs. h ∷ fs) (list_from forms) in
+    parts_clear role form (h ∷ forms) parts (λ k o. no_own k o (ap length parts)) (
+      (λ other e. no_role other _ e),
+      pool_each role form inputs [] h forms rs (inputs ++ rs) 0 each (ap (λ xs. xs ++ rs) (sym (append-nil inputs))) apart
+          (λ j. ap (part_role role form) (let e : suc (0 + j) ≡ suc j = omega arith in e) ∙ ap (λ fs. Some (fresh_register (inputs ++ registers_in (take (suc j) fs)))) parts),
+    )
+  where
+    no_own : (k : Kind) → IsOwn (a_list (roles.pool inputs)) form k → length (parts_of form) ≡ suc (length forms) → ⊥
+    no_own k (too_few l) n = omega (arith, l, n)
+
+module _ (scope : Scope) where
+  pub assume_clear : (form : Form) (a : TwoTrees) → WritesAssume scope form a → IsClear (a_list (roles.assume scope)) form
+  assume_clear form a w =
+      let parts = ap parts_of w.is.is in
+      let left : WritesTerm scope None w.first a.left = record { sort = w.sort; wanted_one = tt; writes = w.left } in
+      let same = sort_of_part scope None form w.first a.left (ap (λ ps. slice_get ps 1) parts) left in
+      parts_clear (a_list (roles.assume scope)) form _ parts (λ k o. let l = assume_only scope form k o in let n = ap length parts in omega (arith, l, n)) (
+        (λ other e. no_role other _ e),
+        (
+          (λ other e. as_role (term scope None) w.first (writes_clear w.left None tt) other e),
+          ((λ other e. as_role (term scope (Some w.sort)) w.second (writes_clear w.right (Some w.sort) refl) other (ap (λ s. Some (term scope s)) (ap Some (sym (writes_sort w.left)) ∙ same) ∙ e)), tt),
+        ),
+      )
+
+  pub guard_clear : (form : Form) (fs : List Form) (t : _) → WritesGuard scope (form ∷ fs) (Some t) → IsClear (a_list (roles.guard scope)) form
+  guard_clear form _ t (guarded one is w) =
+      let parts = ap parts_of is.is in
+      parts_clear (a_list (roles.guard scope)) form _ parts (λ k o. let l = guard_only scope form k o in let n = ap length parts in omega (arith, l, n))
+      ((λ other e. no_role other _ e), ((λ other e. as_role (term scope (Some sorts.Word)) one (writes_clear w (Some sorts.Word) refl) other e), tt))
+
+  pub target_clear : (names : List (List ℕ)) (form : Form) (t : TargetTree) → WritesTarget scope form t → is_among names t.name ≡ false → IsClear (a_list (roles.set scope names)) form
+  target_clear names form t w fresh =
+      let parts = ap parts_of w.is.is in
+      parts_clear (a_list (roles.set scope names)) form _ parts (λ k o. let l = set_only scope names form k o in let n = ap length parts in omega (arith, l, n)) (
+        (λ other e. no_role other _ e),
+        (
+          (λ other e. as_role (fresh_name names) w.first (fresh_name_clear names w.first t.name (ap name_in w.named.is) fresh) other e),
+          ((λ other e. as_role (term scope (Some (sort_of_target t.name))) w.second (writes_clear w.value (Some (sort_of_target t.name)) refl) other (ap (λ s. Some (term scope s)) (target_sort_told form t.name (target_named scope form t w)) ∙ e)), tt),
+        ),
+      )
+
+-- ---- what stands before an item
+record Before (before : List Form) (at n : ℕ) (inputs : List InputReg) (names : List (List ℕ)) : Type 0 where
+  pub order : Behind goal_keywords before at n
+  pub inputs_are : inputs_in before ≡ inputs
+  pub names_are : names_given (of_rank goal_keywords 4 before) ≡ names
+
+before_next : (before : List Form) (at n : ℕ) (inputs : List InputReg) (names : List (List ℕ)) → Before before at n inputs names → Before before (at + 1) 0 inputs names
+before_next before at n inputs names b = record { order = behind_next goal_keywords before at n b.order; inputs_are = b.inputs_are; names_are = b.names_are }
+
+pub one_longer : {X : Type 0} (xs : List X) (x : X) → length xs + 1 ≡ length (xs ++ x ∷ [])
+one_longer xs x = let n = length-append xs (x ∷ []) in omega (arith, n)
+
+pub within : {X : Type 0} (xs rest : List X) (x : X) (all : List X) (most : ℕ) → all ≡ xs ++ x ∷ rest → length all ≤ most → length xs < most
+within xs rest x all most e l = let n = length-append xs (x ∷ rest) in let m = ap length e in omega (arith, n, m, l)
+
+module _ (declared : List DeclaredOp) where
+  abbrev HasNoFault : List Form → Form → Type 0
+  HasNoFault before form = IsClear (role_in goal_keywords goal_bounds before (item_role declared before) form) form
+
+  abbrev roles_of : List InputReg → List (List ℕ) → ℕ → Role
+  roles_of inputs names at =
+      get_or (a_list (roles.input declared inputs) ∷ a_list (roles.pool (registers_of inputs)) ∷ a_list (roles.assume (goal_scope declared inputs)) ∷ a_list (roles.guard (goal_scope declared inputs))
+      ∷ a_list (roles.set (goal_scope declared inputs) names) ∷ []) at wrong
+
+  admitted : (before : List Form) (at n : ℕ) (inputs : List InputReg) (names : List (List ℕ)) (form : Form) → Before before at n inputs names → rank goal_keywords form ≡ Some at → n < (bound_at goal_bounds at).most
+      → IsClear (roles_of inputs names at) form → HasNoFault before form
+  admitted before at n inputs names form b e l clear =
+      let count = b.order.count in
+      let few : length (of_rank goal_keywords at before) < (bound_at goal_bounds at).most = subst (λ m. m < (bound_at goal_bounds at).most) (sym count) l in
+      let told = role_told goal_keywords goal_bounds before (item_role declared before) form at Admitted e (b.order.later, few) in
+      let same : item_role declared before at ≡ roles_of inputs names at =
+      ap (λ is. roles_of is (names_given (of_rank goal_keywords 4 before)) at) b.inputs_are ∙ ap (λ ns. roles_of inputs ns at) b.names_are in
+      subst (λ (r : Role). IsClear r form) (sym (told ∙ same)) clear
+
+  -- an item that is no input and no target
+  plain_more : (before : List Form) (at n : ℕ) (inputs : List InputReg) (names : List (List ℕ)) (form : Form) → Before before at n inputs names → rank goal_keywords form ≡ Some at → (at == 0) ≡ false → (at == 4) ≡ false → Before (before ++ form ∷ []) at (n + 1) inputs names
+  plain_more before at n inputs names form b e t0 t4 = record {
+    order = behind_more goal_keywords before at n form b.order e;
+    inputs_are = other_inputs at form before e t0 ∙ b.inputs_are;
+    names_are = other_targets at form before e t4 ∙ b.names_are;
+  }
+
+  module _ (g : GoalTree)
+      (input_names : AllPairs (λ (i j : InputReg). i.name ≢ j.name) g.inputs) (own_names : All (λ (i : InputReg). is_reserved i.name ≡ false) g.inputs)
+      (not_declared : All (λ (i : InputReg). is_among (names_of_declared declared) i.name ≡ false) g.inputs) (registers : AllPairs (λ a b. a ≢ b) (registers_of g.inputs ++ g.pool))
+      (targets : AllPairs (λ (s t : TargetTree). s.name ≢ t.name) g.sets) (few : (length g.inputs ≤ 16) × (length g.assumes ≤ 16) × (length g.sets ≤ 16)) where
+    abbrev scope : Scope
+    scope = goal_scope declared g.inputs
+
+    one_of : (P : InputReg → Type 0) (done rest : List InputReg) (i : InputReg) → g.inputs ≡ done ++ i ∷ rest → All P g.inputs → P i
+    one_of P done rest i is h = subst P (here done) (subst (λ xs. All P xs) is h (length done) i (let n = length-append done (i ∷ rest) in omega (arith, n)))
+      where
+        here : (zs : List InputReg) → get_or (zs ++ i ∷ rest) (length zs) i ≡ i
+        here [] = refl
+        here (z ∷ zs) = here zs
+
+    map_both : (done rest : List InputReg) (i : InputReg) → registers_of (done ++ i ∷ rest) ≡ registers_of done ++ i.reg ∷ registers_of rest
+    map_both [] rest i = refl
+    map_both (d ∷ done) rest i = ap (λ xs. d.reg ∷ xs) (map_both done rest i)
+
+    input_step : (before : List Form) (done rest : List InputReg) (form : Form) (i : InputReg) → g.inputs ≡ done ++ i ∷ rest → Before before 0 (length done) done [] → WritesInput form i
+        → HasNoFault before form × Before (before ++ form ∷ []) 0 (length (done ++ i ∷ [])) (done ++ i ∷ []) []
+    input_step before done rest form i is b w =
+        let e = input_ranked form i w in
+        let told = input_told form i w in
+        let all : registers_of g.inputs ++ g.pool ≡ registers_of done ++ i.reg ∷ (registers_of rest ++ g.pool) =
+        ap (λ is. registers_of is ++ g.pool) is ∙ ap (λ rs. rs ++ g.pool) (map_both done rest i) ∙ append_assoc (registers_of done) (i.reg ∷ registers_of rest) g.pool in
+        let clear = input_clear declared done form i w (one_of (λ j. is_reserved j.name ≡ false) done rest i is own_names) (one_of (λ j. is_among (names_of_declared declared) j.name ≡ false) done rest i is not_declared)
+        (name_new (λ (j : InputReg). j.name) g.inputs done i rest is input_names) (register_new (registers_of g.inputs ++ g.pool) (registers_of done) i.reg (registers_of rest ++ g.pool) all registers) in (
+          admitted before 0 (length done) done [] form b e (within done rest i g.inputs 16 is few.0) clear,
+          record {
+            order = subst (λ n. Behind goal_keywords (before ++ form ∷ []) 0 n) (one_longer done i) (behind_more goal_keywords before 0 (length done) form b.order e);
+            inputs_are = one_input form before i e told ∙ ap (λ xs. xs ++ i ∷ []) b.inputs_are;
+            names_are = other_targets 0 form before e refl ∙ b.names_are;
+          },
+        )
+
+    assume_step : (before : List Form) (done rest : List TwoTrees) (form : Form) (a : TwoTrees) → g.assumes ≡ done ++ a ∷ rest → Before before 2 (length done) g.inputs [] → WritesAssume scope form a
+        → HasNoFault before form × Before (before ++ form ∷ []) 2 (length (done ++ a ∷ [])) g.inputs []
+    assume_step before done rest form a is b w =
+        let e = assume_ranked scope form a w in (
+          admitted before 2 (length done) g.inputs [] form b e (within done rest a g.assumes 16 is few.1) (assume_clear scope form a w),
+          subst (λ n. Before (before ++ form ∷ []) 2 n g.inputs []) (one_longer done a) (plain_more before 2 (length done) g.inputs [] form b e refl refl),
+        )
+
+    abbrev named : List TargetTree → List (List ℕ)
+    named ts = map (λ (t : TargetTree). t.name) ts
+
+    target_step : (before : List Form) (done rest : List TargetTree) (form : Form) (t : TargetTree) → g.sets ≡ done ++ t ∷ rest → Before before 4 (length done) g.inputs (named done) → WritesTarget scope form t
+        → HasNoFault before form × Before (before ++ form ∷ []) 4 (length (done ++ t ∷ [])) g.inputs (named (done ++ t ∷ []))
+    target_step before done rest form t is b w =
+        let e = target_ranked scope form t w in (
+          admitted before 4 (length done) g.inputs (named done) form b e (within done rest t g.sets 16 is few.2)
+              (target_clear scope (named done) form t w (name_new (λ (s : TargetTree). s.name) g.sets done t rest is targets)),
+          record {
+            order = subst (λ n. Behind goal_keywords (before ++ form ∷ []) 4 n) (one_longer done t) (behind_more goal_keywords before 4 (length done) form b.order e);
+            inputs_are = other_inputs 4 form before e refl ∙ b.inputs_are;
+            names_are = one_target form before t.name e (target_named scope form t w) ∙ ap (λ ns. ns ++ t.name ∷ []) b.names_are ∙ sym (mapped_more (λ (s : TargetTree). s.name) done t);
+          },
+        )
+
+    pool_walk : (before fs : List Form) (rs : List ℕ) → rs ≡ g.pool → WritesPool (registers_of g.inputs) fs rs → Before before 1 0 g.inputs [] → (n : ℕ) × Walk HasNoFault before fs × Before (before ++ fs) 1 n g.inputs []
+    pool_walk before _ rs is absent b = (0, tt, subst (λ x. Before x 1 0 g.inputs []) (sym (append-nil before)) b)
+    pool_walk before _ rs is (given {form = form} forms listed each) b =
+        let e = listed_rank goal_keywords (codes "pool") forms form listed in
+        let apart = subst (λ xs. AllPairs (λ a b. a ≢ b) (registers_of g.inputs ++ xs)) (sym is) registers in
+        (1, (admitted before 1 0 g.inputs [] form b e (omega arith) (pool_clear (registers_of g.inputs) form [] rs (given forms listed each) apart), tt), plain_more before 1 0 g.inputs [] form b e refl refl)
+
+    guard_walk : (before fs : List Form) (t : _) → WritesGuard scope fs t → Before before 3 0 g.inputs [] → (n : ℕ) × Walk HasNoFault before fs × Before (before ++ fs) 3 n g.inputs []
+    guard_walk before _ _ unguarded b = (0, tt, subst (λ x. Before x 3 0 g.inputs []) (sym (append-nil before)) b)
+    guard_walk before _ _ (guarded {form = form} {term = t} one listed w) b =
+        let e = listed_rank goal_keywords (codes "when") (one ∷ []) form listed in
+        (1, (admitted before 3 0 g.inputs [] form b e (omega arith) (guard_clear scope form [] t (guarded one listed w)), tt), plain_more before 3 0 g.inputs [] form b e refl refl)
+
+    items_walk : (ins pools assumes whens sets : List Form) → Each WritesInput ins g.inputs → WritesPool (registers_of g.inputs) pools g.pool → Each (WritesAssume scope) assumes g.assumes → WritesGuard scope whens g.guard → Each (WritesTarget scope) sets g.sets
+        → Walk HasNoFault [] (ins ++ (pools ++ (assumes ++ (whens ++ sets))))
+    items_walk ins pools assumes whens sets wi wp wa wg wt =
+        let start : Before [] 0 0 [] [] = record { order = record { later = refl; count = refl }; inputs_are = refl; names_are = refl } in
+        let one = group_walk HasNoFault WritesInput (λ before done. Before before 0 (length done) done []) g.inputs input_step [] [] ins g.inputs wi refl start in
+        let two = pool_walk ins pools g.pool refl wp (before_next ins 0 (length g.inputs) g.inputs [] one.1) in
+        let three = group_walk HasNoFault (WritesAssume scope) (λ before done. Before before 2 (length done) g.inputs []) g.assumes assume_step (ins ++ pools) [] assumes g.assumes wa refl (before_next (ins ++ pools) 1 two.0 g.inputs [] two.2) in
+        let four = guard_walk ((ins ++ pools) ++ assumes) whens g.guard wg (before_next ((ins ++ pools) ++ assumes) 2 (length g.assumes) g.inputs [] three.1) in
+        let five = group_walk HasNoFault (WritesTarget scope) (λ before done. Before before 4 (length done) g.inputs (named done)) g.sets target_step (((ins ++ pools) ++ assumes) ++ whens) [] sets g.sets wt refl
+        (before_next (((ins ++ pools) ++ assumes) ++ whens) 3 four.0 g.inputs [] four.2) in
+        walk_both HasNoFault [] ins _ one.0
+        (walk_both HasNoFault ins pools _ two.1
+        (walk_both HasNoFault (ins ++ pools) assumes _ three.0
+        (walk_both HasNoFault ((ins ++ pools) ++ assumes) whens sets four.1 five.0)))
+
+-- ---- the whole goal
+pub some_there : (keywords : List (List ℕ)) (at : ℕ) (fs : List Form) → AllOf keywords at fs → 0 < length fs → list_any (is_of_rank keywords at) fs ≡ true
+some_there keywords at [] h l = absurd (omega (arith, l))
+some_there keywords at (f ∷ fs) h l =
+    let equal : (at == at) ≡ true = grind (arith, nat_tests) in
+    ap (λ o. option_map_or (λ r. r == at) o false || list_any (is_of_rank keywords at) fs) h.0 ∙ ap (λ b. b || list_any (is_of_rank keywords at) fs) equal
+
+pub any_behind : (p : Form → Bool) (xs ys : List Form) → list_any p ys ≡ true → list_any p (xs ++ ys) ≡ true
+any_behind p [] ys e = e
+any_behind p (x ∷ xs) ys e = ap (λ b. p x || b) (any_behind p xs ys e) ∙ or_true (p x)
+  where
+    or_true : (b : Bool) → b || true ≡ true
+    or_true true = refl
+    or_true false = refl
+
+pub sets_counted : {Y : Type 0} (W : Form → Y → Type 0) (fs : List Form) (ys : List Y) → Each W fs ys → 0 < length ys → 0 < length fs
+sets_counted W fs [] e l = absurd (omega (arith, l))
+sets_counted W [] (y ∷ ys) e l = elim e [ ]
+sets_counted W (f ∷ fs) (y ∷ ys) e l = omega arith
+
+pub written_goal_clear : (declared : List DeclaredOp) (names : List (List ℕ)) (form : Form) (g : GoalTree) → WritesGoal declared form g → is_among names g.name ≡ false → IsClear (a_list (roles.goal declared names)) form
+written_goal_clear declared names form g w fresh =
+    let k = w.rules in
+    let parts = parts_are declared form g w in
+    let items = items_are declared form g w in
+    let walk = items_walk declared g k.input_names k.own_names k.not_declared k.registers k.targets k.few w.ins w.pools w.assumes w.whens w.sets w.inputs w.pool w.assumptions w.guard w.targets in
+    let enough : 2 ≤ length (parts_of form) = (let n = ap length parts in omega (arith, n)) in
+    let sets = some_there goal_keywords 4 w.sets (all_sets declared form g w) (sets_counted (WritesTarget (goal_scope declared g.inputs)) w.sets g.sets w.targets k.some_target) in
+    let some : list_any (is_of_rank goal_keywords 4) (items_of form) ≡ true =
+    ap (list_any (is_of_rank goal_keywords 4)) items ∙ any_behind _ w.ins _ (any_behind _ w.pools _ (any_behind _ w.assumes _ (any_behind _ w.whens w.sets sets))) in
+    no_fault IsOwn part_role (a_list (roles.goal declared names)) form (goal_clear declared names form enough some)
+    (λ j part other place kind got e. part_clear j part other got e parts items walk place kind)
+  where
+    part_clear : (j : ℕ) (part : Form) (other : Role) → slice_get (parts_of form) j ≡ Some part → part_role (a_list (roles.goal declared names)) form j ≡ Some other
+        → parts_of form ≡ atom w.is.head_place (name (codes "goal")) ∷ w.name_form ∷ read.behind_name declared form g w → items_of form ≡ read.behind_name declared form g w
+        → Walk (HasNoFault declared) [] (read.behind_name declared form g w) → IsClear other part
+    part_clear zero part other got e parts items walk = no_role other part e
+    part_clear (suc zero) part other got e parts items walk =
+        let both : Some w.name_form ≡ Some part = sym (ap (λ ps. slice_get ps 1) parts) ∙ got in
+        let same : w.name_form ≡ part = cc in
+        subst (λ (f : Form). IsClear other f) same (as_role (fresh_name names) w.name_form (fresh_name_clear names w.name_form g.name (ap name_in w.named.is) fresh) other e)
+    part_clear (suc (suc at)) part other got e parts items walk =
+        let role = item_at declared names form (suc (suc at)) part (omega arith) got in
+        let at_is : take (suc (suc at) - 2) (items_of form) ≡ take at (read.behind_name declared form g w) = ap₂ (λ n (fs : List Form). take n fs) (let n : suc (suc at) - 2 ≡ at = omega arith in n) items in
+        let there : slice_get (read.behind_name declared form g w) at ≡ Some part = ap (λ fs. slice_get fs at) (sym items) ∙ got_dropped (parts_of form) at ∙ got in
+        let clear = walk_at (HasNoFault declared) [] (read.behind_name declared form g w) walk at part there in
+        as_role (role_in goal_keywords goal_bounds (take at (read.behind_name declared form g w)) (item_role declared (take at (read.behind_name declared form g w))) part) part clear other
+        (sym (ap (λ fs. Some (role_in goal_keywords goal_bounds fs (item_role declared fs) part)) at_is) ∙ sym role ∙ e)
