@@ -1,0 +1,156 @@
+-- Steps of the loop over rounds.
+use Rattle.std.proofs.Common.{◌≡◌, ◌≢◌, ℕ, ◌+◌, ◌-◌, ◌*◌, ◌<◌, ◌≤◌, ◌^◌, min, Bool, true, false, eqb, List, [], length, map, get_or, All, sym, ◌∙◌, subst, inl, inr, arith}
+use Rattle.std.proofs.lemmas.Bool.{cases_lt}
+use Rattle.std.proofs.lemmas.Bool.Decides.{eqb_tells}
+use Rattle.std.proofs.lemmas.List.{length-map}
+use Rattle.word_ops.specs.Worlds.{World, IsWorld}
+use Rattle.word_ops.specs.declared.sorts.Op.{Op}
+use Rattle.word_terms.specs.Tree.{Tree}
+use Rattle.word_terms.specs.Keys.{op_signature}
+use Rattle.axiom_base.specs.Rewrites.{Rewrite, IsUsable, IsTrueIn}
+use Rattle.axiom_base.specs.Schemes.{IsRuleOf, schemes}
+use Rattle.egraph.specs.Graph.{Graph, IsGraph}
+use Rattle.egraph.specs.declared.faults.MergeFault.{MergeFault}
+use Rattle.egraph.specs.declared.faults.MergeFault.TheVariants.{NoWorld, Memory}
+use Rattle.saturation.specs.Trace.{Asked, AreMade, IsRefused, CanMakeAll, operators_asked}
+use Rattle.saturation.specs.Instances.{asked_of, RefusalOfAll, saturate_fault}
+use Rattle.saturation.specs.declared.instance.Instance.{Instance}
+use Rattle.saturation.specs.Derives.{Pair}
+use Rattle.saturation.specs.Grown.{IsGrown, GoesOn, NotBefore, IsQuiet}
+use Rattle.saturation.specs.GraphStands.{GraphStands, RulesHold}
+use Rattle.saturation.specs.Asking.{AreAsked, StopFits}
+use Rattle.saturation.specs.Rounds.{IsAfter, IsSaturated, IsImpossible, SaturateFaultIs, IsHopeless, KeepsStanding, StopIs}
+use Rattle.saturation.specs.declared.rounds.Stop.{Stop}
+use Rattle.saturation.specs.declared.rounds.Stop.TheVariants.{Quiet, Rounds, Full}
+use Rattle.saturation.proofs.Asks.{Asks}
+use Rattle.saturation.proofs.Round.{round_is_grown, round_clashes}
+use Rattle.saturation.proofs.RoundSteps.{all_made_few}
+use Rattle.saturation.proofs.RoundStands.{all_may, all_true, round_stands}
+use Rattle.saturation.proofs.Standing.{Law}
+use Rattle.saturation.proofs.NoWorld.{refused_never}
+
+-- what the loop keeps
+pub record Running (axioms : List Rewrite) (start : Graph Op) (rounds nodes : ℕ) (g : Graph Op) (j : ℕ) : Type 0 where
+  pub after : IsAfter axioms start rounds nodes g j
+  pub stands : KeepsStanding axioms start g
+  pub few : length g.current ≤ 2 ^ 30 + j * 4096
+  pub asked : j ≤ rounds
+
+pub running_none : (axioms : List Rewrite) (start : Graph Op) (rounds nodes : ℕ) → length start.current < 2 ^ 30 → Running axioms start rounds nodes start 0
+running_none axioms start rounds nodes l = record {
+  after = record { grown = λ present equal h. (h, λ i b. absurd (omega (arith, b))) };
+  stands = λ names equal terms h. h;
+  few = omega (arith, l);
+  asked = omega arith;
+}
+
+-- what is known of a graph and of what is asked of it
+pub record Ready (axioms : List Rewrite) (g : Graph Op) (asked : List Asked) (need : ℕ) : Type 0 where
+  pub graph : IsGraph op_signature g
+  pub usable : (r : Rewrite) → IsRuleOf axioms r → IsUsable r
+  pub are : AreAsked g (schemes axioms) asked
+  pub asks : Asks axioms g asked
+  pub need_is : need ≡ min (operators_asked asked) (2 ^ 64 - 1)
+
+abbrev pub AreTrue : Type 0
+AreTrue = (world : World) (names : ℕ → List ℕ) (axioms : List Rewrite) (r : Rewrite) → All (IsTrueIn world names) axioms → IsRuleOf axioms r → IsTrueIn world names r
+
+module _ (axioms : List Rewrite) (g : Graph Op) (asked : List Asked) (need : ℕ) (ready : Ready axioms g asked need) where
+  unmet : length asked ≢ 0 → ¬ IsQuiet axioms g
+  unmet some quiet =
+      let a : Asked = record { right = Tree.variable 0; places = []; class = 0 } in
+      let h = ready.are.each 0 a (omega (arith, some)) in
+      let o = h.2.1 in
+      quiet h.0 h.1 h.2.0 (record { rule = o.rule; of = o.of; class = (get_or asked 0 a).class; unmet = o.unmet })
+
+  quiet : length asked ≡ 0 → IsQuiet axioms g
+  quiet none s there places u = let k = ready.are.all s places there u in let b = k.1 in omega (arith, none, b.1)
+
+module _ (axioms : List Rewrite) (start : Graph Op) (rounds nodes : ℕ) (g : Graph Op) (j : ℕ) (running : Running axioms start rounds nodes g j) (asked : List Asked) (need : ℕ) (ready : Ready axioms g asked need)
+    (few_rounds : rounds ≤ 16) (few_nodes : nodes ≤ 4096) where
+  module _ (some : length asked ≢ 0) (more : j ≢ rounds) (within : length g.rows + need ≤ nodes) where
+    total_within : length g.rows + operators_asked asked ≤ nodes
+    total_within = omega (arith, ready.need_is, within, few_nodes)
+
+    pub round_can : CanMakeAll g asked
+    round_can = record {
+      graph = ready.graph;
+      may = all_may axioms ready.usable g ready.graph asked ready.asks;
+      few = omega (arith, total_within, running.few, running.asked, few_rounds, few_nodes);
+    }
+
+    goes_on : (present : List (Tree Op)) (equal : List Pair) → IsGrown axioms present equal start 0 → NotBefore axioms present equal rounds nodes (j + 1)
+    goes_on present equal h = λ i l.
+        let a = running.after.grown present equal h in
+        elim (cases_lt i j) [
+          | inl b ↦ a.1 i b
+          | inr b ↦
+              (let e : j ≡ i = omega (arith, b, l) in
+              subst (GoesOn axioms present equal rounds nodes) e (record {
+                graph = g;
+                grown = a.0;
+                unmet = unmet axioms g asked need ready some;
+                asked = more;
+                within = record { need = operators_asked asked; is = ready.are.needs; within = total_within };
+              }))
+        ]
+
+    module _ (law : Law) (true_rules : AreTrue) where
+      pub running_more : (new : Graph Op) → AreMade asked g new → Running axioms start rounds nodes new (j + 1)
+      running_more new made = record {
+        after = record {
+          grown = λ present equal h.
+              (round_is_grown axioms present equal j ready.usable g ready.graph (running.after.grown present equal h).0 asked ready.asks new made, goes_on present equal h);
+        };
+        stands = λ names equal terms h.
+            round_stands axioms ready.usable g ready.graph asked ready.asks law names equal terms (λ world is holds r rule. true_rules world names axioms r holds.axioms_hold rule) new made (running.stands names equal terms h);
+        few = let f = all_made_few made in omega (arith, f, total_within, running.few, few_nodes);
+        asked = omega (arith, running.asked, more);
+      }
+
+      hopeless : (x y : ℕ) → IsRefused asked g x y → (names : ℕ → List ℕ) (equal : List Pair) (terms : List (Tree Op)) → GraphStands names axioms equal terms start → (world : World) → IsWorld world → RulesHold world names axioms equal → ⊥
+      hopeless x y refused names equal terms stands world is_world holds =
+          let k = (running.stands names equal terms stands).values world is_world holds in
+          let asks = all_true axioms ready.usable g ready.graph asked ready.asks law world is_world names (λ r rule. true_rules world names axioms r holds.axioms_hold rule) k.0 k.1 in
+          refused_never law world is_world names k.0 refused ready.graph (all_may axioms ready.usable g ready.graph asked ready.asks) k.1 asks
+
+      pub fault_hopeless : (fault : MergeFault) → RefusalOfAll asked g fault → IsHopeless axioms start (saturate_fault fault)
+      fault_hopeless (NoWorld class x y) h = hopeless x y h
+      fault_hopeless Memory h = tt
+
+    impossible : (x y : ℕ) → IsRefused asked g x y → IsImpossible axioms start rounds nodes x y
+    impossible x y refused = record {
+      round = j + 1;
+      asked = omega (arith, running.asked, more);
+      clash = λ present equal h.
+          let c = round_clashes axioms present equal j ready.usable g ready.graph (running.after.grown present equal h).0 asked ready.asks x y refused in
+          (record { derived = c.0; differ = c.1 }, goes_on present equal h);
+    }
+
+    pub fault_is : (fault : MergeFault) → RefusalOfAll asked g fault → SaturateFaultIs axioms start rounds nodes (saturate_fault fault)
+    fault_is (NoWorld class x y) h = impossible x y h
+    fault_is Memory h = tt
+
+  stop_is : (last : Bool) (stop : Stop) → (last ≡ true → j ≡ rounds) → (last ≡ false → j ≢ rounds) → StopFits (length asked) need (length g.rows) last nodes stop → StopIs axioms g rounds nodes j stop
+  stop_is last Quiet is isnt h = quiet axioms g asked need ready h
+  stop_is last Rounds is isnt h = (unmet axioms g asked need ready h.0, is h.1)
+  stop_is last Full is isnt h = (
+    unmet axioms g asked need ready h.0,
+    isnt h.1,
+    record { need = operators_asked asked; is = ready.are.needs; passed = let p = h.2 in omega (arith, ready.need_is, p) },
+  )
+
+  pub saturated : (last : Bool) (stop : Stop) → (last ≡ true → j ≡ rounds) → (last ≡ false → j ≢ rounds) → StopFits (length asked) need (length g.rows) last nodes stop → IsSaturated axioms start rounds nodes g j stop
+  saturated last stop is isnt h = record { after = running.after; stops = stop_is last stop is isnt h; graph = ready.graph }
+
+pub not_last : (a b : ℕ) → eqb a b ≡ false → a ≢ b
+not_last a b e = elim (eqb_tells a b) [ inl h ↦ absurd (let k : true ≡ false = sym h.0 ∙ e in cc) | inr h ↦ h.1 ]
+
+pub is_last : (a b : ℕ) → eqb a b ≡ true → a ≡ b
+is_last a b e = elim (eqb_tells a b) [ inl h ↦ h.1 | inr h ↦ absurd (let k : false ≡ true = sym h.0 ∙ e in cc) ]
+
+pub some_asked : (items : List Instance) (count len : ℕ) → (count ≡ 0 → ⊥) → count ≡ len → len ≡ length items → length (map asked_of items) ≢ 0
+some_asked items count len n e f = λ z. n (omega (arith, e, f, z, length-map items asked_of))
+
+pub stop_fits : (asked count need rows some : ℕ) (last : Bool) (nodes : ℕ) (stop : Stop) → count ≡ asked → rows ≡ some → StopFits count need rows last nodes stop → StopFits asked need some last nodes stop
+stop_fits asked count need rows some last nodes stop e f h = subst (λ n. StopFits asked need n last nodes stop) f (subst (λ n. StopFits n need rows last nodes stop) e h)

@@ -1,0 +1,19 @@
+use Rattle.std.proofs.Common.{ℕ, ◌-◌, drop, length, subst, arith}
+use Rattle.std.proofs.lemmas.List.{take_all, length-drop}
+use Rattle.std.specs.Prelude.{MatchOption}
+use Rattle.std.proofs.lemmas.Option.{MatchOption-at_some}
+use Rattle.axiom_base.specs.Conditions.{IsCalc}
+use Rattle.pattern_match.specs.Bindings.{HaveConstants}
+use Rattle.saturation.proofs.ConstantsOf.{given_exactly}
+use Rattle.saturation.proofs.constants.given.Goals as goal
+
+pub returns : goal.returns
+returns c =
+    let g = c.args.graph.now in
+    let kind = c.args.kind in
+    let classes = c.args.classes.now in
+    let words = c.in-Some.words.items in
+    let h = MatchOption-at_some _ _ c.in-Some.words c.in-Some.is c.in_ok-words.ensures.exact in
+    given_exactly g c.requires.graph kind classes words c.calc.result
+    (subst (λ n. HaveConstants g (drop n classes) words) c.first_constant.ensures.number (subst (λ cs. HaveConstants g cs words) (take_all (length classes - c.first_constant.result) (drop c.first_constant.result classes) (omega (arith, length-drop c.first_constant.result classes))) h))
+    (subst (λ ws. MatchOption c.calc.result ((e : ℕ) → IsCalc kind ws e → ⊥) (IsCalc kind ws)) c.deref.ensures.value c.calc.ensures.exact)

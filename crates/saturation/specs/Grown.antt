@@ -1,0 +1,63 @@
+-- The E-graph after a number of rounds, and when rounds end. From Denali (PLDI 2002), its matching phase; when rounds
+-- end is this project's.
+use Rattle.std.specs.Prelude.{◌≡◌, ◌≢◌, ℕ, ◌+◌, ◌<◌, ◌≤◌, ◌⊎◌, ◌↔◌, List, [], length, Contains, AllPairs}
+use Rattle.word_ops.specs.declared.sorts.Op.{Op}
+use Rattle.word_terms.specs.Tree.{Tree}
+use Rattle.axiom_base.specs.Rewrites.{Rewrite}
+use Rattle.axiom_base.specs.Schemes.{Scheme, schemes}
+use Rattle.egraph.specs.Graph.{Graph, Agree, HasClass}
+use Rattle.pattern_match.specs.Classes.{IsClass, HaveOneClass}
+use Rattle.pattern_match.specs.Matches.{IsUnmetOf, AreNeeds}
+use Rattle.saturation.specs.Derives.{Derives, Pair}
+
+-- each class is that of a term
+abbrev pub AreInhabited : {O : Type 0} → Graph O → Type 0
+AreInhabited {O} g = (c : ℕ) → HasClass g c → ((t : Tree O) × IsClass g [] t c)
+
+-- no row stands twice, each class is that of a term, and terms have one class exactly where so many rounds make them
+-- equal
+pub record IsGrown (axioms : List Rewrite) (present : List (Tree Op)) (equal : List Pair) (g : Graph Op) (j : ℕ) :
+    Type 0 where
+  pub distinct : AllPairs (λ r t. ¬ Agree r t) g.rows
+  pub inhabited : AreInhabited g
+  pub exact : (t u : Tree Op) → HaveOneClass g [] t u ↔ Derives axioms present equal j t u
+
+-- no match is unmet
+abbrev pub IsQuiet : List Rewrite → Graph Op → Type 0
+IsQuiet axioms g = (s : Scheme) → Contains (schemes axioms) s → (places : List ℕ) → ¬ IsUnmetOf g s places
+
+-- the rows and what the unmet matches need pass the limit
+pub record IsFull (axioms : List Rewrite) (g : Graph Op) (nodes : ℕ) : Type 0 where
+  pub need : ℕ
+  pub is : AreNeeds g (schemes axioms) need
+  pub passed : nodes < length g.rows + need
+
+-- they don't pass it
+pub record IsWithin (axioms : List Rewrite) (g : Graph Op) (nodes : ℕ) : Type 0 where
+  pub need : ℕ
+  pub is : AreNeeds g (schemes axioms) need
+  pub within : length g.rows + need ≤ nodes
+
+-- the rounds end with this graph, which is the one after j of them
+abbrev pub Ends : List Rewrite → Graph Op → ℕ → ℕ → ℕ → Type 0
+Ends axioms g rounds nodes j = IsQuiet axioms g ⊎ (j ≡ rounds) ⊎ IsFull axioms g nodes
+
+-- the graph after j rounds, with which they end, or go on
+pub record Halts (axioms : List Rewrite) (present : List (Tree Op)) (equal : List Pair) (rounds nodes j : ℕ) :
+    Type 0 where
+  pub graph : Graph Op
+  pub grown : IsGrown axioms present equal graph j
+  pub ends : Ends axioms graph rounds nodes j
+
+pub record GoesOn (axioms : List Rewrite) (present : List (Tree Op)) (equal : List Pair) (rounds nodes j : ℕ) :
+    Type 0 where
+  pub graph : Graph Op
+  pub grown : IsGrown axioms present equal graph j
+  pub unmet : ¬ IsQuiet axioms graph
+  pub asked : j ≢ rounds
+  pub within : IsWithin axioms graph nodes
+
+-- no number of rounds below j is their end
+abbrev pub NotBefore : List Rewrite → List (Tree Op) → List Pair → ℕ → ℕ → ℕ → Type 0
+NotBefore axioms present equal rounds nodes j =
+    (i : ℕ) → i < j → GoesOn axioms present equal rounds nodes i

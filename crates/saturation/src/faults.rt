@@ -1,0 +1,36 @@
+// Why a saturation is refused.
+ghost use Rattle.std.specs.Prelude.{◌≡◌};
+ghost use Rattle.saturation.specs.Instances.{saturate_fault};
+ghost use Rattle.saturation.specs.declared.faults.SaturateFault.TheVariants.{Memory};
+
+use egraph::MergeFault;
+use items::NoMemory;
+use thiserror::Error;
+
+#[derive(Clone, Copy, PartialEq, Eq, Debug, Error)]
+pub enum SaturateFault {
+    /// A round puts the different constants `a` and `b` into `class`, so the axioms hold in no world.
+    #[error("the constants {a} and {b} would be one")]
+    NoWorld { class: u32, a: u64, b: u64 },
+    #[error("out of memory")]
+    Memory,
+}
+
+impl From<NoMemory> for SaturateFault {
+    ghost from_gives = { λ _ fault. fault ≡ Memory };
+
+    fn from(_: NoMemory) -> SaturateFault {
+        SaturateFault::Memory
+    }
+}
+
+impl From<MergeFault> for SaturateFault {
+    ghost from_gives = { λ merge fault. fault ≡ saturate_fault merge };
+
+    fn from(fault: MergeFault) -> SaturateFault {
+        match fault {
+            MergeFault::NoWorld { class, a, b } => SaturateFault::NoWorld { class, a, b },
+            MergeFault::Memory => SaturateFault::Memory,
+        }
+    }
+}

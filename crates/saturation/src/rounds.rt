@@ -1,0 +1,95 @@
+// Rounds of matching, and when they end.
+ghost use Rattle.std.specs.Prelude.{◌≡◌, ◌≢◌, ◌≤◌, ◌<◌, ◌+◌, ◌^◌, length, map, false, MatchOption, IfOk, IfErr};
+ghost use Rattle.saturation.specs.Asking.{StopFits};
+ghost use Rattle.saturation.specs.Rounds.{IsSaturated, KeepsStanding, SaturateFaultIs, IsHopeless};
+
+use crate::asking::{ask, need_of};
+use crate::faults::SaturateFault;
+use crate::making::make_all;
+use axiom_base::{Rule, computed_rules_are_true, constants_are_numbered, schemes_are_true};
+use egraph::{Egraph, MergeFault};
+use items::{Items, NoMemory};
+use std::alloc::Global;
+use word_ops::{Op, meanings_are_in_range};
+
+/// The program's own rules. Equations, computed rules and folding always apply.
+#[derive(Drop)]
+pub struct Rules {
+    pub program: Items<Rule>,
+}
+
+/// Why rounds end.
+#[derive(Clone, Copy, PartialEq, Eq, Debug)]
+pub enum Stop {
+    /// No match is unmet.
+    Quiet,
+    /// The rounds asked for are done.
+    Rounds,
+    /// Another round might pass the limit on rows.
+    Full,
+}
+
+/// A graph after rounds of matching.
+#[derive(Drop)]
+pub struct Saturated {
+    pub graph: Egraph<Op>,
+    pub rounds: u32,
+    pub stop: Stop,
+}
+
+/// Rounds of matching until no match is unmet, the rounds asked for are done, or another might pass the limit on rows.
+/// Each round finds all unmet matches, and then makes the right side of each.
+pub fn saturate(
+    alloc: Global,
+    graph: Egraph<Op>,
+    rules: &Rules,
+    rounds: u32,
+    nodes: u32,
+) -> Result<Saturated, SaturateFault>
+    requires rounds { rounds ≤ 16 }
+    requires nodes { nodes ≤ 4096 }
+    requires few { length graph.current < 2 ^ 30 }
+    ensures saturated { IfOk result (λ s. IsSaturated rules.now.program graph rounds nodes s.graph s.rounds s.stop) }
+    ensures rounds { IfOk result (λ s. s.rounds ≤ rounds) }
+    ensures stands { IfOk result (λ s. KeepsStanding rules.now.program graph s.graph) }
+    ensures fault { IfErr result (SaturateFaultIs rules.now.program graph rounds nodes) }
+    ensures hopeless { IfErr result (IsHopeless rules.now.program graph) }
+{
+    schemes_are_true();
+    constants_are_numbered();
+    computed_rules_are_true();
+    meanings_are_in_range();
+    let program = rules.program.as_slice();
+    let mut graph = graph;
+    let mut done = 0;
+    loop {
+        let rows = graph.rows();
+        let asked = ask(alloc, &graph, program)?;
+        let need = need_of(&asked);
+        if let Some(stop) = stop_of(asked.len(), need, rows, done == rounds, nodes) {
+            return Ok(Saturated {
+                graph,
+                rounds: done,
+                stop,
+            });
+        }
+        graph = make_all(alloc, graph, &asked)?;
+        done += 1;
+    }
+}
+
+fn stop_of(asked: usize, need: u64, rows: u32, last: bool, nodes: u32) -> Option<Stop>
+    ensures { MatchOption result
+        ((asked ≢ 0) × (last ≡ false) × (rows + need ≤ nodes))
+        (λ stop. StopFits asked need rows last nodes stop) }
+{
+    if asked == 0 {
+        Some(Stop::Quiet)
+    } else if last {
+        Some(Stop::Rounds)
+    } else if need > u64::from(nodes) || u64::from(rows) + need > u64::from(nodes) {
+        Some(Stop::Full)
+    } else {
+        None
+    }
+}
