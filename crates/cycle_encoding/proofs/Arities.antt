@@ -1,0 +1,86 @@
+-- A row has four word operands at most.
+use Rattle.std.proofs.Common.{◌≡◌, ℕ, zero, suc, ◌+◌, ◌*◌, ◌<◌, ◌≤◌, Bool, true, false, cond, List, ◌∷◌, [], length, map, get_or, Option, Some, None, refl, sym, ap, ◌∙◌, subst, arith}
+use Rattle.std.specs.Prelude.{nat_le, is_some, slice_get}
+use Rattle.std.specs.List.{count_by, filter}
+use Rattle.std.proofs.lemmas.Bool.{leb-true}
+use Rattle.std.proofs.lemmas.List.Sums.{length-filter, count_by-le-length}
+use Rattle.word_ops.specs.Meanings.{arity_of_op}
+use Rattle.word_ops.specs.declared.operators.WordOp.{WordOp}
+use Rattle.word_ops.specs.declared.operators.WordOp.TheVariants as ops
+use Rattle.word_ops.specs.declared.sorts.Op.{Op}
+use Rattle.word_ops.specs.declared.sorts.Op.TheVariants.{Word, Select, Store, Load, Put}
+use Rattle.machine_table.specs.InstrOrder.{operate_kind}
+use Rattle.launch_graph.specs.WellFormed.{IsLaunchGraph}
+use Rattle.launch_graph.specs.declared.graphs.LaunchGraph.{LaunchGraph}
+use Rattle.launch_graph.specs.declared.graphs.LaunchRow.{LaunchRow}
+use Rattle.launch_graph.specs.declared.graphs.Guard.{Guard}
+use Rattle.schedule_meaning.specs.Launches.{Operand, operands_at, row_operands, guard_operands, op_operands, operate_operands, plain}
+use Rattle.cycle_encoding.specs.Families.{is_made}
+use Rattle.cycle_encoding.specs.Facts.{made_among}
+use Rattle.cycle_encoding.proofs.OperandLists.{operate_size}
+use Rattle.cycle_encoding.proofs.Tables.{got_is}
+
+arity_few : (op : WordOp) → nat_le (arity_of_op (Word op)) 4 ≡ true
+arity_few ops.Neg = refl
+arity_few _ = refl
+
+word_few : (b : Bool) (operands : List ℕ) → length operands ≤ 4 → length (cond b (operate_operands operands) (plain (get_or operands 0 0) ∷ [])) ≤ 4
+word_few true operands le = (let s = operate_size operands in omega arith)
+word_few false operands le = (let s : length (plain (get_or operands 0 0) ∷ []) ≡ 1 = refl in omega (arith, s))
+
+op_few : (op : Op) (operands : List ℕ) → length operands ≡ arity_of_op op → length (op_operands op operands) ≤ 4
+op_few (Word op) operands e = word_few (is_some (operate_kind op)) operands (let a = leb-true (arity_of_op (Word op)) 4 (arity_few op) in omega arith)
+op_few Select operands e = omega arith
+op_few Load operands e = omega arith
+op_few Store operands e = omega arith
+op_few Put operands e = omega arith
+op_few op operands e = omega arith
+
+module _ (g : LaunchGraph) (well : IsLaunchGraph g) where
+  row_few : (row : ℕ) (o : Option LaunchRow) → slice_get g.rows row ≡ o → length (row_operands o) ≤ 4
+  row_few row None e = omega arith
+  row_few row (Some r) e =
+      let at = got_is g.rows row r e in
+      op_few r.op r.operands (subst (λ (r : LaunchRow). length r.operands ≡ arity_of_op r.op) at.1 (well.arities row r at.0))
+
+  guard_few : (o : Option Guard) → length (guard_operands o) ≤ 4
+  guard_few None = omega arith
+  guard_few (Some x) = omega arith
+
+  either_few : (row : ℕ) (b : Bool) → length (cond b (guard_operands g.guard) (row_operands (slice_get g.rows row))) ≤ 4
+  either_few row true = guard_few g.guard
+  either_few row false = row_few row (slice_get g.rows row) refl
+
+  pub operands_few : (row : ℕ) → length (operands_at g row) ≤ 4
+  operands_few row = either_few row _
+
+size-map : {X A : Type 0} (f : X → A) (xs : List X) → length (map f xs) ≡ length xs
+size-map f [] = refl
+size-map f (x ∷ xs) = ap suc (size-map f xs)
+
+pub made_count_is : (g : LaunchGraph) (os : List Operand) → length (made_among g os) ≡ count_by (is_made g) os
+made_count_is g os = size-map (λ (o : Operand). o.class) (filter (is_made g) os) ∙ length-filter (is_made g) os
+
+pub times_le : (n b m : ℕ) → n ≤ b → n * m ≤ b * m
+times_le n b zero le = (let x : n * zero ≡ 0 = omega arith in let y : b * zero ≡ 0 = omega arith in omega arith)
+times_le n b (suc m) le =
+    let r = times_le n b m le in
+    let x : n * suc m ≡ n * m + n = omega arith in
+    let y : b * suc m ≡ b * m + b = omega arith in
+    omega arith
+
+-- the operands of a row's launches
+module _ (g : LaunchGraph) (well : IsLaunchGraph g) (row n : ℕ) (made : List ℕ) (is : made ≡ made_among g (operands_at g row)) where
+  made_is : length made ≡ count_by (is_made g) (operands_at g row)
+  made_is = ap (λ (xs : List ℕ). length xs) is ∙ made_count_is g (operands_at g row)
+
+  pub times_is : (m : ℕ) → n ≡ m → n * length made ≡ m * count_by (is_made g) (operands_at g row)
+  times_is m e = ap (λ x. x * length made) e ∙ ap (λ x. m * x) made_is
+
+  pub times_few : n ≤ 200 → n * length made ≤ 800
+  times_few le =
+      let a = times_le n 200 (length made) le in
+      let b = made_is in
+      let c = count_by-le-length (is_made g) (operands_at g row) in
+      let d = operands_few g well row in
+      omega arith

@@ -1,0 +1,173 @@
+-- Sums over all launches, row by row.
+use Rattle.std.proofs.Common.{◌≡◌, ℕ, suc, ◌+◌, ◌-◌, ◌*◌, ◌<◌, Bool, true, false, List, [], ◌∷◌, ◌++◌, length, map, refl, sym, ap, ◌∙◌, subst, arith, inl, inr, Option, Some, None, length-append}
+use Rattle.std.specs.Prelude.{◌&&◌, ◌==◌, nat_lt, Contains, option_and_then}
+use Rattle.std.specs.Option.{option_map_or}
+use Rattle.std.specs.List.{filter, flat_map, list_any, count_by, sum_by, range_with_len}
+use Rattle.std.proofs.lemmas.Bool.{false≢true, cases_Bool, eqb-true, eq-eqb, false_from_ne_true}
+use Rattle.std.proofs.lemmas.List.Sums.{sum_by-cons, length-filter}
+use Rattle.std.proofs.lemmas.List.FromFn.{length-range_with_len}
+use Rattle.cnf_core.specs.declared.literal.Lit.{Lit}
+use Rattle.cnf_core.specs.Counter.{at_most_clauses, at_most_size, at_most_vars}
+use Rattle.machine_table.specs.Tables.{use_of, cluster_of}
+use Rattle.schedule_meaning.specs.Launches.{instr_at, operands_at, gives}
+use Rattle.machine_table.specs.declared.tables.Table.{Table}
+use Rattle.machine_table.specs.declared.tables.Use.{Use}
+use Rattle.machine_table.specs.declared.tables.InstrKind.{InstrKind}
+use Rattle.launch_graph.specs.declared.graphs.LaunchGraph.{LaunchGraph}
+use Rattle.launch_graph.specs.declared.graphs.SetClass.{SetClass}
+use Rattle.schedule_meaning.specs.declared.schedules.Launch.{Launch}
+use Rattle.cycle_encoding.specs.Shapes.{vars_of, counters, counters_vars}
+use Rattle.cycle_encoding.specs.Variables.{slots_of, use_launches, row_launches, all_launches, made_classes, clusters_of, all_seen, Seen}
+use Rattle.cycle_encoding.specs.Families.{is_at, is_made, is_made_target, slot_row, slot_groups, target_clauses, operand_clauses, seen_clauses, makes, is_seen}
+use Rattle.cycle_encoding.specs.CycleFormula.{wide, launch_vars, seen_vars, before_slots, after_cycles, cycle_part}
+use Rattle.cycle_encoding.specs.Counts.{one_if, row_use, cycles_of, row_count, row_has, row_numbers, sum_launches, at_count, sum_places, seen_count, cycle_vars, cycle_size}
+use Rattle.cycle_encoding.proofs.Counting.{sum-same}
+use Rattle.cycle_encoding.proofs.Tests.{some_of, some_in}
+use Rattle.cycle_encoding.proofs.Members.{here, later, filter-in, filter-out, range-in, range-out, range-once, filter-once}
+use Rattle.cycle_encoding.proofs.Rows.{counters-size}
+use Rattle.cycle_encoding.proofs.Totals.{sum-flat, sum-map, sum-const, sum-times, size-ones, size-flat, size-vars, size-implied, count-this, count-cycle}
+
+pub same-in : {X : Type 0} (f h : X → ℕ) (xs : List X) → ((x : X) → Contains xs x → f x ≡ h x) → sum_by f xs ≡ sum_by h xs
+same-in f h [] e = refl
+same-in f h (x ∷ xs) e =
+    sum_by-cons f x xs ∙ ap (λ n. n + sum_by f xs) (e x (here x xs)) ∙ ap (λ n. h x + n) (same-in f h xs (λ y c. e y (later x y xs c))) ∙ sym (sum_by-cons h x xs)
+
+pub size-map : {X A : Type 0} (f : X → A) (xs : List X) → length (map f xs) ≡ length xs
+size-map f [] = refl
+size-map f (x ∷ xs) = ap suc (size-map f xs)
+
+pub both_one : (a b : Bool) → one_if a * one_if b ≡ one_if (a && b)
+both_one true b = omega arith
+both_one false b = omega arith
+
+abbrev pub at : ℕ → ℕ → ℕ → Launch
+at row slot cycle = record { cycle = cycle; slot = slot; row = row }
+
+module _ (g : LaunchGraph) (table : Table) (k : ℕ) where
+  -- a sum over the launches of a row, use by use
+  module _ (row : ℕ) (F : Launch → ℕ) (C : Use → ℕ) (each : (u : Use) → sum_by F (use_launches table k row u) ≡ C u) where
+    by_use : (u : Option Use) → sum_by F (option_map_or (use_launches table k row) u []) ≡ option_map_or C u 0
+    by_use None = refl
+    by_use (Some u) = each u
+
+    by_instr : (o : Option InstrKind) → sum_by F (option_map_or (λ i. option_map_or (use_launches table k row) (use_of table i) []) o []) ≡ option_map_or C (option_and_then (use_of table) o) 0
+    by_instr None = refl
+    by_instr (Some i) = by_use (use_of table i)
+
+    pub by_row : sum_by F (row_launches g table k row) ≡ option_map_or C (row_use g table k row) 0
+    by_row = by_instr (instr_at g row)
+
+  pub use_sum : (row : ℕ) (u : Use) (F : Launch → ℕ) → sum_by F (use_launches table k row u) ≡ sum_by (λ s. sum_by (λ t. F (at row s t)) (range_with_len 0 (k + 1 - u.latency))) (slots_of table u)
+  use_sum row u F =
+      sum-flat F (λ s. map (at row s) (range_with_len 0 (k + 1 - u.latency))) (slots_of table u)
+      ∙ sum-same (λ s. sum_by F (map (at row s) (range_with_len 0 (k + 1 - u.latency)))) (λ s. sum_by (λ t. F (at row s t)) (range_with_len 0 (k + 1 - u.latency))) (slots_of table u) (λ s. sum-map F (at row s) (range_with_len 0 (k + 1 - u.latency)))
+
+  -- what hangs on the row alone
+  use_row : (f : ℕ → ℕ) (row : ℕ) (u : Use) → sum_by (λ (l : Launch). f l.row) (use_launches table k row u) ≡ length (slots_of table u) * cycles_of g table k u * f row
+  use_row f row u =
+      let n = k + 1 - u.latency in
+      let one : sum_by (λ (t : ℕ). f row) (range_with_len 0 n) ≡ n * f row = sum-const (f row) (range_with_len 0 n) ∙ ap (λ m. m * f row) (length-range_with_len 0 n) in
+      use_sum row u (λ l. f l.row)
+      ∙ sum-same (λ (s : ℕ). sum_by (λ (t : ℕ). f row) (range_with_len 0 n)) (λ s. n * f row) (slots_of table u) (λ s. one)
+      ∙ sum-const (n * f row) (slots_of table u)
+      ∙ (let e : (a b c : ℕ) → a * (b * c) ≡ a * b * c = λ a b c. omega arith in e (length (slots_of table u)) n (f row))
+
+  times_in : (c : ℕ) (D : Use → ℕ) (o : Option Use) → option_map_or (λ u. D u * c) o 0 ≡ option_map_or D o 0 * c
+  times_in c D None = (let z : 0 ≡ 0 * c = omega arith in z)
+  times_in c D (Some u) = refl
+
+  pub sum-rows : (f : ℕ → ℕ) → sum_by (λ (l : Launch). f l.row) (all_launches g table k) ≡ sum_launches g table k f
+  sum-rows f =
+      sum-flat (λ (l : Launch). f l.row) (row_launches g table k) (row_numbers g table k)
+      ∙ sum-same (λ row. sum_by (λ (l : Launch). f l.row) (row_launches g table k row)) (λ row. row_count g table k row * f row) (row_numbers g table k) (λ row. by_row row (λ l. f l.row) (λ u. length (slots_of table u) * cycles_of g table k u * f row) (use_row f row) ∙ times_in (f row) (λ u. length (slots_of table u) * cycles_of g table k u) (row_use g table k row))
+
+  pub launch-count : length (all_launches g table k) ≡ sum_launches g table k (λ row. 1)
+  launch-count = size-ones (all_launches g table k) ∙ sum-rows (λ row. 1)
+
+  -- a slot and a cycle
+  any_slot : (u : Use) (s : ℕ) → s < length table.slots → list_any (λ x. x == s) (slots_of table u) ≡ list_any (λ r. r == s) u.slots
+  any_slot u s lt =
+      elim (cases_Bool (list_any (λ r. r == s) u.slots)) [
+        | inl t ↦ some_in (λ x. x == s) (slots_of table u) s (filter-in (λ s. list_any (λ r. r == s) u.slots) (range_with_len 0 (length table.slots)) s (range-in 0 (length table.slots) s (omega arith) (omega arith)) t) (eq-eqb s s refl) ∙ sym t
+        | inr f ↦
+            false_from_ne_true (list_any (λ x. x == s) (slots_of table u)) (λ t.
+            let m = some_of (λ x. x == s) (slots_of table u) t in
+            let p = filter-out (λ s. list_any (λ r. r == s) u.slots) (range_with_len 0 (length table.slots)) m.0 m.1 in
+            false≢true (sym f ∙ subst (λ x. list_any (λ r. r == x) u.slots ≡ true) (eqb-true m.0 s m.2) p.1)) ∙ sym f
+      ]
+
+  pub in_cycle : (b : Bool) (n t : ℕ) → sum_by (λ y. one_if (b && (y == t))) (range_with_len 0 n) ≡ one_if b * one_if (nat_lt t n)
+  in_cycle true n t = count-cycle n t ∙ (let z : one_if (nat_lt t n) ≡ 1 * one_if (nat_lt t n) = omega arith in z)
+  in_cycle false n t = sum-const 0 (range_with_len 0 n) ∙ (let z : length (range_with_len 0 n) * 0 ≡ 0 * one_if (nat_lt t n) = omega arith in z)
+
+  use_at : (s t row : ℕ) → s < length table.slots → (u : Use) → count_by (is_at s t) (use_launches table k row u) ≡ one_if (list_any (λ r. r == s) u.slots && nat_lt t (cycles_of g table k u))
+  use_at s t row lt u =
+      let n = k + 1 - u.latency in
+      use_sum row u (λ l. one_if (is_at s t l))
+      ∙ sum-same (λ x. sum_by (λ y. one_if ((x == s) && (y == t))) (range_with_len 0 n)) (λ x. one_if (x == s) * one_if (nat_lt t n)) (slots_of table u) (λ x. in_cycle (x == s) n t)
+      ∙ sum-times (λ x. one_if (x == s)) (one_if (nat_lt t n)) (slots_of table u)
+      ∙ ap (λ m. m * one_if (nat_lt t n)) (count-this (slots_of table u) s (filter-once (λ s. list_any (λ r. r == s) u.slots) (range_with_len 0 (length table.slots)) (range-once 0 (length table.slots))) ∙ ap one_if (any_slot u s lt))
+      ∙ both_one (list_any (λ r. r == s) u.slots) (nat_lt t n)
+
+  one_in : (D : Use → Bool) (o : Option Use) → option_map_or (λ u. one_if (D u)) o 0 ≡ one_if (option_map_or D o false)
+  one_in D None = refl
+  one_in D (Some u) = refl
+
+  pub at-count : (s t : ℕ) → s < length table.slots → count_by (is_at s t) (all_launches g table k) ≡ at_count g table k s t
+  at-count s t lt =
+      sum-flat (λ l. one_if (is_at s t l)) (row_launches g table k) (row_numbers g table k)
+      ∙ sum-same (λ row. count_by (is_at s t) (row_launches g table k row)) (λ row. one_if (row_has g table k s t row)) (row_numbers g table k) (λ row. by_row row (λ l. one_if (is_at s t l)) (λ u. one_if (list_any (λ r. r == s) u.slots && nat_lt t (cycles_of g table k u))) (use_at s t row lt) ∙ one_in (λ u. list_any (λ r. r == s) u.slots && nat_lt t (cycles_of g table k u)) (row_use g table k row))
+
+  -- ---- what is seen
+
+  pub seen-size : length (all_seen table k (made_classes g)) ≡ seen_count g table k
+  seen-size =
+      size-flat (λ c. flat_map (λ n. map (λ t. record { class = c; cluster = n; cycle = t }) (range_with_len 0 k)) (clusters_of table)) (made_classes g)
+      ∙ sum-same (λ c. length (flat_map {A = Seen} (λ n. map (λ t. record { class = c; cluster = n; cycle = t }) (range_with_len 0 k)) (clusters_of table))) (λ c. length (clusters_of table) * k) (made_classes g)
+      (λ c. size-flat {A = Seen} (λ n. map (λ t. record { class = c; cluster = n; cycle = t }) (range_with_len 0 k)) (clusters_of table)
+      ∙ sum-same (λ n. length (map {B = Seen} (λ t. record { class = c; cluster = n; cycle = t }) (range_with_len 0 k))) (λ n. k) (clusters_of table) (λ n. size-map {A = Seen} (λ t. record { class = c; cluster = n; cycle = t }) (range_with_len 0 k) ∙ length-range_with_len 0 k)
+      ∙ sum-const k (clusters_of table))
+      ∙ sum-const (length (clusters_of table) * k) (made_classes g)
+
+  -- ---- counters over slots and cycles
+
+  pub places : (h : ℕ → ℕ) → sum_by (λ (c : List Lit). h (length c)) (slot_groups table k (launch_vars g table k (wide g table k))) ≡ sum_places g table k (λ s t. h (at_count g table k s t))
+  places h =
+      let xs = launch_vars g table k (wide g table k) in
+      sum-flat (λ (c : List Lit). h (length c)) (λ s. slot_row s k xs) (range_with_len 0 (length table.slots))
+      ∙ same-in (λ s. sum_by (λ (c : List Lit). h (length c)) (slot_row s k xs)) (λ s. sum_by (λ t. h (at_count g table k s t)) (range_with_len 0 k)) (range_with_len 0 (length table.slots)) (λ s hs.
+      let lt : s < length table.slots = (let b = (range-out 0 (length table.slots) s hs).1 in omega arith) in
+      sum-map (λ (c : List Lit). h (length c)) (λ t. vars_of (is_at s t) xs) (range_with_len 0 k)
+      ∙ sum-same (λ t. h (length (vars_of (is_at s t) xs))) (λ t. h (at_count g table k s t)) (range_with_len 0 k) (λ t. ap h (size-vars (is_at s t) 0 (all_launches g table k) ∙ at-count s t lt)))
+
+  -- ---- the part of the cycles
+
+  pub cycle-vars : after_cycles g table k (wide g table k) ≡ cycle_vars g table k
+  cycle-vars =
+      ap (λ n. n + length (all_seen table k (made_classes g)) + counters_vars 1 (slot_groups table k (launch_vars g table k (wide g table k)))) launch-count
+      ∙ ap (λ n. sum_launches g table k (λ row. 1) + n + counters_vars 1 (slot_groups table k (launch_vars g table k (wide g table k)))) seen-size
+      ∙ ap (λ n. sum_launches g table k (λ row. 1) + seen_count g table k + n) (places (at_most_vars 1))
+
+  module _ (size : (old p : ℕ) (lits : List Lit) → length (at_most_clauses old p lits) ≡ at_most_size p (length lits)) where
+    pub cycle-size : length (cycle_part g table k (wide g table k)) ≡ cycle_size g table k
+    cycle-size =
+        let e = wide g table k in
+        let xs = launch_vars g table k e in
+        let ds = seen_vars g table k e in
+        let c1 = target_clauses g xs in
+        let c2 = operand_clauses g table xs ds in
+        let c3 = seen_clauses g table xs ds in
+        let c4 = counters (before_slots g table k e) 1 (slot_groups table k xs) in
+        let l1 : length c1 ≡ count_by (is_made_target g) g.sets = size-map (λ (s : SetClass). vars_of (gives g s.class) xs) (filter (is_made_target g) g.sets) ∙ length-filter (is_made_target g) g.sets in
+        let l2 : length c2 ≡ sum_launches g table k (λ row. count_by (is_made g) (operands_at g row)) =
+        size-implied (λ (l : Launch). map (λ o. vars_of (is_seen o.class (cluster_of table l.slot) l.cycle) ds) (filter (is_made g) (operands_at g l.row))) 0 (all_launches g table k)
+        ∙ sum-same (λ (l : Launch). length (map (λ o. vars_of (is_seen o.class (cluster_of table l.slot) l.cycle) ds) (filter (is_made g) (operands_at g l.row)))) (λ l. count_by (is_made g) (operands_at g l.row)) (all_launches g table k) (λ l. size-map (λ o. vars_of (is_seen o.class (cluster_of table l.slot) l.cycle) ds) (filter (is_made g) (operands_at g l.row)) ∙ length-filter (is_made g) (operands_at g l.row))
+        ∙ sum-rows (λ row. count_by (is_made g) (operands_at g row)) in
+        let l3 : length c3 ≡ seen_count g table k = size-implied (λ d. vars_of (makes g table d) xs ∷ []) (length e.launches) e.seen ∙ sym (size-ones e.seen) ∙ seen-size in
+        let l4 : length c4 ≡ sum_places g table k (λ s t. at_most_size 1 (at_count g table k s t)) = counters-size 1 size (before_slots g table k e) (slot_groups table k xs) ∙ places (at_most_size 1) in
+        length-append (c1 ++ c2 ++ c3) c4
+        ∙ ap (λ n. n + length c4) (length-append (c1 ++ c2) c3 ∙ ap (λ n. n + length c3) (length-append c1 c2))
+        ∙ ap (λ n. n + length c2 + length c3 + length c4) l1
+        ∙ ap (λ n. count_by (is_made_target g) g.sets + n + length c3 + length c4) l2
+        ∙ ap (λ n. count_by (is_made_target g) g.sets + sum_launches g table k (λ row. count_by (is_made g) (operands_at g row)) + n + length c4) l3
+        ∙ ap (λ n. count_by (is_made_target g) g.sets + sum_launches g table k (λ row. count_by (is_made g) (operands_at g row)) + seen_count g table k + n) l4

@@ -1,0 +1,10 @@
+use Rattle.std.proofs.Common.{◌≡◌, ◌++◌, ◌∷◌, [], take, map}
+use Rattle.std.specs.List.{filter, range_with_len}
+use Rattle.schedule_meaning.specs.Launches.{gives}
+use Rattle.cycle_encoding.specs.Shapes.{numbered, implied, negative, positive, vars_of}
+use Rattle.cycle_encoding.specs.Families.{makes, is_made, is_seen}
+use Rattle.cycle_encoding.specs.Steps.{goals, is_ready, of_thing, sights, with_clauses}
+use Rattle.cycle_encoding.proofs.families.add_seen.Given as goal
+
+abbrev pub invariant-loop-index : goal.invariant-loop-index
+invariant-loop-index l = l.cnf ≡ with_clauses l.initial.cnf (implied (numbered l.seen.first (take l.index l.seen.seen.items)) (λ d. vars_of (makes l.facts l.table d) (numbered 0 l.launches) ∷ []))

@@ -1,0 +1,7 @@
+use Rattle.std.proofs.Common.{◌≡◌, ◌++◌, ◌∷◌, [], take, map}
+use Rattle.std.specs.List.{filter, range_with_len}
+use Rattle.cycle_encoding.specs.Steps.{given_in}
+use Rattle.cycle_encoding.proofs.families.giving.Given as goal
+
+abbrev pub invariant-loop-index : goal.invariant-loop-index
+invariant-loop-index l = l.given.items ≡ given_in l.facts l.class (take l.index l.launches)

@@ -1,0 +1,47 @@
+-- The formula of cycles, slots and values: the numbers of its variables, and its clauses in their order.
+-- Source: this project.
+use Rattle.std.specs.Prelude.{ℕ, ◌+◌, List, ◌++◌, length}
+use Rattle.cnf_core.specs.declared.literal.Lit.{Lit}
+use Rattle.cnf_core.specs.Formula.{Formula}
+use Rattle.machine_table.specs.declared.tables.Table.{Table}
+use Rattle.launch_graph.specs.declared.graphs.LaunchGraph.{LaunchGraph}
+use Rattle.schedule_meaning.specs.declared.schedules.Launch.{Launch}
+use Rattle.cycle_encoding.specs.Shapes.{numbered, counters, counters_vars}
+use Rattle.cycle_encoding.specs.Variables.{all_launches, made_classes, all_seen, Seen}
+use Rattle.cycle_encoding.specs.Families.{target_clauses, operand_clauses, seen_clauses, slot_groups}
+
+-- the launches that have variables, and what is seen, by which an encoding differs from others
+pub record Listed : Type 0 where
+  pub launches : List Launch
+  pub seen : List Seen
+
+-- every launch that ends by k, and every class that is made by launches
+abbrev pub wide : LaunchGraph → Table → ℕ → Listed
+wide g table k = record { launches = all_launches g table k; seen = all_seen table k (made_classes g) }
+
+module _ (g : LaunchGraph) (table : Table) (k : ℕ) (e : Listed) where
+  -- ---- the variables: each kind begins after the last one before it
+
+  abbrev pub launch_vars : List (ℕ × Launch)
+  launch_vars = numbered 0 e.launches
+
+  abbrev pub seen_vars : List (ℕ × Seen)
+  seen_vars = numbered (length e.launches) e.seen
+
+  abbrev pub before_slots : ℕ
+  before_slots = length e.launches + length e.seen
+
+  abbrev pub after_cycles : ℕ
+  after_cycles = before_slots + counters_vars 1 (slot_groups table k launch_vars)
+
+  -- ---- the clauses
+
+  abbrev pub cycle_part : List (List Lit)
+  cycle_part =
+      target_clauses g launch_vars
+      ++ operand_clauses g table launch_vars seen_vars
+      ++ seen_clauses g table launch_vars seen_vars
+      ++ counters before_slots 1 (slot_groups table k launch_vars)
+
+  abbrev pub cycle_formula : Formula
+  cycle_formula = record { vars = after_cycles; clauses = cycle_part }

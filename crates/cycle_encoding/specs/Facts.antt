@@ -1,0 +1,52 @@
+-- Tables of what a graph says of its classes and rows.
+-- Source: this project.
+use Rattle.std.specs.Prelude.{◌≡◌, ◌==◌, ◌&&◌, ℕ, Bool, false, not, List, map, Option, Some, slice_get}
+use Rattle.std.specs.Option.{option_map_or}
+use Rattle.std.specs.List.{filter, flat_map, list_any, range_with_len}
+use Rattle.machine_table.specs.Tables.{use_of}
+use Rattle.launch_graph.specs.Graphs.{constant_of}
+use Rattle.schedule_meaning.specs.Launches.{instr_at, Operand}
+use Rattle.machine_table.specs.declared.tables.InstrKind.{InstrKind}
+use Rattle.machine_table.specs.declared.tables.Table.{Table}
+use Rattle.launch_graph.specs.declared.graphs.LaunchGraph.{LaunchGraph}
+use Rattle.schedule_meaning.specs.declared.schedules.Launch.{Launch}
+use Rattle.cycle_encoding.specs.Families.{is_made}
+use Rattle.cycle_encoding.specs.Variables.{is_word_class, is_input, is_zero}
+
+-- what stands in the table at a number is what f says of it
+abbrev pub IsTableOf : {X : Type 0} → (ℕ → X) → List X → Type 0
+IsTableOf {X} f xs = (i : ℕ) (x : X) → slice_get xs i ≡ Some x → x ≡ f i
+
+pub record AreFacts (g : LaunchGraph) (constants : List (Option ℕ)) (words inputs : List Bool)
+    (instrs : List (Option InstrKind)) : Type 0 where
+  pub constants_are : IsTableOf (constant_of g) constants
+  pub words_are : IsTableOf (is_word_class g) words
+  pub inputs_are : IsTableOf (is_input g) inputs
+  pub instrs_are : IsTableOf (instr_at g) instrs
+
+-- the class is a word's, and is made by launches alone
+abbrev pub is_made_class : LaunchGraph → ℕ → Bool
+is_made_class g c = is_word_class g c && (not (is_input g c) && not (is_zero g c))
+
+abbrev pub operand_of : ℕ → Bool → Operand
+operand_of class second = record { class = class; second = second }
+
+-- the classes of the operands that have to be made by launches
+abbrev pub made_among : LaunchGraph → List Operand → List ℕ
+made_among g os = map (λ o. o.class) (filter (is_made g) os)
+
+-- the instruction may be launched in the slot, in so many cycles
+abbrev pub may_use : Table → InstrKind → ℕ → Bool
+may_use table instr slot = option_map_or (λ u. list_any (λ r. r == slot) u.slots) (use_of table instr) false
+
+abbrev pub launch_at : ℕ → ℕ → ℕ → Launch
+launch_at row slot cycle = record { cycle = cycle; slot = slot; row = row }
+
+-- the launches of a row in a slot, in each of so many cycles
+abbrev pub slot_launches : ℕ → ℕ → ℕ → List Launch
+slot_launches row cycles slot = map (launch_at row slot) (range_with_len 0 cycles)
+
+-- those in each of the first slots that the instruction may use
+abbrev pub slots_launches : Table → InstrKind → ℕ → ℕ → ℕ → List Launch
+slots_launches table instr row cycles slots =
+    flat_map (slot_launches row cycles) (filter (may_use table instr) (range_with_len 0 slots))

@@ -1,0 +1,9 @@
+pub mod Shapes
+pub mod Variables
+pub mod Families
+pub mod CycleFormula
+pub mod Counts
+pub mod Plans
+pub mod Facts
+pub mod Steps
+pub mod Faults

@@ -1,0 +1,25 @@
+-- What the calls keep beside a formula, and when a formula is too large.
+-- Source: this project.
+use Rattle.std.specs.Prelude.{◌≡◌, ℕ, ◌<◌, List, length, ◌⊎◌}
+use Rattle.cnf_core.specs.Formula.{Formula}
+use Rattle.machine_table.specs.declared.tables.Table.{Table}
+use Rattle.launch_graph.specs.declared.graphs.LaunchGraph.{LaunchGraph}
+use Rattle.schedule_meaning.specs.declared.schedules.Launch.{Launch}
+use Rattle.cycle_encoding.specs.Variables.{all_launches}
+
+-- for how many cycles a formula is, and the launches of its first variables, in order
+pub record Plan : Type 0 where
+  pub cycles : ℕ
+  pub launches : List Launch
+
+-- what is kept beside each formula of a graph and table in k cycles
+abbrev pub plan_of : LaunchGraph → Table → ℕ → Plan
+plan_of g table k = record { cycles = k; launches = all_launches g table k }
+
+-- one of the two counts passes its limit
+abbrev pub IsTooLarge : Formula → Type 0
+IsTooLarge f = (262144 < f.vars) ⊎ (2000000 < length f.clauses)
+
+-- these are the formula's counts, and one of them passes its limit
+abbrev pub PassesLimit : Formula → ℕ → ℕ → Type 0
+PassesLimit f vars clauses = IsTooLarge f × (vars ≡ f.vars) × (clauses ≡ length f.clauses)

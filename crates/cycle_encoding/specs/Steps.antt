@@ -1,0 +1,75 @@
+-- What the steps of the encoder add to a formula, and what they look up.
+-- Source: this project.
+use Rattle.std.specs.Prelude.{◌≡◌, ◌==◌, nat_le, ℕ, length, Bool, List, map, [], ◌∷◌, ◌++◌, Option, None, Some}
+use Rattle.std.specs.List.{list_any, flat_map, filter, range_with_len}
+use Rattle.cnf_core.specs.declared.literal.Lit.{Lit}
+use Rattle.cnf_core.specs.Formula.{Formula}
+use Rattle.machine_table.specs.declared.tables.Table.{Table}
+use Rattle.launch_graph.specs.declared.graphs.LaunchGraph.{LaunchGraph}
+use Rattle.launch_graph.specs.declared.graphs.SetClass.{SetClass}
+use Rattle.schedule_meaning.specs.Launches.{gives, ready_in}
+use Rattle.schedule_meaning.specs.declared.schedules.Launch.{Launch}
+use Rattle.launch_graph.specs.WellFormed.{next_class}
+use Rattle.cycle_encoding.specs.Shapes.{negative, numbered, vars_of}
+use Rattle.cycle_encoding.specs.Variables.{Seen, all_seen, made_classes}
+use Rattle.cycle_encoding.specs.Families.{is_seen, is_made_target}
+use Rattle.cycle_encoding.specs.Facts.{is_made_class}
+
+-- a formula with further clauses
+abbrev pub with_clauses : Formula → List (List Lit) → Formula
+with_clauses f cs = record f { clauses = f.clauses ++ cs }
+
+abbrev pub listed : {X : Type 0} → Option X → List X
+listed None = []
+listed (Some x) = x ∷ []
+
+-- some slot has the cluster
+abbrev pub has_cluster : Table → ℕ → Bool
+has_cluster table n = list_any (λ s. s.cluster == n) table.slots
+
+abbrev pub seen_at : ℕ → ℕ → ℕ → Seen
+seen_at class cluster cycle = record { class = class; cluster = cluster; cycle = cycle }
+
+-- what is seen of a class in a cluster, in the first cycles
+abbrev pub cluster_seen : ℕ → ℕ → ℕ → List Seen
+cluster_seen k class cluster = map (seen_at class cluster) (range_with_len 0 k)
+
+-- of a class, in those of the first numbers of clusters that some slot has
+abbrev pub clusters_seen : Table → ℕ → ℕ → ℕ → List Seen
+clusters_seen table k clusters class =
+    flat_map (cluster_seen k class) (filter (has_cluster table) (range_with_len 0 clusters))
+
+-- the places of things in a list of all that is seen: how many stand before a class, and before a cluster of a class
+abbrev pub seen_before : LaunchGraph → Table → ℕ → ℕ → ℕ
+seen_before g table k class =
+    length (flat_map (clusters_seen table k 4) (filter (is_made_class g) (range_with_len 0 class)))
+
+abbrev pub clusters_before : Table → ℕ → ℕ → ℕ → ℕ
+clusters_before table k class cluster =
+    length (flat_map (cluster_seen k class) (filter (has_cluster table) (range_with_len 0 cluster)))
+
+-- the first variable is the one after `first`, and the starts are how many are seen before each class
+pub record AreSeenVars (g : LaunchGraph) (table : Table) (k first : ℕ) (seen : List Seen)
+    (starts : List ℕ) : Type 0 where
+  pub seen_are : seen ≡ all_seen table k (made_classes g)
+  pub starts_are : starts ≡ map (seen_before g table k) (range_with_len 0 (next_class g.rows))
+
+-- clauses that the thing of a variable implies
+abbrev pub of_thing : ℕ → List (List Lit) → List (List Lit)
+of_thing var cs = map (λ c. negative var ∷ c) cs
+
+-- for each class a clause that it is seen
+abbrev pub sights : ℕ → ℕ → List (ℕ × Seen) → List ℕ → List (List Lit)
+sights cluster cycle ds classes = map (λ class. vars_of (is_seen class cluster cycle) ds) classes
+
+-- the launch is ready where the thing is seen
+abbrev pub is_ready : LaunchGraph → Table → Seen → Launch → Bool
+is_ready g table d l = nat_le (ready_in g table d.cluster l) d.cycle
+
+-- for each target that has to be made the launches that give it
+abbrev pub goals : LaunchGraph → List (ℕ × Launch) → List SetClass → List (List Lit)
+goals g xs sets = map (λ s. vars_of (gives g s.class) xs) (filter (is_made_target g) sets)
+
+-- the launches that give a class, with their variables
+unfoldable pub given_in : LaunchGraph → ℕ → List Launch → List (ℕ × Launch)
+given_in g class ls = filter (λ p. gives g class p.1) (numbered 0 ls)

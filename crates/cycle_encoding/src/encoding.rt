@@ -1,0 +1,94 @@
+// The formula of cycles, slots and values.
+ghost use Rattle.std.specs.Prelude.{◌≡◌, ◌+◌, ◌<◌, ◌≤◌, ◌^◌, length, IfOk, IfErr, OnOk};
+ghost use Rattle.cnf_core.specs.Formula.{Formula};
+ghost use Rattle.launch_graph.specs.WellFormed.{IsLaunchGraph};
+ghost use Rattle.machine_table.specs.Tables.{IsTable};
+ghost use Rattle.cycle_encoding.specs.CycleFormula.{cycle_formula, wide};
+ghost use Rattle.cycle_encoding.specs.Faults.{EncodeFaultIs};
+ghost use Rattle.cycle_encoding.specs.Plans.{IsTooLarge, plan_of};
+
+use crate::Facts;
+use crate::counts::cycle_sizes;
+use crate::families::{add_operands, add_seen, add_targets};
+use crate::launches::all_launches;
+use crate::laws::cycle_counts_are_found;
+use crate::plans::{EncodeFault, Encoded, VarPlan};
+use crate::seen::seen_vars;
+use crate::slots::add_slots;
+use cnf_core::{Cnf, counters_count};
+use items::{Items, NoMemory};
+use launch_graph::LaunchGraph;
+use machine_table::Table;
+use std::alloc::Global;
+
+/// The clauses of slots, latencies and values in k cycles. Its counts are found before any clause is built; where one
+/// passes its limit they are the answer.
+pub fn encode(
+    alloc: Global,
+    graph: &LaunchGraph,
+    table: &Table,
+    k: u32,
+) -> Result<Encoded, EncodeFault>
+    requires cycles { k ≤ 24 }
+    requires table { IsTable table.now }
+    requires graph { IsLaunchGraph graph.now }
+    ensures formula { IfOk result (λ e. e.cnf ≡ cycle_formula graph.now table.now k (wide graph.now table.now k)) }
+    ensures plan { IfOk result (λ e. e.plan ≡ plan_of graph.now table.now k) }
+    ensures size { IfErr result (EncodeFaultIs (cycle_formula graph.now table.now k (wide graph.now table.now k))) }
+    ensures within { OnOk result (¬ IsTooLarge (cycle_formula graph.now table.now k (wide graph.now table.now k))) }
+{
+    cycle_counts_are_found();
+    let facts = Facts::new(alloc, graph)?;
+    let sizes = cycle_sizes(alloc, &facts, table, k)?;
+    if sizes.vars > 262144 {
+        return Err(EncodeFault::Size {
+            vars: sizes.vars,
+            clauses: sizes.clauses,
+        });
+    }
+    if sizes.clauses > 2000000 {
+        return Err(EncodeFault::Size {
+            vars: sizes.vars,
+            clauses: sizes.clauses,
+        });
+    }
+    Ok(build(alloc, &facts, table, k)?)
+}
+
+/// Makes variables.
+fn add_vars(cnf: &mut Cnf, count: u32)
+    requires { cnf.old.vars + count < 2 ^ 29 }
+    ensures { cnf.new ≡ record cnf.old { vars = cnf.old.vars + count } }
+{
+    for _made in 0..count {
+        cnf.fresh();
+    }
+}
+
+/// Builds the formula, whose counts are within the limits.
+fn build(alloc: Global, facts: &Facts, table: &Table, k: u32) -> Result<Encoded, NoMemory>
+    requires cycles { k ≤ 24 }
+    requires table { IsTable table.now }
+    requires graph { IsLaunchGraph facts.now }
+    requires vars { (cycle_formula facts.now table.now k (wide facts.now table.now k)).vars ≤ 262144 }
+    requires clauses { length (cycle_formula facts.now table.now k (wide facts.now table.now k)).clauses ≤ 2000000 }
+    ensures formula { IfOk result (λ e. e.cnf ≡ cycle_formula facts.now table.now k (wide facts.now table.now k)) }
+    ensures plan { IfOk result (λ e. e.plan ≡ plan_of facts.now table.now k) }
+{
+    counters_count();
+    let launches = all_launches(alloc, facts, table, k)?;
+    let seen = seen_vars(alloc, facts, table, k, launches.as_slice().len() as u32)?;
+    let mut cnf = Cnf::new(alloc);
+    add_vars(
+        &mut cnf,
+        launches.as_slice().len() as u32 + seen.seen.as_slice().len() as u32,
+    );
+    add_targets(alloc, &mut cnf, facts, &launches)?;
+    add_operands(alloc, &mut cnf, facts, table, &launches, &seen)?;
+    add_seen(alloc, &mut cnf, facts, table, &launches, &seen)?;
+    add_slots(alloc, &mut cnf, &launches, table.slots.len() as u32, k)?;
+    Ok(Encoded {
+        cnf,
+        plan: VarPlan::new(k, Items::from(launches)),
+    })
+}

@@ -1,0 +1,249 @@
+// What a graph says of its classes and rows, in tables.
+ghost use Rattle.std.specs.Prelude.{◌≡◌, ◌<◌, ◌^◌, ◌&&◌, IfOk, length};
+ghost use Rattle.launch_graph.specs.Graphs as graphs;
+ghost use Rattle.launch_graph.specs.WellFormed as wellformed;
+ghost use Rattle.launch_graph.specs.WellFormed.{IsLaunchGraph};
+ghost use Rattle.schedule_meaning.specs.Launches as launches;
+ghost use Rattle.cycle_encoding.specs.Facts.{IsTableOf, is_made_class, operand_of};
+ghost use Rattle.cycle_encoding.specs.Families as families;
+ghost use Rattle.cycle_encoding.specs.Variables as variables;
+
+use items::NoMemory;
+use launch_graph::{LaunchGraph, SetClass, graphs_are_consistent};
+use machine_table::{InstrKind, Table};
+use schedule_meaning::{Launch, class_at, cluster_of, instr_at};
+use std::alloc::Global;
+use std::marker::Model;
+use word_ops::Sort;
+
+/// A graph whose classes and rows are looked up in constant time.
+#[derive(Drop)]
+pub struct Facts<'a> {
+    graph: &'a LaunchGraph,
+    constants: Vec<Option<u64>>,
+    words: Vec<bool>,
+    inputs: Vec<bool>,
+    instrs: Vec<Option<InstrKind>>,
+}
+
+impl<'a> Model for Facts<'a> {
+    ghost use Rattle.launch_graph.specs.declared.graphs.LaunchGraph.{LaunchGraph as Graph};
+    ghost use Rattle.cycle_encoding.specs.Facts.{AreFacts};
+
+    ghost Value = { Graph };
+
+    ghost view = { λ a. a.graph.now };
+
+    ghost invariant = { λ a. AreFacts a.graph.now a.constants.items a.words.items a.inputs.items a.instrs.items };
+}
+
+impl<'a> Facts<'a> {
+    pub fn new(alloc: Global, graph: &'a LaunchGraph) -> Result<Facts<'a>, NoMemory>
+        requires { IsLaunchGraph graph.now }
+        ensures { IfOk result (λ facts. facts ≡ graph.now) }
+    {
+        let classes = next_class(graph);
+        Ok(Facts {
+            graph,
+            constants: constants(alloc, graph, classes)?,
+            words: words(alloc, graph, classes)?,
+            inputs: inputs(alloc, graph, classes)?,
+            instrs: instrs(alloc, graph)?,
+        })
+    }
+
+    pub fn graph(&self) -> &LaunchGraph
+        ensures { result.now ≡ self.now }
+    {
+        self.graph
+    }
+
+    /// The instruction of a row's number; that of the number one past the last row is the branch of a guard.
+    pub fn instr_at(&self, row: u32) -> Option<InstrKind>
+        ensures { result ≡ launches.instr_at self.now row }
+    {
+        match self.instrs.get(row as usize) {
+            Some(instr) => *instr,
+            None => instr_at(self.graph, row),
+        }
+    }
+
+    /// Whether the launch is of a row of the class and gives its word.
+    pub fn gives(&self, class: u32, launch: Launch) -> bool
+        ensures { result ≡ launches.gives self.now class launch }
+    {
+        let gives_word = match self.instr_at(launch.row) {
+            Some(InstrKind::StqU | InstrKind::Beq) | None => false,
+            Some(_) => true,
+        };
+        gives_word && class_at(self.graph, launch.row) == class
+    }
+
+    /// The cycle from which the launch's word is seen in a cluster.
+    pub fn ready_in(&self, table: &Table, cluster: u8, launch: Launch) -> u64
+        ensures { result ≡ launches.ready_in self.now table.now cluster launch }
+    {
+        let instr = match self.instr_at(launch.row) {
+            Some(instr) => instr,
+            None => InstrKind::Beq,
+        };
+        let latency = match table.latency(instr) {
+            Some(latency) => u64::from(latency),
+            None => 0,
+        };
+        let cross = if cluster_of(table, launch.slot) == cluster {
+            0
+        } else {
+            u64::from(table.cross())
+        };
+        u64::from(launch.cycle) + latency + cross
+    }
+
+    fn constant_of(&self, class: u32) -> Option<u64>
+        ensures { result ≡ graphs.constant_of self.now class }
+    {
+        match self.constants.get(class as usize) {
+            Some(constant) => *constant,
+            None => self.graph.constant_of(class),
+        }
+    }
+
+    fn is_input(&self, class: u32) -> bool
+        ensures { result ≡ variables.is_input self.now class }
+    {
+        match self.inputs.get(class as usize) {
+            Some(is) => *is,
+            None => is_input(self.graph, class),
+        }
+    }
+
+    fn is_word_class(&self, class: u32) -> bool
+        ensures { result ≡ variables.is_word_class self.now class }
+    {
+        match self.words.get(class as usize) {
+            Some(is) => *is,
+            None => is_word_class(self.graph, class),
+        }
+    }
+
+    fn is_zero(&self, class: u32) -> bool
+        ensures { result ≡ variables.is_zero self.now class }
+    {
+        match self.constant_of(class) {
+            Some(constant) => constant == 0,
+            None => false,
+        }
+    }
+
+    fn is_byte(&self, class: u32) -> bool
+        ensures { result ≡ variables.is_byte self.now class }
+    {
+        match self.constant_of(class) {
+            Some(constant) => constant <= 255,
+            None => false,
+        }
+    }
+
+    /// Whether launches alone make the class: it is a word's, no input's and not the zero class.
+    pub fn is_made_class(&self, class: u32) -> bool
+        ensures { result ≡ is_made_class self.now class }
+    {
+        self.is_word_class(class) && !self.is_input(class) && !self.is_zero(class)
+    }
+
+    /// Whether an operand has to be made by a launch.
+    pub fn is_made(&self, class: u32, second: bool) -> bool
+        ensures { result ≡ families.is_made self.now (operand_of class second) }
+    {
+        !(self.is_zero(class) || (second && self.is_byte(class))) && !self.is_input(class)
+    }
+
+    /// Whether a target has to be made by a launch.
+    pub fn is_made_target(&self, set: &SetClass) -> bool
+        ensures { result ≡ families.is_made_target self.now set.now }
+    {
+        !set.is_memory() && !self.is_input(set.class) && !self.is_zero(set.class)
+    }
+}
+
+/// The number past the greatest class.
+#[tactic(auto, using(crate::proofs::Tables::next_more))]
+pub fn next_class(graph: &LaunchGraph) -> u32
+    requires { IsLaunchGraph graph.now }
+    ensures { result ≡ wellformed.next_class graph.now.rows }
+{
+    graphs_are_consistent();
+    let mut next = 0;
+    for row in graph.rows.as_slice() {
+        if next <= row.class {
+            next = row.class + 1;
+        }
+    }
+    next
+}
+
+#[tactic(auto, using(crate::proofs::Tables::table_more))]
+fn constants(alloc: Global, graph: &LaunchGraph, classes: u32) -> Result<Vec<Option<u64>>, NoMemory>
+    ensures { IfOk result (λ table. IsTableOf (graphs.constant_of graph.now) table.items) }
+{
+    let mut table = Vec::new(alloc);
+    for class in 0..classes {
+        table.push(graph.constant_of(class))?;
+    }
+    Ok(table)
+}
+
+#[tactic(auto, using(crate::proofs::Tables::table_more))]
+fn words(alloc: Global, graph: &LaunchGraph, classes: u32) -> Result<Vec<bool>, NoMemory>
+    ensures { IfOk result (λ table. IsTableOf (variables.is_word_class graph.now) table.items) }
+{
+    let mut table = Vec::new(alloc);
+    for class in 0..classes {
+        table.push(is_word_class(graph, class))?;
+    }
+    Ok(table)
+}
+
+#[tactic(auto, using(crate::proofs::Tables::table_more))]
+fn inputs(alloc: Global, graph: &LaunchGraph, classes: u32) -> Result<Vec<bool>, NoMemory>
+    ensures { IfOk result (λ table. IsTableOf (variables.is_input graph.now) table.items) }
+{
+    let mut table = Vec::new(alloc);
+    for class in 0..classes {
+        table.push(is_input(graph, class))?;
+    }
+    Ok(table)
+}
+
+#[tactic(auto, using(crate::proofs::Tables::table_more))]
+fn instrs(alloc: Global, graph: &LaunchGraph) -> Result<Vec<Option<InstrKind>>, NoMemory>
+    requires { length graph.now.rows < 2 ^ 30 }
+    ensures { IfOk result (λ table. IsTableOf (launches.instr_at graph.now) table.items) }
+{
+    let mut table = Vec::new(alloc);
+    let rows = graph.rows.len() as u32;
+    for row in 0..rows + 1 {
+        table.push(instr_at(graph, row))?;
+    }
+    Ok(table)
+}
+
+fn is_input(graph: &LaunchGraph, class: u32) -> bool
+    ensures { result ≡ variables.is_input graph.now class }
+{
+    graph
+        .inputs
+        .as_slice()
+        .iter()
+        .any(|input| input.class == class)
+}
+
+fn is_word_class(graph: &LaunchGraph, class: u32) -> bool
+    ensures { result ≡ variables.is_word_class graph.now class }
+{
+    graph
+        .rows
+        .as_slice()
+        .iter()
+        .any(|row| row.class == class && row.op.sort() == Sort::Word)
+}

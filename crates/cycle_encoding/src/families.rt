@@ -1,0 +1,342 @@
+// The families of clauses of cycles, slots and values.
+ghost use Rattle.std.specs.Prelude.{◌≡◌, ◌+◌, ◌<◌, ◌≤◌, ◌^◌, [], ◌∷◌, ◌++◌, if◌then◌else◌, length, map, IfOk, OnOk, All};
+ghost use Rattle.std.specs.List.{filter};
+ghost use Rattle.cnf_core.specs.Formula.{IsLitOf};
+ghost use Rattle.launch_graph.specs.WellFormed.{IsLaunchGraph};
+ghost use Rattle.schedule_meaning.specs.Launches.{gives};
+ghost use Rattle.machine_table.specs.Tables as tables;
+ghost use Rattle.cycle_encoding.specs.Facts.{IsTableOf};
+ghost use Rattle.cycle_encoding.specs.Families.{is_made, is_seen, makes, operand_clauses, seen_clauses, target_clauses};
+ghost use Rattle.cycle_encoding.specs.Shapes.{negative, numbered, positive, vars_of};
+ghost use Rattle.cycle_encoding.specs.Steps.{AreSeenVars, given_in, goals, is_ready, listed, of_thing, sights, with_clauses};
+
+use crate::facts::next_class;
+use crate::seen::{Seen, SeenVars, seen_var};
+use crate::{Facts, made_operands};
+use cnf_core::{Cnf, Lit};
+use items::{Items, NoMemory};
+use launch_graph::SetClass;
+use machine_table::Table;
+use schedule_meaning::{Launch, cluster_of};
+use std::alloc::Global;
+
+/// The launches that give a class, with their variables.
+pub fn giving(
+    alloc: Global,
+    facts: &Facts,
+    launches: &[Launch],
+    class: u32,
+) -> Result<Vec<(u32, Launch)>, NoMemory>
+    requires few { length launches.now < 2 ^ 29 }
+    ensures { IfOk result (λ given. given.items ≡ given_in facts.now class launches.now) }
+{
+    let mut given = Vec::new(alloc);
+    for (index, launch) in launches.iter().enumerate() {
+        push_giving(&mut given, facts, class, index as u32 + 1, *launch)?;
+    }
+    Ok(given)
+}
+
+fn push_giving(
+    given: &mut Vec<(u32, Launch)>,
+    facts: &Facts,
+    class: u32,
+    var: u32,
+    launch: Launch,
+) -> Result<(), NoMemory>
+    ensures { OnOk result (given.new.items
+        ≡ given.old.items ++ (if gives facts.now class launch then (var, launch) ∷ [] else [])) }
+{
+    if facts.gives(class, launch) {
+        given.push((var, launch))?;
+    }
+    Ok(())
+}
+
+/// Adds a clause for each target that has to be made.
+pub fn add_targets(
+    alloc: Global,
+    cnf: &mut Cnf,
+    facts: &Facts,
+    launches: &[Launch],
+) -> Result<(), NoMemory>
+    requires exist { length launches.now ≤ cnf.old.vars }
+    requires few { cnf.old.vars < 2 ^ 29 }
+    requires room { length cnf.old.clauses + length (target_clauses facts.now (numbered 0 launches.now)) < 2 ^ 30 }
+    ensures { OnOk result
+        (cnf.new ≡ with_clauses cnf.old (target_clauses facts.now (numbered 0 launches.now))) }
+{
+    for set in facts.graph().sets.as_slice() {
+        add_target(alloc, cnf, facts, launches, set)?;
+    }
+    Ok(())
+}
+
+fn add_target(
+    alloc: Global,
+    cnf: &mut Cnf,
+    facts: &Facts,
+    launches: &[Launch],
+    set: &SetClass,
+) -> Result<(), NoMemory>
+    requires exist { length launches.now ≤ cnf.old.vars }
+    requires few { cnf.old.vars < 2 ^ 29 }
+    requires room { length cnf.old.clauses
+        + length (goals facts.now (numbered 0 launches.now) (set.now ∷ [])) < 2 ^ 30 }
+    ensures { OnOk result
+        (cnf.new ≡ with_clauses cnf.old (goals facts.now (numbered 0 launches.now) (set.now ∷ []))) }
+{
+    if !facts.is_made_target(set) {
+        return Ok(());
+    }
+    let given = giving(alloc, facts, launches, set.class)?;
+    let clause = variables(alloc, &given)?;
+    cnf.add(&clause)
+}
+
+/// The variables of launches.
+fn variables(alloc: Global, given: &[(u32, Launch)]) -> Result<Vec<Lit>, NoMemory>
+    ensures { IfOk result (λ lits. lits.items ≡ map (λ p. positive p.0) given.now) }
+{
+    let mut lits = Vec::new(alloc);
+    for (var, _) in given {
+        lits.push(Lit {
+            var: *var,
+            positive: true,
+        })?;
+    }
+    Ok(lits)
+}
+
+/// Adds a clause for each launch and each operand that has to be made.
+pub fn add_operands(
+    alloc: Global,
+    cnf: &mut Cnf,
+    facts: &Facts,
+    table: &Table,
+    launches: &[Launch],
+    seen: &SeenVars,
+) -> Result<(), NoMemory>
+    requires first { length launches.now ≡ seen.now.first }
+    requires exist { seen.now.first + length seen.now.seen.items ≤ cnf.old.vars }
+    requires few { cnf.old.vars < 2 ^ 29 }
+    requires seen { AreSeenVars facts.now table.now seen.now.cycles seen.now.first seen.now.seen.items seen.now.starts.items }
+    requires room { length cnf.old.clauses
+        + length (operand_clauses facts.now table.now (numbered 0 launches.now) (numbered seen.now.first seen.now.seen.items)) < 2 ^ 30 }
+    ensures { OnOk result (cnf.new ≡ with_clauses cnf.old
+        (operand_clauses facts.now table.now (numbered 0 launches.now) (numbered seen.now.first seen.now.seen.items))) }
+{
+    for (index, launch) in launches.iter().enumerate() {
+        let made = made_operands(alloc, facts, launch.row)?;
+        add_sights(cnf, facts, table, &made, seen, index as u32 + 1, *launch)?;
+    }
+    Ok(())
+}
+
+/// Adds a clause for each class: where the launch is made it sees the class.
+fn add_sights(
+    cnf: &mut Cnf,
+    facts: &Facts,
+    table: &Table,
+    made: &[u32],
+    seen: &SeenVars,
+    var: u32,
+    launch: Launch,
+) -> Result<(), NoMemory>
+    requires var { 1 ≤ var }
+    requires within { var ≤ seen.now.first }
+    requires exist { seen.now.first + length seen.now.seen.items ≤ cnf.old.vars }
+    requires few { cnf.old.vars < 2 ^ 29 }
+    requires seen { AreSeenVars facts.now table.now seen.now.cycles seen.now.first seen.now.seen.items seen.now.starts.items }
+    requires room { length cnf.old.clauses + length made.now < 2 ^ 30 }
+    ensures { OnOk result (cnf.new ≡ with_clauses cnf.old (of_thing var
+        (sights (tables.cluster_of table.now launch.slot) launch.cycle (numbered seen.now.first seen.now.seen.items) made.now))) }
+{
+    let cluster = cluster_of(table, launch.slot);
+    for class in made {
+        let sight = seen_var(seen, facts, table, *class, cluster, launch.cycle);
+        add_implied(cnf, var, sight)?;
+    }
+    Ok(())
+}
+
+/// Adds the clause that a variable implies a literal, or that it is false where there is none.
+pub fn add_implied(cnf: &mut Cnf, var: u32, lit: Option<Lit>) -> Result<(), NoMemory>
+    requires var { IsLitOf cnf.old.vars (negative var) }
+    requires lit { All (IsLitOf cnf.old.vars) (listed lit) }
+    requires room { length cnf.old.clauses < 2 ^ 30 }
+    ensures { OnOk result (cnf.new ≡ with_clauses cnf.old ((negative var ∷ listed lit) ∷ [])) }
+{
+    let not = Lit {
+        var,
+        positive: false,
+    };
+    match lit {
+        Some(lit) => cnf.add(&[not, lit]),
+        None => cnf.add(&[not]),
+    }
+}
+
+/// Adds for each thing that is seen the clause that it was made.
+pub fn add_seen(
+    alloc: Global,
+    cnf: &mut Cnf,
+    facts: &Facts,
+    table: &Table,
+    launches: &[Launch],
+    seen: &SeenVars,
+) -> Result<(), NoMemory>
+    requires graph { IsLaunchGraph facts.now }
+    requires first { length launches.now ≡ seen.now.first }
+    requires exist { seen.now.first + length seen.now.seen.items ≤ cnf.old.vars }
+    requires few { cnf.old.vars < 2 ^ 29 }
+    requires room { length cnf.old.clauses
+        + length (seen_clauses facts.now table.now (numbered 0 launches.now) (numbered seen.now.first seen.now.seen.items)) < 2 ^ 30 }
+    ensures { OnOk result (cnf.new ≡ with_clauses cnf.old
+        (seen_clauses facts.now table.now (numbered 0 launches.now) (numbered seen.now.first seen.now.seen.items))) }
+{
+    let makers = makers(alloc, facts, launches)?;
+    for (index, thing) in seen.seen.as_slice().iter().enumerate() {
+        let var = seen.first + index as u32 + 1;
+        add_thing(alloc, cnf, facts, table, launches, &makers, var, *thing)?;
+    }
+    Ok(())
+}
+
+/// Adds the clause that what is seen was made.
+fn add_thing(
+    alloc: Global,
+    cnf: &mut Cnf,
+    facts: &Facts,
+    table: &Table,
+    launches: &[Launch],
+    makers: &[Items<(u32, Launch)>],
+    var: u32,
+    thing: Seen,
+) -> Result<(), NoMemory>
+    requires var { IsLitOf cnf.old.vars (negative var) }
+    requires makers { IsTableOf (λ class. given_in facts.now class launches.now) makers.now }
+    requires exist { length launches.now ≤ cnf.old.vars }
+    requires few { cnf.old.vars < 2 ^ 29 }
+    requires room { length cnf.old.clauses < 2 ^ 30 }
+    ensures { OnOk result (cnf.new ≡ with_clauses cnf.old
+        ((negative var ∷ vars_of (makes facts.now table.now thing) (numbered 0 launches.now)) ∷ [])) }
+{
+    match makers.get(thing.class as usize) {
+        Some(given) => add_sight(
+            alloc,
+            cnf,
+            facts,
+            table,
+            launches,
+            given.as_slice(),
+            var,
+            thing,
+        ),
+        None => add_rare_sight(alloc, cnf, facts, table, launches, var, thing),
+    }
+}
+
+/// For each class the launches that give it.
+fn makers(
+    alloc: Global,
+    facts: &Facts,
+    launches: &[Launch],
+) -> Result<Vec<Items<(u32, Launch)>>, NoMemory>
+    requires graph { IsLaunchGraph facts.now }
+    requires few { length launches.now < 2 ^ 29 }
+    ensures { IfOk result (λ makers. IsTableOf
+        (λ class. given_in facts.now class launches.now) makers.items) }
+{
+    let mut makers = Vec::new(alloc);
+    for class in 0..next_class(facts.graph()) {
+        makers.push(Items::from(giving(alloc, facts, launches, class)?))?;
+    }
+    Ok(makers)
+}
+
+fn add_rare_sight(
+    alloc: Global,
+    cnf: &mut Cnf,
+    facts: &Facts,
+    table: &Table,
+    launches: &[Launch],
+    var: u32,
+    thing: Seen,
+) -> Result<(), NoMemory>
+    requires var { IsLitOf cnf.old.vars (negative var) }
+    requires exist { length launches.now ≤ cnf.old.vars }
+    requires few { cnf.old.vars < 2 ^ 29 }
+    requires room { length cnf.old.clauses < 2 ^ 30 }
+    ensures { OnOk result (cnf.new ≡ with_clauses cnf.old
+        ((negative var ∷ vars_of (makes facts.now table.now thing) (numbered 0 launches.now)) ∷ [])) }
+{
+    let given = giving(alloc, facts, launches, thing.class)?;
+    add_sight(alloc, cnf, facts, table, launches, &given, var, thing)
+}
+
+/// Adds the clause that what is seen was made by one of the launches that give it.
+fn add_sight(
+    alloc: Global,
+    cnf: &mut Cnf,
+    facts: &Facts,
+    table: &Table,
+    launches: &[Launch],
+    given: &[(u32, Launch)],
+    var: u32,
+    thing: Seen,
+) -> Result<(), NoMemory>
+    requires var { IsLitOf cnf.old.vars (negative var) }
+    requires given { given.now ≡ given_in facts.now thing.class launches.now }
+    requires exist { length launches.now ≤ cnf.old.vars }
+    requires room { length cnf.old.clauses < 2 ^ 30 }
+    ensures { OnOk result (cnf.new ≡ with_clauses cnf.old
+        ((negative var ∷ vars_of (makes facts.now table.now thing) (numbered 0 launches.now)) ∷ [])) }
+{
+    let clause = sight_clause(alloc, facts, table, given, var, thing)?;
+    cnf.add(&clause)
+}
+
+/// The clause that what is seen was made by one of these launches.
+fn sight_clause(
+    alloc: Global,
+    facts: &Facts,
+    table: &Table,
+    given: &[(u32, Launch)],
+    var: u32,
+    thing: Seen,
+) -> Result<Vec<Lit>, NoMemory>
+    ensures { IfOk result (λ clause. clause.items ≡ negative var
+        ∷ map (λ p. positive p.0) (filter (λ p. is_ready facts.now table.now thing p.1) given.now)) }
+{
+    let mut clause = Vec::new(alloc);
+    clause.push(Lit {
+        var,
+        positive: false,
+    })?;
+    for (maker, launch) in given {
+        push_ready(&mut clause, facts, table, thing, *maker, *launch)?;
+    }
+    Ok(clause)
+}
+
+/// The launch's variable, if the launch is ready where the thing is seen.
+fn push_ready(
+    clause: &mut Vec<Lit>,
+    facts: &Facts,
+    table: &Table,
+    thing: Seen,
+    maker: u32,
+    launch: Launch,
+) -> Result<(), NoMemory>
+    ensures { OnOk result (clause.new.items
+        ≡ clause.old.items ++ (if is_ready facts.now table.now thing launch then positive maker ∷ [] else [])) }
+{
+    if facts.ready_in(table, thing.cluster, launch) <= u64::from(thing.cycle) {
+        clause.push(Lit {
+            var: maker,
+            positive: true,
+        })?;
+    }
+    Ok(())
+}

@@ -1,0 +1,23 @@
+//! The clauses of cycles, slots and values: which launches may be made, what they read and when it is there.
+//!
+//! The first variables of a formula are those of the launches; a plan tells which is which.
+#![tactic(auto)]
+
+mod counts;
+mod encoding;
+mod facts;
+mod families;
+mod launches;
+mod laws;
+mod operands;
+mod plans;
+mod seen;
+mod slots;
+
+pub use encoding::encode;
+pub use facts::Facts;
+pub use launches::{all_launches, cycles, may_use};
+pub use laws::cycle_counts_are_found;
+pub use operands::made_operands;
+pub use plans::{EncodeFault, Encoded, VarPlan, launch_of};
+pub use seen::{Seen, has_cluster};

@@ -1,0 +1,79 @@
+// A formula, and which of its variables means which launch.
+ghost use Rattle.std.specs.Prelude.{◌≡◌, ◌-◌, ◌==◌, None, slice_get, if◌then◌else◌};
+
+use cnf_core::Cnf;
+use items::{Items, NoMemory};
+use schedule_meaning::Launch;
+use std::marker::Model;
+
+/// For how many cycles a formula is, and the launches of its first variables, in order.
+#[derive(Drop)]
+pub struct VarPlan {
+    cycles: u32,
+    launches: Items<Launch>,
+}
+
+impl Model for VarPlan {
+    ghost use Rattle.cycle_encoding.specs.Plans.{Plan};
+
+    ghost Value = { Plan };
+
+    ghost view = { λ a. record { cycles = a.cycles; launches = a.launches } };
+}
+
+impl VarPlan {
+    pub fn new(cycles: u32, launches: Items<Launch>) -> VarPlan
+        ensures { result ≡ record { cycles = cycles; launches = launches } }
+    {
+        VarPlan { cycles, launches }
+    }
+
+    pub fn cycles(&self) -> u32
+        ensures { result ≡ self.now.cycles }
+    {
+        self.cycles
+    }
+
+    /// The launches of the first variables: that of variable v is at v - 1.
+    pub fn launches(&self) -> &[Launch]
+        ensures { result.now ≡ self.now.launches }
+    {
+        self.launches.as_slice()
+    }
+}
+
+/// A formula, and which of its variables means which launch.
+#[derive(Drop)]
+pub struct Encoded {
+    pub cnf: Cnf,
+    pub plan: VarPlan,
+}
+
+/// Why no formula is given. `Size` has the two counts of the formula that was asked for, one of which passes its limit:
+/// 262,144 variables or 2,000,000 clauses.
+#[derive(Clone, Copy, PartialEq, Eq, Debug)]
+pub enum EncodeFault {
+    Size { vars: u64, clauses: u64 },
+    Memory,
+}
+
+impl From<NoMemory> for EncodeFault {
+    ghost use Rattle.cycle_encoding.specs.declared.plans.EncodeFault.TheVariants.{Memory};
+
+    ghost from_gives = { λ _ fault. fault ≡ Memory };
+
+    fn from(_: NoMemory) -> EncodeFault {
+        EncodeFault::Memory
+    }
+}
+
+/// The launch that a variable means, if it means one; in constant time.
+pub fn launch_of(plan: &VarPlan, var: u32) -> Option<Launch>
+    ensures value { result ≡ (if var == 0 then None else slice_get plan.now.launches (var - 1)) }
+{
+    if var == 0 {
+        None
+    } else {
+        plan.launches.as_slice().get(var as usize - 1).copied()
+    }
+}

@@ -1,0 +1,178 @@
+// What is seen: in which cluster and cycle a class is readable.
+ghost use Rattle.std.specs.Prelude.{◌≡◌, ◌+◌, ◌<◌, ◌≤◌, ◌^◌, [], ◌++◌, if◌then◌else◌, length, IfOk, OnOk};
+ghost use Rattle.launch_graph.specs.WellFormed.{IsLaunchGraph};
+ghost use Rattle.cycle_encoding.specs.Steps as steps;
+ghost use Rattle.cycle_encoding.specs.Facts.{is_made_class};
+ghost use Rattle.cycle_encoding.specs.Families.{is_seen};
+ghost use Rattle.cycle_encoding.specs.Shapes.{numbered, vars_of};
+ghost use Rattle.cycle_encoding.specs.Steps.{AreSeenVars, cluster_seen, clusters_before, clusters_seen, listed};
+
+use crate::Facts;
+use crate::facts::next_class;
+use cnf_core::Lit;
+use items::NoMemory;
+use machine_table::Table;
+use std::alloc::Global;
+
+/// A class is readable in a cluster at a cycle.
+#[derive(Clone, Copy, PartialEq, Eq, Debug)]
+pub struct Seen {
+    pub class: u32,
+    pub cluster: u8,
+    pub cycle: u32,
+}
+
+/// Whether some slot has the cluster.
+pub fn has_cluster(table: &Table, cluster: u8) -> bool
+    ensures { result ≡ steps.has_cluster table.now cluster }
+{
+    table
+        .slots
+        .as_slice()
+        .iter()
+        .any(|slot| slot.cluster == cluster)
+}
+
+/// What is seen, with its variables: that of the thing at a place is `first` + 1 and the place.
+#[derive(Drop)]
+pub struct SeenVars {
+    pub first: u32,
+    pub cycles: u32,
+    pub seen: Vec<Seen>,
+    pub starts: Vec<usize>,
+}
+
+/// All that may be seen in k cycles: by class, then by cluster, then by cycle.
+pub fn seen_vars(
+    alloc: Global,
+    facts: &Facts,
+    table: &Table,
+    k: u32,
+    first: u32,
+) -> Result<SeenVars, NoMemory>
+    requires graph { IsLaunchGraph facts.now }
+    ensures first { IfOk result (λ vars. vars.first ≡ first) }
+    ensures cycles { IfOk result (λ vars. vars.cycles ≡ k) }
+    ensures seen { IfOk result (λ vars. AreSeenVars facts.now table.now k first vars.seen.items vars.starts.items) }
+{
+    let mut seen = Vec::new(alloc);
+    let mut starts = Vec::new(alloc);
+    for class in 0..next_class(facts.graph()) {
+        starts.push(seen.as_slice().len())?;
+        push_class(&mut seen, facts, table, k, class)?;
+    }
+    Ok(SeenVars {
+        first,
+        cycles: k,
+        seen,
+        starts,
+    })
+}
+
+/// What is seen of a class, if launches make it.
+fn push_class(
+    seen: &mut Vec<Seen>,
+    facts: &Facts,
+    table: &Table,
+    k: u32,
+    class: u32,
+) -> Result<(), NoMemory>
+    ensures { OnOk result (seen.new.items
+        ≡ seen.old.items ++ (if is_made_class facts.now class then clusters_seen table.now k 4 class else [])) }
+{
+    if facts.is_made_class(class) {
+        push_clusters(seen, table, k, class)
+    } else {
+        Ok(())
+    }
+}
+
+/// How many things are seen of a class in a cluster.
+#[tactic(auto, using(crate::proofs::Before::cluster_size, crate::proofs::Before::no_cluster_size))]
+fn seen_in_cluster(table: &Table, k: u32, _class: u32, cluster: u8) -> usize
+    ensures value { result
+        ≡ length (if steps.has_cluster table.now cluster then cluster_seen k _class cluster else []) }
+    ensures few { result < 2 ^ 32 }
+{
+    if has_cluster(table, cluster) {
+        k as usize
+    } else {
+        0
+    }
+}
+
+/// How many things are seen of a class in clusters with smaller numbers.
+fn seen_in_clusters(table: &Table, k: u32, class: u32, cluster: u8) -> usize
+    requires few { cluster ≤ 4 }
+    ensures { result ≡ clusters_before table.now k class cluster }
+{
+    let mut before = 0;
+    for other in 0..cluster {
+        before += seen_in_cluster(table, k, class, other);
+    }
+    before
+}
+
+/// The variable of a class that is seen in a cluster and cycle, if it has one.
+pub fn seen_var(
+    vars: &SeenVars,
+    facts: &Facts,
+    table: &Table,
+    class: u32,
+    cluster: u8,
+    cycle: u32,
+) -> Option<Lit>
+    requires few { vars.now.first + length vars.now.seen.items < 2 ^ 29 }
+    requires vars { AreSeenVars facts.now table.now vars.now.cycles vars.now.first vars.now.seen.items vars.now.starts.items }
+    ensures { listed result ≡ vars_of (is_seen class cluster cycle) (numbered vars.now.first vars.now.seen.items) }
+{
+    if !facts.is_made_class(class) {
+        return None;
+    }
+    let starts = vars.starts.as_slice();
+    if class as usize >= starts.len() {
+        return None;
+    }
+    if cluster >= 4 {
+        return None;
+    }
+    if !has_cluster(table, cluster) {
+        return None;
+    }
+    if cycle >= vars.cycles {
+        return None;
+    }
+    let place = starts[class as usize]
+        + seen_in_clusters(table, vars.cycles, class, cluster)
+        + cycle as usize;
+    Some(Lit {
+        var: vars.first + place as u32 + 1,
+        positive: true,
+    })
+}
+
+/// What is seen of a class.
+fn push_clusters(seen: &mut Vec<Seen>, table: &Table, k: u32, class: u32) -> Result<(), NoMemory>
+    ensures { OnOk result (seen.new.items ≡ seen.old.items ++ clusters_seen table.now k 4 class) }
+{
+    for cluster in 0..4u8 {
+        if has_cluster(table, cluster) {
+            push_cluster(seen, k, class, cluster)?;
+        }
+    }
+    Ok(())
+}
+
+/// What is seen of a class in a cluster.
+fn push_cluster(seen: &mut Vec<Seen>, k: u32, class: u32, cluster: u8) -> Result<(), NoMemory>
+    ensures { OnOk result (seen.new.items ≡ seen.old.items ++ cluster_seen k class cluster) }
+{
+    for cycle in 0..k {
+        seen.push(Seen {
+            class,
+            cluster,
+            cycle,
+        })?;
+    }
+    Ok(())
+}

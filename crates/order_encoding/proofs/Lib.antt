@@ -1,0 +1,9 @@
+pub mod Says
+pub mod Sound
+pub mod Reading
+pub mod RowFacts
+pub mod Listing
+pub mod Complete
+pub mod Making
+pub mod Stored
+pub mod Sized

@@ -1,0 +1,5 @@
+pub mod OrderVariables
+pub mod OrderFamilies
+pub mod WholeFormula
+pub mod OrderCounts
+pub mod Worked

@@ -1,0 +1,59 @@
+// What the clauses of the whole formula say of schedules, how many they are, and two worked formulas.
+ghost use Rattle.std.specs.Prelude.{◌≡◌, ◌+◌, ℕ, Bool, List, length, ◌↔◌, Contains};
+ghost use Rattle.cnf_core.specs.Formula.{Satisfies};
+ghost use Rattle.machine_table.specs.Tables.{IsTable, ev6};
+ghost use Rattle.machine_table.specs.declared.tables.Table.{Table as TableOf};
+ghost use Rattle.launch_graph.specs.WellFormed.{IsLaunchGraph};
+ghost use Rattle.launch_graph.specs.declared.graphs.LaunchGraph.{LaunchGraph as Graph};
+ghost use Rattle.schedule_meaning.specs.Fits.{Fits};
+ghost use Rattle.schedule_meaning.specs.Worked.{sum_graph, two_slots, copy_graph};
+ghost use Rattle.schedule_meaning.specs.declared.schedules.Launch.{Launch as LaunchOf};
+ghost use Rattle.cycle_encoding.specs.Shapes.{shown};
+ghost use Rattle.cycle_encoding.specs.CycleFormula.{launch_vars, wide};
+ghost use Rattle.cycle_encoding.specs.Counts.{cycle_vars, cycle_size};
+ghost use Rattle.order_encoding.specs.WholeFormula.{whole_formula};
+ghost use Rattle.order_encoding.specs.OrderCounts.{memory_vars, memory_size, guard_vars, guard_size, pool_vars, pool_size};
+ghost use Rattle.order_encoding.specs.Worked.{one_sum_clauses, one_sum_graph, sum_clauses};
+
+use cnf_core::counters_count;
+use schedule_meaning::memories_are_left;
+
+/// Values that satisfy the whole formula show a schedule that fits; and each schedule that fits, with useless and
+/// repeated launches, is what some values show that satisfy it.
+pub fn clauses_say_fits()
+    ensures shown { (g : Graph) (table : TableOf) (k : ℕ) (v : ℕ → Bool) → IsTable table
+        → Satisfies v (whole_formula g table k (wide g table k)).clauses
+        → Fits g table k (shown v (launch_vars g table k (wide g table k))) }
+    ensures each { (g : Graph) (table : TableOf) (k : ℕ) (ls : List LaunchOf) → IsTable table → IsLaunchGraph g
+        → Fits g table k ls
+        → (v : ℕ → Bool) × Satisfies v (whole_formula g table k (wide g table k)).clauses
+        × ((l : LaunchOf) → Contains (shown v (launch_vars g table k (wide g table k))) l ↔ Contains ls l) }
+{
+    counters_count();
+    memories_are_left();
+}
+
+/// The two counts of the whole formula, as they are found row by row.
+pub fn counts_are_found()
+    ensures vars { (g : Graph) (table : TableOf) (k : ℕ) → (whole_formula g table k (wide g table k)).vars
+        ≡ cycle_vars g table k + memory_vars g table k + guard_vars g table k + pool_vars g table k }
+    ensures clauses { (g : Graph) (table : TableOf) (k : ℕ)
+        → length (whole_formula g table k (wide g table k)).clauses
+        ≡ cycle_size g table k + memory_size g table k + guard_size g table k + pool_size g table k }
+{
+    counters_count();
+}
+
+/// Worked formulas: the clauses of a sum on two slots in 2 cycles; those of one addition in no cycle, and their numbers
+/// in one; and the sizes of a loop that copies words, with loads, a store and a branch, in 2 cycles. The last two are on
+/// the Alpha 21264's table.
+pub fn worked_formulas()
+    ensures sum { whole_formula sum_graph two_slots 2 (wide sum_graph two_slots 2)
+        ≡ record { vars = 21; clauses = sum_clauses } }
+    ensures one_sum_at_once { whole_formula one_sum_graph ev6 0 (wide one_sum_graph ev6 0)
+        ≡ record { vars = 1; clauses = one_sum_clauses } }
+    ensures one_sum_vars { (whole_formula one_sum_graph ev6 1 (wide one_sum_graph ev6 1)).vars ≡ 16 }
+    ensures one_sum_size { length (whole_formula one_sum_graph ev6 1 (wide one_sum_graph ev6 1)).clauses ≡ 19 }
+    ensures copy_vars { (whole_formula copy_graph ev6 2 (wide copy_graph ev6 2)).vars ≡ 102 }
+    ensures copy_clauses { length (whole_formula copy_graph ev6 2 (wide copy_graph ev6 2)).clauses ≡ 164 }
+{}

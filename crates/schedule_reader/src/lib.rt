@@ -1,0 +1,9 @@
+//! The launches that satisfying values show.
+#![tactic(auto)]
+
+mod reading;
+
+pub use reading::read_off;
+
+#[cfg(test)]
+mod tests;
