@@ -6,7 +6,7 @@ use Rattle.denali_run.specs.declared.solving.Status.{Status}
 use Rattle.denali_run.specs.declared.solving.Status.TheVariants.{ReadFault}
 use Rattle.denali_cli.specs.declared.words.Command.{Command}
 use Rattle.denali_cli.specs.declared.words.Command.TheVariants.{Solve}
-use Rattle.denali_cli.specs.Replies.{limit_of, Reply, too_long, not_yet, answered}
+use Rattle.denali_cli.specs.Replies.{limit_of, Reply, too_long, faulty, not_yet, answered}
 use Rattle.denali_cli.specs.Outcomes.{Decides, IsReported, ReadsWithin, Solves}
 
 no_fault : (status : Status) → status ≡ ReadFault → IsReported status → ⊥
@@ -14,15 +14,16 @@ no_fault status is reported = subst IsReported is reported
 
 solved_reply : (l l' w w' : Option (List ℕ)) (text out : List ℕ) (status : Status) → ReadsWithin (limit_of Solve) l l' text → Appends w w' out → IsReported status → Reply Solve text out status → Solves l l' w w'
 solved_reply l l' w w' text out status read wrote reported (too_long limit has long line is) = absurd (no_fault status is reported)
+solved_reply l l' w w' text out status read wrote reported (faulty place kind within first line is) = absurd (no_fault status is reported)
 solved_reply l l' w w' text out status read wrote reported (not_yet within other line is) = absurd (no_fault status is reported)
-solved_reply l l' w w' text out status read wrote reported (answered within answer) = record {
+solved_reply l l' w w' text out status read wrote reported (answered within a) = record {
   text = text;
-  goal = answer.goal;
+  bytes = out;
   read = read;
   within = within;
-  spelled = answer.spelled;
-  appended = subst (Appends w w') answer.bytes_are wrote;
-  right = answer.right;
+  answer = a.answer;
+  appended = wrote;
+  right = a.right;
 }
 
 none_some : (command : Command) → None ≡ Some command → ⊥

@@ -5,10 +5,7 @@ use Rattle.std.specs.declared.option.Option.{Option}
 use Rattle.std.specs.Io.KnownBytes.{Keeps, Appends}
 use Rattle.outside_io.specs.Putting.{AppendsFront}
 use Rattle.outside_io.specs.Taking.{IsRead, TakesWithin}
-use Rattle.denali_run.specs.OneOperate.{answer_text}
-use Rattle.denali_run.specs.Forms.{SpellsGoal}
-use Rattle.denali_run.specs.Goals.{Goal}
-use Rattle.denali_run.specs.RightAnswers.{IsRightAnswer}
+use Rattle.denali_run.specs.RightAnswers.{IsAnswerTo, IsRightAnswer}
 use Rattle.denali_run.specs.declared.solving.Status.{Status}
 use Rattle.denali_run.specs.declared.solving.Status.TheVariants.{Done, Missing, Spent, NoWorld, Usage, Memory, SourceFault, SinkFault}
 use Rattle.denali_cli.specs.declared.words.Command.{Command}
@@ -73,9 +70,9 @@ IsReported _ = ⊥
 -- The input spells a goal, and its right answer was written.
 pub record Solves (left left' written written' : Option (List ℕ)) : Type 0 where
   pub text : List ℕ
-  pub goal : Goal
+  pub bytes : List ℕ
   pub read : ReadsWithin (limit_of Solve) left left' text
   pub within : IsWithinLimit Solve text
-  pub spelled : SpellsGoal text goal
-  pub appended : Appends written written' (answer_text goal)
-  pub right : IsRightAnswer goal
+  pub answer : IsAnswerTo text bytes
+  pub appended : Appends written written' bytes
+  pub right : IsRightAnswer answer.input answer.p answer.found

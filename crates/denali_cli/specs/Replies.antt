@@ -1,8 +1,10 @@
 -- What a command and the bytes read are answered by.
 -- Source: this project.
 use Rattle.std.specs.Prelude.{◌≡◌, ℕ, ◌<◌, ◌≤◌, List, ◌++◌, length, Option, Some, codes, decimal}
-use Rattle.denali_run.specs.Forms.{SpellsNoGoal}
-use Rattle.denali_run.specs.RightAnswers.{Answers}
+use Rattle.goal_reader.specs.Grammar.{IsFirstTextFault}
+use Rattle.text_core.specs.Faults.{fault_text}
+use Rattle.text_core.specs.declared.faults.Kind.{Kind}
+use Rattle.denali_run.specs.RightAnswers.{Answers, SpellsOther}
 use Rattle.denali_run.specs.declared.solving.Status.{Status}
 use Rattle.denali_run.specs.declared.solving.Status.TheVariants.{ReadFault}
 use Rattle.denali_cli.specs.declared.words.Command.{Command}
@@ -23,6 +25,10 @@ IsWithinLimit command text = (limit : ℕ) → limit_of command ≡ Some limit �
 abbrev pub too_long_line : ℕ → List ℕ
 too_long_line limit = codes "fault " ++ decimal limit ++ codes " TooLong\n"
 
+-- the line for a text's first fault
+abbrev pub fault_line : ℕ → Kind → List ℕ
+fault_line place kind = fault_text (record { place = place; kind = kind }) ++ codes "\n"
+
 abbrev pub usage_line : List ℕ
 usage_line = codes "usage\n"
 
@@ -33,6 +39,8 @@ not_yet_line = codes "fault 0 NotYet\n"
 pub data Reply (command : Command) (text written : List ℕ) (status : Status) : Type 0 where
   too_long : (limit : ℕ) → limit_of command ≡ Some limit → limit < length text
       → written ≡ too_long_line limit → status ≡ ReadFault → Reply command text written status
-  not_yet : IsWithinLimit command text → SpellsNoGoal text
+  faulty : (place : ℕ) (kind : Kind) → IsWithinLimit command text → IsFirstTextFault text place kind
+      → written ≡ fault_line place kind → status ≡ ReadFault → Reply command text written status
+  not_yet : IsWithinLimit command text → SpellsOther text
       → written ≡ not_yet_line → status ≡ ReadFault → Reply command text written status
   answered : IsWithinLimit command text → Answers text written status → Reply command text written status

@@ -2,7 +2,7 @@
 ghost use Rattle.std.specs.Prelude.{◌≡◌, ◌≢◌, ◌++◌, None, Some, IfOk, OnOk, decimal, IsErrOf, IfErr, IsSome};
 ghost use Rattle.outside_io.specs.Causes.{IsCounted};
 ghost use Rattle.denali_cli.specs.Said.{asked_by};
-ghost use Rattle.denali_cli.specs.Replies.{too_long_line};
+ghost use Rattle.denali_cli.specs.Replies.{fault_line, too_long_line};
 ghost use Rattle.denali_cli.specs.declared.decide.Stop.TheVariants as stops;
 ghost use Rattle.denali_cli.specs.Outcomes.{Decides, IsUnread, IsWhole, Takes};
 
@@ -12,6 +12,7 @@ use items::NoMemory;
 use itoa::Buffer;
 use outside_io::{ReadAllFault, Source, read_all};
 use std::alloc::Global;
+use text_core::Fault;
 
 /// How many bytes `solve` reads at most.
 const LIMIT: u32 = 1048576;
@@ -56,9 +57,24 @@ fn report(alloc: Global, line: &[u8], status: Status) -> Result<Report, Stop>
     })
 }
 
+/// The line of a text's first fault.
+fn faulty(alloc: Global, fault: Fault) -> Result<Report, Stop>
+    ensures ok { IfOk result (λ r. (r.bytes.items ≡ fault_line fault.place fault.kind) ×
+        (r.status ≡ Status.ReadFault)) }
+    ensures err { IfErr result (λ e. e ≡ Stop.Memory) }
+{
+    let mut line = fault.print(alloc)?;
+    line.extend_from_slice(b"\n")?;
+    Ok(Report {
+        bytes: line,
+        status: Status::ReadFault,
+    })
+}
+
 /// Reading, text and work of `solve`, in this order. The first that fails decides.
 fn solve<S: Source>(alloc: Global, source: &mut S) -> Result<Report, Stop>
-    ensures decided { IfOk result (λ r. Decides (Some Command.Solve) (S.left source.old) (S.left source.new) r.bytes.items r.status) }
+    ensures decided { IfOk result (λ r. Decides (Some Command.Solve) (S.left source.old)
+        (S.left source.new) r.bytes.items r.status) }
     ensures whole { IfOk result (λ r. IsWhole r.status) }
     ensures not_usage { IfOk result (λ r. r.status ≢ Status.Usage) }
     ensures taken { Takes (Some Command.Solve) (S.left source.old) (S.left source.new) }
@@ -74,6 +90,7 @@ fn solve<S: Source>(alloc: Global, source: &mut S) -> Result<Report, Stop>
     };
     match solve_text(alloc, &text) {
         Ok(report) => Ok(report),
+        Err(TextError::Read(fault)) => faulty(alloc, fault),
         Err(TextError::NotYet) => report(alloc, b"fault 0 NotYet\n", Status::ReadFault),
         Err(TextError::Memory) => Err(Stop::Memory),
     }

@@ -188,101 +188,217 @@ fn other_words_are_usage(rt: HostRuntime) -> Result<(), Fail> {
     Ok(())
 }
 
+/// Texts of goals that are answered, with their answers.
+const ANSWERED: [(&[u8], &[u8]); 3] = [
+    (
+        b"(goal g (in a $16) (set x a))",
+        b"denali 1
+encoding 1
+table ev6
+goal g
+rounds 0 stop quiet
+rows 2
+0 memory
+1 input 16
+entry 0
+in a 16 1
+pool 0 1 2 3 4 5 6 7 8 17 18 19 20 21 22 23 24 25 27 28
+set x 1
+scheduled 0
+where x 16
+end
+",
+    ),
+    (
+        b" ( goal g (in a$16)(in b $17) ; three inputs\n (in c $18)\t(set x(subq c a)))\r\n",
+        b"denali 1
+encoding 1
+table ev6
+goal g
+rounds 0 stop rounds
+rows 5
+0 memory
+1 input 16
+2 input 17
+3 input 18
+4 subq 3 1
+entry 0
+in a 16 1
+in b 17 2
+in c 18 3
+pool 0 1 2 3 4 5 6 7 8 19 20 21 22 23 24 25 27 28
+set x 4
+scheduled 1
+launch 0 U0 4
+word 42500520 subq $18, $16, $0
+where x 0
+refute 0 1
+4 0 1 0
+end
+",
+    ),
+    (
+        b"(goal g (in a $16) (pool $30 $2) (set a (addq a a)))",
+        b"denali 1
+encoding 1
+table ev6
+goal g
+rounds 0 stop rounds
+rows 3
+0 memory
+1 input 16
+2 addq 1 1
+entry 0
+in a 16 1
+pool 30 2
+set a 2
+scheduled 1
+launch 0 U0 2
+word 4210041E addq $16, $16, $30
+where a 30
+refute 0 1
+4 0 1 0
+end
+",
+    ),
+];
+
 #[test]
-fn other_texts_are_not_yet_answered(rt: HostRuntime) -> Result<(), Fail> {
+fn plain_goals_are_answered(rt: HostRuntime) -> Result<(), Fail> {
     let alloc = rt.alloc();
-    let table: [(&[u8], bool); 22] = [
-        (
-            b"(goal g (in a $0) (in b $30) (pool $10) (set x (addq a a)))",
-            true,
-        ),
-        (
-            b" (\tgoal goal(in lda $1)(in load $2)(pool$3)(set addq(xor load lda)))\r\n",
-            true,
-        ),
-        (
-            b"(goal g (in a $16) (in b $17) (pool $1) (set a (subq b a)))",
-            true,
-        ),
-        (b"", false),
-        (b"(goal g (set x 0))", false),
-        (
-            b"(goal g (in a $16) (in b $17) (pool $1) (set x (mulq a b)))",
-            false,
-        ),
-        (
-            b"(goal g (in a $16) (in b $17) (pool $1) (set x (addq a c)))",
-            false,
-        ),
-        (
-            b"(goal g (in a $16) (in b $17) (pool $1) (set x (addq a 1)))",
-            false,
-        ),
-        (
-            b"(goal g (in a $16) (in a $17) (pool $1) (set x (addq a a)))",
-            false,
-        ),
-        (
-            b"(goal g (in a $16) (in b $16) (pool $1) (set x (addq a b)))",
-            false,
-        ),
-        (
-            b"(goal g (in a $16) (in b $17) (pool $17) (set x (addq a b)))",
-            false,
-        ),
-        (
-            b"(goal g (in a $16) (in b $17) (pool $16) (set x (addq a b)))",
-            false,
-        ),
-        (
-            b"(goal g (in a $16) (in b $31) (pool $1) (set x (addq a b)))",
-            false,
-        ),
-        (
-            b"(goal g (in a $16) (in b $017) (pool $1) (set x (addq a b)))",
-            false,
-        ),
-        (
-            b"(goal g (in M $16) (in b $17) (pool $1) (set x (addq M b)))",
-            false,
-        ),
-        (
-            b"(goal g (in a $16) (in select $17) (pool $1) (set x (addq a a)))",
-            false,
-        ),
-        (
-            b"(goal g (in a $16) (in cmpult $17) (pool $1) (set x (addq a a)))",
-            false,
-        ),
-        (
-            b"(goal g (in a $16) (in b $17) (pool $1) (set M (addq a b)))",
-            false,
-        ),
-        (
-            b"(goal g (in a $16) (in b $17) (pool $1 $2) (set x (addq a b)))",
-            false,
-        ),
-        (
-            b"(goal g (in a $16) (in b $17) (pool $1) (set x (addq a b))); ",
-            false,
-        ),
-        (
-            b"(goal g (in a $16) (in b $17) (pool $1) (set x (addq a b))) 1",
-            false,
-        ),
-        (
-            b"(goal g (in a $16) (in b $17) (pool $1) (set x (addq a b))",
-            false,
-        ),
-    ];
-    for (at, (text, answered)) in table.iter().enumerate() {
+    for (at, (text, answer)) in ANSWERED.iter().enumerate() {
         let (written, status) = reply(alloc, &WORDS, text, 7)?;
-        if *answered {
-            assert_eq!(rt; status, Status::Done, "text {at}");
-        } else {
-            assert_eq!(rt; status, Status::ReadFault, "text {at}");
-            assert_eq!(rt; written.as_slice(), b"fault 0 NotYet\n".as_slice());
-        }
+        assert_eq!(rt; status, Status::Done, "text {at}");
+        assert_eq!(rt; written.as_slice(), *answer, "text {at}");
+    }
+    Ok(())
+}
+
+/// Texts without an answer, and their line: the first fault, or that such goals aren't answered so far.
+const REFUSED: [(&[u8], &[u8]); 32] = [
+    (b"", b"fault 0 BadForm\n"),
+    (b"(goal g (in a $16) (set x a)", b"fault 0 Unclosed\n"),
+    (
+        b"(goal g (in a $16) (set x zed))",
+        b"fault 26 UnknownName\n",
+    ),
+    (
+        b"(goal g (in a $16) (set x (addq a a a)))",
+        b"fault 26 WrongArity\n",
+    ),
+    (
+        b"(goal g (set x 18446744073709551616))",
+        b"fault 15 BadNumber\n",
+    ),
+    (
+        b"((((((((((((((((((((((((((((((((((((((((((((((((((((((((((((((((()))))))))))))))))))))))))))))))))))))))))))))))))))))))))))))))))",
+        b"fault 64 TooDeep\n",
+    ),
+    (
+        b"(goal g (in a $16) (set x (addq a a)) @",
+        b"fault 38 BadByte\n",
+    ),
+    (
+        b"(goal g (in a $16) (in a $17) (pool $1) (set x (addq a a)))",
+        b"fault 23 Twice\n",
+    ),
+    (
+        b"(goal g (in a $16) (in b $16) (pool $1) (set x (addq a b)))",
+        b"fault 25 Twice\n",
+    ),
+    (
+        b"(goal g (in a $16) (in b $17) (pool $17) (set x (addq a b)))",
+        b"fault 36 Twice\n",
+    ),
+    (
+        b"(goal g (in a $16) (in b $31) (pool $1) (set x (addq a b)))",
+        b"fault 25 BadRegister\n",
+    ),
+    (
+        b"(goal g (in a $16) (in b $017) (pool $1) (set x (addq a b)))",
+        b"fault 25 BadRegister\n",
+    ),
+    (
+        b"(goal g (in M $16) (in b $17) (pool $1) (set x (addq M b)))",
+        b"fault 12 Twice\n",
+    ),
+    (
+        b"(goal g (in a $16) (in select $17) (pool $1) (set x (addq a a)))",
+        b"fault 23 Twice\n",
+    ),
+    (
+        b"(goal g (in a $16) (in b $17) (pool $1) (set M (addq a b)))",
+        b"fault 47 WrongSort\n",
+    ),
+    (
+        b"(goal g (in a $16) (in b $17) (pool $1) (set x (addq a b))) 1",
+        b"fault 60 BadForm\n",
+    ),
+    // A fault comes before what isn't answered so far.
+    (
+        b"(goal g (in a $16) (set x zed)) (goal h (when 1) (set x 0))",
+        b"fault 26 UnknownName\n",
+    ),
+    (
+        b"(goal g (in a $16) (in b $17) (pool $1) (set x (mulq a b)))",
+        b"fault 0 NotYet\n",
+    ),
+    (b"(goal g (set x 0))", b"fault 0 NotYet\n"),
+    (b"(goal g (in a $16) (set x 1))", b"fault 0 NotYet\n"),
+    (
+        b"(goal g (in a $16) (set x (addq a 1)))",
+        b"fault 0 NotYet\n",
+    ),
+    (
+        b"(goal g (in a $16) (set x (addq (addq a a) a)))",
+        b"fault 0 NotYet\n",
+    ),
+    (b"(goal g (in a $16) (set x (not a)))", b"fault 0 NotYet\n"),
+    (
+        b"(goal g (in a $16) (pool) (set x (addq a a)))",
+        b"fault 0 NotYet\n",
+    ),
+    (
+        b"(goal g (in a $16) (set x (addq a a)) (set y a))",
+        b"fault 0 NotYet\n",
+    ),
+    (
+        b"(goal g (in a $16) (set M (store M a a)))",
+        b"fault 0 NotYet\n",
+    ),
+    (
+        b"(goal g (in a $16) (when a) (set x (addq a a)))",
+        b"fault 0 NotYet\n",
+    ),
+    (
+        b"(goal g (in a $16) (assume a a) (set x a))",
+        b"fault 0 NotYet\n",
+    ),
+    (
+        b"(machine (slots (A 0)) (cross 0) (ops 1 (A) addq)) (goal g (in a $16) (set x a))",
+        b"fault 0 NotYet\n",
+    ),
+    (
+        b"(op f 1) (goal g (in a $16) (set x a))",
+        b"fault 0 NotYet\n",
+    ),
+    (
+        b"(axiom (a) (addq a 0) a) (goal g (in a $16) (set x a))",
+        b"fault 0 NotYet\n",
+    ),
+    (
+        b"(goal g (in a $16) (set x a)) (goal h (in a $16) (set x a))",
+        b"fault 0 NotYet\n",
+    ),
+];
+
+#[test]
+fn other_texts_are_refused(rt: HostRuntime) -> Result<(), Fail> {
+    let alloc = rt.alloc();
+    for (at, (text, line)) in REFUSED.iter().enumerate() {
+        let (written, status) = reply(alloc, &WORDS, text, 7)?;
+        assert_eq!(rt; status, Status::ReadFault, "text {at}");
+        assert_eq!(rt; written.as_slice(), *line, "text {at}");
     }
     Ok(())
 }
@@ -303,7 +419,7 @@ fn a_long_text_is_refused(rt: HostRuntime) -> Result<(), Fail> {
         run(alloc, &WORDS, &mut source, &mut sink),
         Status::ReadFault
     );
-    assert_eq!(rt; sink.written(), b"fault 0 NotYet\n".as_slice());
+    assert_eq!(rt; sink.written(), b"fault 1048576 BadForm\n".as_slice());
     Ok(())
 }
 

@@ -24,8 +24,8 @@ pub fn run<S: Source, T: Sink>(
         (S.left source.old) (S.left source.new) (T.written sink.old) (T.written sink.new) result }
     ensures usage { result ≡ Status.Usage → asked_by words.now ≡ None }
 
-    // The headline: where the status reports on goals, the input spells one, and its answer was written. In each world the
-    // printed word leaves the goal's value where the answer says, within the printed cycles of the table's slots and
+    // The headline: where the status reports on goals, the input reads as one, and its answer was written. In each world
+    // the printed words leave the goal's value where the answer says, within the printed cycles of the table's slots and
     // latencies, and no schedule of the printed graph fits in fewer.
     ensures right { asked_by words.now ≡ Some Command.Solve → IsReported result → Solves
         (S.left source.old) (S.left source.new) (T.written sink.old) (T.written sink.new) }

@@ -1,10 +1,9 @@
 pub mod Printed
-pub mod ReadBack
-pub mod Resolved
-pub mod OneLaunch
-pub mod OneWord
-pub mod OneRun
+pub mod Numbered
+pub mod PlainForms
+pub mod PlainGraph
+pub mod PlainLaunch
+pub mod PlainRun
+pub mod PlainFound
 pub mod Answered
-pub mod OneGraph
-pub mod OneGoal
-pub mod OneFound
+pub mod OneAnswer

@@ -13,6 +13,9 @@ use Rattle.register_assign.specs.declared.listings.Where.{Where}
 use Rattle.alpha_encode.specs.Decoded.{decoded}
 use Rattle.alpha_encode.specs.Texts.{text_of}
 use Rattle.alpha_encode.specs.declared.instructions.Instr.{Instr}
+use Rattle.denali_run.specs.PlainGraphs.{cycles_of}
+use Rattle.denali_run.specs.declared.plain_goals.PlainValue.{PlainValue}
+use Rattle.denali_run.specs.declared.plain_goals.PlainValue.TheVariants.{Copied, Applied}
 
 -- ---- the schedule and its words
 
@@ -59,3 +62,26 @@ found_text k found =
     ++ flat_map (launch_line ev6) found.schedule.launches
     ++ flat_map word_line found.words
     ++ flat_map where_line found.listing.wheres
+
+-- ---- the answer to a goal
+
+-- what stands before the graph; the rounds stopped as it is said
+abbrev pub head_text : List ℕ → List ℕ → List ℕ
+head_text name stop =
+    codes "denali 1\nencoding 1\ntable ev6\ngoal " ++ name ++ codes "\nrounds 0 stop " ++ stop ++ codes "\n"
+
+-- No match is unmet in the graph of an input's word; in that of an application some is.
+abbrev pub stop_word : PlainValue → List ℕ
+stop_word (Copied register) = codes "quiet"
+stop_word (Applied op left right) = codes "rounds"
+
+-- Where a cycle is needed: at K = 0 the formula has three clauses, of which the first is empty, and a line whose one
+-- hint is that clause refutes it.
+abbrev pub refutation_text : PlainValue → List ℕ
+refutation_text (Copied register) = []
+refutation_text (Applied op left right) = codes "refute 0 1\n4 0 1 0\n"
+
+-- the lines of a goal of this name for which this was found
+unfoldable pub plain_text : List ℕ → PlainValue → Found → List ℕ
+plain_text name value found =
+    head_text name (stop_word value) ++ found_text (cycles_of value) found ++ refutation_text value ++ codes "end\n"

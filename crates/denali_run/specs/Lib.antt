@@ -1,10 +1,6 @@
 pub mod AnswerTexts
-pub mod OneOperate
-pub mod Forms
-pub mod Goals
-pub mod Lexemes
-pub mod Reading
-pub mod Resolving
+pub mod PlainGoals
+pub mod PlainGraphs
+pub mod PlainViews
 pub mod RightAnswers
 pub mod Statuses
-pub mod Views

@@ -1,17 +1,15 @@
-//! The work of each command: so far `solve` with no rounds, on a goal of one operate.
+//! The work of each command: so far `solve` with no rounds, on a goal that sets a word to an input or to one operate.
 #![tactic(auto)]
 
 mod answering;
 mod building;
 mod found;
-mod goal_forms;
 mod laws;
-mod lexemes;
+mod plain_goals;
 mod printing;
-mod reading;
-mod resolving;
 mod solving;
 
 pub use found::Found;
-pub use laws::one_goal;
+pub use laws::texts_have_one_answer;
+pub use plain_goals::PlainValue;
 pub use solving::{Report, Status, TextError, solve_text};

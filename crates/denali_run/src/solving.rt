@@ -1,21 +1,16 @@
 // The work of `solve`.
-ghost use Rattle.std.specs.Prelude.{true, false, ◌≡◌, ◌<◌, ◌^◌, IfOk, IsErrOf, MatchOption, All, length, map};
-ghost use Rattle.denali_run.specs.Forms.{HasNoComment, SpellsNoGoal, WritesGoal, WritesNoGoal};
-ghost use Rattle.denali_run.specs.Lexemes.{lexeme, HasNameBytes};
-ghost use Rattle.denali_run.specs.RightAnswers.{Answers};
+ghost use Rattle.std.specs.Prelude.{◌≡◌, ◌<◌, ◌^◌, IfOk, IfErr, length};
+ghost use Rattle.denali_run.specs.RightAnswers.{Answers, IsErrorOf};
 ghost use Rattle.denali_run.specs.Statuses.{status_code};
-ghost use Rattle.denali_run.specs.Views.{goal_view};
 ghost use Rattle.denali_run.specs.declared.solving.TextError.TheVariants.{Memory};
 
 use crate::answering::print;
 use crate::building::found_of;
-use crate::goal_forms::GoalForm;
-use crate::lexemes::{Lexeme, lexemes};
-use crate::reading::written;
-use crate::resolving::resolve;
+use crate::plain_goals::plain_goal;
+use goal_reader::read;
 use items::NoMemory;
 use std::alloc::Global;
-use text_core::{TextFault, lex, one_lexing};
+use text_core::{Fault, TextFault};
 use thiserror::Error;
 
 /// How a command ends.
@@ -65,6 +60,8 @@ pub struct Report {
 /// Why a text has no answer.
 #[derive(Clone, Copy, PartialEq, Eq, Debug, Error)]
 pub enum TextError {
+    #[error("the text has a fault")]
+    Read(Fault),
     #[error("the text isn't of the form that is answered so far")]
     NotYet,
     #[error("out of memory")]
@@ -79,48 +76,24 @@ impl From<NoMemory> for TextError {
     }
 }
 
-/// Whether a comment begins somewhere in the text.
-fn has_comment(text: &[u8]) -> bool
-    ensures yes { result ≡ true → ¬ HasNoComment text.now }
-    ensures no { result ≡ false → HasNoComment text.now }
-{
-    text.contains(&b';')
-}
-
-/// The goal that the lexemes write.
-fn goal<'a>(lexemes: &'a [Lexeme<'a>]) -> Option<GoalForm<'a>>
-    requires { All HasNameBytes (map lexeme lexemes.now) }
-    ensures { MatchOption result (WritesNoGoal (map lexeme lexemes.now)) (λ g. WritesGoal (map lexeme lexemes.now) (goal_view g)) }
-{
-    match written(lexemes) {
-        Some(form) => resolve(&form),
-        None => None,
-    }
-}
-
-/// The answer to a text of the one form. Any other text is `NotYet`. The cost is linear in the length of the text.
-#[tactic(auto, unfolding(crate::specs::Forms::SpellsNoGoal))]
+/// The answer to a text of one plain goal; any other text of the grammar is `NotYet`. The cost is linear in the length
+/// of the text but for the search for names, of which a goal has few.
 pub fn solve_text(alloc: Global, text: &[u8]) -> Result<Report, TextError>
     requires { length text.now < 2 ^ 29 }
     ensures answered { IfOk result (λ report. Answers text.now report.bytes.items report.status) }
-    ensures other { IsErrOf result TextError.NotYet → SpellsNoGoal text.now }
+    ensures error { IfErr result (IsErrorOf text.now) }
 {
-    if has_comment(text) {
-        return Err(TextError::NotYet);
-    }
-    let tokens = match lex(alloc, text) {
-        Ok(tokens) => tokens,
-        Err(TextFault::Fault(_)) => return Err(TextError::NotYet),
+    let input = match read(alloc, text) {
+        Ok(input) => input,
+        Err(TextFault::Fault(fault)) => return Err(TextError::Read(fault)),
         Err(TextFault::Memory) => return Err(TextError::Memory),
     };
-    one_lexing();
-    let lexemes = lexemes(alloc, text, &tokens)?;
-    let Some(goal) = goal(&lexemes) else {
+    let Some(plain) = plain_goal(&input) else {
         return Err(TextError::NotYet);
     };
-    let found = found_of(alloc, &goal)?;
+    let found = found_of(alloc, &plain)?;
     Ok(Report {
-        bytes: print(alloc, goal.name, &found)?,
+        bytes: print(alloc, plain.goal.name.bytes(), plain.value, &found)?,
         status: Status::Done,
     })
 }

@@ -1,36 +1,34 @@
--- The schedule of an answered goal fits, and the listing and the words that it means are the goal's.
-use Rattle.std.proofs.Common.{ℕ, sym, ◌∙◌, ap, subst, map}
-use Rattle.alpha_encode.specs.Formats.{encoded}
-use Rattle.register_assign.specs.Assigned.{HaveWords}
+use Rattle.std.proofs.Common.{sym, subst, refl}
+use Rattle.machine_table.specs.Tables.{ev6}
+use Rattle.launch_graph.specs.WellFormed.{IsLaunchGraph}
+use Rattle.schedule_meaning.specs.Fits.{Fits}
 use Rattle.register_assign.specs.Outcomes.{AreWordsOf}
-use Rattle.register_assign.specs.declared.listings.Item.{Item}
-use Rattle.denali_run.specs.Views.{goal_view}
-use Rattle.denali_run.proofs.OneFound.{is_graph, it_fits, it_is_found, is_right}
+use Rattle.denali_run.specs.PlainGraphs.{graph_of, cycles_of}
+use Rattle.denali_run.specs.PlainViews.{plain_view}
+use Rattle.denali_run.proofs.PlainGraph.{well_formed}
+use Rattle.denali_run.proofs.PlainFound.{right_by}
+use Rattle.denali_run.proofs.PlainLaunch.{fits}
 use Rattle.denali_run.proofs.building.found_of.Goals as goal
-
-abbrev word_of : Item → ℕ
-word_of a = encoded a.instr
 
 pub assign-requires-clause-graph : goal.assign-requires-clause-graph
 assign-requires-clause-graph c =
-    is_graph (goal_view c.args.goal.now) c.requires _ _ _ c.in_ok-graph.ensures c.in_ok-table.ensures c.in_ok-from_slice.ensures
+    subst IsLaunchGraph (sym c.in_ok-graph.ensures) (well_formed (plain_view c.args.plain.now) c.requires.rules c.requires.plain)
 
 pub assign-requires-clause-fits : goal.assign-requires-clause-fits
 assign-requires-clause-fits c =
-    it_fits (goal_view c.args.goal.now) c.requires _ _ _ c.in_ok-graph.ensures c.in_ok-table.ensures c.in_ok-from_slice.ensures
-
-pub words_of-requires : goal.words_of-requires
-words_of-requires c = subst HaveWords (sym c.as_slice.ensures) c.in_ok-listing.ensures.words
-
-pub returns-clause-found : goal.returns-clause-found
-returns-clause-found c =
-    it_is_found (goal_view c.args.goal.now) c.requires _ _ _ c.in_ok-graph.ensures c.in_ok-table.ensures c.in_ok-from_slice.ensures _ _ _ c.in_ok-listing.ensures.listing
-    (c.from.ensures ∙ c.in_ok-words.ensures.words ∙ ap (map word_of) c.as_slice.ensures)
+    let p = plain_view c.args.plain.now in
+    subst (λ k. Fits c.in_ok-graph.graph c.in_ok-table.table k c.in_ok-schedule.schedule.launches) (sym c.cycles_of.ensures)
+    (subst (λ h. Fits h c.in_ok-table.table (cycles_of p.value) c.in_ok-schedule.schedule.launches) (sym c.in_ok-graph.ensures)
+    (subst (λ t. Fits (graph_of p) t (cycles_of p.value) c.in_ok-schedule.schedule.launches) (sym c.in_ok-table.ensures)
+    (subst (Fits (graph_of p) ev6 (cycles_of p.value)) (sym c.in_ok-schedule.ensures)
+    (fits p c.requires.rules c.requires.plain p.value refl))))
 
 pub returns-clause-right : goal.returns-clause-right
 returns-clause-right c =
-    is_right (goal_view c.args.goal.now) c.requires _ _ _ c.in_ok-graph.ensures c.in_ok-table.ensures c.in_ok-from_slice.ensures _ _ _ c.in_ok-listing.ensures.listing
-    (c.from.ensures ∙ c.in_ok-words.ensures.words ∙ ap (map word_of) c.as_slice.ensures)
-    c.meanings_are_in_range.ensures.words
-    c.in_ok-listing.ensures.keeps
-    (subst (AreWordsOf c.in_ok-listing.listing.items) (sym c.from.ensures) (subst (λ i. AreWordsOf i c.in_ok-words.words.items) c.as_slice.ensures c.in_ok-words.ensures.decode))
+    let p = plain_view c.args.plain.now in
+    let l = c.in_ok-listing.listing in
+    right_by p c.requires.rules c.requires.plain c.meanings_are_in_range.ensures.words c.graphs_are_consistent.ensures.constant_row
+    l.items l.wheres c.from.result
+    (subst (AreWordsOf l.items) (sym c.from.ensures) (subst (λ i. AreWordsOf i c.in_ok-words.words.items) c.as_slice.ensures c.in_ok-words.ensures.decode))
+    c.in_ok-graph.graph c.in_ok-table.table c.in_ok-schedule.schedule.launches c.cycles_of.result
+    c.in_ok-graph.ensures c.in_ok-table.ensures c.in_ok-schedule.ensures c.cycles_of.ensures c.in_ok-listing.ensures.listing c.in_ok-listing.ensures.keeps
