@@ -1,6 +1,6 @@
 //! Does the work of one layer once over standard input, and prints how much of it there was. It is there to be timed.
 //!
-//! The first word names the layer: `lex`, `tree`, `goals`, `lines`, `read`, `check`, `graph`, `matches` or `sat`. After
+//! The first word names the layer: `lex`, `tree`, `goals`, `lines`, `rows`, `read`, `check`, `graph`, `matches` or `sat`. After
 //! `check` comes the number of clauses of the chain that the text refutes, after `matches` the number of operates of the
 //! graph, which has no text; after `sat` may come the most conflicts that its solver may have. Where the input has a
 //! fault, or doesn't refute the chain, the program prints `fault` and ends with status 1.

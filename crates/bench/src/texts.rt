@@ -23,6 +23,8 @@ pub(crate) enum Layer {
     Goals,
     /// Its lines.
     Lines,
+    /// The rows of the launch graph that its lines begin with.
+    Rows,
     /// Its lines as lines of a refutation.
     Read,
     /// The same, as a refutation of a chain of clauses.
@@ -42,6 +44,7 @@ impl Layer {
             "tree" => Some(Layer::Tree),
             "goals" => Some(Layer::Goals),
             "lines" => Some(Layer::Lines),
+            "rows" => Some(Layer::Rows),
             "read" => Some(Layer::Read),
             "check" => Some(Layer::Check),
             "graph" => Some(Layer::Graph),
@@ -102,6 +105,10 @@ fn count_parts(alloc: Global, layer: Layer, number: Option<u32>, text: &[u8]) ->
         }
         Layer::Goals => Some(goal_reader::read(alloc, text).ok()?.goals.as_slice().len()),
         Layer::Lines => Some(lines(alloc, text).ok()?.count() as usize),
+        Layer::Rows => {
+            let text = lines(alloc, text).ok()?;
+            Some(launch_graph::read(alloc, &text, 0).ok()?.0.rows.len())
+        }
         Layer::Read => count_read(alloc, text),
         Layer::Check => count_checked(alloc, number?, text),
         Layer::Graph => count_rows(alloc, text),
