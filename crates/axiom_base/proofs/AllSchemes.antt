@@ -11,7 +11,8 @@ use Rattle.axiom_base.specs.Rewrites.{Rewrite, IsRule, IsUsable}
 use Rattle.axiom_base.specs.Equations.{equations}
 use Rattle.axiom_base.specs.Conditions.{IsCalc}
 use Rattle.axiom_base.specs.Computed.{calc_rewrite, calc_right, fold_rewrite}
-use Rattle.axiom_base.specs.Schemes.{Scheme, plain, computed, folding, IsOf, itself, calculated, folded, IsRuleOf, schemes, calc_kinds, operators_in, weight}
+use Rattle.word_terms.specs.OperatorsIn.{operators_in}
+use Rattle.axiom_base.specs.Schemes.{Scheme, plain, computed, folding, IsOf, itself, calculated, folded, IsRuleOf, schemes, calc_kinds, weight}
 
 pub rule_usable : (r : Rewrite) → IsRule r → IsUsable r
 rule_usable r is = record {

@@ -4,7 +4,7 @@ use Rattle.std.specs.Prelude.{◌≡◌, ℕ, ◌+◌, List, [], ◌∷◌, ◌+
 use Rattle.word_ops.specs.Words.{IsWord}
 use Rattle.word_ops.specs.Operators.{arity_of, operators}
 use Rattle.word_ops.specs.declared.operators.WordOp.{WordOp}
-use Rattle.word_terms.specs.Tree.{Tree, Trees, variable, application, none, more}
+use Rattle.word_terms.specs.OperatorsIn.{operators_in}
 use Rattle.axiom_base.specs.Rewrites.{Rewrite}
 use Rattle.axiom_base.specs.Equations.{equations}
 use Rattle.axiom_base.specs.Conditions.{IsCalc}
@@ -42,16 +42,6 @@ pub record IsRuleOf (axioms : List Rewrite) (r : Rewrite) : Type 0 where
   pub scheme : Scheme
   pub there : Contains (schemes axioms) scheme
   pub of : IsOf scheme r
-
--- how many operators the tree has; a constant is one, a variable none
-abbrev mutual
-  pub operators_in : {O : Type 0} → Tree O → ℕ
-  operators_in (variable n) = 0
-  operators_in (application op ts) = 1 + operators_in_all ts
-
-  pub operators_in_all : {O : Type 0} → Trees O → ℕ
-  operators_in_all none = 0
-  operators_in_all (more t ts) = operators_in t + operators_in_all ts
 
 -- how many operators the right side of each of the scheme's rules has
 abbrev pub weight : Scheme → ℕ

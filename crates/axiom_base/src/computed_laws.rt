@@ -7,7 +7,8 @@ ghost use Rattle.word_ops.specs.declared.operators.WordOp.{WordOp as Operator};
 ghost use Rattle.axiom_base.specs.Rewrites.{Rewrite, IsRule, IsTrueIn, IsUsable};
 ghost use Rattle.axiom_base.specs.Conditions.{IsCalc, constants_of};
 ghost use Rattle.axiom_base.specs.Computed.{calc_rewrite, calc_variables, first_constant, constants_from, fold_rewrite};
-ghost use Rattle.axiom_base.specs.Schemes.{Scheme, IsOf, IsRuleOf, calc_kinds, operators_in, weight};
+ghost use Rattle.word_terms.specs.OperatorsIn.{operators_in};
+ghost use Rattle.axiom_base.specs.Schemes.{Scheme, IsOf, IsRuleOf, calc_kinds, weight};
 ghost use Rattle.axiom_base.specs.declared.kinds.Calc.{Calc as Kind};
 
 use crate::table::equations_are_true;

@@ -58,8 +58,8 @@ impl Rule {
         }
     }
 
-    // The rule over variables of these sorts.
-    pub(crate) fn over(
+    /// The rule over variables of these sorts, for sides that are known to make one.
+    pub fn over(
         alloc: Global,
         variables: &[Sort],
         left: Term<Op>,

@@ -4,7 +4,8 @@ use Rattle.std.proofs.lemmas.Bool.{cases_lt}
 use Rattle.std.proofs.lemmas.List.{length-map}
 use Rattle.word_ops.specs.declared.sorts.Op.{Op}
 use Rattle.word_terms.specs.Tree.{Tree, operands_of}
-use Rattle.axiom_base.specs.Schemes.{Scheme, operators_in, operators_in_all, weight}
+use Rattle.word_terms.specs.OperatorsIn.{operators_in, operators_in_all}
+use Rattle.axiom_base.specs.Schemes.{Scheme, weight}
 use Rattle.egraph.specs.Graph.{Graph}
 use Rattle.pattern_match.specs.Found.{classes_in}
 use Rattle.pattern_match.specs.Listing.{Lists}

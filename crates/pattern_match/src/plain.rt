@@ -1,7 +1,8 @@
 // Matches of equations and axioms.
 ghost use Rattle.std.specs.Prelude.{◌≡◌, ℕ, ◌^◌, ◌-◌, min, map, IfOk};
 ghost use Rattle.word_terms.specs.View.{tree_of};
-ghost use Rattle.axiom_base.specs.Schemes.{plain, operators_in};
+ghost use Rattle.word_terms.specs.OperatorsIn.{operators_in};
+ghost use Rattle.axiom_base.specs.Schemes.{plain};
 ghost use Rattle.pattern_match.specs.Listing.{Lists};
 ghost use Rattle.pattern_match.specs.Matches.{IsMatchOf, IsUnmetOf, IsNeed};
 ghost use Rattle.pattern_match.specs.Found.{classes_in};

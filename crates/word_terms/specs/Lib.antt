@@ -5,4 +5,5 @@ pub mod Keys
 pub mod Small
 pub mod Laws
 pub mod Sorting
+pub mod OperatorsIn
 pub mod Codes

@@ -1,5 +1,6 @@
 use Rattle.std.proofs.Common.{◌-◌, ◌^◌, min, ap, ◌∙◌}
-use Rattle.axiom_base.specs.Schemes.{computed, operators_in}
+use Rattle.word_terms.specs.OperatorsIn.{operators_in}
+use Rattle.axiom_base.specs.Schemes.{computed}
 use Rattle.pattern_match.proofs.Needs.{needed}
 use Rattle.pattern_match.proofs.computed.calc_need.Goals as goal
 

@@ -1,7 +1,7 @@
 use Rattle.std.proofs.Common.{◌≡◌, ◌+◌, ◌-◌, ◌^◌, min, take, ap, ◌∙◌, arith}
 use Rattle.word_terms.specs.Tree.{operands_of}
 use Rattle.word_terms.specs.View.{tree_of, trees_of}
-use Rattle.axiom_base.specs.Schemes.{operators_in, operators_in_all}
+use Rattle.word_terms.specs.OperatorsIn.{operators_in, operators_in_all}
 use Rattle.pattern_match.proofs.Needs.{operators_push}
 use Rattle.pattern_match.proofs.Walking.{one_more_tree}
 use Rattle.pattern_match.proofs.plain.+operators.Goals as goal
