@@ -41,3 +41,6 @@ mod PrintedTexts
 mod FormsPrint
 mod Fitting
 mod InputPrints
+mod WellSorted
+mod WrittenSizes
+mod InputKeeps

@@ -90,11 +90,11 @@ operator_told declared n op e = by_word (word_named n) refl e
     by_word (Some w) f g = by_written w (is_written w) (word_found n w f) refl g
 
 -- ---- the names of a goal
-abbrev leaves_of : List InputReg → List Leaf
+abbrev pub leaves_of : List InputReg → List Leaf
 leaves_of inputs = map (λ (i : InputReg). record { name = i.name; named = Input i.reg }) inputs
 
 -- a leaf of an input has its register and its name
-input_leaf : (inputs : List InputReg) (n : List ℕ) (x : Named) → leaf_named (leaves_of inputs) n ≡ Some x → (k : ℕ) × (i : InputReg) × (k < length (registers_of inputs)) × (get_or (registers_of inputs) k 0 ≡ i.reg) × (x ≡ Input i.reg)
+pub input_leaf : (inputs : List InputReg) (n : List ℕ) (x : Named) → leaf_named (leaves_of inputs) n ≡ Some x → (k : ℕ) × (i : InputReg) × (k < length (registers_of inputs)) × (get_or (registers_of inputs) k 0 ≡ i.reg) × (x ≡ Input i.reg)
 input_leaf [] n x e = cc
 input_leaf (i ∷ is) n x e = by_test (bytes_eq i.name n) e (input_leaf is n x)
   where

@@ -12,3 +12,4 @@ pub mod Printing
 pub mod Holds
 pub mod Outcomes
 pub mod InputNames
+pub mod WellFormed

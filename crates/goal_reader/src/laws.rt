@@ -1,5 +1,5 @@
 // What holds of all texts of goals. The calls do nothing: their clauses are laws.
-ghost use Rattle.std.specs.Prelude.{◌≡◌, ℕ, List, [], None, Some, true, false, find, slice_get, length};
+ghost use Rattle.std.specs.Prelude.{◌≡◌, ◌<◌, ◌^◌, ℕ, List, [], None, Some, true, false, find, slice_get, length};
 ghost use Rattle.std.specs.List.{list_any};
 ghost use Rattle.forms.specs.Forms.{Form, forms_of, forms_list};
 ghost use Rattle.goal_reader.specs.Grammar.{IsFirstTextFault, Reads};
@@ -10,6 +10,7 @@ ghost use Rattle.goal_reader.specs.TextFaults.{IsFormFault, role_at, AreClear};
 ghost use Rattle.goal_reader.specs.Holds.{Holds, HoldsFor};
 ghost use Rattle.goal_reader.specs.Outcomes.{exit, fall, is_left, is_memory, new_memory, new_words, outcome};
 ghost use Rattle.goal_reader.specs.Views.{GoalTree, InputTree};
+ghost use Rattle.goal_reader.specs.WellFormed.{IsInput};
 ghost use Rattle.goal_reader.specs.declared.scopes.DeclaredOp.{DeclaredOp};
 ghost use Rattle.text_core.specs.Faults.{IsFirst};
 ghost use Rattle.word_ops.specs.Worlds.{World, memory};
@@ -19,7 +20,7 @@ ghost use Rattle.text_core.specs.declared.faults.Kind.TheVariants.{BadForm};
 ghost use Rattle.text_core.specs.declared.faults.Kind.{Kind};
 
 use forms::{one_reading, printed_lines_are_read};
-use machine_table::{one_table, printed_tables_are_read};
+use machine_table::{one_table, printed_tables_are_read, tables_keep_limits};
 use text_core::one_lexing;
 
 /// The first fault of a text is one.
@@ -88,5 +89,16 @@ pub fn printed_inputs_are_read()
 {
     one_lexing();
     printed_lines_are_read();
+    printed_tables_are_read();
+}
+
+/// What a text is read as is well formed, where the text has fewer than 2^29 bytes: an operator of a term takes one of
+/// them at least.
+pub fn read_inputs_are_well_formed()
+    ensures { (text : List ℕ) (input : InputTree) → length text < 2 ^ 29 → Reads text input → IsInput input }
+{
+    one_lexing();
+    one_reading();
+    tables_keep_limits();
     printed_tables_are_read();
 }

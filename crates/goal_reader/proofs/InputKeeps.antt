@@ -1,0 +1,205 @@
+-- What a text writes is well formed.
+use Rattle.std.proofs.Common.{◌≡◌, ℕ, zero, suc, ◌+◌, ◌<◌, ◌^◌, ◌++◌, if◌then◌else◌, Bool, true, false, Option, Some, List, [], ◌∷◌, map, length, get_or, replicate, refl, sym, ◌∙◌, subst, arith, bytes_eq, codes}
+use Rattle.std.specs.Prelude.{All, Contains, IfSome}
+use Rattle.std.proofs.lemmas.List.{get_or-replicate, length-replicate}
+use Rattle.std.proofs.lemmas.List.Elements.{All-nil, All-cons}
+use Rattle.forms.specs.Forms.{Form, atom, list, name, forms_from, is_list}
+use Rattle.forms.specs.Printing.{CanPrint, plain_of}
+use Rattle.machine_table.specs.Grammar.{Each, more_of}
+use Rattle.machine_table.specs.Grammar as grammar
+use Rattle.machine_table.specs.Tables.{IsTable, ev6}
+use Rattle.machine_table.specs.declared.tables.Table.{Table}
+use Rattle.word_ops.specs.declared.sorts.Op.{Op}
+use Rattle.word_ops.specs.declared.sorts.Sort.{Sort}
+use Rattle.word_ops.specs.declared.sorts.Sort.TheVariants as sorts
+use Rattle.word_terms.specs.Sorting.{IsApplication}
+use Rattle.word_terms.specs.Tree.{Tree}
+use Rattle.goal_reader.specs.declared.scopes.DeclaredOp.{DeclaredOp}
+use Rattle.goal_reader.specs.declared.scopes.Named.TheVariants.{Memory, Input, Variable}
+use Rattle.goal_reader.specs.declared.scopes.Scope.{Scope}
+use Rattle.goal_reader.specs.Grammar.{WritesAssume, WritesGuard, WritesTarget, WritesGoal, WritesAxiom, WritesMachine, WritesText, axiom_scope, unguarded, guarded, built_in, own}
+use Rattle.goal_reader.specs.InputNames.{IsNamedInput}
+use Rattle.goal_reader.specs.Printing.{input_plains}
+use Rattle.goal_reader.specs.Reading.{registers_of}
+use Rattle.goal_reader.specs.Roles.{goal_scope, rank_from}
+use Rattle.goal_reader.specs.Scopes.{leaf_named}
+use Rattle.goal_reader.specs.Terms.{Writes, memory, input, variable, constant, application}
+use Rattle.goal_reader.specs.Views.{TwoTrees, TargetTree, GoalTree, AxiomTree, InputTree}
+use Rattle.goal_reader.specs.WellFormed.{IsOfAxiom, IsOfGoal, IsOperation, IsAxiom, IsGoalTerm, IsAssume, IsTarget, IsGoal, IsInput, axiom_sorts, operators_of_axiom, operators_of_goal, operators_of_input}
+use Rattle.goal_reader.proofs.AxiomForms.{left_told}
+use Rattle.goal_reader.proofs.Fitting.{Fits, FitAll, fit_head, fit_tail, front_fits, back_fits, parts_fit, axiom_fits, goal_fits}
+use Rattle.goal_reader.proofs.PrintedNames.{leaves_of, input_leaf}
+use Rattle.goal_reader.proofs.WellSorted.{NamesVariables, Means, is_sorted, each_operator, of_operator, no_constant}
+use Rattle.goal_reader.proofs.WrittenSizes.{at_most_all}
+
+-- what holds of what each form writes
+each_keeps : {Y : Type 0} (n : ℕ) (W : Form → Y → Type 0) (P : Y → Type 0) → ((f : Form) (y : Y) → W f y → Fits n (plain_of f) → P y) → (fs : List Form) (ys : List Y) → Each W fs ys → FitAll n (map plain_of fs) → All P ys
+each_keeps n W P step _ _ grammar.none all = All-nil P
+each_keeps n W P step _ _ (more_of {form = f} {forms = fs} {y = y} {ys = ys} one others) all =
+    All-cons P y ys (step f y one (fit_head n (plain_of f) (map plain_of fs) all)) (each_keeps n W P step fs ys others (fit_tail n (plain_of f) (map plain_of fs) all))
+
+-- ---- axioms
+rank_below : (n k : ℕ) (names : List (List ℕ)) (w : List ℕ) → rank_from n names w ≡ Some k → k < n + length names
+rank_below n k [] w e = cc
+rank_below n k (m ∷ names) w e = by_test (bytes_eq m w) e (rank_below (n + 1) k names w)
+  where
+    by_test : (b : Bool) → (if b then Some n else rank_from (n + 1) names w) ≡ Some k → (rank_from (n + 1) names w ≡ Some k → k < (n + 1) + length names) → k < n + length (m ∷ names)
+    by_test true f later = let same : n ≡ k = cc in omega (arith, same)
+    by_test false f later = let low = later f in omega (arith, low)
+
+variable_is : (m n : ℕ) → Variable m ≡ Variable n → m ≡ n
+variable_is m n e = cc
+
+no_memory : (k : ℕ) → Memory ≡ Variable k → ⊥
+no_memory k e = cc
+
+no_input : (r k : ℕ) → Input r ≡ Variable k → ⊥
+no_input r k e = cc
+
+module _ (declared : List DeclaredOp) (names : List (List ℕ)) where
+  abbrev variables : List Sort
+  variables = replicate (length names) sorts.Word
+
+  axiom_variables : NamesVariables (axiom_scope declared names) variables
+  axiom_variables bytes n l =
+      let told = left_told declared names (atom 0 (name bytes)) bytes (Variable n) l in
+      let low = rank_below 0 told.0 names bytes told.1 in
+      let same = variable_is n told.0 told.2 in
+      let below : n < length names = omega (arith, low, same) in
+      (omega (arith, below, length-replicate (length names) sorts.Word), get_or-replicate (length names) n sorts.Word sorts.Word below)
+
+  axiom_means : Means (axiom_scope declared names) (IsOfAxiom declared)
+  axiom_means = record {
+    memory_is = λ bytes l. let told = left_told declared names (atom 0 (name bytes)) bytes Memory l in absurd (no_memory told.0 told.2);
+    input_is = λ bytes r l. let told = left_told declared names (atom 0 (name bytes)) bytes (Input r) l in absurd (no_input r told.0 told.2);
+    constant_is = λ n. tt;
+    operator_is = λ bytes op e. of_operator declared (IsOfAxiom declared) (λ w t. t) tt tt (λ index arity is. is) bytes op e;
+  }
+
+operation_of : (scope : Scope) {sort : Sort} {f : Form} {t : Tree Op} → Writes scope sort f t → is_list f ≡ true → IsApplication t × IsOperation t
+operation_of scope (memory l) e = cc
+operation_of scope (input l) e = cc
+operation_of scope (variable l) e = cc
+operation_of scope constant e = cc
+operation_of scope (application {bytes = bytes} {op = op} k s n each) e = (tt, no_constant scope.declared bytes op k)
+
+axiom_keeps : (declared : List DeclaredOp) (f : Form) (a : AxiomTree) → WritesAxiom declared f a → Fits 64 (plain_of f) → operators_of_axiom a < 2 ^ 29 → IsAxiom declared a
+axiom_keeps declared f a w fits few =
+    let scope = axiom_scope declared a.variables in
+    let parts = (parts_fit 63 (codes "axiom") (list w.place (forms_from w.names) ∷ w.left_form ∷ w.right_form ∷ []) f w.is fits).0 in
+    let operation = operation_of scope w.left w.application in
+    let sorted = axiom_variables declared a.variables in
+    let means = axiom_means declared a.variables in
+    record {
+      named = (axiom_fits 64 declared f a w fits).1;
+      some = w.some;
+      differ = w.differ;
+      own = w.own;
+      left = is_sorted scope (axiom_sorts a) sorted w.left parts.1.0;
+      right = is_sorted scope (axiom_sorts a) sorted w.right parts.1.1.0;
+      left_operators = each_operator scope (IsOfAxiom declared) means w.left;
+      right_operators = each_operator scope (IsOfAxiom declared) means w.right;
+      application = operation.0;
+      operation = operation.1;
+      bound = w.bound;
+      few = few;
+    }
+
+-- ---- goals
+register_is : (r s : ℕ) → Input r ≡ Input s → r ≡ s
+register_is r s e = cc
+
+module _ (declared : List DeclaredOp) (goal : GoalTree) where
+  abbrev scope_of : Scope
+  scope_of = goal_scope declared goal.inputs
+
+  goal_variables : NamesVariables scope_of []
+  goal_variables bytes n l = by_test (bytes_eq (codes "M") bytes) l
+    where
+      by_test : (b : Bool) → (if b then Some Memory else leaf_named (leaves_of goal.inputs) bytes) ≡ Some (Variable n) → (n < 0) × (sorts.Word ≡ sorts.Word)
+      by_test true e = cc
+      by_test false e = let leaf = input_leaf goal.inputs bytes (Variable n) e in let f : Variable n ≡ Input leaf.1.reg = leaf.4 in cc
+
+  input_of : (bytes : List ℕ) (r : ℕ) → leaf_named scope_of.leaves bytes ≡ Some (Input r) → Contains (registers_of goal.inputs) r
+  input_of bytes r l = by_test (bytes_eq (codes "M") bytes) l
+    where
+      by_test : (b : Bool) → (if b then Some Memory else leaf_named (leaves_of goal.inputs) bytes) ≡ Some (Input r) → Contains (registers_of goal.inputs) r
+      by_test true e = cc
+      by_test false e =
+          let leaf = input_leaf goal.inputs bytes (Input r) e in
+          let same = register_is r leaf.1.reg leaf.4 in
+          (leaf.0, leaf.2, at_any leaf.0 (registers_of goal.inputs) leaf.2 ∙ leaf.3 ∙ sym same)
+        where
+          at_any : (k : ℕ) (xs : List ℕ) → k < length xs → get_or xs k r ≡ get_or xs k 0
+          at_any k [] h = omega (arith, h)
+          at_any zero (x ∷ xs) h = refl
+          at_any (suc k) (x ∷ xs) h = at_any k xs (omega (arith, h))
+
+  goal_means : Means scope_of (IsOfGoal declared goal.inputs)
+  goal_means = record {
+    memory_is = λ bytes l. tt;
+    input_is = input_of;
+    constant_is = λ n. tt;
+    operator_is = λ bytes op e. of_operator declared (IsOfGoal declared goal.inputs) (λ w t. t) tt tt (λ index arity is. is) bytes op e;
+  }
+
+  term_keeps : {sort : Sort} {f : Form} {t : Tree Op} → Writes scope_of sort f t → CanPrint (plain_of f) → IsGoalTerm declared goal sort t
+  term_keeps w p = record { sorted = is_sorted scope_of [] goal_variables w p; operators = each_operator scope_of (IsOfGoal declared goal.inputs) goal_means w }
+
+  assume_keeps : (f : Form) (a : TwoTrees) → WritesAssume scope_of f a → Fits 63 (plain_of f) → IsAssume declared goal a
+  assume_keeps f a w fits =
+      let parts = (parts_fit 62 (codes "assume") (w.first ∷ w.second ∷ []) f w.is fits).0 in
+      record { sort = w.sort; left = term_keeps w.left parts.0; right = term_keeps w.right parts.1.0 }
+
+  guard_keeps : (fs : List Form) (t : Option (Tree Op)) → WritesGuard scope_of fs t → FitAll 63 (map plain_of fs) → IfSome t (IsGoalTerm declared goal sorts.Word)
+  guard_keeps _ _ unguarded all = tt
+  guard_keeps _ _ (guarded {form = f} one is w) all = term_keeps w (parts_fit 62 (codes "when") (one ∷ []) f is (fit_head 63 (plain_of f) [] all)).0.0
+
+  target_keeps : (f : Form) (t : TargetTree) → WritesTarget scope_of f t → Fits 63 (plain_of f) → IsTarget declared goal t
+  target_keeps f t w fits = term_keeps w.value (parts_fit 62 (codes "set") (w.first ∷ w.second ∷ []) f w.is fits).0.1.0
+
+goal_keeps : (declared : List DeclaredOp) (f : Form) (g : GoalTree) → WritesGoal declared f g → Fits 64 (plain_of f) → operators_of_goal g < 2 ^ 29 → IsGoal declared g
+goal_keeps declared f g w fits few =
+    let scope = goal_scope declared g.inputs in
+    let after_pools = w.assumes ++ (w.whens ++ w.sets) in
+    let items = w.ins ++ (w.pools ++ after_pools) in
+    let parts = parts_fit 63 (codes "goal") (w.name_form ∷ items) f w.is fits in
+    let all = fit_tail 63 (plain_of w.name_form) (map plain_of items) parts in
+    let behind = back_fits 63 w.pools after_pools (back_fits 63 w.ins (w.pools ++ after_pools) all) in
+    let last = back_fits 63 w.assumes (w.whens ++ w.sets) behind in
+    record {
+      named = (goal_fits 62 declared f g w fits).1;
+      rules = w.rules;
+      assumes = each_keeps 63 (WritesAssume scope) (IsAssume declared g) (assume_keeps declared g) w.assumes g.assumes w.assumptions (front_fits 63 w.assumes (w.whens ++ w.sets) behind);
+      guard = guard_keeps declared g w.whens g.guard w.guard (front_fits 63 w.whens w.sets last);
+      sets = each_keeps 63 (WritesTarget scope) (IsTarget declared g) (target_keeps declared g) w.sets g.sets w.targets (back_fits 63 w.whens w.sets last);
+      few = few;
+    }
+
+-- ---- texts
+machine_keeps : IsTable ev6 → (fs : List Form) (t : Table) (b : Bool) → WritesMachine fs t b → IsTable t × (b ≡ true → t ≡ ev6)
+machine_keeps is _ _ _ built_in = (is, λ e. refl)
+machine_keeps is _ _ _ (own w) = (w.well_formed, λ e. cc)
+
+pub text_keeps : IsTable ev6 → (fs : List Form) (i : InputTree) → WritesText fs i → FitAll 64 (map plain_of fs) → FitAll 64 (input_plains i) → IsNamedInput i → operators_of_input i < 2 ^ 29 → IsInput i
+text_keeps is fs i w all printed named few =
+    let whole = subst (λ gs. FitAll 64 (map plain_of gs)) w.are all in
+    let last = back_fits 64 w.ops (w.axioms ++ w.goals) (back_fits 64 w.machines (w.ops ++ (w.axioms ++ w.goals)) whole) in
+    let machine = machine_keeps is w.machines i.table i.builtin w.machine in
+    let axioms = each_keeps 64 (WritesAxiom i.ops) (λ a. operators_of_axiom a < 2 ^ 29 → IsAxiom i.ops a) (axiom_keeps i.ops) w.axioms i.axioms w.equations (front_fits 64 w.axioms w.goals last) in
+    let goals = each_keeps 64 (WritesGoal i.ops) (λ g. operators_of_goal g < 2 ^ 29 → IsGoal i.ops g) (goal_keeps i.ops) w.goals i.goals w.all_goals (back_fits 64 w.axioms w.goals last) in
+    record {
+      table = machine.0;
+      slots = named.slots;
+      builtin = machine.1;
+      operators = named.operators;
+      operators_differ = w.op_names;
+      own_names = w.own_names;
+      axioms = λ k d l. axioms k d l (let a = at_most_all operators_of_axiom i.axioms k d l in omega (arith, a, few));
+      goals = λ k d l. goals k d l (let a = at_most_all operators_of_goal i.goals k d l in omega (arith, a, few));
+      goals_differ = w.goal_names;
+      some_goal = w.some_goal;
+      few = w.few;
+      few_operators = few;
+      nested = printed.1;
+    }

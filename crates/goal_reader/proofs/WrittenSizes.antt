@@ -1,0 +1,136 @@
+-- What is written has no more operators than its form has atoms, and a text no more atoms than bytes.
+use Rattle.std.proofs.Common.{◌≡◌, ℕ, zero, suc, ◌+◌, ◌<◌, ◌≤◌, ◌++◌, length, get_or, Option, List, [], ◌∷◌, refl, ap, ◌∙◌, arith}
+use Rattle.std.specs.Option.{option_map_or}
+use Rattle.word_ops.specs.declared.sorts.Op.{Op}
+use Rattle.word_ops.specs.declared.sorts.Sort.{Sort}
+use Rattle.word_terms.specs.OperatorsIn.{operators_in, operators_in_all}
+use Rattle.word_terms.specs.Tree.{Tree, Trees}
+use Rattle.forms.specs.Forms.{Form, Forms, atom, list, none, more, forms_list, forms_from, Stands, Stand}
+use Rattle.machine_table.specs.Grammar.{Each, more_of, IsListOf}
+use Rattle.machine_table.specs.Grammar as grammar
+use Rattle.goal_reader.specs.declared.scopes.DeclaredOp.{DeclaredOp}
+use Rattle.goal_reader.specs.declared.scopes.Scope.{Scope}
+use Rattle.goal_reader.specs.Grammar.{WritesAssume, WritesGuard, WritesTarget, WritesGoal, WritesAxiom, WritesText, unguarded, guarded, axiom_scope}
+use Rattle.goal_reader.specs.Roles.{goal_scope}
+use Rattle.goal_reader.specs.Terms.{Writes, WritesEach, memory, input, variable, constant, application, nothing, operand}
+use Rattle.goal_reader.specs.Views.{TwoTrees, TargetTree, GoalTree, AxiomTree, InputTree}
+use Rattle.goal_reader.specs.WellFormed.{sum_over, operators_of_sides, operators_of_target, operators_of_goal, operators_of_axiom, operators_of_input}
+
+abbrev mutual
+  pub atoms : Form → ℕ
+  atoms (atom place a) = 1
+  atoms (list place parts) = atoms_of parts
+
+  pub atoms_of : Forms → ℕ
+  atoms_of none = 0
+  atoms_of (more form forms) = atoms form + atoms_of forms
+
+-- ---- atoms and bytes
+mutual
+  atoms_within : (low high : ℕ) (f : Form) → Stands low high f → low + atoms f ≤ high
+  atoms_within low high (atom place a) s = let a = s.0 in let b = s.1 in omega (arith, a, b)
+  atoms_within low high (list place parts) s = let a = s.0 in let b = all_within (place + 1) high parts s.1 in omega (arith, a, b)
+
+  pub all_within : (low high : ℕ) (fs : Forms) → Stand low high fs → low + atoms_of fs ≤ high
+  all_within low high none s = omega (arith, s)
+  all_within low high (more form forms) s =
+      let a = atoms_within low s.0 form s.1.0 in
+      let b = all_within s.0 high forms s.1.1 in
+      omega (arith, a, b)
+
+-- ---- atoms of lists
+pub from_listed : (fs : Forms) → atoms_of fs ≡ sum_over atoms (forms_list fs)
+from_listed none = refl
+from_listed (more form forms) = ap (λ n. atoms form + n) (from_listed forms)
+
+to_listed : (fs : List Form) → atoms_of (forms_from fs) ≡ sum_over atoms fs
+to_listed [] = refl
+to_listed (form ∷ forms) = ap (λ n. atoms form + n) (to_listed forms)
+
+atoms_listed : (word : List ℕ) (parts : List Form) (f : Form) → IsListOf word parts f → atoms f ≡ 1 + sum_over atoms parts
+atoms_listed word parts f is = ap atoms is.is ∙ ap (λ n. 1 + n) (to_listed parts)
+
+atoms_behind : (fs gs : List Form) → sum_over atoms (fs ++ gs) ≡ sum_over atoms fs + sum_over atoms gs
+atoms_behind [] gs = omega arith
+atoms_behind (f ∷ fs) gs = let e = atoms_behind fs gs in omega (arith, e)
+
+-- ---- what forms write
+each_few : {Y : Type 0} (W : Form → Y → Type 0) (size : Y → ℕ) → ((f : Form) (y : Y) → W f y → size y ≤ atoms f) → (fs : List Form) (ys : List Y) → Each W fs ys → sum_over size ys ≤ sum_over atoms fs
+each_few W size step _ _ grammar.none = omega arith
+each_few W size step _ _ (more_of {form = f} {forms = fs} {y = y} {ys = ys} one others) =
+    let a = step f y one in
+    let b = each_few W size step fs ys others in
+    omega (arith, a, b)
+
+module _ (scope : Scope) where
+  mutual
+    few_operators : {sort : Sort} {f : Form} {t : Tree Op} → Writes scope sort f t → operators_in t ≤ atoms f
+    few_operators (memory l) = omega arith
+    few_operators (input l) = omega arith
+    few_operators (variable l) = omega arith
+    few_operators constant = omega arith
+    few_operators (application k s n each) = let a = few_of_all each in omega (arith, a)
+
+    few_of_all : {op : Op} {at : ℕ} {fs : Forms} {ts : Trees Op} → WritesEach scope op at fs ts → operators_in_all ts ≤ atoms_of fs
+    few_of_all nothing = omega arith
+    few_of_all (operand one others) =
+        let a = few_operators one in
+        let b = few_of_all others in
+        omega (arith, a, b)
+
+  assume_few : (f : Form) (a : TwoTrees) → WritesAssume scope f a → operators_of_sides a ≤ atoms f
+  assume_few f a w =
+      let l = few_operators w.left in
+      let r = few_operators w.right in
+      let e = atoms_listed _ (w.first ∷ w.second ∷ []) f w.is in
+      omega (arith, l, r, e)
+
+  guard_few : (fs : List Form) (t : Option (Tree Op)) → WritesGuard scope fs t → option_map_or operators_in t 0 ≤ sum_over atoms fs
+  guard_few _ _ unguarded = omega arith
+  guard_few _ _ (guarded {form = f} {term = t} one is w) =
+      let a = few_operators w in
+      let e = atoms_listed _ (one ∷ []) f is in
+      omega (arith, a, e)
+
+  target_few : (f : Form) (t : TargetTree) → WritesTarget scope f t → operators_of_target t ≤ atoms f
+  target_few f t w =
+      let a = few_operators w.value in
+      let e = atoms_listed _ (w.first ∷ w.second ∷ []) f w.is in
+      omega (arith, a, e)
+
+pub goal_few : (declared : List DeclaredOp) (f : Form) (g : GoalTree) → WritesGoal declared f g → operators_of_goal g ≤ atoms f
+goal_few declared f g w =
+    let scope = goal_scope declared g.inputs in
+    let a = each_few (WritesAssume scope) operators_of_sides (assume_few scope) w.assumes g.assumes w.assumptions in
+    let b = guard_few scope w.whens g.guard w.guard in
+    let c = each_few (WritesTarget scope) operators_of_target (target_few scope) w.sets g.sets w.targets in
+    let d = atoms_listed _ (w.name_form ∷ w.ins ++ (w.pools ++ (w.assumes ++ (w.whens ++ w.sets)))) f w.is in
+    let i = atoms_behind w.ins (w.pools ++ (w.assumes ++ (w.whens ++ w.sets))) in
+    let j = atoms_behind w.pools (w.assumes ++ (w.whens ++ w.sets)) in
+    let k = atoms_behind w.assumes (w.whens ++ w.sets) in
+    let l = atoms_behind w.whens w.sets in
+    omega (arith, a, b, c, d, i, j, k, l)
+
+pub axiom_few : (declared : List DeclaredOp) (f : Form) (a : AxiomTree) → WritesAxiom declared f a → operators_of_axiom a ≤ atoms f
+axiom_few declared f a w =
+    let scope = axiom_scope declared a.variables in
+    let l = few_operators scope w.left in
+    let r = few_operators scope w.right in
+    let e = atoms_listed _ (list w.place (forms_from w.names) ∷ w.left_form ∷ w.right_form ∷ []) f w.is in
+    omega (arith, l, r, e)
+
+pub input_few : (fs : List Form) (i : InputTree) → WritesText fs i → operators_of_input i ≤ sum_over atoms fs
+input_few fs i w =
+    let a = each_few (WritesAxiom i.ops) operators_of_axiom (axiom_few i.ops) w.axioms i.axioms w.equations in
+    let b = each_few (WritesGoal i.ops) operators_of_goal (goal_few i.ops) w.goals i.goals w.all_goals in
+    let d = ap (sum_over atoms) w.are in
+    let j = atoms_behind w.machines (w.ops ++ (w.axioms ++ w.goals)) in
+    let k = atoms_behind w.ops (w.axioms ++ w.goals) in
+    let l = atoms_behind w.axioms w.goals in
+    omega (arith, a, b, d, j, k, l)
+
+-- one of several is no larger than all
+pub at_most_all : {A : Type 0} (size : A → ℕ) (xs : List A) (k : ℕ) (d : A) → k < length xs → size (get_or xs k d) ≤ sum_over size xs
+at_most_all size [] k d h = omega (arith, h)
+at_most_all size (x ∷ xs) zero d h = omega arith
+at_most_all size (x ∷ xs) (suc k) d h = let a = at_most_all size xs k d (omega (arith, h)) in omega (arith, a)
