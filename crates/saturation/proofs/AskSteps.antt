@@ -8,7 +8,8 @@ use Rattle.word_terms.specs.Tree.{Tree, operands_of}
 use Rattle.axiom_base.specs.Rewrites.{Rewrite}
 use Rattle.word_ops.specs.Operators.{operators}
 use Rattle.axiom_base.specs.Equations.{equations}
-use Rattle.axiom_base.specs.Schemes.{Scheme, plain, computed, folding, calc_kinds, schemes, IsOf, operators_in, operators_in_all, weight}
+use Rattle.word_terms.specs.OperatorsIn.{operators_in, operators_in_all}
+use Rattle.axiom_base.specs.Schemes.{Scheme, plain, computed, folding, calc_kinds, schemes, IsOf, weight}
 use Rattle.egraph.specs.Graph.{Graph}
 use Rattle.pattern_match.specs.Listing.{Lists}
 use Rattle.pattern_match.specs.Matches.{IsUnmetOf, IsNeed, AreNeeds, no_need, one_need}

@@ -17,7 +17,7 @@ use Rattle.word_terms.specs.Sorting.{HasSort, HaveSorts, tree_count}
 use Rattle.egraph.specs.declared.rows.Row.{Row}
 use Rattle.egraph.specs.Graph.{Graph, IsGraph, IsInserted, read_through, with_row}
 use Rattle.egraph.specs.Values.{ExtendsValues}
-use Rattle.axiom_base.specs.Schemes.{operators_in, operators_in_all}
+use Rattle.word_terms.specs.OperatorsIn.{operators_in, operators_in_all}
 use Rattle.egraph.specs.Sorts.{IsOfSort}
 use Rattle.saturation.specs.Trace.{MayBuild, CanBuild, IsBuilt, AreBuilt, placed, put, none_built, one_built}
 use Rattle.saturation.proofs.Built.{AreMadeIn, are_built_graph, are_built_extends, are_built_classes, are_built_sorts, sort_of_rows, have_later}

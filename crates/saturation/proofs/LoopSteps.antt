@@ -1,5 +1,5 @@
 -- Steps of the loop over rounds.
-use Rattle.std.proofs.Common.{◌≡◌, ◌≢◌, ℕ, ◌+◌, ◌-◌, ◌*◌, ◌<◌, ◌≤◌, ◌^◌, min, Bool, true, false, eqb, List, [], length, map, get_or, All, sym, ◌∙◌, subst, inl, inr, arith}
+use Rattle.std.proofs.Common.{◌≡◌, ◌≢◌, ℕ, ◌+◌, ◌-◌, ◌*◌, ◌<◌, ◌≤◌, ◌^◌, min, max, Bool, true, false, eqb, List, [], length, map, get_or, All, sym, ◌∙◌, subst, inl, inr, arith}
 use Rattle.std.proofs.lemmas.Bool.{cases_lt}
 use Rattle.std.proofs.lemmas.Bool.Decides.{eqb_tells}
 use Rattle.std.proofs.lemmas.List.{length-map}
@@ -24,6 +24,7 @@ use Rattle.saturation.specs.declared.rounds.Stop.{Stop}
 use Rattle.saturation.specs.declared.rounds.Stop.TheVariants.{Quiet, Rounds, Full}
 use Rattle.saturation.proofs.Asks.{Asks}
 use Rattle.saturation.proofs.Round.{round_is_grown, round_clashes}
+use Rattle.saturation.proofs.FewRows.{all_made_rows}
 use Rattle.saturation.proofs.RoundSteps.{all_made_few}
 use Rattle.saturation.proofs.RoundStands.{all_may, all_true, round_stands}
 use Rattle.saturation.proofs.Standing.{Law}
@@ -34,6 +35,7 @@ pub record Running (axioms : List Rewrite) (start : Graph Op) (rounds nodes : �
   pub after : IsAfter axioms start rounds nodes g j
   pub stands : KeepsStanding axioms start g
   pub few : length g.current ≤ 2 ^ 30 + j * 4096
+  pub few_rows : length g.rows ≤ max (length start.rows) nodes
   pub asked : j ≤ rounds
 
 pub running_none : (axioms : List Rewrite) (start : Graph Op) (rounds nodes : ℕ) → length start.current < 2 ^ 30 → Running axioms start rounds nodes start 0
@@ -41,6 +43,7 @@ running_none axioms start rounds nodes l = record {
   after = record { grown = λ present equal h. (h, λ i b. absurd (omega (arith, b))) };
   stands = λ names equal terms h. h;
   few = omega (arith, l);
+  few_rows = omega arith;
   asked = omega arith;
 }
 
@@ -105,6 +108,7 @@ module _ (axioms : List Rewrite) (start : Graph Op) (rounds nodes : ℕ) (g : Gr
         stands = λ names equal terms h.
             round_stands axioms ready.usable g ready.graph asked ready.asks law names equal terms (λ world is holds r rule. true_rules world names axioms r holds.axioms_hold rule) new made (running.stands names equal terms h);
         few = let f = all_made_few made in omega (arith, f, total_within, running.few, few_nodes);
+        few_rows = let f = all_made_rows made in omega (arith, f, total_within);
         asked = omega (arith, running.asked, more);
       }
 

@@ -20,7 +20,7 @@ use Rattle.saturation.proofs.MatchSorts.{match_may}
 use Rattle.saturation.proofs.Standing.{Law, True, TrueAsk, all_made_true, match_true, class_value, value_agrees}
 
 mutual
-  closed_below : (g : Graph Op) (t : Tree Op) {c : ℕ} → IsClass g [] t c → AreBelow 0 t
+  pub closed_below : (g : Graph Op) (t : Tree Op) {c : ℕ} → IsClass g [] t c → AreBelow 0 t
   closed_below g t (at_variable l) = absurd (omega (arith, l))
   closed_below g t (at_row {ts} h k) = closed_each g ts h
 

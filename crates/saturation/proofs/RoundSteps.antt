@@ -8,7 +8,7 @@ use Rattle.egraph.specs.declared.rows.Row.{Row}
 use Rattle.egraph.specs.Graph.{Graph}
 use Rattle.egraph.specs.declared.faults.MergeFault.{MergeFault}
 use Rattle.egraph.specs.declared.faults.MergeFault.TheVariants.{NoWorld, Memory}
-use Rattle.axiom_base.specs.Schemes.{operators_in}
+use Rattle.word_terms.specs.OperatorsIn.{operators_in}
 use Rattle.saturation.specs.Trace.{Asked, CanMake, CanMakeAll, operators_asked, IsBuilt, IsMade, AreMade, finished, work, IsRefusedAt, IsRefused, here, after}
 use Rattle.saturation.specs.Instances.{asked_of, RefusalIs, RefusalOfAll}
 use Rattle.saturation.specs.declared.instance.Instance.{Instance}

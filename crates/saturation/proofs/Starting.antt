@@ -26,22 +26,22 @@ mutual
   same_trees none = refl
   same_trees (more t ts) = let e = same_tree t in let f = same_trees ts in cc
 
-none_made : (g : Graph Op) → AreMadeIn g []
+pub none_made : (g : Graph Op) → AreMadeIn g []
 none_made g n d l = absurd (omega arith)
 
 no_stand : (g : Graph Op) → Stand g [] []
 no_stand g = record { made = none_made g; each = λ n l. absurd (omega (arith, l)) }
 
 -- the term has its class, and has it still later
-record Placed (g : Graph Op) (t : Tree Op) : Type 0 where
+pub record Placed (g : Graph Op) (t : Tree Op) : Type 0 where
   pub class : ℕ
   pub made : class < length g.current
   pub is : IsClass g [] t (cur g class)
 
-placed_built : (t : Tree Op) (g new : Graph Op) (c : ℕ) → IsBuilt [] t g c new → IsGraph op_signature g → Placed new t
+pub placed_built : (t : Tree Op) (g new : Graph Op) (c : ℕ) → IsBuilt [] t g c new → IsGraph op_signature g → Placed new t
 placed_built t g new c b is = let k = built_class [] b is (none_made g) in record { class = c; made = k.0; is = k.1 }
 
-placed_later : (g new : Graph Op) → Follows g new → (t : Tree Op) → Placed g t → Placed new t
+pub placed_later : (g new : Graph Op) → Follows g new → (t : Tree Op) → Placed g t → Placed new t
 placed_later g new f t p = record { class = p.class; made = omega (arith, f.longer, p.made); is = closed_follows g new f p.made p.is }
 
 record Together (g : Graph Op) (t u : Tree Op) : Type 0 where
@@ -58,33 +58,33 @@ together_later g new f t u p = record { class = p.class; made = omega (arith, f.
 built_follows : (t : Tree Op) (g new : Graph Op) (c : ℕ) → IsBuilt [] t g c new → IsGraph op_signature g → Follows g new
 built_follows t g new c b is = extends_follows op_signature g is new (built_extends [] b)
 
-inserted_graph : {ts : List (Tree Op)} {g new : Graph Op} → AreInserted ts g new → IsGraph op_signature g → IsGraph op_signature new
+pub inserted_graph : {ts : List (Tree Op)} {g new : Graph Op} → AreInserted ts g new → IsGraph op_signature g → IsGraph op_signature new
 inserted_graph none_inserted is = is
 inserted_graph (one_inserted b w) is = inserted_graph w (built_graph [] b is)
 
-inserted_follows : {ts : List (Tree Op)} {g new : Graph Op} → AreInserted ts g new → IsGraph op_signature g → Follows g new
+pub inserted_follows : {ts : List (Tree Op)} {g new : Graph Op} → AreInserted ts g new → IsGraph op_signature g → Follows g new
 inserted_follows (none_inserted {g}) is = follows_itself op_signature g is
 inserted_follows (one_inserted {t} {ts} {g} {h} {new} {c} b w) is = follows_through op_signature g h new is (built_follows t g h c b is) (inserted_follows w (built_graph [] b is))
 
-assumed_graph : (p : Tree Op × Tree Op) (g new : Graph Op) → IsAssumed p g new → IsGraph op_signature new
+pub assumed_graph : (p : Tree Op × Tree Op) (g new : Graph Op) → IsAssumed p g new → IsGraph op_signature new
 assumed_graph p g new a = made_graph (record { right = p.1; places = []; class = a.class }) a.middle new a.made
 
-assumed_follows : (p : Tree Op × Tree Op) (g new : Graph Op) → IsAssumed p g new → IsGraph op_signature g → Follows g new
+pub assumed_follows : (p : Tree Op × Tree Op) (g new : Graph Op) → IsAssumed p g new → IsGraph op_signature g → Follows g new
 assumed_follows p g new a is =
     let im = built_graph [] a.built is in
     follows_through op_signature g a.middle new is (built_follows p.0 g a.middle a.class a.built is) (made_follows (record { right = p.1; places = []; class = a.class }) a.middle new a.made im)
 
-all_assumed_graph : {ps : List (Tree Op × Tree Op)} {g new : Graph Op} → AreAssumed ps g new → IsGraph op_signature g → IsGraph op_signature new
+pub all_assumed_graph : {ps : List (Tree Op × Tree Op)} {g new : Graph Op} → AreAssumed ps g new → IsGraph op_signature g → IsGraph op_signature new
 all_assumed_graph none_assumed is = is
 all_assumed_graph (one_assumed {p} {ps} {g} {h} a w) is = all_assumed_graph w (assumed_graph p g h a)
 
-all_assumed_follow : {ps : List (Tree Op × Tree Op)} {g new : Graph Op} → AreAssumed ps g new → IsGraph op_signature g → Follows g new
+pub all_assumed_follow : {ps : List (Tree Op × Tree Op)} {g new : Graph Op} → AreAssumed ps g new → IsGraph op_signature g → Follows g new
 all_assumed_follow (none_assumed {g}) is = follows_itself op_signature g is
 all_assumed_follow (one_assumed {p} {ps} {g} {h} {new} a w) is = follows_through op_signature g h new is (assumed_follows p g h a is) (all_assumed_follow w (assumed_graph p g h a))
 
 -- ---- each term has its class at the end, and each pair one class
 
-all_placed : {ts : List (Tree Op)} {g new : Graph Op} → AreInserted ts g new → IsGraph op_signature g → All (Placed new) ts
+pub all_placed : {ts : List (Tree Op)} {g new : Graph Op} → AreInserted ts g new → IsGraph op_signature g → All (Placed new) ts
 all_placed none_inserted is k d l = absurd (omega arith)
 all_placed (one_inserted {t} {ts} {g} {h} {new} {c} b w) is zero d l = let ih = built_graph [] b is in placed_later h new (inserted_follows w ih) t (placed_built t g h c b is)
 all_placed (one_inserted {t} {ts} {g} {h} {new} b w) is (suc k) d l = all_placed w (built_graph [] b is) k d (omega (arith, l))

@@ -6,3 +6,9 @@ pub mod Instances
 pub mod Rounds
 pub mod Asking
 pub mod Alike
+pub mod StandsFor
+pub mod Launched
+pub mod Numbered
+pub mod Renamed
+pub mod GoalTerms
+pub mod AtStart

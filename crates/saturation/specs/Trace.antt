@@ -6,7 +6,7 @@ use Rattle.word_ops.specs.declared.sorts.Sort.{Sort}
 use Rattle.word_terms.specs.Tree.{Tree, Trees, variable, application, none, more}
 use Rattle.word_terms.specs.Keys.{op_signature}
 use Rattle.word_terms.specs.Sorting.{HasSort, sort_at}
-use Rattle.axiom_base.specs.Schemes.{operators_in}
+use Rattle.word_terms.specs.OperatorsIn.{operators_in}
 use Rattle.egraph.specs.Graph.{Graph, IsGraph, IsInserted}
 use Rattle.egraph.specs.Joined.{IsMerged, Clash}
 use Rattle.egraph.specs.Sorts.{IsOfSort}

@@ -3,7 +3,8 @@ ghost use Rattle.std.specs.Prelude.{◌≡◌, ℕ, [], ◌∷◌, ◌-◌, ◌^
 ghost use Rattle.word_ops.specs.Operators.{operators as all_operators};
 ghost use Rattle.word_terms.specs.View.{tree_of};
 ghost use Rattle.axiom_base.specs.Rewrites.{IsRule};
-ghost use Rattle.axiom_base.specs.Schemes.{plain, computed, folding, calc_kinds, schemes, operators_in};
+ghost use Rattle.word_terms.specs.OperatorsIn.{operators_in};
+ghost use Rattle.axiom_base.specs.Schemes.{plain, computed, folding, calc_kinds, schemes};
 ghost use Rattle.word_terms.specs.Keys.{op_signature};
 ghost use Rattle.egraph.specs.Graph.{IsGraph};
 ghost use Rattle.saturation.specs.Trace.{operators_asked};

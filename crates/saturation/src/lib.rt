@@ -3,16 +3,29 @@
 #![tactic(auto)]
 
 mod asking;
+mod axiom_rules;
 mod constants;
 mod faults;
+mod first_graph;
+mod goal_laws;
 mod instance;
+mod launch_laws;
+mod launching;
 mod laws;
 mod making;
+mod numbering;
 mod rounds;
 
-pub use faults::SaturateFault;
+pub use axiom_rules::rules;
+pub use faults::{SaturateFault, StartFault};
+pub use first_graph::start;
+pub use goal_laws::axioms_make_rules_true;
+pub use launch_laws::{grown_graphs_can_be_launched, launched_graphs_stand};
+pub use launching::to_launch;
 pub use laws::grown_graphs_are_one;
 pub use rounds::{Rules, Saturated, Stop, saturate};
 
+#[cfg(test)]
+mod launch_tests;
 #[cfg(test)]
 mod tests;

@@ -1,5 +1,5 @@
 // Rounds of matching, and when they end.
-ghost use Rattle.std.specs.Prelude.{◌≡◌, ◌≢◌, ◌≤◌, ◌<◌, ◌+◌, ◌^◌, length, map, false, MatchOption, IfOk, IfErr};
+ghost use Rattle.std.specs.Prelude.{◌≡◌, ◌≢◌, ◌≤◌, ◌<◌, ◌+◌, ◌^◌, length, map, max, false, MatchOption, IfOk, IfErr};
 ghost use Rattle.saturation.specs.Asking.{StopFits};
 ghost use Rattle.saturation.specs.Rounds.{IsSaturated, KeepsStanding, SaturateFaultIs, IsHopeless};
 
@@ -52,6 +52,7 @@ pub fn saturate(
     ensures saturated { IfOk result (λ s. IsSaturated rules.now.program graph rounds nodes s.graph s.rounds s.stop) }
     ensures rounds { IfOk result (λ s. s.rounds ≤ rounds) }
     ensures stands { IfOk result (λ s. KeepsStanding rules.now.program graph s.graph) }
+    ensures few { IfOk result (λ s. length s.graph.rows ≤ max (length graph.rows) nodes) }
     ensures fault { IfErr result (SaturateFaultIs rules.now.program graph rounds nodes) }
     ensures hopeless { IfErr result (IsHopeless rules.now.program graph) }
 {

@@ -1,249 +1,11 @@
-// More goals as their rows, and what rounds make of them by an independent program.
+// More goals, also with axioms and assumptions, and what rounds make of them by an independent program.
 use super::Case;
 use crate::Stop;
-use word_ops::{Op, WordOp};
 
-// The goal, its rows, and the rows, rounds and stop after 0, 1, 2 and 4 rounds with 64 rows as the limit.
-pub(crate) const MORE_GOALS: [Case; 20] = [
-    // (in a $16) (in b $17) (set x (addq a (neg b))) (set y (neg (neg a)))
+// The text, and the rows, rounds and stop after 0, 1, 2 and 4 rounds with 512 rows as the limit.
+pub(crate) const MORE_GOALS: [Case; 27] = [
     (
-        &[
-            (Op::Entry, &[]),
-            (Op::Input(16), &[]),
-            (Op::Input(17), &[]),
-            (Op::Word(WordOp::Neg), &[2]),
-            (Op::Word(WordOp::Addq), &[1, 3]),
-            (Op::Word(WordOp::Neg), &[1]),
-            (Op::Word(WordOp::Neg), &[5]),
-        ],
-        &[],
-        [
-            (7, 0, Stop::Rounds),
-            (13, 1, Stop::Rounds),
-            (17, 2, Stop::Rounds),
-            (26, 4, Stop::Rounds),
-        ],
-    ),
-    // (in a $16) (set x (addq (subq a 0) 0)) (set y (neg a))
-    (
-        &[
-            (Op::Entry, &[]),
-            (Op::Input(16), &[]),
-            (Op::Constant(0), &[]),
-            (Op::Word(WordOp::Subq), &[1, 2]),
-            (Op::Word(WordOp::Addq), &[3, 2]),
-            (Op::Word(WordOp::Neg), &[1]),
-        ],
-        &[],
-        [
-            (6, 0, Stop::Rounds),
-            (10, 1, Stop::Rounds),
-            (13, 2, Stop::Rounds),
-            (17, 4, Stop::Quiet),
-        ],
-    ),
-    // (in a $16) (in b $17) (set x (mulq (mulq a b) 1)) (set y (mulq a 0))
-    (
-        &[
-            (Op::Entry, &[]),
-            (Op::Input(16), &[]),
-            (Op::Input(17), &[]),
-            (Op::Word(WordOp::Mulq), &[1, 2]),
-            (Op::Constant(1), &[]),
-            (Op::Word(WordOp::Mulq), &[3, 4]),
-            (Op::Constant(0), &[]),
-            (Op::Word(WordOp::Mulq), &[1, 6]),
-        ],
-        &[],
-        [
-            (8, 0, Stop::Rounds),
-            (14, 1, Stop::Rounds),
-            (20, 2, Stop::Rounds),
-            (26, 3, Stop::Full),
-        ],
-    ),
-    // (in a $16) (in b $17) (set x (umulh a b)) (set y (sll a 1))
-    (
-        &[
-            (Op::Entry, &[]),
-            (Op::Input(16), &[]),
-            (Op::Input(17), &[]),
-            (Op::Word(WordOp::Umulh), &[1, 2]),
-            (Op::Constant(1), &[]),
-            (Op::Word(WordOp::Sll), &[1, 4]),
-        ],
-        &[],
-        [
-            (6, 0, Stop::Rounds),
-            (10, 1, Stop::Quiet),
-            (10, 1, Stop::Quiet),
-            (10, 1, Stop::Quiet),
-        ],
-    ),
-    // (in a $16) (in b $17) (set x (sll a 0)) (set y (srl b 0))
-    (
-        &[
-            (Op::Entry, &[]),
-            (Op::Input(16), &[]),
-            (Op::Input(17), &[]),
-            (Op::Constant(0), &[]),
-            (Op::Word(WordOp::Sll), &[1, 3]),
-            (Op::Word(WordOp::Srl), &[2, 3]),
-        ],
-        &[],
-        [
-            (6, 0, Stop::Rounds),
-            (6, 1, Stop::Quiet),
-            (6, 1, Stop::Quiet),
-            (6, 1, Stop::Quiet),
-        ],
-    ),
-    // (in a $16) (in b $17) (set x (addq (sll a 2) b)) (set y (addq (sll a 3) b))
-    (
-        &[
-            (Op::Entry, &[]),
-            (Op::Input(16), &[]),
-            (Op::Input(17), &[]),
-            (Op::Constant(2), &[]),
-            (Op::Word(WordOp::Sll), &[1, 3]),
-            (Op::Word(WordOp::Addq), &[4, 2]),
-            (Op::Constant(3), &[]),
-            (Op::Word(WordOp::Sll), &[1, 6]),
-            (Op::Word(WordOp::Addq), &[7, 2]),
-        ],
-        &[],
-        [
-            (9, 0, Stop::Rounds),
-            (16, 1, Stop::Quiet),
-            (16, 1, Stop::Quiet),
-            (16, 1, Stop::Quiet),
-        ],
-    ),
-    // (in a $16) (in b $17) (set x (subq (sll a 2) b)) (set y (subq (sll a 3) b))
-    (
-        &[
-            (Op::Entry, &[]),
-            (Op::Input(16), &[]),
-            (Op::Input(17), &[]),
-            (Op::Constant(2), &[]),
-            (Op::Word(WordOp::Sll), &[1, 3]),
-            (Op::Word(WordOp::Subq), &[4, 2]),
-            (Op::Constant(3), &[]),
-            (Op::Word(WordOp::Sll), &[1, 6]),
-            (Op::Word(WordOp::Subq), &[7, 2]),
-        ],
-        &[],
-        [
-            (9, 0, Stop::Rounds),
-            (17, 1, Stop::Rounds),
-            (22, 2, Stop::Rounds),
-            (26, 4, Stop::Rounds),
-        ],
-    ),
-    // (in a $16) (in b $17) (set x (and (and a b) a)) (set y (and a 0))
-    (
-        &[
-            (Op::Entry, &[]),
-            (Op::Input(16), &[]),
-            (Op::Input(17), &[]),
-            (Op::Word(WordOp::And), &[1, 2]),
-            (Op::Word(WordOp::And), &[3, 1]),
-            (Op::Constant(0), &[]),
-            (Op::Word(WordOp::And), &[1, 5]),
-        ],
-        &[],
-        [
-            (7, 0, Stop::Rounds),
-            (11, 1, Stop::Rounds),
-            (14, 2, Stop::Rounds),
-            (12, 3, Stop::Quiet),
-        ],
-    ),
-    // (in a $16) (set x (and a a)) (set y (bis a a)) (set z (bis a 0))
-    (
-        &[
-            (Op::Entry, &[]),
-            (Op::Input(16), &[]),
-            (Op::Word(WordOp::And), &[1, 1]),
-            (Op::Word(WordOp::Bis), &[1, 1]),
-            (Op::Constant(0), &[]),
-            (Op::Word(WordOp::Bis), &[1, 4]),
-        ],
-        &[],
-        [
-            (6, 0, Stop::Rounds),
-            (7, 1, Stop::Rounds),
-            (9, 2, Stop::Rounds),
-            (8, 3, Stop::Quiet),
-        ],
-    ),
-    // (in a $16) (in b $17) (in c $18) (set x (bis (bis a b) c))
-    (
-        &[
-            (Op::Entry, &[]),
-            (Op::Input(16), &[]),
-            (Op::Input(17), &[]),
-            (Op::Input(18), &[]),
-            (Op::Word(WordOp::Bis), &[1, 2]),
-            (Op::Word(WordOp::Bis), &[4, 3]),
-        ],
-        &[],
-        [
-            (6, 0, Stop::Rounds),
-            (10, 1, Stop::Rounds),
-            (14, 2, Stop::Rounds),
-            (16, 3, Stop::Quiet),
-        ],
-    ),
-    // (in a $16) (in b $17) (in c $18) (set x (xor (xor a b) c))
-    (
-        &[
-            (Op::Entry, &[]),
-            (Op::Input(16), &[]),
-            (Op::Input(17), &[]),
-            (Op::Input(18), &[]),
-            (Op::Word(WordOp::Xor), &[1, 2]),
-            (Op::Word(WordOp::Xor), &[4, 3]),
-        ],
-        &[],
-        [
-            (6, 0, Stop::Rounds),
-            (10, 1, Stop::Rounds),
-            (14, 2, Stop::Rounds),
-            (16, 3, Stop::Quiet),
-        ],
-    ),
-    // (in a $16) (set x (xor a a)) (set y (xor a 0)) (set z (not (not a)))
-    (
-        &[
-            (Op::Entry, &[]),
-            (Op::Input(16), &[]),
-            (Op::Word(WordOp::Xor), &[1, 1]),
-            (Op::Constant(0), &[]),
-            (Op::Word(WordOp::Xor), &[1, 3]),
-            (Op::Word(WordOp::Not), &[1]),
-            (Op::Word(WordOp::Not), &[5]),
-        ],
-        &[],
-        [
-            (7, 0, Stop::Rounds),
-            (10, 1, Stop::Rounds),
-            (13, 2, Stop::Quiet),
-            (13, 2, Stop::Quiet),
-        ],
-    ),
-    // (in a $16) (in b $17) (set x (and a (not b))) (set y (bis a (not b))) (set z (xor a (not b)))
-    (
-        &[
-            (Op::Entry, &[]),
-            (Op::Input(16), &[]),
-            (Op::Input(17), &[]),
-            (Op::Word(WordOp::Not), &[2]),
-            (Op::Word(WordOp::And), &[1, 3]),
-            (Op::Word(WordOp::Bis), &[1, 3]),
-            (Op::Word(WordOp::Xor), &[1, 3]),
-        ],
-        &[],
+        b"(goal g (in a $16) (in b $17) (set x (and a (not b))) (set y (bis a (not b))) (set z (xor a (not b))))",
         [
             (7, 0, Stop::Rounds),
             (15, 1, Stop::Quiet),
@@ -251,17 +13,8 @@ pub(crate) const MORE_GOALS: [Case; 20] = [
             (15, 1, Stop::Quiet),
         ],
     ),
-    // (in a $16) (in b $17) (set x (cmpeq a b)) (set y (selectb a b)) (set z (storeb a b a))
     (
-        &[
-            (Op::Entry, &[]),
-            (Op::Input(16), &[]),
-            (Op::Input(17), &[]),
-            (Op::Word(WordOp::Cmpeq), &[1, 2]),
-            (Op::Word(WordOp::Selectb), &[1, 2]),
-            (Op::Word(WordOp::Storeb), &[1, 2, 1]),
-        ],
-        &[],
+        b"(goal g (in a $16) (in b $17) (set x (cmpeq a b)) (set y (selectb a b)) (set z (storeb a b a)))",
         [
             (6, 0, Stop::Rounds),
             (11, 1, Stop::Rounds),
@@ -269,19 +22,8 @@ pub(crate) const MORE_GOALS: [Case; 20] = [
             (12, 2, Stop::Quiet),
         ],
     ),
-    // (in a $16) (set x (sra (sll a 56) 56)) (set y (sra (sll a 48) 48))
     (
-        &[
-            (Op::Entry, &[]),
-            (Op::Input(16), &[]),
-            (Op::Constant(56), &[]),
-            (Op::Word(WordOp::Sll), &[1, 2]),
-            (Op::Word(WordOp::Sra), &[3, 2]),
-            (Op::Constant(48), &[]),
-            (Op::Word(WordOp::Sll), &[1, 5]),
-            (Op::Word(WordOp::Sra), &[6, 5]),
-        ],
-        &[],
+        b"(goal g (in a $16) (set x (sra (sll a 56) 56)) (set y (sra (sll a 48) 48)))",
         [
             (8, 0, Stop::Rounds),
             (13, 1, Stop::Quiet),
@@ -289,19 +31,8 @@ pub(crate) const MORE_GOALS: [Case; 20] = [
             (13, 1, Stop::Quiet),
         ],
     ),
-    // (in p $16) (in v $17) (set M (store (store M p 7) p v)) (set x (and v 65280))
     (
-        &[
-            (Op::Entry, &[]),
-            (Op::Input(16), &[]),
-            (Op::Input(17), &[]),
-            (Op::Constant(7), &[]),
-            (Op::Store, &[0, 1, 3]),
-            (Op::Store, &[4, 1, 2]),
-            (Op::Constant(65280), &[]),
-            (Op::Word(WordOp::And), &[2, 6]),
-        ],
-        &[],
+        b"(goal g (in p $16) (in v $17) (set M (store (store M p 7) p v)) (set x (and v 65280)))",
         [
             (8, 0, Stop::Rounds),
             (16, 1, Stop::Rounds),
@@ -309,20 +40,8 @@ pub(crate) const MORE_GOALS: [Case; 20] = [
             (20, 3, Stop::Quiet),
         ],
     ),
-    // (in p $16) (in v $17) (set x (select M (addq p 16))) (set M (store M (addq p 24) v))
     (
-        &[
-            (Op::Entry, &[]),
-            (Op::Input(16), &[]),
-            (Op::Input(17), &[]),
-            (Op::Constant(16), &[]),
-            (Op::Word(WordOp::Addq), &[1, 3]),
-            (Op::Select, &[0, 4]),
-            (Op::Constant(24), &[]),
-            (Op::Word(WordOp::Addq), &[1, 6]),
-            (Op::Store, &[0, 7, 2]),
-        ],
-        &[],
+        b"(goal g (in p $16) (in v $17) (set x (select M (addq p 16))) (set M (store M (addq p 24) v)))",
         [
             (9, 0, Stop::Rounds),
             (16, 1, Stop::Rounds),
@@ -330,19 +49,8 @@ pub(crate) const MORE_GOALS: [Case; 20] = [
             (18, 2, Stop::Quiet),
         ],
     ),
-    // (in a $16) (set x (mulq a 7)) (set y (mulq a 9)) (set z (addq a 131072))
     (
-        &[
-            (Op::Entry, &[]),
-            (Op::Input(16), &[]),
-            (Op::Constant(7), &[]),
-            (Op::Word(WordOp::Mulq), &[1, 2]),
-            (Op::Constant(9), &[]),
-            (Op::Word(WordOp::Mulq), &[1, 4]),
-            (Op::Constant(131072), &[]),
-            (Op::Word(WordOp::Addq), &[1, 6]),
-        ],
-        &[],
+        b"(goal g (in a $16) (set x (mulq a 7)) (set y (mulq a 9)) (set z (addq a 131072)))",
         [
             (8, 0, Stop::Rounds),
             (21, 1, Stop::Rounds),
@@ -350,19 +58,8 @@ pub(crate) const MORE_GOALS: [Case; 20] = [
             (32, 4, Stop::Rounds),
         ],
     ),
-    // (in p $16) (in v $17) (set x (select (store M (addq p 16) v) p)) (set y 98305)
     (
-        &[
-            (Op::Entry, &[]),
-            (Op::Input(16), &[]),
-            (Op::Input(17), &[]),
-            (Op::Constant(16), &[]),
-            (Op::Word(WordOp::Addq), &[1, 3]),
-            (Op::Store, &[0, 4, 2]),
-            (Op::Select, &[5, 1]),
-            (Op::Constant(98305), &[]),
-        ],
-        &[],
+        b"(goal g (in p $16) (in v $17) (set x (select (store M (addq p 16) v) p)) (set y 98305))",
         [
             (8, 0, Stop::Rounds),
             (15, 1, Stop::Rounds),
@@ -370,28 +67,184 @@ pub(crate) const MORE_GOALS: [Case; 20] = [
             (19, 3, Stop::Quiet),
         ],
     ),
-    // (in p $16) (in v $17) (assume p v) (set x (select (store M (addq p 8) 5) (addq p 24))) (set y (addq v 1))
     (
-        &[
-            (Op::Entry, &[]),
-            (Op::Input(16), &[]),
-            (Op::Input(17), &[]),
-            (Op::Constant(8), &[]),
-            (Op::Word(WordOp::Addq), &[1, 3]),
-            (Op::Constant(5), &[]),
-            (Op::Store, &[0, 4, 5]),
-            (Op::Constant(24), &[]),
-            (Op::Word(WordOp::Addq), &[1, 7]),
-            (Op::Select, &[6, 8]),
-            (Op::Constant(1), &[]),
-            (Op::Word(WordOp::Addq), &[2, 10]),
-        ],
-        &[(1, 2)],
+        b"(goal g (in p $16) (in v $17) (assume p v) (set x (select (store M (addq p 8) 5) (addq p 24))) (set y (addq v 1)))",
         [
             (12, 0, Stop::Rounds),
             (24, 1, Stop::Rounds),
             (27, 2, Stop::Quiet),
             (27, 2, Stop::Quiet),
+        ],
+    ),
+    (
+        b"(op carry 2)(axiom (a b) (carry a b) (cmpult (addq a b) a))(goal g (in a $16) (in b $17) (set c (carry a b)))",
+        [
+            (4, 0, Stop::Rounds),
+            (6, 1, Stop::Rounds),
+            (7, 2, Stop::Quiet),
+            (7, 2, Stop::Quiet),
+        ],
+    ),
+    (
+        b"(op carry 2)(axiom (a b) (carry a b) (cmpult (addq a b) a))(axiom (a b) (carry a b) (cmpult (addq a b) a))(goal g (in a $16) (in b $17) (set c (carry a b)))",
+        [
+            (4, 0, Stop::Rounds),
+            (6, 1, Stop::Rounds),
+            (7, 2, Stop::Quiet),
+            (7, 2, Stop::Quiet),
+        ],
+    ),
+    (
+        b"(op f 1)(op h 1)(goal g (in lda $1) (set x (f (h lda))))",
+        [
+            (4, 0, Stop::Quiet),
+            (4, 0, Stop::Quiet),
+            (4, 0, Stop::Quiet),
+            (4, 0, Stop::Quiet),
+        ],
+    ),
+    (
+        b"(op load 1)(goal g (set x (load 1)))",
+        [
+            (3, 0, Stop::Rounds),
+            (5, 1, Stop::Quiet),
+            (5, 1, Stop::Quiet),
+            (5, 1, Stop::Quiet),
+        ],
+    ),
+    (
+        b"(axiom (x) (addq x 0) x)(goal g (set x 1))",
+        [
+            (2, 0, Stop::Rounds),
+            (4, 1, Stop::Quiet),
+            (4, 1, Stop::Quiet),
+            (4, 1, Stop::Quiet),
+        ],
+    ),
+    (
+        b"(goal g (in p $16) (assume M M) (set x p))",
+        [
+            (2, 0, Stop::Quiet),
+            (2, 0, Stop::Quiet),
+            (2, 0, Stop::Quiet),
+            (2, 0, Stop::Quiet),
+        ],
+    ),
+    (
+        b"(goal g (when 1) (set x 1))",
+        [
+            (2, 0, Stop::Rounds),
+            (4, 1, Stop::Quiet),
+            (4, 1, Stop::Quiet),
+            (4, 1, Stop::Quiet),
+        ],
+    ),
+    (
+        b"(op f 2)(axiom (a b c) (f c a) (f a c))(goal g (in p $16) (in q $17) (set x (f p q)))",
+        [
+            (4, 0, Stop::Rounds),
+            (5, 1, Stop::Quiet),
+            (5, 1, Stop::Quiet),
+            (5, 1, Stop::Quiet),
+        ],
+    ),
+    (
+        b"(op f 3)(axiom (u v w t) (f w u w) (subq w u))(goal g (in p $16) (in q $17) (set x (f p q p)) (set y (f p q q)))",
+        [
+            (5, 0, Stop::Rounds),
+            (6, 1, Stop::Rounds),
+            (8, 2, Stop::Rounds),
+            (12, 4, Stop::Rounds),
+        ],
+    ),
+    (
+        b"(op f 4)(op g 1)(axiom (a b c d) (f d c b a) (g c))(axiom (z) (g z) (bis z 5))(goal g (in p $16) (set x (f 1 2 p 3)))",
+        [
+            (6, 0, Stop::Rounds),
+            (11, 1, Stop::Rounds),
+            (13, 2, Stop::Rounds),
+            (17, 4, Stop::Quiet),
+        ],
+    ),
+    (
+        b"(op f 1)(axiom (x) (f (f x)) (f x))(goal g (in p $16) (assume (f p) p) (set x (f (f (f p)))))",
+        [
+            (3, 0, Stop::Quiet),
+            (3, 0, Stop::Quiet),
+            (3, 0, Stop::Quiet),
+            (3, 0, Stop::Quiet),
+        ],
+    ),
+    (
+        b"(op f 1)(axiom (x) (f x) 7)(goal g (in p $16) (in q $17) (when (f p)) (set x (addq (f q) 1)))",
+        [
+            (7, 0, Stop::Rounds),
+            (12, 1, Stop::Rounds),
+            (15, 2, Stop::Rounds),
+            (16, 3, Stop::Quiet),
+        ],
+    ),
+    (
+        b"(op f 2)(axiom (b a) (f a a) a)(axiom (b a) (f a b) (addq a b))(goal g (in p $16) (in q $17) (set x (f p p)) (set y (f p q)))",
+        [
+            (5, 0, Stop::Rounds),
+            (7, 1, Stop::Rounds),
+            (11, 2, Stop::Rounds),
+            (14, 3, Stop::Quiet),
+        ],
+    ),
+    (
+        b"(goal g (in p $16) (in q $17) (assume p q) (set x (subq p q)))",
+        [
+            (4, 0, Stop::Rounds),
+            (7, 1, Stop::Rounds),
+            (9, 2, Stop::Rounds),
+            (14, 4, Stop::Rounds),
+        ],
+    ),
+    (
+        b"(goal g (in p $16) (in q $17) (assume M (store M p q)) (set x (select M p)))",
+        [
+            (5, 0, Stop::Rounds),
+            (5, 1, Stop::Quiet),
+            (5, 1, Stop::Quiet),
+            (5, 1, Stop::Quiet),
+        ],
+    ),
+    (
+        b"(goal g (in p $16) (in q $17) (assume (addq p 1) q) (assume q 5) (set x (subq q 5)))",
+        [
+            (7, 0, Stop::Rounds),
+            (14, 1, Stop::Rounds),
+            (21, 2, Stop::Rounds),
+            (50, 4, Stop::Rounds),
+        ],
+    ),
+    (
+        b"(goal g (in a $16) (set x (addq 2 3)) (set y (mulq 4 a)))",
+        [
+            (7, 0, Stop::Rounds),
+            (15, 1, Stop::Rounds),
+            (18, 2, Stop::Quiet),
+            (18, 2, Stop::Quiet),
+        ],
+    ),
+    (
+        b"(goal g (set x (subq 1 2)) (set y (neg 1)) (set z (cmpult 3 4)))",
+        [
+            (8, 0, Stop::Rounds),
+            (17, 1, Stop::Rounds),
+            (22, 2, Stop::Rounds),
+            (32, 4, Stop::Rounds),
+        ],
+    ),
+    (
+        b"(goal g (in v $16) (set x (zapnot v 3)) (set y (extwl 305419896 1)))",
+        [
+            (7, 0, Stop::Rounds),
+            (13, 1, Stop::Rounds),
+            (16, 2, Stop::Rounds),
+            (17, 3, Stop::Quiet),
         ],
     ),
 ];

@@ -1,7 +1,7 @@
 use Rattle.std.proofs.Common.{◌≡◌, ◌+◌, ◌-◌, ◌^◌, min, take, ap, ◌∙◌, arith}
 use Rattle.word_terms.specs.Tree.{operands_of}
 use Rattle.word_terms.specs.View.{tree_of, trees_of}
-use Rattle.axiom_base.specs.Schemes.{operators_in, operators_in_all}
+use Rattle.word_terms.specs.OperatorsIn.{operators_in, operators_in_all}
 use Rattle.saturation.proofs.AskSteps.{operators_more}
 use Rattle.saturation.proofs.Building.{one_more}
 use Rattle.saturation.proofs.asking.+operators.Goals as goal

@@ -1,7 +1,7 @@
 use Rattle.std.proofs.Common.{◌≡◌, ◌+◌, ◌-◌, ◌^◌, min, take}
 use Rattle.word_terms.specs.Tree.{operands_of}
 use Rattle.word_terms.specs.View.{trees_of}
-use Rattle.axiom_base.specs.Schemes.{operators_in_all}
+use Rattle.word_terms.specs.OperatorsIn.{operators_in_all}
 use Rattle.saturation.proofs.asking.+operators.Given as goal
 
 abbrev pub invariant-loop-operand : goal.invariant-loop-operand

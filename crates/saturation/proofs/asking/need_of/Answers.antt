@@ -1,7 +1,7 @@
 use Rattle.std.proofs.Common.{◌≡◌, ◌+◌, ◌-◌, ◌^◌, min, map, take, ap, ◌∙◌, arith}
 use Rattle.std.proofs.lemmas.List.{take_all}
 use Rattle.word_terms.specs.View.{tree_of}
-use Rattle.axiom_base.specs.Schemes.{operators_in}
+use Rattle.word_terms.specs.OperatorsIn.{operators_in}
 use Rattle.saturation.specs.Trace.{operators_asked}
 use Rattle.saturation.specs.Instances.{asked_of}
 use Rattle.saturation.proofs.AskSteps.{asked_more}

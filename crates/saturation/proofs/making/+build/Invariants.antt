@@ -1,7 +1,7 @@
 use Rattle.std.proofs.Common.{take}
 use Rattle.word_terms.specs.Tree.{operands_of}
 use Rattle.word_terms.specs.View.{tree_of, trees_of}
-use Rattle.axiom_base.specs.Schemes.{operators_in}
+use Rattle.word_terms.specs.OperatorsIn.{operators_in}
 use Rattle.saturation.specs.Trace.{AreBuilt}
 use Rattle.saturation.proofs.making.+build.Given as goal
 

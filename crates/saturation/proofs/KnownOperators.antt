@@ -1,0 +1,341 @@
+-- Rounds make no operator that the goal and its axioms don't have, but for those that every text has.
+use Rattle.std.proofs.Common.{◌≡◌, ℕ, zero, suc, ◌+◌, ◌<◌, ◌^◌, Bool, true, false, ◌&&◌, Option, Some, None, List, [], ◌∷◌, ◌++◌, length, map, refl, sym, subst, inl, inr, arith, All, Contains}
+use Rattle.std.specs.List.{list_all, flat_map, range_with_len}
+use Rattle.std.specs.Prelude.{IfSome}
+use Rattle.std.proofs.lemmas.Bool.{cases_lt}
+use Rattle.std.proofs.lemmas.List.{get_or_past}
+use Rattle.std.proofs.lemmas.List.Elements.{All-nil, All-cons, All-head, All-tail, All-append, All-map, All-weaker, All-contains, All-get_or, All-contains_itself, Contains-append_left, Contains-append_right, Contains-append_cases}
+use Rattle.word_ops.specs.Operators.{operators}
+use Rattle.word_ops.specs.declared.sorts.Sort.{Sort}
+use Rattle.word_ops.specs.declared.sorts.Sort.TheVariants as sorts
+use Rattle.word_ops.specs.declared.sorts.Op.{Op}
+use Rattle.word_ops.specs.declared.sorts.Op.TheVariants.{Entry, Input, Constant, Word, Select, Store, Load, Put, Declared}
+use Rattle.word_terms.specs.Keys.{op_signature}
+use Rattle.word_terms.specs.OperatorsIn.{EachOperator, EachOperatorOfAll}
+use Rattle.word_terms.specs.Sorting.{HasSort, HaveSorts, Occurs, OccursInOne}
+use Rattle.word_terms.specs.Tree.{Tree, Trees, variable, application, none, more, put_in, substituted, each_substituted}
+use Rattle.axiom_base.specs.Rewrites.{Rewrite, IsRule, IsUsable}
+use Rattle.axiom_base.specs.Equations.{equations}
+use Rattle.axiom_base.specs.Computed.{calc_right}
+use Rattle.axiom_base.specs.Schemes.{Scheme, IsOf, IsRuleOf, schemes, calc_kinds, plain, computed, folding, itself, calculated, folded}
+use Rattle.axiom_base.specs.declared.kinds.Calc.{Calc}
+use Rattle.axiom_base.specs.declared.kinds.Calc.TheVariants.{C1, C2, C3, C4, C5, C6, C7, C8, C9, C10, C11, C12}
+use Rattle.egraph.specs.Graph.{Graph, IsGraph, HasClass}
+use Rattle.egraph.specs.declared.rows.Row.{Row}
+use Rattle.pattern_match.specs.Classes.{IsClass, AreClasses, at_row, no_classes, classes}
+use Rattle.goal_reader.specs.Views.{TwoTrees, TargetTree, GoalTree, AxiomTree, InputTree}
+use Rattle.goal_reader.specs.WellFormed.{IsInput, IsGoal, IsAxiom, IsAssume, IsTarget, IsGoalTerm, IsOfGoal, IsOfAxiom}
+use Rattle.goal_reader.specs.Reading.{registers_of}
+use Rattle.goal_reader.specs.declared.goals.InputReg.{InputReg}
+use Rattle.goal_reader.specs.declared.scopes.DeclaredOp.{DeclaredOp}
+use Rattle.saturation.specs.Derives.{Derives, DerivesEach, Pair, IsAmong, first, rest, given, assumed, back, through, later, operand, congruent, by_rule, no_operands, operands}
+use Rattle.saturation.specs.GoalTerms.{entry_term, input_term, input_terms, guard_terms, set_terms, sides_of, assume_terms, kept_terms, present_terms, assumed_pair, assumed_pairs, renumbered, rule_of, rules_of, variables_below}
+use Rattle.saturation.specs.Grown.{IsGrown, AreInhabited}
+use Rattle.saturation.specs.Launched.{IsKnown, CanLaunch}
+use Rattle.saturation.proofs.LaunchedGraphs.{all_left, all_of_map}
+
+-- ---- operators of trees
+
+mutual
+  each_weaker : (P Q : Op → Type 0) → ((op : Op) → P op → Q op) → (t : Tree Op) → EachOperator P t → EachOperator Q t
+  each_weaker P Q h (variable n) k = tt
+  each_weaker P Q h (application op ts) k = (h op k.0, each_weaker_all P Q h ts k.1)
+
+  each_weaker_all : (P Q : Op → Type 0) → ((op : Op) → P op → Q op) → (ts : Trees Op) → EachOperatorOfAll P ts → EachOperatorOfAll Q ts
+  each_weaker_all P Q h none k = tt
+  each_weaker_all P Q h (more t ts) k = (each_weaker P Q h t k.0, each_weaker_all P Q h ts k.1)
+
+module _ (P : Op → Type 0) where
+  -- of one operand
+  of_operand : (t : Tree Op) (ts : Trees Op) → IsAmong t ts → EachOperatorOfAll P ts → EachOperator P t
+  of_operand t _ first k = k.0
+  of_operand t _ (rest {ts = ts} h) k = of_operand t ts h k.1
+
+  mutual
+    -- what is put in for variables that stand in the tree
+    put_has : (trees : List (Tree Op)) (t : Tree Op) (n : ℕ) → Occurs n t → EachOperator P (substituted trees t) → EachOperator P (put_in trees n)
+    put_has trees (variable m) n e k = subst (λ i. EachOperator P (put_in trees i)) (sym e) k
+    put_has trees (application op ts) n e k = puts_have trees ts n e k.1
+
+    puts_have : (trees : List (Tree Op)) (ts : Trees Op) (n : ℕ) → OccursInOne n ts → EachOperatorOfAll P (each_substituted trees ts) → EachOperator P (put_in trees n)
+    puts_have trees none n e k = absurd e
+    puts_have trees (more t ts) n (inl e) k = put_has trees t n e k.0
+    puts_have trees (more t ts) n (inr e) k = puts_have trees ts n e k.1
+
+  mutual
+    substituted_has : (trees : List (Tree Op)) (t : Tree Op) → EachOperator P t → ((n : ℕ) → Occurs n t → EachOperator P (put_in trees n)) → EachOperator P (substituted trees t)
+    substituted_has trees (variable n) k h = h n refl
+    substituted_has trees (application op ts) k h = (k.0, substituted_have trees ts k.1 h)
+
+    substituted_have : (trees : List (Tree Op)) (ts : Trees Op) → EachOperatorOfAll P ts → ((n : ℕ) → OccursInOne n ts → EachOperator P (put_in trees n)) → EachOperatorOfAll P (each_substituted trees ts)
+    substituted_have trees none k h = tt
+    substituted_have trees (more t ts) k h = (substituted_has trees t k.0 (λ n e. h n (inl e)), substituted_have trees ts k.1 (λ n e. h n (inr e)))
+
+  variables_put : (trees : List (Tree Op)) → All (EachOperator P) trees → (n : ℕ) → EachOperator P (put_in trees n)
+  variables_put trees h n = elim (cases_lt n (length trees)) [
+    | inl l ↦ All-get_or (EachOperator P) trees n (variable n) l h
+    | inr l ↦ subst (EachOperator P) (sym (get_or_past trees n (variable n) l)) tt
+  ]
+
+mutual
+  occurs_below : (variables : List Sort) (sort : Sort) (t : Tree Op) (n : ℕ) → HasSort op_signature variables sort t → Occurs n t → n < length variables
+  occurs_below variables sort (variable m) n h e = subst (λ i. i < length variables) (sym e) h.0
+  occurs_below variables sort (application op ts) n h e = one_below variables op 0 ts n h.3 e
+
+  one_below : (variables : List Sort) (op : Op) (at : ℕ) (ts : Trees Op) (n : ℕ) → HaveSorts op_signature variables op at ts → OccursInOne n ts → n < length variables
+  one_below variables op at none n h e = absurd e
+  one_below variables op at (more t ts) n h (inl e) = occurs_below variables (op_signature.operand_sort op at) t n h.0 e
+  one_below variables op at (more t ts) n h (inr e) = one_below variables op (at + 1) ts n h.1 e
+
+-- ---- operators that every text has
+
+abbrev is_common : Op → Bool
+is_common (Input register) = false
+is_common (Declared index arity) = false
+is_common op = true
+
+abbrev mutual
+  all_common : Tree Op → Bool
+  all_common (variable n) = true
+  all_common (application op ts) = is_common op && each_common ts
+
+  each_common : Trees Op → Bool
+  each_common none = true
+  each_common (more t ts) = all_common t && each_common ts
+
+both : (a b : Bool) → a && b ≡ true → (a ≡ true) × (b ≡ true)
+both true b e = (refl, e)
+both false b e = absurd (let k : false ≡ true = e in cc)
+
+abbrev right_common : Rewrite → Bool
+right_common r = all_common r.right
+
+all_equations : list_all right_common equations ≡ true
+all_equations = refl
+
+all_by_test : {X : Type 0} (test : X → Bool) (xs : List X) → list_all test xs ≡ true → All (λ x. test x ≡ true) xs
+all_by_test test [] e = All-nil (λ x. test x ≡ true)
+all_by_test test (x ∷ xs) e = let p = both (test x) (list_all test xs) e in All-cons (λ x. test x ≡ true) x xs p.0 (all_by_test test xs p.1)
+
+calc_common : (kind : Calc) (e : ℕ) → all_common (calc_right kind e) ≡ true
+calc_common C1 e = refl
+calc_common C2 e = refl
+calc_common C3 e = refl
+calc_common C4 e = refl
+calc_common C5 e = refl
+calc_common C6 e = refl
+calc_common C7 e = refl
+calc_common C8 e = refl
+calc_common C9 e = refl
+calc_common C10 e = refl
+calc_common C11 e = refl
+calc_common C12 e = refl
+
+module _ (declared : List DeclaredOp) where
+  known_common : (op : Op) → is_common op ≡ true → IsKnown declared op
+  known_common Entry e = tt
+  known_common (Input r) e = absurd (cc)
+  known_common (Constant c) e = tt
+  known_common (Word op) e = tt
+  known_common Select e = tt
+  known_common Store e = tt
+  known_common Load e = tt
+  known_common Put e = tt
+  known_common (Declared i a) e = absurd (cc)
+
+  abbrev pub HasKnown : Tree Op → Type 0
+  HasKnown t = EachOperator (IsKnown declared) t
+
+  mutual
+    common_known : (t : Tree Op) → all_common t ≡ true → HasKnown t
+    common_known (variable n) e = tt
+    common_known (application op ts) e = let p = both (is_common op) (each_common ts) e in (known_common op p.0, commons_known ts p.1)
+
+    commons_known : (ts : Trees Op) → each_common ts ≡ true → EachOperatorOfAll (IsKnown declared) ts
+    commons_known none e = tt
+    commons_known (more t ts) e = let p = both (all_common t) (each_common ts) e in (common_known t p.0, commons_known ts p.1)
+
+  -- ---- operators of a goal and of an axiom
+
+  goal_known : (inputs : List InputReg) → All (λ r. r < 31) (registers_of inputs) → (op : Op) → IsOfGoal declared inputs op → IsKnown declared op
+  goal_known inputs low Entry k = tt
+  goal_known inputs low (Input r) k = All-contains (λ r. r < 31) (registers_of inputs) r low k
+  goal_known inputs low (Constant c) k = tt
+  goal_known inputs low (Word op) k = tt
+  goal_known inputs low Select k = tt
+  goal_known inputs low Store k = tt
+  goal_known inputs low Load k = tt
+  goal_known inputs low Put k = tt
+  goal_known inputs low (Declared i a) k = k
+
+  axiom_known : (op : Op) → IsOfAxiom declared op → IsKnown declared op
+  axiom_known Entry k = absurd k
+  axiom_known (Input r) k = absurd k
+  axiom_known (Constant c) k = tt
+  axiom_known (Word op) k = tt
+  axiom_known Select k = tt
+  axiom_known Store k = tt
+  axiom_known Load k = tt
+  axiom_known Put k = tt
+  axiom_known (Declared i a) k = k
+
+  -- ---- rules
+
+  renumbered_known : (a : AxiomTree) (t : Tree Op) → HasKnown t → HasKnown (renumbered a t)
+  renumbered_known a t k =
+      substituted_has (IsKnown declared) (map (λ n. variable (length (variables_below a n))) (range_with_len 0 (length a.variables))) t k
+      (λ n e. variables_put (IsKnown declared) (map (λ n. variable (length (variables_below a n))) (range_with_len 0 (length a.variables)))
+      (All-map HasKnown (λ n. variable (length (variables_below a n))) (range_with_len 0 (length a.variables)) (λ k d l. tt)) n)
+
+  abbrev PlainKnown : Scheme → Type 0
+  PlainKnown (plain r) = HasKnown r.right
+  PlainKnown (computed kind) = Unit {0}
+  PlainKnown (folding op) = Unit {0}
+
+  abbrev RightKnown : Rewrite → Type 0
+  RightKnown r = HasKnown r.right
+
+  equations_known : All RightKnown equations
+  equations_known = All-weaker (λ r. right_common r ≡ true) RightKnown (λ r e. common_known r.right e) equations (all_by_test right_common equations all_equations)
+
+  axioms_known : (axioms : List AxiomTree) → All (IsAxiom declared) axioms → All RightKnown (map rule_of axioms)
+  axioms_known axioms are =
+      All-map RightKnown rule_of axioms
+      (All-weaker (IsAxiom declared) (λ a. RightKnown (rule_of a)) (λ a is. renumbered_known a a.right (each_weaker (IsOfAxiom declared) (IsKnown declared) axiom_known a.right is.right_operators)) axioms are)
+
+  schemes_known : (axioms : List AxiomTree) → All (IsAxiom declared) axioms → All PlainKnown (schemes (map rule_of axioms))
+  schemes_known axioms are =
+      All-append PlainKnown (map plain equations ++ map plain (map rule_of axioms) ++ map computed calc_kinds) (map folding operators)
+      (All-append PlainKnown (map plain equations ++ map plain (map rule_of axioms)) (map computed calc_kinds)
+      (All-append PlainKnown (map plain equations) (map plain (map rule_of axioms))
+      (All-map PlainKnown plain equations equations_known)
+      (All-map PlainKnown plain (map rule_of axioms) (axioms_known axioms are)))
+      (All-map PlainKnown computed calc_kinds (λ k d l. tt)))
+      (All-map PlainKnown folding operators (λ k d l. tt))
+
+  scheme_known : (axioms : List AxiomTree) → All (IsAxiom declared) axioms → (s : Scheme) → Contains (schemes (map rule_of axioms)) s → (r : Rewrite) → IsOf s r → HasKnown r.right
+  scheme_known axioms are (plain r) h _ (itself _) = All-contains PlainKnown (schemes (map rule_of axioms)) (plain r) (schemes_known axioms are) h
+  scheme_known axioms are (computed kind) h _ (calculated _ cs e _) = common_known (calc_right kind e) (calc_common kind e)
+  scheme_known axioms are (folding op) h _ (folded _ cs _ _) = (tt, tt)
+
+  rule_known : (axioms : List AxiomTree) → All (IsAxiom declared) axioms → (r : Rewrite) → IsRuleOf (map rule_of axioms) r → HasKnown r.right
+  rule_known axioms are r is = scheme_known axioms are is.scheme is.there r is.of
+
+  -- ---- what is derived
+
+  module _ (axioms : List AxiomTree) (are : All (IsAxiom declared) axioms) (usable : (r : Rewrite) → IsRuleOf (map rule_of axioms) r → IsUsable r)
+      (present : List (Tree Op)) (present_known : All HasKnown present) (equal : List Pair) (equal_known : All (λ (p : Pair). HasKnown p.0 × HasKnown p.1) equal) where
+    right_known : (r : Rewrite) (values : List (Tree Op)) → IsRuleOf (map rule_of axioms) r → HasKnown (substituted values r.left) → HasKnown (substituted values r.right)
+    right_known r values is known =
+        let use_of = usable r is in
+        substituted_has (IsKnown declared) values r.right (rule_known axioms are r is)
+        (λ n e. put_has (IsKnown declared) values r.left n (use_of.all n (occurs_below r.variables use_of.sort r.right n use_of.right e)) known)
+
+    mutual
+      derived_known : {j : ℕ} {t u : Tree Op} → Derives (map rule_of axioms) present equal j t u → HasKnown t × HasKnown u
+      derived_known (given t h) = let k = All-contains HasKnown present t present_known h in (k, k)
+      derived_known (assumed t u h) = All-contains (λ (p : Pair). HasKnown p.0 × HasKnown p.1) equal (t, u) equal_known h
+      derived_known (back d) = let k = derived_known d in (k.1, k.0)
+      derived_known (through d e) = ((derived_known d).0, (derived_known e).1)
+      derived_known (later d) = derived_known d
+      derived_known (operand {ts = ts} t among d) = let k = of_operand (IsKnown declared) t ts among (derived_known d).0.1 in (k, k)
+      derived_known (congruent d each) = let k = (derived_known d).0 in (k, (k.0, (deriveds_known each).1))
+      derived_known (by_rule r values is d constants) = let k = (derived_known d).0 in (k, right_known r values is k)
+
+      deriveds_known : {j : ℕ} {ts us : Trees Op} → DerivesEach (map rule_of axioms) present equal j ts us → EachOperatorOfAll (IsKnown declared) ts × EachOperatorOfAll (IsKnown declared) us
+      deriveds_known no_operands = (tt, tt)
+      deriveds_known (operands d each) =
+          let k = derived_known d in
+          let l = deriveds_known each in
+          ((k.0, l.0), (k.1, l.1))
+
+  -- ---- the terms of a goal
+
+  all_flat : {X Y : Type 0} (P : Y → Type 0) (f : X → List Y) (xs : List X) → All (λ x. All P (f x)) xs → All P (flat_map f xs)
+  all_flat P f [] h = All-nil P
+  all_flat P f (x ∷ xs) h = All-append P (f x) (flat_map f xs) (All-head (λ x. All P (f x)) x xs h) (all_flat P f xs (All-tail (λ x. All P (f x)) x xs h))
+
+  module _ (goal : GoalTree) (is : IsGoal declared goal) where
+    low : All (λ r. r < 31) (registers_of goal.inputs)
+    low = all_left (λ r. r < 31) (registers_of goal.inputs) goal.pool is.rules.low
+
+    term_known : (sort : Sort) (t : Tree Op) → IsGoalTerm declared goal sort t → HasKnown t
+    term_known sort t k = each_weaker (IsOfGoal declared goal.inputs) (IsKnown declared) (goal_known goal.inputs low) t k.operators
+
+    inputs_known : All HasKnown (input_terms goal.inputs)
+    inputs_known = All-map HasKnown (λ (i : InputReg). input_term i.reg) goal.inputs
+        (All-weaker (λ (i : InputReg). i.reg < 31) (λ (i : InputReg). HasKnown (input_term i.reg)) (λ i l. (l, tt)) goal.inputs (all_of_map (λ r. r < 31) (λ (i : InputReg). i.reg) goal.inputs low))
+
+    guard_known : (o : Option (Tree Op)) → IfSome o (IsGoalTerm declared goal sorts.Word) → All HasKnown (guard_terms o)
+    guard_known None h = All-nil HasKnown
+    guard_known (Some t) h = All-cons HasKnown t [] (term_known sorts.Word t h) (All-nil HasKnown)
+
+    sets_known : All HasKnown (set_terms goal.sets)
+    sets_known = All-map HasKnown (λ (s : TargetTree). s.value) goal.sets (All-weaker (IsTarget declared goal) (λ s. HasKnown s.value) (λ s k. term_known _ s.value k) goal.sets is.sets)
+
+    sides_known : (a : TwoTrees) → IsAssume declared goal a → HasKnown a.left × HasKnown a.right
+    sides_known a k = (term_known k.sort a.left k.left, term_known k.sort a.right k.right)
+
+    assumes_known : All HasKnown (assume_terms goal.assumes)
+    assumes_known = all_flat HasKnown sides_of goal.assumes
+        (All-weaker (IsAssume declared goal) (λ a. All HasKnown (sides_of a)) (λ a k. let p = sides_known a k in All-cons HasKnown a.left (a.right ∷ []) p.0 (All-cons HasKnown a.right [] p.1 (All-nil HasKnown))) goal.assumes is.assumes)
+
+    pub present_known : All HasKnown (present_terms goal)
+    present_known =
+        All-append HasKnown ((entry_term ∷ input_terms goal.inputs) ++ assume_terms goal.assumes ++ guard_terms goal.guard) (set_terms goal.sets)
+        (All-append HasKnown ((entry_term ∷ input_terms goal.inputs) ++ assume_terms goal.assumes) (guard_terms goal.guard)
+        (All-append HasKnown (entry_term ∷ input_terms goal.inputs) (assume_terms goal.assumes)
+        (All-cons HasKnown entry_term (input_terms goal.inputs) (tt, tt) inputs_known)
+        assumes_known)
+        (guard_known goal.guard is.guard))
+        sets_known
+
+    pub equal_known : All (λ (p : Pair). HasKnown p.0 × HasKnown p.1) (assumed_pairs goal)
+    equal_known = All-map (λ (p : Pair). HasKnown p.0 × HasKnown p.1) assumed_pair goal.assumes (All-weaker (IsAssume declared goal) (λ a. HasKnown a.left × HasKnown a.right) sides_known goal.assumes is.assumes)
+
+    pub kept_present : (t : Tree Op) → Contains (kept_terms goal) t → Contains (present_terms goal) t
+    kept_present t h =
+        let A = entry_term ∷ input_terms goal.inputs in
+        let B = assume_terms goal.assumes in
+        let C = guard_terms goal.guard in
+        let D = set_terms goal.sets in
+        elim (Contains-append_cases (A ++ C) D t h) [
+          | inl k ↦ Contains-append_left (A ++ B ++ C) D t (elim (Contains-append_cases A C t k) [
+            | inl l ↦ Contains-append_left (A ++ B) C t (Contains-append_left A B t l)
+            | inr l ↦ Contains-append_right (A ++ B) C t l
+          ])
+          | inr k ↦ Contains-append_right (A ++ B ++ C) D t k
+        ]
+
+-- ---- graphs
+
+-- classes of the graph are those of terms
+classes_inhabited : (g : Graph Op) → AreInhabited g → (cs : List ℕ) → All (HasClass g) cs → (ts : Trees Op) × AreClasses g [] ts cs
+classes_inhabited g inhabited [] h = (none, no_classes)
+classes_inhabited g inhabited (c ∷ cs) h =
+    let t = inhabited c (All-head (HasClass g) c cs h) in
+    let ts = classes_inhabited g inhabited cs (All-tail (HasClass g) c cs h) in
+    (more t.0 ts.0, classes t.1 ts.1)
+
+later_all : (axioms : List Rewrite) (present : List (Tree Op)) (equal : List Pair) (j : ℕ) (t u : Tree Op) → Derives axioms present equal 0 t u → Derives axioms present equal j t u
+later_all axioms present equal zero t u d = d
+later_all axioms present equal (suc j) t u d = let e : j + 1 ≡ suc j = omega arith in subst (λ n. Derives axioms present equal n t u) e (later (later_all axioms present equal j t u d))
+
+pub can_be_launched : (input : InputTree) (goal : GoalTree) (graph : Graph Op) (j : ℕ) → ((axioms : List Rewrite) (r : Rewrite) → All IsRule axioms → IsRuleOf axioms r → IsUsable r) → All IsRule (rules_of input) → IsInput input → Contains input.goals goal → IsGraph op_signature graph → length graph.rows < 2 ^ 30 → IsGrown (rules_of input) (present_terms goal) (assumed_pairs goal) graph j → CanLaunch input.ops goal graph
+can_be_launched input goal graph j usable rules is given_goal is_graph few grown =
+    let goal_is = All-contains (IsGoal input.ops) input.goals goal is.goals given_goal in
+    record {
+      graph_is = is_graph;
+      few = few;
+      operators = All-weaker (Contains graph.rows) (λ (r : Row Op). IsKnown input.ops r.op)
+          (λ r h.
+          let ts = classes_inhabited graph grown.inhabited r.operands (All-contains (λ (t : Row Op). All (HasClass graph) t.operands) graph.rows r is_graph.operands h) in
+          let term = application r.op ts.0 in
+          let class : IsClass graph [] term r.class = at_row ts.1 h in
+          let derived = (grown.exact term term).0 (record { class = r.class; first = class; second = class }) in
+          (derived_known input.ops input.axioms is.axioms (λ q rule. usable (rules_of input) q rules rule) (present_terms goal) (present_known input.ops goal goal_is) (assumed_pairs goal) (equal_known input.ops goal goal_is) derived).0.0)
+          graph.rows (All-contains_itself graph.rows);
+      classes = λ t h.
+          let has = (grown.exact t t).1 (later_all (rules_of input) (present_terms goal) (assumed_pairs goal) j t t (given t (kept_present input.ops goal goal_is t h))) in
+          (has.class, has.first);
+    }

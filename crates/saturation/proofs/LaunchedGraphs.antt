@@ -1,0 +1,264 @@
+-- The launch graph of a goal: its rows, and the classes of the goal's terms.
+use Rattle.std.proofs.Common.{◌≡◌, ◌≢◌, ℕ, suc, ◌+◌, ◌<◌, Option, Some, None, option_map, List, [], ◌∷◌, ◌++◌, length, map, get_or, slice_index, refl, sym, ap, ◌∙◌, subst, arith, All, AllPairs, Contains}
+use Rattle.std.specs.Prelude.{IfSome}
+use Rattle.std.specs.List.{AllZip}
+use Rattle.std.proofs.lemmas.List.{get_or-map, length-map, length-append, get_or_append_left, get_or-append-add}
+use Rattle.std.proofs.lemmas.List.Elements.{All-nil, All-cons, All-head, All-tail, All-contains, Contains-append_left, Contains-append_right, Contains-get_or}
+use Rattle.text_core.specs.Names.{IsName}
+use Rattle.word_ops.specs.Meanings.{sort_of}
+use Rattle.word_ops.specs.declared.sorts.Sort.{Sort}
+use Rattle.word_ops.specs.declared.sorts.Sort.TheVariants as sorts
+use Rattle.word_ops.specs.declared.sorts.Op.{Op}
+use Rattle.word_ops.specs.declared.sorts.Op.TheVariants.{Entry, Input}
+use Rattle.word_terms.specs.Keys.{op_signature}
+use Rattle.word_terms.specs.Sorting.{HasSort, HaveSorts}
+use Rattle.word_terms.specs.Tree.{Tree, Trees, variable, application, none, more, AreBelow, EachBelow}
+use Rattle.word_terms.specs.View.{tree_of}
+use Rattle.word_terms.specs.declared.term.Term.{Term}
+use Rattle.axiom_base.specs.Rewrites.{Rewrite, IsRule, IsUsable}
+use Rattle.axiom_base.specs.Schemes.{IsRuleOf}
+use Rattle.egraph.specs.Graph.{Graph, IsGraph, HasClass}
+use Rattle.egraph.specs.declared.rows.Row.{Row}
+use Rattle.pattern_match.specs.Classes.{IsClass, at_variable, at_row, CanRead}
+use Rattle.goal_reader.specs.Views.{TargetTree, InputTree, goal_view, target_view}
+use Rattle.goal_reader.specs.WellFormed.{IsGoal, IsGoalTerm, IsTarget, IsInput}
+use Rattle.goal_reader.specs.declared.goals.Goal.{Goal}
+use Rattle.goal_reader.specs.declared.goals.InputReg.{InputReg}
+use Rattle.goal_reader.specs.declared.goals.Set.{Set}
+use Rattle.launch_graph.specs.Graphs.{registers_of}
+use Rattle.launch_graph.specs.WellFormed.{IsLaunchGraph, ClassHasSort, set_sort}
+use Rattle.launch_graph.specs.declared.graphs.LaunchGraph.{LaunchGraph}
+use Rattle.launch_graph.specs.declared.graphs.InputClass.{InputClass}
+use Rattle.launch_graph.specs.declared.graphs.SetClass.{SetClass}
+use Rattle.launch_graph.specs.declared.graphs.Guard.{Guard}
+use Rattle.saturation.specs.GoalTerms.{entry_term, input_term, input_terms, guard_terms, set_terms}
+use Rattle.saturation.specs.Launched.{CanLaunch, IsLaunched, KeepsGrown, KeepsStop}
+use Rattle.saturation.specs.Numbered.{AreClassNumbers, IsNumberOf, IsInputNumber, IsSetNumber, IsGuardNumber, firsts, indexes_of, launched_row}
+use Rattle.saturation.specs.Renamed.{IsRenamed}
+use Rattle.saturation.specs.StandsFor.{HasClassIn, IsOf, IsInputClass, IsSetClass, IsGuardOf, graph_view}
+use Rattle.saturation.proofs.LaunchedRows as rows
+use Rattle.saturation.proofs.LaunchTerms.{leaf_row}
+use Rattle.saturation.proofs.Mapped.{contains_map}
+use Rattle.saturation.proofs.Renaming.{class_to, grown_to, stops_to}
+
+-- ---- lists
+
+pub all_left : {X : Type 0} (P : X → Type 0) (xs ys : List X) → All P (xs ++ ys) → All P xs
+all_left P xs ys h = λ k d l. subst P (get_or_append_left xs ys d k l) (h k d (omega (arith, l, length-append xs ys)))
+
+all_right : {X : Type 0} (P : X → Type 0) (xs ys : List X) → All P (xs ++ ys) → All P ys
+all_right P xs ys h = λ k d l. subst P (get_or-append-add xs ys k d) (h (length xs + k) d (omega (arith, l, length-append xs ys)))
+
+pub all_of_map : {X Y : Type 0} (P : Y → Type 0) (f : X → Y) (xs : List X) → All P (map f xs) → All (λ x. P (f x)) xs
+all_of_map P f xs h = λ k d l. subst P (get_or-map f xs k d (f d) l) (h k (f d) (omega (arith, l, length-map xs f)))
+
+zip_weaker : {X Y : Type 0} (R S : Y → X → Type 0) (ys : List Y) (xs : List X) → ((y : Y) (x : X) → R y x → S y x) → AllZip R ys xs → AllZip S ys xs
+zip_weaker R S [] [] h z = tt
+zip_weaker R S [] (x ∷ xs) h z = absurd z
+zip_weaker R S (y ∷ ys) [] h z = absurd z
+zip_weaker R S (y ∷ ys) (x ∷ xs) h z = (h y x z.0, zip_weaker R S ys xs h z.1)
+
+zip_map : {X Y Z : Type 0} (R : Y → X → Type 0) (S : Y → Z → Type 0) (f : X → Z) (ys : List Y) (xs : List X) → ((y : Y) (x : X) → R y x → S y (f x)) → AllZip R ys xs → AllZip S ys (map f xs)
+zip_map R S f [] [] h z = tt
+zip_map R S f [] (x ∷ xs) h z = absurd z
+zip_map R S f (y ∷ ys) [] h z = absurd z
+zip_map R S f (y ∷ ys) (x ∷ xs) h z = (h y x z.0, zip_map R S f ys xs h z.1)
+
+zip_all : {X Y : Type 0} (R : Y → X → Type 0) (P : X → Type 0) (Q : Y → Type 0) (ys : List Y) (xs : List X) → ((y : Y) (x : X) → R y x → P x → Q y) → AllZip R ys xs → All P xs → All Q ys
+zip_all R P Q [] xs h z k = All-nil Q
+zip_all R P Q (y ∷ ys) [] h z k = absurd z
+zip_all R P Q (y ∷ ys) (x ∷ xs) h z k = All-cons Q y ys (h y x z.0 (All-head P x xs k)) (zip_all R P Q ys xs h z.1 (All-tail P x xs k))
+
+-- ---- terms
+
+mutual
+  sorted_below : (sort : Sort) (t : Tree Op) → HasSort op_signature [] sort t → AreBelow 0 t
+  sorted_below sort (variable n) h = h.0
+  sorted_below sort (application op ts) h = each_below op 0 ts h.3
+
+  each_below : (op : Op) (at : ℕ) (ts : Trees Op) → HaveSorts op_signature [] op at ts → EachBelow 0 ts
+  each_below op at none h = tt
+  each_below op at (more t ts) h = (sorted_below (op_signature.operand_sort op at) t h.0, each_below op (at + 1) ts h.1)
+
+can_read : (graph : Graph Op) (sort : Sort) (t : Tree Op) → IsGraph op_signature graph → HasSort op_signature [] sort t → CanRead graph [] t
+can_read graph sort t is h = record { graph = is; present = All-nil (HasClass graph); below = sorted_below sort t h }
+
+-- ---- a goal that may be launched
+
+module _ (input : InputTree) (goal : Goal) (is_input : IsInput input) (given : Contains input.goals (goal_view goal)) (graph : Graph Op) (can : CanLaunch input.ops (goal_view goal) graph) where
+  abbrev HasItsClass : Tree Op → Type 0
+  HasItsClass t = (c : ℕ) × IsClass graph [] t c
+
+  goal_is : IsGoal input.ops (goal_view goal)
+  goal_is = All-contains (IsGoal input.ops) input.goals (goal_view goal) is_input.goals given
+
+  kept_first : (t : Tree Op) → Contains (entry_term ∷ input_terms goal.inputs) t → HasItsClass t
+  kept_first t h =
+      can.classes t (Contains-append_left ((entry_term ∷ input_terms goal.inputs) ++ guard_terms (goal_view goal).guard) (set_terms (goal_view goal).sets) t
+      (Contains-append_left (entry_term ∷ input_terms goal.inputs) (guard_terms (goal_view goal).guard) t h))
+
+  pub entry_has : HasItsClass entry_term
+  entry_has = kept_first entry_term (0, omega arith, refl)
+
+  pub inputs_have : All (λ (i : InputReg). HasItsClass (input_term i.reg)) goal.inputs
+  inputs_have k d l =
+      let i = get_or goal.inputs k d in
+      let h = contains_map (λ (i : InputReg). input_term i.reg) goal.inputs i (Contains-get_or goal.inputs k d l) in
+      kept_first (input_term i.reg) (suc h.0, (let m = h.1 in omega arith), h.2)
+
+  guard_has_by : (o : Option (Term Op)) → ((t : Tree Op) → Contains (guard_terms (option_map tree_of o)) t → HasItsClass t) → IfSome o (λ t. HasItsClass (tree_of t))
+  guard_has_by None h = tt
+  guard_has_by (Some t) h = h (tree_of t) (0, omega arith, refl)
+
+  pub guard_has : IfSome goal.guard (λ t. HasItsClass (tree_of t))
+  guard_has = guard_has_by goal.guard (λ t h. can.classes t
+      (Contains-append_left ((entry_term ∷ input_terms goal.inputs) ++ guard_terms (goal_view goal).guard) (set_terms (goal_view goal).sets) t
+      (Contains-append_right (entry_term ∷ input_terms goal.inputs) (guard_terms (goal_view goal).guard) t h)))
+
+  guard_read_by : (o : Option (Term Op)) → IfSome (option_map tree_of o) (IsGoalTerm input.ops (goal_view goal) sorts.Word) → IfSome o (λ t. CanRead graph [] (tree_of t))
+  guard_read_by None h = tt
+  guard_read_by (Some t) h = can_read graph sorts.Word (tree_of t) can.graph_is h.sorted
+
+  pub guard_read : IfSome goal.guard (λ t. CanRead graph [] (tree_of t))
+  guard_read = guard_read_by goal.guard goal_is.guard
+
+  targets : All (λ (s : Set). IsTarget input.ops (goal_view goal) (target_view s)) goal.sets
+  targets = all_of_map (IsTarget input.ops (goal_view goal)) target_view goal.sets goal_is.sets
+
+  pub sets_have : All (λ (s : Set). HasItsClass (tree_of s.value)) goal.sets
+  sets_have k d l =
+      let s = get_or goal.sets k d in
+      let there : Contains (goal_view goal).sets (target_view s) = contains_map target_view goal.sets s (Contains-get_or goal.sets k d l) in
+      can.classes (tree_of s.value)
+      (Contains-append_right ((entry_term ∷ input_terms goal.inputs) ++ guard_terms (goal_view goal).guard) (set_terms (goal_view goal).sets) (tree_of s.value)
+      (contains_map (λ (t : TargetTree). t.value) (goal_view goal).sets (target_view s) there))
+
+  pub sets_read : All (λ (s : Set). CanRead graph [] (tree_of s.value)) goal.sets
+  sets_read k d l = can_read graph _ (tree_of (get_or goal.sets k d).value) can.graph_is (targets k d l).sorted
+
+  -- ---- its launch graph
+
+  pub record IsMade (numbers : List ℕ) (g : LaunchGraph) : Type 0 where
+    pub numbers_are : AreClassNumbers graph numbers
+    pub rows_are : g.rows ≡ map (launched_row numbers (firsts (indexes_of graph.rows)) input.ops) graph.rows
+    pub entry : IsNumberOf graph numbers entry_term g.entry
+    pub inputs : AllZip (IsInputNumber graph numbers) g.inputs goal.inputs
+    pub pool : g.pool ≡ goal.pool
+    pub guard : IsGuardNumber graph numbers g.guard goal.guard
+    pub sets : AllZip (IsSetNumber graph numbers) g.sets goal.sets
+
+  module _ (numbers : List ℕ) (g : LaunchGraph) (made : IsMade numbers g) where
+    abbrev number : ℕ → ℕ
+    number c = slice_index numbers c
+
+    is_renamed : IsRenamed number graph (graph_view input.ops g)
+    is_renamed = rows.renamed input.ops is_input.operators_differ is_input.operators is_input.few.0 graph can.graph_is can.operators numbers made.numbers_are g made.rows_are
+
+    row_sort : (q : Row Op) (sort : Sort) → Contains graph.rows q → sort_of q.op ≡ sort → ClassHasSort g sort (number q.class)
+    row_sort = rows.has_sort input.ops is_input.operators_differ is_input.operators is_input.few.0 graph can.graph_is can.operators numbers made.numbers_are g made.rows_are
+
+    term_sort : (t : Tree Op) (c : ℕ) (sort : Sort) → HasSort op_signature [] sort t → IsClass graph [] t c → ClassHasSort g sort (number c)
+    term_sort _ _ sort h (at_variable lt) = absurd (omega (arith, lt))
+    term_sort _ _ sort h (at_row {op = op} {ts = ts} {cs = cs} {c = c} are here) = row_sort (record { op = op; operands = cs; class = c }) sort here h.0
+
+    leaf_sort : (op : Op) (c : ℕ) → IsClass graph [] (application op none) c → ClassHasSort g (sort_of op) (number c)
+    leaf_sort op c is = row_sort (record { op = op; operands = []; class = c }) (sort_of op) (leaf_row graph [] op c is) refl
+
+    class_in_view : (t : Tree Op) (n : ℕ) → IsNumberOf graph numbers t n → HasClassIn input.ops g t n
+    class_in_view t n h = subst (HasClassIn input.ops g t) (sym h.2) (class_to number graph (graph_view input.ops g) is_renamed [] t h.0 h.1)
+
+    -- ---- it is the goal's
+
+    input_class : (c : InputClass) (i : InputReg) → IsInputNumber graph numbers c i → IsInputClass input.ops g c i
+    input_class c i h = record { name = h.name; register = h.register; class = class_in_view (input_term i.reg) c.class h.class }
+
+    set_class : (c : SetClass) (s : Set) → IsSetNumber graph numbers c s → IsSetClass input.ops g c (target_view s)
+    set_class c s h = record { name = h.name; class = class_in_view (tree_of s.value) c.class h.class }
+
+    guard_class : (o : Option Guard) (t : Option (Term Op)) → IsGuardNumber graph numbers o t → IsGuardOf input.ops g o (option_map tree_of t)
+    guard_class None None h = tt
+    guard_class None (Some t) h = absurd h
+    guard_class (Some o) None h = absurd h
+    guard_class (Some o) (Some t) h = (class_in_view (tree_of t) o.class h.0, h.1)
+
+    same_registers : (cs : List InputClass) (is : List InputReg) → AllZip (IsInputNumber graph numbers) cs is → map (λ (c : InputClass). c.reg) cs ≡ map (λ (i : InputReg). i.reg) is
+    same_registers [] [] z = refl
+    same_registers [] (i ∷ is) z = absurd z
+    same_registers (c ∷ cs) [] z = absurd z
+    same_registers (c ∷ cs) (i ∷ is) z =
+        let one : c.reg ≡ i.reg = z.0.register in
+        let rest = same_registers cs is z.1 in
+        cc
+
+    registers_are : registers_of g ≡ map (λ (i : InputReg). i.reg) goal.inputs ++ goal.pool
+    registers_are =
+        ap (λ rs. rs ++ g.pool) (same_registers g.inputs goal.inputs made.inputs)
+        ∙ ap (λ pool. map (λ (i : InputReg). i.reg) goal.inputs ++ pool) made.pool
+
+    pub is_of : IsOf input.ops (goal_view goal) g
+    is_of = record {
+      entry = class_in_view entry_term g.entry made.entry;
+      inputs = zip_weaker (IsInputNumber graph numbers) (IsInputClass input.ops g) g.inputs goal.inputs input_class made.inputs;
+      pool = made.pool;
+      guard = guard_class g.guard goal.guard made.guard;
+      sets = zip_map (IsSetNumber graph numbers) (IsSetClass input.ops g) target_view g.sets goal.sets set_class made.sets;
+      proper = record {
+        differ = subst (λ rs. AllPairs (λ a b. a ≢ b) rs) (sym registers_are) goal_is.rules.registers;
+        low = subst (λ rs. All (λ r. r < 31) rs) (sym registers_are) goal_is.rules.low;
+      };
+    }
+
+    -- ---- it is well formed
+
+    guard_sort : (o : Option Guard) (t : Option (Term Op)) → IsGuardNumber graph numbers o t → IfSome (option_map tree_of t) (IsGoalTerm input.ops (goal_view goal) sorts.Word) → IfSome o (λ guard. ClassHasSort g sorts.Word guard.class)
+    guard_sort None t h k = tt
+    guard_sort (Some o) None h k = absurd h
+    guard_sort (Some o) (Some t) h k = subst (ClassHasSort g sorts.Word) (sym h.0.2) (term_sort (tree_of t) h.0.0 sorts.Word k.sorted h.0.1)
+
+    pub well_formed : IsLaunchGraph g
+    well_formed = record {
+      few = omega (arith, can.few, ap length made.rows_are, length-map graph.rows (launched_row numbers (firsts (indexes_of graph.rows)) input.ops));
+      arities = rows.arities input.ops is_input.operators_differ is_input.operators is_input.few.0 graph can.graph_is can.operators numbers made.numbers_are g made.rows_are;
+      distinct = rows.distinct input.ops is_input.operators_differ is_input.operators is_input.few.0 graph can.graph_is can.operators numbers made.numbers_are g made.rows_are;
+      classes = rows.classes input.ops is_input.operators_differ is_input.operators is_input.few.0 graph can.graph_is can.operators numbers made.numbers_are g made.rows_are;
+      sorts = rows.sorts input.ops is_input.operators_differ is_input.operators is_input.few.0 graph can.graph_is can.operators numbers made.numbers_are g made.rows_are;
+      constants = rows.constants input.ops is_input.operators_differ is_input.operators is_input.few.0 graph can.graph_is can.operators numbers made.numbers_are g made.rows_are;
+      words = rows.words input.ops is_input.operators_differ is_input.operators is_input.few.0 graph can.graph_is can.operators numbers made.numbers_are g made.rows_are;
+      registers = rows.registers input.ops is_input.operators_differ is_input.operators is_input.few.0 graph can.graph_is can.operators numbers made.numbers_are g made.rows_are;
+      operands = rows.operands input.ops is_input.operators_differ is_input.operators is_input.few.0 graph can.graph_is can.operators numbers made.numbers_are g made.rows_are;
+      indexes = rows.indexes input.ops is_input.operators_differ is_input.operators is_input.few.0 graph can.graph_is can.operators numbers made.numbers_are g made.rows_are;
+      unnamed = rows.unnamed input.ops is_input.operators_differ is_input.operators is_input.few.0 graph can.graph_is can.operators numbers made.numbers_are g made.rows_are;
+      same_name = rows.same_name input.ops is_input.operators_differ is_input.operators is_input.few.0 graph can.graph_is can.operators numbers made.numbers_are g made.rows_are;
+      named = rows.named input.ops is_input.operators_differ is_input.operators is_input.few.0 graph can.graph_is can.operators numbers made.numbers_are g made.rows_are;
+      entry = subst (ClassHasSort g sorts.Memory) (sym made.entry.2) (leaf_sort Entry made.entry.0 made.entry.1);
+      inputs = zip_all (IsInputNumber graph numbers) (λ (i : InputReg). i.reg < 31) (λ (c : InputClass). ClassHasSort g sorts.Word c.class × (c.reg < 31)) g.inputs goal.inputs
+          (λ c i h low. (subst (ClassHasSort g sorts.Word) (sym h.class.2) (leaf_sort (Input i.reg) h.class.0 h.class.1), (let e = h.register in omega arith)))
+          made.inputs (all_of_map (λ r. r < 31) (λ (i : InputReg). i.reg) goal.inputs (all_left (λ r. r < 31) (map (λ (i : InputReg). i.reg) goal.inputs) goal.pool goal_is.rules.low));
+      pool = subst (λ rs. All (λ r. r < 31) rs) (sym made.pool) (all_right (λ r. r < 31) (map (λ (i : InputReg). i.reg) goal.inputs) goal.pool goal_is.rules.low);
+      guard = guard_sort g.guard goal.guard made.guard goal_is.guard;
+      sets = zip_all (IsSetNumber graph numbers) (λ (s : Set). IsTarget input.ops (goal_view goal) (target_view s)) (λ (c : SetClass). ClassHasSort g (set_sort c.name) c.class) g.sets goal.sets
+          (λ c s h target. subst (λ name. ClassHasSort g (set_sort name) c.class) (sym h.name) (subst (ClassHasSort g (set_sort s.name)) (sym h.class.2) (term_sort (tree_of s.value) h.class.0 (set_sort s.name) target.sorted h.class.1)))
+          made.sets targets;
+      names = (
+        zip_all (IsInputNumber graph numbers) (λ (i : InputReg). IsName i.name) (λ (c : InputClass). IsName c.name) g.inputs goal.inputs (λ c i h name. subst IsName (sym h.name) name) made.inputs goal_is.named.inputs,
+        zip_all (IsSetNumber graph numbers) (λ (s : Set). IsName s.name) (λ (c : SetClass). IsName c.name) g.sets goal.sets (λ c s h name. subst IsName (sym h.name) name) made.sets (all_of_map (λ (t : TargetTree). IsName t.name) target_view goal.sets goal_is.named.targets),
+      );
+    }
+
+    -- ---- what is launched
+
+    pub launched : IsLaunched input.ops (goal_view goal) graph g
+    launched = record {
+      well_formed = well_formed;
+      of = is_of;
+      class_in = rows.class_in input.ops is_input.operators_differ is_input.operators is_input.few.0 graph can.graph_is can.operators numbers made.numbers_are;
+      rows = rows.rows_back input.ops is_input.operators_differ is_input.operators is_input.few.0 graph can.graph_is can.operators numbers made.numbers_are g made.rows_are;
+      one_to_one = rows.one_to_one input.ops is_input.operators_differ is_input.operators is_input.few.0 graph can.graph_is can.operators numbers made.numbers_are g made.rows_are;
+      named = rows.named_back input.ops is_input.operators_differ is_input.operators is_input.few.0 graph can.graph_is can.operators numbers made.numbers_are g made.rows_are;
+    }
+
+    pub keeps_grown : KeepsGrown graph (graph_view input.ops g)
+    keeps_grown = grown_to number graph (graph_view input.ops g) is_renamed
+
+    pub keeps_stop : ((axioms : List Rewrite) (r : Rewrite) → All IsRule axioms → IsRuleOf axioms r → IsUsable r) → KeepsStop graph (graph_view input.ops g)
+    keeps_stop usable axioms rounds nodes j stop are = stops_to number graph (graph_view input.ops g) is_renamed axioms (λ r. usable axioms r are) rounds nodes j stop

@@ -1,0 +1,8 @@
+use Rattle.saturation.proofs.KnownOperators.{can_be_launched}
+use Rattle.saturation.proofs.launch_laws.grown_graphs_can_be_launched.Goals as goal
+
+pub returns : goal.returns
+returns c = record {
+  can = λ input goal graph j is there is_graph few grown.
+      can_be_launched input goal graph j c.schemes_are_true.ensures.usable (c.axioms_make_rules_true.ensures.are_rules input is) is there is_graph few grown;
+}

@@ -1,0 +1,66 @@
+use Rattle.std.proofs.Common.{◌≤◌, ℕ, map, length, sym, ap, ◌∙◌, subst, All, []}
+use Rattle.std.specs.List.{AllZip}
+use Rattle.word_terms.specs.View.{tree_of}
+use Rattle.pattern_match.specs.Classes.{CanRead, IsClass}
+use Rattle.goal_reader.specs.Views.{input_view}
+use Rattle.goal_reader.specs.declared.goals.InputReg.{InputReg}
+use Rattle.goal_reader.specs.declared.goals.Set.{Set}
+use Rattle.launch_graph.specs.declared.graphs.LaunchGraph.{LaunchGraph}
+use Rattle.saturation.specs.GoalTerms.{entry_term, input_term}
+use Rattle.saturation.specs.Numbered.{IsNumberOf, IsInputNumber, IsSetNumber, IsGuardNumber, firsts, indexes_of, launched_row}
+use Rattle.saturation.proofs.LaunchedRows.{few_used}
+use Rattle.saturation.proofs.LaunchedGraphs.{inputs_have, guard_has, guard_read, sets_have, sets_read, IsMade, launched, keeps_grown, keeps_stop}
+use Rattle.saturation.proofs.launching.to_launch.Goals as goal
+
+pub launch_rows-requires-clause-used : goal.launch_rows-requires-clause-used
+launch_rows-requires-clause-used c =
+    subst (λ xs. length xs ≤ 16) (sym (c.deref-2.ensures.value ∙ c.in_ok-used.ensures)) (few_used c.args.input.now.ops c.args.saturated.now.graph.rows c.requires.input.few.0 c.requires.can.operators)
+
+pub launch_inputs-requires-clause-there : goal.launch_inputs-requires-clause-there
+launch_inputs-requires-clause-there c =
+    subst (λ xs. All (λ (i : InputReg). (n : ℕ) × IsClass c.args.saturated.now.graph [] (input_term i.reg) n) xs) (sym c.as_slice-2.ensures) (inputs_have (input_view c.args.input.now) c.args.goal.now c.requires.input c.requires.goal c.args.saturated.now.graph c.requires.can)
+
+pub launch_guard-requires-clause-can : goal.launch_guard-requires-clause-can
+launch_guard-requires-clause-can c = guard_read (input_view c.args.input.now) c.args.goal.now c.requires.input c.requires.goal c.args.saturated.now.graph c.requires.can
+
+pub launch_guard-requires-clause-there : goal.launch_guard-requires-clause-there
+launch_guard-requires-clause-there c = guard_has (input_view c.args.input.now) c.args.goal.now c.requires.input c.requires.goal c.args.saturated.now.graph c.requires.can
+
+pub launch_sets-requires-clause-can : goal.launch_sets-requires-clause-can
+launch_sets-requires-clause-can c =
+    subst (λ xs. All (λ (s : Set). CanRead c.args.saturated.now.graph [] (tree_of s.value)) xs) (sym c.as_slice-4.ensures) (sets_read (input_view c.args.input.now) c.args.goal.now c.requires.input c.requires.goal c.args.saturated.now.graph c.requires.can)
+
+pub launch_sets-requires-clause-there : goal.launch_sets-requires-clause-there
+launch_sets-requires-clause-there c =
+    subst (λ xs. All (λ (s : Set). (n : ℕ) × IsClass c.args.saturated.now.graph [] (tree_of s.value) n) xs) (sym c.as_slice-4.ensures) (sets_have (input_view c.args.input.now) c.args.goal.now c.requires.input c.requires.goal c.args.saturated.now.graph c.requires.can)
+
+pub returns : goal.returns
+returns c =
+    let graph = c.args.saturated.now.graph in
+    let numbers = c.in_ok-numbers.numbers.items in
+    let g : LaunchGraph = record { rows = c.from.result; entry = c.leaf_number.result; inputs = c.from-2.result; pool = c.in_ok-from_slice.field-0; guard = c.in_ok-launch_guard.field-0; sets = c.from-3.result } in
+    let made : IsMade (input_view c.args.input.now) c.args.goal.now c.requires.input c.requires.goal graph c.requires.can numbers g = record {
+      numbers_are = c.in_ok-numbers.ensures.numbers;
+      rows_are =
+          c.from.ensures
+          ∙ c.in_ok-rows.ensures.rows
+          ∙ ap (λ ns. map (launched_row ns c.deref-2.result.now c.as_slice.result.now) graph.rows) c.deref.ensures.value
+          ∙ ap (λ ns. map (launched_row numbers ns c.as_slice.result.now) graph.rows) (c.deref-2.ensures.value ∙ c.in_ok-used.ensures)
+          ∙ ap (λ ds. map (launched_row numbers (firsts (indexes_of graph.rows)) ds) graph.rows) c.as_slice.ensures;
+      entry = subst (λ ns. IsNumberOf graph ns entry_term c.leaf_number.result) c.deref-3.ensures.value c.leaf_number.ensures;
+      inputs =
+          subst (λ cs. AllZip (IsInputNumber graph numbers) cs c.args.goal.now.inputs) (sym c.from-2.ensures)
+          (subst (λ is. AllZip (IsInputNumber graph numbers) c.in_ok-launch_inputs.field-0.items is) c.as_slice-2.ensures
+          (subst (λ ns. AllZip (IsInputNumber graph ns) c.in_ok-launch_inputs.field-0.items c.as_slice-2.result.now) c.deref-4.ensures.value c.in_ok-launch_inputs.ensures));
+      pool = c.in_ok-from_slice.ensures ∙ c.as_slice-3.ensures;
+      guard = subst (λ ns. IsGuardNumber graph ns c.in_ok-launch_guard.field-0 c.args.goal.now.guard) c.deref-5.ensures.value c.in_ok-launch_guard.ensures;
+      sets =
+          subst (λ cs. AllZip (IsSetNumber graph numbers) cs c.args.goal.now.sets) (sym c.from-3.ensures)
+          (subst (λ ss. AllZip (IsSetNumber graph numbers) c.in_ok-launch_sets.field-0.items ss) c.as_slice-4.ensures
+          (subst (λ ns. AllZip (IsSetNumber graph ns) c.in_ok-launch_sets.field-0.items c.as_slice-4.result.now) c.deref-6.ensures.value c.in_ok-launch_sets.ensures));
+    } in
+    record {
+      launched = launched (input_view c.args.input.now) c.args.goal.now c.requires.input c.requires.goal graph c.requires.can numbers g made;
+      grown = keeps_grown (input_view c.args.input.now) c.args.goal.now c.requires.input c.requires.goal graph c.requires.can numbers g made;
+      stops = keeps_stop (input_view c.args.input.now) c.args.goal.now c.requires.input c.requires.goal graph c.requires.can numbers g made c.schemes_are_true.ensures.usable;
+    }

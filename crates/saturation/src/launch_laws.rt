@@ -1,0 +1,39 @@
+// Laws of launch graphs, as contracts of functions that do nothing.
+ghost use Rattle.std.specs.Prelude.{ℕ, ◌<◌, ◌^◌, length, Contains};
+ghost use Rattle.word_ops.specs.declared.sorts.Op.{Op as TermOperator};
+ghost use Rattle.word_terms.specs.Keys.{op_signature};
+ghost use Rattle.egraph.specs.Graph.{Graph, IsGraph};
+ghost use Rattle.goal_reader.specs.Printing.{declared_name};
+ghost use Rattle.goal_reader.specs.Views.{GoalTree, InputTree};
+ghost use Rattle.goal_reader.specs.WellFormed.{IsInput};
+ghost use Rattle.launch_graph.specs.declared.graphs.LaunchGraph.{LaunchGraph};
+ghost use Rattle.saturation.specs.GoalTerms.{assumed_pairs, kept_terms, present_terms, rules_of};
+ghost use Rattle.saturation.specs.GraphStands.{GraphStands};
+ghost use Rattle.saturation.specs.Grown.{IsGrown};
+ghost use Rattle.saturation.specs.Launched.{CanLaunch, IsLaunched};
+ghost use Rattle.saturation.specs.StandsFor.{StandsFor};
+
+use crate::goal_laws::axioms_make_rules_true;
+use axiom_base::schemes_are_true;
+
+/// Does nothing. Its clause is a law: what is launched from a graph that stands for a goal's terms stands for the goal.
+pub fn launched_graphs_stand()
+    ensures stand { (input : InputTree) (goal : GoalTree) (graph : Graph TermOperator) (g : LaunchGraph) →
+        IsInput input → IsLaunched input.ops goal graph g →
+        GraphStands (declared_name input.ops) (rules_of input) (assumed_pairs goal) (kept_terms goal) graph →
+        StandsFor input goal g }
+{
+    axioms_make_rules_true();
+}
+
+/// Does nothing. Its clause is a law: a graph with fewer than 2 ^ 30 rows, which is a goal's after a number of rounds,
+/// can be launched. For rounds make no operator that neither the goal nor an axiom has, but for those of every text.
+pub fn grown_graphs_can_be_launched()
+    ensures can { (input : InputTree) (goal : GoalTree) (graph : Graph TermOperator) (j : ℕ) →
+        IsInput input → Contains input.goals goal → IsGraph op_signature graph → length graph.rows < 2 ^ 30 →
+        IsGrown (rules_of input) (present_terms goal) (assumed_pairs goal) graph j →
+        CanLaunch input.ops goal graph }
+{
+    axioms_make_rules_true();
+    schemes_are_true();
+}
