@@ -1,5 +1,5 @@
 -- How many things stand before others, one cluster or class at a time.
-use Rattle.std.proofs.Common.{◌≡◌, ℕ, ◌+◌, ◌<◌, ◌≤◌, Bool, true, false, cond, List, ◌++◌, ◌∷◌, [], length, map, get_or, refl, sym, ap, ◌∙◌, subst, arith, length-append}
+use Rattle.std.proofs.Common.{◌≡◌, ℕ, ◌+◌, ◌<◌, ◌≤◌, true, false, cond, List, ◌∷◌, [], length, get_or, refl, sym, ap, ◌∙◌, arith, length-append}
 use Rattle.std.specs.List.{filter, flat_map, range_with_len}
 use Rattle.std.proofs.lemmas.List.FromFn.{length-map-range_with_len, get_or-map-range_with_len}
 use Rattle.machine_table.specs.declared.tables.Table.{Table}
@@ -10,8 +10,7 @@ use Rattle.cycle_encoding.specs.Shapes.{numbered, positive, vars_of}
 use Rattle.cycle_encoding.specs.Variables.{Seen, all_seen, made_classes}
 use Rattle.cycle_encoding.specs.Families.{is_seen}
 use Rattle.cycle_encoding.specs.Facts.{is_made_class}
-use Rattle.cycle_encoding.specs.Steps.{has_cluster, seen_at, cluster_seen, clusters_seen, clusters_before, seen_before, AreSeenVars}
-use Rattle.cycle_encoding.proofs.Tables.{table_more}
+use Rattle.cycle_encoding.specs.Steps.{has_cluster, seen_at, cluster_seen, clusters_before, seen_before, AreSeenVars}
 use Rattle.cycle_encoding.proofs.Listed.{kept_more}
 use Rattle.cycle_encoding.proofs.Places.{seen-is, seen-within, unseen-class, unseen-late-class, unseen-cluster, unseen-late-cluster, unseen-cycle}
 

@@ -1,8 +1,8 @@
 -- The families of clauses, one thing at a time.
-use Rattle.std.proofs.Common.{◌≡◌, ℕ, zero, suc, ◌+◌, ◌<◌, ◌≤◌, ◌^◌, Bool, true, false, cond, List, ◌∷◌, ◌++◌, [], length, map, take, drop, get_or, refl, sym, ap, ◌∙◌, subst, arith, length-append}
+use Rattle.std.proofs.Common.{◌≡◌, ℕ, suc, ◌+◌, ◌<◌, ◌≤◌, ◌^◌, Bool, true, false, cond, List, ◌∷◌, ◌++◌, [], length, map, take, drop, get_or, refl, sym, ap, ◌∙◌, subst, arith, length-append}
 use Rattle.std.specs.Prelude.{◌&&◌, Result, Ok, Err, OnOk}
-use Rattle.std.specs.List.{All, filter, range_with_len}
-use Rattle.std.proofs.lemmas.List.{take_more, take_all, length-take, append-nil, map-append, take-append-drop}
+use Rattle.std.specs.List.{All, filter}
+use Rattle.std.proofs.lemmas.List.{take_more, length-take, map-append, take-append-drop}
 use Rattle.std.proofs.lemmas.List.Elements.{filter-append, All-cons}
 use Rattle.cnf_core.specs.declared.literal.Lit.{Lit}
 use Rattle.cnf_core.specs.Formula.{Formula, IsLitOf}
@@ -16,11 +16,10 @@ use Rattle.cycle_encoding.specs.Shapes.{numbered, positive, negative, implied, v
 use Rattle.cycle_encoding.specs.Variables.{Seen}
 use Rattle.cycle_encoding.specs.Families.{is_made, is_made_target, is_seen, makes}
 use Rattle.cycle_encoding.specs.Facts.{made_among}
-use Rattle.cycle_encoding.specs.Steps.{given_in, goals, is_ready, listed, of_thing, sights, with_clauses}
-use Rattle.cycle_encoding.proofs.Adding.{with-none, added, size-with, vars-with, implied_step}
+use Rattle.cycle_encoding.specs.Steps.{given_in, goals, is_ready, of_thing, sights, with_clauses}
+use Rattle.cycle_encoding.proofs.Adding.{with-none, added, size-with, implied_step}
 use Rattle.cycle_encoding.proofs.Blocks.{vars-over}
 use Rattle.cycle_encoding.proofs.Walk.{numbered-append}
-use Rattle.cycle_encoding.proofs.Tables.{table_more}
 
 -- numbered things that pass, one more at a time
 module _ {X : Type 0} (test : X → Bool) where
@@ -45,10 +44,6 @@ given_none g class = refl
 
 pub given_step : (g : LaunchGraph) (class : ℕ) (ls : List Launch) (i : ℕ) (d : Launch) (mid new : List (ℕ × Launch)) → i < length ls → mid ≡ given_in g class (take i ls) → new ≡ mid ++ cond (gives g class (get_or ls i d)) ((i + 1, get_or ls i d) ∷ []) [] → new ≡ given_in g class (take (i + 1) ls)
 given_step g class ls i d mid new lt m n = n ∙ ap (λ ys. ys ++ cond (gives g class (get_or ls i d)) ((i + 1, get_or ls i d) ∷ []) []) m ∙ sym (given_more g class ls i d lt)
-
-pub maker_step : (g : LaunchGraph) (ls : List Launch) (i : ℕ) (mid new : List (List (ℕ × Launch))) (one : List (ℕ × Launch)) → mid ≡ map (λ class. given_in g class ls) (range_with_len 0 i) → new ≡ mid ++ one ∷ [] → one ≡ given_in g i ls → new ≡ map (λ class. given_in g class ls) (range_with_len 0 (i + 1))
-maker_step g ls i mid new one m n e =
-    n ∙ ap (λ (ys : List (List (ℕ × Launch))). ys ++ one ∷ []) m ∙ ap (λ (y : List (ℕ × Launch)). map (λ class. given_in g class ls) (range_with_len 0 i) ++ y ∷ []) e ∙ sym (table_more (λ class. given_in g class ls) i)
 
 -- the clause of a target
 pub given_vars : (g : LaunchGraph) (class : ℕ) (ls : List Launch) → map (λ (p : ℕ × Launch). positive p.0) (given_in g class ls) ≡ vars_of (gives g class) (numbered 0 ls)

@@ -17,3 +17,5 @@ pub mod FamilySteps
 pub mod Tallies
 pub mod Arities
 pub mod Built
+pub mod Sorted
+pub mod Marking

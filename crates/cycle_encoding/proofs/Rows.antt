@@ -12,6 +12,7 @@ use Rattle.cnf_core.specs.Counter.{at_most_clauses, at_most_vars, at_most_size}
 use Rattle.schedule_meaning.specs.declared.schedules.Launch.{Launch}
 use Rattle.cycle_encoding.specs.Shapes.{numbered, positive, vars_of, counters, counters_vars, counters_size}
 use Rattle.cycle_encoding.specs.Families.{is_at, slot_row, slot_rows}
+pub use Rattle.cycle_encoding.specs.Steps.{with_counters}
 use Rattle.cycle_encoding.proofs.Blocks.{vars-over}
 
 module _ (p : ℕ) where
@@ -28,10 +29,6 @@ module _ (p : ℕ) where
       let total : next + counters_vars p xs ≡ old + counters_vars p (x ∷ xs) = omega (arith, sum_by-cons (λ lits. at_most_vars p (length lits)) x xs) in
       ap (λ cs. at_most_clauses old p x ++ cs) (counters-append next xs ys ∙ ap (λ m. counters next p xs ++ counters m p ys) total)
       ∙ sym (append_assoc (at_most_clauses old p x) (counters next p xs) (counters (old + counters_vars p (x ∷ xs)) p ys))
-
--- a formula with the counters of some groups
-abbrev pub with_counters : Formula → List (List Lit) → Formula
-with_counters f groups = record { vars = f.vars + counters_vars 1 groups; clauses = f.clauses ++ counters f.vars 1 groups }
 
 pub formula : (a b : ℕ) (c d : List (List Lit)) → a ≡ b → c ≡ d → (let f : Formula = record { vars = a; clauses = c } in let h : Formula = record { vars = b; clauses = d } in f ≡ h)
 formula a b c d p q =
@@ -53,7 +50,7 @@ both-counters f xs ys =
 abbrev pub counted : Formula → List Lit → Formula
 counted f lits = record { vars = f.vars + at_most_vars 1 (length lits); clauses = f.clauses ++ at_most_clauses f.vars 1 lits }
 
-one_counter : (f : Formula) (lits : List Lit) → counted f lits ≡ with_counters f (lits ∷ [])
+pub one_counter : (f : Formula) (lits : List Lit) → counted f lits ≡ with_counters f (lits ∷ [])
 one_counter f lits =
     formula (f.vars + at_most_vars 1 (length lits)) (f.vars + counters_vars 1 (lits ∷ [])) (f.clauses ++ at_most_clauses f.vars 1 lits) (f.clauses ++ counters f.vars 1 (lits ∷ []))
     (let z : counters_vars 1 [] ≡ 0 = refl in omega (arith, z, sum_by-cons (λ lits. at_most_vars 1 (length lits)) lits []))
@@ -110,7 +107,7 @@ vars-short test n (x ∷ xs) =
     omega arith
 
 -- a part of the counters takes no more than all of them
-part_of : (f : List Lit → ℕ) (g : ℕ → List Lit) (i k : ℕ) → i ≤ k → sum_by f (map g (range_with_len 0 i)) ≤ sum_by f (map g (range_with_len 0 k))
+pub part_of : (f : List Lit → ℕ) (g : ℕ → List Lit) (i k : ℕ) → i ≤ k → sum_by f (map g (range_with_len 0 i)) ≤ sum_by f (map g (range_with_len 0 k))
 part_of f g i k le = (let e = ap (sum_by f) (take-map-range_with_len g 0 k i le) in let h = sum_by-take-le f (map g (range_with_len 0 k)) i in omega arith)
 
 pub row_vars : (s i k : ℕ) (xs : List (ℕ × Launch)) → i < k → counters_vars 1 (slot_row s i xs) + at_most_vars 1 (length (vars_of (is_at s i) xs)) ≤ counters_vars 1 (slot_row s k xs)

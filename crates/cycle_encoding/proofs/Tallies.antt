@@ -1,5 +1,5 @@
 -- Sums and counts over numbers, one more at a time.
-use Rattle.std.proofs.Common.{◌≡◌, ℕ, ◌+◌, ◌-◌, ◌*◌, ◌<◌, ◌≤◌, Bool, true, false, cond, List, ◌∷◌, ◌++◌, [], length, Option, Some, None, refl, sym, ap, ◌∙◌, arith}
+use Rattle.std.proofs.Common.{◌≡◌, ℕ, ◌+◌, ◌-◌, ◌*◌, Bool, false, cond, ◌∷◌, [], length, Option, Some, None, refl, sym, ap, ◌∙◌, arith}
 use Rattle.std.specs.Prelude.{◌&&◌, ◌==◌, nat_lt, option_map, option_and_then}
 use Rattle.std.specs.Option.{option_map_or}
 use Rattle.std.specs.List.{count_by, sum_by, filter, list_any, range_with_len}
@@ -14,7 +14,7 @@ use Rattle.launch_graph.specs.WellFormed.{next_class}
 use Rattle.cycle_encoding.specs.Variables.{slots_of, made_classes, clusters_of}
 use Rattle.cycle_encoding.specs.Steps.{has_cluster}
 use Rattle.cycle_encoding.specs.Facts.{may_use, is_made_class}
-use Rattle.cycle_encoding.specs.Counts.{seen_count, row_use, row_count, row_has, cycles_of}
+use Rattle.cycle_encoding.specs.Counts.{seen_count, row_count, row_has, cycles_of}
 use Rattle.cycle_encoding.proofs.Rows.{range_more}
 
 pub sum_more : (f : ℕ → ℕ) (n : ℕ) → sum_by f (range_with_len 0 (n + 1)) ≡ sum_by f (range_with_len 0 n) + f n

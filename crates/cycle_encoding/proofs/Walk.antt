@@ -1,13 +1,9 @@
 -- The launches that are shown, one more at a time.
-use Rattle.std.proofs.Common.{◌≡◌, ℕ, suc, ◌+◌, ◌-◌, ◌<◌, Bool, true, false, cond, List, [], ◌∷◌, ◌++◌, length, map, take, get_or, refl, ap, ◌∙◌, arith, inl, inr}
+use Rattle.std.proofs.Common.{◌≡◌, ℕ, suc, ◌+◌, ◌-◌, ◌<◌, Bool, true, false, cond, List, [], ◌∷◌, ◌++◌, length, map, take, get_or, refl, ap, ◌∙◌, arith}
 use Rattle.std.specs.List.{filter}
 use Rattle.std.proofs.lemmas.List.{take_more, length-take, append-nil}
 use Rattle.std.proofs.lemmas.List.Elements.{filter-append}
 use Rattle.cnf_core.specs.Formula.{assigned}
-use Rattle.std.specs.Prelude.{◌==◌}
-use Rattle.std.proofs.lemmas.Bool.{and_from, eq-eqb, and_left, and_right, ne_eqb, cases_eq}
-use Rattle.schedule_meaning.specs.declared.schedules.Launch.{Launch}
-use Rattle.cycle_encoding.specs.Families.{is_at}
 use Rattle.cycle_encoding.specs.Shapes.{numbered, shown, vars_of, positive}
 
 module _ {X : Type 0} where
@@ -59,29 +55,3 @@ module _ {X : Type 0} (test : X → Bool) where
       ap (vars_of test) (numbered-append n xs ys)
       ∙ ap (map (λ p. positive p.0)) (filter-append (λ p. test p.1) (numbered n xs) (numbered (n + length xs) ys))
       ∙ lits-append (λ p. positive p.0) (filter (λ p. test p.1) (numbered n xs)) (filter (λ p. test p.1) (numbered (n + length xs) ys))
-
-  one_var : (n : ℕ) (x : X) (b : Bool) → test x ≡ b → vars_of test (numbered n (x ∷ [])) ≡ cond b (positive (n + 1) ∷ []) []
-  one_var n x true e = ap (λ c. map {A = ℕ × X} (λ p. positive p.0) (cond c ((n + 1, x) ∷ []) [])) e
-  one_var n x false e = ap (λ c. map {A = ℕ × X} (λ p. positive p.0) (cond c ((n + 1, x) ∷ []) [])) e
-
-  pub var-more : (xs : List X) (i : ℕ) (d : X) (b : Bool) → i < length xs → test (get_or xs i d) ≡ b → vars_of test (numbered 0 (take (i + 1) xs)) ≡ vars_of test (numbered 0 (take i xs)) ++ cond b (positive (i + 1) ∷ []) []
-  var-more xs i d b lt e =
-      let size : 0 + length (take i xs) ≡ i = omega (arith, length-take i xs) in
-      ap (λ ys. vars_of test (numbered 0 ys)) (take_more xs i d lt)
-      ∙ vars-append 0 (take i xs) (get_or xs i d ∷ [])
-      ∙ ap (λ m. vars_of test (numbered 0 (take i xs)) ++ vars_of test (numbered m (get_or xs i d ∷ []))) size
-      ∙ ap (λ ys. vars_of test (numbered 0 (take i xs)) ++ ys) (one_var i (get_or xs i d) b e)
-
-pub at_yes : (slot cycle : ℕ) (xs : List Launch) (i : ℕ) (d : Launch) → i < length xs → (get_or xs i d).slot ≡ slot → (get_or xs i d).cycle ≡ cycle → vars_of (is_at slot cycle) (numbered 0 (take (i + 1) xs)) ≡ vars_of (is_at slot cycle) (numbered 0 (take i xs)) ++ positive (i + 1) ∷ []
-at_yes slot cycle xs i d lt es et = var-more (is_at slot cycle) xs i d true lt (and_from ((get_or xs i d).slot == slot) ((get_or xs i d).cycle == cycle) (eq-eqb (get_or xs i d).slot slot es) (eq-eqb (get_or xs i d).cycle cycle et))
-
-at_false : (slot cycle : ℕ) (xs : List Launch) (i : ℕ) (d : Launch) → i < length xs → is_at slot cycle (get_or xs i d) ≡ false → vars_of (is_at slot cycle) (numbered 0 (take (i + 1) xs)) ≡ vars_of (is_at slot cycle) (numbered 0 (take i xs))
-at_false slot cycle xs i d lt e = var-more (is_at slot cycle) xs i d false lt e ∙ append-nil (vars_of (is_at slot cycle) (numbered 0 (take i xs)))
-
-pub at_no : (slot cycle : ℕ) (xs : List Launch) (i : ℕ) (d : Launch) → i < length xs → ((get_or xs i d).slot ≡ slot → (get_or xs i d).cycle ≡ cycle → ⊥) → vars_of (is_at slot cycle) (numbered 0 (take (i + 1) xs)) ≡ vars_of (is_at slot cycle) (numbered 0 (take i xs))
-at_no slot cycle xs i d lt n =
-    at_false slot cycle xs i d lt
-    (elim (cases_eq (get_or xs i d).slot slot) [
-      | inr f ↦ and_left ((get_or xs i d).slot == slot) ((get_or xs i d).cycle == cycle) (ne_eqb (get_or xs i d).slot slot f)
-      | inl e ↦ and_right ((get_or xs i d).slot == slot) ((get_or xs i d).cycle == cycle) (ne_eqb (get_or xs i d).cycle cycle (λ f. n e f))
-    ])

@@ -1,10 +1,10 @@
 -- Tables of what a graph says of its classes and rows.
 -- Source: this project.
-use Rattle.std.specs.Prelude.{◌≡◌, ◌==◌, ◌&&◌, ℕ, Bool, false, not, List, map, Option, Some, slice_get}
+use Rattle.std.specs.Prelude.{◌≡◌, ◌==◌, ◌&&◌, nat_lt, ℕ, Bool, false, true, not, List, length, map, set, Option, None, Some, slice_get, if◌then◌else◌}
 use Rattle.std.specs.Option.{option_map_or}
-use Rattle.std.specs.List.{filter, flat_map, list_any, range_with_len}
+use Rattle.std.specs.List.{filter, flat_map, list_any, range_with_len, slice_index_or}
 use Rattle.machine_table.specs.Tables.{use_of}
-use Rattle.launch_graph.specs.Graphs.{constant_of}
+use Rattle.launch_graph.specs.Graphs.{constant_of, or_else}
 use Rattle.schedule_meaning.specs.Launches.{instr_at, Operand}
 use Rattle.machine_table.specs.declared.tables.InstrKind.{InstrKind}
 use Rattle.machine_table.specs.declared.tables.Table.{Table}
@@ -50,3 +50,14 @@ slot_launches row cycles slot = map (launch_at row slot) (range_with_len 0 cycle
 abbrev pub slots_launches : Table → InstrKind → ℕ → ℕ → ℕ → List Launch
 slots_launches table instr row cycles slots =
     flat_map (slot_launches row cycles) (filter (may_use table instr) (range_with_len 0 slots))
+
+-- marks of classes with that of a class which passes, if there is one
+abbrev pub marked : List Bool → ℕ → Bool → List Bool
+marked marks class passes = if passes && nat_lt class (length marks) then set marks class true else marks
+
+-- constants of classes with one for a class that has none
+abbrev pub with_constant : List (Option ℕ) → ℕ → Option ℕ → List (Option ℕ)
+with_constant constants class constant =
+    if nat_lt class (length constants)
+    then set constants class (or_else (slice_index_or constants class None) constant)
+    else constants

@@ -1,7 +1,7 @@
 -- What the steps of the encoder add to a formula, and what they look up.
 -- Source: this project.
-use Rattle.std.specs.Prelude.{◌≡◌, ◌==◌, nat_le, ℕ, length, Bool, List, map, [], ◌∷◌, ◌++◌, Option, None, Some}
-use Rattle.std.specs.List.{list_any, flat_map, filter, range_with_len}
+use Rattle.std.specs.Prelude.{◌≡◌, ◌+◌, ◌==◌, nat_le, nat_lt, set, if◌then◌else◌, ℕ, length, Bool, List, map, [], ◌∷◌, ◌++◌, Option, None, Some}
+use Rattle.std.specs.List.{slice_index_or, list_any, flat_map, filter, range_with_len}
 use Rattle.cnf_core.specs.declared.literal.Lit.{Lit}
 use Rattle.cnf_core.specs.Formula.{Formula}
 use Rattle.machine_table.specs.declared.tables.Table.{Table}
@@ -10,14 +10,19 @@ use Rattle.launch_graph.specs.declared.graphs.SetClass.{SetClass}
 use Rattle.schedule_meaning.specs.Launches.{gives, ready_in}
 use Rattle.schedule_meaning.specs.declared.schedules.Launch.{Launch}
 use Rattle.launch_graph.specs.WellFormed.{next_class}
-use Rattle.cycle_encoding.specs.Shapes.{negative, numbered, vars_of}
+use Rattle.cycle_encoding.specs.Shapes.{negative, numbered, vars_of, counters, counters_vars}
 use Rattle.cycle_encoding.specs.Variables.{Seen, all_seen, made_classes}
-use Rattle.cycle_encoding.specs.Families.{is_seen, is_made_target}
+use Rattle.cycle_encoding.specs.Families.{is_at, is_seen, is_made_target}
 use Rattle.cycle_encoding.specs.Facts.{is_made_class}
 
 -- a formula with further clauses
 abbrev pub with_clauses : Formula → List (List Lit) → Formula
 with_clauses f cs = record f { clauses = f.clauses ++ cs }
+
+-- a formula with counters up to one over some groups of literals
+abbrev pub with_counters : Formula → List (List Lit) → Formula
+with_counters f groups =
+    record { vars = f.vars + counters_vars 1 groups; clauses = f.clauses ++ counters f.vars 1 groups }
 
 abbrev pub listed : {X : Type 0} → Option X → List X
 listed None = []
@@ -73,3 +78,12 @@ goals g xs sets = map (λ s. vars_of (gives g s.class) xs) (filter (is_made_targ
 -- the launches that give a class, with their variables
 unfoldable pub given_in : LaunchGraph → ℕ → List Launch → List (ℕ × Launch)
 given_in g class ls = filter (λ p. gives g class p.1) (numbered 0 ls)
+
+-- those in a slot and cycle
+unfoldable pub at_in : ℕ → ℕ → List Launch → List (ℕ × Launch)
+at_in slot cycle ls = filter (λ p. is_at slot cycle p.1) (numbered 0 ls)
+
+-- lists with one thing more at the end of that of a number, if there is one
+abbrev pub put_at : {X : Type 0} → List (List X) → ℕ → X → List (List X)
+put_at lists number x =
+    if nat_lt number (length lists) then set lists number (slice_index_or lists number [] ++ x ∷ []) else lists

@@ -21,7 +21,7 @@ use std::alloc::Global;
 
 /// How many slots the instruction may use.
 #[tactic(auto, using(crate::proofs::Tallies::count_more))]
-fn slot_count(table: &Table, instr: InstrKind) -> u64
+pub fn slot_count(table: &Table, instr: InstrKind) -> u64
     requires table { IsTable table.now }
     ensures value { result ≡ count_by (specs.may_use table.now instr) (range_with_len 0 (length table.now.slots)) }
     ensures few { result ≤ 8 }
@@ -254,6 +254,8 @@ pub fn cycle_sizes(alloc: Global, facts: &Facts, table: &Table, k: u32) -> Resul
     requires cycles { k ≤ 24 }
     ensures vars { IfOk result (λ sizes. sizes.vars ≡ counts.cycle_vars facts.now table.now k) }
     ensures clauses { IfOk result (λ sizes. sizes.clauses ≡ counts.cycle_size facts.now table.now k) }
+    ensures few_vars { IfOk result (λ sizes. sizes.vars < 2 ^ 50) }
+    ensures few_clauses { IfOk result (λ sizes. sizes.clauses < 2 ^ 63) }
 {
     let seen = made_count(facts) * (cluster_count(table) * u64::from(k));
     let places = place_sizes(facts, table, k);

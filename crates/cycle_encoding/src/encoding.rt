@@ -56,7 +56,7 @@ pub fn encode(
 }
 
 /// Makes variables.
-fn add_vars(cnf: &mut Cnf, count: u32)
+pub fn add_vars(cnf: &mut Cnf, count: u32)
     requires { cnf.old.vars + count < 2 ^ 29 }
     ensures { cnf.new ≡ record cnf.old { vars = cnf.old.vars + count } }
 {

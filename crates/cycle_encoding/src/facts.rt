@@ -1,20 +1,23 @@
 // What a graph says of its classes and rows, in tables.
 ghost use Rattle.std.specs.Prelude.{◌≡◌, ◌<◌, ◌^◌, ◌&&◌, IfOk, length};
+ghost use Rattle.word_ops.specs.Meanings as meanings;
 ghost use Rattle.launch_graph.specs.Graphs as graphs;
 ghost use Rattle.launch_graph.specs.WellFormed as wellformed;
 ghost use Rattle.launch_graph.specs.WellFormed.{IsLaunchGraph};
 ghost use Rattle.schedule_meaning.specs.Launches as launches;
+ghost use Rattle.cycle_encoding.specs.Counts.{row_is};
 ghost use Rattle.cycle_encoding.specs.Facts.{IsTableOf, is_made_class, operand_of};
 ghost use Rattle.cycle_encoding.specs.Families as families;
 ghost use Rattle.cycle_encoding.specs.Variables as variables;
 
+use crate::marks::{give_constant, mark, unmarked, without_constants};
 use items::NoMemory;
 use launch_graph::{LaunchGraph, SetClass, graphs_are_consistent};
 use machine_table::{InstrKind, Table};
 use schedule_meaning::{Launch, class_at, cluster_of, instr_at};
 use std::alloc::Global;
 use std::marker::Model;
-use word_ops::Sort;
+use word_ops::{Op, Sort};
 
 /// A graph whose classes and rows are looked up in constant time.
 #[derive(Drop)]
@@ -68,15 +71,21 @@ impl<'a> Facts<'a> {
         }
     }
 
+    /// Whether launches of the row give a word: all but stores and branches do.
+    pub fn gives_word(&self, row: u32) -> bool
+        ensures { result ≡ row_is self.now launches.gives_word row }
+    {
+        match self.instr_at(row) {
+            Some(InstrKind::StqU | InstrKind::Beq) | None => false,
+            Some(_) => true,
+        }
+    }
+
     /// Whether the launch is of a row of the class and gives its word.
     pub fn gives(&self, class: u32, launch: Launch) -> bool
         ensures { result ≡ launches.gives self.now class launch }
     {
-        let gives_word = match self.instr_at(launch.row) {
-            Some(InstrKind::StqU | InstrKind::Beq) | None => false,
-            Some(_) => true,
-        };
-        gives_word && class_at(self.graph, launch.row) == class
+        self.gives_word(launch.row) && class_at(self.graph, launch.row) == class
     }
 
     /// The cycle from which the launch's word is seen in a cluster.
@@ -117,7 +126,8 @@ impl<'a> Facts<'a> {
         }
     }
 
-    fn is_word_class(&self, class: u32) -> bool
+    /// Whether some row of the class gives a word.
+    pub fn is_word_class(&self, class: u32) -> bool
         ensures { result ≡ variables.is_word_class self.now class }
     {
         match self.words.get(class as usize) {
@@ -182,35 +192,52 @@ pub fn next_class(graph: &LaunchGraph) -> u32
     next
 }
 
-#[tactic(auto, using(crate::proofs::Tables::table_more))]
 fn constants(alloc: Global, graph: &LaunchGraph, classes: u32) -> Result<Vec<Option<u64>>, NoMemory>
     ensures { IfOk result (λ table. IsTableOf (graphs.constant_of graph.now) table.items) }
 {
-    let mut table = Vec::new(alloc);
-    for class in 0..classes {
-        table.push(graph.constant_of(class))?;
+    let mut table = without_constants(alloc, classes)?;
+    for row in graph.rows.as_slice() {
+        give_constant(&mut table, row.class, constant_in(row.op));
     }
     Ok(table)
 }
 
-#[tactic(auto, using(crate::proofs::Tables::table_more))]
+/// The constant that an operator is, if it is one.
+fn constant_in(op: Op) -> Option<u64>
+    ensures { result ≡ meanings.constant_in op }
+{
+    match op {
+        Op::Constant(constant) => Some(constant),
+        _ => None,
+    }
+}
+
+/// Whether an operator gives a word.
+fn gives_word(op: Op) -> bool
+    ensures { result ≡ variables.is_word (meanings.sort_of op) }
+{
+    match op.sort() {
+        Sort::Word => true,
+        Sort::Memory => false,
+    }
+}
+
 fn words(alloc: Global, graph: &LaunchGraph, classes: u32) -> Result<Vec<bool>, NoMemory>
     ensures { IfOk result (λ table. IsTableOf (variables.is_word_class graph.now) table.items) }
 {
-    let mut table = Vec::new(alloc);
-    for class in 0..classes {
-        table.push(is_word_class(graph, class))?;
+    let mut table = unmarked(alloc, classes)?;
+    for row in graph.rows.as_slice() {
+        mark(&mut table, row.class, gives_word(row.op));
     }
     Ok(table)
 }
 
-#[tactic(auto, using(crate::proofs::Tables::table_more))]
 fn inputs(alloc: Global, graph: &LaunchGraph, classes: u32) -> Result<Vec<bool>, NoMemory>
     ensures { IfOk result (λ table. IsTableOf (variables.is_input graph.now) table.items) }
 {
-    let mut table = Vec::new(alloc);
-    for class in 0..classes {
-        table.push(is_input(graph, class))?;
+    let mut table = unmarked(alloc, classes)?;
+    for input in graph.inputs.as_slice() {
+        mark(&mut table, input.class, true);
     }
     Ok(table)
 }

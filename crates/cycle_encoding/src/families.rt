@@ -3,13 +3,15 @@ ghost use Rattle.std.specs.Prelude.{◌≡◌, ◌+◌, ◌<◌, ◌≤◌, ◌^
 ghost use Rattle.std.specs.List.{filter};
 ghost use Rattle.cnf_core.specs.Formula.{IsLitOf};
 ghost use Rattle.launch_graph.specs.WellFormed.{IsLaunchGraph};
+ghost use Rattle.schedule_meaning.specs.Launches as launches;
 ghost use Rattle.schedule_meaning.specs.Launches.{gives};
 ghost use Rattle.machine_table.specs.Tables as tables;
 ghost use Rattle.cycle_encoding.specs.Facts.{IsTableOf};
 ghost use Rattle.cycle_encoding.specs.Families.{is_made, is_seen, makes, operand_clauses, seen_clauses, target_clauses};
 ghost use Rattle.cycle_encoding.specs.Shapes.{negative, numbered, positive, vars_of};
-ghost use Rattle.cycle_encoding.specs.Steps.{AreSeenVars, given_in, goals, is_ready, listed, of_thing, sights, with_clauses};
+ghost use Rattle.cycle_encoding.specs.Steps.{AreSeenVars, given_in, goals, is_ready, listed, of_thing, put_at, sights, with_clauses};
 
+use crate::buckets::{empty_lists, put_into};
 use crate::facts::next_class;
 use crate::seen::{Seen, SeenVars, seen_var};
 use crate::{Facts, made_operands};
@@ -17,7 +19,7 @@ use cnf_core::{Cnf, Lit};
 use items::{Items, NoMemory};
 use launch_graph::SetClass;
 use machine_table::Table;
-use schedule_meaning::{Launch, cluster_of};
+use schedule_meaning::{Launch, class_at, cluster_of};
 use std::alloc::Global;
 
 /// The launches that give a class, with their variables.
@@ -95,7 +97,7 @@ fn add_target(
 }
 
 /// The variables of launches.
-fn variables(alloc: Global, given: &[(u32, Launch)]) -> Result<Vec<Lit>, NoMemory>
+pub fn variables(alloc: Global, given: &[(u32, Launch)]) -> Result<Vec<Lit>, NoMemory>
     ensures { IfOk result (λ lits. lits.items ≡ map (λ p. positive p.0) given.now) }
 {
     let mut lits = Vec::new(alloc);
@@ -237,7 +239,7 @@ fn add_thing(
     }
 }
 
-/// For each class the launches that give it.
+/// For each class the launches that give it, in one pass over all launches.
 fn makers(
     alloc: Global,
     facts: &Facts,
@@ -248,11 +250,27 @@ fn makers(
     ensures { IfOk result (λ makers. IsTableOf
         (λ class. given_in facts.now class launches.now) makers.items) }
 {
-    let mut makers = Vec::new(alloc);
-    for class in 0..next_class(facts.graph()) {
-        makers.push(Items::from(giving(alloc, facts, launches, class)?))?;
+    let mut makers = empty_lists(alloc, next_class(facts.graph()))?;
+    for (index, launch) in launches.iter().enumerate() {
+        put_maker(&mut makers, facts, index as u32 + 1, *launch)?;
     }
     Ok(makers)
+}
+
+/// Puts a launch with its variable at the end of the list of its class, if it gives a word.
+fn put_maker(
+    makers: &mut Vec<Items<(u32, Launch)>>,
+    facts: &Facts,
+    var: u32,
+    launch: Launch,
+) -> Result<(), NoMemory>
+    ensures { OnOk result (makers.new.items ≡ (if launches.launches facts.now launches.gives_word launch
+        then put_at makers.old.items (launches.class_at facts.now launch.row) (var, launch) else makers.old.items)) }
+{
+    if facts.gives_word(launch.row) {
+        put_into(makers, class_at(facts.graph(), launch.row), var, launch)?;
+    }
+    Ok(())
 }
 
 fn add_rare_sight(

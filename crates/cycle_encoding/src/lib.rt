@@ -3,19 +3,23 @@
 //! The first variables of a formula are those of the launches; a plan tells which is which.
 #![tactic(auto)]
 
+mod buckets;
 mod counts;
 mod encoding;
 mod facts;
 mod families;
 mod launches;
 mod laws;
+mod marks;
 mod operands;
 mod plans;
 mod seen;
 mod slots;
 
-pub use encoding::encode;
-pub use facts::Facts;
+pub use counts::{Sizes, cycle_sizes, one_size, one_vars, row_count, slot_count};
+pub use encoding::{add_vars, encode};
+pub use facts::{Facts, next_class};
+pub use families::{add_implied, variables};
 pub use launches::{all_launches, cycles, may_use};
 pub use laws::cycle_counts_are_found;
 pub use operands::made_operands;

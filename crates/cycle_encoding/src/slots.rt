@@ -1,13 +1,14 @@
 // At most one launch in a slot and cycle.
-ghost use Rattle.std.specs.Prelude.{◌≡◌, ◌+◌, ◌*◌, ◌^◌, ◌<◌, ◌≤◌, ◌++◌, List, length, map, IfOk, OnOk};
+ghost use Rattle.std.specs.Prelude.{◌≡◌, ◌==◌, ◌+◌, ◌^◌, ◌<◌, ◌≤◌, ◌++◌, if◌then◌else◌, length, map, IfOk, OnOk};
 ghost use Rattle.std.specs.List.{range_with_len};
-ghost use Rattle.cnf_core.specs.Formula.{Formula};
-ghost use Rattle.schedule_meaning.specs.declared.schedules.Launch.{Launch};
-ghost use Rattle.cycle_encoding.specs.Shapes.{numbered, vars_of, counters, counters_vars, counters_size};
-ghost use Rattle.cycle_encoding.specs.Families.{is_at, slot_row, slot_rows};
+ghost use Rattle.cycle_encoding.specs.Shapes.{numbered, counters, counters_vars, counters_size};
+ghost use Rattle.cycle_encoding.specs.Families.{slot_row, slot_rows};
+ghost use Rattle.cycle_encoding.specs.Steps.{at_in, put_at};
 
-use cnf_core::{Cnf, Lit, at_most_one, counters_count};
-use items::NoMemory;
+use crate::buckets::{empty_lists, put_into};
+use crate::families::variables;
+use cnf_core::{Cnf, at_most_one, counters_count};
+use items::{Items, NoMemory};
 use schedule_meaning::Launch;
 use std::alloc::Global;
 
@@ -47,32 +48,43 @@ fn add_slot(
     ensures { OnOk result (cnf.new ≡ record { vars = cnf.old.vars + counters_vars 1 (slot_row slot k (numbered 0 launches.now)); clauses = cnf.old.clauses ++ counters cnf.old.vars 1 (slot_row slot k (numbered 0 launches.now)) }) }
 {
     counters_count();
+    let lists = slot_lists(alloc, launches, slot, k)?;
     for cycle in 0..k {
-        let lits = literals_at(alloc, launches, slot, cycle)?;
+        let lits = variables(alloc, lists.as_slice()[cycle as usize].as_slice())?;
         at_most_one(cnf, &lits)?;
     }
     Ok(())
 }
 
-/// The variables of the launches in a slot and cycle.
-#[tactic(auto, using(crate::proofs::Walk::at_yes, crate::proofs::Walk::at_no))]
-fn literals_at(
+/// For each cycle the launches of a slot, in one pass over all launches.
+fn slot_lists(
     alloc: Global,
     launches: &[Launch],
     slot: u32,
-    cycle: u32,
-) -> Result<Vec<Lit>, NoMemory>
+    k: u32,
+) -> Result<Vec<Items<(u32, Launch)>>, NoMemory>
     requires { length launches.now < 2 ^ 29 }
-    ensures { IfOk result (λ v. v.items ≡ vars_of (is_at slot cycle) (numbered 0 launches.now)) }
+    ensures { IfOk result (λ lists. lists.items ≡ map (λ t. at_in slot t launches.now) (range_with_len 0 k)) }
 {
-    let mut lits = Vec::new(alloc);
+    let mut lists = empty_lists(alloc, k)?;
     for (index, launch) in launches.iter().enumerate() {
-        if launch.slot == slot && launch.cycle == cycle {
-            lits.push(Lit {
-                var: index as u32 + 1,
-                positive: true,
-            })?;
-        }
+        put_in_slot(&mut lists, slot, index as u32 + 1, *launch)?;
     }
-    Ok(lits)
+    Ok(lists)
+}
+
+/// Puts a launch with its variable at the end of the list of its cycle, if it is in the slot.
+fn put_in_slot(
+    lists: &mut Vec<Items<(u32, Launch)>>,
+    slot: u32,
+    var: u32,
+    launch: Launch,
+) -> Result<(), NoMemory>
+    ensures { OnOk result (lists.new.items ≡ (if launch.slot == slot
+        then put_at lists.old.items launch.cycle (var, launch) else lists.old.items)) }
+{
+    if launch.slot == slot {
+        put_into(lists, launch.cycle, var, launch)?;
+    }
+    Ok(())
 }

@@ -7,3 +7,15 @@ pub mod Complete
 pub mod Making
 pub mod Stored
 pub mod Sized
+pub mod Found
+pub mod MemoryClasses
+pub mod Grid
+pub mod HeldPlaces
+pub mod CountSteps
+pub mod Counters
+pub mod AddSteps
+pub mod Extended
+pub mod TakenPlaces
+pub mod HeldSteps
+pub mod Limits
+pub mod Composed

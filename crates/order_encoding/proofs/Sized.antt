@@ -17,7 +17,7 @@ use Rattle.order_encoding.specs.OrderVariables.{memory_classes, all_held, all_ta
 use Rattle.order_encoding.specs.OrderFamilies.{stores_at, uses_memory, waits, branches_by, is_held_at, is_taken_at, held_groups, store_groups, entry_clauses, memory_clauses, kept_clauses, last_clauses, branch_groups, register_clauses, register_groups}
 use Rattle.cycle_encoding.specs.Families.{any}
 use Rattle.cycle_encoding.specs.CycleFormula.{Listed, wide, launch_vars, after_cycles, cycle_part}
-use Rattle.order_encoding.specs.WholeFormula.{held_vars, before_stores, store_vars, before_held, memory_groups, after_memory, come_cycles, come_vars, before_branch, after_guard, taken_vars, before_pool, memory_part, guard_part, pool_part, whole_formula}
+use Rattle.order_encoding.specs.WholeFormula.{held_vars, before_stores, store_vars, before_held, memory_groups, after_memory, come_cycles, come_vars, before_branch, after_guard, taken_vars, before_pool, memory_part, guard_part, pool_part, memory_formula, guard_formula, whole_formula}
 use Rattle.cycle_encoding.specs.Counts.{one_if, row_is, sum_launches, cycle_vars, cycle_size}
 use Rattle.order_encoding.specs.OrderCounts.{store_count, held_count, memory_vars, memory_size, branch_count, guard_vars, guard_size, taken_count, pool_vars, pool_size}
 use Rattle.cycle_encoding.proofs.Counting.{sum-same, count-any}
@@ -79,7 +79,7 @@ module _ (g : LaunchGraph) (table : Table) (k : ℕ) where
       ∙ ap (λ n. n + sum_by (λ (c : List Lit). h (length c)) (store_groups g k xs)) a
       ∙ ap (λ n. (k + 1) * h (held_count g table k) + n) b
 
-  memory-vars : after_memory g table k e ≡ cycle_vars g table k + memory_vars g table k
+  pub memory-vars : after_memory g table k e ≡ cycle_vars g table k + memory_vars g table k
   memory-vars =
       let m = counters_vars 1 (memory_groups g table k e) in
       let h = length (all_held g k) in
@@ -138,7 +138,7 @@ module _ (g : LaunchGraph) (table : Table) (k : ℕ) where
       ∙ ap (λ m. k + m) (sum_by-cons (λ (c : List Lit). at_most_vars 1 (length c)) lits [] ∙ (let z : at_most_vars 1 (length lits) + 0 ≡ at_most_vars 1 (length lits) = omega arith in z) ∙ ap (at_most_vars 1) e)
   guard_vars_in false n lits e = refl
 
-  guard-vars : after_guard g table k e ≡ cycle_vars g table k + memory_vars g table k + guard_vars g table k
+  pub guard-vars : after_guard g table k e ≡ cycle_vars g table k + memory_vars g table k + guard_vars g table k
   guard-vars =
       let b = length (come_cycles g table k e) in
       let c = counters_vars 1 (branch_groups g (launch_vars g table k e)) in
@@ -218,6 +218,17 @@ module _ (g : LaunchGraph) (table : Table) (k : ℕ) where
         length-append (register_clauses g xs us) (counters (before_pool g table k e) p (register_groups us))
         ∙ ap (λ n. n + length (counters (before_pool g table k e) p (register_groups us))) (size-implied f 0 (all_launches g table k) ∙ sum-same (λ l. length (f l)) (λ (l : Launch). one_if (row_is g gives_word l.row)) (all_launches g table k) (λ l. size-one (launches g gives_word l) (vars_of (is_taken_at l.slot l.cycle) us)) ∙ sum-rows g table k (λ row. one_if (row_is g gives_word row)))
         ∙ ap (λ n. sum_launches g table k (λ row. one_if (row_is g gives_word row)) + n) (counters-size p size (before_pool g table k e) (register_groups us) ∙ sum_by-cons (λ (c : List Lit). at_most_size p (length c)) (vars_of any us) [] ∙ (let z : at_most_size p (length (vars_of any us)) + 0 ≡ at_most_size p (length (vars_of any us)) = omega arith in z) ∙ ap (at_most_size p) taken-lits)
+
+    pub with-memory-size : length (memory_formula g table k e).clauses ≡ cycle_size g table k + memory_size g table k
+    with-memory-size =
+        let a = cycle_part g table k e in
+        let b = memory_part g table k e in
+        length-append a b ∙ ap (λ n. n + length b) (cycle-size g table k size) ∙ ap (λ n. cycle_size g table k + n) memory-size
+
+    pub with-guard-size : length (guard_formula g table k e).clauses ≡ cycle_size g table k + memory_size g table k + guard_size g table k
+    with-guard-size =
+        let c = guard_part g table k e in
+        length-append (cycle_part g table k e ++ memory_part g table k e) c ∙ ap (λ n. n + length c) with-memory-size ∙ ap (λ n. cycle_size g table k + memory_size g table k + n) guard-size
 
     pub whole-size : length (whole_formula g table k e).clauses ≡ cycle_size g table k + memory_size g table k + guard_size g table k + pool_size g table k
     whole-size =

@@ -1,5 +1,6 @@
 pub mod OrderVariables
 pub mod OrderFamilies
 pub mod WholeFormula
+pub mod OrderSteps
 pub mod OrderCounts
 pub mod Worked

@@ -11,7 +11,7 @@ ghost use Rattle.schedule_meaning.specs.declared.schedules.Launch.{Launch as Lau
 ghost use Rattle.cycle_encoding.specs.Shapes.{shown};
 ghost use Rattle.cycle_encoding.specs.CycleFormula.{launch_vars, wide};
 ghost use Rattle.cycle_encoding.specs.Counts.{cycle_vars, cycle_size};
-ghost use Rattle.order_encoding.specs.WholeFormula.{whole_formula};
+ghost use Rattle.order_encoding.specs.WholeFormula.{guard_formula, memory_formula, whole_formula};
 ghost use Rattle.order_encoding.specs.OrderCounts.{memory_vars, memory_size, guard_vars, guard_size, pool_vars, pool_size};
 ghost use Rattle.order_encoding.specs.Worked.{one_sum_clauses, one_sum_graph, sum_clauses};
 
@@ -38,6 +38,27 @@ pub fn counts_are_found()
     ensures vars { (g : Graph) (table : TableOf) (k : ℕ) → (whole_formula g table k (wide g table k)).vars
         ≡ cycle_vars g table k + memory_vars g table k + guard_vars g table k + pool_vars g table k }
     ensures clauses { (g : Graph) (table : TableOf) (k : ℕ)
+        → length (whole_formula g table k (wide g table k)).clauses
+        ≡ cycle_size g table k + memory_size g table k + guard_size g table k + pool_size g table k }
+{
+    counters_count();
+}
+
+/// The counts of the formula with memory, and of the one with memory and a guard's branch too, as they are found row by
+/// row.
+pub fn parts_are_counted()
+    ensures memory_vars { (g : Graph) (table : TableOf) (k : ℕ) → (memory_formula g table k (wide g table k)).vars
+        ≡ cycle_vars g table k + memory_vars g table k }
+    ensures memory_clauses { (g : Graph) (table : TableOf) (k : ℕ)
+        → length (memory_formula g table k (wide g table k)).clauses ≡ cycle_size g table k + memory_size g table k }
+    ensures guard_vars { (g : Graph) (table : TableOf) (k : ℕ) → (guard_formula g table k (wide g table k)).vars
+        ≡ cycle_vars g table k + memory_vars g table k + guard_vars g table k }
+    ensures guard_clauses { (g : Graph) (table : TableOf) (k : ℕ)
+        → length (guard_formula g table k (wide g table k)).clauses
+        ≡ cycle_size g table k + memory_size g table k + guard_size g table k }
+    ensures whole_vars { (g : Graph) (table : TableOf) (k : ℕ) → (whole_formula g table k (wide g table k)).vars
+        ≡ cycle_vars g table k + memory_vars g table k + guard_vars g table k + pool_vars g table k }
+    ensures whole_clauses { (g : Graph) (table : TableOf) (k : ℕ)
         → length (whole_formula g table k (wide g table k)).clauses
         ≡ cycle_size g table k + memory_size g table k + guard_size g table k + pool_size g table k }
 {

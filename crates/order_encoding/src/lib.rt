@@ -1,7 +1,25 @@
 //! The clauses of a schedule: memory in order, a guard's branch, registers; and the whole formula, which can be
 //! satisfied exactly where a schedule fits.
+//!
+//! `full` gives the whole formula at once; `add_memory`, `add_guard` and `add_pool` add its parts one after another to
+//! the formula of cycles, slots and values.
 #![tactic(auto)]
 
+mod counts;
+mod cycles;
+mod guard;
+mod held;
+mod kinds;
 mod laws;
+mod memory;
+mod pool;
+mod whole;
 
-pub use laws::{clauses_say_fits, counts_are_found, worked_formulas};
+pub use guard::add_guard;
+pub use laws::{clauses_say_fits, counts_are_found, parts_are_counted, worked_formulas};
+pub use memory::add_memory;
+pub use pool::add_pool;
+pub use whole::full;
+
+#[cfg(test)]
+mod tests;

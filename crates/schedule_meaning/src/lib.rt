@@ -25,6 +25,7 @@ pub use lookups::{
 };
 pub use readers::{may_take, words_before};
 pub use schedules::{Launch, Schedule};
+pub use stores::memory_target;
 pub use worked::worked_schedules;
 
 #[cfg(test)]

@@ -108,8 +108,8 @@ pub(crate) fn keeps_memory(graph: &LaunchGraph, list: &[Launch], at: usize, laun
     !is_store(graph, launch) || no_store_before(graph, list, at, launch.cycle)
 }
 
-/// The class of the first set of the memory, or of the memory at entry.
-fn memory_target(graph: &LaunchGraph) -> u32
+/// The class of the memory target: that of the first set named M, or of the memory at entry.
+pub fn memory_target(graph: &LaunchGraph) -> u32
     ensures { result ≡ graphs.memory_target graph.now }
 {
     for set in graph.sets.as_slice() {

@@ -1,5 +1,5 @@
-use Rattle.std.proofs.Common.{◌≡◌, ◌≤◌, ◌*◌}
-use Rattle.std.specs.List.{count_by, sum_by, range_with_len}
+use Rattle.std.proofs.Common.{◌≡◌, ◌≤◌}
+use Rattle.std.specs.List.{count_by, range_with_len}
 use Rattle.cycle_encoding.specs.Counts.{row_has}
 use Rattle.cycle_encoding.proofs.counts.at_count.Given as goal
 

@@ -1,5 +1,5 @@
-use Rattle.std.proofs.Common.{◌≡◌, ◌≤◌, ◌*◌}
-use Rattle.std.specs.List.{count_by, sum_by, range_with_len}
+use Rattle.std.proofs.Common.{◌≡◌, ◌≤◌}
+use Rattle.std.specs.List.{count_by, range_with_len}
 use Rattle.cycle_encoding.specs.Steps.{has_cluster}
 use Rattle.cycle_encoding.proofs.counts.cluster_count.Given as goal
 

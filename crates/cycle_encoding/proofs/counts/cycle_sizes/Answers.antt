@@ -1,4 +1,4 @@
-use Rattle.std.proofs.Common.{◌≡◌, ◌∙◌, arith}
+use Rattle.std.proofs.Common.{arith}
 use Rattle.cycle_encoding.proofs.Tallies.{seen_is}
 use Rattle.cycle_encoding.proofs.counts.cycle_sizes.Goals as goal
 

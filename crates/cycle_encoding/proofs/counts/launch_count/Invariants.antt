@@ -1,5 +1,5 @@
 use Rattle.std.proofs.Common.{◌≡◌, ◌≤◌, ◌*◌}
-use Rattle.std.specs.List.{count_by, sum_by, range_with_len}
+use Rattle.std.specs.List.{sum_by, range_with_len}
 use Rattle.cycle_encoding.specs.Counts.{row_count}
 use Rattle.cycle_encoding.proofs.counts.launch_count.Given as goal
 

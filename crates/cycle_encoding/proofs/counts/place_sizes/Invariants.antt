@@ -1,9 +1,7 @@
-use Rattle.std.proofs.Common.{◌≡◌, ◌≤◌, ◌*◌, ◌^◌, take}
-use Rattle.std.specs.List.{count_by, sum_by, range_with_len}
+use Rattle.std.proofs.Common.{◌≡◌, ◌≤◌, ◌*◌, ◌^◌}
+use Rattle.std.specs.List.{sum_by, range_with_len}
 use Rattle.cnf_core.specs.Counter.{at_most_vars, at_most_size}
-use Rattle.schedule_meaning.specs.Launches.{operands_at}
-use Rattle.cycle_encoding.specs.Families.{is_made, is_made_target}
-use Rattle.cycle_encoding.specs.Counts.{row_count, at_count}
+use Rattle.cycle_encoding.specs.Counts.{at_count}
 use Rattle.cycle_encoding.proofs.counts.place_sizes.Given as goal
 
 abbrev pub invariant-loop-slot : goal.invariant-loop-slot

@@ -1,4 +1,4 @@
-use Rattle.std.proofs.Common.{◌≡◌, ◌∙◌, ◌≤◌, arith}
+use Rattle.std.proofs.Common.{◌∙◌, arith}
 use Rattle.cycle_encoding.specs.Counts.{row_count}
 use Rattle.cycle_encoding.proofs.Arities.{times_is, times_few}
 use Rattle.cycle_encoding.proofs.counts.row_operands.Goals as goal

@@ -1,8 +1,7 @@
-use Rattle.std.proofs.Common.{◌≡◌, ◌∙◌, ◌+◌, ◌<◌, ◌≤◌, ◌^◌, ℕ, List, length, ap, sym, subst}
+use Rattle.std.proofs.Common.{◌≡◌, ◌∙◌, ◌+◌, ◌<◌, ◌^◌, ℕ, List, length, ap, sym, subst}
 use Rattle.cnf_core.specs.declared.literal.Lit.{Lit}
-use Rattle.cnf_core.specs.Formula.{Formula}
 use Rattle.schedule_meaning.specs.declared.schedules.Launch.{Launch}
-use Rattle.cycle_encoding.specs.Shapes.{numbered, counters, counters_vars, counters_size}
+use Rattle.cycle_encoding.specs.Shapes.{numbered, counters_size}
 use Rattle.cycle_encoding.specs.Variables.{Seen, all_launches, all_seen, made_classes}
 use Rattle.cycle_encoding.specs.Families.{target_clauses, operand_clauses, seen_clauses, slot_rows, slot_groups}
 use Rattle.cycle_encoding.specs.Steps.{with_clauses}

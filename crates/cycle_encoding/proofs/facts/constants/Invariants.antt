@@ -1,7 +1,7 @@
-use Rattle.std.proofs.Common.{◌≡◌, map}
+use Rattle.std.proofs.Common.{◌≡◌, take, map}
 use Rattle.std.specs.List.{range_with_len}
-use Rattle.launch_graph.specs.Graphs.{constant_of}
+use Rattle.launch_graph.specs.Graphs.{constant_among}
 use Rattle.cycle_encoding.proofs.facts.constants.Given as goal
 
-abbrev pub invariant-loop-class : goal.invariant-loop-class
-invariant-loop-class l = l.table.items ≡ map (constant_of l.graph) (range_with_len 0 l.class)
+abbrev pub invariant-loop-row : goal.invariant-loop-row
+invariant-loop-row l = l.table.items ≡ map (constant_among (take l.row-index l.graph.rows)) (range_with_len 0 l.classes)

@@ -1,6 +1,23 @@
-use Rattle.cycle_encoding.proofs.Tables.{table_of}
+use Rattle.std.proofs.Common.{◌∙◌, ◌<◌, ◌≤◌, ◌==◌, ℕ, true, List, ap, sym, subst, get_or, map}
+use Rattle.std.specs.Prelude.{length}
+use Rattle.std.specs.List.{list_any, range_with_len}
+use Rattle.std.proofs.lemmas.List.{take_all}
+use Rattle.launch_graph.specs.declared.graphs.InputClass.{InputClass}
 use Rattle.cycle_encoding.specs.Variables.{is_input}
+use Rattle.cycle_encoding.proofs.Marking.{mark_step, and_true}
+use Rattle.cycle_encoding.proofs.Tables.{table_of}
 use Rattle.cycle_encoding.proofs.facts.inputs.Goals as goal
 
+pub loop-input-preserved : goal.loop-input-preserved
+loop-input-preserved c =
+    let inputs = c.args.graph.now.inputs in
+    let i = c.loop-input.input-index in
+    let input = c.input-item.result in
+    let at = c.input-item.is ∙ ap (λ (xs : List InputClass). get_or xs i input) c.as_slice-input-items.ensures in
+    let test = λ (class : ℕ) (x : InputClass). x.class == class in
+    mark_step test inputs i input c.args.classes input.class true c.loop-input.table.items c.mark.new.marks.items (subst (λ (xs : List InputClass). i < length xs) c.as_slice-input-items.ensures c.loop-input-test.true) (λ class. ap (test class) (sym at) ∙ sym (and_true (input.class == class))) c.loop-input.invariant c.mark.ensures
+
 pub returns : goal.returns
-returns c = table_of (is_input c.args.graph.now) c.loop-class.class c.loop-class.table.items c.loop-class.invariant
+returns c =
+    let inputs = c.args.graph.now.inputs in
+    table_of (is_input c.args.graph.now) c.args.classes c.loop-input.table.items (c.loop-input.invariant ∙ ap (λ (xs : List InputClass). map (λ (class : ℕ). list_any (λ (x : InputClass). x.class == class) xs) (range_with_len 0 c.args.classes)) (take_all c.loop-input.input-index inputs (subst (λ (xs : List InputClass). length xs ≤ c.loop-input.input-index) c.as_slice-input-items.ensures c.loop-input-test.false)))

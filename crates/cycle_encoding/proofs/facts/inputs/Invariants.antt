@@ -1,7 +1,8 @@
-use Rattle.std.proofs.Common.{◌≡◌, map}
+use Rattle.std.proofs.Common.{◌≡◌, take, map}
 use Rattle.std.specs.List.{range_with_len}
-use Rattle.cycle_encoding.specs.Variables.{is_input}
+use Rattle.std.specs.Prelude.{◌==◌}
+use Rattle.std.specs.List.{list_any}
 use Rattle.cycle_encoding.proofs.facts.inputs.Given as goal
 
-abbrev pub invariant-loop-class : goal.invariant-loop-class
-invariant-loop-class l = l.table.items ≡ map (is_input l.graph) (range_with_len 0 l.class)
+abbrev pub invariant-loop-input : goal.invariant-loop-input
+invariant-loop-input l = l.table.items ≡ map (λ c. list_any (λ i. i.class == c) (take l.input-index l.graph.inputs)) (range_with_len 0 l.classes)

@@ -1,12 +1,10 @@
-use Rattle.std.proofs.Common.{◌≡◌, ◌∙◌, ◌+◌, ◌<◌, ◌^◌, List, ℕ, map, sym, subst, arith}
+use Rattle.std.proofs.Common.{◌∙◌, ◌+◌, map, arith}
 use Rattle.std.specs.List.{filter}
-use Rattle.std.specs.Prelude.{length}
 use Rattle.machine_table.specs.Tables.{cluster_of}
 use Rattle.schedule_meaning.specs.Launches.{Operand, operands_at}
 use Rattle.schedule_meaning.specs.declared.schedules.Launch.{Launch}
 use Rattle.cycle_encoding.specs.Shapes.{numbered, vars_of}
 use Rattle.cycle_encoding.specs.Families.{is_made, is_seen}
-use Rattle.cycle_encoding.specs.Steps.{sights}
 use Rattle.cycle_encoding.proofs.Adding.{implied_step, implied_room}
 use Rattle.cycle_encoding.proofs.FamilySteps.{sights-are, room_of}
 use Rattle.cycle_encoding.proofs.families.add_operands.Goals as goal

@@ -1,9 +1,8 @@
-use Rattle.std.proofs.Common.{◌≡◌, ◌++◌, ◌∷◌, [], take, map}
-use Rattle.std.specs.List.{filter, range_with_len}
-use Rattle.schedule_meaning.specs.Launches.{gives}
-use Rattle.cycle_encoding.specs.Shapes.{numbered, implied, negative, positive, vars_of}
-use Rattle.cycle_encoding.specs.Families.{makes, is_made, is_seen}
-use Rattle.cycle_encoding.specs.Steps.{goals, is_ready, of_thing, sights, with_clauses}
+use Rattle.std.proofs.Common.{◌≡◌, take, map}
+use Rattle.std.specs.List.{filter}
+use Rattle.cycle_encoding.specs.Shapes.{numbered, implied, vars_of}
+use Rattle.cycle_encoding.specs.Families.{is_made, is_seen}
+use Rattle.cycle_encoding.specs.Steps.{with_clauses}
 use Rattle.machine_table.specs.Tables.{cluster_of}
 use Rattle.schedule_meaning.specs.Launches.{operands_at}
 use Rattle.cycle_encoding.proofs.families.add_operands.Given as goal

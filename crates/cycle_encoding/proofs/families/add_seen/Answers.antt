@@ -1,10 +1,9 @@
-use Rattle.std.proofs.Common.{◌≡◌, ◌∙◌, ◌+◌, [], ◌∷◌, refl, arith, List, ap, subst, take}
+use Rattle.std.proofs.Common.{◌+◌, [], ◌∷◌, refl, arith, List, subst}
 use Rattle.std.specs.Prelude.{length, ◌<◌}
-use Rattle.cnf_core.specs.declared.literal.Lit.{Lit}
 use Rattle.cycle_encoding.specs.Shapes.{numbered, vars_of}
 use Rattle.cycle_encoding.specs.Variables.{Seen}
 use Rattle.cycle_encoding.specs.Families.{makes}
-use Rattle.cycle_encoding.proofs.Adding.{implied_step, implied_room}
+use Rattle.cycle_encoding.proofs.Adding.{implied_room}
 use Rattle.cycle_encoding.proofs.FamilySteps.{seen_step}
 use Rattle.cycle_encoding.proofs.families.add_seen.Goals as goal
 

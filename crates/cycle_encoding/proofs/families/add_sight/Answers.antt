@@ -1,7 +1,4 @@
-use Rattle.std.proofs.Common.{◌≡◌, ◌∙◌, ◌∷◌, [], ap}
-use Rattle.std.specs.Prelude.{List}
-use Rattle.cnf_core.specs.declared.literal.Lit.{Lit}
-use Rattle.cycle_encoding.specs.Steps.{with_clauses}
+use Rattle.std.proofs.Common.{◌∙◌}
 use Rattle.cycle_encoding.proofs.Adding.{then_added}
 use Rattle.cycle_encoding.proofs.FamilySteps.{clause-is, clause-exists}
 use Rattle.cycle_encoding.proofs.families.add_sight.Goals as goal

@@ -1,13 +1,13 @@
-use Rattle.std.proofs.Common.{◌≡◌, ◌∙◌, ◌+◌, ◌∷◌, ◌++◌, ◌≤◌, [], ap, sym, subst, take, arith, ℕ, List}
-use Rattle.std.specs.Prelude.{length, slice_index, All}
+use Rattle.std.proofs.Common.{sym, subst, take, arith, List}
+use Rattle.std.specs.Prelude.{All}
 use Rattle.cnf_core.specs.declared.literal.Lit.{Lit}
-use Rattle.cnf_core.specs.Formula.{Formula, IsLitOf}
+use Rattle.cnf_core.specs.Formula.{IsLitOf}
 use Rattle.machine_table.specs.Tables.{cluster_of}
-use Rattle.cycle_encoding.specs.Shapes.{numbered, negative}
+use Rattle.cycle_encoding.specs.Shapes.{numbered}
 use Rattle.cycle_encoding.specs.Families.{is_seen}
-use Rattle.cycle_encoding.specs.Steps.{listed, of_thing, sights, with_clauses}
+use Rattle.cycle_encoding.specs.Steps.{listed, of_thing, sights}
 use Rattle.cycle_encoding.proofs.Blocks.{vars-over}
-use Rattle.cycle_encoding.proofs.Adding.{added, vars-with}
+use Rattle.cycle_encoding.proofs.Adding.{vars-with}
 use Rattle.cycle_encoding.proofs.FamilySteps.{sight_step}
 use Rattle.cycle_encoding.proofs.families.add_sights.Goals as goal
 

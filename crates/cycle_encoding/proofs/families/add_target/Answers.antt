@@ -1,7 +1,7 @@
-use Rattle.std.proofs.Common.{◌≡◌, ◌∙◌, ap, sym, ℕ, List, map}
+use Rattle.std.proofs.Common.{◌∙◌, ap, sym, ℕ, List, map}
 use Rattle.schedule_meaning.specs.declared.schedules.Launch.{Launch}
 use Rattle.cycle_encoding.specs.Shapes.{numbered, positive}
-use Rattle.cycle_encoding.proofs.FamilySteps.{given_exist, given_vars, added-target, no-target}
+use Rattle.cycle_encoding.proofs.FamilySteps.{given_exist, given_vars, added-target}
 use Rattle.cycle_encoding.proofs.families.add_target.Goals as goal
 
 pub add-requires-clause-exist : goal.add-requires-clause-exist

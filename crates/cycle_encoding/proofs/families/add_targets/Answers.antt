@@ -1,8 +1,7 @@
-use Rattle.std.proofs.Common.{◌≡◌, ◌∙◌, ◌<◌, List, ap, sym, subst}
-use Rattle.std.specs.Prelude.{length, slice_index_or}
+use Rattle.std.proofs.Common.{◌∙◌, ap}
 use Rattle.launch_graph.specs.declared.graphs.LaunchGraph.{LaunchGraph}
 use Rattle.cycle_encoding.specs.Shapes.{numbered}
-use Rattle.cycle_encoding.proofs.FamilySteps.{goals_step, goals_room, target_step, target_room}
+use Rattle.cycle_encoding.proofs.FamilySteps.{target_step, target_room}
 use Rattle.cycle_encoding.proofs.families.add_targets.Goals as goal
 
 pub add_target-requires-clause-room : goal.add_target-requires-clause-room

@@ -1,4 +1,4 @@
-use Rattle.std.proofs.Common.{◌≡◌, ◌∙◌}
+use Rattle.std.proofs.Common.{◌∙◌}
 use Rattle.cycle_encoding.specs.Steps.{given_in}
 use Rattle.cycle_encoding.proofs.Tables.{in_table}
 use Rattle.cycle_encoding.proofs.families.add_thing.Goals as goal

@@ -1,5 +1,4 @@
-use Rattle.std.proofs.Common.{◌≡◌, ◌++◌, ◌∷◌, [], take, map}
-use Rattle.std.specs.List.{filter, range_with_len}
+use Rattle.std.proofs.Common.{◌≡◌, take}
 use Rattle.cycle_encoding.specs.Steps.{given_in}
 use Rattle.cycle_encoding.proofs.families.giving.Given as goal
 

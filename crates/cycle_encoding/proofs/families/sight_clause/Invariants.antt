@@ -1,8 +1,7 @@
-use Rattle.std.proofs.Common.{◌≡◌, ◌++◌, ◌∷◌, [], take, map}
-use Rattle.std.specs.List.{filter, range_with_len}
-use Rattle.schedule_meaning.specs.Launches.{gives}
-use Rattle.cycle_encoding.specs.Shapes.{numbered, implied, negative, positive, vars_of}
-use Rattle.cycle_encoding.specs.Steps.{goals, is_ready, of_thing, sights, with_clauses}
+use Rattle.std.proofs.Common.{◌≡◌, ◌∷◌, take, map}
+use Rattle.std.specs.List.{filter}
+use Rattle.cycle_encoding.specs.Shapes.{negative, positive}
+use Rattle.cycle_encoding.specs.Steps.{is_ready}
 use Rattle.cycle_encoding.proofs.families.sight_clause.Given as goal
 
 abbrev pub invariant-loop-maker : goal.invariant-loop-maker

@@ -1,8 +1,5 @@
-use Rattle.std.proofs.Common.{◌≡◌, ◌++◌, ◌∷◌, [], take, map}
-use Rattle.std.specs.List.{filter, range_with_len}
-use Rattle.schedule_meaning.specs.Launches.{gives}
-use Rattle.cycle_encoding.specs.Shapes.{numbered, implied, negative, positive, vars_of}
-use Rattle.cycle_encoding.specs.Steps.{goals, is_ready, of_thing, sights, with_clauses}
+use Rattle.std.proofs.Common.{◌≡◌, take, map}
+use Rattle.cycle_encoding.specs.Shapes.{positive}
 use Rattle.cycle_encoding.proofs.families.variables.Given as goal
 
 abbrev pub invariant-loop-var : goal.invariant-loop-var

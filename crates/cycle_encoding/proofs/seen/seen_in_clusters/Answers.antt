@@ -1,5 +1,4 @@
-use Rattle.std.proofs.Common.{◌≡◌, ◌+◌, ◌∙◌, ap, sym, arith}
-use Rattle.cycle_encoding.specs.Steps.{clusters_before}
+use Rattle.std.proofs.Common.{arith}
 use Rattle.cycle_encoding.proofs.Before.{clusters_more}
 use Rattle.cycle_encoding.proofs.seen.seen_in_clusters.Goals as goal
 

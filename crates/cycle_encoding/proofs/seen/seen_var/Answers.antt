@@ -1,4 +1,4 @@
-use Rattle.std.proofs.Common.{◌≡◌, ℕ, List, ◌≤◌, ◌<◌, ◌+◌, ◌∙◌, sym, ap, subst, arith}
+use Rattle.std.proofs.Common.{ℕ, List, ◌≤◌, ◌<◌, ◌∙◌, sym, ap, subst, arith}
 use Rattle.std.specs.Prelude.{length, slice_index}
 use Rattle.cycle_encoding.proofs.Before.{none-class, none-late-class, none-late-cluster, none-cluster, none-cycle, var-within, var-is}
 use Rattle.cycle_encoding.proofs.seen.seen_var.Goals as goal

@@ -1,4 +1,4 @@
-use Rattle.std.proofs.Common.{◌≡◌, ◌++◌, ◌∷◌, [], ◌∙◌, ap, sym, refl, map, cond}
+use Rattle.std.proofs.Common.{◌++◌, ◌∷◌, [], ◌∙◌, ap, sym, refl, map, cond}
 use Rattle.std.specs.List.{range_with_len}
 use Rattle.std.specs.Prelude.{List, length}
 use Rattle.cycle_encoding.specs.Variables.{Seen}

@@ -1,4 +1,4 @@
-use Rattle.std.proofs.Common.{◌≡◌, ◌∙◌}
+use Rattle.std.proofs.Common.{◌∙◌}
 use Rattle.cycle_encoding.specs.Shapes.{numbered}
 use Rattle.cycle_encoding.proofs.Rows.{slot_added, slot_vars, slot_room}
 use Rattle.cycle_encoding.proofs.slots.add_slots.Goals as goal

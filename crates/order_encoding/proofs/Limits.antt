@@ -1,0 +1,133 @@
+-- The counts and the formulas of the calls, and when a count passes its limit.
+use Rattle.std.proofs.Common.{◌≡◌, ℕ, ◌+◌, ◌≤◌, Bool, true, false, List, length, refl, sym, ap, ◌∙◌, arith, inl, inr}
+use Rattle.std.specs.Prelude.{◌||◌, nat_lt}
+use Rattle.std.proofs.lemmas.Bool.{cases_lt, lt-ltb, ltb-true, false≢true}
+use Rattle.cnf_core.specs.declared.literal.Lit.{Lit}
+use Rattle.cnf_core.specs.Formula.{Formula}
+use Rattle.cnf_core.specs.Counter.{at_most_clauses, at_most_size}
+use Rattle.machine_table.specs.declared.tables.Table.{Table}
+use Rattle.launch_graph.specs.declared.graphs.LaunchGraph.{LaunchGraph}
+use Rattle.schedule_meaning.specs.declared.schedules.Launch.{Launch}
+use Rattle.cycle_encoding.specs.Shapes.{numbered}
+use Rattle.cycle_encoding.specs.Variables.{all_launches}
+use Rattle.cycle_encoding.specs.CycleFormula.{wide, cycle_formula}
+use Rattle.cycle_encoding.specs.Plans.{IsTooLarge, PassesLimit}
+use Rattle.cycle_encoding.proofs.Launched.{cycle-vars, cycle-size}
+use Rattle.order_encoding.specs.OrderCounts.{memory_vars, memory_size, guard_vars, guard_size, pool_vars, pool_size}
+use Rattle.order_encoding.specs.OrderSteps.{with_memory, with_guard, with_pool}
+use Rattle.order_encoding.specs.WholeFormula.{memory_formula, guard_formula, whole_formula}
+use Rattle.order_encoding.proofs.Sized.{memory-vars, guard-vars, whole-vars, with-memory-size, with-guard-size, whole-size}
+
+-- ---- limits
+
+module _ (f : Formula) (v c : ℕ) (ev : v ≡ f.vars) (ec : c ≡ length f.clauses) where
+  one_passes : (a b : Bool) → nat_lt 262144 v ≡ a → nat_lt 2000000 c ≡ b → (a || b) ≡ true → IsTooLarge f
+  one_passes true b p q h = inl (let l = ltb-true 262144 v p in omega arith)
+  one_passes false true p q h = inr (let l = ltb-true 2000000 c q in omega arith)
+  one_passes false false p q h = absurd (false≢true h)
+
+  pub limit_passed : (nat_lt 262144 v || nat_lt 2000000 c) ≡ true → PassesLimit f v c
+  limit_passed h = (one_passes (nat_lt 262144 v) (nat_lt 2000000 c) refl refl h, ev, ec)
+
+  not_more : (n m : ℕ) → nat_lt n m ≡ false → m ≤ n
+  not_more n m e =
+      elim (cases_lt n m) [
+        | inl lt ↦ absurd (false≢true (sym e ∙ lt-ltb n m lt))
+        | inr le ↦ le
+      ]
+
+  left_false : (a b : Bool) → (a || b) ≡ false → a ≡ false
+  left_false true b h = absurd (false≢true (sym h))
+  left_false false b h = refl
+
+  right_false : (a b : Bool) → (a || b) ≡ false → b ≡ false
+  right_false true b h = absurd (false≢true (sym h))
+  right_false false b h = h
+
+  pub few_vars : (nat_lt 262144 v || nat_lt 2000000 c) ≡ false → f.vars ≤ 262144
+  few_vars h = (let l = not_more 262144 v (left_false (nat_lt 262144 v) (nat_lt 2000000 c) h) in omega arith)
+
+  pub few_clauses : (nat_lt 262144 v || nat_lt 2000000 c) ≡ false → length f.clauses ≤ 2000000
+  few_clauses h = (let l = not_more 2000000 c (right_false (nat_lt 262144 v) (nat_lt 2000000 c) h) in omega arith)
+
+pub not_large : (f : Formula) → f.vars ≤ 262144 → length f.clauses ≤ 2000000 → IsTooLarge f → ⊥
+not_large f a b (inl lt) = omega arith
+not_large f a b (inr lt) = omega arith
+
+pub within_clauses : (f : Formula) → (IsTooLarge f → ⊥) → length f.clauses ≤ 2000000
+within_clauses f h =
+    elim (cases_lt 2000000 (length f.clauses)) [
+      | inl lt ↦ absurd (h (inr lt))
+      | inr le ↦ le
+    ]
+
+-- ---- one call after another
+
+module _ (g h : LaunchGraph) (table : Table) (k j : ℕ) (eh : h ≡ g) (ej : j ≡ k) where
+  abbrev cycles : Formula
+  cycles = cycle_formula g table k (wide g table k)
+
+  abbrev memories : Formula
+  memories = memory_formula g table k (wide g table k)
+
+  abbrev guards : Formula
+  guards = guard_formula g table k (wide g table k)
+
+  abbrev wholes : Formula
+  wholes = whole_formula g table k (wide g table k)
+
+  -- the same of the graph and the cycles that the code has
+  there : (F : LaunchGraph → ℕ → ℕ) → F h j ≡ F g k
+  there F = ap (λ (x : LaunchGraph). F x j) eh ∙ ap (F g) ej
+
+  module _ (f : Formula) (v : ℕ) where
+    pub memory_vars_now : f ≡ cycles → v ≡ f.vars + memory_vars h table j → v ≡ memories.vars
+    memory_vars_now ef ev =
+        ev ∙ ap (λ (f : Formula). f.vars + memory_vars h table j) ef ∙ ap (λ n. cycles.vars + n) (there (λ g k. memory_vars g table k))
+        ∙ ap (λ n. n + memory_vars g table k) (cycle-vars g table k) ∙ sym (memory-vars g table k)
+
+    pub guard_vars_now : f ≡ memories → v ≡ f.vars + guard_vars h table j → v ≡ guards.vars
+    guard_vars_now ef ev =
+        ev ∙ ap (λ (f : Formula). f.vars + guard_vars h table j) ef ∙ ap (λ n. memories.vars + n) (there (λ g k. guard_vars g table k))
+        ∙ ap (λ n. n + guard_vars g table k) (memory-vars g table k) ∙ sym (guard-vars g table k)
+
+    pub pool_vars_now : f ≡ guards → v ≡ f.vars + pool_vars h table j → v ≡ wholes.vars
+    pool_vars_now ef ev =
+        ev ∙ ap (λ (f : Formula). f.vars + pool_vars h table j) ef ∙ ap (λ n. guards.vars + n) (there (λ g k. pool_vars g table k))
+        ∙ ap (λ n. n + pool_vars g table k) (guard-vars g table k) ∙ sym (whole-vars g table k)
+
+    module _ (size : (old p : ℕ) (lits : List Lit) → length (at_most_clauses old p lits) ≡ at_most_size p (length lits)) where
+      pub memory_size_now : f ≡ cycles → v ≡ length f.clauses + memory_size h table j → v ≡ length memories.clauses
+      memory_size_now ef ev =
+          ev ∙ ap (λ (f : Formula). length f.clauses + memory_size h table j) ef ∙ ap (λ n. length cycles.clauses + n) (there (λ g k. memory_size g table k))
+          ∙ ap (λ n. n + memory_size g table k) (cycle-size g table k size) ∙ sym (with-memory-size g table k size)
+
+      pub guard_size_now : f ≡ memories → v ≡ length f.clauses + guard_size h table j → v ≡ length guards.clauses
+      guard_size_now ef ev =
+          ev ∙ ap (λ (f : Formula). length f.clauses + guard_size h table j) ef ∙ ap (λ n. length memories.clauses + n) (there (λ g k. guard_size g table k))
+          ∙ ap (λ n. n + guard_size g table k) (with-memory-size g table k size) ∙ sym (with-guard-size g table k size)
+
+      pub pool_size_now : f ≡ guards → v ≡ length f.clauses + pool_size h table j → v ≡ length wholes.clauses
+      pool_size_now ef ev =
+          ev ∙ ap (λ (f : Formula). length f.clauses + pool_size h table j) ef ∙ ap (λ n. length guards.clauses + n) (there (λ g k. pool_size g table k))
+          ∙ ap (λ n. n + pool_size g table k) (with-guard-size g table k size) ∙ sym (whole-size g table k size)
+
+  -- the formulas
+  module _ (ls : List Launch) (f : Formula) (els : ls ≡ all_launches g table k) where
+    abbrev all : List Launch
+    all = all_launches g table k
+
+    pub memory_now : f ≡ cycles → with_memory h j (numbered 0 ls) f ≡ memories
+    memory_now ef =
+        ap (λ (x : LaunchGraph). with_memory x j (numbered 0 ls) f) eh ∙ ap (λ x. with_memory g x (numbered 0 ls) f) ej
+        ∙ ap (λ (x : List Launch). with_memory g k (numbered 0 x) f) els ∙ ap (with_memory g k (numbered 0 all)) ef
+
+    pub guard_now : f ≡ memories → with_guard h j (numbered 0 ls) f ≡ guards
+    guard_now ef =
+        ap (λ (x : LaunchGraph). with_guard x j (numbered 0 ls) f) eh ∙ ap (λ x. with_guard g x (numbered 0 ls) f) ej
+        ∙ ap (λ (x : List Launch). with_guard g k (numbered 0 x) f) els ∙ ap (with_guard g k (numbered 0 all)) ef
+
+    pub pool_now : f ≡ guards → with_pool h j (numbered 0 ls) f table ≡ wholes
+    pool_now ef =
+        ap (λ (x : LaunchGraph). with_pool x j (numbered 0 ls) f table) eh ∙ ap (λ x. with_pool g x (numbered 0 ls) f table) ej
+        ∙ ap (λ (x : List Launch). with_pool g k (numbered 0 x) f table) els ∙ ap (λ (x : Formula). with_pool g k (numbered 0 all) x table) ef

@@ -1,0 +1,8 @@
+use Rattle.std.proofs.Common.{◌≡◌, ◌++◌, take, map}
+use Rattle.std.specs.Prelude.{nat_le}
+use Rattle.std.specs.List.{filter}
+use Rattle.cycle_encoding.specs.Shapes.{positive}
+use Rattle.order_encoding.proofs.guard.push_branches.Given as goal
+
+abbrev pub invariant-loop-var : goal.invariant-loop-var
+invariant-loop-var l = l.lits.items ≡ l.initial.lits.items ++ map (λ p. positive p.0) (filter (λ p. nat_le p.1.cycle l.cycle) (take l.var-index l.found))

@@ -1,0 +1,10 @@
+use Rattle.std.proofs.Common.{sym, ◌∙◌}
+use Rattle.schedule_meaning.specs.Launches.{is_store}
+use Rattle.order_encoding.proofs.Found.{found_step, found_none}
+use Rattle.order_encoding.proofs.kinds.stores.Goals as goal
+
+pub loop-index-preserved : goal.loop-index-preserved
+loop-index-preserved c = found_step c.args.facts.now is_store c.args.launches.now c.loop-index.index _ c.is_store-passes.result c.loop-index.found.items c.push_if.new.found.items c.loop-index-test.true c.is_store-passes.ensures c.loop-index.invariant c.in_ok-push_if.ensures
+
+pub loop-index-init : goal.loop-index-init
+loop-index-init c = c.new-found.ensures.items ∙ sym (found_none c.args.facts.now is_store)

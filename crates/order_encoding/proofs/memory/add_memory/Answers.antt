@@ -1,0 +1,76 @@
+use Rattle.std.proofs.Common.{◌∙◌, ◌+◌, ◌≤◌, sym, ap, subst}
+use Rattle.std.specs.Prelude.{length}
+use Rattle.cnf_core.specs.Formula.{Formula}
+use Rattle.cycle_encoding.specs.CycleFormula.{wide}
+use Rattle.cycle_encoding.specs.Plans.{Plan}
+use Rattle.order_encoding.specs.WholeFormula.{memory_formula}
+use Rattle.order_encoding.proofs.Limits.{limit_passed, few_vars, few_clauses, not_large, memory_vars_now, memory_size_now, memory_now}
+use Rattle.order_encoding.proofs.memory.add_memory.Goals as goal
+
+pub returns-then-pass_limit-clause-size : goal.returns-then-pass_limit-clause-size
+returns-then-pass_limit-clause-size c =
+    let g = c.args.graph.now in
+    let table = c.args.table.now in
+    let k = c.args.encoded.plan.cycles in
+    let h = c.in_ok-facts.facts in
+    let w = memory_formula g table k (wide g table k) in
+    let f = c.args.encoded.cnf in
+    let size = c.counters_count.ensures.size in
+    let vars = memory_vars_now g h table k c.cycles.result c.in_ok-facts.ensures c.cycles.ensures f c.grown-sizes.result.vars c.requires.formula (c.grown-sizes.ensures.vars ∙ ap (λ n. f.vars + n) c.memory_sizes.ensures.vars) in
+    let clauses = memory_size_now g h table k c.cycles.result c.in_ok-facts.ensures c.cycles.ensures f c.grown-sizes.result.clauses size c.requires.formula (c.grown-sizes.ensures.clauses ∙ ap (λ n. length f.clauses + n) c.memory_sizes.ensures.clauses) in
+    limit_passed w c.grown-sizes.result.vars c.grown-sizes.result.clauses vars clauses (sym c.pass_limit.ensures ∙ c.if-pass_limit.true)
+
+pub extend_by_memory-requires-clause-vars : goal.extend_by_memory-requires-clause-vars
+extend_by_memory-requires-clause-vars c =
+    let g = c.args.graph.now in
+    let table = c.args.table.now in
+    let k = c.args.encoded.plan.cycles in
+    let h = c.in_ok-facts.facts in
+    let w = memory_formula g table k (wide g table k) in
+    let f = c.args.encoded.cnf in
+    let size = c.counters_count.ensures.size in
+    let vars = memory_vars_now g h table k c.cycles.result c.in_ok-facts.ensures c.cycles.ensures f c.grown-sizes.result.vars c.requires.formula (c.grown-sizes.ensures.vars ∙ ap (λ n. f.vars + n) c.memory_sizes.ensures.vars) in
+    let clauses = memory_size_now g h table k c.cycles.result c.in_ok-facts.ensures c.cycles.ensures f c.grown-sizes.result.clauses size c.requires.formula (c.grown-sizes.ensures.clauses ∙ ap (λ n. length f.clauses + n) c.memory_sizes.ensures.clauses) in
+    let is = memory_now g h table k c.cycles-2.result c.in_ok-facts.ensures c.cycles-2.ensures c.launches.result.now f (c.launches.ensures ∙ ap (λ (p : Plan). p.launches) c.requires.plan) c.requires.formula in
+    subst (λ (x : Formula). x.vars ≤ 262144) (sym is) (few_vars w c.grown-sizes.result.vars c.grown-sizes.result.clauses vars clauses (sym c.pass_limit.ensures ∙ c.if-pass_limit.false))
+
+pub extend_by_memory-requires-clause-clauses : goal.extend_by_memory-requires-clause-clauses
+extend_by_memory-requires-clause-clauses c =
+    let g = c.args.graph.now in
+    let table = c.args.table.now in
+    let k = c.args.encoded.plan.cycles in
+    let h = c.in_ok-facts.facts in
+    let w = memory_formula g table k (wide g table k) in
+    let f = c.args.encoded.cnf in
+    let size = c.counters_count.ensures.size in
+    let vars = memory_vars_now g h table k c.cycles.result c.in_ok-facts.ensures c.cycles.ensures f c.grown-sizes.result.vars c.requires.formula (c.grown-sizes.ensures.vars ∙ ap (λ n. f.vars + n) c.memory_sizes.ensures.vars) in
+    let clauses = memory_size_now g h table k c.cycles.result c.in_ok-facts.ensures c.cycles.ensures f c.grown-sizes.result.clauses size c.requires.formula (c.grown-sizes.ensures.clauses ∙ ap (λ n. length f.clauses + n) c.memory_sizes.ensures.clauses) in
+    let is = memory_now g h table k c.cycles-2.result c.in_ok-facts.ensures c.cycles-2.ensures c.launches.result.now f (c.launches.ensures ∙ ap (λ (p : Plan). p.launches) c.requires.plan) c.requires.formula in
+    subst (λ (x : Formula). length x.clauses ≤ 2000000) (sym is) (few_clauses w c.grown-sizes.result.vars c.grown-sizes.result.clauses vars clauses (sym c.pass_limit.ensures ∙ c.if-pass_limit.false))
+
+pub returns-clause-within : goal.returns-clause-within
+returns-clause-within c =
+    let g = c.args.graph.now in
+    let table = c.args.table.now in
+    let k = c.args.encoded.plan.cycles in
+    let h = c.in_ok-facts.facts in
+    let w = memory_formula g table k (wide g table k) in
+    let f = c.args.encoded.cnf in
+    let size = c.counters_count.ensures.size in
+    let vars = memory_vars_now g h table k c.cycles.result c.in_ok-facts.ensures c.cycles.ensures f c.grown-sizes.result.vars c.requires.formula (c.grown-sizes.ensures.vars ∙ ap (λ n. f.vars + n) c.memory_sizes.ensures.vars) in
+    let clauses = memory_size_now g h table k c.cycles.result c.in_ok-facts.ensures c.cycles.ensures f c.grown-sizes.result.clauses size c.requires.formula (c.grown-sizes.ensures.clauses ∙ ap (λ n. length f.clauses + n) c.memory_sizes.ensures.clauses) in
+    not_large w (few_vars w c.grown-sizes.result.vars c.grown-sizes.result.clauses vars clauses (sym c.pass_limit.ensures ∙ c.if-pass_limit.false)) (few_clauses w c.grown-sizes.result.vars c.grown-sizes.result.clauses vars clauses (sym c.pass_limit.ensures ∙ c.if-pass_limit.false))
+
+pub returns-clause-formula : goal.returns-clause-formula
+returns-clause-formula c =
+    let g = c.args.graph.now in
+    let table = c.args.table.now in
+    let k = c.args.encoded.plan.cycles in
+    let h = c.in_ok-facts.facts in
+    let w = memory_formula g table k (wide g table k) in
+    let f = c.args.encoded.cnf in
+    let size = c.counters_count.ensures.size in
+    let vars = memory_vars_now g h table k c.cycles.result c.in_ok-facts.ensures c.cycles.ensures f c.grown-sizes.result.vars c.requires.formula (c.grown-sizes.ensures.vars ∙ ap (λ n. f.vars + n) c.memory_sizes.ensures.vars) in
+    let clauses = memory_size_now g h table k c.cycles.result c.in_ok-facts.ensures c.cycles.ensures f c.grown-sizes.result.clauses size c.requires.formula (c.grown-sizes.ensures.clauses ∙ ap (λ n. length f.clauses + n) c.memory_sizes.ensures.clauses) in
+    let is = memory_now g h table k c.cycles-2.result c.in_ok-facts.ensures c.cycles-2.ensures c.launches.result.now f (c.launches.ensures ∙ ap (λ (p : Plan). p.launches) c.requires.plan) c.requires.formula in
+    c.in_ok-extend_by_memory.ensures ∙ is

@@ -1,0 +1,112 @@
+// Which instructions rows have, and the launches of a kind.
+ghost use Rattle.std.specs.Prelude.{◌≡◌, ◌<◌, ◌^◌, [], ◌∷◌, ◌++◌, if◌then◌else◌, length, IfOk, OnOk};
+ghost use Rattle.schedule_meaning.specs.Launches as specs;
+ghost use Rattle.cycle_encoding.specs.Counts.{row_is};
+ghost use Rattle.cycle_encoding.specs.Shapes.{positive};
+ghost use Rattle.order_encoding.specs.OrderSteps as steps;
+ghost use Rattle.order_encoding.specs.OrderSteps.{launched_in};
+
+use cnf_core::Lit;
+use cycle_encoding::Facts;
+use items::NoMemory;
+use machine_table::InstrKind;
+use schedule_meaning::{Launch, is_held};
+use std::alloc::Global;
+
+/// Whether the row's instruction is a load.
+pub fn is_load(facts: &Facts, row: u32) -> bool
+    ensures { result ≡ row_is facts.now specs.is_load row }
+{
+    match facts.instr_at(row) {
+        Some(InstrKind::LdqU) => true,
+        _ => false,
+    }
+}
+
+/// Whether the row's instruction is a store.
+pub fn is_store(facts: &Facts, row: u32) -> bool
+    ensures { result ≡ row_is facts.now specs.is_store row }
+{
+    match facts.instr_at(row) {
+        Some(InstrKind::StqU) => true,
+        _ => false,
+    }
+}
+
+/// Whether the row's number is that of a guard's branch.
+pub fn is_branch(facts: &Facts, row: u32) -> bool
+    ensures { result ≡ row_is facts.now specs.is_branch row }
+{
+    match facts.instr_at(row) {
+        Some(InstrKind::Beq) => true,
+        _ => false,
+    }
+}
+
+/// Whether a launch of the row may come in no earlier cycle than the branch.
+pub fn waits(facts: &Facts, row: u32) -> bool
+    ensures { result ≡ steps.row_waits facts.now row }
+{
+    is_store(facts, row) || is_load(facts, row) && is_held(facts.graph())
+}
+
+/// The stores, with their variables.
+pub fn stores(
+    alloc: Global,
+    facts: &Facts,
+    launches: &[Launch],
+) -> Result<Vec<(u32, Launch)>, NoMemory>
+    requires few { length launches.now < 2 ^ 29 }
+    ensures { IfOk result (λ found. found.items ≡ launched_in facts.now specs.is_store launches.now) }
+{
+    let mut found = Vec::new(alloc);
+    for (index, launch) in launches.iter().enumerate() {
+        let passes = is_store(facts, launch.row);
+        push_if(&mut found, passes, index as u32 + 1, *launch)?;
+    }
+    Ok(found)
+}
+
+/// The launches of the branch, with their variables.
+pub fn branches(
+    alloc: Global,
+    facts: &Facts,
+    launches: &[Launch],
+) -> Result<Vec<(u32, Launch)>, NoMemory>
+    requires few { length launches.now < 2 ^ 29 }
+    ensures { IfOk result (λ found. found.items ≡ launched_in facts.now specs.is_branch launches.now) }
+{
+    let mut found = Vec::new(alloc);
+    for (index, launch) in launches.iter().enumerate() {
+        let passes = is_branch(facts, launch.row);
+        push_if(&mut found, passes, index as u32 + 1, *launch)?;
+    }
+    Ok(found)
+}
+
+fn push_if(
+    found: &mut Vec<(u32, Launch)>,
+    passes: bool,
+    var: u32,
+    launch: Launch,
+) -> Result<(), NoMemory>
+    ensures { OnOk result (found.new.items ≡ found.old.items ++ (if passes then (var, launch) ∷ [] else [])) }
+{
+    if passes {
+        found.push((var, launch))?;
+    }
+    Ok(())
+}
+
+/// Puts the variable at the end, if it passes.
+pub fn push_var_if(lits: &mut Vec<Lit>, passes: bool, var: u32) -> Result<(), NoMemory>
+    ensures { OnOk result (lits.new.items ≡ lits.old.items ++ (if passes then positive var ∷ [] else [])) }
+{
+    if passes {
+        lits.push(Lit {
+            var,
+            positive: true,
+        })?;
+    }
+    Ok(())
+}

@@ -1,0 +1,177 @@
+// Registers: launches that give words take no more registers than the pool has.
+ghost use Rattle.std.specs.Prelude.{◌≡◌, ◌+◌, ◌<◌, ◌≤◌, ◌^◌, List, length, IfOk, IfErr, OnOk};
+ghost use Rattle.launch_graph.specs.WellFormed.{IsLaunchGraph};
+ghost use Rattle.machine_table.specs.Tables.{IsTable};
+ghost use Rattle.cycle_encoding.specs.CycleFormula.{wide};
+ghost use Rattle.cycle_encoding.specs.Families.{any};
+ghost use Rattle.cycle_encoding.specs.Faults.{EncodeFaultIs};
+ghost use Rattle.cycle_encoding.specs.Plans.{IsTooLarge, plan_of};
+ghost use Rattle.cycle_encoding.specs.Shapes.{implied, numbered, vars_of};
+ghost use Rattle.cycle_encoding.specs.Steps.{listed, of_thing, with_clauses};
+ghost use Rattle.order_encoding.specs.OrderVariables.{all_taken, Taken};
+ghost use Rattle.order_encoding.specs.OrderFamilies.{is_taken_at, register_clauses};
+ghost use Rattle.order_encoding.specs.OrderSteps.{takes, with_pool};
+ghost use Rattle.order_encoding.specs.WholeFormula.{guard_formula, whole_formula};
+
+use crate::counts::{grown, pass_limit, pool_sizes, registers};
+use crate::laws::parts_are_counted;
+use cnf_core::{Cnf, Lit, at_most, counters_count};
+use cycle_encoding::{EncodeFault, Encoded, Facts, add_implied, add_vars};
+use items::NoMemory;
+use launch_graph::LaunchGraph;
+use machine_table::Table;
+use schedule_meaning::Launch;
+use std::alloc::Global;
+
+/// The variable of a slot and cycle whose launch takes a register, if it has one; `first` is the variable before those.
+fn taken_var(table: &Table, k: u32, first: u32, slot: u32, cycle: u32) -> Option<Lit>
+    requires few { first + length (all_taken table.now k) < 2 ^ 29 }
+    ensures { listed result ≡ vars_of (is_taken_at slot cycle) (numbered first (all_taken table.now k)) }
+{
+    if slot as usize >= table.slots.len() {
+        return None;
+    }
+    if cycle >= k {
+        return None;
+    }
+    Some(Lit {
+        var: first + slot * k + cycle + 1,
+        positive: true,
+    })
+}
+
+/// Adds for each launch that gives a word the clause that it takes a register.
+fn add_takes(
+    cnf: &mut Cnf,
+    facts: &Facts,
+    table: &Table,
+    launches: &[Launch],
+    first: u32,
+    k: u32,
+) -> Result<(), NoMemory>
+    requires launches { length launches.now ≤ first }
+    requires exist { first + length (all_taken table.now k) ≤ cnf.old.vars }
+    requires few { cnf.old.vars < 2 ^ 29 }
+    requires room { length cnf.old.clauses
+        + length (register_clauses facts.now (numbered 0 launches.now) (numbered first (all_taken table.now k))) < 2 ^ 30 }
+    ensures { OnOk result (cnf.new ≡ with_clauses cnf.old
+        (register_clauses facts.now (numbered 0 launches.now) (numbered first (all_taken table.now k)))) }
+{
+    for (index, launch) in launches.iter().enumerate() {
+        add_take(cnf, facts, table, first, k, index as u32 + 1, *launch)?;
+    }
+    Ok(())
+}
+
+/// Adds the clause of one launch, if it gives a word.
+fn add_take(
+    cnf: &mut Cnf,
+    facts: &Facts,
+    table: &Table,
+    first: u32,
+    k: u32,
+    var: u32,
+    launch: Launch,
+) -> Result<(), NoMemory>
+    requires var { 1 ≤ var }
+    requires launches { var ≤ first }
+    requires exist { first + length (all_taken table.now k) ≤ cnf.old.vars }
+    requires few { cnf.old.vars < 2 ^ 29 }
+    requires room { length cnf.old.clauses + length (takes facts.now (numbered first (all_taken table.now k)) launch) < 2 ^ 30 }
+    ensures { OnOk result (cnf.new ≡ with_clauses cnf.old
+        (of_thing var (takes facts.now (numbered first (all_taken table.now k)) launch))) }
+{
+    if facts.gives_word(launch.row) {
+        add_implied(
+            cnf,
+            var,
+            taken_var(table, k, first, launch.slot, launch.cycle),
+        )
+    } else {
+        Ok(())
+    }
+}
+
+/// So many variables, one after another; `first` is the one before them.
+fn following(alloc: Global, first: u32, count: u32) -> Result<Vec<Lit>, NoMemory>
+    requires few { first + count < 2 ^ 29 }
+    ensures { IfOk result (λ lits. (xs : List Taken) → length xs ≡ count → lits.items ≡ vars_of any (numbered first xs)) }
+{
+    let mut lits = Vec::new(alloc);
+    for place in 0..count {
+        lits.push(Lit {
+            var: first + place + 1,
+            positive: true,
+        })?;
+    }
+    Ok(lits)
+}
+
+/// Adds the variables and clauses of registers. The launches have the first variables.
+pub fn extend_by_pool(
+    alloc: Global,
+    cnf: &mut Cnf,
+    facts: &Facts,
+    table: &Table,
+    launches: &[Launch],
+    k: u32,
+) -> Result<(), NoMemory>
+    requires cycles { k ≤ 24 }
+    requires table { IsTable table.now }
+    requires exist { length launches.now ≤ cnf.old.vars }
+    requires vars { (with_pool facts.now k (numbered 0 launches.now) cnf.old table.now).vars ≤ 262144 }
+    requires clauses { length (with_pool facts.now k (numbered 0 launches.now) cnf.old table.now).clauses ≤ 2000000 }
+    ensures { OnOk result (cnf.new ≡ with_pool facts.now k (numbered 0 launches.now) cnf.old table.now) }
+{
+    counters_count();
+    let first = cnf.vars();
+    let count = table.slots.len() as u32 * k;
+    let most = registers(facts.graph(), count);
+    let lits = following(alloc, first, count)?;
+    add_vars(cnf, count);
+    add_takes(cnf, facts, table, launches, first, k)?;
+    at_most(cnf, &lits, most)
+}
+
+/// Adds the clauses of registers to those of `add_guard`. The counts are found before any clause is built.
+pub fn add_pool(
+    alloc: Global,
+    encoded: Encoded,
+    graph: &LaunchGraph,
+    table: &Table,
+) -> Result<Encoded, EncodeFault>
+    requires cycles { encoded.plan.cycles ≤ 24 }
+    requires table { IsTable table.now }
+    requires graph { IsLaunchGraph graph.now }
+    requires formula { encoded.cnf ≡ guard_formula graph.now table.now encoded.plan.cycles (wide graph.now table.now encoded.plan.cycles) }
+    requires plan { encoded.plan ≡ plan_of graph.now table.now encoded.plan.cycles }
+    ensures formula { IfOk result (λ e. e.cnf
+        ≡ whole_formula graph.now table.now encoded.plan.cycles (wide graph.now table.now encoded.plan.cycles)) }
+    ensures plan { IfOk result (λ e. e.plan ≡ encoded.plan) }
+    ensures size { IfErr result (EncodeFaultIs
+        (whole_formula graph.now table.now encoded.plan.cycles (wide graph.now table.now encoded.plan.cycles))) }
+    ensures within { OnOk result (¬ IsTooLarge
+        (whole_formula graph.now table.now encoded.plan.cycles (wide graph.now table.now encoded.plan.cycles))) }
+{
+    parts_are_counted();
+    counters_count();
+    let facts = Facts::new(alloc, graph)?;
+    let mut cnf = encoded.cnf;
+    let plan = encoded.plan;
+    let sizes = grown(&cnf, pool_sizes(&facts, table, plan.cycles()));
+    if pass_limit(sizes) {
+        return Err(EncodeFault::Size {
+            vars: sizes.vars,
+            clauses: sizes.clauses,
+        });
+    }
+    extend_by_pool(
+        alloc,
+        &mut cnf,
+        &facts,
+        table,
+        plan.launches(),
+        plan.cycles(),
+    )?;
+    Ok(Encoded { cnf, plan })
+}

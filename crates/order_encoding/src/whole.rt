@@ -1,0 +1,109 @@
+// The whole formula of a schedule.
+ghost use Rattle.std.specs.Prelude.{◌≡◌, ◌↔◌, ◌≤◌, ◌<◌, ◌^◌, ℕ, Bool, List, Contains, length, IfOk, IfErr, OnOk};
+ghost use Rattle.cnf_core.specs.Formula.{Satisfies};
+ghost use Rattle.launch_graph.specs.WellFormed.{IsLaunchGraph};
+ghost use Rattle.machine_table.specs.Tables.{IsTable};
+ghost use Rattle.schedule_meaning.specs.Fits.{Fits};
+ghost use Rattle.schedule_meaning.specs.declared.schedules.Launch.{Launch as LaunchOf};
+ghost use Rattle.cycle_encoding.specs.CycleFormula.{cycle_formula, wide};
+ghost use Rattle.cycle_encoding.specs.Faults.{EncodeFaultIs};
+ghost use Rattle.cycle_encoding.specs.Plans.{IsTooLarge, plan_of};
+ghost use Rattle.cycle_encoding.specs.Shapes.{numbered, shown};
+ghost use Rattle.order_encoding.specs.WholeFormula.{whole_formula};
+
+use crate::counts::{both, guard_sizes, memory_sizes, pass_limit, pool_sizes};
+use crate::guard::extend_by_guard;
+use crate::laws::{clauses_say_fits, counts_are_found};
+use crate::memory::extend_by_memory;
+use crate::pool::extend_by_pool;
+use cycle_encoding::{EncodeFault, Encoded, Facts, Sizes, cycle_sizes, encode};
+use items::NoMemory;
+use launch_graph::LaunchGraph;
+use machine_table::Table;
+use std::alloc::Global;
+
+/// The counts of the whole formula, by numbers alone.
+fn whole_sizes(alloc: Global, facts: &Facts, table: &Table, k: u32) -> Result<Sizes, NoMemory>
+    requires graph { IsLaunchGraph facts.now }
+    requires table { IsTable table.now }
+    requires cycles { k ≤ 24 }
+    ensures vars { IfOk result (λ sizes. sizes.vars ≡ (whole_formula facts.now table.now k (wide facts.now table.now k)).vars) }
+    ensures clauses { IfOk result (λ sizes. sizes.clauses
+        ≡ length (whole_formula facts.now table.now k (wide facts.now table.now k)).clauses) }
+{
+    counts_are_found();
+    let cycle = cycle_sizes(alloc, facts, table, k)?;
+    let with_memory = both(cycle, memory_sizes(facts, table, k));
+    let with_guard = both(with_memory, guard_sizes(facts, table, k));
+    Ok(both(with_guard, pool_sizes(facts, table, k)))
+}
+
+/// The whole formula of schedules in k cycles: cycles, slots and values, memory, the branch of a guard, and registers.
+/// Values satisfy its clauses exactly where the launches that they show fit. Its counts are found before any clause is
+/// built; where one passes its limit they are the answer.
+pub fn full(
+    alloc: Global,
+    graph: &LaunchGraph,
+    table: &Table,
+    k: u32,
+) -> Result<Encoded, EncodeFault>
+    requires cycles { k ≤ 24 }
+    requires table { IsTable table.now }
+    requires graph { IsLaunchGraph graph.now }
+    ensures formula { IfOk result (λ e. e.cnf ≡ whole_formula graph.now table.now k (wide graph.now table.now k)) }
+    ensures plan { IfOk result (λ e. e.plan ≡ plan_of graph.now table.now k) }
+    ensures size { IfErr result (EncodeFaultIs (whole_formula graph.now table.now k (wide graph.now table.now k))) }
+    ensures within { OnOk result (¬ IsTooLarge (whole_formula graph.now table.now k (wide graph.now table.now k))) }
+    ensures vars { IfOk result (λ e. length e.plan.launches ≤ e.cnf.vars) }
+
+    // What the values of variables show fits where they satisfy the clauses, and each schedule that fits is shown.
+    ensures shown { IfOk result (λ e. (v : ℕ → Bool) → Satisfies v e.cnf.clauses
+        → Fits graph.now table.now k (shown v (numbered 0 e.plan.launches))) }
+    ensures each { IfOk result (λ e. (ls : List LaunchOf) → Fits graph.now table.now k ls
+        → (v : ℕ → Bool) × Satisfies v e.cnf.clauses
+        × ((l : LaunchOf) → Contains (shown v (numbered 0 e.plan.launches)) l ↔ Contains ls l)) }
+{
+    clauses_say_fits();
+    let facts = Facts::new(alloc, graph)?;
+    let sizes = whole_sizes(alloc, &facts, table, k)?;
+    if pass_limit(sizes) {
+        return Err(EncodeFault::Size {
+            vars: sizes.vars,
+            clauses: sizes.clauses,
+        });
+    }
+    let encoded = encode(alloc, graph, table, k)?;
+    Ok(completed(alloc, encoded, &facts, table)?)
+}
+
+/// Adds memory, the branch and registers to the formula of `encode`, where the whole is within the limits.
+fn completed(
+    alloc: Global,
+    encoded: Encoded,
+    facts: &Facts,
+    table: &Table,
+) -> Result<Encoded, NoMemory>
+    requires cycles { encoded.plan.cycles ≤ 24 }
+    requires table { IsTable table.now }
+    requires graph { IsLaunchGraph facts.now }
+    requires formula { encoded.cnf ≡ cycle_formula facts.now table.now encoded.plan.cycles (wide facts.now table.now encoded.plan.cycles) }
+    requires plan { encoded.plan ≡ plan_of facts.now table.now encoded.plan.cycles }
+    requires within { ¬ IsTooLarge (whole_formula facts.now table.now encoded.plan.cycles (wide facts.now table.now encoded.plan.cycles)) }
+    ensures formula { IfOk result (λ e. e.cnf
+        ≡ whole_formula facts.now table.now encoded.plan.cycles (wide facts.now table.now encoded.plan.cycles)) }
+    ensures plan { IfOk result (λ e. e.plan ≡ encoded.plan) }
+{
+    let mut cnf = encoded.cnf;
+    let plan = encoded.plan;
+    extend_by_memory(alloc, &mut cnf, facts, plan.launches(), plan.cycles())?;
+    extend_by_guard(alloc, &mut cnf, facts, plan.launches(), plan.cycles())?;
+    extend_by_pool(
+        alloc,
+        &mut cnf,
+        facts,
+        table,
+        plan.launches(),
+        plan.cycles(),
+    )?;
+    Ok(Encoded { cnf, plan })
+}
