@@ -1,3 +1,5 @@
 pub mod Decided
-pub mod Solved
 pub mod Exact
+pub mod OptionSteps
+pub mod Solved
+pub mod Values

@@ -1,4 +1,4 @@
+pub mod Commands
 pub mod Outcomes
-pub mod Refusals
 pub mod Replies
 pub mod Said

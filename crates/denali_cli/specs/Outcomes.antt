@@ -5,11 +5,11 @@ use Rattle.std.specs.declared.option.Option.{Option}
 use Rattle.std.specs.Io.KnownBytes.{Keeps, Appends}
 use Rattle.outside_io.specs.Putting.{AppendsFront}
 use Rattle.outside_io.specs.Taking.{IsRead, TakesWithin}
-use Rattle.denali_run.specs.RightAnswers.{IsAnswerTo, IsRightAnswer}
-use Rattle.denali_run.specs.declared.solving.Status.{Status}
-use Rattle.denali_run.specs.declared.solving.Status.TheVariants.{Done, Missing, Spent, NoWorld, Usage, Memory, SourceFault, SinkFault}
-use Rattle.denali_cli.specs.declared.words.Command.{Command}
-use Rattle.denali_cli.specs.declared.words.Command.TheVariants.{Solve}
+use Rattle.denali_run.specs.TextAnswers.{Answers}
+use Rattle.denali_run.specs.declared.settings.Settings.{Settings}
+use Rattle.denali_run.specs.declared.statuses.Status.{Status}
+use Rattle.denali_run.specs.declared.statuses.Status.TheVariants.{Done, Missing, Spent, NoWorld, Usage, Memory, SourceFault, SinkFault}
+use Rattle.denali_cli.specs.Commands.{Command, Solve}
 use Rattle.denali_cli.specs.Replies.{limit_of, IsWithinLimit, usage_line, Reply}
 
 -- what a command reads to the end, if it reads; `left` and `left'` are what the source has left before and after
@@ -67,12 +67,12 @@ IsReported Spent = Unit {0}
 IsReported NoWorld = Unit {0}
 IsReported _ = ⊥
 
--- The input spells a goal, and its right answer was written.
-pub record Solves (left left' written written' : Option (List ℕ)) : Type 0 where
+-- The input reads as goals, each of them has a result that is right with these settings, and the lines of the results
+-- were written.
+pub record Solves (s : Settings) (left left' written written' : Option (List ℕ)) (status : Status) : Type 0 where
   pub text : List ℕ
   pub bytes : List ℕ
-  pub read : ReadsWithin (limit_of Solve) left left' text
-  pub within : IsWithinLimit Solve text
-  pub answer : IsAnswerTo text bytes
+  pub read : ReadsWithin (limit_of (Solve s)) left left' text
+  pub within : IsWithinLimit (Solve s) text
+  pub answers : Answers s text bytes status
   pub appended : Appends written written' bytes
-  pub right : IsRightAnswer answer.input answer.p answer.found

@@ -4,15 +4,15 @@ use Rattle.std.specs.Prelude.{◌≡◌, ℕ, ◌<◌, ◌≤◌, List, ◌++◌
 use Rattle.goal_reader.specs.Grammar.{IsFirstTextFault}
 use Rattle.text_core.specs.Faults.{fault_text}
 use Rattle.text_core.specs.declared.faults.Kind.{Kind}
-use Rattle.denali_run.specs.RightAnswers.{Answers, SpellsOther}
-use Rattle.denali_run.specs.declared.solving.Status.{Status}
-use Rattle.denali_run.specs.declared.solving.Status.TheVariants.{ReadFault}
-use Rattle.denali_cli.specs.declared.words.Command.{Command}
-use Rattle.denali_cli.specs.declared.words.Command.TheVariants.{Solve}
+use Rattle.denali_run.specs.TextAnswers.{Answers}
+use Rattle.denali_run.specs.declared.settings.Settings.{Settings}
+use Rattle.denali_run.specs.declared.statuses.Status.{Status}
+use Rattle.denali_run.specs.declared.statuses.Status.TheVariants.{ReadFault}
+use Rattle.denali_cli.specs.Commands.{Command, Solve}
 
 -- how many bytes a command reads at most, if it reads
 abbrev pub limit_of : Command → Option ℕ
-limit_of Solve = Some 1048576
+limit_of (Solve s) = Some 1048576
 
 -- the text is longer than the command reads
 abbrev pub IsPastLimit : Command → List ℕ → Type 0
@@ -32,15 +32,11 @@ fault_line place kind = fault_text (record { place = place; kind = kind }) ++ co
 abbrev pub usage_line : List ℕ
 usage_line = codes "usage\n"
 
-abbrev pub not_yet_line : List ℕ
-not_yet_line = codes "fault 0 NotYet\n"
-
 -- The bytes that answer a command and the bytes read, and the status: one row for each kind of text.
 pub data Reply (command : Command) (text written : List ℕ) (status : Status) : Type 0 where
   too_long : (limit : ℕ) → limit_of command ≡ Some limit → limit < length text
       → written ≡ too_long_line limit → status ≡ ReadFault → Reply command text written status
   faulty : (place : ℕ) (kind : Kind) → IsWithinLimit command text → IsFirstTextFault text place kind
       → written ≡ fault_line place kind → status ≡ ReadFault → Reply command text written status
-  not_yet : IsWithinLimit command text → SpellsOther text
-      → written ≡ not_yet_line → status ≡ ReadFault → Reply command text written status
-  answered : IsWithinLimit command text → Answers text written status → Reply command text written status
+  answered : (s : Settings) → command ≡ Solve s → IsWithinLimit command text → Answers s text written status
+      → Reply command text written status

@@ -1,13 +1,15 @@
 // What is to be written, before any of it is.
 ghost use Rattle.std.specs.Prelude.{◌≡◌, ◌≢◌, ◌++◌, None, Some, IfOk, OnOk, decimal, IsErrOf, IfErr, IsSome};
 ghost use Rattle.outside_io.specs.Causes.{IsCounted};
+ghost use Rattle.denali_run.specs.MatchedGoals.{IsSettings};
+ghost use Rattle.denali_cli.specs.Commands.{Solve};
 ghost use Rattle.denali_cli.specs.Said.{asked_by};
 ghost use Rattle.denali_cli.specs.Replies.{fault_line, too_long_line};
 ghost use Rattle.denali_cli.specs.declared.decide.Stop.TheVariants as stops;
 ghost use Rattle.denali_cli.specs.Outcomes.{Decides, IsUnread, IsWhole, Takes};
 
-use crate::words::{Command, command_of};
-use denali_run::{Report, Status, TextError, solve_text};
+use crate::words::settings_asked;
+use denali_run::{Report, Settings, Status, TextError, solve_text};
 use items::NoMemory;
 use itoa::Buffer;
 use outside_io::{ReadAllFault, Source, read_all};
@@ -72,12 +74,13 @@ fn faulty(alloc: Global, fault: Fault) -> Result<Report, Stop>
 }
 
 /// Reading, text and work of `solve`, in this order. The first that fails decides.
-fn solve<S: Source>(alloc: Global, source: &mut S) -> Result<Report, Stop>
-    ensures decided { IfOk result (λ r. Decides (Some Command.Solve) (S.left source.old)
+fn solve<S: Source>(alloc: Global, settings: &Settings, source: &mut S) -> Result<Report, Stop>
+    requires settings { IsSettings settings.now }
+    ensures decided { IfOk result (λ r. Decides (Some (Solve settings.now)) (S.left source.old)
         (S.left source.new) r.bytes.items r.status) }
     ensures whole { IfOk result (λ r. IsWhole r.status) }
     ensures not_usage { IfOk result (λ r. r.status ≢ Status.Usage) }
-    ensures taken { Takes (Some Command.Solve) (S.left source.old) (S.left source.new) }
+    ensures taken { Takes (Some (Solve settings.now)) (S.left source.old) (S.left source.new) }
     ensures no_fault { OnOk result (S.faults source.new ≡ S.faults source.old) }
     ensures memory { IsErrOf result Stop.Memory → S.faults source.new ≡ S.faults source.old }
     ensures fault { IsErrOf result Stop.SourceFault → IsCounted (S.faults source.old) (S.faults source.new) }
@@ -88,10 +91,9 @@ fn solve<S: Source>(alloc: Global, source: &mut S) -> Result<Report, Stop>
         Err(ReadAllFault::TooLong) => return too_long(alloc, LIMIT),
         Err(ReadAllFault::Memory) => return Err(Stop::Memory),
     };
-    match solve_text(alloc, &text) {
+    match solve_text(alloc, &text, settings) {
         Ok(report) => Ok(report),
         Err(TextError::Read(fault)) => faulty(alloc, fault),
-        Err(TextError::NotYet) => report(alloc, b"fault 0 NotYet\n", Status::ReadFault),
         Err(TextError::Memory) => Err(Stop::Memory),
     }
 }
@@ -114,8 +116,8 @@ pub(crate) fn decide<S: Source>(
     ensures memory { IsErrOf result Stop.Memory → S.faults source.new ≡ S.faults source.old }
     ensures fault { IsErrOf result Stop.SourceFault → IsCounted (S.faults source.old) (S.faults source.new) }
 {
-    match command_of(words) {
-        Some(Command::Solve) => solve(alloc, source),
+    match settings_asked(words) {
+        Some(settings) => solve(alloc, &settings, source),
         None => report(alloc, b"usage\n", Status::Usage),
     }
 }

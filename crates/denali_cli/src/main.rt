@@ -3,6 +3,7 @@
 
 mod decide;
 mod laws;
+mod options;
 #[cfg(test)]
 mod tests;
 mod top;

@@ -2,11 +2,12 @@
 ghost use Rattle.std.specs.Prelude.{◌≡◌, None, Some, IsSome};
 ghost use Rattle.std.specs.Io.KnownBytes.{Keeps};
 ghost use Rattle.outside_io.specs.Causes.{IsCounted};
+ghost use Rattle.denali_run.specs.declared.settings.Settings.{Settings as SettingsOf};
+ghost use Rattle.denali_cli.specs.Commands.{Solve};
 ghost use Rattle.denali_cli.specs.Said.{asked_by};
 ghost use Rattle.denali_cli.specs.Outcomes.{IsReported, IsUnread, IsWhole, Solves, Takes, Writes, WritesFront};
 
 use crate::decide::{Stop, decide};
-use crate::words::Command;
 use denali_run::Status;
 use outside_io::{Sink, SinkFault, Source, write_all};
 use std::alloc::Global;
@@ -24,11 +25,14 @@ pub fn run<S: Source, T: Sink>(
         (S.left source.old) (S.left source.new) (T.written sink.old) (T.written sink.new) result }
     ensures usage { result ≡ Status.Usage → asked_by words.now ≡ None }
 
-    // The headline: where the status reports on goals, the input reads as one, and its answer was written. In each world
-    // the printed words leave the goal's value where the answer says, within the printed cycles of the table's slots and
-    // latencies, and no schedule of the printed graph fits in fewer.
-    ensures right { asked_by words.now ≡ Some Command.Solve → IsReported result → Solves
-        (S.left source.old) (S.left source.new) (T.written sink.old) (T.written sink.new) }
+    // The headline: where the status reports on goals, the input reads as goals, and the lines of their results were
+    // written. Where a goal is scheduled, the printed words leave its values where the answer says, in each world in
+    // which the axioms and its assumptions hold and from any registers and memory, within the printed cycles of the
+    // table's slots and latencies; the printed graph holds every equality that the printed rounds derive, and no
+    // schedule of it fits in fewer cycles, as the printed lines show for one cycle less. Where none is found, lines
+    // show that none fits in the most cycles that were asked for.
+    ensures right { (s : SettingsOf) → asked_by words.now ≡ Some (Solve s) → IsReported result → Solves s
+        (S.left source.old) (S.left source.new) (T.written sink.old) (T.written sink.new) result }
 
     // Words come first: where they ask for nothing, nothing is read.
     ensures words_first { asked_by words.now ≡ None

@@ -1,6 +1,8 @@
-pub mod AnswerTexts
-pub mod PlainGoals
-pub mod PlainGraphs
-pub mod PlainViews
-pub mod RightAnswers
+pub mod AnswerLines
+pub mod GoalOutcomes
+pub mod Held
+pub mod MatchedGoals
+pub mod Right
 pub mod Statuses
+pub mod TextAnswers
+pub mod Trials

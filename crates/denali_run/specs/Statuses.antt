@@ -1,8 +1,8 @@
 -- The exit status of each ending.
 -- Source: this project.
 use Rattle.std.specs.Prelude.{ℕ}
-use Rattle.denali_run.specs.declared.solving.Status.{Status}
-use Rattle.denali_run.specs.declared.solving.Status.TheVariants.{Done, Missing, Usage, ReadFault, Spent, Memory, SourceFault, SinkFault, NoWorld}
+use Rattle.denali_run.specs.declared.statuses.Status.{Status}
+use Rattle.denali_run.specs.declared.statuses.Status.TheVariants.{Done, Missing, Usage, ReadFault, Spent, Memory, SourceFault, SinkFault, NoWorld}
 
 abbrev pub status_code : Status → ℕ
 status_code Done = 0

@@ -1,22 +1,40 @@
-// What the definitions say of all texts. The calls do nothing.
-ghost use Rattle.std.specs.Prelude.{◌≡◌, ℕ, List};
-ghost use Rattle.goal_reader.specs.Grammar.{IsFirstTextFault};
+// What an answer's text says of its results. The call does nothing: its clause holds of all results.
+ghost use Rattle.std.specs.Prelude.{◌≡◌, All, List};
+ghost use Rattle.std.specs.List.{AllZip};
 ghost use Rattle.goal_reader.specs.Views.{InputTree};
-ghost use Rattle.text_core.specs.declared.faults.Kind.{Kind};
-ghost use Rattle.denali_run.specs.PlainGoals.{PlainGoal};
-ghost use Rattle.denali_run.specs.RightAnswers.{IsAnswerTo, SpellsPlain, SpellsOther};
+ghost use Rattle.goal_reader.specs.WellFormed.{IsInput};
+ghost use Rattle.denali_run.specs.AnswerLines.{answer_text};
+ghost use Rattle.denali_run.specs.Held.{CanBeHeld};
+ghost use Rattle.denali_run.specs.MatchedGoals.{IsSettings};
+ghost use Rattle.denali_run.specs.Right.{Right};
+ghost use Rattle.denali_run.specs.declared.results.Answered.{Answered as AnsweredOf};
+ghost use Rattle.denali_run.specs.declared.results.Encoding.{Encoding as EncodingOf};
+ghost use Rattle.denali_run.specs.declared.settings.Settings.{Settings as SettingsOf};
 
-use goal_reader::texts_have_one_reading;
+use alpha_encode::words_and_instructions;
+use launch_graph::{graphs_are_consistent, one_graph, printed_graphs_are_lines};
+use machine_table::tables_keep_limits;
+use refutation_check::printed_lines_are_read_back;
+use text_core::{one_splitting, printed_lines_are_lines};
+use word_ops::operators_are_listed;
 
-/// A text has one answer at most. One that is answered isn't another one, and neither of the two has a fault.
-pub fn texts_have_one_answer()
-    ensures once { (text bytes other : List ℕ) → IsAnswerTo text bytes → IsAnswerTo text other → bytes ≡ other }
-    ensures other { (text : List ℕ) (input : InputTree) (p : PlainGoal)
-        → SpellsPlain text input p → SpellsOther text → ⊥ }
-    ensures fault { (text : List ℕ) (input : InputTree) (p : PlainGoal) (place : ℕ) (kind : Kind)
-        → SpellsPlain text input p → IsFirstTextFault text place kind → ⊥ }
-    ensures other_fault { (text : List ℕ) (place : ℕ) (kind : Kind)
-        → SpellsOther text → IsFirstTextFault text place kind → ⊥ }
+/// Two lists of right results of one input that have one text are one, where a text can hold them. So a reader of the
+/// bytes knows of which results the answer speaks.
+pub fn one_text_has_one_answer()
+    ensures { (e : EncodingOf) (s : SettingsOf) (input : InputTree) (results others : List AnsweredOf)
+        → IsInput input → IsSettings s
+        → AllZip (λ goal answered. Right e input goal s answered) input.goals results
+        → AllZip (λ goal answered. Right e input goal s answered) input.goals others
+        → All CanBeHeld results → All CanBeHeld others
+        → answer_text e input results ≡ answer_text e input others → results ≡ others }
 {
-    texts_have_one_reading();
+    words_and_instructions();
+    graphs_are_consistent();
+    printed_graphs_are_lines();
+    one_graph();
+    tables_keep_limits();
+    printed_lines_are_read_back();
+    one_splitting();
+    printed_lines_are_lines();
+    operators_are_listed();
 }

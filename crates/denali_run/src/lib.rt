@@ -1,15 +1,22 @@
-//! The work of each command: so far `solve` with no rounds, on a goal that sets a word to an input or to one operate.
+//! The work of each command: so far `solve`, from the bytes of a text of goals to the bytes of their answers.
 #![tactic(auto)]
 
-mod answering;
-mod building;
-mod found;
+mod answer_lines;
+mod goal_solving;
+mod hexadecimal;
 mod laws;
-mod plain_goals;
-mod printing;
-mod solving;
+mod line_texts;
+mod results;
+mod schedule_lines;
+mod searching;
+mod settings;
+mod statuses;
+mod table_lines;
+mod text_solving;
 
-pub use found::Found;
-pub use laws::texts_have_one_answer;
-pub use plain_goals::PlainValue;
-pub use solving::{Report, Status, TextError, solve_text};
+pub use goal_solving::solve_goal;
+pub use laws::one_text_has_one_answer;
+pub use results::{Answered, Encoding, Found, Large, Matched, Missing, Tried};
+pub use settings::{Pick, Settings};
+pub use statuses::Status;
+pub use text_solving::{Report, TextError, solve_text};

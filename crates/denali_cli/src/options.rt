@@ -1,0 +1,123 @@
+// The options of `solve`, and their values.
+ghost use Rattle.std.specs.Prelude.{◌≡◌, ◌≤◌, ◌<◌, ◌^◌, IfSome, IfNone, map};
+ghost use Rattle.denali_run.specs.MatchedGoals.{IsSettings};
+ghost use Rattle.denali_cli.specs.Said as said;
+
+use denali_run::{Pick, Settings};
+use text_core::decimal;
+
+/// The options that words have set.
+#[derive(Clone, Copy, Debug, PartialEq, Eq)]
+pub(crate) struct Options {
+    pub(crate) rounds: Option<u32>,
+    pub(crate) nodes: Option<u32>,
+    pub(crate) cycles: Option<u32>,
+    pub(crate) conflicts: Option<u32>,
+    pub(crate) pick: Option<Pick>,
+}
+
+/// The number that a word is, within two bounds.
+fn value_in(low: u32, high: u32, word: &str) -> Option<u32>
+    ensures value { result ≡ said.value_in low high word.now }
+    ensures within { IfSome result (λ n. (low ≤ n) × (n ≤ high)) }
+{
+    let number = decimal(word.as_bytes())?;
+    if number < u64::from(low) {
+        return None;
+    }
+    if u64::from(high) < number {
+        return None;
+    }
+    Some(number as u32)
+}
+
+fn pick_of(word: &str) -> Option<Pick>
+    ensures { result ≡ said.pick_of word.now }
+{
+    if word == "first" {
+        Some(Pick::First)
+    } else {
+        None
+    }
+}
+
+/// The value for an option that wasn't set before.
+fn once<A: Copy>(before: Option<A>, value: Option<A>) -> Option<A>
+    ensures { result ≡ said.once before value }
+{
+    match before {
+        None => value,
+        Some(_) => None,
+    }
+}
+
+/// The options with one more set, if it may be set to this value.
+fn with_option(options: Options, name: &str, value: &str) -> Option<Options>
+    requires { said.AreInRange options }
+    ensures value { result ≡ said.set_option options name.now value.now }
+    ensures within { IfSome result said.AreInRange }
+{
+    let mut options = options;
+    if name == "--rounds" {
+        options.rounds = Some(once(options.rounds, value_in(0, 16, value))?);
+    } else if name == "--nodes" {
+        options.nodes = Some(once(options.nodes, value_in(1, 4096, value))?);
+    } else if name == "--cycles" {
+        options.cycles = Some(once(options.cycles, value_in(0, 24, value))?);
+    } else if name == "--conflicts" {
+        options.conflicts = Some(once(options.conflicts, value_in(1, 1000000, value))?);
+    } else if name == "--pick" {
+        options.pick = Some(once(options.pick, pick_of(value))?);
+    } else {
+        return None;
+    }
+    Some(options)
+}
+
+/// The options that the words set: pairs of an option and its value, each option once.
+pub(crate) fn options_of(words: &[&str]) -> Option<Options>
+    ensures value { result ≡ said.set_options said.no_options (map (λ word. word.now) words.now) }
+    ensures within { IfSome result said.AreInRange }
+{
+    let mut options = no_options();
+    let mut at = 0;
+    while at < words.len() {
+        if at + 1 == words.len() {
+            return None;
+        }
+        let name = words[at];
+        let value = words[at + 1];
+        options = with_option(options, name, value)?;
+        at += 2;
+    }
+    Some(options)
+}
+
+/// No option is set.
+fn no_options() -> Options
+    ensures value { result ≡ said.no_options }
+    ensures within { said.AreInRange result }
+{
+    Options {
+        rounds: None,
+        nodes: None,
+        cycles: None,
+        conflicts: None,
+        pick: None,
+    }
+}
+
+/// Where an option isn't set, its default stands: 4 rounds, 512 rows, 8 cycles, 20,000 conflicts.
+pub(crate) fn settings_of(options: Options) -> Settings
+    requires { said.AreInRange options }
+    ensures value { result ≡ said.settings_of options }
+    ensures within { IsSettings result }
+{
+    Settings {
+        rounds: options.rounds.unwrap_or(4),
+        nodes: options.nodes.unwrap_or(512),
+        cycles: options.cycles.unwrap_or(8),
+        conflicts: options.conflicts.unwrap_or(20000),
+        pick: options.pick.unwrap_or(Pick::First),
+    }
+}

@@ -1,0 +1,274 @@
+-- The lines of right results can be lines.
+use Rattle.std.proofs.Common.{◌≡◌, ℕ, ◌+◌, ◌-◌, ◌<◌, ◌≤◌, ◌^◌, ◌⊎◌, inl, inr, ◌&&◌, cond, Bool, true, false, not, List, [], ◌∷◌, length, take, map, get_or, refl, sym, subst, arith, codes, decimal, Option, Some, None}
+use Rattle.std.specs.Prelude.{All, slice_index, position, count_by}
+use Rattle.std.specs.List.{AllZip}
+use Rattle.std.specs.Option.{option_map_or}
+use Rattle.std.proofs.lemmas.Bool.{cases_lt}
+use Rattle.std.proofs.lemmas.List.{get_or_past}
+use Rattle.std.proofs.lemmas.List.Elements.{All-head, All-tail, All-map, All-weaker, All-filter}
+use Rattle.alpha_encode.specs.Decoded.{decoded}
+use Rattle.alpha_encode.specs.declared.instructions.Instr.{Instr}
+use Rattle.cnf_core.specs.declared.line.Line.{Line}
+use Rattle.cnf_core.specs.declared.line.Lines.{Lines}
+use Rattle.goal_reader.specs.Views.{GoalTree, InputTree}
+use Rattle.goal_reader.specs.WellFormed.{IsGoal, IsInput}
+use Rattle.launch_graph.specs.GraphLines.{graph_lines, said}
+use Rattle.launch_graph.specs.Graphs.{input_register, is_memory_name}
+use Rattle.launch_graph.specs.WellFormed.{IsLaunchGraph}
+use Rattle.launch_graph.specs.declared.graphs.LaunchGraph.{LaunchGraph}
+use Rattle.launch_graph.specs.declared.graphs.SetClass.{SetClass}
+use Rattle.machine_table.specs.declared.tables.Slot.{Slot}
+use Rattle.machine_table.specs.declared.tables.Table.{Table}
+use Rattle.refutation_check.specs.LineWords.{IsReadableLine, line_words}
+use Rattle.register_assign.specs.Listings.{IsListing, is_zero, or_register, register_at, target_register, word_targets}
+use Rattle.register_assign.specs.Outcomes.{instrs_of}
+use Rattle.register_assign.specs.declared.listings.Item.{Item}
+use Rattle.register_assign.specs.declared.listings.Where.{Where}
+use Rattle.saturation.specs.declared.rounds.Stop.{Stop}
+use Rattle.saturation.specs.declared.rounds.Stop.TheVariants.{Quiet, Rounds, Full}
+use Rattle.schedule_meaning.specs.Launches.{gives, gives_word, launches}
+use Rattle.schedule_meaning.specs.declared.schedules.Launch.{Launch}
+use Rattle.text_core.specs.LineTexts.{CanBeLine}
+use Rattle.text_core.specs.Lines.{IsLineWord}
+use Rattle.text_core.specs.Names.{IsName}
+use Rattle.denali_run.specs.AnswerLines.{answered_lines, below_lines, goal_lines, goals_lines, launch_words, matched_lines, refute_lines, stop_name, text_words, where_words, word_words}
+use Rattle.denali_run.specs.Held.{CanBeHeld, HaveEightDigits, HaveSmallIdsBelow}
+use Rattle.denali_run.specs.MatchedGoals.{IsMatched, IsSettings}
+use Rattle.denali_run.specs.Right.{AreRefuted, one_less, formula_in, Right}
+use Rattle.denali_run.specs.declared.results.Answered.{Answered}
+use Rattle.denali_run.specs.declared.results.Answered.TheVariants.{Scheduled, Nowhere, SpentConflicts, SpentSize, NoWorld}
+use Rattle.denali_run.specs.declared.results.Encoding.{Encoding}
+use Rattle.denali_run.specs.declared.results.Matched.{Matched}
+use Rattle.denali_run.specs.declared.settings.Settings.{Settings}
+use Rattle.denali_run.proofs.LineWords.{AreWords, no_words, a_word, can_be, CanBeLines, no_lines, a_line, lines_from, lines_of, and_lines, hex_word, instr_line_words}
+use Rattle.denali_run.proofs.LinesApart.{words_placed}
+use Rattle.denali_run.proofs.ReadBackLaws.{Laws}
+use Rattle.denali_run.proofs.SameLaunches.{IsPlaced, name_at, any_slot, are_placed}
+use Rattle.denali_run.proofs.SameParts.{head_same, rest_same}
+use Rattle.denali_run.proofs.SameRefutations.{readable, spent_readable}
+
+module _ (laws : Laws) where
+  -- ---- the names and registers of targets
+
+  module _ (g : LaunchGraph) (is : IsLaunchGraph g) where
+    in_pool : (pool : List ℕ) (n : ℕ) (b : (n < length pool) ⊎ (length pool ≤ n)) → All (λ r. r < 31) pool
+        → slice_index pool n < 32
+    in_pool pool n (inl lt) each = (let low : slice_index pool n < 31 = each n 0 lt in omega (arith, low))
+    in_pool pool n (inr past) each = subst (λ r. r < 32) (sym (get_or_past pool n 0 past)) (omega arith)
+
+    at_place : (ordered : List Launch) (o : Option ℕ) → option_map_or (register_at g ordered) o 31 < 32
+    at_place ordered None = omega arith
+    at_place ordered (Some i) =
+        in_pool g.pool (count_by (launches g gives_word) (take i ordered))
+        (cases_lt (count_by (launches g gives_word) (take i ordered)) (length g.pool)) is.pool
+
+    by_input : (class r : ℕ) (o : Option ℕ) → input_register g class ≡ o → r < 32 → or_register o r < 32
+    by_input class r None e low = low
+    by_input class r (Some n) e low = (let small = (laws.registers g class n is e).0 in omega (arith, small))
+
+    by_zero : (b : Bool) (r : ℕ) → r < 32 → cond b 31 r < 32
+    by_zero true r low = omega arith
+    by_zero false r low = low
+
+    -- the register of a target is one of the 32
+    target_low : (ordered : List Launch) (class : ℕ) → target_register g ordered class < 32
+    target_low ordered class =
+        by_zero (is_zero g class)
+        (or_register (input_register g class)
+        (option_map_or (register_at g ordered) (position (λ (l : Launch). gives g class l && true) ordered) 31))
+        (by_input class
+        (option_map_or (register_at g ordered) (position (λ (l : Launch). gives g class l && true) ordered) 31)
+        (input_register g class) refl
+        (at_place ordered (position (λ (l : Launch). gives g class l && true) ordered)))
+
+    abbrev IsPlace : Where → Type 0
+    IsPlace w = IsName w.name × (w.reg < 32)
+
+    abbrev place_of : List Launch → SetClass → Where
+    place_of ordered s = record { name = s.name; reg = target_register g ordered s.class }
+
+    are_places : (table : Table) (ls : List Launch) (items : List Item) (wheres : List Where)
+        → IsListing g table ls items wheres → All IsPlace wheres
+    are_places table ls items wheres listing =
+        subst (All IsPlace) (sym listing.wheres_are)
+        (All-map IsPlace (place_of listing.ordered) (word_targets g)
+        (All-weaker (λ (s : SetClass). IsName s.name) (λ (s : SetClass). IsPlace (place_of listing.ordered s))
+        (λ s named. (named, target_low listing.ordered s.class)) (word_targets g)
+        (All-filter (λ (s : SetClass). not (is_memory_name s.name)) (λ (s : SetClass). IsName s.name) g.sets is.names.1)))
+
+    place_line : (w : Where) → IsPlace w → CanBeLine (where_words w)
+    place_line w place =
+        can_be
+        (a_word (record { some = λ e. cc; printed = refl })
+        (a_word (laws.name w.name place.0)
+        (a_word (let low = place.1 in laws.number w.reg (omega (arith, low))) no_words)))
+
+    pub where_lines : (table : Table) (ls : List Launch) (items : List Item) (wheres : List Where)
+        → IsListing g table ls items wheres → CanBeLines (map where_words wheres)
+    where_lines table ls items wheres listing =
+        lines_of where_words IsPlace place_line wheres (are_places table ls items wheres listing)
+
+  -- ---- launches and words
+
+  launch_line : (table : Table) → All (λ (s : Slot). IsName s.name) table.slots → (l : Launch) → IsPlaced table l
+      → CanBeLine (launch_words table l)
+  launch_line table named l at =
+      can_be
+      (a_word (record { some = λ e. cc; printed = refl })
+      (a_word (let low = at.0 in laws.number l.cycle (omega (arith, low)))
+      (a_word
+      (subst IsLineWord (sym (name_at table.slots l.slot any_slot at.1))
+      (laws.name (get_or table.slots l.slot any_slot).name (named l.slot any_slot at.1)))
+      (a_word (let low = at.2 in laws.number l.row (omega (arith, low))) no_words))))
+
+  word_line : (word : ℕ) (i : Instr) → word < 2 ^ 32 → decoded word ≡ Some i → CanBeLine (word_words word)
+  word_line word i low is =
+      can_be
+      (a_word (record { some = λ e. cc; printed = refl })
+      (a_word (hex_word word)
+      (subst (λ o. AreWords (text_words o)) (sym is)
+      (instr_line_words laws.number laws.operators i (laws.forth word i low is).0))))
+
+  word_lines : (instrs : List Instr) (words : List ℕ) → HaveEightDigits words → map decoded words ≡ map Some instrs
+      → CanBeLines (map word_words words)
+  word_lines instrs [] low is = no_lines
+  word_lines [] (w ∷ ws) low is = cc
+  word_lines (i ∷ instrs) (w ∷ ws) low is =
+      a_line
+      (word_line w i (All-head (λ word. word < 2 ^ 32) w ws low)
+      (head_same (decoded w) (Some i) (map decoded ws) (map Some instrs) is))
+      (word_lines instrs ws (All-tail (λ word. word < 2 ^ 32) w ws low)
+      (rest_same (decoded w) (Some i) (map decoded ws) (map Some instrs) is))
+
+  -- ---- refutations
+
+  count_line : (a : List ℕ) (j n : ℕ) → IsLineWord a → j < 2 ^ 31 → n < 2 ^ 31
+      → CanBeLine (a ∷ decimal j ∷ decimal n ∷ [])
+  count_line a j n is low few =
+      can_be
+      (a_word is
+      (a_word (laws.number j (omega (arith, low))) (a_word (laws.number n (omega (arith, few))) no_words)))
+
+  block_lines : (a : List ℕ) (j : ℕ) (lines : List Line) → IsLineWord a → j < 2 ^ 31
+      → All IsReadableLine lines × (length lines < 2 ^ 31)
+      → CanBeLines ((a ∷ decimal j ∷ decimal (length lines) ∷ []) ∷ map line_words lines)
+  block_lines a j lines is low can =
+      a_line (count_line a j (length lines) is low can.1)
+      (lines_from (map line_words lines)
+      (subst (All CanBeLine) (words_placed 0 (map line_words lines))
+      (laws.each 0 _ _ (laws.refutation_lines 0 lines can.0))))
+
+  below_can : (e : Encoding) (g : LaunchGraph) (table : Table) (k : ℕ) (lines : Option Lines) → k ≤ 24
+      → AreRefuted e g table k lines → HaveSmallIdsBelow lines → CanBeLines (below_lines k lines)
+  below_can e g table k None low are small = no_lines
+  below_can e g table k (Some lines) low (one_less {k = j} refuted) small =
+      block_lines (codes "refute") (j + 1 - 1) lines.lines (record { some = λ e. cc; printed = refl })
+      (omega (arith, low))
+      (readable laws.accepted (formula_in e g table j) lines.lines refuted.none_fits.within refuted.refutes.accepted small)
+
+  refuted_can : (e : Encoding) (g : LaunchGraph) (table : Table) (k after : ℕ) (lines : Lines) → after ≡ k + 1 → k ≤ 24
+      → AreRefuted e g table after (Some lines) → HaveSmallIdsBelow (Some lines) → CanBeLines (refute_lines k lines.lines)
+  refuted_can e g table k after lines is low (one_less {k = j} refuted) small =
+      block_lines (codes "refute") k lines.lines (record { some = λ e. cc; printed = refl }) (omega (arith, low))
+      (readable laws.accepted (formula_in e g table j) lines.lines refuted.none_fits.within refuted.refutes.accepted small)
+
+  -- ---- graphs
+
+  stop_word : (stop : Stop) → IsLineWord (stop_name stop)
+  stop_word Quiet = record { some = λ e. cc; printed = refl }
+  stop_word Rounds = record { some = λ e. cc; printed = refl }
+  stop_word Full = record { some = λ e. cc; printed = refl }
+
+  matched_can : (m : Matched) → IsLaunchGraph m.graph → m.rounds < 2 ^ 31 → CanBeLines (matched_lines m)
+  matched_can m is low =
+      a_line
+      (can_be
+      (a_word (record { some = λ e. cc; printed = refl })
+      (a_word (laws.number m.rounds (omega (arith, low)))
+      (a_word (record { some = λ e. cc; printed = refl }) (a_word (stop_word m.stop) no_words)))))
+      (lines_from (graph_lines (said m.graph)) (laws.graph_words m.graph is))
+
+  -- ---- results
+
+  number_line : (a : List ℕ) (k : ℕ) → IsLineWord a → k ≤ 24 → CanBeLine (a ∷ decimal k ∷ [])
+  number_line a k is low = can_be (a_word is (a_word (laws.number k (omega (arith, low))) no_words))
+
+  module _ (e : Encoding) (input : InputTree) (s : Settings) (is : IsInput input) (set : IsSettings s) where
+    pub rounds_low : (goal : GoalTree) (m : Matched) → IsMatched input goal s m → m.rounds < 2 ^ 31
+    rounds_low goal m matched =
+        (let few = set.rounds in let reached : m.rounds ≤ s.rounds = matched.reached.0 in omega (arith, few, reached))
+
+    pub cycles_low : (k : ℕ) → k ≤ s.cycles → k ≤ 24
+    cycles_low k low = (let most = set.cycles in omega (arith, most, low))
+
+    front : (goal : GoalTree) (m : Matched) → IsMatched input goal s m → CanBeLines (matched_lines m)
+    front goal m matched = matched_can m matched.graph (rounds_low goal m matched)
+
+    answered_can : (goal : GoalTree) (r : Answered) → Right e input goal s r → CanBeHeld r
+        → CanBeLines (answered_lines input.table r)
+    answered_can goal (Scheduled f) right held =
+        let low : f.k ≤ 24 = cycles_low f.k right.1 in
+        and_lines _ (front goal f.matched right.0)
+        (a_line (number_line (codes "scheduled") f.k (record { some = λ e. cc; printed = refl }) low)
+        (and_lines _
+        (lines_of (launch_words input.table) (IsPlaced input.table) (launch_line input.table is.slots) f.schedule.launches
+        (are_placed laws.slots f.matched.graph input.table is.table right.0.graph.few f.k f.schedule.launches low
+        right.3.fits))
+        (and_lines _ (word_lines (instrs_of f.listing.items) f.words held.1 right.3.words)
+        (and_lines _
+        (where_lines f.matched.graph right.0.graph input.table f.schedule.launches f.listing.items f.listing.wheres
+        right.3.listing.is)
+        (below_can e f.matched.graph input.table f.k f.refutation low right.4.refuted held.2)))))
+    answered_can goal (Nowhere m) right held =
+        let low : m.k ≤ 24 = cycles_low m.k (let same = right.1 in omega (arith, same)) in
+        and_lines _ (front goal m.matched right.0)
+        (a_line (number_line (codes "none") m.k (record { some = λ e. cc; printed = refl }) low)
+        (refuted_can e m.matched.graph input.table m.k (m.k + 1) m.refutation refl low right.2.refuted held.1))
+    answered_can goal (SpentConflicts t) right held =
+        let low : t.k ≤ 24 = cycles_low t.k right.1 in
+        and_lines _ (front goal t.matched right.0)
+        (a_line
+        (can_be
+        (a_word (record { some = λ e. cc; printed = refl })
+        (a_word (record { some = λ e. cc; printed = refl })
+        (a_word (laws.number t.k (omega (arith, low))) no_words))))
+        (and_lines _ (below_can e t.matched.graph input.table t.k t.refutation low right.4.refuted held.1)
+        (block_lines (codes "lemmas") t.k t.lemmas.lines (record { some = λ e. cc; printed = refl }) (omega (arith, low))
+        (spent_readable laws.accepted (formula_in e t.matched.graph input.table t.k) t.lemmas.lines right.2
+        right.3.accepted (let count = right.3.count in let most = set.conflicts.1 in omega (arith, count, most))))))
+    answered_can goal (SpentSize l) right held =
+        let low : l.k ≤ 24 = cycles_low l.k right.1 in
+        and_lines _ (front goal l.matched right.0)
+        (a_line
+        (can_be
+        (a_word (record { some = λ e. cc; printed = refl })
+        (a_word (record { some = λ e. cc; printed = refl })
+        (a_word (laws.number l.k (omega (arith, low)))
+        (a_word (laws.number l.vars held.1) (a_word (laws.number l.clauses held.2) no_words))))))
+        (below_can e l.matched.graph input.table l.k l.refutation low right.3.refuted held.3))
+    answered_can goal (NoWorld class a b) right held =
+        a_line
+        (can_be
+        (a_word (record { some = λ e. cc; printed = refl })
+        (a_word (let low : class < 2 ^ 31 = held.0 in laws.number class (omega (arith, low)))
+        (a_word (laws.number a held.1) (a_word (laws.number b held.2) no_words)))))
+        no_lines
+
+    goal_can : (goal : GoalTree) (r : Answered) → IsName goal.name → Right e input goal s r → CanBeHeld r
+        → CanBeLines (goal_lines input.table goal.name r)
+    goal_can goal r named right held =
+        a_line (can_be (a_word (record { some = λ e. cc; printed = refl }) (a_word (laws.name goal.name named) no_words)))
+        (and_lines _ (answered_can goal r right held)
+        (a_line (can_be (a_word (record { some = λ e. cc; printed = refl }) no_words)) no_lines))
+
+    -- the lines of all goals
+    pub goals_can : (goals : List GoalTree) (results : List Answered) → All (IsGoal input.ops) goals
+        → AllZip (λ goal answered. Right e input goal s answered) goals results → All CanBeHeld results
+        → CanBeLines (goals_lines input.table goals results)
+    goals_can [] [] each right held = no_lines
+    goals_can [] (r ∷ rs) each right held = absurd right
+    goals_can (goal ∷ goals) [] each right held = absurd right
+    goals_can (goal ∷ goals) (r ∷ rs) each right held =
+        and_lines _
+        (goal_can goal r (All-head (IsGoal input.ops) goal goals each).named.own right.0 (All-head CanBeHeld r rs held))
+        (goals_can goals rs (All-tail (IsGoal input.ops) goal goals each) right.1 (All-tail CanBeHeld r rs held))

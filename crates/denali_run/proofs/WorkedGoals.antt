@@ -1,0 +1,168 @@
+-- What the work on a goal comes to, from what its calls promise.
+use Rattle.std.proofs.Common.{◌≡◌, ℕ, ◌+◌, ◌<◌, ◌≤◌, ◌^◌, ◌∙◌, max, List, Result, Ok, Err, refl, sym, ap, subst, arith, map, All, Contains}
+use Rattle.std.specs.Prelude.{IfOk, slice_get, Some, length, get_or}
+use Rattle.std.proofs.lemmas.List.{get_or-map, length-map}
+use Rattle.std.proofs.lemmas.List.Elements.{All-contains, Contains-get_or}
+use Rattle.std.proofs.lemmas.Option.{slice_get_read}
+use Rattle.word_ops.specs.Worlds.{World, IsWorld}
+use Rattle.word_ops.specs.declared.sorts.Op.{Op}
+use Rattle.axiom_base.specs.Rewrites.{Rewrite}
+use Rattle.egraph.specs.Graph.{Graph}
+use Rattle.machine_table.specs.declared.tables.Table.{Table}
+use Rattle.saturation.specs.declared.rounds.Stop.{Stop}
+use Rattle.goal_reader.specs.Holds.{HoldsFor}
+use Rattle.goal_reader.specs.Printing.{declared_name}
+use Rattle.goal_reader.specs.Views.{GoalTree, InputTree, goal_view}
+use Rattle.goal_reader.specs.WellFormed.{IsGoal, IsInput}
+use Rattle.goal_reader.specs.declared.goals.Goal.{Goal}
+use Rattle.launch_graph.specs.WellFormed.{IsLaunchGraph}
+use Rattle.saturation.specs.GraphStands.{GraphStands, RulesHold}
+use Rattle.saturation.specs.Grown.{IsGrown}
+use Rattle.saturation.specs.GoalTerms.{assumed_pairs, kept_terms, present_terms, rules_of}
+use Rattle.saturation.specs.Rounds.{IsSaturated, IsHopeless, SaturateFaultIs, StopIs}
+use Rattle.saturation.specs.StandsFor.{StandsFor, graph_view}
+use Rattle.saturation.specs.declared.faults.SaturateFault.{SaturateFault}
+use Rattle.saturation.specs.declared.faults.SaturateFault.TheVariants as rounds
+use Rattle.denali_run.specs.MatchedGoals.{IsClashOf, IsMatched}
+use Rattle.denali_run.specs.Right.{HasNoWorld, Right}
+use Rattle.saturation.specs.AtStart.{IsHopelessAtStart, StartFaultIs}
+use Rattle.denali_run.specs.Trials.{IsNoWorldAtStart, IsNoWorldInRounds}
+use Rattle.denali_run.specs.declared.results.Answered.{Answered}
+use Rattle.denali_run.specs.declared.results.Answered.TheVariants.{Scheduled, Nowhere, SpentConflicts, SpentSize, NoWorld}
+use Rattle.denali_run.specs.declared.results.Encoding.TheVariants.{Wide}
+use Rattle.denali_run.specs.declared.results.Matched.{Matched}
+use Rattle.denali_run.specs.declared.settings.Settings.{Settings}
+use Rattle.saturation.specs.declared.faults.StartFault.{StartFault}
+use Rattle.saturation.specs.declared.faults.StartFault.TheVariants as start
+
+abbrev pub RulesAreTrue : InputTree → GoalTree → Type 0
+RulesAreTrue input goal =
+    (world : World)
+    → IsWorld world
+    → HoldsFor input goal world
+    → RulesHold world (declared_name input.ops) (rules_of input) (assumed_pairs goal)
+
+module _ (input : InputTree) (goal : GoalTree) (s : Settings) (rules_true : RulesAreTrue input goal) where
+  named : (a b x y : ℕ) → x ≡ a → y ≡ b → HasNoWorld input goal s a b → HasNoWorld input goal s x y
+  named a b x y e f h = subst (λ n. HasNoWorld input goal s n y) (sym e) (subst (HasNoWorld input goal s a) (sym f) h)
+
+  at_start : (fault : StartFault) (answered : Answered) → StartFaultIs goal fault → IsHopelessAtStart goal fault
+      → IsNoWorldAtStart fault answered → Right Wide input goal s answered
+  at_start (start.NoWorld class a b) (NoWorld c x y) h hopeless e =
+      named a b x y e.0 e.1 (record {
+        round = 0;
+        reached = (omega arith, λ i lt. absurd (omega (arith, lt)));
+        clash = h (rules_of input);
+        nowhere = λ world is holds. hopeless (declared_name input.ops) (rules_of input) world is (rules_true world is holds);
+      })
+  at_start (start.NoWorld class a b) (Scheduled f) h hopeless e = absurd e
+  at_start (start.NoWorld class a b) (Nowhere f) h hopeless e = absurd e
+  at_start (start.NoWorld class a b) (SpentConflicts f) h hopeless e = absurd e
+  at_start (start.NoWorld class a b) (SpentSize f) h hopeless e = absurd e
+  at_start start.Memory answered h hopeless e = absurd e
+
+  pub start_refused : {E : Type 0} (fault : StartFault) (r : Result Answered E) → StartFaultIs goal fault
+      → IsHopelessAtStart goal fault → IfOk r (IsNoWorldAtStart fault) → IfOk r (Right Wide input goal s)
+  start_refused fault (Ok x) h hopeless e = at_start fault x h hopeless e
+  start_refused fault (Err x) h hopeless e = tt
+
+  module _ (graph : Graph Op) (grown : IsGrown (rules_of input) (present_terms goal) (assumed_pairs goal) graph 0)
+      (stands : GraphStands (declared_name input.ops) (rules_of input) (assumed_pairs goal) (kept_terms goal) graph) where
+    in_rounds : (fault : SaturateFault) (answered : Answered)
+        → SaturateFaultIs (rules_of input) graph s.rounds s.nodes fault → IsHopeless (rules_of input) graph fault
+        → IsNoWorldInRounds fault answered → Right Wide input goal s answered
+    in_rounds (rounds.NoWorld class a b) (NoWorld c x y) h hopeless e =
+        named a b x y e.0 e.1 (record {
+          round = h.round;
+          reached = (h.asked, (h.clash (present_terms goal) (assumed_pairs goal) grown).1);
+          clash = (h.clash (present_terms goal) (assumed_pairs goal) grown).0;
+          nowhere = λ world is holds. hopeless (declared_name input.ops) (assumed_pairs goal) (kept_terms goal) stands world
+              is (rules_true world is holds);
+        })
+    in_rounds (rounds.NoWorld class a b) (Scheduled f) h hopeless e = absurd e
+    in_rounds (rounds.NoWorld class a b) (Nowhere f) h hopeless e = absurd e
+    in_rounds (rounds.NoWorld class a b) (SpentConflicts f) h hopeless e = absurd e
+    in_rounds (rounds.NoWorld class a b) (SpentSize f) h hopeless e = absurd e
+    in_rounds rounds.Memory answered h hopeless e = absurd e
+
+    pub rounds_refused : {E : Type 0} (fault : SaturateFault) (r : Result Answered E)
+        → SaturateFaultIs (rules_of input) graph s.rounds s.nodes fault → IsHopeless (rules_of input) graph fault
+        → IfOk r (IsNoWorldInRounds fault) → IfOk r (Right Wide input goal s)
+    rounds_refused fault (Ok x) h hopeless e = in_rounds fault x h hopeless e
+    rounds_refused fault (Err x) h hopeless e = tt
+
+    pub matched_is : (after : Graph Op) (m : Matched)
+        → IsSaturated (rules_of input) graph s.rounds s.nodes after m.rounds m.stop → m.rounds ≤ s.rounds
+        → IsLaunchGraph m.graph → StandsFor input goal m.graph
+        → (IsGrown (rules_of input) (present_terms goal) (assumed_pairs goal) after m.rounds
+        → IsGrown (rules_of input) (present_terms goal) (assumed_pairs goal) (graph_view input.ops m.graph) m.rounds)
+        → (StopIs (rules_of input) after s.rounds s.nodes m.rounds m.stop
+        → StopIs (rules_of input) (graph_view input.ops m.graph) s.rounds s.nodes m.rounds m.stop)
+        → ((i a b : ℕ) → IsGrown (rules_of input) (present_terms goal) (assumed_pairs goal) after m.rounds → i ≤ m.rounds
+        → IsClashOf input goal i a b → ⊥)
+        → IsMatched input goal s m
+    matched_is after m saturated few well_formed stands_for keeps_grown keeps_stop no_clash =
+        let h = saturated.after.grown (present_terms goal) (assumed_pairs goal) grown in
+        record {
+          graph = well_formed;
+          stands = stands_for;
+          grown = keeps_grown h.0;
+          reached = (few, h.1);
+          stops = keeps_stop saturated.stops;
+          no_clash = λ j a b le clash. no_clash j a b h.0 le clash;
+        }
+
+-- ---- the goal of a place is the one that was taken from it
+
+module _ (input : InputTree) (s : Settings) (place : ℕ) (goal : GoalTree) (there : slice_get input.goals place ≡ Some goal) where
+  pub same_goal : (other : GoalTree) → slice_get input.goals place ≡ Some other → goal ≡ other
+  same_goal other is = cc
+
+  pub for_the_goal : {E : Type 0} (r : Result Answered E) → IfOk r (Right Wide input goal s)
+      → IfOk r (λ answered. (other : GoalTree) → slice_get input.goals place ≡ Some other → Right Wide input other s answered)
+  for_the_goal (Ok x) h = λ other is. subst (λ (n : GoalTree). Right Wide input n s x) (same_goal other is) h
+  for_the_goal (Err e) h = tt
+
+-- the view of what was taken at a place
+pub place_of : (goals shown : List Goal) (place : ℕ) (goal : Goal) → shown ≡ goals → place < length goals
+    → goal ≡ get_or shown place goal → goal_view goal ≡ get_or (map goal_view goals) place (goal_view goal)
+place_of goals shown place goal is lt e =
+    ap goal_view (subst (λ (gs : List Goal). goal ≡ get_or gs place goal) is e)
+    ∙ sym (get_or-map goal_view goals place goal (goal_view goal) lt)
+
+below_map : (goals : List Goal) (place : ℕ) → place < length goals → place < length (map goal_view goals)
+below_map goals place lt = subst (λ n. place < n) (sym (length-map goals goal_view)) lt
+
+pub there : (goals shown : List Goal) (place : ℕ) (goal : Goal) → shown ≡ goals → place < length goals
+    → goal ≡ get_or shown place goal → slice_get (map goal_view goals) place ≡ Some (goal_view goal)
+there goals shown place goal is lt e =
+    slice_get_read (map goal_view goals) (length (map goal_view goals)) place (goal_view goal) refl
+    (below_map goals place lt) (place_of goals shown place goal is lt e)
+
+pub is_one : (goals shown : List Goal) (place : ℕ) (goal : Goal) → shown ≡ goals → place < length goals
+    → goal ≡ get_or shown place goal → Contains (map goal_view goals) (goal_view goal)
+is_one goals shown place goal is lt e =
+    subst (Contains (map goal_view goals)) (sym (place_of goals shown place goal is lt e))
+    (Contains-get_or (map goal_view goals) place (goal_view goal) (below_map goals place lt))
+
+pub few_rows : (before after rows nodes : ℕ) → before < 2 ^ 30 → rows ≤ before → nodes ≤ 4096 → after ≤ max rows nodes
+    → after < 2 ^ 30
+few_rows before after rows nodes few fewer small bound = omega (arith, few, fewer, small, bound)
+
+-- the graph after the rounds
+pub grown_after : (input : InputTree) (goal : GoalTree) (program : List Rewrite) (graph after : Graph Op)
+    (rounds nodes j : ℕ) (stop : Stop) → program ≡ rules_of input → IsSaturated program graph rounds nodes after j stop
+    → IsGrown (rules_of input) (present_terms goal) (assumed_pairs goal) graph 0
+    → IsGrown (rules_of input) (present_terms goal) (assumed_pairs goal) after j
+grown_after input goal program graph after rounds nodes j stop is saturated grown =
+    let h : IsSaturated (rules_of input) graph rounds nodes after j stop =
+    subst (λ rs. IsSaturated rs graph rounds nodes after j stop) is saturated in
+    (h.after.grown (present_terms goal) (assumed_pairs goal) grown).0
+
+pub found_of : {E : Type 0} (s : Settings) (table : Table) (m : Matched) (r : Result Answered E)
+    → IfOk r (λ answered. (input : InputTree) (goal : GoalTree) → input.table ≡ table → IsMatched input goal s m
+    → Right Wide input goal s answered)
+    → (input : InputTree) (goal : GoalTree) → input.table ≡ table → IsMatched input goal s m
+    → IfOk r (Right Wide input goal s)
+found_of s table m (Ok answered) h input goal is matched = h input goal is matched
+found_of s table m (Err e) h input goal is matched = tt

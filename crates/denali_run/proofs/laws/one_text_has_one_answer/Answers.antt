@@ -1,0 +1,23 @@
+use Rattle.denali_run.proofs.ReadAnswers.{results_once}
+use Rattle.denali_run.proofs.ReadBackLaws.{Laws}
+use Rattle.denali_run.proofs.laws.one_text_has_one_answer.Goals as goal
+
+pub returns : goal.returns
+returns c = λ e s input results others is set right also held fit same.
+    let laws : Laws = record {
+      number = c.printed_lines_are_lines.ensures.number;
+      name = c.printed_lines_are_lines.ensures.name;
+      printed_lines = c.printed_lines_are_lines.ensures.lines;
+      one_text = c.one_splitting.ensures.lines;
+      each = c.printed_lines_are_lines.ensures.each;
+      operators = c.operators_are_listed.ensures.each;
+      forth = c.words_and_instructions.ensures.forth;
+      registers = c.graphs_are_consistent.ensures.input_word;
+      graph_words = c.printed_graphs_are_lines.ensures.words;
+      graphs = c.one_graph.ensures.graph;
+      printed_graphs = c.one_graph.ensures.printed;
+      slots = c.tables_keep_limits.ensures.slot;
+      accepted = c.printed_lines_are_read_back.ensures.accepted;
+      refutation_lines = c.printed_lines_are_read_back.ensures.lines;
+    } in
+    results_once laws e s input results others is set right also held fit same

@@ -1,0 +1,45 @@
+-- The graph of a goal after its rounds of matching. From Denali (PLDI 2002), its matching phase; when rounds end is this
+-- project's.
+use Rattle.std.specs.Prelude.{ℕ, ◌≤◌}
+use Rattle.goal_reader.specs.Views.{GoalTree, InputTree}
+use Rattle.launch_graph.specs.WellFormed.{IsLaunchGraph}
+use Rattle.launch_graph.specs.declared.graphs.LaunchGraph.{LaunchGraph}
+use Rattle.saturation.specs.Derives.{IsClash}
+use Rattle.saturation.specs.GoalTerms.{assumed_pairs, present_terms, rules_of}
+use Rattle.saturation.specs.Grown.{IsGrown, NotBefore}
+use Rattle.saturation.specs.Rounds.{StopIs}
+use Rattle.saturation.specs.StandsFor.{StandsFor, graph_view}
+use Rattle.denali_run.specs.declared.results.Matched.{Matched}
+use Rattle.denali_run.specs.declared.settings.Settings.{Settings}
+
+-- the numbers are within their ranges
+pub record IsSettings (s : Settings) : Type 0 where
+  pub rounds : s.rounds ≤ 16
+  pub nodes : (1 ≤ s.nodes) × (s.nodes ≤ 4096)
+  pub cycles : s.cycles ≤ 24
+  pub conflicts : (1 ≤ s.conflicts) × (s.conflicts ≤ 1000000)
+
+-- two terms have one class in the graph exactly where so many rounds make them equal, and each class is that of a term
+abbrev pub IsGrownFor : InputTree → GoalTree → LaunchGraph → ℕ → Type 0
+IsGrownFor input goal g j =
+    IsGrown (rules_of input) (present_terms goal) (assumed_pairs goal) (graph_view input.ops g) j
+
+-- so many rounds make these constants equal, which differ
+abbrev pub IsClashOf : InputTree → GoalTree → ℕ → ℕ → ℕ → Type 0
+IsClashOf input goal j a b = IsClash (rules_of input) (present_terms goal) (assumed_pairs goal) j a b
+
+-- the rounds that are asked for don't end before round j
+abbrev pub Reaches : InputTree → GoalTree → Settings → ℕ → Type 0
+Reaches input goal s j =
+    (j ≤ s.rounds) × NotBefore (rules_of input) (present_terms goal) (assumed_pairs goal) s.rounds s.nodes j
+
+-- The graph stands for the goal. Its rounds are as many as are asked for, or the first after which no match is unmet or
+-- another round might pass the limit on rows; it has every equality that they derive and no other, and no two different
+-- constants are equal in it.
+pub record IsMatched (input : InputTree) (goal : GoalTree) (s : Settings) (m : Matched) : Type 0 where
+  pub graph : IsLaunchGraph m.graph
+  pub stands : StandsFor input goal m.graph
+  pub grown : IsGrownFor input goal m.graph m.rounds
+  pub reached : Reaches input goal s m.rounds
+  pub stops : StopIs (rules_of input) (graph_view input.ops m.graph) s.rounds s.nodes m.rounds m.stop
+  pub no_clash : (j a b : ℕ) → j ≤ m.rounds → ¬ IsClashOf input goal j a b

@@ -1,0 +1,96 @@
+-- When what a goal is answered by is right. Source: this project, over Denali (PLDI 2002).
+use Rattle.std.specs.Prelude.{◌≡◌, ℕ, ◌+◌, ◌<◌, ◌≤◌, List, Option, None, Some}
+use Rattle.word_ops.specs.Worlds.{World, IsWorld}
+use Rattle.cnf_core.specs.Formula.{Formula}
+use Rattle.cnf_core.specs.Outcome.{IsSpent}
+use Rattle.cnf_core.specs.Refutation.{Refutes}
+use Rattle.cnf_core.specs.declared.line.Line.{Line}
+use Rattle.cnf_core.specs.declared.line.Lines.{Lines}
+use Rattle.cycle_encoding.specs.CycleFormula.{wide}
+use Rattle.cycle_encoding.specs.Plans.{IsTooLarge, PassesLimit}
+use Rattle.goal_reader.specs.Holds.{HoldsFor}
+use Rattle.goal_reader.specs.Views.{GoalTree, InputTree}
+use Rattle.launch_graph.specs.declared.graphs.LaunchGraph.{LaunchGraph}
+use Rattle.machine_table.specs.declared.tables.Table.{Table}
+use Rattle.order_encoding.specs.WholeFormula.{whole_formula}
+use Rattle.register_assign.specs.Assigned.{IsTheListing}
+use Rattle.register_assign.specs.Obeys.{Obeys}
+use Rattle.register_assign.specs.Outcomes.{AreWordsOf}
+use Rattle.schedule_meaning.specs.Fits.{Fits}
+use Rattle.schedule_meaning.specs.declared.schedules.Launch.{Launch}
+use Rattle.denali_run.specs.GoalOutcomes.{Computes}
+use Rattle.denali_run.specs.MatchedGoals.{IsClashOf, IsMatched, Reaches}
+use Rattle.denali_run.specs.declared.results.Answered.{Answered}
+use Rattle.denali_run.specs.declared.results.Answered.TheVariants.{Scheduled, Nowhere, SpentConflicts, SpentSize, NoWorld}
+use Rattle.denali_run.specs.declared.results.Encoding.{Encoding}
+use Rattle.denali_run.specs.declared.results.Encoding.TheVariants.{Wide}
+use Rattle.denali_run.specs.declared.results.Found.{Found}
+use Rattle.denali_run.specs.declared.settings.Settings.{Settings}
+
+-- ---- clauses and schedules of a graph
+
+-- the clauses that say in an encoding that a schedule fits in k cycles
+abbrev pub formula_in : Encoding → LaunchGraph → Table → ℕ → Formula
+formula_in Wide g table k = whole_formula g table k (wide g table k)
+
+-- the clauses for k cycles are within the limits, and no list of launches fits in k cycles
+pub record NoneFits (e : Encoding) (g : LaunchGraph) (table : Table) (k : ℕ) : Type 0 where
+  pub within : ¬ IsTooLarge (formula_in e g table k)
+  pub none : (ls : List Launch) → Fits g table k ls → ⊥
+
+-- the lines refute the clauses for k cycles, and no schedule fits in them
+pub record IsRefuted (e : Encoding) (g : LaunchGraph) (table : Table) (k : ℕ) (lines : List Line) : Type 0 where
+  pub refutes : Refutes (formula_in e g table k) lines
+  pub none_fits : NoneFits e g table k
+
+-- where k isn't 0 there are lines, and they refute the clauses for k - 1 cycles
+pub data AreRefuted (e : Encoding) (g : LaunchGraph) (table : Table) : ℕ → Option Lines → Type 0 where
+  nothing_less : AreRefuted e g table 0 None
+  one_less : {k : ℕ} {lines : Lines} → IsRefuted e g table k lines.lines → AreRefuted e g table (k + 1) (Some lines)
+
+-- the lines refute the clauses for k - 1, and no schedule fits in fewer cycles than k
+pub record IsLeast (e : Encoding) (g : LaunchGraph) (table : Table) (k : ℕ) (refutation : Option Lines) : Type 0 where
+  pub refuted : AreRefuted e g table k refutation
+  pub none_fits : (j : ℕ) → j < k → NoneFits e g table j
+
+-- ---- results
+
+-- The launches fit in k cycles. These are their instructions in word order and the places of the targets, these are the
+-- instructions' words, the instructions keep to the table, and the words compute the goal.
+pub record IsScheduled (input : InputTree) (goal : GoalTree) (f : Found) : Type 0 where
+  pub fits : Fits f.matched.graph input.table f.k f.schedule.launches
+  pub listing : IsTheListing f.matched.graph input.table f.schedule.launches f.listing.items f.listing.wheres
+  pub words : AreWordsOf f.listing.items f.words
+  pub obeys : Obeys input.table f.k f.listing.items
+  pub computes : Computes input goal f.listing.items f.words f.listing.wheres
+
+-- two different constants are equal after a round that is reached, and so axioms and assumptions hold in no world
+pub record HasNoWorld (input : InputTree) (goal : GoalTree) (s : Settings) (a b : ℕ) : Type 0 where
+  pub round : ℕ
+  pub reached : Reaches input goal s round
+  pub clash : IsClashOf input goal round a b
+  pub nowhere : (world : World) → IsWorld world → HoldsFor input goal world → ⊥
+
+abbrev pub Right : Encoding → InputTree → GoalTree → Settings → Answered → Type 0
+Right e input goal s (Scheduled f) =
+    IsMatched input goal s f.matched
+    × (f.k ≤ s.cycles)
+    × (¬ IsTooLarge (formula_in e f.matched.graph input.table f.k))
+    × IsScheduled input goal f
+    × IsLeast e f.matched.graph input.table f.k f.refutation
+Right e input goal s (Nowhere m) =
+    IsMatched input goal s m.matched
+    × (m.k ≡ s.cycles)
+    × IsLeast e m.matched.graph input.table (m.k + 1) (Some m.refutation)
+Right e input goal s (SpentConflicts t) =
+    IsMatched input goal s t.matched
+    × (t.k ≤ s.cycles)
+    × (¬ IsTooLarge (formula_in e t.matched.graph input.table t.k))
+    × IsSpent (formula_in e t.matched.graph input.table t.k) s.conflicts t.lemmas.lines
+    × IsLeast e t.matched.graph input.table t.k t.refutation
+Right e input goal s (SpentSize l) =
+    IsMatched input goal s l.matched
+    × (l.k ≤ s.cycles)
+    × PassesLimit (formula_in e l.matched.graph input.table l.k) l.vars l.clauses
+    × IsLeast e l.matched.graph input.table l.k l.refutation
+Right e input goal s (NoWorld class a b) = HasNoWorld input goal s a b

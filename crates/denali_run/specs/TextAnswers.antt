@@ -1,0 +1,47 @@
+-- Which bytes and which status answer a text of goals. Source: this project.
+use Rattle.std.specs.Prelude.{◌≡◌, ℕ, List, fold, nat_lt, if◌then◌else◌}
+use Rattle.std.specs.List.{AllZip}
+use Rattle.goal_reader.specs.Grammar.{IsFirstTextFault, Reads}
+use Rattle.goal_reader.specs.Views.{InputTree}
+use Rattle.denali_run.specs.AnswerLines.{answer_text}
+use Rattle.denali_run.specs.Right.{Right}
+use Rattle.denali_run.specs.Statuses.{status_code}
+use Rattle.denali_run.specs.declared.results.Answered.{Answered}
+use Rattle.denali_run.specs.declared.results.Answered.TheVariants.{Scheduled, Nowhere, SpentConflicts, SpentSize, NoWorld}
+use Rattle.denali_run.specs.declared.results.Encoding.TheVariants.{Wide}
+use Rattle.denali_run.specs.declared.settings.Settings.{Settings}
+use Rattle.denali_run.specs.declared.statuses.Status.{Status}
+use Rattle.denali_run.specs.declared.statuses.Status.TheVariants as status
+use Rattle.denali_run.specs.declared.text_solving.TextError.{TextError}
+use Rattle.denali_run.specs.declared.text_solving.TextError.TheVariants.{Read, Memory}
+
+-- the status that a result asks for
+abbrev pub status_of : Answered → Status
+status_of (Scheduled f) = status.Done
+status_of (Nowhere m) = status.Missing
+status_of (SpentConflicts t) = status.Spent
+status_of (SpentSize l) = status.Spent
+status_of (NoWorld class a b) = status.NoWorld
+
+-- of two statuses the one with the greater code
+abbrev pub greater : Status → Status → Status
+greater one other = if nat_lt (status_code one) (status_code other) then other else one
+
+-- the status with the greatest code that the results ask for
+abbrev pub greatest_status : List Answered → Status
+greatest_status results = fold (λ s r. greater s (status_of r)) status.Done results
+
+-- The text reads as an input, each of its goals has a result that is right, the bytes are the lines of these results, and
+-- the status is the one with the greatest code that they ask for.
+pub record Answers (s : Settings) (text bytes : List ℕ) (status : Status) : Type 0 where
+  pub input : InputTree
+  pub reads : Reads text input
+  pub results : List Answered
+  pub right : AllZip (λ goal answered. Right Wide input goal s answered) input.goals results
+  pub bytes_are : bytes ≡ answer_text Wide input results
+  pub status_is : status ≡ greatest_status results
+
+-- why a text has no answer
+abbrev pub TextErrorIs : List ℕ → TextError → Type 0
+TextErrorIs text (Read fault) = IsFirstTextFault text fault.place fault.kind
+TextErrorIs text Memory = Unit {0}

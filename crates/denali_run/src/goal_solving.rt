@@ -1,0 +1,77 @@
+// The work on one goal: its graph, rounds of matching, and then cycles in rising order until they are enough.
+ghost use Rattle.std.specs.Prelude.{◌≡◌, ◌<◌, length, IfOk, Some, slice_get};
+ghost use Rattle.goal_reader.specs.Views.{GoalTree, InputTree, input_view};
+ghost use Rattle.goal_reader.specs.WellFormed.{IsInput};
+ghost use Rattle.denali_run.specs.MatchedGoals.{IsSettings};
+ghost use Rattle.denali_run.specs.Right.{Right};
+ghost use Rattle.denali_run.specs.Trials.{IsNoWorldAtStart, IsNoWorldInRounds};
+ghost use Rattle.denali_run.specs.declared.results.Encoding.TheVariants.{Wide};
+
+use crate::results::{Answered, Matched};
+use crate::searching::search;
+use crate::settings::Settings;
+use goal_reader::Input;
+use items::NoMemory;
+use pick_rule::{Picker, Rule};
+use saturation::{
+    SaturateFault, StartFault, axioms_make_rules_true, grown_graphs_are_one,
+    grown_graphs_can_be_launched, launched_graphs_stand, rules, saturate, start, to_launch,
+};
+use std::alloc::{AllocError, Global};
+
+/// Two constants in one class at the start are no want of memory.
+fn no_world_at_start(fault: StartFault) -> Result<Answered, NoMemory>
+    ensures { IfOk result (IsNoWorldAtStart fault) }
+{
+    match fault {
+        StartFault::NoWorld { class, a, b } => Ok(Answered::NoWorld { class, a, b }),
+        StartFault::Memory => Err(AllocError),
+    }
+}
+
+/// Two constants in one class after some rounds are no want of memory.
+fn no_world_in_rounds(fault: SaturateFault) -> Result<Answered, NoMemory>
+    ensures { IfOk result (IsNoWorldInRounds fault) }
+{
+    match fault {
+        SaturateFault::NoWorld { class, a, b } => Ok(Answered::NoWorld { class, a, b }),
+        SaturateFault::Memory => Err(AllocError),
+    }
+}
+
+/// Answers one goal of the input.
+pub fn solve_goal<F: Rule>(
+    alloc: Global,
+    input: &Input,
+    at: u32,
+    settings: &Settings,
+    picker: &Picker<F>,
+) -> Result<Answered, NoMemory>
+    requires input { IsInput (input_view input.now) }
+    requires at { at < length input.now.goals }
+    requires settings { IsSettings settings.now }
+    ensures right { IfOk result (λ answered. (goal : GoalTree) → slice_get (input_view input.now).goals at ≡ Some goal
+        → Right Wide (input_view input.now) goal settings.now answered) }
+{
+    grown_graphs_are_one();
+    axioms_make_rules_true();
+    launched_graphs_stand();
+    grown_graphs_can_be_launched();
+    let goal = &input.goals.as_slice()[at as usize];
+    let program = rules(alloc, input)?;
+    let first = match start(alloc, goal) {
+        Ok(graph) => graph,
+        Err(fault) => return no_world_at_start(fault),
+    };
+    let saturated = match saturate(alloc, first, &program, settings.rounds, settings.nodes) {
+        Ok(saturated) => saturated,
+        Err(fault) => return no_world_in_rounds(fault),
+    };
+    let graph = to_launch(alloc, &saturated, goal, input)?;
+    let matched = Matched {
+        graph,
+        rounds: saturated.rounds,
+        stop: saturated.stop,
+    };
+    search(alloc, matched, &input.table, settings, picker)
+}

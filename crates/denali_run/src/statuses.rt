@@ -1,0 +1,40 @@
+// How a command ends.
+ghost use Rattle.std.specs.Prelude.{◌≡◌};
+ghost use Rattle.denali_run.specs.Statuses.{status_code};
+
+/// How a command ends.
+///
+/// `Done`: every goal is scheduled. `Missing`: some goal has no schedule. `Spent`: some goal spent a budget. `NoWorld`:
+/// some goal's axioms hold in no world. The others are refusals: of the words, of the text, for no memory, and of the
+/// source and the sink.
+#[derive(Clone, Copy, PartialEq, Eq, Debug)]
+pub enum Status {
+    Done,
+    Missing,
+    Usage,
+    ReadFault,
+    Spent,
+    Memory,
+    SourceFault,
+    SinkFault,
+    NoWorld,
+}
+
+impl Status {
+    /// The program's exit status, 0 to 8.
+    pub fn code(self) -> u8
+        ensures { result ≡ status_code self }
+    {
+        match self {
+            Status::Done => 0,
+            Status::Missing => 1,
+            Status::Usage => 2,
+            Status::ReadFault => 3,
+            Status::Spent => 4,
+            Status::Memory => 5,
+            Status::SourceFault => 6,
+            Status::SinkFault => 7,
+            Status::NoWorld => 8,
+        }
+    }
+}

@@ -1,0 +1,156 @@
+// The work of `solve`, from the bytes of a text of goals to those of its answer.
+ghost use Rattle.std.specs.Prelude.{◌≡◌, ◌<◌, ◌^◌, IfOk, IfErr, length};
+ghost use Rattle.std.specs.List.{AllZip};
+ghost use Rattle.goal_reader.specs.Views.{input_view};
+ghost use Rattle.goal_reader.specs.WellFormed.{IsInput};
+ghost use Rattle.denali_run.specs.MatchedGoals.{IsSettings};
+ghost use Rattle.denali_run.specs.Right.{Right};
+ghost use Rattle.denali_run.specs.TextAnswers as texts;
+ghost use Rattle.denali_run.specs.TextAnswers.{Answers, TextErrorIs};
+ghost use Rattle.denali_run.specs.declared.results.Encoding.TheVariants.{Wide};
+ghost use Rattle.denali_run.specs.declared.text_solving.TextError.TheVariants.{Memory};
+
+use crate::answer_lines::print;
+use crate::goal_solving::solve_goal;
+use crate::results::Answered;
+use crate::settings::{Pick, Settings};
+use crate::statuses::Status;
+use goal_reader::{Input, read, read_inputs_are_well_formed};
+use items::NoMemory;
+use pick_rule::{Picker, Rule};
+use std::alloc::Global;
+use text_core::{Fault, TextFault};
+use thiserror::Error;
+
+/// What a command writes, and how it ends.
+#[derive(Drop)]
+pub struct Report {
+    pub bytes: Vec<u8>,
+    pub status: Status,
+}
+
+/// Why a text has no answer.
+#[derive(Clone, Copy, PartialEq, Eq, Debug, Error)]
+pub enum TextError {
+    #[error("the text has a fault")]
+    Read(Fault),
+    #[error("out of memory")]
+    Memory,
+}
+
+impl From<NoMemory> for TextError {
+    ghost from_gives = { λ _ fault. fault ≡ Memory };
+
+    fn from(_: NoMemory) -> TextError {
+        TextError::Memory
+    }
+}
+
+/// The status that a result asks for.
+fn status_of(answered: &Answered) -> Status
+    ensures { result ≡ texts.status_of answered.now }
+{
+    match answered {
+        Answered::Scheduled(_) => Status::Done,
+        Answered::Nowhere(_) => Status::Missing,
+        Answered::SpentConflicts(_) | Answered::SpentSize(_) => Status::Spent,
+        Answered::NoWorld { .. } => Status::NoWorld,
+    }
+}
+
+/// Of two statuses the one with the greater code.
+fn greater(one: Status, other: Status) -> Status
+    ensures { result ≡ texts.greater one other }
+{
+    if one.code() < other.code() {
+        other
+    } else {
+        one
+    }
+}
+
+/// The status with the greatest code that the results ask for.
+#[tactic(auto, using(crate::proofs::GreatestStatus::status_more))]
+fn greatest_status(results: &[Answered]) -> Status
+    ensures { result ≡ texts.greatest_status results.now }
+{
+    let mut greatest = Status::Done;
+    for answered in results {
+        greatest = greater(greatest, status_of(answered));
+    }
+    greatest
+}
+
+/// Each goal's result, in the goals' order.
+fn solve_goals<F: Rule>(
+    alloc: Global,
+    input: &Input,
+    settings: &Settings,
+    picker: &Picker<F>,
+) -> Result<Vec<Answered>, NoMemory>
+    requires input { IsInput (input_view input.now) }
+    requires settings { IsSettings settings.now }
+    ensures right { IfOk result (λ results. AllZip (λ goal answered. Right Wide (input_view input.now) goal settings.now
+        answered) (input_view input.now).goals results.items) }
+{
+    let mut results = Vec::new(alloc);
+    for at in 0..input.goals.len() {
+        results.push(solve_goal(alloc, input, at as u32, settings, picker)?)?;
+    }
+    Ok(results)
+}
+
+/// The same, where the solver's decisions are picked by a rule.
+fn solve_by<F: Rule + Drop>(
+    alloc: Global,
+    input: &Input,
+    settings: &Settings,
+    rule: F,
+) -> Result<Vec<Answered>, NoMemory>
+    requires input { IsInput (input_view input.now) }
+    requires settings { IsSettings settings.now }
+    requires rule { F.answers_places rule }
+    ensures right { IfOk result (λ results. AllZip (λ goal answered. Right Wide (input_view input.now) goal settings.now
+        answered) (input_view input.now).goals results.items) }
+{
+    let picker = Picker::new(rule);
+    solve_goals(alloc, input, settings, &picker)
+}
+
+fn solve_first(alloc: Global, input: &Input, settings: &Settings) -> Result<Vec<Answered>, NoMemory>
+    requires input { IsInput (input_view input.now) }
+    requires settings { IsSettings settings.now }
+    ensures right { IfOk result (λ results. AllZip (λ goal answered. Right Wide (input_view input.now) goal settings.now
+        answered) (input_view input.now).goals results.items) }
+{
+    solve_by(
+        alloc,
+        input,
+        settings,
+        |_scores: &[u64]|
+            ensures { result ≡ 0 }
+        { 0 },
+    )
+}
+
+/// The answer to a text of goals: the result of each goal, in their order.
+pub fn solve_text(alloc: Global, text: &[u8], settings: &Settings) -> Result<Report, TextError>
+    requires few { length text.now < 2 ^ 29 }
+    requires settings { IsSettings settings.now }
+    ensures answered { IfOk result (λ report. Answers settings.now text.now report.bytes.items report.status) }
+    ensures error { IfErr result (TextErrorIs text.now) }
+{
+    read_inputs_are_well_formed();
+    let input = match read(alloc, text) {
+        Ok(input) => input,
+        Err(TextFault::Fault(fault)) => return Err(TextError::Read(fault)),
+        Err(TextFault::Memory) => return Err(TextError::Memory),
+    };
+    let results = match settings.pick {
+        Pick::First => solve_first(alloc, &input, settings)?,
+    };
+    Ok(Report {
+        bytes: print(alloc, &input, &results)?,
+        status: greatest_status(&results),
+    })
+}
