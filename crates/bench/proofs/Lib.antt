@@ -1,1 +1,2 @@
 mod WordOperands
+mod ListedGoals

@@ -1,14 +1,18 @@
 //! Does the work of one layer once over standard input, and prints how much of it there was. It is there to be timed.
 //!
-//! The first word names the layer: `lex`, `tree`, `goals`, `lines`, `rows`, `read`, `check`, `graph`, `matches` or `sat`. After
-//! `check` comes the number of clauses of the chain that the text refutes, after `matches` the number of operates of the
-//! graph, which has no text; after `sat` may come the most conflicts that its solver may have. Where the input has a
-//! fault, or doesn't refute the chain, the program prints `fault` and ends with status 1.
+//! The first word names the layer: `lex`, `tree`, `goals`, `lines`, `rows`, `read`, `check`, `graph`, `matches`, `rounds`,
+//! `clauses` or `sat`. After `check` comes the number of clauses of the chain that the text refutes, after `matches` the
+//! number of operates of the graph, which has no text, after `clauses` the number of cycles; after `rounds` may come the
+//! number of rounds that are asked for, and then the limit on rows, after `sat` the most conflicts that its solver may
+//! have. Where the input has a fault, a goal no world, or the text doesn't refute the chain, the program prints `fault`
+//! and ends with status 1.
 #![tactic(auto)]
 
+mod clauses;
 mod graphs;
 mod matches;
 mod refutations;
+mod rounds;
 mod searches;
 mod texts;
 mod words_only;
@@ -37,13 +41,12 @@ fn measured(rt: &HostRuntime, args: Args) -> io::Result<bool> {
     let Some(layer) = words.first().and_then(|word| Layer::named(word.as_str())) else {
         return Ok(false);
     };
-    let number = words
-        .get(1)
-        .and_then(|word| u32::from_str_radix(word.as_str(), 10).ok());
+    let number = number_at(&words, 1);
+    let rows = number_at(&words, 2);
     let Ok(text) = read_all(alloc, &mut StdSource::new(rt.stdin()), LIMIT) else {
         return Ok(false);
     };
-    match count(alloc, layer, number, &text) {
+    match count(alloc, layer, number, rows, &text) {
         Some(count) => {
             println!(rt; "{count}")?;
             Ok(true)
@@ -53,6 +56,13 @@ fn measured(rt: &HostRuntime, args: Args) -> io::Result<bool> {
             Ok(false)
         }
     }
+}
+
+/// The number that the word at this place is, if it is one.
+fn number_at(words: &[String], at: usize) -> Option<u32> {
+    words
+        .get(at)
+        .and_then(|word| u32::from_str_radix(word.as_str(), 10).ok())
 }
 
 fn no_memory() -> io::Error {
