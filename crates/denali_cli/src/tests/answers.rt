@@ -293,8 +293,8 @@ fn answers_are_whole(rt: HostRuntime) -> Result<(), Fail> {
     Ok(())
 }
 
-/// Rounds of matching, a term, its line in the answer (as GNU as makes the word), the word, two inputs, and the value of
-/// an emulator.
+/// Rounds of matching, a term, its line in the answer, the word, two inputs, and the value. Of the first five GNU as made
+/// the words and an emulator the values; those of the others are worked out by hand.
 const OPERATES: [(&str, &[u8], &[u8], u32, u64, u64, u64); 9] = [
     (
         "0",
