@@ -16,6 +16,7 @@ pub mod GoodRows
 pub mod ClassLines
 pub mod WholeGraphs
 pub mod OneGraph
+pub mod SameGraphLines
 pub mod OneFault
 pub mod Numbers
 pub mod Rows

@@ -138,32 +138,36 @@ module _ (g : LaunchGraph) (is : IsLaunchGraph g) where
       let low : class < length g.rows = class_below g is sort class h in
       omega arith
 
-  entry_fits : g.entry < 2 ^ 31
+  pub entry_fits : g.entry < 2 ^ 31
   entry_fits = class_fits sorts.Memory g.entry is.entry
 
   abbrev InputFits : InputClass → Type 0
   InputFits i = IsName i.name × (i.reg < 31) × (i.class < 2 ^ 31)
 
-  inputs_fit : All InputFits g.inputs
+  pub inputs_fit : All InputFits g.inputs
   inputs_fit k d lt =
       (is.names.0 k d lt, (is.inputs k d lt).1, class_fits sorts.Word (get_or g.inputs k d).class (is.inputs k d lt).0)
 
-  guard_fits : (guard : Option Guard) → IfSome guard (λ (o : Guard). ClassHasSort g sorts.Word o.class) → IfSome guard (λ (o : Guard). o.class < 2 ^ 31)
+  pub guard_fits : (guard : Option Guard) → IfSome guard (λ (o : Guard). ClassHasSort g sorts.Word o.class) → IfSome guard (λ (o : Guard). o.class < 2 ^ 31)
   guard_fits None h = tt
   guard_fits (Some o) h = class_fits sorts.Word o.class h
 
   abbrev SetFits : SetClass → Type 0
   SetFits s = IsName s.name × (s.class < 2 ^ 31)
 
-  sets_fit : All SetFits g.sets
+  pub sets_fit : All SetFits g.sets
   sets_fit k d lt =
       (is.names.1 k d lt, class_fits (set_sort (get_or g.sets k d).name) (get_or g.sets k d).class (is.sets k d lt))
+
+  -- the words of a row say it
+  pub rows_fit : All (λ (r : RowLine). IsRowLine (row_words r) r) (map said_row g.rows)
+  rows_fit = All-map (λ (r : RowLine). IsRowLine (row_words r) r) said_row g.rows says_rows
 
   pub are_graph_lines : length g.rows ≤ 1000000 → AreGraphLines (said g)
   are_graph_lines few =
       record {
         few = (let n : length (map said_row g.rows) ≡ length g.rows = count in omega arith);
-        rows = All-map (λ (r : RowLine). IsRowLine (row_words r) r) said_row g.rows says_rows;
+        rows = rows_fit;
         entry = entry_fits;
         inputs = inputs_fit;
         pool = is.pool;

@@ -118,7 +118,7 @@ guard_apart o (s ∷ ss) lines r h e =
     (let n : ◌≡◌ {A = ℕ} 103 115 = begin_same (codes "guard") (codes "set") (decimal o.class ∷ held_word o.held ∷ []) (s.name ∷ decimal s.class ∷ []) (cons_same (guard_words o) (set_words s) lines (map set_words ss ++ r) e).0 in
     omega (arith, n))
 
-same_targets : (o p : Option Guard) (ss ts : List SetClass) (r q : List Words) → GuardFits o → GuardFits p → All SetFits ss → All SetFits ts
+pub same_targets : (o p : Option Guard) (ss ts : List SetClass) (r q : List Words) → GuardFits o → GuardFits p → All SetFits ss → All SetFits ts
     → EndsGraph r → EndsGraph q → guard_lines o ++ (map set_words ss ++ r) ≡ guard_lines p ++ (map set_words ts ++ q)
     → (o ≡ p) × (ss ≡ ts) × (r ≡ q)
 same_targets None None ss ts r q a b f g h j e = (let s = same_sets ss ts r q f g h j e in (refl, s.0, s.1))
@@ -133,7 +133,7 @@ in_pool : (i : InputClass) (ns : List ℕ) → in_words i ≡ pool_words ns → 
 in_pool i ns e =
     (let n : ◌≡◌ {A = ℕ} 105 112 = begin_same (codes "in") (codes "pool") (i.name ∷ decimal i.reg ∷ decimal i.class ∷ []) (map decimal ns) e in omega (arith, n))
 
-same_inputs : (is js : List InputClass) (ms ns : List ℕ) (r q : List Words) → All InputFits is → All InputFits js → All Low ms → All Low ns
+pub same_inputs : (is js : List InputClass) (ms ns : List ℕ) (r q : List Words) → All InputFits is → All InputFits js → All Low ms → All Low ns
     → map in_words is ++ (pool_words ms ∷ r) ≡ map in_words js ++ (pool_words ns ∷ q) → (is ≡ js) × (ms ≡ ns) × (r ≡ q)
 same_inputs [] [] ms ns r q f g a b e =
     let both = cons_same (pool_words ms) (pool_words ns) r q e in
@@ -264,7 +264,7 @@ module _ (g h : LaunchGraph) (is : IsLaunchGraph g) (also : IsLaunchGraph h) (e 
 graph_of : List LaunchRow → ℕ → List InputClass → List ℕ → Option Guard → List SetClass → LaunchGraph
 graph_of rows entry inputs pool guard sets = record { rows = rows; entry = entry; inputs = inputs; pool = pool; guard = guard; sets = sets }
 
-same_graph : (g h : LaunchGraph) → g.rows ≡ h.rows → g.entry ≡ h.entry → g.inputs ≡ h.inputs → g.pool ≡ h.pool → g.guard ≡ h.guard → g.sets ≡ h.sets → g ≡ h
+pub same_graph : (g h : LaunchGraph) → g.rows ≡ h.rows → g.entry ≡ h.entry → g.inputs ≡ h.inputs → g.pool ≡ h.pool → g.guard ≡ h.guard → g.sets ≡ h.sets → g ≡ h
 unfolding graph_of
 same_graph g h a b c d e f =
     ap (λ x. graph_of x g.entry g.inputs g.pool g.guard g.sets) a ∙ ap (λ x. graph_of h.rows x g.inputs g.pool g.guard g.sets) b

@@ -1,5 +1,5 @@
 // What is true of each launch graph. The calls do nothing: their clauses hold of all graphs.
-ghost use Rattle.std.specs.Prelude.{◌≡◌, ◌≢◌, ◌<◌, ◌≤◌, ◌^◌, ℕ, List, All, AllPairs, Any, Contains, Some, None, length, slice_index};
+ghost use Rattle.std.specs.Prelude.{◌≡◌, ◌≢◌, ◌<◌, ◌≤◌, ◌^◌, ◌++◌, ℕ, List, All, AllPairs, Any, Contains, Some, None, length, slice_index};
 ghost use Rattle.word_ops.specs.Meanings.{sort_of, constant_in};
 ghost use Rattle.word_ops.specs.Words.{IsWord};
 ghost use Rattle.word_ops.specs.Worlds.{Value, World, IsValue, word, memory};
@@ -10,7 +10,7 @@ ghost use Rattle.text_core.specs.declared.faults.Kind.{Kind};
 ghost use Rattle.launch_graph.specs.GraphTexts.{IsGraphAt, EndsGraph};
 ghost use Rattle.launch_graph.specs.LineFaults.{IsFirstGraphFault};
 ghost use Rattle.launch_graph.specs.LineFormats.{words_between, words_from};
-ghost use Rattle.text_core.specs.LineTexts.{CanBeLine, lines_text, placed_lines};
+ghost use Rattle.text_core.specs.LineTexts.{CanBeLine, Words, lines_text, placed_lines};
 ghost use Rattle.launch_graph.specs.GraphLines.{AreGraphLines, graph_lines, said};
 ghost use Rattle.launch_graph.specs.Graphs.{IsProper, IsTrueUnder, constant_of, input_register, memory_target};
 ghost use Rattle.launch_graph.specs.WellFormed.{IsLaunchGraph, ClassHasSort};
@@ -76,7 +76,8 @@ pub fn printed_graphs_are_lines()
 }
 
 /// Lines have one graph at most from a line on, and then no fault. The first fault is one. The lines that a well-formed
-/// graph prints have it, wherever they stand and whatever stands behind them that no graph goes on with.
+/// graph prints have it, wherever they stand and whatever stands behind them that no graph goes on with. Well-formed
+/// graphs with the same lines are one graph, however many rows they have.
 pub fn one_graph()
     ensures graph { (lines : List Line) (from next other : ℕ) (g h : Graph)
         → IsGraphAt lines from next g → IsGraphAt lines from other h → (next ≡ other) × (g ≡ h) }
@@ -88,6 +89,9 @@ pub fn one_graph()
     ensures printed { (lines : List Line) (from next : ℕ) (g : Graph) → IsLaunchGraph g → length g.rows ≤ 1000000
         → from ≤ next → next ≤ length lines → words_between lines from next ≡ graph_lines (said g)
         → EndsGraph (words_from lines next) → IsGraphAt lines from next g }
+    ensures alike { (g h : Graph) (behind other : List Words) → IsLaunchGraph g → IsLaunchGraph h
+        → EndsGraph behind → EndsGraph other
+        → graph_lines (said g) ++ behind ≡ graph_lines (said h) ++ other → (g ≡ h) × (behind ≡ other) }
 {
     operators_are_listed();
 }

@@ -36,7 +36,7 @@ literal-one l m a b is =
     let both = literal-one-by l.positive m.positive l.var m.var a b is in
     ap (λ (n : ℕ). let x : Lit = record { var = n; positive = l.positive } in x) both.0 ∙ ap (λ (p : Bool). let x : Lit = record { var = m.var; positive = p } in x) both.1
 
-line-one : (row : List (List ℕ)) (l m : Line) → IsLineOf row l → IsLineOf row m → l ≡ m
+pub line-one : (row : List (List ℕ)) (l m : Line) → IsLineOf row l → IsLineOf row m → l ≡ m
 line-one row l m a b =
     let words = sym a.words ∙ b.words in
     let id : l.id ≡ m.id = decimal-one l.id m.id a.readable.id b.readable.id (ap (λ (ws : List (List ℕ)). get_or ws 0 []) words) in

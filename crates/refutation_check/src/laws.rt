@@ -11,7 +11,7 @@ ghost use Rattle.refutation_check.specs.LineWords.{IsReadableLine, IsLineOf, Are
 use text_core::printed_lines_are_lines;
 
 /// Printed lines are lines of words at any place of a text, and there each is read as the line that was printed; a text
-/// that has their words somewhere has them from there on. Accepted lines can be read back.
+/// that has their words somewhere has them from there on. Words are one line at most. Accepted lines can be read back.
 pub fn printed_lines_are_read_back()
     ensures lines { (place : ℕ) (lines : List Row)
         → All IsReadableLine lines → AreLines place (placed_lines place (map line_words lines)) (lines_text (map line_words lines)) }
@@ -21,6 +21,7 @@ pub fn printed_lines_are_read_back()
     ensures among { (text : List Line) (front back : List Words) (lines : List Row)
         → All IsReadableLine lines → words_of_lines text ≡ front ++ (map line_words lines ++ back)
         → AreLinesAt text (length front) (length lines) lines }
+    ensures one { (words : Words) (line other : Row) → IsLineOf words line → IsLineOf words other → line ≡ other }
     ensures accepted { (f : Formula) (lines : List Row)
         → AreAccepted f lines → f.vars < 2 ^ 29 → length f.clauses + length lines < 2 ^ 31 → All IsReadableLine lines }
 {

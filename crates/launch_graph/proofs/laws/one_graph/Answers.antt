@@ -2,6 +2,7 @@ use Rattle.launch_graph.specs.GraphTexts.{BeginsWithGraph, IsGraphText}
 use Rattle.launch_graph.proofs.LineWords.{are_graph_lines}
 use Rattle.launch_graph.proofs.OneFault.{once}
 use Rattle.launch_graph.proofs.OneGraph.{graph_once}
+use Rattle.launch_graph.proofs.SameGraphLines.{lines_once}
 use Rattle.launch_graph.proofs.WholeGraphs.{no_fault_whole}
 use Rattle.launch_graph.proofs.laws.one_graph.Goals as goal
 
@@ -21,4 +22,5 @@ returns c =
             is = same;
             ends = ends;
           };
+      alike = λ g h behind other is also ends stops same. lines_once names g h is also behind other ends stops same;
     }

@@ -1,4 +1,5 @@
-use Rattle.std.proofs.Common.{◌≡◌, map, take}
+use Rattle.std.proofs.Common.{◌≡◌, ◌<◌, ◌^◌, map, take}
+use Rattle.std.specs.Prelude.{All}
 use Rattle.alpha_encode.specs.Formats.{encoded}
 use Rattle.register_assign.specs.Outcomes.{AreWordsOf}
 use Rattle.register_assign.proofs.worded.words_of.Given as goal
@@ -7,3 +8,4 @@ abbrev pub invariant-loop-item : goal.invariant-loop-item
 invariant-loop-item l =
     AreWordsOf (take l.item-index l.items) l.words.items
     × (l.words.items ≡ map (λ a. encoded a.instr) (take l.item-index l.items))
+    × All (λ word. word < 2 ^ 32) l.words.items
