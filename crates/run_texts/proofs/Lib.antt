@@ -1,0 +1,14 @@
+pub mod Lists
+pub mod LastLines
+pub mod Fronts
+pub mod FirstFaults
+pub mod NextLines
+pub mod FrontWords
+pub mod Programs
+pub mod Digits
+pub mod Printed
+pub mod OneReport
+pub mod Seen
+pub mod Starts
+pub mod Outcomes
+pub mod GivenWords

@@ -1,0 +1,5 @@
+use Rattle.run_texts.proofs.OneReport.{one_report}
+use Rattle.run_texts.proofs.laws.one_report.Goals as goal
+
+pub returns : goal.returns
+returns c = one_report

@@ -1,0 +1,5 @@
+pub mod LineReading
+pub mod Reports
+pub mod RunFaults
+pub mod RunTexts
+pub mod SoFar
