@@ -1,8 +1,8 @@
 -- Results of goals, one after another, and their lines.
 use Rattle.std.proofs.Common.{inl, inr, ◌≡◌, ℕ, suc, zero, ◌+◌, ◌<◌, List, [], ◌∷◌, ◌++◌, length, take, get_or, map, refl, sym, ap, subst, ◌∙◌, append_assoc, append-nil, arith}
 use Rattle.std.specs.Prelude.{slice_get, Some}
-use Rattle.std.specs.List.{AllZip, flat_map}
-use Rattle.std.proofs.lemmas.List.{get_or-map, length-map, take_more}
+use Rattle.std.specs.List.{AllZip}
+use Rattle.std.proofs.lemmas.List.{get_or-map, length-map}
 use Rattle.std.proofs.Math.Seq.{take-length}
 use Rattle.std.proofs.lemmas.Option.{slice_get_cases}
 use Rattle.std.proofs.lemmas.Grind.{flat_map-append}

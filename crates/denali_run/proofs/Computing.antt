@@ -1,5 +1,5 @@
 -- The words of a schedule that fits compute the goal for which the graph stands.
-use Rattle.std.proofs.Common.{◌≡◌, ℕ, ◌==◌, ◌∙◌, List, [], ◌∷◌, Option, Some, None, Bool, true, false, not, filter, find, map, length, slice_index, refl, sym, ap, subst, All, IsTrue, cond}
+use Rattle.std.proofs.Common.{◌≡◌, ℕ, ◌∙◌, List, [], ◌∷◌, Option, Some, None, Bool, true, false, not, filter, find, map, length, slice_index, refl, sym, ap, subst, All, IsTrue, cond}
 use Rattle.std.specs.Prelude.{IsSomeAnd, IfSome}
 use Rattle.std.specs.List.{AllZip}
 use Rattle.std.specs.Option.{option_map_or}
@@ -12,23 +12,21 @@ use Rattle.word_terms.specs.Tree.{Tree}
 use Rattle.alpha_encode.specs.declared.instructions.Instr.{Instr}
 use Rattle.alpha_machine.specs.Runs.{trace}
 use Rattle.goal_reader.specs.Holds.{HoldsFor, goal_value}
-use Rattle.goal_reader.specs.Outcomes.{NewValue, exit, fall, is_left, is_memory, is_zero, new_memory, new_value, new_words, outcome}
+use Rattle.goal_reader.specs.Outcomes.{NewValue, exit, fall, is_left, is_memory, is_zero, new_memory, new_value, new_words}
 use Rattle.goal_reader.specs.Views.{GoalTree, InputTree, TargetTree}
 use Rattle.goal_reader.specs.declared.goals.InputReg.{InputReg}
 use Rattle.goal_reader.specs.declared.scopes.DeclaredOp.{DeclaredOp}
-use Rattle.launch_graph.specs.Graphs.{is_memory_name, memory_target}
+use Rattle.launch_graph.specs.Graphs.{is_memory_name}
 use Rattle.launch_graph.specs.declared.graphs.LaunchGraph.{LaunchGraph}
 use Rattle.launch_graph.specs.declared.graphs.Guard.{Guard}
 use Rattle.launch_graph.specs.declared.graphs.SetClass.{SetClass}
 use Rattle.launch_graph.specs.declared.graphs.InputClass.{InputClass}
-use Rattle.schedule_meaning.specs.Launches.{is_held}
-use Rattle.register_assign.specs.Listings.{word_targets as word_sets}
 use Rattle.register_assign.specs.Obeys.{loads}
-use Rattle.register_assign.specs.Outcomes.{IsRight, IsExit, Falls, Exits, entry_state, instrs_of}
+use Rattle.register_assign.specs.Outcomes.{IsRight, Falls, Exits, entry_state, instrs_of}
 use Rattle.register_assign.specs.declared.listings.Item.{Item}
 use Rattle.register_assign.specs.declared.listings.Where.{Where}
-use Rattle.saturation.specs.StandsFor.{StandsFor, HasValues, IsOf, IsGuardOf, IsInputClass, IsSetClass, HasGuardValue, HasSetValue, has_select}
-use Rattle.denali_run.specs.GoalOutcomes.{Computes, EndsWith, Follows, LeavesByBranch}
+use Rattle.saturation.specs.StandsFor.{StandsFor, HasValues, IsGuardOf, IsInputClass, IsSetClass, HasGuardValue, HasSetValue, has_select}
+use Rattle.denali_run.specs.GoalOutcomes.{Computes, EndsWith, DoesAsSaid, LeavesByBranch}
 
 -- ---- the guard
 
@@ -171,7 +169,7 @@ module _ (input : InputTree) (goal : GoalTree) (g : LaunchGraph) (stands : Stand
 
   by_guard : (world : World) → IsWorld world → HoldsFor input goal world → (b : Bool)
       → is_left input.ops world goal.guard ≡ b
-      → Follows goal world items words wheres
+      → DoesAsSaid goal world items words wheres
       (cond b exit (fall (new_words input.ops world goal.sets) (new_memory input.ops world goal.sets)))
   by_guard world is holds true e =
       let v = stands.values world is holds in

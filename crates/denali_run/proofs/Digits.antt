@@ -1,5 +1,5 @@
 -- Hexadecimal digits, one after another.
-use Rattle.std.proofs.Common.{◌≡◌, ℕ, suc, ◌+◌, ◌-◌, ◌*◌, ◌/◌, ◌%◌, ◌^◌, ◌<◌, arith, List, [], ◌∷◌, ◌++◌, sym, ap, ◌∙◌, append_assoc}
+use Rattle.std.proofs.Common.{◌≡◌, ℕ, suc, ◌+◌, ◌-◌, ◌*◌, ◌/◌, ◌%◌, ◌^◌, ◌<◌, arith, List, [], ◌∷◌, ◌++◌, ap, ◌∙◌, append_assoc}
 use Rattle.denali_run.specs.AnswerLines.{hex_digit, hex_digits}
 
 hex_step : (word k : ℕ) (digit : ℕ) (text : List ℕ) → digit ≡ hex_digit (word / 2 ^ (4 * k) % 16) → (text ++ digit ∷ []) ++ hex_digits k word ≡ text ++ hex_digits (suc k) word

@@ -1,5 +1,5 @@
 -- Lines that are printed one after another.
-use Rattle.std.proofs.Common.{rules, ◌≡◌, ℕ, ℤ, suc, ◌+◌, ◌<◌, List, [], ◌∷◌, ◌++◌, length, take, get_or, map, refl, sym, ap, ◌∙◌, append_assoc, append-nil, codes, decimal, Bool, true, false, cond, Option, Some, None, Result, Ok, Err}
+use Rattle.std.proofs.Common.{◌≡◌, ℕ, ℤ, ◌+◌, ◌<◌, List, [], ◌∷◌, ◌++◌, length, take, get_or, map, refl, sym, ap, ◌∙◌, append_assoc, append-nil, codes, decimal, Bool, true, false, cond, Some, Result, Ok, Err}
 use Rattle.std.specs.Prelude.{OnOk}
 use Rattle.std.specs.Fmt.{signed_decimal}
 use Rattle.std.specs.List.{flat_map}
@@ -8,7 +8,7 @@ use Rattle.std.proofs.lemmas.List.Concat.{flat_map-cons}
 use Rattle.std.proofs.lemmas.Grind.{flat_map-append}
 use Rattle.alpha_encode.specs.Codes.{is_unary}
 use Rattle.alpha_encode.specs.Decoded.{decoded}
-use Rattle.alpha_encode.specs.Texts.{register, second_text, text_of, first_text, memory_text}
+use Rattle.alpha_encode.specs.Texts.{register, second_text, text_of, memory_text}
 use Rattle.alpha_encode.specs.declared.instructions.Instr.{Instr}
 use Rattle.alpha_encode.specs.declared.instructions.Instr.TheVariants.{Operate, Lda, Ldah, LdqU, StqU, Beq}
 use Rattle.launch_graph.specs.GraphLines.{graph_lines, said}
@@ -16,13 +16,10 @@ use Rattle.launch_graph.specs.LineParts.{words_behind}
 use Rattle.machine_table.specs.InstrOrder.{instr_name}
 use Rattle.machine_table.specs.declared.tables.Table.{Table}
 use Rattle.machine_table.specs.declared.tables.Use.{Use}
-use Rattle.refutation_check.specs.LineWords.{line_words}
-use Rattle.register_assign.specs.declared.listings.Where.{Where}
-use Rattle.schedule_meaning.specs.declared.schedules.Launch.{Launch}
 use Rattle.text_core.specs.LineTexts.{Words, line_text, lines_text}
 use Rattle.word_ops.specs.Names.{name_of}
 use Rattle.word_ops.specs.declared.operators.WordOp.{WordOp}
-use Rattle.denali_run.specs.AnswerLines.{slot_name, slot_words, cross_words, inst_words, own_lines, launch_words, hex_text, before_comma, first_words, memory_words, instr_words, text_words, word_words, where_words, refute_lines, below_lines, lemmas_lines, rounds_words, matched_lines, scheduled_words, none_words, conflicts_words, size_words, answered_lines, goal_words, end_words, goal_lines, head_lines, table_lines}
+use Rattle.denali_run.specs.AnswerLines.{slot_name, slot_words, cross_words, inst_words, own_lines, launch_words, hex_text, before_comma, memory_words, instr_words, text_words, word_words, where_words, refute_lines, below_lines, lemmas_lines, rounds_words, matched_lines, scheduled_words, none_words, conflicts_words, size_words, answered_lines, goal_words, end_words, goal_lines, head_lines, table_lines}
 use Rattle.denali_run.specs.declared.results.Answered.{Answered}
 use Rattle.denali_run.specs.declared.results.Answered.TheVariants.{Scheduled, Nowhere, SpentConflicts, SpentSize}
 use Rattle.denali_run.specs.declared.results.Encoding.TheVariants.{Wide}

@@ -32,9 +32,8 @@ use Rattle.text_core.specs.LineTexts.{CanBeLine}
 use Rattle.text_core.specs.Lines.{IsLineWord}
 use Rattle.text_core.specs.Names.{IsName}
 use Rattle.denali_run.specs.AnswerLines.{answered_lines, below_lines, goal_lines, goals_lines, launch_words, matched_lines, refute_lines, stop_name, text_words, where_words, word_words}
-use Rattle.denali_run.specs.Held.{CanBeHeld, HaveEightDigits, HaveSmallIdsBelow}
 use Rattle.denali_run.specs.MatchedGoals.{IsMatched, IsSettings}
-use Rattle.denali_run.specs.Right.{AreRefuted, one_less, formula_in, Right}
+use Rattle.denali_run.specs.Right.{AreRefutedBelow, IsTooFew, one_less, formula_in, Right}
 use Rattle.denali_run.specs.declared.results.Answered.{Answered}
 use Rattle.denali_run.specs.declared.results.Answered.TheVariants.{Scheduled, Nowhere, SpentConflicts, SpentSize, NoWorld}
 use Rattle.denali_run.specs.declared.results.Encoding.{Encoding}
@@ -45,7 +44,7 @@ use Rattle.denali_run.proofs.LinesApart.{words_placed}
 use Rattle.denali_run.proofs.ReadBackLaws.{Laws}
 use Rattle.denali_run.proofs.SameLaunches.{IsPlaced, name_at, any_slot, are_placed}
 use Rattle.denali_run.proofs.SameParts.{head_same, rest_same}
-use Rattle.denali_run.proofs.SameRefutations.{readable, spent_readable}
+use Rattle.denali_run.proofs.SameRefutations.{readable}
 
 module _ (laws : Laws) where
   -- ---- the names and registers of targets
@@ -129,7 +128,7 @@ module _ (laws : Laws) where
       (subst (λ o. AreWords (text_words o)) (sym is)
       (instr_line_words laws.number laws.operators i (laws.forth word i low is).0))))
 
-  word_lines : (instrs : List Instr) (words : List ℕ) → HaveEightDigits words → map decoded words ≡ map Some instrs
+  word_lines : (instrs : List Instr) (words : List ℕ) → All (λ word. word < 2 ^ 32) words → map decoded words ≡ map Some instrs
       → CanBeLines (map word_words words)
   word_lines instrs [] low is = no_lines
   word_lines [] (w ∷ ws) low is = cc
@@ -158,19 +157,26 @@ module _ (laws : Laws) where
       (subst (All CanBeLine) (words_placed 0 (map line_words lines))
       (laws.each 0 _ _ (laws.refutation_lines 0 lines can.0))))
 
-  below_can : (e : Encoding) (g : LaunchGraph) (table : Table) (k : ℕ) (lines : Option Lines) → k ≤ 24
-      → AreRefuted e g table k lines → HaveSmallIdsBelow lines → CanBeLines (below_lines k lines)
-  below_can e g table k None low are small = no_lines
-  below_can e g table k (Some lines) low (one_less {k = j} refuted) small =
-      block_lines (codes "refute") (j + 1 - 1) lines.lines (record { some = λ e. cc; printed = refl })
-      (omega (arith, low))
-      (readable laws.accepted (formula_in e g table j) lines.lines refuted.none_fits.within refuted.refutes.accepted small)
+  few_readable : (e : Encoding) (g : LaunchGraph) (table : Table) (conflicts j : ℕ) (lines : List Line)
+      → conflicts ≤ 1000000 → IsTooFew e g table conflicts j lines
+      → All IsReadableLine lines × (length lines < 2 ^ 31)
+  few_readable e g table conflicts j lines most refuted =
+      readable laws.accepted (formula_in e g table j) lines refuted.none_fits.within refuted.refutes.accepted
+      (let few : length lines ≤ conflicts = refuted.few in omega (arith, few, most))
 
-  refuted_can : (e : Encoding) (g : LaunchGraph) (table : Table) (k after : ℕ) (lines : Lines) → after ≡ k + 1 → k ≤ 24
-      → AreRefuted e g table after (Some lines) → HaveSmallIdsBelow (Some lines) → CanBeLines (refute_lines k lines.lines)
-  refuted_can e g table k after lines is low (one_less {k = j} refuted) small =
+  below_can : (e : Encoding) (g : LaunchGraph) (table : Table) (conflicts k : ℕ) (lines : Option Lines) → k ≤ 24
+      → conflicts ≤ 1000000 → AreRefutedBelow e g table conflicts k lines → CanBeLines (below_lines k lines)
+  below_can e g table conflicts k None low most are = no_lines
+  below_can e g table conflicts k (Some lines) low most (one_less {k = j} refuted) =
+      block_lines (codes "refute") (j + 1 - 1) lines.lines (record { some = λ e. cc; printed = refl })
+      (omega (arith, low)) (few_readable e g table conflicts j lines.lines most refuted)
+
+  refuted_can : (e : Encoding) (g : LaunchGraph) (table : Table) (conflicts k after : ℕ) (lines : Lines)
+      → after ≡ k + 1 → k ≤ 24 → conflicts ≤ 1000000 → AreRefutedBelow e g table conflicts after (Some lines)
+      → CanBeLines (refute_lines k lines.lines)
+  refuted_can e g table conflicts k after lines is low most (one_less {k = j} refuted) =
       block_lines (codes "refute") k lines.lines (record { some = λ e. cc; printed = refl }) (omega (arith, low))
-      (readable laws.accepted (formula_in e g table j) lines.lines refuted.none_fits.within refuted.refutes.accepted small)
+      (few_readable e g table conflicts j lines.lines most refuted)
 
   -- ---- graphs
 
@@ -204,9 +210,8 @@ module _ (laws : Laws) where
     front : (goal : GoalTree) (m : Matched) → IsMatched input goal s m → CanBeLines (matched_lines m)
     front goal m matched = matched_can m matched.graph (rounds_low goal m matched)
 
-    answered_can : (goal : GoalTree) (r : Answered) → Right e input goal s r → CanBeHeld r
-        → CanBeLines (answered_lines input.table r)
-    answered_can goal (Scheduled f) right held =
+    answered_can : (goal : GoalTree) (r : Answered) → Right e input goal s r → CanBeLines (answered_lines input.table r)
+    answered_can goal (Scheduled f) right =
         let low : f.k ≤ 24 = cycles_low f.k right.1 in
         and_lines _ (front goal f.matched right.0)
         (a_line (number_line (codes "scheduled") f.k (record { some = λ e. cc; printed = refl }) low)
@@ -214,17 +219,18 @@ module _ (laws : Laws) where
         (lines_of (launch_words input.table) (IsPlaced input.table) (launch_line input.table is.slots) f.schedule.launches
         (are_placed laws.slots f.matched.graph input.table is.table right.0.graph.few f.k f.schedule.launches low
         right.3.fits))
-        (and_lines _ (word_lines (instrs_of f.listing.items) f.words held.1 right.3.words)
+        (and_lines _ (word_lines (instrs_of f.listing.items) f.words right.3.low right.3.words)
         (and_lines _
         (where_lines f.matched.graph right.0.graph input.table f.schedule.launches f.listing.items f.listing.wheres
         right.3.listing.is)
-        (below_can e f.matched.graph input.table f.k f.refutation low right.4.refuted held.2)))))
-    answered_can goal (Nowhere m) right held =
+        (below_can e f.matched.graph input.table s.conflicts f.k f.refutation low set.conflicts.1 right.4.refuted)))))
+    answered_can goal (Nowhere m) right =
         let low : m.k ≤ 24 = cycles_low m.k (let same = right.1 in omega (arith, same)) in
         and_lines _ (front goal m.matched right.0)
         (a_line (number_line (codes "none") m.k (record { some = λ e. cc; printed = refl }) low)
-        (refuted_can e m.matched.graph input.table m.k (m.k + 1) m.refutation refl low right.2.refuted held.1))
-    answered_can goal (SpentConflicts t) right held =
+        (refuted_can e m.matched.graph input.table s.conflicts m.k (m.k + 1) m.refutation refl low set.conflicts.1
+        right.2.refuted))
+    answered_can goal (SpentConflicts t) right =
         let low : t.k ≤ 24 = cycles_low t.k right.1 in
         and_lines _ (front goal t.matched right.0)
         (a_line
@@ -232,11 +238,11 @@ module _ (laws : Laws) where
         (a_word (record { some = λ e. cc; printed = refl })
         (a_word (record { some = λ e. cc; printed = refl })
         (a_word (laws.number t.k (omega (arith, low))) no_words))))
-        (and_lines _ (below_can e t.matched.graph input.table t.k t.refutation low right.4.refuted held.1)
+        (and_lines _ (below_can e t.matched.graph input.table s.conflicts t.k t.refutation low set.conflicts.1 right.4.refuted)
         (block_lines (codes "lemmas") t.k t.lemmas.lines (record { some = λ e. cc; printed = refl }) (omega (arith, low))
-        (spent_readable laws.accepted (formula_in e t.matched.graph input.table t.k) t.lemmas.lines right.2
+        (readable laws.accepted (formula_in e t.matched.graph input.table t.k) t.lemmas.lines right.2
         right.3.accepted (let count = right.3.count in let most = set.conflicts.1 in omega (arith, count, most))))))
-    answered_can goal (SpentSize l) right held =
+    answered_can goal (SpentSize l) right =
         let low : l.k ≤ 24 = cycles_low l.k right.1 in
         and_lines _ (front goal l.matched right.0)
         (a_line
@@ -244,31 +250,31 @@ module _ (laws : Laws) where
         (a_word (record { some = λ e. cc; printed = refl })
         (a_word (record { some = λ e. cc; printed = refl })
         (a_word (laws.number l.k (omega (arith, low)))
-        (a_word (laws.number l.vars held.1) (a_word (laws.number l.clauses held.2) no_words))))))
-        (below_can e l.matched.graph input.table l.k l.refutation low right.3.refuted held.3))
-    answered_can goal (NoWorld class a b) right held =
+        (a_word (laws.number l.vars right.3) (a_word (laws.number l.clauses right.4) no_words))))))
+        (below_can e l.matched.graph input.table s.conflicts l.k l.refutation low set.conflicts.1 right.5.refuted))
+    answered_can goal (NoWorld class a b) right =
         a_line
         (can_be
         (a_word (record { some = λ e. cc; printed = refl })
-        (a_word (let low : class < 2 ^ 31 = held.0 in laws.number class (omega (arith, low)))
-        (a_word (laws.number a held.1) (a_word (laws.number b held.2) no_words)))))
+        (a_word (let low : class < 2 ^ 32 = right.1 in laws.number class (omega (arith, low)))
+        (a_word (laws.number a right.2) (a_word (laws.number b right.3) no_words)))))
         no_lines
 
-    goal_can : (goal : GoalTree) (r : Answered) → IsName goal.name → Right e input goal s r → CanBeHeld r
+    goal_can : (goal : GoalTree) (r : Answered) → IsName goal.name → Right e input goal s r
         → CanBeLines (goal_lines input.table goal.name r)
-    goal_can goal r named right held =
+    goal_can goal r named right =
         a_line (can_be (a_word (record { some = λ e. cc; printed = refl }) (a_word (laws.name goal.name named) no_words)))
-        (and_lines _ (answered_can goal r right held)
+        (and_lines _ (answered_can goal r right)
         (a_line (can_be (a_word (record { some = λ e. cc; printed = refl }) no_words)) no_lines))
 
     -- the lines of all goals
     pub goals_can : (goals : List GoalTree) (results : List Answered) → All (IsGoal input.ops) goals
-        → AllZip (λ goal answered. Right e input goal s answered) goals results → All CanBeHeld results
+        → AllZip (λ goal answered. Right e input goal s answered) goals results
         → CanBeLines (goals_lines input.table goals results)
-    goals_can [] [] each right held = no_lines
-    goals_can [] (r ∷ rs) each right held = absurd right
-    goals_can (goal ∷ goals) [] each right held = absurd right
-    goals_can (goal ∷ goals) (r ∷ rs) each right held =
+    goals_can [] [] each right = no_lines
+    goals_can [] (r ∷ rs) each right = absurd right
+    goals_can (goal ∷ goals) [] each right = absurd right
+    goals_can (goal ∷ goals) (r ∷ rs) each right =
         and_lines _
-        (goal_can goal r (All-head (IsGoal input.ops) goal goals each).named.own right.0 (All-head CanBeHeld r rs held))
-        (goals_can goals rs (All-tail (IsGoal input.ops) goal goals each) right.1 (All-tail CanBeHeld r rs held))
+        (goal_can goal r (All-head (IsGoal input.ops) goal goals each).named.own right.0)
+        (goals_can goals rs (All-tail (IsGoal input.ops) goal goals each) right.1)

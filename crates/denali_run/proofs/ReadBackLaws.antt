@@ -16,9 +16,9 @@ use Rattle.text_core.specs.Names.{IsName}
 use Rattle.word_ops.specs.declared.sorts.Sort.TheVariants as sorts
 use Rattle.denali_run.proofs.LineWords.{NumbersAreWords, OperatorsAreListed}
 use Rattle.denali_run.proofs.LinesApart.{PrintedAreLines, LinesAreOne}
-use Rattle.denali_run.proofs.SameGraphs.{GraphsAreOne, PrintedAreGraphs}
+use Rattle.denali_run.proofs.SameGraphs.{GraphsAreOne}
 use Rattle.denali_run.proofs.SameLaunches.{SlotsAreThere}
-use Rattle.denali_run.proofs.SameRefutations.{AcceptedAreReadable}
+use Rattle.denali_run.proofs.SameRefutations.{AcceptedAreReadable, WordsAreOneLine}
 
 pub record Laws : Type 0 where
   pub number : NumbersAreWords
@@ -34,8 +34,8 @@ pub record Laws : Type 0 where
       → (register < 31) × ClassHasSort g sorts.Word class
   pub graph_words : (g : LaunchGraph) → IsLaunchGraph g → All CanBeLine (graph_lines (said g))
   pub graphs : GraphsAreOne
-  pub printed_graphs : PrintedAreGraphs
   pub slots : SlotsAreThere
   pub accepted : AcceptedAreReadable
+  pub one_line : WordsAreOneLine
   pub refutation_lines : (place : ℕ) (lines : List Row) → All IsReadableLine lines
       → AreLines place (placed_lines place (map line_words lines)) (lines_text (map line_words lines))

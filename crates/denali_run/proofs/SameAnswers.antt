@@ -14,9 +14,8 @@ use Rattle.register_assign.specs.Listings.{IsListing}
 use Rattle.register_assign.specs.Outcomes.{AreWordsOf, instrs_of}
 use Rattle.text_core.specs.LineTexts.{Words}
 use Rattle.denali_run.specs.AnswerLines.{answered_lines, below_lines, conflicts_words, end_words, goal_words, goals_lines, lemmas_lines, matched_lines, none_words, noworld_words, refute_lines, rounds_words, scheduled_words, size_words, where_words, word_words}
-use Rattle.denali_run.specs.Held.{CanBeHeld, HasFewRows, HaveEightDigits}
 use Rattle.denali_run.specs.MatchedGoals.{IsMatched, IsSettings}
-use Rattle.denali_run.specs.Right.{AreRefuted, Right, formula_in}
+use Rattle.denali_run.specs.Right.{AreRefutedBelow, Right, formula_in}
 use Rattle.denali_run.specs.declared.results.Answered.{Answered}
 use Rattle.denali_run.specs.declared.results.Answered.TheVariants.{Scheduled, Nowhere, SpentConflicts, SpentSize, NoWorld}
 use Rattle.denali_run.specs.declared.results.Encoding.{Encoding}
@@ -32,13 +31,14 @@ use Rattle.denali_run.proofs.ResultParts.{behind, cycles_same, kind_of, no_launc
 use Rattle.denali_run.proofs.SameGraphs.{matched_once}
 use Rattle.denali_run.proofs.SameLaunches.{BeginsNoLaunch, are_placed, launches_once}
 use Rattle.denali_run.proofs.SameParts.{begin_same, byte_same, head_same, rest_same, cons_same, append_same}
-use Rattle.denali_run.proofs.SameRefutations.{below_once, block_once, one_less_than, same_lines, spent_readable}
+use Rattle.denali_run.proofs.SameRefutations.{below_once, block_once, one_less_than, readable, same_lines}
 
 module _ (laws : Laws) where
   -- ---- words of instructions
 
   -- words of the same instructions
-  words_once : (instrs : List Instr) (words others : List ℕ) → HaveEightDigits words → HaveEightDigits others
+  words_once : (instrs : List Instr) (words others : List ℕ) → All (λ word. word < 2 ^ 32) words
+      → All (λ word. word < 2 ^ 32) others
       → map decoded words ≡ map Some instrs → map decoded others ≡ map Some instrs → words ≡ others
   words_once instrs [] [] low less is are = refl
   words_once [] [] (v ∷ vs) low less is are = cc
@@ -65,40 +65,34 @@ module _ (laws : Laws) where
     record HasGraph (r : Answered) : Type 0 where
       matched : Matched
       right : IsMatched input goal s matched
-      few : HasFewRows matched
       whole : (end : List Words) → answered_lines table r ++ end
           ≡ matched_lines matched ++ (kind_of r ∷ behind table r end)
 
-    abbrev scheduled_graph : (f : Found) → Right e input goal s (Scheduled f) → CanBeHeld (Scheduled f) → HasGraph (Scheduled f)
-    scheduled_graph f right held = record {
+    abbrev scheduled_graph : (f : Found) → Right e input goal s (Scheduled f) → HasGraph (Scheduled f)
+    scheduled_graph f right = record {
       matched = f.matched;
       right = right.0;
-      few = held.0;
       whole = λ end. simp append_assoc;
     }
 
-    abbrev nowhere_graph : (m : Missing) → Right e input goal s (Nowhere m) → CanBeHeld (Nowhere m) → HasGraph (Nowhere m)
-    nowhere_graph m right held = record {
+    abbrev nowhere_graph : (m : Missing) → Right e input goal s (Nowhere m) → HasGraph (Nowhere m)
+    nowhere_graph m right = record {
       matched = m.matched;
       right = right.0;
-      few = held.0;
       whole = λ end. append_assoc (matched_lines m.matched) (none_words m.k ∷ refute_lines m.k m.refutation.lines) end;
     }
 
-    abbrev conflicts_graph : (t : Tried) → Right e input goal s (SpentConflicts t) → CanBeHeld (SpentConflicts t)
-        → HasGraph (SpentConflicts t)
-    conflicts_graph t right held = record {
+    abbrev conflicts_graph : (t : Tried) → Right e input goal s (SpentConflicts t) → HasGraph (SpentConflicts t)
+    conflicts_graph t right = record {
       matched = t.matched;
       right = right.0;
-      few = held.0;
       whole = λ end. simp append_assoc;
     }
 
-    abbrev size_graph : (l : Large) → Right e input goal s (SpentSize l) → CanBeHeld (SpentSize l) → HasGraph (SpentSize l)
-    size_graph l right held = record {
+    abbrev size_graph : (l : Large) → Right e input goal s (SpentSize l) → HasGraph (SpentSize l)
+    size_graph l right = record {
       matched = l.matched;
       right = right.0;
-      few = held.0;
       whole = λ end. append_assoc (matched_lines l.matched)
           (size_words l.k l.vars l.clauses ∷ below_lines l.k l.refutation) end;
     }
@@ -108,8 +102,8 @@ module _ (laws : Laws) where
         → answered_lines table r ++ x ≡ answered_lines table q ++ y
         → (p.matched ≡ o.matched) × (kind_of r ≡ kind_of q) × (behind table r x ≡ behind table q y)
     kinds r q x y p o same =
-        let both = matched_once laws.graphs laws.printed_graphs p.matched o.matched (kind_of r ∷ behind table r x)
-        (kind_of q ∷ behind table q y) p.right.graph o.right.graph p.few o.few
+        let both = matched_once laws.graphs p.matched o.matched (kind_of r ∷ behind table r x)
+        (kind_of q ∷ behind table q y) p.right.graph o.right.graph
         (rounds_low laws e input s is set goal p.matched p.right) (rounds_low laws e input s is set goal o.matched o.right)
         (no_target r) (no_target q) (sym (p.whole x) ∙ same ∙ o.whole y) in
         let lines = cons_same (kind_of r) (kind_of q) (behind table r x) (behind table q y) both.1 in
@@ -127,10 +121,10 @@ module _ (laws : Laws) where
     -- ---- results of one kind
 
     found_once : (f g : Found) (x y : List Words) → Right e input goal s (Scheduled f) → Right e input goal s (Scheduled g)
-        → CanBeHeld (Scheduled f) → CanBeHeld (Scheduled g) → BeginsNoLaunch x → BeginsNoLaunch y
+        → BeginsNoLaunch x → BeginsNoLaunch y
         → f.matched ≡ g.matched → scheduled_words f.k ≡ scheduled_words g.k
         → behind table (Scheduled f) x ≡ behind table (Scheduled g) y → (Scheduled f ≡ Scheduled g) × (x ≡ y)
-    found_once f g x y p o held fit apart alone same kind rest =
+    found_once f g x y p o apart alone same kind rest =
         let low : f.k ≤ 24 = cycles_low laws e input s is set f.k p.1 in
         let less : g.k ≤ 24 = cycles_low laws e input s is set g.k o.1 in
         let level : f.k ≡ g.k = cycles_same (codes "scheduled") f.k g.k [] [] low less kind in
@@ -146,14 +140,15 @@ module _ (laws : Laws) where
         o.3.listing.is) in
         let places = p.3.listing.only g.listing.items g.listing.wheres listed in
         let words : f.words ≡ g.words =
-        words_once (instrs_of f.listing.items) f.words g.words held.1 fit.1 p.3.words
+        words_once (instrs_of f.listing.items) f.words g.words p.3.low o.3.low p.3.words
         (subst (λ items. AreWordsOf items g.words) places.0 o.3.words) in
         let front : map word_words f.words ++ (map where_words f.listing.wheres ++ (below_lines g.k g.refutation ++ y))
         ≡ map word_words g.words ++ (map where_words g.listing.wheres ++ (below_lines g.k g.refutation ++ y)) =
         ap (λ ws. map word_words ws ++ (map where_words f.listing.wheres ++ (below_lines g.k g.refutation ++ y))) words
         ∙ ap (λ ps. map word_words g.words ++ (map where_words ps ++ (below_lines g.k g.refutation ++ y))) (sym places.1) in
-        let below = below_once laws.accepted e f.matched.graph table f.k g.k f.refutation g.refutation x y level
-        p.4.refuted (subst (λ m. AreRefuted e m.graph table g.k g.refutation) (sym same) o.4.refuted) held.2 fit.2
+        let below = below_once laws.accepted laws.one_line e f.matched.graph table s.conflicts set.conflicts.1 f.k g.k
+        f.refutation g.refutation x y level p.4.refuted
+        (subst (λ m. AreRefutedBelow e m.graph table s.conflicts g.k g.refutation) (sym same) o.4.refuted)
         (append_same (map where_words f.listing.wheres) (below_lines f.k f.refutation ++ x)
         (below_lines g.k g.refutation ++ y)
         (append_same (map word_words f.words) (map where_words f.listing.wheres ++ (below_lines f.k f.refutation ++ x))
@@ -163,13 +158,13 @@ module _ (laws : Laws) where
         )
 
     missing_once : (m n : Missing) (x y : List Words) → Right e input goal s (Nowhere m) → Right e input goal s (Nowhere n)
-        → CanBeHeld (Nowhere m) → CanBeHeld (Nowhere n) → m.matched ≡ n.matched
+        → m.matched ≡ n.matched
         → behind table (Nowhere m) x ≡ behind table (Nowhere n) y → (Nowhere m ≡ Nowhere n) × (x ≡ y)
-    missing_once m n x y p o held fit same rest =
+    missing_once m n x y p o same rest =
         let level : m.k ≡ n.k = p.1 ∙ sym o.1 in
-        let below = below_once laws.accepted e m.matched.graph table (m.k + 1) (n.k + 1) (Some m.refutation)
-        (Some n.refutation) x y (ap (λ k. k + 1) level) p.2.refuted
-        (subst (λ g. AreRefuted e g.graph table (n.k + 1) (Some n.refutation)) (sym same) o.2.refuted) held.1 fit.1
+        let below = below_once laws.accepted laws.one_line e m.matched.graph table s.conflicts set.conflicts.1
+        (m.k + 1) (n.k + 1) (Some m.refutation) (Some n.refutation) x y (ap (λ k. k + 1) level) p.2.refuted
+        (subst (λ g. AreRefutedBelow e g.graph table s.conflicts (n.k + 1) (Some n.refutation)) (sym same) o.2.refuted)
         (ap (λ k. refute_lines k m.refutation.lines ++ x) (one_less_than m.k) ∙ rest
         ∙ ap (λ k. refute_lines k n.refutation.lines ++ y) (sym (one_less_than n.k))) in
         (ap Nowhere (same_missing m n same level (some_lines m.refutation n.refutation below.0)), below.1)
@@ -178,34 +173,32 @@ module _ (laws : Laws) where
         some_lines a b e = cc
 
     conflicts_once : (t u : Tried) (x y : List Words) → Right e input goal s (SpentConflicts t)
-        → Right e input goal s (SpentConflicts u) → CanBeHeld (SpentConflicts t) → CanBeHeld (SpentConflicts u)
-        → t.matched ≡ u.matched → conflicts_words t.k ≡ conflicts_words u.k
+        → Right e input goal s (SpentConflicts u) → t.matched ≡ u.matched → conflicts_words t.k ≡ conflicts_words u.k
         → behind table (SpentConflicts t) x ≡ behind table (SpentConflicts u) y
         → (SpentConflicts t ≡ SpentConflicts u) × (x ≡ y)
-    conflicts_once t u x y p o held fit same kind rest =
+    conflicts_once t u x y p o same kind rest =
         let low : t.k ≤ 24 = cycles_low laws e input s is set t.k p.1 in
         let less : u.k ≤ 24 = cycles_low laws e input s is set u.k o.1 in
         let level : t.k ≡ u.k =
         cycles_same (codes "conflicts") t.k u.k [] [] low less
         (rest_same (codes "spent") (codes "spent") (codes "conflicts" ∷ decimal t.k ∷ [])
         (codes "conflicts" ∷ decimal u.k ∷ []) kind) in
-        let below = below_once laws.accepted e t.matched.graph table t.k u.k t.refutation u.refutation
-        (lemmas_lines t.k t.lemmas.lines ++ x) (lemmas_lines u.k u.lemmas.lines ++ y) level p.4.refuted
-        (subst (λ m. AreRefuted e m.graph table u.k u.refutation) (sym same) o.4.refuted) held.1 fit.1
-        rest in
-        let lemmas = block_once (codes "lemmas") (decimal t.k) t.lemmas.lines u.lemmas.lines x y
-        (spent_readable laws.accepted (formula_in e t.matched.graph table t.k) t.lemmas.lines p.2 p.3.accepted
+        let below = below_once laws.accepted laws.one_line e t.matched.graph table s.conflicts set.conflicts.1 t.k u.k
+        t.refutation u.refutation (lemmas_lines t.k t.lemmas.lines ++ x) (lemmas_lines u.k u.lemmas.lines ++ y) level
+        p.4.refuted (subst (λ m. AreRefutedBelow e m.graph table s.conflicts u.k u.refutation) (sym same) o.4.refuted) rest in
+        let lemmas = block_once laws.one_line (codes "lemmas") (decimal t.k) t.lemmas.lines u.lemmas.lines x y
+        (readable laws.accepted (formula_in e t.matched.graph table t.k) t.lemmas.lines p.2 p.3.accepted
         (let count = p.3.count in let most = set.conflicts.1 in omega (arith, count, most)))
-        (spent_readable laws.accepted (formula_in e u.matched.graph table u.k) u.lemmas.lines o.2 o.3.accepted
+        (readable laws.accepted (formula_in e u.matched.graph table u.k) u.lemmas.lines o.2 o.3.accepted
         (let count = o.3.count in let most = set.conflicts.1 in omega (arith, count, most)))
         (below.1 ∙ ap (λ k. lemmas_lines k u.lemmas.lines ++ y) (sym level)) in
         (ap SpentConflicts (same_tried t u same level below.0 (same_lines t.lemmas u.lemmas lemmas.0)), lemmas.1)
 
     size_once : (l m : Large) (x y : List Words) → Right e input goal s (SpentSize l) → Right e input goal s (SpentSize m)
-        → CanBeHeld (SpentSize l) → CanBeHeld (SpentSize m) → l.matched ≡ m.matched
+        → l.matched ≡ m.matched
         → size_words l.k l.vars l.clauses ≡ size_words m.k m.vars m.clauses
         → behind table (SpentSize l) x ≡ behind table (SpentSize m) y → (SpentSize l ≡ SpentSize m) × (x ≡ y)
-    size_once l m x y p o held fit same kind rest =
+    size_once l m x y p o same kind rest =
         let low : l.k ≤ 24 = cycles_low laws e input s is set l.k p.1 in
         let less : m.k ≤ 24 = cycles_low laws e input s is set m.k o.1 in
         let size = rest_same (codes "spent") (codes "spent")
@@ -219,20 +212,21 @@ module _ (laws : Laws) where
         (rest_same (codes "size") (codes "size") (decimal l.k ∷ decimal l.vars ∷ decimal l.clauses ∷ [])
         (decimal m.k ∷ decimal m.vars ∷ decimal m.clauses ∷ []) size) in
         let vars : l.vars ≡ m.vars =
-        number_same l.vars m.vars (decimal l.clauses ∷ []) (decimal m.clauses ∷ []) held.1 fit.1 counts in
+        number_same l.vars m.vars (decimal l.clauses ∷ []) (decimal m.clauses ∷ []) p.3 o.3 counts in
         let clauses : l.clauses ≡ m.clauses =
-        number_same l.clauses m.clauses [] [] held.2 fit.2
+        number_same l.clauses m.clauses [] [] p.4 o.4
         (rest_same (decimal l.vars) (decimal m.vars) (decimal l.clauses ∷ []) (decimal m.clauses ∷ []) counts) in
-        let below = below_once laws.accepted e l.matched.graph table l.k m.k l.refutation m.refutation x y level
-        p.3.refuted (subst (λ g. AreRefuted e g.graph table m.k m.refutation) (sym same) o.3.refuted) held.3 fit.3 rest in
+        let below = below_once laws.accepted laws.one_line e l.matched.graph table s.conflicts set.conflicts.1 l.k m.k
+        l.refutation m.refutation x y level p.5.refuted
+        (subst (λ g. AreRefutedBelow e g.graph table s.conflicts m.k m.refutation) (sym same) o.5.refuted) rest in
         (ap SpentSize (same_large l m same level below.0 vars clauses), below.1)
 
-    noworld_once : (class a b other c d : ℕ) (x y : List Words) → CanBeHeld (NoWorld class a b)
-        → CanBeHeld (NoWorld other c d) → noworld_words class a b ∷ x ≡ noworld_words other c d ∷ y
+    noworld_once : (class a b other c d : ℕ) (x y : List Words) → Right e input goal s (NoWorld class a b)
+        → Right e input goal s (NoWorld other c d) → noworld_words class a b ∷ x ≡ noworld_words other c d ∷ y
         → (NoWorld class a b ≡ NoWorld other c d) × (x ≡ y)
-    noworld_once class a b other c d x y held fit same =
-        let low : class < 2 ^ 31 = held.0 in
-        let less : other < 2 ^ 31 = fit.0 in
+    noworld_once class a b other c d x y p o same =
+        let low : class < 2 ^ 32 = p.1 in
+        let less : other < 2 ^ 32 = o.1 in
         let both = cons_same (noworld_words class a b) (noworld_words other c d) x y same in
         let all = rest_same (codes "noworld") (codes "noworld") (decimal class ∷ decimal a ∷ decimal b ∷ [])
         (decimal other ∷ decimal c ∷ decimal d ∷ []) both.0 in
@@ -241,8 +235,8 @@ module _ (laws : Laws) where
           ap (λ n. NoWorld n a b)
               (number_same class other (decimal a ∷ decimal b ∷ []) (decimal c ∷ decimal d ∷ []) (omega (arith, low))
               (omega (arith, less)) all)
-              ∙ ap (λ n. NoWorld other n b) (number_same a c (decimal b ∷ []) (decimal d ∷ []) held.1 fit.1 two)
-              ∙ ap (λ n. NoWorld other c n) (number_same b d [] [] held.2 fit.2 one),
+              ∙ ap (λ n. NoWorld other n b) (number_same a c (decimal b ∷ []) (decimal d ∷ []) p.2 o.2 two)
+              ∙ ap (λ n. NoWorld other c n) (number_same b d [] [] p.3 o.3 one),
           both.1,
         )
 
@@ -256,76 +250,75 @@ module _ (laws : Laws) where
         (codes "size" ∷ decimal l.k ∷ decimal l.vars ∷ decimal l.clauses ∷ []) same) in
         omega (arith, h))
 
-    answered_once : (r q : Answered) (x y : List Words) → Right e input goal s r → Right e input goal s q → CanBeHeld r
-        → CanBeHeld q → BeginsNoLaunch x → BeginsNoLaunch y
+    answered_once : (r q : Answered) (x y : List Words) → Right e input goal s r → Right e input goal s q → BeginsNoLaunch x → BeginsNoLaunch y
         → answered_lines table r ++ x ≡ answered_lines table q ++ y → (r ≡ q) × (x ≡ y)
-    answered_once (Scheduled f) (Scheduled g) x y p o held fit apart alone same =
-        let parts = kinds (Scheduled f) (Scheduled g) x y (scheduled_graph f p held) (scheduled_graph g o fit) same in
-        found_once f g x y p o held fit apart alone parts.0 parts.1 parts.2
-    answered_once (Scheduled f) (Nowhere m) x y p o held fit apart alone same =
-        let parts = kinds (Scheduled f) (Nowhere m) x y (scheduled_graph f p held) (nowhere_graph m o fit) same in
+    answered_once (Scheduled f) (Scheduled g) x y p o apart alone same =
+        let parts = kinds (Scheduled f) (Scheduled g) x y (scheduled_graph f p) (scheduled_graph g o) same in
+        found_once f g x y p o apart alone parts.0 parts.1 parts.2
+    answered_once (Scheduled f) (Nowhere m) x y p o apart alone same =
+        let parts = kinds (Scheduled f) (Nowhere m) x y (scheduled_graph f p) (nowhere_graph m o) same in
         absurd (let h : ◌≡◌ {A = ℕ} 115 110 = begin_same 0 _ _ _ _ parts.1 in omega (arith, h))
-    answered_once (Scheduled f) (SpentConflicts t) x y p o held fit apart alone same =
-        let parts = kinds (Scheduled f) (SpentConflicts t) x y (scheduled_graph f p held) (conflicts_graph t o fit) same in
+    answered_once (Scheduled f) (SpentConflicts t) x y p o apart alone same =
+        let parts = kinds (Scheduled f) (SpentConflicts t) x y (scheduled_graph f p) (conflicts_graph t o) same in
         absurd (let h : ◌≡◌ {A = ℕ} 99 112 = begin_same 1 _ _ _ _ parts.1 in omega (arith, h))
-    answered_once (Scheduled f) (SpentSize l) x y p o held fit apart alone same =
-        let parts = kinds (Scheduled f) (SpentSize l) x y (scheduled_graph f p held) (size_graph l o fit) same in
+    answered_once (Scheduled f) (SpentSize l) x y p o apart alone same =
+        let parts = kinds (Scheduled f) (SpentSize l) x y (scheduled_graph f p) (size_graph l o) same in
         absurd (let h : ◌≡◌ {A = ℕ} 99 112 = begin_same 1 _ _ _ _ parts.1 in omega (arith, h))
-    answered_once (Scheduled f) (NoWorld class a b) x y p o held fit apart alone same =
-        absurd (graph_noworld (Scheduled f) class a b x y (scheduled_graph f p held) same)
-    answered_once (Nowhere m) (Scheduled f) x y p o held fit apart alone same =
-        let parts = kinds (Nowhere m) (Scheduled f) x y (nowhere_graph m p held) (scheduled_graph f o fit) same in
+    answered_once (Scheduled f) (NoWorld class a b) x y p o apart alone same =
+        absurd (graph_noworld (Scheduled f) class a b x y (scheduled_graph f p) same)
+    answered_once (Nowhere m) (Scheduled f) x y p o apart alone same =
+        let parts = kinds (Nowhere m) (Scheduled f) x y (nowhere_graph m p) (scheduled_graph f o) same in
         absurd (let h : ◌≡◌ {A = ℕ} 110 115 = begin_same 0 _ _ _ _ parts.1 in omega (arith, h))
-    answered_once (Nowhere m) (Nowhere n) x y p o held fit apart alone same =
-        let parts = kinds (Nowhere m) (Nowhere n) x y (nowhere_graph m p held) (nowhere_graph n o fit) same in
-        missing_once m n x y p o held fit parts.0 parts.2
-    answered_once (Nowhere m) (SpentConflicts t) x y p o held fit apart alone same =
-        let parts = kinds (Nowhere m) (SpentConflicts t) x y (nowhere_graph m p held) (conflicts_graph t o fit) same in
+    answered_once (Nowhere m) (Nowhere n) x y p o apart alone same =
+        let parts = kinds (Nowhere m) (Nowhere n) x y (nowhere_graph m p) (nowhere_graph n o) same in
+        missing_once m n x y p o parts.0 parts.2
+    answered_once (Nowhere m) (SpentConflicts t) x y p o apart alone same =
+        let parts = kinds (Nowhere m) (SpentConflicts t) x y (nowhere_graph m p) (conflicts_graph t o) same in
         absurd (let h : ◌≡◌ {A = ℕ} 110 115 = begin_same 0 _ _ _ _ parts.1 in omega (arith, h))
-    answered_once (Nowhere m) (SpentSize l) x y p o held fit apart alone same =
-        let parts = kinds (Nowhere m) (SpentSize l) x y (nowhere_graph m p held) (size_graph l o fit) same in
+    answered_once (Nowhere m) (SpentSize l) x y p o apart alone same =
+        let parts = kinds (Nowhere m) (SpentSize l) x y (nowhere_graph m p) (size_graph l o) same in
         absurd (let h : ◌≡◌ {A = ℕ} 110 115 = begin_same 0 _ _ _ _ parts.1 in omega (arith, h))
-    answered_once (Nowhere m) (NoWorld class a b) x y p o held fit apart alone same =
-        absurd (graph_noworld (Nowhere m) class a b x y (nowhere_graph m p held) same)
-    answered_once (SpentConflicts t) (Scheduled f) x y p o held fit apart alone same =
-        let parts = kinds (SpentConflicts t) (Scheduled f) x y (conflicts_graph t p held) (scheduled_graph f o fit) same in
+    answered_once (Nowhere m) (NoWorld class a b) x y p o apart alone same =
+        absurd (graph_noworld (Nowhere m) class a b x y (nowhere_graph m p) same)
+    answered_once (SpentConflicts t) (Scheduled f) x y p o apart alone same =
+        let parts = kinds (SpentConflicts t) (Scheduled f) x y (conflicts_graph t p) (scheduled_graph f o) same in
         absurd (let h : ◌≡◌ {A = ℕ} 112 99 = begin_same 1 _ _ _ _ parts.1 in omega (arith, h))
-    answered_once (SpentConflicts t) (Nowhere m) x y p o held fit apart alone same =
-        let parts = kinds (SpentConflicts t) (Nowhere m) x y (conflicts_graph t p held) (nowhere_graph m o fit) same in
+    answered_once (SpentConflicts t) (Nowhere m) x y p o apart alone same =
+        let parts = kinds (SpentConflicts t) (Nowhere m) x y (conflicts_graph t p) (nowhere_graph m o) same in
         absurd (let h : ◌≡◌ {A = ℕ} 115 110 = begin_same 0 _ _ _ _ parts.1 in omega (arith, h))
-    answered_once (SpentConflicts t) (SpentConflicts u) x y p o held fit apart alone same =
-        let parts = kinds (SpentConflicts t) (SpentConflicts u) x y (conflicts_graph t p held) (conflicts_graph u o fit)
+    answered_once (SpentConflicts t) (SpentConflicts u) x y p o apart alone same =
+        let parts = kinds (SpentConflicts t) (SpentConflicts u) x y (conflicts_graph t p) (conflicts_graph u o)
         same in
-        conflicts_once t u x y p o held fit parts.0 parts.1 parts.2
-    answered_once (SpentConflicts t) (SpentSize l) x y p o held fit apart alone same =
-        let parts = kinds (SpentConflicts t) (SpentSize l) x y (conflicts_graph t p held) (size_graph l o fit) same in
+        conflicts_once t u x y p o parts.0 parts.1 parts.2
+    answered_once (SpentConflicts t) (SpentSize l) x y p o apart alone same =
+        let parts = kinds (SpentConflicts t) (SpentSize l) x y (conflicts_graph t p) (size_graph l o) same in
         absurd (conflicts_size t.k l parts.1)
-    answered_once (SpentConflicts t) (NoWorld class a b) x y p o held fit apart alone same =
-        absurd (graph_noworld (SpentConflicts t) class a b x y (conflicts_graph t p held) same)
-    answered_once (SpentSize l) (Scheduled f) x y p o held fit apart alone same =
-        let parts = kinds (SpentSize l) (Scheduled f) x y (size_graph l p held) (scheduled_graph f o fit) same in
+    answered_once (SpentConflicts t) (NoWorld class a b) x y p o apart alone same =
+        absurd (graph_noworld (SpentConflicts t) class a b x y (conflicts_graph t p) same)
+    answered_once (SpentSize l) (Scheduled f) x y p o apart alone same =
+        let parts = kinds (SpentSize l) (Scheduled f) x y (size_graph l p) (scheduled_graph f o) same in
         absurd (let h : ◌≡◌ {A = ℕ} 112 99 = begin_same 1 _ _ _ _ parts.1 in omega (arith, h))
-    answered_once (SpentSize l) (Nowhere m) x y p o held fit apart alone same =
-        let parts = kinds (SpentSize l) (Nowhere m) x y (size_graph l p held) (nowhere_graph m o fit) same in
+    answered_once (SpentSize l) (Nowhere m) x y p o apart alone same =
+        let parts = kinds (SpentSize l) (Nowhere m) x y (size_graph l p) (nowhere_graph m o) same in
         absurd (let h : ◌≡◌ {A = ℕ} 115 110 = begin_same 0 _ _ _ _ parts.1 in omega (arith, h))
-    answered_once (SpentSize l) (SpentConflicts t) x y p o held fit apart alone same =
-        let parts = kinds (SpentSize l) (SpentConflicts t) x y (size_graph l p held) (conflicts_graph t o fit) same in
+    answered_once (SpentSize l) (SpentConflicts t) x y p o apart alone same =
+        let parts = kinds (SpentSize l) (SpentConflicts t) x y (size_graph l p) (conflicts_graph t o) same in
         absurd (conflicts_size t.k l (sym parts.1))
-    answered_once (SpentSize l) (SpentSize m) x y p o held fit apart alone same =
-        let parts = kinds (SpentSize l) (SpentSize m) x y (size_graph l p held) (size_graph m o fit) same in
-        size_once l m x y p o held fit parts.0 parts.1 parts.2
-    answered_once (SpentSize l) (NoWorld class a b) x y p o held fit apart alone same =
-        absurd (graph_noworld (SpentSize l) class a b x y (size_graph l p held) same)
-    answered_once (NoWorld class a b) (Scheduled f) x y p o held fit apart alone same =
-        absurd (graph_noworld (Scheduled f) class a b y x (scheduled_graph f o fit) (sym same))
-    answered_once (NoWorld class a b) (Nowhere m) x y p o held fit apart alone same =
-        absurd (graph_noworld (Nowhere m) class a b y x (nowhere_graph m o fit) (sym same))
-    answered_once (NoWorld class a b) (SpentConflicts t) x y p o held fit apart alone same =
-        absurd (graph_noworld (SpentConflicts t) class a b y x (conflicts_graph t o fit) (sym same))
-    answered_once (NoWorld class a b) (SpentSize l) x y p o held fit apart alone same =
-        absurd (graph_noworld (SpentSize l) class a b y x (size_graph l o fit) (sym same))
-    answered_once (NoWorld class a b) (NoWorld other c d) x y p o held fit apart alone same =
-        noworld_once class a b other c d x y held fit same
+    answered_once (SpentSize l) (SpentSize m) x y p o apart alone same =
+        let parts = kinds (SpentSize l) (SpentSize m) x y (size_graph l p) (size_graph m o) same in
+        size_once l m x y p o parts.0 parts.1 parts.2
+    answered_once (SpentSize l) (NoWorld class a b) x y p o apart alone same =
+        absurd (graph_noworld (SpentSize l) class a b x y (size_graph l p) same)
+    answered_once (NoWorld class a b) (Scheduled f) x y p o apart alone same =
+        absurd (graph_noworld (Scheduled f) class a b y x (scheduled_graph f o) (sym same))
+    answered_once (NoWorld class a b) (Nowhere m) x y p o apart alone same =
+        absurd (graph_noworld (Nowhere m) class a b y x (nowhere_graph m o) (sym same))
+    answered_once (NoWorld class a b) (SpentConflicts t) x y p o apart alone same =
+        absurd (graph_noworld (SpentConflicts t) class a b y x (conflicts_graph t o) (sym same))
+    answered_once (NoWorld class a b) (SpentSize l) x y p o apart alone same =
+        absurd (graph_noworld (SpentSize l) class a b y x (size_graph l o) (sym same))
+    answered_once (NoWorld class a b) (NoWorld other c d) x y p o apart alone same =
+        noworld_once class a b other c d x y p o same
 
   -- ---- all goals
 
@@ -337,14 +330,13 @@ module _ (laws : Laws) where
     pub goals_once : (goals : List GoalTree) (results others : List Answered)
         → AllZip (λ goal answered. Right e input goal s answered) goals results
         → AllZip (λ goal answered. Right e input goal s answered) goals others
-        → All CanBeHeld results → All CanBeHeld others
         → goals_lines input.table goals results ≡ goals_lines input.table goals others → results ≡ others
-    goals_once [] [] [] right also held fit same = refl
-    goals_once [] [] (q ∷ qs) right also held fit same = absurd also
-    goals_once [] (r ∷ rs) others right also held fit same = absurd right
-    goals_once (goal ∷ goals) [] others right also held fit same = absurd right
-    goals_once (goal ∷ goals) (r ∷ rs) [] right also held fit same = absurd also
-    goals_once (goal ∷ goals) (r ∷ rs) (q ∷ qs) right also held fit same =
+    goals_once [] [] [] right also same = refl
+    goals_once [] [] (q ∷ qs) right also same = absurd also
+    goals_once [] (r ∷ rs) others right also same = absurd right
+    goals_once (goal ∷ goals) [] others right also same = absurd right
+    goals_once (goal ∷ goals) (r ∷ rs) [] right also same = absurd also
+    goals_once (goal ∷ goals) (r ∷ rs) (q ∷ qs) right also same =
         let x : List Words = goals_lines input.table goals rs in
         let y : List Words = goals_lines input.table goals qs in
         let one : List Words = answered_lines input.table r in
@@ -352,9 +344,9 @@ module _ (laws : Laws) where
         let lines = cons_same (goal_words goal.name) (goal_words goal.name) ((one ++ (end_words ∷ [])) ++ x)
         ((two ++ (end_words ∷ [])) ++ y) same in
         let both = answered_once e input s is set goal r q (end_words ∷ x) (end_words ∷ y) right.0 also.0
-        (All-head CanBeHeld r rs held) (All-head CanBeHeld q qs fit) (end_no_launch x) (end_no_launch y)
+        (end_no_launch x) (end_no_launch y)
         (sym (append_assoc one (end_words ∷ []) x) ∙ lines.1 ∙ append_assoc two (end_words ∷ []) y) in
         ap (λ z. z ∷ rs) both.0
         ∙ ap (λ zs. q ∷ zs)
-        (goals_once goals rs qs right.1 also.1 (All-tail CanBeHeld r rs held) (All-tail CanBeHeld q qs fit)
+        (goals_once goals rs qs right.1 also.1
         (cons_same end_words end_words x y both.1).1)

@@ -1,8 +1,8 @@
 -- What the work on a goal comes to, from what its calls promise.
-use Rattle.std.proofs.Common.{◌≡◌, ℕ, ◌+◌, ◌<◌, ◌≤◌, ◌^◌, ◌∙◌, max, List, Result, Ok, Err, refl, sym, ap, subst, arith, map, All, Contains}
+use Rattle.std.proofs.Common.{◌≡◌, ℕ, ◌<◌, ◌≤◌, ◌^◌, ◌∙◌, max, List, Result, Ok, Err, refl, sym, ap, subst, arith, map, Contains}
 use Rattle.std.specs.Prelude.{IfOk, slice_get, Some, length, get_or}
 use Rattle.std.proofs.lemmas.List.{get_or-map, length-map}
-use Rattle.std.proofs.lemmas.List.Elements.{All-contains, Contains-get_or}
+use Rattle.std.proofs.lemmas.List.Elements.{Contains-get_or}
 use Rattle.std.proofs.lemmas.Option.{slice_get_read}
 use Rattle.word_ops.specs.Worlds.{World, IsWorld}
 use Rattle.word_ops.specs.declared.sorts.Op.{Op}
@@ -13,7 +13,6 @@ use Rattle.saturation.specs.declared.rounds.Stop.{Stop}
 use Rattle.goal_reader.specs.Holds.{HoldsFor}
 use Rattle.goal_reader.specs.Printing.{declared_name}
 use Rattle.goal_reader.specs.Views.{GoalTree, InputTree, goal_view}
-use Rattle.goal_reader.specs.WellFormed.{IsGoal, IsInput}
 use Rattle.goal_reader.specs.declared.goals.Goal.{Goal}
 use Rattle.launch_graph.specs.WellFormed.{IsLaunchGraph}
 use Rattle.saturation.specs.GraphStands.{GraphStands, RulesHold}
@@ -48,13 +47,18 @@ module _ (input : InputTree) (goal : GoalTree) (s : Settings) (rules_true : Rule
 
   at_start : (fault : StartFault) (answered : Answered) → StartFaultIs goal fault → IsHopelessAtStart goal fault
       → IsNoWorldAtStart fault answered → Right Wide input goal s answered
-  at_start (start.NoWorld class a b) (NoWorld c x y) h hopeless e =
-      named a b x y e.0 e.1 (record {
-        round = 0;
-        reached = (omega arith, λ i lt. absurd (omega (arith, lt)));
-        clash = h (rules_of input);
-        nowhere = λ world is holds. hopeless (declared_name input.ops) (rules_of input) world is (rules_true world is holds);
-      })
+  at_start (start.NoWorld class a b) (NoWorld c x y) h hopeless e = (
+    named a b x y e.0 e.1 (record {
+      round = 0;
+      reached = (omega arith, λ i lt. absurd (omega (arith, lt)));
+      clash = h (rules_of input);
+      nowhere = λ world is holds. hopeless (declared_name input.ops) (rules_of input) world is
+          (rules_true world is holds);
+    }),
+    e.2,
+    e.3,
+    e.4,
+  )
   at_start (start.NoWorld class a b) (Scheduled f) h hopeless e = absurd e
   at_start (start.NoWorld class a b) (Nowhere f) h hopeless e = absurd e
   at_start (start.NoWorld class a b) (SpentConflicts f) h hopeless e = absurd e
@@ -71,14 +75,18 @@ module _ (input : InputTree) (goal : GoalTree) (s : Settings) (rules_true : Rule
     in_rounds : (fault : SaturateFault) (answered : Answered)
         → SaturateFaultIs (rules_of input) graph s.rounds s.nodes fault → IsHopeless (rules_of input) graph fault
         → IsNoWorldInRounds fault answered → Right Wide input goal s answered
-    in_rounds (rounds.NoWorld class a b) (NoWorld c x y) h hopeless e =
-        named a b x y e.0 e.1 (record {
-          round = h.round;
-          reached = (h.asked, (h.clash (present_terms goal) (assumed_pairs goal) grown).1);
-          clash = (h.clash (present_terms goal) (assumed_pairs goal) grown).0;
-          nowhere = λ world is holds. hopeless (declared_name input.ops) (assumed_pairs goal) (kept_terms goal) stands world
-              is (rules_true world is holds);
-        })
+    in_rounds (rounds.NoWorld class a b) (NoWorld c x y) h hopeless e = (
+      named a b x y e.0 e.1 (record {
+        round = h.round;
+        reached = (h.asked, (h.clash (present_terms goal) (assumed_pairs goal) grown).1);
+        clash = (h.clash (present_terms goal) (assumed_pairs goal) grown).0;
+        nowhere = λ world is holds. hopeless (declared_name input.ops) (assumed_pairs goal) (kept_terms goal) stands
+            world is (rules_true world is holds);
+      }),
+      e.2,
+      e.3,
+      e.4,
+    )
     in_rounds (rounds.NoWorld class a b) (Scheduled f) h hopeless e = absurd e
     in_rounds (rounds.NoWorld class a b) (Nowhere f) h hopeless e = absurd e
     in_rounds (rounds.NoWorld class a b) (SpentConflicts f) h hopeless e = absurd e

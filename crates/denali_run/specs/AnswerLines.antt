@@ -1,6 +1,6 @@
 -- The lines of an answer, each a list of words. Numbers are decimal, words of the machine are eight hexadecimal digits.
 -- Source: this project.
-use Rattle.std.specs.Prelude.{ℕ, ℤ, zero, suc, ◌+◌, ◌*◌, ◌/◌, ◌%◌, ◌^◌, ◌-◌, max, Bool, List, [], ◌∷◌, ◌++◌, length, map, fold, codes, decimal, Option, None, Some, nat_lt, slice_get, if◌then◌else◌}
+use Rattle.std.specs.Prelude.{ℕ, ℤ, zero, suc, ◌+◌, ◌*◌, ◌/◌, ◌%◌, ◌^◌, ◌-◌, Bool, List, [], ◌∷◌, ◌++◌, length, map, codes, decimal, Option, None, Some, nat_lt, slice_get, if◌then◌else◌}
 use Rattle.std.specs.Fmt.{signed_decimal}
 use Rattle.std.specs.Option.{option_map_or}
 use Rattle.alpha_encode.specs.Codes.{is_unary}
@@ -76,8 +76,8 @@ abbrev pub before_comma : ℕ → List ℕ
 before_comma r = register r ++ codes ","
 
 -- an operate of one operand has no first one
-abbrev pub first_words : WordOp → ℕ → Words
-first_words op ra = if is_unary op then [] else before_comma ra ∷ []
+abbrev pub first_operand_words : WordOp → ℕ → Words
+first_operand_words op ra = if is_unary op then [] else before_comma ra ∷ []
 
 abbrev pub memory_words : List ℕ → ℕ → ℕ → ℤ → Words
 memory_words name ra rb disp =
@@ -86,7 +86,7 @@ memory_words name ra rb disp =
 -- the words of an instruction's text
 abbrev pub instr_words : Instr → Words
 instr_words (Operate op ra second rc) =
-    name_of op ∷ (first_words op ra ++ ((second_text second ++ codes ",") ∷ register rc ∷ []))
+    name_of op ∷ (first_operand_words op ra ++ ((second_text second ++ codes ",") ∷ register rc ∷ []))
 instr_words (Lda ra rb disp) = memory_words (codes "lda") ra rb disp
 instr_words (Ldah ra rb disp) = memory_words (codes "ldah") ra rb disp
 instr_words (LdqU ra rb disp) = memory_words (codes "ldq_u") ra rb disp

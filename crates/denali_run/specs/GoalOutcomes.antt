@@ -18,8 +18,8 @@ use Rattle.register_assign.specs.declared.listings.Where.{Where}
 use Rattle.saturation.specs.StandsFor.{has_select}
 
 -- the registers of the goal's inputs are as at entry
-abbrev pub KeepsInputs : GoalTree → World → MachineState → Type 0
-KeepsInputs goal world s =
+abbrev pub KeepsGoalInputs : GoalTree → World → MachineState → Type 0
+KeepsGoalInputs goal world s =
     All (λ (i : InputReg). slice_index s.registers i.reg ≡ slice_index world.registers i.reg) goal.inputs
 
 -- the words run to their end; each target's new value is in the register that the answer says, memory is the new one,
@@ -31,7 +31,7 @@ pub record EndsWith (goal : GoalTree) (world : World) (words : List ℕ) (wheres
   pub targets : AllZip (λ (p : Where) (v : NewValue). (p.name ≡ v.name)
       × (word (slice_index state.registers p.reg) ≡ v.value)) wheres values
   pub memory_is : memory state.memory ≡ new
-  pub inputs : KeepsInputs goal world state
+  pub inputs : KeepsGoalInputs goal world state
 
 -- the words leave by the branch, with memory and inputs as at entry; and no load was stepped, unless the guard's own
 -- term reads memory
@@ -39,14 +39,14 @@ pub record LeavesByBranch (goal : GoalTree) (world : World) (items : List Item) 
   pub state : MachineState
   pub runs : Runs words (entry_state world) Exit state
   pub memory_is : state.memory ≡ world.memory_at_entry
-  pub inputs : KeepsInputs goal world state
+  pub inputs : KeepsGoalInputs goal world state
   pub no_load : IfSome goal.guard (λ t. has_select t ≡ false
       → All (λ i. ¬ IsTrue (loads i)) (trace (length items) (instrs_of items) (entry_state world)))
 
 -- the words do what the outcome says
-abbrev pub Follows : GoalTree → World → List Item → List ℕ → List Where → Outcome → Type 0
-Follows goal world items words wheres exit = LeavesByBranch goal world items words
-Follows goal world items words wheres (fall values new) = EndsWith goal world words wheres values new
+abbrev pub DoesAsSaid : GoalTree → World → List Item → List ℕ → List Where → Outcome → Type 0
+DoesAsSaid goal world items words wheres exit = LeavesByBranch goal world items words
+DoesAsSaid goal world items words wheres (fall values new) = EndsWith goal world words wheres values new
 
 -- in each world in which axioms and assumptions hold, from its registers and memory, the words do what the goal says
 abbrev pub Computes : InputTree → GoalTree → List Item → List ℕ → List Where → Type 0
@@ -54,4 +54,4 @@ Computes input goal items words wheres =
     (world : World)
     → IsWorld world
     → HoldsFor input goal world
-    → Follows goal world items words wheres (outcome input.ops world goal)
+    → DoesAsSaid goal world items words wheres (outcome input.ops world goal)

@@ -29,8 +29,8 @@ abbrev pub IsClashOf : InputTree → GoalTree → ℕ → ℕ → ℕ → Type 0
 IsClashOf input goal j a b = IsClash (rules_of input) (present_terms goal) (assumed_pairs goal) j a b
 
 -- the rounds that are asked for don't end before round j
-abbrev pub Reaches : InputTree → GoalTree → Settings → ℕ → Type 0
-Reaches input goal s j =
+abbrev pub ReachesRound : InputTree → GoalTree → Settings → ℕ → Type 0
+ReachesRound input goal s j =
     (j ≤ s.rounds) × NotBefore (rules_of input) (present_terms goal) (assumed_pairs goal) s.rounds s.nodes j
 
 -- The graph stands for the goal. Its rounds are as many as are asked for, or the first after which no match is unmet or
@@ -40,6 +40,6 @@ pub record IsMatched (input : InputTree) (goal : GoalTree) (s : Settings) (m : M
   pub graph : IsLaunchGraph m.graph
   pub stands : StandsFor input goal m.graph
   pub grown : IsGrownFor input goal m.graph m.rounds
-  pub reached : Reaches input goal s m.rounds
+  pub reached : ReachesRound input goal s m.rounds
   pub stops : StopIs (rules_of input) (graph_view input.ops m.graph) s.rounds s.nodes m.rounds m.stop
   pub no_clash : (j a b : ℕ) → j ≤ m.rounds → ¬ IsClashOf input goal j a b

@@ -1,5 +1,6 @@
 -- When what a goal is answered by is right. Source: this project, over Denali (PLDI 2002).
-use Rattle.std.specs.Prelude.{◌≡◌, ℕ, ◌+◌, ◌<◌, ◌≤◌, List, Option, None, Some}
+use Rattle.std.specs.Prelude.{◌≡◌, ℕ, ◌+◌, ◌<◌, ◌≤◌, ◌^◌, All, List, Option, None, Some, length}
+use Rattle.word_ops.specs.Words.{IsWord}
 use Rattle.word_ops.specs.Worlds.{World, IsWorld}
 use Rattle.cnf_core.specs.Formula.{Formula}
 use Rattle.cnf_core.specs.Outcome.{IsSpent}
@@ -19,7 +20,7 @@ use Rattle.register_assign.specs.Outcomes.{AreWordsOf}
 use Rattle.schedule_meaning.specs.Fits.{Fits}
 use Rattle.schedule_meaning.specs.declared.schedules.Launch.{Launch}
 use Rattle.denali_run.specs.GoalOutcomes.{Computes}
-use Rattle.denali_run.specs.MatchedGoals.{IsClashOf, IsMatched, Reaches}
+use Rattle.denali_run.specs.MatchedGoals.{IsClashOf, IsMatched, ReachesRound}
 use Rattle.denali_run.specs.declared.results.Answered.{Answered}
 use Rattle.denali_run.specs.declared.results.Answered.TheVariants.{Scheduled, Nowhere, SpentConflicts, SpentSize, NoWorld}
 use Rattle.denali_run.specs.declared.results.Encoding.{Encoding}
@@ -38,36 +39,42 @@ pub record NoneFits (e : Encoding) (g : LaunchGraph) (table : Table) (k : ℕ) :
   pub within : ¬ IsTooLarge (formula_in e g table k)
   pub none : (ls : List Launch) → Fits g table k ls → ⊥
 
--- the lines refute the clauses for k cycles, and no schedule fits in them
-pub record IsRefuted (e : Encoding) (g : LaunchGraph) (table : Table) (k : ℕ) (lines : List Line) : Type 0 where
+-- at most so many lines refute the clauses for k cycles, one for each conflict, and no schedule fits in them
+pub record IsTooFew (e : Encoding) (g : LaunchGraph) (table : Table) (conflicts k : ℕ) (lines : List Line)
+    : Type 0 where
+  pub few : length lines ≤ conflicts
   pub refutes : Refutes (formula_in e g table k) lines
   pub none_fits : NoneFits e g table k
 
 -- where k isn't 0 there are lines, and they refute the clauses for k - 1 cycles
-pub data AreRefuted (e : Encoding) (g : LaunchGraph) (table : Table) : ℕ → Option Lines → Type 0 where
-  nothing_less : AreRefuted e g table 0 None
-  one_less : {k : ℕ} {lines : Lines} → IsRefuted e g table k lines.lines → AreRefuted e g table (k + 1) (Some lines)
+pub data AreRefutedBelow (e : Encoding) (g : LaunchGraph) (table : Table) (conflicts : ℕ) : ℕ → Option Lines
+    → Type 0 where
+  nothing_less : AreRefutedBelow e g table conflicts 0 None
+  one_less : {k : ℕ} {lines : Lines} → IsTooFew e g table conflicts k lines.lines
+      → AreRefutedBelow e g table conflicts (k + 1) (Some lines)
 
 -- the lines refute the clauses for k - 1, and no schedule fits in fewer cycles than k
-pub record IsLeast (e : Encoding) (g : LaunchGraph) (table : Table) (k : ℕ) (refutation : Option Lines) : Type 0 where
-  pub refuted : AreRefuted e g table k refutation
+pub record IsLeast (e : Encoding) (g : LaunchGraph) (table : Table) (conflicts k : ℕ) (refutation : Option Lines)
+    : Type 0 where
+  pub refuted : AreRefutedBelow e g table conflicts k refutation
   pub none_fits : (j : ℕ) → j < k → NoneFits e g table j
 
 -- ---- results
 
 -- The launches fit in k cycles. These are their instructions in word order and the places of the targets, these are the
--- instructions' words, the instructions keep to the table, and the words compute the goal.
+-- instructions' words, of 32 bits, the instructions keep to the table, and the words compute the goal.
 pub record IsScheduled (input : InputTree) (goal : GoalTree) (f : Found) : Type 0 where
   pub fits : Fits f.matched.graph input.table f.k f.schedule.launches
   pub listing : IsTheListing f.matched.graph input.table f.schedule.launches f.listing.items f.listing.wheres
   pub words : AreWordsOf f.listing.items f.words
+  pub low : All (λ word. word < 2 ^ 32) f.words
   pub obeys : Obeys input.table f.k f.listing.items
   pub computes : Computes input goal f.listing.items f.words f.listing.wheres
 
 -- two different constants are equal after a round that is reached, and so axioms and assumptions hold in no world
 pub record HasNoWorld (input : InputTree) (goal : GoalTree) (s : Settings) (a b : ℕ) : Type 0 where
   pub round : ℕ
-  pub reached : Reaches input goal s round
+  pub reached : ReachesRound input goal s round
   pub clash : IsClashOf input goal round a b
   pub nowhere : (world : World) → IsWorld world → HoldsFor input goal world → ⊥
 
@@ -77,20 +84,26 @@ Right e input goal s (Scheduled f) =
     × (f.k ≤ s.cycles)
     × (¬ IsTooLarge (formula_in e f.matched.graph input.table f.k))
     × IsScheduled input goal f
-    × IsLeast e f.matched.graph input.table f.k f.refutation
+    × IsLeast e f.matched.graph input.table s.conflicts f.k f.refutation
 Right e input goal s (Nowhere m) =
     IsMatched input goal s m.matched
     × (m.k ≡ s.cycles)
-    × IsLeast e m.matched.graph input.table (m.k + 1) (Some m.refutation)
+    × IsLeast e m.matched.graph input.table s.conflicts (m.k + 1) (Some m.refutation)
 Right e input goal s (SpentConflicts t) =
     IsMatched input goal s t.matched
     × (t.k ≤ s.cycles)
     × (¬ IsTooLarge (formula_in e t.matched.graph input.table t.k))
     × IsSpent (formula_in e t.matched.graph input.table t.k) s.conflicts t.lemmas.lines
-    × IsLeast e t.matched.graph input.table t.k t.refutation
+    × IsLeast e t.matched.graph input.table s.conflicts t.k t.refutation
 Right e input goal s (SpentSize l) =
     IsMatched input goal s l.matched
     × (l.k ≤ s.cycles)
     × PassesLimit (formula_in e l.matched.graph input.table l.k) l.vars l.clauses
-    × IsLeast e l.matched.graph input.table l.k l.refutation
-Right e input goal s (NoWorld class a b) = HasNoWorld input goal s a b
+    × IsWord l.vars
+    × IsWord l.clauses
+    × IsLeast e l.matched.graph input.table s.conflicts l.k l.refutation
+Right e input goal s (NoWorld class a b) =
+    HasNoWorld input goal s a b
+    × (class < 2 ^ 32)
+    × IsWord a
+    × IsWord b

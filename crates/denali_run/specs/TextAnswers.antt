@@ -12,8 +12,8 @@ use Rattle.denali_run.specs.declared.results.Encoding.TheVariants.{Wide}
 use Rattle.denali_run.specs.declared.settings.Settings.{Settings}
 use Rattle.denali_run.specs.declared.statuses.Status.{Status}
 use Rattle.denali_run.specs.declared.statuses.Status.TheVariants as status
-use Rattle.denali_run.specs.declared.text_solving.TextError.{TextError}
-use Rattle.denali_run.specs.declared.text_solving.TextError.TheVariants.{Read, Memory}
+use Rattle.denali_run.specs.declared.reports.TextError.{TextError}
+use Rattle.denali_run.specs.declared.reports.TextError.TheVariants.{Read, Memory}
 
 -- the status that a result asks for
 abbrev pub status_of : Answered → Status

@@ -1,10 +1,9 @@
 // What an answer's text says of its results. The call does nothing: its clause holds of all results.
-ghost use Rattle.std.specs.Prelude.{◌≡◌, All, List};
+ghost use Rattle.std.specs.Prelude.{◌≡◌, List};
 ghost use Rattle.std.specs.List.{AllZip};
 ghost use Rattle.goal_reader.specs.Views.{InputTree};
 ghost use Rattle.goal_reader.specs.WellFormed.{IsInput};
 ghost use Rattle.denali_run.specs.AnswerLines.{answer_text};
-ghost use Rattle.denali_run.specs.Held.{CanBeHeld};
 ghost use Rattle.denali_run.specs.MatchedGoals.{IsSettings};
 ghost use Rattle.denali_run.specs.Right.{Right};
 ghost use Rattle.denali_run.specs.declared.results.Answered.{Answered as AnsweredOf};
@@ -18,14 +17,13 @@ use refutation_check::printed_lines_are_read_back;
 use text_core::{one_splitting, printed_lines_are_lines};
 use word_ops::operators_are_listed;
 
-/// Two lists of right results of one input that have one text are one, where a text can hold them. So a reader of the
-/// bytes knows of which results the answer speaks.
+/// Two lists of right results of one input that have one text are one. So a reader of the bytes knows of which results
+/// the answer speaks.
 pub fn one_text_has_one_answer()
     ensures { (e : EncodingOf) (s : SettingsOf) (input : InputTree) (results others : List AnsweredOf)
         → IsInput input → IsSettings s
         → AllZip (λ goal answered. Right e input goal s answered) input.goals results
         → AllZip (λ goal answered. Right e input goal s answered) input.goals others
-        → All CanBeHeld results → All CanBeHeld others
         → answer_text e input results ≡ answer_text e input others → results ≡ others }
 {
     words_and_instructions();

@@ -8,10 +8,10 @@ ghost use Rattle.denali_run.specs.Right.{Right};
 ghost use Rattle.denali_run.specs.TextAnswers as texts;
 ghost use Rattle.denali_run.specs.TextAnswers.{Answers, TextErrorIs};
 ghost use Rattle.denali_run.specs.declared.results.Encoding.TheVariants.{Wide};
-ghost use Rattle.denali_run.specs.declared.text_solving.TextError.TheVariants.{Memory};
 
 use crate::answer_lines::print;
 use crate::goal_solving::solve_goal;
+use crate::reports::{Report, TextError};
 use crate::results::Answered;
 use crate::settings::{Pick, Settings};
 use crate::statuses::Status;
@@ -19,32 +19,7 @@ use goal_reader::{Input, read, read_inputs_are_well_formed};
 use items::NoMemory;
 use pick_rule::{Picker, Rule};
 use std::alloc::Global;
-use text_core::{Fault, TextFault};
-use thiserror::Error;
-
-/// What a command writes, and how it ends.
-#[derive(Drop)]
-pub struct Report {
-    pub bytes: Vec<u8>,
-    pub status: Status,
-}
-
-/// Why a text has no answer.
-#[derive(Clone, Copy, PartialEq, Eq, Debug, Error)]
-pub enum TextError {
-    #[error("the text has a fault")]
-    Read(Fault),
-    #[error("out of memory")]
-    Memory,
-}
-
-impl From<NoMemory> for TextError {
-    ghost from_gives = { λ _ fault. fault ≡ Memory };
-
-    fn from(_: NoMemory) -> TextError {
-        TextError::Memory
-    }
-}
+use text_core::TextFault;
 
 /// The status that a result asks for.
 fn status_of(answered: &Answered) -> Status

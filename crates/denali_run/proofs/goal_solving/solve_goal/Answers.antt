@@ -1,4 +1,4 @@
-use Rattle.std.proofs.Common.{◌≡◌, refl, subst, sym, ap, ◌∙◌, List, Contains, map}
+use Rattle.std.proofs.Common.{refl, subst, List, Contains, map}
 use Rattle.std.proofs.lemmas.List.Elements.{All-contains}
 use Rattle.axiom_base.specs.Rewrites.{Rewrite}
 use Rattle.goal_reader.specs.Printing.{declared_name}

@@ -3,7 +3,7 @@ use Rattle.denali_run.proofs.ReadBackLaws.{Laws}
 use Rattle.denali_run.proofs.laws.one_text_has_one_answer.Goals as goal
 
 pub returns : goal.returns
-returns c = λ e s input results others is set right also held fit same.
+returns c = λ e s input results others is set right also same.
     let laws : Laws = record {
       number = c.printed_lines_are_lines.ensures.number;
       name = c.printed_lines_are_lines.ensures.name;
@@ -14,10 +14,10 @@ returns c = λ e s input results others is set right also held fit same.
       forth = c.words_and_instructions.ensures.forth;
       registers = c.graphs_are_consistent.ensures.input_word;
       graph_words = c.printed_graphs_are_lines.ensures.words;
-      graphs = c.one_graph.ensures.graph;
-      printed_graphs = c.one_graph.ensures.printed;
+      graphs = c.one_graph.ensures.alike;
       slots = c.tables_keep_limits.ensures.slot;
       accepted = c.printed_lines_are_read_back.ensures.accepted;
+      one_line = c.printed_lines_are_read_back.ensures.one;
       refutation_lines = c.printed_lines_are_read_back.ensures.lines;
     } in
-    results_once laws e s input results others is set right also held fit same
+    results_once laws e s input results others is set right also same

@@ -1,10 +1,10 @@
-use Rattle.std.proofs.Common.{subst, ◌≡◌}
-use Rattle.std.specs.Prelude.{IsPermutation, List}
-use Rattle.cnf_core.specs.Formula.{assigned, Satisfies}
-use Rattle.cnf_core.specs.Outcome.{IsSolved, IsRefuted as IsRefutedFormula, IsSpent}
-use Rattle.sat_core.specs.Verdicts.{IfSat, IfRefuted, IfSpent}
+use Rattle.std.proofs.Common.{subst}
+use Rattle.std.specs.Prelude.{IsPermutation}
+use Rattle.cnf_core.specs.Formula.{assigned}
+use Rattle.cnf_core.specs.Outcome.{IsSolved, IsRefuted as IsRefutedFormula}
+use Rattle.sat_core.specs.Verdicts.{IfSat, IfRefuted}
 use Rattle.cycle_encoding.specs.Shapes.{shown, numbered}
-use Rattle.denali_run.proofs.RisingCycles.{refuted_of, all_large}
+use Rattle.denali_run.proofs.RisingCycles.{refuted_of}
 use Rattle.denali_run.proofs.searching.try_cycles.Goals as goal
 
 pub returns-in-Sat : goal.returns-in-Sat
@@ -25,7 +25,7 @@ returns-in-Refuted g c =
     let refuted : IsRefutedFormula c.in-Ok.encoded.cnf c.args.conflicts c.in-Refuted.lines.lines =
     subst (λ v. IfRefuted v (IsRefutedFormula c.in-Ok.encoded.cnf c.args.conflicts)) c.in-Refuted.is
     c.in_ok-values.ensures.refuted in
-    refuted_of c.args.graph.now c.args.table.now c.args.k c.in-Ok.encoded.cnf c.in-Refuted.lines.lines
-    c.in-Ok.ensures.formula c.in-Ok.ensures.within refuted.refutes
+    refuted_of c.args.graph.now c.args.table.now c.args.conflicts c.args.k c.in-Ok.encoded.cnf c.in-Refuted.lines.lines
+    refuted.few c.in-Ok.ensures.formula c.in-Ok.ensures.within refuted.refutes
     (c.refutations_leave_no_solution.ensures c.in-Ok.encoded.cnf c.in-Refuted.lines.lines refuted.refutes)
     (λ ls fit. let v = c.in-Ok.ensures.each ls fit in (v.0, v.1))

@@ -1,5 +1,4 @@
 use Rattle.std.proofs.Common.{◌≡◌, ◌++◌, take, map}
-use Rattle.text_core.specs.LineTexts.{lines_text}
 use Rattle.launch_graph.specs.LineParts.{words_behind}
 use Rattle.denali_run.specs.AnswerLines.{slot_name}
 use Rattle.denali_run.proofs.table_lines.put_slot_names.Given as goal

@@ -1,4 +1,4 @@
-use Rattle.std.proofs.Common.{◌≡◌, ◌<◌, ◌+◌, ◌++◌, ◌∷◌, [], subst, sym, take, map}
+use Rattle.std.proofs.Common.{◌<◌, ◌+◌, subst, sym, take, map}
 use Rattle.std.specs.List.{AllZip}
 use Rattle.goal_reader.specs.Views.{goal_view, input_view}
 use Rattle.denali_run.specs.Right.{Right}

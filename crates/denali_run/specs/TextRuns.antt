@@ -1,0 +1,21 @@
+-- Which bytes and which status answer the text of a program to be run. Source: this project.
+use Rattle.std.specs.Prelude.{◌≡◌, ℕ, List}
+use Rattle.run_texts.specs.Reports.{IsReport}
+use Rattle.run_texts.specs.RunFaults.{IsRunFault, ReadsRun}
+use Rattle.run_texts.specs.declared.texts.RunText.{RunText}
+use Rattle.denali_run.specs.declared.statuses.Status.{Status}
+use Rattle.denali_run.specs.declared.statuses.Status.TheVariants.{Done}
+use Rattle.denali_run.specs.declared.reports.TextError.{TextError}
+use Rattle.denali_run.specs.declared.reports.TextError.TheVariants.{Read, Memory}
+
+-- The text reads as a program, and the bytes are the report of how its words end that are run with what it gives.
+pub record RunsText (text bytes : List ℕ) (status : Status) : Type 0 where
+  pub program : RunText
+  pub reads : ReadsRun text program
+  pub report : IsReport program bytes
+  pub done : status ≡ Done
+
+-- why a text has no report
+abbrev pub RunErrorIs : List ℕ → TextError → Type 0
+RunErrorIs text (Read fault) = IsRunFault text fault.place fault.kind
+RunErrorIs text Memory = Unit {0}

@@ -1,0 +1,27 @@
+// The work of `run`, from the bytes of a program's text to those of its report.
+ghost use Rattle.std.specs.Prelude.{◌<◌, ◌^◌, IfOk, IfErr, length};
+ghost use Rattle.denali_run.specs.TextRuns.{RunErrorIs, RunsText};
+
+use crate::reports::{Report, TextError};
+use crate::statuses::Status;
+use run_texts::{read, report};
+use std::alloc::Global;
+use text_core::TextFault;
+
+/// Runs the program of a text, from its first word, with the words that the text gives registers and places, and reports
+/// the end, and which registers and places don't hold 0 then.
+pub fn run_text(alloc: Global, text: &[u8]) -> Result<Report, TextError>
+    requires few { length text.now < 2 ^ 29 }
+    ensures ran { IfOk result (λ report. RunsText text.now report.bytes.items report.status) }
+    ensures error { IfErr result (RunErrorIs text.now) }
+{
+    let program = match read(alloc, text) {
+        Ok(program) => program,
+        Err(TextFault::Fault(fault)) => return Err(TextError::Read(fault)),
+        Err(TextFault::Memory) => return Err(TextError::Memory),
+    };
+    Ok(Report {
+        bytes: report(alloc, &program)?,
+        status: Status::Done,
+    })
+}
