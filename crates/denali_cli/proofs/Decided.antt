@@ -1,30 +1,28 @@
 -- What the words and the input decide, from what the calls gave.
-use Rattle.std.proofs.Common.{◌≡◌, ℕ, ◌<◌, ◌≤◌, List, length, refl, subst, arith, Some}
+use Rattle.std.proofs.Common.{◌≡◌, ℕ, ◌<◌, ◌≤◌, List, [], length, refl, sym, subst, ◌∙◌, arith, None, Some}
 use Rattle.std.specs.Prelude.{IfOk}
 use Rattle.std.specs.declared.option.Option.{Option}
 use Rattle.std.specs.declared.result.Result.{Result}
 use Rattle.std.specs.declared.result.Result.TheVariants.{Ok, Err}
-use Rattle.outside_io.specs.Taking.{TakesUpTo, ReadsWhole}
+use Rattle.std.specs.Io.KnownBytes.{Keeps}
+use Rattle.outside_io.specs.Taking.{IsRead, ReadsWhole, TakesFront, TakesUpTo, TakesWithin}
 use Rattle.outside_io.specs.declared.reading.ReadAllFault.TheVariants.{TooLong}
-use Rattle.goal_reader.specs.Grammar.{IsFirstTextFault}
 use Rattle.text_core.specs.declared.faults.Fault.{Fault}
-use Rattle.denali_run.specs.declared.text_solving.Report.{Report}
-use Rattle.denali_run.specs.declared.settings.Settings.{Settings}
+use Rattle.denali_run.specs.declared.reports.Report.{Report}
 use Rattle.denali_run.specs.declared.statuses.Status.{Status}
 use Rattle.denali_run.specs.declared.statuses.Status.TheVariants.{Done, Missing, Usage, ReadFault, Spent, Memory, SourceFault, SinkFault, NoWorld}
 use Rattle.denali_cli.specs.declared.decide.Stop.{Stop}
-use Rattle.denali_cli.specs.Commands.{Command, Solve}
-use Rattle.denali_run.specs.TextAnswers.{Answers}
-use Rattle.denali_cli.specs.Replies.{too_long_line, too_long, fault_line, faulty, answered}
-use Rattle.denali_cli.specs.Outcomes.{Decides, IsReported, IsWhole}
-use Rattle.denali_cli.proofs.Exact.{answers_report}
+use Rattle.denali_cli.specs.Commands.{Command}
+use Rattle.denali_cli.specs.Replies.{IsFaultFor, IsWithinLimit, Reports, answered, fault_line, faulty, limit_of, too_long, too_long_line}
+use Rattle.denali_cli.specs.Outcomes.{Decides, IsReported, IsWhole, ReadsWithin, Takes, TakesFor}
+use Rattle.denali_cli.proofs.Exact.{reports_report}
 
 -- the report is what the words and the input decide
 abbrev pub IsDecided : Option Command → Option (List ℕ) → Option (List ℕ) → Report → Type 0
 IsDecided said l l' r = Decides said l l' r.bytes.items r.status
 
-abbrev pub IsTooLong : Report → Type 0
-IsTooLong r = (r.bytes.items ≡ too_long_line 1048576) × (r.status ≡ ReadFault)
+abbrev pub IsTooLong : ℕ → Report → Type 0
+IsTooLong limit r = (r.bytes.items ≡ too_long_line limit) × (r.status ≡ ReadFault)
 
 abbrev pub IsFaultLine : Fault → Report → Type 0
 IsFaultLine fault r = (r.bytes.items ≡ fault_line fault.place fault.kind) × (r.status ≡ ReadFault)
@@ -32,34 +30,44 @@ IsFaultLine fault r = (r.bytes.items ≡ fault_line fault.place fault.kind) × (
 one_limit : {m n : ℕ} → Some m ≡ Some n → m ≡ n
 one_limit e = cc
 
-pub decided_past : (settings : Settings) (result : Result Report Stop) (l l' : Option (List ℕ)) → IfOk result IsTooLong
-    → TakesUpTo 1048576 l l' TooLong → IfOk result (IsDecided (Some (Solve settings)) l l')
-decided_past settings (Ok r) l l' is took =
-    let past = took.1.past in
-    let long : 1048576 < length took.0 = omega (arith, past) in
-    (took.0, took.1.read, too_long 1048576 refl long is.0 is.1)
-decided_past settings (Err e) l l' is took = tt
+module _ (command : Command) (limit : ℕ) (has : limit_of command ≡ Some limit) where
+  at_limit : (text : List ℕ) → length text ≤ limit → IsWithinLimit command text
+  at_limit text le other e = subst (λ n. length text ≤ n) (one_limit (sym has ∙ e)) le
 
-pub decided_fault : (settings : Settings) (result : Result Report Stop) (l l' : Option (List ℕ)) (text read : List ℕ)
-    (fault : Fault) → IfOk result (IsFaultLine fault) → ReadsWhole 1048576 l l' text
-    → read ≡ text → IsFirstTextFault read fault.place fault.kind → IfOk result (IsDecided (Some (Solve settings)) l l')
-decided_fault settings (Ok r) l l' text read fault is whole same first = (
-  text,
-  whole.read,
-  faulty fault.place fault.kind (λ limit e. subst (λ n. length text ≤ n) (one_limit e) whole.within)
-      (subst (λ t. IsFirstTextFault t fault.place fault.kind) same first) is.0 is.1,
-)
-decided_fault settings (Err e) l l' text read fault is whole same first = tt
+  within_limit : (l l' : Option (List ℕ)) (text : List ℕ) → IsRead limit l l' text
+      → ReadsWithin (limit_of command) l l' text
+  within_limit l l' text read = subst (λ o. ReadsWithin o l l' text) (sym has) read
 
-pub decided_answer : (settings : Settings) (r : Report) (l l' : Option (List ℕ)) (text read : List ℕ)
-    → ReadsWhole 1048576 l l' text → read ≡ text → Answers settings read r.bytes.items r.status
-    → IsDecided (Some (Solve settings)) l l' r
-decided_answer settings r l l' text read whole same answers = (
-  text,
-  whole.read,
-  answered settings refl (λ limit e. subst (λ n. length text ≤ n) (one_limit e) whole.within)
-      (subst (λ t. Answers settings t r.bytes.items r.status) same answers),
-)
+  pub decided_past : (result : Result Report Stop) (l l' : Option (List ℕ)) → IfOk result (IsTooLong limit)
+      → TakesUpTo limit l l' TooLong → IfOk result (IsDecided (Some command) l l')
+  decided_past (Ok r) l l' is took =
+      let past = took.1.past in
+      let long : limit < length took.0 = omega (arith, past) in
+      (took.0, within_limit l l' took.0 took.1.read, too_long limit has long is.0 is.1)
+  decided_past (Err e) l l' is took = tt
+
+  pub decided_fault : (result : Result Report Stop) (l l' : Option (List ℕ)) (text read : List ℕ) (fault : Fault)
+      → IfOk result (IsFaultLine fault) → ReadsWhole limit l l' text → read ≡ text
+      → IsFaultFor command read fault.place fault.kind → IfOk result (IsDecided (Some command) l l')
+  decided_fault (Ok r) l l' text read fault is whole same first = (
+    text,
+    within_limit l l' text whole.read,
+    faulty fault.place fault.kind (at_limit text whole.within)
+        (subst (λ t. IsFaultFor command t fault.place fault.kind) same first) is.0 is.1,
+  )
+  decided_fault (Err e) l l' text read fault is whole same first = tt
+
+  pub decided_answer : (r : Report) (l l' : Option (List ℕ)) (text read : List ℕ) → ReadsWhole limit l l' text
+      → read ≡ text → Reports command read r.bytes.items r.status → IsDecided (Some command) l l' r
+  decided_answer r l l' text read whole same reports = (
+    text,
+    within_limit l l' text whole.read,
+    answered (at_limit text whole.within) (subst (λ t. Reports command t r.bytes.items r.status) same reports),
+  )
+
+  -- what is taken within the limit is what the command takes
+  pub taken_at_limit : (l l' : Option (List ℕ)) → TakesWithin limit l l' → Takes (Some command) l l'
+  taken_at_limit l l' took = subst (λ o. TakesFor o l l') (sym has) took
 
 pub decided_as : (said other : Option Command) → said ≡ other → (result : Result Report Stop) (l l' : Option (List ℕ))
     → IfOk result (IsDecided said l l') → IfOk result (IsDecided other l l')
@@ -76,10 +84,29 @@ whole_if_reported SourceFault h = absurd h
 whole_if_reported SinkFault h = absurd h
 whole_if_reported NoWorld h = tt
 
-pub answers_whole : (s : Settings) (text written : List ℕ) (status : Status) → Answers s text written status
-    → IsWhole status
-answers_whole s text written status a = whole_if_reported status (answers_report s text written status a)
+-- no byte is taken
 
-pub answers_other : (s : Settings) (text written : List ℕ) (status : Status) → Answers s text written status
-    → status ≡ Usage → ⊥
-answers_other s text written status a is = subst IsReported is (answers_report s text written status a)
+unread : (left : Option (List ℕ)) → Keeps left left
+unread None = tt
+unread (Some bytes) = refl
+
+no_front : (limit : ℕ) (left : Option (List ℕ)) → TakesFront limit left left []
+no_front limit None = record { taken = tt; within = omega arith }
+no_front limit (Some bytes) = record { taken = refl; within = omega arith }
+
+for_limit : (limit : Option ℕ) (left : Option (List ℕ)) → TakesFor limit left left
+for_limit None left = unread left
+for_limit (Some limit) left = ([], no_front limit left)
+
+pub nothing_taken : (said : Option Command) (left : Option (List ℕ)) → Takes said left left
+nothing_taken None left = unread left
+nothing_taken (Some command) left = for_limit (limit_of command) left
+
+pub reports_whole : (command : Command) (text written : List ℕ) (status : Status)
+    → Reports command text written status → IsWhole status
+reports_whole command text written status a =
+    whole_if_reported status (reports_report command text written status a)
+
+pub reports_other : (command : Command) (text written : List ℕ) (status : Status)
+    → Reports command text written status → status ≡ Usage → ⊥
+reports_other command text written status a is = subst IsReported is (reports_report command text written status a)

@@ -2,17 +2,18 @@
 use Rattle.std.proofs.Common.{◌≡◌, ℕ, ◌<◌, ◌⊎◌, ◌↔◌, Bool, true, false, List, [], ◌∷◌, length, Some, fold, refl, sym, ap, subst, ◌∙◌, inl, inr, arith, nat_lt, cond}
 use Rattle.goal_reader.specs.Grammar.{IsFirstTextFault, Reads}
 use Rattle.goal_reader.specs.Views.{InputTree}
+use Rattle.run_texts.specs.RunFaults.{IsRunFault, ReadsRun}
+use Rattle.run_texts.specs.declared.texts.RunText.{RunText}
 use Rattle.text_core.specs.declared.faults.Kind.{Kind}
 use Rattle.denali_run.specs.Statuses.{status_code}
-use Rattle.denali_run.specs.TextAnswers.{Answers, greater, greatest_status, status_of}
+use Rattle.denali_run.specs.TextAnswers.{greater, status_of}
 use Rattle.denali_run.specs.declared.results.Answered.{Answered}
 use Rattle.denali_run.specs.declared.results.Answered.TheVariants.{Scheduled, Nowhere, SpentConflicts, SpentSize, NoWorld}
-use Rattle.denali_run.specs.declared.settings.Settings.{Settings}
 use Rattle.denali_run.specs.declared.statuses.Status.{Status}
 use Rattle.denali_run.specs.declared.statuses.Status.TheVariants.{Done, ReadFault}
 use Rattle.denali_cli.specs.Outcomes.{IsReported}
-use Rattle.denali_cli.specs.Replies.{limit_of, IsPastLimit, IsWithinLimit, too_long_line, fault_line, Reply, too_long, faulty, answered}
-use Rattle.denali_cli.specs.Commands.{Command, Solve}
+use Rattle.denali_cli.specs.Replies.{IsFaultFor, IsPastLimit, IsReadFor, IsWithinLimit, Reply, Reports, answered, fault_line, faulty, limit_of, too_long, too_long_line}
+use Rattle.denali_cli.specs.Commands.{Command, Solve, Run}
 
 -- ---- the status of results
 
@@ -33,9 +34,17 @@ all_report s (r ∷ rs) h =
     all_report (greater s (status_of r)) rs
     (one_reports (nat_lt (status_code s) (status_code (status_of r))) s (status_of r) h (result_reports r))
 
-pub answers_report : (s : Settings) (text written : List ℕ) (status : Status) → Answers s text written status
+-- the status of a report
+pub reports_report : (command : Command) (text written : List ℕ) (status : Status) → Reports command text written status
     → IsReported status
-answers_report s text written status a = subst IsReported (sym a.status_is) (all_report Done a.results tt)
+reports_report (Solve s) text written status a = subst IsReported (sym a.status_is) (all_report Done a.results tt)
+reports_report Run text written status a = subst IsReported (sym a.done) tt
+
+-- what was reported on has a reading
+reports_read : (command : Command) (text written : List ℕ) (status : Status) → Reports command text written status
+    → IsReadFor command text
+reports_read (Solve s) text written status a = (a.input, a.reads)
+reports_read Run text written status a = (a.program, a.reads)
 
 fault_is_none : (status : Status) → status ≡ ReadFault → IsReported status → ⊥
 fault_is_none status is reported = subst IsReported is reported
@@ -49,31 +58,47 @@ past_and_within command text past within =
 one_limit : {m n : ℕ} → Some m ≡ Some n → m ≡ n
 one_limit e = cc
 
-one_settings : {s t : Settings} → Solve s ≡ Solve t → s ≡ t
-one_settings e = cc
+-- A text with a reading has no fault, and one first fault at most.
+pub record Laws : Type 0 where
+  pub goals_apart : (text : List ℕ) (input : InputTree) (place : ℕ) (kind : Kind) → Reads text input
+      → IsFirstTextFault text place kind → ⊥
+  pub goals_once : (text : List ℕ) (place other : ℕ) (kind another : Kind) → IsFirstTextFault text place kind
+      → IsFirstTextFault text other another → (place ≡ other) × (kind ≡ another)
+  pub programs_apart : (text : List ℕ) (run : RunText) (place : ℕ) (kind : Kind) → ReadsRun text run
+      → IsRunFault text place kind → ⊥
+  pub programs_once : (text : List ℕ) (place other : ℕ) (kind another : Kind) → IsRunFault text place kind
+      → IsRunFault text other another → (place ≡ other) × (kind ≡ another)
 
-module _ (apart : (text : List ℕ) (input : InputTree) (place : ℕ) (kind : Kind) → Reads text input
-    → IsFirstTextFault text place kind → ⊥)
-    (once : (text : List ℕ) (place other : ℕ) (kind another : Kind) → IsFirstTextFault text place kind
-    → IsFirstTextFault text other another → (place ≡ other) × (kind ≡ another)) where
+module _ (laws : Laws) where
+  apart : (command : Command) (text : List ℕ) (place : ℕ) (kind : Kind) → IsReadFor command text
+      → IsFaultFor command text place kind → ⊥
+  apart (Solve s) text place kind read first = laws.goals_apart text read.0 place kind read.1 first
+  apart Run text place kind read first = laws.programs_apart text read.0 place kind read.1 first
+
+  once : (command : Command) (text : List ℕ) (place other : ℕ) (kind another : Kind)
+      → IsFaultFor command text place kind → IsFaultFor command text other another
+      → (place ≡ other) × (kind ≡ another)
+  once (Solve s) text place other kind another f g = laws.goals_once text place other kind another f g
+  once Run text place other kind another f g = laws.programs_once text place other kind another f g
+
   module _ (command : Command) (text written : List ℕ) (status : Status) where
     abbrev HasFault : Type 0
-    HasFault = (place : ℕ) × (kind : Kind) × IsFirstTextFault text place kind
+    HasFault = (place : ℕ) × (kind : Kind) × IsFaultFor command text place kind
 
     abbrev IsRead : Type 0
-    IsRead = IsWithinLimit command text × ((input : InputTree) × Reads text input)
+    IsRead = IsWithinLimit command text × IsReadFor command text
 
-    no_answer : (s : Settings) → Answers s text written status → IsWithinLimit command text
+    no_answer : Reports command text written status → IsWithinLimit command text
         → (IsPastLimit command text ⊎ HasFault) → ⊥
-    no_answer s a within (inl past) = past_and_within command text past within
-    no_answer s a within (inr f) = apart text a.input f.0 f.1 a.reads f.2
+    no_answer a within (inl past) = past_and_within command text past within
+    no_answer a within (inr f) = apart command text f.0 f.1 (reports_read command text written status a) f.2
 
     pub fault : Reply command text written status → (status ≡ ReadFault) ↔ (IsPastLimit command text ⊎ HasFault)
     fault (too_long limit has long line is) = (λ e. inl (limit, has, long), λ h. is)
     fault (faulty place kind within first line is) = (λ e. inr (place, kind, first), λ h. is)
-    fault (answered s same within a) = (
-      λ e. absurd (fault_is_none status e (answers_report s text written status a)),
-      λ h. absurd (no_answer s a within h),
+    fault (answered within a) = (
+      λ e. absurd (fault_is_none status e (reports_report command text written status a)),
+      λ h. absurd (no_answer a within h),
     )
 
     pub reported : Reply command text written status → IsReported status ↔ IsRead
@@ -83,17 +108,17 @@ module _ (apart : (text : List ℕ) (input : InputTree) (place : ℕ) (kind : Ki
     )
     reported (faulty place kind within first line is) = (
       λ r. absurd (fault_is_none status is r),
-      λ h. absurd (apart text h.1.0 place kind h.1.1 first),
+      λ h. absurd (apart command text place kind h.1 first),
     )
-    reported (answered s same within a) = (
-      λ r. (within, (a.input, a.reads)),
-      λ h. answers_report s text written status a,
+    reported (answered within a) = (
+      λ r. (within, reports_read command text written status a),
+      λ h. reports_report command text written status a,
     )
 
     pub either : Reply command text written status → IsReported status ⊎ (status ≡ ReadFault)
     either (too_long limit has long line is) = inr is
     either (faulty place kind within first line is) = inr is
-    either (answered s same within a) = inl (answers_report s text written status a)
+    either (answered within a) = inl (reports_report command text written status a)
 
     pub line_where_past : Reply command text written status → (limit : ℕ) → limit_of command ≡ Some limit
         → limit < length text → written ≡ too_long_line limit
@@ -101,27 +126,22 @@ module _ (apart : (text : List ℕ) (input : InputTree) (place : ℕ) (kind : Ki
         line ∙ ap too_long_line (one_limit (sym has ∙ asked))
     line_where_past (faulty place kind within first line is) limit asked past =
         absurd (past_and_within command text (limit, asked, past) within)
-    line_where_past (answered s same within a) limit asked past =
+    line_where_past (answered within a) limit asked past =
         absurd (past_and_within command text (limit, asked, past) within)
 
     pub line_of_fault : Reply command text written status → (place : ℕ) (kind : Kind) → IsWithinLimit command text
-        → IsFirstTextFault text place kind → written ≡ fault_line place kind
+        → IsFaultFor command text place kind → written ≡ fault_line place kind
     line_of_fault (too_long limit has long line is) place kind within first =
         absurd (past_and_within command text (limit, has, long) within)
     line_of_fault (faulty other another _ found line is) place kind within first =
-        let same = once text other place another kind found first in
+        let same = once command text other place another kind found first in
         line ∙ ap (λ n. fault_line n another) same.0 ∙ ap (fault_line place) same.1
-    line_of_fault (answered s same _ a) place kind within first = absurd (apart text a.input place kind a.reads first)
+    line_of_fault (answered _ a) place kind within first =
+        absurd (apart command text place kind (reports_read command text written status a) first)
 
-    all_answers : (s : Settings) → command ≡ Solve s → Reply command text written status → (input : InputTree)
-        → IsWithinLimit command text → Reads text input → Answers s text written status
-    all_answers s is (too_long limit has long line e) input within reads =
+    pub answers : Reply command text written status → IsWithinLimit command text → IsReadFor command text
+        → Reports command text written status
+    answers (too_long limit has long line e) within read =
         absurd (past_and_within command text (limit, has, long) within)
-    all_answers s is (faulty place kind _ first line e) input within reads =
-        absurd (apart text input place kind reads first)
-    all_answers s is (answered t same _ a) input within reads =
-        subst (λ u. Answers u text written status) (one_settings (sym same ∙ is)) a
-
-  pub answers : (s : Settings) (text written : List ℕ) (status : Status) → Reply (Solve s) text written status
-      → (input : InputTree) → IsWithinLimit (Solve s) text → Reads text input → Answers s text written status
-  answers s text written status reply = all_answers (Solve s) text written status s refl reply
+    answers (faulty place kind _ first line e) within read = absurd (apart command text place kind read first)
+    answers (answered _ a) within read = a

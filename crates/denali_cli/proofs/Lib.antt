@@ -1,5 +1,6 @@
 pub mod Decided
 pub mod Exact
 pub mod OptionSteps
-pub mod Solved
+pub mod DoneWork
+pub mod Spelled
 pub mod Values

@@ -1,9 +1,9 @@
 -- The options of words, pair by pair.
-use Rattle.std.proofs.Common.{◌≡◌, ℕ, suc, ◌+◌, ◌<◌, ◌≤◌, List, [], ◌∷◌, length, drop, get_or, map, Option, Some, None, refl, sym, ap, subst, ◌∙◌, arith}
+use Rattle.std.proofs.Common.{◌≡◌, ℕ, suc, ◌+◌, ◌<◌, ◌≤◌, List, [], ◌∷◌, length, drop, get_or, map, Option, Some, None, sym, ap, subst, ◌∙◌, arith}
 use Rattle.std.specs.Borrow.{Bor}
 use Rattle.std.proofs.Math.Seq.{drop-cons}
 use Rattle.std.proofs.lemmas.List.{drop_all, get_or-map, length-map}
-use Rattle.denali_cli.specs.Said.{and_then, set_option, set_options}
+use Rattle.denali_cli.specs.PlainForms.{and_then, set_option, set_options}
 use Rattle.denali_cli.specs.declared.options.Options.{Options}
 
 abbrev pub texts : List (Bor (List ℕ)) → List (List ℕ)

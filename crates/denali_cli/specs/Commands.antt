@@ -1,6 +1,9 @@
 -- What the program can do. Source: this project.
-use Rattle.denali_run.specs.declared.settings.Settings.{Settings}
+use Rattle.denali_run.specs.MatchedGoals.{IsSettings}
+pub use Rattle.denali_cli.specs.declared.commands.Command.{Command}
+pub use Rattle.denali_cli.specs.declared.commands.Command.TheVariants.{Solve, Run}
 
-pub data Command : Type 0 where
-  -- answers a text of goals
-  Solve : Settings → Command
+-- its settings are within their limits
+abbrev pub IsWithinLimits : Command → Type 0
+IsWithinLimits (Solve s) = IsSettings s
+IsWithinLimits Run = Unit {0}

@@ -5,12 +5,10 @@ use Rattle.std.specs.declared.option.Option.{Option}
 use Rattle.std.specs.Io.KnownBytes.{Keeps, Appends}
 use Rattle.outside_io.specs.Putting.{AppendsFront}
 use Rattle.outside_io.specs.Taking.{IsRead, TakesWithin}
-use Rattle.denali_run.specs.TextAnswers.{Answers}
-use Rattle.denali_run.specs.declared.settings.Settings.{Settings}
 use Rattle.denali_run.specs.declared.statuses.Status.{Status}
 use Rattle.denali_run.specs.declared.statuses.Status.TheVariants.{Done, Missing, Spent, NoWorld, Usage, Memory, SourceFault, SinkFault}
-use Rattle.denali_cli.specs.Commands.{Command, Solve}
-use Rattle.denali_cli.specs.Replies.{limit_of, IsWithinLimit, usage_line, Reply}
+use Rattle.denali_cli.specs.Commands.{Command}
+use Rattle.denali_cli.specs.Replies.{limit_of, IsWithinLimit, usage_line, Reply, Reports}
 
 -- what a command reads to the end, if it reads; `left` and `left'` are what the source has left before and after
 abbrev pub ReadsWithin : Option ℕ → Option (List ℕ) → Option (List ℕ) → List ℕ → Type 0
@@ -59,7 +57,7 @@ pub record WritesFront (said : Option Command) (left left' written written' : Op
   pub decided : Decides said left left' output status
   pub appended : AppendsFront written written' output
 
--- a status that reports on goals: the input was read, and each of its goals has an answer
+-- a status that reports: the input was read, and the command's work on it was done
 abbrev pub IsReported : Status → Type 0
 IsReported Done = Unit {0}
 IsReported Missing = Unit {0}
@@ -67,12 +65,12 @@ IsReported Spent = Unit {0}
 IsReported NoWorld = Unit {0}
 IsReported _ = ⊥
 
--- The input reads as goals, each of them has a result that is right with these settings, and the lines of the results
--- were written.
-pub record Solves (s : Settings) (left left' written written' : Option (List ℕ)) (status : Status) : Type 0 where
+-- The input is within the command's limit, and the command's report on it was written: for `solve` the lines of right
+-- results of its goals, for `run` how its program ends.
+pub record Works (command : Command) (left left' written written' : Option (List ℕ)) (status : Status) : Type 0 where
   pub text : List ℕ
   pub bytes : List ℕ
-  pub read : ReadsWithin (limit_of (Solve s)) left left' text
-  pub within : IsWithinLimit (Solve s) text
-  pub answers : Answers s text bytes status
+  pub read : ReadsWithin (limit_of command) left left' text
+  pub within : IsWithinLimit command text
+  pub reports : Reports command text bytes status
   pub appended : Appends written written' bytes

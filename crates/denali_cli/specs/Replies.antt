@@ -1,18 +1,24 @@
 -- What a command and the bytes read are answered by.
 -- Source: this project.
 use Rattle.std.specs.Prelude.{◌≡◌, ℕ, ◌<◌, ◌≤◌, List, ◌++◌, length, Option, Some, codes, decimal}
-use Rattle.goal_reader.specs.Grammar.{IsFirstTextFault}
+use Rattle.goal_reader.specs.Grammar.{IsFirstTextFault, Reads}
+use Rattle.goal_reader.specs.Views.{InputTree}
+use Rattle.run_texts.specs.RunFaults.{IsRunFault, ReadsRun}
+use Rattle.run_texts.specs.declared.texts.RunText.{RunText}
 use Rattle.text_core.specs.Faults.{fault_text}
 use Rattle.text_core.specs.declared.faults.Kind.{Kind}
 use Rattle.denali_run.specs.TextAnswers.{Answers}
-use Rattle.denali_run.specs.declared.settings.Settings.{Settings}
+use Rattle.denali_run.specs.TextRuns.{RunsText}
+use Rattle.denali_run.specs.declared.reports.TextError.{TextError}
+use Rattle.denali_run.specs.declared.reports.TextError.TheVariants.{Read, Memory}
 use Rattle.denali_run.specs.declared.statuses.Status.{Status}
 use Rattle.denali_run.specs.declared.statuses.Status.TheVariants.{ReadFault}
-use Rattle.denali_cli.specs.Commands.{Command, Solve}
+use Rattle.denali_cli.specs.Commands.{Command, Solve, Run}
 
 -- how many bytes a command reads at most, if it reads
 abbrev pub limit_of : Command → Option ℕ
 limit_of (Solve s) = Some 1048576
+limit_of Run = Some 1048576
 
 -- the text is longer than the command reads
 abbrev pub IsPastLimit : Command → List ℕ → Type 0
@@ -32,11 +38,32 @@ fault_line place kind = fault_text (record { place = place; kind = kind }) ++ co
 abbrev pub usage_line : List ℕ
 usage_line = codes "usage\n"
 
+-- ---- each command's texts
+
+-- the text has a reading for the command
+abbrev pub IsReadFor : Command → List ℕ → Type 0
+IsReadFor (Solve s) text = (input : InputTree) × Reads text input
+IsReadFor Run text = (program : RunText) × ReadsRun text program
+
+-- the text's first fault for the command
+abbrev pub IsFaultFor : Command → List ℕ → ℕ → Kind → Type 0
+IsFaultFor (Solve s) text place kind = IsFirstTextFault text place kind
+IsFaultFor Run text place kind = IsRunFault text place kind
+
+-- the command's report on a text, and its status
+abbrev pub Reports : Command → List ℕ → List ℕ → Status → Type 0
+Reports (Solve s) text bytes status = Answers s text bytes status
+Reports Run text bytes status = RunsText text bytes status
+
+-- why a command has no report on a text
+abbrev pub ErrorIs : Command → List ℕ → TextError → Type 0
+ErrorIs command text (Read fault) = IsFaultFor command text fault.place fault.kind
+ErrorIs command text Memory = Unit {0}
+
 -- The bytes that answer a command and the bytes read, and the status: one row for each kind of text.
 pub data Reply (command : Command) (text written : List ℕ) (status : Status) : Type 0 where
   too_long : (limit : ℕ) → limit_of command ≡ Some limit → limit < length text
       → written ≡ too_long_line limit → status ≡ ReadFault → Reply command text written status
-  faulty : (place : ℕ) (kind : Kind) → IsWithinLimit command text → IsFirstTextFault text place kind
+  faulty : (place : ℕ) (kind : Kind) → IsWithinLimit command text → IsFaultFor command text place kind
       → written ≡ fault_line place kind → status ≡ ReadFault → Reply command text written status
-  answered : (s : Settings) → command ≡ Solve s → IsWithinLimit command text → Answers s text written status
-      → Reply command text written status
+  answered : IsWithinLimit command text → Reports command text written status → Reply command text written status

@@ -1,22 +1,23 @@
 // What is to be written, before any of it is.
-ghost use Rattle.std.specs.Prelude.{◌≡◌, ◌≢◌, ◌++◌, None, Some, IfOk, OnOk, decimal, IsErrOf, IfErr, IsSome};
+ghost use Rattle.std.specs.Prelude.{◌≡◌, ◌≢◌, ◌≤◌, ◌++◌, None, Some, IfOk, OnOk, decimal, length, IsErrOf, IfErr, IsSome};
 ghost use Rattle.outside_io.specs.Causes.{IsCounted};
-ghost use Rattle.denali_run.specs.MatchedGoals.{IsSettings};
-ghost use Rattle.denali_cli.specs.Commands.{Solve};
+ghost use Rattle.denali_cli.specs.Commands.{IsWithinLimits};
 ghost use Rattle.denali_cli.specs.Said.{asked_by};
-ghost use Rattle.denali_cli.specs.Replies.{fault_line, too_long_line};
+ghost use Rattle.denali_cli.specs.Replies as replies;
+ghost use Rattle.denali_cli.specs.Replies.{ErrorIs, Reports, fault_line, too_long_line};
 ghost use Rattle.denali_cli.specs.declared.decide.Stop.TheVariants as stops;
 ghost use Rattle.denali_cli.specs.Outcomes.{Decides, IsUnread, IsWhole, Takes};
 
-use crate::words::settings_asked;
-use denali_run::{Report, Settings, Status, TextError, solve_text};
+use crate::commands::Command;
+use crate::words::asked;
+use denali_run::{Report, Status, TextError, run_text, solve_text};
 use items::NoMemory;
 use itoa::Buffer;
 use outside_io::{ReadAllFault, Source, read_all};
 use std::alloc::Global;
 use text_core::Fault;
 
-/// How many bytes `solve` reads at most.
+/// How many bytes each command reads at most.
 const LIMIT: u32 = 1048576;
 
 /// `fault LIMIT TooLong`, for an input of more bytes.
@@ -73,25 +74,50 @@ fn faulty(alloc: Global, fault: Fault) -> Result<Report, Stop>
     })
 }
 
-/// Reading, text and work of `solve`, in this order. The first that fails decides.
-fn solve<S: Source>(alloc: Global, settings: &Settings, source: &mut S) -> Result<Report, Stop>
-    requires settings { IsSettings settings.now }
-    ensures decided { IfOk result (λ r. Decides (Some (Solve settings.now)) (S.left source.old)
-        (S.left source.new) r.bytes.items r.status) }
+/// How many bytes a command reads at most.
+fn limit_of(command: Command) -> u32
+    ensures limit { replies.limit_of command ≡ Some result }
+    ensures small { result ≤ 1048576 }
+{
+    match command {
+        Command::Solve(_) => LIMIT,
+        Command::Run => LIMIT,
+    }
+}
+
+/// The command's report on a text.
+fn report_on(alloc: Global, command: Command, text: &[u8]) -> Result<Report, TextError>
+    requires command { IsWithinLimits command }
+    requires few { length text.now ≤ 1048576 }
+    ensures reports { IfOk result (λ r. Reports command text.now r.bytes.items r.status) }
+    ensures error { IfErr result (ErrorIs command text.now) }
+{
+    match command {
+        Command::Solve(settings) => solve_text(alloc, text, &settings),
+        Command::Run => run_text(alloc, text),
+    }
+}
+
+/// Reading, text and work of a command, in this order. The first that fails decides.
+fn work<S: Source>(alloc: Global, command: Command, source: &mut S) -> Result<Report, Stop>
+    requires command { IsWithinLimits command }
+    ensures decided { IfOk result (λ r. Decides (Some command) (S.left source.old) (S.left source.new)
+        r.bytes.items r.status) }
     ensures whole { IfOk result (λ r. IsWhole r.status) }
     ensures not_usage { IfOk result (λ r. r.status ≢ Status.Usage) }
-    ensures taken { Takes (Some (Solve settings.now)) (S.left source.old) (S.left source.new) }
+    ensures taken { Takes (Some command) (S.left source.old) (S.left source.new) }
     ensures no_fault { OnOk result (S.faults source.new ≡ S.faults source.old) }
     ensures memory { IsErrOf result Stop.Memory → S.faults source.new ≡ S.faults source.old }
     ensures fault { IsErrOf result Stop.SourceFault → IsCounted (S.faults source.old) (S.faults source.new) }
 {
-    let text = match read_all(alloc, source, LIMIT) {
+    let limit = limit_of(command);
+    let text = match read_all(alloc, source, limit) {
         Ok(text) => text,
         Err(ReadAllFault::SourceFault) => return Err(Stop::SourceFault),
-        Err(ReadAllFault::TooLong) => return too_long(alloc, LIMIT),
+        Err(ReadAllFault::TooLong) => return too_long(alloc, limit),
         Err(ReadAllFault::Memory) => return Err(Stop::Memory),
     };
-    match solve_text(alloc, &text, settings) {
+    match report_on(alloc, command, &text) {
         Ok(report) => Ok(report),
         Err(TextError::Read(fault)) => faulty(alloc, fault),
         Err(TextError::Memory) => Err(Stop::Memory),
@@ -116,8 +142,8 @@ pub(crate) fn decide<S: Source>(
     ensures memory { IsErrOf result Stop.Memory → S.faults source.new ≡ S.faults source.old }
     ensures fault { IsErrOf result Stop.SourceFault → IsCounted (S.faults source.old) (S.faults source.new) }
 {
-    match settings_asked(words) {
-        Some(settings) => solve(alloc, &settings, source),
-        None => report(alloc, b"usage\n", Status::Usage),
-    }
+    let Some(command) = asked(alloc, words)? else {
+        return report(alloc, b"usage\n", Status::Usage);
+    };
+    work(alloc, command, source)
 }

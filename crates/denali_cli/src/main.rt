@@ -1,13 +1,16 @@
-//! Answers the text of standard input on standard output.
+//! Does a command's work on the text of standard input, and writes its report to standard output.
 #![tactic(auto)]
 
+mod commands;
 mod decide;
 mod laws;
 mod options;
+mod spelling;
 #[cfg(test)]
 mod tests;
 mod top;
 mod words;
+mod worked;
 
 use denali_run::Status;
 use items::NoMemory;

@@ -1,7 +1,8 @@
 // The options of `solve`, and their values.
 ghost use Rattle.std.specs.Prelude.{◌≡◌, ◌≤◌, ◌<◌, ◌^◌, IfSome, IfNone, map};
 ghost use Rattle.denali_run.specs.MatchedGoals.{IsSettings};
-ghost use Rattle.denali_cli.specs.Said as said;
+ghost use Rattle.denali_cli.specs.OptionValues as values;
+ghost use Rattle.denali_cli.specs.PlainForms as plain;
 
 use denali_run::{Pick, Settings};
 use text_core::decimal;
@@ -17,8 +18,8 @@ pub(crate) struct Options {
 }
 
 /// The number that a word is, within two bounds.
-fn value_in(low: u32, high: u32, word: &str) -> Option<u32>
-    ensures value { result ≡ said.value_in low high word.now }
+pub(crate) fn value_in(low: u32, high: u32, word: &str) -> Option<u32>
+    ensures value { result ≡ values.value_in low high word.now }
     ensures within { IfSome result (λ n. (low ≤ n) × (n ≤ high)) }
 {
     let number = decimal(word.as_bytes())?;
@@ -31,8 +32,8 @@ fn value_in(low: u32, high: u32, word: &str) -> Option<u32>
     Some(number as u32)
 }
 
-fn pick_of(word: &str) -> Option<Pick>
-    ensures { result ≡ said.pick_of word.now }
+pub(crate) fn pick_of(word: &str) -> Option<Pick>
+    ensures { result ≡ values.pick_of word.now }
 {
     if word == "first" {
         Some(Pick::First)
@@ -43,7 +44,7 @@ fn pick_of(word: &str) -> Option<Pick>
 
 /// The value for an option that wasn't set before.
 fn once<A: Copy>(before: Option<A>, value: Option<A>) -> Option<A>
-    ensures { result ≡ said.once before value }
+    ensures { result ≡ plain.once before value }
 {
     match before {
         None => value,
@@ -53,9 +54,9 @@ fn once<A: Copy>(before: Option<A>, value: Option<A>) -> Option<A>
 
 /// The options with one more set, if it may be set to this value.
 fn with_option(options: Options, name: &str, value: &str) -> Option<Options>
-    requires { said.AreInRange options }
-    ensures value { result ≡ said.set_option options name.now value.now }
-    ensures within { IfSome result said.AreInRange }
+    requires { values.AreInRange options }
+    ensures value { result ≡ plain.set_option options name.now value.now }
+    ensures within { IfSome result values.AreInRange }
 {
     let mut options = options;
     if name == "--rounds" {
@@ -76,8 +77,8 @@ fn with_option(options: Options, name: &str, value: &str) -> Option<Options>
 
 /// The options that the words set: pairs of an option and its value, each option once.
 pub(crate) fn options_of(words: &[&str]) -> Option<Options>
-    ensures value { result ≡ said.set_options said.no_options (map (λ word. word.now) words.now) }
-    ensures within { IfSome result said.AreInRange }
+    ensures value { result ≡ plain.set_options values.no_options (map (λ word. word.now) words.now) }
+    ensures within { IfSome result values.AreInRange }
 {
     let mut options = no_options();
     let mut at = 0;
@@ -95,8 +96,8 @@ pub(crate) fn options_of(words: &[&str]) -> Option<Options>
 
 /// No option is set.
 fn no_options() -> Options
-    ensures value { result ≡ said.no_options }
-    ensures within { said.AreInRange result }
+    ensures value { result ≡ values.no_options }
+    ensures within { values.AreInRange result }
 {
     Options {
         rounds: None,
@@ -109,8 +110,8 @@ fn no_options() -> Options
 
 /// Where an option isn't set, its default stands: 4 rounds, 512 rows, 8 cycles, 20,000 conflicts.
 pub(crate) fn settings_of(options: Options) -> Settings
-    requires { said.AreInRange options }
-    ensures value { result ≡ said.settings_of options }
+    requires { values.AreInRange options }
+    ensures value { result ≡ values.settings_of options }
     ensures within { IsSettings result }
 {
     Settings {

@@ -3,6 +3,7 @@ ghost use Rattle.std.specs.Prelude.{◌≤◌};
 
 mod answers;
 mod faults;
+mod programs;
 mod streams;
 mod words;
 

@@ -2,10 +2,9 @@
 ghost use Rattle.std.specs.Prelude.{◌≡◌, None, Some, IsSome};
 ghost use Rattle.std.specs.Io.KnownBytes.{Keeps};
 ghost use Rattle.outside_io.specs.Causes.{IsCounted};
-ghost use Rattle.denali_run.specs.declared.settings.Settings.{Settings as SettingsOf};
-ghost use Rattle.denali_cli.specs.Commands.{Solve};
+ghost use Rattle.denali_cli.specs.Commands.{Command as Asked};
 ghost use Rattle.denali_cli.specs.Said.{asked_by};
-ghost use Rattle.denali_cli.specs.Outcomes.{IsReported, IsUnread, IsWhole, Solves, Takes, Writes, WritesFront};
+ghost use Rattle.denali_cli.specs.Outcomes.{IsReported, IsUnread, IsWhole, Takes, Works, Writes, WritesFront};
 
 use crate::decide::{Stop, decide};
 use denali_run::Status;
@@ -13,7 +12,7 @@ use outside_io::{Sink, SinkFault, Source, write_all};
 use std::alloc::Global;
 
 /// Does what the words ask for. All that is to be written is known before any of it is written.
-#[tactic(auto, using(crate::proofs::Solved::solved))]
+#[tactic(auto, using(crate::proofs::DoneWork::work_done))]
 pub fn run<S: Source, T: Sink>(
     alloc: Global,
     words: &[&str],
@@ -25,13 +24,14 @@ pub fn run<S: Source, T: Sink>(
         (S.left source.old) (S.left source.new) (T.written sink.old) (T.written sink.new) result }
     ensures usage { result ≡ Status.Usage → asked_by words.now ≡ None }
 
-    // The headline: where the status reports on goals, the input reads as goals, and the lines of their results were
-    // written. Where a goal is scheduled, the printed words leave its values where the answer says, in each world in
-    // which the axioms and its assumptions hold and from any registers and memory, within the printed cycles of the
-    // table's slots and latencies; the printed graph holds every equality that the printed rounds derive, and no
-    // schedule of it fits in fewer cycles, as the printed lines show for one cycle less. Where none is found, lines
-    // show that none fits in the most cycles that were asked for.
-    ensures right { (s : SettingsOf) → asked_by words.now ≡ Some (Solve s) → IsReported result → Solves s
+    // The headline: where the status reports, the command's report on the input was written. For `solve` the input reads
+    // as goals, and the report is the lines of their results. Where a goal is scheduled, the printed words leave its
+    // values where the answer says, in each world in which the axioms and its assumptions hold and from any registers
+    // and memory, within the printed cycles of the table's slots and latencies; the printed graph holds every equality
+    // that the printed rounds derive, and no schedule of it fits in fewer cycles, as the printed lines show for one cycle
+    // less. Where none is found, lines show that none fits in the most cycles that were asked for. For `run` the input
+    // reads as a program, and the report is how it ends.
+    ensures right { (command : Asked) → asked_by words.now ≡ Some command → IsReported result → Works command
         (S.left source.old) (S.left source.new) (T.written sink.old) (T.written sink.new) result }
 
     // Words come first: where they ask for nothing, nothing is read.

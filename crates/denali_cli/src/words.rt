@@ -1,22 +1,55 @@
 // The words after the program's name.
-ghost use Rattle.std.specs.Prelude.{◌≡◌, IfSome};
-ghost use Rattle.std.specs.Option.{option_map};
-ghost use Rattle.denali_run.specs.MatchedGoals.{IsSettings};
-ghost use Rattle.denali_cli.specs.Commands.{Solve};
+ghost use Rattle.std.specs.Prelude.{◌≡◌, IfOk, IfSome, Some, map};
+ghost use Rattle.std.specs.declared.result.Result.TheVariants as results;
+ghost use Rattle.denali_cli.specs.Commands.{Command as CommandOf, IsWithinLimits};
+ghost use Rattle.denali_cli.specs.PlainForms as plain;
+ghost use Rattle.denali_cli.specs.PlainForms.{plain_command};
 ghost use Rattle.denali_cli.specs.Said.{asked_by};
 
+use crate::commands::Command;
 use crate::options::{options_of, settings_of};
-use denali_run::Settings;
+use crate::spelling::spelled;
+use items::NoMemory;
+use std::alloc::Global;
 
-/// The settings of `solve`, if the words ask for it.
-pub(crate) fn settings_asked(words: &[&str]) -> Option<Settings>
-    ensures value { option_map Solve result ≡ asked_by words.now }
-    ensures within { IfSome result IsSettings }
+/// A command without options, where no word follows it.
+fn alone(command: Command, words: &[&str]) -> Option<Command>
+    requires { IsWithinLimits command }
+    ensures value { result ≡ plain.alone command (map (λ word. word.now) words.now) }
+    ensures within { IfSome result IsWithinLimits }
+{
+    if words.is_empty() {
+        Some(command)
+    } else {
+        None
+    }
+}
+
+/// The command of words in plain form.
+fn in_plain_form(words: &[&str]) -> Option<Command>
+    ensures value { result ≡ plain_command (map (λ word. word.now) words.now) }
+    ensures within { IfSome result IsWithinLimits }
 {
     let (name, words) = words.split_first()?;
-    if *name != "solve" {
-        return None;
+    if *name == "solve" {
+        let options = options_of(words)?;
+        Some(Command::Solve(settings_of(options)))
+    } else if *name == "run" {
+        alone(Command::Run, words)
+    } else {
+        None
     }
-    let options = options_of(words)?;
-    Some(settings_of(options))
+}
+
+/// The command that the words ask for. Words in plain form need no memory.
+pub(crate) fn asked<'a>(alloc: Global, words: &'a [&'a str]) -> Result<Option<Command>, NoMemory>
+    ensures value { IfOk result (λ command. command ≡ asked_by words.now) }
+    ensures within { IfOk result (λ command. IfSome command IsWithinLimits) }
+    ensures plain { (command : CommandOf) → plain_command (map (λ word. word.now) words.now) ≡ Some command
+        → result ≡ results.Ok (Some command) }
+{
+    match in_plain_form(words) {
+        Some(command) => Ok(Some(command)),
+        None => spelled(alloc, words),
+    }
 }

@@ -40,6 +40,52 @@ fn other_words_are_usage(rt: HostRuntime) -> Result<(), Fail> {
 }
 
 #[test]
+fn words_that_clap_refuses_are_usage(rt: HostRuntime) -> Result<(), Fail> {
+    let alloc = rt.alloc();
+    let table: [&[&str]; 16] = [
+        &["help"],
+        &["help", "solve"],
+        &["solve", "--help"],
+        &["solve", "-h"],
+        &["--version"],
+        &["solve", "--rounds=17"],
+        &["solve", "--rounds=03"],
+        &["solve", "--rounds="],
+        &["solve", "--rounds=0", "--rounds", "0"],
+        &["solve", "--rounds", "--nodes", "1"],
+        &["solve", "--rounds", "-1"],
+        &["solve", "-rounds", "0"],
+        &["solve", "--round=0"],
+        &["solve", "--", "--rounds"],
+        &["--", "solve"],
+        &["--rounds=0", "solve"],
+    ];
+    for words in table {
+        let (written, status) = reply(alloc, words, SUM, 1000)?;
+        assert_eq!(rt; status, Status::Usage);
+        assert_eq!(rt; written.as_slice(), b"usage\n".as_slice());
+    }
+    Ok(())
+}
+
+#[test]
+fn other_spellings_are_read(rt: HostRuntime) -> Result<(), Fail> {
+    let alloc = rt.alloc();
+    let table: [&[&str]; 4] = [
+        &["solve", "--rounds=0"],
+        &["solve", "--pick=first", "--cycles", "8", "--rounds=0"],
+        &["solve", "--rounds", "0", "--conflicts=20000", "--nodes=512"],
+        &["solve", "--rounds", "0", "--"],
+    ];
+    for words in table {
+        let (written, status) = reply(alloc, words, SUM, 1000)?;
+        assert_eq!(rt; status, Status::Done);
+        assert_eq!(rt; written.as_slice(), ANSWER);
+    }
+    Ok(())
+}
+
+#[test]
 fn options_stand_in_any_order(rt: HostRuntime) -> Result<(), Fail> {
     let alloc = rt.alloc();
     let table: [&[&str]; 3] = [

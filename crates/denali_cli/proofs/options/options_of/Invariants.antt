@@ -1,5 +1,6 @@
 use Rattle.std.proofs.Common.{◌≡◌, ◌-◌, drop, length, map}
-use Rattle.denali_cli.specs.Said.{AreInRange, no_options, set_options}
+use Rattle.denali_cli.specs.OptionValues.{AreInRange, no_options}
+use Rattle.denali_cli.specs.PlainForms.{set_options}
 use Rattle.denali_cli.proofs.options.options_of.Given as goal
 
 -- the options so far, and then what is left of the words

@@ -1,4 +1,4 @@
-use Rattle.std.proofs.Common.{◌≡◌, ◌<◌, ◌≤◌, ◌∙◌, subst, sym}
+use Rattle.std.proofs.Common.{◌<◌, ◌≤◌, ◌∙◌, subst, sym}
 use Rattle.denali_cli.proofs.Values.{too_low, too_high, within}
 use Rattle.denali_cli.proofs.options.value_in.Goals as goal
 

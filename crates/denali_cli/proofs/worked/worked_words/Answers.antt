@@ -1,0 +1,132 @@
+-- By computing clap's definition.
+use Rattle.std.proofs.Common.{◌≡◌, [], ◌∷◌, None, Some, codes, refl}
+use Rattle.std.specs.Fmt.{digits}
+use Rattle.clap.proofs.OnLiterals.{clap_on_literals}
+use Rattle.denali_cli.specs.Commands.{Solve, Run}
+use Rattle.denali_cli.specs.OptionValues.{no_options, settings_of}
+use Rattle.denali_cli.specs.Said.{command_of}
+use Rattle.denali_cli.specs.Spellings.{matched, spelled_command}
+use Rattle.denali_cli.proofs.worked.worked_words.Goals as goal
+
+joined : command_of (codes "solve" ∷ codes "--rounds=3" ∷ codes "--pick=first" ∷ [])
+    ≡ Some (Solve (settings_of (record no_options { rounds = Some 3 })))
+unfolding clap_on_literals matched digits
+joined = refl
+
+mixed : command_of (codes "solve" ∷ codes "--cycles=0" ∷ codes "--nodes" ∷ codes "7" ∷ [])
+    ≡ Some (Solve (settings_of (record no_options { nodes = Some 7; cycles = Some 0 })))
+unfolding clap_on_literals matched digits
+mixed = refl
+
+dashes : command_of (codes "solve" ∷ codes "--conflicts" ∷ codes "5" ∷ codes "--" ∷ [])
+    ≡ Some (Solve (settings_of (record no_options { conflicts = Some 5 })))
+unfolding clap_on_literals matched digits
+dashes = refl
+
+plain : spelled_command (codes "solve" ∷ codes "--nodes" ∷ codes "7" ∷ codes "--rounds" ∷ codes "0" ∷ [])
+    ≡ command_of (codes "solve" ∷ codes "--nodes" ∷ codes "7" ∷ codes "--rounds" ∷ codes "0" ∷ [])
+unfolding clap_on_literals matched digits
+plain = refl
+
+bare : spelled_command (codes "solve" ∷ []) ≡ command_of (codes "solve" ∷ [])
+unfolding clap_on_literals matched digits
+bare = refl
+
+runs : command_of (codes "run" ∷ []) ≡ Some Run
+unfolding clap_on_literals matched digits
+runs = refl
+
+runs_behind_dashes : command_of (codes "run" ∷ codes "--" ∷ []) ≡ Some Run
+unfolding clap_on_literals matched digits
+runs_behind_dashes = refl
+
+no_option_of_runs : command_of (codes "run" ∷ codes "--rounds" ∷ codes "3" ∷ []) ≡ None
+unfolding clap_on_literals matched digits
+no_option_of_runs = refl
+
+out_of_range : command_of (codes "solve" ∷ codes "--rounds=17" ∷ []) ≡ None
+unfolding clap_on_literals matched digits
+out_of_range = refl
+
+leading_zero : command_of (codes "solve" ∷ codes "--rounds=03" ∷ []) ≡ None
+unfolding clap_on_literals matched digits
+leading_zero = refl
+
+no_value : command_of (codes "solve" ∷ codes "--rounds" ∷ []) ≡ None
+unfolding clap_on_literals matched digits
+no_value = refl
+
+empty_value : command_of (codes "solve" ∷ codes "--rounds=" ∷ []) ≡ None
+unfolding clap_on_literals matched digits
+empty_value = refl
+
+twice : command_of (codes "solve" ∷ codes "--rounds=3" ∷ codes "--rounds" ∷ codes "3" ∷ []) ≡ None
+unfolding clap_on_literals matched digits
+twice = refl
+
+word_after_dashes : command_of (codes "solve" ∷ codes "--" ∷ codes "x" ∷ []) ≡ None
+unfolding clap_on_literals matched digits
+word_after_dashes = refl
+
+no_words : command_of [] ≡ None
+unfolding clap_on_literals matched digits
+no_words = refl
+
+no_command : command_of (codes "--rounds" ∷ codes "3" ∷ codes "solve" ∷ []) ≡ None
+unfolding clap_on_literals matched digits
+no_command = refl
+
+other_command : command_of (codes "solved" ∷ []) ≡ None
+unfolding clap_on_literals matched digits
+other_command = refl
+
+other_option : command_of (codes "solve" ∷ codes "--round=3" ∷ []) ≡ None
+unfolding clap_on_literals matched digits
+other_option = refl
+
+help : command_of (codes "--help" ∷ []) ≡ None
+unfolding clap_on_literals matched digits
+help = refl
+
+help_of : command_of (codes "solve" ∷ codes "--help" ∷ []) ≡ None
+unfolding clap_on_literals matched digits
+help_of = refl
+
+short_help : command_of (codes "solve" ∷ codes "-h" ∷ []) ≡ None
+unfolding clap_on_literals matched digits
+short_help = refl
+
+help_command : command_of (codes "help" ∷ codes "solve" ∷ []) ≡ None
+unfolding clap_on_literals matched digits
+help_command = refl
+
+version : command_of (codes "--version" ∷ []) ≡ None
+unfolding clap_on_literals matched digits
+version = refl
+
+pub returns : goal.returns
+returns c = record {
+  joined = joined;
+  mixed = mixed;
+  dashes = dashes;
+  plain = plain;
+  bare = bare;
+  runs = runs;
+  runs_behind_dashes = runs_behind_dashes;
+  no_option_of_runs = no_option_of_runs;
+  out_of_range = out_of_range;
+  leading_zero = leading_zero;
+  no_value = no_value;
+  empty_value = empty_value;
+  twice = twice;
+  word_after_dashes = word_after_dashes;
+  no_words = no_words;
+  no_command = no_command;
+  other_command = other_command;
+  other_option = other_option;
+  help = help;
+  help_of = help_of;
+  short_help = short_help;
+  help_command = help_command;
+  version = version;
+}

@@ -1,0 +1,52 @@
+-- What the options of `solve` take for values, and the settings that they give. Source: this project.
+use Rattle.std.specs.Prelude.{ℕ, List, None, Some, codes, decimal, nat_lt, not, ◌≤◌, ◌&&◌, if◌then◌else◌, unwrap_or, IfSome}
+use Rattle.std.specs.Str.Parse.{digits_value}
+use Rattle.std.specs.declared.option.Option.{Option}
+use Rattle.std.specs.Str.{bytes_eq}
+use Rattle.denali_run.specs.declared.settings.Pick.{Pick}
+use Rattle.denali_run.specs.declared.settings.Pick.TheVariants.{First}
+use Rattle.denali_run.specs.declared.settings.Settings.{Settings}
+use Rattle.denali_cli.specs.declared.options.Options.{Options}
+
+-- the number whose decimal digits the word is, within two bounds
+abbrev pub value_in : ℕ → ℕ → List ℕ → Option ℕ
+value_in low high word =
+    if bytes_eq word (decimal (digits_value 10 word))
+    && not (nat_lt (digits_value 10 word) low)
+    && not (nat_lt high (digits_value 10 word))
+    then Some (digits_value 10 word) else None
+
+abbrev pub rounds_of : List ℕ → Option ℕ
+rounds_of = value_in 0 16
+
+abbrev pub nodes_of : List ℕ → Option ℕ
+nodes_of = value_in 1 4096
+
+abbrev pub cycles_of : List ℕ → Option ℕ
+cycles_of = value_in 0 24
+
+abbrev pub conflicts_of : List ℕ → Option ℕ
+conflicts_of = value_in 1 1000000
+
+abbrev pub pick_of : List ℕ → Option Pick
+pick_of word = if bytes_eq word (codes "first") then Some First else None
+
+abbrev pub no_options : Options
+no_options = record { rounds = None; nodes = None; cycles = None; conflicts = None; pick = None }
+
+-- the numbers that are set are within their ranges
+pub record AreInRange (o : Options) : Type 0 where
+  pub rounds : IfSome o.rounds (λ n. n ≤ 16)
+  pub nodes : IfSome o.nodes (λ n. (1 ≤ n) × (n ≤ 4096))
+  pub cycles : IfSome o.cycles (λ n. n ≤ 24)
+  pub conflicts : IfSome o.conflicts (λ n. (1 ≤ n) × (n ≤ 1000000))
+
+-- where an option isn't set, its default stands
+abbrev pub settings_of : Options → Settings
+settings_of o = record {
+  rounds = unwrap_or o.rounds 4;
+  nodes = unwrap_or o.nodes 512;
+  cycles = unwrap_or o.cycles 8;
+  conflicts = unwrap_or o.conflicts 20000;
+  pick = unwrap_or o.pick First;
+}

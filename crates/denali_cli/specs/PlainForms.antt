@@ -1,0 +1,54 @@
+-- Words in plain form: a command, and then pairs of an option and its value, in any order, each option at most once and
+-- each value one of its own. Source: this project.
+use Rattle.std.specs.Prelude.{List, ℕ, [], ◌∷◌, None, Some, codes, if◌then◌else◌}
+use Rattle.std.specs.Option.{option_map}
+use Rattle.std.specs.declared.option.Option.{Option}
+use Rattle.std.specs.Str.{bytes_eq}
+use Rattle.denali_cli.specs.Commands.{Command, Solve, Run}
+use Rattle.denali_cli.specs.declared.options.Options.{Options}
+use Rattle.denali_cli.specs.OptionValues.{rounds_of, nodes_of, cycles_of, conflicts_of, pick_of, no_options, settings_of}
+
+-- the value for an option that wasn't set before
+abbrev pub once : {A : Type 0} → Option A → Option A → Option A
+once None value = value
+once (Some old) value = None
+
+-- the options with one more set, if it may be set to this value
+abbrev pub set_option : Options → List ℕ → List ℕ → Option Options
+set_option o name value =
+    if bytes_eq name (codes "--rounds")
+    then option_map (λ n. record o { rounds = Some n }) (once o.rounds (rounds_of value))
+    else if bytes_eq name (codes "--nodes")
+    then option_map (λ n. record o { nodes = Some n }) (once o.nodes (nodes_of value))
+    else if bytes_eq name (codes "--cycles")
+    then option_map (λ n. record o { cycles = Some n }) (once o.cycles (cycles_of value))
+    else if bytes_eq name (codes "--conflicts")
+    then option_map (λ n. record o { conflicts = Some n }) (once o.conflicts (conflicts_of value))
+    else if bytes_eq name (codes "--pick")
+    then option_map (λ p. record o { pick = Some p }) (once o.pick (pick_of value))
+    else None
+
+abbrev pub and_then : Option Options → (Options → Option Options) → Option Options
+and_then None next = None
+and_then (Some o) next = next o
+
+-- the options with those set that the words have
+abbrev pub set_options : Options → List (List ℕ) → Option Options
+set_options o [] = Some o
+set_options o (name ∷ []) = None
+set_options o (name ∷ value ∷ words) = and_then (set_option o name value) (λ p. set_options p words)
+
+-- a command without options
+abbrev pub alone : Command → List (List ℕ) → Option Command
+alone command [] = Some command
+alone command (word ∷ words) = None
+
+-- the command of words in plain form; none for other words
+abbrev pub plain_command : List (List ℕ) → Option Command
+plain_command [] = None
+plain_command (name ∷ words) =
+    if bytes_eq name (codes "solve")
+    then option_map (λ o. Solve (settings_of o)) (set_options no_options words)
+    else if bytes_eq name (codes "run")
+    then alone Run words
+    else None

@@ -1,0 +1,77 @@
+-- What any words ask for, by clap: the program as a command with subcommands and their options, and the values in the
+-- matches that clap defines for such a command. Source: this project, over clap's own definitions of which words a
+-- command takes and what it matches.
+use Rattle.std.specs.Prelude.{Bool, true, false, List, [], ◌∷◌, None, Some, codes, if◌then◌else◌}
+use Rattle.std.specs.Option.{option_map, option_and_then}
+use Rattle.std.specs.declared.option.Option.{Option}
+use Rattle.std.specs.Str.{bytes_eq}
+use Rattle.clap.specs.Words.{App, Kinds, Row, Rule, Text, fault_of, first_of, new_app, new_rule, subcommand_of, with_rule, with_subcommand}
+use Rattle.clap.specs.declared.builder.action.ArgAction.TheVariants.{Set}
+use Rattle.denali_cli.specs.Commands.{Command, Solve, Run}
+use Rattle.denali_cli.specs.declared.options.Options.{Options}
+use Rattle.denali_cli.specs.OptionValues.{rounds_of, nodes_of, cycles_of, conflicts_of, pick_of, settings_of}
+
+-- ---- the program
+
+-- `--name VALUE`
+abbrev pub option_rule : Text → Rule
+option_rule name = record (new_rule name) { long = Some name; action = Some Set }
+
+abbrev pub with_options : App → List Text → App
+with_options a [] = a
+with_options a (name ∷ names) = with_options (with_rule a (option_rule name)) names
+
+abbrev pub solve_app : App
+solve_app = with_options (new_app (codes "solve"))
+    (codes "rounds" ∷ codes "nodes" ∷ codes "cycles" ∷ codes "conflicts" ∷ codes "pick" ∷ [])
+
+-- the words are those after the program's name, and one of them is to name a subcommand
+abbrev pub of_words : App → App
+of_words a = record a { top = record a.top { no_binary_name = true; subcommand_required = true } }
+
+abbrev pub program : App
+program =
+    with_subcommand (with_subcommand (of_words (new_app (codes "denali"))) solve_app.top) (new_app (codes "run")).top
+
+-- clap finds no fault
+abbrev pub is_taken : Kinds → Bool
+is_taken [] = true
+is_taken (kind ∷ kinds) = false
+
+-- the subcommand that the words name, and what they give for its options; none where clap refuses the words
+unfoldable pub matched : List Text → Option (Text × List Row)
+matched words = if is_taken (fault_of program words) then subcommand_of program words else None
+
+-- ---- the values of its options
+
+-- what is read of an option: nothing where it isn't given, and none where its text is no value
+abbrev pub given : {A : Type 0} → (Text → Option A) → Option Text → Option (Option A)
+given read None = Some None
+given read (Some text) = option_map (λ value. Some value) (read text)
+
+abbrev pub options_in : List Row → Option Options
+options_in rows =
+    option_and_then (λ rounds.
+    option_and_then (λ nodes.
+    option_and_then (λ cycles.
+    option_and_then (λ conflicts.
+    option_map (λ pick. record { rounds = rounds; nodes = nodes; cycles = cycles; conflicts = conflicts; pick = pick })
+    (given pick_of (first_of (codes "pick") rows)))
+    (given conflicts_of (first_of (codes "conflicts") rows)))
+    (given cycles_of (first_of (codes "cycles") rows)))
+    (given nodes_of (first_of (codes "nodes") rows)))
+    (given rounds_of (first_of (codes "rounds") rows))
+
+abbrev pub solve_in : List Row → Option Command
+solve_in rows = option_map (λ o. Solve (settings_of o)) (options_in rows)
+
+-- the command of a subcommand with these matches
+abbrev pub command_in : Text × List Row → Option Command
+command_in m =
+    if bytes_eq m.0 (codes "solve") then solve_in m.1
+    else if bytes_eq m.0 (codes "run") then Some Run
+    else None
+
+-- the command that the words ask for as clap reads them
+abbrev pub spelled_command : List Text → Option Command
+spelled_command words = option_and_then command_in (matched words)

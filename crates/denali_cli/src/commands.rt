@@ -1,0 +1,11 @@
+// What the program can do.
+use denali_run::Settings;
+
+/// What words ask for.
+#[derive(Clone, Copy, Debug, PartialEq, Eq)]
+pub(crate) enum Command {
+    /// Answers a text of goals.
+    Solve(Settings),
+    /// Runs the program of a text.
+    Run,
+}

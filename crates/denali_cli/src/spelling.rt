@@ -1,0 +1,136 @@
+// Words in any spelling, by `clap`.
+ghost use Rattle.std.specs.Prelude.{◌≡◌, ◌≤◌, ◌<◌, ◌^◌, IfOk, IfSome, false, map};
+ghost use Rattle.std.specs.Option.{option_and_then};
+ghost use Rattle.clap.specs.Words.{app_of, first_of, found_of, rows_of, subcommand_rows_of, with_rule};
+ghost use Rattle.clap.specs.declared.builder.command.Command.TheViews.{out-Command as fields_of};
+ghost use Rattle.denali_cli.specs.Commands.{IsWithinLimits};
+ghost use Rattle.denali_cli.specs.OptionValues as values;
+ghost use Rattle.denali_cli.specs.Spellings as spec;
+
+use crate::commands::Command;
+use crate::options::{Options, pick_of, settings_of, value_in};
+use clap::error::ErrorKind;
+use clap::{Arg, ArgAction, ArgMatches, Command as Parser};
+use denali_run::Pick;
+use items::NoMemory;
+use std::alloc::{AllocError, Global};
+
+/// The command with one more option, `--name VALUE`.
+fn with_option<'a>(
+    alloc: Global,
+    command: Parser<'a>,
+    name: &'a str,
+) -> Result<Parser<'a>, NoMemory>
+    ensures rule { IfOk result (λ c. app_of c ≡ with_rule (app_of command.entry) (spec.option_rule name.entry.now)) }
+    ensures local { IfOk result (λ c. (fields_of c).has_globals ≡ (fields_of command.entry).has_globals) }
+{
+    command.arg(Arg::new(alloc, name).long(name).action(ArgAction::Set))
+}
+
+/// `solve` with its options.
+fn solve_parser<'a>(alloc: Global) -> Result<Parser<'a>, NoMemory>
+    ensures app { IfOk result (λ c. app_of c ≡ spec.solve_app) }
+    ensures local { IfOk result (λ c. (fields_of c).has_globals ≡ false) }
+{
+    let solve = Parser::new(alloc, "solve");
+    let solve = with_option(alloc, solve, "rounds")?;
+    let solve = with_option(alloc, solve, "nodes")?;
+    let solve = with_option(alloc, solve, "cycles")?;
+    let solve = with_option(alloc, solve, "conflicts")?;
+    with_option(alloc, solve, "pick")
+}
+
+/// The program, for words without its name.
+fn program<'a>(alloc: Global) -> Result<Parser<'a>, NoMemory>
+    ensures { IfOk result (λ c. app_of c ≡ spec.program) }
+{
+    let solve = solve_parser(alloc)?;
+    Parser::new(alloc, "denali")
+        .no_binary_name(true)
+        .subcommand_required(true)
+        .subcommand(solve)?
+        .subcommand(Parser::new(alloc, "run"))
+}
+
+/// The number that an option is given, within two bounds.
+fn number_given(matches: &ArgMatches<'_>, name: &str, low: u32, high: u32) -> Option<Option<u32>>
+    ensures value { result ≡ spec.given (values.value_in low high)
+        (first_of name.now (rows_of (found_of matches.now))) }
+    ensures within { IfSome result (λ given. IfSome given (λ n. (low ≤ n) × (n ≤ high))) }
+{
+    let Some(word) = matches.get_str(name) else {
+        return Some(None);
+    };
+    let number = value_in(low, high, word)?;
+    Some(Some(number))
+}
+
+fn pick_given(matches: &ArgMatches<'_>, name: &str) -> Option<Option<Pick>>
+    ensures { result ≡ spec.given values.pick_of (first_of name.now (rows_of (found_of matches.now))) }
+{
+    let Some(word) = matches.get_str(name) else {
+        return Some(None);
+    };
+    let pick = pick_of(word)?;
+    Some(Some(pick))
+}
+
+/// The options of `solve` that are given.
+fn options_in(matches: &ArgMatches<'_>) -> Option<Options>
+    ensures value { result ≡ spec.options_in (rows_of (found_of matches.now)) }
+    ensures within { IfSome result values.AreInRange }
+{
+    let rounds = number_given(matches, "rounds", 0, 16)?;
+    let nodes = number_given(matches, "nodes", 1, 4096)?;
+    let cycles = number_given(matches, "cycles", 0, 24)?;
+    let conflicts = number_given(matches, "conflicts", 1, 1000000)?;
+    let pick = pick_given(matches, "pick")?;
+    Some(Options {
+        rounds,
+        nodes,
+        cycles,
+        conflicts,
+        pick,
+    })
+}
+
+/// The command of `solve` with the options that are given.
+fn solve_in(matches: &ArgMatches<'_>) -> Option<Command>
+    ensures value { result ≡ spec.solve_in (rows_of (found_of matches.now)) }
+    ensures within { IfSome result IsWithinLimits }
+{
+    let options = options_in(matches)?;
+    Some(Command::Solve(settings_of(options)))
+}
+
+/// The command that the matches name.
+fn command_in(matches: &ArgMatches<'_>) -> Option<Command>
+    ensures value { result ≡ option_and_then spec.command_in (subcommand_rows_of matches.now) }
+    ensures within { IfSome result IsWithinLimits }
+{
+    let (name, matches) = matches.subcommand()?;
+    if name == "solve" {
+        solve_in(matches)
+    } else if name == "run" {
+        Some(Command::Run)
+    } else {
+        None
+    }
+}
+
+/// The command that the words ask for as `clap` reads them.
+pub(crate) fn spelled<'a>(alloc: Global, words: &'a [&'a str]) -> Result<Option<Command>, NoMemory>
+    ensures value { IfOk result (λ command. command ≡ spec.spelled_command (map (λ word. word.now) words.now)) }
+    ensures within { IfOk result (λ command. IfSome command IsWithinLimits) }
+{
+    match program(alloc)?.try_get_matches_from(words) {
+        Ok(matches) => Ok(command_in(&matches)),
+        Err(error) => {
+            if error.kind() == ErrorKind::OutOfMemory {
+                Err(AllocError)
+            } else {
+                Ok(None)
+            }
+        }
+    }
+}

@@ -1,0 +1,38 @@
+// What some words ask for, by the definitions.
+ghost use Rattle.std.specs.Prelude.{◌≡◌, [], ◌∷◌, None, Some, codes};
+ghost use Rattle.denali_cli.specs.Commands.{Solve, Run};
+ghost use Rattle.denali_cli.specs.OptionValues.{no_options, settings_of};
+ghost use Rattle.denali_cli.specs.Said.{command_of};
+ghost use Rattle.denali_cli.specs.Spellings.{spelled_command};
+
+/// Other spellings mean what clap makes of them, and plain forms mean the same to clap; requests for help, and words
+/// that clap refuses, ask for nothing.
+pub fn worked_words()
+    ensures joined { command_of (codes "solve" ∷ codes "--rounds=3" ∷ codes "--pick=first" ∷ [])
+        ≡ Some (Solve (settings_of (record no_options { rounds = Some 3 }))) }
+    ensures mixed { command_of (codes "solve" ∷ codes "--cycles=0" ∷ codes "--nodes" ∷ codes "7" ∷ [])
+        ≡ Some (Solve (settings_of (record no_options { nodes = Some 7; cycles = Some 0 }))) }
+    ensures dashes { command_of (codes "solve" ∷ codes "--conflicts" ∷ codes "5" ∷ codes "--" ∷ [])
+        ≡ Some (Solve (settings_of (record no_options { conflicts = Some 5 }))) }
+    ensures plain { spelled_command (codes "solve" ∷ codes "--nodes" ∷ codes "7" ∷ codes "--rounds" ∷ codes "0" ∷ [])
+        ≡ command_of (codes "solve" ∷ codes "--nodes" ∷ codes "7" ∷ codes "--rounds" ∷ codes "0" ∷ []) }
+    ensures bare { spelled_command (codes "solve" ∷ []) ≡ command_of (codes "solve" ∷ []) }
+    ensures runs { command_of (codes "run" ∷ []) ≡ Some Run }
+    ensures runs_behind_dashes { command_of (codes "run" ∷ codes "--" ∷ []) ≡ Some Run }
+    ensures no_option_of_runs { command_of (codes "run" ∷ codes "--rounds" ∷ codes "3" ∷ []) ≡ None }
+    ensures out_of_range { command_of (codes "solve" ∷ codes "--rounds=17" ∷ []) ≡ None }
+    ensures leading_zero { command_of (codes "solve" ∷ codes "--rounds=03" ∷ []) ≡ None }
+    ensures no_value { command_of (codes "solve" ∷ codes "--rounds" ∷ []) ≡ None }
+    ensures empty_value { command_of (codes "solve" ∷ codes "--rounds=" ∷ []) ≡ None }
+    ensures twice { command_of (codes "solve" ∷ codes "--rounds=3" ∷ codes "--rounds" ∷ codes "3" ∷ []) ≡ None }
+    ensures word_after_dashes { command_of (codes "solve" ∷ codes "--" ∷ codes "x" ∷ []) ≡ None }
+    ensures no_words { command_of [] ≡ None }
+    ensures no_command { command_of (codes "--rounds" ∷ codes "3" ∷ codes "solve" ∷ []) ≡ None }
+    ensures other_command { command_of (codes "solved" ∷ []) ≡ None }
+    ensures other_option { command_of (codes "solve" ∷ codes "--round=3" ∷ []) ≡ None }
+    ensures help { command_of (codes "--help" ∷ []) ≡ None }
+    ensures help_of { command_of (codes "solve" ∷ codes "--help" ∷ []) ≡ None }
+    ensures short_help { command_of (codes "solve" ∷ codes "-h" ∷ []) ≡ None }
+    ensures help_command { command_of (codes "help" ∷ codes "solve" ∷ []) ≡ None }
+    ensures version { command_of (codes "--version" ∷ []) ≡ None }
+{}
