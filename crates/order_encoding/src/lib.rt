@@ -1,8 +1,8 @@
 //! The clauses of a schedule: memory in order, a guard's branch, registers; and the whole formula, which can be
 //! satisfied exactly where a schedule fits.
 //!
-//! `full` gives the whole formula at once; `add_memory`, `add_guard` and `add_pool` add its parts one after another to
-//! the formula of cycles, slots and values.
+//! `count_clauses` counts the whole formula, and builds none of it; `full` gives it at once; `add_memory`, `add_guard`
+//! and `add_pool` add its parts one after another to the formula of cycles, slots and values.
 #![tactic(auto)]
 
 mod counts;
@@ -15,11 +15,12 @@ mod memory;
 mod pool;
 mod whole;
 
+pub use counts::pass_limit;
 pub use guard::add_guard;
 pub use laws::{clauses_say_fits, counts_are_found, parts_are_counted, worked_formulas};
 pub use memory::add_memory;
 pub use pool::add_pool;
-pub use whole::full;
+pub use whole::{count_clauses, full};
 
 #[cfg(test)]
 mod tests;

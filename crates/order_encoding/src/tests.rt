@@ -3,7 +3,7 @@ ghost use Rattle.std.specs.Prelude.{◌<◌, ◌≤◌, IfOk};
 ghost use Rattle.launch_graph.specs.WellFormed.{IsLaunchGraph};
 ghost use Rattle.machine_table.specs.Tables.{IsTable};
 
-use crate::{add_guard, add_memory, add_pool, full};
+use crate::{add_guard, add_memory, add_pool, count_clauses, full};
 use cnf_core::Cnf;
 use cycle_encoding::{EncodeFault, Encoded, encode};
 use forms::trees;
@@ -392,9 +392,22 @@ fn refused(alloc: Global, stores: u32) -> Result<(u64, u64), TextFault>
     }
 }
 
+/// The same counts, without the formula.
+fn counted(alloc: Global, stores: u32) -> Result<(u64, u64), TextFault>
+    requires { stores < 100000 }
+{
+    let text = chain(alloc, stores)?;
+    let graph = graph_of(alloc, text.as_bytes())?;
+    let table = table_of(alloc, WIDE_TABLE)?;
+    let sizes = count_clauses(alloc, &graph, &table, 24)?;
+    Ok((sizes.vars, sizes.clauses))
+}
+
 #[test]
 fn large_formulas_are_counted(rt: HostRuntime) -> Result<(), Fail> {
     let counts = refused(rt.alloc(), 4160).ok().expect(&rt, "counts");
+    assert_eq!(rt; counts, (2605407, 10002554));
+    let counts = counted(rt.alloc(), 4160).ok().expect(&rt, "counts");
     assert_eq!(rt; counts, (2605407, 10002554));
     Ok(())
 }

@@ -38,6 +38,25 @@ fn whole_sizes(alloc: Global, facts: &Facts, table: &Table, k: u32) -> Result<Si
     Ok(both(with_guard, pool_sizes(facts, table, k)))
 }
 
+/// The two counts of the whole formula, for which no clause is built. It goes over the graph's rows a few times for each
+/// cycle.
+pub fn count_clauses(
+    alloc: Global,
+    graph: &LaunchGraph,
+    table: &Table,
+    k: u32,
+) -> Result<Sizes, NoMemory>
+    requires cycles { k ≤ 24 }
+    requires table { IsTable table.now }
+    requires graph { IsLaunchGraph graph.now }
+    ensures vars { IfOk result (λ sizes. sizes.vars ≡ (whole_formula graph.now table.now k (wide graph.now table.now k)).vars) }
+    ensures clauses { IfOk result (λ sizes. sizes.clauses
+        ≡ length (whole_formula graph.now table.now k (wide graph.now table.now k)).clauses) }
+{
+    let facts = Facts::new(alloc, graph)?;
+    whole_sizes(alloc, &facts, table, k)
+}
+
 /// The whole formula of schedules in k cycles: cycles, slots and values, memory, the branch of a guard, and registers.
 /// Values satisfy its clauses exactly where the launches that they show fit. Its counts are found before any clause is
 /// built; where one passes its limit they are the answer.
