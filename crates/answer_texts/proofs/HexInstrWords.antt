@@ -1,0 +1,145 @@
+-- The words of an instruction's text can stand in a line.
+use Rattle.std.proofs.Common.{◌≡◌, ◌≢◌, ℕ, ℤ, pos, negsuc, suc, ◌<◌, ◌^◌, ◌&&◌, Bool, true, false, cond, List, [], ◌∷◌, ◌++◌, refl, ap, ◌∙◌, arith, codes, decimal}
+use Rattle.std.specs.Prelude.{All, Contains, FitsSigned}
+use Rattle.std.specs.Fmt.{signed_decimal}
+use Rattle.std.specs.Int.{w16}
+use Rattle.std.specs.List.{list_all}
+use Rattle.std.proofs.lemmas.Bool.{and_parts}
+use Rattle.std.proofs.lemmas.List.Elements.{All-nil, All-cons, All-contains}
+use Rattle.std.proofs.lemmas.List.Folds.{list_all-append}
+use Rattle.alpha_encode.specs.Codes.{is_unary}
+use Rattle.alpha_encode.specs.Formats.{FitsBits, IsSecond, IsWellFormed}
+use Rattle.alpha_encode.specs.Texts.{register, second_text}
+use Rattle.alpha_encode.specs.declared.instructions.Instr.{Instr}
+use Rattle.alpha_encode.specs.declared.instructions.Instr.TheVariants.{Operate, Lda, Ldah, LdqU, StqU, Beq}
+use Rattle.alpha_encode.specs.declared.instructions.Second.{Second}
+use Rattle.alpha_encode.specs.declared.instructions.Second.TheVariants.{Reg, Literal}
+use Rattle.text_core.specs.LineTexts.{Words}
+use Rattle.text_core.specs.Lines.{IsLineWord, is_printed}
+use Rattle.word_ops.specs.Names.{name_of}
+use Rattle.word_ops.specs.Operators.{operators}
+use Rattle.word_ops.specs.declared.operators.WordOp.{WordOp}
+use Rattle.answer_texts.specs.AnswerLines.{before_comma, memory_words, instr_words}
+
+data AreWords : Words → Type 0 where
+  no_words : AreWords []
+  a_word : {word : List ℕ} {words : Words} → IsLineWord word → AreWords words → AreWords (word ∷ words)
+
+each_word : {words : Words} → AreWords words → All IsLineWord words
+each_word no_words = All-nil IsLineWord
+each_word (a_word {word = w} {words = ws} is more) = All-cons IsLineWord w ws is (each_word more)
+
+-- ---- words
+
+append_none : (a b : List ℕ) → a ≢ [] → a ++ b ≢ []
+append_none [] b some = absurd (some refl)
+append_none (x ∷ a) b some = λ e. cc
+
+joined : (a b : List ℕ) → IsLineWord a → IsLineWord b → IsLineWord (a ++ b)
+joined a b f g = record {
+  some = append_none a b f.some;
+  printed = list_all-append is_printed a b ∙ ap (λ t. t && list_all is_printed b) f.printed ∙ g.printed;
+}
+
+comma : IsLineWord (codes ",")
+comma = record { some = λ e. cc; printed = refl }
+
+-- ---- operators
+
+-- the name isn't empty, and its bytes are printed
+abbrev is_word : List ℕ → Bool
+is_word [] = false
+is_word (b ∷ bytes) = list_all is_printed (b ∷ bytes)
+
+word_from : (bytes : List ℕ) → is_word bytes ≡ true → IsLineWord bytes
+word_from [] is = cc
+word_from (b ∷ bytes) is = record { some = λ e. cc; printed = is }
+
+named_by : (ops : List WordOp) → list_all (λ op. is_word (name_of op)) ops ≡ true → All (λ op. IsLineWord (name_of op)) ops
+named_by [] is = All-nil (λ op. IsLineWord (name_of op))
+named_by (op ∷ ops) is =
+    let parts = and_parts (is_word (name_of op)) (list_all (λ op. is_word (name_of op)) ops) is in
+    All-cons (λ op. IsLineWord (name_of op)) op ops (word_from (name_of op) parts.0) (named_by ops parts.1)
+
+abbrev pub OperatorsAreListed : Type 0
+OperatorsAreListed = (op : WordOp) → Contains operators op
+
+operator_word : OperatorsAreListed → (op : WordOp) → IsLineWord (name_of op)
+operator_word listed op = All-contains (λ o. IsLineWord (name_of o)) operators op (named_by operators refl) (listed op)
+
+-- ---- the words of an instruction
+
+abbrev pub NumbersAreWords : Type 0
+NumbersAreWords = (n : ℕ) → n < 2 ^ 64 → IsLineWord (decimal n)
+
+-- the number of a displacement
+abbrev IsSmallSigned : ℤ → Type 0
+IsSmallSigned (pos n) = n < 2 ^ 31
+IsSmallSigned (negsuc n) = n < 2 ^ 31
+
+of_sixteen : (z : ℤ) → FitsSigned w16 z → IsSmallSigned z
+of_sixteen (pos n) fits = (let f = fits.sfits in omega (arith, f))
+of_sixteen (negsuc n) fits = (let f = fits.sfits in omega (arith, f))
+
+of_twenty_one : (z : ℤ) → FitsBits 21 z → IsSmallSigned z
+of_twenty_one (pos n) fits = (let f : n < 2 ^ 20 = fits in omega (arith, f))
+of_twenty_one (negsuc n) fits = (let f : n < 2 ^ 20 = fits in omega (arith, f))
+
+module _ (number : NumbersAreWords) (listed : OperatorsAreListed) where
+  register_word : (r : ℕ) → r < 32 → IsLineWord (register r)
+  register_word r low =
+      joined (codes "$") (decimal r) (record { some = λ e. cc; printed = refl }) (number r (omega (arith, low)))
+
+  comma_word : (r : ℕ) → r < 32 → IsLineWord (before_comma r)
+  comma_word r low = joined (register r) (codes ",") (register_word r low) comma
+
+  second_word : (second : Second) → IsSecond second → IsLineWord (second_text second)
+  second_word (Reg r) low = register_word r low
+  second_word (Literal n) low = number n (omega (arith, low))
+
+  signed_word : (z : ℤ) → IsSmallSigned z → IsLineWord (signed_decimal z)
+  signed_word (pos n) low = number n (omega (arith, low))
+  signed_word (negsuc n) low =
+      joined (codes "-") (decimal (suc n)) (record { some = λ e. cc; printed = refl }) (number (suc n) (omega (arith, low)))
+
+  operate_words : (b : Bool) (ra : ℕ) (words : Words) → ra < 32 → AreWords words
+      → AreWords (cond b [] (before_comma ra ∷ []) ++ words)
+  operate_words true ra words low are = are
+  operate_words false ra words low are = a_word (comma_word ra low) are
+
+  disp_words : (name : List ℕ) (ra rb : ℕ) (disp : ℤ) → IsLineWord name → ra < 32 → rb < 32
+      → IsLineWord (signed_decimal disp) → AreWords (memory_words name ra rb disp)
+  disp_words name ra rb disp is low less fits =
+      a_word is
+      (a_word (comma_word ra low)
+      (a_word
+      (joined (signed_decimal disp ++ codes "(" ++ register rb) (codes ")")
+      (joined (signed_decimal disp ++ codes "(") (register rb)
+      (joined (signed_decimal disp) (codes "(") fits (record { some = λ e. cc; printed = refl })) (register_word rb less))
+      (record { some = λ e. cc; printed = refl }))
+      no_words))
+
+  instr_line_words : (i : Instr) → IsWellFormed i → AreWords (instr_words i)
+  instr_line_words (Operate op ra second rc) is =
+      a_word (operator_word listed op)
+      (operate_words (is_unary op) ra ((second_text second ++ codes ",") ∷ register rc ∷ []) is.1
+      (a_word (joined (second_text second) (codes ",") (second_word second is.2) comma)
+      (a_word (register_word rc is.3) no_words)))
+  instr_line_words (Lda ra rb disp) is =
+      disp_words (codes "lda") ra rb disp (record { some = λ e. cc; printed = refl }) is.0 is.1
+      (signed_word disp (of_sixteen disp is.2))
+  instr_line_words (Ldah ra rb disp) is =
+      disp_words (codes "ldah") ra rb disp (record { some = λ e. cc; printed = refl }) is.0 is.1
+      (signed_word disp (of_sixteen disp is.2))
+  instr_line_words (LdqU ra rb disp) is =
+      disp_words (codes "ldq_u") ra rb disp (record { some = λ e. cc; printed = refl }) is.0 is.1
+      (signed_word disp (of_sixteen disp is.2))
+  instr_line_words (StqU ra rb disp) is =
+      disp_words (codes "stq_u") ra rb disp (record { some = λ e. cc; printed = refl }) is.0 is.1
+      (signed_word disp (of_sixteen disp is.2))
+  instr_line_words (Beq ra disp) is =
+      a_word (record { some = λ e. cc; printed = refl })
+      (a_word (comma_word ra is.0) (a_word (signed_word disp (of_twenty_one disp is.1)) no_words))
+
+  pub instr_words_are_words : (i : Instr) → IsWellFormed i → All IsLineWord (instr_words i)
+  instr_words_are_words i is = each_word (instr_line_words i is)

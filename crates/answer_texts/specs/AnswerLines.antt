@@ -1,0 +1,221 @@
+-- The lines of an answer, each a list of words. Numbers are decimal, words of the machine are eight hexadecimal digits.
+-- Source: this project.
+use Rattle.std.specs.Prelude.{ℕ, ℤ, zero, suc, ◌+◌, ◌*◌, ◌/◌, ◌%◌, ◌^◌, ◌-◌, Bool, List, [], ◌∷◌, ◌++◌, length, map, codes, decimal, Option, None, Some, nat_lt, slice_get, if◌then◌else◌}
+use Rattle.std.specs.Fmt.{signed_decimal}
+use Rattle.std.specs.List.{flat_map}
+use Rattle.std.specs.Option.{option_map_or}
+use Rattle.alpha_encode.specs.Codes.{is_unary}
+use Rattle.alpha_encode.specs.Decoded.{decoded}
+use Rattle.alpha_encode.specs.Texts.{register, second_text}
+use Rattle.alpha_encode.specs.declared.instructions.Instr.{Instr}
+use Rattle.alpha_encode.specs.declared.instructions.Instr.TheVariants.{Operate, Lda, Ldah, LdqU, StqU, Beq}
+use Rattle.cnf_core.specs.declared.line.Line.{Line}
+use Rattle.cnf_core.specs.declared.line.Lines.{Lines}
+use Rattle.launch_graph.specs.GraphLines.{graph_lines, said}
+use Rattle.launch_graph.specs.declared.graphs.LaunchGraph.{LaunchGraph}
+use Rattle.machine_table.specs.InstrOrder.{instr_name}
+use Rattle.machine_table.specs.declared.tables.Slot.{Slot}
+use Rattle.machine_table.specs.declared.tables.Table.{Table}
+use Rattle.machine_table.specs.declared.tables.Use.{Use}
+use Rattle.refutation_check.specs.LineWords.{line_words}
+use Rattle.register_assign.specs.declared.listings.Where.{Where}
+use Rattle.saturation.specs.declared.rounds.Stop.{Stop}
+use Rattle.saturation.specs.declared.rounds.Stop.TheVariants.{Quiet, Rounds, Full}
+use Rattle.schedule_meaning.specs.declared.schedules.Launch.{Launch}
+use Rattle.text_core.specs.LineTexts.{Words, lines_text}
+use Rattle.word_ops.specs.Names.{name_of}
+use Rattle.word_ops.specs.declared.operators.WordOp.{WordOp}
+use Rattle.answer_texts.specs.declared.answers.AnswerText.{AnswerText}
+use Rattle.answer_texts.specs.declared.answers.Claim.{Claim}
+use Rattle.answer_texts.specs.declared.answers.Claim.TheVariants.{NoWorld, Scheduled, Missing, SpentConflicts, SpentSize}
+use Rattle.answer_texts.specs.declared.answers.Claimed.{Claimed}
+
+-- ---- the head and the table
+
+abbrev pub version_words : ℕ → Words
+version_words version = codes "denali" ∷ decimal version ∷ []
+
+abbrev pub encoding_words : ℕ → Words
+encoding_words encoding = codes "encoding" ∷ decimal encoding ∷ []
+
+abbrev pub built_in_words : Words
+built_in_words = codes "table" ∷ codes "ev6" ∷ []
+
+abbrev pub own_words : Words
+own_words = codes "table" ∷ codes "own" ∷ []
+
+-- the name of a slot, and nothing for one that isn't there
+abbrev pub name_among : List Slot → ℕ → List ℕ
+name_among slots slot = option_map_or (λ (s : Slot). s.name) (slice_get slots slot) []
+
+abbrev pub slot_name : Table → ℕ → List ℕ
+slot_name table slot = name_among table.slots slot
+
+abbrev pub slot_words : Slot → Words
+slot_words slot = codes "slot" ∷ slot.name ∷ decimal slot.cluster ∷ []
+
+abbrev pub cross_words : ℕ → Words
+cross_words cross = codes "cross" ∷ decimal cross ∷ []
+
+-- an instruction, its latency, and the names of its slots among these
+abbrev pub inst_words : List Slot → Use → Words
+inst_words slots u = codes "inst" ∷ instr_name u.instr ∷ decimal u.latency ∷ map (name_among slots) u.slots
+
+-- a table of the text's own with its slots, its delay between clusters, and its instructions
+abbrev pub own_lines : Table → List Words
+own_lines table =
+    own_words
+    ∷ (map slot_words table.slots ++ (cross_words table.cross ∷ map (inst_words table.slots) table.uses))
+
+abbrev pub table_lines : Table → Bool → List Words
+table_lines table builtin = if builtin then built_in_words ∷ [] else own_lines table
+
+-- ---- the schedule and its words
+
+abbrev pub launch_words : Table → Launch → Words
+launch_words table l = codes "launch" ∷ decimal l.cycle ∷ slot_name table l.slot ∷ decimal l.row ∷ []
+
+abbrev pub hex_digit : ℕ → ℕ
+hex_digit n = if nat_lt n 10 then 48 + n else 55 + n
+
+-- the hexadecimal digits of a word from digit k - 1 down, in upper case
+abbrev pub hex_digits : ℕ → ℕ → List ℕ
+hex_digits zero word = []
+hex_digits (suc k) word = hex_digit (word / 2 ^ (4 * k) % 16) ∷ hex_digits k word
+
+-- a word of 32 bits
+unfoldable pub hex_text : ℕ → List ℕ
+hex_text word = hex_digits 8 word
+
+-- a register with a comma behind it
+abbrev pub before_comma : ℕ → List ℕ
+before_comma r = register r ++ codes ","
+
+-- an operate of one operand has no first one
+abbrev pub first_operand_words : WordOp → ℕ → Words
+first_operand_words op ra = if is_unary op then [] else before_comma ra ∷ []
+
+abbrev pub memory_words : List ℕ → ℕ → ℕ → ℤ → Words
+memory_words name ra rb disp =
+    name ∷ before_comma ra ∷ (signed_decimal disp ++ codes "(" ++ register rb ++ codes ")") ∷ []
+
+-- the words of an instruction's text
+abbrev pub instr_words : Instr → Words
+instr_words (Operate op ra second rc) =
+    name_of op ∷ (first_operand_words op ra ++ ((second_text second ++ codes ",") ∷ register rc ∷ []))
+instr_words (Lda ra rb disp) = memory_words (codes "lda") ra rb disp
+instr_words (Ldah ra rb disp) = memory_words (codes "ldah") ra rb disp
+instr_words (LdqU ra rb disp) = memory_words (codes "ldq_u") ra rb disp
+instr_words (StqU ra rb disp) = memory_words (codes "stq_u") ra rb disp
+instr_words (Beq ra disp) = codes "beq" ∷ before_comma ra ∷ signed_decimal disp ∷ []
+
+-- the words of the instruction that a word is, and none for a word that is none
+abbrev pub text_words : Option Instr → Words
+text_words None = []
+text_words (Some instr) = instr_words instr
+
+-- the line of a word: its number, and the text of the instruction that it is
+abbrev pub word_words : ℕ → Words
+word_words word = codes "word" ∷ hex_text word ∷ text_words (decoded word)
+
+abbrev pub where_words : Where → Words
+where_words w = codes "where" ∷ w.name ∷ decimal w.reg ∷ []
+
+-- ---- refutations and lemmas
+
+-- a word, for how many cycles the lines behind it are, and how many they are
+abbrev pub counted_words : List ℕ → ℕ → ℕ → Words
+counted_words first cycles count = first ∷ decimal cycles ∷ decimal count ∷ []
+
+-- the lines that refute the clauses for so many cycles
+abbrev pub refute_lines : ℕ → List Line → List Words
+refute_lines cycles lines = counted_words (codes "refute") cycles (length lines) ∷ map line_words lines
+
+abbrev pub lemmas_lines : ℕ → List Line → List Words
+lemmas_lines cycles lines = counted_words (codes "lemmas") cycles (length lines) ∷ map line_words lines
+
+-- ---- the answer to a goal
+
+abbrev pub stop_name : Stop → List ℕ
+stop_name Quiet = codes "quiet"
+stop_name Rounds = codes "rounds"
+stop_name Full = codes "full"
+
+abbrev pub rounds_words : ℕ → Stop → Words
+rounds_words rounds stop = codes "rounds" ∷ decimal rounds ∷ codes "stop" ∷ stop_name stop ∷ []
+
+abbrev pub scheduled_words : ℕ → Words
+scheduled_words k = codes "scheduled" ∷ decimal k ∷ []
+
+abbrev pub none_words : ℕ → Words
+none_words k = codes "none" ∷ decimal k ∷ []
+
+abbrev pub conflicts_words : ℕ → Words
+conflicts_words k = codes "spent" ∷ codes "conflicts" ∷ decimal k ∷ []
+
+abbrev pub size_words : ℕ → ℕ → ℕ → Words
+size_words k vars clauses = codes "spent" ∷ codes "size" ∷ decimal k ∷ decimal vars ∷ decimal clauses ∷ []
+
+abbrev pub noworld_words : ℕ → ℕ → ℕ → Words
+noworld_words class a b = codes "noworld" ∷ decimal class ∷ decimal a ∷ decimal b ∷ []
+
+abbrev pub goal_words : List ℕ → Words
+goal_words name = codes "goal" ∷ name ∷ []
+
+abbrev pub end_words : Words
+end_words = codes "end" ∷ []
+
+-- the rounds, why they ended, and the graph, where there is one
+abbrev pub graph_part : ℕ → Stop → Option LaunchGraph → List Words
+graph_part rounds stop None = []
+graph_part rounds stop (Some g) = rounds_words rounds stop ∷ graph_lines (said g)
+
+abbrev pub claim_part : Table → Claim → List Words
+claim_part table (NoWorld class a b) = noworld_words class a b ∷ []
+claim_part table (Scheduled k schedule words places) =
+    scheduled_words k
+    ∷ (map (launch_words table) schedule.launches ++ (map word_words words ++ map where_words places))
+claim_part table (Missing k) = none_words k ∷ []
+claim_part table (SpentConflicts k lemmas) = conflicts_words k ∷ []
+claim_part table (SpentSize k vars clauses) = size_words k vars clauses ∷ []
+
+-- a claim says that no schedule fits in fewer cycles than these
+abbrev pub refuted_below : Claim → ℕ
+refuted_below (NoWorld class a b) = 0
+refuted_below (Scheduled k schedule words places) = k
+refuted_below (Missing k) = k + 1
+refuted_below (SpentConflicts k lemmas) = k
+refuted_below (SpentSize k vars clauses) = k
+
+-- for how many cycles the clauses are that its lines are to refute, where there are some: one less
+abbrev pub refuted_cycles : Claim → ℕ
+refuted_cycles claim = refuted_below claim - 1
+
+abbrev pub refute_part : ℕ → Option Lines → List Words
+refute_part cycles None = []
+refute_part cycles (Some lines) = refute_lines cycles lines.lines
+
+abbrev pub lemmas_part : Claim → List Words
+lemmas_part (SpentConflicts k lemmas) = lemmas_lines k lemmas.lines
+lemmas_part claim = []
+
+abbrev pub goal_lines : Table → Claimed → List Words
+goal_lines table c =
+    goal_words c.name
+    ∷ (graph_part c.rounds c.stop c.graph
+    ++ (claim_part table c.claim
+    ++ (refute_part (refuted_cycles c.claim) c.refute ++ (lemmas_part c.claim ++ (end_words ∷ [])))))
+
+-- ---- the answer to a text
+
+abbrev pub head_lines : ℕ → ℕ → Table → Bool → List Words
+head_lines version encoding table builtin =
+    version_words version ∷ encoding_words encoding ∷ table_lines table builtin
+
+abbrev pub answer_lines : AnswerText → List Words
+answer_lines a =
+    head_lines a.version a.encoding a.table a.builtin ++ flat_map (goal_lines a.table) a.goals
+
+-- the bytes of an answer
+abbrev pub answer_bytes : AnswerText → List ℕ
+answer_bytes a = lines_text (answer_lines a)

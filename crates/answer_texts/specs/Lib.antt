@@ -1,0 +1,6 @@
+pub mod AnswerLines
+pub mod AnswerParts
+pub mod LineParts
+pub mod Printable
+pub mod ReadAnswers
+pub mod WellFormed

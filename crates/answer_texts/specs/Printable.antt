@@ -1,0 +1,55 @@
+-- Which answers can be printed so that the text says them: their numbers, names and lines are within the limits of the
+-- format, and what stands beside a claim fits it. Source: this project.
+use Rattle.std.specs.Prelude.{ℕ, zero, suc, ◌≡◌, ◌<◌, ◌≤◌, ◌^◌, List, length, Option, None, Some, All, IsSomeAnd, IsTrue}
+use Rattle.cnf_core.specs.declared.line.Lines.{Lines}
+use Rattle.launch_graph.specs.WellFormed.{IsLaunchGraph}
+use Rattle.launch_graph.specs.declared.graphs.LaunchGraph.{LaunchGraph}
+use Rattle.machine_table.specs.Tables.{IsTable, ev6}
+use Rattle.machine_table.specs.declared.tables.Table.{Table}
+use Rattle.refutation_check.specs.LineWords.{IsReadableLine}
+use Rattle.saturation.specs.declared.rounds.Stop.{Stop}
+use Rattle.text_core.specs.Names.{IsName}
+use Rattle.answer_texts.specs.AnswerLines.{refuted_below}
+use Rattle.answer_texts.specs.AnswerParts.{AreLaunches, AreCodes, ArePlaces, no_world_body, claimed_of}
+use Rattle.answer_texts.specs.declared.answers.AnswerText.{AnswerText}
+use Rattle.answer_texts.specs.declared.answers.Claim.{Claim}
+use Rattle.answer_texts.specs.declared.answers.Claim.TheVariants.{NoWorld, Scheduled, Missing, SpentConflicts, SpentSize}
+use Rattle.answer_texts.specs.declared.answers.Claimed.{Claimed}
+
+-- lines of a refutation that can be read back, and whose count can
+pub record AreReadable (lines : Lines) : Type 0 where
+  pub few : length lines.lines < 2 ^ 31
+  pub each : All IsReadableLine lines.lines
+
+-- a claim on the graph of a goal; up to 24 cycles are spoken of
+abbrev pub IsGraphClaim : Table → Claim → Type 0
+IsGraphClaim table (NoWorld class a b) = ⊥
+IsGraphClaim table (Scheduled k schedule words places) =
+    (k ≤ 24) × AreLaunches table schedule.launches × AreCodes words × ArePlaces places
+IsGraphClaim table (Missing k) = k ≤ 24
+IsGraphClaim table (SpentConflicts k lemmas) = (k ≤ 24) × AreReadable lemmas
+IsGraphClaim table (SpentSize k vars clauses) = (k ≤ 24) × (vars < 2 ^ 64) × (clauses < 2 ^ 64)
+
+-- lines where fewer cycles than a number are to be refuted, and none where there are none
+abbrev pub AreLinesBelow : ℕ → Option Lines → Type 0
+AreLinesBelow zero refute = refute ≡ None
+AreLinesBelow (suc k) refute = IsSomeAnd refute AreReadable
+
+-- a goal without a world, and one with a graph, a claim on it and the lines that the claim needs
+pub data IsPrintableGoal (table : Table) : Claimed → Type 0 where
+  no_world : {name : List ℕ} {class a b : ℕ} → IsName name → class < 2 ^ 31 → a < 2 ^ 64 → b < 2 ^ 64
+      → IsPrintableGoal table (claimed_of name (no_world_body class a b))
+  worked : {name : List ℕ} {g : LaunchGraph} {rounds : ℕ} {stop : Stop} {claim : Claim} {refute : Option Lines}
+      → IsName name → IsLaunchGraph g → length g.rows ≤ 1000000 → rounds < 2 ^ 31 → IsGraphClaim table claim
+      → AreLinesBelow (refuted_below claim) refute
+      → IsPrintableGoal table
+      (record { name = name; graph = Some g; rounds = rounds; stop = stop; claim = claim; refute = refute })
+
+pub record IsPrintable (a : AnswerText) : Type 0 where
+  pub version : a.version ≡ 1
+  pub encoding : a.encoding ≡ 1
+  pub table : IsTable a.table
+  pub names : All (λ s. IsName s.name) a.table.slots
+  pub built_in : IsTrue a.builtin → a.table ≡ ev6
+  pub few : (1 ≤ length a.goals) × (length a.goals ≤ 64)
+  pub goals : All (IsPrintableGoal a.table) a.goals

@@ -1,0 +1,65 @@
+// What the text of an answer says: of each goal its graph, what is claimed of it, and the lines that are to show it.
+use cnf_core::Lines;
+use items::Items;
+use launch_graph::LaunchGraph;
+use machine_table::Table;
+use register_assign::Where;
+use saturation::Stop;
+use schedule_meaning::Schedule;
+use text_core::Name;
+
+/// What is claimed of a goal.
+#[derive(Drop)]
+pub enum Claim {
+    /// The different constants `a` and `b` would be in one class.
+    NoWorld {
+        class: u32,
+        a: u64,
+        b: u64,
+    },
+    /// The launches fit in `k` cycles; these are their words, and the registers of the targets.
+    Scheduled {
+        k: u32,
+        schedule: Schedule,
+        words: Items<u32>,
+        places: Items<Where>,
+    },
+    /// No schedule fits in `k` cycles.
+    Missing {
+        k: u32,
+    },
+    /// The solver spent its budget on the clauses for `k` cycles, and found these lemmas.
+    SpentConflicts {
+        k: u32,
+        lemmas: Lines,
+    },
+    /// The clauses for `k` cycles would have so many variables and be so many.
+    SpentSize {
+        k: u32,
+        vars: u64,
+        clauses: u64,
+    },
+}
+
+/// What an answer says of one goal. Where it claims that the goal has no world there is no graph, and the rounds are 0
+/// and quiet. `refute` are the lines that are to refute the clauses for `k` cycles of a missing schedule, and for `k` - 1
+/// of each other claim; for fewer than 0 cycles there are none.
+#[derive(Drop)]
+pub struct Claimed {
+    pub name: Name,
+    pub graph: Option<LaunchGraph>,
+    pub rounds: u32,
+    pub stop: Stop,
+    pub claim: Claim,
+    pub refute: Option<Lines>,
+}
+
+/// What the text of an answer says.
+#[derive(Drop)]
+pub struct AnswerText {
+    pub version: u8,
+    pub encoding: u8,
+    pub table: Table,
+    pub builtin: bool,
+    pub goals: Items<Claimed>,
+}

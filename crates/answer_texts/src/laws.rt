@@ -1,0 +1,63 @@
+// What a text says as an answer is one thing. The calls do nothing: their clauses hold of all texts.
+ghost use Rattle.std.specs.Prelude.{◌≡◌, ◌<◌, ◌^◌, ℕ, List, length, All};
+ghost use Rattle.text_core.specs.declared.faults.Kind.{Kind};
+ghost use Rattle.answer_texts.specs.AnswerLines.{answer_bytes};
+ghost use Rattle.answer_texts.specs.Printable.{IsPrintable};
+ghost use Rattle.answer_texts.specs.ReadAnswers.{IsAnswerFault, ReadsAnswer};
+ghost use Rattle.answer_texts.specs.WellFormed.{IsAnswer};
+ghost use Rattle.answer_texts.specs.declared.answers.AnswerText.{AnswerText as Answer};
+
+use alpha_encode::words_and_instructions;
+use launch_graph::{one_graph, printed_graphs_are_lines};
+use machine_table::{instructions_have_names, tables_keep_limits};
+use refutation_check::printed_lines_are_read_back;
+use text_core::{one_splitting, printed_lines_are_lines};
+use word_ops::operators_are_listed;
+
+/// A text says one answer at most, and then it has no fault. The first fault is one.
+pub fn one_answer()
+    ensures answer { (text : List ℕ) (answer other : Answer)
+        → ReadsAnswer text answer → ReadsAnswer text other → answer ≡ other }
+    ensures apart { (text : List ℕ) (answer : Answer) (place : ℕ) (kind : Kind)
+        → ReadsAnswer text answer → IsAnswerFault text place kind → ⊥ }
+    ensures first { (text : List ℕ) (place other : ℕ) (kind another : Kind)
+        → IsAnswerFault text place kind → IsAnswerFault text other another → (place ≡ other) × (kind ≡ another) }
+{
+    one_splitting();
+    one_graph();
+    printed_lines_are_read_back();
+    instructions_have_names();
+    tables_keep_limits();
+}
+
+/// What was read prints the bytes that were read.
+pub fn read_answers_print_their_text()
+    ensures { (text : List ℕ) (answer : Answer) → ReadsAnswer text answer → answer_bytes answer ≡ text }
+{
+    printed_lines_are_lines();
+}
+
+/// Each answer that is read has a table within the limits, and of each goal a well-formed graph, lines that are to refute
+/// fewer cycles, and numbers within bounds; a goal without a world has none of these.
+pub fn read_answers_are_well_formed()
+    ensures { (text : List ℕ) (answer : Answer) → length text < 2 ^ 29 → ReadsAnswer text answer → IsAnswer answer }
+{
+    one_splitting();
+    printed_lines_are_lines();
+    tables_keep_limits();
+}
+
+/// An answer that can be printed is what the bytes that it prints are read as. Only such answers are read.
+pub fn printed_answers_are_read()
+    ensures read { (answer : Answer) → IsPrintable answer → ReadsAnswer (answer_bytes answer) answer }
+    ensures printable { (text : List ℕ) (answer : Answer) → ReadsAnswer text answer → IsPrintable answer }
+{
+    words_and_instructions();
+    printed_graphs_are_lines();
+    one_graph();
+    instructions_have_names();
+    tables_keep_limits();
+    printed_lines_are_read_back();
+    printed_lines_are_lines();
+    operators_are_listed();
+}

@@ -1,0 +1,35 @@
+//! The text of an answer: what it says of each goal, read from the text and printed again.
+//!
+//! A text that says something says one thing, and else it has one first fault. Whether what it claims is so is for others
+//! to test.
+#![tactic(auto)]
+
+mod answers;
+mod claim_reading;
+mod goal_reading;
+mod hexadecimal;
+mod laws;
+mod line_printing;
+mod line_reading;
+mod parts;
+mod printing;
+mod reading;
+mod schedule_printing;
+mod schedule_reading;
+mod table_printing;
+mod table_reading;
+mod word_lines;
+
+pub use answers::{AnswerText, Claim, Claimed};
+pub use laws::{
+    one_answer, printed_answers_are_read, read_answers_are_well_formed,
+    read_answers_print_their_text,
+};
+pub use line_printing::{put, put_number, put_word};
+pub use printing::{print_answer, put_goal, put_head};
+pub use reading::read_answer;
+
+#[cfg(test)]
+mod fault_tests;
+#[cfg(test)]
+mod tests;

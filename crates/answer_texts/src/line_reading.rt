@@ -1,0 +1,293 @@
+// The lines of an answer that begin as they do and have a fixed number of words, each by itself.
+ghost use Rattle.std.specs.Prelude.{◌≡◌, ◌<◌, ◌≤◌, ◌^◌, ◌↔◌, ℕ, length, codes, IfOk, IfSome, IfNone, IsTrue, MatchOption};
+ghost use Rattle.std.specs.Prelude as std;
+ghost use Rattle.text_core.specs.Faults.{IsFaultBy};
+ghost use Rattle.text_core.specs.Lines.{line_at, line_word};
+ghost use Rattle.launch_graph.specs.LineReading.{IsNone};
+ghost use Rattle.saturation.specs.declared.rounds.Stop.{Stop as StopOf};
+ghost use Rattle.answer_texts.specs.AnswerLines.{end_words, stop_name};
+ghost use Rattle.answer_texts.specs.AnswerParts.{IsBodyLine, IsClaimLine, IsCount, IsCross, IsEncoding, IsGoalName, IsTableLine, IsVersion};
+ghost use Rattle.answer_texts.specs.LineParts.{IsBadLineAt};
+ghost use Rattle.answer_texts.specs.declared.parts.BodyLine.TheVariants as bodies;
+ghost use Rattle.answer_texts.specs.declared.parts.ClaimLine.TheVariants as lines_of;
+
+use crate::parts::{BodyLine, ClaimLine, TableLine};
+use items::NoMemory;
+use machine_table::Slot;
+use saturation::Stop;
+use std::alloc::Global;
+use text_core::{Fault, Kind, Name, TextFault, TextLines, decimal, is_name};
+
+/// The only version and the only encoding so far.
+const VERSION: u64 = 1;
+
+const ENCODING: u64 = 1;
+
+/// The most cycles that a claim may speak of.
+const MOST_CYCLES: u64 = 24;
+
+/// What numbers of lines stay below, but for words of 64 bits.
+const LIMIT: u64 = 1 << 31;
+
+/// The fault of a line, or of the end of the text where the line is the count.
+pub(crate) fn bad_line(text: &TextLines<'_>, line: u32) -> TextFault
+    requires { line ≤ length text.now }
+    ensures { IsFaultBy (IsBadLineAt text.now line) result }
+{
+    TextFault::Fault(Fault {
+        place: text.place(line),
+        kind: Kind::BadLine,
+    })
+}
+
+pub(crate) fn same(word: &[u8], other: &[u8]) -> bool
+    ensures { IsTrue result ↔ (word.now ≡ other.now) }
+{
+    word == other
+}
+
+/// The number that a word writes, below a limit.
+pub(crate) fn below(word: &[u8], limit: u64) -> Option<u64>
+    ensures some { IfSome result (λ n. (word.now ≡ std.decimal n) × (n < limit)) }
+    ensures none { IfNone result ((n : ℕ) → n < limit → word.now ≡ std.decimal n → ⊥) }
+{
+    let number = decimal(word)?;
+    if number < limit { Some(number) } else { None }
+}
+
+/// Whether a line begins with this word.
+pub(crate) fn begins_with(text: &TextLines<'_>, line: u32, first: &[u8]) -> bool
+    requires { line < length text.now }
+    ensures { IsTrue result ↔ (line_word text.now line 0 ≡ first.now) }
+{
+    text.words(line) > 0 && same(text.word(line, 0), first)
+}
+
+/// Whether a line has so many words, and this one first.
+pub(crate) fn has_form(text: &TextLines<'_>, line: u32, first: &[u8], count: u32) -> bool
+    requires { line < length text.now }
+    ensures { IsTrue result
+        ↔ ((length (line_at text.now line).words ≡ count) × (line_word text.now line 0 ≡ first.now)) }
+{
+    text.words(line) == count && begins_with(text, line, first)
+}
+
+/// The version of the format.
+pub(crate) fn version_line(text: &TextLines<'_>, line: u32) -> Option<u8>
+    requires { line < length text.now }
+    ensures { MatchOption result (IsNone IsVersion (line_at text.now line).words)
+        (IsVersion (line_at text.now line).words) }
+{
+    if !has_form(text, line, b"denali", 2) {
+        return None;
+    }
+    let version = decimal(text.word(line, 1))?;
+    if version == VERSION { Some(1) } else { None }
+}
+
+/// The encoding of the clauses.
+pub(crate) fn encoding_line(text: &TextLines<'_>, line: u32) -> Option<u8>
+    requires { line < length text.now }
+    ensures { MatchOption result (IsNone IsEncoding (line_at text.now line).words)
+        (IsEncoding (line_at text.now line).words) }
+{
+    if !has_form(text, line, b"encoding", 2) {
+        return None;
+    }
+    let encoding = decimal(text.word(line, 1))?;
+    if encoding == ENCODING { Some(1) } else { None }
+}
+
+/// Whether the table is the built-in one.
+pub(crate) fn table_line(text: &TextLines<'_>, line: u32) -> Option<TableLine>
+    requires { line < length text.now }
+    ensures { MatchOption result (IsNone IsTableLine (line_at text.now line).words)
+        (IsTableLine (line_at text.now line).words) }
+{
+    if !has_form(text, line, b"table", 2) {
+        return None;
+    }
+    if same(text.word(line, 1), b"ev6") {
+        Some(TableLine::BuiltIn)
+    } else if same(text.word(line, 1), b"own") {
+        Some(TableLine::Own)
+    } else {
+        None
+    }
+}
+
+/// The delay between clusters, behind these slots.
+pub(crate) fn cross_line(text: &TextLines<'_>, line: u32, slots: &[Slot]) -> Option<u32>
+    requires { line < length text.now }
+    ensures { MatchOption result (IsNone (IsCross slots.now) (line_at text.now line).words)
+        (IsCross slots.now (line_at text.now line).words) }
+{
+    if slots.is_empty() || !has_form(text, line, b"cross", 2) {
+        return None;
+    }
+    let cross = below(text.word(line, 1), 5)?;
+    Some(cross as u32)
+}
+
+/// The name of a goal.
+pub(crate) fn goal_line(
+    alloc: Global,
+    text: &TextLines<'_>,
+    line: u32,
+) -> Result<Option<Name>, NoMemory>
+    requires { line < length text.now }
+    ensures { IfOk result (λ found. MatchOption found (IsNone IsGoalName (line_at text.now line).words)
+        (IsGoalName (line_at text.now line).words)) }
+{
+    if !has_form(text, line, b"goal", 2) {
+        return Ok(None);
+    }
+    let name = text.word(line, 1);
+    if !is_name(name) {
+        return Ok(None);
+    }
+    Ok(Some(Name::new(alloc, name)?))
+}
+
+/// Why rounds ended, by its name.
+fn stop_of(word: &[u8]) -> Option<Stop>
+    ensures { MatchOption result ((stop : StopOf) → word.now ≡ stop_name stop → ⊥)
+        (λ stop. word.now ≡ stop_name stop) }
+{
+    if same(word, b"quiet") {
+        Some(Stop::Quiet)
+    } else if same(word, b"rounds") {
+        Some(Stop::Rounds)
+    } else if same(word, b"full") {
+        Some(Stop::Full)
+    } else {
+        None
+    }
+}
+
+/// The two constants of a goal without a world.
+fn no_world_line(text: &TextLines<'_>, line: u32) -> Option<BodyLine>
+    requires { line < length text.now }
+    ensures { MatchOption result
+        ((class a b : ℕ) → IsBodyLine (line_at text.now line).words (bodies.NoWorld class a b) → ⊥)
+        (IsBodyLine (line_at text.now line).words) }
+{
+    if !has_form(text, line, b"noworld", 4) {
+        return None;
+    }
+    let class = below(text.word(line, 1), LIMIT)?;
+    let a = decimal(text.word(line, 2))?;
+    let b = decimal(text.word(line, 3))?;
+    Some(BodyLine::NoWorld {
+        class: class as u32,
+        a,
+        b,
+    })
+}
+
+/// How many rounds there were, and why they ended.
+fn rounds_line(text: &TextLines<'_>, line: u32) -> Option<BodyLine>
+    requires { line < length text.now }
+    ensures { MatchOption result
+        ((rounds : ℕ) (stop : StopOf) → IsBodyLine (line_at text.now line).words (bodies.Rounds rounds stop) → ⊥)
+        (IsBodyLine (line_at text.now line).words) }
+{
+    if !has_form(text, line, b"rounds", 4) || !same(text.word(line, 2), b"stop") {
+        return None;
+    }
+    let rounds = below(text.word(line, 1), LIMIT)?;
+    let stop = stop_of(text.word(line, 3))?;
+    Some(BodyLine::Rounds {
+        rounds: rounds as u32,
+        stop,
+    })
+}
+
+/// The line behind a goal's name.
+pub(crate) fn body_line(text: &TextLines<'_>, line: u32) -> Option<BodyLine>
+    requires { line < length text.now }
+    ensures { MatchOption result (IsNone IsBodyLine (line_at text.now line).words)
+        (IsBodyLine (line_at text.now line).words) }
+{
+    if begins_with(text, line, b"noworld") {
+        no_world_line(text, line)
+    } else {
+        rounds_line(text, line)
+    }
+}
+
+/// A number of cycles that a claim may speak of.
+fn cycles(word: &[u8]) -> Option<u32>
+    ensures some { IfSome result (λ k. (word.now ≡ std.decimal k) × (k ≤ 24)) }
+    ensures none { IfNone result ((k : ℕ) → k ≤ 24 → word.now ≡ std.decimal k → ⊥) }
+{
+    let k = below(word, MOST_CYCLES + 1)?;
+    Some(k as u32)
+}
+
+/// The line of a budget that was spent.
+fn spent_line(text: &TextLines<'_>, line: u32) -> Option<ClaimLine>
+    requires { line < length text.now }
+    ensures { let words = (line_at text.now line).words in
+        MatchOption result
+        (((k : ℕ) → IsClaimLine words (lines_of.Conflicts k) → ⊥)
+        × ((k vars clauses : ℕ) → IsClaimLine words (lines_of.Size k vars clauses) → ⊥))
+        (IsClaimLine words) }
+{
+    if has_form(text, line, b"spent", 3) {
+        if !same(text.word(line, 1), b"conflicts") {
+            return None;
+        }
+        let k = cycles(text.word(line, 2))?;
+        return Some(ClaimLine::Conflicts { k });
+    }
+    if !has_form(text, line, b"spent", 5) || !same(text.word(line, 1), b"size") {
+        return None;
+    }
+    let k = cycles(text.word(line, 2))?;
+    let vars = decimal(text.word(line, 3))?;
+    let clauses = decimal(text.word(line, 4))?;
+    Some(ClaimLine::Size { k, vars, clauses })
+}
+
+/// The first line of a claim.
+pub(crate) fn claim_line(text: &TextLines<'_>, line: u32) -> Option<ClaimLine>
+    requires { line < length text.now }
+    ensures { MatchOption result (IsNone IsClaimLine (line_at text.now line).words)
+        (IsClaimLine (line_at text.now line).words) }
+{
+    if has_form(text, line, b"scheduled", 2) {
+        let k = cycles(text.word(line, 1))?;
+        Some(ClaimLine::Scheduled { k })
+    } else if has_form(text, line, b"none", 2) {
+        let k = cycles(text.word(line, 1))?;
+        Some(ClaimLine::Missing { k })
+    } else {
+        spent_line(text, line)
+    }
+}
+
+/// How many lines for so many cycles stand behind a line that begins with this word.
+pub(crate) fn count_line(text: &TextLines<'_>, line: u32, first: &[u8], k: u32) -> Option<u32>
+    requires { line < length text.now }
+    ensures { MatchOption result (IsNone (IsCount first.now k) (line_at text.now line).words)
+        (IsCount first.now k (line_at text.now line).words) }
+{
+    if !has_form(text, line, first, 3) {
+        return None;
+    }
+    let cycles = decimal(text.word(line, 1))?;
+    if cycles != u64::from(k) {
+        return None;
+    }
+    let count = below(text.word(line, 2), LIMIT)?;
+    Some(count as u32)
+}
+
+/// Whether a goal ends.
+pub(crate) fn is_end(text: &TextLines<'_>, line: u32) -> bool
+    requires { line < length text.now }
+    ensures { IsTrue result ↔ ((line_at text.now line).words ≡ end_words) }
+{
+    has_form(text, line, b"end", 1)
+}

@@ -1,0 +1,138 @@
+// The lines of a schedule: its launches, its words, and the places of the targets.
+ghost use Rattle.std.specs.Prelude.{◌≡◌, ◌≤◌, ◌<◌, ◌^◌, ◌∷◌, [], ℕ, length, is_some, IfOk, IfErr, IsTrue, MatchOption};
+ghost use Rattle.alpha_encode.specs.Decoded.{decoded};
+ghost use Rattle.text_core.specs.Faults.{IsFaultBy};
+ghost use Rattle.text_core.specs.Lines.{line_at};
+ghost use Rattle.register_assign.specs.declared.listings.Where.{Where as WhereOf};
+ghost use Rattle.schedule_meaning.specs.declared.schedules.Launch.{Launch as LaunchOf};
+ghost use Rattle.answer_texts.specs.AnswerLines.{launch_words, where_words, word_words};
+ghost use Rattle.answer_texts.specs.AnswerParts.{AreCodes, AreLaunches, ArePlaces, CodesFault, CodesPart, LaunchesFault, LaunchesPart, PlacesFault, PlacesPart};
+
+use crate::line_reading::{bad_line, begins_with, below, has_form};
+use crate::table_reading::slot_named;
+use crate::word_lines::word_line;
+use items::{Items, NoMemory};
+use machine_table::Table;
+use register_assign::Where;
+use schedule_meaning::Launch;
+use std::alloc::Global;
+use text_core::{Name, TextFault, TextLines, is_name};
+
+/// What numbers of lines stay below.
+const LIMIT: u64 = 1 << 31;
+
+/// The launch of a line.
+fn launch_line(text: &TextLines<'_>, line: u32, table: &Table) -> Option<Launch>
+    requires { line < length text.now }
+    ensures { MatchOption result
+        ((l : LaunchOf) → (line_at text.now line).words ≡ launch_words table.now l → AreLaunches table.now (l ∷ []) → ⊥)
+        (λ l. ((line_at text.now line).words ≡ launch_words table.now l) × AreLaunches table.now (l ∷ [])) }
+{
+    if !has_form(text, line, b"launch", 4) {
+        return None;
+    }
+    let cycle = below(text.word(line, 1), LIMIT)?;
+    let slot = slot_named(table.slots.as_slice(), text.word(line, 2))? as u64;
+    if slot >= LIMIT {
+        return None;
+    }
+    let row = below(text.word(line, 3), LIMIT)?;
+    Some(Launch {
+        cycle: cycle as u32,
+        slot: slot as u32,
+        row: row as u32,
+    })
+}
+
+/// The launches from a line on, and the line behind them.
+pub(crate) fn read_launches(
+    alloc: Global,
+    text: &TextLines<'_>,
+    table: &Table,
+    from: u32,
+) -> Result<(Items<Launch>, u32), TextFault>
+    requires { from ≤ length text.now }
+    ensures ok { IfOk result (λ p. LaunchesPart text.now table.now from p.1 p.0) }
+    ensures fault { IfErr result (IsFaultBy (LaunchesFault text.now table.now from)) }
+{
+    let mut launches = Items::new(alloc);
+    for line in from..text.count() {
+        if !begins_with(text, line, b"launch") {
+            return Ok((launches, line));
+        }
+        match launch_line(text, line, table) {
+            Some(launch) => launches.push(launch)?,
+            None => return Err(bad_line(text, line)),
+        }
+    }
+    Ok((launches, text.count()))
+}
+
+/// The words of the machine from a line on, and the line behind them.
+pub(crate) fn read_codes(
+    alloc: Global,
+    text: &TextLines<'_>,
+    from: u32,
+) -> Result<(Items<u32>, u32), TextFault>
+    requires { from ≤ length text.now }
+    ensures ok { IfOk result (λ p. CodesPart text.now from p.1 p.0) }
+    ensures fault { IfErr result (IsFaultBy (CodesFault text.now from)) }
+{
+    let mut words = Items::new(alloc);
+    for line in from..text.count() {
+        if !begins_with(text, line, b"word") {
+            return Ok((words, line));
+        }
+        match word_line(alloc, text, line)? {
+            Some(word) => words.push(word)?,
+            None => return Err(bad_line(text, line)),
+        }
+    }
+    Ok((words, text.count()))
+}
+
+/// The place of a target.
+fn where_line(alloc: Global, text: &TextLines<'_>, line: u32) -> Result<Option<Where>, NoMemory>
+    requires { line < length text.now }
+    ensures { IfOk result (λ found. MatchOption found
+        ((w : WhereOf) → (line_at text.now line).words ≡ where_words w → ArePlaces (w ∷ []) → ⊥)
+        (λ w. ((line_at text.now line).words ≡ where_words w) × ArePlaces (w ∷ []))) }
+{
+    if !has_form(text, line, b"where", 3) {
+        return Ok(None);
+    }
+    let name = text.word(line, 1);
+    if !is_name(name) {
+        return Ok(None);
+    }
+    let Some(register) = below(text.word(line, 2), 32) else {
+        return Ok(None);
+    };
+    Ok(Some(Where {
+        name: Name::new(alloc, name)?,
+        reg: register as u8,
+    }))
+}
+
+/// The places of targets from a line on, and the line behind them.
+pub(crate) fn read_places(
+    alloc: Global,
+    text: &TextLines<'_>,
+    from: u32,
+) -> Result<(Items<Where>, u32), TextFault>
+    requires { from ≤ length text.now }
+    ensures ok { IfOk result (λ p. PlacesPart text.now from p.1 p.0) }
+    ensures fault { IfErr result (IsFaultBy (PlacesFault text.now from)) }
+{
+    let mut places = Items::new(alloc);
+    for line in from..text.count() {
+        if !begins_with(text, line, b"where") {
+            return Ok((places, line));
+        }
+        match where_line(alloc, text, line)? {
+            Some(place) => places.push(place)?,
+            None => return Err(bad_line(text, line)),
+        }
+    }
+    Ok((places, text.count()))
+}
