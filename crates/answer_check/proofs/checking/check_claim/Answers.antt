@@ -1,0 +1,20 @@
+use Rattle.answer_texts.specs.AnswerLines.{refuted_below}
+use Rattle.answer_check.proofs.Claims.{few_lines, if_none, none_below, true_claim, where_none}
+use Rattle.answer_check.proofs.checking.check_claim.Goals as goal
+
+pub refused_below-requires-clause-few : goal.refused_below-requires-clause-few
+refused_below-requires-clause-few c =
+    few_lines (refuted_below c.args.goal.now.claim) c.args.goal.now.refute c.requires.refute
+
+pub returns-clause-sound : goal.returns-clause-sound
+returns-clause-sound c =
+    let g = c.args.graph.now in
+    let table = c.args.table.now in
+    let claim = c.args.goal.now.claim in
+    λ holds. true_claim table g claim c.requires.world c.in_default.ensures.fits
+    (c.in_ok-is_listed.ensures.does c.if-not-branch.false)
+    (where_none _ c.in_ok-sizes.field-0 c.in_default-2.is c.in_ok-sizes.ensures).1
+    (where_none _ c.in_ok-rejected-2.field-0 c.in_default-4.is c.in_ok-rejected-2.ensures)
+    (none_below table g (λ k m ls le fit. c.schedules_fit_or_break.ensures.longer g table k m ls le fit)
+    (refuted_below claim) c.args.goal.now.refute c.requires.refute
+    (if_none c.in_ok-rejected.field-0 c.in_default-3.is c.in_ok-rejected.ensures.none_fits))

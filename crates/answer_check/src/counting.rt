@@ -1,0 +1,169 @@
+// For how many cycles the clauses are that a claim speaks of, and how many they are, before any is built.
+ghost use Rattle.std.specs.Prelude.{◌≡◌, ◌↔◌, ◌≤◌, ◌<◌, ◌⊎◌, length, IfOk, IsTrue, is_some, MatchOption};
+ghost use Rattle.answer_check.specs.Verdicts.{HasRightSize, HasWrongSize, IsWithinBelow, clauses_for};
+ghost use Rattle.answer_texts.specs.AnswerLines as format;
+ghost use Rattle.answer_texts.specs.WellFormed.{FitsClaim};
+ghost use Rattle.cycle_encoding.specs.Plans.{IsTooLarge, PassesLimit};
+ghost use Rattle.launch_graph.specs.WellFormed.{IsLaunchGraph};
+ghost use Rattle.machine_table.specs.Tables.{IsTable};
+
+use answer_texts::{Claim, Claimed};
+use cycle_encoding::Sizes;
+use items::NoMemory;
+use launch_graph::LaunchGraph;
+use machine_table::Table;
+use order_encoding::{count_clauses, pass_limit};
+use std::alloc::Global;
+
+/// A claim says that no schedule fits in fewer cycles than these.
+pub(crate) fn refuted_below(claim: &Claim) -> u32
+    requires { FitsClaim claim.now }
+    ensures value { result ≡ format.refuted_below claim.now }
+    ensures few { result ≤ 25 }
+{
+    match claim {
+        Claim::NoWorld { .. } => 0,
+        Claim::Scheduled { k, .. } => *k,
+        Claim::Missing { k } => *k + 1,
+        Claim::SpentConflicts { k, .. } => *k,
+        Claim::SpentSize { k, .. } => *k,
+    }
+}
+
+/// For how many cycles the clauses are that the lines of a claim are to refute.
+pub(crate) fn refuted_cycles(claim: &Claim) -> u32
+    requires { FitsClaim claim.now }
+    ensures value { result ≡ format.refuted_cycles claim.now }
+    ensures few { result ≤ 24 }
+{
+    refuted_below(claim).saturating_sub(1)
+}
+
+/// Whether one of the counts passes its limit.
+fn is_large(sizes: Sizes) -> bool
+    ensures { IsTrue result ↔ ((262144 < sizes.vars) ⊎ (2000000 < sizes.clauses)) }
+{
+    pass_limit(sizes)
+}
+
+/// The counts of the clauses for k cycles, where one of them passes its limit.
+fn large_counts(
+    alloc: Global,
+    graph: &LaunchGraph,
+    table: &Table,
+    k: u32,
+) -> Result<Option<Sizes>, NoMemory>
+    requires cycles { k ≤ 24 }
+    requires table { IsTable table.now }
+    requires graph { IsLaunchGraph graph.now }
+    ensures { IfOk result (λ found. MatchOption found (¬ IsTooLarge (clauses_for table.now graph.now k))
+        (λ s. PassesLimit (clauses_for table.now graph.now k) s.vars s.clauses)) }
+{
+    let sizes = count_clauses(alloc, graph, table, k)?;
+    if is_large(sizes) {
+        Ok(Some(sizes))
+    } else {
+        Ok(None)
+    }
+}
+
+/// The true counts of the clauses for k cycles, where the printed ones aren't these, or none passes its limit.
+fn untrue_counts(
+    alloc: Global,
+    graph: &LaunchGraph,
+    table: &Table,
+    k: u32,
+    printed: Sizes,
+) -> Result<Option<Sizes>, NoMemory>
+    requires cycles { k ≤ 24 }
+    requires table { IsTable table.now }
+    requires graph { IsLaunchGraph graph.now }
+    ensures { IfOk result
+        (λ found. MatchOption found (PassesLimit (clauses_for table.now graph.now k) printed.vars printed.clauses)
+        (λ s. (¬ PassesLimit (clauses_for table.now graph.now k) printed.vars printed.clauses)
+        × (s.vars ≡ (clauses_for table.now graph.now k).vars)
+        × (s.clauses ≡ length (clauses_for table.now graph.now k).clauses))) }
+{
+    let sizes = count_clauses(alloc, graph, table, k)?;
+    if !is_large(sizes) {
+        return Ok(Some(sizes));
+    }
+    if sizes.vars != printed.vars {
+        return Ok(Some(sizes));
+    }
+    if sizes.clauses != printed.clauses {
+        return Ok(Some(sizes));
+    }
+    Ok(None)
+}
+
+/// The counts of the clauses that lines are to refute, where one of them passes its limit.
+fn large_below(
+    alloc: Global,
+    graph: &LaunchGraph,
+    table: &Table,
+    goal: &Claimed,
+) -> Result<Option<Sizes>, NoMemory>
+    requires claim { FitsClaim goal.now.claim }
+    requires table { IsTable table.now }
+    requires graph { IsLaunchGraph graph.now }
+    ensures { IfOk result (λ found. MatchOption found (IsWithinBelow table.now graph.now goal.now)
+        (λ s. IsTrue (is_some goal.now.refute)
+        × PassesLimit (clauses_for table.now graph.now (format.refuted_cycles goal.now.claim)) s.vars s.clauses)) }
+{
+    match &goal.refute {
+        None => Ok(None),
+        Some(_) => large_counts(alloc, graph, table, refuted_cycles(&goal.claim)),
+    }
+}
+
+/// The true counts of the clauses that a claim speaks of, where their size is wrong.
+fn wrong_own_size(
+    alloc: Global,
+    graph: &LaunchGraph,
+    table: &Table,
+    claim: &Claim,
+) -> Result<Option<Sizes>, NoMemory>
+    requires claim { FitsClaim claim.now }
+    requires table { IsTable table.now }
+    requires graph { IsLaunchGraph graph.now }
+    ensures { IfOk result (λ found. MatchOption found (HasRightSize table.now graph.now claim.now)
+        (λ s. (¬ HasRightSize table.now graph.now claim.now)
+        × (s.vars ≡ (clauses_for table.now graph.now (format.refuted_below claim.now)).vars)
+        × (s.clauses ≡ length (clauses_for table.now graph.now (format.refuted_below claim.now)).clauses))) }
+{
+    match claim {
+        Claim::SpentConflicts { k, .. } => large_counts(alloc, graph, table, *k),
+        Claim::SpentSize { k, vars, clauses } => {
+            let printed = Sizes {
+                vars: *vars,
+                clauses: *clauses,
+            };
+            untrue_counts(alloc, graph, table, *k, printed)
+        }
+        Claim::NoWorld { .. } => Ok(None),
+        Claim::Scheduled { .. } => Ok(None),
+        Claim::Missing { .. } => Ok(None),
+    }
+}
+
+/// The true counts of clauses whose size is wrong: first of those that lines are to refute, then of those that the
+/// claim itself speaks of.
+pub(crate) fn wrong_size(
+    alloc: Global,
+    graph: &LaunchGraph,
+    table: &Table,
+    goal: &Claimed,
+) -> Result<Option<Sizes>, NoMemory>
+    requires claim { FitsClaim goal.now.claim }
+    requires table { IsTable table.now }
+    requires graph { IsLaunchGraph graph.now }
+    ensures { IfOk result (λ found. MatchOption found
+        (IsWithinBelow table.now graph.now goal.now × HasRightSize table.now graph.now goal.now.claim)
+        (λ s. HasWrongSize table.now graph.now goal.now s.vars s.clauses)) }
+{
+    if let Some(sizes) = large_below(alloc, graph, table, goal)? {
+        return Ok(Some(sizes));
+    }
+    wrong_own_size(alloc, graph, table, &goal.claim)
+}

@@ -1,0 +1,22 @@
+//! Tests what an answer claims of each goal, whoever wrote it.
+//!
+//! Nothing that was read is trusted: the clauses are built from the printed graph and table alone, and they are counted
+//! before any is built. The tests come in this order: the schedule fits; the words and places are those of its listing;
+//! sizes; the refutation; lemmas.
+#![tactic(auto)]
+
+mod checking;
+mod counting;
+mod laws;
+mod listed;
+mod refusing;
+mod reporting;
+mod verdicts;
+
+pub use checking::check_goal;
+pub use laws::one_verdict;
+pub use reporting::check_answer;
+pub use verdicts::{Checked, Verdict};
+
+#[cfg(test)]
+mod tests;
