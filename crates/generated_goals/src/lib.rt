@@ -1,0 +1,17 @@
+//! Goals that are made from a number: a chain of so many operators over two inputs, without axioms. Each of them can be
+//! scheduled in as many cycles, whatever its graph is.
+#![tactic(auto)]
+
+mod generating;
+mod laws;
+mod worked;
+
+pub use generating::generated;
+pub use laws::{
+    generated_goals_can_be_scheduled, generated_goals_have_a_world,
+    generated_inputs_are_well_formed,
+};
+pub use worked::worked_chains;
+
+#[cfg(test)]
+mod tests;
