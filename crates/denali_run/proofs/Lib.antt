@@ -1,8 +1,9 @@
 pub mod AnsweredGoals
+pub mod ResultLines
+pub mod ClaimedGoals
 pub mod GreatestStatus
 pub mod Computing
-pub mod Digits
-pub mod LinePieces
+pub mod GeneratedResults
 pub mod LineWords
 pub mod LinesApart
 pub mod PrintedAnswers

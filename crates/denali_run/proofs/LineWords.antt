@@ -20,7 +20,7 @@ use Rattle.text_core.specs.Lines.{IsLineWord, is_printed}
 use Rattle.word_ops.specs.Names.{name_of}
 use Rattle.word_ops.specs.Operators.{operators}
 use Rattle.word_ops.specs.declared.operators.WordOp.{WordOp}
-use Rattle.denali_run.specs.AnswerLines.{hex_digits, hex_text, before_comma, memory_words, instr_words}
+use Rattle.answer_texts.specs.AnswerLines.{hex_digits, hex_text, before_comma, memory_words, instr_words}
 
 -- ---- lists of words, and of lines
 

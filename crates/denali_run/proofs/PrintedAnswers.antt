@@ -31,7 +31,8 @@ use Rattle.schedule_meaning.specs.declared.schedules.Launch.{Launch}
 use Rattle.text_core.specs.LineTexts.{CanBeLine}
 use Rattle.text_core.specs.Lines.{IsLineWord}
 use Rattle.text_core.specs.Names.{IsName}
-use Rattle.denali_run.specs.AnswerLines.{answered_lines, below_lines, goal_lines, goals_lines, launch_words, matched_lines, refute_lines, stop_name, text_words, where_words, word_words}
+use Rattle.answer_texts.specs.AnswerLines.{launch_words, refute_lines, stop_name, text_words, where_words, word_words}
+use Rattle.denali_run.proofs.ResultLines.{answered_lines, below_lines, goal_lines, goals_lines, matched_lines}
 use Rattle.denali_run.specs.MatchedGoals.{IsMatched, IsSettings}
 use Rattle.denali_run.specs.Right.{AreRefutedBelow, IsTooFew, one_less, formula_in, Right}
 use Rattle.denali_run.specs.declared.results.Answered.{Answered}

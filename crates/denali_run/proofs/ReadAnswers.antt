@@ -1,11 +1,12 @@
 -- One text has one list of right results.
-use Rattle.std.proofs.Common.{◌≡◌, ◌∙◌, List, sym}
+use Rattle.std.proofs.Common.{◌≡◌, ◌∙◌, List, sym, ap}
 use Rattle.std.specs.List.{AllZip}
 use Rattle.std.proofs.lemmas.Grind.{flat_map-append}
 use Rattle.goal_reader.specs.Views.{InputTree}
 use Rattle.goal_reader.specs.WellFormed.{IsInput}
 use Rattle.text_core.specs.LineTexts.{Words, line_text, lines_text}
-use Rattle.denali_run.specs.AnswerLines.{answer_text, goals_lines, head_lines}
+use Rattle.denali_run.specs.ClaimedResults.{answer_text}
+use Rattle.denali_run.proofs.ResultLines.{goals_lines, whole_head, same_answer}
 use Rattle.denali_run.specs.MatchedGoals.{IsSettings}
 use Rattle.denali_run.specs.Right.{Right}
 use Rattle.denali_run.specs.declared.results.Answered.{Answered}
@@ -23,7 +24,7 @@ pub results_once : Laws → (e : Encoding) (s : Settings) (input : InputTree) (r
     → AllZip (λ goal answered. Right e input goal s answered) input.goals others
     → answer_text e input results ≡ answer_text e input others → results ≡ others
 results_once laws e s input results others is set right also same =
-    let head : List Words = head_lines e input.table input.builtin in
+    let head : List Words = whole_head e input in
     let lines : List Words = goals_lines input.table input.goals results in
     let more : List Words = goals_lines input.table input.goals others in
     goals_once laws e input s is set input.goals results others right also
@@ -31,4 +32,5 @@ results_once laws e s input results others is set right also same =
     (each_line (goals_can laws e input s is set input.goals results is.goals right))
     (each_line (goals_can laws e input s is set input.goals others is.goals also))
     (append_same (lines_text head) (lines_text lines) (lines_text more)
-    (sym (flat_map-append line_text head lines) ∙ same ∙ flat_map-append line_text head more)))
+    (sym (flat_map-append line_text head lines) ∙ ap lines_text (same_answer e input results) ∙ same
+    ∙ sym (ap lines_text (same_answer e input others)) ∙ flat_map-append line_text head more)))

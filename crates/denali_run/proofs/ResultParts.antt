@@ -8,7 +8,8 @@ use Rattle.register_assign.specs.declared.listings.Item.{Item}
 use Rattle.register_assign.specs.declared.listings.Where.{Where}
 use Rattle.schedule_meaning.specs.declared.schedules.Launch.{Launch}
 use Rattle.text_core.specs.LineTexts.{Words}
-use Rattle.denali_run.specs.AnswerLines.{below_lines, conflicts_words, launch_words, lemmas_lines, none_words, noworld_words, refute_lines, scheduled_words, size_words, where_words, word_words}
+use Rattle.answer_texts.specs.AnswerLines.{conflicts_words, launch_words, lemmas_lines, none_words, noworld_words, refute_lines, scheduled_words, size_words, where_words, word_words}
+use Rattle.denali_run.proofs.ResultLines.{below_lines}
 use Rattle.denali_run.specs.declared.results.Answered.{Answered}
 use Rattle.denali_run.specs.declared.results.Answered.TheVariants.{Scheduled, Nowhere, SpentConflicts, SpentSize, NoWorld}
 use Rattle.denali_run.specs.declared.results.Found.{Found}

@@ -13,7 +13,8 @@ use Rattle.machine_table.specs.declared.tables.Table.{Table}
 use Rattle.register_assign.specs.Listings.{IsListing}
 use Rattle.register_assign.specs.Outcomes.{AreWordsOf, instrs_of}
 use Rattle.text_core.specs.LineTexts.{Words}
-use Rattle.denali_run.specs.AnswerLines.{answered_lines, below_lines, conflicts_words, end_words, goal_words, goals_lines, lemmas_lines, matched_lines, none_words, noworld_words, refute_lines, rounds_words, scheduled_words, size_words, where_words, word_words}
+use Rattle.answer_texts.specs.AnswerLines.{conflicts_words, end_words, goal_words, lemmas_lines, none_words, noworld_words, refute_lines, rounds_words, scheduled_words, size_words, where_words, word_words}
+use Rattle.denali_run.proofs.ResultLines.{answered_lines, below_lines, goals_lines, matched_lines}
 use Rattle.denali_run.specs.MatchedGoals.{IsMatched, IsSettings}
 use Rattle.denali_run.specs.Right.{AreRefutedBelow, Right, formula_in}
 use Rattle.denali_run.specs.declared.results.Answered.{Answered}

@@ -8,7 +8,8 @@ use Rattle.launch_graph.specs.declared.graphs.LaunchGraph.{LaunchGraph}
 use Rattle.saturation.specs.declared.rounds.Stop.{Stop}
 use Rattle.saturation.specs.declared.rounds.Stop.TheVariants.{Quiet, Rounds, Full}
 use Rattle.text_core.specs.LineTexts.{Words}
-use Rattle.denali_run.specs.AnswerLines.{matched_lines, rounds_words, stop_name}
+use Rattle.answer_texts.specs.AnswerLines.{rounds_words, stop_name}
+use Rattle.denali_run.proofs.ResultLines.{matched_lines}
 use Rattle.denali_run.specs.declared.results.Matched.{Matched}
 use Rattle.denali_run.proofs.SameParts.{byte_same, head_same, rest_same, cons_same}
 

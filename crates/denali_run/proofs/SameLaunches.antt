@@ -18,7 +18,7 @@ use Rattle.schedule_meaning.specs.Fits.{Fits, CanLaunch, EndsBy}
 use Rattle.schedule_meaning.specs.Launches.{instr_at, op_instr}
 use Rattle.schedule_meaning.specs.declared.schedules.Launch.{Launch}
 use Rattle.text_core.specs.LineTexts.{Words}
-use Rattle.denali_run.specs.AnswerLines.{launch_words, slot_name}
+use Rattle.answer_texts.specs.AnswerLines.{launch_words, slot_name}
 use Rattle.denali_run.proofs.SameParts.{head_same, rest_same, cons_same}
 
 -- ---- where launches are

@@ -11,7 +11,8 @@ use Rattle.launch_graph.specs.declared.graphs.LaunchGraph.{LaunchGraph}
 use Rattle.machine_table.specs.declared.tables.Table.{Table}
 use Rattle.refutation_check.specs.LineWords.{IsLineOf, IsReadableLine, line_words}
 use Rattle.text_core.specs.LineTexts.{Words}
-use Rattle.denali_run.specs.AnswerLines.{refute_lines, below_lines}
+use Rattle.answer_texts.specs.AnswerLines.{refute_lines}
+use Rattle.denali_run.proofs.ResultLines.{below_lines}
 use Rattle.denali_run.specs.Right.{IsTooFew, AreRefutedBelow, nothing_less, one_less, formula_in}
 use Rattle.denali_run.specs.declared.results.Encoding.{Encoding}
 use Rattle.denali_run.proofs.SameParts.{head_same, rest_same, cons_same, counted_same, each_once}

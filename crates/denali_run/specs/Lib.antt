@@ -1,8 +1,10 @@
-pub mod AnswerLines
+pub mod ClaimedResults
+pub mod GeneratedAnswers
 pub mod GoalOutcomes
 pub mod MatchedGoals
 pub mod Right
 pub mod Statuses
 pub mod TextAnswers
+pub mod TextChecks
 pub mod TextRuns
 pub mod Trials

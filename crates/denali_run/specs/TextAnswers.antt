@@ -3,7 +3,7 @@ use Rattle.std.specs.Prelude.{◌≡◌, ℕ, List, fold, nat_lt, if◌then◌el
 use Rattle.std.specs.List.{AllZip}
 use Rattle.goal_reader.specs.Grammar.{IsFirstTextFault, Reads}
 use Rattle.goal_reader.specs.Views.{InputTree}
-use Rattle.denali_run.specs.AnswerLines.{answer_text}
+use Rattle.denali_run.specs.ClaimedResults.{answer_text}
 use Rattle.denali_run.specs.Right.{Right}
 use Rattle.denali_run.specs.Statuses.{status_code}
 use Rattle.denali_run.specs.declared.results.Answered.{Answered}

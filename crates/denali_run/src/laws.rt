@@ -3,7 +3,7 @@ ghost use Rattle.std.specs.Prelude.{◌≡◌, List};
 ghost use Rattle.std.specs.List.{AllZip};
 ghost use Rattle.goal_reader.specs.Views.{InputTree};
 ghost use Rattle.goal_reader.specs.WellFormed.{IsInput};
-ghost use Rattle.denali_run.specs.AnswerLines.{answer_text};
+ghost use Rattle.denali_run.specs.ClaimedResults.{answer_text};
 ghost use Rattle.denali_run.specs.MatchedGoals.{IsSettings};
 ghost use Rattle.denali_run.specs.Right.{Right};
 ghost use Rattle.denali_run.specs.declared.results.Answered.{Answered as AnsweredOf};

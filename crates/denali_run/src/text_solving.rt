@@ -9,7 +9,7 @@ ghost use Rattle.denali_run.specs.TextAnswers as texts;
 ghost use Rattle.denali_run.specs.TextAnswers.{Answers, TextErrorIs};
 ghost use Rattle.denali_run.specs.declared.results.Encoding.TheVariants.{Wide};
 
-use crate::answer_lines::print;
+use crate::claiming::answer_text;
 use crate::goal_solving::solve_goal;
 use crate::reports::{Report, TextError};
 use crate::results::Answered;
@@ -46,7 +46,7 @@ fn greater(one: Status, other: Status) -> Status
 
 /// The status with the greatest code that the results ask for.
 #[tactic(auto, using(crate::proofs::GreatestStatus::status_more))]
-fn greatest_status(results: &[Answered]) -> Status
+pub(crate) fn greatest_status(results: &[Answered]) -> Status
     ensures { result ≡ texts.greatest_status results.now }
 {
     let mut greatest = Status::Done;
@@ -108,6 +108,22 @@ fn solve_first(alloc: Global, input: &Input, settings: &Settings) -> Result<Vec<
     )
 }
 
+/// Each goal's result, in the goals' order, where the settings say how decisions are picked.
+pub(crate) fn solve_input(
+    alloc: Global,
+    input: &Input,
+    settings: &Settings,
+) -> Result<Vec<Answered>, NoMemory>
+    requires input { IsInput (input_view input.now) }
+    requires settings { IsSettings settings.now }
+    ensures right { IfOk result (λ results. AllZip (λ goal answered. Right Wide (input_view input.now) goal settings.now
+        answered) (input_view input.now).goals results.items) }
+{
+    match settings.pick {
+        Pick::First => solve_first(alloc, input, settings),
+    }
+}
+
 /// The answer to a text of goals: the result of each goal, in their order.
 pub fn solve_text(alloc: Global, text: &[u8], settings: &Settings) -> Result<Report, TextError>
     requires few { length text.now < 2 ^ 29 }
@@ -121,11 +137,6 @@ pub fn solve_text(alloc: Global, text: &[u8], settings: &Settings) -> Result<Rep
         Err(TextFault::Fault(fault)) => return Err(TextError::Read(fault)),
         Err(TextFault::Memory) => return Err(TextError::Memory),
     };
-    let results = match settings.pick {
-        Pick::First => solve_first(alloc, &input, settings)?,
-    };
-    Ok(Report {
-        bytes: print(alloc, &input, &results)?,
-        status: greatest_status(&results),
-    })
+    let results = solve_input(alloc, &input, settings)?;
+    Ok(answer_text(alloc, &input, results)?)
 }

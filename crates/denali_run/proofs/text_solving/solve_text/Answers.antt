@@ -1,4 +1,4 @@
-use Rattle.std.proofs.Common.{◌∙◌, ap, length, map}
+use Rattle.std.proofs.Common.{◌∙◌, map}
 use Rattle.std.proofs.lemmas.List.{length-map}
 use Rattle.goal_reader.specs.Views.{goal_view, input_view}
 use Rattle.denali_run.specs.Right.{Right}
@@ -6,9 +6,8 @@ use Rattle.denali_run.specs.declared.results.Encoding.TheVariants.{Wide}
 use Rattle.denali_run.proofs.AnsweredGoals.{as_many}
 use Rattle.denali_run.proofs.text_solving.solve_text.Goals as goal
 
-pub print-requires : goal.print-requires
-print-requires c =
-    ap length c.deref.ensures.value
-    ∙ as_many (λ goal answered. Right Wide (input_view c.in-Ok.input) goal c.args.settings.now answered)
+pub answer_text-requires : goal.answer_text-requires
+answer_text-requires c =
+    as_many (λ goal answered. Right Wide (input_view c.in-Ok.input) goal c.args.settings.now answered)
     (map goal_view c.in-Ok.input.goals) c.in_ok-results.results.items c.in_ok-results.ensures.right
     ∙ length-map c.in-Ok.input.goals goal_view

@@ -1,7 +1,0 @@
-use Rattle.std.proofs.Common.{◌≡◌, ◌++◌, take, map}
-use Rattle.text_core.specs.LineTexts.{lines_text}
-use Rattle.denali_run.specs.AnswerLines.{launch_words}
-use Rattle.denali_run.proofs.schedule_lines.put_launches.Given as goal
-
-abbrev pub invariant-loop-launch : goal.invariant-loop-launch
-invariant-loop-launch l = l.text.items ≡ l.initial.text.items ++ lines_text (map (launch_words l.table) (take l.launch-index l.launches))

@@ -1,7 +1,0 @@
-use Rattle.std.proofs.Common.{◌≡◌, ◌++◌, take, map}
-use Rattle.text_core.specs.LineTexts.{lines_text}
-use Rattle.denali_run.specs.AnswerLines.{where_words}
-use Rattle.denali_run.proofs.schedule_lines.put_wheres.Given as goal
-
-abbrev pub invariant-loop-place : goal.invariant-loop-place
-invariant-loop-place l = l.text.items ≡ l.initial.text.items ++ lines_text (map where_words (take l.place-index l.wheres))

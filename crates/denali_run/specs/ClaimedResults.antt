@@ -1,0 +1,52 @@
+-- What the text of an answer claims of the results of goals. Source: this project.
+use Rattle.std.specs.Prelude.{ℕ, List, [], ◌∷◌, Option, Some, None}
+use Rattle.answer_texts.specs.AnswerLines.{answer_bytes}
+use Rattle.answer_texts.specs.declared.answers.AnswerText.{AnswerText}
+use Rattle.answer_texts.specs.declared.answers.Claim.{Claim}
+use Rattle.answer_texts.specs.declared.answers.Claim.TheVariants as claims
+use Rattle.answer_texts.specs.declared.answers.Claimed.{Claimed}
+use Rattle.cnf_core.specs.declared.line.Lines.{Lines}
+use Rattle.goal_reader.specs.Views.{GoalTree, InputTree}
+use Rattle.saturation.specs.declared.rounds.Stop.TheVariants.{Quiet}
+use Rattle.denali_run.specs.declared.results.Answered.{Answered}
+use Rattle.denali_run.specs.declared.results.Answered.TheVariants.{Scheduled, Nowhere, SpentConflicts, SpentSize, NoWorld}
+use Rattle.denali_run.specs.declared.results.Encoding.{Encoding}
+use Rattle.denali_run.specs.declared.results.Encoding.TheVariants.{Wide}
+use Rattle.denali_run.specs.declared.results.Matched.{Matched}
+
+-- a claim with the graph that it is about, and the lines that refute fewer cycles
+abbrev pub claimed_of : List ℕ → Matched → Claim → Option Lines → Claimed
+claimed_of name m claim refute =
+    record { name = name; graph = Some m.graph; rounds = m.rounds; stop = m.stop; claim = claim; refute = refute }
+
+-- what is claimed of the goal of this name with this result
+abbrev pub claimed : List ℕ → Answered → Claimed
+claimed name (Scheduled f) =
+    claimed_of name f.matched (claims.Scheduled f.k f.schedule f.words f.listing.wheres) f.refutation
+claimed name (Nowhere m) = claimed_of name m.matched (claims.Missing m.k) (Some m.refutation)
+claimed name (SpentConflicts t) = claimed_of name t.matched (claims.SpentConflicts t.k t.lemmas) t.refutation
+claimed name (SpentSize l) = claimed_of name l.matched (claims.SpentSize l.k l.vars l.clauses) l.refutation
+claimed name (NoWorld class a b) =
+    record { name = name; graph = None; rounds = 0; stop = Quiet; claim = claims.NoWorld class a b; refute = None }
+
+abbrev pub encoding_number : Encoding → ℕ
+encoding_number Wide = 1
+
+-- each goal with its result
+abbrev pub goals_claimed : List GoalTree → List Answered → List Claimed
+goals_claimed (goal ∷ goals) (answered ∷ more) = claimed goal.name answered ∷ goals_claimed goals more
+goals_claimed _ _ = []
+
+-- what the answer to an input with these results says
+abbrev pub answer_of : Encoding → InputTree → List Answered → AnswerText
+answer_of e input results = record {
+  version = 1;
+  encoding = encoding_number e;
+  table = input.table;
+  builtin = input.builtin;
+  goals = goals_claimed input.goals results;
+}
+
+-- the bytes of that answer
+abbrev pub answer_text : Encoding → InputTree → List Answered → List ℕ
+answer_text e input results = answer_bytes (answer_of e input results)

@@ -1,0 +1,23 @@
+-- Which bytes and which status answer the text of an answer that is to be checked. Source: this project.
+use Rattle.std.specs.Prelude.{◌≡◌, ℕ, Bool, List, if◌then◌else◌}
+use Rattle.answer_check.specs.Reports.{IsReport}
+use Rattle.answer_texts.specs.ReadAnswers.{IsAnswerFault, ReadsAnswer}
+use Rattle.answer_texts.specs.declared.answers.AnswerText.{AnswerText}
+use Rattle.denali_run.specs.declared.reports.TextError.{TextError}
+use Rattle.denali_run.specs.declared.reports.TextError.TheVariants.{Read, Memory}
+use Rattle.denali_run.specs.declared.statuses.Status.{Status}
+use Rattle.denali_run.specs.declared.statuses.Status.TheVariants.{Done, Missing}
+
+-- The text reads as an answer, the bytes are the lines of the verdicts on its goals, and the status tells whether some
+-- claim is rejected.
+pub record ChecksText (text bytes : List ℕ) (status : Status) : Type 0 where
+  pub answer : AnswerText
+  pub reads : ReadsAnswer text answer
+  pub rejected : Bool
+  pub report : IsReport answer bytes rejected
+  pub status_is : status ≡ (if rejected then Missing else Done)
+
+-- why an answer can't be checked
+abbrev pub CheckErrorIs : List ℕ → TextError → Type 0
+CheckErrorIs text (Read fault) = IsAnswerFault text fault.place fault.kind
+CheckErrorIs text Memory = Unit {0}
