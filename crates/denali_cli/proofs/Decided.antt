@@ -1,11 +1,10 @@
 -- What the words and the input decide, from what the calls gave.
-use Rattle.std.proofs.Common.{◌≡◌, ℕ, ◌<◌, ◌≤◌, List, [], length, refl, sym, subst, ◌∙◌, arith, None, Some}
+use Rattle.std.proofs.Common.{◌≡◌, ℕ, ◌<◌, ◌≤◌, List, length, sym, subst, ◌∙◌, arith, Some}
 use Rattle.std.specs.Prelude.{IfOk}
 use Rattle.std.specs.declared.option.Option.{Option}
 use Rattle.std.specs.declared.result.Result.{Result}
 use Rattle.std.specs.declared.result.Result.TheVariants.{Ok, Err}
-use Rattle.std.specs.Io.KnownBytes.{Keeps}
-use Rattle.outside_io.specs.Taking.{IsRead, ReadsWhole, TakesFront, TakesUpTo, TakesWithin}
+use Rattle.outside_io.specs.Taking.{IsRead, TakesUpTo}
 use Rattle.outside_io.specs.declared.reading.ReadAllFault.TheVariants.{TooLong}
 use Rattle.text_core.specs.declared.faults.Fault.{Fault}
 use Rattle.denali_run.specs.declared.reports.Report.{Report}
@@ -13,8 +12,8 @@ use Rattle.denali_run.specs.declared.statuses.Status.{Status}
 use Rattle.denali_run.specs.declared.statuses.Status.TheVariants.{Done, Missing, Usage, ReadFault, Spent, Memory, SourceFault, SinkFault, NoWorld}
 use Rattle.denali_cli.specs.declared.decide.Stop.{Stop}
 use Rattle.denali_cli.specs.Commands.{Command}
-use Rattle.denali_cli.specs.Replies.{IsFaultFor, IsWithinLimit, Reports, answered, fault_line, faulty, limit_of, too_long, too_long_line}
-use Rattle.denali_cli.specs.Outcomes.{Decides, IsReported, IsWhole, ReadsWithin, Takes, TakesFor}
+use Rattle.denali_cli.specs.Replies.{IsFaultFor, IsWithinLimit, Reply, Reports, fault_line, faulty, limit_of, too_long, too_long_line}
+use Rattle.denali_cli.specs.Outcomes.{Decides, IsReported, IsWhole, ReadsWithin}
 use Rattle.denali_cli.proofs.Exact.{reports_report}
 
 -- the report is what the words and the input decide
@@ -26,6 +25,16 @@ IsTooLong limit r = (r.bytes.items ≡ too_long_line limit) × (r.status ≡ Rea
 
 abbrev pub IsFaultLine : Fault → Report → Type 0
 IsFaultLine fault r = (r.bytes.items ≡ fault_line fault.place fault.kind) × (r.status ≡ ReadFault)
+
+-- the report is the command's reply to the text
+abbrev pub IsReply : Command → List ℕ → Report → Type 0
+IsReply command text r = Reply command text r.bytes.items r.status
+
+pub reply_of_fault : (command : Command) (text : List ℕ) (result : Result Report Stop) (fault : Fault)
+    → IsWithinLimit command text → IfOk result (IsFaultLine fault) → IsFaultFor command text fault.place fault.kind
+    → IfOk result (IsReply command text)
+reply_of_fault command text (Ok r) fault within is first = faulty fault.place fault.kind within first is.0 is.1
+reply_of_fault command text (Err e) fault within is first = tt
 
 one_limit : {m n : ℕ} → Some m ≡ Some n → m ≡ n
 one_limit e = cc
@@ -46,29 +55,6 @@ module _ (command : Command) (limit : ℕ) (has : limit_of command ≡ Some limi
       (took.0, within_limit l l' took.0 took.1.read, too_long limit has long is.0 is.1)
   decided_past (Err e) l l' is took = tt
 
-  pub decided_fault : (result : Result Report Stop) (l l' : Option (List ℕ)) (text read : List ℕ) (fault : Fault)
-      → IfOk result (IsFaultLine fault) → ReadsWhole limit l l' text → read ≡ text
-      → IsFaultFor command read fault.place fault.kind → IfOk result (IsDecided (Some command) l l')
-  decided_fault (Ok r) l l' text read fault is whole same first = (
-    text,
-    within_limit l l' text whole.read,
-    faulty fault.place fault.kind (at_limit text whole.within)
-        (subst (λ t. IsFaultFor command t fault.place fault.kind) same first) is.0 is.1,
-  )
-  decided_fault (Err e) l l' text read fault is whole same first = tt
-
-  pub decided_answer : (r : Report) (l l' : Option (List ℕ)) (text read : List ℕ) → ReadsWhole limit l l' text
-      → read ≡ text → Reports command read r.bytes.items r.status → IsDecided (Some command) l l' r
-  decided_answer r l l' text read whole same reports = (
-    text,
-    within_limit l l' text whole.read,
-    answered (at_limit text whole.within) (subst (λ t. Reports command t r.bytes.items r.status) same reports),
-  )
-
-  -- what is taken within the limit is what the command takes
-  pub taken_at_limit : (l l' : Option (List ℕ)) → TakesWithin limit l l' → Takes (Some command) l l'
-  taken_at_limit l l' took = subst (λ o. TakesFor o l l') (sym has) took
-
 pub decided_as : (said other : Option Command) → said ≡ other → (result : Result Report Stop) (l l' : Option (List ℕ))
     → IfOk result (IsDecided said l l') → IfOk result (IsDecided other l l')
 decided_as said other same result l l' decided = subst (λ o. IfOk result (IsDecided o l l')) same decided
@@ -83,24 +69,6 @@ whole_if_reported Memory h = absurd h
 whole_if_reported SourceFault h = absurd h
 whole_if_reported SinkFault h = absurd h
 whole_if_reported NoWorld h = tt
-
--- no byte is taken
-
-unread : (left : Option (List ℕ)) → Keeps left left
-unread None = tt
-unread (Some bytes) = refl
-
-no_front : (limit : ℕ) (left : Option (List ℕ)) → TakesFront limit left left []
-no_front limit None = record { taken = tt; within = omega arith }
-no_front limit (Some bytes) = record { taken = refl; within = omega arith }
-
-for_limit : (limit : Option ℕ) (left : Option (List ℕ)) → TakesFor limit left left
-for_limit None left = unread left
-for_limit (Some limit) left = ([], no_front limit left)
-
-pub nothing_taken : (said : Option Command) (left : Option (List ℕ)) → Takes said left left
-nothing_taken None left = unread left
-nothing_taken (Some command) left = for_limit (limit_of command) left
 
 pub reports_whole : (command : Command) (text written : List ℕ) (status : Status)
     → Reports command text written status → IsWhole status

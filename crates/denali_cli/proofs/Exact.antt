@@ -1,19 +1,22 @@
 -- The rows of the replies exclude one another.
-use Rattle.std.proofs.Common.{◌≡◌, ℕ, ◌<◌, ◌⊎◌, ◌↔◌, Bool, true, false, List, [], ◌∷◌, length, Some, fold, refl, sym, ap, subst, ◌∙◌, inl, inr, arith, nat_lt, cond}
+use Rattle.std.proofs.Common.{◌≡◌, ℕ, ◌<◌, ◌⊎◌, ◌↔◌, Bool, true, false, List, [], ◌∷◌, length, Some, fold, sym, ap, subst, ◌∙◌, inl, inr, arith, nat_lt, cond}
+use Rattle.answer_texts.specs.ReadAnswers.{IsAnswerFault, ReadsAnswer}
+use Rattle.answer_texts.specs.declared.answers.AnswerText.{AnswerText}
 use Rattle.goal_reader.specs.Grammar.{IsFirstTextFault, Reads}
 use Rattle.goal_reader.specs.Views.{InputTree}
 use Rattle.run_texts.specs.RunFaults.{IsRunFault, ReadsRun}
 use Rattle.run_texts.specs.declared.texts.RunText.{RunText}
 use Rattle.text_core.specs.declared.faults.Kind.{Kind}
 use Rattle.denali_run.specs.Statuses.{status_code}
+use Rattle.denali_run.specs.GeneratedAnswers.{IsLineOf}
 use Rattle.denali_run.specs.TextAnswers.{greater, status_of}
 use Rattle.denali_run.specs.declared.results.Answered.{Answered}
 use Rattle.denali_run.specs.declared.results.Answered.TheVariants.{Scheduled, Nowhere, SpentConflicts, SpentSize, NoWorld}
 use Rattle.denali_run.specs.declared.statuses.Status.{Status}
-use Rattle.denali_run.specs.declared.statuses.Status.TheVariants.{Done, ReadFault}
+use Rattle.denali_run.specs.declared.statuses.Status.TheVariants.{Done, Missing, ReadFault}
 use Rattle.denali_cli.specs.Outcomes.{IsReported}
 use Rattle.denali_cli.specs.Replies.{IsFaultFor, IsPastLimit, IsReadFor, IsWithinLimit, Reply, Reports, answered, fault_line, faulty, limit_of, too_long, too_long_line}
-use Rattle.denali_cli.specs.Commands.{Command, Solve, Run}
+use Rattle.denali_cli.specs.Commands.{Command, Solve, Check, Run, Gen}
 
 -- ---- the status of results
 
@@ -34,17 +37,29 @@ all_report s (r ∷ rs) h =
     all_report (greater s (status_of r)) rs
     (one_reports (nat_lt (status_code s) (status_code (status_of r))) s (status_of r) h (result_reports r))
 
+-- the status of the line of a generated goal
+line_reports : (size : ℕ) (r : Answered) (bytes : List ℕ) (status : Status) → IsLineOf size r bytes status → IsReported status
+line_reports size (Scheduled f) bytes status h = subst IsReported (sym h.1) tt
+line_reports size (SpentConflicts t) bytes status h = subst IsReported (sym h.1) tt
+line_reports size (SpentSize l) bytes status h = subst IsReported (sym h.1) tt
+line_reports size (Nowhere m) bytes status h = absurd h
+line_reports size (NoWorld class a b) bytes status h = absurd h
+
 -- the status of a report
 pub reports_report : (command : Command) (text written : List ℕ) (status : Status) → Reports command text written status
     → IsReported status
 reports_report (Solve s) text written status a = subst IsReported (sym a.status_is) (all_report Done a.results tt)
+reports_report Check text written status a = subst IsReported (sym a.status_is) (one_reports a.rejected Done Missing tt tt)
 reports_report Run text written status a = subst IsReported (sym a.done) tt
+reports_report (Gen size) text written status a = line_reports size a.answered written status a.line
 
 -- what was reported on has a reading
 reports_read : (command : Command) (text written : List ℕ) (status : Status) → Reports command text written status
     → IsReadFor command text
 reports_read (Solve s) text written status a = (a.input, a.reads)
+reports_read Check text written status a = (a.answer, a.reads)
 reports_read Run text written status a = (a.program, a.reads)
+reports_read (Gen size) text written status a = tt
 
 fault_is_none : (status : Status) → status ≡ ReadFault → IsReported status → ⊥
 fault_is_none status is reported = subst IsReported is reported
@@ -64,6 +79,10 @@ pub record Laws : Type 0 where
       → IsFirstTextFault text place kind → ⊥
   pub goals_once : (text : List ℕ) (place other : ℕ) (kind another : Kind) → IsFirstTextFault text place kind
       → IsFirstTextFault text other another → (place ≡ other) × (kind ≡ another)
+  pub answers_apart : (text : List ℕ) (answer : AnswerText) (place : ℕ) (kind : Kind) → ReadsAnswer text answer
+      → IsAnswerFault text place kind → ⊥
+  pub answers_once : (text : List ℕ) (place other : ℕ) (kind another : Kind) → IsAnswerFault text place kind
+      → IsAnswerFault text other another → (place ≡ other) × (kind ≡ another)
   pub programs_apart : (text : List ℕ) (run : RunText) (place : ℕ) (kind : Kind) → ReadsRun text run
       → IsRunFault text place kind → ⊥
   pub programs_once : (text : List ℕ) (place other : ℕ) (kind another : Kind) → IsRunFault text place kind
@@ -73,13 +92,17 @@ module _ (laws : Laws) where
   apart : (command : Command) (text : List ℕ) (place : ℕ) (kind : Kind) → IsReadFor command text
       → IsFaultFor command text place kind → ⊥
   apart (Solve s) text place kind read first = laws.goals_apart text read.0 place kind read.1 first
+  apart Check text place kind read first = laws.answers_apart text read.0 place kind read.1 first
   apart Run text place kind read first = laws.programs_apart text read.0 place kind read.1 first
+  apart (Gen size) text place kind read first = absurd first
 
   once : (command : Command) (text : List ℕ) (place other : ℕ) (kind another : Kind)
       → IsFaultFor command text place kind → IsFaultFor command text other another
       → (place ≡ other) × (kind ≡ another)
   once (Solve s) text place other kind another f g = laws.goals_once text place other kind another f g
+  once Check text place other kind another f g = laws.answers_once text place other kind another f g
   once Run text place other kind another f g = laws.programs_once text place other kind another f g
+  once (Gen size) text place other kind another f g = absurd f
 
   module _ (command : Command) (text written : List ℕ) (status : Status) where
     abbrev HasFault : Type 0

@@ -1,4 +1,4 @@
--- What the options of `solve` take for values, and the settings that they give. Source: this project.
+-- What options take for values, and what stands where they aren't set. Source: this project.
 use Rattle.std.specs.Prelude.{ℕ, List, None, Some, codes, decimal, nat_lt, not, ◌≤◌, ◌&&◌, if◌then◌else◌, unwrap_or, IfSome}
 use Rattle.std.specs.Str.Parse.{digits_value}
 use Rattle.std.specs.declared.option.Option.{Option}
@@ -30,6 +30,15 @@ conflicts_of = value_in 1 1000000
 
 abbrev pub pick_of : List ℕ → Option Pick
 pick_of word = if bytes_eq word (codes "first") then Some First else None
+
+-- how many operators a generated goal has
+abbrev pub size_of : List ℕ → Option ℕ
+size_of = value_in 1 20
+
+abbrev pub default_size : ℕ
+default_size = 10
+
+-- ---- the options of `solve`
 
 abbrev pub no_options : Options
 no_options = record { rounds = None; nodes = None; cycles = None; conflicts = None; pick = None }

@@ -1,6 +1,6 @@
 -- How a run of the program ends: what its words and its input decide, and what of that was written.
 -- Source: this project; `Keeps` and `Appends` are std's.
-use Rattle.std.specs.Prelude.{◌≡◌, ℕ, List, [], None, Some}
+use Rattle.std.specs.Prelude.{◌≡◌, ℕ, List, [], None, Some, IsSome}
 use Rattle.std.specs.declared.option.Option.{Option}
 use Rattle.std.specs.Io.KnownBytes.{Keeps, Appends}
 use Rattle.outside_io.specs.Putting.{AppendsFront}
@@ -20,6 +20,11 @@ abbrev pub Decides : Option Command → Option (List ℕ) → Option (List ℕ) 
 Decides None left left' output status = Keeps left left' × (output ≡ usage_line) × (status ≡ Usage)
 Decides (Some command) left left' output status =
     (text : List ℕ) × ReadsWithin (limit_of command) left left' text × Reply command text output status
+
+-- the words ask for a command that reads
+abbrev pub IsReader : Option Command → Type 0
+IsReader None = ⊥
+IsReader (Some command) = IsSome (limit_of command)
 
 -- nothing was read, and no read failed
 abbrev pub IsUnread : Option (List ℕ) → Option (List ℕ) → ℕ → ℕ → Type 0
@@ -66,7 +71,8 @@ IsReported NoWorld = Unit {0}
 IsReported _ = ⊥
 
 -- The input is within the command's limit, and the command's report on it was written: for `solve` the lines of right
--- results of its goals, for `run` how its program ends.
+-- results of its goals, for `check` the lines of the verdicts on an answer, for `run` how its program ends, for `gen`
+-- the line of a right result of its goal.
 pub record Works (command : Command) (left left' written written' : Option (List ℕ)) (status : Status) : Type 0 where
   pub text : List ℕ
   pub bytes : List ℕ

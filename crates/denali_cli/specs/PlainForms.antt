@@ -4,9 +4,9 @@ use Rattle.std.specs.Prelude.{List, ℕ, [], ◌∷◌, None, Some, codes, if◌
 use Rattle.std.specs.Option.{option_map}
 use Rattle.std.specs.declared.option.Option.{Option}
 use Rattle.std.specs.Str.{bytes_eq}
-use Rattle.denali_cli.specs.Commands.{Command, Solve, Run}
+use Rattle.denali_cli.specs.Commands.{Command, Solve, Check, Run, Gen}
 use Rattle.denali_cli.specs.declared.options.Options.{Options}
-use Rattle.denali_cli.specs.OptionValues.{rounds_of, nodes_of, cycles_of, conflicts_of, pick_of, no_options, settings_of}
+use Rattle.denali_cli.specs.OptionValues.{rounds_of, nodes_of, cycles_of, conflicts_of, pick_of, no_options, settings_of, size_of, default_size}
 
 -- the value for an option that wasn't set before
 abbrev pub once : {A : Type 0} → Option A → Option A → Option A
@@ -43,12 +43,23 @@ abbrev pub alone : Command → List (List ℕ) → Option Command
 alone command [] = Some command
 alone command (word ∷ words) = None
 
+-- the size that the words of `gen` set
+abbrev pub size_in : List (List ℕ) → Option ℕ
+size_in [] = Some default_size
+size_in (name ∷ []) = None
+size_in (name ∷ value ∷ []) = if bytes_eq name (codes "--size") then size_of value else None
+size_in (name ∷ value ∷ word ∷ words) = None
+
 -- the command of words in plain form; none for other words
 abbrev pub plain_command : List (List ℕ) → Option Command
 plain_command [] = None
 plain_command (name ∷ words) =
     if bytes_eq name (codes "solve")
     then option_map (λ o. Solve (settings_of o)) (set_options no_options words)
+    else if bytes_eq name (codes "check")
+    then alone Check words
     else if bytes_eq name (codes "run")
     then alone Run words
+    else if bytes_eq name (codes "gen")
+    then option_map (λ size. Gen size) (size_in words)
     else None

@@ -1,24 +1,30 @@
 -- What a command and the bytes read are answered by.
 -- Source: this project.
-use Rattle.std.specs.Prelude.{◌≡◌, ℕ, ◌<◌, ◌≤◌, List, ◌++◌, length, Option, Some, codes, decimal}
+use Rattle.std.specs.Prelude.{◌≡◌, ℕ, ◌<◌, ◌≤◌, List, ◌++◌, length, Option, None, Some, codes, decimal}
+use Rattle.answer_texts.specs.ReadAnswers.{IsAnswerFault, ReadsAnswer}
+use Rattle.answer_texts.specs.declared.answers.AnswerText.{AnswerText}
 use Rattle.goal_reader.specs.Grammar.{IsFirstTextFault, Reads}
 use Rattle.goal_reader.specs.Views.{InputTree}
 use Rattle.run_texts.specs.RunFaults.{IsRunFault, ReadsRun}
 use Rattle.run_texts.specs.declared.texts.RunText.{RunText}
 use Rattle.text_core.specs.Faults.{fault_text}
 use Rattle.text_core.specs.declared.faults.Kind.{Kind}
+use Rattle.denali_run.specs.GeneratedAnswers.{AnswersGenerated}
 use Rattle.denali_run.specs.TextAnswers.{Answers}
+use Rattle.denali_run.specs.TextChecks.{ChecksText}
 use Rattle.denali_run.specs.TextRuns.{RunsText}
 use Rattle.denali_run.specs.declared.reports.TextError.{TextError}
 use Rattle.denali_run.specs.declared.reports.TextError.TheVariants.{Read, Memory}
 use Rattle.denali_run.specs.declared.statuses.Status.{Status}
 use Rattle.denali_run.specs.declared.statuses.Status.TheVariants.{ReadFault}
-use Rattle.denali_cli.specs.Commands.{Command, Solve, Run}
+use Rattle.denali_cli.specs.Commands.{Command, Solve, Check, Run, Gen}
 
--- how many bytes a command reads at most, if it reads
+-- how many bytes a command reads at most, if it reads; an answer may be long
 abbrev pub limit_of : Command → Option ℕ
 limit_of (Solve s) = Some 1048576
+limit_of Check = Some 268435456
 limit_of Run = Some 1048576
+limit_of (Gen size) = None
 
 -- the text is longer than the command reads
 abbrev pub IsPastLimit : Command → List ℕ → Type 0
@@ -38,22 +44,28 @@ fault_line place kind = fault_text (record { place = place; kind = kind }) ++ co
 abbrev pub usage_line : List ℕ
 usage_line = codes "usage\n"
 
--- ---- each command's texts
+-- ---- each command's texts; a command that doesn't read has the empty one, which is no fault
 
 -- the text has a reading for the command
 abbrev pub IsReadFor : Command → List ℕ → Type 0
 IsReadFor (Solve s) text = (input : InputTree) × Reads text input
+IsReadFor Check text = (answer : AnswerText) × ReadsAnswer text answer
 IsReadFor Run text = (program : RunText) × ReadsRun text program
+IsReadFor (Gen size) text = Unit {0}
 
 -- the text's first fault for the command
 abbrev pub IsFaultFor : Command → List ℕ → ℕ → Kind → Type 0
 IsFaultFor (Solve s) text place kind = IsFirstTextFault text place kind
+IsFaultFor Check text place kind = IsAnswerFault text place kind
 IsFaultFor Run text place kind = IsRunFault text place kind
+IsFaultFor (Gen size) text place kind = ⊥
 
 -- the command's report on a text, and its status
 abbrev pub Reports : Command → List ℕ → List ℕ → Status → Type 0
 Reports (Solve s) text bytes status = Answers s text bytes status
+Reports Check text bytes status = ChecksText text bytes status
 Reports Run text bytes status = RunsText text bytes status
+Reports (Gen size) text bytes status = AnswersGenerated size bytes status
 
 -- why a command has no report on a text
 abbrev pub ErrorIs : Command → List ℕ → TextError → Type 0

@@ -2,14 +2,14 @@
 -- matches that clap defines for such a command. Source: this project, over clap's own definitions of which words a
 -- command takes and what it matches.
 use Rattle.std.specs.Prelude.{Bool, true, false, List, [], ◌∷◌, None, Some, codes, if◌then◌else◌}
-use Rattle.std.specs.Option.{option_map, option_and_then}
+use Rattle.std.specs.Option.{option_map, option_and_then, unwrap_or}
 use Rattle.std.specs.declared.option.Option.{Option}
 use Rattle.std.specs.Str.{bytes_eq}
 use Rattle.clap.specs.Words.{App, Kinds, Row, Rule, Text, fault_of, first_of, new_app, new_rule, subcommand_of, with_rule, with_subcommand}
 use Rattle.clap.specs.declared.builder.action.ArgAction.TheVariants.{Set}
-use Rattle.denali_cli.specs.Commands.{Command, Solve, Run}
+use Rattle.denali_cli.specs.Commands.{Command, Solve, Check, Run, Gen}
 use Rattle.denali_cli.specs.declared.options.Options.{Options}
-use Rattle.denali_cli.specs.OptionValues.{rounds_of, nodes_of, cycles_of, conflicts_of, pick_of, settings_of}
+use Rattle.denali_cli.specs.OptionValues.{rounds_of, nodes_of, cycles_of, conflicts_of, pick_of, settings_of, size_of, default_size}
 
 -- ---- the program
 
@@ -25,13 +25,20 @@ abbrev pub solve_app : App
 solve_app = with_options (new_app (codes "solve"))
     (codes "rounds" ∷ codes "nodes" ∷ codes "cycles" ∷ codes "conflicts" ∷ codes "pick" ∷ [])
 
+abbrev pub gen_app : App
+gen_app = with_options (new_app (codes "gen")) (codes "size" ∷ [])
+
 -- the words are those after the program's name, and one of them is to name a subcommand
 abbrev pub of_words : App → App
 of_words a = record a { top = record a.top { no_binary_name = true; subcommand_required = true } }
 
+abbrev pub with_commands : App → List App → App
+with_commands a [] = a
+with_commands a (command ∷ commands) = with_commands (with_subcommand a command.top) commands
+
 abbrev pub program : App
-program =
-    with_subcommand (with_subcommand (of_words (new_app (codes "denali"))) solve_app.top) (new_app (codes "run")).top
+program = with_commands (of_words (new_app (codes "denali")))
+    (solve_app ∷ new_app (codes "check") ∷ new_app (codes "run") ∷ gen_app ∷ [])
 
 -- clap finds no fault
 abbrev pub is_taken : Kinds → Bool
@@ -65,11 +72,16 @@ options_in rows =
 abbrev pub solve_in : List Row → Option Command
 solve_in rows = option_map (λ o. Solve (settings_of o)) (options_in rows)
 
+abbrev pub gen_in : List Row → Option Command
+gen_in rows = option_map (λ size. Gen (unwrap_or size default_size)) (given size_of (first_of (codes "size") rows))
+
 -- the command of a subcommand with these matches
 abbrev pub command_in : Text × List Row → Option Command
 command_in m =
     if bytes_eq m.0 (codes "solve") then solve_in m.1
+    else if bytes_eq m.0 (codes "check") then Some Check
     else if bytes_eq m.0 (codes "run") then Some Run
+    else if bytes_eq m.0 (codes "gen") then gen_in m.1
     else None
 
 -- the command that the words ask for as clap reads them

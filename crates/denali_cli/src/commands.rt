@@ -6,6 +6,10 @@ use denali_run::Settings;
 pub(crate) enum Command {
     /// Answers a text of goals.
     Solve(Settings),
+    /// Tests what an answer claims.
+    Check,
     /// Runs the program of a text.
     Run,
+    /// Solves the goal that is made from a number of operators.
+    Gen(u32),
 }

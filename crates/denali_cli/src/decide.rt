@@ -1,24 +1,26 @@
 // What is to be written, before any of it is.
-ghost use Rattle.std.specs.Prelude.{◌≡◌, ◌≢◌, ◌≤◌, ◌++◌, None, Some, IfOk, OnOk, decimal, length, IsErrOf, IfErr, IsSome};
+ghost use Rattle.std.specs.Prelude.{◌≡◌, ◌≢◌, ◌≤◌, ◌++◌, None, Some, IfOk, OnOk, decimal, length, IsErrOf, IfErr, IfSome};
 ghost use Rattle.outside_io.specs.Causes.{IsCounted};
-ghost use Rattle.denali_cli.specs.Commands.{IsWithinLimits};
+ghost use Rattle.denali_cli.specs.Commands.{Command as Asked, IsWithinLimits};
 ghost use Rattle.denali_cli.specs.Said.{asked_by};
 ghost use Rattle.denali_cli.specs.Replies as replies;
-ghost use Rattle.denali_cli.specs.Replies.{ErrorIs, Reports, fault_line, too_long_line};
+ghost use Rattle.denali_cli.specs.Replies.{ErrorIs, IsWithinLimit, Reply, Reports, fault_line, too_long_line};
 ghost use Rattle.denali_cli.specs.declared.decide.Stop.TheVariants as stops;
-ghost use Rattle.denali_cli.specs.Outcomes.{Decides, IsUnread, IsWhole, Takes};
+ghost use Rattle.denali_cli.specs.Outcomes.{Decides, IsReader, IsUnread, IsWhole, Takes};
 
 use crate::commands::Command;
 use crate::words::asked;
-use denali_run::{Report, Status, TextError, run_text, solve_text};
+use denali_run::{Report, Status, TextError, check_text, gen_text, run_text, solve_text};
 use items::NoMemory;
 use itoa::Buffer;
 use outside_io::{ReadAllFault, Source, read_all};
 use std::alloc::Global;
 use text_core::Fault;
 
-/// How many bytes each command reads at most.
+/// How many bytes a command that reads takes at most: a text of goals or of a program, and an answer.
 const LIMIT: u32 = 1048576;
+
+const ANSWER_LIMIT: u32 = 268435456;
 
 /// `fault LIMIT TooLong`, for an input of more bytes.
 fn too_long(alloc: Global, limit: u32) -> Result<Report, Stop>
@@ -74,33 +76,61 @@ fn faulty(alloc: Global, fault: Fault) -> Result<Report, Stop>
     })
 }
 
-/// How many bytes a command reads at most.
-fn limit_of(command: Command) -> u32
-    ensures limit { replies.limit_of command ≡ Some result }
-    ensures small { result ≤ 1048576 }
+/// How many bytes a command reads at most, if it reads.
+fn limit_of(command: Command) -> Option<u32>
+    ensures limit { result ≡ replies.limit_of command }
+    ensures small { IfSome result (λ limit. limit ≤ 268435456) }
 {
     match command {
-        Command::Solve(_) => LIMIT,
-        Command::Run => LIMIT,
+        Command::Solve(_) => Some(LIMIT),
+        Command::Check => Some(ANSWER_LIMIT),
+        Command::Run => Some(LIMIT),
+        Command::Gen(_) => None,
     }
 }
 
 /// The command's report on a text.
 fn report_on(alloc: Global, command: Command, text: &[u8]) -> Result<Report, TextError>
     requires command { IsWithinLimits command }
-    requires few { length text.now ≤ 1048576 }
+    requires few { length text.now ≤ 268435456 }
     ensures reports { IfOk result (λ r. Reports command text.now r.bytes.items r.status) }
     ensures error { IfErr result (ErrorIs command text.now) }
 {
     match command {
         Command::Solve(settings) => solve_text(alloc, text, &settings),
+        Command::Check => check_text(alloc, text),
         Command::Run => run_text(alloc, text),
+        Command::Gen(size) => Ok(gen_text(alloc, size)?),
     }
 }
 
-/// Reading, text and work of a command, in this order. The first that fails decides.
-fn work<S: Source>(alloc: Global, command: Command, source: &mut S) -> Result<Report, Stop>
+/// The command's report on a text within its limit, or the line of the text's first fault.
+fn answer(alloc: Global, command: Command, text: &[u8]) -> Result<Report, Stop>
     requires command { IsWithinLimits command }
+    requires few { length text.now ≤ 268435456 }
+    requires within { IsWithinLimit command text.now }
+    ensures reply { IfOk result (λ r. Reply command text.now r.bytes.items r.status) }
+    ensures whole { IfOk result (λ r. IsWhole r.status) }
+    ensures not_usage { IfOk result (λ r. r.status ≢ Status.Usage) }
+    ensures err { IfErr result (λ e. e ≡ Stop.Memory) }
+{
+    match report_on(alloc, command, text) {
+        Ok(report) => Ok(report),
+        Err(TextError::Read(fault)) => faulty(alloc, fault),
+        Err(TextError::Memory) => Err(Stop::Memory),
+    }
+}
+
+/// Reading, text and work of a command that reads so many bytes at most, in this order. The first that fails decides.
+fn work_on_input<S: Source>(
+    alloc: Global,
+    command: Command,
+    limit: u32,
+    source: &mut S,
+) -> Result<Report, Stop>
+    requires command { IsWithinLimits command }
+    requires limit { replies.limit_of command ≡ Some limit }
+    requires small { limit ≤ 268435456 }
     ensures decided { IfOk result (λ r. Decides (Some command) (S.left source.old) (S.left source.new)
         r.bytes.items r.status) }
     ensures whole { IfOk result (λ r. IsWhole r.status) }
@@ -110,17 +140,33 @@ fn work<S: Source>(alloc: Global, command: Command, source: &mut S) -> Result<Re
     ensures memory { IsErrOf result Stop.Memory → S.faults source.new ≡ S.faults source.old }
     ensures fault { IsErrOf result Stop.SourceFault → IsCounted (S.faults source.old) (S.faults source.new) }
 {
-    let limit = limit_of(command);
     let text = match read_all(alloc, source, limit) {
         Ok(text) => text,
         Err(ReadAllFault::SourceFault) => return Err(Stop::SourceFault),
         Err(ReadAllFault::TooLong) => return too_long(alloc, limit),
         Err(ReadAllFault::Memory) => return Err(Stop::Memory),
     };
-    match report_on(alloc, command, &text) {
-        Ok(report) => Ok(report),
-        Err(TextError::Read(fault)) => faulty(alloc, fault),
-        Err(TextError::Memory) => Err(Stop::Memory),
+    answer(alloc, command, &text)
+}
+
+/// The work of a command, which reads first where it reads at all.
+fn work<S: Source>(alloc: Global, command: Command, source: &mut S) -> Result<Report, Stop>
+    requires command { IsWithinLimits command }
+    ensures decided { IfOk result (λ r. Decides (Some command) (S.left source.old) (S.left source.new)
+        r.bytes.items r.status) }
+    ensures whole { IfOk result (λ r. IsWhole r.status) }
+    ensures not_usage { IfOk result (λ r. r.status ≢ Status.Usage) }
+    ensures taken { Takes (Some command) (S.left source.old) (S.left source.new) }
+    ensures unread { replies.limit_of command ≡ None
+        → IsUnread (S.left source.old) (S.left source.new) (S.faults source.old) (S.faults source.new) }
+    ensures asked { IsErrOf result Stop.SourceFault → IsReader (Some command) }
+    ensures no_fault { OnOk result (S.faults source.new ≡ S.faults source.old) }
+    ensures memory { IsErrOf result Stop.Memory → S.faults source.new ≡ S.faults source.old }
+    ensures fault { IsErrOf result Stop.SourceFault → IsCounted (S.faults source.old) (S.faults source.new) }
+{
+    match limit_of(command) {
+        Some(limit) => work_on_input(alloc, command, limit, source),
+        None => answer(alloc, command, b""),
     }
 }
 
@@ -136,8 +182,10 @@ pub(crate) fn decide<S: Source>(
     ensures usage { IfOk result (λ r. r.status ≡ Status.Usage → asked_by words.now ≡ None) }
     ensures words_first { asked_by words.now ≡ None
         → IsUnread (S.left source.old) (S.left source.new) (S.faults source.old) (S.faults source.new) }
+    ensures unread { (command : Asked) → asked_by words.now ≡ Some command → replies.limit_of command ≡ None
+        → IsUnread (S.left source.old) (S.left source.new) (S.faults source.old) (S.faults source.new) }
     ensures taken { Takes (asked_by words.now) (S.left source.old) (S.left source.new) }
-    ensures asked { IsErrOf result Stop.SourceFault → IsSome (asked_by words.now) }
+    ensures asked { IsErrOf result Stop.SourceFault → IsReader (asked_by words.now) }
     ensures no_fault { OnOk result (S.faults source.new ≡ S.faults source.old) }
     ensures memory { IsErrOf result Stop.Memory → S.faults source.new ≡ S.faults source.old }
     ensures fault { IsErrOf result Stop.SourceFault → IsCounted (S.faults source.old) (S.faults source.new) }

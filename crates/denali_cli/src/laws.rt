@@ -7,6 +7,7 @@ ghost use Rattle.denali_cli.specs.Commands.{Command as Asked};
 ghost use Rattle.denali_cli.specs.Outcomes.{IsReported};
 ghost use Rattle.denali_cli.specs.Replies.{IsFaultFor, IsPastLimit, IsReadFor, IsWithinLimit, Reply, Reports, fault_line, limit_of, too_long_line};
 
+use answer_texts::one_answer;
 use goal_reader::{texts_have_one_first_fault, texts_have_one_reading};
 use run_texts::one_program;
 
@@ -33,5 +34,6 @@ pub fn replies_are_exact()
 {
     texts_have_one_reading();
     texts_have_one_first_fault();
+    one_answer();
     one_program();
 }

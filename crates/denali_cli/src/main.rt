@@ -1,4 +1,4 @@
-//! Does a command's work on the text of standard input, and writes its report to standard output.
+//! Does a command's work, on the text of standard input where it reads, and writes its report to standard output.
 #![tactic(auto)]
 
 mod commands;

@@ -1,4 +1,4 @@
-// The options of `solve`, and their values.
+// Options, and their values.
 ghost use Rattle.std.specs.Prelude.{◌≡◌, ◌≤◌, ◌<◌, ◌^◌, IfSome, IfNone, map};
 ghost use Rattle.denali_run.specs.MatchedGoals.{IsSettings};
 ghost use Rattle.denali_cli.specs.OptionValues as values;
@@ -92,6 +92,21 @@ pub(crate) fn options_of(words: &[&str]) -> Option<Options>
         at += 2;
     }
     Some(options)
+}
+
+/// How many operators a generated goal has where no option says so.
+pub(crate) const DEFAULT_SIZE: u32 = 10;
+
+/// The size that the words of `gen` set.
+pub(crate) fn size_in(words: &[&str]) -> Option<u32>
+    ensures value { result ≡ plain.size_in (map (λ word. word.now) words.now) }
+    ensures within { IfSome result (λ n. (1 ≤ n) × (n ≤ 20)) }
+{
+    match words {
+        [] => Some(DEFAULT_SIZE),
+        [name, value] if *name == "--size" => value_in(1, 20, value),
+        _ => None,
+    }
 }
 
 /// No option is set.

@@ -1,14 +1,14 @@
 // Words in any spelling, by `clap`.
-ghost use Rattle.std.specs.Prelude.{◌≡◌, ◌≤◌, ◌<◌, ◌^◌, IfOk, IfSome, false, map};
+ghost use Rattle.std.specs.Prelude.{◌≡◌, ◌≤◌, ◌<◌, ◌^◌, IfOk, IfSome, false, map, codes, ◌∷◌, []};
 ghost use Rattle.std.specs.Option.{option_and_then};
-ghost use Rattle.clap.specs.Words.{app_of, first_of, found_of, rows_of, subcommand_rows_of, with_rule};
+ghost use Rattle.clap.specs.Words.{app_of, first_of, found_of, new_app, rows_of, subcommand_rows_of, with_rule};
 ghost use Rattle.clap.specs.declared.builder.command.Command.TheViews.{out-Command as fields_of};
 ghost use Rattle.denali_cli.specs.Commands.{IsWithinLimits};
 ghost use Rattle.denali_cli.specs.OptionValues as values;
 ghost use Rattle.denali_cli.specs.Spellings as spec;
 
 use crate::commands::Command;
-use crate::options::{Options, pick_of, settings_of, value_in};
+use crate::options::{DEFAULT_SIZE, Options, pick_of, settings_of, value_in};
 use clap::error::ErrorKind;
 use clap::{Arg, ArgAction, ArgMatches, Command as Parser};
 use denali_run::Pick;
@@ -40,16 +40,36 @@ fn solve_parser<'a>(alloc: Global) -> Result<Parser<'a>, NoMemory>
     with_option(alloc, solve, "pick")
 }
 
-/// The program, for words without its name.
-fn program<'a>(alloc: Global) -> Result<Parser<'a>, NoMemory>
-    ensures { IfOk result (λ c. app_of c ≡ spec.program) }
+/// `gen` with its option.
+fn gen_parser<'a>(alloc: Global) -> Result<Parser<'a>, NoMemory>
+    ensures app { IfOk result (λ c. app_of c ≡ spec.gen_app) }
+    ensures local { IfOk result (λ c. (fields_of c).has_globals ≡ false) }
+{
+    with_option(alloc, Parser::new(alloc, "gen"), "size")
+}
+
+/// The program with the two commands on goals and answers, for words without its name.
+fn first_commands<'a>(alloc: Global) -> Result<Parser<'a>, NoMemory>
+    ensures { IfOk result (λ c. app_of c
+        ≡ spec.with_commands (spec.of_words (new_app (codes "denali"))) (spec.solve_app ∷ new_app (codes "check") ∷ [])) }
 {
     let solve = solve_parser(alloc)?;
     Parser::new(alloc, "denali")
         .no_binary_name(true)
         .subcommand_required(true)
         .subcommand(solve)?
-        .subcommand(Parser::new(alloc, "run"))
+        .subcommand(Parser::new(alloc, "check"))
+}
+
+/// The program with all its commands.
+fn program<'a>(alloc: Global) -> Result<Parser<'a>, NoMemory>
+    ensures { IfOk result (λ c. app_of c ≡ spec.program) }
+{
+    let first = first_commands(alloc)?;
+    let generator = gen_parser(alloc)?;
+    first
+        .subcommand(Parser::new(alloc, "run"))?
+        .subcommand(generator)
 }
 
 /// The number that an option is given, within two bounds.
@@ -103,6 +123,15 @@ fn solve_in(matches: &ArgMatches<'_>) -> Option<Command>
     Some(Command::Solve(settings_of(options)))
 }
 
+/// The command of `gen` with the size that is given.
+fn gen_in(matches: &ArgMatches<'_>) -> Option<Command>
+    ensures value { result ≡ spec.gen_in (rows_of (found_of matches.now)) }
+    ensures within { IfSome result IsWithinLimits }
+{
+    let size = number_given(matches, "size", 1, 20)?;
+    Some(Command::Gen(size.unwrap_or(DEFAULT_SIZE)))
+}
+
 /// The command that the matches name.
 fn command_in(matches: &ArgMatches<'_>) -> Option<Command>
     ensures value { result ≡ option_and_then spec.command_in (subcommand_rows_of matches.now) }
@@ -111,8 +140,12 @@ fn command_in(matches: &ArgMatches<'_>) -> Option<Command>
     let (name, matches) = matches.subcommand()?;
     if name == "solve" {
         solve_in(matches)
+    } else if name == "check" {
+        Some(Command::Check)
     } else if name == "run" {
         Some(Command::Run)
+    } else if name == "gen" {
+        gen_in(matches)
     } else {
         None
     }

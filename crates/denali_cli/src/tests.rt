@@ -2,7 +2,9 @@
 ghost use Rattle.std.specs.Prelude.{◌≤◌};
 
 mod answers;
+mod checks;
 mod faults;
+mod generated;
 mod programs;
 mod streams;
 mod words;

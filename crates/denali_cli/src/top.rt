@@ -1,10 +1,11 @@
 // The top call.
-ghost use Rattle.std.specs.Prelude.{◌≡◌, None, Some, IsSome};
+ghost use Rattle.std.specs.Prelude.{◌≡◌, None, Some};
 ghost use Rattle.std.specs.Io.KnownBytes.{Keeps};
 ghost use Rattle.outside_io.specs.Causes.{IsCounted};
 ghost use Rattle.denali_cli.specs.Commands.{Command as Asked};
 ghost use Rattle.denali_cli.specs.Said.{asked_by};
-ghost use Rattle.denali_cli.specs.Outcomes.{IsReported, IsUnread, IsWhole, Takes, Works, Writes, WritesFront};
+ghost use Rattle.denali_cli.specs.Outcomes.{IsReader, IsReported, IsUnread, IsWhole, Takes, Works, Writes, WritesFront};
+ghost use Rattle.denali_cli.specs.Replies.{limit_of};
 
 use crate::decide::{Stop, decide};
 use denali_run::Status;
@@ -29,16 +30,20 @@ pub fn run<S: Source, T: Sink>(
     // values where the answer says, in each world in which the axioms and its assumptions hold and from any registers
     // and memory, within the printed cycles of the table's slots and latencies; the printed graph holds every equality
     // that the printed rounds derive, and no schedule of it fits in fewer cycles, as the printed lines show for one cycle
-    // less. Where none is found, lines show that none fits in the most cycles that were asked for. For `run` the input
-    // reads as a program, and the report is how it ends.
+    // less. Where none is found, lines show that none fits in the most cycles that were asked for. For `check` the
+    // input reads as an answer, whoever wrote it, and the report is a line for each of its goals: `ok` only where what it
+    // claims of the printed graph is true. For `run` the input reads as a program, and the report is how it ends. For
+    // `gen` the report is the line of a right result of the goal that is made from the size.
     ensures right { (command : Asked) → asked_by words.now ≡ Some command → IsReported result → Works command
         (S.left source.old) (S.left source.new) (T.written sink.old) (T.written sink.new) result }
 
-    // Words come first: where they ask for nothing, nothing is read.
+    // Words come first: where they ask for nothing, or for a command that doesn't read, nothing is read.
     ensures words_first { asked_by words.now ≡ None
         → IsUnread (S.left source.old) (S.left source.new) (S.faults source.old) (S.faults source.new) }
+    ensures unread { (command : Asked) → asked_by words.now ≡ Some command → limit_of command ≡ None
+        → IsUnread (S.left source.old) (S.left source.new) (S.faults source.old) (S.faults source.new) }
     ensures taken { Takes (asked_by words.now) (S.left source.old) (S.left source.new) }
-    ensures asked { result ≡ Status.SourceFault → IsSome (asked_by words.now) }
+    ensures asked { result ≡ Status.SourceFault → IsReader (asked_by words.now) }
 
     // Refusals for memory and for a source or a sink that failed, and what they leave.
     ensures memory { result ≡ Status.Memory → Keeps (T.written sink.old) (T.written sink.new) }

@@ -7,7 +7,7 @@ ghost use Rattle.denali_cli.specs.PlainForms.{plain_command};
 ghost use Rattle.denali_cli.specs.Said.{asked_by};
 
 use crate::commands::Command;
-use crate::options::{options_of, settings_of};
+use crate::options::{options_of, settings_of, size_in};
 use crate::spelling::spelled;
 use items::NoMemory;
 use std::alloc::Global;
@@ -34,8 +34,13 @@ fn in_plain_form(words: &[&str]) -> Option<Command>
     if *name == "solve" {
         let options = options_of(words)?;
         Some(Command::Solve(settings_of(options)))
+    } else if *name == "check" {
+        alone(Command::Check, words)
     } else if *name == "run" {
         alone(Command::Run, words)
+    } else if *name == "gen" {
+        let size = size_in(words)?;
+        Some(Command::Gen(size))
     } else {
         None
     }

@@ -1,6 +1,6 @@
 // What some words ask for, by the definitions.
 ghost use Rattle.std.specs.Prelude.{◌≡◌, [], ◌∷◌, None, Some, codes};
-ghost use Rattle.denali_cli.specs.Commands.{Solve, Run};
+ghost use Rattle.denali_cli.specs.Commands.{Solve, Check, Run, Gen};
 ghost use Rattle.denali_cli.specs.OptionValues.{no_options, settings_of};
 ghost use Rattle.denali_cli.specs.Said.{command_of};
 ghost use Rattle.denali_cli.specs.Spellings.{spelled_command};
@@ -17,9 +17,18 @@ pub fn worked_words()
     ensures plain { spelled_command (codes "solve" ∷ codes "--nodes" ∷ codes "7" ∷ codes "--rounds" ∷ codes "0" ∷ [])
         ≡ command_of (codes "solve" ∷ codes "--nodes" ∷ codes "7" ∷ codes "--rounds" ∷ codes "0" ∷ []) }
     ensures bare { spelled_command (codes "solve" ∷ []) ≡ command_of (codes "solve" ∷ []) }
+    ensures checks { command_of (codes "check" ∷ []) ≡ Some Check }
+    ensures no_option_of_checks { command_of (codes "check" ∷ codes "--cycles=3" ∷ []) ≡ None }
     ensures runs { command_of (codes "run" ∷ []) ≡ Some Run }
     ensures runs_behind_dashes { command_of (codes "run" ∷ codes "--" ∷ []) ≡ Some Run }
     ensures no_option_of_runs { command_of (codes "run" ∷ codes "--rounds" ∷ codes "3" ∷ []) ≡ None }
+    ensures generates { command_of (codes "gen" ∷ []) ≡ Some (Gen 10) }
+    ensures generates_size { command_of (codes "gen" ∷ codes "--size" ∷ codes "3" ∷ []) ≡ Some (Gen 3) }
+    ensures joined_size { command_of (codes "gen" ∷ codes "--size=3" ∷ []) ≡ Some (Gen 3) }
+    ensures no_options_of_solve { command_of (codes "gen" ∷ codes "--rounds" ∷ codes "3" ∷ []) ≡ None }
+    ensures size_below { command_of (codes "gen" ∷ codes "--size" ∷ codes "0" ∷ []) ≡ None }
+    ensures size_above { command_of (codes "gen" ∷ codes "--size=21" ∷ []) ≡ None }
+    ensures size_twice { command_of (codes "gen" ∷ codes "--size=3" ∷ codes "--size=3" ∷ []) ≡ None }
     ensures out_of_range { command_of (codes "solve" ∷ codes "--rounds=17" ∷ []) ≡ None }
     ensures leading_zero { command_of (codes "solve" ∷ codes "--rounds=03" ∷ []) ≡ None }
     ensures no_value { command_of (codes "solve" ∷ codes "--rounds" ∷ []) ≡ None }

@@ -7,6 +7,8 @@ returns c =
     let laws : Laws = record {
       goals_apart = c.texts_have_one_reading.ensures.apart;
       goals_once = c.texts_have_one_first_fault.ensures;
+      answers_apart = c.one_answer.ensures.apart;
+      answers_once = c.one_answer.ensures.first;
       programs_apart = c.one_program.ensures.apart;
       programs_once = c.one_program.ensures.first;
     } in

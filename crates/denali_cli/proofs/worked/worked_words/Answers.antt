@@ -2,7 +2,7 @@
 use Rattle.std.proofs.Common.{◌≡◌, [], ◌∷◌, None, Some, codes, refl}
 use Rattle.std.specs.Fmt.{digits}
 use Rattle.clap.proofs.OnLiterals.{clap_on_literals}
-use Rattle.denali_cli.specs.Commands.{Solve, Run}
+use Rattle.denali_cli.specs.Commands.{Solve, Check, Run, Gen}
 use Rattle.denali_cli.specs.OptionValues.{no_options, settings_of}
 use Rattle.denali_cli.specs.Said.{command_of}
 use Rattle.denali_cli.specs.Spellings.{matched, spelled_command}
@@ -32,6 +32,14 @@ bare : spelled_command (codes "solve" ∷ []) ≡ command_of (codes "solve" ∷ 
 unfolding clap_on_literals matched digits
 bare = refl
 
+checks : command_of (codes "check" ∷ []) ≡ Some Check
+unfolding clap_on_literals matched digits
+checks = refl
+
+no_option_of_checks : command_of (codes "check" ∷ codes "--cycles=3" ∷ []) ≡ None
+unfolding clap_on_literals matched digits
+no_option_of_checks = refl
+
 runs : command_of (codes "run" ∷ []) ≡ Some Run
 unfolding clap_on_literals matched digits
 runs = refl
@@ -43,6 +51,34 @@ runs_behind_dashes = refl
 no_option_of_runs : command_of (codes "run" ∷ codes "--rounds" ∷ codes "3" ∷ []) ≡ None
 unfolding clap_on_literals matched digits
 no_option_of_runs = refl
+
+generates : command_of (codes "gen" ∷ []) ≡ Some (Gen 10)
+unfolding clap_on_literals matched digits
+generates = refl
+
+generates_size : command_of (codes "gen" ∷ codes "--size" ∷ codes "3" ∷ []) ≡ Some (Gen 3)
+unfolding clap_on_literals matched digits
+generates_size = refl
+
+joined_size : command_of (codes "gen" ∷ codes "--size=3" ∷ []) ≡ Some (Gen 3)
+unfolding clap_on_literals matched digits
+joined_size = refl
+
+no_options_of_solve : command_of (codes "gen" ∷ codes "--rounds" ∷ codes "3" ∷ []) ≡ None
+unfolding clap_on_literals matched digits
+no_options_of_solve = refl
+
+size_below : command_of (codes "gen" ∷ codes "--size" ∷ codes "0" ∷ []) ≡ None
+unfolding clap_on_literals matched digits
+size_below = refl
+
+size_above : command_of (codes "gen" ∷ codes "--size=21" ∷ []) ≡ None
+unfolding clap_on_literals matched digits
+size_above = refl
+
+size_twice : command_of (codes "gen" ∷ codes "--size=3" ∷ codes "--size=3" ∷ []) ≡ None
+unfolding clap_on_literals matched digits
+size_twice = refl
 
 out_of_range : command_of (codes "solve" ∷ codes "--rounds=17" ∷ []) ≡ None
 unfolding clap_on_literals matched digits
@@ -111,9 +147,18 @@ returns c = record {
   dashes = dashes;
   plain = plain;
   bare = bare;
+  checks = checks;
+  no_option_of_checks = no_option_of_checks;
   runs = runs;
   runs_behind_dashes = runs_behind_dashes;
   no_option_of_runs = no_option_of_runs;
+  generates = generates;
+  generates_size = generates_size;
+  joined_size = joined_size;
+  no_options_of_solve = no_options_of_solve;
+  size_below = size_below;
+  size_above = size_above;
+  size_twice = size_twice;
   out_of_range = out_of_range;
   leading_zero = leading_zero;
   no_value = no_value;
