@@ -1,5 +1,5 @@
 -- What the merge's code does, step by step, over plain lists.
-use Rattle.std.proofs.Common.{◌≡◌, ℕ, ◌<◌, List, map, length, get_or, remove, refl, sym, ap, ◌∙◌, subst, subst₂, inl, inr, arith}
+use Rattle.std.proofs.Common.{◌≡◌, ℕ, ◌<◌, ◌^◌, List, map, length, get_or, remove, refl, sym, ap, ◌∙◌, subst, subst₂, inl, inr, arith}
 use Rattle.std.proofs.lemmas.List.{length-map, get_or-map}
 use Rattle.std.proofs.lemmas.List.Elements.{Contains-get_or}
 use Rattle.word_terms.specs.Signature.{Signature}
@@ -8,7 +8,7 @@ use Rattle.egraph.specs.Graph.{Graph, IsGraph, HasOneConstantEach}
 use Rattle.egraph.specs.Joined.{Joined, kept, pair, back, through, relabel, IsMerged, Clash}
 use Rattle.egraph.specs.Steps.{moved, AgreesAt, HasTwoConstants}
 use Rattle.egraph.proofs.Lists.{some_at, moved_cases, moved_to, at_map}
-use Rattle.egraph.proofs.Merging.{IsMerging, MayJoin, joined_up, step, start, agreeing_may_join, drop_twin, has_made, has_present, row_made, current_has}
+use Rattle.egraph.proofs.Merging.{IsMerging, MayJoin, joined_up, step, start, agreeing_may_join, drop_twin, has_made, has_present, row_made, current_has, joined_made}
 
 moved_from : (from to : ℕ) → moved from to from ≡ to
 moved_from from to = elim (moved_cases from to from) [ inl h ↦ h.1 | inr h ↦ absurd (h.0 refl) ]
@@ -91,6 +91,10 @@ module _ {O : Type 0} (s : Signature O) (old : Graph O) (is : IsGraph s old) (a 
         second_joined = subst (Joined old a b v.0.class) cv (m.sound v.0.class (row_made s old is v.0 v.1));
         differ = h.differ;
       }
+
+  -- the class of a clash was made
+  pub clash_low : a < length old.current → b < length old.current → {class x y : ℕ} → Clash s old a b class x y → class < 2 ^ 31
+  clash_low la lb h = let l = (joined_made s old is a b la lb h.first_joined).1 in omega (arith, l, is.few)
 
 pub pair_kept : (f : ℕ → ℕ) (current current' : List ℕ) (a b : ℕ) → a < length current → b < length current → current' ≡ map f current → get_or current a 0 ≡ get_or current b 0 → get_or current' a 0 ≡ get_or current' b 0
 pair_kept f current current' a b la lb e p =

@@ -73,7 +73,7 @@ relabel-relabel : {O : Type 0} (f h : ℕ → ℕ) (r : Row O) → relabel f (re
 relabel-relabel f h r = let e = map-map f h r.operands in cc
 
 module _ {O : Type 0} (s : Signature O) (old : Graph O) (is : IsGraph s old) (a b : ℕ) where
-  joined_made : a < length old.current → b < length old.current → {x y : ℕ} → Joined old a b x y → (x < length old.current) × (y < length old.current)
+  pub joined_made : a < length old.current → b < length old.current → {x y : ℕ} → Joined old a b x y → (x < length old.current) × (y < length old.current)
   joined_made la lb (kept x y lx ly e) = (lx, ly)
   joined_made la lb pair = (la, lb)
   joined_made la lb (back j) = let h = joined_made la lb j in (h.1, h.0)

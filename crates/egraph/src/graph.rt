@@ -6,7 +6,7 @@ ghost use Rattle.egraph.specs.Graph.{IsGraph, AreMade, read_through, HasRow, Lac
 ghost use Rattle.egraph.specs.Sorts.{IsOfSort, KeepsSorts, FitOperator, AreOfOneSort};
 ghost use Rattle.egraph.specs.Joined.{relabel, IsMerged, Clash};
 ghost use Rattle.egraph.specs.Values.{KeepsValues, ExtendsValues, JoinedHaveOneValue};
-ghost use Rattle.egraph.specs.Faults.{FaultIs};
+ghost use Rattle.egraph.specs.Faults.{FaultIs, NamesLowClass};
 ghost use Rattle.egraph.specs.Steps.{moved};
 
 use crate::constants::{find_clash, find_constant};
@@ -145,6 +145,7 @@ impl<O: Operator> Egraph<O> {
         ensures no_clash { OnOk result ((class x y : ℕ) → ¬ Clash O.signature self a b class x y) }
         ensures graph { IfOk result (IsGraph O.signature) }
         ensures fault { IfErr result (FaultIs O.signature self a b) }
+        ensures low { IfErr result NamesLowClass }
     {
         let mut rows = self.rows;
         let mut current = self.current;

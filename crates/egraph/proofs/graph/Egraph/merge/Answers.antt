@@ -7,7 +7,7 @@ use Rattle.egraph.specs.Joined.{relabel}
 use Rattle.egraph.specs.Steps.{moved, AgreesAt, HasTwoConstants}
 use Rattle.egraph.proofs.Lists.{row_at}
 use Rattle.egraph.proofs.Merging.{IsMerging, is_graph, is_merged}
-use Rattle.egraph.proofs.MergeSteps.{first_step, next_step, pair_after_first, pair_kept, clash_from, no_clash}
+use Rattle.egraph.proofs.MergeSteps.{first_step, next_step, pair_after_first, pair_kept, clash_from, clash_low, no_clash}
 use Rattle.egraph.proofs.KeptValues.{keeps_values, joined_have_one_value}
 use Rattle.egraph.proofs.Sorts.{merge_keeps_sorts}
 use Rattle.egraph.proofs.graph.Egraph.merge.Goals as goal
@@ -78,6 +78,10 @@ returns-in-Some-find_clash-clause-fault g c =
     let class = c.in-Some-find_clash.class in
     let two : HasTwoConstants s rs class x y = subst (λ xs. HasTwoConstants s xs class x y) c.deref-2.ensures.value c.in-Some-find_clash.ensures in
     clash_from s c.args.self c.loop-first.invariant.graph c.args.a c.args.b new c.loop-first.invariant.merging class x y two
+
+pub returns-in-Some-find_clash-clause-low : goal.returns-in-Some-find_clash-clause-low
+returns-in-Some-find_clash-clause-low g c =
+    clash_low g.O.Operator.signature c.args.self c.loop-first.invariant.graph c.args.a c.args.b c.requires.a_made c.requires.b_made (returns-in-Some-find_clash-clause-fault g c)
 
 pub returns-in-None-clause-merged : goal.returns-in-None-clause-merged
 returns-in-None-clause-merged g c =
