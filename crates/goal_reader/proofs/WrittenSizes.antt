@@ -1,8 +1,11 @@
--- What is written has no more operators than its form has atoms, and a text no more atoms than bytes.
-use Rattle.std.proofs.Common.{◌≡◌, ℕ, zero, suc, ◌+◌, ◌<◌, ◌≤◌, ◌++◌, length, get_or, Option, List, [], ◌∷◌, refl, ap, ◌∙◌, arith}
+-- Five signs at least are written for each four operators, and a text has no more signs than bytes. A sign is an atom or
+-- a list's parenthesis.
+use Rattle.std.proofs.Common.{◌≡◌, ℕ, zero, suc, ◌+◌, ◌*◌, ◌<◌, ◌≤◌, ◌++◌, length, get_or, Option, List, [], ◌∷◌, refl, ap, arith}
 use Rattle.std.specs.Option.{option_map_or}
+use Rattle.word_ops.specs.Meanings.{arity_of_op}
 use Rattle.word_ops.specs.declared.sorts.Op.{Op}
 use Rattle.word_ops.specs.declared.sorts.Sort.{Sort}
+use Rattle.word_terms.specs.Laws.{op_takes_at_most_four}
 use Rattle.word_terms.specs.OperatorsIn.{operators_in, operators_in_all}
 use Rattle.word_terms.specs.Tree.{Tree, Trees}
 use Rattle.forms.specs.Forms.{Form, Forms, atom, list, none, more, forms_list, forms_from, Stands, Stand}
@@ -17,45 +20,49 @@ use Rattle.goal_reader.specs.Views.{TwoTrees, TargetTree, GoalTree, AxiomTree, I
 use Rattle.goal_reader.specs.WellFormed.{sum_over, operators_of_sides, operators_of_target, operators_of_goal, operators_of_axiom, operators_of_input}
 
 abbrev mutual
-  pub atoms : Form → ℕ
-  atoms (atom place a) = 1
-  atoms (list place parts) = atoms_of parts
+  pub signs : Form → ℕ
+  signs (atom place a) = 1
+  signs (list place parts) = 1 + signs_of parts
 
-  pub atoms_of : Forms → ℕ
-  atoms_of none = 0
-  atoms_of (more form forms) = atoms form + atoms_of forms
+  pub signs_of : Forms → ℕ
+  signs_of none = 0
+  signs_of (more form forms) = signs form + signs_of forms
 
--- ---- atoms and bytes
+-- ---- signs and bytes
 mutual
-  atoms_within : (low high : ℕ) (f : Form) → Stands low high f → low + atoms f ≤ high
-  atoms_within low high (atom place a) s = let a = s.0 in let b = s.1 in omega (arith, a, b)
-  atoms_within low high (list place parts) s = let a = s.0 in let b = all_within (place + 1) high parts s.1 in omega (arith, a, b)
+  signs_within : (low high : ℕ) (f : Form) → Stands low high f → low + signs f ≤ high
+  signs_within low high (atom place a) s = let a = s.0 in let b = s.1 in omega (arith, a, b)
+  signs_within low high (list place parts) s = let a = s.0 in let b = all_within (place + 1) high parts s.1 in omega (arith, a, b)
 
-  pub all_within : (low high : ℕ) (fs : Forms) → Stand low high fs → low + atoms_of fs ≤ high
+  pub all_within : (low high : ℕ) (fs : Forms) → Stand low high fs → low + signs_of fs ≤ high
   all_within low high none s = omega (arith, s)
   all_within low high (more form forms) s =
-      let a = atoms_within low s.0 form s.1.0 in
+      let a = signs_within low s.0 form s.1.0 in
       let b = all_within s.0 high forms s.1.1 in
       omega (arith, a, b)
 
--- ---- atoms of lists
-pub from_listed : (fs : Forms) → atoms_of fs ≡ sum_over atoms (forms_list fs)
+-- ---- signs of lists
+pub from_listed : (fs : Forms) → signs_of fs ≡ sum_over signs (forms_list fs)
 from_listed none = refl
-from_listed (more form forms) = ap (λ n. atoms form + n) (from_listed forms)
+from_listed (more form forms) = ap (λ n. signs form + n) (from_listed forms)
 
-to_listed : (fs : List Form) → atoms_of (forms_from fs) ≡ sum_over atoms fs
+to_listed : (fs : List Form) → signs_of (forms_from fs) ≡ sum_over signs fs
 to_listed [] = refl
-to_listed (form ∷ forms) = ap (λ n. atoms form + n) (to_listed forms)
+to_listed (form ∷ forms) = ap (λ n. signs form + n) (to_listed forms)
 
-atoms_listed : (word : List ℕ) (parts : List Form) (f : Form) → IsListOf word parts f → atoms f ≡ 1 + sum_over atoms parts
-atoms_listed word parts f is = ap atoms is.is ∙ ap (λ n. 1 + n) (to_listed parts)
+-- the parenthesis and the keyword beside the parts
+signs_listed : (word : List ℕ) (parts : List Form) (f : Form) → IsListOf word parts f → signs f ≡ 2 + sum_over signs parts
+signs_listed word parts f is =
+    let e : signs f ≡ 1 + (1 + signs_of (forms_from parts)) = ap signs is.is in
+    let l = to_listed parts in
+    omega (arith, e, l)
 
-atoms_behind : (fs gs : List Form) → sum_over atoms (fs ++ gs) ≡ sum_over atoms fs + sum_over atoms gs
-atoms_behind [] gs = omega arith
-atoms_behind (f ∷ fs) gs = let e = atoms_behind fs gs in omega (arith, e)
+signs_behind : (fs gs : List Form) → sum_over signs (fs ++ gs) ≡ sum_over signs fs + sum_over signs gs
+signs_behind [] gs = omega arith
+signs_behind (f ∷ fs) gs = let e = signs_behind fs gs in omega (arith, e)
 
 -- ---- what forms write
-each_few : {Y : Type 0} (W : Form → Y → Type 0) (size : Y → ℕ) → ((f : Form) (y : Y) → W f y → size y ≤ atoms f) → (fs : List Form) (ys : List Y) → Each W fs ys → sum_over size ys ≤ sum_over atoms fs
+each_few : {Y : Type 0} (W : Form → Y → Type 0) (size : Y → ℕ) → ((f : Form) (y : Y) → W f y → 5 * size y ≤ 4 * signs f) → (fs : List Form) (ys : List Y) → Each W fs ys → 5 * sum_over size ys ≤ 4 * sum_over signs fs
 each_few W size step _ _ grammar.none = omega arith
 each_few W size step _ _ (more_of {form = f} {forms = fs} {y = y} {ys = ys} one others) =
     let a = step f y one in
@@ -64,69 +71,73 @@ each_few W size step _ _ (more_of {form = f} {forms = fs} {y = y} {ys = ys} one 
 
 module _ (scope : Scope) where
   mutual
-    few_operators : {sort : Sort} {f : Form} {t : Tree Op} → Writes scope sort f t → operators_in t ≤ atoms f
+    few_operators : {sort : Sort} {f : Form} {t : Tree Op} → Writes scope sort f t → 5 * operators_in t ≤ 4 * signs f + 1
     few_operators (memory l) = omega arith
     few_operators (input l) = omega arith
     few_operators (variable l) = omega arith
     few_operators constant = omega arith
-    few_operators (application k s n each) = let a = few_of_all each in omega (arith, a)
+    few_operators (application {op = op} {operands = operands} k s n each) =
+        let a = few_of_all each in
+        let four = op_takes_at_most_four op in
+        let count : length (forms_list operands) ≡ arity_of_op op = n in
+        omega (arith, a, four, count)
 
-    few_of_all : {op : Op} {at : ℕ} {fs : Forms} {ts : Trees Op} → WritesEach scope op at fs ts → operators_in_all ts ≤ atoms_of fs
+    few_of_all : {op : Op} {at : ℕ} {fs : Forms} {ts : Trees Op} → WritesEach scope op at fs ts → 5 * operators_in_all ts ≤ 4 * signs_of fs + length (forms_list fs)
     few_of_all nothing = omega arith
     few_of_all (operand one others) =
         let a = few_operators one in
         let b = few_of_all others in
         omega (arith, a, b)
 
-  assume_few : (f : Form) (a : TwoTrees) → WritesAssume scope f a → operators_of_sides a ≤ atoms f
+  assume_few : (f : Form) (a : TwoTrees) → WritesAssume scope f a → 5 * operators_of_sides a ≤ 4 * signs f
   assume_few f a w =
       let l = few_operators w.left in
       let r = few_operators w.right in
-      let e = atoms_listed _ (w.first ∷ w.second ∷ []) f w.is in
+      let e = signs_listed _ (w.first ∷ w.second ∷ []) f w.is in
       omega (arith, l, r, e)
 
-  guard_few : (fs : List Form) (t : Option (Tree Op)) → WritesGuard scope fs t → option_map_or operators_in t 0 ≤ sum_over atoms fs
+  guard_few : (fs : List Form) (t : Option (Tree Op)) → WritesGuard scope fs t → 5 * option_map_or operators_in t 0 ≤ 4 * sum_over signs fs
   guard_few _ _ unguarded = omega arith
   guard_few _ _ (guarded {form = f} {term = t} one is w) =
       let a = few_operators w in
-      let e = atoms_listed _ (one ∷ []) f is in
+      let e = signs_listed _ (one ∷ []) f is in
       omega (arith, a, e)
 
-  target_few : (f : Form) (t : TargetTree) → WritesTarget scope f t → operators_of_target t ≤ atoms f
+  target_few : (f : Form) (t : TargetTree) → WritesTarget scope f t → 5 * operators_of_target t ≤ 4 * signs f
   target_few f t w =
       let a = few_operators w.value in
-      let e = atoms_listed _ (w.first ∷ w.second ∷ []) f w.is in
+      let e = signs_listed _ (w.first ∷ w.second ∷ []) f w.is in
       omega (arith, a, e)
 
-pub goal_few : (declared : List DeclaredOp) (f : Form) (g : GoalTree) → WritesGoal declared f g → operators_of_goal g ≤ atoms f
+pub goal_few : (declared : List DeclaredOp) (f : Form) (g : GoalTree) → WritesGoal declared f g → 5 * operators_of_goal g ≤ 4 * signs f
 goal_few declared f g w =
     let scope = goal_scope declared g.inputs in
     let a = each_few (WritesAssume scope) operators_of_sides (assume_few scope) w.assumes g.assumes w.assumptions in
     let b = guard_few scope w.whens g.guard w.guard in
     let c = each_few (WritesTarget scope) operators_of_target (target_few scope) w.sets g.sets w.targets in
-    let d = atoms_listed _ (w.name_form ∷ w.ins ++ (w.pools ++ (w.assumes ++ (w.whens ++ w.sets)))) f w.is in
-    let i = atoms_behind w.ins (w.pools ++ (w.assumes ++ (w.whens ++ w.sets))) in
-    let j = atoms_behind w.pools (w.assumes ++ (w.whens ++ w.sets)) in
-    let k = atoms_behind w.assumes (w.whens ++ w.sets) in
-    let l = atoms_behind w.whens w.sets in
+    let d = signs_listed _ (w.name_form ∷ w.ins ++ (w.pools ++ (w.assumes ++ (w.whens ++ w.sets)))) f w.is in
+    let i = signs_behind w.ins (w.pools ++ (w.assumes ++ (w.whens ++ w.sets))) in
+    let j = signs_behind w.pools (w.assumes ++ (w.whens ++ w.sets)) in
+    let k = signs_behind w.assumes (w.whens ++ w.sets) in
+    let l = signs_behind w.whens w.sets in
     omega (arith, a, b, c, d, i, j, k, l)
 
-pub axiom_few : (declared : List DeclaredOp) (f : Form) (a : AxiomTree) → WritesAxiom declared f a → operators_of_axiom a ≤ atoms f
+pub axiom_few : (declared : List DeclaredOp) (f : Form) (a : AxiomTree) → WritesAxiom declared f a → 5 * operators_of_axiom a ≤ 4 * signs f
 axiom_few declared f a w =
     let scope = axiom_scope declared a.variables in
     let l = few_operators scope w.left in
     let r = few_operators scope w.right in
-    let e = atoms_listed _ (list w.place (forms_from w.names) ∷ w.left_form ∷ w.right_form ∷ []) f w.is in
+    let e = signs_listed _ (list w.place (forms_from w.names) ∷ w.left_form ∷ w.right_form ∷ []) f w.is in
     omega (arith, l, r, e)
 
-pub input_few : (fs : List Form) (i : InputTree) → WritesText fs i → operators_of_input i ≤ sum_over atoms fs
+pub input_few : (fs : List Form) (i : InputTree) → WritesText fs i → 5 * operators_of_input i ≤ 4 * sum_over signs fs
 input_few fs i w =
     let a = each_few (WritesAxiom i.ops) operators_of_axiom (axiom_few i.ops) w.axioms i.axioms w.equations in
     let b = each_few (WritesGoal i.ops) operators_of_goal (goal_few i.ops) w.goals i.goals w.all_goals in
-    let d = ap (sum_over atoms) w.are in
-    let j = atoms_behind w.machines (w.ops ++ (w.axioms ++ w.goals)) in
-    let k = atoms_behind w.ops (w.axioms ++ w.goals) in
-    let l = atoms_behind w.axioms w.goals in
+    let d = ap (sum_over signs) w.are in
+    let j = signs_behind w.machines (w.ops ++ (w.axioms ++ w.goals)) in
+    let k = signs_behind w.ops (w.axioms ++ w.goals) in
+    let l = signs_behind w.axioms w.goals in
     omega (arith, a, b, d, j, k, l)
 
 -- one of several is no larger than all

@@ -1,5 +1,5 @@
 // What holds of all texts of goals. The calls do nothing: their clauses are laws.
-ghost use Rattle.std.specs.Prelude.{◌≡◌, ◌<◌, ◌^◌, ℕ, List, [], None, Some, true, false, find, slice_get, length};
+ghost use Rattle.std.specs.Prelude.{◌≡◌, ◌<◌, ◌≤◌, ◌*◌, ◌^◌, ℕ, List, [], None, Some, true, false, find, slice_get, length};
 ghost use Rattle.std.specs.List.{list_any};
 ghost use Rattle.forms.specs.Forms.{Form, forms_of, forms_list};
 ghost use Rattle.goal_reader.specs.Grammar.{IsFirstTextFault, Reads};
@@ -10,7 +10,7 @@ ghost use Rattle.goal_reader.specs.TextFaults.{IsFormFault, role_at, AreClear};
 ghost use Rattle.goal_reader.specs.Holds.{Holds, HoldsFor};
 ghost use Rattle.goal_reader.specs.Outcomes.{exit, fall, is_left, is_memory, new_memory, new_words, outcome};
 ghost use Rattle.goal_reader.specs.Views.{GoalTree, InputTree};
-ghost use Rattle.goal_reader.specs.WellFormed.{IsInput};
+ghost use Rattle.goal_reader.specs.WellFormed.{IsInput, operators_of_input};
 ghost use Rattle.goal_reader.specs.declared.scopes.DeclaredOp.{DeclaredOp};
 ghost use Rattle.text_core.specs.Faults.{IsFirst};
 ghost use Rattle.word_ops.specs.Worlds.{World, memory};
@@ -92,13 +92,21 @@ pub fn printed_inputs_are_read()
     printed_tables_are_read();
 }
 
+/// A text has at least five bytes for each four operators of its terms: each operand takes a byte at least, and an
+/// operator, which has four operands at most, takes a parenthesis beside its name.
+pub fn read_inputs_have_few_operators()
+    ensures { (text : List ℕ) (input : InputTree) → Reads text input → 5 * operators_of_input input ≤ 4 * length text }
+{
+    one_reading();
+}
+
 /// What a text is read as is well formed, where the text has fewer than 2^29 bytes: an operator of a term takes one of
 /// them at least.
 pub fn read_inputs_are_well_formed()
     ensures { (text : List ℕ) (input : InputTree) → length text < 2 ^ 29 → Reads text input → IsInput input }
 {
     one_lexing();
-    one_reading();
     tables_keep_limits();
     printed_tables_are_read();
+    read_inputs_have_few_operators();
 }

@@ -28,8 +28,8 @@ pub use axioms::axiom;
 pub use goals::{Assume, Axiom, Goal, Input, InputReg, Set};
 pub use laws::{
     axioms_hold_for_all_goals, goals_have_outcomes, printed_inputs_are_read,
-    read_inputs_are_well_formed, texts_have_one_first_fault, texts_have_one_reading,
-    the_first_form_decides,
+    read_inputs_are_well_formed, read_inputs_have_few_operators, texts_have_one_first_fault,
+    texts_have_one_reading, the_first_form_decides,
 };
 pub use printing::print;
 pub use reading::read;
