@@ -1,5 +1,5 @@
 -- The first graph of a well-formed goal: what its calls want, and what it is.
-use Rattle.std.proofs.Common.{◌≡◌, ℕ, ◌+◌, ◌<◌, ◌^◌, List, [], ◌∷◌, ◌++◌, map, length, Option, Some, None, IfSome, All, get_or, refl, ◌∙◌, arith}
+use Rattle.std.proofs.Common.{◌≡◌, ℕ, ◌+◌, ◌<◌, ◌≤◌, ◌^◌, List, [], ◌∷◌, ◌++◌, map, length, Option, Some, None, IfSome, All, get_or, refl, ◌∙◌, arith}
 use Rattle.std.specs.Option.{option_map_or}
 use Rattle.std.proofs.lemmas.List.Elements.{All-cons, All-head, All-tail, All-append, All-contains, All-weaker}
 use Rattle.word_ops.specs.Worlds.{word, World, IsWorld}
@@ -14,7 +14,7 @@ use Rattle.goal_reader.specs.Views.{TwoTrees, TargetTree, GoalTree}
 use Rattle.goal_reader.specs.WellFormed.{IsGoal, IsGoalTerm, IsAssume, IsTarget, sum_over, operators_of_sides, operators_of_target}
 use Rattle.goal_reader.specs.declared.goals.InputReg.{InputReg}
 use Rattle.goal_reader.specs.declared.scopes.DeclaredOp.{DeclaredOp}
-use Rattle.saturation.specs.AtStart.{IsSorted, AreSorted, operators_of, CanInsertAll, CanAssumeAll, AssumeFaultOfAll, IsGrownAtStart, StandsAtStart, StartFaultIs, IsHopelessAtStart}
+use Rattle.saturation.specs.AtStart.{IsSorted, AreSorted, operators_of, CanInsertAll, CanAssumeAll, AssumeFaultOfAll, IsGrownAtStart, StandsAtStart, StartFaultIs, IsHopelessAtStart, most_rows_at_start}
 use Rattle.saturation.specs.Derives.{Pair}
 use Rattle.saturation.specs.GoalTerms.{entry_term, input_term, input_terms, assume_terms, guard_terms, set_terms, kept_terms, present_terms, assumed_pair, assumed_pairs}
 use Rattle.saturation.specs.Trace.{AreInserted, AreAssumed}
@@ -131,13 +131,19 @@ module _ (declared : List DeclaredOp) (goal : GoalTree) (is_goal : IsGoal declar
     pub graph_is : (new : Graph Op) → AreAssumed (assumed_pairs goal) middle new → IsGraph op_signature new
     graph_is new assumed = all_assumed_graph assumed im
 
-    pub few_made : (new : Graph Op) → AreAssumed (assumed_pairs goal) middle new → length new.current < 2 ^ 30
-    few_made new assumed =
+    none_made : (new : Graph Op) → AreAssumed (assumed_pairs goal) middle new → length new.current ≡ length middle.current
+    none_made new assumed =
         let of_assumes = all_behind (Placed middle) (entry_term ∷ input_terms goal.inputs) (assume_terms goal.assumes)
         (all_before (Placed middle) ((entry_term ∷ input_terms goal.inputs) ++ assume_terms goal.assumes) (guard_terms goal.guard)
         (all_before (Placed middle) (((entry_term ∷ input_terms goal.inputs) ++ assume_terms goal.assumes) ++ guard_terms goal.guard) (set_terms goal.sets) placed)) in
         let sides = sides_of_all (Placed middle) goal.assumes of_assumes in
-        omega (arith, made, all_assumed_made im assumed sides.0 sides.1)
+        all_assumed_made im assumed sides.0 sides.1
+
+    pub few_made : (new : Graph Op) → AreAssumed (assumed_pairs goal) middle new → length new.current < 2 ^ 30
+    few_made new assumed = omega (arith, made, none_made new assumed)
+
+    pub few_rows : (new : Graph Op) → AreAssumed (assumed_pairs goal) middle new → length new.rows ≤ most_rows_at_start goal
+    few_rows new assumed = let is_new = graph_is new assumed in omega (arith, inserted_few inserted, none_made new assumed, count, is_new.few_rows)
 
     pub grown : (new : Graph Op) → AreAssumed (assumed_pairs goal) middle new → IsGrownAtStart goal new
     grown new assumed axioms = start_is_grown axioms (present_terms goal) (assumed_pairs goal) middle new is inserted assumed

@@ -1,6 +1,6 @@
 -- What the first graph of a goal is, and what a refusal of it shows. From Denali (PLDI 2002), its matching phase, which
 -- begins with the goal's terms.
-use Rattle.std.specs.Prelude.{ℕ, ◌+◌, ◌≤◌, ◌^◌, List, [], length, All}
+use Rattle.std.specs.Prelude.{ℕ, ◌+◌, ◌<◌, ◌≤◌, ◌^◌, List, [], length, All}
 use Rattle.word_ops.specs.Worlds.{World, IsWorld}
 use Rattle.word_ops.specs.declared.sorts.Op.{Op}
 use Rattle.word_ops.specs.declared.sorts.Sort.{Sort}
@@ -13,7 +13,7 @@ use Rattle.egraph.specs.Graph.{Graph, IsGraph}
 use Rattle.egraph.specs.declared.faults.MergeFault.{MergeFault}
 use Rattle.egraph.specs.declared.faults.MergeFault.TheVariants as merging
 use Rattle.goal_reader.specs.Views.{TwoTrees, GoalTree}
-use Rattle.goal_reader.specs.WellFormed.{sum_over, operators_of_sides}
+use Rattle.goal_reader.specs.WellFormed.{sum_over, operators_of_sides, operators_of_goal}
 use Rattle.saturation.specs.Derives.{Pair, IsClash}
 use Rattle.saturation.specs.GoalTerms.{present_terms, kept_terms, assumed_pairs}
 use Rattle.saturation.specs.GraphStands.{GraphStands, RulesHold}
@@ -53,6 +53,15 @@ IsHopelessAtStart goal (NoWorld class a b) =
     RulesHold world names axioms (assumed_pairs goal) →
     ⊥
 IsHopelessAtStart goal Memory = Unit {0}
+
+-- the class that is named was made, so its number is below 2^31
+abbrev pub StartNamesLowClass : StartFault → Type 0
+StartNamesLowClass (NoWorld class a b) = class < 2 ^ 31
+StartNamesLowClass Memory = Unit {0}
+
+-- as many rows as the first graph of a goal has at most: the memory at entry, each input, and each operator of a term
+abbrev pub most_rows_at_start : GoalTree → ℕ
+most_rows_at_start goal = 1 + length goal.inputs + operators_of_goal goal
 
 abbrev pub start_fault : MergeFault → StartFault
 start_fault (merging.NoWorld class a b) = NoWorld class a b

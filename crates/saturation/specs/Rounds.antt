@@ -1,6 +1,6 @@
 -- What rounds together give, why they end, and what a refusal shows. From Denali (PLDI 2002), its matching phase; when
 -- rounds end is this project's.
-use Rattle.std.specs.Prelude.{◌≡◌, ◌≢◌, ℕ, ◌≤◌, List}
+use Rattle.std.specs.Prelude.{◌≡◌, ◌≢◌, ℕ, ◌<◌, ◌≤◌, ◌^◌, List}
 use Rattle.word_ops.specs.Worlds.{World, IsWorld}
 use Rattle.word_ops.specs.declared.sorts.Op.{Op}
 use Rattle.word_terms.specs.Tree.{Tree}
@@ -64,3 +64,8 @@ IsHopeless axioms graph (NoWorld class x y) =
     RulesHold world names axioms equal →
     ⊥
 IsHopeless axioms graph Memory = Unit {0}
+
+-- the class that is named was made, so its number is below 2^31
+abbrev pub RoundsNameLowClass : SaturateFault → Type 0
+RoundsNameLowClass (NoWorld class x y) = class < 2 ^ 31
+RoundsNameLowClass Memory = Unit {0}

@@ -1,12 +1,12 @@
 // The first graph of a goal.
-ghost use Rattle.std.specs.Prelude.{[], ◌∷◌, ◌<◌, ◌^◌, List, length, map, IfOk, IfErr, OnOk, option_map};
+ghost use Rattle.std.specs.Prelude.{[], ◌∷◌, ◌<◌, ◌≤◌, ◌^◌, List, length, map, IfOk, IfErr, OnOk, option_map};
 ghost use Rattle.word_terms.specs.Keys.{op_signature};
 ghost use Rattle.word_terms.specs.View.{tree_of};
 ghost use Rattle.egraph.specs.Graph.{IsGraph};
 ghost use Rattle.goal_reader.specs.Views.{assume_view, goal_view, target_view};
 ghost use Rattle.goal_reader.specs.WellFormed.{IsGoal};
 ghost use Rattle.goal_reader.specs.declared.scopes.DeclaredOp.{DeclaredOp};
-ghost use Rattle.saturation.specs.AtStart.{IsStarted, IsGrownAtStart, StandsAtStart, StartFaultIs, IsHopelessAtStart, CanInsertAll, CanAssume, CanAssumeAll, AssumeFaultIs, AssumeFaultOfAll};
+ghost use Rattle.saturation.specs.AtStart.{IsStarted, IsGrownAtStart, StandsAtStart, StartFaultIs, IsHopelessAtStart, StartNamesLowClass, most_rows_at_start, CanInsertAll, CanAssume, CanAssumeAll, AssumeFaultIs, AssumeFaultOfAll};
 ghost use Rattle.saturation.specs.GoalTerms.{input_terms, assume_terms, guard_terms, set_terms, present_terms, assumed_pair};
 ghost use Rattle.saturation.specs.Trace.{AreInserted, IsAssumed, AreAssumed};
 
@@ -29,8 +29,10 @@ pub fn start(alloc: Global, goal: &Goal) -> Result<Egraph<Op>, StartFault>
     ensures stands { IfOk result (StandsAtStart (goal_view goal.now)) }
     ensures graph { IfOk result (IsGraph op_signature) }
     ensures few { IfOk result (λ g. length g.current < 2 ^ 30) }
+    ensures few_rows { IfOk result (λ g. length g.rows ≤ most_rows_at_start (goal_view goal.now)) }
     ensures fault { IfErr result (StartFaultIs (goal_view goal.now)) }
     ensures hopeless { IfErr result (IsHopelessAtStart (goal_view goal.now)) }
+    ensures low { IfErr result StartNamesLowClass }
 {
     meanings_are_in_range();
     let mut graph = Egraph::new(alloc);
@@ -114,6 +116,7 @@ fn assume_all(
     requires can { CanAssumeAll graph (map assume_view assumes.now) }
     ensures assumed { IfOk result (AreAssumed (map assumed_pair (map assume_view assumes.now)) graph) }
     ensures fault { IfErr result (AssumeFaultOfAll (map assumed_pair (map assume_view assumes.now)) graph) }
+    ensures low { IfErr result StartNamesLowClass }
 {
     let mut graph = graph;
     for assume in assumes {
@@ -126,6 +129,7 @@ fn assume_equal(alloc: Global, graph: Egraph<Op>, assume: &Assume) -> Result<Egr
     requires can { CanAssume graph (assume_view assume.now) }
     ensures assumed { IfOk result (IsAssumed (assumed_pair (assume_view assume.now)) graph) }
     ensures fault { IfErr result (AssumeFaultIs (assumed_pair (assume_view assume.now)) graph) }
+    ensures low { IfErr result StartNamesLowClass }
 {
     let mut graph = graph;
     let left = build(alloc, &mut graph, &assume.left, &[])?;

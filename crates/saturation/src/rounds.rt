@@ -1,7 +1,7 @@
 // Rounds of matching, and when they end.
 ghost use Rattle.std.specs.Prelude.{◌≡◌, ◌≢◌, ◌≤◌, ◌<◌, ◌+◌, ◌^◌, length, map, max, false, MatchOption, IfOk, IfErr};
 ghost use Rattle.saturation.specs.Asking.{StopFits};
-ghost use Rattle.saturation.specs.Rounds.{IsSaturated, KeepsStanding, SaturateFaultIs, IsHopeless};
+ghost use Rattle.saturation.specs.Rounds.{IsSaturated, KeepsStanding, SaturateFaultIs, IsHopeless, RoundsNameLowClass};
 
 use crate::asking::{ask, need_of};
 use crate::faults::SaturateFault;
@@ -55,6 +55,7 @@ pub fn saturate(
     ensures few { IfOk result (λ s. length s.graph.rows ≤ max (length graph.rows) nodes) }
     ensures fault { IfErr result (SaturateFaultIs rules.now.program graph rounds nodes) }
     ensures hopeless { IfErr result (IsHopeless rules.now.program graph) }
+    ensures low { IfErr result RoundsNameLowClass }
 {
     schemes_are_true();
     constants_are_numbered();
