@@ -8,7 +8,7 @@ use Rattle.run_texts.specs.RunFaults.{IsRunFault, ReadsRun}
 use Rattle.run_texts.specs.declared.texts.RunText.{RunText}
 use Rattle.text_core.specs.declared.faults.Kind.{Kind}
 use Rattle.denali_run.specs.Statuses.{status_code}
-use Rattle.denali_run.specs.GeneratedAnswers.{IsLineOf}
+use Rattle.denali_run.specs.GeneratedAnswers.{IsGeneratedLine}
 use Rattle.denali_run.specs.TextAnswers.{greater, status_of}
 use Rattle.denali_run.specs.declared.results.Answered.{Answered}
 use Rattle.denali_run.specs.declared.results.Answered.TheVariants.{Scheduled, Nowhere, SpentConflicts, SpentSize, NoWorld}
@@ -38,7 +38,7 @@ all_report s (r ∷ rs) h =
     (one_reports (nat_lt (status_code s) (status_code (status_of r))) s (status_of r) h (result_reports r))
 
 -- the status of the line of a generated goal
-line_reports : (size : ℕ) (r : Answered) (bytes : List ℕ) (status : Status) → IsLineOf size r bytes status → IsReported status
+line_reports : (size : ℕ) (r : Answered) (bytes : List ℕ) (status : Status) → IsGeneratedLine size r bytes status → IsReported status
 line_reports size (Scheduled f) bytes status h = subst IsReported (sym h.1) tt
 line_reports size (SpentConflicts t) bytes status h = subst IsReported (sym h.1) tt
 line_reports size (SpentSize l) bytes status h = subst IsReported (sym h.1) tt

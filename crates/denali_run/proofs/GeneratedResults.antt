@@ -7,7 +7,7 @@ use Rattle.word_ops.specs.Worlds.{IsWorld, World}
 use Rattle.goal_reader.specs.Holds.{HoldsFor}
 use Rattle.goal_reader.specs.Views.{InputTree}
 use Rattle.generated_goals.specs.Generated.{generated_goal, generated_input}
-use Rattle.denali_run.specs.GeneratedAnswers.{AnswersGenerated, IsLineOf, generated_settings}
+use Rattle.denali_run.specs.GeneratedAnswers.{AnswersGenerated, IsGeneratedLine, generated_settings}
 use Rattle.denali_run.specs.Right.{Right}
 use Rattle.denali_run.specs.declared.reports.Report.{Report}
 use Rattle.denali_run.specs.declared.results.Answered.{Answered}
@@ -41,7 +41,7 @@ one_right size s input results answered same is right at =
 
 pub line_answers : (size : ℕ) (answered : Answered) (result : Result Report AllocError)
     → Right Wide (generated_input size) (generated_goal size) generated_settings answered
-    → IfOk result (λ r. IsLineOf size answered r.bytes.items r.status)
+    → IfOk result (λ r. IsGeneratedLine size answered r.bytes.items r.status)
     → IfOk result (λ r. AnswersGenerated size r.bytes.items r.status)
 line_answers size answered (Ok r) right line = record { answered = answered; right = right; line = line }
 line_answers size answered (Err e) right line = tt

@@ -6,6 +6,7 @@ pub mod Computing
 pub mod GeneratedResults
 pub mod LineWords
 pub mod LinesApart
+pub mod PrintableAnswers
 pub mod PrintedAnswers
 pub mod ReadAnswers
 pub mod ReadBackLaws
@@ -16,4 +17,6 @@ pub mod SameGraphs
 pub mod SameLaunches
 pub mod SameParts
 pub mod SameRefutations
+pub mod SmallTexts
+pub mod TargetPlaces
 pub mod WorkedGoals

@@ -1,11 +1,8 @@
 -- The lines of right results can be lines.
-use Rattle.std.proofs.Common.{◌≡◌, ℕ, ◌+◌, ◌-◌, ◌<◌, ◌≤◌, ◌^◌, ◌⊎◌, inl, inr, ◌&&◌, cond, Bool, true, false, not, List, [], ◌∷◌, length, take, map, get_or, refl, sym, subst, arith, codes, decimal, Option, Some, None}
-use Rattle.std.specs.Prelude.{All, slice_index, position, count_by}
+use Rattle.std.proofs.Common.{◌≡◌, ℕ, ◌+◌, ◌-◌, ◌<◌, ◌≤◌, ◌^◌, List, [], ◌∷◌, length, map, get_or, refl, sym, subst, arith, codes, decimal, Option, Some, None}
+use Rattle.std.specs.Prelude.{All}
 use Rattle.std.specs.List.{AllZip}
-use Rattle.std.specs.Option.{option_map_or}
-use Rattle.std.proofs.lemmas.Bool.{cases_lt}
-use Rattle.std.proofs.lemmas.List.{get_or_past}
-use Rattle.std.proofs.lemmas.List.Elements.{All-head, All-tail, All-map, All-weaker, All-filter}
+use Rattle.std.proofs.lemmas.List.Elements.{All-head, All-tail}
 use Rattle.alpha_encode.specs.Decoded.{decoded}
 use Rattle.alpha_encode.specs.declared.instructions.Instr.{Instr}
 use Rattle.cnf_core.specs.declared.line.Line.{Line}
@@ -13,24 +10,22 @@ use Rattle.cnf_core.specs.declared.line.Lines.{Lines}
 use Rattle.goal_reader.specs.Views.{GoalTree, InputTree}
 use Rattle.goal_reader.specs.WellFormed.{IsGoal, IsInput}
 use Rattle.launch_graph.specs.GraphLines.{graph_lines, said}
-use Rattle.launch_graph.specs.Graphs.{input_register, is_memory_name}
 use Rattle.launch_graph.specs.WellFormed.{IsLaunchGraph}
 use Rattle.launch_graph.specs.declared.graphs.LaunchGraph.{LaunchGraph}
-use Rattle.launch_graph.specs.declared.graphs.SetClass.{SetClass}
 use Rattle.machine_table.specs.declared.tables.Slot.{Slot}
 use Rattle.machine_table.specs.declared.tables.Table.{Table}
 use Rattle.refutation_check.specs.LineWords.{IsReadableLine, line_words}
-use Rattle.register_assign.specs.Listings.{IsListing, is_zero, or_register, register_at, target_register, word_targets}
+use Rattle.register_assign.specs.Listings.{IsListing}
 use Rattle.register_assign.specs.Outcomes.{instrs_of}
 use Rattle.register_assign.specs.declared.listings.Item.{Item}
 use Rattle.register_assign.specs.declared.listings.Where.{Where}
 use Rattle.saturation.specs.declared.rounds.Stop.{Stop}
 use Rattle.saturation.specs.declared.rounds.Stop.TheVariants.{Quiet, Rounds, Full}
-use Rattle.schedule_meaning.specs.Launches.{gives, gives_word, launches}
 use Rattle.schedule_meaning.specs.declared.schedules.Launch.{Launch}
 use Rattle.text_core.specs.LineTexts.{CanBeLine}
 use Rattle.text_core.specs.Lines.{IsLineWord}
 use Rattle.text_core.specs.Names.{IsName}
+use Rattle.answer_texts.specs.AnswerParts.{IsPlace}
 use Rattle.answer_texts.specs.AnswerLines.{launch_words, refute_lines, stop_name, text_words, where_words, word_words}
 use Rattle.denali_run.proofs.ResultLines.{answered_lines, below_lines, goal_lines, goals_lines, matched_lines}
 use Rattle.denali_run.specs.MatchedGoals.{IsMatched, IsSettings}
@@ -46,56 +41,12 @@ use Rattle.denali_run.proofs.ReadBackLaws.{Laws}
 use Rattle.denali_run.proofs.SameLaunches.{IsPlaced, name_at, any_slot, are_placed}
 use Rattle.denali_run.proofs.SameParts.{head_same, rest_same}
 use Rattle.denali_run.proofs.SameRefutations.{readable}
+use Rattle.denali_run.proofs.TargetPlaces.{are_places}
 
 module _ (laws : Laws) where
-  -- ---- the names and registers of targets
+  -- ---- the places of targets
 
   module _ (g : LaunchGraph) (is : IsLaunchGraph g) where
-    in_pool : (pool : List ℕ) (n : ℕ) (b : (n < length pool) ⊎ (length pool ≤ n)) → All (λ r. r < 31) pool
-        → slice_index pool n < 32
-    in_pool pool n (inl lt) each = (let low : slice_index pool n < 31 = each n 0 lt in omega (arith, low))
-    in_pool pool n (inr past) each = subst (λ r. r < 32) (sym (get_or_past pool n 0 past)) (omega arith)
-
-    at_place : (ordered : List Launch) (o : Option ℕ) → option_map_or (register_at g ordered) o 31 < 32
-    at_place ordered None = omega arith
-    at_place ordered (Some i) =
-        in_pool g.pool (count_by (launches g gives_word) (take i ordered))
-        (cases_lt (count_by (launches g gives_word) (take i ordered)) (length g.pool)) is.pool
-
-    by_input : (class r : ℕ) (o : Option ℕ) → input_register g class ≡ o → r < 32 → or_register o r < 32
-    by_input class r None e low = low
-    by_input class r (Some n) e low = (let small = (laws.registers g class n is e).0 in omega (arith, small))
-
-    by_zero : (b : Bool) (r : ℕ) → r < 32 → cond b 31 r < 32
-    by_zero true r low = omega arith
-    by_zero false r low = low
-
-    -- the register of a target is one of the 32
-    target_low : (ordered : List Launch) (class : ℕ) → target_register g ordered class < 32
-    target_low ordered class =
-        by_zero (is_zero g class)
-        (or_register (input_register g class)
-        (option_map_or (register_at g ordered) (position (λ (l : Launch). gives g class l && true) ordered) 31))
-        (by_input class
-        (option_map_or (register_at g ordered) (position (λ (l : Launch). gives g class l && true) ordered) 31)
-        (input_register g class) refl
-        (at_place ordered (position (λ (l : Launch). gives g class l && true) ordered)))
-
-    abbrev IsPlace : Where → Type 0
-    IsPlace w = IsName w.name × (w.reg < 32)
-
-    abbrev place_of : List Launch → SetClass → Where
-    place_of ordered s = record { name = s.name; reg = target_register g ordered s.class }
-
-    are_places : (table : Table) (ls : List Launch) (items : List Item) (wheres : List Where)
-        → IsListing g table ls items wheres → All IsPlace wheres
-    are_places table ls items wheres listing =
-        subst (All IsPlace) (sym listing.wheres_are)
-        (All-map IsPlace (place_of listing.ordered) (word_targets g)
-        (All-weaker (λ (s : SetClass). IsName s.name) (λ (s : SetClass). IsPlace (place_of listing.ordered s))
-        (λ s named. (named, target_low listing.ordered s.class)) (word_targets g)
-        (All-filter (λ (s : SetClass). not (is_memory_name s.name)) (λ (s : SetClass). IsName s.name) g.sets is.names.1)))
-
     place_line : (w : Where) → IsPlace w → CanBeLine (where_words w)
     place_line w place =
         can_be
@@ -106,7 +57,7 @@ module _ (laws : Laws) where
     pub where_lines : (table : Table) (ls : List Launch) (items : List Item) (wheres : List Where)
         → IsListing g table ls items wheres → CanBeLines (map where_words wheres)
     where_lines table ls items wheres listing =
-        lines_of where_words IsPlace place_line wheres (are_places table ls items wheres listing)
+        lines_of where_words IsPlace place_line wheres (are_places laws.registers g is table ls items wheres listing)
 
   -- ---- launches and words
 
@@ -257,7 +208,7 @@ module _ (laws : Laws) where
         a_line
         (can_be
         (a_word (record { some = λ e. cc; printed = refl })
-        (a_word (let low : class < 2 ^ 32 = right.1 in laws.number class (omega (arith, low)))
+        (a_word (let low : class < 2 ^ 31 = right.1 in laws.number class (omega (arith, low)))
         (a_word (laws.number a right.2) (a_word (laws.number b right.3) no_words)))))
         no_lines
 

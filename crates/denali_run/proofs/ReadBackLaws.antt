@@ -6,19 +6,18 @@ use Rattle.alpha_encode.specs.Formats.{IsWellFormed, encoded}
 use Rattle.alpha_encode.specs.declared.instructions.Instr.{Instr}
 use Rattle.cnf_core.specs.declared.line.Line.{Line as Row}
 use Rattle.launch_graph.specs.GraphLines.{graph_lines, said}
-use Rattle.launch_graph.specs.Graphs.{input_register}
-use Rattle.launch_graph.specs.WellFormed.{IsLaunchGraph, ClassHasSort}
+use Rattle.launch_graph.specs.WellFormed.{IsLaunchGraph}
 use Rattle.launch_graph.specs.declared.graphs.LaunchGraph.{LaunchGraph}
 use Rattle.refutation_check.specs.LineWords.{IsReadableLine, line_words}
 use Rattle.text_core.specs.LineTexts.{CanBeLine, lines_text, placed_lines, words_of_lines}
 use Rattle.text_core.specs.Lines.{Line, AreLines, IsLineWord}
 use Rattle.text_core.specs.Names.{IsName}
-use Rattle.word_ops.specs.declared.sorts.Sort.TheVariants as sorts
 use Rattle.denali_run.proofs.LineWords.{NumbersAreWords, OperatorsAreListed}
 use Rattle.denali_run.proofs.LinesApart.{PrintedAreLines, LinesAreOne}
 use Rattle.denali_run.proofs.SameGraphs.{GraphsAreOne}
 use Rattle.denali_run.proofs.SameLaunches.{SlotsAreThere}
 use Rattle.denali_run.proofs.SameRefutations.{AcceptedAreReadable, WordsAreOneLine}
+use Rattle.denali_run.proofs.TargetPlaces.{RegistersAreLow}
 
 pub record Laws : Type 0 where
   pub number : NumbersAreWords
@@ -30,8 +29,7 @@ pub record Laws : Type 0 where
   pub operators : OperatorsAreListed
   pub forth : (word : ℕ) (instr : Instr) → word < 2 ^ 32 → decoded word ≡ Some instr
       → IsWellFormed instr × (encoded instr ≡ word)
-  pub registers : (g : LaunchGraph) (class register : ℕ) → IsLaunchGraph g → input_register g class ≡ Some register
-      → (register < 31) × ClassHasSort g sorts.Word class
+  pub registers : RegistersAreLow
   pub graph_words : (g : LaunchGraph) → IsLaunchGraph g → All CanBeLine (graph_lines (said g))
   pub graphs : GraphsAreOne
   pub slots : SlotsAreThere

@@ -9,7 +9,7 @@ use Rattle.goal_reader.specs.Views.{GoalTree, InputTree}
 use Rattle.launch_graph.specs.GraphLines.{graph_lines, said}
 use Rattle.machine_table.specs.declared.tables.Table.{Table}
 use Rattle.text_core.specs.LineTexts.{Words}
-use Rattle.denali_run.specs.ClaimedResults.{answer_of, claimed, encoding_number, goals_claimed}
+use Rattle.denali_run.specs.ClaimedResults.{answer_to, claimed, encoding_number, goals_claimed}
 use Rattle.denali_run.specs.declared.results.Answered.{Answered}
 use Rattle.denali_run.specs.declared.results.Answered.TheVariants.{Scheduled, Nowhere, SpentConflicts, SpentSize, NoWorld}
 use Rattle.denali_run.specs.declared.results.Encoding.{Encoding}
@@ -94,6 +94,6 @@ abbrev pub whole_head : Encoding → InputTree → List Words
 whole_head e input = head_lines 1 (encoding_number e) input.table input.builtin
 
 pub same_answer : (e : Encoding) (input : InputTree) (results : List Answered)
-    → whole_head e input ++ goals_lines input.table input.goals results ≡ answer_lines (answer_of e input results)
+    → whole_head e input ++ goals_lines input.table input.goals results ≡ answer_lines (answer_to e input results)
 same_answer e input results =
     ap (λ t. whole_head e input ++ t) (same_goals input.table input.goals results)

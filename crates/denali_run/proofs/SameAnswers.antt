@@ -226,8 +226,8 @@ module _ (laws : Laws) where
         → Right e input goal s (NoWorld other c d) → noworld_words class a b ∷ x ≡ noworld_words other c d ∷ y
         → (NoWorld class a b ≡ NoWorld other c d) × (x ≡ y)
     noworld_once class a b other c d x y p o same =
-        let low : class < 2 ^ 32 = p.1 in
-        let less : other < 2 ^ 32 = o.1 in
+        let low : class < 2 ^ 31 = p.1 in
+        let less : other < 2 ^ 31 = o.1 in
         let both = cons_same (noworld_words class a b) (noworld_words other c d) x y same in
         let all = rest_same (codes "noworld") (codes "noworld") (decimal class ∷ decimal a ∷ decimal b ∷ [])
         (decimal other ∷ decimal c ∷ decimal d ∷ []) both.0 in

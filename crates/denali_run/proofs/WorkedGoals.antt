@@ -8,6 +8,7 @@ use Rattle.word_ops.specs.Worlds.{World, IsWorld}
 use Rattle.word_ops.specs.declared.sorts.Op.{Op}
 use Rattle.axiom_base.specs.Rewrites.{Rewrite}
 use Rattle.egraph.specs.Graph.{Graph}
+use Rattle.egraph.specs.declared.rows.Row.{Row}
 use Rattle.machine_table.specs.declared.tables.Table.{Table}
 use Rattle.saturation.specs.declared.rounds.Stop.{Stop}
 use Rattle.goal_reader.specs.Holds.{HoldsFor}
@@ -15,16 +16,17 @@ use Rattle.goal_reader.specs.Printing.{declared_name}
 use Rattle.goal_reader.specs.Views.{GoalTree, InputTree, goal_view}
 use Rattle.goal_reader.specs.declared.goals.Goal.{Goal}
 use Rattle.launch_graph.specs.WellFormed.{IsLaunchGraph}
+use Rattle.launch_graph.specs.declared.graphs.LaunchRow.{LaunchRow}
 use Rattle.saturation.specs.GraphStands.{GraphStands, RulesHold}
 use Rattle.saturation.specs.Grown.{IsGrown}
 use Rattle.saturation.specs.GoalTerms.{assumed_pairs, kept_terms, present_terms, rules_of}
-use Rattle.saturation.specs.Rounds.{IsSaturated, IsHopeless, SaturateFaultIs, StopIs}
+use Rattle.saturation.specs.Rounds.{IsSaturated, IsHopeless, RoundsNameLowClass, SaturateFaultIs, StopIs}
 use Rattle.saturation.specs.StandsFor.{StandsFor, graph_view}
 use Rattle.saturation.specs.declared.faults.SaturateFault.{SaturateFault}
 use Rattle.saturation.specs.declared.faults.SaturateFault.TheVariants as rounds
 use Rattle.denali_run.specs.MatchedGoals.{IsClashOf, IsMatched}
 use Rattle.denali_run.specs.Right.{HasNoWorld, Right}
-use Rattle.saturation.specs.AtStart.{IsHopelessAtStart, StartFaultIs}
+use Rattle.saturation.specs.AtStart.{IsHopelessAtStart, StartFaultIs, StartNamesLowClass, most_rows_at_start}
 use Rattle.denali_run.specs.Trials.{IsNoWorldAtStart, IsNoWorldInRounds}
 use Rattle.denali_run.specs.declared.results.Answered.{Answered}
 use Rattle.denali_run.specs.declared.results.Answered.TheVariants.{Scheduled, Nowhere, SpentConflicts, SpentSize, NoWorld}
@@ -45,63 +47,67 @@ module _ (input : InputTree) (goal : GoalTree) (s : Settings) (rules_true : Rule
   named : (a b x y : ℕ) → x ≡ a → y ≡ b → HasNoWorld input goal s a b → HasNoWorld input goal s x y
   named a b x y e f h = subst (λ n. HasNoWorld input goal s n y) (sym e) (subst (HasNoWorld input goal s a) (sym f) h)
 
+  low_class : (class c : ℕ) → class < 2 ^ 31 → c ≡ class → c < 2 ^ 31
+  low_class class c low e = omega (arith, low, e)
+
   at_start : (fault : StartFault) (answered : Answered) → StartFaultIs goal fault → IsHopelessAtStart goal fault
-      → IsNoWorldAtStart fault answered → Right Wide input goal s answered
-  at_start (start.NoWorld class a b) (NoWorld c x y) h hopeless e = (
-    named a b x y e.0 e.1 (record {
+      → StartNamesLowClass fault → IsNoWorldAtStart fault answered → Right Wide input goal s answered
+  at_start (start.NoWorld class a b) (NoWorld c x y) h hopeless low e = (
+    named a b x y e.1 e.2 (record {
       round = 0;
       reached = (omega arith, λ i lt. absurd (omega (arith, lt)));
       clash = h (rules_of input);
       nowhere = λ world is holds. hopeless (declared_name input.ops) (rules_of input) world is
           (rules_true world is holds);
     }),
-    e.2,
+    low_class class c low e.0,
     e.3,
     e.4,
   )
-  at_start (start.NoWorld class a b) (Scheduled f) h hopeless e = absurd e
-  at_start (start.NoWorld class a b) (Nowhere f) h hopeless e = absurd e
-  at_start (start.NoWorld class a b) (SpentConflicts f) h hopeless e = absurd e
-  at_start (start.NoWorld class a b) (SpentSize f) h hopeless e = absurd e
-  at_start start.Memory answered h hopeless e = absurd e
+  at_start (start.NoWorld class a b) (Scheduled f) h hopeless low e = absurd e
+  at_start (start.NoWorld class a b) (Nowhere f) h hopeless low e = absurd e
+  at_start (start.NoWorld class a b) (SpentConflicts f) h hopeless low e = absurd e
+  at_start (start.NoWorld class a b) (SpentSize f) h hopeless low e = absurd e
+  at_start start.Memory answered h hopeless low e = absurd e
 
   pub start_refused : {E : Type 0} (fault : StartFault) (r : Result Answered E) → StartFaultIs goal fault
-      → IsHopelessAtStart goal fault → IfOk r (IsNoWorldAtStart fault) → IfOk r (Right Wide input goal s)
-  start_refused fault (Ok x) h hopeless e = at_start fault x h hopeless e
-  start_refused fault (Err x) h hopeless e = tt
+      → IsHopelessAtStart goal fault → StartNamesLowClass fault → IfOk r (IsNoWorldAtStart fault)
+      → IfOk r (Right Wide input goal s)
+  start_refused fault (Ok x) h hopeless low e = at_start fault x h hopeless low e
+  start_refused fault (Err x) h hopeless low e = tt
 
   module _ (graph : Graph Op) (grown : IsGrown (rules_of input) (present_terms goal) (assumed_pairs goal) graph 0)
       (stands : GraphStands (declared_name input.ops) (rules_of input) (assumed_pairs goal) (kept_terms goal) graph) where
     in_rounds : (fault : SaturateFault) (answered : Answered)
         → SaturateFaultIs (rules_of input) graph s.rounds s.nodes fault → IsHopeless (rules_of input) graph fault
-        → IsNoWorldInRounds fault answered → Right Wide input goal s answered
-    in_rounds (rounds.NoWorld class a b) (NoWorld c x y) h hopeless e = (
-      named a b x y e.0 e.1 (record {
+        → RoundsNameLowClass fault → IsNoWorldInRounds fault answered → Right Wide input goal s answered
+    in_rounds (rounds.NoWorld class a b) (NoWorld c x y) h hopeless low e = (
+      named a b x y e.1 e.2 (record {
         round = h.round;
         reached = (h.asked, (h.clash (present_terms goal) (assumed_pairs goal) grown).1);
         clash = (h.clash (present_terms goal) (assumed_pairs goal) grown).0;
         nowhere = λ world is holds. hopeless (declared_name input.ops) (assumed_pairs goal) (kept_terms goal) stands
             world is (rules_true world is holds);
       }),
-      e.2,
+      low_class class c low e.0,
       e.3,
       e.4,
     )
-    in_rounds (rounds.NoWorld class a b) (Scheduled f) h hopeless e = absurd e
-    in_rounds (rounds.NoWorld class a b) (Nowhere f) h hopeless e = absurd e
-    in_rounds (rounds.NoWorld class a b) (SpentConflicts f) h hopeless e = absurd e
-    in_rounds (rounds.NoWorld class a b) (SpentSize f) h hopeless e = absurd e
-    in_rounds rounds.Memory answered h hopeless e = absurd e
+    in_rounds (rounds.NoWorld class a b) (Scheduled f) h hopeless low e = absurd e
+    in_rounds (rounds.NoWorld class a b) (Nowhere f) h hopeless low e = absurd e
+    in_rounds (rounds.NoWorld class a b) (SpentConflicts f) h hopeless low e = absurd e
+    in_rounds (rounds.NoWorld class a b) (SpentSize f) h hopeless low e = absurd e
+    in_rounds rounds.Memory answered h hopeless low e = absurd e
 
     pub rounds_refused : {E : Type 0} (fault : SaturateFault) (r : Result Answered E)
         → SaturateFaultIs (rules_of input) graph s.rounds s.nodes fault → IsHopeless (rules_of input) graph fault
-        → IfOk r (IsNoWorldInRounds fault) → IfOk r (Right Wide input goal s)
-    rounds_refused fault (Ok x) h hopeless e = in_rounds fault x h hopeless e
-    rounds_refused fault (Err x) h hopeless e = tt
+        → RoundsNameLowClass fault → IfOk r (IsNoWorldInRounds fault) → IfOk r (Right Wide input goal s)
+    rounds_refused fault (Ok x) h hopeless low e = in_rounds fault x h hopeless low e
+    rounds_refused fault (Err x) h hopeless low e = tt
 
     pub matched_is : (after : Graph Op) (m : Matched)
         → IsSaturated (rules_of input) graph s.rounds s.nodes after m.rounds m.stop → m.rounds ≤ s.rounds
-        → IsLaunchGraph m.graph → StandsFor input goal m.graph
+        → IsLaunchGraph m.graph → StandsFor input goal m.graph → length m.graph.rows ≤ max (most_rows_at_start goal) s.nodes
         → (IsGrown (rules_of input) (present_terms goal) (assumed_pairs goal) after m.rounds
         → IsGrown (rules_of input) (present_terms goal) (assumed_pairs goal) (graph_view input.ops m.graph) m.rounds)
         → (StopIs (rules_of input) after s.rounds s.nodes m.rounds m.stop
@@ -109,7 +115,7 @@ module _ (input : InputTree) (goal : GoalTree) (s : Settings) (rules_true : Rule
         → ((i a b : ℕ) → IsGrown (rules_of input) (present_terms goal) (assumed_pairs goal) after m.rounds → i ≤ m.rounds
         → IsClashOf input goal i a b → ⊥)
         → IsMatched input goal s m
-    matched_is after m saturated few well_formed stands_for keeps_grown keeps_stop no_clash =
+    matched_is after m saturated few well_formed stands_for few_rows keeps_grown keeps_stop no_clash =
         let h = saturated.after.grown (present_terms goal) (assumed_pairs goal) grown in
         record {
           graph = well_formed;
@@ -118,6 +124,7 @@ module _ (input : InputTree) (goal : GoalTree) (s : Settings) (rules_true : Rule
           reached = (few, h.1);
           stops = keeps_stop saturated.stops;
           no_clash = λ j a b le clash. no_clash j a b h.0 le clash;
+          few = few_rows;
         }
 
 -- ---- the goal of a place is the one that was taken from it
@@ -156,6 +163,13 @@ is_one goals shown place goal is lt e =
 pub few_rows : (before after rows nodes : ℕ) → before < 2 ^ 30 → rows ≤ before → nodes ≤ 4096 → after ≤ max rows nodes
     → after < 2 ^ 30
 few_rows before after rows nodes few fewer small bound = omega (arith, few, fewer, small, bound)
+
+-- the launched rows are the E-graph's, of which there are no more than at the start or than were asked for
+pub launched_few : (first most nodes : ℕ) (rows : List (Row Op)) (launched : List LaunchRow) (f : LaunchRow → Row Op)
+    → rows ≡ map f launched → first ≤ most → length rows ≤ max first nodes → length launched ≤ max most nodes
+launched_few first most nodes rows launched f are fewer bound =
+    let many : length rows ≡ length launched = ap length are ∙ length-map launched f in
+    omega (arith, many, fewer, bound)
 
 -- the graph after the rounds
 pub grown_after : (input : InputTree) (goal : GoalTree) (program : List Rewrite) (graph after : Graph Op)

@@ -1,5 +1,5 @@
 -- What the text of an answer claims of the results of goals. Source: this project.
-use Rattle.std.specs.Prelude.{ℕ, List, [], ◌∷◌, Option, Some, None}
+use Rattle.std.specs.Prelude.{ℕ, ◌≤◌, All, List, [], ◌∷◌, Option, Some, None}
 use Rattle.answer_texts.specs.AnswerLines.{answer_bytes}
 use Rattle.answer_texts.specs.declared.answers.AnswerText.{AnswerText}
 use Rattle.answer_texts.specs.declared.answers.Claim.{Claim}
@@ -7,6 +7,7 @@ use Rattle.answer_texts.specs.declared.answers.Claim.TheVariants as claims
 use Rattle.answer_texts.specs.declared.answers.Claimed.{Claimed}
 use Rattle.cnf_core.specs.declared.line.Lines.{Lines}
 use Rattle.goal_reader.specs.Views.{GoalTree, InputTree}
+use Rattle.saturation.specs.AtStart.{most_rows_at_start}
 use Rattle.saturation.specs.declared.rounds.Stop.TheVariants.{Quiet}
 use Rattle.denali_run.specs.declared.results.Answered.{Answered}
 use Rattle.denali_run.specs.declared.results.Answered.TheVariants.{Scheduled, Nowhere, SpentConflicts, SpentSize, NoWorld}
@@ -15,17 +16,17 @@ use Rattle.denali_run.specs.declared.results.Encoding.TheVariants.{Wide}
 use Rattle.denali_run.specs.declared.results.Matched.{Matched}
 
 -- a claim with the graph that it is about, and the lines that refute fewer cycles
-abbrev pub claimed_of : List ℕ → Matched → Claim → Option Lines → Claimed
-claimed_of name m claim refute =
+abbrev pub claimed_on : List ℕ → Matched → Claim → Option Lines → Claimed
+claimed_on name m claim refute =
     record { name = name; graph = Some m.graph; rounds = m.rounds; stop = m.stop; claim = claim; refute = refute }
 
 -- what is claimed of the goal of this name with this result
 abbrev pub claimed : List ℕ → Answered → Claimed
 claimed name (Scheduled f) =
-    claimed_of name f.matched (claims.Scheduled f.k f.schedule f.words f.listing.wheres) f.refutation
-claimed name (Nowhere m) = claimed_of name m.matched (claims.Missing m.k) (Some m.refutation)
-claimed name (SpentConflicts t) = claimed_of name t.matched (claims.SpentConflicts t.k t.lemmas) t.refutation
-claimed name (SpentSize l) = claimed_of name l.matched (claims.SpentSize l.k l.vars l.clauses) l.refutation
+    claimed_on name f.matched (claims.Scheduled f.k f.schedule f.words f.listing.wheres) f.refutation
+claimed name (Nowhere m) = claimed_on name m.matched (claims.Missing m.k) (Some m.refutation)
+claimed name (SpentConflicts t) = claimed_on name t.matched (claims.SpentConflicts t.k t.lemmas) t.refutation
+claimed name (SpentSize l) = claimed_on name l.matched (claims.SpentSize l.k l.vars l.clauses) l.refutation
 claimed name (NoWorld class a b) =
     record { name = name; graph = None; rounds = 0; stop = Quiet; claim = claims.NoWorld class a b; refute = None }
 
@@ -38,8 +39,8 @@ goals_claimed (goal ∷ goals) (answered ∷ more) = claimed goal.name answered 
 goals_claimed _ _ = []
 
 -- what the answer to an input with these results says
-abbrev pub answer_of : Encoding → InputTree → List Answered → AnswerText
-answer_of e input results = record {
+abbrev pub answer_to : Encoding → InputTree → List Answered → AnswerText
+answer_to e input results = record {
   version = 1;
   encoding = encoding_number e;
   table = input.table;
@@ -49,4 +50,8 @@ answer_of e input results = record {
 
 -- the bytes of that answer
 abbrev pub answer_text : Encoding → InputTree → List Answered → List ℕ
-answer_text e input results = answer_bytes (answer_of e input results)
+answer_text e input results = answer_bytes (answer_to e input results)
+
+-- the first graph of each goal has no more rows than the format has for a goal
+abbrev pub StartsWithinFormat : InputTree → Type 0
+StartsWithinFormat input = All (λ (goal : GoalTree). most_rows_at_start goal ≤ 1000000) input.goals

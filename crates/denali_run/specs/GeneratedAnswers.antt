@@ -25,16 +25,16 @@ abbrev pub spent_line : ℕ → ℕ → List ℕ
 spent_line size cycles = line_text (codes "gen" ∷ decimal size ∷ codes "spent" ∷ decimal cycles ∷ [])
 
 -- the line and the status of a result; a generated goal has no result of another kind
-abbrev pub IsLineOf : ℕ → Answered → List ℕ → Status → Type 0
-IsLineOf size (Scheduled f) bytes ending =
+abbrev pub IsGeneratedLine : ℕ → Answered → List ℕ → Status → Type 0
+IsGeneratedLine size (Scheduled f) bytes ending =
     (bytes ≡ scheduled_line size (length f.matched.graph.rows) f.k) × (ending ≡ status.Done)
-IsLineOf size (SpentConflicts t) bytes ending = (bytes ≡ spent_line size t.k) × (ending ≡ status.Spent)
-IsLineOf size (SpentSize l) bytes ending = (bytes ≡ spent_line size l.k) × (ending ≡ status.Spent)
-IsLineOf size (Nowhere m) bytes ending = ⊥
-IsLineOf size (NoWorld class a b) bytes ending = ⊥
+IsGeneratedLine size (SpentConflicts t) bytes ending = (bytes ≡ spent_line size t.k) × (ending ≡ status.Spent)
+IsGeneratedLine size (SpentSize l) bytes ending = (bytes ≡ spent_line size l.k) × (ending ≡ status.Spent)
+IsGeneratedLine size (Nowhere m) bytes ending = ⊥
+IsGeneratedLine size (NoWorld class a b) bytes ending = ⊥
 
 -- Some result is right for the goal that is made from the number, and the bytes and the status are those of its line.
 pub record AnswersGenerated (size : ℕ) (bytes : List ℕ) (ending : Status) : Type 0 where
   pub answered : Answered
   pub right : Right Wide (generated_input size) (generated_goal size) generated_settings answered
-  pub line : IsLineOf size answered bytes ending
+  pub line : IsGeneratedLine size answered bytes ending

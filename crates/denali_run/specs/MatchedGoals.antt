@@ -1,9 +1,10 @@
 -- The graph of a goal after its rounds of matching. From Denali (PLDI 2002), its matching phase; when rounds end is this
 -- project's.
-use Rattle.std.specs.Prelude.{ℕ, ◌≤◌}
+use Rattle.std.specs.Prelude.{ℕ, ◌≤◌, length, max}
 use Rattle.goal_reader.specs.Views.{GoalTree, InputTree}
 use Rattle.launch_graph.specs.WellFormed.{IsLaunchGraph}
 use Rattle.launch_graph.specs.declared.graphs.LaunchGraph.{LaunchGraph}
+use Rattle.saturation.specs.AtStart.{most_rows_at_start}
 use Rattle.saturation.specs.Derives.{IsClash}
 use Rattle.saturation.specs.GoalTerms.{assumed_pairs, present_terms, rules_of}
 use Rattle.saturation.specs.Grown.{IsGrown, NotBefore}
@@ -35,7 +36,7 @@ ReachesRound input goal s j =
 
 -- The graph stands for the goal. Its rounds are as many as are asked for, or the first after which no match is unmet or
 -- another round might pass the limit on rows; it has every equality that they derive and no other, and no two different
--- constants are equal in it.
+-- constants are equal in it. It has no more rows than the goal itself gives, or than were asked for.
 pub record IsMatched (input : InputTree) (goal : GoalTree) (s : Settings) (m : Matched) : Type 0 where
   pub graph : IsLaunchGraph m.graph
   pub stands : StandsFor input goal m.graph
@@ -43,3 +44,4 @@ pub record IsMatched (input : InputTree) (goal : GoalTree) (s : Settings) (m : M
   pub reached : ReachesRound input goal s m.rounds
   pub stops : StopIs (rules_of input) (graph_view input.ops m.graph) s.rounds s.nodes m.rounds m.stop
   pub no_clash : (j a b : ℕ) → j ≤ m.rounds → ¬ IsClashOf input goal j a b
+  pub few : length m.graph.rows ≤ max (most_rows_at_start goal) s.nodes

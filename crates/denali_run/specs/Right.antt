@@ -104,6 +104,6 @@ Right e input goal s (SpentSize l) =
     × IsLeast e l.matched.graph input.table s.conflicts l.k l.refutation
 Right e input goal s (NoWorld class a b) =
     HasNoWorld input goal s a b
-    × (class < 2 ^ 32)
+    × (class < 2 ^ 31)
     × IsWord a
     × IsWord b

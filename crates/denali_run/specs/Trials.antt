@@ -1,6 +1,6 @@
 -- What the clauses for a number of cycles come to, and what refusals are passed on.
 -- Source: this project.
-use Rattle.std.specs.Prelude.{◌≡◌, ℕ, ◌<◌, ◌^◌}
+use Rattle.std.specs.Prelude.{◌≡◌, ℕ}
 use Rattle.word_ops.specs.Words.{IsWord}
 use Rattle.cnf_core.specs.Outcome.{IsSpent}
 use Rattle.cycle_encoding.specs.Plans.{IsTooLarge, PassesLimit}
@@ -34,11 +34,11 @@ abbrev pub IsLargeBy : EncodeFault → Trial → Type 0
 IsLargeBy (encode.Size v c) (Large vars clauses) = (vars ≡ v) × (clauses ≡ c) × IsWord vars × IsWord clauses
 IsLargeBy _ _ = ⊥
 
--- the two constants are those that the refusal told, and numbers of their types
+-- class and constants are those that the refusal told, and the constants are words
 abbrev pub IsNoWorldAtStart : StartFault → Answered → Type 0
-IsNoWorldAtStart (start.NoWorld class a b) (NoWorld c x y) = (x ≡ a) × (y ≡ b) × (c < 2 ^ 32) × IsWord x × IsWord y
+IsNoWorldAtStart (start.NoWorld class a b) (NoWorld c x y) = (c ≡ class) × (x ≡ a) × (y ≡ b) × IsWord x × IsWord y
 IsNoWorldAtStart _ _ = ⊥
 
 abbrev pub IsNoWorldInRounds : SaturateFault → Answered → Type 0
-IsNoWorldInRounds (rounds.NoWorld class a b) (NoWorld c x y) = (x ≡ a) × (y ≡ b) × (c < 2 ^ 32) × IsWord x × IsWord y
+IsNoWorldInRounds (rounds.NoWorld class a b) (NoWorld c x y) = (c ≡ class) × (x ≡ a) × (y ≡ b) × IsWord x × IsWord y
 IsNoWorldInRounds _ _ = ⊥

@@ -22,8 +22,8 @@ const VERSION: u8 = 1;
 const WIDE: u8 = 1;
 
 /// A claim with the graph that it is about, and the lines that refute fewer cycles.
-fn claimed_of(name: Name, matched: Matched, claim: Claim, refute: Option<Lines>) -> Claimed
-    ensures { result ≡ format.claimed_of name matched claim refute }
+fn claimed_on(name: Name, matched: Matched, claim: Claim, refute: Option<Lines>) -> Claimed
+    ensures { result ≡ format.claimed_on name matched claim refute }
 {
     Claimed {
         name,
@@ -45,14 +45,14 @@ fn found_claim(name: Name, found: Found) -> Claimed
         words: found.words,
         places: listing.wheres,
     };
-    claimed_of(name, found.matched, claim, found.refutation)
+    claimed_on(name, found.matched, claim, found.refutation)
 }
 
 fn missing_claim(name: Name, missing: Missing) -> Claimed
     ensures { result ≡ format.claimed name (Answered.Nowhere missing) }
 {
     let claim = Claim::Missing { k: missing.k };
-    claimed_of(name, missing.matched, claim, Some(missing.refutation))
+    claimed_on(name, missing.matched, claim, Some(missing.refutation))
 }
 
 fn tried_claim(name: Name, tried: Tried) -> Claimed
@@ -62,7 +62,7 @@ fn tried_claim(name: Name, tried: Tried) -> Claimed
         k: tried.k,
         lemmas: tried.lemmas,
     };
-    claimed_of(name, tried.matched, claim, tried.refutation)
+    claimed_on(name, tried.matched, claim, tried.refutation)
 }
 
 fn large_claim(name: Name, large: Large) -> Claimed
@@ -73,7 +73,7 @@ fn large_claim(name: Name, large: Large) -> Claimed
         vars: large.vars,
         clauses: large.clauses,
     };
-    claimed_of(name, large.matched, claim, large.refutation)
+    claimed_on(name, large.matched, claim, large.refutation)
 }
 
 /// What is claimed of the goal of this name with this result.

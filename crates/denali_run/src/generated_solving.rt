@@ -2,7 +2,7 @@
 ghost use Rattle.std.specs.Prelude.{◌≡◌, ◌≤◌, IfOk, length};
 ghost use Rattle.generated_goals.specs.Generated.{generated_goal, generated_input};
 ghost use Rattle.denali_run.specs.GeneratedAnswers as lines;
-ghost use Rattle.denali_run.specs.GeneratedAnswers.{AnswersGenerated, IsLineOf};
+ghost use Rattle.denali_run.specs.GeneratedAnswers.{AnswersGenerated, IsGeneratedLine};
 ghost use Rattle.denali_run.specs.MatchedGoals.{IsSettings};
 ghost use Rattle.denali_run.specs.Right.{Right};
 ghost use Rattle.denali_run.specs.declared.results.Encoding.TheVariants.{Wide};
@@ -87,7 +87,7 @@ fn report_scheduled(alloc: Global, size: u32, found: &Found) -> Result<Report, N
 fn report_generated(alloc: Global, size: u32, answered: &Answered) -> Result<Report, NoMemory>
     requires few { size ≤ 20 }
     requires right { Right Wide (generated_input size) (generated_goal size) lines.generated_settings answered.now }
-    ensures { IfOk result (λ r. IsLineOf size answered.now r.bytes.items r.status) }
+    ensures { IfOk result (λ r. IsGeneratedLine size answered.now r.bytes.items r.status) }
 {
     generated_goals_have_a_world();
     generated_goals_can_be_scheduled();

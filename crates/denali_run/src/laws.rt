@@ -1,16 +1,19 @@
-// What an answer's text says of its results. The call does nothing: its clause holds of all results.
+// What an answer's text says of its results. The calls do nothing: their clauses hold of all results.
 ghost use Rattle.std.specs.Prelude.{◌≡◌, List};
 ghost use Rattle.std.specs.List.{AllZip};
 ghost use Rattle.goal_reader.specs.Views.{InputTree};
 ghost use Rattle.goal_reader.specs.WellFormed.{IsInput};
-ghost use Rattle.denali_run.specs.ClaimedResults.{answer_text};
+ghost use Rattle.answer_texts.specs.ReadAnswers.{ReadsAnswer};
+ghost use Rattle.denali_run.specs.ClaimedResults.{StartsWithinFormat, answer_to, answer_text};
 ghost use Rattle.denali_run.specs.MatchedGoals.{IsSettings};
 ghost use Rattle.denali_run.specs.Right.{Right};
 ghost use Rattle.denali_run.specs.declared.results.Answered.{Answered as AnsweredOf};
 ghost use Rattle.denali_run.specs.declared.results.Encoding.{Encoding as EncodingOf};
+ghost use Rattle.denali_run.specs.declared.results.Encoding.TheVariants.{Wide};
 ghost use Rattle.denali_run.specs.declared.settings.Settings.{Settings as SettingsOf};
 
 use alpha_encode::words_and_instructions;
+use answer_texts::printed_answers_are_read;
 use launch_graph::{graphs_are_consistent, one_graph, printed_graphs_are_lines};
 use machine_table::tables_keep_limits;
 use refutation_check::printed_lines_are_read_back;
@@ -35,4 +38,18 @@ pub fn one_text_has_one_answer()
     one_splitting();
     printed_lines_are_lines();
     operators_are_listed();
+}
+
+/// The answer that right results of an input make is what its bytes are read as, where the first graph of each goal has no
+/// more rows than the format has for a goal.
+pub fn right_answers_are_read()
+    ensures { (s : SettingsOf) (input : InputTree) (results : List AnsweredOf)
+        → IsInput input → IsSettings s → StartsWithinFormat input
+        → AllZip (λ goal answered. Right Wide input goal s answered) input.goals results
+        → ReadsAnswer (answer_text Wide input results) (answer_to Wide input results) }
+{
+    printed_answers_are_read();
+    graphs_are_consistent();
+    tables_keep_limits();
+    printed_lines_are_read_back();
 }

@@ -19,7 +19,7 @@ mod text_solving;
 pub use claiming::answer_text;
 pub use generated_solving::gen_text;
 pub use goal_solving::solve_goal;
-pub use laws::one_text_has_one_answer;
+pub use laws::{one_text_has_one_answer, right_answers_are_read};
 pub use reports::{Report, TextError};
 pub use results::{Answered, Encoding, Found, Large, Matched, Missing, Tried};
 pub use settings::{Pick, Settings};

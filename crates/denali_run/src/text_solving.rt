@@ -11,11 +11,12 @@ ghost use Rattle.denali_run.specs.declared.results.Encoding.TheVariants.{Wide};
 
 use crate::claiming::answer_text;
 use crate::goal_solving::solve_goal;
+use crate::laws::right_answers_are_read;
 use crate::reports::{Report, TextError};
 use crate::results::Answered;
 use crate::settings::{Pick, Settings};
 use crate::statuses::Status;
-use goal_reader::{Input, read, read_inputs_are_well_formed};
+use goal_reader::{Input, read, read_inputs_are_well_formed, read_inputs_have_few_operators};
 use items::NoMemory;
 use pick_rule::{Picker, Rule};
 use std::alloc::Global;
@@ -132,6 +133,8 @@ pub fn solve_text(alloc: Global, text: &[u8], settings: &Settings) -> Result<Rep
     ensures error { IfErr result (TextErrorIs text.now) }
 {
     read_inputs_are_well_formed();
+    read_inputs_have_few_operators();
+    right_answers_are_read();
     let input = match read(alloc, text) {
         Ok(input) => input,
         Err(TextFault::Fault(fault)) => return Err(TextError::Read(fault)),

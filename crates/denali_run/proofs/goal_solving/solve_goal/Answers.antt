@@ -1,14 +1,16 @@
-use Rattle.std.proofs.Common.{refl, subst, List, Contains, map}
+use Rattle.std.proofs.Common.{refl, subst, List, Contains, length, map}
 use Rattle.std.proofs.lemmas.List.Elements.{All-contains}
 use Rattle.axiom_base.specs.Rewrites.{Rewrite}
 use Rattle.goal_reader.specs.Printing.{declared_name}
 use Rattle.goal_reader.specs.Views.{goal_view, input_view}
 use Rattle.goal_reader.specs.WellFormed.{IsGoal}
+use Rattle.saturation.specs.AtStart.{most_rows_at_start}
+use Rattle.saturation.specs.Launched.{row_in}
 use Rattle.saturation.specs.GoalTerms.{assumed_pairs, kept_terms, present_terms, rules_of}
 use Rattle.saturation.specs.GraphStands.{GraphStands}
 use Rattle.saturation.specs.Rounds.{IsHopeless, IsSaturated, KeepsStanding, SaturateFaultIs}
 use Rattle.denali_run.specs.declared.results.Matched.{Matched}
-use Rattle.denali_run.proofs.WorkedGoals.{RulesAreTrue, few_rows, for_the_goal, found_of, grown_after, is_one, matched_is, rounds_refused, start_refused, there}
+use Rattle.denali_run.proofs.WorkedGoals.{RulesAreTrue, few_rows, for_the_goal, found_of, grown_after, is_one, launched_few, matched_is, rounds_refused, start_refused, there}
 use Rattle.denali_run.proofs.goal_solving.solve_goal.Goals as goal
 
 pub start-requires : goal.start-requires
@@ -35,7 +37,7 @@ returns-in-Err g c =
           (there goals c.as_slice.result.now c.args.at goal c.as_slice.ensures c.requires.at c.index-as_slice-at.is)
           c.no_world_at_start.result
           (start_refused input (goal_view goal) c.args.settings.now rules_true c.in-Err.fault c.no_world_at_start.result
-          c.in-Err.ensures.fault c.in-Err.ensures.hopeless c.no_world_at_start.ensures);
+          c.in-Err.ensures.fault c.in-Err.ensures.hopeless c.in-Err.ensures.low c.no_world_at_start.ensures);
     }
 
 pub returns-in-Err-saturate : goal.returns-in-Err-saturate
@@ -58,7 +60,7 @@ returns-in-Err-saturate g c =
           (at_rules (λ rs. SaturateFaultIs rs c.in-Ok.graph s.rounds s.nodes c.in-Err-saturate.fault)
           c.in-Err-saturate.ensures.fault)
           (at_rules (λ rs. IsHopeless rs c.in-Ok.graph c.in-Err-saturate.fault) c.in-Err-saturate.ensures.hopeless)
-          c.no_world_in_rounds.ensures);
+          c.in-Err-saturate.ensures.low c.no_world_in_rounds.ensures);
     }
 
 pub to_launch-requires : goal.to_launch-requires
@@ -115,6 +117,9 @@ returns g c =
           c.in-Ok-saturate.ensures.rounds c.in_ok-graph.ensures.launched.well_formed
           (c.launched_graphs_stand.ensures.stand input (goal_view goal) sat.graph c.in_ok-graph.graph c.requires.input
           c.in_ok-graph.ensures.launched stands_after)
+          (launched_few (length c.in-Ok.graph.rows) (most_rows_at_start (goal_view goal)) s.nodes sat.graph.rows
+          c.in_ok-graph.graph.rows (row_in c.args.input.now.ops c.in_ok-graph.ensures.launched.class_in)
+          c.in_ok-graph.ensures.launched.rows c.in-Ok.ensures.few_rows c.in-Ok-saturate.ensures.few)
           (λ h. c.in_ok-graph.ensures.grown (rules_of input) (present_terms (goal_view goal)) (assumed_pairs (goal_view goal))
           sat.rounds h)
           (λ h. c.in_ok-graph.ensures.stops (rules_of input) s.rounds s.nodes sat.rounds sat.stop

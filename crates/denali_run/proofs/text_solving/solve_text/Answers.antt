@@ -1,9 +1,13 @@
-use Rattle.std.proofs.Common.{◌∙◌, map}
+use Rattle.std.proofs.Common.{◌∙◌, map, subst, sym}
 use Rattle.std.proofs.lemmas.List.{length-map}
+use Rattle.answer_texts.specs.ReadAnswers.{ReadsAnswer}
 use Rattle.goal_reader.specs.Views.{goal_view, input_view}
+use Rattle.goal_reader.specs.WellFormed.{IsInput}
+use Rattle.denali_run.specs.ClaimedResults.{answer_to}
 use Rattle.denali_run.specs.Right.{Right}
 use Rattle.denali_run.specs.declared.results.Encoding.TheVariants.{Wide}
 use Rattle.denali_run.proofs.AnsweredGoals.{as_many}
+use Rattle.denali_run.proofs.SmallTexts.{starts_small}
 use Rattle.denali_run.proofs.text_solving.solve_text.Goals as goal
 
 pub answer_text-requires : goal.answer_text-requires
@@ -11,3 +15,24 @@ answer_text-requires c =
     as_many (λ goal answered. Right Wide (input_view c.in-Ok.input) goal c.args.settings.now answered)
     (map goal_view c.in-Ok.input.goals) c.in_ok-results.results.items c.in_ok-results.ensures.right
     ∙ length-map c.in-Ok.input.goals goal_view
+
+pub returns-clause-answered : goal.returns-clause-answered
+returns-clause-answered c =
+    let text = c.args.text.now in
+    let input = input_view c.in-Ok.input in
+    let results = c.in_ok-results.results.items in
+    let is : IsInput (input_view c.in-Ok.input) =
+    c.read_inputs_are_well_formed.ensures text input c.requires.few c.in-Ok.ensures.input in
+    record {
+      input = input;
+      reads = c.in-Ok.ensures.input;
+      results = results;
+      right = c.in_ok-results.ensures.right;
+      bytes_are = c.in_ok-answer_text.ensures.bytes;
+      read_back = λ short.
+          subst (λ bytes. ReadsAnswer bytes (answer_to Wide input results)) (sym c.in_ok-answer_text.ensures.bytes)
+          (c.right_answers_are_read.ensures c.args.settings.now input results is c.requires.settings
+          (starts_small text input is (c.read_inputs_have_few_operators.ensures text input c.in-Ok.ensures.input) short)
+          c.in_ok-results.ensures.right);
+      status_is = c.in_ok-answer_text.ensures.status;
+    }
