@@ -9,7 +9,7 @@ use Rattle.std.proofs.lemmas.Grind.{flat_map-append}
 use Rattle.answer_texts.specs.declared.answers.Claimed.{Claimed}
 use Rattle.machine_table.specs.declared.tables.Table.{Table}
 use Rattle.text_core.specs.LineTexts.{Words, line_text, lines_text}
-use Rattle.answer_check.specs.Reports.{IsJudged, IsReportOn, is_rejection, verdict_lines, verdict_words}
+use Rattle.answer_check.specs.Reports.{IsJudged, IsCheckReportOn, is_rejection, verdict_lines, verdict_words}
 use Rattle.answer_check.specs.declared.verdicts.Verdict.{Verdict}
 
 one_more : (P : Claimed → Verdict → Type 0) (cs : List Claimed) (vs : List Verdict) (c : Claimed) (v : Verdict)
@@ -39,8 +39,8 @@ or_false false false = refl
 
 -- the report on goals, after one more
 pub reported : (table : Table) (goals : List Claimed) (bytes new : List ℕ) (before after : Bool) (c : Claimed)
-    (v : Verdict) → IsReportOn table goals bytes before → IsJudged table c v → new ≡ bytes ++ line_text (verdict_words c v)
-    → after ≡ (before || is_rejection v) → IsReportOn table (goals ++ c ∷ []) new after
+    (v : Verdict) → IsCheckReportOn table goals bytes before → IsJudged table c v → new ≡ bytes ++ line_text (verdict_words c v)
+    → after ≡ (before || is_rejection v) → IsCheckReportOn table (goals ++ c ∷ []) new after
 reported table goals bytes new before after c v so_far judged printed told = record {
   verdicts = so_far.verdicts ++ v ∷ [];
   judged = one_more (IsJudged table) goals so_far.verdicts c v so_far.judged judged;
@@ -62,10 +62,10 @@ rejected_now before after b was is = is ∙ sym (ap (λ x. x || b) was)
 -- the next goal, as it is taken from all of them
 pub reported_next : (table : Table) (goals shown : List Claimed) (i : ℕ) (bytes new : List ℕ) (before after : Bool)
     (c : Claimed) (v : Verdict) → shown ≡ goals → i < length shown → c ≡ get_or shown i c
-    → IsReportOn table (take i goals) bytes before → IsJudged table c v → new ≡ bytes ++ line_text (verdict_words c v)
-    → after ≡ (before || is_rejection v) → IsReportOn table (take (i + 1) goals) new after
+    → IsCheckReportOn table (take i goals) bytes before → IsJudged table c v → new ≡ bytes ++ line_text (verdict_words c v)
+    → after ≡ (before || is_rejection v) → IsCheckReportOn table (take (i + 1) goals) new after
 reported_next table goals shown i bytes new before after c v same lt is so_far judged printed told =
-    subst (λ (gs : List Claimed). IsReportOn table gs new after)
+    subst (λ (gs : List Claimed). IsCheckReportOn table gs new after)
     (ap (λ (x : Claimed). take i goals ++ x ∷ []) (subst (λ (gs : List Claimed). c ≡ get_or gs i c) same is)
     ∙ sym (take_more goals i c (subst (λ (gs : List Claimed). i < length gs) same lt)))
     (reported table (take i goals) bytes new before after c v so_far judged printed told)

@@ -14,7 +14,7 @@ use Rattle.answer_texts.specs.WellFormed.{IsClaimed, no_world, worked}
 use Rattle.answer_texts.specs.declared.answers.Claim.{Claim}
 use Rattle.answer_texts.specs.declared.answers.Claim.TheVariants.{NoWorld, Scheduled, Missing, SpentConflicts, SpentSize}
 use Rattle.answer_texts.specs.declared.answers.Claimed.{Claimed}
-use Rattle.answer_check.specs.Verdicts.{clauses_for, IsFitting, IsWithinBelow, HasRightSize, IsRefuted, HasLemmas, IsBroken, HasWrongSize, below, own, IsRefusedBelow, HasRefusedLemma, IsOutcome, IsVerdict, seen, tested}
+use Rattle.answer_check.specs.Verdicts.{clauses_for, IsFitting, IsWithinBelow, HasRightSize, HasRefutingLines, HasLemmas, IsBroken, HasWrongSize, below, own, IsRefusedBelow, HasRefusedLemma, IsOutcome, IsVerdict, seen, tested}
 use Rattle.answer_check.specs.declared.verdicts.Verdict.{Verdict}
 use Rattle.answer_check.specs.declared.verdicts.Verdict.TheVariants.{Holds, Seen, Broken, Listing, Size, Refutation, Lemmas}
 use Rattle.answer_check.proofs.Refusals.{first_refusal_once, right_not_refused}
@@ -88,7 +88,7 @@ module _ (table : Table) (g : LaunchGraph)
     size_apart v x (below there p) within right = within there p.0
     size_apart v x (own less wrong ev ec) within right = wrong right
 
-    refusal_apart : (k line why : ℕ) → IsRefusedBelow table g c k line why → IsRefuted table g c → ⊥
+    refusal_apart : (k line why : ℕ) → IsRefusedBelow table g c k line why → HasRefutingLines table g c → ⊥
     refusal_apart k line why h right =
         refuted_apart (clauses_for table g (refuted_cycles c.claim)) c.refute line why right h.1
 

@@ -50,11 +50,11 @@ pub record IsJudged (table : Table) (c : Claimed) (v : Verdict) : Type 0 where
   pub sound : v ≡ Holds → IsSound table c
 
 -- each goal has its verdict, the bytes are the lines of these in order, and it is told whether some goal is rejected
-pub record IsReportOn (table : Table) (goals : List Claimed) (bytes : List ℕ) (rejected : Bool) : Type 0 where
+pub record IsCheckReportOn (table : Table) (goals : List Claimed) (bytes : List ℕ) (rejected : Bool) : Type 0 where
   pub verdicts : List Verdict
   pub judged : AllZip (IsJudged table) goals verdicts
   pub is : bytes ≡ lines_text (verdict_lines goals verdicts)
   pub rejects : rejected ≡ list_any is_rejection verdicts
 
-abbrev pub IsReport : AnswerText → List ℕ → Bool → Type 0
-IsReport a bytes rejected = IsReportOn a.table a.goals bytes rejected
+abbrev pub IsCheckReport : AnswerText → List ℕ → Bool → Type 0
+IsCheckReport a bytes rejected = IsCheckReportOn a.table a.goals bytes rejected

@@ -54,8 +54,8 @@ module _ (table : Table) (g : LaunchGraph) where
   HasRightSize (SpentSize k vars clauses) = PassesLimit (clauses_for k) vars clauses
   HasRightSize claim = Unit {0}
 
-  abbrev pub IsRefuted : Claimed → Type 0
-  IsRefuted c = IfSome c.refute (λ (l : Lines). Refutes (clauses_for (refuted_cycles c.claim)) l.lines)
+  abbrev pub HasRefutingLines : Claimed → Type 0
+  HasRefutingLines c = IfSome c.refute (λ (l : Lines). Refutes (clauses_for (refuted_cycles c.claim)) l.lines)
 
   abbrev pub HasLemmas : Claim → Type 0
   HasLemmas (SpentConflicts k lemmas) = AreLemmas (clauses_for k) lemmas.lines
@@ -99,10 +99,10 @@ module _ (table : Table) (g : LaunchGraph) where
   IsOutcome c (Refutation k line why) =
       IsFitting c.claim × IsListed c.claim × IsWithinBelow c × HasRightSize c.claim × IsRefusedBelow c k line why
   IsOutcome c (Lemmas k line why) =
-      IsFitting c.claim × IsListed c.claim × IsWithinBelow c × HasRightSize c.claim × IsRefuted c
+      IsFitting c.claim × IsListed c.claim × IsWithinBelow c × HasRightSize c.claim × HasRefutingLines c
       × HasRefusedLemma c.claim k line why
   IsOutcome c Holds =
-      IsFitting c.claim × IsListed c.claim × IsWithinBelow c × HasRightSize c.claim × IsRefuted c × HasLemmas c.claim
+      IsFitting c.claim × IsListed c.claim × IsWithinBelow c × HasRightSize c.claim × HasRefutingLines c × HasLemmas c.claim
 
 -- the verdict on a claimed goal: one without a world is seen and isn't tested, each other one is tested
 pub data IsVerdict (table : Table) (c : Claimed) (v : Verdict) : Type 0 where

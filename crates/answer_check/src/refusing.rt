@@ -1,6 +1,6 @@
 // The lines of a refutation and of lemmas, tested against clauses that are built from the printed graph and table.
 ghost use Rattle.std.specs.Prelude.{◌≡◌, ◌≤◌, ◌<◌, ◌^◌, Bool, ℕ, List, length, IfOk, IfNone, IfSome, MatchOption, IsSomeAnd};
-ghost use Rattle.answer_check.specs.Verdicts.{HasLemmas, HasRefusedLemma, HasRightSize, IsRefuted, IsRefusedBelow, IsWithinBelow, clauses_for};
+ghost use Rattle.answer_check.specs.Verdicts.{HasLemmas, HasRefusedLemma, HasRightSize, HasRefutingLines, IsRefusedBelow, IsWithinBelow, clauses_for};
 ghost use Rattle.answer_texts.specs.AnswerLines as format;
 ghost use Rattle.answer_texts.specs.WellFormed.{FitsClaim, HasRefutation};
 ghost use Rattle.cnf_core.specs.Formula.{Satisfies};
@@ -104,7 +104,7 @@ pub(crate) fn refused_below(
     requires graph { IsLaunchGraph graph.now }
     requires within { IsWithinBelow table.now graph.now goal.now }
     requires few { IfSome goal.now.refute (λ l. length l.lines < 2 ^ 29) }
-    ensures exact { IfOk result (λ found. MatchOption found (IsRefuted table.now graph.now goal.now)
+    ensures exact { IfOk result (λ found. MatchOption found (HasRefutingLines table.now graph.now goal.now)
         (λ e. IsRefusedBelow table.now graph.now goal.now (format.refuted_cycles goal.now.claim) e.line e.why)) }
     ensures none_fits { IfOk result (λ found. IfNone found (IfSome goal.now.refute
         (λ l. (ls : List LaunchOf) → Fits graph.now table.now (format.refuted_cycles goal.now.claim) ls → ⊥))) }

@@ -1,6 +1,6 @@
 // The line of each goal, and the report on a whole answer.
 ghost use Rattle.std.specs.Prelude.{◌≡◌, ◌++◌, ◌∷◌, [], IfOk, OnOk, codes, decimal, map};
-ghost use Rattle.answer_check.specs.Reports.{IsReport, claim_words, verdict_words};
+ghost use Rattle.answer_check.specs.Reports.{IsCheckReport, claim_words, verdict_words};
 ghost use Rattle.answer_check.specs.Verdicts.{IsVerdict};
 ghost use Rattle.answer_texts.specs.WellFormed.{IsAnswer};
 ghost use Rattle.text_core.specs.LineTexts.{line_text};
@@ -70,7 +70,7 @@ fn put_verdict(text: &mut Vec<u8>, goal: &Claimed, verdict: Verdict) -> Result<(
 /// Tests what an answer claims of its goals, one after another: a line for each, and whether some claim is rejected.
 pub fn check_answer(alloc: Global, answer: &AnswerText) -> Result<Checked, NoMemory>
     requires { IsAnswer answer.now }
-    ensures { IfOk result (λ c. IsReport answer.now c.bytes.items c.rejected) }
+    ensures { IfOk result (λ c. IsCheckReport answer.now c.bytes.items c.rejected) }
 {
     let mut bytes = Vec::new(alloc);
     let mut rejected = false;

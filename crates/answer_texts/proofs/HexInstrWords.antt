@@ -1,25 +1,27 @@
--- The words of an instruction's text can stand in a line.
-use Rattle.std.proofs.Common.{◌≡◌, ◌≢◌, ℕ, ℤ, pos, negsuc, suc, ◌<◌, ◌^◌, ◌&&◌, Bool, true, false, cond, List, [], ◌∷◌, ◌++◌, refl, ap, ◌∙◌, arith, codes, decimal}
+-- The words of an instruction's text can stand in a line, and so can those of the line of its word.
+use Rattle.std.proofs.Common.{◌≡◌, ◌≢◌, ℕ, ℤ, pos, negsuc, zero, suc, ◌+◌, ◌*◌, ◌/◌, ◌%◌, ◌<◌, ◌^◌, ◌&&◌, Bool, true, false, cond, List, [], ◌∷◌, ◌++◌, refl, sym, ap, subst, ◌∙◌, arith, codes, decimal, nat_lt, mod-lt, Some}
 use Rattle.std.specs.Prelude.{All, Contains, FitsSigned}
 use Rattle.std.specs.Fmt.{signed_decimal}
 use Rattle.std.specs.Int.{w16}
 use Rattle.std.specs.List.{list_all}
 use Rattle.std.proofs.lemmas.Bool.{and_parts}
+use Rattle.std.proofs.lemmas.Bool.Decides.{nat_tests}
 use Rattle.std.proofs.lemmas.List.Elements.{All-nil, All-cons, All-contains}
 use Rattle.std.proofs.lemmas.List.Folds.{list_all-append}
 use Rattle.alpha_encode.specs.Codes.{is_unary}
-use Rattle.alpha_encode.specs.Formats.{FitsBits, IsSecond, IsWellFormed}
+use Rattle.alpha_encode.specs.Decoded.{decoded}
+use Rattle.alpha_encode.specs.Formats.{FitsBits, IsSecond, IsWellFormed, encoded}
 use Rattle.alpha_encode.specs.Texts.{register, second_text}
 use Rattle.alpha_encode.specs.declared.instructions.Instr.{Instr}
 use Rattle.alpha_encode.specs.declared.instructions.Instr.TheVariants.{Operate, Lda, Ldah, LdqU, StqU, Beq}
 use Rattle.alpha_encode.specs.declared.instructions.Second.{Second}
 use Rattle.alpha_encode.specs.declared.instructions.Second.TheVariants.{Reg, Literal}
-use Rattle.text_core.specs.LineTexts.{Words}
+use Rattle.text_core.specs.LineTexts.{Words, CanBeLine}
 use Rattle.text_core.specs.Lines.{IsLineWord, is_printed}
 use Rattle.word_ops.specs.Names.{name_of}
 use Rattle.word_ops.specs.Operators.{operators}
 use Rattle.word_ops.specs.declared.operators.WordOp.{WordOp}
-use Rattle.answer_texts.specs.AnswerLines.{before_comma, memory_words, instr_words}
+use Rattle.answer_texts.specs.AnswerLines.{hex_digits, hex_text, before_comma, memory_words, instr_words, text_words, word_words}
 
 data AreWords : Words → Type 0 where
   no_words : AreWords []
@@ -66,6 +68,24 @@ OperatorsAreListed = (op : WordOp) → Contains operators op
 
 operator_word : OperatorsAreListed → (op : WordOp) → IsLineWord (name_of op)
 operator_word listed op = All-contains (λ o. IsLineWord (name_of o)) operators op (named_by operators refl) (listed op)
+
+-- ---- hexadecimal digits
+
+digit_printed : (n : ℕ) (b : Bool) → nat_lt n 10 ≡ b → n < 16 → is_printed (cond b (48 + n) (55 + n)) ≡ true
+digit_printed n true is lt = grind (arith, nat_tests, is)
+digit_printed n false is lt = grind (arith, nat_tests, is)
+
+digits_printed : (k word : ℕ) → list_all is_printed (hex_digits k word) ≡ true
+digits_printed zero word = refl
+digits_printed (suc k) word =
+    ap (λ b. b && list_all is_printed (hex_digits k word))
+    (digit_printed (word / 2 ^ (4 * k) % 16) (nat_lt (word / 2 ^ (4 * k) % 16) 10) refl
+    (mod-lt (word / 2 ^ (4 * k)) (omega arith)))
+    ∙ digits_printed k word
+
+hex_word : (word : ℕ) → IsLineWord (hex_text word)
+unfolding hex_text
+hex_word word = record { some = λ e. cc; printed = digits_printed 8 word }
 
 -- ---- the words of an instruction
 
@@ -143,3 +163,15 @@ module _ (number : NumbersAreWords) (listed : OperatorsAreListed) where
 
   pub instr_words_are_words : (i : Instr) → IsWellFormed i → All IsLineWord (instr_words i)
   instr_words_are_words i is = each_word (instr_line_words i is)
+
+  module _ (forth : (word : ℕ) (instr : Instr) → word < 2 ^ 32 → decoded word ≡ Some instr
+      → IsWellFormed instr × (encoded instr ≡ word)) where
+    pub word_line : (word : ℕ) (instr : Instr) → word < 2 ^ 32 → decoded word ≡ Some instr
+        → CanBeLine (word_words word)
+    word_line word instr low is = record {
+      some = λ e. cc;
+      each = each_word
+          (a_word (record { some = λ e. cc; printed = refl })
+          (a_word (hex_word word)
+          (subst (λ o. AreWords (text_words o)) (sym is) (instr_line_words instr (forth word instr low is).0))));
+    }

@@ -2,6 +2,7 @@ pub mod HexDigits
 pub mod HexInstrTexts
 pub mod HexInstrWords
 pub mod HexWordLines
+pub mod InstrTexts
 pub mod PartsBelow
 pub mod PartsBetween
 pub mod PartsClaims

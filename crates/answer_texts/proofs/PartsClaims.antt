@@ -4,7 +4,7 @@ use Rattle.machine_table.specs.Tables.{IsTable}
 use Rattle.machine_table.specs.declared.tables.Table.{Table}
 use Rattle.text_core.specs.Lines.{Line}
 use Rattle.answer_texts.specs.AnswerLines.{launch_words, word_words, where_words}
-use Rattle.answer_texts.specs.AnswerParts.{IsCount, CountedPart, CountedFault, BelowPart, BelowFault, IsClaimLine, AreLaunches, AreCodes, ArePlaces, SchedulePart, ScheduleFault, ClaimRest, ClaimRestFault, ClaimPart, ClaimFault}
+use Rattle.answer_texts.specs.AnswerParts.{IsCount, CountedPart, CountedFault, BelowPart, BelowFault, IsClaimLine, AreLaunches, AreCodes, AreWherePlaces, SchedulePart, ScheduleFault, ClaimRest, ClaimRestFault, ClaimPart, ClaimFault}
 use Rattle.answer_texts.specs.declared.answers.Claim.TheVariants as claims
 use Rattle.answer_texts.specs.declared.parts.ClaimLine.{ClaimLine}
 use Rattle.answer_texts.specs.declared.parts.ClaimLine.TheVariants as lines_of
@@ -33,7 +33,7 @@ module _ (lines : List Line) (one : WordsAreOneLine) where
         (λ from middle launches is.
         leads_once _ _ _ _ (lines_once _ word_words AreCodes codes_kind lines)
         (λ start end words also.
-        leads_once _ _ _ _ (lines_once _ where_words ArePlaces places_kind lines)
+        leads_once _ _ _ _ (lines_once _ where_words AreWherePlaces places_kind lines)
         (λ first last places are.
         leads_once _ _ _ _ (below_once k)
         (λ low high refute read.

@@ -7,7 +7,7 @@ use Rattle.refutation_check.specs.LineWords.{AreLinesAt, IsFirstBadLine, IsLineO
 use Rattle.text_core.specs.Lines.{Line, line_at}
 use Rattle.text_core.specs.LineTexts.{Words}
 use Rattle.answer_texts.specs.AnswerParts.{AreCounted, IsCountedFault}
-use Rattle.answer_texts.specs.LineParts.{IsBadLineAt}
+use Rattle.answer_texts.specs.LineParts.{IsBadOrMissingLine}
 use Rattle.answer_texts.proofs.PartsOnce.{IsOneReading, one_bad_line}
 
 -- words are one line at most
@@ -71,6 +71,6 @@ module _ (lines : List Line) (one : WordsAreOneLine) where
     apart = λ from next place x kind a f. bad_apart count from f.at x.lines a.are f.first;
     first = λ from place other kind another f g.
         one_bad_line lines (from + f.at) place other kind another f.fault
-        (subst (λ n. IsBadLineAt lines (from + n) other another) (sym (one_bad count from f.at g.at f.first g.first))
+        (subst (λ n. IsBadOrMissingLine lines (from + n) other another) (sym (one_bad count from f.at g.at f.first g.first))
         g.fault);
   }

@@ -8,7 +8,7 @@ use Rattle.machine_table.specs.declared.tables.Table.{Table}
 use Rattle.text_core.specs.Lines.{Line}
 use Rattle.text_core.specs.declared.faults.Kind.{Kind}
 use Rattle.answer_texts.specs.AnswerParts.{IsGoalName, IsEnd, IsBodyLine, GraphPart, no_world_body, BodyRest, BodyRestFault, BodyPart, BodyFault, claimed_of, GoalPart, GoalFault, AreGoals, no_goals, more, GoalsPart, GoalsFault, in_goal, too_many}
-use Rattle.answer_texts.specs.LineParts.{IsBadLineAt}
+use Rattle.answer_texts.specs.LineParts.{IsBadOrMissingLine}
 use Rattle.answer_texts.specs.declared.answers.Claimed.{Claimed}
 use Rattle.answer_texts.specs.declared.parts.BodyLine.{BodyLine}
 use Rattle.answer_texts.specs.declared.parts.BodyLine.TheVariants as bodies
@@ -164,7 +164,7 @@ module _ (lines : List Line) (one : WordsAreOneLine) (table : Table) (is_table :
       (too_many {at = end} also full high bad) =
       let same = same_goals from are also (all ∙ sym full) in
       one_bad_line lines at place other kind another fault
-      (subst (λ i. IsBadLineAt lines i other another) (sym same.0) bad)
+      (subst (λ i. IsBadOrMissingLine lines i other another) (sym same.0) bad)
 
   pub goals_once : IsOneReading (GoalsPart lines table) (GoalsFault lines table)
   goals_once = record {

@@ -6,7 +6,7 @@ use Rattle.text_core.specs.Lines.{Line, line_at, line_word}
 use Rattle.text_core.specs.LineTexts.{Words}
 use Rattle.text_core.specs.declared.faults.Kind.{Kind}
 use Rattle.launch_graph.specs.LineFormats.{words_between}
-use Rattle.answer_texts.specs.LineParts.{AreLinesTo, AreLinesOf, HasBadLine, IsBadLineAt}
+use Rattle.answer_texts.specs.LineParts.{AreLinesTo, AreLinesOf, HasBadLine, IsBadOrMissingLine}
 use Rattle.answer_texts.proofs.PartsBetween.{between_more, between_length, between_front}
 use Rattle.answer_texts.proofs.PartsOnce.{IsOneReading, one_bad_line}
 
@@ -117,7 +117,7 @@ module _ {X : Type 0} (first : List ℕ) (words_of : X → Words) (Fit : List X 
       → (place ≡ other) × (kind ≡ another)
   first_by from place other kind another h g (inl e) =
       one_bad_line lines h.at place other kind another h.fault
-      (subst (λ n. IsBadLineAt lines n other another) (sym e) g.fault)
+      (subst (λ n. IsBadOrMissingLine lines n other another) (sym e) g.fault)
   first_by from place other kind another h g (inr (inl lt)) =
       absurd (no_bad_before from h.at g.at h.before g.before h.so_far h.none g.so_far lt)
   first_by from place other kind another h g (inr (inr lt)) =

@@ -14,7 +14,7 @@ use Rattle.register_assign.specs.declared.listings.Where.{Where}
 use Rattle.schedule_meaning.specs.declared.schedules.Launch.{Launch}
 use Rattle.text_core.specs.Names.{IsName}
 use Rattle.answer_texts.specs.AnswerLines.{name_among, slot_words, inst_words, launch_words, word_words, where_words}
-use Rattle.answer_texts.specs.AnswerParts.{AreSlots, table_of, AreUses, IsLaunch, AreLaunches, AreCodes, ArePlaces}
+use Rattle.answer_texts.specs.AnswerParts.{AreNamedSlots, table_of, AreTableUses, IsLaunch, AreLaunches, AreCodes, AreWherePlaces}
 use Rattle.answer_texts.proofs.PartsLines.{IsKindOfLine}
 use Rattle.answer_texts.proofs.PartsKinds.{number_same}
 use Rattle.answer_texts.proofs.PartsSame.{rest_same, word_same, all_front, pairs_front, each_once, hex_once}
@@ -31,7 +31,7 @@ one_slot s r low less e =
     ∙ ap (λ n. slot_of r.name n)
     (number_same 2 s.cluster r.cluster (slot_words s) (slot_words r) (omega (arith, low)) (omega (arith, less)) e refl refl)
 
-slots_front : (xs ys : List Slot) → AreSlots (xs ++ ys) → AreSlots xs
+slots_front : (xs ys : List Slot) → AreNamedSlots (xs ++ ys) → AreNamedSlots xs
 slots_front xs ys h = record {
   few = (let n = length-append xs ys in let few = h.few in omega (arith, n, few));
   names = all_front (λ (s : Slot). IsName s.name) xs ys h.names;
@@ -39,7 +39,7 @@ slots_front xs ys h = record {
   once = pairs_front (λ (s r : Slot). s.name ≢ r.name) xs ys h.once;
 }
 
-pub slots_kind : IsKindOfLine (codes "slot") slot_words AreSlots
+pub slots_kind : IsKindOfLine (codes "slot") slot_words AreNamedSlots
 slots_kind = record {
   begins = λ s. refl;
   front = slots_front;
@@ -98,7 +98,7 @@ one_use found slots names u v a b e =
     (each_once (name_among slots) (λ s. s < length slots) (λ s r lt lower same. one_name slots s r names lt lower same)
     u.slots v.slots a.1 b.1 behind)
 
-uses_front : (slots : List Slot) (cross : ℕ) (xs ys : List Use) → AreUses slots cross (xs ++ ys) → AreUses slots cross xs
+uses_front : (slots : List Slot) (cross : ℕ) (xs ys : List Use) → AreTableUses slots cross (xs ++ ys) → AreTableUses slots cross xs
 uses_front slots cross xs ys h = record {
   slots = h.slots;
   clusters = h.clusters;
@@ -110,11 +110,11 @@ uses_front slots cross xs ys h = record {
   order = pairs_front (λ (u v : Use). kind_number u.instr < kind_number v.instr) xs ys h.order;
 }
 
-fit_slots : (slots : List Slot) (cross : ℕ) (us : List Use) → AreUses slots cross us → All (FitsSlots slots) us
+fit_slots : (slots : List Slot) (cross : ℕ) (us : List Use) → AreTableUses slots cross us → All (FitsSlots slots) us
 fit_slots slots cross us h k d lt = (let u = h.uses k d lt in (u.latency.1, u.exist))
 
 pub uses_kind : NamesAreOne → (slots : List Slot) (cross : ℕ)
-    → IsKindOfLine (codes "inst") (inst_words slots) (AreUses slots cross)
+    → IsKindOfLine (codes "inst") (inst_words slots) (AreTableUses slots cross)
 uses_kind found slots cross = record {
   begins = λ u. refl;
   front = uses_front slots cross;
@@ -184,7 +184,7 @@ one_where v w a b e =
     ∙ ap (λ n. where_of w.name n)
     (number_same 2 v.reg w.reg (where_words v) (where_words w) (omega (arith, low)) (omega (arith, less)) e refl refl)
 
-pub places_kind : IsKindOfLine (codes "where") where_words ArePlaces
+pub places_kind : IsKindOfLine (codes "where") where_words AreWherePlaces
 places_kind = record {
   begins = λ w. refl;
   front = all_front IsPlace;

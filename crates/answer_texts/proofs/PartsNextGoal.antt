@@ -6,7 +6,7 @@ use Rattle.text_core.specs.Faults.{IsFaultBy}
 use Rattle.text_core.specs.Lines.{Line}
 use Rattle.text_core.specs.declared.faults.TextFault.{TextFault}
 use Rattle.answer_texts.specs.AnswerParts.{AreGoals, no_goals, more, GoalPart, GoalFault, GoalsPart, GoalsFault, in_goal, too_many}
-use Rattle.answer_texts.specs.LineParts.{IsBadLineAt}
+use Rattle.answer_texts.specs.LineParts.{IsBadOrMissingLine}
 use Rattle.answer_texts.specs.declared.answers.Claimed.{Claimed}
 use Rattle.answer_texts.proofs.PartsFaults.{fault_by}
 use Rattle.answer_texts.proofs.PartsPrintedGoals.{has_goal}
@@ -75,7 +75,7 @@ module _ (lines : List Line) (table : Table) (from : ℕ) where
 
   -- there are 64 already
   pub many_fault : (at done : ℕ) (goals : List Claimed) (f : TextFault) → AreRead lines table from at done goals
-      → done ≡ 64 → IsFaultBy (IsBadLineAt lines at) f → IsFaultBy (GoalsFault lines table from) f
+      → done ≡ 64 → IsFaultBy (IsBadOrMissingLine lines at) f → IsFaultBy (GoalsFault lines table from) f
   many_fault at done goals f h all =
-      fault_by (IsBadLineAt lines at) (GoalsFault lines table from)
+      fault_by (IsBadOrMissingLine lines at) (GoalsFault lines table from)
       (λ place kind bad. too_many h.are (h.count ∙ all) (not_none at done goals h all h.left) bad) f

@@ -1,11 +1,10 @@
 -- Parts of lines that say one value and have one end at most, or have one first fault.
 use Rattle.std.proofs.Common.{◌≡◌, ◌⊎◌, ℕ, ◌<◌, ◌≤◌, List, length, inl, inr, sym, subst, ◌∙◌, arith}
 use Rattle.std.proofs.lemmas.Bool.{cases_lt}
-use Rattle.text_core.specs.Lines.{Line, line_at}
+use Rattle.text_core.specs.Lines.{Line, line_at, BeginsAt}
 use Rattle.text_core.specs.LineTexts.{Words}
 use Rattle.text_core.specs.declared.faults.Kind.{Kind}
-use Rattle.launch_graph.specs.LineFormats.{BeginsAt}
-use Rattle.answer_texts.specs.LineParts.{IsBadLineAt, IsOneLine, IsNoLine, Leads, Says, LeadsFault, NoFault, in_first, in_second}
+use Rattle.answer_texts.specs.LineParts.{IsBadOrMissingLine, IsOneLine, IsNoLine, Leads, Says, LeadsFault, NoFault, in_first, in_second}
 
 pub record IsOneReading {X : Type 0} (Is : ℕ → ℕ → X → Type 0) (Fault : ℕ → ℕ → Kind → Type 0) : Type 0 where
   pub once : (from next other : ℕ) (x y : X) → Is from next x → Is from other y → (next ≡ other) × (x ≡ y)
@@ -22,8 +21,8 @@ one_place lines at place other (inr high) within a b =
     let end : at ≡ length lines = omega (arith, high, within) in
     a.past end ∙ sym (b.past end)
 
-pub one_bad_line : (lines : List Line) (at place other : ℕ) (kind another : Kind) → IsBadLineAt lines at place kind
-    → IsBadLineAt lines at other another → (place ≡ other) × (kind ≡ another)
+pub one_bad_line : (lines : List Line) (at place other : ℕ) (kind another : Kind) → IsBadOrMissingLine lines at place kind
+    → IsBadOrMissingLine lines at other another → (place ≡ other) × (kind ≡ another)
 one_bad_line lines at place other kind another a b =
     (one_place lines at place other (cases_lt at (length lines)) a.within a.placed b.placed, a.named ∙ sym b.named)
 

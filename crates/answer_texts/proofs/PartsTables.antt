@@ -4,7 +4,7 @@ use Rattle.machine_table.specs.Tables.{IsTable, ev6}
 use Rattle.machine_table.specs.declared.tables.Table.{Table}
 use Rattle.text_core.specs.Lines.{Line}
 use Rattle.answer_texts.specs.AnswerLines.{slot_words, inst_words}
-use Rattle.answer_texts.specs.AnswerParts.{IsTableLine, AreSlots, IsCross, AreUses, table_of, OwnPart, OwnFault, TableRest, TableRestFault, TablePart, TableFault}
+use Rattle.answer_texts.specs.AnswerParts.{IsTableLine, AreNamedSlots, IsCross, AreTableUses, table_of, OwnPart, OwnFault, TableRest, TableRestFault, TablePart, TableFault}
 use Rattle.answer_texts.specs.declared.parts.TableLine.{TableLine}
 use Rattle.answer_texts.specs.declared.parts.TableLine.TheVariants as tables
 use Rattle.answer_texts.proofs.PartsKinds.{table_line_once, cross_once}
@@ -29,11 +29,11 @@ module _ (lines : List Line) where
 
   own_once : NamesAreOne → IsOneReading (OwnPart lines) (OwnFault lines)
   own_once found =
-      leads_once _ _ _ _ (lines_once _ slot_words AreSlots slots_kind lines)
+      leads_once _ _ _ _ (lines_once _ slot_words AreNamedSlots slots_kind lines)
       (λ from middle slots is.
       leads_once _ _ _ _ (line_once (IsCross slots) lines (cross_once slots))
       (λ start end cross also.
-      leads_once _ _ _ _ (lines_once _ (inst_words slots) (AreUses slots cross) (uses_kind found slots cross) lines)
+      leads_once _ _ _ _ (lines_once _ (inst_words slots) (AreTableUses slots cross) (uses_kind found slots cross) lines)
       (λ first last uses are. says_once (table_of slots cross uses))))
 
   rest_once : NamesAreOne → (first : TableLine) → IsOneReading (TableRest lines first) (TableRestFault lines first)

@@ -1,15 +1,12 @@
 -- Lines that are printed one after another.
-use Rattle.std.proofs.Common.{◌≡◌, ℕ, ℤ, ◌+◌, ◌<◌, List, [], ◌∷◌, ◌++◌, length, take, get_or, map, refl, sym, ap, ◌∙◌, append_assoc, append-nil, codes, decimal, Bool, true, false, cond, Some}
-use Rattle.std.specs.Fmt.{signed_decimal}
+use Rattle.std.proofs.Common.{◌≡◌, ℕ, ◌+◌, ◌<◌, List, [], ◌∷◌, ◌++◌, length, take, get_or, map, refl, sym, ap, ◌∙◌, append_assoc, append-nil, codes, decimal, Bool, Some}
 use Rattle.std.specs.List.{flat_map}
 use Rattle.std.proofs.lemmas.List.{take_more}
 use Rattle.std.proofs.lemmas.List.Concat.{flat_map-cons}
 use Rattle.std.proofs.lemmas.Grind.{flat_map-append}
-use Rattle.alpha_encode.specs.Codes.{is_unary}
 use Rattle.alpha_encode.specs.Decoded.{decoded}
-use Rattle.alpha_encode.specs.Texts.{register, second_text, text_of, memory_text}
+use Rattle.alpha_encode.specs.Texts.{text_of}
 use Rattle.alpha_encode.specs.declared.instructions.Instr.{Instr}
-use Rattle.alpha_encode.specs.declared.instructions.Instr.TheVariants.{Operate, Lda, Ldah, LdqU, StqU, Beq}
 use Rattle.launch_graph.specs.GraphLines.{graph_lines, said}
 use Rattle.launch_graph.specs.LineParts.{words_behind}
 use Rattle.machine_table.specs.InstrOrder.{instr_name}
@@ -21,11 +18,10 @@ use Rattle.register_assign.specs.declared.listings.Where.{Where}
 use Rattle.saturation.specs.declared.rounds.Stop.{Stop}
 use Rattle.launch_graph.specs.declared.graphs.LaunchGraph.{LaunchGraph}
 use Rattle.schedule_meaning.specs.declared.schedules.Schedule.{Schedule}
-use Rattle.word_ops.specs.Names.{name_of}
-use Rattle.word_ops.specs.declared.operators.WordOp.{WordOp}
 use Rattle.answer_texts.specs.declared.answers.Claim.TheVariants.{Scheduled}
 use Rattle.answer_texts.specs.declared.answers.Claimed.{Claimed}
-use Rattle.answer_texts.specs.AnswerLines.{name_among, slot_words, cross_words, inst_words, own_words, own_lines, hex_text, before_comma, memory_words, instr_words, text_words, word_words, rounds_words, goal_words, end_words, graph_part, claim_part, refute_part, lemmas_part, refuted_cycles, goal_lines, version_words, encoding_words, head_lines, table_lines, scheduled_words, launch_words, where_words}
+use Rattle.answer_texts.specs.AnswerLines.{name_among, slot_words, cross_words, inst_words, own_words, own_lines, hex_text, text_words, word_words, rounds_words, goal_words, end_words, graph_part, claim_part, refute_part, lemmas_part, refuted_cycles, goal_lines, version_words, encoding_words, head_lines, table_lines, scheduled_words, launch_words, where_words}
+use Rattle.answer_texts.proofs.InstrTexts.{instr_text}
 
 -- ---- items in a row
 
@@ -96,64 +92,6 @@ line_begins w (v ∷ vs) =
     ∙ append_assoc (codes " ") v (words_behind vs ++ codes "\n")))
 
 -- ---- the words of an instruction
-
--- pieces that were put together from the left
-four : (a b c d : List ℕ) → ((a ++ b) ++ c) ++ d ≡ a ++ (b ++ (c ++ d))
-four a b c d = append_assoc (a ++ b) c d ∙ append_assoc a b (c ++ d)
-
-five : (a b c d e : List ℕ) → (((a ++ b) ++ c) ++ d) ++ e ≡ a ++ (b ++ (c ++ (d ++ e)))
-five a b c d e = append_assoc ((a ++ b) ++ c) d e ∙ four a b c (d ++ e)
-
-six : (a b c d e f : List ℕ) → ((((a ++ b) ++ c) ++ d) ++ e) ++ f ≡ a ++ (b ++ (c ++ (d ++ (e ++ f))))
-six a b c d e f = append_assoc (((a ++ b) ++ c) ++ d) e f ∙ five a b c d (e ++ f)
-
-seven : (a b c d e f g : List ℕ)
-    → (((((a ++ b) ++ c) ++ d) ++ e) ++ f) ++ g ≡ a ++ (b ++ (c ++ (d ++ (e ++ (f ++ g)))))
-seven a b c d e f g = append_assoc ((((a ++ b) ++ c) ++ d) ++ e) f g ∙ six a b c d e (f ++ g)
-
-comma : (w rest : List ℕ) → (w ++ codes ",") ++ (codes " " ++ rest) ≡ w ++ (codes ", " ++ rest)
-comma w rest = append_assoc w (codes ",") (codes " " ++ rest)
-
-last_word : (w last : List ℕ) → (w ++ codes ",") ++ (codes " " ++ (last ++ [])) ≡ w ++ (codes ", " ++ last)
-last_word w last = comma w (last ++ []) ∙ ap (λ t. w ++ (codes ", " ++ t)) (append-nil last)
-
--- the text with a space before it is the words with a space before each
-operate_behind : (op : WordOp) (ra : ℕ) (second : List ℕ) (rc : ℕ) (b : Bool)
-    → words_behind (name_of op ∷ (cond b [] (before_comma ra ∷ []) ++ ((second ++ codes ",") ∷ register rc ∷ [])))
-    ≡ codes " " ++ (name_of op ++ codes " " ++ cond b [] (register ra ++ codes ", ") ++ second ++ codes ", " ++ register rc)
-operate_behind op ra second rc true =
-    ap (λ t. codes " " ++ (name_of op ++ (codes " " ++ t))) (last_word second (register rc))
-    ∙ sym (ap (λ t. codes " " ++ t) (six (name_of op) (codes " ") [] second (codes ", ") (register rc)))
-operate_behind op ra second rc false =
-    ap (λ t. codes " " ++ (name_of op ++ (codes " " ++ t)))
-    (comma (register ra) ((second ++ codes ",") ++ (codes " " ++ (register rc ++ [])))
-    ∙ ap (λ t. register ra ++ (codes ", " ++ t)) (last_word second (register rc))
-    ∙ sym (append_assoc (register ra) (codes ", ") (second ++ (codes ", " ++ register rc))))
-    ∙ sym (ap (λ t. codes " " ++ t)
-    (six (name_of op) (codes " ") (register ra ++ codes ", ") second (codes ", ") (register rc)))
-
-disp_behind : (name first : List ℕ) (ra rb : ℕ) (disp : ℤ) → first ≡ name ++ codes " "
-    → words_behind (memory_words name ra rb disp) ≡ codes " " ++ memory_text first ra rb disp
-disp_behind name first ra rb disp is =
-    let tail : List ℕ = signed_decimal disp ++ codes "(" ++ register rb ++ codes ")" in
-    let flat : memory_text first ra rb disp ≡ first ++ (register ra ++ (codes ", " ++ tail)) =
-    seven first (register ra) (codes ", ") (signed_decimal disp) (codes "(") (register rb) (codes ")")
-    ∙ ap (λ t. first ++ (register ra ++ (codes ", " ++ t)))
-    (sym (four (signed_decimal disp) (codes "(") (register rb) (codes ")"))) in
-    ap (λ t. codes " " ++ (name ++ (codes " " ++ t))) (last_word (register ra) tail)
-    ∙ ap (λ t. codes " " ++ t) (sym (append_assoc name (codes " ") (register ra ++ (codes ", " ++ tail))))
-    ∙ ap (λ f. codes " " ++ (f ++ (register ra ++ (codes ", " ++ tail)))) (sym is)
-    ∙ ap (λ t. codes " " ++ t) (sym flat)
-
-instr_text : (i : Instr) → words_behind (instr_words i) ≡ codes " " ++ text_of i
-instr_text (Operate op ra second rc) = operate_behind op ra (second_text second) rc (is_unary op)
-instr_text (Lda ra rb disp) = disp_behind (codes "lda") (codes "lda ") ra rb disp refl
-instr_text (Ldah ra rb disp) = disp_behind (codes "ldah") (codes "ldah ") ra rb disp refl
-instr_text (LdqU ra rb disp) = disp_behind (codes "ldq_u") (codes "ldq_u ") ra rb disp refl
-instr_text (StqU ra rb disp) = disp_behind (codes "stq_u") (codes "stq_u ") ra rb disp refl
-instr_text (Beq ra disp) =
-    ap (λ t. codes " " ++ (codes "beq " ++ t)) (last_word (register ra) (signed_decimal disp))
-    ∙ sym (ap (λ t. codes " " ++ t) (four (codes "beq ") (register ra) (codes ", ") (signed_decimal disp)))
 
 pub instr_behind : (i : Instr) (start t1 : List ℕ) → t1 ≡ start ++ (codes " " ++ text_of i)
     → t1 ≡ start ++ words_behind (text_words (Some i))

@@ -12,7 +12,7 @@ use Rattle.schedule_meaning.specs.declared.schedules.Launch.{Launch}
 use Rattle.text_core.specs.Lines.{Line}
 use Rattle.text_core.specs.LineTexts.{Words, words_of_lines}
 use Rattle.answer_texts.specs.AnswerLines.{launch_words, word_words, where_words, counted_words, refute_lines, lemmas_lines, scheduled_words, none_words, conflicts_words, size_words, end_words, claim_part, refuted_below, refuted_cycles, refute_part, lemmas_part}
-use Rattle.answer_texts.specs.AnswerParts.{IsCount, AreCounted, CountedPart, BelowPart, IsClaimLine, AreLaunches, AreCodes, ArePlaces, SchedulePart, ClaimRest, ClaimPart}
+use Rattle.answer_texts.specs.AnswerParts.{IsCount, AreCounted, CountedPart, BelowPart, IsClaimLine, AreLaunches, AreCodes, AreWherePlaces, SchedulePart, ClaimRest, ClaimPart}
 use Rattle.answer_texts.specs.Printable.{AreReadable, IsGraphClaim, AreLinesBelow}
 use Rattle.answer_texts.specs.declared.answers.Claim.{Claim}
 use Rattle.answer_texts.specs.declared.answers.Claim.TheVariants as claims
@@ -116,7 +116,7 @@ module _ (lines : List Line) (among : LinesAreAmong) where
     tail = end_words ∷ more
 
     schedule_stands : (k : ℕ) (launches : List Launch) (words : List ℕ) (places : List Where) (refute : Option Lines) (from : ℕ)
-        → AreLaunches table launches → AreCodes words → ArePlaces places → AreLinesBelow k refute
+        → AreLaunches table launches → AreCodes words → AreWherePlaces places → AreLinesBelow k refute
         → IsRest lines from
         (map (launch_words table) launches
         ++ (map word_words words ++ (map where_words places ++ (refute_part (k - 1) refute ++ tail))))
@@ -151,7 +151,7 @@ module _ (lines : List Line) (among : LinesAreAmong) where
         (lines_stand lines _ word_words AreCodes r low words codes_are never_word first)
         (λ middle second.
         leads_stands lines _ _ t tail middle places _
-        (lines_stand lines _ where_words ArePlaces t middle places places_are never_where second)
+        (lines_stand lines _ where_words AreWherePlaces t middle places places_are never_where second)
         (λ high third.
         leads_stands lines _ _ tail tail high refute _ (below_stands k tail high refute below third)
         (λ end last.

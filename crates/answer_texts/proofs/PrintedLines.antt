@@ -1,10 +1,9 @@
 -- What an answer prints is lines of words.
-use Rattle.std.proofs.Common.{◌≡◌, ℕ, zero, suc, ◌+◌, ◌-◌, ◌*◌, ◌/◌, ◌%◌, ◌<◌, ◌≤◌, ◌^◌, ◌&&◌, Bool, true, false, cond, List, [], ◌∷◌, ◌++◌, length, map, get_or, refl, sym, ap, subst, ◌∙◌, arith, codes, decimal, nat_lt, mod-lt, Option, None, Some}
+use Rattle.std.proofs.Common.{◌≡◌, ℕ, zero, suc, ◌+◌, ◌-◌, ◌<◌, ◌≤◌, ◌^◌, Bool, true, false, List, [], ◌∷◌, ◌++◌, length, map, get_or, refl, sym, ap, subst, arith, codes, decimal, Option, None, Some}
 use Rattle.std.specs.Prelude.{All, IsTrue, is_some}
-use Rattle.std.specs.List.{flat_map, list_all}
+use Rattle.std.specs.List.{flat_map}
 use Rattle.std.specs.Option.{option_map_or}
 use Rattle.std.proofs.lemmas.Bool.{false≢true}
-use Rattle.std.proofs.lemmas.Bool.Decides.{nat_tests}
 use Rattle.std.proofs.lemmas.List.Concat.{flat_map-cons}
 use Rattle.std.proofs.lemmas.List.Elements.{All-nil, All-cons, All-head, All-tail, All-map, All-weaker}
 use Rattle.std.proofs.lemmas.Option.{slice_get-get_or}
@@ -28,16 +27,16 @@ use Rattle.saturation.specs.declared.rounds.Stop.{Stop}
 use Rattle.saturation.specs.declared.rounds.Stop.TheVariants.{Quiet, Rounds, Full}
 use Rattle.schedule_meaning.specs.declared.schedules.Launch.{Launch}
 use Rattle.text_core.specs.LineTexts.{Words, CanBeLine, line_text, lines_text, placed_lines, words_of_lines}
-use Rattle.text_core.specs.Lines.{Line, AreLines, IsLineWord, is_printed}
+use Rattle.text_core.specs.Lines.{Line, AreLines, IsLineWord}
 use Rattle.text_core.specs.Names.{IsName}
-use Rattle.answer_texts.specs.AnswerLines.{slot_words, name_among, inst_words, table_lines, launch_words, hex_digits, hex_text, text_words, word_words, where_words, counted_words, stop_name, goal_words, end_words, claim_part, refuted_below, refute_part, lemmas_part, goal_lines, answer_lines}
+use Rattle.answer_texts.specs.AnswerLines.{slot_words, name_among, inst_words, table_lines, launch_words, word_words, where_words, counted_words, stop_name, goal_words, end_words, claim_part, refuted_below, refute_part, lemmas_part, goal_lines, answer_lines}
 use Rattle.answer_texts.specs.AnswerParts.{IsLaunch, IsCode, IsPlace}
 use Rattle.answer_texts.specs.Printable.{AreReadable, IsGraphClaim, AreLinesBelow, IsPrintableGoal, no_world, worked, IsPrintable}
 use Rattle.answer_texts.specs.declared.answers.AnswerText.{AnswerText}
 use Rattle.answer_texts.specs.declared.answers.Claim.{Claim}
 use Rattle.answer_texts.specs.declared.answers.Claim.TheVariants as claims
 use Rattle.answer_texts.specs.declared.answers.Claimed.{Claimed}
-use Rattle.answer_texts.proofs.HexInstrWords.{OperatorsAreListed, instr_words_are_words}
+use Rattle.answer_texts.proofs.HexInstrWords.{OperatorsAreListed, word_line}
 
 -- what the crates below say of words and lines
 pub record WordLaws : Type 0 where
@@ -97,23 +96,7 @@ lines_of f Fine can [] each = no_lines
 lines_of f Fine can (x ∷ xs) each =
     a_line (can x (All-head Fine x xs each)) (lines_of f Fine can xs (All-tail Fine x xs each))
 
--- ---- hexadecimal digits
-
-digit_printed : (n : ℕ) (b : Bool) → nat_lt n 10 ≡ b → n < 16 → is_printed (cond b (48 + n) (55 + n)) ≡ true
-digit_printed n true is lt = grind (arith, nat_tests, is)
-digit_printed n false is lt = grind (arith, nat_tests, is)
-
-digits_printed : (k word : ℕ) → list_all is_printed (hex_digits k word) ≡ true
-digits_printed zero word = refl
-digits_printed (suc k) word =
-    ap (λ b. b && list_all is_printed (hex_digits k word))
-    (digit_printed (word / 2 ^ (4 * k) % 16) (nat_lt (word / 2 ^ (4 * k) % 16) 10) refl
-    (mod-lt (word / 2 ^ (4 * k)) (omega arith)))
-    ∙ digits_printed k word
-
-hex_word : (word : ℕ) → IsLineWord (hex_text word)
-unfolding hex_text
-hex_word word = record { some = λ e. cc; printed = digits_printed 8 word }
+-- ---- names
 
 stop_word : (stop : Stop) → IsLineWord (stop_name stop)
 stop_word Quiet = record { some = λ e. cc; printed = refl }
@@ -184,16 +167,13 @@ module _ (laws : WordLaws) where
         (a_word (let low = is.0 in laws.number l.cycle (omega (arith, low)))
         (a_word (slot_word l.slot is.1) (a_word (let low = is.2 in laws.number l.row (omega (arith, low))) no_words))))
 
-  code_by : (word : ℕ) (o : Option Instr) → decoded word ≡ o → word < 2 ^ 32 → IsTrue (is_some o) → AreWords (text_words o)
+  code_by : (word : ℕ) (o : Option Instr) → decoded word ≡ o → word < 2 ^ 32 → IsTrue (is_some o)
+      → CanBeLine (word_words word)
   code_by word None is low some = absurd (false≢true some)
-  code_by word (Some i) is low some =
-      words_from_all _ (instr_words_are_words laws.number laws.listed i (laws.forth word i low is).0)
+  code_by word (Some i) is low some = word_line laws.number laws.listed laws.forth word i low is
 
   code_line : (word : ℕ) → IsCode word → CanBeLine (word_words word)
-  code_line word is =
-      can_be
-      (a_word (record { some = λ e. cc; printed = refl })
-      (a_word (hex_word word) (code_by word (decoded word) refl is.0 is.1)))
+  code_line word is = code_by word (decoded word) refl is.0 is.1
 
   place_line : (w : Where) → IsPlace w → CanBeLine (where_words w)
   place_line w is =

@@ -10,7 +10,7 @@ use Rattle.text_core.specs.Lines.{Line}
 use Rattle.text_core.specs.LineTexts.{Words, words_of_lines}
 use Rattle.text_core.specs.Names.{IsName}
 use Rattle.answer_texts.specs.AnswerLines.{version_words, encoding_words, built_in_words, own_words, slot_words, cross_words, inst_words, table_lines, goal_lines, answer_lines}
-use Rattle.answer_texts.specs.AnswerParts.{IsVersion, IsEncoding, IsTableLine, AreSlots, IsCross, AreUses, OwnPart, TablePart, AnswerPart}
+use Rattle.answer_texts.specs.AnswerParts.{IsVersion, IsEncoding, IsTableLine, AreNamedSlots, IsCross, AreTableUses, OwnPart, TablePart, AnswerPart}
 use Rattle.answer_texts.specs.Printable.{IsPrintable}
 use Rattle.answer_texts.specs.declared.answers.AnswerText.{AnswerText}
 use Rattle.answer_texts.specs.declared.answers.Claimed.{Claimed}
@@ -38,10 +38,10 @@ module _ (lines : List Line) where
   own_stands table behind from is named never a =
       let uses : List Words = map (inst_words table.slots) table.uses ++ behind in
       let cross : List Words = cross_words table.cross ∷ uses in
-      let slots : AreSlots table.slots =
+      let slots : AreNamedSlots table.slots =
       record { few = is.slots.1; names = named; clusters = is.clusters; once = is.names } in
       leads_stands lines _ _ cross behind from table.slots table
-      (lines_stand lines (codes "slot") slot_words AreSlots cross from table.slots slots
+      (lines_stand lines (codes "slot") slot_words AreNamedSlots cross from table.slots slots
       (apart 0 99 115 (codes "cross") (codes "slot") refl refl (λ n. omega (arith, n))) a)
       (λ middle first.
       leads_stands lines _ _ uses behind middle table.cross table
@@ -49,7 +49,7 @@ module _ (lines : List Line) where
       (record { some = is.slots.0; low = is.cross; is = refl }) first)
       (λ high second.
       leads_stands lines _ _ behind behind high table.uses table
-      (lines_stand lines (codes "inst") (inst_words table.slots) (AreUses table.slots table.cross) behind high table.uses is
+      (lines_stand lines (codes "inst") (inst_words table.slots) (AreTableUses table.slots table.cross) behind high table.uses is
       never second)
       (λ end last. says_stands lines behind end table last)))
 

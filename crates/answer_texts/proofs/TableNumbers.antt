@@ -9,7 +9,7 @@ use Rattle.std.proofs.lemmas.List.{get_or-map, get_or_append_left, length_push, 
 use Rattle.std.proofs.lemmas.List.Elements.{All-push}
 use Rattle.std.proofs.lemmas.List.Quantifiers.{all_pairs_push}
 use Rattle.std.proofs.Math.Seq.{get_or-append_seam}
-use Rattle.machine_table.specs.Reading.{AreNumbers}
+use Rattle.machine_table.specs.Reading.{AreSlotNumbers}
 use Rattle.machine_table.specs.declared.tables.Slot.{Slot}
 use Rattle.text_core.specs.LineTexts.{Words}
 use Rattle.answer_texts.specs.AnswerLines.{name_among}
@@ -19,7 +19,7 @@ use Rattle.answer_texts.proofs.TableSlots.{IsNoName, IsSlotAt, name_at}
 pub record AreNamed (slots : List Slot) (words : Words) (at : ℕ) (used : List ℕ) : Type 0 where
   pub is : drop 3 words ≡ map (name_among slots) used ++ drop at words
   pub count : length used + 3 ≡ at
-  pub numbers : AreNumbers slots used
+  pub numbers : AreSlotNumbers slots used
 
 other_default : (xs : List ℕ) (k d e : ℕ) → k < length xs → get_or xs k d ≡ get_or xs k e
 other_default [] k d e low = absurd (omega (arith, low))
@@ -53,7 +53,7 @@ one_slot slots differ i j lt less e =
 
 -- no other numbers are those of the words behind the third
 abbrev pub IsNoUsed : List Slot → Words → Type 0
-IsNoUsed slots words = (used : List ℕ) → drop 3 words ≡ map (name_among slots) used → AreNumbers slots used → ⊥
+IsNoUsed slots words = (used : List ℕ) → drop 3 words ≡ map (name_among slots) used → AreSlotNumbers slots used → ⊥
 
 module _ (slots : List Slot) (words : Words) (at : ℕ) (used : List ℕ) (h : AreNamed slots words at used) (lt : at < length words) where
   split : drop 3 words ≡ map (name_among slots) used ++ get_or words at [] ∷ drop (at + 1) words

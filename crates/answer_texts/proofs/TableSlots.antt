@@ -10,12 +10,12 @@ use Rattle.machine_table.specs.declared.tables.Slot.{Slot}
 use Rattle.text_core.specs.LineTexts.{Words}
 use Rattle.text_core.specs.Names.{IsName}
 use Rattle.answer_texts.specs.AnswerLines.{name_among, slot_words}
-use Rattle.answer_texts.specs.AnswerParts.{AreSlots}
+use Rattle.answer_texts.specs.AnswerParts.{AreNamedSlots}
 use Rattle.answer_texts.proofs.TableLists.{all_last, pairs_last, some_value}
 
 -- no slot that may stand behind these has these words
 abbrev pub IsNoSlot : List Slot → Words → Type 0
-IsNoSlot before words = (s : Slot) → words ≡ slot_words s → AreSlots (before ++ s ∷ []) → ⊥
+IsNoSlot before words = (s : Slot) → words ≡ slot_words s → AreNamedSlots (before ++ s ∷ []) → ⊥
 
 three_words : (words : Words) → length words ≡ 3 → words ≡ get_or words 0 [] ∷ get_or words 1 [] ∷ get_or words 2 [] ∷ []
 three_words [] e = absurd (omega (arith, e))
@@ -53,8 +53,8 @@ module _ (before : List Slot) (words : Words) where
       (ap (λ (l : Words). get_or l 2 []) is)
 
   pub the_slot : (s : Slot) → length words ≡ 3 → get_or words 0 [] ≡ codes "slot" → get_or words 1 [] ≡ s.name
-      → get_or words 2 [] ≡ decimal s.cluster → AreSlots before → length before ≢ 8 → IsName s.name → s.cluster < 4
-      → IsNoName before s.name → (words ≡ slot_words s) × AreSlots (before ++ s ∷ [])
+      → get_or words 2 [] ≡ decimal s.cluster → AreNamedSlots before → length before ≢ 8 → IsName s.name → s.cluster < 4
+      → IsNoName before s.name → (words ≡ slot_words s) × AreNamedSlots (before ++ s ∷ [])
   the_slot s count begins name number are few is low apart = (
     three_words words count ∙ ap₂ (λ a b. a ∷ b ∷ get_or words 2 [] ∷ []) begins name
         ∙ ap (λ b. codes "slot" ∷ s.name ∷ b ∷ []) number,

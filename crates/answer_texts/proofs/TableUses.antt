@@ -9,7 +9,7 @@ use Rattle.std.proofs.lemmas.List.Elements.{All-push, All-weaker}
 use Rattle.std.proofs.lemmas.List.Quantifiers.{all_pairs_push}
 use Rattle.std.proofs.lemmas.Option.{get_or_from_slice_get}
 use Rattle.machine_table.specs.InstrOrder.{kind_number, instr_name}
-use Rattle.machine_table.specs.Reading.{AreNumbers}
+use Rattle.machine_table.specs.Reading.{AreSlotNumbers}
 use Rattle.machine_table.specs.Tables.{IsUse}
 use Rattle.machine_table.specs.declared.tables.InstrKind.{InstrKind}
 use Rattle.machine_table.specs.declared.tables.Slot.{Slot}
@@ -17,7 +17,7 @@ use Rattle.machine_table.specs.declared.tables.Table.{Table}
 use Rattle.machine_table.specs.declared.tables.Use.{Use}
 use Rattle.text_core.specs.LineTexts.{Words}
 use Rattle.answer_texts.specs.AnswerLines.{inst_words, name_among}
-use Rattle.answer_texts.specs.AnswerParts.{AreUses, table_of}
+use Rattle.answer_texts.specs.AnswerParts.{AreTableUses, table_of}
 use Rattle.answer_texts.proofs.TableLists.{all_last, pairs_last}
 use Rattle.answer_texts.proofs.TableNumbers.{IsNoUsed}
 
@@ -62,7 +62,7 @@ module _ (uses : List Use) (last : Use) (is : slice_get uses (length uses - 1) �
 
 -- no use that may stand behind these has these words
 abbrev pub IsNoUse : List Slot → ℕ → List Use → Words → Type 0
-IsNoUse slots cross before words = (u : Use) → words ≡ inst_words slots u → AreUses slots cross (before ++ u ∷ []) → ⊥
+IsNoUse slots cross before words = (u : Use) → words ≡ inst_words slots u → AreTableUses slots cross (before ++ u ∷ []) → ⊥
 
 four_words : (words : Words) → 4 ≤ length words
     → words ≡ get_or words 0 [] ∷ get_or words 1 [] ∷ get_or words 2 [] ∷ drop 3 words
@@ -72,7 +72,7 @@ four_words (a ∷ b ∷ []) e = absurd (omega (arith, e))
 four_words (a ∷ b ∷ c ∷ words) e = refl
 
 module _ (slots : List Slot) (cross : ℕ) (before : List Use) (words : Words) where
-  is_use : (u : Use) → AreUses slots cross (before ++ u ∷ []) → IsUse (table_of slots cross (before ++ u ∷ [])) u
+  is_use : (u : Use) → AreTableUses slots cross (before ++ u ∷ []) → IsUse (table_of slots cross (before ++ u ∷ [])) u
   is_use u are = all_last (IsUse (table_of slots cross (before ++ u ∷ []))) before u are.uses
 
   pub not_behind : (instr : InstrKind) → ((other : InstrKind) → instr_name other ≡ get_or words 1 [] → instr ≡ other)
@@ -100,9 +100,9 @@ module _ (slots : List Slot) (cross : ℕ) (before : List Use) (words : Words) w
       never u.slots (ap (λ (l : Words). drop 3 l) is) (record { exist = one.exist; once = one.once })
 
   pub the_use : (u : Use) → 4 ≤ length words → get_or words 0 [] ≡ codes "inst" → get_or words 1 [] ≡ instr_name u.instr
-      → get_or words 2 [] ≡ decimal u.latency → drop 3 words ≡ map (name_among slots) u.slots → AreNumbers slots u.slots
-      → u.latency < 17 → u.latency ≢ 0 → AreBefore before u.instr → AreUses slots cross before
-      → (words ≡ inst_words slots u) × AreUses slots cross (before ++ u ∷ [])
+      → get_or words 2 [] ≡ decimal u.latency → drop 3 words ≡ map (name_among slots) u.slots → AreSlotNumbers slots u.slots
+      → u.latency < 17 → u.latency ≢ 0 → AreBefore before u.instr → AreTableUses slots cross before
+      → (words ≡ inst_words slots u) × AreTableUses slots cross (before ++ u ∷ [])
   the_use u long begins name number used numbers low some behind are =
       let old : Table = table_of slots cross before in
       let new : Table = table_of slots cross (before ++ u ∷ []) in

@@ -9,7 +9,7 @@ use Rattle.text_core.specs.LineTexts.{Words}
 use Rattle.text_core.specs.declared.faults.TextFault.{TextFault}
 use Rattle.text_core.specs.declared.faults.TextFault.TheVariants as faults
 use Rattle.launch_graph.proofs.Between.{between_more, between_none}
-use Rattle.answer_texts.specs.LineParts.{IsBadLineAt, AreLinesTo, AreLinesOf, HasBadLine}
+use Rattle.answer_texts.specs.LineParts.{IsBadOrMissingLine, AreLinesTo, AreLinesOf, HasBadLine}
 
 module _ {X : Type 0} (words_of : X → Words) (Fit : List X → Type 0) (lines : List Line) (from : ℕ) where
   pub no_lines : from ≤ length lines → Fit [] → AreLinesTo words_of Fit lines from from []
@@ -41,7 +41,7 @@ module _ {X : Type 0} (words_of : X → Words) (Fit : List X → Type 0) (lines 
     -- the next line begins with the word, and is that of no value that fits
     pub bad_next : (fault : TextFault) → at < length lines → line_word lines at 0 ≡ first
         → ((x : X) → (line_at lines at).words ≡ words_of x → Fit (xs ++ x ∷ []) → ⊥)
-        → IsFaultBy (IsBadLineAt lines at) fault → IsFaultBy (HasBadLine first words_of Fit lines from) fault
+        → IsFaultBy (IsBadOrMissingLine lines at) fault → IsFaultBy (HasBadLine first words_of Fit lines from) fault
     bad_next (faults.Fault fault) lt begins none bad =
         record { at = at; before = xs; so_far = h; within = lt; begins = begins; none = none; fault = bad }
     bad_next faults.Memory lt begins none bad = tt

@@ -19,7 +19,7 @@ use Rattle.text_core.specs.LineTexts.{Words}
 use Rattle.text_core.specs.Names.{IsName}
 use Rattle.text_core.specs.declared.faults.Kind.{Kind}
 use Rattle.answer_texts.specs.AnswerLines.{version_words, encoding_words, built_in_words, own_words, slot_words, cross_words, inst_words, launch_words, word_words, where_words, counted_words, rounds_words, scheduled_words, none_words, conflicts_words, size_words, noworld_words, goal_words, end_words}
-use Rattle.answer_texts.specs.LineParts.{IsBadLineAt, IsOneLine, IsNoLine, AreLinesOf, HasBadLine, Leads, Says, LeadsFault, NoFault}
+use Rattle.answer_texts.specs.LineParts.{IsBadOrMissingLine, IsOneLine, IsNoLine, AreLinesOf, HasBadLine, Leads, Says, LeadsFault, NoFault}
 use Rattle.answer_texts.specs.declared.answers.AnswerText.{AnswerText}
 use Rattle.answer_texts.specs.declared.answers.Claim.{Claim}
 use Rattle.answer_texts.specs.declared.answers.Claim.TheVariants as claims
@@ -49,7 +49,7 @@ IsTableLine words tables.BuiltIn = words ≡ built_in_words
 IsTableLine words tables.Own = words ≡ own_words
 
 -- at most eight slots with different names, in clusters 0 to 3
-pub record AreSlots (slots : List Slot) : Type 0 where
+pub record AreNamedSlots (slots : List Slot) : Type 0 where
   pub few : length slots ≤ 8
   pub names : All (λ s. IsName s.name) slots
   pub clusters : All (λ s. s.cluster ≤ 3) slots
@@ -65,20 +65,20 @@ abbrev pub table_of : List Slot → ℕ → List Use → Table
 table_of slots cross uses = record { slots = slots; cross = cross; uses = uses }
 
 -- with these uses the table is within the limits
-abbrev pub AreUses : List Slot → ℕ → List Use → Type 0
-AreUses slots cross uses = IsTable (table_of slots cross uses)
+abbrev pub AreTableUses : List Slot → ℕ → List Use → Type 0
+AreTableUses slots cross uses = IsTable (table_of slots cross uses)
 
 abbrev pub SlotsPart : List Line → ℕ → ℕ → List Slot → Type 0
-SlotsPart lines = AreLinesOf (codes "slot") slot_words AreSlots lines
+SlotsPart lines = AreLinesOf (codes "slot") slot_words AreNamedSlots lines
 
 abbrev pub SlotsFault : List Line → ℕ → ℕ → Kind → Type 0
-SlotsFault lines = HasBadLine (codes "slot") slot_words AreSlots lines
+SlotsFault lines = HasBadLine (codes "slot") slot_words AreNamedSlots lines
 
 abbrev pub UsesPart : List Line → List Slot → ℕ → ℕ → ℕ → List Use → Type 0
-UsesPart lines slots cross = AreLinesOf (codes "inst") (inst_words slots) (AreUses slots cross) lines
+UsesPart lines slots cross = AreLinesOf (codes "inst") (inst_words slots) (AreTableUses slots cross) lines
 
 abbrev pub UsesFault : List Line → List Slot → ℕ → ℕ → ℕ → Kind → Type 0
-UsesFault lines slots cross = HasBadLine (codes "inst") (inst_words slots) (AreUses slots cross) lines
+UsesFault lines slots cross = HasBadLine (codes "inst") (inst_words slots) (AreTableUses slots cross) lines
 
 -- a table of the text's own: its slots, its delay, its instructions
 abbrev pub OwnPart : List Line → ℕ → ℕ → Table → Type 0
@@ -124,7 +124,7 @@ pub record AreCounted (lines : List Line) (count from next : ℕ) (read : Lines)
 pub record IsCountedFault (lines : List Line) (count from place : ℕ) (kind : Kind) : Type 0 where
   pub at : ℕ
   pub first : IsFirstBadLine lines from count at
-  pub fault : IsBadLineAt lines (from + at) place kind
+  pub fault : IsBadOrMissingLine lines (from + at) place kind
 
 abbrev pub CountedPart : List Line → List ℕ → ℕ → ℕ → ℕ → Lines → Type 0
 CountedPart lines first cycles = Leads (IsOneLine (IsCount first cycles) lines) (AreCounted lines)
@@ -175,8 +175,8 @@ AreCodes words = All IsCode words
 abbrev pub IsPlace : Where → Type 0
 IsPlace w = IsName w.name × (w.reg < 32)
 
-abbrev pub ArePlaces : List Where → Type 0
-ArePlaces places = All IsPlace places
+abbrev pub AreWherePlaces : List Where → Type 0
+AreWherePlaces places = All IsPlace places
 
 abbrev pub LaunchesPart : List Line → Table → ℕ → ℕ → List Launch → Type 0
 LaunchesPart lines table = AreLinesOf (codes "launch") (launch_words table) (AreLaunches table) lines
@@ -191,10 +191,10 @@ abbrev pub CodesFault : List Line → ℕ → ℕ → Kind → Type 0
 CodesFault lines = HasBadLine (codes "word") word_words AreCodes lines
 
 abbrev pub PlacesPart : List Line → ℕ → ℕ → List Where → Type 0
-PlacesPart lines = AreLinesOf (codes "where") where_words ArePlaces lines
+PlacesPart lines = AreLinesOf (codes "where") where_words AreWherePlaces lines
 
 abbrev pub PlacesFault : List Line → ℕ → ℕ → Kind → Type 0
-PlacesFault lines = HasBadLine (codes "where") where_words ArePlaces lines
+PlacesFault lines = HasBadLine (codes "where") where_words AreWherePlaces lines
 
 -- a schedule: launches, words, places, and the lines for one cycle less
 abbrev pub SchedulePart : List Line → Table → ℕ → ℕ → ℕ → Claim × Option Lines → Type 0
@@ -323,7 +323,7 @@ pub data GoalsFault (lines : List Line) (table : Table) (from place : ℕ) (kind
       → (at < length lines) ⊎ (goals ≡ []) → GoalFault lines table at place kind
       → GoalsFault lines table from place kind
   too_many : {at : ℕ} {goals : List Claimed} → AreGoals lines table from at goals → length goals ≡ 64
-      → at < length lines → IsBadLineAt lines at place kind → GoalsFault lines table from place kind
+      → at < length lines → IsBadOrMissingLine lines at place kind → GoalsFault lines table from place kind
 
 -- ---- answers
 

@@ -1,15 +1,14 @@
 -- Parts of a text of lines, one behind another: from which line to which other a part stands and what it says, and the
 -- first fault of lines that aren't that part. Source: this project.
 use Rattle.std.specs.Prelude.{ℕ, ◌≡◌, ◌≢◌, ◌+◌, ◌<◌, ◌≤◌, List, [], ◌∷◌, ◌++◌, length, map}
-use Rattle.text_core.specs.Lines.{Line, line_at, line_word}
-use Rattle.text_core.specs.LineTexts.{Words}
+use Rattle.text_core.specs.Lines.{Line, line_at, line_word, BeginsAt}
+use Rattle.text_core.specs.LineTexts.{Words, SaysNone}
 use Rattle.text_core.specs.declared.faults.Kind.{Kind}
 use Rattle.text_core.specs.declared.faults.Kind.TheVariants.{BadLine}
-use Rattle.launch_graph.specs.LineFormats.{BeginsAt, words_between}
-use Rattle.launch_graph.specs.LineReading.{IsNone}
+use Rattle.launch_graph.specs.LineFormats.{words_between}
 
 -- BadLine where a line begins, or at the end of the text in place of a missing line
-pub record IsBadLineAt (lines : List Line) (at place : ℕ) (kind : Kind) : Type 0 where
+pub record IsBadOrMissingLine (lines : List Line) (at place : ℕ) (kind : Kind) : Type 0 where
   pub within : at ≤ length lines
   pub placed : BeginsAt lines at place
   pub named : kind ≡ BadLine
@@ -25,8 +24,8 @@ pub record IsOneLine {X : Type 0} (Is : Words → X → Type 0) (lines : List Li
 -- the line is missing, or of another kind
 pub record IsNoLine {X : Type 0} (Is : Words → X → Type 0) (lines : List Line) (from place : ℕ) (kind : Kind)
     : Type 0 where
-  pub none : from < length lines → IsNone Is (line_at lines from).words
-  pub fault : IsBadLineAt lines from place kind
+  pub none : from < length lines → SaysNone Is (line_at lines from).words
+  pub fault : IsBadOrMissingLine lines from place kind
 
 -- ---- lines of one kind, which begin with a word
 
@@ -53,7 +52,7 @@ pub record HasBadLine {X : Type 0} (first : List ℕ) (words_of : X → Words) (
   pub within : at < length lines
   pub begins : line_word lines at 0 ≡ first
   pub none : (value : X) → (line_at lines at).words ≡ words_of value → Fit (before ++ value ∷ []) → ⊥
-  pub fault : IsBadLineAt lines at place kind
+  pub fault : IsBadOrMissingLine lines at place kind
 
 -- ---- one part behind another
 

@@ -10,7 +10,7 @@ use Rattle.refutation_check.specs.LineWords.{IsReadableLine}
 use Rattle.saturation.specs.declared.rounds.Stop.{Stop}
 use Rattle.text_core.specs.Names.{IsName}
 use Rattle.answer_texts.specs.AnswerLines.{refuted_below}
-use Rattle.answer_texts.specs.AnswerParts.{AreLaunches, AreCodes, ArePlaces, no_world_body, claimed_of}
+use Rattle.answer_texts.specs.AnswerParts.{AreLaunches, AreCodes, AreWherePlaces, no_world_body, claimed_of}
 use Rattle.answer_texts.specs.declared.answers.AnswerText.{AnswerText}
 use Rattle.answer_texts.specs.declared.answers.Claim.{Claim}
 use Rattle.answer_texts.specs.declared.answers.Claim.TheVariants.{NoWorld, Scheduled, Missing, SpentConflicts, SpentSize}
@@ -25,7 +25,7 @@ pub record AreReadable (lines : Lines) : Type 0 where
 abbrev pub IsGraphClaim : Table → Claim → Type 0
 IsGraphClaim table (NoWorld class a b) = ⊥
 IsGraphClaim table (Scheduled k schedule words places) =
-    (k ≤ 24) × AreLaunches table schedule.launches × AreCodes words × ArePlaces places
+    (k ≤ 24) × AreLaunches table schedule.launches × AreCodes words × AreWherePlaces places
 IsGraphClaim table (Missing k) = k ≤ 24
 IsGraphClaim table (SpentConflicts k lemmas) = (k ≤ 24) × AreReadable lemmas
 IsGraphClaim table (SpentSize k vars clauses) = (k ≤ 24) × (vars < 2 ^ 64) × (clauses < 2 ^ 64)

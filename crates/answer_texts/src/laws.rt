@@ -1,7 +1,10 @@
 // What a text says as an answer is one thing. The calls do nothing: their clauses hold of all texts.
-ghost use Rattle.std.specs.Prelude.{◌≡◌, ◌<◌, ◌^◌, ℕ, List, length, All};
+ghost use Rattle.std.specs.Prelude.{◌≡◌, ◌<◌, ◌^◌, ℕ, List, length, All, Some};
+ghost use Rattle.alpha_encode.specs.Decoded.{decoded};
+ghost use Rattle.alpha_encode.specs.declared.instructions.Instr.{Instr as Decoded};
+ghost use Rattle.text_core.specs.LineTexts.{CanBeLine};
 ghost use Rattle.text_core.specs.declared.faults.Kind.{Kind};
-ghost use Rattle.answer_texts.specs.AnswerLines.{answer_bytes};
+ghost use Rattle.answer_texts.specs.AnswerLines.{answer_bytes, word_words};
 ghost use Rattle.answer_texts.specs.Printable.{IsPrintable};
 ghost use Rattle.answer_texts.specs.ReadAnswers.{IsAnswerFault, ReadsAnswer};
 ghost use Rattle.answer_texts.specs.WellFormed.{IsAnswer};
@@ -45,6 +48,15 @@ pub fn read_answers_are_well_formed()
     one_splitting();
     printed_lines_are_lines();
     tables_keep_limits();
+}
+
+/// The line of a word of the machine can be a line.
+pub fn word_lines_can_be_lines()
+    ensures { (word : ℕ) (instr : Decoded) → word < 2 ^ 32 → decoded word ≡ Some instr → CanBeLine (word_words word) }
+{
+    words_and_instructions();
+    printed_lines_are_lines();
+    operators_are_listed();
 }
 
 /// An answer that can be printed is what the bytes that it prints are read as. Only such answers are read.

@@ -3,11 +3,11 @@ ghost use Rattle.std.specs.Prelude.{◌≡◌, ◌<◌, ◌≤◌, ◌^◌, ◌�
 ghost use Rattle.std.specs.Prelude as std;
 ghost use Rattle.text_core.specs.Faults.{IsFaultBy};
 ghost use Rattle.text_core.specs.Lines.{line_at, line_word};
-ghost use Rattle.launch_graph.specs.LineReading.{IsNone};
+ghost use Rattle.text_core.specs.LineTexts.{SaysNone};
 ghost use Rattle.saturation.specs.declared.rounds.Stop.{Stop as StopOf};
 ghost use Rattle.answer_texts.specs.AnswerLines.{end_words, stop_name};
 ghost use Rattle.answer_texts.specs.AnswerParts.{IsBodyLine, IsClaimLine, IsCount, IsCross, IsEncoding, IsGoalName, IsTableLine, IsVersion};
-ghost use Rattle.answer_texts.specs.LineParts.{IsBadLineAt};
+ghost use Rattle.answer_texts.specs.LineParts.{IsBadOrMissingLine};
 ghost use Rattle.answer_texts.specs.declared.parts.BodyLine.TheVariants as bodies;
 ghost use Rattle.answer_texts.specs.declared.parts.ClaimLine.TheVariants as lines_of;
 
@@ -32,7 +32,7 @@ const LIMIT: u64 = 1 << 31;
 /// The fault of a line, or of the end of the text where the line is the count.
 pub(crate) fn bad_line(text: &TextLines<'_>, line: u32) -> TextFault
     requires { line ≤ length text.now }
-    ensures { IsFaultBy (IsBadLineAt text.now line) result }
+    ensures { IsFaultBy (IsBadOrMissingLine text.now line) result }
 {
     TextFault::Fault(Fault {
         place: text.place(line),
@@ -75,7 +75,7 @@ pub(crate) fn has_form(text: &TextLines<'_>, line: u32, first: &[u8], count: u32
 /// The version of the format.
 pub(crate) fn version_line(text: &TextLines<'_>, line: u32) -> Option<u8>
     requires { line < length text.now }
-    ensures { MatchOption result (IsNone IsVersion (line_at text.now line).words)
+    ensures { MatchOption result (SaysNone IsVersion (line_at text.now line).words)
         (IsVersion (line_at text.now line).words) }
 {
     if !has_form(text, line, b"denali", 2) {
@@ -88,7 +88,7 @@ pub(crate) fn version_line(text: &TextLines<'_>, line: u32) -> Option<u8>
 /// The encoding of the clauses.
 pub(crate) fn encoding_line(text: &TextLines<'_>, line: u32) -> Option<u8>
     requires { line < length text.now }
-    ensures { MatchOption result (IsNone IsEncoding (line_at text.now line).words)
+    ensures { MatchOption result (SaysNone IsEncoding (line_at text.now line).words)
         (IsEncoding (line_at text.now line).words) }
 {
     if !has_form(text, line, b"encoding", 2) {
@@ -101,7 +101,7 @@ pub(crate) fn encoding_line(text: &TextLines<'_>, line: u32) -> Option<u8>
 /// Whether the table is the built-in one.
 pub(crate) fn table_line(text: &TextLines<'_>, line: u32) -> Option<TableLine>
     requires { line < length text.now }
-    ensures { MatchOption result (IsNone IsTableLine (line_at text.now line).words)
+    ensures { MatchOption result (SaysNone IsTableLine (line_at text.now line).words)
         (IsTableLine (line_at text.now line).words) }
 {
     if !has_form(text, line, b"table", 2) {
@@ -119,7 +119,7 @@ pub(crate) fn table_line(text: &TextLines<'_>, line: u32) -> Option<TableLine>
 /// The delay between clusters, behind these slots.
 pub(crate) fn cross_line(text: &TextLines<'_>, line: u32, slots: &[Slot]) -> Option<u32>
     requires { line < length text.now }
-    ensures { MatchOption result (IsNone (IsCross slots.now) (line_at text.now line).words)
+    ensures { MatchOption result (SaysNone (IsCross slots.now) (line_at text.now line).words)
         (IsCross slots.now (line_at text.now line).words) }
 {
     if slots.is_empty() || !has_form(text, line, b"cross", 2) {
@@ -136,7 +136,7 @@ pub(crate) fn goal_line(
     line: u32,
 ) -> Result<Option<Name>, NoMemory>
     requires { line < length text.now }
-    ensures { IfOk result (λ found. MatchOption found (IsNone IsGoalName (line_at text.now line).words)
+    ensures { IfOk result (λ found. MatchOption found (SaysNone IsGoalName (line_at text.now line).words)
         (IsGoalName (line_at text.now line).words)) }
 {
     if !has_form(text, line, b"goal", 2) {
@@ -206,7 +206,7 @@ fn rounds_line(text: &TextLines<'_>, line: u32) -> Option<BodyLine>
 /// The line behind a goal's name.
 pub(crate) fn body_line(text: &TextLines<'_>, line: u32) -> Option<BodyLine>
     requires { line < length text.now }
-    ensures { MatchOption result (IsNone IsBodyLine (line_at text.now line).words)
+    ensures { MatchOption result (SaysNone IsBodyLine (line_at text.now line).words)
         (IsBodyLine (line_at text.now line).words) }
 {
     if begins_with(text, line, b"noworld") {
@@ -253,7 +253,7 @@ fn spent_line(text: &TextLines<'_>, line: u32) -> Option<ClaimLine>
 /// The first line of a claim.
 pub(crate) fn claim_line(text: &TextLines<'_>, line: u32) -> Option<ClaimLine>
     requires { line < length text.now }
-    ensures { MatchOption result (IsNone IsClaimLine (line_at text.now line).words)
+    ensures { MatchOption result (SaysNone IsClaimLine (line_at text.now line).words)
         (IsClaimLine (line_at text.now line).words) }
 {
     if has_form(text, line, b"scheduled", 2) {
@@ -270,7 +270,7 @@ pub(crate) fn claim_line(text: &TextLines<'_>, line: u32) -> Option<ClaimLine>
 /// How many lines for so many cycles stand behind a line that begins with this word.
 pub(crate) fn count_line(text: &TextLines<'_>, line: u32, first: &[u8], k: u32) -> Option<u32>
     requires { line < length text.now }
-    ensures { MatchOption result (IsNone (IsCount first.now k) (line_at text.now line).words)
+    ensures { MatchOption result (SaysNone (IsCount first.now k) (line_at text.now line).words)
         (IsCount first.now k (line_at text.now line).words) }
 {
     if !has_form(text, line, first, 3) {

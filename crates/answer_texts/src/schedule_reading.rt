@@ -6,7 +6,7 @@ ghost use Rattle.text_core.specs.Lines.{line_at};
 ghost use Rattle.register_assign.specs.declared.listings.Where.{Where as WhereOf};
 ghost use Rattle.schedule_meaning.specs.declared.schedules.Launch.{Launch as LaunchOf};
 ghost use Rattle.answer_texts.specs.AnswerLines.{launch_words, where_words, word_words};
-ghost use Rattle.answer_texts.specs.AnswerParts.{AreCodes, AreLaunches, ArePlaces, CodesFault, CodesPart, LaunchesFault, LaunchesPart, PlacesFault, PlacesPart};
+ghost use Rattle.answer_texts.specs.AnswerParts.{AreCodes, AreLaunches, AreWherePlaces, CodesFault, CodesPart, LaunchesFault, LaunchesPart, PlacesFault, PlacesPart};
 
 use crate::line_reading::{bad_line, begins_with, below, has_form};
 use crate::table_reading::slot_named;
@@ -95,8 +95,8 @@ pub(crate) fn read_codes(
 fn where_line(alloc: Global, text: &TextLines<'_>, line: u32) -> Result<Option<Where>, NoMemory>
     requires { line < length text.now }
     ensures { IfOk result (λ found. MatchOption found
-        ((w : WhereOf) → (line_at text.now line).words ≡ where_words w → ArePlaces (w ∷ []) → ⊥)
-        (λ w. ((line_at text.now line).words ≡ where_words w) × ArePlaces (w ∷ []))) }
+        ((w : WhereOf) → (line_at text.now line).words ≡ where_words w → AreWherePlaces (w ∷ []) → ⊥)
+        (λ w. ((line_at text.now line).words ≡ where_words w) × AreWherePlaces (w ∷ []))) }
 {
     if !has_form(text, line, b"where", 3) {
         return Ok(None);

@@ -3,11 +3,11 @@ ghost use Rattle.std.specs.Prelude.{◌≡◌, ◌<◌, ◌≤◌, ◌+◌, ◌+
 ghost use Rattle.text_core.specs.Faults.{IsFaultBy};
 ghost use Rattle.text_core.specs.Lines.{line_at};
 ghost use Rattle.machine_table.specs.InstrOrder.{kind_number};
-ghost use Rattle.machine_table.specs.Reading.{AreNumbers};
+ghost use Rattle.machine_table.specs.Reading.{AreSlotNumbers};
 ghost use Rattle.machine_table.specs.declared.tables.Slot.{Slot as SlotOf};
 ghost use Rattle.machine_table.specs.declared.tables.Use.{Use as UseOf};
 ghost use Rattle.answer_texts.specs.AnswerLines.{slot_words, inst_words, name_among};
-ghost use Rattle.answer_texts.specs.AnswerParts.{AreSlots, AreUses, OwnFault, OwnPart, SlotsFault, SlotsPart, TableFault, TablePart, UsesFault, UsesPart, IsCross, IsTableLine};
+ghost use Rattle.answer_texts.specs.AnswerParts.{AreNamedSlots, AreTableUses, OwnFault, OwnPart, SlotsFault, SlotsPart, TableFault, TablePart, UsesFault, UsesPart, IsCross, IsTableLine};
 ghost use Rattle.answer_texts.specs.LineParts.{IsOneLine, IsNoLine};
 
 use crate::line_reading::{bad_line, begins_with, below, cross_line, same, table_line};
@@ -37,10 +37,10 @@ fn slot_line(
     before: &[Slot],
 ) -> Result<Option<Slot>, NoMemory>
     requires line { line < length text.now }
-    requires before { AreSlots before.now }
+    requires before { AreNamedSlots before.now }
     ensures { IfOk result (λ found. MatchOption found
-        ((s : SlotOf) → (line_at text.now line).words ≡ slot_words s → AreSlots (before.now ++ s ∷ []) → ⊥)
-        (λ s. ((line_at text.now line).words ≡ slot_words s) × AreSlots (before.now ++ s ∷ []))) }
+        ((s : SlotOf) → (line_at text.now line).words ≡ slot_words s → AreNamedSlots (before.now ++ s ∷ []) → ⊥)
+        (λ s. ((line_at text.now line).words ≡ slot_words s) × AreNamedSlots (before.now ++ s ∷ []))) }
 {
     if text.words(line) != 3 || before.len() == MOST_SLOTS || !begins_with(text, line, b"slot") {
         return Ok(None);
@@ -109,9 +109,9 @@ fn slots_named(
     requires names { AllPairs (λ (s r : SlotOf). s.name ≢ r.name) slots.now }
     ensures { IfOk result (λ found. MatchOption found
         ((used : List ℕ) → drop 3 (line_at text.now line).words ≡ map (name_among slots.now) used
-        → AreNumbers slots.now used → ⊥)
+        → AreSlotNumbers slots.now used → ⊥)
         (λ used. (drop 3 (line_at text.now line).words ≡ map (name_among slots.now) used)
-        × AreNumbers slots.now used)) }
+        × AreSlotNumbers slots.now used)) }
 {
     let mut named = Items::new(alloc);
     for at in 3..text.words(line) {
@@ -148,12 +148,12 @@ fn inst_line(
     before: &[Use],
 ) -> Result<Option<Use>, NoMemory>
     requires line { line < length text.now }
-    requires before { AreUses slots.now cross before.now }
+    requires before { AreTableUses slots.now cross before.now }
     ensures { IfOk result (λ found. MatchOption found
         ((u : UseOf) → (line_at text.now line).words ≡ inst_words slots.now u
-        → AreUses slots.now cross (before.now ++ u ∷ []) → ⊥)
+        → AreTableUses slots.now cross (before.now ++ u ∷ []) → ⊥)
         (λ u. ((line_at text.now line).words ≡ inst_words slots.now u)
-        × AreUses slots.now cross (before.now ++ u ∷ []))) }
+        × AreTableUses slots.now cross (before.now ++ u ∷ []))) }
 {
     if text.words(line) < 4 || !begins_with(text, line, b"inst") {
         return Ok(None);
@@ -189,7 +189,7 @@ fn read_uses(
     cross: u32,
 ) -> Result<(Items<Use>, u32), TextFault>
     requires from { from ≤ length text.now }
-    requires none { AreUses slots.now cross [] }
+    requires none { AreTableUses slots.now cross [] }
     ensures ok { IfOk result (λ p. UsesPart text.now slots.now cross from p.1 p.0) }
     ensures fault { IfErr result (IsFaultBy (UsesFault text.now slots.now cross from)) }
 {

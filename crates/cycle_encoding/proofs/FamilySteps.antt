@@ -16,7 +16,7 @@ use Rattle.cycle_encoding.specs.Shapes.{numbered, positive, negative, implied, v
 use Rattle.cycle_encoding.specs.Variables.{Seen}
 use Rattle.cycle_encoding.specs.Families.{is_made, is_made_target, is_seen, makes}
 use Rattle.cycle_encoding.specs.Facts.{made_among}
-use Rattle.cycle_encoding.specs.Steps.{given_in, goals, is_ready, of_thing, sights, with_clauses}
+use Rattle.cycle_encoding.specs.Steps.{given_in, target_groups, is_ready, of_thing, sights, with_clauses}
 use Rattle.cycle_encoding.proofs.Adding.{with-none, added, size-with, implied_step}
 use Rattle.cycle_encoding.proofs.Blocks.{vars-over}
 use Rattle.cycle_encoding.proofs.Walk.{numbered-append}
@@ -97,55 +97,55 @@ module _ (g : LaunchGraph) (table : Table) (d : Seen) (ls : List Launch) (given 
 
 -- targets
 module _ (g : LaunchGraph) (xs : List (ℕ × Launch)) where
-  pub goals-append : (some bs : List SetClass) → goals g xs (some ++ bs) ≡ goals g xs some ++ goals g xs bs
+  pub goals-append : (some bs : List SetClass) → target_groups g xs (some ++ bs) ≡ target_groups g xs some ++ target_groups g xs bs
   goals-append some bs = ap (map (λ (s : SetClass). vars_of (gives g s.class) xs)) (filter-append (is_made_target g) some bs) ∙ map-append (λ (s : SetClass). vars_of (gives g s.class) xs) (filter (is_made_target g) some) (filter (is_made_target g) bs)
 
-  pub goals-more : (sets : List SetClass) (i : ℕ) (d : SetClass) → i < length sets → goals g xs (take (i + 1) sets) ≡ goals g xs (take i sets) ++ goals g xs (get_or sets i d ∷ [])
-  goals-more sets i d lt = ap (goals g xs) (take_more sets i d lt) ∙ goals-append (take i sets) (get_or sets i d ∷ [])
+  pub goals-more : (sets : List SetClass) (i : ℕ) (d : SetClass) → i < length sets → target_groups g xs (take (i + 1) sets) ≡ target_groups g xs (take i sets) ++ target_groups g xs (get_or sets i d ∷ [])
+  goals-more sets i d lt = ap (target_groups g xs) (take_more sets i d lt) ∙ goals-append (take i sets) (get_or sets i d ∷ [])
 
-  pub goals-part : (sets : List SetClass) (i : ℕ) → length (goals g xs (take i sets)) ≤ length (goals g xs sets)
+  pub goals-part : (sets : List SetClass) (i : ℕ) → length (target_groups g xs (take i sets)) ≤ length (target_groups g xs sets)
   goals-part sets i =
-      let e = ap (λ (s : List SetClass). length (goals g xs s)) (sym (take-append-drop i sets)) ∙ ap (λ (c : List (List Lit)). length c) (goals-append (take i sets) (drop i sets)) ∙ length-append (goals g xs (take i sets)) (goals g xs (drop i sets)) in
+      let e = ap (λ (s : List SetClass). length (target_groups g xs s)) (sym (take-append-drop i sets)) ∙ ap (λ (c : List (List Lit)). length c) (goals-append (take i sets) (drop i sets)) ∙ length-append (target_groups g xs (take i sets)) (target_groups g xs (drop i sets)) in
       omega arith
 
-  pub goal-one : (s : SetClass) → is_made_target g s ≡ true → goals g xs (s ∷ []) ≡ vars_of (gives g s.class) xs ∷ []
+  pub goal-one : (s : SetClass) → is_made_target g s ≡ true → target_groups g xs (s ∷ []) ≡ vars_of (gives g s.class) xs ∷ []
   goal-one s e = ap (λ b. map (λ (s : SetClass). vars_of (gives g s.class) xs) (cond b (s ∷ []) [])) e
 
-  pub added-target : {A E : Type 0} (r : Result A E) (f h : Formula) (s : SetClass) (clause : List Lit) → is_made_target g s ≡ true → clause ≡ vars_of (gives g s.class) xs → OnOk r (h ≡ record f { clauses = f.clauses ++ clause ∷ [] }) → OnOk r (h ≡ with_clauses f (goals g xs (s ∷ [])))
+  pub added-target : {A E : Type 0} (r : Result A E) (f h : Formula) (s : SetClass) (clause : List Lit) → is_made_target g s ≡ true → clause ≡ vars_of (gives g s.class) xs → OnOk r (h ≡ record f { clauses = f.clauses ++ clause ∷ [] }) → OnOk r (h ≡ with_clauses f (target_groups g xs (s ∷ [])))
   added-target (Ok a) f h s clause t e k = k ∙ ap (λ (c : List Lit). with_clauses f (c ∷ [])) e ∙ ap (λ (cs : List (List Lit)). with_clauses f cs) (sym (goal-one s t))
   added-target (Err x) f h s clause t e k = tt
 
-  pub goal-none : (s : SetClass) → is_made_target g s ≡ false → goals g xs (s ∷ []) ≡ []
+  pub goal-none : (s : SetClass) → is_made_target g s ≡ false → target_groups g xs (s ∷ []) ≡ []
   goal-none s e = ap (λ b. map (λ (s : SetClass). vars_of (gives g s.class) xs) (cond b (s ∷ []) [])) e
 
-  pub no-target : (f : Formula) (s : SetClass) → is_made_target g s ≡ false → f ≡ with_clauses f (goals g xs (s ∷ []))
+  pub no-target : (f : Formula) (s : SetClass) → is_made_target g s ≡ false → f ≡ with_clauses f (target_groups g xs (s ∷ []))
   no-target f s t = with-none f ∙ ap (λ (cs : List (List Lit)). with_clauses f cs) (sym (goal-none s t))
 
 -- one more target, and the room that it takes
-module _ (g : LaunchGraph) (xs : List (ℕ × Launch)) (sets : List SetClass) (i : ℕ) (d : SetClass) (f mid : Formula) (lt : i < length sets) (is : mid ≡ with_clauses f (goals g xs (take i sets))) where
-  pub goals_step : (new : Formula) → new ≡ with_clauses mid (goals g xs (get_or sets i d ∷ [])) → new ≡ with_clauses f (goals g xs (take (i + 1) sets))
-  goals_step new n = added f mid new (goals g xs (get_or sets i d ∷ [])) (goals g xs (take i sets)) (goals g xs (take (i + 1) sets)) is n (goals-more g xs sets i d lt)
+module _ (g : LaunchGraph) (xs : List (ℕ × Launch)) (sets : List SetClass) (i : ℕ) (d : SetClass) (f mid : Formula) (lt : i < length sets) (is : mid ≡ with_clauses f (target_groups g xs (take i sets))) where
+  pub goals_step : (new : Formula) → new ≡ with_clauses mid (target_groups g xs (get_or sets i d ∷ [])) → new ≡ with_clauses f (target_groups g xs (take (i + 1) sets))
+  goals_step new n = added f mid new (target_groups g xs (get_or sets i d ∷ [])) (target_groups g xs (take i sets)) (target_groups g xs (take (i + 1) sets)) is n (goals-more g xs sets i d lt)
 
-  pub goals_room : length f.clauses + length (goals g xs sets) < 2 ^ 30 → length mid.clauses + length (goals g xs (get_or sets i d ∷ [])) < 2 ^ 30
+  pub goals_room : length f.clauses + length (target_groups g xs sets) < 2 ^ 30 → length mid.clauses + length (target_groups g xs (get_or sets i d ∷ [])) < 2 ^ 30
   goals_room room =
-      let a = size-with f mid (goals g xs (take i sets)) is in
+      let a = size-with f mid (target_groups g xs (take i sets)) is in
       let b = goals-part g xs sets (i + 1) in
-      let c = ap (λ (c : List (List Lit)). length c) (goals-more g xs sets i d lt) ∙ length-append (goals g xs (take i sets)) (goals g xs (get_or sets i d ∷ [])) in
+      let c = ap (λ (c : List (List Lit)). length c) (goals-more g xs sets i d lt) ∙ length-append (target_groups g xs (take i sets)) (target_groups g xs (get_or sets i d ∷ [])) in
       omega arith
 
 -- the same of an item of a slice of the targets
-module _ (g : LaunchGraph) (xs : List (ℕ × Launch)) (items sets : List SetClass) (i : ℕ) (item : SetClass) (f mid : Formula) (same : items ≡ sets) (lt : i < length items) (at : item ≡ get_or items i item) (is : mid ≡ with_clauses f (goals g xs (take i sets))) where
+module _ (g : LaunchGraph) (xs : List (ℕ × Launch)) (items sets : List SetClass) (i : ℕ) (item : SetClass) (f mid : Formula) (same : items ≡ sets) (lt : i < length items) (at : item ≡ get_or items i item) (is : mid ≡ with_clauses f (target_groups g xs (take i sets))) where
   below : i < length sets
   below = subst (λ (ys : List SetClass). i < length ys) same lt
 
   item_is : get_or sets i item ≡ item
   item_is = sym (at ∙ ap (λ (ys : List SetClass). get_or ys i item) same)
 
-  pub target_step : (new : Formula) → new ≡ with_clauses mid (goals g xs (item ∷ [])) → new ≡ with_clauses f (goals g xs (take (i + 1) sets))
-  target_step new n = goals_step g xs sets i item f mid below is new (n ∙ ap (λ (s : SetClass). with_clauses mid (goals g xs (s ∷ []))) (sym item_is))
+  pub target_step : (new : Formula) → new ≡ with_clauses mid (target_groups g xs (item ∷ [])) → new ≡ with_clauses f (target_groups g xs (take (i + 1) sets))
+  target_step new n = goals_step g xs sets i item f mid below is new (n ∙ ap (λ (s : SetClass). with_clauses mid (target_groups g xs (s ∷ []))) (sym item_is))
 
-  pub target_room : length f.clauses + length (goals g xs sets) < 2 ^ 30 → length mid.clauses + length (goals g xs (item ∷ [])) < 2 ^ 30
-  target_room room = subst (λ (s : SetClass). length mid.clauses + length (goals g xs (s ∷ [])) < 2 ^ 30) item_is (goals_room g xs sets i item f mid below is room)
+  pub target_room : length f.clauses + length (target_groups g xs sets) < 2 ^ 30 → length mid.clauses + length (target_groups g xs (item ∷ [])) < 2 ^ 30
+  target_room room = subst (λ (s : SetClass). length mid.clauses + length (target_groups g xs (s ∷ [])) < 2 ^ 30) item_is (goals_room g xs sets i item f mid below is room)
 
 -- operands
 pub sights-more : (cluster cycle var : ℕ) (ds : List (ℕ × Seen)) (made : List ℕ) (i d : ℕ) → i < length made → of_thing var (sights cluster cycle ds (take (i + 1) made)) ≡ of_thing var (sights cluster cycle ds (take i made)) ++ (negative var ∷ vars_of (is_seen (get_or made i d) cluster cycle) ds) ∷ []

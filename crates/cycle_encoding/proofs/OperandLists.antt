@@ -8,7 +8,8 @@ use Rattle.std.proofs.lemmas.Bool.{cases_eq, eq-eqb, ne_eqb}
 use Rattle.schedule_meaning.specs.Launches.{Operand, operate_operands, plain}
 use Rattle.launch_graph.specs.declared.graphs.LaunchGraph.{LaunchGraph}
 use Rattle.cycle_encoding.specs.Families.{is_made}
-use Rattle.cycle_encoding.specs.Facts.{made_among, operand_of}
+use Rattle.schedule_meaning.specs.Readers.{operand_of}
+use Rattle.cycle_encoding.specs.Facts.{made_among}
 
 size_step : (x y : ℕ) (ys : List ℕ) → length (operate_operands (y ∷ ys)) ≡ length (y ∷ ys) → length (operate_operands (x ∷ y ∷ ys)) ≡ length (x ∷ y ∷ ys)
 size_step x y ys h = ap suc h

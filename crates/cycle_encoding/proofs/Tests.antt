@@ -13,15 +13,15 @@ use Rattle.word_ops.specs.declared.operators.WordOp.TheVariants as ops
 use Rattle.word_ops.specs.declared.sorts.Op.{Op}
 use Rattle.word_ops.specs.declared.sorts.Op.TheVariants.{Word, Select, Store, Load, Put}
 use Rattle.machine_table.specs.InstrOrder.{operate_kind}
-use Rattle.launch_graph.specs.Graphs.{constant_of}
-use Rattle.schedule_meaning.specs.Launches.{instr_at, launches, gives_word, is_branch, word_op_instr, op_instr, class_at, IsZero, IsByteConstant, IsFree, IsInput, Gives, Operand, gives}
+use Rattle.launch_graph.specs.Graphs.{constant_of, is_zero_class}
+use Rattle.schedule_meaning.specs.Launches.{instr_at, launches, gives_word, is_branch, word_op_instr, op_instr, class_at, IsZero, IsByteConstant, IsFree, IsClassOfInput, Gives, Operand, gives}
 use Rattle.machine_table.specs.declared.tables.InstrKind.{InstrKind}
 use Rattle.machine_table.specs.declared.tables.InstrKind.TheVariants.{Lda, Ldah, LdqU, StqU, Beq}
 use Rattle.launch_graph.specs.declared.graphs.LaunchGraph.{LaunchGraph}
 use Rattle.launch_graph.specs.declared.graphs.LaunchRow.{LaunchRow}
 use Rattle.launch_graph.specs.declared.graphs.Guard.{Guard}
 use Rattle.schedule_meaning.specs.declared.schedules.Launch.{Launch}
-use Rattle.cycle_encoding.specs.Variables.{is_input, is_zero, is_byte}
+use Rattle.cycle_encoding.specs.Variables.{is_input, is_byte}
 use Rattle.cycle_encoding.specs.Families.{is_free}
 
 -- ---- a thing of a list that passes
@@ -93,10 +93,10 @@ module _ (g : LaunchGraph) where
   zero_in None h = absurd (false≢true h)
   zero_in (Some n) h = ap Some (eqb-true n 0 h)
 
-  pub zero-is : (c : ℕ) → is_zero g c ≡ true → IsZero g c
+  pub zero-is : (c : ℕ) → is_zero_class g c ≡ true → IsZero g c
   zero-is c h = zero_in (constant_of g c) h
 
-  pub zero-from : (c : ℕ) → IsZero g c → is_zero g c ≡ true
+  pub zero-from : (c : ℕ) → IsZero g c → is_zero_class g c ≡ true
   zero-from c h = ap (λ o. option_map_or (λ n. n == 0) o false) h
 
   byte_in : (o : Option ℕ) → option_map_or (λ n. nat_le n 255) o false ≡ true → (n : ℕ) × (o ≡ Some n) × (n ≤ 255)
@@ -109,21 +109,21 @@ module _ (g : LaunchGraph) where
   pub byte-from : (c : ℕ) → IsByteConstant g c → is_byte g c ≡ true
   byte-from c (n, e, l) = ap (λ o. option_map_or (λ n. nat_le n 255) o false) e ∙ le-leb n 255 l
 
-  pub input-is : (c : ℕ) → is_input g c ≡ true → IsInput g c
+  pub input-is : (c : ℕ) → is_input g c ≡ true → IsClassOfInput g c
   input-is c h = (let a = some_of (λ i. i.class == c) g.inputs h in any_from (λ i. i.class ≡ c) g.inputs a.0 a.1 (eqb-true a.0.class c a.2))
 
-  pub input-from : (c : ℕ) → IsInput g c → is_input g c ≡ true
+  pub input-from : (c : ℕ) → IsClassOfInput g c → is_input g c ≡ true
   input-from c (k, i, l, e, s) = some_in (λ i. i.class == c) g.inputs i (k, l, e) (eq-eqb i.class c s)
 
   pub free-is : (o : Operand) → is_free g o ≡ true → IsFree g o
-  free-is o h = elim (or_cases (is_zero g o.class) (o.second && is_byte g o.class) h) [
+  free-is o h = elim (or_cases (is_zero_class g o.class) (o.second && is_byte g o.class) h) [
     | inl z ↦ inl (zero-is o.class z)
     | inr b ↦ (let p = and_parts o.second (is_byte g o.class) b in inr (p.0, byte-is o.class p.1))
   ]
 
   pub free-from : (o : Operand) → IsFree g o → is_free g o ≡ true
-  free-from o (inl z) = or_left (is_zero g o.class) (o.second && is_byte g o.class) (zero-from o.class z)
-  free-from o (inr b) = or_right (is_zero g o.class) (o.second && is_byte g o.class) (and_from o.second (is_byte g o.class) b.0 (byte-from o.class b.1))
+  free-from o (inl z) = or_left (is_zero_class g o.class) (o.second && is_byte g o.class) (zero-from o.class z)
+  free-from o (inr b) = or_right (is_zero_class g o.class) (o.second && is_byte g o.class) (and_from o.second (is_byte g o.class) b.0 (byte-from o.class b.1))
 
   pub gives-is : (c : ℕ) (l : Launch) → gives g c l ≡ true → Gives g c l
   gives-is c l h = (let p = and_parts (launches g gives_word l) (class_at g l.row == c) h in (p.0, eqb-true (class_at g l.row) c p.1))

@@ -1,17 +1,17 @@
 -- Tables of what a graph says of its classes and rows.
 -- Source: this project.
 use Rattle.std.specs.Prelude.{◌≡◌, ◌==◌, ◌&&◌, nat_lt, ℕ, Bool, false, true, not, List, length, map, set, Option, None, Some, slice_get, if◌then◌else◌}
-use Rattle.std.specs.Option.{option_map_or}
+use Rattle.std.specs.Option.{option_map_or, option_or}
 use Rattle.std.specs.List.{filter, flat_map, list_any, range_with_len, slice_index_or}
 use Rattle.machine_table.specs.Tables.{use_of}
-use Rattle.launch_graph.specs.Graphs.{constant_of, or_else}
+use Rattle.launch_graph.specs.Graphs.{constant_of, is_zero_class}
 use Rattle.schedule_meaning.specs.Launches.{instr_at, Operand}
 use Rattle.machine_table.specs.declared.tables.InstrKind.{InstrKind}
 use Rattle.machine_table.specs.declared.tables.Table.{Table}
 use Rattle.launch_graph.specs.declared.graphs.LaunchGraph.{LaunchGraph}
 use Rattle.schedule_meaning.specs.declared.schedules.Launch.{Launch}
 use Rattle.cycle_encoding.specs.Families.{is_made}
-use Rattle.cycle_encoding.specs.Variables.{is_word_class, is_input, is_zero}
+use Rattle.cycle_encoding.specs.Variables.{is_word_class, is_input}
 
 -- what stands in the table at a number is what f says of it
 abbrev pub IsTableOf : {X : Type 0} → (ℕ → X) → List X → Type 0
@@ -26,10 +26,7 @@ pub record AreFacts (g : LaunchGraph) (constants : List (Option ℕ)) (words inp
 
 -- the class is a word's, and is made by launches alone
 abbrev pub is_made_class : LaunchGraph → ℕ → Bool
-is_made_class g c = is_word_class g c && (not (is_input g c) && not (is_zero g c))
-
-abbrev pub operand_of : ℕ → Bool → Operand
-operand_of class second = record { class = class; second = second }
+is_made_class g c = is_word_class g c && (not (is_input g c) && not (is_zero_class g c))
 
 -- the classes of the operands that have to be made by launches
 abbrev pub made_among : LaunchGraph → List Operand → List ℕ
@@ -52,12 +49,12 @@ slots_launches table instr row cycles slots =
     flat_map (slot_launches row cycles) (filter (may_use table instr) (range_with_len 0 slots))
 
 -- marks of classes with that of a class which passes, if there is one
-abbrev pub marked : List Bool → ℕ → Bool → List Bool
-marked marks class passes = if passes && nat_lt class (length marks) then set marks class true else marks
+abbrev pub class_marked : List Bool → ℕ → Bool → List Bool
+class_marked marks class passes = if passes && nat_lt class (length marks) then set marks class true else marks
 
 -- constants of classes with one for a class that has none
 abbrev pub with_constant : List (Option ℕ) → ℕ → Option ℕ → List (Option ℕ)
 with_constant constants class constant =
     if nat_lt class (length constants)
-    then set constants class (or_else (slice_index_or constants class None) constant)
+    then set constants class (option_or (slice_index_or constants class None) constant)
     else constants

@@ -5,14 +5,14 @@ use Rattle.std.specs.Prelude.{ℕ, ◌==◌, ◌&&◌, ◌||◌, nat_le, Bool, t
 use Rattle.std.specs.List.{filter, flat_map, range_with_len}
 use Rattle.cnf_core.specs.declared.literal.Lit.{Lit}
 use Rattle.machine_table.specs.Tables.{cluster_of}
-use Rattle.launch_graph.specs.Graphs.{is_memory_name}
+use Rattle.launch_graph.specs.Graphs.{is_memory_name, is_zero_class}
 use Rattle.schedule_meaning.specs.Launches.{gives, operands_at, ready_in, Operand}
 use Rattle.machine_table.specs.declared.tables.Table.{Table}
 use Rattle.launch_graph.specs.declared.graphs.LaunchGraph.{LaunchGraph}
 use Rattle.launch_graph.specs.declared.graphs.SetClass.{SetClass}
 use Rattle.schedule_meaning.specs.declared.schedules.Launch.{Launch}
 use Rattle.cycle_encoding.specs.Shapes.{vars_of, implied}
-use Rattle.cycle_encoding.specs.Variables.{is_input, is_zero, is_byte, Seen}
+use Rattle.cycle_encoding.specs.Variables.{is_input, is_byte, Seen}
 
 -- ---- tests
 
@@ -23,14 +23,14 @@ abbrev pub is_at : ℕ → ℕ → Launch → Bool
 is_at slot cycle l = (l.slot == slot) && (l.cycle == cycle)
 
 abbrev pub is_free : LaunchGraph → Operand → Bool
-is_free g o = is_zero g o.class || (o.second && is_byte g o.class)
+is_free g o = is_zero_class g o.class || (o.second && is_byte g o.class)
 
 -- the operand has to be made by a launch
 abbrev pub is_made : LaunchGraph → Operand → Bool
 is_made g o = not (is_free g o) && not (is_input g o.class)
 
 abbrev pub is_made_target : LaunchGraph → SetClass → Bool
-is_made_target g s = not (is_memory_name s.name) && (not (is_input g s.class) && not (is_zero g s.class))
+is_made_target g s = not (is_memory_name s.name) && (not (is_input g s.class) && not (is_zero_class g s.class))
 
 abbrev pub is_seen : ℕ → ℕ → ℕ → Seen → Bool
 is_seen class cluster cycle d = (d.class == class) && ((d.cluster == cluster) && (d.cycle == cycle))

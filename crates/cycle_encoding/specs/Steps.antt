@@ -72,8 +72,8 @@ abbrev pub is_ready : LaunchGraph → Table → Seen → Launch → Bool
 is_ready g table d l = nat_le (ready_in g table d.cluster l) d.cycle
 
 -- for each target that has to be made the launches that give it
-abbrev pub goals : LaunchGraph → List (ℕ × Launch) → List SetClass → List (List Lit)
-goals g xs sets = map (λ s. vars_of (gives g s.class) xs) (filter (is_made_target g) sets)
+abbrev pub target_groups : LaunchGraph → List (ℕ × Launch) → List SetClass → List (List Lit)
+target_groups g xs sets = map (λ s. vars_of (gives g s.class) xs) (filter (is_made_target g) sets)
 
 -- the launches that give a class, with their variables
 unfoldable pub given_in : LaunchGraph → ℕ → List Launch → List (ℕ × Launch)

@@ -7,7 +7,7 @@ use Rattle.word_ops.specs.Meanings.{sort_of}
 use Rattle.word_ops.specs.declared.sorts.Sort.{Sort}
 use Rattle.word_ops.specs.declared.sorts.Sort.TheVariants as sort
 use Rattle.machine_table.specs.Tables.{use_of}
-use Rattle.launch_graph.specs.Graphs.{constant_of}
+use Rattle.launch_graph.specs.Graphs.{constant_of, is_zero_class}
 use Rattle.launch_graph.specs.WellFormed.{next_class}
 use Rattle.schedule_meaning.specs.Launches.{instr_at}
 use Rattle.machine_table.specs.declared.tables.Table.{Table}
@@ -51,9 +51,6 @@ is_word_class g class = list_any (λ r. r.class == class && is_word (sort_of r.o
 abbrev pub is_input : LaunchGraph → ℕ → Bool
 is_input g class = list_any (λ i. i.class == class) g.inputs
 
-abbrev pub is_zero : LaunchGraph → ℕ → Bool
-is_zero g class = option_map_or (λ n. n == 0) (constant_of g class) false
-
 abbrev pub is_byte : LaunchGraph → ℕ → Bool
 is_byte g class = option_map_or (λ n. nat_le n 255) (constant_of g class) false
 
@@ -62,7 +59,7 @@ classes_of g = range_with_len 0 (next_class g.rows)
 
 -- the word classes that are made by launches alone: no input's class and not the zero class
 abbrev pub made_classes : LaunchGraph → List ℕ
-made_classes g = filter (λ c. is_word_class g c && (not (is_input g c) && not (is_zero g c))) (classes_of g)
+made_classes g = filter (λ c. is_word_class g c && (not (is_input g c) && not (is_zero_class g c))) (classes_of g)
 
 -- ---- what is seen
 

@@ -6,7 +6,8 @@ ghost use Rattle.launch_graph.specs.WellFormed as wellformed;
 ghost use Rattle.launch_graph.specs.WellFormed.{IsLaunchGraph};
 ghost use Rattle.schedule_meaning.specs.Launches as launches;
 ghost use Rattle.cycle_encoding.specs.Counts.{row_is};
-ghost use Rattle.cycle_encoding.specs.Facts.{IsTableOf, is_made_class, operand_of};
+ghost use Rattle.schedule_meaning.specs.Readers.{operand_of};
+ghost use Rattle.cycle_encoding.specs.Facts.{IsTableOf, is_made_class};
 ghost use Rattle.cycle_encoding.specs.Families as families;
 ghost use Rattle.cycle_encoding.specs.Variables as variables;
 
@@ -137,7 +138,7 @@ impl<'a> Facts<'a> {
     }
 
     fn is_zero(&self, class: u32) -> bool
-        ensures { result ≡ variables.is_zero self.now class }
+        ensures { result ≡ graphs.is_zero_class self.now class }
     {
         match self.constant_of(class) {
             Some(constant) => constant == 0,

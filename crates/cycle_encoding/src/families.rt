@@ -9,7 +9,7 @@ ghost use Rattle.machine_table.specs.Tables as tables;
 ghost use Rattle.cycle_encoding.specs.Facts.{IsTableOf};
 ghost use Rattle.cycle_encoding.specs.Families.{is_made, is_seen, makes, operand_clauses, seen_clauses, target_clauses};
 ghost use Rattle.cycle_encoding.specs.Shapes.{negative, numbered, positive, vars_of};
-ghost use Rattle.cycle_encoding.specs.Steps.{AreSeenVars, given_in, goals, is_ready, listed, of_thing, put_at, sights, with_clauses};
+ghost use Rattle.cycle_encoding.specs.Steps.{AreSeenVars, given_in, target_groups, is_ready, listed, of_thing, put_at, sights, with_clauses};
 
 use crate::buckets::{empty_lists, put_into};
 use crate::facts::next_class;
@@ -84,9 +84,9 @@ fn add_target(
     requires exist { length launches.now ≤ cnf.old.vars }
     requires few { cnf.old.vars < 2 ^ 29 }
     requires room { length cnf.old.clauses
-        + length (goals facts.now (numbered 0 launches.now) (set.now ∷ [])) < 2 ^ 30 }
+        + length (target_groups facts.now (numbered 0 launches.now) (set.now ∷ [])) < 2 ^ 30 }
     ensures { OnOk result
-        (cnf.new ≡ with_clauses cnf.old (goals facts.now (numbered 0 launches.now) (set.now ∷ []))) }
+        (cnf.new ≡ with_clauses cnf.old (target_groups facts.now (numbered 0 launches.now) (set.now ∷ []))) }
 {
     if !facts.is_made_target(set) {
         return Ok(());

@@ -20,7 +20,7 @@ pub fn unmarked(alloc: Global, classes: u32) -> Result<Vec<bool>, NoMemory>
 
 /// Marks a class that passes, if the table has it.
 pub fn mark(marks: &mut Vec<bool>, class: u32, passes: bool)
-    ensures { marks.new.items ≡ specs.marked marks.old.items class passes }
+    ensures { marks.new.items ≡ specs.class_marked marks.old.items class passes }
 {
     if passes {
         if let Some(mark) = marks.get_mut(class as usize) {

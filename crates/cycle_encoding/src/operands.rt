@@ -1,7 +1,8 @@
 // The word operands of a row that launches have to make.
 ghost use Rattle.std.specs.Prelude.{◌≡◌, ◌∷◌, [], ◌++◌, IfOk, OnOk};
 ghost use Rattle.schedule_meaning.specs.Launches as launches;
-ghost use Rattle.cycle_encoding.specs.Facts.{made_among, operand_of};
+ghost use Rattle.schedule_meaning.specs.Readers.{operand_of};
+ghost use Rattle.cycle_encoding.specs.Facts.{made_among};
 
 use crate::Facts;
 use items::NoMemory;

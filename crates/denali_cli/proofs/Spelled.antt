@@ -12,7 +12,7 @@ use Rattle.clap.specs.declared.parser.matches.Found.{Found}
 use Rattle.clap.proofs.WalkLemmas.{first_value-rows}
 use Rattle.clap.proofs.OnLiterals.{clap_on_literals}
 use Rattle.denali_cli.specs.Commands.{Command}
-use Rattle.denali_cli.specs.Spellings.{command_in, given, is_taken, matched, program, spelled_command}
+use Rattle.denali_cli.specs.Spellings.{command_in, value_given, is_taken, matched, program, spelled_command}
 
 -- ---- the program as clap has it
 
@@ -60,11 +60,11 @@ module _ (a : App) (words : List Text) (is : a ≡ program) where
 
 module _ {A : Type 0} (read : Text → Option A) (found : Found) (name : Text) (text : Option (Bor Text))
     (has : option_map (λ s. s.now) text ≡ first_value found name) where
-  pub absent : text ≡ None → Some None ≡ given read (first_of name (rows_of found))
-  absent none = ap (given read) (ap (option_map (λ s. s.now)) (sym none) ∙ has ∙ first_value-rows found name)
+  pub absent : text ≡ None → Some None ≡ value_given read (first_of name (rows_of found))
+  absent none = ap (value_given read) (ap (option_map (λ s. s.now)) (sym none) ∙ has ∙ first_value-rows found name)
 
   pub present : (word : Bor Text) → text ≡ Some word → (value : Option A) → value ≡ read word.now
-      → option_map (λ v. Some v) value ≡ given read (first_of name (rows_of found))
+      → option_map (λ v. Some v) value ≡ value_given read (first_of name (rows_of found))
   present word some value is =
       ap (option_map (λ v. Some v)) is
-      ∙ ap (given read) (ap (option_map (λ s. s.now)) (sym some) ∙ has ∙ first_value-rows found name)
+      ∙ ap (value_given read) (ap (option_map (λ s. s.now)) (sym some) ∙ has ∙ first_value-rows found name)

@@ -7,7 +7,7 @@ use Rattle.std.proofs.lemmas.Fmt.{decimal_is_IsNumeral}
 use Rattle.std.proofs.lemmas.Slice.Eq.{bytes_eq-Decides}
 use Rattle.std.proofs.lemmas.Bool.{false≢true}
 use Rattle.std.proofs.lemmas.Bool.Decides.{Decides-ltb, Decides-not}
-use Rattle.denali_cli.specs.OptionValues.{value_in}
+use Rattle.denali_cli.specs.OptionValues.{number_within}
 
 -- ---- of three tests one fails, or all hold
 
@@ -39,26 +39,26 @@ module _ (low high : ℕ) (word : List ℕ) where
   abbrev below_high : Decides (not (nat_lt high number)) (¬ (high < number))
   below_high = Decides-not (nat_lt high number) (Decides-ltb high number)
 
-  refused : ((word ≡ decimal number) → (¬ (number < low)) → (¬ (high < number)) → ⊥) → None ≡ value_in low high word
+  refused : ((word ≡ decimal number) → (¬ (number < low)) → (¬ (high < number)) → ⊥) → None ≡ number_within low high word
   refused h =
       one_fails (bytes_eq word (decimal number)) (not (nat_lt number low)) (not (nat_lt high number)) number
       (λ same above below. h ((bytes_eq-Decides word (decimal number)).0 same) (above_low.0 above) (below_high.0 below))
 
   -- no number has the word
-  pub no_number : high < 2 ^ 32 → ((n : ℕ) → n < 2 ^ 64 → word ≡ decimal n → ⊥) → None ≡ value_in low high word
+  pub no_number : high < 2 ^ 32 → ((n : ℕ) → n < 2 ^ 64 → word ≡ decimal n → ⊥) → None ≡ number_within low high word
   no_number few none = refused (λ same above below. none number (omega (arith, few, below)) same)
 
   -- the word's number is this one
   is_number : (n : ℕ) → n < 2 ^ 64 → word ≡ decimal n → number ≡ n
   is_number n few is = ap (digits_value 10) is ∙ (decimal_is_IsNumeral n few).1
 
-  pub too_low : (n : ℕ) → n < 2 ^ 64 → word ≡ decimal n → n < low → None ≡ value_in low high word
+  pub too_low : (n : ℕ) → n < 2 ^ 64 → word ≡ decimal n → n < low → None ≡ number_within low high word
   too_low n few is lt = refused (λ same above below. above (subst (λ m. m < low) (sym (is_number n few is)) lt))
 
-  pub too_high : (n : ℕ) → n < 2 ^ 64 → word ≡ decimal n → high < n → None ≡ value_in low high word
+  pub too_high : (n : ℕ) → n < 2 ^ 64 → word ≡ decimal n → high < n → None ≡ number_within low high word
   too_high n few is lt = refused (λ same above below. below (subst (λ m. high < m) (sym (is_number n few is)) lt))
 
-  pub within : (n : ℕ) → n < 2 ^ 64 → word ≡ decimal n → low ≤ n → n ≤ high → Some n ≡ value_in low high word
+  pub within : (n : ℕ) → n < 2 ^ 64 → word ≡ decimal n → low ≤ n → n ≤ high → Some n ≡ number_within low high word
   within n few is above below =
       let e = is_number n few is in
       all_hold (bytes_eq word (decimal number)) (not (nat_lt number low)) (not (nat_lt high number)) n number

@@ -5,8 +5,8 @@ pub use Rattle.denali_cli.specs.declared.commands.Command.{Command}
 pub use Rattle.denali_cli.specs.declared.commands.Command.TheVariants.{Solve, Check, Run, Gen}
 
 -- its numbers are within their limits
-abbrev pub IsWithinLimits : Command → Type 0
-IsWithinLimits (Solve s) = IsSettings s
-IsWithinLimits Check = Unit {0}
-IsWithinLimits Run = Unit {0}
-IsWithinLimits (Gen size) = (1 ≤ size) × (size ≤ 20)
+abbrev pub HasValuesInRange : Command → Type 0
+HasValuesInRange (Solve s) = IsSettings s
+HasValuesInRange Check = Unit {0}
+HasValuesInRange Run = Unit {0}
+HasValuesInRange (Gen size) = (1 ≤ size) × (size ≤ 20)

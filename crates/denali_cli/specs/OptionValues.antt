@@ -9,31 +9,31 @@ use Rattle.denali_run.specs.declared.settings.Settings.{Settings}
 use Rattle.denali_cli.specs.declared.options.Options.{Options}
 
 -- the number whose decimal digits the word is, within two bounds
-abbrev pub value_in : ℕ → ℕ → List ℕ → Option ℕ
-value_in low high word =
+abbrev pub number_within : ℕ → ℕ → List ℕ → Option ℕ
+number_within low high word =
     if bytes_eq word (decimal (digits_value 10 word))
     && not (nat_lt (digits_value 10 word) low)
     && not (nat_lt high (digits_value 10 word))
     then Some (digits_value 10 word) else None
 
-abbrev pub rounds_of : List ℕ → Option ℕ
-rounds_of = value_in 0 16
+abbrev pub rounds_value : List ℕ → Option ℕ
+rounds_value = number_within 0 16
 
-abbrev pub nodes_of : List ℕ → Option ℕ
-nodes_of = value_in 1 4096
+abbrev pub nodes_value : List ℕ → Option ℕ
+nodes_value = number_within 1 4096
 
-abbrev pub cycles_of : List ℕ → Option ℕ
-cycles_of = value_in 0 24
+abbrev pub cycles_value : List ℕ → Option ℕ
+cycles_value = number_within 0 24
 
-abbrev pub conflicts_of : List ℕ → Option ℕ
-conflicts_of = value_in 1 1000000
+abbrev pub conflicts_value : List ℕ → Option ℕ
+conflicts_value = number_within 1 1000000
 
-abbrev pub pick_of : List ℕ → Option Pick
-pick_of word = if bytes_eq word (codes "first") then Some First else None
+abbrev pub pick_value : List ℕ → Option Pick
+pick_value word = if bytes_eq word (codes "first") then Some First else None
 
 -- how many operators a generated goal has
-abbrev pub size_of : List ℕ → Option ℕ
-size_of = value_in 1 20
+abbrev pub size_value : List ℕ → Option ℕ
+size_value = number_within 1 20
 
 abbrev pub default_size : ℕ
 default_size = 10

@@ -49,7 +49,7 @@ IsWhole SinkFault = ⊥
 IsWhole _ = Unit {0}
 
 -- All of the output was written, and the run ended with its status.
-pub record Writes (said : Option Command) (left left' written written' : Option (List ℕ))
+pub record WritesAll (said : Option Command) (left left' written written' : Option (List ℕ))
     (status : Status) : Type 0 where
   pub output : List ℕ
   pub decided : Decides said left left' output status

@@ -6,7 +6,7 @@ use Rattle.std.specs.declared.option.Option.{Option}
 use Rattle.std.specs.Str.{bytes_eq}
 use Rattle.denali_cli.specs.Commands.{Command, Solve, Check, Run, Gen}
 use Rattle.denali_cli.specs.declared.options.Options.{Options}
-use Rattle.denali_cli.specs.OptionValues.{rounds_of, nodes_of, cycles_of, conflicts_of, pick_of, no_options, settings_of, size_of, default_size}
+use Rattle.denali_cli.specs.OptionValues.{rounds_value, nodes_value, cycles_value, conflicts_value, pick_value, no_options, settings_of, size_value, default_size}
 
 -- the value for an option that wasn't set before
 abbrev pub once : {A : Type 0} → Option A → Option A → Option A
@@ -17,15 +17,15 @@ once (Some old) value = None
 abbrev pub set_option : Options → List ℕ → List ℕ → Option Options
 set_option o name value =
     if bytes_eq name (codes "--rounds")
-    then option_map (λ n. record o { rounds = Some n }) (once o.rounds (rounds_of value))
+    then option_map (λ n. record o { rounds = Some n }) (once o.rounds (rounds_value value))
     else if bytes_eq name (codes "--nodes")
-    then option_map (λ n. record o { nodes = Some n }) (once o.nodes (nodes_of value))
+    then option_map (λ n. record o { nodes = Some n }) (once o.nodes (nodes_value value))
     else if bytes_eq name (codes "--cycles")
-    then option_map (λ n. record o { cycles = Some n }) (once o.cycles (cycles_of value))
+    then option_map (λ n. record o { cycles = Some n }) (once o.cycles (cycles_value value))
     else if bytes_eq name (codes "--conflicts")
-    then option_map (λ n. record o { conflicts = Some n }) (once o.conflicts (conflicts_of value))
+    then option_map (λ n. record o { conflicts = Some n }) (once o.conflicts (conflicts_value value))
     else if bytes_eq name (codes "--pick")
-    then option_map (λ p. record o { pick = Some p }) (once o.pick (pick_of value))
+    then option_map (λ p. record o { pick = Some p }) (once o.pick (pick_value value))
     else None
 
 abbrev pub and_then : Option Options → (Options → Option Options) → Option Options
@@ -47,7 +47,7 @@ alone command (word ∷ words) = None
 abbrev pub size_in : List (List ℕ) → Option ℕ
 size_in [] = Some default_size
 size_in (name ∷ []) = None
-size_in (name ∷ value ∷ []) = if bytes_eq name (codes "--size") then size_of value else None
+size_in (name ∷ value ∷ []) = if bytes_eq name (codes "--size") then size_value value else None
 size_in (name ∷ value ∷ word ∷ words) = None
 
 -- the command of words in plain form; none for other words

@@ -9,7 +9,7 @@ use Rattle.clap.specs.Words.{App, Kinds, Row, Rule, Text, fault_of, first_of, ne
 use Rattle.clap.specs.declared.builder.action.ArgAction.TheVariants.{Set}
 use Rattle.denali_cli.specs.Commands.{Command, Solve, Check, Run, Gen}
 use Rattle.denali_cli.specs.declared.options.Options.{Options}
-use Rattle.denali_cli.specs.OptionValues.{rounds_of, nodes_of, cycles_of, conflicts_of, pick_of, settings_of, size_of, default_size}
+use Rattle.denali_cli.specs.OptionValues.{rounds_value, nodes_value, cycles_value, conflicts_value, pick_value, settings_of, size_value, default_size}
 
 -- ---- the program
 
@@ -52,9 +52,9 @@ matched words = if is_taken (fault_of program words) then subcommand_of program 
 -- ---- the values of its options
 
 -- what is read of an option: nothing where it isn't given, and none where its text is no value
-abbrev pub given : {A : Type 0} → (Text → Option A) → Option Text → Option (Option A)
-given read None = Some None
-given read (Some text) = option_map (λ value. Some value) (read text)
+abbrev pub value_given : {A : Type 0} → (Text → Option A) → Option Text → Option (Option A)
+value_given read None = Some None
+value_given read (Some text) = option_map (λ value. Some value) (read text)
 
 abbrev pub options_in : List Row → Option Options
 options_in rows =
@@ -63,17 +63,17 @@ options_in rows =
     option_and_then (λ cycles.
     option_and_then (λ conflicts.
     option_map (λ pick. record { rounds = rounds; nodes = nodes; cycles = cycles; conflicts = conflicts; pick = pick })
-    (given pick_of (first_of (codes "pick") rows)))
-    (given conflicts_of (first_of (codes "conflicts") rows)))
-    (given cycles_of (first_of (codes "cycles") rows)))
-    (given nodes_of (first_of (codes "nodes") rows)))
-    (given rounds_of (first_of (codes "rounds") rows))
+    (value_given pick_value (first_of (codes "pick") rows)))
+    (value_given conflicts_value (first_of (codes "conflicts") rows)))
+    (value_given cycles_value (first_of (codes "cycles") rows)))
+    (value_given nodes_value (first_of (codes "nodes") rows)))
+    (value_given rounds_value (first_of (codes "rounds") rows))
 
 abbrev pub solve_in : List Row → Option Command
 solve_in rows = option_map (λ o. Solve (settings_of o)) (options_in rows)
 
 abbrev pub gen_in : List Row → Option Command
-gen_in rows = option_map (λ size. Gen (unwrap_or size default_size)) (given size_of (first_of (codes "size") rows))
+gen_in rows = option_map (λ size. Gen (unwrap_or size default_size)) (value_given size_value (first_of (codes "size") rows))
 
 -- the command of a subcommand with these matches
 abbrev pub command_in : Text × List Row → Option Command

@@ -1,7 +1,7 @@
 // What is to be written, before any of it is.
 ghost use Rattle.std.specs.Prelude.{◌≡◌, ◌≢◌, ◌≤◌, ◌++◌, None, Some, IfOk, OnOk, decimal, length, IsErrOf, IfErr, IfSome};
 ghost use Rattle.outside_io.specs.Causes.{IsCounted};
-ghost use Rattle.denali_cli.specs.Commands.{Command as Asked, IsWithinLimits};
+ghost use Rattle.denali_cli.specs.Commands.{Command as Asked, HasValuesInRange};
 ghost use Rattle.denali_cli.specs.Said.{asked_by};
 ghost use Rattle.denali_cli.specs.Replies as replies;
 ghost use Rattle.denali_cli.specs.Replies.{ErrorIs, IsWithinLimit, Reply, Reports, fault_line, too_long_line};
@@ -91,7 +91,7 @@ fn limit_of(command: Command) -> Option<u32>
 
 /// The command's report on a text.
 fn report_on(alloc: Global, command: Command, text: &[u8]) -> Result<Report, TextError>
-    requires command { IsWithinLimits command }
+    requires command { HasValuesInRange command }
     requires few { length text.now ≤ 268435456 }
     ensures reports { IfOk result (λ r. Reports command text.now r.bytes.items r.status) }
     ensures error { IfErr result (ErrorIs command text.now) }
@@ -106,7 +106,7 @@ fn report_on(alloc: Global, command: Command, text: &[u8]) -> Result<Report, Tex
 
 /// The command's report on a text within its limit, or the line of the text's first fault.
 fn answer(alloc: Global, command: Command, text: &[u8]) -> Result<Report, Stop>
-    requires command { IsWithinLimits command }
+    requires command { HasValuesInRange command }
     requires few { length text.now ≤ 268435456 }
     requires within { IsWithinLimit command text.now }
     ensures reply { IfOk result (λ r. Reply command text.now r.bytes.items r.status) }
@@ -128,7 +128,7 @@ fn work_on_input<S: Source>(
     limit: u32,
     source: &mut S,
 ) -> Result<Report, Stop>
-    requires command { IsWithinLimits command }
+    requires command { HasValuesInRange command }
     requires limit { replies.limit_of command ≡ Some limit }
     requires small { limit ≤ 268435456 }
     ensures decided { IfOk result (λ r. Decides (Some command) (S.left source.old) (S.left source.new)
@@ -151,7 +151,7 @@ fn work_on_input<S: Source>(
 
 /// The work of a command, which reads first where it reads at all.
 fn work<S: Source>(alloc: Global, command: Command, source: &mut S) -> Result<Report, Stop>
-    requires command { IsWithinLimits command }
+    requires command { HasValuesInRange command }
     ensures decided { IfOk result (λ r. Decides (Some command) (S.left source.old) (S.left source.new)
         r.bytes.items r.status) }
     ensures whole { IfOk result (λ r. IsWhole r.status) }

@@ -19,7 +19,7 @@ pub(crate) struct Options {
 
 /// The number that a word is, within two bounds.
 pub(crate) fn value_in(low: u32, high: u32, word: &str) -> Option<u32>
-    ensures value { result ≡ values.value_in low high word.now }
+    ensures value { result ≡ values.number_within low high word.now }
     ensures within { IfSome result (λ n. (low ≤ n) × (n ≤ high)) }
 {
     let number = decimal(word.as_bytes())?;
@@ -33,7 +33,7 @@ pub(crate) fn value_in(low: u32, high: u32, word: &str) -> Option<u32>
 }
 
 pub(crate) fn pick_of(word: &str) -> Option<Pick>
-    ensures { result ≡ values.pick_of word.now }
+    ensures { result ≡ values.pick_value word.now }
 {
     if word == "first" {
         Some(Pick::First)

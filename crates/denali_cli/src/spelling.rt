@@ -3,7 +3,7 @@ ghost use Rattle.std.specs.Prelude.{◌≡◌, ◌≤◌, ◌<◌, ◌^◌, IfOk
 ghost use Rattle.std.specs.Option.{option_and_then};
 ghost use Rattle.clap.specs.Words.{app_of, first_of, found_of, new_app, rows_of, subcommand_rows_of, with_rule};
 ghost use Rattle.clap.specs.declared.builder.command.Command.TheViews.{out-Command as fields_of};
-ghost use Rattle.denali_cli.specs.Commands.{IsWithinLimits};
+ghost use Rattle.denali_cli.specs.Commands.{HasValuesInRange};
 ghost use Rattle.denali_cli.specs.OptionValues as values;
 ghost use Rattle.denali_cli.specs.Spellings as spec;
 
@@ -74,7 +74,7 @@ fn program<'a>(alloc: Global) -> Result<Parser<'a>, NoMemory>
 
 /// The number that an option is given, within two bounds.
 fn number_given(matches: &ArgMatches<'_>, name: &str, low: u32, high: u32) -> Option<Option<u32>>
-    ensures value { result ≡ spec.given (values.value_in low high)
+    ensures value { result ≡ spec.value_given (values.number_within low high)
         (first_of name.now (rows_of (found_of matches.now))) }
     ensures within { IfSome result (λ given. IfSome given (λ n. (low ≤ n) × (n ≤ high))) }
 {
@@ -86,7 +86,7 @@ fn number_given(matches: &ArgMatches<'_>, name: &str, low: u32, high: u32) -> Op
 }
 
 fn pick_given(matches: &ArgMatches<'_>, name: &str) -> Option<Option<Pick>>
-    ensures { result ≡ spec.given values.pick_of (first_of name.now (rows_of (found_of matches.now))) }
+    ensures { result ≡ spec.value_given values.pick_value (first_of name.now (rows_of (found_of matches.now))) }
 {
     let Some(word) = matches.get_str(name) else {
         return Some(None);
@@ -117,7 +117,7 @@ fn options_in(matches: &ArgMatches<'_>) -> Option<Options>
 /// The command of `solve` with the options that are given.
 fn solve_in(matches: &ArgMatches<'_>) -> Option<Command>
     ensures value { result ≡ spec.solve_in (rows_of (found_of matches.now)) }
-    ensures within { IfSome result IsWithinLimits }
+    ensures within { IfSome result HasValuesInRange }
 {
     let options = options_in(matches)?;
     Some(Command::Solve(settings_of(options)))
@@ -126,7 +126,7 @@ fn solve_in(matches: &ArgMatches<'_>) -> Option<Command>
 /// The command of `gen` with the size that is given.
 fn gen_in(matches: &ArgMatches<'_>) -> Option<Command>
     ensures value { result ≡ spec.gen_in (rows_of (found_of matches.now)) }
-    ensures within { IfSome result IsWithinLimits }
+    ensures within { IfSome result HasValuesInRange }
 {
     let size = number_given(matches, "size", 1, 20)?;
     Some(Command::Gen(size.unwrap_or(DEFAULT_SIZE)))
@@ -135,7 +135,7 @@ fn gen_in(matches: &ArgMatches<'_>) -> Option<Command>
 /// The command that the matches name.
 fn command_in(matches: &ArgMatches<'_>) -> Option<Command>
     ensures value { result ≡ option_and_then spec.command_in (subcommand_rows_of matches.now) }
-    ensures within { IfSome result IsWithinLimits }
+    ensures within { IfSome result HasValuesInRange }
 {
     let (name, matches) = matches.subcommand()?;
     if name == "solve" {
@@ -154,7 +154,7 @@ fn command_in(matches: &ArgMatches<'_>) -> Option<Command>
 /// The command that the words ask for as `clap` reads them.
 pub(crate) fn spelled<'a>(alloc: Global, words: &'a [&'a str]) -> Result<Option<Command>, NoMemory>
     ensures value { IfOk result (λ command. command ≡ spec.spelled_command (map (λ word. word.now) words.now)) }
-    ensures within { IfOk result (λ command. IfSome command IsWithinLimits) }
+    ensures within { IfOk result (λ command. IfSome command HasValuesInRange) }
 {
     match program(alloc)?.try_get_matches_from(words) {
         Ok(matches) => Ok(command_in(&matches)),

@@ -4,7 +4,7 @@ ghost use Rattle.std.specs.Io.KnownBytes.{Keeps};
 ghost use Rattle.outside_io.specs.Causes.{IsCounted};
 ghost use Rattle.denali_cli.specs.Commands.{Command as Asked};
 ghost use Rattle.denali_cli.specs.Said.{asked_by};
-ghost use Rattle.denali_cli.specs.Outcomes.{IsReader, IsReported, IsUnread, IsWhole, Takes, Works, Writes, WritesFront};
+ghost use Rattle.denali_cli.specs.Outcomes.{IsReader, IsReported, IsUnread, IsWhole, Takes, Works, WritesAll, WritesFront};
 ghost use Rattle.denali_cli.specs.Replies.{limit_of};
 
 use crate::decide::{Stop, decide};
@@ -21,7 +21,7 @@ pub fn run<S: Source, T: Sink>(
     sink: &mut T,
 ) -> Status
     // The bytes appended and the status are what the words and the input decide.
-    ensures reply { IsWhole result → Writes (asked_by words.now)
+    ensures reply { IsWhole result → WritesAll (asked_by words.now)
         (S.left source.old) (S.left source.new) (T.written sink.old) (T.written sink.new) result }
     ensures usage { result ≡ Status.Usage → asked_by words.now ≡ None }
 

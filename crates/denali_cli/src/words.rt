@@ -1,7 +1,7 @@
 // The words after the program's name.
 ghost use Rattle.std.specs.Prelude.{◌≡◌, IfOk, IfSome, Some, map};
 ghost use Rattle.std.specs.declared.result.Result.TheVariants as results;
-ghost use Rattle.denali_cli.specs.Commands.{Command as CommandOf, IsWithinLimits};
+ghost use Rattle.denali_cli.specs.Commands.{Command as CommandOf, HasValuesInRange};
 ghost use Rattle.denali_cli.specs.PlainForms as plain;
 ghost use Rattle.denali_cli.specs.PlainForms.{plain_command};
 ghost use Rattle.denali_cli.specs.Said.{asked_by};
@@ -14,9 +14,9 @@ use std::alloc::Global;
 
 /// A command without options, where no word follows it.
 fn alone(command: Command, words: &[&str]) -> Option<Command>
-    requires { IsWithinLimits command }
+    requires { HasValuesInRange command }
     ensures value { result ≡ plain.alone command (map (λ word. word.now) words.now) }
-    ensures within { IfSome result IsWithinLimits }
+    ensures within { IfSome result HasValuesInRange }
 {
     if words.is_empty() {
         Some(command)
@@ -28,7 +28,7 @@ fn alone(command: Command, words: &[&str]) -> Option<Command>
 /// The command of words in plain form.
 fn in_plain_form(words: &[&str]) -> Option<Command>
     ensures value { result ≡ plain_command (map (λ word. word.now) words.now) }
-    ensures within { IfSome result IsWithinLimits }
+    ensures within { IfSome result HasValuesInRange }
 {
     let (name, words) = words.split_first()?;
     if *name == "solve" {
@@ -49,7 +49,7 @@ fn in_plain_form(words: &[&str]) -> Option<Command>
 /// The command that the words ask for. Words in plain form need no memory.
 pub(crate) fn asked<'a>(alloc: Global, words: &'a [&'a str]) -> Result<Option<Command>, NoMemory>
     ensures value { IfOk result (λ command. command ≡ asked_by words.now) }
-    ensures within { IfOk result (λ command. IfSome command IsWithinLimits) }
+    ensures within { IfOk result (λ command. IfSome command HasValuesInRange) }
     ensures plain { (command : CommandOf) → plain_command (map (λ word. word.now) words.now) ≡ Some command
         → result ≡ results.Ok (Some command) }
 {

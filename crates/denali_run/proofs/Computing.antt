@@ -22,7 +22,7 @@ use Rattle.launch_graph.specs.declared.graphs.Guard.{Guard}
 use Rattle.launch_graph.specs.declared.graphs.SetClass.{SetClass}
 use Rattle.launch_graph.specs.declared.graphs.InputClass.{InputClass}
 use Rattle.register_assign.specs.Obeys.{loads}
-use Rattle.register_assign.specs.Outcomes.{IsRight, Falls, Exits, entry_state, instrs_of}
+use Rattle.register_assign.specs.Outcomes.{DoesAsGraphSays, Falls, Exits, entry_state, instrs_of}
 use Rattle.register_assign.specs.declared.listings.Item.{Item}
 use Rattle.register_assign.specs.declared.listings.Where.{Where}
 use Rattle.saturation.specs.StandsFor.{StandsFor, HasValues, IsGuardOf, IsInputClass, IsSetClass, HasGuardValue, HasSetValue, has_select}
@@ -139,7 +139,7 @@ inputs_kept declared g R (c ∷ cs) (i ∷ is) z h =
 -- ---- both ends
 
 module _ (input : InputTree) (goal : GoalTree) (g : LaunchGraph) (stands : StandsFor input goal g) (items : List Item)
-    (words : List ℕ) (wheres : List Where) (right : IsRight g items words wheres) where
+    (words : List ℕ) (wheres : List Where) (right : DoesAsGraphSays g items words wheres) where
   ends_with : (world : World) (value : ℕ → Value) → HasValues input.ops goal g world value
       → Falls g world value words wheres
       → EndsWith goal world words wheres (new_words input.ops world goal.sets) (new_memory input.ops world goal.sets)

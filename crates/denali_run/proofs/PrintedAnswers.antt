@@ -26,7 +26,7 @@ use Rattle.text_core.specs.LineTexts.{CanBeLine}
 use Rattle.text_core.specs.Lines.{IsLineWord}
 use Rattle.text_core.specs.Names.{IsName}
 use Rattle.answer_texts.specs.AnswerParts.{IsPlace}
-use Rattle.answer_texts.specs.AnswerLines.{launch_words, refute_lines, stop_name, text_words, where_words, word_words}
+use Rattle.answer_texts.specs.AnswerLines.{launch_words, refute_lines, stop_name, where_words, word_words}
 use Rattle.denali_run.proofs.ResultLines.{answered_lines, below_lines, goal_lines, goals_lines, matched_lines}
 use Rattle.denali_run.specs.MatchedGoals.{IsMatched, IsSettings}
 use Rattle.denali_run.specs.Right.{AreRefutedBelow, IsTooFew, one_less, formula_in, Right}
@@ -35,7 +35,7 @@ use Rattle.denali_run.specs.declared.results.Answered.TheVariants.{Scheduled, No
 use Rattle.denali_run.specs.declared.results.Encoding.{Encoding}
 use Rattle.denali_run.specs.declared.results.Matched.{Matched}
 use Rattle.denali_run.specs.declared.settings.Settings.{Settings}
-use Rattle.denali_run.proofs.LineWords.{AreWords, no_words, a_word, can_be, CanBeLines, no_lines, a_line, lines_from, lines_of, and_lines, hex_word, instr_line_words}
+use Rattle.denali_run.proofs.LineWords.{no_words, a_word, can_be, CanBeLines, no_lines, a_line, lines_from, lines_of, and_lines}
 use Rattle.denali_run.proofs.LinesApart.{words_placed}
 use Rattle.denali_run.proofs.ReadBackLaws.{Laws}
 use Rattle.denali_run.proofs.SameLaunches.{IsPlaced, name_at, any_slot, are_placed}
@@ -72,21 +72,13 @@ module _ (laws : Laws) where
       (laws.name (get_or table.slots l.slot any_slot).name (named l.slot any_slot at.1)))
       (a_word (let low = at.2 in laws.number l.row (omega (arith, low))) no_words))))
 
-  word_line : (word : ℕ) (i : Instr) → word < 2 ^ 32 → decoded word ≡ Some i → CanBeLine (word_words word)
-  word_line word i low is =
-      can_be
-      (a_word (record { some = λ e. cc; printed = refl })
-      (a_word (hex_word word)
-      (subst (λ o. AreWords (text_words o)) (sym is)
-      (instr_line_words laws.number laws.operators i (laws.forth word i low is).0))))
-
   word_lines : (instrs : List Instr) (words : List ℕ) → All (λ word. word < 2 ^ 32) words → map decoded words ≡ map Some instrs
       → CanBeLines (map word_words words)
   word_lines instrs [] low is = no_lines
   word_lines [] (w ∷ ws) low is = cc
   word_lines (i ∷ instrs) (w ∷ ws) low is =
       a_line
-      (word_line w i (All-head (λ word. word < 2 ^ 32) w ws low)
+      (laws.word_line w i (All-head (λ word. word < 2 ^ 32) w ws low)
       (head_same (decoded w) (Some i) (map decoded ws) (map Some instrs) is))
       (word_lines instrs ws (All-tail (λ word. word < 2 ^ 32) w ws low)
       (rest_same (decoded w) (Some i) (map decoded ws) (map Some instrs) is))

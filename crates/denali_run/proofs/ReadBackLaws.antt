@@ -12,7 +12,8 @@ use Rattle.refutation_check.specs.LineWords.{IsReadableLine, line_words}
 use Rattle.text_core.specs.LineTexts.{CanBeLine, lines_text, placed_lines, words_of_lines}
 use Rattle.text_core.specs.Lines.{Line, AreLines, IsLineWord}
 use Rattle.text_core.specs.Names.{IsName}
-use Rattle.denali_run.proofs.LineWords.{NumbersAreWords, OperatorsAreListed}
+use Rattle.answer_texts.specs.AnswerLines.{word_words}
+use Rattle.denali_run.proofs.LineWords.{NumbersAreWords}
 use Rattle.denali_run.proofs.LinesApart.{PrintedAreLines, LinesAreOne}
 use Rattle.denali_run.proofs.SameGraphs.{GraphsAreOne}
 use Rattle.denali_run.proofs.SameLaunches.{SlotsAreThere}
@@ -26,7 +27,7 @@ pub record Laws : Type 0 where
   pub one_text : LinesAreOne
   pub each : (place : ℕ) (lines : List Line) (text : List ℕ) → AreLines place lines text
       → All CanBeLine (words_of_lines lines)
-  pub operators : OperatorsAreListed
+  pub word_line : (word : ℕ) (instr : Instr) → word < 2 ^ 32 → decoded word ≡ Some instr → CanBeLine (word_words word)
   pub forth : (word : ℕ) (instr : Instr) → word < 2 ^ 32 → decoded word ≡ Some instr
       → IsWellFormed instr × (encoded instr ≡ word)
   pub registers : RegistersAreLow

@@ -7,13 +7,13 @@ use Rattle.std.proofs.lemmas.List.{get_or_past}
 use Rattle.std.proofs.lemmas.List.Elements.{All-cons, All-head, All-tail, All-map, All-weaker, All-filter}
 use Rattle.alpha_encode.specs.Decoded.{decoded}
 use Rattle.alpha_encode.specs.declared.instructions.Instr.{Instr}
-use Rattle.answer_texts.specs.AnswerParts.{AreCodes, ArePlaces, IsCode, IsPlace}
-use Rattle.launch_graph.specs.Graphs.{input_register, is_memory_name}
+use Rattle.answer_texts.specs.AnswerParts.{AreCodes, AreWherePlaces, IsCode, IsPlace}
+use Rattle.launch_graph.specs.Graphs.{input_register, is_memory_name, is_zero_class}
 use Rattle.launch_graph.specs.WellFormed.{ClassHasSort, IsLaunchGraph}
 use Rattle.launch_graph.specs.declared.graphs.LaunchGraph.{LaunchGraph}
 use Rattle.launch_graph.specs.declared.graphs.SetClass.{SetClass}
 use Rattle.machine_table.specs.declared.tables.Table.{Table}
-use Rattle.register_assign.specs.Listings.{IsListing, is_zero, or_register, register_at, target_register, word_targets}
+use Rattle.register_assign.specs.Listings.{IsListing, or_register, register_at, target_register, word_targets}
 use Rattle.register_assign.specs.declared.listings.Item.{Item}
 use Rattle.register_assign.specs.declared.listings.Where.{Where}
 use Rattle.schedule_meaning.specs.Launches.{gives, gives_word, launches}
@@ -50,7 +50,7 @@ module _ (registers : RegistersAreLow) (g : LaunchGraph) (is : IsLaunchGraph g) 
   -- the register of a target is one of the 32
   target_low : (ordered : List Launch) (class : ℕ) → target_register g ordered class < 32
   target_low ordered class =
-      by_zero (is_zero g class)
+      by_zero (is_zero_class g class)
       (or_register (input_register g class)
       (option_map_or (register_at g ordered) (position (λ (l : Launch). gives g class l && true) ordered) 31))
       (by_input class
@@ -62,7 +62,7 @@ module _ (registers : RegistersAreLow) (g : LaunchGraph) (is : IsLaunchGraph g) 
   place_of ordered s = record { name = s.name; reg = target_register g ordered s.class }
 
   pub are_places : (table : Table) (ls : List Launch) (items : List Item) (wheres : List Where)
-      → IsListing g table ls items wheres → ArePlaces wheres
+      → IsListing g table ls items wheres → AreWherePlaces wheres
   are_places table ls items wheres listing =
       subst (All IsPlace) (sym listing.wheres_are)
       (All-map IsPlace (place_of listing.ordered) (word_targets g)

@@ -1,6 +1,6 @@
 -- Which bytes and which status answer the text of an answer that is to be checked. Source: this project.
 use Rattle.std.specs.Prelude.{◌≡◌, ℕ, Bool, List, if◌then◌else◌}
-use Rattle.answer_check.specs.Reports.{IsReport}
+use Rattle.answer_check.specs.Reports.{IsCheckReport}
 use Rattle.answer_texts.specs.ReadAnswers.{IsAnswerFault, ReadsAnswer}
 use Rattle.answer_texts.specs.declared.answers.AnswerText.{AnswerText}
 use Rattle.denali_run.specs.declared.reports.TextError.{TextError}
@@ -14,7 +14,7 @@ pub record ChecksText (text bytes : List ℕ) (status : Status) : Type 0 where
   pub answer : AnswerText
   pub reads : ReadsAnswer text answer
   pub rejected : Bool
-  pub report : IsReport answer bytes rejected
+  pub report : IsCheckReport answer bytes rejected
   pub status_is : status ≡ (if rejected then Missing else Done)
 
 -- why an answer can't be checked

@@ -1,6 +1,6 @@
 -- Which bytes and which status answer the text of a program to be run. Source: this project.
 use Rattle.std.specs.Prelude.{◌≡◌, ℕ, List}
-use Rattle.run_texts.specs.Reports.{IsReport}
+use Rattle.run_texts.specs.Reports.{IsRunReport}
 use Rattle.run_texts.specs.RunFaults.{IsRunFault, ReadsRun}
 use Rattle.run_texts.specs.declared.texts.RunText.{RunText}
 use Rattle.denali_run.specs.declared.statuses.Status.{Status}
@@ -12,7 +12,7 @@ use Rattle.denali_run.specs.declared.reports.TextError.TheVariants.{Read, Memory
 pub record RunsText (text bytes : List ℕ) (status : Status) : Type 0 where
   pub program : RunText
   pub reads : ReadsRun text program
-  pub report : IsReport program bytes
+  pub report : IsRunReport program bytes
   pub done : status ≡ Done
 
 -- why a text has no report

@@ -13,12 +13,11 @@ ghost use Rattle.denali_run.specs.declared.results.Encoding.TheVariants.{Wide};
 ghost use Rattle.denali_run.specs.declared.settings.Settings.{Settings as SettingsOf};
 
 use alpha_encode::words_and_instructions;
-use answer_texts::printed_answers_are_read;
+use answer_texts::{printed_answers_are_read, word_lines_can_be_lines};
 use launch_graph::{graphs_are_consistent, one_graph, printed_graphs_are_lines};
 use machine_table::tables_keep_limits;
 use refutation_check::printed_lines_are_read_back;
 use text_core::{one_splitting, printed_lines_are_lines};
-use word_ops::operators_are_listed;
 
 /// Two lists of right results of one input that have one text are one. So a reader of the bytes knows of which results
 /// the answer speaks.
@@ -37,7 +36,7 @@ pub fn one_text_has_one_answer()
     printed_lines_are_read_back();
     one_splitting();
     printed_lines_are_lines();
-    operators_are_listed();
+    word_lines_can_be_lines();
 }
 
 /// The answer that right results of an input make is what its bytes are read as, where the first graph of each goal has no

@@ -5,7 +5,7 @@ use Rattle.std.proofs.lemmas.List.Elements.{All-contains}
 use Rattle.forms.proofs.First.{stand_of}
 use Rattle.forms.proofs.Views.{trees_are_of}
 use Rattle.forms.specs.Forms.{Stand, forms_of}
-use Rattle.forms.specs.Reading.{TextHasTrees, IsFirstReadFault, in_bytes, in_tokens, IsNamedToken, IsOf}
+use Rattle.forms.specs.Reading.{TextHasTrees, IsFirstReadFault, in_bytes, in_tokens, IsNamedToken, IsSexpOf}
 use Rattle.text_core.specs.Faults.{IsFirst}
 use Rattle.text_core.specs.Lexing.{HasTokens, IsLexFault}
 use Rattle.text_core.specs.Nesting.{IsTreeFault, IsFirstTreeFault}
@@ -47,7 +47,7 @@ module _ (placed : (text : List ℕ) (tokens : List Token) (trees : SexpTrees) �
 
   module _ (named : (text : List ℕ) (tokens : List Token) → HasTokens text tokens → All (IsNamedToken text) tokens)
       (atoms : (tokens : List Token) (trees : SexpTrees) (token : Token) → HasTrees tokens trees → Contains (atoms_in_all trees) token → Contains tokens token) where
-    pub forest_is_of : (text : List ℕ) (sexps : List Sexp) → TextHasTrees text (sexp_trees sexps) → All (IsOf text) sexps
+    pub forest_is_of : (text : List ℕ) (sexps : List Sexp) → TextHasTrees text (sexp_trees sexps) → All (IsSexpOf text) sexps
     forest_is_of text sexps has =
         trees_are_of text sexps (placed text has.tokens (sexp_trees sexps) has.lexed has.parsed)
         (λ token at. All-contains (IsNamedToken text) has.tokens token (named text has.tokens has.lexed) (atoms has.tokens (sexp_trees sexps) token has.parsed at))

@@ -5,7 +5,7 @@ use Rattle.std.specs.declared.alloc.Global.{Global}
 use Rattle.std.specs.declared.vec.Vec.{Vec}
 use Rattle.forms.proofs.First.{stands_of}
 use Rattle.forms.specs.Forms.{Forms, Stands, atom, list, atom_of, token_bytes, forms_from, form_of, forms_of, sexp_form, sexp_forms, name_in, register_in, number_in}
-use Rattle.forms.specs.Reading.{IsNamedToken, IsOf}
+use Rattle.forms.specs.Reading.{IsNamedToken, IsSexpOf}
 use Rattle.text_core.specs.Places.{IsPlaced, ArePlaced, atoms_in, atoms_in_all}
 use Rattle.text_core.specs.Sexps.{all_of, sexp_tree, sexp_trees}
 use Rattle.text_core.specs.Trees as trees
@@ -86,8 +86,8 @@ mutual
 abbrev AllNamed : List ℕ → SexpTrees → Type 0
 AllNamed text ts = (token : Token) → Contains (atoms_in_all ts) token → IsNamedToken text token
 
-each_of : (text : List ℕ) (sexps : List Sexp) (low high : ℕ) → high ≤ length text → ArePlaced low high (sexp_trees sexps) → AllNamed text (sexp_trees sexps) → (i : ℕ) (d : Sexp) → i < length sexps → IsOf text (get_or sexps i d)
-unfolding IsOf
+each_of : (text : List ℕ) (sexps : List Sexp) (low high : ℕ) → high ≤ length text → ArePlaced low high (sexp_trees sexps) → AllNamed text (sexp_trees sexps) → (i : ℕ) (d : Sexp) → i < length sexps → IsSexpOf text (get_or sexps i d)
+unfolding IsSexpOf
 each_of text [] low high w h named i d l = absurd (omega arith)
 each_of text (sexp ∷ sexps) low high w h named zero d l =
     let e = are_le (sexp_trees sexps) h.0 high h.1.1 in
@@ -95,7 +95,7 @@ each_of text (sexp ∷ sexps) low high w h named zero d l =
 each_of text (sexp ∷ sexps) low high w h named (suc i) d l =
     each_of text sexps h.0 high w h.1.1 (λ token has. named token (Contains-append_right (atoms_in (sexp_tree sexp)) (atoms_in_all (sexp_trees sexps)) token has)) i d (omega arith)
 
-pub trees_are_of : (text : List ℕ) (sexps : List Sexp) → ArePlaced 0 (length text) (sexp_trees sexps) → AllNamed text (sexp_trees sexps) → All (IsOf text) sexps
+pub trees_are_of : (text : List ℕ) (sexps : List Sexp) → ArePlaced 0 (length text) (sexp_trees sexps) → AllNamed text (sexp_trees sexps) → All (IsSexpOf text) sexps
 trees_are_of text sexps h named = each_of text sexps 0 (length text) (omega arith) h named
 
 -- ---- the laws on the trees of the code
@@ -108,26 +108,26 @@ module _ (tree_atom : (token : Token) → sexp_tree (TheVariants.Atom token) ≡
   unfolding sexp_form
   form_list text place parts = ap (form_of text) (tree_list place parts) ∙ ap (list place) (forms_map text parts.items)
 
-  pub atom_within : (text : List ℕ) (token : Token) → IsOf text (TheVariants.Atom token) → token.place + token.len ≤ length text
-  unfolding IsOf
+  pub atom_within : (text : List ℕ) (token : Token) → IsSexpOf text (TheVariants.Atom token) → token.place + token.len ≤ length text
+  unfolding IsSexpOf
   atom_within text token of =
       let placed : IsPlaced of.low of.high (trees.atom token) = subst (λ (t : SexpTree). IsPlaced of.low of.high t) (tree_atom token) of.placed in
       let last = placed.2 in
       let within = of.within in
       omega (arith, last, within)
 
-  pub atom_named : (text : List ℕ) (token : Token) → IsOf text (TheVariants.Atom token) → IsNamedToken text token
-  unfolding IsOf
+  pub atom_named : (text : List ℕ) (token : Token) → IsSexpOf text (TheVariants.Atom token) → IsNamedToken text token
+  unfolding IsSexpOf
   atom_named text token of = of.named token (subst (λ (t : SexpTree). Contains (atoms_in t) token) (sym (tree_atom token)) (Contains-push [] token))
 
-  pub parts_are_of : (text : List ℕ) (place : ℕ) (parts : Vec Sexp Global) → IsOf text (TheVariants.List place parts) → All (IsOf text) parts.items
-  unfolding IsOf
+  pub parts_are_of : (text : List ℕ) (place : ℕ) (parts : Vec Sexp Global) → IsSexpOf text (TheVariants.List place parts) → All (IsSexpOf text) parts.items
+  unfolding IsSexpOf
   parts_are_of text place parts of =
       let same : sexp_tree (TheVariants.List place parts) ≡ trees.list place (sexp_trees parts.items) = tree_list place parts in
       let placed : IsPlaced of.low of.high (trees.list place (sexp_trees parts.items)) = subst (λ (t : SexpTree). IsPlaced of.low of.high t) same of.placed in
       each_of text parts.items (place + 1) of.high of.within placed.1 (λ token has. of.named token (subst (λ (t : SexpTree). Contains (atoms_in t) token) (sym same) has))
 
 -- the form of a tree of the text stands somewhere
-pub stands : (text : List ℕ) (sexp : Sexp) → IsOf text sexp → (low : ℕ) × (high : ℕ) × Stands low high (sexp_form text sexp)
-unfolding IsOf sexp_form
+pub stands : (text : List ℕ) (sexp : Sexp) → IsSexpOf text sexp → (low : ℕ) × (high : ℕ) × Stands low high (sexp_form text sexp)
+unfolding IsSexpOf sexp_form
 stands text sexp of = (of.low, of.high, stands_of text (sexp_tree sexp) of.low of.high of.placed)

@@ -1,5 +1,5 @@
 -- Forms: the trees of a text, with what each atom says. Source: this project.
-use Rattle.std.specs.Prelude.{ℕ, ◌+◌, ◌<◌, ◌≤◌, Bool, true, false, List, [], ◌∷◌, map, take, drop, Option, Some, None}
+use Rattle.std.specs.Prelude.{ℕ, ◌+◌, ◌<◌, ◌≤◌, Bool, true, false, List, [], ◌∷◌, map, filter_map, take, drop, slice_get, Option, Some, None}
 use Rattle.text_core.specs.Sexps.{sexp_tree}
 use Rattle.text_core.specs.Trees as trees
 use Rattle.text_core.specs.Trees.{SexpTree, SexpTrees}
@@ -44,6 +44,10 @@ abbrev pub parts_of : Form → List Form
 parts_of (atom place a) = []
 parts_of (list place parts) = forms_list parts
 
+-- a part of a list by its number from 0
+abbrev pub part : ℕ → Form → Option Form
+part at form = slice_get (parts_of form) at
+
 abbrev pub atom_of : TokenKind → List ℕ → Atom
 atom_of kinds.Name bytes = name bytes
 atom_of kinds.Register bytes = register bytes
@@ -75,6 +79,10 @@ sexp_forms text sexps = map (sexp_form text) sexps
 abbrev pub name_in : Form → Option (List ℕ)
 name_in (atom place (name bytes)) = Some bytes
 name_in _ = None
+
+-- the names among forms, in order
+abbrev pub names_in : List Form → List (List ℕ)
+names_in forms = filter_map name_in forms
 
 abbrev pub register_in : Form → Option (List ℕ)
 register_in (atom place (register bytes)) = Some bytes

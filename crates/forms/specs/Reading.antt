@@ -37,5 +37,5 @@ pub record IsTreeOf (text : List ℕ) (tree : SexpTree) : Type 0 where
   pub placed : IsPlaced low high tree
   pub named : (token : Token) → Contains (atoms_in tree) token → IsNamedToken text token
 
-unfoldable pub IsOf : List ℕ → Sexp → Type 0
-IsOf text sexp = IsTreeOf text (sexp_tree sexp)
+unfoldable pub IsSexpOf : List ℕ → Sexp → Type 0
+IsSexpOf text sexp = IsTreeOf text (sexp_tree sexp)

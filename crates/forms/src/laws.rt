@@ -4,7 +4,7 @@ ghost use Rattle.std.specs.declared.alloc.Global.{Global as GlobalOf};
 ghost use Rattle.std.specs.declared.vec.Vec.{Vec as VecOf};
 ghost use Rattle.forms.specs.Forms.{Stands, Stand, atom, list, atom_of, token_bytes, forms_from, forms_of, sexp_form, sexp_forms};
 ghost use Rattle.forms.specs.Printing.{Plains, CanPrintAll, most_levels, lines_of, plains_of};
-ghost use Rattle.forms.specs.Reading.{TextHasTrees, IsFirstReadFault, IsNamedToken, IsOf};
+ghost use Rattle.forms.specs.Reading.{TextHasTrees, IsFirstReadFault, IsNamedToken, IsSexpOf};
 ghost use Rattle.text_core.specs.Sexps.{sexp_trees};
 ghost use Rattle.text_core.specs.Trees.{SexpTrees};
 ghost use Rattle.text_core.specs.declared.faults.Kind.{Kind};
@@ -23,12 +23,12 @@ pub fn sexps_are_forms()
     ensures lists { (text : List ℕ) (place : ℕ) (parts : VecOf Sexp GlobalOf)
         → sexp_form text (sexps.List place parts) ≡ list place (forms_from (sexp_forms text parts.items)) }
     ensures within { (text : List ℕ) (token : Token)
-        → IsOf text (sexps.Atom token) → token.place + token.len ≤ length text }
-    ensures named { (text : List ℕ) (token : Token) → IsOf text (sexps.Atom token) → IsNamedToken text token }
+        → IsSexpOf text (sexps.Atom token) → token.place + token.len ≤ length text }
+    ensures named { (text : List ℕ) (token : Token) → IsSexpOf text (sexps.Atom token) → IsNamedToken text token }
     ensures parts { (text : List ℕ) (place : ℕ) (parts : VecOf Sexp GlobalOf)
-        → IsOf text (sexps.List place parts) → All (IsOf text) parts.items }
+        → IsSexpOf text (sexps.List place parts) → All (IsSexpOf text) parts.items }
     ensures stands { (text : List ℕ) (form : Sexp)
-        → IsOf text form → (low : ℕ) × (high : ℕ) × Stands low high (sexp_form text form) }
+        → IsSexpOf text form → (low : ℕ) × (high : ℕ) × Stands low high (sexp_form text form) }
 {
     sexps_are_trees();
 }
@@ -39,7 +39,7 @@ pub fn one_reading()
     ensures trees { (text : List ℕ) (trees others : SexpTrees)
         → TextHasTrees text trees → TextHasTrees text others → trees ≡ others }
     ensures of { (text : List ℕ) (forms : List Sexp)
-        → TextHasTrees text (sexp_trees forms) → All (IsOf text) forms }
+        → TextHasTrees text (sexp_trees forms) → All (IsSexpOf text) forms }
     ensures stand { (text : List ℕ) (trees : SexpTrees)
         → TextHasTrees text trees → Stand 0 (length text) (forms_of text trees) }
     ensures apart { (text : List ℕ) (trees : SexpTrees) (place : ℕ) (kind : Kind)

@@ -1,7 +1,7 @@
 // What a tree of a text says.
 ghost use Rattle.std.specs.Prelude.{◌≡◌, ◌+◌, ◌≤◌, ℕ, ⊤, false, All, List, length, Some, None, IfSome, MatchOption};
 ghost use Rattle.forms.specs.Forms.{list, place_of, name_in, register_in, number_in, is_list, token_bytes, sexp_form, sexp_forms, forms_from};
-ghost use Rattle.forms.specs.Reading.{IsOf};
+ghost use Rattle.forms.specs.Reading.{IsSexpOf};
 ghost use Rattle.text_core.specs.Names.{IsName};
 ghost use Rattle.text_core.specs.declared.faults.TextFault.TheVariants as answers;
 
@@ -36,7 +36,7 @@ fn bytes<'a>(token: &Token, text: &'a [u8]) -> &'a [u8]
 
 /// The bytes of a name.
 pub fn name<'a>(form: &Sexp, text: &'a [u8]) -> Option<&'a [u8]>
-    requires of { IsOf text.now form.now }
+    requires of { IsSexpOf text.now form.now }
     ensures name { MatchOption result (name_in (sexp_form text.now form.now) ≡ None)
         (λ bytes. name_in (sexp_form text.now form.now) ≡ Some bytes.now) }
     ensures named { IfSome result (λ bytes. IsName bytes.now) }
@@ -53,7 +53,7 @@ pub fn name<'a>(form: &Sexp, text: &'a [u8]) -> Option<&'a [u8]>
 
 /// The bytes of a register, with its dollar sign.
 pub fn register<'a>(form: &Sexp, text: &'a [u8]) -> Option<&'a [u8]>
-    requires of { IsOf text.now form.now }
+    requires of { IsSexpOf text.now form.now }
     ensures { MatchOption result (register_in (sexp_form text.now form.now) ≡ None)
         (λ bytes. register_in (sexp_form text.now form.now) ≡ Some bytes.now) }
 {
@@ -87,7 +87,7 @@ pub fn parts<'a>(form: &'a Sexp) -> Option<&'a [Sexp]>
         (is_list (sexp_form text form.now) ≡ false)
         (λ parts. sexp_form text form.now
         ≡ list (place_of (sexp_form text form.now)) (forms_from (sexp_forms text parts.now))) }
-    ensures of { (text : List ℕ) → IsOf text form.now → MatchOption result ⊤ (λ parts. All (IsOf text) parts.now) }
+    ensures of { (text : List ℕ) → IsSexpOf text form.now → MatchOption result ⊤ (λ parts. All (IsSexpOf text) parts.now) }
 {
     sexps_are_forms();
     match form {

@@ -1,13 +1,13 @@
 // Texts with what their first tree says, and their faults, worked by hand.
 ghost use Rattle.std.specs.Prelude.{All, IfOk};
-ghost use Rattle.forms.specs.Reading.{IsOf};
+ghost use Rattle.forms.specs.Reading.{IsSexpOf};
 
 use crate::{at, name, number, parts, place, register, trees};
 use std::alloc::Global;
 use text_core::{Kind, Sexp, TextFault};
 
 fn read(alloc: Global, text: &[u8]) -> Result<Vec<Sexp>, TextFault>
-    ensures { IfOk result (λ forms. All (IsOf text.now) forms.items) }
+    ensures { IfOk result (λ forms. All (IsSexpOf text.now) forms.items) }
 {
     if text.len() > 1000 {
         return Err(TextFault::Memory);

@@ -1,6 +1,6 @@
 // The passes over a text before its forms are examined.
 ghost use Rattle.std.specs.Prelude.{◌≡◌, ◌<◌, ◌^◌, ℕ, All, length, IfOk, IfErr};
-ghost use Rattle.forms.specs.Reading.{TextHasTrees, IsFirstReadFault, IsOf};
+ghost use Rattle.forms.specs.Reading.{TextHasTrees, IsFirstReadFault, IsSexpOf};
 ghost use Rattle.text_core.specs.Faults.{IsFaultBy, GivesUnlessMemory, RefusesUnlessMemory};
 ghost use Rattle.text_core.specs.Sexps.{sexp_trees};
 ghost use Rattle.text_core.specs.Trees.{SexpTrees};
@@ -35,7 +35,7 @@ pub fn trees(alloc: Global, text: &[u8]) -> Result<Vec<Sexp>, TextFault>
         → GivesUnlessMemory (λ forms. sexp_trees forms.items ≡ trees) result }
 
     // Each tree is one of the text, as the calls on forms need it.
-    ensures each { IfOk result (λ forms. All (IsOf text.now) forms.items) }
+    ensures each { IfOk result (λ forms. All (IsSexpOf text.now) forms.items) }
 
     // A fault is the first one of the bytes, or else of the parentheses, and where there is one it is answered.
     ensures fault { IfErr result (IsFaultBy (IsFirstReadFault text.now)) }

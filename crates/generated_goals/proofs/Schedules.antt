@@ -13,7 +13,7 @@ use Rattle.launch_graph.specs.declared.graphs.LaunchGraph.{LaunchGraph}
 use Rattle.saturation.specs.GoalTerms.{input_term}
 use Rattle.saturation.specs.StandsFor.{HasClassIn, graph_view}
 use Rattle.schedule_meaning.specs.Fits.{CanRead, Collide}
-use Rattle.schedule_meaning.specs.Launches.{Gives, IsFree, IsInput, IsReadable, Operand, class_at, gives_word, instr_at, launches, operands_at, plain, ready_in}
+use Rattle.schedule_meaning.specs.Launches.{Gives, IsFree, IsClassOfInput, IsReadable, Operand, class_at, gives_word, instr_at, launches, operands_at, plain, ready_in}
 use Rattle.schedule_meaning.specs.declared.schedules.Launch.{Launch}
 use Rattle.generated_goals.specs.Generated.{chain, number_at, picked}
 use Rattle.generated_goals.proofs.GraphRows.{IsApplied, applied_row, row_of, row_class, row_instr, row_reads}
@@ -68,7 +68,7 @@ module _ (g : LaunchGraph) (n first second class : ℕ) (ls : List Launch) (l : 
     (cycle : l.cycle ≡ n) (slot : l.slot ≡ 0) (is : instr_at g l.row ≡ Some kind) (able : IsPlain kind)
     (reads : operands_at g l.row ≡ plain first ∷ record { class = second; second = true } ∷ [])
     (gives : class_at g l.row ≡ class)
-    (input : IsInput g second) (before : IsChain g n first ls) where
+    (input : IsClassOfInput g second) (before : IsChain g n first ls) where
   new_step : IsStep g (suc n) l
   new_step = record { kind = kind; is = is; plain = able; slot = slot; early = omega arith }
 
@@ -108,8 +108,8 @@ pub record HasChain (g : LaunchGraph) (n class : ℕ) : Type 0 where
   pub fits : IsChain g n class list
 
 -- in whose graph the inputs' terms are of inputs' classes
-module _ (g : LaunchGraph) (a_is : (c : ℕ) → HasClassIn [] g (input_term 9) c → IsInput g c) (b_is : (c : ℕ) → HasClassIn [] g (input_term 10) c → IsInput g c) where
-  no_launches : (c : ℕ) → IsInput g c → HasChain g 0 c
+module _ (g : LaunchGraph) (a_is : (c : ℕ) → HasClassIn [] g (input_term 9) c → IsClassOfInput g c) (b_is : (c : ℕ) → HasClassIn [] g (input_term 10) c → IsClassOfInput g c) where
+  no_launches : (c : ℕ) → IsClassOfInput g c → HasChain g 0 c
   no_launches c i = record {
     list = [];
     fits = record {

@@ -17,7 +17,7 @@ use Rattle.goal_reader.specs.declared.goals.InputReg.{InputReg}
 use Rattle.saturation.specs.GoalTerms.{input_term}
 use Rattle.saturation.specs.StandsFor.{HasClassIn, IsGuardOf, IsInputClass, IsSetClass, StandsFor, graph_view}
 use Rattle.schedule_meaning.specs.Fits.{CanLaunch, EndsBy, Fits, IsLeft, IsReached, KeepsMemory, UsesMemory, Waits}
-use Rattle.schedule_meaning.specs.Launches.{Gives, IsInput, gives_word, is_load, is_store, launches, memory_class_at, ready_in}
+use Rattle.schedule_meaning.specs.Launches.{Gives, IsClassOfInput, gives_word, is_load, is_store, launches, memory_class_at, ready_in}
 use Rattle.schedule_meaning.specs.declared.schedules.Launch.{Launch}
 use Rattle.generated_goals.specs.Generated.{generated_goal, generated_input, input_in}
 use Rattle.generated_goals.proofs.GraphRows.{leaf_row, one_class, row_of}
@@ -41,7 +41,7 @@ only_zip R (x ∷ z ∷ xs) y h = absurd h.1
 -- ---- the inputs
 
 module _ (g : LaunchGraph) (graph : IsLaunchGraph g) where
-  input_is : (i : InputReg) → Any (λ c. IsInputClass [] g c i) g.inputs → (c : ℕ) → HasClassIn [] g (input_term i.reg) c → IsInput g c
+  input_is : (i : InputReg) → Any (λ c. IsInputClass [] g c i) g.inputs → (c : ℕ) → HasClassIn [] g (input_term i.reg) c → IsClassOfInput g c
   input_is i there c h =
       let mine = row_of g [] (Input i.reg) [] c refl (leaf_row (graph_view [] g) (Input i.reg) c h) in
       let its = row_of g [] (Input i.reg) [] there.1.class refl (leaf_row (graph_view [] g) (Input i.reg) there.1.class there.4.class) in
@@ -79,7 +79,7 @@ no_guard (Some x) g h P = absurd h
 entry_stays : (g : LaunchGraph) (s : SetClass) → g.sets ≡ s ∷ [] → is_memory_name s.name ≡ false → memory_target g ≡ g.entry
 entry_stays g s e m = rw (e, m) refl
 
-given_words : (g : LaunchGraph) (class n : ℕ) (ls : List Launch) → IsInput g class ⊎ Any (λ l. Gives g class l × (ready_in g ev6 0 l ≤ n)) ls → (s : SetClass) → s.class ≡ class → IsReached g ls s
+given_words : (g : LaunchGraph) (class n : ℕ) (ls : List Launch) → IsClassOfInput g class ⊎ Any (λ l. Gives g class l × (ready_in g ev6 0 l ≤ n)) ls → (s : SetClass) → s.class ≡ class → IsReached g ls s
 given_words g class n ls (inl i) s e = inr (inl (rw e i))
 given_words g class n ls (inr h) s e = inr (inr (inr (h.0, h.1, h.2, h.3, rw e h.4.0)))
 

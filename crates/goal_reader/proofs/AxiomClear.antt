@@ -9,7 +9,7 @@ use Rattle.word_ops.specs.declared.sorts.Sort.{Sort}
 use Rattle.word_ops.specs.declared.sorts.Sort.TheVariants as sorts
 use Rattle.word_terms.specs.Sorting.{Occurs, OccursInOne}
 use Rattle.word_terms.specs.Tree.{Tree, Trees}
-use Rattle.forms.specs.Forms.{Form, Forms, atom, list, name, parts_of, forms_from, name_in}
+use Rattle.forms.specs.Forms.{Form, Forms, atom, list, name, parts_of, forms_from, name_in, names_in}
 use Rattle.machine_table.specs.Grammar.{Each, more_of, IsNameOf}
 use Rattle.text_core.specs.declared.faults.Kind.{Kind}
 use Rattle.goal_reader.specs.declared.scopes.DeclaredOp.{DeclaredOp}
@@ -18,7 +18,8 @@ use Rattle.goal_reader.specs.declared.scopes.Scope.{Scope}
 use Rattle.goal_reader.specs.Grammar.{WritesAxiom, axiom_scope}
 use Rattle.goal_reader.specs.Reading.{IsClear, meaning_right, mentioned_scope}
 use Rattle.goal_reader.specs.Roles as roles
-use Rattle.goal_reader.specs.Roles.{Role, a_list, own_name, past, left_side, term, IsOwn, too_few, part_role, is_reserved, is_among, names_of_declared, names_in, rank_from, mentions, mentions_any, left_scope, right_scope}
+use Rattle.text_core.specs.Names.{is_among}
+use Rattle.goal_reader.specs.Roles.{a_list, own_name, left_side, term, IsOwn, too_few, is_reserved, names_of_declared, rank_from, mentions, mentions_any, left_scope, right_scope, Role, past, part_role}
 use Rattle.goal_reader.specs.Terms.{Writes, WritesEach, memory, input, variable, constant, application, nothing, operand}
 use Rattle.goal_reader.specs.Views.{AxiomTree}
 use Rattle.goal_reader.proofs.Apart.{writes_clear}

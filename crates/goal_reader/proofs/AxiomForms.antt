@@ -11,7 +11,8 @@ use Rattle.word_ops.specs.declared.sorts.Sort.TheVariants as sorts
 use Rattle.word_terms.specs.Sorting.{Occurs, OccursInOne}
 use Rattle.word_terms.specs.Tree.{Tree, Trees}
 use Rattle.word_terms.specs.View.{tree_of}
-use Rattle.forms.specs.Forms.{Form, Forms, atom, list, none, more, name, place_of, parts_of, name_in, forms_from, is_list}
+use Rattle.text_core.specs.Names.{is_among}
+use Rattle.forms.specs.Forms.{Form, Forms, atom, list, none, more, name, place_of, part, parts_of, name_in, forms_from, is_list, names_in}
 use Rattle.machine_table.specs.Grammar.{Each, IsNameOf}
 use Rattle.goal_reader.specs.declared.scopes.DeclaredOp.{DeclaredOp}
 use Rattle.goal_reader.specs.declared.scopes.Scope.{Scope}
@@ -22,7 +23,7 @@ use Rattle.goal_reader.specs.declared.goals.Axiom.{Axiom}
 use Rattle.goal_reader.specs.Grammar.{WritesAxiom, axiom_scope}
 use Rattle.goal_reader.specs.Reading.{IsClear, meaning_right, mentioned_scope}
 use Rattle.goal_reader.specs.Roles as roles
-use Rattle.goal_reader.specs.Roles.{Role, Shape, a_list, wrong, wrong_part, too_few, IsOwn, rank, rank_from, text_keywords, numbered_leaves, mentions, mentions_any, names_in, variables_in, left_scope, right_scope, WritesTerm}
+use Rattle.goal_reader.specs.Roles.{a_list, too_few, IsOwn, rank, rank_from, text_keywords, numbered_leaves, mentions, mentions_any, variables_in, left_scope, right_scope, WritesTerm, Role, Shape, wrong, wrong_part}
 use Rattle.goal_reader.specs.Scopes.{leaf_named}
 use Rattle.goal_reader.specs.Terms.{Writes, WritesEach, memory, input, variable, constant, application, nothing, operand}
 use Rattle.goal_reader.specs.Views.{axiom_view}
@@ -186,7 +187,7 @@ module _ (declared : List DeclaredOp) (form a b : Form) (names : List (List ℕ)
   right_same =
       ap (λ ns. mentioned_scope declared ns b) (sym variables_are)
       ∙ ap (λ ls. scope_as declared ls)
-      (leaves_same (meaning_right b) (λ n k. if option_map_or (mentions n) (roles.part 2 form) false then Variable k else Lacking)
+      (leaves_same (meaning_right b) (λ n k. if option_map_or (mentions n) (part 2 form) false then Variable k else Lacking)
       (λ n k. ap (λ o. if option_map_or (mentions n) o false then Variable k else Lacking) (sym g2)) 0 (variables_in form))
 
   pub axiom_written : (c : Form) (axiom_is : Axiom) → slice_get (parts_of form) 3 ≡ Some c → rank text_keywords form ≡ Some 2 → length (parts_of form) ≤ 4 → axiom_is.variables ≡ names → length names ≤ 8 → is_list a ≡ true → IsClear (a_list (roles.variables declared)) a → is_list b ≡ true
@@ -211,7 +212,7 @@ module _ (declared : List DeclaredOp) (form a b : Form) (names : List (List ℕ)
         variables = subst (λ ns. Each (λ f n. IsNameOf n f) (parts_of a) ns) all (each_named (parts_of a) (λ j part g. let s = is_seen declared a clear j part g in (s.0, s.1)));
         some = subst (λ ns. (0 < length ns) × (length ns ≤ 8)) (sym same) (subst (λ ns. 0 < length ns) (sym names_are) (named_some (parts_of a) some (λ j part g. let s = is_seen declared a clear j part g in (s.0, s.1))), few);
         differ = subst (λ ns. AllPairs (λ m n. m ≢ n) ns) all free.pairs;
-        own = subst (λ ns. All (λ n. (roles.is_reserved n ≡ false) × (roles.is_among (roles.names_of_declared declared) n ≡ false)) ns) all free.own;
+        own = subst (λ ns. All (λ n. (roles.is_reserved n ≡ false) × (is_among (roles.names_of_declared declared) n ≡ false)) ns) all free.own;
         application = list_b;
         left = subst (λ ns. Writes (axiom_scope declared ns) sorts.Word b (tree_of axiom_is.left)) (sym same) l;
         right = subst (λ ns. Writes (axiom_scope declared ns) sorts.Word c (tree_of axiom_is.right)) (sym same) (on_left_too declared names b r);

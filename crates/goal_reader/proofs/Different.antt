@@ -11,7 +11,8 @@ use Rattle.std.proofs.lemmas.Slice.Eq.{bytes_eq-Decides}
 use Rattle.forms.specs.Forms.{Form}
 use Rattle.goal_reader.specs.Drafts.{AreDifferent}
 use Rattle.goal_reader.specs.Grammar.{free_registers, default_pool}
-use Rattle.goal_reader.specs.Roles.{has_register, is_among, is_digit, number_of_register, register_number, register_of, registers_in}
+use Rattle.text_core.specs.Names.{is_among}
+use Rattle.goal_reader.specs.Roles.{has_register, is_digit, number_of_register, register_number, register_of, registers_in}
 
 pub or_left : (a b : Bool) → a || b ≡ false → a ≡ false
 or_left true b h = cc

@@ -5,6 +5,7 @@ use Rattle.std.specs.List.{list_any}
 use Rattle.std.proofs.lemmas.List.{length-map, append-nil}
 use Rattle.text_core.specs.declared.faults.Kind.TheVariants.{BadForm}
 use Rattle.word_terms.specs.View.{tree_of}
+use Rattle.text_core.specs.Names.{is_among}
 use Rattle.forms.specs.Forms.{Form, Forms, atom, list, none, more, name, place_of, forms_from, forms_list, name_in}
 use Rattle.forms.specs.Faults.{own}
 use Rattle.machine_table.specs.Grammar.{Each, more_of, IsListOf, IsNameOf}
@@ -18,9 +19,9 @@ use Rattle.goal_reader.specs.declared.drafts.Draft.{Draft}
 use Rattle.goal_reader.specs.Views.{TargetTree, goal_view, assume_view, target_view}
 use Rattle.goal_reader.specs.Drafts.{AreDifferent, KeepsSoFar, IsAssumed, IsTargeted, pool_read, IsDraft, IsWritten, IsPoolWritten, one_pool, pool_kept}
 use Rattle.goal_reader.specs.Grammar.{WritesInput, WritesAssume, WritesTarget, WritesGuard, WritesPool, WritesGoal, KeepsRules, absent, given}
-use Rattle.goal_reader.specs.Reading.{IsClear, registers_of}
+use Rattle.goal_reader.specs.Reading.{IsClear, input_registers}
 use Rattle.goal_reader.specs.Roles as roles
-use Rattle.goal_reader.specs.Roles.{Role, a_list, no_set, rank, is_of_rank, of_rank, goal_keywords, text_keywords, items_of, second_name, goal_scope}
+use Rattle.goal_reader.specs.Roles.{a_list, no_set, rank, is_of_rank, of_rank, goal_keywords, text_keywords, items_of, second_name, goal_scope, Role}
 use Rattle.goal_reader.proofs.Different.{pairs_map, default_different}
 use Rattle.goal_reader.proofs.ItemForms.{keyworded_by, is_name, list_from_list}
 use Rattle.goal_reader.proofs.Keeping.{each_length}
@@ -60,12 +61,12 @@ registers_kept inputs None d = default_different inputs (subst AreDifferent (app
 registers_kept inputs (Some rs) d = d
 
 module _ (declared : List DeclaredOp) (form : Form) (g : Goal) (d : Draft) (draft : IsDraft declared (items_of form) d) (w : IsWritten (items_of form) d) (k : KeepsSoFar declared d)
-    (inputs : g.inputs ≡ d.inputs) (pool : g.pool ≡ pool_kept (registers_of d.inputs) d.pool) (assumes : g.assumes ≡ d.assumes) (guard : g.guard ≡ d.guard) (sets : g.sets ≡ d.sets)
+    (inputs : g.inputs ≡ d.inputs) (pool : g.pool ≡ pool_kept (input_registers d.inputs) d.pool) (assumes : g.assumes ≡ d.assumes) (guard : g.guard ≡ d.guard) (sets : g.sets ≡ d.sets)
     (some : list_any (is_of_rank goal_keywords 4) (items_of form) ≡ true) where
   rules_kept : KeepsRules declared (goal_view g)
   rules_kept =
-      let registers : AreDifferent (registers_of g.inputs ++ g.pool) =
-      subst (λ rs. AreDifferent (registers_of g.inputs ++ rs)) (sym pool) (subst (λ is. AreDifferent (registers_of is ++ pool_kept (registers_of d.inputs) d.pool)) (sym inputs) (registers_kept (registers_of d.inputs) d.pool k.registers)) in
+      let registers : AreDifferent (input_registers g.inputs ++ g.pool) =
+      subst (λ rs. AreDifferent (input_registers g.inputs ++ rs)) (sym pool) (subst (λ is. AreDifferent (input_registers is ++ pool_kept (input_registers d.inputs) d.pool)) (sym inputs) (registers_kept (input_registers d.inputs) d.pool k.registers)) in
       let count = some_of_rank goal_keywords 4 (items_of form) some in
       let same = each_length (IsTargeted d.scope) (of_rank goal_keywords 4 (items_of form)) d.sets w.targets in
       let sets_length = length-map g.sets target_view in
@@ -77,7 +78,7 @@ module _ (declared : List DeclaredOp) (form : Form) (g : Goal) (d : Draft) (draf
       record {
         input_names = subst (λ is. AllPairs (λ (a b : InputReg). a.name ≢ b.name) is) (sym inputs) k.input_names;
         own_names = subst (λ is. All (λ (a : InputReg). roles.is_reserved a.name ≡ false) is) (sym inputs) k.own_names;
-        not_declared = subst (λ is. All (λ (a : InputReg). roles.is_among (roles.names_of_declared declared) a.name ≡ false) is) (sym inputs) k.not_declared;
+        not_declared = subst (λ is. All (λ (a : InputReg). is_among (roles.names_of_declared declared) a.name ≡ false) is) (sym inputs) k.not_declared;
         registers = registers.pairs;
         low = registers.low;
         targets = pairs_map (λ (a b : TargetTree). a.name ≢ b.name) target_view g.sets (subst (λ ts. AllPairs (λ (a b : Set). a.name ≢ b.name) ts) (sym sets) k.targets);
@@ -109,7 +110,7 @@ module _ (declared : List DeclaredOp) (form : Form) (g : Goal) (d : Draft) (draf
         is = record { place = q.place; head_place = q.head; is = whole ∙ ap (λ fs. list q.place (more (atom q.head (name (codes "goal"))) fs)) spread };
         named = is_name first g.name second.3;
         inputs = subst (λ is. Each WritesInput (r 0) is) (sym inputs) w.inputs;
-        pool = subst (λ rs. WritesPool (registers_of g.inputs) (r 1) rs) (sym pool) (subst (λ is. WritesPool (registers_of g.inputs) (r 1) (pool_kept (registers_of is) d.pool)) inputs (pool_written (registers_of g.inputs) (r 1) d.pool w.pool));
+        pool = subst (λ rs. WritesPool (input_registers g.inputs) (r 1) rs) (sym pool) (subst (λ is. WritesPool (input_registers g.inputs) (r 1) (pool_kept (input_registers is) d.pool)) inputs (pool_written (input_registers g.inputs) (r 1) d.pool w.pool));
         assumptions = each_map (WritesAssume (goal_scope declared g.inputs)) assume_view (r 2) g.assumes
             (subst (λ xs. Each (IsAssumed (goal_scope declared g.inputs)) (r 2) xs) (sym assumes) (subst (λ (s : Scope). Each (IsAssumed s) (r 2) d.assumes) scope_is w.assumptions));
         guard = subst (λ x. WritesGuard (goal_scope declared g.inputs) (r 3) (option_map tree_of x)) (sym guard) (subst (λ (s : Scope). WritesGuard s (r 3) (option_map tree_of d.guard)) scope_is w.guard);

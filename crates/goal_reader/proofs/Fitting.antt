@@ -24,7 +24,7 @@ use Rattle.goal_reader.specs.declared.scopes.Scope.{Scope}
 use Rattle.goal_reader.specs.Grammar.{WritesInput, WritesAssume, WritesGuard, WritesTarget, WritesGoal, WritesDeclaration, WritesAxiom, axiom_scope, unguarded, guarded}
 use Rattle.goal_reader.specs.InputNames.{IsNamedGoal}
 use Rattle.goal_reader.specs.Printing.{Naming, naming, term_plain, register_plain, input_plain, pool_plain, assume_plain, guard_plains, target_plain, goal_plain, declaration_plain, variable_plain, axiom_plain}
-use Rattle.goal_reader.specs.Reading.{registers_of}
+use Rattle.goal_reader.specs.Reading.{input_registers}
 use Rattle.goal_reader.specs.Roles.{goal_scope}
 use Rattle.goal_reader.specs.Views.{TwoTrees, TargetTree, GoalTree, AxiomTree}
 use Rattle.goal_reader.proofs.Different.{register_low}
@@ -157,7 +157,7 @@ pub goal_fits : (n : ℕ) (declared : List DeclaredOp) (f : Form) (g : GoalTree)
 goal_fits n declared f g w fits =
     let names : Naming = naming declared g.inputs [] in
     let scope = goal_scope declared g.inputs in
-    let named = goal_named declared g.inputs (pairs_front (registers_of g.inputs) g.pool w.rules.registers) in
+    let named = goal_named declared g.inputs (pairs_front (input_registers g.inputs) g.pool w.rules.registers) in
     let after_pools = w.assumes ++ (w.whens ++ w.sets) in
     let items = w.ins ++ (w.pools ++ after_pools) in
     let parts = parts_fit (1 + n) (codes "goal") (w.name_form ∷ items) f w.is fits in
@@ -169,7 +169,7 @@ goal_fits n declared f g w fits =
     let assumes = each_fits (1 + n) (WritesAssume scope) (assume_plain names) (λ a. ⊤) (assume_fits scope names named (1 + n)) w.assumes g.assumes w.assumptions (front_fits (1 + n) w.assumes (w.whens ++ w.sets) behind) in
     let guard = subst (FitAll (1 + n)) (guard_told scope names named w.whens g.guard w.guard) (front_fits (1 + n) w.whens w.sets last) in
     let sets = each_fits (1 + n) (WritesTarget scope) (target_plain names) (λ t. IsName t.name) (target_fits scope names named (1 + n)) w.sets g.sets w.targets (back_fits (1 + n) w.whens w.sets last) in
-    let pool = pool_fits n g.pool (all_back (λ r. r < 31) (registers_of g.inputs) g.pool w.rules.low) in
+    let pool = pool_fits n g.pool (all_back (λ r. r < 31) (input_registers g.inputs) g.pool w.rules.low) in
     let last_plains = guard_plains names g.guard ++ map (target_plain names) g.sets in
     let plains_behind = map (assume_plain names) g.assumes ++ last_plains in
     let item_plains = map input_plain g.inputs ++ pool_plain g.pool ∷ plains_behind in (

@@ -15,9 +15,10 @@ use Rattle.goal_reader.specs.declared.order.Admission.TheVariants.{Admitted}
 use Rattle.goal_reader.specs.declared.scopes.DeclaredOp.{DeclaredOp}
 use Rattle.goal_reader.specs.declared.scopes.Scope.{Scope}
 use Rattle.goal_reader.specs.Grammar.{IsRegister, WritesInput, WritesPool, WritesAssume, WritesGuard, WritesTarget, WritesGoal, absent, given, unguarded, guarded}
-use Rattle.goal_reader.specs.Reading.{IsClear, names_of_inputs, registers_of, sort_of_target}
+use Rattle.goal_reader.specs.Reading.{IsClear, names_of_inputs, input_registers, sort_of_target}
 use Rattle.goal_reader.specs.Roles as roles
-use Rattle.goal_reader.specs.Roles.{Role, a_list, wrong, IsOwn, too_few, part_role, own_name, fresh_name, fresh_register, term, is_reserved, is_among, has_register, names_of_declared, rank, of_rank, is_of_rank, goal_keywords, goal_bounds, bound_at, items_of, item_role, role_in, goal_scope, inputs_in, names_given, second_name, registers_in, register_of, WritesTerm}
+use Rattle.text_core.specs.Names.{is_among}
+use Rattle.goal_reader.specs.Roles.{Role, a_list, wrong, IsOwn, too_few, part_role, own_name, fresh_name, fresh_register, term, is_reserved, has_register, names_of_declared, rank, of_rank, is_of_rank, goal_keywords, goal_bounds, bound_at, items_of, item_role, role_in, goal_scope, inputs_in, names_given, registers_in, WritesTerm, second_name, register_of}
 use Rattle.goal_reader.specs.Views.{TwoTrees, TargetTree, GoalTree}
 use Rattle.goal_reader.proofs.Admitting.{role_told}
 use Rattle.goal_reader.proofs.Apart.{writes_clear}
@@ -35,7 +36,7 @@ or_both : (a b : Bool) → a ≡ false → b ≡ false → a || b ≡ false
 or_both a b e f = ap₂ (λ x y. x || y) e f
 
 pub input_clear : (declared : List DeclaredOp) (inputs : List InputReg) (form : Form) (i : InputReg) → WritesInput form i → is_reserved i.name ≡ false → is_among (names_of_declared declared) i.name ≡ false
-    → is_among (names_of_inputs inputs) i.name ≡ false → has_register (registers_of inputs) i.reg ≡ false → IsClear (a_list (roles.input declared inputs)) form
+    → is_among (names_of_inputs inputs) i.name ≡ false → has_register (input_registers inputs) i.reg ≡ false → IsClear (a_list (roles.input declared inputs)) form
 input_clear declared inputs form i w own not_declared fresh free =
     let names = names_of_declared declared ++ names_of_inputs inputs in
     let among : is_among names i.name ≡ false = among_both (names_of_declared declared) (names_of_inputs inputs) i.name ∙ or_both _ _ not_declared fresh in
@@ -44,7 +45,7 @@ input_clear declared inputs form i w own not_declared fresh free =
       (λ other e. no_role other _ e),
       (
         (λ other e. as_role (own_name names) w.first (own_name_clear names w.first i.name (record { named = ap name_in w.named.is; free = or_both _ _ own among })) other e),
-        ((λ other e. as_role (fresh_register (registers_of inputs)) w.second (fresh_register_clear (registers_of inputs) w.second i.reg (register_told w.second i.reg w.placed) free) other e), tt),
+        ((λ other e. as_role (fresh_register (input_registers inputs)) w.second (fresh_register_clear (input_registers inputs) w.second i.reg (register_told w.second i.reg w.placed) free) other e), tt),
       ),
     )
 
@@ -133,7 +134,7 @@ module _ (declared : List DeclaredOp) where
 
   abbrev roles_of : List InputReg → List (List ℕ) → ℕ → Role
   roles_of inputs names at =
-      get_or (a_list (roles.input declared inputs) ∷ a_list (roles.pool (registers_of inputs)) ∷ a_list (roles.assume (goal_scope declared inputs)) ∷ a_list (roles.guard (goal_scope declared inputs))
+      get_or (a_list (roles.input declared inputs) ∷ a_list (roles.pool (input_registers inputs)) ∷ a_list (roles.assume (goal_scope declared inputs)) ∷ a_list (roles.guard (goal_scope declared inputs))
       ∷ a_list (roles.set (goal_scope declared inputs) names) ∷ []) at wrong
 
   admitted : (before : List Form) (at n : ℕ) (inputs : List InputReg) (names : List (List ℕ)) (form : Form) → Before before at n inputs names → rank goal_keywords form ≡ Some at → n < (bound_at goal_bounds at).most
@@ -156,7 +157,7 @@ module _ (declared : List DeclaredOp) where
 
   module _ (g : GoalTree)
       (input_names : AllPairs (λ (i j : InputReg). i.name ≢ j.name) g.inputs) (own_names : All (λ (i : InputReg). is_reserved i.name ≡ false) g.inputs)
-      (not_declared : All (λ (i : InputReg). is_among (names_of_declared declared) i.name ≡ false) g.inputs) (registers : AllPairs (λ a b. a ≢ b) (registers_of g.inputs ++ g.pool))
+      (not_declared : All (λ (i : InputReg). is_among (names_of_declared declared) i.name ≡ false) g.inputs) (registers : AllPairs (λ a b. a ≢ b) (input_registers g.inputs ++ g.pool))
       (targets : AllPairs (λ (s t : TargetTree). s.name ≢ t.name) g.sets) (few : (length g.inputs ≤ 16) × (length g.assumes ≤ 16) × (length g.sets ≤ 16)) where
     abbrev scope : Scope
     scope = goal_scope declared g.inputs
@@ -168,7 +169,7 @@ module _ (declared : List DeclaredOp) where
         here [] = refl
         here (z ∷ zs) = here zs
 
-    map_both : (done rest : List InputReg) (i : InputReg) → registers_of (done ++ i ∷ rest) ≡ registers_of done ++ i.reg ∷ registers_of rest
+    map_both : (done rest : List InputReg) (i : InputReg) → input_registers (done ++ i ∷ rest) ≡ input_registers done ++ i.reg ∷ input_registers rest
     map_both [] rest i = refl
     map_both (d ∷ done) rest i = ap (λ xs. d.reg ∷ xs) (map_both done rest i)
 
@@ -177,10 +178,10 @@ module _ (declared : List DeclaredOp) where
     input_step before done rest form i is b w =
         let e = input_ranked form i w in
         let told = input_told form i w in
-        let all : registers_of g.inputs ++ g.pool ≡ registers_of done ++ i.reg ∷ (registers_of rest ++ g.pool) =
-        ap (λ is. registers_of is ++ g.pool) is ∙ ap (λ rs. rs ++ g.pool) (map_both done rest i) ∙ append_assoc (registers_of done) (i.reg ∷ registers_of rest) g.pool in
+        let all : input_registers g.inputs ++ g.pool ≡ input_registers done ++ i.reg ∷ (input_registers rest ++ g.pool) =
+        ap (λ is. input_registers is ++ g.pool) is ∙ ap (λ rs. rs ++ g.pool) (map_both done rest i) ∙ append_assoc (input_registers done) (i.reg ∷ input_registers rest) g.pool in
         let clear = input_clear declared done form i w (one_of (λ j. is_reserved j.name ≡ false) done rest i is own_names) (one_of (λ j. is_among (names_of_declared declared) j.name ≡ false) done rest i is not_declared)
-        (name_new (λ (j : InputReg). j.name) g.inputs done i rest is input_names) (register_new (registers_of g.inputs ++ g.pool) (registers_of done) i.reg (registers_of rest ++ g.pool) all registers) in (
+        (name_new (λ (j : InputReg). j.name) g.inputs done i rest is input_names) (register_new (input_registers g.inputs ++ g.pool) (input_registers done) i.reg (input_registers rest ++ g.pool) all registers) in (
           admitted before 0 (length done) done [] form b e (within done rest i g.inputs 16 is few.0) clear,
           record {
             order = subst (λ n. Behind goal_keywords (before ++ form ∷ []) 0 n) (one_longer done i) (behind_more goal_keywords before 0 (length done) form b.order e);
@@ -213,12 +214,12 @@ module _ (declared : List DeclaredOp) where
           },
         )
 
-    pool_walk : (before fs : List Form) (rs : List ℕ) → rs ≡ g.pool → WritesPool (registers_of g.inputs) fs rs → Before before 1 0 g.inputs [] → (n : ℕ) × Walk HasNoFault before fs × Before (before ++ fs) 1 n g.inputs []
+    pool_walk : (before fs : List Form) (rs : List ℕ) → rs ≡ g.pool → WritesPool (input_registers g.inputs) fs rs → Before before 1 0 g.inputs [] → (n : ℕ) × Walk HasNoFault before fs × Before (before ++ fs) 1 n g.inputs []
     pool_walk before _ rs is absent b = (0, tt, subst (λ x. Before x 1 0 g.inputs []) (sym (append-nil before)) b)
     pool_walk before _ rs is (given {form = form} forms listed each) b =
         let e = listed_rank goal_keywords (codes "pool") forms form listed in
-        let apart = subst (λ xs. AllPairs (λ a b. a ≢ b) (registers_of g.inputs ++ xs)) (sym is) registers in
-        (1, (admitted before 1 0 g.inputs [] form b e (omega arith) (pool_clear (registers_of g.inputs) form [] rs (given forms listed each) apart), tt), plain_more before 1 0 g.inputs [] form b e refl refl)
+        let apart = subst (λ xs. AllPairs (λ a b. a ≢ b) (input_registers g.inputs ++ xs)) (sym is) registers in
+        (1, (admitted before 1 0 g.inputs [] form b e (omega arith) (pool_clear (input_registers g.inputs) form [] rs (given forms listed each) apart), tt), plain_more before 1 0 g.inputs [] form b e refl refl)
 
     guard_walk : (before fs : List Form) (t : _) → WritesGuard scope fs t → Before before 3 0 g.inputs [] → (n : ℕ) × Walk HasNoFault before fs × Before (before ++ fs) 3 n g.inputs []
     guard_walk before _ _ unguarded b = (0, tt, subst (λ x. Before x 3 0 g.inputs []) (sym (append-nil before)) b)
@@ -226,7 +227,7 @@ module _ (declared : List DeclaredOp) where
         let e = listed_rank goal_keywords (codes "when") (one ∷ []) form listed in
         (1, (admitted before 3 0 g.inputs [] form b e (omega arith) (guard_clear scope form [] t (guarded one listed w)), tt), plain_more before 3 0 g.inputs [] form b e refl refl)
 
-    items_walk : (ins pools assumes whens sets : List Form) → Each WritesInput ins g.inputs → WritesPool (registers_of g.inputs) pools g.pool → Each (WritesAssume scope) assumes g.assumes → WritesGuard scope whens g.guard → Each (WritesTarget scope) sets g.sets
+    items_walk : (ins pools assumes whens sets : List Form) → Each WritesInput ins g.inputs → WritesPool (input_registers g.inputs) pools g.pool → Each (WritesAssume scope) assumes g.assumes → WritesGuard scope whens g.guard → Each (WritesTarget scope) sets g.sets
         → Walk HasNoFault [] (ins ++ (pools ++ (assumes ++ (whens ++ sets))))
     items_walk ins pools assumes whens sets wi wp wa wg wt =
         let start : Before [] 0 0 [] [] = record { order = record { later = refl; count = refl }; inputs_are = refl; names_are = refl } in

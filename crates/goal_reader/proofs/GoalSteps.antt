@@ -19,10 +19,10 @@ use Rattle.goal_reader.specs.declared.goals.Set.{Set}
 use Rattle.goal_reader.specs.declared.drafts.Draft.{Draft}
 use Rattle.goal_reader.specs.declared.order.Admission.TheVariants.{Admitted}
 use Rattle.goal_reader.specs.Roles as roles
-use Rattle.goal_reader.specs.Roles.{Role, a_list, wrong, fresh_name, goal, IsOwn, too_few, no_set, part_role, IsFaultAs, rank, is_of_rank, of_rank, goal_keywords, goal_bounds, bound_at, items_of, item_role, role_in, goal_scope, inputs_in, input_in, names_given, second_name}
+use Rattle.goal_reader.specs.Roles.{Role, a_list, wrong, goal, IsOwn, too_few, no_set, part_role, IsFaultAs, rank, is_of_rank, of_rank, goal_keywords, goal_bounds, bound_at, items_of, item_role, role_in, goal_scope, inputs_in, input_in, names_given, second_name, fresh_name}
 use Rattle.goal_reader.specs.Order.{IsAdmission}
-use Rattle.goal_reader.specs.Reading.{IsClear, names_of_targets, registers_of}
-use Rattle.goal_reader.specs.Drafts.{IsNext, IsDraft, draft_role, items_before, with_input, input_leaf}
+use Rattle.goal_reader.specs.Reading.{IsClear, names_of_targets, input_registers}
+use Rattle.goal_reader.specs.Drafts.{IsNext, IsDraft, draft_role, items_before, input_leaf, with_input}
 use Rattle.goal_reader.specs.Drafts as drafts
 use Rattle.goal_reader.proofs.Admitting.{role_told}
 use Rattle.goal_reader.proofs.Fixed.{got_within}
@@ -127,7 +127,7 @@ module _ (declared : List DeclaredOp) (before : List Form) (form : Form) (d : Dr
   }
 
   abbrev roles_of : List DeclaredOp → List InputReg → Scope → List (List ℕ) → ℕ → Role
-  roles_of ds is scope names at = get_or (a_list (roles.input ds is) ∷ a_list (roles.pool (registers_of is)) ∷ a_list (roles.assume scope) ∷ a_list (roles.guard scope) ∷ a_list (roles.set scope names) ∷ []) at wrong
+  roles_of ds is scope names at = get_or (a_list (roles.input ds is) ∷ a_list (roles.pool (input_registers is)) ∷ a_list (roles.assume scope) ∷ a_list (roles.guard scope) ∷ a_list (roles.set scope names) ∷ []) at wrong
 
   -- what the code reads the item as is what the definition has
   pub role_same : (at : ℕ) → draft_role d at ≡ item_role declared before at

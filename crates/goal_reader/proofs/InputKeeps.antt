@@ -20,7 +20,7 @@ use Rattle.goal_reader.specs.declared.scopes.Scope.{Scope}
 use Rattle.goal_reader.specs.Grammar.{WritesAssume, WritesGuard, WritesTarget, WritesGoal, WritesAxiom, WritesMachine, WritesText, axiom_scope, unguarded, guarded, built_in, own}
 use Rattle.goal_reader.specs.InputNames.{IsNamedInput}
 use Rattle.goal_reader.specs.Printing.{input_plains}
-use Rattle.goal_reader.specs.Reading.{registers_of}
+use Rattle.goal_reader.specs.Reading.{input_registers}
 use Rattle.goal_reader.specs.Roles.{goal_scope, rank_from}
 use Rattle.goal_reader.specs.Scopes.{leaf_named}
 use Rattle.goal_reader.specs.Terms.{Writes, memory, input, variable, constant, application}
@@ -120,15 +120,15 @@ module _ (declared : List DeclaredOp) (goal : GoalTree) where
       by_test true e = cc
       by_test false e = let leaf = input_leaf goal.inputs bytes (Variable n) e in let f : Variable n ≡ Input leaf.1.reg = leaf.4 in cc
 
-  input_of : (bytes : List ℕ) (r : ℕ) → leaf_named scope_of.leaves bytes ≡ Some (Input r) → Contains (registers_of goal.inputs) r
+  input_of : (bytes : List ℕ) (r : ℕ) → leaf_named scope_of.leaves bytes ≡ Some (Input r) → Contains (input_registers goal.inputs) r
   input_of bytes r l = by_test (bytes_eq (codes "M") bytes) l
     where
-      by_test : (b : Bool) → (if b then Some Memory else leaf_named (leaves_of goal.inputs) bytes) ≡ Some (Input r) → Contains (registers_of goal.inputs) r
+      by_test : (b : Bool) → (if b then Some Memory else leaf_named (leaves_of goal.inputs) bytes) ≡ Some (Input r) → Contains (input_registers goal.inputs) r
       by_test true e = cc
       by_test false e =
           let leaf = input_leaf goal.inputs bytes (Input r) e in
           let same = register_is r leaf.1.reg leaf.4 in
-          (leaf.0, leaf.2, at_any leaf.0 (registers_of goal.inputs) leaf.2 ∙ leaf.3 ∙ sym same)
+          (leaf.0, leaf.2, at_any leaf.0 (input_registers goal.inputs) leaf.2 ∙ leaf.3 ∙ sym same)
         where
           at_any : (k : ℕ) (xs : List ℕ) → k < length xs → get_or xs k r ≡ get_or xs k 0
           at_any k [] h = omega (arith, h)

@@ -14,12 +14,13 @@ use Rattle.goal_reader.specs.declared.goals.InputReg.{InputReg}
 use Rattle.goal_reader.specs.declared.goals.Set.{Set}
 use Rattle.goal_reader.specs.declared.drafts.Draft.{Draft}
 use Rattle.goal_reader.specs.Views.{TargetTree, target_view}
-use Rattle.goal_reader.specs.Drafts.{AreDifferent, KeepsSoFar, pool_read, IsNext, IsWritten, IsPoolWritten, no_pool, one_pool, draft_role, with_input, with_pool}
+use Rattle.goal_reader.specs.Drafts.{AreDifferent, KeepsSoFar, pool_read, IsNext, IsWritten, IsPoolWritten, draft_role, with_input, no_pool, one_pool, with_pool}
 use Rattle.goal_reader.specs.Drafts as drafts
 use Rattle.goal_reader.specs.Grammar.{IsRegister, WritesInput, WritesTarget}
-use Rattle.goal_reader.specs.Reading.{IsClear, names_of_inputs, names_of_targets, registers_of}
+use Rattle.goal_reader.specs.Reading.{IsClear, names_of_inputs, names_of_targets, input_registers}
 use Rattle.goal_reader.specs.Roles as roles
-use Rattle.goal_reader.specs.Roles.{Role, a_list, own_name, fresh_name, fresh_register, name_used, name_taken, register_given, part_role, is_reserved, is_among, has_register, names_of_declared, rank, of_rank, is_later_than, goal_keywords, goal_bounds, bound_at, registers_in, register_of, register_number, ◌>>=◌}
+use Rattle.text_core.specs.Names.{is_among}
+use Rattle.goal_reader.specs.Roles.{Role, a_list, own_name, fresh_name, fresh_register, name_used, name_taken, register_given, part_role, is_reserved, has_register, names_of_declared, rank, of_rank, is_later_than, goal_keywords, goal_bounds, bound_at, registers_in, register_of, register_number, ◌>>=◌}
 use Rattle.goal_reader.proofs.Different.{or_left, or_right, among_apart, one_more, all_more, register_low}
 use Rattle.goal_reader.proofs.GoalSteps.{mapped_more}
 use Rattle.goal_reader.proofs.ItemForms.{keyworded, bind_some, input_writes, register_known_by, target_writes}
@@ -77,11 +78,11 @@ module _ (declared : List DeclaredOp) (inputs : List InputReg) (form : Form) (i 
       name_free (names_of_declared declared ++ names_of_inputs inputs) w.first i.name w.named
       (part_clear as_input (own_name (names_of_declared declared ++ names_of_inputs inputs)) form w.first 1 clear (ap (λ (f : Form). slice_get (parts_of f) 1) w.is.is) refl)
 
-  input_fresh : has_register (registers_of inputs) i.reg ≡ false
+  input_fresh : has_register (input_registers inputs) i.reg ≡ false
   unfolding as_input
   input_fresh =
-      register_fresh (registers_of inputs) w.second i.reg (register_told w.second i.reg w.placed)
-      (part_clear as_input (fresh_register (registers_of inputs)) form w.second 2 clear (ap (λ (f : Form). slice_get (parts_of f) 2) w.is.is) refl)
+      register_fresh (input_registers inputs) w.second i.reg (register_told w.second i.reg w.placed)
+      (part_clear as_input (fresh_register (input_registers inputs)) form w.second 2 clear (ap (λ (f : Form). slice_get (parts_of f) 2) w.is.is) refl)
 
 target_free : (scope : Scope) (names : List (List ℕ)) (form : Form) (t : TargetTree) → WritesTarget scope form t → IsClear (a_list (roles.set scope names)) form → is_among names t.name ≡ false
 target_free scope names form t w clear =
@@ -116,15 +117,15 @@ module _ (declared : List DeclaredOp) (before : List Form) (form : Form) (d : Dr
       let among = or_right (is_reserved i.name) (is_among (names_of_declared d.scope.declared ++ names_of_inputs d.inputs) i.name) free in
       let split = sym (among_both (names_of_declared d.scope.declared) (names_of_inputs d.inputs) i.name) ∙ among in
       let no_pool_yet = ap pool_read (none_yet (of_rank goal_keywords 1 before) d.pool (later_empty 0 e none_later 1 (omega arith)) w.pool) in
-      let old : AreDifferent (registers_of d.inputs) = subst AreDifferent (ap (λ rs. registers_of d.inputs ++ rs) no_pool_yet ∙ append-nil (registers_of d.inputs)) k.registers in
-      let new = one_more (registers_of d.inputs) i.reg old (input_fresh d.scope.declared d.inputs form i wi clear) (below wi.second i.reg (register_told wi.second i.reg wi.placed)) in
+      let old : AreDifferent (input_registers d.inputs) = subst AreDifferent (ap (λ rs. input_registers d.inputs ++ rs) no_pool_yet ∙ append-nil (input_registers d.inputs)) k.registers in
+      let new = one_more (input_registers d.inputs) i.reg old (input_fresh d.scope.declared d.inputs form i wi clear) (below wi.second i.reg (register_told wi.second i.reg wi.placed)) in
       record {
         input_names = all_pairs_push (λ (a b : InputReg). a.name ≢ b.name) d.inputs i k.input_names
             (among_apart (λ (a : InputReg). a.name) d.inputs i.name (or_right (is_among (names_of_declared d.scope.declared) i.name) (is_among (names_of_inputs d.inputs) i.name) split));
         own_names = All-push (λ (a : InputReg). is_reserved a.name ≡ false) d.inputs i k.own_names (or_left (is_reserved i.name) (is_among (names_of_declared d.scope.declared ++ names_of_inputs d.inputs) i.name) free);
         not_declared = All-push (λ (a : InputReg). is_among (names_of_declared declared) a.name ≡ false) d.inputs i k.not_declared
             (subst (λ (ds : List DeclaredOp). is_among (names_of_declared ds) i.name ≡ false) same_ops (or_left (is_among (names_of_declared d.scope.declared) i.name) (is_among (names_of_inputs d.inputs) i.name) split));
-        registers = subst AreDifferent (sym (ap (λ rs. registers_of (d.inputs ++ i ∷ []) ++ rs) no_pool_yet ∙ append-nil (registers_of (d.inputs ++ i ∷ [])) ∙ mapped_more (λ (a : InputReg). a.reg) d.inputs i)) new;
+        registers = subst AreDifferent (sym (ap (λ rs. input_registers (d.inputs ++ i ∷ []) ++ rs) no_pool_yet ∙ append-nil (input_registers (d.inputs ++ i ∷ [])) ∙ mapped_more (λ (a : InputReg). a.reg) d.inputs i)) new;
         targets = k.targets;
         few = (longer d.inputs i _ (each_length WritesInput (of_rank goal_keywords 0 before) d.inputs w.inputs) few, k.few.1, k.few.2);
       }
@@ -135,12 +136,12 @@ module _ (declared : List DeclaredOp) (before : List Form) (form : Form) (d : Dr
       subst (KeepsSoFar declared) (sym same) (with_input_keeps i (input_writes d.scope.declared d.inputs form i e is clear) clear e none_later few)
   next_keeps at next e none_later few (drafts.pool registers is same) clear =
       let no_pool_yet = ap pool_read (none_yet (of_rank goal_keywords 1 before) d.pool (fewer_than_one (of_rank goal_keywords 1 before) few) w.pool) in
-      let old : AreDifferent (registers_of d.inputs) = subst AreDifferent (ap (λ rs. registers_of d.inputs ++ rs) no_pool_yet ∙ append-nil (registers_of d.inputs)) k.registers in
+      let old : AreDifferent (input_registers d.inputs) = subst AreDifferent (ap (λ rs. input_registers d.inputs ++ rs) no_pool_yet ∙ append-nil (input_registers d.inputs)) k.registers in
       subst (KeepsSoFar declared) (sym same) (record {
         input_names = k.input_names;
         own_names = k.own_names;
         not_declared = k.not_declared;
-        registers = subst (λ rs. AreDifferent (registers_of d.inputs ++ rs)) (sym is) (pool_free (registers_of d.inputs) form e clear old);
+        registers = subst (λ rs. AreDifferent (input_registers d.inputs ++ rs)) (sym is) (pool_free (input_registers d.inputs) form e clear old);
         targets = k.targets;
         few = k.few;
       })

@@ -1,16 +1,17 @@
 -- Names and registers that are new, and an input of them.
 use Rattle.std.proofs.Common.{◌≡◌, ℕ, ◌<◌, ◌≤◌, ◌||◌, ◌++◌, Bool, true, false, Option, None, Some, List, length, get_or, refl, sym, ap, ap₂, ◌∙◌, subst, arith, slice_get, option_map, bytes_eq, All}
-use Rattle.forms.specs.Reading.{IsOf}
+use Rattle.forms.specs.Reading.{IsSexpOf}
 use Rattle.std.proofs.lemmas.List.Folds.{list_any-append}
 use Rattle.text_core.specs.declared.faults.Kind.{Kind}
 use Rattle.text_core.specs.declared.faults.Kind.TheVariants.{BadForm, Twice, BadRegister}
 use Rattle.text_core.specs.Faults.{fault_number, IsFirst}
-use Rattle.forms.specs.Forms.{Form, list, place_of, parts_of, name_in, register_in}
+use Rattle.forms.specs.Forms.{Form, list, place_of, parts_of, name_in, register_in, part}
 use Rattle.forms.specs.Forms.{Stands}
 use Rattle.forms.proofs.First.{first_own, no_fault}
 use Rattle.goal_reader.specs.declared.scopes.DeclaredOp.{DeclaredOp}
 use Rattle.goal_reader.specs.declared.goals.InputReg.{InputReg}
-use Rattle.goal_reader.specs.Roles.{Role, own_name, fresh_register, fresh_name, no_fresh_name, name_taken, set, second_name, target_sort, a_list, input, guard, IsOwn, no_own_name, name_used, no_register, bad_register, register_given, too_few, part_role, IsFaultAs, is_reserved, is_among, has_register, register_number, register_of, ◌>>=◌, part, input_in}
+use Rattle.text_core.specs.Names.{is_among}
+use Rattle.goal_reader.specs.Roles.{Role, own_name, fresh_register, fresh_name, no_fresh_name, name_taken, set, second_name, target_sort, a_list, input, guard, IsOwn, no_own_name, name_used, no_register, bad_register, register_given, too_few, part_role, IsFaultAs, is_reserved, has_register, register_number, register_of, ◌>>=◌, input_in}
 use Rattle.goal_reader.specs.Reading.{IsClear, IsOwnName, sort_of_target}
 use Rattle.std.proofs.lemmas.Option.{slice_get-get_or}
 use Rattle.std.proofs.lemmas.List.{length-map}
@@ -106,8 +107,8 @@ input_found form first second bytes r g n g2 e =
     let third : List ℕ → Option InputReg = λ nm. part 2 form >>= (λ f. register_of f >>= (λ reg. Some (record { name = nm; reg = reg }))) in
     ap (λ o. (o >>= name_in) >>= third) g ∙ ap (λ o. o >>= third) n ∙ ap (λ o. o >>= (λ f. register_of f >>= (λ reg. Some (record { name = bytes; reg = reg })))) g2 ∙ ap last e
 
-pub part_of : (text : List ℕ) (parts : List Sexp) (i : ℕ) (part : Sexp) → All (IsOf text) parts → i < length parts → part ≡ get_or parts i part → IsOf text part
-part_of text parts i part all l is = subst (IsOf text) (sym is) (all i part l)
+pub part_of : (text : List ℕ) (parts : List Sexp) (i : ℕ) (part : Sexp) → All (IsSexpOf text) parts → i < length parts → part ≡ get_or parts i part → IsSexpOf text part
+part_of text parts i part all l is = subst (IsSexpOf text) (sym is) (all i part l)
 
 pub guard_only : (scope : Scope) (form : Form) (k : Kind) → IsOwn (a_list (guard scope)) form k → length (parts_of form) < 2
 guard_only scope form k (too_few l) = l

@@ -12,10 +12,10 @@ use Rattle.goal_reader.specs.declared.goals.InputReg.{InputReg}
 use Rattle.goal_reader.specs.declared.scopes.DeclaredOp.{DeclaredOp}
 use Rattle.goal_reader.specs.Grammar.{IsRegister, WritesInput, WritesGoal, WritesDeclaration, WritesAxiom, WritesAssume, WritesTarget, axiom_scope, given}
 use Rattle.goal_reader.specs.Printing.{Naming, naming, register_plain, input_plain, pool_plain, assume_plain, guard_plains, target_plain, goal_plain, declaration_plain, variable_plain, axiom_plain, term_plain}
-use Rattle.goal_reader.specs.Reading.{registers_of}
+use Rattle.goal_reader.specs.Reading.{input_registers}
 use Rattle.goal_reader.specs.Roles.{goal_scope, number_of_register, is_digit}
 use Rattle.goal_reader.specs.Views.{GoalTree, AxiomTree}
-use Rattle.goal_reader.proofs.Moved.{AreNamed, name_form, number_form, list_form, listed_form, one_more_form, no_more_form, split_forms, each_from, plains_map, plains_once, term_again, assume_again, target_again, guard_again}
+use Rattle.goal_reader.proofs.Moved.{name_form, number_form, list_form, listed_form, one_more_form, no_more_form, split_forms, each_from, plains_map, plains_once, term_again, assume_again, target_again, guard_again, AreNamed}
 use Rattle.goal_reader.proofs.PrintedNames.{goal_named, axiom_named}
 use Rattle.std.proofs.lemmas.Fmt.{decimal_digit, decimal_step}
 use Rattle.goal_reader.proofs.ItemForms.{list_from_list}
@@ -85,12 +85,12 @@ all_head P x xs h = h 0 x (omega arith)
 pub all_tail : {X : Type 0} (P : X → Type 0) (x : X) (xs : List X) → All P (x ∷ xs) → All P xs
 all_tail P x xs h k d l = h (suc k) d (omega (arith, l))
 
-inputs_again : (gs : List Form) (is : List InputReg) (rest : List ℕ) → All (λ r. r < 31) (registers_of is ++ rest) → map plain_of gs ≡ map input_plain is → Each WritesInput gs is
+inputs_again : (gs : List Form) (is : List InputReg) (rest : List ℕ) → All (λ r. r < 31) (input_registers is ++ rest) → map plain_of gs ≡ map input_plain is → Each WritesInput gs is
 inputs_again gs [] rest low e = subst (λ fs. Each WritesInput fs []) (sym (no_more_form gs e)) grammar.none
 inputs_again gs (i ∷ is) rest low e =
     let m = one_more_form gs (input_plain i) (map input_plain is) e in
     subst (λ fs. Each WritesInput fs (i ∷ is)) (sym m.2)
-    (more_of (input_again m.0 i (all_head (λ r. r < 31) i.reg (registers_of is ++ rest) low) m.3) (inputs_again m.1 is rest (all_tail (λ r. r < 31) i.reg (registers_of is ++ rest) low) m.4))
+    (more_of (input_again m.0 i (all_head (λ r. r < 31) i.reg (input_registers is ++ rest) low) m.3) (inputs_again m.1 is rest (all_tail (λ r. r < 31) i.reg (input_registers is ++ rest) low) m.4))
 
 registers_again : (gs : List Form) (rs : List ℕ) → All (λ r. r < 31) rs → map plain_of gs ≡ map register_plain rs → Each (λ f r. IsRegister r f) gs rs
 registers_again gs [] low e = subst (λ fs. Each (λ f r. IsRegister r f) fs []) (sym (no_more_form gs e)) grammar.none
@@ -124,7 +124,7 @@ goal_again declared f g x w e =
     let names : Naming = naming declared x.inputs [] in
     let scope = goal_scope declared x.inputs in
     let low = w.rules.low in
-    let named = goal_named declared x.inputs (pairs_front (registers_of x.inputs) x.pool w.rules.registers) in
+    let named = goal_named declared x.inputs (pairs_front (input_registers x.inputs) x.pool w.rules.registers) in
     let l = listed_form (codes "goal") _ g e in
     let m = one_more_form l.0 (atom (name x.name)) _ l.2 in
     let h = name_form m.0 x.name m.3 in
@@ -145,7 +145,7 @@ goal_again declared f g x w e =
       is = subst (λ ps. IsListOf (codes "goal") ps g) parts l.1;
       named = record { place = h.0; is = h.1 };
       inputs = inputs_again a.0 x.inputs x.pool low a.3;
-      pool = given q.0 q.1 (registers_again q.0 x.pool (all_behind (registers_of x.inputs) x.pool low) q.2);
+      pool = given q.0 q.1 (registers_again q.0 x.pool (all_behind (input_registers x.inputs) x.pool low) q.2);
       assumptions = each_from (WritesAssume scope) (assume_plain names) (assume_again scope names named) w.assumes b.0 x.assumes w.assumptions b.3;
       guard = guard_again scope names named w.whens c.0 x.guard w.guard c.3;
       targets = each_from (WritesTarget scope) (target_plain names) (target_again scope names named) w.sets c.1 x.sets w.targets c.4;

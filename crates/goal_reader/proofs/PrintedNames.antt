@@ -15,9 +15,10 @@ use Rattle.goal_reader.specs.declared.scopes.Named.{Named}
 use Rattle.goal_reader.specs.declared.scopes.Named.TheVariants.{Memory, Input, Variable}
 use Rattle.goal_reader.specs.Grammar.{axiom_scope}
 use Rattle.goal_reader.specs.Printing.{naming, input_name, operator_name, leaf_atom}
-use Rattle.goal_reader.specs.Reading.{registers_of}
+use Rattle.goal_reader.specs.Reading.{input_registers}
 use Rattle.goal_reader.specs.Roles.{goal_scope, rank_from}
-use Rattle.goal_reader.specs.Scopes.{leaf_named, declared_named, is_written, word_named, memory_operator_named, written_or_memory, operator_named, or_else}
+use Rattle.std.specs.Option.{option_or}
+use Rattle.goal_reader.specs.Scopes.{leaf_named, declared_named, is_written, word_named, memory_operator_named, written_or_memory, operator_named}
 use Rattle.goal_reader.proofs.AxiomForms.{left_told, same_number}
 use Rattle.goal_reader.proofs.ItemForms.{rank_from_is}
 use Rattle.goal_reader.proofs.Moved.{AreNamed}
@@ -71,21 +72,21 @@ declared_as at (o ∷ os) n op e = by_test (bytes_eq o.name n) refl e (declared_
 pub operator_told : (declared : List DeclaredOp) (n : List ℕ) (op : Op) → operator_named declared n ≡ Some op → IsNamedAs declared n op
 operator_told declared n op e = by_word (word_named n) refl e
   where
-    by_memory : (m : Option Op) → memory_operator_named n ≡ m → or_else m (declared_named 0 declared n) ≡ Some op → IsNamedAs declared n op
+    by_memory : (m : Option Op) → memory_operator_named n ≡ m → option_or m (declared_named 0 declared n) ≡ Some op → IsNamedAs declared n op
     by_memory (Some x) f g = let same : x ≡ op = cc in memory_as declared n op (bytes_eq n (codes "select")) (bytes_eq n (codes "store")) refl refl (f ∙ ap Some same)
     by_memory None f g =
         let d = declared_as 0 declared n op g in
         let index : d.0 + 0 ≡ d.0 = omega arith in
         subst (IsNamedAs declared n) (sym (d.2 ∙ ap (λ m. ops.Declared m d.1.arity) index)) (sym d.3, λ inputs. refl)
 
-    by_written : (w : WordOp) (b : Bool) → name_of w ≡ n → is_written w ≡ b → or_else (if b then Some (ops.Word w) else None) (declared_named 0 declared n) ≡ Some op → IsNamedAs declared n op
+    by_written : (w : WordOp) (b : Bool) → name_of w ≡ n → is_written w ≡ b → option_or (if b then Some (ops.Word w) else None) (declared_named 0 declared n) ≡ Some op → IsNamedAs declared n op
     by_written w true h t g = let same : ops.Word w ≡ op = cc in subst (IsNamedAs declared n) same (sym h, λ inputs. refl)
     by_written w false h t g =
         let d = declared_as 0 declared n op g in
         let index : d.0 + 0 ≡ d.0 = omega arith in
         subst (IsNamedAs declared n) (sym (d.2 ∙ ap (λ m. ops.Declared m d.1.arity) index)) (sym d.3, λ inputs. refl)
 
-    by_word : (o : Option WordOp) → word_named n ≡ o → or_else (written_or_memory o n) (declared_named 0 declared n) ≡ Some op → IsNamedAs declared n op
+    by_word : (o : Option WordOp) → word_named n ≡ o → option_or (written_or_memory o n) (declared_named 0 declared n) ≡ Some op → IsNamedAs declared n op
     by_word None f g = by_memory (memory_operator_named n) refl g
     by_word (Some w) f g = by_written w (is_written w) (word_found n w f) refl g
 
@@ -94,19 +95,19 @@ abbrev pub leaves_of : List InputReg → List Leaf
 leaves_of inputs = map (λ (i : InputReg). record { name = i.name; named = Input i.reg }) inputs
 
 -- a leaf of an input has its register and its name
-pub input_leaf : (inputs : List InputReg) (n : List ℕ) (x : Named) → leaf_named (leaves_of inputs) n ≡ Some x → (k : ℕ) × (i : InputReg) × (k < length (registers_of inputs)) × (get_or (registers_of inputs) k 0 ≡ i.reg) × (x ≡ Input i.reg)
+pub input_leaf : (inputs : List InputReg) (n : List ℕ) (x : Named) → leaf_named (leaves_of inputs) n ≡ Some x → (k : ℕ) × (i : InputReg) × (k < length (input_registers inputs)) × (get_or (input_registers inputs) k 0 ≡ i.reg) × (x ≡ Input i.reg)
 input_leaf [] n x e = cc
 input_leaf (i ∷ is) n x e = by_test (bytes_eq i.name n) e (input_leaf is n x)
   where
-    by_test : (b : Bool) → (if b then Some (Input i.reg) else leaf_named (leaves_of is) n) ≡ Some x → (leaf_named (leaves_of is) n ≡ Some x → (k : ℕ) × (j : InputReg) × (k < length (registers_of is)) × (get_or (registers_of is) k 0 ≡ j.reg) × (x ≡ Input j.reg))
-        → (k : ℕ) × (j : InputReg) × (k < length (registers_of (i ∷ is))) × (get_or (registers_of (i ∷ is)) k 0 ≡ j.reg) × (x ≡ Input j.reg)
+    by_test : (b : Bool) → (if b then Some (Input i.reg) else leaf_named (leaves_of is) n) ≡ Some x → (leaf_named (leaves_of is) n ≡ Some x → (k : ℕ) × (j : InputReg) × (k < length (input_registers is)) × (get_or (input_registers is) k 0 ≡ j.reg) × (x ≡ Input j.reg))
+        → (k : ℕ) × (j : InputReg) × (k < length (input_registers (i ∷ is))) × (get_or (input_registers (i ∷ is)) k 0 ≡ j.reg) × (x ≡ Input j.reg)
     by_test true f later = let same : x ≡ Input i.reg = cc in (0, i, omega arith, refl, same)
     by_test false f later = let l = later f in let low = l.2 in (suc l.0, l.1, omega (arith, low), l.3, l.4)
 
 register_is : (r s : ℕ) → Input r ≡ Input s → r ≡ s
 register_is r s e = cc
 
-input_named : (inputs : List InputReg) (n : List ℕ) (r : ℕ) → AllPairs (λ a b. a ≢ b) (registers_of inputs) → leaf_named (leaves_of inputs) n ≡ Some (Input r) → n ≡ input_name inputs r
+input_named : (inputs : List InputReg) (n : List ℕ) (r : ℕ) → AllPairs (λ a b. a ≢ b) (input_registers inputs) → leaf_named (leaves_of inputs) n ≡ Some (Input r) → n ≡ input_name inputs r
 input_named [] n r apart e = cc
 input_named (i ∷ is) n r apart e = by_test (bytes_eq i.name n) refl e (input_named is n r (λ a b d x y. apart (suc a) (suc b) d (omega (arith, x)) (omega (arith, y))))
   where
@@ -122,7 +123,7 @@ input_named (i ∷ is) n r apart e = by_test (bytes_eq i.name n) refl e (input_n
         let other : (i.reg == r) ≡ false = not_true (i.reg == r) (λ h. apart 0 (suc l.0) 0 (omega arith) (omega (arith, low)) ((Decides-eqb i.reg r).0 h ∙ sym is_there)) in
         later f ∙ sym (ap (λ b. if b then i.name else input_name is r) other)
 
-pub goal_named : (declared : List DeclaredOp) (inputs : List InputReg) → AllPairs (λ a b. a ≢ b) (registers_of inputs) → AreNamed (goal_scope declared inputs) (naming declared inputs [])
+pub goal_named : (declared : List DeclaredOp) (inputs : List InputReg) → AllPairs (λ a b. a ≢ b) (input_registers inputs) → AreNamed (goal_scope declared inputs) (naming declared inputs [])
 goal_named declared inputs apart = record {
   memory_is = λ n e. memory_by n (bytes_eq (codes "M") n) refl e;
   input_is = λ n r e. input_by n r (bytes_eq (codes "M") n) e;

@@ -16,7 +16,7 @@ use Rattle.goal_reader.specs.Grammar.{IsRegister, WritesInput, WritesPool, Write
 use Rattle.goal_reader.specs.Roles.{rank, of_rank, goal_keywords, text_keywords, items_of, goal_scope, second_name, register_of, input_in, declaration_in, arity_named, ◌>>=◌}
 use Rattle.goal_reader.specs.Terms.{Writes}
 use Rattle.goal_reader.specs.Views.{TwoTrees, TargetTree, GoalTree, AxiomTree}
-use Rattle.goal_reader.specs.Reading.{registers_of}
+use Rattle.goal_reader.specs.Reading.{input_registers}
 use Rattle.goal_reader.proofs.Grouped.{AllOf, all_ranked, listed_rank, first_of, skip_of, of_other}
 use Rattle.goal_reader.proofs.Heads.{list_from}
 use Rattle.goal_reader.proofs.OneTerm.{one_term}
@@ -152,7 +152,7 @@ module _ (declared : List DeclaredOp) (form : Form) (g : GoalTree) (w : WritesGo
   all_ins = all_ranked goal_keywords WritesInput 0 input_ranked w.ins g.inputs w.inputs
 
   pub all_pools : AllOf goal_keywords 1 w.pools
-  all_pools = pool_ranked (registers_of g.inputs) w.pools g.pool w.pool
+  all_pools = pool_ranked (input_registers g.inputs) w.pools g.pool w.pool
 
   pub all_assumes : AllOf goal_keywords 2 w.assumes
   all_assumes = all_ranked goal_keywords (WritesAssume (goal_scope declared g.inputs)) 2 (assume_ranked (goal_scope declared g.inputs)) w.assumes g.assumes w.assumptions
@@ -200,8 +200,8 @@ module _ (declared : List DeclaredOp) (form : Form) (g : GoalTree) (w : WritesGo
   pub reads_inputs : Each WritesInput (items 0) g.inputs
   reads_inputs = subst (λ fs. Each WritesInput fs g.inputs) (sym ins_are) w.inputs
 
-  pub reads_pool : WritesPool (registers_of g.inputs) (items 1) g.pool
-  reads_pool = subst (λ fs. WritesPool (registers_of g.inputs) fs g.pool) (sym pools_are) w.pool
+  pub reads_pool : WritesPool (input_registers g.inputs) (items 1) g.pool
+  reads_pool = subst (λ fs. WritesPool (input_registers g.inputs) fs g.pool) (sym pools_are) w.pool
 
   pub reads_assumes : Each (WritesAssume (goal_scope declared g.inputs)) (items 2) g.assumes
   reads_assumes = subst (λ fs. Each (WritesAssume (goal_scope declared g.inputs)) fs g.assumes) (sym assumes_are) w.assumptions
@@ -225,7 +225,7 @@ goal_once declared form g h w v =
     let names = same_some (second_name form) g.name h.name (goal_told declared form g w) (goal_told declared form h v) in
     let inputs = each_once WritesInput input_once (items 0) g.inputs h.inputs (reads_inputs declared form g w) (reads_inputs declared form h v) in
     let scope = goal_scope declared h.inputs in
-    let pool = pool_once (registers_of h.inputs) (items 1) g.pool h.pool (subst (λ is. WritesPool (registers_of is) (items 1) g.pool) inputs (reads_pool declared form g w)) (reads_pool declared form h v) in
+    let pool = pool_once (input_registers h.inputs) (items 1) g.pool h.pool (subst (λ is. WritesPool (input_registers is) (items 1) g.pool) inputs (reads_pool declared form g w)) (reads_pool declared form h v) in
     let assumes = each_once (WritesAssume scope) (assume_once scope) (items 2) g.assumes h.assumes (subst (λ is. Each (WritesAssume (goal_scope declared is)) (items 2) g.assumes) inputs (reads_assumes declared form g w)) (reads_assumes declared form h v) in
     let guards = guard_once scope (items 3) g.guard h.guard (subst (λ is. WritesGuard (goal_scope declared is) (items 3) g.guard) inputs (reads_guard declared form g w)) (reads_guard declared form h v) in
     let sets = each_once (WritesTarget scope) (target_once scope) (items 4) g.sets h.sets (subst (λ is. Each (WritesTarget (goal_scope declared is)) (items 4) g.sets) inputs (reads_targets declared form g w)) (reads_targets declared form h v) in

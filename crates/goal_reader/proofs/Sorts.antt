@@ -5,10 +5,10 @@ use Rattle.word_ops.specs.declared.sorts.Sort.{Sort}
 use Rattle.word_ops.specs.declared.sorts.Op.{Op}
 use Rattle.word_terms.specs.Tree.{Tree}
 use Rattle.text_core.specs.declared.faults.Kind.{Kind}
-use Rattle.forms.specs.Forms.{Form, parts_of}
+use Rattle.forms.specs.Forms.{Form, parts_of, part}
 use Rattle.goal_reader.specs.declared.scopes.Scope.{Scope}
 use Rattle.goal_reader.specs.Terms.{Writes, memory, input, variable, constant, application}
-use Rattle.goal_reader.specs.Roles.{sort_in, sort_of_leaf, ◌>>=◌, part, a_list, assume, IsOwn, too_few, WritesTerm}
+use Rattle.goal_reader.specs.Roles.{sort_in, sort_of_leaf, ◌>>=◌, a_list, assume, IsOwn, too_few, WritesTerm}
 use Rattle.goal_reader.specs.Reading.{tree_sort}
 use Rattle.std.proofs.Common.{length, ◌<◌}
 

@@ -14,7 +14,8 @@ use Rattle.goal_reader.specs.declared.scopes.DeclaredOp.{DeclaredOp}
 use Rattle.goal_reader.specs.Grammar.{WritesDeclaration, WritesAxiom, WritesGoal, WritesMachine, WritesText, Reads, IsFirstTextFault, built_in, own}
 use Rattle.goal_reader.specs.Reading.{IsClear}
 use Rattle.goal_reader.specs.Roles as roles
-use Rattle.goal_reader.specs.Roles.{Role, a_list, a_machine, wrong, own_name, an_arity, IsTextFault, no_goal, in_form, in_machine, is_reserved, is_among, names_of_declared, rank, of_rank, is_of_rank, text_keywords, text_bounds, bound_at, top_role, role_in, declared_in, declaration_in, names_given, second_name, arity_named}
+use Rattle.text_core.specs.Names.{is_among}
+use Rattle.goal_reader.specs.Roles.{Role, a_list, a_machine, wrong, own_name, an_arity, IsTextFault, no_goal, in_form, in_machine, is_reserved, names_of_declared, rank, of_rank, is_of_rank, text_keywords, text_bounds, bound_at, top_role, role_in, declared_in, declaration_in, names_given, second_name, arity_named}
 use Rattle.goal_reader.specs.TextDrafts.{IsClearForm}
 use Rattle.goal_reader.specs.TextFaults.{as_role, as_machine}
 use Rattle.goal_reader.specs.Views.{AxiomTree, GoalTree, InputTree}

@@ -21,7 +21,8 @@ use Rattle.goal_reader.specs.Grammar.{WritesDeclaration}
 use Rattle.goal_reader.specs.Order.{IsAdmission}
 use Rattle.goal_reader.specs.Reading.{IsClear}
 use Rattle.goal_reader.specs.Roles as roles
-use Rattle.goal_reader.specs.Roles.{Role, Shape, a_list, a_machine, wrong, own_name, fresh_name, is_reserved, is_among, names_of_declared, arity_named, declaration_in, declared_in, second_name, names_given, rank, of_rank, is_later_than, text_keywords, text_bounds, bound_at, role_in, top_role, ◌>>=◌}
+use Rattle.text_core.specs.Names.{is_among}
+use Rattle.goal_reader.specs.Roles.{Role, Shape, a_list, a_machine, wrong, own_name, fresh_name, is_reserved, names_of_declared, arity_named, declaration_in, declared_in, second_name, names_given, rank, of_rank, is_later_than, text_keywords, text_bounds, bound_at, role_in, top_role, ◌>>=◌}
 use Rattle.goal_reader.specs.TextDrafts.{IsClearForm, IsNextForm, IsTextDraft, IsTextWritten, KeepsText, IsAxiomOf, IsGoalOf, IsTableWritten, one_table, text_role}
 use Rattle.goal_reader.specs.TextDrafts as drafts
 use Rattle.goal_reader.specs.TextFaults.{IsFormFault, as_role, role_at, AreClear}

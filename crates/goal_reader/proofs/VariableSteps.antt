@@ -11,14 +11,15 @@ use Rattle.text_core.specs.declared.faults.Kind.{Kind}
 use Rattle.text_core.specs.declared.faults.Kind.TheVariants.{BadForm, LimitPassed}
 use Rattle.text_core.specs.declared.sexps.Sexp.{Sexp}
 use Rattle.text_core.specs.Faults.{IsFirst, fault_number}
-use Rattle.forms.specs.Forms.{Form, atom, list, place_of, parts_of, name_in, is_list, forms_from, sexp_form, sexp_forms, Stands}
+use Rattle.forms.specs.Forms.{Form, atom, list, place_of, parts_of, name_in, is_list, forms_from, sexp_form, sexp_forms, Stands, names_in}
 use Rattle.forms.specs.Faults.{own}
 use Rattle.forms.proofs.First.{ClearTo, first_own}
 use Rattle.machine_table.specs.Grammar.{Each, more_of, IsNameOf}
 use Rattle.machine_table.specs.Grammar as grammar
 use Rattle.goal_reader.specs.declared.scopes.DeclaredOp.{DeclaredOp}
 use Rattle.goal_reader.specs.Roles as roles
-use Rattle.goal_reader.specs.Roles.{Role, a_list, own_name, past, past_limit, too_few, no_own_name, IsOwn, part_role, IsFaultAs, names_in, names_of_declared, is_among, is_reserved, mentions, mentions_any}
+use Rattle.text_core.specs.Names.{is_among}
+use Rattle.goal_reader.specs.Roles.{Role, a_list, own_name, past, past_limit, too_few, no_own_name, IsOwn, part_role, IsFaultAs, names_of_declared, is_reserved, mentions, mentions_any}
 use Rattle.goal_reader.specs.Reading.{IsClear, IsOwnName}
 use Rattle.goal_reader.proofs.Different.{or_left, or_right, among_apart, pairs_nil}
 use Rattle.goal_reader.proofs.Growing.{clear_next, part_first}

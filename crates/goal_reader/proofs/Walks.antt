@@ -9,7 +9,8 @@ use Rattle.forms.proofs.First.{no_fault}
 use Rattle.machine_table.specs.Grammar.{Each, more_of}
 use Rattle.text_core.specs.declared.faults.Kind.{Kind}
 use Rattle.goal_reader.specs.Reading.{IsClear}
-use Rattle.goal_reader.specs.Roles.{Role, IsOwn, part_role, rank, of_rank, is_later_than, is_among, has_register}
+use Rattle.text_core.specs.Names.{is_among}
+use Rattle.goal_reader.specs.Roles.{Role, IsOwn, part_role, rank, of_rank, is_later_than, has_register}
 use Rattle.goal_reader.proofs.Names.{not_true, decides_false}
 use Rattle.goal_reader.proofs.Ranks.{is_itself, later_more, of_rank_more, none_later, none_of}
 

@@ -18,7 +18,8 @@ use Rattle.forms.specs.Printing.{CanPrint, CanPrintAll, plain_of, plains_of}
 use Rattle.goal_reader.specs.declared.scopes.DeclaredOp.{DeclaredOp}
 use Rattle.goal_reader.specs.declared.scopes.Named.TheVariants.{Memory, Input, Variable}
 use Rattle.goal_reader.specs.declared.scopes.Scope.{Scope}
-use Rattle.goal_reader.specs.Scopes.{leaf_named, declared_named, is_written, word_named, memory_operator_named, written_or_memory, operator_named, or_else}
+use Rattle.std.specs.Option.{option_or}
+use Rattle.goal_reader.specs.Scopes.{leaf_named, declared_named, is_written, word_named, memory_operator_named, written_or_memory, operator_named}
 use Rattle.goal_reader.specs.Terms.{Writes, WritesEach, memory, input, variable, constant, application, nothing, operand}
 use Rattle.goal_reader.specs.WellFormed.{IsDeclared}
 
@@ -57,15 +58,15 @@ module _ (declared : List DeclaredOp) (Q : Op → Type 0) (words : (w : WordOp) 
   pub of_operator : (n : List ℕ) (op : Op) → operator_named declared n ≡ Some op → Q op
   of_operator n op e = by_word (word_named n) e
     where
-      by_memory : (m : Option Op) → memory_operator_named n ≡ m → or_else m (declared_named 0 declared n) ≡ Some op → Q op
+      by_memory : (m : Option Op) → memory_operator_named n ≡ m → option_or m (declared_named 0 declared n) ≡ Some op → Q op
       by_memory (Some x) f g = let same : x ≡ op = cc in of_memory op (bytes_eq n (codes "select")) (bytes_eq n (codes "store")) (f ∙ ap Some same)
       by_memory None f g = of_declared n op g
 
-      by_written : (w : WordOp) (b : Bool) → is_written w ≡ b → or_else (if b then Some (ops.Word w) else None) (declared_named 0 declared n) ≡ Some op → Q op
+      by_written : (w : WordOp) (b : Bool) → is_written w ≡ b → option_or (if b then Some (ops.Word w) else None) (declared_named 0 declared n) ≡ Some op → Q op
       by_written w true t g = let same : ops.Word w ≡ op = cc in subst Q same (words w t)
       by_written w false t g = of_declared n op g
 
-      by_word : (o : Option WordOp) → or_else (written_or_memory o n) (declared_named 0 declared n) ≡ Some op → Q op
+      by_word : (o : Option WordOp) → option_or (written_or_memory o n) (declared_named 0 declared n) ≡ Some op → Q op
       by_word None g = by_memory (memory_operator_named n) refl g
       by_word (Some w) g = by_written w (is_written w) refl g
 

@@ -15,14 +15,14 @@ use Rattle.goal_reader.specs.declared.goals.Set.{Set}
 use Rattle.goal_reader.specs.declared.goals.Goal.{Goal}
 use Rattle.goal_reader.specs.declared.drafts.Draft.{Draft}
 use Rattle.goal_reader.specs.Roles as roles
-use Rattle.goal_reader.specs.Roles.{Role, a_list, wrong, is_reserved, is_among, names_of_declared, goal_scope, inputs_in, input_in, names_given, of_rank, goal_keywords, items_of, second_name, registers_in}
-use Rattle.goal_reader.specs.Roles.{◌>>=◌}
+use Rattle.text_core.specs.Names.{is_among}
+use Rattle.goal_reader.specs.Roles.{Role, a_list, wrong, is_reserved, names_of_declared, goal_scope, inputs_in, input_in, names_given, of_rank, goal_keywords, items_of, second_name, registers_in, ◌>>=◌}
 use Rattle.std.specs.Prelude.{get_or, codes}
 use Rattle.goal_reader.specs.Grammar.{default_pool, IsRegister, WritesInput, WritesAssume, WritesGuard, WritesTarget}
 use Rattle.machine_table.specs.Grammar.{Each, IsListOf}
 use Rattle.goal_reader.specs.Views.{assume_view, target_view}
 use Rattle.std.specs.Prelude.{option_map}
-use Rattle.goal_reader.specs.Reading.{WritesPart, names_of_targets, registers_of, tree_sort, sort_of_target}
+use Rattle.goal_reader.specs.Reading.{WritesPart, names_of_targets, input_registers, tree_sort, sort_of_target}
 
 abbrev pub input_leaf : InputReg → Leaf
 input_leaf i = record { name = i.name; named = Input i.reg }
@@ -96,7 +96,7 @@ pub data IsNext (form : Form) (d : Draft) : ℕ → Draft → Type 0 where
 -- what an item with the keyword of this number is read as, behind what was read
 abbrev pub draft_role : Draft → ℕ → Role
 draft_role d at =
-    get_or (a_list (roles.input d.scope.declared d.inputs) ∷ a_list (roles.pool (registers_of d.inputs))
+    get_or (a_list (roles.input d.scope.declared d.inputs) ∷ a_list (roles.pool (input_registers d.inputs))
     ∷ a_list (roles.assume d.scope) ∷ a_list (roles.guard d.scope)
     ∷ a_list (roles.set d.scope (names_of_targets d.sets)) ∷ []) at wrong
 
@@ -156,6 +156,6 @@ pub record KeepsSoFar (declared : List DeclaredOp) (d : Draft) : Type 0 where
   pub input_names : AllPairs (λ (i j : InputReg). i.name ≢ j.name) d.inputs
   pub own_names : All (λ (i : InputReg). is_reserved i.name ≡ false) d.inputs
   pub not_declared : All (λ (i : InputReg). is_among (names_of_declared declared) i.name ≡ false) d.inputs
-  pub registers : AreDifferent (registers_of d.inputs ++ pool_read d.pool)
+  pub registers : AreDifferent (input_registers d.inputs ++ pool_read d.pool)
   pub targets : AllPairs (λ (s t : Set). s.name ≢ t.name) d.sets
   pub few : (length d.inputs ≤ 16) × (length d.assumes ≤ 16) × (length d.sets ≤ 16)

@@ -4,7 +4,8 @@ use Rattle.std.specs.Prelude.{Bool, true, false, ℕ, ◌≡◌, ◌≢◌, ◌<
 use Rattle.std.specs.List.{range_with_len}
 use Rattle.forms.specs.Forms.{Form, atom, list, forms_from, forms_list, forms_of, register, is_list}
 use Rattle.forms.specs.Reading.{TextHasTrees, IsFirstReadFault}
-use Rattle.goal_reader.specs.Roles.{numbered_leaves, IsTextFault, goal_scope, is_reserved, has_register, register_number, names_of_declared, is_among}
+use Rattle.text_core.specs.Names.{is_among}
+use Rattle.goal_reader.specs.Roles.{numbered_leaves, IsTextFault, goal_scope, is_reserved, has_register, register_number, names_of_declared}
 use Rattle.goal_reader.specs.Terms.{Writes}
 use Rattle.goal_reader.specs.Views.{TwoTrees, TargetTree, GoalTree, AxiomTree, InputTree}
 use Rattle.goal_reader.specs.declared.goals.InputReg.{InputReg}

@@ -11,18 +11,18 @@ use Rattle.word_ops.specs.declared.sorts.Op.{Op}
 use Rattle.word_terms.specs.Tree.{Tree, value}
 
 -- the value of a term in a world, where the variables have these words
-abbrev pub value_of : List DeclaredOp → World → List ℕ → Tree Op → Value
-value_of declared world words t =
+abbrev pub value_in_world : List DeclaredOp → World → List ℕ → Tree Op → Value
+value_in_world declared world words t =
     value (meaning world (declared_name declared)) (λ n. slice_index_or (map word words) n (word 0)) t
 
 -- the value of a term of a goal, which has no variables
 abbrev pub goal_value : List DeclaredOp → World → Tree Op → Value
-goal_value declared world t = value_of declared world [] t
+goal_value declared world t = value_in_world declared world [] t
 
 -- for all words of its variables, also of those that its left side lacks, both sides have one value
 abbrev pub HoldsOfAll : List DeclaredOp → World → AxiomTree → Type 0
 HoldsOfAll declared world a = (words : List ℕ) → All IsWord words → length words ≡ length a.variables
-    → value_of declared world words a.left ≡ value_of declared world words a.right
+    → value_in_world declared world words a.left ≡ value_in_world declared world words a.right
 
 -- the axioms of the input hold
 abbrev pub Holds : InputTree → World → Type 0

@@ -11,7 +11,8 @@ use Rattle.text_core.specs.declared.faults.Kind.{Kind}
 use Rattle.forms.specs.Forms.{Form, name_in, number_in, parts_of}
 use Rattle.word_ops.specs.declared.sorts.Arity.{Arity}
 use Rattle.goal_reader.specs.declared.goals.InputReg.{InputReg}
-use Rattle.goal_reader.specs.Roles.{Role, IsFaultAs, is_reserved, is_among, WritesTerm, arity_named, mentions, numbered_leaves}
+use Rattle.text_core.specs.Names.{is_among}
+use Rattle.goal_reader.specs.Roles.{Role, IsFaultAs, is_reserved, WritesTerm, arity_named, mentions, numbered_leaves}
 use Rattle.goal_reader.specs.declared.scopes.DeclaredOp.{DeclaredOp}
 use Rattle.goal_reader.specs.declared.scopes.Named.{Named}
 use Rattle.goal_reader.specs.declared.scopes.Named.TheVariants.{Variable, Lacking}
@@ -23,8 +24,8 @@ IsClear role form = (place : ℕ) (kind : Kind) → IsFaultAs role form place ki
 abbrev pub names_of_inputs : List InputReg → List (List ℕ)
 names_of_inputs inputs = map (λ (i : InputReg). i.name) inputs
 
-abbrev pub registers_of : List InputReg → List ℕ
-registers_of inputs = map (λ (i : InputReg). i.reg) inputs
+abbrev pub input_registers : List InputReg → List ℕ
+input_registers inputs = map (λ (i : InputReg). i.reg) inputs
 
 -- a name that is free
 pub record IsOwnName (names : List (List ℕ)) (form : Form) (bytes : List ℕ) : Type 0 where

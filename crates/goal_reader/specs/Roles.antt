@@ -7,9 +7,10 @@ use Rattle.word_ops.specs.declared.sorts.Sort.{Sort}
 use Rattle.word_ops.specs.declared.sorts.Sort.TheVariants as sorts
 use Rattle.word_ops.specs.declared.sorts.Op.{Op}
 use Rattle.word_terms.specs.Tree.{Tree}
+use Rattle.text_core.specs.Names.{is_among}
 use Rattle.text_core.specs.declared.faults.Kind.{Kind}
 use Rattle.text_core.specs.declared.faults.Kind.TheVariants.{BadForm, UnknownName, Twice, WrongArity, WrongSort, BadRegister, BadAxiom, LimitPassed}
-use Rattle.forms.specs.Forms.{Form, Forms, Atom, atom, list, none, more, register_in, place_of, parts_of, name_in, number_in, head_in, is_list}
+use Rattle.forms.specs.Forms.{Form, Forms, Atom, atom, list, none, more, register_in, part, parts_of, name_in, names_in, number_in, head_in, is_list}
 use Rattle.forms.specs.Forms as forms
 use Rattle.forms.specs.Faults.{IsFault}
 use Rattle.machine_table.specs.Roles.{IsMachineFault}
@@ -56,9 +57,6 @@ can_be_term _ = false
 
 -- ---- what the forms before give
 
-abbrev pub is_among : List (List ℕ) → List ℕ → Bool
-is_among names name = list_any (λ other. bytes_eq other name) names
-
 abbrev pub has_register : List ℕ → ℕ → Bool
 has_register given register = list_any (λ other. other == register) given
 
@@ -88,9 +86,6 @@ register_of form = register_in form >>= register_number
 abbrev pub registers_in : List Form → List ℕ
 registers_in forms = filter_map register_of forms
 
-abbrev pub names_in : List Form → List (List ℕ)
-names_in forms = filter_map name_in forms
-
 -- the keywords of the items of a goal, and of the forms of a text, in their order
 abbrev pub goal_keywords : List (List ℕ)
 goal_keywords = codes "in" ∷ codes "pool" ∷ codes "assume" ∷ codes "when" ∷ codes "set" ∷ []
@@ -119,9 +114,6 @@ is_later_than keywords at form = option_map_or (λ r. nat_lt at r) (rank keyword
 -- the items of a goal stand behind its keyword and its name
 abbrev pub items_of : Form → List Form
 items_of form = drop 2 (parts_of form)
-
-abbrev pub part : ℕ → Form → Option Form
-part at form = slice_get (parts_of form) at
 
 -- the name that is the second part of a list
 abbrev pub second_name : Form → Option (List ℕ)

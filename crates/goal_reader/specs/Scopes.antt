@@ -1,7 +1,7 @@
 -- What names mean in a term: operators, inputs, the memory, variables. Source: this project; the operators are
--- Denali's (PLDI 2002)
--- over the Alpha Architecture Handbook's.
+-- Denali's (PLDI 2002) over the Alpha Architecture Handbook's.
 use Rattle.std.specs.Prelude.{ℕ, ◌+◌, Bool, true, false, if◌then◌else◌, Option, Some, None, find, List, [], ◌∷◌, codes, bytes_eq}
+use Rattle.std.specs.Option.{option_or}
 use Rattle.word_ops.specs.Operators.{operators}
 use Rattle.word_ops.specs.Names.{name_of}
 use Rattle.word_ops.specs.declared.operators.WordOp.{WordOp}
@@ -11,10 +11,6 @@ use Rattle.word_ops.specs.declared.sorts.Op.TheVariants.{Word, Select, Store, De
 use Rattle.goal_reader.specs.declared.scopes.DeclaredOp.{DeclaredOp}
 use Rattle.goal_reader.specs.declared.scopes.Leaf.{Leaf}
 use Rattle.goal_reader.specs.declared.scopes.Named.{Named}
-
-abbrev pub or_else : {A : Type 0} → Option A → Option A → Option A
-or_else (Some a) other = Some a
-or_else None other = other
 
 -- what the first leaf of the name means
 abbrev pub leaf_named : List Leaf → List ℕ → Option Named
@@ -54,4 +50,4 @@ built_in_named name = written_or_memory (word_named name) name
 
 -- the operator of the name: one that every text has, or else a declared one
 abbrev pub operator_named : List DeclaredOp → List ℕ → Option Op
-operator_named declared name = or_else (built_in_named name) (declared_named 0 declared name)
+operator_named declared name = option_or (built_in_named name) (declared_named 0 declared name)

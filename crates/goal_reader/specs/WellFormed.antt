@@ -1,7 +1,7 @@
 -- Well-formed inputs: what an input keeps that was read. Source: this project.
 use Rattle.std.specs.Prelude.{true, false, ℕ, ◌≡◌, ◌≢◌, ◌+◌, ◌^◌, ◌<◌, ◌≤◌, List, [], ◌∷◌, length, replicate, slice_get, None, Some, IfSome, All, AllPairs, Contains}
 use Rattle.std.specs.Option.{option_map_or}
-use Rattle.text_core.specs.Names.{IsName}
+use Rattle.text_core.specs.Names.{IsName, is_among}
 use Rattle.word_ops.specs.Meanings.{constant_in}
 use Rattle.word_ops.specs.declared.sorts.Arity.{Arity}
 use Rattle.word_ops.specs.declared.sorts.Op.{Op}
@@ -18,8 +18,8 @@ use Rattle.machine_table.specs.declared.tables.Slot.{Slot}
 use Rattle.goal_reader.specs.Grammar.{KeepsRules}
 use Rattle.goal_reader.specs.InputNames.{IsNamedGoal}
 use Rattle.goal_reader.specs.Printing.{input_plains}
-use Rattle.goal_reader.specs.Reading.{registers_of, sort_of_target}
-use Rattle.goal_reader.specs.Roles.{is_among, is_reserved, names_of_declared}
+use Rattle.goal_reader.specs.Reading.{input_registers, sort_of_target}
+use Rattle.goal_reader.specs.Roles.{is_reserved, names_of_declared}
 use Rattle.goal_reader.specs.Scopes.{is_written}
 use Rattle.goal_reader.specs.Views.{TwoTrees, TargetTree, GoalTree, AxiomTree, InputTree}
 use Rattle.goal_reader.specs.declared.goals.InputReg.{InputReg}
@@ -55,7 +55,7 @@ IsOfAxiom declared op = CanBeWritten declared op
 
 -- the inputs of a goal's terms are the goal's
 abbrev pub IsOfGoal : List DeclaredOp → List InputReg → Op → Type 0
-IsOfGoal declared inputs (Input register) = Contains (registers_of inputs) register
+IsOfGoal declared inputs (Input register) = Contains (input_registers inputs) register
 IsOfGoal declared inputs op = CanBeWritten declared op
 
 -- ---- axioms

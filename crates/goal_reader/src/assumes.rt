@@ -4,9 +4,10 @@ ghost use Rattle.word_ops.specs.declared.sorts.Sort.TheVariants as sorts;
 ghost use Rattle.word_terms.specs.View.{tree_of};
 ghost use Rattle.text_core.specs.Faults.{IsFirst, IsFaultBy};
 ghost use Rattle.forms.specs.Forms.{sexp_form, name_in};
-ghost use Rattle.forms.specs.Reading.{IsOf};
+ghost use Rattle.forms.specs.Reading.{IsSexpOf};
 ghost use Rattle.goal_reader.specs.Roles as roles;
-ghost use Rattle.goal_reader.specs.Roles.{IsFaultAs, is_of_rank, goal_keywords, is_among, second_name};
+ghost use Rattle.text_core.specs.Names.{is_among};
+ghost use Rattle.goal_reader.specs.Roles.{IsFaultAs, is_of_rank, goal_keywords, second_name};
 ghost use Rattle.goal_reader.specs.Reading.{IsClear, WritesPart, tree_sort, sort_of_target, names_of_targets};
 
 use crate::goals::{Assume, Set};
@@ -29,7 +30,7 @@ fn term_sort(term: &Term<Op>) -> Sort
 
 /// Reads `( assume term term )`.
 pub fn assume(alloc: Global, form: &Sexp, text: &[u8], scope: &Scope) -> Result<Assume, TextFault>
-    requires of { IsOf text.now form.now }
+    requires of { IsSexpOf text.now form.now }
     requires few { length scope.now.declared ≤ 16 }
     requires keyword { is_of_rank goal_keywords 2 (sexp_form text.now form.now) ≡ true }
     ensures left { IfOk result (λ a. WritesPart scope.now None (sexp_form text.now form.now) 1 (tree_of a.left)) }
@@ -74,7 +75,7 @@ fn is_target(targets: &[Set], name: &[u8]) -> bool
 
 // A name that no earlier target has.
 fn target_name<'a>(form: &Sexp, text: &'a [u8], targets: &[Set]) -> Result<&'a [u8], TextFault>
-    requires of { IsOf text.now form.now }
+    requires of { IsSexpOf text.now form.now }
     ensures named { IfOk result (λ bytes. name_in (sexp_form text.now form.now) ≡ Some bytes.now) }
     ensures fresh { IfOk result (λ bytes. is_among (names_of_targets targets.now) bytes.now ≡ false) }
     ensures fault { IfErr result (IsFaultBy (IsFirst (IsFaultAs (roles.fresh_name (names_of_targets targets.now))
@@ -107,7 +108,7 @@ pub fn target(
     scope: &Scope,
     targets: &[Set],
 ) -> Result<Set, TextFault>
-    requires of { IsOf text.now form.now }
+    requires of { IsSexpOf text.now form.now }
     requires few { length scope.now.declared ≤ 16 }
     requires keyword { is_of_rank goal_keywords 4 (sexp_form text.now form.now) ≡ true }
     ensures named { IfOk result (λ t. second_name (sexp_form text.now form.now) ≡ Some t.name) }

@@ -5,7 +5,7 @@ ghost use Rattle.word_terms.specs.View.{tree_of};
 ghost use Rattle.text_core.specs.Faults.{GivesUnlessMemory, IsFaultBy, IsFirst, RefusesUnlessMemory};
 ghost use Rattle.text_core.specs.declared.faults.Kind.{Kind as FaultKind};
 ghost use Rattle.forms.specs.Forms.{sexp_form, is_list};
-ghost use Rattle.forms.specs.Reading.{IsOf};
+ghost use Rattle.forms.specs.Reading.{IsSexpOf};
 ghost use Rattle.goal_reader.specs.Roles as roles;
 ghost use Rattle.goal_reader.specs.Roles.{IsFaultAs, WritesTerm, rank, text_keywords};
 ghost use Rattle.goal_reader.specs.Grammar.{WritesAxiom};
@@ -30,7 +30,7 @@ pub fn left_side(
     text: &[u8],
     scope: &Scope,
 ) -> Result<Term<Op>, TextFault>
-    requires of { IsOf text.now form.now }
+    requires of { IsSexpOf text.now form.now }
     requires few { length scope.now.declared ≤ 16 }
     ensures term { IfOk result (λ t. WritesTerm scope.now (Some sorts.Word) (sexp_form text.now form.now) (tree_of t)) }
     ensures application { IfOk result (λ _. is_list (sexp_form text.now form.now) ≡ true) }
@@ -54,7 +54,7 @@ fn read_axiom(
     text: &[u8],
     declared: Items<DeclaredOp>,
 ) -> Result<(Axiom, Items<DeclaredOp>), TextFault>
-    requires of { IsOf text.now form.now }
+    requires of { IsSexpOf text.now form.now }
     requires few { length declared ≤ 16 }
     requires keyword { rank text_keywords (sexp_form text.now form.now) ≡ Some 2 }
     ensures axiom { IfOk result (λ read. WritesAxiom declared (sexp_form text.now form.now) (axiom_view read.0)) }
@@ -105,7 +105,7 @@ pub fn axiom(
     text: &[u8],
     declared: Items<DeclaredOp>,
 ) -> Result<(Axiom, Items<DeclaredOp>), TextFault>
-    requires of { IsOf text.now form.now }
+    requires of { IsSexpOf text.now form.now }
     requires few { length declared ≤ 16 }
     requires keyword { rank text_keywords (sexp_form text.now form.now) ≡ Some 2 }
 

@@ -2,9 +2,10 @@
 ghost use Rattle.std.specs.Prelude.{◌≡◌, ◌||◌, IfOk, IfErr, Some};
 ghost use Rattle.text_core.specs.Faults.{IsFirst, IsFaultBy};
 ghost use Rattle.forms.specs.Forms.{sexp_form};
-ghost use Rattle.forms.specs.Reading.{IsOf};
+ghost use Rattle.forms.specs.Reading.{IsSexpOf};
 ghost use Rattle.goal_reader.specs.Roles as roles;
-ghost use Rattle.goal_reader.specs.Roles.{IsFaultAs, names_of_declared, declaration_in, arity_named, is_among};
+ghost use Rattle.text_core.specs.Names.{is_among};
+ghost use Rattle.goal_reader.specs.Roles.{IsFaultAs, names_of_declared, declaration_in, arity_named};
 ghost use Rattle.goal_reader.specs.Reading.{IsClear, IsOwnName, IsArityOf};
 
 use crate::inputs::{is_declared, is_reserved};
@@ -20,7 +21,7 @@ fn operator_name<'a>(
     text: &'a [u8],
     declared: &[DeclaredOp],
 ) -> Result<&'a [u8], TextFault>
-    requires of { IsOf text.now form.now }
+    requires of { IsSexpOf text.now form.now }
     ensures ok { IfOk result (λ bytes. IsOwnName (names_of_declared declared.now)
         (sexp_form text.now form.now) bytes.now) }
     ensures fault { IfErr result (IsFaultBy (IsFirst (IsFaultAs (roles.own_name (names_of_declared declared.now))
@@ -58,7 +59,7 @@ fn arity_of(count: u64) -> Option<Arity>
 
 // The number of operands of a declared operator.
 fn arity(form: &Sexp, text: &[u8]) -> Result<Arity, TextFault>
-    requires of { IsOf text.now form.now }
+    requires of { IsSexpOf text.now form.now }
     ensures arity { IfOk result (IsArityOf (sexp_form text.now form.now)) }
     ensures clear { IfOk result (λ _. IsClear roles.an_arity (sexp_form text.now form.now)) }
     ensures fault { IfErr result (IsFaultBy (IsFirst (IsFaultAs roles.an_arity (sexp_form text.now form.now)))) }
@@ -83,7 +84,7 @@ pub fn declaration(
     text: &[u8],
     declared: &[DeclaredOp],
 ) -> Result<DeclaredOp, TextFault>
-    requires of { IsOf text.now form.now }
+    requires of { IsSexpOf text.now form.now }
     ensures declaration { IfOk result (λ d. declaration_in (sexp_form text.now form.now) ≡ Some d) }
     ensures clear { IfOk result (λ _. IsClear (roles.a_list (roles.declaration declared.now))
         (sexp_form text.now form.now)) }

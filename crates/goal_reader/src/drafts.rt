@@ -2,7 +2,7 @@
 ghost use Rattle.std.specs.Prelude.{◌≡◌, ◌≤◌, ◌<◌, ℕ, List, length, IfOk, IfErr, Some, None, true, false};
 ghost use Rattle.text_core.specs.Faults.{IsFirst, IsFaultBy};
 ghost use Rattle.forms.specs.Forms.{sexp_form};
-ghost use Rattle.forms.specs.Reading.{IsOf};
+ghost use Rattle.forms.specs.Reading.{IsSexpOf};
 ghost use Rattle.goal_reader.specs.Roles.{IsFaultAs, is_of_rank, rank, goal_keywords};
 ghost use Rattle.goal_reader.specs.Reading.{IsClear};
 ghost use Rattle.goal_reader.specs.Drafts.{IsNext, draft_role};
@@ -31,7 +31,7 @@ pub struct Draft {
 }
 
 fn add_input(alloc: Global, form: &Sexp, text: &[u8], draft: Draft) -> Result<Draft, TextFault>
-    requires of { IsOf text.now form.now }
+    requires of { IsSexpOf text.now form.now }
     requires keyword { is_of_rank goal_keywords 0 (sexp_form text.now form.now) ≡ true }
     ensures next { IfOk result (λ next. IsNext (sexp_form text.now form.now) draft 0 next) }
     ensures clear { IfOk result (λ _. IsClear (draft_role draft 0) (sexp_form text.now form.now)) }
@@ -75,7 +75,7 @@ fn add_input(alloc: Global, form: &Sexp, text: &[u8], draft: Draft) -> Result<Dr
 }
 
 fn add_pool(alloc: Global, form: &Sexp, text: &[u8], draft: Draft) -> Result<Draft, TextFault>
-    requires of { IsOf text.now form.now }
+    requires of { IsSexpOf text.now form.now }
     requires keyword { is_of_rank goal_keywords 1 (sexp_form text.now form.now) ≡ true }
     ensures next { IfOk result (λ next. IsNext (sexp_form text.now form.now) draft 1 next) }
     ensures clear { IfOk result (λ _. IsClear (draft_role draft 1) (sexp_form text.now form.now)) }
@@ -105,7 +105,7 @@ fn add_pool(alloc: Global, form: &Sexp, text: &[u8], draft: Draft) -> Result<Dra
 }
 
 fn add_assume(alloc: Global, form: &Sexp, text: &[u8], draft: Draft) -> Result<Draft, TextFault>
-    requires of { IsOf text.now form.now }
+    requires of { IsSexpOf text.now form.now }
     requires few { length draft.scope.declared ≤ 16 }
     requires keyword { is_of_rank goal_keywords 2 (sexp_form text.now form.now) ≡ true }
     ensures next { IfOk result (λ next. IsNext (sexp_form text.now form.now) draft 2 next) }
@@ -136,7 +136,7 @@ fn add_assume(alloc: Global, form: &Sexp, text: &[u8], draft: Draft) -> Result<D
 }
 
 fn add_guard(alloc: Global, form: &Sexp, text: &[u8], draft: Draft) -> Result<Draft, TextFault>
-    requires of { IsOf text.now form.now }
+    requires of { IsSexpOf text.now form.now }
     requires few { length draft.scope.declared ≤ 16 }
     requires keyword { is_of_rank goal_keywords 3 (sexp_form text.now form.now) ≡ true }
     ensures next { IfOk result (λ next. IsNext (sexp_form text.now form.now) draft 3 next) }
@@ -167,7 +167,7 @@ fn add_guard(alloc: Global, form: &Sexp, text: &[u8], draft: Draft) -> Result<Dr
 }
 
 fn add_target(alloc: Global, form: &Sexp, text: &[u8], draft: Draft) -> Result<Draft, TextFault>
-    requires of { IsOf text.now form.now }
+    requires of { IsSexpOf text.now form.now }
     requires few { length draft.scope.declared ≤ 16 }
     requires keyword { is_of_rank goal_keywords 4 (sexp_form text.now form.now) ≡ true }
     ensures next { IfOk result (λ next. IsNext (sexp_form text.now form.now) draft 4 next) }
@@ -205,7 +205,7 @@ pub fn item(
     at: usize,
     draft: Draft,
 ) -> Result<Draft, TextFault>
-    requires of { IsOf text.now form.now }
+    requires of { IsSexpOf text.now form.now }
     requires few { length draft.scope.declared ≤ 16 }
     requires keyword { rank goal_keywords (sexp_form text.now form.now) ≡ Some at }
     ensures next { IfOk result (λ next. IsNext (sexp_form text.now form.now) draft at next) }

@@ -4,7 +4,7 @@ ghost use Rattle.word_ops.specs.declared.sorts.Sort.TheVariants as sorts;
 ghost use Rattle.word_terms.specs.View.{tree_of};
 ghost use Rattle.text_core.specs.Faults.{IsFirst, IsFaultBy};
 ghost use Rattle.forms.specs.Forms.{sexp_form};
-ghost use Rattle.forms.specs.Reading.{IsOf};
+ghost use Rattle.forms.specs.Reading.{IsSexpOf};
 ghost use Rattle.goal_reader.specs.Roles as roles;
 ghost use Rattle.goal_reader.specs.Roles.{IsFaultAs, is_of_rank, goal_keywords};
 ghost use Rattle.goal_reader.specs.Reading.{IsClear, WritesPart};
@@ -19,7 +19,7 @@ use word_terms::Term;
 
 /// Reads `( when term )`.
 pub fn guard(alloc: Global, form: &Sexp, text: &[u8], scope: &Scope) -> Result<Term<Op>, TextFault>
-    requires of { IsOf text.now form.now }
+    requires of { IsSexpOf text.now form.now }
     requires few { length scope.now.declared ≤ 16 }
     requires keyword { is_of_rank goal_keywords 3 (sexp_form text.now form.now) ≡ true }
     ensures term { IfOk result (λ t. WritesPart scope.now (Some sorts.Word) (sexp_form text.now form.now) 1

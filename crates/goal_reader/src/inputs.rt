@@ -3,10 +3,11 @@ ghost use Rattle.std.specs.Prelude.{◌≡◌, ◌≤◌, ◌<◌, ◌+◌, ◌|
 ghost use Rattle.std.specs.List.{list_any};
 ghost use Rattle.text_core.specs.Faults.{IsFirst, IsFaultBy};
 ghost use Rattle.forms.specs.Forms.{sexp_form, name_in, parts_of};
-ghost use Rattle.forms.specs.Reading.{IsOf};
+ghost use Rattle.forms.specs.Reading.{IsSexpOf};
 ghost use Rattle.goal_reader.specs.Roles as roles;
-ghost use Rattle.goal_reader.specs.Roles.{IsFaultAs, is_among, is_reserved, has_register, names_of_declared, register_number as number_of_name, number_of_register, register_of, is_of_rank, goal_keywords, input_in};
-ghost use Rattle.goal_reader.specs.Reading.{IsOwnName, IsClear, registers_of, names_of_inputs};
+ghost use Rattle.text_core.specs.Names.{is_among};
+ghost use Rattle.goal_reader.specs.Roles.{IsFaultAs, is_reserved, has_register, names_of_declared, register_number as number_of_name, number_of_register, register_of, is_of_rank, goal_keywords, input_in};
+ghost use Rattle.goal_reader.specs.Reading.{IsOwnName, IsClear, input_registers, names_of_inputs};
 
 use crate::goals::InputReg;
 use crate::scopes::{DeclaredOp, built_in};
@@ -61,7 +62,7 @@ fn is_input(inputs: &[InputReg], name: &[u8]) -> bool
 }
 
 pub fn is_given(inputs: &[InputReg], register: u8) -> bool
-    ensures { result ≡ has_register (registers_of inputs.now) register }
+    ensures { result ≡ has_register (input_registers inputs.now) register }
 {
     for input in inputs {
         if input.reg == register {
@@ -94,7 +95,7 @@ pub fn own_name<'a>(
     declared: &[DeclaredOp],
     inputs: &[InputReg],
 ) -> Result<&'a [u8], TextFault>
-    requires of { IsOf text.now form.now }
+    requires of { IsSexpOf text.now form.now }
     ensures ok { IfOk result (λ bytes. IsOwnName (names_of_declared declared.now ++ names_of_inputs inputs.now)
         (sexp_form text.now form.now) bytes.now) }
     ensures fault { IfErr result (IsFaultBy (IsFirst (IsFaultAs (roles.own_name (names_of_declared declared.now
@@ -112,10 +113,10 @@ pub fn own_name<'a>(
 
 /// A register that no input has.
 pub fn fresh_register(form: &Sexp, text: &[u8], inputs: &[InputReg]) -> Result<u8, TextFault>
-    requires of { IsOf text.now form.now }
+    requires of { IsSexpOf text.now form.now }
     ensures register { IfOk result (λ r. register_of (sexp_form text.now form.now) ≡ Some r) }
-    ensures fresh { IfOk result (λ r. has_register (registers_of inputs.now) r ≡ false) }
-    ensures fault { IfErr result (IsFaultBy (IsFirst (IsFaultAs (roles.fresh_register (registers_of inputs.now))
+    ensures fresh { IfOk result (λ r. has_register (input_registers inputs.now) r ≡ false) }
+    ensures fault { IfErr result (IsFaultBy (IsFirst (IsFaultAs (roles.fresh_register (input_registers inputs.now))
         (sexp_form text.now form.now)))) }
 {
     sexps_are_forms();
@@ -139,7 +140,7 @@ pub fn input(
     declared: &[DeclaredOp],
     inputs: &[InputReg],
 ) -> Result<InputReg, TextFault>
-    requires of { IsOf text.now form.now }
+    requires of { IsSexpOf text.now form.now }
     requires keyword { is_of_rank goal_keywords 0 (sexp_form text.now form.now) ≡ true }
     ensures input { IfOk result (λ input. input_in (sexp_form text.now form.now) ≡ Some input) }
     ensures clear { IfOk result (λ _. IsClear (roles.a_list (roles.input declared.now inputs.now))

@@ -2,7 +2,7 @@
 ghost use Rattle.std.specs.Prelude.{◌≡◌, ◌≤◌, ◌<◌, ◌^◌, ◌∷◌, [], codes, ℕ, List, IfOk, IfErr, Some, None, MatchOption};
 ghost use Rattle.text_core.specs.Faults.{IsFirst, IsFaultBy};
 ghost use Rattle.forms.specs.Forms.{Form, sexp_form, head_in};
-ghost use Rattle.forms.specs.Reading.{IsOf};
+ghost use Rattle.forms.specs.Reading.{IsSexpOf};
 ghost use Rattle.goal_reader.specs.Roles.{Role, IsFaultAs, rank, rank_from, goal_keywords, goal_bounds, text_keywords, text_bounds, bound_at, role_in};
 ghost use Rattle.goal_reader.specs.TextFaults.{IsFormFault};
 ghost use Rattle.goal_reader.specs.Order.{IsOrderOf, IsAdmission, beyond_kind};
@@ -14,7 +14,7 @@ use text_core::{Kind, Sexp, TextFault};
 
 // The first word of a list.
 fn head<'a>(form: &Sexp, text: &'a [u8]) -> Option<&'a [u8]>
-    requires of { IsOf text.now form.now }
+    requires of { IsSexpOf text.now form.now }
     ensures { MatchOption result (head_in (sexp_form text.now form.now) ≡ None)
         (λ bytes. head_in (sexp_form text.now form.now) ≡ Some bytes.now) }
 {
@@ -50,7 +50,7 @@ fn goal_word(word: &[u8]) -> Option<usize>
 
 /// The number of an item's keyword.
 pub fn goal_rank(form: &Sexp, text: &[u8]) -> Option<usize>
-    requires of { IsOf text.now form.now }
+    requires of { IsSexpOf text.now form.now }
     ensures { result ≡ rank goal_keywords (sexp_form text.now form.now) }
 {
     match head(form, text) {
@@ -81,7 +81,7 @@ fn goal_beyond(at: usize) -> Kind
 
 /// The number of an item's keyword, where the item may stand behind those before it.
 pub fn admitted_item(form: &Sexp, text: &[u8], order: &Order) -> Result<usize, TextFault>
-    requires of { IsOf text.now form.now }
+    requires of { IsSexpOf text.now form.now }
     ensures rank { IfOk result (λ at. rank goal_keywords (sexp_form text.now form.now) ≡ Some at) }
     ensures admitted { IfOk result (λ at. (before : List Form) → IsOrderOf goal_keywords before order.now
         → IsAdmission goal_keywords before at (bound_at goal_bounds at).most admissions.Admitted) }
@@ -129,7 +129,7 @@ fn text_word(word: &[u8]) -> Option<usize>
 
 /// The number of the keyword of a form of a text.
 fn text_rank(form: &Sexp, text: &[u8]) -> Option<usize>
-    requires of { IsOf text.now form.now }
+    requires of { IsSexpOf text.now form.now }
     ensures { result ≡ rank text_keywords (sexp_form text.now form.now) }
 {
     match head(form, text) {
@@ -161,7 +161,7 @@ fn text_beyond(at: usize) -> Kind
 
 /// The number of the keyword of a form of a text, where the form may stand behind those before it.
 pub fn admitted_form(form: &Sexp, text: &[u8], order: &Order) -> Result<usize, TextFault>
-    requires of { IsOf text.now form.now }
+    requires of { IsSexpOf text.now form.now }
     ensures rank { IfOk result (λ at. rank text_keywords (sexp_form text.now form.now) ≡ Some at) }
     ensures admitted { IfOk result (λ at. (before : List Form) → IsOrderOf text_keywords before order.now
         → IsAdmission text_keywords before at (bound_at text_bounds at).most admissions.Admitted) }

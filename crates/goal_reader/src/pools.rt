@@ -2,10 +2,10 @@
 ghost use Rattle.std.specs.Prelude.{◌≡◌, ◌≤◌, ◌<◌, ◌++◌, ℕ, List, map, length, take, drop, IfOk, IfErr, Some, None, true, false};
 ghost use Rattle.text_core.specs.Faults.{IsFirst, IsFaultBy};
 ghost use Rattle.forms.specs.Forms.{sexp_form, parts_of};
-ghost use Rattle.forms.specs.Reading.{IsOf};
+ghost use Rattle.forms.specs.Reading.{IsSexpOf};
 ghost use Rattle.goal_reader.specs.Roles as roles;
 ghost use Rattle.goal_reader.specs.Roles.{IsFaultAs, has_register, registers_in, register_of, is_of_rank, goal_keywords};
-ghost use Rattle.goal_reader.specs.Reading.{IsClear, registers_of};
+ghost use Rattle.goal_reader.specs.Reading.{IsClear, input_registers};
 
 use crate::goals::InputReg;
 use crate::inputs::{is_given, register_number};
@@ -25,7 +25,7 @@ fn is_in_pool(pool: &[u8], register: u8) -> bool
 }
 
 fn is_taken(inputs: &[InputReg], pool: &[u8], register: u8) -> bool
-    ensures { result ≡ has_register (registers_of inputs.now ++ pool.now) register }
+    ensures { result ≡ has_register (input_registers inputs.now ++ pool.now) register }
 {
     let given = is_given(inputs, register);
     let pool = is_in_pool(pool, register);
@@ -39,10 +39,10 @@ fn pool_register(
     inputs: &[InputReg],
     pool: &[u8],
 ) -> Result<u8, TextFault>
-    requires of { IsOf text.now form.now }
+    requires of { IsSexpOf text.now form.now }
     ensures register { IfOk result (λ r. register_of (sexp_form text.now form.now) ≡ Some r) }
-    ensures fresh { IfOk result (λ r. has_register (registers_of inputs.now ++ pool.now) r ≡ false) }
-    ensures fault { IfErr result (IsFaultBy (IsFirst (IsFaultAs (roles.fresh_register (registers_of inputs.now
+    ensures fresh { IfOk result (λ r. has_register (input_registers inputs.now ++ pool.now) r ≡ false) }
+    ensures fault { IfErr result (IsFaultBy (IsFirst (IsFaultAs (roles.fresh_register (input_registers inputs.now
         ++ pool.now)) (sexp_form text.now form.now)))) }
 {
     sexps_are_forms();
@@ -65,12 +65,12 @@ pub fn pool(
     text: &[u8],
     inputs: &[InputReg],
 ) -> Result<Vec<u8>, TextFault>
-    requires of { IsOf text.now form.now }
+    requires of { IsSexpOf text.now form.now }
     requires keyword { is_of_rank goal_keywords 1 (sexp_form text.now form.now) ≡ true }
     ensures pool { IfOk result (λ pool. pool.items ≡ registers_in (parts_of (sexp_form text.now form.now))) }
-    ensures clear { IfOk result (λ _. IsClear (roles.a_list (roles.pool (registers_of inputs.now)))
+    ensures clear { IfOk result (λ _. IsClear (roles.a_list (roles.pool (input_registers inputs.now)))
         (sexp_form text.now form.now)) }
-    ensures fault { IfErr result (IsFaultBy (IsFirst (IsFaultAs (roles.a_list (roles.pool (registers_of inputs.now)))
+    ensures fault { IfErr result (IsFaultBy (IsFirst (IsFaultAs (roles.a_list (roles.pool (input_registers inputs.now)))
         (sexp_form text.now form.now)))) }
 {
     sexps_are_forms();

@@ -1,7 +1,7 @@
 // Reading a text of goals.
 ghost use Rattle.std.specs.Prelude.{◌≡◌, ◌<◌, ◌^◌, ℕ, All, IfErr, IfOk, length, unwrap_or, is_none};
 ghost use Rattle.forms.specs.Forms.{Stand, forms_from, sexp_forms};
-ghost use Rattle.forms.specs.Reading.{IsOf};
+ghost use Rattle.forms.specs.Reading.{IsSexpOf};
 ghost use Rattle.goal_reader.specs.Grammar.{IsFirstTextFault, Reads};
 ghost use Rattle.goal_reader.specs.Roles.{IsTextFault};
 ghost use Rattle.goal_reader.specs.TextDrafts.{IsTextWritten, KeepsText};
@@ -22,7 +22,7 @@ use std::alloc::Global;
 use text_core::{Kind, Sexp, TextFault};
 
 fn read_forms(alloc: Global, forms: &[Sexp], text: &[u8]) -> Result<TextDraft, TextFault>
-    requires of { All (IsOf text.now) forms.now }
+    requires of { All (IsSexpOf text.now) forms.now }
     requires stand { Stand 0 (length text.now) (forms_from (sexp_forms text.now forms.now)) }
     requires small { length text.now < 2 ^ 29 }
     ensures written { IfOk result (IsTextWritten (sexp_forms text.now forms.now)) }

@@ -7,7 +7,7 @@ ghost use Rattle.word_ops.specs.declared.sorts.Op.{Op as Operator};
 ghost use Rattle.word_terms.specs.Tree.{Tree};
 ghost use Rattle.word_terms.specs.View.{tree_of};
 ghost use Rattle.forms.specs.Forms.{sexp_form, is_list};
-ghost use Rattle.forms.specs.Reading.{IsOf};
+ghost use Rattle.forms.specs.Reading.{IsSexpOf};
 ghost use Rattle.goal_reader.specs.Roles.{IsFaultAs, term as a_term, WritesTerm, IsApplication, IsWanted, sort_of_leaf};
 ghost use Rattle.std.specs.Prelude.{true, false};
 
@@ -42,7 +42,7 @@ fn atom(
     scope: &Scope,
     wanted: Option<Sort>,
 ) -> Result<Term<Op>, TextFault>
-    requires of { IsOf text.now form.now }
+    requires of { IsSexpOf text.now form.now }
     requires atom { is_list (sexp_form text.now form.now) ≡ false }
     ensures term { IfOk result (λ t. WritesTerm scope.now wanted (sexp_form text.now form.now) (tree_of t)) }
     ensures fault { IfErr result (IsFaultBy (IsFirst (IsFaultAs (a_term scope.now wanted)
@@ -88,7 +88,7 @@ fn application(
     scope: &Scope,
     wanted: Option<Sort>,
 ) -> Result<Op, TextFault>
-    requires of { IsOf text.now form.now }
+    requires of { IsSexpOf text.now form.now }
     requires list { is_list (sexp_form text.now form.now) ≡ true }
     requires few { length scope.now.declared ≤ 16 }
     ensures op { IfOk result (λ op. IsApplication scope.now wanted (sexp_form text.now form.now) op) }
@@ -124,7 +124,7 @@ fn read_term(
     scope: &Scope,
     wanted: Option<Sort>,
 ) -> Result<Term<Op>, TextFault>
-    requires of { IsOf text.now form.now }
+    requires of { IsSexpOf text.now form.now }
     requires few { length scope.now.declared ≤ 16 }
     ensures term { IfOk result (λ t. WritesTerm scope.now wanted (sexp_form text.now form.now) (tree_of t)) }
     ensures fault { IfErr result (IsFaultBy (IsFirst (IsFaultAs (a_term scope.now wanted)
@@ -157,7 +157,7 @@ pub fn term(
     scope: &Scope,
     wanted: Option<Sort>,
 ) -> Result<Term<Op>, TextFault>
-    requires of { IsOf text.now form.now }
+    requires of { IsSexpOf text.now form.now }
     requires few { length scope.now.declared ≤ 16 }
 
     // What is read is in the grammar, and what is in it is read.

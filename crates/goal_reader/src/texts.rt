@@ -1,7 +1,7 @@
 // A text that is being read, form by form.
 ghost use Rattle.std.specs.Prelude.{◌≡◌, ◌≤◌, [], length, IfOk, IfErr, Some};
 ghost use Rattle.forms.specs.Forms.{sexp_form};
-ghost use Rattle.forms.specs.Reading.{IsOf};
+ghost use Rattle.forms.specs.Reading.{IsSexpOf};
 ghost use Rattle.goal_reader.specs.Roles.{rank, text_keywords};
 ghost use Rattle.goal_reader.specs.TextDrafts.{IsClearForm, IsNextForm, IsTextDraft, IsTextWritten, KeepsText, text_role};
 ghost use Rattle.goal_reader.specs.TextFaults.{IsFormFault};
@@ -46,7 +46,7 @@ fn add_table(
     text: &[u8],
     draft: TextDraft,
 ) -> Result<TextDraft, TextFault>
-    requires of { IsOf text.now form.now }
+    requires of { IsSexpOf text.now form.now }
     ensures next { IfOk result (λ next. IsNextForm (sexp_form text.now form.now) draft 0 next) }
     ensures clear { IfOk result (λ _. IsClearForm (text_role draft 0) (sexp_form text.now form.now)) }
     ensures fault { IfErr result (IsFaultBy (IsFirst (IsFormFault (text_role draft 0) (sexp_form text.now form.now)))) }
@@ -76,7 +76,7 @@ fn add_declaration(
     text: &[u8],
     draft: TextDraft,
 ) -> Result<TextDraft, TextFault>
-    requires of { IsOf text.now form.now }
+    requires of { IsSexpOf text.now form.now }
     ensures next { IfOk result (λ next. IsNextForm (sexp_form text.now form.now) draft 1 next) }
     ensures clear { IfOk result (λ _. IsClearForm (text_role draft 1) (sexp_form text.now form.now)) }
     ensures fault { IfErr result (IsFaultBy (IsFirst (IsFormFault (text_role draft 1) (sexp_form text.now form.now)))) }
@@ -106,7 +106,7 @@ fn add_axiom(
     text: &[u8],
     draft: TextDraft,
 ) -> Result<TextDraft, TextFault>
-    requires of { IsOf text.now form.now }
+    requires of { IsSexpOf text.now form.now }
     requires few { length draft.declared ≤ 16 }
     requires keyword { rank text_keywords (sexp_form text.now form.now) ≡ Some 2 }
     ensures next { IfOk result (λ next. IsNextForm (sexp_form text.now form.now) draft 2 next) }
@@ -138,7 +138,7 @@ fn add_goal(
     text: &[u8],
     draft: TextDraft,
 ) -> Result<TextDraft, TextFault>
-    requires of { IsOf text.now form.now }
+    requires of { IsSexpOf text.now form.now }
     requires few { length draft.declared ≤ 16 }
     requires keyword { rank text_keywords (sexp_form text.now form.now) ≡ Some 3 }
     ensures next { IfOk result (λ next. IsNextForm (sexp_form text.now form.now) draft 3 next) }
@@ -172,7 +172,7 @@ pub fn text_form(
     at: usize,
     draft: TextDraft,
 ) -> Result<TextDraft, TextFault>
-    requires of { IsOf text.now form.now }
+    requires of { IsSexpOf text.now form.now }
     requires few { length draft.declared ≤ 16 }
     requires keyword { rank text_keywords (sexp_form text.now form.now) ≡ Some at }
     ensures next { IfOk result (λ next. IsNextForm (sexp_form text.now form.now) draft at next) }

@@ -1,12 +1,13 @@
 // The variables of an axiom: their names, and what they mean on either side.
 ghost use Rattle.std.specs.Prelude.{◌≡◌, ◌≤◌, ◌<◌, ◌||◌, ◌++◌, IfOk, IfErr, false, true, length};
 ghost use Rattle.text_core.specs.Faults.{IsFirst, IsFaultBy};
-ghost use Rattle.forms.specs.Forms.{sexp_form, is_list, parts_of};
-ghost use Rattle.forms.specs.Reading.{IsOf};
+ghost use Rattle.forms.specs.Forms.{sexp_form, is_list, parts_of, names_in};
+ghost use Rattle.forms.specs.Reading.{IsSexpOf};
 ghost use Rattle.goal_reader.specs.Grammar.{axiom_scope};
 ghost use Rattle.goal_reader.specs.Reading.{IsClear, IsOwnName, mentioned_scope, meaning_right};
 ghost use Rattle.goal_reader.specs.Roles as roles;
-ghost use Rattle.goal_reader.specs.Roles.{IsFaultAs, names_of_declared, names_in, is_among, mentions as is_mentioned};
+ghost use Rattle.text_core.specs.Names.{is_among};
+ghost use Rattle.goal_reader.specs.Roles.{IsFaultAs, names_of_declared, mentions as is_mentioned};
 
 use crate::inputs::{is_declared, is_reserved};
 use crate::scopes::{DeclaredOp, Leaf, Named, Scope};
@@ -42,7 +43,7 @@ fn variable_name<'a>(
     declared: &[DeclaredOp],
     names: &[Name],
 ) -> Result<&'a [u8], TextFault>
-    requires of { IsOf text.now form.now }
+    requires of { IsSexpOf text.now form.now }
     ensures ok { IfOk result (λ bytes. IsOwnName (names_of_declared declared.now ++ names.now)
         (sexp_form text.now form.now) bytes.now) }
     ensures fault { IfErr result (IsFaultBy (IsFirst (IsFaultAs (roles.own_name (names_of_declared declared.now
@@ -65,7 +66,7 @@ pub fn variables(
     text: &[u8],
     declared: &[DeclaredOp],
 ) -> Result<Items<Name>, TextFault>
-    requires of { IsOf text.now form.now }
+    requires of { IsSexpOf text.now form.now }
     ensures names { IfOk result (λ names. names ≡ names_in (parts_of (sexp_form text.now form.now))) }
     ensures list { IfOk result (λ _. is_list (sexp_form text.now form.now) ≡ true) }
     ensures few { IfOk result (λ names. length names ≤ 8) }
@@ -97,7 +98,7 @@ pub fn variables(
 
 /// Whether the name stands in a term, other than as an operator.
 fn mentions(form: &Sexp, text: &[u8], wanted: &[u8]) -> bool
-    requires of { IsOf text.now form.now }
+    requires of { IsSexpOf text.now form.now }
     ensures { result ≡ is_mentioned wanted.now (sexp_form text.now form.now) }
 {
     sexps_are_forms();
@@ -141,7 +142,7 @@ pub fn left_scope(
 
 /// What a variable means on the right side of an axiom.
 fn right_meaning(name: &[u8], number: u32, left: &Sexp, text: &[u8]) -> Named
-    requires of { IsOf text.now left.now }
+    requires of { IsSexpOf text.now left.now }
     ensures { result ≡ meaning_right (sexp_form text.now left.now) name.now number }
 {
     if mentions(left, text, name) {
@@ -159,7 +160,7 @@ pub fn right_scope(
     text: &[u8],
 ) -> Result<Scope, NoMemory>
     requires few { length names.now ≤ 8 }
-    requires of { IsOf text.now left.now }
+    requires of { IsSexpOf text.now left.now }
     ensures { IfOk result (λ scope. scope ≡ mentioned_scope declared names.now (sexp_form text.now left.now)) }
 {
     let mut leaves = Items::new(alloc);

@@ -4,11 +4,12 @@ ghost use Rattle.std.specs.List.{list_any};
 ghost use Rattle.text_core.specs.Faults.{GivesUnlessMemory, IsFaultBy, IsFirst, RefusesUnlessMemory};
 ghost use Rattle.text_core.specs.declared.faults.Kind.{Kind as FaultKind};
 ghost use Rattle.forms.specs.Forms.{sexp_form, sexp_forms, name_in};
-ghost use Rattle.forms.specs.Reading.{IsOf};
+ghost use Rattle.forms.specs.Reading.{IsSexpOf};
 ghost use Rattle.std.specs.Prelude.{All};
 ghost use Rattle.goal_reader.specs.Roles as roles;
-ghost use Rattle.goal_reader.specs.Roles.{IsFaultAs, is_of_rank, goal_keywords, text_keywords, rank, has_register, is_among, second_name};
-ghost use Rattle.goal_reader.specs.Reading.{IsClear, registers_of};
+ghost use Rattle.text_core.specs.Names.{is_among};
+ghost use Rattle.goal_reader.specs.Roles.{IsFaultAs, is_of_rank, goal_keywords, text_keywords, rank, has_register, second_name};
+ghost use Rattle.goal_reader.specs.Reading.{IsClear, input_registers};
 ghost use Rattle.goal_reader.specs.Drafts.{names_of_goals, IsDraft, IsWritten, KeepsSoFar, pool_kept};
 ghost use Rattle.goal_reader.specs.Grammar.{WritesGoal, default_pool as default_registers, free_registers};
 ghost use Rattle.goal_reader.specs.Views.{GoalTree, goal_view};
@@ -38,7 +39,7 @@ fn is_goal(goals: &[Goal], name: &[u8]) -> bool
 
 // A name that no earlier goal has.
 fn goal_name<'a>(form: &Sexp, text: &'a [u8], goals: &[Goal]) -> Result<&'a [u8], TextFault>
-    requires of { IsOf text.now form.now }
+    requires of { IsSexpOf text.now form.now }
     ensures named { IfOk result (λ bytes. name_in (sexp_form text.now form.now) ≡ Some bytes.now) }
     ensures fresh { IfOk result (λ bytes. is_among (names_of_goals goals.now) bytes.now ≡ false) }
     ensures fault { IfErr result (IsFaultBy (IsFirst (IsFaultAs (roles.fresh_name (names_of_goals goals.now))
@@ -55,7 +56,7 @@ fn goal_name<'a>(form: &Sexp, text: &'a [u8], goals: &[Goal]) -> Result<&'a [u8]
 }
 
 fn is_set(form: &Sexp, text: &[u8]) -> bool
-    requires of { IsOf text.now form.now }
+    requires of { IsSexpOf text.now form.now }
     ensures { result ≡ is_of_rank goal_keywords 4 (sexp_form text.now form.now) }
 {
     match goal_rank(form, text) {
@@ -66,7 +67,7 @@ fn is_set(form: &Sexp, text: &[u8]) -> bool
 
 // Whether some item is a `set`.
 fn has_target(items: &[Sexp], text: &[u8]) -> bool
-    requires of { All (IsOf text.now) items.now }
+    requires of { All (IsSexpOf text.now) items.now }
     ensures { result ≡ list_any (is_of_rank goal_keywords 4) (sexp_forms text.now items.now) }
 {
     for item in items {
@@ -105,7 +106,7 @@ fn items(
     declared: Items<DeclaredOp>,
     goals: &[Goal],
 ) -> Result<(Name, Draft), TextFault>
-    requires of { IsOf text.now form.now }
+    requires of { IsSexpOf text.now form.now }
     requires few { length declared ≤ 16 }
     ensures named { IfOk result (λ read. second_name (sexp_form text.now form.now) ≡ Some read.0) }
     ensures draft { IfOk result (λ read. IsDraft declared (items_of (sexp_form text.now form.now)) read.1) }
@@ -156,7 +157,7 @@ const FREE_REGISTERS: [u8; 21] = [
 
 /// Those of the registers that no input has.
 fn not_given(alloc: Global, inputs: &[InputReg], among: &[u8]) -> Result<Items<u8>, NoMemory>
-    ensures { IfOk result (λ pool. pool ≡ filter (λ r. not (has_register (registers_of inputs.now) r)) among.now) }
+    ensures { IfOk result (λ pool. pool ≡ filter (λ r. not (has_register (input_registers inputs.now) r)) among.now) }
 {
     let mut pool = Items::new(alloc);
     for register in among {
@@ -168,7 +169,7 @@ fn not_given(alloc: Global, inputs: &[InputReg], among: &[u8]) -> Result<Items<u
 }
 
 fn default_pool(alloc: Global, inputs: &[InputReg]) -> Result<Items<u8>, NoMemory>
-    ensures { IfOk result (λ pool. pool ≡ default_registers (registers_of inputs.now)) }
+    ensures { IfOk result (λ pool. pool ≡ default_registers (input_registers inputs.now)) }
 {
     not_given(alloc, inputs, &FREE_REGISTERS)
 }
@@ -179,7 +180,7 @@ fn pool_or_default(
     pool: Option<Items<u8>>,
     inputs: &[InputReg],
 ) -> Result<Items<u8>, NoMemory>
-    ensures { IfOk result (λ kept. kept ≡ pool_kept (registers_of inputs.now) pool) }
+    ensures { IfOk result (λ kept. kept ≡ pool_kept (input_registers inputs.now) pool) }
 {
     match pool {
         Some(pool) => Ok(pool),
@@ -194,7 +195,7 @@ fn read_goal(
     declared: Items<DeclaredOp>,
     goals: &[Goal],
 ) -> Result<(Goal, Items<DeclaredOp>), TextFault>
-    requires of { IsOf text.now form.now }
+    requires of { IsSexpOf text.now form.now }
     requires few { length declared ≤ 16 }
     requires keyword { rank text_keywords (sexp_form text.now form.now) ≡ Some 3 }
     ensures goal { IfOk result (λ read. WritesGoal declared (sexp_form text.now form.now) (goal_view read.0)) }
@@ -239,7 +240,7 @@ pub fn goal(
     declared: Items<DeclaredOp>,
     goals: &[Goal],
 ) -> Result<(Goal, Items<DeclaredOp>), TextFault>
-    requires of { IsOf text.now form.now }
+    requires of { IsSexpOf text.now form.now }
     requires few { length declared ≤ 16 }
     requires keyword { rank text_keywords (sexp_form text.now form.now) ≡ Some 3 }
 

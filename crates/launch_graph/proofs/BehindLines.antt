@@ -3,8 +3,8 @@ use Rattle.std.proofs.Common.{◌≡◌, ◌≢◌, ℕ, zero, ◌+◌, ◌<◌,
 use Rattle.std.proofs.lemmas.List.{map_push}
 use Rattle.std.proofs.lemmas.List.Elements.{All-nil, All-push}
 use Rattle.text_core.specs.Faults.{IsFaultBy}
-use Rattle.text_core.specs.Lines.{Line, line_at}
-use Rattle.text_core.specs.LineTexts.{Words}
+use Rattle.text_core.specs.Lines.{Line, line_at, BeginsAt}
+use Rattle.text_core.specs.LineTexts.{Words, SaysNone}
 use Rattle.text_core.specs.declared.faults.Kind.{Kind}
 use Rattle.text_core.specs.declared.faults.Kind.TheVariants.{BadLine, BadClass}
 use Rattle.text_core.specs.declared.faults.TextFault.{TextFault}
@@ -17,15 +17,14 @@ use Rattle.launch_graph.specs.declared.graphs.InputClass.{InputClass}
 use Rattle.launch_graph.specs.declared.graphs.Guard.{Guard}
 use Rattle.launch_graph.specs.declared.graphs.SetClass.{SetClass}
 use Rattle.launch_graph.specs.declared.row_lines.RowLine.{RowLine}
-use Rattle.launch_graph.specs.BehindRows.{IsRight, IsBehind, IsFaultBehind, IsEntryAt, IsInputAt, IsGuardAt, IsSetAt, TakesSets, targets, no_guard, AreInputsAt, AreSetsAt}
+use Rattle.launch_graph.specs.BehindRows.{IsRight, IsCleanBehindRows, IsFaultBehind, IsEntryAt, IsInputAt, IsGuardAt, IsSetAt, TakesSets, targets, no_guard, AreInputsAt, AreSetsAt}
 use Rattle.launch_graph.specs.ClassMarks.{AreMarks}
 use Rattle.launch_graph.specs.GraphLines.{in_words, set_words}
 use Rattle.launch_graph.specs.GraphStages.{Stage, rows, inputs, behind_pool, sets, over, Step, entry, input, pool, guard, first_set, set, leave_pool, leave, InputFits, SetFits}
 use Rattle.launch_graph.specs.GraphTexts.{IsNoTarget, IsClassLine}
 use Rattle.launch_graph.specs.GraphTexts as class_line
 use Rattle.launch_graph.specs.LineFaults.{IsFirstGraphFault}
-use Rattle.launch_graph.specs.LineFormats.{BeginsAt}
-use Rattle.launch_graph.specs.LineReading.{IsEntry, IsInput, IsPool, IsGuard, IsSet, IsNone}
+use Rattle.launch_graph.specs.LineReading.{IsEntryLine, IsInputLine, IsPoolLine, IsGuardLine, IsSetLine}
 use Rattle.launch_graph.specs.RowFaults.{IsWrongClass}
 use Rattle.launch_graph.specs.RowsRead.{IsFaultOfLine}
 use Rattle.launch_graph.specs.WellFormed.{set_sort}
@@ -36,10 +35,10 @@ use Rattle.launch_graph.proofs.GraphRuns.{IsDone}
 
 -- ---- which lines can stand next
 
-pub no_entry : (words : Words) → IsNone IsEntry words → (t : Stage) → Step (rows zero) words t → ⊥
+pub no_entry : (words : Words) → SaysNone IsEntryLine words → (t : Stage) → Step (rows zero) words t → ⊥
 no_entry words none t (entry class low is) = none class (record { small = low; is = is })
 
-pub no_pool : (words : Words) → IsNone IsInput words → IsNone IsPool words → (t : Stage) → Step inputs words t → ⊥
+pub no_pool : (words : Words) → SaysNone IsInputLine words → SaysNone IsPoolLine words → (t : Stage) → Step inputs words t → ⊥
 no_pool words none never t (input i fits is) = none i (record { fits = fits; is = is })
 no_pool words none never t (pool ns low is) = never ns (record { low = low; is = is })
 
@@ -58,7 +57,7 @@ is_no_target (word ∷ words) never none = (never, none)
 first_word : (words other : Words) → words ≡ other → get_or words 0 [] ≡ get_or other 0 []
 first_word words other e = ap (λ (ws : Words). get_or ws 0 []) e
 
-pub wrong_guard : (words : Words) → get_or words 0 [] ≡ codes "guard" → IsNone IsGuard words → (t : Stage) → Step behind_pool words t → ⊥
+pub wrong_guard : (words : Words) → get_or words 0 [] ≡ codes "guard" → SaysNone IsGuardLine words → (t : Stage) → Step behind_pool words t → ⊥
 wrong_guard words first none t (guard o low is) = none o (record { small = low; is = is })
 wrong_guard words first none t (first_set s fits is) = (let h : codes "guard" ≡ codes "set" = sym first ∙ first_word words (set_words s) is in cc)
 wrong_guard words first none t (leave_pool h) = guard_is_target words first h
@@ -72,7 +71,7 @@ module _ (lines : List Line) (at : ℕ) (lt : at < length lines) where
   late_guard first stage targets t (leave h) = guard_is_target words first h
   late_guard first stage (no_guard none) t step = none lt first
 
-  pub wrong_set : get_or words 0 [] ≡ codes "set" → IsNone IsSet words → (stage : Stage) → TakesSets lines at stage → (t : Stage) → Step stage words t → ⊥
+  pub wrong_set : get_or words 0 [] ≡ codes "set" → SaysNone IsSetLine words → (stage : Stage) → TakesSets lines at stage → (t : Stage) → Step stage words t → ⊥
   wrong_set first none stage targets t (set s fits is) = none s (record { fits = fits; is = is })
   wrong_set first none stage targets t (leave h) = set_is_target words first h
   wrong_set first none stage (no_guard never) t (guard o low is) = (let h : codes "set" ≡ codes "guard" = sym first ∙ first_word words _ is in cc)
@@ -80,7 +79,7 @@ module _ (lines : List Line) (at : ℕ) (lt : at < length lines) where
   wrong_set first none stage (no_guard never) t (leave_pool h) = set_is_target words first h
 
   -- a target leads to the stage of targets
-  pub set_step : (stage : Stage) → TakesSets lines at stage → (s : SetClass) → IsSet words s → Step stage words sets
+  pub set_step : (stage : Stage) → TakesSets lines at stage → (s : SetClass) → IsSetLine words s → Step stage words sets
   set_step stage targets s is = set s is.fits is.is
   set_step stage (no_guard never) s is = first_set s is.fits is.is
 
@@ -123,9 +122,9 @@ module _ (names : (o p : WordOp) → name_of o ≡ name_of p → o ≡ p) (lines
           wrong_class_first names lines from (length marks) all all at stage b.clean next lt step apart b.full place class sort placed is
           (bad all b.marks_are))
 
-      more : (from : ℕ) (all : List RowLine) → IsBehind lines from all marks at stage
+      more : (from : ℕ) (all : List RowLine) → IsCleanBehindRows lines from all marks at stage
           → ((class : ℕ) (sort : Sort) → IsClassLine (line_at lines at).words class sort → IsRight marks sort class)
-          → IsBehind lines from all marks (at + 1) next
+          → IsCleanBehindRows lines from all marks (at + 1) next
       more from all b right =
           record {
             clean =
@@ -141,55 +140,55 @@ module _ (names : (o p : WordOp) → name_of o ≡ name_of p → o ≡ p) (lines
 
     -- ---- line by line
 
-    pub wrong_entry : (class : ℕ) (fault : TextFault) → IsEntry (line_at lines at).words class
+    pub wrong_entry : (class : ℕ) (fault : TextFault) → IsEntryLine (line_at lines at).words class
         → ((all : List RowLine) → AreMarks (length marks) all marks → IsWrongClass (length marks) all sorts.Memory class)
         → IsFaultOfLine lines at BadClass fault → IsFaultBehind lines marks at (rows 0) fault
     wrong_entry class fault is bad f =
         wrong (rows 0) inputs (entry class is.small is.is) inputs_not_over class sorts.Memory fault (class_line.entry {words = []} is.small is.is refl) bad f
 
-    pub entry_more : (class : ℕ) → IsEntryAt lines marks at class → (from : ℕ) (all : List RowLine) → IsBehind lines from all marks at (rows 0)
-        → IsBehind lines from all marks (at + 1) inputs
+    pub entry_more : (class : ℕ) → IsEntryAt lines marks at class → (from : ℕ) (all : List RowLine) → IsCleanBehindRows lines from all marks at (rows 0)
+        → IsCleanBehindRows lines from all marks (at + 1) inputs
     entry_more class e from all b =
         more (rows 0) inputs (entry class e.is.small e.is.is) inputs_not_over from all b
         (λ other sort is.
         same_right class other sorts.Memory sort
         (entry_class class other sort e.is.small (subst (λ ws. IsClassLine ws other sort) e.is.is is)) e.right)
 
-    pub wrong_input : (i : InputClass) (fault : TextFault) → IsInput (line_at lines at).words i
+    pub wrong_input : (i : InputClass) (fault : TextFault) → IsInputLine (line_at lines at).words i
         → ((all : List RowLine) → AreMarks (length marks) all marks → IsWrongClass (length marks) all sorts.Word i.class)
         → IsFaultOfLine lines at BadClass fault → IsFaultBehind lines marks at inputs fault
     wrong_input i fault is bad f =
         wrong inputs inputs (input i is.fits is.is) inputs_not_over i.class sorts.Word fault (class_line.input {words = []} is.fits.2 is.is refl) bad f
 
-    pub input_more : (i : InputClass) → IsInputAt lines marks at i → (from : ℕ) (all : List RowLine) → IsBehind lines from all marks at inputs
-        → IsBehind lines from all marks (at + 1) inputs
+    pub input_more : (i : InputClass) → IsInputAt lines marks at i → (from : ℕ) (all : List RowLine) → IsCleanBehindRows lines from all marks at inputs
+        → IsCleanBehindRows lines from all marks (at + 1) inputs
     input_more i e from all b =
         more inputs inputs (input i e.is.fits e.is.is) inputs_not_over from all b
         (λ other sort is.
         same_right i.class other sorts.Word sort
         (input_class i other sort e.is.fits.2 (subst (λ ws. IsClassLine ws other sort) e.is.is is)) e.right)
 
-    pub pool_more : (ns : List ℕ) → IsPool (line_at lines at).words ns → (from : ℕ) (all : List RowLine) → IsBehind lines from all marks at inputs
-        → IsBehind lines from all marks (at + 1) behind_pool
+    pub pool_more : (ns : List ℕ) → IsPoolLine (line_at lines at).words ns → (from : ℕ) (all : List RowLine) → IsCleanBehindRows lines from all marks at inputs
+        → IsCleanBehindRows lines from all marks (at + 1) behind_pool
     pool_more ns e from all b =
         more inputs behind_pool (pool ns e.low e.is) pool_not_over from all b
         (λ other sort is. absurd (pool_class ns other sort (subst (λ ws. IsClassLine ws other sort) e.is is)))
 
-    pub wrong_guard_class : (o : Guard) (fault : TextFault) → IsGuard (line_at lines at).words o
+    pub wrong_guard_class : (o : Guard) (fault : TextFault) → IsGuardLine (line_at lines at).words o
         → ((all : List RowLine) → AreMarks (length marks) all marks → IsWrongClass (length marks) all sorts.Word o.class)
         → IsFaultOfLine lines at BadClass fault → IsFaultBehind lines marks at behind_pool fault
     wrong_guard_class o fault is bad f =
         wrong behind_pool sets (guard o is.small is.is) sets_not_over o.class sorts.Word fault (class_line.guard is.small is.is refl) bad f
 
-    pub guard_more : (o : Guard) → IsGuardAt lines marks at o → (from : ℕ) (all : List RowLine) → IsBehind lines from all marks at behind_pool
-        → IsBehind lines from all marks (at + 1) sets
+    pub guard_more : (o : Guard) → IsGuardAt lines marks at o → (from : ℕ) (all : List RowLine) → IsCleanBehindRows lines from all marks at behind_pool
+        → IsCleanBehindRows lines from all marks (at + 1) sets
     guard_more o e from all b =
         more behind_pool sets (guard o e.is.small e.is.is) sets_not_over from all b
         (λ other sort is.
         same_right o.class other sorts.Word sort
         (guard_class o other sort e.is.small (subst (λ ws. IsClassLine ws other sort) e.is.is is)) e.right)
 
-    pub wrong_set_class : (s : SetClass) (fault : TextFault) (stage : Stage) → TakesSets lines at stage → IsSet (line_at lines at).words s
+    pub wrong_set_class : (s : SetClass) (fault : TextFault) (stage : Stage) → TakesSets lines at stage → IsSetLine (line_at lines at).words s
         → ((all : List RowLine) → AreMarks (length marks) all marks → IsWrongClass (length marks) all (set_sort s.name) s.class)
         → IsFaultOfLine lines at BadClass fault → IsFaultBehind lines marks at stage fault
     wrong_set_class s fault stage takes is bad f =
@@ -197,7 +196,7 @@ module _ (names : (o p : WordOp) → name_of o ≡ name_of p → o ≡ p) (lines
         (class_line.set {words = []} is.fits.1 is.is refl) bad f
 
     pub set_more : (s : SetClass) (stage : Stage) → TakesSets lines at stage → IsSetAt lines marks at s → (from : ℕ) (all : List RowLine)
-        → IsBehind lines from all marks at stage → IsBehind lines from all marks (at + 1) sets
+        → IsCleanBehindRows lines from all marks at stage → IsCleanBehindRows lines from all marks (at + 1) sets
     set_more s stage takes e from all b =
         more stage sets (set_step lines at lt stage takes s e.is) sets_not_over from all b
         (λ other sort is.

@@ -11,7 +11,7 @@ use Rattle.launch_graph.specs.declared.graphs.InputClass.{InputClass}
 use Rattle.launch_graph.specs.declared.graphs.Guard.{Guard}
 use Rattle.launch_graph.specs.declared.graphs.SetClass.{SetClass}
 use Rattle.launch_graph.specs.declared.row_lines.RowLine.{RowLine}
-use Rattle.launch_graph.specs.BehindRows.{IsRight, IsBehind, IsEntryAt, IsPoolAt, IsGuardAt, HasNoGuard, targets, no_guard, CanTakeSets, AreInputsAt, AreSetsAt, after_guard, IsReadBehind}
+use Rattle.launch_graph.specs.BehindRows.{IsRight, IsCleanBehindRows, IsEntryAt, IsPoolAt, IsGuardAt, HasNoGuard, targets, no_guard, CanTakeSets, AreInputsAt, AreSetsAt, line_after_guard, IsReadBehind}
 use Rattle.launch_graph.specs.GraphLines.{entry_words, in_words, pool_words, guard_lines}
 use Rattle.launch_graph.specs.GraphStages.{rows, inputs, behind_pool}
 use Rattle.launch_graph.specs.GraphTexts.{EndsGraph}
@@ -23,16 +23,16 @@ abbrev pub HasGuard : List Line → List Mark → ℕ → Option Guard → Type 
 HasGuard lines marks at found = MatchOption found (HasNoGuard lines at) (IsGuardAt lines marks at)
 
 pub guard_within : (lines : List Line) (marks : List Mark) (at : ℕ) (found : Option Guard) → at ≤ length lines → HasGuard lines marks at found
-    → after_guard found at ≤ length lines
+    → line_after_guard found at ≤ length lines
 guard_within lines marks at None le h = le
 guard_within lines marks at (Some o) le h = (let w : at < length lines = h.within in omega arith)
 
-pub guard_order : (found : Option Guard) (at : ℕ) → at ≤ after_guard found at
+pub guard_order : (found : Option Guard) (at : ℕ) → at ≤ line_after_guard found at
 guard_order None at = omega arith
 guard_order (Some o) at = omega arith
 
 guard_words_here : (lines : List Line) (marks : List Mark) (at next : ℕ) (found : Option Guard) → HasGuard lines marks at found
-    → after_guard found at ≤ next → words_between lines at next ≡ guard_lines found ++ words_between lines (after_guard found at) next
+    → line_after_guard found at ≤ next → words_between lines at next ≡ guard_lines found ++ words_between lines (line_after_guard found at) next
 guard_words_here lines marks at next None h le = refl
 guard_words_here lines marks at next (Some o) h le =
     between_first lines at next (omega arith) h.within ∙ ap (λ (w : Words). w ∷ words_between lines (at + 1) next) h.is.is
@@ -44,34 +44,34 @@ right_guard lines marks at (Some o) h = (h.is.small, h.right)
 
 module _ (names : (o p : WordOp) → name_of o ≡ name_of p → o ≡ p) (lines : List Line) (marks : List Mark) (first : ℕ) where
   module _ (entry : ℕ) (e : IsEntryAt lines marks first entry) where
-    pub at_inputs : (from : ℕ) (all : List RowLine) → IsBehind lines from all marks first (rows 0) → IsBehind lines from all marks (first + 1) inputs
+    pub at_inputs : (from : ℕ) (all : List RowLine) → IsCleanBehindRows lines from all marks first (rows 0) → IsCleanBehindRows lines from all marks (first + 1) inputs
     at_inputs from all b = entry_more names lines marks first e.within entry e from all b
 
     module _ (line : ℕ) (is : List InputClass) (i : AreInputsAt lines marks (first + 1) line is) where
-      pub at_pool : (from : ℕ) (all : List RowLine) → IsBehind lines from all marks first (rows 0) → IsBehind lines from all marks line inputs
+      pub at_pool : (from : ℕ) (all : List RowLine) → IsCleanBehindRows lines from all marks first (rows 0) → IsCleanBehindRows lines from all marks line inputs
       at_pool from all b = i.behind from all (at_inputs from all b)
 
       module _ (pool : List ℕ) (p : IsPoolAt lines line pool) where
-        pub at_guard : (from : ℕ) (all : List RowLine) → IsBehind lines from all marks first (rows 0)
-            → IsBehind lines from all marks (line + 1) behind_pool
+        pub at_guard : (from : ℕ) (all : List RowLine) → IsCleanBehindRows lines from all marks first (rows 0)
+            → IsCleanBehindRows lines from all marks (line + 1) behind_pool
         at_guard from all b = pool_more names lines marks line p.within pool p.is from all (at_pool from all b)
 
         can_take : (found : Option Guard) → HasGuard lines marks (line + 1) found → (from : ℕ) (all : List RowLine)
-            → IsBehind lines from all marks (line + 1) behind_pool → CanTakeSets lines from all marks (after_guard found (line + 1))
+            → IsCleanBehindRows lines from all marks (line + 1) behind_pool → CanTakeSets lines from all marks (line_after_guard found (line + 1))
         can_take None h from all b = record { stage = behind_pool; takes = no_guard h; behind = b }
         can_take (Some o) h from all b =
             record { stage = _; takes = targets; behind = guard_more names lines marks (line + 1) h.within o h from all b }
 
         module _ (found : Option Guard) (h : HasGuard lines marks (line + 1) found) where
-          pub at_sets : (from : ℕ) (all : List RowLine) → IsBehind lines from all marks first (rows 0)
-              → CanTakeSets lines from all marks (after_guard found (line + 1))
+          pub at_sets : (from : ℕ) (all : List RowLine) → IsCleanBehindRows lines from all marks first (rows 0)
+              → CanTakeSets lines from all marks (line_after_guard found (line + 1))
           at_sets from all b = can_take found h from all (at_guard from all b)
 
-          pub read_whole : (ss : List SetClass) (next : ℕ) → AreSetsAt lines marks (after_guard found (line + 1)) next ss
+          pub read_whole : (ss : List SetClass) (next : ℕ) → AreSetsAt lines marks (line_after_guard found (line + 1)) next ss
               → EndsGraph (words_from lines next)
               → IsReadBehind lines marks first next (record { entry = entry; inputs = is; pool = pool; guard = found; sets = ss })
           read_whole ss next s ends =
-              let t : ℕ = after_guard found (line + 1) in
+              let t : ℕ = line_after_guard found (line + 1) in
               let a : first + 1 ≤ line = i.order in
               let b : line + 1 ≤ t = guard_order found (line + 1) in
               let d : t ≤ next = s.order in

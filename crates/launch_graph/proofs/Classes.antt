@@ -1,7 +1,7 @@
 -- What a well-formed graph says of a class.
 use Rattle.std.proofs.Common.{◌≡◌, ◌≢◌, ℕ, zero, suc, ◌+◌, ◌<◌, ◌≤◌, List, [], ◌∷◌, length, refl, sym, ◌∙◌, ap, subst, inl, inr, ◌⊎◌, arith, Bool, true, false, get_or, take, cond, Option, Some, None, max}
 use Rattle.std.specs.Prelude.{All, Any, Contains, find, slice_get, ◌==◌, option_map}
-use Rattle.std.specs.Option.{option_map_or}
+use Rattle.std.specs.Option.{option_map_or, option_or}
 use Rattle.std.proofs.lemmas.Bool.{false≢true}
 use Rattle.std.proofs.lemmas.List.{take_more}
 use Rattle.std.proofs.lemmas.List.Sums.{fold-append}
@@ -13,7 +13,7 @@ use Rattle.word_ops.specs.declared.sorts.Op.{Op}
 use Rattle.word_ops.specs.declared.sorts.Op.TheVariants as op
 use Rattle.word_ops.specs.declared.sorts.Sort.{Sort}
 use Rattle.word_ops.specs.declared.sorts.Sort.TheVariants as sorts
-use Rattle.launch_graph.specs.Graphs.{constant_among, constant_of, or_else, input_register, memory_target, is_memory_name}
+use Rattle.launch_graph.specs.Graphs.{constant_among, constant_of, input_register, memory_target, is_memory_name}
 use Rattle.launch_graph.specs.WellFormed.{IsLaunchGraph, ClassHasSort, next_class, set_sort}
 use Rattle.launch_graph.specs.declared.graphs.LaunchRow.{LaunchRow}
 use Rattle.launch_graph.specs.declared.graphs.InputClass.{InputClass}
@@ -60,7 +60,7 @@ HasConstant class n r = (r.class ≡ class) × (constant_in r.op ≡ Some n)
 constant_row_step : (r : LaunchRow) (rs : List LaunchRow) (class n : ℕ) (b : Bool) → (r.class == class) ≡ b
     → (constant_among rs class ≡ Some n → Any (HasConstant class n) rs)
     → (o : Option ℕ) → constant_in r.op ≡ o
-    → cond b (or_else o (constant_among rs class)) (constant_among rs class) ≡ Some n
+    → cond b (option_or o (constant_among rs class)) (constant_among rs class) ≡ Some n
     → Any (HasConstant class n) (r ∷ rs)
 constant_row_step r rs class n true t rest (Some m) is e =
     any_here (HasConstant class n) r rs (same_number r.class class t, is ∙ e)
@@ -75,7 +75,7 @@ constant_row (r ∷ rs) class n e =
 -- a class that has a row with a constant has some constant
 constant_some_step : (r : LaunchRow) (rs : List LaunchRow) (class n : ℕ) (b : Bool) → (r.class == class) ≡ b → (o : Option ℕ)
     → constant_in r.op ≡ o → HasConstant class n r ⊎ ((m : ℕ) × (constant_among rs class ≡ Some m))
-    → (m : ℕ) × (cond b (or_else o (constant_among rs class)) (constant_among rs class) ≡ Some m)
+    → (m : ℕ) × (cond b (option_or o (constant_among rs class)) (constant_among rs class) ≡ Some m)
 constant_some_step r rs class n true t (Some k) is h = (k, refl)
 constant_some_step r rs class n true t None is (inl h) = absurd (none-some n (sym is ∙ h.1))
 constant_some_step r rs class n true t None is (inr h) = h

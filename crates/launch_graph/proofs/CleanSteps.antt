@@ -6,7 +6,7 @@ use Rattle.text_core.specs.Lines.{Line, line_at}
 use Rattle.launch_graph.specs.declared.row_lines.RowLine.{RowLine}
 use Rattle.launch_graph.specs.LineFormats.{words_between}
 use Rattle.launch_graph.specs.GraphLines.{rows_words}
-use Rattle.launch_graph.specs.GraphStages.{start, rows, Step, header, row, Reaches, stay, go}
+use Rattle.launch_graph.specs.GraphStages.{start, rows, Step, header, row, ReachesStage, stay, go}
 use Rattle.launch_graph.specs.RowLines.{IsRowLine}
 use Rattle.launch_graph.specs.LineFaults.{AreRowLines}
 use Rattle.launch_graph.specs.CleanLines.{EachRow, no_rows, IsGoodRow, IsClean}
@@ -25,7 +25,7 @@ module _ (lines : List Line) (from count : ℕ) (all : List RowLine) where
         each = no_rows;
         all_are = are;
         good = λ i d lt. absurd (omega arith);
-        reaches = subst (λ ws. Reaches start ws (rows count)) (sym (between_one lines from low)) (go (header count few is) stay);
+        reaches = subst (λ ws. ReachesStage start ws (rows count)) (sym (between_one lines from low)) (go (header count few is) stay);
         order = omega arith;
         within = omega arith;
         most = omega arith;
@@ -83,7 +83,7 @@ module _ (lines : List Line) (from count : ℕ) (all : List RowLine) where
           all_are = c.all_are;
           good = good_more;
           reaches =
-              subst (λ ws. Reaches start ws (rows (count - length (before ++ one ∷ [])))) (sym (between_more lines from at (omega arith) lt))
+              subst (λ ws. ReachesStage start ws (rows (count - length (before ++ one ∷ [])))) (sym (between_more lines from at (omega arith) lt))
               (join (words_between lines from at) ((line_at lines at).words ∷ []) start (rows (count - length before)) (rows (count - length (before ++ one ∷ []))) c.reaches (go row_step stay));
           order = omega arith;
           within = omega arith;

@@ -6,15 +6,15 @@ use Rattle.std.proofs.lemmas.List.{get_or-drop, get_or-take, take_all}
 use Rattle.word_ops.specs.Names.{name_of}
 use Rattle.word_ops.specs.declared.operators.WordOp.{WordOp}
 use Rattle.word_ops.specs.declared.sorts.Sort.{Sort}
-use Rattle.text_core.specs.Lines.{Line, line_at}
+use Rattle.text_core.specs.Lines.{Line, line_at, BeginsAt}
 use Rattle.text_core.specs.LineTexts.{Words}
 use Rattle.text_core.specs.declared.faults.Kind.{Kind}
 use Rattle.text_core.specs.declared.faults.Kind.TheVariants.{BadLine, BadRow, BadClass}
 use Rattle.launch_graph.specs.declared.row_lines.RowLine.{RowLine}
-use Rattle.launch_graph.specs.LineFormats.{words_between, GoesOn, BeginsAt}
+use Rattle.launch_graph.specs.LineFormats.{words_between, GoesOn}
 use Rattle.launch_graph.specs.GraphLines.{rows_words}
 use Rattle.launch_graph.specs.GraphTexts.{BeginsWithGraph, IsGraphText, IsClassLine}
-use Rattle.launch_graph.specs.GraphStages.{Stage, start, over, Step, Reaches, stay, go}
+use Rattle.launch_graph.specs.GraphStages.{Stage, start, over, Step, ReachesStage, stay, go}
 use Rattle.launch_graph.specs.RowLines.{IsRowLine}
 use Rattle.launch_graph.specs.RowFaults.{IsBadRow, IsBadClass, IsWrongClass}
 use Rattle.launch_graph.specs.LineFaults.{AreRowLines, IsBlock, IsRowAt, HasNoHeader, IsFaultAt, IsFirstGraphFault, line_rank, bad_line, missing, bad_row, bad_class, wrong_class}
@@ -205,9 +205,9 @@ module _ (names : (o p : WordOp) → name_of o ≡ name_of p → o ≡ p) (lines
         placed (λ another f. omega arith)
 
     module _ (t : Stage) (lt : at < length lines) (step : Step s (line_at lines at).words t) where
-      pub one_more : Reaches start (words_between lines from (at + 1)) t
+      pub one_more : ReachesStage start (words_between lines from (at + 1)) t
       one_more =
-          subst (λ ws. Reaches start ws t) (sym (between_more lines from at low_order lt))
+          subst (λ ws. ReachesStage start ws t) (sym (between_more lines from at low_order lt))
           (join (words_between lines from at) ((line_at lines at).words ∷ []) start s t c.reaches (go step stay))
 
       -- the line is no BadLine

@@ -13,7 +13,7 @@ use Rattle.launch_graph.specs.LineFormats.{GoesOn}
 use Rattle.launch_graph.specs.GraphLines.{GraphLines, AreGraphLines, graph_lines, rows_words, entry_words, in_words, pool_words, guard_lines, set_words}
 use Rattle.launch_graph.specs.GraphTexts.{IsNoTarget, EndsGraph, BeginsWithGraph, IsGraphText}
 use Rattle.launch_graph.specs.RowLines.{row_words, IsRowLine}
-use Rattle.launch_graph.specs.GraphStages.{InputFits, SetFits, GuardFits, RowFits, Low, Stage, start, rows, inputs, behind_pool, sets, over, Step, header, row, entry, input, pool, guard, first_set, set, leave_pool, leave, further, Reaches, stay, go}
+use Rattle.launch_graph.specs.GraphStages.{InputFits, SetFits, GuardFits, RowFits, Low, Stage, start, rows, inputs, behind_pool, sets, over, Step, header, row, entry, input, pool, guard, first_set, set, leave_pool, leave, further, ReachesStage, stay, go}
 use Rattle.launch_graph.proofs.Stages.{join, split, one_step, one_stage, stays_over}
 
 -- where a graph may end
@@ -75,12 +75,12 @@ more_sets s words lines fits is h =
       whole = ap (λ w. w ∷ lines) is ∙ ap (λ (ls : List Words). set_words s ∷ ls) h.whole;
     }
 
-pub sets_told : (lines : List Words) (u : Stage) → IsDone u → Reaches sets lines u → SetsThen lines
+pub sets_told : (lines : List Words) (u : Stage) → IsDone u → ReachesStage sets lines u → SetsThen lines
 sets_told [] u d stay = no_sets [] tt
 sets_told (words ∷ lines) u d (go (set s fits is) j) = more_sets s words lines fits is (sets_told lines u d j)
 sets_told (words ∷ lines) u d (go (leave h) j) = no_sets (words ∷ lines) h
 
-pub pool_told : (lines : List Words) (u : Stage) → IsDone u → Reaches behind_pool lines u → PoolThen lines
+pub pool_told : (lines : List Words) (u : Stage) → IsDone u → ReachesStage behind_pool lines u → PoolThen lines
 pool_told [] u d stay = record { guard_is = None; fits = tt; then = []; targets_are = no_sets [] tt; whole = refl }
 pool_told (words ∷ lines) u d (go (guard o fits is) j) =
     record { guard_is = Some o; fits = fits; then = lines; targets_are = sets_told lines u d j; whole = ap (λ w. w ∷ lines) is }
@@ -116,7 +116,7 @@ more_inputs i words lines fits is h =
       whole = ap (λ w. w ∷ lines) is ∙ ap (λ (ls : List Words). in_words i ∷ ls) h.whole;
     }
 
-pub inputs_told : (lines : List Words) (u : Stage) → IsDone u → Reaches inputs lines u → InputsThen lines
+pub inputs_told : (lines : List Words) (u : Stage) → IsDone u → ReachesStage inputs lines u → InputsThen lines
 inputs_told [] u d stay = absurd (never_inputs d)
 inputs_told (words ∷ lines) u d (go (input i fits is) j) = more_inputs i words lines fits is (inputs_told lines u d j)
 inputs_told (words ∷ lines) u d (go (pool ns low is) j) =
@@ -146,7 +146,7 @@ more_rows r words n lines is h =
       whole = ap (λ w. w ∷ lines) is.is ∙ ap (λ (ls : List Words). row_words r ∷ ls) h.whole;
     }
 
-pub rows_told : (n : ℕ) (lines : List Words) (u : Stage) → IsDone u → Reaches (rows n) lines u → RowsThen n lines
+pub rows_told : (n : ℕ) (lines : List Words) (u : Stage) → IsDone u → ReachesStage (rows n) lines u → RowsThen n lines
 rows_told n [] u d stay = absurd (never_rows n d)
 rows_told (suc n) (words ∷ lines) u d (go (row r is) j) = more_rows r words n lines is (rows_told n lines u d j)
 rows_told zero (words ∷ lines) u d (go (entry class small is) j) =
@@ -170,7 +170,7 @@ lines_then : (g : GraphLines) (rest : List Words)
     ∷ (map in_words g.inputs ++ (pool_words g.pool ∷ (guard_lines g.guard ++ (map set_words g.sets ++ rest))))))
 lines_then g rest = simp append_assoc
 
-pub told : (lines : List Words) (u : Stage) → IsDone u → Reaches start lines u → BeginsWithGraph lines
+pub told : (lines : List Words) (u : Stage) → IsDone u → ReachesStage start lines u → BeginsWithGraph lines
 told [] u d stay = absurd (never_begun d)
 told (words ∷ lines) u d (go (header count few is) j) =
     let r = rows_told count lines u d j in
@@ -203,40 +203,40 @@ told (words ∷ lines) u d (go (header count few is) j) =
 
 -- ---- the lines of a graph are a run
 
-pub ends_from : (s : Stage) (lines : List Words) → IsEnd s → EndsGraph lines → (u : Stage) × Reaches s lines u × IsDone u
+pub ends_from : (s : Stage) (lines : List Words) → IsEnd s → EndsGraph lines → (u : Stage) × ReachesStage s lines u × IsDone u
 ends_from s [] e h = (s, stay, ends e)
 ends_from s (words ∷ lines) no_guard h = (over, go (leave_pool h) (over_all lines), goes_on)
   where
-    over_all : (ls : List Words) → Reaches over ls over
+    over_all : (ls : List Words) → ReachesStage over ls over
     over_all [] = stay
     over_all (w ∷ ls) = go further (over_all ls)
 ends_from s (words ∷ lines) targets h = (over, go (leave h) (over_all lines), goes_on)
   where
-    over_all : (ls : List Words) → Reaches over ls over
+    over_all : (ls : List Words) → ReachesStage over ls over
     over_all [] = stay
     over_all (w ∷ ls) = go further (over_all ls)
 
-pub sets_run : (ss : List SetClass) (rest : List Words) → All SetFits ss → Reaches sets (map set_words ss) sets
+pub sets_run : (ss : List SetClass) (rest : List Words) → All SetFits ss → ReachesStage sets (map set_words ss) sets
 sets_run [] rest fit = stay
 sets_run (s ∷ ss) rest fit = go (set s (All-head SetFits s ss fit) refl) (sets_run ss rest (All-tail SetFits s ss fit))
 
 -- where a graph's own lines end
 pub pool_run : (o : Option Guard) (ss : List SetClass) → GuardFits o → All SetFits ss
-    → (u : Stage) × Reaches behind_pool (guard_lines o ++ map set_words ss) u × IsEnd u
+    → (u : Stage) × ReachesStage behind_pool (guard_lines o ++ map set_words ss) u × IsEnd u
 pool_run (Some o) ss fits fit = (sets, go (guard o fits refl) (sets_run ss [] fit), targets)
 pool_run None [] fits fit = (behind_pool, stay, no_guard)
 pool_run None (s ∷ ss) fits fit =
     (sets, go (first_set s (All-head SetFits s ss fit) refl) (sets_run ss [] (All-tail SetFits s ss fit)), targets)
 
-pub inputs_run : (is : List InputClass) (lines : List Words) (u : Stage) → All InputFits is → Reaches inputs lines u → Reaches inputs (map in_words is ++ lines) u
+pub inputs_run : (is : List InputClass) (lines : List Words) (u : Stage) → All InputFits is → ReachesStage inputs lines u → ReachesStage inputs (map in_words is ++ lines) u
 inputs_run [] lines u fit j = j
 inputs_run (i ∷ is) lines u fit j = go (input i (All-head InputFits i is fit) refl) (inputs_run is lines u (All-tail InputFits i is fit) j)
 
-pub rows_run : (rs : List RowLine) (lines : List Words) (u : Stage) → All RowFits rs → Reaches (rows zero) lines u → Reaches (rows (length rs)) (map row_words rs ++ lines) u
+pub rows_run : (rs : List RowLine) (lines : List Words) (u : Stage) → All RowFits rs → ReachesStage (rows zero) lines u → ReachesStage (rows (length rs)) (map row_words rs ++ lines) u
 rows_run [] lines u fit j = j
 rows_run (r ∷ rs) lines u fit j = go (row r (All-head RowFits r rs fit)) (rows_run rs lines u (All-tail RowFits r rs fit) j)
 
-pub graph_run : (g : GraphLines) → AreGraphLines g → (u : Stage) × Reaches start (graph_lines g) u × IsEnd u
+pub graph_run : (g : GraphLines) → AreGraphLines g → (u : Stage) × ReachesStage start (graph_lines g) u × IsEnd u
 graph_run g are =
     let last = pool_run g.guard g.sets are.guard are.sets in (
       last.0,
@@ -248,20 +248,20 @@ graph_run g are =
       last.2,
     )
 
-pub text_run : (lines : List Words) → BeginsWithGraph lines → (u : Stage) × Reaches start lines u × IsDone u
+pub text_run : (lines : List Words) → BeginsWithGraph lines → (u : Stage) × ReachesStage start lines u × IsDone u
 text_run lines h =
     let r = graph_run h.graph h.are in
     let e = ends_from r.0 h.behind r.2 h.ends in
-    (e.0, subst (λ ls. Reaches start ls e.0) (sym h.whole) (join (graph_lines h.graph) h.behind start r.0 e.0 r.1 e.1), e.2)
+    (e.0, subst (λ ls. ReachesStage start ls e.0) (sym h.whole) (join (graph_lines h.graph) h.behind start r.0 e.0 r.1 e.1), e.2)
 
 pub not_over : (u : Stage) → IsEnd u → u ≢ over
 not_over u no_guard e = cc
 not_over u targets e = cc
 
-pub part_run : (lines : List Words) → IsGraphText lines → (u : Stage) × Reaches start lines u × IsEnd u
+pub part_run : (lines : List Words) → IsGraphText lines → (u : Stage) × ReachesStage start lines u × IsEnd u
 part_run lines h =
     let r = graph_run h.graph h.are in
-    (r.0, subst (λ ls. Reaches start ls r.0) (sym h.whole) r.1, r.2)
+    (r.0, subst (λ ls. ReachesStage start ls r.0) (sym h.whole) r.1, r.2)
 
 -- ---- from each stage a graph can be ended
 
@@ -275,7 +275,7 @@ any_row_fits = record { is = refl; class = omega arith; op = tt; operands = All-
 to_pool : List Words
 to_pool = pool_words [] ∷ []
 
-pool_ends : Reaches inputs to_pool behind_pool
+pool_ends : ReachesStage inputs to_pool behind_pool
 unfolding to_pool
 pool_ends = go (pool [] (All-nil Low) refl) stay
 
@@ -283,12 +283,12 @@ to_end : ℕ → List Words
 to_end zero = entry_words 0 ∷ to_pool
 to_end (suc n) = row_words any_row ∷ to_end n
 
-rows_end : (n : ℕ) → Reaches (rows n) (to_end n) behind_pool
+rows_end : (n : ℕ) → ReachesStage (rows n) (to_end n) behind_pool
 unfolding to_end
 rows_end zero = go (entry 0 (omega arith) refl) pool_ends
 rows_end (suc n) = go (row any_row any_row_fits) (rows_end n)
 
-pub can_end : (s : Stage) → (lines : List Words) × (u : Stage) × Reaches s lines u × IsDone u × (s ≢ over → IsEnd u)
+pub can_end : (s : Stage) → (lines : List Words) × (u : Stage) × ReachesStage s lines u × IsDone u × (s ≢ over → IsEnd u)
 can_end start = (rows_words 0 ∷ to_end 0, behind_pool, go (header 0 (omega arith) refl) (rows_end 0), ends no_guard, λ n. no_guard)
 can_end (rows n) = (to_end n, behind_pool, rows_end n, ends no_guard, λ n. no_guard)
 can_end inputs = (to_pool, behind_pool, pool_ends, ends no_guard, λ n. no_guard)
@@ -298,40 +298,40 @@ can_end over = ([], over, stay, goes_on, λ n. absurd (n refl))
 
 -- ---- going on
 
-pub text_goes : (front : List Words) → GoesOn BeginsWithGraph front → (s : Stage) × Reaches start front s
+pub text_goes : (front : List Words) → GoesOn BeginsWithGraph front → (s : Stage) × ReachesStage start front s
 text_goes front h =
     let r = text_run (front ++ h.behind) h.whole in
     let s = split front h.behind start r.0 r.1 in
     (s.0, s.1)
 
-pub goes_text : (front : List Words) (s : Stage) → Reaches start front s → GoesOn BeginsWithGraph front
+pub goes_text : (front : List Words) (s : Stage) → ReachesStage start front s → GoesOn BeginsWithGraph front
 goes_text front s h =
     let e = can_end s in
     record { behind = e.0; whole = told (front ++ e.0) e.1 e.3 (join front e.0 start s e.1 h e.2) }
 
-pub part_goes : (front : List Words) → GoesOn IsGraphText front → (s : Stage) × Reaches start front s × (s ≢ over)
+pub part_goes : (front : List Words) → GoesOn IsGraphText front → (s : Stage) × ReachesStage start front s × (s ≢ over)
 part_goes front h =
     let r = part_run (front ++ h.behind) h.whole in
     let s = split front h.behind start r.0 r.1 in
-    (s.0, s.1, λ e. not_over r.0 r.2 (stays_over h.behind r.0 (subst (λ x. Reaches x h.behind r.0) e s.2)))
+    (s.0, s.1, λ e. not_over r.0 r.2 (stays_over h.behind r.0 (subst (λ x. ReachesStage x h.behind r.0) e s.2)))
 
 -- a graph's text is what ends at an end
-nothing_behind : (lines : List Words) (u : Stage) → IsEnd u → (h : BeginsWithGraph lines) → Reaches start lines u → h.behind ≡ []
+nothing_behind : (lines : List Words) (u : Stage) → IsEnd u → (h : BeginsWithGraph lines) → ReachesStage start lines u → h.behind ≡ []
 nothing_behind lines u e h j =
     let r = graph_run h.graph h.are in
-    let run = split (graph_lines h.graph) h.behind start u (subst (λ ls. Reaches start ls u) h.whole j) in
-    ended h.behind r.0 u r.2 e h.ends (subst (λ x. Reaches x h.behind u) (one_stage (graph_lines h.graph) start run.0 r.0 run.1 r.1) run.2)
+    let run = split (graph_lines h.graph) h.behind start u (subst (λ ls. ReachesStage start ls u) h.whole j) in
+    ended h.behind r.0 u r.2 e h.ends (subst (λ x. ReachesStage x h.behind u) (one_stage (graph_lines h.graph) start run.0 r.0 run.1 r.1) run.2)
   where
-    ended : (rest : List Words) (s u : Stage) → IsEnd s → IsEnd u → EndsGraph rest → Reaches s rest u → rest ≡ []
+    ended : (rest : List Words) (s u : Stage) → IsEnd s → IsEnd u → EndsGraph rest → ReachesStage s rest u → rest ≡ []
     ended [] s u a b h j = refl
     ended (words ∷ rest) s u a b h (go {t = t} k l) =
-        absurd (not_over u b (stays_over rest u (subst (λ x. Reaches x rest u) (one_step s t over words k (away s words a h)) l)))
+        absurd (not_over u b (stays_over rest u (subst (λ x. ReachesStage x rest u) (one_step s t over words k (away s words a h)) l)))
       where
         away : (s : Stage) (words : Words) → IsEnd s → IsNoTarget words → Step s words over
         away s words no_guard h = leave_pool h
         away s words targets h = leave h
 
-pub goes_part : (front : List Words) (s : Stage) → Reaches start front s → s ≢ over → GoesOn IsGraphText front
+pub goes_part : (front : List Words) (s : Stage) → ReachesStage start front s → s ≢ over → GoesOn IsGraphText front
 goes_part front s h n =
     let e = can_end s in
     let j = join front e.0 start s e.1 h e.2 in

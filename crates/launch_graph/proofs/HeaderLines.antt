@@ -3,15 +3,15 @@ use Rattle.std.proofs.Common.{◌≡◌, ℕ, ◌+◌, ◌<◌, ◌≤◌, List,
 use Rattle.std.proofs.lemmas.Bool.{cases_eq}
 use Rattle.text_core.specs.Faults.{IsFaultBy}
 use Rattle.text_core.specs.Lines.{Line, line_at}
-use Rattle.text_core.specs.LineTexts.{Words}
+use Rattle.text_core.specs.LineTexts.{Words, SaysNone}
 use Rattle.text_core.specs.declared.faults.Kind.{Kind}
 use Rattle.text_core.specs.declared.faults.Kind.TheVariants.{BadLine}
 use Rattle.text_core.specs.declared.faults.TextFault.{TextFault}
-use Rattle.launch_graph.specs.GraphStages.{Stage, start, Step, header, Reaches, stay, go}
+use Rattle.launch_graph.specs.GraphStages.{Stage, start, Step, header, ReachesStage, stay, go}
 use Rattle.launch_graph.specs.GraphTexts.{BeginsWithGraph}
 use Rattle.launch_graph.specs.LineFaults.{IsFirstGraphFault, bad_line, missing, bad_row, bad_class, wrong_class}
 use Rattle.launch_graph.specs.LineFormats.{GoesOn, words_between}
-use Rattle.launch_graph.specs.LineReading.{IsHeader, IsNone}
+use Rattle.launch_graph.specs.LineReading.{IsHeaderLine}
 use Rattle.launch_graph.specs.RowsRead.{IsFaultOfLine}
 use Rattle.launch_graph.proofs.Between.{between_none, between_one}
 use Rattle.launch_graph.proofs.FirstFaults.{GraphFault}
@@ -30,7 +30,7 @@ module _ (lines : List Line) (from : ℕ) (le : from ≤ length lines) where
   nothing = between_none lines from
 
   goes_here : GoesOn BeginsWithGraph (words_between lines from from)
-  goes_here = goes_text (words_between lines from from) start (subst (λ ws. Reaches start ws start) (sym nothing) stay)
+  goes_here = goes_text (words_between lines from from) start (subst (λ ws. ReachesStage start ws start) (sym nothing) stay)
 
   first_here : (fault : TextFault) → GraphFault lines from from BadLine → IsFaultOfLine lines from BadLine fault
       → IsFaultBy (IsFirstGraphFault lines from) fault
@@ -55,22 +55,22 @@ module _ (lines : List Line) (from : ℕ) (le : from ≤ length lines) where
       (missing end goes_here
       (λ text.
       (let r = text_run (words_between lines from from) text in
-      let run = subst (λ ws. Reaches start ws r.0) nothing r.1 in
+      let run = subst (λ ws. ReachesStage start ws r.0) nothing r.1 in
       never_begun (subst IsDone (one_stage [] start r.0 start run stay) r.2))))
       f
 
-  no_header_step : (words : Words) → IsNone IsHeader words → (t : Stage) → Step start words t → ⊥
+  no_header_step : (words : Words) → SaysNone IsHeaderLine words → (t : Stage) → Step start words t → ⊥
   no_header_step words none t (header count few is) = none count (record { few = few; is = is })
 
-  no_header_run : (words : Words) → IsNone IsHeader words → (t : Stage) → Reaches start (words ∷ []) t → ⊥
+  no_header_run : (words : Words) → SaysNone IsHeaderLine words → (t : Stage) → ReachesStage start (words ∷ []) t → ⊥
   no_header_run words none t (go {t = a} step more) = no_header_step words none a step
 
-  pub no_header_first : (fault : TextFault) → from < length lines → IsNone IsHeader (line_at lines from).words
+  pub no_header_first : (fault : TextFault) → from < length lines → SaysNone IsHeaderLine (line_at lines from).words
       → IsFaultOfLine lines from BadLine fault → IsFaultBy (IsFirstGraphFault lines from) fault
   no_header_first fault lt none f =
       first_here fault
       (bad_line (omega arith) lt goes_here
       (λ goes.
       (let g = text_goes (words_between lines from (from + 1)) goes in
-      no_header_run (line_at lines from).words none g.0 (subst (λ ws. Reaches start ws g.0) (between_one lines from lt) g.1))))
+      no_header_run (line_at lines from).words none g.0 (subst (λ ws. ReachesStage start ws g.0) (between_one lines from lt) g.1))))
       f

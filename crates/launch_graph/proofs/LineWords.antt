@@ -22,7 +22,7 @@ use Rattle.launch_graph.specs.declared.graphs.LaunchGraph.{LaunchGraph}
 use Rattle.launch_graph.specs.declared.row_lines.RowLine.{RowLine}
 use Rattle.launch_graph.specs.GraphLines.{graph_lines, said, said_row, said_op, AreGraphLines, rows_words, entry_words, in_words, pool_words, guard_words, guard_lines, held_word, set_words}
 use Rattle.launch_graph.specs.RowLines.{row_words, line_op_words, IsRowLine, IsLineOp}
-use Rattle.launch_graph.specs.WellFormed.{IsLaunchGraph, ClassHasSort, TakesItsSorts, declared_index, input_in, set_sort}
+use Rattle.launch_graph.specs.WellFormed.{IsLaunchGraph, ClassHasSort, TakesItsSorts, declared_index, register_of_input, set_sort}
 use Rattle.launch_graph.proofs.Classes.{class_below, rows_low}
 use Rattle.launch_graph.proofs.Printed.{map_count}
 
@@ -89,7 +89,7 @@ operator_word words.Storeb = record { some = λ e. cc; printed = refl }
 operator_word words.Lda = record { some = λ e. cc; printed = refl }
 operator_word words.Ldah = record { some = λ e. cc; printed = refl }
 
-op_row : (o : Op) (name : List ℕ) → ((n : ℕ) → input_in o ≡ Some n → n < 31) → ((n : ℕ) → constant_in o ≡ Some n → n < 2 ^ 64)
+op_row : (o : Op) (name : List ℕ) → ((n : ℕ) → register_of_input o ≡ Some n → n < 31) → ((n : ℕ) → constant_in o ≡ Some n → n < 2 ^ 64)
     → (IsTrue (is_some (declared_index o)) → IsName name) → IsLineOp (said_op o name)
 op_row op.Entry name low small named = tt
 op_row (op.Input r) name low small named = low r refl

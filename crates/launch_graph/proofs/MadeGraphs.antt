@@ -20,13 +20,13 @@ use Rattle.launch_graph.specs.declared.row_lines.RowLine.{RowLine}
 use Rattle.launch_graph.specs.GraphLines.{said_row, said_op}
 use Rattle.launch_graph.specs.GraphStages.{RowFits}
 use Rattle.launch_graph.specs.RowLines.{IsLineOp}
-use Rattle.launch_graph.specs.RowFaults.{repeated, operand, own, second_constant, not_next, IsWrongClass, no_row, other_sort, HasClass, class_sort, sort_given, tells_sort, next_line_class}
+use Rattle.launch_graph.specs.RowFaults.{repeated, operand, own, second_constant, not_next, IsWrongClass, no_row, other_sort, HasRowOfClass, class_sort, sort_given, tells_sort, next_line_class}
 use Rattle.launch_graph.specs.CleanLines.{IsGoodRow}
 use Rattle.launch_graph.specs.Numbering.{AreNumbered}
 use Rattle.launch_graph.specs.declared.graphs.InputClass.{InputClass}
 use Rattle.launch_graph.specs.declared.graphs.Guard.{Guard}
 use Rattle.launch_graph.specs.declared.graphs.SetClass.{SetClass}
-use Rattle.launch_graph.specs.WellFormed.{IsLaunchGraph, ClassHasSort, next_class, next_index, declared_index, input_in, TakesItsSorts, AreRows, HaveOneName, set_sort}
+use Rattle.launch_graph.specs.WellFormed.{IsLaunchGraph, ClassHasSort, next_class, next_index, declared_index, register_of_input, TakesItsSorts, AreRows, HaveOneName, set_sort}
 use Rattle.launch_graph.proofs.GoodGraphs.{said_given, said_taken, said_constant, map_take, map_get, any_launch}
 use Rattle.launch_graph.proofs.GoodRows.{next_said, sort_said}
 use Rattle.launch_graph.proofs.Lists.{any_nil, any_here, any_there, any_cases, number_itself}
@@ -36,7 +36,7 @@ abbrev OfClass : ℕ → RowLine → Type 0
 OfClass class r = r.class ≡ class
 
 -- a class has a row or none
-has_or : (rows : List RowLine) (class : ℕ) → HasClass rows class ⊎ ¬ HasClass rows class
+has_or : (rows : List RowLine) (class : ℕ) → HasRowOfClass rows class ⊎ ¬ HasRowOfClass rows class
 has_or [] class = inr (any_nil (OfClass class))
 has_or (r ∷ rows) class = elim (cases_eq r.class class) [
   | inl same ↦ inl (any_here (OfClass class) r rows same)
@@ -56,7 +56,7 @@ fold_least : (n : ℕ) (rows : List RowLine) → n ≤ fold (λ m (r : RowLine).
 fold_least n [] = omega arith
 fold_least n (r ∷ rows) = (let h = fold_least (max n (r.class + 1)) rows in omega arith)
 
-low_from : (n : ℕ) (rows : List RowLine) (class : ℕ) → HasClass rows class → class < fold (λ m (r : RowLine). max m (r.class + 1)) n rows
+low_from : (n : ℕ) (rows : List RowLine) (class : ℕ) → HasRowOfClass rows class → class < fold (λ m (r : RowLine). max m (r.class + 1)) n rows
 low_from n [] class h = absurd (any_nil (OfClass class) h)
 low_from n (r ∷ rows) class h = elim (any_cases (OfClass class) r rows h) [
   | inl same ↦ (let l = fold_least (max n (r.class + 1)) rows in omega (arith, same, l))
@@ -88,7 +88,7 @@ some_step r rs class true is tells h = (
 some_step r rs class false is tells (inl same) = absurd (false≢true (sym is ∙ ap (λ c. c == class) same ∙ number_itself class))
 some_step r rs class false is tells (inr h) = h
 
-some_sort : (rs : List LaunchRow) (class : ℕ) → All Tells rs → HasClass (map said_row rs) class → (s : Sort) × (class_sort (map said_row rs) class ≡ Some s)
+some_sort : (rs : List LaunchRow) (class : ℕ) → All Tells rs → HasRowOfClass (map said_row rs) class → (s : Sort) × (class_sort (map said_row rs) class ≡ Some s)
 some_sort [] class each h = absurd (any_nil (OfClass class) h)
 some_sort (r ∷ rs) class each h =
     some_step r rs class (r.class == class) refl (All-head Tells r rs each)
@@ -131,7 +131,7 @@ fits_word Load name m f e = absurd (none-some m e)
 fits_word Put name m f e = absurd (none-some m e)
 fits_word (Declared i a) name m f e = absurd (none-some m e)
 
-fits_register : (o : Op) (name : List ℕ) (m : ℕ) → IsLineOp (said_op o name) → input_in o ≡ Some m → m < 31
+fits_register : (o : Op) (name : List ℕ) (m : ℕ) → IsLineOp (said_op o name) → register_of_input o ≡ Some m → m < 31
 fits_register (Input r) name m f e = subst (λ k. k < 31) (same_Some r m e) f
 fits_register Entry name m f e = absurd (none-some m e)
 fits_register (Constant c) name m f e = absurd (none-some m e)
@@ -217,7 +217,7 @@ module _ (g : LaunchGraph) (used : List UsedName) (keys : List RowKey) (h : AreN
         good_row.class_is (operand place (slice_index r.operands place) (slice_get-get_or r.operands place 0 lt)
         (subst (λ s. IsWrongClass (length g.rows) all s (slice_index r.operands place)) (sym (said_taken r.op r.name place)) wrong)))
 
-    has_here : HasClass all r.class
+    has_here : HasRowOfClass all r.class
     has_here =
         let n : length all ≡ length g.rows = map_count said_row g.rows in
         let lt : k < length g.rows = within in

@@ -9,7 +9,7 @@ use Rattle.word_ops.specs.declared.sorts.Sort.{Sort}
 use Rattle.launch_graph.specs.declared.row_lines.RowLine.{RowLine}
 use Rattle.launch_graph.specs.declared.class_marks.Mark.{Mark}
 use Rattle.launch_graph.specs.declared.class_marks.Mark.TheVariants.{Absent, Unsorted, Sorted}
-use Rattle.launch_graph.specs.RowFaults.{IsWrongClass, not_below, no_row, other_sort, HasClass, class_sort, tells_sort, sort_given}
+use Rattle.launch_graph.specs.RowFaults.{IsWrongClass, not_below, no_row, other_sort, HasRowOfClass, class_sort, tells_sort, sort_given}
 use Rattle.launch_graph.specs.RowLines.{IsRowLine}
 use Rattle.launch_graph.specs.RowReading.{IsOnlyRow}
 use Rattle.launch_graph.specs.LineFaults.{AreRowLines, none, row, other}
@@ -85,13 +85,13 @@ next_lines text first line end low high within =
 
 -- ---- the classes of one more row
 
-pub has_left : (rows : List RowLine) (one : RowLine) (class : ℕ) → HasClass rows class → HasClass (rows ++ one ∷ []) class
+pub has_left : (rows : List RowLine) (one : RowLine) (class : ℕ) → HasRowOfClass rows class → HasRowOfClass (rows ++ one ∷ []) class
 has_left rows one class (k, r, less, at, is) = (k, r, omega (arith, length_push rows one), get_or_append_left rows (one ∷ []) r k less ∙ at, is)
 
-pub has_last : (rows : List RowLine) (one : RowLine) (class : ℕ) → one.class ≡ class → HasClass (rows ++ one ∷ []) class
+pub has_last : (rows : List RowLine) (one : RowLine) (class : ℕ) → one.class ≡ class → HasRowOfClass (rows ++ one ∷ []) class
 has_last rows one class is = Any-push (λ (r : RowLine). r.class ≡ class) rows one is
 
-pub has_back : (rows : List RowLine) (one : RowLine) (class : ℕ) → one.class ≢ class → HasClass (rows ++ one ∷ []) class → HasClass rows class
+pub has_back : (rows : List RowLine) (one : RowLine) (class : ℕ) → one.class ≢ class → HasRowOfClass (rows ++ one ∷ []) class → HasRowOfClass rows class
 has_back rows one class differs (k, r, less, at, is) = elim (cases_eq k (length rows)) [
   | inl same ↦ absurd (differs (ap (λ (x : RowLine). x.class) (sym (get_or_push rows one r k (sym same)) ∙ at) ∙ is))
   | inr apart ↦ (k, r, omega (arith, length_push rows one), sym (get_or_append_left rows (one ∷ []) r k (omega (arith, length_push rows one))) ∙ at, is)
@@ -137,11 +137,11 @@ mark_stays rows one class mark differs (unsorted has untold) = unsorted (has_lef
 mark_stays rows one class mark differs (sorted has sort) = sorted (has_left rows one class has) (sort_stays rows one class _ sort)
 
 -- a class that no row told the sort of
-by_told : (rows : List RowLine) (class : ℕ) (t : Option Sort) → HasClass rows class → class_sort rows class ≡ t → IsMark rows class (after Unsorted t)
+by_told : (rows : List RowLine) (class : ℕ) (t : Option Sort) → HasRowOfClass rows class → class_sort rows class ≡ t → IsMark rows class (after Unsorted t)
 by_told rows class None has e = unsorted has e
 by_told rows class (Some sort) has e = sorted has e
 
-by_told_absent : (rows : List RowLine) (class : ℕ) (t : Option Sort) → HasClass rows class → class_sort rows class ≡ t → IsMark rows class (after Absent t)
+by_told_absent : (rows : List RowLine) (class : ℕ) (t : Option Sort) → HasRowOfClass rows class → class_sort rows class ≡ t → IsMark rows class (after Absent t)
 by_told_absent rows class None has e = unsorted has e
 by_told_absent rows class (Some sort) has e = sorted has e
 
@@ -175,7 +175,7 @@ not_marked marks rows one count high h = record {
 
 -- ---- no rows at all
 
-none_has : (class : ℕ) → HasClass [] class → ⊥
+none_has : (class : ℕ) → HasRowOfClass [] class → ⊥
 none_has class (k, r, less, at, is) = absurd (omega (arith, less))
 
 pub no_mark : AreMarks 0 [] []
@@ -220,7 +220,7 @@ has_same text first at end count marks low high within never h =
 
 -- ---- wrong classes
 
-sorted_in : (rows : List RowLine) (class : ℕ) (sort : Sort) → IsMark rows class (Sorted sort) → HasClass rows class × (class_sort rows class ≡ Some sort)
+sorted_in : (rows : List RowLine) (class : ℕ) (sort : Sort) → IsMark rows class (Sorted sort) → HasRowOfClass rows class × (class_sort rows class ≡ Some sort)
 sorted_in rows class sort (sorted has is) = (has, is)
 
 sorts_same : (a b : Sort) → Some a ≡ Some b → a ≡ b
@@ -230,7 +230,7 @@ is_true : (b : Bool) (P Q : Type 0) → (b ≡ true → P) × (P → b ≡ true)
 is_true true P Q d f g = (λ e. cc, λ q. absurd (g (d.0 refl) q))
 is_true false P Q d f g = (λ e. f (λ p. (let bad : false ≡ true = d.1 p in cc)), λ q. refl)
 
-wrong_only : (count : ℕ) (rows : List RowLine) (wanted sort : Sort) (class : ℕ) → class < count → HasClass rows class → class_sort rows class ≡ Some sort → sort ≡ wanted → IsWrongClass count rows wanted class → ⊥
+wrong_only : (count : ℕ) (rows : List RowLine) (wanted sort : Sort) (class : ℕ) → class < count → HasRowOfClass rows class → class_sort rows class ≡ Some sort → sort ≡ wanted → IsWrongClass count rows wanted class → ⊥
 wrong_only count rows wanted sort class low has is same (not_below high) = absurd (omega (arith, low, high))
 wrong_only count rows wanted sort class low has is same (no_row never) = never has
 wrong_only count rows wanted sort class low has is same (other_sort {sort = s} e differs) = differs (sorts_same s sort (sym e ∙ is) ∙ same)

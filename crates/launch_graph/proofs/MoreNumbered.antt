@@ -15,7 +15,7 @@ use Rattle.launch_graph.specs.declared.row_lines.LineOp.TheVariants.{Plain, Use}
 use Rattle.launch_graph.specs.declared.row_lines.RowLine.{RowLine}
 use Rattle.launch_graph.specs.GraphLines.{said_row, said_op}
 use Rattle.launch_graph.specs.RowLines.{IsLineOp}
-use Rattle.launch_graph.specs.RowsRead.{name_in}
+use Rattle.launch_graph.specs.RowsRead.{line_op_name}
 use Rattle.launch_graph.specs.Numbering.{IsNumberedOp, plain, again, anew, row_key, IsNumberedRow, AreNumbered}
 use Rattle.launch_graph.specs.WellFormed.{next_index, next_after, declared_index}
 use Rattle.launch_graph.proofs.GoodGraphs.{map_append}
@@ -72,24 +72,24 @@ module _ (before : List RowLine) (used : List UsedName) (keys : List RowKey) (bu
   plain_said Put f = refl
   plain_said (Declared i a) f = absurd f
 
-  op_said : IsNumberedOp used more row.op (length row.operands) op → said_op op (name_in row.op) ≡ row.op
-  op_said (plain e c m) = ap (λ l. said_op op (name_in l)) e ∙ plain_said op (subst IsLineOp e fine) ∙ sym e
-  op_said (again {name = name} e lt there named c o m) = ap (λ p. said_op p (name_in row.op)) o ∙ ap Use (ap name_in e) ∙ sym e
-  op_said (anew {name = name} e unused few named c o m) = ap (λ p. said_op p (name_in row.op)) o ∙ ap Use (ap name_in e) ∙ sym e
+  op_said : IsNumberedOp used more row.op (length row.operands) op → said_op op (line_op_name row.op) ≡ row.op
+  op_said (plain e c m) = ap (λ l. said_op op (line_op_name l)) e ∙ plain_said op (subst IsLineOp e fine) ∙ sym e
+  op_said (again {name = name} e lt there named c o m) = ap (λ p. said_op p (line_op_name row.op)) o ∙ ap Use (ap line_op_name e) ∙ sym e
+  op_said (anew {name = name} e unused few named c o m) = ap (λ p. said_op p (line_op_name row.op)) o ∙ ap Use (ap line_op_name e) ∙ sym e
 
   -- the number of a declared operator of the row, with its name
   own_number : IsNumberedOp used more row.op (length row.operands) op → (k : ℕ) → declared_index op ≡ Some k
-      → (one : UsedName) × (slice_get more k ≡ Some one) × (op ≡ Declared k one.arity) × (name_in row.op ≡ one.name) × (k ≤ length used)
+      → (one : UsedName) × (slice_get more k ≡ Some one) × (op ≡ Declared k one.arity) × (line_op_name row.op ≡ one.name) × (k ≤ length used)
   own_number (plain e c m) k d = absurd (none-some k (sym (not_declared op (subst IsLineOp e fine)) ∙ d))
   own_number (again {at = at} {one = one} e lt there named c o m) k d =
       let same : at ≡ k = same_Some at k (sym (ap declared_index o) ∙ d) in
-      (one, still k one (ap (slice_get used) (sym same) ∙ there), o ∙ ap (λ i. Declared i one.arity) same, ap name_in e ∙ sym named, omega arith)
+      (one, still k one (ap (slice_get used) (sym same) ∙ there), o ∙ ap (λ i. Declared i one.arity) same, ap line_op_name e ∙ sym named, omega arith)
   own_number (anew {one = one} e unused few named c o m) k d =
       let same : length used ≡ k = same_Some (length used) k (sym (ap declared_index o) ∙ d) in
-      (one, ap (λ us. slice_get us k) m ∙ get_last used one k (sym same), o ∙ ap (λ i. Declared i one.arity) same, ap name_in e ∙ sym named, omega arith)
+      (one, ap (λ us. slice_get us k) m ∙ get_last used one k (sym same), o ∙ ap (λ i. Declared i one.arity) same, ap line_op_name e ∙ sym named, omega arith)
 
-  unnamed_or : IsNumberedOp used more row.op (length row.operands) op → (name_in row.op ≡ []) ⊎ IsTrue (is_some (declared_index op))
-  unnamed_or (plain e c m) = inl (ap name_in e)
+  unnamed_or : IsNumberedOp used more row.op (length row.operands) op → (line_op_name row.op ≡ []) ⊎ IsTrue (is_some (declared_index op))
+  unnamed_or (plain e c m) = inl (ap line_op_name e)
   unnamed_or (again e lt there named c o m) = inr (ap (λ p. is_some (declared_index p)) o)
   unnamed_or (anew e unused few named c o m) = inr (ap (λ p. is_some (declared_index p)) o)
 
@@ -129,7 +129,7 @@ module _ (before : List RowLine) (used : List UsedName) (keys : List RowKey) (bu
       let k = h.next_is in
       omega arith
 
-  module _ (made : LaunchRow) (class_is : made.class ≡ row.class) (op_is : made.op ≡ op) (name_is : made.name ≡ name_in row.op) (operands_are : made.operands ≡ row.operands)
+  module _ (made : LaunchRow) (class_is : made.class ≡ row.class) (op_is : made.op ≡ op) (name_is : made.name ≡ line_op_name row.op) (operands_are : made.operands ≡ row.operands)
       (keys' : List RowKey) (keys_is : keys' ≡ keys ++ row_key op row.operands ∷ []) where
     said_made : said_row made ≡ row
     said_made =
@@ -192,7 +192,7 @@ module _ (before : List RowLine) (used : List UsedName) (keys : List RowKey) (bu
           unnamed =
               All-push (λ (r : LaunchRow). (r.name ≡ []) ⊎ IsTrue (is_some (declared_index r.op))) built made h.unnamed
               (subst (λ m. (m ≡ []) ⊎ IsTrue (is_some (declared_index made.op))) (sym name_is)
-              (subst (λ p. (name_in row.op ≡ []) ⊎ IsTrue (is_some (declared_index p))) (sym op_is) (unnamed_or n)));
+              (subst (λ p. (line_op_name row.op ≡ []) ⊎ IsTrue (is_some (declared_index p))) (sym op_is) (unnamed_or n)));
           arities =
               All-push (λ (r : LaunchRow). length r.operands ≡ arity_of_op r.op) built made h.arities
               (ap length operands_are ∙ arity_then before used keys built h more row.op op (length row.operands) n ∙ ap arity_of_op (sym op_is));

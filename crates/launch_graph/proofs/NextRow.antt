@@ -9,7 +9,7 @@ use Rattle.word_ops.specs.Meanings.{arity_of_op}
 use Rattle.word_ops.specs.declared.operators.WordOp.{WordOp}
 use Rattle.word_ops.specs.declared.sorts.Op.{Op}
 use Rattle.word_ops.specs.declared.sorts.Op.TheVariants.{Declared}
-use Rattle.text_core.specs.Lines.{Line, line_at}
+use Rattle.text_core.specs.Lines.{Line, line_at, BeginsAt}
 use Rattle.text_core.specs.LineTexts.{Words}
 use Rattle.text_core.specs.declared.faults.Kind.TheVariants.{BadLine, BadRow, BadClass}
 use Rattle.launch_graph.specs.declared.class_marks.Mark.{Mark}
@@ -21,12 +21,11 @@ use Rattle.launch_graph.specs.declared.row_lines.RowLine.{RowLine}
 use Rattle.launch_graph.specs.declared.rows_reading.RowsSoFar.{RowsSoFar}
 use Rattle.launch_graph.specs.GraphLines.{said_row, said_op}
 use Rattle.launch_graph.specs.GraphStages.{Stage, rows, over, Step, row, entry}
-use Rattle.launch_graph.specs.LineFormats.{BeginsAt}
 use Rattle.launch_graph.specs.LineFaults.{IsFirstGraphFault}
 use Rattle.launch_graph.specs.Numbering.{IsNumberedOp, plain, again, anew, HasNoNumber, row_key, AreNumbered}
 use Rattle.launch_graph.specs.RowFaults.{IsBadRow, IsBadClass, repeated}
 use Rattle.launch_graph.specs.RowLines.{IsRowLine, IsLineOp}
-use Rattle.launch_graph.specs.RowsRead.{AreRowsTo, name_in}
+use Rattle.launch_graph.specs.RowsRead.{AreRowsTo, line_op_name}
 use Rattle.launch_graph.specs.SeenRows.{IsSeen}
 use Rattle.launch_graph.specs.WellFormed.{declared_index}
 use Rattle.launch_graph.proofs.CleanSteps.{clean_row}
@@ -155,7 +154,7 @@ module _ (names : (o p : WordOp) → name_of o ≡ name_of p → o ≡ p) (numbe
 
         -- one more row is read
         pub row_read : (IsBadClass (length marks) all before one → ⊥) → (made : LaunchRow) → made.class ≡ one.class → made.op ≡ op
-            → made.name ≡ name_in one.op → made.operands ≡ one.operands → (so' : RowsSoFar) → so'.used ≡ used
+            → made.name ≡ line_op_name one.op → made.operands ≡ one.operands → (so' : RowsSoFar) → so'.used ≡ used
             → so'.index ≡ so.index ++ row_key op one.operands ∷ [] → so'.rows ≡ so.rows ++ made ∷ []
             → IsSeen (length marks) (before ++ one ∷ []) so'.next so'.constants.items
             → AreRowsTo lines from all (before ++ one ∷ []) marks (at + 1) so'

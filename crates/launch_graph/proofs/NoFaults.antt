@@ -9,7 +9,7 @@ use Rattle.text_core.specs.LineTexts.{Words}
 use Rattle.launch_graph.specs.declared.row_lines.RowLine.{RowLine}
 use Rattle.launch_graph.specs.LineFormats.{words_between, GoesOn}
 use Rattle.launch_graph.specs.GraphTexts.{BeginsWithGraph, IsGraphText}
-use Rattle.launch_graph.specs.GraphStages.{Stage, start, over, Step, header, row, entry, input, pool, guard, first_set, set, leave_pool, leave, further, Reaches, stay, go}
+use Rattle.launch_graph.specs.GraphStages.{Stage, start, over, Step, header, row, entry, input, pool, guard, first_set, set, leave_pool, leave, further, ReachesStage, stay, go}
 use Rattle.launch_graph.specs.RowLines.{IsRowLine, line_op_words}
 use Rattle.launch_graph.proofs.Stages.{split, stays_over, nothing_before}
 use Rattle.launch_graph.proofs.GraphRuns.{goes_text, part_goes}
@@ -66,20 +66,20 @@ header_first s t words rest e further n = absurd (n refl)
 
 module _ (lines : List Line) (from : ℕ) where
   -- the stage behind fewer lines
-  pub front_stage : (a b : ℕ) (s : Stage) → from ≤ a → a ≤ b → Reaches start (words_between lines from b) s
-      → (t : Stage) × Reaches start (words_between lines from a) t × Reaches t (words_between lines a b) s
+  pub front_stage : (a b : ℕ) (s : Stage) → from ≤ a → a ≤ b → ReachesStage start (words_between lines from b) s
+      → (t : Stage) × ReachesStage start (words_between lines from a) t × ReachesStage t (words_between lines a b) s
   front_stage a b s low le h =
       split (words_between lines from a) (words_between lines a b) start s
-      (subst (λ ws. Reaches start ws s) (between_split lines from a b low le) h)
+      (subst (λ ws. ReachesStage start ws s) (between_split lines from a b low le) h)
 
   -- the step of one line
-  pub step_at : (a : ℕ) (s : Stage) → from ≤ a → a < length lines → Reaches start (words_between lines from (a + 1)) s
-      → (t : Stage) × Reaches start (words_between lines from a) t × Step t (line_at lines a).words s
+  pub step_at : (a : ℕ) (s : Stage) → from ≤ a → a < length lines → ReachesStage start (words_between lines from (a + 1)) s
+      → (t : Stage) × ReachesStage start (words_between lines from a) t × Step t (line_at lines a).words s
   step_at a s low lt h =
-      let parts = split (words_between lines from a) ((line_at lines a).words ∷ []) start s (subst (λ ws. Reaches start ws s) (between_more lines from a low lt) h) in
+      let parts = split (words_between lines from a) ((line_at lines a).words ∷ []) start s (subst (λ ws. ReachesStage start ws s) (between_more lines from a low lt) h) in
       (parts.0, parts.1, last parts.0 parts.2)
     where
-      last : (t : Stage) → Reaches t ((line_at lines a).words ∷ []) s → Step t (line_at lines a).words s
+      last : (t : Stage) → ReachesStage t ((line_at lines a).words ∷ []) s → Step t (line_at lines a).words s
       last t (go h stay) = h
 
   empty_between : (a : ℕ) → from ≤ a → a < length lines → words_between lines from (a + 1) ≡ [] → ⊥
@@ -108,13 +108,13 @@ module _ (lines : List Line) (from : ℕ) where
   header_here h at rest low lt le is goes =
       let p = part_goes (words_between lines from (at + 1)) goes in
       let f = front_stage (h + 1) (at + 1) p.0 (omega arith) (omega arith) p.1 in
-      let here : f.0 ≢ over = λ e. p.2 (stays_over (words_between lines (h + 1) (at + 1)) p.0 (subst (λ x. Reaches x (words_between lines (h + 1) (at + 1)) p.0) e f.2)) in
+      let here : f.0 ≢ over = λ e. p.2 (stays_over (words_between lines (h + 1) (at + 1)) p.0 (subst (λ x. ReachesStage x (words_between lines (h + 1) (at + 1)) p.0) e f.2)) in
       let t = step_at h f.0 low lt f.1 in
       let first : t.0 ≡ start = header_first t.0 f.0 (line_at lines h).words rest is t.2 here in
-      between_empty h low (omega arith) (nothing_before (words_between lines from h) start (subst (λ x. Reaches start (words_between lines from h) x) first t.1)).0
+      between_empty h low (omega arith) (nothing_before (words_between lines from h) start (subst (λ x. ReachesStage start (words_between lines from h) x) first t.1)).0
 
   -- no line is wrong where a run goes on behind it
-  pub no_bad_line : (at other : ℕ) (s : Stage) → Reaches start (words_between lines from at) s → from ≤ other
+  pub no_bad_line : (at other : ℕ) (s : Stage) → ReachesStage start (words_between lines from at) s → from ≤ other
       → (GoesOn BeginsWithGraph (words_between lines from (other + 1)) → ⊥) → at ≤ other
   no_bad_line at other s h low never = elim (cases_lt other at) [
     | inl less ↦ absurd (never (goes_text (words_between lines from (other + 1)) (front_stage (other + 1) at s (omega arith) (omega arith) h).0 (front_stage (other + 1) at s (omega arith) (omega arith) h).1))

@@ -1,10 +1,9 @@
 -- The first fault is one.
 use Rattle.std.proofs.Common.{◌≡◌, ◌<◌, ◌≤◌, ◌⊎◌, ℕ, List, length, inl, inr, refl, sym, ◌∙◌, subst, arith}
-use Rattle.text_core.specs.Lines.{Line}
+use Rattle.text_core.specs.Lines.{Line, BeginsAt}
 use Rattle.text_core.specs.declared.faults.Kind.{Kind}
 use Rattle.text_core.specs.declared.faults.Kind.TheVariants.{BadLine, BadRow, BadClass}
 use Rattle.text_core.specs.LineTexts.{Words}
-use Rattle.launch_graph.specs.LineFormats.{BeginsAt}
 use Rattle.launch_graph.specs.LineFaults.{IsFaultAt, IsFirstFault, line_rank, bad_line, missing, bad_row, bad_class, wrong_class}
 
 -- a fault stands at a line or behind the last

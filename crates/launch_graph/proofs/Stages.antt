@@ -7,7 +7,7 @@ use Rattle.launch_graph.specs.declared.graphs.Guard.{Guard}
 use Rattle.launch_graph.specs.declared.graphs.SetClass.{SetClass}
 use Rattle.launch_graph.specs.GraphLines.{rows_words, in_words, pool_words, guard_words, set_words}
 use Rattle.launch_graph.specs.GraphTexts.{IsNoTarget}
-use Rattle.launch_graph.specs.GraphStages.{Stage, start, rows, over, Step, header, row, entry, input, pool, guard, first_set, set, leave_pool, leave, further, Reaches, stay, go}
+use Rattle.launch_graph.specs.GraphStages.{Stage, start, rows, over, Step, header, row, entry, input, pool, guard, first_set, set, leave_pool, leave, further, ReachesStage, stay, go}
 
 -- ---- one stage
 
@@ -46,23 +46,23 @@ one_step s t u words (leave k) (set o h e) = absurd (no_target_set o words e k)
 one_step s t u words (leave k) (leave j) = refl
 one_step s t u words further further = refl
 
-pub one_stage : (lines : List Words) (s t u : Stage) → Reaches s lines t → Reaches s lines u → t ≡ u
+pub one_stage : (lines : List Words) (s t u : Stage) → ReachesStage s lines t → ReachesStage s lines u → t ≡ u
 one_stage [] s t u stay stay = refl
 one_stage (words ∷ lines) s t u (go {t = a} h j) (go {t = b} k l) =
-    one_stage lines b t u (subst (λ x. Reaches x lines t) (one_step s a b words h k) j) l
+    one_stage lines b t u (subst (λ x. ReachesStage x lines t) (one_step s a b words h k) j) l
 
-pub split : (front behind : List Words) (s u : Stage) → Reaches s (front ++ behind) u
-    → (t : Stage) × Reaches s front t × Reaches t behind u
+pub split : (front behind : List Words) (s u : Stage) → ReachesStage s (front ++ behind) u
+    → (t : Stage) × ReachesStage s front t × ReachesStage t behind u
 split [] behind s u h = (s, stay, h)
 split (words ∷ front) behind s u (go {t = a} h j) =
     let rest = split front behind a u j in
     (rest.0, go h rest.1, rest.2)
 
-pub join : (front behind : List Words) (s t u : Stage) → Reaches s front t → Reaches t behind u → Reaches s (front ++ behind) u
+pub join : (front behind : List Words) (s t u : Stage) → ReachesStage s front t → ReachesStage t behind u → ReachesStage s (front ++ behind) u
 join [] behind s t u stay k = k
 join (words ∷ front) behind s t u (go {t = a} h j) k = go h (join front behind a t u j k)
 
-pub stays_over : (lines : List Words) (u : Stage) → Reaches over lines u → u ≡ over
+pub stays_over : (lines : List Words) (u : Stage) → ReachesStage over lines u → u ≡ over
 stays_over [] u stay = refl
 stays_over (words ∷ lines) u (go further j) = stays_over lines u j
 
@@ -70,7 +70,7 @@ stays_over (words ∷ lines) u (go further j) = stays_over lines u j
 never_start : (s : Stage) (words : Words) → Step s words start → ⊥
 never_start s words h = elim h [ ]
 
-pub nothing_before : (lines : List Words) (s : Stage) → Reaches s lines start → (lines ≡ []) × (s ≡ start)
+pub nothing_before : (lines : List Words) (s : Stage) → ReachesStage s lines start → (lines ≡ []) × (s ≡ start)
 nothing_before [] s stay = (refl, refl)
 nothing_before (words ∷ lines) s (go {t = a} h j) =
     let rest = nothing_before lines a j in

@@ -20,7 +20,7 @@ use Rattle.launch_graph.specs.declared.row_lines.RowLine.{RowLine}
 use Rattle.launch_graph.specs.LineFormats.{words_between, GoesOn}
 use Rattle.launch_graph.specs.GraphLines.{GraphLines, AreGraphLines, graph_lines, said, said_row, rows_words, entry_words, in_words, pool_words, guard_words, guard_lines, set_words}
 use Rattle.launch_graph.specs.GraphTexts.{IsGraphText, IsGraphAt, EndsGraph, IsNoTarget, IsClassLine}
-use Rattle.launch_graph.specs.GraphStages.{RowFits, Stage, start, over, Step, Reaches, leave_pool, leave}
+use Rattle.launch_graph.specs.GraphStages.{RowFits, Stage, start, over, Step, ReachesStage, leave_pool, leave}
 use Rattle.launch_graph.specs.RowLines.{IsRowLine, row_words}
 use Rattle.launch_graph.specs.RowFaults.{IsWrongClass}
 use Rattle.launch_graph.specs.LineFaults.{bad_line, missing, bad_row, bad_class, wrong_class}
@@ -185,10 +185,10 @@ module _ (lines : List Line) (from next : ℕ) (g : LaunchGraph) (h : IsGraphAt 
       each_of (take count (drop (from + 1) lines)) said_rows h.are.rows
       (ap (λ k. words_of_lines (take k (drop (from + 1) lines))) (sym n) ∙ row_lines)
 
-  pub run : (u : Stage) × Reaches start (words_between lines from next) u × IsEnd u
+  pub run : (u : Stage) × ReachesStage start (words_between lines from next) u × IsEnd u
   run =
       let r = graph_run (said g) h.are in
-      (r.0, subst (λ ws. Reaches start ws r.0) (sym h.is) r.1, r.2)
+      (r.0, subst (λ ws. ReachesStage start ws r.0) (sym h.is) r.1, r.2)
 
   tail_good : (j : ℕ) → from + 1 + count ≤ j → j < next → GoodWords (length g.rows) said_rows (line_at lines j).words
   tail_good j low high =
@@ -249,11 +249,11 @@ module _ (lines : List Line) (from next : ℕ) (g : LaunchGraph) (h : IsGraphAt 
     pub no_fault_whole : (other : ℕ) (kind : Kind) → GraphFault lines from other kind → ⊥
     no_fault_whole other kind f = behind other kind f (no_fault names lines from count said_rows said_rows next run.0 clean_whole other kind f)
       where
-        run_to : (c : ℕ) → next ≤ c → (u : Stage) × Reaches start (words_between lines from c) u × IsDone u
+        run_to : (c : ℕ) → next ≤ c → (u : Stage) × ReachesStage start (words_between lines from c) u × IsDone u
         run_to c le =
             let e = ends_from run.0 (words_between lines next c) run.2 (front_ends c le) in (
               e.0,
-              subst (λ ws. Reaches start ws e.0) (sym (between_split lines from next c h.order le)) (join (words_between lines from next) (words_between lines next c) start run.0 e.0 run.1 e.1),
+              subst (λ ws. ReachesStage start ws e.0) (sym (between_split lines from next c h.order le)) (join (words_between lines from next) (words_between lines next c) start run.0 e.0 run.1 e.1),
               e.2,
             )
 
@@ -265,7 +265,7 @@ module _ (lines : List Line) (from next : ℕ) (g : LaunchGraph) (h : IsGraphAt 
             let t = step_at lines from next s.0 h.order (omega arith) s.1 in
             let here : Step run.0 (line_at lines next).words s.0 = subst (λ x. Step x (line_at lines next).words s.0) (one_stage (words_between lines from next) start t.0 run.0 t.1 run.1) t.2 in
             let gone : s.0 ≡ over = one_step run.0 s.0 over (line_at lines next).words here (away run.0 (line_at lines next).words run.2 (first_target (omega arith))) in
-            p.2 (stays_over (words_between lines (next + 1) c) p.0 (subst (λ x. Reaches x (words_between lines (next + 1) c) p.0) gone s.2))
+            p.2 (stays_over (words_between lines (next + 1) c) p.0 (subst (λ x. ReachesStage x (words_between lines (next + 1) c) p.0) gone s.2))
           where
             away : (s : Stage) (words : Words) → IsEnd s → IsNoTarget words → Step s words over
             away s words no_guard h = leave_pool h

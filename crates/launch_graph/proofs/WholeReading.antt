@@ -17,7 +17,7 @@ use Rattle.launch_graph.specs.declared.graphs.SetClass.{SetClass}
 use Rattle.launch_graph.specs.declared.graphs.LaunchGraph.{LaunchGraph}
 use Rattle.launch_graph.specs.declared.row_lines.RowLine.{RowLine}
 use Rattle.launch_graph.specs.declared.rows_reading.RowsSoFar.{RowsSoFar}
-use Rattle.launch_graph.specs.BehindRows.{IsRight, IsBehind, IsReadBehind}
+use Rattle.launch_graph.specs.BehindRows.{IsRight, IsCleanBehindRows, IsReadBehind}
 use Rattle.launch_graph.specs.ClassMarks.{AreMarks, HasMarks}
 use Rattle.launch_graph.specs.CleanLines.{EachRow, no_rows, row, IsGoodRow, IsClean}
 use Rattle.launch_graph.specs.GraphLines.{said_row, said, graph_lines, AreGraphLines, rows_words}
@@ -82,7 +82,7 @@ module _ (names : (o p : WordOp) → name_of o ≡ name_of p → o ≡ p) (lines
   pub all_count : (before : List RowLine) → AreRowsTo lines from all before marks at so → length before ≡ length marks → length all ≡ length marks
   all_count before a full = ap length (sym (rows_end names lines from all before marks at so a full)) ∙ full
 
-  pub begins_behind : AreRowsTo lines from all all marks at so → length all ≡ length marks → IsBehind lines from all marks at (rows 0)
+  pub begins_behind : AreRowsTo lines from all all marks at so → length all ≡ length marks → IsCleanBehindRows lines from all marks at (rows 0)
   begins_behind a full =
       record {
         clean = subst (λ n. IsClean lines from (length marks) all all at (rows n)) (omega (arith, full)) a.clean;
@@ -231,9 +231,9 @@ module _ (names : (o p : WordOp) → name_of o ≡ name_of p → o ≡ p) (lines
   pub behind_within : from + 1 + count ≤ length lines
   behind_within = subst (λ n. n ≤ length lines) at_is rows_here.clean.within
 
-  pub behind_here : IsBehind lines from m.rows marks (from + 1 + count) (rows 0)
+  pub behind_here : IsCleanBehindRows lines from m.rows marks (from + 1 + count) (rows 0)
   behind_here =
-      subst (λ n. IsBehind lines from m.rows marks n (rows 0)) at_is
+      subst (λ n. IsCleanBehindRows lines from m.rows marks n (rows 0)) at_is
       (begins_behind names lines from m.rows marks at so rows_here full_here)
 
   pub graph_here : (behind : BehindRows) (next : ℕ) → IsReadBehind lines marks (from + 1 + count) next behind

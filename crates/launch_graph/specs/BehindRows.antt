@@ -5,7 +5,7 @@ use Rattle.word_ops.specs.declared.sorts.Sort.{Sort}
 use Rattle.word_ops.specs.declared.sorts.Sort.TheVariants as sorts
 use Rattle.text_core.specs.Faults.{IsFaultBy}
 use Rattle.text_core.specs.Lines.{Line, line_at, line_word}
-use Rattle.text_core.specs.LineTexts.{Words}
+use Rattle.text_core.specs.LineTexts.{Words, SaysNone}
 use Rattle.text_core.specs.declared.faults.TextFault.{TextFault}
 use Rattle.launch_graph.specs.declared.behind_rows.BehindRows.{BehindRows}
 use Rattle.launch_graph.specs.declared.class_marks.Mark.{Mark}
@@ -21,7 +21,7 @@ use Rattle.launch_graph.specs.GraphStages as stages
 use Rattle.launch_graph.specs.GraphTexts.{EndsGraph}
 use Rattle.launch_graph.specs.LineFaults.{IsFirstGraphFault}
 use Rattle.launch_graph.specs.LineFormats.{words_between, words_from}
-use Rattle.launch_graph.specs.LineReading.{IsEntry, IsInput, IsPool, IsGuard, IsSet, IsNone}
+use Rattle.launch_graph.specs.LineReading.{IsEntryLine, IsInputLine, IsPoolLine, IsGuardLine, IsSetLine}
 use Rattle.launch_graph.specs.RowFaults.{IsWrongClass}
 use Rattle.launch_graph.specs.WellFormed.{set_sort}
 
@@ -31,7 +31,7 @@ IsRight marks sort class =
     (all : List RowLine) → AreMarks (length marks) all marks → IsWrongClass (length marks) all sort class → ⊥
 
 -- Up to a line a graph has no fault, all its rows are read, and its lines have come to this stage.
-pub record IsBehind (lines : List Line) (from : ℕ) (all : List RowLine) (marks : List Mark) (at : ℕ) (stage : Stage)
+pub record IsCleanBehindRows (lines : List Line) (from : ℕ) (all : List RowLine) (marks : List Mark) (at : ℕ) (stage : Stage)
     : Type 0 where
   pub clean : IsClean lines from (length marks) all all at stage
   pub full : length all ≡ length marks
@@ -40,36 +40,36 @@ pub record IsBehind (lines : List Line) (from : ℕ) (all : List RowLine) (marks
 -- Wherever a graph began whose lines have come to this stage at this line, the fault is its first.
 abbrev pub IsFaultBehind : List Line → List Mark → ℕ → Stage → TextFault → Type 0
 IsFaultBehind lines marks at stage fault =
-    (from : ℕ) (all : List RowLine) → IsBehind lines from all marks at stage
+    (from : ℕ) (all : List RowLine) → IsCleanBehindRows lines from all marks at stage
     → IsFaultBy (IsFirstGraphFault lines from) fault
 
 -- ---- one line
 
 pub record IsEntryAt (lines : List Line) (marks : List Mark) (at class : ℕ) : Type 0 where
   pub within : at < length lines
-  pub is : IsEntry (line_at lines at).words class
+  pub is : IsEntryLine (line_at lines at).words class
   pub right : IsRight marks sorts.Memory class
 
 pub record IsInputAt (lines : List Line) (marks : List Mark) (at : ℕ) (i : InputClass) : Type 0 where
-  pub is : IsInput (line_at lines at).words i
+  pub is : IsInputLine (line_at lines at).words i
   pub right : IsRight marks sorts.Word i.class
 
 pub record IsPoolAt (lines : List Line) (at : ℕ) (pool : List ℕ) : Type 0 where
   pub within : at < length lines
-  pub is : IsPool (line_at lines at).words pool
+  pub is : IsPoolLine (line_at lines at).words pool
 
 pub record IsGuardAt (lines : List Line) (marks : List Mark) (at : ℕ) (o : Guard) : Type 0 where
   pub within : at < length lines
-  pub is : IsGuard (line_at lines at).words o
+  pub is : IsGuardLine (line_at lines at).words o
   pub right : IsRight marks sorts.Word o.class
 
 pub record IsSetAt (lines : List Line) (marks : List Mark) (at : ℕ) (s : SetClass) : Type 0 where
-  pub is : IsSet (line_at lines at).words s
+  pub is : IsSetLine (line_at lines at).words s
   pub right : IsRight marks (set_sort s.name) s.class
 
 -- a line, if there is one, is no input's, or doesn't begin as that of a guard
 abbrev pub HasNoInput : List Line → ℕ → Type 0
-HasNoInput lines at = at < length lines → IsNone IsInput (line_at lines at).words
+HasNoInput lines at = at < length lines → SaysNone IsInputLine (line_at lines at).words
 
 abbrev pub HasNoGuard : List Line → ℕ → Type 0
 HasNoGuard lines at = at < length lines → line_word lines at 0 ≢ codes "guard"
@@ -88,14 +88,14 @@ pub record AreInputsAt (lines : List Line) (marks : List Mark) (first next : ℕ
   pub words : words_between lines first next ≡ map in_words inputs
   pub fit : All InputFits inputs
   pub right : All (λ (i : InputClass). IsRight marks sorts.Word i.class) inputs
-  pub behind : (from : ℕ) (all : List RowLine) → IsBehind lines from all marks first stages.inputs
-      → IsBehind lines from all marks next stages.inputs
+  pub behind : (from : ℕ) (all : List RowLine) → IsCleanBehindRows lines from all marks first stages.inputs
+      → IsCleanBehindRows lines from all marks next stages.inputs
 
 -- a graph has come to a line where a target may stand
 pub record CanTakeSets (lines : List Line) (from : ℕ) (all : List RowLine) (marks : List Mark) (at : ℕ) : Type 0 where
   pub stage : Stage
   pub takes : TakesSets lines at stage
-  pub behind : IsBehind lines from all marks at stage
+  pub behind : IsCleanBehindRows lines from all marks at stage
 
 pub record AreSetsAt (lines : List Line) (marks : List Mark) (first next : ℕ) (sets : List SetClass) : Type 0 where
   pub order : first ≤ next
@@ -109,9 +109,9 @@ pub record AreSetsAt (lines : List Line) (marks : List Mark) (first next : ℕ) 
 -- ---- all of them
 
 -- the line behind that of the guard, where there is one
-abbrev pub after_guard : Option Guard → ℕ → ℕ
-after_guard None line = line
-after_guard (Some o) line = line + 1
+abbrev pub line_after_guard : Option Guard → ℕ → ℕ
+line_after_guard None line = line
+line_after_guard (Some o) line = line + 1
 
 abbrev pub behind_words : BehindRows → List Words
 behind_words b =

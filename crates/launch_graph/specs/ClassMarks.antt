@@ -5,7 +5,7 @@ use Rattle.word_ops.specs.declared.sorts.Sort.{Sort}
 use Rattle.launch_graph.specs.declared.row_lines.RowLine.{RowLine}
 use Rattle.launch_graph.specs.declared.class_marks.Mark.{Mark}
 use Rattle.launch_graph.specs.declared.class_marks.Mark.TheVariants.{Absent, Unsorted, Sorted}
-use Rattle.launch_graph.specs.RowFaults.{HasClass, class_sort, sort_taken, IsWrongClass}
+use Rattle.launch_graph.specs.RowFaults.{HasRowOfClass, class_sort, sort_taken, IsWrongClass}
 use Rattle.launch_graph.specs.LineFaults.{AreRowLines}
 
 -- the lines have these rows and no others
@@ -15,9 +15,9 @@ pub record OnlyRows (lines : List Line) (rows : List RowLine) : Type 0 where
 
 -- what is known of a class among these rows
 pub data IsMark (rows : List RowLine) (class : ℕ) : Mark → Type 0 where
-  absent : (HasClass rows class → ⊥) → class_sort rows class ≡ None → IsMark rows class Absent
-  unsorted : HasClass rows class → class_sort rows class ≡ None → IsMark rows class Unsorted
-  sorted : {sort : Sort} → HasClass rows class → class_sort rows class ≡ Some sort → IsMark rows class (Sorted sort)
+  absent : (HasRowOfClass rows class → ⊥) → class_sort rows class ≡ None → IsMark rows class Absent
+  unsorted : HasRowOfClass rows class → class_sort rows class ≡ None → IsMark rows class Unsorted
+  sorted : {sort : Sort} → HasRowOfClass rows class → class_sort rows class ≡ Some sort → IsMark rows class (Sorted sort)
 
 -- what is known of a class once one more row of it is seen
 abbrev pub after : Mark → Option Sort → Mark

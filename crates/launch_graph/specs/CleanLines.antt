@@ -7,7 +7,7 @@ use Rattle.launch_graph.specs.LineFormats.{words_between}
 use Rattle.launch_graph.specs.LineFaults.{AreRowLines}
 use Rattle.launch_graph.specs.GraphLines.{rows_words}
 use Rattle.launch_graph.specs.GraphTexts.{IsClassLine}
-use Rattle.launch_graph.specs.GraphStages.{Stage, start, Reaches}
+use Rattle.launch_graph.specs.GraphStages.{Stage, start, ReachesStage}
 use Rattle.launch_graph.specs.RowFaults.{IsBadRow, IsBadClass, IsWrongClass}
 use Rattle.launch_graph.specs.RowLines.{IsRowLine}
 
@@ -36,7 +36,7 @@ pub record IsClean (lines : List Line) (from count : ℕ) (all before : List Row
   pub each : EachRow (take (length before) (drop (from + 1) lines)) before
   pub all_are : AreRowLines (take count (drop (from + 1) lines)) all
   pub good : (i : ℕ) (d : RowLine) → i < length before → IsGoodRow count all (take i before) (get_or before i d)
-  pub reaches : Reaches start (words_between lines from at) s
+  pub reaches : ReachesStage start (words_between lines from at) s
   pub order : from + 1 + length before ≤ at
   pub within : at ≤ length lines
   pub most : length before ≤ count

@@ -47,7 +47,7 @@ pub data Step : Stage → Words → Stage → Type 0 where
   leave : {words : Words} → IsNoTarget words → Step sets words over
   further : {words : Words} → Step over words over
 
-pub data Reaches : Stage → List Words → Stage → Type 0 where
-  stay : {s : Stage} → Reaches s [] s
-  go : {s t u : Stage} {words : Words} {lines : List Words} → Step s words t → Reaches t lines u
-      → Reaches s (words ∷ lines) u
+pub data ReachesStage : Stage → List Words → Stage → Type 0 where
+  stay : {s : Stage} → ReachesStage s [] s
+  go : {s t u : Stage} {words : Words} {lines : List Words} → Step s words t → ReachesStage t lines u
+      → ReachesStage s (words ∷ lines) u

@@ -1,7 +1,7 @@
 -- Launch graphs: constants, the memory target, registers, and values under which every row is true.
 -- Source: Denali (PLDI 2002), E-graphs and "goal terms"; how registers are given is this project's.
-use Rattle.std.specs.Prelude.{◌≡◌, ◌≢◌, ℕ, ◌<◌, List, [], ◌∷◌, ◌++◌, map, Option, Some, None, option_map, find, ◌==◌, All, AllPairs, if◌then◌else◌, codes, Bool, bytes_eq, slice_index}
-use Rattle.std.specs.Option.{option_map_or}
+use Rattle.std.specs.Prelude.{◌≡◌, ◌≢◌, ℕ, ◌<◌, List, [], ◌∷◌, ◌++◌, map, Option, None, option_map, find, ◌==◌, All, AllPairs, if◌then◌else◌, codes, Bool, false, bytes_eq, slice_index}
+use Rattle.std.specs.Option.{option_map_or, option_or}
 use Rattle.word_ops.specs.Worlds.{Value, word, memory, World, IsValue}
 use Rattle.word_ops.specs.Meanings.{meaning, sort_of, constant_in}
 use Rattle.word_ops.specs.declared.sorts.Op.{Op}
@@ -12,18 +12,18 @@ use Rattle.launch_graph.specs.declared.graphs.LaunchGraph.{LaunchGraph}
 abbrev pub plain_row : ℕ → Op → List ℕ → LaunchRow
 plain_row class o operands = record { class = class; op = o; name = []; operands = operands }
 
-abbrev pub or_else : Option ℕ → Option ℕ → Option ℕ
-or_else (Some n) _ = Some n
-or_else None other = other
-
 -- the constant of a class: that of its first row that is one
 abbrev pub constant_among : List LaunchRow → ℕ → Option ℕ
 constant_among [] class = None
 constant_among (r ∷ rows) class =
-    if r.class == class then or_else (constant_in r.op) (constant_among rows class) else constant_among rows class
+    if r.class == class then option_or (constant_in r.op) (constant_among rows class) else constant_among rows class
 
 abbrev pub constant_of : LaunchGraph → ℕ → Option ℕ
 constant_of g class = constant_among g.rows class
+
+-- the class has the constant 0
+abbrev pub is_zero_class : LaunchGraph → ℕ → Bool
+is_zero_class g class = option_map_or (λ n. n == 0) (constant_of g class) false
 
 abbrev pub is_memory_name : List ℕ → Bool
 is_memory_name name = bytes_eq name (codes "M")

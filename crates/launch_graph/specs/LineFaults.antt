@@ -2,12 +2,12 @@
 -- Source: this project.
 use Rattle.std.specs.Prelude.{ℕ, ◌≡◌, ◌⊎◌, ◌+◌, ◌<◌, ◌≤◌, List, [], ◌∷◌, length, take, drop, codes, decimal}
 use Rattle.word_ops.specs.declared.sorts.Sort.{Sort}
-use Rattle.text_core.specs.Lines.{Line, line_at}
+use Rattle.text_core.specs.Lines.{Line, line_at, BeginsAt}
 use Rattle.text_core.specs.declared.faults.Kind.{Kind}
 use Rattle.text_core.specs.declared.faults.Kind.TheVariants.{BadLine, BadRow, BadClass}
 use Rattle.launch_graph.specs.declared.row_lines.RowLine.{RowLine}
 use Rattle.text_core.specs.LineTexts.{Words}
-use Rattle.launch_graph.specs.LineFormats.{GoesOn, words_between, BeginsAt}
+use Rattle.launch_graph.specs.LineFormats.{GoesOn, words_between}
 use Rattle.launch_graph.specs.RowLines.{IsRowLine}
 use Rattle.launch_graph.specs.RowFaults.{IsBadRow, IsBadClass, IsWrongClass}
 use Rattle.launch_graph.specs.GraphTexts.{IsClassLine, BeginsWithGraph, IsGraphText}

@@ -1,7 +1,7 @@
--- Formats of lines: which lines a format can go on behind, and where lines begin. Source: this project.
-use Rattle.std.specs.Prelude.{ℕ, ◌≡◌, ◌<◌, List, ◌++◌, length, drop}
+-- Formats of lines: which lines a format can go on behind. Source: this project.
+use Rattle.std.specs.Prelude.{ℕ, List, ◌++◌, drop}
 use Rattle.std.specs.List.{slice_range}
-use Rattle.text_core.specs.Lines.{Line, line_at, text_length}
+use Rattle.text_core.specs.Lines.{Line}
 use Rattle.text_core.specs.LineTexts.{Words, words_of_lines}
 
 -- the words of the lines from one number on and before another
@@ -16,8 +16,3 @@ words_from lines from = words_of_lines (drop from lines)
 pub record GoesOn (IsText : List Words → Type 0) (front : List Words) : Type 0 where
   pub behind : List Words
   pub whole : IsText (front ++ behind)
-
--- where a line begins, and where the text ends in place of a line past the last
-pub record BeginsAt (lines : List Line) (number place : ℕ) : Type 0 where
-  pub within : number < length lines → place ≡ (line_at lines number).place
-  pub past : number ≡ length lines → place ≡ text_length lines

@@ -1,5 +1,4 @@
--- The lines of a graph that are no rows: when a line is one of a kind, and when it is none of that kind. Source: this
--- project.
+-- The lines of a graph that are no rows: when a line is one of a kind. Source: this project.
 use Rattle.std.specs.Prelude.{ℕ, ◌≡◌, ◌≤◌, ◌<◌, ◌^◌, List, All}
 use Rattle.text_core.specs.LineTexts.{Words}
 use Rattle.launch_graph.specs.declared.graphs.InputClass.{InputClass}
@@ -8,30 +7,26 @@ use Rattle.launch_graph.specs.declared.graphs.SetClass.{SetClass}
 use Rattle.launch_graph.specs.GraphLines.{rows_words, entry_words, in_words, pool_words, guard_words, set_words}
 use Rattle.launch_graph.specs.GraphStages.{InputFits, SetFits, Low}
 
-pub record IsHeader (words : Words) (count : ℕ) : Type 0 where
+pub record IsHeaderLine (words : Words) (count : ℕ) : Type 0 where
   pub few : count ≤ 1000000
   pub is : words ≡ rows_words count
 
-pub record IsEntry (words : Words) (class : ℕ) : Type 0 where
+pub record IsEntryLine (words : Words) (class : ℕ) : Type 0 where
   pub small : class < 2 ^ 31
   pub is : words ≡ entry_words class
 
-pub record IsInput (words : Words) (i : InputClass) : Type 0 where
+pub record IsInputLine (words : Words) (i : InputClass) : Type 0 where
   pub fits : InputFits i
   pub is : words ≡ in_words i
 
-pub record IsPool (words : Words) (pool : List ℕ) : Type 0 where
+pub record IsPoolLine (words : Words) (pool : List ℕ) : Type 0 where
   pub low : All Low pool
   pub is : words ≡ pool_words pool
 
-pub record IsGuard (words : Words) (o : Guard) : Type 0 where
+pub record IsGuardLine (words : Words) (o : Guard) : Type 0 where
   pub small : o.class < 2 ^ 31
   pub is : words ≡ guard_words o
 
-pub record IsSet (words : Words) (s : SetClass) : Type 0 where
+pub record IsSetLine (words : Words) (s : SetClass) : Type 0 where
   pub fits : SetFits s
   pub is : words ≡ set_words s
-
--- no value of the kind has these words
-abbrev pub IsNone : {X : Type 0} → (Words → X → Type 0) → Words → Type 0
-IsNone {X} Is words = (x : X) → Is words x → ⊥

@@ -57,8 +57,8 @@ class_sort (row ∷ rows) class =
     then Some (sort_given row.op)
     else class_sort rows class
 
-abbrev pub HasClass : List RowLine → ℕ → Type 0
-HasClass rows class = Any (λ (r : RowLine). r.class ≡ class) rows
+abbrev pub HasRowOfClass : List RowLine → ℕ → Type 0
+HasRowOfClass rows class = Any (λ (r : RowLine). r.class ≡ class) rows
 
 -- the number that the next new class has behind these rows
 abbrev pub next_line_class : List RowLine → ℕ
@@ -73,7 +73,7 @@ line_constant _ = None
 -- another sort.
 pub data IsWrongClass (count : ℕ) (all : List RowLine) (wanted : Sort) (class : ℕ) : Type 0 where
   not_below : count ≤ class → IsWrongClass count all wanted class
-  no_row : (HasClass all class → ⊥) → IsWrongClass count all wanted class
+  no_row : (HasRowOfClass all class → ⊥) → IsWrongClass count all wanted class
   other_sort : {sort : Sort} → class_sort all class ≡ Some sort → sort ≢ wanted → IsWrongClass count all wanted class
 
 -- A row with a wrong class, behind `before` and among `all`; an operand may be the class of a later row.
@@ -83,4 +83,4 @@ pub data IsBadClass (count : ℕ) (all before : List RowLine) (row : RowLine) : 
   own : IsWrongClass count all (sort_given row.op) row.class → IsBadClass count all before row
   second_constant : {other : RowLine} {m n : ℕ} → Contains before other → other.class ≡ row.class
       → line_constant other.op ≡ Some m → line_constant row.op ≡ Some n → m ≢ n → IsBadClass count all before row
-  not_next : (HasClass before row.class → ⊥) → row.class ≢ next_line_class before → IsBadClass count all before row
+  not_next : (HasRowOfClass before row.class → ⊥) → row.class ≢ next_line_class before → IsBadClass count all before row

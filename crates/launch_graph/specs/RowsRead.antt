@@ -1,6 +1,6 @@
 -- The rows of a graph that are read so far, and where a fault of its lines stands. Source: this project.
 use Rattle.std.specs.Prelude.{ℕ, ◌≡◌, ◌+◌, ◌-◌, ◌<◌, ◌≤◌, List, [], length, take, drop}
-use Rattle.text_core.specs.Lines.{Line, line_at}
+use Rattle.text_core.specs.Lines.{Line, line_at, BeginsAt}
 use Rattle.text_core.specs.declared.faults.Kind.{Kind}
 use Rattle.text_core.specs.declared.faults.TextFault.{TextFault}
 use Rattle.text_core.specs.declared.faults.TextFault.TheVariants as faults
@@ -14,7 +14,6 @@ use Rattle.launch_graph.specs.CleanLines.{IsClean}
 use Rattle.launch_graph.specs.GraphStages.{rows}
 use Rattle.launch_graph.specs.GraphLines.{rows_words}
 use Rattle.launch_graph.specs.LineFaults.{AreRowLines}
-use Rattle.launch_graph.specs.LineFormats.{BeginsAt}
 use Rattle.launch_graph.specs.Numbering.{AreNumbered}
 use Rattle.launch_graph.specs.SeenRows.{IsSeen}
 
@@ -25,10 +24,10 @@ pub record IsFaultOfLine (lines : List Line) (at : ℕ) (kind : Kind) (fault : T
   pub placed : BeginsAt lines at place
 
 -- the name of the operator of a row, and nothing where it is no declared one
-abbrev pub name_in : LineOp → List ℕ
-name_in (Plain op) = []
-name_in (Use name) = name
-name_in (Unknown word) = word
+abbrev pub line_op_name : LineOp → List ℕ
+line_op_name (Plain op) = []
+line_op_name (Use name) = name
+line_op_name (Unknown word) = word
 
 -- up to a line, the rows of a block are read, and nothing is wrong
 pub record AreRowsTo (lines : List Line) (from : ℕ) (all before : List RowLine) (marks : List Mark) (at : ℕ)

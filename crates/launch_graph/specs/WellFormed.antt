@@ -25,9 +25,9 @@ declared_index (Declared index arity) = Some index
 declared_index _ = None
 
 -- the register of an input
-abbrev pub input_in : Op → Option ℕ
-input_in (Input register) = Some register
-input_in _ = None
+abbrev pub register_of_input : Op → Option ℕ
+register_of_input (Input register) = Some register
+register_of_input _ = None
 
 abbrev pub next_after : Option ℕ → ℕ
 next_after None = 0
@@ -65,7 +65,7 @@ pub record IsLaunchGraph (g : LaunchGraph) : Type 0 where
   pub constants : (r s : LaunchRow) (i j m n : ℕ) → AreRows g r s i j → r.class ≡ s.class
       → constant_in r.op ≡ Some m → constant_in s.op ≡ Some n → m ≡ n
   pub words : (r : LaunchRow) (i m : ℕ) → slice_get g.rows i ≡ Some r → constant_in r.op ≡ Some m → IsWord m
-  pub registers : (r : LaunchRow) (i n : ℕ) → slice_get g.rows i ≡ Some r → input_in r.op ≡ Some n → n < 31
+  pub registers : (r : LaunchRow) (i n : ℕ) → slice_get g.rows i ≡ Some r → register_of_input r.op ≡ Some n → n < 31
   pub operands : All (TakesItsSorts g) g.rows
   -- declared operators are numbered by their first rows, at most 16, and number, name and arity go together
   pub indexes : (i n : ℕ) (r : LaunchRow) → slice_get g.rows i ≡ Some r → declared_index r.op ≡ Some n

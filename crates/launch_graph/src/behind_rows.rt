@@ -134,7 +134,7 @@ fn read_guard(text: &TextLines<'_>, marks: &[Mark], line: u32) -> Result<Option<
 /// The line behind that of the guard, or the same line where there is no guard.
 fn behind_guard(guard: &Option<Guard>, line: u32) -> u32
     requires { line < 2 ^ 30 }
-    ensures { result ≡ behind.after_guard guard.now line }
+    ensures { result ≡ behind.line_after_guard guard.now line }
 {
     match guard {
         Some(_) => line + 1,

@@ -2,7 +2,8 @@
 ghost use Rattle.std.specs.Prelude.{◌≡◌, ◌≢◌, ◌<◌, ◌^◌, [], length, codes, IfOk, MatchOption, IsTrue, ◌↔◌};
 ghost use Rattle.text_core.specs.Lines.{line_at, line_word};
 ghost use Rattle.launch_graph.specs.GraphLines.{held_word};
-ghost use Rattle.launch_graph.specs.LineReading.{IsHeader, IsEntry, IsInput, IsPool, IsGuard, IsSet, IsNone};
+ghost use Rattle.text_core.specs.LineTexts.{SaysNone};
+ghost use Rattle.launch_graph.specs.LineReading.{IsHeaderLine, IsEntryLine, IsInputLine, IsPoolLine, IsGuardLine, IsSetLine};
 
 use crate::graphs::{Guard, InputClass, SetClass};
 use crate::row_reading::{below, same};
@@ -33,8 +34,8 @@ fn has_form(text: &TextLines<'_>, line: u32, first: &[u8], count: u32) -> bool
 /// The number of rows that a header tells.
 pub(crate) fn header_line(text: &TextLines<'_>, line: u32) -> Option<u32>
     requires { line < length text.now }
-    ensures { MatchOption result (IsNone IsHeader (line_at text.now line).words)
-        (IsHeader (line_at text.now line).words) }
+    ensures { MatchOption result (SaysNone IsHeaderLine (line_at text.now line).words)
+        (IsHeaderLine (line_at text.now line).words) }
 {
     if !has_form(text, line, b"rows", 2) {
         return None;
@@ -45,8 +46,8 @@ pub(crate) fn header_line(text: &TextLines<'_>, line: u32) -> Option<u32>
 /// The class of the memory at entry.
 pub(crate) fn entry_line(text: &TextLines<'_>, line: u32) -> Option<u32>
     requires { line < length text.now }
-    ensures { MatchOption result (IsNone IsEntry (line_at text.now line).words)
-        (IsEntry (line_at text.now line).words) }
+    ensures { MatchOption result (SaysNone IsEntryLine (line_at text.now line).words)
+        (IsEntryLine (line_at text.now line).words) }
 {
     if !has_form(text, line, b"entry", 2) {
         return None;
@@ -61,8 +62,8 @@ pub(crate) fn input_line(
     line: u32,
 ) -> Result<Option<InputClass>, NoMemory>
     requires { line < length text.now }
-    ensures { IfOk result (λ found. MatchOption found (IsNone IsInput (line_at text.now line).words)
-        (IsInput (line_at text.now line).words)) }
+    ensures { IfOk result (λ found. MatchOption found (SaysNone IsInputLine (line_at text.now line).words)
+        (IsInputLine (line_at text.now line).words)) }
 {
     if !has_form(text, line, b"in", 4) {
         return Ok(None);
@@ -91,8 +92,8 @@ pub(crate) fn pool_line(
     line: u32,
 ) -> Result<Option<Items<u8>>, NoMemory>
     requires { line < length text.now }
-    ensures { IfOk result (λ found. MatchOption found (IsNone IsPool (line_at text.now line).words)
-        (IsPool (line_at text.now line).words)) }
+    ensures { IfOk result (λ found. MatchOption found (SaysNone IsPoolLine (line_at text.now line).words)
+        (IsPoolLine (line_at text.now line).words)) }
 {
     if !begins_with(text, line, b"pool") {
         return Ok(None);
@@ -124,8 +125,8 @@ fn is_held(word: &[u8]) -> Option<bool>
 /// The guard of a line.
 pub(crate) fn guard_line(text: &TextLines<'_>, line: u32) -> Option<Guard>
     requires { line < length text.now }
-    ensures { MatchOption result (IsNone IsGuard (line_at text.now line).words)
-        (IsGuard (line_at text.now line).words) }
+    ensures { MatchOption result (SaysNone IsGuardLine (line_at text.now line).words)
+        (IsGuardLine (line_at text.now line).words) }
 {
     if !has_form(text, line, b"guard", 3) {
         return None;
@@ -146,8 +147,8 @@ pub(crate) fn set_line(
     line: u32,
 ) -> Result<Option<SetClass>, NoMemory>
     requires { line < length text.now }
-    ensures { IfOk result (λ found. MatchOption found (IsNone IsSet (line_at text.now line).words)
-        (IsSet (line_at text.now line).words)) }
+    ensures { IfOk result (λ found. MatchOption found (SaysNone IsSetLine (line_at text.now line).words)
+        (IsSetLine (line_at text.now line).words)) }
 {
     if !has_form(text, line, b"set", 3) {
         return Ok(None);

@@ -2,7 +2,7 @@
 ghost use Rattle.std.specs.Prelude.{◌≡◌, ◌≤◌, ◌<◌, ◌+◌, ◌++◌, ◌∷◌, [], ℕ, None, get_or, List, length, IfOk, IfErr, OnOk};
 ghost use Rattle.text_core.specs.Faults.{IsFaultBy};
 ghost use Rattle.launch_graph.specs.LineFaults.{IsFirstGraphFault};
-ghost use Rattle.launch_graph.specs.RowsRead.{IsBlockFrom, AreRowsTo, HasRead, name_in};
+ghost use Rattle.launch_graph.specs.RowsRead.{IsBlockFrom, AreRowsTo, HasRead, line_op_name};
 ghost use Rattle.launch_graph.specs.declared.row_lines.RowLine.{RowLine as Row};
 
 use crate::class_marks::Mark;
@@ -31,7 +31,7 @@ pub struct RowsSoFar {
 
 /// The name of a row's operator, which is empty where it is no declared one.
 fn name_of_op(alloc: Global, op: LineOp) -> Result<Name, NoMemory>
-    ensures { IfOk result (λ name. name ≡ name_in op) }
+    ensures { IfOk result (λ name. name ≡ line_op_name op) }
 {
     match op {
         LineOp::Plain(_) => Name::new(alloc, b""),
@@ -44,7 +44,7 @@ fn name_of_op(alloc: Global, op: LineOp) -> Result<Name, NoMemory>
 fn launch_row(alloc: Global, row: RowLine, op: Op) -> Result<LaunchRow, NoMemory>
     ensures class { IfOk result (λ made. made.class ≡ row.class) }
     ensures op { IfOk result (λ made. made.op ≡ op) }
-    ensures name { IfOk result (λ made. made.name ≡ name_in row.op) }
+    ensures name { IfOk result (λ made. made.name ≡ line_op_name row.op) }
     ensures operands { IfOk result (λ made. made.operands ≡ row.operands) }
 {
     Ok(LaunchRow {

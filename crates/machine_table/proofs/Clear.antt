@@ -10,7 +10,7 @@ use Rattle.std.proofs.lemmas.List.Sorted.{All-permutation, IsPermutation-sym}
 use Rattle.std.proofs.lemmas.List.Folds.{list_any-append}
 use Rattle.std.proofs.lemmas.Slice.Eq.{bytes_eq-Decides}
 use Rattle.forms.proofs.First.{no_fault}
-use Rattle.forms.specs.Forms.{Form, list, atom, name, parts_of, forms_from, number_in, is_list}
+use Rattle.forms.specs.Forms.{Form, list, atom, name, parts_of, forms_from, number_in, is_list, names_in}
 use Rattle.forms.specs.Printing as plain
 use Rattle.machine_table.proofs.Leaves.{same_some, no_both, slot_name_clear, cluster_clear, delay_clear, latency_clear, used_clear, instr_clear}
 use Rattle.machine_table.proofs.Named.{found}
@@ -22,9 +22,10 @@ use Rattle.machine_table.proofs.TableForms.{append_both, joined, numbers_apart, 
 use Rattle.machine_table.proofs.UseLists.{names_both}
 use Rattle.machine_table.specs.Grammar.{WritesTable, Each, none, more_of, IsListOf, IsNumberOf, WritesSlot, IsSlotNamed, WritesUse, WritesOps}
 use Rattle.machine_table.specs.InstrOrder.{instr_name, kind_number}
-use Rattle.machine_table.specs.Reading.{AreNumbers, IsUseOf, IsClear, names_of, name_at, names_used, names_of_uses}
+use Rattle.machine_table.specs.Reading.{AreSlotNumbers, IsUseOf, IsClear, slot_names, name_at, slot_names_used, names_of_uses}
 use Rattle.machine_table.specs.Roles as roles
-use Rattle.machine_table.specs.Roles.{Role, IsOwn, part_role, is_among, names_in, named_in_all, slots_in, slots_of, first_name, has_head, other_keyword, too_few, no_list, none_used, no_slot, slot_again}
+use Rattle.text_core.specs.Names.{is_among}
+use Rattle.machine_table.specs.Roles.{Role, IsOwn, part_role, named_in_all, slots_in, slots_in_form, first_name, has_head, other_keyword, too_few, no_list, none_used, no_slot, slot_again}
 use Rattle.machine_table.specs.Tables.{IsUse}
 use Rattle.machine_table.specs.declared.tables.Slot.{Slot}
 use Rattle.machine_table.specs.declared.tables.Table.{Table}
@@ -98,7 +99,7 @@ module _ (before : List (List ℕ)) (form : Form) (slot : Slot) (w : WritesSlot 
   pub slot_clear : IsClear (roles.slot before) form
   slot_clear = all_parts (roles.slot before) form slot_own (λ j part other g r. slot_each j part other (ap (λ ps. slice_get ps j) (sym slot_parts) ∙ g) r)
 
-pub slot_at : (before : List (List ℕ)) (forms : List Form) (slots : List Slot) → Each WritesSlot forms slots → All (λ s. s.cluster ≤ 3) slots → FreshAll before (names_of slots)
+pub slot_at : (before : List (List ℕ)) (forms : List Form) (slots : List Slot) → Each WritesSlot forms slots → All (λ s. s.cluster ≤ 3) slots → FreshAll before (slot_names slots)
     → (i : ℕ) (part : Form) → slice_get forms i ≡ Some part → IsClear (roles.slot (before ++ slots_in (take i forms))) part
 slot_at before _ _ none low fresh i part g = cc
 slot_at before _ _ (more_of {form = form} {forms = forms} {y = slot} {ys = slots} w ws) low fresh zero part g =
@@ -112,13 +113,13 @@ slot_at before _ _ (more_of {form = form} {forms = forms} {y = slot} {ys = slots
     slots_first form slot w forms = ap (λ o. cons_option o (slots_in forms)) (first_named form slot w)
 
 -- ---- the slots that instructions may be launched in
-pub used_at : (slots : List Slot) (before : List (List ℕ)) (forms : List Form) (used : List ℕ) → Each (IsSlotNamed slots) forms used → FreshAll before (names_used slots used)
-    → (i : ℕ) (part : Form) → slice_get forms i ≡ Some part → IsClear (roles.used_slot (names_of slots) (before ++ names_in (take i forms))) part
+pub used_at : (slots : List Slot) (before : List (List ℕ)) (forms : List Form) (used : List ℕ) → Each (IsSlotNamed slots) forms used → FreshAll before (slot_names_used slots used)
+    → (i : ℕ) (part : Form) → slice_get forms i ≡ Some part → IsClear (roles.used_slot (slot_names slots) (before ++ names_in (take i forms))) part
 used_at slots before _ _ none fresh i part g = cc
 used_at slots before _ _ (more_of {form = form} {forms = forms} {y = at} {ys = used} w ws) fresh zero part g =
-    as_is (roles.used_slot (names_of slots) before) (roles.used_slot (names_of slots) (before ++ [])) (roles.used_slot (names_of slots) before) form part
-    (ap (λ b. Some (roles.used_slot (names_of slots) b)) (sym (append-nil before))) g refl
-    (used_clear form w.slot.name (name_of form w.slot.name w.named) (names_of slots) before (at_among slots at w.slot w.found)
+    as_is (roles.used_slot (slot_names slots) before) (roles.used_slot (slot_names slots) (before ++ [])) (roles.used_slot (slot_names slots) before) form part
+    (ap (λ b. Some (roles.used_slot (slot_names slots) b)) (sym (append-nil before))) g refl
+    (used_clear form w.slot.name (name_of form w.slot.name w.named) (slot_names slots) before (at_among slots at w.slot w.found)
     (ap (is_among before) (sym (name_at_is slots at w.slot w.found)) ∙ fresh.0))
 used_at slots before _ _ (more_of {form = form} {forms = forms} {y = at} {ys = used} w ws) fresh (suc i) part g =
     let n = name_at slots at in
@@ -126,27 +127,27 @@ used_at slots before _ _ (more_of {form = form} {forms = forms} {y = at} {ys = u
     let first : names_in (form ∷ take i forms) ≡ n ∷ names_in (take i forms) =
     ap (λ o. cons_option o (names_in (take i forms))) (name_of form w.slot.name w.named)
     ∙ ap (λ (m : List ℕ). m ∷ names_in (take i forms)) (sym (name_at_is slots at w.slot w.found)) in
-    subst (λ b. IsClear (roles.used_slot (names_of slots) b) part) (append_both before (n ∷ []) (names_in (take i forms)) ∙ ap (λ ns. before ++ ns) (sym first)) rest
+    subst (λ b. IsClear (roles.used_slot (slot_names slots) b) part) (append_both before (n ∷ []) (names_in (take i forms)) ∙ ap (λ ns. before ++ ns) (sym first)) rest
 
 module _ (slots : List Slot) (form : Form) (p : ℕ) (forms : List Form) (used : List ℕ) (is : form ≡ list p (forms_from forms)) (some : 0 < length forms)
-    (named : Each (IsSlotNamed slots) forms used) (fresh : FreshAll [] (names_used slots used)) where
+    (named : Each (IsSlotNamed slots) forms used) (fresh : FreshAll [] (slot_names_used slots used)) where
   used_parts : parts_of form ≡ forms
   used_parts = ap parts_of is ∙ list_from forms
 
-  used_own : (k : Kind) → IsOwn (roles.used_slots (names_of slots)) form k → ⊥
+  used_own : (k : Kind) → IsOwn (roles.used_slots (slot_names slots)) form k → ⊥
   used_own k (other_keyword i j) = cc
   used_own k (too_few l) = omega (arith, l)
   used_own k (no_list i) = no_both (is_list form) (ap is_list is) i
   used_own k (none_used i j) = let n = ap length used_parts in omega (arith, n, j, some)
 
-  used_each : (j : ℕ) (part : Form) (other : Role) → slice_get (parts_of form) j ≡ Some part → part_role (roles.used_slots (names_of slots)) form j ≡ Some other → IsClear other part
+  used_each : (j : ℕ) (part : Form) (other : Role) → slice_get (parts_of form) j ≡ Some part → part_role (roles.used_slots (slot_names slots)) form j ≡ Some other → IsClear other part
   used_each j part other g r =
-      as_is (roles.used_slot (names_of slots) (names_in (take j (parts_of form)))) other (roles.used_slot (names_of slots) (names_in (take j (parts_of form)))) part part r refl refl
-      (subst (λ fs. IsClear (roles.used_slot (names_of slots) (names_in (take j fs))) part) (sym used_parts)
+      as_is (roles.used_slot (slot_names slots) (names_in (take j (parts_of form)))) other (roles.used_slot (slot_names slots) (names_in (take j (parts_of form)))) part part r refl refl
+      (subst (λ fs. IsClear (roles.used_slot (slot_names slots) (names_in (take j fs))) part) (sym used_parts)
       (used_at slots [] forms used named fresh j part (ap (λ ps. slice_get ps j) (sym used_parts) ∙ g)))
 
-  pub used_slots_clear : IsClear (roles.used_slots (names_of slots)) form
-  used_slots_clear = all_parts (roles.used_slots (names_of slots)) form used_own used_each
+  pub used_slots_clear : IsClear (roles.used_slots (slot_names slots)) form
+  used_slots_clear = all_parts (roles.used_slots (slot_names slots)) form used_own used_each
 
 -- ---- the instructions
 pub instr_at : (latency : ℕ) (slots : List ℕ) (before : List (List ℕ)) (forms : List Form) (uses : List Use) → Each (WritesUse latency slots) forms uses → FreshAll before (names_of_uses uses)
@@ -162,7 +163,7 @@ instr_at latency slots before _ _ (more_of {form = form} {forms = forms} {y = u}
     subst (λ b. IsClear (roles.instr b) part) (append_both before (n ∷ []) (names_in (take i forms)) ∙ ap (λ ns. before ++ ns) (sym first)) rest
 
 module _ (slots : List Slot) (before : List (List ℕ)) (form : Form) (uses : List Use) (w : WritesOps slots form uses) (latency : (1 ≤ w.latency) × (w.latency ≤ 16))
-    (some : 0 < length w.slot_forms) (once : FreshAll [] (names_used slots w.slots)) (fresh : FreshAll before (names_of_uses uses)) where
+    (some : 0 < length w.slot_forms) (once : FreshAll [] (slot_names_used slots w.slots)) (fresh : FreshAll before (names_of_uses uses)) where
   abbrev parts : List Form
   parts = atom w.is.head_place (name (codes "ops")) ∷ w.latency_form ∷ list w.slots_place (forms_from w.slot_forms) ∷ w.first ∷ w.others
 
@@ -171,67 +172,67 @@ module _ (slots : List Slot) (before : List (List ℕ)) (form : Form) (uses : Li
       ap parts_of w.is.is
       ∙ ap (λ fs. atom w.is.head_place (name (codes "ops")) ∷ w.latency_form ∷ list w.slots_place (forms_from w.slot_forms) ∷ w.first ∷ fs) (list_from w.others)
 
-  ops_own : (k : Kind) → IsOwn (roles.ops (names_of slots) before) form k → ⊥
+  ops_own : (k : Kind) → IsOwn (roles.ops (slot_names slots) before) form k → ⊥
   ops_own k (other_keyword {word = word} i j) =
       let same : codes "ops" ≡ word = cc in
       no_both (has_head word form) (ap (λ f. has_head word f) w.is.is ∙ (bytes_eq-Decides (codes "ops") word).1 same) j
   ops_own k (too_few l) = let n = ap length ops_parts in omega (arith, n, l)
 
-  ops_each : (j : ℕ) (part : Form) (other : Role) → slice_get parts j ≡ Some part → part_role (roles.ops (names_of slots) before) form j ≡ Some other → IsClear other part
+  ops_each : (j : ℕ) (part : Form) (other : Role) → slice_get parts j ≡ Some part → part_role (roles.ops (slot_names slots) before) form j ≡ Some other → IsClear other part
   ops_each zero part other g r = no_role other part r
   ops_each (suc zero) part other g r =
       as_is roles.latency other roles.latency w.latency_form part r g refl (latency_clear w.latency_form w.latency (ap number_in w.latency_is.is) latency.0 latency.1)
   ops_each (suc (suc zero)) part other g r =
-      as_is (roles.used_slots (names_of slots)) other (roles.used_slots (names_of slots)) (list w.slots_place (forms_from w.slot_forms)) part r g refl
+      as_is (roles.used_slots (slot_names slots)) other (roles.used_slots (slot_names slots)) (list w.slots_place (forms_from w.slot_forms)) part r g refl
       (used_slots_clear slots (list w.slots_place (forms_from w.slot_forms)) w.slots_place w.slot_forms w.slots refl some w.slots_are once)
   ops_each (suc (suc (suc j))) part other g r =
       as_is (roles.instr (before ++ names_in (take j (drop 3 (parts_of form))))) other (roles.instr (before ++ names_in (take j (drop 3 (parts_of form))))) part part r refl refl
       (subst (λ fs. IsClear (roles.instr (before ++ names_in (take j (drop 3 fs)))) part) (sym ops_parts)
       (instr_at w.latency w.slots before (w.first ∷ w.others) uses w.written fresh j part g))
 
-  pub ops_clear : IsClear (roles.ops (names_of slots) before) form
-  ops_clear = all_parts (roles.ops (names_of slots) before) form ops_own (λ j part other g r. ops_each j part other (ap (λ ps. slice_get ps j) (sym ops_parts) ∙ g) r)
+  pub ops_clear : IsClear (roles.ops (slot_names slots) before) form
+  ops_clear = all_parts (roles.ops (slot_names slots) before) form ops_own (λ j part other g r. ops_each j part other (ap (λ ps. slice_get ps j) (sym ops_parts) ∙ g) r)
 
 -- ---- the whole form
-pub numbers_fresh : (slots : List Slot) (used : List ℕ) → AllPairs (λ s r. s.name ≢ r.name) slots → AreNumbers slots used → FreshAll [] (names_used slots used)
+pub numbers_fresh : (slots : List Slot) (used : List ℕ) → AllPairs (λ s r. s.name ≢ r.name) slots → AreSlotNumbers slots used → FreshAll [] (slot_names_used slots used)
 numbers_fresh slots used differ are =
     fresh_all (name_at slots) [] used (λ k d l. refl)
     (λ i j d l m e. are.once i j d l m (number_once slots differ (get_or used i d) (get_or used j d) (are.exist i d (omega (arith, l, m))) (are.exist j d m) (ap (λ n. plain.atom (name n)) e)))
 
 -- what an `ops` list says of its uses, which are within the limits
 first_use : (slots : List Slot) (latency : ℕ) (used : List ℕ) (form : Form) (forms : List Form) (uses : List Use) → Each (WritesUse latency used) (form ∷ forms) uses → All (IsUseOf slots) uses
-    → (1 ≤ latency) × (latency ≤ 16) × (0 < length used) × AreNumbers slots used
+    → (1 ≤ latency) × (latency ≤ 16) × (0 < length used) × AreSlotNumbers slots used
 first_use slots latency used form forms _ (more_of {y = u} w ws) each =
     let h = each 0 u (omega arith) in
-    (subst (λ n. 1 ≤ n) w.takes h.latency.0, subst (λ n. n ≤ 16) w.takes h.latency.1, subst (λ (us : List ℕ). 0 < length us) w.may_use h.some, subst (AreNumbers slots) w.may_use h.numbers)
+    (subst (λ n. 1 ≤ n) w.takes h.latency.0, subst (λ n. n ≤ 16) w.takes h.latency.1, subst (λ (us : List ℕ). 0 < length us) w.may_use h.some, subst (AreSlotNumbers slots) w.may_use h.numbers)
 
 each_length : {Y : Type 0} (P : Form → Y → Type 0) (forms : List Form) (ys : List Y) → Each P forms ys → 0 < length ys → 0 < length forms
 each_length P _ _ none l = l
 each_length P _ _ (more_of w ws) l = omega arith
 
 module _ (slots : List Slot) (differ : AllPairs (λ s r. s.name ≢ r.name) slots) where
-  one_clear : (before : List (List ℕ)) (form : Form) (uses : List Use) → WritesOps slots form uses → All (IsUseOf slots) uses → FreshAll before (names_of_uses uses) → IsClear (roles.ops (names_of slots) before) form
+  one_clear : (before : List (List ℕ)) (form : Form) (uses : List Use) → WritesOps slots form uses → All (IsUseOf slots) uses → FreshAll before (names_of_uses uses) → IsClear (roles.ops (slot_names slots) before) form
   one_clear before form uses w each fresh =
       let first = first_use slots w.latency w.slots w.first w.others uses w.written each in
       ops_clear slots before form uses w (first.0, first.1) (each_length (IsSlotNamed slots) w.slot_forms w.slots w.slots_are first.2) (numbers_fresh slots w.slots differ first.3) fresh
 
   pub ops_at : (before : List (List ℕ)) (forms : List Form) (written : List (List Use)) → Each (WritesOps slots) forms written → All (IsUseOf slots) (joined written) → FreshAll before (names_of_uses (joined written))
-      → (i : ℕ) (part : Form) → slice_get forms i ≡ Some part → IsClear (roles.ops (names_of slots) (before ++ named_in_all (take i forms))) part
+      → (i : ℕ) (part : Form) → slice_get forms i ≡ Some part → IsClear (roles.ops (slot_names slots) (before ++ named_in_all (take i forms))) part
   ops_at before _ _ none each fresh i part g = cc
   ops_at before _ _ (more_of {form = form} {forms = forms} {y = uses} {ys = written} w ws) each fresh zero part g =
       let split = fresh_split before (names_of_uses uses) (names_of_uses (joined written)) (subst (FreshAll before) (names_both uses (joined written)) fresh) in
-      as_is (roles.ops (names_of slots) before) (roles.ops (names_of slots) (before ++ [])) (roles.ops (names_of slots) before) form part
-      (ap (λ b. Some (roles.ops (names_of slots) b)) (sym (append-nil before))) g refl
+      as_is (roles.ops (slot_names slots) before) (roles.ops (slot_names slots) (before ++ [])) (roles.ops (slot_names slots) before) form part
+      (ap (λ b. Some (roles.ops (slot_names slots) b)) (sym (append-nil before))) g refl
       (one_clear before form uses w (all_left (IsUseOf slots) uses (joined written) each) split.0)
   ops_at before _ _ (more_of {form = form} {forms = forms} {y = uses} {ys = written} w ws) each fresh (suc i) part g =
       let split = fresh_split before (names_of_uses uses) (names_of_uses (joined written)) (subst (FreshAll before) (names_both uses (joined written)) fresh) in
       let rest = ops_at (before ++ names_of_uses uses) forms written ws (all_right (IsUseOf slots) uses (joined written) each) split.1 i part g in
-      subst (λ b. IsClear (roles.ops (names_of slots) b) part)
+      subst (λ b. IsClear (roles.ops (slot_names slots) b) part)
       (append_both before (names_of_uses uses) (named_in_all (take i forms)) ∙ ap (λ ns. before ++ (ns ++ named_in_all (take i forms))) (sym (ops_named slots form uses w))) rest
 
 -- ---- the slots of a table
 module _ (form : Form) (forms : List Form) (slots : List Slot) (is : IsListOf (codes "slots") forms form) (written : Each WritesSlot forms slots) (t : (1 ≤ length slots) × (length slots ≤ 8))
-    (low : All (λ s. s.cluster ≤ 3) slots) (fresh : FreshAll [] (names_of slots)) where
+    (low : All (λ s. s.cluster ≤ 3) slots) (fresh : FreshAll [] (slot_names slots)) where
   abbrev slots_list : List Form
   slots_list = atom is.head_place (name (codes "slots")) ∷ forms
 
@@ -318,14 +319,14 @@ module _ (form : Form) (table : Table) (w : WritesTable form table) where
       fresh_all (λ (u : Use). instr_name u.instr) [] (joined w.written) (λ k d l. refl)
       (λ i j d l m e. names_apart table.uses (joined w.written) (λ a b c n o. lt_apart _ _ (w.well_formed.order a b c n o)) back i j d l m e)
 
-  named_slots : slots_of form ≡ names_of table.slots
+  named_slots : slots_in_form form ≡ slot_names table.slots
   named_slots =
       ap (λ ps. option_map_or (λ f. slots_in (drop 1 (parts_of f))) (slice_get ps 1) []) whole_parts
       ∙ ap (λ f. slots_in (drop 1 (parts_of f))) w.slots_is.is
       ∙ ap slots_in (list_from w.slot_forms)
       ∙ slots_written w.slot_forms table.slots w.slots
 
-  slots_fresh : FreshAll [] (names_of table.slots)
+  slots_fresh : FreshAll [] (slot_names table.slots)
   slots_fresh = fresh_all (λ (s : Slot). s.name) [] table.slots (λ k d l. refl) w.well_formed.names
 
   whole_each : (j : ℕ) (part : Form) (other : Role) → slice_get table_parts j ≡ Some part → part_role roles.machine form j ≡ Some other → IsClear other part
@@ -337,9 +338,9 @@ module _ (form : Form) (table : Table) (w : WritesTable form table) where
       as_is roles.cross other roles.cross w.cross_form part r g refl (cross_clear w.cross_form w.delay_form table.cross w.cross_is w.cross w.well_formed.cross)
   whole_each (suc (suc (suc j))) part other g r =
       let before = named_in_all (take j (drop 3 (parts_of form))) in
-      let role : Some (roles.ops (names_of table.slots) before) ≡ Some other = ap (λ s. Some (roles.ops s before)) (sym named_slots) ∙ r in
-      as_is (roles.ops (names_of table.slots) before) other (roles.ops (names_of table.slots) before) part part role refl refl
-      (subst (λ fs. IsClear (roles.ops (names_of table.slots) (named_in_all (take j (drop 3 fs)))) part) (sym whole_parts)
+      let role : Some (roles.ops (slot_names table.slots) before) ≡ Some other = ap (λ s. Some (roles.ops s before)) (sym named_slots) ∙ r in
+      as_is (roles.ops (slot_names table.slots) before) other (roles.ops (slot_names table.slots) before) part part role refl refl
+      (subst (λ fs. IsClear (roles.ops (slot_names table.slots) (named_in_all (take j (drop 3 fs)))) part) (sym whole_parts)
       (ops_at table.slots w.well_formed.names [] w.ops_forms w.written w.ops limits instrs_fresh j part g))
 
   pub written_clear : IsClear roles.machine form

@@ -5,7 +5,7 @@ use Rattle.machine_table.proofs.Leaves.{instr_clear}
 use Rattle.machine_table.proofs.Parts.{name_is}
 use Rattle.machine_table.specs.InstrOrder.{instr_name, instr_named}
 use Rattle.machine_table.specs.Reading.{IsInstrRead}
-use Rattle.machine_table.specs.Roles.{is_among}
+use Rattle.text_core.specs.Names.{is_among}
 use Rattle.machine_table.specs.declared.tables.InstrKind.{InstrKind}
 
 pub instr_read : (before : List (List ℕ)) (form : Form) (bytes : List ℕ) (one : InstrKind) → name_in form ≡ Some bytes → instr_name one ≡ bytes → instr_named bytes ≡ Some one → is_among before bytes ≡ false → IsInstrRead before form one

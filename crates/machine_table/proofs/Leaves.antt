@@ -6,7 +6,8 @@ use Rattle.forms.specs.Forms.{Form, Stands, place_of, name_in, number_in, is_lis
 use Rattle.machine_table.specs.InstrOrder.{instr_named}
 use Rattle.machine_table.specs.Reading.{IsFaultAs, IsClear}
 use Rattle.machine_table.specs.Roles as roles
-use Rattle.machine_table.specs.Roles.{Role, IsOwn, part_role, is_among, other_keyword, too_few, no_list, ninth_atom, no_slot_name, no_used_name, no_instr_name, no_cluster, no_delay, no_latency, wrong_part, no_slot, ninth, slot_again, cluster_above, none_used, unknown_slot, used_again, latency_0, latency_above, delay_above, unknown_instr, instr_again}
+use Rattle.text_core.specs.Names.{is_among}
+use Rattle.machine_table.specs.Roles.{Role, IsOwn, part_role, other_keyword, too_few, no_list, ninth_atom, no_slot_name, no_used_name, no_instr_name, no_cluster, no_delay, no_latency, wrong_part, no_slot, ninth, slot_again, cluster_above, none_used, unknown_slot, used_again, latency_0, latency_above, delay_above, unknown_instr, instr_again}
 use Rattle.machine_table.specs.declared.tables.InstrKind.{InstrKind}
 use Rattle.text_core.specs.Faults.{fault_number, IsFirst}
 use Rattle.text_core.specs.declared.faults.Kind.{Kind}

@@ -6,7 +6,7 @@ use Rattle.std.proofs.lemmas.Option.{slice_get-map, slice_get-get_or}
 use Rattle.std.proofs.lemmas.Slice.Eq.{bytes_eq-Decides}
 use Rattle.forms.proofs.First.{first_inside, no_fault, ClearTo}
 use Rattle.forms.specs.Forms.{Form, Forms, Stands, atom, list, none, more, name, register, number, parenthesis, place_of, parts_of, forms_list, forms_from, sexp_form, sexp_forms, name_in, is_list}
-use Rattle.forms.specs.Reading.{IsOf}
+use Rattle.forms.specs.Reading.{IsSexpOf}
 use Rattle.machine_table.proofs.Leaves.{First, form_first, no_some}
 use Rattle.machine_table.specs.Grammar.{IsListOf, IsNameOf}
 use Rattle.machine_table.specs.Reading.{IsFaultAs, IsClear}
@@ -97,8 +97,8 @@ pub no_head : (word : List ℕ) (form : Form) → is_list form ≡ false → has
 no_head word (atom p a) e = refl
 no_head word (list p parts) e = cc
 
-pub part_of : (text : List ℕ) (parts : List Sexp) (i : ℕ) (part : Sexp) → All (IsOf text) parts → i < length parts → part ≡ get_or parts i part → IsOf text part
-part_of text parts i part all l is = subst (IsOf text) (sym is) (all i part l)
+pub part_of : (text : List ℕ) (parts : List Sexp) (i : ℕ) (part : Sexp) → All (IsSexpOf text) parts → i < length parts → part ≡ get_or parts i part → IsSexpOf text part
+part_of text parts i part all l is = subst (IsSexpOf text) (sym is) (all i part l)
 
 -- ---- what a form is
 pub name_is : (form : Form) (bytes : List ℕ) → name_in form ≡ Some bytes → IsNameOf bytes form

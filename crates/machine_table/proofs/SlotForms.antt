@@ -8,7 +8,8 @@ use Rattle.machine_table.proofs.Parts.{ClearBefore, clear_0, clear_next, clear_s
 use Rattle.machine_table.specs.Grammar.{IsNumberOf, IsListOf}
 use Rattle.machine_table.specs.Reading.{IsClear, IsSlotRead, IsCrossRead}
 use Rattle.machine_table.specs.Roles as roles
-use Rattle.machine_table.specs.Roles.{IsOwn, part_role, is_among, first_name, has_head, other_keyword, too_few, no_slot_name, slot_again}
+use Rattle.text_core.specs.Names.{is_among}
+use Rattle.machine_table.specs.Roles.{IsOwn, part_role, first_name, has_head, other_keyword, too_few, no_slot_name, slot_again}
 use Rattle.machine_table.specs.Tables.{slot_of}
 use Rattle.text_core.specs.Faults.{fault_number}
 use Rattle.text_core.specs.declared.faults.Kind.{Kind}

@@ -9,14 +9,15 @@ use Rattle.std.proofs.lemmas.List.Quantifiers.{all_pairs_push}
 use Rattle.std.proofs.lemmas.Option.{slice_get-get_or}
 use Rattle.forms.proofs.First.{first_own}
 use Rattle.forms.specs.Forms as forms
-use Rattle.forms.specs.Forms.{Form, Stands, atom, list, more, place_of, parts_of, forms_from, name_in, is_list}
+use Rattle.forms.specs.Forms.{Form, Stands, atom, list, more, place_of, parts_of, forms_from, is_list, names_in}
 use Rattle.machine_table.proofs.Leaves.{First, form_first, no_both}
 use Rattle.machine_table.proofs.Parts.{ClearBefore, clear_next, all_clear, part_first, between, between_1, between_more, got_more, got_within, headed, name_of}
 use Rattle.machine_table.proofs.SlotNumbers.{at_among, name_at_is, used_among}
 use Rattle.machine_table.specs.Grammar.{Each, none, more_of, IsSlotNamed, WritesSlot}
-use Rattle.machine_table.specs.Reading.{names_of, name_at, names_used, AreSlots, AreNumbers, AreSlotsRead, AreUsedRead, IsSlotRead, IsUsedRead}
+use Rattle.machine_table.specs.Reading.{slot_names, name_at, slot_names_used, AreSlots, AreSlotNumbers, AreSlotsRead, AreUsedRead, IsSlotRead, IsUsedRead}
 use Rattle.machine_table.specs.Roles as roles
-use Rattle.machine_table.specs.Roles.{Role, IsOwn, part_role, is_among, names_in, slots_in, first_name, has_head, other_keyword, too_few, no_list, none_used, no_slot}
+use Rattle.text_core.specs.Names.{is_among}
+use Rattle.machine_table.specs.Roles.{Role, IsOwn, part_role, slots_in, first_name, has_head, other_keyword, too_few, no_list, none_used, no_slot}
 use Rattle.machine_table.specs.declared.tables.Slot.{Slot}
 use Rattle.text_core.specs.Faults.{fault_number}
 use Rattle.text_core.specs.declared.faults.Kind.{Kind}
@@ -50,7 +51,7 @@ module _ {Y : Type 0} (P : Form → Y → Type 0) where
   pub each_forms : (forms others : List Form) (ys : List Y) → forms ≡ others → Each P forms ys → Each P others ys
   each_forms forms others ys e h = subst (λ fs. Each P fs ys) e h
 
-pub slots_named : (slots : List Slot) (forms : List Form) (used : List ℕ) → Each (IsSlotNamed slots) forms used → names_in forms ≡ names_used slots used
+pub slots_named : (slots : List Slot) (forms : List Form) (used : List ℕ) → Each (IsSlotNamed slots) forms used → names_in forms ≡ slot_names_used slots used
 slots_named slots _ _ none = refl
 slots_named slots _ _ (more_of {form = form} {forms = forms} {y = at} {ys = used} w ws) =
     ap (λ o. cons_option o (names_in forms)) (name_of form w.slot.name w.named)
@@ -59,7 +60,7 @@ slots_named slots _ _ (more_of {form = form} {forms = forms} {y = at} {ys = used
 pub first_named : (form : Form) (slot : Slot) → WritesSlot form slot → first_name form ≡ Some slot.name
 first_named form slot w = ap first_name w.is ∙ name_of w.first slot.name w.named
 
-pub slots_written : (forms : List Form) (slots : List Slot) → Each WritesSlot forms slots → slots_in forms ≡ names_of slots
+pub slots_written : (forms : List Form) (slots : List Slot) → Each WritesSlot forms slots → slots_in forms ≡ slot_names slots
 slots_written _ _ none = refl
 slots_written _ _ (more_of {form = form} {forms = forms} {y = slot} {ys = slots} w ws) =
     ap (λ o. cons_option o (slots_in forms)) (first_named form slot w) ∙ ap (λ ns. slot.name ∷ ns) (slots_written forms slots ws)
@@ -67,7 +68,7 @@ slots_written _ _ (more_of {form = form} {forms = forms} {y = slot} {ys = slots}
 -- ---- the slots that instructions may be launched in
 module _ (slots : List Slot) (form : Form) where
   abbrev whole : Role
-  whole = roles.used_slots (names_of slots)
+  whole = roles.used_slots (slot_names slots)
 
   empty_least : is_list form ≡ true → (k : Kind) → IsOwn whole form k → 14 ≤ fault_number k
   empty_least e k (other_keyword i j) = cc
@@ -85,13 +86,13 @@ module _ (slots : List Slot) (form : Form) where
   used_own e l k (none_used i j) = omega (arith, j, l)
 
   module _ (i : ℕ) (used : List ℕ) (named : Each (IsSlotNamed slots) (take i (parts_of form)) used) where
-    used_role : part_role whole form i ≡ Some (roles.used_slot (names_of slots) (names_used slots used))
-    used_role = ap (λ ns. Some (roles.used_slot (names_of slots) ns)) (slots_named slots (take i (parts_of form)) used named)
+    used_role : part_role whole form i ≡ Some (roles.used_slot (slot_names slots) (slot_names_used slots used))
+    used_role = ap (λ ns. Some (roles.used_slot (slot_names slots) ns)) (slots_named slots (take i (parts_of form)) used named)
 
     pub used_fault : (low high : ℕ) → Stands low high form → is_list form ≡ true → 1 ≤ length (parts_of form) → (part : Form) → slice_get (parts_of form) i ≡ Some part → ClearBefore whole form i
-        → (place : ℕ) (kind : Kind) → First (roles.used_slot (names_of slots) (names_used slots used)) part place kind → First whole form place kind
+        → (place : ℕ) (kind : Kind) → First (roles.used_slot (slot_names slots) (slot_names_used slots used)) part place kind → First whole form place kind
     used_fault low high h e l part g clear place kind first =
-        part_first whole form low high h (used_own e l) i part (roles.used_slot (names_of slots) (names_used slots used)) place kind g used_role clear first
+        part_first whole form low high h (used_own e l) i part (roles.used_slot (slot_names slots) (slot_names_used slots used)) place kind g used_role clear first
 
     module _ (part : Form) (at : ℕ) (g : slice_get (parts_of form) i ≡ Some part) (read : IsUsedRead slots used part at) where
       pub used_next : Each (IsSlotNamed slots) (take (i + 1) (parts_of form)) (used ++ at ∷ [])
@@ -103,16 +104,16 @@ module _ (slots : List Slot) (form : Form) where
       used_clear_next clear = clear_next whole form i part _ g used_role read.clear clear
 
       new_number : (k d : ℕ) → k < length used → get_or used k d ≢ at
-      new_number k d l e = no_both (is_among (names_used slots used) (name_at slots at)) (used_among slots used k d at l e) read.fresh
+      new_number k d l e = no_both (is_among (slot_names_used slots used) (name_at slots at)) (used_among slots used k d at l e) read.fresh
 
-      pub numbers_next : AreNumbers slots used → AreNumbers slots (used ++ at ∷ [])
+      pub numbers_next : AreSlotNumbers slots used → AreSlotNumbers slots (used ++ at ∷ [])
       numbers_next are = record {
         exist = All-push (λ s. s < length slots) used at are.exist (got_within slots at read.named.slot read.named.found);
         once = all_pairs_push (λ s r. s ≢ r) used at are.once new_number;
       }
 
   pub used_whole : (i : ℕ) (used : List ℕ) → form ≡ list (place_of form) (forms_from (parts_of form)) → 1 ≤ length (parts_of form) → length (parts_of form) ≤ i
-      → Each (IsSlotNamed slots) (take i (parts_of form)) used → AreNumbers slots used → ClearBefore whole form i → AreUsedRead slots form used
+      → Each (IsSlotNamed slots) (take i (parts_of form)) used → AreSlotNumbers slots used → ClearBefore whole form i → AreUsedRead slots form used
   used_whole i used is some most named numbers clear =
       let all = each_forms (IsSlotNamed slots) _ _ used (take_all i (parts_of form) most) named in
       let count = each_count (IsSlotNamed slots) (parts_of form) used all in
@@ -178,26 +179,26 @@ module _ (form : Form) where
         pub ninth_fault : 8 < i → (place : ℕ) (kind : Kind) → First roles.ninth_slot part place kind → First roles.slots form place kind
         ninth_fault l place kind first = part_first roles.slots form low high h slots_own i part roles.ninth_slot place kind g (ninth_role i l) clear first
 
-        pub slot_fault : (slots : List Slot) → 1 ≤ i → i ≤ 8 → Each WritesSlot (between 1 i (parts_of form)) slots → (place : ℕ) (kind : Kind) → First (roles.slot (names_of slots)) part place kind
+        pub slot_fault : (slots : List Slot) → 1 ≤ i → i ≤ 8 → Each WritesSlot (between 1 i (parts_of form)) slots → (place : ℕ) (kind : Kind) → First (roles.slot (slot_names slots)) part place kind
             → First roles.slots form place kind
         slot_fault slots l m written place kind first =
-            part_first roles.slots form low high h slots_own i part (roles.slot (names_of slots)) place kind g
-            (slot_role i (names_of slots) l m (slots_written (between 1 i (parts_of form)) slots written)) clear first
+            part_first roles.slots form low high h slots_own i part (roles.slot (slot_names slots)) place kind g
+            (slot_role i (slot_names slots) l m (slots_written (between 1 i (parts_of form)) slots written)) clear first
 
       module _ (i : ℕ) (slots : List Slot) (l : 1 ≤ i) (m : i ≤ 8) (written : Each WritesSlot (between 1 i (parts_of form)) slots) (part : Form) (slot : Slot)
-          (g : slice_get (parts_of form) i ≡ Some part) (read : IsSlotRead (names_of slots) part slot) where
+          (g : slice_get (parts_of form) i ≡ Some part) (read : IsSlotRead (slot_names slots) part slot) where
         pub written_next : Each WritesSlot (between 1 (i + 1) (parts_of form)) (slots ++ slot ∷ [])
         written_next =
             each_forms WritesSlot _ _ _ (sym (between_more 1 (parts_of form) i part l g))
             (each_push WritesSlot (between 1 i (parts_of form)) slots part slot written read.writes)
 
         pub slots_clear_next : ClearBefore roles.slots form i → ClearBefore roles.slots form (i + 1)
-        slots_clear_next clear = clear_next roles.slots form i part _ g (slot_role i (names_of slots) l m (slots_written (between 1 i (parts_of form)) slots written)) read.clear clear
+        slots_clear_next clear = clear_next roles.slots form i part _ g (slot_role i (slot_names slots) l m (slots_written (between 1 i (parts_of form)) slots written)) read.clear clear
 
         new_name : (k : ℕ) (d : Slot) → k < length slots → (get_or slots k d).name ≢ slot.name
         new_name k d n e =
-            no_both (is_among (names_of slots) slot.name)
-            (ap (is_among (names_of slots)) (sym e) ∙ at_among slots k (get_or slots k d) (slice_get-get_or slots k d n)) read.fresh
+            no_both (is_among (slot_names slots) slot.name)
+            (ap (is_among (slot_names slots)) (sym e) ∙ at_among slots k (get_or slots k d) (slice_get-get_or slots k d n)) read.fresh
 
         pub slots_next : AreSlots slots → length slots + 1 ≤ 8 → AreSlots (slots ++ slot ∷ [])
         slots_next are n = record {

@@ -7,7 +7,7 @@ use Rattle.std.proofs.lemmas.Bool.Decides.{Decides-eqb}
 use Rattle.std.proofs.lemmas.List.{append-nil, take_all}
 use Rattle.std.proofs.lemmas.List.Sorted.{All-permutation}
 use Rattle.std.proofs.lemmas.Map.Keys.{IsDistinct-from_apart, IsDistinct-IsPermutation, apart_from_distinct}
-use Rattle.forms.specs.Forms.{Form, Stands, place_of, parts_of}
+use Rattle.forms.specs.Forms.{Form, Stands, place_of, parts_of, names_in}
 use Rattle.machine_table.proofs.Leaves.{First, form_first, no_both}
 use Rattle.machine_table.proofs.Named.{once}
 use Rattle.machine_table.proofs.Parts.{ClearBefore, clear_0, clear_next, clear_skip, all_clear, part_first, between, between_3, between_more, headed, list_from}
@@ -15,9 +15,9 @@ use Rattle.machine_table.proofs.SlotLists.{each_push, each_forms, slots_written,
 use Rattle.machine_table.proofs.UseLists.{names_both, uses_written}
 use Rattle.machine_table.specs.Grammar.{Each, none, more_of, WritesOps, WritesTable, IsListOf}
 use Rattle.machine_table.specs.InstrOrder.{kind_number}
-use Rattle.machine_table.specs.Reading.{names_of, names_of_uses, IsClear, AreUses, IsUseOf, AreSlotsRead, AreOpsRead, IsCrossRead, DontFall}
+use Rattle.machine_table.specs.Reading.{slot_names, names_of_uses, IsClear, AreUses, IsUseOf, AreSlotsRead, AreOpsRead, IsCrossRead, DontFall}
 use Rattle.machine_table.specs.Roles as roles
-use Rattle.machine_table.specs.Roles.{Role, IsOwn, part_role, named_in_ops, named_in_all, names_in, slots_in, slots_of, has_head, other_keyword, too_few}
+use Rattle.machine_table.specs.Roles.{Role, IsOwn, part_role, named_in_ops, named_in_all, slots_in, slots_in_form, has_head, other_keyword, too_few}
 use Rattle.machine_table.specs.Tables.{IsTable, IsUse}
 use Rattle.machine_table.specs.declared.tables.Slot.{Slot}
 use Rattle.machine_table.specs.declared.tables.Table.{Table}
@@ -135,7 +135,7 @@ module _ (form : Form) where
       pub clear_3 : IsClear roles.cross third → ClearBefore whole form 3
       clear_3 cross_clear = clear_next whole form 2 third roles.cross g2 refl cross_clear clear_2
 
-      slots_are : slots_of form ≡ names_of slots
+      slots_are : slots_in_form form ≡ slot_names slots
       slots_are =
           ap (λ o. option_map_or (λ f. slots_in (drop 1 (parts_of f))) o []) g1
           ∙ ap (λ f. slots_in (drop 1 (parts_of f))) slots_read.is.is
@@ -143,18 +143,18 @@ module _ (form : Form) where
           ∙ slots_written slots_read.forms slots slots_read.written
 
       module _ (i : ℕ) (written : List (List Use)) (uses : List Use) (l : 3 ≤ i) (each : Each (WritesOps slots) (between 3 i (parts_of form)) written) (is : joined written ≡ uses) where
-        role_from : (j : ℕ) → 3 ≤ j → named_in_all (between 3 j (parts_of form)) ≡ names_of_uses uses → part_role whole form j ≡ Some (roles.ops (names_of slots) (names_of_uses uses))
+        role_from : (j : ℕ) → 3 ≤ j → named_in_all (between 3 j (parts_of form)) ≡ names_of_uses uses → part_role whole form j ≡ Some (roles.ops (slot_names slots) (names_of_uses uses))
         role_from zero m e = absurd (omega (arith, m))
         role_from (suc zero) m e = absurd (omega (arith, m))
         role_from (suc (suc zero)) m e = absurd (omega (arith, m))
         role_from (suc (suc (suc j))) m e =
             ap₂ (λ s ns. Some (roles.ops s ns)) slots_are (ap named_in_all (sym (between_3 j (parts_of form))) ∙ e)
 
-        ops_role : part_role whole form i ≡ Some (roles.ops (names_of slots) (names_of_uses uses))
+        ops_role : part_role whole form i ≡ Some (roles.ops (slot_names slots) (names_of_uses uses))
         ops_role = role_from i l (all_named slots (between 3 i (parts_of form)) written each ∙ ap names_of_uses is)
 
         module _ (part : Form) (g : slice_get (parts_of form) i ≡ Some part) where
-          pub ops_fault : (low high : ℕ) → Stands low high form → ClearBefore whole form i → (place : ℕ) (kind : Kind) → First (roles.ops (names_of slots) (names_of_uses uses)) part place kind → First whole form place kind
+          pub ops_fault : (low high : ℕ) → Stands low high form → ClearBefore whole form i → (place : ℕ) (kind : Kind) → First (roles.ops (slot_names slots) (names_of_uses uses)) part place kind → First whole form place kind
           ops_fault low high h clear place kind first = part_first whole form low high h own i part _ place kind g ops_role clear first
 
           module _ (after : List Use) (read : AreOpsRead slots uses part after) where

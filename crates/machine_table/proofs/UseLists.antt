@@ -5,15 +5,16 @@ use Rattle.std.proofs.lemmas.List.{take_all}
 use Rattle.std.proofs.lemmas.List.Elements.{All-push}
 use Rattle.std.proofs.lemmas.List.Quantifiers.{all_pairs_push}
 use Rattle.std.proofs.lemmas.Slice.Eq.{bytes_eq-Decides}
-use Rattle.forms.specs.Forms.{Form, Stands, place_of, parts_of}
+use Rattle.forms.specs.Forms.{Form, Stands, place_of, parts_of, names_in}
 use Rattle.machine_table.proofs.Leaves.{First, form_first, no_both}
 use Rattle.machine_table.proofs.Parts.{ClearBefore, clear_0, clear_next, clear_skip, all_clear, part_first, between, between_3, between_more, headed, name_of}
 use Rattle.machine_table.proofs.SlotLists.{each_push, each_forms}
 use Rattle.machine_table.specs.Grammar.{Each, none, more_of, WritesUse, IsListOf, IsNumberOf}
 use Rattle.machine_table.specs.InstrOrder.{instr_name}
-use Rattle.machine_table.specs.Reading.{names_of, names_of_uses, IsClear, AreUses, IsUseOf, AreUsedRead, AreOpsRead, IsInstrRead}
+use Rattle.machine_table.specs.Reading.{slot_names, names_of_uses, IsClear, AreUses, IsUseOf, AreUsedRead, AreOpsRead, IsInstrRead}
 use Rattle.machine_table.specs.Roles as roles
-use Rattle.machine_table.specs.Roles.{Role, IsOwn, part_role, is_among, names_in, has_head, other_keyword, too_few}
+use Rattle.text_core.specs.Names.{is_among}
+use Rattle.machine_table.specs.Roles.{Role, IsOwn, part_role, has_head, other_keyword, too_few}
 use Rattle.machine_table.specs.declared.tables.InstrKind.{InstrKind}
 use Rattle.machine_table.specs.declared.tables.Slot.{Slot}
 use Rattle.machine_table.specs.declared.tables.Use.{Use}
@@ -67,7 +68,7 @@ four_parts (a ∷ (b ∷ (c ∷ (d ∷ ds)))) second third l g e =
 
 module _ (slots : List Slot) (before : List Use) (form : Form) where
   abbrev pub whole : Role
-  whole = roles.ops (names_of slots) (names_of_uses before)
+  whole = roles.ops (slot_names slots) (names_of_uses before)
 
   pub no_ops_first : (low high : ℕ) → Stands low high form → has_head (codes "ops") form ≡ false → First whole form (place_of form) BadForm
   no_ops_first low high h e = form_first form low high h whole (other_keyword refl e)
@@ -91,11 +92,11 @@ module _ (slots : List Slot) (before : List Use) (form : Form) where
       clear_2 : ClearBefore whole form 2
       clear_2 = clear_next whole form 1 second roles.latency g1 refl latency_clear clear_1
 
-      pub slots_fault : (low high : ℕ) → Stands low high form → (place : ℕ) (kind : Kind) → First (roles.used_slots (names_of slots)) third place kind → First whole form place kind
-      slots_fault low high h place kind first = part_first whole form low high h own 2 third (roles.used_slots (names_of slots)) place kind g2 refl clear_2 first
+      pub slots_fault : (low high : ℕ) → Stands low high form → (place : ℕ) (kind : Kind) → First (roles.used_slots (slot_names slots)) third place kind → First whole form place kind
+      slots_fault low high h place kind first = part_first whole form low high h own 2 third (roles.used_slots (slot_names slots)) place kind g2 refl clear_2 first
 
-      pub clear_3 : IsClear (roles.used_slots (names_of slots)) third → ClearBefore whole form 3
-      clear_3 used_clear = clear_next whole form 2 third (roles.used_slots (names_of slots)) g2 refl used_clear clear_2
+      pub clear_3 : IsClear (roles.used_slots (slot_names slots)) third → ClearBefore whole form 3
+      clear_3 used_clear = clear_next whole form 2 third (roles.used_slots (slot_names slots)) g2 refl used_clear clear_2
 
     -- ---- the instructions
     module _ (latency : ℕ) (used : List ℕ) (i : ℕ) (uses added : List Use) (l : 3 ≤ i) (is : uses ≡ before ++ added) (written : Each (WritesUse latency used) (between 3 i (parts_of form)) added) where

@@ -6,7 +6,8 @@ use Rattle.forms.specs.Forms.{Form, list, forms_from}
 use Rattle.machine_table.specs.Grammar.{Each, WritesSlot, IsSlotNamed, WritesOps, IsNameOf, IsNumberOf, IsListOf}
 use Rattle.machine_table.specs.InstrOrder.{instr_name, kind_number}
 use Rattle.machine_table.specs.Roles as roles
-use Rattle.machine_table.specs.Roles.{Role, IsOwn, part_role, is_among}
+use Rattle.text_core.specs.Names.{is_among}
+use Rattle.machine_table.specs.Roles.{Role, IsOwn, part_role}
 use Rattle.machine_table.specs.declared.tables.InstrKind.{InstrKind}
 use Rattle.machine_table.specs.declared.tables.Slot.{Slot}
 use Rattle.machine_table.specs.declared.tables.Use.{Use}
@@ -20,15 +21,15 @@ IsFaultAs role form = IsFault IsOwn part_role role form
 abbrev pub IsClear : Role → Form → Type 0
 IsClear role form = (place : ℕ) (kind : Kind) → IsFaultAs role form place kind → ⊥
 
-abbrev pub names_of : List Slot → List (List ℕ)
-names_of slots = map (λ (s : Slot). s.name) slots
+abbrev pub slot_names : List Slot → List (List ℕ)
+slot_names slots = map (λ (s : Slot). s.name) slots
 
 abbrev pub name_at : List Slot → ℕ → List ℕ
-name_at slots at = slice_index_or (names_of slots) at []
+name_at slots at = slice_index_or (slot_names slots) at []
 
 -- the names of the slots of these numbers
-abbrev pub names_used : List Slot → List ℕ → List (List ℕ)
-names_used slots used = map (name_at slots) used
+abbrev pub slot_names_used : List Slot → List ℕ → List (List ℕ)
+slot_names_used slots used = map (name_at slots) used
 
 abbrev pub names_of_uses : List Use → List (List ℕ)
 names_of_uses uses = map (λ (u : Use). instr_name u.instr) uses
@@ -56,15 +57,15 @@ pub record AreSlotsRead (form : Form) (slots : List Slot) : Type 0 where
   pub clear : IsClear roles.slots form
 
 -- numbers of slots, each of which exists and stands once
-pub record AreNumbers (slots : List Slot) (used : List ℕ) : Type 0 where
+pub record AreSlotNumbers (slots : List Slot) (used : List ℕ) : Type 0 where
   pub exist : All (λ s. s < length slots) used
   pub once : AllPairs (λ s r. s ≢ r) used
 
 -- the number of a slot that stands behind others
 pub record IsUsedRead (slots : List Slot) (used : List ℕ) (form : Form) (at : ℕ) : Type 0 where
   pub named : IsSlotNamed slots form at
-  pub fresh : is_among (names_used slots used) (name_at slots at) ≡ false
-  pub clear : IsClear (roles.used_slot (names_of slots) (names_used slots used)) form
+  pub fresh : is_among (slot_names_used slots used) (name_at slots at) ≡ false
+  pub clear : IsClear (roles.used_slot (slot_names slots) (slot_names_used slots used)) form
 
 -- the slot of this number has the name
 pub record IsNameAt (slots : List Slot) (name : List ℕ) (at : ℕ) : Type 0 where
@@ -79,8 +80,8 @@ pub record AreUsedRead (slots : List Slot) (form : Form) (used : List ℕ) : Typ
   pub is : form ≡ list place (forms_from forms)
   pub named : Each (IsSlotNamed slots) forms used
   pub some : 0 < length used
-  pub numbers : AreNumbers slots used
-  pub clear : IsClear (roles.used_slots (names_of slots)) form
+  pub numbers : AreSlotNumbers slots used
+  pub clear : IsClear (roles.used_slots (slot_names slots)) form
 
 -- an instruction that stands behind others
 pub record IsInstrRead (before : List (List ℕ)) (form : Form) (instr : InstrKind) : Type 0 where
@@ -92,7 +93,7 @@ pub record IsInstrRead (before : List (List ℕ)) (form : Form) (instr : InstrKi
 pub record IsUseOf (slots : List Slot) (u : Use) : Type 0 where
   pub latency : (1 ≤ u.latency) × (u.latency ≤ 16)
   pub some : 0 < length u.slots
-  pub numbers : AreNumbers slots u.slots
+  pub numbers : AreSlotNumbers slots u.slots
 
 -- uses within the limits, of different instructions, in any order
 pub record AreUses (slots : List Slot) (uses : List Use) : Type 0 where
@@ -105,7 +106,7 @@ pub record AreOpsRead (slots : List Slot) (before : List Use) (form : Form) (aft
   pub is : after ≡ before ++ added
   pub written : WritesOps slots form added
   pub uses : AreUses slots after
-  pub clear : IsClear (roles.ops (names_of slots) (names_of_uses before)) form
+  pub clear : IsClear (roles.ops (slot_names slots) (names_of_uses before)) form
 
 -- the delay between clusters
 pub record IsCrossRead (form : Form) (delay : ℕ) : Type 0 where

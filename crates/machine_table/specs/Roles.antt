@@ -1,24 +1,15 @@
 -- The faults of a machine form. Source: this project.
-use Rattle.std.specs.Prelude.{Bool, true, false, ℕ, zero, suc, ◌≡◌, ◌<◌, nat_lt, if◌then◌else◌, List, [], ◌∷◌, ◌++◌, length, take, drop, slice_get, filter_map, codes, bytes_eq, Option, Some, None, is_some}
+use Rattle.std.specs.Prelude.{Bool, true, false, ℕ, zero, suc, ◌≡◌, ◌<◌, nat_lt, if◌then◌else◌, List, [], ◌∷◌, ◌++◌, length, take, drop, filter_map, codes, bytes_eq, Option, Some, None, is_some}
 use Rattle.std.specs.Option.{option_map_or, option_and_then}
-use Rattle.std.specs.List.{list_any}
 use Rattle.forms.specs.Faults.{IsFault}
-use Rattle.forms.specs.Forms.{Form, name_in, number_in, head_in, is_list, parts_of}
+use Rattle.forms.specs.Forms.{Form, name_in, names_in, number_in, head_in, is_list, part, parts_of}
 use Rattle.machine_table.specs.InstrOrder.{instr_named}
+use Rattle.text_core.specs.Names.{is_among}
 use Rattle.text_core.specs.declared.faults.Kind.{Kind}
 use Rattle.text_core.specs.declared.faults.Kind.TheVariants.{BadForm, UnknownName, BadSlot, BadLatency, OpTwice}
 
-abbrev pub is_among : List (List ℕ) → List ℕ → Bool
-is_among names name = list_any (λ other. bytes_eq other name) names
-
-abbrev pub names_in : List Form → List (List ℕ)
-names_in forms = filter_map name_in forms
-
 abbrev pub has_head : List ℕ → Form → Bool
 has_head word form = option_map_or (λ name. bytes_eq name word) (head_in form) false
-
-abbrev pub part : ℕ → Form → Option Form
-part at form = slice_get (parts_of form) at
 
 -- the name that a list begins with
 abbrev pub first_name : Form → Option (List ℕ)
@@ -29,8 +20,8 @@ abbrev pub slots_in : List Form → List (List ℕ)
 slots_in forms = filter_map first_name forms
 
 -- the slots of a machine form: those of its second part
-abbrev pub slots_of : Form → List (List ℕ)
-slots_of form = option_map_or (λ slots. slots_in (drop 1 (parts_of slots))) (part 1 form) []
+abbrev pub slots_in_form : Form → List (List ℕ)
+slots_in_form form = option_map_or (λ slots. slots_in (drop 1 (parts_of slots))) (part 1 form) []
 
 -- the names of instructions in an `ops` list, and in several
 abbrev pub named_in_ops : Form → List (List ℕ)
@@ -123,7 +114,7 @@ part_role machine form zero = None
 part_role machine form (suc zero) = Some slots
 part_role machine form (suc (suc zero)) = Some cross
 part_role machine form (suc (suc (suc at))) =
-    Some (ops (slots_of form) (named_in_all (take at (drop 3 (parts_of form)))))
+    Some (ops (slots_in_form form) (named_in_all (take at (drop 3 (parts_of form)))))
 part_role slots form zero = None
 part_role slots form (suc at) =
     Some (if nat_lt at 8 then slot (slots_in (take at (drop 1 (parts_of form)))) else ninth_slot)

@@ -1,7 +1,7 @@
 // Reading a machine form.
 ghost use Rattle.std.specs.Prelude.{◌≡◌, ◌≤◌, IfOk, IfErr, IsPermutation};
 ghost use Rattle.forms.specs.Forms.{sexp_form};
-ghost use Rattle.forms.specs.Reading.{IsOf};
+ghost use Rattle.forms.specs.Reading.{IsSexpOf};
 ghost use Rattle.machine_table.specs.Grammar.{IsNumberOf, WritesTable};
 ghost use Rattle.machine_table.specs.Reading.{DontFall, IsClear, IsCrossRead, IsFaultAs};
 ghost use Rattle.machine_table.specs.Roles as roles;
@@ -21,7 +21,7 @@ use text_core::{Kind, Sexp, TextFault};
 
 /// The number of cycles between clusters.
 fn delay(form: &Sexp, text: &[u8]) -> Result<u32, TextFault>
-    requires of { IsOf text.now form.now }
+    requires of { IsSexpOf text.now form.now }
     ensures delay { IfOk result (λ n. IsNumberOf n (sexp_form text.now form.now)) }
     ensures below { IfOk result (λ n. n ≤ 4) }
     ensures clear { IfOk result (λ _. IsClear roles.delay (sexp_form text.now form.now)) }
@@ -39,7 +39,7 @@ fn delay(form: &Sexp, text: &[u8]) -> Result<u32, TextFault>
 
 /// Reads `( cross NUMBER )`.
 fn cross(form: &Sexp, text: &[u8]) -> Result<u32, TextFault>
-    requires of { IsOf text.now form.now }
+    requires of { IsSexpOf text.now form.now }
     ensures cross { IfOk result (IsCrossRead (sexp_form text.now form.now)) }
     ensures fault { IfErr result (IsFaultBy (IsFirst (IsFaultAs roles.cross (sexp_form text.now form.now)))) }
 {
@@ -74,7 +74,7 @@ fn in_order(uses: Items<Use>) -> Items<Use>
 }
 
 fn read_table(alloc: Global, form: &Sexp, text: &[u8]) -> Result<Table, TextFault>
-    requires of { IsOf text.now form.now }
+    requires of { IsSexpOf text.now form.now }
     ensures table { IfOk result (WritesTable (sexp_form text.now form.now)) }
     ensures is_table { IfOk result IsTable }
     ensures clear { IfOk result (λ _. IsClear roles.machine (sexp_form text.now form.now)) }
@@ -116,7 +116,7 @@ fn read_table(alloc: Global, form: &Sexp, text: &[u8]) -> Result<Table, TextFaul
 
 /// Reads a machine form. The cost is the square of the slots and instructions that it names, which are few.
 pub fn read(alloc: Global, form: &Sexp, text: &[u8]) -> Result<Table, TextFault>
-    requires of { IsOf text.now form.now }
+    requires of { IsSexpOf text.now form.now }
 
     // What is read is in the grammar and within the limits, and what is in the grammar is read.
     ensures table { IfOk result (WritesTable (sexp_form text.now form.now)) }

@@ -1,6 +1,6 @@
 // Machine forms: what they write, and their first faults, as another reader of the notation found them.
 ghost use Rattle.std.specs.Prelude.{All, IfOk};
-ghost use Rattle.forms.specs.Reading.{IsOf};
+ghost use Rattle.forms.specs.Reading.{IsSexpOf};
 
 use crate::{Table, print, read};
 use forms::{at, trees};
@@ -176,7 +176,7 @@ const FAULTS: [(&[u8], u32, Kind); 48] = [
 ];
 
 fn forms_of(alloc: Global, text: &[u8]) -> Result<Vec<Sexp>, TextFault>
-    ensures { IfOk result (λ forms. All (IsOf text.now) forms.items) }
+    ensures { IfOk result (λ forms. All (IsSexpOf text.now) forms.items) }
 {
     if text.len() > 1000 {
         return Err(TextFault::Memory);

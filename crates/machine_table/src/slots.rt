@@ -1,11 +1,12 @@
 // Reading the slots of a machine form.
 ghost use Rattle.std.specs.Prelude.{◌≡◌, ◌≤◌, IfOk, IfErr};
 ghost use Rattle.forms.specs.Forms.{sexp_form};
-ghost use Rattle.forms.specs.Reading.{IsOf};
+ghost use Rattle.forms.specs.Reading.{IsSexpOf};
 ghost use Rattle.machine_table.specs.Grammar.{IsNumberOf};
-ghost use Rattle.machine_table.specs.Reading.{AreSlotsRead, IsClear, IsFaultAs, IsSlotRead, names_of};
+ghost use Rattle.machine_table.specs.Reading.{AreSlotsRead, IsClear, IsFaultAs, IsSlotRead, slot_names};
 ghost use Rattle.machine_table.specs.Roles as roles;
-ghost use Rattle.machine_table.specs.Roles.{is_among, has_head};
+ghost use Rattle.text_core.specs.Names.{is_among};
+ghost use Rattle.machine_table.specs.Roles.{has_head};
 ghost use Rattle.text_core.specs.Faults.{IsFaultBy, IsFirst};
 
 use crate::tables::Slot;
@@ -16,7 +17,7 @@ use text_core::{Kind, Name, Sexp, TextFault};
 
 /// Whether the form is a list that begins with this name.
 pub fn has_keyword(form: &Sexp, text: &[u8], keyword: &[u8]) -> bool
-    requires of { IsOf text.now form.now }
+    requires of { IsSexpOf text.now form.now }
     ensures { result ≡ has_head keyword.now (sexp_form text.now form.now) }
 {
     let Some(parts) = parts(form) else {
@@ -32,7 +33,7 @@ pub fn has_keyword(form: &Sexp, text: &[u8], keyword: &[u8]) -> bool
 }
 
 fn is_slot(slots: &[Slot], name: &[u8]) -> bool
-    ensures { result ≡ is_among (names_of slots.now) name.now }
+    ensures { result ≡ is_among (slot_names slots.now) name.now }
 {
     for slot in slots {
         if slot.name.bytes() == name {
@@ -44,7 +45,7 @@ fn is_slot(slots: &[Slot], name: &[u8]) -> bool
 
 /// The number of a slot's cluster.
 fn cluster(form: &Sexp, text: &[u8]) -> Result<u8, TextFault>
-    requires of { IsOf text.now form.now }
+    requires of { IsSexpOf text.now form.now }
     ensures cluster { IfOk result (λ n. IsNumberOf n (sexp_form text.now form.now)) }
     ensures below { IfOk result (λ n. n ≤ 3) }
     ensures clear { IfOk result (λ _. IsClear roles.cluster (sexp_form text.now form.now)) }
@@ -62,10 +63,10 @@ fn cluster(form: &Sexp, text: &[u8]) -> Result<u8, TextFault>
 
 /// Reads `( NAME NUMBER )`, behind these slots.
 fn slot(alloc: Global, form: &Sexp, text: &[u8], slots: &[Slot]) -> Result<Slot, TextFault>
-    requires of { IsOf text.now form.now }
-    ensures slot { IfOk result (IsSlotRead (names_of slots.now) (sexp_form text.now form.now)) }
+    requires of { IsSexpOf text.now form.now }
+    ensures slot { IfOk result (IsSlotRead (slot_names slots.now) (sexp_form text.now form.now)) }
     ensures fault { IfErr result (IsFaultBy (IsFirst
-        (IsFaultAs (roles.slot (names_of slots.now)) (sexp_form text.now form.now)))) }
+        (IsFaultAs (roles.slot (slot_names slots.now)) (sexp_form text.now form.now)))) }
 {
     sexps_are_forms();
     let Some(parts) = parts(form) else {
@@ -94,7 +95,7 @@ fn slot(alloc: Global, form: &Sexp, text: &[u8], slots: &[Slot]) -> Result<Slot,
 
 /// The fault of what stands behind eight slots.
 fn ninth_slot(form: &Sexp, text: &[u8]) -> TextFault
-    requires of { IsOf text.now form.now }
+    requires of { IsSexpOf text.now form.now }
     ensures { IsFaultBy (IsFirst (IsFaultAs roles.ninth_slot (sexp_form text.now form.now))) result }
 {
     sexps_are_forms();
@@ -106,7 +107,7 @@ fn ninth_slot(form: &Sexp, text: &[u8]) -> TextFault
 
 /// Reads `( slots {slot} )`.
 pub fn slots(alloc: Global, form: &Sexp, text: &[u8]) -> Result<Items<Slot>, TextFault>
-    requires of { IsOf text.now form.now }
+    requires of { IsSexpOf text.now form.now }
     ensures slots { IfOk result (AreSlotsRead (sexp_form text.now form.now)) }
     ensures fault { IfErr result (IsFaultBy (IsFirst (IsFaultAs roles.slots (sexp_form text.now form.now)))) }
 {

@@ -1,12 +1,12 @@
 // Reading the `ops` lists of a machine form.
 ghost use Rattle.std.specs.Prelude.{◌≡◌, ◌≤◌, IfOk, IfErr, OnOk, MatchOption, false};
 ghost use Rattle.forms.specs.Forms.{sexp_form};
-ghost use Rattle.forms.specs.Reading.{IsOf};
+ghost use Rattle.forms.specs.Reading.{IsSexpOf};
 ghost use Rattle.machine_table.specs.Grammar.{IsNumberOf};
 ghost use Rattle.machine_table.specs.InstrOrder.{instr_name};
-ghost use Rattle.machine_table.specs.Reading.{AreNumbers, AreOpsRead, AreSlots, AreUsedRead, AreUses, IsClear, IsFaultAs, IsInstrRead, IsNameAt, IsUsedRead, names_of, names_of_uses, names_used};
+ghost use Rattle.machine_table.specs.Reading.{AreSlotNumbers, AreOpsRead, AreSlots, AreUsedRead, AreUses, IsClear, IsFaultAs, IsInstrRead, IsNameAt, IsUsedRead, slot_names, names_of_uses, slot_names_used};
 ghost use Rattle.machine_table.specs.Roles as roles;
-ghost use Rattle.machine_table.specs.Roles.{is_among};
+ghost use Rattle.text_core.specs.Names.{is_among};
 ghost use Rattle.text_core.specs.Faults.{IsFaultBy, IsFirst};
 
 use crate::names::{instr_name, instr_of};
@@ -19,7 +19,7 @@ use text_core::{Kind, Sexp, TextFault};
 
 /// How many cycles an instruction takes.
 fn latency(form: &Sexp, text: &[u8]) -> Result<u32, TextFault>
-    requires of { IsOf text.now form.now }
+    requires of { IsSexpOf text.now form.now }
     ensures latency { IfOk result (λ n. IsNumberOf n (sexp_form text.now form.now)) }
     ensures within { IfOk result (λ n. (1 ≤ n) × (n ≤ 16)) }
     ensures clear { IfOk result (λ _. IsClear roles.latency (sexp_form text.now form.now)) }
@@ -38,7 +38,7 @@ fn latency(form: &Sexp, text: &[u8]) -> Result<u32, TextFault>
 /// The number of the first slot of this name.
 fn slot_of(slots: &[Slot], name: &[u8]) -> Option<u32>
     requires { AreSlots slots.now }
-    ensures { MatchOption result (is_among (names_of slots.now) name.now ≡ false) (IsNameAt slots.now name.now) }
+    ensures { MatchOption result (is_among (slot_names slots.now) name.now ≡ false) (IsNameAt slots.now name.now) }
 {
     for number in 0..slots.len() {
         if slots[number].name.bytes() == name {
@@ -50,12 +50,12 @@ fn slot_of(slots: &[Slot], name: &[u8]) -> Option<u32>
 
 /// The number of a slot, behind these.
 fn used_slot(form: &Sexp, text: &[u8], slots: &[Slot], used: &[u32]) -> Result<u32, TextFault>
-    requires of { IsOf text.now form.now }
+    requires of { IsSexpOf text.now form.now }
     requires slots { AreSlots slots.now }
-    requires used { AreNumbers slots.now used.now }
+    requires used { AreSlotNumbers slots.now used.now }
     ensures used { IfOk result (IsUsedRead slots.now used.now (sexp_form text.now form.now)) }
     ensures fault { IfErr result (IsFaultBy (IsFirst (IsFaultAs
-        (roles.used_slot (names_of slots.now) (names_used slots.now used.now)) (sexp_form text.now form.now)))) }
+        (roles.used_slot (slot_names slots.now) (slot_names_used slots.now used.now)) (sexp_form text.now form.now)))) }
 {
     sexps_are_forms();
     let Some(bytes) = name(form, text) else {
@@ -77,11 +77,11 @@ fn used_slots(
     text: &[u8],
     slots: &[Slot],
 ) -> Result<Items<u32>, TextFault>
-    requires of { IsOf text.now form.now }
+    requires of { IsSexpOf text.now form.now }
     requires slots { AreSlots slots.now }
     ensures used { IfOk result (AreUsedRead slots.now (sexp_form text.now form.now)) }
     ensures fault { IfErr result (IsFaultBy (IsFirst
-        (IsFaultAs (roles.used_slots (names_of slots.now)) (sexp_form text.now form.now)))) }
+        (IsFaultAs (roles.used_slots (slot_names slots.now)) (sexp_form text.now form.now)))) }
 {
     sexps_are_forms();
     let Some(parts) = parts(form) else {
@@ -114,7 +114,7 @@ fn is_named(uses: &[Use], name: &[u8]) -> bool
 
 /// The instruction of a name, behind these uses.
 fn instr(form: &Sexp, text: &[u8], uses: &[Use]) -> Result<InstrKind, TextFault>
-    requires of { IsOf text.now form.now }
+    requires of { IsSexpOf text.now form.now }
     ensures instr { IfOk result (IsInstrRead (names_of_uses uses.now) (sexp_form text.now form.now)) }
     ensures fault { IfErr result (IsFaultBy (IsFirst
         (IsFaultAs (roles.instr (names_of_uses uses.now)) (sexp_form text.now form.now)))) }
@@ -140,12 +140,12 @@ pub fn ops(
     slots: &[Slot],
     uses: &mut Items<Use>,
 ) -> Result<(), TextFault>
-    requires of { IsOf text.now form.now }
+    requires of { IsSexpOf text.now form.now }
     requires slots { AreSlots slots.now }
     requires uses { AreUses slots.now uses.old }
     ensures ops { OnOk result (AreOpsRead slots.now uses.old (sexp_form text.now form.now) uses.new) }
     ensures fault { IfErr result (IsFaultBy (IsFirst
-        (IsFaultAs (roles.ops (names_of slots.now) (names_of_uses uses.old)) (sexp_form text.now form.now)))) }
+        (IsFaultAs (roles.ops (slot_names slots.now) (names_of_uses uses.old)) (sexp_form text.now form.now)))) }
 {
     sexps_are_forms();
     if !has_keyword(form, text, b"ops") {

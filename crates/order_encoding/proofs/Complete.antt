@@ -6,7 +6,7 @@ use Rattle.std.proofs.lemmas.Bool.{false≢true, cases_Bool, eqb-true, eqb-false
 use Rattle.std.proofs.lemmas.List.Sums.{sum_by-le-sum_by}
 use Rattle.std.proofs.lemmas.List.Elements.{All-contains, All-weaker, Contains-get_or}
 use Rattle.machine_table.specs.Tables.{IsTable, cluster_of}
-use Rattle.launch_graph.specs.Graphs.{memory_target, is_memory_name}
+use Rattle.launch_graph.specs.Graphs.{memory_target, is_memory_name, is_zero_class}
 use Rattle.launch_graph.specs.WellFormed.{IsLaunchGraph, next_class}
 use Rattle.schedule_meaning.specs.Launches.{launches, gives_word, is_store, is_load, is_branch, is_held, class_at, memory_class_at, operands_at, ready_in, memory_before, IsFree, IsReadable, Gives, Operand, gives}
 use Rattle.schedule_meaning.specs.Fits.{CanLaunch, CanRead, EndsBy, IsReached, IsLatestStore, IsLeft, Fits}
@@ -17,7 +17,7 @@ use Rattle.launch_graph.specs.declared.graphs.Guard.{Guard}
 use Rattle.schedule_meaning.specs.declared.schedules.Launch.{Launch}
 use Rattle.cycle_encoding.specs.Shapes.{when}
 use Rattle.cycle_encoding.specs.CycleFormula.{Listed, wide}
-use Rattle.cycle_encoding.specs.Variables.{all_launches, made_classes, classes_of, is_word_class, is_input, is_zero}
+use Rattle.cycle_encoding.specs.Variables.{all_launches, made_classes, classes_of, is_word_class, is_input}
 use Rattle.cycle_encoding.specs.declared.seen.Seen.{Seen}
 use Rattle.order_encoding.specs.OrderVariables.{memory_classes, is_memory_class, all_held, all_taken, Held, Taken}
 use Rattle.cycle_encoding.specs.Families.{is_at, is_free, is_made, is_made_target, is_seen, makes, any}
@@ -75,10 +75,10 @@ made_class g o l h gave =
     let p = and_parts (not (is_free g o)) (not (is_input g o.class)) h in
     let w = subst (λ c. (is_word_class g c ≡ true) × (c < next_class g.rows)) gave.1 (word-launch g l gave.0) in
     let bound = w.1 in
-    let zero_free : is_zero g o.class ≡ true → ⊥ = λ z. false≢true (sym (not-true (is_free g o) p.0) ∙ or_left (is_zero g o.class) (o.second && _) z) in
-    filter-in (λ c. is_word_class g c && (not (is_input g c) && not (is_zero g c))) (classes_of g) o.class (range-in 0 (next_class g.rows) o.class (omega arith) (omega arith))
-    (and_from (is_word_class g o.class) (not (is_input g o.class) && not (is_zero g o.class)) w.0
-    (and_from (not (is_input g o.class)) (not (is_zero g o.class)) p.1 (not_from_false (is_zero g o.class) (false_from_ne_true (is_zero g o.class) zero_free))))
+    let zero_free : is_zero_class g o.class ≡ true → ⊥ = λ z. false≢true (sym (not-true (is_free g o) p.0) ∙ or_left (is_zero_class g o.class) (o.second && _) z) in
+    filter-in (λ c. is_word_class g c && (not (is_input g c) && not (is_zero_class g c))) (classes_of g) o.class (range-in 0 (next_class g.rows) o.class (omega arith) (omega arith))
+    (and_from (is_word_class g o.class) (not (is_input g o.class) && not (is_zero_class g o.class)) w.0
+    (and_from (not (is_input g o.class)) (not (is_zero_class g o.class)) p.1 (not_from_false (is_zero_class g o.class) (false_from_ne_true (is_zero_class g o.class) zero_free))))
 
 -- the list of all launches that end by k serves each schedule that fits
 pub wide-serves : (g : LaunchGraph) (table : Table) (k : ℕ) (ls : List Launch) → IsTable table → Fits g table k ls → Serves g table k (wide g table k) ls
@@ -182,16 +182,16 @@ module _ (g : LaunchGraph) (table : Table) (k : ℕ) (ls : List Launch) (e : Lis
 
     made_target : (s : SetClass) → is_made_target g s ≡ true → IsReached g ls s → list_any (gives g s.class) S ≡ true
     made_target s t (inl m) =
-        let p = and_parts (not (is_memory_name s.name)) (not (is_input g s.class) && not (is_zero g s.class)) t in
+        let p = and_parts (not (is_memory_name s.name)) (not (is_input g s.class) && not (is_zero_class g s.class)) t in
         absurd (false≢true (sym (not-true (is_memory_name s.name) p.0) ∙ m))
     made_target s t (inr (inl i)) =
-        let p = and_parts (not (is_memory_name s.name)) (not (is_input g s.class) && not (is_zero g s.class)) t in
-        let q = and_parts (not (is_input g s.class)) (not (is_zero g s.class)) p.1 in
+        let p = and_parts (not (is_memory_name s.name)) (not (is_input g s.class) && not (is_zero_class g s.class)) t in
+        let q = and_parts (not (is_input g s.class)) (not (is_zero_class g s.class)) p.1 in
         absurd (false≢true (sym (not-true (is_input g s.class) q.0) ∙ input-from g s.class i))
     made_target s t (inr (inr (inl z))) =
-        let p = and_parts (not (is_memory_name s.name)) (not (is_input g s.class) && not (is_zero g s.class)) t in
-        let q = and_parts (not (is_input g s.class)) (not (is_zero g s.class)) p.1 in
-        absurd (false≢true (sym (not-true (is_zero g s.class) q.1) ∙ zero-from g s.class z))
+        let p = and_parts (not (is_memory_name s.name)) (not (is_input g s.class) && not (is_zero_class g s.class)) t in
+        let q = and_parts (not (is_input g s.class)) (not (is_zero_class g s.class)) p.1 in
+        absurd (false≢true (sym (not-true (is_zero_class g s.class) q.1) ∙ zero-from g s.class z))
     made_target s t (inr (inr (inr (j, l, lt, e', h)))) = pass (gives g s.class) (some_in (gives g s.class) ls l (j, lt, e') (gives-from g s.class l h))
 
     -- an operand that has to be made is seen

@@ -15,7 +15,7 @@ use Rattle.schedule_meaning.specs.Launches.{launches, is_branch}
 use Rattle.schedule_meaning.specs.declared.schedules.Launch.{Launch}
 use Rattle.order_encoding.specs.OrderVariables.{Held, all_held, all_taken}
 use Rattle.order_encoding.specs.OrderFamilies.{branches_by, register_clauses, entry_clauses, memory_clauses, kept_clauses, held_groups, store_groups, last_clauses}
-use Rattle.order_encoding.specs.OrderSteps.{with_memory, with_guard, with_pool, comes_after}
+use Rattle.order_encoding.specs.OrderSteps.{with_memory, formula_with_guard, formula_with_pool, comes_after}
 use Rattle.cycle_encoding.specs.Shapes.{numbered, vars_of, implied, when, counters, counters_vars, counters_size}
 use Rattle.cycle_encoding.specs.Steps.{with_clauses, with_counters}
 use Rattle.cycle_encoding.proofs.Adding.{added}
@@ -247,7 +247,7 @@ module _ (g : LaunchGraph) (k : ℕ) (xs : List (ℕ × Launch)) (f : Formula) w
         ++ implied (numbered first (range_with_len 0 k)) (λ t. vars_of (branches_by g t) xs ∷ []));
   }
 
-  pub guard-by-numbers : (first n : ℕ) (ls : List Lit) → is_some g.guard ≡ true → first ≡ f.vars → n ≡ f.vars + k → ls ≡ lits → with_branch first n ls ≡ with_guard g k xs f
+  pub guard-by-numbers : (first n : ℕ) (ls : List Lit) → is_some g.guard ≡ true → first ≡ f.vars → n ≡ f.vars + k → ls ≡ lits → with_branch first n ls ≡ formula_with_guard g k xs f
   guard-by-numbers first n ls t ef en el =
       ap (with_branch first n) el
       ∙ ap (λ m. with_branch m n lits) ef
@@ -309,7 +309,7 @@ module _ (g : LaunchGraph) (k : ℕ) (xs : List (ℕ × Launch)) (f : Formula) (
         ++ counters n (length g.pool) (vars_of any (numbered first (all_taken table k)) ∷ []));
   }
 
-  pub pool-by-numbers : (first n : ℕ) → first ≡ f.vars → n ≡ f.vars + length (all_taken table k) → with_registers first n ≡ with_pool g k xs f table
+  pub pool-by-numbers : (first n : ℕ) → first ≡ f.vars → n ≡ f.vars + length (all_taken table k) → with_registers first n ≡ formula_with_pool g k xs f table
   pool-by-numbers first n ef en = ap (λ x. with_registers x n) ef ∙ ap (with_registers f.vars) en
 
 pub has_guard : (g h : LaunchGraph) (none : Bool) → h ≡ g → is_some h.guard ≡ not none → none ≡ false → is_some g.guard ≡ true

@@ -14,7 +14,7 @@ use Rattle.cycle_encoding.specs.CycleFormula.{wide, cycle_formula}
 use Rattle.cycle_encoding.specs.Plans.{IsTooLarge, PassesLimit}
 use Rattle.cycle_encoding.proofs.Launched.{cycle-vars, cycle-size}
 use Rattle.order_encoding.specs.OrderCounts.{memory_vars, memory_size, guard_vars, guard_size, pool_vars, pool_size}
-use Rattle.order_encoding.specs.OrderSteps.{with_memory, with_guard, with_pool}
+use Rattle.order_encoding.specs.OrderSteps.{with_memory, formula_with_guard, formula_with_pool}
 use Rattle.order_encoding.specs.WholeFormula.{memory_formula, guard_formula, whole_formula}
 use Rattle.order_encoding.proofs.Sized.{memory-vars, guard-vars, whole-vars, with-memory-size, with-guard-size, whole-size}
 
@@ -122,12 +122,12 @@ module _ (g h : LaunchGraph) (table : Table) (k j : ℕ) (eh : h ≡ g) (ej : j 
         ap (λ (x : LaunchGraph). with_memory x j (numbered 0 ls) f) eh ∙ ap (λ x. with_memory g x (numbered 0 ls) f) ej
         ∙ ap (λ (x : List Launch). with_memory g k (numbered 0 x) f) els ∙ ap (with_memory g k (numbered 0 all)) ef
 
-    pub guard_now : f ≡ memories → with_guard h j (numbered 0 ls) f ≡ guards
+    pub guard_now : f ≡ memories → formula_with_guard h j (numbered 0 ls) f ≡ guards
     guard_now ef =
-        ap (λ (x : LaunchGraph). with_guard x j (numbered 0 ls) f) eh ∙ ap (λ x. with_guard g x (numbered 0 ls) f) ej
-        ∙ ap (λ (x : List Launch). with_guard g k (numbered 0 x) f) els ∙ ap (with_guard g k (numbered 0 all)) ef
+        ap (λ (x : LaunchGraph). formula_with_guard x j (numbered 0 ls) f) eh ∙ ap (λ x. formula_with_guard g x (numbered 0 ls) f) ej
+        ∙ ap (λ (x : List Launch). formula_with_guard g k (numbered 0 x) f) els ∙ ap (formula_with_guard g k (numbered 0 all)) ef
 
-    pub pool_now : f ≡ guards → with_pool h j (numbered 0 ls) f table ≡ wholes
+    pub pool_now : f ≡ guards → formula_with_pool h j (numbered 0 ls) f table ≡ wholes
     pool_now ef =
-        ap (λ (x : LaunchGraph). with_pool x j (numbered 0 ls) f table) eh ∙ ap (λ x. with_pool g x (numbered 0 ls) f table) ej
-        ∙ ap (λ (x : List Launch). with_pool g k (numbered 0 x) f table) els ∙ ap (λ (x : Formula). with_pool g k (numbered 0 all) x table) ef
+        ap (λ (x : LaunchGraph). formula_with_pool x j (numbered 0 ls) f table) eh ∙ ap (λ x. formula_with_pool g x (numbered 0 ls) f table) ej
+        ∙ ap (λ (x : List Launch). formula_with_pool g k (numbered 0 x) f table) els ∙ ap (λ (x : Formula). formula_with_pool g k (numbered 0 all) x table) ef

@@ -7,7 +7,7 @@ use Rattle.std.proofs.lemmas.List.Sums.{sum_by-le}
 use Rattle.std.proofs.lemmas.List.FromFn.{length-range_with_len, get_or-range_with_len}
 use Rattle.std.proofs.lemmas.List.Elements.{All-weaker, All-contains, Contains-get_or}
 use Rattle.machine_table.specs.Tables.{cluster_of}
-use Rattle.launch_graph.specs.Graphs.{memory_target, is_memory_name}
+use Rattle.launch_graph.specs.Graphs.{memory_target, is_memory_name, is_zero_class}
 use Rattle.schedule_meaning.specs.Launches.{launches, gives_word, is_store, is_load, is_branch, is_held, class_at, memory_class_at, operands_at, ready_in, IsFree, IsReadable, Gives, Operand, gives}
 use Rattle.schedule_meaning.specs.Fits.{CanLaunch, Collide, CanRead, EndsBy, IsReached, IsLatestStore, IsLeft, UsesMemory, KeepsMemory, HasOneBranch, Waits, Fits}
 use Rattle.machine_table.specs.declared.tables.Table.{Table}
@@ -15,7 +15,7 @@ use Rattle.launch_graph.specs.declared.graphs.LaunchGraph.{LaunchGraph}
 use Rattle.launch_graph.specs.declared.graphs.SetClass.{SetClass}
 use Rattle.launch_graph.specs.declared.graphs.Guard.{Guard}
 use Rattle.schedule_meaning.specs.declared.schedules.Launch.{Launch}
-use Rattle.cycle_encoding.specs.Variables.{is_input, is_zero}
+use Rattle.cycle_encoding.specs.Variables.{is_input}
 use Rattle.cycle_encoding.specs.declared.seen.Seen.{Seen}
 use Rattle.order_encoding.specs.OrderVariables.{Held, Taken}
 use Rattle.cycle_encoding.specs.Families.{is_at, is_free, is_made, is_made_target, is_seen, makes, any}
@@ -91,10 +91,10 @@ module _ (g : LaunchGraph) (table : Table) (k : ℕ) (S : List Launch) (listed :
           | inl m ↦ inl m
           | inr a ↦ elim (cases_Bool (is_input g s.class)) [
             | inl i ↦ inr (inl (input-is g s.class i))
-            | inr b ↦ elim (cases_Bool (is_zero g s.class)) [
+            | inr b ↦ elim (cases_Bool (is_zero_class g s.class)) [
               | inl z ↦ inr (inr (inl (zero-is g s.class z)))
               | inr c ↦
-                  (let l = some_of (gives g s.class) S (h (and_from (not (is_memory_name s.name)) (not (is_input g s.class) && not (is_zero g s.class)) (not_from_false (is_memory_name s.name) a) (and_from (not (is_input g s.class)) (not (is_zero g s.class)) (not_from_false (is_input g s.class) b) (not_from_false (is_zero g s.class) c)))) in
+                  (let l = some_of (gives g s.class) S (h (and_from (not (is_memory_name s.name)) (not (is_input g s.class) && not (is_zero_class g s.class)) (not_from_false (is_memory_name s.name) a) (and_from (not (is_input g s.class)) (not (is_zero_class g s.class)) (not_from_false (is_input g s.class) b) (not_from_false (is_zero_class g s.class) c)))) in
                   inr (inr (inr (any_from (Gives g s.class) S l.0 l.1 (gives-is g s.class l.0 l.2)))))
             ]
           ]

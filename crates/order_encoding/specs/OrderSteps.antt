@@ -132,8 +132,8 @@ module _ (g : LaunchGraph) (k : ℕ) (xs : List (ℕ × Launch)) (f : Formula) w
   abbrev pub new_come : List (ℕ × ℕ)
   new_come = numbered f.vars new_come_cycles
 
-  abbrev pub with_guard : Formula
-  with_guard = record {
+  abbrev pub formula_with_guard : Formula
+  formula_with_guard = record {
     vars = f.vars + length new_come_cycles + counters_vars 1 (branch_groups g xs);
     clauses = f.clauses ++ (branch_clauses g xs
         ++ counters (f.vars + length new_come_cycles) 1 (branch_groups g xs)
@@ -145,8 +145,8 @@ module _ (g : LaunchGraph) (k : ℕ) (xs : List (ℕ × Launch)) (f : Formula) w
     abbrev pub new_taken : List (ℕ × Taken)
     new_taken = numbered f.vars (all_taken table k)
 
-    abbrev pub with_pool : Formula
-    with_pool = record {
+    abbrev pub formula_with_pool : Formula
+    formula_with_pool = record {
       vars = f.vars + length (all_taken table k) + counters_vars (length g.pool) (register_groups new_taken);
       clauses = f.clauses ++ (register_clauses g xs new_taken
           ++ counters (f.vars + length (all_taken table k)) (length g.pool) (register_groups new_taken));

@@ -10,7 +10,7 @@ ghost use Rattle.cycle_encoding.specs.Plans.{IsTooLarge, plan_of};
 ghost use Rattle.cycle_encoding.specs.Shapes.{positive, implied, numbered, vars_of};
 ghost use Rattle.cycle_encoding.specs.Steps.{of_thing, with_clauses};
 ghost use Rattle.order_encoding.specs.OrderFamilies.{branches_by};
-ghost use Rattle.order_encoding.specs.OrderSteps.{comes_after, launched_in, with_guard};
+ghost use Rattle.order_encoding.specs.OrderSteps.{comes_after, launched_in, formula_with_guard};
 ghost use Rattle.order_encoding.specs.WholeFormula.{guard_formula, memory_formula};
 
 use crate::counts::{grown, guard_sizes, pass_limit};
@@ -123,9 +123,9 @@ pub fn extend_by_guard(
     k: u32,
 ) -> Result<(), NoMemory>
     requires exist { length launches.now ≤ cnf.old.vars }
-    requires vars { (with_guard facts.now k (numbered 0 launches.now) cnf.old).vars ≤ 262144 }
-    requires clauses { length (with_guard facts.now k (numbered 0 launches.now) cnf.old).clauses ≤ 2000000 }
-    ensures { OnOk result (cnf.new ≡ with_guard facts.now k (numbered 0 launches.now) cnf.old) }
+    requires vars { (formula_with_guard facts.now k (numbered 0 launches.now) cnf.old).vars ≤ 262144 }
+    requires clauses { length (formula_with_guard facts.now k (numbered 0 launches.now) cnf.old).clauses ≤ 2000000 }
+    ensures { OnOk result (cnf.new ≡ formula_with_guard facts.now k (numbered 0 launches.now) cnf.old) }
 {
     if facts.graph().guard.is_none() {
         return Ok(());

@@ -10,7 +10,7 @@ ghost use Rattle.cycle_encoding.specs.Shapes.{implied, numbered, vars_of};
 ghost use Rattle.cycle_encoding.specs.Steps.{listed, of_thing, with_clauses};
 ghost use Rattle.order_encoding.specs.OrderVariables.{all_taken, Taken};
 ghost use Rattle.order_encoding.specs.OrderFamilies.{is_taken_at, register_clauses};
-ghost use Rattle.order_encoding.specs.OrderSteps.{takes, with_pool};
+ghost use Rattle.order_encoding.specs.OrderSteps.{takes, formula_with_pool};
 ghost use Rattle.order_encoding.specs.WholeFormula.{guard_formula, whole_formula};
 
 use crate::counts::{grown, pass_limit, pool_sizes, registers};
@@ -119,9 +119,9 @@ pub fn extend_by_pool(
     requires cycles { k ≤ 24 }
     requires table { IsTable table.now }
     requires exist { length launches.now ≤ cnf.old.vars }
-    requires vars { (with_pool facts.now k (numbered 0 launches.now) cnf.old table.now).vars ≤ 262144 }
-    requires clauses { length (with_pool facts.now k (numbered 0 launches.now) cnf.old table.now).clauses ≤ 2000000 }
-    ensures { OnOk result (cnf.new ≡ with_pool facts.now k (numbered 0 launches.now) cnf.old table.now) }
+    requires vars { (formula_with_pool facts.now k (numbered 0 launches.now) cnf.old table.now).vars ≤ 262144 }
+    requires clauses { length (formula_with_pool facts.now k (numbered 0 launches.now) cnf.old table.now).clauses ≤ 2000000 }
+    ensures { OnOk result (cnf.new ≡ formula_with_pool facts.now k (numbered 0 launches.now) cnf.old table.now) }
 {
     counters_count();
     let first = cnf.vars();

@@ -34,8 +34,8 @@ fn whole_sizes(alloc: Global, facts: &Facts, table: &Table, k: u32) -> Result<Si
     counts_are_found();
     let cycle = cycle_sizes(alloc, facts, table, k)?;
     let with_memory = both(cycle, memory_sizes(facts, table, k));
-    let with_guard = both(with_memory, guard_sizes(facts, table, k));
-    Ok(both(with_guard, pool_sizes(facts, table, k)))
+    let formula_with_guard = both(with_memory, guard_sizes(facts, table, k));
+    Ok(both(formula_with_guard, pool_sizes(facts, table, k)))
 }
 
 /// The two counts of the whole formula, for which no clause is built. It goes over the graph's rows a few times for each

@@ -14,7 +14,7 @@ use Rattle.axiom_base.specs.Computed.{calc_rewrite, calc_variables, calc_left, c
 use Rattle.axiom_base.specs.Schemes.{Scheme, computed, IsOf, itself, calculated, folded}
 use Rattle.axiom_base.specs.declared.kinds.Calc.{Calc}
 use Rattle.egraph.specs.Graph.{Graph, IsGraph, HasConstant}
-use Rattle.pattern_match.specs.Classes.{HaveOneClass, CanRead}
+use Rattle.pattern_match.specs.Classes.{HaveOneClass, CanFindClass}
 use Rattle.pattern_match.specs.Bindings.{IsPlacement, CanGive, AreGiven, AreUnmet}
 use Rattle.pattern_match.specs.Matches.{IsMatch, IsUnmet, IsMatchOf, IsUnmetOf}
 use Rattle.pattern_match.proofs.Matching.{sort_below, placed_present, class_has, is_unmet, unmet_differs}
@@ -67,10 +67,10 @@ module _ (usable : AreWellFormed) (last : EndInConstants) where
     pub can_give : IsPlacement g (calc_left kind) (count_for kind) cs → CanGive g kind cs
     can_give h = record { graph = is; present = placed_present g is (calc_left kind) (count_for kind) (left_occurs kind) cs h; count = h.length_is }
 
-    pub left_can : CanGive g kind cs → CanRead g cs (calc_left kind)
+    pub left_can : CanGive g kind cs → CanFindClass g cs (calc_left kind)
     left_can h = record { graph = h.graph; present = h.present; below = subst (λ n. AreBelow n (calc_left kind)) (sym h.count) (left_below kind) }
 
-    pub right_can : (e : ℕ) → IsWord e → CanGive g kind cs → CanRead g cs (calc_right kind e)
+    pub right_can : (e : ℕ) → IsWord e → CanGive g kind cs → CanFindClass g cs (calc_right kind e)
     right_can e w h = record { graph = h.graph; present = h.present; below = subst (λ n. AreBelow n (calc_right kind e)) (sym h.count) (right_below kind e w) }
 
     module _ (numbers : AreNumbered) where

@@ -12,7 +12,7 @@ use Rattle.axiom_base.specs.Rewrites.{Rewrite, IsRule}
 use Rattle.axiom_base.specs.Schemes.{Scheme, plain, IsOf, itself, calculated, folded}
 use Rattle.egraph.specs.declared.rows.Row.{Row}
 use Rattle.egraph.specs.Graph.{Graph, IsGraph, HasClass, Agree}
-use Rattle.pattern_match.specs.Classes.{IsClass, AreClasses, at_variable, at_row, classes, HaveOneClass, CanRead}
+use Rattle.pattern_match.specs.Classes.{IsClass, AreClasses, at_variable, at_row, classes, HaveOneClass, CanFindClass}
 use Rattle.pattern_match.specs.Bindings.{IsPlacement}
 use Rattle.pattern_match.specs.Matches.{IsMatch, IsUnmet, IsMatchOf, IsUnmetOf}
 use Rattle.pattern_match.proofs.Walking.{one_class}
@@ -94,14 +94,14 @@ module _ (g : Graph Op) (is : IsGraph op_signature g) (r : Rewrite) (rule : IsRu
       let v = subst (λ q. IsUnmet g q cs u.class) (plain_only (plain r) u.rule r refl u.of) u.unmet in
       (match_rule u.class v.match, unmet_differs g r cs is.distinct u.class v)
 
-  pub left_reads : IsPlacement g r.left (length r.variables) cs → CanRead g cs r.left
+  pub left_reads : IsPlacement g r.left (length r.variables) cs → CanFindClass g cs r.left
   left_reads h = record {
     graph = is;
     present = placed_present g is r.left (length r.variables) rule.all cs h;
     below = subst (λ n. AreBelow n r.left) (sym h.length_is) (sort_below r.variables rule.sides.0 r.left rule.sides.1);
   }
 
-  pub right_reads : IsPlacement g r.left (length r.variables) cs → CanRead g cs r.right
+  pub right_reads : IsPlacement g r.left (length r.variables) cs → CanFindClass g cs r.right
   right_reads h = record {
     graph = is;
     present = placed_present g is r.left (length r.variables) rule.all cs h;

@@ -13,7 +13,7 @@ use Rattle.word_terms.specs.View.{tree_of, trees_of}
 use Rattle.word_terms.specs.declared.term.Term.{Term}
 use Rattle.word_terms.specs.declared.term.Term.TheVariants.{Var, App}
 use Rattle.egraph.specs.Graph.{Graph, HasClass, IsGraph, IsPresent, HasRow, LacksRow, AreMade, read_through}
-use Rattle.pattern_match.specs.Classes.{IsClass, AreClasses, at_variable, at_row, no_classes, classes, CanRead, HaveOneClass}
+use Rattle.pattern_match.specs.Classes.{IsClass, AreClasses, at_variable, at_row, no_classes, classes, CanFindClass, HaveOneClass}
 use Rattle.pattern_match.specs.Bindings.{nodes}
 use Rattle.pattern_match.proofs.Walking.{one_class, one_classes, are_push, below_at, variable_is, application_is, operands_smaller, in_trees, at_tree, one_more_tree, operand_smaller}
 use Rattle.pattern_match.proofs.Matching.{class_has}
@@ -32,7 +32,7 @@ module _ (g : Graph Op) (places : List ℕ) where
   abbrev pub Absent : Tree Op → Type 0
   Absent p = (c : ℕ) → IsClass g places p c → ⊥
 
-  pub variable_class : (p : Term Op) (n : ℕ) → CanRead g places (tree_of p) → p ≡ Var n → (n < length places) × IsClass g places (tree_of p) (get_or places n 0)
+  pub variable_class : (p : Term Op) (n : ℕ) → CanFindClass g places (tree_of p) → p ≡ Var n → (n < length places) × IsClass g places (tree_of p) (get_or places n 0)
   variable_class p n can is =
       let e = variable_is p n is in
       let l : AreBelow {O = Op} (length places) (variable n) = subst (AreBelow (length places)) e can.below in
@@ -49,7 +49,7 @@ module _ (g : Graph Op) (places : List ℕ) where
   have_each all (t ∷ ts) (classes h i) (suc k) d l = have_each all ts i k d (omega (arith, l))
 
   module _ (p x : Term Op) (op : Op) (v : Vec (Term Op) Global) (items : List (Term Op)) (k : ℕ) (is : p ≡ App op v) (e : items ≡ v.items) (l : k < length items) (at : x ≡ get_or items k x) where
-    pub operand_can_be_read : CanRead g places (tree_of p) → CanRead g places (tree_of x)
+    pub operand_can_be_read : CanFindClass g places (tree_of p) → CanFindClass g places (tree_of x)
     operand_can_be_read can =
         let b : AreBelow (length places) (application op (operands_of (trees_of items))) = subst (AreBelow (length places)) (tree_is p op v items is e) can.below in
         record { graph = can.graph; present = can.present; below = subst (AreBelow (length places)) (at_tree items k x l at) (below_at (length places) (trees_of items) k (tree_of x) b (in_trees items k x l at)) }
@@ -69,7 +69,7 @@ module _ (g : Graph Op) (places : List ℕ) where
   pub all_taken : (items : List (Term Op)) (k : ℕ) → length items ≤ k → take k (trees_of items) ≡ trees_of items
   all_taken items k h = take_all k (trees_of items) (omega (arith, h, length-map items (tree_of {O = Op})))
 
-  module _ (p : Term Op) (op : Op) (v : Vec (Term Op) Global) (items : List (Term Op)) (is : p ≡ App op v) (e : items ≡ v.items) (can : CanRead g places (tree_of p)) (cs : List ℕ) (read : AreClasses g places (operands_of (trees_of items)) cs) where
+  module _ (p : Term Op) (op : Op) (v : Vec (Term Op) Global) (items : List (Term Op)) (is : p ≡ App op v) (e : items ≡ v.items) (can : CanFindClass g places (tree_of p)) (cs : List ℕ) (read : AreClasses g places (operands_of (trees_of items)) cs) where
     pub all_made : AreMade g.current cs
     all_made n d l = (has_present g can.graph (get_or cs n d) (have_each can.present (trees_of items) read n d l)).made
 

@@ -32,7 +32,7 @@ pub record HaveOneClass {O : Type 0} (g : Graph O) (places : List ℕ) (t u : Tr
   pub second : IsClass g places u class
 
 -- the graph is one of the program's, its classes stand for the variables, and these are all that the term has
-pub record CanRead (g : Graph Op) (places : List ℕ) (t : Tree Op) : Type 0 where
+pub record CanFindClass (g : Graph Op) (places : List ℕ) (t : Tree Op) : Type 0 where
   pub graph : IsGraph op_signature g
   pub present : All (HasClass g) places
   pub below : AreBelow (length places) t

@@ -71,8 +71,9 @@ pub fn calc_need(alloc: Global, graph: &Egraph<Op>, kind: Calc) -> Result<u64, N
     Ok((found.len() as u64).saturating_mul(operators(&right)))
 }
 
-// The constant that those of the last classes give, or none.
-fn given(
+/// The constant e that those of the classes of c and d give, or `None` where one of these classes has no constant or they
+/// don't meet the condition.
+pub fn calc_given(
     alloc: Global,
     graph: &Egraph<Op>,
     kind: Calc,
@@ -98,7 +99,7 @@ fn are_given(
     requires { CanGive graph.now kind classes.now }
     ensures { IfOk result (λ is. IsTrue is ↔ ((e : ℕ) × AreGiven graph.now kind classes.now e)) }
 {
-    match given(alloc, graph, kind, classes)? {
+    match calc_given(alloc, graph, kind, classes)? {
         Some(_) => Ok(true),
         None => Ok(false),
     }
@@ -116,7 +117,7 @@ fn are_unmet(
     ensures { IfOk result (λ is. IsTrue is ↔ AreUnmet graph.now kind classes.now) }
 {
     computed_rules_are_true();
-    let Some(e) = given(alloc, graph, kind, classes)? else {
+    let Some(e) = calc_given(alloc, graph, kind, classes)? else {
         return Ok(false);
     };
     let right = calc_right(alloc, kind, e)?;

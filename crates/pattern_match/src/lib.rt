@@ -12,7 +12,7 @@ mod plain;
 mod reading;
 mod walk;
 
-pub use computed::{calc_matches, calc_need, calc_unmet};
+pub use computed::{calc_given, calc_matches, calc_need, calc_unmet};
 pub use folding::folds;
 pub use found::{Fold, Match};
 pub use laws::{matches_have_sorts, terms_have_one_class};

@@ -1,7 +1,7 @@
 // The class of a pattern, and whether two patterns have one class.
 ghost use Rattle.std.specs.Prelude.{ℕ, ◌↔◌, IsTrue, MatchOption, IfOk};
 ghost use Rattle.word_terms.specs.View.{tree_of};
-ghost use Rattle.pattern_match.specs.Classes.{IsClass, HaveOneClass, CanRead};
+ghost use Rattle.pattern_match.specs.Classes.{IsClass, HaveOneClass, CanFindClass};
 
 use egraph::Egraph;
 use items::NoMemory;
@@ -16,7 +16,7 @@ pub fn class_of_pattern(
     pattern: &Term<Op>,
     places: &[u32],
 ) -> Result<Option<u32>, NoMemory>
-    requires can { CanRead graph.now places.now (tree_of pattern.now) }
+    requires can { CanFindClass graph.now places.now (tree_of pattern.now) }
     ensures exact { IfOk result (λ found. MatchOption found
         ((c : ℕ) → IsClass graph.now places.now (tree_of pattern.now) c → ⊥)
         (IsClass graph.now places.now (tree_of pattern.now))) }
@@ -44,8 +44,8 @@ pub(crate) fn have_one_class(
     second: &Term<Op>,
     places: &[u32],
 ) -> Result<bool, NoMemory>
-    requires first { CanRead graph.now places.now (tree_of first.now) }
-    requires second { CanRead graph.now places.now (tree_of second.now) }
+    requires first { CanFindClass graph.now places.now (tree_of first.now) }
+    requires second { CanFindClass graph.now places.now (tree_of second.now) }
     ensures exact { IfOk result (λ one.
         IsTrue one ↔ HaveOneClass graph.now places.now (tree_of first.now) (tree_of second.now)) }
 {

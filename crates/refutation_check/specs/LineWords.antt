@@ -7,7 +7,7 @@ use Rattle.cnf_core.specs.declared.line.Line.{Line}
 use Rattle.text_core.specs.declared.faults.TextFault.{TextFault}
 use Rattle.text_core.specs.declared.faults.TextFault.TheVariants.{Fault, Memory}
 use Rattle.text_core.specs.declared.faults.Kind.TheVariants.{BadLine}
-use Rattle.text_core.specs.Lines.{line_at, text_length}
+use Rattle.text_core.specs.Lines.{BeginsAt, line_at}
 use Rattle.text_core.specs.Lines.{Line as TextLine}
 
 -- the number of the variable, with a minus before a negated one
@@ -51,11 +51,6 @@ pub record IsFirstBadLine (text : List TextLine) (from count at : ℕ) : Type 0 
   pub before : (k : ℕ) → k < at → (line : Line) × IsLineOf (line_at text (from + k)).words line
   pub bad : (from + at ≡ length text)
       ⊎ ((from + at < length text) × ((line : Line) → IsLineOf (line_at text (from + at)).words line → ⊥))
-
--- where a line of the text begins, and where the text ends in place of a line past the last
-pub record BeginsAt (text : List TextLine) (line place : ℕ) : Type 0 where
-  pub within : line < length text → place ≡ (line_at text line).place
-  pub past : line ≡ length text → place ≡ text_length text
 
 -- a fault of kind BadLine where the line begins
 abbrev pub IsBadLineAt : List TextLine → ℕ → TextFault → Type 0

@@ -19,11 +19,11 @@ use Rattle.alpha_encode.specs.declared.instructions.Second.TheVariants.{Reg, Lit
 use Rattle.alpha_encode.specs.declared.instructions.Instr.TheVariants as instrs
 use Rattle.machine_table.specs.InstrOrder.{operate_kind}
 use Rattle.machine_table.specs.Tables.{MayUse, cluster_of}
-use Rattle.launch_graph.specs.Graphs.{constant_of}
+use Rattle.launch_graph.specs.Graphs.{constant_of, is_zero_class}
 use Rattle.launch_graph.specs.WellFormed.{IsLaunchGraph}
 use Rattle.schedule_meaning.specs.Launches.{launches, gives_word, instr_at, op_instr, word_op_instr as launch_instr, ready_in}
 use Rattle.schedule_meaning.specs.Fits.{CanLaunch}
-use Rattle.register_assign.specs.Listings.{register_at, register_by, register_for, or_register, is_zero, literal_or, second_for, displacement_of, operate_instr, word_instr, row_instr, instr_of, branch_class, reg}
+use Rattle.register_assign.specs.Listings.{register_at, register_by, register_for, or_register, literal_or, second_for, displacement_of, operate_instr, word_instr, row_instr, instr_of, branch_class, reg}
 use Rattle.launch_graph.specs.Graphs.{input_register}
 use Rattle.schedule_meaning.specs.Launches.{gives}
 use Rattle.launch_graph.specs.declared.graphs.LaunchRow.{LaunchRow}
@@ -90,7 +90,7 @@ module _ (g : LaunchGraph) (graph : IsLaunchGraph g) (table : Table) (ordered : 
   low_by class false None e None = omega arith
 
   pub register_low : (test : Launch → Bool) (class : ℕ) → register_by g ordered test class < 32
-  register_low test class = low_by class (is_zero g class) (input_register g class) refl (position (λ l. gives g class l && test l) ordered)
+  register_low test class = low_by class (is_zero_class g class) (input_register g class) refl (position (λ l. gives g class l && test l) ordered)
 
   module _ (n : ℕ) (l : Launch) where
     reads_low : (class : ℕ) → register_for g table ordered l class < 32

@@ -7,7 +7,7 @@ use Rattle.std.proofs.lemmas.List.{take_all}
 use Rattle.std.proofs.lemmas.List.Elements.{All-head, All-tail}
 use Rattle.word_ops.specs.Worlds.{World, Value, word}
 use Rattle.launch_graph.specs.Graphs.{is_memory_name, memory_target}
-use Rattle.schedule_meaning.specs.Launches.{IsZero, IsInput, Gives, memory_after}
+use Rattle.schedule_meaning.specs.Launches.{IsZero, IsClassOfInput, Gives, memory_after}
 use Rattle.schedule_meaning.specs.Fits.{IsReached as IsFound}
 use Rattle.alpha_machine.specs.States.{MachineState}
 use Rattle.alpha_machine.specs.Runs.{after}
@@ -54,7 +54,7 @@ module _ (g : LaunchGraph) (table : Table) (k : ℕ) (ordered : List Launch) (w 
   place_value s no_memory h =
       place_reads g table ordered w value scene.true_in scene.world.zero_register (pool_low g scene.proper) (inputs_apart g scene.proper) scene.order (positive g table k ordered w value scene) final final_reached s.class (found s no_memory h)
     where
-      found : (s : SetClass) → is_memory_name s.name ≡ false → IsFound g ordered s → IsZero g s.class ⊎ (IsInput g s.class ⊎ Any (Gives g s.class) ordered)
+      found : (s : SetClass) → is_memory_name s.name ≡ false → IsFound g ordered s → IsZero g s.class ⊎ (IsClassOfInput g s.class ⊎ Any (Gives g s.class) ordered)
       found s no_memory (inl m) = absurd (false≢true (sym no_memory ∙ m))
       found s no_memory (inr (inl i)) = inr (inl i)
       found s no_memory (inr (inr (inl z))) = inl z

@@ -8,8 +8,8 @@ use Rattle.std.proofs.lemmas.List.Quantifiers.{position-Some}
 use Rattle.machine_table.specs.Tables.{MayUse, latency_of, ready, cluster_of, IsTable}
 use Rattle.schedule_meaning.specs.Launches.{instr_at, launches, gives_word, is_store, ready_in, StandsBefore}
 use Rattle.schedule_meaning.specs.Fits.{CanLaunch, Collide, EndsBy, Fits}
-use Rattle.register_assign.specs.Listings.{item_of, items_from, items_of, instr_of, register_at, register_for, or_register, is_zero}
-use Rattle.launch_graph.specs.Graphs.{input_register}
+use Rattle.register_assign.specs.Listings.{item_of, items_from, items_of, instr_of, register_at, register_for, or_register}
+use Rattle.launch_graph.specs.Graphs.{input_register, is_zero_class}
 use Rattle.schedule_meaning.specs.Launches.{gives}
 use Rattle.register_assign.specs.Obeys.{kind_of, stores, reads, writes, latency_in, ready_from, HasOperands, Obeys}
 use Rattle.machine_table.specs.declared.tables.InstrKind.{InstrKind}
@@ -75,7 +75,7 @@ module _ (g : LaunchGraph) (table : Table) (ordered : List Launch) where
     source_by false None i None e = inl refl
 
     source : Source l (register_for g table ordered l class)
-    source = source_by (is_zero g class) (input_register g class) refl (position passes ordered) refl
+    source = source_by (is_zero_class g class) (input_register g class) refl (position passes ordered) refl
 
   module _ (k : ℕ) (is_table : IsTable table) (fits : Fits g table k ordered) (order : AllPairs (StandsBefore g) ordered)
       (differ : AllPairs (λ a b. a ≢ b) g.pool)

@@ -7,7 +7,7 @@ use Rattle.schedule_meaning.specs.Launches.{IsInWordOrder}
 use Rattle.schedule_meaning.specs.Fits.{Fits, CanLaunch}
 use Rattle.register_assign.specs.Listings.{IsListing, items_of, wheres_of}
 use Rattle.register_assign.specs.Obeys.{Obeys}
-use Rattle.register_assign.specs.Outcomes.{AreWordsOf, IsRight}
+use Rattle.register_assign.specs.Outcomes.{AreWordsOf, DoesAsGraphSays}
 use Rattle.register_assign.specs.Assigned.{IsTheListing, HaveWords, MayRun, KeepsWord}
 use Rattle.launch_graph.specs.declared.graphs.LaunchGraph.{LaunchGraph}
 use Rattle.register_assign.specs.declared.listings.Item.{Item}
@@ -54,7 +54,7 @@ module _ (g : LaunchGraph) (table : Table) (k : ℕ) (ls ordered : List Launch) 
     keeps_word = record {
       obeys = λ proper. subst (λ (xs : List Item). Obeys table k xs) (sym items_are) (obeys_where_fits g table k ls ordered is_table proper fits order);
       right = λ proper words are.
-          subst (λ (ps : List Where). IsRight g items words ps) (sym wheres_are)
-          (subst (λ (xs : List Item). IsRight g xs words (wheres_of g ordered)) (sym items_are)
+          subst (λ (ps : List Where). DoesAsGraphSays g items words ps) (sym wheres_are)
+          (subst (λ (xs : List Item). DoesAsGraphSays g xs words (wheres_of g ordered)) (sym items_are)
           (right_where_fits g table k ls ordered is_table graph proper fits order (let m = few in omega arith) words (subst (λ (xs : List Item). AreWordsOf xs words) items_are are)));
     }

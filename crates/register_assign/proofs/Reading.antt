@@ -1,7 +1,7 @@
 -- What an item reads is the value of its operand's class.
 use Rattle.std.proofs.Common.{◌≡◌, ℕ, zero, suc, ◌+◌, ◌<◌, ◌≤◌, List, [], ◌∷◌, length, refl, sym, ◌∙◌, ap, subst, inl, inr, ◌⊎◌, arith, Bool, true, false, cond, ◌&&◌, get_or, map, Option, Some, None}
 use Rattle.std.specs.Prelude.{All, AllPairs, Any, Contains, Decides, slice_get, slice_index, ◌==◌, nat_le, nat_lt, not, if◌then◌else◌, position, find, option_map}
-use Rattle.std.specs.Option.{option_map_or}
+use Rattle.std.specs.Option.{option_map_or, option_or}
 use Rattle.std.specs.List.{prefix_len}
 use Rattle.std.proofs.lemmas.Bool.{false≢true}
 use Rattle.std.proofs.lemmas.Bool.Decides.{eqb_tells, Decides-ltb}
@@ -9,13 +9,13 @@ use Rattle.std.proofs.lemmas.List.Elements.{All-head, All-tail, All-contains}
 use Rattle.std.proofs.lemmas.List.Quantifiers.{position-Some}
 use Rattle.std.proofs.lemmas.Option.{slice_get-get_or, same_Some, none-some}
 use Rattle.word_ops.specs.Worlds.{World, Value, word}
-use Rattle.launch_graph.specs.Graphs.{constant_among, constant_of, or_else, row_meaning, IsTrueUnder}
+use Rattle.launch_graph.specs.Graphs.{constant_among, constant_of, row_meaning, IsTrueUnder, is_zero_class}
 use Rattle.word_ops.specs.Meanings.{constant_in}
 use Rattle.word_ops.specs.Meanings.{meaning}
 use Rattle.machine_table.specs.Tables.{cluster_of}
-use Rattle.schedule_meaning.specs.Launches.{launches, gives_word, class_at, ready_in, StandsBefore, IsZero, IsInput, IsReadable, Gives}
+use Rattle.schedule_meaning.specs.Launches.{launches, gives_word, class_at, ready_in, StandsBefore, IsZero, IsClassOfInput, IsReadable, Gives}
 use Rattle.alpha_machine.specs.States.{MachineState}
-use Rattle.register_assign.specs.Listings.{register_at, register_by, register_for, target_register, or_register, is_zero}
+use Rattle.register_assign.specs.Listings.{register_at, register_by, register_for, target_register, or_register}
 use Rattle.launch_graph.specs.Graphs.{input_register}
 use Rattle.schedule_meaning.specs.Launches.{gives}
 use Rattle.register_assign.proofs.Reached.{HasReached}
@@ -47,7 +47,7 @@ module _ (w : World) (value : ℕ → Value) where
   constant_row name Put vs n e = cc
   constant_row name (Declared i a) vs n e = cc
 
-  constant_step : (r : LaunchRow) (rs : List LaunchRow) (class n : ℕ) → RowIsTrue r → (constant_among rs class ≡ Some n → value class ≡ word n) → (b : Bool) → (b ≡ true → r.class ≡ class) → (o : Option ℕ) → constant_in r.op ≡ o → cond b (or_else o (constant_among rs class)) (constant_among rs class) ≡ Some n → value class ≡ word n
+  constant_step : (r : LaunchRow) (rs : List LaunchRow) (class n : ℕ) → RowIsTrue r → (constant_among rs class ≡ Some n → value class ≡ word n) → (b : Bool) → (b ≡ true → r.class ≡ class) → (o : Option ℕ) → constant_in r.op ≡ o → cond b (option_or o (constant_among rs class)) (constant_among rs class) ≡ Some n → value class ≡ word n
   constant_step r rs class n h rest true t (Some m) is e = sym (ap value (t refl)) ∙ h ∙ constant_row r.name r.op (map value r.operands) n (is ∙ e)
   constant_step r rs class n h rest true t None is e = rest e
   constant_step r rs class n h rest false t o is e = rest e
@@ -144,7 +144,7 @@ module _ (g : LaunchGraph) (table : Table) (ordered : List Launch) (w : World) (
     passes class m = gives g class m && test m
 
     abbrev pub IsChosenFrom : ℕ → Type 0
-    IsChosenFrom class = IsZero g class ⊎ (IsInput g class ⊎ Any (λ m. Gives g class m × (test m ≡ true)) ordered)
+    IsChosenFrom class = IsZero g class ⊎ (IsClassOfInput g class ⊎ Any (λ m. Gives g class m × (test m ≡ true)) ordered)
 
     input_value : (class : ℕ) (o : Option InputClass) → find (λ i. i.class == class) g.inputs ≡ o → (r : ℕ) → option_map (λ i. i.reg) o ≡ Some r → word (slice_index s.registers r) ≡ value class
     input_value class None e r f = absurd (none-some r f)
@@ -165,11 +165,11 @@ module _ (g : LaunchGraph) (table : Table) (ordered : List Launch) (w : World) (
         reached.given j m (before j m at_j (and_right (gives g class m) (test m) there.1)) at_j (and_left (launches g gives_word m) (class_at g m.row == class) given)
         ∙ ap value (same_class w value (class_at g m.row) class (and_right (launches g gives_word m) (class_at g m.row == class) given))
 
-    input_is_there : (class : ℕ) (o : Option InputClass) → find (λ i. i.class == class) g.inputs ≡ o → option_map (λ i. i.reg) o ≡ None → ¬ IsInput g class
+    input_is_there : (class : ℕ) (o : Option InputClass) → find (λ i. i.class == class) g.inputs ≡ o → option_map (λ i. i.reg) o ≡ None → ¬ IsClassOfInput g class
     input_is_there class None e f h = find_none (λ i. i.class == class) g.inputs e (h.0, h.1, h.2, h.3, equal_true h.1.class class h.4)
     input_is_there class (Some i) e f h = none-some i.reg (sym f)
 
-    by_cases : (class : ℕ) → IsChosenFrom class → (z : Bool) → is_zero g class ≡ z → (o : Option ℕ) → input_register g class ≡ o → (p : Option ℕ) → position (passes class) ordered ≡ p → word (slice_index s.registers (if z then 31 else or_register o (option_map_or (register_at g ordered) p 31))) ≡ value class
+    by_cases : (class : ℕ) → IsChosenFrom class → (z : Bool) → is_zero_class g class ≡ z → (o : Option ℕ) → input_register g class ≡ o → (p : Option ℕ) → position (passes class) ordered ≡ p → word (slice_index s.registers (if z then 31 else or_register o (option_map_or (register_at g ordered) p 31))) ≡ value class
     by_cases class h true z o i p e = ap word (reached.kept 31 not_31 ∙ zero_register) ∙ sym (constant_is w value g.rows class 0 true_in.rows (zero_constant (constant_of g class) z))
     by_cases class h false z (Some r) i p e = input_value class (find (λ i. i.class == class) g.inputs) refl r i
     by_cases class h false z None i (Some j) e = launch_value class j e
@@ -179,13 +179,13 @@ module _ (g : LaunchGraph) (table : Table) (ordered : List Launch) (w : World) (
         absurd (position_none (passes class) ordered e h.0 h.1 (slice_get-get_or ordered h.0 h.1 h.2 ∙ ap Some h.3) (and_both (gives g class h.1) (test h.1) (and_both (launches g gives_word h.1) (class_at g h.1.row == class) h.4.0.0 (equal_true (class_at g h.1.row) class h.4.0.1)) h.4.1))
 
     pub chosen_reads : (class : ℕ) → IsChosenFrom class → word (slice_index s.registers (register_by g ordered test class)) ≡ value class
-    chosen_reads class h = by_cases class h (is_zero g class) refl (input_register g class) refl (position (passes class) ordered) refl
+    chosen_reads class h = by_cases class h (is_zero_class g class) refl (input_register g class) refl (position (passes class) ordered) refl
 
   -- at the end every launch stands before: the place of a target
-  pub place_reads : (s : MachineState) → HasReached g w value ordered (length ordered) s → (class : ℕ) → IsZero g class ⊎ (IsInput g class ⊎ Any (Gives g class) ordered) → word (slice_index s.registers (target_register g ordered class)) ≡ value class
+  pub place_reads : (s : MachineState) → HasReached g w value ordered (length ordered) s → (class : ℕ) → IsZero g class ⊎ (IsClassOfInput g class ⊎ Any (Gives g class) ordered) → word (slice_index s.registers (target_register g ordered class)) ≡ value class
   place_reads s reached class h = chosen_reads (length ordered) s reached (λ m. true) (λ j m e t. in_list ordered j m e) class (any_passes class h)
     where
-      any_passes : (class : ℕ) → IsZero g class ⊎ (IsInput g class ⊎ Any (Gives g class) ordered) → IsZero g class ⊎ (IsInput g class ⊎ Any (λ m. Gives g class m × (true ≡ true)) ordered)
+      any_passes : (class : ℕ) → IsZero g class ⊎ (IsClassOfInput g class ⊎ Any (Gives g class) ordered) → IsZero g class ⊎ (IsClassOfInput g class ⊎ Any (λ m. Gives g class m × (true ≡ true)) ordered)
       any_passes class (inl h) = inl h
       any_passes class (inr (inl h)) = inr (inl h)
       any_passes class (inr (inr h)) = inr (inr (h.0, h.1, h.2, h.3, (h.4, refl)))
@@ -194,7 +194,7 @@ module _ (g : LaunchGraph) (table : Table) (ordered : List Launch) (w : World) (
     abbrev in_time : Launch → Bool
     in_time m = nat_le (ready_in g table (cluster_of table l.slot) m) l.cycle
 
-    readable_passes : (class : ℕ) → IsZero g class ⊎ IsReadable g table ordered class l.cycle (cluster_of table l.slot) → IsZero g class ⊎ (IsInput g class ⊎ Any (λ m. Gives g class m × (in_time m ≡ true)) ordered)
+    readable_passes : (class : ℕ) → IsZero g class ⊎ IsReadable g table ordered class l.cycle (cluster_of table l.slot) → IsZero g class ⊎ (IsClassOfInput g class ⊎ Any (λ m. Gives g class m × (in_time m ≡ true)) ordered)
     readable_passes class (inl h) = inl h
     readable_passes class (inr (inl h)) = inr (inl h)
     readable_passes class (inr (inr h)) = inr (inr (h.0, h.1, h.2, h.3, (h.4.0, le_true (ready_in g table (cluster_of table l.slot) h.1) l.cycle h.4.1)))

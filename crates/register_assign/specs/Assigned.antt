@@ -6,7 +6,7 @@ use Rattle.alpha_machine.specs.Runs.{AllMayStand}
 use Rattle.launch_graph.specs.Graphs.{IsProper}
 use Rattle.register_assign.specs.Listings.{IsListing}
 use Rattle.register_assign.specs.Obeys.{Obeys}
-use Rattle.register_assign.specs.Outcomes.{AreWordsOf, IsRight}
+use Rattle.register_assign.specs.Outcomes.{AreWordsOf, DoesAsGraphSays}
 use Rattle.launch_graph.specs.declared.graphs.LaunchGraph.{LaunchGraph}
 use Rattle.register_assign.specs.declared.listings.Item.{Item}
 use Rattle.register_assign.specs.declared.listings.Where.{Where}
@@ -32,4 +32,4 @@ MayRun items = (words : List ℕ) → AreWordsOf items words → AllMayStand wor
 pub record KeepsWord (g : LaunchGraph) (table : Table) (k : ℕ) (items : List Item)
     (wheres : List Where) : Type 0 where
   pub obeys : IsProper g → Obeys table k items
-  pub right : IsProper g → (words : List ℕ) → AreWordsOf items words → IsRight g items words wheres
+  pub right : IsProper g → (words : List ℕ) → AreWordsOf items words → DoesAsGraphSays g items words wheres

@@ -1,12 +1,12 @@
 -- The instructions of a schedule in word order, and the places of its targets.
 -- Source: this project. Each launch that gives a word has a pool register of its own.
-use Rattle.std.specs.Prelude.{◌≡◌, ℕ, ℤ, pos, ◌+◌, ◌-◌, ◌%◌, ◌^◌, List, [], ◌∷◌, map, length, Option, Some, None, ◌==◌, ◌&&◌, nat_le, Bool, true, false, not, unwrap_or, position, count_by, filter, take, slice_index, slice_get, if◌then◌else◌}
+use Rattle.std.specs.Prelude.{◌≡◌, ℕ, ℤ, pos, ◌+◌, ◌-◌, ◌%◌, ◌^◌, List, [], ◌∷◌, map, length, Option, Some, None, ◌&&◌, nat_le, Bool, true, not, unwrap_or, position, count_by, filter, take, slice_index, slice_get, if◌then◌else◌}
 use Rattle.std.specs.Option.{option_map_or}
 use Rattle.std.specs.Int.{cast_signed, w16}
 use Rattle.word_ops.specs.declared.operators.WordOp.{WordOp}
 use Rattle.word_ops.specs.declared.operators.WordOp.TheVariants as ops
 use Rattle.machine_table.specs.Tables.{cluster_of}
-use Rattle.launch_graph.specs.Graphs.{constant_of, input_register, is_memory_name}
+use Rattle.launch_graph.specs.Graphs.{constant_of, is_zero_class, input_register, is_memory_name}
 use Rattle.schedule_meaning.specs.Launches.{launches, gives_word, gives, ready_in, IsInWordOrder}
 use Rattle.alpha_encode.specs.declared.instructions.Second.{Second}
 use Rattle.alpha_encode.specs.declared.instructions.Second.TheVariants.{Reg, Literal}
@@ -31,13 +31,10 @@ abbrev pub or_register : Option ℕ → ℕ → ℕ
 or_register None r = r
 or_register (Some r) _ = r
 
-abbrev pub is_zero : LaunchGraph → ℕ → Bool
-is_zero g class = option_map_or (λ n. n == 0) (constant_of g class) false
-
 -- 31 for the zero class, or the first input's register, or that of the first launch that passes
 abbrev pub register_by : LaunchGraph → List Launch → (Launch → Bool) → ℕ → ℕ
 register_by g ordered test class =
-    if is_zero g class then 31
+    if is_zero_class g class then 31
     else or_register (input_register g class)
     (option_map_or (register_at g ordered) (position (λ l. gives g class l && test l) ordered) 31)
 

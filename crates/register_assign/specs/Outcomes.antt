@@ -56,7 +56,7 @@ abbrev pub IsExit : LaunchGraph → (ℕ → Value) → Type 0
 IsExit g value = IsSomeAnd g.guard (λ guard. value guard.class ≡ word 0)
 
 -- in each world where the graph's rows are true the words do what the graph says
-pub record IsRight (g : LaunchGraph) (items : List Item) (words : List ℕ) (wheres : List Where) : Type 0 where
+pub record DoesAsGraphSays (g : LaunchGraph) (items : List Item) (words : List ℕ) (wheres : List Where) : Type 0 where
   pub falls : (w : World) (value : ℕ → Value) → IsWorld w → IsTrueUnder g w value → ¬ IsExit g value
       → Falls g w value words wheres
   pub exits : (w : World) (value : ℕ → Value) → IsWorld w → IsTrueUnder g w value → IsExit g value

@@ -1,5 +1,6 @@
 // The register of each launch and class, and the instruction of each launch.
 ghost use Rattle.std.specs.Prelude.{◌≡◌, ◌&&◌, ◌≤◌, ◌<◌, ◌^◌, count_by, take, length, position, Some};
+ghost use Rattle.launch_graph.specs.Graphs as graphs;
 ghost use Rattle.schedule_meaning.specs.Launches as launches;
 ghost use Rattle.register_assign.specs.Listings as listings;
 ghost use Rattle.register_assign.specs.Listings.{register_at};
@@ -46,7 +47,7 @@ fn first_giving(
 
 /// The class has the constant 0.
 fn is_zero(graph: &LaunchGraph, class: u32) -> bool
-    ensures { result ≡ listings.is_zero graph.now class }
+    ensures { result ≡ graphs.is_zero_class graph.now class }
 {
     match graph.constant_of(class) {
         Some(constant) => constant == 0,

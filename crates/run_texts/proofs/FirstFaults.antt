@@ -8,9 +8,9 @@ use Rattle.text_core.specs.declared.faults.Kind.{Kind}
 use Rattle.text_core.specs.declared.faults.Kind.TheVariants.{BadLine, LimitPassed}
 use Rattle.text_core.specs.declared.faults.TextFault.{TextFault}
 use Rattle.run_texts.specs.declared.texts.RunText.{RunText}
-use Rattle.run_texts.specs.RunTexts.{IsRun}
+use Rattle.run_texts.specs.RunTexts.{IsRunText}
 use Rattle.run_texts.specs.RunFaults.{word_count, IsWithinLimits, IsRunFaultAt, bad_line, past_limit, IsFirstRunFault}
-use Rattle.run_texts.specs.SoFar.{IsReadTo, IsFaultOfLine}
+use Rattle.run_texts.specs.SoFar.{IsRunTextTo, IsFaultAtLine}
 use Rattle.run_texts.proofs.LastLines.{one_run}
 use Rattle.run_texts.proofs.Fronts.{Front, front_of}
 
@@ -23,14 +23,14 @@ pub line_count : (lines : List Line) → length (words_of_lines lines) ≡ lengt
 line_count [] = refl
 line_count (l ∷ lines) = ap suc (line_count lines)
 
-pub same_run : (count : ℕ) (lines : List Words) (run other : RunText) → IsRun count lines run → IsRun count lines other
+pub same_run : (count : ℕ) (lines : List Words) (run other : RunText) → IsRunText count lines run → IsRunText count lines other
     → (run.words ≡ other.words) × (run.registers ≡ other.registers) × (run.places ≡ other.places)
 same_run count lines run other h g =
     let s = one_run count (length lines) lines refl run.words other.words run.registers other.registers run.places other.places h g in
     (s.words, s.registers, s.places)
 
 -- before lines that are a program within the limits no line has a fault
-pub no_fault_before : (lines : List Words) (n : ℕ) (run : RunText) → n ≤ length lines → IsReadTo lines n run → (at : ℕ) (kind : Kind) → at < n → IsRunFaultAt lines at kind → ⊥
+pub no_fault_before : (lines : List Words) (n : ℕ) (run : RunText) → n ≤ length lines → IsRunTextTo lines n run → (at : ℕ) (kind : Kind) → at < n → IsRunFaultAt lines at kind → ⊥
 no_fault_before lines n run within h at kind less f = by_kind f
   where
     front : Front (word_count lines) (take (at + 1) lines) run
@@ -52,7 +52,7 @@ no_fault_before lines n run within h at kind less f = by_kind f
         past (record { words = omega arith; places = omega arith })
 
 -- the first fault, at the line behind those that were read
-module _ (lines : List Line) (at : ℕ) (run : RunText) (read : IsReadTo (words_of_lines lines) at run) (lt : at < length lines) where
+module _ (lines : List Line) (at : ℕ) (run : RunText) (read : IsRunTextTo (words_of_lines lines) at run) (lt : at < length lines) where
   inside : at < length (words_of_lines lines)
   inside = (let n = line_count lines in omega arith)
 
@@ -70,15 +70,15 @@ module _ (lines : List Line) (at : ℕ) (run : RunText) (read : IsReadTo (words_
           let never : other < at → ⊥ = λ less. no_fault_before (words_of_lines lines) at run (let i = inside in omega arith) read other another less g in
           omega (arith, never)
 
-  fault_by : (kind : Kind) (fault : TextFault) → IsFaultOfLine lines at kind fault → IsRunFaultAt (words_of_lines lines) at kind → IsFaultBy (IsFirstRunFault lines) fault
+  fault_by : (kind : Kind) (fault : TextFault) → IsFaultAtLine lines at kind fault → IsRunFaultAt (words_of_lines lines) at kind → IsFaultBy (IsFirstRunFault lines) fault
   fault_by kind fault f found = subst (IsFaultBy (IsFirstRunFault lines)) (sym f.is) (first kind found f.place f.placed)
 
-  pub bad_line_first : (fault : TextFault) → IsFaultOfLine lines at BadLine fault
-      → ((longer : RunText) → IsRun (word_count (words_of_lines lines)) (take (at + 1) (words_of_lines lines)) longer → ⊥) → IsFaultBy (IsFirstRunFault lines) fault
+  pub bad_line_first : (fault : TextFault) → IsFaultAtLine lines at BadLine fault
+      → ((longer : RunText) → IsRunText (word_count (words_of_lines lines)) (take (at + 1) (words_of_lines lines)) longer → ⊥) → IsFaultBy (IsFirstRunFault lines) fault
   bad_line_first fault f never = fault_by BadLine fault f (bad_line inside read.is never refl)
 
-  pub past_limit_first : (fault : TextFault) → IsFaultOfLine lines at LimitPassed fault
-      → (longer : RunText) → IsRun (word_count (words_of_lines lines)) (take (at + 1) (words_of_lines lines)) longer → (IsWithinLimits longer → ⊥) → IsFaultBy (IsFirstRunFault lines) fault
+  pub past_limit_first : (fault : TextFault) → IsFaultAtLine lines at LimitPassed fault
+      → (longer : RunText) → IsRunText (word_count (words_of_lines lines)) (take (at + 1) (words_of_lines lines)) longer → (IsWithinLimits longer → ⊥) → IsFaultBy (IsFirstRunFault lines) fault
   past_limit_first fault f longer is past = fault_by LimitPassed fault f (past_limit inside is past refl)
 
   pub next_lines : take (at + 1) (words_of_lines lines) ≡ take at (words_of_lines lines) ++ (line_at lines at).words ∷ []

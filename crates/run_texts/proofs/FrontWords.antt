@@ -11,17 +11,17 @@ use Rattle.run_texts.proofs.FirstFaults.{line_words, line_count}
 use Rattle.run_texts.specs.declared.texts.RegisterWord.{RegisterWord}
 use Rattle.run_texts.specs.declared.texts.PlaceWord.{PlaceWord}
 use Rattle.run_texts.specs.declared.texts.RunText.{RunText}
-use Rattle.run_texts.specs.RunTexts.{IsRun, word_words, register_words, place_words}
+use Rattle.run_texts.specs.RunTexts.{IsRunText, program_word_words, register_words, place_words}
 use Rattle.run_texts.specs.RunFaults.{word_count, begins_with_word}
 
 front_words : (ds : List (List ℕ)) (rs : List RegisterWord) (ps : List PlaceWord)
-    → word_count (map word_words ds ++ (map register_words rs ++ map place_words ps)) ≡ length ds
+    → word_count (map program_word_words ds ++ (map register_words rs ++ map place_words ps)) ≡ length ds
 front_words [] [] [] = refl
 front_words [] [] (p ∷ ps) = refl
 front_words [] (r ∷ rs) ps = refl
 front_words (d ∷ ds) rs ps = (let more = front_words ds rs ps in let e : 1 + length ds ≡ suc (length ds) = omega arith in ap (λ n. 1 + n) more ∙ e)
 
-pub count_is : (count : ℕ) (lines : List Words) (run : RunText) → IsRun count lines run → word_count lines ≡ length run.words
+pub count_is : (count : ℕ) (lines : List Words) (run : RunText) → IsRunText count lines run → word_count lines ≡ length run.words
 count_is count lines run h =
     ap word_count h.is ∙ front_words h.digits run.registers run.places
     ∙ sym (ap length h.words ∙ length-map h.digits (digits_value 16))

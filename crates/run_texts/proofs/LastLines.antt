@@ -10,7 +10,7 @@ use Rattle.alpha_machine.specs.Runs.{MayStandAt}
 use Rattle.run_texts.specs.declared.texts.RegisterWord.{RegisterWord}
 use Rattle.run_texts.specs.declared.texts.PlaceWord.{PlaceWord}
 use Rattle.run_texts.specs.declared.texts.RunText.{RunText}
-use Rattle.run_texts.specs.RunTexts.{IsRun, IsHexWord, word_words, register_words, place_words}
+use Rattle.run_texts.specs.RunTexts.{IsRunText, IsHexWord, program_word_words, register_words, place_words}
 use Rattle.run_texts.specs.LineReading.{IsWordLine, IsRegisterLine, IsPlaceLine}
 use Rattle.run_texts.proofs.Lists.{snoc_view, never_empty, push_third, all_front, all_last, pairs_front, pairs_last, get_front, get_last}
 
@@ -20,17 +20,17 @@ made ws rs ps = record { words = ws; registers = rs; places = ps }
 -- a program with one line behind it
 pub data LastLine (count : ℕ) (lines : List Words) (line : Words) (ws : List ℕ) (rs : List RegisterWord) (ps : List PlaceWord) : Type 0 where
   word : (vs : List ℕ) (w : ℕ) → ws ≡ vs ++ w ∷ [] → rs ≡ [] → ps ≡ [] → IsWordLine line w → MayStandAt count (length vs) w
-      → IsRun count lines (made vs [] []) → LastLine count lines line ws rs ps
+      → IsRunText count lines (made vs [] []) → LastLine count lines line ws rs ps
   register : (qs : List RegisterWord) (r : RegisterWord) → rs ≡ qs ++ r ∷ [] → ps ≡ [] → IsRegisterLine line r
-      → All (λ q. q.register ≢ r.register) qs → IsRun count lines (made ws qs []) → LastLine count lines line ws rs ps
+      → All (λ q. q.register ≢ r.register) qs → IsRunText count lines (made ws qs []) → LastLine count lines line ws rs ps
   place : (qs : List PlaceWord) (p : PlaceWord) → ps ≡ qs ++ p ∷ [] → IsPlaceLine line p
-      → All (λ q. q.address / 8 ≢ p.address / 8) qs → IsRun count lines (made ws rs qs) → LastLine count lines line ws rs ps
+      → All (λ q. q.address / 8 ≢ p.address / 8) qs → IsRunText count lines (made ws rs qs) → LastLine count lines line ws rs ps
 
 module _ (count : ℕ) (lines : List Words) (line : Words) where
   last_place : (ws : List ℕ) (rs : List RegisterWord) (qs : List PlaceWord) (p : PlaceWord)
-      → IsRun count (lines ++ line ∷ []) (made ws rs (qs ++ p ∷ [])) → LastLine count lines line ws rs (qs ++ p ∷ [])
+      → IsRunText count (lines ++ line ∷ []) (made ws rs (qs ++ p ∷ [])) → LastLine count lines line ws rs (qs ++ p ∷ [])
   last_place ws rs qs p h =
-      let a : List Words = map word_words h.digits in
+      let a : List Words = map program_word_words h.digits in
       let b : List Words = map register_words rs in
       let c : List Words = map place_words qs in
       let split : lines ++ line ∷ [] ≡ (a ++ (b ++ c)) ++ place_words p ∷ [] =
@@ -53,9 +53,9 @@ module _ (count : ℕ) (lines : List Words) (line : Words) where
       })
 
   last_register : (ws : List ℕ) (qs : List RegisterWord) (r : RegisterWord)
-      → IsRun count (lines ++ line ∷ []) (made ws (qs ++ r ∷ []) []) → LastLine count lines line ws (qs ++ r ∷ []) []
+      → IsRunText count (lines ++ line ∷ []) (made ws (qs ++ r ∷ []) []) → LastLine count lines line ws (qs ++ r ∷ []) []
   last_register ws qs r h =
-      let a : List Words = map word_words h.digits in
+      let a : List Words = map program_word_words h.digits in
       let b : List Words = map register_words qs in
       let split : lines ++ line ∷ [] ≡ (a ++ b) ++ register_words r ∷ [] =
       h.is ∙ ap (λ l. a ++ l) (append-nil (map register_words (qs ++ r ∷ [])) ∙ map_push register_words qs r)
@@ -77,20 +77,20 @@ module _ (count : ℕ) (lines : List Words) (line : Words) where
         places = h.places;
       })
 
-  last_word : (ws : List ℕ) → IsRun count (lines ++ line ∷ []) (made ws [] []) → LastLine count lines line ws [] []
+  last_word : (ws : List ℕ) → IsRunText count (lines ++ line ∷ []) (made ws [] []) → LastLine count lines line ws [] []
   last_word ws h = by_digits (snoc_view h.digits)
     where
       by_digits : (h.digits ≡ []) ⊎ ((ds : List (List ℕ)) × (d : List ℕ) × (h.digits ≡ ds ++ d ∷ [])) → LastLine count lines line ws [] []
-      by_digits (inl e) = absurd (never_empty lines line (h.is ∙ append-nil (map word_words h.digits) ∙ ap (map word_words) e))
+      by_digits (inl e) = absurd (never_empty lines line (h.is ∙ append-nil (map program_word_words h.digits) ∙ ap (map program_word_words) e))
       by_digits (inr v) =
           let ds : List (List ℕ) = v.0 in
           let d : List ℕ = v.1 in
-          let a : List Words = map word_words ds in
+          let a : List Words = map program_word_words ds in
           let vs : List ℕ = map (digits_value 16) ds in
           let w : ℕ = digits_value 16 d in
-          let split : lines ++ line ∷ [] ≡ a ++ word_words d ∷ [] =
-          h.is ∙ append-nil (map word_words h.digits) ∙ ap (map word_words) v.2 ∙ map_push word_words ds d in
-          let same : (lines ≡ a) × (line ≡ word_words d) = same_from_push lines a line (word_words d) split in
+          let split : lines ++ line ∷ [] ≡ a ++ program_word_words d ∷ [] =
+          h.is ∙ append-nil (map program_word_words h.digits) ∙ ap (map program_word_words) v.2 ∙ map_push program_word_words ds d in
+          let same : (lines ≡ a) × (line ≡ program_word_words d) = same_from_push lines a line (program_word_words d) split in
           let hex : All IsHexWord (ds ++ d ∷ []) = subst (All IsHexWord) v.2 h.hex in
           let values : ws ≡ vs ++ w ∷ [] = h.words ∙ ap (map (digits_value 16)) v.2 ∙ map_push (digits_value 16) ds d in
           word vs w values refl refl (record { digits = d; is = same.1; hex = all_last IsHexWord ds d hex; value = refl })
@@ -105,24 +105,24 @@ module _ (count : ℕ) (lines : List Words) (line : Words) where
             places = h.places;
           })
 
-  pub last_line : (ws : List ℕ) (rs : List RegisterWord) (ps : List PlaceWord) → IsRun count (lines ++ line ∷ []) (made ws rs ps) → LastLine count lines line ws rs ps
+  pub last_line : (ws : List ℕ) (rs : List RegisterWord) (ps : List PlaceWord) → IsRunText count (lines ++ line ∷ []) (made ws rs ps) → LastLine count lines line ws rs ps
   last_line ws rs ps h = by_places (snoc_view ps)
     where
       by_registers : (ps ≡ []) → (rs ≡ []) ⊎ ((qs : List RegisterWord) × (r : RegisterWord) × (rs ≡ qs ++ r ∷ [])) → LastLine count lines line ws rs ps
       by_registers none (inl e) =
           let P : List RegisterWord → List PlaceWord → Type 0 = λ xs ys. LastLine count lines line ws xs ys in
           subst (λ xs. P xs ps) (sym e) (subst (λ ys. P [] ys) (sym none)
-          (last_word ws (subst (λ xs. IsRun count (lines ++ line ∷ []) (made ws xs [])) e (subst (λ ys. IsRun count (lines ++ line ∷ []) (made ws rs ys)) none h))))
+          (last_word ws (subst (λ xs. IsRunText count (lines ++ line ∷ []) (made ws xs [])) e (subst (λ ys. IsRunText count (lines ++ line ∷ []) (made ws rs ys)) none h))))
       by_registers none (inr v) =
           let P : List RegisterWord → List PlaceWord → Type 0 = λ xs ys. LastLine count lines line ws xs ys in
           subst (λ xs. P xs ps) (sym v.2) (subst (λ ys. P (v.0 ++ v.1 ∷ []) ys) (sym none)
-          (last_register ws v.0 v.1 (subst (λ xs. IsRun count (lines ++ line ∷ []) (made ws xs [])) v.2 (subst (λ ys. IsRun count (lines ++ line ∷ []) (made ws rs ys)) none h))))
+          (last_register ws v.0 v.1 (subst (λ xs. IsRunText count (lines ++ line ∷ []) (made ws xs [])) v.2 (subst (λ ys. IsRunText count (lines ++ line ∷ []) (made ws rs ys)) none h))))
 
       by_places : (ps ≡ []) ⊎ ((qs : List PlaceWord) × (p : PlaceWord) × (ps ≡ qs ++ p ∷ [])) → LastLine count lines line ws rs ps
       by_places (inl e) = by_registers e (snoc_view rs)
       by_places (inr v) =
           subst (λ ys. LastLine count lines line ws rs ys) (sym v.2)
-          (last_place ws rs v.0 v.1 (subst (λ ys. IsRun count (lines ++ line ∷ []) (made ws rs ys)) v.2 h))
+          (last_place ws rs v.0 v.1 (subst (λ ys. IsRunText count (lines ++ line ∷ []) (made ws rs ys)) v.2 h))
 
 -- ---- lines are one program
 
@@ -176,15 +176,15 @@ pub record SameRun (ws vs : List ℕ) (rs ss : List RegisterWord) (ps qs : List 
 more_same : {X : Type 0} (xs ys us vs : List X) (a b : X) → xs ≡ us ++ a ∷ [] → ys ≡ vs ++ b ∷ [] → us ≡ vs → a ≡ b → xs ≡ ys
 more_same xs ys us vs a b e f g h = e ∙ ap (λ l. l ++ a ∷ []) g ∙ ap (λ x. vs ++ x ∷ []) h ∙ sym f
 
-empty_run : (count : ℕ) (ws : List ℕ) (rs : List RegisterWord) (ps : List PlaceWord) → IsRun count [] (made ws rs ps) → SameRun ws [] rs [] ps []
+empty_run : (count : ℕ) (ws : List ℕ) (rs : List RegisterWord) (ps : List PlaceWord) → IsRunText count [] (made ws rs ps) → SameRun ws [] rs [] ps []
 empty_run count ws rs ps h =
-    let a : List Words = map word_words h.digits in
+    let a : List Words = map program_word_words h.digits in
     let b : List Words = map register_words rs in
     let c : List Words = map place_words ps in
     let none : 0 ≡ length (a ++ (b ++ c)) = ap length h.is in
     let ab = length-append a (b ++ c) in
     let bc = length-append b c in
-    let la = length-map h.digits word_words in
+    let la = length-map h.digits program_word_words in
     let lb = length-map rs register_words in
     let lc = length-map ps place_words in
     let lw = length-map h.digits (digits_value 16) in
@@ -198,7 +198,7 @@ empty_run count ws rs ps h =
 -- one program, where fewer lines by one are
 abbrev pub Once : ℕ → ℕ → Type 0
 Once count n = (lines : List Words) → length lines ≡ n → (ws vs : List ℕ) (rs ss : List RegisterWord) (ps qs : List PlaceWord)
-    → IsRun count lines (made ws rs ps) → IsRun count lines (made vs ss qs) → SameRun ws vs rs ss ps qs
+    → IsRunText count lines (made ws rs ps) → IsRunText count lines (made vs ss qs) → SameRun ws vs rs ss ps qs
 
 lasts_same : (count n : ℕ) → Once count n → (front : List Words) (line : Words) → length front ≡ n → (ws vs : List ℕ) (rs ss : List RegisterWord) (ps qs : List PlaceWord)
     → LastLine count front line ws rs ps → LastLine count front line vs ss qs → SameRun ws vs rs ss ps qs
@@ -219,20 +219,20 @@ lasts_same count n again front line k ws vs rs ss ps qs (place xs x e1 is al r) 
     record { words = s.words; registers = s.registers; places = more_same ps qs xs ys x y e1 f1 s.places (one_place line x y is is') }
 
 same_by_last : (count n : ℕ) → Once count n → (lines : List Words) → length lines ≡ suc n → (ws vs : List ℕ) (rs ss : List RegisterWord) (ps qs : List PlaceWord)
-    → IsRun count lines (made ws rs ps) → IsRun count lines (made vs ss qs)
+    → IsRunText count lines (made ws rs ps) → IsRunText count lines (made vs ss qs)
     → (lines ≡ []) ⊎ ((front : List Words) × (line : Words) × (lines ≡ front ++ line ∷ [])) → SameRun ws vs rs ss ps qs
 same_by_last count n again lines size ws vs rs ss ps qs h g (inl e) = (let z = ap length e in absurd (omega arith))
 same_by_last count n again lines size ws vs rs ss ps qs h g (inr v) =
     let k : length v.0 ≡ n = (let more = length_push v.0 v.1 in let e = ap length v.2 in omega arith) in
     lasts_same count n again v.0 v.1 k ws vs rs ss ps qs
-    (last_line count v.0 v.1 ws rs ps (subst (λ l. IsRun count l (made ws rs ps)) v.2 h))
-    (last_line count v.0 v.1 vs ss qs (subst (λ l. IsRun count l (made vs ss qs)) v.2 g))
+    (last_line count v.0 v.1 ws rs ps (subst (λ l. IsRunText count l (made ws rs ps)) v.2 h))
+    (last_line count v.0 v.1 vs ss qs (subst (λ l. IsRunText count l (made vs ss qs)) v.2 g))
 
 pub one_run : (count n : ℕ) → Once count n
 one_run count zero lines size ws vs rs ss ps qs h g =
     let none : lines ≡ [] = nil_from_length lines size in
-    let a = empty_run count ws rs ps (subst (λ l. IsRun count l (made ws rs ps)) none h) in
-    let b = empty_run count vs ss qs (subst (λ l. IsRun count l (made vs ss qs)) none g) in
+    let a = empty_run count ws rs ps (subst (λ l. IsRunText count l (made ws rs ps)) none h) in
+    let b = empty_run count vs ss qs (subst (λ l. IsRunText count l (made vs ss qs)) none g) in
     record { words = a.words ∙ sym b.words; registers = a.registers ∙ sym b.registers; places = a.places ∙ sym b.places }
 one_run count (suc n) lines size ws vs rs ss ps qs h g =
     same_by_last count n (one_run count n) lines size ws vs rs ss ps qs h g (snoc_view lines)

@@ -11,10 +11,10 @@ use Rattle.alpha_machine.specs.Runs.{MayStandAt}
 use Rattle.run_texts.specs.declared.texts.RegisterWord.{RegisterWord}
 use Rattle.run_texts.specs.declared.texts.PlaceWord.{PlaceWord}
 use Rattle.run_texts.specs.declared.texts.RunText.{RunText}
-use Rattle.run_texts.specs.RunTexts.{IsRun}
+use Rattle.run_texts.specs.RunTexts.{IsRunText}
 use Rattle.run_texts.specs.RunFaults.{word_count, IsFirstRunFault}
 use Rattle.run_texts.specs.LineReading.{IsWordLine, IsRegisterLine, IsPlaceLine}
-use Rattle.run_texts.specs.SoFar.{IsReadTo, IsFaultOfLine}
+use Rattle.run_texts.specs.SoFar.{IsRunTextTo, IsFaultAtLine}
 use Rattle.run_texts.proofs.LastLines.{made, LastLine, word, register, place, last_line}
 use Rattle.run_texts.proofs.Fronts.{with_word, with_register, with_place}
 use Rattle.run_texts.proofs.FirstFaults.{same_run, bad_line_first, past_limit_first, next_lines}
@@ -37,7 +37,7 @@ pub record NextPlace (line : Words) (run : RunText) : Type 0 where
   pub is : IsPlaceLine line next
   pub fresh : All (λ q. q.address / 8 ≢ next.address / 8) run.places
 
-module _ (lines : List Line) (at : ℕ) (run : RunText) (read : IsReadTo (words_of_lines lines) at run) (lt : at < length lines) where
+module _ (lines : List Line) (at : ℕ) (run : RunText) (read : IsRunTextTo (words_of_lines lines) at run) (lt : at < length lines) where
   abbrev All' : List Words
   All' = words_of_lines lines
 
@@ -48,12 +48,12 @@ module _ (lines : List Line) (at : ℕ) (run : RunText) (read : IsReadTo (words_
   Count = word_count (words_of_lines lines)
 
   abbrev Longer : Type 0
-  Longer = (longer : RunText) → IsRun Count (take (at + 1) All') longer → ⊥
+  Longer = (longer : RunText) → IsRunText Count (take (at + 1) All') longer → ⊥
 
-  last : (longer : RunText) → IsRun Count (take (at + 1) All') longer → LastLine Count (take at All') Line' longer.words longer.registers longer.places
+  last : (longer : RunText) → IsRunText Count (take (at + 1) All') longer → LastLine Count (take at All') Line' longer.words longer.registers longer.places
   last longer h =
       last_line Count (take at All') Line' longer.words longer.registers longer.places
-      (subst (λ l. IsRun Count l longer) (next_lines lines at run read lt) h)
+      (subst (λ l. IsRunText Count l longer) (next_lines lines at run read lt) h)
 
   -- ---- a line that begins with `word`
 
@@ -66,23 +66,23 @@ module _ (lines : List Line) (at : ℕ) (run : RunText) (read : IsReadTo (words_
   word_of head longer (place qs q e1 is al r) =
       let e : 119 ≡ 109 = ap (λ (w : List ℕ). get_or w 0 0) (sym head ∙ ap (λ (l : Words). get_or l 0 []) is.is) in absurd (omega (arith, e))
 
-  pub not_a_word : (fault : TextFault) → IsFaultOfLine lines at BadLine fault → get_or Line' 0 [] ≡ codes "word" → (NextWord Count Line' run → ⊥) → IsFaultBy (IsFirstRunFault lines) fault
+  pub not_a_word : (fault : TextFault) → IsFaultAtLine lines at BadLine fault → get_or Line' 0 [] ≡ codes "word" → (NextWord Count Line' run → ⊥) → IsFaultBy (IsFirstRunFault lines) fault
   not_a_word fault f head never = bad_line_first lines at run read lt fault f (λ longer h. never (word_of head longer (last longer h)))
 
   pub word_more : (w : ℕ) → run.registers ≡ [] → run.places ≡ [] → IsWordLine Line' w → MayStandAt Count (length run.words) w
-      → IsRun Count (take (at + 1) All') (made (run.words ++ w ∷ []) run.registers run.places)
+      → IsRunText Count (take (at + 1) All') (made (run.words ++ w ∷ []) run.registers run.places)
   word_more w none bare is stands =
-      subst (λ l. IsRun Count l (made (run.words ++ w ∷ []) run.registers run.places)) (sym (next_lines lines at run read lt))
+      subst (λ l. IsRunText Count l (made (run.words ++ w ∷ []) run.registers run.places)) (sym (next_lines lines at run read lt))
       (with_word Count (take at All') Line' run w none bare read.is is stands)
 
-  pub too_many_words : (fault : TextFault) → IsFaultOfLine lines at LimitPassed fault → (w : ℕ) → run.registers ≡ [] → run.places ≡ [] → IsWordLine Line' w
+  pub too_many_words : (fault : TextFault) → IsFaultAtLine lines at LimitPassed fault → (w : ℕ) → run.registers ≡ [] → run.places ≡ [] → IsWordLine Line' w
       → MayStandAt Count (length run.words) w → length run.words ≡ 4096 → IsFaultBy (IsFirstRunFault lines) fault
   too_many_words fault f w none bare is stands full =
       past_limit_first lines at run read lt fault f (made (run.words ++ w ∷ []) run.registers run.places) (word_more w none bare is stands)
       (λ h. (let few = h.words in let n = length_push run.words w in absurd (omega arith)))
 
   pub word_read : (w : ℕ) → run.registers ≡ [] → run.places ≡ [] → IsWordLine Line' w → MayStandAt Count (length run.words) w → length run.words ≢ 4096
-      → IsReadTo All' (at + 1) (made (run.words ++ w ∷ []) run.registers run.places)
+      → IsRunTextTo All' (at + 1) (made (run.words ++ w ∷ []) run.registers run.places)
   word_read w none bare is stands room =
       record {
         is = word_more w none bare is stands;
@@ -100,14 +100,14 @@ module _ (lines : List Line) (at : ℕ) (run : RunText) (read : IsReadTo (words_
   register_of head longer (place qs q e1 is al r) =
       let e : 114 ≡ 109 = ap (λ (w : List ℕ). get_or w 0 0) (sym head ∙ ap (λ (l : Words). get_or l 0 []) is.is) in absurd (omega (arith, e))
 
-  pub not_a_register : (fault : TextFault) → IsFaultOfLine lines at BadLine fault → get_or Line' 0 [] ≡ codes "reg" → (NextRegister Line' run → ⊥) → IsFaultBy (IsFirstRunFault lines) fault
+  pub not_a_register : (fault : TextFault) → IsFaultAtLine lines at BadLine fault → get_or Line' 0 [] ≡ codes "reg" → (NextRegister Line' run → ⊥) → IsFaultBy (IsFirstRunFault lines) fault
   not_a_register fault f head never = bad_line_first lines at run read lt fault f (λ longer h. never (register_of head longer (last longer h)))
 
   pub register_read : (r : RegisterWord) → run.places ≡ [] → IsRegisterLine Line' r → All (λ q. q.register ≢ r.register) run.registers
-      → IsReadTo All' (at + 1) (made run.words (run.registers ++ r ∷ []) run.places)
+      → IsRunTextTo All' (at + 1) (made run.words (run.registers ++ r ∷ []) run.places)
   register_read r bare is fresh =
       record {
-        is = subst (λ l. IsRun Count l (made run.words (run.registers ++ r ∷ []) run.places)) (sym (next_lines lines at run read lt))
+        is = subst (λ l. IsRunText Count l (made run.words (run.registers ++ r ∷ []) run.places)) (sym (next_lines lines at run read lt))
             (with_register Count (take at All') Line' run r bare read.is is fresh);
         within = record { words = read.within.words; places = read.within.places };
       }
@@ -122,24 +122,24 @@ module _ (lines : List Line) (at : ℕ) (run : RunText) (read : IsReadTo (words_
       let s = same_run Count (take at All') (made longer.words longer.registers qs) run r read.is in
       record { next = q; is = is; fresh = subst (λ l. All (λ (x : PlaceWord). x.address / 8 ≢ q.address / 8) l) s.2 al }
 
-  pub not_a_place : (fault : TextFault) → IsFaultOfLine lines at BadLine fault → (get_or Line' 0 [] ≡ codes "word" → ⊥) → (get_or Line' 0 [] ≡ codes "reg" → ⊥)
+  pub not_a_place : (fault : TextFault) → IsFaultAtLine lines at BadLine fault → (get_or Line' 0 [] ≡ codes "word" → ⊥) → (get_or Line' 0 [] ≡ codes "reg" → ⊥)
       → (NextPlace Line' run → ⊥) → IsFaultBy (IsFirstRunFault lines) fault
   not_a_place fault f head other never = bad_line_first lines at run read lt fault f (λ longer h. never (place_of head other longer (last longer h)))
 
   pub place_more : (p : PlaceWord) → IsPlaceLine Line' p → All (λ q. q.address / 8 ≢ p.address / 8) run.places
-      → IsRun Count (take (at + 1) All') (made run.words run.registers (run.places ++ p ∷ []))
+      → IsRunText Count (take (at + 1) All') (made run.words run.registers (run.places ++ p ∷ []))
   place_more p is fresh =
-      subst (λ l. IsRun Count l (made run.words run.registers (run.places ++ p ∷ []))) (sym (next_lines lines at run read lt))
+      subst (λ l. IsRunText Count l (made run.words run.registers (run.places ++ p ∷ []))) (sym (next_lines lines at run read lt))
       (with_place Count (take at All') Line' run p read.is is fresh)
 
-  pub too_many_places : (fault : TextFault) → IsFaultOfLine lines at LimitPassed fault → (p : PlaceWord) → IsPlaceLine Line' p
+  pub too_many_places : (fault : TextFault) → IsFaultAtLine lines at LimitPassed fault → (p : PlaceWord) → IsPlaceLine Line' p
       → All (λ q. q.address / 8 ≢ p.address / 8) run.places → length run.places ≡ 4096 → IsFaultBy (IsFirstRunFault lines) fault
   too_many_places fault f p is fresh full =
       past_limit_first lines at run read lt fault f (made run.words run.registers (run.places ++ p ∷ [])) (place_more p is fresh)
       (λ h. (let few = h.places in let n = length_push run.places p in absurd (omega arith)))
 
   pub place_read : (p : PlaceWord) → IsPlaceLine Line' p → All (λ q. q.address / 8 ≢ p.address / 8) run.places → length run.places ≢ 4096
-      → IsReadTo All' (at + 1) (made run.words run.registers (run.places ++ p ∷ []))
+      → IsRunTextTo All' (at + 1) (made run.words run.registers (run.places ++ p ∷ []))
   place_read p is fresh room =
       record {
         is = place_more p is fresh;

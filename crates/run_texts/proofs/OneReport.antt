@@ -5,7 +5,7 @@ use Rattle.alpha_machine.specs.Runs.{after, end_pc}
 use Rattle.alpha_machine.specs.declared.running.End.{End}
 use Rattle.alpha_machine.specs.declared.running.End.TheVariants.{Fall, Exit}
 use Rattle.run_texts.specs.declared.texts.RunText.{RunText}
-use Rattle.run_texts.specs.Reports.{IsReport, start_state, report_lines}
+use Rattle.run_texts.specs.Reports.{IsRunReport, start_state, report_lines}
 
 some_once : {X : Type 0} (xs ys : List X) → map Some xs ≡ map Some ys → xs ≡ ys
 some_once [] [] e = refl
@@ -22,7 +22,7 @@ one_end Exit Exit n e = refl
 one_end Fall Exit n e = absurd (omega arith)
 one_end Exit Fall n e = absurd (omega arith)
 
-pub one_report : (run : RunText) (bytes others : List ℕ) → IsReport run bytes → IsReport run others → bytes ≡ others
+pub one_report : (run : RunText) (bytes others : List ℕ) → IsRunReport run bytes → IsRunReport run others → bytes ≡ others
 one_report run bytes others h g =
     let instrs = some_once h.runs.instrs g.runs.instrs (sym h.runs.decode ∙ g.runs.decode) in
     let state : h.state ≡ g.state = sym h.runs.steps ∙ ap (λ is. after (length run.words) is (start_state run)) instrs ∙ g.runs.steps in

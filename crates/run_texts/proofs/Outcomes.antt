@@ -9,12 +9,12 @@ use Rattle.text_core.specs.declared.faults.TextFault.{TextFault}
 use Rattle.text_core.specs.declared.faults.TextFault.TheVariants as answers
 use Rattle.run_texts.specs.declared.texts.RunText.{RunText}
 use Rattle.run_texts.specs.RunFaults.{IsFirstRunFault, IsRunFault, of_run, ReadsRun}
-use Rattle.run_texts.specs.SoFar.{IsReadTo}
+use Rattle.run_texts.specs.SoFar.{IsRunTextTo}
 use Rattle.run_texts.proofs.FirstFaults.{line_count}
 use Rattle.run_texts.proofs.Programs.{whole_read}
 
 pub program_ok : (text : List ℕ) (lines : List Line) → HasLines text lines → (r : Result RunText TextFault)
-    → IfOk r (IsReadTo (words_of_lines lines) (length lines)) → IfOk r (ReadsRun text)
+    → IfOk r (IsRunTextTo (words_of_lines lines) (length lines)) → IfOk r (ReadsRun text)
 program_ok text lines split (Ok run) h = whole_read text lines run split (length lines) (let n = line_count lines in omega arith) h
 program_ok text lines split (Err f) h = h
 

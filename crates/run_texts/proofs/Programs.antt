@@ -5,10 +5,10 @@ use Rattle.text_core.specs.Lines.{Line, HasLines, IsFirstLineFault, line_at}
 use Rattle.text_core.specs.LineTexts.{Words, words_of_lines}
 use Rattle.text_core.specs.declared.faults.Kind.{Kind}
 use Rattle.run_texts.specs.declared.texts.RunText.{RunText}
-use Rattle.run_texts.specs.RunTexts.{IsRun}
+use Rattle.run_texts.specs.RunTexts.{IsRunText}
 use Rattle.run_texts.specs.RunFaults.{word_count, IsWithinLimits, IsRunFaultAt, bad_line, past_limit, IsFirstRunFault, IsRunFault, of_lines, of_run, ReadsRun}
 use Rattle.run_texts.specs.Reports.{CanRun}
-use Rattle.run_texts.specs.SoFar.{IsReadTo}
+use Rattle.run_texts.specs.SoFar.{IsRunTextTo}
 use Rattle.run_texts.proofs.LastLines.{made}
 use Rattle.run_texts.proofs.FirstFaults.{same_run, no_fault_before}
 use Rattle.run_texts.proofs.FrontWords.{count_is}
@@ -19,19 +19,19 @@ same_program run other e f g =
 
 -- the lines that were all read are the program
 pub whole_read : (text : List ℕ) (lines : List Line) (run : RunText) → HasLines text lines → (n : ℕ) → length (words_of_lines lines) ≤ n
-    → IsReadTo (words_of_lines lines) n run → ReadsRun text run
+    → IsRunTextTo (words_of_lines lines) n run → ReadsRun text run
 whole_read text lines run split n all h =
-    let is : IsRun (word_count (words_of_lines lines)) (words_of_lines lines) run =
-    subst (λ l. IsRun (word_count (words_of_lines lines)) l run) (take_all n (words_of_lines lines) all) h.is in
+    let is : IsRunText (word_count (words_of_lines lines)) (words_of_lines lines) run =
+    subst (λ l. IsRunText (word_count (words_of_lines lines)) l run) (take_all n (words_of_lines lines) all) h.is in
     record {
       lines = lines;
       split = split;
-      is = subst (λ k. IsRun k (words_of_lines lines) run) (count_is (word_count (words_of_lines lines)) (words_of_lines lines) run is) is;
+      is = subst (λ k. IsRunText k (words_of_lines lines) run) (count_is (word_count (words_of_lines lines)) (words_of_lines lines) run is) is;
       within = h.within;
     }
 
-counted : (lines : List Words) (run : RunText) → IsRun (length run.words) lines run → IsRun (word_count lines) lines run
-counted lines run h = subst (λ k. IsRun k lines run) (sym (count_is (length run.words) lines run h)) h
+counted : (lines : List Words) (run : RunText) → IsRunText (length run.words) lines run → IsRunText (word_count lines) lines run
+counted lines run h = subst (λ k. IsRunText k lines run) (sym (count_is (length run.words) lines run h)) h
 
 pub read_can_run : (text : List ℕ) (run : RunText) → ReadsRun text run → CanRun run
 read_can_run text run h =
@@ -48,17 +48,17 @@ module _ (one_lines : (text : List ℕ) (lines others : List Line) → HasLines 
   one_reading text run other h g =
       let same : g.lines ≡ h.lines = one_lines text g.lines h.lines g.split h.split in
       let l : List Words = words_of_lines h.lines in
-      let there : IsRun (word_count l) l other =
-      subst (λ (ls : List Line). IsRun (word_count (words_of_lines ls)) (words_of_lines ls) other) same (counted (words_of_lines g.lines) other g.is) in
+      let there : IsRunText (word_count l) l other =
+      subst (λ (ls : List Line). IsRunText (word_count (words_of_lines ls)) (words_of_lines ls) other) same (counted (words_of_lines g.lines) other g.is) in
       let e = same_run (word_count l) l run other (counted l run h.is) there in
       same_program run other e.0 e.1 e.2
 
-  no_line_fault : (lines : List Line) (run : RunText) → IsRun (length run.words) (words_of_lines lines) run → IsWithinLimits run
+  no_line_fault : (lines : List Line) (run : RunText) → IsRunText (length run.words) (words_of_lines lines) run → IsWithinLimits run
       → (place : ℕ) (kind : Kind) → IsFirstRunFault lines place kind → ⊥
   no_line_fault lines run h within place kind f =
       no_fault_before (words_of_lines lines) (length (words_of_lines lines)) run (omega arith)
       (record {
-        is = subst (λ l. IsRun (word_count (words_of_lines lines)) l run) (sym (take_all (length (words_of_lines lines)) (words_of_lines lines) (omega arith))) (counted (words_of_lines lines) run h);
+        is = subst (λ l. IsRunText (word_count (words_of_lines lines)) l run) (sym (take_all (length (words_of_lines lines)) (words_of_lines lines) (omega arith))) (counted (words_of_lines lines) run h);
         within = within;
       }) f.at kind (among f.found) f.found
     where
@@ -70,7 +70,7 @@ module _ (one_lines : (text : List ℕ) (lines others : List Line) → HasLines 
   no_fault text run place kind h (of_lines f) = apart_lines text h.lines place kind h.split f
   no_fault text run place kind h (of_run {lines = ls} split f) =
       let same : h.lines ≡ ls = one_lines text h.lines ls h.split split in
-      no_line_fault ls run (subst (λ l. IsRun (length run.words) (words_of_lines l) run) same h.is) h.within place kind f
+      no_line_fault ls run (subst (λ l. IsRunText (length run.words) (words_of_lines l) run) same h.is) h.within place kind f
 
   same_kind : (lines : List Words) (at : ℕ) (kind another : Kind) → IsRunFaultAt lines at kind → IsRunFaultAt lines at another → kind ≡ another
   same_kind lines at kind another (bad_line lt before never is) (bad_line lt' before' never' is') = is ∙ sym is'

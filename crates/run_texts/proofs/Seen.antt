@@ -10,9 +10,9 @@ use Rattle.word_ops.specs.Memory.{Memory, word_at, put_word}
 use Rattle.text_core.specs.LineTexts.{Words}
 use Rattle.run_texts.specs.declared.texts.PlaceWord.{PlaceWord}
 use Rattle.run_texts.specs.declared.texts.RunText.{RunText}
-use Rattle.run_texts.specs.RunTexts.{IsRun}
+use Rattle.run_texts.specs.RunTexts.{IsRunText}
 use Rattle.run_texts.specs.RunFaults.{word_count}
-use Rattle.run_texts.specs.SoFar.{AreSeen, IsReadTo}
+use Rattle.run_texts.specs.SoFar.{AreSeen, IsRunTextTo}
 use Rattle.run_texts.proofs.Lists.{all_front, all_last}
 use Rattle.run_texts.proofs.LastLines.{made}
 use Rattle.run_texts.proofs.Fronts.{no_lines}
@@ -57,14 +57,14 @@ module _ (put : (m : Memory) (place v : ℕ) → word_at (put_word m place v) pl
             ∙ h.others place (all_front (λ (q : PlaceWord). q.address / 8 ≢ place) places p fresh);
       }
 
-pub start_read : (lines : List Words) (run : RunText) → run.words ≡ [] → run.registers ≡ [] → run.places ≡ [] → IsReadTo lines 0 run
+pub start_read : (lines : List Words) (run : RunText) → run.words ≡ [] → run.registers ≡ [] → run.places ≡ [] → IsRunTextTo lines 0 run
 start_read lines run e f g =
     let w : length run.words ≡ 0 = ap length e in
     let p : length run.places ≡ 0 = ap length g in
     record {
-      is = subst (λ ws. IsRun (word_count lines) [] (made ws run.registers run.places)) (sym e)
-          (subst (λ rs. IsRun (word_count lines) [] (made [] rs run.places)) (sym f)
-          (subst (λ ps. IsRun (word_count lines) [] (made [] [] ps)) (sym g) (no_lines (word_count lines))));
+      is = subst (λ ws. IsRunText (word_count lines) [] (made ws run.registers run.places)) (sym e)
+          (subst (λ rs. IsRunText (word_count lines) [] (made [] rs run.places)) (sym f)
+          (subst (λ ps. IsRunText (word_count lines) [] (made [] [] ps)) (sym g) (no_lines (word_count lines))));
       within = record { words = omega arith; places = omega arith };
     }
 

@@ -9,7 +9,7 @@ use Rattle.alpha_machine.specs.declared.running.End.{End}
 use Rattle.run_texts.specs.declared.texts.RegisterWord.{RegisterWord}
 use Rattle.run_texts.specs.declared.texts.PlaceWord.{PlaceWord}
 use Rattle.run_texts.specs.declared.texts.RunText.{RunText}
-use Rattle.run_texts.specs.Reports.{start_registers, start_memory, start_state, IsReport, report_lines}
+use Rattle.run_texts.specs.Reports.{start_registers, start_memory, start_state, IsRunReport, report_lines}
 
 state_of : List ℕ → Memory → MachineState
 state_of registers memory = record { registers = registers; memory = memory; pc = 0 }
@@ -22,7 +22,7 @@ started run s registers memory rs ps is e f g h =
     is ∙ ap (λ r. state_of r memory) (e ∙ ap start_registers f) ∙ ap (λ m. state_of (start_registers run.registers) m) (g ∙ ap start_memory h)
 
 pub reported : (run : RunText) (words : List ℕ) (start state : MachineState) (end : End) (bytes : List ℕ) → words ≡ run.words → start ≡ start_state run
-    → Runs words start end state → bytes ≡ lines_text (report_lines end state) → IsReport run bytes
+    → Runs words start end state → bytes ≡ lines_text (report_lines end state) → IsRunReport run bytes
 reported run words start state end bytes e f runs is =
     record {
       end = end;

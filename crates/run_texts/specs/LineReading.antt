@@ -5,11 +5,11 @@ use Rattle.word_ops.specs.Words.{IsWord}
 use Rattle.text_core.specs.LineTexts.{Words}
 use Rattle.run_texts.specs.declared.texts.RegisterWord.{RegisterWord}
 use Rattle.run_texts.specs.declared.texts.PlaceWord.{PlaceWord}
-use Rattle.run_texts.specs.RunTexts.{word_words, register_words, place_words, IsHexWord}
+use Rattle.run_texts.specs.RunTexts.{program_word_words, register_words, place_words, IsHexWord}
 
 pub record IsWordLine (line : Words) (word : ℕ) : Type 0 where
   pub digits : List ℕ
-  pub is : line ≡ word_words digits
+  pub is : line ≡ program_word_words digits
   pub hex : IsHexWord digits
   pub value : word ≡ digits_value 16 digits
 
@@ -22,7 +22,3 @@ pub record IsPlaceLine (line : Words) (p : PlaceWord) : Type 0 where
   pub address : IsWord p.address
   pub word : IsWord p.word
   pub is : line ≡ place_words p
-
--- no value of the kind has this line
-abbrev pub IsNone : {X : Type 0} → (Words → X → Type 0) → Words → Type 0
-IsNone {X} Is line = (x : X) → Is line x → ⊥

@@ -30,9 +30,9 @@ pub record CanRun (run : RunText) : Type 0 where
   pub stand : AllMayStand run.words
   pub registers : All (λ r. r.register < 31) run.registers
 
-abbrev pub end_words : End → Words
-end_words Fall = codes "end" ∷ codes "fall" ∷ []
-end_words Exit = codes "end" ∷ codes "exit" ∷ []
+abbrev pub report_end_words : End → Words
+report_end_words Fall = codes "end" ∷ codes "fall" ∷ []
+report_end_words Exit = codes "end" ∷ codes "exit" ∷ []
 
 -- the line of a register, where its word isn't 0
 abbrev pub register_line : ℕ → ℕ → List Words
@@ -45,16 +45,16 @@ register_lines register [] = []
 register_lines register (word ∷ words) = register_line register word ++ register_lines (register + 1) words
 
 -- the line of a place and its word
-abbrev pub entry_words : ℕ × ℕ → Words
-entry_words entry = place_words (record { address = 8 * entry.0; word = entry.1 })
+abbrev pub report_entry_words : ℕ × ℕ → Words
+report_entry_words entry = place_words (record { address = 8 * entry.0; word = entry.1 })
 
 -- The end, the registers 0 to 30 that don't hold 0, and the places that don't hold 0, rising.
 abbrev pub report_lines : End → MachineState → List Words
 report_lines end state =
-    end_words end ∷ (register_lines 0 (take 31 state.registers) ++ map entry_words (entries state.memory))
+    report_end_words end ∷ (register_lines 0 (take 31 state.registers) ++ map report_entry_words (entries state.memory))
 
 -- The program's words, run from the first one with what is given, end in a state with this report.
-pub record IsReport (run : RunText) (bytes : List ℕ) : Type 0 where
+pub record IsRunReport (run : RunText) (bytes : List ℕ) : Type 0 where
   pub end : End
   pub state : MachineState
   pub runs : Runs run.words (start_state run) end state

@@ -6,7 +6,7 @@ use Rattle.text_core.specs.LineTexts.{Words, words_of_lines}
 use Rattle.text_core.specs.declared.faults.Kind.{Kind}
 use Rattle.text_core.specs.declared.faults.Kind.TheVariants.{BadLine, LimitPassed}
 use Rattle.run_texts.specs.declared.texts.RunText.{RunText}
-use Rattle.run_texts.specs.RunTexts.{IsRun}
+use Rattle.run_texts.specs.RunTexts.{IsRunText}
 
 -- at most 4,096 words and 4,096 places; of registers there are 31, and each comes once
 pub record IsWithinLimits (run : RunText) : Type 0 where
@@ -24,10 +24,10 @@ word_count lines = prefix_len begins_with_word lines
 -- A fault at the line of this number. BadLine: the lines before it are the front of a program, and with it they are
 -- none. LimitPassed: with it they are one that is past the limits.
 pub data IsRunFaultAt (lines : List Words) (at : ℕ) (kind : Kind) : Type 0 where
-  bad_line : {run : RunText} → at < length lines → IsRun (word_count lines) (take at lines) run
-      → ((longer : RunText) → IsRun (word_count lines) (take (at + 1) lines) longer → ⊥) → kind ≡ BadLine
+  bad_line : {run : RunText} → at < length lines → IsRunText (word_count lines) (take at lines) run
+      → ((longer : RunText) → IsRunText (word_count lines) (take (at + 1) lines) longer → ⊥) → kind ≡ BadLine
       → IsRunFaultAt lines at kind
-  past_limit : {run : RunText} → at < length lines → IsRun (word_count lines) (take (at + 1) lines) run
+  past_limit : {run : RunText} → at < length lines → IsRunText (word_count lines) (take (at + 1) lines) run
       → (IsWithinLimits run → ⊥) → kind ≡ LimitPassed → IsRunFaultAt lines at kind
 
 -- the fault of the first faulty line, at its first byte
@@ -46,5 +46,5 @@ pub data IsRunFault (text : List ℕ) (place : ℕ) (kind : Kind) : Type 0 where
 pub record ReadsRun (text : List ℕ) (run : RunText) : Type 0 where
   pub lines : List Line
   pub split : HasLines text lines
-  pub is : IsRun (length run.words) (words_of_lines lines) run
+  pub is : IsRunText (length run.words) (words_of_lines lines) run
   pub within : IsWithinLimits run

@@ -10,8 +10,8 @@ use Rattle.run_texts.specs.declared.texts.PlaceWord.{PlaceWord}
 use Rattle.run_texts.specs.declared.texts.RunText.{RunText}
 
 -- the lines of a word, of a register's word and of a place's word
-abbrev pub word_words : List ℕ → Words
-word_words digits = codes "word" ∷ digits ∷ []
+abbrev pub program_word_words : List ℕ → Words
+program_word_words digits = codes "word" ∷ digits ∷ []
 
 abbrev pub register_words : RegisterWord → Words
 register_words r = codes "reg" ∷ decimal r.register ∷ decimal r.word ∷ []
@@ -36,9 +36,9 @@ pub record ArePlaces (given : List PlaceWord) : Type 0 where
 
 -- The lines say this program, of which all words are so many: words, then registers, then places. A word is an
 -- instruction, and a branch leads one word behind the last. Limits apart.
-pub record IsRun (count : ℕ) (lines : List Words) (run : RunText) : Type 0 where
+pub record IsRunText (count : ℕ) (lines : List Words) (run : RunText) : Type 0 where
   pub digits : List (List ℕ)
-  pub is : lines ≡ map word_words digits ++ (map register_words run.registers ++ map place_words run.places)
+  pub is : lines ≡ map program_word_words digits ++ (map register_words run.registers ++ map place_words run.places)
   pub hex : All IsHexWord digits
   pub words : run.words ≡ map (digits_value 16) digits
   pub stand : (at word : ℕ) → slice_get run.words at ≡ Some word → MayStandAt count at word

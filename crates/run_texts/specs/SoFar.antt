@@ -8,18 +8,18 @@ use Rattle.text_core.specs.declared.faults.TextFault.{TextFault}
 use Rattle.text_core.specs.declared.faults.TextFault.TheVariants as faults
 use Rattle.run_texts.specs.declared.texts.PlaceWord.{PlaceWord}
 use Rattle.run_texts.specs.declared.texts.RunText.{RunText}
-use Rattle.run_texts.specs.RunTexts.{IsRun}
+use Rattle.run_texts.specs.RunTexts.{IsRunText}
 use Rattle.run_texts.specs.RunFaults.{word_count, IsWithinLimits}
 
 -- a fault of this kind at the line of this number
-pub record IsFaultOfLine (lines : List Line) (at : ℕ) (kind : Kind) (fault : TextFault) : Type 0 where
+pub record IsFaultAtLine (lines : List Line) (at : ℕ) (kind : Kind) (fault : TextFault) : Type 0 where
   pub place : ℕ
   pub is : fault ≡ faults.Fault (record { place = place; kind = kind })
   pub placed : place ≡ (line_at lines at).place
 
 -- The lines before this one are a program within the limits.
-pub record IsReadTo (lines : List Words) (at : ℕ) (run : RunText) : Type 0 where
-  pub is : IsRun (word_count lines) (take at lines) run
+pub record IsRunTextTo (lines : List Words) (at : ℕ) (run : RunText) : Type 0 where
+  pub is : IsRunText (word_count lines) (take at lines) run
   pub within : IsWithinLimits run
 
 -- The places that were given hold 1, and all others 0.

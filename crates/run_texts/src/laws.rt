@@ -3,7 +3,7 @@ ghost use Rattle.std.specs.Prelude.{◌≡◌, ◌≢◌, ◌<◌, ◌/◌, ℕ,
 ghost use Rattle.word_ops.specs.Memory.{word_at};
 ghost use Rattle.text_core.specs.declared.faults.Kind.{Kind};
 ghost use Rattle.run_texts.specs.RunFaults.{ReadsRun, IsRunFault};
-ghost use Rattle.run_texts.specs.Reports.{IsReport, CanRun, start_state};
+ghost use Rattle.run_texts.specs.Reports.{IsRunReport, CanRun, start_state};
 ghost use Rattle.run_texts.specs.declared.texts.RunText.{RunText as Program};
 
 use text_core::one_splitting;
@@ -38,5 +38,5 @@ pub fn programs_start_as_given()
 
 /// A program has one report.
 pub fn one_report()
-    ensures { (run : Program) (bytes others : List ℕ) → IsReport run bytes → IsReport run others → bytes ≡ others }
+    ensures { (run : Program) (bytes others : List ℕ) → IsRunReport run bytes → IsRunReport run others → bytes ≡ others }
 {}

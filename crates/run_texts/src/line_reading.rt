@@ -3,10 +3,10 @@ ghost use Rattle.std.specs.Prelude.{◌≡◌, ◌<◌, ◌≤◌, ◌^◌, ℕ,
 ghost use Rattle.std.specs.Prelude as std;
 ghost use Rattle.std.specs.Str.Parse.{digits_value};
 ghost use Rattle.text_core.specs.Lines.{line_at, line_word};
-ghost use Rattle.text_core.specs.LineTexts.{words_of_lines};
+ghost use Rattle.text_core.specs.LineTexts.{words_of_lines, SaysNone};
 ghost use Rattle.run_texts.specs.RunTexts.{IsHexWord};
 ghost use Rattle.run_texts.specs.RunFaults.{word_count};
-ghost use Rattle.run_texts.specs.LineReading.{IsWordLine, IsRegisterLine, IsPlaceLine, IsNone};
+ghost use Rattle.run_texts.specs.LineReading.{IsWordLine, IsRegisterLine, IsPlaceLine};
 
 use crate::texts::{PlaceWord, RegisterWord};
 use text_core::{TextLines, decimal};
@@ -69,7 +69,7 @@ fn hex_word(digits: &[u8]) -> Option<u32>
 /// The word of a line.
 pub(crate) fn word_line(text: &TextLines<'_>, line: u32) -> Option<u32>
     requires { line < length text.now }
-    ensures { MatchOption result (IsNone IsWordLine (line_at text.now line).words)
+    ensures { MatchOption result (SaysNone IsWordLine (line_at text.now line).words)
         (IsWordLine (line_at text.now line).words) }
 {
     if !has_form(text, line, b"word", 2) {
@@ -94,7 +94,7 @@ fn register(word: &[u8]) -> Option<u8>
 /// A register and its word.
 pub(crate) fn register_line(text: &TextLines<'_>, line: u32) -> Option<RegisterWord>
     requires { line < length text.now }
-    ensures { MatchOption result (IsNone IsRegisterLine (line_at text.now line).words)
+    ensures { MatchOption result (SaysNone IsRegisterLine (line_at text.now line).words)
         (IsRegisterLine (line_at text.now line).words) }
 {
     if !has_form(text, line, b"reg", 3) {
@@ -112,7 +112,7 @@ pub(crate) fn register_line(text: &TextLines<'_>, line: u32) -> Option<RegisterW
 /// An address and the word of its place.
 pub(crate) fn place_line(text: &TextLines<'_>, line: u32) -> Option<PlaceWord>
     requires { line < length text.now }
-    ensures { MatchOption result (IsNone IsPlaceLine (line_at text.now line).words)
+    ensures { MatchOption result (SaysNone IsPlaceLine (line_at text.now line).words)
         (IsPlaceLine (line_at text.now line).words) }
 {
     if !has_form(text, line, b"mem", 3) {

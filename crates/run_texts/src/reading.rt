@@ -8,7 +8,7 @@ ghost use Rattle.text_core.specs.declared.faults.Kind.{Kind as KindOf};
 ghost use Rattle.text_core.specs.declared.faults.TextFault.TheVariants as faults;
 ghost use Rattle.run_texts.specs.RunFaults.{word_count, ReadsRun, IsRunFault, IsFirstRunFault};
 ghost use Rattle.run_texts.specs.Reports.{CanRun};
-ghost use Rattle.run_texts.specs.SoFar.{IsFaultOfLine, IsReadTo, AreSeen};
+ghost use Rattle.run_texts.specs.SoFar.{IsFaultAtLine, IsRunTextTo, AreSeen};
 ghost use Rattle.run_texts.specs.declared.texts.RunText.{RunText as Program};
 
 use crate::laws::one_program;
@@ -28,7 +28,7 @@ const MOST_PLACES: usize = 4096;
 /// The fault of a line.
 fn line_fault(text: &TextLines<'_>, line: u32, kind: Kind) -> TextFault
     requires { line < length text.now }
-    ensures { IsFaultOfLine text.now line kind result }
+    ensures { IsFaultAtLine text.now line kind result }
 {
     TextFault::Fault(Fault {
         place: text.place(line),
@@ -67,8 +67,8 @@ fn read_word(
     requires first { line_word text.now line 0 ≡ codes "word" }
     requires count { count ≡ word_count (words_of_lines text.now) }
     requires few { count < 2 ^ 29 }
-    requires so_far { IsReadTo (words_of_lines text.now) line run.old }
-    ensures ok { OnOk result (IsReadTo (words_of_lines text.now) (line + 1) run.new) }
+    requires so_far { IsRunTextTo (words_of_lines text.now) line run.old }
+    ensures ok { OnOk result (IsRunTextTo (words_of_lines text.now) (line + 1) run.new) }
     ensures places { OnOk result (run.new.places ≡ run.old.places) }
     ensures fault { IfErr result (IsFaultBy (IsFirstRunFault text.now)) }
 {
@@ -91,8 +91,8 @@ fn read_word(
 fn read_register(text: &TextLines<'_>, line: u32, run: &mut RunText) -> Result<(), TextFault>
     requires line { line < length text.now }
     requires first { line_word text.now line 0 ≡ codes "reg" }
-    requires so_far { IsReadTo (words_of_lines text.now) line run.old }
-    ensures ok { OnOk result (IsReadTo (words_of_lines text.now) (line + 1) run.new) }
+    requires so_far { IsRunTextTo (words_of_lines text.now) line run.old }
+    ensures ok { OnOk result (IsRunTextTo (words_of_lines text.now) (line + 1) run.new) }
     ensures places { OnOk result (run.new.places ≡ run.old.places) }
     ensures fault { IfErr result (IsFaultBy (IsFirstRunFault text.now)) }
 {
@@ -115,9 +115,9 @@ fn read_place(
     requires line { line < length text.now }
     requires no_word { line_word text.now line 0 ≢ codes "word" }
     requires no_register { line_word text.now line 0 ≢ codes "reg" }
-    requires so_far { IsReadTo (words_of_lines text.now) line run.old }
+    requires so_far { IsRunTextTo (words_of_lines text.now) line run.old }
     requires seen { AreSeen run.old.places seen.old }
-    ensures ok { OnOk result (IsReadTo (words_of_lines text.now) (line + 1) run.new) }
+    ensures ok { OnOk result (IsRunTextTo (words_of_lines text.now) (line + 1) run.new) }
     ensures seen { OnOk result (AreSeen run.new.places seen.new) }
     ensures fault { IfErr result (IsFaultBy (IsFirstRunFault text.now)) }
 {
@@ -147,9 +147,9 @@ fn read_line(
     requires line { line < length text.now }
     requires count { count ≡ word_count (words_of_lines text.now) }
     requires few { count < 2 ^ 29 }
-    requires so_far { IsReadTo (words_of_lines text.now) line run.old }
+    requires so_far { IsRunTextTo (words_of_lines text.now) line run.old }
     requires seen { AreSeen run.old.places seen.old }
-    ensures ok { OnOk result (IsReadTo (words_of_lines text.now) (line + 1) run.new) }
+    ensures ok { OnOk result (IsRunTextTo (words_of_lines text.now) (line + 1) run.new) }
     ensures seen { OnOk result (AreSeen run.new.places seen.new) }
     ensures fault { IfErr result (IsFaultBy (IsFirstRunFault text.now)) }
 {
@@ -164,7 +164,7 @@ fn read_line(
 
 /// The program of the lines of a text.
 fn run_of(alloc: Global, text: &TextLines<'_>) -> Result<RunText, TextFault>
-    ensures ok { IfOk result (IsReadTo (words_of_lines text.now) (length text.now)) }
+    ensures ok { IfOk result (IsRunTextTo (words_of_lines text.now) (length text.now)) }
     ensures fault { IfErr result (IsFaultBy (IsFirstRunFault text.now)) }
 {
     let count = word_lines(text);

@@ -77,7 +77,7 @@ fn put_numbers(text: &mut Vec<u8>, word: &[u8], first: u64, second: u64) -> Resu
 }
 
 fn put_end(text: &mut Vec<u8>, end: End) -> Result<(), NoMemory>
-    ensures { OnOk result (text.new.items ≡ text.old.items ++ line_text (reports.end_words end)) }
+    ensures { OnOk result (text.new.items ≡ text.old.items ++ line_text (reports.report_end_words end)) }
 {
     match end {
         End::Fall => put(text, b"end fall\n"),
@@ -108,7 +108,7 @@ fn put_registers(text: &mut Vec<u8>, state: &State) -> Result<(), NoMemory>
 #[tactic(auto, using(crate::proofs::Printed::line_more))]
 fn put_places(text: &mut Vec<u8>, entries: &[(u64, u64)]) -> Result<(), NoMemory>
     requires { All (λ e. e.0 < 2 ^ 61) entries.now }
-    ensures { OnOk result (text.new.items ≡ text.old.items ++ lines_text (map reports.entry_words entries.now)) }
+    ensures { OnOk result (text.new.items ≡ text.old.items ++ lines_text (map reports.report_entry_words entries.now)) }
 {
     for (place, word) in entries {
         put_numbers(text, b"mem", 8 * *place, *word)?;
@@ -131,7 +131,7 @@ fn print(alloc: Global, end: End, state: &State) -> Result<Vec<u8>, NoMemory>
 /// from 0 to 30 that doesn't hold 0, and each place that doesn't hold 0, rising, by its address.
 pub fn report(alloc: Global, program: &RunText) -> Result<Vec<u8>, NoMemory>
     requires { reports.CanRun program.now }
-    ensures { IfOk result (λ text. reports.IsReport program.now text.items) }
+    ensures { IfOk result (λ text. reports.IsRunReport program.now text.items) }
 {
     let memory = memory(alloc, program.places.as_slice())?;
     let mut state = State::new(registers(program.registers.as_slice()), memory);

@@ -6,24 +6,24 @@ use Rattle.cnf_core.specs.Formula.{AreOver}
 use Rattle.cnf_core.specs.Values.{IsClosed}
 use Rattle.sat_core.specs.declared.trail.Step.{Step}
 use Rattle.sat_core.specs.declared.trail.Trail.{Trail}
-use Rattle.sat_core.specs.Steps.{given, vars_of, IsTrailState, Propagates, AreClosedBefore}
+use Rattle.sat_core.specs.Steps.{given, var_count, IsTrailState, Propagates, AreClosedBefore}
 use Rattle.sat_core.proofs.States.{propagated-closed, decided-closed, closed-held}
 
 -- what a turn that decided leaves
 pub record IsAdvanced (clauses : List (List Lit)) (n : ℕ) (old new : Trail) : Type 0 where
   pub state : IsTrailState clauses n new
   pub before : AreClosedBefore clauses new.steps.items
-  pub size : vars_of new ≡ n
+  pub size : var_count new ≡ n
   pub grown : length old.steps.items < length new.steps.items
   pub room : length new.steps.items ≤ n
 
 pub advanced : (clauses : List (List Lit)) (n : ℕ) (old mid new : Trail) (step : Step)
-    → AreOver n clauses → vars_of old ≡ n → AreClosedBefore clauses old.steps.items
-    → IsTrailState clauses (vars_of old) mid → Propagates old.steps.items mid.steps.items → IsClosed (given mid.values.items) clauses
-    → new.steps.items ≡ mid.steps.items ++ step ∷ [] → ((cs : List (List Lit)) → IsTrailState cs (vars_of mid) mid → IsTrailState cs (vars_of mid) new)
+    → AreOver n clauses → var_count old ≡ n → AreClosedBefore clauses old.steps.items
+    → IsTrailState clauses (var_count old) mid → Propagates old.steps.items mid.steps.items → IsClosed (given mid.values.items) clauses
+    → new.steps.items ≡ mid.steps.items ++ step ∷ [] → ((cs : List (List Lit)) → IsTrailState cs (var_count mid) mid → IsTrailState cs (var_count mid) new)
     → IsAdvanced clauses n old new
 advanced clauses n old mid new step over size before state adds closed is keeps =
-    let mid-n : vars_of mid ≡ n = state.size ∙ size in
+    let mid-n : var_count mid ≡ n = state.size ∙ size in
     let state-n = subst (λ (k : ℕ). IsTrailState clauses k mid) size state in
     let new-n = subst (λ (k : ℕ). IsTrailState clauses k new) mid-n (keeps clauses (subst (λ (k : ℕ). IsTrailState clauses k mid) (sym state.size) state)) in
     let (added, is-mid, forced) = adds in

@@ -15,8 +15,8 @@ use Rattle.sat_core.specs.declared.trail.Trail.{Trail}
 use Rattle.sat_core.specs.declared.conflict.Analysis.{Analysis}
 use Rattle.sat_core.specs.Steps.{given, held, IsTrailState, AreSteps, AreClosedBefore}
 use Rattle.sat_core.specs.Looks.{IsFalsified}
-use Rattle.sat_core.specs.Conflicts.{GoesOn}
-use Rattle.sat_core.specs.Walks.{step_place, IsStepOf, is_marked, last_level_count, AreClear, IsLastDecision, IsAsserting, IsWalked, Needs, Leads, IsBackjump}
+use Rattle.sat_core.specs.Conflicts.{GoesOnWith}
+use Rattle.sat_core.specs.Walks.{step_place, IsStepOf, is_marked, last_level_count, AreUnmarked, IsLastDecision, IsAsserting, IsWalked, Needs, LeadsToConflict, IsBackjump}
 use Rattle.sat_core.proofs.Holding.{none≢some, held-whole, held-at, step-of}
 use Rattle.sat_core.proofs.States.{clause-exists, falsified-held}
 use Rattle.sat_core.proofs.Marking.{late-clear, late-some}
@@ -70,14 +70,14 @@ pub walked-start : (clauses : List (List Lit)) (n : ℕ) (steps : List Step) (va
     → AreSteps clauses n steps values places → AreOver n clauses → AreClosedBefore clauses steps → IsFalsified (given values) clauses id → IsLastDecision steps last
     → c ≡ clause_at clauses id → old ≡ replicate (length steps) false → Needs places c c last old a.needed.items added
     → a.at_last_level ≡ added → a.last ≡ last → a.lits.items ≡ [] → a.hints.items ≡ []
-    → IsWalked clauses n steps (length steps) a × Leads clauses steps (length steps) a.needed.items a.lits.items (reverse a.hints.items) (clause_at clauses id)
+    → IsWalked clauses n steps (length steps) a × LeadsToConflict clauses steps (length steps) a.needed.items a.lits.items (reverse a.hints.items) (clause_at clauses id)
 walked-start clauses n steps values places id last at_last_level added old c a s over before f is-last is-c is-old needs is-late last-is no-lits no-hints =
     let c' = clause_at clauses id in
     let false' = falsified-held clauses n steps values places id s over f in
     let exist = clause-exists clauses n id over f.low f.high in
     let needs' : Needs places c' c' last old a.needed.items added = subst (λ (x : List Lit). Needs places x x last old a.needed.items added) is-c needs in
     let old-size : length old ≡ length steps = ap length is-old ∙ length-replicate (length steps) false in
-    let old-clear : AreClear 0 old = λ k low. ap (λ (xs : List Bool). is_marked xs k) is-old ∙ replicate-clear (length steps) k in
+    let old-clear : AreUnmarked 0 old = λ k low. ap (λ (xs : List Bool). is_marked xs k) is-old ∙ replicate-clear (length steps) k in
     let size : length a.needed.items ≡ length steps = needs'.size ∙ old-size in
     let none = late-clear last old (λ k low. old-clear k (omega arith)) in
     let count = needs'.count in
@@ -99,12 +99,12 @@ walked-start clauses n steps values places id last at_last_level added old c a s
           absurd (omega arith));
       root = λ forced. no-lits;
     })
-    (subst (λ (hs : List ℕ). Leads clauses steps (length steps) a.needed.items a.lits.items (reverse hs) c') (sym no-hints)
-    (subst (λ (ls : List Lit). Leads clauses steps (length steps) a.needed.items ls [] c') (sym no-lits)
+    (subst (λ (hs : List ℕ). LeadsToConflict clauses steps (length steps) a.needed.items a.lits.items (reverse hs) c') (sym no-hints)
+    (subst (λ (ls : List Lit). LeadsToConflict clauses steps (length steps) a.needed.items ls [] c') (sym no-lits)
     (leads-start clauses n steps values places a.needed.items c' s false' needs'.all)))
   where
-    record-pair : IsWalked clauses n steps (length steps) a → Leads clauses steps (length steps) a.needed.items a.lits.items (reverse a.hints.items) (clause_at clauses id)
-        → IsWalked clauses n steps (length steps) a × Leads clauses steps (length steps) a.needed.items a.lits.items (reverse a.hints.items) (clause_at clauses id)
+    record-pair : IsWalked clauses n steps (length steps) a → LeadsToConflict clauses steps (length steps) a.needed.items a.lits.items (reverse a.hints.items) (clause_at clauses id)
+        → IsWalked clauses n steps (length steps) a × LeadsToConflict clauses steps (length steps) a.needed.items a.lits.items (reverse a.hints.items) (clause_at clauses id)
     record-pair x y = (x, y)
 
     replicate-clear : (n k : ℕ) → get_or (replicate n false) k false ≡ false
@@ -137,7 +137,7 @@ EndIn cs lits hints =
 
 -- **the line is accepted**
 pub line-shown : (clauses : List (List Lit)) (n : ℕ) (steps : List Step) (a : Analysis) (id : ℕ) (line : Line)
-    → IsWalked clauses n steps 0 a → Leads clauses steps 0 a.needed.items a.lits.items (reverse a.hints.items) (clause_at clauses id) → 1 ≤ id → id ≤ length clauses
+    → IsWalked clauses n steps 0 a → LeadsToConflict clauses steps 0 a.needed.items a.lits.items (reverse a.hints.items) (clause_at clauses id) → 1 ≤ id → id ≤ length clauses
     → line.id ≡ length clauses + 1 → line.lits ≡ a.lits.items → line.hints ≡ reverse a.hints.items ++ id ∷ [] → IsAccepted (record { vars = n; clauses = clauses }) [] line
 line-shown clauses n steps a id line h leads low high is-id is-lits is-hints =
     let front = reverse a.hints.items in
@@ -215,7 +215,7 @@ steps-over clauses more n steps values places h =
 -- **the search goes on**
 pub line-goes_on : (clauses : List (List Lit)) (n : ℕ) (old new : Trail) (a : Analysis) (lits : List Lit)
     → AreClosedBefore clauses old.steps.items → IsLastDecision old.steps.items a.last → IsWalked clauses n old.steps.items 0 a → IsBackjump old.steps.items 0 a.backjump a.lits.items
-    → IsTrailState clauses n new → new.steps.items ≡ take a.backjump old.steps.items → lits ≡ a.lits.items → (lits ≢ []) → GoesOn clauses n lits new
+    → IsTrailState clauses n new → new.steps.items ≡ take a.backjump old.steps.items → lits ≡ a.lits.items → (lits ≢ []) → GoesOnWith clauses n lits new
 line-goes_on clauses n old new a lits before is-last h stays state is is-lits some =
     let steps = old.steps.items in
     let d : Step = record { lit = record { var = 0; positive = false }; reason = None } in

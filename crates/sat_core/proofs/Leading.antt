@@ -10,7 +10,7 @@ use Rattle.cnf_core.specs.Values.{partial_of, IsHeld, IsFalse, IsFalseClause, Is
 use Rattle.cnf_core.specs.Refutation.{clause_at, refuted}
 use Rattle.sat_core.specs.declared.trail.Step.{Step}
 use Rattle.sat_core.specs.Steps.{held, IsTrail, IsReason, AreSteps}
-use Rattle.sat_core.specs.Walks.{step_place, is_marked, Covers, Leads}
+use Rattle.sat_core.specs.Walks.{step_place, is_marked, Covers, LeadsToConflict}
 use Rattle.sat_core.proofs.Holding.{none≢some, partial_of-push-same, partial_of-push-other, partial_of-cons-same, partial_of-cons-other, held-step, held-at, step-of, free-before}
 
 -- a literal that is false under the steps before i is false by its marked step
@@ -32,7 +32,7 @@ covered-false clauses n steps values places i needed t l h covers false' marked 
 
 -- at the end of the trail the conflict is false already
 pub leads-start : (clauses : List (List Lit)) (n : ℕ) (steps : List Step) (values : List (Option Bool)) (places : List ℕ) (needed : List Bool) (conflict : List Lit)
-    → AreSteps clauses n steps values places → IsFalseClause (held steps) conflict → All (λ l. is_marked needed (step_place places l) ≡ true) conflict → Leads clauses steps (length steps) needed [] [] conflict
+    → AreSteps clauses n steps values places → IsFalseClause (held steps) conflict → All (λ l. is_marked needed (step_place places l) ≡ true) conflict → LeadsToConflict clauses steps (length steps) needed [] [] conflict
 leads-start clauses n steps values places needed conflict h false' marked t covers rest = (
   t,
   refl,
@@ -44,7 +44,7 @@ leads-start clauses n steps values places needed conflict h false' marked t cove
 
 -- a step that isn't needed
 pub leads-skip : (clauses : List (List Lit)) (steps : List Step) (i : ℕ) (needed : List Bool) (lits : List Lit) (hints : List ℕ) (conflict : List Lit)
-    → is_marked needed i ≡ false → Leads clauses steps (i + 1) needed lits hints conflict → Leads clauses steps i needed lits hints conflict
+    → is_marked needed i ≡ false → LeadsToConflict clauses steps (i + 1) needed lits hints conflict → LeadsToConflict clauses steps i needed lits hints conflict
 leads-skip clauses steps i needed lits hints conflict unmarked leads t covers rest =
     leads t
     (λ k d below few mark. elim (cases_eq k i) [
@@ -73,7 +73,7 @@ others-later clauses steps i d lits trail few free =
 -- a step that is kept
 pub leads-keep : (clauses : List (List Lit)) (steps : List Step) (i : ℕ) (d : Step) (needed needed' : List Bool) (lits : List Lit) (hints : List ℕ) (conflict : List Lit)
     → IsTrail clauses steps → i < length steps → All (λ (l : Lit). held (take (i + 1) steps) l.var ≡ None) lits → needed' ≡ set needed i false
-    → Leads clauses steps (i + 1) needed lits hints conflict → Leads clauses steps i needed' (lits ++ negated (get_or steps i d).lit ∷ []) hints conflict
+    → LeadsToConflict clauses steps (i + 1) needed lits hints conflict → LeadsToConflict clauses steps i needed' (lits ++ negated (get_or steps i d).lit ∷ []) hints conflict
 leads-keep clauses steps i d needed needed' lits hints conflict trail few free is leads t covers rest =
     let l = (get_or steps i d).lit in
     let all : refuted (lits ++ negated l ∷ []) ≡ refuted lits ++ negated (negated l) ∷ [] = map_push negated lits (negated l) in
@@ -96,7 +96,7 @@ pub leads-resolve : (clauses : List (List Lit)) (n : ℕ) (steps : List Step) (v
     → AreSteps clauses n steps values places → i < length steps → All (λ (l : Lit). held (take (i + 1) steps) l.var ≡ None) lits
     → IsReason (held (take i steps)) clauses id (get_or steps i d).lit
     → ((k : ℕ) → is_marked needed k ≡ true → is_marked mid k ≡ true) → All (λ l. is_marked mid (step_place places l) ≡ true) (clause_at clauses id) → needed' ≡ set mid i false
-    → Leads clauses steps (i + 1) needed lits hints conflict → Leads clauses steps i needed' lits (id ∷ hints) conflict
+    → LeadsToConflict clauses steps (i + 1) needed lits hints conflict → LeadsToConflict clauses steps i needed' lits (id ∷ hints) conflict
 leads-resolve clauses n steps values places i d id needed mid needed' lits hints conflict h few free reason keeps marked is leads t covers rest =
     let l = (get_or steps i d).lit in
     let c = clause_at clauses id in

@@ -6,7 +6,7 @@ use Rattle.std.proofs.lemmas.List.{drop-set-add, drop-set-lt, get_or-drop, lengt
 use Rattle.std.proofs.lemmas.List.Sums.{sum_by-set, sum_by-cons, count_by-le-length}
 use Rattle.std.proofs.lemmas.List.Elements.{All-more, All-weaker}
 use Rattle.cnf_core.specs.declared.literal.Lit.{Lit}
-use Rattle.sat_core.specs.Walks.{step_place, is_marked, last_level_count, AreClear, Needs}
+use Rattle.sat_core.specs.Walks.{step_place, is_marked, last_level_count, AreUnmarked, Needs}
 
 one : Bool → ℕ
 one b = cond {A = ℕ} b 1 0
@@ -65,7 +65,7 @@ count-clear (x ∷ xs) clear =
     omega arith
 
 -- where no step of the last level is marked
-pub late-clear : (last : ℕ) (xs : List Bool) → AreClear last xs → last_level_count last xs ≡ 0
+pub late-clear : (last : ℕ) (xs : List Bool) → AreUnmarked last xs → last_level_count last xs ≡ 0
 unfolding last_level_count
 late-clear last xs clear = count-clear (drop last xs) (λ k. get_or-drop last xs k false ∙ clear (last + k) (omega arith))
 
@@ -73,7 +73,7 @@ pub late-some : (last i : ℕ) (xs : List Bool) → i < length xs → last ≤ i
 late-some last i xs few low on = (let e = late_unmarked last i xs few low on in omega arith)
 
 -- where the first step of the last level alone is marked
-pub late-one : (last : ℕ) (xs : List Bool) → last < length xs → is_marked xs last ≡ true → AreClear (last + 1) xs → last_level_count last xs ≡ 1
+pub late-one : (last : ℕ) (xs : List Bool) → last < length xs → is_marked xs last ≡ true → AreUnmarked (last + 1) xs → last_level_count last xs ≡ 1
 late-one last xs few on clear =
     let e = late_unmarked last last xs few (omega arith) on in
     let none = late-clear last (set xs last false) (λ k low. elim (cases_eq k last) [
@@ -87,7 +87,7 @@ unfolding last_level_count
 late-le last xs = (let a = count_by-le-length (λ (b : Bool). b) (drop last xs) in let b = length-drop last xs in omega arith)
 
 -- the mark of a step is taken
-pub clear-unmarked : (i : ℕ) (xs : List Bool) → i < length xs → AreClear (i + 1) xs → AreClear i (set xs i false)
+pub clear-unmarked : (i : ℕ) (xs : List Bool) → i < length xs → AreUnmarked (i + 1) xs → AreUnmarked i (set xs i false)
 clear-unmarked i xs few clear k low =
     elim (cases_eq k i) [
       | inl same ↦ ap (λ (j : ℕ). is_marked (set xs i false) j) same ∙ get_or-set_same xs i false false few

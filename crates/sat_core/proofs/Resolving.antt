@@ -9,7 +9,7 @@ use Rattle.cnf_core.specs.Refutation.{clause_at}
 use Rattle.sat_core.specs.declared.trail.Step.{Step}
 use Rattle.sat_core.specs.declared.conflict.Analysis.{Analysis}
 use Rattle.sat_core.specs.Steps.{held, IsReason, AreSteps}
-use Rattle.sat_core.specs.Walks.{is_marked, IsStepOf, IsLastDecision, IsFirstDecision, IsKeptAt, Keeps, Resolves, IsWalked, Leads}
+use Rattle.sat_core.specs.Walks.{is_marked, IsStepOf, IsLastDecision, IsFirstDecision, IsKeptAt, KeepsStep, Resolves, IsWalked, LeadsToConflict}
 use Rattle.sat_core.proofs.Leading.{leads-skip, leads-keep, leads-resolve}
 use Rattle.sat_core.proofs.Walking.{walked-skip, walked-keep, walked-resolve, reason-steps}
 
@@ -20,7 +20,7 @@ on-ok (Err e) P Q f h = h
 -- what a look leaves
 pub record Settled (clauses : List (List Lit)) (n : ℕ) (steps : List Step) (i : ℕ) (a b : Analysis) : Type 0 where
   pub walked : IsWalked clauses n steps i b
-  pub leads : (conflict : List Lit) → Leads clauses steps (i + 1) a.needed.items a.lits.items (reverse a.hints.items) conflict → Leads clauses steps i b.needed.items b.lits.items (reverse b.hints.items) conflict
+  pub leads : (conflict : List Lit) → LeadsToConflict clauses steps (i + 1) a.needed.items a.lits.items (reverse a.hints.items) conflict → LeadsToConflict clauses steps i b.needed.items b.lits.items (reverse b.hints.items) conflict
 
 -- a mark that was read
 pub mark-read : (needed : List Bool) (i : ℕ) (b c : Bool) → i < length needed → b ≡ get_or needed i b → b ≡ c → is_marked needed i ≡ c
@@ -36,15 +36,15 @@ settled-skip clauses n steps i a h unmarked =
 pub settled-keep : (clauses : List (List Lit)) (n : ℕ) (steps : List Step) (values : List (Option Bool)) (places : List ℕ) (i first : ℕ) (step : Step) (a b : Analysis)
     → AreSteps clauses n steps values places → IsFirstDecision steps first → IsLastDecision steps a.last → i < length steps
     → IsWalked clauses n steps (i + 1) a → is_marked a.needed.items i ≡ true → step ≡ get_or steps i step → (step.reason ≡ None) ⊎ IsKeptAt first a.last a.at_last_level i
-    → Keeps i step.lit a b → Settled clauses n steps i a b
+    → KeepsStep i step.lit a b → Settled clauses n steps i a b
 settled-keep clauses n steps values places i first step a b s is-first last few h marked is why k =
     let why' = subst (λ (x : Step). (x.reason ≡ None) ⊎ IsKeptAt first a.last a.at_last_level i) is why in
-    let k' = subst (λ (x : Step). Keeps i x.lit a b) is k in
+    let k' = subst (λ (x : Step). KeepsStep i x.lit a b) is k in
     record {
       walked = walked-keep clauses n steps values places i first step a b s is-first last few h marked why' k';
       leads = λ conflict before.
-          subst (λ (hs : List ℕ). Leads clauses steps i b.needed.items b.lits.items (reverse hs) conflict) (sym k.hints)
-          (subst (λ (ls : List Lit). Leads clauses steps i b.needed.items ls (reverse a.hints.items) conflict) (sym k'.lits)
+          subst (λ (hs : List ℕ). LeadsToConflict clauses steps i b.needed.items b.lits.items (reverse hs) conflict) (sym k.hints)
+          (subst (λ (ls : List Lit). LeadsToConflict clauses steps i b.needed.items ls (reverse a.hints.items) conflict) (sym k'.lits)
           (leads-keep clauses steps i step a.needed.items b.needed.items a.lits.items (reverse a.hints.items) conflict s.trail few h.free k.needed before));
     }
 
@@ -73,7 +73,7 @@ settled-resolve clauses n steps values places i id step a b s over few h marked 
     record {
       walked = walked-resolve clauses n steps values places i id step a b s over few h marked reason more r;
       leads = λ conflict before.
-          subst (λ (hs : List ℕ). Leads clauses steps i b.needed.items b.lits.items hs conflict) (sym hints)
-          (subst (λ (ls : List Lit). Leads clauses steps i b.needed.items ls (id ∷ reverse a.hints.items) conflict) (sym r.lits)
+          subst (λ (hs : List ℕ). LeadsToConflict clauses steps i b.needed.items b.lits.items hs conflict) (sym hints)
+          (subst (λ (ls : List Lit). LeadsToConflict clauses steps i b.needed.items ls (id ∷ reverse a.hints.items) conflict) (sym r.lits)
           (leads-resolve clauses n steps values places i step id a.needed.items r.mid b.needed.items a.lits.items (reverse a.hints.items) conflict s few h.free reason r.needs.keeps r.needs.all r.needed before));
     }

@@ -13,9 +13,9 @@ use Rattle.cnf_core.specs.Values.{partial_of, IsFalseClause, IsClosed}
 use Rattle.cnf_core.specs.Refutation.{known, clause_at, Reaches, refuted, AreNames, IsAccepted, AreAccepted, Refutes, HaveNoSolution, IsFresh}
 use Rattle.cnf_core.specs.Outcome.{IsSolved, IsRefuted, IsSpent}
 use Rattle.sat_core.specs.declared.trail.Trail.{Trail}
-use Rattle.sat_core.specs.Steps.{given, vars_of, IsTrailState, AreClosedBefore}
+use Rattle.sat_core.specs.Steps.{given, var_count, IsTrailState, AreClosedBefore}
 use Rattle.sat_core.specs.Picks.{free_list}
-use Rattle.sat_core.specs.Conflicts.{GoesOn}
+use Rattle.sat_core.specs.Conflicts.{GoesOnWith}
 use Rattle.sat_core.proofs.Holding.{some-same}
 use Rattle.sat_core.proofs.Picking.{none-free}
 use Rattle.sat_core.proofs.Bound.{AreFresh, fresh-few}
@@ -28,8 +28,8 @@ AreFreshLines f lines = (k : ℕ) (d : Line) → k < length lines → IsFresh (k
 pub record IsSearch (f : Formula) (lines : List Line) (clauses : List (List Lit)) (trail : Trail) : Type 0 where
   pub known' : clauses ≡ known f.clauses lines
   pub exist : AreOver f.vars clauses
-  pub vars : vars_of trail ≡ f.vars
-  pub state : IsTrailState clauses (vars_of trail) trail
+  pub vars : var_count trail ≡ f.vars
+  pub state : IsTrailState clauses (var_count trail) trail
   pub before : AreClosedBefore clauses trail.steps.items
   pub accepted : AreAccepted f lines
   pub fresh : AreFreshLines f lines
@@ -94,7 +94,7 @@ shown-accepted f lines clauses line is shown =
 
 -- **the search goes on with one line more**
 pub search-more : (f : Formula) (lines lines' : List Line) (clauses clauses' : List (List Lit)) (old new : Trail) (line : Line)
-    → IsSearch f lines clauses old → vars_of new ≡ vars_of old → IsAccepted (record { vars = vars_of old; clauses = clauses }) [] line → GoesOn clauses (vars_of old) line.lits new
+    → IsSearch f lines clauses old → var_count new ≡ var_count old → IsAccepted (record { vars = var_count old; clauses = clauses }) [] line → GoesOnWith clauses (var_count old) line.lits new
     → clauses' ≡ clauses ++ line.lits ∷ [] → lines' ≡ lines ++ line ∷ [] → IsSearch f lines' clauses' new
 search-more f lines lines' clauses clauses' old new line h same-vars shown' on is-clauses is-lines =
     let shown = subst (λ (n : ℕ). IsAccepted (record { vars = n; clauses = clauses }) [] line) h.vars shown' in
@@ -113,7 +113,7 @@ search-more f lines lines' clauses clauses' old new line h same-vars shown' on i
 -- **an empty lemma ends a refutation**
 pub search-refuted : (f : Formula) (lines lines' : List Line) (clauses : List (List Lit)) (trail : Trail) (line : Line) (made conflicts : ℕ)
     → ((g : Formula) (ls : List Line) → Refutes g ls → HaveNoSolution g.clauses)
-    → IsSearch f lines clauses trail → IsAccepted (record { vars = vars_of trail; clauses = clauses }) [] line → line.lits ≡ [] → lines' ≡ lines ++ line ∷ [] → length lines ≡ made → made < conflicts
+    → IsSearch f lines clauses trail → IsAccepted (record { vars = var_count trail; clauses = clauses }) [] line → line.lits ≡ [] → lines' ≡ lines ++ line ∷ [] → length lines ≡ made → made < conflicts
     → IsRefuted f conflicts lines'
 search-refuted f lines lines' clauses trail line made conflicts law h shown' empty is-lines count below =
     let shown = subst (λ (n : ℕ). IsAccepted (record { vars = n; clauses = clauses }) [] line) h.vars shown' in
@@ -219,7 +219,7 @@ search-solved f lines clauses n values all is over size closed empty is-all =
     })
 
 -- the trail moved on between two conflicts
-pub search-moved : (f : Formula) (lines : List Line) (clauses : List (List Lit)) (old new : Trail) → IsSearch f lines clauses old → IsTrailState clauses (vars_of old) new → AreClosedBefore clauses new.steps.items → IsSearch f lines clauses new
+pub search-moved : (f : Formula) (lines : List Line) (clauses : List (List Lit)) (old new : Trail) → IsSearch f lines clauses old → IsTrailState clauses (var_count old) new → AreClosedBefore clauses new.steps.items → IsSearch f lines clauses new
 search-moved f lines clauses old new h state before =
     record {
       known' = h.known';

@@ -13,7 +13,7 @@ use Rattle.cnf_core.specs.Refutation.{clause_at, AreNames, HaveDifferentVars}
 use Rattle.sat_core.specs.declared.trail.Step.{Step}
 use Rattle.sat_core.specs.declared.conflict.Analysis.{Analysis}
 use Rattle.sat_core.specs.Steps.{held, IsReason, AreSteps}
-use Rattle.sat_core.specs.Walks.{step_place, IsStepOf, is_marked, last_level_count, AreClear, IsLastDecision, IsFirstDecision, IsKeptAt, Keeps, Resolves, IsAsserting, IsWalked, IsBackjump, backjump_after}
+use Rattle.sat_core.specs.Walks.{step_place, IsStepOf, is_marked, last_level_count, AreUnmarked, IsLastDecision, IsFirstDecision, IsKeptAt, KeepsStep, Resolves, IsAsserting, IsWalked, IsBackjump, backjump_after}
 use Rattle.sat_core.proofs.Holding.{held-at, step-of, free-before}
 use Rattle.sat_core.proofs.States.{clause-exists}
 use Rattle.sat_core.proofs.Leading.{others-later}
@@ -48,13 +48,13 @@ not-not true = refl
 not-not false = refl
 
 -- where nothing from i on is marked, nothing of a last level from i on is
-clear-late : (i last : ℕ) (needed : List Bool) → i ≤ last → AreClear i needed → AreClear last needed
+clear-late : (i last : ℕ) (needed : List Bool) → i ≤ last → AreUnmarked i needed → AreUnmarked last needed
 clear-late i last needed low clear k above = clear k (omega arith)
 
 -- no step of the last level but this one was needed
 kept-late : (clauses : List (List Lit)) (n : ℕ) (steps : List Step) (i first : ℕ) (d : Step) (a b : Analysis)
     → IsLastDecision steps a.last → i < length steps → IsWalked clauses n steps (i + 1) a → is_marked a.needed.items i ≡ true
-    → ((get_or steps i d).reason ≡ None) ⊎ IsKeptAt first a.last a.at_last_level i → Keeps i (get_or steps i d).lit a b → b.at_last_level ≡ 0
+    → ((get_or steps i d).reason ≡ None) ⊎ IsKeptAt first a.last a.at_last_level i → KeepsStep i (get_or steps i d).lit a b → b.at_last_level ≡ 0
 kept-late clauses n steps i first d a b last few h marked why k =
     let size = h.size in
     let needed = a.needed.items in
@@ -74,7 +74,7 @@ kept-late clauses n steps i first d a b last few h marked why k =
                   | inl same ↦ same
                   | inr other ↦ absurd (last.after i d (omega arith) few decides)
                 ] in
-                late-one a.last needed (omega arith) (subst (λ (j : ℕ). is_marked needed j ≡ true) at marked) (subst (λ (j : ℕ). AreClear (j + 1) needed) at h.clear))
+                late-one a.last needed (omega arith) (subst (λ (j : ℕ). is_marked needed j ≡ true) at marked) (subst (λ (j : ℕ). AreUnmarked (j + 1) needed) at h.clear))
             | inr kept ↦ elim kept [
               | inl alone ↦ sym count ∙ alone.1
               | inr earlier ↦ (let below = earlier.0 in absurd (omega arith))
@@ -87,7 +87,7 @@ kept-late clauses n steps i first d a b last few h marked why k =
 pub walked-keep : (clauses : List (List Lit)) (n : ℕ) (steps : List Step) (values : List (Option Bool)) (places : List ℕ) (i first : ℕ) (d : Step) (a b : Analysis)
     → AreSteps clauses n steps values places → IsFirstDecision steps first → IsLastDecision steps a.last → i < length steps
     → IsWalked clauses n steps (i + 1) a → is_marked a.needed.items i ≡ true → ((get_or steps i d).reason ≡ None) ⊎ IsKeptAt first a.last a.at_last_level i
-    → Keeps i (get_or steps i d).lit a b → IsWalked clauses n steps i b
+    → KeepsStep i (get_or steps i d).lit a b → IsWalked clauses n steps i b
 walked-keep clauses n steps values places i first d a b s is-first last few h marked why k =
     let l = (get_or steps i d).lit in
     let size = h.size in
@@ -96,7 +96,7 @@ walked-keep clauses n steps values places i first d a b s is-first last few h ma
     let free-i : held (take i steps) l.var ≡ None = (s.trail i d few).free in
     record {
       size = ap length k.needed ∙ length-set a.needed.items i false ∙ size;
-      clear = subst (AreClear i) (sym k.needed) (clear-unmarked i a.needed.items (omega arith) h.clear);
+      clear = subst (AreUnmarked i) (sym k.needed) (clear-unmarked i a.needed.items (omega arith) h.clear);
       count = k.at_last_level;
       exist = subst (All (IsLitOf n)) (sym k.lits) (All-push (IsLitOf n) a.lits.items (negated l) h.exist (record { above = at.above; within = at.within }));
       free = subst (All (λ (m : Lit). held (take i steps) m.var ≡ None)) (sym k.lits)
@@ -171,11 +171,11 @@ walked-resolve clauses n steps values places i id d a b s over few h marked reas
     let mid-size = r.needs.size in
     let count = h.count in
     let added = r.needs.count in
-    let mid-clear : AreClear (i + 1) r.mid = r.needs.only (i + 1) (reason-steps clauses n steps values places i id d s over few reason) h.clear in
+    let mid-clear : AreUnmarked (i + 1) r.mid = r.needs.only (i + 1) (reason-steps clauses n steps values places i id d s over few reason) h.clear in
     let now : b.at_last_level ≡ last_level_count a.last (set r.mid i false) = r.at_last_level ∙ ap (λ (m : ℕ). last_level_count m b.needed.items) r.last ∙ ap (last_level_count a.last) r.needed in
     record {
       size = ap length r.needed ∙ length-set r.mid i false ∙ mid-size ∙ size;
-      clear = subst (AreClear i) (sym r.needed) (clear-unmarked i r.mid (omega arith) mid-clear);
+      clear = subst (AreUnmarked i) (sym r.needed) (clear-unmarked i r.mid (omega arith) mid-clear);
       count = r.at_last_level;
       exist = subst (All (IsLitOf n)) (sym r.lits) h.exist;
       free = subst (All (λ (m : Lit). held (take i steps) m.var ≡ None)) (sym r.lits) (free-weaker steps i a.lits.items h.free);

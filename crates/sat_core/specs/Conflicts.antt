@@ -6,7 +6,7 @@ use Rattle.sat_core.specs.declared.trail.Trail.{Trail}
 use Rattle.sat_core.specs.Steps.{IsTrailState, AreClosedBefore}
 
 -- the lemma is fresh after these clauses, and the search goes on from the trail with it
-pub record GoesOn (clauses : List (List Lit)) (n : ℕ) (lemma : List Lit) (trail : Trail) : Type 0 where
+pub record GoesOnWith (clauses : List (List Lit)) (n : ℕ) (lemma : List Lit) (trail : Trail) : Type 0 where
   pub fresh : IsFresh clauses lemma
   pub state : IsTrailState (clauses ++ lemma ∷ []) n trail
   pub before : AreClosedBefore (clauses ++ lemma ∷ []) trail.steps.items

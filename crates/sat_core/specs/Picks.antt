@@ -5,7 +5,7 @@ use Rattle.std.specs.List.{range_with_len}
 use Rattle.cnf_core.specs.declared.literal.Lit.{Lit}
 use Rattle.sat_core.specs.declared.trail.Step.{Step}
 use Rattle.sat_core.specs.declared.trail.Trail.{Trail}
-use Rattle.sat_core.specs.Steps.{given, vars_of, IsTrailState}
+use Rattle.sat_core.specs.Steps.{given, var_count, IsTrailState}
 
 -- the variables without a value, rising
 abbrev pub free_list : List (Option Bool) → List ℕ
@@ -26,5 +26,5 @@ pub record IsDecidedBy {F : Type 0} (picks : F → List ℕ → ℕ → Type 0) 
   pub picked : picks f (scores_of old.values.items) place
   pub within : place < length (free_list old.values.items)
   pub steps : new.steps.items ≡ old.steps.items ++ denied (slice_index (free_list old.values.items) place) ∷ []
-  pub state : (clauses : List (List Lit)) → IsTrailState clauses (vars_of old) old
-      → IsTrailState clauses (vars_of old) new
+  pub state : (clauses : List (List Lit)) → IsTrailState clauses (var_count old) old
+      → IsTrailState clauses (var_count old) new

@@ -52,8 +52,8 @@ abbrev pub IsTrailState : List (List Lit) → ℕ → Trail → Type 0
 IsTrailState clauses n trail = AreSteps clauses n trail.steps.items trail.values.items trail.places.items
 
 -- how many variables there are
-abbrev pub vars_of : Trail → ℕ
-vars_of trail = length trail.values.items
+abbrev pub var_count : Trail → ℕ
+var_count trail = length trail.values.items
 
 -- the new steps are the old ones and then steps by clauses
 abbrev pub Propagates : List Step → List Step → Type 0

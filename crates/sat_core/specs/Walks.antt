@@ -27,15 +27,15 @@ unfoldable pub last_level_count : ℕ → List Bool → ℕ
 last_level_count last needed = count_by (λ b. b) (drop last needed)
 
 -- no place from n on is marked
-abbrev pub AreClear : ℕ → List Bool → Type 0
-AreClear n needed = (k : ℕ) → n ≤ k → is_marked needed k ≡ false
+abbrev pub AreUnmarked : ℕ → List Bool → Type 0
+AreUnmarked n needed = (k : ℕ) → n ≤ k → is_marked needed k ≡ false
 
 -- the steps of the literals of a front of the clause are marked too, as many from `last` on as were added
 pub record Needs (places : List ℕ) (front clause : List Lit) (last : ℕ) (old new : List Bool) (added : ℕ) : Type 0 where
   pub size : length new ≡ length old
   pub keeps : (k : ℕ) → is_marked old k ≡ true → is_marked new k ≡ true
   pub all : All (λ l. is_marked new (step_place places l) ≡ true) front
-  pub only : (n : ℕ) → All (IsStepOf places n) clause → AreClear n old → AreClear n new
+  pub only : (n : ℕ) → All (IsStepOf places n) clause → AreUnmarked n old → AreUnmarked n new
   pub count : last_level_count last new ≡ last_level_count last old + added
 
 -- all steps are by clauses
@@ -58,7 +58,7 @@ abbrev pub IsKeptAt : ℕ → ℕ → ℕ → ℕ → Type 0
 IsKeptAt first last at_last_level place = ((last ≤ place) × (at_last_level ≡ 1)) ⊎ ((place < last) × (first ≤ place))
 
 -- the step at a place was kept: the opposite of its literal is in the lemma
-pub record Keeps (place : ℕ) (lit : Lit) (old new : Analysis) : Type 0 where
+pub record KeepsStep (place : ℕ) (lit : Lit) (old new : Analysis) : Type 0 where
   pub needed : new.needed.items ≡ slice_set old.needed.items place false
   pub at_last_level : new.at_last_level ≡ last_level_count new.last new.needed.items
   pub lits : new.lits.items ≡ old.lits.items ++ negated lit ∷ []
@@ -89,7 +89,7 @@ pub record IsAsserting (s : Partial) (lits : List Lit) : Type 0 where
 -- what the walk keeps, once it looked at the steps from i on
 pub record IsWalked (clauses : List (List Lit)) (n : ℕ) (steps : List Step) (i : ℕ) (a : Analysis) : Type 0 where
   pub size : length a.needed.items ≡ length steps
-  pub clear : AreClear i a.needed.items
+  pub clear : AreUnmarked i a.needed.items
   pub count : a.at_last_level ≡ last_level_count a.last a.needed.items
   pub exist : All (IsLitOf n) a.lits.items
   pub free : All (λ l. held (take i steps) l.var ≡ None) a.lits.items
@@ -110,8 +110,8 @@ abbrev pub HoldsRefuted : List Step → ℕ → List Lit → List Lit → Type 0
 HoldsRefuted steps i lits t = (x : ℕ) → held (take i steps) x ≡ None → partial_of t x ≡ partial_of (refuted lits) x
 
 -- from such literals the hints lead to the conflict
-abbrev pub Leads : List (List Lit) → List Step → ℕ → List Bool → List Lit → List ℕ → List Lit → Type 0
-Leads clauses steps i needed lits hints conflict =
+abbrev pub LeadsToConflict : List (List Lit) → List Step → ℕ → List Bool → List Lit → List ℕ → List Lit → Type 0
+LeadsToConflict clauses steps i needed lits hints conflict =
     (t : List Lit) → Covers steps i needed t → HoldsRefuted steps i lits t
     → (u : List Lit) × Reaches clauses t hints u × IsFalseClause (partial_of u) conflict
 

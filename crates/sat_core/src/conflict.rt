@@ -5,10 +5,10 @@ ghost use Rattle.sat_core.specs.declared.trail.Step.{Step as Taken};
 ghost use Rattle.cnf_core.specs.declared.literal.Lit.{Lit as Literal};
 ghost use Rattle.cnf_core.specs.Formula.{AreOver};
 ghost use Rattle.cnf_core.specs.Refutation.{clause_at, IsAccepted};
-ghost use Rattle.sat_core.specs.Steps.{given, vars_of, IsTrailState, AreClosedBefore};
+ghost use Rattle.sat_core.specs.Steps.{given, var_count, IsTrailState, AreClosedBefore};
 ghost use Rattle.sat_core.specs.Looks.{IsFalsified};
-ghost use Rattle.sat_core.specs.Conflicts.{GoesOn};
-ghost use Rattle.sat_core.specs.Walks.{is_marked, last_level_count, IsStepOf, Needs, IsLastDecision, IsFirstDecision, IsKeptAt, Keeps, Resolves, IsWalked, Leads, IsBackjump, backjump_after};
+ghost use Rattle.sat_core.specs.Conflicts.{GoesOnWith};
+ghost use Rattle.sat_core.specs.Walks.{is_marked, last_level_count, IsStepOf, Needs, IsLastDecision, IsFirstDecision, IsKeptAt, KeepsStep, Resolves, IsWalked, LeadsToConflict, IsBackjump, backjump_after};
 
 use crate::trail::{Step, Trail};
 use cnf_core::{Clauses, Line, Lit};
@@ -41,13 +41,13 @@ pub(crate) fn learn(
     id: u32,
 ) -> Result<Line, NoMemory>
     requires few { length clauses.now < 2 ^ 31 }
-    requires exist { AreOver (vars_of trail.old) clauses.now }
-    requires state { IsTrailState clauses.now (vars_of trail.old) trail.old }
+    requires exist { AreOver (var_count trail.old) clauses.now }
+    requires state { IsTrailState clauses.now (var_count trail.old) trail.old }
     requires before { AreClosedBefore clauses.now trail.old.steps.items }
     requires falsified { IsFalsified (given trail.old.values.items) clauses.now id }
-    ensures shown { IfOk result (IsAccepted (record { vars = vars_of trail.old; clauses = clauses.now }) []) }
-    ensures size { OnOk result (vars_of trail.new ≡ vars_of trail.old) }
-    ensures goes_on { IfOk result (λ line. line.lits ≢ [] → GoesOn clauses.now (vars_of trail.old) line.lits trail.new) }
+    ensures shown { IfOk result (IsAccepted (record { vars = var_count trail.old; clauses = clauses.now }) []) }
+    ensures size { OnOk result (var_count trail.new ≡ var_count trail.old) }
+    ensures goes_on { IfOk result (λ line. line.lits ≢ [] → GoesOnWith clauses.now (var_count trail.old) line.lits trail.new) }
 {
     let analysis = analyze(alloc, clauses, trail, id)?;
     trail.cut(analysis.backjump);
@@ -64,13 +64,13 @@ pub(crate) fn learn(
 /// Walks the whole trail back.
 fn analyze(alloc: Global, clauses: &Clauses, trail: &Trail, id: u32) -> Result<Analysis, NoMemory>
     requires few { length clauses.now < 2 ^ 31 }
-    requires exist { AreOver (vars_of trail.now) clauses.now }
-    requires state { IsTrailState clauses.now (vars_of trail.now) trail.now }
+    requires exist { AreOver (var_count trail.now) clauses.now }
+    requires state { IsTrailState clauses.now (var_count trail.now) trail.now }
     requires before { AreClosedBefore clauses.now trail.now.steps.items }
     requires falsified { IsFalsified (given trail.now.values.items) clauses.now id }
     ensures last { IfOk result (λ a. IsLastDecision trail.now.steps.items a.last) }
-    ensures walked { IfOk result (IsWalked clauses.now (vars_of trail.now) trail.now.steps.items 0) }
-    ensures leads { IfOk result (λ a. Leads clauses.now trail.now.steps.items 0 a.needed.items a.lits.items (reverse a.hints.items) (clause_at clauses.now id)) }
+    ensures walked { IfOk result (IsWalked clauses.now (var_count trail.now) trail.now.steps.items 0) }
+    ensures leads { IfOk result (λ a. LeadsToConflict clauses.now trail.now.steps.items 0 a.needed.items a.lits.items (reverse a.hints.items) (clause_at clauses.now id)) }
     ensures stays { IfOk result (λ a. IsBackjump trail.now.steps.items 0 a.backjump a.lits.items) }
 {
     let count = trail.steps.len();
@@ -84,13 +84,13 @@ fn analyze(alloc: Global, clauses: &Clauses, trail: &Trail, id: u32) -> Result<A
 
 /// What is known at the end of the trail: the steps of the false clause's literals are needed.
 fn start(alloc: Global, clauses: &Clauses, trail: &Trail, id: u32) -> Result<Analysis, NoMemory>
-    requires exist { AreOver (vars_of trail.now) clauses.now }
-    requires state { IsTrailState clauses.now (vars_of trail.now) trail.now }
+    requires exist { AreOver (var_count trail.now) clauses.now }
+    requires state { IsTrailState clauses.now (var_count trail.now) trail.now }
     requires before { AreClosedBefore clauses.now trail.now.steps.items }
     requires falsified { IsFalsified (given trail.now.values.items) clauses.now id }
     ensures last { IfOk result (λ a. IsLastDecision trail.now.steps.items a.last) }
-    ensures walked { IfOk result (IsWalked clauses.now (vars_of trail.now) trail.now.steps.items (length trail.now.steps.items)) }
-    ensures leads { IfOk result (λ a. Leads clauses.now trail.now.steps.items (length trail.now.steps.items) a.needed.items a.lits.items (reverse a.hints.items) (clause_at clauses.now id)) }
+    ensures walked { IfOk result (IsWalked clauses.now (var_count trail.now) trail.now.steps.items (length trail.now.steps.items)) }
+    ensures leads { IfOk result (λ a. LeadsToConflict clauses.now trail.now.steps.items (length trail.now.steps.items) a.needed.items a.lits.items (reverse a.hints.items) (clause_at clauses.now id)) }
     ensures stays { IfOk result (λ a. a.backjump ≡ length trail.now.steps.items) }
 {
     let count = trail.steps.len();
@@ -190,15 +190,15 @@ impl Analysis {
         first: usize,
     ) -> Result<(), NoMemory>
         requires few { length clauses.now < 2 ^ 31 }
-        requires exist { AreOver (vars_of trail.now) clauses.now }
-        requires state { IsTrailState clauses.now (vars_of trail.now) trail.now }
+        requires exist { AreOver (var_count trail.now) clauses.now }
+        requires state { IsTrailState clauses.now (var_count trail.now) trail.now }
         requires first { IsFirstDecision trail.now.steps.items first }
         requires last { IsLastDecision trail.now.steps.items self.old.last }
         requires within { place < length trail.now.steps.items }
-        requires walked { IsWalked clauses.now (vars_of trail.now) trail.now.steps.items (place + 1) self.old }
+        requires walked { IsWalked clauses.now (var_count trail.now) trail.now.steps.items (place + 1) self.old }
         ensures last { OnOk result (self.new.last ≡ self.old.last) }
-        ensures walked { OnOk result (IsWalked clauses.now (vars_of trail.now) trail.now.steps.items place self.new) }
-        ensures leads { OnOk result ((conflict : List Literal) → Leads clauses.now trail.now.steps.items (place + 1) self.old.needed.items self.old.lits.items (reverse self.old.hints.items) conflict → Leads clauses.now trail.now.steps.items place self.new.needed.items self.new.lits.items (reverse self.new.hints.items) conflict) }
+        ensures walked { OnOk result (IsWalked clauses.now (var_count trail.now) trail.now.steps.items place self.new) }
+        ensures leads { OnOk result ((conflict : List Literal) → LeadsToConflict clauses.now trail.now.steps.items (place + 1) self.old.needed.items self.old.lits.items (reverse self.old.hints.items) conflict → LeadsToConflict clauses.now trail.now.steps.items place self.new.needed.items self.new.lits.items (reverse self.new.hints.items) conflict) }
         ensures stays { OnOk result (IsBackjump trail.now.steps.items (place + 1) self.old.backjump self.old.lits.items → IsBackjump trail.now.steps.items place self.new.backjump self.new.lits.items) }
     {
         self.resolve_or_keep(clauses, trail, place, first)?;
@@ -215,17 +215,17 @@ impl Analysis {
         first: usize,
     ) -> Result<(), NoMemory>
         requires few { length clauses.now < 2 ^ 31 }
-        requires exist { AreOver (vars_of trail.now) clauses.now }
-        requires state { IsTrailState clauses.now (vars_of trail.now) trail.now }
+        requires exist { AreOver (var_count trail.now) clauses.now }
+        requires state { IsTrailState clauses.now (var_count trail.now) trail.now }
         requires first { IsFirstDecision trail.now.steps.items first }
         requires last { IsLastDecision trail.now.steps.items self.old.last }
         requires within { place < length trail.now.steps.items }
-        requires walked { IsWalked clauses.now (vars_of trail.now) trail.now.steps.items (place + 1) self.old }
+        requires walked { IsWalked clauses.now (var_count trail.now) trail.now.steps.items (place + 1) self.old }
         ensures last { OnOk result (self.new.last ≡ self.old.last) }
         ensures backjump { OnOk result (self.new.backjump ≡ self.old.backjump) }
         ensures grows { OnOk result ((more : List Literal) × (self.new.lits.items ≡ self.old.lits.items ++ more)) }
-        ensures walked { OnOk result (IsWalked clauses.now (vars_of trail.now) trail.now.steps.items place self.new) }
-        ensures leads { OnOk result ((conflict : List Literal) → Leads clauses.now trail.now.steps.items (place + 1) self.old.needed.items self.old.lits.items (reverse self.old.hints.items) conflict → Leads clauses.now trail.now.steps.items place self.new.needed.items self.new.lits.items (reverse self.new.hints.items) conflict) }
+        ensures walked { OnOk result (IsWalked clauses.now (var_count trail.now) trail.now.steps.items place self.new) }
+        ensures leads { OnOk result ((conflict : List Literal) → LeadsToConflict clauses.now trail.now.steps.items (place + 1) self.old.needed.items self.old.lits.items (reverse self.old.hints.items) conflict → LeadsToConflict clauses.now trail.now.steps.items place self.new.needed.items self.new.lits.items (reverse self.new.hints.items) conflict) }
     {
         if !self.needed[place] {
             return Ok(());
@@ -281,7 +281,7 @@ impl Analysis {
         requires within { place < length self.old.needed.items }
         requires marked { is_marked self.old.needed.items place ≡ true }
         requires at_last_level { self.old.at_last_level ≡ last_level_count self.old.last self.old.needed.items }
-        ensures { OnOk result (Keeps place lit self.old self.new) }
+        ensures { OnOk result (KeepsStep place lit self.old self.new) }
     {
         self.lits.push(lit.negated())?;
         let done = unmark(self.needed.as_mut_slice(), place, self.last);

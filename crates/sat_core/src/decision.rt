@@ -1,7 +1,7 @@
 // Decisions: a free variable at the picker's place, tried false first.
 ghost use Rattle.std.specs.Prelude.{◌≡◌, ℕ, ◌+◌, ◌^◌, ◌<◌, ◌≤◌, [], ◌∷◌, ◌++◌, length, map, OnOk, IfOk, MatchBool, None, replicate, false, slice_index};
 ghost use Rattle.cnf_core.specs.Formula.{AreOver};
-ghost use Rattle.sat_core.specs.Steps.{given, vars_of, IsTrailState};
+ghost use Rattle.sat_core.specs.Steps.{given, var_count, IsTrailState};
 ghost use Rattle.sat_core.specs.Picks.{free_list, IsDecidedBy};
 
 use crate::trail::{Step, Trail};
@@ -16,8 +16,8 @@ pub(crate) fn decide<F: Rule>(
     picker: &Picker<F>,
     trail: &mut Trail,
 ) -> Result<bool, NoMemory>
-    requires few { vars_of trail.old < 2 ^ 29 }
-    requires slots { length trail.old.places.items ≡ vars_of trail.old }
+    requires few { var_count trail.old < 2 ^ 29 }
+    requires slots { length trail.old.places.items ≡ var_count trail.old }
     ensures decided { IfOk result (λ more. MatchBool more (IsDecidedBy F.picks picker.now trail.old trail.new) ((free_list trail.old.values.items ≡ []) × (trail.new ≡ trail.old))) }
 {
     let free = free_vars(alloc, trail.values.as_slice())?;

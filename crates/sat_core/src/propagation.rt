@@ -2,7 +2,7 @@
 ghost use Rattle.std.specs.Prelude.{◌≡◌, ◌+◌, ◌^◌, ◌<◌, ◌≤◌, length, OnOk, IfOk, MatchOption};
 ghost use Rattle.cnf_core.specs.Formula.{AreOver};
 ghost use Rattle.cnf_core.specs.Values.{IsClosed};
-ghost use Rattle.sat_core.specs.Steps.{given, vars_of, IsTrailState, Propagates};
+ghost use Rattle.sat_core.specs.Steps.{given, var_count, IsTrailState, Propagates};
 ghost use Rattle.sat_core.specs.Looks.{FoundSays, IsFalsified, around};
 
 use crate::trail::{Step, Trail};
@@ -24,9 +24,9 @@ pub(crate) enum Found {
 /// id of that one. After a unit clause the look goes on at the next, and it ends once it was round all of them.
 pub(crate) fn propagate(clauses: &Clauses, trail: &mut Trail) -> Result<Option<u32>, NoMemory>
     requires few { length clauses.now < 2 ^ 31 }
-    requires exist { AreOver (vars_of trail.old) clauses.now }
-    requires state { IsTrailState clauses.now (vars_of trail.old) trail.old }
-    ensures state { OnOk result (IsTrailState clauses.now (vars_of trail.old) trail.new) }
+    requires exist { AreOver (var_count trail.old) clauses.now }
+    requires state { IsTrailState clauses.now (var_count trail.old) trail.old }
+    ensures state { OnOk result (IsTrailState clauses.now (var_count trail.old) trail.new) }
     ensures adds { OnOk result (Propagates trail.old.steps.items trail.new.steps.items) }
     ensures done { IfOk result (λ o. MatchOption o (IsClosed (given trail.new.values.items) clauses.now) (IsFalsified (given trail.new.values.items) clauses.now)) }
 {
@@ -49,7 +49,7 @@ pub(crate) fn propagate(clauses: &Clauses, trail: &mut Trail) -> Result<Option<u
 /// The first clause that isn't open, from a place on and round all of them.
 fn find(clauses: &Clauses, start: usize, trail: &Trail) -> Found
     requires few { length clauses.now < 2 ^ 31 }
-    requires exist { AreOver (vars_of trail.now) clauses.now }
+    requires exist { AreOver (var_count trail.now) clauses.now }
     requires start { start ≤ length clauses.now }
     ensures { FoundSays (given trail.now.values.items) clauses.now result }
 {

@@ -3,7 +3,7 @@ ghost use Rattle.std.specs.Prelude.{◌≡◌, ◌+◌, ◌^◌, ◌<◌, ◌≤
 ghost use Rattle.cnf_core.specs.Formula.{AreOver};
 ghost use Rattle.cnf_core.specs.Values.{IsClosed};
 ghost use Rattle.cnf_core.specs.Outcome.{IsSolved, IsRefuted, IsSpent};
-ghost use Rattle.sat_core.specs.Steps.{given, vars_of, IsTrailState, AreClosedBefore};
+ghost use Rattle.sat_core.specs.Steps.{given, var_count, IsTrailState, AreClosedBefore};
 ghost use Rattle.sat_core.specs.Looks.{IsFalsified};
 ghost use Rattle.sat_core.specs.Picks.{free_list};
 ghost use Rattle.sat_core.specs.Verdicts.{IfSat, IfRefuted, IfSpent};
@@ -84,11 +84,11 @@ fn advance<F: Rule>(
     trail: &mut Trail,
 ) -> Result<Option<u32>, NoMemory>
     requires few { length clauses.now < 2 ^ 31 }
-    requires few_vars { vars_of trail.old < 2 ^ 29 }
-    requires exist { AreOver (vars_of trail.old) clauses.now }
-    requires state { IsTrailState clauses.now (vars_of trail.old) trail.old }
+    requires few_vars { var_count trail.old < 2 ^ 29 }
+    requires exist { AreOver (var_count trail.old) clauses.now }
+    requires state { IsTrailState clauses.now (var_count trail.old) trail.old }
     requires before { AreClosedBefore clauses.now trail.old.steps.items }
-    ensures state { OnOk result (IsTrailState clauses.now (vars_of trail.old) trail.new) }
+    ensures state { OnOk result (IsTrailState clauses.now (var_count trail.old) trail.new) }
     ensures before { OnOk result (AreClosedBefore clauses.now trail.new.steps.items) }
     ensures done { IfOk result (λ o. MatchOption o (IsClosed (given trail.new.values.items) clauses.now × (free_list trail.new.values.items ≡ [])) (IsFalsified (given trail.new.values.items) clauses.now)) }
 {

@@ -3,7 +3,7 @@ ghost use Rattle.std.specs.Prelude.{◌≡◌, ℕ, ◌≤◌, [], ◌∷◌, �
 ghost use Rattle.std.specs.List.{All};
 ghost use Rattle.cnf_core.specs.declared.literal.Lit.{Lit as Literal};
 ghost use Rattle.cnf_core.specs.Formula.{IsLitOf};
-ghost use Rattle.sat_core.specs.Steps.{given, IsTrailState, IsRightStep, vars_of};
+ghost use Rattle.sat_core.specs.Steps.{given, IsTrailState, IsRightStep, var_count};
 
 use cnf_core::{Lit, Values};
 use items::NoMemory;
@@ -53,9 +53,9 @@ impl Trail {
 
     /// Makes a free literal true.
     pub(crate) fn assign(&mut self, step: Step) -> Result<(), NoMemory>
-        requires exist { IsLitOf (vars_of self.old) step.lit }
-        requires slots { length self.old.places.items ≡ vars_of self.old }
-        ensures state { OnOk result ((clauses : List (List Literal)) → IsTrailState clauses (vars_of self.old) self.old → IsRightStep clauses self.old.steps.items step → IsTrailState clauses (vars_of self.old) self.new) }
+        requires exist { IsLitOf (var_count self.old) step.lit }
+        requires slots { length self.old.places.items ≡ var_count self.old }
+        ensures state { OnOk result ((clauses : List (List Literal)) → IsTrailState clauses (var_count self.old) self.old → IsRightStep clauses self.old.steps.items step → IsTrailState clauses (var_count self.old) self.new) }
         ensures steps { OnOk result (self.new.steps.items ≡ self.old.steps.items ++ step ∷ []) }
     {
         let place = self.steps.len();
@@ -68,8 +68,8 @@ impl Trail {
 
     /// Takes all steps back but the first, as many as `count`.
     pub(crate) fn cut(&mut self, count: usize)
-        requires exist { All (λ s. IsLitOf (vars_of self.old) s.lit) self.old.steps.items }
-        ensures state { (clauses : List (List Literal)) → IsTrailState clauses (vars_of self.old) self.old → IsTrailState clauses (vars_of self.old) self.new }
+        requires exist { All (λ s. IsLitOf (var_count self.old) s.lit) self.old.steps.items }
+        ensures state { (clauses : List (List Literal)) → IsTrailState clauses (var_count self.old) self.old → IsTrailState clauses (var_count self.old) self.new }
         ensures steps { self.new.steps.items ≡ take count self.old.steps.items }
     {
         while self.steps.len() > count {

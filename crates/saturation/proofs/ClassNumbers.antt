@@ -5,13 +5,13 @@ use Rattle.std.proofs.lemmas.List.{length_push, length-set, get_or-set_same, get
 use Rattle.word_ops.specs.declared.sorts.Op.{Op}
 use Rattle.egraph.specs.Graph.{Graph}
 use Rattle.egraph.specs.declared.rows.Row.{Row}
-use Rattle.saturation.specs.Numbered.{AreClassNumbers, classes_of, firsts, place_in, with_new}
+use Rattle.saturation.specs.Numbered.{AreClassNumbers, classes_of_rows, firsts, place_in, with_new}
 use Rattle.saturation.proofs.Mapped.{contains_map}
 use Rattle.saturation.proofs.Firsts.{IsIn, at_place, is_in, place_within, place_pushed, place_new, place_other, cases, firsts_push, all_there}
 
 -- the classes of so many rows have numbers
 pub record SoFar (g : Graph Op) (i : ℕ) (numbers seen : List ℕ) : Type 0 where
-  pub seen_are : seen ≡ firsts (classes_of (take i g.rows))
+  pub seen_are : seen ≡ firsts (classes_of_rows (take i g.rows))
   pub size : length numbers ≡ length g.current
   pub each : (c : ℕ) → IsIn seen c → get_or numbers c 0 ≡ place_in seen c
   pub few : length seen ≤ i
@@ -20,11 +20,11 @@ pub none_yet : (g : Graph Op) (numbers : List ℕ) → length numbers ≡ length
 none_yet g numbers size = record { seen_are = refl; size = size; each = λ c h. absurd (omega (arith, h)); few = omega arith }
 
 module _ (g : Graph Op) (i : ℕ) (numbers seen : List ℕ) (so : SoFar g i numbers seen) (r : Row Op) (lt : i < length g.rows) (is : get_or g.rows i r ≡ r) where
-  next : firsts (classes_of (take (i + 1) g.rows)) ≡ with_new seen r.class
+  next : firsts (classes_of_rows (take (i + 1) g.rows)) ≡ with_new seen r.class
   next =
       ap firsts (map_more (λ (t : Row Op). t.class) g.rows i r lt)
-      ∙ firsts_push (classes_of (take i g.rows)) (get_or g.rows i r).class
-      ∙ ap (λ (t : Row Op). with_new (firsts (classes_of (take i g.rows))) t.class) is
+      ∙ firsts_push (classes_of_rows (take i g.rows)) (get_or g.rows i r).class
+      ∙ ap (λ (t : Row Op). with_new (firsts (classes_of_rows (take i g.rows))) t.class) is
       ∙ ap (λ ns. with_new ns r.class) (sym so.seen_are)
 
   -- the class had its number
@@ -60,10 +60,10 @@ module _ (g : Graph Op) (i : ℕ) (numbers seen : List ℕ) (so : SoFar g i numb
 
 pub all_numbered : (g : Graph Op) (i : ℕ) (numbers seen : List ℕ) → SoFar g i numbers seen → length g.rows ≤ i → AreClassNumbers g numbers
 all_numbered g i numbers seen so past =
-    let are : seen ≡ firsts (classes_of g.rows) = so.seen_are ∙ ap (λ rows. firsts (classes_of rows)) (take_all i g.rows past) in
+    let are : seen ≡ firsts (classes_of_rows g.rows) = so.seen_are ∙ ap (λ rows. firsts (classes_of_rows rows)) (take_all i g.rows past) in
     record {
       size = so.size;
       each = λ c h.
-          let there : IsIn (firsts (classes_of g.rows)) c = all_there (classes_of g.rows) c (subst (Contains (classes_of g.rows)) h.is (contains_map (λ (t : Row Op). t.class) g.rows h.row h.there)) in
+          let there : IsIn (firsts (classes_of_rows g.rows)) c = all_there (classes_of_rows g.rows) c (subst (Contains (classes_of_rows g.rows)) h.is (contains_map (λ (t : Row Op). t.class) g.rows h.row h.there)) in
           so.each c (subst (λ ns. IsIn ns c) (sym are) there) ∙ ap (λ ns. place_in ns c) are;
     }

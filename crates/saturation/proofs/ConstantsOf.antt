@@ -1,27 +1,10 @@
--- Constants of classes, place by place.
-use Rattle.std.proofs.Common.{◌≡◌, ℕ, zero, suc, ◌+◌, ◌<◌, List, [], ◌∷◌, ◌++◌, length, get_or, take, drop, Option, Some, None, MatchOption, refl, sym, subst, arith}
+-- Constants of classes, place by place: classes have one list of constants at most.
+use Rattle.std.proofs.Common.{◌≡◌, ℕ, suc, ◌<◌, List, [], ◌∷◌, length, get_or, refl, arith}
 use Rattle.std.specs.List.{AllZip}
 use Rattle.word_ops.specs.declared.sorts.Op.{Op}
 use Rattle.word_terms.specs.Keys.{op_signature}
-use Rattle.egraph.specs.Graph.{Graph, IsGraph, HasConstant, LacksConstant}
-use Rattle.std.proofs.lemmas.List.{get_or_default}
-use Rattle.std.proofs.lemmas.List.Elements.{all_zip_more}
-use Rattle.axiom_base.specs.Conditions.{IsCalc}
-use Rattle.axiom_base.specs.Computed.{first_constant}
-use Rattle.axiom_base.specs.declared.kinds.Calc.{Calc}
-use Rattle.pattern_match.specs.Bindings.{HaveConstants, AreGiven}
-
-pub zip_length : (R : ℕ → ℕ → Type 0) (xs ys : List ℕ) → AllZip R xs ys → length ys ≡ length xs
-zip_length R [] [] h = refl
-zip_length R [] (y ∷ ys) h = absurd h
-zip_length R (x ∷ xs) [] h = absurd h
-zip_length R (x ∷ xs) (y ∷ ys) h = let e = zip_length R xs ys h.1 in omega (arith, e)
-
-pub zip_at : (R : ℕ → ℕ → Type 0) (xs ys : List ℕ) → AllZip R xs ys → (i : ℕ) → i < length xs → R (get_or xs i 0) (get_or ys i 0)
-zip_at R [] ys h i l = absurd (omega (arith, l))
-zip_at R (x ∷ xs) [] h i l = absurd h
-zip_at R (x ∷ xs) (y ∷ ys) h zero l = h.0
-zip_at R (x ∷ xs) (y ∷ ys) h (suc i) l = zip_at R xs ys h.1 i (omega (arith, l))
+use Rattle.egraph.specs.Graph.{Graph, IsGraph, HasConstant}
+use Rattle.pattern_match.specs.Bindings.{HaveConstants}
 
 pub zip_from : (R : ℕ → ℕ → Type 0) (xs ys : List ℕ) → length ys ≡ length xs → ((i : ℕ) → i < length xs → R (get_or xs i 0) (get_or ys i 0)) → AllZip R xs ys
 zip_from R [] [] e h = tt
@@ -39,14 +22,3 @@ zip_once R one (x ∷ xs) (y ∷ ys) (z ∷ zs) h k = let e = one x y z h.0 k.0 
 
 pub one_list : (g : Graph Op) → IsGraph op_signature g → (classes ws vs : List ℕ) → HaveConstants g classes ws → HaveConstants g classes vs → ws ≡ vs
 one_list g is = zip_once (λ class word. HasConstant op_signature g.rows class word) (λ x y z h k. is.constants x y z h k)
-
-pub no_list : (g : Graph Op) (classes words : List ℕ) (i class : ℕ) → i < length classes → class ≡ get_or classes i 0 → LacksConstant op_signature g.rows class → HaveConstants g classes words → ⊥
-no_list g classes words i class l e lacks h = lacks (get_or words i 0) (subst (λ c. HasConstant op_signature g.rows c (get_or words i 0)) (sym e) (zip_at (λ c w. HasConstant op_signature g.rows c w) classes words h i l))
-
-pub constants_more : (g : Graph Op) (classes words : List ℕ) (i word : ℕ) → i < length classes → HaveConstants g (take i classes) words → HasConstant op_signature g.rows (get_or classes i 0) word → HaveConstants g (take (i + 1) classes) (words ++ word ∷ [])
-constants_more g classes words i word l h k = all_zip_more (λ c w. HasConstant op_signature g.rows c w) classes words i (get_or classes i 0) word l (get_or_default classes i 0 (get_or classes i 0) l) h k
-
-pub given_exactly : (g : Graph Op) → IsGraph op_signature g → (kind : Calc) (classes words : List ℕ) (r : Option ℕ) → HaveConstants g (drop (first_constant kind) classes) words →
-    MatchOption r ((e : ℕ) → IsCalc kind words e → ⊥) (IsCalc kind words) → MatchOption r ((e : ℕ) → AreGiven g kind classes e → ⊥) (AreGiven g kind classes)
-given_exactly g is kind classes words None h none = λ e a. none e (subst (λ ws. IsCalc kind ws e) (one_list g is (drop (first_constant kind) classes) a.words words a.constants h) a.calc)
-given_exactly g is kind classes words (Some e) h some = record { words = words; constants = h; calc = some }

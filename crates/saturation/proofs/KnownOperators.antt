@@ -25,13 +25,13 @@ use Rattle.egraph.specs.declared.rows.Row.{Row}
 use Rattle.pattern_match.specs.Classes.{IsClass, AreClasses, at_row, no_classes, classes}
 use Rattle.goal_reader.specs.Views.{TwoTrees, TargetTree, GoalTree, AxiomTree, InputTree}
 use Rattle.goal_reader.specs.WellFormed.{IsInput, IsGoal, IsAxiom, IsAssume, IsTarget, IsGoalTerm, IsOfGoal, IsOfAxiom}
-use Rattle.goal_reader.specs.Reading.{registers_of}
+use Rattle.goal_reader.specs.Reading.{input_registers}
 use Rattle.goal_reader.specs.declared.goals.InputReg.{InputReg}
 use Rattle.goal_reader.specs.declared.scopes.DeclaredOp.{DeclaredOp}
 use Rattle.saturation.specs.Derives.{Derives, DerivesEach, Pair, IsAmong, first, rest, given, assumed, back, through, later, operand, congruent, by_rule, no_operands, operands}
 use Rattle.saturation.specs.GoalTerms.{entry_term, input_term, input_terms, guard_terms, set_terms, sides_of, assume_terms, kept_terms, present_terms, assumed_pair, assumed_pairs, renumbered, rule_of, rules_of, variables_below}
 use Rattle.saturation.specs.Grown.{IsGrown, AreInhabited}
-use Rattle.saturation.specs.Launched.{IsKnown, CanLaunch}
+use Rattle.saturation.specs.Launched.{IsKnown, CanMakeLaunchGraph}
 use Rattle.saturation.proofs.LaunchedGraphs.{all_left, all_of_map}
 
 -- ---- operators of trees
@@ -157,9 +157,9 @@ module _ (declared : List DeclaredOp) where
 
   -- ---- operators of a goal and of an axiom
 
-  goal_known : (inputs : List InputReg) → All (λ r. r < 31) (registers_of inputs) → (op : Op) → IsOfGoal declared inputs op → IsKnown declared op
+  goal_known : (inputs : List InputReg) → All (λ r. r < 31) (input_registers inputs) → (op : Op) → IsOfGoal declared inputs op → IsKnown declared op
   goal_known inputs low Entry k = tt
-  goal_known inputs low (Input r) k = All-contains (λ r. r < 31) (registers_of inputs) r low k
+  goal_known inputs low (Input r) k = All-contains (λ r. r < 31) (input_registers inputs) r low k
   goal_known inputs low (Constant c) k = tt
   goal_known inputs low (Word op) k = tt
   goal_known inputs low Select k = tt
@@ -256,8 +256,8 @@ module _ (declared : List DeclaredOp) where
   all_flat P f (x ∷ xs) h = All-append P (f x) (flat_map f xs) (All-head (λ x. All P (f x)) x xs h) (all_flat P f xs (All-tail (λ x. All P (f x)) x xs h))
 
   module _ (goal : GoalTree) (is : IsGoal declared goal) where
-    low : All (λ r. r < 31) (registers_of goal.inputs)
-    low = all_left (λ r. r < 31) (registers_of goal.inputs) goal.pool is.rules.low
+    low : All (λ r. r < 31) (input_registers goal.inputs)
+    low = all_left (λ r. r < 31) (input_registers goal.inputs) goal.pool is.rules.low
 
     term_known : (sort : Sort) (t : Tree Op) → IsGoalTerm declared goal sort t → HasKnown t
     term_known sort t k = each_weaker (IsOfGoal declared goal.inputs) (IsKnown declared) (goal_known goal.inputs low) t k.operators
@@ -321,7 +321,7 @@ later_all : (axioms : List Rewrite) (present : List (Tree Op)) (equal : List Pai
 later_all axioms present equal zero t u d = d
 later_all axioms present equal (suc j) t u d = let e : j + 1 ≡ suc j = omega arith in subst (λ n. Derives axioms present equal n t u) e (later (later_all axioms present equal j t u d))
 
-pub can_be_launched : (input : InputTree) (goal : GoalTree) (graph : Graph Op) (j : ℕ) → ((axioms : List Rewrite) (r : Rewrite) → All IsRule axioms → IsRuleOf axioms r → IsUsable r) → All IsRule (rules_of input) → IsInput input → Contains input.goals goal → IsGraph op_signature graph → length graph.rows < 2 ^ 30 → IsGrown (rules_of input) (present_terms goal) (assumed_pairs goal) graph j → CanLaunch input.ops goal graph
+pub can_be_launched : (input : InputTree) (goal : GoalTree) (graph : Graph Op) (j : ℕ) → ((axioms : List Rewrite) (r : Rewrite) → All IsRule axioms → IsRuleOf axioms r → IsUsable r) → All IsRule (rules_of input) → IsInput input → Contains input.goals goal → IsGraph op_signature graph → length graph.rows < 2 ^ 30 → IsGrown (rules_of input) (present_terms goal) (assumed_pairs goal) graph j → CanMakeLaunchGraph input.ops goal graph
 can_be_launched input goal graph j usable rules is given_goal is_graph few grown =
     let goal_is = All-contains (IsGoal input.ops) input.goals goal is.goals given_goal in
     record {

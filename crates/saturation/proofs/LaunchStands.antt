@@ -26,10 +26,10 @@ use Rattle.pattern_match.specs.Classes.{AreClasses, at_variable, at_row, no_clas
 use Rattle.saturation.specs.GoalTerms.{entry_term, input_term, kept_terms, assumed_pairs, rules_of}
 use Rattle.saturation.specs.GraphStands.{GraphStands, RulesHold, IsTrueGraph}
 use Rattle.saturation.specs.Launched.{IsLaunched, row_in}
-use Rattle.saturation.specs.StandsFor.{StandsFor, HasValues, HasGuardValue, HasSetValue, HasClassIn, IsInputClass, IsSetClass, IsGuardOf, graph_view, row_view, numbered_op, number_of}
+use Rattle.saturation.specs.StandsFor.{StandsFor, HasValues, HasGuardValue, HasSetValue, HasClassIn, IsInputClass, IsSetClass, IsGuardOf, graph_view, row_view, numbered_op, declared_number}
 use Rattle.saturation.proofs.Mapped.{contains_map, contains_map_back, map_twice}
 
-same_meaning : (declared : List DeclaredOp) (world : World) (o : Op) (name : List ℕ) (vs : List Value) → ((index : ℕ) (arity : Arity) → o ≡ op.Declared index arity → declared_name declared (number_of declared name) ≡ name) → meaning world (declared_name declared) (numbered_op declared o name) vs ≡ meaning world (λ _. name) o vs
+same_meaning : (declared : List DeclaredOp) (world : World) (o : Op) (name : List ℕ) (vs : List Value) → ((index : ℕ) (arity : Arity) → o ≡ op.Declared index arity → declared_name declared (declared_number declared name) ≡ name) → meaning world (declared_name declared) (numbered_op declared o name) vs ≡ meaning world (λ _. name) o vs
 same_meaning declared world op.Entry name vs h = refl
 same_meaning declared world (op.Input r) name vs h = refl
 same_meaning declared world (op.Constant c) name vs h = refl

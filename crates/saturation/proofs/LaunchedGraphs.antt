@@ -19,7 +19,7 @@ use Rattle.axiom_base.specs.Rewrites.{Rewrite, IsRule, IsUsable}
 use Rattle.axiom_base.specs.Schemes.{IsRuleOf}
 use Rattle.egraph.specs.Graph.{Graph, IsGraph, HasClass}
 use Rattle.egraph.specs.declared.rows.Row.{Row}
-use Rattle.pattern_match.specs.Classes.{IsClass, at_variable, at_row, CanRead}
+use Rattle.pattern_match.specs.Classes.{IsClass, at_variable, at_row, CanFindClass}
 use Rattle.goal_reader.specs.Views.{TargetTree, InputTree, goal_view, target_view}
 use Rattle.goal_reader.specs.WellFormed.{IsGoal, IsGoalTerm, IsTarget, IsInput}
 use Rattle.goal_reader.specs.declared.goals.Goal.{Goal}
@@ -32,10 +32,10 @@ use Rattle.launch_graph.specs.declared.graphs.InputClass.{InputClass}
 use Rattle.launch_graph.specs.declared.graphs.SetClass.{SetClass}
 use Rattle.launch_graph.specs.declared.graphs.Guard.{Guard}
 use Rattle.saturation.specs.GoalTerms.{entry_term, input_term, input_terms, guard_terms, set_terms}
-use Rattle.saturation.specs.Launched.{CanLaunch, IsLaunched, KeepsGrown, KeepsStop}
-use Rattle.saturation.specs.Numbered.{AreClassNumbers, IsNumberOf, IsInputNumber, IsSetNumber, IsGuardNumber, firsts, indexes_of, launched_row}
+use Rattle.saturation.specs.Launched.{CanMakeLaunchGraph, IsLaunched, KeepsGrown, KeepsStop}
+use Rattle.saturation.specs.Numbered.{AreClassNumbers, IsClassNumber, IsInputNumber, IsSetNumber, IsGuardNumber, firsts, indexes_of, launched_row}
 use Rattle.saturation.specs.Renamed.{IsRenamed}
-use Rattle.saturation.specs.StandsFor.{HasClassIn, IsOf, IsInputClass, IsSetClass, IsGuardOf, graph_view}
+use Rattle.saturation.specs.StandsFor.{HasClassIn, IsGraphOf, IsInputClass, IsSetClass, IsGuardOf, graph_view}
 use Rattle.saturation.proofs.LaunchedRows as rows
 use Rattle.saturation.proofs.LaunchTerms.{leaf_row}
 use Rattle.saturation.proofs.Mapped.{contains_map}
@@ -80,12 +80,12 @@ mutual
   each_below op at none h = tt
   each_below op at (more t ts) h = (sorted_below (op_signature.operand_sort op at) t h.0, each_below op (at + 1) ts h.1)
 
-can_read : (graph : Graph Op) (sort : Sort) (t : Tree Op) → IsGraph op_signature graph → HasSort op_signature [] sort t → CanRead graph [] t
+can_read : (graph : Graph Op) (sort : Sort) (t : Tree Op) → IsGraph op_signature graph → HasSort op_signature [] sort t → CanFindClass graph [] t
 can_read graph sort t is h = record { graph = is; present = All-nil (HasClass graph); below = sorted_below sort t h }
 
 -- ---- a goal that may be launched
 
-module _ (input : InputTree) (goal : Goal) (is_input : IsInput input) (given : Contains input.goals (goal_view goal)) (graph : Graph Op) (can : CanLaunch input.ops (goal_view goal) graph) where
+module _ (input : InputTree) (goal : Goal) (is_input : IsInput input) (given : Contains input.goals (goal_view goal)) (graph : Graph Op) (can : CanMakeLaunchGraph input.ops (goal_view goal) graph) where
   abbrev HasItsClass : Tree Op → Type 0
   HasItsClass t = (c : ℕ) × IsClass graph [] t c
 
@@ -115,11 +115,11 @@ module _ (input : InputTree) (goal : Goal) (is_input : IsInput input) (given : C
       (Contains-append_left ((entry_term ∷ input_terms goal.inputs) ++ guard_terms (goal_view goal).guard) (set_terms (goal_view goal).sets) t
       (Contains-append_right (entry_term ∷ input_terms goal.inputs) (guard_terms (goal_view goal).guard) t h)))
 
-  guard_read_by : (o : Option (Term Op)) → IfSome (option_map tree_of o) (IsGoalTerm input.ops (goal_view goal) sorts.Word) → IfSome o (λ t. CanRead graph [] (tree_of t))
+  guard_read_by : (o : Option (Term Op)) → IfSome (option_map tree_of o) (IsGoalTerm input.ops (goal_view goal) sorts.Word) → IfSome o (λ t. CanFindClass graph [] (tree_of t))
   guard_read_by None h = tt
   guard_read_by (Some t) h = can_read graph sorts.Word (tree_of t) can.graph_is h.sorted
 
-  pub guard_read : IfSome goal.guard (λ t. CanRead graph [] (tree_of t))
+  pub guard_read : IfSome goal.guard (λ t. CanFindClass graph [] (tree_of t))
   guard_read = guard_read_by goal.guard goal_is.guard
 
   targets : All (λ (s : Set). IsTarget input.ops (goal_view goal) (target_view s)) goal.sets
@@ -133,7 +133,7 @@ module _ (input : InputTree) (goal : Goal) (is_input : IsInput input) (given : C
       (Contains-append_right ((entry_term ∷ input_terms goal.inputs) ++ guard_terms (goal_view goal).guard) (set_terms (goal_view goal).sets) (tree_of s.value)
       (contains_map (λ (t : TargetTree). t.value) (goal_view goal).sets (target_view s) there))
 
-  pub sets_read : All (λ (s : Set). CanRead graph [] (tree_of s.value)) goal.sets
+  pub sets_read : All (λ (s : Set). CanFindClass graph [] (tree_of s.value)) goal.sets
   sets_read k d l = can_read graph _ (tree_of (get_or goal.sets k d).value) can.graph_is (targets k d l).sorted
 
   -- ---- its launch graph
@@ -141,7 +141,7 @@ module _ (input : InputTree) (goal : Goal) (is_input : IsInput input) (given : C
   pub record IsMade (numbers : List ℕ) (g : LaunchGraph) : Type 0 where
     pub numbers_are : AreClassNumbers graph numbers
     pub rows_are : g.rows ≡ map (launched_row numbers (firsts (indexes_of graph.rows)) input.ops) graph.rows
-    pub entry : IsNumberOf graph numbers entry_term g.entry
+    pub entry : IsClassNumber graph numbers entry_term g.entry
     pub inputs : AllZip (IsInputNumber graph numbers) g.inputs goal.inputs
     pub pool : g.pool ≡ goal.pool
     pub guard : IsGuardNumber graph numbers g.guard goal.guard
@@ -164,7 +164,7 @@ module _ (input : InputTree) (goal : Goal) (is_input : IsInput input) (given : C
     leaf_sort : (op : Op) (c : ℕ) → IsClass graph [] (application op none) c → ClassHasSort g (sort_of op) (number c)
     leaf_sort op c is = row_sort (record { op = op; operands = []; class = c }) (sort_of op) (leaf_row graph [] op c is) refl
 
-    class_in_view : (t : Tree Op) (n : ℕ) → IsNumberOf graph numbers t n → HasClassIn input.ops g t n
+    class_in_view : (t : Tree Op) (n : ℕ) → IsClassNumber graph numbers t n → HasClassIn input.ops g t n
     class_in_view t n h = subst (HasClassIn input.ops g t) (sym h.2) (class_to number graph (graph_view input.ops g) is_renamed [] t h.0 h.1)
 
     -- ---- it is the goal's
@@ -195,7 +195,7 @@ module _ (input : InputTree) (goal : Goal) (is_input : IsInput input) (given : C
         ap (λ rs. rs ++ g.pool) (same_registers g.inputs goal.inputs made.inputs)
         ∙ ap (λ pool. map (λ (i : InputReg). i.reg) goal.inputs ++ pool) made.pool
 
-    pub is_of : IsOf input.ops (goal_view goal) g
+    pub is_of : IsGraphOf input.ops (goal_view goal) g
     is_of = record {
       entry = class_in_view entry_term g.entry made.entry;
       inputs = zip_weaker (IsInputNumber graph numbers) (IsInputClass input.ops g) g.inputs goal.inputs input_class made.inputs;

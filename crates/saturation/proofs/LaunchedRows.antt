@@ -18,16 +18,16 @@ use Rattle.word_terms.specs.Keys.{op_signature}
 use Rattle.egraph.specs.Graph.{Graph, IsGraph, HasClass}
 use Rattle.egraph.specs.Joined.{relabel}
 use Rattle.egraph.specs.declared.rows.Row.{Row}
-use Rattle.launch_graph.specs.WellFormed.{ClassHasSort, TakesItsSorts, AreRows, HaveOneName, declared_index, input_in, next_class, next_index, next_after}
+use Rattle.launch_graph.specs.WellFormed.{ClassHasSort, TakesItsSorts, AreRows, HaveOneName, declared_index, register_of_input, next_class, next_index, next_after}
 use Rattle.launch_graph.specs.declared.graphs.LaunchGraph.{LaunchGraph}
 use Rattle.launch_graph.specs.declared.graphs.LaunchRow.{LaunchRow}
 use Rattle.goal_reader.specs.Printing.{declared_name}
 use Rattle.goal_reader.specs.WellFormed.{IsDeclared}
 use Rattle.goal_reader.specs.declared.scopes.DeclaredOp.{DeclaredOp}
 use Rattle.saturation.specs.Launched.{IsKnown, row_in}
-use Rattle.saturation.specs.Numbered.{AreClassNumbers, classes_of, indexes_of, firsts, place_in, launched_name, launched_op, launched_row}
+use Rattle.saturation.specs.Numbered.{AreClassNumbers, classes_of_rows, indexes_of, firsts, place_in, launched_name, launched_op, launched_row}
 use Rattle.saturation.specs.Renamed.{IsRenamed}
-use Rattle.saturation.specs.StandsFor.{number_of, numbered_op, row_view, graph_view}
+use Rattle.saturation.specs.StandsFor.{declared_number, numbered_op, row_view, graph_view}
 use Rattle.saturation.proofs.Firsts.{IsIn, all_there, at_place, one_place, few_firsts, in_order, next_number}
 use Rattle.saturation.proofs.Graphs.{operands_have}
 use Rattle.saturation.proofs.Renaming.{same_from_map, has_back}
@@ -70,8 +70,8 @@ module _ (declared : List DeclaredOp) (used : List ℕ) where
   pub index_from : (n : ℕ) (op : Op) → declared_index (launched_op used op) ≡ Some n → IsNumbered n op
   index_from n = each_op (λ o p. declared_index o ≡ Some n → IsNumbered n p) (λ op e f g. absurd (let k : None ≡ Some n = sym e ∙ g in cc)) (λ i a g. (i, a, refl, (let k : place_in used i ≡ n = cc in sym k)))
 
-  pub same_input : (op : Op) → input_in (launched_op used op) ≡ input_in op
-  same_input = each_op (λ o p. input_in o ≡ input_in p) (λ op e f. refl) (λ i a. refl)
+  pub same_input : (op : Op) → register_of_input (launched_op used op) ≡ register_of_input op
+  same_input = each_op (λ o p. register_of_input o ≡ register_of_input p) (λ op e f. refl) (λ i a. refl)
 
   pub no_name : (op : Op) → (launched_name declared op ≡ []) ⊎ IsTrue (is_some (declared_index (launched_op used op)))
   no_name = each_op (λ o p. (launched_name declared p ≡ []) ⊎ IsTrue (is_some (declared_index o))) (λ op e f. inl f) (λ i a. inr refl)
@@ -102,7 +102,7 @@ module _ (declared : List DeclaredOp) (used : List ℕ) where
   pub one_op : (a b : Op) → IsUsed a → IsUsed b → launched_op used a ≡ launched_op used b → a ≡ b
   one_op a b h k e = sym (back_op a h) ∙ ap op_back e ∙ back_op b k
 
-known_input : (declared : List DeclaredOp) (op : Op) (n : ℕ) → IsKnown declared op → input_in op ≡ Some n → n < 31
+known_input : (declared : List DeclaredOp) (op : Op) (n : ℕ) → IsKnown declared op → register_of_input op ≡ Some n → n < 31
 known_input declared Entry n k e = absurd (cc)
 known_input declared (Input r) n k e = let f : r ≡ n = cc in omega (arith, k, f)
 known_input declared (Constant c) n k e = absurd (cc)
@@ -157,7 +157,7 @@ module _ (declared : List DeclaredOp) (differ : AllPairs (λ (d e : DeclaredOp).
   other_name : (i k : ℕ) (d : DeclaredOp) → i < length declared → k < i → bytes_eq (get_or declared k d).name (declared_name declared i) ≡ false
   other_name i k d l b = not_true _ (λ t. differ k i d b l ((bytes_eq-Decides (get_or declared k d).name (declared_name declared i)).0 t ∙ name_at i d l))
 
-  pub number_is : (i : ℕ) → i < length declared → number_of declared (declared_name declared i) ≡ i
+  pub number_is : (i : ℕ) → i < length declared → declared_number declared (declared_name declared i) ≡ i
   number_is i l =
       let d = (some_at declared i l).0 in
       position_or_len_is (λ (o : DeclaredOp). bytes_eq o.name (declared_name declared i)) declared i d (omega (arith, l)) (λ k b. other_name i k d l b) (λ m. (bytes_eq-Decides (get_or declared i d).name (declared_name declared i)).1 (sym (name_at i d l)))
@@ -192,18 +192,18 @@ module _ (declared : List DeclaredOp) (differ : AllPairs (λ (d e : DeclaredOp).
 
   -- ---- classes
 
-  class_there : (c : ℕ) → HasClass graph c → IsIn (firsts (classes_of graph.rows)) c
-  class_there c h = all_there (classes_of graph.rows) c (subst (Contains (classes_of graph.rows)) h.is (contains_map (λ (t : Row Op). t.class) graph.rows h.row h.there))
+  class_there : (c : ℕ) → HasClass graph c → IsIn (firsts (classes_of_rows graph.rows)) c
+  class_there c h = all_there (classes_of_rows graph.rows) c (subst (Contains (classes_of_rows graph.rows)) h.is (contains_map (λ (t : Row Op). t.class) graph.rows h.row h.there))
 
   pub one_class : (c d : ℕ) → HasClass graph c → HasClass graph d → number c ≡ number d → c ≡ d
-  one_class c d h k e = one_place (firsts (classes_of graph.rows)) c d (class_there c h) (class_there d k) (sym (are.each c h) ∙ e ∙ are.each d k)
+  one_class c d h k e = one_place (firsts (classes_of_rows graph.rows)) c d (class_there c h) (class_there d k) (sym (are.each c h) ∙ e ∙ are.each d k)
 
   -- the class of a number
   abbrev pub class_in : ℕ → ℕ
-  class_in n = get_or (firsts (classes_of graph.rows)) n 0
+  class_in n = get_or (firsts (classes_of_rows graph.rows)) n 0
 
   pub class_back : (c : ℕ) → HasClass graph c → class_in (number c) ≡ c
-  class_back c h = ap class_in (are.each c h) ∙ at_place (firsts (classes_of graph.rows)) c (class_there c h)
+  class_back c h = ap class_in (are.each c h) ∙ at_place (firsts (classes_of_rows graph.rows)) c (class_there c h)
 
   own_class : (r : Row Op) → Contains graph.rows r → HasClass graph r.class
   own_class r h = record { row = r; there = h; is = refl }
@@ -375,10 +375,10 @@ module _ (declared : List DeclaredOp) (differ : AllPairs (λ (d e : DeclaredOp).
         let a = made_at i r at in
         word_in (constant_in a.0.op) m (constant_at i m r a e) (All-contains (λ (t : Row Op). IfSome (constant_in t.op) IsWord) graph.rows a.0 is.words (i, a.1, a.2))
 
-    pub registers : (r : LaunchRow) (i n : ℕ) → slice_get g.rows i ≡ Some r → input_in r.op ≡ Some n → n < 31
+    pub registers : (r : LaunchRow) (i n : ℕ) → slice_get g.rows i ≡ Some r → register_of_input r.op ≡ Some n → n < 31
     registers r i n at e =
         let a = made_at i r at in
-        known_input declared a.0.op n (is_known a.0 (i, a.1, a.2)) (sym (same_input declared used a.0.op) ∙ ap (λ (t : LaunchRow). input_in t.op) (sym a.3) ∙ e)
+        known_input declared a.0.op n (is_known a.0 (i, a.1, a.2)) (sym (same_input declared used a.0.op) ∙ ap (λ (t : LaunchRow). register_of_input t.op) (sym a.3) ∙ e)
 
     pub operands : All (TakesItsSorts g) g.rows
     operands = each_row (TakesItsSorts g) (λ q h at lt.
@@ -417,7 +417,7 @@ module _ (declared : List DeclaredOp) (differ : AllPairs (λ (d e : DeclaredOp).
               let arity : x.1 ≡ y.1 = one_arity declared y.0 x.1 y.1 (subst (λ k. IsDeclared declared k x.1) i_same known_a) known_b in
               (name_a ∙ ap (declared_name declared) i_same ∙ sym name_b, op_a ∙ ap (λ k. Declared (place_in used k) x.1) i_same ∙ ap (λ z. Declared (place_in used y.0) z) arity ∙ sym op_b),
           λ p.
-              let i_same : x.0 ≡ y.0 = sym (number_is declared differ x.0 known_a.below) ∙ ap (number_of declared) (sym name_a ∙ p ∙ name_b) ∙ number_is declared differ y.0 known_b.below in
+              let i_same : x.0 ≡ y.0 = sym (number_is declared differ x.0 known_a.below) ∙ ap (declared_number declared) (sym name_a ∙ p ∙ name_b) ∙ number_is declared differ y.0 known_b.below in
               x.3 ∙ ap (place_in used) i_same ∙ sym y.3,
         )
 
@@ -430,11 +430,11 @@ module _ (declared : List DeclaredOp) (differ : AllPairs (λ (d e : DeclaredOp).
         let same : a.0 ≡ b.0 = sym (class_back a.0 a.1) ∙ ap class_in a.2 ∙ e ∙ ap class_in (sym b.2) ∙ class_back b.0 b.1 in
         sym a.2 ∙ ap number same ∙ b.2
 
-    pub named_back : (r : LaunchRow) (index : ℕ) (arity : Arity) → Contains g.rows r → r.op ≡ Declared index arity → declared_name declared (number_of declared r.name) ≡ r.name
+    pub named_back : (r : LaunchRow) (index : ℕ) (arity : Arity) → Contains g.rows r → r.op ≡ Declared index arity → declared_name declared (declared_number declared r.name) ≡ r.name
     named_back r index arity h e =
         let at = made_at h.0 r (slice_get_read g.rows (length g.rows) h.0 r refl h.1 (sym h.2)) in
         let there : Contains graph.rows at.0 = (h.0, at.1, at.2) in
         let x = index_from declared used index at.0.op (ap (λ (t : LaunchRow). declared_index t.op) (sym at.3) ∙ ap declared_index e) in
         let known_there : IsDeclared declared x.0 x.1 = subst (IsKnown declared) x.2 (is_known at.0 there) in
         let name : r.name ≡ declared_name declared x.0 = ap (λ (t : LaunchRow). t.name) at.3 ∙ ap (launched_name declared) x.2 in
-        ap (λ n. declared_name declared (number_of declared n)) name ∙ ap (declared_name declared) (number_is declared differ x.0 known_there.below) ∙ sym name
+        ap (λ n. declared_name declared (declared_number declared n)) name ∙ ap (declared_name declared) (number_is declared differ x.0 known_there.below) ∙ sym name

@@ -12,11 +12,11 @@ use Rattle.axiom_base.specs.Schemes.{IsRuleOf, schemes}
 use Rattle.egraph.specs.Graph.{Graph, IsGraph}
 use Rattle.egraph.specs.declared.faults.MergeFault.{MergeFault}
 use Rattle.egraph.specs.declared.faults.MergeFault.TheVariants.{NoWorld, Memory}
-use Rattle.saturation.specs.Trace.{Asked, AreMade, IsRefused, CanMakeAll, operators_asked}
+use Rattle.saturation.specs.Trace.{Asked, AreAllMade, IsRefused, CanMakeAll, operators_asked}
 use Rattle.saturation.specs.Instances.{asked_of, RefusalOfAll, saturate_fault}
 use Rattle.saturation.specs.declared.instance.Instance.{Instance}
 use Rattle.saturation.specs.Derives.{Pair}
-use Rattle.saturation.specs.Grown.{IsGrown, GoesOn, NotBefore, IsQuiet}
+use Rattle.saturation.specs.Grown.{IsGrown, GoesOnGrowing, NotBefore, IsQuiet}
 use Rattle.saturation.specs.GraphStands.{GraphStands, RulesHold}
 use Rattle.saturation.specs.Asking.{AreAsked, StopFits}
 use Rattle.saturation.specs.Rounds.{IsAfter, IsSaturated, IsImpossible, SaturateFaultIs, IsHopeless, KeepsStanding, StopIs}
@@ -89,7 +89,7 @@ module _ (axioms : List Rewrite) (start : Graph Op) (rounds nodes : ℕ) (g : Gr
           | inl b ↦ a.1 i b
           | inr b ↦
               (let e : j ≡ i = omega (arith, b, l) in
-              subst (GoesOn axioms present equal rounds nodes) e (record {
+              subst (GoesOnGrowing axioms present equal rounds nodes) e (record {
                 graph = g;
                 grown = a.0;
                 unmet = unmet axioms g asked need ready some;
@@ -99,7 +99,7 @@ module _ (axioms : List Rewrite) (start : Graph Op) (rounds nodes : ℕ) (g : Gr
         ]
 
     module _ (law : Law) (true_rules : AreTrue) where
-      pub running_more : (new : Graph Op) → AreMade asked g new → Running axioms start rounds nodes new (j + 1)
+      pub running_more : (new : Graph Op) → AreAllMade asked g new → Running axioms start rounds nodes new (j + 1)
       running_more new made = record {
         after = record {
           grown = λ present equal h.

@@ -11,9 +11,9 @@ use Rattle.axiom_base.specs.Equations.{constant}
 use Rattle.egraph.specs.declared.rows.Row.{Row}
 use Rattle.egraph.specs.Graph.{Graph, IsGraph, HasConstant}
 use Rattle.egraph.specs.Joined as closure
-use Rattle.egraph.specs.Joined.{Joined, pair, IsMerged, Clash}
+use Rattle.egraph.specs.Joined.{pair, IsMerged, Joined, Clash}
 use Rattle.pattern_match.specs.Classes.{IsClass, at_row, no_classes}
-use Rattle.saturation.specs.Trace.{Asked, IsBuilt, IsMade, AreMade, finished, work, IsRefusedAt, IsRefused, here, after}
+use Rattle.saturation.specs.Trace.{Asked, IsBuilt, IsMade, AreAllMade, finished, work, IsRefusedMerge, IsRefused, here, after}
 use Rattle.saturation.specs.Derives.{Derives, back, through}
 use Rattle.saturation.specs.Grown.{AreInhabited}
 use Rattle.saturation.proofs.Graphs.{cur, row_present}
@@ -37,11 +37,11 @@ made_follows a g new h is =
     (extends_follows op_signature g is h.middle (built_extends a.places h.built))
     (merge_follows op_signature h.middle im h.class a.class new h.joined.merged)
 
-pub all_made_graph : {asks : List Asked} {g new : Graph Op} → AreMade asks g new → IsGraph op_signature g → IsGraph op_signature new
+pub all_made_graph : {asks : List Asked} {g new : Graph Op} → AreAllMade asks g new → IsGraph op_signature g → IsGraph op_signature new
 all_made_graph finished is = is
 all_made_graph (work {a} {asks} {g} {h} m w) is = all_made_graph w (made_graph a g h m)
 
-pub all_made_follow : {asks : List Asked} {g new : Graph Op} → AreMade asks g new → IsGraph op_signature g → Follows g new
+pub all_made_follow : {asks : List Asked} {g new : Graph Op} → AreAllMade asks g new → IsGraph op_signature g → Follows g new
 all_made_follow (finished {g}) is = follows_itself op_signature g is
 all_made_follow (work {a} {asks} {g} {h} {new} m w) is = follows_through op_signature g h new is (made_follows a g h m is) (all_made_follow w (made_graph a g h m))
 
@@ -72,7 +72,7 @@ made_there a g new h is about =
 there_follows : (a : Asked) (g new : Graph Op) → Follows g new → IsAbout g a → IsThere g a → IsThere new a
 there_follows a g new f about h = class_follows g new f a.places about.places about.class h
 
-pub all_there : {asks : List Asked} {g new : Graph Op} → AreMade asks g new → IsGraph op_signature g → All (IsAbout g) asks → All (IsThere new) asks
+pub all_there : {asks : List Asked} {g new : Graph Op} → AreAllMade asks g new → IsGraph op_signature g → All (IsAbout g) asks → All (IsThere new) asks
 all_there finished is about n d l = absurd (omega arith)
 all_there (work {a} {asks} {g} {h} {new} m w) is about zero d l =
     let ih = made_graph a g h m in
@@ -162,14 +162,14 @@ module _ (axioms : List Rewrite) (present : List (Tree Op)) (equal : List (Tree 
         merge_inhabited h.middle h.class a.class new h.joined.merged m.good.1,
       )
 
-  pub all_made_good : {asks : List Asked} {g new : Graph Op} → AreMade asks g new → IsGraph op_signature g → Good g → All (IsJustified D g) asks → Good new
+  pub all_made_good : {asks : List Asked} {g new : Graph Op} → AreAllMade asks g new → IsGraph op_signature g → Good g → All (IsJustified D g) asks → Good new
   all_made_good finished is good f = good
   all_made_good (work {a} {asks} {g} {h} m w) is good f =
       all_made_good w (made_graph a g h m) (made_good a g h m is good (All-head (IsJustified D g) a asks f))
       (All-weaker (IsJustified D g) (IsJustified D h) (λ q k. justified_follows D g h (made_follows a g h m is) q k) asks (All-tail (IsJustified D g) a asks f))
 
   -- a merge that puts two constants into one class shows that these are equal
-  pub refused_at : (a : Asked) (g : Graph Op) (x y : ℕ) → IsRefusedAt a g x y → IsGraph op_signature g → Good g → IsJustified D g a → D (constant x) (constant y) × (x ≢ y)
+  pub refused_at : (a : Asked) (g : Graph Op) (x y : ℕ) → IsRefusedMerge a g x y → IsGraph op_signature g → Good g → IsJustified D g a → D (constant x) (constant y) × (x ≢ y)
   refused_at a g x y h is good q =
       let im = built_graph a.places h.built is in
       let m = middle a g h.middle h.class h.built is good q in

@@ -11,7 +11,7 @@ use Rattle.axiom_base.specs.Schemes.{Scheme, plain, computed, IsOf, itself, calc
 use Rattle.axiom_base.specs.declared.kinds.Calc.{Calc}
 use Rattle.egraph.specs.Graph.{Graph, IsGraph, HasConstant}
 use Rattle.pattern_match.specs.Bindings.{CanGive, AreGiven}
-use Rattle.pattern_match.specs.Classes.{IsClass, AreClasses, at_variable, at_row, no_classes, classes, CanRead}
+use Rattle.pattern_match.specs.Classes.{IsClass, AreClasses, at_variable, at_row, no_classes, classes, CanFindClass}
 use Rattle.pattern_match.specs.Matches.{IsUnmet, IsUnmetOf}
 use Rattle.saturation.specs.Trace.{Asked}
 use Rattle.saturation.specs.Asking.{IsAskedOf}
@@ -40,7 +40,7 @@ module _ (g : Graph Op) (is : IsGraph op_signature g) (r : Rewrite) (places : Li
   pub plain_unmet : IsUnmet g r places u.class
   plain_unmet = subst (λ q. IsUnmet g q places u.class) (plain_only r u.rule refl u.of) u.unmet
 
-  pub plain_reads : CanRead g places r.left
+  pub plain_reads : CanFindClass g places r.left
   plain_reads = record { graph = is; present = plain_unmet.match.present; below = class_below g places r.left plain_unmet.match.left }
 
   pub plain_asked : (a : Asked) → IsClass g places r.left a.class → a.right ≡ r.right → a.places ≡ places → IsAskedOf g (plain r) places a
@@ -76,7 +76,7 @@ module _ (last : EndInConstants) (numbers : AreNumbered) (one : GiveOne) (g : Gr
   pub computed_can : CanGive g kind cs
   computed_can = record { graph = is; present = unmet_is.match.present; count = unmet_is.match.count ∙ last kind }
 
-  pub computed_reads : CanRead g cs (calc_left kind)
+  pub computed_reads : CanFindClass g cs (calc_left kind)
   computed_reads = record { graph = is; present = unmet_is.match.present; below = class_below g cs (calc_left kind) unmet_is.match.left }
 
   abbrev given_is : AreGiven g kind cs rule_is.1

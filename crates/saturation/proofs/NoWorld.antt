@@ -8,7 +8,7 @@ use Rattle.word_terms.specs.Keys.{op_signature}
 use Rattle.egraph.specs.declared.rows.Row.{Row}
 use Rattle.egraph.specs.Graph.{Graph, IsGraph}
 use Rattle.egraph.specs.Joined.{Joined, kept, pair, back, through, congruent}
-use Rattle.saturation.specs.Trace.{Asked, MayJoin, IsRefusedAt, IsRefused, here, after}
+use Rattle.saturation.specs.Trace.{Asked, MayJoin, IsRefusedMerge, IsRefused, here, after}
 use Rattle.saturation.proofs.Lists.{map_agree}
 use Rattle.saturation.proofs.Graphs.{cur, row_present, has_present, operands_have}
 use Rattle.saturation.proofs.Built.{built_graph}
@@ -42,7 +42,7 @@ module _ (law : Law) (world : World) (is_world : IsWorld world) (names : ℕ →
         let true_t = sym (All-contains (λ (q : Row Op). V q.class ≡ M q.op (map V q.operands)) g.rows t true.rows k) in
         ap V (row_present op_signature g is r h) ∙ sym true_r ∙ ap (M r.op) (at_each r h ∙ ops ∙ sym (at_each t k)) ∙ ap (λ o. M o (map V t.operands)) op ∙ true_t ∙ ap V (sym (row_present op_signature g is t k))
 
-  pub refused_at_never : (a : Asked) (g : Graph Op) (x y : ℕ) (V : ℕ → Value) → IsRefusedAt a g x y → IsGraph op_signature g → MayJoin g a → True law world is_world names V g → TrueAsk law world is_world names V g a → ⊥
+  pub refused_at_never : (a : Asked) (g : Graph Op) (x y : ℕ) (V : ℕ → Value) → IsRefusedMerge a g x y → IsGraph op_signature g → MayJoin g a → True law world is_world names V g → TrueAsk law world is_world names V g a → ⊥
   refused_at_never a g x y V h is may true asked =
       let m : Meeting law world is_world names V a g h.middle h.class = meeting law world is_world names a g h.middle h.class V h.built is may true asked in
       let im = built_graph a.places h.built is in

@@ -7,7 +7,7 @@ use Rattle.word_terms.specs.Tree.{Tree, Trees}
 use Rattle.egraph.specs.Graph.{Graph, IsGraph, HasRow, read_through}
 use Rattle.pattern_match.specs.Classes.{IsClass, AreClasses, at_row, classes}
 use Rattle.saturation.specs.Derives.{Pair}
-use Rattle.saturation.specs.Trace.{IsBuilt, AreBuilt, placed, put, none_built, one_built, IsAssumed, AreAssumed, none_assumed, one_assumed}
+use Rattle.saturation.specs.Trace.{IsBuilt, AreBuilt, placed, put, none_built, one_built, IsAssumeMade, AreAssumed, none_assumed, one_assumed}
 use Rattle.saturation.proofs.Graphs.{cur}
 use Rattle.saturation.proofs.Classes.{one_classes}
 use Rattle.saturation.proofs.Built.{built_graph, are_built_graph, are_built_classes}
@@ -31,7 +31,7 @@ mutual
       let e : h ≡ g = built_there is b one in
       are_built_there (built_graph [] b is) a (subst (λ k. AreClasses k [] ts ds) (sym e) more) ∙ e
 
-pub assumed_made : (p : Pair) (g new : Graph Op) → IsGraph op_signature g → IsAssumed p g new → Placed g p.0 → Placed g p.1 → length new.current ≡ length g.current
+pub assumed_made : (p : Pair) (g new : Graph Op) → IsGraph op_signature g → IsAssumeMade p g new → Placed g p.0 → Placed g p.1 → length new.current ≡ length g.current
 assumed_made p g new is a first second =
     let e : a.middle ≡ g = built_there is a.built first.is in
     let f : a.made.middle ≡ a.middle = built_there (built_graph [] a.built is) a.made.built (subst (λ k. IsClass k [] p.1 (cur g second.class)) (sym e) second.is) in

@@ -13,7 +13,7 @@ use Rattle.egraph.specs.Graph.{Graph, Agree, HasClass, HasConstant, IsGraph}
 use Rattle.pattern_match.specs.Classes.{IsClass, AreClasses, at_row, no_classes, classes, HaveOneClass}
 use Rattle.axiom_base.specs.Schemes.{IsRuleOf}
 use Rattle.pattern_match.specs.Matches.{IsMatch}
-use Rattle.saturation.specs.Trace.{Asked, AreMade, IsRefused}
+use Rattle.saturation.specs.Trace.{Asked, AreAllMade, IsRefused}
 use Rattle.saturation.specs.Derives.{Derives, DerivesEach, given, assumed, back, through, later, operand, congruent, by_rule, no_operands, operands}
 use Rattle.saturation.specs.Grown.{IsGrown, AreInhabited}
 use Rattle.saturation.proofs.Graphs.{cur, has_made, has_present}
@@ -166,7 +166,7 @@ module _ (axioms : List Rewrite) (present : List (Tree Op)) (equal : List (Tree 
   sound_before : (t u : Tree Op) (c : ℕ) → IsClass g [] t c → IsClass g [] u c → Derives axioms present equal (j + 1) t u
   sound_before t u c h k = later ((grown.exact t u).0 (record { class = c; first = h; second = k }))
 
-  pub round_is_grown : (new : Graph Op) → AreMade asked g new → IsGrown axioms present equal new (j + 1)
+  pub round_is_grown : (new : Graph Op) → AreAllMade asked g new → IsGrown axioms present equal new (j + 1)
   round_is_grown new made =
       let good = all_made_good axioms present equal (j + 1) made is (sound_before, grown.inhabited) all_justified in
       let follows = all_made_follow made is in

@@ -14,7 +14,7 @@ use Rattle.word_terms.specs.Sorting.{HasSort, HaveSorts, sort_at}
 use Rattle.egraph.specs.declared.rows.Row.{Row}
 use Rattle.egraph.specs.Graph.{Graph, HasClass, IsGraph, HasConstant, read_through}
 use Rattle.pattern_match.specs.Classes.{IsClass, AreClasses, at_variable, at_row, no_classes, classes}
-use Rattle.saturation.specs.Trace.{Asked, IsPut, IsJoined, IsBuilt, AreBuilt, placed, put, none_built, one_built, IsMade, AreMade, finished, work, MayJoin}
+use Rattle.saturation.specs.Trace.{Asked, IsPut, IsJoined, IsBuilt, AreBuilt, placed, put, none_built, one_built, IsMade, AreAllMade, finished, work, MayJoin}
 use Rattle.pattern_match.specs.Matches.{IsMatch}
 use Rattle.saturation.specs.GraphStands.{IsTrueGraph}
 use Rattle.saturation.proofs.Graphs.{cur, row_made, row_present, has_made, has_present, current_has}
@@ -190,7 +190,7 @@ module _ (law : Law) (world : World) (is_world : IsWorld world) (names : ℕ →
       let places_made = made_of g a.places a.right may.sort may.right in
       value_agrees (length a.places) _ _ (λ k l. moved (get_or a.places k 0) (places_made k 0 l)) a.right (may_below g a may) ∙ asked ∙ sym (moved a.class may.class.made)
 
-  pub all_made_true : {asks : List Asked} {g new : Graph Op} (V : ℕ → Value) → AreMade asks g new → IsGraph op_signature g → All (MayJoin g) asks → True V g → All (TrueAsk V g) asks → Moves V g new
+  pub all_made_true : {asks : List Asked} {g new : Graph Op} (V : ℕ → Value) → AreAllMade asks g new → IsGraph op_signature g → All (MayJoin g) asks → True V g → All (TrueAsk V g) asks → Moves V g new
   all_made_true V finished is may true asked = record { values = V; true = true; moved = λ c l. refl }
   all_made_true V (work {a} {asks} {g} {h} {new} m w) is may true asked =
       let first = made_true a g h V m is (All-head (MayJoin g) a asks may) true (All-head (TrueAsk V g) a asks asked) in

@@ -14,7 +14,7 @@ use Rattle.egraph.specs.Graph.{Graph, IsGraph}
 use Rattle.goal_reader.specs.Views.{TwoTrees}
 use Rattle.saturation.specs.AtStart.{IsSorted, AreSorted}
 use Rattle.saturation.specs.GoalTerms.{assumed_pair}
-use Rattle.saturation.specs.Trace.{MayJoin, IsBuilt, AreInserted, none_inserted, one_inserted, IsAssumed, AreAssumed, none_assumed, one_assumed, IsAssumedRefused, AreRefused, refused_here, refused_after}
+use Rattle.saturation.specs.Trace.{MayJoin, IsBuilt, AreInserted, none_inserted, one_inserted, IsAssumeMade, AreAssumed, none_assumed, one_assumed, IsAssumedRefused, AreRefused, refused_here, refused_after}
 use Rattle.saturation.proofs.Below.{sort_below}
 use Rattle.saturation.proofs.Built.{built_graph, built_class, built_sort}
 use Rattle.saturation.proofs.Graphs.{cur}
@@ -64,7 +64,7 @@ module _ (law : Law) (world : World) (is_world : IsWorld world) (names : ℕ →
         ∙ sym (no_variables V (λ n. get_or [] n 0) sorted.sort a.left sorted.left)
         ∙ sym (class_value law world is_world names m V true [] k.1)
 
-  assume_stands : (a : TwoTrees) (g new : Graph Op) → AreSorted a → IsEqual a → IsAssumed (assumed_pair a) g new → IsGraph op_signature g → Stands g → Stands new
+  assume_stands : (a : TwoTrees) (g new : Graph Op) → AreSorted a → IsEqual a → IsAssumeMade (assumed_pair a) g new → IsGraph op_signature g → Stands g → Stands new
   assume_stands a g new sorted equal h is stands =
       let first = term_stands a.left g h.middle h.class sorted.sort h.built is sorted.left stands in
       let second = made_true law world is_world names (record { right = a.right; places = []; class = h.class }) h.middle new first.values h.made (built_graph [] h.built is)

@@ -20,7 +20,7 @@ use Rattle.goal_reader.specs.WellFormed.{sum_over, operators_of_sides}
 use Rattle.saturation.specs.AtStart.{IsSorted, AreSorted, operators_of, CanInsertAll, CanAssume, CanAssumeAll, AssumeFaultIs, AssumeFaultOfAll, start_fault}
 use Rattle.saturation.specs.Derives.{Pair}
 use Rattle.saturation.specs.GoalTerms.{set_terms, assumed_pair}
-use Rattle.saturation.specs.Trace.{MayBuild, CanBuild, CanMake, IsBuilt, IsJoined, AreInserted, none_inserted, one_inserted, IsAssumed, AreAssumed, none_assumed, one_assumed, AreRefused, refused_here, refused_after}
+use Rattle.saturation.specs.Trace.{MayBuild, CanBuild, CanMake, IsBuilt, IsJoined, AreInserted, none_inserted, one_inserted, IsAssumeMade, AreAssumed, none_assumed, one_assumed, AreRefused, refused_here, refused_after}
 use Rattle.saturation.specs.declared.faults.StartFault.{StartFault}
 use Rattle.saturation.specs.declared.faults.StartFault.TheVariants.{NoWorld, Memory}
 use Rattle.saturation.proofs.Built.{built_graph, built_sort}
@@ -174,7 +174,7 @@ module _ (g : Graph Op) (a : TwoTrees) (can : CanAssume g a) where
       pub sides_can : CanJoin n e c
       sides_can = join_can (record { right = a.right; places = []; class = c }) m n e make_can b'
 
-      pub is_assumed : (new : Graph Op) → IsJoined n e c new → IsAssumed (assumed_pair a) g new
+      pub is_assumed : (new : Graph Op) → IsJoined n e c new → IsAssumeMade (assumed_pair a) g new
       is_assumed new j = record { middle = m; class = c; built = b; made = record { middle = n; class = e; built = b'; joined = j } }
 
       pub is_refused : (fault : MergeFault) → FaultIs op_signature n e c fault → AssumeFaultIs (assumed_pair a) g (start_fault fault)
@@ -191,7 +191,7 @@ refused_append : {ps qs : List Pair} {g h : Graph Op} {x y : ℕ} → AreAssumed
 refused_append none_assumed r = r
 refused_append (one_assumed a k) r = refused_after a (refused_append k r)
 
-assumed_few : (a : TwoTrees) (g new : Graph Op) → IsAssumed (assumed_pair a) g new → length new.current ≤ length g.current + operators_of_sides a
+assumed_few : (a : TwoTrees) (g new : Graph Op) → IsAssumeMade (assumed_pair a) g new → length new.current ≤ length g.current + operators_of_sides a
 assumed_few a g new h = let f = built_few [] h.built in let k = built_few [] h.made.built in omega (arith, f, k, h.made.joined.merged.made)
 
 all_assumed_few : (xs : List TwoTrees) {g new : Graph Op} → AreAssumed (map assumed_pair xs) g new → length new.current ≤ length g.current + sum_over operators_of_sides xs
@@ -214,7 +214,7 @@ module _ (g h : Graph Op) (xs : List TwoTrees) (k : ℕ) (d : TwoTrees) (l : k <
             omega (arith, f, s, m);
       }
 
-  pub one_more_assumed : (new : Graph Op) → IsAssumed (assumed_pair (get_or xs k d)) h new → AreAssumed (map assumed_pair (take (k + 1) xs)) g new
+  pub one_more_assumed : (new : Graph Op) → IsAssumeMade (assumed_pair (get_or xs k d)) h new → AreAssumed (map assumed_pair (take (k + 1) xs)) g new
   one_more_assumed new a =
       let e : map assumed_pair (take (k + 1) xs) ≡ map assumed_pair (take k xs) ++ (assumed_pair (get_or xs k d) ∷ []) =
       ap (map assumed_pair) (take_more xs k d l) ∙ map-append assumed_pair (take k xs) (get_or xs k d ∷ []) in

@@ -8,7 +8,7 @@ use Rattle.axiom_base.specs.Rewrites.{Rewrite}
 use Rattle.axiom_base.specs.Equations.{constant}
 use Rattle.egraph.specs.Graph.{Graph, IsGraph}
 use Rattle.pattern_match.specs.Classes.{IsClass, at_variable, at_row}
-use Rattle.saturation.specs.Trace.{Asked, IsBuilt, AreInserted, none_inserted, one_inserted, IsAssumed, AreAssumed, none_assumed, one_assumed, AreRefused, refused_here, refused_after}
+use Rattle.saturation.specs.Trace.{Asked, IsBuilt, AreInserted, none_inserted, one_inserted, IsAssumeMade, AreAssumed, none_assumed, one_assumed, AreRefused, refused_here, refused_after}
 use Rattle.saturation.specs.Derives.{Derives, given, assumed, back, through}
 use Rattle.saturation.specs.Grown.{IsGrown}
 use Rattle.saturation.proofs.Graphs.{cur}
@@ -66,10 +66,10 @@ pub inserted_follows : {ts : List (Tree Op)} {g new : Graph Op} → AreInserted 
 inserted_follows (none_inserted {g}) is = follows_itself op_signature g is
 inserted_follows (one_inserted {t} {ts} {g} {h} {new} {c} b w) is = follows_through op_signature g h new is (built_follows t g h c b is) (inserted_follows w (built_graph [] b is))
 
-pub assumed_graph : (p : Tree Op × Tree Op) (g new : Graph Op) → IsAssumed p g new → IsGraph op_signature new
+pub assumed_graph : (p : Tree Op × Tree Op) (g new : Graph Op) → IsAssumeMade p g new → IsGraph op_signature new
 assumed_graph p g new a = made_graph (record { right = p.1; places = []; class = a.class }) a.middle new a.made
 
-pub assumed_follows : (p : Tree Op × Tree Op) (g new : Graph Op) → IsAssumed p g new → IsGraph op_signature g → Follows g new
+pub assumed_follows : (p : Tree Op × Tree Op) (g new : Graph Op) → IsAssumeMade p g new → IsGraph op_signature g → Follows g new
 assumed_follows p g new a is =
     let im = built_graph [] a.built is in
     follows_through op_signature g a.middle new is (built_follows p.0 g a.middle a.class a.built is) (made_follows (record { right = p.1; places = []; class = a.class }) a.middle new a.made im)
@@ -92,7 +92,7 @@ all_placed (one_inserted {t} {ts} {g} {h} {new} b w) is (suc k) d l = all_placed
 abbrev PairTogether : Graph Op → Tree Op × Tree Op → Type 0
 PairTogether g p = Together g p.0 p.1
 
-assumed_together : (p : Tree Op × Tree Op) (g new : Graph Op) → IsAssumed p g new → IsGraph op_signature g → PairTogether new p
+assumed_together : (p : Tree Op × Tree Op) (g new : Graph Op) → IsAssumeMade p g new → IsGraph op_signature g → PairTogether new p
 assumed_together p g new a is =
     let im = built_graph [] a.built is in
     let ask : Asked = record { right = p.1; places = []; class = a.class } in
@@ -133,7 +133,7 @@ module _ (axioms : List Rewrite) (present : List (Tree Op)) (equal : List (Tree 
       let k = built_class [] b is (none_made g) in
       record { values = []; left = p.0; stand = no_stand m; class_made = k.0; left_class = k.1; equal = subst (D p.0) (sym (same_tree p.1)) d }
 
-  assumed_good : (p : Tree Op × Tree Op) (g new : Graph Op) → IsAssumed p g new → IsGraph op_signature g → Fine g → D p.0 p.1 → Fine new
+  assumed_good : (p : Tree Op × Tree Op) (g new : Graph Op) → IsAssumeMade p g new → IsGraph op_signature g → Fine g → D p.0 p.1 → Fine new
   assumed_good p g new a is good d =
       let im = built_graph [] a.built is in
       made_good axioms present equal 0 (record { right = p.1; places = []; class = a.class }) a.middle new a.made im

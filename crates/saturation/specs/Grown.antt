@@ -49,7 +49,7 @@ pub record Halts (axioms : List Rewrite) (present : List (Tree Op)) (equal : Lis
   pub grown : IsGrown axioms present equal graph j
   pub ends : Ends axioms graph rounds nodes j
 
-pub record GoesOn (axioms : List Rewrite) (present : List (Tree Op)) (equal : List Pair) (rounds nodes j : ℕ) :
+pub record GoesOnGrowing (axioms : List Rewrite) (present : List (Tree Op)) (equal : List Pair) (rounds nodes j : ℕ) :
     Type 0 where
   pub graph : Graph Op
   pub grown : IsGrown axioms present equal graph j
@@ -60,4 +60,4 @@ pub record GoesOn (axioms : List Rewrite) (present : List (Tree Op)) (equal : Li
 -- no number of rounds below j is their end
 abbrev pub NotBefore : List Rewrite → List (Tree Op) → List Pair → ℕ → ℕ → ℕ → Type 0
 NotBefore axioms present equal rounds nodes j =
-    (i : ℕ) → i < j → GoesOn axioms present equal rounds nodes i
+    (i : ℕ) → i < j → GoesOnGrowing axioms present equal rounds nodes i

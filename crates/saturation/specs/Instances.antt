@@ -5,7 +5,7 @@ use Rattle.word_terms.specs.View.{tree_of}
 use Rattle.egraph.specs.Graph.{Graph}
 use Rattle.egraph.specs.declared.faults.MergeFault.{MergeFault}
 use Rattle.egraph.specs.declared.faults.MergeFault.TheVariants.{NoWorld, Memory}
-use Rattle.saturation.specs.Trace.{Asked, IsRefusedAt, IsRefused}
+use Rattle.saturation.specs.Trace.{Asked, IsRefusedMerge, IsRefused}
 use Rattle.saturation.specs.declared.instance.Instance.{Instance}
 use Rattle.saturation.specs.declared.faults.SaturateFault.{SaturateFault}
 use Rattle.saturation.specs.declared.faults.SaturateFault.TheVariants as saturating
@@ -15,7 +15,7 @@ asked_of i = record { right = tree_of i.right; places = i.places; class = i.clas
 
 -- that there is no memory says nothing of the graph
 abbrev pub RefusalIs : Asked → Graph Op → MergeFault → Type 0
-RefusalIs a g (NoWorld class x y) = IsRefusedAt a g x y
+RefusalIs a g (NoWorld class x y) = IsRefusedMerge a g x y
 RefusalIs a g Memory = Unit {0}
 
 abbrev pub RefusalOfAll : List Asked → Graph Op → MergeFault → Type 0

@@ -22,7 +22,7 @@ use Rattle.saturation.specs.Derives.{Pair}
 use Rattle.saturation.specs.GoalTerms.{kept_terms}
 use Rattle.saturation.specs.Grown.{IsGrown}
 use Rattle.saturation.specs.Rounds.{StopIs}
-use Rattle.saturation.specs.StandsFor.{IsOf, number_of, row_view, graph_view}
+use Rattle.saturation.specs.StandsFor.{IsGraphOf, declared_number, row_view, graph_view}
 use Rattle.saturation.specs.declared.rounds.Stop.{Stop}
 
 -- the input of a register, a declared operator of the list, or any other operator
@@ -32,7 +32,7 @@ IsKnown declared (Declared index arity) = IsDeclared declared index arity
 IsKnown declared op = Unit {0}
 
 -- the graph has fewer than 2 ^ 30 rows, of operators that its goal can name, and a class for each term of the goal
-pub record CanLaunch (declared : List DeclaredOp) (goal : GoalTree) (graph : Graph Op) : Type 0 where
+pub record CanMakeLaunchGraph (declared : List DeclaredOp) (goal : GoalTree) (graph : Graph Op) : Type 0 where
   pub graph_is : IsGraph op_signature graph
   pub few : length graph.rows < 2 ^ 30
   pub operators : All (λ r. IsKnown declared r.op) graph.rows
@@ -46,7 +46,7 @@ row_in declared class_in r = relabel class_in (row_view declared r)
 pub record IsLaunched (declared : List DeclaredOp) (goal : GoalTree) (graph : Graph Op) (g : LaunchGraph) :
     Type 0 where
   pub well_formed : IsLaunchGraph g
-  pub of : IsOf declared goal g
+  pub of : IsGraphOf declared goal g
   pub class_in : ℕ → ℕ
   pub rows : graph.rows ≡ map (row_in declared class_in) g.rows
   pub one_to_one :
@@ -60,7 +60,7 @@ pub record IsLaunched (declared : List DeclaredOp) (goal : GoalTree) (graph : Gr
       (r : LaunchRow) (index : ℕ) (arity : Arity) →
       Contains g.rows r →
       r.op ≡ Declared index arity →
-      declared_name declared (number_of declared r.name) ≡ r.name
+      declared_name declared (declared_number declared r.name) ≡ r.name
 
 -- what rounds make the first graph, they make the second
 abbrev pub KeepsGrown : Graph Op → Graph Op → Type 0

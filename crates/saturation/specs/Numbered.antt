@@ -34,8 +34,8 @@ abbrev pub firsts : List ℕ → List ℕ
 firsts ns = fold with_new [] ns
 
 -- the classes of the rows
-abbrev pub classes_of : List (Row Op) → List ℕ
-classes_of rows = map (λ (r : Row Op). r.class) rows
+abbrev pub classes_of_rows : List (Row Op) → List ℕ
+classes_of_rows rows = map (λ (r : Row Op). r.class) rows
 
 -- the numbers of the declared operators of the rows
 abbrev pub indexes_of : List (Row Op) → List ℕ
@@ -44,7 +44,7 @@ indexes_of rows = filter_map (λ (r : Row Op). declared_index r.op) rows
 -- for each class of a row its number
 pub record AreClassNumbers (g : Graph Op) (numbers : List ℕ) : Type 0 where
   pub size : length numbers ≡ length g.current
-  pub each : (c : ℕ) → HasClass g c → slice_index numbers c ≡ place_in (firsts (classes_of g.rows)) c
+  pub each : (c : ℕ) → HasClass g c → slice_index numbers c ≡ place_in (firsts (classes_of_rows g.rows)) c
 
 -- the declared operator with its place among those that are used
 abbrev pub launched_op : List ℕ → Op → Op
@@ -65,23 +65,23 @@ launched_row numbers used declared r = record {
 }
 
 -- the number is that of the term's class
-abbrev pub IsNumberOf : Graph Op → List ℕ → Tree Op → ℕ → Type 0
-IsNumberOf g numbers t n = (c : ℕ) × IsClass g [] t c × (n ≡ slice_index numbers c)
+abbrev pub IsClassNumber : Graph Op → List ℕ → Tree Op → ℕ → Type 0
+IsClassNumber g numbers t n = (c : ℕ) × IsClass g [] t c × (n ≡ slice_index numbers c)
 
 -- the input's name and register, with the number of its class
 pub record IsInputNumber (g : Graph Op) (numbers : List ℕ) (c : InputClass) (i : InputReg) : Type 0 where
   pub name : c.name ≡ i.name
   pub register : c.reg ≡ i.reg
-  pub class : IsNumberOf g numbers (input_term i.reg) c.class
+  pub class : IsClassNumber g numbers (input_term i.reg) c.class
 
 -- the target's name, with the number of its value's class
 pub record IsSetNumber (g : Graph Op) (numbers : List ℕ) (c : SetClass) (s : Set) : Type 0 where
   pub name : c.name ≡ s.name
-  pub class : IsNumberOf g numbers (tree_of s.value) c.class
+  pub class : IsClassNumber g numbers (tree_of s.value) c.class
 
 -- the guard with the number of its term's class; it is held where the term reads no memory
 abbrev pub IsGuardNumber : Graph Op → List ℕ → Option Guard → Option (Term Op) → Type 0
 IsGuardNumber g numbers None None = Unit {0}
 IsGuardNumber g numbers (Some guard) (Some t) =
-    IsNumberOf g numbers (tree_of t) guard.class × (guard.held ≡ not (has_select (tree_of t)))
+    IsClassNumber g numbers (tree_of t) guard.class × (guard.held ≡ not (has_select (tree_of t)))
 IsGuardNumber g numbers _ _ = ⊥

@@ -25,12 +25,12 @@ use Rattle.saturation.specs.GoalTerms.{entry_term, input_term}
 -- ---- the rows of a launch graph as those of an E-graph
 
 -- the number of the first declared operator of the name, or how many there are
-abbrev pub number_of : List DeclaredOp → List ℕ → ℕ
-number_of declared name = position_or_len (λ (o : DeclaredOp). bytes_eq o.name name) declared
+abbrev pub declared_number : List DeclaredOp → List ℕ → ℕ
+declared_number declared name = position_or_len (λ (o : DeclaredOp). bytes_eq o.name name) declared
 
 -- the operator of a row with this name
 abbrev pub numbered_op : List DeclaredOp → Op → List ℕ → Op
-numbered_op declared (Declared index arity) name = Declared (number_of declared name) arity
+numbered_op declared (Declared index arity) name = Declared (declared_number declared name) arity
 numbered_op declared op name = op
 
 abbrev pub row_view : List DeclaredOp → LaunchRow → Row Op
@@ -78,7 +78,7 @@ IsGuardOf declared g (Some guard) (Some t) = HasClassIn declared g t guard.class
 IsGuardOf declared g _ _ = ⊥
 
 -- inputs, pool, guard and sets are the goal's, with the classes of their terms
-pub record IsOf (declared : List DeclaredOp) (goal : GoalTree) (g : LaunchGraph) : Type 0 where
+pub record IsGraphOf (declared : List DeclaredOp) (goal : GoalTree) (g : LaunchGraph) : Type 0 where
   pub entry : HasClassIn declared g entry_term g.entry
   pub inputs : AllZip (IsInputClass declared g) g.inputs goal.inputs
   pub pool : g.pool ≡ goal.pool
@@ -104,7 +104,7 @@ pub record HasValues (declared : List DeclaredOp) (goal : GoalTree) (g : LaunchG
 
 -- it is the goal's, and has such values in each world in which axioms and assumptions hold
 pub record StandsFor (input : InputTree) (goal : GoalTree) (g : LaunchGraph) : Type 0 where
-  pub of : IsOf input.ops goal g
+  pub of : IsGraphOf input.ops goal g
   pub values :
       (world : World) →
       IsWorld world →

@@ -95,16 +95,16 @@ pub record IsMade (a : Asked) (g new : Graph Op) : Type 0 where
   pub joined : IsJoined middle class a.class new
 
 -- all that is asked is made, in order
-pub data AreMade : List Asked → Graph Op → Graph Op → Type 0 where
-  finished : {g : Graph Op} → AreMade [] g g
+pub data AreAllMade : List Asked → Graph Op → Graph Op → Type 0 where
+  finished : {g : Graph Op} → AreAllMade [] g g
   work :
       {a : Asked} {asks : List Asked} {g h new : Graph Op} →
       IsMade a g h →
-      AreMade asks h new →
-      AreMade (a ∷ asks) g new
+      AreAllMade asks h new →
+      AreAllMade (a ∷ asks) g new
 
 -- what is asked is made in order, up to a merge that puts the constants x and y into one class
-pub record IsRefusedAt (a : Asked) (g : Graph Op) (x y : ℕ) : Type 0 where
+pub record IsRefusedMerge (a : Asked) (g : Graph Op) (x y : ℕ) : Type 0 where
   pub middle : Graph Op
   pub class : ℕ
   pub built : IsBuilt a.places a.right g class middle
@@ -112,7 +112,7 @@ pub record IsRefusedAt (a : Asked) (g : Graph Op) (x y : ℕ) : Type 0 where
   pub clash : Clash op_signature middle class a.class at x y
 
 pub data IsRefused : List Asked → Graph Op → ℕ → ℕ → Type 0 where
-  here : {a : Asked} {asks : List Asked} {g : Graph Op} {x y : ℕ} → IsRefusedAt a g x y → IsRefused (a ∷ asks) g x y
+  here : {a : Asked} {asks : List Asked} {g : Graph Op} {x y : ℕ} → IsRefusedMerge a g x y → IsRefused (a ∷ asks) g x y
   after :
       {a : Asked} {asks : List Asked} {g h : Graph Op} {x y : ℕ} →
       IsMade a g h →
@@ -130,7 +130,7 @@ pub data AreInserted : List (Tree Op) → Graph Op → Graph Op → Type 0 where
       AreInserted (t ∷ ts) g new
 
 -- the first term is built, and the second is made to have its class
-pub record IsAssumed (p : Pair) (g new : Graph Op) : Type 0 where
+pub record IsAssumeMade (p : Pair) (g new : Graph Op) : Type 0 where
   pub middle : Graph Op
   pub class : ℕ
   pub built : IsBuilt [] p.0 g class middle
@@ -140,7 +140,7 @@ pub data AreAssumed : List Pair → Graph Op → Graph Op → Type 0 where
   none_assumed : {g : Graph Op} → AreAssumed [] g g
   one_assumed :
       {p : Pair} {ps : List Pair} {g h new : Graph Op} →
-      IsAssumed p g h →
+      IsAssumeMade p g h →
       AreAssumed ps h new →
       AreAssumed (p ∷ ps) g new
 
@@ -148,13 +148,13 @@ pub record IsAssumedRefused (p : Pair) (g : Graph Op) (x y : ℕ) : Type 0 where
   pub middle : Graph Op
   pub class : ℕ
   pub built : IsBuilt [] p.0 g class middle
-  pub refused : IsRefusedAt (record { right = p.1; places = []; class = class }) middle x y
+  pub refused : IsRefusedMerge (record { right = p.1; places = []; class = class }) middle x y
 
 pub data AreRefused : List Pair → Graph Op → ℕ → ℕ → Type 0 where
   refused_here :
       {p : Pair} {ps : List Pair} {g : Graph Op} {x y : ℕ} → IsAssumedRefused p g x y → AreRefused (p ∷ ps) g x y
   refused_after :
       {p : Pair} {ps : List Pair} {g h : Graph Op} {x y : ℕ} →
-      IsAssumed p g h →
+      IsAssumeMade p g h →
       AreRefused ps h x y →
       AreRefused (p ∷ ps) g x y

@@ -11,7 +11,6 @@ ghost use Rattle.saturation.specs.Trace.{operators_asked};
 ghost use Rattle.saturation.specs.Asking.{AreAsked, Adds};
 ghost use Rattle.saturation.specs.Instances.{asked_of};
 
-use crate::constants::given;
 use crate::instance::Instance;
 use axiom_base::{
     CALC_KINDS, Calc, Rule, calc_left, calc_right, computed_rules_are_true, constants_are_numbered,
@@ -19,7 +18,7 @@ use axiom_base::{
 };
 use egraph::Egraph;
 use items::{Items, NoMemory};
-use pattern_match::{calc_unmet, class_of_pattern, folds, matches_have_sorts, unmet};
+use pattern_match::{calc_given, calc_unmet, class_of_pattern, folds, matches_have_sorts, unmet};
 use std::alloc::Global;
 use word_ops::{Op, operators_are_listed};
 use word_terms::{Term, application, terms_are_trees};
@@ -119,7 +118,7 @@ fn ask_kind(
     let found = calc_unmet(alloc, graph, kind)?;
     for one in found.as_slice() {
         let places = one.classes.as_slice();
-        if let Some(e) = given(alloc, graph, kind, places)? {
+        if let Some(e) = calc_given(alloc, graph, kind, places)? {
             if let Some(class) = class_of_pattern(alloc, graph, &left, places)? {
                 asked.push(Instance {
                     right: calc_right(alloc, kind, e)?,

@@ -8,7 +8,7 @@ ghost use Rattle.goal_reader.specs.WellFormed.{IsGoal};
 ghost use Rattle.goal_reader.specs.declared.scopes.DeclaredOp.{DeclaredOp};
 ghost use Rattle.saturation.specs.AtStart.{IsStarted, IsGrownAtStart, StandsAtStart, StartFaultIs, IsHopelessAtStart, StartNamesLowClass, most_rows_at_start, CanInsertAll, CanAssume, CanAssumeAll, AssumeFaultIs, AssumeFaultOfAll};
 ghost use Rattle.saturation.specs.GoalTerms.{input_terms, assume_terms, guard_terms, set_terms, present_terms, assumed_pair};
-ghost use Rattle.saturation.specs.Trace.{AreInserted, IsAssumed, AreAssumed};
+ghost use Rattle.saturation.specs.Trace.{AreInserted, IsAssumeMade, AreAssumed};
 
 use crate::faults::StartFault;
 use crate::making::build;
@@ -127,7 +127,7 @@ fn assume_all(
 
 fn assume_equal(alloc: Global, graph: Egraph<Op>, assume: &Assume) -> Result<Egraph<Op>, StartFault>
     requires can { CanAssume graph (assume_view assume.now) }
-    ensures assumed { IfOk result (IsAssumed (assumed_pair (assume_view assume.now)) graph) }
+    ensures assumed { IfOk result (IsAssumeMade (assumed_pair (assume_view assume.now)) graph) }
     ensures fault { IfErr result (AssumeFaultIs (assumed_pair (assume_view assume.now)) graph) }
     ensures low { IfErr result StartNamesLowClass }
 {

@@ -10,7 +10,7 @@ ghost use Rattle.launch_graph.specs.declared.graphs.LaunchGraph.{LaunchGraph};
 ghost use Rattle.saturation.specs.GoalTerms.{assumed_pairs, kept_terms, present_terms, rules_of};
 ghost use Rattle.saturation.specs.GraphStands.{GraphStands};
 ghost use Rattle.saturation.specs.Grown.{IsGrown};
-ghost use Rattle.saturation.specs.Launched.{CanLaunch, IsLaunched};
+ghost use Rattle.saturation.specs.Launched.{CanMakeLaunchGraph, IsLaunched};
 ghost use Rattle.saturation.specs.StandsFor.{StandsFor};
 
 use crate::goal_laws::axioms_make_rules_true;
@@ -32,7 +32,7 @@ pub fn grown_graphs_can_be_launched()
     ensures can { (input : InputTree) (goal : GoalTree) (graph : Graph TermOperator) (j : ℕ) →
         IsInput input → Contains input.goals goal → IsGraph op_signature graph → length graph.rows < 2 ^ 30 →
         IsGrown (rules_of input) (present_terms goal) (assumed_pairs goal) graph j →
-        CanLaunch input.ops goal graph }
+        CanMakeLaunchGraph input.ops goal graph }
 {
     axioms_make_rules_true();
     schemes_are_true();

@@ -5,14 +5,14 @@ ghost use Rattle.word_terms.specs.View.{tree_of};
 ghost use Rattle.word_terms.specs.Keys.{op_signature};
 ghost use Rattle.word_terms.specs.Tree.{Tree, application, none};
 ghost use Rattle.egraph.specs.Graph.{HasClass, IsGraph};
-ghost use Rattle.pattern_match.specs.Classes.{CanRead, IsClass};
+ghost use Rattle.pattern_match.specs.Classes.{CanFindClass, IsClass};
 ghost use Rattle.goal_reader.specs.Views.{goal_view, input_view};
 ghost use Rattle.goal_reader.specs.WellFormed.{IsInput};
 ghost use Rattle.goal_reader.specs.declared.goals.InputReg.{InputReg as InputOf};
 ghost use Rattle.goal_reader.specs.declared.goals.Set.{Set as SetOf};
 ghost use Rattle.saturation.specs.GoalTerms.{input_term};
-ghost use Rattle.saturation.specs.Launched.{CanLaunch, IsKnown, IsLaunched, KeepsGrown, KeepsStop};
-ghost use Rattle.saturation.specs.Numbered.{AreClassNumbers, IsGuardNumber, IsInputNumber, IsNumberOf, IsSetNumber, launched_name, launched_row};
+ghost use Rattle.saturation.specs.Launched.{CanMakeLaunchGraph, IsKnown, IsLaunched, KeepsGrown, KeepsStop};
+ghost use Rattle.saturation.specs.Numbered.{AreClassNumbers, IsGuardNumber, IsInputNumber, IsClassNumber, IsSetNumber, launched_name, launched_row};
 ghost use Rattle.saturation.specs.StandsFor.{graph_view, has_select};
 
 use crate::numbering::{class_numbers, op_of_place, used_operators};
@@ -39,7 +39,7 @@ pub fn to_launch(
 ) -> Result<LaunchGraph, NoMemory>
     requires input { IsInput (input_view input.now) }
     requires goal { Contains (input_view input.now).goals (goal_view goal.now) }
-    requires can { CanLaunch input.now.ops (goal_view goal.now) saturated.now.graph }
+    requires can { CanMakeLaunchGraph input.now.ops (goal_view goal.now) saturated.now.graph }
     ensures launched { IfOk result (IsLaunched input.now.ops (goal_view goal.now) saturated.now.graph) }
     ensures grown { IfOk result (λ g. KeepsGrown saturated.now.graph (graph_view input.now.ops g)) }
     ensures stops { IfOk result (λ g. KeepsStop saturated.now.graph (graph_view input.now.ops g)) }
@@ -121,7 +121,7 @@ fn leaf_number(graph: &Egraph<Op>, numbers: &[u32], op: Op) -> u32
     requires graph { IsGraph op_signature graph.now }
     requires numbers { AreClassNumbers graph.now numbers.now }
     requires there { (c : ℕ) × IsClass graph.now [] (application op none) c }
-    ensures { IsNumberOf graph.now numbers.now (application op none) result }
+    ensures { IsClassNumber graph.now numbers.now (application op none) result }
 {
     numbers[graph.class_of(op, &[]).unwrap() as usize]
 }
@@ -133,10 +133,10 @@ fn term_number(
     numbers: &[u32],
     term: &Term<Op>,
 ) -> Result<u32, NoMemory>
-    requires can { CanRead graph.now [] (tree_of term.now) }
+    requires can { CanFindClass graph.now [] (tree_of term.now) }
     requires numbers { AreClassNumbers graph.now numbers.now }
     requires there { (c : ℕ) × IsClass graph.now [] (tree_of term.now) c }
-    ensures { IfOk result (IsNumberOf graph.now numbers.now (tree_of term.now)) }
+    ensures { IfOk result (IsClassNumber graph.now numbers.now (tree_of term.now)) }
 {
     let class = class_of_pattern(alloc, graph, term, &[])?.unwrap();
     Ok(numbers[class as usize])
@@ -171,7 +171,7 @@ fn launch_sets(
     sets: &[Set],
 ) -> Result<Vec<SetClass>, NoMemory>
     requires numbers { AreClassNumbers graph.now numbers.now }
-    requires can { All (λ (s : SetOf). CanRead graph.now [] (tree_of s.value)) sets.now }
+    requires can { All (λ (s : SetOf). CanFindClass graph.now [] (tree_of s.value)) sets.now }
     requires there { All (λ (s : SetOf). (c : ℕ) × IsClass graph.now [] (tree_of s.value) c) sets.now }
     ensures { IfOk result (λ classes. AllZip (IsSetNumber graph.now numbers.now) classes.items sets.now) }
 {
@@ -192,7 +192,7 @@ fn launch_guard(
     guard: &Option<Term<Op>>,
 ) -> Result<Option<Guard>, NoMemory>
     requires numbers { AreClassNumbers graph.now numbers.now }
-    requires can { IfSome guard.now (λ t. CanRead graph.now [] (tree_of t)) }
+    requires can { IfSome guard.now (λ t. CanFindClass graph.now [] (tree_of t)) }
     requires there { IfSome guard.now (λ t. (c : ℕ) × IsClass graph.now [] (tree_of t) c) }
     ensures { IfOk result (λ launched. IsGuardNumber graph.now numbers.now launched guard.now) }
 {

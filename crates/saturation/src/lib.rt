@@ -4,7 +4,6 @@
 
 mod asking;
 mod axiom_rules;
-mod constants;
 mod faults;
 mod first_graph;
 mod goal_laws;

@@ -3,7 +3,7 @@ use Rattle.std.proofs.Common.{◌≡◌, ℕ, ◌+◌, ◌<◌, ◌≤◌, List,
 use Rattle.std.specs.Prelude.{IsTrue, count_by, unwrap_or, Contains}
 use Rattle.machine_table.specs.Tables.{MayUse, use_of, latency_of, cluster_of}
 use Rattle.launch_graph.specs.Graphs.{memory_target, constant_of, is_memory_name}
-use Rattle.schedule_meaning.specs.Launches.{launches, is_store, is_load, is_branch, gives_word, memory_class_at, memory_before, memory_after, class_at, instr_at, operands_at, ready_in, IsFree, IsReadable, IsInput, Gives, Operand, is_held}
+use Rattle.schedule_meaning.specs.Launches.{launches, is_store, is_load, is_branch, gives_word, memory_class_at, memory_before, memory_after, class_at, instr_at, operands_at, ready_in, IsFree, IsReadable, IsClassOfInput, Gives, Operand, is_held}
 use Rattle.schedule_meaning.specs.Fits.{Collide, CanRead, IsReached, UsesMemory, Waits, Fits}
 use Rattle.schedule_meaning.specs.Broken.{number, NoEarlier, KeepsMemoryAt, Asks, AsksOfAll, IsKept, Breaks}
 use Rattle.schedule_meaning.specs.declared.fitting.Rule.{Rule}
@@ -41,7 +41,7 @@ module _ (g : LaunchGraph) (table : Table) (k : ℕ) (ls : List Launch) where
   abbrev pub dec_gives : (class : ℕ) (l : Launch) → Dec (Gives g class l)
   dec_gives class l = dec_and (dec_true (launches g gives_word l)) (dec_nat (class_at g l.row) class)
 
-  abbrev pub dec_input : (class : ℕ) → Dec (IsInput g class)
+  abbrev pub dec_input : (class : ℕ) → Dec (IsClassOfInput g class)
   dec_input class = dec_any (λ i. i.class ≡ class) (λ i. dec_nat i.class class) g.inputs
 
   abbrev pub dec_readable : (class cycle cluster : ℕ) → Dec (IsReadable g table ls class cycle cluster)

@@ -7,7 +7,7 @@ use Rattle.std.proofs.lemmas.List.{take_more, take_all}
 use Rattle.std.proofs.lemmas.List.Elements.{All-push, All-nil, All-cons, All-head, All-tail}
 use Rattle.machine_table.specs.Tables.{cluster_of}
 use Rattle.schedule_meaning.specs.Fits.{CanRead}
-use Rattle.schedule_meaning.specs.Launches.{Operand, operate_operands, operands_at, launches, gives_word, class_at, ready_in, Gives, IsFree, IsInput, IsZero}
+use Rattle.schedule_meaning.specs.Launches.{Operand, operate_operands, operands_at, launches, gives_word, class_at, ready_in, Gives, IsFree, IsClassOfInput, IsZero}
 use Rattle.launch_graph.specs.Graphs.{is_memory_name}
 use Rattle.schedule_meaning.specs.Fits.{IsReached}
 use Rattle.launch_graph.specs.declared.graphs.SetClass.{SetClass}
@@ -128,7 +128,7 @@ module _ (g : LaunchGraph) (table : Table) (l : Launch) (class : ℕ) where
       (and_both (launches g gives_word m) (class_at g m.row == class) h.0.0 ((Decides-eqb (class_at g m.row) class).1 h.0.1))
       (le_true (ready_in g table (cluster_of table l.slot) m) l.cycle h.1)
 
-  pub use_given : (ls : List Launch) (second b : Bool) → ¬ IsFree g (operand_of class second) → ¬ IsInput g class → IsTrue b ↔ Any (λ m. IsTrue (gives g class m && passes g table (Some l) m)) ls → IsTrue b ↔ CanUse g table ls l (operand_of class second)
+  pub use_given : (ls : List Launch) (second b : Bool) → ¬ IsFree g (operand_of class second) → ¬ IsClassOfInput g class → IsTrue b ↔ Any (λ m. IsTrue (gives g class m && passes g table (Some l) m)) ls → IsTrue b ↔ CanUse g table ls l (operand_of class second)
   use_given ls second b no_free no_input h =
       ((λ t. let a = h.0 t in inr (inr (a.0, a.1, a.2, a.3, given_from a.1 a.4))), back)
     where
@@ -151,7 +151,7 @@ module _ (g : LaunchGraph) (table : Table) (l : Launch) (class : ℕ) where
 
 -- ---- targets
 
-pub reached_last : (g : LaunchGraph) (table : Table) (ls : List Launch) (s : SetClass) (b : Bool) → is_memory_name s.name ≡ false → ¬ IsInput g s.class → ¬ IsZero g s.class → IsTrue b ↔ Any (λ m. IsTrue (gives g s.class m && passes g table None m)) ls → IsTrue b ↔ IsReached g ls s
+pub reached_last : (g : LaunchGraph) (table : Table) (ls : List Launch) (s : SetClass) (b : Bool) → is_memory_name s.name ≡ false → ¬ IsClassOfInput g s.class → ¬ IsZero g s.class → IsTrue b ↔ Any (λ m. IsTrue (gives g s.class m && passes g table None m)) ls → IsTrue b ↔ IsReached g ls s
 reached_last g table ls s b no_memory no_input no_zero h =
     let given = gives_without g table (record { cycle = 0; slot = 0; row = 0 }) s.class ls b h in
     ((λ t. inr (inr (inr (given.0 t)))), back given)

@@ -3,7 +3,7 @@
 use Rattle.std.specs.Prelude.{◌≡◌, ℕ, ◌+◌, ◌<◌, ◌≤◌, List, length, unwrap_or, All, AllPairs, Any, IsTrue, IsSomeAnd, IfSome, ◌⊎◌, count_by}
 use Rattle.machine_table.specs.Tables.{MayUse, latency_of, cluster_of}
 use Rattle.launch_graph.specs.Graphs.{memory_target, is_memory_name}
-use Rattle.schedule_meaning.specs.Launches.{instr_at, launches, is_load, is_store, is_branch, gives_word, operands_at, memory_class_at, class_at, IsZero, IsFree, IsInput, IsReadable, Gives, is_held}
+use Rattle.schedule_meaning.specs.Launches.{instr_at, launches, is_load, is_store, is_branch, gives_word, operands_at, memory_class_at, class_at, IsZero, IsFree, IsClassOfInput, IsReadable, Gives, is_held}
 use Rattle.machine_table.specs.declared.tables.Table.{Table}
 use Rattle.launch_graph.specs.declared.graphs.SetClass.{SetClass}
 use Rattle.launch_graph.specs.declared.graphs.LaunchGraph.{LaunchGraph}
@@ -28,7 +28,7 @@ EndsBy g table k l = l.cycle + unwrap_or (latency_of table (unwrap_or (instr_at 
 -- a set of a word has a place where its value is at the end
 abbrev pub IsReached : LaunchGraph → List Launch → SetClass → Type 0
 IsReached g ls s =
-    IsTrue (is_memory_name s.name) ⊎ IsInput g s.class ⊎ IsZero g s.class ⊎ Any (Gives g s.class) ls
+    IsTrue (is_memory_name s.name) ⊎ IsClassOfInput g s.class ⊎ IsZero g s.class ⊎ Any (Gives g s.class) ls
 
 -- the store is of the latest cycle below t in which there is one
 pub record IsLatestStore (g : LaunchGraph) (ls : List Launch) (t : ℕ) (l : Launch) : Type 0 where

@@ -135,12 +135,12 @@ gives g class l = launches g gives_word l && (class_at g l.row == class)
 abbrev pub ready_in : LaunchGraph → Table → ℕ → Launch → ℕ
 ready_in g table cluster l = ready table l.cycle l.slot (unwrap_or (instr_at g l.row) Beq) cluster
 
-abbrev pub IsInput : LaunchGraph → ℕ → Type 0
-IsInput g class = Any (λ i. i.class ≡ class) g.inputs
+abbrev pub IsClassOfInput : LaunchGraph → ℕ → Type 0
+IsClassOfInput g class = Any (λ i. i.class ≡ class) g.inputs
 
 abbrev pub IsReadable : LaunchGraph → Table → List Launch → ℕ → ℕ → ℕ → Type 0
 IsReadable g table ls class cycle cluster =
-    IsInput g class ⊎ Any (λ l. Gives g class l × (ready_in g table cluster l ≤ cycle)) ls
+    IsClassOfInput g class ⊎ Any (λ l. Gives g class l × (ready_in g table cluster l ≤ cycle)) ls
 
 -- ---- memory
 

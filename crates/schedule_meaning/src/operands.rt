@@ -13,7 +13,7 @@ use machine_table::{Table, operate_kind};
 use word_ops::{Op, WordOp};
 
 fn is_input(graph: &LaunchGraph, class: u32) -> bool
-    ensures { IsTrue result ↔ launches.IsInput graph.now class }
+    ensures { IsTrue result ↔ launches.IsClassOfInput graph.now class }
 {
     for input in graph.inputs.as_slice() {
         if input.class == class {

@@ -2,17 +2,17 @@
 use Rattle.std.proofs.Common.{◌≡◌, ℕ, suc, ◌+◌, List, [], ◌∷◌, ◌++◌, length, refl, sym, ap, ◌∙◌, subst, arith, append_assoc, append-nil, add-zero}
 use Rattle.text_core.specs.declared.tokens.Token.{Token}
 use Rattle.text_core.specs.declared.tokens.TokenKind.TheVariants as kinds
-use Rattle.text_core.specs.Building.{Frame, AreOpen, closed, within, AreBuilt}
+use Rattle.text_core.specs.Building.{Frame, AreOpen, closed, within, AreOpenLists}
 use Rattle.text_core.specs.Nesting.{IsBalanced, IsInside, outside, inside}
 use Rattle.text_core.specs.Sexps.{all_of}
 use Rattle.text_core.specs.Trees.{SexpTree, list, Spells, SpellAll, as_list, no_more}
 use Rattle.text_core.proofs.Forests.{spelled_more}
 
-pub built_none : AreBuilt [] [] []
+pub built_none : AreOpenLists [] [] []
 built_none = record { front = []; back = []; whole = refl; lists = closed; spelled = no_more }
 
 -- one tree more inside the innermost open list
-pub built_tree : (frames : List Frame) (parts : List SexpTree) (xs ys : List Token) (tree : SexpTree) → AreBuilt frames parts xs → Spells tree ys → AreBuilt frames (parts ++ tree ∷ []) (xs ++ ys)
+pub built_tree : (frames : List Frame) (parts : List SexpTree) (xs ys : List Token) (tree : SexpTree) → AreOpenLists frames parts xs → Spells tree ys → AreOpenLists frames (parts ++ tree ∷ []) (xs ++ ys)
 built_tree frames parts xs ys tree built one = record {
   front = built.front;
   back = built.back ++ ys;
@@ -29,7 +29,7 @@ open_more frames frame front back o (within {frame = f} {frames = more} first p 
     (ap (λ zs. (zs ++ back) ++ o ∷ []) same ∙ ap (λ zs. zs ++ o ∷ []) (append_assoc first (p ∷ behind) back) ∙ append_assoc first (p ∷ behind ++ back) (o ∷ []))
 
 -- one list more is open
-pub built_enter : (frames : List Frame) (parts : List SexpTree) (xs : List Token) (o : Token) → AreBuilt frames parts xs → o.kind ≡ kinds.Opening → AreBuilt (frames ++ (record { place = o.place; before = parts }) ∷ []) [] (xs ++ o ∷ [])
+pub built_enter : (frames : List Frame) (parts : List SexpTree) (xs : List Token) (o : Token) → AreOpenLists frames parts xs → o.kind ≡ kinds.Opening → AreOpenLists (frames ++ (record { place = o.place; before = parts }) ∷ []) [] (xs ++ o ∷ [])
 built_enter frames parts xs o built opens = record {
   front = built.front ++ built.back ++ o ∷ [];
   back = [];
@@ -87,7 +87,7 @@ open_less (g ∷ frames) frame xs all split (within {frame = f} {frames = more} 
     subst (λ (h : Frame). IsInnermost (h ∷ frames) frame xs) head (deepen f frame frames first behind xs p each opens place same (open_less frames frame behind more tail others))
 
 -- the innermost list is closed
-pub built_leave : (frames : List Frame) (frame : Frame) (parts : List SexpTree) (xs : List Token) (c : Token) → AreBuilt (frames ++ frame ∷ []) parts xs → c.kind ≡ kinds.Closing → AreBuilt frames (frame.before ++ list frame.place (all_of parts) ∷ []) (xs ++ c ∷ [])
+pub built_leave : (frames : List Frame) (frame : Frame) (parts : List SexpTree) (xs : List Token) (c : Token) → AreOpenLists (frames ++ frame ∷ []) parts xs → c.kind ≡ kinds.Closing → AreOpenLists frames (frame.before ++ list frame.place (all_of parts) ∷ []) (xs ++ c ∷ [])
 built_leave frames frame parts xs c built closes =
     let last = open_less frames frame built.front (frames ++ frame ∷ []) refl built.lists in
     let one = as_list {tokens = last.opening ∷ built.back ++ c ∷ []} last.opening c built.back last.opens last.placed built.spelled closes refl in
@@ -100,7 +100,7 @@ built_leave frames frame parts xs c built closes =
     }
 
 -- nothing is open, so the tokens spell trees
-pub built_whole : (parts : List SexpTree) (xs : List Token) → AreBuilt [] parts xs → SpellAll (all_of parts) xs
+pub built_whole : (parts : List SexpTree) (xs : List Token) → AreOpenLists [] parts xs → SpellAll (all_of parts) xs
 built_whole parts xs built =
     let none = nothing_open [] built.front refl built.lists in
     subst (SpellAll (all_of parts)) (sym (built.whole ∙ ap (λ zs. zs ++ built.back) none)) built.spelled
@@ -120,7 +120,7 @@ open_inside frames n zs xs h (within {frame = f} {frames = more} first p behind 
     let joined : (zs ++ first ++ p ∷ []) ++ behind ≡ zs ++ xs = append_assoc (zs ++ first) (p ∷ []) behind ∙ (append_assoc zs first (p ∷ behind) ∙ ap (λ ws. zs ++ ws) (sym same)) in
     subst (λ (m : ℕ). IsInsideBefore m (zs ++ xs)) counted (subst (IsInsideBefore (suc n + length more)) joined rest)
 
-pub built_inside : (frames : List Frame) (parts : List SexpTree) (xs : List Token) → AreBuilt frames parts xs → IsInside (length frames) xs
+pub built_inside : (frames : List Frame) (parts : List SexpTree) (xs : List Token) → AreOpenLists frames parts xs → IsInside (length frames) xs
 unfolding IsInsideBefore
 built_inside frames parts xs built =
     let start : IsInsideBefore 0 [] = λ ys balanced. outside in

@@ -3,7 +3,7 @@ use Rattle.std.proofs.Common.{◌≡◌, ℕ, ◌+◌, ◌-◌, ◌≤◌, max, 
 use Rattle.text_core.specs.declared.tokens.Token.{Token}
 use Rattle.text_core.specs.declared.tokens.TokenKind.{TokenKind}
 use Rattle.text_core.specs.declared.tokens.TokenKind.TheVariants as kinds
-use Rattle.text_core.specs.Building.{peak, peak_before, Frame, AreOpen, closed, within, AreBuilt}
+use Rattle.text_core.specs.Building.{peak, peak_before, Frame, AreOpen, closed, within, AreOpenLists}
 use Rattle.text_core.specs.Nesting.{HasClosing, HasOpening, IsInside, outside, inside}
 use Rattle.text_core.specs.Sexps.{all_of}
 use Rattle.text_core.specs.Trees.{SexpTree, SexpTrees, IsAtom, name, register, number, Spells, SpellAll, as_atom, as_list, no_more, one_more, depth, most_depth}
@@ -134,7 +134,7 @@ open_levels frames xs (within {frame = frame} {frames = more} front o behind spe
       omega (arith, ap extra same, extra-append front (o ∷ behind), extra-opening o behind opens, levels.extras, rest.0, rest.1),
     )
 
-pub built_levels : (frames : List Frame) (parts : List SexpTree) (xs : List Token) → AreBuilt frames parts xs → (need xs ≡ 0) × (extra xs ≡ length frames)
+pub built_levels : (frames : List Frame) (parts : List SexpTree) (xs : List Token) → AreOpenLists frames parts xs → (need xs ≡ 0) × (extra xs ≡ length frames)
 built_levels frames parts xs built =
     let lists = open_levels frames built.front built.lists in
     let levels = spelled_levels (all_of parts) built.back built.spelled in (

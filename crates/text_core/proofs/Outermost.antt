@@ -5,7 +5,7 @@ use Rattle.text_core.specs.declared.faults.Kind.TheVariants.{Unclosed, TooDeep}
 use Rattle.text_core.specs.declared.tokens.Token.{Token}
 use Rattle.text_core.specs.declared.tokens.TokenKind.{TokenKind}
 use Rattle.text_core.specs.declared.tokens.TokenKind.TheVariants as kinds
-use Rattle.text_core.specs.Building.{Frame, within, AreBuilt, IsStillOpen, peak, depth_behind}
+use Rattle.text_core.specs.Building.{Frame, within, AreOpenLists, IsStillOpen, peak, depth_behind}
 use Rattle.text_core.specs.Nesting.{IsInside, IsFirstTreeFault}
 use Rattle.text_core.specs.Sexps.{all_of}
 use Rattle.text_core.specs.Trees.{SexpTree, SexpTrees, atom, list, IsAtom, name, register, number, SpellAll, as_atom, as_list}
@@ -19,7 +19,7 @@ use Rattle.text_core.proofs.Misplaced.{too_deep_first, unclosed_first}
 record IsAllBuilt (count : ℕ) (tokens : List Token) : Type 0 where
   frames : List Frame
   parts : List SexpTree
-  built : AreBuilt frames parts tokens
+  built : AreOpenLists frames parts tokens
   counted : length frames ≡ count
 
 all_built : (tokens : List Token) (at place index count : ℕ) → IsStillOpen tokens at place index count → IsAllBuilt count (take index tokens)
@@ -39,7 +39,7 @@ all_built tokens at place index count still =
     }
 
 -- with one token more, where the outermost list is still open
-still_with : (tokens : List Token) (at place index next count new : ℕ) (t : Token) (frames : List Frame) (parts : List SexpTree) (still : IsStillOpen tokens at place index count) → take next tokens ≡ take index tokens ++ t ∷ [] → AreBuilt frames parts (still.behind ++ t ∷ []) → new ≡ 1 + length frames → IsStillOpen tokens at place next new
+still_with : (tokens : List Token) (at place index next count new : ℕ) (t : Token) (frames : List Frame) (parts : List SexpTree) (still : IsStillOpen tokens at place index count) → take next tokens ≡ take index tokens ++ t ∷ [] → AreOpenLists frames parts (still.behind ++ t ∷ []) → new ≡ 1 + length frames → IsStillOpen tokens at place next new
 still_with tokens at place index next count new t frames parts still more built counted = record {
   before = still.before;
   frames = frames;
@@ -61,7 +61,7 @@ still_left tokens at place index next count t [] still is more closes some =
     absurd (omega (arith, still.counted, ap length is))
 still_left tokens at place index next count t (f ∷ frames) still is more closes some =
     let last = last_of f frames in
-    let built : AreBuilt (last.0 ++ last.1 ∷ []) still.parts still.behind = subst (λ fs. AreBuilt fs still.parts still.behind) (sym is ∙ last.2) still.built in
+    let built : AreOpenLists (last.0 ++ last.1 ∷ []) still.parts still.behind = subst (λ fs. AreOpenLists fs still.parts still.behind) (sym is ∙ last.2) still.built in
     still_with tokens at place index next count (count - 1) t last.0 (last.1.before ++ list last.1.place (all_of still.parts) ∷ []) still more (built_leave last.0 last.1 still.parts still.behind t built closes)
     (omega (arith, still.counted, ap length (sym is ∙ last.2), length-append last.0 (last.1 ∷ [])))
 
@@ -101,7 +101,7 @@ nothing_else (f ∷ frames) one = absurd (omega arith)
 ended : (tokens : List Token) (at place index : ℕ) (c : Token) → IsStillOpen tokens at place index 1 → c.kind ≡ kinds.Closing → take (index + 1) tokens ≡ take index tokens ++ c ∷ [] → (trees : SexpTrees) × SpellAll trees (take (index + 1) tokens)
 ended tokens at place index c still closes more =
     let none = nothing_else still.frames still.counted in
-    let inner = built_whole still.parts still.behind (subst (λ fs. AreBuilt fs still.parts still.behind) none still.built) in
+    let inner = built_whole still.parts still.behind (subst (λ fs. AreOpenLists fs still.parts still.behind) none still.built) in
     let one = as_list {tokens = still.opening ∷ still.behind ++ c ∷ []} still.opening c still.behind still.opens still.placed inner closes refl in
     let all = spelled_more still.before (list place (all_of still.parts)) still.front (still.opening ∷ still.behind ++ c ∷ []) still.spelled one in
     let whole : take (index + 1) tokens ≡ still.front ++ (still.opening ∷ still.behind ++ c ∷ []) = more ∙ (ap (λ zs. zs ++ c ∷ []) still.whole ∙ append_assoc still.front (still.opening ∷ still.behind) (c ∷ [])) in

@@ -6,7 +6,7 @@ use Rattle.text_core.specs.declared.parser.OpenList.{OpenList}
 use Rattle.text_core.specs.declared.tokens.Token.{Token}
 use Rattle.text_core.specs.declared.tokens.TokenKind.{TokenKind}
 use Rattle.text_core.specs.declared.tokens.TokenKind.TheVariants as kinds
-use Rattle.text_core.specs.Building.{Frame, frame_of, AreOpen, closed, within, AreBuilt, IsStillOpen, peak, peak_before}
+use Rattle.text_core.specs.Building.{Frame, frame_of, AreOpen, closed, within, AreOpenLists, IsStillOpen, peak, peak_before}
 use Rattle.text_core.specs.Nesting.{IsFirstTreeFault}
 use Rattle.text_core.specs.Sexps.{all_of}
 use Rattle.text_core.specs.Trees.{SexpTree, atom, list, IsAtom, name, register, number, SpellAll, as_atom, HasTrees}
@@ -17,7 +17,7 @@ use Rattle.text_core.proofs.Outermost.{take_next, split_at, outermost_fault}
 
 -- what a parser has read, apart from how it is kept
 pub record IsRead (frames : List Frame) (parts : List SexpTree) (tokens : List Token) (at : ℕ) : Type 0 where
-  pub built : AreBuilt frames parts (take at tokens)
+  pub built : AreOpenLists frames parts (take at tokens)
   pub nested : peak (take at tokens) ≤ 64
 
 module _ (frames : List Frame) (parts : List SexpTree) (tokens : List Token) (at : ℕ) (d : Token) (read : IsRead frames parts tokens at) (bound : at < length tokens) where
@@ -30,22 +30,22 @@ module _ (frames : List Frame) (parts : List SexpTree) (tokens : List Token) (at
   low : peak_before (get_or tokens at d).kind 0 + length frames ≤ 64 → peak (take (at + 1) tokens) ≤ 64
   low fits = rw (take_next tokens at d bound) (peak_more (take at tokens) (get_or tokens at d) levels.0 read.nested (omega (arith, levels, fits)))
 
-  built_next : (frames' : List Frame) (parts' : List SexpTree) → AreBuilt frames' parts' (take at tokens ++ get_or tokens at d ∷ []) → AreBuilt frames' parts' (take (at + 1) tokens)
-  built_next frames' parts' built = subst (AreBuilt frames' parts') (sym (take_next tokens at d bound)) built
+  built_next : (frames' : List Frame) (parts' : List SexpTree) → AreOpenLists frames' parts' (take at tokens ++ get_or tokens at d ∷ []) → AreOpenLists frames' parts' (take (at + 1) tokens)
+  built_next frames' parts' built = subst (AreOpenLists frames' parts') (sym (take_next tokens at d bound)) built
 
   pub read_opening : (frames' : List Frame) (parts' : List SexpTree) → (get_or tokens at d).kind ≡ kinds.Opening → (length frames ≡ 64 → ⊥) → frames' ≡ frames ++ (record { place = (get_or tokens at d).place; before = parts }) ∷ [] → parts' ≡ [] → IsRead frames' parts' tokens (at + 1)
   read_opening frames' parts' opens room is_frames is_parts = record {
-    built = subst (λ fs. AreBuilt fs parts' (take (at + 1) tokens)) (sym is_frames)
-        (subst (λ ps. AreBuilt (frames ++ (record { place = (get_or tokens at d).place; before = parts }) ∷ []) ps (take (at + 1) tokens)) (sym is_parts)
+    built = subst (λ fs. AreOpenLists fs parts' (take (at + 1) tokens)) (sym is_frames)
+        (subst (λ ps. AreOpenLists (frames ++ (record { place = (get_or tokens at d).place; before = parts }) ∷ []) ps (take (at + 1) tokens)) (sym is_parts)
         (built_next (frames ++ (record { place = (get_or tokens at d).place; before = parts }) ∷ []) [] (built_enter frames parts (take at tokens) (get_or tokens at d) read.built opens)));
     nested = low (omega (arith, ap (λ k. peak_before k 0) opens, few_open, room));
   }
 
   pub read_closing : (rest : List Frame) (frame : Frame) (frames' : List Frame) (parts' : List SexpTree) → (get_or tokens at d).kind ≡ kinds.Closing → frames ≡ rest ++ frame ∷ [] → frames' ≡ rest → parts' ≡ frame.before ++ list frame.place (all_of parts) ∷ [] → IsRead frames' parts' tokens (at + 1)
   read_closing rest frame frames' parts' closes split is_frames is_parts = record {
-    built = subst (λ fs. AreBuilt fs parts' (take (at + 1) tokens)) (sym is_frames)
-        (subst (λ ps. AreBuilt rest ps (take (at + 1) tokens)) (sym is_parts)
-        (built_next rest (frame.before ++ list frame.place (all_of parts) ∷ []) (built_leave rest frame parts (take at tokens) (get_or tokens at d) (subst (λ fs. AreBuilt fs parts (take at tokens)) split read.built) closes)));
+    built = subst (λ fs. AreOpenLists fs parts' (take (at + 1) tokens)) (sym is_frames)
+        (subst (λ ps. AreOpenLists rest ps (take (at + 1) tokens)) (sym is_parts)
+        (built_next rest (frame.before ++ list frame.place (all_of parts) ∷ []) (built_leave rest frame parts (take at tokens) (get_or tokens at d) (subst (λ fs. AreOpenLists fs parts (take at tokens)) split read.built) closes)));
     nested = low (omega (arith, ap (λ k. peak_before k 0) closes, few_open));
   }
 
@@ -56,15 +56,15 @@ module _ (frames : List Frame) (parts : List SexpTree) (tokens : List Token) (at
 
   pub read_atom : (frames' : List Frame) (parts' : List SexpTree) → IsAtom (get_or tokens at d).kind → frames' ≡ frames → parts' ≡ parts ++ atom (get_or tokens at d) ∷ [] → IsRead frames' parts' tokens (at + 1)
   read_atom frames' parts' is is_frames is_parts = record {
-    built = subst (λ fs. AreBuilt fs parts' (take (at + 1) tokens)) (sym is_frames)
-        (subst (λ ps. AreBuilt frames ps (take (at + 1) tokens)) (sym is_parts)
+    built = subst (λ fs. AreOpenLists fs parts' (take (at + 1) tokens)) (sym is_frames)
+        (subst (λ ps. AreOpenLists frames ps (take (at + 1) tokens)) (sym is_parts)
         (built_next frames (parts ++ atom (get_or tokens at d) ∷ []) (built_tree frames parts (take at tokens) (get_or tokens at d ∷ []) (atom (get_or tokens at d)) read.built (as_atom is refl))));
     nested = low (omega (arith, no_peak (get_or tokens at d).kind is, few_open));
   }
 
   pub unopened_fault : frames ≡ [] → (get_or tokens at d).kind ≡ kinds.Closing → IsFirstTreeFault tokens (get_or tokens at d).place Unopened
   unopened_fault none closes =
-      unopened_first (all_of parts) tokens (take at tokens) (drop (at + 1) tokens) (get_or tokens at d) (split_at tokens at d bound) (built_whole parts (take at tokens) (subst (λ fs. AreBuilt fs parts (take at tokens)) none read.built)) read.nested closes
+      unopened_first (all_of parts) tokens (take at tokens) (drop (at + 1) tokens) (get_or tokens at d) (split_at tokens at d bound) (built_whole parts (take at tokens) (subst (λ fs. AreOpenLists fs parts (take at tokens)) none read.built)) read.nested closes
 
 -- the outermost of some open lists
 still : (frames : List Frame) (frame : Frame) (more : List Frame) (parts : List SexpTree) (tokens xs back : List Token) (at : ℕ) → frames ≡ frame ∷ more → AreOpen frames xs → take at tokens ≡ xs ++ back → SpellAll (all_of parts) back → IsStillOpen tokens at frame.place at (1 + length more)
@@ -118,14 +118,14 @@ other_kind (kinds.Number v) opening closing = number
 -- nothing is read at first
 pub read_none : (frames : List Frame) (parts : List SexpTree) (tokens : List Token) → frames ≡ [] → parts ≡ [] → IsRead frames parts tokens 0
 read_none frames parts tokens no_frames no_parts = record {
-  built = subst (λ fs. AreBuilt fs parts []) (sym no_frames) (subst (λ ps. AreBuilt [] ps []) (sym no_parts) built_none);
+  built = subst (λ fs. AreOpenLists fs parts []) (sym no_frames) (subst (λ ps. AreOpenLists [] ps []) (sym no_parts) built_none);
   nested = omega arith;
 }
 
 -- all is read in the end
 pub read_all : (frames : List Frame) (parts : List SexpTree) (tokens : List Token) (at : ℕ) → frames ≡ [] → length tokens ≤ at → IsRead frames parts tokens at → HasTrees tokens (all_of parts)
 read_all frames parts tokens at none end read =
-    let spelled = subst (SpellAll (all_of parts)) (take_all at tokens end) (built_whole parts (take at tokens) (subst (λ fs. AreBuilt fs parts (take at tokens)) none read.built)) in
+    let spelled = subst (SpellAll (all_of parts)) (take_all at tokens end) (built_whole parts (take at tokens) (subst (λ fs. AreOpenLists fs parts (take at tokens)) none read.built)) in
     record { spelled = spelled; nested = omega (arith, (spelled_levels (all_of parts) tokens spelled).peaks, ap peak (take_all at tokens end), read.nested) }
 
 -- the outermost of the parser's open lists is unclosed in the end

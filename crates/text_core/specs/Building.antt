@@ -26,7 +26,7 @@ pub data AreOpen : List Frame → List Token → Type 0 where
       → tokens ≡ front ++ opening ∷ behind → AreOpen (frame ∷ frames) tokens
 
 -- open lists, outermost first, and then the parts so far of the innermost
-pub record AreBuilt (frames : List Frame) (parts : List SexpTree) (tokens : List Token) : Type 0 where
+pub record AreOpenLists (frames : List Frame) (parts : List SexpTree) (tokens : List Token) : Type 0 where
   pub front : List Token
   pub back : List Token
   pub whole : tokens ≡ front ++ back
@@ -45,7 +45,7 @@ peak (token ∷ tokens) = peak_before token.kind (peak tokens)
 
 -- The parser has read the first tokens, and no more than 64 parentheses stood open.
 pub record IsParsedTo (tokens : List Token) (at : ℕ) (parser : Parser) : Type 0 where
-  pub built : AreBuilt (map frame_of parser.outer.items) (map sexp_tree parser.parts.items) (take at tokens)
+  pub built : AreOpenLists (map frame_of parser.outer.items) (map sexp_tree parser.parts.items) (take at tokens)
   pub nested : peak (take at tokens) ≤ 64
 
 -- how many parentheses stand open behind a token, of those before it
@@ -68,7 +68,7 @@ pub record IsStillOpen (tokens : List Token) (at place index count : ℕ) : Type
   pub spelled : SpellAll (all_of before) front
   pub opens : opening.kind ≡ kinds.Opening
   pub placed : opening.place ≡ place
-  pub built : AreBuilt frames parts behind
+  pub built : AreOpenLists frames parts behind
   pub counted : count ≡ 1 + length frames
 
 -- the token of this index is an opening parenthesis

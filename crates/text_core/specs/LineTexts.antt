@@ -7,6 +7,10 @@ use Rattle.text_core.specs.Lines.{Line, IsLineWord}
 abbrev pub Words : Type 0
 Words = List (List ℕ)
 
+-- no value of the kind has these words
+abbrev pub SaysNone : {X : Type 0} → (Words → X → Type 0) → Words → Type 0
+SaysNone {X} Is words = (x : X) → Is words x → ⊥
+
 -- one space between words, and a line feed
 abbrev pub line_text : Words → List ℕ
 line_text [] = codes "\n"

@@ -1,5 +1,5 @@
 -- Texts of lines of words: answers and programs. Source: this project.
-use Rattle.std.specs.Prelude.{ℕ, ◌≡◌, ◌≢◌, ◌+◌, ◌⊎◌, Bool, true, false, not, ◌||◌, ◌==◌, List, [], ◌∷◌, ◌++◌, length, slice_index_or}
+use Rattle.std.specs.Prelude.{ℕ, ◌≡◌, ◌≢◌, ◌+◌, ◌<◌, ◌⊎◌, Bool, true, false, not, ◌||◌, ◌==◌, List, [], ◌∷◌, ◌++◌, length, slice_index_or}
 use Rattle.std.specs.Int.{is_in_range}
 use Rattle.std.specs.List.{list_all}
 use Rattle.text_core.specs.declared.faults.Kind.{Kind}
@@ -107,3 +107,8 @@ line_length (bytes ∷ words) = length bytes + 1 + line_length words
 abbrev pub text_length : List Line → ℕ
 text_length [] = 0
 text_length (one ∷ lines) = line_length one.words + text_length lines
+
+-- where a line begins, and where the text ends in place of a line past the last
+pub record BeginsAt (lines : List Line) (number place : ℕ) : Type 0 where
+  pub within : number < length lines → place ≡ (line_at lines number).place
+  pub past : number ≡ length lines → place ≡ text_length lines

@@ -1,6 +1,6 @@
 use Rattle.std.proofs.Common.{◌+◌, ◌<◌, length, sym, subst, arith}
 use Rattle.answer_texts.specs.AnswerLines.{inst_words}
-use Rattle.answer_texts.specs.AnswerParts.{AreUses}
+use Rattle.answer_texts.specs.AnswerParts.{AreTableUses}
 use Rattle.answer_texts.specs.LineParts.{AreLinesTo}
 use Rattle.answer_texts.proofs.WordsRuns.{more_lines}
 use Rattle.answer_texts.proofs.table_reading.read_uses.Goals as goal
@@ -12,5 +12,5 @@ loop-line-preserved c =
     let lt : c.loop-line.line < length lines = (let n = c.count-line-end.ensures.count in let l = c.loop-line-test.true in omega arith) in
     let found = rw c.in-Some.is at c.in_ok-one.ensures in
     let read = rw c.as_slice.ensures at found in
-    subst (AreLinesTo (inst_words slots) (AreUses slots c.args.cross) lines c.args.from (c.loop-line.line + 1)) (sym c.in_ok-push-in-Some.ensures.ok)
-    (more_lines (inst_words slots) (AreUses slots c.args.cross) lines c.args.from c.loop-line.line c.loop-line.uses c.in-Some.one c.loop-line.invariant lt read.0 read.1)
+    subst (AreLinesTo (inst_words slots) (AreTableUses slots c.args.cross) lines c.args.from (c.loop-line.line + 1)) (sym c.in_ok-push-in-Some.ensures.ok)
+    (more_lines (inst_words slots) (AreTableUses slots c.args.cross) lines c.args.from c.loop-line.line c.loop-line.uses c.in-Some.one c.loop-line.invariant lt read.0 read.1)

@@ -1,7 +1,8 @@
 use Rattle.std.proofs.Common.{◌+◌, ◌∷◌, [], take}
 use Rattle.std.specs.Prelude.{◌==◌, length, slice_index}
 use Rattle.schedule_meaning.specs.Launches.{operate_operands}
-use Rattle.cycle_encoding.specs.Facts.{made_among, operand_of}
+use Rattle.schedule_meaning.specs.Readers.{operand_of}
+use Rattle.cycle_encoding.specs.Facts.{made_among}
 use Rattle.cycle_encoding.proofs.Tables.{grown, same}
 use Rattle.cycle_encoding.proofs.OperandLists.{operate_more, operate_done}
 use Rattle.cycle_encoding.proofs.operands.push_operate.Goals as goal

@@ -1,12 +1,12 @@
 use Rattle.std.proofs.Common.{Some, ap, ◌∙◌, sym, subst}
 use Rattle.forms.specs.Forms.{name_in}
-use Rattle.forms.specs.Reading.{IsOf}
+use Rattle.forms.specs.Reading.{IsSexpOf}
 use Rattle.forms.proofs.Views.{atom_name, atom_no_name, list_form}
 use Rattle.text_core.specs.Names.{IsName}
 use Rattle.forms.proofs.reading.name.Goals as goal
 
 pub bytes-requires : goal.bytes-requires
-bytes-requires c = c.sexps_are_forms.ensures.within c.args.text.now c.in-Atom.token (subst (IsOf c.args.text.now) c.in-Atom.is c.requires.of)
+bytes-requires c = c.sexps_are_forms.ensures.within c.args.text.now c.in-Atom.token (subst (IsSexpOf c.args.text.now) c.in-Atom.is c.requires.of)
 
 pub returns-in-Name-clause-name : goal.returns-in-Name-clause-name
 returns-in-Name-clause-name c =
@@ -14,7 +14,7 @@ returns-in-Name-clause-name c =
 
 pub returns-in-Name-clause-named : goal.returns-in-Name-clause-named
 returns-in-Name-clause-named c =
-    subst IsName (sym c.bytes.ensures) (c.sexps_are_forms.ensures.named c.args.text.now c.in-Atom.token (subst (IsOf c.args.text.now) c.in-Atom.is c.requires.of) c.in-Name.is)
+    subst IsName (sym c.bytes.ensures) (c.sexps_are_forms.ensures.named c.args.text.now c.in-Atom.token (subst (IsSexpOf c.args.text.now) c.in-Atom.is c.requires.of) c.in-Name.is)
 
 pub returns-in_default-clause-name : goal.returns-in_default-clause-name
 returns-in_default-clause-name c = atom_no_name c.args.text.now (c.sexps_are_forms.ensures.atoms c.args.text.now) c.args.form.now c.in-Atom.token c.in-Atom.is c.in_default.not-Name

@@ -1,6 +1,6 @@
 use Rattle.std.proofs.Common.{ap, ◌∙◌, sym, subst, All}
 use Rattle.forms.specs.Forms.{is_list, list, place_of, forms_from, sexp_forms, sexp_form}
-use Rattle.forms.specs.Reading.{IsOf}
+use Rattle.forms.specs.Reading.{IsSexpOf}
 use Rattle.forms.proofs.Views.{atom_form, list_form}
 use Rattle.forms.proofs.reading.parts.Goals as goal
 
@@ -15,4 +15,4 @@ returns-in-List-clause-parts c = λ text.
 
 pub returns-in-List-clause-of : goal.returns-in-List-clause-of
 returns-in-List-clause-of c = λ text of.
-    subst (All (IsOf text)) (sym c.as_slice.ensures.value) (c.sexps_are_forms.ensures.parts text c.in-List.place c.in-List.parts (subst (IsOf text) c.in-List.is of))
+    subst (All (IsSexpOf text)) (sym c.as_slice.ensures.value) (c.sexps_are_forms.ensures.parts text c.in-List.place c.in-List.parts (subst (IsSexpOf text) c.in-List.is of))

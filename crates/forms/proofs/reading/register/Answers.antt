@@ -1,11 +1,11 @@
 use Rattle.std.proofs.Common.{Some, ap, ◌∙◌, sym, subst}
 use Rattle.forms.specs.Forms.{register_in}
-use Rattle.forms.specs.Reading.{IsOf}
+use Rattle.forms.specs.Reading.{IsSexpOf}
 use Rattle.forms.proofs.Views.{atom_register, atom_no_register, list_form}
 use Rattle.forms.proofs.reading.register.Goals as goal
 
 pub bytes-requires : goal.bytes-requires
-bytes-requires c = c.sexps_are_forms.ensures.within c.args.text.now c.in-Atom.token (subst (IsOf c.args.text.now) c.in-Atom.is c.requires.of)
+bytes-requires c = c.sexps_are_forms.ensures.within c.args.text.now c.in-Atom.token (subst (IsSexpOf c.args.text.now) c.in-Atom.is c.requires.of)
 
 pub returns-in-Register : goal.returns-in-Register
 returns-in-Register c =

@@ -3,10 +3,10 @@ use Rattle.word_ops.specs.declared.sorts.Sort.{Sort}
 use Rattle.word_terms.specs.View.{tree_of}
 use Rattle.text_core.specs.declared.faults.Kind.TheVariants.{BadForm}
 use Rattle.text_core.specs.Faults.{IsFirst, IsFaultBy}
-use Rattle.forms.specs.Forms.{place_of, sexp_form, parts_of}
+use Rattle.forms.specs.Forms.{place_of, sexp_form, parts_of, part}
 use Rattle.forms.proofs.Told.{told, told_of_part}
 use Rattle.goal_reader.specs.Roles as roles
-use Rattle.goal_reader.specs.Roles.{Role, Shape, IsFaultAs, part, sort_in, ◌>>=◌, WritesTerm}
+use Rattle.goal_reader.specs.Roles.{Role, Shape, IsFaultAs, sort_in, ◌>>=◌, WritesTerm}
 use Rattle.goal_reader.proofs.Fixed.{short_first, clear_none, clear_more, part_first, whole_clear, wrong_first}
 use Rattle.goal_reader.proofs.NewNames.{nth_part, part_of, count_form}
 use Rattle.goal_reader.proofs.Apart.{writes_clear}

@@ -3,7 +3,7 @@ use Rattle.word_ops.specs.declared.sorts.Sort.TheVariants as sorts
 use Rattle.text_core.specs.declared.faults.Kind.TheVariants.{BadForm}
 use Rattle.text_core.specs.Faults.{IsFirst, IsFaultBy}
 use Rattle.word_terms.specs.View.{tree_of}
-use Rattle.forms.specs.Forms.{place_of, sexp_form, parts_of}
+use Rattle.forms.specs.Forms.{place_of, sexp_form, parts_of, names_in}
 use Rattle.forms.proofs.Told.{told, told_of_part}
 use Rattle.goal_reader.specs.declared.scopes.DeclaredOp.{DeclaredOp}
 use Rattle.goal_reader.specs.declared.scopes.Scope.{Scope}
@@ -11,7 +11,7 @@ use Rattle.goal_reader.specs.declared.goals.Axiom.{Axiom}
 use Rattle.goal_reader.specs.Grammar.{axiom_scope}
 use Rattle.goal_reader.specs.Reading.{IsClear, mentioned_scope}
 use Rattle.goal_reader.specs.Roles as roles
-use Rattle.goal_reader.specs.Roles.{Role, Shape, IsFaultAs, WritesTerm, names_in, left_scope, right_scope}
+use Rattle.goal_reader.specs.Roles.{Role, Shape, IsFaultAs, WritesTerm, left_scope, right_scope}
 use Rattle.goal_reader.proofs.Apart.{writes_clear}
 use Rattle.goal_reader.proofs.AxiomForms.{equation_only, left_same, right_same, axiom_written}
 use Rattle.goal_reader.proofs.Fixed.{short_first, clear_none, clear_more, part_first, whole_clear, wrong_first}

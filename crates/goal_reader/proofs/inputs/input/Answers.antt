@@ -4,7 +4,7 @@ use Rattle.forms.specs.Forms.{place_of, sexp_form, parts_of}
 use Rattle.forms.proofs.Told.{told, told_of_part}
 use Rattle.goal_reader.specs.Roles as roles
 use Rattle.goal_reader.specs.Roles.{Role, Shape, IsFaultAs, names_of_declared}
-use Rattle.goal_reader.specs.Reading.{names_of_inputs, registers_of}
+use Rattle.goal_reader.specs.Reading.{names_of_inputs, input_registers}
 use Rattle.goal_reader.proofs.Fixed.{short_first, clear_none, clear_more, part_first, whole_clear, wrong_first}
 use Rattle.goal_reader.proofs.NewNames.{own_name_clear, fresh_register_clear, input_only, nth_part, part_of, count_form, input_found}
 use Rattle.goal_reader.proofs.inputs.input.Goals as goal
@@ -17,7 +17,7 @@ returns-then-parts-lt3-clause-fault c =
     let parts = c.in-Some.parts.now in
     let is = c.in-Some.ensures.parts text in
     let shape : Shape = roles.input c.args.declared.now c.args.inputs.now in
-    let each : List Role = roles.own_name (names_of_declared c.args.declared.now ++ names_of_inputs c.args.inputs.now) ∷ roles.fresh_register (registers_of c.args.inputs.now) ∷ [] in
+    let each : List Role = roles.own_name (names_of_declared c.args.declared.now ++ names_of_inputs c.args.inputs.now) ∷ roles.fresh_register (input_registers c.args.inputs.now) ∷ [] in
     let only = input_only c.args.declared.now c.args.inputs.now form in
     let count = count_form text form (place_of form) parts is in
     told (IsFaultAs (roles.a_list shape) form) c.at.result c.place.result (place_of form) _ c.at.ensures (c.place.ensures text)
@@ -31,7 +31,7 @@ returns-in-Err-clause-fault c =
     let parts = c.in-Some.parts.now in
     let is = c.in-Some.ensures.parts text in
     let shape : Shape = roles.input c.args.declared.now c.args.inputs.now in
-    let each : List Role = roles.own_name (names_of_declared c.args.declared.now ++ names_of_inputs c.args.inputs.now) ∷ roles.fresh_register (registers_of c.args.inputs.now) ∷ [] in
+    let each : List Role = roles.own_name (names_of_declared c.args.declared.now ++ names_of_inputs c.args.inputs.now) ∷ roles.fresh_register (input_registers c.args.inputs.now) ∷ [] in
     let only = input_only c.args.declared.now c.args.inputs.now form in
     let count = count_form text form (place_of form) parts is in
     let enough : length (parts_of form) < 3 → ⊥ = λ l. (let f = c.if-parts-lt3.false in omega (arith, count, l, f)) in
@@ -48,7 +48,7 @@ returns-in-Err-fresh_register-clause-fault c =
     let parts = c.in-Some.parts.now in
     let is = c.in-Some.ensures.parts text in
     let shape : Shape = roles.input c.args.declared.now c.args.inputs.now in
-    let each : List Role = roles.own_name (names_of_declared c.args.declared.now ++ names_of_inputs c.args.inputs.now) ∷ roles.fresh_register (registers_of c.args.inputs.now) ∷ [] in
+    let each : List Role = roles.own_name (names_of_declared c.args.declared.now ++ names_of_inputs c.args.inputs.now) ∷ roles.fresh_register (input_registers c.args.inputs.now) ∷ [] in
     let only = input_only c.args.declared.now c.args.inputs.now form in
     let count = count_form text form (place_of form) parts is in
     let enough : length (parts_of form) < 3 → ⊥ = λ l. (let f = c.if-parts-lt3.false in omega (arith, count, l, f)) in
@@ -67,7 +67,7 @@ returns-then-parts-gt3-clause-fault c =
     let parts = c.in-Some.parts.now in
     let is = c.in-Some.ensures.parts text in
     let shape : Shape = roles.input c.args.declared.now c.args.inputs.now in
-    let each : List Role = roles.own_name (names_of_declared c.args.declared.now ++ names_of_inputs c.args.inputs.now) ∷ roles.fresh_register (registers_of c.args.inputs.now) ∷ [] in
+    let each : List Role = roles.own_name (names_of_declared c.args.declared.now ++ names_of_inputs c.args.inputs.now) ∷ roles.fresh_register (input_registers c.args.inputs.now) ∷ [] in
     let only = input_only c.args.declared.now c.args.inputs.now form in
     let count = count_form text form (place_of form) parts is in
     let enough : length (parts_of form) < 3 → ⊥ = λ l. (let f = c.if-parts-lt3.false in omega (arith, count, l, f)) in
@@ -89,7 +89,7 @@ returns-clause-input c =
     let parts = c.in-Some.parts.now in
     let is = c.in-Some.ensures.parts text in
     let shape : Shape = roles.input c.args.declared.now c.args.inputs.now in
-    let each : List Role = roles.own_name (names_of_declared c.args.declared.now ++ names_of_inputs c.args.inputs.now) ∷ roles.fresh_register (registers_of c.args.inputs.now) ∷ [] in
+    let each : List Role = roles.own_name (names_of_declared c.args.declared.now ++ names_of_inputs c.args.inputs.now) ∷ roles.fresh_register (input_registers c.args.inputs.now) ∷ [] in
     let only = input_only c.args.declared.now c.args.inputs.now form in
     let count = count_form text form (place_of form) parts is in
     let enough : length (parts_of form) < 3 → ⊥ = λ l. (let f = c.if-parts-lt3.false in omega (arith, count, l, f)) in
@@ -108,7 +108,7 @@ returns-clause-clear c =
     let parts = c.in-Some.parts.now in
     let is = c.in-Some.ensures.parts text in
     let shape : Shape = roles.input c.args.declared.now c.args.inputs.now in
-    let each : List Role = roles.own_name (names_of_declared c.args.declared.now ++ names_of_inputs c.args.inputs.now) ∷ roles.fresh_register (registers_of c.args.inputs.now) ∷ [] in
+    let each : List Role = roles.own_name (names_of_declared c.args.declared.now ++ names_of_inputs c.args.inputs.now) ∷ roles.fresh_register (input_registers c.args.inputs.now) ∷ [] in
     let only = input_only c.args.declared.now c.args.inputs.now form in
     let count = count_form text form (place_of form) parts is in
     let enough : length (parts_of form) < 3 → ⊥ = λ l. (let f = c.if-parts-lt3.false in omega (arith, count, l, f)) in

@@ -5,7 +5,7 @@ use Rattle.forms.specs.Forms.{place_of, sexp_form, parts_of}
 use Rattle.forms.proofs.Told.{told_of_part}
 use Rattle.goal_reader.specs.Roles as roles
 use Rattle.goal_reader.specs.Roles.{IsFaultAs, goal_keywords, registers_in, has_register}
-use Rattle.goal_reader.specs.Reading.{registers_of}
+use Rattle.goal_reader.specs.Reading.{input_registers}
 use Rattle.goal_reader.proofs.NewNames.{nth_part, count_form}
 use Rattle.goal_reader.proofs.PoolSteps.{clear_one, keyword_first, pool_first, pool_clear_more, registers_next, pool_clear}
 use Rattle.goal_reader.proofs.pools.pool.Goals as goal
@@ -21,7 +21,7 @@ returns-in-Err-clause-fault c =
     let i = c.loop-index.index in
     let l = c.loop-index.auto.index in
     let g = nth_part text form (place_of form) parts i c.index-parts-index.result is c.loop-index-test.true c.index-parts-index.is in
-    let given = registers_of c.args.inputs.now in
+    let given = input_registers c.args.inputs.now in
     let items = c.loop-index.pool.items in
     let s = c.sexps_are_forms.ensures.stands text c.args.form.now c.requires.of in
     let part = sexp_form text c.index-parts-index.result in
@@ -40,7 +40,7 @@ loop-index-preserved c =
     let i = c.loop-index.index in
     let l = c.loop-index.auto.index in
     let g = nth_part text form (place_of form) parts i c.index-parts-index.result is c.loop-index-test.true c.index-parts-index.is in
-    let given = registers_of c.args.inputs.now in
+    let given = input_registers c.args.inputs.now in
     let items = c.loop-index.pool.items in
     let part = sexp_form text c.index-parts-index.result in
     let fresh = subst (λ xs. has_register (given ++ xs) c.in-Ok.register ≡ false) c.deref.ensures.value c.in-Ok.ensures.fresh in
@@ -57,7 +57,7 @@ loop-index-init c =
     let is = c.in-Some.ensures.parts text in
     let count = count_form text form (place_of form) parts is in
     let first = keyword_first form 1 goal_keywords c.requires.keyword in
-    record { read = c.new-pool.ensures.items ∙ first.1; clear = clear_one (registers_of c.args.inputs.now) form }
+    record { read = c.new-pool.ensures.items ∙ first.1; clear = clear_one (input_registers c.args.inputs.now) form }
 
 pub returns-clause-pool : goal.returns-clause-pool
 returns-clause-pool c =
@@ -79,4 +79,4 @@ returns-clause-clear c =
     let count = count_form text form (place_of form) parts is in
     let first = keyword_first form 1 goal_keywords c.requires.keyword in
     let most : length (parts_of form) ≤ c.loop-index.index = (let f = c.loop-index-test.false in omega (arith, f, count)) in
-    pool_clear (registers_of c.args.inputs.now) form c.loop-index.index first.0 most c.loop-index.invariant.clear
+    pool_clear (input_registers c.args.inputs.now) form c.loop-index.index first.0 most c.loop-index.invariant.clear

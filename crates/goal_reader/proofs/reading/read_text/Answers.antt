@@ -3,7 +3,7 @@ use Rattle.text_core.specs.Faults.{IsFirst}
 use Rattle.text_core.specs.Sexps.{sexp_trees}
 use Rattle.text_core.specs.declared.sexps.Sexp.{Sexp}
 use Rattle.forms.specs.Forms.{Form, Forms, Stand, forms_of, forms_from, forms_list, sexp_forms}
-use Rattle.forms.specs.Reading.{IsFirstReadFault, IsOf}
+use Rattle.forms.specs.Reading.{IsFirstReadFault, IsSexpOf}
 use Rattle.forms.proofs.Told.{told_as}
 use Rattle.std.proofs.Common.{All}
 use Rattle.goal_reader.specs.declared.goals.Input.{Input}
@@ -23,7 +23,7 @@ read_forms-requires c =
     let sexps = c.in-Ok.forms.items in
     let same = sym c.deref.ensures.value in
     record {
-      of = subst (λ (xs : List Sexp). All (IsOf text) xs) same c.in-Ok.ensures.each;
+      of = subst (λ (xs : List Sexp). All (IsSexpOf text) xs) same c.in-Ok.ensures.each;
       stand = subst (λ (xs : List Sexp). Stand 0 (length text) (forms_from (sexp_forms text xs))) same
           (subst (λ (fs : Forms). Stand 0 (length text) fs) (forms_map text sexps) (c.one_reading.ensures.stand text (sexp_trees sexps) c.in-Ok.ensures.trees));
       small = c.requires;

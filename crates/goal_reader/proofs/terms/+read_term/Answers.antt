@@ -3,7 +3,7 @@ use Rattle.text_core.specs.declared.sexps.Sexp.{Sexp}
 use Rattle.word_ops.specs.Meanings.{operand_sort}
 use Rattle.word_terms.specs.View.{trees_of}
 use Rattle.forms.specs.Forms.{is_list, sexp_form}
-use Rattle.forms.specs.Reading.{IsOf}
+use Rattle.forms.specs.Reading.{IsSexpOf}
 use Rattle.forms.proofs.Views.{atom_form, list_form}
 use Rattle.forms.proofs.Told.{told_of_part}
 use Rattle.goal_reader.specs.Roles.{term, IsFaultAs}
@@ -110,5 +110,5 @@ loop-index-init t c =
     let rest : take (length d - 1) (drop 1 d) ≡ drop 1 c.in-List.parts.items = rest_is d ∙ ap (drop 1) c.deref.ensures.value in
     record {
       writes = subst (λ (ts : List (Term Op)). WritesEach c.args.scope.now c.in_ok-op-in-List.op 0 none (operands_of (trees_of ts))) (sym c.new-operands.ensures.items) nothing;
-      of = all_rest (IsOf text) c.in-List.parts.items _ rest (c.sexps_are_forms.ensures.parts text c.in-List.place c.in-List.parts (subst (IsOf text) c.in-List.is c.requires.of));
+      of = all_rest (IsSexpOf text) c.in-List.parts.items _ rest (c.sexps_are_forms.ensures.parts text c.in-List.place c.in-List.parts (subst (IsSexpOf text) c.in-List.is c.requires.of));
     }

@@ -1,5 +1,5 @@
 use Rattle.std.proofs.Common.{◌≡◌, drop}
-use Rattle.goal_reader.specs.Roles.{is_among}
+use Rattle.text_core.specs.Names.{is_among}
 use Rattle.goal_reader.proofs.variables.is_variable.Given as goal
 
 abbrev pub invariant-loop-other : goal.invariant-loop-other

@@ -1,7 +1,7 @@
 use Rattle.std.proofs.Common.{◌≡◌, ◌≤◌, take, length}
-use Rattle.forms.specs.Forms.{sexp_form, parts_of}
+use Rattle.forms.specs.Forms.{sexp_form, parts_of, names_in}
 use Rattle.forms.proofs.First.{ClearTo}
-use Rattle.goal_reader.specs.Roles.{a_list, variables, IsOwn, part_role, names_in}
+use Rattle.goal_reader.specs.Roles.{a_list, variables, IsOwn, part_role}
 use Rattle.goal_reader.proofs.variables.variables.Given as goal
 
 abbrev pub invariant-loop-index : goal.invariant-loop-index

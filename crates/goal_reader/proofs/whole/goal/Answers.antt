@@ -5,7 +5,8 @@ use Rattle.text_core.proofs.Outcomes.{first_once}
 use Rattle.goal_reader.specs.Drafts.{names_of_goals}
 use Rattle.goal_reader.specs.Grammar.{WritesGoal}
 use Rattle.goal_reader.specs.Roles as roles
-use Rattle.goal_reader.specs.Roles.{IsFaultAs, is_among}
+use Rattle.text_core.specs.Names.{is_among}
+use Rattle.goal_reader.specs.Roles.{IsFaultAs}
 use Rattle.goal_reader.specs.Views.{GoalTree, goal_view}
 use Rattle.text_core.specs.Faults.{IsFirst}
 use Rattle.goal_reader.proofs.Finish.{both_ok}

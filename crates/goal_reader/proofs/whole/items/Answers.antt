@@ -1,12 +1,12 @@
 use Rattle.std.proofs.Common.{◌≡◌, ◌<◌, ◌≤◌, List, Some, true, length, sym, ◌∙◌, ap, refl, subst, arith}
 use Rattle.std.specs.List.{list_any}
 use Rattle.forms.specs.Forms.{Form, place_of, sexp_form, parts_of}
-use Rattle.forms.specs.Reading.{IsOf}
+use Rattle.forms.specs.Reading.{IsSexpOf}
 use Rattle.forms.proofs.Told.{told, told_of_part}
 use Rattle.goal_reader.specs.declared.scopes.Scope.{Scope}
 use Rattle.goal_reader.specs.declared.scopes.DeclaredOp.{DeclaredOp}
 use Rattle.goal_reader.specs.Roles as roles
-use Rattle.goal_reader.specs.Roles.{Role, IsFaultAs, is_of_rank, goal_keywords, goal_bounds, bound_at, of_rank, items_of, item_role, role_in, fresh_name}
+use Rattle.goal_reader.specs.Roles.{IsFaultAs, is_of_rank, goal_keywords, goal_bounds, bound_at, of_rank, items_of, item_role, role_in, fresh_name, Role}
 use Rattle.goal_reader.specs.Order.{IsOrderOf}
 use Rattle.goal_reader.specs.Drafts.{names_of_goals, IsDraft, IsWritten, items_before, draft_role}
 use Rattle.goal_reader.proofs.NewNames.{nth_part, count_form, fresh_name_clear}
@@ -40,7 +40,7 @@ returns-then-parts-lt2-clause-fault c =
 
 pub has_target-requires : goal.has_target-requires
 has_target-requires c =
-    record { of = all_two (IsOf c.args.text.now) c.in-Some.parts.now _ (rest_two c.in-Some.parts.now) (c.in-Some.ensures.of c.args.text.now c.requires.of) }
+    record { of = all_two (IsSexpOf c.args.text.now) c.in-Some.parts.now _ (rest_two c.in-Some.parts.now) (c.in-Some.ensures.of c.args.text.now c.requires.of) }
 
 pub returns-then-not-has_target-clause-fault : goal.returns-then-not-has_target-clause-fault
 returns-then-not-has_target-clause-fault c =

@@ -1,7 +1,7 @@
 use Rattle.std.proofs.Common.{◌≡◌, ◌∙◌, refl, ap}
 use Rattle.forms.specs.Forms.{sexp_form}
 use Rattle.goal_reader.specs.Drafts.{names_of_goals, pool_kept}
-use Rattle.goal_reader.specs.Reading.{registers_of}
+use Rattle.goal_reader.specs.Reading.{input_registers}
 use Rattle.goal_reader.specs.declared.goals.Goal.{Goal}
 use Rattle.goal_reader.proofs.Finish.{goal_written, has_set}
 use Rattle.goal_reader.proofs.whole.read_goal.Goals as goal
@@ -11,6 +11,6 @@ returns-clause-goal c =
     let form = sexp_form c.args.text.now c.args.form.now in
     let d = c.in-Ok.read.1 in
     let g : Goal = record { name = c.in-Ok.read.0; inputs = d.inputs; pool = c.in_ok-pool.pool; assumes = d.assumes; guard = d.guard; sets = d.sets } in
-    let pool : g.pool ≡ pool_kept (registers_of d.inputs) d.pool = c.in_ok-pool.ensures ∙ ap (λ is. pool_kept (registers_of is) d.pool) c.as_slice.ensures in
+    let pool : g.pool ≡ pool_kept (input_registers d.inputs) d.pool = c.in_ok-pool.ensures ∙ ap (λ is. pool_kept (input_registers is) d.pool) c.as_slice.ensures in
     goal_written c.args.declared form g d c.in-Ok.ensures.draft c.in-Ok.ensures.written c.in-Ok.ensures.keeps refl pool refl refl refl
     (has_set c.args.declared (names_of_goals c.args.goals.now) form c.in-Ok.ensures.clear) c.requires.keyword c.in-Ok.ensures.named

@@ -5,7 +5,8 @@ use Rattle.text_core.specs.Lines.{line_at}
 use Rattle.word_ops.specs.declared.sorts.Sort.{Sort}
 use Rattle.launch_graph.specs.declared.graphs.SetClass.{SetClass}
 use Rattle.launch_graph.specs.BehindRows.{IsRight}
-use Rattle.launch_graph.specs.LineReading.{IsSet, IsNone}
+use Rattle.text_core.specs.LineTexts.{SaysNone}
+use Rattle.launch_graph.specs.LineReading.{IsSetLine}
 use Rattle.launch_graph.specs.RowFaults.{IsWrongClass}
 use Rattle.launch_graph.proofs.BehindLines.{stuck, late_guard, wrong_set, wrong_set_class}
 use Rattle.launch_graph.proofs.behind_rows.read_set.Goals as goal
@@ -18,7 +19,7 @@ returns-then-begins_with-clause-fault c = λ stage takes.
 pub returns-in_default-clause-fault : goal.returns-in_default-clause-fault
 returns-in_default-clause-fault c = λ stage takes.
     (let words = (line_at c.args.text.now c.args.line).words in
-    let none = subst (λ (o : Option SetClass). MatchOption o (IsNone IsSet words) (IsSet words)) c.in_default.is c.in_ok-set.ensures in
+    let none = subst (λ (o : Option SetClass). MatchOption o (SaysNone IsSetLine words) (IsSetLine words)) c.in_default.is c.in_ok-set.ensures in
     stuck c.operators_are_listed.ensures.names c.args.text.now c.args.marks.now c.args.line c.requires stage c.line_fault-in_default.result
     (wrong_set c.args.text.now c.args.line c.requires (c.begins_with-2.ensures.0 c.if-not-begins_with.false) none stage takes) c.line_fault-in_default.ensures)
 
@@ -26,7 +27,7 @@ pub returns-then-is_wrong-clause-fault : goal.returns-then-is_wrong-clause-fault
 returns-then-is_wrong-clause-fault c = λ stage takes.
     (let words = (line_at c.args.text.now c.args.line).words in
     let s = c.in-Some.set in
-    let is = subst (λ (o : Option SetClass). MatchOption o (IsNone IsSet words) (IsSet words)) c.in-Some.is c.in_ok-set.ensures in
+    let is = subst (λ (o : Option SetClass). MatchOption o (SaysNone IsSetLine words) (IsSetLine words)) c.in-Some.is c.in_ok-set.ensures in
     wrong_set_class c.operators_are_listed.ensures.names c.args.text.now c.args.marks.now c.args.line c.requires s c.line_fault-then-is_wrong.result stage takes
     is (λ all m. subst (λ (sort : Sort). IsWrongClass (length c.args.marks.now) all sort s.class) c.target_sort.ensures ((c.is_wrong.ensures.wrong all m).0 c.if-is_wrong.true))
     c.line_fault-then-is_wrong.ensures)
@@ -36,7 +37,7 @@ returns-clause-ok c =
     let words = (line_at c.args.text.now c.args.line).words in
     let s = c.in-Some.set in
     record {
-      is = subst (λ (o : Option SetClass). MatchOption o (IsNone IsSet words) (IsSet words)) c.in-Some.is c.in_ok-set.ensures;
+      is = subst (λ (o : Option SetClass). MatchOption o (SaysNone IsSetLine words) (IsSetLine words)) c.in-Some.is c.in_ok-set.ensures;
       right = subst (λ (sort : Sort). IsRight c.args.marks.now sort s.class) c.target_sort.ensures
           (λ all m bad. false≢true (sym c.if-is_wrong.false ∙ (c.is_wrong.ensures.wrong all m).1 bad));
     }

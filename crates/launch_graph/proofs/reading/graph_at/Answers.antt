@@ -1,6 +1,6 @@
 use Rattle.std.proofs.Common.{◌+◌, ◌-◌, take, drop, sym, subst, ◌∙◌}
 use Rattle.std.proofs.lemmas.Result.{err_from_is_err_and}
-use Rattle.launch_graph.specs.BehindRows.{IsBehind, IsReadBehind}
+use Rattle.launch_graph.specs.BehindRows.{IsCleanBehindRows, IsReadBehind}
 use Rattle.launch_graph.specs.ClassMarks.{HasMarks}
 use Rattle.launch_graph.specs.GraphStages.{rows}
 use Rattle.launch_graph.proofs.WholeReading.{block, behind_within, behind_here, graph_here}
@@ -36,7 +36,7 @@ returns-in_err-behind-clause-fault c =
     let m = subst (HasMarks (take (end - (from + 1)) (drop (from + 1) lines)) count) (sym c.deref.ensures.value) c.in_ok-marks.ensures in
     rw (p.1, p.2)
     (c.in_err-behind.ensures.fault from m.rows
-    (subst (λ ms. IsBehind lines from m.rows ms (from + 1 + count) (rows 0)) (c.deref.ensures.value ∙ sym c.deref-2.ensures.value)
+    (subst (λ ms. IsCleanBehindRows lines from m.rows ms (from + 1 + count) (rows 0)) (c.deref.ensures.value ∙ sym c.deref-2.ensures.value)
     (behind_here c.operators_are_listed.ensures.names lines from count c.deref.result.now c.in_ok-count.ensures.header end c.block_end-end.ensures m
     c.in_ok-so_far.so_far c.in_ok-so_far.ensures.ok)))
 

@@ -4,7 +4,7 @@ use Rattle.forms.specs.Forms.{place_of, parts_of, sexp_form}
 use Rattle.machine_table.proofs.Parts.{count_form, nth_part}
 use Rattle.machine_table.proofs.TableForms.{table_of_parts, no_machine_first, short_machine_first, slots_fault, cross_fault, clear_3, ops_fault, each_next, joined_next, ops_clear_next, table_is, table_written, machine_clear, no_ops, no_uses}
 use Rattle.machine_table.specs.Grammar.{WritesTable}
-use Rattle.machine_table.specs.Reading.{AreSlotsRead, AreUses, IsFaultAs, names_of, names_of_uses}
+use Rattle.machine_table.specs.Reading.{AreSlotsRead, AreUses, IsFaultAs, slot_names, names_of_uses}
 use Rattle.machine_table.specs.Roles as roles
 use Rattle.machine_table.specs.Tables.{IsTable}
 use Rattle.machine_table.specs.declared.tables.Slot.{Slot}
@@ -105,7 +105,7 @@ returns-in-Err-ops-clause-fault c =
     let l : 3 ≤ i = c.loop-index.auto.index in
     let part = sexp_form text c.index-parts-index.result in
     let g = nth_part text form (place_of form) parts i c.index-parts-index.result is c.loop-index-test.true c.index-parts-index.is in
-    told_of_part (IsFaultAs (roles.ops (names_of slots) (names_of_uses uses)) part) (IsFaultAs roles.machine form)
+    told_of_part (IsFaultAs (roles.ops (slot_names slots) (names_of_uses uses)) part) (IsFaultAs roles.machine form)
     (ops_fault form keyword enough second g1 slots slots_read third g2 i inv.written uses l inv.each inv.is part g s.0 s.1 s.2 inv.clear) c.in-Err-ops.fault c.in-Err-ops.ensures.fault
 
 pub loop-index-preserved : goal.loop-index-preserved

@@ -3,7 +3,7 @@ use Rattle.forms.proofs.Told.{told, told_of_part}
 use Rattle.forms.specs.Forms.{place_of, parts_of, sexp_form, sexp_forms}
 use Rattle.machine_table.proofs.Parts.{back_form, count_form, no_parts, nth_part, part_of}
 use Rattle.machine_table.proofs.SlotForms.{short_first, unnamed_first, again_first, cluster_fault, third_first, slot_read}
-use Rattle.machine_table.specs.Reading.{IsFaultAs, names_of}
+use Rattle.machine_table.specs.Reading.{IsFaultAs, slot_names}
 use Rattle.machine_table.specs.Roles as roles
 use Rattle.machine_table.proofs.slots.slot.Goals as goal
 
@@ -12,7 +12,7 @@ returns-in_default-clause-fault c =
     let text = c.args.text.now in
     let form = sexp_form text c.args.form.now in
     let s = c.sexps_are_forms.ensures.stands text c.args.form.now c.requires.of in
-    let before = names_of c.args.slots.now in
+    let before = slot_names c.args.slots.now in
     told (IsFaultAs (roles.slot before) form) c.at.result c.place.result (place_of form) _ c.at.ensures (c.place.ensures text)
     (short_first before form s.0 s.1 s.2 (let f = no_parts form (c.in_default.ensures.parts text) in omega (arith, f)))
 
@@ -21,7 +21,7 @@ returns-then-parts-lt2-clause-fault c =
     let text = c.args.text.now in
     let form = sexp_form text c.args.form.now in
     let s = c.sexps_are_forms.ensures.stands text c.args.form.now c.requires.of in
-    let before = names_of c.args.slots.now in
+    let before = slot_names c.args.slots.now in
     let parts = c.in-Some.parts.now in
     let is = c.in-Some.ensures.parts text in
     let count = count_form text form (place_of form) parts is in
@@ -33,7 +33,7 @@ returns-in_default-name-clause-fault c =
     let text = c.args.text.now in
     let form = sexp_form text c.args.form.now in
     let s = c.sexps_are_forms.ensures.stands text c.args.form.now c.requires.of in
-    let before = names_of c.args.slots.now in
+    let before = slot_names c.args.slots.now in
     let parts = c.in-Some.parts.now in
     let is = c.in-Some.ensures.parts text in
     let count = count_form text form (place_of form) parts is in
@@ -49,7 +49,7 @@ returns-then-is_slot-clause-fault c =
     let text = c.args.text.now in
     let form = sexp_form text c.args.form.now in
     let s = c.sexps_are_forms.ensures.stands text c.args.form.now c.requires.of in
-    let before = names_of c.args.slots.now in
+    let before = slot_names c.args.slots.now in
     let parts = c.in-Some.parts.now in
     let is = c.in-Some.ensures.parts text in
     let count = count_form text form (place_of form) parts is in
@@ -66,7 +66,7 @@ returns-in-Err-clause-fault c =
     let text = c.args.text.now in
     let form = sexp_form text c.args.form.now in
     let s = c.sexps_are_forms.ensures.stands text c.args.form.now c.requires.of in
-    let before = names_of c.args.slots.now in
+    let before = slot_names c.args.slots.now in
     let parts = c.in-Some.parts.now in
     let is = c.in-Some.ensures.parts text in
     let count = count_form text form (place_of form) parts is in
@@ -85,7 +85,7 @@ returns-then-parts-gt2-clause-fault c =
     let text = c.args.text.now in
     let form = sexp_form text c.args.form.now in
     let s = c.sexps_are_forms.ensures.stands text c.args.form.now c.requires.of in
-    let before = names_of c.args.slots.now in
+    let before = slot_names c.args.slots.now in
     let parts = c.in-Some.parts.now in
     let is = c.in-Some.ensures.parts text in
     let count = count_form text form (place_of form) parts is in
@@ -107,7 +107,7 @@ returns-clause-slot c =
     let text = c.args.text.now in
     let form = sexp_form text c.args.form.now in
     let s = c.sexps_are_forms.ensures.stands text c.args.form.now c.requires.of in
-    let before = names_of c.args.slots.now in
+    let before = slot_names c.args.slots.now in
     let parts = c.in-Some.parts.now in
     let is = c.in-Some.ensures.parts text in
     let count = count_form text form (place_of form) parts is in

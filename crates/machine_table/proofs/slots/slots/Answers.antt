@@ -4,7 +4,7 @@ use Rattle.forms.specs.Forms.{place_of, parts_of, sexp_form}
 use Rattle.machine_table.proofs.Parts.{between, clear_0, clear_skip, count_form, nth_part}
 use Rattle.machine_table.proofs.SlotLists.{no_slots_first, one_first, ninth_fault, slot_fault, written_next, slots_clear_next, slots_next, slots_whole, no_between, no_slots, pushed_count, keyword_some}
 use Rattle.machine_table.specs.Grammar.{Each, WritesSlot}
-use Rattle.machine_table.specs.Reading.{AreSlots, IsFaultAs, IsSlotRead, names_of}
+use Rattle.machine_table.specs.Reading.{AreSlots, IsFaultAs, IsSlotRead, slot_names}
 use Rattle.machine_table.specs.Roles as roles
 use Rattle.machine_table.specs.declared.tables.Slot.{Slot}
 use Rattle.text_core.specs.Faults.{IsFaultBy, IsFirst}
@@ -81,8 +81,8 @@ returns-in-Err-clause-fault c =
     let g = nth_part text form (place_of form) parts i c.index-parts-index.result is c.loop-index-test.true c.index-parts-index.is in
     let l : 1 ≤ i = c.loop-index.auto.index in
     let m : i ≤ 8 = (let f = c.if-index-gt8.false in omega (arith, f)) in
-    let first = subst (λ (ss : List Slot). IsFaultBy (IsFirst (IsFaultAs (roles.slot (names_of ss)) part)) c.in-Err.fault) c.as_slice.ensures c.in-Err.ensures.fault in
-    told_of_part (IsFaultAs (roles.slot (names_of slots)) part) (IsFaultAs roles.slots form) (slot_fault form keyword some s.0 s.1 s.2 i part g inv.clear slots l m inv.written) c.in-Err.fault first
+    let first = subst (λ (ss : List Slot). IsFaultBy (IsFirst (IsFaultAs (roles.slot (slot_names ss)) part)) c.in-Err.fault) c.as_slice.ensures c.in-Err.ensures.fault in
+    told_of_part (IsFaultAs (roles.slot (slot_names slots)) part) (IsFaultAs roles.slots form) (slot_fault form keyword some s.0 s.1 s.2 i part g inv.clear slots l m inv.written) c.in-Err.fault first
 
 pub loop-index-preserved : goal.loop-index-preserved
 loop-index-preserved c =
@@ -102,7 +102,7 @@ loop-index-preserved c =
     let l : 1 ≤ i = c.loop-index.auto.index in
     let m : i ≤ 8 = (let f = c.if-index-gt8.false in omega (arith, f)) in
     let slot = c.in-Ok.slot in
-    let read = subst (λ (ss : List Slot). IsSlotRead (names_of ss) part slot) c.as_slice.ensures c.in-Ok.ensures.slot in
+    let read = subst (λ (ss : List Slot). IsSlotRead (slot_names ss) part slot) c.as_slice.ensures c.in-Ok.ensures.slot in
     let pushed = c.in_ok-push-in-Ok.ensures.ok in
     record {
       written = subst (λ (ss : List Slot). Each WritesSlot (between 1 (i + 1) (parts_of form)) ss) (sym pushed) (written_next form keyword some i slots l m inv.written part slot g read);

@@ -1,6 +1,6 @@
 use Rattle.std.proofs.Common.{◌≡◌, drop}
 use Rattle.machine_table.specs.Reading.{names_of_uses}
-use Rattle.machine_table.specs.Roles.{is_among}
+use Rattle.text_core.specs.Names.{is_among}
 use Rattle.machine_table.proofs.uses.is_named.Given as goal
 
 abbrev pub invariant-loop-one : goal.invariant-loop-one

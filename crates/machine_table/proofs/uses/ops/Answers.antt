@@ -4,7 +4,7 @@ use Rattle.forms.proofs.Told.{told, told_of_part}
 use Rattle.forms.specs.Forms.{place_of, parts_of, sexp_form}
 use Rattle.machine_table.proofs.Parts.{count_form, nth_part}
 use Rattle.machine_table.proofs.UseLists.{use_of_parts, no_ops_first, short_ops_first, latency_fault, slots_fault, clear_3, instr_fault, added_is, uses_next, uses_clear_next, are_next, ops_whole, no_uses}
-use Rattle.machine_table.specs.Reading.{AreUsedRead, AreUses, IsFaultAs, IsInstrRead, names_of, names_of_uses}
+use Rattle.machine_table.specs.Reading.{AreUsedRead, AreUses, IsFaultAs, IsInstrRead, slot_names, names_of_uses}
 use Rattle.machine_table.specs.Roles as roles
 use Rattle.machine_table.specs.declared.tables.Use.{Use}
 use Rattle.text_core.specs.Faults.{IsFaultBy, IsFirst}
@@ -17,7 +17,7 @@ returns-then-not-has_keyword-clause-fault c =
     let s = c.sexps_are_forms.ensures.stands text c.args.form.now c.requires.of in
     let slots = c.args.slots.now in
     let before = c.args.uses.now in
-    told (IsFaultAs (roles.ops (names_of slots) (names_of_uses before)) form) c.at.result c.place.result (place_of form) _ c.at.ensures (c.place.ensures text)
+    told (IsFaultAs (roles.ops (slot_names slots) (names_of_uses before)) form) c.at.result c.place.result (place_of form) _ c.at.ensures (c.place.ensures text)
     (no_ops_first slots before form s.0 s.1 s.2 (sym c.has_keyword.ensures ∙ c.if-not-has_keyword.true))
 
 pub returns-then-parts-lt4-clause-fault : goal.returns-then-parts-lt4-clause-fault
@@ -30,7 +30,7 @@ returns-then-parts-lt4-clause-fault c =
     let parts = c.in-Some.parts.now in
     let is = c.in-Some.ensures.parts text in
     let count = count_form text form (place_of form) parts is in
-    told (IsFaultAs (roles.ops (names_of slots) (names_of_uses before)) form) c.at-then-parts-lt4.result c.place-then-parts-lt4.result (place_of form) _ c.at-then-parts-lt4.ensures (c.place-then-parts-lt4.ensures text)
+    told (IsFaultAs (roles.ops (slot_names slots) (names_of_uses before)) form) c.at-then-parts-lt4.result c.place-then-parts-lt4.result (place_of form) _ c.at-then-parts-lt4.ensures (c.place-then-parts-lt4.ensures text)
     (short_ops_first slots before form s.0 s.1 s.2 (let f = c.if-parts-lt4.true in omega (arith, f, count)))
 
 pub returns-in-Err-clause-fault : goal.returns-in-Err-clause-fault
@@ -47,7 +47,7 @@ returns-in-Err-clause-fault c =
     let enough : 4 ≤ length (parts_of form) = (let f = c.if-parts-lt4.false in omega (arith, count, f)) in
     let second = sexp_form text c.index-parts-1.result in
     let g1 = nth_part text form (place_of form) parts 1 c.index-parts-1.result is (let f = c.if-parts-lt4.false in omega (arith, f)) c.index-parts-1.is in
-    told_of_part (IsFaultAs roles.latency second) (IsFaultAs (roles.ops (names_of slots) (names_of_uses before)) form) (latency_fault slots before form keyword enough second g1 s.0 s.1 s.2) c.in-Err.fault c.in-Err.ensures.fault
+    told_of_part (IsFaultAs roles.latency second) (IsFaultAs (roles.ops (slot_names slots) (names_of_uses before)) form) (latency_fault slots before form keyword enough second g1 s.0 s.1 s.2) c.in-Err.fault c.in-Err.ensures.fault
 
 pub returns-in-Err-used_slots-clause-fault : goal.returns-in-Err-used_slots-clause-fault
 returns-in-Err-used_slots-clause-fault c =
@@ -65,7 +65,7 @@ returns-in-Err-used_slots-clause-fault c =
     let g1 = nth_part text form (place_of form) parts 1 c.index-parts-1.result is (let f = c.if-parts-lt4.false in omega (arith, f)) c.index-parts-1.is in
     let third = sexp_form text c.index-parts-2.result in
     let g2 = nth_part text form (place_of form) parts 2 c.index-parts-2.result is (let f = c.if-parts-lt4.false in omega (arith, f)) c.index-parts-2.is in
-    told_of_part (IsFaultAs (roles.used_slots (names_of slots)) third) (IsFaultAs (roles.ops (names_of slots) (names_of_uses before)) form)
+    told_of_part (IsFaultAs (roles.used_slots (slot_names slots)) third) (IsFaultAs (roles.ops (slot_names slots) (names_of_uses before)) form)
     (slots_fault slots before form keyword enough second g1 c.in-Ok.ensures.clear third g2 s.0 s.1 s.2) c.in-Err-used_slots.fault c.in-Err-used_slots.ensures.fault
 
 pub loop-index-init : goal.loop-index-init
@@ -118,7 +118,7 @@ returns-in-Err-instr-clause-fault c =
     let part = sexp_form text c.index-parts-index.result in
     let g = nth_part text form (place_of form) parts i c.index-parts-index.result is c.loop-index-test.true c.index-parts-index.is in
     let first = subst (λ (us : List Use). IsFaultBy (IsFirst (IsFaultAs (roles.instr (names_of_uses us)) part)) c.in-Err-instr.fault) c.as_slice.ensures c.in-Err-instr.ensures.fault in
-    told_of_part (IsFaultAs (roles.instr (names_of_uses uses)) part) (IsFaultAs (roles.ops (names_of slots) (names_of_uses before)) form)
+    told_of_part (IsFaultAs (roles.instr (names_of_uses uses)) part) (IsFaultAs (roles.ops (slot_names slots) (names_of_uses before)) form)
     (instr_fault slots before form keyword enough second g1 latency numbers i uses inv.added l inv.is inv.written s.0 s.1 s.2 part g inv.clear) c.in-Err-instr.fault first
 
 pub loop-index-preserved : goal.loop-index-preserved

@@ -6,7 +6,7 @@ use Rattle.machine_table.proofs.Parts.{back_form, clear_0, count_form, list_form
 use Rattle.machine_table.proofs.SlotLists.{empty_first, used_fault, used_next, used_clear_next, numbers_next, used_whole, is_zero, not_zero}
 use Rattle.machine_table.proofs.SlotNumbers.{no_numbers}
 use Rattle.machine_table.specs.Grammar.{Each, none, IsSlotNamed}
-use Rattle.machine_table.specs.Reading.{AreNumbers, IsFaultAs, IsUsedRead, names_of, names_used}
+use Rattle.machine_table.specs.Reading.{AreSlotNumbers, IsFaultAs, IsUsedRead, slot_names, slot_names_used}
 use Rattle.machine_table.specs.Roles as roles
 use Rattle.machine_table.specs.Roles.{no_list}
 use Rattle.text_core.specs.Faults.{IsFaultBy, IsFirst}
@@ -18,8 +18,8 @@ returns-in_default-clause-fault c =
     let form = sexp_form text c.args.form.now in
     let s = c.sexps_are_forms.ensures.stands text c.args.form.now c.requires.of in
     let slots = c.args.slots.now in
-    told (IsFaultAs (roles.used_slots (names_of slots)) form) c.at.result c.place.result (place_of form) _ c.at.ensures (c.place.ensures text)
-    (form_first form s.0 s.1 s.2 (roles.used_slots (names_of slots)) (no_list (c.in_default.ensures.parts text)))
+    told (IsFaultAs (roles.used_slots (slot_names slots)) form) c.at.result c.place.result (place_of form) _ c.at.ensures (c.place.ensures text)
+    (form_first form s.0 s.1 s.2 (roles.used_slots (slot_names slots)) (no_list (c.in_default.ensures.parts text)))
 
 pub returns-then-is_empty-clause-fault : goal.returns-then-is_empty-clause-fault
 returns-then-is_empty-clause-fault c =
@@ -31,7 +31,7 @@ returns-then-is_empty-clause-fault c =
     let is = c.in-Some.ensures.parts text in
     let count = count_form text form (place_of form) parts is in
     let a_list = list_form form (place_of form) (sexp_forms text parts) is in
-    told (IsFaultAs (roles.used_slots (names_of slots)) form) c.at-then-is_empty.result c.place-then-is_empty.result (place_of form) _ c.at-then-is_empty.ensures (c.place-then-is_empty.ensures text)
+    told (IsFaultAs (roles.used_slots (slot_names slots)) form) c.at-then-is_empty.result c.place-then-is_empty.result (place_of form) _ c.at-then-is_empty.ensures (c.place-then-is_empty.ensures text)
     (empty_first slots form s.0 s.1 s.2 a_list (let f = is_zero (length parts) c.if-is_empty.ensures in omega (arith, f, count)))
 
 pub loop-index-init : goal.loop-index-init
@@ -42,8 +42,8 @@ loop-index-init c =
     let slots = c.args.slots.now in
     record {
       named = subst (Each (IsSlotNamed slots) []) (sym c.new-used.ensures) none;
-      numbers = subst (AreNumbers slots) (sym c.new-used.ensures) (no_numbers slots);
-      clear = clear_0 (roles.used_slots (names_of slots)) form;
+      numbers = subst (AreSlotNumbers slots) (sym c.new-used.ensures) (no_numbers slots);
+      clear = clear_0 (roles.used_slots (slot_names slots)) form;
     }
 
 pub returns-in-Err-clause-fault : goal.returns-in-Err-clause-fault
@@ -62,8 +62,8 @@ returns-in-Err-clause-fault c =
     let inv = c.loop-index.invariant in
     let part = sexp_form text c.index-parts-index.result in
     let g = nth_part text form (place_of form) parts i c.index-parts-index.result is c.loop-index-test.true c.index-parts-index.is in
-    let first = subst (λ u. IsFaultBy (IsFirst (IsFaultAs (roles.used_slot (names_of slots) (names_used slots u)) part)) c.in-Err.fault) c.as_slice.ensures c.in-Err.ensures.fault in
-    told_of_part (IsFaultAs (roles.used_slot (names_of slots) (names_used slots used)) part) (IsFaultAs (roles.used_slots (names_of slots)) form)
+    let first = subst (λ u. IsFaultBy (IsFirst (IsFaultAs (roles.used_slot (slot_names slots) (slot_names_used slots u)) part)) c.in-Err.fault) c.as_slice.ensures c.in-Err.ensures.fault in
+    told_of_part (IsFaultAs (roles.used_slot (slot_names slots) (slot_names_used slots used)) part) (IsFaultAs (roles.used_slots (slot_names slots)) form)
     (used_fault slots form i used inv.named s.0 s.1 s.2 a_list some part g inv.clear) c.in-Err.fault first
 
 pub loop-index-preserved : goal.loop-index-preserved
@@ -85,7 +85,7 @@ loop-index-preserved c =
     let pushed = sym c.in_ok-push-in-Ok.ensures.ok in
     record {
       named = subst (Each (IsSlotNamed slots) (take (i + 1) (parts_of form))) pushed (used_next slots form i used inv.named part at g read);
-      numbers = subst (AreNumbers slots) pushed (numbers_next slots form i used inv.named part at g read inv.numbers);
+      numbers = subst (AreSlotNumbers slots) pushed (numbers_next slots form i used inv.named part at g read inv.numbers);
       clear = used_clear_next slots form i used inv.named part at g read inv.clear;
     }
 

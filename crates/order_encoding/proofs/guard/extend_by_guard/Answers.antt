@@ -11,7 +11,7 @@ use Rattle.cycle_encoding.specs.Steps.{with_clauses}
 use Rattle.cycle_encoding.proofs.Blocks.{vars-over}
 use Rattle.cycle_encoding.proofs.Rows.{counted, vars-short}
 use Rattle.order_encoding.specs.OrderFamilies.{branches_by}
-use Rattle.order_encoding.specs.OrderSteps.{comes_after, with_guard}
+use Rattle.order_encoding.specs.OrderSteps.{comes_after, formula_with_guard}
 use Rattle.order_encoding.proofs.AddSteps.{then_same}
 use Rattle.order_encoding.proofs.Found.{found_vars}
 use Rattle.order_encoding.proofs.Extended.{branch-room2, branch-room3, branch-room4, branch-vars2, branch-limit, branch-vars4, branch-ends, guard-by-numbers, has_guard}
@@ -300,4 +300,4 @@ returns c =
     let e3 = c.in_ok-at_most_one.ensures.exact ∙ ap (λ (l : List Lit). counted f2 l) c.deref-3.ensures.value in
     let f4 = c.add_waits.new.cnf in
     let e4 = c.in_ok-add_waits.ensures in
-    then_same c.add_comes.result c.add_comes.new.cnf (with_clauses f4 C) (with_guard g k xs f) (branch-ends lits W C n f f1 f2 f3 f4 e1 e2 e3 e4 ∙ is) c.add_comes.ensures
+    then_same c.add_comes.result c.add_comes.new.cnf (with_clauses f4 C) (formula_with_guard g k xs f) (branch-ends lits W C n f f1 f2 f3 f4 e1 e2 e3 e4 ∙ is) c.add_comes.ensures

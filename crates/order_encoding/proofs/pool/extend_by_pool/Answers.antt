@@ -11,7 +11,7 @@ use Rattle.cycle_encoding.proofs.Counting.{count-any}
 use Rattle.cycle_encoding.proofs.Totals.{size-vars}
 use Rattle.order_encoding.specs.OrderVariables.{all_taken}
 use Rattle.order_encoding.specs.OrderFamilies.{register_clauses}
-use Rattle.order_encoding.specs.OrderSteps.{with_pool}
+use Rattle.order_encoding.specs.OrderSteps.{formula_with_pool}
 use Rattle.order_encoding.proofs.AddSteps.{then_same}
 use Rattle.order_encoding.proofs.TakenPlaces.{taken-count}
 use Rattle.order_encoding.proofs.Extended.{pool-room1, pool-room2, pool-vars2, pool-limit, pool-ends, pool-by-numbers, the_formula}
@@ -250,4 +250,4 @@ returns c =
     let f2 = c.add_takes.new.cnf in
     let e2 = c.in_ok-add_takes.ensures in
     let counted = λ (l : List Lit). the_formula (f2.vars + at_most_vars q (length l)) (f2.clauses ++ at_most_clauses f2.vars q l) in
-    then_same c.at_most.result c.at_most.new.cnf (counted c.deref.result.now) (with_pool g k xs f table) (ap (λ (l : List Lit). counted l) (c.deref.ensures.value ∙ are) ∙ pool-ends lits T p q n f f1 f2 e1 sv sc e2 ∙ is) c.at_most.ensures.exact
+    then_same c.at_most.result c.at_most.new.cnf (counted c.deref.result.now) (formula_with_pool g k xs f table) (ap (λ (l : List Lit). counted l) (c.deref.ensures.value ∙ are) ∙ pool-ends lits T p q n f f1 f2 e1 sv sc e2 ∙ is) c.at_most.ensures.exact

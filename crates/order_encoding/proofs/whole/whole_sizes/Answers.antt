@@ -9,7 +9,7 @@ returns-clause-vars c =
     let d = c.guard_sizes.ensures.vars in
     let e = c.pool_sizes.ensures.vars in
     let h = c.both-with_memory.ensures.vars in
-    let i = c.both-with_guard.ensures.vars in
+    let i = c.both-formula_with_guard.ensures.vars in
     let j = c.both.ensures.vars in
     omega arith
 
@@ -21,6 +21,6 @@ returns-clause-clauses c =
     let d = c.guard_sizes.ensures.clauses in
     let e = c.pool_sizes.ensures.clauses in
     let h = c.both-with_memory.ensures.clauses in
-    let i = c.both-with_guard.ensures.clauses in
+    let i = c.both-formula_with_guard.ensures.clauses in
     let j = c.both.ensures.clauses in
     omega arith

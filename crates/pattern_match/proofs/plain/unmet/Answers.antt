@@ -1,5 +1,5 @@
 use Rattle.std.specs.Prelude.{All}
-use Rattle.pattern_match.specs.Classes.{CanRead}
+use Rattle.pattern_match.specs.Classes.{CanFindClass}
 use Rattle.std.proofs.Common.{◌+◌, refl, rules, [], map, length, take, sym, ap, ◌∙◌, subst, subst₂}
 use Rattle.std.proofs.lemmas.List.{take_all}
 use Rattle.word_terms.specs.Tree.{AreBelow}
@@ -36,13 +36,13 @@ pub have_one_class-requires-clause-first : goal.have_one_class-requires-clause-f
 have_one_class-requires-clause-first c =
     let g = c.args.graph.now in
     let r = c.args.rule.now in
-    subst₂ (λ cs t. CanRead g cs t) (sym c.as_slice-in-loop-bound.ensures) (sym c.left-in-loop-bound.ensures) (left_reads g c.in_ok-bounds.ensures.graph r c.variables.ensures.rule c.in_ok-classes.classes (placed c))
+    subst₂ (λ cs t. CanFindClass g cs t) (sym c.as_slice-in-loop-bound.ensures) (sym c.left-in-loop-bound.ensures) (left_reads g c.in_ok-bounds.ensures.graph r c.variables.ensures.rule c.in_ok-classes.classes (placed c))
 
 pub have_one_class-requires-clause-second : goal.have_one_class-requires-clause-second
 have_one_class-requires-clause-second c =
     let g = c.args.graph.now in
     let r = c.args.rule.now in
-    subst₂ (λ cs t. CanRead g cs t) (sym c.as_slice-in-loop-bound.ensures) (sym c.right.ensures) (right_reads g c.in_ok-bounds.ensures.graph r c.variables.ensures.rule c.in_ok-classes.classes (placed c))
+    subst₂ (λ cs t. CanFindClass g cs t) (sym c.as_slice-in-loop-bound.ensures) (sym c.right.ensures) (right_reads g c.in_ok-bounds.ensures.graph r c.variables.ensures.rule c.in_ok-classes.classes (placed c))
 
 pub loop-bound-preserved : goal.loop-bound-preserved
 loop-bound-preserved c =

@@ -3,7 +3,7 @@ use Rattle.std.specs.Prelude.{All}
 use Rattle.text_core.specs.Lines.{line_at}
 use Rattle.text_core.specs.LineTexts.{words_of_lines}
 use Rattle.run_texts.specs.declared.texts.PlaceWord.{PlaceWord}
-use Rattle.run_texts.specs.SoFar.{IsReadTo, AreSeen}
+use Rattle.run_texts.specs.SoFar.{IsRunTextTo, AreSeen}
 use Rattle.run_texts.proofs.LastLines.{made, one_place}
 use Rattle.run_texts.proofs.NextLines.{not_a_place, too_many_places, place_read}
 use Rattle.run_texts.proofs.Seen.{is_fresh, not_fresh, seen_more}
@@ -31,7 +31,7 @@ returns-then-len-eq-MOST_PLACES-clause-fault c =
 pub returns-clause-ok : goal.returns-clause-ok
 returns-clause-ok c =
     let room : length c.args.run.now.places ≢ 4096 = λ e. c.if-len-eq-MOST_PLACES.false (c.len.ensures ∙ e) in
-    subst (λ ps. IsReadTo (words_of_lines c.args.text.now) (c.args.line + 1) (made c.args.run.now.words c.args.run.now.registers ps)) (sym c.in_ok-push.ensures.ok)
+    subst (λ ps. IsRunTextTo (words_of_lines c.args.text.now) (c.args.line + 1) (made c.args.run.now.words c.args.run.now.registers ps)) (sym c.in_ok-push.ensures.ok)
     (place_read c.args.text.now c.args.line c.args.run.now c.requires.so_far c.requires.line c.in-Some.given c.in-Some.ensures
     (is_fresh c.args.run.now.places c.args.seen.now (c.in-Some.given.address / 8) c.requires.seen (sym c.get.ensures.word ∙ c.if-get-ne0.false)) room)
 

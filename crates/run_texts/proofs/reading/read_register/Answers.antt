@@ -4,7 +4,7 @@ use Rattle.std.proofs.lemmas.Bool.{false≢true}
 use Rattle.text_core.specs.LineTexts.{words_of_lines}
 use Rattle.text_core.specs.Lines.{line_at}
 use Rattle.run_texts.specs.declared.texts.RegisterWord.{RegisterWord}
-use Rattle.run_texts.specs.SoFar.{IsReadTo}
+use Rattle.run_texts.specs.SoFar.{IsRunTextTo}
 use Rattle.run_texts.proofs.LastLines.{made, one_register}
 use Rattle.run_texts.proofs.NextLines.{not_a_register, register_read}
 use Rattle.run_texts.proofs.reading.read_register.Goals as goal
@@ -30,5 +30,5 @@ pub returns-clause-ok : goal.returns-clause-ok
 returns-clause-ok c =
     let fresh : All (λ (q : RegisterWord). q.register ≢ c.in-Some.given.register) c.args.run.now.registers =
     subst (λ l. All (λ (q : RegisterWord). q.register ≢ c.in-Some.given.register) l) c.as_slice.ensures (c.has_register.ensures.no c.if-has_register.false) in
-    subst (λ rs. IsReadTo (words_of_lines c.args.text.now) (c.args.line + 1) (made c.args.run.now.words rs c.args.run.now.places)) (sym c.in_ok-push.ensures.ok)
+    subst (λ rs. IsRunTextTo (words_of_lines c.args.text.now) (c.args.line + 1) (made c.args.run.now.words rs c.args.run.now.places)) (sym c.in_ok-push.ensures.ok)
     (register_read c.args.text.now c.args.line c.args.run.now c.requires.so_far c.requires.line c.in-Some.given (c.is_empty.ensures.0 c.if-not-is_empty.false) c.in-Some.ensures fresh)

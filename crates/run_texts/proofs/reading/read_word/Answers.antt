@@ -4,7 +4,7 @@ use Rattle.text_core.specs.Lines.{line_at}
 use Rattle.text_core.specs.LineTexts.{words_of_lines}
 use Rattle.alpha_machine.specs.Runs.{MayStandAt}
 use Rattle.run_texts.specs.RunFaults.{word_count}
-use Rattle.run_texts.specs.SoFar.{IsReadTo}
+use Rattle.run_texts.specs.SoFar.{IsRunTextTo}
 use Rattle.run_texts.proofs.LastLines.{made, one_word}
 use Rattle.run_texts.proofs.NextLines.{not_a_word, too_many_words, word_read}
 use Rattle.run_texts.proofs.reading.read_word.Goals as goal
@@ -45,7 +45,7 @@ returns-then-len-eq-MOST_WORDS-clause-fault c =
 pub returns-clause-ok : goal.returns-clause-ok
 returns-clause-ok c =
     let room : length c.args.run.now.words ≢ 4096 = λ e. c.if-len-eq-MOST_WORDS.false (c.len-2.ensures ∙ e) in
-    subst (λ ws. IsReadTo (words_of_lines c.args.text.now) (c.args.line + 1) (made ws c.args.run.now.registers c.args.run.now.places)) (sym c.in_ok-push.ensures.ok)
+    subst (λ ws. IsRunTextTo (words_of_lines c.args.text.now) (c.args.line + 1) (made ws c.args.run.now.registers c.args.run.now.places)) (sym c.in_ok-push.ensures.ok)
     (word_read c.args.text.now c.args.line c.args.run.now c.requires.so_far c.requires.line
     c.in-Some.word (c.is_empty.ensures.0 c.if-not-is_empty.false) (c.is_empty-else-not-is_empty.ensures.0 c.if-not-is_empty-2.false) c.in-Some.ensures
     (stands_here _ _ _ _ c.in-Some.word c.requires.count c.len.ensures (c.may_stand.ensures.0 c.if-not-may_stand.false)) room)

@@ -1,8 +1,8 @@
 use Rattle.std.proofs.Common.{◌≡◌, ℕ, ◌+◌, ◌-◌, length, sym, ◌∙◌, subst, arith}
 use Rattle.std.specs.Prelude.{reverse}
 use Rattle.cnf_core.specs.Refutation.{clause_at}
-use Rattle.sat_core.specs.Steps.{vars_of}
-use Rattle.sat_core.specs.Walks.{IsLastDecision, IsWalked, Leads, IsBackjump}
+use Rattle.sat_core.specs.Steps.{var_count}
+use Rattle.sat_core.specs.Walks.{IsLastDecision, IsWalked, LeadsToConflict, IsBackjump}
 use Rattle.sat_core.proofs.conflict.analyze.Goals as goal
 
 pub loop-back-preserved : goal.loop-back-preserved
@@ -20,9 +20,9 @@ loop-back-preserved c =
     let conflict = clause_at clauses c.args.id in
     record {
       last = subst (IsLastDecision steps) (sym c.in_ok-visit.ensures.last) h.last;
-      walked = subst (λ (i : ℕ). IsWalked clauses (vars_of t) steps i b) here c.in_ok-visit.ensures.walked;
-      leads = subst (λ (i : ℕ). Leads clauses steps i b.needed.items b.lits.items (reverse b.hints.items) conflict) here
-          (c.in_ok-visit.ensures.leads conflict (subst (λ (i : ℕ). Leads clauses steps i a.needed.items a.lits.items (reverse a.hints.items) conflict) before h.leads));
+      walked = subst (λ (i : ℕ). IsWalked clauses (var_count t) steps i b) here c.in_ok-visit.ensures.walked;
+      leads = subst (λ (i : ℕ). LeadsToConflict clauses steps i b.needed.items b.lits.items (reverse b.hints.items) conflict) here
+          (c.in_ok-visit.ensures.leads conflict (subst (λ (i : ℕ). LeadsToConflict clauses steps i a.needed.items a.lits.items (reverse a.hints.items) conflict) before h.leads));
       stays = subst (λ (i : ℕ). IsBackjump steps i b.backjump b.lits.items) here
           (c.in_ok-visit.ensures.stays (subst (λ (i : ℕ). IsBackjump steps i a.backjump a.lits.items) before h.stays));
     }
@@ -33,4 +33,4 @@ returns-clause-leads c =
     let a = c.loop-back.analysis in
     let count : c.len-count.result ≡ length t.steps.items = c.len-count.ensures ∙ t.steps.ok.0 in
     let none : length t.steps.items - c.loop-back.back ≡ 0 = (let test = c.loop-back-test.false in omega arith) in
-    subst (λ (i : ℕ). Leads c.args.clauses.now t.steps.items i a.needed.items a.lits.items (reverse a.hints.items) (clause_at c.args.clauses.now c.args.id)) none c.loop-back.invariant.leads
+    subst (λ (i : ℕ). LeadsToConflict c.args.clauses.now t.steps.items i a.needed.items a.lits.items (reverse a.hints.items) (clause_at c.args.clauses.now c.args.id)) none c.loop-back.invariant.leads

@@ -1,6 +1,6 @@
 use Rattle.std.proofs.Common.{ℕ, ◌+◌, [], ◌∷◌, ◌++◌, List, ap, ◌∙◌}
 use Rattle.cnf_core.specs.declared.line.Line.{Line}
-use Rattle.sat_core.specs.Steps.{vars_of}
+use Rattle.sat_core.specs.Steps.{var_count}
 use Rattle.sat_core.proofs.Ending.{line-shown, line-goes_on}
 use Rattle.sat_core.proofs.conflict.learn.Goals as goal
 
@@ -11,7 +11,7 @@ returns-clause-shown c =
     let e = c.in_ok-analysis.ensures in
     let f = c.requires.falsified in
     let line : Line = record { id = c.len.result + 1; lits = c.from.result; hints = c.from-2.result } in
-    line-shown c.args.clauses.now (vars_of old) old.steps.items a c.args.id line e.walked e.leads f.low f.high
+    line-shown c.args.clauses.now (var_count old) old.steps.items a c.args.id line e.walked e.leads f.low f.high
     (ap (λ (n : ℕ). n + 1) c.len.ensures) c.from.ensures
     (c.from-2.ensures ∙ c.in_ok-push.ensures.items ∙ ap (λ (hs : List ℕ). hs ++ c.args.id ∷ []) c.reverse.ensures.items)
 
@@ -21,5 +21,5 @@ returns-clause-size c = (c.cut.ensures.state c.args.clauses.now c.requires.state
 pub returns-clause-goes_on : goal.returns-clause-goes_on
 returns-clause-goes_on c = λ some.
     let e = c.in_ok-analysis.ensures in
-    line-goes_on c.args.clauses.now (vars_of c.args.trail.now) c.args.trail.now c.cut.new.self c.in_ok-analysis.analysis c.from.result
+    line-goes_on c.args.clauses.now (var_count c.args.trail.now) c.args.trail.now c.cut.new.self c.in_ok-analysis.analysis c.from.result
     c.requires.before e.last e.walked e.stays (c.cut.ensures.state c.args.clauses.now c.requires.state) c.cut.ensures.steps c.from.ensures some

@@ -5,8 +5,8 @@ use Rattle.std.proofs.lemmas.List.{take_at}
 use Rattle.std.proofs.lemmas.Option.{get_or_from_slice_get}
 use Rattle.cnf_core.specs.declared.literal.Lit.{Lit}
 use Rattle.cnf_core.specs.Refutation.{clause_at}
-use Rattle.sat_core.specs.Steps.{vars_of}
-use Rattle.sat_core.specs.Walks.{IsStepOf, Needs, IsLastDecision, IsWalked, Leads}
+use Rattle.sat_core.specs.Steps.{var_count}
+use Rattle.sat_core.specs.Walks.{IsStepOf, Needs, IsLastDecision, IsWalked, LeadsToConflict}
 use Rattle.sat_core.specs.declared.trail.Step.{Step}
 use Rattle.sat_core.specs.declared.conflict.Analysis.{Analysis}
 use Rattle.std.specs.Vec.{with_items}
@@ -18,7 +18,7 @@ pub mark_clause-at_last_level-requires : goal.mark_clause-at_last_level-requires
 mark_clause-at_last_level-requires c =
     let t = c.args.trail.now in
     let clauses = c.args.clauses.now in
-    let n = vars_of t in
+    let n = var_count t in
     let is : clause_at clauses c.args.id ≡ c.get.result.now = get_or_from_slice_get clauses (c.args.id - 1) c.get.result.now [] c.get.ensures in
     let f = c.requires.falsified in
     let steps = false-steps clauses n t.steps.items t.values.items t.places.items (clause_at clauses c.args.id) c.requires.state
@@ -32,7 +32,7 @@ mark_clause-at_last_level-requires c =
 abbrev analysis-of : goal.After-new-2 → Analysis
 analysis-of c = record { needed = with_items c.in_ok-needed.needed c.mark_clause-at_last_level.new.needed; at_last_level = c.mark_clause-at_last_level.result; last = c.last_decision-last.result; lits = c.new.result; hints = c.new-2.result; backjump = c.len-count.result }
 
-started : (c : goal.After-new-2) → IsWalked c.args.clauses.now (vars_of c.args.trail.now) c.args.trail.now.steps.items (length c.args.trail.now.steps.items) (analysis-of c) × Leads c.args.clauses.now c.args.trail.now.steps.items (length c.args.trail.now.steps.items) (analysis-of c).needed.items (analysis-of c).lits.items (reverse (analysis-of c).hints.items) (clause_at c.args.clauses.now c.args.id)
+started : (c : goal.After-new-2) → IsWalked c.args.clauses.now (var_count c.args.trail.now) c.args.trail.now.steps.items (length c.args.trail.now.steps.items) (analysis-of c) × LeadsToConflict c.args.clauses.now c.args.trail.now.steps.items (length c.args.trail.now.steps.items) (analysis-of c).needed.items (analysis-of c).lits.items (reverse (analysis-of c).hints.items) (clause_at c.args.clauses.now c.args.id)
 started c =
     let t = c.args.trail.now in
     let clauses = c.args.clauses.now in
@@ -45,7 +45,7 @@ started c =
     let needs = subst (λ (ps : List ℕ). Needs ps c.get.result.now c.get.result.now last c.as_mut_slice.result.now new c.mark_clause-at_last_level.result) c.deref-2.ensures.value c.mark_clause-at_last_level.ensures.needs in
     let there : take c.in_ok-needed.needed.len (new ++ drop (length new) c.in_ok-needed.needed.items) ≡ new =
     take_at new (drop (length new) c.in_ok-needed.needed.items) c.in_ok-needed.needed.len (needs.size ∙ ap length c.as_mut_slice.ensures.value ∙ sym c.in_ok-needed.needed.ok.0) in
-    walked-start clauses (vars_of t) t.steps.items t.values.items t.places.items c.args.id last c.mark_clause-at_last_level.result c.mark_clause-at_last_level.result c.as_mut_slice.result.now c.get.result.now (analysis-of c)
+    walked-start clauses (var_count t) t.steps.items t.values.items t.places.items c.args.id last c.mark_clause-at_last_level.result c.mark_clause-at_last_level.result c.as_mut_slice.result.now c.get.result.now (analysis-of c)
     c.requires.state c.requires.exist c.requires.before c.requires.falsified is-last (sym is) old-is
     (subst (λ (xs : List Bool). Needs t.places.items c.get.result.now c.get.result.now last c.as_mut_slice.result.now xs c.mark_clause-at_last_level.result) (sym there) needs)
     refl refl c.new.ensures.items c.new-2.ensures.items

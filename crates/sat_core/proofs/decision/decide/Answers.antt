@@ -1,6 +1,6 @@
 use Rattle.std.proofs.Common.{ℕ, ◌++◌, ◌∷◌, [], List, length, false, ap, ◌∙◌, subst}
 use Rattle.std.specs.Prelude.{replicate}
-use Rattle.sat_core.specs.Steps.{vars_of}
+use Rattle.sat_core.specs.Steps.{var_count}
 use Rattle.sat_core.specs.Picks.{free_list, denied}
 use Rattle.sat_core.proofs.Picking.{picked-at}
 use Rattle.sat_core.proofs.States.{decision-right}
@@ -28,6 +28,6 @@ returns g c =
         within = p.within;
         steps = c.in_ok-assign.ensures.steps ∙ ap (λ (x : ℕ). old.steps.items ++ denied x ∷ []) p.is;
         state = λ clauses h. c.in_ok-assign.ensures.state clauses h
-            (decision-right clauses (vars_of old) old.steps.items values old.places.items (record { var = c.index.result.now; positive = false }) h p.above p.exists p.free);
+            (decision-right clauses (var_count old) old.steps.items values old.places.items (record { var = c.index.result.now; positive = false }) h p.above p.exists p.free);
       };
     }

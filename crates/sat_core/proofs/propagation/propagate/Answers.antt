@@ -1,14 +1,14 @@
 use Rattle.std.proofs.Common.{◌≡◌, ℕ, length, Some, None, arith, sym, ap, ◌∙◌, subst}
 use Rattle.std.proofs.lemmas.List.{length_push}
 use Rattle.sat_core.specs.declared.trail.Step.{Step}
-use Rattle.sat_core.specs.Steps.{vars_of, IsTrailState}
+use Rattle.sat_core.specs.Steps.{var_count, IsTrailState}
 use Rattle.sat_core.proofs.States.{reason-right, propagates-push}
 use Rattle.sat_core.proofs.propagation.propagate.Goals as goal
 
-new-state : (c : goal.In_ok-assign-in-Reason) → IsTrailState c.args.clauses.now (vars_of c.args.trail.now) c.assign.new.self
+new-state : (c : goal.In_ok-assign-in-Reason) → IsTrailState c.args.clauses.now (var_count c.args.trail.now) c.assign.new.self
 new-state c =
     let clauses = c.args.clauses.now in
-    let n = vars_of c.args.trail.now in
+    let n = var_count c.args.trail.now in
     let t = c.loop-id.trail in
     let h = c.loop-id.invariant in
     let right = reason-right clauses n t.steps.items t.values.items t.places.items c.in-Reason.lit c.in-Reason.id h.state c.requires.exist c.in-Reason.ensures in

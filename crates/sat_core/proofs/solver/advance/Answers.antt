@@ -2,7 +2,7 @@ use Rattle.std.proofs.Common.{◌≡◌, ℕ, Bool, Option, [], arith, sym, subs
 use Rattle.std.specs.Prelude.{MatchBool, MatchOption, slice_index}
 use Rattle.cnf_core.specs.Values.{IsClosed}
 use Rattle.sat_core.specs.declared.trail.Trail.{Trail}
-use Rattle.sat_core.specs.Steps.{given, vars_of, AreClosedBefore}
+use Rattle.sat_core.specs.Steps.{given, var_count, AreClosedBefore}
 use Rattle.sat_core.specs.Looks.{IsFalsified}
 use Rattle.sat_core.specs.Picks.{IsDecidedBy, free_list, denied}
 use Rattle.sat_core.proofs.States.{propagated-closed}
@@ -34,7 +34,7 @@ loop-id-preserved g c =
     let h = c.loop-id.invariant in
     let d = subst (λ (b : Bool). MatchBool b (IsDecidedBy g.F.Rule.picks c.args.picker.now mid c.decide.new.trail) ((free_list mid.values.items ≡ []) × (c.decide.new.trail ≡ mid))) c.if-not-branch.false c.in_ok-decide.ensures.decided in
     let closed = subst (λ (o : Option ℕ). MatchOption o (IsClosed (given mid.values.items) clauses) (IsFalsified (given mid.values.items) clauses)) c.in_default.is c.in_ok-id.ensures.done in
-    let a = advanced clauses (vars_of c.args.trail.now) c.loop-id.trail mid c.decide.new.trail (denied (slice_index (free_list mid.values.items) d.place)) c.requires.exist h.size h.before c.in_ok-id.ensures.state c.in_ok-id.ensures.adds closed d.steps d.state in
+    let a = advanced clauses (var_count c.args.trail.now) c.loop-id.trail mid c.decide.new.trail (denied (slice_index (free_list mid.values.items) d.place)) c.requires.exist h.size h.before c.in_ok-id.ensures.state c.in_ok-id.ensures.adds closed d.steps d.state in
     record { state = a.state; before = a.before; size = a.size }
 
 pub loop-id-smaller : goal.loop-id-smaller
@@ -44,7 +44,7 @@ loop-id-smaller g c =
     let h = c.loop-id.invariant in
     let d = subst (λ (b : Bool). MatchBool b (IsDecidedBy g.F.Rule.picks c.args.picker.now mid c.decide.new.trail) ((free_list mid.values.items ≡ []) × (c.decide.new.trail ≡ mid))) c.if-not-branch.false c.in_ok-decide.ensures.decided in
     let closed = subst (λ (o : Option ℕ). MatchOption o (IsClosed (given mid.values.items) clauses) (IsFalsified (given mid.values.items) clauses)) c.in_default.is c.in_ok-id.ensures.done in
-    let a = advanced clauses (vars_of c.args.trail.now) c.loop-id.trail mid c.decide.new.trail (denied (slice_index (free_list mid.values.items) d.place)) c.requires.exist h.size h.before c.in_ok-id.ensures.state c.in_ok-id.ensures.adds closed d.steps d.state in
+    let a = advanced clauses (var_count c.args.trail.now) c.loop-id.trail mid c.decide.new.trail (denied (slice_index (free_list mid.values.items) d.place)) c.requires.exist h.size h.before c.in_ok-id.ensures.state c.in_ok-id.ensures.adds closed d.steps d.state in
     let size = h.size in
     let size' = a.size in
     let grown = a.grown in

@@ -1,13 +1,13 @@
 use Rattle.std.proofs.Common.{◌≡◌, ◌-◌, length}
-use Rattle.sat_core.specs.Steps.{IsTrailState, AreClosedBefore, vars_of}
+use Rattle.sat_core.specs.Steps.{IsTrailState, AreClosedBefore, var_count}
 use Rattle.sat_core.proofs.solver.advance.Given as goal
 
 abbrev pub invariant-loop-id : goal.invariant-loop-id
 invariant-loop-id g l = record {
-  state : IsTrailState l.clauses (vars_of l.initial.trail) l.trail;
+  state : IsTrailState l.clauses (var_count l.initial.trail) l.trail;
   before : AreClosedBefore l.clauses l.trail.steps.items;
-  size : vars_of l.trail ≡ vars_of l.initial.trail;
+  size : var_count l.trail ≡ var_count l.initial.trail;
 }
 
 abbrev pub decreases-loop-id : goal.decreases-loop-id
-decreases-loop-id g l = vars_of l.trail - length l.trail.steps.items
+decreases-loop-id g l = var_count l.trail - length l.trail.steps.items

@@ -1,7 +1,7 @@
 use Rattle.std.proofs.Common.{◌+◌, ℕ, [], ◌∷◌, ◌++◌, map, take, sym, ap, ◌∙◌, subst, subst₂}
 use Rattle.std.proofs.lemmas.Option.{MatchOption-at_some, MatchOption-at_none}
 use Rattle.axiom_base.specs.Schemes.{computed}
-use Rattle.pattern_match.specs.Classes.{IsClass, CanRead}
+use Rattle.pattern_match.specs.Classes.{IsClass, CanFindClass}
 use Rattle.pattern_match.specs.Found.{classes_in}
 use Rattle.pattern_match.specs.Listing.{Lists}
 use Rattle.pattern_match.specs.Matches.{IsUnmetOf}
@@ -22,8 +22,8 @@ unmet_at c =
     subst (IsUnmetOf c.args.graph.now (computed c.args.kind)) (sym c.as_slice-places.ensures)
     (match_at (IsUnmetOf c.args.graph.now (computed c.args.kind)) c.as_slice-one-items.result.now c.loop-one.one-index c.one-item.result c.loop-one-test.true c.one-item.is lists.each)
 
-pub given-requires : goal.given-requires
-given-requires c =
+pub calc_given-requires : goal.calc_given-requires
+calc_given-requires c =
     let law = c.computed_rules_are_true.ensures in
     computed_can law.last c.constants_are_numbered.ensures.numbers law.one c.args.graph.now c.requires.graph c.args.kind c.as_slice-places.result.now (unmet_at c)
 
@@ -32,7 +32,7 @@ class_of_pattern-requires c =
     let law = c.computed_rules_are_true.ensures in
     let u = unmet_at (goal.at.class_of_pattern-requires c).After-as_slice-places in
     record {
-      can = subst (CanRead c.args.graph.now c.as_slice-places.result.now) (sym c.loop-one.invariant.0)
+      can = subst (CanFindClass c.args.graph.now c.as_slice-places.result.now) (sym c.loop-one.invariant.0)
           (computed_reads law.last c.constants_are_numbered.ensures.numbers law.one c.args.graph.now c.requires.graph c.args.kind c.as_slice-places.result.now u);
     }
 

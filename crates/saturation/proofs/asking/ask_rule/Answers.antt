@@ -1,7 +1,7 @@
 use Rattle.std.proofs.Common.{◌+◌, ℕ, [], ◌∷◌, ◌++◌, map, take, sym, ap, ◌∙◌, subst, subst₂}
 use Rattle.std.proofs.lemmas.Option.{MatchOption-at_some, MatchOption-at_none}
 use Rattle.axiom_base.specs.Schemes.{plain}
-use Rattle.pattern_match.specs.Classes.{IsClass, CanRead}
+use Rattle.pattern_match.specs.Classes.{IsClass, CanFindClass}
 use Rattle.pattern_match.specs.Found.{classes_in}
 use Rattle.pattern_match.specs.Listing.{Lists}
 use Rattle.pattern_match.specs.Matches.{IsUnmetOf}
@@ -24,7 +24,7 @@ unmet_at c =
 
 pub class_of_pattern-requires : goal.class_of_pattern-requires
 class_of_pattern-requires c = record {
-  can = subst (CanRead c.args.graph.now c.as_slice-places.result.now) (sym c.left.ensures) (plain_reads c.args.graph.now c.requires.graph c.args.rule.now c.as_slice-places.result.now (unmet_at c));
+  can = subst (CanFindClass c.args.graph.now c.as_slice-places.result.now) (sym c.left.ensures) (plain_reads c.args.graph.now c.requires.graph c.args.rule.now c.as_slice-places.result.now (unmet_at c));
 }
 
 pub loop-one-preserved : goal.loop-one-preserved

@@ -3,7 +3,7 @@ use Rattle.std.proofs.lemmas.Result.{err_from_is_err_and}
 use Rattle.goal_reader.specs.Views.{assume_view}
 use Rattle.saturation.specs.AtStart.{CanAssume, AssumeFaultIs}
 use Rattle.saturation.specs.GoalTerms.{assumed_pair}
-use Rattle.saturation.specs.Trace.{IsAssumed, none_assumed}
+use Rattle.saturation.specs.Trace.{IsAssumeMade, none_assumed}
 use Rattle.saturation.proofs.StartSteps.{in_map, at_map, next_assume_can, one_more_assumed, refused_next}
 use Rattle.saturation.proofs.first_graph.assume_all.Goals as goal
 
@@ -24,7 +24,7 @@ loop-assume-preserved c =
     let x = c.assume-item.result in
     let k = c.loop-assume.assume-index in
     one_more_assumed c.args.graph c.loop-assume.graph (map assume_view assumes) k (assume_view x) (in_map assume_view assumes k x c.loop-assume-test.true c.assume-item.is) c.loop-assume.invariant c.in_ok-graph.graph
-    (subst (λ a. IsAssumed (assumed_pair a) c.loop-assume.graph c.in_ok-graph.graph) (sym (at_map assume_view assumes k x c.loop-assume-test.true c.assume-item.is)) c.in_ok-graph.ensures.assumed)
+    (subst (λ a. IsAssumeMade (assumed_pair a) c.loop-assume.graph c.in_ok-graph.graph) (sym (at_map assume_view assumes k x c.loop-assume-test.true c.assume-item.is)) c.in_ok-graph.ensures.assumed)
 
 pub returns-in_err-graph-clause-fault : goal.returns-in_err-graph-clause-fault
 returns-in_err-graph-clause-fault c =

@@ -1,13 +1,13 @@
 use Rattle.std.proofs.Common.{◌≤◌, ℕ, map, length, sym, ap, ◌∙◌, subst, All, []}
 use Rattle.std.specs.List.{AllZip}
 use Rattle.word_terms.specs.View.{tree_of}
-use Rattle.pattern_match.specs.Classes.{CanRead, IsClass}
+use Rattle.pattern_match.specs.Classes.{CanFindClass, IsClass}
 use Rattle.goal_reader.specs.Views.{input_view}
 use Rattle.goal_reader.specs.declared.goals.InputReg.{InputReg}
 use Rattle.goal_reader.specs.declared.goals.Set.{Set}
 use Rattle.launch_graph.specs.declared.graphs.LaunchGraph.{LaunchGraph}
 use Rattle.saturation.specs.GoalTerms.{entry_term, input_term}
-use Rattle.saturation.specs.Numbered.{IsNumberOf, IsInputNumber, IsSetNumber, IsGuardNumber, firsts, indexes_of, launched_row}
+use Rattle.saturation.specs.Numbered.{IsClassNumber, IsInputNumber, IsSetNumber, IsGuardNumber, firsts, indexes_of, launched_row}
 use Rattle.saturation.proofs.LaunchedRows.{few_used}
 use Rattle.saturation.proofs.LaunchedGraphs.{inputs_have, guard_has, guard_read, sets_have, sets_read, IsMade, launched, keeps_grown, keeps_stop}
 use Rattle.saturation.proofs.launching.to_launch.Goals as goal
@@ -28,7 +28,7 @@ launch_guard-requires-clause-there c = guard_has (input_view c.args.input.now) c
 
 pub launch_sets-requires-clause-can : goal.launch_sets-requires-clause-can
 launch_sets-requires-clause-can c =
-    subst (λ xs. All (λ (s : Set). CanRead c.args.saturated.now.graph [] (tree_of s.value)) xs) (sym c.as_slice-4.ensures) (sets_read (input_view c.args.input.now) c.args.goal.now c.requires.input c.requires.goal c.args.saturated.now.graph c.requires.can)
+    subst (λ xs. All (λ (s : Set). CanFindClass c.args.saturated.now.graph [] (tree_of s.value)) xs) (sym c.as_slice-4.ensures) (sets_read (input_view c.args.input.now) c.args.goal.now c.requires.input c.requires.goal c.args.saturated.now.graph c.requires.can)
 
 pub launch_sets-requires-clause-there : goal.launch_sets-requires-clause-there
 launch_sets-requires-clause-there c =
@@ -47,7 +47,7 @@ returns c =
           ∙ ap (λ ns. map (launched_row ns c.deref-2.result.now c.as_slice.result.now) graph.rows) c.deref.ensures.value
           ∙ ap (λ ns. map (launched_row numbers ns c.as_slice.result.now) graph.rows) (c.deref-2.ensures.value ∙ c.in_ok-used.ensures)
           ∙ ap (λ ds. map (launched_row numbers (firsts (indexes_of graph.rows)) ds) graph.rows) c.as_slice.ensures;
-      entry = subst (λ ns. IsNumberOf graph ns entry_term c.leaf_number.result) c.deref-3.ensures.value c.leaf_number.ensures;
+      entry = subst (λ ns. IsClassNumber graph ns entry_term c.leaf_number.result) c.deref-3.ensures.value c.leaf_number.ensures;
       inputs =
           subst (λ cs. AllZip (IsInputNumber graph numbers) cs c.args.goal.now.inputs) (sym c.from-2.ensures)
           (subst (λ is. AllZip (IsInputNumber graph numbers) c.in_ok-launch_inputs.field-0.items is) c.as_slice-2.ensures

@@ -1,6 +1,6 @@
 use Rattle.std.proofs.Common.{map, sym, subst}
 use Rattle.std.proofs.lemmas.Result.{err_from_is_err_and}
-use Rattle.saturation.specs.Trace.{CanMake, AreMade, finished}
+use Rattle.saturation.specs.Trace.{CanMake, AreAllMade, finished}
 use Rattle.saturation.specs.Instances.{asked_of, RefusalIs}
 use Rattle.saturation.proofs.RoundSteps.{all_made_push, next_can, refusal_in, in_asked, at_asked, one_more_asked, all_asked_taken}
 use Rattle.saturation.proofs.making.make_all.Goals as goal
@@ -21,10 +21,10 @@ loop-one-preserved c =
     let asked = c.args.asked.now in
     let x = c.one-item.result in
     let k = c.loop-one.one-index in
-    subst (λ xs. AreMade xs c.args.graph c.in_ok-graph.graph) (sym (one_more_asked asked k x c.loop-one-test.true c.one-item.is)) (all_made_push c.loop-one.invariant c.in_ok-graph.ensures.made)
+    subst (λ xs. AreAllMade xs c.args.graph c.in_ok-graph.graph) (sym (one_more_asked asked k x c.loop-one-test.true c.one-item.is)) (all_made_push c.loop-one.invariant c.in_ok-graph.ensures.made)
 
 pub returns-clause-made : goal.returns-clause-made
-returns-clause-made c = subst (λ xs. AreMade xs c.args.graph c.loop-one.graph) (all_asked_taken c.args.asked.now c.loop-one.one-index c.loop-one-test.false) c.loop-one.invariant
+returns-clause-made c = subst (λ xs. AreAllMade xs c.args.graph c.loop-one.graph) (all_asked_taken c.args.asked.now c.loop-one.one-index c.loop-one-test.false) c.loop-one.invariant
 
 pub returns-in_err-graph-clause-fault : goal.returns-in_err-graph-clause-fault
 returns-in_err-graph-clause-fault c =

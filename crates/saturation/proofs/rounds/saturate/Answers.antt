@@ -5,7 +5,7 @@ use Rattle.std.proofs.lemmas.Result.{err_from_is_err_and}
 use Rattle.axiom_base.specs.Rewrites.{IsRule}
 use Rattle.axiom_base.specs.Schemes.{schemes}
 use Rattle.saturation.specs.Asking.{AreAsked}
-use Rattle.saturation.specs.Trace.{CanMakeAll, AreMade, operators_asked}
+use Rattle.saturation.specs.Trace.{CanMakeAll, AreAllMade, operators_asked}
 use Rattle.saturation.specs.Instances.{asked_of, RefusalOfAll}
 use Rattle.saturation.proofs.Asks.{asks_of}
 use Rattle.saturation.proofs.LoopSteps.{Ready, running_none, round_can, running_more, fault_is, fault_hopeless, not_last, is_last, saturated, stop_fits}
@@ -87,5 +87,5 @@ returns-in_err-graph-clause-hopeless c =
 pub loop-graph-preserved : goal.loop-graph-preserved
 loop-graph-preserved c =
     let f = facts (goal.at.loop-graph-preserved c).After-deref-in-loop-graph in
-    let made = subst (λ xs. AreMade (map asked_of xs) c.loop-graph.graph c.in_ok-graph.graph) f.items c.in_ok-graph.ensures.made in
+    let made = subst (λ xs. AreAllMade (map asked_of xs) c.loop-graph.graph c.in_ok-graph.graph) f.items c.in_ok-graph.ensures.made in
     running_more c.args.rules.now.program c.args.graph c.args.rounds c.args.nodes c.loop-graph.graph c.loop-graph.done c.loop-graph.invariant (map asked_of c.in_ok-asked.asked.items) c.need_of-need.result f.ready c.requires.rounds c.requires.nodes f.some f.more f.within c.meanings_are_in_range.ensures.values c.schemes_are_true.ensures.true_rules c.in_ok-graph.graph made

@@ -3,8 +3,8 @@ use Rattle.std.specs.Prelude.{reverse}
 use Rattle.cnf_core.specs.declared.literal.Lit.{Lit}
 use Rattle.sat_core.specs.declared.trail.Step.{Step}
 use Rattle.sat_core.specs.declared.conflict.Analysis.{Analysis}
-use Rattle.sat_core.specs.Steps.{vars_of}
-use Rattle.sat_core.specs.Walks.{Leads, backjump_after}
+use Rattle.sat_core.specs.Steps.{var_count}
+use Rattle.sat_core.specs.Walks.{LeadsToConflict, backjump_after}
 use Rattle.sat_core.proofs.Walking.{stays-more}
 use Rattle.sat_core.proofs.conflict.Analysis.visit.Goals as goal
 
@@ -14,7 +14,7 @@ returns-clause-leads c =
     let steps = c.args.trail.now.steps.items in
     let i = c.args.place in
     let a = c.args.self.now in
-    subst (λ (x : Analysis). (conflict : List Lit) → Leads clauses steps (i + 1) a.needed.items a.lits.items (reverse a.hints.items) conflict → Leads clauses steps i x.needed.items x.lits.items (reverse x.hints.items) conflict)
+    subst (λ (x : Analysis). (conflict : List Lit) → LeadsToConflict clauses steps (i + 1) a.needed.items a.lits.items (reverse a.hints.items) conflict → LeadsToConflict clauses steps i x.needed.items x.lits.items (reverse x.hints.items) conflict)
     (sym c.set_backjump.ensures) c.in_ok-resolve_or_keep.ensures.leads
 
 pub returns-clause-stays : goal.returns-clause-stays
@@ -28,6 +28,6 @@ returns-clause-stays c = λ before.
     let (more, is) = c.in_ok-resolve_or_keep.ensures.grows in
     let lits : m.lits.items ≡ b.lits.items = ap (λ (x : Analysis). x.lits.items) c.set_backjump.ensures in
     let backjump : m.backjump ≡ backjump_after step (length b.lits.items) i b.backjump = ap (λ (x : Analysis). x.backjump) c.set_backjump.ensures in
-    stays-more c.args.clauses.now (vars_of c.args.trail.now) steps i step a.backjump m.backjump a.lits.items m.lits.items more b c.in_ok-resolve_or_keep.ensures.walked (sym lits) (lits ∙ is) c.requires.within
+    stays-more c.args.clauses.now (var_count c.args.trail.now) steps i step a.backjump m.backjump a.lits.items m.lits.items more b c.in_ok-resolve_or_keep.ensures.walked (sym lits) (lits ∙ is) c.requires.within
     (backjump ∙ ap (λ (x : Step). backjump_after x (length b.lits.items) i b.backjump) c.index.ensures ∙ ap (λ (n : ℕ). backjump_after (get_or steps i step) n i b.backjump) (ap length (sym lits)) ∙ ap (λ (n : ℕ). backjump_after (get_or steps i step) (length m.lits.items) i n) c.in_ok-resolve_or_keep.ensures.backjump)
     before

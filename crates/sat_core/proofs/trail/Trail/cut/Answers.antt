@@ -2,7 +2,7 @@ use Rattle.std.proofs.Common.{◌≤◌, ◌-◌, [], ◌∷◌, List, length, t
 use Rattle.std.proofs.lemmas.List.{take-append-le, get_or_append_left, length-set, length_push}
 use Rattle.cnf_core.specs.Formula.{IsLitOf}
 use Rattle.sat_core.specs.declared.trail.Step.{Step}
-use Rattle.sat_core.specs.Steps.{AreSteps, vars_of}
+use Rattle.sat_core.specs.Steps.{AreSteps, var_count}
 use Rattle.sat_core.proofs.States.{steps-pop}
 use Rattle.sat_core.proofs.trail.Trail.cut.Goals as goal
 
@@ -11,7 +11,7 @@ loop-self-preserved-in-Some c =
     let step = c.in-Some.step in
     let front = c.pop.new.self.items in
     let popped = c.in-Some.ensures.items in
-    let n = vars_of c.args.self.now in
+    let n = var_count c.args.self.now in
     let values = c.loop-self.self.values.items in
     let places = c.loop-self.self.places.items in
     let long = length_push front step in

@@ -4,8 +4,8 @@ use Rattle.std.specs.Prelude.{MatchOption}
 use Rattle.std.proofs.lemmas.Option.{MatchOption-at_some}
 use Rattle.axiom_base.specs.Conditions.{IsCalc}
 use Rattle.pattern_match.specs.Bindings.{HaveConstants}
-use Rattle.saturation.proofs.ConstantsOf.{given_exactly}
-use Rattle.saturation.proofs.constants.given.Goals as goal
+use Rattle.pattern_match.proofs.ConstantsOf.{given_exactly}
+use Rattle.pattern_match.proofs.computed.calc_given.Goals as goal
 
 pub returns : goal.returns
 returns c =
