@@ -15,6 +15,3 @@ pub use encoding::encode;
 pub use instructions::{Instr, Second};
 pub use laws::words_and_instructions;
 pub use printing::text;
-
-#[cfg(test)]
-mod tests;

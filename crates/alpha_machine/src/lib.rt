@@ -14,6 +14,3 @@ pub use laws::{displacements_are_low_bits, steps_add_up};
 pub use running::{End, RunFault, run};
 pub use states::State;
 pub use stepping::{StepFault, step};
-
-#[cfg(test)]
-mod tests;

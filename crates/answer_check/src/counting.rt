@@ -16,7 +16,7 @@ use order_encoding::{count_clauses, pass_limit};
 use std::alloc::Global;
 
 /// A claim says that no schedule fits in fewer cycles than these.
-pub(crate) fn refuted_below(claim: &Claim) -> u32
+pub fn refuted_below(claim: &Claim) -> u32
     requires { FitsClaim claim.now }
     ensures value { result ≡ format.refuted_below claim.now }
     ensures few { result ≤ 25 }

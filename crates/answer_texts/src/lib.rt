@@ -28,8 +28,3 @@ pub use laws::{
 pub use line_printing::{put, put_number, put_word};
 pub use printing::{print_answer, put_goal, put_head};
 pub use reading::read_answer;
-
-#[cfg(test)]
-mod fault_tests;
-#[cfg(test)]
-mod tests;

@@ -21,6 +21,3 @@ pub use conditions::calc;
 pub use kinds::{CALC_KINDS, Calc, constants, first_constant};
 pub use rule::Rule;
 pub use table::{equations, equations_are_true};
-
-#[cfg(test)]
-mod tests;

@@ -3,7 +3,7 @@ use Rattle.std.proofs.Common.{◌≡◌, ℕ, suc, ◌+◌, ◌*◌, ◌-◌, �
 use Rattle.std.specs.List.{All, range_with_len}
 use Rattle.std.proofs.lemmas.Bool.{cases_eq, cases_lt, cond-true, cond-false, eq-eqb, ne_eqb, le-leb, lt-leb}
 use Rattle.std.proofs.lemmas.List.Elements.{All-nil, All-cons, All-append, All-map, All-weaker, All-get_or}
-use Rattle.std.proofs.Math.Nat.{mul-le-mul, mul-le-mul_right}
+use Rattle.std.proofs.Math.Nat.{mul-le-mul_right}
 use Rattle.cnf_core.specs.declared.literal.Lit.{Lit}
 use Rattle.cnf_core.specs.Formula.{IsLitOf, AreOver, negated}
 use Rattle.cnf_core.specs.Counter.{counter_rows, lit_at, counter, counts_first, keeps, counts_next, stops, counter_clauses, at_most_clauses, at_most_size, at_most_vars}
@@ -74,10 +74,7 @@ size-denied p n many none = cond-false (leb n p) _ _ (lt-leb n p many) ∙ cond-
 size-counted : (p n : ℕ) → p < n → 1 ≤ p → at_most_size p n ≡ (n - 1) + (n - 2) * p + (n - 2) * (p - 1) + (n - 1)
 size-counted p n many some = cond-false (leb n p) _ _ (lt-leb n p many) ∙ cond-false (eqb p 0) _ _ (ne_eqb p 0 (λ e. absurd (omega arith)))
 
-vars-none : (p n : ℕ) → n ≤ p → at_most_vars p n ≡ 0
-vars-none p n few = cond-true (leb n p) _ _ (le-leb n p few)
-
-pub vars-more : (p n : ℕ) → p < n → at_most_vars p n ≡ (n - 1) * p
+vars-more : (p n : ℕ) → p < n → at_most_vars p n ≡ (n - 1) * p
 vars-more p n many = cond-false (leb n p) _ _ (lt-leb n p many)
 
 length_denied : (lits : List Lit) → length (map (λ (l : Lit). negated l ∷ []) lits) ≡ length lits
@@ -114,23 +111,4 @@ at_most-over old p lits exist =
                 (let pos : 1 ≤ p = omega arith in
                 subst (AreOver (old + (length lits - 1) * p)) (sym (at_most-counted old p lits many pos)) (counter-over old p lits pos many exist))
           ]))
-    ]
-
--- a small counter adds little
-pub small_counter : (p n : ℕ) → p < 100 → n < 100 → (at_most_vars p n ≤ 10000) × (at_most_size p n ≤ 40000)
-small_counter p n few less =
-    let product : (m : ℕ) → m < 100 → (k : ℕ) → k < 100 → m * k ≤ 10000 = λ m a k b. (let a' : m ≤ 100 = omega arith in let b' : k ≤ 100 = omega arith in let le : m * k ≤ 100 * 100 = mul-le-mul {n₁ = m} {m₁ = k} {n₂ = 100} {m₂ = 100} a' b' in omega arith) in
-    elim (cases_lt p n) [
-      | inr none ↦ (let a = vars-none p n none in let b = size-none p n none in (omega arith, omega arith))
-      | inl many ↦
-          (let a = vars-more p n many in
-          let x = product (n - 1) (omega arith) p few in
-          let y = product (n - 2) (omega arith) p few in
-          let z = product (n - 2) (omega arith) (p - 1) (omega arith) in (
-            omega arith,
-            elim (cases_eq p 0) [
-              | inl zero' ↦ (let b = size-denied p n many zero' in omega arith)
-              | inr some ↦ (let b = size-counted p n many (omega arith) in omega arith)
-            ],
-          ))
     ]

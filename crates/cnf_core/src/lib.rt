@@ -18,6 +18,3 @@ pub use line::{Line, Lines};
 pub use literal::Lit;
 pub use store::Clauses;
 pub use values::{Look, Values, look_at};
-
-#[cfg(test)]
-mod tests;

@@ -17,6 +17,3 @@ pub use laws::{
     classes_have_one_sort, inserts_keep_rows, merges_keep_classes, rows_name_present_classes,
 };
 pub use rows::Row;
-
-#[cfg(test)]
-mod tests;

@@ -11,6 +11,3 @@ mod texts;
 pub use laws::{one_reading, printed_lines_are_read, sexps_are_forms};
 pub use reading::{at, name, number, parts, place, register};
 pub use texts::trees;
-
-#[cfg(test)]
-mod tests;

@@ -12,6 +12,3 @@ pub use laws::{
     generated_inputs_are_well_formed,
 };
 pub use worked::worked_chains;
-
-#[cfg(test)]
-mod tests;

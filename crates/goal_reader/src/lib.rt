@@ -36,6 +36,3 @@ pub use reading::read;
 pub use scopes::{DeclaredOp, Leaf, Named, Scope};
 pub use terms::term;
 pub use whole::goal;
-
-#[cfg(test)]
-mod tests;

@@ -5,8 +5,6 @@
 #![tactic(auto)]
 
 mod list;
-#[cfg(test)]
-mod tests;
 
 pub use list::Items;
 use std::alloc::AllocError;

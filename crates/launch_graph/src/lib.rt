@@ -28,8 +28,3 @@ pub use laws::{
 pub use printing::{print, put_graph};
 pub use reading::read;
 pub use row_lines::{LineOp, RowLine};
-
-#[cfg(test)]
-mod fault_tests;
-#[cfg(test)]
-mod tests;

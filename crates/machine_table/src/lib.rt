@@ -19,8 +19,3 @@ pub use operates::operate_kind;
 pub use printing::print;
 pub use reading::read;
 pub use tables::{InstrKind, Slot, Table, Use};
-
-#[cfg(test)]
-mod reading_tests;
-#[cfg(test)]
-mod tests;

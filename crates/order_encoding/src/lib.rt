@@ -21,6 +21,3 @@ pub use laws::{clauses_say_fits, counts_are_found, parts_are_counted, worked_for
 pub use memory::add_memory;
 pub use pool::add_pool;
 pub use whole::{count_clauses, full};
-
-#[cfg(test)]
-mod tests;

@@ -18,6 +18,3 @@ pub use found::{Fold, Match};
 pub use laws::{matches_have_sorts, terms_have_one_class};
 pub use plain::{matches, need, unmet};
 pub use reading::class_of_pattern;
-
-#[cfg(test)]
-mod tests;

@@ -7,9 +7,6 @@ ghost use Rattle.pick_rule.specs.Places.{AnswersPlaces};
 
 use std::marker::Model;
 
-#[cfg(test)]
-mod tests;
-
 /// What a picker asks of its rule. Each closure over scores is one.
 pub trait Rule {
     /// It may be called on each list that isn't empty, and answers a place below its length.

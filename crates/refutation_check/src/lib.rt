@@ -14,8 +14,3 @@ pub use lines::{Rejected, check, check_lemmas};
 pub use reading::read;
 pub use text::print;
 pub use values::Marks;
-
-#[cfg(test)]
-mod reading_tests;
-#[cfg(test)]
-mod tests;

@@ -14,6 +14,3 @@ pub use assigning::assign;
 pub use listings::{Item, Listing, Where};
 pub use worded::words_of;
 pub use worked::worked_listing;
-
-#[cfg(test)]
-mod tests;

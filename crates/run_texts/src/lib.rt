@@ -14,8 +14,3 @@ pub use laws::{one_program, one_report, programs_start_as_given};
 pub use reading::read;
 pub use reporting::report;
 pub use texts::{PlaceWord, RegisterWord, RunText};
-
-#[cfg(test)]
-mod fault_tests;
-#[cfg(test)]
-mod tests;

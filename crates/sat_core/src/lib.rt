@@ -10,6 +10,3 @@ mod solver;
 mod trail;
 
 pub use solver::{Verdict, solve};
-
-#[cfg(test)]
-mod tests;

@@ -23,8 +23,3 @@ pub use launch_laws::{grown_graphs_can_be_launched, launched_graphs_stand};
 pub use launching::to_launch;
 pub use laws::grown_graphs_are_one;
 pub use rounds::{Rules, Saturated, Stop, saturate};
-
-#[cfg(test)]
-mod launch_tests;
-#[cfg(test)]
-mod tests;

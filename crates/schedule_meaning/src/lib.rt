@@ -27,6 +27,3 @@ pub use readers::{may_take, words_before};
 pub use schedules::{Launch, Schedule};
 pub use stores::memory_target;
 pub use worked::worked_schedules;
-
-#[cfg(test)]
-mod tests;

@@ -4,6 +4,3 @@
 mod reading;
 
 pub use reading::read_off;
-
-#[cfg(test)]
-mod tests;

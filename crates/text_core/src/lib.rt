@@ -27,6 +27,3 @@ pub use parser::tree;
 pub use sexps::Sexp;
 pub use splitter::lines;
 pub use tokens::{Token, TokenKind};
-
-#[cfg(test)]
-mod tests;

@@ -20,6 +20,3 @@ pub use memory::Mem;
 pub use names::{op_name, op_of};
 pub use operators::{OPERATORS, WordOp, apply, arity};
 pub use sorts::{Arity, Op, Sort};
-
-#[cfg(test)]
-mod tests;

@@ -15,6 +15,3 @@ pub use laws::terms_are_trees;
 pub use operator::Operator;
 pub use small::SmallOp;
 pub use term::{Term, application, same, same_operator, subst, variable};
-
-#[cfg(test)]
-mod tests;
