@@ -1,0 +1,304 @@
+// Formulas: counters, refutations of them, and the solver.
+ghost use Rattle.std.specs.Prelude.{◌≡◌, ◌<◌, ◌≤◌, ◌^◌, length, IfOk};
+
+use crate::reading::{Lines as TextLines, Words, split_before, split_line};
+use crate::reports::{Trouble, faulty, put, put_numbers};
+use cnf_core::{Cnf, Lines, Lit, at_most, at_most_size, at_most_vars, satisfied};
+use items::NoMemory;
+use pick_rule::{Picker, Rule};
+use refutation_check::{Marks, Rejected, check, check_lemmas, print, read};
+use sat_core::{Verdict, solve};
+use std::alloc::Global;
+use text_core::decimal;
+
+/// The literal of a number, which has `-` before it for a negated one.
+fn literal(word: &[u8]) -> Result<Lit, Trouble> {
+    let (digits, positive) = match word.strip_prefix(b"-") {
+        Some(digits) => (digits, false),
+        None => (word, true),
+    };
+    match u32::try_from(decimal(digits).ok_or(Trouble::Unread)?) {
+        Ok(var) => Ok(Lit { var, positive }),
+        Err(_) => Err(Trouble::Unread),
+    }
+}
+
+/// The literals that are left on a line, up to a 0.
+fn literals(alloc: Global, words: &mut Words<'_>) -> Result<Vec<Lit>, Trouble> {
+    let mut lits = Vec::new(alloc);
+    for _ in 0..words.rest.len() {
+        let Some(word) = words.next() else {
+            break;
+        };
+        let lit = literal(word)?;
+        if lit.var == 0 {
+            break;
+        }
+        lits.push(lit)?;
+    }
+    Ok(lits)
+}
+
+/// The formula without clauses over so many variables.
+fn over(alloc: Global, vars: u32) -> Result<Cnf, Trouble> {
+    if vars > 1 << 20 {
+        return Err(Trouble::Unread);
+    }
+    let mut cnf = Cnf::new(alloc);
+    for _ in 0..vars {
+        if cnf.vars() > 1 << 21 {
+            return Err(Trouble::Unread);
+        }
+        cnf.fresh();
+    }
+    Ok(cnf)
+}
+
+/// The formula of a line `vars N` and a line for each clause, whose literals are numbers before a 0.
+fn formula(alloc: Global, text: &[u8]) -> Result<Cnf, Trouble> {
+    let (head, rest) = split_line(text);
+    let number = head.strip_prefix(b"vars ").ok_or(Trouble::Unread)?;
+    let mut cnf = over(alloc, Words { rest: number }.small()?)?;
+    let mut lines = TextLines { rest };
+    for _ in 0..rest.len() {
+        let Some(line) = lines.next() else {
+            break;
+        };
+        let lits = literals(alloc, &mut Words { rest: line })?;
+        if cnf.clauses() > 1 << 24 || !cnf.has(&lits) {
+            return Err(Trouble::Unread);
+        }
+        cnf.add(&lits)?;
+    }
+    Ok(cnf)
+}
+
+/// The variables of a formula, and a line for each clause.
+fn put_formula(report: &mut Vec<u8>, cnf: &Cnf) -> Result<(), Trouble> {
+    put_numbers(report, b"vars", &[u64::from(cnf.vars())])?;
+    for index in 0..cnf.clauses() {
+        for lit in cnf.clause(index + 1) {
+            if !lit.positive {
+                put(report, b"-")?;
+            }
+            put(report, itoa::Buffer::new().format(lit.var).as_bytes())?;
+            put(report, b" ")?;
+        }
+        put(report, b"0\n")?;
+    }
+    Ok(())
+}
+
+/// Of a line `VARS BOUND LITERAL..`: the clauses that say that at most so many of the literals are true, over so many
+/// variables before them, and whether as many variables and clauses came as were foretold.
+pub(crate) fn counters(alloc: Global, input: &[u8]) -> Result<Vec<u8>, Trouble> {
+    let mut words = Words { rest: input };
+    let mut cnf = over(alloc, words.small()?)?;
+    let bound = words.small()?;
+    let lits = literals(alloc, &mut words)?;
+    if lits.len() > 1000 || bound > 1000 || cnf.vars() > 1000 || !cnf.has(&lits) {
+        return Err(Trouble::Unread);
+    }
+    let vars = at_most_vars(bound, lits.len());
+    let size = at_most_size(bound, lits.len());
+    if vars > 1 << 24 || size > 1 << 24 || cnf.clauses() > 0 {
+        return Err(Trouble::Unread);
+    }
+    at_most(&mut cnf, &lits, bound)?;
+    let mut report = Vec::new(alloc);
+    put_numbers(&mut report, b"foretold", &[vars, size])?;
+    put_formula(&mut report, &cnf)?;
+    Ok(report)
+}
+
+/// Of a line `from N count M` and a text: the M lines of a refutation that begin at line N, printed again, or the fault.
+pub(crate) fn line_texts(alloc: Global, input: &[u8]) -> Result<Vec<u8>, Trouble> {
+    let (head, text) = split_line(input);
+    let mut words = Words { rest: head };
+    let (from, count) = (words.small()?, words.small()?);
+    if text.len() > 1 << 24 {
+        return Err(Trouble::Unread);
+    }
+    let lines = match text_core::lines(alloc, text) {
+        Ok(lines) => lines,
+        Err(fault) => return faulty(alloc, fault),
+    };
+    if from > lines.count() {
+        return Err(Trouble::Unread);
+    }
+    match read(alloc, &lines, from, count) {
+        Ok(found) => Ok(print(alloc, &found)?),
+        Err(fault) => faulty(alloc, fault),
+    }
+}
+
+/// The lines of a text.
+fn lines_in(alloc: Global, text: &[u8]) -> Result<Lines, Trouble>
+    ensures { IfOk result (λ read. length read.lines < 2 ^ 29) }
+{
+    if text.len() > 1 << 24 {
+        return Err(Trouble::Unread);
+    }
+    let Ok(lines) = text_core::lines(alloc, text) else {
+        return Err(Trouble::Unread);
+    };
+    match read(alloc, &lines, 0, lines.count()) {
+        Ok(found) => Ok(found),
+        Err(_) => Err(Trouble::Unread),
+    }
+}
+
+/// A line for what came of a check.
+fn put_check(
+    report: &mut Vec<u8>,
+    what: &[u8],
+    found: Result<(), Rejected>,
+) -> Result<(), Trouble> {
+    put(report, what)?;
+    match found {
+        Ok(()) => put(report, b" accepted\n"),
+        Err(rejected) => put_numbers(
+            report,
+            b" rejected",
+            &[u64::from(rejected.line), u64::from(rejected.why)],
+        ),
+    }
+}
+
+/// Of a formula, a line `lines` and lines: whether these refute the formula, and whether they are lemmas of it.
+pub(crate) fn refutations(alloc: Global, input: &[u8]) -> Result<Vec<u8>, Trouble> {
+    let (front, rest) = split_before(input, b"lines\n");
+    let cnf = formula(alloc, front)?;
+    let (_, rest) = split_line(rest);
+    let lines = lines_in(alloc, rest)?;
+    let mut marks = Marks::new(alloc, cnf.vars())?;
+    let mut report = Vec::new(alloc);
+    put_check(&mut report, b"refutation", check(&cnf, &lines, &mut marks))?;
+    put_check(
+        &mut report,
+        b"lemmas",
+        check_lemmas(&cnf, &lines, &mut marks),
+    )?;
+    Ok(report)
+}
+
+/// The verdict with the places that a rule picks.
+fn picked<F: Rule + Drop>(
+    alloc: Global,
+    cnf: &Cnf,
+    rule: F,
+    conflicts: u32,
+) -> Result<Verdict, NoMemory>
+    requires rule { F.answers_places rule }
+    requires some { 1 ≤ conflicts }
+    requires few { conflicts ≤ 1000000 }
+{
+    solve(alloc, cnf, &Picker::new(rule), conflicts)
+}
+
+/// The verdict with the first free variable picked.
+fn first_picked(alloc: Global, cnf: &Cnf, conflicts: u32) -> Result<Verdict, NoMemory>
+    requires some { 1 ≤ conflicts }
+    requires few { conflicts ≤ 1000000 }
+{
+    picked(
+        alloc,
+        cnf,
+        |_scores: &[u64]|
+            ensures { result ≡ 0 }
+        { 0 },
+        conflicts,
+    )
+}
+
+/// The verdict with the last free variable picked.
+fn last_picked(alloc: Global, cnf: &Cnf, conflicts: u32) -> Result<Verdict, NoMemory>
+    requires some { 1 ≤ conflicts }
+    requires few { conflicts ≤ 1000000 }
+{
+    picked(
+        alloc,
+        cnf,
+        |scores: &[u64]|
+            requires { 0 < length scores.now }
+            ensures { result < length scores.entry.now }
+        { scores.len() - 1 },
+        conflicts,
+    )
+}
+
+/// The verdict with a free variable of an end picked: the last one, but where the first one's score is higher.
+fn end_picked(alloc: Global, cnf: &Cnf, conflicts: u32) -> Result<Verdict, NoMemory>
+    requires some { 1 ≤ conflicts }
+    requires few { conflicts ≤ 1000000 }
+{
+    picked(
+        alloc,
+        cnf,
+        |scores: &[u64]|
+            requires { 0 < length scores.now }
+            ensures { result < length scores.entry.now }
+        {
+            let last = scores.len() - 1;
+            if scores[0] > scores[last] { 0 } else { last }
+        },
+        conflicts,
+    )
+}
+
+/// Says a verdict, and whether what it has shows it.
+fn put_verdict(
+    alloc: Global,
+    report: &mut Vec<u8>,
+    cnf: &Cnf,
+    verdict: &Verdict,
+) -> Result<(), Trouble> {
+    match verdict {
+        Verdict::Sat(values) => {
+            let holds = values.len() == cnf.vars() as usize && satisfied(cnf, values.as_slice());
+            put(
+                report,
+                if holds {
+                    b"satisfied\n".as_slice()
+                } else {
+                    b"wrong values\n".as_slice()
+                },
+            )
+        }
+        Verdict::Refuted(lines) => {
+            if lines.lines.len() > 1 << 24 {
+                return Err(Trouble::Unread);
+            }
+            let mut marks = Marks::new(alloc, cnf.vars())?;
+            put_check(report, b"refuted", check(cnf, lines, &mut marks))
+        }
+        Verdict::Spent(lines) => {
+            if lines.lines.len() > 1 << 24 {
+                return Err(Trouble::Unread);
+            }
+            let mut marks = Marks::new(alloc, cnf.vars())?;
+            put_numbers(report, b"spent", &[lines.lines.len() as u64])?;
+            put_check(report, b"lemmas", check_lemmas(cnf, lines, &mut marks))
+        }
+    }
+}
+
+/// Of a line `budget N` and a formula: what the solver comes to with so many conflicts, for each of three rules that pick: the
+/// first place, the last, and the end with the higher score. Values are tested, and lines are checked.
+pub(crate) fn searches(alloc: Global, input: &[u8]) -> Result<Vec<u8>, Trouble> {
+    let (head, rest) = split_line(input);
+    let number = head.strip_prefix(b"budget ").ok_or(Trouble::Unread)?;
+    let budget = Words { rest: number }.small()?;
+    let cnf = formula(alloc, rest)?;
+    if budget < 1 || 1000000 < budget {
+        return Err(Trouble::Unread);
+    }
+    let mut report = Vec::new(alloc);
+    let verdict = first_picked(alloc, &cnf, budget)?;
+    put_verdict(alloc, &mut report, &cnf, &verdict)?;
+    let verdict = last_picked(alloc, &cnf, budget)?;
+    put_verdict(alloc, &mut report, &cnf, &verdict)?;
+    let verdict = end_picked(alloc, &cnf, budget)?;
+    put_verdict(alloc, &mut report, &cnf, &verdict)?;
+    Ok(report)
+}

@@ -1,0 +1,98 @@
+//! Runs the cases of the files that its words name, and tells for each file how many passed.
+//!
+//! A file begins with a line `subject NAME`, which says what its cases ask; `subjects.rt` lists the subjects. The first case
+//! that doesn't pass is printed whole, with what was wanted and what came, and the status is 1.
+#![tactic(auto)]
+
+mod answers;
+mod building;
+mod case_files;
+mod clauses;
+mod equalities;
+mod machine;
+mod reading;
+mod reports;
+mod rounds;
+mod schedules;
+mod scripts;
+mod streams;
+mod subjects;
+mod texts;
+mod tokens;
+mod worlds;
+
+use case_files::Failure;
+use outside_io::{StdSink, StdSource, read_all, write_all};
+use reports::Trouble;
+use std::env;
+use std::env::Args;
+use std::fs::File;
+use std::process::ExitCode;
+
+/// How many bytes of a file are read at most.
+const LIMIT: u32 = 1 << 24;
+
+fn main(rt: HostRuntime) -> ExitCode {
+    let mut said = Vec::new(rt.alloc());
+    let passed = match env::args(&rt) {
+        Ok(args) => all_pass(&rt, args, &mut said).unwrap_or(false),
+        Err(_) => false,
+    };
+    let written = write_all(&mut StdSink::new(rt.stdout()), &said).is_ok();
+    ExitCode::from(if passed && written { 0 } else { 1 })
+}
+
+/// Whether all cases of the files pass. A line tells for each file how many passed, or its first case that doesn't pass is
+/// printed.
+fn all_pass(rt: &HostRuntime, args: Args, said: &mut Vec<u8>) -> Result<bool, Trouble> {
+    let alloc = rt.alloc();
+    let names: Vec<String> = args.skip(1).collect(alloc)?;
+    let mut passed = true;
+    for name in &names {
+        passed = passes(rt, name.as_str(), said)? && passed;
+    }
+    Ok(passed)
+}
+
+/// Whether the cases of a file pass.
+fn passes(rt: &HostRuntime, name: &str, said: &mut Vec<u8>) -> Result<bool, Trouble> {
+    let Some(file) = contents(rt, name) else {
+        reports::put_line(said, &[name.as_bytes(), b"can't be read"])?;
+        return Ok(false);
+    };
+    match case_files::run_file(rt.alloc(), &file) {
+        Ok(Ok(count)) => {
+            reports::put_numbers(said, name.as_bytes(), &[count])?;
+            Ok(true)
+        }
+        Ok(Err(failure)) => {
+            tell(said, name.as_bytes(), &failure)?;
+            Ok(false)
+        }
+        Err(Trouble::Unread) => {
+            reports::put_line(said, &[name.as_bytes(), b"is no file of cases"])?;
+            Ok(false)
+        }
+        Err(Trouble::Memory) => Err(Trouble::Memory),
+    }
+}
+
+/// Prints a case that didn't pass.
+fn tell(said: &mut Vec<u8>, file: &[u8], failure: &Failure) -> Result<(), Trouble> {
+    reports::put_line(said, &[file, b"doesn't pass:", &failure.name])?;
+    for (head, text) in [
+        (b"input:".as_slice(), &failure.input),
+        (b"wanted:".as_slice(), &failure.wanted),
+        (b"came:".as_slice(), &failure.came),
+    ] {
+        reports::put_line(said, &[head])?;
+        reports::put_line(said, &[text.as_slice()])?;
+    }
+    Ok(())
+}
+
+/// The bytes of a file, which are at most `LIMIT`.
+fn contents(rt: &HostRuntime, path: &str) -> Option<Vec<u8>> {
+    let file = File::open(rt, path).ok()?;
+    read_all(rt.alloc(), &mut StdSource::new(file), LIMIT).ok()
+}

@@ -1,0 +1,129 @@
+// Rounds of matching over goals, and goals that are made from a number.
+ghost use Rattle.std.specs.Prelude.{◌<◌, ◌≤◌, ◌^◌, length};
+
+use crate::reading::{Words, split_line};
+use crate::reports::{Trouble, faulty, put, put_number, put_numbers};
+use goal_reader::{Input, read, read_inputs_are_well_formed};
+use launch_graph::print;
+use saturation::{
+    SaturateFault, Saturated, StartFault, Stop, grown_graphs_can_be_launched, rules, saturate,
+    start, to_launch,
+};
+use std::alloc::Global;
+use text_core::TextFault;
+
+/// Why a text gives no graph.
+#[derive(Clone, Copy, Debug, PartialEq, Eq)]
+enum Refused {
+    Text(TextFault),
+    Clash(u64, u64),
+    Memory,
+}
+
+/// The first goal of the text after rounds.
+fn grown(alloc: Global, text: &[u8], rounds: u32, nodes: u32) -> Result<Saturated, Refused>
+    requires text { length text.now < 2 ^ 29 }
+    requires rounds { rounds ≤ 16 }
+    requires nodes { nodes ≤ 4096 }
+{
+    read_inputs_are_well_formed();
+    let input = match read(alloc, text) {
+        Ok(input) => input,
+        Err(fault) => return Err(Refused::Text(fault)),
+    };
+    let program = match rules(alloc, &input) {
+        Ok(program) => program,
+        Err(_) => return Err(Refused::Memory),
+    };
+    let Some(goal) = input.goals.as_slice().first() else {
+        return Err(Refused::Memory);
+    };
+    let graph = match start(alloc, goal) {
+        Ok(graph) => graph,
+        Err(StartFault::NoWorld { a, b, .. }) => return Err(Refused::Clash(a, b)),
+        Err(StartFault::Memory) => return Err(Refused::Memory),
+    };
+    match saturate(alloc, graph, &program, rounds, nodes) {
+        Ok(grown) => Ok(grown),
+        Err(SaturateFault::NoWorld { a, b, .. }) => Err(Refused::Clash(a, b)),
+        Err(SaturateFault::Memory) => Err(Refused::Memory),
+    }
+}
+
+/// Of a line `ROUNDS NODES` and a text: the rows, rounds and stop of its first goal's graph after at most so many rounds, with
+/// this limit on rows, or the constants that met.
+pub(crate) fn rounds(alloc: Global, input: &[u8]) -> Result<Vec<u8>, Trouble> {
+    let (head, text) = split_line(input);
+    let mut words = Words { rest: head };
+    let (rounds, nodes) = (words.small()?, words.small()?);
+    if rounds > 16 || nodes > 4096 || text.len() > 1 << 24 {
+        return Err(Trouble::Unread);
+    }
+    let mut report = Vec::new(alloc);
+    match grown(alloc, text, rounds, nodes) {
+        Ok(grown) => {
+            let stop = match grown.stop {
+                Stop::Quiet => b"quiet".as_slice(),
+                Stop::Rounds => b"rounds".as_slice(),
+                Stop::Full => b"full".as_slice(),
+            };
+            put(&mut report, b"rows")?;
+            put_number(&mut report, u64::from(grown.graph.rows()))?;
+            put(&mut report, b" rounds")?;
+            put_number(&mut report, u64::from(grown.rounds))?;
+            put(&mut report, b" ")?;
+            put(&mut report, stop)?;
+            put(&mut report, b"\n")?;
+        }
+        Err(Refused::Clash(a, b)) => {
+            put_numbers(&mut report, b"clash", &[a.min(b), a.max(b)])?;
+        }
+        Err(Refused::Text(fault)) => return faulty(alloc, fault),
+        Err(Refused::Memory) => return Err(Trouble::Memory),
+    }
+    Ok(report)
+}
+
+/// The lines of the first goal's graph after no round, or none where there is no such graph.
+fn launch(alloc: Global, text: &[u8]) -> Option<Vec<u8>>
+    requires text { length text.now < 2 ^ 29 }
+{
+    read_inputs_are_well_formed();
+    grown_graphs_can_be_launched();
+    let Ok(input) = read(alloc, text) else {
+        return None;
+    };
+    let Ok(program) = rules(alloc, &input) else {
+        return None;
+    };
+    let Some(goal) = input.goals.as_slice().first() else {
+        return None;
+    };
+    let Ok(graph) = start(alloc, goal) else {
+        return None;
+    };
+    let Ok(saturated) = saturate(alloc, graph, &program, 0, 512) else {
+        return None;
+    };
+    let Ok(graph) = to_launch(alloc, &saturated, goal, &input) else {
+        return None;
+    };
+    print(alloc, &graph).ok()
+}
+
+/// The lines of the graph of a text's first goal after no round.
+pub(crate) fn launched(alloc: Global, input: &[u8]) -> Result<Vec<u8>, Trouble>
+    requires { length input.now ≤ 2 ^ 24 }
+{
+    launch(alloc, input).ok_or(Trouble::Unread)
+}
+
+/// The text of the goal of so many operators.
+pub(crate) fn generated(alloc: Global, input: &[u8]) -> Result<Vec<u8>, Trouble> {
+    let size = Words { rest: input }.small()?;
+    if size < 1 || 20 < size {
+        return Err(Trouble::Unread);
+    }
+    let made: Input = generated_goals::generated(alloc, size)?;
+    Ok(goal_reader::print(alloc, &made)?)
+}
