@@ -68,10 +68,10 @@ late-literal clauses n steps values places last c needed s exist false' open' ma
 -- **at the end of the trail**
 pub walked-start : (clauses : List (List Lit)) (n : ℕ) (steps : List Step) (values : List (Option Bool)) (places : List ℕ) (id last at_last_level added : ℕ) (old : List Bool) (c : List Lit) (a : Analysis)
     → AreSteps clauses n steps values places → AreOver n clauses → AreClosedBefore clauses steps → IsFalsified (given values) clauses id → IsLastDecision steps last
-    → c ≡ clause_at clauses id → old ≡ replicate (length steps) false → Needs places c c last old a.needed.items added
+    → c ≡ clause_at clauses id → old ≡ replicate (length steps) false → Needs places c c last old a.needed.items added → All (λ l. a.lowest ≤ step_place places l) c
     → a.at_last_level ≡ added → a.last ≡ last → a.lits.items ≡ [] → a.hints.items ≡ []
     → IsWalked clauses n steps (length steps) a × LeadsToConflict clauses steps (length steps) a.needed.items a.lits.items (reverse a.hints.items) (clause_at clauses id)
-walked-start clauses n steps values places id last at_last_level added old c a s over before f is-last is-c is-old needs is-late last-is no-lits no-hints =
+walked-start clauses n steps values places id last at_last_level added old c a s over before f is-last is-c is-old needs lowest is-late last-is no-lits no-hints =
     let c' = clause_at clauses id in
     let false' = falsified-held clauses n steps values places id s over f in
     let exist = clause-exists clauses n id over f.low f.high in
@@ -85,6 +85,7 @@ walked-start clauses n steps values places id last at_last_level added old c a s
     (record {
       size = size;
       clear = needs'.only (length steps) (false-steps clauses n steps values places c' s exist false') (λ k low. old-clear k (omega arith));
+      below = needs'.below a.lowest (subst (All (λ l. a.lowest ≤ step_place places l)) is-c lowest) (λ k low. old-clear k (omega arith));
       count = (let e : added ≡ last_level_count last a.needed.items = omega arith in is-late ∙ e ∙ ap (λ (m : ℕ). last_level_count m a.needed.items) (sym last-is));
       exist = subst (All (IsLitOf n)) (sym no-lits) (All-nil (IsLitOf n));
       free = subst (All (λ (l : Lit). held (take (length steps) steps) l.var ≡ None)) (sym no-lits) (All-nil (λ (l : Lit). held (take (length steps) steps) l.var ≡ None));

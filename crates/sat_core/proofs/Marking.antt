@@ -6,7 +6,7 @@ use Rattle.std.proofs.lemmas.List.{drop-set-add, drop-set-lt, get_or-drop, lengt
 use Rattle.std.proofs.lemmas.List.Sums.{sum_by-set, sum_by-cons, count_by-le-length}
 use Rattle.std.proofs.lemmas.List.Elements.{All-more, All-weaker}
 use Rattle.cnf_core.specs.declared.literal.Lit.{Lit}
-use Rattle.sat_core.specs.Walks.{step_place, is_marked, last_level_count, AreUnmarked, Needs}
+use Rattle.sat_core.specs.Walks.{step_place, is_marked, last_level_count, AreUnmarked, AreUnmarkedBelow, Needs}
 
 one : Bool → ℕ
 one b = cond {A = ℕ} b 1 0
@@ -111,6 +111,9 @@ needs-more places clause last i d old mid new added more few within h is count =
           (let at = steps i d few in
           let before = at.before in
           ap (λ (ns : List Bool). is_marked ns k) is ∙ get_or-set_other mid p k true false (λ same. omega arith) ∙ h.only n steps clear k low);
+      below = λ n steps clear k low.
+          (let before = steps i d few in
+          ap (λ (ns : List Bool). is_marked ns k) is ∙ get_or-set_other mid p k true false (λ same. omega arith) ∙ h.below n steps clear k low);
       count = (let c = h.count in omega arith);
     }
   where
@@ -120,3 +123,10 @@ needs-more places clause last i d old mid new added more few within h is count =
           | inl same ↦ ap (λ (j : ℕ). is_marked (set mid (step_place places (get_or clause i d)) true) j) same ∙ get_or-set_same mid (step_place places (get_or clause i d)) true false within
           | inr other ↦ get_or-set_other mid (step_place places (get_or clause i d)) k true false other ∙ on
         ]
+
+pub below-unmarked : (n i : ℕ) (xs : List Bool) → i < length xs → AreUnmarkedBelow n xs → AreUnmarkedBelow n (set xs i false)
+below-unmarked n i xs few below k low =
+    elim (cases_eq k i) [
+      | inl same ↦ ap (λ (j : ℕ). is_marked (set xs i false) j) same ∙ get_or-set_same xs i false false few
+      | inr other ↦ get_or-set_other xs i k false false other ∙ below k low
+    ]

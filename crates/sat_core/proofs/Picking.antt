@@ -1,13 +1,13 @@
 -- The list of free variables: the loop that makes it, and what is known of its members.
 use Rattle.std.proofs.Common.{◌≡◌, ℕ, ◌+◌, ◌-◌, ◌<◌, ◌≤◌, Bool, true, false, List, [], ◌∷◌, ◌++◌, length, map, get_or, refl, sym, ap, ◌∙◌, subst, arith, inl, inr, suc, zero, Option, Some, None, append-nil}
-use Rattle.std.specs.Prelude.{is_none, replicate}
+use Rattle.std.specs.Prelude.{is_none}
 use Rattle.std.specs.List.{All, filter, range_with_len}
 use Rattle.std.proofs.lemmas.Bool.{cases_Bool, cond-true, cond-false, false≢true}
-use Rattle.std.proofs.lemmas.List.{get_or-map, length-replicate, get_or_default}
+use Rattle.std.proofs.lemmas.List.{get_or-map, length-map, get_or_default}
 use Rattle.std.proofs.lemmas.List.Elements.{All-filter, All-map, filter_passes}
 use Rattle.std.proofs.lemmas.List.FromFn.{filter_of_map_range_with_len_more, get_or-range_with_len, length-range_with_len, length-map-range_with_len}
 use Rattle.sat_core.specs.Steps.{given}
-use Rattle.sat_core.specs.Picks.{free_list}
+use Rattle.sat_core.specs.Picks.{free_list, scores_of}
 
 none-true : (o : Option Bool) → is_none o ≡ true → o ≡ None
 none-true None e = refl
@@ -76,9 +76,9 @@ pub record IsPicked (values : List (Option Bool)) (place var : ℕ) : Type 0 whe
   pub exists : var ≤ length values
   pub free : given values var ≡ None
 
-pub picked-at : (values : List (Option Bool)) (free scores : List ℕ) (place var : ℕ) → free ≡ free_list values → scores ≡ replicate (length free) 0 → place < length scores → var ≡ get_or free place var → IsPicked values place var
-picked-at values free scores place var is is-scores few at =
-    let size = ap length is-scores ∙ length-replicate (length free) 0 ∙ ap length is in
+pub picked-at : (values : List (Option Bool)) (counts free scores : List ℕ) (place var : ℕ) → free ≡ free_list values → scores ≡ scores_of counts values → place < length scores → var ≡ get_or free place var → IsPicked values place var
+picked-at values counts free scores place var is is-scores few at =
+    let size = ap length is-scores ∙ length-map (free_list values) (λ x. get_or counts (x - 1) 0) in
     let few' : place < length (free_list values) = omega arith in
     let here : var ≡ get_or (free_list values) place 0 = at ∙ ap (λ (xs : List ℕ). get_or xs place var) is ∙ get_or_default (free_list values) place var 0 few' in
     let h = free-at values place 0 few' in
@@ -89,3 +89,6 @@ picked-at values free scores place var is is-scores few at =
       exists = subst (λ (x : ℕ). x ≤ length values) (sym here) h.1;
       free = subst (λ (x : ℕ). given values x ≡ None) (sym here) h.2;
     }
+
+pub free-exist : (values : List (Option Bool)) → All (λ x. (1 ≤ x) × (x ≤ length values)) (free_list values)
+free-exist values k d few = (let at = free-at values k d few in (at.0, at.1))

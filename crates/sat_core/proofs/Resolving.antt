@@ -9,7 +9,7 @@ use Rattle.cnf_core.specs.Refutation.{clause_at}
 use Rattle.sat_core.specs.declared.trail.Step.{Step}
 use Rattle.sat_core.specs.declared.conflict.Analysis.{Analysis}
 use Rattle.sat_core.specs.Steps.{held, IsReason, AreSteps}
-use Rattle.sat_core.specs.Walks.{is_marked, IsStepOf, IsLastDecision, IsFirstDecision, IsKeptAt, KeepsStep, Resolves, IsWalked, LeadsToConflict}
+use Rattle.sat_core.specs.Walks.{is_marked, IsStepOf, IsLastDecision, IsDecisionOrEnd, IsKeptAt, KeepsStep, Resolves, IsWalked, LeadsToConflict}
 use Rattle.sat_core.proofs.Leading.{leads-skip, leads-keep, leads-resolve}
 use Rattle.sat_core.proofs.Walking.{walked-skip, walked-keep, walked-resolve, reason-steps}
 
@@ -34,7 +34,7 @@ settled-skip clauses n steps i a h unmarked =
     }
 
 pub settled-keep : (clauses : List (List Lit)) (n : ℕ) (steps : List Step) (values : List (Option Bool)) (places : List ℕ) (i first : ℕ) (step : Step) (a b : Analysis)
-    → AreSteps clauses n steps values places → IsFirstDecision steps first → IsLastDecision steps a.last → i < length steps
+    → AreSteps clauses n steps values places → IsDecisionOrEnd steps first → IsLastDecision steps a.last → i < length steps
     → IsWalked clauses n steps (i + 1) a → is_marked a.needed.items i ≡ true → step ≡ get_or steps i step → (step.reason ≡ None) ⊎ IsKeptAt first a.last a.at_last_level i
     → KeepsStep i step.lit a b → Settled clauses n steps i a b
 settled-keep clauses n steps values places i first step a b s is-first last few h marked is why k =

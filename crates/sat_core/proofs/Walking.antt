@@ -13,11 +13,11 @@ use Rattle.cnf_core.specs.Refutation.{clause_at, AreNames, HaveDifferentVars}
 use Rattle.sat_core.specs.declared.trail.Step.{Step}
 use Rattle.sat_core.specs.declared.conflict.Analysis.{Analysis}
 use Rattle.sat_core.specs.Steps.{held, IsReason, AreSteps}
-use Rattle.sat_core.specs.Walks.{step_place, IsStepOf, is_marked, last_level_count, AreUnmarked, IsLastDecision, IsFirstDecision, IsKeptAt, KeepsStep, Resolves, IsAsserting, IsWalked, IsBackjump, backjump_after}
+use Rattle.sat_core.specs.Walks.{step_place, IsStepOf, is_marked, last_level_count, AreUnmarked, AreUnmarkedBelow, IsLastDecision, IsDecisionOrEnd, IsKeptAt, KeepsStep, Resolves, IsAsserting, IsWalked, LeadsToConflict, IsBackjump, backjump_after, backjump_at_end}
 use Rattle.sat_core.proofs.Holding.{held-at, step-of, free-before}
 use Rattle.sat_core.proofs.States.{clause-exists}
 use Rattle.sat_core.proofs.Leading.{others-later}
-use Rattle.sat_core.proofs.Marking.{late_early, late_unmarked, late-clear, late-some, late-one, clear-unmarked}
+use Rattle.sat_core.proofs.Marking.{late_early, late_unmarked, late-clear, late-some, late-one, clear-unmarked, below-unmarked}
 
 free-weaker : (steps : List Step) (i : ℕ) (lits : List Lit) → All (λ (l : Lit). held (take (i + 1) steps) l.var ≡ None) lits → All (λ (l : Lit). held (take i steps) l.var ≡ None) lits
 free-weaker steps i lits free =
@@ -33,6 +33,7 @@ walked-skip clauses n steps i a h unmarked =
         | inl same ↦ ap (is_marked a.needed.items) same ∙ unmarked
         | inr other ↦ h.clear k (omega arith)
       ];
+      below = h.below;
       count = h.count;
       exist = h.exist;
       free = free-weaker steps i a.lits.items h.free;
@@ -85,7 +86,7 @@ kept-late clauses n steps i first d a b last few h marked why k =
 
 -- **a step that is kept**
 pub walked-keep : (clauses : List (List Lit)) (n : ℕ) (steps : List Step) (values : List (Option Bool)) (places : List ℕ) (i first : ℕ) (d : Step) (a b : Analysis)
-    → AreSteps clauses n steps values places → IsFirstDecision steps first → IsLastDecision steps a.last → i < length steps
+    → AreSteps clauses n steps values places → IsDecisionOrEnd steps first → IsLastDecision steps a.last → i < length steps
     → IsWalked clauses n steps (i + 1) a → is_marked a.needed.items i ≡ true → ((get_or steps i d).reason ≡ None) ⊎ IsKeptAt first a.last a.at_last_level i
     → KeepsStep i (get_or steps i d).lit a b → IsWalked clauses n steps i b
 walked-keep clauses n steps values places i first d a b s is-first last few h marked why k =
@@ -97,6 +98,8 @@ walked-keep clauses n steps values places i first d a b s is-first last few h ma
     record {
       size = ap length k.needed ∙ length-set a.needed.items i false ∙ size;
       clear = subst (AreUnmarked i) (sym k.needed) (clear-unmarked i a.needed.items (omega arith) h.clear);
+      below = subst (λ (m : ℕ). AreUnmarkedBelow m b.needed.items) (sym k.lowest)
+          (subst (AreUnmarkedBelow a.lowest) (sym k.needed) (below-unmarked a.lowest i a.needed.items (omega arith) h.below));
       count = k.at_last_level;
       exist = subst (All (IsLitOf n)) (sym k.lits) (All-push (IsLitOf n) a.lits.items (negated l) h.exist (record { above = at.above; within = at.within }));
       free = subst (All (λ (m : Lit). held (take i steps) m.var ≡ None)) (sym k.lits)
@@ -176,6 +179,8 @@ walked-resolve clauses n steps values places i id d a b s over few h marked reas
     record {
       size = ap length r.needed ∙ length-set r.mid i false ∙ mid-size ∙ size;
       clear = subst (AreUnmarked i) (sym r.needed) (clear-unmarked i r.mid (omega arith) mid-clear);
+      below = subst (AreUnmarkedBelow b.lowest) (sym r.needed)
+          (below-unmarked b.lowest i r.mid (omega arith) (r.needs.below b.lowest r.lowest (λ j low. (let lower = r.lower in h.below j (omega arith)))));
       count = r.at_last_level;
       exist = subst (All (IsLitOf n)) (sym r.lits) h.exist;
       free = subst (All (λ (m : Lit). held (take i steps) m.var ≡ None)) (sym r.lits) (free-weaker steps i a.lits.items h.free);
@@ -263,3 +268,58 @@ stays-more clauses n steps i d backjump backjump' lits lits' more b h is-b is fe
     and-right : (p q : Bool) → p ≡ true → (p && q) ≡ false → q ≡ false
     and-right true q e f = f
     and-right false q e f = absurd (false≢true e)
+
+-- nothing is marked where nothing is from the place on, and nothing before it
+all-clear : (i lowest : ℕ) (needed : List Bool) → i ≤ lowest → AreUnmarked i needed → AreUnmarkedBelow lowest needed → (k : ℕ) → is_marked needed k ≡ false
+all-clear i lowest needed low clear below k =
+    elim (cases_lt k lowest) [
+      | inl before ↦ below k before
+      | inr after ↦ clear k (omega arith)
+    ]
+
+-- **the walk's end**: no step before the place is needed, so it is as if all were walked
+pub walked-end : (clauses : List (List Lit)) (n : ℕ) (steps : List Step) (i backjump : ℕ) (a : Analysis) → i ≤ a.lowest → IsWalked clauses n steps i a → IsWalked clauses n steps 0 (record a { backjump = backjump })
+walked-end clauses n steps i backjump a low h =
+    record {
+      size = h.size;
+      clear = λ k above. all-clear i a.lowest a.needed.items low h.clear h.below k;
+      below = h.below;
+      count = h.count;
+      exist = h.exist;
+      free = λ k d few. refl;
+      differ = h.differ;
+      names = h.names;
+      many = h.many;
+      one = h.one;
+      root = h.root;
+    }
+
+pub leads-end : (clauses : List (List Lit)) (n : ℕ) (steps : List Step) (i : ℕ) (a : Analysis) (hints : List ℕ) (conflict : List Lit) → i ≤ a.lowest → IsWalked clauses n steps i a
+    → LeadsToConflict clauses steps i a.needed.items a.lits.items hints conflict → LeadsToConflict clauses steps 0 a.needed.items a.lits.items hints conflict
+leads-end clauses n steps i a hints conflict low h leads t covers rest =
+    leads t (λ k d below few mark. absurd (false≢true (sym (all-clear i a.lowest a.needed.items low h.clear h.below k) ∙ mark))) (λ x free. rest x refl)
+
+pub stays-end : (clauses : List (List Lit)) (n : ℕ) (steps : List Step) (i first : ℕ) (a : Analysis) → IsWalked clauses n steps i a
+    → ((k : ℕ) (d : Step) → k < first → (get_or steps k d).reason ≢ None) → IsBackjump steps i a.backjump a.lits.items
+    → IsBackjump steps 0 (backjump_at_end first (length a.lits.items) a.backjump) a.lits.items
+stays-end clauses n steps i first a h before stays k d low below few decides =
+    elim (cases_Bool (nat_le (length a.lits.items) 1)) [
+      | inl short ↦
+          (let at = cond-true (nat_le (length a.lits.items) 1) first a.backjump short in
+          absurd (before k d (omega arith) decides))
+      | inr long ↦
+          (let at = cond-false (nat_le (length a.lits.items) 1) first a.backjump long in
+          elim (cases_lt k i) [
+            | inr after ↦ stays k d after (omega arith) few decides
+            | inl earlier ↦
+                open-two (held (take k steps)) a.lits.items (not-le (length a.lits.items) long) h.differ
+                (All-weaker (λ (l : Lit). held (take i steps) l.var ≡ None) (λ (l : Lit). held (take k steps) l.var ≡ None) (λ l none. free-before steps k i l.var (omega arith) none) a.lits.items h.free)
+          ])
+    ]
+
+pub back-end : (steps : List Step) (first count backjump : ℕ) → IsDecisionOrEnd steps first → IsDecisionOrEnd steps backjump → IsDecisionOrEnd steps (backjump_at_end first count backjump)
+back-end steps first count backjump is-first is =
+    elim (cases_Bool (nat_le count 1)) [
+      | inl short ↦ subst (IsDecisionOrEnd steps) (sym (cond-true (nat_le count 1) first backjump short)) is-first
+      | inr long ↦ subst (IsDecisionOrEnd steps) (sym (cond-false (nat_le count 1) first backjump long)) is
+    ]

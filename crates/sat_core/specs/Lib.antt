@@ -4,3 +4,4 @@ pub mod Picks
 pub mod Steps
 pub mod Verdicts
 pub mod Walks
+pub mod Watches

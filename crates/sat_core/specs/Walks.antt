@@ -30,12 +30,17 @@ last_level_count last needed = count_by (λ b. b) (drop last needed)
 abbrev pub AreUnmarked : ℕ → List Bool → Type 0
 AreUnmarked n needed = (k : ℕ) → n ≤ k → is_marked needed k ≡ false
 
+-- no place before n is marked
+abbrev pub AreUnmarkedBelow : ℕ → List Bool → Type 0
+AreUnmarkedBelow n needed = (k : ℕ) → k < n → is_marked needed k ≡ false
+
 -- the steps of the literals of a front of the clause are marked too, as many from `last` on as were added
 pub record Needs (places : List ℕ) (front clause : List Lit) (last : ℕ) (old new : List Bool) (added : ℕ) : Type 0 where
   pub size : length new ≡ length old
   pub keeps : (k : ℕ) → is_marked old k ≡ true → is_marked new k ≡ true
   pub all : All (λ l. is_marked new (step_place places l) ≡ true) front
   pub only : (n : ℕ) → All (IsStepOf places n) clause → AreUnmarked n old → AreUnmarked n new
+  pub below : (n : ℕ) → All (λ l. n ≤ step_place places l) clause → AreUnmarkedBelow n old → AreUnmarkedBelow n new
   pub count : last_level_count last new ≡ last_level_count last old + added
 
 -- all steps are by clauses
@@ -49,9 +54,15 @@ pub record IsLastDecision (steps : List Step) (last : ℕ) : Type 0 where
   pub after : (k : ℕ) (d : Step) → last < k → k < length steps → (slice_index_or steps k d).reason ≢ None
   pub none : last ≡ length steps → AreForced steps
 
--- a step that isn't the first decision is no place of one
-abbrev pub IsFirstDecision : List Step → ℕ → Type 0
-IsFirstDecision steps first = (d : Step) → first < length steps → (slice_index_or steps first d).reason ≡ None
+-- the place of a decision, or past the last step
+abbrev pub IsDecisionOrEnd : List Step → ℕ → Type 0
+IsDecisionOrEnd steps place = (d : Step) → place < length steps → (slice_index_or steps place d).reason ≡ None
+
+-- the steps that were taken back are all from a decision on
+pub record IsTakenBack (old new : List Step) : Type 0 where
+  pub count : ℕ
+  pub front : new ≡ take count old
+  pub decides : IsDecisionOrEnd old count
 
 -- why a needed step is kept: it is the only one of the last level, or of an earlier one
 abbrev pub IsKeptAt : ℕ → ℕ → ℕ → ℕ → Type 0
@@ -64,6 +75,7 @@ pub record KeepsStep (place : ℕ) (lit : Lit) (old new : Analysis) : Type 0 whe
   pub lits : new.lits.items ≡ old.lits.items ++ negated lit ∷ []
   pub hints : new.hints.items ≡ old.hints.items
   pub last : new.last ≡ old.last
+  pub lowest : new.lowest ≡ old.lowest
   pub backjump : new.backjump ≡ old.backjump
 
 -- the step at a place was resolved with the clause that has this id
@@ -76,6 +88,8 @@ pub record Resolves (clauses : List (List Lit)) (places : List ℕ) (id place : 
   pub lits : new.lits.items ≡ old.lits.items
   pub hints : new.hints.items ≡ old.hints.items ++ id ∷ []
   pub last : new.last ≡ old.last
+  pub lower : new.lowest ≤ old.lowest
+  pub lowest : All (λ l. new.lowest ≤ step_place places l) (clause_at clauses id)
   pub backjump : new.backjump ≡ old.backjump
 
 -- one literal is free and all after it are false
@@ -90,6 +104,7 @@ pub record IsAsserting (s : Partial) (lits : List Lit) : Type 0 where
 pub record IsWalked (clauses : List (List Lit)) (n : ℕ) (steps : List Step) (i : ℕ) (a : Analysis) : Type 0 where
   pub size : length a.needed.items ≡ length steps
   pub clear : AreUnmarked i a.needed.items
+  pub below : AreUnmarkedBelow a.lowest a.needed.items
   pub count : a.at_last_level ≡ last_level_count a.last a.needed.items
   pub exist : All (IsLitOf n) a.lits.items
   pub free : All (λ l. held (take i steps) l.var ≡ None) a.lits.items
@@ -124,3 +139,7 @@ IsBackjump steps i backjump lits =
 -- how many steps a backjump leaves, after a look at one
 abbrev pub backjump_after : Step → ℕ → ℕ → ℕ → ℕ
 backjump_after step count place backjump = if is_none step.reason && nat_le count 1 then place else backjump
+
+-- and at the end of the walk
+abbrev pub backjump_at_end : ℕ → ℕ → ℕ → ℕ
+backjump_at_end first count backjump = if nat_le count 1 then first else backjump

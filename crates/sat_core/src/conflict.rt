@@ -3,12 +3,12 @@ ghost use Rattle.std.specs.Prelude.{◌≡◌, ◌≢◌, ◌⊎◌, ℕ, ◌+�
 ghost use Rattle.std.specs.List.{All, slice_index_or};
 ghost use Rattle.sat_core.specs.declared.trail.Step.{Step as Taken};
 ghost use Rattle.cnf_core.specs.declared.literal.Lit.{Lit as Literal};
-ghost use Rattle.cnf_core.specs.Formula.{AreOver};
+ghost use Rattle.cnf_core.specs.Formula.{AreOver, IsLitOf};
 ghost use Rattle.cnf_core.specs.Refutation.{clause_at, IsAccepted};
 ghost use Rattle.sat_core.specs.Steps.{given, var_count, IsTrailState, AreClosedBefore};
 ghost use Rattle.sat_core.specs.Looks.{IsFalsified};
 ghost use Rattle.sat_core.specs.Conflicts.{GoesOnWith};
-ghost use Rattle.sat_core.specs.Walks.{is_marked, last_level_count, IsStepOf, Needs, IsLastDecision, IsFirstDecision, IsKeptAt, KeepsStep, Resolves, IsWalked, LeadsToConflict, IsBackjump, backjump_after};
+ghost use Rattle.sat_core.specs.Walks.{is_marked, last_level_count, IsStepOf, Needs, IsLastDecision, IsDecisionOrEnd, IsKeptAt, IsTakenBack, KeepsStep, Resolves, IsWalked, LeadsToConflict, IsBackjump, step_place, backjump_after, backjump_at_end};
 
 use crate::trail::{Step, Trail};
 use cnf_core::{Clauses, Line, Lit};
@@ -28,6 +28,8 @@ struct Analysis {
     lits: Vec<Lit>,
     /// The clauses that were resolved, the last first.
     hints: Vec<u32>,
+    /// No step before this place is needed.
+    lowest: usize,
     /// How many steps a backjump leaves: those before the first decision under which the lemma is unit already.
     backjump: usize,
 }
@@ -47,6 +49,7 @@ pub(crate) fn learn(
     requires falsified { IsFalsified (given trail.old.values.items) clauses.now id }
     ensures shown { IfOk result (IsAccepted (record { vars = var_count trail.old; clauses = clauses.now }) []) }
     ensures size { OnOk result (var_count trail.new ≡ var_count trail.old) }
+    ensures back { OnOk result (IsTakenBack trail.old.steps.items trail.new.steps.items) }
     ensures goes_on { IfOk result (λ line. line.lits ≢ [] → GoesOnWith clauses.now (var_count trail.old) line.lits trail.new) }
 {
     let analysis = analyze(alloc, clauses, trail, id)?;
@@ -61,7 +64,7 @@ pub(crate) fn learn(
     })
 }
 
-/// Walks the whole trail back.
+/// Walks the trail back to the first step that is needed.
 fn analyze(alloc: Global, clauses: &Clauses, trail: &Trail, id: u32) -> Result<Analysis, NoMemory>
     requires few { length clauses.now < 2 ^ 31 }
     requires exist { AreOver (var_count trail.now) clauses.now }
@@ -72,13 +75,17 @@ fn analyze(alloc: Global, clauses: &Clauses, trail: &Trail, id: u32) -> Result<A
     ensures walked { IfOk result (IsWalked clauses.now (var_count trail.now) trail.now.steps.items 0) }
     ensures leads { IfOk result (λ a. LeadsToConflict clauses.now trail.now.steps.items 0 a.needed.items a.lits.items (reverse a.hints.items) (clause_at clauses.now id)) }
     ensures stays { IfOk result (λ a. IsBackjump trail.now.steps.items 0 a.backjump a.lits.items) }
+    ensures back { IfOk result (λ a. IsDecisionOrEnd trail.now.steps.items a.backjump) }
 {
     let count = trail.steps.len();
     let first = first_decision(&trail.steps);
     let mut analysis = start(alloc, clauses, trail, id)?;
-    for back in 0..count {
-        analysis.visit(clauses, trail, count - 1 - back, first)?;
+    let mut place = count;
+    while analysis.lowest < place {
+        place -= 1;
+        analysis.visit(clauses, trail, place, first)?;
     }
+    analysis.end(first);
     Ok(analysis)
 }
 
@@ -96,16 +103,14 @@ fn start(alloc: Global, clauses: &Clauses, trail: &Trail, id: u32) -> Result<Ana
     let count = trail.steps.len();
     let last = last_decision(&trail.steps);
     let mut needed = vec![in alloc; false; count]?;
-    let at_last_level = mark_clause(
-        clauses.get((id - 1) as usize),
-        &trail.places,
-        last,
-        needed.as_mut_slice(),
-    );
+    let clause = clauses.get((id - 1) as usize);
+    let at_last_level = mark_clause(clause, &trail.places, last, needed.as_mut_slice());
+    let lowest = lowest_place(clause, &trail.places, count);
     Ok(Analysis {
         needed,
         at_last_level,
         last,
+        lowest,
         lits: Vec::new(alloc),
         hints: Vec::new(alloc),
         backjump: count,
@@ -114,7 +119,7 @@ fn start(alloc: Global, clauses: &Clauses, trail: &Trail, id: u32) -> Result<Ana
 
 /// The place of the first decision, or the number of steps.
 fn first_decision(steps: &[Step]) -> usize
-    ensures decides { IsFirstDecision steps.now result }
+    ensures decides { IsDecisionOrEnd steps.now result }
     ensures before { (k : ℕ) (d : Taken) → k < result → (slice_index_or steps.now k d).reason ≢ None }
 {
     for place in 0..steps.len() {
@@ -149,6 +154,19 @@ fn mark_clause(clause: &[Lit], places: &[usize], last: usize, needed: &mut [bool
         added += mark(needed, places[(lit.var - 1) as usize], last);
     }
     added
+}
+
+/// The place of the first step of a clause's literals, or the given one where that is before it.
+fn lowest_place(clause: &[Lit], places: &[usize], most: usize) -> usize
+    requires exist { All (IsLitOf (length places.now)) clause.now }
+    ensures most { result ≤ most }
+    ensures each { All (λ l. result ≤ step_place places.now l) clause.now }
+{
+    let mut lowest = most;
+    for lit in clause {
+        lowest = lowest.min(places[(lit.var - 1) as usize]);
+    }
+    lowest
 }
 
 /// Marks a step: 1 where it is of the last level and wasn't marked before.
@@ -192,7 +210,7 @@ impl Analysis {
         requires few { length clauses.now < 2 ^ 31 }
         requires exist { AreOver (var_count trail.now) clauses.now }
         requires state { IsTrailState clauses.now (var_count trail.now) trail.now }
-        requires first { IsFirstDecision trail.now.steps.items first }
+        requires first { IsDecisionOrEnd trail.now.steps.items first }
         requires last { IsLastDecision trail.now.steps.items self.old.last }
         requires within { place < length trail.now.steps.items }
         requires walked { IsWalked clauses.now (var_count trail.now) trail.now.steps.items (place + 1) self.old }
@@ -200,6 +218,7 @@ impl Analysis {
         ensures walked { OnOk result (IsWalked clauses.now (var_count trail.now) trail.now.steps.items place self.new) }
         ensures leads { OnOk result ((conflict : List Literal) → LeadsToConflict clauses.now trail.now.steps.items (place + 1) self.old.needed.items self.old.lits.items (reverse self.old.hints.items) conflict → LeadsToConflict clauses.now trail.now.steps.items place self.new.needed.items self.new.lits.items (reverse self.new.hints.items) conflict) }
         ensures stays { OnOk result (IsBackjump trail.now.steps.items (place + 1) self.old.backjump self.old.lits.items → IsBackjump trail.now.steps.items place self.new.backjump self.new.lits.items) }
+        ensures back { OnOk result (IsDecisionOrEnd trail.now.steps.items self.old.backjump → IsDecisionOrEnd trail.now.steps.items self.new.backjump) }
     {
         self.resolve_or_keep(clauses, trail, place, first)?;
         self.set_backjump(trail.steps[place], place);
@@ -217,7 +236,7 @@ impl Analysis {
         requires few { length clauses.now < 2 ^ 31 }
         requires exist { AreOver (var_count trail.now) clauses.now }
         requires state { IsTrailState clauses.now (var_count trail.now) trail.now }
-        requires first { IsFirstDecision trail.now.steps.items first }
+        requires first { IsDecisionOrEnd trail.now.steps.items first }
         requires last { IsLastDecision trail.now.steps.items self.old.last }
         requires within { place < length trail.now.steps.items }
         requires walked { IsWalked clauses.now (var_count trail.now) trail.now.steps.items (place + 1) self.old }
@@ -231,21 +250,55 @@ impl Analysis {
             return Ok(());
         }
         let step = trail.steps[place];
-        match self.resolvent(step, place, first) {
+        let spare = self.is_spare(clauses, trail, place, first);
+        match self.resolvent(step, place, first, spare) {
             Some(id) => self.resolve(clauses, trail, id, place),
             None => self.keep(step.lit, place),
         }
     }
 
+    /// Whether a step of an earlier level has a reason all other literals of which are needed, or of steps before any
+    /// decision: without its literal the lemma follows too, by that reason.
+    fn is_spare(&self, clauses: &Clauses, trail: &Trail, place: usize, first: usize) -> bool
+        requires exist { AreOver (var_count trail.now) clauses.now }
+        requires state { IsTrailState clauses.now (var_count trail.now) trail.now }
+        requires within { place < length trail.now.steps.items }
+        requires size { length self.now.needed.items ≡ length trail.now.steps.items }
+    {
+        if self.last <= place {
+            return false;
+        }
+        match trail.steps[place].reason {
+            None => false,
+            Some(id) => {
+                let clause = clauses.get((id - 1) as usize);
+                self.are_needed(clause, &trail.places, place, first)
+            }
+        }
+    }
+
+    /// Whether each literal's step is the one at a place, or needed, or before the first decision.
+    fn are_needed(&self, clause: &[Lit], places: &[usize], place: usize, first: usize) -> bool
+        requires steps { All (IsStepOf places.now (length self.now.needed.items)) clause.now }
+    {
+        for lit in clause {
+            let other = places[(lit.var - 1) as usize];
+            if other != place && first <= other && !self.needed[other] {
+                return false;
+            }
+        }
+        true
+    }
+
     /// The clause with which a needed step is resolved, or none where it is kept. Kept are the last one of the last level,
-    /// and those of earlier levels but the steps before any decision.
-    fn resolvent(&self, step: Step, place: usize, first: usize) -> Option<u32>
+    /// and those of earlier levels but the steps before any decision and the spare ones.
+    fn resolvent(&self, step: Step, place: usize, first: usize, spare: bool) -> Option<u32>
         ensures { MatchOption result ((step.reason ≡ None) ⊎ IsKeptAt first self.now.last self.now.at_last_level place) (λ id. (step.reason ≡ Some id) × (self.now.last ≤ place → self.now.at_last_level ≢ 1)) }
     {
         let keeps = if self.last <= place {
             self.at_last_level == 1
         } else {
-            first <= place
+            first <= place && !spare
         };
         if keeps { None } else { step.reason }
     }
@@ -265,12 +318,9 @@ impl Analysis {
         requires at_last_level { self.old.at_last_level ≡ last_level_count self.old.last self.old.needed.items }
         ensures { OnOk result (Resolves clauses.now trail.now.places.items id place self.old self.new) }
     {
-        let added = mark_clause(
-            clauses.get((id - 1) as usize),
-            &trail.places,
-            self.last,
-            self.needed.as_mut_slice(),
-        );
+        let clause = clauses.get((id - 1) as usize);
+        let added = mark_clause(clause, &trail.places, self.last, self.needed.as_mut_slice());
+        self.lowest = lowest_place(clause, &trail.places, self.lowest);
         self.hints.push(id)?;
         let done = unmark(self.needed.as_mut_slice(), place, self.last);
         self.at_last_level = self.at_last_level + added - done;
@@ -287,6 +337,15 @@ impl Analysis {
         let done = unmark(self.needed.as_mut_slice(), place, self.last);
         self.at_last_level -= done;
         Ok(())
+    }
+
+    /// The end of the walk: a lemma of one literal, and an empty one, is unit before the first decision.
+    fn end(&mut self, first: usize)
+        ensures { self.new ≡ record self.old { backjump = backjump_at_end first (length self.old.lits.items) self.old.backjump } }
+    {
+        if self.lits.len() <= 1 {
+            self.backjump = first;
+        }
     }
 
     /// Where the step is a decision before which the lemma is unit, all from it on is to be taken back.

@@ -1,9 +1,11 @@
 // The literals that were made true, in order, and the value of each variable.
-ghost use Rattle.std.specs.Prelude.{◌≡◌, ℕ, ◌≤◌, [], ◌∷◌, ◌++◌, List, length, take, OnOk, IfOk, Some, slice_set, MatchOption};
+ghost use Rattle.std.specs.Prelude.{◌≡◌, ℕ, ◌≤◌, ◌↔◌, [], ◌∷◌, ◌++◌, List, length, IsTrue, take, OnOk, IfOk, Some, slice_set, MatchOption};
 ghost use Rattle.std.specs.List.{All};
 ghost use Rattle.cnf_core.specs.declared.literal.Lit.{Lit as Literal};
 ghost use Rattle.cnf_core.specs.Formula.{IsLitOf};
+ghost use Rattle.cnf_core.specs.Values.{IsHeld, IsFalse};
 ghost use Rattle.sat_core.specs.Steps.{given, IsTrailState, IsRightStep, var_count};
+ghost use Rattle.sat_core.specs.Watches.{FallsAt};
 
 use cnf_core::{Lit, Values};
 use items::NoMemory;
@@ -49,6 +51,37 @@ impl Trail {
             values,
             places,
         })
+    }
+
+    /// Whether a literal is true.
+    #[tactic(auto, unfolding(crate::specs::Steps::given))]
+    pub(crate) fn is_true(&self, lit: Lit) -> bool
+        requires exist { IsLitOf (var_count self.now) lit }
+        ensures { IsTrue result ↔ IsHeld (given self.now.values.items) lit }
+    {
+        self.values[(lit.var - 1) as usize] == Some(lit.positive)
+    }
+
+    /// Whether a literal is false.
+    #[tactic(auto, unfolding(crate::specs::Steps::given))]
+    pub(crate) fn is_false(&self, lit: Lit) -> bool
+        requires exist { IsLitOf (var_count self.now) lit }
+        ensures { IsTrue result ↔ IsFalse (given self.now.values.items) lit }
+    {
+        self.values[(lit.var - 1) as usize] == Some(!lit.positive)
+    }
+
+    /// How many steps there are before the one that made a literal false, or all of them where it isn't false.
+    pub(crate) fn falls(&self, lit: Lit) -> usize
+        requires exist { IsLitOf (var_count self.now) lit }
+        requires slots { length self.now.places.items ≡ var_count self.now }
+        ensures { (clauses : List (List Literal)) → IsTrailState clauses (var_count self.now) self.now → FallsAt self.now.steps.items lit result }
+    {
+        if self.is_false(lit) {
+            self.places[(lit.var - 1) as usize]
+        } else {
+            self.steps.len()
+        }
     }
 
     /// Makes a free literal true.

@@ -1,10 +1,13 @@
-use Rattle.std.proofs.Common.{◌≡◌, ℕ, ◌+◌, ◌-◌, [], ◌++◌, List, Bool, false, length, take, drop, refl, sym, ap, ◌∙◌, subst, arith}
+use Rattle.std.proofs.Common.{◌≡◌, ℕ, ◌+◌, ◌-◌, ◌≤◌, [], ◌++◌, List, Bool, false, length, take, drop, refl, sym, ap, ◌∙◌, subst, arith}
 use Rattle.std.specs.Prelude.{slice_set}
+use Rattle.std.specs.List.{All}
 use Rattle.std.proofs.lemmas.List.{take_at, length-set}
 use Rattle.std.proofs.lemmas.Option.{get_or_from_slice_get}
 use Rattle.cnf_core.specs.declared.literal.Lit.{Lit}
+use Rattle.std.proofs.lemmas.List.Elements.{All-weaker}
+use Rattle.cnf_core.specs.Formula.{IsLitOf}
 use Rattle.cnf_core.specs.Refutation.{clause_at}
-use Rattle.sat_core.specs.Walks.{Needs, last_level_count}
+use Rattle.sat_core.specs.Walks.{Needs, IsStepOf, step_place, last_level_count}
 use Rattle.sat_core.proofs.Marking.{late-le}
 use Rattle.sat_core.proofs.conflict.Analysis.resolve.Goals as goal
 
@@ -27,9 +30,9 @@ returns c =
     let last = old.last in
     let mid = c.mark_clause-added.new.needed in
     let added = c.mark_clause-added.result in
-    let is : clause_at c.args.clauses.now c.args.id ≡ c.get.result.now = get_or_from_slice_get c.args.clauses.now (c.args.id - 1) c.get.result.now [] c.get.ensures in
-    let needs = subst (λ (ps : List ℕ). Needs ps c.get.result.now c.get.result.now last old.needed.items mid added) c.deref.ensures.value
-    (subst (λ (xs : List Bool). Needs c.deref.result.now c.get.result.now c.get.result.now last xs mid added) c.as_mut_slice.ensures.value c.mark_clause-added.ensures.needs) in
+    let is : clause_at c.args.clauses.now c.args.id ≡ c.get-clause.result.now = get_or_from_slice_get c.args.clauses.now (c.args.id - 1) c.get-clause.result.now [] c.get-clause.ensures in
+    let needs = subst (λ (ps : List ℕ). Needs ps c.get-clause.result.now c.get-clause.result.now last old.needed.items mid added) c.deref.ensures.value
+    (subst (λ (xs : List Bool). Needs c.deref.result.now c.get-clause.result.now c.get-clause.result.now last xs mid added) c.as_mut_slice.ensures.value c.mark_clause-added.ensures.needs) in
     let count = needs.count in
     let at_last_level = c.requires.at_last_level in
     let items = old.needed.items in
@@ -52,5 +55,17 @@ returns c =
       lits = refl;
       hints = c.in_ok-push.ensures.items;
       last = refl;
+      lower = c.lowest_place-self.ensures.most;
+      lowest = subst (λ (x : List Lit). All (λ l. c.lowest_place-self.result ≤ step_place c.args.trail.now.places.items l) x) (sym is)
+          (subst (λ (ps : List ℕ). All (λ l. c.lowest_place-self.result ≤ step_place ps l) c.get-clause.result.now) c.deref-2.ensures.value c.lowest_place-self.ensures.each);
       backjump = refl;
+    }
+
+pub lowest_place-self-requires : goal.lowest_place-self-requires
+lowest_place-self-requires c =
+    let places = c.args.trail.now.places.items in
+    let is : clause_at c.args.clauses.now c.args.id ≡ c.get-clause.result.now = get_or_from_slice_get c.args.clauses.now (c.args.id - 1) c.get-clause.result.now [] c.get-clause.ensures in
+    let exist = All-weaker (IsStepOf places (length c.args.self.now.needed.items)) (IsLitOf (length places)) (λ l s. record { above = s.above; within = s.within }) (clause_at c.args.clauses.now c.args.id) c.requires.steps in
+    record {
+      exist = subst (λ (ps : List ℕ). All (IsLitOf (length ps)) c.get-clause.result.now) (sym c.deref-2.ensures.value) (subst (All (IsLitOf (length places))) is exist);
     }

@@ -1,8 +1,8 @@
 use Rattle.std.proofs.Common.{◌≡◌, ℕ, ◌+◌, ◌++◌, ◌∷◌, [], List, Vec, Global, None, false, get_or, arith, ap, ◌∙◌}
 use Rattle.std.specs.Prelude.{is_none}
 use Rattle.sat_core.proofs.Picking.{free-more, free-keep}
-use Rattle.sat_core.proofs.decision.free_vars.Goals as goal
-use Rattle.sat_core.proofs.decision.free_vars.Goals.{then-is_none+in_ok-push, else-is_none}
+use Rattle.sat_core.proofs.decision.list_free.Goals as goal
+use Rattle.sat_core.proofs.decision.list_free.Goals.{then-is_none+in_ok-push, else-is_none}
 
 pub loop-index-preserved : goal.loop-index-preserved
 loop-index-preserved c =
