@@ -9,12 +9,13 @@ use Rattle.cnf_core.specs.declared.literal.Lit.{Lit}
 use Rattle.cnf_core.specs.Formula.{IsLitOf}
 use Rattle.cnf_core.specs.Values.{IsFalse}
 use Rattle.sat_core.specs.declared.trail.Step.{Step}
+use Rattle.sat_core.specs.declared.trail.Value.{Value}
 use Rattle.sat_core.specs.Steps.{given, held, AreSteps}
 use Rattle.sat_core.specs.Watches.{FallsAt, IsNoLater, IsLatest, IsLaterOf, IsChosen}
 use Rattle.sat_core.proofs.Holding.{none≢some, held-at, held-whole, free-before, step-of}
 
 -- a false literal becomes false at the place of its variable's step
-pub falls-false : (clauses : List (List Lit)) (n : ℕ) (steps : List Step) (values : List (Option Bool)) (places : List ℕ) (l : Lit) → IsLitOf n l → AreSteps clauses n steps values places
+pub falls-false : (clauses : List (List Lit)) (n : ℕ) (steps : List Step) (values : List Value) (places : List ℕ) (l : Lit) → IsLitOf n l → AreSteps clauses n steps values places
     → IsFalse (given values) l → FallsAt steps l (get_or places (l.var - 1) 0)
 falls-false clauses n steps values places l at s f k le =
     let e : Step = record { lit = l; reason = None } in
@@ -33,7 +34,7 @@ falls-false clauses n steps values places l at s f k le =
     )
 
 -- a literal that isn't false becomes false nowhere
-pub falls-not : (clauses : List (List Lit)) (n : ℕ) (steps : List Step) (values : List (Option Bool)) (places : List ℕ) (l : Lit) → IsLitOf n l → AreSteps clauses n steps values places
+pub falls-not : (clauses : List (List Lit)) (n : ℕ) (steps : List Step) (values : List Value) (places : List ℕ) (l : Lit) → IsLitOf n l → AreSteps clauses n steps values places
     → (IsFalse (given values) l → ⊥) → FallsAt steps l (length steps)
 falls-not clauses n steps values places l at s not' k le = (
   (λ f. absurd (not' (sym (s.shows l.var at.above at.within) ∙ held-whole steps k l.var (not l.positive) f))),

@@ -1,5 +1,5 @@
 -- What the walk found at the trail's first step: the line of the conflict, that it is fresh, and the trail that stays.
-use Rattle.std.proofs.Common.{◌≡◌, ◌≢◌, ℕ, ◌+◌, ◌-◌, ◌<◌, ◌≤◌, Bool, true, false, not, List, [], ◌∷◌, ◌++◌, length, take, get_or, refl, sym, ap, ◌∙◌, subst, arith, inl, inr, suc, zero, Option, Some, None, append-nil}
+use Rattle.std.proofs.Common.{◌≡◌, ◌≢◌, ℕ, ◌+◌, ◌-◌, ◌<◌, ◌≤◌, Bool, true, false, not, List, [], ◌∷◌, ◌++◌, length, take, get_or, refl, sym, ap, ◌∙◌, subst, arith, inl, inr, suc, zero, Some, None, append-nil}
 use Rattle.std.specs.Prelude.{reverse, slice_index, replicate}
 use Rattle.std.specs.List.{All}
 use Rattle.std.proofs.lemmas.Bool.{cases_lt}
@@ -13,6 +13,7 @@ use Rattle.cnf_core.specs.Refutation.{clause_at, Reaches, refuted, AreNames, Hav
 use Rattle.sat_core.specs.declared.trail.Step.{Step}
 use Rattle.sat_core.specs.declared.trail.Trail.{Trail}
 use Rattle.sat_core.specs.declared.conflict.Analysis.{Analysis}
+use Rattle.sat_core.specs.declared.trail.Value.{Value}
 use Rattle.sat_core.specs.Steps.{given, held, IsTrailState, AreSteps, AreClosedBefore}
 use Rattle.sat_core.specs.Looks.{IsFalsified}
 use Rattle.sat_core.specs.Conflicts.{GoesOnWith}
@@ -23,7 +24,7 @@ use Rattle.sat_core.proofs.Marking.{late-clear, late-some}
 use Rattle.sat_core.proofs.Leading.{leads-start}
 
 -- the steps of a false clause's literals
-pub false-steps : (clauses : List (List Lit)) (n : ℕ) (steps : List Step) (values : List (Option Bool)) (places : List ℕ) (c : List Lit)
+pub false-steps : (clauses : List (List Lit)) (n : ℕ) (steps : List Step) (values : List Value) (places : List ℕ) (c : List Lit)
     → AreSteps clauses n steps values places → All (IsLitOf n) c → IsFalseClause (held steps) c → All (IsStepOf places (length steps)) c
 false-steps clauses n steps values places c s exist false' k d few =
     let m = get_or c k d in
@@ -36,7 +37,7 @@ false-steps clauses n steps values places c s exist false' k d few =
     record { above = at.above; within = omega arith; before = omega arith }
 
 -- a false clause that was open before a decision has a literal of the last level
-late-literal : (clauses : List (List Lit)) (n : ℕ) (steps : List Step) (values : List (Option Bool)) (places : List ℕ) (last : ℕ) (c : List Lit) (needed : List Bool)
+late-literal : (clauses : List (List Lit)) (n : ℕ) (steps : List Step) (values : List Value) (places : List ℕ) (last : ℕ) (c : List Lit) (needed : List Bool)
     → AreSteps clauses n steps values places → All (IsLitOf n) c → IsFalseClause (held steps) c → IsOpenClause (held (take last steps)) c
     → All (λ l. is_marked needed (step_place places l) ≡ true) c → length needed ≡ length steps → 1 ≤ last_level_count last needed
 late-literal clauses n steps values places last c needed s exist false' open' marked size =
@@ -66,7 +67,7 @@ late-literal clauses n steps values places last c needed s exist false' open' ma
     held-at' j e early few = held-at clauses steps last j e s.trail early few
 
 -- **at the end of the trail**
-pub walked-start : (clauses : List (List Lit)) (n : ℕ) (steps : List Step) (values : List (Option Bool)) (places : List ℕ) (id last at_last_level added : ℕ) (old : List Bool) (c : List Lit) (a : Analysis)
+pub walked-start : (clauses : List (List Lit)) (n : ℕ) (steps : List Step) (values : List Value) (places : List ℕ) (id last at_last_level added : ℕ) (old : List Bool) (c : List Lit) (a : Analysis)
     → AreSteps clauses n steps values places → AreOver n clauses → AreClosedBefore clauses steps → IsFalsified (given values) clauses id → IsLastDecision steps last
     → c ≡ clause_at clauses id → old ≡ replicate (length steps) false → Needs places c c last old a.needed.items added → All (λ l. a.lowest ≤ step_place places l) c
     → a.at_last_level ≡ added → a.last ≡ last → a.lits.items ≡ [] → a.hints.items ≡ []
@@ -187,7 +188,7 @@ fresh-from clauses s lits closed differ asserts =
     })
 
 -- steps over more clauses
-steps-over : (clauses more : List (List Lit)) (n : ℕ) (steps : List Step) (values : List (Option Bool)) (places : List ℕ) → AreSteps clauses n steps values places → AreSteps (clauses ++ more) n steps values places
+steps-over : (clauses more : List (List Lit)) (n : ℕ) (steps : List Step) (values : List Value) (places : List ℕ) → AreSteps clauses n steps values places → AreSteps (clauses ++ more) n steps values places
 steps-over clauses more n steps values places h =
     let long = length-append clauses more in
     record {

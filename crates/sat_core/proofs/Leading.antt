@@ -1,5 +1,5 @@
 -- From the negation of the lemma the hints lead to the conflict: one step more of the walk back.
-use Rattle.std.proofs.Common.{◌≡◌, ◌≢◌, ℕ, ◌+◌, ◌-◌, ◌<◌, Bool, true, false, not, List, [], ◌∷◌, ◌++◌, length, take, set, get_or, refl, sym, ap, ◌∙◌, subst, arith, inl, inr, Option, Some, None}
+use Rattle.std.proofs.Common.{◌≡◌, ◌≢◌, ℕ, ◌+◌, ◌-◌, ◌<◌, Bool, true, false, not, List, [], ◌∷◌, ◌++◌, length, take, set, get_or, refl, sym, ap, ◌∙◌, subst, arith, inl, inr, Some, None}
 use Rattle.std.specs.List.{All}
 use Rattle.std.proofs.lemmas.Bool.{cases_eq, false≢true}
 use Rattle.std.proofs.lemmas.List.{get_or-take, length-take, take_all, map_push, get_or_default, get_or-set_other}
@@ -9,12 +9,13 @@ use Rattle.cnf_core.specs.Formula.{negated}
 use Rattle.cnf_core.specs.Values.{partial_of, IsHeld, IsFalse, IsFalseClause, IsUnit}
 use Rattle.cnf_core.specs.Refutation.{clause_at, refuted}
 use Rattle.sat_core.specs.declared.trail.Step.{Step}
+use Rattle.sat_core.specs.declared.trail.Value.{Value}
 use Rattle.sat_core.specs.Steps.{held, IsTrail, IsReason, AreSteps}
 use Rattle.sat_core.specs.Walks.{step_place, is_marked, Covers, LeadsToConflict}
 use Rattle.sat_core.proofs.Holding.{none≢some, partial_of-push-same, partial_of-push-other, partial_of-cons-same, partial_of-cons-other, held-step, held-at, step-of, free-before}
 
 -- a literal that is false under the steps before i is false by its marked step
-pub covered-false : (clauses : List (List Lit)) (n : ℕ) (steps : List Step) (values : List (Option Bool)) (places : List ℕ) (i : ℕ) (needed : List Bool) (t : List Lit) (l : Lit)
+pub covered-false : (clauses : List (List Lit)) (n : ℕ) (steps : List Step) (values : List Value) (places : List ℕ) (i : ℕ) (needed : List Bool) (t : List Lit) (l : Lit)
     → AreSteps clauses n steps values places → Covers steps i needed t → IsFalse (held (take i steps)) l → is_marked needed (step_place places l) ≡ true → IsFalse (partial_of t) l
 covered-false clauses n steps values places i needed t l h covers false' marked =
     let (j, few, at) = step-of (take i steps) l.var (not l.positive) false' in
@@ -31,7 +32,7 @@ covered-false clauses n steps values places i needed t l h covers false' marked 
     ap (partial_of t) (sym var) ∙ covers j d below few' mark ∙ ap (λ (b : Bool). Some b) positive
 
 -- at the end of the trail the conflict is false already
-pub leads-start : (clauses : List (List Lit)) (n : ℕ) (steps : List Step) (values : List (Option Bool)) (places : List ℕ) (needed : List Bool) (conflict : List Lit)
+pub leads-start : (clauses : List (List Lit)) (n : ℕ) (steps : List Step) (values : List Value) (places : List ℕ) (needed : List Bool) (conflict : List Lit)
     → AreSteps clauses n steps values places → IsFalseClause (held steps) conflict → All (λ l. is_marked needed (step_place places l) ≡ true) conflict → LeadsToConflict clauses steps (length steps) needed [] [] conflict
 leads-start clauses n steps values places needed conflict h false' marked t covers rest = (
   t,
@@ -92,7 +93,7 @@ leads-keep clauses steps i d needed needed' lits hints conflict trail few free i
     rest x (free-before steps i (i + 1) x (omega arith) free-x) ∙ ap (λ (ls : List Lit). partial_of ls x) all ∙ partial_of-push-other (refuted lits) (negated (negated l)) x other)
 
 -- a step that is resolved with its reason
-pub leads-resolve : (clauses : List (List Lit)) (n : ℕ) (steps : List Step) (values : List (Option Bool)) (places : List ℕ) (i : ℕ) (d : Step) (id : ℕ) (needed mid needed' : List Bool) (lits : List Lit) (hints : List ℕ) (conflict : List Lit)
+pub leads-resolve : (clauses : List (List Lit)) (n : ℕ) (steps : List Step) (values : List Value) (places : List ℕ) (i : ℕ) (d : Step) (id : ℕ) (needed mid needed' : List Bool) (lits : List Lit) (hints : List ℕ) (conflict : List Lit)
     → AreSteps clauses n steps values places → i < length steps → All (λ (l : Lit). held (take (i + 1) steps) l.var ≡ None) lits
     → IsReason (held (take i steps)) clauses id (get_or steps i d).lit
     → ((k : ℕ) → is_marked needed k ≡ true → is_marked mid k ≡ true) → All (λ l. is_marked mid (step_place places l) ≡ true) (clause_at clauses id) → needed' ≡ set mid i false

@@ -10,6 +10,7 @@ pub mod Picking
 pub mod Quiet
 pub mod Scoring
 pub mod Searching
+pub mod Renewing
 pub mod Resolving
 pub mod States
 pub mod Visiting

@@ -1,5 +1,5 @@
 -- A look at one step: what it leaves, and where the hints lead then.
-use Rattle.std.proofs.Common.{◌≡◌, ◌≢◌, ℕ, ◌+◌, ◌<◌, ◌≤◌, ◌⊎◌, Bool, true, false, List, [], ◌∷◌, length, take, get_or, sym, ap, ◌∙◌, subst, arith, Option, Some, None}
+use Rattle.std.proofs.Common.{◌≡◌, ◌≢◌, ℕ, ◌+◌, ◌<◌, ◌≤◌, ◌⊎◌, Bool, true, false, List, [], ◌∷◌, length, take, get_or, sym, ap, ◌∙◌, subst, arith, Some, None}
 use Rattle.std.specs.Prelude.{OnOk, Result, Ok, Err, reverse}
 use Rattle.std.specs.List.{All}
 use Rattle.std.proofs.lemmas.List.{reverse-append, get_or_default}
@@ -8,6 +8,7 @@ use Rattle.cnf_core.specs.Formula.{AreOver}
 use Rattle.cnf_core.specs.Refutation.{clause_at}
 use Rattle.sat_core.specs.declared.trail.Step.{Step}
 use Rattle.sat_core.specs.declared.conflict.Analysis.{Analysis}
+use Rattle.sat_core.specs.declared.trail.Value.{Value}
 use Rattle.sat_core.specs.Steps.{held, IsReason, AreSteps}
 use Rattle.sat_core.specs.Walks.{is_marked, IsStepOf, IsLastDecision, IsDecisionOrEnd, IsKeptAt, KeepsStep, Resolves, IsWalked, LeadsToConflict}
 use Rattle.sat_core.proofs.Leading.{leads-skip, leads-keep, leads-resolve}
@@ -33,7 +34,7 @@ settled-skip clauses n steps i a h unmarked =
       leads = λ conflict. leads-skip clauses steps i a.needed.items a.lits.items (reverse a.hints.items) conflict unmarked;
     }
 
-pub settled-keep : (clauses : List (List Lit)) (n : ℕ) (steps : List Step) (values : List (Option Bool)) (places : List ℕ) (i first : ℕ) (step : Step) (a b : Analysis)
+pub settled-keep : (clauses : List (List Lit)) (n : ℕ) (steps : List Step) (values : List Value) (places : List ℕ) (i first : ℕ) (step : Step) (a b : Analysis)
     → AreSteps clauses n steps values places → IsDecisionOrEnd steps first → IsLastDecision steps a.last → i < length steps
     → IsWalked clauses n steps (i + 1) a → is_marked a.needed.items i ≡ true → step ≡ get_or steps i step → (step.reason ≡ None) ⊎ IsKeptAt first a.last a.at_last_level i
     → KeepsStep i step.lit a b → Settled clauses n steps i a b
@@ -49,13 +50,13 @@ settled-keep clauses n steps values places i first step a b s is-first last few 
     }
 
 -- the reason of a step that has one
-pub reason-of : (clauses : List (List Lit)) (n : ℕ) (steps : List Step) (values : List (Option Bool)) (places : List ℕ) (i id : ℕ) (step : Step)
+pub reason-of : (clauses : List (List Lit)) (n : ℕ) (steps : List Step) (values : List Value) (places : List ℕ) (i id : ℕ) (step : Step)
     → AreSteps clauses n steps values places → i < length steps → step ≡ get_or steps i step → step.reason ≡ Some id → IsReason (held (take i steps)) clauses id (get_or steps i step).lit
 reason-of clauses n steps values places i id step s few is some =
     (s.trail i step few).forced id (subst (λ (x : Step). x.reason ≡ Some id) is some)
 
 -- the steps of its literals are steps of the trail
-pub reason-few : (clauses : List (List Lit)) (n : ℕ) (steps : List Step) (values : List (Option Bool)) (places : List ℕ) (i id m : ℕ) (step : Step)
+pub reason-few : (clauses : List (List Lit)) (n : ℕ) (steps : List Step) (values : List Value) (places : List ℕ) (i id m : ℕ) (step : Step)
     → AreSteps clauses n steps values places → AreOver n clauses → i < length steps → step ≡ get_or steps i step → step.reason ≡ Some id → m ≡ length steps
     → All (IsStepOf places m) (clause_at clauses id)
 reason-few clauses n steps values places i id m step s over few is some size k d few' =
@@ -63,7 +64,7 @@ reason-few clauses n steps values places i id m step s over few is some size k d
     let before = at.before in
     record { above = at.above; within = at.within; before = omega arith }
 
-pub settled-resolve : (clauses : List (List Lit)) (n : ℕ) (steps : List Step) (values : List (Option Bool)) (places : List ℕ) (i id : ℕ) (step : Step) (a b : Analysis)
+pub settled-resolve : (clauses : List (List Lit)) (n : ℕ) (steps : List Step) (values : List Value) (places : List ℕ) (i id : ℕ) (step : Step) (a b : Analysis)
     → AreSteps clauses n steps values places → AreOver n clauses → i < length steps
     → IsWalked clauses n steps (i + 1) a → is_marked a.needed.items i ≡ true → step ≡ get_or steps i step → step.reason ≡ Some id → (a.last ≤ i → a.at_last_level ≢ 1)
     → Resolves clauses places id i a b → Settled clauses n steps i a b

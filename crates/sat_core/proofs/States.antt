@@ -12,36 +12,39 @@ use Rattle.cnf_core.specs.Formula.{IsLitOf, AreOver}
 use Rattle.cnf_core.specs.Values.{IsClosed, IsFalseClause}
 use Rattle.cnf_core.specs.Refutation.{clause_at}
 use Rattle.sat_core.specs.declared.trail.Step.{Step}
-use Rattle.sat_core.specs.Steps.{given, held, IsReason, IsRightStep, AreSteps, Propagates, AreClosedBefore}
+use Rattle.sat_core.specs.declared.trail.Value.{Value}
+use Rattle.sat_core.specs.declared.trail.Value.TheVariants.{Unassigned}
+use Rattle.sat_core.specs.Steps.{value_of, is_free, given, held, IsReason, IsRightStep, AreSteps, Propagates, AreClosedBefore}
 use Rattle.sat_core.specs.Looks.{IsFalsified}
 use Rattle.sat_core.proofs.Agreeing.{unit-agrees, false-agrees, open-agrees}
 use Rattle.sat_core.proofs.Holding.{none≢some, held-push-other, held-push-same, held-at}
 
 abbrev Values : Type 0
-Values = List (Option Bool)
+Values = List Value
 
-given-same : (values : Values) (l : Lit) → 1 ≤ l.var → l.var ≤ length values → given (set values (l.var - 1) (Some l.positive)) l.var ≡ Some l.positive
+given-same : (values : Values) (l : Lit) (v : Value) → value_of v ≡ Some l.positive → 1 ≤ l.var → l.var ≤ length values → given (set values (l.var - 1) v) l.var ≡ Some l.positive
 unfolding given
-given-same values l low high = get_or-set_same values (l.var - 1) (Some l.positive) None (omega arith)
+given-same values l v is low high = ap value_of (get_or-set_same values (l.var - 1) v Unassigned (omega arith)) ∙ is
 
-given-other : (values : Values) (l : Lit) (x : ℕ) → 1 ≤ l.var → 1 ≤ x → (l.var ≡ x → ⊥) → given (set values (l.var - 1) (Some l.positive)) x ≡ given values x
+given-other : (values : Values) (l : Lit) (v : Value) (x : ℕ) → 1 ≤ l.var → 1 ≤ x → (l.var ≡ x → ⊥) → given (set values (l.var - 1) v) x ≡ given values x
 unfolding given
-given-other values l x low low' other = let ne : x - 1 ≢ l.var - 1 = omega arith in get_or-set_other values (l.var - 1) (x - 1) (Some l.positive) None ne
+given-other values l v x low low' other = let ne : x - 1 ≢ l.var - 1 = omega arith in ap value_of (get_or-set_other values (l.var - 1) (x - 1) v Unassigned ne)
 
 -- one variable fewer without a value
-room-push : (values : Values) (l : Lit) → 1 ≤ l.var → l.var ≤ length values → given values l.var ≡ None → count_by is_none (set values (l.var - 1) (Some l.positive)) + 1 ≡ count_by is_none values
+room-push : (values : Values) (l : Lit) (v : Value) → value_of v ≡ Some l.positive → 1 ≤ l.var → l.var ≤ length values → given values l.var ≡ None → count_by is_free (set values (l.var - 1) v) + 1 ≡ count_by is_free values
 unfolding given
-room-push values l low high free =
-    let e : count_by is_none (set values (l.var - 1) (Some l.positive)) + cond {A = ℕ} (is_none (get_or values (l.var - 1) None)) 1 0 ≡ count_by is_none values + 0 =
-    sum_by-set (λ (o : Option Bool). cond {A = ℕ} (is_none o) 1 0) values (l.var - 1) (Some l.positive) None (omega arith) in
-    let one : cond {A = ℕ} (is_none (get_or values (l.var - 1) None)) 1 0 ≡ 1 = ap (λ (o : Option Bool). cond {A = ℕ} (is_none o) 1 0) free in
+room-push values l v is low high free =
+    let e : count_by is_free (set values (l.var - 1) v) + cond {A = ℕ} (is_free (get_or values (l.var - 1) Unassigned)) 1 0 ≡ count_by is_free values + cond {A = ℕ} (is_free v) 1 0 =
+    sum_by-set (λ (o : Value). cond {A = ℕ} (is_free o) 1 0) values (l.var - 1) v Unassigned (omega arith) in
+    let one : cond {A = ℕ} (is_free (get_or values (l.var - 1) Unassigned)) 1 0 ≡ 1 = ap (λ (o : Option Bool). cond {A = ℕ} (is_none o) 1 0) free in
+    let none : cond {A = ℕ} (is_free v) 1 0 ≡ 0 = ap (λ (o : Option Bool). cond {A = ℕ} (is_none o) 1 0) is in
     omega arith
 
 -- one more right step
-steps-push-of : (clauses : List (List Lit)) (n : ℕ) (steps : List Step) (values : Values) (places : List ℕ) (step : Step) → IsLitOf n step.lit → AreSteps clauses n steps values places → IsRightStep clauses steps step → AreSteps clauses n (steps ++ step ∷ []) (set values (step.lit.var - 1) (Some step.lit.positive)) (set places (step.lit.var - 1) (length steps))
-steps-push-of clauses n steps values places step at h right =
+steps-push-of : (clauses : List (List Lit)) (n : ℕ) (steps : List Step) (values : Values) (places : List ℕ) (step : Step) (v : Value) → value_of v ≡ Some step.lit.positive → IsLitOf n step.lit → AreSteps clauses n steps values places → IsRightStep clauses steps step → AreSteps clauses n (steps ++ step ∷ []) (set values (step.lit.var - 1) v) (set places (step.lit.var - 1) (length steps))
+steps-push-of clauses n steps values places step v is-v at h right =
     let l = step.lit in
-    let size = length-set values (l.var - 1) (Some l.positive) in
+    let size = length-set values (l.var - 1) v in
     let slots = length-set places (l.var - 1) (length steps) in
     let free : given values l.var ≡ None = sym (h.shows l.var at.above at.within) ∙ right.free in
     let within : l.var ≤ length values = (let a = at.within in let b = h.size in omega arith) in
@@ -60,11 +63,11 @@ steps-push-of clauses n steps values places step at h right =
       exist = All-push (λ (s : Step). IsLitOf n s.lit) steps step h.exist at;
       size = size ∙ h.size;
       shows = λ x low high. elim (cases_eq l.var x) [
-        | inl same ↦ subst (λ (y : ℕ). held (steps ++ step ∷ []) y ≡ given (set values (l.var - 1) (Some l.positive)) y) same
-            (held-push-same steps step right.free ∙ sym (given-same values l at.above within))
-        | inr other ↦ held-push-other steps step x other ∙ h.shows x low high ∙ sym (given-other values l x at.above low other)
+        | inl same ↦ subst (λ (y : ℕ). held (steps ++ step ∷ []) y ≡ given (set values (l.var - 1) v) y) same
+            (held-push-same steps step right.free ∙ sym (given-same values l v is-v at.above within))
+        | inr other ↦ held-push-other steps step x other ∙ h.shows x low high ∙ sym (given-other values l v x at.above low other)
       ];
-      room = (let fewer = room-push values l at.above within free in let room = h.room in omega arith);
+      room = (let fewer = room-push values l v is-v at.above within free in let room = h.room in omega arith);
       slots = slots ∙ h.slots;
       placed = λ k d few. elim (cases_lt k (length steps)) [
         | inl before ↦
@@ -88,26 +91,26 @@ steps-push-of clauses n steps values places step at h right =
     take_all' [] = refl
     take_all' (x ∷ xs) = ap (λ (ys : List Step). x ∷ ys) (take_all' xs)
 
-pub steps-push : (clauses : List (List Lit)) (n : ℕ) (steps steps' : List Step) (values values' : Values) (places places' : List ℕ) (step : Step) → IsLitOf n step.lit → steps' ≡ steps ++ step ∷ [] → values' ≡ set values (step.lit.var - 1) (Some step.lit.positive) → places' ≡ set places (step.lit.var - 1) (length steps) → AreSteps clauses n steps values places → IsRightStep clauses steps step → AreSteps clauses n steps' values' places'
-steps-push clauses n steps steps' values values' places places' step at is-steps is-values is-places h right =
+pub steps-push : (clauses : List (List Lit)) (n : ℕ) (steps steps' : List Step) (values values' : Values) (places places' : List ℕ) (step : Step) (v : Value) → value_of v ≡ Some step.lit.positive → IsLitOf n step.lit → steps' ≡ steps ++ step ∷ [] → values' ≡ set values (step.lit.var - 1) v → places' ≡ set places (step.lit.var - 1) (length steps) → AreSteps clauses n steps values places → IsRightStep clauses steps step → AreSteps clauses n steps' values' places'
+steps-push clauses n steps steps' values values' places places' step v is-v at is-steps is-values is-places h right =
     subst (λ (ss : List Step). AreSteps clauses n ss values' places') (sym is-steps)
     (subst (λ (vs : Values). AreSteps clauses n (steps ++ step ∷ []) vs places') (sym is-values)
-    (subst (λ (ps : List ℕ). AreSteps clauses n (steps ++ step ∷ []) (set values (step.lit.var - 1) (Some step.lit.positive)) ps) (sym is-places)
-    (steps-push-of clauses n steps values places step at h right)))
+    (subst (λ (ps : List ℕ). AreSteps clauses n (steps ++ step ∷ []) (set values (step.lit.var - 1) v) ps) (sym is-places)
+    (steps-push-of clauses n steps values places step v is-v at h right)))
 
 -- the last step taken back
-pub steps-pop : (clauses : List (List Lit)) (n : ℕ) (steps : List Step) (step : Step) (values : Values) (places : List ℕ) → AreSteps clauses n (steps ++ step ∷ []) values places → AreSteps clauses n steps (set values (step.lit.var - 1) None) places
+pub steps-pop : (clauses : List (List Lit)) (n : ℕ) (steps : List Step) (step : Step) (values : Values) (places : List ℕ) → AreSteps clauses n (steps ++ step ∷ []) values places → AreSteps clauses n steps (set values (step.lit.var - 1) Unassigned) places
 unfolding given
 steps-pop clauses n steps step values places h =
     let l = step.lit in
-    let size = length-set values (l.var - 1) None in
+    let size = length-set values (l.var - 1) Unassigned in
     let long = length_push steps step in
     let at : IsLitOf n l = subst (λ (s : Step). IsLitOf n s.lit) (get_or_push steps step step (length steps) refl) (h.exist (length steps) step (omega arith)) in
     let right : IsRightStep clauses steps step =
     subst (IsRightStep clauses steps) (get_or_push steps step step (length steps) refl)
     (subst (λ (front : List Step). IsRightStep clauses front (get_or (steps ++ step ∷ []) (length steps) step)) (take_at steps (step ∷ []) (length steps) refl) (h.trail (length steps) step (omega arith))) in
     let within : l.var ≤ length values = (let a = at.within in let b = h.size in omega arith) in
-    let was : get_or values (l.var - 1) None ≡ Some l.positive = sym (h.shows l.var at.above at.within) ∙ held-push-same steps step right.free in
+    let was : value_of (get_or values (l.var - 1) Unassigned) ≡ Some l.positive = sym (h.shows l.var at.above at.within) ∙ held-push-same steps step right.free in
     record {
       trail = λ k d few.
           subst (IsRightStep clauses (take k steps)) (get_or_append_left steps (step ∷ []) d k few)
@@ -115,16 +118,16 @@ steps-pop clauses n steps step values places h =
       exist = λ k d few. subst (λ (s : Step). IsLitOf n s.lit) (get_or_append_left steps (step ∷ []) d k few) (h.exist k d (omega arith));
       size = size ∙ h.size;
       shows = λ x low high. elim (cases_eq l.var x) [
-        | inl same ↦ subst (λ (y : ℕ). held steps y ≡ get_or (set values (l.var - 1) None) (y - 1) None) same
-            (right.free ∙ sym (get_or-set_same values (l.var - 1) None None (omega arith)))
+        | inl same ↦ subst (λ (y : ℕ). held steps y ≡ value_of (get_or (set values (l.var - 1) Unassigned) (y - 1) Unassigned)) same
+            (right.free ∙ sym (ap value_of (get_or-set_same values (l.var - 1) Unassigned Unassigned (omega arith))))
         | inr other ↦
             (let ne : x - 1 ≢ l.var - 1 = (let a = at.above in omega arith) in
-            sym (held-push-other steps step x other) ∙ h.shows x low high ∙ sym (get_or-set_other values (l.var - 1) (x - 1) None None ne))
+            sym (held-push-other steps step x other) ∙ h.shows x low high ∙ sym (ap value_of (get_or-set_other values (l.var - 1) (x - 1) Unassigned Unassigned ne)))
       ];
       room =
-          (let e : count_by is_none (set values (l.var - 1) None) + cond {A = ℕ} (is_none (get_or values (l.var - 1) None)) 1 0 ≡ count_by is_none values + 1 =
-          sum_by-set (λ (o : Option Bool). cond {A = ℕ} (is_none o) 1 0) values (l.var - 1) None None (let a = at.above in omega arith) in
-          let zero' : cond {A = ℕ} (is_none (get_or values (l.var - 1) None)) 1 0 ≡ 0 = ap (λ (o : Option Bool). cond {A = ℕ} (is_none o) 1 0) was in
+          (let e : count_by is_free (set values (l.var - 1) Unassigned) + cond {A = ℕ} (is_free (get_or values (l.var - 1) Unassigned)) 1 0 ≡ count_by is_free values + 1 =
+          sum_by-set (λ (o : Value). cond {A = ℕ} (is_free o) 1 0) values (l.var - 1) Unassigned Unassigned (let a = at.above in omega arith) in
+          let zero' : cond {A = ℕ} (is_free (get_or values (l.var - 1) Unassigned)) 1 0 ≡ 0 = ap (λ (o : Option Bool). cond {A = ℕ} (is_none o) 1 0) was in
           let room = h.room in omega arith);
       slots = h.slots;
       placed = λ k d few. subst (λ (t : Step). get_or places (t.lit.var - 1) 0 ≡ k) (get_or_append_left steps (step ∷ []) d k few) (h.placed k d (omega arith));
@@ -199,7 +202,7 @@ decided-closed clauses old new step closed now is =
     ])
 
 -- no step at all
-pub steps-none : (clauses : List (List Lit)) (n : ℕ) (steps : List Step) (values : Values) (places : List ℕ) → steps ≡ [] → values ≡ replicate n None → places ≡ replicate n 0 → AreSteps clauses n steps values places
+pub steps-none : (clauses : List (List Lit)) (n : ℕ) (steps : List Step) (values : Values) (places : List ℕ) → steps ≡ [] → values ≡ replicate n Unassigned → places ≡ replicate n 0 → AreSteps clauses n steps values places
 unfolding given
 steps-none clauses n steps values places is-steps is-values is-places =
     subst (λ (ss : List Step). AreSteps clauses n ss values places) (sym is-steps)
@@ -207,9 +210,9 @@ steps-none clauses n steps values places is-steps is-values is-places =
     (record {
       trail = λ k d few. absurd (omega (arith, few));
       exist = All-nil (λ (s : Step). IsLitOf n s.lit);
-      size = length-replicate n None;
-      shows = λ x low high. sym (get_or-replicate n (x - 1) None None (omega arith));
-      room = (let all = sum_by-replicate (λ (o : Option Bool). cond {A = ℕ} (is_none o) 1 0) n None in omega arith);
+      size = length-replicate n Unassigned;
+      shows = λ x low high. sym (ap value_of (get_or-replicate n (x - 1) Unassigned Unassigned (omega arith)));
+      room = (let all = sum_by-replicate (λ (o : Value). cond {A = ℕ} (is_free o) 1 0) n Unassigned in omega arith);
       slots = ap length is-places ∙ length-replicate n 0;
       placed = λ k d few. absurd (omega (arith, few));
     }))

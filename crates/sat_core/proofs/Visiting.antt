@@ -1,5 +1,5 @@
 -- A look at the clause of a watcher: which one it is, and what each end of the look leaves.
-use Rattle.std.proofs.Common.{◌≡◌, ◌≢◌, ℕ, ◌+◌, ◌-◌, ◌<◌, Bool, List, [], ◌∷◌, ◌++◌, length, get_or, sym, ap, ◌∙◌, subst, arith, inl, inr, Option, Some, None, append-nil}
+use Rattle.std.proofs.Common.{◌≡◌, ◌≢◌, ℕ, ◌+◌, ◌-◌, ◌<◌, List, [], ◌∷◌, ◌++◌, length, get_or, sym, ap, ◌∙◌, subst, arith, inl, inr, Some, None, append-nil}
 use Rattle.std.specs.Prelude.{◌⊎◌}
 use Rattle.std.specs.List.{All, Contains}
 use Rattle.std.proofs.lemmas.List.{get_or_read}
@@ -12,6 +12,7 @@ use Rattle.sat_core.specs.declared.trail.Step.{Step}
 use Rattle.sat_core.specs.declared.watches.Watcher.{Watcher}
 use Rattle.sat_core.specs.declared.watches.Pair.{Pair}
 use Rattle.sat_core.specs.Looks.{IsFalsified}
+use Rattle.sat_core.specs.declared.trail.Value.{Value}
 use Rattle.sat_core.specs.Steps.{given, held, IsReason, IsRightStep, AreSteps, Propagates, AreClosedBefore}
 use Rattle.sat_core.specs.Watches.{no_pair, no_watcher, list_of, watchers, pair_at, IsTrueClause, with_pair, IsWatcher, AreKept, ArePassedIn, IsFalsifiedAt, IsChosen}
 use Rattle.sat_core.proofs.Holding.{held-push-same}
@@ -57,7 +58,7 @@ visit-other clauses n steps lists pairs head l place w p other h v is-p first =
     record { first = first'; among = among; exist = All-contains (IsLitOf n) (get_or clauses w.clause []) other v.over among }
 
 -- **its clause is true**
-pub visit-true : (clauses : List (List Lit)) (n : ℕ) (steps : List Step) (values : List (Option Bool)) (places : List ℕ) (lists : List (List Watcher)) (pairs : List Pair) (head : ℕ) (l : Lit) (place : ℕ) (w : Watcher) (m : Lit)
+pub visit-true : (clauses : List (List Lit)) (n : ℕ) (steps : List Step) (values : List Value) (places : List ℕ) (lists : List (List Watcher)) (pairs : List Pair) (head : ℕ) (l : Lit) (place : ℕ) (w : Watcher) (m : Lit)
     → AreSteps clauses n steps values places → IsVisit clauses n lists pairs l place w → Contains (get_or clauses w.clause []) m → IsHeld (given values) m
     → ArePassedIn clauses steps lists pairs head (list_of l) place → ArePassedIn clauses steps lists pairs head (list_of l) (place + 1)
 visit-true clauses n steps values places lists pairs head l place w m s v among holds passed =
@@ -113,7 +114,7 @@ visit-step clauses n steps new lists pairs head l place w m id within is v among
     some-id id e = cc
 
 -- **its clause gets another watched literal**
-pub visit-exchange : (clauses : List (List Lit)) (n : ℕ) (steps : List Step) (values : List (Option Bool)) (places : List ℕ) (lists : List (List Watcher)) (pairs : List Pair) (head : ℕ) (l : Lit) (place : ℕ) (w : Watcher) (other found : Lit) (saved : ℕ) (c : List Lit)
+pub visit-exchange : (clauses : List (List Lit)) (n : ℕ) (steps : List Step) (values : List Value) (places : List ℕ) (lists : List (List Watcher)) (pairs : List Pair) (head : ℕ) (l : Lit) (place : ℕ) (w : Watcher) (other found : Lit) (saved : ℕ) (c : List Lit)
     → AreSteps clauses n steps values places → AreKept clauses n steps lists pairs head → IsFalsifiedAt steps head l → IsLitOf n l → IsVisit clauses n lists pairs l place w → IsOther clauses n pairs l w.clause other
     → c ≡ get_or clauses w.clause [] → Contains c found → (found ≢ other) → (IsFalse (given values) found → ⊥)
     → IsExchange clauses steps lists pairs l place w.clause (record { a = other; b = found; saved = saved })
@@ -136,7 +137,7 @@ visit-exchange clauses n steps values places lists pairs head l place w other fo
     }
 
 -- **a new clause is attached**
-pub attached : (clauses : List (List Lit)) (n : ℕ) (steps : List Step) (values : List (Option Bool)) (places : List ℕ) (lists lists' : List (List Watcher)) (pairs pairs' : List Pair) (head head' : ℕ) (c : List Lit) (p : Pair)
+pub attached : (clauses : List (List Lit)) (n : ℕ) (steps : List Step) (values : List Value) (places : List ℕ) (lists lists' : List (List Watcher)) (pairs pairs' : List Pair) (head head' : ℕ) (c : List Lit) (p : Pair)
     → AreSteps clauses n steps values places → AreOver n clauses → AreClosedBefore clauses steps → AreKept clauses n steps lists pairs head
     → length pairs < length clauses → IsOpenClause (given values) (get_or clauses (length pairs) []) → c ≡ get_or clauses (length pairs) [] → IsChosen steps c p
     → (p.a ≡ p.b → lists' ≡ lists) → (p.a ≢ p.b → lists' ≡ with_pair lists (length pairs) p) → pairs' ≡ pairs ++ p ∷ [] → head' ≡ head
@@ -162,7 +163,7 @@ chosen-exist clauses n steps place c p over few is chosen =
     )
 
 -- what is closed by the steps is closed by the values
-pub closed-given : (clauses : List (List Lit)) (n : ℕ) (steps : List Step) (values : List (Option Bool)) (places : List ℕ) → AreSteps clauses n steps values places → AreOver n clauses → IsClosed (held steps) clauses → IsClosed (given values) clauses
+pub closed-given : (clauses : List (List Lit)) (n : ℕ) (steps : List Step) (values : List Value) (places : List ℕ) → AreSteps clauses n steps values places → AreOver n clauses → IsClosed (held steps) clauses → IsClosed (given values) clauses
 closed-given clauses n steps values places s over closed k d few =
     let c = get_or clauses k d in
     open-agrees (held steps) (given values) c (λ m there. sym (agree clauses n steps values places c s (over k d few) m there)) (closed k d few)

@@ -1,5 +1,5 @@
 -- The walk back along the trail: a step that isn't needed, that is kept, that is resolved.
-use Rattle.std.proofs.Common.{◌≡◌, ◌≢◌, ℕ, ◌+◌, ◌-◌, ◌<◌, ◌≤◌, ◌⊎◌, Bool, true, false, not, List, [], ◌∷◌, ◌++◌, length, take, set, get_or, refl, sym, ap, ◌∙◌, subst, arith, inl, inr, Option, Some, None}
+use Rattle.std.proofs.Common.{◌≡◌, ◌≢◌, ℕ, ◌+◌, ◌-◌, ◌<◌, ◌≤◌, ◌⊎◌, Bool, true, false, not, List, [], ◌∷◌, ◌++◌, length, take, set, get_or, refl, sym, ap, ◌∙◌, subst, arith, inl, inr, Some, None}
 use Rattle.std.specs.Prelude.{is_none, nat_le, ◌&&◌}
 use Rattle.std.specs.List.{All}
 use Rattle.std.proofs.lemmas.Bool.{cases_Bool, cases_eq, cases_lt, cond-true, cond-false, false≢true}
@@ -12,6 +12,7 @@ use Rattle.cnf_core.specs.Values.{Partial, IsFalse, IsOpenClause}
 use Rattle.cnf_core.specs.Refutation.{clause_at, AreNames, HaveDifferentVars}
 use Rattle.sat_core.specs.declared.trail.Step.{Step}
 use Rattle.sat_core.specs.declared.conflict.Analysis.{Analysis}
+use Rattle.sat_core.specs.declared.trail.Value.{Value}
 use Rattle.sat_core.specs.Steps.{held, IsReason, AreSteps}
 use Rattle.sat_core.specs.Walks.{step_place, IsStepOf, is_marked, last_level_count, AreUnmarked, AreUnmarkedBelow, IsLastDecision, IsDecisionOrEnd, IsKeptAt, KeepsStep, Resolves, IsAsserting, IsWalked, LeadsToConflict, IsBackjump, backjump_after, backjump_at_end}
 use Rattle.sat_core.proofs.Holding.{held-at, step-of, free-before}
@@ -85,7 +86,7 @@ kept-late clauses n steps i first d a b last few h marked why k =
     ]
 
 -- **a step that is kept**
-pub walked-keep : (clauses : List (List Lit)) (n : ℕ) (steps : List Step) (values : List (Option Bool)) (places : List ℕ) (i first : ℕ) (d : Step) (a b : Analysis)
+pub walked-keep : (clauses : List (List Lit)) (n : ℕ) (steps : List Step) (values : List Value) (places : List ℕ) (i first : ℕ) (d : Step) (a b : Analysis)
     → AreSteps clauses n steps values places → IsDecisionOrEnd steps first → IsLastDecision steps a.last → i < length steps
     → IsWalked clauses n steps (i + 1) a → is_marked a.needed.items i ≡ true → ((get_or steps i d).reason ≡ None) ⊎ IsKeptAt first a.last a.at_last_level i
     → KeepsStep i (get_or steps i d).lit a b → IsWalked clauses n steps i b
@@ -144,7 +145,7 @@ walked-keep clauses n steps values places i first d a b s is-first last few h ma
     }
 
 -- the steps of a reason's literals are before the step or the step itself
-pub reason-steps : (clauses : List (List Lit)) (n : ℕ) (steps : List Step) (values : List (Option Bool)) (places : List ℕ) (i id : ℕ) (d : Step)
+pub reason-steps : (clauses : List (List Lit)) (n : ℕ) (steps : List Step) (values : List Value) (places : List ℕ) (i id : ℕ) (d : Step)
     → AreSteps clauses n steps values places → AreOver n clauses → i < length steps → IsReason (held (take i steps)) clauses id (get_or steps i d).lit
     → All (IsStepOf places (i + 1)) (clause_at clauses id)
 reason-steps clauses n steps values places i id d s over few reason k e few' =
@@ -166,7 +167,7 @@ reason-steps clauses n steps values places i id d s over few reason k e few' =
     record { above = at.above; within = omega arith; before = before }
 
 -- **a step that is resolved**
-pub walked-resolve : (clauses : List (List Lit)) (n : ℕ) (steps : List Step) (values : List (Option Bool)) (places : List ℕ) (i id : ℕ) (d : Step) (a b : Analysis)
+pub walked-resolve : (clauses : List (List Lit)) (n : ℕ) (steps : List Step) (values : List Value) (places : List ℕ) (i id : ℕ) (d : Step) (a b : Analysis)
     → AreSteps clauses n steps values places → AreOver n clauses → i < length steps → IsWalked clauses n steps (i + 1) a → is_marked a.needed.items i ≡ true
     → IsReason (held (take i steps)) clauses id (get_or steps i d).lit → (a.last ≤ i → a.at_last_level ≢ 1) → Resolves clauses places id i a b → IsWalked clauses n steps i b
 walked-resolve clauses n steps values places i id d a b s over few h marked reason more r =

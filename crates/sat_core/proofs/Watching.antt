@@ -274,7 +274,7 @@ kept-next clauses n steps lists pairs head list place within end passed h =
     }
 
 -- the lists with one watcher more: each stays where it was, and the new one stands in its list
-set-at : (lists : List (List Watcher)) (k i : ℕ) (xs : List Watcher) → k < length lists → (watchers (set lists k xs) i ≡ xs) ⊎ ((k ≢ i) × (watchers (set lists k xs) i ≡ watchers lists i))
+pub set-at : (lists : List (List Watcher)) (k i : ℕ) (xs : List Watcher) → k < length lists → (watchers (set lists k xs) i ≡ xs) ⊎ ((k ≢ i) × (watchers (set lists k xs) i ≡ watchers lists i))
 set-at lists k i xs few =
     elim (cases_eq k i) [
       | inl same ↦ inl (subst (λ (j : ℕ). watchers (set lists k xs) j ≡ xs) same (get_or-set_same lists k xs [] few))

@@ -1,15 +1,16 @@
 -- What a decision does: the picker's place in the list of free variables, tried false: this project; no public clause
 -- cites it.
-use Rattle.std.specs.Prelude.{◌≡◌, ℕ, ◌+◌, ◌-◌, ◌<◌, ◌≤◌, ◌==◌, List, [], ◌∷◌, ◌++◌, length, map, filter, Option, Bool, None, false, is_none, slice_index}
+use Rattle.std.specs.Prelude.{◌≡◌, ℕ, ◌+◌, ◌-◌, ◌<◌, ◌≤◌, ◌==◌, List, [], ◌∷◌, ◌++◌, length, map, filter, Bool, None, false, is_none, slice_index}
 use Rattle.std.specs.List.{range_with_len, list_any, count_by}
 use Rattle.cnf_core.specs.declared.literal.Lit.{Lit}
 use Rattle.cnf_core.specs.declared.line.Line.{Line}
 use Rattle.sat_core.specs.declared.trail.Step.{Step}
 use Rattle.sat_core.specs.declared.trail.Trail.{Trail}
+use Rattle.sat_core.specs.declared.trail.Value.{Value}
 use Rattle.sat_core.specs.Steps.{given, var_count, IsTrailState}
 
 -- the variables without a value, rising
-abbrev pub free_list : List (Option Bool) → List ℕ
+abbrev pub free_list : List Value → List ℕ
 free_list values = filter (λ x. is_none (given values x)) (map (λ i. i + 1) (range_with_len 0 (length values)))
 
 -- whether the lemma has the variable
@@ -26,7 +27,7 @@ pub record AreScores (n : ℕ) (lines : List Line) (counts : List ℕ) : Type 0 
   pub each : (x : ℕ) → 1 ≤ x → x ≤ n → slice_index counts (x - 1) ≡ score_of lines x
 
 -- the score of each free variable, rising
-abbrev pub scores_of : List ℕ → List (Option Bool) → List ℕ
+abbrev pub scores_of : List ℕ → List Value → List ℕ
 scores_of counts values = map (λ x. slice_index counts (x - 1)) (free_list values)
 
 -- a step that decides that a variable is false

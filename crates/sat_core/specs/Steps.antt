@@ -1,17 +1,28 @@
 -- The literals that the search made true, in order, each by decision or by a clause that is unit for it: the field's
 -- trail. This project's own form; no public clause cites it.
-use Rattle.std.specs.Prelude.{◌≡◌, ◌≢◌, ℕ, ◌+◌, ◌-◌, ◌<◌, ◌≤◌, List, ◌++◌, map, length, take, Option, Some, None, Bool, is_none, slice_index}
+use Rattle.std.specs.Prelude.{◌≡◌, ◌≢◌, ℕ, ◌+◌, ◌-◌, ◌<◌, ◌≤◌, List, ◌++◌, map, length, take, Option, Some, None, Bool, true, false, is_none, slice_index}
 use Rattle.std.specs.List.{slice_index_or, All, count_by}
 use Rattle.cnf_core.specs.declared.literal.Lit.{Lit}
 use Rattle.cnf_core.specs.Formula.{IsLitOf}
 use Rattle.cnf_core.specs.Values.{Partial, partial_of, IsUnassigned, IsUnit, IsClosed}
 use Rattle.cnf_core.specs.Refutation.{clause_at}
 use Rattle.sat_core.specs.declared.trail.Step.{Step}
+use Rattle.sat_core.specs.declared.trail.Value.{Value}
+use Rattle.sat_core.specs.declared.trail.Value.TheVariants.{Unassigned, False, True}
 use Rattle.sat_core.specs.declared.trail.Trail.{Trail}
 
+-- what a stored value says
+abbrev pub value_of : Value → Option Bool
+value_of Unassigned = None
+value_of False = Some false
+value_of True = Some true
+
+abbrev pub is_free : Value → Bool
+is_free v = is_none (value_of v)
+
 -- the value of each variable, that of x at the place x - 1
-unfoldable pub given : List (Option Bool) → Partial
-given values x = slice_index_or values (x - 1) None
+unfoldable pub given : List Value → Partial
+given values x = value_of (slice_index_or values (x - 1) Unassigned)
 
 -- the literals that the steps made true
 abbrev pub lits_of : List Step → List Lit
@@ -38,13 +49,13 @@ IsTrail clauses steps =
     (k : ℕ) (d : Step) → k < length steps → IsRightStep clauses (take k steps) (slice_index_or steps k d)
 
 -- steps over n variables, the values that they gave, and the place of each step by its variable
-pub record AreSteps (clauses : List (List Lit)) (n : ℕ) (steps : List Step) (values : List (Option Bool))
+pub record AreSteps (clauses : List (List Lit)) (n : ℕ) (steps : List Step) (values : List Value)
     (places : List ℕ) : Type 0 where
   pub trail : IsTrail clauses steps
   pub exist : All (λ (s : Step). IsLitOf n s.lit) steps
   pub size : length values ≡ n
   pub shows : (x : ℕ) → 1 ≤ x → x ≤ n → held steps x ≡ given values x
-  pub room : length steps + count_by is_none values ≡ n
+  pub room : length steps + count_by is_free values ≡ n
   pub slots : length places ≡ n
   pub placed : (k : ℕ) (d : Step) → k < length steps → slice_index places ((slice_index_or steps k d).lit.var - 1) ≡ k
 

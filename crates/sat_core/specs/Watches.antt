@@ -52,6 +52,14 @@ pub record IsRemoved (old : List Watcher) (place : ℕ) (new : List Watcher) : T
 abbrev pub with_watcher : List (List Watcher) → ℕ → Watcher → List (List Watcher)
 with_watcher lists k w = slice_set lists k (watchers lists k ++ w ∷ [])
 
+-- the watcher at a place with another blocker
+abbrev pub renewed : List Watcher → ℕ → Lit → Watcher
+renewed list place blocker = record { clause = (slice_index_or list place no_watcher).clause; blocker = blocker }
+
+-- the lists with it
+abbrev pub with_blocker : List (List Watcher) → ℕ → ℕ → Lit → List (List Watcher)
+with_blocker lists k place blocker = slice_set lists k (slice_set (watchers lists k) place (renewed (watchers lists k) place blocker))
+
 -- a clause watches other literals: it left a list, and stands in that of the second one, where the first one blocks it
 pub record IsMoved (list place clause : ℕ) (pair : Pair) (old new : Watches) : Type 0 where
   pub rest : List Watcher

@@ -6,7 +6,7 @@ ghost use Rattle.cnf_core.specs.Refutation.{HaveDifferentVars};
 ghost use Rattle.sat_core.specs.Steps.{given, var_count, IsTrailState};
 ghost use Rattle.sat_core.specs.Picks.{free_list, scores_of, has_var, IsDecidedBy};
 
-use crate::trail::{Step, Trail};
+use crate::trail::{Step, Trail, Value};
 use cnf_core::Lit;
 use items::NoMemory;
 use pick_rule::{Picker, Rule};
@@ -52,13 +52,13 @@ impl Scores {
 
 /// The variables without a value, rising.
 #[tactic(auto, unfolding(crate::specs::Steps::given))]
-fn list_free(free: &mut Vec<u32>, values: &[Option<bool>]) -> Result<(), NoMemory>
+fn list_free(free: &mut Vec<u32>, values: &[Value]) -> Result<(), NoMemory>
     requires { length values.now < 2 ^ 29 }
     ensures { OnOk result (free.new.items ≡ free_list values.now) }
 {
     free.clear();
     for index in 0..values.len() {
-        if values[index].is_none() {
+        if values[index].is_unassigned() {
             free.push(index as u32 + 1)?;
         }
     }

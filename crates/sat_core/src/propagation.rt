@@ -182,6 +182,7 @@ fn visit_watcher(
     let old = watches.pairs[watcher.clause as usize];
     let other = other_than(old, lit);
     if trail.is_true(other) {
+        watches.renew(list, place, other);
         return Ok(Visit::Stays);
     }
     let clause = clauses.get(watcher.clause as usize);

@@ -3,7 +3,7 @@ ghost use Rattle.std.specs.Prelude.{◌≡◌, ◌+◌, ◌^◌, ◌<◌, ◌≤
 ghost use Rattle.cnf_core.specs.Formula.{AreOver};
 ghost use Rattle.cnf_core.specs.Values.{IsClosed};
 ghost use Rattle.cnf_core.specs.Outcome.{IsSolved, IsRefuted, IsSpent};
-ghost use Rattle.sat_core.specs.Steps.{given, var_count, IsTrailState, AreClosedBefore};
+ghost use Rattle.sat_core.specs.Steps.{value_of, given, var_count, IsTrailState, AreClosedBefore};
 ghost use Rattle.sat_core.specs.Looks.{IsFalsified};
 ghost use Rattle.sat_core.specs.Picks.{free_list};
 ghost use Rattle.sat_core.specs.Watches.{AreWatched};
@@ -12,7 +12,7 @@ ghost use Rattle.sat_core.specs.Verdicts.{IfSat, IfRefuted, IfSpent};
 use crate::conflict::learn;
 use crate::decision::{Scores, decide};
 use crate::propagation::propagate;
-use crate::trail::Trail;
+use crate::trail::{Trail, Value};
 use crate::watches::Watches;
 use cnf_core::{Clauses, Cnf, Lines, refutations_leave_no_solution};
 use items::{Items, NoMemory};
@@ -114,12 +114,12 @@ fn advance<F: Rule>(
 }
 
 /// The values, where all are there.
-fn all_values(alloc: Global, values: &[Option<bool>]) -> Result<Items<bool>, NoMemory>
-    ensures { IfOk result (λ all. all ≡ map (λ o. unwrap_or o false) values.now) }
+fn all_values(alloc: Global, values: &[Value]) -> Result<Items<bool>, NoMemory>
+    ensures { IfOk result (λ all. all ≡ map (λ v. unwrap_or (value_of v) false) values.now) }
 {
     let mut all = Items::new(alloc);
     for value in values {
-        all.push(value.unwrap_or(false))?;
+        all.push(value.as_option().unwrap_or(false))?;
     }
     Ok(all)
 }

@@ -4,12 +4,59 @@ ghost use Rattle.std.specs.List.{All};
 ghost use Rattle.cnf_core.specs.declared.literal.Lit.{Lit as Literal};
 ghost use Rattle.cnf_core.specs.Formula.{IsLitOf};
 ghost use Rattle.cnf_core.specs.Values.{IsHeld, IsFalse};
-ghost use Rattle.sat_core.specs.Steps.{given, IsTrailState, IsRightStep, var_count};
+ghost use Rattle.sat_core.specs.Steps.{value_of, is_free, given, IsTrailState, IsRightStep, var_count};
 ghost use Rattle.sat_core.specs.Watches.{FallsAt};
 
 use cnf_core::{Lit, Values};
 use items::NoMemory;
 use std::alloc::Global;
+
+/// The value of a variable, in one byte.
+#[derive(Clone, Copy)]
+pub(crate) enum Value {
+    Unassigned,
+    False,
+    True,
+}
+
+impl Value {
+    /// The value of a variable under which a literal of this sign is true.
+    pub(crate) fn of(positive: bool) -> Value
+        ensures { value_of result ≡ Some positive }
+    {
+        if positive { Value::True } else { Value::False }
+    }
+
+    /// Whether a literal of this sign is true.
+    pub(crate) fn makes_true(self, positive: bool) -> bool
+        ensures { IsTrue result ↔ (value_of self ≡ Some positive) }
+    {
+        match self {
+            Value::Unassigned => false,
+            Value::False => !positive,
+            Value::True => positive,
+        }
+    }
+
+    pub(crate) fn is_unassigned(self) -> bool
+        ensures { result ≡ is_free self }
+    {
+        match self {
+            Value::Unassigned => true,
+            _ => false,
+        }
+    }
+
+    pub(crate) fn as_option(self) -> Option<bool>
+        ensures { result ≡ value_of self }
+    {
+        match self {
+            Value::Unassigned => None,
+            Value::False => Some(false),
+            Value::True => Some(true),
+        }
+    }
+}
 
 /// A literal that was made true by the clause or lemma with this id, or by decision where there is none.
 #[derive(Clone, Copy)]
@@ -22,7 +69,7 @@ pub(crate) struct Step {
 #[derive(Drop)]
 pub(crate) struct Trail {
     pub(crate) steps: Vec<Step>,
-    pub(crate) values: Vec<Option<bool>>,
+    pub(crate) values: Vec<Value>,
     pub(crate) places: Vec<usize>,
 }
 
@@ -33,7 +80,7 @@ impl Values for Trail {
 
     #[tactic(auto, unfolding(crate::specs::Steps::given))]
     fn value(&self, var: u32) -> Option<bool> {
-        self.values[(var - 1) as usize]
+        self.values[(var - 1) as usize].as_option()
     }
 }
 
@@ -43,8 +90,7 @@ impl Trail {
         ensures state { IfOk result (λ trail. (clauses : List (List Literal)) → IsTrailState clauses vars trail) }
         ensures none { IfOk result (λ trail. trail.steps.items ≡ []) }
     {
-        let none: Option<bool> = None;
-        let values = vec![in alloc; none; vars as usize]?;
+        let values = vec![in alloc; Value::Unassigned; vars as usize]?;
         let places = vec![in alloc; 0usize; vars as usize]?;
         Ok(Trail {
             steps: Vec::new(alloc),
@@ -59,7 +105,7 @@ impl Trail {
         requires exist { IsLitOf (var_count self.now) lit }
         ensures { IsTrue result ↔ IsHeld (given self.now.values.items) lit }
     {
-        self.values[(lit.var - 1) as usize] == Some(lit.positive)
+        self.values[(lit.var - 1) as usize].makes_true(lit.positive)
     }
 
     /// Whether a literal is false.
@@ -68,7 +114,7 @@ impl Trail {
         requires exist { IsLitOf (var_count self.now) lit }
         ensures { IsTrue result ↔ IsFalse (given self.now.values.items) lit }
     {
-        self.values[(lit.var - 1) as usize] == Some(!lit.positive)
+        self.values[(lit.var - 1) as usize].makes_true(!lit.positive)
     }
 
     /// How many steps there are before the one that made a literal false, or all of them where it isn't false.
@@ -94,7 +140,7 @@ impl Trail {
         let place = self.steps.len();
         self.steps.push(step)?;
         let index = (step.lit.var - 1) as usize;
-        self.values[index] = Some(step.lit.positive);
+        self.values[index] = Value::of(step.lit.positive);
         self.places[index] = place;
         Ok(())
     }
@@ -107,7 +153,7 @@ impl Trail {
     {
         while self.steps.len() > count {
             if let Some(step) = self.steps.pop() {
-                self.values[(step.lit.var - 1) as usize] = None;
+                self.values[(step.lit.var - 1) as usize] = Value::Unassigned;
             }
         }
     }

@@ -1,7 +1,7 @@
 // The watched literals: two of each clause, and the clauses that watch a literal.
-ghost use Rattle.std.specs.Prelude.{◌≡◌, ◌^◌, ◌<◌, ◌≤◌, [], ◌∷◌, ◌++◌, List, length, min, OnOk, IfOk, slice_index_or};
+ghost use Rattle.std.specs.Prelude.{◌≡◌, ◌^◌, ◌<◌, ◌≤◌, [], ◌∷◌, ◌++◌, List, length, min, OnOk, IfOk, slice_index_or, slice_set};
 ghost use Rattle.cnf_core.specs.declared.literal.Lit.{Lit as Literal};
-ghost use Rattle.sat_core.specs.Watches.{no_watcher, list_of, watchers, with_watcher, IsRemoved, IsMoved, IsAdded, AreWatched};
+ghost use Rattle.sat_core.specs.Watches.{no_watcher, list_of, watchers, renewed, with_blocker, with_watcher, IsRemoved, IsMoved, IsAdded, AreWatched};
 
 use cnf_core::Lit;
 use items::NoMemory;
@@ -68,6 +68,14 @@ impl WatchList {
         Ok(())
     }
 
+    /// Gives the watcher at a place another blocker.
+    pub(crate) fn renew(&mut self, place: usize, blocker: Lit)
+        requires { place < length self.old }
+        ensures { self.new ≡ slice_set self.old place (renewed self.old place blocker) }
+    {
+        self.watchers[place].blocker = blocker;
+    }
+
     /// Takes the watcher at a place out; the last one goes there.
     pub(crate) fn remove(&mut self, place: usize)
         requires { place < length self.old }
@@ -125,6 +133,17 @@ impl Watches {
         ensures head { OnOk result (self.new.head ≡ self.old.head) }
     {
         self.lists[list].push(watcher)
+    }
+
+    /// Gives the watcher at a place of a list another blocker.
+    pub(crate) fn renew(&mut self, list: usize, place: usize, blocker: Lit)
+        requires list { list < length self.old.lists.items }
+        requires place { place < length (watchers self.old.lists.items list) }
+        ensures lists { self.new.lists.items ≡ with_blocker self.old.lists.items list place blocker }
+        ensures pairs { self.new.pairs ≡ self.old.pairs }
+        ensures head { self.new.head ≡ self.old.head }
+    {
+        self.lists[list].renew(place, blocker);
     }
 
     /// Adds a clause, the next one, with its watched literals.

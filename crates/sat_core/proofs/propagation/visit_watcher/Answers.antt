@@ -1,5 +1,5 @@
-use Rattle.std.proofs.Common.{◌≡◌, ℕ, ◌+◌, [], List, length, set, get_or, refl, ap, sym, ◌∙◌, subst}
-use Rattle.std.specs.List.{All}
+use Rattle.std.proofs.Common.{◌≡◌, ℕ, ◌+◌, [], List, Vec, Global, length, set, get_or, refl, ap, sym, ◌∙◌, subst}
+use Rattle.std.specs.List.{All, Contains}
 use Rattle.std.proofs.lemmas.Bool.{iff_false}
 use Rattle.std.proofs.lemmas.Option.{get_or_from_slice_get}
 use Rattle.std.proofs.lemmas.List.Elements.{All-contains, Contains-get_or}
@@ -7,9 +7,10 @@ use Rattle.cnf_core.specs.Formula.{IsLitOf}
 use Rattle.sat_core.specs.declared.watches.Pair.{Pair}
 use Rattle.sat_core.specs.Steps.{given, var_count}
 use Rattle.sat_core.specs.declared.watches.Watcher.{Watcher}
-use Rattle.sat_core.specs.Watches.{no_literal, list_of, watchers, with_watcher, IsRemoved, AreKept, ArePassedIn}
+use Rattle.sat_core.specs.Watches.{no_literal, list_of, watchers, with_watcher, with_blocker, IsRemoved, AreKept, ArePassedIn}
 use Rattle.sat_core.proofs.States.{reason-right}
 use Rattle.sat_core.proofs.Watching.{list-within, exchanged-lists, kept-moved, passed-moved, fewer-moved}
+use Rattle.sat_core.proofs.Renewing.{kept-renewed, passed-renewed, length-renewed}
 use Rattle.sat_core.proofs.Visiting.{visit-start, visit-other, visit-true, visit-falsified, visit-unit, visit-step, visit-exchange}
 use Rattle.sat_core.proofs.propagation.visit_watcher.Goals as goal
 
@@ -39,7 +40,37 @@ returns-then-is_true-2-clause-says c =
     let v = visit-start clauses n steps w.lists.items w.pairs.items w.head l place c.list_place-list.result c.index.result.now watcher c.requires.watched c.requires.exist c.requires.lit c.requires.place c.list_place-list.ensures c.index.ensures c.get-watcher.ensures in
     let other = c.other_than-other.result in
     let o = visit-other clauses n steps w.lists.items w.pairs.items w.head l place watcher c.index-old.result.now other c.requires.watched v c.index-old.ensures c.other_than-other.ensures in
-    (visit-true clauses n steps t.values.items t.places.items w.lists.items w.pairs.items w.head l place watcher other c.requires.state v o.among (c.is_true-2.ensures.0 c.if-is_true-2.true) c.requires.passed, refl)
+    let w' = c.renew.new.self in
+    let list = c.list_place-list.ensures in
+    let lists : w'.lists.items ≡ with_blocker w.lists.items (list_of l) place other = c.renew.ensures.lists ∙ ap (λ (k : ℕ). with_blocker w.lists.items k place other) list in
+    let passed = visit-true clauses n steps t.values.items t.places.items w.lists.items w.pairs.items w.head l place watcher other c.requires.state v o.among (c.is_true-2.ensures.0 c.if-is_true-2.true) c.requires.passed in (
+      subst (λ (k : ℕ). ArePassedIn clauses steps w'.lists.items w'.pairs.items k (list_of l) (place + 1)) (sym c.renew.ensures.head)
+          (subst (λ (ls : List (List Watcher)). ArePassedIn clauses steps ls w'.pairs.items w.head (list_of l) (place + 1)) (sym lists)
+          (subst (λ (ps : Vec Pair Global). ArePassedIn clauses steps (with_blocker w.lists.items (list_of l) place other) ps.items w.head (list_of l) (place + 1)) (sym c.renew.ensures.pairs)
+          (passed-renewed clauses steps w.lists.items w.pairs.items w.head (list_of l) place (place + 1) other v.list v.within passed))),
+      ap (λ (ls : List (List Watcher)). length (watchers ls (list_of l))) lists ∙ length-renewed w.lists.items (list_of l) place other v.list,
+    )
+
+pub returns-then-is_true-2-clause-watched : goal.returns-then-is_true-2-clause-watched
+returns-then-is_true-2-clause-watched c =
+    let clauses = c.args.clauses.now in
+    let t = c.args.trail.now in
+    let n = var_count t in
+    let w = c.args.watches.now in
+    let l = c.args.lit in
+    let place = c.args.place in
+    let watcher = c.get-watcher.result in
+    let steps = t.steps.items in
+    let v = visit-start clauses n steps w.lists.items w.pairs.items w.head l place c.list_place-list.result c.index.result.now watcher c.requires.watched c.requires.exist c.requires.lit c.requires.place c.list_place-list.ensures c.index.ensures c.get-watcher.ensures in
+    let other = c.other_than-other.result in
+    let o = visit-other clauses n steps w.lists.items w.pairs.items w.head l place watcher c.index-old.result.now other c.requires.watched v c.index-old.ensures c.other_than-other.ensures in
+    let w' = c.renew.new.self in
+    let lists : w'.lists.items ≡ with_blocker w.lists.items (list_of l) place other = c.renew.ensures.lists ∙ ap (λ (k : ℕ). with_blocker w.lists.items k place other) c.list_place-list.ensures in
+    let among = subst (λ (x : Watcher). Contains (get_or clauses x.clause []) other) v.is o.among in
+    subst (λ (k : ℕ). AreKept clauses n steps w'.lists.items w'.pairs.items k) (sym c.renew.ensures.head)
+    (subst (λ (ls : List (List Watcher)). AreKept clauses n steps ls w'.pairs.items w.head) (sym lists)
+    (subst (λ (ps : Vec Pair Global). AreKept clauses n steps (with_blocker w.lists.items (list_of l) place other) ps.items w.head) (sym c.renew.ensures.pairs)
+    (kept-renewed clauses n steps w.lists.items w.pairs.items w.head (list_of l) place other v.list v.within among c.requires.watched)))
 
 pub replacement-requires : goal.replacement-requires
 replacement-requires c =
