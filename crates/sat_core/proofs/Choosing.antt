@@ -10,39 +10,39 @@ use Rattle.cnf_core.specs.Formula.{IsLitOf}
 use Rattle.cnf_core.specs.Values.{IsFalse}
 use Rattle.sat_core.specs.declared.trail.Step.{Step}
 use Rattle.sat_core.specs.declared.trail.Value.{Value}
-use Rattle.sat_core.specs.Steps.{given, held, AreSteps}
-use Rattle.sat_core.specs.Watches.{FallsAt, IsNoLater, IsLatest, IsLaterOf, IsChosen}
+use Rattle.sat_core.specs.Steps.{given, trail_values, AreSteps}
+use Rattle.sat_core.specs.Watches.{IsFalseFrom, IsNoLater, IsLatest, IsLaterOf, IsChosen}
 use Rattle.sat_core.proofs.Holding.{none≢some, held-at, held-whole, free-before, step-of}
 
 -- a false literal becomes false at the place of its variable's step
-pub falls-false : (clauses : List (List Lit)) (n : ℕ) (steps : List Step) (values : List Value) (places : List ℕ) (l : Lit) → IsLitOf n l → AreSteps clauses n steps values places
-    → IsFalse (given values) l → FallsAt steps l (get_or places (l.var - 1) 0)
-falls-false clauses n steps values places l at s f k le =
+pub falls-false : (clauses : List (List Lit)) (n : ℕ) (steps : List Step) (values : List Value) (indices : List ℕ) (l : Lit) → IsLitOf n l → AreSteps clauses n steps values indices
+    → IsFalse (given values) l → IsFalseFrom steps l (get_or indices (l.var - 1) 0)
+falls-false clauses n steps values indices l at s f k le =
     let e : Step = record { lit = l; reason = None } in
     let (j, few, is) = step-of steps l.var (not l.positive) (s.shows l.var at.above at.within ∙ f) in
     let step = get_or steps j e in
-    let p : get_or places (l.var - 1) 0 ≡ j = ap (λ (x : ℕ). get_or places (x - 1) 0) (sym (is e).0) ∙ s.placed j e few in (
+    let p : get_or indices (l.var - 1) 0 ≡ j = ap (λ (x : ℕ). get_or indices (x - 1) 0) (sym (is e).0) ∙ s.placed j e few in (
       (λ f'. elim (cases_lt j k) [
         | inl before ↦ omega arith
         | inr after ↦
             (let free = free-before steps k j step.lit.var after (s.trail j e few).free in
-            absurd (none≢some (sym free ∙ ap (held (take k steps)) (is e).0 ∙ f')))
+            absurd (none≢some (sym free ∙ ap (trail_values (take k steps)) (is e).0 ∙ f')))
       ]),
       (λ before.
           (let before' : j < k = omega arith in
-          ap (held (take k steps)) (sym (is e).0) ∙ held-at clauses steps k j e s.trail before' few ∙ ap (λ (b : Bool). Some b) (is e).1)),
+          ap (trail_values (take k steps)) (sym (is e).0) ∙ held-at clauses steps k j e s.trail before' few ∙ ap (λ (b : Bool). Some b) (is e).1)),
     )
 
 -- a literal that isn't false becomes false nowhere
-pub falls-not : (clauses : List (List Lit)) (n : ℕ) (steps : List Step) (values : List Value) (places : List ℕ) (l : Lit) → IsLitOf n l → AreSteps clauses n steps values places
-    → (IsFalse (given values) l → ⊥) → FallsAt steps l (length steps)
-falls-not clauses n steps values places l at s not' k le = (
+pub falls-not : (clauses : List (List Lit)) (n : ℕ) (steps : List Step) (values : List Value) (indices : List ℕ) (l : Lit) → IsLitOf n l → AreSteps clauses n steps values indices
+    → (IsFalse (given values) l → ⊥) → IsFalseFrom steps l (length steps)
+falls-not clauses n steps values indices l at s not' k le = (
   (λ f. absurd (not' (sym (s.shows l.var at.above at.within) ∙ held-whole steps k l.var (not l.positive) f))),
   (λ past. absurd (omega arith)),
 )
 
 -- the later of two
-pub no-later : (steps : List Step) (l m : Lit) (p q : ℕ) → FallsAt steps l p → FallsAt steps m q → p ≤ q → IsNoLater steps l m
+pub no-later : (steps : List Step) (l m : Lit) (p q : ℕ) → IsFalseFrom steps l p → IsFalseFrom steps m q → p ≤ q → IsNoLater steps l m
 no-later steps l m p q at-l at-m le k few f = (at-l k few).1 (let below = (at-m k few).0 f in omega arith)
 
 pub later-self : (steps : List Step) (l : Lit) → IsNoLater steps l l

@@ -1,4 +1,4 @@
--- When a clause is quiet: more values, another pair, one step looked at more.
+-- When a clause is quiet: more values, another pair, one step visited more.
 use Rattle.std.proofs.Common.{◌≡◌, ℕ, ◌+◌, ◌≤◌, Bool, true, false, not, List, [], ◌∷◌, ◌++◌, take, get_or, refl, sym, ap, ◌∙◌, subst, inl, inr, Option, Some, None}
 use Rattle.std.specs.Prelude.{◌⊎◌}
 use Rattle.std.specs.List.{Contains}
@@ -9,29 +9,29 @@ use Rattle.cnf_core.specs.Formula.{negated}
 use Rattle.cnf_core.specs.Values.{Partial, IsUnassigned, IsHeld, IsFalse, IsOpenClause}
 use Rattle.sat_core.specs.declared.trail.Step.{Step}
 use Rattle.sat_core.specs.declared.watches.Pair.{Pair}
-use Rattle.sat_core.specs.Steps.{held, IsTrail}
-use Rattle.sat_core.specs.Watches.{IsQuiet, IsFalsifiedAt}
+use Rattle.sat_core.specs.Steps.{trail_values, IsTrail}
+use Rattle.sat_core.specs.Watches.{NeedsNoVisit, IsFalsifiedAt}
 use Rattle.sat_core.proofs.Holding.{none≢some, held-push-other, held-step, held-whole, held-later, held-append}
 
 -- each value stays
 abbrev pub Grows : Partial → Partial → Type 0
 Grows s t = (x : ℕ) (b : Bool) → s x ≡ Some b → t x ≡ Some b
 
-pub grows-whole : (steps : List Step) (k : ℕ) → Grows (held (take k steps)) (held steps)
+pub grows-whole : (steps : List Step) (k : ℕ) → Grows (trail_values (take k steps)) (trail_values steps)
 grows-whole steps k x b e = held-whole steps k x b e
 
-pub grows-front : (steps : List Step) (j k : ℕ) → j ≤ k → Grows (held (take j steps)) (held (take k steps))
+pub grows-front : (steps : List Step) (j k : ℕ) → j ≤ k → Grows (trail_values (take j steps)) (trail_values (take k steps))
 grows-front steps j k le x b e = held-later steps j k x b le e
 
-pub grows-push : (steps : List Step) (step : Step) → Grows (held steps) (held (steps ++ step ∷ []))
+pub grows-push : (steps : List Step) (step : Step) → Grows (trail_values steps) (trail_values (steps ++ step ∷ []))
 grows-push steps step x b e = held-append steps (step ∷ []) x b e
 
 opposite : (b : Bool) → Some b ≡ Some (not b) → ⊥
 opposite true e = cc
 opposite false e = cc
 
-pub held≢false : (s : Partial) (l : Lit) → IsHeld s l → IsFalse s l → ⊥
-held≢false s l h f = opposite l.positive (sym h ∙ f)
+pub trail_values≢false : (s : Partial) (l : Lit) → IsHeld s l → IsFalse s l → ⊥
+trail_values≢false s l h f = opposite l.positive (sym h ∙ f)
 
 pub lit-cases : (s : Partial) (l : Lit) → IsUnassigned s l ⊎ (IsHeld s l ⊎ IsFalse s l)
 lit-cases s l = cases (s l.var) l.positive
@@ -47,7 +47,7 @@ pub false-cases : (s : Partial) (l : Lit) → IsFalse s l ⊎ (IsFalse s l → �
 false-cases s l =
     elim (lit-cases s l) [
       | inl free ↦ inr (λ f. none≢some (sym free ∙ f))
-      | inr value ↦ elim value [ inl h ↦ inr (λ f. held≢false s l h f) | inr f ↦ inl f ]
+      | inr value ↦ elim value [ inl h ↦ inr (λ f. trail_values≢false s l h f) | inr f ↦ inl f ]
     ]
 
 pub lit-same : (l m : Lit) → l.var ≡ m.var → l.positive ≡ m.positive → l ≡ m
@@ -70,7 +70,7 @@ lit-eq-cases l m =
       ]
     ]
 
-pub quiet-weaker : (s s' t t' : Partial) (c : List Lit) (p : Pair) → Grows s' s → Grows t t' → IsQuiet s t c p → IsQuiet s' t' c p
+pub quiet-weaker : (s s' t t' : Partial) (c : List Lit) (p : Pair) → Grows s' s → Grows t t' → NeedsNoVisit s t c p → NeedsNoVisit s' t' c p
 quiet-weaker s s' t t' c p earlier later q =
     elim q [
       | inl one ↦ (let (l, there, h) = one in inl (l, there, later l.var l.positive h))
@@ -80,7 +80,7 @@ quiet-weaker s s' t t' c p earlier later q =
     ]
 
 -- **a quiet clause is open**
-pub quiet-open : (s : Partial) (c : List Lit) (p : Pair) → Contains c p.a → Contains c p.b → IsQuiet s s c p → IsOpenClause s c
+pub quiet-open : (s : Partial) (c : List Lit) (p : Pair) → Contains c p.a → Contains c p.b → NeedsNoVisit s s c p → IsOpenClause s c
 quiet-open s c p has_a has_b q =
     elim q [
       | inl one ↦ inl one
@@ -103,27 +103,27 @@ negated-value false false e = cc
 
 -- a literal that the step at the head makes false is the opposite of that step's
 pub false-next : (clauses : List (List Lit)) (steps : List Step) (head : ℕ) (l m : Lit) → IsTrail clauses steps → IsFalsifiedAt steps head m
-    → (IsFalse (held (take head steps)) l → ⊥) → IsFalse (held (take (head + 1) steps)) l → l ≡ m
+    → (IsFalse (trail_values (take head steps)) l → ⊥) → IsFalse (trail_values (take (head + 1) steps)) l → l ≡ m
 false-next clauses steps head l m trail h before now =
     let d : Step = record { lit = m; reason = None } in
     let step = get_or steps head d in
     elim (cases_eq step.lit.var l.var) [
       | inr other ↦
-          (let e = ap (λ (xs : List Step). held xs l.var) (take_more steps head d h.within) ∙ held-push-other (take head steps) step l.var other in
+          (let e = ap (λ (xs : List Step). trail_values xs l.var) (take_more steps head d h.within) ∙ held-push-other (take head steps) step l.var other in
           absurd (before (sym e ∙ now)))
       | inl same ↦
           (let value = held-step clauses steps head d trail h.within in
-          let e : Some step.lit.positive ≡ Some (not l.positive) = sym value ∙ ap (held (take (head + 1) steps)) same ∙ now in
+          let e : Some step.lit.positive ≡ Some (not l.positive) = sym value ∙ ap (trail_values (take (head + 1) steps)) same ∙ now in
           lit-same l (negated step.lit) (sym same) (negated-value step.lit.positive l.positive e) ∙ h.is d)
     ]
 
 -- and it is false from then on
-pub false-at : (clauses : List (List Lit)) (steps : List Step) (head : ℕ) (m : Lit) → IsTrail clauses steps → IsFalsifiedAt steps head m → IsFalse (held steps) m
+pub false-at : (clauses : List (List Lit)) (steps : List Step) (head : ℕ) (m : Lit) → IsTrail clauses steps → IsFalsifiedAt steps head m → IsFalse (trail_values steps) m
 false-at clauses steps head m trail h =
     let d : Step = record { lit = m; reason = None } in
     let step = get_or steps head d in
     let value = held-whole steps (head + 1) step.lit.var step.lit.positive (held-step clauses steps head d trail h.within) in
-    subst (IsFalse (held steps)) (h.is d) (value ∙ ap (λ (b : Bool). Some b) (twice step.lit.positive))
+    subst (IsFalse (trail_values steps)) (h.is d) (value ∙ ap (λ (b : Bool). Some b) (twice step.lit.positive))
   where
     twice : (b : Bool) → b ≡ not (not b)
     twice true = refl

@@ -8,12 +8,12 @@ use Rattle.cnf_core.specs.declared.literal.Lit.{Lit}
 use Rattle.sat_core.specs.declared.trail.Step.{Step}
 use Rattle.sat_core.specs.declared.watches.Watcher.{Watcher}
 use Rattle.sat_core.specs.declared.watches.Pair.{Pair}
-use Rattle.sat_core.specs.Watches.{no_watcher, list_of, watchers, with_blocker, renewed, pair_at, StandsFrom, IsWatcher, AreKept, ArePassedIn}
+use Rattle.sat_core.specs.Watches.{no_watcher, list_of, watchers, with_blocker, watcher_with, pair_at, StandsFrom, IsWatcher, KeepWatches, ArePassedIn}
 use Rattle.sat_core.proofs.Watching.{set-at}
 
-renewed-at : (xs : List Watcher) (place j : ℕ) (blocker : Lit) → place < length xs → (get_or (set xs place (renewed xs place blocker)) j no_watcher).clause ≡ (get_or xs j no_watcher).clause
+renewed-at : (xs : List Watcher) (place j : ℕ) (blocker : Lit) → place < length xs → (get_or (set xs place (watcher_with xs place blocker)) j no_watcher).clause ≡ (get_or xs j no_watcher).clause
 renewed-at xs place j blocker few =
-    let w = renewed xs place blocker in
+    let w = watcher_with xs place blocker in
     elim (cases_eq j place) [
       | inl is ↦
           ap (λ (i : ℕ). (get_or (set xs place w) i no_watcher).clause) is ∙ ap (λ (v : Watcher). v.clause) (get_or-set_same xs place w no_watcher few)
@@ -25,7 +25,7 @@ stands-renewed : (lists : List (List Watcher)) (list place i from id : ℕ) (blo
     → StandsFrom from (watchers lists i) id → StandsFrom from (watchers (with_blocker lists list place blocker) i) id
 stands-renewed lists list place i from id blocker few within (j, low, within', is) =
     let xs = watchers lists list in
-    let w = renewed xs place blocker in
+    let w = watcher_with xs place blocker in
     elim (cases_eq list i) [
       | inr other ↦ subst (λ (ys : List Watcher). StandsFrom from ys id) (sym (get_or-set_other lists list i (set xs place w) [] (λ e. other (sym e)))) (j, low, within', is)
       | inl at ↦
@@ -39,10 +39,10 @@ stands-renewed lists list place i from id blocker few within (j, low, within', i
 
 pub kept-renewed : (clauses : List (List Lit)) (n : ℕ) (steps : List Step) (lists : List (List Watcher)) (pairs : List Pair) (head list place : ℕ) (blocker : Lit)
     → list < length lists → place < length (watchers lists list) → Contains (get_or clauses (get_or (watchers lists list) place no_watcher).clause []) blocker
-    → AreKept clauses n steps lists pairs head → AreKept clauses n steps (with_blocker lists list place blocker) pairs head
+    → KeepWatches clauses n steps lists pairs head → KeepWatches clauses n steps (with_blocker lists list place blocker) pairs head
 kept-renewed clauses n steps lists pairs head list place blocker few within among h =
     let xs = watchers lists list in
-    let w = renewed xs place blocker in
+    let w = watcher_with xs place blocker in
     let old = h.right list place no_watcher within in
     record {
       count = length-set lists list (set xs place w) ∙ h.count;
@@ -62,7 +62,7 @@ kept-renewed clauses n steps lists pairs head list place blocker few within amon
             listed_a = λ differ. stands-renewed lists list place (list_of (pair_at pairs id).a) 0 id blocker few within (o.listed_a differ);
             listed_b = λ differ. stands-renewed lists list place (list_of (pair_at pairs id).b) 0 id blocker few within (o.listed_b differ);
             decided = o.decided;
-            looked = o.looked;
+            visited = o.visited;
           });
     }
 
@@ -74,5 +74,5 @@ passed-renewed clauses steps lists pairs head list place from blocker few within
 pub length-renewed : (lists : List (List Watcher)) (list place : ℕ) (blocker : Lit) → list < length lists → length (watchers (with_blocker lists list place blocker) list) ≡ length (watchers lists list)
 length-renewed lists list place blocker few =
     let xs = watchers lists list in
-    let w = renewed xs place blocker in
+    let w = watcher_with xs place blocker in
     ap length (get_or-set_same lists list (set xs place w) [] few) ∙ length-set xs place w

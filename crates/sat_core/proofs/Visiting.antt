@@ -11,10 +11,10 @@ use Rattle.cnf_core.specs.Refutation.{clause_at}
 use Rattle.sat_core.specs.declared.trail.Step.{Step}
 use Rattle.sat_core.specs.declared.watches.Watcher.{Watcher}
 use Rattle.sat_core.specs.declared.watches.Pair.{Pair}
-use Rattle.sat_core.specs.Looks.{IsFalsified}
+use Rattle.sat_core.specs.FalseClauses.{IsFalsified}
 use Rattle.sat_core.specs.declared.trail.Value.{Value}
-use Rattle.sat_core.specs.Steps.{given, held, IsReason, IsRightStep, AreSteps, Propagates, AreClosedBefore}
-use Rattle.sat_core.specs.Watches.{no_pair, no_watcher, list_of, watchers, pair_at, IsTrueClause, with_pair, IsWatcher, AreKept, ArePassedIn, IsFalsifiedAt, IsChosen}
+use Rattle.sat_core.specs.Steps.{given, trail_values, IsReason, IsRightStep, AreSteps, Propagates, AreClosedBefore}
+use Rattle.sat_core.specs.Watches.{no_pair, no_watcher, list_of, watchers, pair_at, IsTrueClause, with_pair, IsWatcher, KeepWatches, ArePassedIn, IsFalsifiedAt, IsChosen}
 use Rattle.sat_core.proofs.Holding.{held-push-same}
 use Rattle.sat_core.proofs.Agreeing.{open-agrees}
 use Rattle.sat_core.proofs.States.{agree}
@@ -31,7 +31,7 @@ pub record IsVisit (clauses : List (List Lit)) (n : ℕ) (lists : List (List Wat
   pub within : place < length (watchers lists (list_of l))
 
 pub visit-start : (clauses : List (List Lit)) (n : ℕ) (steps : List Step) (lists : List (List Watcher)) (pairs : List Pair) (head : ℕ) (l : Lit) (place list : ℕ) (x : List Watcher) (w : Watcher)
-    → AreKept clauses n steps lists pairs head → AreOver n clauses → IsLitOf n l → place < length (watchers lists (list_of l))
+    → KeepWatches clauses n steps lists pairs head → AreOver n clauses → IsLitOf n l → place < length (watchers lists (list_of l))
     → list ≡ list_of l → x ≡ get_or lists list x → w ≡ get_or x place no_watcher → IsVisit clauses n lists pairs l place w
 visit-start clauses n steps lists pairs head l place list x w h over at within is-list is-x is-w =
     let few = list-within n (length lists) l at h.count in
@@ -48,7 +48,7 @@ pub record IsOther (clauses : List (List Lit)) (n : ℕ) (pairs : List Pair) (l 
   pub exist : IsLitOf n other
 
 pub visit-other : (clauses : List (List Lit)) (n : ℕ) (steps : List Step) (lists : List (List Watcher)) (pairs : List Pair) (head : ℕ) (l : Lit) (place : ℕ) (w : Watcher) (p : Pair) (other : Lit)
-    → AreKept clauses n steps lists pairs head → IsVisit clauses n lists pairs l place w → p ≡ get_or pairs w.clause p
+    → KeepWatches clauses n steps lists pairs head → IsVisit clauses n lists pairs l place w → p ≡ get_or pairs w.clause p
     → ((p.a ≡ l) × (other ≡ p.b)) ⊎ ((p.a ≢ l) × (other ≡ p.a)) → IsOther clauses n pairs l w.clause other
 visit-other clauses n steps lists pairs head l place w p other h v is-p first =
     let is = get_or_read pairs w.clause p v.right.exists is-p no_pair in
@@ -58,13 +58,13 @@ visit-other clauses n steps lists pairs head l place w p other h v is-p first =
     record { first = first'; among = among; exist = All-contains (IsLitOf n) (get_or clauses w.clause []) other v.over among }
 
 -- **its clause is true**
-pub visit-true : (clauses : List (List Lit)) (n : ℕ) (steps : List Step) (values : List Value) (places : List ℕ) (lists : List (List Watcher)) (pairs : List Pair) (head : ℕ) (l : Lit) (place : ℕ) (w : Watcher) (m : Lit)
-    → AreSteps clauses n steps values places → IsVisit clauses n lists pairs l place w → Contains (get_or clauses w.clause []) m → IsHeld (given values) m
+pub visit-true : (clauses : List (List Lit)) (n : ℕ) (steps : List Step) (values : List Value) (indices : List ℕ) (lists : List (List Watcher)) (pairs : List Pair) (head : ℕ) (l : Lit) (place : ℕ) (w : Watcher) (m : Lit)
+    → AreSteps clauses n steps values indices → IsVisit clauses n lists pairs l place w → Contains (get_or clauses w.clause []) m → IsHeld (given values) m
     → ArePassedIn clauses steps lists pairs head (list_of l) place → ArePassedIn clauses steps lists pairs head (list_of l) (place + 1)
-visit-true clauses n steps values places lists pairs head l place w m s v among holds passed =
+visit-true clauses n steps values indices lists pairs head l place w m s v among holds passed =
     let at = All-contains (IsLitOf n) (get_or clauses w.clause []) m v.over among in
     passed-next clauses steps lists pairs head (list_of l) place
-    (subst (λ (x : Watcher). IsTrueClause (held steps) (get_or clauses x.clause [])) v.is (m, among, s.shows m.var at.above at.within ∙ holds)) passed
+    (subst (λ (x : Watcher). IsTrueClause (trail_values steps) (get_or clauses x.clause [])) v.is (m, among, s.shows m.var at.above at.within ∙ holds)) passed
 
 at-place : (clauses : List (List Lit)) (id : ℕ) → clause_at clauses (id + 1) ≡ get_or clauses id []
 at-place clauses id = (let e : id + 1 - 1 ≡ id = omega arith in ap (λ (k : ℕ). get_or clauses k []) e)
@@ -99,14 +99,14 @@ visit-unit s clauses id c m is few among all not-held not-false =
 
 pub visit-step : (clauses : List (List Lit)) (n : ℕ) (steps new : List Step) (lists : List (List Watcher)) (pairs : List Pair) (head : ℕ) (l : Lit) (place : ℕ) (w : Watcher) (m : Lit) (id : ℕ)
     → head < length steps → new ≡ steps ++ record { lit = m; reason = Some id } ∷ [] → IsVisit clauses n lists pairs l place w → Contains (get_or clauses w.clause []) m
-    → IsRightStep clauses steps (record { lit = m; reason = Some id }) → AreKept clauses n steps lists pairs head → ArePassedIn clauses steps lists pairs head (list_of l) place
-    → AreKept clauses n new lists pairs head × ArePassedIn clauses new lists pairs head (list_of l) (place + 1)
+    → IsRightStep clauses steps (record { lit = m; reason = Some id }) → KeepWatches clauses n steps lists pairs head → ArePassedIn clauses steps lists pairs head (list_of l) place
+    → KeepWatches clauses n new lists pairs head × ArePassedIn clauses new lists pairs head (list_of l) (place + 1)
 visit-step clauses n steps new lists pairs head l place w m id within is v among right h passed =
     let step : Step = record { lit = m; reason = Some id } in
-    subst (λ (ss : List Step). AreKept clauses n ss lists pairs head × ArePassedIn clauses ss lists pairs head (list_of l) (place + 1)) (sym is) (
+    subst (λ (ss : List Step). KeepWatches clauses n ss lists pairs head × ArePassedIn clauses ss lists pairs head (list_of l) (place + 1)) (sym is) (
       kept-push clauses n steps lists pairs head step (λ none. absurd (some-id id none)) h,
       passed-next clauses (steps ++ step ∷ []) lists pairs head (list_of l) place
-          (subst (λ (x : Watcher). IsTrueClause (held (steps ++ step ∷ [])) (get_or clauses x.clause [])) v.is (m, among, held-push-same steps step right.free))
+          (subst (λ (x : Watcher). IsTrueClause (trail_values (steps ++ step ∷ [])) (get_or clauses x.clause [])) v.is (m, among, held-push-same steps step right.free))
           (passed-push clauses steps lists pairs head (list_of l) place step within passed),
     )
   where
@@ -114,11 +114,11 @@ visit-step clauses n steps new lists pairs head l place w m id within is v among
     some-id id e = cc
 
 -- **its clause gets another watched literal**
-pub visit-exchange : (clauses : List (List Lit)) (n : ℕ) (steps : List Step) (values : List Value) (places : List ℕ) (lists : List (List Watcher)) (pairs : List Pair) (head : ℕ) (l : Lit) (place : ℕ) (w : Watcher) (other found : Lit) (saved : ℕ) (c : List Lit)
-    → AreSteps clauses n steps values places → AreKept clauses n steps lists pairs head → IsFalsifiedAt steps head l → IsLitOf n l → IsVisit clauses n lists pairs l place w → IsOther clauses n pairs l w.clause other
+pub visit-exchange : (clauses : List (List Lit)) (n : ℕ) (steps : List Step) (values : List Value) (indices : List ℕ) (lists : List (List Watcher)) (pairs : List Pair) (head : ℕ) (l : Lit) (place : ℕ) (w : Watcher) (other found : Lit) (saved : ℕ) (c : List Lit)
+    → AreSteps clauses n steps values indices → KeepWatches clauses n steps lists pairs head → IsFalsifiedAt steps head l → IsLitOf n l → IsVisit clauses n lists pairs l place w → IsOther clauses n pairs l w.clause other
     → c ≡ get_or clauses w.clause [] → Contains c found → (found ≢ other) → (IsFalse (given values) found → ⊥)
     → IsExchange clauses steps lists pairs l place w.clause (record { a = other; b = found; saved = saved })
-visit-exchange clauses n steps values places lists pairs head l place w other found saved c s h at exist v o is among differ free =
+visit-exchange clauses n steps values indices lists pairs head l place w other found saved c s h at exist v o is among differ free =
     let among' = subst (λ (x : List Lit). Contains x found) is among in
     let at-b = All-contains (IsLitOf n) (get_or clauses w.clause []) found v.over among' in
     record {
@@ -137,18 +137,18 @@ visit-exchange clauses n steps values places lists pairs head l place w other fo
     }
 
 -- **a new clause is attached**
-pub attached : (clauses : List (List Lit)) (n : ℕ) (steps : List Step) (values : List Value) (places : List ℕ) (lists lists' : List (List Watcher)) (pairs pairs' : List Pair) (head head' : ℕ) (c : List Lit) (p : Pair)
-    → AreSteps clauses n steps values places → AreOver n clauses → AreClosedBefore clauses steps → AreKept clauses n steps lists pairs head
+pub attached : (clauses : List (List Lit)) (n : ℕ) (steps : List Step) (values : List Value) (indices : List ℕ) (lists lists' : List (List Watcher)) (pairs pairs' : List Pair) (head head' : ℕ) (c : List Lit) (p : Pair)
+    → AreSteps clauses n steps values indices → AreOver n clauses → AreClosedBefore clauses steps → KeepWatches clauses n steps lists pairs head
     → length pairs < length clauses → IsOpenClause (given values) (get_or clauses (length pairs) []) → c ≡ get_or clauses (length pairs) [] → IsChosen steps c p
     → (p.a ≡ p.b → lists' ≡ lists) → (p.a ≢ p.b → lists' ≡ with_pair lists (length pairs) p) → pairs' ≡ pairs ++ p ∷ [] → head' ≡ head
-    → AreKept clauses n steps lists' pairs' head'
-attached clauses n steps values places lists lists' pairs pairs' head head' c p s over before h more opens is chosen one two is-pairs is-head =
+    → KeepWatches clauses n steps lists' pairs' head'
+attached clauses n steps values indices lists lists' pairs pairs' head head' c p s over before h more opens is chosen one two is-pairs is-head =
     let clause = get_or clauses (length pairs) [] in
     let chosen' = subst (λ (x : List Lit). IsChosen steps x p) is chosen in
     let exist = over (length pairs) [] more in
-    let open' = open-agrees (given values) (held steps) clause (agree clauses n steps values places clause s exist) opens in
-    subst (λ (ps : List Pair). AreKept clauses n steps lists' ps head') (sym is-pairs)
-    (subst (λ (k : ℕ). AreKept clauses n steps lists' (pairs ++ p ∷ []) k) (sym is-head)
+    let open' = open-agrees (given values) (trail_values steps) clause (agree clauses n steps values indices clause s exist) opens in
+    subst (λ (ps : List Pair). KeepWatches clauses n steps lists' ps head') (sym is-pairs)
+    (subst (λ (k : ℕ). KeepWatches clauses n steps lists' (pairs ++ p ∷ []) k) (sym is-head)
     (kept-added clauses n steps lists lists' pairs head p h more chosen' before open'
     (list-within n (length lists) p.a (All-contains (IsLitOf n) clause p.a exist chosen'.has_a) h.count)
     (list-within n (length lists) p.b (All-contains (IsLitOf n) clause p.b exist chosen'.has_b) h.count) one two))
@@ -163,10 +163,10 @@ chosen-exist clauses n steps place c p over few is chosen =
     )
 
 -- what is closed by the steps is closed by the values
-pub closed-given : (clauses : List (List Lit)) (n : ℕ) (steps : List Step) (values : List Value) (places : List ℕ) → AreSteps clauses n steps values places → AreOver n clauses → IsClosed (held steps) clauses → IsClosed (given values) clauses
-closed-given clauses n steps values places s over closed k d few =
+pub closed-given : (clauses : List (List Lit)) (n : ℕ) (steps : List Step) (values : List Value) (indices : List ℕ) → AreSteps clauses n steps values indices → AreOver n clauses → IsClosed (trail_values steps) clauses → IsClosed (given values) clauses
+closed-given clauses n steps values indices s over closed k d few =
     let c = get_or clauses k d in
-    open-agrees (held steps) (given values) c (λ m there. sym (agree clauses n steps values places c s (over k d few) m there)) (closed k d few)
+    open-agrees (trail_values steps) (given values) c (λ m there. sym (agree clauses n steps values indices c s (over k d few) m there)) (closed k d few)
 
 -- no step yet
 pub propagates-none : (steps : List Step) → Propagates steps steps

@@ -11,8 +11,8 @@ use Rattle.cnf_core.specs.Values.{Partial, IsUnassigned, IsFalse, IsOpenClause, 
 use Rattle.sat_core.specs.declared.trail.Step.{Step}
 use Rattle.sat_core.specs.declared.watches.Watcher.{Watcher}
 use Rattle.sat_core.specs.declared.watches.Pair.{Pair}
-use Rattle.sat_core.specs.Steps.{held, IsTrail, Propagates, AreClosedBefore}
-use Rattle.sat_core.specs.Watches.{no_pair, no_watcher, list_of, watchers, pair_at, StandsFrom, IsRemoved, with_watcher, with_pair, IsWatcher, IsTrueClause, IsQuiet, IsKept, AreKept, ArePassedIn, IsFalsifiedAt, IsNoLater, IsChosen}
+use Rattle.sat_core.specs.Steps.{trail_values, IsTrail, Propagates, AreClosedBefore}
+use Rattle.sat_core.specs.Watches.{no_pair, no_watcher, list_of, watchers, pair_at, StandsFrom, IsRemoved, with_watcher, with_pair, IsWatcher, IsTrueClause, NeedsNoVisit, KeepsWatch, KeepWatches, ArePassedIn, IsFalsifiedAt, IsNoLater, IsChosen}
 use Rattle.sat_core.proofs.Holding.{none≢some}
 use Rattle.sat_core.proofs.Quiet.{Grows, grows-whole, grows-push, quiet-weaker, quiet-open, false-cases, lit-same, lit-eq-cases, false-next}
 
@@ -65,9 +65,9 @@ removed xs ys p few fewer last other =
       ];
     }
 
--- **one step more**: by a clause, or a decision where all steps were looked at
+-- **one step more**: by a clause, or a decision where all steps were visited
 pub kept-push : (clauses : List (List Lit)) (n : ℕ) (steps : List Step) (lists : List (List Watcher)) (pairs : List Pair) (head : ℕ) (step : Step)
-    → (step.reason ≡ None → head ≡ length steps) → AreKept clauses n steps lists pairs head → AreKept clauses n (steps ++ step ∷ []) lists pairs head
+    → (step.reason ≡ None → head ≡ length steps) → KeepWatches clauses n steps lists pairs head → KeepWatches clauses n (steps ++ step ∷ []) lists pairs head
 kept-push clauses n steps lists pairs head step decides h =
     let long = length_push steps step in
     let low = h.within in
@@ -87,16 +87,16 @@ kept-push clauses n steps lists pairs head step decides h =
             listed_b = o.listed_b;
             decided = λ k d few' is. elim (cases_lt k (length steps)) [
               | inl before ↦
-                  subst (λ (front : List Step). IsQuiet (held front) (held front) c p) (sym (take-append-le k steps (step ∷ []) (omega arith)))
+                  subst (λ (front : List Step). NeedsNoVisit (trail_values front) (trail_values front) c p) (sym (take-append-le k steps (step ∷ []) (omega arith)))
                   (o.decided k d before (subst (λ (s : Step). s.reason ≡ None) (get_or_append_left steps (step ∷ []) d k before) is))
               | inr last ↦
                   (let here : length steps ≡ k = omega arith in
                   let all = decides (subst (λ (s : Step). s.reason ≡ None) (get_or_push steps step d k here) is) in
-                  subst (λ (front : List Step). IsQuiet (held front) (held front) c p) (sym (take_at steps (step ∷ []) k here))
-                  (subst (λ (front : List Step). IsQuiet (held front) (held steps) c p) (take_all head steps (omega arith)) o.looked))
+                  subst (λ (front : List Step). NeedsNoVisit (trail_values front) (trail_values front) c p) (sym (take_at steps (step ∷ []) k here))
+                  (subst (λ (front : List Step). NeedsNoVisit (trail_values front) (trail_values steps) c p) (take_all head steps (omega arith)) o.visited))
             ];
-            looked = subst (λ (front : List Step). IsQuiet (held front) (held (steps ++ step ∷ [])) c p) (sym (take-append-le head steps (step ∷ []) h.within))
-                (quiet-weaker (held (take head steps)) (held (take head steps)) (held steps) (held (steps ++ step ∷ [])) c p (λ x b e. e) (grows-push steps step) o.looked);
+            visited = subst (λ (front : List Step). NeedsNoVisit (trail_values front) (trail_values (steps ++ step ∷ [])) c p) (sym (take-append-le head steps (step ∷ []) h.within))
+                (quiet-weaker (trail_values (take head steps)) (trail_values (take head steps)) (trail_values steps) (trail_values (steps ++ step ∷ [])) c p (λ x b e. e) (grows-push steps step) o.visited);
           });
     }
 
@@ -108,20 +108,20 @@ passed-push clauses steps lists pairs head list place step within h id few =
     elim (h id few) [
       | inr stands ↦ inr stands
       | inl quiet ↦
-          inl (subst (λ (front : List Step). IsQuiet (held front) (held (steps ++ step ∷ [])) c p) (sym (take-append-le (head + 1) steps (step ∷ []) (omega arith)))
-          (quiet-weaker (held (take (head + 1) steps)) (held (take (head + 1) steps)) (held steps) (held (steps ++ step ∷ [])) c p (λ x b e. e) (grows-push steps step) quiet))
+          inl (subst (λ (front : List Step). NeedsNoVisit (trail_values front) (trail_values (steps ++ step ∷ [])) c p) (sym (take-append-le (head + 1) steps (step ∷ []) (omega arith)))
+          (quiet-weaker (trail_values (take (head + 1) steps)) (trail_values (take (head + 1) steps)) (trail_values steps) (trail_values (steps ++ step ∷ [])) c p (λ x b e. e) (grows-push steps step) quiet))
     ]
 
 -- steps by clauses
 pub kept-propagated : (clauses : List (List Lit)) (n : ℕ) (old new : List Step) (lists : List (List Watcher)) (pairs : List Pair) (head : ℕ)
-    → Propagates old new → AreKept clauses n old lists pairs head → AreKept clauses n new lists pairs head
+    → Propagates old new → KeepWatches clauses n old lists pairs head → KeepWatches clauses n new lists pairs head
 kept-propagated clauses n old new lists pairs head (added, is, forced) h =
-    subst (λ (ss : List Step). AreKept clauses n ss lists pairs head) (sym is) (over old added forced h)
+    subst (λ (ss : List Step). KeepWatches clauses n ss lists pairs head) (sym is) (over old added forced h)
   where
-    over : (front ss : List Step) → All (λ (s : Step). s.reason ≢ None) ss → AreKept clauses n front lists pairs head → AreKept clauses n (front ++ ss) lists pairs head
-    over front [] forced' h' = subst (λ (xs : List Step). AreKept clauses n xs lists pairs head) (sym (append-nil front)) h'
+    over : (front ss : List Step) → All (λ (s : Step). s.reason ≢ None) ss → KeepWatches clauses n front lists pairs head → KeepWatches clauses n (front ++ ss) lists pairs head
+    over front [] forced' h' = subst (λ (xs : List Step). KeepWatches clauses n xs lists pairs head) (sym (append-nil front)) h'
     over front (s ∷ ss) forced' h' =
-        subst (λ (xs : List Step). AreKept clauses n xs lists pairs head) (append_assoc front (s ∷ []) ss)
+        subst (λ (xs : List Step). KeepWatches clauses n xs lists pairs head) (append_assoc front (s ∷ []) ss)
         (over (front ++ s ∷ []) ss (All-tail (λ (x : Step). x.reason ≢ None) s ss forced')
         (kept-push clauses n front lists pairs head s (λ none. absurd (All-head (λ (x : Step). x.reason ≢ None) s ss forced' none)) h'))
 
@@ -145,9 +145,9 @@ falsified-later old new head l (added, is, forced) h =
 -- **steps taken back to a decision**
 pub kept-cut : (clauses : List (List Lit)) (n : ℕ) (steps new : List Step) (lists : List (List Watcher)) (pairs : List Pair) (head count : ℕ)
     → new ≡ take count steps → ((d : Step) → count < length steps → (get_or steps count d).reason ≡ None)
-    → AreKept clauses n steps lists pairs head → AreKept clauses n new lists pairs (min head (length new))
+    → KeepWatches clauses n steps lists pairs head → KeepWatches clauses n new lists pairs (min head (length new))
 kept-cut clauses n steps new lists pairs head count is decides h =
-    subst (λ (ss : List Step). AreKept clauses n ss lists pairs (min head (length ss))) (sym is)
+    subst (λ (ss : List Step). KeepWatches clauses n ss lists pairs (min head (length ss))) (sym is)
     (record {
       count = h.count;
       attached = h.attached;
@@ -163,30 +163,30 @@ kept-cut clauses n steps new lists pairs head count is decides h =
             decided = λ k d few' is'.
                 (let size = length-take count steps in
                 let below : k < count = omega arith in
-                subst (λ (front : List Step). IsQuiet (held front) (held front) (get_or clauses id []) (pair_at pairs id)) (sym (take-take k count steps (omega arith)))
+                subst (λ (front : List Step). NeedsNoVisit (trail_values front) (trail_values front) (get_or clauses id []) (pair_at pairs id)) (sym (take-take k count steps (omega arith)))
                 (o.decided k d (omega arith) (subst (λ (s : Step). s.reason ≡ None) (get_or-take count steps k d below) is')));
-            looked = looked' id o (cases_lt count (length steps));
+            visited = looked' id o (cases_lt count (length steps));
           });
     })
   where
-    looked' : (id : ℕ) → IsKept steps lists head id (get_or clauses id []) (pair_at pairs id) → (count < length steps) ⊎ (length steps ≤ count)
-        → IsQuiet (held (take (min head (length (take count steps))) (take count steps))) (held (take count steps)) (get_or clauses id []) (pair_at pairs id)
+    looked' : (id : ℕ) → KeepsWatch steps lists head id (get_or clauses id []) (pair_at pairs id) → (count < length steps) ⊎ (length steps ≤ count)
+        → NeedsNoVisit (trail_values (take (min head (length (take count steps))) (take count steps))) (trail_values (take count steps)) (get_or clauses id []) (pair_at pairs id)
     looked' id o (inl in') =
         let d : Step = record { lit = record { var = 0; positive = false }; reason = None } in
         let front = take count steps in
         let m = min head (length front) in
-        quiet-weaker (held front) (held (take m front)) (held front) (held front) (get_or clauses id []) (pair_at pairs id) (grows-whole front m) (λ x b e. e)
+        quiet-weaker (trail_values front) (trail_values (take m front)) (trail_values front) (trail_values front) (get_or clauses id []) (pair_at pairs id) (grows-whole front m) (λ x b e. e)
         (o.decided count d in' (decides d in'))
     looked' id o (inr past) =
         let all = take_all count steps past in
         let low = h.within in
         let m : min head (length steps) ≡ head = omega arith in
-        subst (λ (ss : List Step). IsQuiet (held (take (min head (length ss)) ss)) (held ss) (get_or clauses id []) (pair_at pairs id)) (sym all)
-        (subst (λ (k : ℕ). IsQuiet (held (take k steps)) (held steps) (get_or clauses id []) (pair_at pairs id)) (sym m) o.looked)
+        subst (λ (ss : List Step). NeedsNoVisit (trail_values (take (min head (length ss)) ss)) (trail_values ss) (get_or clauses id []) (pair_at pairs id)) (sym all)
+        (subst (λ (k : ℕ). NeedsNoVisit (trail_values (take k steps)) (trail_values steps) (get_or clauses id []) (pair_at pairs id)) (sym m) o.visited)
 
 -- **more clauses**
 pub kept-more : (clauses more : List (List Lit)) (n : ℕ) (steps : List Step) (lists : List (List Watcher)) (pairs : List Pair) (head : ℕ)
-    → AreKept clauses n steps lists pairs head → AreKept (clauses ++ more) n steps lists pairs head
+    → KeepWatches clauses n steps lists pairs head → KeepWatches (clauses ++ more) n steps lists pairs head
 kept-more clauses more n steps lists pairs head h =
     let long = length-append clauses more in
     let few' = h.attached in
@@ -201,33 +201,33 @@ kept-more clauses more n steps lists pairs head h =
             has_blocker = subst (λ (c : List Lit). Contains c w.blocker) (sym (get_or_append_left clauses more [] w.clause (omega arith))) r.has_blocker;
             differ = r.differ;
           })) (watchers lists k) (h.right k);
-      kept = λ id few. subst (λ (c : List Lit). IsKept steps lists head id c (pair_at pairs id)) (sym (get_or_append_left clauses more [] id (omega arith))) (h.kept id few);
+      kept = λ id few. subst (λ (c : List Lit). KeepsWatch steps lists head id c (pair_at pairs id)) (sym (get_or_append_left clauses more [] id (omega arith))) (h.kept id few);
     }
 
--- **where all was looked at the clauses are closed**
+-- **where all was visited the clauses are closed**
 pub kept-closed : (clauses : List (List Lit)) (n : ℕ) (steps : List Step) (lists : List (List Watcher)) (pairs : List Pair) (head : ℕ)
-    → AreKept clauses n steps lists pairs head → length pairs ≡ length clauses → head ≡ length steps → IsClosed (held steps) clauses
+    → KeepWatches clauses n steps lists pairs head → length pairs ≡ length clauses → head ≡ length steps → IsClosed (trail_values steps) clauses
 kept-closed clauses n steps lists pairs head h all end k d few =
     let o = h.kept k (omega arith) in
     let c = get_or clauses k [] in
     let p = pair_at pairs k in
-    let quiet : IsQuiet (held steps) (held steps) c p = subst (λ (front : List Step). IsQuiet (held front) (held steps) c p) (take_all head steps (omega arith)) o.looked in
-    subst (IsOpenClause (held steps)) (get_or_default clauses k [] d few) (quiet-open (held steps) c p o.has_a o.has_b quiet)
+    let quiet : NeedsNoVisit (trail_values steps) (trail_values steps) c p = subst (λ (front : List Step). NeedsNoVisit (trail_values front) (trail_values steps) c p) (take_all head steps (omega arith)) o.visited in
+    subst (IsOpenClause (trail_values steps)) (get_or_default clauses k [] d few) (quiet-open (trail_values steps) c p o.has_a o.has_b quiet)
 
 -- **at the first place of a list**: only the clauses that watch the literal may not be quiet
 pub passed-start : (clauses : List (List Lit)) (n : ℕ) (steps : List Step) (lists : List (List Watcher)) (pairs : List Pair) (head : ℕ) (l : Lit)
-    → IsTrail clauses steps → IsFalsifiedAt steps head l → AreKept clauses n steps lists pairs head → ArePassedIn clauses steps lists pairs head (list_of l) 0
+    → IsTrail clauses steps → IsFalsifiedAt steps head l → KeepWatches clauses n steps lists pairs head → ArePassedIn clauses steps lists pairs head (list_of l) 0
 passed-start clauses n steps lists pairs head l trail at h id few =
     let o = h.kept id few in
     let c = get_or clauses id [] in
     let p = pair_at pairs id in
-    elim o.looked [
+    elim o.visited [
       | inl one ↦ inl (inl one)
       | inr two ↦
           (let (differ, a, b) = two in
-          elim (false-cases (held (take (head + 1) steps)) p.a) [
+          elim (false-cases (trail_values (take (head + 1) steps)) p.a) [
             | inl false-a ↦ inr (subst (λ (m : Lit). StandsFrom 0 (watchers lists (list_of m)) id) (false-next clauses steps head p.a l trail at a false-a) (o.listed_a differ))
-            | inr not-a ↦ elim (false-cases (held (take (head + 1) steps)) p.b) [
+            | inr not-a ↦ elim (false-cases (trail_values (take (head + 1) steps)) p.b) [
               | inl false-b ↦ inr (subst (λ (m : Lit). StandsFrom 0 (watchers lists (list_of m)) id) (false-next clauses steps head p.b l trail at b false-b) (o.listed_b differ))
               | inr not-b ↦ inl (inr (differ, not-a, not-b))
             ]
@@ -236,7 +236,7 @@ passed-start clauses n steps lists pairs head l trail at h id few =
 
 -- a place further, where the clause there is true
 pub passed-next : (clauses : List (List Lit)) (steps : List Step) (lists : List (List Watcher)) (pairs : List Pair) (head list place : ℕ)
-    → IsTrueClause (held steps) (get_or clauses (get_or (watchers lists list) place no_watcher).clause [])
+    → IsTrueClause (trail_values steps) (get_or clauses (get_or (watchers lists list) place no_watcher).clause [])
     → ArePassedIn clauses steps lists pairs head list place → ArePassedIn clauses steps lists pairs head list (place + 1)
 passed-next clauses steps lists pairs head list place holds h id few =
     elim (h id few) [
@@ -245,16 +245,16 @@ passed-next clauses steps lists pairs head list place holds h id few =
           (let (j, low, within, is) = stands in
           elim (cases_eq j place) [
             | inl same ↦
-                inl (inl (subst (λ (i : ℕ). IsTrueClause (held steps) (get_or clauses i []))
+                inl (inl (subst (λ (i : ℕ). IsTrueClause (trail_values steps) (get_or clauses i []))
                 (ap (λ (k : ℕ). (get_or (watchers lists list) k no_watcher).clause) (sym same) ∙ is) holds))
             | inr other ↦ inr (j, (omega arith), within, is)
           ])
     ]
 
--- **past the last place of a list** the step at the head was looked at
+-- **past the last place of a list** the step at the head was visited
 pub kept-next : (clauses : List (List Lit)) (n : ℕ) (steps : List Step) (lists : List (List Watcher)) (pairs : List Pair) (head list place : ℕ)
-    → head < length steps → length (watchers lists list) ≤ place → ArePassedIn clauses steps lists pairs head list place → AreKept clauses n steps lists pairs head
-    → AreKept clauses n steps lists pairs (head + 1)
+    → head < length steps → length (watchers lists list) ≤ place → ArePassedIn clauses steps lists pairs head list place → KeepWatches clauses n steps lists pairs head
+    → KeepWatches clauses n steps lists pairs (head + 1)
 kept-next clauses n steps lists pairs head list place within end passed h =
     record {
       count = h.count;
@@ -269,7 +269,7 @@ kept-next clauses n steps lists pairs head list place within end passed h =
             listed_a = o.listed_a;
             listed_b = o.listed_b;
             decided = o.decided;
-            looked = elim (passed id few) [ inl quiet ↦ quiet | inr stands ↦ (let (j, low, few', is) = stands in absurd (omega arith)) ];
+            visited = elim (passed id few) [ inl quiet ↦ quiet | inr stands ↦ (let (j, low, few', is) = stands in absurd (omega arith)) ];
           });
     }
 
@@ -354,15 +354,15 @@ pub record IsExchange (clauses : List (List Lit)) (steps : List Step) (lists : L
   pub list_b : list_of p.b < length lists
   pub within : place < length (watchers lists (list_of l))
   pub is : (get_or (watchers lists (list_of l)) place no_watcher).clause ≡ id
-  pub false' : IsFalse (held steps) l
+  pub false' : IsFalse (trail_values steps) l
   pub first : (((pair_at pairs id).a ≡ l) × (p.a ≡ (pair_at pairs id).b)) ⊎ (((pair_at pairs id).a ≢ l) × (p.a ≡ (pair_at pairs id).a))
   pub among : Contains (get_or clauses id []) p.b
   pub differ : p.b ≢ p.a
-  pub free : IsFalse (held steps) p.b → ⊥
+  pub free : IsFalse (trail_values steps) p.b → ⊥
 
 -- of the old pair
 pub exists-at : (clauses : List (List Lit)) (n : ℕ) (steps : List Step) (lists : List (List Watcher)) (pairs : List Pair) (head : ℕ) (l : Lit) (place id : ℕ)
-    → AreKept clauses n steps lists pairs head → place < length (watchers lists (list_of l)) → (get_or (watchers lists (list_of l)) place no_watcher).clause ≡ id
+    → KeepWatches clauses n steps lists pairs head → place < length (watchers lists (list_of l)) → (get_or (watchers lists (list_of l)) place no_watcher).clause ≡ id
     → (id < length pairs) × ((pair_at pairs id).a ≢ (pair_at pairs id).b)
 exists-at clauses n steps lists pairs head l place id h within is =
     let r = h.right (list_of l) place no_watcher within in (
@@ -387,7 +387,7 @@ stays-other o l a first differ same =
     ]
 
 quiet-exchanged : (s t u : Partial) (c : List Lit) (o p : Pair) (l : Lit) → Grows s u → ((o.a ≡ l) × (p.a ≡ o.b)) ⊎ ((o.a ≢ l) × (p.a ≡ o.a)) → (p.b ≢ p.a) → (IsFalse u p.b → ⊥)
-    → IsQuiet s t c o → IsQuiet s t c p
+    → NeedsNoVisit s t c o → NeedsNoVisit s t c p
 quiet-exchanged s t u c o p l grows first differ free q =
     elim q [
       | inl one ↦ inl one
@@ -401,8 +401,8 @@ exchanged-lists lists l rest id p = with_watcher (set lists (list_of l) rest) (l
 
 -- **a clause watches another literal**
 pub kept-moved : (clauses : List (List Lit)) (n : ℕ) (steps : List Step) (lists : List (List Watcher)) (pairs : List Pair) (head : ℕ) (l : Lit) (place id : ℕ) (p : Pair) (rest : List Watcher)
-    → AreKept clauses n steps lists pairs head → IsExchange clauses steps lists pairs l place id p → IsRemoved (watchers lists (list_of l)) place rest
-    → AreKept clauses n steps (exchanged-lists lists l rest id p) (set pairs id p) head
+    → KeepWatches clauses n steps lists pairs head → IsExchange clauses steps lists pairs l place id p → IsRemoved (watchers lists (list_of l)) place rest
+    → KeepWatches clauses n steps (exchanged-lists lists l rest id p) (set pairs id p) head
 kept-moved clauses n steps lists pairs head l place id p rest h x r =
     let q = list_of l in
     let mid = set lists q rest in
@@ -446,8 +446,8 @@ kept-moved clauses n steps lists pairs head l place id p rest h x r =
       }) (λ j. all-removed P lists q place j rest x.list r (λ i. All-weaker (IsWatcher clauses pairs) P moved (watchers lists i) (h.right i)));
       kept = λ k few. elim (cases_eq id k) [
         | inl same ↦
-            subst (λ (j : ℕ). IsKept steps lists' head j (get_or clauses j []) (pair_at pairs' j)) same
-            (subst (λ (y : Pair). IsKept steps lists' head id c y) (sym now)
+            subst (λ (j : ℕ). KeepsWatch steps lists' head j (get_or clauses j []) (pair_at pairs' j)) same
+            (subst (λ (y : Pair). KeepsWatch steps lists' head id c y) (sym now)
             (record {
               has_a = stays-one (Contains c) o l p.a x.first old.has_a old.has_b;
               has_b = x.among;
@@ -455,26 +455,26 @@ kept-moved clauses n steps lists pairs head l place id p rest h x r =
                   (subst (λ (ys : List Watcher). StandsFrom 0 ys id) (sym (get_or-set_other lists q (list_of p.a) rest [] apart))
                   (stays-one (λ m. StandsFrom 0 (watchers lists (list_of m)) id) o l p.a x.first (old.listed_a differ) (old.listed_b differ)));
               listed_b = λ ne. stands-new mid (list_of p.b) w few-b;
-              decided = λ i d few' is. quiet-exchanged (held (take i steps)) (held (take i steps)) (held steps) c o p l (grows-whole steps i) x.first x.differ x.free (old.decided i d few' is);
-              looked = quiet-exchanged (held (take head steps)) (held steps) (held steps) c o p l (grows-whole steps head) x.first x.differ x.free old.looked;
+              decided = λ i d few' is. quiet-exchanged (trail_values (take i steps)) (trail_values (take i steps)) (trail_values steps) c o p l (grows-whole steps i) x.first x.differ x.free (old.decided i d few' is);
+              visited = quiet-exchanged (trail_values (take head steps)) (trail_values steps) (trail_values steps) c o p l (grows-whole steps head) x.first x.differ x.free old.visited;
             }))
         | inr ne ↦
             (let k' = h.kept k (omega arith) in
-            subst (λ (y : Pair). IsKept steps lists' head k (get_or clauses k []) y) (sym (pair-other pairs id k p ne))
+            subst (λ (y : Pair). KeepsWatch steps lists' head k (get_or clauses k []) y) (sym (pair-other pairs id k p ne))
             (record {
               has_a = k'.has_a;
               has_b = k'.has_b;
               listed_a = λ differ'. stays (list_of (pair_at pairs k).a) k ne (k'.listed_a differ');
               listed_b = λ differ'. stays (list_of (pair_at pairs k).b) k ne (k'.listed_b differ');
               decided = k'.decided;
-              looked = k'.looked;
+              visited = k'.visited;
             }))
       ];
     }
 
 -- **and the list is as far as before, with one watcher fewer**
 pub passed-moved : (clauses : List (List Lit)) (n : ℕ) (steps : List Step) (lists : List (List Watcher)) (pairs : List Pair) (head : ℕ) (l : Lit) (place id : ℕ) (p : Pair) (rest : List Watcher)
-    → IsTrail clauses steps → IsFalsifiedAt steps head l → AreKept clauses n steps lists pairs head → IsExchange clauses steps lists pairs l place id p → IsRemoved (watchers lists (list_of l)) place rest
+    → IsTrail clauses steps → IsFalsifiedAt steps head l → KeepWatches clauses n steps lists pairs head → IsExchange clauses steps lists pairs l place id p → IsRemoved (watchers lists (list_of l)) place rest
     → ArePassedIn clauses steps lists pairs head (list_of l) place → ArePassedIn clauses steps (exchanged-lists lists l rest id p) (set pairs id p) head (list_of l) place
 passed-moved clauses n steps lists pairs head l place id p rest trail at h x r passed k few =
     let q = list_of l in
@@ -490,13 +490,13 @@ passed-moved clauses n steps lists pairs head l place id p rest trail at h x r p
     let few-b : list_of p.b < length mid = (let e = x.list_b in omega arith) in
     elim (cases_eq id k) [
       | inl same ↦
-          inl (subst (λ (j : ℕ). IsQuiet (held (take (head + 1) steps)) (held steps) (get_or clauses j []) (pair_at (set pairs id p) j)) same
-          (subst (λ (y : Pair). IsQuiet (held (take (head + 1) steps)) (held steps) c y) (sym (pair-same pairs id p exists))
-          (elim old.looked [
+          inl (subst (λ (j : ℕ). NeedsNoVisit (trail_values (take (head + 1) steps)) (trail_values steps) (get_or clauses j []) (pair_at (set pairs id p) j)) same
+          (subst (λ (y : Pair). NeedsNoVisit (trail_values (take (head + 1) steps)) (trail_values steps) c y) (sym (pair-same pairs id p exists))
+          (elim old.visited [
             | inl one ↦ inl one
             | inr two ↦
                 (let (ne, a, b) = two in
-                let before : IsFalse (held (take head steps)) p.a → ⊥ = stays-one (λ m. IsFalse (held (take head steps)) m → ⊥) o l p.a x.first a b in
+                let before : IsFalse (trail_values (take head steps)) p.a → ⊥ = stays-one (λ m. IsFalse (trail_values (take head steps)) m → ⊥) o l p.a x.first a b in
                 inr (
                   (λ e. x.differ (sym e)),
                   (λ f. stays-other o l p.a x.first differ (false-next clauses steps head p.a l trail at before f)),
@@ -504,7 +504,7 @@ passed-moved clauses n steps lists pairs head l place id p rest trail at h x r p
                 ))
           ])))
       | inr ne ↦ elim (passed k (omega arith)) [
-        | inl quiet ↦ inl (subst (λ (y : Pair). IsQuiet (held (take (head + 1) steps)) (held steps) (get_or clauses k []) y) (sym (pair-other pairs id k p ne)) quiet)
+        | inl quiet ↦ inl (subst (λ (y : Pair). NeedsNoVisit (trail_values (take (head + 1) steps)) (trail_values steps) (get_or clauses k []) y) (sym (pair-other pairs id k p ne)) quiet)
         | inr stands ↦ inr (stands-with mid (list_of p.b) q place k w few-b (stands-removed lists q place q place k rest x.list r (λ e. ne (sym x.is ∙ e)) (omega arith) stands))
       ]
     ]
@@ -516,13 +516,13 @@ fewer-moved clauses steps lists pairs l place id p rest x r =
     let q = list_of l in
     let mid = set lists q rest in
     let w : Watcher = record { clause = id; blocker = p.a } in
-    let apart : q ≢ list_of p.b = list_of-differ l p.b x.low x.low_b (λ e. x.free (subst (IsFalse (held steps)) e x.false')) in
+    let apart : q ≢ list_of p.b = list_of-differ l p.b x.low x.low_b (λ e. x.free (subst (IsFalse (trail_values steps)) e x.false')) in
     let e = ap length (get_or-set_other mid (list_of p.b) q (watchers mid (list_of p.b) ++ w ∷ []) [] apart ∙ get_or-set_same lists q rest [] x.list) in
     let fewer = r.fewer in
     omega arith
 
 -- the two literals that become false last are quiet wherever the clause is open
-chosen-quiet : (steps : List Step) (c : List Lit) (p : Pair) (k : ℕ) → k ≤ length steps → IsChosen steps c p → IsOpenClause (held (take k steps)) c → IsQuiet (held (take k steps)) (held (take k steps)) c p
+chosen-quiet : (steps : List Step) (c : List Lit) (p : Pair) (k : ℕ) → k ≤ length steps → IsChosen steps c p → IsOpenClause (trail_values (take k steps)) c → NeedsNoVisit (trail_values (take k steps)) (trail_values (take k steps)) c p
 chosen-quiet steps c p k le h open' =
     elim open' [
       | inl one ↦ inl one
@@ -534,7 +534,7 @@ chosen-quiet steps c p k le h open' =
           ])
     ]
   where
-    by : (y : Lit) → Contains c y → IsUnassigned (held (take k steps)) y → (y ≢ p.a) → IsQuiet (held (take k steps)) (held (take k steps)) c p
+    by : (y : Lit) → Contains c y → IsUnassigned (trail_values (take k steps)) y → (y ≢ p.a) → NeedsNoVisit (trail_values (take k steps)) (trail_values (take k steps)) c p
     by y there free ne =
         elim (All-contains (λ m. (m ≡ p.a) ⊎ ((p.a ≢ p.b) × IsNoLater steps m p.b)) c y h.second there) [
           | inl same ↦ absurd (ne same)
@@ -561,9 +561,9 @@ pair-last : (pairs : List Pair) (p : Pair) (k : ℕ) → length pairs ≡ k → 
 pair-last pairs p k is = get_or_push pairs p no_pair k is
 
 added-with : (clauses : List (List Lit)) (n : ℕ) (steps : List Step) (lists lists' : List (List Watcher)) (pairs : List Pair) (head : ℕ) (p : Pair)
-    → AreKept clauses n steps lists pairs head → length pairs < length clauses → IsChosen steps (get_or clauses (length pairs) []) p
-    → AreClosedBefore clauses steps → IsOpenClause (held steps) (get_or clauses (length pairs) []) → IsListed clauses lists lists' pairs p
-    → AreKept clauses n steps lists' (pairs ++ p ∷ []) head
+    → KeepWatches clauses n steps lists pairs head → length pairs < length clauses → IsChosen steps (get_or clauses (length pairs) []) p
+    → AreClosedBefore clauses steps → IsOpenClause (trail_values steps) (get_or clauses (length pairs) []) → IsListed clauses lists lists' pairs p
+    → KeepWatches clauses n steps lists' (pairs ++ p ∷ []) head
 added-with clauses n steps lists lists' pairs head p h more chosen before open' x =
     let long = length_push pairs p in
     let pairs' = pairs ++ p ∷ [] in
@@ -579,29 +579,29 @@ added-with clauses n steps lists lists' pairs head p h more chosen before open' 
       kept = λ k few. elim (cases_lt k (length pairs)) [
         | inl first ↦
             (let o = h.kept k first in
-            subst (λ (y : Pair). IsKept steps lists' head k (get_or clauses k []) y) (sym (pair-before pairs p k first))
+            subst (λ (y : Pair). KeepsWatch steps lists' head k (get_or clauses k []) y) (sym (pair-before pairs p k first))
             (record {
               has_a = o.has_a;
               has_b = o.has_b;
               listed_a = λ differ. x.stays (list_of (pair_at pairs k).a) k (o.listed_a differ);
               listed_b = λ differ. x.stays (list_of (pair_at pairs k).b) k (o.listed_b differ);
               decided = o.decided;
-              looked = o.looked;
+              visited = o.visited;
             }))
         | inr last ↦
             (let here : length pairs ≡ k = omega arith in
-            subst (λ (y : Pair). IsKept steps lists' head k (get_or clauses k []) y) (sym (pair-last pairs p k here))
-            (subst (λ (j : ℕ). IsKept steps lists' head j (get_or clauses j []) p) here
+            subst (λ (y : Pair). KeepsWatch steps lists' head k (get_or clauses k []) y) (sym (pair-last pairs p k here))
+            (subst (λ (j : ℕ). KeepsWatch steps lists' head j (get_or clauses j []) p) here
             (record {
               has_a = chosen.has_a;
               has_b = chosen.has_b;
               listed_a = x.listed_a;
               listed_b = x.listed_b;
               decided = λ i d few' is. chosen-quiet steps c p i (omega arith) chosen (before i d few' is (length pairs) [] more);
-              looked =
-                  (let now = chosen-quiet steps c p (length steps) (omega arith) chosen (subst (λ (ss : List Step). IsOpenClause (held ss) c) (sym all) open') in
-                  let now' = subst (λ (ss : List Step). IsQuiet (held ss) (held ss) c p) all now in
-                  quiet-weaker (held steps) (held (take head steps)) (held steps) (held steps) c p (grows-whole steps head) (λ y b e. e) now');
+              visited =
+                  (let now = chosen-quiet steps c p (length steps) (omega arith) chosen (subst (λ (ss : List Step). IsOpenClause (trail_values ss) c) (sym all) open') in
+                  let now' = subst (λ (ss : List Step). NeedsNoVisit (trail_values ss) (trail_values ss) c p) all now in
+                  quiet-weaker (trail_values steps) (trail_values (take head steps)) (trail_values steps) (trail_values steps) c p (grows-whole steps head) (λ y b e. e) now');
             })))
       ];
     }
@@ -618,10 +618,10 @@ watcher-more clauses pairs p w r =
 
 -- **a new clause gets its watched literals**
 pub kept-added : (clauses : List (List Lit)) (n : ℕ) (steps : List Step) (lists lists' : List (List Watcher)) (pairs : List Pair) (head : ℕ) (p : Pair)
-    → AreKept clauses n steps lists pairs head → length pairs < length clauses → IsChosen steps (get_or clauses (length pairs) []) p
-    → AreClosedBefore clauses steps → IsOpenClause (held steps) (get_or clauses (length pairs) [])
+    → KeepWatches clauses n steps lists pairs head → length pairs < length clauses → IsChosen steps (get_or clauses (length pairs) []) p
+    → AreClosedBefore clauses steps → IsOpenClause (trail_values steps) (get_or clauses (length pairs) [])
     → list_of p.a < length lists → list_of p.b < length lists → (p.a ≡ p.b → lists' ≡ lists) → (p.a ≢ p.b → lists' ≡ with_pair lists (length pairs) p)
-    → AreKept clauses n steps lists' (pairs ++ p ∷ []) head
+    → KeepWatches clauses n steps lists' (pairs ++ p ∷ []) head
 kept-added clauses n steps lists lists' pairs head p h more chosen before open' in-a in-b one two =
     added-with clauses n steps lists lists' pairs head p h more chosen before open'
     (elim (lit-eq-cases p.a p.b) [
@@ -659,7 +659,7 @@ kept-added clauses n steps lists lists' pairs head p h more chosen before open' 
     ])
 
 -- **at the start**
-pub kept-none : (clauses : List (List Lit)) (n : ℕ) (lists : List (List Watcher)) → length lists ≡ 2 * n → All (λ (xs : List Watcher). xs ≡ []) lists → AreKept clauses n [] lists [] 0
+pub kept-none : (clauses : List (List Lit)) (n : ℕ) (lists : List (List Watcher)) → length lists ≡ 2 * n → All (λ (xs : List Watcher). xs ≡ []) lists → KeepWatches clauses n [] lists [] 0
 kept-none clauses n lists size empty =
     record {
       count = size;

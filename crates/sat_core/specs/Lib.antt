@@ -1,5 +1,5 @@
 pub mod Conflicts
-pub mod Looks
+pub mod FalseClauses
 pub mod Picks
 pub mod Steps
 pub mod Verdicts

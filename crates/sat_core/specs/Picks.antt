@@ -31,8 +31,8 @@ abbrev pub scores_of : List ℕ → List Value → List ℕ
 scores_of counts values = map (λ x. slice_index counts (x - 1)) (free_list values)
 
 -- a step that decides that a variable is false
-abbrev pub denied : ℕ → Step
-denied var = record { lit = record { var = var; positive = false }; reason = None }
+abbrev pub decision_of : ℕ → Step
+decision_of var = record { lit = record { var = var; positive = false }; reason = None }
 
 -- the rule f, which may pick these places, answered a place for the scores, and the free variable at that place was
 -- made false by decision
@@ -40,6 +40,6 @@ pub record IsDecidedBy {F : Type 0} (picks : F → List ℕ → ℕ → Type 0) 
   pub place : ℕ
   pub picked : picks f (scores_of counts old.values.items) place
   pub within : place < length (free_list old.values.items)
-  pub steps : new.steps.items ≡ old.steps.items ++ denied (slice_index (free_list old.values.items) place) ∷ []
+  pub steps : new.steps.items ≡ old.steps.items ++ decision_of (slice_index (free_list old.values.items) place) ∷ []
   pub state : (clauses : List (List Lit)) → IsTrailState clauses (var_count old) old
       → IsTrailState clauses (var_count old) new

@@ -29,8 +29,8 @@ abbrev pub lits_of : List Step → List Lit
 lits_of steps = map (λ (s : Step). s.lit) steps
 
 -- the values that the steps gave
-abbrev pub held : List Step → Partial
-held steps = partial_of (lits_of steps)
+abbrev pub trail_values : List Step → Partial
+trail_values steps = partial_of (lits_of steps)
 
 -- the clause with this id is unit for the literal
 pub record IsReason (s : Partial) (clauses : List (List Lit)) (id : ℕ) (l : Lit) : Type 0 where
@@ -40,8 +40,8 @@ pub record IsReason (s : Partial) (clauses : List (List Lit)) (id : ℕ) (l : Li
 
 -- a step makes a free literal true, by decision or by a clause that is unit for it under the steps before it
 pub record IsRightStep (clauses : List (List Lit)) (before : List Step) (step : Step) : Type 0 where
-  pub free : IsUnassigned (held before) step.lit
-  pub forced : (id : ℕ) → step.reason ≡ Some id → IsReason (held before) clauses id step.lit
+  pub free : IsUnassigned (trail_values before) step.lit
+  pub forced : (id : ℕ) → step.reason ≡ Some id → IsReason (trail_values before) clauses id step.lit
 
 -- the steps are right, one after another
 abbrev pub IsTrail : List (List Lit) → List Step → Type 0
@@ -50,17 +50,17 @@ IsTrail clauses steps =
 
 -- steps over n variables, the values that they gave, and the place of each step by its variable
 pub record AreSteps (clauses : List (List Lit)) (n : ℕ) (steps : List Step) (values : List Value)
-    (places : List ℕ) : Type 0 where
+    (indices : List ℕ) : Type 0 where
   pub trail : IsTrail clauses steps
   pub exist : All (λ (s : Step). IsLitOf n s.lit) steps
   pub size : length values ≡ n
-  pub shows : (x : ℕ) → 1 ≤ x → x ≤ n → held steps x ≡ given values x
+  pub shows : (x : ℕ) → 1 ≤ x → x ≤ n → trail_values steps x ≡ given values x
   pub room : length steps + count_by is_free values ≡ n
-  pub slots : length places ≡ n
-  pub placed : (k : ℕ) (d : Step) → k < length steps → slice_index places ((slice_index_or steps k d).lit.var - 1) ≡ k
+  pub slots : length indices ≡ n
+  pub placed : (k : ℕ) (d : Step) → k < length steps → slice_index indices ((slice_index_or steps k d).lit.var - 1) ≡ k
 
 abbrev pub IsTrailState : List (List Lit) → ℕ → Trail → Type 0
-IsTrailState clauses n trail = AreSteps clauses n trail.steps.items trail.values.items trail.places.items
+IsTrailState clauses n trail = AreSteps clauses n trail.steps.items trail.values.items trail.indices.items
 
 -- how many variables there are
 abbrev pub var_count : Trail → ℕ
@@ -74,4 +74,4 @@ Propagates old new = (added : List Step) × (new ≡ old ++ added) × All (λ (s
 abbrev pub AreClosedBefore : List (List Lit) → List Step → Type 0
 AreClosedBefore clauses steps =
     (k : ℕ) (d : Step) → k < length steps → (slice_index_or steps k d).reason ≡ None
-    → IsClosed (held (take k steps)) clauses
+    → IsClosed (trail_values (take k steps)) clauses

@@ -11,8 +11,8 @@ use Rattle.sat_core.specs.declared.watches.Pair.{Pair}
 use Rattle.sat_core.specs.declared.watches.Watches.{Watches}
 use Rattle.sat_core.specs.declared.propagation.Visit.{Visit}
 use Rattle.sat_core.specs.declared.propagation.Visit.TheVariants.{Stays, Moved, Falsified}
-use Rattle.sat_core.specs.Looks.{IsFalsified}
-use Rattle.sat_core.specs.Steps.{held}
+use Rattle.sat_core.specs.FalseClauses.{IsFalsified}
+use Rattle.sat_core.specs.Steps.{trail_values}
 
 abbrev pub no_literal : Lit
 no_literal = record { var = 0; positive = false }
@@ -53,12 +53,12 @@ abbrev pub with_watcher : List (List Watcher) → ℕ → Watcher → List (List
 with_watcher lists k w = slice_set lists k (watchers lists k ++ w ∷ [])
 
 -- the watcher at a place with another blocker
-abbrev pub renewed : List Watcher → ℕ → Lit → Watcher
-renewed list place blocker = record { clause = (slice_index_or list place no_watcher).clause; blocker = blocker }
+abbrev pub watcher_with : List Watcher → ℕ → Lit → Watcher
+watcher_with list place blocker = record { clause = (slice_index_or list place no_watcher).clause; blocker = blocker }
 
 -- the lists with it
 abbrev pub with_blocker : List (List Watcher) → ℕ → ℕ → Lit → List (List Watcher)
-with_blocker lists k place blocker = slice_set lists k (slice_set (watchers lists k) place (renewed (watchers lists k) place blocker))
+with_blocker lists k place blocker = slice_set lists k (slice_set (watchers lists k) place (watcher_with (watchers lists k) place blocker))
 
 -- a clause watches other literals: it left a list, and stands in that of the second one, where the first one blocks it
 pub record IsMoved (list place clause : ℕ) (pair : Pair) (old new : Watches) : Type 0 where
@@ -80,7 +80,7 @@ pub record IsAdded (pair : Pair) (old new : Watches) : Type 0 where
   pub pairs : new.pairs.items ≡ old.pairs.items ++ pair ∷ []
   pub head : new.head ≡ old.head
 
--- a watcher in a list: its clause was looked at and has two watched literals, and the blocker is one of its literals
+-- a watcher in a list: its clause was visited and has two watched literals, and the blocker is one of its literals
 pub record IsWatcher (clauses : List (List Lit)) (pairs : List Pair) (w : Watcher) : Type 0 where
   pub exists : w.clause < length pairs
   pub has_blocker : Contains (slice_index_or clauses w.clause []) w.blocker
@@ -90,38 +90,38 @@ pub record IsWatcher (clauses : List (List Lit)) (pairs : List Pair) (w : Watche
 abbrev pub IsTrueClause : Partial → List Lit → Type 0
 IsTrueClause s c = (l : Lit) × Contains c l × IsHeld s l
 
--- the clause needs no look: under the later values it is true, or under the earlier ones neither watched literal is false
-abbrev pub IsQuiet : Partial → Partial → List Lit → Pair → Type 0
-IsQuiet s t c p = IsTrueClause t c ⊎ ((p.a ≢ p.b) × (IsFalse s p.a → ⊥) × (IsFalse s p.b → ⊥))
+-- the clause needs no visit: under the later values it is true, or under the earlier ones neither watched literal is false
+abbrev pub NeedsNoVisit : Partial → Partial → List Lit → Pair → Type 0
+NeedsNoVisit s t c p = IsTrueClause t c ⊎ ((p.a ≢ p.b) × (IsFalse s p.a → ⊥) × (IsFalse s p.b → ⊥))
 
--- what is kept of a clause that was looked at: it was quiet before each decision, and is it but for the steps from head
+-- what is kept of a clause that was visited: it was quiet before each decision, and is it but for the steps from head
 -- on
-pub record IsKept (steps : List Step) (lists : List (List Watcher)) (head id : ℕ) (c : List Lit) (p : Pair) : Type 0 where
+pub record KeepsWatch (steps : List Step) (lists : List (List Watcher)) (head id : ℕ) (c : List Lit) (p : Pair) : Type 0 where
   pub has_a : Contains c p.a
   pub has_b : Contains c p.b
   pub listed_a : p.a ≢ p.b → StandsFrom 0 (watchers lists (list_of p.a)) id
   pub listed_b : p.a ≢ p.b → StandsFrom 0 (watchers lists (list_of p.b)) id
   pub decided : (k : ℕ) (d : Step) → k < length steps → (slice_index_or steps k d).reason ≡ None
-      → IsQuiet (held (take k steps)) (held (take k steps)) c p
-  pub looked : IsQuiet (held (take head steps)) (held steps) c p
+      → NeedsNoVisit (trail_values (take k steps)) (trail_values (take k steps)) c p
+  pub visited : NeedsNoVisit (trail_values (take head steps)) (trail_values steps) c p
 
 -- what the lists and pairs keep: steps taken back to a decision leave it, with the head not past the end
-pub record AreKept (clauses : List (List Lit)) (n : ℕ) (steps : List Step) (lists : List (List Watcher)) (pairs : List Pair)
+pub record KeepWatches (clauses : List (List Lit)) (n : ℕ) (steps : List Step) (lists : List (List Watcher)) (pairs : List Pair)
     (head : ℕ) : Type 0 where
   pub count : length lists ≡ 2 * n
   pub attached : length pairs ≤ length clauses
   pub within : head ≤ length steps
   pub right : (k : ℕ) → All (IsWatcher clauses pairs) (watchers lists k)
-  pub kept : (id : ℕ) → id < length pairs → IsKept steps lists head id (slice_index_or clauses id []) (pair_at pairs id)
+  pub kept : (id : ℕ) → id < length pairs → KeepsWatch steps lists head id (slice_index_or clauses id []) (pair_at pairs id)
 
 abbrev pub AreWatched : List (List Lit) → ℕ → List Step → Watches → Type 0
-AreWatched clauses n steps w = AreKept clauses n steps w.lists.items w.pairs.items w.head
+AreWatched clauses n steps w = KeepWatches clauses n steps w.lists.items w.pairs.items w.head
 
 -- each clause is quiet, the step at the head included, or it is in the list from a place on
 abbrev pub ArePassedIn : List (List Lit) → List Step → List (List Watcher) → List Pair → ℕ → ℕ → ℕ → Type 0
 ArePassedIn clauses steps lists pairs head list place =
     (id : ℕ) → id < length pairs
-    → IsQuiet (held (take (head + 1) steps)) (held steps) (slice_index_or clauses id []) (pair_at pairs id)
+    → NeedsNoVisit (trail_values (take (head + 1) steps)) (trail_values steps) (slice_index_or clauses id []) (pair_at pairs id)
     ⊎ StandsFrom place (watchers lists list) id
 
 abbrev pub ArePassed : List (List Lit) → List Step → Watches → Lit → ℕ → Type 0
@@ -146,18 +146,18 @@ VisitSays clauses steps s l place count w Moved =
     ArePassed clauses steps w l place × (length (watchers w.lists.items (list_of l)) + 1 ≡ count)
 VisitSays clauses steps s l place count w (Falsified id) = IsFalsified s clauses id
 
--- every clause and every step was looked at
-pub record AreLookedAt (clauses : List (List Lit)) (steps : List Step) (w : Watches) : Type 0 where
+-- every clause and every step was visited
+pub record AreVisited (clauses : List (List Lit)) (steps : List Step) (w : Watches) : Type 0 where
   pub attached : length w.pairs.items ≡ length clauses
   pub head : w.head ≡ length steps
 
 -- where a literal becomes false: the number of steps before it, or all
-abbrev pub FallsAt : List Step → Lit → ℕ → Type 0
-FallsAt steps l at = (k : ℕ) → k ≤ length steps → IsFalse (held (take k steps)) l ↔ (at < k)
+abbrev pub IsFalseFrom : List Step → Lit → ℕ → Type 0
+IsFalseFrom steps l at = (k : ℕ) → k ≤ length steps → IsFalse (trail_values (take k steps)) l ↔ (at < k)
 
 -- a literal becomes false no later than another one
 abbrev pub IsNoLater : List Step → Lit → Lit → Type 0
-IsNoLater steps m l = (k : ℕ) → k ≤ length steps → IsFalse (held (take k steps)) l → IsFalse (held (take k steps)) m
+IsNoLater steps m l = (k : ℕ) → k ≤ length steps → IsFalse (trail_values (take k steps)) l → IsFalse (trail_values (take k steps)) m
 
 -- the literal of the clause that becomes false last, but for one that is passed over, or none where there is no other
 abbrev pub IsLatest : List Step → List Lit → Option Lit → Option Lit → Type 0

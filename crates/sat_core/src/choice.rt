@@ -14,8 +14,9 @@ use cnf_core::Lit;
 pub(crate) fn watched_pair(clause: &[Lit], trail: &Trail) -> Pair
     requires some { 0 < length clause.now }
     requires exist { All (IsLitOf (var_count trail.now)) clause.now }
-    requires slots { length trail.now.places.items ≡ var_count trail.now }
-    ensures { (clauses : List (List Literal)) → IsTrailState clauses (var_count trail.now) trail.now → IsChosen trail.now.steps.items clause.now result }
+    requires slots { length trail.now.indices.items ≡ var_count trail.now }
+    ensures { (clauses : List (List Literal)) → IsTrailState clauses (var_count trail.now) trail.now
+        → IsChosen trail.now.steps.items clause.now result }
 {
     let a = latest(clause, trail, None).unwrap_or(clause[0]);
     let b = latest(clause, trail, Some(a)).unwrap_or(a);
@@ -25,9 +26,10 @@ pub(crate) fn watched_pair(clause: &[Lit], trail: &Trail) -> Pair
 /// The literal of a clause that becomes false last, but for one that is passed over.
 fn latest(clause: &[Lit], trail: &Trail, but: Option<Lit>) -> Option<Lit>
     requires exist { All (IsLitOf (var_count trail.now)) clause.now }
-    requires slots { length trail.now.places.items ≡ var_count trail.now }
+    requires slots { length trail.now.indices.items ≡ var_count trail.now }
     ensures exist { MatchOption result (Unit {0}) (IsLitOf (var_count trail.now)) }
-    ensures latest { (clauses : List (List Literal)) → IsTrailState clauses (var_count trail.now) trail.now → IsLatest trail.now.steps.items clause.now but result }
+    ensures latest { (clauses : List (List Literal)) → IsTrailState clauses (var_count trail.now) trail.now
+        → IsLatest trail.now.steps.items clause.now but result }
 {
     let mut best = None;
     for lit in clause {
@@ -39,10 +41,11 @@ fn latest(clause: &[Lit], trail: &Trail, but: Option<Lit>) -> Option<Lit>
 /// One more literal, where it becomes false later than the best so far and isn't passed over, else the best so far.
 fn later_of(trail: &Trail, lit: Lit, but: Option<Lit>, best: Option<Lit>) -> Option<Lit>
     requires exist { IsLitOf (var_count trail.now) lit }
-    requires slots { length trail.now.places.items ≡ var_count trail.now }
+    requires slots { length trail.now.indices.items ≡ var_count trail.now }
     requires best { MatchOption best (Unit {0}) (IsLitOf (var_count trail.now)) }
     ensures exist { MatchOption result (Unit {0}) (IsLitOf (var_count trail.now)) }
-    ensures later { (clauses : List (List Literal)) → IsTrailState clauses (var_count trail.now) trail.now → IsLaterOf trail.now.steps.items lit but best result }
+    ensures later { (clauses : List (List Literal)) → IsTrailState clauses (var_count trail.now) trail.now
+        → IsLaterOf trail.now.steps.items lit but best result }
 {
     if is_at(but, lit) {
         return best;
@@ -50,7 +53,7 @@ fn later_of(trail: &Trail, lit: Lit, but: Option<Lit>, best: Option<Lit>) -> Opt
     match best {
         None => Some(lit),
         Some(old) => {
-            if trail.falls(old) < trail.falls(lit) {
+            if trail.false_from(old) < trail.false_from(lit) {
                 Some(lit)
             } else {
                 best

@@ -20,7 +20,7 @@ pub(crate) struct Scores {
     /// The free variables, rising.
     pub(crate) free: Vec<u32>,
     /// The score of each of them.
-    pub(crate) seen: Vec<u64>,
+    pub(crate) free_scores: Vec<u64>,
 }
 
 impl Scores {
@@ -32,7 +32,7 @@ impl Scores {
         Ok(Scores {
             counts,
             free: Vec::new(alloc),
-            seen: Vec::new(alloc),
+            free_scores: Vec::new(alloc),
         })
     }
 
@@ -42,7 +42,9 @@ impl Scores {
         requires differ { HaveDifferentVars lemma.now }
         requires room { All (λ score. score + 1 < 2 ^ 64) self.old.counts.items }
         ensures size { length self.new.counts.items ≡ length self.old.counts.items }
-        ensures counts { (x : ℕ) → 1 ≤ x → x ≤ length self.old.counts.items → slice_index self.new.counts.items (x - 1) ≡ slice_index self.old.counts.items (x - 1) + (if has_var lemma.now x then 1 else 0) }
+        ensures counts { (x : ℕ) → 1 ≤ x → x ≤ length self.old.counts.items
+            → slice_index self.new.counts.items (x - 1)
+            ≡ slice_index self.old.counts.items (x - 1) + (if has_var lemma.now x then 1 else 0) }
     {
         for lit in lemma {
             self.counts[(lit.var - 1) as usize] += 1;
@@ -66,13 +68,13 @@ fn list_free(free: &mut Vec<u32>, values: &[Value]) -> Result<(), NoMemory>
 }
 
 /// The score of each of these variables.
-fn list_scores(seen: &mut Vec<u64>, free: &[u32], counts: &[u64]) -> Result<(), NoMemory>
+fn list_scores(free_scores: &mut Vec<u64>, free: &[u32], counts: &[u64]) -> Result<(), NoMemory>
     requires { All (λ x. (1 ≤ x) × (x ≤ length counts.now)) free.now }
-    ensures { OnOk result (seen.new.items ≡ map (λ x. slice_index counts.now (x - 1)) free.now) }
+    ensures { OnOk result (free_scores.new.items ≡ map (λ x. slice_index counts.now (x - 1)) free.now) }
 {
-    seen.clear();
+    free_scores.clear();
     for var in free {
-        seen.push(counts[(*var - 1) as usize])?;
+        free_scores.push(counts[(*var - 1) as usize])?;
     }
     Ok(())
 }
@@ -84,17 +86,19 @@ pub(crate) fn decide<F: Rule>(
     scores: &mut Scores,
 ) -> Result<bool, NoMemory>
     requires few { var_count trail.old < 2 ^ 29 }
-    requires slots { length trail.old.places.items ≡ var_count trail.old }
+    requires slots { length trail.old.indices.items ≡ var_count trail.old }
     requires size { length scores.old.counts.items ≡ var_count trail.old }
-    ensures decided { IfOk result (λ more. MatchBool more (IsDecidedBy F.picks picker.now scores.old.counts.items trail.old trail.new) ((free_list trail.old.values.items ≡ []) × (trail.new ≡ trail.old))) }
+    ensures decided { IfOk result (λ more. MatchBool more
+        (IsDecidedBy F.picks picker.now scores.old.counts.items trail.old trail.new)
+        ((free_list trail.old.values.items ≡ []) × (trail.new ≡ trail.old))) }
     ensures counts { OnOk result (scores.new.counts ≡ scores.old.counts) }
 {
     list_free(&mut scores.free, trail.values.as_slice())?;
     if scores.free.is_empty() {
         return Ok(false);
     }
-    list_scores(&mut scores.seen, &scores.free, &scores.counts)?;
-    let place = picker.pick(&scores.seen);
+    list_scores(&mut scores.free_scores, &scores.free, &scores.counts)?;
+    let place = picker.pick(&scores.free_scores);
     let lit = Lit {
         var: scores.free[place],
         positive: false,

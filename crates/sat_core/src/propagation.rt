@@ -1,20 +1,19 @@
-// Unit propagation by two watched literals: literals made true, each by a clause that is unit, until no clause is unit or
-// one is false.
+// Unit propagation by two watched literals.
 ghost use Rattle.std.specs.Prelude.{◌≡◌, ◌≢◌, ◌⊎◌, ◌+◌, ◌^◌, ◌<◌, ◌≤◌, [], length, OnOk, IfOk, MatchOption, None, slice_index_or};
 ghost use Rattle.std.specs.List.{All, AllWithin};
 ghost use Rattle.cnf_core.specs.Formula.{AreOver, IsLitOf};
 ghost use Rattle.cnf_core.specs.Values.{IsClosed, IsOpenClause, IsFalse};
 ghost use Rattle.sat_core.specs.Steps.{given, var_count, IsTrailState, Propagates, AreClosedBefore};
-ghost use Rattle.sat_core.specs.Looks.{IsFalsified};
-ghost use Rattle.sat_core.specs.Watches.{list_of, watchers, AreWatched, ArePassed, IsFalsifiedAt, IsReplacement, VisitSays, AreLookedAt};
+ghost use Rattle.sat_core.specs.FalseClauses.{IsFalsified};
+ghost use Rattle.sat_core.specs.Watches.{list_of, watchers, AreWatched, ArePassed, IsFalsifiedAt, IsReplacement, VisitSays, AreVisited};
 
 use crate::choice::watched_pair;
 use crate::trail::{Step, Trail};
 use crate::watches::{Pair, Watches, list_place};
-use cnf_core::{Clauses, Lit, Look, look_at};
+use cnf_core::{ClauseStatus, Clauses, Lit, status_of};
 use items::NoMemory;
 
-/// What became of the watcher at a place of a list.
+/// Result of a visit to one watcher.
 #[derive(Clone, Copy)]
 pub(crate) enum Visit {
     /// It is still there: its clause has a true literal.
@@ -25,8 +24,9 @@ pub(crate) enum Visit {
     Falsified(u32),
 }
 
-/// Makes literals true, each by a clause that is unit under those before it, until no clause is unit or one is false: the
-/// id of that one. Each new clause is looked at once, and after it those alone that watch a literal that became false.
+/// Unit propagation: makes literals true, each by a clause that is unit under those before it, until no clause is unit or
+/// one is false: the id of that one. Each new clause is visited once, and after it those alone that watch a literal that
+/// became false.
 pub(crate) fn propagate(
     clauses: &Clauses,
     trail: &mut Trail,
@@ -39,9 +39,10 @@ pub(crate) fn propagate(
     requires watched { AreWatched clauses.now (var_count trail.old) trail.old.steps.items watches.old }
     ensures state { OnOk result (IsTrailState clauses.now (var_count trail.old) trail.new) }
     ensures adds { OnOk result (Propagates trail.old.steps.items trail.new.steps.items) }
-    ensures done { IfOk result (λ o. MatchOption o (IsClosed (given trail.new.values.items) clauses.now) (IsFalsified (given trail.new.values.items) clauses.now)) }
+    ensures done { IfOk result (λ o. MatchOption o (IsClosed (given trail.new.values.items) clauses.now)
+        (IsFalsified (given trail.new.values.items) clauses.now)) }
     ensures watched { OnOk result (AreWatched clauses.now (var_count trail.old) trail.new.steps.items watches.new) }
-    ensures looked { IfOk result (λ o. o ≡ None → AreLookedAt clauses.now trail.new.steps.items watches.new) }
+    ensures visited { IfOk result (λ o. o ≡ None → AreVisited clauses.now trail.new.steps.items watches.new) }
 {
     if let Some(id) = attach_new(clauses, trail, watches)? {
         return Ok(Some(id));
@@ -54,7 +55,7 @@ pub(crate) fn propagate(
     Ok(None)
 }
 
-/// Gives each clause that wasn't looked at its watched literals, and makes its literal true where it is unit.
+/// Gives each clause that wasn't visited its watched literals, and makes its literal true where it is unit.
 fn attach_new(
     clauses: &Clauses,
     trail: &mut Trail,
@@ -68,7 +69,8 @@ fn attach_new(
     ensures state { OnOk result (IsTrailState clauses.now (var_count trail.old) trail.new) }
     ensures adds { OnOk result (Propagates trail.old.steps.items trail.new.steps.items) }
     ensures watched { OnOk result (AreWatched clauses.now (var_count trail.old) trail.new.steps.items watches.new) }
-    ensures done { IfOk result (λ o. MatchOption o (length watches.new.pairs.items ≡ length clauses.now) (IsFalsified (given trail.new.values.items) clauses.now)) }
+    ensures done { IfOk result (λ o. MatchOption o (length watches.new.pairs.items ≡ length clauses.now)
+        (IsFalsified (given trail.new.values.items) clauses.now)) }
 {
     while watches.pairs.len() < clauses.len() {
         if let Some(id) = assert_unit(clauses, trail, watches.pairs.len())? {
@@ -87,19 +89,21 @@ fn assert_unit(clauses: &Clauses, trail: &mut Trail, place: usize) -> Result<Opt
     requires place { place < length clauses.now }
     ensures state { OnOk result (IsTrailState clauses.now (var_count trail.old) trail.new) }
     ensures adds { OnOk result (Propagates trail.old.steps.items trail.new.steps.items) }
-    ensures done { IfOk result (λ o. MatchOption o (IsOpenClause (given trail.new.values.items) (slice_index_or clauses.now place [])) (IsFalsified (given trail.new.values.items) clauses.now)) }
+    ensures done { IfOk result (λ o. MatchOption o
+        (IsOpenClause (given trail.new.values.items) (slice_index_or clauses.now place []))
+        (IsFalsified (given trail.new.values.items) clauses.now)) }
 {
     let id = place as u32 + 1;
-    match look_at(clauses.get(place), trail) {
-        Look::Unit(lit) => {
+    match status_of(clauses.get(place), trail) {
+        ClauseStatus::Unit(lit) => {
             trail.assign(Step {
                 lit,
                 reason: Some(id),
             })?;
             Ok(None)
         }
-        Look::Falsified => Ok(Some(id)),
-        Look::Open => Ok(None),
+        ClauseStatus::Falsified => Ok(Some(id)),
+        ClauseStatus::Open => Ok(None),
     }
 }
 
@@ -111,7 +115,8 @@ fn attach(clauses: &Clauses, trail: &Trail, watches: &mut Watches) -> Result<(),
     requires before { AreClosedBefore clauses.now trail.now.steps.items }
     requires watched { AreWatched clauses.now (var_count trail.now) trail.now.steps.items watches.old }
     requires more { length watches.old.pairs.items < length clauses.now }
-    requires opens { IsOpenClause (given trail.now.values.items) (slice_index_or clauses.now (length watches.old.pairs.items) []) }
+    requires opens { IsOpenClause (given trail.now.values.items)
+        (slice_index_or clauses.now (length watches.old.pairs.items) []) }
     ensures watched { OnOk result (AreWatched clauses.now (var_count trail.now) trail.now.steps.items watches.new) }
     ensures count { OnOk result (length watches.new.pairs.items ≡ length watches.old.pairs.items + 1) }
 {
@@ -120,7 +125,7 @@ fn attach(clauses: &Clauses, trail: &Trail, watches: &mut Watches) -> Result<(),
     Ok(())
 }
 
-/// Looks at each clause that watches the literal that the step at the head made false, and moves the head on.
+/// Visits each clause that watches the literal that the step at the head made false, and moves the head on.
 fn visit_list(
     clauses: &Clauses,
     trail: &mut Trail,
@@ -135,7 +140,8 @@ fn visit_list(
     ensures adds { OnOk result (Propagates trail.old.steps.items trail.new.steps.items) }
     ensures watched { OnOk result (AreWatched clauses.now (var_count trail.old) trail.new.steps.items watches.new) }
     ensures attached { OnOk result (length watches.new.pairs.items ≡ length watches.old.pairs.items) }
-    ensures done { IfOk result (λ o. MatchOption o (watches.new.head ≡ watches.old.head + 1) (IsFalsified (given trail.new.values.items) clauses.now)) }
+    ensures done { IfOk result (λ o. MatchOption o (watches.new.head ≡ watches.old.head + 1)
+        (IsFalsified (given trail.new.values.items) clauses.now)) }
 {
     let lit = trail.steps[watches.head].lit.negated();
     let list = list_place(lit);
@@ -151,7 +157,7 @@ fn visit_list(
     Ok(None)
 }
 
-/// Looks at the clause of the watcher at a place of the list of a literal that the step at the head made false.
+/// Visits the clause of the watcher at a place of the list of a literal that the step at the head made false.
 fn visit_watcher(
     clauses: &Clauses,
     trail: &mut Trail,
@@ -172,7 +178,8 @@ fn visit_watcher(
     ensures watched { OnOk result (AreWatched clauses.now (var_count trail.old) trail.new.steps.items watches.new) }
     ensures attached { OnOk result (length watches.new.pairs.items ≡ length watches.old.pairs.items) }
     ensures head { OnOk result (watches.new.head ≡ watches.old.head) }
-    ensures says { IfOk result (VisitSays clauses.now trail.new.steps.items (given trail.new.values.items) lit place (length (watchers watches.old.lists.items (list_of lit))) watches.new) }
+    ensures says { IfOk result (VisitSays clauses.now trail.new.steps.items (given trail.new.values.items) lit place
+        (length (watchers watches.old.lists.items (list_of lit))) watches.new) }
 {
     let list = list_place(lit);
     let watcher = watches.lists[list].get(place);
@@ -222,7 +229,8 @@ fn other_than(pair: Pair, lit: Lit) -> Lit
 /// first before it.
 fn replacement(clause: &[Lit], other: Lit, trail: &Trail, saved: usize) -> Option<usize>
     requires exist { All (IsLitOf (var_count trail.now)) clause.now }
-    ensures { MatchOption result (All (λ m. (m ≡ other) ⊎ IsFalse (given trail.now.values.items) m) clause.now) (IsReplacement (given trail.now.values.items) clause.now other) }
+    ensures { MatchOption result (All (λ m. (m ≡ other) ⊎ IsFalse (given trail.now.values.items) m) clause.now)
+        (IsReplacement (given trail.now.values.items) clause.now other) }
 {
     let middle = saved.min(clause.len());
     match first_between(clause, other, trail, middle, clause.len()) {
@@ -241,7 +249,9 @@ fn first_between(
 ) -> Option<usize>
     requires exist { All (IsLitOf (var_count trail.now)) clause.now }
     requires end { end ≤ length clause.now }
-    ensures { MatchOption result (AllWithin (λ m. (m ≡ other) ⊎ IsFalse (given trail.now.values.items) m) clause.now start end) (IsReplacement (given trail.now.values.items) clause.now other) }
+    ensures { MatchOption result (AllWithin
+        (λ m. (m ≡ other) ⊎ IsFalse (given trail.now.values.items) m) clause.now start end)
+        (IsReplacement (given trail.now.values.items) clause.now other) }
 {
     for at in start..end {
         if clause[at] != other && !trail.is_false(clause[at]) {

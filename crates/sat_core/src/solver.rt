@@ -4,7 +4,7 @@ ghost use Rattle.cnf_core.specs.Formula.{AreOver};
 ghost use Rattle.cnf_core.specs.Values.{IsClosed};
 ghost use Rattle.cnf_core.specs.Outcome.{IsSolved, IsRefuted, IsSpent};
 ghost use Rattle.sat_core.specs.Steps.{value_of, given, var_count, IsTrailState, AreClosedBefore};
-ghost use Rattle.sat_core.specs.Looks.{IsFalsified};
+ghost use Rattle.sat_core.specs.FalseClauses.{IsFalsified};
 ghost use Rattle.sat_core.specs.Picks.{free_list};
 ghost use Rattle.sat_core.specs.Watches.{AreWatched};
 ghost use Rattle.sat_core.specs.Verdicts.{IfSat, IfRefuted, IfSpent};
@@ -31,9 +31,10 @@ pub enum Verdict {
 }
 
 /// Searches for values that satisfy the formula, with at most so many conflicts. Each decision is the free variable at the
-/// picker's place among one score for each free variable, rising, and it is tried false first. Each conflict takes one
-/// line: the first unique implication point, with the clauses that it was resolved from as hints. Memory grows with the
-/// formula and with what is learnt, not with `conflicts`.
+/// picker's place among one score for each free variable, rising, and it is tried false first. A score is the number of
+/// lemmas so far that have the variable. Each conflict takes one line: the first unique implication point, with the
+/// clauses that it was resolved from as hints. Memory grows with the formula and with what is learnt, not with
+/// `conflicts`.
 pub fn solve<F: Rule>(
     alloc: Global,
     cnf: &Cnf,
@@ -101,7 +102,9 @@ fn advance<F: Rule>(
     ensures before { OnOk result (AreClosedBefore clauses.now trail.new.steps.items) }
     ensures watched { OnOk result (AreWatched clauses.now (var_count trail.old) trail.new.steps.items watches.new) }
     ensures scores { OnOk result (scores.new.counts ≡ scores.old.counts) }
-    ensures done { IfOk result (λ o. MatchOption o (IsClosed (given trail.new.values.items) clauses.now × (free_list trail.new.values.items ≡ [])) (IsFalsified (given trail.new.values.items) clauses.now)) }
+    ensures done { IfOk result (λ o. MatchOption o
+        (IsClosed (given trail.new.values.items) clauses.now × (free_list trail.new.values.items ≡ []))
+        (IsFalsified (given trail.new.values.items) clauses.now)) }
 {
     loop {
         if let Some(id) = propagate(clauses, trail, watches)? {

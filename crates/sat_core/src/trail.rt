@@ -5,7 +5,7 @@ ghost use Rattle.cnf_core.specs.declared.literal.Lit.{Lit as Literal};
 ghost use Rattle.cnf_core.specs.Formula.{IsLitOf};
 ghost use Rattle.cnf_core.specs.Values.{IsHeld, IsFalse};
 ghost use Rattle.sat_core.specs.Steps.{value_of, is_free, given, IsTrailState, IsRightStep, var_count};
-ghost use Rattle.sat_core.specs.Watches.{FallsAt};
+ghost use Rattle.sat_core.specs.Watches.{IsFalseFrom};
 
 use cnf_core::{Lit, Values};
 use items::NoMemory;
@@ -31,11 +31,7 @@ impl Value {
     pub(crate) fn makes_true(self, positive: bool) -> bool
         ensures { IsTrue result ↔ (value_of self ≡ Some positive) }
     {
-        match self {
-            Value::Unassigned => false,
-            Value::False => !positive,
-            Value::True => positive,
-        }
+        self as u8 == 1 + positive as u8
     }
 
     pub(crate) fn is_unassigned(self) -> bool
@@ -65,12 +61,13 @@ pub(crate) struct Step {
     pub(crate) reason: Option<u32>,
 }
 
-/// The steps so far. The place of a step is kept by its variable, and stays when the step is taken back.
+/// The steps so far, the value of each variable, and the place of its step on the trail, which stays when the step is
+/// taken back.
 #[derive(Drop)]
 pub(crate) struct Trail {
     pub(crate) steps: Vec<Step>,
     pub(crate) values: Vec<Value>,
-    pub(crate) places: Vec<usize>,
+    pub(crate) indices: Vec<usize>,
 }
 
 impl Values for Trail {
@@ -91,11 +88,11 @@ impl Trail {
         ensures none { IfOk result (λ trail. trail.steps.items ≡ []) }
     {
         let values = vec![in alloc; Value::Unassigned; vars as usize]?;
-        let places = vec![in alloc; 0usize; vars as usize]?;
+        let indices = vec![in alloc; 0usize; vars as usize]?;
         Ok(Trail {
             steps: Vec::new(alloc),
             values,
-            places,
+            indices,
         })
     }
 
@@ -118,13 +115,14 @@ impl Trail {
     }
 
     /// How many steps there are before the one that made a literal false, or all of them where it isn't false.
-    pub(crate) fn falls(&self, lit: Lit) -> usize
+    pub(crate) fn false_from(&self, lit: Lit) -> usize
         requires exist { IsLitOf (var_count self.now) lit }
-        requires slots { length self.now.places.items ≡ var_count self.now }
-        ensures { (clauses : List (List Literal)) → IsTrailState clauses (var_count self.now) self.now → FallsAt self.now.steps.items lit result }
+        requires slots { length self.now.indices.items ≡ var_count self.now }
+        ensures { (clauses : List (List Literal)) → IsTrailState clauses (var_count self.now) self.now
+            → IsFalseFrom self.now.steps.items lit result }
     {
         if self.is_false(lit) {
-            self.places[(lit.var - 1) as usize]
+            self.indices[(lit.var - 1) as usize]
         } else {
             self.steps.len()
         }
@@ -133,22 +131,25 @@ impl Trail {
     /// Makes a free literal true.
     pub(crate) fn assign(&mut self, step: Step) -> Result<(), NoMemory>
         requires exist { IsLitOf (var_count self.old) step.lit }
-        requires slots { length self.old.places.items ≡ var_count self.old }
-        ensures state { OnOk result ((clauses : List (List Literal)) → IsTrailState clauses (var_count self.old) self.old → IsRightStep clauses self.old.steps.items step → IsTrailState clauses (var_count self.old) self.new) }
+        requires slots { length self.old.indices.items ≡ var_count self.old }
+        ensures state { OnOk result ((clauses : List (List Literal))
+            → IsTrailState clauses (var_count self.old) self.old → IsRightStep clauses self.old.steps.items step
+            → IsTrailState clauses (var_count self.old) self.new) }
         ensures steps { OnOk result (self.new.steps.items ≡ self.old.steps.items ++ step ∷ []) }
     {
         let place = self.steps.len();
         self.steps.push(step)?;
         let index = (step.lit.var - 1) as usize;
         self.values[index] = Value::of(step.lit.positive);
-        self.places[index] = place;
+        self.indices[index] = place;
         Ok(())
     }
 
     /// Takes all steps back but the first, as many as `count`.
     pub(crate) fn cut(&mut self, count: usize)
         requires exist { All (λ s. IsLitOf (var_count self.old) s.lit) self.old.steps.items }
-        ensures state { (clauses : List (List Literal)) → IsTrailState clauses (var_count self.old) self.old → IsTrailState clauses (var_count self.old) self.new }
+        ensures state { (clauses : List (List Literal)) → IsTrailState clauses (var_count self.old) self.old
+            → IsTrailState clauses (var_count self.old) self.new }
         ensures steps { self.new.steps.items ≡ take count self.old.steps.items }
     {
         while self.steps.len() > count {

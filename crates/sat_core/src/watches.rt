@@ -1,14 +1,14 @@
 // The watched literals: two of each clause, and the clauses that watch a literal.
 ghost use Rattle.std.specs.Prelude.{◌≡◌, ◌^◌, ◌<◌, ◌≤◌, [], ◌∷◌, ◌++◌, List, length, min, OnOk, IfOk, slice_index_or, slice_set};
 ghost use Rattle.cnf_core.specs.declared.literal.Lit.{Lit as Literal};
-ghost use Rattle.sat_core.specs.Watches.{no_watcher, list_of, watchers, renewed, with_blocker, with_watcher, IsRemoved, IsMoved, IsAdded, AreWatched};
+ghost use Rattle.sat_core.specs.Watches.{no_watcher, list_of, watchers, watcher_with, with_blocker, with_watcher, IsRemoved, IsMoved, IsAdded, AreWatched};
 
 use cnf_core::Lit;
 use items::NoMemory;
 use std::alloc::Global;
 use std::marker::Model;
 
-/// A clause that watches a literal, by its place. Where the blocker, a literal of it, is true, the clause needs no look.
+/// A clause that watches a literal, by its place. Where the blocker, one of its literals, is true, it needs no visit.
 #[derive(Clone, Copy)]
 pub(crate) struct Watcher {
     pub(crate) clause: u32,
@@ -71,7 +71,7 @@ impl WatchList {
     /// Gives the watcher at a place another blocker.
     pub(crate) fn renew(&mut self, place: usize, blocker: Lit)
         requires { place < length self.old }
-        ensures { self.new ≡ slice_set self.old place (renewed self.old place blocker) }
+        ensures { self.new ≡ slice_set self.old place (watcher_with self.old place blocker) }
     {
         self.watchers[place].blocker = blocker;
     }
@@ -85,8 +85,8 @@ impl WatchList {
     }
 }
 
-/// The lists of watchers by literal, the pairs of the clauses that were looked at, and how many steps of the trail were
-/// looked at.
+/// The lists of watchers by literal, the pairs of the clauses that were visited, and how many steps of the trail were
+/// visited.
 #[derive(Drop)]
 pub(crate) struct Watches {
     pub(crate) lists: Vec<WatchList>,
@@ -103,7 +103,7 @@ pub(crate) fn list_place(lit: Lit) -> usize
 }
 
 impl Watches {
-    /// No clause was looked at, over this many variables.
+    /// No clause was visited, over this many variables.
     pub(crate) fn new(alloc: Global, vars: u32) -> Result<Watches, NoMemory>
         ensures { IfOk result (λ watches. (clauses : List (List Literal)) → AreWatched clauses vars [] watches) }
     {

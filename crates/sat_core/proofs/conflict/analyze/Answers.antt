@@ -23,7 +23,7 @@ loop-analysis-preserved c =
       within = omega arith;
       last = subst (IsLastDecision steps) (sym e.last) h.last;
       walked = e.walked;
-      leads = e.leads conflict (subst (λ (i : ℕ). LeadsToConflict clauses steps i a.needed.items a.lits.items (reverse a.hints.items) conflict) at h.leads);
+      leads = e.leads conflict (subst (λ (i : ℕ). LeadsToConflict clauses steps i a.seen.items a.lits.items (reverse a.hints.items) conflict) at h.leads);
       stays = e.stays (subst (λ (i : ℕ). IsBackjump steps i a.backjump a.lits.items) at h.stays);
       back = e.back h.back;
     }
@@ -48,7 +48,7 @@ returns-clause-leads c =
     let clauses = c.args.clauses.now in
     let conflict = clause_at clauses c.args.id in
     let end = c.loop-analysis-test.false in
-    subst (λ (x : Analysis). LeadsToConflict clauses t.steps.items 0 x.needed.items x.lits.items (reverse x.hints.items) conflict) (sym c.end.ensures)
+    subst (λ (x : Analysis). LeadsToConflict clauses t.steps.items 0 x.seen.items x.lits.items (reverse x.hints.items) conflict) (sym c.end.ensures)
     (leads-end clauses (var_count t) t.steps.items c.loop-analysis.place a (reverse a.hints.items) conflict (omega arith) h.walked h.leads)
 
 pub returns-clause-stays : goal.returns-clause-stays

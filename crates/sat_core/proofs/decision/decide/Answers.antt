@@ -1,7 +1,7 @@
 use Rattle.std.proofs.Common.{◌≡◌, ℕ, ◌≤◌, ◌-◌, ◌++◌, ◌∷◌, [], List, length, false, get_or, map, sym, ap, ◌∙◌, subst}
 use Rattle.std.specs.List.{All}
 use Rattle.sat_core.specs.Steps.{var_count}
-use Rattle.sat_core.specs.Picks.{free_list, scores_of, denied}
+use Rattle.sat_core.specs.Picks.{free_list, scores_of, decision_of}
 use Rattle.sat_core.proofs.Picking.{free-exist, picked-at}
 use Rattle.sat_core.proofs.States.{decision-right}
 use Rattle.sat_core.proofs.decision.decide.Goals as goal
@@ -40,7 +40,7 @@ returns-clause-decided g c =
       place = c.pick-place.result;
       picked = subst (λ (xs : List ℕ). g.F.Rule.picks c.args.picker.now xs c.pick-place.result) scores c.pick-place.ensures.rule;
       within = p.within;
-      steps = c.in_ok-assign.ensures.steps ∙ ap (λ (x : ℕ). old.steps.items ++ denied x ∷ []) p.is;
+      steps = c.in_ok-assign.ensures.steps ∙ ap (λ (x : ℕ). old.steps.items ++ decision_of x ∷ []) p.is;
       state = λ clauses h. c.in_ok-assign.ensures.state clauses h
-          (decision-right clauses (var_count old) old.steps.items values old.places.items (record { var = c.index.result.now; positive = false }) h p.above p.exists p.free);
+          (decision-right clauses (var_count old) old.steps.items values old.indices.items (record { var = c.index.result.now; positive = false }) h p.above p.exists p.free);
     }

@@ -3,8 +3,8 @@ use Rattle.std.specs.Prelude.{MatchBool, MatchOption, slice_index}
 use Rattle.cnf_core.specs.Values.{IsClosed}
 use Rattle.sat_core.specs.declared.trail.Trail.{Trail}
 use Rattle.sat_core.specs.Steps.{given, var_count, AreClosedBefore}
-use Rattle.sat_core.specs.Looks.{IsFalsified}
-use Rattle.sat_core.specs.Picks.{IsDecidedBy, free_list, denied}
+use Rattle.sat_core.specs.FalseClauses.{IsFalsified}
+use Rattle.sat_core.specs.Picks.{IsDecidedBy, free_list, decision_of}
 use Rattle.sat_core.specs.declared.trail.Step.{Step}
 use Rattle.sat_core.specs.Watches.{AreWatched}
 use Rattle.sat_core.proofs.Watching.{kept-push}
@@ -52,17 +52,17 @@ loop-id-preserved g c =
     let h = c.loop-id.invariant in
     let d = subst (λ (b : Bool). MatchBool b (IsDecidedBy g.F.Rule.picks c.args.picker.now c.loop-id.scores.counts.items mid c.decide.new.trail) ((free_list mid.values.items ≡ []) × (c.decide.new.trail ≡ mid))) c.if-not-branch.false c.in_ok-decide.ensures.decided in
     let closed = subst (λ (o : Option ℕ). MatchOption o (IsClosed (given mid.values.items) clauses) (IsFalsified (given mid.values.items) clauses)) c.in_default.is c.in_ok-id.ensures.done in
-    let a = advanced clauses (var_count c.args.trail.now) c.loop-id.trail mid c.decide.new.trail (denied (slice_index (free_list mid.values.items) d.place)) c.requires.exist h.size h.before c.in_ok-id.ensures.state c.in_ok-id.ensures.adds closed d.steps d.state in
+    let a = advanced clauses (var_count c.args.trail.now) c.loop-id.trail mid c.decide.new.trail (decision_of (slice_index (free_list mid.values.items) d.place)) c.requires.exist h.size h.before c.in_ok-id.ensures.state c.in_ok-id.ensures.adds closed d.steps d.state in
     let w = c.propagate.new.watches in
-    let step : Step = denied (slice_index (free_list mid.values.items) d.place) in
-    let looked = c.in_ok-id.ensures.looked c.in_default.is in
+    let step : Step = decision_of (slice_index (free_list mid.values.items) d.place) in
+    let visited = c.in_ok-id.ensures.visited c.in_default.is in
     record {
       state = a.state;
       before = a.before;
       size = a.size;
       watched = subst (λ (ss : List Step). AreWatched clauses (var_count c.args.trail.now) ss w) (sym d.steps)
           (subst (λ (n : ℕ). AreWatched clauses n (mid.steps.items ++ step ∷ []) w) h.size
-          (kept-push clauses (var_count c.loop-id.trail) mid.steps.items w.lists.items w.pairs.items w.head step (λ none. looked.head) c.in_ok-id.ensures.watched));
+          (kept-push clauses (var_count c.loop-id.trail) mid.steps.items w.lists.items w.pairs.items w.head step (λ none. visited.head) c.in_ok-id.ensures.watched));
       scores = c.in_ok-decide.ensures.counts ∙ h.scores;
     }
 
@@ -73,7 +73,7 @@ loop-id-smaller g c =
     let h = c.loop-id.invariant in
     let d = subst (λ (b : Bool). MatchBool b (IsDecidedBy g.F.Rule.picks c.args.picker.now c.loop-id.scores.counts.items mid c.decide.new.trail) ((free_list mid.values.items ≡ []) × (c.decide.new.trail ≡ mid))) c.if-not-branch.false c.in_ok-decide.ensures.decided in
     let closed = subst (λ (o : Option ℕ). MatchOption o (IsClosed (given mid.values.items) clauses) (IsFalsified (given mid.values.items) clauses)) c.in_default.is c.in_ok-id.ensures.done in
-    let a = advanced clauses (var_count c.args.trail.now) c.loop-id.trail mid c.decide.new.trail (denied (slice_index (free_list mid.values.items) d.place)) c.requires.exist h.size h.before c.in_ok-id.ensures.state c.in_ok-id.ensures.adds closed d.steps d.state in
+    let a = advanced clauses (var_count c.args.trail.now) c.loop-id.trail mid c.decide.new.trail (decision_of (slice_index (free_list mid.values.items) d.place)) c.requires.exist h.size h.before c.in_ok-id.ensures.state c.in_ok-id.ensures.adds closed d.steps d.state in
     let size = h.size in
     let size' = a.size in
     let grown = a.grown in

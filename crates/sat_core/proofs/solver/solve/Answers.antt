@@ -12,9 +12,9 @@ use Rattle.sat_core.specs.declared.trail.Step.{Step}
 use Rattle.sat_core.specs.declared.trail.Value.{Value}
 use Rattle.sat_core.specs.declared.watches.Watches.{Watches}
 use Rattle.sat_core.specs.Steps.{value_of, given, var_count, IsTrailState}
-use Rattle.sat_core.specs.Watches.{AreWatched, AreKept}
+use Rattle.sat_core.specs.Watches.{AreWatched, KeepWatches}
 use Rattle.sat_core.proofs.Watching.{kept-cut, kept-more}
-use Rattle.sat_core.specs.Looks.{IsFalsified}
+use Rattle.sat_core.specs.FalseClauses.{IsFalsified}
 use Rattle.sat_core.specs.Picks.{free_list, has_var, AreScores}
 use Rattle.sat_core.proofs.Scoring.{scores-none, scores-room, scores-add}
 use Rattle.sat_core.proofs.Searching.{IsSearch, search-none, search-moved, search-more, search-refuted, search-spent, search-solved}
@@ -108,9 +108,9 @@ loop-made-preserved g c =
           let size = c.in_ok-line-in-Some.ensures.size ∙ c.in_ok-advance.ensures.state.size in
           let m = var_count c.learn.new.trail in
           subst (λ (x : Watches). AreWatched c.push.new.self m steps x) (sym c.take_back.ensures)
-          (subst (λ (k : ℕ). AreKept c.push.new.self m steps old.lists.items old.pairs.items (min old.head k)) (sym (c.len.ensures ∙ c.learn.new.trail.steps.ok.0))
-          (subst (λ (cs : List (List Lit)). AreKept cs m steps old.lists.items old.pairs.items (min old.head (length steps))) (sym is-clauses)
-          (subst (λ (k : ℕ). AreKept (clauses ++ line.lits ∷ []) k steps old.lists.items old.pairs.items (min old.head (length steps))) (sym size) more))));
+          (subst (λ (k : ℕ). KeepWatches c.push.new.self m steps old.lists.items old.pairs.items (min old.head k)) (sym (c.len.ensures ∙ c.learn.new.trail.steps.ok.0))
+          (subst (λ (cs : List (List Lit)). KeepWatches cs m steps old.lists.items old.pairs.items (min old.head (length steps))) (sym is-clauses)
+          (subst (λ (k : ℕ). KeepWatches (clauses ++ line.lits ∷ []) k steps old.lists.items old.pairs.items (min old.head (length steps))) (sym size) more))));
       scored =
           (let n = var_count c.loop-made.trail in
           let counts = c.advance.new.scores.counts.items in

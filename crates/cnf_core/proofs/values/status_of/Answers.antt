@@ -3,9 +3,9 @@ use Rattle.std.specs.List.{All}
 use Rattle.std.proofs.lemmas.List.{take_all}
 use Rattle.cnf_core.specs.declared.literal.Lit.{Lit}
 use Rattle.cnf_core.specs.Values.{IsFalse}
-use Rattle.cnf_core.proofs.Looking.{UnitSoFar, false-value, unit-false, unit-found, unit-again}
-use Rattle.cnf_core.proofs.values.look_at.Goals as goal
-use Rattle.cnf_core.proofs.values.look_at.Goals.{in-Some+else-positive-lit, in-None, in-Some-found+else-ne, in_default}
+use Rattle.cnf_core.proofs.Scanning.{UnitSoFar, false-value, unit-false, unit-found, unit-again}
+use Rattle.cnf_core.proofs.values.status_of.Goals as goal
+use Rattle.cnf_core.proofs.values.status_of.Goals.{in-Some+else-positive-lit, in-None, in-Some-found+else-ne, in_default}
 
 pub loop-lit-preserved : goal.loop-lit-preserved
 loop-lit-preserved g c =
