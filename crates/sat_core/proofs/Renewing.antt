@@ -9,7 +9,7 @@ use Rattle.sat_core.specs.declared.trail.Step.{Step}
 use Rattle.sat_core.specs.declared.watches.Watcher.{Watcher}
 use Rattle.sat_core.specs.declared.watches.Pair.{Pair}
 use Rattle.sat_core.specs.Watches.{no_watcher, list_of, watchers, with_blocker, watcher_with, pair_at, StandsFrom, IsWatcher, KeepWatches, ArePassedIn}
-use Rattle.sat_core.proofs.Watching.{set-at}
+use Rattle.sat_core.proofs.Exchanging.{set-at}
 
 renewed-at : (xs : List Watcher) (place j : ℕ) (blocker : Lit) → place < length xs → (get_or (set xs place (watcher_with xs place blocker)) j no_watcher).clause ≡ (get_or xs j no_watcher).clause
 renewed-at xs place j blocker few =

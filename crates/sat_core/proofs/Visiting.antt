@@ -19,7 +19,9 @@ use Rattle.sat_core.proofs.Holding.{held-push-same}
 use Rattle.sat_core.proofs.Agreeing.{open-agrees}
 use Rattle.sat_core.proofs.States.{agree}
 use Rattle.sat_core.proofs.Quiet.{lit-cases, false-at}
-use Rattle.sat_core.proofs.Watching.{list-within, stays-one, kept-push, passed-push, passed-next, kept-added, IsExchange}
+use Rattle.sat_core.proofs.Attaching.{kept-added}
+use Rattle.sat_core.proofs.Exchanging.{stays-one, IsExchange}
+use Rattle.sat_core.proofs.Watching.{list-within, kept-push, passed-push, passed-next}
 
 -- the watcher at a place of a literal's list
 pub record IsVisit (clauses : List (List Lit)) (n : ℕ) (lists : List (List Watcher)) (pairs : List Pair) (l : Lit) (place : ℕ) (w : Watcher) : Type 0 where

@@ -9,7 +9,8 @@ use Rattle.sat_core.specs.Steps.{given, var_count}
 use Rattle.sat_core.specs.declared.watches.Watcher.{Watcher}
 use Rattle.sat_core.specs.Watches.{no_literal, list_of, watchers, with_watcher, with_blocker, IsRemoved, KeepWatches, ArePassedIn}
 use Rattle.sat_core.proofs.States.{reason-right}
-use Rattle.sat_core.proofs.Watching.{list-within, exchanged-lists, kept-moved, passed-moved, fewer-moved}
+use Rattle.sat_core.proofs.Exchanging.{exchanged-lists, kept-moved, passed-moved, fewer-moved}
+use Rattle.sat_core.proofs.Watching.{list-within}
 use Rattle.sat_core.proofs.Renewing.{kept-renewed, passed-renewed, length-renewed}
 use Rattle.sat_core.proofs.Visiting.{visit-start, visit-other, visit-true, visit-falsified, visit-unit, visit-step, visit-exchange}
 use Rattle.sat_core.proofs.propagation.visit_watcher.Goals as goal
