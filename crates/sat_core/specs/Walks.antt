@@ -1,4 +1,5 @@
--- The walk back along the trail that finds the lemma of a conflict: this project; no public clause cites it.
+-- The walk back along the trail that finds the lemma of a conflict, the first unique implication point: this project;
+-- no public clause cites it.
 use Rattle.std.specs.Prelude.{◌≡◌, ◌≢◌, ℕ, ◌+◌, ◌-◌, ◌<◌, ◌≤◌, ◌⊎◌, Bool, true, false, List, [], ◌∷◌, ◌++◌, length, take, drop, reverse, None, is_none, nat_le, ◌&&◌, if◌then◌else◌, slice_index, slice_set}
 use Rattle.std.specs.List.{slice_index_or, All, count_by}
 use Rattle.cnf_core.specs.declared.literal.Lit.{Lit}
@@ -140,7 +141,7 @@ IsBackjump steps i backjump lits =
     (k : ℕ) (d : Step) → i ≤ k → k < backjump → k < length steps → (slice_index_or steps k d).reason ≡ None
     → IsOpenClause (trail_values (take k steps)) lits
 
--- how many steps a backjump leaves, after a look at one
+-- how many steps a backjump leaves, after a visit to one
 abbrev pub backjump_after : Step → ℕ → ℕ → ℕ → ℕ
 backjump_after step count place backjump = if is_none step.reason && nat_le count 1 then place else backjump
 

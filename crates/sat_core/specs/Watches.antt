@@ -94,8 +94,8 @@ IsTrueClause s c = (l : Lit) × Contains c l × IsHeld s l
 abbrev pub NeedsNoVisit : Partial → Partial → List Lit → Pair → Type 0
 NeedsNoVisit s t c p = IsTrueClause t c ⊎ ((p.a ≢ p.b) × (IsFalse s p.a → ⊥) × (IsFalse s p.b → ⊥))
 
--- what is kept of a clause that was visited: it was quiet before each decision, and is it but for the steps from head
--- on
+-- what is kept of a clause that was visited: it needed no visit before each decision, and now needs one only for the
+-- steps from head on
 pub record KeepsWatch (steps : List Step) (lists : List (List Watcher)) (head id : ℕ) (c : List Lit) (p : Pair) : Type 0 where
   pub has_a : Contains c p.a
   pub has_b : Contains c p.b
@@ -117,7 +117,7 @@ pub record KeepWatches (clauses : List (List Lit)) (n : ℕ) (steps : List Step)
 abbrev pub AreWatched : List (List Lit) → ℕ → List Step → Watches → Type 0
 AreWatched clauses n steps w = KeepWatches clauses n steps w.lists.items w.pairs.items w.head
 
--- each clause is quiet, the step at the head included, or it is in the list from a place on
+-- each clause needs no visit, the step at the head included, or it is in the list from a place on
 abbrev pub ArePassedIn : List (List Lit) → List Step → List (List Watcher) → List Pair → ℕ → ℕ → ℕ → Type 0
 ArePassedIn clauses steps lists pairs head list place =
     (id : ℕ) → id < length pairs
@@ -138,7 +138,7 @@ pub record IsReplacement (s : Partial) (c : List Lit) (other : Lit) (at : ℕ) :
   pub differ : (d : Lit) → slice_index_or c at d ≢ other
   pub free : (d : Lit) → IsFalse s (slice_index_or c at d) → ⊥
 
--- what became of the watcher at a place of the list of a literal
+-- the result of a visit to the watcher at a place of the list of a literal
 abbrev pub VisitSays : List (List Lit) → List Step → Partial → Lit → ℕ → ℕ → Watches → Visit → Type 0
 VisitSays clauses steps s l place count w Stays =
     ArePassed clauses steps w l (place + 1) × (length (watchers w.lists.items (list_of l)) ≡ count)
