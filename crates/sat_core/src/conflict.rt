@@ -1,6 +1,6 @@
 // The line of a conflict: the first unique implication point, and how far the trail is taken back.
 ghost use Rattle.std.specs.Prelude.{◌≡◌, ◌≢◌, ◌⊎◌, ℕ, ◌+◌, ◌-◌, ◌^◌, ◌<◌, ◌≤◌, ◌↔◌, [], ◌∷◌, ◌++◌, List, Bool, Some, None, true, false, length, reverse, slice_set, IsTrue, OnOk, IfOk, MatchOption};
-ghost use Rattle.std.specs.List.{All, slice_index_or};
+ghost use Rattle.std.specs.List.{All, Contains, slice_index_or};
 ghost use Rattle.sat_core.specs.declared.trail.Step.{Step as Taken};
 ghost use Rattle.cnf_core.specs.declared.literal.Lit.{Lit as Literal};
 ghost use Rattle.cnf_core.specs.Formula.{AreOver, IsLitOf};
@@ -164,6 +164,8 @@ fn lowest_place(clause: &[Lit], indices: &[usize], most: usize) -> usize
     requires exist { All (IsLitOf (length indices.now)) clause.now }
     ensures most { result ≤ most }
     ensures each { All (λ l. result ≤ trail_index indices.now l) clause.now }
+    ensures reached { (result ≡ most)
+        ⊎ ((l : Literal) × Contains clause.now l × (result ≡ trail_index indices.now l)) }
 {
     let mut lowest = most;
     for lit in clause {
