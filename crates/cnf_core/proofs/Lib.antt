@@ -1,5 +1,5 @@
 pub mod Counting
-pub mod Looking
+pub mod Scanning
 pub mod Range
 pub mod Rows
 pub mod Sound

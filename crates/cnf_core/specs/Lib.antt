@@ -1,6 +1,6 @@
 pub mod Counter
 pub mod Formula
-pub mod Looks
+pub mod Statuses
 pub mod Outcome
 pub mod Pieces
 pub mod Refutation

@@ -17,4 +17,4 @@ pub use laws::{counters_count, refutations_leave_no_solution};
 pub use line::{Line, Lines};
 pub use literal::Lit;
 pub use store::Clauses;
-pub use values::{Look, Values, look_at};
+pub use values::{ClauseStatus, Values, status_of};

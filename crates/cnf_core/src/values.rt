@@ -1,9 +1,9 @@
-// What a clause is under the values of some variables.
+// The status of a clause under the values of some variables: unit, falsified or open.
 ghost use Rattle.std.specs.Prelude.{◌≡◌, ℕ, ◌≤◌};
 ghost use Rattle.std.specs.List.{All};
 ghost use Rattle.cnf_core.specs.Formula.{IsLitOf};
 ghost use Rattle.cnf_core.specs.Values.{Partial};
-ghost use Rattle.cnf_core.specs.Looks.{LookSays};
+ghost use Rattle.cnf_core.specs.Statuses.{HasStatus};
 
 use crate::Lit;
 
@@ -22,9 +22,9 @@ pub trait Values {
         ensures value { result ≡ partial self.now var };
 }
 
-/// What a clause is under some values.
+/// The status of a clause under some values.
 #[derive(Clone, Copy, Debug, PartialEq, Eq)]
-pub enum Look {
+pub enum ClauseStatus {
     /// All literals but this one are false, and it has no value.
     Unit(Lit),
     /// All literals are false.
@@ -33,23 +33,24 @@ pub enum Look {
     Open,
 }
 
-/// Looks at each literal of a clause, up to the first that shows that it is open. A literal that stands twice counts once.
-pub fn look_at<V: Values>(clause: &[Lit], values: &V) -> Look
+/// The status of a clause. Its literals are read up to the first that shows that it is open, and one that stands twice
+/// counts once.
+pub fn status_of<V: Values>(clause: &[Lit], values: &V) -> ClauseStatus
     requires { All (IsLitOf (V.last values.now)) clause.now }
-    ensures { LookSays (V.partial values.now) clause.now result }
+    ensures { HasStatus (V.partial values.now) clause.now result }
 {
     let mut found: Option<Lit> = None;
     for lit in clause {
         match values.value(lit.var) {
             Some(positive) => {
                 if positive == lit.positive {
-                    return Look::Open;
+                    return ClauseStatus::Open;
                 }
             }
             None => {
                 if let Some(other) = found {
                     if other != *lit {
-                        return Look::Open;
+                        return ClauseStatus::Open;
                     }
                 }
                 found = Some(*lit);
@@ -57,7 +58,7 @@ pub fn look_at<V: Values>(clause: &[Lit], values: &V) -> Look
         }
     }
     match found {
-        Some(lit) => Look::Unit(lit),
-        None => Look::Falsified,
+        Some(lit) => ClauseStatus::Unit(lit),
+        None => ClauseStatus::Falsified,
     }
 }

@@ -5,6 +5,9 @@ ghost use Rattle.std.specs.Prelude.{◌≡◌, ◌<◌, ℕ, List, length};
 ghost use Rattle.std.specs.Fn.{FnReturnsAt};
 ghost use Rattle.pick_rule.specs.Places.{AnswersPlaces};
 
+mod places;
+
+pub use places::{busiest_place, first_place, last_place};
 use std::marker::Model;
 
 /// What a picker asks of its rule. Each closure over scores is one.
@@ -33,8 +36,8 @@ impl<F: Fn(&[u64]) -> usize> Rule for F {
     }
 }
 
-/// A rule that answers places, seen as the rule itself. It is made in a function that takes the rule as a parameter: the
-/// check doesn't find the rule's facts where a function names this struct at one closure.
+/// A rule that answers places, seen as the rule itself. It is made in a function that takes the rule as a parameter:
+/// the check doesn't find the rule's facts where a function names this struct at one closure.
 #[derive(Drop)]
 pub struct Picker<F: Rule> {
     f: F,

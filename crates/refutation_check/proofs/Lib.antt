@@ -5,7 +5,7 @@ pub mod OneReading
 pub mod Printing
 pub mod Reaching
 pub mod LineReading
-pub mod Looking
+pub mod Telling
 pub mod Runs
 pub mod Showing
 pub mod Wording

@@ -3,11 +3,11 @@ ghost use Rattle.std.specs.Prelude.{◌≡◌, ◌+◌, ◌-◌, ◌<◌, ◌≤
 ghost use Rattle.std.specs.List.{All};
 ghost use Rattle.cnf_core.specs.declared.literal.Lit.{Lit as Literal};
 ghost use Rattle.cnf_core.specs.Formula.{IsLitOf};
-ghost use Rattle.cnf_core.specs.Looks.{LookSays};
+ghost use Rattle.cnf_core.specs.Statuses.{HasStatus};
 ghost use Rattle.cnf_core.specs.Values.{IsUnassigned, IsFalseClause, IsUnit};
 ghost use Rattle.refutation_check.specs.Marked.{marked, with_true, NoneIsLater};
 
-use cnf_core::{Lit, Look, Values, look_at};
+use cnf_core::{ClauseStatus, Lit, Values, status_of};
 use items::NoMemory;
 use std::alloc::Global;
 use std::marker::Model;
@@ -109,11 +109,11 @@ pub(crate) fn is_free(lit: Lit, marks: &[Mark], line: u32) -> bool
 }
 
 /// What a clause is under the values that this line gave.
-fn look(clause: &[Lit], marks: &[Mark], line: u32) -> Look
+fn status(clause: &[Lit], marks: &[Mark], line: u32) -> ClauseStatus
     requires { All (IsLitOf (length marks.now)) clause.now }
-    ensures { LookSays (marked line marks.now) clause.now result }
+    ensures { HasStatus (marked line marks.now) clause.now result }
 {
-    look_at(clause, &Given { marks, line })
+    status_of(clause, &Given { marks, line })
 }
 
 /// Whether each literal of a clause is false.
@@ -121,10 +121,10 @@ pub(crate) fn is_false_clause(clause: &[Lit], marks: &[Mark], line: u32) -> bool
     requires { All (IsLitOf (length marks.now)) clause.now }
     ensures { IsTrue result ↔ IsFalseClause (marked line marks.now) clause.now }
 {
-    match look(clause, marks, line) {
-        Look::Falsified => true,
-        Look::Unit(_) => false,
-        Look::Open => false,
+    match status(clause, marks, line) {
+        ClauseStatus::Falsified => true,
+        ClauseStatus::Unit(_) => false,
+        ClauseStatus::Open => false,
     }
 }
 
@@ -133,9 +133,9 @@ pub(crate) fn unit_of(clause: &[Lit], marks: &[Mark], line: u32) -> Option<Lit>
     requires { All (IsLitOf (length marks.now)) clause.now }
     ensures { MatchOption result ((l : Literal) → IsUnit (marked line marks.now) clause.now l → ⊥) (IsUnit (marked line marks.now) clause.now) }
 {
-    match look(clause, marks, line) {
-        Look::Unit(lit) => Some(lit),
-        Look::Falsified => None,
-        Look::Open => None,
+    match status(clause, marks, line) {
+        ClauseStatus::Unit(lit) => Some(lit),
+        ClauseStatus::Falsified => None,
+        ClauseStatus::Open => None,
     }
 }

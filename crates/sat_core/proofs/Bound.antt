@@ -115,9 +115,9 @@ fresh-other n clauses c lemma fresh there apart exist same =
     All-contains (λ m. (m ≢ fresh.last) → IsFalse s m) lemma l fresh.others (member l in-c) other in
     elim (All-contains (IsOpenClause s) clauses c fresh.closed there) [
       | inl one ↦
-          (let (l, in-c, held) = one in
-          let not_last : l ≢ fresh.last = λ e. fresh.open' (subst (IsHeld s) e held) in
-          opposite l.positive (sym held ∙ false' l in-c not_last))
+          (let (l, in-c, trail_values) = one in
+          let not_last : l ≢ fresh.last = λ e. fresh.open' (subst (IsHeld s) e trail_values) in
+          opposite l.positive (sym trail_values ∙ false' l in-c not_last))
       | inr two ↦
           (let (l, m, in-l, in-m, differ, free-l, free-m) = two in
           let l-last : (l ≢ fresh.last) → ⊥ = λ ne. none≢some (sym free-l ∙ false' l in-l ne) in

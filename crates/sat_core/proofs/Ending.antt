@@ -1,5 +1,5 @@
 -- What the walk found at the trail's first step: the line of the conflict, that it is fresh, and the trail that stays.
-use Rattle.std.proofs.Common.{◌≡◌, ◌≢◌, ℕ, ◌+◌, ◌-◌, ◌<◌, ◌≤◌, Bool, true, false, not, List, [], ◌∷◌, ◌++◌, length, take, get_or, refl, sym, ap, ◌∙◌, subst, arith, inl, inr, suc, zero, Option, Some, None, append-nil}
+use Rattle.std.proofs.Common.{◌≡◌, ◌≢◌, ℕ, ◌+◌, ◌-◌, ◌<◌, ◌≤◌, Bool, true, false, not, List, [], ◌∷◌, ◌++◌, length, take, get_or, refl, sym, ap, ◌∙◌, subst, arith, inl, inr, suc, zero, Some, None, append-nil}
 use Rattle.std.specs.Prelude.{reverse, slice_index, replicate}
 use Rattle.std.specs.List.{All}
 use Rattle.std.proofs.lemmas.Bool.{cases_lt}
@@ -13,48 +13,49 @@ use Rattle.cnf_core.specs.Refutation.{clause_at, Reaches, refuted, AreNames, Hav
 use Rattle.sat_core.specs.declared.trail.Step.{Step}
 use Rattle.sat_core.specs.declared.trail.Trail.{Trail}
 use Rattle.sat_core.specs.declared.conflict.Analysis.{Analysis}
-use Rattle.sat_core.specs.Steps.{given, held, IsTrailState, AreSteps, AreClosedBefore}
-use Rattle.sat_core.specs.Looks.{IsFalsified}
+use Rattle.sat_core.specs.declared.trail.Value.{Value}
+use Rattle.sat_core.specs.Steps.{given, trail_values, IsTrailState, AreSteps, AreClosedBefore}
+use Rattle.sat_core.specs.FalseClauses.{IsFalsified}
 use Rattle.sat_core.specs.Conflicts.{GoesOnWith}
-use Rattle.sat_core.specs.Walks.{step_place, IsStepOf, is_marked, last_level_count, AreUnmarked, IsLastDecision, IsAsserting, IsWalked, Needs, LeadsToConflict, IsBackjump}
+use Rattle.sat_core.specs.Walks.{trail_index, IsStepOf, is_marked, last_level_count, AreUnmarked, IsLastDecision, IsAsserting, IsWalked, MarksClause, LeadsToConflict, IsBackjump}
 use Rattle.sat_core.proofs.Holding.{none≢some, held-whole, held-at, step-of}
 use Rattle.sat_core.proofs.States.{clause-exists, falsified-held}
 use Rattle.sat_core.proofs.Marking.{late-clear, late-some}
 use Rattle.sat_core.proofs.Leading.{leads-start}
 
 -- the steps of a false clause's literals
-pub false-steps : (clauses : List (List Lit)) (n : ℕ) (steps : List Step) (values : List (Option Bool)) (places : List ℕ) (c : List Lit)
-    → AreSteps clauses n steps values places → All (IsLitOf n) c → IsFalseClause (held steps) c → All (IsStepOf places (length steps)) c
-false-steps clauses n steps values places c s exist false' k d few =
+pub false-steps : (clauses : List (List Lit)) (n : ℕ) (steps : List Step) (values : List Value) (indices : List ℕ) (c : List Lit)
+    → AreSteps clauses n steps values indices → All (IsLitOf n) c → IsFalseClause (trail_values steps) c → All (IsStepOf indices (length steps)) c
+false-steps clauses n steps values indices c s exist false' k d few =
     let m = get_or c k d in
     let at = exist k d few in
     let high = at.within in
     let slots = s.slots in
     let e : Step = record { lit = m; reason = None } in
     let (j, few-j, is) = step-of steps m.var (not m.positive) (false' k d few) in
-    let p = ap (λ (x : ℕ). get_or places (x - 1) 0) (sym (is e).0) ∙ s.placed j e few-j in
+    let p = ap (λ (x : ℕ). get_or indices (x - 1) 0) (sym (is e).0) ∙ s.placed j e few-j in
     record { above = at.above; within = omega arith; before = omega arith }
 
 -- a false clause that was open before a decision has a literal of the last level
-late-literal : (clauses : List (List Lit)) (n : ℕ) (steps : List Step) (values : List (Option Bool)) (places : List ℕ) (last : ℕ) (c : List Lit) (needed : List Bool)
-    → AreSteps clauses n steps values places → All (IsLitOf n) c → IsFalseClause (held steps) c → IsOpenClause (held (take last steps)) c
-    → All (λ l. is_marked needed (step_place places l) ≡ true) c → length needed ≡ length steps → 1 ≤ last_level_count last needed
-late-literal clauses n steps values places last c needed s exist false' open' marked size =
+late-literal : (clauses : List (List Lit)) (n : ℕ) (steps : List Step) (values : List Value) (indices : List ℕ) (last : ℕ) (c : List Lit) (seen : List Bool)
+    → AreSteps clauses n steps values indices → All (IsLitOf n) c → IsFalseClause (trail_values steps) c → IsOpenClause (trail_values (take last steps)) c
+    → All (λ l. is_marked seen (trail_index indices l) ≡ true) c → length seen ≡ length steps → 1 ≤ last_level_count last seen
+late-literal clauses n steps values indices last c seen s exist false' open' marked size =
     elim open' [
       | inl one ↦
           (let (l, there, h) = one in
-          absurd (opposite l.positive (sym (held-whole steps last l.var l.positive h) ∙ All-contains (IsFalse (held steps)) c l false' there)))
+          absurd (opposite l.positive (sym (held-whole steps last l.var l.positive h) ∙ All-contains (IsFalse (trail_values steps)) c l false' there)))
       | inr two ↦
           (let (l, m, in-l, in-m, differ, free-l, free-m) = two in
           let e : Step = record { lit = l; reason = None } in
-          let (j, few-j, is) = step-of steps l.var (not l.positive) (All-contains (IsFalse (held steps)) c l false' in-l) in
-          let p : step_place places l ≡ j = ap (λ (x : ℕ). get_or places (x - 1) 0) (sym (is e).0) ∙ s.placed j e few-j in
-          let mark : is_marked needed j ≡ true = ap (is_marked needed) (sym p) ∙ All-contains (λ x. is_marked needed (step_place places x) ≡ true) c l marked in-l in
+          let (j, few-j, is) = step-of steps l.var (not l.positive) (All-contains (IsFalse (trail_values steps)) c l false' in-l) in
+          let p : trail_index indices l ≡ j = ap (λ (x : ℕ). get_or indices (x - 1) 0) (sym (is e).0) ∙ s.placed j e few-j in
+          let mark : is_marked seen j ≡ true = ap (is_marked seen) (sym p) ∙ All-contains (λ x. is_marked seen (trail_index indices x) ≡ true) c l marked in-l in
           elim (cases_lt j last) [
-            | inr low ↦ late-some last j needed (omega arith) low mark
+            | inr low ↦ late-some last j seen (omega arith) low mark
             | inl early ↦
                 (let value = held-at' j e early few-j in
-                absurd (none≢some (sym free-l ∙ ap (held (take last steps)) (sym (is e).0) ∙ value)))
+                absurd (none≢some (sym free-l ∙ ap (trail_values (take last steps)) (sym (is e).0) ∙ value)))
           ])
     ]
   where
@@ -62,32 +63,33 @@ late-literal clauses n steps values places last c needed s exist false' open' ma
     opposite true e = cc
     opposite false e = cc
 
-    held-at' : (j : ℕ) (e : Step) → j < last → j < length steps → held (take last steps) (get_or steps j e).lit.var ≡ Some (get_or steps j e).lit.positive
+    held-at' : (j : ℕ) (e : Step) → j < last → j < length steps → trail_values (take last steps) (get_or steps j e).lit.var ≡ Some (get_or steps j e).lit.positive
     held-at' j e early few = held-at clauses steps last j e s.trail early few
 
 -- **at the end of the trail**
-pub walked-start : (clauses : List (List Lit)) (n : ℕ) (steps : List Step) (values : List (Option Bool)) (places : List ℕ) (id last at_last_level added : ℕ) (old : List Bool) (c : List Lit) (a : Analysis)
-    → AreSteps clauses n steps values places → AreOver n clauses → AreClosedBefore clauses steps → IsFalsified (given values) clauses id → IsLastDecision steps last
-    → c ≡ clause_at clauses id → old ≡ replicate (length steps) false → Needs places c c last old a.needed.items added
+pub walked-start : (clauses : List (List Lit)) (n : ℕ) (steps : List Step) (values : List Value) (indices : List ℕ) (id last at_last_level added : ℕ) (old : List Bool) (c : List Lit) (a : Analysis)
+    → AreSteps clauses n steps values indices → AreOver n clauses → AreClosedBefore clauses steps → IsFalsified (given values) clauses id → IsLastDecision steps last
+    → c ≡ clause_at clauses id → old ≡ replicate (length steps) false → MarksClause indices c c last old a.seen.items added → All (λ l. a.lowest ≤ trail_index indices l) c
     → a.at_last_level ≡ added → a.last ≡ last → a.lits.items ≡ [] → a.hints.items ≡ []
-    → IsWalked clauses n steps (length steps) a × LeadsToConflict clauses steps (length steps) a.needed.items a.lits.items (reverse a.hints.items) (clause_at clauses id)
-walked-start clauses n steps values places id last at_last_level added old c a s over before f is-last is-c is-old needs is-late last-is no-lits no-hints =
+    → IsWalked clauses n steps (length steps) a × LeadsToConflict clauses steps (length steps) a.seen.items a.lits.items (reverse a.hints.items) (clause_at clauses id)
+walked-start clauses n steps values indices id last at_last_level added old c a s over before f is-last is-c is-old needs lowest is-late last-is no-lits no-hints =
     let c' = clause_at clauses id in
-    let false' = falsified-held clauses n steps values places id s over f in
+    let false' = falsified-held clauses n steps values indices id s over f in
     let exist = clause-exists clauses n id over f.low f.high in
-    let needs' : Needs places c' c' last old a.needed.items added = subst (λ (x : List Lit). Needs places x x last old a.needed.items added) is-c needs in
+    let needs' : MarksClause indices c' c' last old a.seen.items added = subst (λ (x : List Lit). MarksClause indices x x last old a.seen.items added) is-c needs in
     let old-size : length old ≡ length steps = ap length is-old ∙ length-replicate (length steps) false in
     let old-clear : AreUnmarked 0 old = λ k low. ap (λ (xs : List Bool). is_marked xs k) is-old ∙ replicate-clear (length steps) k in
-    let size : length a.needed.items ≡ length steps = needs'.size ∙ old-size in
+    let size : length a.seen.items ≡ length steps = needs'.size ∙ old-size in
     let none = late-clear last old (λ k low. old-clear k (omega arith)) in
     let count = needs'.count in
     record-pair
     (record {
       size = size;
-      clear = needs'.only (length steps) (false-steps clauses n steps values places c' s exist false') (λ k low. old-clear k (omega arith));
-      count = (let e : added ≡ last_level_count last a.needed.items = omega arith in is-late ∙ e ∙ ap (λ (m : ℕ). last_level_count m a.needed.items) (sym last-is));
+      clear = needs'.only (length steps) (false-steps clauses n steps values indices c' s exist false') (λ k low. old-clear k (omega arith));
+      below = needs'.below a.lowest (subst (All (λ l. a.lowest ≤ trail_index indices l)) is-c lowest) (λ k low. old-clear k (omega arith));
+      count = (let e : added ≡ last_level_count last a.seen.items = omega arith in is-late ∙ e ∙ ap (λ (m : ℕ). last_level_count m a.seen.items) (sym last-is));
       exist = subst (All (IsLitOf n)) (sym no-lits) (All-nil (IsLitOf n));
-      free = subst (All (λ (l : Lit). held (take (length steps) steps) l.var ≡ None)) (sym no-lits) (All-nil (λ (l : Lit). held (take (length steps) steps) l.var ≡ None));
+      free = subst (All (λ (l : Lit). trail_values (take (length steps) steps) l.var ≡ None)) (sym no-lits) (All-nil (λ (l : Lit). trail_values (take (length steps) steps) l.var ≡ None));
       differ = subst HaveDifferentVars (sym no-lits) (λ i j d l k. absurd (omega (arith, k)));
       names = subst (AreNames (length clauses)) (sym no-hints) (All-nil (λ h. (1 ≤ h) × (h ≤ length clauses)));
       many = λ some in-level. no-lits;
@@ -95,16 +97,16 @@ walked-start clauses n steps values places id last at_last_level added old c a s
           (let e : Step = record { lit = record { var = 0; positive = false }; reason = None } in
           let in' : last < length steps = omega arith in
           let closed = before last e in' (is-last.decides e in') in
-          let some = late-literal clauses n steps values places last c' a.needed.items s exist false' (closed (id - 1) [] (let h = f.high in let l = f.low in omega arith)) needs'.all size in
+          let some = late-literal clauses n steps values indices last c' a.seen.items s exist false' (closed (id - 1) [] (let h = f.high in let l = f.low in omega arith)) needs'.all size in
           absurd (omega arith));
       root = λ forced. no-lits;
     })
-    (subst (λ (hs : List ℕ). LeadsToConflict clauses steps (length steps) a.needed.items a.lits.items (reverse hs) c') (sym no-hints)
-    (subst (λ (ls : List Lit). LeadsToConflict clauses steps (length steps) a.needed.items ls [] c') (sym no-lits)
-    (leads-start clauses n steps values places a.needed.items c' s false' needs'.all)))
+    (subst (λ (hs : List ℕ). LeadsToConflict clauses steps (length steps) a.seen.items a.lits.items (reverse hs) c') (sym no-hints)
+    (subst (λ (ls : List Lit). LeadsToConflict clauses steps (length steps) a.seen.items ls [] c') (sym no-lits)
+    (leads-start clauses n steps values indices a.seen.items c' s false' needs'.all)))
   where
-    record-pair : IsWalked clauses n steps (length steps) a → LeadsToConflict clauses steps (length steps) a.needed.items a.lits.items (reverse a.hints.items) (clause_at clauses id)
-        → IsWalked clauses n steps (length steps) a × LeadsToConflict clauses steps (length steps) a.needed.items a.lits.items (reverse a.hints.items) (clause_at clauses id)
+    record-pair : IsWalked clauses n steps (length steps) a → LeadsToConflict clauses steps (length steps) a.seen.items a.lits.items (reverse a.hints.items) (clause_at clauses id)
+        → IsWalked clauses n steps (length steps) a × LeadsToConflict clauses steps (length steps) a.seen.items a.lits.items (reverse a.hints.items) (clause_at clauses id)
     record-pair x y = (x, y)
 
     replicate-clear : (n k : ℕ) → get_or (replicate n false) k false ≡ false
@@ -137,7 +139,7 @@ EndIn cs lits hints =
 
 -- **the line is accepted**
 pub line-shown : (clauses : List (List Lit)) (n : ℕ) (steps : List Step) (a : Analysis) (id : ℕ) (line : Line)
-    → IsWalked clauses n steps 0 a → LeadsToConflict clauses steps 0 a.needed.items a.lits.items (reverse a.hints.items) (clause_at clauses id) → 1 ≤ id → id ≤ length clauses
+    → IsWalked clauses n steps 0 a → LeadsToConflict clauses steps 0 a.seen.items a.lits.items (reverse a.hints.items) (clause_at clauses id) → 1 ≤ id → id ≤ length clauses
     → line.id ≡ length clauses + 1 → line.lits ≡ a.lits.items → line.hints ≡ reverse a.hints.items ++ id ∷ [] → IsAccepted (record { vars = n; clauses = clauses }) [] line
 line-shown clauses n steps a id line h leads low high is-id is-lits is-hints =
     let front = reverse a.hints.items in
@@ -180,14 +182,14 @@ fresh-from clauses s lits closed differ asserts =
       closed = closed;
       last = asserts.first;
       among = (0, (omega arith), refl);
-      open' = λ held. none≢some (sym asserts.free ∙ held);
+      open' = λ trail_values. none≢some (sym asserts.free ∙ trail_values);
       others = All-cons (λ m. (m ≢ asserts.first) → IsFalse s m) asserts.first asserts.rest (λ ne. absurd (ne refl))
           (All-weaker (IsFalse s) (λ m. (m ≢ asserts.first) → IsFalse s m) (λ m f ne. f) asserts.rest asserts.false');
     })
 
 -- steps over more clauses
-steps-over : (clauses more : List (List Lit)) (n : ℕ) (steps : List Step) (values : List (Option Bool)) (places : List ℕ) → AreSteps clauses n steps values places → AreSteps (clauses ++ more) n steps values places
-steps-over clauses more n steps values places h =
+steps-over : (clauses more : List (List Lit)) (n : ℕ) (steps : List Step) (values : List Value) (indices : List ℕ) → AreSteps clauses n steps values indices → AreSteps (clauses ++ more) n steps values indices
+steps-over clauses more n steps values indices h =
     let long = length-append clauses more in
     record {
       trail = λ k d few.
@@ -201,7 +203,7 @@ steps-over clauses more n steps values places h =
                 record {
                   low = low;
                   high = omega arith;
-                  unit = subst (λ (c : List Lit). IsUnit (held (take k steps)) c (get_or steps k d).lit) (sym (get_or_append_left clauses more [] (id - 1) (omega arith))) r.unit;
+                  unit = subst (λ (c : List Lit). IsUnit (trail_values (take k steps)) c (get_or steps k d).lit) (sym (get_or_append_left clauses more [] (id - 1) (omega arith))) r.unit;
                 });
           });
       exist = h.exist;
@@ -224,18 +226,18 @@ line-goes_on clauses n old new a lits before is-last h stays state is is-lits so
       | inl in' ↦ in'
       | inr past ↦ absurd (some (is-lits ∙ h.root (is-last.none (omega arith))))
     ] in
-    let zero' : a.at_last_level ≡ 0 = h.count ∙ late-clear a.last a.needed.items (λ k low. h.clear k (omega arith)) in
+    let zero' : a.at_last_level ≡ 0 = h.count ∙ late-clear a.last a.seen.items (λ k low. h.clear k (omega arith)) in
     let closed = before a.last d in-level (is-last.decides d in-level) in
-    let fresh = fresh-from clauses (held (take a.last steps)) a.lits.items closed h.differ (h.one zero' in-level) in
+    let fresh = fresh-from clauses (trail_values (take a.last steps)) a.lits.items closed h.differ (h.one zero' in-level) in
     record {
       fresh = subst (IsFresh clauses) (sym is-lits) fresh;
-      state = steps-over clauses (lits ∷ []) n new.steps.items new.values.items new.places.items state;
+      state = steps-over clauses (lits ∷ []) n new.steps.items new.values.items new.indices.items state;
       before = subst (AreClosedBefore (clauses ++ lits ∷ [])) (sym is) (λ k e few decides.
           (let size = length-take a.backjump steps in
           let below : k < a.backjump = omega arith in
           let few' : k < length steps = omega arith in
           let decides' = subst (λ (x : Step). x.reason ≡ None) (get_or-take a.backjump steps k e below) decides in
-          subst (λ (xs : List Step). IsClosed (held xs) (clauses ++ lits ∷ [])) (sym (take-take k a.backjump steps (omega arith)))
-          (All-push (IsOpenClause (held (take k steps))) clauses lits (before k e few' decides')
-          (subst (IsOpenClause (held (take k steps))) (sym is-lits) (stays k e (omega arith) below few' decides')))));
+          subst (λ (xs : List Step). IsClosed (trail_values xs) (clauses ++ lits ∷ [])) (sym (take-take k a.backjump steps (omega arith)))
+          (All-push (IsOpenClause (trail_values (take k steps))) clauses lits (before k e few' decides')
+          (subst (IsOpenClause (trail_values (take k steps))) (sym is-lits) (stays k e (omega arith) below few' decides')))));
     }

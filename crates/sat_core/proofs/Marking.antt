@@ -6,7 +6,7 @@ use Rattle.std.proofs.lemmas.List.{drop-set-add, drop-set-lt, get_or-drop, lengt
 use Rattle.std.proofs.lemmas.List.Sums.{sum_by-set, sum_by-cons, count_by-le-length}
 use Rattle.std.proofs.lemmas.List.Elements.{All-more, All-weaker}
 use Rattle.cnf_core.specs.declared.literal.Lit.{Lit}
-use Rattle.sat_core.specs.Walks.{step_place, is_marked, last_level_count, AreUnmarked, Needs}
+use Rattle.sat_core.specs.Walks.{trail_index, is_marked, last_level_count, AreUnmarked, AreUnmarkedBelow, MarksClause}
 
 one : Bool → ℕ
 one b = cond {A = ℕ} b 1 0
@@ -95,28 +95,38 @@ clear-unmarked i xs few clear k low =
     ]
 
 -- one literal more
-pub needs-more : (places : List ℕ) (clause : List Lit) (last i : ℕ) (d : Lit) (old mid new : List Bool) (added more : ℕ)
-    → i < length clause → step_place places (get_or clause i d) < length mid → Needs places (take i clause) clause last old mid added
-    → new ≡ set mid (step_place places (get_or clause i d)) true → last_level_count last new ≡ last_level_count last mid + more → Needs places (take (i + 1) clause) clause last old new (added + more)
-needs-more places clause last i d old mid new added more few within h is count =
-    let p = step_place places (get_or clause i d) in
+pub needs-more : (indices : List ℕ) (clause : List Lit) (last i : ℕ) (d : Lit) (old mid new : List Bool) (added more : ℕ)
+    → i < length clause → trail_index indices (get_or clause i d) < length mid → MarksClause indices (take i clause) clause last old mid added
+    → new ≡ set mid (trail_index indices (get_or clause i d)) true → last_level_count last new ≡ last_level_count last mid + more → MarksClause indices (take (i + 1) clause) clause last old new (added + more)
+needs-more indices clause last i d old mid new added more few within h is count =
+    let p = trail_index indices (get_or clause i d) in
     let kept : (k : ℕ) → is_marked mid k ≡ true → is_marked new k ≡ true = λ k on. ap (λ (ns : List Bool). is_marked ns k) is ∙ stays k on in
     record {
       size = ap length is ∙ length-set mid p true ∙ h.size;
       keeps = λ k on. kept k (h.keeps k on);
-      all = All-more (λ l. is_marked new (step_place places l) ≡ true) clause i d few
-          (All-weaker (λ l. is_marked mid (step_place places l) ≡ true) (λ l. is_marked new (step_place places l) ≡ true) (λ l on. kept (step_place places l) on) (take i clause) h.all)
+      all = All-more (λ l. is_marked new (trail_index indices l) ≡ true) clause i d few
+          (All-weaker (λ l. is_marked mid (trail_index indices l) ≡ true) (λ l. is_marked new (trail_index indices l) ≡ true) (λ l on. kept (trail_index indices l) on) (take i clause) h.all)
           (ap (λ (ns : List Bool). is_marked ns p) is ∙ get_or-set_same mid p true false within);
       only = λ n steps clear k low.
           (let at = steps i d few in
           let before = at.before in
           ap (λ (ns : List Bool). is_marked ns k) is ∙ get_or-set_other mid p k true false (λ same. omega arith) ∙ h.only n steps clear k low);
+      below = λ n steps clear k low.
+          (let before = steps i d few in
+          ap (λ (ns : List Bool). is_marked ns k) is ∙ get_or-set_other mid p k true false (λ same. omega arith) ∙ h.below n steps clear k low);
       count = (let c = h.count in omega arith);
     }
   where
-    stays : (k : ℕ) → is_marked mid k ≡ true → is_marked (set mid (step_place places (get_or clause i d)) true) k ≡ true
+    stays : (k : ℕ) → is_marked mid k ≡ true → is_marked (set mid (trail_index indices (get_or clause i d)) true) k ≡ true
     stays k on =
-        elim (cases_eq k (step_place places (get_or clause i d))) [
-          | inl same ↦ ap (λ (j : ℕ). is_marked (set mid (step_place places (get_or clause i d)) true) j) same ∙ get_or-set_same mid (step_place places (get_or clause i d)) true false within
-          | inr other ↦ get_or-set_other mid (step_place places (get_or clause i d)) k true false other ∙ on
+        elim (cases_eq k (trail_index indices (get_or clause i d))) [
+          | inl same ↦ ap (λ (j : ℕ). is_marked (set mid (trail_index indices (get_or clause i d)) true) j) same ∙ get_or-set_same mid (trail_index indices (get_or clause i d)) true false within
+          | inr other ↦ get_or-set_other mid (trail_index indices (get_or clause i d)) k true false other ∙ on
         ]
+
+pub below-unmarked : (n i : ℕ) (xs : List Bool) → i < length xs → AreUnmarkedBelow n xs → AreUnmarkedBelow n (set xs i false)
+below-unmarked n i xs few below k low =
+    elim (cases_eq k i) [
+      | inl same ↦ ap (λ (j : ℕ). is_marked (set xs i false) j) same ∙ get_or-set_same xs i false false few
+      | inr other ↦ get_or-set_other xs i k false false other ∙ below k low
+    ]

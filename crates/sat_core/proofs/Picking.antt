@@ -1,40 +1,42 @@
 -- The list of free variables: the loop that makes it, and what is known of its members.
 use Rattle.std.proofs.Common.{◌≡◌, ℕ, ◌+◌, ◌-◌, ◌<◌, ◌≤◌, Bool, true, false, List, [], ◌∷◌, ◌++◌, length, map, get_or, refl, sym, ap, ◌∙◌, subst, arith, inl, inr, suc, zero, Option, Some, None, append-nil}
-use Rattle.std.specs.Prelude.{is_none, replicate}
+use Rattle.std.specs.Prelude.{is_none}
 use Rattle.std.specs.List.{All, filter, range_with_len}
 use Rattle.std.proofs.lemmas.Bool.{cases_Bool, cond-true, cond-false, false≢true}
-use Rattle.std.proofs.lemmas.List.{get_or-map, length-replicate, get_or_default}
+use Rattle.std.proofs.lemmas.List.{get_or-map, length-map, get_or_default}
 use Rattle.std.proofs.lemmas.List.Elements.{All-filter, All-map, filter_passes}
 use Rattle.std.proofs.lemmas.List.FromFn.{filter_of_map_range_with_len_more, get_or-range_with_len, length-range_with_len, length-map-range_with_len}
-use Rattle.sat_core.specs.Steps.{given}
-use Rattle.sat_core.specs.Picks.{free_list}
+use Rattle.sat_core.specs.declared.trail.Value.{Value}
+use Rattle.sat_core.specs.declared.trail.Value.TheVariants.{Unassigned}
+use Rattle.sat_core.specs.Steps.{is_free, given}
+use Rattle.sat_core.specs.Picks.{free_list, scores_of}
 
 none-true : (o : Option Bool) → is_none o ≡ true → o ≡ None
 none-true None e = refl
 none-true (Some b) e = absurd (false≢true e)
 
 -- the free variables up to a place
-abbrev pub free_to : List (Option Bool) → ℕ → List ℕ
+abbrev pub free_to : List Value → ℕ → List ℕ
 free_to values n = filter (λ x. is_none (given values x)) (map (λ i. i + 1) (range_with_len 0 n))
 
-pub free-more : (values : List (Option Bool)) (n : ℕ) → get_or values n None ≡ None → free_to values n ++ (n + 1) ∷ [] ≡ free_to values (n + 1)
+pub free-more : (values : List Value) (n : ℕ) → is_free (get_or values n Unassigned) ≡ true → free_to values n ++ (n + 1) ∷ [] ≡ free_to values (n + 1)
 unfolding given
-free-more values n none =
-    let p : ℕ → Bool = λ x. is_none (get_or values (x - 1) None) in
+free-more values n free =
+    let p : ℕ → Bool = λ x. is_free (get_or values (x - 1) Unassigned) in
     let at : n + 1 - 1 ≡ n = omega arith in
-    let yes : p (n + 1) ≡ true = ap (λ (i : ℕ). is_none (get_or values i None)) at ∙ ap is_none none in
+    let yes : p (n + 1) ≡ true = ap (λ (i : ℕ). is_free (get_or values i Unassigned)) at ∙ free in
     sym (filter_of_map_range_with_len_more p (λ i. i + 1) 0 n n (omega arith) ∙ ap (λ (ys : List ℕ). free_to values n ++ ys) (cond-true (p (n + 1)) ((n + 1) ∷ []) [] yes))
 
-pub free-keep : (values : List (Option Bool)) (n : ℕ) → is_none (get_or values n None) ≡ false → free_to values n ≡ free_to values (n + 1)
+pub free-keep : (values : List Value) (n : ℕ) → is_free (get_or values n Unassigned) ≡ false → free_to values n ≡ free_to values (n + 1)
 unfolding given
 free-keep values n some =
-    let p : ℕ → Bool = λ x. is_none (get_or values (x - 1) None) in
+    let p : ℕ → Bool = λ x. is_free (get_or values (x - 1) Unassigned) in
     let at : n + 1 - 1 ≡ n = omega arith in
-    let no : p (n + 1) ≡ false = ap (λ (i : ℕ). is_none (get_or values i None)) at ∙ some in
+    let no : p (n + 1) ≡ false = ap (λ (i : ℕ). is_free (get_or values i Unassigned)) at ∙ some in
     sym (filter_of_map_range_with_len_more p (λ i. i + 1) 0 n n (omega arith) ∙ ap (λ (ys : List ℕ). free_to values n ++ ys) (cond-false (p (n + 1)) ((n + 1) ∷ []) [] no) ∙ append-nil (free_to values n))
 
 -- **each variable of the list exists and is free**
-pub free-at : (values : List (Option Bool)) (place d : ℕ) → place < length (free_list values) → (1 ≤ get_or (free_list values) place d) × (get_or (free_list values) place d ≤ length values) × (given values (get_or (free_list values) place d) ≡ None)
+pub free-at : (values : List Value) (place d : ℕ) → place < length (free_list values) → (1 ≤ get_or (free_list values) place d) × (get_or (free_list values) place d ≤ length values) × (given values (get_or (free_list values) place d) ≡ None)
 free-at values place d few =
     let p : ℕ → Bool = λ x. is_none (given values x) in
     let E : ℕ → Type 0 = λ x. (1 ≤ x) × (x ≤ length values) in
@@ -58,7 +60,7 @@ filter-some p (y ∷ ys) (suc k) d few h e =
     ]
 
 -- **where the list is empty, every variable has a value**
-pub none-free : (values : List (Option Bool)) (x : ℕ) → free_list values ≡ [] → 1 ≤ x → x ≤ length values → given values x ≡ None → ⊥
+pub none-free : (values : List Value) (x : ℕ) → free_list values ≡ [] → 1 ≤ x → x ≤ length values → given values x ≡ None → ⊥
 none-free values x empty low high free =
     let p : ℕ → Bool = λ y. is_none (given values y) in
     let xs = map (λ i. i + 1) (range_with_len 0 (length values)) in
@@ -69,16 +71,16 @@ none-free values x empty low high free =
     filter-some p xs (x - 1) 0 (omega arith) (ap p is ∙ ap is_none free) empty
 
 -- what a decision knows of its variable
-pub record IsPicked (values : List (Option Bool)) (place var : ℕ) : Type 0 where
+pub record IsPicked (values : List Value) (place var : ℕ) : Type 0 where
   pub within : place < length (free_list values)
   pub is : var ≡ get_or (free_list values) place 0
   pub above : 1 ≤ var
   pub exists : var ≤ length values
   pub free : given values var ≡ None
 
-pub picked-at : (values : List (Option Bool)) (free scores : List ℕ) (place var : ℕ) → free ≡ free_list values → scores ≡ replicate (length free) 0 → place < length scores → var ≡ get_or free place var → IsPicked values place var
-picked-at values free scores place var is is-scores few at =
-    let size = ap length is-scores ∙ length-replicate (length free) 0 ∙ ap length is in
+pub picked-at : (values : List Value) (counts free scores : List ℕ) (place var : ℕ) → free ≡ free_list values → scores ≡ scores_of counts values → place < length scores → var ≡ get_or free place var → IsPicked values place var
+picked-at values counts free scores place var is is-scores few at =
+    let size = ap length is-scores ∙ length-map (free_list values) (λ x. get_or counts (x - 1) 0) in
     let few' : place < length (free_list values) = omega arith in
     let here : var ≡ get_or (free_list values) place 0 = at ∙ ap (λ (xs : List ℕ). get_or xs place var) is ∙ get_or_default (free_list values) place var 0 few' in
     let h = free-at values place 0 few' in
@@ -89,3 +91,6 @@ picked-at values free scores place var is is-scores few at =
       exists = subst (λ (x : ℕ). x ≤ length values) (sym here) h.1;
       free = subst (λ (x : ℕ). given values x ≡ None) (sym here) h.2;
     }
+
+pub free-exist : (values : List Value) → All (λ x. (1 ≤ x) × (x ≤ length values)) (free_list values)
+free-exist values k d few = (let at = free-at values k d few in (at.0, at.1))

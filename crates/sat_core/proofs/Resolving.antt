@@ -1,5 +1,5 @@
 -- A look at one step: what it leaves, and where the hints lead then.
-use Rattle.std.proofs.Common.{◌≡◌, ◌≢◌, ℕ, ◌+◌, ◌<◌, ◌≤◌, ◌⊎◌, Bool, true, false, List, [], ◌∷◌, length, take, get_or, sym, ap, ◌∙◌, subst, arith, Option, Some, None}
+use Rattle.std.proofs.Common.{◌≡◌, ◌≢◌, ℕ, ◌+◌, ◌<◌, ◌≤◌, ◌⊎◌, Bool, true, false, List, [], ◌∷◌, length, take, get_or, sym, ap, ◌∙◌, subst, arith, Some, None}
 use Rattle.std.specs.Prelude.{OnOk, Result, Ok, Err, reverse}
 use Rattle.std.specs.List.{All}
 use Rattle.std.proofs.lemmas.List.{reverse-append, get_or_default}
@@ -8,8 +8,9 @@ use Rattle.cnf_core.specs.Formula.{AreOver}
 use Rattle.cnf_core.specs.Refutation.{clause_at}
 use Rattle.sat_core.specs.declared.trail.Step.{Step}
 use Rattle.sat_core.specs.declared.conflict.Analysis.{Analysis}
-use Rattle.sat_core.specs.Steps.{held, IsReason, AreSteps}
-use Rattle.sat_core.specs.Walks.{is_marked, IsStepOf, IsLastDecision, IsFirstDecision, IsKeptAt, KeepsStep, Resolves, IsWalked, LeadsToConflict}
+use Rattle.sat_core.specs.declared.trail.Value.{Value}
+use Rattle.sat_core.specs.Steps.{trail_values, IsReason, AreSteps}
+use Rattle.sat_core.specs.Walks.{is_marked, IsStepOf, IsLastDecision, IsDecisionOrEnd, IsKeptAt, KeepsStep, Resolves, IsWalked, LeadsToConflict}
 use Rattle.sat_core.proofs.Leading.{leads-skip, leads-keep, leads-resolve}
 use Rattle.sat_core.proofs.Walking.{walked-skip, walked-keep, walked-resolve, reason-steps}
 
@@ -20,60 +21,60 @@ on-ok (Err e) P Q f h = h
 -- what a look leaves
 pub record Settled (clauses : List (List Lit)) (n : ℕ) (steps : List Step) (i : ℕ) (a b : Analysis) : Type 0 where
   pub walked : IsWalked clauses n steps i b
-  pub leads : (conflict : List Lit) → LeadsToConflict clauses steps (i + 1) a.needed.items a.lits.items (reverse a.hints.items) conflict → LeadsToConflict clauses steps i b.needed.items b.lits.items (reverse b.hints.items) conflict
+  pub leads : (conflict : List Lit) → LeadsToConflict clauses steps (i + 1) a.seen.items a.lits.items (reverse a.hints.items) conflict → LeadsToConflict clauses steps i b.seen.items b.lits.items (reverse b.hints.items) conflict
 
 -- a mark that was read
-pub mark-read : (needed : List Bool) (i : ℕ) (b c : Bool) → i < length needed → b ≡ get_or needed i b → b ≡ c → is_marked needed i ≡ c
-mark-read needed i b c few is same = get_or_default needed i false b few ∙ sym is ∙ same
+pub mark-read : (seen : List Bool) (i : ℕ) (b c : Bool) → i < length seen → b ≡ get_or seen i b → b ≡ c → is_marked seen i ≡ c
+mark-read seen i b c few is same = get_or_default seen i false b few ∙ sym is ∙ same
 
-pub settled-skip : (clauses : List (List Lit)) (n : ℕ) (steps : List Step) (i : ℕ) (a : Analysis) → IsWalked clauses n steps (i + 1) a → is_marked a.needed.items i ≡ false → Settled clauses n steps i a a
+pub settled-skip : (clauses : List (List Lit)) (n : ℕ) (steps : List Step) (i : ℕ) (a : Analysis) → IsWalked clauses n steps (i + 1) a → is_marked a.seen.items i ≡ false → Settled clauses n steps i a a
 settled-skip clauses n steps i a h unmarked =
     record {
       walked = walked-skip clauses n steps i a h unmarked;
-      leads = λ conflict. leads-skip clauses steps i a.needed.items a.lits.items (reverse a.hints.items) conflict unmarked;
+      leads = λ conflict. leads-skip clauses steps i a.seen.items a.lits.items (reverse a.hints.items) conflict unmarked;
     }
 
-pub settled-keep : (clauses : List (List Lit)) (n : ℕ) (steps : List Step) (values : List (Option Bool)) (places : List ℕ) (i first : ℕ) (step : Step) (a b : Analysis)
-    → AreSteps clauses n steps values places → IsFirstDecision steps first → IsLastDecision steps a.last → i < length steps
-    → IsWalked clauses n steps (i + 1) a → is_marked a.needed.items i ≡ true → step ≡ get_or steps i step → (step.reason ≡ None) ⊎ IsKeptAt first a.last a.at_last_level i
+pub settled-keep : (clauses : List (List Lit)) (n : ℕ) (steps : List Step) (values : List Value) (indices : List ℕ) (i first : ℕ) (step : Step) (a b : Analysis)
+    → AreSteps clauses n steps values indices → IsDecisionOrEnd steps first → IsLastDecision steps a.last → i < length steps
+    → IsWalked clauses n steps (i + 1) a → is_marked a.seen.items i ≡ true → step ≡ get_or steps i step → (step.reason ≡ None) ⊎ IsKeptAt first a.last a.at_last_level i
     → KeepsStep i step.lit a b → Settled clauses n steps i a b
-settled-keep clauses n steps values places i first step a b s is-first last few h marked is why k =
+settled-keep clauses n steps values indices i first step a b s is-first last few h marked is why k =
     let why' = subst (λ (x : Step). (x.reason ≡ None) ⊎ IsKeptAt first a.last a.at_last_level i) is why in
     let k' = subst (λ (x : Step). KeepsStep i x.lit a b) is k in
     record {
-      walked = walked-keep clauses n steps values places i first step a b s is-first last few h marked why' k';
+      walked = walked-keep clauses n steps values indices i first step a b s is-first last few h marked why' k';
       leads = λ conflict before.
-          subst (λ (hs : List ℕ). LeadsToConflict clauses steps i b.needed.items b.lits.items (reverse hs) conflict) (sym k.hints)
-          (subst (λ (ls : List Lit). LeadsToConflict clauses steps i b.needed.items ls (reverse a.hints.items) conflict) (sym k'.lits)
-          (leads-keep clauses steps i step a.needed.items b.needed.items a.lits.items (reverse a.hints.items) conflict s.trail few h.free k.needed before));
+          subst (λ (hs : List ℕ). LeadsToConflict clauses steps i b.seen.items b.lits.items (reverse hs) conflict) (sym k.hints)
+          (subst (λ (ls : List Lit). LeadsToConflict clauses steps i b.seen.items ls (reverse a.hints.items) conflict) (sym k'.lits)
+          (leads-keep clauses steps i step a.seen.items b.seen.items a.lits.items (reverse a.hints.items) conflict s.trail few h.free k.seen before));
     }
 
 -- the reason of a step that has one
-pub reason-of : (clauses : List (List Lit)) (n : ℕ) (steps : List Step) (values : List (Option Bool)) (places : List ℕ) (i id : ℕ) (step : Step)
-    → AreSteps clauses n steps values places → i < length steps → step ≡ get_or steps i step → step.reason ≡ Some id → IsReason (held (take i steps)) clauses id (get_or steps i step).lit
-reason-of clauses n steps values places i id step s few is some =
+pub reason-of : (clauses : List (List Lit)) (n : ℕ) (steps : List Step) (values : List Value) (indices : List ℕ) (i id : ℕ) (step : Step)
+    → AreSteps clauses n steps values indices → i < length steps → step ≡ get_or steps i step → step.reason ≡ Some id → IsReason (trail_values (take i steps)) clauses id (get_or steps i step).lit
+reason-of clauses n steps values indices i id step s few is some =
     (s.trail i step few).forced id (subst (λ (x : Step). x.reason ≡ Some id) is some)
 
 -- the steps of its literals are steps of the trail
-pub reason-few : (clauses : List (List Lit)) (n : ℕ) (steps : List Step) (values : List (Option Bool)) (places : List ℕ) (i id m : ℕ) (step : Step)
-    → AreSteps clauses n steps values places → AreOver n clauses → i < length steps → step ≡ get_or steps i step → step.reason ≡ Some id → m ≡ length steps
-    → All (IsStepOf places m) (clause_at clauses id)
-reason-few clauses n steps values places i id m step s over few is some size k d few' =
-    let at = reason-steps clauses n steps values places i id step s over few (reason-of clauses n steps values places i id step s few is some) k d few' in
+pub reason-few : (clauses : List (List Lit)) (n : ℕ) (steps : List Step) (values : List Value) (indices : List ℕ) (i id m : ℕ) (step : Step)
+    → AreSteps clauses n steps values indices → AreOver n clauses → i < length steps → step ≡ get_or steps i step → step.reason ≡ Some id → m ≡ length steps
+    → All (IsStepOf indices m) (clause_at clauses id)
+reason-few clauses n steps values indices i id m step s over few is some size k d few' =
+    let at = reason-steps clauses n steps values indices i id step s over few (reason-of clauses n steps values indices i id step s few is some) k d few' in
     let before = at.before in
     record { above = at.above; within = at.within; before = omega arith }
 
-pub settled-resolve : (clauses : List (List Lit)) (n : ℕ) (steps : List Step) (values : List (Option Bool)) (places : List ℕ) (i id : ℕ) (step : Step) (a b : Analysis)
-    → AreSteps clauses n steps values places → AreOver n clauses → i < length steps
-    → IsWalked clauses n steps (i + 1) a → is_marked a.needed.items i ≡ true → step ≡ get_or steps i step → step.reason ≡ Some id → (a.last ≤ i → a.at_last_level ≢ 1)
-    → Resolves clauses places id i a b → Settled clauses n steps i a b
-settled-resolve clauses n steps values places i id step a b s over few h marked is some more r =
-    let reason = reason-of clauses n steps values places i id step s few is some in
+pub settled-resolve : (clauses : List (List Lit)) (n : ℕ) (steps : List Step) (values : List Value) (indices : List ℕ) (i id : ℕ) (step : Step) (a b : Analysis)
+    → AreSteps clauses n steps values indices → AreOver n clauses → i < length steps
+    → IsWalked clauses n steps (i + 1) a → is_marked a.seen.items i ≡ true → step ≡ get_or steps i step → step.reason ≡ Some id → (a.last ≤ i → a.at_last_level ≢ 1)
+    → Resolves clauses indices id i a b → Settled clauses n steps i a b
+settled-resolve clauses n steps values indices i id step a b s over few h marked is some more r =
+    let reason = reason-of clauses n steps values indices i id step s few is some in
     let hints : reverse b.hints.items ≡ id ∷ reverse a.hints.items = ap (λ (hs : List ℕ). reverse hs) r.hints ∙ reverse-append a.hints.items (id ∷ []) in
     record {
-      walked = walked-resolve clauses n steps values places i id step a b s over few h marked reason more r;
+      walked = walked-resolve clauses n steps values indices i id step a b s over few h marked reason more r;
       leads = λ conflict before.
-          subst (λ (hs : List ℕ). LeadsToConflict clauses steps i b.needed.items b.lits.items hs conflict) (sym hints)
-          (subst (λ (ls : List Lit). LeadsToConflict clauses steps i b.needed.items ls (id ∷ reverse a.hints.items) conflict) (sym r.lits)
-          (leads-resolve clauses n steps values places i step id a.needed.items r.mid b.needed.items a.lits.items (reverse a.hints.items) conflict s few h.free reason r.needs.keeps r.needs.all r.needed before));
+          subst (λ (hs : List ℕ). LeadsToConflict clauses steps i b.seen.items b.lits.items hs conflict) (sym hints)
+          (subst (λ (ls : List Lit). LeadsToConflict clauses steps i b.seen.items ls (id ∷ reverse a.hints.items) conflict) (sym r.lits)
+          (leads-resolve clauses n steps values indices i step id a.seen.items r.mid b.seen.items a.lits.items (reverse a.hints.items) conflict s few h.free reason r.needs.keeps r.needs.all r.seen before));
     }

@@ -12,40 +12,43 @@ use Rattle.cnf_core.specs.Formula.{IsLitOf, AreOver}
 use Rattle.cnf_core.specs.Values.{IsClosed, IsFalseClause}
 use Rattle.cnf_core.specs.Refutation.{clause_at}
 use Rattle.sat_core.specs.declared.trail.Step.{Step}
-use Rattle.sat_core.specs.Steps.{given, held, IsReason, IsRightStep, AreSteps, Propagates, AreClosedBefore}
-use Rattle.sat_core.specs.Looks.{IsFalsified}
+use Rattle.sat_core.specs.declared.trail.Value.{Value}
+use Rattle.sat_core.specs.declared.trail.Value.TheVariants.{Unassigned}
+use Rattle.sat_core.specs.Steps.{value_of, is_free, given, trail_values, IsReason, IsRightStep, AreSteps, Propagates, AreClosedBefore}
+use Rattle.sat_core.specs.FalseClauses.{IsFalsified}
 use Rattle.sat_core.proofs.Agreeing.{unit-agrees, false-agrees, open-agrees}
 use Rattle.sat_core.proofs.Holding.{none≢some, held-push-other, held-push-same, held-at}
 
 abbrev Values : Type 0
-Values = List (Option Bool)
+Values = List Value
 
-given-same : (values : Values) (l : Lit) → 1 ≤ l.var → l.var ≤ length values → given (set values (l.var - 1) (Some l.positive)) l.var ≡ Some l.positive
+given-same : (values : Values) (l : Lit) (v : Value) → value_of v ≡ Some l.positive → 1 ≤ l.var → l.var ≤ length values → given (set values (l.var - 1) v) l.var ≡ Some l.positive
 unfolding given
-given-same values l low high = get_or-set_same values (l.var - 1) (Some l.positive) None (omega arith)
+given-same values l v is low high = ap value_of (get_or-set_same values (l.var - 1) v Unassigned (omega arith)) ∙ is
 
-given-other : (values : Values) (l : Lit) (x : ℕ) → 1 ≤ l.var → 1 ≤ x → (l.var ≡ x → ⊥) → given (set values (l.var - 1) (Some l.positive)) x ≡ given values x
+given-other : (values : Values) (l : Lit) (v : Value) (x : ℕ) → 1 ≤ l.var → 1 ≤ x → (l.var ≡ x → ⊥) → given (set values (l.var - 1) v) x ≡ given values x
 unfolding given
-given-other values l x low low' other = let ne : x - 1 ≢ l.var - 1 = omega arith in get_or-set_other values (l.var - 1) (x - 1) (Some l.positive) None ne
+given-other values l v x low low' other = let ne : x - 1 ≢ l.var - 1 = omega arith in ap value_of (get_or-set_other values (l.var - 1) (x - 1) v Unassigned ne)
 
 -- one variable fewer without a value
-room-push : (values : Values) (l : Lit) → 1 ≤ l.var → l.var ≤ length values → given values l.var ≡ None → count_by is_none (set values (l.var - 1) (Some l.positive)) + 1 ≡ count_by is_none values
+room-push : (values : Values) (l : Lit) (v : Value) → value_of v ≡ Some l.positive → 1 ≤ l.var → l.var ≤ length values → given values l.var ≡ None → count_by is_free (set values (l.var - 1) v) + 1 ≡ count_by is_free values
 unfolding given
-room-push values l low high free =
-    let e : count_by is_none (set values (l.var - 1) (Some l.positive)) + cond {A = ℕ} (is_none (get_or values (l.var - 1) None)) 1 0 ≡ count_by is_none values + 0 =
-    sum_by-set (λ (o : Option Bool). cond {A = ℕ} (is_none o) 1 0) values (l.var - 1) (Some l.positive) None (omega arith) in
-    let one : cond {A = ℕ} (is_none (get_or values (l.var - 1) None)) 1 0 ≡ 1 = ap (λ (o : Option Bool). cond {A = ℕ} (is_none o) 1 0) free in
+room-push values l v is low high free =
+    let e : count_by is_free (set values (l.var - 1) v) + cond {A = ℕ} (is_free (get_or values (l.var - 1) Unassigned)) 1 0 ≡ count_by is_free values + cond {A = ℕ} (is_free v) 1 0 =
+    sum_by-set (λ (o : Value). cond {A = ℕ} (is_free o) 1 0) values (l.var - 1) v Unassigned (omega arith) in
+    let one : cond {A = ℕ} (is_free (get_or values (l.var - 1) Unassigned)) 1 0 ≡ 1 = ap (λ (o : Option Bool). cond {A = ℕ} (is_none o) 1 0) free in
+    let none : cond {A = ℕ} (is_free v) 1 0 ≡ 0 = ap (λ (o : Option Bool). cond {A = ℕ} (is_none o) 1 0) is in
     omega arith
 
 -- one more right step
-steps-push-of : (clauses : List (List Lit)) (n : ℕ) (steps : List Step) (values : Values) (places : List ℕ) (step : Step) → IsLitOf n step.lit → AreSteps clauses n steps values places → IsRightStep clauses steps step → AreSteps clauses n (steps ++ step ∷ []) (set values (step.lit.var - 1) (Some step.lit.positive)) (set places (step.lit.var - 1) (length steps))
-steps-push-of clauses n steps values places step at h right =
+steps-push-of : (clauses : List (List Lit)) (n : ℕ) (steps : List Step) (values : Values) (indices : List ℕ) (step : Step) (v : Value) → value_of v ≡ Some step.lit.positive → IsLitOf n step.lit → AreSteps clauses n steps values indices → IsRightStep clauses steps step → AreSteps clauses n (steps ++ step ∷ []) (set values (step.lit.var - 1) v) (set indices (step.lit.var - 1) (length steps))
+steps-push-of clauses n steps values indices step v is-v at h right =
     let l = step.lit in
-    let size = length-set values (l.var - 1) (Some l.positive) in
-    let slots = length-set places (l.var - 1) (length steps) in
+    let size = length-set values (l.var - 1) v in
+    let slots = length-set indices (l.var - 1) (length steps) in
     let free : given values l.var ≡ None = sym (h.shows l.var at.above at.within) ∙ right.free in
     let within : l.var ≤ length values = (let a = at.within in let b = h.size in omega arith) in
-    let within' : l.var - 1 < length places = (let a = at.within in let c = at.above in let b = h.slots in omega arith) in
+    let within' : l.var - 1 < length indices = (let a = at.within in let c = at.above in let b = h.slots in omega arith) in
     let long = length_push steps step in
     record {
       trail = λ k d few. elim (cases_lt k (length steps)) [
@@ -60,27 +63,27 @@ steps-push-of clauses n steps values places step at h right =
       exist = All-push (λ (s : Step). IsLitOf n s.lit) steps step h.exist at;
       size = size ∙ h.size;
       shows = λ x low high. elim (cases_eq l.var x) [
-        | inl same ↦ subst (λ (y : ℕ). held (steps ++ step ∷ []) y ≡ given (set values (l.var - 1) (Some l.positive)) y) same
-            (held-push-same steps step right.free ∙ sym (given-same values l at.above within))
-        | inr other ↦ held-push-other steps step x other ∙ h.shows x low high ∙ sym (given-other values l x at.above low other)
+        | inl same ↦ subst (λ (y : ℕ). trail_values (steps ++ step ∷ []) y ≡ given (set values (l.var - 1) v) y) same
+            (held-push-same steps step right.free ∙ sym (given-same values l v is-v at.above within))
+        | inr other ↦ held-push-other steps step x other ∙ h.shows x low high ∙ sym (given-other values l v x at.above low other)
       ];
-      room = (let fewer = room-push values l at.above within free in let room = h.room in omega arith);
+      room = (let fewer = room-push values l v is-v at.above within free in let room = h.room in omega arith);
       slots = slots ∙ h.slots;
       placed = λ k d few. elim (cases_lt k (length steps)) [
         | inl before ↦
             (let s = get_or steps k d in
             let all : take (length steps) steps ≡ steps = take_all' steps in
-            let value : held steps s.lit.var ≡ Some s.lit.positive = subst (λ (xs : List Step). held xs s.lit.var ≡ Some s.lit.positive) all (held-at clauses steps (length steps) k d h.trail before before) in
-            let other : l.var ≢ s.lit.var = λ e. none≢some (sym right.free ∙ ap (held steps) e ∙ value) in
+            let value : trail_values steps s.lit.var ≡ Some s.lit.positive = subst (λ (xs : List Step). trail_values xs s.lit.var ≡ Some s.lit.positive) all (held-at clauses steps (length steps) k d h.trail before before) in
+            let other : l.var ≢ s.lit.var = λ e. none≢some (sym right.free ∙ ap (trail_values steps) e ∙ value) in
             let low = (h.exist k d before).above in
             let low' = at.above in
             let ne : s.lit.var - 1 ≢ l.var - 1 = omega arith in
-            subst (λ (t : Step). get_or (set places (l.var - 1) (length steps)) (t.lit.var - 1) 0 ≡ k) (sym (get_or_append_left steps (step ∷ []) d k before))
-            (get_or-set_other places (l.var - 1) (s.lit.var - 1) (length steps) 0 ne ∙ h.placed k d before))
+            subst (λ (t : Step). get_or (set indices (l.var - 1) (length steps)) (t.lit.var - 1) 0 ≡ k) (sym (get_or_append_left steps (step ∷ []) d k before))
+            (get_or-set_other indices (l.var - 1) (s.lit.var - 1) (length steps) 0 ne ∙ h.placed k d before))
         | inr last ↦
             (let here : length steps ≡ k = omega arith in
-            subst (λ (t : Step). get_or (set places (l.var - 1) (length steps)) (t.lit.var - 1) 0 ≡ k) (sym (get_or_push steps step d k here))
-            (get_or-set_same places (l.var - 1) (length steps) 0 within' ∙ here))
+            subst (λ (t : Step). get_or (set indices (l.var - 1) (length steps)) (t.lit.var - 1) 0 ≡ k) (sym (get_or_push steps step d k here))
+            (get_or-set_same indices (l.var - 1) (length steps) 0 within' ∙ here))
       ];
     }
   where
@@ -88,26 +91,26 @@ steps-push-of clauses n steps values places step at h right =
     take_all' [] = refl
     take_all' (x ∷ xs) = ap (λ (ys : List Step). x ∷ ys) (take_all' xs)
 
-pub steps-push : (clauses : List (List Lit)) (n : ℕ) (steps steps' : List Step) (values values' : Values) (places places' : List ℕ) (step : Step) → IsLitOf n step.lit → steps' ≡ steps ++ step ∷ [] → values' ≡ set values (step.lit.var - 1) (Some step.lit.positive) → places' ≡ set places (step.lit.var - 1) (length steps) → AreSteps clauses n steps values places → IsRightStep clauses steps step → AreSteps clauses n steps' values' places'
-steps-push clauses n steps steps' values values' places places' step at is-steps is-values is-places h right =
-    subst (λ (ss : List Step). AreSteps clauses n ss values' places') (sym is-steps)
-    (subst (λ (vs : Values). AreSteps clauses n (steps ++ step ∷ []) vs places') (sym is-values)
-    (subst (λ (ps : List ℕ). AreSteps clauses n (steps ++ step ∷ []) (set values (step.lit.var - 1) (Some step.lit.positive)) ps) (sym is-places)
-    (steps-push-of clauses n steps values places step at h right)))
+pub steps-push : (clauses : List (List Lit)) (n : ℕ) (steps steps' : List Step) (values values' : Values) (indices indices' : List ℕ) (step : Step) (v : Value) → value_of v ≡ Some step.lit.positive → IsLitOf n step.lit → steps' ≡ steps ++ step ∷ [] → values' ≡ set values (step.lit.var - 1) v → indices' ≡ set indices (step.lit.var - 1) (length steps) → AreSteps clauses n steps values indices → IsRightStep clauses steps step → AreSteps clauses n steps' values' indices'
+steps-push clauses n steps steps' values values' indices indices' step v is-v at is-steps is-values is-indices h right =
+    subst (λ (ss : List Step). AreSteps clauses n ss values' indices') (sym is-steps)
+    (subst (λ (vs : Values). AreSteps clauses n (steps ++ step ∷ []) vs indices') (sym is-values)
+    (subst (λ (ps : List ℕ). AreSteps clauses n (steps ++ step ∷ []) (set values (step.lit.var - 1) v) ps) (sym is-indices)
+    (steps-push-of clauses n steps values indices step v is-v at h right)))
 
 -- the last step taken back
-pub steps-pop : (clauses : List (List Lit)) (n : ℕ) (steps : List Step) (step : Step) (values : Values) (places : List ℕ) → AreSteps clauses n (steps ++ step ∷ []) values places → AreSteps clauses n steps (set values (step.lit.var - 1) None) places
+pub steps-pop : (clauses : List (List Lit)) (n : ℕ) (steps : List Step) (step : Step) (values : Values) (indices : List ℕ) → AreSteps clauses n (steps ++ step ∷ []) values indices → AreSteps clauses n steps (set values (step.lit.var - 1) Unassigned) indices
 unfolding given
-steps-pop clauses n steps step values places h =
+steps-pop clauses n steps step values indices h =
     let l = step.lit in
-    let size = length-set values (l.var - 1) None in
+    let size = length-set values (l.var - 1) Unassigned in
     let long = length_push steps step in
     let at : IsLitOf n l = subst (λ (s : Step). IsLitOf n s.lit) (get_or_push steps step step (length steps) refl) (h.exist (length steps) step (omega arith)) in
     let right : IsRightStep clauses steps step =
     subst (IsRightStep clauses steps) (get_or_push steps step step (length steps) refl)
     (subst (λ (front : List Step). IsRightStep clauses front (get_or (steps ++ step ∷ []) (length steps) step)) (take_at steps (step ∷ []) (length steps) refl) (h.trail (length steps) step (omega arith))) in
     let within : l.var ≤ length values = (let a = at.within in let b = h.size in omega arith) in
-    let was : get_or values (l.var - 1) None ≡ Some l.positive = sym (h.shows l.var at.above at.within) ∙ held-push-same steps step right.free in
+    let was : value_of (get_or values (l.var - 1) Unassigned) ≡ Some l.positive = sym (h.shows l.var at.above at.within) ∙ held-push-same steps step right.free in
     record {
       trail = λ k d few.
           subst (IsRightStep clauses (take k steps)) (get_or_append_left steps (step ∷ []) d k few)
@@ -115,24 +118,24 @@ steps-pop clauses n steps step values places h =
       exist = λ k d few. subst (λ (s : Step). IsLitOf n s.lit) (get_or_append_left steps (step ∷ []) d k few) (h.exist k d (omega arith));
       size = size ∙ h.size;
       shows = λ x low high. elim (cases_eq l.var x) [
-        | inl same ↦ subst (λ (y : ℕ). held steps y ≡ get_or (set values (l.var - 1) None) (y - 1) None) same
-            (right.free ∙ sym (get_or-set_same values (l.var - 1) None None (omega arith)))
+        | inl same ↦ subst (λ (y : ℕ). trail_values steps y ≡ value_of (get_or (set values (l.var - 1) Unassigned) (y - 1) Unassigned)) same
+            (right.free ∙ sym (ap value_of (get_or-set_same values (l.var - 1) Unassigned Unassigned (omega arith))))
         | inr other ↦
             (let ne : x - 1 ≢ l.var - 1 = (let a = at.above in omega arith) in
-            sym (held-push-other steps step x other) ∙ h.shows x low high ∙ sym (get_or-set_other values (l.var - 1) (x - 1) None None ne))
+            sym (held-push-other steps step x other) ∙ h.shows x low high ∙ sym (ap value_of (get_or-set_other values (l.var - 1) (x - 1) Unassigned Unassigned ne)))
       ];
       room =
-          (let e : count_by is_none (set values (l.var - 1) None) + cond {A = ℕ} (is_none (get_or values (l.var - 1) None)) 1 0 ≡ count_by is_none values + 1 =
-          sum_by-set (λ (o : Option Bool). cond {A = ℕ} (is_none o) 1 0) values (l.var - 1) None None (let a = at.above in omega arith) in
-          let zero' : cond {A = ℕ} (is_none (get_or values (l.var - 1) None)) 1 0 ≡ 0 = ap (λ (o : Option Bool). cond {A = ℕ} (is_none o) 1 0) was in
+          (let e : count_by is_free (set values (l.var - 1) Unassigned) + cond {A = ℕ} (is_free (get_or values (l.var - 1) Unassigned)) 1 0 ≡ count_by is_free values + 1 =
+          sum_by-set (λ (o : Value). cond {A = ℕ} (is_free o) 1 0) values (l.var - 1) Unassigned Unassigned (let a = at.above in omega arith) in
+          let zero' : cond {A = ℕ} (is_free (get_or values (l.var - 1) Unassigned)) 1 0 ≡ 0 = ap (λ (o : Option Bool). cond {A = ℕ} (is_none o) 1 0) was in
           let room = h.room in omega arith);
       slots = h.slots;
-      placed = λ k d few. subst (λ (t : Step). get_or places (t.lit.var - 1) 0 ≡ k) (get_or_append_left steps (step ∷ []) d k few) (h.placed k d (omega arith));
+      placed = λ k d few. subst (λ (t : Step). get_or indices (t.lit.var - 1) 0 ≡ k) (get_or_append_left steps (step ∷ []) d k few) (h.placed k d (omega arith));
     }
 
 -- the values and the steps agree on a clause's variables
-pub agree : (clauses : List (List Lit)) (n : ℕ) (steps : List Step) (values : Values) (places : List ℕ) (c : List Lit) → AreSteps clauses n steps values places → All (IsLitOf n) c → (m : Lit) → Contains c m → given values m.var ≡ held steps m.var
-agree clauses n steps values places c h exist m there =
+pub agree : (clauses : List (List Lit)) (n : ℕ) (steps : List Step) (values : Values) (indices : List ℕ) (c : List Lit) → AreSteps clauses n steps values indices → All (IsLitOf n) c → (m : Lit) → Contains c m → given values m.var ≡ trail_values steps m.var
+agree clauses n steps values indices c h exist m there =
     let at = All-contains (IsLitOf n) c m exist there in
     sym (h.shows m.var at.above at.within)
 
@@ -140,31 +143,31 @@ pub clause-exists : (clauses : List (List Lit)) (n id : ℕ) → AreOver n claus
 clause-exists clauses n id exist low high = exist (id - 1) [] (omega arith)
 
 -- **a clause that is unit by the values gives a right step**
-pub reason-right : (clauses : List (List Lit)) (n : ℕ) (steps : List Step) (values : Values) (places : List ℕ) (l : Lit) (id : ℕ) → AreSteps clauses n steps values places → AreOver n clauses → IsReason (given values) clauses id l → IsLitOf n l × IsRightStep clauses steps (record { lit = l; reason = Some id })
-reason-right clauses n steps values places l id h over r =
+pub reason-right : (clauses : List (List Lit)) (n : ℕ) (steps : List Step) (values : Values) (indices : List ℕ) (l : Lit) (id : ℕ) → AreSteps clauses n steps values indices → AreOver n clauses → IsReason (given values) clauses id l → IsLitOf n l × IsRightStep clauses steps (record { lit = l; reason = Some id })
+reason-right clauses n steps values indices l id h over r =
     let c = clause_at clauses id in
     let exist = clause-exists clauses n id over r.low r.high in
-    let u = unit-agrees (given values) (held steps) c l (agree clauses n steps values places c h exist) r.unit in (
+    let u = unit-agrees (given values) (trail_values steps) c l (agree clauses n steps values indices c h exist) r.unit in (
       All-contains (IsLitOf n) c l exist u.among,
-      record { free = u.free; forced = λ id' is. (let same : id ≡ id' = cc in subst (λ (i : ℕ). IsReason (held steps) clauses i l) same (record { low = r.low; high = r.high; unit = u })) },
+      record { free = u.free; forced = λ id' is. (let same : id ≡ id' = cc in subst (λ (i : ℕ). IsReason (trail_values steps) clauses i l) same (record { low = r.low; high = r.high; unit = u })) },
     )
 
 -- a decision of a free variable is a right step
-pub decision-right : (clauses : List (List Lit)) (n : ℕ) (steps : List Step) (values : Values) (places : List ℕ) (l : Lit) → AreSteps clauses n steps values places → 1 ≤ l.var → l.var ≤ n → given values l.var ≡ None → IsRightStep clauses steps (record { lit = l; reason = None })
-decision-right clauses n steps values places l h low high free =
+pub decision-right : (clauses : List (List Lit)) (n : ℕ) (steps : List Step) (values : Values) (indices : List ℕ) (l : Lit) → AreSteps clauses n steps values indices → 1 ≤ l.var → l.var ≤ n → given values l.var ≡ None → IsRightStep clauses steps (record { lit = l; reason = None })
+decision-right clauses n steps values indices l h low high free =
     record { free = h.shows l.var low high ∙ free; forced = λ id is. absurd (no-id id is) }
   where
     no-id : (id : ℕ) → None ≡ Some id → ⊥
     no-id id e = cc
 
 -- what holds by the values holds by the steps
-pub closed-held : (clauses : List (List Lit)) (n : ℕ) (steps : List Step) (values : Values) (places : List ℕ) → AreSteps clauses n steps values places → AreOver n clauses → IsClosed (given values) clauses → IsClosed (held steps) clauses
-closed-held clauses n steps values places h exist closed = λ k d few.
-    open-agrees (given values) (held steps) (get_or clauses k d) (agree clauses n steps values places (get_or clauses k d) h (exist k d few)) (closed k d few)
+pub closed-held : (clauses : List (List Lit)) (n : ℕ) (steps : List Step) (values : Values) (indices : List ℕ) → AreSteps clauses n steps values indices → AreOver n clauses → IsClosed (given values) clauses → IsClosed (trail_values steps) clauses
+closed-held clauses n steps values indices h exist closed = λ k d few.
+    open-agrees (given values) (trail_values steps) (get_or clauses k d) (agree clauses n steps values indices (get_or clauses k d) h (exist k d few)) (closed k d few)
 
-pub falsified-held : (clauses : List (List Lit)) (n : ℕ) (steps : List Step) (values : Values) (places : List ℕ) (id : ℕ) → AreSteps clauses n steps values places → AreOver n clauses → IsFalsified (given values) clauses id → IsFalseClause (held steps) (clause_at clauses id)
-falsified-held clauses n steps values places id h over r =
-    false-agrees (given values) (held steps) (clause_at clauses id) (agree clauses n steps values places (clause_at clauses id) h (clause-exists clauses n id over r.low r.high)) r.false'
+pub falsified-held : (clauses : List (List Lit)) (n : ℕ) (steps : List Step) (values : Values) (indices : List ℕ) (id : ℕ) → AreSteps clauses n steps values indices → AreOver n clauses → IsFalsified (given values) clauses id → IsFalseClause (trail_values steps) (clause_at clauses id)
+falsified-held clauses n steps values indices id h over r =
+    false-agrees (given values) (trail_values steps) (clause_at clauses id) (agree clauses n steps values indices (clause_at clauses id) h (clause-exists clauses n id over r.low r.high)) r.false'
 
 pub propagates-push : (old new new' : List Step) (step : Step) → Propagates old new → new' ≡ new ++ step ∷ [] → (step.reason ≢ None) → Propagates old new'
 propagates-push old new new' step (added, is, forced) is' some = (
@@ -178,7 +181,7 @@ pub propagated-closed : (clauses : List (List Lit)) (old new : List Step) → Ar
 propagated-closed clauses old new closed (added, is, forced) =
     subst (AreClosedBefore clauses) (sym is) (λ k d few decides. elim (cases_lt k (length old)) [
       | inl before ↦
-          subst (λ (xs : List Step). IsClosed (held xs) clauses) (sym (take-append-le k old added (omega arith)))
+          subst (λ (xs : List Step). IsClosed (trail_values xs) clauses) (sym (take-append-le k old added (omega arith)))
           (closed k d before (subst (λ (s : Step). s.reason ≡ None) (get_or_append_left old added d k before) decides))
       | inr after ↦
           (let long = length-append old added in
@@ -187,29 +190,29 @@ propagated-closed clauses old new closed (added, is, forced) =
     ])
 
 -- **and so does a decision on closed values**
-pub decided-closed : (clauses : List (List Lit)) (old new : List Step) (step : Step) → AreClosedBefore clauses old → IsClosed (held old) clauses → new ≡ old ++ step ∷ [] → AreClosedBefore clauses new
+pub decided-closed : (clauses : List (List Lit)) (old new : List Step) (step : Step) → AreClosedBefore clauses old → IsClosed (trail_values old) clauses → new ≡ old ++ step ∷ [] → AreClosedBefore clauses new
 decided-closed clauses old new step closed now is =
     subst (AreClosedBefore clauses) (sym is) (λ k d few decides. elim (cases_lt k (length old)) [
       | inl before ↦
-          subst (λ (xs : List Step). IsClosed (held xs) clauses) (sym (take-append-le k old (step ∷ []) (omega arith)))
+          subst (λ (xs : List Step). IsClosed (trail_values xs) clauses) (sym (take-append-le k old (step ∷ []) (omega arith)))
           (closed k d before (subst (λ (s : Step). s.reason ≡ None) (get_or_append_left old (step ∷ []) d k before) decides))
       | inr last ↦
           (let long = length_push old step in
-          subst (λ (xs : List Step). IsClosed (held xs) clauses) (sym (take_at old (step ∷ []) k (omega arith))) now)
+          subst (λ (xs : List Step). IsClosed (trail_values xs) clauses) (sym (take_at old (step ∷ []) k (omega arith))) now)
     ])
 
 -- no step at all
-pub steps-none : (clauses : List (List Lit)) (n : ℕ) (steps : List Step) (values : Values) (places : List ℕ) → steps ≡ [] → values ≡ replicate n None → places ≡ replicate n 0 → AreSteps clauses n steps values places
+pub steps-none : (clauses : List (List Lit)) (n : ℕ) (steps : List Step) (values : Values) (indices : List ℕ) → steps ≡ [] → values ≡ replicate n Unassigned → indices ≡ replicate n 0 → AreSteps clauses n steps values indices
 unfolding given
-steps-none clauses n steps values places is-steps is-values is-places =
-    subst (λ (ss : List Step). AreSteps clauses n ss values places) (sym is-steps)
-    (subst (λ (vs : Values). AreSteps clauses n [] vs places) (sym is-values)
+steps-none clauses n steps values indices is-steps is-values is-indices =
+    subst (λ (ss : List Step). AreSteps clauses n ss values indices) (sym is-steps)
+    (subst (λ (vs : Values). AreSteps clauses n [] vs indices) (sym is-values)
     (record {
       trail = λ k d few. absurd (omega (arith, few));
       exist = All-nil (λ (s : Step). IsLitOf n s.lit);
-      size = length-replicate n None;
-      shows = λ x low high. sym (get_or-replicate n (x - 1) None None (omega arith));
-      room = (let all = sum_by-replicate (λ (o : Option Bool). cond {A = ℕ} (is_none o) 1 0) n None in omega arith);
-      slots = ap length is-places ∙ length-replicate n 0;
+      size = length-replicate n Unassigned;
+      shows = λ x low high. sym (ap value_of (get_or-replicate n (x - 1) Unassigned Unassigned (omega arith)));
+      room = (let all = sum_by-replicate (λ (o : Value). cond {A = ℕ} (is_free o) 1 0) n Unassigned in omega arith);
+      slots = ap length is-indices ∙ length-replicate n 0;
       placed = λ k d few. absurd (omega (arith, few));
     }))

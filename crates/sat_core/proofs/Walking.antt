@@ -1,5 +1,5 @@
 -- The walk back along the trail: a step that isn't needed, that is kept, that is resolved.
-use Rattle.std.proofs.Common.{◌≡◌, ◌≢◌, ℕ, ◌+◌, ◌-◌, ◌<◌, ◌≤◌, ◌⊎◌, Bool, true, false, not, List, [], ◌∷◌, ◌++◌, length, take, set, get_or, refl, sym, ap, ◌∙◌, subst, arith, inl, inr, Option, Some, None}
+use Rattle.std.proofs.Common.{◌≡◌, ◌≢◌, ℕ, ◌+◌, ◌-◌, ◌<◌, ◌≤◌, ◌⊎◌, Bool, true, false, not, List, [], ◌∷◌, ◌++◌, length, take, set, get_or, refl, sym, ap, ◌∙◌, subst, arith, inl, inr, Some, None}
 use Rattle.std.specs.Prelude.{is_none, nat_le, ◌&&◌}
 use Rattle.std.specs.List.{All}
 use Rattle.std.proofs.lemmas.Bool.{cases_Bool, cases_eq, cases_lt, cond-true, cond-false, false≢true}
@@ -12,27 +12,29 @@ use Rattle.cnf_core.specs.Values.{Partial, IsFalse, IsOpenClause}
 use Rattle.cnf_core.specs.Refutation.{clause_at, AreNames, HaveDifferentVars}
 use Rattle.sat_core.specs.declared.trail.Step.{Step}
 use Rattle.sat_core.specs.declared.conflict.Analysis.{Analysis}
-use Rattle.sat_core.specs.Steps.{held, IsReason, AreSteps}
-use Rattle.sat_core.specs.Walks.{step_place, IsStepOf, is_marked, last_level_count, AreUnmarked, IsLastDecision, IsFirstDecision, IsKeptAt, KeepsStep, Resolves, IsAsserting, IsWalked, IsBackjump, backjump_after}
+use Rattle.sat_core.specs.declared.trail.Value.{Value}
+use Rattle.sat_core.specs.Steps.{trail_values, IsReason, AreSteps}
+use Rattle.sat_core.specs.Walks.{trail_index, IsStepOf, is_marked, last_level_count, AreUnmarked, AreUnmarkedBelow, IsLastDecision, IsDecisionOrEnd, IsKeptAt, KeepsStep, Resolves, IsAsserting, IsWalked, LeadsToConflict, IsBackjump, backjump_after, backjump_at_end}
 use Rattle.sat_core.proofs.Holding.{held-at, step-of, free-before}
 use Rattle.sat_core.proofs.States.{clause-exists}
 use Rattle.sat_core.proofs.Leading.{others-later}
-use Rattle.sat_core.proofs.Marking.{late_early, late_unmarked, late-clear, late-some, late-one, clear-unmarked}
+use Rattle.sat_core.proofs.Marking.{late_early, late_unmarked, late-clear, late-some, late-one, clear-unmarked, below-unmarked}
 
-free-weaker : (steps : List Step) (i : ℕ) (lits : List Lit) → All (λ (l : Lit). held (take (i + 1) steps) l.var ≡ None) lits → All (λ (l : Lit). held (take i steps) l.var ≡ None) lits
+free-weaker : (steps : List Step) (i : ℕ) (lits : List Lit) → All (λ (l : Lit). trail_values (take (i + 1) steps) l.var ≡ None) lits → All (λ (l : Lit). trail_values (take i steps) l.var ≡ None) lits
 free-weaker steps i lits free =
-    All-weaker (λ (l : Lit). held (take (i + 1) steps) l.var ≡ None) (λ (l : Lit). held (take i steps) l.var ≡ None)
+    All-weaker (λ (l : Lit). trail_values (take (i + 1) steps) l.var ≡ None) (λ (l : Lit). trail_values (take i steps) l.var ≡ None)
     (λ l none. free-before steps i (i + 1) l.var (omega arith) none) lits free
 
 -- **a step that isn't needed**
-pub walked-skip : (clauses : List (List Lit)) (n : ℕ) (steps : List Step) (i : ℕ) (a : Analysis) → IsWalked clauses n steps (i + 1) a → is_marked a.needed.items i ≡ false → IsWalked clauses n steps i a
+pub walked-skip : (clauses : List (List Lit)) (n : ℕ) (steps : List Step) (i : ℕ) (a : Analysis) → IsWalked clauses n steps (i + 1) a → is_marked a.seen.items i ≡ false → IsWalked clauses n steps i a
 walked-skip clauses n steps i a h unmarked =
     record {
       size = h.size;
       clear = λ k low. elim (cases_eq k i) [
-        | inl same ↦ ap (is_marked a.needed.items) same ∙ unmarked
+        | inl same ↦ ap (is_marked a.seen.items) same ∙ unmarked
         | inr other ↦ h.clear k (omega arith)
       ];
+      below = h.below;
       count = h.count;
       exist = h.exist;
       free = free-weaker steps i a.lits.items h.free;
@@ -48,33 +50,33 @@ not-not true = refl
 not-not false = refl
 
 -- where nothing from i on is marked, nothing of a last level from i on is
-clear-late : (i last : ℕ) (needed : List Bool) → i ≤ last → AreUnmarked i needed → AreUnmarked last needed
-clear-late i last needed low clear k above = clear k (omega arith)
+clear-late : (i last : ℕ) (seen : List Bool) → i ≤ last → AreUnmarked i seen → AreUnmarked last seen
+clear-late i last seen low clear k above = clear k (omega arith)
 
 -- no step of the last level but this one was needed
 kept-late : (clauses : List (List Lit)) (n : ℕ) (steps : List Step) (i first : ℕ) (d : Step) (a b : Analysis)
-    → IsLastDecision steps a.last → i < length steps → IsWalked clauses n steps (i + 1) a → is_marked a.needed.items i ≡ true
+    → IsLastDecision steps a.last → i < length steps → IsWalked clauses n steps (i + 1) a → is_marked a.seen.items i ≡ true
     → ((get_or steps i d).reason ≡ None) ⊎ IsKeptAt first a.last a.at_last_level i → KeepsStep i (get_or steps i d).lit a b → b.at_last_level ≡ 0
 kept-late clauses n steps i first d a b last few h marked why k =
     let size = h.size in
-    let needed = a.needed.items in
-    let now : b.at_last_level ≡ last_level_count a.last (set needed i false) =
-    k.at_last_level ∙ ap (λ (m : ℕ). last_level_count m b.needed.items) k.last ∙ ap (last_level_count a.last) k.needed in
+    let seen = a.seen.items in
+    let now : b.at_last_level ≡ last_level_count a.last (set seen i false) =
+    k.at_last_level ∙ ap (λ (m : ℕ). last_level_count m b.seen.items) k.last ∙ ap (last_level_count a.last) k.seen in
     elim (cases_lt i a.last) [
       | inl early ↦
-          (let e = late_early a.last i needed false early in
-          let none = late-clear a.last needed (clear-late (i + 1) a.last needed (omega arith) h.clear) in
+          (let e = late_early a.last i seen false early in
+          let none = late-clear a.last seen (clear-late (i + 1) a.last seen (omega arith) h.clear) in
           now ∙ e ∙ none)
       | inr low ↦
-          (let e = late_unmarked a.last i needed (omega arith) low marked in
+          (let e = late_unmarked a.last i seen (omega arith) low marked in
           let count = h.count in
-          let is-one : last_level_count a.last needed ≡ 1 = elim why [
+          let is-one : last_level_count a.last seen ≡ 1 = elim why [
             | inl decides ↦
                 (let at : i ≡ a.last = elim (cases_eq i a.last) [
                   | inl same ↦ same
                   | inr other ↦ absurd (last.after i d (omega arith) few decides)
                 ] in
-                late-one a.last needed (omega arith) (subst (λ (j : ℕ). is_marked needed j ≡ true) at marked) (subst (λ (j : ℕ). AreUnmarked (j + 1) needed) at h.clear))
+                late-one a.last seen (omega arith) (subst (λ (j : ℕ). is_marked seen j ≡ true) at marked) (subst (λ (j : ℕ). AreUnmarked (j + 1) seen) at h.clear))
             | inr kept ↦ elim kept [
               | inl alone ↦ sym count ∙ alone.1
               | inr earlier ↦ (let below = earlier.0 in absurd (omega arith))
@@ -84,53 +86,55 @@ kept-late clauses n steps i first d a b last few h marked why k =
     ]
 
 -- **a step that is kept**
-pub walked-keep : (clauses : List (List Lit)) (n : ℕ) (steps : List Step) (values : List (Option Bool)) (places : List ℕ) (i first : ℕ) (d : Step) (a b : Analysis)
-    → AreSteps clauses n steps values places → IsFirstDecision steps first → IsLastDecision steps a.last → i < length steps
-    → IsWalked clauses n steps (i + 1) a → is_marked a.needed.items i ≡ true → ((get_or steps i d).reason ≡ None) ⊎ IsKeptAt first a.last a.at_last_level i
+pub walked-keep : (clauses : List (List Lit)) (n : ℕ) (steps : List Step) (values : List Value) (indices : List ℕ) (i first : ℕ) (d : Step) (a b : Analysis)
+    → AreSteps clauses n steps values indices → IsDecisionOrEnd steps first → IsLastDecision steps a.last → i < length steps
+    → IsWalked clauses n steps (i + 1) a → is_marked a.seen.items i ≡ true → ((get_or steps i d).reason ≡ None) ⊎ IsKeptAt first a.last a.at_last_level i
     → KeepsStep i (get_or steps i d).lit a b → IsWalked clauses n steps i b
-walked-keep clauses n steps values places i first d a b s is-first last few h marked why k =
+walked-keep clauses n steps values indices i first d a b s is-first last few h marked why k =
     let l = (get_or steps i d).lit in
     let size = h.size in
     let zero' = kept-late clauses n steps i first d a b last few h marked why k in
     let at = s.exist i d few in
-    let free-i : held (take i steps) l.var ≡ None = (s.trail i d few).free in
+    let free-i : trail_values (take i steps) l.var ≡ None = (s.trail i d few).free in
     record {
-      size = ap length k.needed ∙ length-set a.needed.items i false ∙ size;
-      clear = subst (AreUnmarked i) (sym k.needed) (clear-unmarked i a.needed.items (omega arith) h.clear);
+      size = ap length k.seen ∙ length-set a.seen.items i false ∙ size;
+      clear = subst (AreUnmarked i) (sym k.seen) (clear-unmarked i a.seen.items (omega arith) h.clear);
+      below = subst (λ (m : ℕ). AreUnmarkedBelow m b.seen.items) (sym k.lowest)
+          (subst (AreUnmarkedBelow a.lowest) (sym k.seen) (below-unmarked a.lowest i a.seen.items (omega arith) h.below));
       count = k.at_last_level;
       exist = subst (All (IsLitOf n)) (sym k.lits) (All-push (IsLitOf n) a.lits.items (negated l) h.exist (record { above = at.above; within = at.within }));
-      free = subst (All (λ (m : Lit). held (take i steps) m.var ≡ None)) (sym k.lits)
-          (All-push (λ (m : Lit). held (take i steps) m.var ≡ None) a.lits.items (negated l) (free-weaker steps i a.lits.items h.free) free-i);
+      free = subst (All (λ (m : Lit). trail_values (take i steps) m.var ≡ None)) (sym k.lits)
+          (All-push (λ (m : Lit). trail_values (take i steps) m.var ≡ None) a.lits.items (negated l) (free-weaker steps i a.lits.items h.free) free-i);
       differ = subst (HaveDifferentVars) (sym k.lits) (all_pairs_push (λ (l m : Lit). l.var ≢ m.var) a.lits.items (negated l) h.differ (others-later clauses steps i d a.lits.items s.trail few h.free));
       names = subst (AreNames (length clauses)) (sym k.hints) h.names;
       many = λ some in-level. absurd (omega arith);
       one = λ none in-level'.
           (let in-level : a.last < length steps = (let e = k.last in omega arith) in
-          let asserts : IsAsserting (held (take a.last steps)) b.lits.items = elim (cases_lt i a.last) [
+          let asserts : IsAsserting (trail_values (take a.last steps)) b.lits.items = elim (cases_lt i a.last) [
             | inl early ↦
                 (let count = h.count in
-                let none' = late-clear a.last a.needed.items (clear-late (i + 1) a.last a.needed.items (omega arith) h.clear) in
+                let none' = late-clear a.last a.seen.items (clear-late (i + 1) a.last a.seen.items (omega arith) h.clear) in
                 let before = h.one (omega arith) in-level in
                 record {
                   first = before.first;
                   rest = before.rest ++ negated l ∷ [];
                   is = k.lits ∙ ap (λ (ls : List Lit). ls ++ negated l ∷ []) before.is;
                   free = before.free;
-                  false' = All-push (IsFalse (held (take a.last steps))) before.rest (negated l) before.false'
+                  false' = All-push (IsFalse (trail_values (take a.last steps))) before.rest (negated l) before.false'
                       (held-at clauses steps a.last i d s.trail early few ∙ ap (λ (p : Bool). Some p) (sym (not-not l.positive)));
                 })
             | inr low ↦
                 (let count = h.count in
-                let some = late-some a.last i a.needed.items (omega arith) low marked in
+                let some = late-some a.last i a.seen.items (omega arith) low marked in
                 record {
                   first = negated l;
                   rest = [];
                   is = k.lits ∙ ap (λ (ls : List Lit). ls ++ negated l ∷ []) (h.many (omega arith) in-level);
                   free = free-before steps a.last i l.var low free-i;
-                  false' = All-nil (IsFalse (held (take a.last steps)));
+                  false' = All-nil (IsFalse (trail_values (take a.last steps)));
                 })
           ] in
-          subst (λ (m : ℕ). IsAsserting (held (take m steps)) b.lits.items) (sym k.last) asserts);
+          subst (λ (m : ℕ). IsAsserting (trail_values (take m steps)) b.lits.items) (sym k.last) asserts);
       root = λ forced. absurd (elim why [
         | inl decides ↦ forced i d few decides
         | inr kept ↦ elim kept [
@@ -141,44 +145,46 @@ walked-keep clauses n steps values places i first d a b s is-first last few h ma
     }
 
 -- the steps of a reason's literals are before the step or the step itself
-pub reason-steps : (clauses : List (List Lit)) (n : ℕ) (steps : List Step) (values : List (Option Bool)) (places : List ℕ) (i id : ℕ) (d : Step)
-    → AreSteps clauses n steps values places → AreOver n clauses → i < length steps → IsReason (held (take i steps)) clauses id (get_or steps i d).lit
-    → All (IsStepOf places (i + 1)) (clause_at clauses id)
-reason-steps clauses n steps values places i id d s over few reason k e few' =
+pub reason-steps : (clauses : List (List Lit)) (n : ℕ) (steps : List Step) (values : List Value) (indices : List ℕ) (i id : ℕ) (d : Step)
+    → AreSteps clauses n steps values indices → AreOver n clauses → i < length steps → IsReason (trail_values (take i steps)) clauses id (get_or steps i d).lit
+    → All (IsStepOf indices (i + 1)) (clause_at clauses id)
+reason-steps clauses n steps values indices i id d s over few reason k e few' =
     let c = clause_at clauses id in
     let m = get_or c k e in
     let at = clause-exists clauses n id over reason.low reason.high k e few' in
     let high = at.within in
     let slots = s.slots in
-    let before : step_place places m < i + 1 = elim (reason.unit.others k e few') [
-      | inl same ↦ (let p = ap (step_place places) same ∙ s.placed i d few in omega arith)
+    let before : trail_index indices m < i + 1 = elim (reason.unit.others k e few') [
+      | inl same ↦ (let p = ap (trail_index indices) same ∙ s.placed i d few in omega arith)
       | inr false' ↦
           (let (j, few-j, is) = step-of (take i steps) m.var (not m.positive) false' in
           let size = length-take i steps in
           let below : j < i = omega arith in
           let var : (get_or steps j d).lit.var ≡ m.var = ap (λ (x : Step). x.lit.var) (sym (get_or-take i steps j d below)) ∙ (is d).0 in
-          let p = ap (λ (x : ℕ). get_or places (x - 1) 0) (sym var) ∙ s.placed j d (omega arith) in
+          let p = ap (λ (x : ℕ). get_or indices (x - 1) 0) (sym var) ∙ s.placed j d (omega arith) in
           omega arith)
     ] in
     record { above = at.above; within = omega arith; before = before }
 
 -- **a step that is resolved**
-pub walked-resolve : (clauses : List (List Lit)) (n : ℕ) (steps : List Step) (values : List (Option Bool)) (places : List ℕ) (i id : ℕ) (d : Step) (a b : Analysis)
-    → AreSteps clauses n steps values places → AreOver n clauses → i < length steps → IsWalked clauses n steps (i + 1) a → is_marked a.needed.items i ≡ true
-    → IsReason (held (take i steps)) clauses id (get_or steps i d).lit → (a.last ≤ i → a.at_last_level ≢ 1) → Resolves clauses places id i a b → IsWalked clauses n steps i b
-walked-resolve clauses n steps values places i id d a b s over few h marked reason more r =
+pub walked-resolve : (clauses : List (List Lit)) (n : ℕ) (steps : List Step) (values : List Value) (indices : List ℕ) (i id : ℕ) (d : Step) (a b : Analysis)
+    → AreSteps clauses n steps values indices → AreOver n clauses → i < length steps → IsWalked clauses n steps (i + 1) a → is_marked a.seen.items i ≡ true
+    → IsReason (trail_values (take i steps)) clauses id (get_or steps i d).lit → (a.last ≤ i → a.at_last_level ≢ 1) → Resolves clauses indices id i a b → IsWalked clauses n steps i b
+walked-resolve clauses n steps values indices i id d a b s over few h marked reason more r =
     let size = h.size in
     let mid-size = r.needs.size in
     let count = h.count in
     let added = r.needs.count in
-    let mid-clear : AreUnmarked (i + 1) r.mid = r.needs.only (i + 1) (reason-steps clauses n steps values places i id d s over few reason) h.clear in
-    let now : b.at_last_level ≡ last_level_count a.last (set r.mid i false) = r.at_last_level ∙ ap (λ (m : ℕ). last_level_count m b.needed.items) r.last ∙ ap (last_level_count a.last) r.needed in
+    let mid-clear : AreUnmarked (i + 1) r.mid = r.needs.only (i + 1) (reason-steps clauses n steps values indices i id d s over few reason) h.clear in
+    let now : b.at_last_level ≡ last_level_count a.last (set r.mid i false) = r.at_last_level ∙ ap (λ (m : ℕ). last_level_count m b.seen.items) r.last ∙ ap (last_level_count a.last) r.seen in
     record {
-      size = ap length r.needed ∙ length-set r.mid i false ∙ mid-size ∙ size;
-      clear = subst (AreUnmarked i) (sym r.needed) (clear-unmarked i r.mid (omega arith) mid-clear);
+      size = ap length r.seen ∙ length-set r.mid i false ∙ mid-size ∙ size;
+      clear = subst (AreUnmarked i) (sym r.seen) (clear-unmarked i r.mid (omega arith) mid-clear);
+      below = subst (AreUnmarkedBelow b.lowest) (sym r.seen)
+          (below-unmarked b.lowest i r.mid (omega arith) (r.needs.below b.lowest r.lowest (λ j low. (let lower = r.lower in h.below j (omega arith)))));
       count = r.at_last_level;
       exist = subst (All (IsLitOf n)) (sym r.lits) h.exist;
-      free = subst (All (λ (m : Lit). held (take i steps) m.var ≡ None)) (sym r.lits) (free-weaker steps i a.lits.items h.free);
+      free = subst (All (λ (m : Lit). trail_values (take i steps) m.var ≡ None)) (sym r.lits) (free-weaker steps i a.lits.items h.free);
       differ = subst (HaveDifferentVars) (sym r.lits) h.differ;
       names = subst (AreNames (length clauses)) (sym r.hints) (All-push (λ x. (1 ≤ x) × (x ≤ length clauses)) a.hints.items id h.names (reason.low, reason.high));
       many = λ some in-level'.
@@ -189,22 +195,22 @@ walked-resolve clauses n steps values places i id d a b s over few h marked reas
                 let none = late-clear a.last r.mid (clear-late (i + 1) a.last r.mid (omega arith) mid-clear) in
                 absurd (omega arith))
             | inr low ↦
-                (let some' = late-some a.last i a.needed.items (omega arith) low marked in
+                (let some' = late-some a.last i a.seen.items (omega arith) low marked in
                 r.lits ∙ h.many (omega arith) in-level)
           ]);
       one = λ none in-level'.
           (let in-level : a.last < length steps = (let e = r.last in omega arith) in
-          let asserts : IsAsserting (held (take a.last steps)) b.lits.items = elim (cases_lt i a.last) [
+          let asserts : IsAsserting (trail_values (take a.last steps)) b.lits.items = elim (cases_lt i a.last) [
             | inl early ↦
-                (let none' = late-clear a.last a.needed.items (clear-late (i + 1) a.last a.needed.items (omega arith) h.clear) in
-                subst (IsAsserting (held (take a.last steps))) (sym r.lits) (h.one (omega arith) in-level))
+                (let none' = late-clear a.last a.seen.items (clear-late (i + 1) a.last a.seen.items (omega arith) h.clear) in
+                subst (IsAsserting (trail_values (take a.last steps))) (sym r.lits) (h.one (omega arith) in-level))
             | inr low ↦
-                (let some' = late-some a.last i a.needed.items (omega arith) low marked in
+                (let some' = late-some a.last i a.seen.items (omega arith) low marked in
                 let e = late_unmarked a.last i r.mid (omega arith) low (r.needs.keeps i marked) in
                 let ne = more low in
                 absurd (omega arith))
           ] in
-          subst (λ (m : ℕ). IsAsserting (held (take m steps)) b.lits.items) (sym r.last) asserts);
+          subst (λ (m : ℕ). IsAsserting (trail_values (take m steps)) b.lits.items) (sym r.last) asserts);
       root = λ forced. r.lits ∙ h.root forced;
     }
 
@@ -250,16 +256,71 @@ stays-more clauses n steps i d backjump backjump' lits lits' more b h is-b is fe
             | inl same ↦
                 (let here : step.reason ≡ None = ap (λ (x : Step). x.reason) (get_or_default steps i d e few) ∙ ap (λ (j : ℕ). (get_or steps j e).reason) (sym same) ∙ decides in
                 let long : nat_le (length lits') 1 ≡ false = and-right (is_none step.reason) (nat_le (length lits') 1) (ap is_none here) stays in
-                let free = subst (All (λ (l : Lit). held (take i steps) l.var ≡ None)) is-b h.free in
+                let free = subst (All (λ (l : Lit). trail_values (take i steps) l.var ≡ None)) is-b h.free in
                 let differ = subst (HaveDifferentVars) is-b h.differ in
-                subst (λ (j : ℕ). IsOpenClause (held (take j steps)) lits') (sym same)
-                (open-two (held (take i steps)) lits' (not-le (length lits') long) differ free))
+                subst (λ (j : ℕ). IsOpenClause (trail_values (take j steps)) lits') (sym same)
+                (open-two (trail_values (take i steps)) lits' (not-le (length lits') long) differ free))
             | inr other ↦
-                subst (IsOpenClause (held (take k steps))) (sym is)
-                (open-append (held (take k steps)) lits more (before k e (omega arith) (omega arith) few' decides))
+                subst (IsOpenClause (trail_values (take k steps))) (sym is)
+                (open-append (trail_values (take k steps)) lits more (before k e (omega arith) (omega arith) few' decides))
           ])
     ]
   where
     and-right : (p q : Bool) → p ≡ true → (p && q) ≡ false → q ≡ false
     and-right true q e f = f
     and-right false q e f = absurd (false≢true e)
+
+-- nothing is marked where nothing is from the place on, and nothing before it
+all-clear : (i lowest : ℕ) (seen : List Bool) → i ≤ lowest → AreUnmarked i seen → AreUnmarkedBelow lowest seen → (k : ℕ) → is_marked seen k ≡ false
+all-clear i lowest seen low clear below k =
+    elim (cases_lt k lowest) [
+      | inl before ↦ below k before
+      | inr after ↦ clear k (omega arith)
+    ]
+
+-- **the walk's end**: no step before the place is needed, so it is as if all were walked
+pub walked-end : (clauses : List (List Lit)) (n : ℕ) (steps : List Step) (i backjump : ℕ) (a : Analysis) → i ≤ a.lowest → IsWalked clauses n steps i a → IsWalked clauses n steps 0 (record a { backjump = backjump })
+walked-end clauses n steps i backjump a low h =
+    record {
+      size = h.size;
+      clear = λ k above. all-clear i a.lowest a.seen.items low h.clear h.below k;
+      below = h.below;
+      count = h.count;
+      exist = h.exist;
+      free = λ k d few. refl;
+      differ = h.differ;
+      names = h.names;
+      many = h.many;
+      one = h.one;
+      root = h.root;
+    }
+
+pub leads-end : (clauses : List (List Lit)) (n : ℕ) (steps : List Step) (i : ℕ) (a : Analysis) (hints : List ℕ) (conflict : List Lit) → i ≤ a.lowest → IsWalked clauses n steps i a
+    → LeadsToConflict clauses steps i a.seen.items a.lits.items hints conflict → LeadsToConflict clauses steps 0 a.seen.items a.lits.items hints conflict
+leads-end clauses n steps i a hints conflict low h leads t covers rest =
+    leads t (λ k d below few mark. absurd (false≢true (sym (all-clear i a.lowest a.seen.items low h.clear h.below k) ∙ mark))) (λ x free. rest x refl)
+
+pub stays-end : (clauses : List (List Lit)) (n : ℕ) (steps : List Step) (i first : ℕ) (a : Analysis) → IsWalked clauses n steps i a
+    → ((k : ℕ) (d : Step) → k < first → (get_or steps k d).reason ≢ None) → IsBackjump steps i a.backjump a.lits.items
+    → IsBackjump steps 0 (backjump_at_end first (length a.lits.items) a.backjump) a.lits.items
+stays-end clauses n steps i first a h before stays k d low below few decides =
+    elim (cases_Bool (nat_le (length a.lits.items) 1)) [
+      | inl short ↦
+          (let at = cond-true (nat_le (length a.lits.items) 1) first a.backjump short in
+          absurd (before k d (omega arith) decides))
+      | inr long ↦
+          (let at = cond-false (nat_le (length a.lits.items) 1) first a.backjump long in
+          elim (cases_lt k i) [
+            | inr after ↦ stays k d after (omega arith) few decides
+            | inl earlier ↦
+                open-two (trail_values (take k steps)) a.lits.items (not-le (length a.lits.items) long) h.differ
+                (All-weaker (λ (l : Lit). trail_values (take i steps) l.var ≡ None) (λ (l : Lit). trail_values (take k steps) l.var ≡ None) (λ l none. free-before steps k i l.var (omega arith) none) a.lits.items h.free)
+          ])
+    ]
+
+pub back-end : (steps : List Step) (first count backjump : ℕ) → IsDecisionOrEnd steps first → IsDecisionOrEnd steps backjump → IsDecisionOrEnd steps (backjump_at_end first count backjump)
+back-end steps first count backjump is-first is =
+    elim (cases_Bool (nat_le count 1)) [
+      | inl short ↦ subst (IsDecisionOrEnd steps) (sym (cond-true (nat_le count 1) first backjump short)) is-first
+      | inr long ↦ subst (IsDecisionOrEnd steps) (sym (cond-false (nat_le count 1) first backjump long)) is
+    ]

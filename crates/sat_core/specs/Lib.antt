@@ -1,6 +1,7 @@
 pub mod Conflicts
-pub mod Looks
+pub mod FalseClauses
 pub mod Picks
 pub mod Steps
 pub mod Verdicts
 pub mod Walks
+pub mod Watches

@@ -1,25 +1,36 @@
 -- The literals that the search made true, in order, each by decision or by a clause that is unit for it: the field's
 -- trail. This project's own form; no public clause cites it.
-use Rattle.std.specs.Prelude.{◌≡◌, ◌≢◌, ℕ, ◌+◌, ◌-◌, ◌<◌, ◌≤◌, List, ◌++◌, map, length, take, Option, Some, None, Bool, is_none, slice_index}
+use Rattle.std.specs.Prelude.{◌≡◌, ◌≢◌, ℕ, ◌+◌, ◌-◌, ◌<◌, ◌≤◌, List, ◌++◌, map, length, take, Option, Some, None, Bool, true, false, is_none, slice_index}
 use Rattle.std.specs.List.{slice_index_or, All, count_by}
 use Rattle.cnf_core.specs.declared.literal.Lit.{Lit}
 use Rattle.cnf_core.specs.Formula.{IsLitOf}
 use Rattle.cnf_core.specs.Values.{Partial, partial_of, IsUnassigned, IsUnit, IsClosed}
 use Rattle.cnf_core.specs.Refutation.{clause_at}
 use Rattle.sat_core.specs.declared.trail.Step.{Step}
+use Rattle.sat_core.specs.declared.trail.Value.{Value}
+use Rattle.sat_core.specs.declared.trail.Value.TheVariants.{Unassigned, False, True}
 use Rattle.sat_core.specs.declared.trail.Trail.{Trail}
 
+-- what a stored value says
+abbrev pub value_of : Value → Option Bool
+value_of Unassigned = None
+value_of False = Some false
+value_of True = Some true
+
+abbrev pub is_free : Value → Bool
+is_free v = is_none (value_of v)
+
 -- the value of each variable, that of x at the place x - 1
-unfoldable pub given : List (Option Bool) → Partial
-given values x = slice_index_or values (x - 1) None
+unfoldable pub given : List Value → Partial
+given values x = value_of (slice_index_or values (x - 1) Unassigned)
 
 -- the literals that the steps made true
 abbrev pub lits_of : List Step → List Lit
 lits_of steps = map (λ (s : Step). s.lit) steps
 
 -- the values that the steps gave
-abbrev pub held : List Step → Partial
-held steps = partial_of (lits_of steps)
+abbrev pub trail_values : List Step → Partial
+trail_values steps = partial_of (lits_of steps)
 
 -- the clause with this id is unit for the literal
 pub record IsReason (s : Partial) (clauses : List (List Lit)) (id : ℕ) (l : Lit) : Type 0 where
@@ -29,8 +40,8 @@ pub record IsReason (s : Partial) (clauses : List (List Lit)) (id : ℕ) (l : Li
 
 -- a step makes a free literal true, by decision or by a clause that is unit for it under the steps before it
 pub record IsRightStep (clauses : List (List Lit)) (before : List Step) (step : Step) : Type 0 where
-  pub free : IsUnassigned (held before) step.lit
-  pub forced : (id : ℕ) → step.reason ≡ Some id → IsReason (held before) clauses id step.lit
+  pub free : IsUnassigned (trail_values before) step.lit
+  pub forced : (id : ℕ) → step.reason ≡ Some id → IsReason (trail_values before) clauses id step.lit
 
 -- the steps are right, one after another
 abbrev pub IsTrail : List (List Lit) → List Step → Type 0
@@ -38,18 +49,18 @@ IsTrail clauses steps =
     (k : ℕ) (d : Step) → k < length steps → IsRightStep clauses (take k steps) (slice_index_or steps k d)
 
 -- steps over n variables, the values that they gave, and the place of each step by its variable
-pub record AreSteps (clauses : List (List Lit)) (n : ℕ) (steps : List Step) (values : List (Option Bool))
-    (places : List ℕ) : Type 0 where
+pub record AreSteps (clauses : List (List Lit)) (n : ℕ) (steps : List Step) (values : List Value)
+    (indices : List ℕ) : Type 0 where
   pub trail : IsTrail clauses steps
   pub exist : All (λ (s : Step). IsLitOf n s.lit) steps
   pub size : length values ≡ n
-  pub shows : (x : ℕ) → 1 ≤ x → x ≤ n → held steps x ≡ given values x
-  pub room : length steps + count_by is_none values ≡ n
-  pub slots : length places ≡ n
-  pub placed : (k : ℕ) (d : Step) → k < length steps → slice_index places ((slice_index_or steps k d).lit.var - 1) ≡ k
+  pub shows : (x : ℕ) → 1 ≤ x → x ≤ n → trail_values steps x ≡ given values x
+  pub room : length steps + count_by is_free values ≡ n
+  pub slots : length indices ≡ n
+  pub placed : (k : ℕ) (d : Step) → k < length steps → slice_index indices ((slice_index_or steps k d).lit.var - 1) ≡ k
 
 abbrev pub IsTrailState : List (List Lit) → ℕ → Trail → Type 0
-IsTrailState clauses n trail = AreSteps clauses n trail.steps.items trail.values.items trail.places.items
+IsTrailState clauses n trail = AreSteps clauses n trail.steps.items trail.values.items trail.indices.items
 
 -- how many variables there are
 abbrev pub var_count : Trail → ℕ
@@ -63,4 +74,4 @@ Propagates old new = (added : List Step) × (new ≡ old ++ added) × All (λ (s
 abbrev pub AreClosedBefore : List (List Lit) → List Step → Type 0
 AreClosedBefore clauses steps =
     (k : ℕ) (d : Step) → k < length steps → (slice_index_or steps k d).reason ≡ None
-    → IsClosed (held (take k steps)) clauses
+    → IsClosed (trail_values (take k steps)) clauses

@@ -1,5 +1,6 @@
--- The walk back along the trail that finds the lemma of a conflict: this project; no public clause cites it.
-use Rattle.std.specs.Prelude.{◌≡◌, ◌≢◌, ℕ, ◌+◌, ◌-◌, ◌<◌, ◌≤◌, ◌⊎◌, Bool, true, false, List, [], ◌∷◌, ◌++◌, length, take, drop, None, is_none, nat_le, ◌&&◌, if◌then◌else◌, slice_index, slice_set}
+-- The walk back along the trail that finds the lemma of a conflict, the first unique implication point: this project;
+-- no public clause cites it.
+use Rattle.std.specs.Prelude.{◌≡◌, ◌≢◌, ℕ, ◌+◌, ◌-◌, ◌<◌, ◌≤◌, ◌⊎◌, Bool, true, false, List, [], ◌∷◌, ◌++◌, length, take, drop, reverse, None, is_none, nat_le, ◌&&◌, if◌then◌else◌, slice_index, slice_set}
 use Rattle.std.specs.List.{slice_index_or, All, count_by}
 use Rattle.cnf_core.specs.declared.literal.Lit.{Lit}
 use Rattle.cnf_core.specs.Formula.{IsLitOf, negated}
@@ -7,35 +8,40 @@ use Rattle.cnf_core.specs.Values.{Partial, partial_of, IsHeld, IsUnassigned, IsF
 use Rattle.cnf_core.specs.Refutation.{clause_at, Reaches, refuted, AreNames, HaveDifferentVars}
 use Rattle.sat_core.specs.declared.trail.Step.{Step}
 use Rattle.sat_core.specs.declared.conflict.Analysis.{Analysis}
-use Rattle.sat_core.specs.Steps.{held}
+use Rattle.sat_core.specs.Steps.{trail_values}
 
 -- the place of a literal's step
-abbrev pub step_place : List ℕ → Lit → ℕ
-step_place places l = slice_index places (l.var - 1)
+abbrev pub trail_index : List ℕ → Lit → ℕ
+trail_index indices l = slice_index indices (l.var - 1)
 
 -- it is among the first n
-pub record IsStepOf (places : List ℕ) (n : ℕ) (l : Lit) : Type 0 where
+pub record IsStepOf (indices : List ℕ) (n : ℕ) (l : Lit) : Type 0 where
   pub above : 1 ≤ l.var
-  pub within : l.var ≤ length places
-  pub before : step_place places l < n
+  pub within : l.var ≤ length indices
+  pub before : trail_index indices l < n
 
 abbrev pub is_marked : List Bool → ℕ → Bool
-is_marked needed k = slice_index_or needed k false
+is_marked seen k = slice_index_or seen k false
 
 -- how many places from `last` on are marked
 unfoldable pub last_level_count : ℕ → List Bool → ℕ
-last_level_count last needed = count_by (λ b. b) (drop last needed)
+last_level_count last seen = count_by (λ b. b) (drop last seen)
 
 -- no place from n on is marked
 abbrev pub AreUnmarked : ℕ → List Bool → Type 0
-AreUnmarked n needed = (k : ℕ) → n ≤ k → is_marked needed k ≡ false
+AreUnmarked n seen = (k : ℕ) → n ≤ k → is_marked seen k ≡ false
+
+-- no place before n is marked
+abbrev pub AreUnmarkedBelow : ℕ → List Bool → Type 0
+AreUnmarkedBelow n seen = (k : ℕ) → k < n → is_marked seen k ≡ false
 
 -- the steps of the literals of a front of the clause are marked too, as many from `last` on as were added
-pub record Needs (places : List ℕ) (front clause : List Lit) (last : ℕ) (old new : List Bool) (added : ℕ) : Type 0 where
+pub record MarksClause (indices : List ℕ) (front clause : List Lit) (last : ℕ) (old new : List Bool) (added : ℕ) : Type 0 where
   pub size : length new ≡ length old
   pub keeps : (k : ℕ) → is_marked old k ≡ true → is_marked new k ≡ true
-  pub all : All (λ l. is_marked new (step_place places l) ≡ true) front
-  pub only : (n : ℕ) → All (IsStepOf places n) clause → AreUnmarked n old → AreUnmarked n new
+  pub all : All (λ l. is_marked new (trail_index indices l) ≡ true) front
+  pub only : (n : ℕ) → All (IsStepOf indices n) clause → AreUnmarked n old → AreUnmarked n new
+  pub below : (n : ℕ) → All (λ l. n ≤ trail_index indices l) clause → AreUnmarkedBelow n old → AreUnmarkedBelow n new
   pub count : last_level_count last new ≡ last_level_count last old + added
 
 -- all steps are by clauses
@@ -49,9 +55,15 @@ pub record IsLastDecision (steps : List Step) (last : ℕ) : Type 0 where
   pub after : (k : ℕ) (d : Step) → last < k → k < length steps → (slice_index_or steps k d).reason ≢ None
   pub none : last ≡ length steps → AreForced steps
 
--- a step that isn't the first decision is no place of one
-abbrev pub IsFirstDecision : List Step → ℕ → Type 0
-IsFirstDecision steps first = (d : Step) → first < length steps → (slice_index_or steps first d).reason ≡ None
+-- the place of a decision, or past the last step
+abbrev pub IsDecisionOrEnd : List Step → ℕ → Type 0
+IsDecisionOrEnd steps place = (d : Step) → place < length steps → (slice_index_or steps place d).reason ≡ None
+
+-- the steps that were taken back are all from a decision on
+pub record IsTakenBack (old new : List Step) : Type 0 where
+  pub count : ℕ
+  pub front : new ≡ take count old
+  pub decides : IsDecisionOrEnd old count
 
 -- why a needed step is kept: it is the only one of the last level, or of an earlier one
 abbrev pub IsKeptAt : ℕ → ℕ → ℕ → ℕ → Type 0
@@ -59,23 +71,26 @@ IsKeptAt first last at_last_level place = ((last ≤ place) × (at_last_level �
 
 -- the step at a place was kept: the opposite of its literal is in the lemma
 pub record KeepsStep (place : ℕ) (lit : Lit) (old new : Analysis) : Type 0 where
-  pub needed : new.needed.items ≡ slice_set old.needed.items place false
-  pub at_last_level : new.at_last_level ≡ last_level_count new.last new.needed.items
+  pub seen : new.seen.items ≡ slice_set old.seen.items place false
+  pub at_last_level : new.at_last_level ≡ last_level_count new.last new.seen.items
   pub lits : new.lits.items ≡ old.lits.items ++ negated lit ∷ []
   pub hints : new.hints.items ≡ old.hints.items
   pub last : new.last ≡ old.last
+  pub lowest : new.lowest ≡ old.lowest
   pub backjump : new.backjump ≡ old.backjump
 
 -- the step at a place was resolved with the clause that has this id
-pub record Resolves (clauses : List (List Lit)) (places : List ℕ) (id place : ℕ) (old new : Analysis) : Type 0 where
+pub record Resolves (clauses : List (List Lit)) (indices : List ℕ) (id place : ℕ) (old new : Analysis) : Type 0 where
   pub mid : List Bool
   pub added : ℕ
-  pub needs : Needs places (clause_at clauses id) (clause_at clauses id) old.last old.needed.items mid added
-  pub needed : new.needed.items ≡ slice_set mid place false
-  pub at_last_level : new.at_last_level ≡ last_level_count new.last new.needed.items
+  pub needs : MarksClause indices (clause_at clauses id) (clause_at clauses id) old.last old.seen.items mid added
+  pub seen : new.seen.items ≡ slice_set mid place false
+  pub at_last_level : new.at_last_level ≡ last_level_count new.last new.seen.items
   pub lits : new.lits.items ≡ old.lits.items
   pub hints : new.hints.items ≡ old.hints.items ++ id ∷ []
   pub last : new.last ≡ old.last
+  pub lower : new.lowest ≤ old.lowest
+  pub lowest : All (λ l. new.lowest ≤ trail_index indices l) (clause_at clauses id)
   pub backjump : new.backjump ≡ old.backjump
 
 -- one literal is free and all after it are false
@@ -86,41 +101,50 @@ pub record IsAsserting (s : Partial) (lits : List Lit) : Type 0 where
   pub free : IsUnassigned s first
   pub false' : All (IsFalse s) rest
 
--- what the walk keeps, once it looked at the steps from i on
+-- what the walk keeps, once it visited the steps from i on
 pub record IsWalked (clauses : List (List Lit)) (n : ℕ) (steps : List Step) (i : ℕ) (a : Analysis) : Type 0 where
-  pub size : length a.needed.items ≡ length steps
-  pub clear : AreUnmarked i a.needed.items
-  pub count : a.at_last_level ≡ last_level_count a.last a.needed.items
+  pub size : length a.seen.items ≡ length steps
+  pub clear : AreUnmarked i a.seen.items
+  pub below : AreUnmarkedBelow a.lowest a.seen.items
+  pub count : a.at_last_level ≡ last_level_count a.last a.seen.items
   pub exist : All (IsLitOf n) a.lits.items
-  pub free : All (λ l. held (take i steps) l.var ≡ None) a.lits.items
+  pub free : All (λ l. trail_values (take i steps) l.var ≡ None) a.lits.items
   pub differ : HaveDifferentVars a.lits.items
   pub names : AreNames (length clauses) a.hints.items
   pub many : 1 ≤ a.at_last_level → a.last < length steps → a.lits.items ≡ []
-  pub one : a.at_last_level ≡ 0 → a.last < length steps → IsAsserting (held (take a.last steps)) a.lits.items
+  pub one : a.at_last_level ≡ 0 → a.last < length steps → IsAsserting (trail_values (take a.last steps)) a.lits.items
   pub root : AreForced steps → a.lits.items ≡ []
 
 -- these literals hold the marked steps before i
 abbrev pub Covers : List Step → ℕ → List Bool → List Lit → Type 0
-Covers steps i needed t =
-    (k : ℕ) (d : Step) → k < i → k < length steps → is_marked needed k ≡ true
+Covers steps i seen t =
+    (k : ℕ) (d : Step) → k < i → k < length steps → is_marked seen k ≡ true
     → IsHeld (partial_of t) (slice_index_or steps k d).lit
 
 -- of other variables they hold what refutes the lemma
 abbrev pub HoldsRefuted : List Step → ℕ → List Lit → List Lit → Type 0
-HoldsRefuted steps i lits t = (x : ℕ) → held (take i steps) x ≡ None → partial_of t x ≡ partial_of (refuted lits) x
+HoldsRefuted steps i lits t = (x : ℕ) → trail_values (take i steps) x ≡ None → partial_of t x ≡ partial_of (refuted lits) x
 
 -- from such literals the hints lead to the conflict
 abbrev pub LeadsToConflict : List (List Lit) → List Step → ℕ → List Bool → List Lit → List ℕ → List Lit → Type 0
-LeadsToConflict clauses steps i needed lits hints conflict =
-    (t : List Lit) → Covers steps i needed t → HoldsRefuted steps i lits t
+LeadsToConflict clauses steps i seen lits hints conflict =
+    (t : List Lit) → Covers steps i seen t → HoldsRefuted steps i lits t
     → (u : List Lit) × Reaches clauses t hints u × IsFalseClause (partial_of u) conflict
+
+-- the same of what an analysis knows
+abbrev pub LeadsBy : List (List Lit) → List Step → ℕ → Analysis → List Lit → Type 0
+LeadsBy clauses steps i a conflict = LeadsToConflict clauses steps i a.seen.items a.lits.items (reverse a.hints.items) conflict
 
 -- under the steps before each decision from i on that stays, the lemma is open
 abbrev pub IsBackjump : List Step → ℕ → ℕ → List Lit → Type 0
 IsBackjump steps i backjump lits =
     (k : ℕ) (d : Step) → i ≤ k → k < backjump → k < length steps → (slice_index_or steps k d).reason ≡ None
-    → IsOpenClause (held (take k steps)) lits
+    → IsOpenClause (trail_values (take k steps)) lits
 
--- how many steps a backjump leaves, after a look at one
+-- how many steps a backjump leaves, after a visit to one
 abbrev pub backjump_after : Step → ℕ → ℕ → ℕ → ℕ
 backjump_after step count place backjump = if is_none step.reason && nat_le count 1 then place else backjump
+
+-- and at the end of the walk
+abbrev pub backjump_at_end : ℕ → ℕ → ℕ → ℕ
+backjump_at_end first count backjump = if nat_le count 1 then first else backjump

@@ -1,57 +1,108 @@
 // Decisions: a free variable at the picker's place, tried false first.
-ghost use Rattle.std.specs.Prelude.{◌≡◌, ℕ, ◌+◌, ◌^◌, ◌<◌, ◌≤◌, [], ◌∷◌, ◌++◌, length, map, OnOk, IfOk, MatchBool, None, replicate, false, slice_index};
-ghost use Rattle.cnf_core.specs.Formula.{AreOver};
+ghost use Rattle.std.specs.Prelude.{◌≡◌, ℕ, ◌+◌, ◌-◌, ◌^◌, ◌<◌, ◌≤◌, ◌==◌, [], ◌∷◌, ◌++◌, length, map, OnOk, IfOk, MatchBool, None, replicate, false, slice_index, if◌then◌else◌};
+ghost use Rattle.std.specs.List.{All, list_any, slice_index_or};
+ghost use Rattle.cnf_core.specs.Formula.{IsLitOf};
+ghost use Rattle.cnf_core.specs.Refutation.{HaveDifferentVars};
 ghost use Rattle.sat_core.specs.Steps.{given, var_count, IsTrailState};
-ghost use Rattle.sat_core.specs.Picks.{free_list, IsDecidedBy};
+ghost use Rattle.sat_core.specs.Picks.{free_list, scores_of, has_var, IsDecidedBy};
 
-use crate::trail::{Step, Trail};
+use crate::trail::{Step, Trail, Value};
 use cnf_core::Lit;
 use items::NoMemory;
 use pick_rule::{Picker, Rule};
 use std::alloc::Global;
 
-/// Decides the free variable at the picker's place, false. No where there is none.
-pub(crate) fn decide<F: Rule>(
-    alloc: Global,
-    picker: &Picker<F>,
-    trail: &mut Trail,
-) -> Result<bool, NoMemory>
-    requires few { var_count trail.old < 2 ^ 29 }
-    requires slots { length trail.old.places.items ≡ var_count trail.old }
-    ensures decided { IfOk result (λ more. MatchBool more (IsDecidedBy F.picks picker.now trail.old trail.new) ((free_list trail.old.values.items ≡ []) × (trail.new ≡ trail.old))) }
-{
-    let free = free_vars(alloc, trail.values.as_slice())?;
-    if free.is_empty() {
-        return Ok(false);
+/// How many lemmas have each variable, and the two lists of a decision, whose memory is used again.
+#[derive(Drop)]
+pub(crate) struct Scores {
+    /// The score of variable x at the place x - 1.
+    pub(crate) counts: Vec<u64>,
+    /// The free variables, rising.
+    pub(crate) free: Vec<u32>,
+    /// The score of each of them.
+    pub(crate) free_scores: Vec<u64>,
+}
+
+impl Scores {
+    /// No lemma, over this many variables.
+    pub(crate) fn new(alloc: Global, vars: u32) -> Result<Scores, NoMemory>
+        ensures { IfOk result (λ scores. scores.counts.items ≡ replicate vars 0) }
+    {
+        let counts = vec![in alloc; 0u64; vars as usize]?;
+        Ok(Scores {
+            counts,
+            free: Vec::new(alloc),
+            free_scores: Vec::new(alloc),
+        })
     }
-    let scores = scores_of(alloc, &free)?;
-    let place = picker.pick(&scores);
-    let lit = Lit {
-        var: free[place],
-        positive: false,
-    };
-    trail.assign(Step { lit, reason: None })?;
-    Ok(true)
+
+    /// Counts one lemma more.
+    pub(crate) fn add(&mut self, lemma: &[Lit])
+        requires exist { All (IsLitOf (length self.old.counts.items)) lemma.now }
+        requires differ { HaveDifferentVars lemma.now }
+        requires room { All (λ score. score + 1 < 2 ^ 64) self.old.counts.items }
+        ensures size { length self.new.counts.items ≡ length self.old.counts.items }
+        ensures counts { (x : ℕ) → 1 ≤ x → x ≤ length self.old.counts.items
+            → slice_index self.new.counts.items (x - 1)
+            ≡ slice_index self.old.counts.items (x - 1) + (if has_var lemma.now x then 1 else 0) }
+    {
+        for lit in lemma {
+            self.counts[(lit.var - 1) as usize] += 1;
+        }
+    }
 }
 
 /// The variables without a value, rising.
 #[tactic(auto, unfolding(crate::specs::Steps::given))]
-fn free_vars(alloc: Global, values: &[Option<bool>]) -> Result<Vec<u32>, NoMemory>
+fn list_free(free: &mut Vec<u32>, values: &[Value]) -> Result<(), NoMemory>
     requires { length values.now < 2 ^ 29 }
-    ensures { IfOk result (λ v. v.items ≡ free_list values.now) }
+    ensures { OnOk result (free.new.items ≡ free_list values.now) }
 {
-    let mut free = Vec::new(alloc);
+    free.clear();
     for index in 0..values.len() {
-        if values[index].is_none() {
+        if values[index].is_unassigned() {
             free.push(index as u32 + 1)?;
         }
     }
-    Ok(free)
+    Ok(())
 }
 
-/// The score of each of these variables. Until lemmas are counted each is 0, so a rule sees how many there are.
-fn scores_of(alloc: Global, free: &[u32]) -> Result<Vec<u64>, NoMemory>
-    ensures { IfOk result (λ v. v.items ≡ replicate (length free.now) 0) }
+/// The score of each of these variables.
+fn list_scores(free_scores: &mut Vec<u64>, free: &[u32], counts: &[u64]) -> Result<(), NoMemory>
+    requires { All (λ x. (1 ≤ x) × (x ≤ length counts.now)) free.now }
+    ensures { OnOk result (free_scores.new.items ≡ map (λ x. slice_index counts.now (x - 1)) free.now) }
 {
-    vec![in alloc; 0u64; free.len()]
+    free_scores.clear();
+    for var in free {
+        free_scores.push(counts[(*var - 1) as usize])?;
+    }
+    Ok(())
+}
+
+/// Decides the free variable at the picker's place, false. No where there is none.
+pub(crate) fn decide<F: Rule>(
+    picker: &Picker<F>,
+    trail: &mut Trail,
+    scores: &mut Scores,
+) -> Result<bool, NoMemory>
+    requires few { var_count trail.old < 2 ^ 29 }
+    requires slots { length trail.old.indices.items ≡ var_count trail.old }
+    requires size { length scores.old.counts.items ≡ var_count trail.old }
+    ensures decided { IfOk result (λ more. MatchBool more
+        (IsDecidedBy F.picks picker.now scores.old.counts.items trail.old trail.new)
+        ((free_list trail.old.values.items ≡ []) × (trail.new ≡ trail.old))) }
+    ensures counts { OnOk result (scores.new.counts ≡ scores.old.counts) }
+{
+    list_free(&mut scores.free, trail.values.as_slice())?;
+    if scores.free.is_empty() {
+        return Ok(false);
+    }
+    list_scores(&mut scores.free_scores, &scores.free, &scores.counts)?;
+    let place = picker.pick(&scores.free_scores);
+    let lit = Lit {
+        var: scores.free[place],
+        positive: false,
+    };
+    trail.assign(Step { lit, reason: None })?;
+    Ok(true)
 }

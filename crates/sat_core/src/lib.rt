@@ -3,10 +3,12 @@
 //! Whoever doubts a refutation can check its lines without this crate.
 #![tactic(auto)]
 
+mod choice;
 mod conflict;
 mod decision;
 mod propagation;
 mod solver;
 mod trail;
+mod watches;
 
 pub use solver::{Verdict, solve};

@@ -1,74 +1,262 @@
-// Unit propagation: literals made true, each by a clause that is unit, until no clause is unit or one is false.
-ghost use Rattle.std.specs.Prelude.{◌≡◌, ◌+◌, ◌^◌, ◌<◌, ◌≤◌, length, OnOk, IfOk, MatchOption};
-ghost use Rattle.cnf_core.specs.Formula.{AreOver};
-ghost use Rattle.cnf_core.specs.Values.{IsClosed};
-ghost use Rattle.sat_core.specs.Steps.{given, var_count, IsTrailState, Propagates};
-ghost use Rattle.sat_core.specs.Looks.{FoundSays, IsFalsified, around};
+// Unit propagation by two watched literals.
+ghost use Rattle.std.specs.Prelude.{◌≡◌, ◌≢◌, ◌⊎◌, ◌+◌, ◌^◌, ◌<◌, ◌≤◌, [], length, OnOk, IfOk, MatchOption, None, slice_index_or};
+ghost use Rattle.std.specs.List.{All, AllWithin};
+ghost use Rattle.cnf_core.specs.Formula.{AreOver, IsLitOf};
+ghost use Rattle.cnf_core.specs.Values.{IsClosed, IsOpenClause, IsFalse};
+ghost use Rattle.sat_core.specs.Steps.{given, var_count, IsTrailState, Propagates, AreClosedBefore};
+ghost use Rattle.sat_core.specs.FalseClauses.{IsFalsified};
+ghost use Rattle.sat_core.specs.Watches.{list_of, watchers, AreWatched, ArePassed, IsFalsifiedAt, IsReplacement, VisitSays, AreVisited};
 
+use crate::choice::watched_pair;
 use crate::trail::{Step, Trail};
-use cnf_core::{Clauses, Lit, Look, look_at};
+use crate::watches::{Pair, Watches, list_place};
+use cnf_core::{ClauseStatus, Clauses, Lit, status_of};
 use items::NoMemory;
 
-/// What a turn round all clauses found first.
+/// Result of a visit to one watcher.
 #[derive(Clone, Copy)]
-pub(crate) enum Found {
-    /// The clause with this id is unit for the literal.
-    Reason(u32, Lit),
+pub(crate) enum Visit {
+    /// It is still there: its clause has a true literal.
+    Stays,
+    /// Its clause watches another literal, and another watcher may be there.
+    Moved,
     /// The clause with this id is false.
-    Conflict(u32),
-    /// No clause is unit or false.
-    Closed,
+    Falsified(u32),
 }
 
-/// Makes literals true, each by a clause that is unit under those before it, until no clause is unit or one is false: the
-/// id of that one. After a unit clause the look goes on at the next, and it ends once it was round all of them.
-pub(crate) fn propagate(clauses: &Clauses, trail: &mut Trail) -> Result<Option<u32>, NoMemory>
+/// Unit propagation: makes literals true, each by a clause that is unit under those before it, until no clause is unit or
+/// one is false: the id of that one. Each new clause is visited once, and after it those alone that watch a literal that
+/// became false.
+pub(crate) fn propagate(
+    clauses: &Clauses,
+    trail: &mut Trail,
+    watches: &mut Watches,
+) -> Result<Option<u32>, NoMemory>
     requires few { length clauses.now < 2 ^ 31 }
     requires exist { AreOver (var_count trail.old) clauses.now }
     requires state { IsTrailState clauses.now (var_count trail.old) trail.old }
+    requires before { AreClosedBefore clauses.now trail.old.steps.items }
+    requires watched { AreWatched clauses.now (var_count trail.old) trail.old.steps.items watches.old }
     ensures state { OnOk result (IsTrailState clauses.now (var_count trail.old) trail.new) }
     ensures adds { OnOk result (Propagates trail.old.steps.items trail.new.steps.items) }
-    ensures done { IfOk result (λ o. MatchOption o (IsClosed (given trail.new.values.items) clauses.now) (IsFalsified (given trail.new.values.items) clauses.now)) }
+    ensures done { IfOk result (λ o. MatchOption o (IsClosed (given trail.new.values.items) clauses.now)
+        (IsFalsified (given trail.new.values.items) clauses.now)) }
+    ensures watched { OnOk result (AreWatched clauses.now (var_count trail.old) trail.new.steps.items watches.new) }
+    ensures visited { IfOk result (λ o. o ≡ None → AreVisited clauses.now trail.new.steps.items watches.new) }
 {
-    let mut start = 0;
-    loop {
-        match find(clauses, start, trail) {
-            Found::Reason(id, lit) => {
-                trail.assign(Step {
-                    lit,
-                    reason: Some(id),
-                })?;
-                start = id as usize;
-            }
-            Found::Conflict(id) => return Ok(Some(id)),
-            Found::Closed => return Ok(None),
+    if let Some(id) = attach_new(clauses, trail, watches)? {
+        return Ok(Some(id));
+    }
+    while watches.head < trail.steps.len() {
+        if let Some(id) = visit_list(clauses, trail, watches)? {
+            return Ok(Some(id));
         }
+    }
+    Ok(None)
+}
+
+/// Gives each clause that wasn't visited its watched literals, and makes its literal true where it is unit.
+fn attach_new(
+    clauses: &Clauses,
+    trail: &mut Trail,
+    watches: &mut Watches,
+) -> Result<Option<u32>, NoMemory>
+    requires few { length clauses.now < 2 ^ 31 }
+    requires exist { AreOver (var_count trail.old) clauses.now }
+    requires state { IsTrailState clauses.now (var_count trail.old) trail.old }
+    requires before { AreClosedBefore clauses.now trail.old.steps.items }
+    requires watched { AreWatched clauses.now (var_count trail.old) trail.old.steps.items watches.old }
+    ensures state { OnOk result (IsTrailState clauses.now (var_count trail.old) trail.new) }
+    ensures adds { OnOk result (Propagates trail.old.steps.items trail.new.steps.items) }
+    ensures watched { OnOk result (AreWatched clauses.now (var_count trail.old) trail.new.steps.items watches.new) }
+    ensures done { IfOk result (λ o. MatchOption o (length watches.new.pairs.items ≡ length clauses.now)
+        (IsFalsified (given trail.new.values.items) clauses.now)) }
+{
+    while watches.pairs.len() < clauses.len() {
+        if let Some(id) = assert_unit(clauses, trail, watches.pairs.len())? {
+            return Ok(Some(id));
+        }
+        attach(clauses, trail, watches)?;
+    }
+    Ok(None)
+}
+
+/// Makes the literal of a clause true where the clause is unit. The clause is open then, or it is false: its id.
+fn assert_unit(clauses: &Clauses, trail: &mut Trail, place: usize) -> Result<Option<u32>, NoMemory>
+    requires few { length clauses.now < 2 ^ 31 }
+    requires exist { AreOver (var_count trail.old) clauses.now }
+    requires state { IsTrailState clauses.now (var_count trail.old) trail.old }
+    requires place { place < length clauses.now }
+    ensures state { OnOk result (IsTrailState clauses.now (var_count trail.old) trail.new) }
+    ensures adds { OnOk result (Propagates trail.old.steps.items trail.new.steps.items) }
+    ensures done { IfOk result (λ o. MatchOption o
+        (IsOpenClause (given trail.new.values.items) (slice_index_or clauses.now place []))
+        (IsFalsified (given trail.new.values.items) clauses.now)) }
+{
+    let id = place as u32 + 1;
+    match status_of(clauses.get(place), trail) {
+        ClauseStatus::Unit(lit) => {
+            trail.assign(Step {
+                lit,
+                reason: Some(id),
+            })?;
+            Ok(None)
+        }
+        ClauseStatus::Falsified => Ok(Some(id)),
+        ClauseStatus::Open => Ok(None),
     }
 }
 
-/// The first clause that isn't open, from a place on and round all of them.
-fn find(clauses: &Clauses, start: usize, trail: &Trail) -> Found
+/// Gives the next clause its watched literals: those that become false last.
+fn attach(clauses: &Clauses, trail: &Trail, watches: &mut Watches) -> Result<(), NoMemory>
     requires few { length clauses.now < 2 ^ 31 }
     requires exist { AreOver (var_count trail.now) clauses.now }
-    requires start { start ≤ length clauses.now }
-    ensures { FoundSays (given trail.now.values.items) clauses.now result }
+    requires state { IsTrailState clauses.now (var_count trail.now) trail.now }
+    requires before { AreClosedBefore clauses.now trail.now.steps.items }
+    requires watched { AreWatched clauses.now (var_count trail.now) trail.now.steps.items watches.old }
+    requires more { length watches.old.pairs.items < length clauses.now }
+    requires opens { IsOpenClause (given trail.now.values.items)
+        (slice_index_or clauses.now (length watches.old.pairs.items) []) }
+    ensures watched { OnOk result (AreWatched clauses.now (var_count trail.now) trail.now.steps.items watches.new) }
+    ensures count { OnOk result (length watches.new.pairs.items ≡ length watches.old.pairs.items + 1) }
 {
-    let count = clauses.len();
-    for turn in 0..count {
-        let place = around(start + turn, count);
-        match look_at(clauses.get(place), trail) {
-            Look::Unit(lit) => return Found::Reason(place as u32 + 1, lit),
-            Look::Falsified => return Found::Conflict(place as u32 + 1),
-            Look::Open => {}
-        }
-    }
-    Found::Closed
+    let pair = watched_pair(clauses.get(watches.pairs.len()), trail);
+    watches.add(pair)?;
+    Ok(())
 }
 
-/// The place after so many steps on a round of `count` places, at most twice round.
-fn around(steps: usize, count: usize) -> usize
-    requires { steps < count + count }
-    ensures { result ≡ around steps count }
+/// Visits each clause that watches the literal that the step at the head made false, and moves the head on.
+fn visit_list(
+    clauses: &Clauses,
+    trail: &mut Trail,
+    watches: &mut Watches,
+) -> Result<Option<u32>, NoMemory>
+    requires few { length clauses.now < 2 ^ 31 }
+    requires exist { AreOver (var_count trail.old) clauses.now }
+    requires state { IsTrailState clauses.now (var_count trail.old) trail.old }
+    requires watched { AreWatched clauses.now (var_count trail.old) trail.old.steps.items watches.old }
+    requires head { watches.old.head < length trail.old.steps.items }
+    ensures state { OnOk result (IsTrailState clauses.now (var_count trail.old) trail.new) }
+    ensures adds { OnOk result (Propagates trail.old.steps.items trail.new.steps.items) }
+    ensures watched { OnOk result (AreWatched clauses.now (var_count trail.old) trail.new.steps.items watches.new) }
+    ensures attached { OnOk result (length watches.new.pairs.items ≡ length watches.old.pairs.items) }
+    ensures done { IfOk result (λ o. MatchOption o (watches.new.head ≡ watches.old.head + 1)
+        (IsFalsified (given trail.new.values.items) clauses.now)) }
 {
-    if steps < count { steps } else { steps - count }
+    let lit = trail.steps[watches.head].lit.negated();
+    let list = list_place(lit);
+    let mut place = 0;
+    while place < watches.lists[list].len() {
+        match visit_watcher(clauses, trail, watches, lit, place)? {
+            Visit::Stays => place += 1,
+            Visit::Moved => {}
+            Visit::Falsified(id) => return Ok(Some(id)),
+        }
+    }
+    watches.head += 1;
+    Ok(None)
+}
+
+/// Visits the clause of the watcher at a place of the list of a literal that the step at the head made false.
+fn visit_watcher(
+    clauses: &Clauses,
+    trail: &mut Trail,
+    watches: &mut Watches,
+    lit: Lit,
+    place: usize,
+) -> Result<Visit, NoMemory>
+    requires few { length clauses.now < 2 ^ 31 }
+    requires exist { AreOver (var_count trail.old) clauses.now }
+    requires state { IsTrailState clauses.now (var_count trail.old) trail.old }
+    requires watched { AreWatched clauses.now (var_count trail.old) trail.old.steps.items watches.old }
+    requires head { IsFalsifiedAt trail.old.steps.items watches.old.head lit }
+    requires lit { IsLitOf (var_count trail.old) lit }
+    requires place { place < length (watchers watches.old.lists.items (list_of lit)) }
+    requires passed { ArePassed clauses.now trail.old.steps.items watches.old lit place }
+    ensures state { OnOk result (IsTrailState clauses.now (var_count trail.old) trail.new) }
+    ensures adds { OnOk result (Propagates trail.old.steps.items trail.new.steps.items) }
+    ensures watched { OnOk result (AreWatched clauses.now (var_count trail.old) trail.new.steps.items watches.new) }
+    ensures attached { OnOk result (length watches.new.pairs.items ≡ length watches.old.pairs.items) }
+    ensures head { OnOk result (watches.new.head ≡ watches.old.head) }
+    ensures says { IfOk result (VisitSays clauses.now trail.new.steps.items (given trail.new.values.items) lit place
+        (length (watchers watches.old.lists.items (list_of lit))) watches.new) }
+{
+    let list = list_place(lit);
+    let watcher = watches.lists[list].get(place);
+    if trail.is_true(watcher.blocker) {
+        return Ok(Visit::Stays);
+    }
+    let old = watches.pairs[watcher.clause as usize];
+    let other = other_than(old, lit);
+    if trail.is_true(other) {
+        watches.renew(list, place, other);
+        return Ok(Visit::Stays);
+    }
+    let clause = clauses.get(watcher.clause as usize);
+    match replacement(clause, other, trail, old.saved) {
+        Some(at) => {
+            let found = clause[at];
+            let pair = Pair {
+                a: other,
+                b: found,
+                saved: at,
+            };
+            watches.move_watch(list, place, watcher.clause, pair)?;
+            Ok(Visit::Moved)
+        }
+        None => {
+            let id = watcher.clause + 1;
+            if trail.is_false(other) {
+                return Ok(Visit::Falsified(id));
+            }
+            trail.assign(Step {
+                lit: other,
+                reason: Some(id),
+            })?;
+            Ok(Visit::Stays)
+        }
+    }
+}
+
+/// The other one of two watched literals.
+fn other_than(pair: Pair, lit: Lit) -> Lit
+    ensures { ((pair.a ≡ lit) × (result ≡ pair.b)) ⊎ ((pair.a ≢ lit) × (result ≡ pair.a)) }
+{
+    if pair.a == lit { pair.b } else { pair.a }
+}
+
+/// The place of a literal of the clause that isn't false, other than this one: the first from a place on, or else the
+/// first before it.
+fn replacement(clause: &[Lit], other: Lit, trail: &Trail, saved: usize) -> Option<usize>
+    requires exist { All (IsLitOf (var_count trail.now)) clause.now }
+    ensures { MatchOption result (All (λ m. (m ≡ other) ⊎ IsFalse (given trail.now.values.items) m) clause.now)
+        (IsReplacement (given trail.now.values.items) clause.now other) }
+{
+    let middle = saved.min(clause.len());
+    match first_between(clause, other, trail, middle, clause.len()) {
+        Some(at) => Some(at),
+        None => first_between(clause, other, trail, 0, middle),
+    }
+}
+
+/// The first place of such a literal between two places.
+fn first_between(
+    clause: &[Lit],
+    other: Lit,
+    trail: &Trail,
+    start: usize,
+    end: usize,
+) -> Option<usize>
+    requires exist { All (IsLitOf (var_count trail.now)) clause.now }
+    requires end { end ≤ length clause.now }
+    ensures { MatchOption result (AllWithin
+        (λ m. (m ≡ other) ⊎ IsFalse (given trail.now.values.items) m) clause.now start end)
+        (IsReplacement (given trail.now.values.items) clause.now other) }
+{
+    for at in start..end {
+        if clause[at] != other && !trail.is_false(clause[at]) {
+            return Some(at);
+        }
+    }
+    None
 }

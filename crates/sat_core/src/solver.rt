@@ -3,15 +3,17 @@ ghost use Rattle.std.specs.Prelude.{◌≡◌, ◌+◌, ◌^◌, ◌<◌, ◌≤
 ghost use Rattle.cnf_core.specs.Formula.{AreOver};
 ghost use Rattle.cnf_core.specs.Values.{IsClosed};
 ghost use Rattle.cnf_core.specs.Outcome.{IsSolved, IsRefuted, IsSpent};
-ghost use Rattle.sat_core.specs.Steps.{given, var_count, IsTrailState, AreClosedBefore};
-ghost use Rattle.sat_core.specs.Looks.{IsFalsified};
+ghost use Rattle.sat_core.specs.Steps.{value_of, given, var_count, IsTrailState, AreClosedBefore};
+ghost use Rattle.sat_core.specs.FalseClauses.{IsFalsified};
 ghost use Rattle.sat_core.specs.Picks.{free_list};
+ghost use Rattle.sat_core.specs.Watches.{AreWatched};
 ghost use Rattle.sat_core.specs.Verdicts.{IfSat, IfRefuted, IfSpent};
 
 use crate::conflict::learn;
-use crate::decision::decide;
+use crate::decision::{Scores, decide};
 use crate::propagation::propagate;
-use crate::trail::Trail;
+use crate::trail::{Trail, Value};
+use crate::watches::Watches;
 use cnf_core::{Clauses, Cnf, Lines, refutations_leave_no_solution};
 use items::{Items, NoMemory};
 use pick_rule::{Picker, Rule};
@@ -29,9 +31,10 @@ pub enum Verdict {
 }
 
 /// Searches for values that satisfy the formula, with at most so many conflicts. Each decision is the free variable at the
-/// picker's place among one score for each free variable, rising, and it is tried false first. Each conflict takes one
-/// line: the first unique implication point, with the clauses that it was resolved from as hints. Propagation looks at all
-/// clauses for each literal; memory grows with the formula and with what is learnt, not with `conflicts`.
+/// picker's place among one score for each free variable, rising, and it is tried false first. A score is the number of
+/// lemmas so far that have the variable. Each conflict takes one line: the first unique implication point, with the
+/// clauses that it was resolved from as hints. Memory grows with the formula and with what is learnt, not with
+/// `conflicts`.
 pub fn solve<F: Rule>(
     alloc: Global,
     cnf: &Cnf,
@@ -44,15 +47,19 @@ pub fn solve<F: Rule>(
     ensures spent { IfOk result (λ verdict. IfSpent verdict (IsSpent cnf.now conflicts)) }
 {
     let mut trail = Trail::new(alloc, cnf.vars())?;
+    let mut watches = Watches::new(alloc, cnf.vars())?;
+    let mut scores = Scores::new(alloc, cnf.vars())?;
     let mut clauses = clauses_of(alloc, cnf)?;
     let mut lines = Items::new(alloc);
     for made in 0..conflicts {
-        match advance(alloc, &clauses, picker, &mut trail)? {
+        match advance(&clauses, picker, &mut trail, &mut watches, &mut scores)? {
             None => return Ok(Verdict::Sat(all_values(alloc, trail.values.as_slice())?)),
             Some(id) => {
                 let line = learn(alloc, &clauses, &mut trail, id)?;
+                watches.take_back(trail.steps.len());
                 let refuted = line.lits.is_empty();
                 clauses.push(line.lits.as_slice())?;
+                scores.add(line.lits.as_slice());
                 lines.push(line)?;
                 if refuted {
                     refutations_leave_no_solution();
@@ -78,37 +85,44 @@ fn clauses_of(alloc: Global, cnf: &Cnf) -> Result<Clauses, NoMemory>
 
 /// Propagates and decides until a clause is false, the id of which is told, or every variable has a value.
 fn advance<F: Rule>(
-    alloc: Global,
     clauses: &Clauses,
     picker: &Picker<F>,
     trail: &mut Trail,
+    watches: &mut Watches,
+    scores: &mut Scores,
 ) -> Result<Option<u32>, NoMemory>
     requires few { length clauses.now < 2 ^ 31 }
     requires few_vars { var_count trail.old < 2 ^ 29 }
     requires exist { AreOver (var_count trail.old) clauses.now }
     requires state { IsTrailState clauses.now (var_count trail.old) trail.old }
     requires before { AreClosedBefore clauses.now trail.old.steps.items }
+    requires watched { AreWatched clauses.now (var_count trail.old) trail.old.steps.items watches.old }
+    requires scores { length scores.old.counts.items ≡ var_count trail.old }
     ensures state { OnOk result (IsTrailState clauses.now (var_count trail.old) trail.new) }
     ensures before { OnOk result (AreClosedBefore clauses.now trail.new.steps.items) }
-    ensures done { IfOk result (λ o. MatchOption o (IsClosed (given trail.new.values.items) clauses.now × (free_list trail.new.values.items ≡ [])) (IsFalsified (given trail.new.values.items) clauses.now)) }
+    ensures watched { OnOk result (AreWatched clauses.now (var_count trail.old) trail.new.steps.items watches.new) }
+    ensures scores { OnOk result (scores.new.counts ≡ scores.old.counts) }
+    ensures done { IfOk result (λ o. MatchOption o
+        (IsClosed (given trail.new.values.items) clauses.now × (free_list trail.new.values.items ≡ []))
+        (IsFalsified (given trail.new.values.items) clauses.now)) }
 {
     loop {
-        if let Some(id) = propagate(clauses, trail)? {
+        if let Some(id) = propagate(clauses, trail, watches)? {
             return Ok(Some(id));
         }
-        if !decide(alloc, picker, trail)? {
+        if !decide(picker, trail, scores)? {
             return Ok(None);
         }
     }
 }
 
 /// The values, where all are there.
-fn all_values(alloc: Global, values: &[Option<bool>]) -> Result<Items<bool>, NoMemory>
-    ensures { IfOk result (λ all. all ≡ map (λ o. unwrap_or o false) values.now) }
+fn all_values(alloc: Global, values: &[Value]) -> Result<Items<bool>, NoMemory>
+    ensures { IfOk result (λ all. all ≡ map (λ v. unwrap_or (value_of v) false) values.now) }
 {
     let mut all = Items::new(alloc);
     for value in values {
-        all.push(value.unwrap_or(false))?;
+        all.push(value.as_option().unwrap_or(false))?;
     }
     Ok(all)
 }

@@ -1,13 +1,58 @@
 // The literals that were made true, in order, and the value of each variable.
-ghost use Rattle.std.specs.Prelude.{◌≡◌, ℕ, ◌≤◌, [], ◌∷◌, ◌++◌, List, length, take, OnOk, IfOk, Some, slice_set, MatchOption};
+ghost use Rattle.std.specs.Prelude.{◌≡◌, ℕ, ◌≤◌, ◌↔◌, [], ◌∷◌, ◌++◌, List, length, IsTrue, take, OnOk, IfOk, Some, slice_set, MatchOption};
 ghost use Rattle.std.specs.List.{All};
 ghost use Rattle.cnf_core.specs.declared.literal.Lit.{Lit as Literal};
 ghost use Rattle.cnf_core.specs.Formula.{IsLitOf};
-ghost use Rattle.sat_core.specs.Steps.{given, IsTrailState, IsRightStep, var_count};
+ghost use Rattle.cnf_core.specs.Values.{IsHeld, IsFalse};
+ghost use Rattle.sat_core.specs.Steps.{value_of, is_free, given, IsTrailState, IsRightStep, var_count};
+ghost use Rattle.sat_core.specs.Watches.{IsFalseFrom};
 
 use cnf_core::{Lit, Values};
 use items::NoMemory;
 use std::alloc::Global;
+
+/// The value of a variable, in one byte.
+#[derive(Clone, Copy)]
+pub(crate) enum Value {
+    Unassigned,
+    False,
+    True,
+}
+
+impl Value {
+    /// The value of a variable under which a literal of this sign is true.
+    pub(crate) fn of(positive: bool) -> Value
+        ensures { value_of result ≡ Some positive }
+    {
+        if positive { Value::True } else { Value::False }
+    }
+
+    /// Whether a literal of this sign is true.
+    pub(crate) fn makes_true(self, positive: bool) -> bool
+        ensures { IsTrue result ↔ (value_of self ≡ Some positive) }
+    {
+        self as u8 == 1 + positive as u8
+    }
+
+    pub(crate) fn is_unassigned(self) -> bool
+        ensures { result ≡ is_free self }
+    {
+        match self {
+            Value::Unassigned => true,
+            _ => false,
+        }
+    }
+
+    pub(crate) fn as_option(self) -> Option<bool>
+        ensures { result ≡ value_of self }
+    {
+        match self {
+            Value::Unassigned => None,
+            Value::False => Some(false),
+            Value::True => Some(true),
+        }
+    }
+}
 
 /// A literal that was made true by the clause or lemma with this id, or by decision where there is none.
 #[derive(Clone, Copy)]
@@ -16,12 +61,13 @@ pub(crate) struct Step {
     pub(crate) reason: Option<u32>,
 }
 
-/// The steps so far. The place of a step is kept by its variable, and stays when the step is taken back.
+/// The steps so far, the value of each variable, and the place of its step on the trail, which stays when the step is
+/// taken back.
 #[derive(Drop)]
 pub(crate) struct Trail {
     pub(crate) steps: Vec<Step>,
-    pub(crate) values: Vec<Option<bool>>,
-    pub(crate) places: Vec<usize>,
+    pub(crate) values: Vec<Value>,
+    pub(crate) indices: Vec<usize>,
 }
 
 impl Values for Trail {
@@ -31,7 +77,7 @@ impl Values for Trail {
 
     #[tactic(auto, unfolding(crate::specs::Steps::given))]
     fn value(&self, var: u32) -> Option<bool> {
-        self.values[(var - 1) as usize]
+        self.values[(var - 1) as usize].as_option()
     }
 }
 
@@ -41,40 +87,74 @@ impl Trail {
         ensures state { IfOk result (λ trail. (clauses : List (List Literal)) → IsTrailState clauses vars trail) }
         ensures none { IfOk result (λ trail. trail.steps.items ≡ []) }
     {
-        let none: Option<bool> = None;
-        let values = vec![in alloc; none; vars as usize]?;
-        let places = vec![in alloc; 0usize; vars as usize]?;
+        let values = vec![in alloc; Value::Unassigned; vars as usize]?;
+        let indices = vec![in alloc; 0usize; vars as usize]?;
         Ok(Trail {
             steps: Vec::new(alloc),
             values,
-            places,
+            indices,
         })
+    }
+
+    /// Whether a literal is true.
+    #[tactic(auto, unfolding(crate::specs::Steps::given))]
+    pub(crate) fn is_true(&self, lit: Lit) -> bool
+        requires exist { IsLitOf (var_count self.now) lit }
+        ensures { IsTrue result ↔ IsHeld (given self.now.values.items) lit }
+    {
+        self.values[(lit.var - 1) as usize].makes_true(lit.positive)
+    }
+
+    /// Whether a literal is false.
+    #[tactic(auto, unfolding(crate::specs::Steps::given))]
+    pub(crate) fn is_false(&self, lit: Lit) -> bool
+        requires exist { IsLitOf (var_count self.now) lit }
+        ensures { IsTrue result ↔ IsFalse (given self.now.values.items) lit }
+    {
+        self.values[(lit.var - 1) as usize].makes_true(!lit.positive)
+    }
+
+    /// How many steps there are before the one that made a literal false, or all of them where it isn't false.
+    pub(crate) fn false_from(&self, lit: Lit) -> usize
+        requires exist { IsLitOf (var_count self.now) lit }
+        requires slots { length self.now.indices.items ≡ var_count self.now }
+        ensures { (clauses : List (List Literal)) → IsTrailState clauses (var_count self.now) self.now
+            → IsFalseFrom self.now.steps.items lit result }
+    {
+        if self.is_false(lit) {
+            self.indices[(lit.var - 1) as usize]
+        } else {
+            self.steps.len()
+        }
     }
 
     /// Makes a free literal true.
     pub(crate) fn assign(&mut self, step: Step) -> Result<(), NoMemory>
         requires exist { IsLitOf (var_count self.old) step.lit }
-        requires slots { length self.old.places.items ≡ var_count self.old }
-        ensures state { OnOk result ((clauses : List (List Literal)) → IsTrailState clauses (var_count self.old) self.old → IsRightStep clauses self.old.steps.items step → IsTrailState clauses (var_count self.old) self.new) }
+        requires slots { length self.old.indices.items ≡ var_count self.old }
+        ensures state { OnOk result ((clauses : List (List Literal))
+            → IsTrailState clauses (var_count self.old) self.old → IsRightStep clauses self.old.steps.items step
+            → IsTrailState clauses (var_count self.old) self.new) }
         ensures steps { OnOk result (self.new.steps.items ≡ self.old.steps.items ++ step ∷ []) }
     {
         let place = self.steps.len();
         self.steps.push(step)?;
         let index = (step.lit.var - 1) as usize;
-        self.values[index] = Some(step.lit.positive);
-        self.places[index] = place;
+        self.values[index] = Value::of(step.lit.positive);
+        self.indices[index] = place;
         Ok(())
     }
 
     /// Takes all steps back but the first, as many as `count`.
     pub(crate) fn cut(&mut self, count: usize)
         requires exist { All (λ s. IsLitOf (var_count self.old) s.lit) self.old.steps.items }
-        ensures state { (clauses : List (List Literal)) → IsTrailState clauses (var_count self.old) self.old → IsTrailState clauses (var_count self.old) self.new }
+        ensures state { (clauses : List (List Literal)) → IsTrailState clauses (var_count self.old) self.old
+            → IsTrailState clauses (var_count self.old) self.new }
         ensures steps { self.new.steps.items ≡ take count self.old.steps.items }
     {
         while self.steps.len() > count {
             if let Some(step) = self.steps.pop() {
-                self.values[(step.lit.var - 1) as usize] = None;
+                self.values[(step.lit.var - 1) as usize] = Value::Unassigned;
             }
         }
     }

@@ -1,6 +1,6 @@
 use Rattle.std.proofs.lemmas.Bool.{false≢true}
 use Rattle.refutation_check.specs.Marked.{marked}
-use Rattle.refutation_check.proofs.Looking.{unit-not_false, open-not_false}
+use Rattle.refutation_check.proofs.Telling.{unit-not_false, open-not_false}
 use Rattle.refutation_check.proofs.values.is_false_clause.Goals as goal
 
 pub returns-in-Unit : goal.returns-in-Unit

@@ -1,5 +1,5 @@
 use Rattle.refutation_check.specs.Marked.{marked}
-use Rattle.refutation_check.proofs.Looking.{unit-not_false, open-not_unit}
+use Rattle.refutation_check.proofs.Telling.{unit-not_false, open-not_unit}
 use Rattle.refutation_check.proofs.values.unit_of.Goals as goal
 
 pub returns-in-Falsified : goal.returns-in-Falsified

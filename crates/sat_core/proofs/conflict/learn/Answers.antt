@@ -23,3 +23,6 @@ returns-clause-goes_on c = λ some.
     let e = c.in_ok-analysis.ensures in
     line-goes_on c.args.clauses.now (var_count c.args.trail.now) c.args.trail.now c.cut.new.self c.in_ok-analysis.analysis c.from.result
     c.requires.before e.last e.walked e.stays (c.cut.ensures.state c.args.clauses.now c.requires.state) c.cut.ensures.steps c.from.ensures some
+
+pub returns-clause-back : goal.returns-clause-back
+returns-clause-back c = record { count = c.in_ok-analysis.analysis.backjump; front = c.cut.ensures.steps; decides = c.in_ok-analysis.ensures.back }

@@ -1,5 +1,6 @@
 use Rattle.std.proofs.Common.{◌≡◌, ◌-◌, length}
 use Rattle.sat_core.specs.Steps.{IsTrailState, AreClosedBefore, var_count}
+use Rattle.sat_core.specs.Watches.{AreWatched}
 use Rattle.sat_core.proofs.solver.advance.Given as goal
 
 abbrev pub invariant-loop-id : goal.invariant-loop-id
@@ -7,6 +8,8 @@ invariant-loop-id g l = record {
   state : IsTrailState l.clauses (var_count l.initial.trail) l.trail;
   before : AreClosedBefore l.clauses l.trail.steps.items;
   size : var_count l.trail ≡ var_count l.initial.trail;
+  watched : AreWatched l.clauses (var_count l.initial.trail) l.trail.steps.items l.watches;
+  scores : l.scores.counts ≡ l.initial.scores.counts;
 }
 
 abbrev pub decreases-loop-id : goal.decreases-loop-id

@@ -1,13 +1,22 @@
-use Rattle.std.proofs.Common.{◌≡◌, ℕ, [], ◌∷◌, ◌++◌, List, Option, Bool, false, length, map, arith, sym, ap, ◌∙◌, subst}
-use Rattle.std.specs.Prelude.{MatchOption, unwrap_or}
+use Rattle.std.proofs.Common.{◌≡◌, ℕ, ◌+◌, ◌-◌, ◌^◌, ◌<◌, ◌≤◌, cond, get_or, Vec, Global, [], ◌∷◌, ◌++◌, List, Option, false, length, map, min, arith, sym, ap, ◌∙◌, subst}
+use Rattle.std.specs.Prelude.{MatchOption, unwrap_or, replicate}
+use Rattle.std.specs.List.{All}
 use Rattle.std.proofs.lemmas.Bool.{false≢true}
 use Rattle.std.proofs.lemmas.List.{length_push}
 use Rattle.cnf_core.specs.declared.literal.Lit.{Lit}
 use Rattle.cnf_core.specs.declared.line.Line.{Line}
+use Rattle.cnf_core.specs.Formula.{IsLitOf}
+use Rattle.cnf_core.specs.Refutation.{HaveDifferentVars}
 use Rattle.cnf_core.specs.Values.{IsClosed}
-use Rattle.sat_core.specs.Steps.{given, IsTrailState}
-use Rattle.sat_core.specs.Looks.{IsFalsified}
-use Rattle.sat_core.specs.Picks.{free_list}
+use Rattle.sat_core.specs.declared.trail.Step.{Step}
+use Rattle.sat_core.specs.declared.trail.Value.{Value}
+use Rattle.sat_core.specs.declared.watches.Watches.{Watches}
+use Rattle.sat_core.specs.Steps.{value_of, given, var_count, IsTrailState}
+use Rattle.sat_core.specs.Watches.{AreWatched, KeepWatches}
+use Rattle.sat_core.proofs.Watching.{kept-cut, kept-more}
+use Rattle.sat_core.specs.FalseClauses.{IsFalsified}
+use Rattle.sat_core.specs.Picks.{free_list, has_var, AreScores}
+use Rattle.sat_core.proofs.Scoring.{scores-none, scores-room, scores-add}
 use Rattle.sat_core.proofs.Searching.{IsSearch, search-none, search-moved, search-more, search-refuted, search-spent, search-solved}
 use Rattle.sat_core.proofs.solver.solve.Goals as goal
 
@@ -20,8 +29,40 @@ loop-made-init g c =
       search = subst (λ (ls : List Line). IsSearch f ls clauses trail) (sym c.new-lines.ensures)
           (search-none f clauses trail c.in_ok-clauses.ensures.same c.vars.ensures.exist
           (λ cs. subst (λ (n : ℕ). IsTrailState cs n trail) c.vars.ensures.value (c.in_ok-trail.ensures.state cs)) c.in_ok-trail.ensures.none);
+      watched =
+          (let size = (c.in_ok-trail.ensures.state clauses).size in
+          subst (λ (ss : List Step). AreWatched clauses (var_count trail) ss c.in_ok-watches.watches) (sym c.in_ok-trail.ensures.none)
+          (subst (λ (n : ℕ). AreWatched clauses n [] c.in_ok-watches.watches) (c.vars-2.ensures.value ∙ sym c.vars.ensures.value ∙ sym size) (c.in_ok-watches.ensures clauses)));
+      scored =
+          (let size = (c.in_ok-trail.ensures.state clauses).size in
+          subst (λ (ls : List Line). AreScores (var_count trail) ls c.in_ok-scores.scores.counts.items) (sym c.new-lines.ensures)
+          (scores-none (var_count trail) c.in_ok-scores.scores.counts.items
+          (c.in_ok-scores.ensures ∙ ap (λ (k : ℕ). replicate k 0) (c.vars-3.ensures.value ∙ sym c.vars.ensures.value ∙ sym size))));
       count = ap length c.new-lines.ensures;
     }
+
+pub add-requires-clause-exist : goal.add-requires-clause-exist
+add-requires-clause-exist g c =
+    let scored = c.loop-made.invariant.scored in
+    let shown = c.in_ok-line-in-Some.ensures.shown in
+    let size : var_count c.advance.new.trail ≡ length c.advance.new.scores.counts.items =
+    c.in_ok-advance.ensures.state.size ∙ sym scored.size ∙ sym (ap (λ (v : Vec ℕ Global). length v.items) c.in_ok-advance.ensures.scores) in
+    subst (λ (lits : List Lit). All (IsLitOf (length c.advance.new.scores.counts.items)) lits) (sym c.as_slice-in-Some-2.ensures)
+    (subst (λ (n : ℕ). All (IsLitOf n) c.in_ok-line-in-Some.line.lits) size shown.named.exist)
+
+pub add-requires-clause-differ : goal.add-requires-clause-differ
+add-requires-clause-differ g c =
+    let shown = c.in_ok-line-in-Some.ensures.shown in
+    subst HaveDifferentVars (sym c.as_slice-in-Some-2.ensures) shown.named.differ
+
+pub add-requires-clause-room : goal.add-requires-clause-room
+add-requires-clause-room g c =
+    let count = c.loop-made.invariant.count in
+    let made = c.loop-made-test.true in
+    let end = c.loop-made.auto.made-end in
+    let most = c.requires.conflicts.1 in
+    subst (λ (v : Vec ℕ Global). All (λ score. score + 1 < 2 ^ 64) v.items) (sym c.in_ok-advance.ensures.scores)
+    (scores-room (var_count c.loop-made.trail) c.loop-made.lines c.loop-made.scores.counts.items c.loop-made.invariant.scored (omega arith))
 
 pub returns-in-None-clause-solved : goal.returns-in-None-clause-solved
 returns-in-None-clause-solved g c =
@@ -32,7 +73,7 @@ returns-in-None-clause-solved g c =
     let done = subst (λ (o : Option ℕ). MatchOption o (IsClosed (given values) clauses × (free_list values ≡ [])) (IsFalsified (given values) clauses)) c.in-None.is c.in_ok-advance.ensures.done in
     let size : length values ≡ f.vars = c.in_ok-advance.ensures.state.size ∙ h.vars in
     search-solved f c.loop-made.lines clauses f.vars values c.in_ok-all_values-in-None.field-0 h.known' h.exist size done.0 done.1
-    (c.in_ok-all_values-in-None.ensures ∙ ap (λ (vs : List (Option Bool)). map (λ o. unwrap_or o false) vs) c.as_slice.ensures.value)
+    (c.in_ok-all_values-in-None.ensures ∙ ap (λ (vs : List Value). map (λ v. unwrap_or (value_of v) false) vs) c.as_slice.ensures.value)
 
 pub returns-then-refuted-clause-refuted : goal.returns-then-refuted-clause-refuted
 returns-then-refuted-clause-refuted g c =
@@ -57,6 +98,28 @@ loop-made-preserved g c =
     record {
       search = search-more f c.loop-made.lines c.push-in-Some.new.self clauses c.push.new.self mid c.learn.new.trail line h c.in_ok-line-in-Some.ensures.size c.in_ok-line-in-Some.ensures.shown
           (c.in_ok-line-in-Some.ensures.goes_on (λ empty. false≢true (sym c.if-refuted.false ∙ c.is_empty-refuted.ensures.1 empty))) is-clauses is-lines;
+      watched =
+          (let old = c.advance.new.watches in
+          let n = var_count c.loop-made.trail in
+          let back = c.in_ok-line-in-Some.ensures.back in
+          let steps = c.learn.new.trail.steps.items in
+          let cut = kept-cut clauses n mid.steps.items steps old.lists.items old.pairs.items old.head back.count back.front back.decides c.in_ok-advance.ensures.watched in
+          let more = kept-more clauses (line.lits ∷ []) n steps old.lists.items old.pairs.items (min old.head (length steps)) cut in
+          let size = c.in_ok-line-in-Some.ensures.size ∙ c.in_ok-advance.ensures.state.size in
+          let m = var_count c.learn.new.trail in
+          subst (λ (x : Watches). AreWatched c.push.new.self m steps x) (sym c.take_back.ensures)
+          (subst (λ (k : ℕ). KeepWatches c.push.new.self m steps old.lists.items old.pairs.items (min old.head k)) (sym (c.len.ensures ∙ c.learn.new.trail.steps.ok.0))
+          (subst (λ (cs : List (List Lit)). KeepWatches cs m steps old.lists.items old.pairs.items (min old.head (length steps))) (sym is-clauses)
+          (subst (λ (k : ℕ). KeepWatches (clauses ++ line.lits ∷ []) k steps old.lists.items old.pairs.items (min old.head (length steps))) (sym size) more))));
+      scored =
+          (let n = var_count c.loop-made.trail in
+          let counts = c.advance.new.scores.counts.items in
+          let size = c.in_ok-line-in-Some.ensures.size ∙ c.in_ok-advance.ensures.state.size in
+          let before = subst (λ (v : Vec ℕ Global). AreScores n c.loop-made.lines v.items) (sym c.in_ok-advance.ensures.scores) c.loop-made.invariant.scored in
+          let each = subst (λ (lits : List Lit). (x : ℕ) → 1 ≤ x → x ≤ length counts → get_or c.add.new.self.counts.items (x - 1) 0 ≡ get_or counts (x - 1) 0 + cond {A = ℕ} (has_var lits x) 1 0) c.as_slice-in-Some-2.ensures c.add.ensures.counts in
+          subst (λ (k : ℕ). AreScores k c.push-in-Some.new.self c.add.new.self.counts.items) (sym size)
+          (subst (λ (ls : List Line). AreScores n ls c.add.new.self.counts.items) (sym is-lines)
+          (scores-add n c.loop-made.lines line counts c.add.new.self.counts.items before c.add.ensures.size each)));
       count = omega arith;
     }
 

@@ -14,7 +14,7 @@ returns-clause-leads c =
     let steps = c.args.trail.now.steps.items in
     let i = c.args.place in
     let a = c.args.self.now in
-    subst (λ (x : Analysis). (conflict : List Lit) → LeadsToConflict clauses steps (i + 1) a.needed.items a.lits.items (reverse a.hints.items) conflict → LeadsToConflict clauses steps i x.needed.items x.lits.items (reverse x.hints.items) conflict)
+    subst (λ (x : Analysis). (conflict : List Lit) → LeadsToConflict clauses steps (i + 1) a.seen.items a.lits.items (reverse a.hints.items) conflict → LeadsToConflict clauses steps i x.seen.items x.lits.items (reverse x.hints.items) conflict)
     (sym c.set_backjump.ensures) c.in_ok-resolve_or_keep.ensures.leads
 
 pub returns-clause-stays : goal.returns-clause-stays

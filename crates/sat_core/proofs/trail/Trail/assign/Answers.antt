@@ -8,5 +8,5 @@ pub returns-clause-state : goal.returns-clause-state
 returns-clause-state c = λ clauses h right.
     let steps = c.args.self.now.steps.items in
     let size = c.len-place.ensures ∙ c.args.self.now.steps.ok.0 in
-    steps-push clauses (var_count c.args.self.now) steps _ c.args.self.now.values.items _ c.args.self.now.places.items _ c.args.step c.requires.exist
-    c.in_ok-push.ensures.items refl (ap (λ (n : ℕ). slice_set c.args.self.now.places.items (c.args.step.lit.var - 1) n) size) h right
+    steps-push clauses (var_count c.args.self.now) steps _ c.args.self.now.values.items _ c.args.self.now.indices.items _ c.args.step c.of.result c.of.ensures c.requires.exist
+    c.in_ok-push.ensures.items refl (ap (λ (n : ℕ). slice_set c.args.self.now.indices.items (c.args.step.lit.var - 1) n) size) h right

@@ -1,7 +1,8 @@
-use Rattle.std.proofs.Common.{◌≤◌, ◌-◌, [], ◌∷◌, List, length, take, get_or, ◌<◌, None, arith, ap, sym, ◌∙◌, subst}
+use Rattle.std.proofs.Common.{◌≤◌, ◌-◌, [], ◌∷◌, List, length, take, get_or, ◌<◌, arith, ap, sym, ◌∙◌, subst}
 use Rattle.std.proofs.lemmas.List.{take-append-le, get_or_append_left, length-set, length_push}
 use Rattle.cnf_core.specs.Formula.{IsLitOf}
 use Rattle.sat_core.specs.declared.trail.Step.{Step}
+use Rattle.sat_core.specs.declared.trail.Value.TheVariants.{Unassigned}
 use Rattle.sat_core.specs.Steps.{AreSteps, var_count}
 use Rattle.sat_core.proofs.States.{steps-pop}
 use Rattle.sat_core.proofs.trail.Trail.cut.Goals as goal
@@ -13,12 +14,12 @@ loop-self-preserved-in-Some c =
     let popped = c.in-Some.ensures.items in
     let n = var_count c.args.self.now in
     let values = c.loop-self.self.values.items in
-    let places = c.loop-self.self.places.items in
+    let indices = c.loop-self.self.indices.items in
     let long = length_push front step in
     let more : c.args.count ≤ length front = (let t = c.loop-self-test.true in let size = ap length popped in omega (arith, c.len.ensures, c.loop-self.self.steps.ok.0)) in
     record {
-      state = λ clauses h. steps-pop clauses n front step values places (subst (λ (ss : List Step). AreSteps clauses n ss values places) popped (c.loop-self.invariant.state clauses h));
-      size = length-set values (step.lit.var - 1) None ∙ c.loop-self.invariant.size;
+      state = λ clauses h. steps-pop clauses n front step values indices (subst (λ (ss : List Step). AreSteps clauses n ss values indices) popped (c.loop-self.invariant.state clauses h));
+      size = length-set values (step.lit.var - 1) Unassigned ∙ c.loop-self.invariant.size;
       exist = λ k d few. subst (λ (s : Step). IsLitOf n s.lit) (get_or_append_left front (step ∷ []) d k few)
           (subst (λ (ss : List Step). (i : _) → i < length ss → IsLitOf n (get_or ss i d).lit) popped (λ i within. c.loop-self.invariant.exist i d within) k (omega arith));
       front = sym (take-append-le c.args.count front (step ∷ []) more) ∙ sym (ap (take c.args.count) popped) ∙ c.loop-self.invariant.front;

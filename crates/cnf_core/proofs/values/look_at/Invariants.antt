@@ -1,6 +1,0 @@
-use Rattle.std.proofs.Common.{take}
-use Rattle.cnf_core.proofs.Looking.{UnitSoFar}
-use Rattle.cnf_core.proofs.values.look_at.Given as goal
-
-abbrev pub invariant-loop-lit : goal.invariant-loop-lit
-invariant-loop-lit g l = UnitSoFar (g.V.Values.partial l.values) (take l.lit-index l.clause) l.found

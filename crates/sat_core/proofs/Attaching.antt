@@ -1,0 +1,154 @@
+-- A new clause gets its watched literals: the two that become false last.
+use Rattle.std.proofs.Common.{◌≡◌, ◌≢◌, ℕ, ◌<◌, ◌≤◌, List, [], ◌∷◌, ◌++◌, length, take, get_or, refl, sym, ◌∙◌, subst, arith, inl, inr}
+use Rattle.std.specs.Prelude.{◌⊎◌}
+use Rattle.std.specs.List.{All, Contains}
+use Rattle.std.proofs.lemmas.Bool.{cases_lt}
+use Rattle.std.proofs.lemmas.List.{take_all, get_or_append_left, get_or_push, length-set, length_push}
+use Rattle.std.proofs.lemmas.List.Elements.{All-weaker, All-contains}
+use Rattle.cnf_core.specs.declared.literal.Lit.{Lit}
+use Rattle.cnf_core.specs.Values.{IsUnassigned, IsOpenClause}
+use Rattle.sat_core.specs.declared.trail.Step.{Step}
+use Rattle.sat_core.specs.declared.watches.Watcher.{Watcher}
+use Rattle.sat_core.specs.declared.watches.Pair.{Pair}
+use Rattle.sat_core.specs.Steps.{trail_values, AreClosedBefore}
+use Rattle.sat_core.specs.Watches.{no_pair, list_of, watchers, pair_at, StandsFrom, with_watcher, with_pair, IsWatcher, NeedsNoVisit, KeepsWatch, KeepWatches, IsNoLater, IsChosen}
+use Rattle.sat_core.proofs.Holding.{none≢some}
+use Rattle.sat_core.proofs.Quiet.{grows-whole, quiet-weaker, lit-eq-cases}
+use Rattle.sat_core.proofs.Exchanging.{stands-with, stands-new, all-with}
+
+-- the two literals that become false last are quiet wherever the clause is open
+chosen-quiet : (steps : List Step) (c : List Lit) (p : Pair) (k : ℕ) → k ≤ length steps → IsChosen steps c p → IsOpenClause (trail_values (take k steps)) c → NeedsNoVisit (trail_values (take k steps)) (trail_values (take k steps)) c p
+chosen-quiet steps c p k le h open' =
+    elim open' [
+      | inl one ↦ inl one
+      | inr two ↦
+          (let (l, m, in-l, in-m, differ, free-l, free-m) = two in
+          elim (lit-eq-cases l p.a) [
+            | inl same ↦ by m in-m free-m (λ e. differ (same ∙ sym e))
+            | inr ne ↦ by l in-l free-l ne
+          ])
+    ]
+  where
+    by : (y : Lit) → Contains c y → IsUnassigned (trail_values (take k steps)) y → (y ≢ p.a) → NeedsNoVisit (trail_values (take k steps)) (trail_values (take k steps)) c p
+    by y there free ne =
+        elim (All-contains (λ m. (m ≡ p.a) ⊎ ((p.a ≢ p.b) × IsNoLater steps m p.b)) c y h.second there) [
+          | inl same ↦ absurd (ne same)
+          | inr (differ, later) ↦
+              inr (
+                differ,
+                (λ f. none≢some (sym free ∙ All-contains (λ m. IsNoLater steps m p.a) c y h.last there k le f)),
+                (λ f. none≢some (sym free ∙ later k le f)),
+              )
+        ]
+
+-- what a new clause needs of the lists
+record IsListed (clauses : List (List Lit)) (lists lists' : List (List Watcher)) (pairs : List Pair) (p : Pair) : Type 0 where
+  size : length lists' ≡ length lists
+  right : (k : ℕ) → All (IsWatcher clauses (pairs ++ p ∷ [])) (watchers lists' k)
+  stays : (i k : ℕ) → StandsFrom 0 (watchers lists i) k → StandsFrom 0 (watchers lists' i) k
+  listed_a : p.a ≢ p.b → StandsFrom 0 (watchers lists' (list_of p.a)) (length pairs)
+  listed_b : p.a ≢ p.b → StandsFrom 0 (watchers lists' (list_of p.b)) (length pairs)
+
+pair-before : (pairs : List Pair) (p : Pair) (k : ℕ) → k < length pairs → pair_at (pairs ++ p ∷ []) k ≡ pair_at pairs k
+pair-before pairs p k few = get_or_append_left pairs (p ∷ []) no_pair k few
+
+pair-last : (pairs : List Pair) (p : Pair) (k : ℕ) → length pairs ≡ k → pair_at (pairs ++ p ∷ []) k ≡ p
+pair-last pairs p k is = get_or_push pairs p no_pair k is
+
+added-with : (clauses : List (List Lit)) (n : ℕ) (steps : List Step) (lists lists' : List (List Watcher)) (pairs : List Pair) (head : ℕ) (p : Pair)
+    → KeepWatches clauses n steps lists pairs head → length pairs < length clauses → IsChosen steps (get_or clauses (length pairs) []) p
+    → AreClosedBefore clauses steps → IsOpenClause (trail_values steps) (get_or clauses (length pairs) []) → IsListed clauses lists lists' pairs p
+    → KeepWatches clauses n steps lists' (pairs ++ p ∷ []) head
+added-with clauses n steps lists lists' pairs head p h more chosen before open' x =
+    let long = length_push pairs p in
+    let pairs' = pairs ++ p ∷ [] in
+    let size = x.size in
+    let count' = h.count in
+    let c = get_or clauses (length pairs) [] in
+    let all : take (length steps) steps ≡ steps = take_all (length steps) steps (omega arith) in
+    record {
+      count = omega arith;
+      attached = omega arith;
+      within = h.within;
+      right = x.right;
+      kept = λ k few. elim (cases_lt k (length pairs)) [
+        | inl first ↦
+            (let o = h.kept k first in
+            subst (λ (y : Pair). KeepsWatch steps lists' head k (get_or clauses k []) y) (sym (pair-before pairs p k first))
+            (record {
+              has_a = o.has_a;
+              has_b = o.has_b;
+              listed_a = λ differ. x.stays (list_of (pair_at pairs k).a) k (o.listed_a differ);
+              listed_b = λ differ. x.stays (list_of (pair_at pairs k).b) k (o.listed_b differ);
+              decided = o.decided;
+              visited = o.visited;
+            }))
+        | inr last ↦
+            (let here : length pairs ≡ k = omega arith in
+            subst (λ (y : Pair). KeepsWatch steps lists' head k (get_or clauses k []) y) (sym (pair-last pairs p k here))
+            (subst (λ (j : ℕ). KeepsWatch steps lists' head j (get_or clauses j []) p) here
+            (record {
+              has_a = chosen.has_a;
+              has_b = chosen.has_b;
+              listed_a = x.listed_a;
+              listed_b = x.listed_b;
+              decided = λ i d few' is. chosen-quiet steps c p i (omega arith) chosen (before i d few' is (length pairs) [] more);
+              visited =
+                  (let now = chosen-quiet steps c p (length steps) (omega arith) chosen (subst (λ (ss : List Step). IsOpenClause (trail_values ss) c) (sym all) open') in
+                  let now' = subst (λ (ss : List Step). NeedsNoVisit (trail_values ss) (trail_values ss) c p) all now in
+                  quiet-weaker (trail_values steps) (trail_values (take head steps)) (trail_values steps) (trail_values steps) c p (grows-whole steps head) (λ y b e. e) now');
+            })))
+      ];
+    }
+
+watcher-more : (clauses : List (List Lit)) (pairs : List Pair) (p : Pair) (w : Watcher) → IsWatcher clauses pairs w → IsWatcher clauses (pairs ++ p ∷ []) w
+watcher-more clauses pairs p w r =
+    let long = length_push pairs p in
+    let e = r.exists in
+    record {
+      exists = omega arith;
+      has_blocker = r.has_blocker;
+      differ = subst (λ (y : Pair). y.a ≢ y.b) (sym (pair-before pairs p w.clause r.exists)) r.differ;
+    }
+
+-- **a new clause gets its watched literals**
+pub kept-added : (clauses : List (List Lit)) (n : ℕ) (steps : List Step) (lists lists' : List (List Watcher)) (pairs : List Pair) (head : ℕ) (p : Pair)
+    → KeepWatches clauses n steps lists pairs head → length pairs < length clauses → IsChosen steps (get_or clauses (length pairs) []) p
+    → AreClosedBefore clauses steps → IsOpenClause (trail_values steps) (get_or clauses (length pairs) [])
+    → list_of p.a < length lists → list_of p.b < length lists → (p.a ≡ p.b → lists' ≡ lists) → (p.a ≢ p.b → lists' ≡ with_pair lists (length pairs) p)
+    → KeepWatches clauses n steps lists' (pairs ++ p ∷ []) head
+kept-added clauses n steps lists lists' pairs head p h more chosen before open' in-a in-b one two =
+    added-with clauses n steps lists lists' pairs head p h more chosen before open'
+    (elim (lit-eq-cases p.a p.b) [
+      | inl same ↦
+          subst (λ (ls : List (List Watcher)). IsListed clauses lists ls pairs p) (sym (one same))
+          (record {
+            size = refl;
+            right = λ k. All-weaker (IsWatcher clauses pairs) (IsWatcher clauses (pairs ++ p ∷ [])) (watcher-more clauses pairs p) (watchers lists k) (h.right k);
+            stays = λ i k stands. stands;
+            listed_a = λ differ. absurd (differ same);
+            listed_b = λ differ. absurd (differ same);
+          })
+      | inr differ ↦
+          (let id = length pairs in
+          let c = get_or clauses id [] in
+          let long = length_push pairs p in
+          let P : Watcher → Type 0 = IsWatcher clauses (pairs ++ p ∷ []) in
+          let first : Watcher = record { clause = id; blocker = p.b } in
+          let second : Watcher = record { clause = id; blocker = p.a } in
+          let mid = with_watcher lists (list_of p.a) first in
+          let size = length-set lists (list_of p.a) (watchers lists (list_of p.a) ++ first ∷ []) in
+          let size' = length-set mid (list_of p.b) (watchers mid (list_of p.b) ++ second ∷ []) in
+          let in-b' : list_of p.b < length mid = omega arith in
+          let ne : (pair_at (pairs ++ p ∷ []) id).a ≢ (pair_at (pairs ++ p ∷ []) id).b = subst (λ (y : Pair). y.a ≢ y.b) (sym (pair-last pairs p id refl)) differ in
+          subst (λ (ls : List (List Watcher)). IsListed clauses lists ls pairs p) (sym (two differ))
+          (record {
+            size = omega arith;
+            right = λ k. all-with P mid (list_of p.b) k second in-b' (record { exists = omega arith; has_blocker = chosen.has_a; differ = ne })
+                (λ j. all-with P lists (list_of p.a) j first in-a (record { exists = omega arith; has_blocker = chosen.has_b; differ = ne })
+                (λ i. All-weaker (IsWatcher clauses pairs) P (watcher-more clauses pairs p) (watchers lists i) (h.right i)));
+            stays = λ i k stands. stands-with mid (list_of p.b) i 0 k second in-b' (stands-with lists (list_of p.a) i 0 k first in-a stands);
+            listed_a = λ differ'. stands-with mid (list_of p.b) (list_of p.a) 0 id second in-b' (stands-new lists (list_of p.a) first in-a);
+            listed_b = λ differ'. stands-new mid (list_of p.b) second in-b';
+          }))
+    ])

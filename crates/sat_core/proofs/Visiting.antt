@@ -1,0 +1,184 @@
+-- A look at the clause of a watcher: which one it is, and what each end of the look leaves.
+use Rattle.std.proofs.Common.{◌≡◌, ◌≢◌, ℕ, ◌+◌, ◌-◌, ◌<◌, List, [], ◌∷◌, ◌++◌, length, get_or, sym, ap, ◌∙◌, subst, arith, inl, inr, Some, None, append-nil}
+use Rattle.std.specs.Prelude.{◌⊎◌}
+use Rattle.std.specs.List.{All, Contains}
+use Rattle.std.proofs.lemmas.List.{get_or_read}
+use Rattle.std.proofs.lemmas.List.Elements.{All-nil, All-weaker, All-contains}
+use Rattle.cnf_core.specs.declared.literal.Lit.{Lit}
+use Rattle.cnf_core.specs.Formula.{IsLitOf, AreOver, negated}
+use Rattle.cnf_core.specs.Values.{Partial, IsHeld, IsFalse, IsFalseClause, IsUnit, IsOpenClause, IsClosed}
+use Rattle.cnf_core.specs.Refutation.{clause_at}
+use Rattle.sat_core.specs.declared.trail.Step.{Step}
+use Rattle.sat_core.specs.declared.watches.Watcher.{Watcher}
+use Rattle.sat_core.specs.declared.watches.Pair.{Pair}
+use Rattle.sat_core.specs.FalseClauses.{IsFalsified}
+use Rattle.sat_core.specs.declared.trail.Value.{Value}
+use Rattle.sat_core.specs.Steps.{given, trail_values, IsReason, IsRightStep, AreSteps, Propagates, AreClosedBefore}
+use Rattle.sat_core.specs.Watches.{no_pair, no_watcher, list_of, watchers, pair_at, IsTrueClause, with_pair, IsWatcher, KeepWatches, ArePassedIn, IsFalsifiedAt, IsChosen}
+use Rattle.sat_core.proofs.Holding.{held-push-same}
+use Rattle.sat_core.proofs.Agreeing.{open-agrees}
+use Rattle.sat_core.proofs.States.{agree}
+use Rattle.sat_core.proofs.Quiet.{lit-cases, false-at}
+use Rattle.sat_core.proofs.Attaching.{kept-added}
+use Rattle.sat_core.proofs.Exchanging.{stays-one, IsExchange}
+use Rattle.sat_core.proofs.Watching.{list-within, kept-push, passed-push, passed-next}
+
+-- the watcher at a place of a literal's list
+pub record IsVisit (clauses : List (List Lit)) (n : ℕ) (lists : List (List Watcher)) (pairs : List Pair) (l : Lit) (place : ℕ) (w : Watcher) : Type 0 where
+  pub is : w ≡ get_or (watchers lists (list_of l)) place no_watcher
+  pub right : IsWatcher clauses pairs w
+  pub exists : w.clause < length clauses
+  pub over : All (IsLitOf n) (get_or clauses w.clause [])
+  pub list : list_of l < length lists
+  pub within : place < length (watchers lists (list_of l))
+
+pub visit-start : (clauses : List (List Lit)) (n : ℕ) (steps : List Step) (lists : List (List Watcher)) (pairs : List Pair) (head : ℕ) (l : Lit) (place list : ℕ) (x : List Watcher) (w : Watcher)
+    → KeepWatches clauses n steps lists pairs head → AreOver n clauses → IsLitOf n l → place < length (watchers lists (list_of l))
+    → list ≡ list_of l → x ≡ get_or lists list x → w ≡ get_or x place no_watcher → IsVisit clauses n lists pairs l place w
+visit-start clauses n steps lists pairs head l place list x w h over at within is-list is-x is-w =
+    let few = list-within n (length lists) l at h.count in
+    let is-x' : x ≡ watchers lists (list_of l) = get_or_read lists list x (omega arith) is-x [] ∙ ap (watchers lists) is-list in
+    let is = is-w ∙ ap (λ (xs : List Watcher). get_or xs place no_watcher) is-x' in
+    let right = subst (IsWatcher clauses pairs) (sym is) (h.right (list_of l) place no_watcher within) in
+    let exists : w.clause < length clauses = (let a = right.exists in let b = h.attached in omega arith) in
+    record { is = is; right = right; exists = exists; over = over w.clause [] exists; list = few; within = within }
+
+-- the literal of its clause that isn't the false one
+pub record IsOther (clauses : List (List Lit)) (n : ℕ) (pairs : List Pair) (l : Lit) (id : ℕ) (other : Lit) : Type 0 where
+  pub first : (((pair_at pairs id).a ≡ l) × (other ≡ (pair_at pairs id).b)) ⊎ (((pair_at pairs id).a ≢ l) × (other ≡ (pair_at pairs id).a))
+  pub among : Contains (get_or clauses id []) other
+  pub exist : IsLitOf n other
+
+pub visit-other : (clauses : List (List Lit)) (n : ℕ) (steps : List Step) (lists : List (List Watcher)) (pairs : List Pair) (head : ℕ) (l : Lit) (place : ℕ) (w : Watcher) (p : Pair) (other : Lit)
+    → KeepWatches clauses n steps lists pairs head → IsVisit clauses n lists pairs l place w → p ≡ get_or pairs w.clause p
+    → ((p.a ≡ l) × (other ≡ p.b)) ⊎ ((p.a ≢ l) × (other ≡ p.a)) → IsOther clauses n pairs l w.clause other
+visit-other clauses n steps lists pairs head l place w p other h v is-p first =
+    let is = get_or_read pairs w.clause p v.right.exists is-p no_pair in
+    let first' = subst (λ (y : Pair). ((y.a ≡ l) × (other ≡ y.b)) ⊎ ((y.a ≢ l) × (other ≡ y.a))) is first in
+    let o = h.kept w.clause v.right.exists in
+    let among = stays-one (Contains (get_or clauses w.clause [])) (pair_at pairs w.clause) l other first' o.has_a o.has_b in
+    record { first = first'; among = among; exist = All-contains (IsLitOf n) (get_or clauses w.clause []) other v.over among }
+
+-- **its clause is true**
+pub visit-true : (clauses : List (List Lit)) (n : ℕ) (steps : List Step) (values : List Value) (indices : List ℕ) (lists : List (List Watcher)) (pairs : List Pair) (head : ℕ) (l : Lit) (place : ℕ) (w : Watcher) (m : Lit)
+    → AreSteps clauses n steps values indices → IsVisit clauses n lists pairs l place w → Contains (get_or clauses w.clause []) m → IsHeld (given values) m
+    → ArePassedIn clauses steps lists pairs head (list_of l) place → ArePassedIn clauses steps lists pairs head (list_of l) (place + 1)
+visit-true clauses n steps values indices lists pairs head l place w m s v among holds passed =
+    let at = All-contains (IsLitOf n) (get_or clauses w.clause []) m v.over among in
+    passed-next clauses steps lists pairs head (list_of l) place
+    (subst (λ (x : Watcher). IsTrueClause (trail_values steps) (get_or clauses x.clause [])) v.is (m, among, s.shows m.var at.above at.within ∙ holds)) passed
+
+at-place : (clauses : List (List Lit)) (id : ℕ) → clause_at clauses (id + 1) ≡ get_or clauses id []
+at-place clauses id = (let e : id + 1 - 1 ≡ id = omega arith in ap (λ (k : ℕ). get_or clauses k []) e)
+
+-- **its clause is false**
+pub visit-falsified : (s : Partial) (clauses : List (List Lit)) (id : ℕ) (c : List Lit) (m : Lit) → c ≡ get_or clauses id [] → id < length clauses → All (λ x. (x ≡ m) ⊎ IsFalse s x) c → IsFalse s m → IsFalsified s clauses (id + 1)
+visit-falsified s clauses id c m is few all false' =
+    record {
+      low = omega arith;
+      high = omega arith;
+      false' = subst (IsFalseClause s) (is ∙ sym (at-place clauses id))
+          (All-weaker (λ x. (x ≡ m) ⊎ IsFalse s x) (IsFalse s) (λ x h. elim h [ inl same ↦ subst (IsFalse s) (sym same) false' | inr f ↦ f ]) c all);
+    }
+
+-- **its clause is unit**
+pub visit-unit : (s : Partial) (clauses : List (List Lit)) (id : ℕ) (c : List Lit) (m : Lit) → c ≡ get_or clauses id [] → id < length clauses → Contains (get_or clauses id []) m
+    → All (λ x. (x ≡ m) ⊎ IsFalse s x) c → (IsHeld s m → ⊥) → (IsFalse s m → ⊥) → IsReason s clauses (id + 1) m
+visit-unit s clauses id c m is few among all not-held not-false =
+    record {
+      low = omega arith;
+      high = omega arith;
+      unit = subst (λ (x : List Lit). IsUnit s x m) (sym (at-place clauses id))
+          (record {
+            among = among;
+            free = elim (lit-cases s m) [
+              | inl free ↦ free
+              | inr value ↦ elim value [ inl h ↦ absurd (not-held h) | inr f ↦ absurd (not-false f) ]
+            ];
+            others = subst (All (λ x. (x ≡ m) ⊎ IsFalse s x)) is all;
+          });
+    }
+
+pub visit-step : (clauses : List (List Lit)) (n : ℕ) (steps new : List Step) (lists : List (List Watcher)) (pairs : List Pair) (head : ℕ) (l : Lit) (place : ℕ) (w : Watcher) (m : Lit) (id : ℕ)
+    → head < length steps → new ≡ steps ++ record { lit = m; reason = Some id } ∷ [] → IsVisit clauses n lists pairs l place w → Contains (get_or clauses w.clause []) m
+    → IsRightStep clauses steps (record { lit = m; reason = Some id }) → KeepWatches clauses n steps lists pairs head → ArePassedIn clauses steps lists pairs head (list_of l) place
+    → KeepWatches clauses n new lists pairs head × ArePassedIn clauses new lists pairs head (list_of l) (place + 1)
+visit-step clauses n steps new lists pairs head l place w m id within is v among right h passed =
+    let step : Step = record { lit = m; reason = Some id } in
+    subst (λ (ss : List Step). KeepWatches clauses n ss lists pairs head × ArePassedIn clauses ss lists pairs head (list_of l) (place + 1)) (sym is) (
+      kept-push clauses n steps lists pairs head step (λ none. absurd (some-id id none)) h,
+      passed-next clauses (steps ++ step ∷ []) lists pairs head (list_of l) place
+          (subst (λ (x : Watcher). IsTrueClause (trail_values (steps ++ step ∷ [])) (get_or clauses x.clause [])) v.is (m, among, held-push-same steps step right.free))
+          (passed-push clauses steps lists pairs head (list_of l) place step within passed),
+    )
+  where
+    some-id : (id : ℕ) → Some id ≡ None → ⊥
+    some-id id e = cc
+
+-- **its clause gets another watched literal**
+pub visit-exchange : (clauses : List (List Lit)) (n : ℕ) (steps : List Step) (values : List Value) (indices : List ℕ) (lists : List (List Watcher)) (pairs : List Pair) (head : ℕ) (l : Lit) (place : ℕ) (w : Watcher) (other found : Lit) (saved : ℕ) (c : List Lit)
+    → AreSteps clauses n steps values indices → KeepWatches clauses n steps lists pairs head → IsFalsifiedAt steps head l → IsLitOf n l → IsVisit clauses n lists pairs l place w → IsOther clauses n pairs l w.clause other
+    → c ≡ get_or clauses w.clause [] → Contains c found → (found ≢ other) → (IsFalse (given values) found → ⊥)
+    → IsExchange clauses steps lists pairs l place w.clause (record { a = other; b = found; saved = saved })
+visit-exchange clauses n steps values indices lists pairs head l place w other found saved c s h at exist v o is among differ free =
+    let among' = subst (λ (x : List Lit). Contains x found) is among in
+    let at-b = All-contains (IsLitOf n) (get_or clauses w.clause []) found v.over among' in
+    record {
+      low = exist.above;
+      low_a = o.exist.above;
+      low_b = at-b.above;
+      list = v.list;
+      list_b = list-within n (length lists) found at-b h.count;
+      within = v.within;
+      is = ap (λ (x : Watcher). x.clause) (sym v.is);
+      false' = false-at clauses steps head l s.trail at;
+      first = o.first;
+      among = among';
+      differ = differ;
+      free = λ f. free (sym (s.shows found.var at-b.above at-b.within) ∙ f);
+    }
+
+-- **a new clause is attached**
+pub attached : (clauses : List (List Lit)) (n : ℕ) (steps : List Step) (values : List Value) (indices : List ℕ) (lists lists' : List (List Watcher)) (pairs pairs' : List Pair) (head head' : ℕ) (c : List Lit) (p : Pair)
+    → AreSteps clauses n steps values indices → AreOver n clauses → AreClosedBefore clauses steps → KeepWatches clauses n steps lists pairs head
+    → length pairs < length clauses → IsOpenClause (given values) (get_or clauses (length pairs) []) → c ≡ get_or clauses (length pairs) [] → IsChosen steps c p
+    → (p.a ≡ p.b → lists' ≡ lists) → (p.a ≢ p.b → lists' ≡ with_pair lists (length pairs) p) → pairs' ≡ pairs ++ p ∷ [] → head' ≡ head
+    → KeepWatches clauses n steps lists' pairs' head'
+attached clauses n steps values indices lists lists' pairs pairs' head head' c p s over before h more opens is chosen one two is-pairs is-head =
+    let clause = get_or clauses (length pairs) [] in
+    let chosen' = subst (λ (x : List Lit). IsChosen steps x p) is chosen in
+    let exist = over (length pairs) [] more in
+    let open' = open-agrees (given values) (trail_values steps) clause (agree clauses n steps values indices clause s exist) opens in
+    subst (λ (ps : List Pair). KeepWatches clauses n steps lists' ps head') (sym is-pairs)
+    (subst (λ (k : ℕ). KeepWatches clauses n steps lists' (pairs ++ p ∷ []) k) (sym is-head)
+    (kept-added clauses n steps lists lists' pairs head p h more chosen' before open'
+    (list-within n (length lists) p.a (All-contains (IsLitOf n) clause p.a exist chosen'.has_a) h.count)
+    (list-within n (length lists) p.b (All-contains (IsLitOf n) clause p.b exist chosen'.has_b) h.count) one two))
+
+pub chosen-exist : (clauses : List (List Lit)) (n : ℕ) (steps : List Step) (place : ℕ) (c : List Lit) (p : Pair) → AreOver n clauses → place < length clauses → c ≡ get_or clauses place [] → IsChosen steps c p
+    → IsLitOf n p.a × IsLitOf n p.b
+chosen-exist clauses n steps place c p over few is chosen =
+    let exist = over place [] few in
+    let chosen' = subst (λ (x : List Lit). IsChosen steps x p) is chosen in (
+      All-contains (IsLitOf n) (get_or clauses place []) p.a exist chosen'.has_a,
+      All-contains (IsLitOf n) (get_or clauses place []) p.b exist chosen'.has_b,
+    )
+
+-- what is closed by the steps is closed by the values
+pub closed-given : (clauses : List (List Lit)) (n : ℕ) (steps : List Step) (values : List Value) (indices : List ℕ) → AreSteps clauses n steps values indices → AreOver n clauses → IsClosed (trail_values steps) clauses → IsClosed (given values) clauses
+closed-given clauses n steps values indices s over closed k d few =
+    let c = get_or clauses k d in
+    open-agrees (trail_values steps) (given values) c (λ m there. sym (agree clauses n steps values indices c s (over k d few) m there)) (closed k d few)
+
+-- no step yet
+pub propagates-none : (steps : List Step) → Propagates steps steps
+propagates-none steps = ([], sym (append-nil steps), All-nil (λ (s : Step). s.reason ≢ None))
+
+-- the literal that is opposite to the step at the head
+pub falsified-by : (steps : List Step) (head : ℕ) (s : Step) (l : Lit) → head < length steps → s ≡ get_or steps head s → l ≡ negated s.lit → IsFalsifiedAt steps head l
+falsified-by steps head s l within at is =
+    record { within = within; is = λ d. ap (λ (x : Step). negated x.lit) (sym (get_or_read steps head s within at d)) ∙ sym is }
+
+-- the list that a read gives
+pub list-read : (lists : List (List Watcher)) (list : ℕ) (x : List Watcher) (l : Lit) → list < length lists → x ≡ get_or lists list x → list ≡ list_of l → x ≡ watchers lists (list_of l)
+list-read lists list x l few at is = get_or_read lists list x few at [] ∙ ap (watchers lists) is

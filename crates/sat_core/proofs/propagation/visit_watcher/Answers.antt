@@ -1,0 +1,245 @@
+use Rattle.std.proofs.Common.{◌≡◌, ℕ, ◌+◌, [], List, Vec, Global, length, set, get_or, refl, ap, sym, ◌∙◌, subst}
+use Rattle.std.specs.List.{All, Contains}
+use Rattle.std.proofs.lemmas.Bool.{iff_false}
+use Rattle.std.proofs.lemmas.Option.{get_or_from_slice_get}
+use Rattle.std.proofs.lemmas.List.Elements.{All-contains, Contains-get_or}
+use Rattle.cnf_core.specs.Formula.{IsLitOf}
+use Rattle.sat_core.specs.declared.watches.Pair.{Pair}
+use Rattle.sat_core.specs.Steps.{given, var_count}
+use Rattle.sat_core.specs.declared.watches.Watcher.{Watcher}
+use Rattle.sat_core.specs.Watches.{no_literal, list_of, watchers, with_watcher, with_blocker, IsRemoved, KeepWatches, ArePassedIn}
+use Rattle.sat_core.proofs.States.{reason-right}
+use Rattle.sat_core.proofs.Exchanging.{exchanged-lists, kept-moved, passed-moved, fewer-moved}
+use Rattle.sat_core.proofs.Watching.{list-within}
+use Rattle.sat_core.proofs.Renewing.{kept-renewed, passed-renewed, length-renewed}
+use Rattle.sat_core.proofs.Visiting.{visit-start, visit-other, visit-true, visit-falsified, visit-unit, visit-step, visit-exchange}
+use Rattle.sat_core.proofs.propagation.visit_watcher.Goals as goal
+
+pub returns-then-is_true-clause-says : goal.returns-then-is_true-clause-says
+returns-then-is_true-clause-says c =
+    let clauses = c.args.clauses.now in
+    let t = c.args.trail.now in
+    let n = var_count t in
+    let w = c.args.watches.now in
+    let l = c.args.lit in
+    let place = c.args.place in
+    let watcher = c.get-watcher.result in
+    let steps = t.steps.items in
+    let v = visit-start clauses n steps w.lists.items w.pairs.items w.head l place c.list_place-list.result c.index.result.now watcher c.requires.watched c.requires.exist c.requires.lit c.requires.place c.list_place-list.ensures c.index.ensures c.get-watcher.ensures in
+    (visit-true clauses n steps t.values.items t.indices.items w.lists.items w.pairs.items w.head l place watcher watcher.blocker c.requires.state v v.right.has_blocker (c.is_true.ensures.0 c.if-is_true.true) c.requires.passed, refl)
+
+pub returns-then-is_true-2-clause-says : goal.returns-then-is_true-2-clause-says
+returns-then-is_true-2-clause-says c =
+    let clauses = c.args.clauses.now in
+    let t = c.args.trail.now in
+    let n = var_count t in
+    let w = c.args.watches.now in
+    let l = c.args.lit in
+    let place = c.args.place in
+    let watcher = c.get-watcher.result in
+    let steps = t.steps.items in
+    let v = visit-start clauses n steps w.lists.items w.pairs.items w.head l place c.list_place-list.result c.index.result.now watcher c.requires.watched c.requires.exist c.requires.lit c.requires.place c.list_place-list.ensures c.index.ensures c.get-watcher.ensures in
+    let other = c.other_than-other.result in
+    let o = visit-other clauses n steps w.lists.items w.pairs.items w.head l place watcher c.index-old.result.now other c.requires.watched v c.index-old.ensures c.other_than-other.ensures in
+    let w' = c.renew.new.self in
+    let list = c.list_place-list.ensures in
+    let lists : w'.lists.items ≡ with_blocker w.lists.items (list_of l) place other = c.renew.ensures.lists ∙ ap (λ (k : ℕ). with_blocker w.lists.items k place other) list in
+    let passed = visit-true clauses n steps t.values.items t.indices.items w.lists.items w.pairs.items w.head l place watcher other c.requires.state v o.among (c.is_true-2.ensures.0 c.if-is_true-2.true) c.requires.passed in (
+      subst (λ (k : ℕ). ArePassedIn clauses steps w'.lists.items w'.pairs.items k (list_of l) (place + 1)) (sym c.renew.ensures.head)
+          (subst (λ (ls : List (List Watcher)). ArePassedIn clauses steps ls w'.pairs.items w.head (list_of l) (place + 1)) (sym lists)
+          (subst (λ (ps : Vec Pair Global). ArePassedIn clauses steps (with_blocker w.lists.items (list_of l) place other) ps.items w.head (list_of l) (place + 1)) (sym c.renew.ensures.pairs)
+          (passed-renewed clauses steps w.lists.items w.pairs.items w.head (list_of l) place (place + 1) other v.list v.within passed))),
+      ap (λ (ls : List (List Watcher)). length (watchers ls (list_of l))) lists ∙ length-renewed w.lists.items (list_of l) place other v.list,
+    )
+
+pub returns-then-is_true-2-clause-watched : goal.returns-then-is_true-2-clause-watched
+returns-then-is_true-2-clause-watched c =
+    let clauses = c.args.clauses.now in
+    let t = c.args.trail.now in
+    let n = var_count t in
+    let w = c.args.watches.now in
+    let l = c.args.lit in
+    let place = c.args.place in
+    let watcher = c.get-watcher.result in
+    let steps = t.steps.items in
+    let v = visit-start clauses n steps w.lists.items w.pairs.items w.head l place c.list_place-list.result c.index.result.now watcher c.requires.watched c.requires.exist c.requires.lit c.requires.place c.list_place-list.ensures c.index.ensures c.get-watcher.ensures in
+    let other = c.other_than-other.result in
+    let o = visit-other clauses n steps w.lists.items w.pairs.items w.head l place watcher c.index-old.result.now other c.requires.watched v c.index-old.ensures c.other_than-other.ensures in
+    let w' = c.renew.new.self in
+    let lists : w'.lists.items ≡ with_blocker w.lists.items (list_of l) place other = c.renew.ensures.lists ∙ ap (λ (k : ℕ). with_blocker w.lists.items k place other) c.list_place-list.ensures in
+    let among = subst (λ (x : Watcher). Contains (get_or clauses x.clause []) other) v.is o.among in
+    subst (λ (k : ℕ). KeepWatches clauses n steps w'.lists.items w'.pairs.items k) (sym c.renew.ensures.head)
+    (subst (λ (ls : List (List Watcher)). KeepWatches clauses n steps ls w'.pairs.items w.head) (sym lists)
+    (subst (λ (ps : Vec Pair Global). KeepWatches clauses n steps (with_blocker w.lists.items (list_of l) place other) ps.items w.head) (sym c.renew.ensures.pairs)
+    (kept-renewed clauses n steps w.lists.items w.pairs.items w.head (list_of l) place other v.list v.within among c.requires.watched)))
+
+pub replacement-requires : goal.replacement-requires
+replacement-requires c =
+    let clauses = c.args.clauses.now in
+    let t = c.args.trail.now in
+    let n = var_count t in
+    let w = c.args.watches.now in
+    let l = c.args.lit in
+    let place = c.args.place in
+    let watcher = c.get-watcher.result in
+    let steps = t.steps.items in
+    let v = visit-start clauses n steps w.lists.items w.pairs.items w.head l place c.list_place-list.result c.index.result.now watcher c.requires.watched c.requires.exist c.requires.lit c.requires.place c.list_place-list.ensures c.index.ensures c.get-watcher.ensures in
+    let is : c.get-clause.result.now ≡ get_or clauses watcher.clause [] = sym (get_or_from_slice_get clauses watcher.clause c.get-clause.result.now [] c.get-clause.ensures) in
+    record { exist = subst (All (IsLitOf n)) (sym is) v.over }
+
+pub move_watch-requires-clause-above : goal.move_watch-requires-clause-above
+move_watch-requires-clause-above c =
+    let clauses = c.args.clauses.now in
+    let t = c.args.trail.now in
+    let n = var_count t in
+    let w = c.args.watches.now in
+    let l = c.args.lit in
+    let place = c.args.place in
+    let watcher = c.get-watcher.result in
+    let steps = t.steps.items in
+    let v = visit-start clauses n steps w.lists.items w.pairs.items w.head l place c.list_place-list.result c.index.result.now watcher c.requires.watched c.requires.exist c.requires.lit c.requires.place c.list_place-list.ensures c.index.ensures c.get-watcher.ensures in
+    let is : c.get-clause.result.now ≡ get_or clauses watcher.clause [] = sym (get_or_from_slice_get clauses watcher.clause c.get-clause.result.now [] c.get-clause.ensures) in
+    let among = Contains-get_or c.get-clause.result.now c.in-Some.at no_literal c.in-Some.ensures.within in
+    let at = All-contains (IsLitOf n) c.get-clause.result.now (get_or c.get-clause.result.now c.in-Some.at no_literal) (subst (All (IsLitOf n)) (sym is) v.over) among in
+    at.above
+
+pub move_watch-requires-clause-new_list : goal.move_watch-requires-clause-new_list
+move_watch-requires-clause-new_list c =
+    let clauses = c.args.clauses.now in
+    let t = c.args.trail.now in
+    let n = var_count t in
+    let w = c.args.watches.now in
+    let l = c.args.lit in
+    let place = c.args.place in
+    let watcher = c.get-watcher.result in
+    let steps = t.steps.items in
+    let v = visit-start clauses n steps w.lists.items w.pairs.items w.head l place c.list_place-list.result c.index.result.now watcher c.requires.watched c.requires.exist c.requires.lit c.requires.place c.list_place-list.ensures c.index.ensures c.get-watcher.ensures in
+    let is : c.get-clause.result.now ≡ get_or clauses watcher.clause [] = sym (get_or_from_slice_get clauses watcher.clause c.get-clause.result.now [] c.get-clause.ensures) in
+    let among = Contains-get_or c.get-clause.result.now c.in-Some.at no_literal c.in-Some.ensures.within in
+    let at = All-contains (IsLitOf n) c.get-clause.result.now (get_or c.get-clause.result.now c.in-Some.at no_literal) (subst (All (IsLitOf n)) (sym is) v.over) among in
+    list-within n (length w.lists.items) (get_or c.get-clause.result.now c.in-Some.at no_literal) at c.requires.watched.count
+
+pub returns-then-is_false-clause-says : goal.returns-then-is_false-clause-says
+returns-then-is_false-clause-says c =
+    let clauses = c.args.clauses.now in
+    let t = c.args.trail.now in
+    let n = var_count t in
+    let w = c.args.watches.now in
+    let l = c.args.lit in
+    let place = c.args.place in
+    let watcher = c.get-watcher.result in
+    let steps = t.steps.items in
+    let v = visit-start clauses n steps w.lists.items w.pairs.items w.head l place c.list_place-list.result c.index.result.now watcher c.requires.watched c.requires.exist c.requires.lit c.requires.place c.list_place-list.ensures c.index.ensures c.get-watcher.ensures in
+    let is : c.get-clause.result.now ≡ get_or clauses watcher.clause [] = sym (get_or_from_slice_get clauses watcher.clause c.get-clause.result.now [] c.get-clause.ensures) in
+    visit-falsified (given t.values.items) clauses watcher.clause c.get-clause.result.now c.other_than-other.result is v.exists c.in-None.ensures (c.is_false.ensures.0 c.if-is_false.true)
+
+pub returns-in_ok-move_watch-in-Some-clause-watched : goal.returns-in_ok-move_watch-in-Some-clause-watched
+returns-in_ok-move_watch-in-Some-clause-watched c =
+    let clauses = c.args.clauses.now in
+    let t = c.args.trail.now in
+    let n = var_count t in
+    let w = c.args.watches.now in
+    let l = c.args.lit in
+    let place = c.args.place in
+    let watcher = c.get-watcher.result in
+    let steps = t.steps.items in
+    let v = visit-start clauses n steps w.lists.items w.pairs.items w.head l place c.list_place-list.result c.index.result.now watcher c.requires.watched c.requires.exist c.requires.lit c.requires.place c.list_place-list.ensures c.index.ensures c.get-watcher.ensures in
+    let other = c.other_than-other.result in
+    let o = visit-other clauses n steps w.lists.items w.pairs.items w.head l place watcher c.index-old.result.now other c.requires.watched v c.index-old.ensures c.other_than-other.ensures in
+    let is : c.get-clause.result.now ≡ get_or clauses watcher.clause [] = sym (get_or_from_slice_get clauses watcher.clause c.get-clause.result.now [] c.get-clause.ensures) in
+    let w' = c.move_watch.new.self in
+    let pair : Pair = record { a = other; b = (get_or c.get-clause.result.now c.in-Some.at no_literal); saved = c.in-Some.at } in
+    let e = c.in_ok-move_watch-in-Some.ensures in
+    let removed = subst (λ (k : ℕ). IsRemoved (watchers w.lists.items k) place e.rest) c.list_place-list.ensures e.removed in
+    let lists : w'.lists.items ≡ exchanged-lists w.lists.items l e.rest watcher.clause pair = e.lists ∙ ap (λ (k : ℕ). with_watcher (set w.lists.items k e.rest) (list_of pair.b) (record { clause = watcher.clause; blocker = other })) c.list_place-list.ensures in
+    let x = visit-exchange clauses n steps t.values.items t.indices.items w.lists.items w.pairs.items w.head l place watcher other (get_or c.get-clause.result.now c.in-Some.at no_literal) c.in-Some.at c.get-clause.result.now
+    c.requires.state c.requires.watched c.requires.head c.requires.lit v o is (Contains-get_or c.get-clause.result.now c.in-Some.at no_literal c.in-Some.ensures.within) (c.in-Some.ensures.differ no_literal) (c.in-Some.ensures.free no_literal) in
+    subst (λ (k : ℕ). KeepWatches clauses n steps w'.lists.items w'.pairs.items k) (sym e.head)
+    (subst (λ (ls : List (List Watcher)). KeepWatches clauses n steps ls w'.pairs.items w.head) (sym lists)
+    (subst (λ (ps : List Pair). KeepWatches clauses n steps (exchanged-lists w.lists.items l e.rest watcher.clause pair) ps w.head) (sym e.pairs)
+    (kept-moved clauses n steps w.lists.items w.pairs.items w.head l place watcher.clause pair e.rest c.requires.watched x removed)))
+
+pub returns-in_ok-move_watch-in-Some-clause-says : goal.returns-in_ok-move_watch-in-Some-clause-says
+returns-in_ok-move_watch-in-Some-clause-says c =
+    let clauses = c.args.clauses.now in
+    let t = c.args.trail.now in
+    let n = var_count t in
+    let w = c.args.watches.now in
+    let l = c.args.lit in
+    let place = c.args.place in
+    let watcher = c.get-watcher.result in
+    let steps = t.steps.items in
+    let v = visit-start clauses n steps w.lists.items w.pairs.items w.head l place c.list_place-list.result c.index.result.now watcher c.requires.watched c.requires.exist c.requires.lit c.requires.place c.list_place-list.ensures c.index.ensures c.get-watcher.ensures in
+    let other = c.other_than-other.result in
+    let o = visit-other clauses n steps w.lists.items w.pairs.items w.head l place watcher c.index-old.result.now other c.requires.watched v c.index-old.ensures c.other_than-other.ensures in
+    let is : c.get-clause.result.now ≡ get_or clauses watcher.clause [] = sym (get_or_from_slice_get clauses watcher.clause c.get-clause.result.now [] c.get-clause.ensures) in
+    let w' = c.move_watch.new.self in
+    let pair : Pair = record { a = other; b = (get_or c.get-clause.result.now c.in-Some.at no_literal); saved = c.in-Some.at } in
+    let e = c.in_ok-move_watch-in-Some.ensures in
+    let removed = subst (λ (k : ℕ). IsRemoved (watchers w.lists.items k) place e.rest) c.list_place-list.ensures e.removed in
+    let lists : w'.lists.items ≡ exchanged-lists w.lists.items l e.rest watcher.clause pair = e.lists ∙ ap (λ (k : ℕ). with_watcher (set w.lists.items k e.rest) (list_of pair.b) (record { clause = watcher.clause; blocker = other })) c.list_place-list.ensures in
+    let x = visit-exchange clauses n steps t.values.items t.indices.items w.lists.items w.pairs.items w.head l place watcher other (get_or c.get-clause.result.now c.in-Some.at no_literal) c.in-Some.at c.get-clause.result.now
+    c.requires.state c.requires.watched c.requires.head c.requires.lit v o is (Contains-get_or c.get-clause.result.now c.in-Some.at no_literal c.in-Some.ensures.within) (c.in-Some.ensures.differ no_literal) (c.in-Some.ensures.free no_literal) in (
+      subst (λ (k : ℕ). ArePassedIn clauses steps w'.lists.items w'.pairs.items k (list_of l) place) (sym e.head)
+          (subst (λ (ls : List (List Watcher)). ArePassedIn clauses steps ls w'.pairs.items w.head (list_of l) place) (sym lists)
+          (subst (λ (ps : List Pair). ArePassedIn clauses steps (exchanged-lists w.lists.items l e.rest watcher.clause pair) ps w.head (list_of l) place) (sym e.pairs)
+          (passed-moved clauses n steps w.lists.items w.pairs.items w.head l place watcher.clause pair e.rest c.requires.state.trail c.requires.head c.requires.watched x removed c.requires.passed))),
+      subst (λ (ls : List (List Watcher)). length (watchers ls (list_of l)) + 1 ≡ length (watchers w.lists.items (list_of l))) (sym lists)
+          (fewer-moved clauses steps w.lists.items w.pairs.items l place watcher.clause pair e.rest x removed),
+    )
+
+pub returns-in_ok-assign-in-None-clause-state : goal.returns-in_ok-assign-in-None-clause-state
+returns-in_ok-assign-in-None-clause-state c =
+    let clauses = c.args.clauses.now in
+    let t = c.args.trail.now in
+    let n = var_count t in
+    let w = c.args.watches.now in
+    let l = c.args.lit in
+    let place = c.args.place in
+    let watcher = c.get-watcher.result in
+    let steps = t.steps.items in
+    let v = visit-start clauses n steps w.lists.items w.pairs.items w.head l place c.list_place-list.result c.index.result.now watcher c.requires.watched c.requires.exist c.requires.lit c.requires.place c.list_place-list.ensures c.index.ensures c.get-watcher.ensures in
+    let other = c.other_than-other.result in
+    let o = visit-other clauses n steps w.lists.items w.pairs.items w.head l place watcher c.index-old.result.now other c.requires.watched v c.index-old.ensures c.other_than-other.ensures in
+    let is : c.get-clause.result.now ≡ get_or clauses watcher.clause [] = sym (get_or_from_slice_get clauses watcher.clause c.get-clause.result.now [] c.get-clause.ensures) in
+    let r = visit-unit (given t.values.items) clauses watcher.clause c.get-clause.result.now other is v.exists o.among c.in-None.ensures (iff_false c.is_true-2.ensures c.if-is_true-2.false) (iff_false c.is_false.ensures c.if-is_false.false) in
+    let right = reason-right clauses n steps t.values.items t.indices.items other (watcher.clause + 1) c.requires.state c.requires.exist r in
+    c.in_ok-assign-in-None.ensures.state clauses c.requires.state right.1
+
+pub returns-in_ok-assign-in-None-clause-watched : goal.returns-in_ok-assign-in-None-clause-watched
+returns-in_ok-assign-in-None-clause-watched c =
+    let clauses = c.args.clauses.now in
+    let t = c.args.trail.now in
+    let n = var_count t in
+    let w = c.args.watches.now in
+    let l = c.args.lit in
+    let place = c.args.place in
+    let watcher = c.get-watcher.result in
+    let steps = t.steps.items in
+    let v = visit-start clauses n steps w.lists.items w.pairs.items w.head l place c.list_place-list.result c.index.result.now watcher c.requires.watched c.requires.exist c.requires.lit c.requires.place c.list_place-list.ensures c.index.ensures c.get-watcher.ensures in
+    let other = c.other_than-other.result in
+    let o = visit-other clauses n steps w.lists.items w.pairs.items w.head l place watcher c.index-old.result.now other c.requires.watched v c.index-old.ensures c.other_than-other.ensures in
+    let is : c.get-clause.result.now ≡ get_or clauses watcher.clause [] = sym (get_or_from_slice_get clauses watcher.clause c.get-clause.result.now [] c.get-clause.ensures) in
+    let r = visit-unit (given t.values.items) clauses watcher.clause c.get-clause.result.now other is v.exists o.among c.in-None.ensures (iff_false c.is_true-2.ensures c.if-is_true-2.false) (iff_false c.is_false.ensures c.if-is_false.false) in
+    let right = reason-right clauses n steps t.values.items t.indices.items other (watcher.clause + 1) c.requires.state c.requires.exist r in
+    let done = visit-step clauses n steps c.assign.new.self.steps.items w.lists.items w.pairs.items w.head l place watcher other (watcher.clause + 1) c.requires.head.within c.in_ok-assign-in-None.ensures.steps v o.among right.1 c.requires.watched c.requires.passed in
+    done.0
+
+pub returns-in_ok-assign-in-None-clause-says : goal.returns-in_ok-assign-in-None-clause-says
+returns-in_ok-assign-in-None-clause-says c =
+    let clauses = c.args.clauses.now in
+    let t = c.args.trail.now in
+    let n = var_count t in
+    let w = c.args.watches.now in
+    let l = c.args.lit in
+    let place = c.args.place in
+    let watcher = c.get-watcher.result in
+    let steps = t.steps.items in
+    let v = visit-start clauses n steps w.lists.items w.pairs.items w.head l place c.list_place-list.result c.index.result.now watcher c.requires.watched c.requires.exist c.requires.lit c.requires.place c.list_place-list.ensures c.index.ensures c.get-watcher.ensures in
+    let other = c.other_than-other.result in
+    let o = visit-other clauses n steps w.lists.items w.pairs.items w.head l place watcher c.index-old.result.now other c.requires.watched v c.index-old.ensures c.other_than-other.ensures in
+    let is : c.get-clause.result.now ≡ get_or clauses watcher.clause [] = sym (get_or_from_slice_get clauses watcher.clause c.get-clause.result.now [] c.get-clause.ensures) in
+    let r = visit-unit (given t.values.items) clauses watcher.clause c.get-clause.result.now other is v.exists o.among c.in-None.ensures (iff_false c.is_true-2.ensures c.if-is_true-2.false) (iff_false c.is_false.ensures c.if-is_false.false) in
+    let right = reason-right clauses n steps t.values.items t.indices.items other (watcher.clause + 1) c.requires.state c.requires.exist r in
+    let done = visit-step clauses n steps c.assign.new.self.steps.items w.lists.items w.pairs.items w.head l place watcher other (watcher.clause + 1) c.requires.head.within c.in_ok-assign-in-None.ensures.steps v o.among right.1 c.requires.watched c.requires.passed in
+    (done.1, refl)
