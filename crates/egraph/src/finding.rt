@@ -41,7 +41,7 @@ fn reads_as(present: &[u32], classes: &[u32], current: &[u32]) -> bool
 }
 
 /// Whether the row is of this operator and these operands, read through `current`.
-fn is_row<O: Operator>(row: &Row<O>, current: &[u32], op: O, operands: &[u32]) -> bool
+pub(crate) fn is_row<O: Operator>(row: &Row<O>, current: &[u32], op: O, operands: &[u32]) -> bool
     requires { AreMade current.now operands.now }
     ensures { IsTrue result ↔ Agree row.now
         (record { op = op; operands = map (slice_index current.now) operands.now; class = row.now.class }) }

@@ -171,7 +171,7 @@ impl<O: Operator> Egraph<O> {
 }
 
 /// Does nothing. A constant is a word by its type.
-fn has_word_constant<O: Operator>(op: O)
+pub(crate) fn has_word_constant<O: Operator>(op: O)
     ensures { HasWordConstant O.signature op }
 {
     let _constant = op.constant();

@@ -35,7 +35,7 @@ impl<O: Operator> Row<O> {
     }
 }
 
-fn moved_class(class: u32, from: u32, to: u32) -> u32
+pub(crate) fn moved_class(class: u32, from: u32, to: u32) -> u32
     ensures { result ≡ moved from to class }
 {
     if class == from { to } else { class }
