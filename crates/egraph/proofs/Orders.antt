@@ -103,6 +103,15 @@ pub all_held : {O : Type 0} (rows : Slab (Row O)) (order : List ℕ) → AllHeld
 all_held rows [] n d l = absurd (omega arith)
 all_held rows (k ∷ order) n d l = all_by rows k order (get rows k) refl (all_held rows order) n d l
 
+stay_by : {O : Type 0} (rows : Slab (Row O)) (k : ℕ) (order : List ℕ) (o : Option (Row O)) → IsSome o → filter (held rows) order ≡ order → (if is_some o then k ∷ filter (held rows) order else filter (held rows) order) ≡ k ∷ order
+stay_by rows k order None some later = absurd (true≢false (sym some))
+stay_by rows k order (Some r) some later = ap (λ xs. k ∷ xs) later
+
+-- where each key has a row, none goes
+pub all_stay : {O : Type 0} (rows : Slab (Row O)) (order : List ℕ) → AllHeld rows order → filter (held rows) order ≡ order
+all_stay rows [] all = refl
+all_stay rows (k ∷ order) all = stay_by rows k order (get rows k) (all 0 k (omega arith)) (all_stay rows order (tail_all (λ place. IsSome (get rows place)) k order all))
+
 still_by : {O : Type 0} (rows : Slab (Row O)) (k x : ℕ) (order : List ℕ) (r : Row O) → get rows x ≡ Some r → (o : Option (Row O)) → get rows k ≡ o → (Contains order x → Contains (filter (held rows) order) x) → (k ≡ x) ⊎ Contains order x →
     Contains (if is_some o then k ∷ filter (held rows) order else filter (held rows) order) x
 still_by rows k x order r e None f later (inl same) = (let g : None ≡ Some r = sym f ∙ ap (get rows) same ∙ e in absurd (cc))

@@ -1,5 +1,5 @@
 -- The steps of a merge, over the tables.
-use Rattle.std.proofs.Common.{◌≡◌, ◌≢◌, ℕ, ◌<◌, ◌⊎◌, List, [], map, length, get_or, Contains, All, AllPairs, Option, Some, None, IsSome, refl, sym, ap, ◌∙◌, subst, subst₂, inl, inr, arith}
+use Rattle.std.proofs.Common.{◌≡◌, ◌≢◌, ℕ, ◌<◌, ◌⊎◌, List, [], map, length, get_or, Contains, All, AllPairs, Option, Some, None, IsSome, true≢false, refl, sym, ap, ◌∙◌, subst, subst₂, inl, inr, arith}
 use Rattle.std.proofs.lemmas.Bool.{cases_eq}
 use Rattle.std.proofs.lemmas.Option.{slice_get-get_or}
 use Rattle.slab.specs.Slab.{Slab, get}
@@ -165,6 +165,13 @@ joined_order x y rows rows' current current' order j is = record {
   ];
   once = is.once;
 }
+
+pub joined_held : {O : Type 0} (x y : ℕ) (rows rows' : Slab (Row O)) (current current' order : List ℕ) → JoinedEither x y rows rows' current current' → All (λ k. IsSome (get rows k)) order → All (λ k. IsSome (get rows' k)) order
+joined_held {O} x y rows rows' current current' order j held k d l = still (get rows (get_or order k d)) refl (held k d l)
+  where
+    still : (o : Option (Row O)) → get rows (get_or order k d) ≡ o → IsSome o → IsSome (get rows' (get_or order k d))
+    still None e some = absurd (true≢false (sym some))
+    still (Some r) e some = joined_row x y rows rows' current current' j (get_or order k d) r e
 
 -- a row that has a twin under another key goes
 module _ {O : Type 0} (s : Signature O) (rows rows' : Slab (Row O)) (first second : ℕ) (twin : Row O) (differ : first ≢ second) (at_first : get rows first ≡ Some twin) (at_second : get rows second ≡ Some twin)
