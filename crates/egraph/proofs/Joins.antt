@@ -13,6 +13,7 @@ use Rattle.egraph.specs.Steps.{moved}
 use Rattle.egraph.specs.Keys.{key_of, place_in, listed_at, constant_at}
 use Rattle.egraph.specs.Tables.{reclass, reoperand, EachBecomes, ListsUsesOf, IsTracked, IsListed}
 use Rattle.egraph.proofs.Lists.{moved_cases, at_map, contains_map_back}
+use Rattle.egraph.proofs.Places.{IsOwn, IsUse}
 
 -- the row before
 pub become_back : {O : Type 0} (F : Row O → Row O) (old new : Slab (Row O)) → EachBecomes F old new → (place : ℕ) (r : Row O) → get new place ≡ Some r → (t : Row O) × (get old place ≡ Some t) × (r ≡ F t)
@@ -33,23 +34,26 @@ both_changes {O} f old mid new each after place = after place ∙ ap (option_map
     twice None = refl
     twice (Some r) = refl
 
--- what stood at a class stands at the one that it is moved to
-abbrev pub MovesTo : ℕ → ℕ → List (List ℕ) → List (List ℕ) → Type 0
-MovesTo from to old new = (class place : ℕ) → Contains (listed_at old class) place → Contains (listed_at new (moved from to class)) place
+-- of what stood at a class, all with P stands at the one that it is moved to
+abbrev pub MovesTo : (P : ℕ → ℕ → Type 0) → ℕ → ℕ → List (List ℕ) → List (List ℕ) → Type 0
+MovesTo P from to old new = (class place : ℕ) → P class place → Contains (listed_at old class) place → Contains (listed_at new (moved from to class)) place
 
-pub lists_move : (from to : ℕ) (old mid new : List (List ℕ)) (taken : List ℕ) → from ≢ to → taken ≡ listed_at old from →
+pub lists_move : (P : ℕ → ℕ → Type 0) (from to : ℕ) (old mid new : List (List ℕ)) (taken : List ℕ) → from ≢ to → ((place : ℕ) → P from place → Contains (listed_at old from) place → Contains taken place) →
     ((class : ℕ) → class ≢ from → listed_at mid class ≡ listed_at old class) →
     listed_at new to ≡ listed_at mid to ++ taken →
-    ((class : ℕ) → class ≢ to → listed_at new class ≡ listed_at mid class) → MovesTo from to old new
-lists_move from to old mid new taken differ is_taken kept added others class place h = elim (moved_cases from to class) [
+    ((class : ℕ) → class ≢ to → listed_at new class ≡ listed_at mid class) → MovesTo P from to old new
+lists_move P from to old mid new taken differ are_taken kept added others class place p h = elim (moved_cases from to class) [
   | inl e ↦ subst (λ c. Contains (listed_at new c) place) (sym e.1) (subst (λ xs. Contains xs place) (sym added)
-      (Contains-append_right (listed_at mid to) taken place (subst (λ xs. Contains xs place) (sym is_taken) (subst (λ c. Contains (listed_at old c) place) e.0 h))))
+      (Contains-append_right (listed_at mid to) taken place (are_taken place (subst (λ c. P c place) e.0 p) (subst (λ c. Contains (listed_at old c) place) e.0 h))))
   | inr e ↦ subst (λ c. Contains (listed_at new c) place) (sym e.1) (elim (cases_eq class to) [
     | inl same ↦ subst (λ c. Contains (listed_at new c) place) (sym same) (subst (λ xs. Contains xs place) (sym added)
         (Contains-append_left (listed_at mid to) taken place (subst (λ xs. Contains xs place) (sym (kept to (λ f. differ (sym f)))) (subst (λ c. Contains (listed_at old c) place) same h))))
     | inr apart ↦ subst (λ xs. Contains xs place) (sym (others class apart ∙ kept class e.0)) h
   ])
 ]
+
+abbrev pub Anything : ℕ → ℕ → Type 0
+Anything class place = Unit {0}
 
 module _ {O : Type 0} (s : Signature O) where
   -- a row whose class alone changes has its key
@@ -66,7 +70,7 @@ module _ {O : Type 0} (s : Signature O) where
   pub joined_listed : (from to : ℕ) (rows rows' : Slab (Row O)) (own own' uses uses' members members' : List (List ℕ)) (constants constants' : List (Option ℕ)) (current current' : List ℕ) →
       IsListed s rows own uses members constants current →
       EachBecomes (relabel (moved from to)) rows rows' →
-      MovesTo from to own own' → MovesTo from to uses uses' → MovesTo from to members members' →
+      MovesTo (IsOwn rows) from to own own' → MovesTo (IsUse rows) from to uses uses' → MovesTo Anything from to members members' →
       ((class x : ℕ) → constant_at constants class ≡ Some x → constant_at constants' (moved from to class) ≡ Some x) →
       ((class x : ℕ) → constant_at constants' class ≡ Some x → (before : ℕ) × (moved from to before ≡ class) × (constant_at constants before ≡ Some x)) →
       current' ≡ map (moved from to) current →
@@ -78,15 +82,15 @@ module _ {O : Type 0} (s : Signature O) where
         arities = λ place r e. let t = before place r e in ap (λ q. length q.operands) t.2 ∙ length-map t.0.operands f ∙ is.arities place t.0 t.1 ∙ ap (λ q. s.arity q.op) (sym t.2);
         own_rows = λ class place r e of_class.
             let t = before place r e in
-            subst (λ c. Contains (listed_at own' c) place) (ap (λ q. q.class) (sym t.2) ∙ of_class) (own_moves t.0.class place (is.own_rows t.0.class place t.0 t.1 refl));
+            subst (λ c. Contains (listed_at own' c) place) (ap (λ q. q.class) (sym t.2) ∙ of_class) (own_moves t.0.class place (t.0, t.1, refl) (is.own_rows t.0.class place t.0 t.1 refl));
         used = λ class place r e c.
             let t = before place r e in
             let u = contains_map_back f t.0.operands class (subst (λ xs. Contains xs class) (ap (λ q. q.operands) t.2) c) in
-            subst (λ c. Contains (listed_at uses' c) place) (sym u.2) (uses_move u.0 place (is.used u.0 place t.0 t.1 u.1));
+            subst (λ c. Contains (listed_at uses' c) place) (sym u.2) (uses_move u.0 place (t.0, t.1, u.1) (is.used u.0 place t.0 t.1 u.1));
         members_of = λ class x l e.
             let b : x < length current = omega (arith, l, ap length ec, length-map current f) in
             let at : f (get_or current x 0) ≡ class = sym (at_map f current x b) ∙ ap (λ xs. get_or xs x 0) (sym ec) ∙ e in
-            subst (λ c. Contains (listed_at members' c) x) at (members_move (get_or current x 0) x (is.members_of (get_or current x 0) x b refl));
+            subst (λ c. Contains (listed_at members' c) x) at (members_move (get_or current x 0) x tt (is.members_of (get_or current x 0) x b refl));
         constant_of = λ place r x e k.
             let t = before place r e in
             ap (λ (q : Row O). constant_at constants' q.class) t.2 ∙ forth t.0.class x (is.constant_of place t.0 x t.1 (ap (λ (q : Row O). s.constant q.op) (sym t.2) ∙ k));

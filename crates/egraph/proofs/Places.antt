@@ -144,6 +144,32 @@ members_start from to current members listed k l = elim (moved_cases from to (ge
   | inr h ↦ inl (sym h.1)
 ]
 
+-- the row under the key is of the class, or has it as an operand
+abbrev pub IsOwn : {O : Type 0} → Slab (Row O) → ℕ → ℕ → Type 0
+IsOwn {O} rows class place = (r : Row O) × (get rows place ≡ Some r) × (r.class ≡ class)
+
+abbrev pub IsUse : {O : Type 0} → Slab (Row O) → ℕ → ℕ → Type 0
+IsUse {O} rows class place = (r : Row O) × (get rows place ≡ Some r) × Contains r.operands class
+
+-- of one place more it is settled whether it is kept
+pub keeps_more : (P : ℕ → Type 0) (places kept kept' : List ℕ) (i p : ℕ) → i < length places → p ≡ get_or places i 0 → ((k : ℕ) → Contains kept k → Contains kept' k) → (P p → Contains kept' p) →
+    ((k : ℕ) → P k → Contains kept k ⊎ Contains (drop i places) k) → (k : ℕ) → P k → Contains kept' k ⊎ Contains (drop (i + 1) places) k
+keeps_more P places kept kept' i p l ep grows this each k pk = elim (each k pk) [
+  | inl h ↦ inl (grows k h)
+  | inr h ↦
+      let e : drop i places ≡ p ∷ drop (i + 1) places = drop_more places i 0 l ∙ ap (λ x. x ∷ drop (i + 1) places) (sym ep) in
+      elim (Contains-cons_cases p k (drop (i + 1) places) (subst (λ xs. Contains xs k) e h)) [
+        | inl here ↦ inl (subst (Contains kept') here (this (subst P (sym here) pk)))
+        | inr there ↦ inr there
+      ]
+]
+
+pub all_kept : (places kept : List ℕ) (i : ℕ) → length places ≤ i → (k : ℕ) → Contains kept k ⊎ Contains (drop i places) k → Contains kept k
+all_kept places kept i l k h = elim h [
+  | inl c ↦ c
+  | inr r ↦ (let c = subst (λ xs. Contains xs k) (drop_all i places l) r in absurd (omega (arith, c.1)))
+]
+
 pub no_more_left : {P Q : Type 0} (places : List ℕ) (i : ℕ) → length places ≤ i → (k : ℕ) → P ⊎ (Q × Contains (drop i places) k) → P
 no_more_left places i l k h = elim h [
   | inl p ↦ p

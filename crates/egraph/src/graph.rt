@@ -12,7 +12,7 @@ use crate::class_constants::constant_of;
 use crate::class_lists::Lists;
 use crate::faults::MergeFault;
 use crate::growing::add_row;
-use crate::joining::join_classes;
+use crate::joining::{join_classes, let_row_go};
 use crate::row_index::{RowIndex, find_class};
 use crate::rows::{Row, has_word_constant, read_all};
 use crate::tables::Tables;
@@ -155,8 +155,9 @@ impl<O: Operator> Egraph<O> {
         Ok(class)
     }
 
-    /// Puts the classes a and b into one, and whatever congruence then joins. Each of the classes joined costs a walk
-    /// over the rows that name the one that goes, and a merge that drops a row one over the order of the rows.
+    /// Puts the classes a and b into one, and whatever congruence then joins. Of two classes the one that fewer rows name,
+    /// as their class or as an operand, goes, and a walk over these is what their join costs; a merge that drops a row
+    /// costs a walk over the order of the rows besides.
     pub fn merge(self, a: u32, b: u32) -> Result<Egraph<O>, MergeFault>
         requires a_made { a < length self.current }
         requires b_made { b < length self.current }
@@ -190,7 +191,8 @@ impl<O: Operator> Egraph<O> {
             if let Err(fault) = join_classes(alloc, &mut tables, &mut waiting, x, y) {
                 return Err(fault);
             }
-            let _ = tables.rows.remove(second);
+            let row = tables.rows.remove(second);
+            let_row_go(&mut tables.own, &mut tables.uses, &row);
             dropped = true;
         }
         let order = without_dropped(alloc, &tables.rows, order, dropped)?;

@@ -8,7 +8,8 @@ ghost use Rattle.egraph.specs.Tables.{EachBecomes, IsTracked, IsListed, TwoConst
 use crate::class_constants::{find_two_constants, move_constant};
 use crate::class_lists::Lists;
 use crate::faults::MergeFault;
-use crate::moving::{move_classes, move_members, move_uses};
+use crate::moving::{move_classes, move_members, move_uses, still_of, still_using};
+use crate::rows::Row;
 use crate::tables::Tables;
 use std::alloc::Global;
 use word_terms::Operator;
@@ -36,9 +37,11 @@ fn join<O: Operator>(
     }
     move_constant(&mut tables.constants, from, to)?;
     let own = tables.own.take(from);
+    let own = still_of(alloc, &tables.rows, &own, from)?;
     move_classes(&mut tables.rows, &own, from, to);
     tables.own.add_all(to, own)?;
     let uses = tables.uses.take(from);
+    let uses = still_using(alloc, &tables.rows, &uses, from)?;
     move_uses(
         alloc,
         &mut tables.rows,
@@ -86,4 +89,15 @@ pub(crate) fn join_classes<O: Operator>(
     }
     let (from, to) = lighter_first(&tables.own, &tables.uses, x, y);
     join(alloc, tables, waiting, from, to)
+}
+
+/// The row no longer counts where it is listed.
+pub(crate) fn let_row_go<O: Operator>(own: &mut Lists, uses: &mut Lists, row: &Row<O>)
+    ensures own { own.new ≡ own.old }
+    ensures uses { uses.new ≡ uses.old }
+{
+    own.let_go(row.class);
+    for class in row.operands.as_slice() {
+        uses.let_go(*class);
+    }
 }

@@ -1,6 +1,7 @@
 // Moving a class in the rows that name it, and in the classes that are in it.
-ghost use Rattle.std.specs.Prelude.{◌≡◌, ◌≢◌, ◌<◌, ℕ, map, length, slice_index, Some, OnOk};
+ghost use Rattle.std.specs.Prelude.{◌≡◌, ◌≢◌, ◌<◌, ℕ, map, length, slice_index, Some, OnOk, IfOk, IsTrue, Contains};
 ghost use Rattle.slab.specs.Slab.{get, slab_len};
+ghost use Rattle.egraph.specs.declared.rows.Row.{Row as RowOf};
 ghost use Rattle.egraph.specs.Steps.{moved};
 ghost use Rattle.egraph.specs.declared.row_index.RowKey.{RowKey as Key};
 ghost use Rattle.egraph.specs.Keys.{place_in};
@@ -44,6 +45,64 @@ fn move_operands<O: Operator>(
         row.operands = Items::from(operands);
         rows.insert_reserved(row);
     }
+}
+
+/// Whether the row under a key is there and of the class.
+fn is_of<O: Operator>(rows: &Slab<Row<O>>, place: usize, class: u32) -> bool
+    ensures { (r : RowOf O) → get rows.now place ≡ Some r → r.class ≡ class → IsTrue result }
+{
+    match rows.get(place) {
+        Some(row) => row.class == class,
+        None => false,
+    }
+}
+
+/// Whether the row under a key is there and has the class as an operand.
+fn is_using<O: Operator>(rows: &Slab<Row<O>>, place: usize, class: u32) -> bool
+    ensures { (r : RowOf O) → get rows.now place ≡ Some r → Contains r.operands class → IsTrue result }
+{
+    match rows.get(place) {
+        Some(row) => row.operands.as_slice().contains(&class),
+        None => false,
+    }
+}
+
+/// Those of the keys whose rows are still of the class.
+pub(crate) fn still_of<O: Operator>(
+    alloc: Global,
+    rows: &Slab<Row<O>>,
+    places: &[usize],
+    class: u32,
+) -> Result<Vec<usize>, NoMemory>
+    requires listed { ListsRowsOf rows.now class places.now }
+    ensures { IfOk result (λ kept. ListsRowsOf rows.now class kept.items) }
+{
+    let mut kept = Vec::new(alloc);
+    for place in places {
+        if is_of(rows, *place, class) {
+            kept.push(*place)?;
+        }
+    }
+    Ok(kept)
+}
+
+/// Those of the keys whose rows still have the class as an operand.
+pub(crate) fn still_using<O: Operator>(
+    alloc: Global,
+    rows: &Slab<Row<O>>,
+    places: &[usize],
+    class: u32,
+) -> Result<Vec<usize>, NoMemory>
+    requires listed { ListsUsesOf rows.now class places.now }
+    ensures { IfOk result (λ kept. ListsUsesOf rows.now class kept.items) }
+{
+    let mut kept = Vec::new(alloc);
+    for place in places {
+        if is_using(rows, *place, class) {
+            kept.push(*place)?;
+        }
+    }
+    Ok(kept)
 }
 
 /// Puts the class `to` in place of `from` as the class of rows, where the list has the keys of all that it is the
