@@ -33,8 +33,10 @@ pub fn put_constant(
     constant: Option<u64>,
 ) -> Result<(), NoMemory>
     ensures put { OnOk result (constant_at constants.new.items class ≡ constant) }
-    ensures others { (other : ℕ) → other ≢ class → constant_at constants.new.items other ≡ constant_at constants.old.items other }
-    ensures err { OnErr result ((other : ℕ) → constant_at constants.new.items other ≡ constant_at constants.old.items other) }
+    ensures others { (other : ℕ) → other ≢ class →
+        constant_at constants.new.items other ≡ constant_at constants.old.items other }
+    ensures err { OnErr result ((other : ℕ) →
+        constant_at constants.new.items other ≡ constant_at constants.old.items other) }
 {
     cover_constants(constants, class as usize)?;
     constants[class as usize] = constant;
@@ -55,7 +57,8 @@ pub fn find_two_constants(constants: &[Option<u64>], from: u32, to: u32) -> Opti
 /// Gives the class `to` the constant of `from`, which then has none.
 pub fn move_constant(constants: &mut Vec<Option<u64>>, from: u32, to: u32) -> Result<(), NoMemory>
     requires differ { from ≢ to }
-    requires one { (x y : ℕ) → constant_at constants.old.items from ≡ Some x → constant_at constants.old.items to ≡ Some y → x ≡ y }
+    requires one { (x y : ℕ) → constant_at constants.old.items from ≡ Some x →
+        constant_at constants.old.items to ≡ Some y → x ≡ y }
     ensures forth { OnOk result ((class x : ℕ) → constant_at constants.old.items class ≡ Some x →
         constant_at constants.new.items (moved from to class) ≡ Some x) }
     ensures back { OnOk result ((class x : ℕ) → constant_at constants.new.items class ≡ Some x →

@@ -1,17 +1,16 @@
 // A list of numbers for each class.
 ghost use Rattle.egraph.specs.Keys.{listed_at};
-ghost use Rattle.std.specs.Prelude.{◌≡◌, ◌≢◌, ◌<◌, ℕ, [], ◌∷◌, ◌++◌, ◌≤◌, length, slice_index_or, OnOk, OnErr};
+ghost use Rattle.std.specs.Prelude.{◌≡◌, ◌≢◌, ◌<◌, ℕ, [], ◌∷◌, ◌++◌, length, OnOk, OnErr};
 
 use items::{Items, NoMemory};
 use std::alloc::Global;
 use std::marker::Model;
 use std::mem;
 
-/// A list for each number from 0, empty at first, and how many of its numbers no longer count.
+/// A list for each number from 0, empty at first.
 #[derive(Drop)]
 pub struct Lists {
     lists: Vec<Items<usize>>,
-    gone: Vec<usize>,
     alloc: Global,
 }
 
@@ -29,27 +28,17 @@ impl Lists {
     {
         Lists {
             lists: Vec::new(alloc),
-            gone: Vec::new(alloc),
             alloc,
         }
     }
 
-    /// How many numbers of a list count.
+    /// The length of a list.
     pub fn count(&self, at: u32) -> usize
-        ensures { result ≤ length (listed_at self.now at) }
+        ensures { result ≡ length (listed_at self.now at) }
     {
         match self.lists.get(at as usize) {
-            Some(list) => list.len().saturating_sub(count_at(&self.gone, at)),
+            Some(list) => list.len(),
             None => 0,
-        }
-    }
-
-    /// Of a list one number more no longer counts.
-    pub fn let_go(&mut self, at: u32)
-        ensures { self.new ≡ self.old }
-    {
-        if let Some(gone) = self.gone.get_mut(at as usize) {
-            *gone = gone.saturating_add(1);
         }
     }
 
@@ -59,7 +48,6 @@ impl Lists {
         ensures others { (class : ℕ) → class ≢ at → listed_at self.new class ≡ listed_at self.old class }
         ensures err { OnErr result ((class : ℕ) → listed_at self.new class ≡ listed_at self.old class) }
     {
-        cover_counts(&mut self.gone, at as usize)?;
         cover(self.alloc, &mut self.lists, at as usize)?;
         self.lists[at as usize].push(number)
     }
@@ -84,9 +72,6 @@ impl Lists {
         ensures others { (class : ℕ) → class ≢ at → listed_at self.new class ≡ listed_at self.old class }
     {
         let empty = Items::new(self.alloc);
-        if let Some(gone) = self.gone.get_mut(at as usize) {
-            *gone = 0;
-        }
         match self.lists.get_mut(at as usize) {
             Some(list) => mem::replace(list, empty).into_vec(),
             None => empty.into_vec(),
@@ -101,27 +86,6 @@ fn cover(alloc: Global, lists: &mut Vec<Items<usize>>, at: usize) -> Result<(), 
 {
     while lists.len() <= at {
         lists.push(Items::new(alloc))?;
-    }
-    Ok(())
-}
-
-/// The count at a place, or 0.
-fn count_at(counts: &[usize], at: u32) -> usize
-    ensures { result ≡ slice_index_or counts.now at 0 }
-{
-    match counts.get(at as usize) {
-        Some(count) => *count,
-        None => 0,
-    }
-}
-
-/// Puts counts of 0 at the end until there is one at this place.
-fn cover_counts(counts: &mut Vec<usize>, at: usize) -> Result<(), NoMemory>
-    ensures same { (place : ℕ) → slice_index_or counts.new.items place 0 ≡ slice_index_or counts.old.items place 0 }
-    ensures there { OnOk result (at < length counts.new.items) }
-{
-    while counts.len() <= at {
-        counts.push(0)?;
     }
     Ok(())
 }

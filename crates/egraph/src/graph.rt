@@ -12,7 +12,7 @@ use crate::class_constants::constant_of;
 use crate::class_lists::Lists;
 use crate::faults::MergeFault;
 use crate::growing::add_row;
-use crate::joining::{join_classes, let_row_go};
+use crate::joining::join_classes;
 use crate::row_index::{RowIndex, find_class};
 use crate::rows::{Row, has_word_constant, read_all};
 use crate::tables::Tables;
@@ -40,7 +40,9 @@ impl<O: Operator> Model for Egraph<O> {
 
     ghost view = { λ g. record { rows = rows_in g.tables.rows g.order.items; current = g.tables.current.items } };
 
-    ghost invariant = { λ g. IsKept O.signature g.tables.rows g.tables.index g.tables.own g.tables.uses g.tables.members g.tables.constants.items g.tables.current.items g.order.items };
+    ghost invariant = { λ g.
+        IsKept O.signature g.tables.rows g.tables.index
+        g.tables.own g.tables.uses g.tables.members g.tables.constants.items g.tables.current.items g.order.items };
 }
 
 impl<O: Operator> Egraph<O> {
@@ -155,9 +157,9 @@ impl<O: Operator> Egraph<O> {
         Ok(class)
     }
 
-    /// Puts the classes a and b into one, and whatever congruence then joins. Of two classes the one that fewer rows name,
-    /// as their class or as an operand, goes, and a walk over these is what their join costs; a merge that drops a row
-    /// costs a walk over the order of the rows besides.
+    /// Puts the classes a and b into one, and whatever congruence then joins. Of two classes the one that fewer rows
+    /// name, as their class or as an operand, goes, and a walk over these is what their join costs; a merge that drops
+    /// a row costs a walk over the order of the rows besides.
     pub fn merge(self, a: u32, b: u32) -> Result<Egraph<O>, MergeFault>
         requires a_made { a < length self.current }
         requires b_made { b < length self.current }
@@ -191,8 +193,7 @@ impl<O: Operator> Egraph<O> {
             if let Err(fault) = join_classes(alloc, &mut tables, &mut waiting, x, y) {
                 return Err(fault);
             }
-            let row = tables.rows.remove(second);
-            let_row_go(&mut tables.own, &mut tables.uses, &row);
+            let _ = tables.rows.remove(second);
             dropped = true;
         }
         let order = without_dropped(alloc, &tables.rows, order, dropped)?;

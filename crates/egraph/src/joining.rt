@@ -9,7 +9,6 @@ use crate::class_constants::{find_two_constants, move_constant};
 use crate::class_lists::Lists;
 use crate::faults::MergeFault;
 use crate::moving::{move_classes, move_members, move_uses, still_of, still_using};
-use crate::rows::Row;
 use crate::tables::Tables;
 use std::alloc::Global;
 use word_terms::Operator;
@@ -23,11 +22,14 @@ fn join<O: Operator>(
     to: u32,
 ) -> Result<(), MergeFault>
     requires differ { from ≢ to }
-    requires listed { IsListed O.signature tables.old.rows tables.old.own tables.old.uses tables.old.members tables.old.constants.items tables.old.current.items }
+    requires listed { IsListed O.signature tables.old.rows
+        tables.old.own tables.old.uses tables.old.members tables.old.constants.items tables.old.current.items }
     ensures rows { OnOk result (EachBecomes (relabel (moved from to)) tables.old.rows tables.new.rows) }
     ensures current { OnOk result (tables.new.current.items ≡ map (moved from to) tables.old.current.items) }
-    ensures listed { OnOk result (IsListed O.signature tables.new.rows tables.new.own tables.new.uses tables.new.members tables.new.constants.items tables.new.current.items) }
-    ensures tracked { OnOk result ((place : ℕ) → IsTracked O.signature tables.old.rows tables.old.index waiting.old.items place →
+    ensures listed { OnOk result (IsListed O.signature tables.new.rows
+        tables.new.own tables.new.uses tables.new.members tables.new.constants.items tables.new.current.items) }
+    ensures tracked { OnOk result ((place : ℕ) →
+        IsTracked O.signature tables.old.rows tables.old.index waiting.old.items place →
         IsTracked O.signature tables.new.rows tables.new.index waiting.new.items place) }
     ensures len { OnOk result (slab_len tables.new.rows ≡ slab_len tables.old.rows) }
     ensures fault { IfErr result (TwoConstants tables.old.constants.items from to) }
@@ -58,7 +60,7 @@ fn join<O: Operator>(
     Ok(())
 }
 
-/// Two classes, of which the first is named by fewer rows, or by as many.
+/// The two classes, first the one that fewer rows name, and the second one where as many name both.
 fn lighter_first(own: &Lists, uses: &Lists, x: u32, y: u32) -> (u32, u32)
     ensures { (result ≡ (x, y)) ⊎ (result ≡ (y, x)) }
 {
@@ -75,29 +77,22 @@ pub(crate) fn join_classes<O: Operator>(
     x: u32,
     y: u32,
 ) -> Result<(), MergeFault>
-    requires listed { IsListed O.signature tables.old.rows tables.old.own tables.old.uses tables.old.members tables.old.constants.items tables.old.current.items }
+    requires listed { IsListed O.signature tables.old.rows
+        tables.old.own tables.old.uses tables.old.members tables.old.constants.items tables.old.current.items }
     ensures joined { OnOk result (JoinedUp x y tables.old.rows tables.new.rows tables.old.current.items tables.new.current.items
         ⊎ JoinedUp y x tables.old.rows tables.new.rows tables.old.current.items tables.new.current.items) }
-    ensures listed { OnOk result (IsListed O.signature tables.new.rows tables.new.own tables.new.uses tables.new.members tables.new.constants.items tables.new.current.items) }
-    ensures tracked { OnOk result ((place : ℕ) → IsTracked O.signature tables.old.rows tables.old.index waiting.old.items place →
+    ensures listed { OnOk result (IsListed O.signature tables.new.rows
+        tables.new.own tables.new.uses tables.new.members tables.new.constants.items tables.new.current.items) }
+    ensures tracked { OnOk result ((place : ℕ) →
+        IsTracked O.signature tables.old.rows tables.old.index waiting.old.items place →
         IsTracked O.signature tables.new.rows tables.new.index waiting.new.items place) }
     ensures len { OnOk result (slab_len tables.new.rows ≡ slab_len tables.old.rows) }
-    ensures fault { IfErr result (λ fault. TwoConstants tables.old.constants.items x y fault ⊎ TwoConstants tables.old.constants.items y x fault) }
+    ensures fault { IfErr result (λ fault. TwoConstants tables.old.constants.items x y fault
+        ⊎ TwoConstants tables.old.constants.items y x fault) }
 {
     if x == y {
         return Ok(());
     }
     let (from, to) = lighter_first(&tables.own, &tables.uses, x, y);
     join(alloc, tables, waiting, from, to)
-}
-
-/// The row no longer counts where it is listed.
-pub(crate) fn let_row_go<O: Operator>(own: &mut Lists, uses: &mut Lists, row: &Row<O>)
-    ensures own { own.new ≡ own.old }
-    ensures uses { uses.new ≡ uses.old }
-{
-    own.let_go(row.class);
-    for class in row.operands.as_slice() {
-        uses.let_go(*class);
-    }
 }

@@ -124,7 +124,8 @@ pub(crate) fn move_classes<O: Operator>(
 
 /// Takes the row under the key out of the index.
 fn forget_row<O: Operator>(rows: &Slab<Row<O>>, index: &mut RowIndex, place: usize)
-    ensures { (other : ℕ) → other ≢ place → (key : Key) → place_in index.old key ≡ Some other → place_in index.new key ≡ Some other }
+    ensures { (other : ℕ) → other ≢ place → (key : Key) → place_in index.old key ≡ Some other →
+        place_in index.new key ≡ Some other }
 {
     if let Some(row) = rows.get(place) {
         let key = row_key(row.op, row.operands.as_slice());
@@ -162,7 +163,8 @@ pub(crate) fn move_uses<O: Operator>(
 /// Puts the class `to` in place of `from` as the class that one class is in.
 fn move_member(current: &mut [u32], member: usize, from: u32, to: u32)
     ensures len { length current.new ≡ length current.old }
-    ensures moved { member < length current.old → slice_index current.new member ≡ moved from to (slice_index current.old member) }
+    ensures moved { member < length current.old →
+        slice_index current.new member ≡ moved from to (slice_index current.old member) }
     ensures others { (other : ℕ) → other ≢ member → slice_index current.new other ≡ slice_index current.old other }
 {
     if member < current.len() {

@@ -139,8 +139,11 @@ pub(crate) fn find_class<O: Operator>(
     requires made { AreMade current.now operands.now }
     requires indexed { IsIndexed O.signature rows.now index.now }
     ensures { MatchOption result
-        ((place : ℕ) (r : RowOf O) → get rows.now place ≡ Some r → r.op ≡ op → r.operands ≢ map (slice_index current.now) operands.now)
-        (λ class. (place : ℕ) × (get rows.now place ≡ Some (record { op = op; operands = map (slice_index current.now) operands.now; class = class }))) }
+        ((place : ℕ) (r : RowOf O) → get rows.now place ≡ Some r → r.op ≡ op →
+        r.operands ≢ map (slice_index current.now) operands.now)
+        (λ class. (place : ℕ)
+        × (get rows.now place
+        ≡ Some (record { op = op; operands = map (slice_index current.now) operands.now; class = class }))) }
 {
     let place = index.find(present_key(current, op, operands))?;
     let row = rows.get(place)?;

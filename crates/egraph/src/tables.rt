@@ -6,8 +6,8 @@ use slab::Slab;
 use word_terms::Operator;
 
 /// The rows of a graph, and what finds them. Beside each class stand the keys of rows: those that it is the class of
-/// (`own`) and those that it is an operand of (`uses`). The key of a row that is gone stands there until the class goes,
-/// and doesn't count. `members` has the classes that are in a class at present.
+/// (`own`) and those that it is an operand of (`uses`); the key of a row that is gone stands there until the class
+/// goes. `members` has the classes that are in a class at present.
 #[derive(Drop)]
 pub struct Tables<O: Operator> {
     pub rows: Slab<Row<O>>,

@@ -21,7 +21,8 @@ fn find_twin<O: Operator>(
     row: &Row<O>,
 ) -> Option<usize>
     ensures { MatchOption result
-        ((first : ℕ) (r : RowOf O) → place_in index.now key ≡ Some first → get rows.now first ≡ Some r → first ≢ place → ¬ Agree r row.now)
+        ((first : ℕ) (r : RowOf O) → place_in index.now key ≡ Some first → get rows.now first ≡ Some r →
+        first ≢ place → ¬ Agree r row.now)
         (λ first. (first ≢ place) × (r : RowOf O) × (get rows.now first ≡ Some r) × Agree r row.now) }
 {
     let first = index.find(key)?;

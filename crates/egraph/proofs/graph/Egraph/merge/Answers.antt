@@ -8,7 +8,7 @@ use Rattle.egraph.specs.declared.row_index.RowKey.{RowKey}
 use Rattle.egraph.specs.declared.rows.Row.{Row}
 use Rattle.egraph.specs.Graph.{Graph, IsGraph, Agree}
 use Rattle.egraph.specs.Faults.{FaultIs}
-use Rattle.egraph.specs.Tables.{IsListed, IsOrder, IsIndexed, Twins, TwoConstants, rows_in}
+use Rattle.egraph.specs.Tables.{IsOrder, IsIndexed, Twins, TwoConstants, rows_in}
 use Rattle.egraph.proofs.Merging.{IsMerging, start, is_graph, is_merged}
 use Rattle.egraph.proofs.MergeSteps.{first_may_join, no_clash}
 use Rattle.egraph.proofs.KeptValues.{keeps_values, joined_have_one_value}
@@ -103,8 +103,8 @@ pub returns-in-Err-join_classes-clause-low : goal.returns-in-Err-join_classes-cl
 returns-in-Err-join_classes-clause-low g c =
     low_from g.O.Operator.signature c.args.self c.loop-waiting.invariant.graph c.args.a c.args.b c.requires.a_made c.requires.b_made c.in-Err-join_classes.fault (returns-in-Err-join_classes-clause-fault g c)
 
-pub remove-row-requires : goal.remove-row-requires
-remove-row-requires g c =
+pub remove-requires : goal.remove-requires
+remove-requires g c =
     let l = c.loop-waiting.tables in
     let n = c.join_classes-in-Some.new.tables in
     joined_row c.index.result.now.class c.index-in-Some.result.now.class l.rows n.rows l.current.items n.current.items c.in_default-join_classes.ensures.joined c.in-Some.second c.index-in-Some.result.now c.index-in-Some.ensures
@@ -116,7 +116,7 @@ loop-waiting-preserved g c =
     let b = c.args.b in
     let l = c.loop-waiting.tables in
     let n = c.join_classes-in-Some.new.tables in
-    let rows = c.remove-row.new.self in
+    let rows = c.remove.new.self in
     let inv = c.loop-waiting.invariant in
     let order = c.self.inside.order.items in
     let first = c.in-Some.first in
@@ -129,13 +129,12 @@ loop-waiting-preserved g c =
     let joined = joined_merging s c.args.self inv.graph a b l.rows order l.current.items inv.merging x y n.rows n.current.items may.0 may.1 either in
     let one = twins_equal l.rows n.rows l.current.items n.current.items first second twins either in
     let in_order = joined_order x y l.rows n.rows l.current.items n.current.items order either inv.in_order in
-    let gone = c.remove-row.ensures.updates in
+    let gone = c.remove.ensures.updates in
     record {
       graph = inv.graph;
       merging = thinner s c.args.self inv.graph a b n.rows order n.current.items joined rows first second one.0 twins.differ one.1 one.2 in_order gone.changed gone.others;
       pair = joined_pair x y l.rows n.rows l.current.items n.current.items either a b (omega (arith, inv.merging.made, c.requires.a_made)) (omega (arith, inv.merging.made, c.requires.b_made)) inv.pair;
-      listed = subst₂ (λ own uses. IsListed s rows own uses n.members n.constants.items n.current.items) (sym c.let_row_go.ensures.own) (sym c.let_row_go.ensures.uses)
-          (gone_listed s n.rows rows first second one.0 twins.differ one.1 one.2 gone.changed gone.others n.own n.uses n.members n.constants.items n.current.items c.in_default-join_classes.ensures.listed);
+      listed = gone_listed s n.rows rows first second one.0 twins.differ one.1 one.2 gone.changed gone.others n.own n.uses n.members n.constants.items n.current.items c.in_default-join_classes.ensures.listed;
       tracked = λ place. gone_tracked s n.rows rows first second one.0 twins.differ one.1 one.2 gone.changed gone.others n.index c.join_classes-in-Some.new.waiting.items place (c.in_default-join_classes.ensures.tracked place (c.in_ok-first.ensures.tracked place (inv.tracked place)));
       in_order = gone_order s n.rows rows first second one.0 twins.differ one.1 one.2 gone.changed gone.others order in_order;
       held = λ none. absurd (true≢false none);
