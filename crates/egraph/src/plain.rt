@@ -1,5 +1,5 @@
-//! The E-graph whose rows are a plain list, searched and relabelled whole: the same calls by the same clauses, and the
-//! slow way. Tests compare the other one with it.
+//! The E-graph whose rows are a plain list, searched and relabelled whole: the same calls by the same clauses, the slow
+//! way. It is there to compare the other one with.
 mod constants;
 mod finding;
 mod graph;
