@@ -27,6 +27,28 @@ fn note_uses(uses: &mut Lists, operands: &[u32], place: usize) -> Result<(), NoM
     Ok(())
 }
 
+/// Puts the key of a row beside its class and each of its operands, and the class among those that are in it.
+fn note_row(
+    own: &mut Lists,
+    uses: &mut Lists,
+    members: &mut Lists,
+    operands: &[u32],
+    place: usize,
+    class: u32,
+) -> Result<(), NoMemory>
+    ensures own { Grows own.old own.new }
+    ensures uses { Grows uses.old uses.new }
+    ensures members { Grows members.old members.new }
+    ensures own_noted { OnOk result (Contains (listed_at own.new class) place) }
+    ensures uses_noted { OnOk result ((used : ℕ) → Contains operands.now used →
+        Contains (listed_at uses.new used) place) }
+    ensures member_noted { OnOk result (Contains (listed_at members.new class) class) }
+{
+    note_uses(uses, operands, place)?;
+    own.add(class, place)?;
+    members.add(class, class as usize)
+}
+
 /// Takes the memory that one more row needs, and puts its key, which has no row yet, where it will be looked for. What
 /// is there already stays.
 fn make_room<O: Operator>(
@@ -61,9 +83,14 @@ fn make_room<O: Operator>(
 {
     tables.rows.reserve(1)?;
     tables.current.reserve(1)?;
-    note_uses(&mut tables.uses, operands, place)?;
-    tables.own.add(class, place)?;
-    tables.members.add(class, class as usize)?;
+    note_row(
+        &mut tables.own,
+        &mut tables.uses,
+        &mut tables.members,
+        operands,
+        place,
+        class,
+    )?;
     tables.index.note(row_key(op, operands), place)?;
     let constant = op.constant();
     if constant.is_some() {
