@@ -4,7 +4,7 @@ use Rattle.std.specs.Str.Parse.{digits_value}
 use Rattle.std.specs.declared.option.Option.{Option}
 use Rattle.std.specs.Str.{bytes_eq}
 use Rattle.denali_run.specs.declared.settings.Pick.{Pick}
-use Rattle.denali_run.specs.declared.settings.Pick.TheVariants.{First}
+use Rattle.denali_run.specs.declared.settings.Pick.TheVariants.{First, Last, Busy}
 use Rattle.denali_run.specs.declared.settings.Settings.{Settings}
 use Rattle.denali_cli.specs.declared.options.Options.{Options}
 
@@ -29,7 +29,11 @@ abbrev pub conflicts_value : List ℕ → Option ℕ
 conflicts_value = number_within 1 1000000
 
 abbrev pub pick_value : List ℕ → Option Pick
-pick_value word = if bytes_eq word (codes "first") then Some First else None
+pick_value word =
+    if bytes_eq word (codes "first") then Some First
+    else if bytes_eq word (codes "last") then Some Last
+    else if bytes_eq word (codes "busy") then Some Busy
+    else None
 
 -- how many operators a generated goal has
 abbrev pub size_value : List ℕ → Option ℕ

@@ -37,6 +37,10 @@ pub(crate) fn pick_of(word: &str) -> Option<Pick>
 {
     if word == "first" {
         Some(Pick::First)
+    } else if word == "last" {
+        Some(Pick::Last)
+    } else if word == "busy" {
+        Some(Pick::Busy)
     } else {
         None
     }

@@ -1,5 +1,6 @@
 // What some words ask for, by the definitions.
 ghost use Rattle.std.specs.Prelude.{◌≡◌, [], ◌∷◌, None, Some, codes};
+ghost use Rattle.denali_run.specs.declared.settings.Pick.TheVariants.{Last, Busy};
 ghost use Rattle.denali_cli.specs.Commands.{Solve, Check, Run, Gen};
 ghost use Rattle.denali_cli.specs.OptionValues.{no_options, settings_of};
 ghost use Rattle.denali_cli.specs.Said.{command_of};
@@ -10,6 +11,11 @@ ghost use Rattle.denali_cli.specs.Spellings.{spelled_command};
 pub fn worked_words()
     ensures joined { command_of (codes "solve" ∷ codes "--rounds=3" ∷ codes "--pick=first" ∷ [])
         ≡ Some (Solve (settings_of (record no_options { rounds = Some 3 }))) }
+    ensures picks_last { command_of (codes "solve" ∷ codes "--pick" ∷ codes "last" ∷ [])
+        ≡ Some (Solve (settings_of (record no_options { pick = Some Last }))) }
+    ensures picks_busiest { command_of (codes "solve" ∷ codes "--pick=busy" ∷ [])
+        ≡ Some (Solve (settings_of (record no_options { pick = Some Busy }))) }
+    ensures picks_nothing_else { command_of (codes "solve" ∷ codes "--pick" ∷ codes "middle" ∷ []) ≡ None }
     ensures mixed { command_of (codes "solve" ∷ codes "--cycles=0" ∷ codes "--nodes" ∷ codes "7" ∷ [])
         ≡ Some (Solve (settings_of (record no_options { nodes = Some 7; cycles = Some 0 }))) }
     ensures dashes { command_of (codes "solve" ∷ codes "--conflicts" ∷ codes "5" ∷ codes "--" ∷ [])

@@ -1,9 +1,12 @@
 // What a solution may take.
 
-/// How a solver's next decision is picked: `First` is the free variable with the least number.
+/// How the solver's next decision is picked among the free variables: `First` is the one with the least number, `Last` the
+/// one with the greatest, and `Busy` the first of those that stand in the most lemmas so far.
 #[derive(Clone, Copy, PartialEq, Eq, Debug)]
 pub enum Pick {
     First,
+    Last,
+    Busy,
 }
 
 /// The limits of the work on a goal: rounds of matching, 0 to 16; rows of the graph, 1 to 4096, before a round that

@@ -1,6 +1,7 @@
 // The work of `solve`, from the bytes of a text of goals to those of its answer.
-ghost use Rattle.std.specs.Prelude.{◌≡◌, ◌<◌, ◌^◌, IfOk, IfErr, length};
+ghost use Rattle.std.specs.Prelude.{◌≡◌, ◌+◌, ◌<◌, ◌^◌, IfOk, IfErr, length};
 ghost use Rattle.std.specs.List.{AllZip};
+ghost use Rattle.pick_rule.specs.Busiest.{IsBusiest};
 ghost use Rattle.goal_reader.specs.Views.{input_view};
 ghost use Rattle.goal_reader.specs.WellFormed.{IsInput};
 ghost use Rattle.denali_run.specs.MatchedGoals.{IsSettings};
@@ -18,7 +19,7 @@ use crate::settings::{Pick, Settings};
 use crate::statuses::Status;
 use goal_reader::{Input, read, read_inputs_are_well_formed, read_inputs_have_few_operators};
 use items::NoMemory;
-use pick_rule::{Picker, Rule};
+use pick_rule::{Picker, Rule, busiest_place, first_place, last_place};
 use std::alloc::Global;
 use text_core::TextFault;
 
@@ -103,9 +104,47 @@ fn solve_first(alloc: Global, input: &Input, settings: &Settings) -> Result<Vec<
         alloc,
         input,
         settings,
-        |_scores: &[u64]|
+        |scores: &[u64]|
             ensures { result ≡ 0 }
-        { 0 },
+        { first_place(scores) },
+    )
+}
+
+fn solve_last(alloc: Global, input: &Input, settings: &Settings) -> Result<Vec<Answered>, NoMemory>
+    requires input { IsInput (input_view input.now) }
+    requires settings { IsSettings settings.now }
+    ensures right { IfOk result (λ results. AllZip (λ goal answered. Right Wide (input_view input.now) goal settings.now
+        answered) (input_view input.now).goals results.items) }
+{
+    solve_by(
+        alloc,
+        input,
+        settings,
+        |scores: &[u64]|
+            requires { 0 < length scores.now }
+            ensures { result + 1 ≡ length scores.now }
+        { last_place(scores) },
+    )
+}
+
+fn solve_busiest(
+    alloc: Global,
+    input: &Input,
+    settings: &Settings,
+) -> Result<Vec<Answered>, NoMemory>
+    requires input { IsInput (input_view input.now) }
+    requires settings { IsSettings settings.now }
+    ensures right { IfOk result (λ results. AllZip (λ goal answered. Right Wide (input_view input.now) goal settings.now
+        answered) (input_view input.now).goals results.items) }
+{
+    solve_by(
+        alloc,
+        input,
+        settings,
+        |scores: &[u64]|
+            requires { 0 < length scores.now }
+            ensures { IsBusiest scores.now (length scores.now) result }
+        { busiest_place(scores) },
     )
 }
 
@@ -122,6 +161,8 @@ pub(crate) fn solve_input(
 {
     match settings.pick {
         Pick::First => solve_first(alloc, input, settings),
+        Pick::Last => solve_last(alloc, input, settings),
+        Pick::Busy => solve_busiest(alloc, input, settings),
     }
 }
 

@@ -5,3 +5,10 @@ pub mod Inserting
 pub mod KeptValues
 pub mod RowSearch
 pub mod Sorts
+pub mod SameKeys
+pub mod Places
+pub mod Joins
+pub mod Growth
+pub mod Orders
+pub mod KeptGraphs
+pub mod TableSteps

@@ -10,11 +10,11 @@ use Rattle.egraph.specs.Steps.{moved, AgreesAt, HasTwoConstants}
 use Rattle.egraph.proofs.Lists.{some_at, moved_cases, moved_to, at_map}
 use Rattle.egraph.proofs.Merging.{IsMerging, MayJoin, joined_up, step, start, agreeing_may_join, drop_twin, has_made, has_present, row_made, current_has, joined_made}
 
-moved_from : (from to : ℕ) → moved from to from ≡ to
+pub moved_from : (from to : ℕ) → moved from to from ≡ to
 moved_from from to = elim (moved_cases from to from) [ inl h ↦ h.1 | inr h ↦ absurd (h.0 refl) ]
 
 module _ {O : Type 0} (s : Signature O) (old : Graph O) (is : IsGraph s old) (a b : ℕ) where
-  first_may_join : a < length old.current → b < length old.current → MayJoin s old is a b old (start s old is a b) (get_or old.current a 0) (get_or old.current b 0)
+  pub first_may_join : a < length old.current → b < length old.current → MayJoin s old is a b old (start s old is a b) (get_or old.current a 0) (get_or old.current b 0)
   first_may_join la lb =
       let ha = current_has s old is a la in
       let hb = current_has s old is b lb in

@@ -4,3 +4,5 @@ pub mod Joined
 pub mod Values
 pub mod Faults
 pub mod Steps
+pub mod Keys
+pub mod Tables

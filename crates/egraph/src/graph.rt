@@ -1,19 +1,24 @@
-// The E-graph.
-ghost use Rattle.std.specs.Prelude.{◌≡◌, ℕ, ◌<◌, ◌^◌, [], map, length, slice_index, slice_get, Some, MatchOption, IfOk, OnOk, OnErr, IfErr};
+// The E-graph, with an index of its rows and, for each class, lists of the rows that name it.
+ghost use Rattle.std.specs.Prelude.{◌≡◌, ℕ, ◌<◌, ◌^◌, [], length, filter, is_some, All, IsSome, IsFalse, slice_index, slice_get, Some, MatchOption, IfOk, OnOk, OnErr, IfErr};
+ghost use Rattle.slab.specs.Slab.{get};
 ghost use Rattle.word_ops.specs.Worlds.{Value};
-ghost use Rattle.word_terms.specs.Signature.{HasWordConstant};
 ghost use Rattle.egraph.specs.Graph.{IsGraph, AreMade, read_through, HasRow, LacksRow, IsInserted, HasConstant, LacksConstant};
 ghost use Rattle.egraph.specs.Sorts.{IsOfSort, KeepsSorts, FitOperator, AreOfOneSort};
-ghost use Rattle.egraph.specs.Joined.{relabel, IsMerged, Clash};
+ghost use Rattle.egraph.specs.Joined.{IsMerged, Clash};
 ghost use Rattle.egraph.specs.Values.{KeepsValues, ExtendsValues, JoinedHaveOneValue};
 ghost use Rattle.egraph.specs.Faults.{FaultIs, NamesLowClass};
-ghost use Rattle.egraph.specs.Steps.{moved};
 
-use crate::constants::{find_clash, find_constant};
+use crate::class_constants::constant_of;
+use crate::class_lists::Lists;
 use crate::faults::MergeFault;
-use crate::finding::{find_pair, find_row, read_all};
-use crate::rows::{Row, move_all, move_rows};
-use items::{Items, NoMemory};
+use crate::growing::add_row;
+use crate::joining::join_classes;
+use crate::row_index::{RowIndex, find_class};
+use crate::rows::{Row, has_word_constant, read_all};
+use crate::tables::Tables;
+use crate::twins::next_twins;
+use items::NoMemory;
+use slab::Slab;
 use std::alloc::Global;
 use std::marker::Model;
 use word_terms::Operator;
@@ -22,19 +27,22 @@ use word_terms::Operator;
 /// classes. A class that a call takes may be any class ever made, and a class that a call gives is a present one.
 #[derive(Drop)]
 pub struct Egraph<O: Operator> {
-    rows: Vec<Row<O>>,
-    current: Vec<u32>,
+    tables: Tables<O>,
+    order: Vec<usize>,
     alloc: Global,
 }
 
 impl<O: Operator> Model for Egraph<O> {
-    ghost use Rattle.egraph.specs.Graph.{Graph, IsGraph};
+    ghost use Rattle.egraph.specs.Graph.{Graph};
+    ghost use Rattle.egraph.specs.Tables.{rows_in, IsKept};
 
     ghost Value = { Graph O };
 
-    ghost view = { λ g. record { rows = g.rows.items; current = g.current.items } };
+    ghost view = { λ g. record { rows = rows_in g.tables.rows g.order.items; current = g.tables.current.items } };
 
-    ghost invariant = { λ g. IsGraph O.signature (record { rows = g.rows.items; current = g.current.items }) };
+    ghost invariant = { λ g.
+        IsKept O.signature g.tables.rows g.tables.index
+        g.tables.own g.tables.uses g.tables.members g.tables.constants.items g.tables.current.items g.order.items };
 }
 
 impl<O: Operator> Egraph<O> {
@@ -44,8 +52,16 @@ impl<O: Operator> Egraph<O> {
         ensures graph { IsGraph O.signature result }
     {
         Egraph {
-            rows: Vec::new(alloc),
-            current: Vec::new(alloc),
+            tables: Tables {
+                rows: Slab::new(alloc),
+                index: RowIndex::new(alloc),
+                own: Lists::new(alloc),
+                uses: Lists::new(alloc),
+                members: Lists::new(alloc),
+                constants: Vec::new(alloc),
+                current: Vec::new(alloc),
+            },
+            order: Vec::new(alloc),
             alloc,
         }
     }
@@ -55,7 +71,7 @@ impl<O: Operator> Egraph<O> {
         ensures value { result ≡ length self.now.current }
         ensures graph { IsGraph O.signature self.now }
     {
-        self.current.len() as u32
+        self.tables.current.len() as u32
     }
 
     /// The class that this one is in at present.
@@ -63,7 +79,7 @@ impl<O: Operator> Egraph<O> {
         requires made { class < length self.now.current }
         ensures present { result ≡ slice_index self.now.current class }
     {
-        self.current[class as usize]
+        self.tables.current[class as usize]
     }
 
     /// The number of rows.
@@ -71,7 +87,7 @@ impl<O: Operator> Egraph<O> {
         ensures value { result ≡ length self.now.rows }
         ensures graph { IsGraph O.signature self.now }
     {
-        self.rows.len() as u32
+        self.order.len() as u32
     }
 
     /// The row at a place, from 0.
@@ -79,31 +95,37 @@ impl<O: Operator> Egraph<O> {
         requires { at < length self.now.rows }
         ensures row { slice_get self.now.rows at ≡ Some result.now }
     {
-        &self.rows[at as usize]
+        &self.tables.rows[self.order[at as usize]]
     }
 
-    /// The class of the row with this operator and these operands. It looks at each row.
+    /// The class of the row with this operator and these operands.
     pub fn class_of(&self, op: O, operands: &[u32]) -> Option<u32>
         requires made { AreMade self.now.current operands.now }
         ensures row { MatchOption result
             (LacksRow self.now.rows op (read_through self.now operands.now))
             (HasRow self.now.rows op (read_through self.now operands.now)) }
     {
-        find_row(&self.rows, &self.current, op, operands)
+        find_class(
+            &self.tables.rows,
+            &self.tables.index,
+            &self.tables.current,
+            op,
+            operands,
+        )
     }
 
-    /// The constant that the class has. It looks at each row.
+    /// The constant that the class has.
     pub fn constant_of(&self, class: u32) -> Option<u64>
         requires made { class < length self.now.current }
         ensures constant { MatchOption result
             (LacksConstant O.signature self.now.rows (slice_index self.now.current class))
             (HasConstant O.signature self.now.rows (slice_index self.now.current class)) }
     {
-        find_constant(&self.rows, self.current[class as usize])
+        constant_of(&self.tables.constants, self.tables.current[class as usize])
     }
 
     /// The class of the row with this operator and these operands, which is put at the end, with a class of its own,
-    /// where there is none. It looks at each row.
+    /// where there is none.
     pub fn insert(&mut self, op: O, operands: &[u32]) -> Result<u32, NoMemory>
         requires arity { length operands.now ≡ O.signature.arity op }
         requires made { AreMade self.old.current operands.now }
@@ -116,24 +138,28 @@ impl<O: Operator> Egraph<O> {
         ensures err { OnErr result (self.new ≡ self.old) }
         ensures graph { IsGraph O.signature self.new }
     {
-        if let Some(class) = find_row(&self.rows, &self.current, op, operands) {
+        let found = find_class(
+            &self.tables.rows,
+            &self.tables.index,
+            &self.tables.current,
+            op,
+            operands,
+        );
+        if let Some(class) = found {
             return Ok(class);
         }
         has_word_constant(op);
-        let present = read_all(self.alloc, &self.current, operands)?;
-        let class = self.current.len() as u32;
-        self.current.reserve(1)?;
-        self.rows.push(Row {
-            op,
-            operands: Items::from(present),
-            class,
-        })?;
-        self.current.push(class)?;
+        let present = read_all(self.alloc, &self.tables.current, operands)?;
+        let class = self.tables.current.len() as u32;
+        self.order.reserve(1)?;
+        let place = add_row(&mut self.tables, op, present)?;
+        self.order.push(place)?;
         Ok(class)
     }
 
-    /// Puts the classes a and b into one, and whatever congruence then joins. Each of the classes joined costs a
-    /// search for two rows that agree, of all pairs of rows, and a walk over all rows and classes.
+    /// Puts the classes a and b into one, and whatever congruence then joins. Of two classes the one that fewer rows
+    /// name, as their class or as an operand, goes, and a walk over these is what their join costs; a merge that drops
+    /// a row costs a walk over the order of the rows besides.
     pub fn merge(self, a: u32, b: u32) -> Result<Egraph<O>, MergeFault>
         requires a_made { a < length self.current }
         requires b_made { b < length self.current }
@@ -147,47 +173,67 @@ impl<O: Operator> Egraph<O> {
         ensures fault { IfErr result (FaultIs O.signature self a b) }
         ensures low { IfErr result NamesLowClass }
     {
-        let mut rows = self.rows;
-        let mut current = self.current;
+        let mut tables = self.tables;
+        let order = self.order;
         let alloc = self.alloc;
-        let from = current[a as usize];
-        let to = current[b as usize];
-        join(alloc, &mut rows, &mut current, from, to);
-        while let Some((first, second)) = find_pair(&rows) {
-            let from = rows[second].class;
-            let to = rows[first].class;
-            join(alloc, &mut rows, &mut current, from, to);
-            let _ = rows.remove(second);
+        let mut waiting = Vec::new(alloc);
+        let mut dropped = false;
+        let x = tables.current[a as usize];
+        let y = tables.current[b as usize];
+        if let Err(fault) = join_classes(alloc, &mut tables, &mut waiting, x, y) {
+            return Err(fault);
         }
-        match find_clash(&rows) {
-            Some((class, a, b)) => Err(MergeFault::NoWorld { class, a, b }),
-            None => Ok(Egraph {
-                rows,
-                current,
-                alloc,
-            }),
+        while let Some((first, second)) = next_twins(
+            &tables.rows,
+            &mut tables.index,
+            &mut waiting,
+        )? {
+            let x = tables.rows[first].class;
+            let y = tables.rows[second].class;
+            if let Err(fault) = join_classes(alloc, &mut tables, &mut waiting, x, y) {
+                return Err(fault);
+            }
+            let _ = tables.rows.remove(second);
+            dropped = true;
         }
+        let order = without_dropped(alloc, &tables.rows, order, dropped)?;
+        Ok(Egraph {
+            tables,
+            order,
+            alloc,
+        })
     }
 }
 
-/// Does nothing. A constant is a word by its type.
-fn has_word_constant<O: Operator>(op: O)
-    ensures { HasWordConstant O.signature op }
+/// The keys that have a row, where some row may have been dropped.
+fn without_dropped<O: Operator>(
+    alloc: Global,
+    rows: &Slab<Row<O>>,
+    order: Vec<usize>,
+    dropped: bool,
+) -> Result<Vec<usize>, NoMemory>
+    requires { IsFalse dropped → All (λ place. IsSome (get rows.now place)) order.items }
+    ensures { IfOk result (λ kept. kept.items ≡ filter (λ place. is_some (get rows.now place)) order.items) }
 {
-    let _constant = op.constant();
+    if !dropped {
+        return Ok(order);
+    }
+    keep_held(alloc, rows, &order)
 }
 
-/// Puts the class `to` in place of `from` everywhere.
-fn join<O: Operator>(
+/// The keys that have a row.
+fn keep_held<O: Operator>(
     alloc: Global,
-    rows: &mut Vec<Row<O>>,
-    current: &mut Vec<u32>,
-    from: u32,
-    to: u32,
-)
-    ensures rows { rows.new.items ≡ map (relabel (moved from to)) rows.old.items }
-    ensures current { current.new.items ≡ map (moved from to) current.old.items }
+    rows: &Slab<Row<O>>,
+    order: &[usize],
+) -> Result<Vec<usize>, NoMemory>
+    ensures { IfOk result (λ kept. kept.items ≡ filter (λ place. is_some (get rows.now place)) order.now) }
 {
-    move_rows(alloc, rows, from, to);
-    move_all(current, from, to);
+    let mut kept = Vec::new(alloc);
+    for place in order {
+        if rows.contains(*place) {
+            kept.push(*place)?;
+        }
+    }
+    Ok(kept)
 }

@@ -1,15 +1,23 @@
 //! An E-graph: rows of operators over classes of terms that have one value, closed under congruence.
 //!
 //! Classes are numbered from 0 as they are made. A merge puts classes into one; every class ever made can still be
-//! named, and is read as the class that it is in at present. The rows are a plain list, searched and relabelled whole.
+//! named, and is read as the class that it is in at present. An index finds a row by what it applies, and lists beside
+//! each class find the rows that name it, so that a merge touches these alone.
 #![tactic(auto)]
 
-mod constants;
+mod class_constants;
+mod class_lists;
 mod faults;
-mod finding;
 mod graph;
+mod growing;
+mod joining;
 mod laws;
+mod moving;
+pub mod plain;
+mod row_index;
 mod rows;
+mod tables;
+mod twins;
 
 pub use faults::MergeFault;
 pub use graph::Egraph;

@@ -1,12 +1,11 @@
-// Rows, and moving a class in all of them.
-ghost use Rattle.std.specs.Prelude.{◌≡◌, ◌↔◌, map, IsTrue};
-ghost use Rattle.egraph.specs.Graph.{Agree};
-ghost use Rattle.egraph.specs.Joined.{relabel};
+// Rows, and reading and moving the classes that they name.
+ghost use Rattle.std.specs.Prelude.{◌≡◌, ◌↔◌, map, slice_index, IsTrue, IfOk};
+ghost use Rattle.word_terms.specs.Signature.{HasWordConstant};
+ghost use Rattle.egraph.specs.Graph.{Agree, AreMade};
 ghost use Rattle.egraph.specs.Steps.{moved};
 
-use items::Items;
+use items::{Items, NoMemory};
 use std::alloc::Global;
-use std::mem;
 use word_terms::{Operator, same_operator};
 
 /// An operator applied to classes, and the class of what it gives.
@@ -24,18 +23,50 @@ impl<O: Operator> Row<O> {
     {
         same_operator(self.op, other.op) && self.operands.as_slice() == other.operands.as_slice()
     }
-
-    fn move_class(&mut self, alloc: Global, from: u32, to: u32)
-        ensures { self.new ≡ relabel (moved from to) self.old }
-    {
-        let mut operands = mem::replace(&mut self.operands, Items::new(alloc)).into_vec();
-        move_all(&mut operands, from, to);
-        self.operands = Items::from(operands);
-        self.class = moved_class(self.class, from, to);
-    }
 }
 
-fn moved_class(class: u32, from: u32, to: u32) -> u32
+/// The classes that these are in at present.
+pub(crate) fn read_all(
+    alloc: Global,
+    current: &[u32],
+    classes: &[u32],
+) -> Result<Vec<u32>, NoMemory>
+    requires { AreMade current.now classes.now }
+    ensures { IfOk result (λ present. present.items ≡ map (slice_index current.now) classes.now) }
+{
+    let mut present = Vec::new(alloc);
+    for class in classes {
+        present.push(current[*class as usize])?;
+    }
+    Ok(present)
+}
+
+/// Whether `present` are the classes that `classes` are in.
+fn reads_as(present: &[u32], classes: &[u32], current: &[u32]) -> bool
+    requires { AreMade current.now classes.now }
+    ensures { IsTrue result ↔ (present.now ≡ map (slice_index current.now) classes.now) }
+{
+    if present.len() != classes.len() {
+        return false;
+    }
+    for (at, class) in classes.iter().enumerate() {
+        if present[at] != current[*class as usize] {
+            return false;
+        }
+    }
+    true
+}
+
+/// Whether the row is of this operator and these operands, read through `current`.
+pub(crate) fn is_row<O: Operator>(row: &Row<O>, current: &[u32], op: O, operands: &[u32]) -> bool
+    requires { AreMade current.now operands.now }
+    ensures { IsTrue result ↔ Agree row.now
+        (record { op = op; operands = map (slice_index current.now) operands.now; class = row.now.class }) }
+{
+    same_operator(row.op, op) && reads_as(row.operands.as_slice(), operands, current)
+}
+
+pub(crate) fn moved_class(class: u32, from: u32, to: u32) -> u32
     ensures { result ≡ moved from to class }
 {
     if class == from { to } else { class }
@@ -50,11 +81,9 @@ pub(crate) fn move_all(classes: &mut [u32], from: u32, to: u32)
     }
 }
 
-/// Puts the class `to` in place of `from` in each row.
-pub(crate) fn move_rows<O: Operator>(alloc: Global, rows: &mut [Row<O>], from: u32, to: u32)
-    ensures { rows.new ≡ map (relabel (moved from to)) rows.old }
+/// Does nothing. A constant is a word by its type.
+pub(crate) fn has_word_constant<O: Operator>(op: O)
+    ensures { HasWordConstant O.signature op }
 {
-    for row in rows.iter_mut() {
-        row.move_class(alloc, from, to);
-    }
+    let _constant = op.constant();
 }

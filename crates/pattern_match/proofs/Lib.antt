@@ -1,5 +1,6 @@
 pub mod Finding
 pub mod Walking
+pub mod RowSteps
 pub mod Settling
 pub mod Choosing
 pub mod Matching

@@ -3,3 +3,4 @@ pub mod Listing
 pub mod Matches
 pub mod Found
 pub mod Bindings
+pub mod ByOperator

@@ -9,7 +9,7 @@ use items::NoMemory;
 use std::alloc::Global;
 use word_ops::Op;
 
-/// The constant of each of the classes, or `None` where one has none. It looks at each row for each class.
+/// The constant of each of the classes, or `None` where one has none.
 pub(crate) fn constants_at(
     alloc: Global,
     graph: &Egraph<Op>,

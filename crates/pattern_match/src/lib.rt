@@ -10,6 +10,7 @@ mod laws;
 mod placing;
 mod plain;
 mod reading;
+mod row_lists;
 mod walk;
 
 pub use computed::{calc_given, calc_matches, calc_need, calc_unmet};

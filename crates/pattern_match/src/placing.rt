@@ -8,6 +8,7 @@ ghost use Rattle.egraph.specs.Graph.{IsGraph};
 ghost use Rattle.pattern_match.specs.Bindings.{IsPlacement, IsUnknown, settled};
 ghost use Rattle.pattern_match.specs.Listing.{Lists};
 
+use crate::row_lists::RowLists;
 use crate::walk::extend;
 use egraph::Egraph;
 use items::{Items, NoMemory};
@@ -16,7 +17,8 @@ use word_ops::Op;
 use word_terms::Term;
 
 /// What is known of the variables below `count`, for each list of classes under which the pattern, which has all of
-/// these variables and no others, has a class of the graph. Each class costs a walk over the rows.
+/// these variables and no others, has a class of the graph. Each row and each class cost a look-up, and then only rows
+/// of the operators asked are walked.
 pub(crate) fn placements(
     alloc: Global,
     graph: &Egraph<Op>,
@@ -29,12 +31,13 @@ pub(crate) fn placements(
         Lists (IsPlacement graph.now (tree_of pattern.now) count) (map settled found.items)) }
     ensures graph { OnOk result (IsGraph op_signature graph.now) }
 {
+    let lists = RowLists::new(alloc, graph)?;
     let mut start = Vec::new(alloc);
     start.push(unknown(alloc, count)?)?;
     let mut out = Vec::new(alloc);
     for class in 0..graph.made() {
         if graph.now(class) == class {
-            let mut found = extend(alloc, graph, pattern, class, &start)?;
+            let mut found = extend(alloc, graph, &lists, pattern, class, &start)?;
             out.append(&mut found)?;
         }
     }

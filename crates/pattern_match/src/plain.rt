@@ -17,8 +17,8 @@ use std::alloc::Global;
 use word_ops::Op;
 use word_terms::{Term, terms_are_trees};
 
-/// The matches of the rule, each once, in no stated order. Each class of the graph costs a walk over its rows, for each
-/// operator of the left side.
+/// The matches of the rule, each once, in no stated order. Each row and each class of the graph costs a look-up, and from
+/// there on only rows are walked that are of the operator and the class that the left side asks for.
 pub fn matches(alloc: Global, graph: &Egraph<Op>, rule: &Rule) -> Result<Items<Match>, NoMemory>
     ensures exact { IfOk result (λ found. Lists (IsMatchOf graph.now (plain rule.now)) (map classes_in found)) }
 {

@@ -9,7 +9,7 @@ use std::alloc::Global;
 use word_ops::Op;
 use word_terms::Term;
 
-/// The class of the pattern where its variables stand for these classes. It looks at each row for each operator.
+/// The class of the pattern where its variables stand for these classes. Each operator costs a look-up.
 pub fn class_of_pattern(
     alloc: Global,
     graph: &Egraph<Op>,

@@ -1,16 +1,19 @@
-// The walk over a pattern and the rows of a graph.
-ghost use Rattle.std.specs.Prelude.{◌≡◌, ℕ, ◌<◌, ◌⊎◌, List, length, map, get_or, slice_set, Option, Some, None, IfOk, IsTrue, ◌↔◌, All, MatchOption};
+// The walk over a pattern and those rows of a graph that can match.
+ghost use Rattle.std.specs.Prelude.{◌≡◌, ℕ, ◌<◌, ◌⊎◌, List, length, map, get_or, slice_set, Option, Some, None, IfOk, MatchOption};
 ghost use Rattle.word_terms.specs.View.{tree_of, trees_of};
 ghost use Rattle.word_terms.specs.Tree.{variable, operands_of};
 ghost use Rattle.word_ops.specs.declared.sorts.Op.{Op as TermOperator};
-ghost use Rattle.egraph.specs.Graph.{Graph};
+ghost use Rattle.word_terms.specs.Keys.{op_signature};
+ghost use Rattle.egraph.specs.Graph.{Graph, IsGraph};
+ghost use Rattle.pattern_match.specs.ByOperator.{AreLists};
 ghost use Rattle.pattern_match.specs.Bindings.{known, Extended, ExtendedAll, CanExtend, CanExtendAll};
 
-use egraph::{Egraph, Row};
+use crate::row_lists::RowLists;
+use egraph::Egraph;
 use items::{Items, NoMemory};
 use std::alloc::Global;
 use word_ops::Op;
-use word_terms::{Operator, Term};
+use word_terms::Term;
 
 // With the class for the variable, where no other class is known of it.
 fn bind_one(
@@ -64,35 +67,35 @@ fn copies(alloc: Global, list: &[Items<Option<u32>>]) -> Result<Vec<Items<Option
     Ok(out)
 }
 
-fn is_of(row: &Row<Op>, op: Op, count: usize, class: u32) -> bool
-    ensures { IsTrue result ↔ ((row.now.op ≡ op) × (row.now.class ≡ class) × (length row.now.operands ≡ count)) }
-{
-    row.op.key() == op.key() && row.class == class && row.operands.len() == count
-}
-
-/// What is known of the variables, with what gives the pattern the class. Each item of the list is walked for each row.
+/// What is known of the variables, with what gives the pattern the class. For each row of the pattern's operator and the
+/// class its operands are walked over the items of the list.
 #[cycle(walk)]
 pub(crate) fn extend(
     alloc: Global,
     graph: &Egraph<Op>,
+    lists: &RowLists,
     pattern: &Term<Op>,
     class: u32,
     list: &[Items<Option<u32>>],
 ) -> Result<Vec<Items<Option<u32>>>, NoMemory>
-    requires { CanExtend (tree_of pattern.now) list.now }
+    requires graph { IsGraph op_signature graph.now }
+    requires lists { AreLists graph.now 0 lists.now.firsts.entries lists.now.nexts.items }
+    requires can { CanExtend (tree_of pattern.now) list.now }
     ensures { IfOk result (λ out. Extended graph.now (tree_of pattern.now) class list.now out.items) }
 {
     match pattern {
         Term::Var(n) => bind(alloc, list, *n as usize, class),
         Term::App(op, operands) => {
             let mut out = Vec::new(alloc);
-            for at in 0..graph.rows() {
+            let mut place = lists.first(*op, class);
+            while let Some(at) = place {
                 let row = graph.row(at);
-                if is_of(row, *op, operands.len(), class) {
+                if row.operands.len() == operands.len() {
                     let classes = row.operands.as_slice();
-                    let mut found = extend_all(alloc, graph, operands, classes, list)?;
+                    let mut found = extend_all(alloc, graph, lists, operands, classes, list)?;
                     out.append(&mut found)?;
                 }
+                place = lists.next(at);
             }
             Ok(out)
         }
@@ -104,10 +107,13 @@ pub(crate) fn extend(
 fn extend_all(
     alloc: Global,
     graph: &Egraph<Op>,
+    lists: &RowLists,
     operands: &[Term<Op>],
     classes: &[u32],
     list: &[Items<Option<u32>>],
 ) -> Result<Vec<Items<Option<u32>>>, NoMemory>
+    requires graph { IsGraph op_signature graph.now }
+    requires lists { AreLists graph.now 0 lists.now.firsts.entries lists.now.nexts.items }
     requires can { CanExtendAll (operands_of (trees_of operands.now)) list.now }
     requires count { length classes.now ≡ length operands.now }
     ensures { IfOk result (λ out.
@@ -115,7 +121,7 @@ fn extend_all(
 {
     let mut found = copies(alloc, list)?;
     for (at, operand) in operands.iter().enumerate() {
-        found = extend(alloc, graph, operand, classes[at], &found)?;
+        found = extend(alloc, graph, lists, operand, classes[at], &found)?;
     }
     Ok(found)
 }

@@ -2,6 +2,7 @@
 use Rattle.std.proofs.Common.{◌≡◌, [], ◌∷◌, None, Some, codes, refl}
 use Rattle.std.specs.Fmt.{digits}
 use Rattle.clap.proofs.OnLiterals.{clap_on_literals}
+use Rattle.denali_run.specs.declared.settings.Pick.TheVariants.{Last, Busy}
 use Rattle.denali_cli.specs.Commands.{Solve, Check, Run, Gen}
 use Rattle.denali_cli.specs.OptionValues.{no_options, settings_of}
 use Rattle.denali_cli.specs.Said.{command_of}
@@ -12,6 +13,20 @@ joined : command_of (codes "solve" ∷ codes "--rounds=3" ∷ codes "--pick=firs
     ≡ Some (Solve (settings_of (record no_options { rounds = Some 3 })))
 unfolding clap_on_literals matched digits
 joined = refl
+
+picks_last : command_of (codes "solve" ∷ codes "--pick" ∷ codes "last" ∷ [])
+    ≡ Some (Solve (settings_of (record no_options { pick = Some Last })))
+unfolding clap_on_literals matched digits
+picks_last = refl
+
+picks_busiest : command_of (codes "solve" ∷ codes "--pick=busy" ∷ [])
+    ≡ Some (Solve (settings_of (record no_options { pick = Some Busy })))
+unfolding clap_on_literals matched digits
+picks_busiest = refl
+
+picks_nothing_else : command_of (codes "solve" ∷ codes "--pick" ∷ codes "middle" ∷ []) ≡ None
+unfolding clap_on_literals matched digits
+picks_nothing_else = refl
 
 mixed : command_of (codes "solve" ∷ codes "--cycles=0" ∷ codes "--nodes" ∷ codes "7" ∷ [])
     ≡ Some (Solve (settings_of (record no_options { nodes = Some 7; cycles = Some 0 })))
@@ -143,6 +158,9 @@ version = refl
 pub returns : goal.returns
 returns c = record {
   joined = joined;
+  picks_last = picks_last;
+  picks_busiest = picks_busiest;
+  picks_nothing_else = picks_nothing_else;
   mixed = mixed;
   dashes = dashes;
   plain = plain;

@@ -1,0 +1,10 @@
+use Rattle.std.proofs.Common.{◌∙◌, ap}
+use Rattle.egraph.specs.Keys.{place_in}
+use Rattle.egraph.proofs.SameKeys.{keys_apart}
+use Rattle.egraph.proofs.row_index.RowIndex.forget.Goals as goal
+
+pub returns-clause-forgotten : goal.returns-clause-forgotten
+returns-clause-forgotten c = c.swap_remove.ensures.updates.1
+
+pub returns-clause-others : goal.returns-clause-others
+returns-clause-others c = λ other differs. c.swap_remove.ensures.updates.2 other (keys_apart c.args.key other differs) ∙ ap (λ es. place_in es other) c.self.view_is
