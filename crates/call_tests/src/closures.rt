@@ -1,11 +1,11 @@
 //! Closures worked by hand, at two operator types.
 use crate::building::{join, put};
-use egraph::{Egraph, MergeFault};
+use egraph::Egraph;
 use items::NoMemory;
 use std::alloc::Global;
 use std::process::Abort;
 use std::test::Fail;
-use word_ops::{Arity, Op, WordOp};
+use word_ops::{Op, WordOp};
 use word_terms::{Operator, SmallOp};
 
 /// The operator over as many operands as it takes, all of one class.
@@ -25,11 +25,6 @@ fn find<O: Operator>(rt: &impl Abort, graph: &Egraph<O>, op: O, operand: u32) ->
     let operands = [operand; 4];
     assert!(rt; operand < graph.made() && op.arity() <= 4);
     graph.class_of(op, &operands[..op.arity()])
-}
-
-fn constant<O: Operator>(rt: &impl Abort, graph: &Egraph<O>, class: u32) -> Option<u64> {
-    assert!(rt; class < graph.made());
-    graph.constant_of(class)
 }
 
 fn is_one<O: Operator>(rt: &impl Abort, graph: &Egraph<O>, a: u32, b: u32) -> bool {
@@ -112,93 +107,4 @@ fn two_leaves_that_are_one_have_one_negation(rt: HostRuntime) -> Result<(), Fail
         [SmallOp::Leaf(16), SmallOp::Leaf(17)],
         SmallOp::Sum,
     )
-}
-
-fn clashes<O: Operator>(rt: &impl Abort, alloc: Global, constants: [O; 2]) -> Result<(), Fail> {
-    let [one, two] = constants;
-    let mut graph = Egraph::new(alloc);
-    assert_eq!(rt; put(rt, &mut graph, one, &[])?, 0);
-    assert_eq!(rt; put(rt, &mut graph, one, &[])?, 0);
-    assert_eq!(rt; put(rt, &mut graph, two, &[])?, 1);
-    assert_eq!(rt;
-        (constant(rt, &graph, 0), constant(rt, &graph, 1)),
-        (Some(1), Some(2))
-    );
-    let fault = join(rt, graph, 0, 1).err();
-    assert!(rt;
-        matches!(
-            fault,
-            Some(
-                MergeFault::NoWorld {
-                    class: 0 | 1,
-                    a: 1,
-                    b: 2
-                } | MergeFault::NoWorld {
-                    class: 0 | 1,
-                    a: 2,
-                    b: 1
-                }
-            )
-        )
-    );
-    Ok(())
-}
-
-#[test]
-fn two_constants_are_in_no_world_one(rt: HostRuntime) -> Result<(), Fail> {
-    let alloc = rt.alloc();
-    clashes(&rt, alloc, [Op::Constant(1), Op::Constant(2)])?;
-    clashes(&rt, alloc, [SmallOp::Number(1), SmallOp::Number(2)])
-}
-
-#[test]
-fn a_class_merged_with_itself_changes_nothing(rt: HostRuntime) -> Result<(), Fail> {
-    let alloc = rt.alloc();
-    let graph = towers(
-        &rt,
-        alloc,
-        [SmallOp::Leaf(1), SmallOp::Leaf(2)],
-        SmallOp::Sum,
-        1,
-    )?;
-    let graph = join(&rt, graph, 2, 2)?;
-    assert_eq!(rt;
-        partition(&rt, alloc, &graph)?.as_slice(),
-        [0, 1, 2, 3].as_slice()
-    );
-    assert_eq!(rt; graph.rows(), 4);
-    let graph = join(&rt, graph, 2, 3)?;
-    let graph = join(&rt, graph, 3, 2)?;
-    assert_eq!(rt;
-        partition(&rt, alloc, &graph)?.as_slice(),
-        [0, 1, 2, 2].as_slice()
-    );
-    assert_eq!(rt; graph.rows(), 4);
-    Ok(())
-}
-
-#[test]
-fn memories_that_are_one_have_one_word_at_an_address(rt: HostRuntime) -> Result<(), Fail> {
-    let alloc = rt.alloc();
-    let mut graph = Egraph::new(alloc);
-    assert_eq!(rt; put(&rt, &mut graph, Op::Entry, &[])?, 0);
-    assert_eq!(rt; put(&rt, &mut graph, Op::Input(16), &[])?, 1);
-    assert_eq!(rt; put(&rt, &mut graph, Op::Input(17), &[])?, 2);
-    assert_eq!(rt; put(&rt, &mut graph, Op::Store, &[0, 1, 2])?, 3);
-    assert_eq!(rt; put(&rt, &mut graph, Op::Select, &[0, 1])?, 4);
-    assert_eq!(rt; put(&rt, &mut graph, Op::Select, &[3, 1])?, 5);
-    assert_eq!(rt; put(&rt, &mut graph, Op::Put, &[0, 1, 2, 1])?, 6);
-    assert_eq!(rt; put(&rt, &mut graph, Op::Put, &[3, 1, 2, 1])?, 7);
-    assert_eq!(rt; put(&rt, &mut graph, Op::Put, &[3, 1, 2, 2])?, 8);
-    let mut graph = join(&rt, graph, 0, 3)?;
-    assert_eq!(rt;
-        partition(&rt, alloc, &graph)?.as_slice(),
-        [0, 1, 2, 0, 4, 4, 6, 6, 8].as_slice()
-    );
-    assert_eq!(rt; graph.rows(), 7);
-    assert_eq!(rt;
-        put(&rt, &mut graph, Op::Store, &[3, 1, 2])?,
-        now(&rt, &graph, 0)
-    );
-    Ok(())
 }

@@ -5,7 +5,7 @@ ghost use Rattle.word_terms.specs.View.{tree_of};
 
 use items::NoMemory;
 use std::alloc::Global;
-use word_ops::{Arity, OPERATORS, Op, Sort, WordOp};
+use word_ops::{Op, WordOp};
 use word_terms::{Operator, SmallOp, Term, same, subst};
 
 fn leaf<O: Operator>(alloc: Global, op: O) -> Term<O> {
@@ -108,65 +108,4 @@ fn terms_that_differ_are_not_the_same(rt: HostRuntime) {
             &of_two(alloc, Op::Select, Term::Var(0), Term::Var(1)).expect(&rt, "memory")
         )
     );
-}
-
-#[test]
-fn keys_tell_all_operators_apart(rt: HostRuntime) {
-    for (i, op) in OPERATORS.iter().enumerate() {
-        for (j, other) in OPERATORS.iter().enumerate() {
-            assert_eq!(rt; Op::Word(*op).key() == Op::Word(*other).key(), i == j);
-        }
-    }
-    let other = [
-        Op::Entry,
-        Op::Input(3),
-        Op::Constant(3),
-        Op::Word(WordOp::Addl),
-        Op::Select,
-        Op::Store,
-        Op::Load,
-        Op::Put,
-        Op::Declared {
-            index: 3,
-            arity: Arity::One,
-        },
-        Op::Declared {
-            index: 3,
-            arity: Arity::Four,
-        },
-        Op::Declared {
-            index: 4,
-            arity: Arity::One,
-        },
-    ];
-    for (i, op) in other.iter().enumerate() {
-        for (j, another) in other.iter().enumerate() {
-            assert_eq!(rt; op.key() == another.key(), i == j);
-        }
-    }
-}
-
-fn used<O: Operator>(op: O) -> (usize, Sort, Option<Sort>, Option<u64>) {
-    let first = if op.arity() > 0 {
-        Some(op.operand_sort(0))
-    } else {
-        None
-    };
-    (op.arity(), op.sort(), first, op.constant())
-}
-
-#[test]
-fn operators_say_how_they_are_used(rt: HostRuntime) {
-    assert_eq!(rt; used(Op::Put), (4, Sort::Memory, Some(Sort::Memory), None));
-    assert_eq!(rt; used(Op::Constant(9)), (0, Sort::Word, None, Some(9)));
-    assert_eq!(rt;
-        used(Op::Word(WordOp::Storeb)),
-        (3, Sort::Word, Some(Sort::Word), None)
-    );
-    assert_eq!(rt;
-        used(SmallOp::Look),
-        (2, Sort::Word, Some(Sort::Memory), None)
-    );
-    assert_eq!(rt; used(SmallOp::Entry), (0, Sort::Memory, None, None));
-    assert_eq!(rt; used(SmallOp::Number(9)), (0, Sort::Word, None, Some(9)));
 }

@@ -10,6 +10,8 @@ mod case_files;
 mod clauses;
 mod equalities;
 mod machine;
+mod plain_building;
+mod plain_scripts;
 mod reading;
 mod reports;
 mod rounds;

@@ -34,7 +34,7 @@ fn first_of(graph: &Egraph<Op>, class: u32) -> u64 {
 }
 
 /// The operator that a word names for so many operands. `input`, `const` and `use` have a number behind them.
-fn operator(name: &[u8], words: &mut Words<'_>) -> Result<Option<Op>, Trouble> {
+pub(crate) fn operator(name: &[u8], words: &mut Words<'_>) -> Result<Option<Op>, Trouble> {
     if name == b"memory".as_slice() {
         Ok(Some(Op::Entry))
     } else if name == b"input".as_slice() {
@@ -55,7 +55,7 @@ fn operator(name: &[u8], words: &mut Words<'_>) -> Result<Option<Op>, Trouble> {
 }
 
 /// The declared operator of a number, with as many operands as the line has.
-fn declared(index: u32, operands: usize) -> Result<Op, Trouble> {
+pub(crate) fn declared(index: u32, operands: usize) -> Result<Op, Trouble> {
     let arity = match operands {
         1 => Arity::One,
         2 => Arity::Two,
@@ -70,7 +70,7 @@ fn declared(index: u32, operands: usize) -> Result<Op, Trouble> {
 }
 
 /// The classes that are left on a line.
-fn classes(alloc: Global, words: &mut Words<'_>) -> Result<Vec<u32>, Trouble> {
+pub(crate) fn classes(alloc: Global, words: &mut Words<'_>) -> Result<Vec<u32>, Trouble> {
     let mut classes = Vec::new(alloc);
     for _ in 0..4 {
         if words.rest.is_empty() {

@@ -24,6 +24,7 @@ pub(crate) enum Subject {
     Computed,
     Constants,
     Scripts,
+    PlainScripts,
     Rounds,
     Launched,
     Generated,
@@ -44,7 +45,7 @@ pub(crate) enum Subject {
 }
 
 /// The name of each subject.
-const NAMES: [(&str, Subject); 32] = [
+const NAMES: [(&str, Subject); 33] = [
     ("decimals", Subject::Decimals),
     ("tokens", Subject::Tokens),
     ("trees", Subject::Trees),
@@ -60,6 +61,7 @@ const NAMES: [(&str, Subject); 32] = [
     ("computed", Subject::Computed),
     ("constants", Subject::Constants),
     ("scripts", Subject::Scripts),
+    ("plain-scripts", Subject::PlainScripts),
     ("rounds", Subject::Rounds),
     ("launched", Subject::Launched),
     ("generated", Subject::Generated),
@@ -115,6 +117,7 @@ pub(crate) fn answer(alloc: Global, subject: Subject, input: &[u8]) -> Result<Ve
         Subject::Computed => equalities::computed(alloc, input),
         Subject::Constants => equalities::constants(alloc, input),
         Subject::Scripts => scripts::scripts(alloc, input),
+        Subject::PlainScripts => plain_scripts::plain_scripts(alloc, input),
         Subject::Rounds => rounds::rounds(alloc, input),
         Subject::Launched => rounds::launched(alloc, input),
         Subject::Generated => rounds::generated(alloc, input),
