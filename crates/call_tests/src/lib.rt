@@ -3,10 +3,6 @@
 #![tactic(auto)]
 
 #[cfg(test)]
-mod building;
-#[cfg(test)]
-mod closures;
-#[cfg(test)]
 mod lists;
 #[cfg(test)]
 mod picking;

@@ -272,23 +272,49 @@ fn put_asked(
     }
 }
 
+/// Whether the same call writes the same bytes where its source gives at most so many a call.
+fn is_same_in_pieces(
+    alloc: Global,
+    call: &[u8],
+    step: usize,
+    written: &[u8],
+) -> Result<bool, Trouble> {
+    let mut again = call_of(alloc, call)?;
+    again.source_step = step;
+    Ok(replied(alloc, again)?.0.as_slice() == written)
+}
+
 /// Of lines that ask of an answer, a line `of`, and a call of `solve`: the status, what `check` writes of the answer, and what
-/// is asked. So a case needs no choice of the solver's.
+/// is asked. So a case needs no choice of the solver's. A first line `pieces STEP` also asks whether the same bytes are written
+/// where the source gives at most so many a call.
 pub(crate) fn solved(alloc: Global, input: &[u8]) -> Result<Vec<u8>, Trouble> {
     let (asked, rest) = split_before(input, b"of\n");
-    let (_, rest) = split_line(rest);
-    let (written, status) = replied(alloc, call_of(alloc, rest)?)?;
+    let (_, call) = split_line(rest);
+    let (written, status) = replied(alloc, call_of(alloc, call)?)?;
     let mut report = Vec::new(alloc);
     put_numbers(&mut report, b"status", &[u64::from(status.code())])?;
     put(&mut report, &checked(alloc, &written)?)?;
-    if asked.is_empty() || written.len() > 1 << 24 {
+    let mut lines = Lines { rest: asked };
+    if let Some(step) = split_line(asked).0.strip_prefix(b"pieces ") {
+        lines.rest = split_line(asked).1;
+        let step = Words { rest: step }.small()? as usize;
+        let same = is_same_in_pieces(alloc, call, step, &written)?;
+        put(
+            &mut report,
+            if same {
+                b"same\n".as_slice()
+            } else {
+                b"differs\n".as_slice()
+            },
+        )?;
+    }
+    if lines.rest.is_empty() || written.len() > 1 << 24 {
         return Ok(report);
     }
     let Ok(answer) = read_answer(alloc, &written) else {
         put_line(&mut report, &[b"no answer"])?;
         return Ok(report);
     };
-    let mut lines = Lines { rest: asked };
     for _ in 0..asked.len() {
         let Some(line) = lines.next() else {
             break;

@@ -100,11 +100,12 @@ fn unescaped(alloc: Global, text: &[u8]) -> Result<Vec<u8>, Trouble> {
     Ok(bytes)
 }
 
-/// What the subject answers; of an input that it can't read a line that says so.
+/// What the subject answers; where it has no answer, a line that says why.
 fn came(alloc: Global, subject: Subject, input: &[u8]) -> Result<Vec<u8>, Trouble> {
     match answer(alloc, subject, input) {
+        Ok(report) => Ok(report),
         Err(Trouble::Unread) => Ok(Vec::from_slice(alloc, b"the input can't be read\n")?),
-        other => other,
+        Err(Trouble::Memory) => Ok(Vec::from_slice(alloc, b"out of memory\n")?),
     }
 }
 

@@ -1,8 +1,8 @@
 // What cases ask: the subjects by their names.
 use crate::reports::Trouble;
 use crate::{
-    answers, clauses, equalities, machine, rounds, schedules, scripts, streams, texts, tokens,
-    worlds,
+    answers, clauses, equalities, machine, plain_scripts, rounds, schedules, scripts, streams,
+    texts, tokens, worlds,
 };
 use std::alloc::Global;
 
