@@ -15,19 +15,40 @@ pub(crate) fn count_rows(alloc: Global, text: &[u8]) -> Option<usize>
     requires { length text.now < 2 ^ 29 }
 {
     let tokens = lex(alloc, text).ok()?;
-    let mut graph = Egraph::new(alloc);
-    let mut inserted = Vec::new(alloc);
+    let mut steps = Vec::new(alloc);
     for step in tokens.chunks_exact(3) {
         let (a, b) = (number(step.get(1)?)?, number(step.get(2)?)?);
-        if name(text, step.first()?)? == b"merge".as_slice() {
-            let (a, b) = (class(&graph, &inserted, a)?, class(&graph, &inserted, b)?);
-            graph = graph.merge(a, b).ok()?;
-        } else {
-            let class = insert(&mut graph, &inserted, name(text, step.first()?)?, a, b)?;
-            inserted.push(class).ok()?;
-        }
+        steps.push((name(text, step.first()?)?, a, b)).ok()?;
     }
+    let graph = done_all(alloc, &steps)?;
     Some(graph.rows() as usize)
+}
+
+fn done_all(alloc: Global, steps: &[(&[u8], u64, u64)]) -> Option<Egraph<WordsOnly>> {
+    let mut graph = Egraph::new(alloc);
+    let mut inserted = Vec::new(alloc);
+    for (name, a, b) in steps {
+        graph = done(graph, &mut inserted, name, *a, *b)?;
+    }
+    Some(graph)
+}
+
+fn done(
+    mut graph: Egraph<WordsOnly>,
+    inserted: &mut Vec<u32>,
+    name: &[u8],
+    a: u64,
+    b: u64,
+) -> Option<Egraph<WordsOnly>> {
+    if name == b"merge".as_slice() {
+        return match (class(&graph, inserted, a), class(&graph, inserted, b)) {
+            (Some(a), Some(b)) => graph.merge(a, b).ok(),
+            _ => None,
+        };
+    }
+    let class = insert(&mut graph, inserted, name, a, b)?;
+    inserted.push(class).ok()?;
+    Some(graph)
 }
 
 fn name<'a>(text: &'a [u8], token: &Token) -> Option<&'a [u8]> {

@@ -2,7 +2,7 @@
 use crate::plain_building::{join, put_row};
 use crate::reading::{Lines, Words};
 use crate::reports::{Trouble, put_numbers};
-use crate::scripts::{classes, declared, operator};
+use crate::scripts::{classes, declared, operator, pair};
 use egraph::MergeFault;
 use egraph::plain::Egraph;
 use std::alloc::Global;
@@ -55,32 +55,77 @@ fn insert(
     put_numbers(report, b"is", &[first_of(graph, class)])
 }
 
+/// A script's graph, and what it has said.
+#[derive(Drop)]
+struct Script {
+    graph: Egraph<Op>,
+    report: Vec<u8>,
+}
+
+/// The script after a merge, or what it said where two constants met.
+fn merged(script: Script, a: u32, b: u32) -> Result<Result<Script, Vec<u8>>, Trouble> {
+    let Script { graph, mut report } = script;
+    match join(graph, a, b)? {
+        Ok(graph) => Ok(Ok(Script { graph, report })),
+        Err(MergeFault::NoWorld { a, b, .. }) => {
+            put_numbers(&mut report, b"clash", &[a.min(b), a.max(b)])?;
+            Ok(Err(report))
+        }
+        Err(MergeFault::Memory) => Err(Trouble::Memory),
+    }
+}
+
+/// Does what a line asks, but for a merge.
+fn ask(alloc: Global, script: &mut Script, line: &[u8]) -> Result<(), Trouble> {
+    let mut words = Words { rest: line };
+    let verb = words.word()?;
+    if verb == b"classes".as_slice() {
+        put_classes(&script.graph, &mut script.report)
+    } else {
+        insert(
+            alloc,
+            &mut script.graph,
+            &mut script.report,
+            verb,
+            &mut words,
+        )
+    }
+}
+
+/// The script after a line, or what it said where two constants met.
+fn done(
+    alloc: Global,
+    mut script: Script,
+    line: &[u8],
+) -> Result<Result<Script, Vec<u8>>, Trouble> {
+    match line.strip_prefix(b"merge ") {
+        Some(classes) => match pair(classes) {
+            Ok((a, b)) => merged(script, a, b),
+            Err(trouble) => Err(trouble),
+        },
+        None => match ask(alloc, &mut script, line) {
+            Ok(()) => Ok(Ok(script)),
+            Err(trouble) => Err(trouble),
+        },
+    }
+}
+
 /// Lines that make an E-graph, as those of `scripts`, but that ask for `classes` alone.
 pub(crate) fn plain_scripts(alloc: Global, input: &[u8]) -> Result<Vec<u8>, Trouble> {
-    let mut graph = Egraph::new(alloc);
-    let mut report = Vec::new(alloc);
+    let mut script = Script {
+        graph: Egraph::new(alloc),
+        report: Vec::new(alloc),
+    };
     let mut lines = Lines { rest: input };
     for _ in 0..input.len() {
         let Some(line) = lines.next() else {
             break;
         };
-        let mut words = Words { rest: line };
-        let verb = words.word()?;
-        if verb == b"merge".as_slice() {
-            let (a, b) = (words.small()?, words.small()?);
-            match join(graph, a, b)? {
-                Ok(joined) => graph = joined,
-                Err(MergeFault::NoWorld { a, b, .. }) => {
-                    put_numbers(&mut report, b"clash", &[a.min(b), a.max(b)])?;
-                    return Ok(report);
-                }
-                Err(MergeFault::Memory) => return Err(Trouble::Memory),
-            }
-        } else if verb == b"classes".as_slice() {
-            put_classes(&graph, &mut report)?;
-        } else {
-            insert(alloc, &mut graph, &mut report, verb, &mut words)?;
+        match done(alloc, script, line)? {
+            Ok(next) => script = next,
+            Err(report) => return Ok(report),
         }
     }
+    let Script { report, .. } = script;
     Ok(report)
 }

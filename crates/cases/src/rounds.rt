@@ -35,18 +35,17 @@ fn grown(alloc: Global, text: &[u8], rounds: u32, nodes: u32) -> Result<Saturate
         Ok(program) => program,
         Err(_) => return Err(Refused::Memory),
     };
-    let Some(goal) = input.goals.as_slice().first() else {
-        return Err(Refused::Memory);
-    };
-    let graph = match start(alloc, goal) {
-        Ok(graph) => graph,
-        Err(StartFault::NoWorld { a, b, .. }) => return Err(Refused::Clash(a, b)),
-        Err(StartFault::Memory) => return Err(Refused::Memory),
-    };
-    match saturate(alloc, graph, &program, rounds, nodes) {
-        Ok(grown) => Ok(grown),
-        Err(SaturateFault::NoWorld { a, b, .. }) => Err(Refused::Clash(a, b)),
-        Err(SaturateFault::Memory) => Err(Refused::Memory),
+    match input.goals.as_slice().first() {
+        Some(goal) => match start(alloc, goal) {
+            Ok(graph) => match saturate(alloc, graph, &program, rounds, nodes) {
+                Ok(grown) => Ok(grown),
+                Err(SaturateFault::NoWorld { a, b, .. }) => Err(Refused::Clash(a, b)),
+                Err(SaturateFault::Memory) => Err(Refused::Memory),
+            },
+            Err(StartFault::NoWorld { a, b, .. }) => Err(Refused::Clash(a, b)),
+            Err(StartFault::Memory) => Err(Refused::Memory),
+        },
+        None => Err(Refused::Memory),
     }
 }
 
@@ -96,19 +95,19 @@ fn launch(alloc: Global, text: &[u8]) -> Option<Vec<u8>>
     let Ok(program) = rules(alloc, &input) else {
         return None;
     };
-    let Some(goal) = input.goals.as_slice().first() else {
-        return None;
-    };
-    let Ok(graph) = start(alloc, goal) else {
-        return None;
-    };
-    let Ok(saturated) = saturate(alloc, graph, &program, 0, 512) else {
-        return None;
-    };
-    let Ok(graph) = to_launch(alloc, &saturated, goal, &input) else {
-        return None;
-    };
-    print(alloc, &graph).ok()
+    match input.goals.as_slice().first() {
+        Some(goal) => match start(alloc, goal) {
+            Ok(graph) => match saturate(alloc, graph, &program, 0, 512) {
+                Ok(saturated) => match to_launch(alloc, &saturated, goal, &input) {
+                    Ok(graph) => print(alloc, &graph).ok(),
+                    Err(_) => None,
+                },
+                Err(_) => None,
+            },
+            Err(_) => None,
+        },
+        None => None,
+    }
 }
 
 /// The lines of the graph of a text's first goal after no round.

@@ -7,17 +7,15 @@ use crate::reading::{Lines, Words};
 use crate::reports::{Trouble, put, put_line, put_numbers};
 use axiom_base::{Rule, equations};
 use egraph::{Egraph, MergeFault};
-use items::Items;
 use pattern_match::{Match, calc_matches, calc_need, calc_unmet, folds, matches, need, unmet};
 use std::alloc::Global;
 use word_ops::{Arity, Op, op_of};
 
-/// A script's graph, what it has said, and the equations.
+/// A script's graph, and what it has said.
 #[derive(Drop)]
 struct Script {
     graph: Egraph<Op>,
     report: Vec<u8>,
-    rules: Items<Rule>,
 }
 
 /// The first of the classes that are one with a class.
@@ -136,7 +134,13 @@ fn put_classes(graph: &Egraph<Op>, report: &mut Vec<u8>) -> Result<(), Trouble> 
 }
 
 /// What an equation matches, where `C` doesn't stand before the number, or else a computed rule.
-fn put_found(alloc: Global, script: &mut Script, verb: &[u8], rule: &[u8]) -> Result<(), Trouble> {
+fn put_found(
+    alloc: Global,
+    rules: &[Rule],
+    script: &mut Script,
+    verb: &[u8],
+    rule: &[u8],
+) -> Result<(), Trouble> {
     if let Some(number) = rule.strip_prefix(b"C") {
         let kind = kind_of(Words { rest: number }.small()?)?;
         if verb == b"need".as_slice() {
@@ -152,7 +156,7 @@ fn put_found(alloc: Global, script: &mut Script, verb: &[u8], rule: &[u8]) -> Re
     }
     let number = Words { rest: rule }.small()?;
     let at = number.wrapping_sub(1) as usize;
-    let rule = script.rules.as_slice().get(at).ok_or(Trouble::Unread)?;
+    let rule = rules.get(at).ok_or(Trouble::Unread)?;
     if verb == b"need".as_slice() {
         let need = need(alloc, &script.graph, rule)?;
         return put_numbers(&mut script.report, b"need", &[need]);
@@ -187,7 +191,7 @@ fn insert(
 }
 
 /// Does what a line asks, but for a merge.
-fn done(alloc: Global, script: &mut Script, line: &[u8]) -> Result<(), Trouble> {
+fn ask(alloc: Global, rules: &[Rule], script: &mut Script, line: &[u8]) -> Result<(), Trouble> {
     let mut words = Words { rest: line };
     let verb = words.word()?;
     if verb == b"folds".as_slice() {
@@ -199,27 +203,23 @@ fn done(alloc: Global, script: &mut Script, line: &[u8]) -> Result<(), Trouble> 
         || verb == b"need".as_slice()
     {
         let rule = words.word()?;
-        put_found(alloc, script, verb, rule)
+        put_found(alloc, rules, script, verb, rule)
     } else {
         insert(alloc, script, verb, &mut words)
     }
 }
 
-/// The script after a merge, or what it said where two constants met.
-fn merged(script: Script, line: &[u8]) -> Result<Result<Script, Vec<u8>>, Trouble> {
+/// The two classes of a merge.
+pub(crate) fn pair(line: &[u8]) -> Result<(u32, u32), Trouble> {
     let mut words = Words { rest: line };
-    let (a, b) = (words.small()?, words.small()?);
-    let Script {
-        graph,
-        mut report,
-        rules,
-    } = script;
+    Ok((words.small()?, words.small()?))
+}
+
+/// The script after a merge, or what it said where two constants met.
+fn merged(script: Script, a: u32, b: u32) -> Result<Result<Script, Vec<u8>>, Trouble> {
+    let Script { graph, mut report } = script;
     match join(graph, a, b)? {
-        Ok(graph) => Ok(Ok(Script {
-            graph,
-            report,
-            rules,
-        })),
+        Ok(graph) => Ok(Ok(Script { graph, report })),
         Err(MergeFault::NoWorld { a, b, .. }) => {
             put_numbers(&mut report, b"clash", &[a.min(b), a.max(b)])?;
             Ok(Err(report))
@@ -228,29 +228,50 @@ fn merged(script: Script, line: &[u8]) -> Result<Result<Script, Vec<u8>>, Troubl
     }
 }
 
-/// Lines that make an E-graph and ask of it. `OP CLASS..` inserts a row, as in the lines of a graph, and says the class;
-/// `merge A B` joins two classes, and where two constants meet it says so and ends; `matches R`, `unmet R` and `need R` ask of
-/// an equation by its number, or of a computed rule by `C` and its number; `folds` and `classes` list these. Classes are said
-/// by the first of those that are one with them.
-pub(crate) fn scripts(alloc: Global, input: &[u8]) -> Result<Vec<u8>, Trouble> {
+/// The script after a line, or what it said where two constants met.
+fn done(
+    alloc: Global,
+    rules: &[Rule],
+    mut script: Script,
+    line: &[u8],
+) -> Result<Result<Script, Vec<u8>>, Trouble> {
+    match line.strip_prefix(b"merge ") {
+        Some(classes) => match pair(classes) {
+            Ok((a, b)) => merged(script, a, b),
+            Err(trouble) => Err(trouble),
+        },
+        None => match ask(alloc, rules, &mut script, line) {
+            Ok(()) => Ok(Ok(script)),
+            Err(trouble) => Err(trouble),
+        },
+    }
+}
+
+/// What the lines say.
+fn done_all(alloc: Global, rules: &[Rule], input: &[u8]) -> Result<Vec<u8>, Trouble> {
     let mut script = Script {
         graph: Egraph::new(alloc),
         report: Vec::new(alloc),
-        rules: equations(alloc)?,
     };
     let mut lines = Lines { rest: input };
     for _ in 0..input.len() {
         let Some(line) = lines.next() else {
             break;
         };
-        match line.strip_prefix(b"merge ") {
-            Some(pair) => match merged(script, pair)? {
-                Ok(next) => script = next,
-                Err(report) => return Ok(report),
-            },
-            None => done(alloc, &mut script, line)?,
+        match done(alloc, rules, script, line)? {
+            Ok(next) => script = next,
+            Err(report) => return Ok(report),
         }
     }
     let Script { report, .. } = script;
     Ok(report)
+}
+
+/// Lines that make an E-graph and ask of it. `OP CLASS..` inserts a row, as in the lines of a graph, and says the class;
+/// `merge A B` joins two classes, and where two constants meet it says so and ends; `matches R`, `unmet R` and `need R` ask of
+/// an equation by its number, or of a computed rule by `C` and its number; `folds` and `classes` list these. Classes are said
+/// by the first of those that are one with them.
+pub(crate) fn scripts(alloc: Global, input: &[u8]) -> Result<Vec<u8>, Trouble> {
+    let rules = equations(alloc)?;
+    done_all(alloc, rules.as_slice(), input)
 }
