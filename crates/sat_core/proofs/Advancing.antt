@@ -33,7 +33,7 @@ advanced clauses n old mid new step over size before state adds closed is keeps 
     record {
       state = new-n;
       before = decided-closed clauses mid.steps.items new.steps.items step (propagated-closed clauses old.steps.items mid.steps.items before adds)
-          (closed-held clauses n mid.steps.items mid.values.items mid.indices.items state-n over closed) is;
+          (closed-held clauses n mid.steps.items mid.values.items mid.indices.items mid.decisions.items state-n over closed) is;
       size = new-n.size;
       grown = omega arith;
       room = omega arith;

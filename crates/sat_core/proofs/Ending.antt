@@ -24,9 +24,9 @@ use Rattle.sat_core.proofs.Marking.{late-clear, late-some}
 use Rattle.sat_core.proofs.Leading.{leads-start}
 
 -- the steps of a false clause's literals
-pub false-steps : (clauses : List (List Lit)) (n : ℕ) (steps : List Step) (values : List Value) (indices : List ℕ) (c : List Lit)
-    → AreSteps clauses n steps values indices → All (IsLitOf n) c → IsFalseClause (trail_values steps) c → All (IsStepOf indices (length steps)) c
-false-steps clauses n steps values indices c s exist false' k d few =
+pub false-steps : (clauses : List (List Lit)) (n : ℕ) (steps : List Step) (values : List Value) (indices decisions : List ℕ) (c : List Lit)
+    → AreSteps clauses n steps values indices decisions → All (IsLitOf n) c → IsFalseClause (trail_values steps) c → All (IsStepOf indices (length steps)) c
+false-steps clauses n steps values indices decisions c s exist false' k d few =
     let m = get_or c k d in
     let at = exist k d few in
     let high = at.within in
@@ -37,10 +37,10 @@ false-steps clauses n steps values indices c s exist false' k d few =
     record { above = at.above; within = omega arith; before = omega arith }
 
 -- a false clause that was open before a decision has a literal of the last level
-late-literal : (clauses : List (List Lit)) (n : ℕ) (steps : List Step) (values : List Value) (indices : List ℕ) (last : ℕ) (c : List Lit) (seen : List Bool)
-    → AreSteps clauses n steps values indices → All (IsLitOf n) c → IsFalseClause (trail_values steps) c → IsOpenClause (trail_values (take last steps)) c
+late-literal : (clauses : List (List Lit)) (n : ℕ) (steps : List Step) (values : List Value) (indices decisions : List ℕ) (last : ℕ) (c : List Lit) (seen : List Bool)
+    → AreSteps clauses n steps values indices decisions → All (IsLitOf n) c → IsFalseClause (trail_values steps) c → IsOpenClause (trail_values (take last steps)) c
     → All (λ l. is_marked seen (trail_index indices l) ≡ true) c → length seen ≡ length steps → 1 ≤ last_level_count last seen
-late-literal clauses n steps values indices last c seen s exist false' open' marked size =
+late-literal clauses n steps values indices decisions last c seen s exist false' open' marked size =
     elim open' [
       | inl one ↦
           (let (l, there, h) = one in
@@ -67,14 +67,14 @@ late-literal clauses n steps values indices last c seen s exist false' open' mar
     held-at' j e early few = held-at clauses steps last j e s.trail early few
 
 -- **at the end of the trail**
-pub walked-start : (clauses : List (List Lit)) (n : ℕ) (steps : List Step) (values : List Value) (indices : List ℕ) (id last at_last_level added : ℕ) (old : List Bool) (c : List Lit) (a : Analysis)
-    → AreSteps clauses n steps values indices → AreOver n clauses → AreClosedBefore clauses steps → IsFalsified (given values) clauses id → IsLastDecision steps last
+pub walked-start : (clauses : List (List Lit)) (n : ℕ) (steps : List Step) (values : List Value) (indices decisions : List ℕ) (id last at_last_level added : ℕ) (old : List Bool) (c : List Lit) (a : Analysis)
+    → AreSteps clauses n steps values indices decisions → AreOver n clauses → AreClosedBefore clauses steps → IsFalsified (given values) clauses id → IsLastDecision steps last
     → c ≡ clause_at clauses id → old ≡ replicate (length steps) false → MarksClause indices c c last old a.seen.items added → All (λ l. a.lowest ≤ trail_index indices l) c
     → a.at_last_level ≡ added → a.last ≡ last → a.lits.items ≡ [] → a.hints.items ≡ []
     → IsWalked clauses n steps (length steps) a × LeadsToConflict clauses steps (length steps) a.seen.items a.lits.items (reverse a.hints.items) (clause_at clauses id)
-walked-start clauses n steps values indices id last at_last_level added old c a s over before f is-last is-c is-old needs lowest is-late last-is no-lits no-hints =
+walked-start clauses n steps values indices decisions id last at_last_level added old c a s over before f is-last is-c is-old needs lowest is-late last-is no-lits no-hints =
     let c' = clause_at clauses id in
-    let false' = falsified-held clauses n steps values indices id s over f in
+    let false' = falsified-held clauses n steps values indices decisions id s over f in
     let exist = clause-exists clauses n id over f.low f.high in
     let needs' : MarksClause indices c' c' last old a.seen.items added = subst (λ (x : List Lit). MarksClause indices x x last old a.seen.items added) is-c needs in
     let old-size : length old ≡ length steps = ap length is-old ∙ length-replicate (length steps) false in
@@ -85,7 +85,7 @@ walked-start clauses n steps values indices id last at_last_level added old c a 
     record-pair
     (record {
       size = size;
-      clear = needs'.only (length steps) (false-steps clauses n steps values indices c' s exist false') (λ k low. old-clear k (omega arith));
+      clear = needs'.only (length steps) (false-steps clauses n steps values indices decisions c' s exist false') (λ k low. old-clear k (omega arith));
       below = needs'.below a.lowest (subst (All (λ l. a.lowest ≤ trail_index indices l)) is-c lowest) (λ k low. old-clear k (omega arith));
       count = (let e : added ≡ last_level_count last a.seen.items = omega arith in is-late ∙ e ∙ ap (λ (m : ℕ). last_level_count m a.seen.items) (sym last-is));
       exist = subst (All (IsLitOf n)) (sym no-lits) (All-nil (IsLitOf n));
@@ -97,13 +97,13 @@ walked-start clauses n steps values indices id last at_last_level added old c a 
           (let e : Step = record { lit = record { var = 0; positive = false }; reason = None } in
           let in' : last < length steps = omega arith in
           let closed = before last e in' (is-last.decides e in') in
-          let some = late-literal clauses n steps values indices last c' a.seen.items s exist false' (closed (id - 1) [] (let h = f.high in let l = f.low in omega arith)) needs'.all size in
+          let some = late-literal clauses n steps values indices decisions last c' a.seen.items s exist false' (closed (id - 1) [] (let h = f.high in let l = f.low in omega arith)) needs'.all size in
           absurd (omega arith));
       root = λ forced. no-lits;
     })
     (subst (λ (hs : List ℕ). LeadsToConflict clauses steps (length steps) a.seen.items a.lits.items (reverse hs) c') (sym no-hints)
     (subst (λ (ls : List Lit). LeadsToConflict clauses steps (length steps) a.seen.items ls [] c') (sym no-lits)
-    (leads-start clauses n steps values indices a.seen.items c' s false' needs'.all)))
+    (leads-start clauses n steps values indices decisions a.seen.items c' s false' needs'.all)))
   where
     record-pair : IsWalked clauses n steps (length steps) a → LeadsToConflict clauses steps (length steps) a.seen.items a.lits.items (reverse a.hints.items) (clause_at clauses id)
         → IsWalked clauses n steps (length steps) a × LeadsToConflict clauses steps (length steps) a.seen.items a.lits.items (reverse a.hints.items) (clause_at clauses id)
@@ -188,8 +188,8 @@ fresh-from clauses s lits closed differ asserts =
     })
 
 -- steps over more clauses
-steps-over : (clauses more : List (List Lit)) (n : ℕ) (steps : List Step) (values : List Value) (indices : List ℕ) → AreSteps clauses n steps values indices → AreSteps (clauses ++ more) n steps values indices
-steps-over clauses more n steps values indices h =
+steps-over : (clauses more : List (List Lit)) (n : ℕ) (steps : List Step) (values : List Value) (indices decisions : List ℕ) → AreSteps clauses n steps values indices decisions → AreSteps (clauses ++ more) n steps values indices decisions
+steps-over clauses more n steps values indices decisions h =
     let long = length-append clauses more in
     record {
       trail = λ k d few.
@@ -212,6 +212,7 @@ steps-over clauses more n steps values indices h =
       room = h.room;
       slots = h.slots;
       placed = h.placed;
+      decided = h.decided;
     }
 
 -- **the search goes on**
@@ -231,7 +232,7 @@ line-goes_on clauses n old new a lits before is-last h stays state is is-lits so
     let fresh = fresh-from clauses (trail_values (take a.last steps)) a.lits.items closed h.differ (h.one zero' in-level) in
     record {
       fresh = subst (IsFresh clauses) (sym is-lits) fresh;
-      state = steps-over clauses (lits ∷ []) n new.steps.items new.values.items new.indices.items state;
+      state = steps-over clauses (lits ∷ []) n new.steps.items new.values.items new.indices.items new.decisions.items state;
       before = subst (AreClosedBefore (clauses ++ lits ∷ [])) (sym is) (λ k e few decides.
           (let size = length-take a.backjump steps in
           let below : k < a.backjump = omega arith in

@@ -15,9 +15,9 @@ use Rattle.sat_core.specs.Walks.{trail_index, is_marked, Covers, LeadsToConflict
 use Rattle.sat_core.proofs.Holding.{none≢some, partial_of-push-same, partial_of-push-other, partial_of-cons-same, partial_of-cons-other, held-step, held-at, step-of, free-before}
 
 -- a literal that is false under the steps before i is false by its marked step
-pub covered-false : (clauses : List (List Lit)) (n : ℕ) (steps : List Step) (values : List Value) (indices : List ℕ) (i : ℕ) (seen : List Bool) (t : List Lit) (l : Lit)
-    → AreSteps clauses n steps values indices → Covers steps i seen t → IsFalse (trail_values (take i steps)) l → is_marked seen (trail_index indices l) ≡ true → IsFalse (partial_of t) l
-covered-false clauses n steps values indices i seen t l h covers false' marked =
+pub covered-false : (clauses : List (List Lit)) (n : ℕ) (steps : List Step) (values : List Value) (indices decisions : List ℕ) (i : ℕ) (seen : List Bool) (t : List Lit) (l : Lit)
+    → AreSteps clauses n steps values indices decisions → Covers steps i seen t → IsFalse (trail_values (take i steps)) l → is_marked seen (trail_index indices l) ≡ true → IsFalse (partial_of t) l
+covered-false clauses n steps values indices decisions i seen t l h covers false' marked =
     let (j, few, at) = step-of (take i steps) l.var (not l.positive) false' in
     let size = length-take i steps in
     let d : Step = record { lit = l; reason = None } in
@@ -32,14 +32,14 @@ covered-false clauses n steps values indices i seen t l h covers false' marked =
     ap (partial_of t) (sym var) ∙ covers j d below few' mark ∙ ap (λ (b : Bool). Some b) positive
 
 -- at the end of the trail the conflict is false already
-pub leads-start : (clauses : List (List Lit)) (n : ℕ) (steps : List Step) (values : List Value) (indices : List ℕ) (seen : List Bool) (conflict : List Lit)
-    → AreSteps clauses n steps values indices → IsFalseClause (trail_values steps) conflict → All (λ l. is_marked seen (trail_index indices l) ≡ true) conflict → LeadsToConflict clauses steps (length steps) seen [] [] conflict
-leads-start clauses n steps values indices seen conflict h false' marked t covers rest = (
+pub leads-start : (clauses : List (List Lit)) (n : ℕ) (steps : List Step) (values : List Value) (indices decisions : List ℕ) (seen : List Bool) (conflict : List Lit)
+    → AreSteps clauses n steps values indices decisions → IsFalseClause (trail_values steps) conflict → All (λ l. is_marked seen (trail_index indices l) ≡ true) conflict → LeadsToConflict clauses steps (length steps) seen [] [] conflict
+leads-start clauses n steps values indices decisions seen conflict h false' marked t covers rest = (
   t,
   refl,
   (λ k d few.
       let whole : take (length steps) steps ≡ steps = take_all (length steps) steps (omega arith) in
-      covered-false clauses n steps values indices (length steps) seen t (get_or conflict k d) h covers
+      covered-false clauses n steps values indices decisions (length steps) seen t (get_or conflict k d) h covers
       (subst (λ (ss : List Step). IsFalse (trail_values ss) (get_or conflict k d)) (sym whole) (false' k d few)) (marked k d few)),
 )
 
@@ -93,12 +93,12 @@ leads-keep clauses steps i d seen needed' lits hints conflict trail few free is 
     rest x (free-before steps i (i + 1) x (omega arith) free-x) ∙ ap (λ (ls : List Lit). partial_of ls x) all ∙ partial_of-push-other (refuted lits) (negated (negated l)) x other)
 
 -- a step that is resolved with its reason
-pub leads-resolve : (clauses : List (List Lit)) (n : ℕ) (steps : List Step) (values : List Value) (indices : List ℕ) (i : ℕ) (d : Step) (id : ℕ) (seen mid needed' : List Bool) (lits : List Lit) (hints : List ℕ) (conflict : List Lit)
-    → AreSteps clauses n steps values indices → i < length steps → All (λ (l : Lit). trail_values (take (i + 1) steps) l.var ≡ None) lits
+pub leads-resolve : (clauses : List (List Lit)) (n : ℕ) (steps : List Step) (values : List Value) (indices decisions : List ℕ) (i : ℕ) (d : Step) (id : ℕ) (seen mid needed' : List Bool) (lits : List Lit) (hints : List ℕ) (conflict : List Lit)
+    → AreSteps clauses n steps values indices decisions → i < length steps → All (λ (l : Lit). trail_values (take (i + 1) steps) l.var ≡ None) lits
     → IsReason (trail_values (take i steps)) clauses id (get_or steps i d).lit
     → ((k : ℕ) → is_marked seen k ≡ true → is_marked mid k ≡ true) → All (λ l. is_marked mid (trail_index indices l) ≡ true) (clause_at clauses id) → needed' ≡ set mid i false
     → LeadsToConflict clauses steps (i + 1) seen lits hints conflict → LeadsToConflict clauses steps i needed' lits (id ∷ hints) conflict
-leads-resolve clauses n steps values indices i d id seen mid needed' lits hints conflict h few free reason keeps marked is leads t covers rest =
+leads-resolve clauses n steps values indices decisions i d id seen mid needed' lits hints conflict h few free reason keeps marked is leads t covers rest =
     let l = (get_or steps i d).lit in
     let c = clause_at clauses id in
     let mid-covers : Covers steps i mid t = λ k e below few' mark.
@@ -109,7 +109,7 @@ leads-resolve clauses n steps values indices i d id seen mid needed' lits hints 
       free = rest l.var (h.trail i d few).free ∙ refuted-none lits l.var (others-later clauses steps i d lits h.trail few free);
       others = λ k e few'. elim (reason.unit.others k e few') [
         | inl same ↦ inl same
-        | inr false' ↦ inr (covered-false clauses n steps values indices i mid t (get_or c k e) h mid-covers false' (marked k e few'))
+        | inr false' ↦ inr (covered-false clauses n steps values indices decisions i mid t (get_or c k e) h mid-covers false' (marked k e few'))
       ];
     } in
     let next = leads (l ∷ t)

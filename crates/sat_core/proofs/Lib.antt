@@ -3,7 +3,8 @@ pub mod Agreeing
 pub mod Attaching
 pub mod Bound
 pub mod Choosing
-pub mod Ending
+pub mod Deciding
+mod Ending
 pub mod Exchanging
 pub mod Holding
 pub mod Leading

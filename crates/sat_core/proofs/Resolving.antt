@@ -34,15 +34,15 @@ settled-skip clauses n steps i a h unmarked =
       leads = λ conflict. leads-skip clauses steps i a.seen.items a.lits.items (reverse a.hints.items) conflict unmarked;
     }
 
-pub settled-keep : (clauses : List (List Lit)) (n : ℕ) (steps : List Step) (values : List Value) (indices : List ℕ) (i first : ℕ) (step : Step) (a b : Analysis)
-    → AreSteps clauses n steps values indices → IsDecisionOrEnd steps first → IsLastDecision steps a.last → i < length steps
+pub settled-keep : (clauses : List (List Lit)) (n : ℕ) (steps : List Step) (values : List Value) (indices decisions : List ℕ) (i first : ℕ) (step : Step) (a b : Analysis)
+    → AreSteps clauses n steps values indices decisions → IsDecisionOrEnd steps first → IsLastDecision steps a.last → i < length steps
     → IsWalked clauses n steps (i + 1) a → is_marked a.seen.items i ≡ true → step ≡ get_or steps i step → (step.reason ≡ None) ⊎ IsKeptAt first a.last a.at_last_level i
     → KeepsStep i step.lit a b → Settled clauses n steps i a b
-settled-keep clauses n steps values indices i first step a b s is-first last few h marked is why k =
+settled-keep clauses n steps values indices decisions i first step a b s is-first last few h marked is why k =
     let why' = subst (λ (x : Step). (x.reason ≡ None) ⊎ IsKeptAt first a.last a.at_last_level i) is why in
     let k' = subst (λ (x : Step). KeepsStep i x.lit a b) is k in
     record {
-      walked = walked-keep clauses n steps values indices i first step a b s is-first last few h marked why' k';
+      walked = walked-keep clauses n steps values indices decisions i first step a b s is-first last few h marked why' k';
       leads = λ conflict before.
           subst (λ (hs : List ℕ). LeadsToConflict clauses steps i b.seen.items b.lits.items (reverse hs) conflict) (sym k.hints)
           (subst (λ (ls : List Lit). LeadsToConflict clauses steps i b.seen.items ls (reverse a.hints.items) conflict) (sym k'.lits)
@@ -50,31 +50,31 @@ settled-keep clauses n steps values indices i first step a b s is-first last few
     }
 
 -- the reason of a step that has one
-pub reason-of : (clauses : List (List Lit)) (n : ℕ) (steps : List Step) (values : List Value) (indices : List ℕ) (i id : ℕ) (step : Step)
-    → AreSteps clauses n steps values indices → i < length steps → step ≡ get_or steps i step → step.reason ≡ Some id → IsReason (trail_values (take i steps)) clauses id (get_or steps i step).lit
-reason-of clauses n steps values indices i id step s few is some =
+pub reason-of : (clauses : List (List Lit)) (n : ℕ) (steps : List Step) (values : List Value) (indices decisions : List ℕ) (i id : ℕ) (step : Step)
+    → AreSteps clauses n steps values indices decisions → i < length steps → step ≡ get_or steps i step → step.reason ≡ Some id → IsReason (trail_values (take i steps)) clauses id (get_or steps i step).lit
+reason-of clauses n steps values indices decisions i id step s few is some =
     (s.trail i step few).forced id (subst (λ (x : Step). x.reason ≡ Some id) is some)
 
 -- the steps of its literals are steps of the trail
-pub reason-few : (clauses : List (List Lit)) (n : ℕ) (steps : List Step) (values : List Value) (indices : List ℕ) (i id m : ℕ) (step : Step)
-    → AreSteps clauses n steps values indices → AreOver n clauses → i < length steps → step ≡ get_or steps i step → step.reason ≡ Some id → m ≡ length steps
+pub reason-few : (clauses : List (List Lit)) (n : ℕ) (steps : List Step) (values : List Value) (indices decisions : List ℕ) (i id m : ℕ) (step : Step)
+    → AreSteps clauses n steps values indices decisions → AreOver n clauses → i < length steps → step ≡ get_or steps i step → step.reason ≡ Some id → m ≡ length steps
     → All (IsStepOf indices m) (clause_at clauses id)
-reason-few clauses n steps values indices i id m step s over few is some size k d few' =
-    let at = reason-steps clauses n steps values indices i id step s over few (reason-of clauses n steps values indices i id step s few is some) k d few' in
+reason-few clauses n steps values indices decisions i id m step s over few is some size k d few' =
+    let at = reason-steps clauses n steps values indices decisions i id step s over few (reason-of clauses n steps values indices decisions i id step s few is some) k d few' in
     let before = at.before in
     record { above = at.above; within = at.within; before = omega arith }
 
-pub settled-resolve : (clauses : List (List Lit)) (n : ℕ) (steps : List Step) (values : List Value) (indices : List ℕ) (i id : ℕ) (step : Step) (a b : Analysis)
-    → AreSteps clauses n steps values indices → AreOver n clauses → i < length steps
+pub settled-resolve : (clauses : List (List Lit)) (n : ℕ) (steps : List Step) (values : List Value) (indices decisions : List ℕ) (i id : ℕ) (step : Step) (a b : Analysis)
+    → AreSteps clauses n steps values indices decisions → AreOver n clauses → i < length steps
     → IsWalked clauses n steps (i + 1) a → is_marked a.seen.items i ≡ true → step ≡ get_or steps i step → step.reason ≡ Some id → (a.last ≤ i → a.at_last_level ≢ 1)
     → Resolves clauses indices id i a b → Settled clauses n steps i a b
-settled-resolve clauses n steps values indices i id step a b s over few h marked is some more r =
-    let reason = reason-of clauses n steps values indices i id step s few is some in
+settled-resolve clauses n steps values indices decisions i id step a b s over few h marked is some more r =
+    let reason = reason-of clauses n steps values indices decisions i id step s few is some in
     let hints : reverse b.hints.items ≡ id ∷ reverse a.hints.items = ap (λ (hs : List ℕ). reverse hs) r.hints ∙ reverse-append a.hints.items (id ∷ []) in
     record {
-      walked = walked-resolve clauses n steps values indices i id step a b s over few h marked reason more r;
+      walked = walked-resolve clauses n steps values indices decisions i id step a b s over few h marked reason more r;
       leads = λ conflict before.
           subst (λ (hs : List ℕ). LeadsToConflict clauses steps i b.seen.items b.lits.items hs conflict) (sym hints)
           (subst (λ (ls : List Lit). LeadsToConflict clauses steps i b.seen.items ls (id ∷ reverse a.hints.items) conflict) (sym r.lits)
-          (leads-resolve clauses n steps values indices i step id a.seen.items r.mid b.seen.items a.lits.items (reverse a.hints.items) conflict s few h.free reason r.needs.keeps r.needs.all r.seen before));
+          (leads-resolve clauses n steps values indices decisions i step id a.seen.items r.mid b.seen.items a.lits.items (reverse a.hints.items) conflict s few h.free reason r.needs.keeps r.needs.all r.seen before));
     }

@@ -14,10 +14,11 @@ use Rattle.cnf_core.specs.Refutation.{clause_at}
 use Rattle.sat_core.specs.declared.trail.Step.{Step}
 use Rattle.sat_core.specs.declared.trail.Value.{Value}
 use Rattle.sat_core.specs.declared.trail.Value.TheVariants.{Unassigned}
-use Rattle.sat_core.specs.Steps.{value_of, is_free, given, trail_values, IsReason, IsRightStep, AreSteps, Propagates, AreClosedBefore}
+use Rattle.sat_core.specs.Steps.{value_of, is_free, given, trail_values, with_decision, decision_indices, IsReason, IsRightStep, AreSteps, Propagates, AreClosedBefore}
 use Rattle.sat_core.specs.FalseClauses.{IsFalsified}
 use Rattle.sat_core.proofs.Agreeing.{unit-agrees, false-agrees, open-agrees}
 use Rattle.sat_core.proofs.Holding.{none≢some, held-push-other, held-push-same, held-at}
+use Rattle.sat_core.proofs.Deciding.{decisions-push}
 
 abbrev Values : Type 0
 Values = List Value
@@ -41,8 +42,8 @@ room-push values l v is low high free =
     omega arith
 
 -- one more right step
-steps-push-of : (clauses : List (List Lit)) (n : ℕ) (steps : List Step) (values : Values) (indices : List ℕ) (step : Step) (v : Value) → value_of v ≡ Some step.lit.positive → IsLitOf n step.lit → AreSteps clauses n steps values indices → IsRightStep clauses steps step → AreSteps clauses n (steps ++ step ∷ []) (set values (step.lit.var - 1) v) (set indices (step.lit.var - 1) (length steps))
-steps-push-of clauses n steps values indices step v is-v at h right =
+steps-push-of : (clauses : List (List Lit)) (n : ℕ) (steps : List Step) (values : Values) (indices decisions : List ℕ) (step : Step) (v : Value) → value_of v ≡ Some step.lit.positive → IsLitOf n step.lit → AreSteps clauses n steps values indices decisions → IsRightStep clauses steps step → AreSteps clauses n (steps ++ step ∷ []) (set values (step.lit.var - 1) v) (set indices (step.lit.var - 1) (length steps)) (decisions ++ with_decision step.reason (length steps) [])
+steps-push-of clauses n steps values indices decisions step v is-v at h right =
     let l = step.lit in
     let size = length-set values (l.var - 1) v in
     let slots = length-set indices (l.var - 1) (length steps) in
@@ -50,6 +51,7 @@ steps-push-of clauses n steps values indices step v is-v at h right =
     let within : l.var ≤ length values = (let a = at.within in let b = h.size in omega arith) in
     let within' : l.var - 1 < length indices = (let a = at.within in let c = at.above in let b = h.slots in omega arith) in
     let long = length_push steps step in
+    let from-zero : length steps ≡ 0 + length steps = omega arith in
     record {
       trail = λ k d few. elim (cases_lt k (length steps)) [
         | inl before ↦
@@ -85,23 +87,25 @@ steps-push-of clauses n steps values indices step v is-v at h right =
             subst (λ (t : Step). get_or (set indices (l.var - 1) (length steps)) (t.lit.var - 1) 0 ≡ k) (sym (get_or_push steps step d k here))
             (get_or-set_same indices (l.var - 1) (length steps) 0 within' ∙ here))
       ];
+      decided = ap (λ (ds : List ℕ). ds ++ with_decision step.reason (length steps) []) h.decided ∙ ap (λ (k : ℕ). decision_indices steps ++ with_decision step.reason k []) from-zero ∙ sym (decisions-push 0 steps step);
     }
   where
     take_all' : (xs : List Step) → take (length xs) xs ≡ xs
     take_all' [] = refl
     take_all' (x ∷ xs) = ap (λ (ys : List Step). x ∷ ys) (take_all' xs)
 
-pub steps-push : (clauses : List (List Lit)) (n : ℕ) (steps steps' : List Step) (values values' : Values) (indices indices' : List ℕ) (step : Step) (v : Value) → value_of v ≡ Some step.lit.positive → IsLitOf n step.lit → steps' ≡ steps ++ step ∷ [] → values' ≡ set values (step.lit.var - 1) v → indices' ≡ set indices (step.lit.var - 1) (length steps) → AreSteps clauses n steps values indices → IsRightStep clauses steps step → AreSteps clauses n steps' values' indices'
-steps-push clauses n steps steps' values values' indices indices' step v is-v at is-steps is-values is-indices h right =
-    subst (λ (ss : List Step). AreSteps clauses n ss values' indices') (sym is-steps)
-    (subst (λ (vs : Values). AreSteps clauses n (steps ++ step ∷ []) vs indices') (sym is-values)
-    (subst (λ (ps : List ℕ). AreSteps clauses n (steps ++ step ∷ []) (set values (step.lit.var - 1) v) ps) (sym is-indices)
-    (steps-push-of clauses n steps values indices step v is-v at h right)))
+pub steps-push : (clauses : List (List Lit)) (n : ℕ) (steps steps' : List Step) (values values' : Values) (indices indices' decisions decisions' : List ℕ) (step : Step) (v : Value) → value_of v ≡ Some step.lit.positive → IsLitOf n step.lit → steps' ≡ steps ++ step ∷ [] → values' ≡ set values (step.lit.var - 1) v → indices' ≡ set indices (step.lit.var - 1) (length steps) → decisions' ≡ decisions ++ with_decision step.reason (length steps) [] → AreSteps clauses n steps values indices decisions → IsRightStep clauses steps step → AreSteps clauses n steps' values' indices' decisions'
+steps-push clauses n steps steps' values values' indices indices' decisions decisions' step v is-v at is-steps is-values is-indices is-decisions h right =
+    subst (λ (ss : List Step). AreSteps clauses n ss values' indices' decisions') (sym is-steps)
+    (subst (λ (vs : Values). AreSteps clauses n (steps ++ step ∷ []) vs indices' decisions') (sym is-values)
+    (subst (λ (ps : List ℕ). AreSteps clauses n (steps ++ step ∷ []) (set values (step.lit.var - 1) v) ps decisions') (sym is-indices)
+    (subst (λ (ds : List ℕ). AreSteps clauses n (steps ++ step ∷ []) (set values (step.lit.var - 1) v) (set indices (step.lit.var - 1) (length steps)) ds) (sym is-decisions)
+    (steps-push-of clauses n steps values indices decisions step v is-v at h right))))
 
 -- the last step taken back
-pub steps-pop : (clauses : List (List Lit)) (n : ℕ) (steps : List Step) (step : Step) (values : Values) (indices : List ℕ) → AreSteps clauses n (steps ++ step ∷ []) values indices → AreSteps clauses n steps (set values (step.lit.var - 1) Unassigned) indices
+pub steps-pop : (clauses : List (List Lit)) (n : ℕ) (steps : List Step) (step : Step) (values : Values) (indices decisions decisions' : List ℕ) → (decisions ≡ decision_indices (steps ++ step ∷ []) → decisions' ≡ decision_indices steps) → AreSteps clauses n (steps ++ step ∷ []) values indices decisions → AreSteps clauses n steps (set values (step.lit.var - 1) Unassigned) indices decisions'
 unfolding given
-steps-pop clauses n steps step values indices h =
+steps-pop clauses n steps step values indices decisions decisions' fewer h =
     let l = step.lit in
     let size = length-set values (l.var - 1) Unassigned in
     let long = length_push steps step in
@@ -131,11 +135,12 @@ steps-pop clauses n steps step values indices h =
           let room = h.room in omega arith);
       slots = h.slots;
       placed = λ k d few. subst (λ (t : Step). get_or indices (t.lit.var - 1) 0 ≡ k) (get_or_append_left steps (step ∷ []) d k few) (h.placed k d (omega arith));
+      decided = fewer h.decided;
     }
 
 -- the values and the steps agree on a clause's variables
-pub agree : (clauses : List (List Lit)) (n : ℕ) (steps : List Step) (values : Values) (indices : List ℕ) (c : List Lit) → AreSteps clauses n steps values indices → All (IsLitOf n) c → (m : Lit) → Contains c m → given values m.var ≡ trail_values steps m.var
-agree clauses n steps values indices c h exist m there =
+pub agree : (clauses : List (List Lit)) (n : ℕ) (steps : List Step) (values : Values) (indices decisions : List ℕ) (c : List Lit) → AreSteps clauses n steps values indices decisions → All (IsLitOf n) c → (m : Lit) → Contains c m → given values m.var ≡ trail_values steps m.var
+agree clauses n steps values indices decisions c h exist m there =
     let at = All-contains (IsLitOf n) c m exist there in
     sym (h.shows m.var at.above at.within)
 
@@ -143,31 +148,31 @@ pub clause-exists : (clauses : List (List Lit)) (n id : ℕ) → AreOver n claus
 clause-exists clauses n id exist low high = exist (id - 1) [] (omega arith)
 
 -- **a clause that is unit by the values gives a right step**
-pub reason-right : (clauses : List (List Lit)) (n : ℕ) (steps : List Step) (values : Values) (indices : List ℕ) (l : Lit) (id : ℕ) → AreSteps clauses n steps values indices → AreOver n clauses → IsReason (given values) clauses id l → IsLitOf n l × IsRightStep clauses steps (record { lit = l; reason = Some id })
-reason-right clauses n steps values indices l id h over r =
+pub reason-right : (clauses : List (List Lit)) (n : ℕ) (steps : List Step) (values : Values) (indices decisions : List ℕ) (l : Lit) (id : ℕ) → AreSteps clauses n steps values indices decisions → AreOver n clauses → IsReason (given values) clauses id l → IsLitOf n l × IsRightStep clauses steps (record { lit = l; reason = Some id })
+reason-right clauses n steps values indices decisions l id h over r =
     let c = clause_at clauses id in
     let exist = clause-exists clauses n id over r.low r.high in
-    let u = unit-agrees (given values) (trail_values steps) c l (agree clauses n steps values indices c h exist) r.unit in (
+    let u = unit-agrees (given values) (trail_values steps) c l (agree clauses n steps values indices decisions c h exist) r.unit in (
       All-contains (IsLitOf n) c l exist u.among,
       record { free = u.free; forced = λ id' is. (let same : id ≡ id' = cc in subst (λ (i : ℕ). IsReason (trail_values steps) clauses i l) same (record { low = r.low; high = r.high; unit = u })) },
     )
 
 -- a decision of a free variable is a right step
-pub decision-right : (clauses : List (List Lit)) (n : ℕ) (steps : List Step) (values : Values) (indices : List ℕ) (l : Lit) → AreSteps clauses n steps values indices → 1 ≤ l.var → l.var ≤ n → given values l.var ≡ None → IsRightStep clauses steps (record { lit = l; reason = None })
-decision-right clauses n steps values indices l h low high free =
+pub decision-right : (clauses : List (List Lit)) (n : ℕ) (steps : List Step) (values : Values) (indices decisions : List ℕ) (l : Lit) → AreSteps clauses n steps values indices decisions → 1 ≤ l.var → l.var ≤ n → given values l.var ≡ None → IsRightStep clauses steps (record { lit = l; reason = None })
+decision-right clauses n steps values indices decisions l h low high free =
     record { free = h.shows l.var low high ∙ free; forced = λ id is. absurd (no-id id is) }
   where
     no-id : (id : ℕ) → None ≡ Some id → ⊥
     no-id id e = cc
 
 -- what holds by the values holds by the steps
-pub closed-held : (clauses : List (List Lit)) (n : ℕ) (steps : List Step) (values : Values) (indices : List ℕ) → AreSteps clauses n steps values indices → AreOver n clauses → IsClosed (given values) clauses → IsClosed (trail_values steps) clauses
-closed-held clauses n steps values indices h exist closed = λ k d few.
-    open-agrees (given values) (trail_values steps) (get_or clauses k d) (agree clauses n steps values indices (get_or clauses k d) h (exist k d few)) (closed k d few)
+pub closed-held : (clauses : List (List Lit)) (n : ℕ) (steps : List Step) (values : Values) (indices decisions : List ℕ) → AreSteps clauses n steps values indices decisions → AreOver n clauses → IsClosed (given values) clauses → IsClosed (trail_values steps) clauses
+closed-held clauses n steps values indices decisions h exist closed = λ k d few.
+    open-agrees (given values) (trail_values steps) (get_or clauses k d) (agree clauses n steps values indices decisions (get_or clauses k d) h (exist k d few)) (closed k d few)
 
-pub falsified-held : (clauses : List (List Lit)) (n : ℕ) (steps : List Step) (values : Values) (indices : List ℕ) (id : ℕ) → AreSteps clauses n steps values indices → AreOver n clauses → IsFalsified (given values) clauses id → IsFalseClause (trail_values steps) (clause_at clauses id)
-falsified-held clauses n steps values indices id h over r =
-    false-agrees (given values) (trail_values steps) (clause_at clauses id) (agree clauses n steps values indices (clause_at clauses id) h (clause-exists clauses n id over r.low r.high)) r.false'
+pub falsified-held : (clauses : List (List Lit)) (n : ℕ) (steps : List Step) (values : Values) (indices decisions : List ℕ) (id : ℕ) → AreSteps clauses n steps values indices decisions → AreOver n clauses → IsFalsified (given values) clauses id → IsFalseClause (trail_values steps) (clause_at clauses id)
+falsified-held clauses n steps values indices decisions id h over r =
+    false-agrees (given values) (trail_values steps) (clause_at clauses id) (agree clauses n steps values indices decisions (clause_at clauses id) h (clause-exists clauses n id over r.low r.high)) r.false'
 
 pub propagates-push : (old new new' : List Step) (step : Step) → Propagates old new → new' ≡ new ++ step ∷ [] → (step.reason ≢ None) → Propagates old new'
 propagates-push old new new' step (added, is, forced) is' some = (
@@ -202,11 +207,11 @@ decided-closed clauses old new step closed now is =
     ])
 
 -- no step at all
-pub steps-none : (clauses : List (List Lit)) (n : ℕ) (steps : List Step) (values : Values) (indices : List ℕ) → steps ≡ [] → values ≡ replicate n Unassigned → indices ≡ replicate n 0 → AreSteps clauses n steps values indices
+pub steps-none : (clauses : List (List Lit)) (n : ℕ) (steps : List Step) (values : Values) (indices decisions : List ℕ) → steps ≡ [] → values ≡ replicate n Unassigned → indices ≡ replicate n 0 → decisions ≡ [] → AreSteps clauses n steps values indices decisions
 unfolding given
-steps-none clauses n steps values indices is-steps is-values is-indices =
-    subst (λ (ss : List Step). AreSteps clauses n ss values indices) (sym is-steps)
-    (subst (λ (vs : Values). AreSteps clauses n [] vs indices) (sym is-values)
+steps-none clauses n steps values indices decisions is-steps is-values is-indices is-decisions =
+    subst (λ (ss : List Step). AreSteps clauses n ss values indices decisions) (sym is-steps)
+    (subst (λ (vs : Values). AreSteps clauses n [] vs indices decisions) (sym is-values)
     (record {
       trail = λ k d few. absurd (omega (arith, few));
       exist = All-nil (λ (s : Step). IsLitOf n s.lit);
@@ -215,4 +220,5 @@ steps-none clauses n steps values indices is-steps is-values is-indices =
       room = (let all = sum_by-replicate (λ (o : Value). cond {A = ℕ} (is_free o) 1 0) n Unassigned in omega arith);
       slots = ap length is-indices ∙ length-replicate n 0;
       placed = λ k d few. absurd (omega (arith, few));
+      decided = is-decisions;
     }))

@@ -86,11 +86,11 @@ kept-late clauses n steps i first d a b last few h marked why k =
     ]
 
 -- **a step that is kept**
-pub walked-keep : (clauses : List (List Lit)) (n : ℕ) (steps : List Step) (values : List Value) (indices : List ℕ) (i first : ℕ) (d : Step) (a b : Analysis)
-    → AreSteps clauses n steps values indices → IsDecisionOrEnd steps first → IsLastDecision steps a.last → i < length steps
+pub walked-keep : (clauses : List (List Lit)) (n : ℕ) (steps : List Step) (values : List Value) (indices decisions : List ℕ) (i first : ℕ) (d : Step) (a b : Analysis)
+    → AreSteps clauses n steps values indices decisions → IsDecisionOrEnd steps first → IsLastDecision steps a.last → i < length steps
     → IsWalked clauses n steps (i + 1) a → is_marked a.seen.items i ≡ true → ((get_or steps i d).reason ≡ None) ⊎ IsKeptAt first a.last a.at_last_level i
     → KeepsStep i (get_or steps i d).lit a b → IsWalked clauses n steps i b
-walked-keep clauses n steps values indices i first d a b s is-first last few h marked why k =
+walked-keep clauses n steps values indices decisions i first d a b s is-first last few h marked why k =
     let l = (get_or steps i d).lit in
     let size = h.size in
     let zero' = kept-late clauses n steps i first d a b last few h marked why k in
@@ -145,10 +145,10 @@ walked-keep clauses n steps values indices i first d a b s is-first last few h m
     }
 
 -- the steps of a reason's literals are before the step or the step itself
-pub reason-steps : (clauses : List (List Lit)) (n : ℕ) (steps : List Step) (values : List Value) (indices : List ℕ) (i id : ℕ) (d : Step)
-    → AreSteps clauses n steps values indices → AreOver n clauses → i < length steps → IsReason (trail_values (take i steps)) clauses id (get_or steps i d).lit
+pub reason-steps : (clauses : List (List Lit)) (n : ℕ) (steps : List Step) (values : List Value) (indices decisions : List ℕ) (i id : ℕ) (d : Step)
+    → AreSteps clauses n steps values indices decisions → AreOver n clauses → i < length steps → IsReason (trail_values (take i steps)) clauses id (get_or steps i d).lit
     → All (IsStepOf indices (i + 1)) (clause_at clauses id)
-reason-steps clauses n steps values indices i id d s over few reason k e few' =
+reason-steps clauses n steps values indices decisions i id d s over few reason k e few' =
     let c = clause_at clauses id in
     let m = get_or c k e in
     let at = clause-exists clauses n id over reason.low reason.high k e few' in
@@ -167,15 +167,15 @@ reason-steps clauses n steps values indices i id d s over few reason k e few' =
     record { above = at.above; within = omega arith; before = before }
 
 -- **a step that is resolved**
-pub walked-resolve : (clauses : List (List Lit)) (n : ℕ) (steps : List Step) (values : List Value) (indices : List ℕ) (i id : ℕ) (d : Step) (a b : Analysis)
-    → AreSteps clauses n steps values indices → AreOver n clauses → i < length steps → IsWalked clauses n steps (i + 1) a → is_marked a.seen.items i ≡ true
+pub walked-resolve : (clauses : List (List Lit)) (n : ℕ) (steps : List Step) (values : List Value) (indices decisions : List ℕ) (i id : ℕ) (d : Step) (a b : Analysis)
+    → AreSteps clauses n steps values indices decisions → AreOver n clauses → i < length steps → IsWalked clauses n steps (i + 1) a → is_marked a.seen.items i ≡ true
     → IsReason (trail_values (take i steps)) clauses id (get_or steps i d).lit → (a.last ≤ i → a.at_last_level ≢ 1) → Resolves clauses indices id i a b → IsWalked clauses n steps i b
-walked-resolve clauses n steps values indices i id d a b s over few h marked reason more r =
+walked-resolve clauses n steps values indices decisions i id d a b s over few h marked reason more r =
     let size = h.size in
     let mid-size = r.needs.size in
     let count = h.count in
     let added = r.needs.count in
-    let mid-clear : AreUnmarked (i + 1) r.mid = r.needs.only (i + 1) (reason-steps clauses n steps values indices i id d s over few reason) h.clear in
+    let mid-clear : AreUnmarked (i + 1) r.mid = r.needs.only (i + 1) (reason-steps clauses n steps values indices decisions i id d s over few reason) h.clear in
     let now : b.at_last_level ≡ last_level_count a.last (set r.mid i false) = r.at_last_level ∙ ap (λ (m : ℕ). last_level_count m b.seen.items) r.last ∙ ap (last_level_count a.last) r.seen in
     record {
       size = ap length r.seen ∙ length-set r.mid i false ∙ mid-size ∙ size;

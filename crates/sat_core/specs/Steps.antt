@@ -1,6 +1,6 @@
 -- The literals that the search made true, in order, each by decision or by a clause that is unit for it: the field's
 -- trail. This project's own form; no public clause cites it.
-use Rattle.std.specs.Prelude.{◌≡◌, ◌≢◌, ℕ, ◌+◌, ◌-◌, ◌<◌, ◌≤◌, List, ◌++◌, map, length, take, Option, Some, None, Bool, true, false, is_none, slice_index}
+use Rattle.std.specs.Prelude.{◌≡◌, ◌≢◌, ℕ, ◌+◌, ◌-◌, ◌<◌, ◌≤◌, List, [], ◌∷◌, ◌++◌, map, length, take, Option, Some, None, Bool, true, false, is_none, slice_index}
 use Rattle.std.specs.List.{slice_index_or, All, count_by}
 use Rattle.cnf_core.specs.declared.literal.Lit.{Lit}
 use Rattle.cnf_core.specs.Formula.{IsLitOf}
@@ -48,9 +48,22 @@ abbrev pub IsTrail : List (List Lit) → List Step → Type 0
 IsTrail clauses steps =
     (k : ℕ) (d : Step) → k < length steps → IsRightStep clauses (take k steps) (slice_index_or steps k d)
 
--- steps over n variables, the values that they gave, and the place of each step by its variable
+-- the indices, with this one before them where there is no reason
+abbrev pub with_decision : Option ℕ → ℕ → List ℕ → List ℕ
+with_decision None k ks = k ∷ ks
+with_decision (Some id) k ks = ks
+
+-- the trail indices of the decisions, rising, where the first step has index k
+abbrev pub decision_indices_from : ℕ → List Step → List ℕ
+decision_indices_from k [] = []
+decision_indices_from k (step ∷ steps) = with_decision step.reason k (decision_indices_from (k + 1) steps)
+
+abbrev pub decision_indices : List Step → List ℕ
+decision_indices steps = decision_indices_from 0 steps
+
+-- steps over n variables, the values that they gave, the trail index of each variable's step, and those of the decisions
 pub record AreSteps (clauses : List (List Lit)) (n : ℕ) (steps : List Step) (values : List Value)
-    (indices : List ℕ) : Type 0 where
+    (indices decisions : List ℕ) : Type 0 where
   pub trail : IsTrail clauses steps
   pub exist : All (λ (s : Step). IsLitOf n s.lit) steps
   pub size : length values ≡ n
@@ -58,9 +71,11 @@ pub record AreSteps (clauses : List (List Lit)) (n : ℕ) (steps : List Step) (v
   pub room : length steps + count_by is_free values ≡ n
   pub slots : length indices ≡ n
   pub placed : (k : ℕ) (d : Step) → k < length steps → slice_index indices ((slice_index_or steps k d).lit.var - 1) ≡ k
+  pub decided : decisions ≡ decision_indices steps
 
 abbrev pub IsTrailState : List (List Lit) → ℕ → Trail → Type 0
-IsTrailState clauses n trail = AreSteps clauses n trail.steps.items trail.values.items trail.indices.items
+IsTrailState clauses n trail =
+    AreSteps clauses n trail.steps.items trail.values.items trail.indices.items trail.decisions.items
 
 -- how many variables there are
 abbrev pub var_count : Trail → ℕ

@@ -79,7 +79,7 @@ fn analyze(alloc: Global, clauses: &Clauses, trail: &Trail, id: u32) -> Result<A
     ensures back { IfOk result (λ a. IsDecisionOrEnd trail.now.steps.items a.backjump) }
 {
     let count = trail.steps.len();
-    let first = first_decision(&trail.steps);
+    let first = trail.first_decision();
     let mut analysis = start(alloc, clauses, trail, id)?;
     let mut place = count;
     while analysis.lowest < place {
@@ -104,7 +104,7 @@ fn start(alloc: Global, clauses: &Clauses, trail: &Trail, id: u32) -> Result<Ana
     ensures stays { IfOk result (λ a. a.backjump ≡ length trail.now.steps.items) }
 {
     let count = trail.steps.len();
-    let last = last_decision(&trail.steps);
+    let last = trail.last_decision();
     let mut seen = vec![in alloc; false; count]?;
     let clause = clauses.get((id - 1) as usize);
     let at_last_level = mark_clause(clause, &trail.indices, last, seen.as_mut_slice());
@@ -118,33 +118,6 @@ fn start(alloc: Global, clauses: &Clauses, trail: &Trail, id: u32) -> Result<Ana
         hints: Vec::new(alloc),
         backjump: count,
     })
-}
-
-/// The place of the first decision, or the number of steps.
-fn first_decision(steps: &[Step]) -> usize
-    ensures decides { IsDecisionOrEnd steps.now result }
-    ensures before { (k : ℕ) (d : Taken) → k < result → (slice_index_or steps.now k d).reason ≢ None }
-{
-    for place in 0..steps.len() {
-        if steps[place].reason.is_none() {
-            return place;
-        }
-    }
-    steps.len()
-}
-
-/// The place of the last decision, or the number of steps.
-fn last_decision(steps: &[Step]) -> usize
-    ensures { IsLastDecision steps.now result }
-{
-    let count = steps.len();
-    for back in 0..count {
-        let place = count - 1 - back;
-        if steps[place].reason.is_none() {
-            return place;
-        }
-    }
-    count
 }
 
 /// Marks the steps of a clause's literals. How many of the last level weren't marked before.

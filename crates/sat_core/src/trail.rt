@@ -1,10 +1,12 @@
 // The literals that were made true, in order, and the value of each variable.
-ghost use Rattle.std.specs.Prelude.{◌≡◌, ℕ, ◌≤◌, ◌↔◌, [], ◌∷◌, ◌++◌, List, length, IsTrue, take, OnOk, IfOk, Some, slice_set, MatchOption};
-ghost use Rattle.std.specs.List.{All};
+ghost use Rattle.std.specs.Prelude.{◌≡◌, ◌≢◌, ℕ, ◌<◌, ◌≤◌, ◌↔◌, [], ◌∷◌, ◌++◌, List, length, IsTrue, take, OnOk, IfOk, Some, None, slice_set, MatchOption};
+ghost use Rattle.std.specs.List.{All, slice_index_or};
+ghost use Rattle.sat_core.specs.declared.trail.Step.{Step as Taken};
 ghost use Rattle.cnf_core.specs.declared.literal.Lit.{Lit as Literal};
 ghost use Rattle.cnf_core.specs.Formula.{IsLitOf};
 ghost use Rattle.cnf_core.specs.Values.{IsHeld, IsFalse};
-ghost use Rattle.sat_core.specs.Steps.{value_of, is_free, given, IsTrailState, IsRightStep, var_count};
+ghost use Rattle.sat_core.specs.Steps.{value_of, is_free, given, with_decision, decision_indices, IsTrailState, IsRightStep, var_count};
+ghost use Rattle.sat_core.specs.Walks.{IsLastDecision, IsDecisionOrEnd};
 ghost use Rattle.sat_core.specs.Watches.{IsFalseFrom};
 
 use cnf_core::{Lit, Values};
@@ -61,13 +63,15 @@ pub(crate) struct Step {
     pub(crate) reason: Option<u32>,
 }
 
-/// The steps so far, the value of each variable, and the place of its step on the trail, which stays when the step is
-/// taken back.
+/// The steps so far, the value of each variable, and the trail index of its step, which stays when the step is taken
+/// back.
 #[derive(Drop)]
 pub(crate) struct Trail {
     pub(crate) steps: Vec<Step>,
     pub(crate) values: Vec<Value>,
     pub(crate) indices: Vec<usize>,
+    /// The trail indices of the decisions, rising: where each decision level begins.
+    pub(crate) decisions: Vec<usize>,
 }
 
 impl Values for Trail {
@@ -93,6 +97,7 @@ impl Trail {
             steps: Vec::new(alloc),
             values,
             indices,
+            decisions: Vec::new(alloc),
         })
     }
 
@@ -128,6 +133,33 @@ impl Trail {
         }
     }
 
+    /// The trail index of the first decision, or the number of steps.
+    pub(crate) fn first_decision(&self) -> usize
+        requires decided { self.now.decisions.items ≡ decision_indices self.now.steps.items }
+        ensures decides { IsDecisionOrEnd self.now.steps.items result }
+        ensures before { (k : ℕ) (d : Taken) → k < result
+            → (slice_index_or self.now.steps.items k d).reason ≢ None }
+    {
+        if self.decisions.is_empty() {
+            self.steps.len()
+        } else {
+            self.decisions[0]
+        }
+    }
+
+    /// The trail index of the last decision, or the number of steps.
+    pub(crate) fn last_decision(&self) -> usize
+        requires decided { self.now.decisions.items ≡ decision_indices self.now.steps.items }
+        ensures { IsLastDecision self.now.steps.items result }
+    {
+        let count = self.decisions.len();
+        if count == 0 {
+            self.steps.len()
+        } else {
+            self.decisions[count - 1]
+        }
+    }
+
     /// Makes a free literal true.
     pub(crate) fn assign(&mut self, step: Step) -> Result<(), NoMemory>
         requires exist { IsLitOf (var_count self.old) step.lit }
@@ -142,6 +174,7 @@ impl Trail {
         let index = (step.lit.var - 1) as usize;
         self.values[index] = Value::of(step.lit.positive);
         self.indices[index] = place;
+        add_decision(&mut self.decisions, step, place)?;
         Ok(())
     }
 
@@ -155,7 +188,28 @@ impl Trail {
         while self.steps.len() > count {
             if let Some(step) = self.steps.pop() {
                 self.values[(step.lit.var - 1) as usize] = Value::Unassigned;
+                remove_decision(&mut self.decisions, step);
             }
         }
+    }
+}
+
+/// Adds the trail index of a step where it is a decision.
+fn add_decision(decisions: &mut Vec<usize>, step: Step, index: usize) -> Result<(), NoMemory>
+    ensures { OnOk result (decisions.new.items ≡ decisions.old.items ++ with_decision step.reason index []) }
+{
+    if step.reason.is_none() {
+        decisions.push(index)?;
+    }
+    Ok(())
+}
+
+/// Removes the trail index of the last step where it is a decision.
+fn remove_decision(decisions: &mut Vec<usize>, step: Step)
+    ensures { (front : List Taken) → decisions.old.items ≡ decision_indices (front ++ step ∷ [])
+        → decisions.new.items ≡ decision_indices front }
+{
+    if step.reason.is_none() {
+        decisions.pop();
     }
 }

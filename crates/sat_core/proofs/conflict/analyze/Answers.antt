@@ -1,7 +1,6 @@
-use Rattle.std.proofs.Common.{◌≡◌, ◌≢◌, ℕ, ◌+◌, ◌-◌, ◌<◌, List, None, get_or, length, sym, subst, arith}
+use Rattle.std.proofs.Common.{◌≡◌, ℕ, ◌+◌, ◌-◌, length, sym, subst, arith}
 use Rattle.std.specs.Prelude.{reverse}
 use Rattle.cnf_core.specs.Refutation.{clause_at}
-use Rattle.sat_core.specs.declared.trail.Step.{Step}
 use Rattle.sat_core.specs.declared.conflict.Analysis.{Analysis}
 use Rattle.sat_core.specs.Steps.{var_count}
 use Rattle.sat_core.specs.Walks.{IsLastDecision, IsDecisionOrEnd, IsWalked, LeadsToConflict, IsBackjump, backjump_at_end}
@@ -57,7 +56,7 @@ returns-clause-stays c =
     let h = c.loop-analysis.invariant in
     let t = c.args.trail.now in
     let first = c.first_decision-first.result in
-    let before = subst (λ (ss : List Step). (k : ℕ) (d : Step) → k < first → (get_or ss k d).reason ≢ None) c.deref.ensures.value c.first_decision-first.ensures.before in
+    let before = c.first_decision-first.ensures.before in
     subst (λ (x : Analysis). IsBackjump t.steps.items 0 x.backjump x.lits.items) (sym c.end.ensures)
     (stays-end c.args.clauses.now (var_count t) t.steps.items c.loop-analysis.place first a h.walked before h.stays)
 
@@ -66,6 +65,6 @@ returns-clause-back c =
     let a = c.loop-analysis.analysis in
     let t = c.args.trail.now in
     let first = c.first_decision-first.result in
-    let decides = subst (λ (ss : List Step). IsDecisionOrEnd ss first) c.deref.ensures.value c.first_decision-first.ensures.decides in
+    let decides = c.first_decision-first.ensures.decides in
     subst (λ (x : Analysis). IsDecisionOrEnd t.steps.items x.backjump) (sym c.end.ensures)
     (back-end t.steps.items first (length a.lits.items) a.backjump decides c.loop-analysis.invariant.back)

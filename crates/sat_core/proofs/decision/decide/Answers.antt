@@ -42,5 +42,5 @@ returns-clause-decided g c =
       within = p.within;
       steps = c.in_ok-assign.ensures.steps ∙ ap (λ (x : ℕ). old.steps.items ++ decision_of x ∷ []) p.is;
       state = λ clauses h. c.in_ok-assign.ensures.state clauses h
-          (decision-right clauses (var_count old) old.steps.items values old.indices.items (record { var = c.index.result.now; positive = false }) h p.above p.exists p.free);
+          (decision-right clauses (var_count old) old.steps.items values old.indices.items old.decisions.items (record { var = c.index.result.now; positive = false }) h p.above p.exists p.free);
     }

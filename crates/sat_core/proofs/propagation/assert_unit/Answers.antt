@@ -20,7 +20,7 @@ right c =
     let clauses = c.args.clauses.now in
     let is = at-place clauses c.args.place ∙ get_or_from_slice_get clauses c.args.place c.get.result.now [] c.get.ensures in
     let few = c.requires.place in
-    reason-right clauses (var_count t) t.steps.items t.values.items t.indices.items c.in-Unit.lit (c.args.place + 1) c.requires.state c.requires.exist
+    reason-right clauses (var_count t) t.steps.items t.values.items t.indices.items t.decisions.items c.in-Unit.lit (c.args.place + 1) c.requires.state c.requires.exist
     (record { low = omega arith; high = omega arith; unit = subst (λ (x : List Lit). IsUnit (given t.values.items) x c.in-Unit.lit) (sym is) c.in-Unit.ensures })
 
 pub returns-in_ok-assign-in-Unit-clause-state : goal.returns-in_ok-assign-in-Unit-clause-state

@@ -34,5 +34,5 @@ returns-clause-done c =
     let low = h.watched.within in
     let high = c.loop-watches-test.false in
     let count = c.len.ensures ∙ t.steps.ok.0 in
-    closed-given clauses n t.steps.items t.values.items t.indices.items h.state c.requires.exist
+    closed-given clauses n t.steps.items t.values.items t.indices.items t.decisions.items h.state c.requires.exist
     (kept-closed clauses n t.steps.items w.lists.items w.pairs.items w.head h.watched h.attached (omega arith))

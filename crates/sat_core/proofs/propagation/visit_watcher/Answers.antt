@@ -26,7 +26,7 @@ returns-then-is_true-clause-says c =
     let watcher = c.get-watcher.result in
     let steps = t.steps.items in
     let v = visit-start clauses n steps w.lists.items w.pairs.items w.head l place c.list_place-list.result c.index.result.now watcher c.requires.watched c.requires.exist c.requires.lit c.requires.place c.list_place-list.ensures c.index.ensures c.get-watcher.ensures in
-    (visit-true clauses n steps t.values.items t.indices.items w.lists.items w.pairs.items w.head l place watcher watcher.blocker c.requires.state v v.right.has_blocker (c.is_true.ensures.0 c.if-is_true.true) c.requires.passed, refl)
+    (visit-true clauses n steps t.values.items t.indices.items t.decisions.items w.lists.items w.pairs.items w.head l place watcher watcher.blocker c.requires.state v v.right.has_blocker (c.is_true.ensures.0 c.if-is_true.true) c.requires.passed, refl)
 
 pub returns-then-is_true-2-clause-says : goal.returns-then-is_true-2-clause-says
 returns-then-is_true-2-clause-says c =
@@ -44,7 +44,7 @@ returns-then-is_true-2-clause-says c =
     let w' = c.renew.new.self in
     let list = c.list_place-list.ensures in
     let lists : w'.lists.items ≡ with_blocker w.lists.items (list_of l) place other = c.renew.ensures.lists ∙ ap (λ (k : ℕ). with_blocker w.lists.items k place other) list in
-    let passed = visit-true clauses n steps t.values.items t.indices.items w.lists.items w.pairs.items w.head l place watcher other c.requires.state v o.among (c.is_true-2.ensures.0 c.if-is_true-2.true) c.requires.passed in (
+    let passed = visit-true clauses n steps t.values.items t.indices.items t.decisions.items w.lists.items w.pairs.items w.head l place watcher other c.requires.state v o.among (c.is_true-2.ensures.0 c.if-is_true-2.true) c.requires.passed in (
       subst (λ (k : ℕ). ArePassedIn clauses steps w'.lists.items w'.pairs.items k (list_of l) (place + 1)) (sym c.renew.ensures.head)
           (subst (λ (ls : List (List Watcher)). ArePassedIn clauses steps ls w'.pairs.items w.head (list_of l) (place + 1)) (sym lists)
           (subst (λ (ps : Vec Pair Global). ArePassedIn clauses steps (with_blocker w.lists.items (list_of l) place other) ps.items w.head (list_of l) (place + 1)) (sym c.renew.ensures.pairs)
@@ -152,7 +152,7 @@ returns-in_ok-move_watch-in-Some-clause-watched c =
     let e = c.in_ok-move_watch-in-Some.ensures in
     let removed = subst (λ (k : ℕ). IsRemoved (watchers w.lists.items k) place e.rest) c.list_place-list.ensures e.removed in
     let lists : w'.lists.items ≡ exchanged-lists w.lists.items l e.rest watcher.clause pair = e.lists ∙ ap (λ (k : ℕ). with_watcher (set w.lists.items k e.rest) (list_of pair.b) (record { clause = watcher.clause; blocker = other })) c.list_place-list.ensures in
-    let x = visit-exchange clauses n steps t.values.items t.indices.items w.lists.items w.pairs.items w.head l place watcher other (get_or c.get-clause.result.now c.in-Some.at no_literal) c.in-Some.at c.get-clause.result.now
+    let x = visit-exchange clauses n steps t.values.items t.indices.items t.decisions.items w.lists.items w.pairs.items w.head l place watcher other (get_or c.get-clause.result.now c.in-Some.at no_literal) c.in-Some.at c.get-clause.result.now
     c.requires.state c.requires.watched c.requires.head c.requires.lit v o is (Contains-get_or c.get-clause.result.now c.in-Some.at no_literal c.in-Some.ensures.within) (c.in-Some.ensures.differ no_literal) (c.in-Some.ensures.free no_literal) in
     subst (λ (k : ℕ). KeepWatches clauses n steps w'.lists.items w'.pairs.items k) (sym e.head)
     (subst (λ (ls : List (List Watcher)). KeepWatches clauses n steps ls w'.pairs.items w.head) (sym lists)
@@ -178,7 +178,7 @@ returns-in_ok-move_watch-in-Some-clause-says c =
     let e = c.in_ok-move_watch-in-Some.ensures in
     let removed = subst (λ (k : ℕ). IsRemoved (watchers w.lists.items k) place e.rest) c.list_place-list.ensures e.removed in
     let lists : w'.lists.items ≡ exchanged-lists w.lists.items l e.rest watcher.clause pair = e.lists ∙ ap (λ (k : ℕ). with_watcher (set w.lists.items k e.rest) (list_of pair.b) (record { clause = watcher.clause; blocker = other })) c.list_place-list.ensures in
-    let x = visit-exchange clauses n steps t.values.items t.indices.items w.lists.items w.pairs.items w.head l place watcher other (get_or c.get-clause.result.now c.in-Some.at no_literal) c.in-Some.at c.get-clause.result.now
+    let x = visit-exchange clauses n steps t.values.items t.indices.items t.decisions.items w.lists.items w.pairs.items w.head l place watcher other (get_or c.get-clause.result.now c.in-Some.at no_literal) c.in-Some.at c.get-clause.result.now
     c.requires.state c.requires.watched c.requires.head c.requires.lit v o is (Contains-get_or c.get-clause.result.now c.in-Some.at no_literal c.in-Some.ensures.within) (c.in-Some.ensures.differ no_literal) (c.in-Some.ensures.free no_literal) in (
       subst (λ (k : ℕ). ArePassedIn clauses steps w'.lists.items w'.pairs.items k (list_of l) place) (sym e.head)
           (subst (λ (ls : List (List Watcher)). ArePassedIn clauses steps ls w'.pairs.items w.head (list_of l) place) (sym lists)
@@ -203,7 +203,7 @@ returns-in_ok-assign-in-None-clause-state c =
     let o = visit-other clauses n steps w.lists.items w.pairs.items w.head l place watcher c.index-old.result.now other c.requires.watched v c.index-old.ensures c.other_than-other.ensures in
     let is : c.get-clause.result.now ≡ get_or clauses watcher.clause [] = sym (get_or_from_slice_get clauses watcher.clause c.get-clause.result.now [] c.get-clause.ensures) in
     let r = visit-unit (given t.values.items) clauses watcher.clause c.get-clause.result.now other is v.exists o.among c.in-None.ensures (iff_false c.is_true-2.ensures c.if-is_true-2.false) (iff_false c.is_false.ensures c.if-is_false.false) in
-    let right = reason-right clauses n steps t.values.items t.indices.items other (watcher.clause + 1) c.requires.state c.requires.exist r in
+    let right = reason-right clauses n steps t.values.items t.indices.items t.decisions.items other (watcher.clause + 1) c.requires.state c.requires.exist r in
     c.in_ok-assign-in-None.ensures.state clauses c.requires.state right.1
 
 pub returns-in_ok-assign-in-None-clause-watched : goal.returns-in_ok-assign-in-None-clause-watched
@@ -221,7 +221,7 @@ returns-in_ok-assign-in-None-clause-watched c =
     let o = visit-other clauses n steps w.lists.items w.pairs.items w.head l place watcher c.index-old.result.now other c.requires.watched v c.index-old.ensures c.other_than-other.ensures in
     let is : c.get-clause.result.now ≡ get_or clauses watcher.clause [] = sym (get_or_from_slice_get clauses watcher.clause c.get-clause.result.now [] c.get-clause.ensures) in
     let r = visit-unit (given t.values.items) clauses watcher.clause c.get-clause.result.now other is v.exists o.among c.in-None.ensures (iff_false c.is_true-2.ensures c.if-is_true-2.false) (iff_false c.is_false.ensures c.if-is_false.false) in
-    let right = reason-right clauses n steps t.values.items t.indices.items other (watcher.clause + 1) c.requires.state c.requires.exist r in
+    let right = reason-right clauses n steps t.values.items t.indices.items t.decisions.items other (watcher.clause + 1) c.requires.state c.requires.exist r in
     let done = visit-step clauses n steps c.assign.new.self.steps.items w.lists.items w.pairs.items w.head l place watcher other (watcher.clause + 1) c.requires.head.within c.in_ok-assign-in-None.ensures.steps v o.among right.1 c.requires.watched c.requires.passed in
     done.0
 
@@ -240,6 +240,6 @@ returns-in_ok-assign-in-None-clause-says c =
     let o = visit-other clauses n steps w.lists.items w.pairs.items w.head l place watcher c.index-old.result.now other c.requires.watched v c.index-old.ensures c.other_than-other.ensures in
     let is : c.get-clause.result.now ≡ get_or clauses watcher.clause [] = sym (get_or_from_slice_get clauses watcher.clause c.get-clause.result.now [] c.get-clause.ensures) in
     let r = visit-unit (given t.values.items) clauses watcher.clause c.get-clause.result.now other is v.exists o.among c.in-None.ensures (iff_false c.is_true-2.ensures c.if-is_true-2.false) (iff_false c.is_false.ensures c.if-is_false.false) in
-    let right = reason-right clauses n steps t.values.items t.indices.items other (watcher.clause + 1) c.requires.state c.requires.exist r in
+    let right = reason-right clauses n steps t.values.items t.indices.items t.decisions.items other (watcher.clause + 1) c.requires.state c.requires.exist r in
     let done = visit-step clauses n steps c.assign.new.self.steps.items w.lists.items w.pairs.items w.head l place watcher other (watcher.clause + 1) c.requires.head.within c.in_ok-assign-in-None.ensures.steps v o.among right.1 c.requires.watched c.requires.passed in
     (done.1, refl)

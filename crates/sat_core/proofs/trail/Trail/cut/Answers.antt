@@ -15,10 +15,13 @@ loop-self-preserved-in-Some c =
     let n = var_count c.args.self.now in
     let values = c.loop-self.self.values.items in
     let indices = c.loop-self.self.indices.items in
+    let decisions = c.loop-self.self.decisions.items in
+    let decisions' = c.remove_decision.new.decisions.items in
     let long = length_push front step in
     let more : c.args.count ≤ length front = (let t = c.loop-self-test.true in let size = ap length popped in omega (arith, c.len.ensures, c.loop-self.self.steps.ok.0)) in
     record {
-      state = λ clauses h. steps-pop clauses n front step values indices (subst (λ (ss : List Step). AreSteps clauses n ss values indices) popped (c.loop-self.invariant.state clauses h));
+      state = λ clauses h. steps-pop clauses n front step values indices decisions decisions' (c.remove_decision.ensures front)
+          (subst (λ (ss : List Step). AreSteps clauses n ss values indices decisions) popped (c.loop-self.invariant.state clauses h));
       size = length-set values (step.lit.var - 1) Unassigned ∙ c.loop-self.invariant.size;
       exist = λ k d few. subst (λ (s : Step). IsLitOf n s.lit) (get_or_append_left front (step ∷ []) d k few)
           (subst (λ (ss : List Step). (i : _) → i < length ss → IsLitOf n (get_or ss i d).lit) popped (λ i within. c.loop-self.invariant.exist i d within) k (omega arith));
