@@ -1,6 +1,6 @@
 -- The walk back along the trail that finds the lemma of a conflict, the first unique implication point: this project;
 -- no public clause cites it.
-use Rattle.std.specs.Prelude.{◌≡◌, ◌≢◌, ℕ, ◌+◌, ◌-◌, ◌<◌, ◌≤◌, ◌⊎◌, Bool, true, false, List, [], ◌∷◌, ◌++◌, length, take, drop, reverse, None, is_none, nat_le, ◌&&◌, if◌then◌else◌, slice_index, slice_set}
+use Rattle.std.specs.Prelude.{◌≡◌, ◌≢◌, ℕ, ◌+◌, ◌-◌, ◌<◌, ◌≤◌, ◌⊎◌, Bool, true, false, List, [], ◌∷◌, ◌++◌, length, take, drop, reverse, Some, None, is_none, nat_le, ◌&&◌, if◌then◌else◌, slice_index, slice_set}
 use Rattle.std.specs.List.{slice_index_or, All, count_by}
 use Rattle.cnf_core.specs.declared.literal.Lit.{Lit}
 use Rattle.cnf_core.specs.Formula.{IsLitOf, negated}
@@ -68,6 +68,20 @@ pub record IsTakenBack (old new : List Step) : Type 0 where
 -- why a needed step is kept: it is the only one of the last level, or of an earlier one
 abbrev pub IsKeptAt : ℕ → ℕ → ℕ → ℕ → Type 0
 IsKeptAt first last at_last_level place = ((last ≤ place) × (at_last_level ≡ 1)) ⊎ ((place < last) × (first ≤ place))
+
+-- a literal of a reason adds no step to those that are needed: its step is the one at the place, before any decision, or
+-- needed already
+abbrev pub AddsNoStep : List ℕ → List Bool → ℕ → ℕ → Lit → Type 0
+AddsNoStep indices seen first place l =
+    (trail_index indices l ≡ place) ⊎ (trail_index indices l < first) ⊎ (is_marked seen (trail_index indices l) ≡ true)
+
+-- the step at a place is of an earlier level, and no literal of its reason adds a step
+pub record IsSpareStep (clauses : List (List Lit)) (steps : List Step) (indices : List ℕ) (first place : ℕ)
+    (a : Analysis) : Type 0 where
+  pub id : ℕ
+  pub earlier : place < a.last
+  pub reason : (d : Step) → (slice_index_or steps place d).reason ≡ Some id
+  pub others : All (AddsNoStep indices a.seen.items first place) (clause_at clauses id)
 
 -- the step at a place was kept: the opposite of its literal is in the lemma
 pub record KeepsStep (place : ℕ) (lit : Lit) (old new : Analysis) : Type 0 where

@@ -8,7 +8,7 @@ ghost use Rattle.cnf_core.specs.Refutation.{clause_at, IsAccepted};
 ghost use Rattle.sat_core.specs.Steps.{given, var_count, IsTrailState, AreClosedBefore};
 ghost use Rattle.sat_core.specs.FalseClauses.{IsFalsified};
 ghost use Rattle.sat_core.specs.Conflicts.{GoesOnWith};
-ghost use Rattle.sat_core.specs.Walks.{is_marked, last_level_count, IsStepOf, MarksClause, IsLastDecision, IsDecisionOrEnd, IsKeptAt, IsTakenBack, KeepsStep, Resolves, IsWalked, LeadsBy, IsBackjump, trail_index, backjump_after, backjump_at_end};
+ghost use Rattle.sat_core.specs.Walks.{is_marked, last_level_count, IsStepOf, MarksClause, IsLastDecision, IsDecisionOrEnd, IsKeptAt, IsTakenBack, KeepsStep, Resolves, IsWalked, LeadsBy, IsBackjump, IsSpareStep, AddsNoStep, trail_index, backjump_after, backjump_at_end};
 
 use crate::trail::{Step, Trail};
 use cnf_core::{Clauses, Line, Lit};
@@ -249,6 +249,7 @@ impl Analysis {
         requires state { IsTrailState clauses.now (var_count trail.now) trail.now }
         requires within { place < length trail.now.steps.items }
         requires size { length self.now.seen.items ≡ length trail.now.steps.items }
+        ensures { IsTrue result ↔ IsSpareStep clauses.now trail.now.steps.items trail.now.indices.items first place self.now }
     {
         if self.last <= place {
             return false;
@@ -265,6 +266,7 @@ impl Analysis {
     /// Whether each literal's step is the one at a place, or needed, or before the first decision.
     fn are_seen(&self, clause: &[Lit], indices: &[usize], place: usize, first: usize) -> bool
         requires steps { All (IsStepOf indices.now (length self.now.seen.items)) clause.now }
+        ensures { IsTrue result ↔ All (AddsNoStep indices.now self.now.seen.items first place) clause.now }
     {
         for lit in clause {
             let other = indices[(lit.var - 1) as usize];
@@ -278,9 +280,10 @@ impl Analysis {
     /// The clause with which a needed step is resolved, or none where it is kept. Kept are the last one of the current
     /// level, and those of earlier levels but the steps before any decision and the spare ones.
     fn resolvent(&self, step: Step, place: usize, first: usize, spare: bool) -> Option<u32>
-        ensures { MatchOption result ((step.reason ≡ None)
+        ensures kept { MatchOption result ((step.reason ≡ None)
             ⊎ IsKeptAt first self.now.last self.now.at_last_level place)
             (λ id. (step.reason ≡ Some id) × (self.now.last ≤ place → self.now.at_last_level ≢ 1)) }
+        ensures spared { place < self.now.last → IsTrue spare → result ≡ step.reason }
     {
         let keeps = if self.last <= place {
             self.at_last_level == 1

@@ -24,7 +24,7 @@ pub resolve-requires-clause-steps : goal.resolve-requires-clause-steps
 resolve-requires-clause-steps c =
     let t = c.args.trail.now in
     reason-few c.args.clauses.now (var_count t) t.steps.items t.values.items t.indices.items t.decisions.items c.args.place c.in-Some.id (length c.args.self.now.seen.items) c.index-step.result.now
-    c.requires.state c.requires.exist c.requires.within c.index-step.ensures c.in-Some.ensures.0 c.requires.walked.size
+    c.requires.state c.requires.exist c.requires.within c.index-step.ensures c.in-Some.ensures.kept.0 c.requires.walked.size
 
 pub returns-in-Some-clause-grows : goal.returns-in-Some-clause-grows
 returns-in-Some-clause-grows c =
@@ -42,7 +42,7 @@ returns-in-Some-clause-walked c =
     let marked = mark-read a.seen.items c.args.place c.index.result.now true few c.index.ensures c.if-not-index.false in
     on-ok c.resolve.result (Resolves c.args.clauses.now t.indices.items c.in-Some.id c.args.place a b) (IsWalked c.args.clauses.now (var_count t) t.steps.items c.args.place b)
     (λ r. (settled-resolve c.args.clauses.now (var_count t) t.steps.items t.values.items t.indices.items t.decisions.items c.args.place c.in-Some.id c.index-step.result.now a b
-    c.requires.state c.requires.exist c.requires.within c.requires.walked marked c.index-step.ensures c.in-Some.ensures.0 c.in-Some.ensures.1 r).walked) c.resolve.ensures
+    c.requires.state c.requires.exist c.requires.within c.requires.walked marked c.index-step.ensures c.in-Some.ensures.kept.0 c.in-Some.ensures.kept.1 r).walked) c.resolve.ensures
 
 pub returns-in-Some-clause-leads : goal.returns-in-Some-clause-leads
 returns-in-Some-clause-leads c =
@@ -54,7 +54,7 @@ returns-in-Some-clause-leads c =
     on-ok c.resolve.result (Resolves c.args.clauses.now t.indices.items c.in-Some.id c.args.place a b)
     ((conflict : List Lit) → LeadsToConflict c.args.clauses.now t.steps.items (c.args.place + 1) a.seen.items a.lits.items (reverse a.hints.items) conflict → LeadsToConflict c.args.clauses.now t.steps.items c.args.place b.seen.items b.lits.items (reverse b.hints.items) conflict)
     (λ r. (settled-resolve c.args.clauses.now (var_count t) t.steps.items t.values.items t.indices.items t.decisions.items c.args.place c.in-Some.id c.index-step.result.now a b
-    c.requires.state c.requires.exist c.requires.within c.requires.walked marked c.index-step.ensures c.in-Some.ensures.0 c.in-Some.ensures.1 r).leads) c.resolve.ensures
+    c.requires.state c.requires.exist c.requires.within c.requires.walked marked c.index-step.ensures c.in-Some.ensures.kept.0 c.in-Some.ensures.kept.1 r).leads) c.resolve.ensures
 
 pub returns-in-None-clause-walked : goal.returns-in-None-clause-walked
 returns-in-None-clause-walked c =
@@ -65,7 +65,7 @@ returns-in-None-clause-walked c =
     let marked = mark-read a.seen.items c.args.place c.index.result.now true few c.index.ensures c.if-not-index.false in
     on-ok c.keep.result (KeepsStep c.args.place c.index-step.result.now.lit a b) (IsWalked c.args.clauses.now (var_count t) t.steps.items c.args.place b)
     (λ k. (settled-keep c.args.clauses.now (var_count t) t.steps.items t.values.items t.indices.items t.decisions.items c.args.place c.args.first c.index-step.result.now a b
-    c.requires.state c.requires.first c.requires.last c.requires.within c.requires.walked marked c.index-step.ensures c.in-None.ensures k).walked) c.keep.ensures
+    c.requires.state c.requires.first c.requires.last c.requires.within c.requires.walked marked c.index-step.ensures c.in-None.ensures.kept k).walked) c.keep.ensures
 
 pub returns-in-None-clause-leads : goal.returns-in-None-clause-leads
 returns-in-None-clause-leads c =
@@ -77,4 +77,4 @@ returns-in-None-clause-leads c =
     on-ok c.keep.result (KeepsStep c.args.place c.index-step.result.now.lit a b)
     ((conflict : List Lit) → LeadsToConflict c.args.clauses.now t.steps.items (c.args.place + 1) a.seen.items a.lits.items (reverse a.hints.items) conflict → LeadsToConflict c.args.clauses.now t.steps.items c.args.place b.seen.items b.lits.items (reverse b.hints.items) conflict)
     (λ k. (settled-keep c.args.clauses.now (var_count t) t.steps.items t.values.items t.indices.items t.decisions.items c.args.place c.args.first c.index-step.result.now a b
-    c.requires.state c.requires.first c.requires.last c.requires.within c.requires.walked marked c.index-step.ensures c.in-None.ensures k).leads) c.keep.ensures
+    c.requires.state c.requires.first c.requires.last c.requires.within c.requires.walked marked c.index-step.ensures c.in-None.ensures.kept k).leads) c.keep.ensures
