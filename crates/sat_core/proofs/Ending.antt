@@ -1,7 +1,7 @@
 -- What the walk found at the trail's first step: the line of the conflict, that it is fresh, and the trail that stays.
-use Rattle.std.proofs.Common.{◌≡◌, ◌≢◌, ℕ, ◌+◌, ◌-◌, ◌<◌, ◌≤◌, Bool, true, false, not, List, [], ◌∷◌, ◌++◌, length, take, get_or, refl, sym, ap, ◌∙◌, subst, arith, inl, inr, suc, zero, Some, None, append-nil}
+use Rattle.std.proofs.Common.{◌≡◌, ◌≢◌, ℕ, ◌+◌, ◌-◌, ◌<◌, ◌≤◌, ◌⊎◌, Bool, true, false, not, List, [], ◌∷◌, ◌++◌, length, take, get_or, refl, sym, ap, ◌∙◌, subst, arith, inl, inr, suc, zero, Some, None, append-nil}
 use Rattle.std.specs.Prelude.{reverse, slice_index, replicate}
-use Rattle.std.specs.List.{All}
+use Rattle.std.specs.List.{All, Contains}
 use Rattle.std.proofs.lemmas.Bool.{cases_lt}
 use Rattle.std.proofs.lemmas.List.{take_at, get_or_at, length_push, length-append, get_or_append_left, get_or-take, length-take, take-take, reverse-append, get_or-replicate, length-replicate}
 use Rattle.std.proofs.lemmas.List.Elements.{All-nil, All-cons, All-head, All-tail, All-push, All-weaker, All-contains}
@@ -17,7 +17,7 @@ use Rattle.sat_core.specs.declared.trail.Value.{Value}
 use Rattle.sat_core.specs.Steps.{given, trail_values, IsTrailState, AreSteps, AreClosedBefore}
 use Rattle.sat_core.specs.FalseClauses.{IsFalsified}
 use Rattle.sat_core.specs.Conflicts.{GoesOnWith}
-use Rattle.sat_core.specs.Walks.{trail_index, IsStepOf, is_marked, last_level_count, AreUnmarked, IsLastDecision, IsAsserting, IsWalked, MarksClause, LeadsToConflict, IsBackjump}
+use Rattle.sat_core.specs.Walks.{AreNoMarks, trail_index, IsStepOf, is_marked, last_level_count, IsLastDecision, IsAsserting, IsWalked, MarksClause, LeadsToConflict, IsBackjump}
 use Rattle.sat_core.proofs.Holding.{none≢some, held-whole, held-at, step-of}
 use Rattle.sat_core.proofs.States.{clause-exists, falsified-held}
 use Rattle.sat_core.proofs.Marking.{late-clear, late-some}
@@ -39,7 +39,7 @@ false-steps clauses n steps values indices decisions c s exist false' k d few =
 -- a false clause that was open before a decision has a literal of the last level
 late-literal : (clauses : List (List Lit)) (n : ℕ) (steps : List Step) (values : List Value) (indices decisions : List ℕ) (last : ℕ) (c : List Lit) (seen : List Bool)
     → AreSteps clauses n steps values indices decisions → All (IsLitOf n) c → IsFalseClause (trail_values steps) c → IsOpenClause (trail_values (take last steps)) c
-    → All (λ l. is_marked seen (trail_index indices l) ≡ true) c → length seen ≡ length steps → 1 ≤ last_level_count last seen
+    → All (λ l. is_marked seen (trail_index indices l) ≡ true) c → length steps ≤ length seen → 1 ≤ last_level_count last seen
 late-literal clauses n steps values indices decisions last c seen s exist false' open' marked size =
     elim open' [
       | inl one ↦
@@ -69,24 +69,33 @@ late-literal clauses n steps values indices decisions last c seen s exist false'
 -- **at the end of the trail**
 pub walked-start : (clauses : List (List Lit)) (n : ℕ) (steps : List Step) (values : List Value) (indices decisions : List ℕ) (id last at_last_level added : ℕ) (old : List Bool) (c : List Lit) (a : Analysis)
     → AreSteps clauses n steps values indices decisions → AreOver n clauses → AreClosedBefore clauses steps → IsFalsified (given values) clauses id → IsLastDecision steps last
-    → c ≡ clause_at clauses id → old ≡ replicate (length steps) false → MarksClause indices c c last old a.seen.items added → All (λ l. a.lowest ≤ trail_index indices l) c
+    → c ≡ clause_at clauses id → AreNoMarks n old → MarksClause indices c c last old a.seen.items added → All (λ l. a.lowest ≤ trail_index indices l) c
+    → (a.lowest ≡ length steps) ⊎ ((l : Lit) × Contains c l × (a.lowest ≡ trail_index indices l))
     → a.at_last_level ≡ added → a.last ≡ last → a.lits.items ≡ [] → a.hints.items ≡ []
     → IsWalked clauses n steps (length steps) a × LeadsToConflict clauses steps (length steps) a.seen.items a.lits.items (reverse a.hints.items) (clause_at clauses id)
-walked-start clauses n steps values indices decisions id last at_last_level added old c a s over before f is-last is-c is-old needs lowest is-late last-is no-lits no-hints =
+walked-start clauses n steps values indices decisions id last at_last_level added old c a s over before f is-last is-c is-old needs lowest reached is-late last-is no-lits no-hints =
     let c' = clause_at clauses id in
     let false' = falsified-held clauses n steps values indices decisions id s over f in
     let exist = clause-exists clauses n id over f.low f.high in
     let needs' : MarksClause indices c' c' last old a.seen.items added = subst (λ (x : List Lit). MarksClause indices x x last old a.seen.items added) is-c needs in
-    let old-size : length old ≡ length steps = ap length is-old ∙ length-replicate (length steps) false in
-    let old-clear : AreUnmarked 0 old = λ k low. ap (λ (xs : List Bool). is_marked xs k) is-old ∙ replicate-clear (length steps) k in
-    let size : length a.seen.items ≡ length steps = needs'.size ∙ old-size in
+    let old-clear = is-old.clear in
+    let size : length a.seen.items ≡ n = needs'.size ∙ is-old.size in
+    let room : length steps ≤ n = (let all = s.room in omega arith) in
     let none = late-clear last old (λ k low. old-clear k (omega arith)) in
     let count = needs'.count in
     record-pair
     (record {
       size = size;
+      room = room;
       clear = needs'.only (length steps) (false-steps clauses n steps values indices decisions c' s exist false') (λ k low. old-clear k (omega arith));
       below = needs'.below a.lowest (subst (All (λ l. a.lowest ≤ trail_index indices l)) is-c lowest) (λ k low. old-clear k (omega arith));
+      reached = λ before. elim reached [
+        | inl same ↦ absurd (omega arith)
+        | inr one ↦
+            (let (l, there, at) = one in
+            subst (λ (m : ℕ). is_marked a.seen.items m ≡ true) (sym at)
+            (All-contains (λ x. is_marked a.seen.items (trail_index indices x) ≡ true) c' l needs'.all (subst (λ (x : List Lit). Contains x l) is-c there)))
+      ];
       count = (let e : added ≡ last_level_count last a.seen.items = omega arith in is-late ∙ e ∙ ap (λ (m : ℕ). last_level_count m a.seen.items) (sym last-is));
       exist = subst (All (IsLitOf n)) (sym no-lits) (All-nil (IsLitOf n));
       free = subst (All (λ (l : Lit). trail_values (take (length steps) steps) l.var ≡ None)) (sym no-lits) (All-nil (λ (l : Lit). trail_values (take (length steps) steps) l.var ≡ None));
@@ -97,7 +106,7 @@ walked-start clauses n steps values indices decisions id last at_last_level adde
           (let e : Step = record { lit = record { var = 0; positive = false }; reason = None } in
           let in' : last < length steps = omega arith in
           let closed = before last e in' (is-last.decides e in') in
-          let some = late-literal clauses n steps values indices decisions last c' a.seen.items s exist false' (closed (id - 1) [] (let h = f.high in let l = f.low in omega arith)) needs'.all size in
+          let some = late-literal clauses n steps values indices decisions last c' a.seen.items s exist false' (closed (id - 1) [] (let h = f.high in let l = f.low in omega arith)) needs'.all (omega arith) in
           absurd (omega arith));
       root = λ forced. no-lits;
     })
@@ -109,18 +118,23 @@ walked-start clauses n steps values indices decisions id last at_last_level adde
         → IsWalked clauses n steps (length steps) a × LeadsToConflict clauses steps (length steps) a.seen.items a.lits.items (reverse a.hints.items) (clause_at clauses id)
     record-pair x y = (x, y)
 
-    replicate-clear : (n k : ℕ) → get_or (replicate n false) k false ≡ false
-    replicate-clear n k =
-        elim (cases_lt k n) [
-          | inl few ↦ get_or-replicate n k false false few
-          | inr past ↦ past-end (replicate n false) k (let e = length-replicate n false in omega arith)
-        ]
-      where
-        past-end : (xs : List Bool) (k : ℕ) → length xs ≤ k → get_or xs k false ≡ false
-        past-end [] zero past = refl
-        past-end [] (suc k) past = refl
-        past-end (x ∷ xs) zero past = absurd (omega (arith, past))
-        past-end (x ∷ xs) (suc k) past = past-end xs k (omega arith)
+past-end : (xs : List Bool) (k : ℕ) → length xs ≤ k → get_or xs k false ≡ false
+past-end [] zero past = refl
+past-end [] (suc k) past = refl
+past-end (x ∷ xs) zero past = absurd (omega (arith, past))
+past-end (x ∷ xs) (suc k) past = past-end xs k (omega arith)
+
+-- before the first conflict
+pub marks-none : (n : ℕ) (seen : List Bool) → seen ≡ replicate n false → AreNoMarks n seen
+marks-none n seen is =
+    let size = ap length is ∙ length-replicate n false in
+    record {
+      size = size;
+      clear = λ k low. elim (cases_lt k n) [
+        | inl few ↦ ap (λ (xs : List Bool). is_marked xs k) is ∙ get_or-replicate n k false false few
+        | inr past ↦ past-end seen k (omega arith)
+      ];
+    }
 
 -- names in the other order
 names-reverse : (clauses : List (List Lit)) (hints : List ℕ) → AreNames (length clauses) hints → AreNames (length clauses) (reverse hints)

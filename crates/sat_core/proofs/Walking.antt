@@ -3,8 +3,8 @@ use Rattle.std.proofs.Common.{◌≡◌, ◌≢◌, ℕ, ◌+◌, ◌-◌, ◌<�
 use Rattle.std.specs.Prelude.{is_none, nat_le, ◌&&◌}
 use Rattle.std.specs.List.{All}
 use Rattle.std.proofs.lemmas.Bool.{cases_Bool, cases_eq, cases_lt, cond-true, cond-false, false≢true}
-use Rattle.std.proofs.lemmas.List.{length-set, get_or-take, length-take, get_or_default}
-use Rattle.std.proofs.lemmas.List.Elements.{All-nil, All-push, All-weaker, Contains-append_left}
+use Rattle.std.proofs.lemmas.List.{length-set, get_or-set_other, get_or-take, length-take, get_or_default}
+use Rattle.std.proofs.lemmas.List.Elements.{All-nil, All-push, All-weaker, All-contains, Contains-append_left}
 use Rattle.std.proofs.lemmas.List.Quantifiers.{all_pairs_push}
 use Rattle.cnf_core.specs.declared.literal.Lit.{Lit}
 use Rattle.cnf_core.specs.Formula.{IsLitOf, AreOver, negated}
@@ -30,11 +30,13 @@ pub walked-skip : (clauses : List (List Lit)) (n : ℕ) (steps : List Step) (i :
 walked-skip clauses n steps i a h unmarked =
     record {
       size = h.size;
+      room = h.room;
       clear = λ k low. elim (cases_eq k i) [
         | inl same ↦ ap (is_marked a.seen.items) same ∙ unmarked
         | inr other ↦ h.clear k (omega arith)
       ];
       below = h.below;
+      reached = λ before. h.reached (omega arith);
       count = h.count;
       exist = h.exist;
       free = free-weaker steps i a.lits.items h.free;
@@ -54,11 +56,12 @@ clear-late : (i last : ℕ) (seen : List Bool) → i ≤ last → AreUnmarked i 
 clear-late i last seen low clear k above = clear k (omega arith)
 
 -- no step of the last level but this one was needed
-kept-late : (clauses : List (List Lit)) (n : ℕ) (steps : List Step) (i first : ℕ) (d : Step) (a b : Analysis)
+kept-late : (clauses : List (List Lit)) (n : ℕ) (steps : List Step) (i first : ℕ) (spare : Bool) (d : Step) (a b : Analysis)
     → IsLastDecision steps a.last → i < length steps → IsWalked clauses n steps (i + 1) a → is_marked a.seen.items i ≡ true
-    → ((get_or steps i d).reason ≡ None) ⊎ IsKeptAt first a.last a.at_last_level i → KeepsStep i (get_or steps i d).lit a b → b.at_last_level ≡ 0
-kept-late clauses n steps i first d a b last few h marked why k =
+    → ((get_or steps i d).reason ≡ None) ⊎ IsKeptAt first a.last a.at_last_level i spare → KeepsStep i (get_or steps i d).lit a b → b.at_last_level ≡ 0
+kept-late clauses n steps i first spare d a b last few h marked why k =
     let size = h.size in
+    let room = h.room in
     let seen = a.seen.items in
     let now : b.at_last_level ≡ last_level_count a.last (set seen i false) =
     k.at_last_level ∙ ap (λ (m : ℕ). last_level_count m b.seen.items) k.last ∙ ap (last_level_count a.last) k.seen in
@@ -79,28 +82,34 @@ kept-late clauses n steps i first d a b last few h marked why k =
                 late-one a.last seen (omega arith) (subst (λ (j : ℕ). is_marked seen j ≡ true) at marked) (subst (λ (j : ℕ). AreUnmarked (j + 1) seen) at h.clear))
             | inr kept ↦ elim kept [
               | inl alone ↦ sym count ∙ alone.1
-              | inr earlier ↦ (let below = earlier.0 in absurd (omega arith))
+              | inr earlier ↦ (let (below, from, kept) = earlier in absurd (omega arith))
             ]
           ] in
           omega arith)
     ]
 
 -- **a step that is kept**
-pub walked-keep : (clauses : List (List Lit)) (n : ℕ) (steps : List Step) (values : List Value) (indices decisions : List ℕ) (i first : ℕ) (d : Step) (a b : Analysis)
+pub walked-keep : (clauses : List (List Lit)) (n : ℕ) (steps : List Step) (values : List Value) (indices decisions : List ℕ) (i first : ℕ) (spare : Bool) (d : Step) (a b : Analysis)
     → AreSteps clauses n steps values indices decisions → IsDecisionOrEnd steps first → IsLastDecision steps a.last → i < length steps
-    → IsWalked clauses n steps (i + 1) a → is_marked a.seen.items i ≡ true → ((get_or steps i d).reason ≡ None) ⊎ IsKeptAt first a.last a.at_last_level i
+    → IsWalked clauses n steps (i + 1) a → is_marked a.seen.items i ≡ true → ((get_or steps i d).reason ≡ None) ⊎ IsKeptAt first a.last a.at_last_level i spare
     → KeepsStep i (get_or steps i d).lit a b → IsWalked clauses n steps i b
-walked-keep clauses n steps values indices decisions i first d a b s is-first last few h marked why k =
+walked-keep clauses n steps values indices decisions i first spare d a b s is-first last few h marked why k =
     let l = (get_or steps i d).lit in
     let size = h.size in
-    let zero' = kept-late clauses n steps i first d a b last few h marked why k in
+    let room = h.room in
+    let zero' = kept-late clauses n steps i first spare d a b last few h marked why k in
     let at = s.exist i d few in
     let free-i : trail_values (take i steps) l.var ≡ None = (s.trail i d few).free in
     record {
       size = ap length k.seen ∙ length-set a.seen.items i false ∙ size;
+      room = room;
       clear = subst (AreUnmarked i) (sym k.seen) (clear-unmarked i a.seen.items (omega arith) h.clear);
       below = subst (λ (m : ℕ). AreUnmarkedBelow m b.seen.items) (sym k.lowest)
           (subst (AreUnmarkedBelow a.lowest) (sym k.seen) (below-unmarked a.lowest i a.seen.items (omega arith) h.below));
+      reached = λ before.
+          subst (λ (m : ℕ). is_marked b.seen.items m ≡ true) (sym k.lowest)
+          (subst (λ (xs : List Bool). is_marked xs a.lowest ≡ true) (sym k.seen)
+          (let low = k.lowest in get_or-set_other a.seen.items i a.lowest false false (λ same. omega arith) ∙ h.reached (omega arith)));
       count = k.at_last_level;
       exist = subst (All (IsLitOf n)) (sym k.lits) (All-push (IsLitOf n) a.lits.items (negated l) h.exist (record { above = at.above; within = at.within }));
       free = subst (All (λ (m : Lit). trail_values (take i steps) m.var ≡ None)) (sym k.lits)
@@ -139,7 +148,7 @@ walked-keep clauses n steps values indices decisions i first d a b s is-first la
         | inl decides ↦ forced i d few decides
         | inr kept ↦ elim kept [
           | inl alone ↦ (let low = alone.0 in forced a.last d (omega arith) (last.decides d (omega arith)))
-          | inr earlier ↦ (let low = earlier.1 in forced first d (omega arith) (is-first d (omega arith)))
+          | inr earlier ↦ (let (below, low, kept) = earlier in forced first d (omega arith) (is-first d (omega arith)))
         ]
       ]);
     }
@@ -172,6 +181,7 @@ pub walked-resolve : (clauses : List (List Lit)) (n : ℕ) (steps : List Step) (
     → IsReason (trail_values (take i steps)) clauses id (get_or steps i d).lit → (a.last ≤ i → a.at_last_level ≢ 1) → Resolves clauses indices id i a b → IsWalked clauses n steps i b
 walked-resolve clauses n steps values indices decisions i id d a b s over few h marked reason more r =
     let size = h.size in
+    let room = h.room in
     let mid-size = r.needs.size in
     let count = h.count in
     let added = r.needs.count in
@@ -179,9 +189,19 @@ walked-resolve clauses n steps values indices decisions i id d a b s over few h 
     let now : b.at_last_level ≡ last_level_count a.last (set r.mid i false) = r.at_last_level ∙ ap (λ (m : ℕ). last_level_count m b.seen.items) r.last ∙ ap (last_level_count a.last) r.seen in
     record {
       size = ap length r.seen ∙ length-set r.mid i false ∙ mid-size ∙ size;
+      room = room;
       clear = subst (AreUnmarked i) (sym r.seen) (clear-unmarked i r.mid (omega arith) mid-clear);
       below = subst (AreUnmarkedBelow b.lowest) (sym r.seen)
           (below-unmarked b.lowest i r.mid (omega arith) (r.needs.below b.lowest r.lowest (λ j low. (let lower = r.lower in h.below j (omega arith)))));
+      reached = λ before.
+          (let mid-marked : is_marked r.mid b.lowest ≡ true = elim r.reached [
+            | inl same ↦ subst (λ (m : ℕ). is_marked r.mid m ≡ true) (sym same) (r.needs.keeps a.lowest (h.reached (omega arith)))
+            | inr one ↦
+                (let (l, there, at) = one in
+                subst (λ (m : ℕ). is_marked r.mid m ≡ true) (sym at) (All-contains (λ x. is_marked r.mid (trail_index indices x) ≡ true) (clause_at clauses id) l r.needs.all there))
+          ] in
+          subst (λ (xs : List Bool). is_marked xs b.lowest ≡ true) (sym r.seen)
+          (get_or-set_other r.mid i b.lowest false false (λ same. omega arith) ∙ mid-marked));
       count = r.at_last_level;
       exist = subst (All (IsLitOf n)) (sym r.lits) h.exist;
       free = subst (All (λ (m : Lit). trail_values (take i steps) m.var ≡ None)) (sym r.lits) (free-weaker steps i a.lits.items h.free);
@@ -283,8 +303,10 @@ pub walked-end : (clauses : List (List Lit)) (n : ℕ) (steps : List Step) (i ba
 walked-end clauses n steps i backjump a low h =
     record {
       size = h.size;
+      room = h.room;
       clear = λ k above. all-clear i a.lowest a.seen.items low h.clear h.below k;
       below = h.below;
+      reached = λ before. absurd (omega (arith, before));
       count = h.count;
       exist = h.exist;
       free = λ k d few. refl;

@@ -1,7 +1,7 @@
 -- The walk back along the trail that finds the lemma of a conflict, the first unique implication point: this project;
 -- no public clause cites it.
 use Rattle.std.specs.Prelude.{◌≡◌, ◌≢◌, ℕ, ◌+◌, ◌-◌, ◌<◌, ◌≤◌, ◌⊎◌, Bool, true, false, List, [], ◌∷◌, ◌++◌, length, take, drop, reverse, Some, None, is_none, nat_le, ◌&&◌, if◌then◌else◌, slice_index, slice_set}
-use Rattle.std.specs.List.{slice_index_or, All, count_by}
+use Rattle.std.specs.List.{slice_index_or, All, Contains, count_by}
 use Rattle.cnf_core.specs.declared.literal.Lit.{Lit}
 use Rattle.cnf_core.specs.Formula.{IsLitOf, negated}
 use Rattle.cnf_core.specs.Values.{Partial, partial_of, IsHeld, IsUnassigned, IsFalse, IsFalseClause, IsOpenClause}
@@ -65,9 +65,11 @@ pub record IsTakenBack (old new : List Step) : Type 0 where
   pub front : new ≡ take count old
   pub decides : IsDecisionOrEnd old count
 
--- why a needed step is kept: it is the only one of the last level, or of an earlier one
-abbrev pub IsKeptAt : ℕ → ℕ → ℕ → ℕ → Type 0
-IsKeptAt first last at_last_level place = ((last ≤ place) × (at_last_level ≡ 1)) ⊎ ((place < last) × (first ≤ place))
+-- why a needed step is kept: it is the only one of the last level, or of an earlier one, not before any decision, and
+-- not spare
+abbrev pub IsKeptAt : ℕ → ℕ → ℕ → ℕ → Bool → Type 0
+IsKeptAt first last at_last_level place spare =
+    ((last ≤ place) × (at_last_level ≡ 1)) ⊎ ((place < last) × (first ≤ place) × (spare ≡ false))
 
 -- a literal of a reason adds no step to those that are needed: its step is the one at the place, before any decision, or
 -- needed already
@@ -82,6 +84,14 @@ pub record IsSpareStep (clauses : List (List Lit)) (steps : List Step) (indices 
   pub earlier : place < a.last
   pub reason : (d : Step) → (slice_index_or steps place d).reason ≡ Some id
   pub others : All (AddsNoStep indices a.seen.items first place) (clause_at clauses id)
+
+-- a needed step of an earlier level, not before any decision, adds its literal's opposite to the lemma, unless it is spare
+pub record IsMinimalAt (clauses : List (List Lit)) (steps : List Step) (indices : List ℕ) (first place : ℕ)
+    (old new : Analysis) : Type 0 where
+  pub spare : IsSpareStep clauses steps indices first place old → new.lits.items ≡ old.lits.items
+  pub other : is_marked old.seen.items place ≡ true → first ≤ place → place < old.last
+      → (IsSpareStep clauses steps indices first place old → ⊥)
+      → (d : Step) → new.lits.items ≡ old.lits.items ++ negated (slice_index_or steps place d).lit ∷ []
 
 -- the step at a place was kept: the opposite of its literal is in the lemma
 pub record KeepsStep (place : ℕ) (lit : Lit) (old new : Analysis) : Type 0 where
@@ -105,6 +115,8 @@ pub record Resolves (clauses : List (List Lit)) (indices : List ℕ) (id place :
   pub last : new.last ≡ old.last
   pub lower : new.lowest ≤ old.lowest
   pub lowest : All (λ l. new.lowest ≤ trail_index indices l) (clause_at clauses id)
+  pub reached : (new.lowest ≡ old.lowest)
+      ⊎ ((l : Lit) × Contains (clause_at clauses id) l × (new.lowest ≡ trail_index indices l))
   pub backjump : new.backjump ≡ old.backjump
 
 -- one literal is free and all after it are false
@@ -115,11 +127,18 @@ pub record IsAsserting (s : Partial) (lits : List Lit) : Type 0 where
   pub free : IsUnassigned s first
   pub false' : All (IsFalse s) rest
 
+-- a mark for each of n variables, and none is set
+pub record AreNoMarks (n : ℕ) (seen : List Bool) : Type 0 where
+  pub size : length seen ≡ n
+  pub clear : AreUnmarked 0 seen
+
 -- what the walk keeps, once it visited the steps from i on
 pub record IsWalked (clauses : List (List Lit)) (n : ℕ) (steps : List Step) (i : ℕ) (a : Analysis) : Type 0 where
-  pub size : length a.seen.items ≡ length steps
+  pub size : length a.seen.items ≡ n
+  pub room : length steps ≤ n
   pub clear : AreUnmarked i a.seen.items
   pub below : AreUnmarkedBelow a.lowest a.seen.items
+  pub reached : a.lowest < i → is_marked a.seen.items a.lowest ≡ true
   pub count : a.at_last_level ≡ last_level_count a.last a.seen.items
   pub exist : All (IsLitOf n) a.lits.items
   pub free : All (λ l. trail_values (take i steps) l.var ≡ None) a.lits.items

@@ -8,17 +8,18 @@ ghost use Rattle.cnf_core.specs.Refutation.{clause_at, IsAccepted};
 ghost use Rattle.sat_core.specs.Steps.{given, var_count, IsTrailState, AreClosedBefore};
 ghost use Rattle.sat_core.specs.FalseClauses.{IsFalsified};
 ghost use Rattle.sat_core.specs.Conflicts.{GoesOnWith};
-ghost use Rattle.sat_core.specs.Walks.{is_marked, last_level_count, IsStepOf, MarksClause, IsLastDecision, IsDecisionOrEnd, IsKeptAt, IsTakenBack, KeepsStep, Resolves, IsWalked, LeadsBy, IsBackjump, IsSpareStep, AddsNoStep, trail_index, backjump_after, backjump_at_end};
+ghost use Rattle.sat_core.specs.Walks.{is_marked, last_level_count, IsStepOf, MarksClause, IsLastDecision, IsDecisionOrEnd, IsKeptAt, IsTakenBack, KeepsStep, Resolves, IsWalked, LeadsBy, IsBackjump, IsSpareStep, AddsNoStep, IsMinimalAt, AreNoMarks, trail_index, backjump_after, backjump_at_end};
 
 use crate::trail::{Step, Trail};
 use cnf_core::{Clauses, Line, Lit};
 use items::{Items, NoMemory};
 use std::alloc::Global;
+use std::mem;
 
 /// What is known of a conflict while the trail is walked back from its end.
 #[derive(Drop)]
 struct Analysis {
-    /// Of each step, whether its literal is needed and not yet resolved or kept.
+    /// Of each step, whether its literal is needed and not yet resolved or kept. No mark is left between conflicts.
     seen: Vec<bool>,
     /// How many steps of the current decision level are needed.
     at_last_level: usize,
@@ -35,11 +36,12 @@ struct Analysis {
 }
 
 /// The line of a conflict with the clause that has this id. Where its lemma isn't empty, the trail is taken back to the
-/// first decision before which the lemma is unit already.
+/// first decision before which the lemma is unit already. No mark is set before and after.
 pub(crate) fn learn(
     alloc: Global,
     clauses: &Clauses,
     trail: &mut Trail,
+    seen: &mut Vec<bool>,
     id: u32,
 ) -> Result<Line, NoMemory>
     requires few { length clauses.now < 2 ^ 31 }
@@ -47,14 +49,18 @@ pub(crate) fn learn(
     requires state { IsTrailState clauses.now (var_count trail.old) trail.old }
     requires before { AreClosedBefore clauses.now trail.old.steps.items }
     requires falsified { IsFalsified (given trail.old.values.items) clauses.now id }
+    requires unmarked { AreNoMarks (var_count trail.old) seen.old.items }
     ensures shown { IfOk result (IsAccepted (record { vars = var_count trail.old; clauses = clauses.now }) []) }
     ensures size { OnOk result (var_count trail.new ≡ var_count trail.old) }
     ensures back { OnOk result (IsTakenBack trail.old.steps.items trail.new.steps.items) }
+    ensures unmarked { OnOk result (AreNoMarks (var_count trail.old) seen.new.items) }
     ensures goes_on { IfOk result (λ line. line.lits ≢ []
         → GoesOnWith clauses.now (var_count trail.old) line.lits trail.new) }
 {
-    let analysis = analyze(alloc, clauses, trail, id)?;
+    let marks = mem::replace(seen, Vec::new(alloc));
+    let analysis = analyze(alloc, clauses, trail, marks, id)?;
     trail.cut(analysis.backjump);
+    *seen = analysis.seen;
     let mut hints = analysis.hints;
     hints.reverse();
     hints.push(id)?;
@@ -66,12 +72,19 @@ pub(crate) fn learn(
 }
 
 /// Walks the trail back to the first step that is needed.
-fn analyze(alloc: Global, clauses: &Clauses, trail: &Trail, id: u32) -> Result<Analysis, NoMemory>
+fn analyze(
+    alloc: Global,
+    clauses: &Clauses,
+    trail: &Trail,
+    seen: Vec<bool>,
+    id: u32,
+) -> Result<Analysis, NoMemory>
     requires few { length clauses.now < 2 ^ 31 }
     requires exist { AreOver (var_count trail.now) clauses.now }
     requires state { IsTrailState clauses.now (var_count trail.now) trail.now }
     requires before { AreClosedBefore clauses.now trail.now.steps.items }
     requires falsified { IsFalsified (given trail.now.values.items) clauses.now id }
+    requires unmarked { AreNoMarks (var_count trail.now) seen.items }
     ensures last { IfOk result (λ a. IsLastDecision trail.now.steps.items a.last) }
     ensures walked { IfOk result (IsWalked clauses.now (var_count trail.now) trail.now.steps.items 0) }
     ensures leads { IfOk result (λ a. LeadsBy clauses.now trail.now.steps.items 0 a (clause_at clauses.now id)) }
@@ -80,7 +93,7 @@ fn analyze(alloc: Global, clauses: &Clauses, trail: &Trail, id: u32) -> Result<A
 {
     let count = trail.steps.len();
     let first = trail.first_decision();
-    let mut analysis = start(alloc, clauses, trail, id)?;
+    let mut analysis = start(alloc, clauses, trail, seen, id);
     let mut place = count;
     while analysis.lowest < place {
         place -= 1;
@@ -91,25 +104,25 @@ fn analyze(alloc: Global, clauses: &Clauses, trail: &Trail, id: u32) -> Result<A
 }
 
 /// What is known at the end of the trail: the steps of the false clause's literals are needed.
-fn start(alloc: Global, clauses: &Clauses, trail: &Trail, id: u32) -> Result<Analysis, NoMemory>
+fn start(alloc: Global, clauses: &Clauses, trail: &Trail, mut seen: Vec<bool>, id: u32) -> Analysis
     requires exist { AreOver (var_count trail.now) clauses.now }
     requires state { IsTrailState clauses.now (var_count trail.now) trail.now }
     requires before { AreClosedBefore clauses.now trail.now.steps.items }
     requires falsified { IsFalsified (given trail.now.values.items) clauses.now id }
-    ensures last { IfOk result (λ a. IsLastDecision trail.now.steps.items a.last) }
-    ensures walked { IfOk result (IsWalked clauses.now (var_count trail.now) trail.now.steps.items
-        (length trail.now.steps.items)) }
-    ensures leads { IfOk result (λ a. LeadsBy clauses.now trail.now.steps.items (length trail.now.steps.items) a
-        (clause_at clauses.now id)) }
-    ensures stays { IfOk result (λ a. a.backjump ≡ length trail.now.steps.items) }
+    requires unmarked { AreNoMarks (var_count trail.now) seen.items }
+    ensures last { IsLastDecision trail.now.steps.items result.last }
+    ensures walked { IsWalked clauses.now (var_count trail.now) trail.now.steps.items
+        (length trail.now.steps.items) result }
+    ensures leads { LeadsBy clauses.now trail.now.steps.items (length trail.now.steps.items) result
+        (clause_at clauses.now id) }
+    ensures stays { result.backjump ≡ length trail.now.steps.items }
 {
     let count = trail.steps.len();
     let last = trail.last_decision();
-    let mut seen = vec![in alloc; false; count]?;
     let clause = clauses.get((id - 1) as usize);
     let at_last_level = mark_clause(clause, &trail.indices, last, seen.as_mut_slice());
     let lowest = lowest_place(clause, &trail.indices, count);
-    Ok(Analysis {
+    Analysis {
         seen,
         at_last_level,
         last,
@@ -117,7 +130,7 @@ fn start(alloc: Global, clauses: &Clauses, trail: &Trail, id: u32) -> Result<Ana
         lits: Vec::new(alloc),
         hints: Vec::new(alloc),
         backjump: count,
-    })
+    }
 }
 
 /// Marks the steps of a clause's literals. How many of the last level weren't marked before.
@@ -226,6 +239,8 @@ impl Analysis {
         ensures last { OnOk result (self.new.last ≡ self.old.last) }
         ensures backjump { OnOk result (self.new.backjump ≡ self.old.backjump) }
         ensures grows { OnOk result ((more : List Literal) × (self.new.lits.items ≡ self.old.lits.items ++ more)) }
+        ensures minimal { OnOk result (IsMinimalAt clauses.now trail.now.steps.items trail.now.indices.items
+            first place self.old self.new) }
         ensures walked { OnOk result (IsWalked clauses.now (var_count trail.now) trail.now.steps.items place self.new) }
         ensures leads { OnOk result ((conflict : List Literal)
             → LeadsBy clauses.now trail.now.steps.items (place + 1) self.old conflict
@@ -248,7 +263,7 @@ impl Analysis {
         requires exist { AreOver (var_count trail.now) clauses.now }
         requires state { IsTrailState clauses.now (var_count trail.now) trail.now }
         requires within { place < length trail.now.steps.items }
-        requires size { length self.now.seen.items ≡ length trail.now.steps.items }
+        requires size { length trail.now.steps.items ≤ length self.now.seen.items }
         ensures { IsTrue result ↔ IsSpareStep clauses.now trail.now.steps.items trail.now.indices.items first place self.now }
     {
         if self.last <= place {
@@ -280,10 +295,10 @@ impl Analysis {
     /// The clause with which a needed step is resolved, or none where it is kept. Kept are the last one of the current
     /// level, and those of earlier levels but the steps before any decision and the spare ones.
     fn resolvent(&self, step: Step, place: usize, first: usize, spare: bool) -> Option<u32>
-        ensures kept { MatchOption result ((step.reason ≡ None)
-            ⊎ IsKeptAt first self.now.last self.now.at_last_level place)
-            (λ id. (step.reason ≡ Some id) × (self.now.last ≤ place → self.now.at_last_level ≢ 1)) }
-        ensures spared { place < self.now.last → IsTrue spare → result ≡ step.reason }
+        ensures { MatchOption result
+            ((step.reason ≡ None) ⊎ IsKeptAt first self.now.last self.now.at_last_level place spare)
+            (λ id. (step.reason ≡ Some id)
+            × (IsKeptAt first self.now.last self.now.at_last_level place spare → ⊥)) }
     {
         let keeps = if self.last <= place {
             self.at_last_level == 1

@@ -49,13 +49,14 @@ pub fn solve<F: Rule>(
     let mut trail = Trail::new(alloc, cnf.vars())?;
     let mut watches = Watches::new(alloc, cnf.vars())?;
     let mut scores = Scores::new(alloc, cnf.vars())?;
+    let mut seen = vec![in alloc; false; cnf.vars() as usize]?;
     let mut clauses = clauses_of(alloc, cnf)?;
     let mut lines = Items::new(alloc);
     for made in 0..conflicts {
         match advance(&clauses, picker, &mut trail, &mut watches, &mut scores)? {
             None => return Ok(Verdict::Sat(all_values(alloc, trail.values.as_slice())?)),
             Some(id) => {
-                let line = learn(alloc, &clauses, &mut trail, id)?;
+                let line = learn(alloc, &clauses, &mut trail, &mut seen, id)?;
                 watches.take_back(trail.steps.len());
                 let refuted = line.lits.is_empty();
                 clauses.push(line.lits.as_slice())?;

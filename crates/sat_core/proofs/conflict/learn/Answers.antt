@@ -26,3 +26,6 @@ returns-clause-goes_on c = λ some.
 
 pub returns-clause-back : goal.returns-clause-back
 returns-clause-back c = record { count = c.in_ok-analysis.analysis.backjump; front = c.cut.ensures.steps; decides = c.in_ok-analysis.ensures.back }
+
+pub returns-clause-unmarked : goal.returns-clause-unmarked
+returns-clause-unmarked c = (let w = c.in_ok-analysis.ensures.walked in record { size = w.size; clear = w.clear })

@@ -1,4 +1,4 @@
-use Rattle.std.proofs.Common.{◌≡◌, ℕ, ◌+◌, ◌-◌, ◌^◌, ◌<◌, ◌≤◌, cond, get_or, Vec, Global, [], ◌∷◌, ◌++◌, List, Option, false, length, map, min, arith, sym, ap, ◌∙◌, subst}
+use Rattle.std.proofs.Common.{◌≡◌, ℕ, ◌+◌, ◌-◌, ◌^◌, ◌<◌, ◌≤◌, cond, get_or, Vec, Global, [], ◌∷◌, ◌++◌, List, Option, false, length, map, min, arith, rules, sym, ap, ◌∙◌, subst}
 use Rattle.std.specs.Prelude.{MatchOption, unwrap_or, replicate}
 use Rattle.std.specs.List.{All}
 use Rattle.std.proofs.lemmas.Bool.{false≢true}
@@ -12,7 +12,9 @@ use Rattle.sat_core.specs.declared.trail.Step.{Step}
 use Rattle.sat_core.specs.declared.trail.Value.{Value}
 use Rattle.sat_core.specs.declared.watches.Watches.{Watches}
 use Rattle.sat_core.specs.Steps.{value_of, given, var_count, IsTrailState}
+use Rattle.sat_core.specs.Walks.{AreNoMarks}
 use Rattle.sat_core.specs.Watches.{AreWatched, KeepWatches}
+use Rattle.sat_core.proofs.Ending.{marks-none}
 use Rattle.sat_core.proofs.Watching.{kept-cut, kept-more}
 use Rattle.sat_core.specs.FalseClauses.{IsFalsified}
 use Rattle.sat_core.specs.Picks.{free_list, has_var, AreScores}
@@ -38,8 +40,16 @@ loop-made-init g c =
           subst (λ (ls : List Line). AreScores (var_count trail) ls c.in_ok-scores.scores.counts.items) (sym c.new-lines.ensures)
           (scores-none (var_count trail) c.in_ok-scores.scores.counts.items
           (c.in_ok-scores.ensures ∙ ap (λ (k : ℕ). replicate k 0) (c.vars-3.ensures.value ∙ sym c.vars.ensures.value ∙ sym size))));
+      unmarked =
+          (let size = (c.in_ok-trail.ensures.state clauses).size in
+          let all : c.in_ok-seen.seen.items ≡ replicate c.vars-4.result false = search rules in
+          marks-none (var_count trail) c.in_ok-seen.seen.items (all ∙ ap (λ (k : ℕ). replicate k false) (c.vars-4.ensures.value ∙ sym c.vars.ensures.value ∙ sym size)));
       count = ap length c.new-lines.ensures;
     }
+
+pub learn-requires-clause-unmarked : goal.learn-requires-clause-unmarked
+learn-requires-clause-unmarked g c =
+    subst (λ (k : ℕ). AreNoMarks k c.loop-made.seen.items) (sym c.in_ok-advance.ensures.state.size) c.loop-made.invariant.unmarked
 
 pub add-requires-clause-exist : goal.add-requires-clause-exist
 add-requires-clause-exist g c =
@@ -120,6 +130,7 @@ loop-made-preserved g c =
           subst (λ (k : ℕ). AreScores k c.push-in-Some.new.self c.add.new.self.counts.items) (sym size)
           (subst (λ (ls : List Line). AreScores n ls c.add.new.self.counts.items) (sym is-lines)
           (scores-add n c.loop-made.lines line counts c.add.new.self.counts.items before c.add.ensures.size each)));
+      unmarked = subst (λ (k : ℕ). AreNoMarks k c.learn.new.seen.items) (sym c.in_ok-line-in-Some.ensures.size) c.in_ok-line-in-Some.ensures.unmarked;
       count = omega arith;
     }
 

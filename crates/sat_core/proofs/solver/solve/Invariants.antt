@@ -1,6 +1,7 @@
 use Rattle.std.proofs.Common.{◌≡◌, length}
 use Rattle.sat_core.specs.Steps.{var_count}
 use Rattle.sat_core.specs.Picks.{AreScores}
+use Rattle.sat_core.specs.Walks.{AreNoMarks}
 use Rattle.sat_core.specs.Watches.{AreWatched}
 use Rattle.sat_core.proofs.Searching.{IsSearch}
 use Rattle.sat_core.proofs.solver.solve.Given as goal
@@ -10,5 +11,6 @@ invariant-loop-made g l = record {
   search : IsSearch l.cnf l.lines l.clauses l.trail;
   watched : AreWatched l.clauses (var_count l.trail) l.trail.steps.items l.watches;
   scored : AreScores (var_count l.trail) l.lines l.scores.counts.items;
+  unmarked : AreNoMarks (var_count l.trail) l.seen.items;
   count : length l.lines ≡ l.made;
 }

@@ -1,6 +1,6 @@
-use Rattle.std.proofs.Common.{◌≡◌, ℕ, ◌+◌, ◌-◌, ◌≤◌, [], ◌++◌, List, Bool, false, length, take, drop, refl, sym, ap, ◌∙◌, subst, arith}
+use Rattle.std.proofs.Common.{◌≡◌, ℕ, ◌+◌, ◌-◌, ◌≤◌, ◌⊎◌, [], ◌++◌, List, Bool, false, length, take, drop, refl, sym, ap, ◌∙◌, subst, arith}
 use Rattle.std.specs.Prelude.{slice_set}
-use Rattle.std.specs.List.{All}
+use Rattle.std.specs.List.{All, Contains}
 use Rattle.std.proofs.lemmas.List.{take_at, length-set}
 use Rattle.std.proofs.lemmas.Option.{get_or_from_slice_get}
 use Rattle.cnf_core.specs.declared.literal.Lit.{Lit}
@@ -58,6 +58,8 @@ returns c =
       lower = c.lowest_place-self.ensures.most;
       lowest = subst (λ (x : List Lit). All (λ l. c.lowest_place-self.result ≤ trail_index c.args.trail.now.indices.items l) x) (sym is)
           (subst (λ (ps : List ℕ). All (λ l. c.lowest_place-self.result ≤ trail_index ps l) c.get-clause.result.now) c.deref-2.ensures.value c.lowest_place-self.ensures.each);
+      reached = subst (λ (x : List Lit). (c.lowest_place-self.result ≡ old.lowest) ⊎ ((l : Lit) × Contains x l × (c.lowest_place-self.result ≡ trail_index c.args.trail.now.indices.items l))) (sym is)
+          (subst (λ (ps : List ℕ). (c.lowest_place-self.result ≡ old.lowest) ⊎ ((l : Lit) × Contains c.get-clause.result.now l × (c.lowest_place-self.result ≡ trail_index ps l))) c.deref-2.ensures.value c.lowest_place-self.ensures.reached);
       backjump = refl;
     }
 

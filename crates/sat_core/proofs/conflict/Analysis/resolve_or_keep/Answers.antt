@@ -1,30 +1,30 @@
-use Rattle.std.proofs.Common.{◌≡◌, ◌+◌, ◌<◌, ◌++◌, [], List, true, false, length, sym, ◌∙◌, arith, append-nil}
+use Rattle.std.proofs.Common.{◌≡◌, ◌+◌, ◌<◌, ◌++◌, [], List, true, false, length, inl, sym, ◌∙◌, arith, append-nil}
 use Rattle.std.specs.Prelude.{reverse}
 use Rattle.cnf_core.specs.declared.literal.Lit.{Lit}
 use Rattle.sat_core.specs.Steps.{var_count}
-use Rattle.sat_core.specs.Walks.{IsWalked, LeadsToConflict, Resolves, KeepsStep}
-use Rattle.sat_core.proofs.Resolving.{on-ok, mark-read, settled-skip, settled-keep, settled-resolve, reason-few}
+use Rattle.sat_core.specs.Walks.{IsWalked, LeadsToConflict, Resolves, KeepsStep, IsMinimalAt}
+use Rattle.sat_core.proofs.Resolving.{on-ok, mark-read, settled-skip, settled-keep, settled-resolve, reason-few, minimal-skip, minimal-resolve, minimal-keep}
 use Rattle.sat_core.proofs.conflict.Analysis.resolve_or_keep.Goals as goal
 
 pub returns-then-not-index-clause-walked : goal.returns-then-not-index-clause-walked
 returns-then-not-index-clause-walked c =
     let t = c.args.trail.now in
     let a = c.args.self.now in
-    let few : c.args.place < length a.seen.items = (let size = c.requires.walked.size in let within = c.requires.within in omega arith) in
+    let few : c.args.place < length a.seen.items = (let size = c.requires.walked.size in let room = c.requires.walked.room in let within = c.requires.within in omega arith) in
     (settled-skip c.args.clauses.now (var_count t) t.steps.items c.args.place a c.requires.walked (mark-read a.seen.items c.args.place c.index.result.now false few c.index.ensures c.if-not-index.true)).walked
 
 pub returns-then-not-index-clause-leads : goal.returns-then-not-index-clause-leads
 returns-then-not-index-clause-leads c =
     let t = c.args.trail.now in
     let a = c.args.self.now in
-    let few : c.args.place < length a.seen.items = (let size = c.requires.walked.size in let within = c.requires.within in omega arith) in
+    let few : c.args.place < length a.seen.items = (let size = c.requires.walked.size in let room = c.requires.walked.room in let within = c.requires.within in omega arith) in
     (settled-skip c.args.clauses.now (var_count t) t.steps.items c.args.place a c.requires.walked (mark-read a.seen.items c.args.place c.index.result.now false few c.index.ensures c.if-not-index.true)).leads
 
 pub resolve-requires-clause-steps : goal.resolve-requires-clause-steps
 resolve-requires-clause-steps c =
     let t = c.args.trail.now in
     reason-few c.args.clauses.now (var_count t) t.steps.items t.values.items t.indices.items t.decisions.items c.args.place c.in-Some.id (length c.args.self.now.seen.items) c.index-step.result.now
-    c.requires.state c.requires.exist c.requires.within c.index-step.ensures c.in-Some.ensures.kept.0 c.requires.walked.size
+    c.requires.state c.requires.exist c.requires.within c.index-step.ensures c.in-Some.ensures.0 (let size = c.requires.walked.size in let room = c.requires.walked.room in omega arith)
 
 pub returns-in-Some-clause-grows : goal.returns-in-Some-clause-grows
 returns-in-Some-clause-grows c =
@@ -38,43 +38,66 @@ returns-in-Some-clause-walked c =
     let t = c.args.trail.now in
     let a = c.args.self.now in
     let b = c.resolve.new.self in
-    let few : c.args.place < length a.seen.items = (let size = c.requires.walked.size in let within = c.requires.within in omega arith) in
+    let few : c.args.place < length a.seen.items = (let size = c.requires.walked.size in let room = c.requires.walked.room in let within = c.requires.within in omega arith) in
     let marked = mark-read a.seen.items c.args.place c.index.result.now true few c.index.ensures c.if-not-index.false in
     on-ok c.resolve.result (Resolves c.args.clauses.now t.indices.items c.in-Some.id c.args.place a b) (IsWalked c.args.clauses.now (var_count t) t.steps.items c.args.place b)
     (λ r. (settled-resolve c.args.clauses.now (var_count t) t.steps.items t.values.items t.indices.items t.decisions.items c.args.place c.in-Some.id c.index-step.result.now a b
-    c.requires.state c.requires.exist c.requires.within c.requires.walked marked c.index-step.ensures c.in-Some.ensures.kept.0 c.in-Some.ensures.kept.1 r).walked) c.resolve.ensures
+    c.requires.state c.requires.exist c.requires.within c.requires.walked marked c.index-step.ensures c.in-Some.ensures.0 (λ low one. c.in-Some.ensures.1 (inl (low, one))) r).walked) c.resolve.ensures
 
 pub returns-in-Some-clause-leads : goal.returns-in-Some-clause-leads
 returns-in-Some-clause-leads c =
     let t = c.args.trail.now in
     let a = c.args.self.now in
     let b = c.resolve.new.self in
-    let few : c.args.place < length a.seen.items = (let size = c.requires.walked.size in let within = c.requires.within in omega arith) in
+    let few : c.args.place < length a.seen.items = (let size = c.requires.walked.size in let room = c.requires.walked.room in let within = c.requires.within in omega arith) in
     let marked = mark-read a.seen.items c.args.place c.index.result.now true few c.index.ensures c.if-not-index.false in
     on-ok c.resolve.result (Resolves c.args.clauses.now t.indices.items c.in-Some.id c.args.place a b)
     ((conflict : List Lit) → LeadsToConflict c.args.clauses.now t.steps.items (c.args.place + 1) a.seen.items a.lits.items (reverse a.hints.items) conflict → LeadsToConflict c.args.clauses.now t.steps.items c.args.place b.seen.items b.lits.items (reverse b.hints.items) conflict)
     (λ r. (settled-resolve c.args.clauses.now (var_count t) t.steps.items t.values.items t.indices.items t.decisions.items c.args.place c.in-Some.id c.index-step.result.now a b
-    c.requires.state c.requires.exist c.requires.within c.requires.walked marked c.index-step.ensures c.in-Some.ensures.kept.0 c.in-Some.ensures.kept.1 r).leads) c.resolve.ensures
+    c.requires.state c.requires.exist c.requires.within c.requires.walked marked c.index-step.ensures c.in-Some.ensures.0 (λ low one. c.in-Some.ensures.1 (inl (low, one))) r).leads) c.resolve.ensures
 
 pub returns-in-None-clause-walked : goal.returns-in-None-clause-walked
 returns-in-None-clause-walked c =
     let t = c.args.trail.now in
     let a = c.args.self.now in
     let b = c.keep.new.self in
-    let few : c.args.place < length a.seen.items = (let size = c.requires.walked.size in let within = c.requires.within in omega arith) in
+    let few : c.args.place < length a.seen.items = (let size = c.requires.walked.size in let room = c.requires.walked.room in let within = c.requires.within in omega arith) in
     let marked = mark-read a.seen.items c.args.place c.index.result.now true few c.index.ensures c.if-not-index.false in
     on-ok c.keep.result (KeepsStep c.args.place c.index-step.result.now.lit a b) (IsWalked c.args.clauses.now (var_count t) t.steps.items c.args.place b)
-    (λ k. (settled-keep c.args.clauses.now (var_count t) t.steps.items t.values.items t.indices.items t.decisions.items c.args.place c.args.first c.index-step.result.now a b
-    c.requires.state c.requires.first c.requires.last c.requires.within c.requires.walked marked c.index-step.ensures c.in-None.ensures.kept k).walked) c.keep.ensures
+    (λ k. (settled-keep c.args.clauses.now (var_count t) t.steps.items t.values.items t.indices.items t.decisions.items c.args.place c.args.first c.is_spare-spare.result c.index-step.result.now a b
+    c.requires.state c.requires.first c.requires.last c.requires.within c.requires.walked marked c.index-step.ensures c.in-None.ensures k).walked) c.keep.ensures
 
 pub returns-in-None-clause-leads : goal.returns-in-None-clause-leads
 returns-in-None-clause-leads c =
     let t = c.args.trail.now in
     let a = c.args.self.now in
     let b = c.keep.new.self in
-    let few : c.args.place < length a.seen.items = (let size = c.requires.walked.size in let within = c.requires.within in omega arith) in
+    let few : c.args.place < length a.seen.items = (let size = c.requires.walked.size in let room = c.requires.walked.room in let within = c.requires.within in omega arith) in
     let marked = mark-read a.seen.items c.args.place c.index.result.now true few c.index.ensures c.if-not-index.false in
     on-ok c.keep.result (KeepsStep c.args.place c.index-step.result.now.lit a b)
     ((conflict : List Lit) → LeadsToConflict c.args.clauses.now t.steps.items (c.args.place + 1) a.seen.items a.lits.items (reverse a.hints.items) conflict → LeadsToConflict c.args.clauses.now t.steps.items c.args.place b.seen.items b.lits.items (reverse b.hints.items) conflict)
-    (λ k. (settled-keep c.args.clauses.now (var_count t) t.steps.items t.values.items t.indices.items t.decisions.items c.args.place c.args.first c.index-step.result.now a b
-    c.requires.state c.requires.first c.requires.last c.requires.within c.requires.walked marked c.index-step.ensures c.in-None.ensures.kept k).leads) c.keep.ensures
+    (λ k. (settled-keep c.args.clauses.now (var_count t) t.steps.items t.values.items t.indices.items t.decisions.items c.args.place c.args.first c.is_spare-spare.result c.index-step.result.now a b
+    c.requires.state c.requires.first c.requires.last c.requires.within c.requires.walked marked c.index-step.ensures c.in-None.ensures k).leads) c.keep.ensures
+
+pub returns-then-not-index-clause-minimal : goal.returns-then-not-index-clause-minimal
+returns-then-not-index-clause-minimal c =
+    let a = c.args.self.now in
+    let few : c.args.place < length a.seen.items = (let size = c.requires.walked.size in let room = c.requires.walked.room in let within = c.requires.within in omega arith) in
+    let unmarked = mark-read a.seen.items c.args.place c.index.result.now false few c.index.ensures c.if-not-index.true in
+    minimal-skip c.args.clauses.now c.args.trail.now.steps.items c.args.trail.now.indices.items c.args.first c.args.place a unmarked
+
+pub returns-in-Some-clause-minimal : goal.returns-in-Some-clause-minimal
+returns-in-Some-clause-minimal c =
+    let t = c.args.trail.now in
+    let a = c.args.self.now in
+    let b = c.resolve.new.self in
+    on-ok c.resolve.result (Resolves c.args.clauses.now t.indices.items c.in-Some.id c.args.place a b) (IsMinimalAt c.args.clauses.now t.steps.items t.indices.items c.args.first c.args.place a b)
+    (λ r. minimal-resolve c.args.clauses.now t.steps.items t.indices.items c.args.first c.args.place c.is_spare-spare.result a b r.lits c.is_spare-spare.ensures c.in-Some.ensures.1) c.resolve.ensures
+
+pub returns-in-None-clause-minimal : goal.returns-in-None-clause-minimal
+returns-in-None-clause-minimal c =
+    let t = c.args.trail.now in
+    let a = c.args.self.now in
+    let b = c.keep.new.self in
+    on-ok c.keep.result (KeepsStep c.args.place c.index-step.result.now.lit a b) (IsMinimalAt c.args.clauses.now t.steps.items t.indices.items c.args.first c.args.place a b)
+    (λ k. minimal-keep c.args.clauses.now t.steps.items t.indices.items c.args.first c.args.place c.is_spare-spare.result c.index-step.result.now a b c.requires.within k.lits c.index-step.ensures c.is_spare-spare.ensures c.in-None.ensures) c.keep.ensures
