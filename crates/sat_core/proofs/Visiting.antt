@@ -14,7 +14,7 @@ use Rattle.sat_core.specs.declared.watches.Pair.{Pair}
 use Rattle.sat_core.specs.FalseClauses.{IsFalsified}
 use Rattle.sat_core.specs.declared.trail.Value.{Value}
 use Rattle.sat_core.specs.Steps.{given, trail_values, IsReason, IsRightStep, AreSteps, Propagates, AreClosedBefore}
-use Rattle.sat_core.specs.Watches.{no_pair, no_watcher, list_of, watchers, pair_at, IsTrueClause, with_pair, IsWatcher, KeepWatches, ArePassedIn, IsFalsifiedAt, IsChosen}
+use Rattle.sat_core.specs.Watches.{no_pair, no_watcher, list_of, watchers, pair_at, IsTrueClause, with_pair, IsWatcher, KeepWatches, ArePassedIn, IsFalsifiedAt, IsReplacement, IsNextReplacement, IsChosen}
 use Rattle.sat_core.proofs.Holding.{held-push-same}
 use Rattle.sat_core.proofs.Agreeing.{open-agrees}
 use Rattle.sat_core.proofs.States.{agree}
@@ -182,3 +182,7 @@ falsified-by steps head s l within at is =
 -- the list that a read gives
 pub list-read : (lists : List (List Watcher)) (list : ℕ) (x : List Watcher) (l : Lit) → list < length lists → x ≡ get_or lists list x → list ≡ list_of l → x ≡ watchers lists (list_of l)
 list-read lists list x l few at is = get_or_read lists list x few at [] ∙ ap (watchers lists) is
+
+pub next-is : {s : Partial} {c : List Lit} {other : Lit} {saved at : ℕ} → IsNextReplacement s c other saved at → IsReplacement s c other at
+next-is (inl first) = first.is
+next-is (inr (none, first)) = first.is

@@ -1,7 +1,7 @@
 -- Two watched literals of each clause, and what propagation keeps of them: the field's invariant (Moskewicz and others,
 -- Chaff, 2001), in this project's own form; no public clause cites it.
 use Rattle.std.specs.Prelude.{◌≡◌, ◌≢◌, ℕ, ◌+◌, ◌-◌, ◌*◌, ◌<◌, ◌≤◌, ◌⊎◌, ◌↔◌, false, if◌then◌else◌, List, [], ◌∷◌, ◌++◌, length, take, Option, Some, None, MatchOption, slice_set}
-use Rattle.std.specs.List.{slice_index_or, All, Contains}
+use Rattle.std.specs.List.{slice_index_or, All, AllWithin, Contains}
 use Rattle.cnf_core.specs.declared.literal.Lit.{Lit}
 use Rattle.cnf_core.specs.Formula.{negated}
 use Rattle.cnf_core.specs.Values.{Partial, IsHeld, IsFalse}
@@ -137,6 +137,23 @@ pub record IsReplacement (s : Partial) (c : List Lit) (other : Lit) (at : ℕ) :
   pub within : at < length c
   pub differ : (d : Lit) → slice_index_or c at d ≢ other
   pub free : (d : Lit) → IsFalse s (slice_index_or c at d) → ⊥
+
+-- the literal can't be watched: it is the other one, or false
+abbrev pub IsPassedOver : Partial → Lit → Lit → Type 0
+IsPassedOver s other m = (m ≡ other) ⊎ IsFalse s m
+
+-- the first replacement between two places
+pub record IsFirstWithin (s : Partial) (c : List Lit) (other : Lit) (start end at : ℕ) : Type 0 where
+  pub from : start ≤ at
+  pub before : at < end
+  pub is : IsReplacement s c other at
+  pub first : AllWithin (IsPassedOver s other) c start at
+
+-- the first replacement from a place on, or, where there is none, the first one before it
+abbrev pub IsNextReplacement : Partial → List Lit → Lit → ℕ → ℕ → Type 0
+IsNextReplacement s c other saved at =
+    IsFirstWithin s c other saved (length c) at
+    ⊎ (AllWithin (IsPassedOver s other) c saved (length c) × IsFirstWithin s c other 0 saved at)
 
 -- the result of a visit to the watcher at a place of the list of a literal
 abbrev pub VisitSays : List (List Lit) → List Step → Partial → Lit → ℕ → ℕ → Watches → Visit → Type 0

@@ -5,7 +5,7 @@ ghost use Rattle.cnf_core.specs.Formula.{AreOver, IsLitOf};
 ghost use Rattle.cnf_core.specs.Values.{IsClosed, IsOpenClause, IsFalse};
 ghost use Rattle.sat_core.specs.Steps.{given, var_count, IsTrailState, Propagates, AreClosedBefore};
 ghost use Rattle.sat_core.specs.FalseClauses.{IsFalsified};
-ghost use Rattle.sat_core.specs.Watches.{list_of, watchers, AreWatched, ArePassed, IsFalsifiedAt, IsReplacement, VisitSays, AreVisited};
+ghost use Rattle.sat_core.specs.Watches.{list_of, watchers, AreWatched, ArePassed, IsFalsifiedAt, IsPassedOver, IsFirstWithin, IsNextReplacement, VisitSays, AreVisited};
 
 use crate::choice::watched_pair;
 use crate::trail::{Step, Trail};
@@ -229,8 +229,8 @@ fn other_than(pair: Pair, lit: Lit) -> Lit
 /// first before it.
 fn replacement(clause: &[Lit], other: Lit, trail: &Trail, saved: usize) -> Option<usize>
     requires exist { All (IsLitOf (var_count trail.now)) clause.now }
-    ensures { MatchOption result (All (λ m. (m ≡ other) ⊎ IsFalse (given trail.now.values.items) m) clause.now)
-        (IsReplacement (given trail.now.values.items) clause.now other) }
+    ensures { MatchOption result (All (IsPassedOver (given trail.now.values.items) other) clause.now)
+        (IsNextReplacement (given trail.now.values.items) clause.now other saved) }
 {
     let middle = saved.min(clause.len());
     match first_between(clause, other, trail, middle, clause.len()) {
@@ -249,9 +249,9 @@ fn first_between(
 ) -> Option<usize>
     requires exist { All (IsLitOf (var_count trail.now)) clause.now }
     requires end { end ≤ length clause.now }
-    ensures { MatchOption result (AllWithin
-        (λ m. (m ≡ other) ⊎ IsFalse (given trail.now.values.items) m) clause.now start end)
-        (IsReplacement (given trail.now.values.items) clause.now other) }
+    ensures { MatchOption result
+        (AllWithin (IsPassedOver (given trail.now.values.items) other) clause.now start end)
+        (IsFirstWithin (given trail.now.values.items) clause.now other start end) }
 {
     for at in start..end {
         if clause[at] != other && !trail.is_false(clause[at]) {

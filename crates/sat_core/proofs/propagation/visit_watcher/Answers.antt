@@ -12,7 +12,7 @@ use Rattle.sat_core.proofs.States.{reason-right}
 use Rattle.sat_core.proofs.Exchanging.{exchanged-lists, kept-moved, passed-moved, fewer-moved}
 use Rattle.sat_core.proofs.Watching.{list-within}
 use Rattle.sat_core.proofs.Renewing.{kept-renewed, passed-renewed, length-renewed}
-use Rattle.sat_core.proofs.Visiting.{visit-start, visit-other, visit-true, visit-falsified, visit-unit, visit-step, visit-exchange}
+use Rattle.sat_core.proofs.Visiting.{next-is, visit-start, visit-other, visit-true, visit-falsified, visit-unit, visit-step, visit-exchange}
 use Rattle.sat_core.proofs.propagation.visit_watcher.Goals as goal
 
 pub returns-then-is_true-clause-says : goal.returns-then-is_true-clause-says
@@ -99,7 +99,7 @@ move_watch-requires-clause-above c =
     let steps = t.steps.items in
     let v = visit-start clauses n steps w.lists.items w.pairs.items w.head l place c.list_place-list.result c.index.result.now watcher c.requires.watched c.requires.exist c.requires.lit c.requires.place c.list_place-list.ensures c.index.ensures c.get-watcher.ensures in
     let is : c.get-clause.result.now ≡ get_or clauses watcher.clause [] = sym (get_or_from_slice_get clauses watcher.clause c.get-clause.result.now [] c.get-clause.ensures) in
-    let among = Contains-get_or c.get-clause.result.now c.in-Some.at no_literal c.in-Some.ensures.within in
+    let among = Contains-get_or c.get-clause.result.now c.in-Some.at no_literal (next-is c.in-Some.ensures).within in
     let at = All-contains (IsLitOf n) c.get-clause.result.now (get_or c.get-clause.result.now c.in-Some.at no_literal) (subst (All (IsLitOf n)) (sym is) v.over) among in
     at.above
 
@@ -115,7 +115,7 @@ move_watch-requires-clause-new_list c =
     let steps = t.steps.items in
     let v = visit-start clauses n steps w.lists.items w.pairs.items w.head l place c.list_place-list.result c.index.result.now watcher c.requires.watched c.requires.exist c.requires.lit c.requires.place c.list_place-list.ensures c.index.ensures c.get-watcher.ensures in
     let is : c.get-clause.result.now ≡ get_or clauses watcher.clause [] = sym (get_or_from_slice_get clauses watcher.clause c.get-clause.result.now [] c.get-clause.ensures) in
-    let among = Contains-get_or c.get-clause.result.now c.in-Some.at no_literal c.in-Some.ensures.within in
+    let among = Contains-get_or c.get-clause.result.now c.in-Some.at no_literal (next-is c.in-Some.ensures).within in
     let at = All-contains (IsLitOf n) c.get-clause.result.now (get_or c.get-clause.result.now c.in-Some.at no_literal) (subst (All (IsLitOf n)) (sym is) v.over) among in
     list-within n (length w.lists.items) (get_or c.get-clause.result.now c.in-Some.at no_literal) at c.requires.watched.count
 
@@ -153,7 +153,7 @@ returns-in_ok-move_watch-in-Some-clause-watched c =
     let removed = subst (λ (k : ℕ). IsRemoved (watchers w.lists.items k) place e.rest) c.list_place-list.ensures e.removed in
     let lists : w'.lists.items ≡ exchanged-lists w.lists.items l e.rest watcher.clause pair = e.lists ∙ ap (λ (k : ℕ). with_watcher (set w.lists.items k e.rest) (list_of pair.b) (record { clause = watcher.clause; blocker = other })) c.list_place-list.ensures in
     let x = visit-exchange clauses n steps t.values.items t.indices.items t.decisions.items w.lists.items w.pairs.items w.head l place watcher other (get_or c.get-clause.result.now c.in-Some.at no_literal) c.in-Some.at c.get-clause.result.now
-    c.requires.state c.requires.watched c.requires.head c.requires.lit v o is (Contains-get_or c.get-clause.result.now c.in-Some.at no_literal c.in-Some.ensures.within) (c.in-Some.ensures.differ no_literal) (c.in-Some.ensures.free no_literal) in
+    c.requires.state c.requires.watched c.requires.head c.requires.lit v o is (Contains-get_or c.get-clause.result.now c.in-Some.at no_literal (next-is c.in-Some.ensures).within) ((next-is c.in-Some.ensures).differ no_literal) ((next-is c.in-Some.ensures).free no_literal) in
     subst (λ (k : ℕ). KeepWatches clauses n steps w'.lists.items w'.pairs.items k) (sym e.head)
     (subst (λ (ls : List (List Watcher)). KeepWatches clauses n steps ls w'.pairs.items w.head) (sym lists)
     (subst (λ (ps : List Pair). KeepWatches clauses n steps (exchanged-lists w.lists.items l e.rest watcher.clause pair) ps w.head) (sym e.pairs)
@@ -179,7 +179,7 @@ returns-in_ok-move_watch-in-Some-clause-says c =
     let removed = subst (λ (k : ℕ). IsRemoved (watchers w.lists.items k) place e.rest) c.list_place-list.ensures e.removed in
     let lists : w'.lists.items ≡ exchanged-lists w.lists.items l e.rest watcher.clause pair = e.lists ∙ ap (λ (k : ℕ). with_watcher (set w.lists.items k e.rest) (list_of pair.b) (record { clause = watcher.clause; blocker = other })) c.list_place-list.ensures in
     let x = visit-exchange clauses n steps t.values.items t.indices.items t.decisions.items w.lists.items w.pairs.items w.head l place watcher other (get_or c.get-clause.result.now c.in-Some.at no_literal) c.in-Some.at c.get-clause.result.now
-    c.requires.state c.requires.watched c.requires.head c.requires.lit v o is (Contains-get_or c.get-clause.result.now c.in-Some.at no_literal c.in-Some.ensures.within) (c.in-Some.ensures.differ no_literal) (c.in-Some.ensures.free no_literal) in (
+    c.requires.state c.requires.watched c.requires.head c.requires.lit v o is (Contains-get_or c.get-clause.result.now c.in-Some.at no_literal (next-is c.in-Some.ensures).within) ((next-is c.in-Some.ensures).differ no_literal) ((next-is c.in-Some.ensures).free no_literal) in (
       subst (λ (k : ℕ). ArePassedIn clauses steps w'.lists.items w'.pairs.items k (list_of l) place) (sym e.head)
           (subst (λ (ls : List (List Watcher)). ArePassedIn clauses steps ls w'.pairs.items w.head (list_of l) place) (sym lists)
           (subst (λ (ps : List Pair). ArePassedIn clauses steps (exchanged-lists w.lists.items l e.rest watcher.clause pair) ps w.head (list_of l) place) (sym e.pairs)
