@@ -8,7 +8,7 @@ use Rattle.std.proofs.lemmas.List.Elements.{All-filter, All-map, filter_passes}
 use Rattle.std.proofs.lemmas.List.FromFn.{filter_of_map_range_with_len_more, get_or-range_with_len, length-range_with_len, length-map-range_with_len}
 use Rattle.sat_core.specs.declared.trail.Value.{Value}
 use Rattle.sat_core.specs.declared.trail.Value.TheVariants.{Unassigned}
-use Rattle.sat_core.specs.Steps.{is_free, given}
+use Rattle.sat_core.specs.Steps.{is_unassigned, given}
 use Rattle.sat_core.specs.Picks.{free_list, scores_of}
 
 none-true : (o : Option Bool) → is_none o ≡ true → o ≡ None
@@ -19,20 +19,20 @@ none-true (Some b) e = absurd (false≢true e)
 abbrev pub free_to : List Value → ℕ → List ℕ
 free_to values n = filter (λ x. is_none (given values x)) (map (λ i. i + 1) (range_with_len 0 n))
 
-pub free-more : (values : List Value) (n : ℕ) → is_free (get_or values n Unassigned) ≡ true → free_to values n ++ (n + 1) ∷ [] ≡ free_to values (n + 1)
+pub free-more : (values : List Value) (n : ℕ) → is_unassigned (get_or values n Unassigned) ≡ true → free_to values n ++ (n + 1) ∷ [] ≡ free_to values (n + 1)
 unfolding given
 free-more values n free =
-    let p : ℕ → Bool = λ x. is_free (get_or values (x - 1) Unassigned) in
+    let p : ℕ → Bool = λ x. is_unassigned (get_or values (x - 1) Unassigned) in
     let at : n + 1 - 1 ≡ n = omega arith in
-    let yes : p (n + 1) ≡ true = ap (λ (i : ℕ). is_free (get_or values i Unassigned)) at ∙ free in
+    let yes : p (n + 1) ≡ true = ap (λ (i : ℕ). is_unassigned (get_or values i Unassigned)) at ∙ free in
     sym (filter_of_map_range_with_len_more p (λ i. i + 1) 0 n n (omega arith) ∙ ap (λ (ys : List ℕ). free_to values n ++ ys) (cond-true (p (n + 1)) ((n + 1) ∷ []) [] yes))
 
-pub free-keep : (values : List Value) (n : ℕ) → is_free (get_or values n Unassigned) ≡ false → free_to values n ≡ free_to values (n + 1)
+pub free-keep : (values : List Value) (n : ℕ) → is_unassigned (get_or values n Unassigned) ≡ false → free_to values n ≡ free_to values (n + 1)
 unfolding given
 free-keep values n some =
-    let p : ℕ → Bool = λ x. is_free (get_or values (x - 1) Unassigned) in
+    let p : ℕ → Bool = λ x. is_unassigned (get_or values (x - 1) Unassigned) in
     let at : n + 1 - 1 ≡ n = omega arith in
-    let no : p (n + 1) ≡ false = ap (λ (i : ℕ). is_free (get_or values i Unassigned)) at ∙ some in
+    let no : p (n + 1) ≡ false = ap (λ (i : ℕ). is_unassigned (get_or values i Unassigned)) at ∙ some in
     sym (filter_of_map_range_with_len_more p (λ i. i + 1) 0 n n (omega arith) ∙ ap (λ (ys : List ℕ). free_to values n ++ ys) (cond-false (p (n + 1)) ((n + 1) ∷ []) [] no) ∙ append-nil (free_to values n))
 
 -- **each variable of the list exists and is free**

@@ -15,7 +15,7 @@ use Rattle.cnf_core.specs.Outcome.{IsSolved, IsRefuted, IsSpent}
 use Rattle.sat_core.specs.declared.trail.Trail.{Trail}
 use Rattle.sat_core.specs.declared.trail.Value.{Value}
 use Rattle.sat_core.specs.declared.trail.Value.TheVariants.{Unassigned}
-use Rattle.sat_core.specs.Steps.{value_of, given, var_count, IsTrailState, AreClosedBefore}
+use Rattle.sat_core.specs.Steps.{truth_value, given, var_count, IsTrailState, AreClosedBefore}
 use Rattle.sat_core.specs.Picks.{free_list}
 use Rattle.sat_core.specs.Conflicts.{GoesOnWith}
 use Rattle.sat_core.proofs.Holding.{some-same}
@@ -184,22 +184,22 @@ some-of None some = absurd (some refl)
 some-of (Some b) some = refl
 
 all_of : List Value → List Bool
-all_of values = map (λ v. unwrap_or (value_of v) false) values
+all_of values = map (λ v. unwrap_or (truth_value v) false) values
 
 -- each variable's value is the assigned one
 total : (values : List Value) (x : ℕ) → free_list values ≡ [] → 1 ≤ x → x ≤ length values → given values x ≡ Some (assigned (all_of values) x)
 unfolding given all_of
 total values x empty low high =
-    some-of (value_of (get_or values (x - 1) Unassigned)) (none-free values x empty low high)
-    ∙ ap (λ (b : Bool). Some b) (sym (get_or-map (λ v. unwrap_or (value_of v) false) values (x - 1) Unassigned false (omega arith)))
+    some-of (truth_value (get_or values (x - 1) Unassigned)) (none-free values x empty low high)
+    ∙ ap (λ (b : Bool). Some b) (sym (get_or-map (λ v. unwrap_or (truth_value v) false) values (x - 1) Unassigned false (omega arith)))
 
 -- **where every variable has a value and the clauses are closed, the values satisfy the formula**
-pub search-solved : (f : Formula) (lines : List Line) (clauses : List (List Lit)) (n : ℕ) (values : List Value) (all : List Bool) → clauses ≡ known f.clauses lines → AreOver f.vars clauses → length values ≡ f.vars → IsClosed (given values) clauses → free_list values ≡ [] → all ≡ map (λ v. unwrap_or (value_of v) false) values → IsSolved f all
+pub search-solved : (f : Formula) (lines : List Line) (clauses : List (List Lit)) (n : ℕ) (values : List Value) (all : List Bool) → clauses ≡ known f.clauses lines → AreOver f.vars clauses → length values ≡ f.vars → IsClosed (given values) clauses → free_list values ≡ [] → all ≡ map (λ v. unwrap_or (truth_value v) false) values → IsSolved f all
 unfolding all_of
 search-solved f lines clauses n values all is over size closed empty is-all =
     subst (IsSolved f) (sym is-all)
     (record {
-      size = length-map values (λ v. unwrap_or (value_of v) false) ∙ size;
+      size = length-map values (λ v. unwrap_or (truth_value v) false) ∙ size;
       satisfied = λ k d few.
           (let long = length-known f.clauses lines in
           let e : get_or clauses k d ≡ get_or f.clauses k d = ap (λ (cs : List (List Lit)). get_or cs k d) is ∙ get_or_append_left f.clauses (map (λ (l : Line). l.lits) lines) d k few in

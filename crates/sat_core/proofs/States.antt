@@ -14,7 +14,7 @@ use Rattle.cnf_core.specs.Refutation.{clause_at}
 use Rattle.sat_core.specs.declared.trail.Step.{Step}
 use Rattle.sat_core.specs.declared.trail.Value.{Value}
 use Rattle.sat_core.specs.declared.trail.Value.TheVariants.{Unassigned}
-use Rattle.sat_core.specs.Steps.{value_of, is_free, given, trail_values, with_decision, decision_indices, IsReason, IsRightStep, AreSteps, Propagates, AreClosedBefore}
+use Rattle.sat_core.specs.Steps.{truth_value, is_unassigned, given, trail_values, with_decision, decision_indices, IsReason, IsRightStep, AreSteps, Propagates, AreClosedBefore}
 use Rattle.sat_core.specs.FalseClauses.{IsFalsified}
 use Rattle.sat_core.proofs.Agreeing.{unit-agrees, false-agrees, open-agrees}
 use Rattle.sat_core.proofs.Holding.{none≢some, held-push-other, held-push-same, held-at}
@@ -23,26 +23,26 @@ use Rattle.sat_core.proofs.Deciding.{decisions-push}
 abbrev Values : Type 0
 Values = List Value
 
-given-same : (values : Values) (l : Lit) (v : Value) → value_of v ≡ Some l.positive → 1 ≤ l.var → l.var ≤ length values → given (set values (l.var - 1) v) l.var ≡ Some l.positive
+given-same : (values : Values) (l : Lit) (v : Value) → truth_value v ≡ Some l.positive → 1 ≤ l.var → l.var ≤ length values → given (set values (l.var - 1) v) l.var ≡ Some l.positive
 unfolding given
-given-same values l v is low high = ap value_of (get_or-set_same values (l.var - 1) v Unassigned (omega arith)) ∙ is
+given-same values l v is low high = ap truth_value (get_or-set_same values (l.var - 1) v Unassigned (omega arith)) ∙ is
 
 given-other : (values : Values) (l : Lit) (v : Value) (x : ℕ) → 1 ≤ l.var → 1 ≤ x → (l.var ≡ x → ⊥) → given (set values (l.var - 1) v) x ≡ given values x
 unfolding given
-given-other values l v x low low' other = let ne : x - 1 ≢ l.var - 1 = omega arith in ap value_of (get_or-set_other values (l.var - 1) (x - 1) v Unassigned ne)
+given-other values l v x low low' other = let ne : x - 1 ≢ l.var - 1 = omega arith in ap truth_value (get_or-set_other values (l.var - 1) (x - 1) v Unassigned ne)
 
 -- one variable fewer without a value
-room-push : (values : Values) (l : Lit) (v : Value) → value_of v ≡ Some l.positive → 1 ≤ l.var → l.var ≤ length values → given values l.var ≡ None → count_by is_free (set values (l.var - 1) v) + 1 ≡ count_by is_free values
+room-push : (values : Values) (l : Lit) (v : Value) → truth_value v ≡ Some l.positive → 1 ≤ l.var → l.var ≤ length values → given values l.var ≡ None → count_by is_unassigned (set values (l.var - 1) v) + 1 ≡ count_by is_unassigned values
 unfolding given
 room-push values l v is low high free =
-    let e : count_by is_free (set values (l.var - 1) v) + cond {A = ℕ} (is_free (get_or values (l.var - 1) Unassigned)) 1 0 ≡ count_by is_free values + cond {A = ℕ} (is_free v) 1 0 =
-    sum_by-set (λ (o : Value). cond {A = ℕ} (is_free o) 1 0) values (l.var - 1) v Unassigned (omega arith) in
-    let one : cond {A = ℕ} (is_free (get_or values (l.var - 1) Unassigned)) 1 0 ≡ 1 = ap (λ (o : Option Bool). cond {A = ℕ} (is_none o) 1 0) free in
-    let none : cond {A = ℕ} (is_free v) 1 0 ≡ 0 = ap (λ (o : Option Bool). cond {A = ℕ} (is_none o) 1 0) is in
+    let e : count_by is_unassigned (set values (l.var - 1) v) + cond {A = ℕ} (is_unassigned (get_or values (l.var - 1) Unassigned)) 1 0 ≡ count_by is_unassigned values + cond {A = ℕ} (is_unassigned v) 1 0 =
+    sum_by-set (λ (o : Value). cond {A = ℕ} (is_unassigned o) 1 0) values (l.var - 1) v Unassigned (omega arith) in
+    let one : cond {A = ℕ} (is_unassigned (get_or values (l.var - 1) Unassigned)) 1 0 ≡ 1 = ap (λ (o : Option Bool). cond {A = ℕ} (is_none o) 1 0) free in
+    let none : cond {A = ℕ} (is_unassigned v) 1 0 ≡ 0 = ap (λ (o : Option Bool). cond {A = ℕ} (is_none o) 1 0) is in
     omega arith
 
 -- one more right step
-steps-push-of : (clauses : List (List Lit)) (n : ℕ) (steps : List Step) (values : Values) (indices decisions : List ℕ) (step : Step) (v : Value) → value_of v ≡ Some step.lit.positive → IsLitOf n step.lit → AreSteps clauses n steps values indices decisions → IsRightStep clauses steps step → AreSteps clauses n (steps ++ step ∷ []) (set values (step.lit.var - 1) v) (set indices (step.lit.var - 1) (length steps)) (decisions ++ with_decision step.reason (length steps) [])
+steps-push-of : (clauses : List (List Lit)) (n : ℕ) (steps : List Step) (values : Values) (indices decisions : List ℕ) (step : Step) (v : Value) → truth_value v ≡ Some step.lit.positive → IsLitOf n step.lit → AreSteps clauses n steps values indices decisions → IsRightStep clauses steps step → AreSteps clauses n (steps ++ step ∷ []) (set values (step.lit.var - 1) v) (set indices (step.lit.var - 1) (length steps)) (decisions ++ with_decision step.reason (length steps) [])
 steps-push-of clauses n steps values indices decisions step v is-v at h right =
     let l = step.lit in
     let size = length-set values (l.var - 1) v in
@@ -94,7 +94,7 @@ steps-push-of clauses n steps values indices decisions step v is-v at h right =
     take_all' [] = refl
     take_all' (x ∷ xs) = ap (λ (ys : List Step). x ∷ ys) (take_all' xs)
 
-pub steps-push : (clauses : List (List Lit)) (n : ℕ) (steps steps' : List Step) (values values' : Values) (indices indices' decisions decisions' : List ℕ) (step : Step) (v : Value) → value_of v ≡ Some step.lit.positive → IsLitOf n step.lit → steps' ≡ steps ++ step ∷ [] → values' ≡ set values (step.lit.var - 1) v → indices' ≡ set indices (step.lit.var - 1) (length steps) → decisions' ≡ decisions ++ with_decision step.reason (length steps) [] → AreSteps clauses n steps values indices decisions → IsRightStep clauses steps step → AreSteps clauses n steps' values' indices' decisions'
+pub steps-push : (clauses : List (List Lit)) (n : ℕ) (steps steps' : List Step) (values values' : Values) (indices indices' decisions decisions' : List ℕ) (step : Step) (v : Value) → truth_value v ≡ Some step.lit.positive → IsLitOf n step.lit → steps' ≡ steps ++ step ∷ [] → values' ≡ set values (step.lit.var - 1) v → indices' ≡ set indices (step.lit.var - 1) (length steps) → decisions' ≡ decisions ++ with_decision step.reason (length steps) [] → AreSteps clauses n steps values indices decisions → IsRightStep clauses steps step → AreSteps clauses n steps' values' indices' decisions'
 steps-push clauses n steps steps' values values' indices indices' decisions decisions' step v is-v at is-steps is-values is-indices is-decisions h right =
     subst (λ (ss : List Step). AreSteps clauses n ss values' indices' decisions') (sym is-steps)
     (subst (λ (vs : Values). AreSteps clauses n (steps ++ step ∷ []) vs indices' decisions') (sym is-values)
@@ -114,7 +114,7 @@ steps-pop clauses n steps step values indices decisions decisions' fewer h =
     subst (IsRightStep clauses steps) (get_or_push steps step step (length steps) refl)
     (subst (λ (front : List Step). IsRightStep clauses front (get_or (steps ++ step ∷ []) (length steps) step)) (take_at steps (step ∷ []) (length steps) refl) (h.trail (length steps) step (omega arith))) in
     let within : l.var ≤ length values = (let a = at.within in let b = h.size in omega arith) in
-    let was : value_of (get_or values (l.var - 1) Unassigned) ≡ Some l.positive = sym (h.shows l.var at.above at.within) ∙ held-push-same steps step right.free in
+    let was : truth_value (get_or values (l.var - 1) Unassigned) ≡ Some l.positive = sym (h.shows l.var at.above at.within) ∙ held-push-same steps step right.free in
     record {
       trail = λ k d few.
           subst (IsRightStep clauses (take k steps)) (get_or_append_left steps (step ∷ []) d k few)
@@ -122,16 +122,16 @@ steps-pop clauses n steps step values indices decisions decisions' fewer h =
       exist = λ k d few. subst (λ (s : Step). IsLitOf n s.lit) (get_or_append_left steps (step ∷ []) d k few) (h.exist k d (omega arith));
       size = size ∙ h.size;
       shows = λ x low high. elim (cases_eq l.var x) [
-        | inl same ↦ subst (λ (y : ℕ). trail_values steps y ≡ value_of (get_or (set values (l.var - 1) Unassigned) (y - 1) Unassigned)) same
-            (right.free ∙ sym (ap value_of (get_or-set_same values (l.var - 1) Unassigned Unassigned (omega arith))))
+        | inl same ↦ subst (λ (y : ℕ). trail_values steps y ≡ truth_value (get_or (set values (l.var - 1) Unassigned) (y - 1) Unassigned)) same
+            (right.free ∙ sym (ap truth_value (get_or-set_same values (l.var - 1) Unassigned Unassigned (omega arith))))
         | inr other ↦
             (let ne : x - 1 ≢ l.var - 1 = (let a = at.above in omega arith) in
-            sym (held-push-other steps step x other) ∙ h.shows x low high ∙ sym (ap value_of (get_or-set_other values (l.var - 1) (x - 1) Unassigned Unassigned ne)))
+            sym (held-push-other steps step x other) ∙ h.shows x low high ∙ sym (ap truth_value (get_or-set_other values (l.var - 1) (x - 1) Unassigned Unassigned ne)))
       ];
       room =
-          (let e : count_by is_free (set values (l.var - 1) Unassigned) + cond {A = ℕ} (is_free (get_or values (l.var - 1) Unassigned)) 1 0 ≡ count_by is_free values + 1 =
-          sum_by-set (λ (o : Value). cond {A = ℕ} (is_free o) 1 0) values (l.var - 1) Unassigned Unassigned (let a = at.above in omega arith) in
-          let zero' : cond {A = ℕ} (is_free (get_or values (l.var - 1) Unassigned)) 1 0 ≡ 0 = ap (λ (o : Option Bool). cond {A = ℕ} (is_none o) 1 0) was in
+          (let e : count_by is_unassigned (set values (l.var - 1) Unassigned) + cond {A = ℕ} (is_unassigned (get_or values (l.var - 1) Unassigned)) 1 0 ≡ count_by is_unassigned values + 1 =
+          sum_by-set (λ (o : Value). cond {A = ℕ} (is_unassigned o) 1 0) values (l.var - 1) Unassigned Unassigned (let a = at.above in omega arith) in
+          let zero' : cond {A = ℕ} (is_unassigned (get_or values (l.var - 1) Unassigned)) 1 0 ≡ 0 = ap (λ (o : Option Bool). cond {A = ℕ} (is_none o) 1 0) was in
           let room = h.room in omega arith);
       slots = h.slots;
       placed = λ k d few. subst (λ (t : Step). get_or indices (t.lit.var - 1) 0 ≡ k) (get_or_append_left steps (step ∷ []) d k few) (h.placed k d (omega arith));
@@ -216,8 +216,8 @@ steps-none clauses n steps values indices decisions is-steps is-values is-indice
       trail = λ k d few. absurd (omega (arith, few));
       exist = All-nil (λ (s : Step). IsLitOf n s.lit);
       size = length-replicate n Unassigned;
-      shows = λ x low high. sym (ap value_of (get_or-replicate n (x - 1) Unassigned Unassigned (omega arith)));
-      room = (let all = sum_by-replicate (λ (o : Value). cond {A = ℕ} (is_free o) 1 0) n Unassigned in omega arith);
+      shows = λ x low high. sym (ap truth_value (get_or-replicate n (x - 1) Unassigned Unassigned (omega arith)));
+      room = (let all = sum_by-replicate (λ (o : Value). cond {A = ℕ} (is_unassigned o) 1 0) n Unassigned in omega arith);
       slots = ap length is-indices ∙ length-replicate n 0;
       placed = λ k d few. absurd (omega (arith, few));
       decided = is-decisions;

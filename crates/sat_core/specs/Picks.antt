@@ -36,7 +36,8 @@ decision_of var = record { lit = record { var = var; positive = false }; reason 
 
 -- the rule f, which may pick these places, answered a place for the scores, and the free variable at that place was
 -- made false by decision
-pub record IsDecidedBy {F : Type 0} (picks : F → List ℕ → ℕ → Type 0) (f : F) (counts : List ℕ) (old new : Trail) : Type 0 where
+pub record IsDecidedBy {F : Type 0} (picks : F → List ℕ → ℕ → Type 0) (f : F) (counts : List ℕ)
+    (old new : Trail) : Type 0 where
   pub place : ℕ
   pub picked : picks f (scores_of counts old.values.items) place
   pub within : place < length (free_list old.values.items)

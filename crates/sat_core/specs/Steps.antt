@@ -12,17 +12,17 @@ use Rattle.sat_core.specs.declared.trail.Value.TheVariants.{Unassigned, False, T
 use Rattle.sat_core.specs.declared.trail.Trail.{Trail}
 
 -- what a stored value says
-abbrev pub value_of : Value → Option Bool
-value_of Unassigned = None
-value_of False = Some false
-value_of True = Some true
+abbrev pub truth_value : Value → Option Bool
+truth_value Unassigned = None
+truth_value False = Some false
+truth_value True = Some true
 
-abbrev pub is_free : Value → Bool
-is_free v = is_none (value_of v)
+abbrev pub is_unassigned : Value → Bool
+is_unassigned v = is_none (truth_value v)
 
 -- the value of each variable, that of x at the place x - 1
 unfoldable pub given : List Value → Partial
-given values x = value_of (slice_index_or values (x - 1) Unassigned)
+given values x = truth_value (slice_index_or values (x - 1) Unassigned)
 
 -- the literals that the steps made true
 abbrev pub lits_of : List Step → List Lit
@@ -61,14 +61,14 @@ decision_indices_from k (step ∷ steps) = with_decision step.reason k (decision
 abbrev pub decision_indices : List Step → List ℕ
 decision_indices steps = decision_indices_from 0 steps
 
--- steps over n variables, the values that they gave, the trail index of each variable's step, and those of the decisions
+-- steps over n variables, the values that they gave, and the trail indices of each variable's step and of the decisions
 pub record AreSteps (clauses : List (List Lit)) (n : ℕ) (steps : List Step) (values : List Value)
     (indices decisions : List ℕ) : Type 0 where
   pub trail : IsTrail clauses steps
   pub exist : All (λ (s : Step). IsLitOf n s.lit) steps
   pub size : length values ≡ n
   pub shows : (x : ℕ) → 1 ≤ x → x ≤ n → trail_values steps x ≡ given values x
-  pub room : length steps + count_by is_free values ≡ n
+  pub room : length steps + count_by is_unassigned values ≡ n
   pub slots : length indices ≡ n
   pub placed : (k : ℕ) (d : Step) → k < length steps → slice_index indices ((slice_index_or steps k d).lit.var - 1) ≡ k
   pub decided : decisions ≡ decision_indices steps

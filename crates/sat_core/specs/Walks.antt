@@ -36,7 +36,8 @@ abbrev pub AreUnmarkedBelow : ℕ → List Bool → Type 0
 AreUnmarkedBelow n seen = (k : ℕ) → k < n → is_marked seen k ≡ false
 
 -- the steps of the literals of a front of the clause are marked too, as many from `last` on as were added
-pub record MarksClause (indices : List ℕ) (front clause : List Lit) (last : ℕ) (old new : List Bool) (added : ℕ) : Type 0 where
+pub record MarksClause (indices : List ℕ) (front clause : List Lit) (last : ℕ) (old new : List Bool)
+    (added : ℕ) : Type 0 where
   pub size : length new ≡ length old
   pub keeps : (k : ℕ) → is_marked old k ≡ true → is_marked new k ≡ true
   pub all : All (λ l. is_marked new (trail_index indices l) ≡ true) front
@@ -71,8 +72,8 @@ abbrev pub IsKeptAt : ℕ → ℕ → ℕ → ℕ → Bool → Type 0
 IsKeptAt first last at_last_level place spare =
     ((last ≤ place) × (at_last_level ≡ 1)) ⊎ ((place < last) × (first ≤ place) × (spare ≡ false))
 
--- a literal of a reason adds no step to those that are needed: its step is the one at the place, before any decision, or
--- needed already
+-- a literal of a reason adds no step to those that are needed: its step is the one at the place, before any decision,
+-- or needed already
 abbrev pub AddsNoStep : List ℕ → List Bool → ℕ → ℕ → Lit → Type 0
 AddsNoStep indices seen first place l =
     (trail_index indices l ≡ place) ⊎ (trail_index indices l < first) ⊎ (is_marked seen (trail_index indices l) ≡ true)
@@ -85,7 +86,8 @@ pub record IsSpareStep (clauses : List (List Lit)) (steps : List Step) (indices 
   pub reason : (d : Step) → (slice_index_or steps place d).reason ≡ Some id
   pub others : All (AddsNoStep indices a.seen.items first place) (clause_at clauses id)
 
--- a needed step of an earlier level, not before any decision, adds its literal's opposite to the lemma, unless it is spare
+-- a needed step of an earlier level, not before any decision, adds its literal's opposite to the lemma, unless it is
+-- spare
 pub record IsMinimalAt (clauses : List (List Lit)) (steps : List Step) (indices : List ℕ) (first place : ℕ)
     (old new : Analysis) : Type 0 where
   pub spare : IsSpareStep clauses steps indices first place old → new.lits.items ≡ old.lits.items
@@ -156,7 +158,8 @@ Covers steps i seen t =
 
 -- of other variables they hold what refutes the lemma
 abbrev pub HoldsRefuted : List Step → ℕ → List Lit → List Lit → Type 0
-HoldsRefuted steps i lits t = (x : ℕ) → trail_values (take i steps) x ≡ None → partial_of t x ≡ partial_of (refuted lits) x
+HoldsRefuted steps i lits t =
+    (x : ℕ) → trail_values (take i steps) x ≡ None → partial_of t x ≡ partial_of (refuted lits) x
 
 -- from such literals the hints lead to the conflict
 abbrev pub LeadsToConflict : List (List Lit) → List Step → ℕ → List Bool → List Lit → List ℕ → List Lit → Type 0
@@ -166,7 +169,8 @@ LeadsToConflict clauses steps i seen lits hints conflict =
 
 -- the same of what an analysis knows
 abbrev pub LeadsBy : List (List Lit) → List Step → ℕ → Analysis → List Lit → Type 0
-LeadsBy clauses steps i a conflict = LeadsToConflict clauses steps i a.seen.items a.lits.items (reverse a.hints.items) conflict
+LeadsBy clauses steps i a conflict =
+    LeadsToConflict clauses steps i a.seen.items a.lits.items (reverse a.hints.items) conflict
 
 -- under the steps before each decision from i on that stays, the lemma is open
 abbrev pub IsBackjump : List Step → ℕ → ℕ → List Lit → Type 0

@@ -44,7 +44,8 @@ StandsFrom from list id = (j : ℕ) × (from ≤ j) × (j < length list) × ((sl
 pub record IsRemoved (old : List Watcher) (place : ℕ) (new : List Watcher) : Type 0 where
   pub fewer : length new + 1 ≡ length old
   pub stays : (j : ℕ) → j < length old → j ≢ place
-      → (i : ℕ) × (i < length new) × ((i ≡ j) ⊎ (i ≡ place)) × (slice_index_or new i no_watcher ≡ slice_index_or old j no_watcher)
+      → (i : ℕ) × (i < length new) × ((i ≡ j) ⊎ (i ≡ place))
+      × (slice_index_or new i no_watcher ≡ slice_index_or old j no_watcher)
   pub among : (i : ℕ) → i < length new
       → (j : ℕ) × (j < length old) × (slice_index_or new i no_watcher ≡ slice_index_or old j no_watcher)
 
@@ -58,20 +59,23 @@ watcher_with list place blocker = record { clause = (slice_index_or list place n
 
 -- the lists with it
 abbrev pub with_blocker : List (List Watcher) → ℕ → ℕ → Lit → List (List Watcher)
-with_blocker lists k place blocker = slice_set lists k (slice_set (watchers lists k) place (watcher_with (watchers lists k) place blocker))
+with_blocker lists k place blocker =
+    slice_set lists k (slice_set (watchers lists k) place (watcher_with (watchers lists k) place blocker))
 
 -- a clause watches other literals: it left a list, and stands in that of the second one, where the first one blocks it
 pub record IsMoved (list place clause : ℕ) (pair : Pair) (old new : Watches) : Type 0 where
   pub rest : List Watcher
   pub removed : IsRemoved (watchers old.lists.items list) place rest
-  pub lists : new.lists.items ≡ with_watcher (slice_set old.lists.items list rest) (list_of pair.b) (record { clause = clause; blocker = pair.a })
+  pub lists : new.lists.items ≡ with_watcher (slice_set old.lists.items list rest) (list_of pair.b)
+      (record { clause = clause; blocker = pair.a })
   pub pairs : new.pairs.items ≡ slice_set old.pairs.items clause pair
   pub head : new.head ≡ old.head
 
 -- what the lists hold of a new clause: nothing, or each of its two watched literals, blocked by the other
 abbrev pub with_pair : List (List Watcher) → ℕ → Pair → List (List Watcher)
 with_pair lists id p =
-    with_watcher (with_watcher lists (list_of p.a) (record { clause = id; blocker = p.b })) (list_of p.b) (record { clause = id; blocker = p.a })
+    with_watcher (with_watcher lists (list_of p.a) (record { clause = id; blocker = p.b })) (list_of p.b)
+    (record { clause = id; blocker = p.a })
 
 -- a clause was added at the end, with its watched literals
 pub record IsAdded (pair : Pair) (old new : Watches) : Type 0 where
@@ -90,13 +94,15 @@ pub record IsWatcher (clauses : List (List Lit)) (pairs : List Pair) (w : Watche
 abbrev pub IsTrueClause : Partial → List Lit → Type 0
 IsTrueClause s c = (l : Lit) × Contains c l × IsHeld s l
 
--- the clause needs no visit: under the later values it is true, or under the earlier ones neither watched literal is false
+-- the clause needs no visit: it is true under the later values, or neither watched literal is false under the earlier
+-- ones
 abbrev pub NeedsNoVisit : Partial → Partial → List Lit → Pair → Type 0
 NeedsNoVisit s t c p = IsTrueClause t c ⊎ ((p.a ≢ p.b) × (IsFalse s p.a → ⊥) × (IsFalse s p.b → ⊥))
 
 -- what is kept of a clause that was visited: it needed no visit before each decision, and now needs one only for the
 -- steps from head on
-pub record KeepsWatch (steps : List Step) (lists : List (List Watcher)) (head id : ℕ) (c : List Lit) (p : Pair) : Type 0 where
+pub record KeepsWatch (steps : List Step) (lists : List (List Watcher)) (head id : ℕ) (c : List Lit)
+    (p : Pair) : Type 0 where
   pub has_a : Contains c p.a
   pub has_b : Contains c p.b
   pub listed_a : p.a ≢ p.b → StandsFrom 0 (watchers lists (list_of p.a)) id
@@ -106,13 +112,14 @@ pub record KeepsWatch (steps : List Step) (lists : List (List Watcher)) (head id
   pub visited : NeedsNoVisit (trail_values (take head steps)) (trail_values steps) c p
 
 -- what the lists and pairs keep: steps taken back to a decision leave it, with the head not past the end
-pub record KeepWatches (clauses : List (List Lit)) (n : ℕ) (steps : List Step) (lists : List (List Watcher)) (pairs : List Pair)
-    (head : ℕ) : Type 0 where
+pub record KeepWatches (clauses : List (List Lit)) (n : ℕ) (steps : List Step) (lists : List (List Watcher))
+    (pairs : List Pair) (head : ℕ) : Type 0 where
   pub count : length lists ≡ 2 * n
   pub attached : length pairs ≤ length clauses
   pub within : head ≤ length steps
   pub right : (k : ℕ) → All (IsWatcher clauses pairs) (watchers lists k)
-  pub kept : (id : ℕ) → id < length pairs → KeepsWatch steps lists head id (slice_index_or clauses id []) (pair_at pairs id)
+  pub kept : (id : ℕ) → id < length pairs
+      → KeepsWatch steps lists head id (slice_index_or clauses id []) (pair_at pairs id)
 
 abbrev pub AreWatched : List (List Lit) → ℕ → List Step → Watches → Type 0
 AreWatched clauses n steps w = KeepWatches clauses n steps w.lists.items w.pairs.items w.head
@@ -121,7 +128,8 @@ AreWatched clauses n steps w = KeepWatches clauses n steps w.lists.items w.pairs
 abbrev pub ArePassedIn : List (List Lit) → List Step → List (List Watcher) → List Pair → ℕ → ℕ → ℕ → Type 0
 ArePassedIn clauses steps lists pairs head list place =
     (id : ℕ) → id < length pairs
-    → NeedsNoVisit (trail_values (take (head + 1) steps)) (trail_values steps) (slice_index_or clauses id []) (pair_at pairs id)
+    → NeedsNoVisit (trail_values (take (head + 1) steps)) (trail_values steps)
+    (slice_index_or clauses id []) (pair_at pairs id)
     ⊎ StandsFrom place (watchers lists list) id
 
 abbrev pub ArePassed : List (List Lit) → List Step → Watches → Lit → ℕ → Type 0
@@ -174,7 +182,8 @@ IsFalseFrom steps l at = (k : ℕ) → k ≤ length steps → IsFalse (trail_val
 
 -- a literal becomes false no later than another one
 abbrev pub IsNoLater : List Step → Lit → Lit → Type 0
-IsNoLater steps m l = (k : ℕ) → k ≤ length steps → IsFalse (trail_values (take k steps)) l → IsFalse (trail_values (take k steps)) m
+IsNoLater steps m l =
+    (k : ℕ) → k ≤ length steps → IsFalse (trail_values (take k steps)) l → IsFalse (trail_values (take k steps)) m
 
 -- the literal of the clause that becomes false last, but for one that is passed over, or none where there is no other
 abbrev pub IsLatest : List Step → List Lit → Option Lit → Option Lit → Type 0

@@ -264,7 +264,8 @@ impl Analysis {
         requires state { IsTrailState clauses.now (var_count trail.now) trail.now }
         requires within { place < length trail.now.steps.items }
         requires size { length trail.now.steps.items ≤ length self.now.seen.items }
-        ensures { IsTrue result ↔ IsSpareStep clauses.now trail.now.steps.items trail.now.indices.items first place self.now }
+        ensures { IsTrue result ↔ IsSpareStep clauses.now trail.now.steps.items trail.now.indices.items
+            first place self.now }
     {
         if self.last <= place {
             return false;

@@ -24,9 +24,9 @@ pub(crate) enum Visit {
     Falsified(u32),
 }
 
-/// Unit propagation: makes literals true, each by a clause that is unit under those before it, until no clause is unit or
-/// one is false: the id of that one. Each new clause is visited once, and after it those alone that watch a literal that
-/// became false.
+/// Unit propagation: makes literals true, each by a clause that is unit under those before it, until no clause is unit
+/// or one is false: the id of that one. Each new clause is visited once, and after it those alone that watch a literal
+/// that became false.
 pub(crate) fn propagate(
     clauses: &Clauses,
     trail: &mut Trail,

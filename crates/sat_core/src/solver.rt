@@ -3,7 +3,7 @@ ghost use Rattle.std.specs.Prelude.{◌≡◌, ◌+◌, ◌^◌, ◌<◌, ◌≤
 ghost use Rattle.cnf_core.specs.Formula.{AreOver};
 ghost use Rattle.cnf_core.specs.Values.{IsClosed};
 ghost use Rattle.cnf_core.specs.Outcome.{IsSolved, IsRefuted, IsSpent};
-ghost use Rattle.sat_core.specs.Steps.{value_of, given, var_count, IsTrailState, AreClosedBefore};
+ghost use Rattle.sat_core.specs.Steps.{truth_value, given, var_count, IsTrailState, AreClosedBefore};
 ghost use Rattle.sat_core.specs.FalseClauses.{IsFalsified};
 ghost use Rattle.sat_core.specs.Picks.{free_list};
 ghost use Rattle.sat_core.specs.Watches.{AreWatched};
@@ -30,10 +30,10 @@ pub enum Verdict {
     Spent(Lines),
 }
 
-/// Searches for values that satisfy the formula, with at most so many conflicts. Each decision is the free variable at the
-/// picker's place among one score for each free variable, rising, and it is tried false first. A score is the number of
-/// lemmas so far that have the variable. Each conflict takes one line: the first unique implication point, with the
-/// clauses that it was resolved from as hints. Memory grows with the formula and with what is learnt, not with
+/// Searches for values that satisfy the formula, with at most so many conflicts. Each decision is the free variable at
+/// the picker's place among one score for each free variable, rising, and it is tried false first. A score is the
+/// number of lemmas so far that have the variable. Each conflict takes one line: the first unique implication point,
+/// with the clauses that it was resolved from as hints. Memory grows with the formula and with what is learnt, not with
 /// `conflicts`.
 pub fn solve<F: Rule>(
     alloc: Global,
@@ -119,7 +119,7 @@ fn advance<F: Rule>(
 
 /// The values, where all are there.
 fn all_values(alloc: Global, values: &[Value]) -> Result<Items<bool>, NoMemory>
-    ensures { IfOk result (λ all. all ≡ map (λ v. unwrap_or (value_of v) false) values.now) }
+    ensures { IfOk result (λ all. all ≡ map (λ v. unwrap_or (truth_value v) false) values.now) }
 {
     let mut all = Items::new(alloc);
     for value in values {

@@ -5,7 +5,7 @@ ghost use Rattle.sat_core.specs.declared.trail.Step.{Step as Taken};
 ghost use Rattle.cnf_core.specs.declared.literal.Lit.{Lit as Literal};
 ghost use Rattle.cnf_core.specs.Formula.{IsLitOf};
 ghost use Rattle.cnf_core.specs.Values.{IsHeld, IsFalse};
-ghost use Rattle.sat_core.specs.Steps.{value_of, is_free, given, with_decision, decision_indices, IsTrailState, IsRightStep, var_count};
+ghost use Rattle.sat_core.specs.Steps.{truth_value, is_unassigned, given, with_decision, decision_indices, IsTrailState, IsRightStep, var_count};
 ghost use Rattle.sat_core.specs.Walks.{IsLastDecision, IsDecisionOrEnd};
 ghost use Rattle.sat_core.specs.Watches.{IsFalseFrom};
 
@@ -24,20 +24,20 @@ pub(crate) enum Value {
 impl Value {
     /// The value of a variable under which a literal of this sign is true.
     pub(crate) fn of(positive: bool) -> Value
-        ensures { value_of result ≡ Some positive }
+        ensures { truth_value result ≡ Some positive }
     {
         if positive { Value::True } else { Value::False }
     }
 
     /// Whether a literal of this sign is true.
     pub(crate) fn makes_true(self, positive: bool) -> bool
-        ensures { IsTrue result ↔ (value_of self ≡ Some positive) }
+        ensures { IsTrue result ↔ (truth_value self ≡ Some positive) }
     {
         self as u8 == 1 + positive as u8
     }
 
     pub(crate) fn is_unassigned(self) -> bool
-        ensures { result ≡ is_free self }
+        ensures { result ≡ is_unassigned self }
     {
         match self {
             Value::Unassigned => true,
@@ -46,7 +46,7 @@ impl Value {
     }
 
     pub(crate) fn as_option(self) -> Option<bool>
-        ensures { result ≡ value_of self }
+        ensures { result ≡ truth_value self }
     {
         match self {
             Value::Unassigned => None,
