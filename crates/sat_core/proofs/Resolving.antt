@@ -11,7 +11,7 @@ use Rattle.sat_core.specs.declared.trail.Step.{Step}
 use Rattle.sat_core.specs.declared.conflict.Analysis.{Analysis}
 use Rattle.sat_core.specs.declared.trail.Value.{Value}
 use Rattle.sat_core.specs.Steps.{trail_values, IsReason, AreSteps}
-use Rattle.sat_core.specs.Walks.{is_marked, IsStepOf, IsLastDecision, IsDecisionOrEnd, IsKeptAt, IsSpareStep, IsMinimalAt, KeepsStep, Resolves, IsWalked, LeadsToConflict}
+use Rattle.sat_core.specs.Walks.{trail_index, is_marked, IsStepOf, IsLastDecision, IsDecisionOrEnd, IsKeptAt, IsSpareStep, IsImpliedStep, AddsNoLiteral, IsMinimalAt, KeepsStep, Resolves, IsWalked, LeadsToConflict}
 use Rattle.sat_core.proofs.Leading.{leads-skip, leads-keep, leads-resolve}
 use Rattle.sat_core.proofs.Walking.{walked-skip, walked-keep, walked-resolve, reason-steps}
 
@@ -114,3 +114,29 @@ minimal-keep clauses steps indices first i spare step a b few lits is says why =
   where
     none-some : (id : ℕ) → None ≡ Some id → ⊥
     none-some id e = cc
+
+-- what is said of a step by its reason's literals
+pub spare-says : (clauses : List (List Lit)) (steps : List Step) (indices : List ℕ) (first i id : ℕ) (a : Analysis) (step : Step) (c : List Lit) (r : Bool) → i < a.last → i < length steps
+    → step ≡ get_or steps i step → step.reason ≡ Some id → clause_at clauses id ≡ c → IsTrue r ↔ All (AddsNoLiteral clauses steps indices a.seen.items first i) c → IsTrue r ↔ IsSpareStep clauses steps indices first i a
+spare-says clauses steps indices first i id a step c r early few is some clause says = (
+  (λ on. record {
+    id = id;
+    earlier = early;
+    reason = λ d. sym (ap (λ (x : Step). x.reason) (is ∙ get_or_default steps i step d few)) ∙ some;
+    others = subst (All (AddsNoLiteral clauses steps indices a.seen.items first i)) (sym clause) (says.0 on);
+  }),
+  (λ s.
+      (let same : s.id ≡ id = same-some s.id id (sym (ap (λ (x : Step). x.reason) is ∙ s.reason step) ∙ some) in
+      says.1 (subst (All (AddsNoLiteral clauses steps indices a.seen.items first i)) (ap (clause_at clauses) same ∙ clause) s.others))),
+)
+  where
+    same-some : (x y : ℕ) → Some x ≡ Some y → x ≡ y
+    same-some x y e = cc
+
+-- a literal of a reason that was looked at
+pub adds-none : (clauses : List (List Lit)) (steps : List Step) (indices : List ℕ) (seen : List Bool) (first i j : ℕ) (l : Lit) → j ≡ trail_index indices l
+    → (j ≡ i) ⊎ (j < first) ⊎ (is_marked seen j ≡ true) ⊎ IsImpliedStep clauses steps indices seen first j → AddsNoLiteral clauses steps indices seen first i l
+adds-none clauses steps indices seen first i j l at (inl same) = inl (inl (sym at ∙ same))
+adds-none clauses steps indices seen first i j l at (inr (inl early)) = inl (inr (inl (omega (arith, at, early))))
+adds-none clauses steps indices seen first i j l at (inr (inr (inl marked))) = inl (inr (inr (ap (is_marked seen) (sym at) ∙ marked)))
+adds-none clauses steps indices seen first i j l at (inr (inr (inr implied))) = inr (subst (IsImpliedStep clauses steps indices seen first) at implied)

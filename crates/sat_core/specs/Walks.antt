@@ -78,13 +78,25 @@ abbrev pub AddsNoStep : List ℕ → List Bool → ℕ → ℕ → Lit → Type 
 AddsNoStep indices seen first place l =
     (trail_index indices l ≡ place) ⊎ (trail_index indices l < first) ⊎ (is_marked seen (trail_index indices l) ≡ true)
 
--- the step at a place is of an earlier level, and no literal of its reason adds a step
+-- the step at a place has a reason no literal of which adds a step
+pub record IsImpliedStep (clauses : List (List Lit)) (steps : List Step) (indices : List ℕ) (seen : List Bool)
+    (first place : ℕ) : Type 0 where
+  pub id : ℕ
+  pub reason : (d : Step) → (slice_index_or steps place d).reason ≡ Some id
+  pub others : All (AddsNoStep indices seen first place) (clause_at clauses id)
+
+-- a literal of a reason adds none to the lemma: it adds no step, or its step is implied itself
+abbrev pub AddsNoLiteral : List (List Lit) → List Step → List ℕ → List Bool → ℕ → ℕ → Lit → Type 0
+AddsNoLiteral clauses steps indices seen first place l =
+    AddsNoStep indices seen first place l ⊎ IsImpliedStep clauses steps indices seen first (trail_index indices l)
+
+-- the step at a place is of an earlier level, and no literal of its reason adds one to the lemma
 pub record IsSpareStep (clauses : List (List Lit)) (steps : List Step) (indices : List ℕ) (first place : ℕ)
     (a : Analysis) : Type 0 where
   pub id : ℕ
   pub earlier : place < a.last
   pub reason : (d : Step) → (slice_index_or steps place d).reason ≡ Some id
-  pub others : All (AddsNoStep indices a.seen.items first place) (clause_at clauses id)
+  pub others : All (AddsNoLiteral clauses steps indices a.seen.items first place) (clause_at clauses id)
 
 -- a needed step of an earlier level, not before any decision, adds its literal's opposite to the lemma, unless it is
 -- spare

@@ -8,7 +8,7 @@ ghost use Rattle.cnf_core.specs.Refutation.{clause_at, IsAccepted};
 ghost use Rattle.sat_core.specs.Steps.{given, var_count, IsTrailState, AreClosedBefore};
 ghost use Rattle.sat_core.specs.FalseClauses.{IsFalsified};
 ghost use Rattle.sat_core.specs.Conflicts.{GoesOnWith};
-ghost use Rattle.sat_core.specs.Walks.{is_marked, last_level_count, IsStepOf, MarksClause, IsLastDecision, IsDecisionOrEnd, IsKeptAt, IsTakenBack, KeepsStep, Resolves, IsWalked, LeadsBy, IsBackjump, IsSpareStep, AddsNoStep, IsMinimalAt, AreNoMarks, trail_index, backjump_after, backjump_at_end};
+ghost use Rattle.sat_core.specs.Walks.{is_marked, last_level_count, IsStepOf, MarksClause, IsLastDecision, IsDecisionOrEnd, IsKeptAt, IsTakenBack, KeepsStep, Resolves, IsWalked, LeadsBy, IsBackjump, IsSpareStep, IsImpliedStep, AddsNoStep, AddsNoLiteral, IsMinimalAt, AreNoMarks, trail_index, backjump_after, backjump_at_end};
 
 use crate::trail::{Step, Trail};
 use cnf_core::{Clauses, Line, Lit};
@@ -257,8 +257,9 @@ impl Analysis {
         }
     }
 
-    /// Whether a step of an earlier level has a reason all other literals of which are needed, or of steps before any
-    /// decision: without its literal the lemma follows too, by that reason.
+    /// Whether a step of an earlier level is implied by its reason, where the literals that aren't needed yet are implied
+    /// in turn by needed ones: without its literal the lemma follows too. The time grows as the sum of the lengths of
+    /// the reason's literals' reasons.
     fn is_spare(&self, clauses: &Clauses, trail: &Trail, place: usize, first: usize) -> bool
         requires exist { AreOver (var_count trail.now) clauses.now }
         requires state { IsTrailState clauses.now (var_count trail.now) trail.now }
@@ -270,6 +271,53 @@ impl Analysis {
         if self.last <= place {
             return false;
         }
+        match trail.steps[place].reason {
+            None => false,
+            Some(id) => {
+                let clause = clauses.get((id - 1) as usize);
+                self.are_implied(clauses, trail, clause, place, first)
+            }
+        }
+    }
+
+    /// Whether each literal's step is the one at a place, or needed, or before the first decision, or implied by such.
+    fn are_implied(
+        &self,
+        clauses: &Clauses,
+        trail: &Trail,
+        clause: &[Lit],
+        place: usize,
+        first: usize,
+    ) -> bool
+        requires exist { AreOver (var_count trail.now) clauses.now }
+        requires state { IsTrailState clauses.now (var_count trail.now) trail.now }
+        requires size { length trail.now.steps.items ≤ length self.now.seen.items }
+        requires steps { All (IsStepOf trail.now.indices.items (length trail.now.steps.items)) clause.now }
+        ensures { IsTrue result ↔ All (AddsNoLiteral clauses.now trail.now.steps.items trail.now.indices.items
+            self.now.seen.items first place) clause.now }
+    {
+        for lit in clause {
+            let other = trail.indices[(lit.var - 1) as usize];
+            if other != place
+                && first <= other
+                && !self.seen[other]
+                && !self.is_implied(clauses, trail, other, first)
+            {
+                return false;
+            }
+        }
+        true
+    }
+
+    /// Whether a step has a reason all other literals of which are needed, or of steps before any decision.
+    fn is_implied(&self, clauses: &Clauses, trail: &Trail, place: usize, first: usize) -> bool
+        requires exist { AreOver (var_count trail.now) clauses.now }
+        requires state { IsTrailState clauses.now (var_count trail.now) trail.now }
+        requires within { place < length trail.now.steps.items }
+        requires size { length trail.now.steps.items ≤ length self.now.seen.items }
+        ensures { IsTrue result ↔ IsImpliedStep clauses.now trail.now.steps.items trail.now.indices.items
+            self.now.seen.items first place }
+    {
         match trail.steps[place].reason {
             None => false,
             Some(id) => {
