@@ -290,7 +290,7 @@ stays-more clauses n steps i d backjump backjump' lits lits' more b h is-b is fe
     and-right true q e f = f
     and-right false q e f = absurd (false≢true e)
 
--- nothing is marked where nothing is from the place on, and nothing before it
+-- nothing is marked where nothing is from the index on, and nothing before it
 all-clear : (i lowest : ℕ) (seen : List Bool) → i ≤ lowest → AreUnmarked i seen → AreUnmarkedBelow lowest seen → (k : ℕ) → is_marked seen k ≡ false
 all-clear i lowest seen low clear below k =
     elim (cases_lt k lowest) [
@@ -298,7 +298,7 @@ all-clear i lowest seen low clear below k =
       | inr after ↦ clear k (omega arith)
     ]
 
--- **the walk's end**: no step before the place is needed, so it is as if all were walked
+-- **the walk's end**: no step before the index is needed, so it is as if all were walked
 pub walked-end : (clauses : List (List Lit)) (n : ℕ) (steps : List Step) (i backjump : ℕ) (a : Analysis) → i ≤ a.lowest → IsWalked clauses n steps i a → IsWalked clauses n steps 0 (record a { backjump = backjump })
 walked-end clauses n steps i backjump a low h =
     record {

@@ -10,7 +10,7 @@ use Rattle.sat_core.specs.declared.trail.Step.{Step}
 use Rattle.sat_core.specs.declared.conflict.Analysis.{Analysis}
 use Rattle.sat_core.specs.Steps.{trail_values}
 
--- the place of a literal's step
+-- the trail index of a literal's step
 abbrev pub trail_index : List ℕ → Lit → ℕ
 trail_index indices l = slice_index indices (l.var - 1)
 
@@ -27,11 +27,11 @@ is_marked seen k = slice_index_or seen k false
 unfoldable pub last_level_count : ℕ → List Bool → ℕ
 last_level_count last seen = count_by (λ b. b) (drop last seen)
 
--- no place from n on is marked
+-- no index from n on is marked
 abbrev pub AreUnmarked : ℕ → List Bool → Type 0
 AreUnmarked n seen = (k : ℕ) → n ≤ k → is_marked seen k ≡ false
 
--- no place before n is marked
+-- no index before n is marked
 abbrev pub AreUnmarkedBelow : ℕ → List Bool → Type 0
 AreUnmarkedBelow n seen = (k : ℕ) → k < n → is_marked seen k ≡ false
 
@@ -49,16 +49,16 @@ pub record MarksClause (indices : List ℕ) (front clause : List Lit) (last : �
 abbrev pub AreForced : List Step → Type 0
 AreForced steps = All (λ (s : Step). s.reason ≢ None) steps
 
--- the place of the last decision, or the number of steps where there is none
+-- the trail index of the last decision, or the number of steps where there is none
 pub record IsLastDecision (steps : List Step) (last : ℕ) : Type 0 where
   pub within : last ≤ length steps
   pub decides : (d : Step) → last < length steps → (slice_index_or steps last d).reason ≡ None
   pub after : (k : ℕ) (d : Step) → last < k → k < length steps → (slice_index_or steps k d).reason ≢ None
   pub none : last ≡ length steps → AreForced steps
 
--- the place of a decision, or past the last step
+-- the trail index of a decision, or past the last step
 abbrev pub IsDecisionOrEnd : List Step → ℕ → Type 0
-IsDecisionOrEnd steps place = (d : Step) → place < length steps → (slice_index_or steps place d).reason ≡ None
+IsDecisionOrEnd steps index = (d : Step) → index < length steps → (slice_index_or steps index d).reason ≡ None
 
 -- the steps that were taken back are all from a decision on
 pub record IsTakenBack (old new : List Step) : Type 0 where
@@ -69,47 +69,47 @@ pub record IsTakenBack (old new : List Step) : Type 0 where
 -- why a needed step is kept: it is the only one of the last level, or of an earlier one, not before any decision, and
 -- not spare
 abbrev pub IsKeptAt : ℕ → ℕ → ℕ → ℕ → Bool → Type 0
-IsKeptAt first last at_last_level place spare =
-    ((last ≤ place) × (at_last_level ≡ 1)) ⊎ ((place < last) × (first ≤ place) × (spare ≡ false))
+IsKeptAt first last at_last_level index spare =
+    ((last ≤ index) × (at_last_level ≡ 1)) ⊎ ((index < last) × (first ≤ index) × (spare ≡ false))
 
--- a literal of a reason adds no step to those that are needed: its step is the one at the place, before any decision,
+-- a literal of a reason adds no step to those that are needed: its step is the one at the index, before any decision,
 -- or needed already
 abbrev pub AddsNoStep : List ℕ → List Bool → ℕ → ℕ → Lit → Type 0
-AddsNoStep indices seen first place l =
-    (trail_index indices l ≡ place) ⊎ (trail_index indices l < first) ⊎ (is_marked seen (trail_index indices l) ≡ true)
+AddsNoStep indices seen first index l =
+    (trail_index indices l ≡ index) ⊎ (trail_index indices l < first) ⊎ (is_marked seen (trail_index indices l) ≡ true)
 
--- the step at a place has a reason no literal of which adds a step
+-- the step at an index has a reason no literal of which adds a step
 pub record IsImpliedStep (clauses : List (List Lit)) (steps : List Step) (indices : List ℕ) (seen : List Bool)
-    (first place : ℕ) : Type 0 where
+    (first index : ℕ) : Type 0 where
   pub id : ℕ
-  pub reason : (d : Step) → (slice_index_or steps place d).reason ≡ Some id
-  pub others : All (AddsNoStep indices seen first place) (clause_at clauses id)
+  pub reason : (d : Step) → (slice_index_or steps index d).reason ≡ Some id
+  pub others : All (AddsNoStep indices seen first index) (clause_at clauses id)
 
 -- a literal of a reason adds none to the lemma: it adds no step, or its step is implied itself
 abbrev pub AddsNoLiteral : List (List Lit) → List Step → List ℕ → List Bool → ℕ → ℕ → Lit → Type 0
-AddsNoLiteral clauses steps indices seen first place l =
-    AddsNoStep indices seen first place l ⊎ IsImpliedStep clauses steps indices seen first (trail_index indices l)
+AddsNoLiteral clauses steps indices seen first index l =
+    AddsNoStep indices seen first index l ⊎ IsImpliedStep clauses steps indices seen first (trail_index indices l)
 
--- the step at a place is of an earlier level, and no literal of its reason adds one to the lemma
-pub record IsSpareStep (clauses : List (List Lit)) (steps : List Step) (indices : List ℕ) (first place : ℕ)
+-- the step at an index is of an earlier level, and no literal of its reason adds one to the lemma
+pub record IsSpareStep (clauses : List (List Lit)) (steps : List Step) (indices : List ℕ) (first index : ℕ)
     (a : Analysis) : Type 0 where
   pub id : ℕ
-  pub earlier : place < a.last
-  pub reason : (d : Step) → (slice_index_or steps place d).reason ≡ Some id
-  pub others : All (AddsNoLiteral clauses steps indices a.seen.items first place) (clause_at clauses id)
+  pub earlier : index < a.last
+  pub reason : (d : Step) → (slice_index_or steps index d).reason ≡ Some id
+  pub others : All (AddsNoLiteral clauses steps indices a.seen.items first index) (clause_at clauses id)
 
 -- a needed step of an earlier level, not before any decision, adds its literal's opposite to the lemma, unless it is
 -- spare
-pub record IsMinimalAt (clauses : List (List Lit)) (steps : List Step) (indices : List ℕ) (first place : ℕ)
+pub record IsMinimalAt (clauses : List (List Lit)) (steps : List Step) (indices : List ℕ) (first index : ℕ)
     (old new : Analysis) : Type 0 where
-  pub spare : IsSpareStep clauses steps indices first place old → new.lits.items ≡ old.lits.items
-  pub other : is_marked old.seen.items place ≡ true → first ≤ place → place < old.last
-      → (IsSpareStep clauses steps indices first place old → ⊥)
-      → (d : Step) → new.lits.items ≡ old.lits.items ++ negated (slice_index_or steps place d).lit ∷ []
+  pub spare : IsSpareStep clauses steps indices first index old → new.lits.items ≡ old.lits.items
+  pub other : is_marked old.seen.items index ≡ true → first ≤ index → index < old.last
+      → (IsSpareStep clauses steps indices first index old → ⊥)
+      → (d : Step) → new.lits.items ≡ old.lits.items ++ negated (slice_index_or steps index d).lit ∷ []
 
--- the step at a place was kept: the opposite of its literal is in the lemma
-pub record KeepsStep (place : ℕ) (lit : Lit) (old new : Analysis) : Type 0 where
-  pub seen : new.seen.items ≡ slice_set old.seen.items place false
+-- the step at an index was kept: the opposite of its literal is in the lemma
+pub record KeepsStep (index : ℕ) (lit : Lit) (old new : Analysis) : Type 0 where
+  pub seen : new.seen.items ≡ slice_set old.seen.items index false
   pub at_last_level : new.at_last_level ≡ last_level_count new.last new.seen.items
   pub lits : new.lits.items ≡ old.lits.items ++ negated lit ∷ []
   pub hints : new.hints.items ≡ old.hints.items
@@ -117,12 +117,12 @@ pub record KeepsStep (place : ℕ) (lit : Lit) (old new : Analysis) : Type 0 whe
   pub lowest : new.lowest ≡ old.lowest
   pub backjump : new.backjump ≡ old.backjump
 
--- the step at a place was resolved with the clause that has this id
-pub record Resolves (clauses : List (List Lit)) (indices : List ℕ) (id place : ℕ) (old new : Analysis) : Type 0 where
+-- the step at an index was resolved with the clause that has this id
+pub record Resolves (clauses : List (List Lit)) (indices : List ℕ) (id index : ℕ) (old new : Analysis) : Type 0 where
   pub mid : List Bool
   pub added : ℕ
   pub needs : MarksClause indices (clause_at clauses id) (clause_at clauses id) old.last old.seen.items mid added
-  pub seen : new.seen.items ≡ slice_set mid place false
+  pub seen : new.seen.items ≡ slice_set mid index false
   pub at_last_level : new.at_last_level ≡ last_level_count new.last new.seen.items
   pub lits : new.lits.items ≡ old.lits.items
   pub hints : new.hints.items ≡ old.hints.items ++ id ∷ []
@@ -192,7 +192,7 @@ IsBackjump steps i backjump lits =
 
 -- how many steps a backjump leaves, after a visit to one
 abbrev pub backjump_after : Step → ℕ → ℕ → ℕ → ℕ
-backjump_after step count place backjump = if is_none step.reason && nat_le count 1 then place else backjump
+backjump_after step count index backjump = if is_none step.reason && nat_le count 1 then index else backjump
 
 -- and at the end of the walk
 abbrev pub backjump_at_end : ℕ → ℕ → ℕ → ℕ

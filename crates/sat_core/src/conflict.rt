@@ -23,13 +23,13 @@ struct Analysis {
     seen: Vec<bool>,
     /// How many steps of the current decision level are needed.
     at_last_level: usize,
-    /// Where the current decision level begins: the place of the last decision, or the number of steps.
+    /// Where the current decision level begins: the trail index of the last decision, or the number of steps.
     last: usize,
     /// The literals of the lemma.
     lits: Vec<Lit>,
     /// The clauses that were resolved, the last first.
     hints: Vec<u32>,
-    /// No step before this place is needed.
+    /// No step before this index is needed.
     lowest: usize,
     /// How many steps a backjump leaves: those before the first decision under which the lemma is unit already.
     backjump: usize,
@@ -94,10 +94,10 @@ fn analyze(
     let count = trail.steps.len();
     let first = trail.first_decision();
     let mut analysis = start(alloc, clauses, trail, seen, id);
-    let mut place = count;
-    while analysis.lowest < place {
-        place -= 1;
-        analysis.visit(clauses, trail, place, first)?;
+    let mut index = count;
+    while analysis.lowest < index {
+        index -= 1;
+        analysis.visit(clauses, trail, index, first)?;
     }
     analysis.end(first);
     Ok(analysis)
@@ -121,7 +121,7 @@ fn start(alloc: Global, clauses: &Clauses, trail: &Trail, mut seen: Vec<bool>, i
     let last = trail.last_decision();
     let clause = clauses.get((id - 1) as usize);
     let at_last_level = mark_clause(clause, &trail.indices, last, seen.as_mut_slice());
-    let lowest = lowest_place(clause, &trail.indices, count);
+    let lowest = lowest_index(clause, &trail.indices, count);
     Analysis {
         seen,
         at_last_level,
@@ -145,8 +145,8 @@ fn mark_clause(clause: &[Lit], indices: &[usize], last: usize, seen: &mut [bool]
     added
 }
 
-/// The place of the first step of a clause's literals, or the given one where that is before it.
-fn lowest_place(clause: &[Lit], indices: &[usize], most: usize) -> usize
+/// The trail index of the first step of a clause's literals, or the given one where that is before it.
+fn lowest_index(clause: &[Lit], indices: &[usize], most: usize) -> usize
     requires exist { All (IsLitOf (length indices.now)) clause.now }
     ensures most { result ≤ most }
     ensures each { All (λ l. result ≤ trail_index indices.now l) clause.now }
@@ -161,29 +161,29 @@ fn lowest_place(clause: &[Lit], indices: &[usize], most: usize) -> usize
 }
 
 /// Marks a step: 1 where it is of the last level and wasn't marked before.
-fn mark(seen: &mut [bool], place: usize, last: usize) -> usize
-    requires within { place < length seen.old }
-    ensures marks { seen.new ≡ slice_set seen.old place true }
+fn mark(seen: &mut [bool], index: usize, last: usize) -> usize
+    requires within { index < length seen.old }
+    ensures marks { seen.new ≡ slice_set seen.old index true }
     ensures count { last_level_count last seen.new ≡ last_level_count last seen.old + result }
     ensures few { result ≤ 1 }
 {
-    let was = seen[place];
-    seen[place] = true;
-    if was || place < last {
+    let was = seen[index];
+    seen[index] = true;
+    if was || index < last {
         return 0;
     }
     1
 }
 
 /// Takes the mark of a step: 1 where it is of the last level.
-fn unmark(seen: &mut [bool], place: usize, last: usize) -> usize
-    requires within { place < length seen.old }
-    requires marked { is_marked seen.old place ≡ true }
-    ensures marks { seen.new ≡ slice_set seen.old place false }
+fn unmark(seen: &mut [bool], index: usize, last: usize) -> usize
+    requires within { index < length seen.old }
+    requires marked { is_marked seen.old index ≡ true }
+    ensures marks { seen.new ≡ slice_set seen.old index false }
     ensures count { last_level_count last seen.old ≡ last_level_count last seen.new + result }
 {
-    seen[place] = false;
-    if last <= place {
+    seen[index] = false;
+    if last <= index {
         return 1;
     }
     0
@@ -195,7 +195,7 @@ impl Analysis {
         &mut self,
         clauses: &Clauses,
         trail: &Trail,
-        place: usize,
+        index: usize,
         first: usize,
     ) -> Result<(), NoMemory>
         requires few { length clauses.now < 2 ^ 31 }
@@ -203,21 +203,21 @@ impl Analysis {
         requires state { IsTrailState clauses.now (var_count trail.now) trail.now }
         requires first { IsDecisionOrEnd trail.now.steps.items first }
         requires last { IsLastDecision trail.now.steps.items self.old.last }
-        requires within { place < length trail.now.steps.items }
-        requires walked { IsWalked clauses.now (var_count trail.now) trail.now.steps.items (place + 1) self.old }
+        requires within { index < length trail.now.steps.items }
+        requires walked { IsWalked clauses.now (var_count trail.now) trail.now.steps.items (index + 1) self.old }
         ensures last { OnOk result (self.new.last ≡ self.old.last) }
-        ensures walked { OnOk result (IsWalked clauses.now (var_count trail.now) trail.now.steps.items place self.new) }
+        ensures walked { OnOk result (IsWalked clauses.now (var_count trail.now) trail.now.steps.items index self.new) }
         ensures leads { OnOk result ((conflict : List Literal)
-            → LeadsBy clauses.now trail.now.steps.items (place + 1) self.old conflict
-            → LeadsBy clauses.now trail.now.steps.items place self.new conflict) }
+            → LeadsBy clauses.now trail.now.steps.items (index + 1) self.old conflict
+            → LeadsBy clauses.now trail.now.steps.items index self.new conflict) }
         ensures stays { OnOk result (IsBackjump trail.now.steps.items
-            (place + 1) self.old.backjump self.old.lits.items
-            → IsBackjump trail.now.steps.items place self.new.backjump self.new.lits.items) }
+            (index + 1) self.old.backjump self.old.lits.items
+            → IsBackjump trail.now.steps.items index self.new.backjump self.new.lits.items) }
         ensures back { OnOk result (IsDecisionOrEnd trail.now.steps.items self.old.backjump
             → IsDecisionOrEnd trail.now.steps.items self.new.backjump) }
     {
-        self.resolve_or_keep(clauses, trail, place, first)?;
-        self.set_backjump(trail.steps[place], place);
+        self.resolve_or_keep(clauses, trail, index, first)?;
+        self.set_backjump(trail.steps[index], index);
         Ok(())
     }
 
@@ -226,7 +226,7 @@ impl Analysis {
         &mut self,
         clauses: &Clauses,
         trail: &Trail,
-        place: usize,
+        index: usize,
         first: usize,
     ) -> Result<(), NoMemory>
         requires few { length clauses.now < 2 ^ 31 }
@@ -234,59 +234,59 @@ impl Analysis {
         requires state { IsTrailState clauses.now (var_count trail.now) trail.now }
         requires first { IsDecisionOrEnd trail.now.steps.items first }
         requires last { IsLastDecision trail.now.steps.items self.old.last }
-        requires within { place < length trail.now.steps.items }
-        requires walked { IsWalked clauses.now (var_count trail.now) trail.now.steps.items (place + 1) self.old }
+        requires within { index < length trail.now.steps.items }
+        requires walked { IsWalked clauses.now (var_count trail.now) trail.now.steps.items (index + 1) self.old }
         ensures last { OnOk result (self.new.last ≡ self.old.last) }
         ensures backjump { OnOk result (self.new.backjump ≡ self.old.backjump) }
         ensures grows { OnOk result ((more : List Literal) × (self.new.lits.items ≡ self.old.lits.items ++ more)) }
         ensures minimal { OnOk result (IsMinimalAt clauses.now trail.now.steps.items trail.now.indices.items
-            first place self.old self.new) }
-        ensures walked { OnOk result (IsWalked clauses.now (var_count trail.now) trail.now.steps.items place self.new) }
+            first index self.old self.new) }
+        ensures walked { OnOk result (IsWalked clauses.now (var_count trail.now) trail.now.steps.items index self.new) }
         ensures leads { OnOk result ((conflict : List Literal)
-            → LeadsBy clauses.now trail.now.steps.items (place + 1) self.old conflict
-            → LeadsBy clauses.now trail.now.steps.items place self.new conflict) }
+            → LeadsBy clauses.now trail.now.steps.items (index + 1) self.old conflict
+            → LeadsBy clauses.now trail.now.steps.items index self.new conflict) }
     {
-        if !self.seen[place] {
+        if !self.seen[index] {
             return Ok(());
         }
-        let step = trail.steps[place];
-        let spare = self.is_spare(clauses, trail, place, first);
-        match self.resolvent(step, place, first, spare) {
-            Some(id) => self.resolve(clauses, trail, id, place),
-            None => self.keep(step.lit, place),
+        let step = trail.steps[index];
+        let spare = self.is_spare(clauses, trail, index, first);
+        match self.resolvent(step, index, first, spare) {
+            Some(id) => self.resolve(clauses, trail, id, index),
+            None => self.keep(step.lit, index),
         }
     }
 
-    /// Whether a step of an earlier level is implied by its reason, where the literals that aren't needed yet are implied
-    /// in turn by needed ones: without its literal the lemma follows too. The time grows as the sum of the lengths of
-    /// the reason's literals' reasons.
-    fn is_spare(&self, clauses: &Clauses, trail: &Trail, place: usize, first: usize) -> bool
+    /// Whether a step of an earlier level is implied by its reason, where the literals that aren't needed yet are
+    /// implied in turn by needed ones: without its literal the lemma follows too. The time grows as the sum of the
+    /// lengths of the reasons of the reason's literals.
+    fn is_spare(&self, clauses: &Clauses, trail: &Trail, index: usize, first: usize) -> bool
         requires exist { AreOver (var_count trail.now) clauses.now }
         requires state { IsTrailState clauses.now (var_count trail.now) trail.now }
-        requires within { place < length trail.now.steps.items }
+        requires within { index < length trail.now.steps.items }
         requires size { length trail.now.steps.items ≤ length self.now.seen.items }
         ensures { IsTrue result ↔ IsSpareStep clauses.now trail.now.steps.items trail.now.indices.items
-            first place self.now }
+            first index self.now }
     {
-        if self.last <= place {
+        if self.last <= index {
             return false;
         }
-        match trail.steps[place].reason {
+        match trail.steps[index].reason {
             None => false,
             Some(id) => {
                 let clause = clauses.get((id - 1) as usize);
-                self.are_implied(clauses, trail, clause, place, first)
+                self.are_implied(clauses, trail, clause, index, first)
             }
         }
     }
 
-    /// Whether each literal's step is the one at a place, or needed, or before the first decision, or implied by such.
+    /// Whether each literal's step is the one at an index, or needed, or before the first decision, or implied by such.
     fn are_implied(
         &self,
         clauses: &Clauses,
         trail: &Trail,
         clause: &[Lit],
-        place: usize,
+        index: usize,
         first: usize,
     ) -> bool
         requires exist { AreOver (var_count trail.now) clauses.now }
@@ -294,11 +294,11 @@ impl Analysis {
         requires size { length trail.now.steps.items ≤ length self.now.seen.items }
         requires steps { All (IsStepOf trail.now.indices.items (length trail.now.steps.items)) clause.now }
         ensures { IsTrue result ↔ All (AddsNoLiteral clauses.now trail.now.steps.items trail.now.indices.items
-            self.now.seen.items first place) clause.now }
+            self.now.seen.items first index) clause.now }
     {
         for lit in clause {
             let other = trail.indices[(lit.var - 1) as usize];
-            if other != place
+            if other != index
                 && first <= other
                 && !self.seen[other]
                 && !self.is_implied(clauses, trail, other, first)
@@ -310,31 +310,31 @@ impl Analysis {
     }
 
     /// Whether a step has a reason all other literals of which are needed, or of steps before any decision.
-    fn is_implied(&self, clauses: &Clauses, trail: &Trail, place: usize, first: usize) -> bool
+    fn is_implied(&self, clauses: &Clauses, trail: &Trail, index: usize, first: usize) -> bool
         requires exist { AreOver (var_count trail.now) clauses.now }
         requires state { IsTrailState clauses.now (var_count trail.now) trail.now }
-        requires within { place < length trail.now.steps.items }
+        requires within { index < length trail.now.steps.items }
         requires size { length trail.now.steps.items ≤ length self.now.seen.items }
         ensures { IsTrue result ↔ IsImpliedStep clauses.now trail.now.steps.items trail.now.indices.items
-            self.now.seen.items first place }
+            self.now.seen.items first index }
     {
-        match trail.steps[place].reason {
+        match trail.steps[index].reason {
             None => false,
             Some(id) => {
                 let clause = clauses.get((id - 1) as usize);
-                self.are_seen(clause, &trail.indices, place, first)
+                self.are_seen(clause, &trail.indices, index, first)
             }
         }
     }
 
-    /// Whether each literal's step is the one at a place, or needed, or before the first decision.
-    fn are_seen(&self, clause: &[Lit], indices: &[usize], place: usize, first: usize) -> bool
+    /// Whether each literal's step is the one at an index, or needed, or before the first decision.
+    fn are_seen(&self, clause: &[Lit], indices: &[usize], index: usize, first: usize) -> bool
         requires steps { All (IsStepOf indices.now (length self.now.seen.items)) clause.now }
-        ensures { IsTrue result ↔ All (AddsNoStep indices.now self.now.seen.items first place) clause.now }
+        ensures { IsTrue result ↔ All (AddsNoStep indices.now self.now.seen.items first index) clause.now }
     {
         for lit in clause {
             let other = indices[(lit.var - 1) as usize];
-            if other != place && first <= other && !self.seen[other] {
+            if other != index && first <= other && !self.seen[other] {
                 return false;
             }
         }
@@ -343,16 +343,16 @@ impl Analysis {
 
     /// The clause with which a needed step is resolved, or none where it is kept. Kept are the last one of the current
     /// level, and those of earlier levels but the steps before any decision and the spare ones.
-    fn resolvent(&self, step: Step, place: usize, first: usize, spare: bool) -> Option<u32>
+    fn resolvent(&self, step: Step, index: usize, first: usize, spare: bool) -> Option<u32>
         ensures { MatchOption result
-            ((step.reason ≡ None) ⊎ IsKeptAt first self.now.last self.now.at_last_level place spare)
+            ((step.reason ≡ None) ⊎ IsKeptAt first self.now.last self.now.at_last_level index spare)
             (λ id. (step.reason ≡ Some id)
-            × (IsKeptAt first self.now.last self.now.at_last_level place spare → ⊥)) }
+            × (IsKeptAt first self.now.last self.now.at_last_level index spare → ⊥)) }
     {
-        let keeps = if self.last <= place {
+        let keeps = if self.last <= index {
             self.at_last_level == 1
         } else {
-            first <= place && !spare
+            first <= index && !spare
         };
         if keeps { None } else { step.reason }
     }
@@ -362,34 +362,34 @@ impl Analysis {
         clauses: &Clauses,
         trail: &Trail,
         id: u32,
-        place: usize,
+        index: usize,
     ) -> Result<(), NoMemory>
         requires low { 1 ≤ id }
         requires high { id ≤ length clauses.now }
         requires steps { All (IsStepOf trail.now.indices.items (length self.old.seen.items))
             (clause_at clauses.now id) }
-        requires within { place < length self.old.seen.items }
-        requires marked { is_marked self.old.seen.items place ≡ true }
+        requires within { index < length self.old.seen.items }
+        requires marked { is_marked self.old.seen.items index ≡ true }
         requires at_last_level { self.old.at_last_level ≡ last_level_count self.old.last self.old.seen.items }
-        ensures { OnOk result (Resolves clauses.now trail.now.indices.items id place self.old self.new) }
+        ensures { OnOk result (Resolves clauses.now trail.now.indices.items id index self.old self.new) }
     {
         let clause = clauses.get((id - 1) as usize);
         let added = mark_clause(clause, &trail.indices, self.last, self.seen.as_mut_slice());
-        self.lowest = lowest_place(clause, &trail.indices, self.lowest);
+        self.lowest = lowest_index(clause, &trail.indices, self.lowest);
         self.hints.push(id)?;
-        let done = unmark(self.seen.as_mut_slice(), place, self.last);
+        let done = unmark(self.seen.as_mut_slice(), index, self.last);
         self.at_last_level = self.at_last_level + added - done;
         Ok(())
     }
 
-    fn keep(&mut self, lit: Lit, place: usize) -> Result<(), NoMemory>
-        requires within { place < length self.old.seen.items }
-        requires marked { is_marked self.old.seen.items place ≡ true }
+    fn keep(&mut self, lit: Lit, index: usize) -> Result<(), NoMemory>
+        requires within { index < length self.old.seen.items }
+        requires marked { is_marked self.old.seen.items index ≡ true }
         requires at_last_level { self.old.at_last_level ≡ last_level_count self.old.last self.old.seen.items }
-        ensures { OnOk result (KeepsStep place lit self.old self.new) }
+        ensures { OnOk result (KeepsStep index lit self.old self.new) }
     {
         self.lits.push(lit.negated())?;
-        let done = unmark(self.seen.as_mut_slice(), place, self.last);
+        let done = unmark(self.seen.as_mut_slice(), index, self.last);
         self.at_last_level -= done;
         Ok(())
     }
@@ -405,12 +405,12 @@ impl Analysis {
     }
 
     /// Where the step is a decision before which the lemma is unit, all from it on is to be taken back.
-    fn set_backjump(&mut self, step: Step, place: usize)
+    fn set_backjump(&mut self, step: Step, index: usize)
         ensures { self.new ≡ record self.old
-            { backjump = backjump_after step (length self.old.lits.items) place self.old.backjump } }
+            { backjump = backjump_after step (length self.old.lits.items) index self.old.backjump } }
     {
         if step.reason.is_none() && self.lits.len() <= 1 {
-            self.backjump = place;
+            self.backjump = index;
         }
     }
 }

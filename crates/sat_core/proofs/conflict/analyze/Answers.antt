@@ -16,7 +16,7 @@ loop-analysis-preserved c =
     let e = c.in_ok-visit.ensures in
     let some = c.loop-analysis-test.true in
     let within = h.within in
-    let at : c.loop-analysis.place ≡ c.loop-analysis.place - 1 + 1 = omega arith in
+    let at : c.loop-analysis.index ≡ c.loop-analysis.index - 1 + 1 = omega arith in
     let conflict = clause_at clauses c.args.id in
     record {
       within = omega arith;
@@ -37,7 +37,7 @@ returns-clause-walked c =
     let t = c.args.trail.now in
     let end = c.loop-analysis-test.false in
     subst (IsWalked c.args.clauses.now (var_count t) t.steps.items 0) (sym c.end.ensures)
-    (walked-end c.args.clauses.now (var_count t) t.steps.items c.loop-analysis.place (backjump_at_end c.first_decision-first.result (length a.lits.items) a.backjump) a (omega arith) h.walked)
+    (walked-end c.args.clauses.now (var_count t) t.steps.items c.loop-analysis.index (backjump_at_end c.first_decision-first.result (length a.lits.items) a.backjump) a (omega arith) h.walked)
 
 pub returns-clause-leads : goal.returns-clause-leads
 returns-clause-leads c =
@@ -48,7 +48,7 @@ returns-clause-leads c =
     let conflict = clause_at clauses c.args.id in
     let end = c.loop-analysis-test.false in
     subst (λ (x : Analysis). LeadsToConflict clauses t.steps.items 0 x.seen.items x.lits.items (reverse x.hints.items) conflict) (sym c.end.ensures)
-    (leads-end clauses (var_count t) t.steps.items c.loop-analysis.place a (reverse a.hints.items) conflict (omega arith) h.walked h.leads)
+    (leads-end clauses (var_count t) t.steps.items c.loop-analysis.index a (reverse a.hints.items) conflict (omega arith) h.walked h.leads)
 
 pub returns-clause-stays : goal.returns-clause-stays
 returns-clause-stays c =
@@ -58,7 +58,7 @@ returns-clause-stays c =
     let first = c.first_decision-first.result in
     let before = c.first_decision-first.ensures.before in
     subst (λ (x : Analysis). IsBackjump t.steps.items 0 x.backjump x.lits.items) (sym c.end.ensures)
-    (stays-end c.args.clauses.now (var_count t) t.steps.items c.loop-analysis.place first a h.walked before h.stays)
+    (stays-end c.args.clauses.now (var_count t) t.steps.items c.loop-analysis.index first a h.walked before h.stays)
 
 pub returns-clause-back : goal.returns-clause-back
 returns-clause-back c =

@@ -5,16 +5,16 @@ use Rattle.sat_core.specs.Steps.{var_count}
 use Rattle.sat_core.specs.Walks.{IsLastDecision, IsWalked, LeadsToConflict, IsBackjump, IsDecisionOrEnd}
 use Rattle.sat_core.proofs.conflict.analyze.Given as goal
 
--- the walk visited the steps from the place on
+-- the walk visited the steps from the index on
 abbrev pub invariant-loop-analysis : goal.invariant-loop-analysis
 invariant-loop-analysis l = record {
-  within : l.place ≤ length l.trail.steps.items;
+  within : l.index ≤ length l.trail.steps.items;
   last : IsLastDecision l.trail.steps.items l.analysis.last;
-  walked : IsWalked l.clauses (var_count l.trail) l.trail.steps.items l.place l.analysis;
-  leads : LeadsToConflict l.clauses l.trail.steps.items l.place l.analysis.seen.items l.analysis.lits.items (reverse l.analysis.hints.items) (clause_at l.clauses l.id);
-  stays : IsBackjump l.trail.steps.items l.place l.analysis.backjump l.analysis.lits.items;
+  walked : IsWalked l.clauses (var_count l.trail) l.trail.steps.items l.index l.analysis;
+  leads : LeadsToConflict l.clauses l.trail.steps.items l.index l.analysis.seen.items l.analysis.lits.items (reverse l.analysis.hints.items) (clause_at l.clauses l.id);
+  stays : IsBackjump l.trail.steps.items l.index l.analysis.backjump l.analysis.lits.items;
   back : IsDecisionOrEnd l.trail.steps.items l.analysis.backjump;
 }
 
 abbrev pub decreases-loop-analysis : goal.decreases-loop-analysis
-decreases-loop-analysis l = l.place
+decreases-loop-analysis l = l.index

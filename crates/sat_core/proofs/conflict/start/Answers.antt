@@ -31,7 +31,7 @@ mark_clause-at_last_level-requires c =
     record { steps = subst (λ (x : List Lit). All (IsStepOf c.deref.result.now (length c.as_mut_slice.result.now)) x) is steps'' }
 
 abbrev analysis-of : goal.After-new-2 → Analysis
-analysis-of c = record { seen = with_items c.args.seen c.mark_clause-at_last_level.new.seen; at_last_level = c.mark_clause-at_last_level.result; last = c.last_decision-last.result; lits = c.new.result; hints = c.new-2.result; lowest = c.lowest_place-lowest.result; backjump = c.len-count.result }
+analysis-of c = record { seen = with_items c.args.seen c.mark_clause-at_last_level.new.seen; at_last_level = c.mark_clause-at_last_level.result; last = c.last_decision-last.result; lits = c.new.result; hints = c.new-2.result; lowest = c.lowest_index-lowest.result; backjump = c.len-count.result }
 
 started : (c : goal.After-new-2) → IsWalked c.args.clauses.now (var_count c.args.trail.now) c.args.trail.now.steps.items (length c.args.trail.now.steps.items) (analysis-of c) × LeadsToConflict c.args.clauses.now c.args.trail.now.steps.items (length c.args.trail.now.steps.items) (analysis-of c).seen.items (analysis-of c).lits.items (reverse (analysis-of c).hints.items) (clause_at c.args.clauses.now c.args.id)
 started c =
@@ -42,7 +42,7 @@ started c =
     let count : c.len-count.result ≡ length t.steps.items = c.len-count.ensures ∙ t.steps.ok.0 in
     let unmarked : AreNoMarks (var_count t) c.as_mut_slice.result.now = subst (AreNoMarks (var_count t)) (sym c.as_mut_slice.ensures.value) c.requires.unmarked in
     let last = c.last_decision-last.result in
-    let lowest = c.lowest_place-lowest.result in
+    let lowest = c.lowest_index-lowest.result in
     let new = c.mark_clause-at_last_level.new.seen in
     let needs = subst (λ (ps : List ℕ). MarksClause ps c.get-clause.result.now c.get-clause.result.now last c.as_mut_slice.result.now new c.mark_clause-at_last_level.result) c.deref.ensures.value c.mark_clause-at_last_level.ensures.needs in
     let there : take old.len (new ++ drop (length new) old.items) ≡ new =
@@ -50,9 +50,9 @@ started c =
     walked-start clauses (var_count t) t.steps.items t.values.items t.indices.items t.decisions.items c.args.id last c.mark_clause-at_last_level.result c.mark_clause-at_last_level.result c.as_mut_slice.result.now c.get-clause.result.now (analysis-of c)
     c.requires.state c.requires.exist c.requires.before c.requires.falsified c.last_decision-last.ensures (sym is) unmarked
     (subst (λ (xs : List Bool). MarksClause t.indices.items c.get-clause.result.now c.get-clause.result.now last c.as_mut_slice.result.now xs c.mark_clause-at_last_level.result) (sym there) needs)
-    (subst (λ (ps : List ℕ). All (λ l. lowest ≤ trail_index ps l) c.get-clause.result.now) c.deref-2.ensures.value c.lowest_place-lowest.ensures.each)
+    (subst (λ (ps : List ℕ). All (λ l. lowest ≤ trail_index ps l) c.get-clause.result.now) c.deref-2.ensures.value c.lowest_index-lowest.ensures.each)
     (subst (λ (k : ℕ). (lowest ≡ k) ⊎ ((l : Lit) × Contains c.get-clause.result.now l × (lowest ≡ trail_index t.indices.items l))) count
-    (subst (λ (ps : List ℕ). (lowest ≡ c.len-count.result) ⊎ ((l : Lit) × Contains c.get-clause.result.now l × (lowest ≡ trail_index ps l))) c.deref-2.ensures.value c.lowest_place-lowest.ensures.reached))
+    (subst (λ (ps : List ℕ). (lowest ≡ c.len-count.result) ⊎ ((l : Lit) × Contains c.get-clause.result.now l × (lowest ≡ trail_index ps l))) c.deref-2.ensures.value c.lowest_index-lowest.ensures.reached))
     refl refl c.new.ensures.items c.new-2.ensures.items
 
 pub returns-clause-walked : goal.returns-clause-walked

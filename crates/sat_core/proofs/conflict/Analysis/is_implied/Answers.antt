@@ -13,7 +13,7 @@ are_seen-requires c =
     let clauses = c.args.clauses.now in
     let t = c.args.trail.now in
     let m = length c.args.self.now.seen.items in
-    let steps = reason-few clauses (var_count t) t.steps.items t.values.items t.indices.items t.decisions.items c.args.place c.in-Some.id m c.index.result.now
+    let steps = reason-few clauses (var_count t) t.steps.items t.values.items t.indices.items t.decisions.items c.args.index c.in-Some.id m c.index.result.now
     c.requires.state c.requires.exist c.requires.within c.index.ensures c.in-Some.is c.requires.size in
     let is : clause_at clauses c.in-Some.id ≡ c.get-clause.result.now = get_or_from_slice_get clauses (c.in-Some.id - 1) c.get-clause.result.now [] c.get-clause.ensures in
     record {

@@ -13,7 +13,7 @@ are_implied-requires-clause-steps c =
     let clauses = c.args.clauses.now in
     let t = c.args.trail.now in
     let m = length t.steps.items in
-    let steps = reason-few clauses (var_count t) t.steps.items t.values.items t.indices.items t.decisions.items c.args.place c.in-Some.id m c.index.result.now
+    let steps = reason-few clauses (var_count t) t.steps.items t.values.items t.indices.items t.decisions.items c.args.index c.in-Some.id m c.index.result.now
     c.requires.state c.requires.exist c.requires.within c.index.ensures c.in-Some.is (omega arith) in
     let is : clause_at clauses c.in-Some.id ≡ c.get-clause.result.now = get_or_from_slice_get clauses (c.in-Some.id - 1) c.get-clause.result.now [] c.get-clause.ensures in
     subst (λ (x : List Lit). All (IsStepOf t.indices.items m) x) is steps
@@ -23,6 +23,6 @@ returns-in-Some c =
     let clauses = c.args.clauses.now in
     let t = c.args.trail.now in
     let is : clause_at clauses c.in-Some.id ≡ c.get-clause.result.now = get_or_from_slice_get clauses (c.in-Some.id - 1) c.get-clause.result.now [] c.get-clause.ensures in
-    let late = c.if-self-place.false in
-    spare-says clauses t.steps.items t.indices.items c.args.first c.args.place c.in-Some.id c.args.self.now c.index.result.now c.get-clause.result.now c.are_implied.result
+    let late = c.if-self-index.false in
+    spare-says clauses t.steps.items t.indices.items c.args.first c.args.index c.in-Some.id c.args.self.now c.index.result.now c.get-clause.result.now c.are_implied.result
     (omega arith) c.requires.within c.index.ensures c.in-Some.is is c.are_implied.ensures

@@ -40,8 +40,8 @@ returns c =
     let mid-size : length mid ≡ old.seen.len = needs.size ∙ sym old.seen.ok.0 in
     let mid-is : take old.seen.len (mid ++ drop (length mid) items) ≡ mid = take_at mid (drop (length mid) items) old.seen.len mid-size in
     let slice-is : c.as_mut_slice-2.result.now ≡ mid = c.as_mut_slice-2.ensures.value ∙ mid-is in
-    let set-is : last-set ≡ slice_set mid c.args.place false = c.unmark-done.ensures.marks ∙ ap (λ (xs : List Bool). slice_set xs c.args.place false) slice-is in
-    let set-size : length last-set ≡ old.seen.len = ap length set-is ∙ length-set mid c.args.place false ∙ mid-size in
+    let set-is : last-set ≡ slice_set mid c.args.index false = c.unmark-done.ensures.marks ∙ ap (λ (xs : List Bool). slice_set xs c.args.index false) slice-is in
+    let set-size : length last-set ≡ old.seen.len = ap length set-is ∙ length-set mid c.args.index false ∙ mid-size in
     let set-there : take old.seen.len (last-set ++ drop (length last-set) (take old.seen.len (mid ++ drop (length mid) items))) ≡ last-set =
     take_at last-set (drop (length last-set) (take old.seen.len (mid ++ drop (length mid) items))) old.seen.len set-size in
     let done : last_level_count last mid ≡ last_level_count last c.unmark-done.new.seen + c.unmark-done.result =
@@ -55,16 +55,16 @@ returns c =
       lits = refl;
       hints = c.in_ok-push.ensures.items;
       last = refl;
-      lower = c.lowest_place-self.ensures.most;
-      lowest = subst (λ (x : List Lit). All (λ l. c.lowest_place-self.result ≤ trail_index c.args.trail.now.indices.items l) x) (sym is)
-          (subst (λ (ps : List ℕ). All (λ l. c.lowest_place-self.result ≤ trail_index ps l) c.get-clause.result.now) c.deref-2.ensures.value c.lowest_place-self.ensures.each);
-      reached = subst (λ (x : List Lit). (c.lowest_place-self.result ≡ old.lowest) ⊎ ((l : Lit) × Contains x l × (c.lowest_place-self.result ≡ trail_index c.args.trail.now.indices.items l))) (sym is)
-          (subst (λ (ps : List ℕ). (c.lowest_place-self.result ≡ old.lowest) ⊎ ((l : Lit) × Contains c.get-clause.result.now l × (c.lowest_place-self.result ≡ trail_index ps l))) c.deref-2.ensures.value c.lowest_place-self.ensures.reached);
+      lower = c.lowest_index-self.ensures.most;
+      lowest = subst (λ (x : List Lit). All (λ l. c.lowest_index-self.result ≤ trail_index c.args.trail.now.indices.items l) x) (sym is)
+          (subst (λ (ps : List ℕ). All (λ l. c.lowest_index-self.result ≤ trail_index ps l) c.get-clause.result.now) c.deref-2.ensures.value c.lowest_index-self.ensures.each);
+      reached = subst (λ (x : List Lit). (c.lowest_index-self.result ≡ old.lowest) ⊎ ((l : Lit) × Contains x l × (c.lowest_index-self.result ≡ trail_index c.args.trail.now.indices.items l))) (sym is)
+          (subst (λ (ps : List ℕ). (c.lowest_index-self.result ≡ old.lowest) ⊎ ((l : Lit) × Contains c.get-clause.result.now l × (c.lowest_index-self.result ≡ trail_index ps l))) c.deref-2.ensures.value c.lowest_index-self.ensures.reached);
       backjump = refl;
     }
 
-pub lowest_place-self-requires : goal.lowest_place-self-requires
-lowest_place-self-requires c =
+pub lowest_index-self-requires : goal.lowest_index-self-requires
+lowest_index-self-requires c =
     let indices = c.args.trail.now.indices.items in
     let is : clause_at c.args.clauses.now c.args.id ≡ c.get-clause.result.now = get_or_from_slice_get c.args.clauses.now (c.args.id - 1) c.get-clause.result.now [] c.get-clause.ensures in
     let exist = All-weaker (IsStepOf indices (length c.args.self.now.seen.items)) (IsLitOf (length indices)) (λ l s. record { above = s.above; within = s.within }) (clause_at c.args.clauses.now c.args.id) c.requires.steps in

@@ -12,7 +12,7 @@ pub returns-clause-leads : goal.returns-clause-leads
 returns-clause-leads c =
     let clauses = c.args.clauses.now in
     let steps = c.args.trail.now.steps.items in
-    let i = c.args.place in
+    let i = c.args.index in
     let a = c.args.self.now in
     subst (λ (x : Analysis). (conflict : List Lit) → LeadsToConflict clauses steps (i + 1) a.seen.items a.lits.items (reverse a.hints.items) conflict → LeadsToConflict clauses steps i x.seen.items x.lits.items (reverse x.hints.items) conflict)
     (sym c.set_backjump.ensures) c.in_ok-resolve_or_keep.ensures.leads
@@ -20,7 +20,7 @@ returns-clause-leads c =
 pub returns-clause-stays : goal.returns-clause-stays
 returns-clause-stays c = λ before.
     let steps = c.args.trail.now.steps.items in
-    let i = c.args.place in
+    let i = c.args.index in
     let a = c.args.self.now in
     let b = c.resolve_or_keep.new.self in
     let m = c.set_backjump.new.self in

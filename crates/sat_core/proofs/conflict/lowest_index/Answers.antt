@@ -6,7 +6,7 @@ use Rattle.std.proofs.lemmas.List.Elements.{All-more, All-weaker, Contains-get_o
 use Rattle.cnf_core.specs.declared.literal.Lit.{Lit}
 use Rattle.sat_core.specs.Walks.{trail_index}
 use Rattle.sat_core.specs.Watches.{no_literal}
-use Rattle.sat_core.proofs.conflict.lowest_place.Goals as goal
+use Rattle.sat_core.proofs.conflict.lowest_index.Goals as goal
 
 pub loop-lit-preserved : goal.loop-lit-preserved
 loop-lit-preserved c =
