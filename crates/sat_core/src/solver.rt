@@ -32,9 +32,9 @@ pub enum Verdict {
 
 /// Searches for values that satisfy the formula, with at most so many conflicts. Each decision is the free variable at
 /// the picker's place among one score for each free variable, rising, and it is tried false first. A score is the
-/// number of lemmas so far that have the variable. Each conflict takes one line: the first unique implication point,
-/// with the clauses that it was resolved from as hints. Memory grows with the formula and with what is learnt, not with
-/// `conflicts`.
+/// number of lemmas so far that have the variable. Each conflict takes one line: the first unique implication point
+/// without literals that its others imply, with the clauses that it was resolved from as hints. Memory grows with
+/// the formula and with what is learnt, not with `conflicts`.
 pub fn solve<F: Rule>(
     alloc: Global,
     cnf: &Cnf,
