@@ -1,5 +1,5 @@
 -- How many things stand before others, one cluster or class at a time.
-use Rattle.std.proofs.Common.{◌≡◌, ℕ, ◌+◌, ◌<◌, ◌≤◌, true, false, cond, List, ◌∷◌, [], length, get_or, refl, sym, ap, ◌∙◌, arith, length-append}
+use Rattle.std.proofs.Common.{◌≡◌, ℕ, ◌+◌, ◌<◌, ◌≤◌, Bool, true, false, cond, List, ◌∷◌, [], length, get_or, refl, sym, ap, ◌∙◌, arith, length-append}
 use Rattle.std.specs.List.{filter, flat_map, range_with_len}
 use Rattle.std.proofs.lemmas.List.FromFn.{length-map-range_with_len, get_or-map-range_with_len}
 use Rattle.machine_table.specs.declared.tables.Table.{Table}
@@ -7,9 +7,9 @@ use Rattle.launch_graph.specs.WellFormed.{next_class}
 use Rattle.launch_graph.specs.declared.graphs.LaunchGraph.{LaunchGraph}
 use Rattle.cnf_core.specs.declared.literal.Lit.{Lit}
 use Rattle.cycle_encoding.specs.Shapes.{numbered, positive, vars_of}
-use Rattle.cycle_encoding.specs.Variables.{Seen, all_seen, made_classes}
+use Rattle.cycle_encoding.specs.Variables.{Seen, all_seen, shown_classes}
 use Rattle.cycle_encoding.specs.Families.{is_seen}
-use Rattle.cycle_encoding.specs.Facts.{is_made_class}
+use Rattle.cycle_encoding.specs.Facts.{is_shown_class}
 use Rattle.cycle_encoding.specs.Steps.{has_cluster, seen_at, cluster_seen, clusters_before, seen_before, AreSeenVars}
 use Rattle.cycle_encoding.proofs.Listed.{kept_more}
 use Rattle.cycle_encoding.proofs.Places.{seen-is, seen-within, unseen-class, unseen-late-class, unseen-cluster, unseen-late-cluster, unseen-cycle}
@@ -26,41 +26,41 @@ clusters_more table k class n =
     ∙ length-append (flat_map (cluster_seen k class) (filter (has_cluster table) (range_with_len 0 n))) (cond (has_cluster table n) (cluster_seen k class n) [])
 
 -- the variable of what is seen, by its place
-module _ (g : LaunchGraph) (table : Table) (k first : ℕ) (seen : List Seen) (starts : List ℕ) (is : AreSeenVars g table k first seen starts) (class cluster cycle : ℕ) where
+module _ (g : LaunchGraph) (wants : ℕ → Bool) (table : Table) (k first : ℕ) (seen : List Seen) (starts : List ℕ) (is : AreSeenVars g wants table k first seen starts) (class cluster cycle : ℕ) where
   abbrev vars : List Lit
   vars = vars_of (is_seen class cluster cycle) (numbered first seen)
 
-  by : (cs : List Lit) → vars_of (is_seen class cluster cycle) (numbered first (all_seen table k (made_classes g))) ≡ cs → cs ≡ vars
+  by : (cs : List Lit) → vars_of (is_seen class cluster cycle) (numbered first (all_seen table k (shown_classes g wants))) ≡ cs → cs ≡ vars
   by cs h = sym (ap (λ (xs : List Seen). vars_of (is_seen class cluster cycle) (numbered first xs)) is.seen_are ∙ h)
 
   starts_size : length starts ≡ next_class g.rows
-  starts_size = ap (λ (xs : List ℕ). length xs) is.starts_are ∙ length-map-range_with_len (seen_before g table k) 0 (next_class g.rows)
+  starts_size = ap (λ (xs : List ℕ). length xs) is.starts_are ∙ length-map-range_with_len (seen_before g wants table k) 0 (next_class g.rows)
 
-  pub none-class : is_made_class g class ≡ false → [] ≡ vars
-  none-class e = by [] (unseen-class g table k first class cluster cycle e)
+  pub none-class : is_shown_class g wants class ≡ false → [] ≡ vars
+  none-class e = by [] (unseen-class g wants table k first class cluster cycle e)
 
   pub none-late-class : length starts ≤ class → [] ≡ vars
-  none-late-class le = (let size = starts_size in by [] (unseen-late-class g table k first class cluster cycle (omega arith)))
+  none-late-class le = (let size = starts_size in by [] (unseen-late-class g wants table k first class cluster cycle (omega arith)))
 
   pub none-late-cluster : 4 ≤ cluster → [] ≡ vars
-  none-late-cluster le = by [] (unseen-late-cluster g table k first class cluster cycle le)
+  none-late-cluster le = by [] (unseen-late-cluster g wants table k first class cluster cycle le)
 
   pub none-cluster : has_cluster table cluster ≡ false → [] ≡ vars
-  none-cluster e = by [] (unseen-cluster g table k first class cluster cycle e)
+  none-cluster e = by [] (unseen-cluster g wants table k first class cluster cycle e)
 
   pub none-cycle : k ≤ cycle → [] ≡ vars
-  none-cycle le = by [] (unseen-cycle g table k first class cluster cycle le)
+  none-cycle le = by [] (unseen-cycle g wants table k first class cluster cycle le)
 
-  module _ (lc : class < length starts) (mc : is_made_class g class ≡ true) (ln : cluster < 4) (mn : has_cluster table cluster ≡ true) (lt : cycle < k) (start offset : ℕ) (d : ℕ) (es : start ≡ get_or starts class d) (eo : offset ≡ clusters_before table k class cluster) where
-    start_is : start ≡ seen_before g table k class
-    start_is = es ∙ ap (λ xs. get_or xs class d) is.starts_are ∙ (let size = starts_size in get_or-map-range_with_len (seen_before g table k) 0 (next_class g.rows) class class d (omega arith) (omega arith))
+  module _ (lc : class < length starts) (mc : is_shown_class g wants class ≡ true) (ln : cluster < 4) (mn : has_cluster table cluster ≡ true) (lt : cycle < k) (start offset : ℕ) (d : ℕ) (es : start ≡ get_or starts class d) (eo : offset ≡ clusters_before table k class cluster) where
+    start_is : start ≡ seen_before g wants table k class
+    start_is = es ∙ ap (λ xs. get_or xs class d) is.starts_are ∙ (let size = starts_size in get_or-map-range_with_len (seen_before g wants table k) 0 (next_class g.rows) class class d (omega arith) (omega arith))
 
     low : class < next_class g.rows
     low = (let size = starts_size in omega arith)
 
     pub var-within : first + start + offset + cycle + 1 ≤ first + length seen
     var-within =
-        let a = seen-within g table k first class cluster cycle low mc ln mn lt in
+        let a = seen-within g wants table k first class cluster cycle low mc ln mn lt in
         let b = start_is in
         let c = ap (λ (xs : List Seen). length xs) is.seen_are in
         omega arith
@@ -68,4 +68,4 @@ module _ (g : LaunchGraph) (table : Table) (k first : ℕ) (seen : List Seen) (s
     pub var-is : positive (first + (start + offset + cycle) + 1) ∷ [] ≡ vars
     var-is =
         ap (λ n. positive n ∷ []) (let b = start_is in omega arith)
-        ∙ by (positive (first + seen_before g table k class + clusters_before table k class cluster + cycle + 1) ∷ []) (seen-is g table k first class cluster cycle low mc ln mn lt)
+        ∙ by (positive (first + seen_before g wants table k class + clusters_before table k class cluster + cycle + 1) ∷ []) (seen-is g wants table k first class cluster cycle low mc ln mn lt)

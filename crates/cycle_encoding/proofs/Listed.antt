@@ -3,12 +3,12 @@ use Rattle.std.proofs.Common.{◌≡◌, ℕ, ◌+◌, ◌-◌, Bool, true, fals
 use Rattle.std.specs.Prelude.{◌==◌, ◌↔◌, IsTrue, IsSomeAnd, Contains, option_map}
 use Rattle.std.proofs.lemmas.Bool.{false≢true, eqb-true, eq-eqb, false_from_ne_true}
 use Rattle.cycle_encoding.proofs.Tests.{some_in, some_of}
-use Rattle.cycle_encoding.proofs.Tables.{table_more}
 use Rattle.std.specs.Option.{option_map_or}
 use Rattle.std.specs.List.{filter, flat_map, list_any, range_with_len}
 use Rattle.std.proofs.lemmas.List.{append-nil}
 use Rattle.std.proofs.lemmas.List.Elements.{filter-append}
 use Rattle.std.proofs.lemmas.List.Concat.{flat_map-append}
+use Rattle.std.proofs.lemmas.List.FromFn.{map-range_with_len_more}
 use Rattle.machine_table.specs.Tables.{use_of, latency_of, MayUse}
 use Rattle.schedule_meaning.specs.Launches.{instr_at}
 use Rattle.machine_table.specs.declared.tables.Table.{Table}
@@ -37,17 +37,17 @@ module _ {X : Type 0} (f : ℕ → List X) where
         ∙ flat_map-append f (filter test (range_with_len 0 n)) (filter test (n ∷ []))
         ∙ ap (λ ys. flat_map f (filter test (range_with_len 0 n)) ++ ys) (kept_one n b e)
 
-pub rows_more : (g : LaunchGraph) (table : Table) (k row : ℕ) → flat_map (row_launches g table k) (range_with_len 0 (row + 1)) ≡ flat_map (row_launches g table k) (range_with_len 0 row) ++ row_launches g table k row
-rows_more g table k row = flat_more (row_launches g table k) row
+pub rows_more : (g : LaunchGraph) (table : Table) (k : ℕ) (firsts : ℕ → Option ℕ) (row : ℕ) → flat_map (λ row. row_launches g table k (firsts row) row) (range_with_len 0 (row + 1)) ≡ flat_map (λ row. row_launches g table k (firsts row) row) (range_with_len 0 row) ++ row_launches g table k (firsts row) row
+rows_more g table k firsts row = flat_more (λ row. row_launches g table k (firsts row) row) row
 
-pub slot_more : (table : Table) (instr : InstrKind) (row cycles slot : ℕ) → may_use table instr slot ≡ true → slots_launches table instr row cycles (slot + 1) ≡ slots_launches table instr row cycles slot ++ slot_launches row cycles slot
-slot_more table instr row cycles slot e = kept_more (slot_launches row cycles) (may_use table instr) slot true e
+pub slot_more : (table : Table) (instr : InstrKind) (row first cycles slot : ℕ) → may_use table instr slot ≡ true → slots_launches table instr row first cycles (slot + 1) ≡ slots_launches table instr row first cycles slot ++ slot_launches row first cycles slot
+slot_more table instr row first cycles slot e = kept_more (slot_launches row first cycles) (may_use table instr) slot true e
 
-pub slot_left : (table : Table) (instr : InstrKind) (row cycles slot : ℕ) → may_use table instr slot ≡ false → slots_launches table instr row cycles (slot + 1) ≡ slots_launches table instr row cycles slot
-slot_left table instr row cycles slot e = kept_more (slot_launches row cycles) (may_use table instr) slot false e ∙ append-nil (slots_launches table instr row cycles slot)
+pub slot_left : (table : Table) (instr : InstrKind) (row first cycles slot : ℕ) → may_use table instr slot ≡ false → slots_launches table instr row first cycles (slot + 1) ≡ slots_launches table instr row first cycles slot
+slot_left table instr row first cycles slot e = kept_more (slot_launches row first cycles) (may_use table instr) slot false e ∙ append-nil (slots_launches table instr row first cycles slot)
 
-pub cycle_more : (row slot cycle : ℕ) → slot_launches row (cycle + 1) slot ≡ slot_launches row cycle slot ++ launch_at row slot cycle ∷ []
-cycle_more row slot cycle = table_more (launch_at row slot) cycle
+pub cycle_more : (row slot first n : ℕ) → slot_launches row first (n + 1) slot ≡ slot_launches row first n slot ++ launch_at row slot (first + n) ∷ []
+cycle_more row slot first n = map-range_with_len_more (launch_at row slot) first n (first + n) refl
 
 -- a slot that the table allows
 module _ (slot : ℕ) where
@@ -63,31 +63,42 @@ module _ (slot : ℕ) where
 pub may_is : (table : Table) (instr : InstrKind) (slot : ℕ) (b : Bool) → (IsTrue b ↔ MayUse table instr slot) → b ≡ may_use table instr slot
 may_is table instr slot b h = some_use slot (use_of table instr) b h
 
--- the launches of a row, by its instruction and its latency
-module _ (g : LaunchGraph) (table : Table) (k row : ℕ) where
-  abbrev launches_of : Option InstrKind → List Launch
-  launches_of o = option_map_or (λ i. option_map_or (use_launches table k row) (use_of table i) []) o []
+-- the launches of a row, by its first cycle, its instruction and its latency
+module _ (g : LaunchGraph) (table : Table) (k : ℕ) (first : Option ℕ) (row : ℕ) where
+  abbrev of_use : Option ℕ → Option Use → List Launch
+  of_use first o = option_map_or (λ u. option_map_or (λ n. use_launches table k row n u) first []) o []
 
-  abbrev of_use : Option Use → List Launch
-  of_use o = option_map_or (use_launches table k row) o []
+  abbrev launches_of : Option ℕ → Option InstrKind → List Launch
+  launches_of first o = option_map_or (λ i. of_use first (use_of table i)) o []
 
-  by_use : (instr : InstrKind) (o : Option Use) (latency : ℕ) → use_of table instr ≡ o → option_map (λ u. u.latency) o ≡ Some latency → of_use o ≡ slots_launches table instr row (k + 1 - latency) (length table.slots)
-  by_use instr None latency e h = absurd (let f : None ≡ Some latency = h in cc)
-  by_use instr (Some u) latency e h =
+  by_use : (instr : InstrKind) (n : ℕ) (o : Option Use) (latency : ℕ) → use_of table instr ≡ o → option_map (λ u. u.latency) o ≡ Some latency → of_use (Some n) o ≡ slots_launches table instr row n (k + 1 - latency - n) (length table.slots)
+  by_use instr n None latency e h = absurd (let f : None ≡ Some latency = h in cc)
+  by_use instr n (Some u) latency e h =
       let l : u.latency ≡ latency = cc in
       let test : (λ s. list_any (λ r. r == s) u.slots) ≡ may_use table instr = ap (λ (o : Option Use). λ s. option_map_or (λ (u : Use). list_any (λ r. r == s) u.slots) o false) (sym e) in
-      ap (λ n. flat_map (slot_launches row (k + 1 - n)) (slots_of table u)) l
-      ∙ ap (λ t. flat_map (slot_launches row (k + 1 - latency)) (filter t (range_with_len 0 (length table.slots)))) test
+      ap (λ m. flat_map (slot_launches row n (k + 1 - m - n)) (slots_of table u)) l
+      ∙ ap (λ t. flat_map (slot_launches row n (k + 1 - latency - n)) (filter t (range_with_len 0 (length table.slots)))) test
 
-  pub row_is : (instr : InstrKind) (latency : ℕ) → instr_at g row ≡ Some instr → latency_of table instr ≡ Some latency → row_launches g table k row ≡ slots_launches table instr row (k + 1 - latency) (length table.slots)
-  row_is instr latency e h = ap launches_of e ∙ by_use instr (use_of table instr) latency refl h
+  pub row_is : (instr : InstrKind) (latency n : ℕ) → instr_at g row ≡ Some instr → latency_of table instr ≡ Some latency → first ≡ Some n → row_launches g table k first row ≡ slots_launches table instr row n (k + 1 - latency - n) (length table.slots)
+  row_is instr latency n e h f = ap (launches_of first) e ∙ ap (λ (o : Option ℕ). of_use o (use_of table instr)) f ∙ by_use instr n (use_of table instr) latency refl h
 
-  without_use : (o : Option Use) → option_map (λ u. u.latency) o ≡ None → of_use o ≡ []
+  without_first : (o : Option Use) → of_use None o ≡ []
+  without_first None = refl
+  without_first (Some u) = refl
+
+  none_first : (o : Option InstrKind) → launches_of None o ≡ []
+  none_first None = refl
+  none_first (Some i) = without_first (use_of table i)
+
+  pub row_without_first : first ≡ None → row_launches g table k first row ≡ []
+  row_without_first f = ap (λ (o : Option ℕ). launches_of o (instr_at g row)) f ∙ none_first (instr_at g row)
+
+  without_use : (o : Option Use) → option_map (λ u. u.latency) o ≡ None → of_use first o ≡ []
   without_use None h = refl
   without_use (Some u) h = absurd (let f : Some u.latency ≡ None = h in cc)
 
-  pub row_without_use : (instr : InstrKind) → instr_at g row ≡ Some instr → latency_of table instr ≡ None → row_launches g table k row ≡ []
-  row_without_use instr e h = ap launches_of e ∙ without_use (use_of table instr) h
+  pub row_without_use : (instr : InstrKind) → instr_at g row ≡ Some instr → latency_of table instr ≡ None → row_launches g table k first row ≡ []
+  row_without_use instr e h = ap (launches_of first) e ∙ without_use (use_of table instr) h
 
-  pub row_without_instr : instr_at g row ≡ None → row_launches g table k row ≡ []
-  row_without_instr e = ap launches_of e
+  pub row_without_instr : instr_at g row ≡ None → row_launches g table k first row ≡ []
+  row_without_instr e = ap (launches_of first) e

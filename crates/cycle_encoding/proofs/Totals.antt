@@ -1,8 +1,8 @@
 -- The counts found row by row are those of the lists.
-use Rattle.std.proofs.Common.{◌≡◌, ℕ, suc, ◌+◌, ◌*◌, Bool, cond, List, [], ◌∷◌, length, map, get_or, refl, sym, ap, ◌∙◌, subst, arith, inl, inr, length-append}
-use Rattle.std.specs.Prelude.{◌||◌, ◌==◌, nat_lt, Contains}
+use Rattle.std.proofs.Common.{◌≡◌, ℕ, suc, ◌+◌, ◌-◌, ◌*◌, ◌<◌, ◌≤◌, Bool, false, cond, List, [], ◌∷◌, length, map, get_or, refl, sym, ap, ◌∙◌, subst, arith, inl, inr, length-append}
+use Rattle.std.specs.Prelude.{◌||◌, ◌&&◌, ◌==◌, nat_le, nat_lt, Contains}
 use Rattle.std.specs.List.{filter, flat_map, list_any, count_by, sum_by, range_with_len}
-use Rattle.std.proofs.lemmas.Bool.{cases_Bool, cases_lt, eqb-true, eq-eqb, lt-ltb, le-ltb, false_from_ne_true}
+use Rattle.std.proofs.lemmas.Bool.{cases_Bool, cases_lt, eqb-true, eq-eqb, lt-ltb, le-ltb, le-leb, lt-leb, and_left, and_right, and_from, false_from_ne_true}
 use Rattle.std.proofs.lemmas.List.Sums.{sum_by-cons, sum_by-append, length-filter}
 use Rattle.cnf_core.specs.declared.literal.Lit.{Lit}
 use Rattle.cycle_encoding.specs.Shapes.{numbered, positive, negative, vars_of, implied}
@@ -82,14 +82,29 @@ count-this (x ∷ xs) y h =
           ∙ ap (λ b. one_if (b || list_any (λ x. x == y) xs)) (sym t))
     ]
 
-any-range : (n y : ℕ) → list_any (λ x. x == y) (range_with_len 0 n) ≡ nat_lt y n
-any-range n y =
-    elim (cases_lt y n) [
-      | inl lt ↦ some_in (λ x. x == y) (range_with_len 0 n) y (range-in 0 n y (omega arith) (omega arith)) (eq-eqb y y refl) ∙ sym (lt-ltb y n lt)
-      | inr le ↦
-          false_from_ne_true (list_any (λ x. x == y) (range_with_len 0 n)) (λ t. let s = some_of (λ x. x == y) (range_with_len 0 n) t in let b = (range-out 0 n s.0 s.1).1 in let e : s.0 ≡ y = eqb-true s.0 y s.2 in absurd (omega arith))
-          ∙ sym (le-ltb y n le)
+none-in : (a n y : ℕ) → (a ≤ y → y < n → ⊥) → list_any (λ x. x == y) (range_with_len a (n - a)) ≡ false
+none-in a n y bad =
+    false_from_ne_true (list_any (λ x. x == y) (range_with_len a (n - a))) (λ t.
+    let s = some_of (λ x. x == y) (range_with_len a (n - a)) t in
+    let b = range-out a (n - a) s.0 s.1 in
+    let low = b.0 in
+    let high = b.1 in
+    let e : s.0 ≡ y = eqb-true s.0 y s.2 in
+    bad (omega arith) (omega arith))
+
+any-range : (a n y : ℕ) → list_any (λ x. x == y) (range_with_len a (n - a)) ≡ (nat_le a y && nat_lt y n)
+any-range a n y =
+    elim (cases_lt y a) [
+      | inl lt ↦ none-in a n y (λ low high. omega arith) ∙ sym (and_left (nat_le a y) (nat_lt y n) (lt-leb a y lt))
+      | inr le ↦ elim (cases_lt y n) [
+        | inl lt ↦
+            some_in (λ x. x == y) (range_with_len a (n - a)) y (range-in a (n - a) y le (omega arith)) (eq-eqb y y refl)
+            ∙ sym (and_from (nat_le a y) (nat_lt y n) (le-leb a y le) (lt-ltb y n lt))
+        | inr big ↦
+            none-in a n y (λ low high. omega arith)
+            ∙ sym (and_right (nat_le a y) (nat_lt y n) (le-ltb y n big))
+      ]
     ]
 
-pub count-cycle : (n y : ℕ) → count_by (λ x. x == y) (range_with_len 0 n) ≡ one_if (nat_lt y n)
-count-cycle n y = count-this (range_with_len 0 n) y (range-once 0 n) ∙ ap one_if (any-range n y)
+pub count-cycle : (a n y : ℕ) → count_by (λ x. x == y) (range_with_len a (n - a)) ≡ one_if (nat_le a y && nat_lt y n)
+count-cycle a n y = count-this (range_with_len a (n - a)) y (range-once a (n - a)) ∙ ap one_if (any-range a n y)

@@ -1,6 +1,6 @@
 -- How many variables and clauses there are of cycles, slots and values, as numbers that are found row by row, before
 -- any clause is. Source: this project.
-use Rattle.std.specs.Prelude.{ℕ, ◌+◌, ◌-◌, ◌*◌, ◌==◌, ◌&&◌, nat_lt, Bool, false, List, length, Option, option_and_then, if◌then◌else◌}
+use Rattle.std.specs.Prelude.{ℕ, ◌+◌, ◌-◌, ◌*◌, ◌==◌, ◌&&◌, nat_le, nat_lt, Bool, false, List, length, Option, option_and_then, if◌then◌else◌}
 use Rattle.std.specs.Option.{option_map_or}
 use Rattle.std.specs.List.{list_any, count_by, sum_by, range_with_len}
 use Rattle.cnf_core.specs.Counter.{at_most_size, at_most_vars}
@@ -10,8 +10,9 @@ use Rattle.machine_table.specs.declared.tables.Table.{Table}
 use Rattle.machine_table.specs.declared.tables.Use.{Use}
 use Rattle.machine_table.specs.declared.tables.InstrKind.{InstrKind}
 use Rattle.launch_graph.specs.declared.graphs.LaunchGraph.{LaunchGraph}
-use Rattle.cycle_encoding.specs.Variables.{slots_of, made_classes, clusters_of}
+use Rattle.cycle_encoding.specs.Variables.{slots_of, shown_classes, clusters_of}
 use Rattle.cycle_encoding.specs.Families.{is_made, is_made_target}
+use Rattle.cycle_encoding.specs.CycleFormula.{Scope, first_in, wants_in}
 
 abbrev pub one_if : Bool → ℕ
 one_if b = if b then 1 else 0
@@ -20,21 +21,30 @@ one_if b = if b then 1 else 0
 abbrev pub row_is : LaunchGraph → (InstrKind → Bool) → ℕ → Bool
 row_is g test row = option_map_or test (instr_at g row) false
 
-module _ (g : LaunchGraph) (table : Table) (k : ℕ) where
-  abbrev pub row_use : ℕ → Option Use
-  row_use row = option_and_then (use_of table) (instr_at g row)
+-- the use of a row's number
+abbrev pub row_use : LaunchGraph → Table → ℕ → Option Use
+row_use g table row = option_and_then (use_of table) (instr_at g row)
 
-  -- in how many cycles a use can begin
-  abbrev pub cycles_of : Use → ℕ
-  cycles_of u = k + 1 - u.latency
+-- in how many cycles a use can begin, from a first one, if it has to end by k; and whether it can in this one
+abbrev pub cycles_of : ℕ → ℕ → Use → ℕ
+cycles_of k first u = k + 1 - u.latency - first
 
+abbrev pub can_begin : ℕ → ℕ → Use → ℕ → Bool
+can_begin k first u cycle = nat_le first cycle && nat_lt cycle (k + 1 - u.latency)
+
+module _ (g : LaunchGraph) (table : Table) (k : ℕ) (s : Scope) where
   -- how many launches a row's number has; and whether one of them is in the slot and cycle
   abbrev pub row_count : ℕ → ℕ
-  row_count row = option_map_or (λ u. length (slots_of table u) * cycles_of u) (row_use row) 0
+  row_count row =
+      option_map_or
+      (λ u. option_map_or (λ n. length (slots_of table u) * cycles_of k n u) (first_in s row) 0)
+      (row_use g table row) 0
 
   abbrev pub row_has : ℕ → ℕ → ℕ → Bool
   row_has slot cycle row =
-      option_map_or (λ u. list_any (λ r. r == slot) u.slots && nat_lt cycle (cycles_of u)) (row_use row) false
+      option_map_or
+      (λ u. option_map_or (λ n. list_any (λ r. r == slot) u.slots && can_begin k n u cycle) (first_in s row) false)
+      (row_use g table row) false
 
   -- all numbers of rows, and a sum over the launches of something that hangs on the row alone
   abbrev pub row_numbers : List ℕ
@@ -51,7 +61,7 @@ module _ (g : LaunchGraph) (table : Table) (k : ℕ) where
   sum_places f = sum_by (λ s. sum_by (f s) (range_with_len 0 k)) (range_with_len 0 (length table.slots))
 
   abbrev pub seen_count : ℕ
-  seen_count = length (made_classes g) * (length (clusters_of table) * k)
+  seen_count = length (shown_classes g (wants_in s)) * (length (clusters_of table) * k)
 
   -- ---- the two counts
 

@@ -1,13 +1,14 @@
 -- The formula of cycles, slots and values: the numbers of its variables, and its clauses in their order.
 -- Source: this project.
-use Rattle.std.specs.Prelude.{ℕ, ◌+◌, List, ◌++◌, length}
+use Rattle.std.specs.Prelude.{ℕ, ◌+◌, Bool, true, false, List, [], ◌++◌, length, Option, Some, None, if◌then◌else◌}
+use Rattle.std.specs.List.{slice_index_or}
 use Rattle.cnf_core.specs.declared.literal.Lit.{Lit}
 use Rattle.cnf_core.specs.Formula.{Formula}
 use Rattle.machine_table.specs.declared.tables.Table.{Table}
 use Rattle.launch_graph.specs.declared.graphs.LaunchGraph.{LaunchGraph}
 use Rattle.schedule_meaning.specs.declared.schedules.Launch.{Launch}
 use Rattle.cycle_encoding.specs.Shapes.{numbered, counters, counters_vars}
-use Rattle.cycle_encoding.specs.Variables.{all_launches, made_classes, all_seen, Seen}
+use Rattle.cycle_encoding.specs.Variables.{launches_from, shown_classes, all_seen, Seen}
 use Rattle.cycle_encoding.specs.Families.{target_clauses, operand_clauses, seen_clauses, slot_groups}
 
 -- the launches that have variables, and what is seen, by which an encoding differs from others
@@ -15,9 +16,28 @@ pub record Listed : Type 0 where
   pub launches : List Launch
   pub seen : List Seen
 
+-- what has variables: all, or by tables the launches of a row from its first cycle, and what is seen of a wanted class
+pub record Scope : Type 0 where
+  pub narrow : Bool
+  pub firsts : List (Option ℕ)
+  pub wants : List Bool
+
+abbrev pub first_in : Scope → ℕ → Option ℕ
+first_in s row = if s.narrow then slice_index_or s.firsts row None else Some 0
+
+abbrev pub wants_in : Scope → ℕ → Bool
+wants_in s class = if s.narrow then slice_index_or s.wants class false else true
+
+abbrev pub listed_in : LaunchGraph → Table → ℕ → Scope → Listed
+listed_in g table k s =
+    record { launches = launches_from g table k (first_in s); seen = all_seen table k (shown_classes g (wants_in s)) }
+
+abbrev pub wide_scope : Scope
+wide_scope = record { narrow = false; firsts = []; wants = [] }
+
 -- every launch that ends by k, and every class that is made by launches
 abbrev pub wide : LaunchGraph → Table → ℕ → Listed
-wide g table k = record { launches = all_launches g table k; seen = all_seen table k (made_classes g) }
+wide g table k = listed_in g table k wide_scope
 
 module _ (g : LaunchGraph) (table : Table) (k : ℕ) (e : Listed) where
   -- ---- the variables: each kind begins after the last one before it

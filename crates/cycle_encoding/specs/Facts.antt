@@ -28,6 +28,10 @@ pub record AreFacts (g : LaunchGraph) (constants : List (Option ℕ)) (words inp
 abbrev pub is_made_class : LaunchGraph → ℕ → Bool
 is_made_class g c = is_word_class g c && (not (is_input g c) && not (is_zero_class g c))
 
+-- and it passes
+abbrev pub is_shown_class : LaunchGraph → (ℕ → Bool) → ℕ → Bool
+is_shown_class g wants c = wants c && is_made_class g c
+
 -- the classes of the operands that have to be made by launches
 abbrev pub made_among : LaunchGraph → List Operand → List ℕ
 made_among g os = map (λ o. o.class) (filter (is_made g) os)
@@ -39,14 +43,14 @@ may_use table instr slot = option_map_or (λ u. list_any (λ r. r == slot) u.slo
 abbrev pub launch_at : ℕ → ℕ → ℕ → Launch
 launch_at row slot cycle = record { cycle = cycle; slot = slot; row = row }
 
--- the launches of a row in a slot, in each of so many cycles
-abbrev pub slot_launches : ℕ → ℕ → ℕ → List Launch
-slot_launches row cycles slot = map (launch_at row slot) (range_with_len 0 cycles)
+-- the launches of a row in a slot, in each of so many cycles from a first one
+abbrev pub slot_launches : ℕ → ℕ → ℕ → ℕ → List Launch
+slot_launches row first cycles slot = map (launch_at row slot) (range_with_len first cycles)
 
 -- those in each of the first slots that the instruction may use
-abbrev pub slots_launches : Table → InstrKind → ℕ → ℕ → ℕ → List Launch
-slots_launches table instr row cycles slots =
-    flat_map (slot_launches row cycles) (filter (may_use table instr) (range_with_len 0 slots))
+abbrev pub slots_launches : Table → InstrKind → ℕ → ℕ → ℕ → ℕ → List Launch
+slots_launches table instr row first cycles slots =
+    flat_map (slot_launches row first cycles) (filter (may_use table instr) (range_with_len 0 slots))
 
 -- marks of classes with that of a class which passes, if there is one
 abbrev pub class_marked : List Bool → ℕ → Bool → List Bool

@@ -2,6 +2,7 @@ pub mod Shapes
 pub mod Variables
 pub mod Families
 pub mod CycleFormula
+pub mod Narrow
 pub mod Counts
 pub mod Plans
 pub mod Facts

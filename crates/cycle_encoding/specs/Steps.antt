@@ -11,9 +11,9 @@ use Rattle.schedule_meaning.specs.Launches.{gives, ready_in}
 use Rattle.schedule_meaning.specs.declared.schedules.Launch.{Launch}
 use Rattle.launch_graph.specs.WellFormed.{next_class}
 use Rattle.cycle_encoding.specs.Shapes.{negative, numbered, vars_of, counters, counters_vars}
-use Rattle.cycle_encoding.specs.Variables.{Seen, all_seen, made_classes}
+use Rattle.cycle_encoding.specs.Variables.{Seen, all_seen, shown_classes}
 use Rattle.cycle_encoding.specs.Families.{is_at, is_seen, is_made_target}
-use Rattle.cycle_encoding.specs.Facts.{is_made_class}
+use Rattle.cycle_encoding.specs.Facts.{is_shown_class}
 
 -- a formula with further clauses
 abbrev pub with_clauses : Formula → List (List Lit) → Formula
@@ -45,19 +45,19 @@ clusters_seen table k clusters class =
     flat_map (cluster_seen k class) (filter (has_cluster table) (range_with_len 0 clusters))
 
 -- the places of things in a list of all that is seen: how many stand before a class, and before a cluster of a class
-abbrev pub seen_before : LaunchGraph → Table → ℕ → ℕ → ℕ
-seen_before g table k class =
-    length (flat_map (clusters_seen table k 4) (filter (is_made_class g) (range_with_len 0 class)))
+abbrev pub seen_before : LaunchGraph → (ℕ → Bool) → Table → ℕ → ℕ → ℕ
+seen_before g wants table k class =
+    length (flat_map (clusters_seen table k 4) (filter (is_shown_class g wants) (range_with_len 0 class)))
 
 abbrev pub clusters_before : Table → ℕ → ℕ → ℕ → ℕ
 clusters_before table k class cluster =
     length (flat_map (cluster_seen k class) (filter (has_cluster table) (range_with_len 0 cluster)))
 
 -- the first variable is the one after `first`, and the starts are how many are seen before each class
-pub record AreSeenVars (g : LaunchGraph) (table : Table) (k first : ℕ) (seen : List Seen)
+pub record AreSeenVars (g : LaunchGraph) (wants : ℕ → Bool) (table : Table) (k first : ℕ) (seen : List Seen)
     (starts : List ℕ) : Type 0 where
-  pub seen_are : seen ≡ all_seen table k (made_classes g)
-  pub starts_are : starts ≡ map (seen_before g table k) (range_with_len 0 (next_class g.rows))
+  pub seen_are : seen ≡ all_seen table k (shown_classes g wants)
+  pub starts_are : starts ≡ map (seen_before g wants table k) (range_with_len 0 (next_class g.rows))
 
 -- clauses that the thing of a variable implies
 abbrev pub of_thing : ℕ → List (List Lit) → List (List Lit)

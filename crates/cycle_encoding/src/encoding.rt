@@ -3,18 +3,19 @@ ghost use Rattle.std.specs.Prelude.{◌≡◌, ◌+◌, ◌<◌, ◌≤◌, ◌^
 ghost use Rattle.cnf_core.specs.Formula.{Formula};
 ghost use Rattle.launch_graph.specs.WellFormed.{IsLaunchGraph};
 ghost use Rattle.machine_table.specs.Tables.{IsTable};
-ghost use Rattle.cycle_encoding.specs.CycleFormula.{cycle_formula, wide};
+ghost use Rattle.cycle_encoding.specs.CycleFormula.{cycle_formula, listed_in, wide, first_in};
+ghost use Rattle.cycle_encoding.specs.Variables.{launches_from};
 ghost use Rattle.cycle_encoding.specs.Faults.{EncodeFaultIs};
 ghost use Rattle.cycle_encoding.specs.Plans.{IsTooLarge, plan_of};
 
-use crate::Facts;
 use crate::counts::cycle_sizes;
 use crate::families::{add_operands, add_seen, add_targets};
-use crate::launches::all_launches;
+use crate::launches::launches_from;
 use crate::laws::cycle_counts_are_found;
 use crate::plans::{EncodeFault, Encoded, VarPlan};
 use crate::seen::seen_vars;
 use crate::slots::add_slots;
+use crate::{Facts, Scope};
 use cnf_core::{Cnf, counters_count};
 use items::{Items, NoMemory};
 use launch_graph::LaunchGraph;
@@ -39,7 +40,8 @@ pub fn encode(
 {
     cycle_counts_are_found();
     let facts = Facts::new(alloc, graph)?;
-    let sizes = cycle_sizes(alloc, &facts, table, k)?;
+    let scope = Scope::wide(alloc);
+    let sizes = cycle_sizes(alloc, &facts, table, &scope, k)?;
     if sizes.vars > 262144 {
         return Err(EncodeFault::Size {
             vars: sizes.vars,
@@ -52,7 +54,7 @@ pub fn encode(
             clauses: sizes.clauses,
         });
     }
-    Ok(build(alloc, &facts, table, k)?)
+    Ok(build(alloc, &facts, table, &scope, k)?)
 }
 
 /// Makes variables.
@@ -66,25 +68,38 @@ pub fn add_vars(cnf: &mut Cnf, count: u32)
 }
 
 /// Builds the formula, whose counts are within the limits.
-fn build(alloc: Global, facts: &Facts, table: &Table, k: u32) -> Result<Encoded, NoMemory>
+fn build(
+    alloc: Global,
+    facts: &Facts,
+    table: &Table,
+    scope: &Scope,
+    k: u32,
+) -> Result<Encoded, NoMemory>
     requires cycles { k ≤ 24 }
     requires table { IsTable table.now }
     requires graph { IsLaunchGraph facts.now }
-    requires vars { (cycle_formula facts.now table.now k (wide facts.now table.now k)).vars ≤ 262144 }
-    requires clauses { length (cycle_formula facts.now table.now k (wide facts.now table.now k)).clauses ≤ 2000000 }
-    ensures formula { IfOk result (λ e. e.cnf ≡ cycle_formula facts.now table.now k (wide facts.now table.now k)) }
-    ensures plan { IfOk result (λ e. e.plan ≡ plan_of facts.now table.now k) }
+    requires vars { (cycle_formula facts.now table.now k (listed_in facts.now table.now k scope.now)).vars ≤ 262144 }
+    requires clauses { length (cycle_formula facts.now table.now k (listed_in facts.now table.now k scope.now)).clauses ≤ 2000000 }
+    ensures formula { IfOk result (λ e. e.cnf ≡ cycle_formula facts.now table.now k (listed_in facts.now table.now k scope.now)) }
+    ensures plan { IfOk result (λ e. e.plan ≡ record { cycles = k; launches = launches_from facts.now table.now k (first_in scope.now) }) }
 {
     counters_count();
-    let launches = all_launches(alloc, facts, table, k)?;
-    let seen = seen_vars(alloc, facts, table, k, launches.as_slice().len() as u32)?;
+    let launches = launches_from(alloc, facts, table, scope, k)?;
+    let seen = seen_vars(
+        alloc,
+        facts,
+        table,
+        scope,
+        k,
+        launches.as_slice().len() as u32,
+    )?;
     let mut cnf = Cnf::new(alloc);
     add_vars(
         &mut cnf,
         launches.as_slice().len() as u32 + seen.seen.as_slice().len() as u32,
     );
     add_targets(alloc, &mut cnf, facts, &launches)?;
-    add_operands(alloc, &mut cnf, facts, table, &launches, &seen)?;
+    add_operands(alloc, &mut cnf, facts, table, scope, &launches, &seen)?;
     add_seen(alloc, &mut cnf, facts, table, &launches, &seen)?;
     add_slots(alloc, &mut cnf, &launches, table.slots.len() as u32, k)?;
     Ok(Encoded {

@@ -6,6 +6,7 @@ ghost use Rattle.launch_graph.specs.WellFormed.{IsLaunchGraph};
 ghost use Rattle.schedule_meaning.specs.Launches as launches;
 ghost use Rattle.schedule_meaning.specs.Launches.{gives};
 ghost use Rattle.machine_table.specs.Tables as tables;
+ghost use Rattle.cycle_encoding.specs.CycleFormula.{wants_in};
 ghost use Rattle.cycle_encoding.specs.Facts.{IsTableOf};
 ghost use Rattle.cycle_encoding.specs.Families.{is_made, is_seen, makes, operand_clauses, seen_clauses, target_clauses};
 ghost use Rattle.cycle_encoding.specs.Shapes.{negative, numbered, positive, vars_of};
@@ -14,7 +15,7 @@ ghost use Rattle.cycle_encoding.specs.Steps.{AreSeenVars, given_in, target_group
 use crate::buckets::{empty_lists, put_into};
 use crate::facts::next_class;
 use crate::seen::{Seen, SeenVars, seen_var};
-use crate::{Facts, made_operands};
+use crate::{Facts, Scope, made_operands};
 use cnf_core::{Cnf, Lit};
 use items::{Items, NoMemory};
 use launch_graph::SetClass;
@@ -116,13 +117,14 @@ pub fn add_operands(
     cnf: &mut Cnf,
     facts: &Facts,
     table: &Table,
+    scope: &Scope,
     launches: &[Launch],
     seen: &SeenVars,
 ) -> Result<(), NoMemory>
     requires first { length launches.now ≡ seen.now.first }
     requires exist { seen.now.first + length seen.now.seen.items ≤ cnf.old.vars }
     requires few { cnf.old.vars < 2 ^ 29 }
-    requires seen { AreSeenVars facts.now table.now seen.now.cycles seen.now.first seen.now.seen.items seen.now.starts.items }
+    requires seen { AreSeenVars facts.now (wants_in scope.now) table.now seen.now.cycles seen.now.first seen.now.seen.items seen.now.starts.items }
     requires room { length cnf.old.clauses
         + length (operand_clauses facts.now table.now (numbered 0 launches.now) (numbered seen.now.first seen.now.seen.items)) < 2 ^ 30 }
     ensures { OnOk result (cnf.new ≡ with_clauses cnf.old
@@ -130,7 +132,8 @@ pub fn add_operands(
 {
     for (index, launch) in launches.iter().enumerate() {
         let made = made_operands(alloc, facts, launch.row)?;
-        add_sights(cnf, facts, table, &made, seen, index as u32 + 1, *launch)?;
+        let var = index as u32 + 1;
+        add_sights(cnf, facts, table, scope, &made, seen, var, *launch)?;
     }
     Ok(())
 }
@@ -140,6 +143,7 @@ fn add_sights(
     cnf: &mut Cnf,
     facts: &Facts,
     table: &Table,
+    scope: &Scope,
     made: &[u32],
     seen: &SeenVars,
     var: u32,
@@ -149,14 +153,14 @@ fn add_sights(
     requires within { var ≤ seen.now.first }
     requires exist { seen.now.first + length seen.now.seen.items ≤ cnf.old.vars }
     requires few { cnf.old.vars < 2 ^ 29 }
-    requires seen { AreSeenVars facts.now table.now seen.now.cycles seen.now.first seen.now.seen.items seen.now.starts.items }
+    requires seen { AreSeenVars facts.now (wants_in scope.now) table.now seen.now.cycles seen.now.first seen.now.seen.items seen.now.starts.items }
     requires room { length cnf.old.clauses + length made.now < 2 ^ 30 }
     ensures { OnOk result (cnf.new ≡ with_clauses cnf.old (of_thing var
         (sights (tables.cluster_of table.now launch.slot) launch.cycle (numbered seen.now.first seen.now.seen.items) made.now))) }
 {
     let cluster = cluster_of(table, launch.slot);
     for class in made {
-        let sight = seen_var(seen, facts, table, *class, cluster, launch.cycle);
+        let sight = seen_var(seen, facts, table, scope, *class, cluster, launch.cycle);
         add_implied(cnf, var, sight)?;
     }
     Ok(())

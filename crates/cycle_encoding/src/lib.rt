@@ -13,6 +13,7 @@ mod laws;
 mod marks;
 mod operands;
 mod plans;
+mod scopes;
 mod seen;
 mod slots;
 
@@ -20,8 +21,9 @@ pub use counts::{Sizes, cycle_sizes, one_size, one_vars, row_count, slot_count};
 pub use encoding::{add_vars, encode};
 pub use facts::{Facts, next_class};
 pub use families::{add_implied, variables};
-pub use launches::{all_launches, cycles, may_use};
+pub use launches::{can_begin, cycles, launches_from, may_use};
 pub use laws::cycle_counts_are_found;
 pub use operands::made_operands;
 pub use plans::{EncodeFault, Encoded, VarPlan, launch_of};
+pub use scopes::Scope;
 pub use seen::{Seen, has_cluster};

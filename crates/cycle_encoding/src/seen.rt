@@ -1,13 +1,14 @@
 // What is seen: in which cluster and cycle a class is readable.
 ghost use Rattle.std.specs.Prelude.{◌≡◌, ◌+◌, ◌<◌, ◌≤◌, ◌^◌, [], ◌++◌, if◌then◌else◌, length, IfOk, OnOk};
 ghost use Rattle.launch_graph.specs.WellFormed.{IsLaunchGraph};
+ghost use Rattle.cycle_encoding.specs.CycleFormula.{wants_in};
 ghost use Rattle.cycle_encoding.specs.Steps as steps;
-ghost use Rattle.cycle_encoding.specs.Facts.{is_made_class};
+ghost use Rattle.cycle_encoding.specs.Facts.{is_shown_class};
 ghost use Rattle.cycle_encoding.specs.Families.{is_seen};
 ghost use Rattle.cycle_encoding.specs.Shapes.{numbered, vars_of};
 ghost use Rattle.cycle_encoding.specs.Steps.{AreSeenVars, cluster_seen, clusters_before, clusters_seen, listed};
 
-use crate::Facts;
+use crate::{Facts, Scope};
 use crate::facts::next_class;
 use cnf_core::Lit;
 use items::NoMemory;
@@ -42,24 +43,25 @@ pub struct SeenVars {
     pub starts: Vec<usize>,
 }
 
-/// All that may be seen in k cycles: by class, then by cluster, then by cycle.
+/// All that may be seen in k cycles of the classes that the scope wants: by class, then by cluster, then by cycle.
 pub fn seen_vars(
     alloc: Global,
     facts: &Facts,
     table: &Table,
+    scope: &Scope,
     k: u32,
     first: u32,
 ) -> Result<SeenVars, NoMemory>
     requires graph { IsLaunchGraph facts.now }
     ensures first { IfOk result (λ vars. vars.first ≡ first) }
     ensures cycles { IfOk result (λ vars. vars.cycles ≡ k) }
-    ensures seen { IfOk result (λ vars. AreSeenVars facts.now table.now k first vars.seen.items vars.starts.items) }
+    ensures seen { IfOk result (λ vars. AreSeenVars facts.now (wants_in scope.now) table.now k first vars.seen.items vars.starts.items) }
 {
     let mut seen = Vec::new(alloc);
     let mut starts = Vec::new(alloc);
     for class in 0..next_class(facts.graph()) {
         starts.push(seen.as_slice().len())?;
-        push_class(&mut seen, facts, table, k, class)?;
+        push_class(&mut seen, facts, table, scope, k, class)?;
     }
     Ok(SeenVars {
         first,
@@ -69,18 +71,26 @@ pub fn seen_vars(
     })
 }
 
-/// What is seen of a class, if launches make it.
+/// Whether the scope wants the class and launches alone make it.
+pub fn is_shown(facts: &Facts, scope: &Scope, class: u32) -> bool
+    ensures { result ≡ is_shown_class facts.now (wants_in scope.now) class }
+{
+    scope.wants(class) && facts.is_made_class(class)
+}
+
+/// What is seen of a class, if it is shown.
 fn push_class(
     seen: &mut Vec<Seen>,
     facts: &Facts,
     table: &Table,
+    scope: &Scope,
     k: u32,
     class: u32,
 ) -> Result<(), NoMemory>
-    ensures { OnOk result (seen.new.items
-        ≡ seen.old.items ++ (if is_made_class facts.now class then clusters_seen table.now k 4 class else [])) }
+    ensures { OnOk result (seen.new.items ≡ seen.old.items
+        ++ (if is_shown_class facts.now (wants_in scope.now) class then clusters_seen table.now k 4 class else [])) }
 {
-    if facts.is_made_class(class) {
+    if is_shown(facts, scope, class) {
         push_clusters(seen, table, k, class)
     } else {
         Ok(())
@@ -118,15 +128,16 @@ pub fn seen_var(
     vars: &SeenVars,
     facts: &Facts,
     table: &Table,
+    scope: &Scope,
     class: u32,
     cluster: u8,
     cycle: u32,
 ) -> Option<Lit>
     requires few { vars.now.first + length vars.now.seen.items < 2 ^ 29 }
-    requires vars { AreSeenVars facts.now table.now vars.now.cycles vars.now.first vars.now.seen.items vars.now.starts.items }
+    requires vars { AreSeenVars facts.now (wants_in scope.now) table.now vars.now.cycles vars.now.first vars.now.seen.items vars.now.starts.items }
     ensures { listed result ≡ vars_of (is_seen class cluster cycle) (numbered vars.now.first vars.now.seen.items) }
 {
-    if !facts.is_made_class(class) {
+    if !is_shown(facts, scope, class) {
         return None;
     }
     let starts = vars.starts.as_slice();

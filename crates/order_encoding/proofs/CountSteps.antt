@@ -1,6 +1,6 @@
 -- Counts of memory, of a guard's branch and of registers, row by row.
 use Rattle.std.proofs.Common.{◌≡◌, ℕ, ◌+◌, ◌-◌, ◌*◌, Bool, true, false, not, cond, List, ◌∷◌, [], length, Option, Some, None, refl, sym, ap, ◌∙◌, arith}
-use Rattle.std.specs.Prelude.{◌&&◌, ◌||◌, ◌==◌, nat_lt, option_map, option_and_then}
+use Rattle.std.specs.Prelude.{◌&&◌, ◌||◌, ◌==◌, nat_le, nat_lt, option_map, option_and_then}
 use Rattle.std.specs.Option.{option_map_or}
 use Rattle.std.specs.List.{count_by, sum_by, filter, list_any, range_with_len}
 use Rattle.std.proofs.lemmas.List.Sums.{sum_by-cons, length-filter}
@@ -14,61 +14,77 @@ use Rattle.launch_graph.specs.declared.graphs.LaunchGraph.{LaunchGraph}
 use Rattle.schedule_meaning.specs.Launches.{instr_at, is_store, is_load}
 use Rattle.cycle_encoding.specs.Variables.{slots_of}
 use Rattle.cycle_encoding.specs.Facts.{may_use}
-use Rattle.cycle_encoding.specs.Counts.{cycles_of, one_if, row_is, row_use, row_count, sum_launches}
+use Rattle.cycle_encoding.specs.Counts.{can_begin, one_if, row_is, row_use, row_count, sum_launches}
+use Rattle.cycle_encoding.specs.CycleFormula.{Scope, first_in}
 pub use Rattle.cycle_encoding.proofs.Tallies.{sum_more, count_more}
 use Rattle.order_encoding.specs.OrderVariables.{is_memory_class, memory_classes}
 use Rattle.order_encoding.specs.OrderSteps.{row_stores, row_uses}
 use Rattle.order_encoding.specs.OrderCounts.{held_count, memory_vars, memory_size, store_count}
 
 -- the stores of a row in a cycle
-module _ (g : LaunchGraph) (table : Table) (k cycle row : ℕ) where
-  abbrev in_use : Bool → Option Use → ℕ
-  in_use b o = option_map_or (λ u. length (slots_of table u) * one_if (b && nat_lt cycle (cycles_of g table k u))) o 0
+module _ (g : LaunchGraph) (table : Table) (k : ℕ) (s : Scope) (cycle row : ℕ) where
+  abbrev in_use : Option ℕ → Bool → Option Use → ℕ
+  in_use first b o = option_map_or (λ u. option_map_or (λ n. length (slots_of table u) * one_if (b && can_begin k n u cycle)) first 0) o 0
 
   abbrev in_instr : Bool → Option InstrKind → ℕ
-  in_instr b o = in_use b (option_and_then (use_of table) o)
+  in_instr b o = in_use (first_in s row) b (option_and_then (use_of table) o)
 
   no_times : (n : ℕ) → n * 0 ≡ 0
   no_times n = omega arith
 
-  none_in : (b : Bool) (o : Option Use) → b ≡ false → in_use b o ≡ 0
+  none_first : (n : ℕ) (o : Option ℕ) → option_map_or (λ (m : ℕ). n * 0) o 0 ≡ 0
+  none_first n None = refl
+  none_first n (Some m) = no_times n
+
+  none_in : (b : Bool) (o : Option Use) → b ≡ false → in_use (first_in s row) b o ≡ 0
   none_in b None e = refl
   none_in true (Some u) e = absurd (let f : true ≡ false = e in cc)
-  none_in false (Some u) e = no_times (length (slots_of table u))
+  none_in false (Some u) e = none_first (length (slots_of table u)) (first_in s row)
 
-  pub no_store : row_is g is_store row ≡ false → row_stores g table k cycle row ≡ 0
-  no_store e = none_in (row_is g is_store row) (row_use g table k row) e
+  pub no_store : row_is g is_store row ≡ false → row_stores g table k s cycle row ≡ 0
+  no_store e = none_in (row_is g is_store row) (row_use g table row) e
 
-  pub stores_without_instr : instr_at g row ≡ None → row_stores g table k cycle row ≡ 0
+  pub stores_without_instr : instr_at g row ≡ None → row_stores g table k s cycle row ≡ 0
   stores_without_instr e = ap (in_instr (row_is g is_store row)) e
 
-  no_use : (b : Bool) (o : Option Use) → option_map (λ u. u.latency) o ≡ None → in_use b o ≡ 0
+  no_use : (b : Bool) (o : Option Use) → option_map (λ u. u.latency) o ≡ None → in_use (first_in s row) b o ≡ 0
   no_use b None h = refl
   no_use b (Some u) h = absurd (let f : Some u.latency ≡ None = h in cc)
 
-  pub stores_without_use : (instr : InstrKind) → instr_at g row ≡ Some instr → latency_of table instr ≡ None → row_stores g table k cycle row ≡ 0
+  pub stores_without_use : (instr : InstrKind) → instr_at g row ≡ Some instr → latency_of table instr ≡ None → row_stores g table k s cycle row ≡ 0
   stores_without_use instr e h = ap (in_instr (row_is g is_store row)) e ∙ no_use (row_is g is_store row) (use_of table instr) h
 
-  use_stores : (instr : InstrKind) (b in_time : Bool) (o : Option Use) (latency : ℕ) → use_of table instr ≡ o → option_map (λ u. u.latency) o ≡ Some latency → b ≡ true → nat_lt cycle (k + 1 - latency) ≡ in_time → in_use b o ≡ count_by (may_use table instr) (range_with_len 0 (length table.slots)) * one_if in_time
-  use_stores instr b in_time None latency e h t c = absurd (let f : None ≡ Some latency = h in cc)
-  use_stores instr b in_time (Some u) latency e h t c =
+  no_first : (b : Bool) (o : Option Use) → in_use None b o ≡ 0
+  no_first b None = refl
+  no_first b (Some u) = refl
+
+  pub stores_without_first : first_in s row ≡ None → row_stores g table k s cycle row ≡ 0
+  stores_without_first f = ap (λ (o : Option ℕ). in_use o (row_is g is_store row) (row_use g table row)) f ∙ no_first (row_is g is_store row) (row_use g table row)
+
+  use_stores : (instr : InstrKind) (n : ℕ) (b in_time : Bool) (o : Option Use) (latency : ℕ) → use_of table instr ≡ o → option_map (λ u. u.latency) o ≡ Some latency → b ≡ true → (nat_le n cycle && nat_lt cycle (k + 1 - latency)) ≡ in_time → in_use (Some n) b o ≡ count_by (may_use table instr) (range_with_len 0 (length table.slots)) * one_if in_time
+  use_stores instr n b in_time None latency e h t c = absurd (let f : None ≡ Some latency = h in cc)
+  use_stores instr n b in_time (Some u) latency e h t c =
       let l : u.latency ≡ latency = cc in
       let test : (λ s. list_any (λ r. r == s) u.slots) ≡ may_use table instr = ap (λ (o : Option Use). λ s. option_map_or (λ (u : Use). list_any (λ r. r == s) u.slots) o false) (sym e) in
-      ap (λ x. length (slots_of table u) * one_if (x && nat_lt cycle (k + 1 - u.latency))) t
-      ∙ ap (λ n. length (slots_of table u) * one_if (nat_lt cycle (k + 1 - n))) l
+      ap (λ x. length (slots_of table u) * one_if (x && (nat_le n cycle && nat_lt cycle (k + 1 - u.latency)))) t
+      ∙ ap (λ m. length (slots_of table u) * one_if (nat_le n cycle && nat_lt cycle (k + 1 - m))) l
       ∙ ap (λ x. length (slots_of table u) * one_if x) c
       ∙ ap (λ t. length (filter t (range_with_len 0 (length table.slots))) * one_if in_time) test
       ∙ ap (λ n. n * one_if in_time) (length-filter (may_use table instr) (range_with_len 0 (length table.slots)))
 
-  pub stores_in_time : (instr : InstrKind) (latency : ℕ) → instr_at g row ≡ Some instr → latency_of table instr ≡ Some latency → row_is g is_store row ≡ true → nat_lt cycle (k + 1 - latency) ≡ true → row_stores g table k cycle row ≡ count_by (may_use table instr) (range_with_len 0 (length table.slots))
-  stores_in_time instr latency e h t c =
-      ap (in_instr (row_is g is_store row)) e ∙ use_stores instr (row_is g is_store row) true (use_of table instr) latency refl h t c
+  in_known : (instr : InstrKind) (latency n : ℕ) (in_time : Bool) → instr_at g row ≡ Some instr → latency_of table instr ≡ Some latency → first_in s row ≡ Some n → row_is g is_store row ≡ true → (nat_le n cycle && nat_lt cycle (k + 1 - latency)) ≡ in_time → row_stores g table k s cycle row ≡ count_by (may_use table instr) (range_with_len 0 (length table.slots)) * one_if in_time
+  in_known instr latency n in_time e h f t c =
+      ap (in_instr (row_is g is_store row)) e
+      ∙ ap (λ (o : Option ℕ). in_use o (row_is g is_store row) (use_of table instr)) f
+      ∙ use_stores instr n (row_is g is_store row) in_time (use_of table instr) latency refl h t c
+
+  pub stores_in_time : (instr : InstrKind) (latency n : ℕ) → instr_at g row ≡ Some instr → latency_of table instr ≡ Some latency → first_in s row ≡ Some n → row_is g is_store row ≡ true → (nat_le n cycle && nat_lt cycle (k + 1 - latency)) ≡ true → row_stores g table k s cycle row ≡ count_by (may_use table instr) (range_with_len 0 (length table.slots))
+  stores_in_time instr latency n e h f t c =
+      in_known instr latency n true e h f t c
       ∙ (let z : (n : ℕ) → n * 1 ≡ n = λ n. omega arith in z (count_by (may_use table instr) (range_with_len 0 (length table.slots))))
 
-  pub stores_too_late : (instr : InstrKind) (latency : ℕ) → instr_at g row ≡ Some instr → latency_of table instr ≡ Some latency → row_is g is_store row ≡ true → nat_lt cycle (k + 1 - latency) ≡ false → row_stores g table k cycle row ≡ 0
-  stores_too_late instr latency e h t c =
-      ap (in_instr (row_is g is_store row)) e ∙ use_stores instr (row_is g is_store row) false (use_of table instr) latency refl h t c
-      ∙ no_times (count_by (may_use table instr) (range_with_len 0 (length table.slots)))
+  pub stores_too_late : (instr : InstrKind) (latency n : ℕ) → instr_at g row ≡ Some instr → latency_of table instr ≡ Some latency → first_in s row ≡ Some n → row_is g is_store row ≡ true → (nat_le n cycle && nat_lt cycle (k + 1 - latency)) ≡ false → row_stores g table k s cycle row ≡ 0
+  stores_too_late instr latency n e h f t c = in_known instr latency n false e h f t c ∙ no_times (count_by (may_use table instr) (range_with_len 0 (length table.slots)))
 
 -- clauses of use
 uses_stored : (n : ℕ) (a b : Bool) → b ≡ true → n * (one_if (a || b) + one_if b * 2) ≡ n * 3
@@ -86,15 +102,15 @@ uses_nothing n false false e h = omega arith
 uses_nothing n true b e h = absurd (let f : true ≡ false = h in cc)
 uses_nothing n a true e h = absurd (let f : true ≡ false = e in cc)
 
-module _ (g : LaunchGraph) (table : Table) (k row : ℕ) where
-  pub uses_of_store : row_is g is_store row ≡ true → row_count g table k row * row_uses g row ≡ row_count g table k row * 3
-  uses_of_store e = uses_stored (row_count g table k row) (row_is g is_load row) (row_is g is_store row) e
+module _ (g : LaunchGraph) (table : Table) (k : ℕ) (s : Scope) (row : ℕ) where
+  pub uses_of_store : row_is g is_store row ≡ true → row_count g table k s row * row_uses g row ≡ row_count g table k s row * 3
+  uses_of_store e = uses_stored (row_count g table k s row) (row_is g is_load row) (row_is g is_store row) e
 
-  pub uses_of_load : row_is g is_store row ≡ false → row_is g is_load row ≡ true → row_count g table k row * row_uses g row ≡ row_count g table k row
-  uses_of_load e h = uses_loaded (row_count g table k row) (row_is g is_load row) (row_is g is_store row) e h
+  pub uses_of_load : row_is g is_store row ≡ false → row_is g is_load row ≡ true → row_count g table k s row * row_uses g row ≡ row_count g table k s row
+  uses_of_load e h = uses_loaded (row_count g table k s row) (row_is g is_load row) (row_is g is_store row) e h
 
-  pub no_uses : row_is g is_store row ≡ false → row_is g is_load row ≡ false → row_count g table k row * row_uses g row ≡ 0
-  no_uses e h = uses_nothing (row_count g table k row) (row_is g is_load row) (row_is g is_store row) e h
+  pub no_uses : row_is g is_store row ≡ false → row_is g is_load row ≡ false → row_count g table k s row * row_uses g row ≡ 0
+  no_uses e h = uses_nothing (row_count g table k s row) (row_is g is_load row) (row_is g is_store row) e h
 
 -- classes of memories
 pub memories_are : (g : LaunchGraph) → length (memory_classes g) ≡ count_by (is_memory_class g) (range_with_len 0 (next_class g.rows))
@@ -113,15 +129,15 @@ pub others_are : (g : LaunchGraph) → count_by (λ c. not (c == g.entry)) (memo
 others_are g = count_kept (is_memory_class g) (λ c. not (c == g.entry)) (range_with_len 0 (next_class g.rows))
 
 -- the counts of memory
-module _ (g : LaunchGraph) (table : Table) (k : ℕ) where
-  pub memory_vars_are : (h s : ℕ) → h ≡ held_count g table k → s ≡ sum_by (λ t. at_most_vars 1 (store_count g table k t)) (range_with_len 0 k) → h * (k + 1) + k + ((k + 1) * at_most_vars 1 h + s) ≡ memory_vars g table k
+module _ (g : LaunchGraph) (table : Table) (k : ℕ) (sc : Scope) where
+  pub memory_vars_are : (h s : ℕ) → h ≡ held_count g table k sc → s ≡ sum_by (λ t. at_most_vars 1 (store_count g table k sc t)) (range_with_len 0 k) → h * (k + 1) + k + ((k + 1) * at_most_vars 1 h + s) ≡ memory_vars g table k sc
   memory_vars_are h s eh es =
       ap (λ m. m * (k + 1) + k + ((k + 1) * at_most_vars 1 m + s)) eh
-      ∙ ap (λ m. held_count g table k * (k + 1) + k + ((k + 1) * at_most_vars 1 (held_count g table k) + m)) es
+      ∙ ap (λ m. held_count g table k sc * (k + 1) + k + ((k + 1) * at_most_vars 1 (held_count g table k sc) + m)) es
 
-  pub memory_size_is : (h o u s : ℕ) → h ≡ held_count g table k → o ≡ count_by (λ c. not (c == g.entry)) (memory_classes g) → u ≡ sum_launches g table k (row_uses g) → s ≡ sum_by (λ t. at_most_size 1 (store_count g table k t)) (range_with_len 0 k) → (1 + o) + u + k * (1 + h) + ((k + 1) * at_most_size 1 h + s) + 1 ≡ memory_size g table k
+  pub memory_size_is : (h o u s : ℕ) → h ≡ held_count g table k sc → o ≡ count_by (λ c. not (c == g.entry)) (memory_classes g) → u ≡ sum_launches g table k sc (row_uses g) → s ≡ sum_by (λ t. at_most_size 1 (store_count g table k sc t)) (range_with_len 0 k) → (1 + o) + u + k * (1 + h) + ((k + 1) * at_most_size 1 h + s) + 1 ≡ memory_size g table k sc
   memory_size_is h o u s eh eo eu es =
       ap (λ m. (1 + m) + u + k * (1 + h) + ((k + 1) * at_most_size 1 h + s) + 1) eo
       ∙ ap (λ m. (1 + count_by (λ c. not (c == g.entry)) (memory_classes g)) + m + k * (1 + h) + ((k + 1) * at_most_size 1 h + s) + 1) eu
-      ∙ ap (λ m. (1 + count_by (λ c. not (c == g.entry)) (memory_classes g)) + sum_launches g table k (row_uses g) + k * (1 + m) + ((k + 1) * at_most_size 1 m + s) + 1) eh
-      ∙ ap (λ m. (1 + count_by (λ c. not (c == g.entry)) (memory_classes g)) + sum_launches g table k (row_uses g) + k * (1 + held_count g table k) + ((k + 1) * at_most_size 1 (held_count g table k) + m) + 1) es
+      ∙ ap (λ m. (1 + count_by (λ c. not (c == g.entry)) (memory_classes g)) + sum_launches g table k sc (row_uses g) + k * (1 + m) + ((k + 1) * at_most_size 1 m + s) + 1) eh
+      ∙ ap (λ m. (1 + count_by (λ c. not (c == g.entry)) (memory_classes g)) + sum_launches g table k sc (row_uses g) + k * (1 + held_count g table k sc) + ((k + 1) * at_most_size 1 (held_count g table k sc) + m) + 1) es

@@ -4,6 +4,7 @@ pub mod Reading
 pub mod RowFacts
 pub mod Listing
 pub mod Complete
+pub mod Narrowed
 pub mod Making
 pub mod Stored
 pub mod Sized

@@ -10,7 +10,7 @@ use Rattle.launch_graph.specs.declared.graphs.LaunchGraph.{LaunchGraph}
 use Rattle.schedule_meaning.specs.declared.schedules.Launch.{Launch}
 use Rattle.cycle_encoding.specs.Shapes.{numbered}
 use Rattle.cycle_encoding.specs.Variables.{all_launches}
-use Rattle.cycle_encoding.specs.CycleFormula.{wide, cycle_formula}
+use Rattle.cycle_encoding.specs.CycleFormula.{Scope, wide, wide_scope, cycle_formula}
 use Rattle.cycle_encoding.specs.Plans.{IsTooLarge, PassesLimit}
 use Rattle.cycle_encoding.proofs.Launched.{cycle-vars, cycle-size}
 use Rattle.order_encoding.specs.OrderCounts.{memory_vars, memory_size, guard_vars, guard_size, pool_vars, pool_size}
@@ -63,7 +63,7 @@ within_clauses f h =
 
 -- ---- one call after another
 
-module _ (g h : LaunchGraph) (table : Table) (k j : ℕ) (eh : h ≡ g) (ej : j ≡ k) where
+module _ (g h : LaunchGraph) (table : Table) (k j : ℕ) (eh : h ≡ g) (ej : j ≡ k) (s : Scope) (es : s ≡ wide_scope) where
   abbrev cycles : Formula
   cycles = cycle_formula g table k (wide g table k)
 
@@ -76,41 +76,41 @@ module _ (g h : LaunchGraph) (table : Table) (k j : ℕ) (eh : h ≡ g) (ej : j 
   abbrev wholes : Formula
   wholes = whole_formula g table k (wide g table k)
 
-  -- the same of the graph and the cycles that the code has
-  there : (F : LaunchGraph → ℕ → ℕ) → F h j ≡ F g k
-  there F = ap (λ (x : LaunchGraph). F x j) eh ∙ ap (F g) ej
+  -- the same of the graph, the cycles and the scope that the code has
+  there : (F : LaunchGraph → ℕ → Scope → ℕ) → F h j s ≡ F g k wide_scope
+  there F = ap (λ (x : LaunchGraph). F x j s) eh ∙ ap (λ n. F g n s) ej ∙ ap (F g k) es
 
   module _ (f : Formula) (v : ℕ) where
-    pub memory_vars_now : f ≡ cycles → v ≡ f.vars + memory_vars h table j → v ≡ memories.vars
+    pub memory_vars_now : f ≡ cycles → v ≡ f.vars + memory_vars h table j s → v ≡ memories.vars
     memory_vars_now ef ev =
-        ev ∙ ap (λ (f : Formula). f.vars + memory_vars h table j) ef ∙ ap (λ n. cycles.vars + n) (there (λ g k. memory_vars g table k))
-        ∙ ap (λ n. n + memory_vars g table k) (cycle-vars g table k) ∙ sym (memory-vars g table k)
+        ev ∙ ap (λ (f : Formula). f.vars + memory_vars h table j s) ef ∙ ap (λ n. cycles.vars + n) (there (λ g k s. memory_vars g table k s))
+        ∙ ap (λ n. n + memory_vars g table k wide_scope) (cycle-vars g table k wide_scope) ∙ sym (memory-vars g table k wide_scope)
 
-    pub guard_vars_now : f ≡ memories → v ≡ f.vars + guard_vars h table j → v ≡ guards.vars
+    pub guard_vars_now : f ≡ memories → v ≡ f.vars + guard_vars h table j s → v ≡ guards.vars
     guard_vars_now ef ev =
-        ev ∙ ap (λ (f : Formula). f.vars + guard_vars h table j) ef ∙ ap (λ n. memories.vars + n) (there (λ g k. guard_vars g table k))
-        ∙ ap (λ n. n + guard_vars g table k) (memory-vars g table k) ∙ sym (guard-vars g table k)
+        ev ∙ ap (λ (f : Formula). f.vars + guard_vars h table j s) ef ∙ ap (λ n. memories.vars + n) (there (λ g k s. guard_vars g table k s))
+        ∙ ap (λ n. n + guard_vars g table k wide_scope) (memory-vars g table k wide_scope) ∙ sym (guard-vars g table k wide_scope)
 
-    pub pool_vars_now : f ≡ guards → v ≡ f.vars + pool_vars h table j → v ≡ wholes.vars
+    pub pool_vars_now : f ≡ guards → v ≡ f.vars + pool_vars h table j s → v ≡ wholes.vars
     pool_vars_now ef ev =
-        ev ∙ ap (λ (f : Formula). f.vars + pool_vars h table j) ef ∙ ap (λ n. guards.vars + n) (there (λ g k. pool_vars g table k))
-        ∙ ap (λ n. n + pool_vars g table k) (guard-vars g table k) ∙ sym (whole-vars g table k)
+        ev ∙ ap (λ (f : Formula). f.vars + pool_vars h table j s) ef ∙ ap (λ n. guards.vars + n) (there (λ g k s. pool_vars g table k s))
+        ∙ ap (λ n. n + pool_vars g table k wide_scope) (guard-vars g table k wide_scope) ∙ sym (whole-vars g table k wide_scope)
 
     module _ (size : (old p : ℕ) (lits : List Lit) → length (at_most_clauses old p lits) ≡ at_most_size p (length lits)) where
-      pub memory_size_now : f ≡ cycles → v ≡ length f.clauses + memory_size h table j → v ≡ length memories.clauses
+      pub memory_size_now : f ≡ cycles → v ≡ length f.clauses + memory_size h table j s → v ≡ length memories.clauses
       memory_size_now ef ev =
-          ev ∙ ap (λ (f : Formula). length f.clauses + memory_size h table j) ef ∙ ap (λ n. length cycles.clauses + n) (there (λ g k. memory_size g table k))
-          ∙ ap (λ n. n + memory_size g table k) (cycle-size g table k size) ∙ sym (with-memory-size g table k size)
+          ev ∙ ap (λ (f : Formula). length f.clauses + memory_size h table j s) ef ∙ ap (λ n. length cycles.clauses + n) (there (λ g k s. memory_size g table k s))
+          ∙ ap (λ n. n + memory_size g table k wide_scope) (cycle-size g table k wide_scope size) ∙ sym (with-memory-size g table k wide_scope size)
 
-      pub guard_size_now : f ≡ memories → v ≡ length f.clauses + guard_size h table j → v ≡ length guards.clauses
+      pub guard_size_now : f ≡ memories → v ≡ length f.clauses + guard_size h table j s → v ≡ length guards.clauses
       guard_size_now ef ev =
-          ev ∙ ap (λ (f : Formula). length f.clauses + guard_size h table j) ef ∙ ap (λ n. length memories.clauses + n) (there (λ g k. guard_size g table k))
-          ∙ ap (λ n. n + guard_size g table k) (with-memory-size g table k size) ∙ sym (with-guard-size g table k size)
+          ev ∙ ap (λ (f : Formula). length f.clauses + guard_size h table j s) ef ∙ ap (λ n. length memories.clauses + n) (there (λ g k s. guard_size g table k s))
+          ∙ ap (λ n. n + guard_size g table k wide_scope) (with-memory-size g table k wide_scope size) ∙ sym (with-guard-size g table k wide_scope size)
 
-      pub pool_size_now : f ≡ guards → v ≡ length f.clauses + pool_size h table j → v ≡ length wholes.clauses
+      pub pool_size_now : f ≡ guards → v ≡ length f.clauses + pool_size h table j s → v ≡ length wholes.clauses
       pool_size_now ef ev =
-          ev ∙ ap (λ (f : Formula). length f.clauses + pool_size h table j) ef ∙ ap (λ n. length guards.clauses + n) (there (λ g k. pool_size g table k))
-          ∙ ap (λ n. n + pool_size g table k) (with-guard-size g table k size) ∙ sym (whole-size g table k size)
+          ev ∙ ap (λ (f : Formula). length f.clauses + pool_size h table j s) ef ∙ ap (λ n. length guards.clauses + n) (there (λ g k s. pool_size g table k s))
+          ∙ ap (λ n. n + pool_size g table k wide_scope) (with-guard-size g table k wide_scope size) ∙ sym (whole-size g table k wide_scope size)
 
   -- the formulas
   module _ (ls : List Launch) (f : Formula) (els : ls ≡ all_launches g table k) where

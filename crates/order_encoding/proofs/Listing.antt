@@ -43,35 +43,35 @@ abbrev at : ℕ → ℕ → ℕ → Launch
 at row slot cycle = record { cycle = cycle; slot = slot; row = row }
 
 module _ (g : LaunchGraph) (table : Table) (k : ℕ) where
-  use_row : (row : ℕ) (u : Use) (l : Launch) → Contains (use_launches table k row u) l → (l.row ≡ row) × Contains (slots_of table u) l.slot × (l.cycle < k + 1 - u.latency)
+  use_row : (row : ℕ) (u : Use) (l : Launch) → Contains (use_launches table k row 0 u) l → (l.row ≡ row) × Contains (slots_of table u) l.slot × (l.cycle < k + 1 - u.latency)
   use_row row u l h =
-      let s = flat-out (λ s. map (at row s) (range_with_len 0 (k + 1 - u.latency))) (slots_of table u) l h in
-      let t = map-out (at row s.0) (range_with_len 0 (k + 1 - u.latency)) l s.2 in
-      let b = (range-out 0 (k + 1 - u.latency) t.0 t.1).1 in
+      let s = flat-out (λ s. map (at row s) (range_with_len 0 (k + 1 - u.latency - 0))) (slots_of table u) l h in
+      let t = map-out (at row s.0) (range_with_len 0 (k + 1 - u.latency - 0)) l s.2 in
+      let b = (range-out 0 (k + 1 - u.latency - 0) t.0 t.1).1 in
       let same : t.0 ≡ l.cycle = ap (λ (l : Launch). l.cycle) t.2 in (
         sym (ap (λ (l : Launch). l.row) t.2),
         subst (λ x. Contains (slots_of table u) x) (ap (λ (l : Launch). l.slot) t.2) s.1,
         omega arith,
       )
 
-  row_row : (row : ℕ) (l : Launch) → Contains (row_launches g table k row) l → l.row ≡ row
+  row_row : (row : ℕ) (l : Launch) → Contains (row_launches g table k (Some 0) row) l → l.row ≡ row
   row_row row l h =
-      let i = option-out (λ i. option_map_or (use_launches table k row) (use_of table i) []) (instr_at g row) l h in
-      let u = option-out (use_launches table k row) (use_of table i.0) l i.2 in
+      let i = option-out (λ i. option_map_or (use_launches table k row 0) (use_of table i) []) (instr_at g row) l h in
+      let u = option-out (use_launches table k row 0) (use_of table i.0) l i.2 in
       (use_row row u.0 l u.2).0
 
-  use_once : (row : ℕ) (u : Use) → NoTwice (use_launches table k row u)
+  use_once : (row : ℕ) (u : Use) → NoTwice (use_launches table k row 0 u)
   use_once row u =
-      flat-once (λ (l : Launch). l.slot) (λ s. map (at row s) (range_with_len 0 (k + 1 - u.latency)))
-      (λ s l h. let t = map-out (at row s) (range_with_len 0 (k + 1 - u.latency)) l h in sym (ap (λ (l : Launch). l.slot) t.2))
-      (λ s. map-once (λ (l : Launch). l.cycle) (at row s) (λ t. refl) (range_with_len 0 (k + 1 - u.latency)) (range-once 0 (k + 1 - u.latency)))
+      flat-once (λ (l : Launch). l.slot) (λ s. map (at row s) (range_with_len 0 (k + 1 - u.latency - 0)))
+      (λ s l h. let t = map-out (at row s) (range_with_len 0 (k + 1 - u.latency - 0)) l h in sym (ap (λ (l : Launch). l.slot) t.2))
+      (λ s. map-once (λ (l : Launch). l.cycle) (at row s) (λ t. refl) (range_with_len 0 (k + 1 - u.latency - 0)) (range-once 0 (k + 1 - u.latency - 0)))
       (slots_of table u) (filter-once (λ s. list_any (λ r. r == s) u.slots) (range_with_len 0 (length table.slots)) (range-once 0 (length table.slots)))
 
   -- no launch has two variables
   pub launches-once : NoTwice (all_launches g table k)
   launches-once =
-      flat-once (λ (l : Launch). l.row) (row_launches g table k) row_row
-      (λ row. option-once (λ i. option_map_or (use_launches table k row) (use_of table i) []) (instr_at g row) (λ i. option-once (use_launches table k row) (use_of table i) (use_once row)))
+      flat-once (λ (l : Launch). l.row) (row_launches g table k (Some 0)) row_row
+      (λ row. option-once (λ i. option_map_or (use_launches table k row 0) (use_of table i) []) (instr_at g row) (λ i. option-once (use_launches table k row 0) (use_of table i) (use_once row)))
       (range_with_len 0 (length g.rows + 1)) (range-once 0 (length g.rows + 1))
 
   latency_is : (i : InstrKind) (u : Use) (o : Option InstrKind) → o ≡ Some i → use_of table i ≡ Some u → unwrap_or (latency_of table (unwrap_or o Beq)) 0 ≡ u.latency
@@ -84,9 +84,9 @@ module _ (g : LaunchGraph) (table : Table) (k : ℕ) where
     -- each launch that has a variable
     pub listed-one : (l : Launch) → Contains (all_launches g table k) l → IsListed g table k l
     listed-one l h =
-        let r = flat-out (row_launches g table k) (range_with_len 0 (length g.rows + 1)) l h in
-        let i = option-out (λ i. option_map_or (use_launches table k r.0) (use_of table i) []) (instr_at g r.0) l r.2 in
-        let u = option-out (use_launches table k r.0) (use_of table i.0) l i.2 in
+        let r = flat-out (row_launches g table k (Some 0)) (range_with_len 0 (length g.rows + 1)) l h in
+        let i = option-out (λ i. option_map_or (use_launches table k r.0 0) (use_of table i) []) (instr_at g r.0) l r.2 in
+        let u = option-out (use_launches table k r.0 0) (use_of table i.0) l i.2 in
         let is = use_row r.0 u.0 l u.2 in
         let instr : instr_at g l.row ≡ Some i.0 = ap (instr_at g) is.0 ∙ i.1 in
         let s = filter-out (λ s. list_any (λ r. r == s) (u.0).slots) (range_with_len 0 (length table.slots)) l.slot is.1 in
@@ -115,13 +115,13 @@ module _ (g : LaunchGraph) (table : Table) (k : ℕ) where
         let slot : l.slot < length table.slots = All-contains (λ s. s < length table.slots) (u.0).slots l.slot known.exist u.2 in
         let latency = latency_is i.0 u.0 (instr_at g l.row) i.1 u.1 in
         let slots : Contains (slots_of table u.0) l.slot = filter-in (λ s. list_any (λ r. r == s) (u.0).slots) (range_with_len 0 (length table.slots)) l.slot (range-in 0 (length table.slots) l.slot (omega arith) (omega arith)) (some_in (λ r. r == l.slot) (u.0).slots l.slot u.2 (eq-eqb l.slot l.slot refl)) in
-        let cycle : Contains (range_with_len 0 (k + 1 - (u.0).latency)) l.cycle = range-in 0 (k + 1 - (u.0).latency) l.cycle (omega arith) (omega arith) in
-        let by_use : Contains (use_launches table k l.row u.0) l =
-        flat-in (λ s. map (at l.row s) (range_with_len 0 (k + 1 - (u.0).latency))) (slots_of table u.0) l.slot l slots (map-in (at l.row l.slot) (range_with_len 0 (k + 1 - (u.0).latency)) l.cycle cycle) in
-        let by_row : Contains (row_launches g table k l.row) l =
-        subst (λ o. Contains (option_map_or (λ i. option_map_or (use_launches table k l.row) (use_of table i) []) o []) l) (sym i.1)
-        (subst (λ o. Contains (option_map_or (use_launches table k l.row) o []) l) (sym u.1) by_use) in
-        flat-in (row_launches g table k) (range_with_len 0 (length g.rows + 1)) l.row l (range-in 0 (length g.rows + 1) l.row (omega arith) (let w = within g l.row i.0 i.1 in omega arith)) by_row
+        let cycle : Contains (range_with_len 0 (k + 1 - (u.0).latency - 0)) l.cycle = range-in 0 (k + 1 - (u.0).latency - 0) l.cycle (omega arith) (omega arith) in
+        let by_use : Contains (use_launches table k l.row 0 u.0) l =
+        flat-in (λ s. map (at l.row s) (range_with_len 0 (k + 1 - (u.0).latency - 0))) (slots_of table u.0) l.slot l slots (map-in (at l.row l.slot) (range_with_len 0 (k + 1 - (u.0).latency - 0)) l.cycle cycle) in
+        let by_row : Contains (row_launches g table k (Some 0) l.row) l =
+        subst (λ o. Contains (option_map_or (λ i. option_map_or (use_launches table k l.row 0) (use_of table i) []) o []) l) (sym i.1)
+        (subst (λ o. Contains (option_map_or (use_launches table k l.row 0) o []) l) (sym u.1) by_use) in
+        flat-in (row_launches g table k (Some 0)) (range_with_len 0 (length g.rows + 1)) l.row l (range-in 0 (length g.rows + 1) l.row (omega arith) (let w = within g l.row i.0 i.1 in omega arith)) by_row
 
     -- the cluster of a slot is one of the table's
     pub cluster-in : (s : ℕ) → s < length table.slots → Contains (clusters_of table) (cluster_of table s)

@@ -1,8 +1,8 @@
 -- The counts of memory, guard and registers, and of the whole.
 use Rattle.std.proofs.Common.{◌≡◌, ℕ, suc, ◌+◌, ◌*◌, ◌<◌, Bool, true, false, not, cond, List, [], ◌∷◌, ◌++◌, length, map, refl, sym, ap, ◌∙◌, arith, length-append}
-use Rattle.std.specs.Prelude.{◌&&◌, ◌||◌, ◌==◌, is_some, Contains}
+use Rattle.std.specs.Prelude.{◌&&◌, ◌||◌, ◌==◌, nat_le, nat_lt, is_some, Contains}
 use Rattle.std.specs.List.{count_by, sum_by, range_with_len}
-use Rattle.std.proofs.lemmas.Bool.{lt-ltb}
+use Rattle.std.proofs.lemmas.Bool.{le-leb, lt-ltb, and_from}
 use Rattle.std.proofs.lemmas.List.Sums.{sum_by-cons, sum_by-append}
 use Rattle.std.proofs.lemmas.List.FromFn.{length-range_with_len}
 use Rattle.cnf_core.specs.declared.literal.Lit.{Lit}
@@ -12,11 +12,11 @@ use Rattle.machine_table.specs.declared.tables.Table.{Table}
 use Rattle.launch_graph.specs.declared.graphs.LaunchGraph.{LaunchGraph}
 use Rattle.schedule_meaning.specs.declared.schedules.Launch.{Launch}
 use Rattle.cycle_encoding.specs.Shapes.{vars_of, implied, when, counters, counters_vars}
-use Rattle.cycle_encoding.specs.Variables.{all_launches}
+use Rattle.cycle_encoding.specs.Variables.{launches_from}
 use Rattle.order_encoding.specs.OrderVariables.{memory_classes, all_held, all_taken, Held, Taken}
 use Rattle.order_encoding.specs.OrderFamilies.{stores_at, uses_memory, waits, branches_by, is_held_at, is_taken_at, held_groups, store_groups, entry_clauses, memory_clauses, kept_clauses, last_clauses, branch_groups, register_clauses, register_groups}
 use Rattle.cycle_encoding.specs.Families.{any}
-use Rattle.cycle_encoding.specs.CycleFormula.{Listed, wide, launch_vars, after_cycles, cycle_part}
+use Rattle.cycle_encoding.specs.CycleFormula.{Listed, Scope, first_in, listed_in, launch_vars, after_cycles, cycle_part}
 use Rattle.order_encoding.specs.WholeFormula.{held_vars, before_stores, store_vars, before_held, memory_groups, after_memory, come_cycles, come_vars, before_branch, after_guard, taken_vars, before_pool, memory_part, guard_part, pool_part, memory_formula, guard_formula, whole_formula}
 use Rattle.cycle_encoding.specs.Counts.{one_if, row_is, sum_launches, cycle_vars, cycle_size}
 use Rattle.order_encoding.specs.OrderCounts.{store_count, held_count, memory_vars, memory_size, branch_count, guard_vars, guard_size, taken_count, pool_vars, pool_size}
@@ -25,7 +25,7 @@ use Rattle.cycle_encoding.proofs.Members.{range-out}
 use Rattle.cycle_encoding.proofs.Rows.{counters-size}
 use Rattle.cycle_encoding.proofs.Totals.{sum-flat, sum-map, sum-const, size-ones, size-flat, size-vars, size-implied, count-cycle}
 use Rattle.order_encoding.proofs.Stored.{store-count}
-use Rattle.cycle_encoding.proofs.Launched.{same-in, size-map, in_cycle, sum-rows, cycle-vars, cycle-size}
+use Rattle.cycle_encoding.proofs.Launched.{same-in, size-map, sum-rows, cycle-vars, cycle-size}
 
 size-when : {A : Type 0} (b : Bool) (xs : List A) → length (when b xs) ≡ one_if b * length xs
 size-when true xs = omega arith
@@ -41,9 +41,15 @@ and_swap true false = refl
 and_swap false true = refl
 and_swap false false = refl
 
-module _ (g : LaunchGraph) (table : Table) (k : ℕ) where
+-- cycle 0, among k + 1 cycles
+module _ (k : ℕ) where
+  pub first_cycle : (b : Bool) → sum_by (λ t. one_if (b && (t == 0))) (range_with_len 0 (k + 1)) ≡ one_if b * 1
+  first_cycle true = count-cycle 0 (k + 1) 0 ∙ ap one_if (and_from (nat_le 0 0) (nat_lt 0 (k + 1)) (le-leb 0 0 (omega arith)) (lt-ltb 0 (k + 1) (omega arith)))
+  first_cycle false = sum-const 0 (range_with_len 0 (k + 1)) ∙ (let z : length (range_with_len 0 (k + 1)) * 0 ≡ 0 * 1 = omega arith in z)
+
+module _ (g : LaunchGraph) (table : Table) (k : ℕ) (sc : Scope) where
   abbrev e : Listed
-  e = wide g table k
+  e = listed_in g table k sc
 
   -- a sum over what is held, class by class and cycle by cycle
   held_sum : (F : Held → ℕ) → sum_by F (all_held g k) ≡ sum_by (λ c. sum_by (λ t. F (record { class = c; cycle = t })) (range_with_len 0 (k + 1))) (memory_classes g)
@@ -51,42 +57,42 @@ module _ (g : LaunchGraph) (table : Table) (k : ℕ) where
       sum-flat F (λ c. map (λ t. record { class = c; cycle = t }) (range_with_len 0 (k + 1))) (memory_classes g)
       ∙ sum-same (λ c. sum_by F (map (λ t. record { class = c; cycle = t }) (range_with_len 0 (k + 1)))) (λ c. sum_by (λ t. F (record { class = c; cycle = t })) (range_with_len 0 (k + 1))) (memory_classes g) (λ c. sum-map F (λ t. record { class = c; cycle = t }) (range_with_len 0 (k + 1)))
 
-  held-size : length (all_held g k) ≡ held_count g table k * (k + 1)
+  held-size : length (all_held g k) ≡ held_count g table k sc * (k + 1)
   held-size =
       size-ones (all_held g k) ∙ held_sum (λ m. 1)
       ∙ sum-same (λ (c : ℕ). sum_by (λ (t : ℕ). 1) (range_with_len 0 (k + 1))) (λ c. k + 1) (memory_classes g) (λ c. sym (size-ones (range_with_len 0 (k + 1))) ∙ length-range_with_len 0 (k + 1))
       ∙ sum-const (k + 1) (memory_classes g)
 
-  held-cycle : (t : ℕ) → t < k + 1 → count_by (λ (m : Held). m.cycle == t) (all_held g k) ≡ held_count g table k
+  held-cycle : (t : ℕ) → t < k + 1 → count_by (λ (m : Held). m.cycle == t) (all_held g k) ≡ held_count g table k sc
   held-cycle t lt =
       held_sum (λ m. one_if (m.cycle == t))
-      ∙ sum-same (λ (c : ℕ). sum_by (λ y. one_if (y == t)) (range_with_len 0 (k + 1))) (λ c. 1) (memory_classes g) (λ c. count-cycle (k + 1) t ∙ ap one_if (lt-ltb t (k + 1) lt))
+      ∙ sum-same (λ (c : ℕ). sum_by (λ y. one_if (y == t)) (range_with_len 0 (k + 1))) (λ c. 1) (memory_classes g) (λ c. count-cycle 0 (k + 1) t ∙ ap one_if (and_from (nat_le 0 t) (nat_lt t (k + 1)) (le-leb 0 t (omega arith)) (lt-ltb t (k + 1) lt)))
       ∙ sym (size-ones (memory_classes g))
 
   -- counters of what is held and of stores
-  groups : (h : ℕ → ℕ) → sum_by (λ (c : List Lit). h (length c)) (memory_groups g table k e) ≡ (k + 1) * h (held_count g table k) + sum_by (λ t. h (store_count g table k t)) (range_with_len 0 k)
+  groups : (h : ℕ → ℕ) → sum_by (λ (c : List Lit). h (length c)) (memory_groups g table k e) ≡ (k + 1) * h (held_count g table k sc) + sum_by (λ t. h (store_count g table k sc t)) (range_with_len 0 k)
   groups h =
       let ms = held_vars g table k e in
       let xs = launch_vars g table k e in
-      let a : sum_by (λ (c : List Lit). h (length c)) (held_groups k ms) ≡ (k + 1) * h (held_count g table k) =
+      let a : sum_by (λ (c : List Lit). h (length c)) (held_groups k ms) ≡ (k + 1) * h (held_count g table k sc) =
       sum-map (λ (c : List Lit). h (length c)) (λ t. vars_of (λ (m : Held). m.cycle == t) ms) (range_with_len 0 (k + 1))
-      ∙ same-in (λ t. h (length (vars_of (λ (m : Held). m.cycle == t) ms))) (λ t. h (held_count g table k)) (range_with_len 0 (k + 1)) (λ t ht. ap h (size-vars (λ (m : Held). m.cycle == t) (after_cycles g table k e) (all_held g k) ∙ held-cycle t (let b = (range-out 0 (k + 1) t ht).1 in omega arith)))
-      ∙ sum-const (h (held_count g table k)) (range_with_len 0 (k + 1)) ∙ ap (λ n. n * h (held_count g table k)) (length-range_with_len 0 (k + 1)) in
-      let b : sum_by (λ (c : List Lit). h (length c)) (store_groups g k xs) ≡ sum_by (λ t. h (store_count g table k t)) (range_with_len 0 k) =
+      ∙ same-in (λ t. h (length (vars_of (λ (m : Held). m.cycle == t) ms))) (λ t. h (held_count g table k sc)) (range_with_len 0 (k + 1)) (λ t ht. ap h (size-vars (λ (m : Held). m.cycle == t) (after_cycles g table k e) (all_held g k) ∙ held-cycle t (let b = (range-out 0 (k + 1) t ht).1 in omega arith)))
+      ∙ sum-const (h (held_count g table k sc)) (range_with_len 0 (k + 1)) ∙ ap (λ n. n * h (held_count g table k sc)) (length-range_with_len 0 (k + 1)) in
+      let b : sum_by (λ (c : List Lit). h (length c)) (store_groups g k xs) ≡ sum_by (λ t. h (store_count g table k sc t)) (range_with_len 0 k) =
       sum-map (λ (c : List Lit). h (length c)) (λ t. vars_of (stores_at g t) xs) (range_with_len 0 k)
-      ∙ sum-same (λ t. h (length (vars_of (stores_at g t) xs))) (λ t. h (store_count g table k t)) (range_with_len 0 k) (λ t. ap h (size-vars (stores_at g t) 0 (all_launches g table k) ∙ store-count g table k t)) in
+      ∙ sum-same (λ t. h (length (vars_of (stores_at g t) xs))) (λ t. h (store_count g table k sc t)) (range_with_len 0 k) (λ t. ap h (size-vars (stores_at g t) 0 (launches_from g table k (first_in sc)) ∙ store-count g table k sc t)) in
       sum_by-append (λ (c : List Lit). h (length c)) (held_groups k ms) (store_groups g k xs)
       ∙ ap (λ n. n + sum_by (λ (c : List Lit). h (length c)) (store_groups g k xs)) a
-      ∙ ap (λ n. (k + 1) * h (held_count g table k) + n) b
+      ∙ ap (λ n. (k + 1) * h (held_count g table k sc) + n) b
 
-  pub memory-vars : after_memory g table k e ≡ cycle_vars g table k + memory_vars g table k
+  pub memory-vars : after_memory g table k e ≡ cycle_vars g table k sc + memory_vars g table k sc
   memory-vars =
       let m = counters_vars 1 (memory_groups g table k e) in
       let h = length (all_held g k) in
-      ap (λ n. n + h + k + m) (cycle-vars g table k)
-      ∙ ap (λ n. cycle_vars g table k + n + k + m) held-size
-      ∙ ap (λ n. cycle_vars g table k + held_count g table k * (k + 1) + k + n) (groups (at_most_vars 1))
-      ∙ (let s : (a b c d : ℕ) → a + b + c + d ≡ a + (b + c + d) = λ a b c d. omega arith in s (cycle_vars g table k) (held_count g table k * (k + 1)) k ((k + 1) * at_most_vars 1 (held_count g table k) + sum_by (λ t. at_most_vars 1 (store_count g table k t)) (range_with_len 0 k)))
+      ap (λ n. n + h + k + m) (cycle-vars g table k sc)
+      ∙ ap (λ n. cycle_vars g table k sc + n + k + m) held-size
+      ∙ ap (λ n. cycle_vars g table k sc + held_count g table k sc * (k + 1) + k + n) (groups (at_most_vars 1))
+      ∙ (let s : (a b c d : ℕ) → a + b + c + d ≡ a + (b + c + d) = λ a b c d. omega arith in s (cycle_vars g table k sc) (held_count g table k sc * (k + 1)) k ((k + 1) * at_most_vars 1 (held_count g table k sc) + sum_by (λ t. at_most_vars 1 (store_count g table k sc t)) (range_with_len 0 k)))
 
   entry-size : length (entry_clauses g (held_vars g table k e)) ≡ 1 + count_by (λ c. not (c == g.entry)) (memory_classes g)
   entry-size =
@@ -94,43 +100,43 @@ module _ (g : LaunchGraph) (table : Table) (k : ℕ) where
       let wrong : Held → List (List Lit) = λ m. when ((m.cycle == 0) && not (m.class == g.entry)) ([] ∷ []) in
       let inner : (c : ℕ) → sum_by (λ t. length (when ((t == 0) && b c) ([] ∷ []))) (range_with_len 0 (k + 1)) ≡ one_if (b c) = λ c.
       sum-same (λ t. length (when ((t == 0) && b c) ([] ∷ []))) (λ t. one_if (b c && (t == 0))) (range_with_len 0 (k + 1)) (λ t. size-one ((t == 0) && b c) [] ∙ ap one_if (and_swap (t == 0) (b c)))
-      ∙ in_cycle g table k (b c) (k + 1) 0 ∙ ap (λ x. one_if (b c) * one_if x) (lt-ltb 0 (k + 1) (omega arith)) ∙ (let z : one_if (b c) * 1 ≡ one_if (b c) = omega arith in z) in
+      ∙ first_cycle k (b c) ∙ (let z : one_if (b c) * 1 ≡ one_if (b c) = omega arith in z) in
       let rest : length (implied (held_vars g table k e) wrong) ≡ count_by b (memory_classes g) =
       size-implied wrong (after_cycles g table k e) (all_held g k) ∙ held_sum (λ m. length (wrong m))
       ∙ sum-same (λ c. sum_by (λ t. length (when ((t == 0) && b c) ([] ∷ []))) (range_with_len 0 (k + 1))) (λ c. one_if (b c)) (memory_classes g) inner in
       ap suc rest ∙ (let s : (n : ℕ) → suc n ≡ 1 + n = λ n. omega arith in s (count_by b (memory_classes g)))
 
-  use-size : length (memory_clauses g (launch_vars g table k e) (held_vars g table k e) (store_vars g table k e)) ≡ sum_launches g table k (λ row. one_if (row_is g is_load row || row_is g is_store row) + one_if (row_is g is_store row) * 2)
+  use-size : length (memory_clauses g (launch_vars g table k e) (held_vars g table k e) (store_vars g table k e)) ≡ sum_launches g table k sc (λ row. one_if (row_is g is_load row || row_is g is_store row) + one_if (row_is g is_store row) * 2)
   use-size =
       let ms = held_vars g table k e in
       let ws = store_vars g table k e in
       let a : Launch → List (List Lit) = λ l. vars_of (is_held_at (memory_class_at g l.row) l.cycle) ms ∷ [] in
       let b : Launch → List (List Lit) = λ l. vars_of (is_held_at (class_at g l.row) (l.cycle + 1)) ms ∷ vars_of (λ t. t == l.cycle) ws ∷ [] in
-      size-implied (λ l. when (uses_memory g l) (a l) ++ when (launches g is_store l) (b l)) 0 (all_launches g table k)
-      ∙ sum-same (λ l. length (when (uses_memory g l) (a l) ++ when (launches g is_store l) (b l))) (λ (l : Launch). one_if (row_is g is_load l.row || row_is g is_store l.row) + one_if (row_is g is_store l.row) * 2) (all_launches g table k)
+      size-implied (λ l. when (uses_memory g l) (a l) ++ when (launches g is_store l) (b l)) 0 (launches_from g table k (first_in sc))
+      ∙ sum-same (λ l. length (when (uses_memory g l) (a l) ++ when (launches g is_store l) (b l))) (λ (l : Launch). one_if (row_is g is_load l.row || row_is g is_store l.row) + one_if (row_is g is_store l.row) * 2) (launches_from g table k (first_in sc))
       (λ l. length-append (when (uses_memory g l) (a l)) (when (launches g is_store l) (b l)) ∙ ap (λ n. n + length (when (launches g is_store l) (b l))) (size-one (uses_memory g l) (vars_of (is_held_at (memory_class_at g l.row) l.cycle) ms)) ∙ ap (λ n. one_if (uses_memory g l) + n) (size-when (launches g is_store l) (b l)))
-      ∙ sum-rows g table k (λ row. one_if (row_is g is_load row || row_is g is_store row) + one_if (row_is g is_store row) * 2)
+      ∙ sum-rows g table k sc (λ row. one_if (row_is g is_load row || row_is g is_store row) + one_if (row_is g is_store row) * 2)
 
-  kept-size : length (kept_clauses g k (launch_vars g table k e) (held_vars g table k e) (store_vars g table k e)) ≡ k * (1 + held_count g table k)
+  kept-size : length (kept_clauses g k (launch_vars g table k e) (held_vars g table k e) (store_vars g table k e)) ≡ k * (1 + held_count g table k sc)
   kept-size =
       let xs = launch_vars g table k e in
       let ms = held_vars g table k e in
       let ws = store_vars g table k e in
       let a : ℕ → ℕ → List (List Lit) = λ t c. when (c == t) (vars_of (stores_at g t) xs ∷ []) in
       let b : ℕ → Held → List (List Lit) = λ t m. when (m.cycle == t) ((vars_of (λ c. c == t) ws ++ vars_of (is_held_at m.class (t + 1)) ms) ∷ []) in
-      let each : (t : ℕ) → Contains (range_with_len 0 k) t → length (implied ws (a t) ++ implied ms (b t)) ≡ 1 + held_count g table k = λ t ht.
+      let each : (t : ℕ) → Contains (range_with_len 0 k) t → length (implied ws (a t) ++ implied ms (b t)) ≡ 1 + held_count g table k sc = λ t ht.
       let lt : t < k = (let r = (range-out 0 k t ht).1 in omega arith) in
       length-append (implied ws (a t)) (implied ms (b t))
-      ∙ ap (λ n. n + length (implied ms (b t))) (size-implied (a t) (before_stores g table k e) (range_with_len 0 k) ∙ sum-same (λ c. length (a t c)) (λ c. one_if (c == t)) (range_with_len 0 k) (λ c. size-one (c == t) (vars_of (stores_at g t) xs)) ∙ count-cycle k t ∙ ap one_if (lt-ltb t k lt))
+      ∙ ap (λ n. n + length (implied ms (b t))) (size-implied (a t) (before_stores g table k e) (range_with_len 0 k) ∙ sum-same (λ c. length (a t c)) (λ c. one_if (c == t)) (range_with_len 0 k) (λ c. size-one (c == t) (vars_of (stores_at g t) xs)) ∙ count-cycle 0 k t ∙ ap one_if (and_from (nat_le 0 t) (nat_lt t k) (le-leb 0 t (omega arith)) (lt-ltb t k lt)))
       ∙ ap (λ n. 1 + n) (size-implied (b t) (after_cycles g table k e) (all_held g k) ∙ sum-same (λ m. length (b t m)) (λ (m : Held). one_if (m.cycle == t)) (all_held g k) (λ m. size-one (m.cycle == t) (vars_of (λ c. c == t) ws ++ vars_of (is_held_at m.class (t + 1)) ms)) ∙ held-cycle t (omega arith)) in
       size-flat (λ t. implied ws (a t) ++ implied ms (b t)) (range_with_len 0 k)
-      ∙ same-in (λ t. length (implied ws (a t) ++ implied ms (b t))) (λ t. 1 + held_count g table k) (range_with_len 0 k) each
-      ∙ sum-const (1 + held_count g table k) (range_with_len 0 k) ∙ ap (λ n. n * (1 + held_count g table k)) (length-range_with_len 0 k)
+      ∙ same-in (λ t. length (implied ws (a t) ++ implied ms (b t))) (λ t. 1 + held_count g table k sc) (range_with_len 0 k) each
+      ∙ sum-const (1 + held_count g table k sc) (range_with_len 0 k) ∙ ap (λ n. n * (1 + held_count g table k sc)) (length-range_with_len 0 k)
 
   -- ---- the guard
 
-  branch-lits : length (vars_of (launches g is_branch) (launch_vars g table k e)) ≡ branch_count g table k
-  branch-lits = size-vars (launches g is_branch) 0 (all_launches g table k) ∙ sum-rows g table k (λ row. one_if (row_is g is_branch row))
+  branch-lits : length (vars_of (launches g is_branch) (launch_vars g table k e)) ≡ branch_count g table k sc
+  branch-lits = size-vars (launches g is_branch) 0 (launches_from g table k (first_in sc)) ∙ sum-rows g table k sc (λ row. one_if (row_is g is_branch row))
 
   guard_vars_in : (b : Bool) (n : ℕ) (lits : List Lit) → length lits ≡ n → length (when b (range_with_len 0 k)) + counters_vars 1 (when b (lits ∷ [])) ≡ cond b (k + at_most_vars 1 n) 0
   guard_vars_in true n lits e =
@@ -138,36 +144,36 @@ module _ (g : LaunchGraph) (table : Table) (k : ℕ) where
       ∙ ap (λ m. k + m) (sum_by-cons (λ (c : List Lit). at_most_vars 1 (length c)) lits [] ∙ (let z : at_most_vars 1 (length lits) + 0 ≡ at_most_vars 1 (length lits) = omega arith in z) ∙ ap (at_most_vars 1) e)
   guard_vars_in false n lits e = refl
 
-  pub guard-vars : after_guard g table k e ≡ cycle_vars g table k + memory_vars g table k + guard_vars g table k
+  pub guard-vars : after_guard g table k e ≡ cycle_vars g table k sc + memory_vars g table k sc + guard_vars g table k sc
   guard-vars =
       let b = length (come_cycles g table k e) in
       let c = counters_vars 1 (branch_groups g (launch_vars g table k e)) in
       ap (λ n. n + b + c) memory-vars
-      ∙ (let s : (x y z : ℕ) → x + y + z ≡ x + (y + z) = λ x y z. omega arith in s (cycle_vars g table k + memory_vars g table k) b c)
-      ∙ ap (λ n. cycle_vars g table k + memory_vars g table k + n) (guard_vars_in (is_some g.guard) (branch_count g table k) (vars_of (launches g is_branch) (launch_vars g table k e)) branch-lits)
+      ∙ (let s : (x y z : ℕ) → x + y + z ≡ x + (y + z) = λ x y z. omega arith in s (cycle_vars g table k sc + memory_vars g table k sc) b c)
+      ∙ ap (λ n. cycle_vars g table k sc + memory_vars g table k sc + n) (guard_vars_in (is_some g.guard) (branch_count g table k sc) (vars_of (launches g is_branch) (launch_vars g table k e)) branch-lits)
 
   -- ---- registers
 
-  taken-size : length (all_taken table k) ≡ taken_count g table k
+  taken-size : length (all_taken table k) ≡ taken_count g table k sc
   taken-size =
       size-flat (λ s. map {B = Taken} (λ t. record { slot = s; cycle = t }) (range_with_len 0 k)) (range_with_len 0 (length table.slots))
       ∙ sum-same (λ s. length (map {B = Taken} (λ t. record { slot = s; cycle = t }) (range_with_len 0 k))) (λ s. k) (range_with_len 0 (length table.slots)) (λ s. size-map {A = Taken} (λ t. record { slot = s; cycle = t }) (range_with_len 0 k) ∙ length-range_with_len 0 k)
       ∙ sum-const k (range_with_len 0 (length table.slots)) ∙ ap (λ n. n * k) (length-range_with_len 0 (length table.slots))
 
-  taken-lits : length (vars_of any (taken_vars g table k e)) ≡ taken_count g table k
+  taken-lits : length (vars_of any (taken_vars g table k e)) ≡ taken_count g table k sc
   taken-lits = size-vars any (after_guard g table k e) (all_taken table k) ∙ count-any (all_taken table k) ∙ taken-size
 
-  pub whole-vars : (whole_formula g table k e).vars ≡ cycle_vars g table k + memory_vars g table k + guard_vars g table k + pool_vars g table k
+  pub whole-vars : (whole_formula g table k e).vars ≡ cycle_vars g table k sc + memory_vars g table k sc + guard_vars g table k sc + pool_vars g table k sc
   whole-vars =
       let p = length g.pool in
       let c = counters_vars p (register_groups (taken_vars g table k e)) in
       ap (λ n. n + length (all_taken table k) + c) guard-vars
-      ∙ ap (λ n. cycle_vars g table k + memory_vars g table k + guard_vars g table k + n + c) taken-size
-      ∙ ap (λ n. cycle_vars g table k + memory_vars g table k + guard_vars g table k + taken_count g table k + n) (sum_by-cons (λ (c : List Lit). at_most_vars p (length c)) (vars_of any (taken_vars g table k e)) [] ∙ (let z : at_most_vars p (length (vars_of any (taken_vars g table k e))) + 0 ≡ at_most_vars p (length (vars_of any (taken_vars g table k e))) = omega arith in z) ∙ ap (at_most_vars p) taken-lits)
-      ∙ (let s : (x y z : ℕ) → x + y + z ≡ x + (y + z) = λ x y z. omega arith in s (cycle_vars g table k + memory_vars g table k + guard_vars g table k) (taken_count g table k) (at_most_vars p (taken_count g table k)))
+      ∙ ap (λ n. cycle_vars g table k sc + memory_vars g table k sc + guard_vars g table k sc + n + c) taken-size
+      ∙ ap (λ n. cycle_vars g table k sc + memory_vars g table k sc + guard_vars g table k sc + taken_count g table k sc + n) (sum_by-cons (λ (c : List Lit). at_most_vars p (length c)) (vars_of any (taken_vars g table k e)) [] ∙ (let z : at_most_vars p (length (vars_of any (taken_vars g table k e))) + 0 ≡ at_most_vars p (length (vars_of any (taken_vars g table k e))) = omega arith in z) ∙ ap (at_most_vars p) taken-lits)
+      ∙ (let s : (x y z : ℕ) → x + y + z ≡ x + (y + z) = λ x y z. omega arith in s (cycle_vars g table k sc + memory_vars g table k sc + guard_vars g table k sc) (taken_count g table k sc) (at_most_vars p (taken_count g table k sc)))
 
   module _ (size : (old p : ℕ) (lits : List Lit) → length (at_most_clauses old p lits) ≡ at_most_size p (length lits)) where
-    memory-size : length (memory_part g table k e) ≡ memory_size g table k
+    memory-size : length (memory_part g table k e) ≡ memory_size g table k sc
     memory-size =
         let c5 = entry_clauses g (held_vars g table k e) in
         let c6 = memory_clauses g (launch_vars g table k e) (held_vars g table k e) (store_vars g table k e) in
@@ -175,8 +181,8 @@ module _ (g : LaunchGraph) (table : Table) (k : ℕ) where
         let c8 = counters (before_held g table k e) 1 (memory_groups g table k e) in
         let c10 = last_clauses g k (held_vars g table k e) in
         let n5 = 1 + count_by (λ c. not (c == g.entry)) (memory_classes g) in
-        let n6 = sum_launches g table k (λ row. one_if (row_is g is_load row || row_is g is_store row) + one_if (row_is g is_store row) * 2) in
-        let n7 = k * (1 + held_count g table k) in
+        let n6 = sum_launches g table k sc (λ row. one_if (row_is g is_load row || row_is g is_store row) + one_if (row_is g is_store row) * 2) in
+        let n7 = k * (1 + held_count g table k sc) in
         length-append (c5 ++ c6 ++ c7 ++ c8) c10
         ∙ ap (λ n. n + 1) (length-append (c5 ++ c6 ++ c7) c8 ∙ ap (λ n. n + length c8) (length-append (c5 ++ c6) c7 ∙ ap (λ n. n + length c7) (length-append c5 c6)))
         ∙ ap (λ n. n + length c6 + length c7 + length c8 + 1) entry-size
@@ -196,41 +202,41 @@ module _ (g : LaunchGraph) (table : Table) (k : ℕ) where
     come_in true = length-range_with_len 0 k
     come_in false = refl
 
-    guard-size : length (guard_part g table k e) ≡ guard_size g table k
+    guard-size : length (guard_part g table k e) ≡ guard_size g table k sc
     guard-size =
         let xs = launch_vars g table k e in
         let bs = come_vars g table k e in
         let f : Launch → List (List Lit) = λ l. when (waits g l) (vars_of (λ t. t == l.cycle) bs ∷ []) in
-        let w = sum_launches g table k (λ row. one_if (row_is g is_store row || (row_is g is_load row && is_held g))) in
+        let w = sum_launches g table k sc (λ row. one_if (row_is g is_store row || (row_is g is_load row && is_held g))) in
         let ew : length (implied xs f) ≡ w =
-        size-implied f 0 (all_launches g table k) ∙ sum-same (λ l. length (f l)) (λ (l : Launch). one_if (row_is g is_store l.row || (row_is g is_load l.row && is_held g))) (all_launches g table k) (λ l. size-one (waits g l) (vars_of (λ t. t == l.cycle) bs))
-        ∙ sum-rows g table k (λ row. one_if (row_is g is_store row || (row_is g is_load row && is_held g))) in
+        size-implied f 0 (launches_from g table k (first_in sc)) ∙ sum-same (λ l. length (f l)) (λ (l : Launch). one_if (row_is g is_store l.row || (row_is g is_load l.row && is_held g))) (launches_from g table k (first_in sc)) (λ l. size-one (waits g l) (vars_of (λ t. t == l.cycle) bs))
+        ∙ sum-rows g table k sc (λ row. one_if (row_is g is_store row || (row_is g is_load row && is_held g))) in
         let ec : length (implied bs (λ t. vars_of (branches_by g t) xs ∷ [])) ≡ cond (is_some g.guard) k 0 =
         size-implied (λ t. vars_of (branches_by g t) xs ∷ []) (after_memory g table k e) (come_cycles g table k e) ∙ sym (size-ones (come_cycles g table k e)) ∙ come_in (is_some g.guard) in
-        guard_in (is_some g.guard) (branch_count g table k) w (vars_of (launches g is_branch) xs) (before_branch g table k e) (implied xs f) (implied bs (λ t. vars_of (branches_by g t) xs ∷ [])) branch-lits ew ec
+        guard_in (is_some g.guard) (branch_count g table k sc) w (vars_of (launches g is_branch) xs) (before_branch g table k e) (implied xs f) (implied bs (λ t. vars_of (branches_by g t) xs ∷ [])) branch-lits ew ec
 
-    pool-size : length (pool_part g table k e) ≡ pool_size g table k
+    pool-size : length (pool_part g table k e) ≡ pool_size g table k sc
     pool-size =
         let xs = launch_vars g table k e in
         let us = taken_vars g table k e in
         let p = length g.pool in
         let f : Launch → List (List Lit) = λ l. when (launches g gives_word l) (vars_of (is_taken_at l.slot l.cycle) us ∷ []) in
         length-append (register_clauses g xs us) (counters (before_pool g table k e) p (register_groups us))
-        ∙ ap (λ n. n + length (counters (before_pool g table k e) p (register_groups us))) (size-implied f 0 (all_launches g table k) ∙ sum-same (λ l. length (f l)) (λ (l : Launch). one_if (row_is g gives_word l.row)) (all_launches g table k) (λ l. size-one (launches g gives_word l) (vars_of (is_taken_at l.slot l.cycle) us)) ∙ sum-rows g table k (λ row. one_if (row_is g gives_word row)))
-        ∙ ap (λ n. sum_launches g table k (λ row. one_if (row_is g gives_word row)) + n) (counters-size p size (before_pool g table k e) (register_groups us) ∙ sum_by-cons (λ (c : List Lit). at_most_size p (length c)) (vars_of any us) [] ∙ (let z : at_most_size p (length (vars_of any us)) + 0 ≡ at_most_size p (length (vars_of any us)) = omega arith in z) ∙ ap (at_most_size p) taken-lits)
+        ∙ ap (λ n. n + length (counters (before_pool g table k e) p (register_groups us))) (size-implied f 0 (launches_from g table k (first_in sc)) ∙ sum-same (λ l. length (f l)) (λ (l : Launch). one_if (row_is g gives_word l.row)) (launches_from g table k (first_in sc)) (λ l. size-one (launches g gives_word l) (vars_of (is_taken_at l.slot l.cycle) us)) ∙ sum-rows g table k sc (λ row. one_if (row_is g gives_word row)))
+        ∙ ap (λ n. sum_launches g table k sc (λ row. one_if (row_is g gives_word row)) + n) (counters-size p size (before_pool g table k e) (register_groups us) ∙ sum_by-cons (λ (c : List Lit). at_most_size p (length c)) (vars_of any us) [] ∙ (let z : at_most_size p (length (vars_of any us)) + 0 ≡ at_most_size p (length (vars_of any us)) = omega arith in z) ∙ ap (at_most_size p) taken-lits)
 
-    pub with-memory-size : length (memory_formula g table k e).clauses ≡ cycle_size g table k + memory_size g table k
+    pub with-memory-size : length (memory_formula g table k e).clauses ≡ cycle_size g table k sc + memory_size g table k sc
     with-memory-size =
         let a = cycle_part g table k e in
         let b = memory_part g table k e in
-        length-append a b ∙ ap (λ n. n + length b) (cycle-size g table k size) ∙ ap (λ n. cycle_size g table k + n) memory-size
+        length-append a b ∙ ap (λ n. n + length b) (cycle-size g table k sc size) ∙ ap (λ n. cycle_size g table k sc + n) memory-size
 
-    pub with-guard-size : length (guard_formula g table k e).clauses ≡ cycle_size g table k + memory_size g table k + guard_size g table k
+    pub with-guard-size : length (guard_formula g table k e).clauses ≡ cycle_size g table k sc + memory_size g table k sc + guard_size g table k sc
     with-guard-size =
         let c = guard_part g table k e in
-        length-append (cycle_part g table k e ++ memory_part g table k e) c ∙ ap (λ n. n + length c) with-memory-size ∙ ap (λ n. cycle_size g table k + memory_size g table k + n) guard-size
+        length-append (cycle_part g table k e ++ memory_part g table k e) c ∙ ap (λ n. n + length c) with-memory-size ∙ ap (λ n. cycle_size g table k sc + memory_size g table k sc + n) guard-size
 
-    pub whole-size : length (whole_formula g table k e).clauses ≡ cycle_size g table k + memory_size g table k + guard_size g table k + pool_size g table k
+    pub whole-size : length (whole_formula g table k e).clauses ≡ cycle_size g table k sc + memory_size g table k sc + guard_size g table k sc + pool_size g table k sc
     whole-size =
         let a = cycle_part g table k e in
         let b = memory_part g table k e in
@@ -238,7 +244,7 @@ module _ (g : LaunchGraph) (table : Table) (k : ℕ) where
         let d = pool_part g table k e in
         length-append (a ++ b ++ c) d
         ∙ ap (λ n. n + length d) (length-append (a ++ b) c ∙ ap (λ n. n + length c) (length-append a b))
-        ∙ ap (λ n. n + length b + length c + length d) (cycle-size g table k size)
-        ∙ ap (λ n. cycle_size g table k + n + length c + length d) memory-size
-        ∙ ap (λ n. cycle_size g table k + memory_size g table k + n + length d) guard-size
-        ∙ ap (λ n. cycle_size g table k + memory_size g table k + guard_size g table k + n) pool-size
+        ∙ ap (λ n. n + length b + length c + length d) (cycle-size g table k sc size)
+        ∙ ap (λ n. cycle_size g table k sc + n + length c + length d) memory-size
+        ∙ ap (λ n. cycle_size g table k sc + memory_size g table k sc + n + length d) guard-size
+        ∙ ap (λ n. cycle_size g table k sc + memory_size g table k sc + guard_size g table k sc + n) pool-size

@@ -1,6 +1,6 @@
 -- How many variables and clauses there are of memory, of a guard's branch, and of registers, as numbers that are found
 -- row by row, before any clause is. Source: this project.
-use Rattle.std.specs.Prelude.{ℕ, ◌+◌, ◌*◌, ◌==◌, ◌&&◌, ◌||◌, nat_lt, not, length, is_some, if◌then◌else◌}
+use Rattle.std.specs.Prelude.{ℕ, ◌+◌, ◌*◌, ◌==◌, ◌&&◌, ◌||◌, not, length, is_some, if◌then◌else◌}
 use Rattle.std.specs.Option.{option_map_or}
 use Rattle.std.specs.List.{count_by, sum_by, range_with_len}
 use Rattle.cnf_core.specs.Counter.{at_most_size, at_most_vars}
@@ -8,17 +8,20 @@ use Rattle.schedule_meaning.specs.Launches.{gives_word, is_load, is_store, is_br
 use Rattle.machine_table.specs.declared.tables.Table.{Table}
 use Rattle.launch_graph.specs.declared.graphs.LaunchGraph.{LaunchGraph}
 use Rattle.cycle_encoding.specs.Variables.{slots_of}
-use Rattle.cycle_encoding.specs.Counts.{one_if, row_is, row_use, cycles_of, row_numbers, sum_launches}
+use Rattle.cycle_encoding.specs.Counts.{one_if, row_is, row_use, can_begin, row_numbers, sum_launches}
+use Rattle.cycle_encoding.specs.CycleFormula.{Scope, first_in}
 use Rattle.order_encoding.specs.OrderVariables.{memory_classes}
 
-module _ (g : LaunchGraph) (table : Table) (k : ℕ) where
+module _ (g : LaunchGraph) (table : Table) (k : ℕ) (s : Scope) where
   -- how many stores may be launched in a cycle
   abbrev pub store_count : ℕ → ℕ
   store_count cycle =
       sum_by (λ row. option_map_or
-      (λ u. length (slots_of table u) * one_if (row_is g is_store row && nat_lt cycle (cycles_of g table k u)))
-      (row_use g table k row) 0)
-      (row_numbers g table k)
+      (λ u. option_map_or
+      (λ n. length (slots_of table u) * one_if (row_is g is_store row && can_begin k n u cycle))
+      (first_in s row) 0)
+      (row_use g table row) 0)
+      (row_numbers g table k s)
 
   abbrev pub held_count : ℕ
   held_count = length (memory_classes g)
@@ -31,14 +34,14 @@ module _ (g : LaunchGraph) (table : Table) (k : ℕ) where
   abbrev pub memory_size : ℕ
   memory_size =
       (1 + count_by (λ c. not (c == g.entry)) (memory_classes g))
-      + sum_launches g table k
+      + sum_launches g table k s
       (λ row. one_if (row_is g is_load row || row_is g is_store row) + one_if (row_is g is_store row) * 2)
       + k * (1 + held_count)
       + ((k + 1) * at_most_size 1 held_count + sum_by (λ t. at_most_size 1 (store_count t)) (range_with_len 0 k))
       + 1
 
   abbrev pub branch_count : ℕ
-  branch_count = sum_launches g table k (λ row. one_if (row_is g is_branch row))
+  branch_count = sum_launches g table k s (λ row. one_if (row_is g is_branch row))
 
   abbrev pub guard_vars : ℕ
   guard_vars = if is_some g.guard then k + at_most_vars 1 branch_count else 0
@@ -47,7 +50,7 @@ module _ (g : LaunchGraph) (table : Table) (k : ℕ) where
   guard_size =
       if is_some g.guard
       then 1 + at_most_size 1 branch_count
-      + sum_launches g table k (λ row. one_if (row_is g is_store row || (row_is g is_load row && is_held g))) + k
+      + sum_launches g table k s (λ row. one_if (row_is g is_store row || (row_is g is_load row && is_held g))) + k
       else 0
 
   abbrev pub taken_count : ℕ
@@ -58,4 +61,4 @@ module _ (g : LaunchGraph) (table : Table) (k : ℕ) where
 
   abbrev pub pool_size : ℕ
   pool_size =
-      sum_launches g table k (λ row. one_if (row_is g gives_word row)) + at_most_size (length g.pool) taken_count
+      sum_launches g table k s (λ row. one_if (row_is g gives_word row)) + at_most_size (length g.pool) taken_count

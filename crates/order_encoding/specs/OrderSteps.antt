@@ -13,7 +13,8 @@ use Rattle.schedule_meaning.specs.Launches.{launches, gives_word, is_load, is_st
 use Rattle.schedule_meaning.specs.declared.schedules.Launch.{Launch}
 use Rattle.cycle_encoding.specs.Shapes.{numbered, vars_of, implied, when, counters, counters_vars}
 use Rattle.cycle_encoding.specs.Variables.{slots_of}
-use Rattle.cycle_encoding.specs.Counts.{cycles_of, one_if, row_is, row_use}
+use Rattle.cycle_encoding.specs.Counts.{can_begin, one_if, row_is, row_use}
+use Rattle.cycle_encoding.specs.CycleFormula.{Scope, first_in}
 use Rattle.order_encoding.specs.OrderVariables.{Held, Taken, is_memory_class, memory_classes, all_held, all_taken}
 use Rattle.order_encoding.specs.OrderFamilies.{is_held_at, is_taken_at, stores_at, uses_memory, waits, entry_clauses, memory_clauses, kept_clauses, held_groups, store_groups, last_clauses, branch_clauses, branch_groups, wait_clauses, come_clauses, register_clauses, register_groups}
 
@@ -91,11 +92,13 @@ abbrev pub row_uses : LaunchGraph → ℕ → ℕ
 row_uses g row = one_if (row_is g is_load row || row_is g is_store row) + one_if (row_is g is_store row) * 2
 
 -- how many stores of the row may be launched in a cycle
-abbrev pub row_stores : LaunchGraph → Table → ℕ → ℕ → ℕ → ℕ
-row_stores g table k cycle row =
+abbrev pub row_stores : LaunchGraph → Table → ℕ → Scope → ℕ → ℕ → ℕ
+row_stores g table k s cycle row =
     option_map_or
-    (λ u. length (slots_of table u) * one_if (row_is g is_store row && nat_lt cycle (cycles_of g table k u)))
-    (row_use g table k row) 0
+    (λ u. option_map_or
+    (λ n. length (slots_of table u) * one_if (row_is g is_store row && can_begin k n u cycle))
+    (first_in s row) 0)
+    (row_use g table row) 0
 
 -- a launch of the row waits for the branch
 abbrev pub row_waits : LaunchGraph → ℕ → Bool

@@ -17,7 +17,9 @@ ghost use Rattle.order_encoding.specs.OrderVariables.{memory_classes};
 use crate::held::is_memory_class;
 use crate::kinds::{is_branch, is_load, is_store, waits};
 use cnf_core::{Cnf, at_most_size, at_most_vars};
-use cycle_encoding::{Facts, Sizes, cycles, next_class, one_size, one_vars, row_count, slot_count};
+use cycle_encoding::{
+    Facts, Scope, Sizes, can_begin, next_class, one_size, one_vars, row_count, slot_count,
+};
 use launch_graph::LaunchGraph;
 use machine_table::Table;
 
@@ -67,11 +69,11 @@ fn times(factor: u32, count: u64) -> u64
 // ---- memory
 
 /// How many stores of a row may be launched in a cycle.
-#[tactic(auto, using(crate::proofs::CountSteps::no_store, crate::proofs::CountSteps::stores_without_instr, crate::proofs::CountSteps::stores_without_use, crate::proofs::CountSteps::stores_in_time, crate::proofs::CountSteps::stores_too_late))]
-fn row_stores(facts: &Facts, table: &Table, k: u32, cycle: u32, row: u32) -> u64
+#[tactic(auto, using(crate::proofs::CountSteps::no_store, crate::proofs::CountSteps::stores_without_instr, crate::proofs::CountSteps::stores_without_use, crate::proofs::CountSteps::stores_without_first, crate::proofs::CountSteps::stores_in_time, crate::proofs::CountSteps::stores_too_late))]
+fn row_stores(facts: &Facts, table: &Table, scope: &Scope, k: u32, cycle: u32, row: u32) -> u64
     requires table { IsTable table.now }
     requires cycles { k ≤ 24 }
-    ensures value { result ≡ steps.row_stores facts.now table.now k cycle row }
+    ensures value { result ≡ steps.row_stores facts.now table.now k scope.now cycle row }
     ensures few { result ≤ 8 }
 {
     if !is_store(facts, row) {
@@ -83,7 +85,10 @@ fn row_stores(facts: &Facts, table: &Table, k: u32, cycle: u32, row: u32) -> u64
     let Some(latency) = table.latency(instr) else {
         return 0;
     };
-    if cycle < cycles(k, latency) {
+    let Some(first) = scope.first(row) else {
+        return 0;
+    };
+    if can_begin(k, latency, first, cycle) {
         slot_count(table, instr)
     } else {
         0
@@ -92,38 +97,38 @@ fn row_stores(facts: &Facts, table: &Table, k: u32, cycle: u32, row: u32) -> u64
 
 /// How many stores may be launched in a cycle.
 #[tactic(auto, using(crate::proofs::CountSteps::sum_more))]
-fn store_count(facts: &Facts, table: &Table, k: u32, cycle: u32) -> u64
+fn store_count(facts: &Facts, table: &Table, scope: &Scope, k: u32, cycle: u32) -> u64
     requires table { IsTable table.now }
     requires cycles { k ≤ 24 }
     requires rows { length facts.now.rows < 2 ^ 30 }
-    ensures value { result ≡ counts.store_count facts.now table.now k cycle }
+    ensures value { result ≡ counts.store_count facts.now table.now k scope.now cycle }
     ensures few { result < 2 ^ 34 }
 {
     let rows = facts.graph().rows.len() as u32;
     let mut count = 0;
     for row in 0..rows + 1 {
-        count += row_stores(facts, table, k, cycle, row);
+        count += row_stores(facts, table, scope, k, cycle, row);
     }
     count
 }
 
 /// The counts of the counters of stores.
 #[tactic(auto, using(crate::proofs::CountSteps::sum_more))]
-fn store_sizes(facts: &Facts, table: &Table, k: u32) -> Sizes
+fn store_sizes(facts: &Facts, table: &Table, scope: &Scope, k: u32) -> Sizes
     requires table { IsTable table.now }
     requires cycles { k ≤ 24 }
     requires rows { length facts.now.rows < 2 ^ 30 }
     ensures vars { result.vars
-        ≡ sum_by (λ t. counter.at_most_vars 1 (counts.store_count facts.now table.now k t)) (range_with_len 0 k) }
+        ≡ sum_by (λ t. counter.at_most_vars 1 (counts.store_count facts.now table.now k scope.now t)) (range_with_len 0 k) }
     ensures clauses { result.clauses
-        ≡ sum_by (λ t. counter.at_most_size 1 (counts.store_count facts.now table.now k t)) (range_with_len 0 k) }
+        ≡ sum_by (λ t. counter.at_most_size 1 (counts.store_count facts.now table.now k scope.now t)) (range_with_len 0 k) }
     ensures few_vars { result.vars < 2 ^ 40 }
     ensures few_clauses { result.clauses < 2 ^ 42 }
 {
     let mut vars = 0;
     let mut clauses = 0;
     for cycle in 0..k {
-        let literals = store_count(facts, table, k, cycle);
+        let literals = store_count(facts, table, scope, k, cycle);
         vars += one_vars(literals);
         clauses += one_size(literals);
     }
@@ -161,16 +166,16 @@ fn other_count(facts: &Facts) -> u64
 
 /// How many clauses say which memory the launches of a row use.
 #[tactic(auto, using(crate::proofs::CountSteps::uses_of_store, crate::proofs::CountSteps::uses_of_load, crate::proofs::CountSteps::no_uses))]
-fn row_use_count(facts: &Facts, table: &Table, k: u32, row: u32) -> u64
+fn row_use_count(facts: &Facts, table: &Table, scope: &Scope, k: u32, row: u32) -> u64
     requires table { IsTable table.now }
     requires cycles { k ≤ 24 }
-    ensures value { result ≡ cycle_counts.row_count facts.now table.now k row * row_uses facts.now row }
+    ensures value { result ≡ cycle_counts.row_count facts.now table.now k scope.now row * row_uses facts.now row }
     ensures few { result ≤ 600 }
 {
     if is_store(facts, row) {
-        row_count(facts, table, k, row) * 3
+        row_count(facts, table, scope, k, row) * 3
     } else if is_load(facts, row) {
-        row_count(facts, table, k, row)
+        row_count(facts, table, scope, k, row)
     } else {
         0
     }
@@ -178,37 +183,37 @@ fn row_use_count(facts: &Facts, table: &Table, k: u32, row: u32) -> u64
 
 /// How many clauses say which memory loads and stores use.
 #[tactic(auto, using(crate::proofs::CountSteps::sum_more))]
-fn use_count(facts: &Facts, table: &Table, k: u32) -> u64
+fn use_count(facts: &Facts, table: &Table, scope: &Scope, k: u32) -> u64
     requires table { IsTable table.now }
     requires cycles { k ≤ 24 }
     requires rows { length facts.now.rows < 2 ^ 30 }
-    ensures value { result ≡ sum_launches facts.now table.now k (row_uses facts.now) }
+    ensures value { result ≡ sum_launches facts.now table.now k scope.now (row_uses facts.now) }
     ensures few { result < 2 ^ 41 }
 {
     let rows = facts.graph().rows.len() as u32;
     let mut count = 0;
     for row in 0..rows + 1 {
-        count += row_use_count(facts, table, k, row);
+        count += row_use_count(facts, table, scope, k, row);
     }
     count
 }
 
 /// The counts of memory.
-pub fn memory_sizes(facts: &Facts, table: &Table, k: u32) -> Sizes
+pub fn memory_sizes(facts: &Facts, table: &Table, scope: &Scope, k: u32) -> Sizes
     requires graph { IsLaunchGraph facts.now }
     requires table { IsTable table.now }
     requires cycles { k ≤ 24 }
-    ensures vars { result.vars ≡ counts.memory_vars facts.now table.now k }
-    ensures clauses { result.clauses ≡ counts.memory_size facts.now table.now k }
+    ensures vars { result.vars ≡ counts.memory_vars facts.now table.now k scope.now }
+    ensures clauses { result.clauses ≡ counts.memory_size facts.now table.now k scope.now }
     ensures few_vars { result.vars < 2 ^ 50 }
     ensures few_clauses { result.clauses < 2 ^ 50 }
 {
     let held = memory_count(facts);
-    let stores = store_sizes(facts, table, k);
+    let stores = store_sizes(facts, table, scope, k);
     Sizes {
         vars: times(k + 1, held) + u64::from(k) + (times(k + 1, one_vars(held)) + stores.vars),
         clauses: (1 + other_count(facts))
-            + use_count(facts, table, k)
+            + use_count(facts, table, scope, k)
             + times(k, 1 + held)
             + (times(k + 1, one_size(held)) + stores.clauses)
             + 1,
@@ -218,14 +223,14 @@ pub fn memory_sizes(facts: &Facts, table: &Table, k: u32) -> Sizes
 // ---- the branch of a guard
 
 /// How many launches of a row there are, if it passes.
-fn count_if(facts: &Facts, table: &Table, k: u32, row: u32, passes: bool) -> u64
+fn count_if(facts: &Facts, table: &Table, scope: &Scope, k: u32, row: u32, passes: bool) -> u64
     requires table { IsTable table.now }
     requires cycles { k ≤ 24 }
-    ensures value { result ≡ cycle_counts.row_count facts.now table.now k row * one_if passes }
+    ensures value { result ≡ cycle_counts.row_count facts.now table.now k scope.now row * one_if passes }
     ensures few { result ≤ 200 }
 {
     if passes {
-        row_count(facts, table, k, row)
+        row_count(facts, table, scope, k, row)
     } else {
         0
     }
@@ -233,45 +238,45 @@ fn count_if(facts: &Facts, table: &Table, k: u32, row: u32, passes: bool) -> u64
 
 /// How many launches of the branch there are.
 #[tactic(auto, using(crate::proofs::CountSteps::sum_more))]
-fn branch_count(facts: &Facts, table: &Table, k: u32) -> u64
+fn branch_count(facts: &Facts, table: &Table, scope: &Scope, k: u32) -> u64
     requires table { IsTable table.now }
     requires cycles { k ≤ 24 }
     requires rows { length facts.now.rows < 2 ^ 30 }
-    ensures value { result ≡ counts.branch_count facts.now table.now k }
+    ensures value { result ≡ counts.branch_count facts.now table.now k scope.now }
     ensures few { result < 2 ^ 40 }
 {
     let rows = facts.graph().rows.len() as u32;
     let mut count = 0;
     for row in 0..rows + 1 {
-        count += count_if(facts, table, k, row, is_branch(facts, row));
+        count += count_if(facts, table, scope, k, row, is_branch(facts, row));
     }
     count
 }
 
 /// How many launches wait for the branch.
 #[tactic(auto, using(crate::proofs::CountSteps::sum_more))]
-fn wait_count(facts: &Facts, table: &Table, k: u32) -> u64
+fn wait_count(facts: &Facts, table: &Table, scope: &Scope, k: u32) -> u64
     requires table { IsTable table.now }
     requires cycles { k ≤ 24 }
     requires rows { length facts.now.rows < 2 ^ 30 }
-    ensures value { result ≡ sum_launches facts.now table.now k (λ row. one_if (row_waits facts.now row)) }
+    ensures value { result ≡ sum_launches facts.now table.now k scope.now (λ row. one_if (row_waits facts.now row)) }
     ensures few { result < 2 ^ 40 }
 {
     let rows = facts.graph().rows.len() as u32;
     let mut count = 0;
     for row in 0..rows + 1 {
-        count += count_if(facts, table, k, row, waits(facts, row));
+        count += count_if(facts, table, scope, k, row, waits(facts, row));
     }
     count
 }
 
 /// The counts of a guard's branch.
-pub fn guard_sizes(facts: &Facts, table: &Table, k: u32) -> Sizes
+pub fn guard_sizes(facts: &Facts, table: &Table, scope: &Scope, k: u32) -> Sizes
     requires table { IsTable table.now }
     requires cycles { k ≤ 24 }
     requires rows { length facts.now.rows < 2 ^ 30 }
-    ensures vars { result.vars ≡ counts.guard_vars facts.now table.now k }
-    ensures clauses { result.clauses ≡ counts.guard_size facts.now table.now k }
+    ensures vars { result.vars ≡ counts.guard_vars facts.now table.now k scope.now }
+    ensures clauses { result.clauses ≡ counts.guard_size facts.now table.now k scope.now }
     ensures few_vars { result.vars < 2 ^ 50 }
     ensures few_clauses { result.clauses < 2 ^ 50 }
 {
@@ -281,10 +286,10 @@ pub fn guard_sizes(facts: &Facts, table: &Table, k: u32) -> Sizes
             clauses: 0,
         };
     }
-    let branches = branch_count(facts, table, k);
+    let branches = branch_count(facts, table, scope, k);
     Sizes {
         vars: u64::from(k) + one_vars(branches),
-        clauses: 1 + one_size(branches) + wait_count(facts, table, k) + u64::from(k),
+        clauses: 1 + one_size(branches) + wait_count(facts, table, scope, k) + u64::from(k),
     }
 }
 
@@ -292,17 +297,17 @@ pub fn guard_sizes(facts: &Facts, table: &Table, k: u32) -> Sizes
 
 /// How many launches give words.
 #[tactic(auto, using(crate::proofs::CountSteps::sum_more))]
-fn word_count(facts: &Facts, table: &Table, k: u32) -> u64
+fn word_count(facts: &Facts, table: &Table, scope: &Scope, k: u32) -> u64
     requires table { IsTable table.now }
     requires cycles { k ≤ 24 }
     requires rows { length facts.now.rows < 2 ^ 30 }
-    ensures value { result ≡ sum_launches facts.now table.now k (λ row. one_if (row_is facts.now launches.gives_word row)) }
+    ensures value { result ≡ sum_launches facts.now table.now k scope.now (λ row. one_if (row_is facts.now launches.gives_word row)) }
     ensures few { result < 2 ^ 40 }
 {
     let rows = facts.graph().rows.len() as u32;
     let mut count = 0;
     for row in 0..rows + 1 {
-        count += count_if(facts, table, k, row, facts.gives_word(row));
+        count += count_if(facts, table, scope, k, row, facts.gives_word(row));
     }
     count
 }
@@ -323,12 +328,12 @@ pub fn registers(graph: &LaunchGraph, things: u32) -> u32
 }
 
 /// The counts of registers.
-pub fn pool_sizes(facts: &Facts, table: &Table, k: u32) -> Sizes
+pub fn pool_sizes(facts: &Facts, table: &Table, scope: &Scope, k: u32) -> Sizes
     requires table { IsTable table.now }
     requires cycles { k ≤ 24 }
     requires rows { length facts.now.rows < 2 ^ 30 }
-    ensures vars { result.vars ≡ counts.pool_vars facts.now table.now k }
-    ensures clauses { result.clauses ≡ counts.pool_size facts.now table.now k }
+    ensures vars { result.vars ≡ counts.pool_vars facts.now table.now k scope.now }
+    ensures clauses { result.clauses ≡ counts.pool_size facts.now table.now k scope.now }
     ensures few_vars { result.vars < 2 ^ 61 }
     ensures few_clauses { result.clauses < 2 ^ 61 }
 {
@@ -336,6 +341,6 @@ pub fn pool_sizes(facts: &Facts, table: &Table, k: u32) -> Sizes
     let most = registers(facts.graph(), taken);
     Sizes {
         vars: u64::from(taken) + at_most_vars(most, taken as usize),
-        clauses: word_count(facts, table, k) + at_most_size(most, taken as usize),
+        clauses: word_count(facts, table, scope, k) + at_most_size(most, taken as usize),
     }
 }

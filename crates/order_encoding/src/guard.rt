@@ -18,7 +18,7 @@ use crate::cycles::cycle_var;
 use crate::kinds::{branches, push_var_if, waits};
 use crate::laws::parts_are_counted;
 use cnf_core::{Cnf, Lit, at_most_one, counters_count};
-use cycle_encoding::{EncodeFault, Encoded, Facts, add_implied, add_vars, variables};
+use cycle_encoding::{EncodeFault, Encoded, Facts, Scope, add_implied, add_vars, variables};
 use items::NoMemory;
 use launch_graph::LaunchGraph;
 use machine_table::Table;
@@ -166,7 +166,8 @@ pub fn add_guard(
     let facts = Facts::new(alloc, graph)?;
     let mut cnf = encoded.cnf;
     let plan = encoded.plan;
-    let sizes = grown(&cnf, guard_sizes(&facts, table, plan.cycles()));
+    let scope = Scope::wide(alloc);
+    let sizes = grown(&cnf, guard_sizes(&facts, table, &scope, plan.cycles()));
     if pass_limit(sizes) {
         return Err(EncodeFault::Size {
             vars: sizes.vars,

@@ -1,5 +1,6 @@
 // What the clauses of the whole formula say of schedules, how many they are, and two worked formulas.
 ghost use Rattle.std.specs.Prelude.{◌≡◌, ◌+◌, ℕ, Bool, List, length, ◌↔◌, Contains};
+ghost use Rattle.std.specs.List.{filter};
 ghost use Rattle.cnf_core.specs.Formula.{Satisfies};
 ghost use Rattle.machine_table.specs.Tables.{IsTable, ev6};
 ghost use Rattle.machine_table.specs.declared.tables.Table.{Table as TableOf};
@@ -9,7 +10,8 @@ ghost use Rattle.schedule_meaning.specs.Fits.{Fits};
 ghost use Rattle.schedule_meaning.specs.Worked.{sum_graph, two_slots, copy_graph};
 ghost use Rattle.schedule_meaning.specs.declared.schedules.Launch.{Launch as LaunchOf};
 ghost use Rattle.cycle_encoding.specs.Shapes.{shown};
-ghost use Rattle.cycle_encoding.specs.CycleFormula.{launch_vars, wide};
+ghost use Rattle.cycle_encoding.specs.CycleFormula.{launch_vars, listed_in, wide, Listed as ListedOf, Scope as ScopeOf};
+ghost use Rattle.cycle_encoding.specs.Narrow.{IsNarrow};
 ghost use Rattle.cycle_encoding.specs.Counts.{cycle_vars, cycle_size};
 ghost use Rattle.order_encoding.specs.WholeFormula.{guard_formula, memory_formula, whole_formula};
 ghost use Rattle.order_encoding.specs.OrderCounts.{memory_vars, memory_size, guard_vars, guard_size, pool_vars, pool_size};
@@ -33,13 +35,38 @@ pub fn clauses_say_fits()
     memories_are_left();
 }
 
+/// A schedule that fits does so without its launches that have no variables in the narrow encoding, and the others have.
+pub fn launches_without_variables_may_go()
+    ensures fits { (g : Graph) (table : TableOf) (k : ℕ) (e : ListedOf) (ls : List LaunchOf) → IsTable table
+        → (n : IsNarrow g table k e) → Fits g table k ls → Fits g table k (filter n.keep ls) }
+    ensures listed { (g : Graph) (table : TableOf) (k : ℕ) (e : ListedOf) (ls : List LaunchOf) → IsTable table
+        → (n : IsNarrow g table k e) → Fits g table k ls
+        → (l : LaunchOf) → Contains (filter n.keep ls) l → Contains e.launches l }
+{}
+
+/// Values that satisfy the whole formula of the narrow encoding show a schedule that fits; and each schedule that fits has
+/// a part that fits too and is what some values show that satisfy it.
+pub fn narrow_clauses_say_fits()
+    ensures shown { (g : Graph) (table : TableOf) (k : ℕ) (e : ListedOf) (v : ℕ → Bool) → IsTable table
+        → IsNarrow g table k e → Satisfies v (whole_formula g table k e).clauses
+        → Fits g table k (shown v (launch_vars g table k e)) }
+    ensures some { (g : Graph) (table : TableOf) (k : ℕ) (e : ListedOf) (ls : List LaunchOf) → IsTable table
+        → IsLaunchGraph g → IsNarrow g table k e → Fits g table k ls
+        → (ms : List LaunchOf) × Fits g table k ms × ((l : LaunchOf) → Contains ms l → Contains ls l)
+        × ((v : ℕ → Bool) × Satisfies v (whole_formula g table k e).clauses
+        × ((l : LaunchOf) → Contains (shown v (launch_vars g table k e)) l ↔ Contains ms l)) }
+{
+    counters_count();
+    memories_are_left();
+}
+
 /// The two counts of the whole formula, as they are found row by row.
 pub fn counts_are_found()
-    ensures vars { (g : Graph) (table : TableOf) (k : ℕ) → (whole_formula g table k (wide g table k)).vars
-        ≡ cycle_vars g table k + memory_vars g table k + guard_vars g table k + pool_vars g table k }
-    ensures clauses { (g : Graph) (table : TableOf) (k : ℕ)
-        → length (whole_formula g table k (wide g table k)).clauses
-        ≡ cycle_size g table k + memory_size g table k + guard_size g table k + pool_size g table k }
+    ensures vars { (g : Graph) (table : TableOf) (k : ℕ) (s : ScopeOf) → (whole_formula g table k (listed_in g table k s)).vars
+        ≡ cycle_vars g table k s + memory_vars g table k s + guard_vars g table k s + pool_vars g table k s }
+    ensures clauses { (g : Graph) (table : TableOf) (k : ℕ) (s : ScopeOf)
+        → length (whole_formula g table k (listed_in g table k s)).clauses
+        ≡ cycle_size g table k s + memory_size g table k s + guard_size g table k s + pool_size g table k s }
 {
     counters_count();
 }
@@ -47,20 +74,20 @@ pub fn counts_are_found()
 /// The counts of the formula with memory, and of the one with memory and a guard's branch too, as they are found row by
 /// row.
 pub fn parts_are_counted()
-    ensures memory_vars { (g : Graph) (table : TableOf) (k : ℕ) → (memory_formula g table k (wide g table k)).vars
-        ≡ cycle_vars g table k + memory_vars g table k }
-    ensures memory_clauses { (g : Graph) (table : TableOf) (k : ℕ)
-        → length (memory_formula g table k (wide g table k)).clauses ≡ cycle_size g table k + memory_size g table k }
-    ensures guard_vars { (g : Graph) (table : TableOf) (k : ℕ) → (guard_formula g table k (wide g table k)).vars
-        ≡ cycle_vars g table k + memory_vars g table k + guard_vars g table k }
-    ensures guard_clauses { (g : Graph) (table : TableOf) (k : ℕ)
-        → length (guard_formula g table k (wide g table k)).clauses
-        ≡ cycle_size g table k + memory_size g table k + guard_size g table k }
-    ensures whole_vars { (g : Graph) (table : TableOf) (k : ℕ) → (whole_formula g table k (wide g table k)).vars
-        ≡ cycle_vars g table k + memory_vars g table k + guard_vars g table k + pool_vars g table k }
-    ensures whole_clauses { (g : Graph) (table : TableOf) (k : ℕ)
-        → length (whole_formula g table k (wide g table k)).clauses
-        ≡ cycle_size g table k + memory_size g table k + guard_size g table k + pool_size g table k }
+    ensures memory_vars { (g : Graph) (table : TableOf) (k : ℕ) (s : ScopeOf) → (memory_formula g table k (listed_in g table k s)).vars
+        ≡ cycle_vars g table k s + memory_vars g table k s }
+    ensures memory_clauses { (g : Graph) (table : TableOf) (k : ℕ) (s : ScopeOf)
+        → length (memory_formula g table k (listed_in g table k s)).clauses ≡ cycle_size g table k s + memory_size g table k s }
+    ensures guard_vars { (g : Graph) (table : TableOf) (k : ℕ) (s : ScopeOf) → (guard_formula g table k (listed_in g table k s)).vars
+        ≡ cycle_vars g table k s + memory_vars g table k s + guard_vars g table k s }
+    ensures guard_clauses { (g : Graph) (table : TableOf) (k : ℕ) (s : ScopeOf)
+        → length (guard_formula g table k (listed_in g table k s)).clauses
+        ≡ cycle_size g table k s + memory_size g table k s + guard_size g table k s }
+    ensures whole_vars { (g : Graph) (table : TableOf) (k : ℕ) (s : ScopeOf) → (whole_formula g table k (listed_in g table k s)).vars
+        ≡ cycle_vars g table k s + memory_vars g table k s + guard_vars g table k s + pool_vars g table k s }
+    ensures whole_clauses { (g : Graph) (table : TableOf) (k : ℕ) (s : ScopeOf)
+        → length (whole_formula g table k (listed_in g table k s)).clauses
+        ≡ cycle_size g table k s + memory_size g table k s + guard_size g table k s + pool_size g table k s }
 {
     counters_count();
 }

@@ -23,7 +23,7 @@ use crate::held::{
 use crate::kinds::{is_load, is_store, push_var_if, stores};
 use crate::laws::parts_are_counted;
 use cnf_core::{Cnf, Lit, at_most_one, counters_count};
-use cycle_encoding::{EncodeFault, Encoded, Facts, add_implied, add_vars};
+use cycle_encoding::{EncodeFault, Encoded, Facts, Scope, add_implied, add_vars};
 use items::NoMemory;
 use launch_graph::LaunchGraph;
 use machine_table::Table;
@@ -354,7 +354,8 @@ pub fn add_memory(
     let facts = Facts::new(alloc, graph)?;
     let mut cnf = encoded.cnf;
     let plan = encoded.plan;
-    let sizes = grown(&cnf, memory_sizes(&facts, table, plan.cycles()));
+    let scope = Scope::wide(alloc);
+    let sizes = grown(&cnf, memory_sizes(&facts, table, &scope, plan.cycles()));
     if pass_limit(sizes) {
         return Err(EncodeFault::Size {
             vars: sizes.vars,

@@ -16,7 +16,7 @@ ghost use Rattle.order_encoding.specs.WholeFormula.{guard_formula, whole_formula
 use crate::counts::{grown, pass_limit, pool_sizes, registers};
 use crate::laws::parts_are_counted;
 use cnf_core::{Cnf, Lit, at_most, counters_count};
-use cycle_encoding::{EncodeFault, Encoded, Facts, add_implied, add_vars};
+use cycle_encoding::{EncodeFault, Encoded, Facts, Scope, add_implied, add_vars};
 use items::NoMemory;
 use launch_graph::LaunchGraph;
 use machine_table::Table;
@@ -158,7 +158,8 @@ pub fn add_pool(
     let facts = Facts::new(alloc, graph)?;
     let mut cnf = encoded.cnf;
     let plan = encoded.plan;
-    let sizes = grown(&cnf, pool_sizes(&facts, table, plan.cycles()));
+    let scope = Scope::wide(alloc);
+    let sizes = grown(&cnf, pool_sizes(&facts, table, &scope, plan.cycles()));
     if pass_limit(sizes) {
         return Err(EncodeFault::Size {
             vars: sizes.vars,

@@ -5,7 +5,7 @@ ghost use Rattle.launch_graph.specs.WellFormed.{IsLaunchGraph};
 ghost use Rattle.machine_table.specs.Tables.{IsTable};
 ghost use Rattle.schedule_meaning.specs.Fits.{Fits};
 ghost use Rattle.schedule_meaning.specs.declared.schedules.Launch.{Launch as LaunchOf};
-ghost use Rattle.cycle_encoding.specs.CycleFormula.{cycle_formula, wide};
+ghost use Rattle.cycle_encoding.specs.CycleFormula.{cycle_formula, listed_in, wide};
 ghost use Rattle.cycle_encoding.specs.Faults.{EncodeFaultIs};
 ghost use Rattle.cycle_encoding.specs.Plans.{IsTooLarge, plan_of};
 ghost use Rattle.cycle_encoding.specs.Shapes.{numbered, shown};
@@ -16,26 +16,32 @@ use crate::guard::extend_by_guard;
 use crate::laws::{clauses_say_fits, counts_are_found};
 use crate::memory::extend_by_memory;
 use crate::pool::extend_by_pool;
-use cycle_encoding::{EncodeFault, Encoded, Facts, Sizes, cycle_sizes, encode};
+use cycle_encoding::{EncodeFault, Encoded, Facts, Scope, Sizes, cycle_sizes, encode};
 use items::NoMemory;
 use launch_graph::LaunchGraph;
 use machine_table::Table;
 use std::alloc::Global;
 
 /// The counts of the whole formula, by numbers alone.
-fn whole_sizes(alloc: Global, facts: &Facts, table: &Table, k: u32) -> Result<Sizes, NoMemory>
+fn whole_sizes(
+    alloc: Global,
+    facts: &Facts,
+    table: &Table,
+    scope: &Scope,
+    k: u32,
+) -> Result<Sizes, NoMemory>
     requires graph { IsLaunchGraph facts.now }
     requires table { IsTable table.now }
     requires cycles { k ≤ 24 }
-    ensures vars { IfOk result (λ sizes. sizes.vars ≡ (whole_formula facts.now table.now k (wide facts.now table.now k)).vars) }
+    ensures vars { IfOk result (λ sizes. sizes.vars ≡ (whole_formula facts.now table.now k (listed_in facts.now table.now k scope.now)).vars) }
     ensures clauses { IfOk result (λ sizes. sizes.clauses
-        ≡ length (whole_formula facts.now table.now k (wide facts.now table.now k)).clauses) }
+        ≡ length (whole_formula facts.now table.now k (listed_in facts.now table.now k scope.now)).clauses) }
 {
     counts_are_found();
-    let cycle = cycle_sizes(alloc, facts, table, k)?;
-    let with_memory = both(cycle, memory_sizes(facts, table, k));
-    let formula_with_guard = both(with_memory, guard_sizes(facts, table, k));
-    Ok(both(formula_with_guard, pool_sizes(facts, table, k)))
+    let cycle = cycle_sizes(alloc, facts, table, scope, k)?;
+    let with_memory = both(cycle, memory_sizes(facts, table, scope, k));
+    let formula_with_guard = both(with_memory, guard_sizes(facts, table, scope, k));
+    Ok(both(formula_with_guard, pool_sizes(facts, table, scope, k)))
 }
 
 /// The two counts of the whole formula, for which no clause is built. It goes over the graph's rows a few times for each
@@ -54,7 +60,7 @@ pub fn count_clauses(
         ≡ length (whole_formula graph.now table.now k (wide graph.now table.now k)).clauses) }
 {
     let facts = Facts::new(alloc, graph)?;
-    whole_sizes(alloc, &facts, table, k)
+    whole_sizes(alloc, &facts, table, &Scope::wide(alloc), k)
 }
 
 /// The whole formula of schedules in k cycles: cycles, slots and values, memory, the branch of a guard, and registers.
@@ -84,7 +90,7 @@ pub fn full(
 {
     clauses_say_fits();
     let facts = Facts::new(alloc, graph)?;
-    let sizes = whole_sizes(alloc, &facts, table, k)?;
+    let sizes = whole_sizes(alloc, &facts, table, &Scope::wide(alloc), k)?;
     if pass_limit(sizes) {
         return Err(EncodeFault::Size {
             vars: sizes.vars,

@@ -4,14 +4,14 @@ use Rattle.cycle_encoding.proofs.counts.cycle_sizes.Goals as goal
 
 pub returns-clause-vars : goal.returns-clause-vars
 returns-clause-vars c =
-    let seen = seen_is c.args.facts.now c.args.table.now c.args.k c.made_count.result c.cluster_count.result c.from.result c.made_count.ensures.value c.cluster_count.ensures.value c.from.ensures in
+    let seen = seen_is c.args.facts.now c.args.table.now c.args.k c.args.scope.now c.shown_count.result c.cluster_count.result c.from.result c.shown_count.ensures.value c.cluster_count.ensures.value c.from.ensures in
     let launches = c.launch_count.ensures.value in
     let places = c.place_sizes-places.ensures.vars in
     omega arith
 
 pub returns-clause-clauses : goal.returns-clause-clauses
 returns-clause-clauses c =
-    let seen = seen_is c.args.facts.now c.args.table.now c.args.k c.made_count.result c.cluster_count.result c.from.result c.made_count.ensures.value c.cluster_count.ensures.value c.from.ensures in
+    let seen = seen_is c.args.facts.now c.args.table.now c.args.k c.args.scope.now c.shown_count.result c.cluster_count.result c.from.result c.shown_count.ensures.value c.cluster_count.ensures.value c.from.ensures in
     let targets = c.target_count.ensures.value in
     let operands = c.in_ok-operands.ensures.value in
     let places = c.place_sizes-places.ensures.clauses in

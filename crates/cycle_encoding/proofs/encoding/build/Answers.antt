@@ -1,8 +1,9 @@
 use Rattle.std.proofs.Common.{◌≡◌, ◌∙◌, ◌+◌, ◌<◌, ◌^◌, ℕ, List, length, ap, sym, subst}
 use Rattle.cnf_core.specs.declared.literal.Lit.{Lit}
 use Rattle.schedule_meaning.specs.declared.schedules.Launch.{Launch}
+use Rattle.cycle_encoding.specs.CycleFormula.{first_in, wants_in}
 use Rattle.cycle_encoding.specs.Shapes.{numbered, counters_size}
-use Rattle.cycle_encoding.specs.Variables.{Seen, all_launches, all_seen, made_classes}
+use Rattle.cycle_encoding.specs.Variables.{Seen, launches_from, all_seen, shown_classes}
 use Rattle.cycle_encoding.specs.Families.{target_clauses, operand_clauses, seen_clauses, slot_rows, slot_groups}
 use Rattle.cycle_encoding.specs.Steps.{with_clauses}
 use Rattle.cycle_encoding.proofs.Rows.{counters-size, with_counters}
@@ -14,8 +15,8 @@ add_seen-requires-clause-room c =
     let g = c.args.facts.now in
     let table = c.args.table.now in
     let k = c.args.k in
-    let A = all_launches g table k in
-    let D = all_seen table k (made_classes g) in
+    let A = launches_from g table k (first_in c.args.scope.now) in
+    let D = all_seen table k (shown_classes g (wants_in c.args.scope.now)) in
     let n = length A + length D in
     let xs = numbered 0 A in
     let ds = numbered (length A) D in
@@ -41,8 +42,8 @@ add_slots-requires-clause-room c =
     let g = c.args.facts.now in
     let table = c.args.table.now in
     let k = c.args.k in
-    let A = all_launches g table k in
-    let D = all_seen table k (made_classes g) in
+    let A = launches_from g table k (first_in c.args.scope.now) in
+    let D = all_seen table k (shown_classes g (wants_in c.args.scope.now)) in
     let n = length A + length D in
     let xs = numbered 0 A in
     let ds = numbered (length A) D in
@@ -71,8 +72,8 @@ returns-clause-formula c =
     let g = c.args.facts.now in
     let table = c.args.table.now in
     let k = c.args.k in
-    let A = all_launches g table k in
-    let D = all_seen table k (made_classes g) in
+    let A = launches_from g table k (first_in c.args.scope.now) in
+    let D = all_seen table k (shown_classes g (wants_in c.args.scope.now)) in
     let n = length A + length D in
     let xs = numbered 0 A in
     let ds = numbered (length A) D in

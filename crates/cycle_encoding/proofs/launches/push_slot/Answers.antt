@@ -4,6 +4,8 @@ use Rattle.cycle_encoding.proofs.Tables.{grown}
 use Rattle.cycle_encoding.proofs.Listed.{cycle_more}
 use Rattle.cycle_encoding.proofs.launches.push_slot.Goals as goal
 
-pub loop-cycle-preserved : goal.loop-cycle-preserved
-loop-cycle-preserved c =
-    grown c.args.launches.now.items c.loop-cycle.launches.items c.push.new.self.items (launch_at c.args.row c.args.slot c.loop-cycle.cycle ∷ []) (slot_launches c.args.row c.loop-cycle.cycle c.args.slot) (slot_launches c.args.row (c.loop-cycle.cycle + 1) c.args.slot) c.loop-cycle.invariant c.in_ok-push.ensures.items (cycle_more c.args.row c.args.slot c.loop-cycle.cycle)
+pub loop-step-preserved : goal.loop-step-preserved
+loop-step-preserved c =
+    let first = c.args.first in
+    let n = c.loop-step.step in
+    grown c.args.launches.now.items c.loop-step.launches.items c.push.new.self.items (launch_at c.args.row c.args.slot (first + n) ∷ []) (slot_launches c.args.row first n c.args.slot) (slot_launches c.args.row first (n + 1) c.args.slot) c.loop-step.invariant c.in_ok-push.ensures.items (cycle_more c.args.row c.args.slot first n)

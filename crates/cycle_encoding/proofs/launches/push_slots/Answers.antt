@@ -9,13 +9,13 @@ pub loop-slot-preserved : goal.loop-slot-preserved
 loop-slot-preserved c =
     let table = c.args.table.now in
     let old = c.args.launches.now.items in
-    let was = slots_launches table c.args.instr c.args.row c.args.cycles c.loop-slot.slot in
-    let now = slots_launches table c.args.instr c.args.row c.args.cycles (c.loop-slot.slot + 1) in
+    let was = slots_launches table c.args.instr c.args.row c.args.first c.args.cycles c.loop-slot.slot in
+    let now = slots_launches table c.args.instr c.args.row c.args.first c.args.cycles (c.loop-slot.slot + 1) in
     elim c.if-may_use.branch [
       | then-may_use+in_ok-push_slot w ↦
           subst (λ o. o.items ≡ old ++ now) (sym w.launches-is)
-          (grown old c.loop-slot.launches.items w.push_slot.new.launches.items (slot_launches c.args.row c.args.cycles c.loop-slot.slot) was now c.loop-slot.invariant w.in_ok-push_slot.ensures (slot_more table c.args.instr c.args.row c.args.cycles c.loop-slot.slot (sym c.may_use.ensures ∙ w.if-may_use.true)))
+          (grown old c.loop-slot.launches.items w.push_slot.new.launches.items (slot_launches c.args.row c.args.first c.args.cycles c.loop-slot.slot) was now c.loop-slot.invariant w.in_ok-push_slot.ensures (slot_more table c.args.instr c.args.row c.args.first c.args.cycles c.loop-slot.slot (sym c.may_use.ensures ∙ w.if-may_use.true)))
       | else-may_use w ↦
           subst (λ o. o.items ≡ old ++ now) (sym w.launches-is)
-          (same old c.loop-slot.launches.items was now c.loop-slot.invariant (slot_left table c.args.instr c.args.row c.args.cycles c.loop-slot.slot (sym c.may_use.ensures ∙ w.if-may_use.false)))
+          (same old c.loop-slot.launches.items was now c.loop-slot.invariant (slot_left table c.args.instr c.args.row c.args.first c.args.cycles c.loop-slot.slot (sym c.may_use.ensures ∙ w.if-may_use.false)))
     ]

@@ -5,4 +5,4 @@ use Rattle.order_encoding.specs.OrderSteps.{row_waits}
 use Rattle.order_encoding.proofs.counts.wait_count.Given as goal
 
 abbrev pub invariant-loop-row : goal.invariant-loop-row
-invariant-loop-row l = record { is : l.count ≡ sum_by (λ row. row_count l.facts l.table l.k row * one_if (row_waits l.facts row)) (range_with_len 0 l.row); small : l.count ≤ l.row * 200 }
+invariant-loop-row l = record { is : l.count ≡ sum_by (λ row. row_count l.facts l.table l.k l.scope row * one_if (row_waits l.facts row)) (range_with_len 0 l.row); small : l.count ≤ l.row * 200 }

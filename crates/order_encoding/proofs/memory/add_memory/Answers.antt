@@ -16,8 +16,8 @@ returns-then-pass_limit-clause-size c =
     let w = memory_formula g table k (wide g table k) in
     let f = c.args.encoded.cnf in
     let size = c.counters_count.ensures.size in
-    let vars = memory_vars_now g h table k c.cycles.result c.in_ok-facts.ensures c.cycles.ensures f c.grown-sizes.result.vars c.requires.formula (c.grown-sizes.ensures.vars ∙ ap (λ n. f.vars + n) c.memory_sizes.ensures.vars) in
-    let clauses = memory_size_now g h table k c.cycles.result c.in_ok-facts.ensures c.cycles.ensures f c.grown-sizes.result.clauses size c.requires.formula (c.grown-sizes.ensures.clauses ∙ ap (λ n. length f.clauses + n) c.memory_sizes.ensures.clauses) in
+    let vars = memory_vars_now g h table k c.cycles.result c.in_ok-facts.ensures c.cycles.ensures c.wide-scope.result c.wide-scope.ensures f c.grown-sizes.result.vars c.requires.formula (c.grown-sizes.ensures.vars ∙ ap (λ n. f.vars + n) c.memory_sizes.ensures.vars) in
+    let clauses = memory_size_now g h table k c.cycles.result c.in_ok-facts.ensures c.cycles.ensures c.wide-scope.result c.wide-scope.ensures f c.grown-sizes.result.clauses size c.requires.formula (c.grown-sizes.ensures.clauses ∙ ap (λ n. length f.clauses + n) c.memory_sizes.ensures.clauses) in
     limit_passed w c.grown-sizes.result.vars c.grown-sizes.result.clauses vars clauses (sym c.pass_limit.ensures ∙ c.if-pass_limit.true)
 
 pub extend_by_memory-requires-clause-vars : goal.extend_by_memory-requires-clause-vars
@@ -29,9 +29,9 @@ extend_by_memory-requires-clause-vars c =
     let w = memory_formula g table k (wide g table k) in
     let f = c.args.encoded.cnf in
     let size = c.counters_count.ensures.size in
-    let vars = memory_vars_now g h table k c.cycles.result c.in_ok-facts.ensures c.cycles.ensures f c.grown-sizes.result.vars c.requires.formula (c.grown-sizes.ensures.vars ∙ ap (λ n. f.vars + n) c.memory_sizes.ensures.vars) in
-    let clauses = memory_size_now g h table k c.cycles.result c.in_ok-facts.ensures c.cycles.ensures f c.grown-sizes.result.clauses size c.requires.formula (c.grown-sizes.ensures.clauses ∙ ap (λ n. length f.clauses + n) c.memory_sizes.ensures.clauses) in
-    let is = memory_now g h table k c.cycles-2.result c.in_ok-facts.ensures c.cycles-2.ensures c.launches.result.now f (c.launches.ensures ∙ ap (λ (p : Plan). p.launches) c.requires.plan) c.requires.formula in
+    let vars = memory_vars_now g h table k c.cycles.result c.in_ok-facts.ensures c.cycles.ensures c.wide-scope.result c.wide-scope.ensures f c.grown-sizes.result.vars c.requires.formula (c.grown-sizes.ensures.vars ∙ ap (λ n. f.vars + n) c.memory_sizes.ensures.vars) in
+    let clauses = memory_size_now g h table k c.cycles.result c.in_ok-facts.ensures c.cycles.ensures c.wide-scope.result c.wide-scope.ensures f c.grown-sizes.result.clauses size c.requires.formula (c.grown-sizes.ensures.clauses ∙ ap (λ n. length f.clauses + n) c.memory_sizes.ensures.clauses) in
+    let is = memory_now g h table k c.cycles-2.result c.in_ok-facts.ensures c.cycles-2.ensures c.wide-scope.result c.wide-scope.ensures c.launches.result.now f (c.launches.ensures ∙ ap (λ (p : Plan). p.launches) c.requires.plan) c.requires.formula in
     subst (λ (x : Formula). x.vars ≤ 262144) (sym is) (few_vars w c.grown-sizes.result.vars c.grown-sizes.result.clauses vars clauses (sym c.pass_limit.ensures ∙ c.if-pass_limit.false))
 
 pub extend_by_memory-requires-clause-clauses : goal.extend_by_memory-requires-clause-clauses
@@ -43,9 +43,9 @@ extend_by_memory-requires-clause-clauses c =
     let w = memory_formula g table k (wide g table k) in
     let f = c.args.encoded.cnf in
     let size = c.counters_count.ensures.size in
-    let vars = memory_vars_now g h table k c.cycles.result c.in_ok-facts.ensures c.cycles.ensures f c.grown-sizes.result.vars c.requires.formula (c.grown-sizes.ensures.vars ∙ ap (λ n. f.vars + n) c.memory_sizes.ensures.vars) in
-    let clauses = memory_size_now g h table k c.cycles.result c.in_ok-facts.ensures c.cycles.ensures f c.grown-sizes.result.clauses size c.requires.formula (c.grown-sizes.ensures.clauses ∙ ap (λ n. length f.clauses + n) c.memory_sizes.ensures.clauses) in
-    let is = memory_now g h table k c.cycles-2.result c.in_ok-facts.ensures c.cycles-2.ensures c.launches.result.now f (c.launches.ensures ∙ ap (λ (p : Plan). p.launches) c.requires.plan) c.requires.formula in
+    let vars = memory_vars_now g h table k c.cycles.result c.in_ok-facts.ensures c.cycles.ensures c.wide-scope.result c.wide-scope.ensures f c.grown-sizes.result.vars c.requires.formula (c.grown-sizes.ensures.vars ∙ ap (λ n. f.vars + n) c.memory_sizes.ensures.vars) in
+    let clauses = memory_size_now g h table k c.cycles.result c.in_ok-facts.ensures c.cycles.ensures c.wide-scope.result c.wide-scope.ensures f c.grown-sizes.result.clauses size c.requires.formula (c.grown-sizes.ensures.clauses ∙ ap (λ n. length f.clauses + n) c.memory_sizes.ensures.clauses) in
+    let is = memory_now g h table k c.cycles-2.result c.in_ok-facts.ensures c.cycles-2.ensures c.wide-scope.result c.wide-scope.ensures c.launches.result.now f (c.launches.ensures ∙ ap (λ (p : Plan). p.launches) c.requires.plan) c.requires.formula in
     subst (λ (x : Formula). length x.clauses ≤ 2000000) (sym is) (few_clauses w c.grown-sizes.result.vars c.grown-sizes.result.clauses vars clauses (sym c.pass_limit.ensures ∙ c.if-pass_limit.false))
 
 pub returns-clause-within : goal.returns-clause-within
@@ -57,8 +57,8 @@ returns-clause-within c =
     let w = memory_formula g table k (wide g table k) in
     let f = c.args.encoded.cnf in
     let size = c.counters_count.ensures.size in
-    let vars = memory_vars_now g h table k c.cycles.result c.in_ok-facts.ensures c.cycles.ensures f c.grown-sizes.result.vars c.requires.formula (c.grown-sizes.ensures.vars ∙ ap (λ n. f.vars + n) c.memory_sizes.ensures.vars) in
-    let clauses = memory_size_now g h table k c.cycles.result c.in_ok-facts.ensures c.cycles.ensures f c.grown-sizes.result.clauses size c.requires.formula (c.grown-sizes.ensures.clauses ∙ ap (λ n. length f.clauses + n) c.memory_sizes.ensures.clauses) in
+    let vars = memory_vars_now g h table k c.cycles.result c.in_ok-facts.ensures c.cycles.ensures c.wide-scope.result c.wide-scope.ensures f c.grown-sizes.result.vars c.requires.formula (c.grown-sizes.ensures.vars ∙ ap (λ n. f.vars + n) c.memory_sizes.ensures.vars) in
+    let clauses = memory_size_now g h table k c.cycles.result c.in_ok-facts.ensures c.cycles.ensures c.wide-scope.result c.wide-scope.ensures f c.grown-sizes.result.clauses size c.requires.formula (c.grown-sizes.ensures.clauses ∙ ap (λ n. length f.clauses + n) c.memory_sizes.ensures.clauses) in
     not_large w (few_vars w c.grown-sizes.result.vars c.grown-sizes.result.clauses vars clauses (sym c.pass_limit.ensures ∙ c.if-pass_limit.false)) (few_clauses w c.grown-sizes.result.vars c.grown-sizes.result.clauses vars clauses (sym c.pass_limit.ensures ∙ c.if-pass_limit.false))
 
 pub returns-clause-formula : goal.returns-clause-formula
@@ -70,7 +70,7 @@ returns-clause-formula c =
     let w = memory_formula g table k (wide g table k) in
     let f = c.args.encoded.cnf in
     let size = c.counters_count.ensures.size in
-    let vars = memory_vars_now g h table k c.cycles.result c.in_ok-facts.ensures c.cycles.ensures f c.grown-sizes.result.vars c.requires.formula (c.grown-sizes.ensures.vars ∙ ap (λ n. f.vars + n) c.memory_sizes.ensures.vars) in
-    let clauses = memory_size_now g h table k c.cycles.result c.in_ok-facts.ensures c.cycles.ensures f c.grown-sizes.result.clauses size c.requires.formula (c.grown-sizes.ensures.clauses ∙ ap (λ n. length f.clauses + n) c.memory_sizes.ensures.clauses) in
-    let is = memory_now g h table k c.cycles-2.result c.in_ok-facts.ensures c.cycles-2.ensures c.launches.result.now f (c.launches.ensures ∙ ap (λ (p : Plan). p.launches) c.requires.plan) c.requires.formula in
+    let vars = memory_vars_now g h table k c.cycles.result c.in_ok-facts.ensures c.cycles.ensures c.wide-scope.result c.wide-scope.ensures f c.grown-sizes.result.vars c.requires.formula (c.grown-sizes.ensures.vars ∙ ap (λ n. f.vars + n) c.memory_sizes.ensures.vars) in
+    let clauses = memory_size_now g h table k c.cycles.result c.in_ok-facts.ensures c.cycles.ensures c.wide-scope.result c.wide-scope.ensures f c.grown-sizes.result.clauses size c.requires.formula (c.grown-sizes.ensures.clauses ∙ ap (λ n. length f.clauses + n) c.memory_sizes.ensures.clauses) in
+    let is = memory_now g h table k c.cycles-2.result c.in_ok-facts.ensures c.cycles-2.ensures c.wide-scope.result c.wide-scope.ensures c.launches.result.now f (c.launches.ensures ∙ ap (λ (p : Plan). p.launches) c.requires.plan) c.requires.formula in
     c.in_ok-extend_by_memory.ensures ∙ is

@@ -3,7 +3,7 @@ use Rattle.order_encoding.proofs.whole.whole_sizes.Goals as goal
 
 pub returns-clause-vars : goal.returns-clause-vars
 returns-clause-vars c =
-    let is = c.counts_are_found.ensures.vars c.args.facts.now c.args.table.now c.args.k in
+    let is = c.counts_are_found.ensures.vars c.args.facts.now c.args.table.now c.args.k c.args.scope.now in
     let a = c.in_ok-cycle.ensures.vars in
     let b = c.memory_sizes.ensures.vars in
     let d = c.guard_sizes.ensures.vars in
@@ -15,7 +15,7 @@ returns-clause-vars c =
 
 pub returns-clause-clauses : goal.returns-clause-clauses
 returns-clause-clauses c =
-    let is = c.counts_are_found.ensures.clauses c.args.facts.now c.args.table.now c.args.k in
+    let is = c.counts_are_found.ensures.clauses c.args.facts.now c.args.table.now c.args.k c.args.scope.now in
     let a = c.in_ok-cycle.ensures.clauses in
     let b = c.memory_sizes.ensures.clauses in
     let d = c.guard_sizes.ensures.clauses in

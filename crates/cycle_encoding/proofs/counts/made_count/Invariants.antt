@@ -1,7 +1,0 @@
-use Rattle.std.proofs.Common.{◌≡◌, ◌≤◌}
-use Rattle.std.specs.List.{count_by, range_with_len}
-use Rattle.cycle_encoding.specs.Facts.{is_made_class}
-use Rattle.cycle_encoding.proofs.counts.made_count.Given as goal
-
-abbrev pub invariant-loop-class : goal.invariant-loop-class
-invariant-loop-class l = record { is : l.count ≡ count_by (is_made_class l.facts) (range_with_len 0 l.class); small : l.count ≤ l.class }
