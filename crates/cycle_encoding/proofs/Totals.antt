@@ -1,5 +1,5 @@
 -- The counts found row by row are those of the lists.
-use Rattle.std.proofs.Common.{◌≡◌, ℕ, suc, ◌+◌, ◌-◌, ◌*◌, ◌<◌, ◌≤◌, Bool, false, cond, List, [], ◌∷◌, length, map, get_or, refl, sym, ap, ◌∙◌, subst, arith, inl, inr, length-append}
+use Rattle.std.proofs.Common.{◌≡◌, ℕ, suc, ◌+◌, ◌-◌, ◌*◌, ◌<◌, ◌≤◌, Bool, true, false, cond, List, [], ◌∷◌, length, map, get_or, refl, sym, ap, ◌∙◌, subst, arith, inl, inr, length-append}
 use Rattle.std.specs.Prelude.{◌||◌, ◌&&◌, ◌==◌, nat_le, nat_lt, Contains}
 use Rattle.std.specs.List.{filter, flat_map, list_any, count_by, sum_by, range_with_len}
 use Rattle.std.proofs.lemmas.Bool.{cases_Bool, cases_lt, eqb-true, eq-eqb, lt-ltb, le-ltb, le-leb, lt-leb, and_left, and_right, and_from, false_from_ne_true}
@@ -108,3 +108,10 @@ any-range a n y =
 
 pub count-cycle : (a n y : ℕ) → count_by (λ x. x == y) (range_with_len a (n - a)) ≡ one_if (nat_le a y && nat_lt y n)
 count-cycle a n y = count-this (range_with_len a (n - a)) y (range-once a (n - a)) ∙ ap one_if (any-range a n y)
+
+-- the same of the first numbers
+pub count-first : (n y : ℕ) → y < n → count_by (λ x. x == y) (range_with_len 0 n) ≡ 1
+count-first n y lt =
+    let all : n - 0 ≡ n = omega arith in
+    let within : (nat_le 0 y && nat_lt y n) ≡ true = and_from (nat_le 0 y) (nat_lt y n) (le-leb 0 y (omega arith)) (lt-ltb y n lt) in
+    ap (λ m. count_by (λ x. x == y) (range_with_len 0 m)) (sym all) ∙ count-cycle 0 n y ∙ ap one_if within

@@ -1,8 +1,7 @@
 -- The counts of memory, guard and registers, and of the whole.
 use Rattle.std.proofs.Common.{◌≡◌, ℕ, suc, ◌+◌, ◌*◌, ◌<◌, Bool, true, false, not, cond, List, [], ◌∷◌, ◌++◌, length, map, refl, sym, ap, ◌∙◌, arith, length-append}
-use Rattle.std.specs.Prelude.{◌&&◌, ◌||◌, ◌==◌, nat_le, nat_lt, is_some, Contains}
+use Rattle.std.specs.Prelude.{◌&&◌, ◌||◌, ◌==◌, is_some, Contains}
 use Rattle.std.specs.List.{count_by, sum_by, range_with_len}
-use Rattle.std.proofs.lemmas.Bool.{le-leb, lt-ltb, and_from}
 use Rattle.std.proofs.lemmas.List.Sums.{sum_by-cons, sum_by-append}
 use Rattle.std.proofs.lemmas.List.FromFn.{length-range_with_len}
 use Rattle.cnf_core.specs.declared.literal.Lit.{Lit}
@@ -23,7 +22,7 @@ use Rattle.order_encoding.specs.OrderCounts.{store_count, held_count, memory_var
 use Rattle.cycle_encoding.proofs.Counting.{sum-same, count-any}
 use Rattle.cycle_encoding.proofs.Members.{range-out}
 use Rattle.cycle_encoding.proofs.Rows.{counters-size}
-use Rattle.cycle_encoding.proofs.Totals.{sum-flat, sum-map, sum-const, size-ones, size-flat, size-vars, size-implied, count-cycle}
+use Rattle.cycle_encoding.proofs.Totals.{sum-flat, sum-map, sum-const, size-ones, size-flat, size-vars, size-implied, count-first}
 use Rattle.order_encoding.proofs.Stored.{store-count}
 use Rattle.cycle_encoding.proofs.Launched.{same-in, size-map, sum-rows, cycle-vars, cycle-size}
 
@@ -44,7 +43,7 @@ and_swap false false = refl
 -- cycle 0, among k + 1 cycles
 module _ (k : ℕ) where
   pub first_cycle : (b : Bool) → sum_by (λ t. one_if (b && (t == 0))) (range_with_len 0 (k + 1)) ≡ one_if b * 1
-  first_cycle true = count-cycle 0 (k + 1) 0 ∙ ap one_if (and_from (nat_le 0 0) (nat_lt 0 (k + 1)) (le-leb 0 0 (omega arith)) (lt-ltb 0 (k + 1) (omega arith)))
+  first_cycle true = count-first (k + 1) 0 (omega arith)
   first_cycle false = sum-const 0 (range_with_len 0 (k + 1)) ∙ (let z : length (range_with_len 0 (k + 1)) * 0 ≡ 0 * 1 = omega arith in z)
 
 module _ (g : LaunchGraph) (table : Table) (k : ℕ) (sc : Scope) where
@@ -66,7 +65,7 @@ module _ (g : LaunchGraph) (table : Table) (k : ℕ) (sc : Scope) where
   held-cycle : (t : ℕ) → t < k + 1 → count_by (λ (m : Held). m.cycle == t) (all_held g k) ≡ held_count g table k sc
   held-cycle t lt =
       held_sum (λ m. one_if (m.cycle == t))
-      ∙ sum-same (λ (c : ℕ). sum_by (λ y. one_if (y == t)) (range_with_len 0 (k + 1))) (λ c. 1) (memory_classes g) (λ c. count-cycle 0 (k + 1) t ∙ ap one_if (and_from (nat_le 0 t) (nat_lt t (k + 1)) (le-leb 0 t (omega arith)) (lt-ltb t (k + 1) lt)))
+      ∙ sum-same (λ (c : ℕ). sum_by (λ y. one_if (y == t)) (range_with_len 0 (k + 1))) (λ c. 1) (memory_classes g) (λ c. count-first (k + 1) t lt)
       ∙ sym (size-ones (memory_classes g))
 
   -- counters of what is held and of stores
@@ -127,7 +126,7 @@ module _ (g : LaunchGraph) (table : Table) (k : ℕ) (sc : Scope) where
       let each : (t : ℕ) → Contains (range_with_len 0 k) t → length (implied ws (a t) ++ implied ms (b t)) ≡ 1 + held_count g table k sc = λ t ht.
       let lt : t < k = (let r = (range-out 0 k t ht).1 in omega arith) in
       length-append (implied ws (a t)) (implied ms (b t))
-      ∙ ap (λ n. n + length (implied ms (b t))) (size-implied (a t) (before_stores g table k e) (range_with_len 0 k) ∙ sum-same (λ c. length (a t c)) (λ c. one_if (c == t)) (range_with_len 0 k) (λ c. size-one (c == t) (vars_of (stores_at g t) xs)) ∙ count-cycle 0 k t ∙ ap one_if (and_from (nat_le 0 t) (nat_lt t k) (le-leb 0 t (omega arith)) (lt-ltb t k lt)))
+      ∙ ap (λ n. n + length (implied ms (b t))) (size-implied (a t) (before_stores g table k e) (range_with_len 0 k) ∙ sum-same (λ c. length (a t c)) (λ c. one_if (c == t)) (range_with_len 0 k) (λ c. size-one (c == t) (vars_of (stores_at g t) xs)) ∙ count-first k t lt)
       ∙ ap (λ n. 1 + n) (size-implied (b t) (after_cycles g table k e) (all_held g k) ∙ sum-same (λ m. length (b t m)) (λ (m : Held). one_if (m.cycle == t)) (all_held g k) (λ m. size-one (m.cycle == t) (vars_of (λ c. c == t) ws ++ vars_of (is_held_at m.class (t + 1)) ms)) ∙ held-cycle t (omega arith)) in
       size-flat (λ t. implied ws (a t) ++ implied ms (b t)) (range_with_len 0 k)
       ∙ same-in (λ t. length (implied ws (a t) ++ implied ms (b t))) (λ t. 1 + held_count g table k sc) (range_with_len 0 k) each

@@ -60,7 +60,8 @@ pub fn count_clauses(
         ≡ length (whole_formula graph.now table.now k (wide graph.now table.now k)).clauses) }
 {
     let facts = Facts::new(alloc, graph)?;
-    whole_sizes(alloc, &facts, table, &Scope::wide(alloc), k)
+    let scope = Scope::wide(alloc);
+    whole_sizes(alloc, &facts, table, &scope, k)
 }
 
 /// The whole formula of schedules in k cycles: cycles, slots and values, memory, the branch of a guard, and registers.
@@ -90,7 +91,8 @@ pub fn full(
 {
     clauses_say_fits();
     let facts = Facts::new(alloc, graph)?;
-    let sizes = whole_sizes(alloc, &facts, table, &Scope::wide(alloc), k)?;
+    let scope = Scope::wide(alloc);
+    let sizes = whole_sizes(alloc, &facts, table, &scope, k)?;
     if pass_limit(sizes) {
         return Err(EncodeFault::Size {
             vars: sizes.vars,

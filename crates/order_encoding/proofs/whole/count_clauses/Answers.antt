@@ -12,7 +12,7 @@ returns-clause-vars c =
     subst (λ (g : LaunchGraph). IfOk c.whole_sizes.result (λ sizes. sizes.vars ≡ (whole_formula g table k (wide g table k)).vars))
     c.in_ok-facts.ensures
     (subst (λ (s : Scope). IfOk c.whole_sizes.result (λ sizes. sizes.vars ≡ (whole_formula c.in_ok-facts.facts table k (listed_in c.in_ok-facts.facts table k s)).vars))
-    c.wide.ensures c.whole_sizes.ensures.vars)
+    c.wide-scope.ensures c.whole_sizes.ensures.vars)
 
 pub returns-clause-clauses : goal.returns-clause-clauses
 returns-clause-clauses c =
@@ -21,4 +21,4 @@ returns-clause-clauses c =
     subst (λ (g : LaunchGraph). IfOk c.whole_sizes.result (λ sizes. sizes.clauses ≡ length (whole_formula g table k (wide g table k)).clauses))
     c.in_ok-facts.ensures
     (subst (λ (s : Scope). IfOk c.whole_sizes.result (λ sizes. sizes.clauses ≡ length (whole_formula c.in_ok-facts.facts table k (listed_in c.in_ok-facts.facts table k s)).clauses))
-    c.wide.ensures c.whole_sizes.ensures.clauses)
+    c.wide-scope.ensures c.whole_sizes.ensures.clauses)
