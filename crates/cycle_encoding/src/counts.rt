@@ -94,7 +94,15 @@ fn launch_count(facts: &Facts, table: &Table, scope: &Scope, k: u32) -> u64
 
 /// Whether some launch of the row is in a slot and cycle.
 #[tactic(auto, using(crate::proofs::Tallies::has_is, crate::proofs::Tallies::has_without_first, crate::proofs::Tallies::has_without_use, crate::proofs::Tallies::has_without_instr))]
-fn row_has(facts: &Facts, table: &Table, scope: &Scope, k: u32, slot: u32, cycle: u32, row: u32) -> bool
+fn row_has(
+    facts: &Facts,
+    table: &Table,
+    scope: &Scope,
+    k: u32,
+    slot: u32,
+    cycle: u32,
+    row: u32,
+) -> bool
     requires cycles { k ≤ 24 }
     ensures { result ≡ counts.row_has facts.now table.now k scope.now slot cycle row }
 {
@@ -239,7 +247,13 @@ fn row_operands(
 
 /// How many clauses say that launches see their operands.
 #[tactic(auto, using(crate::proofs::Tallies::sum_more))]
-fn operand_count(alloc: Global, facts: &Facts, table: &Table, scope: &Scope, k: u32) -> Result<u64, NoMemory>
+fn operand_count(
+    alloc: Global,
+    facts: &Facts,
+    table: &Table,
+    scope: &Scope,
+    k: u32,
+) -> Result<u64, NoMemory>
     requires graph { IsLaunchGraph facts.now }
     requires table { IsTable table.now }
     requires cycles { k ≤ 24 }
@@ -256,7 +270,13 @@ fn operand_count(alloc: Global, facts: &Facts, table: &Table, scope: &Scope, k: 
 }
 
 /// The counts of the formula of cycles, slots and values.
-pub fn cycle_sizes(alloc: Global, facts: &Facts, table: &Table, scope: &Scope, k: u32) -> Result<Sizes, NoMemory>
+pub fn cycle_sizes(
+    alloc: Global,
+    facts: &Facts,
+    table: &Table,
+    scope: &Scope,
+    k: u32,
+) -> Result<Sizes, NoMemory>
     requires graph { IsLaunchGraph facts.now }
     requires table { IsTable table.now }
     requires cycles { k ≤ 24 }

@@ -54,7 +54,7 @@ pub fn encode(
             clauses: sizes.clauses,
         });
     }
-    Ok(build(alloc, &facts, table, &scope, k)?)
+    Ok(build_cycles(alloc, &facts, table, &scope, k)?)
 }
 
 /// Makes variables.
@@ -67,8 +67,8 @@ pub fn add_vars(cnf: &mut Cnf, count: u32)
     }
 }
 
-/// Builds the formula, whose counts are within the limits.
-fn build(
+/// Builds the formula of a scope, whose counts are within the limits.
+pub fn build_cycles(
     alloc: Global,
     facts: &Facts,
     table: &Table,

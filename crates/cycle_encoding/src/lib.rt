@@ -18,7 +18,7 @@ mod seen;
 mod slots;
 
 pub use counts::{Sizes, cycle_sizes, one_size, one_vars, row_count, slot_count};
-pub use encoding::{add_vars, encode};
+pub use encoding::{add_vars, build_cycles, encode};
 pub use facts::{Facts, next_class};
 pub use families::{add_implied, variables};
 pub use launches::{can_begin, cycles, launches_from, may_use};

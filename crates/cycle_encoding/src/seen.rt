@@ -8,8 +8,8 @@ ghost use Rattle.cycle_encoding.specs.Families.{is_seen};
 ghost use Rattle.cycle_encoding.specs.Shapes.{numbered, vars_of};
 ghost use Rattle.cycle_encoding.specs.Steps.{AreSeenVars, cluster_seen, clusters_before, clusters_seen, listed};
 
-use crate::{Facts, Scope};
 use crate::facts::next_class;
+use crate::{Facts, Scope};
 use cnf_core::Lit;
 use items::NoMemory;
 use machine_table::Table;

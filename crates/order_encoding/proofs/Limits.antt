@@ -10,7 +10,7 @@ use Rattle.launch_graph.specs.declared.graphs.LaunchGraph.{LaunchGraph}
 use Rattle.schedule_meaning.specs.declared.schedules.Launch.{Launch}
 use Rattle.cycle_encoding.specs.Shapes.{numbered}
 use Rattle.cycle_encoding.specs.Variables.{all_launches}
-use Rattle.cycle_encoding.specs.CycleFormula.{Scope, wide, wide_scope, cycle_formula}
+use Rattle.cycle_encoding.specs.CycleFormula.{Listed, Scope, wide, wide_scope, cycle_formula}
 use Rattle.cycle_encoding.specs.Plans.{IsTooLarge, PassesLimit}
 use Rattle.cycle_encoding.proofs.Launched.{cycle-vars, cycle-size}
 use Rattle.order_encoding.specs.OrderCounts.{memory_vars, memory_size, guard_vars, guard_size, pool_vars, pool_size}
@@ -60,6 +60,27 @@ within_clauses f h =
       | inl lt ↦ absurd (h (inr lt))
       | inr le ↦ le
     ]
+
+pub within_vars : (f : Formula) → (IsTooLarge f → ⊥) → f.vars ≤ 262144
+within_vars f h =
+    elim (cases_lt 262144 f.vars) [
+      | inl lt ↦ absurd (h (inl lt))
+      | inr le ↦ le
+    ]
+
+-- ---- one part after another
+
+module _ (g : LaunchGraph) (table : Table) (k : ℕ) (e : Listed) (ls : List Launch) (els : ls ≡ e.launches) (f : Formula) where
+  pub memory_is : f ≡ cycle_formula g table k e → with_memory g k (numbered 0 ls) f ≡ memory_formula g table k e
+  memory_is ef = ap (λ (x : List Launch). with_memory g k (numbered 0 x) f) els ∙ ap (with_memory g k (numbered 0 e.launches)) ef
+
+  pub guard_is : f ≡ memory_formula g table k e → formula_with_guard g k (numbered 0 ls) f ≡ guard_formula g table k e
+  guard_is ef = ap (λ (x : List Launch). formula_with_guard g k (numbered 0 x) f) els ∙ ap (formula_with_guard g k (numbered 0 e.launches)) ef
+
+  pub pool_is : f ≡ guard_formula g table k e → formula_with_pool g k (numbered 0 ls) f table ≡ whole_formula g table k e
+  pool_is ef =
+      ap (λ (x : List Launch). formula_with_pool g k (numbered 0 x) f table) els
+      ∙ ap (λ (x : Formula). formula_with_pool g k (numbered 0 e.launches) x table) ef
 
 -- ---- one call after another
 

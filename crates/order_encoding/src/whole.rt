@@ -5,7 +5,8 @@ ghost use Rattle.launch_graph.specs.WellFormed.{IsLaunchGraph};
 ghost use Rattle.machine_table.specs.Tables.{IsTable};
 ghost use Rattle.schedule_meaning.specs.Fits.{Fits};
 ghost use Rattle.schedule_meaning.specs.declared.schedules.Launch.{Launch as LaunchOf};
-ghost use Rattle.cycle_encoding.specs.CycleFormula.{cycle_formula, listed_in, wide};
+ghost use Rattle.cycle_encoding.specs.CycleFormula.{first_in, listed_in, wide};
+ghost use Rattle.cycle_encoding.specs.Variables.{launches_from};
 ghost use Rattle.cycle_encoding.specs.Faults.{EncodeFaultIs};
 ghost use Rattle.cycle_encoding.specs.Plans.{IsTooLarge, plan_of};
 ghost use Rattle.cycle_encoding.specs.Shapes.{numbered, shown};
@@ -16,7 +17,7 @@ use crate::guard::extend_by_guard;
 use crate::laws::{clauses_say_fits, counts_are_found};
 use crate::memory::extend_by_memory;
 use crate::pool::extend_by_pool;
-use cycle_encoding::{EncodeFault, Encoded, Facts, Scope, Sizes, cycle_sizes, encode};
+use cycle_encoding::{EncodeFault, Encoded, Facts, Scope, Sizes, build_cycles, cycle_sizes};
 use items::NoMemory;
 use launch_graph::LaunchGraph;
 use machine_table::Table;
@@ -99,38 +100,29 @@ pub fn full(
             clauses: sizes.clauses,
         });
     }
-    let encoded = encode(alloc, graph, table, k)?;
-    Ok(completed(alloc, encoded, &facts, table)?)
+    Ok(build_whole(alloc, &facts, table, &scope, k)?)
 }
 
-/// Adds memory, the branch and registers to the formula of `encode`, where the whole is within the limits.
-fn completed(
+/// Builds the whole formula of a scope, whose counts are within the limits.
+fn build_whole(
     alloc: Global,
-    encoded: Encoded,
     facts: &Facts,
     table: &Table,
+    scope: &Scope,
+    k: u32,
 ) -> Result<Encoded, NoMemory>
-    requires cycles { encoded.plan.cycles ≤ 24 }
+    requires cycles { k ≤ 24 }
     requires table { IsTable table.now }
     requires graph { IsLaunchGraph facts.now }
-    requires formula { encoded.cnf ≡ cycle_formula facts.now table.now encoded.plan.cycles (wide facts.now table.now encoded.plan.cycles) }
-    requires plan { encoded.plan ≡ plan_of facts.now table.now encoded.plan.cycles }
-    requires within { ¬ IsTooLarge (whole_formula facts.now table.now encoded.plan.cycles (wide facts.now table.now encoded.plan.cycles)) }
-    ensures formula { IfOk result (λ e. e.cnf
-        ≡ whole_formula facts.now table.now encoded.plan.cycles (wide facts.now table.now encoded.plan.cycles)) }
-    ensures plan { IfOk result (λ e. e.plan ≡ encoded.plan) }
+    requires within { ¬ IsTooLarge (whole_formula facts.now table.now k (listed_in facts.now table.now k scope.now)) }
+    ensures formula { IfOk result (λ e. e.cnf ≡ whole_formula facts.now table.now k (listed_in facts.now table.now k scope.now)) }
+    ensures plan { IfOk result (λ e. e.plan ≡ record { cycles = k; launches = launches_from facts.now table.now k (first_in scope.now) }) }
 {
+    let encoded = build_cycles(alloc, facts, table, scope, k)?;
     let mut cnf = encoded.cnf;
     let plan = encoded.plan;
-    extend_by_memory(alloc, &mut cnf, facts, plan.launches(), plan.cycles())?;
-    extend_by_guard(alloc, &mut cnf, facts, plan.launches(), plan.cycles())?;
-    extend_by_pool(
-        alloc,
-        &mut cnf,
-        facts,
-        table,
-        plan.launches(),
-        plan.cycles(),
-    )?;
+    extend_by_memory(alloc, &mut cnf, facts, plan.launches(), k)?;
+    extend_by_guard(alloc, &mut cnf, facts, plan.launches(), k)?;
+    extend_by_pool(alloc, &mut cnf, facts, table, plan.launches(), k)?;
     Ok(Encoded { cnf, plan })
 }

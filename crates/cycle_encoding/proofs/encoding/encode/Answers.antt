@@ -34,16 +34,16 @@ returns-clause-within c =
     let clauses = c.in_ok-sizes.ensures.clauses ∙ ap (cycle_size c.in_ok-facts.facts table k) c.wide-scope.ensures ∙ ap (λ (g : LaunchGraph). cycle_size g table k wide_scope) c.in_ok-facts.ensures ∙ sym (c.cycle_counts_are_found.ensures.clauses c.args.graph.now table k wide_scope) in
     keeps_within f c.in_ok-sizes.sizes.vars c.in_ok-sizes.sizes.clauses vars clauses (omega (arith, c.if-sizes-gt262144.false)) (omega (arith, c.if-sizes-gt2000000.false))
 
-pub build-requires-clause-vars : goal.build-requires-clause-vars
-build-requires-clause-vars c =
+pub build_cycles-requires-clause-vars : goal.build_cycles-requires-clause-vars
+build_cycles-requires-clause-vars c =
     let table = c.args.table.now in
     let k = c.args.k in
     let g = c.in_ok-facts.facts in
     let vars = c.in_ok-sizes.ensures.vars ∙ sym (c.cycle_counts_are_found.ensures.vars g table k c.wide-scope.result) in
     omega (arith, vars, c.if-sizes-gt262144.false)
 
-pub build-requires-clause-clauses : goal.build-requires-clause-clauses
-build-requires-clause-clauses c =
+pub build_cycles-requires-clause-clauses : goal.build_cycles-requires-clause-clauses
+build_cycles-requires-clause-clauses c =
     let table = c.args.table.now in
     let k = c.args.k in
     let g = c.in_ok-facts.facts in
@@ -55,6 +55,6 @@ returns-clause-plan c =
     let table = c.args.table.now in
     let k = c.args.k in
     let g = c.in_ok-facts.facts in
-    c.in_ok-build.ensures.plan
+    c.in_ok-build_cycles.ensures.plan
     ∙ ap {A = Scope} {B = Plan} (λ s. record { cycles = k; launches = launches_from g table k (first_in s) }) c.wide-scope.ensures
     ∙ ap (λ (g : LaunchGraph). plan_of g table k) c.in_ok-facts.ensures

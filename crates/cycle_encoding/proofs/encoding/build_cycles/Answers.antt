@@ -8,7 +8,7 @@ use Rattle.cycle_encoding.specs.Families.{target_clauses, operand_clauses, seen_
 use Rattle.cycle_encoding.specs.Steps.{with_clauses}
 use Rattle.cycle_encoding.proofs.Rows.{counters-size, with_counters}
 use Rattle.cycle_encoding.proofs.Built.{begun, room_of_sights, room_of_slots, built}
-use Rattle.cycle_encoding.proofs.encoding.build.Goals as goal
+use Rattle.cycle_encoding.proofs.encoding.build_cycles.Goals as goal
 
 pub add_seen-requires-clause-room : goal.add_seen-requires-clause-room
 add_seen-requires-clause-room c =
