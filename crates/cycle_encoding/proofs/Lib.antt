@@ -8,6 +8,7 @@ pub mod Rows
 pub mod Totals
 pub mod Launched
 pub mod Tables
+pub mod ComeSteps
 pub mod OperandLists
 pub mod Listed
 pub mod Places

@@ -6,5 +6,6 @@ pub mod Narrow
 pub mod Counts
 pub mod Plans
 pub mod Facts
+pub mod Coming
 pub mod Steps
 pub mod Faults

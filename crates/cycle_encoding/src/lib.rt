@@ -4,6 +4,7 @@
 #![tactic(auto)]
 
 mod buckets;
+mod coming;
 mod counts;
 mod encoding;
 mod facts;
@@ -17,6 +18,7 @@ mod scopes;
 mod seen;
 mod slots;
 
+pub use coming::come_cycles;
 pub use counts::{Sizes, cycle_sizes, one_size, one_vars, row_count, slot_count};
 pub use encoding::{add_vars, build_cycles, encode};
 pub use facts::{Facts, next_class};

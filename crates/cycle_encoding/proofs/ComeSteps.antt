@@ -1,0 +1,317 @@
+-- By which cycles classes come, one row more at a time.
+use Rattle.std.proofs.Common.{◌≡◌, ℕ, zero, suc, ◌+◌, ◌<◌, ◌≤◌, Bool, true, false, cond, List, [], ◌∷◌, ◌++◌, length, map, take, max, set, get_or, refl, sym, ap, ◌∙◌, subst, arith, inl, inr, ◌⊎◌, Option, Some, None}
+use Rattle.std.specs.Prelude.{◌&&◌, ◌==◌, nat_le, nat_lt, not, IsTrue, Contains, option_map, option_and_then, slice_get}
+use Rattle.std.specs.Option.{option_map_or}
+use Rattle.std.specs.List.{All, filter, fold, range_with_len}
+use Rattle.std.proofs.lemmas.Bool.{false≢true, cases_Bool, cases_lt, cases_eq, leb-true, le-leb, ltb-true, lt-ltb, le-ltb, and_parts, and_from, and_left, and_right, not-true, not_from_false}
+use Rattle.std.proofs.lemmas.Option.{same_Some, none-some, slice_get_within}
+use Rattle.std.proofs.lemmas.List.{get_or-set_same, get_or-set_other, take_more}
+use Rattle.std.proofs.lemmas.List.Elements.{All-contains}
+use Rattle.machine_table.specs.Tables.{IsTable, IsUse, use_of, latency_of}
+use Rattle.machine_table.specs.InstrOrder.{kind_number}
+use Rattle.schedule_meaning.specs.Launches.{instr_at, op_instr, gives_word, class_at, operands_at, Operand}
+use Rattle.machine_table.specs.declared.tables.Table.{Table}
+use Rattle.machine_table.specs.declared.tables.Use.{Use}
+use Rattle.machine_table.specs.declared.tables.InstrKind.{InstrKind}
+use Rattle.machine_table.specs.declared.tables.InstrKind.TheVariants.{Beq}
+use Rattle.launch_graph.specs.WellFormed.{next_class}
+use Rattle.launch_graph.specs.declared.graphs.Guard.{Guard}
+use Rattle.launch_graph.specs.declared.graphs.LaunchRow.{LaunchRow}
+use Rattle.launch_graph.specs.declared.graphs.LaunchGraph.{LaunchGraph}
+use Rattle.cycle_encoding.specs.Variables.{is_input}
+use Rattle.cycle_encoding.specs.Families.{is_free, is_made}
+use Rattle.cycle_encoding.specs.Narrow.{Needs, HasCome, come, CanStart}
+use Rattle.cycle_encoding.specs.Coming.{needs_of, word_latency, is_come, are_come, earlier, come_by, AreSound, IsExactUpTo, IsPassed, AreFound, StillCome}
+use Rattle.cycle_encoding.proofs.Members.{filter-in, filter-out, find-out, map-in, map-out, here, later, nothing}
+use Rattle.cycle_encoding.proofs.Tests.{free-is, free-from, input-is, input-from}
+
+-- ---- the table, with one class more
+
+by_test : (t : ℕ) (o : Option ℕ) → option_map_or (λ n. nat_le n t) o false ≡ true → (n : ℕ) × (o ≡ Some n) × (n ≤ t)
+by_test t None h = absurd (false≢true h)
+by_test t (Some n) h = (n, refl, leb-true n t h)
+
+pub come-out : (known : List (Option ℕ)) (t class : ℕ) → is_come known t class ≡ true → (n : ℕ) × (get_or known class None ≡ Some n) × (n ≤ t)
+come-out known t class h = by_test t (get_or known class None) h
+
+pub come-in : (known : List (Option ℕ)) (t class n : ℕ) → get_or known class None ≡ Some n → n ≤ t → is_come known t class ≡ true
+come-in known t class n e le = ap (λ (o : Option ℕ). option_map_or (λ n. nat_le n t) o false) e ∙ le-leb n t le
+
+earlier-new : (o : Option ℕ) (n : ℕ) → earlier o n ≤ n
+earlier-new None n = omega arith
+earlier-new (Some m) n =
+    elim (cases_lt m n) [
+      | inl lt ↦ (let e = ap (λ b. cond {A = ℕ} b m n) (lt-ltb m n lt) in omega arith)
+      | inr le ↦ (let e = ap (λ b. cond {A = ℕ} b m n) (le-ltb m n le) in omega arith)
+    ]
+
+earlier-old : (m n : ℕ) → earlier (Some m) n ≤ m
+earlier-old m n =
+    elim (cases_lt m n) [
+      | inl lt ↦ (let e = ap (λ b. cond {A = ℕ} b m n) (lt-ltb m n lt) in omega arith)
+      | inr le ↦ (let e = ap (λ b. cond {A = ℕ} b m n) (le-ltb m n le) in omega arith)
+    ]
+
+earlier-is : (o : Option ℕ) (n : ℕ) → (earlier o n ≡ n) ⊎ (o ≡ Some (earlier o n))
+earlier-is None n = inl refl
+earlier-is (Some m) n =
+    elim (cases_lt m n) [
+      | inl lt ↦ inr (ap Some (sym (ap (λ b. cond {A = ℕ} b m n) (lt-ltb m n lt))))
+      | inr le ↦ inl (ap (λ b. cond {A = ℕ} b m n) (le-ltb m n le))
+    ]
+
+module _ (known : List (Option ℕ)) (class n : ℕ) where
+  abbrev new : ℕ
+  new = earlier (get_or known class None) n
+
+  inside : class < length known → come_by known class n ≡ set known class (Some new)
+  inside lt = ap (λ b. cond b (set known class (Some new)) known) (lt-ltb class (length known) lt)
+
+  outside : length known ≤ class → come_by known class n ≡ known
+  outside le = ap (λ b. cond b (set known class (Some new)) known) (le-ltb class (length known) le)
+
+  this : class < length known → get_or (come_by known class n) class None ≡ Some new
+  this lt = ap (λ (xs : List (Option ℕ)). get_or xs class None) (inside lt) ∙ get_or-set_same known class (Some new) None lt
+
+  other : (c : ℕ) → (c ≡ class → ⊥) → get_or (come_by known class n) c None ≡ get_or known c None
+  other c ne =
+      elim (cases_lt class (length known)) [
+        | inl lt ↦ ap (λ (xs : List (Option ℕ)). get_or xs c None) (inside lt) ∙ get_or-set_other known class c (Some new) None ne
+        | inr le ↦ ap (λ (xs : List (Option ℕ)). get_or xs c None) (outside le)
+      ]
+
+  pub still : StillCome known (come_by known class n)
+  still t c h =
+      let m = come-out known t c h in
+      elim (cases_eq c class) [
+        | inr ne ↦ come-in (come_by known class n) t c m.0 (other c ne ∙ m.1) m.2
+        | inl e ↦ elim (cases_lt class (length known)) [
+          | inr le ↦ come-in (come_by known class n) t c m.0 (ap (λ (xs : List (Option ℕ)). get_or xs c None) (outside le) ∙ m.1) m.2
+          | inl lt ↦
+              (let was : get_or known class None ≡ Some m.0 = ap (λ x. get_or known x None) (sym e) ∙ m.1 in
+              let low : new ≤ m.0 = subst (λ (o : Option ℕ). earlier o n ≤ m.0) (sym was) (earlier-old m.0 n) in
+              let le = m.2 in
+              come-in (come_by known class n) t c new (ap (λ x. get_or (come_by known class n) x None) e ∙ this lt) (omega arith))
+        ]
+      ]
+
+  pub come-now : class < length known → is_come (come_by known class n) n class ≡ true
+  come-now lt = come-in (come_by known class n) n class new (this lt) (earlier-new (get_or known class None) n)
+
+  pub still-sound : (g : LaunchGraph) (table : Table) → AreSound g table known → HasCome g table class n → AreSound g table (come_by known class n)
+  still-sound g table sound h c m e =
+      elim (cases_eq c class) [
+        | inr ne ↦ sound c m (sym (other c ne) ∙ e)
+        | inl ec ↦ elim (cases_lt class (length known)) [
+          | inr le ↦ sound c m (sym (ap (λ (xs : List (Option ℕ)). get_or xs c None) (outside le)) ∙ e)
+          | inl lt ↦
+              (let at : Some new ≡ Some m = sym (this lt) ∙ ap (λ x. get_or (come_by known class n) x None) (sym ec) ∙ e in
+              let is : new ≡ m = same_Some new m at in
+              elim (earlier-is (get_or known class None) n) [
+                | inl now ↦ subst (λ x. HasCome g table x m) (sym ec) (subst (λ x. HasCome g table class x) (sym now ∙ is) h)
+                | inr was ↦ subst (λ x. HasCome g table x m) (sym ec) (sound class m (was ∙ at))
+              ])
+        ]
+      ]
+
+-- ---- what a row needs
+
+module _ (g : LaunchGraph) (table : Table) where
+  -- what has come by a cycle has come by each later one
+  pub come-later : (class t u : ℕ) → HasCome g table class t → t ≤ u → HasCome g table class u
+  come-later _ _ u (come row start t i u0 e w k le needs) lt = come row start u i u0 e w k (omega arith) needs
+
+  are-out : (known : List (Option ℕ)) (t : ℕ) (cs : List ℕ) → are_come known t cs ≡ true → (c : ℕ) → Contains cs c → is_come known t c ≡ true
+  are-out known t [] h c k = absurd (nothing c k)
+  are-out known t (d ∷ cs) h c (zero, lt, e) = subst (λ x. is_come known t x ≡ true) e (and_parts (is_come known t d) (are_come known t cs) h).0
+  are-out known t (d ∷ cs) h c (suc i, lt, e) = are-out known t cs (and_parts (is_come known t d) (are_come known t cs) h).1 c (i, (let s : length (d ∷ cs) ≡ suc (length cs) = refl in omega (arith, s, lt)), e)
+
+  are-in : (known : List (Option ℕ)) (t : ℕ) (cs : List ℕ) → ((c : ℕ) → Contains cs c → is_come known t c ≡ true) → are_come known t cs ≡ true
+  are-in known t [] h = refl
+  are-in known t (d ∷ cs) h = and_from (is_come known t d) (are_come known t cs) (h d (here d cs)) (are-in known t cs (λ c k. h c (later d c cs k)))
+
+  -- an operand that is needed is one of the classes, and the other way round
+  pub need-in : (row : ℕ) (o : Operand) → Needs g row o → Contains (needs_of g row) o.class
+  need-in row o need =
+      let free : is_free g o ≡ false = elim (cases_Bool (is_free g o)) [ inl t ↦ absurd (need.free (free-is g o t)) | inr f ↦ f ] in
+      let input : is_input g o.class ≡ false = elim (cases_Bool (is_input g o.class)) [ inl t ↦ absurd (need.input (input-is g o.class t)) | inr f ↦ f ] in
+      let made : is_made g o ≡ true = and_from (not (is_free g o)) (not (is_input g o.class)) (not_from_false (is_free g o) free) (not_from_false (is_input g o.class) input) in
+      map-in (λ (o : Operand). o.class) (filter (is_made g) (operands_at g row)) o (filter-in (is_made g) (operands_at g row) o need.operand made)
+
+  pub need-out : (row c : ℕ) → Contains (needs_of g row) c → (o : Operand) × Needs g row o × (o.class ≡ c)
+  need-out row c h =
+      let o = map-out (λ (o : Operand). o.class) (filter (is_made g) (operands_at g row)) c h in
+      let f = filter-out (is_made g) (operands_at g row) o.0 o.1 in
+      let p = and_parts (not (is_free g o.0)) (not (is_input g o.0.class)) f.1 in
+      (o.0, record { operand = f.0; free = λ x. false≢true (sym (not-true (is_free g o.0) p.0) ∙ free-from g o.0 x); input = λ x. false≢true (sym (not-true (is_input g o.0.class) p.1) ∙ input-from g o.0.class x) }, o.2)
+
+  -- a row can start where its classes are found to have come
+  pub can-start : (known : List (Option ℕ)) (t row : ℕ) → AreSound g table known → are_come known t (needs_of g row) ≡ true → CanStart g table row t
+  can-start known t row sound h o need =
+      let m = come-out known t o.class (are-out known t (needs_of g row) h o.class (need-in row o need)) in
+      come-later o.class m.0 t (sound o.class m.0 m.1) m.2
+
+  pub start-found : (known : List (Option ℕ)) (t row : ℕ) → AreFound g table known t → CanStart g table row t → are_come known t (needs_of g row) ≡ true
+  start-found known t row found start =
+      are-in known t (needs_of g row) (λ c k.
+      let o = need-out row c k in
+      subst (λ x. is_come known t x ≡ true) o.2 (found o.0.class (start o.0 o.1)))
+
+  -- ---- latencies
+
+  by_word : (i : InstrKind) (n : ℕ) (b : Bool) → gives_word i ≡ b → cond b (latency_of table i) None ≡ Some n → (gives_word i ≡ true) × (latency_of table i ≡ Some n)
+  by_word i n true e h = (e, h)
+  by_word i n false e h = absurd (none-some n h)
+
+  by_instr : (o : Option InstrKind) (n : ℕ) → option_and_then (λ i. cond (gives_word i) (latency_of table i) None) o ≡ Some n → (i : InstrKind) × (o ≡ Some i) × (gives_word i ≡ true) × (latency_of table i ≡ Some n)
+  by_instr None n h = absurd (none-some n h)
+  by_instr (Some i) n h = (let p = by_word i n (gives_word i) refl h in (i, refl, p.0, p.1))
+
+  by_use : (o : Option Use) (n : ℕ) → option_map (λ u. u.latency) o ≡ Some n → (u : Use) × (o ≡ Some u) × (u.latency ≡ n)
+  by_use None n h = absurd (none-some n h)
+  by_use (Some u) n h = (u, refl, same_Some u.latency n h)
+
+  pub latency-out : (row n : ℕ) → word_latency g table row ≡ Some n → (i : InstrKind) × (u : Use) × (instr_at g row ≡ Some i) × (gives_word i ≡ true) × (use_of table i ≡ Some u) × (u.latency ≡ n)
+  latency-out row n h =
+      let i = by_instr (instr_at g row) n h in
+      let u = by_use (use_of table i.0) n i.3 in
+      (i.0, u.0, i.1, i.2, u.1, u.2)
+
+  pub latency-in : (row : ℕ) (i : InstrKind) (u : Use) → instr_at g row ≡ Some i → gives_word i ≡ true → use_of table i ≡ Some u → word_latency g table row ≡ Some u.latency
+  latency-in row i u e w k =
+      ap (option_and_then (λ i. cond (gives_word i) (latency_of table i) None)) e
+      ∙ ap (λ b. cond b (latency_of table i) None) w
+      ∙ ap (option_map (λ (u : Use). u.latency)) k
+
+  pub comes : (row t n : ℕ) → word_latency g table row ≡ Some n → CanStart g table row t → HasCome g table (class_at g row) (t + n)
+  comes row t n h start =
+      let l = latency-out row n h in
+      come row t (t + n) l.0 l.1 l.2 l.3 l.4 (let e = l.5 in omega arith) start
+
+  -- ---- a cycle more
+
+  module _ (is_table : IsTable table) where
+    -- at least one cycle passes
+    least : (i : InstrKind) (u : Use) → use_of table i ≡ Some u → 1 ≤ u.latency
+    least i u e =
+        let is : IsUse table u = All-contains (IsUse table) table.uses u is_table.uses (find-out (λ (u : Use). kind_number u.instr == kind_number i) table.uses u e).0 in
+        is.latency.0
+
+    -- where all rows passed in the cycles below t, all is found that has come by t
+    pub all-found : (known : List (Option ℕ)) (t : ℕ) → ((s row : ℕ) → s < t → IsPassed g table known s row) → (u class : ℕ) → u ≤ t → HasCome g table class u → is_come known u class ≡ true
+    all-found known t passed _ _ le (come row start u i v e w k until needs) =
+        let one = least i v k in
+        let now = passed start row (omega arith) v.latency (latency-in row i v e w k) needs in
+        let m = come-out known (start + v.latency) (class_at g row) now in
+        let low = m.2 in
+        come-in known u (class_at g row) m.0 m.1 (omega arith)
+
+  -- ---- rows that give words
+
+  fold_from : (rows : List LaunchRow) (n : ℕ) → n ≤ fold (λ n r. max n (r.class + 1)) n rows
+  fold_from [] n = omega arith
+  fold_from (r ∷ rows) n = (let h = fold_from rows (max n (r.class + 1)) in omega arith)
+
+  fold_above : (rows : List LaunchRow) (n i : ℕ) (r : LaunchRow) → slice_get rows i ≡ Some r → r.class < fold (λ n r. max n (r.class + 1)) n rows
+  fold_above [] n i r h = absurd (none-some r h)
+  fold_above (s ∷ rows) n zero r h = (let same : s ≡ r = same_Some s r h in let e : s.class ≡ r.class = ap (λ (x : LaunchRow). x.class) same in let k = fold_from rows (max n (s.class + 1)) in omega arith)
+  fold_above (s ∷ rows) n (suc i) r h = fold_above rows (max n (s.class + 1)) i r h
+
+  no_word : (o : Option Guard) (i : InstrKind) → option_map (λ _. Beq) o ≡ Some i → gives_word i ≡ true → ⊥
+  no_word None i h w = none-some i h
+  no_word (Some x) i h w = (let e : Beq ≡ i = same_Some Beq i h in false≢true (ap gives_word e ∙ w))
+
+  found_row : (o : Option LaunchRow) (f : LaunchRow → Option InstrKind) (i : InstrKind) → option_and_then f o ≡ Some i → (r : LaunchRow) × (o ≡ Some r)
+  found_row None f i h = absurd (none-some i h)
+  found_row (Some r) f i h = (r, refl)
+
+  row_of : (row : ℕ) (b : Bool) (i : InstrKind) → cond b (option_map (λ _. Beq) g.guard) (option_and_then (λ r. op_instr g r.op r.operands) (slice_get g.rows row)) ≡ Some i → gives_word i ≡ true → (r : LaunchRow) × (slice_get g.rows row ≡ Some r)
+  row_of row true i h w = absurd (no_word g.guard i h w)
+  row_of row false i h w = found_row (slice_get g.rows row) (λ r. op_instr g r.op r.operands) i h
+
+  pub word-row : (row n : ℕ) → word_latency g table row ≡ Some n → (row < length g.rows) × (class_at g row < next_class g.rows)
+  word-row row n h =
+      let l = latency-out row n h in
+      let r = row_of row (row == length g.rows) l.0 l.2 l.3 in
+      let class : class_at g row ≡ r.0.class = ap (λ (o : Option LaunchRow). option_map_or (λ r. r.class) o 0) r.1 in
+      let above = fold_above g.rows 0 row r.0 r.1 in
+      (slice_get_within g.rows row r.0 r.1, (omega arith))
+
+-- ---- the steps of the code
+
+pub are-append : (known : List (Option ℕ)) (t : ℕ) (xs : List ℕ) (c : ℕ) → are_come known t xs ≡ true → is_come known t c ≡ true → are_come known t (xs ++ c ∷ []) ≡ true
+are-append known t [] c h k = and_from (is_come known t c) true k refl
+are-append known t (x ∷ xs) c h k =
+    let p = and_parts (is_come known t x) (are_come known t xs) h in
+    and_from (is_come known t x) (are_come known t (xs ++ c ∷ [])) p.0 (are-append known t xs c p.1 k)
+
+pub are-more : (known : List (Option ℕ)) (t : ℕ) (cs : List ℕ) (i d : ℕ) → i < length cs → are_come known t (take i cs) ≡ true → is_come known t (get_or cs i d) ≡ true → are_come known t (take (i + 1) cs) ≡ true
+are-more known t cs i d lt h k = ap (are_come known t) (take_more cs i d lt) ∙ are-append known t (take i cs) (get_or cs i d) h k
+
+pub are-not : (known : List (Option ℕ)) (t : ℕ) (cs : List ℕ) (i d : ℕ) → i < length cs → is_come known t (get_or cs i d) ≡ false → false ≡ are_come known t cs
+are-not known t [] i d lt h = absurd (let z : length {A = ℕ} [] ≡ 0 = refl in omega (arith, z))
+are-not known t (x ∷ cs) zero d lt h = sym (and_left (is_come known t x) (are_come known t cs) h)
+are-not known t (x ∷ cs) (suc i) d lt h =
+    sym (and_right (is_come known t x) (are_come known t cs) (sym (are-not known t cs i d (let s : length (x ∷ cs) ≡ suc (length cs) = refl in omega (arith, s)) h)))
+
+module _ (g : LaunchGraph) (table : Table) (known : List (Option ℕ)) (cycle row n : ℕ) (needs : List ℕ) (en : needs ≡ needs_of g row) (w : word_latency g table row ≡ Some n) where
+  ready : are_come known cycle needs ≡ true → are_come known cycle (needs_of g row) ≡ true
+  ready h = ap (are_come known cycle) (sym en) ∙ h
+
+  pub not-ready : AreFound g table known cycle → are_come known cycle needs ≡ false → IsPassed g table known cycle row
+  not-ready found h m e start = absurd (false≢true (sym h ∙ ap (are_come known cycle) en ∙ start-found g table known cycle row found start))
+
+  module _ (class m : ℕ) (new : List (Option ℕ)) (ec : class ≡ class_at g row) (em : m ≡ cycle + n) (e : new ≡ come_by known class m) (sound : AreSound g table known) (h : are_come known cycle needs ≡ true) where
+    now : HasCome g table class m
+    now = subst (λ c. HasCome g table c m) (sym ec) (subst (HasCome g table (class_at g row)) (sym em) (comes g table row cycle n w (can-start g table known cycle row sound (ready h))))
+
+    pub row-sound : AreSound g table new
+    row-sound = subst (AreSound g table) (sym e) (still-sound known class m g table sound now)
+
+    pub row-passed : length known ≡ next_class g.rows → IsPassed g table new cycle row
+    row-passed long j ej start =
+        let same : n ≡ j = same_Some n j (sym w ∙ ej) in
+        let bound : class < length known = (let b = (word-row g table row n w).1 in omega arith) in
+        let at : is_come (come_by known class m) m class ≡ true = come-now known class m bound in
+        let until : m ≡ cycle + j = omega arith in
+        ap (λ (xs : List (Option ℕ)). is_come xs (cycle + j) (class_at g row)) e
+        ∙ ap (λ c. is_come (come_by known class m) (cycle + j) c) (sym ec)
+        ∙ ap (λ u. is_come (come_by known class m) u class) (sym until)
+        ∙ at
+
+-- at first nothing is found
+nones : (a n i : ℕ) → get_or (map {A = ℕ} {B = Option ℕ} (λ _. None) (range_with_len a n)) i None ≡ None
+nones a zero i = refl
+nones a (suc n) zero = refl
+nones a (suc n) (suc i) = nones (a + 1) n i
+
+pub none-yet : (g : LaunchGraph) (table : Table) (n : ℕ) (known : List (Option ℕ)) → known ≡ map (λ _. None) (range_with_len 0 n) → AreSound g table known
+none-yet g table n known e class m h =
+    absurd (none-some m (sym (nones 0 n class) ∙ ap (λ (xs : List (Option ℕ)). get_or xs class None) (sym e) ∙ h))
+
+-- ---- one row more, and one cycle more
+
+module _ (g : LaunchGraph) (table : Table) (old new : List (Option ℕ)) (still-come : StillCome old new) where
+  kept : (cycle row : ℕ) → IsPassed g table old cycle row → IsPassed g table new cycle row
+  kept cycle row p n e start = still-come (cycle + n) (class_at g row) (p n e start)
+
+  pub one-more-row : (cycle row : ℕ) → IsPassed g table new cycle row → ((r : ℕ) → r < row → IsPassed g table old cycle r) → (r : ℕ) → r < row + 1 → IsPassed g table new cycle r
+  one-more-row cycle row this-row before r lt =
+      elim (cases_eq r row) [
+        | inl e ↦ subst (IsPassed g table new cycle) (sym e) this-row
+        | inr ne ↦ kept cycle r (before r (omega arith))
+      ]
+
+  pub one-more-cycle : (cycle : ℕ) → ((row : ℕ) → IsPassed g table new cycle row) → ((s row : ℕ) → s < cycle → IsPassed g table old s row) → (s row : ℕ) → s < cycle + 1 → IsPassed g table new s row
+  one-more-cycle cycle now before s row lt =
+      elim (cases_eq s cycle) [
+        | inl e ↦ subst (λ s. IsPassed g table new s row) (sym e) (now row)
+        | inr ne ↦ kept s row (before s row (omega arith))
+      ]
+
+-- where all rows passed in the cycles up to t, it is found exactly what has come by them
+pub exact : (g : LaunchGraph) (table : Table) → IsTable table → (known : List (Option ℕ)) (t : ℕ) → AreSound g table known → ((s row : ℕ) → s < t + 1 → IsPassed g table known s row) → IsExactUpTo g table known t
+exact g table is_table known t sound passed u class le = (
+  (λ h. let m = come-out known u class h in come-later g table class m.0 u (sound class m.0 m.1) m.2),
+  (λ h. all-found g table is_table known (t + 1) passed u class (omega arith) h),
+)

@@ -1,0 +1,45 @@
+use Rattle.std.proofs.Common.{ℕ, ◌≡◌, ◌<◌, ◌∙◌, ◌+◌, List, map, sym, ap, subst, arith, inl, inr}
+use Rattle.std.specs.Prelude.{length, get_or}
+use Rattle.std.specs.List.{range_with_len}
+use Rattle.std.proofs.lemmas.Bool.{cases_lt}
+use Rattle.std.proofs.lemmas.List.FromFn.{length-map-range_with_len, get_or-map-range_with_len}
+use Rattle.launch_graph.specs.declared.graphs.LaunchGraph.{LaunchGraph}
+use Rattle.cycle_encoding.specs.Coming.{needs_of, IsPassed}
+use Rattle.cycle_encoding.proofs.ComeSteps.{word-row, one-more-row}
+use Rattle.cycle_encoding.proofs.coming.pass_rows.Goals as goal
+
+pub bounds-needs-row : goal.bounds-needs-row
+bounds-needs-row c =
+    let g = c.args.facts.now in
+    let size = ap (λ (xs : List (List ℕ)). length xs) c.requires.needs ∙ length-map-range_with_len (needs_of g) 0 (length g.rows + 1) in
+    let rows = c.len-rows.ensures ∙ ap (λ (g : LaunchGraph). length g.rows) c.graph.ensures in
+    let lt = c.loop-row-test.true in
+    omega arith
+
+pub pass_row-requires-clause-needs : goal.pass_row-requires-clause-needs
+pass_row-requires-clause-needs c =
+    let g = c.args.facts.now in
+    let rows = c.len-rows.ensures ∙ ap (λ (g : LaunchGraph). length g.rows) c.graph.ensures in
+    let lt = c.loop-row-test.true in
+    let row = c.loop-row.row in
+    c.as_slice.ensures ∙ c.index-needs-row.is
+    ∙ ap (λ (xs : List (List ℕ)). get_or xs row c.index-needs-row.result) c.requires.needs
+    ∙ get_or-map-range_with_len (needs_of g) 0 (length g.rows + 1) row row c.index-needs-row.result (omega arith) (omega arith)
+
+pub loop-row-preserved : goal.loop-row-preserved
+loop-row-preserved c =
+    let i = c.loop-row.invariant in
+    let e = c.pass_row.ensures in
+    record {
+      long = e.long ∙ i.long;
+      sound = e.sound;
+      still = λ t class h. e.still t class (i.still t class h);
+      passed = one-more-row c.args.facts.now c.args.table.now c.loop-row.come.items c.pass_row.new.come.items e.still c.args.cycle c.loop-row.row e.passed i.passed;
+    }
+
+pub returns-clause-passed : goal.returns-clause-passed
+returns-clause-passed c =
+    let g = c.args.facts.now in
+    let rows = c.len-rows.ensures ∙ ap (λ (g : LaunchGraph). length g.rows) c.graph.ensures in
+    let done = c.loop-row-test.false in
+    λ row n e start. c.loop-row.invariant.passed row (let lt = (word-row g c.args.table.now row n e).0 in omega arith) n e start

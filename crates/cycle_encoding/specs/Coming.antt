@@ -1,0 +1,59 @@
+-- How it is found from which cycle a row can start: cycle by cycle, each class has the first by which it has come so far.
+-- Source: this project.
+use Rattle.std.specs.Prelude.{◌≡◌, ◌↔◌, ℕ, ◌+◌, ◌≤◌, ◌<◌, ◌&&◌, nat_le, nat_lt, Bool, true, false, List, [], ◌∷◌, length, set, Option, None, Some, IsTrue, option_and_then, if◌then◌else◌, slice_index_or}
+use Rattle.std.specs.Option.{option_map_or}
+use Rattle.machine_table.specs.Tables.{latency_of}
+use Rattle.schedule_meaning.specs.Launches.{instr_at, gives_word, class_at, operands_at}
+use Rattle.machine_table.specs.declared.tables.Table.{Table}
+use Rattle.launch_graph.specs.declared.graphs.LaunchGraph.{LaunchGraph}
+use Rattle.cycle_encoding.specs.Facts.{made_among}
+use Rattle.cycle_encoding.specs.Narrow.{CanStart, HasCome}
+
+-- the classes that a launch of the row needs from other launches
+abbrev pub needs_of : LaunchGraph → ℕ → List ℕ
+needs_of g row = made_among g (operands_at g row)
+
+-- after how many cycles the row gives its word, if it gives one and the table names its instruction
+abbrev pub word_latency : LaunchGraph → Table → ℕ → Option ℕ
+word_latency g table row = option_and_then (λ i. if gives_word i then latency_of table i else None) (instr_at g row)
+
+-- the class has come by t, as far as was found
+abbrev pub is_come : List (Option ℕ) → ℕ → ℕ → Bool
+is_come come t class = option_map_or (λ n. nat_le n t) (slice_index_or come class None) false
+
+-- each of the classes has
+abbrev pub are_come : List (Option ℕ) → ℕ → List ℕ → Bool
+are_come come t [] = true
+are_come come t (c ∷ cs) = is_come come t c && are_come come t cs
+
+abbrev pub earlier : Option ℕ → ℕ → ℕ
+earlier None n = n
+earlier (Some m) n = if nat_lt m n then m else n
+
+-- the class has come by n too
+abbrev pub come_by : List (Option ℕ) → ℕ → ℕ → List (Option ℕ)
+come_by come class n =
+    if nat_lt class (length come) then set come class (Some (earlier (slice_index_or come class None) n)) else come
+
+-- what was found is so
+abbrev pub AreSound : LaunchGraph → Table → List (Option ℕ) → Type 0
+AreSound g table come = (class n : ℕ) → slice_index_or come class None ≡ Some n → HasCome g table class n
+
+-- where the row can start at the cycle, its word was found to come
+abbrev pub IsPassed : LaunchGraph → Table → List (Option ℕ) → ℕ → ℕ → Type 0
+IsPassed g table come cycle row =
+    (n : ℕ) → word_latency g table row ≡ Some n → CanStart g table row cycle
+    → IsTrue (is_come come (cycle + n) (class_at g row))
+
+-- what has come by t was found
+abbrev pub AreFound : LaunchGraph → Table → List (Option ℕ) → ℕ → Type 0
+AreFound g table come t = (class : ℕ) → HasCome g table class t → IsTrue (is_come come t class)
+
+-- what was found to have come still is
+abbrev pub StillCome : List (Option ℕ) → List (Option ℕ) → Type 0
+StillCome old new = (t class : ℕ) → IsTrue (is_come old t class) → IsTrue (is_come new t class)
+
+-- by each cycle up to t it is found exactly which classes have come
+abbrev pub IsExactUpTo : LaunchGraph → Table → List (Option ℕ) → ℕ → Type 0
+IsExactUpTo g table come t =
+    (u class : ℕ) → u ≤ t → IsTrue (is_come come u class) ↔ HasCome g table class u

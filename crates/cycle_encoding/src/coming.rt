@@ -1,0 +1,163 @@
+// By which cycle each class has come: the word of some row of it is ready in its own cluster.
+ghost use Rattle.std.specs.Prelude.{◌≡◌, ◌+◌, ◌<◌, ◌≤◌, ◌^◌, ℕ, length, map, IfOk};
+ghost use Rattle.std.specs.List.{range_with_len};
+ghost use Rattle.launch_graph.specs.WellFormed.{IsLaunchGraph, next_class};
+ghost use Rattle.machine_table.specs.Tables.{IsTable};
+ghost use Rattle.cycle_encoding.specs.Coming as coming;
+ghost use Rattle.cycle_encoding.specs.Coming.{are_come, come_by, is_come, needs_of, AreFound, AreSound, IsExactUpTo, IsPassed, StillCome};
+
+use crate::facts::next_class;
+use crate::marks::without_constants;
+use crate::{Facts, made_operands};
+use items::{Items, NoMemory};
+use machine_table::{InstrKind, Table};
+use schedule_meaning::class_at;
+use std::alloc::Global;
+
+/// The last cycle that is asked of.
+const LAST: u32 = 24;
+
+/// For each row's number the classes that a launch of it needs from other launches.
+#[tactic(auto, using(crate::proofs::Tables::table_more))]
+pub fn needs(alloc: Global, facts: &Facts) -> Result<Vec<Items<u32>>, NoMemory>
+    requires rows { length facts.now.rows < 2 ^ 30 }
+    ensures { IfOk result (λ needs. needs.items ≡ map (needs_of facts.now) (range_with_len 0 (length facts.now.rows + 1))) }
+{
+    let mut needs = Vec::new(alloc);
+    let rows = facts.graph().rows.len() as u32;
+    for row in 0..rows + 1 {
+        needs.push(Items::from(made_operands(alloc, facts, row)?))?;
+    }
+    Ok(needs)
+}
+
+/// After how many cycles the row gives its word, if it gives one and the table names its instruction.
+fn word_latency(facts: &Facts, table: &Table, row: u32) -> Option<u32>
+    ensures { result ≡ coming.word_latency facts.now table.now row }
+{
+    match facts.instr_at(row) {
+        Some(InstrKind::StqU | InstrKind::Beq) | None => None,
+        Some(instr) => table.latency(instr),
+    }
+}
+
+/// Whether the class has come by a cycle, as far as was found.
+fn has_come(come: &[Option<u64>], cycle: u32, class: u32) -> bool
+    ensures { result ≡ is_come come.now cycle class }
+{
+    match come.get(class as usize) {
+        Some(Some(first)) => *first <= u64::from(cycle),
+        _ => false,
+    }
+}
+
+/// Whether each of the classes has.
+fn have_come(come: &[Option<u64>], cycle: u32, classes: &[u32]) -> bool
+    ensures { result ≡ are_come come.now cycle classes.now }
+{
+    for class in classes {
+        if !has_come(come, cycle, *class) {
+            return false;
+        }
+    }
+    true
+}
+
+fn earlier(first: Option<u64>, cycle: u64) -> u64
+    ensures { result ≡ coming.earlier first cycle }
+{
+    match first {
+        Some(first) => { if first < cycle { first } else { cycle } }
+        None => cycle,
+    }
+}
+
+/// The class has come by a cycle too, if the table has it.
+fn put_come(come: &mut Vec<Option<u64>>, class: u32, cycle: u64)
+    ensures { come.new.items ≡ come_by come.old.items class cycle }
+{
+    if let Some(first) = come.get_mut(class as usize) {
+        *first = Some(earlier(*first, cycle));
+    }
+}
+
+/// Finds when the row's word comes, if the row can start at the cycle.
+fn pass_row(
+    come: &mut Vec<Option<u64>>,
+    facts: &Facts,
+    table: &Table,
+    needs: &[u32],
+    row: u32,
+    cycle: u32,
+)
+    requires needs { needs.now ≡ needs_of facts.now row }
+    requires cycle { cycle ≤ 24 }
+    requires table { IsTable table.now }
+    requires long { length come.old.items ≡ next_class facts.now.rows }
+    requires sound { AreSound facts.now table.now come.old.items }
+    requires found { AreFound facts.now table.now come.old.items cycle }
+    ensures long { length come.new.items ≡ length come.old.items }
+    ensures sound { AreSound facts.now table.now come.new.items }
+    ensures still { StillCome come.old.items come.new.items }
+    ensures passed { IsPassed facts.now table.now come.new.items cycle row }
+{
+    let Some(latency) = word_latency(facts, table, row) else {
+        return;
+    };
+    if have_come(come, cycle, needs) {
+        let class = class_at(facts.graph(), row);
+        put_come(come, class, u64::from(cycle) + u64::from(latency));
+    }
+}
+
+/// Finds what comes of all rows that can start at the cycle.
+fn pass_rows(
+    come: &mut Vec<Option<u64>>,
+    facts: &Facts,
+    table: &Table,
+    needs: &[Items<u32>],
+    cycle: u32,
+)
+    requires needs { needs.now ≡ map (needs_of facts.now) (range_with_len 0 (length facts.now.rows + 1)) }
+    requires cycle { cycle ≤ 24 }
+    requires table { IsTable table.now }
+    requires rows { length facts.now.rows < 2 ^ 30 }
+    requires long { length come.old.items ≡ next_class facts.now.rows }
+    requires sound { AreSound facts.now table.now come.old.items }
+    requires found { AreFound facts.now table.now come.old.items cycle }
+    ensures long { length come.new.items ≡ length come.old.items }
+    ensures sound { AreSound facts.now table.now come.new.items }
+    ensures still { StillCome come.old.items come.new.items }
+    ensures passed { (row : ℕ) → IsPassed facts.now table.now come.new.items cycle row }
+{
+    let rows = facts.graph().rows.len() as u32;
+    for row in 0..rows {
+        pass_row(
+            come,
+            facts,
+            table,
+            needs[row as usize].as_slice(),
+            row,
+            cycle,
+        );
+    }
+}
+
+/// For each class the first cycle by which it has come, where that is one up to 24 or soon behind it.
+pub fn come_cycles(
+    alloc: Global,
+    facts: &Facts,
+    table: &Table,
+    needs: &[Items<u32>],
+) -> Result<Vec<Option<u64>>, NoMemory>
+    requires needs { needs.now ≡ map (needs_of facts.now) (range_with_len 0 (length facts.now.rows + 1)) }
+    requires table { IsTable table.now }
+    requires graph { IsLaunchGraph facts.now }
+    ensures { IfOk result (λ come. IsExactUpTo facts.now table.now come.items 24) }
+{
+    let mut come = without_constants(alloc, next_class(facts.graph()))?;
+    for cycle in 0..LAST + 1 {
+        pass_rows(&mut come, facts, table, needs, cycle);
+    }
+    Ok(come)
+}
