@@ -1,12 +1,11 @@
 -- Lists of which some are chosen: what a loop that pushes some of them keeps, and what it lists.
-use Rattle.std.proofs.Common.{◌≡◌, ℕ, zero, suc, ◌<◌, ◌+◌, List, [], ◌∷◌, ◌++◌, map, length, take, get_or, refl, sym, ap, ◌∙◌, subst, subst₂, arith}
+use Rattle.std.proofs.Common.{◌≡◌, ℕ, zero, suc, ◌<◌, ◌≤◌, ◌+◌, List, [], ◌∷◌, ◌++◌, map, length, take, drop, get_or, refl, sym, ap, ◌∙◌, subst, subst₂, arith}
 use Rattle.std.specs.Prelude.{All, AllPairs, Contains}
-use Rattle.std.proofs.lemmas.List.{get_or-map, length-map, get_or_default, take_more, map-append}
-use Rattle.std.proofs.lemmas.List.Elements.{Contains-get_or}
+use Rattle.std.proofs.lemmas.List.{get_or-map, length-map, length-append, get_or_default, get_or_append_left, take_more, take_all, take-append-drop, map-append}
+use Rattle.std.proofs.lemmas.List.Elements.{All-push, Contains-get_or}
 use Rattle.std.proofs.lemmas.List.Kept.{AllPairs-cons}
-use Rattle.pattern_match.specs.Bindings.{Binding, settled}
 use Rattle.pattern_match.specs.Found.{classes_in}
-use Rattle.pattern_match.specs.Listing.{Lists, Chosen, nothing, taken, left_out}
+use Rattle.pattern_match.specs.Listing.{Lists, ListsUpTo, Chosen, nothing, taken, left_out}
 use Rattle.pattern_match.specs.declared.found.Match.{Match}
 
 module _ {X Y : Type 0} (R : X → Y → Type 0) where
@@ -71,28 +70,62 @@ module _ {X : Type 0} (P Q : X → Type 0) where
     once = chosen_once c h.once;
   }
 
--- ---- in the shapes of the loops over what is known of variables
+  -- ---- the first part of a list
 
-module _ (bounds : List Binding) (i : ℕ) (b bound : Binding) (classes : List ℕ) (l : i < length bounds) (is : b ≡ get_or bounds i b) (e : bound ≡ b) (known_is : classes ≡ settled bound) where
-  classes_are : classes ≡ settled b
-  classes_are = known_is ∙ ap settled e
+  pub first_lists : (xs ys : List X) → Lists P (xs ++ ys) → Lists (λ x. P x × Contains xs x) xs
+  first_lists xs ys h = record {
+    each = λ k d l. (subst P (get_or_append_left xs ys d k l) (h.each k d (omega (arith, l, length-append xs ys))), Contains-get_or xs k d l);
+    all = λ x q. q.1;
+    once = λ i j d a l e. h.once i j d a (omega (arith, l, length-append xs ys)) (get_or_append_left xs ys d i (omega (arith, a, l)) ∙ e ∙ sym (get_or_append_left xs ys d j l));
+  }
 
-  one_more : map settled (take (i + 1) bounds) ≡ map settled (take i bounds) ++ classes ∷ []
-  one_more =
-      ap (map settled) (take_more bounds i b l ∙ ap (λ x. take i bounds ++ x ∷ []) (sym is))
-      ∙ map-append settled (take i bounds) (b ∷ []) ∙ ap (λ x. map settled (take i bounds) ++ x ∷ []) (sym classes_are)
+-- ---- in the shapes of the loops over matches
+
+module _ (items : List Match) (i : ℕ) (m : Match) (l : i < length items) (is : m ≡ get_or items i m) where
+  one_more : map classes_in (take (i + 1) items) ≡ map classes_in (take i items) ++ classes_in m ∷ []
+  one_more = ap (map classes_in) (take_more items i m l ∙ ap (λ x. take i items ++ x ∷ []) (sym is)) ∙ map-append classes_in (take i items) (m ∷ [])
 
   -- what each item of the list has
-  pub has_at : (P : List ℕ → Type 0) → All P (map settled bounds) → P classes
-  has_at P h =
-      let at : get_or (map settled bounds) i [] ≡ classes = get_or-map settled bounds i b [] l ∙ ap settled (sym is) ∙ sym classes_are in
-      subst P at (h i [] (omega (arith, l, length-map bounds settled)))
+  pub classes_at : (P : List ℕ → Type 0) → All P (map classes_in items) → P (classes_in m)
+  classes_at P h =
+      let at : get_or (map classes_in items) i [] ≡ classes_in m = get_or-map classes_in items i m [] l ∙ ap classes_in (sym is) in
+      subst P at (h i [] (omega (arith, l, length-map items classes_in)))
 
-  module _ (Q : List ℕ → Type 0) (before : List Match) (h : Chosen (AsItself Q Q) (map settled (take i bounds)) (map classes_in before)) where
-    pub loop_takes : (after : List Match) (m : Match) → after ≡ before ++ m ∷ [] → classes_in m ≡ classes → Q classes → Chosen (AsItself Q Q) (map settled (take (i + 1) bounds)) (map classes_in after)
-    loop_takes after m a f q =
-        let pushed : map classes_in after ≡ map classes_in before ++ classes ∷ [] = ap (map classes_in) a ∙ map-append classes_in before (m ∷ []) ∙ ap (λ x. map classes_in before ++ x ∷ []) f in
-        subst₂ (Chosen (AsItself Q Q)) (sym one_more) (sym pushed) (chosen_takes (AsItself Q Q) (map settled (take i bounds)) (map classes_in before) classes classes h (q, refl))
+  pub match_at : (P : Match → Type 0) → All P items → P m
+  match_at P h = subst P (sym is) (h i m l)
 
-    pub loop_skips : (Q classes → ⊥) → Chosen (AsItself Q Q) (map settled (take (i + 1) bounds)) (map classes_in before)
-    loop_skips n = subst (λ xs. Chosen (AsItself Q Q) xs (map classes_in before)) (sym one_more) (chosen_skips (AsItself Q Q) (map settled (take i bounds)) (map classes_in before) classes h (λ y r. n r.0))
+  module _ (Q : List ℕ → Type 0) (before : List Match) (h : Chosen (AsItself Q Q) (map classes_in (take i items)) (map classes_in before)) where
+    pub loop_takes : (after : List Match) (x : Match) → after ≡ before ++ x ∷ [] → classes_in x ≡ classes_in m → Q (classes_in m) → Chosen (AsItself Q Q) (map classes_in (take (i + 1) items)) (map classes_in after)
+    loop_takes after x a f q =
+        let pushed : map classes_in after ≡ map classes_in before ++ classes_in m ∷ [] = ap (map classes_in) a ∙ map-append classes_in before (x ∷ []) ∙ ap (λ y. map classes_in before ++ y ∷ []) f in
+        subst₂ (Chosen (AsItself Q Q)) (sym one_more) (sym pushed) (chosen_takes (AsItself Q Q) (map classes_in (take i items)) (map classes_in before) (classes_in m) (classes_in m) h (q, refl))
+
+    pub loop_skips : (Q (classes_in m) → ⊥) → Chosen (AsItself Q Q) (map classes_in (take (i + 1) items)) (map classes_in before)
+    loop_skips n = subst (λ xs. Chosen (AsItself Q Q) xs (map classes_in before)) (sym one_more) (chosen_skips (AsItself Q Q) (map classes_in (take i items)) (map classes_in before) (classes_in m) h (λ y r. n r.0))
+
+-- one match more, of which R holds
+pub each_more : (R : Match → Type 0) (before after : List Match) (x : Match) → All R before → after ≡ before ++ x ∷ [] → R x → All R after
+each_more R before after x h a r = subst (All R) (sym a) (All-push R before x h r)
+
+-- what is chosen of a list of matches
+module _ (P Q : List ℕ → Type 0) (items found : List Match) (h : Lists P (map classes_in items)) where
+  pub whole : (i : ℕ) → length items ≤ i → Chosen (AsItself Q Q) (map classes_in (take i items)) (map classes_in found) → Lists (λ x. P x × Q x) (map classes_in found)
+  whole i l c = chosen_lists P Q (map classes_in items) (map classes_in found) h (subst (λ xs. Chosen (AsItself Q Q) xs (map classes_in found)) (ap (map classes_in) (take_all i items l)) c)
+
+  -- of its first items, more than `most`
+  pub part : (R : List ℕ → Type 0) → ((x : List ℕ) → P x × Q x → R x) → (i most : ℕ) → most < length found → Chosen (AsItself Q Q) (map classes_in (take i items)) (map classes_in found) → ListsUpTo R most (map classes_in found)
+  part R into i most l c =
+      let all : map classes_in items ≡ map classes_in (take i items) ++ map classes_in (drop i items) = sym (ap (map classes_in) (take-append-drop i items)) ∙ map-append classes_in (take i items) (drop i items) in
+      let first = first_lists P P (map classes_in (take i items)) (map classes_in (drop i items)) (subst (Lists P) all h) in
+      let k = chosen_lists (λ x. P x × Contains (map classes_in (take i items)) x) Q (map classes_in (take i items)) (map classes_in found) first c in
+      record {
+        each = λ j d m. let e = k.each j d m in into (get_or (map classes_in found) j d) (e.0.0, e.1);
+        all = λ f. absurd (omega (arith, l, f, length-map found classes_in));
+        once = k.once;
+      }
+
+pub up_to : {X : Type 0} (P : X → Type 0) (most : ℕ) (xs : List X) → Lists P xs → ListsUpTo P most xs
+up_to P most xs h = record { each = h.each; all = λ l. h.all; once = h.once }
+
+pub all_up_to : {X : Type 0} (P : X → Type 0) (most : ℕ) (xs : List X) → length xs ≤ most → ListsUpTo P most xs → Lists P xs
+all_up_to P most xs l h = record { each = h.each; all = h.all l; once = h.once }

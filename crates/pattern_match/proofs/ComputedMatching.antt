@@ -1,7 +1,7 @@
 -- Matches of computed rules, by the placements of their left sides. What `axiom_base` promises of these rules is given
 -- here as arguments.
-use Rattle.std.proofs.Common.{◌≡◌, ℕ, ◌+◌, ◌<◌, List, length, get_or, drop, replicate, refl, sym, ap, ◌∙◌, subst, arith}
-use Rattle.std.specs.Prelude.{Contains, ◌↔◌, IsTrue, Bool, true, false, not}
+use Rattle.std.proofs.Common.{◌≡◌, ℕ, ◌+◌, ◌<◌, List, Option, Some, None, length, get_or, drop, replicate, refl, sym, ap, ◌∙◌, subst, arith}
+use Rattle.std.specs.Prelude.{Contains, ◌↔◌, true, false, is_some, MatchOption}
 use Rattle.std.proofs.lemmas.List.{get_or-drop, length-drop, length-replicate}
 use Rattle.word_ops.specs.Words.{IsWord}
 use Rattle.word_ops.specs.declared.sorts.Op.{Op}
@@ -14,9 +14,11 @@ use Rattle.axiom_base.specs.Computed.{calc_rewrite, calc_variables, calc_left, c
 use Rattle.axiom_base.specs.Schemes.{Scheme, computed, IsOf, itself, calculated, folded}
 use Rattle.axiom_base.specs.declared.kinds.Calc.{Calc}
 use Rattle.egraph.specs.Graph.{Graph, IsGraph, HasConstant}
-use Rattle.pattern_match.specs.Classes.{HaveOneClass, CanFindClass}
-use Rattle.pattern_match.specs.Bindings.{IsPlacement, CanGive, AreGiven, AreUnmet}
-use Rattle.pattern_match.specs.Matches.{IsMatch, IsUnmet, IsMatchOf, IsUnmetOf}
+use Rattle.pattern_match.specs.Classes.{IsClass, CanFindClass}
+use Rattle.pattern_match.specs.Bindings.{IsPlacement, CanGive, AreGiven, AreUnmet, IsUnmetGiven}
+use Rattle.pattern_match.specs.Matches.{IsMatch, IsUnmet, IsMatchOf, IsUnmetOf, IsUnmetCalc}
+use Rattle.pattern_match.specs.declared.found.Match.{Match}
+use Rattle.pattern_match.proofs.Walking.{one_class}
 use Rattle.pattern_match.proofs.Matching.{sort_below, placed_present, class_has, is_unmet, unmet_differs}
 use Rattle.pattern_match.proofs.ConstantsOf.{zip_length, zip_at, zip_from, one_list}
 
@@ -135,22 +137,38 @@ module _ (one : (kind : Calc) (cs : List ℕ) (e other : ℕ) → IsCalc kind cs
       let same = one_list g is (drop (first_constant kind) cs) b.words a.words b.constants a.constants in
       one kind a.words e other a.calc (subst (λ ws. IsCalc kind ws other) same b.calc)
 
-  pub unmet_exactly : (e : ℕ) (met : Bool) → AreGiven g kind cs e → (IsTrue met ↔ HaveOneClass g cs (calc_left kind) (calc_right kind e)) → (met ≡ false → AreUnmet g kind cs) × (AreUnmet g kind cs → met ≡ true → ⊥)
-  unmet_exactly e met a exact = (
-    λ f. record { e = e; given = a; unmet = λ h. let t = exact.1 h in absurd (cc) },
-    λ u t.
-        (let same = given_once u.e e u.given a in
-        u.unmet (subst (λ x. HaveOneClass g cs (calc_left kind) (calc_right kind x)) (sym same) (exact.0 t))),
-  )
+  -- no constant makes an unmet right side, where the one that is given makes none
+  pub met_given : (m : Match) → m.classes ≡ cs → (e : ℕ) → AreGiven g kind cs e → IsClass g cs (calc_right kind e) m.class → (other : ℕ) → IsUnmetGiven g kind m other → ⊥
+  met_given m is_cs e a has other u =
+      let same : other ≡ e = given_once other e (subst (λ ds. AreGiven g kind ds other) is_cs u.given) a in
+      u.unmet (subst (λ x. IsClass g m.classes (calc_right kind x) m.class) (sym same) (subst (λ ds. IsClass g ds (calc_right kind e) m.class) (sym is_cs) has))
 
-  pub unmet_test : (e : ℕ) (met : Bool) → AreGiven g kind cs e → (IsTrue met ↔ HaveOneClass g cs (calc_left kind) (calc_right kind e)) → IsTrue (not met) ↔ AreUnmet g kind cs
-  unmet_test e true a exact = (λ t. absurd (cc), λ u. absurd ((unmet_exactly e true a exact).1 u refl))
-  unmet_test e false a exact = (λ t. (unmet_exactly e false a exact).0 refl, λ u. refl)
+-- by the class of the left side
+module _ (g : Graph Op) (is : IsGraph op_signature g) (kind : Calc) (m : Match) (left : IsClass g m.classes (calc_left kind) m.class) where
+  pub unmet_if : (e : ℕ) → IsUnmetGiven g kind m e → AreUnmet g kind m.classes
+  unmet_if e u = record { e = e; given = u.given; unmet = λ h. u.unmet (subst (IsClass g m.classes (calc_right kind e)) (one_class g is.distinct m.classes h.first left) h.second) }
 
--- nothing is given
-module _ (g : Graph Op) (kind : Calc) (cs : List ℕ) (none : (e : ℕ) → AreGiven g kind cs e → ⊥) where
-  pub not_given : IsTrue false ↔ ((e : ℕ) × AreGiven g kind cs e)
-  not_given = (λ t. absurd (cc), λ a. absurd (none a.0 a.1))
+  pub met_if : ((e : ℕ) → IsUnmetGiven g kind m e → ⊥) → AreUnmet g kind m.classes → ⊥
+  met_if none u = none u.e (record { given = u.given; unmet = λ k. u.unmet (record { class = m.class; first = left; second = k }) })
 
-  pub not_unmet : IsTrue false ↔ AreUnmet g kind cs
-  not_unmet = (λ t. absurd (cc), λ u. absurd (none u.e u.given))
+  pub unmet_calc : (usable : AreWellFormed) (last : EndInConstants) (numbers : AreNumbered) → IsPlacement g (calc_left kind) (count_for kind) m.classes → (e : ℕ) → IsUnmetGiven g kind m e → (x : Match) → x ≡ record { classes = m.classes; class = m.class; given = Some e } → IsUnmetCalc g kind x
+  unmet_calc usable last numbers h e u x same =
+      let a = u.given in
+      let k = given_match usable last g is kind m.classes numbers h e a in
+      subst (IsUnmetCalc g kind) (sym same) (record {
+        e = e;
+        given_is = refl;
+        rule = calc_rewrite kind a.words e;
+        of = calculated kind a.words e a.calc;
+        right_is = refl;
+        unmet = record { match = record { count = k.count; present = k.present; left = left; constants = k.constants }; right = u.unmet };
+      })
+
+-- an optional constant, told by whether it is there
+pub some_if : (A : Type 0) (B : ℕ → Type 0) (o : Option ℕ) → MatchOption o A B → is_some o ≡ true → (e : ℕ) × (o ≡ Some e) × B e
+some_if A B (Some e) h t = (e, refl, h)
+some_if A B None h t = absurd (cc)
+
+pub none_if : (A : Type 0) (B : ℕ → Type 0) (o : Option ℕ) → MatchOption o A B → is_some o ≡ false → A
+none_if A B (Some e) h t = absurd (cc)
+none_if A B None h t = h

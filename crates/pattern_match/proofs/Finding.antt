@@ -6,7 +6,7 @@ use Rattle.std.proofs.lemmas.List.Elements.{All-append, Contains-append_left, Co
 use Rattle.std.proofs.lemmas.Bool.Decides.{eqb_tells}
 use Rattle.pattern_match.specs.Bindings.{Binding, known, Agrees, Covered, Apart, Finds, IsBound, AreBound, Keeps}
 
-pairs_append : {X : Type 0} (R : X → X → Type 0) (xs ys : List X) → AllPairs R xs → AllPairs R ys → ((x y : X) → Contains xs x → Contains ys y → R x y) → AllPairs R (xs ++ ys)
+pub pairs_append : {X : Type 0} (R : X → X → Type 0) (xs ys : List X) → AllPairs R xs → AllPairs R ys → ((x y : X) → Contains xs x → Contains ys y → R x y) → AllPairs R (xs ++ ys)
 pairs_append R [] ys p q r = q
 pairs_append R (x ∷ xs) ys p q r =
     AllPairs-cons R x (xs ++ ys)

@@ -1,6 +1,6 @@
 -- Matches of rules, by the placements of their left sides.
 use Rattle.std.proofs.Common.{◌≡◌, ℕ, suc, ◌<◌, ◌+◌, List, length, get_or, refl, sym, subst, inl, inr, arith}
-use Rattle.std.specs.Prelude.{All, AllPairs, Contains, IsTrue, Bool, true, false, ◌↔◌}
+use Rattle.std.specs.Prelude.{All, AllPairs, Contains}
 use Rattle.std.proofs.lemmas.List.{get_or_default}
 use Rattle.std.proofs.lemmas.List.Elements.{All-contains}
 use Rattle.word_ops.specs.declared.sorts.Op.{Op}
@@ -111,11 +111,17 @@ module _ (g : Graph Op) (is : IsGraph op_signature g) (r : Rewrite) (rule : IsRu
 pub rule_below : (r : Rewrite) → IsRule r → AreBelow (length r.variables) r.left
 rule_below r rule = sort_below r.variables rule.sides.0 r.left rule.sides.1
 
--- ---- in the shapes of the loops
+-- ---- by the class of the left side
 
-module _ (g : Graph Op) (t u t2 u2 : Tree Op) (cs cs2 : List ℕ) (one : Bool) (ec : cs2 ≡ cs) (et : t2 ≡ t) (eu : u2 ≡ u) (exact : IsTrue one ↔ HaveOneClass g cs2 t2 u2) where
-  pub differ_if_not : one ≡ false → Differ g t u cs
-  differ_if_not f = λ h. (let k : HaveOneClass g cs2 t2 u2 = rw (ec, et, eu) h in let q = exact.1 k in absurd (cc))
+module _ (g : Graph Op) (is : IsGraph op_signature g) (t u : Tree Op) (cs : List ℕ) (c : ℕ) (left : IsClass g cs t c) where
+  pub differ_if : (IsClass g cs u c → ⊥) → Differ g t u cs
+  differ_if never h = never (subst (IsClass g cs u) (one_class g is.distinct cs h.first left) h.second)
 
-  pub one_if : one ≡ true → HaveOneClass g cs t u
-  one_if f = let k : HaveOneClass g cs2 t2 u2 = exact.0 f in rw (← ec, ← et, ← eu) k
+  pub one_if : IsClass g cs u c → HaveOneClass g cs t u
+  one_if k = record { class = c; first = left; second = k }
+
+-- a match with its class
+pub unmet_with : (g : Graph Op) (is : IsGraph op_signature g) (r : Rewrite) (rule : IsRule r) (cs : List ℕ) (c : ℕ) → IsPlacement g r.left (length r.variables) cs → IsClass g cs r.left c → (IsClass g cs r.right c → ⊥) → IsUnmet g r cs c
+unmet_with g is r rule cs c h left never =
+    let m = rule_match g is r rule cs h in
+    record { match = record { count = m.count; present = m.present; left = left; constants = m.constants }; right = never }

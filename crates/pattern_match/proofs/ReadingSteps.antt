@@ -13,7 +13,7 @@ use Rattle.word_terms.specs.View.{tree_of, trees_of}
 use Rattle.word_terms.specs.declared.term.Term.{Term}
 use Rattle.word_terms.specs.declared.term.Term.TheVariants.{Var, App}
 use Rattle.egraph.specs.Graph.{Graph, HasClass, IsGraph, IsPresent, HasRow, LacksRow, AreMade, read_through}
-use Rattle.pattern_match.specs.Classes.{IsClass, AreClasses, at_variable, at_row, no_classes, classes, CanFindClass, HaveOneClass}
+use Rattle.pattern_match.specs.Classes.{IsClass, AreClasses, at_variable, at_row, no_classes, classes, CanFindClass}
 use Rattle.pattern_match.specs.Bindings.{nodes}
 use Rattle.pattern_match.proofs.Walking.{one_class, one_classes, are_push, below_at, variable_is, application_is, operands_smaller, in_trees, at_tree, one_more_tree, operand_smaller}
 use Rattle.pattern_match.proofs.Matching.{class_has}
@@ -86,20 +86,11 @@ module _ (g : Graph Op) (places : List ℕ) where
     read_exactly (Some c) has =
         subst (λ t. IsClass g places t c) (sym (tree_is p op v items is e)) (at_row read (subst (λ xs. HasRow g.rows op xs c) present_already has))
 
--- ---- two patterns
+-- ---- a class
 
-module _ (g : Graph Op) (places : List ℕ) (t u : Tree Op) where
-  pub no_first : ((c : ℕ) → IsClass g places t c → ⊥) → HaveOneClass g places t u → ⊥
-  no_first h one = h one.class one.first
-
-  pub no_second : ((c : ℕ) → IsClass g places u c → ⊥) → HaveOneClass g places t u → ⊥
-  no_second h one = h one.class one.second
-
-  pub same_class : IsGraph op_signature g → (c d : ℕ) → IsClass g places t c → IsClass g places u d → HaveOneClass g places t u → c ≡ d
-  same_class is c d h k one = one_class g is.distinct places h one.first ∙ one_class g is.distinct places one.second k
-
-  pub one_class_test : IsGraph op_signature g → (c d : ℕ) → IsClass g places t c → IsClass g places u d → (IsTrue (nat_eq c d) → HaveOneClass g places t u) × (HaveOneClass g places t u → IsTrue (nat_eq c d))
-  one_class_test is c d h k = (
-    λ q. (let e : c ≡ d = grind (arith, nat_tests, q) in record { class = c; first = h; second = subst (IsClass g places u) (sym e) k }),
-    λ one. (let e : c ≡ d = same_class is c d h k one in eq-eqb c d e),
+module _ (g : Graph Op) (places : List ℕ) (t : Tree Op) where
+  pub class_test : IsGraph op_signature g → (c d : ℕ) → IsClass g places t c → (IsTrue (nat_eq c d) → IsClass g places t d) × (IsClass g places t d → IsTrue (nat_eq c d))
+  class_test is c d h = (
+    λ q. (let e : c ≡ d = grind (arith, nat_tests, q) in subst (IsClass g places t) e h),
+    λ k. (let e : c ≡ d = one_class g is.distinct places h k in eq-eqb c d e),
   )

@@ -1,5 +1,4 @@
--- What the walk over a pattern knows of its variables' classes, and what its steps find. No public clause rests on
--- these. From this project.
+-- What the walk over a pattern knows of its variables' classes, and what its steps find. From this project.
 use Rattle.std.specs.Prelude.{◌≡◌, ℕ, ◌+◌, ◌<◌, ◌⊎◌, List, length, get_or, drop, map, unwrap_or, Option, Some, None, All, AllPairs, Contains}
 use Rattle.std.specs.List.{AllZip}
 use Rattle.word_ops.specs.declared.sorts.Op.{Op}
@@ -12,6 +11,9 @@ use Rattle.axiom_base.specs.Computed.{first_constant, calc_left, calc_right}
 use Rattle.axiom_base.specs.declared.kinds.Calc.{Calc}
 use Rattle.egraph.specs.Graph.{Graph, IsGraph, HasClass, HasConstant}
 use Rattle.pattern_match.specs.Classes.{IsClass, AreClasses, HaveOneClass}
+use Rattle.pattern_match.specs.Found.{classes_in}
+use Rattle.pattern_match.specs.Listing.{Lists}
+use Rattle.pattern_match.specs.declared.found.Match.{Match}
 
 -- for each variable, by its number, the class that is known of it, if one is
 abbrev pub Binding : Type 0
@@ -99,17 +101,22 @@ abbrev mutual
   nodes_all (more t ts) = nodes t + nodes_all ts
 
 -- the classes, as many as `count`, give the pattern a class of the graph, which is below `end`
-pub record IsPlaced (g : Graph Op) (p : Tree Op) (count end : ℕ) (cs : List ℕ) : Type 0 where
+pub record IsPlacedByClass (g : Graph Op) (p : Tree Op) (count end : ℕ) (cs : List ℕ) : Type 0 where
   pub length_is : length cs ≡ count
   pub class : ℕ
   pub before : class < end
   pub has : HasClass g class
   pub left : IsClass g cs p class
 
-pub record WalkedBefore (g : Graph Op) (p : Tree Op) (count end : ℕ) (out : List Binding) : Type 0 where
-  pub finds : Finds (IsPlaced g p count end) out
-  pub bound : All (λ b. (v : ℕ) → Occurs v p → IsBound b v) out
-  pub counts : All (λ b. length b ≡ count) out
+-- the classes, as many as `count`, give the operands those of a row of the operator before a place
+pub record IsPlacedByRow (g : Graph Op) (op : Op) (ps : Trees Op) (count end : ℕ) (cs : List ℕ) : Type 0 where
+  pub length_is : length cs ≡ count
+  pub at : ℕ
+  pub before : at < end
+  pub row : Row Op
+  pub there : (d : Row Op) → get_or g.rows at d ≡ row
+  pub op_is : row.op ≡ op
+  pub operands : AreClasses g cs ps row.operands
 
 -- the classes, as many as `count`, give the pattern a class of the graph
 pub record IsPlacement (g : Graph Op) (p : Tree Op) (count : ℕ) (cs : List ℕ) : Type 0 where
@@ -134,6 +141,11 @@ pub record AreGiven (g : Graph Op) (kind : Calc) (classes : List ℕ) (e : ℕ) 
   pub constants : HaveConstants g (drop (first_constant kind) classes) words
   pub calc : IsCalc kind words e
 
+-- they give the constant e, and the right side that is made with it hasn't the match's class
+pub record IsUnmetGiven (g : Graph Op) (kind : Calc) (m : Match) (e : ℕ) : Type 0 where
+  pub given : AreGiven g kind m.classes e
+  pub unmet : ¬ IsClass g m.classes (calc_right kind e) m.class
+
 -- they give a constant under which the rule's right side hasn't the class of its left
 pub record AreUnmet (g : Graph Op) (kind : Calc) (classes : List ℕ) : Type 0 where
   pub e : ℕ
@@ -147,3 +159,12 @@ pub record IsUnknown (count : ℕ) (b : Binding) : Type 0 where
 
 abbrev pub settled : Binding → List ℕ
 settled b = map (λ o. unwrap_or o 0) b
+
+-- what is known of the variables, all of them, as a match of this class
+abbrev pub settled_match : ℕ → Binding → Match
+settled_match class b = record { classes = settled b; class = class; given = None }
+
+-- the matches have the lists of classes with Q, each once, and each has the pattern's class under its own
+pub record AreMatches (g : Graph Op) (p : Tree Op) (Q : List ℕ → Type 0) (out : List Match) : Type 0 where
+  pub lists : Lists Q (map classes_in out)
+  pub classes : All (λ (m : Match). IsClass g m.classes p m.class) out

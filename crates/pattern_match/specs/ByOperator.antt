@@ -1,6 +1,6 @@
--- The rows of a graph by operator and class, and the tables that give them one after another. No public clause rests on
--- these. From this project.
-use Rattle.std.specs.Prelude.{◌≡◌, ℕ, ◌+◌, ◌<◌, ◌≤◌, Bool, List, Option, Some, None, slice_get, slice_index_or, ◌==◌, ◌&&◌}
+-- The rows of a graph by operator, or by operator and class, and the tables that give them one after another. From this
+-- project.
+use Rattle.std.specs.Prelude.{◌≡◌, ℕ, ◌+◌, ◌<◌, ◌≤◌, Bool, true, false, List, Option, Some, None, slice_get, slice_index_or, ◌==◌, ◌&&◌}
 use Rattle.std.specs.Map.{lookup}
 use Rattle.word_ops.specs.declared.sorts.Op.{Op}
 use Rattle.word_terms.specs.Keys.{key_of}
@@ -8,18 +8,25 @@ use Rattle.egraph.specs.declared.rows.Row.{Row}
 use Rattle.egraph.specs.Graph.{Graph}
 use Rattle.pattern_match.specs.declared.row_lists.ListKey.{ListKey}
 
--- the row at the place is of the operator and the class
-pub record IsRowOf (g : Graph Op) (op : Op) (class at : ℕ) : Type 0 where
+-- what tables go by beside the operator: the class, or nothing
+abbrev pub class_part : Bool → ℕ → ℕ
+class_part true class = class
+class_part false class = 0
+
+-- the row at the place is of the operator and, where tables go by classes, of the class
+pub record IsRowOf (by_class : Bool) (g : Graph Op) (op : Op) (class at : ℕ) : Type 0 where
   pub row : Row Op
   pub there : slice_get g.rows at ≡ Some row
   pub op_is : row.op ≡ op
-  pub class_is : row.class ≡ class
+  pub class_is : class_part by_class row.class ≡ class
 
--- the first place from `from` on whose row is of the operator and the class
-abbrev pub IsNext : Graph Op → Op → ℕ → ℕ → Option ℕ → Type 0
-IsNext g op class from None = (at : ℕ) → from ≤ at → ¬ IsRowOf g op class at
-IsNext g op class from (Some next) =
-    (from ≤ next) × IsRowOf g op class next × ((at : ℕ) → from ≤ at → at < next → ¬ IsRowOf g op class at)
+-- the first place from `from` on with such a row
+abbrev pub IsNextRow : Bool → Graph Op → Op → ℕ → ℕ → Option ℕ → Type 0
+IsNextRow by_class g op class from None = (at : ℕ) → from ≤ at → ¬ IsRowOf by_class g op class at
+IsNextRow by_class g op class from (Some next) =
+    (from ≤ next)
+    × IsRowOf by_class g op class next
+    × ((at : ℕ) → from ≤ at → at < next → ¬ IsRowOf by_class g op class at)
 
 abbrev pub list_key : Op → ℕ → ListKey
 list_key op class = record { kind = (key_of op).0; number = (key_of op).1; class = class }
@@ -33,10 +40,11 @@ abbrev pub first_in : List (ListKey × ℕ) → ListKey → Option ℕ
 first_in firsts key = lookup (same_list key) firsts
 
 -- the tables give the rows from a place on
-pub record AreLists (g : Graph Op) (from : ℕ) (firsts : List (ListKey × ℕ)) (nexts : List (Option ℕ)) : Type 0 where
-  pub firsts_are : (op : Op) (class : ℕ) → IsNext g op class from (first_in firsts (list_key op class))
+pub record AreLists (by_class : Bool) (g : Graph Op) (from : ℕ) (firsts : List (ListKey × ℕ)) (nexts : List (Option ℕ)) :
+    Type 0 where
+  pub firsts_are : (op : Op) (class : ℕ) → IsNextRow by_class g op class from (first_in firsts (list_key op class))
   pub nexts_are :
       (at : ℕ) (row : Row Op) →
       from ≤ at →
       slice_get g.rows at ≡ Some row →
-      IsNext g row.op row.class (at + 1) (slice_index_or nexts at None)
+      IsNextRow by_class g row.op (class_part by_class row.class) (at + 1) (slice_index_or nexts at None)

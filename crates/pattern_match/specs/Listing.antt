@@ -1,10 +1,16 @@
 -- Lists that have each thing of a kind once, and counts by them. From this project.
-use Rattle.std.specs.Prelude.{◌≡◌, ℕ, List, [], ◌∷◌, length, All, AllPairs, Contains}
+use Rattle.std.specs.Prelude.{◌≡◌, ℕ, ◌≤◌, List, [], ◌∷◌, length, All, AllPairs, Contains}
 
 -- the list has each x with P, once, and nothing else
 pub record Lists {X : Type 0} (P : X → Type 0) (xs : List X) : Type 0 where
   pub each : All P xs
   pub all : (x : X) → P x → Contains xs x
+  pub once : AllPairs (λ x y. ¬ (x ≡ y)) xs
+
+-- the list has things with P, each once, and all of them where it isn't longer than `most`
+pub record ListsUpTo {X : Type 0} (P : X → Type 0) (most : ℕ) (xs : List X) : Type 0 where
+  pub each : All P xs
+  pub all : length xs ≤ most → (x : X) → P x → Contains xs x
   pub once : AllPairs (λ x y. ¬ (x ≡ y)) xs
 
 -- there are n of them

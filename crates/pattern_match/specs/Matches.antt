@@ -1,18 +1,21 @@
 -- Matches of rules in an E-graph. From Denali (PLDI 2002): a match is an instance of a rule's left side that the graph
 -- holds.
-use Rattle.std.specs.Prelude.{◌≡◌, ℕ, ◌+◌, ◌*◌, List, [], ◌∷◌, length, get_or, All, Contains}
+use Rattle.std.specs.Prelude.{◌≡◌, ℕ, ◌+◌, ◌*◌, List, [], ◌∷◌, length, get_or, Some, All, Contains}
 use Rattle.word_ops.specs.declared.operators.WordOp.{WordOp}
 use Rattle.word_ops.specs.declared.sorts.Op.{Op}
 use Rattle.word_ops.specs.declared.sorts.Op.TheVariants.{Word}
 use Rattle.word_terms.specs.Keys.{op_signature}
 use Rattle.axiom_base.specs.Rewrites.{Rewrite}
 use Rattle.axiom_base.specs.Equations.{constant}
-use Rattle.axiom_base.specs.Schemes.{Scheme, folding, IsOf, weight}
+use Rattle.axiom_base.specs.Schemes.{Scheme, computed, folding, IsOf, weight}
+use Rattle.axiom_base.specs.Computed.{calc_right}
+use Rattle.axiom_base.specs.declared.kinds.Calc.{Calc}
 use Rattle.egraph.specs.Graph.{Graph, HasClass, HasConstant}
 use Rattle.egraph.specs.declared.rows.Row.{Row}
 use Rattle.pattern_match.specs.Classes.{IsClass}
 use Rattle.pattern_match.specs.Listing.{Count}
 use Rattle.pattern_match.specs.declared.found.Fold.{Fold}
+use Rattle.pattern_match.specs.declared.found.Match.{Match}
 
 -- classes for the rule's variables, in the order of their numbers, under which its left side has the class; one that
 -- stands for a constant has it
@@ -72,3 +75,14 @@ pub record IsUnmetFold (g : Graph Op) (row : Row Op) (value : ℕ) : Type 0 wher
 pub record IsFoldOf (g : Graph Op) (row : Row Op) (fold : Fold) : Type 0 where
   pub class_is : fold.class ≡ row.class
   pub unmet : IsUnmetFold g row fold.value
+
+-- ---- computed rules
+
+-- the match is an unmet one of the kind's rule whose right side is made with the match's constant
+pub record IsUnmetCalc (g : Graph Op) (kind : Calc) (m : Match) : Type 0 where
+  pub e : ℕ
+  pub given_is : m.given ≡ Some e
+  pub rule : Rewrite
+  pub of : IsOf (computed kind) rule
+  pub right_is : rule.right ≡ calc_right kind e
+  pub unmet : IsUnmet g rule m.classes m.class

@@ -1,18 +1,20 @@
 // Matches of computed rules.
-ghost use Rattle.std.specs.Prelude.{◌≡◌, ◌↔◌, ℕ, ◌^◌, ◌-◌, min, map, IsTrue, IfOk, MatchOption};
-ghost use Rattle.word_terms.specs.View.{tree_of};
-ghost use Rattle.axiom_base.specs.Computed as rules;
+ghost use Rattle.std.specs.Prelude.{◌≡◌, ℕ, ◌^◌, ◌-◌, min, map, true, false, All, IfOk, MatchOption};
+ghost use Rattle.word_terms.specs.Keys.{op_signature};
 ghost use Rattle.axiom_base.specs.Schemes.{computed};
-ghost use Rattle.pattern_match.specs.Bindings.{CanGive, AreGiven, AreUnmet};
+ghost use Rattle.egraph.specs.Graph.{IsGraph};
+ghost use Rattle.pattern_match.specs.Bindings.{CanGive, AreGiven, IsUnmetGiven};
+ghost use Rattle.pattern_match.specs.ByOperator.{AreLists};
 ghost use Rattle.pattern_match.specs.Listing.{Lists};
-ghost use Rattle.pattern_match.specs.Matches.{IsMatchOf, IsUnmetOf, IsNeed};
+ghost use Rattle.pattern_match.specs.Matches.{IsMatchOf, IsUnmetOf, IsUnmetCalc, IsNeed};
 ghost use Rattle.pattern_match.specs.Found.{classes_in};
 
 use crate::constants::constants_at;
 use crate::found::Match;
-use crate::placing::{placements, settle};
+use crate::placing::placements;
 use crate::plain::operators;
-use crate::reading::have_one_class;
+use crate::reading::has_class;
+use crate::row_lists::RowTables;
 use axiom_base::{
     Calc, calc, calc_left, calc_right, computed_rules_are_true, constants, constants_are_numbered,
     first_constant,
@@ -21,7 +23,6 @@ use egraph::Egraph;
 use items::{Items, NoMemory};
 use std::alloc::Global;
 use word_ops::Op;
-use word_terms::Term;
 
 /// The matches of the kind's rules, each once, in no stated order: those of the left side where the constants of the
 /// classes of c and d meet the condition.
@@ -30,13 +31,15 @@ pub fn calc_matches(alloc: Global, graph: &Egraph<Op>, kind: Calc) -> Result<Ite
 {
     computed_rules_are_true();
     constants_are_numbered();
+    let tables = RowTables::new(alloc, graph)?;
     let left = calc_left(alloc, kind)?;
-    let bounds = placements(alloc, graph, &left, first_constant(kind) + constants(kind))?;
+    let count = first_constant(kind) + constants(kind);
+    let placed = placements(alloc, graph, &tables, &left, count)?;
     let mut found = Vec::new(alloc);
-    for bound in &bounds {
-        let classes = settle(alloc, bound.as_slice())?;
-        if are_given(alloc, graph, kind, classes.as_slice())? {
-            found.push(Match { classes })?;
+    for one in &placed {
+        let given = calc_given(alloc, graph, kind, one.classes.as_slice())?;
+        if given.is_some() {
+            found.push(one.with(alloc, given)?)?;
         }
     }
     Ok(Items::from(found))
@@ -46,15 +49,33 @@ pub fn calc_matches(alloc: Global, graph: &Egraph<Op>, kind: Calc) -> Result<Ite
 pub fn calc_unmet(alloc: Global, graph: &Egraph<Op>, kind: Calc) -> Result<Items<Match>, NoMemory>
     ensures exact { IfOk result (λ found. Lists (IsUnmetOf graph.now (computed kind)) (map classes_in found)) }
 {
+    let tables = RowTables::new(alloc, graph)?;
+    find_calc_unmet(alloc, graph, &tables, kind)
+}
+
+/// The same by the tables of the graph's rows, which serve for all rules.
+pub fn find_calc_unmet(
+    alloc: Global,
+    graph: &Egraph<Op>,
+    tables: &RowTables,
+    kind: Calc,
+) -> Result<Items<Match>, NoMemory>
+    requires graph { IsGraph op_signature graph.now }
+    requires by_class { AreLists true graph.now 0 tables.now.by_class.firsts.entries tables.now.by_class.nexts.items }
+    requires by_operator { AreLists false graph.now 0 tables.now.by_operator.firsts.entries tables.now.by_operator.nexts.items }
+    ensures exact { IfOk result (λ found. Lists (IsUnmetOf graph.now (computed kind)) (map classes_in found)) }
+    ensures each { IfOk result (All (IsUnmetCalc graph.now kind)) }
+{
     computed_rules_are_true();
     constants_are_numbered();
     let left = calc_left(alloc, kind)?;
-    let bounds = placements(alloc, graph, &left, first_constant(kind) + constants(kind))?;
+    let count = first_constant(kind) + constants(kind);
+    let placed = placements(alloc, graph, tables, &left, count)?;
     let mut found = Vec::new(alloc);
-    for bound in &bounds {
-        let classes = settle(alloc, bound.as_slice())?;
-        if are_unmet(alloc, graph, kind, &left, classes.as_slice())? {
-            found.push(Match { classes })?;
+    for one in &placed {
+        let given = unmet_constant(alloc, graph, kind, one)?;
+        if given.is_some() {
+            found.push(one.with(alloc, given)?)?;
         }
     }
     Ok(Items::from(found))
@@ -90,37 +111,27 @@ pub fn calc_given(
     Ok(calc(kind, &words))
 }
 
-fn are_given(
+// The constant e of a match, where the right side that it makes isn't in the class of the left side.
+fn unmet_constant(
     alloc: Global,
     graph: &Egraph<Op>,
     kind: Calc,
-    classes: &[u32],
-) -> Result<bool, NoMemory>
-    requires { CanGive graph.now kind classes.now }
-    ensures { IfOk result (λ is. IsTrue is ↔ ((e : ℕ) × AreGiven graph.now kind classes.now e)) }
-{
-    match calc_given(alloc, graph, kind, classes)? {
-        Some(_) => Ok(true),
-        None => Ok(false),
-    }
-}
-
-fn are_unmet(
-    alloc: Global,
-    graph: &Egraph<Op>,
-    kind: Calc,
-    left: &Term<Op>,
-    classes: &[u32],
-) -> Result<bool, NoMemory>
-    requires can { CanGive graph.now kind classes.now }
-    requires left { tree_of left.now ≡ rules.calc_left kind }
-    ensures { IfOk result (λ is. IsTrue is ↔ AreUnmet graph.now kind classes.now) }
+    one: &Match,
+) -> Result<Option<u64>, NoMemory>
+    requires can { CanGive graph.now kind one.now.classes }
+    ensures { IfOk result (λ found. MatchOption found
+        ((e : ℕ) → ¬ IsUnmetGiven graph.now kind one.now e)
+        (IsUnmetGiven graph.now kind one.now)) }
 {
     computed_rules_are_true();
+    let classes = one.classes.as_slice();
     let Some(e) = calc_given(alloc, graph, kind, classes)? else {
-        return Ok(false);
+        return Ok(None);
     };
     let right = calc_right(alloc, kind, e)?;
-    let met = have_one_class(alloc, graph, left, &right, classes)?;
-    Ok(!met)
+    if has_class(alloc, graph, &right, classes, one.class)? {
+        Ok(None)
+    } else {
+        Ok(Some(e))
+    }
 }

@@ -1,10 +1,29 @@
 // What is found in a graph.
-use items::Items;
+ghost use Rattle.std.specs.Prelude.{◌≡◌, IfOk};
 
-/// A match of a rule: a class for each of the rule's variables, in the order of their numbers.
+use items::{Items, NoMemory};
+use std::alloc::Global;
+
+/// A match of a rule: a class for each of the rule's variables, in the order of their numbers, and the class of its left
+/// side. Of a computed rule it has the constant e that the rule's right side is made with, and of any other rule none.
 #[derive(Drop)]
 pub struct Match {
     pub classes: Items<u32>,
+    pub class: u32,
+    pub given: Option<u64>,
+}
+
+impl Match {
+    /// The same match with this constant.
+    pub(crate) fn with(&self, alloc: Global, given: Option<u64>) -> Result<Match, NoMemory>
+        ensures { IfOk result (λ m. m ≡ record { classes = self.now.classes; class = self.now.class; given = given }) }
+    {
+        Ok(Match {
+            classes: Items::from_slice(alloc, self.classes.as_slice())?,
+            class: self.class,
+            given,
+        })
+    }
 }
 
 /// A match of folding: the class of an application of an operator to constants, and the constant that this gives.

@@ -1,47 +1,109 @@
 // Every list of classes under which a pattern has a class of the graph.
-ghost use Rattle.std.specs.Prelude.{◌≡◌, ℕ, ◌<◌, length, map, IfOk, OnOk};
+ghost use Rattle.std.specs.Prelude.{◌≡◌, ◌++◌, ◌∷◌, [], ℕ, ◌<◌, true, false, map, IfOk, OnOk};
 ghost use Rattle.word_terms.specs.Keys.{op_signature};
-ghost use Rattle.word_terms.specs.Tree.{AreBelow};
-ghost use Rattle.word_terms.specs.View.{tree_of};
-ghost use Rattle.word_terms.specs.Sorting.{Occurs};
+ghost use Rattle.word_terms.specs.Tree.{AreBelow, EachBelow, application, operands_of};
+ghost use Rattle.word_terms.specs.View.{tree_of, trees_of};
+ghost use Rattle.word_terms.specs.Sorting.{Occurs, OccursInOne};
 ghost use Rattle.egraph.specs.Graph.{IsGraph};
-ghost use Rattle.pattern_match.specs.Bindings.{IsPlacement, IsUnknown, settled};
-ghost use Rattle.pattern_match.specs.Listing.{Lists};
+ghost use Rattle.pattern_match.specs.Bindings.{AreMatches, Binding, IsPlacement, IsUnknown, settled, settled_match};
+ghost use Rattle.pattern_match.specs.ByOperator.{AreLists};
 
-use crate::row_lists::RowLists;
-use crate::walk::extend;
+use crate::found::Match;
+use crate::row_lists::RowTables;
+use crate::walk::{extend, extend_all};
 use egraph::Egraph;
 use items::{Items, NoMemory};
 use std::alloc::Global;
 use word_ops::Op;
 use word_terms::Term;
 
-/// What is known of the variables below `count`, for each list of classes under which the pattern, which has all of
-/// these variables and no others, has a class of the graph. Each row and each class cost a look-up, and then only rows
-/// of the operators asked are walked.
+/// The lists of `count` classes under which the pattern, which has the variables below `count` and no others, has a class
+/// of the graph. An application is looked for among the rows of its operator, a variable among all classes.
 pub(crate) fn placements(
     alloc: Global,
     graph: &Egraph<Op>,
+    tables: &RowTables,
     pattern: &Term<Op>,
     count: usize,
-) -> Result<Vec<Items<Option<u32>>>, NoMemory>
+) -> Result<Vec<Match>, NoMemory>
+    requires graph { IsGraph op_signature graph.now }
+    requires by_class { AreLists true graph.now 0 tables.now.by_class.firsts.entries tables.now.by_class.nexts.items }
+    requires by_operator { AreLists false graph.now 0 tables.now.by_operator.firsts.entries tables.now.by_operator.nexts.items }
     requires below { AreBelow count (tree_of pattern.now) }
     requires all { (n : ℕ) → n < count → Occurs n (tree_of pattern.now) }
-    ensures exact { IfOk result (λ found.
-        Lists (IsPlacement graph.now (tree_of pattern.now) count) (map settled found.items)) }
-    ensures graph { OnOk result (IsGraph op_signature graph.now) }
+    ensures exact { IfOk result (λ found. AreMatches graph.now (tree_of pattern.now)
+        (IsPlacement graph.now (tree_of pattern.now) count) found.items) }
 {
-    let lists = RowLists::new(alloc, graph)?;
-    let mut start = Vec::new(alloc);
-    start.push(unknown(alloc, count)?)?;
+    match pattern {
+        Term::Var(_) => among_classes(alloc, graph, tables, pattern, count),
+        Term::App(op, operands) => among_rows(alloc, graph, tables, *op, operands, count),
+    }
+}
+
+fn among_classes(
+    alloc: Global,
+    graph: &Egraph<Op>,
+    tables: &RowTables,
+    pattern: &Term<Op>,
+    count: usize,
+) -> Result<Vec<Match>, NoMemory>
+    requires graph { IsGraph op_signature graph.now }
+    requires by_class { AreLists true graph.now 0 tables.now.by_class.firsts.entries tables.now.by_class.nexts.items }
+    requires below { AreBelow count (tree_of pattern.now) }
+    requires all { (n : ℕ) → n < count → Occurs n (tree_of pattern.now) }
+    ensures exact { IfOk result (λ found. AreMatches graph.now (tree_of pattern.now)
+        (IsPlacement graph.now (tree_of pattern.now) count) found.items) }
+{
+    let start = start(alloc, count)?;
     let mut out = Vec::new(alloc);
     for class in 0..graph.made() {
         if graph.now(class) == class {
-            let mut found = extend(alloc, graph, &lists, pattern, class, &start)?;
-            out.append(&mut found)?;
+            let found = extend(alloc, graph, &tables.by_class, pattern, class, &start)?;
+            settle_all(alloc, &found, class, &mut out)?;
         }
     }
     Ok(out)
+}
+
+fn among_rows(
+    alloc: Global,
+    graph: &Egraph<Op>,
+    tables: &RowTables,
+    op: Op,
+    operands: &[Term<Op>],
+    count: usize,
+) -> Result<Vec<Match>, NoMemory>
+    requires graph { IsGraph op_signature graph.now }
+    requires by_class { AreLists true graph.now 0 tables.now.by_class.firsts.entries tables.now.by_class.nexts.items }
+    requires by_operator { AreLists false graph.now 0 tables.now.by_operator.firsts.entries tables.now.by_operator.nexts.items }
+    requires below { EachBelow count (operands_of (trees_of operands.now)) }
+    requires all { (n : ℕ) → n < count → OccursInOne n (operands_of (trees_of operands.now)) }
+    ensures exact { IfOk result (λ found.
+        AreMatches graph.now (application op (operands_of (trees_of operands.now)))
+        (IsPlacement graph.now (application op (operands_of (trees_of operands.now))) count) found.items) }
+{
+    let start = start(alloc, count)?;
+    let mut out = Vec::new(alloc);
+    let mut place = tables.by_operator.first(op, 0);
+    while let Some(at) = place {
+        let row = graph.row(at);
+        if row.operands.len() == operands.len() {
+            let classes = row.operands.as_slice();
+            let found = extend_all(alloc, graph, &tables.by_class, operands, classes, &start)?;
+            settle_all(alloc, &found, row.class, &mut out)?;
+        }
+        place = tables.by_operator.next(at);
+    }
+    Ok(out)
+}
+
+// What is known of the variables before a walk: a list of one item, which knows nothing.
+fn start(alloc: Global, count: usize) -> Result<Vec<Items<Option<u32>>>, NoMemory>
+    ensures { IfOk result (λ list. (b : Binding) × IsUnknown count b × (list.items ≡ b ∷ [])) }
+{
+    let mut list = Vec::new(alloc);
+    list.push(unknown(alloc, count)?)?;
+    Ok(list)
 }
 
 fn unknown(alloc: Global, count: usize) -> Result<Items<Option<u32>>, NoMemory>
@@ -54,8 +116,28 @@ fn unknown(alloc: Global, count: usize) -> Result<Items<Option<u32>>, NoMemory>
     Ok(bound)
 }
 
-/// The classes, where all are known.
-pub(crate) fn settle(alloc: Global, bound: &[Option<u32>]) -> Result<Items<u32>, NoMemory>
+// The matches of this class, one for each item, of which all variables are known.
+fn settle_all(
+    alloc: Global,
+    bounds: &[Items<Option<u32>>],
+    class: u32,
+    out: &mut Vec<Match>,
+) -> Result<(), NoMemory>
+    ensures { OnOk result (out.new.items ≡ out.old.items ++ map (settled_match class) bounds.now) }
+{
+    for bound in bounds {
+        let classes = settle(alloc, bound.as_slice())?;
+        out.push(Match {
+            classes,
+            class,
+            given: None,
+        })?;
+    }
+    Ok(())
+}
+
+// The classes, where all are known.
+fn settle(alloc: Global, bound: &[Option<u32>]) -> Result<Items<u32>, NoMemory>
     ensures { IfOk result (λ classes. classes ≡ settled bound.now) }
 {
     let mut classes = Items::new(alloc);

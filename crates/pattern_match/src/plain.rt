@@ -1,15 +1,20 @@
 // Matches of equations and axioms.
-ghost use Rattle.std.specs.Prelude.{◌≡◌, ℕ, ◌^◌, ◌-◌, min, map, IfOk};
+ghost use Rattle.std.specs.Prelude.{◌≡◌, ℕ, ◌^◌, ◌-◌, min, map, true, false, All, IfOk};
 ghost use Rattle.word_terms.specs.View.{tree_of};
+ghost use Rattle.word_terms.specs.Keys.{op_signature};
 ghost use Rattle.word_terms.specs.OperatorsIn.{operators_in};
 ghost use Rattle.axiom_base.specs.Schemes.{plain};
-ghost use Rattle.pattern_match.specs.Listing.{Lists};
-ghost use Rattle.pattern_match.specs.Matches.{IsMatchOf, IsUnmetOf, IsNeed};
+ghost use Rattle.egraph.specs.Graph.{IsGraph};
+ghost use Rattle.pattern_match.specs.ByOperator.{AreLists};
+ghost use Rattle.pattern_match.specs.Listing.{Lists, ListsUpTo};
+ghost use Rattle.pattern_match.specs.Matches.{IsMatchOf, IsUnmet, IsUnmetOf, IsNeed};
 ghost use Rattle.pattern_match.specs.Found.{classes_in};
+ghost use Rattle.pattern_match.specs.declared.found.Match.{Match as Found};
 
 use crate::found::Match;
-use crate::placing::{placements, settle};
-use crate::reading::have_one_class;
+use crate::placing::placements;
+use crate::reading::has_class;
+use crate::row_lists::RowTables;
 use axiom_base::Rule;
 use egraph::Egraph;
 use items::{Items, NoMemory};
@@ -17,17 +22,14 @@ use std::alloc::Global;
 use word_ops::Op;
 use word_terms::{Term, terms_are_trees};
 
-/// The matches of the rule, each once, in no stated order. Each row and each class of the graph costs a look-up, and from
-/// there on only rows are walked that are of the operator and the class that the left side asks for.
+/// The matches of the rule, each once, in no stated order. Each row of the graph costs a look-up, and from there on only
+/// rows are walked that are of the operator, and below the root of the class, that the left side asks for.
 pub fn matches(alloc: Global, graph: &Egraph<Op>, rule: &Rule) -> Result<Items<Match>, NoMemory>
     ensures exact { IfOk result (λ found. Lists (IsMatchOf graph.now (plain rule.now)) (map classes_in found)) }
 {
-    let bounds = placements(alloc, graph, rule.left(), rule.variables().len())?;
-    let mut found = Vec::new(alloc);
-    for bound in &bounds {
-        let classes = settle(alloc, bound.as_slice())?;
-        found.push(Match { classes })?;
-    }
+    let tables = RowTables::new(alloc, graph)?;
+    let variables = rule.variables();
+    let found = placements(alloc, graph, &tables, rule.left(), variables.len())?;
     Ok(Items::from(found))
 }
 
@@ -35,12 +37,38 @@ pub fn matches(alloc: Global, graph: &Egraph<Op>, rule: &Rule) -> Result<Items<M
 pub fn unmet(alloc: Global, graph: &Egraph<Op>, rule: &Rule) -> Result<Items<Match>, NoMemory>
     ensures exact { IfOk result (λ found. Lists (IsUnmetOf graph.now (plain rule.now)) (map classes_in found)) }
 {
-    let bounds = placements(alloc, graph, rule.left(), rule.variables().len())?;
+    let tables = RowTables::new(alloc, graph)?;
+    let found = find_unmet(alloc, graph, &tables, rule, usize::MAX)?;
+    let _count = found.len();
+    Ok(found)
+}
+
+/// The same by the tables of the graph's rows, which serve for all rules. The search ends with the first match that makes
+/// them more than `most`.
+pub fn find_unmet(
+    alloc: Global,
+    graph: &Egraph<Op>,
+    tables: &RowTables,
+    rule: &Rule,
+    most: usize,
+) -> Result<Items<Match>, NoMemory>
+    requires graph { IsGraph op_signature graph.now }
+    requires by_class { AreLists true graph.now 0 tables.now.by_class.firsts.entries tables.now.by_class.nexts.items }
+    requires by_operator { AreLists false graph.now 0 tables.now.by_operator.firsts.entries tables.now.by_operator.nexts.items }
+    ensures found { IfOk result (λ found.
+        ListsUpTo (IsUnmetOf graph.now (plain rule.now)) most (map classes_in found)) }
+    ensures each { IfOk result (All (λ (m : Found). IsUnmet graph.now rule.now m.classes m.class)) }
+{
+    let variables = rule.variables();
+    let right = rule.right();
+    let placed = placements(alloc, graph, tables, rule.left(), variables.len())?;
     let mut found = Vec::new(alloc);
-    for bound in &bounds {
-        let classes = settle(alloc, bound.as_slice())?;
-        if !have_one_class(alloc, graph, rule.left(), rule.right(), classes.as_slice())? {
-            found.push(Match { classes })?;
+    for one in &placed {
+        if !has_class(alloc, graph, right, one.classes.as_slice(), one.class)? {
+            found.push(one.with(alloc, None)?)?;
+            if found.len() > most {
+                return Ok(Items::from(found));
+            }
         }
     }
     Ok(Items::from(found))
@@ -57,7 +85,7 @@ pub fn need(alloc: Global, graph: &Egraph<Op>, rule: &Rule) -> Result<u64, NoMem
 }
 
 /// How many operators the term has, or 2 ^ 64 - 1 where that is greater.
-pub(crate) fn operators(term: &Term<Op>) -> u64
+pub fn operators(term: &Term<Op>) -> u64
     ensures { result ≡ min (operators_in (tree_of term.now)) (2 ^ 64 - 1) }
 {
     terms_are_trees::<Op>();

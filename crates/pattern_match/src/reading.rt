@@ -1,7 +1,7 @@
-// The class of a pattern, and whether two patterns have one class.
+// The class of a pattern.
 ghost use Rattle.std.specs.Prelude.{ℕ, ◌↔◌, IsTrue, MatchOption, IfOk};
 ghost use Rattle.word_terms.specs.View.{tree_of};
-ghost use Rattle.pattern_match.specs.Classes.{IsClass, HaveOneClass, CanFindClass};
+ghost use Rattle.pattern_match.specs.Classes.{IsClass, CanFindClass};
 
 use egraph::Egraph;
 use items::NoMemory;
@@ -36,24 +36,19 @@ pub fn class_of_pattern(
     }
 }
 
-/// Whether both patterns have a class, and the same one.
-pub(crate) fn have_one_class(
+/// Whether the pattern has this class.
+pub(crate) fn has_class(
     alloc: Global,
     graph: &Egraph<Op>,
-    first: &Term<Op>,
-    second: &Term<Op>,
+    pattern: &Term<Op>,
     places: &[u32],
+    class: u32,
 ) -> Result<bool, NoMemory>
-    requires first { CanFindClass graph.now places.now (tree_of first.now) }
-    requires second { CanFindClass graph.now places.now (tree_of second.now) }
-    ensures exact { IfOk result (λ one.
-        IsTrue one ↔ HaveOneClass graph.now places.now (tree_of first.now) (tree_of second.now)) }
+    requires can { CanFindClass graph.now places.now (tree_of pattern.now) }
+    ensures exact { IfOk result (λ has. IsTrue has ↔ IsClass graph.now places.now (tree_of pattern.now) class) }
 {
-    let Some(class) = class_of_pattern(alloc, graph, first, places)? else {
-        return Ok(false);
-    };
-    let Some(other) = class_of_pattern(alloc, graph, second, places)? else {
-        return Ok(false);
-    };
-    Ok(class == other)
+    match class_of_pattern(alloc, graph, pattern, places)? {
+        Some(found) => Ok(found == class),
+        None => Ok(false),
+    }
 }

@@ -1,5 +1,5 @@
 // The walk over a pattern and those rows of a graph that can match.
-ghost use Rattle.std.specs.Prelude.{◌≡◌, ℕ, ◌<◌, ◌⊎◌, List, length, map, get_or, slice_set, Option, Some, None, IfOk, MatchOption};
+ghost use Rattle.std.specs.Prelude.{◌≡◌, ℕ, ◌<◌, ◌⊎◌, List, length, map, get_or, slice_set, Option, Some, None, true, IfOk, MatchOption};
 ghost use Rattle.word_terms.specs.View.{tree_of, trees_of};
 ghost use Rattle.word_terms.specs.Tree.{variable, operands_of};
 ghost use Rattle.word_ops.specs.declared.sorts.Op.{Op as TermOperator};
@@ -79,7 +79,7 @@ pub(crate) fn extend(
     list: &[Items<Option<u32>>],
 ) -> Result<Vec<Items<Option<u32>>>, NoMemory>
     requires graph { IsGraph op_signature graph.now }
-    requires lists { AreLists graph.now 0 lists.now.firsts.entries lists.now.nexts.items }
+    requires lists { AreLists true graph.now 0 lists.now.firsts.entries lists.now.nexts.items }
     requires can { CanExtend (tree_of pattern.now) list.now }
     ensures { IfOk result (λ out. Extended graph.now (tree_of pattern.now) class list.now out.items) }
 {
@@ -104,7 +104,7 @@ pub(crate) fn extend(
 
 // The same for operands and their classes, place by place.
 #[cycle(walk)]
-fn extend_all(
+pub(crate) fn extend_all(
     alloc: Global,
     graph: &Egraph<Op>,
     lists: &RowLists,
@@ -113,7 +113,7 @@ fn extend_all(
     list: &[Items<Option<u32>>],
 ) -> Result<Vec<Items<Option<u32>>>, NoMemory>
     requires graph { IsGraph op_signature graph.now }
-    requires lists { AreLists graph.now 0 lists.now.firsts.entries lists.now.nexts.items }
+    requires lists { AreLists true graph.now 0 lists.now.firsts.entries lists.now.nexts.items }
     requires can { CanExtendAll (operands_of (trees_of operands.now)) list.now }
     requires count { length classes.now ≡ length operands.now }
     ensures { IfOk result (λ out.

@@ -85,7 +85,7 @@ nothing_asked g = record {
 abbrev IsOfOne : Graph Op → List Scheme → Asked → Type 0
 IsOfOne g ss a = (s : Scheme) × Contains ss s × ((places : List ℕ) × IsAskedOf g s places a)
 
-both_asked : (g : Graph Op) (ss ts : List Scheme) (xs ys : List Asked) → AreAsked g ss xs → AreAsked g ts ys → AreAsked g (ss ++ ts) (xs ++ ys)
+pub both_asked : (g : Graph Op) (ss ts : List Scheme) (xs ys : List Asked) → AreAsked g ss xs → AreAsked g ts ys → AreAsked g (ss ++ ts) (xs ++ ys)
 both_asked g ss ts xs ys h k = record {
   each = all_from (IsOfOne g (ss ++ ts)) (xs ++ ys) (λ a m. elim (Contains-append_cases xs ys a m) [
     | inl i ↦ (let q = All-contains (IsOfOne g ss) xs a h.each i in (q.0, Contains-append_left ss ts q.0 q.1, q.2))

@@ -1,6 +1,5 @@
 -- What folds ask for.
-use Rattle.std.proofs.Common.{◌≡◌, ℕ, ◌+◌, ◌<◌, List, [], ◌∷◌, ◌++◌, map, length, take, get_or, Contains, refl, sym, ap, ◌∙◌, subst, inl, inr, arith}
-use Rattle.std.proofs.lemmas.List.{append_assoc, map-append, take_more}
+use Rattle.std.proofs.Common.{◌≡◌, ℕ, List, [], ◌∷◌, map, length, Contains, refl, sym, ap, ◌∙◌, subst, inl, inr, arith}
 use Rattle.word_ops.specs.Operators.{value_of, operators}
 use Rattle.word_ops.specs.declared.operators.WordOp.{WordOp}
 use Rattle.word_ops.specs.declared.sorts.Op.{Op}
@@ -14,14 +13,11 @@ use Rattle.pattern_match.specs.Listing.{Chosen, nothing, taken, left_out}
 use Rattle.pattern_match.specs.Matches.{IsMatch, IsUnmet, IsUnmetOf, IsFoldOf, AreNeeds}
 use Rattle.pattern_match.specs.declared.found.Fold.{Fold}
 use Rattle.saturation.specs.Trace.{Asked, operators_asked}
-use Rattle.saturation.specs.Asking.{IsAskedOf, AreAsked, Adds}
+use Rattle.saturation.specs.Asking.{IsAskedOf, AreAsked, fold_asked}
 use Rattle.word_terms.specs.View.{tree_of}
 use Rattle.saturation.specs.Instances.{asked_of}
 use Rattle.saturation.specs.declared.instance.Instance.{Instance}
 use Rattle.saturation.proofs.AskSteps.{all_from, here_in, later_in, cases_in}
-
-abbrev pub fold_asked : Fold → Asked
-fold_asked f = record { right = constant f.value; places = []; class = f.class }
 
 module _ {X Y : Type 0} (R : X → Y → Type 0) where
   chosen_from : {xs : List X} {ys : List Y} → Chosen R xs ys → (y : Y) → Contains ys y → (x : X) × Contains xs x × R x y
@@ -100,24 +96,6 @@ module _ (listed : (op : WordOp) → Contains operators op) (rows : FoldsAreRows
         (fold_asked k.0, to_map fold_asked found k.0 k.1, subst (λ t. IsAskedOf g t places (fold_asked k.0)) (ap folding same ∙ o.2) (fold_of row k.0 k.2));
     needs = subst (AreNeeds g (map folding operators)) (one_each found) need;
   }
-
--- one more fold is asked for
-pub adds_fold :
-    (old : List Asked) (items : List Fold) (k : ℕ) (f : Fold) →
-    k < length items →
-    f ≡ get_or items k f →
-    (before : List Instance) (one : Instance) →
-    asked_of one ≡ fold_asked f →
-    Adds (λ ys. ys ≡ map fold_asked (take k items)) old (map asked_of before) →
-    Adds (λ ys. ys ≡ map fold_asked (take (k + 1) items)) old (map asked_of (before ++ one ∷ []))
-adds_fold old items k f l is before one same h = record {
-  more = h.more ++ fold_asked f ∷ [];
-  is = map-append asked_of before (one ∷ []) ∙ ap (λ a. map asked_of before ++ a ∷ []) same ∙ ap (λ xs. xs ++ fold_asked f ∷ []) h.is ∙ append_assoc old h.more (fold_asked f ∷ []);
-  holds =
-      let more : map fold_asked (take (k + 1) items) ≡ map fold_asked (take k items) ++ fold_asked f ∷ [] =
-      ap (map fold_asked) (take_more items k f l) ∙ map-append fold_asked (take k items) (get_or items k f ∷ []) ∙ ap (λ (y : Fold). map fold_asked (take k items) ++ fold_asked y ∷ []) (sym is) in
-      ap (λ xs. xs ++ fold_asked f ∷ []) h.holds ∙ sym more;
-}
 
 -- the instance of a fold
 pub fold_instance : (one : Instance) (f : Fold) → tree_of one.right ≡ constant f.value → one.places ≡ [] → one.class ≡ f.class → asked_of one ≡ fold_asked f

@@ -24,6 +24,7 @@ pub mod Matched
 pub mod Folded
 pub mod MatchLists
 pub mod SchemeLists
+pub mod Searched
 pub mod LoopSteps
 pub mod FewRows
 pub mod Alike

@@ -1,8 +1,7 @@
 -- Steps of the loop over rounds.
-use Rattle.std.proofs.Common.{◌≡◌, ◌≢◌, ℕ, ◌+◌, ◌-◌, ◌*◌, ◌<◌, ◌≤◌, ◌^◌, min, max, Bool, true, false, eqb, List, [], length, map, get_or, All, sym, ◌∙◌, subst, inl, inr, arith}
+use Rattle.std.proofs.Common.{◌≡◌, ◌≢◌, ℕ, ◌+◌, ◌-◌, ◌*◌, ◌<◌, ◌≤◌, ◌^◌, min, max, Bool, true, false, eqb, List, [], length, get_or, All, sym, ◌∙◌, subst, inl, inr, arith}
 use Rattle.std.proofs.lemmas.Bool.{cases_lt}
 use Rattle.std.proofs.lemmas.Bool.Decides.{eqb_tells}
-use Rattle.std.proofs.lemmas.List.{length-map}
 use Rattle.word_ops.specs.Worlds.{World, IsWorld}
 use Rattle.word_ops.specs.declared.sorts.Op.{Op}
 use Rattle.word_terms.specs.Tree.{Tree}
@@ -13,13 +12,14 @@ use Rattle.egraph.specs.Graph.{Graph, IsGraph}
 use Rattle.egraph.specs.declared.faults.MergeFault.{MergeFault}
 use Rattle.egraph.specs.declared.faults.MergeFault.TheVariants.{NoWorld, Memory}
 use Rattle.saturation.specs.Trace.{Asked, AreAllMade, IsRefused, CanMakeAll, operators_asked}
-use Rattle.saturation.specs.Instances.{asked_of, RefusalOfAll, saturate_fault}
-use Rattle.saturation.specs.declared.instance.Instance.{Instance}
+use Rattle.saturation.specs.Instances.{RefusalOfAll, saturate_fault}
 use Rattle.saturation.specs.Derives.{Pair}
 use Rattle.saturation.specs.Grown.{IsGrown, GoesOnGrowing, NotBefore, IsQuiet}
 use Rattle.saturation.specs.GraphStands.{GraphStands, RulesHold}
 use Rattle.saturation.specs.Asking.{AreAsked, StopFits}
-use Rattle.saturation.specs.Rounds.{IsAfter, IsSaturated, IsImpossible, SaturateFaultIs, IsHopeless, KeepsStanding, StopIs}
+use Rattle.saturation.specs.Steps.{GoesOn, StepFits}
+use Rattle.saturation.specs.declared.stepping.Step.TheVariants.{End}
+use Rattle.saturation.specs.Rounds.{IsAfter, IsImpossible, SaturateFaultIs, IsHopeless, KeepsStanding, StopIs}
 use Rattle.saturation.specs.declared.rounds.Stop.{Stop}
 use Rattle.saturation.specs.declared.rounds.Stop.TheVariants.{Quiet, Rounds, Full}
 use Rattle.saturation.proofs.Asks.{Asks}
@@ -58,16 +58,31 @@ pub record Ready (axioms : List Rewrite) (g : Graph Op) (asked : List Asked) (ne
 abbrev pub AreTrue : Type 0
 AreTrue = (world : World) (names : ℕ → List ℕ) (axioms : List Rewrite) (r : Rewrite) → All (IsTrueIn world names) axioms → IsRuleOf axioms r → IsTrueIn world names r
 
-module _ (axioms : List Rewrite) (g : Graph Op) (asked : List Asked) (need : ℕ) (ready : Ready axioms g asked need) where
-  unmet : length asked ≢ 0 → ¬ IsQuiet axioms g
+module _ (axioms : List Rewrite) (g : Graph Op) (asked : List Asked) (are : AreAsked g (schemes axioms) asked) where
+  pub unmet : length asked ≢ 0 → ¬ IsQuiet axioms g
   unmet some quiet =
       let a : Asked = record { right = Tree.variable 0; places = []; class = 0 } in
-      let h = ready.are.each 0 a (omega (arith, some)) in
+      let h = are.each 0 a (omega (arith, some)) in
       let o = h.2.1 in
       quiet h.0 h.1 h.2.0 (record { rule = o.rule; of = o.of; class = (get_or asked 0 a).class; unmet = o.unmet })
 
-  quiet : length asked ≡ 0 → IsQuiet axioms g
-  quiet none s there places u = let k = ready.are.all s places there u in let b = k.1 in omega (arith, none, b.1)
+  pub quiet : length asked ≡ 0 → IsQuiet axioms g
+  quiet none s there places u = let k = are.all s places there u in let b = k.1 in omega (arith, none, b.1)
+
+  -- why what is asked ends the rounds
+  pub end_fits : (need rows nodes : ℕ) (last : Bool) (stop : Stop) → need ≡ min (operators_asked asked) (2 ^ 64 - 1) → rows ≡ length g.rows → StopFits (length asked) need rows last nodes stop → StepFits axioms g last nodes (End stop)
+  end_fits need rows nodes last Quiet n r h = quiet h
+  end_fits need rows nodes last Rounds n r h = (unmet h.0, h.1)
+  end_fits need rows nodes last Full n r h = (unmet h.0, h.1, record { need = operators_asked asked; is = are.needs; passed = let p = h.2 in omega (arith, n, r, p) })
+
+-- rounds go on with what is asked
+pub goes_on_with : (axioms : List Rewrite) (g : Graph Op) (last : Bool) (asked : List Asked) (need rows nodes count : ℕ) → AreAsked g (schemes axioms) asked → count ≡ length asked → need ≡ min (operators_asked asked) (2 ^ 64 - 1) → rows ≡ length g.rows → nodes ≤ 4096 → (count ≢ 0) × (last ≡ false) × (rows + need ≤ nodes) → GoesOn axioms g last nodes asked
+goes_on_with axioms g last asked need rows nodes count are c n r few h = record {
+  are = are;
+  some = λ e. h.0 (c ∙ e);
+  more = h.1;
+  within = let w = h.2 in omega (arith, n, r, few, w);
+}
 
 module _ (axioms : List Rewrite) (start : Graph Op) (rounds nodes : ℕ) (g : Graph Op) (j : ℕ) (running : Running axioms start rounds nodes g j) (asked : List Asked) (need : ℕ) (ready : Ready axioms g asked need)
     (few_rounds : rounds ≤ 16) (few_nodes : nodes ≤ 4096) where
@@ -92,7 +107,7 @@ module _ (axioms : List Rewrite) (start : Graph Op) (rounds nodes : ℕ) (g : Gr
               subst (GoesOnGrowing axioms present equal rounds nodes) e (record {
                 graph = g;
                 grown = a.0;
-                unmet = unmet axioms g asked need ready some;
+                unmet = unmet axioms g asked ready.are some;
                 asked = more;
                 within = record { need = operators_asked asked; is = ready.are.needs; within = total_within };
               }))
@@ -135,26 +150,14 @@ module _ (axioms : List Rewrite) (start : Graph Op) (rounds nodes : ℕ) (g : Gr
     fault_is (NoWorld class x y) h = impossible x y h
     fault_is Memory h = tt
 
-  stop_is : (last : Bool) (stop : Stop) → (last ≡ true → j ≡ rounds) → (last ≡ false → j ≢ rounds) → StopFits (length asked) need (length g.rows) last nodes stop → StopIs axioms g rounds nodes j stop
-  stop_is last Quiet is isnt h = quiet axioms g asked need ready h
-  stop_is last Rounds is isnt h = (unmet axioms g asked need ready h.0, is h.1)
-  stop_is last Full is isnt h = (
-    unmet axioms g asked need ready h.0,
-    isnt h.1,
-    record { need = operators_asked asked; is = ready.are.needs; passed = let p = h.2 in omega (arith, ready.need_is, p) },
-  )
-
-  pub saturated : (last : Bool) (stop : Stop) → (last ≡ true → j ≡ rounds) → (last ≡ false → j ≢ rounds) → StopFits (length asked) need (length g.rows) last nodes stop → IsSaturated axioms start rounds nodes g j stop
-  saturated last stop is isnt h = record { after = running.after; stops = stop_is last stop is isnt h; graph = ready.graph }
-
 pub not_last : (a b : ℕ) → eqb a b ≡ false → a ≢ b
 not_last a b e = elim (eqb_tells a b) [ inl h ↦ absurd (let k : true ≡ false = sym h.0 ∙ e in cc) | inr h ↦ h.1 ]
 
 pub is_last : (a b : ℕ) → eqb a b ≡ true → a ≡ b
 is_last a b e = elim (eqb_tells a b) [ inl h ↦ h.1 | inr h ↦ absurd (let k : false ≡ true = sym h.0 ∙ e in cc) ]
 
-pub some_asked : (items : List Instance) (count len : ℕ) → (count ≡ 0 → ⊥) → count ≡ len → len ≡ length items → length (map asked_of items) ≢ 0
-some_asked items count len n e f = λ z. n (omega (arith, e, f, z, length-map items asked_of))
-
-pub stop_fits : (asked count need rows some : ℕ) (last : Bool) (nodes : ℕ) (stop : Stop) → count ≡ asked → rows ≡ some → StopFits count need rows last nodes stop → StopFits asked need some last nodes stop
-stop_fits asked count need rows some last nodes stop e f h = subst (λ n. StopFits asked need n last nodes stop) f (subst (λ n. StopFits n need rows last nodes stop) e h)
+-- the step with which the rounds end
+pub end_is : (axioms : List Rewrite) (g : Graph Op) (rounds nodes j : ℕ) (last : Bool) (stop : Stop) → (last ≡ true → j ≡ rounds) → (last ≡ false → j ≢ rounds) → StepFits axioms g last nodes (End stop) → StopIs axioms g rounds nodes j stop
+end_is axioms g rounds nodes j last Quiet is isnt h = h
+end_is axioms g rounds nodes j last Rounds is isnt h = (h.0, is h.1)
+end_is axioms g rounds nodes j last Full is isnt h = (h.0, isnt h.1, h.2)

@@ -1,12 +1,22 @@
 -- What a round asks for, by the rules of which it comes. From this project.
-use Rattle.std.specs.Prelude.{◌≡◌, ◌≢◌, ℕ, ◌+◌, ◌<◌, ◌⊎◌, Bool, true, false, List, [], ◌++◌, All, Contains}
+use Rattle.std.specs.Prelude.{◌≡◌, ◌≢◌, ℕ, ◌+◌, ◌<◌, ◌⊎◌, Bool, true, false, List, [], ◌∷◌, ◌++◌, map, length, unwrap_or, All, Contains}
+use Rattle.std.specs.List.{AllZip}
+use Rattle.word_ops.specs.Operators.{operators}
 use Rattle.word_ops.specs.declared.sorts.Op.{Op}
 use Rattle.axiom_base.specs.Rewrites.{Rewrite}
 use Rattle.axiom_base.specs.Equations.{constant}
-use Rattle.axiom_base.specs.Schemes.{Scheme, IsOf}
+use Rattle.axiom_base.specs.Equations as rows
+use Rattle.axiom_base.specs.Computed.{calc_right}
+use Rattle.axiom_base.specs.declared.kinds.Calc.{Calc}
+use Rattle.axiom_base.specs.Schemes.{Scheme, plain, computed, folding, calc_kinds, IsOf}
 use Rattle.egraph.specs.Graph.{Graph}
-use Rattle.pattern_match.specs.Matches.{IsUnmet, IsUnmetOf, AreNeeds}
+use Rattle.pattern_match.specs.Matches.{IsUnmet, IsUnmetOf, IsUnmetCalc, IsFoldOf, AreNeeds}
+use Rattle.pattern_match.specs.Found.{classes_in}
+use Rattle.pattern_match.specs.Listing.{Lists, Chosen}
+use Rattle.pattern_match.specs.declared.found.Match.{Match}
+use Rattle.pattern_match.specs.declared.found.Fold.{Fold}
 use Rattle.saturation.specs.Trace.{Asked, operators_asked}
+use Rattle.saturation.specs.declared.searching.Unmet.{Unmet}
 use Rattle.saturation.specs.declared.rounds.Stop.{Stop}
 use Rattle.saturation.specs.declared.rounds.Stop.TheVariants.{Quiet, Rounds, Full}
 
@@ -44,3 +54,46 @@ abbrev pub StopFits : ℕ → ℕ → ℕ → Bool → ℕ → Stop → Type 0
 StopFits asked need rows last nodes Quiet = asked ≡ 0
 StopFits asked need rows last nodes Rounds = (asked ≢ 0) × (last ≡ true)
 StopFits asked need rows last nodes Full = (asked ≢ 0) × (last ≡ false) × (nodes < rows + need)
+
+-- ---- the search before a round
+
+-- the unmet matches of the rule, each with the class of its left side
+pub record AreUnmetOf (g : Graph Op) (r : Rewrite) (found : List Match) : Type 0 where
+  pub exact : Lists (IsUnmetOf g (plain r)) (map classes_in found)
+  pub each : All (λ (m : Match). IsUnmet g r m.classes m.class) found
+
+-- the unmet matches of the kind's rules, each with the class of its left side and its constant
+pub record AreUnmetOfKind (g : Graph Op) (kind : Calc) (found : List Match) : Type 0 where
+  pub exact : Lists (IsUnmetOf g (computed kind)) (map classes_in found)
+  pub each : All (IsUnmetCalc g kind) found
+
+-- what a search found: the unmet matches of each rule and kind in their order, and those of folding
+pub record AreFound (g : Graph Op) (axioms : List Rewrite) (u : Unmet) : Type 0 where
+  pub equations : AllZip (AreUnmetOf g) rows.equations u.equations.items
+  pub program : AllZip (AreUnmetOf g) axioms u.program.items
+  pub kinds : AllZip (AreUnmetOfKind g) calc_kinds u.kinds.items
+  pub folds : Chosen (IsFoldOf g) g.rows u.folds
+  pub folds_need : AreNeeds g (map folding operators) (length u.folds)
+
+-- what a match asks for
+abbrev pub rule_asked : Rewrite → Match → Asked
+rule_asked r m = record { right = r.right; places = m.classes; class = m.class }
+
+abbrev pub kind_asked : Calc → Match → Asked
+kind_asked kind m = record { right = calc_right kind (unwrap_or m.given 0); places = m.classes; class = m.class }
+
+abbrev pub fold_asked : Fold → Asked
+fold_asked f = record { right = constant f.value; places = []; class = f.class }
+
+-- what the matches of several rules ask for, rule by rule
+abbrev pub asked_of_each : {X : Type 0} → (X → Match → Asked) → List X → List (List Match) → List Asked
+asked_of_each f (x ∷ xs) (ms ∷ found) = map (f x) ms ++ asked_of_each f xs found
+asked_of_each f _ _ = []
+
+-- what all of them ask for
+abbrev pub asked_of_all : List Rewrite → Unmet → List Asked
+asked_of_all axioms u =
+    asked_of_each rule_asked rows.equations u.equations.items
+    ++ asked_of_each rule_asked axioms u.program.items
+    ++ asked_of_each kind_asked calc_kinds u.kinds.items
+    ++ map fold_asked u.folds

@@ -5,6 +5,7 @@ pub mod GraphStands
 pub mod Instances
 pub mod Rounds
 pub mod Asking
+pub mod Steps
 pub mod Alike
 pub mod StandsFor
 pub mod Launched

@@ -14,6 +14,8 @@ mod laws;
 mod making;
 mod numbering;
 mod rounds;
+mod searching;
+mod stepping;
 
 pub use axiom_rules::rules;
 pub use faults::{SaturateFault, StartFault};

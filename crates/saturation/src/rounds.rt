@@ -1,12 +1,14 @@
 // Rounds of matching, and when they end.
-ghost use Rattle.std.specs.Prelude.{◌≡◌, ◌≢◌, ◌≤◌, ◌<◌, ◌+◌, ◌^◌, length, map, max, false, MatchOption, IfOk, IfErr};
-ghost use Rattle.saturation.specs.Asking.{StopFits};
+ghost use Rattle.std.specs.Prelude.{◌≡◌, ◌≤◌, ◌<◌, ◌^◌, length, max, IfOk, IfErr};
+ghost use Rattle.axiom_base.specs.Equations as rows;
 ghost use Rattle.saturation.specs.Rounds.{IsSaturated, KeepsStanding, SaturateFaultIs, IsHopeless, RoundsNameLowClass};
 
-use crate::asking::{ask, need_of};
 use crate::faults::SaturateFault;
 use crate::making::make_all;
-use axiom_base::{Rule, computed_rules_are_true, constants_are_numbered, schemes_are_true};
+use crate::stepping::{Step, decide};
+use axiom_base::{
+    Rule, computed_rules_are_true, constants_are_numbered, equations, schemes_are_true,
+};
 use egraph::{Egraph, MergeFault};
 use items::{Items, NoMemory};
 use std::alloc::Global;
@@ -38,7 +40,8 @@ pub struct Saturated {
 }
 
 /// Rounds of matching until no match is unmet, the rounds asked for are done, or another might pass the limit on rows.
-/// Each round finds all unmet matches, and then makes the right side of each.
+/// Each round finds all unmet matches, and then makes the right side of each. A round costs some look-ups for each row
+/// and each match.
 pub fn saturate(
     alloc: Global,
     graph: Egraph<Op>,
@@ -57,41 +60,58 @@ pub fn saturate(
     ensures hopeless { IfErr result (IsHopeless rules.now.program graph) }
     ensures low { IfErr result RoundsNameLowClass }
 {
+    let equations = equations(alloc)?;
+    grow(
+        alloc,
+        graph,
+        equations.as_slice(),
+        rules.program.as_slice(),
+        rounds,
+        nodes,
+    )
+}
+
+// The rounds, with the equations and the program's own rules.
+fn grow(
+    alloc: Global,
+    graph: Egraph<Op>,
+    equations: &[Rule],
+    program: &[Rule],
+    rounds: u32,
+    nodes: u32,
+) -> Result<Saturated, SaturateFault>
+    requires equations { equations.now ≡ rows.equations }
+    requires rounds { rounds ≤ 16 }
+    requires nodes { nodes ≤ 4096 }
+    requires few { length graph.current < 2 ^ 30 }
+    ensures saturated { IfOk result (λ s. IsSaturated program.now graph rounds nodes s.graph s.rounds s.stop) }
+    ensures rounds { IfOk result (λ s. s.rounds ≤ rounds) }
+    ensures stands { IfOk result (λ s. KeepsStanding program.now graph s.graph) }
+    ensures few { IfOk result (λ s. length s.graph.rows ≤ max (length graph.rows) nodes) }
+    ensures fault { IfErr result (SaturateFaultIs program.now graph rounds nodes) }
+    ensures hopeless { IfErr result (IsHopeless program.now graph) }
+    ensures low { IfErr result RoundsNameLowClass }
+{
     schemes_are_true();
     constants_are_numbered();
     computed_rules_are_true();
     meanings_are_in_range();
-    let program = rules.program.as_slice();
     let mut graph = graph;
     let mut done = 0;
     loop {
-        let rows = graph.rows();
-        let asked = ask(alloc, &graph, program)?;
-        let need = need_of(&asked);
-        if let Some(stop) = stop_of(asked.len(), need, rows, done == rounds, nodes) {
-            return Ok(Saturated {
-                graph,
-                rounds: done,
-                stop,
-            });
+        let _made = graph.made();
+        match decide(alloc, &graph, equations, program, done == rounds, nodes)? {
+            Step::End(stop) => {
+                return Ok(Saturated {
+                    graph,
+                    rounds: done,
+                    stop,
+                });
+            }
+            Step::Round(asked) => {
+                graph = make_all(alloc, graph, &asked)?;
+                done += 1;
+            }
         }
-        graph = make_all(alloc, graph, &asked)?;
-        done += 1;
-    }
-}
-
-fn stop_of(asked: usize, need: u64, rows: u32, last: bool, nodes: u32) -> Option<Stop>
-    ensures { MatchOption result
-        ((asked ≢ 0) × (last ≡ false) × (rows + need ≤ nodes))
-        (λ stop. StopFits asked need rows last nodes stop) }
-{
-    if asked == 0 {
-        Some(Stop::Quiet)
-    } else if last {
-        Some(Stop::Rounds)
-    } else if need > u64::from(nodes) || u64::from(rows) + need > u64::from(nodes) {
-        Some(Stop::Full)
-    } else {
-        None
     }
 }

@@ -1,21 +1,28 @@
-use Rattle.std.specs.Prelude.{All, true, false}
-use Rattle.std.proofs.Common.{◌≡◌, ◌+◌, refl, [], map, take, sym, ap, ◌∙◌, subst, subst₂, arith}
-use Rattle.std.proofs.lemmas.List.{take_all}
+use Rattle.std.specs.Prelude.{is_some, true, false, MatchOption}
+use Rattle.std.proofs.Common.{rules, ◌≡◌, ◌+◌, ℕ, [], map, take, sym, ap, subst, subst₂, arith}
 use Rattle.word_terms.specs.Tree.{AreBelow}
 use Rattle.word_terms.specs.Sorting.{Occurs}
 use Rattle.axiom_base.specs.Schemes.{computed}
 use Rattle.axiom_base.specs.Computed.{calc_left}
-use Rattle.pattern_match.specs.Bindings.{IsPlacement, CanGive, settled}
+use Rattle.pattern_match.specs.Bindings.{IsPlacement, CanGive, AreMatches, AreGiven}
 use Rattle.pattern_match.specs.Found.{classes_in}
 use Rattle.pattern_match.specs.Listing.{Lists, Chosen, nothing}
 use Rattle.pattern_match.specs.Matches.{IsMatchOf}
-use Rattle.pattern_match.proofs.Choosing.{AsItself, lists_same, chosen_lists, has_at, loop_takes, loop_skips}
-use Rattle.pattern_match.proofs.ComputedMatching.{IsGiven, count_for, left_occurs, left_below, can_give, computed_matched, matched_computed}
+use Rattle.pattern_match.proofs.Choosing.{AsItself, lists_same, classes_at, loop_takes, loop_skips, whole}
+use Rattle.pattern_match.proofs.ComputedMatching.{count_for, left_occurs, left_below, can_give, computed_matched, matched_computed, IsGiven, some_if, none_if}
 use Rattle.pattern_match.proofs.computed.calc_matches.Goals as goal
-use Rattle.pattern_match.proofs.computed.calc_matches.Goals.{After-constants, After-as_slice-in-loop-bound, then-branch+in_ok-push, else-branch}
+use Rattle.pattern_match.proofs.computed.calc_matches.Goals.{After-constants, After-deref-one-items, then-is_some+in_ok-with+in_ok-push, else-is_some}
 
 counted : (c : After-constants) → c.first_constant.result + c.constants.result ≡ count_for c.args.kind
 counted c = omega (arith, c.first_constant.ensures.number, c.constants.ensures.count)
+
+-- the matches of the left side
+matches_of : (c : After-deref-one-items) → AreMatches c.args.graph.now (calc_left c.args.kind) (IsPlacement c.args.graph.now (calc_left c.args.kind) (count_for c.args.kind)) c.deref-one-items.result.now
+matches_of c =
+    let g = c.args.graph.now in
+    let kind = c.args.kind in
+    let exact = subst₂ (λ t n. AreMatches g t (IsPlacement g t n) c.in_ok-placed.placed.items) c.in_ok-left.ensures.tree (counted (goal.at.loop-one-init c).After-constants) c.in_ok-placed.ensures.exact in
+    subst (AreMatches g (calc_left kind) (IsPlacement g (calc_left kind) (count_for kind))) (sym c.deref-one-items.ensures.value) exact
 
 pub placements-requires-clause-below : goal.placements-requires-clause-below
 placements-requires-clause-below c =
@@ -28,56 +35,53 @@ placements-requires-clause-all c = λ n l.
     let e = counted (goal.at.placements-requires-clause-all c).After-constants in
     subst (Occurs n) (sym c.in_ok-left.ensures.tree) (left_occurs law.usable law.last c.args.kind n (omega (arith, l, e)))
 
-pub loop-bound-init : goal.loop-bound-init
-loop-bound-init c =
+pub loop-one-init : goal.loop-one-init
+loop-one-init c =
     let D = IsGiven c.args.graph.now c.args.kind in
     subst (λ xs. Chosen (AsItself D D) [] (map classes_in xs)) (sym c.new-found.ensures.items) nothing
 
-pub are_given-requires : goal.are_given-requires
-are_given-requires c =
+pub calc_given-requires : goal.calc_given-requires
+calc_given-requires c =
     let g = c.args.graph.now in
     let kind = c.args.kind in
     let law = c.computed_rules_are_true.ensures in
-    let P = IsPlacement g (calc_left kind) (count_for kind) in
-    let exact = subst₂ (λ t n. Lists (IsPlacement g t n) (map settled c.in_ok-bounds.bounds.items)) c.in_ok-left.ensures.tree (counted (goal.at.are_given-requires c).After-constants) c.in_ok-bounds.ensures.exact in
-    let each = subst (λ bs. All P (map settled bs)) (sym c.deref-bound-items.ensures.value) exact.each in
-    let placed = has_at c.deref-bound-items.result.now c.loop-bound.bound-index c.bound-item.result c.as_slice.result.now c.in_ok-classes.classes c.loop-bound-test.true c.bound-item.is c.as_slice.ensures c.in_ok-classes.ensures P each in
-    subst (CanGive g kind) (sym c.as_slice-in-loop-bound.ensures) (can_give law.usable law.last g c.in_ok-bounds.ensures.graph kind c.in_ok-classes.classes placed)
+    let m = matches_of (goal.at.calc_given-requires c).After-deref-one-items in
+    let placed = classes_at c.deref-one-items.result.now c.loop-one.one-index c.one-item.result c.loop-one-test.true c.one-item.is (IsPlacement g (calc_left kind) (count_for kind)) m.lists.each in
+    subst (CanGive g kind) (sym c.as_slice.ensures) (can_give law.usable law.last g c.in_ok-tables.ensures.graph kind c.one-item.result.classes placed)
 
-pub loop-bound-preserved : goal.loop-bound-preserved
-loop-bound-preserved c =
-    let D = IsGiven c.args.graph.now c.args.kind in
-    let bounds = c.deref-bound-items.result.now in
-    let i = c.loop-bound.bound-index in
-    let classes = c.in_ok-classes.classes in
-    let exact = c.in_ok-are_given.ensures in
-    elim c.if-branch.branch [
-      | then-branch+in_ok-push w ↦
-          (let has = subst D c.as_slice-in-loop-bound.ensures (exact.0 w.if-branch.true) in
-          let after = loop_takes bounds i c.bound-item.result c.as_slice.result.now classes c.loop-bound-test.true c.bound-item.is c.as_slice.ensures c.in_ok-classes.ensures D c.loop-bound.found.items c.loop-bound.invariant _ _ w.in_ok-push.ensures.items refl has in
-          let chosen = subst (λ f. Chosen (AsItself D D) (map settled (take (i + 1) bounds)) (map classes_in f.items)) (sym w.found-is) after in
-          chosen)
-      | else-branch w ↦
-          (let f : c.in_ok-are_given.field-0 ≡ false = w.if-branch.false in
-          let same = loop_skips bounds i c.bound-item.result c.as_slice.result.now classes c.loop-bound-test.true c.bound-item.is c.as_slice.ensures c.in_ok-classes.ensures D c.loop-bound.found.items c.loop-bound.invariant
-          (λ q. let t : c.in_ok-are_given.field-0 ≡ true = exact.1 (subst D (sym c.as_slice-in-loop-bound.ensures) q) in absurd (cc)) in
-          let chosen = subst (λ f. Chosen (AsItself D D) (map settled (take (i + 1) bounds)) (map classes_in f.items)) (sym w.found-is) same in
-          chosen)
+pub loop-one-preserved : goal.loop-one-preserved
+loop-one-preserved c =
+    let g = c.args.graph.now in
+    let kind = c.args.kind in
+    let D = IsGiven g kind in
+    let items = c.deref-one-items.result.now in
+    let i = c.loop-one.one-index in
+    let m = c.one-item.result in
+    let given = c.in_ok-given.given in
+    let exact = subst (λ cs. MatchOption given ((e : ℕ) → ¬ AreGiven g kind cs e) (AreGiven g kind cs)) c.as_slice.ensures c.in_ok-given.ensures in
+    elim c.if-is_some.branch [
+      | then-is_some+in_ok-with+in_ok-push w ↦
+          (let there : is_some given ≡ true = search rules in
+          let e = some_if ((e : ℕ) → ¬ AreGiven g kind m.classes e) (AreGiven g kind m.classes) given exact there in
+          let after = loop_takes items i m c.loop-one-test.true c.one-item.is D c.loop-one.found.items c.loop-one.invariant _ w.in_ok-with.field-0 w.in_ok-push.ensures.items (ap classes_in w.in_ok-with.ensures) (e.0, e.2) in
+          subst (λ f. Chosen (AsItself D D) (map classes_in (take (i + 1) items)) (map classes_in f.items)) (sym w.found-is) after)
+      | else-is_some w ↦
+          (let there : is_some given ≡ false = search rules in
+          let none = none_if ((e : ℕ) → ¬ AreGiven g kind m.classes e) (AreGiven g kind m.classes) given exact there in
+          let same = loop_skips items i m c.loop-one-test.true c.one-item.is D c.loop-one.found.items c.loop-one.invariant (λ q. none q.0 q.1) in
+          subst (λ f. Chosen (AsItself D D) (map classes_in (take (i + 1) items)) (map classes_in f.items)) (sym w.found-is) same)
     ]
 
 pub returns : goal.returns
 returns c =
     let g = c.args.graph.now in
     let kind = c.args.kind in
+    let is = c.in_ok-tables.ensures.graph in
     let law = c.computed_rules_are_true.ensures in
     let numbers = c.constants_are_numbered.ensures.numbers in
-    let is = c.in_ok-bounds.ensures.graph in
-    let out = c.in_ok-bounds.bounds.items in
     let D = IsGiven g kind in
     let P = IsPlacement g (calc_left kind) (count_for kind) in
-    let placed = subst₂ (λ t n. Lists (IsPlacement g t n) (map settled out)) c.in_ok-left.ensures.tree (counted (goal.at.returns c).After-constants) c.in_ok-bounds.ensures.exact in
-    let all = ap (map settled) (take_all c.loop-bound.bound-index c.deref-bound-items.result.now c.loop-bound-test.false ∙ c.deref-bound-items.ensures.value) in
-    let chosen = subst (λ xs. Chosen (AsItself D D) xs (map classes_in c.loop-bound.found.items)) all c.loop-bound.invariant in
-    let listed = chosen_lists P D (map settled out) (map classes_in c.loop-bound.found.items) placed chosen in
-    let matches = lists_same (λ cs. P cs × D cs) (IsMatchOf g (computed kind)) (map classes_in c.loop-bound.found.items) (λ cs h. computed_matched law.usable law.last g is kind cs numbers h) (λ cs h. matched_computed law.usable law.last g is kind cs numbers h) listed in
-    record { exact = subst (Lists (IsMatchOf g (computed kind))) (sym (ap (map classes_in) c.from.ensures)) matches }
+    let all = matches_of (goal.at.returns c).After-deref-one-items in
+    let listed = whole P D c.deref-one-items.result.now c.loop-one.found.items all.lists c.loop-one.one-index c.loop-one-test.false c.loop-one.invariant in
+    let matches = lists_same (λ cs. P cs × D cs) (IsMatchOf g (computed kind)) (map classes_in c.loop-one.found.items) (λ cs h. computed_matched law.usable law.last g is kind cs numbers h) (λ cs h. matched_computed law.usable law.last g is kind cs numbers h) listed in
+    record { exact = subst (λ xs. Lists (IsMatchOf g (computed kind)) (map classes_in xs)) (sym c.from.ensures) matches }

@@ -1,8 +1,7 @@
-use Rattle.std.proofs.Common.{map, length, sym, ap, ◌∙◌, subst, subst₂}
-use Rattle.std.proofs.lemmas.List.{take_all}
+use Rattle.std.proofs.Common.{map, length, sym, ap, subst, subst₂}
 use Rattle.word_terms.specs.Tree.{AreBelow}
 use Rattle.axiom_base.specs.Schemes.{plain}
-use Rattle.pattern_match.specs.Bindings.{IsPlacement, settled}
+use Rattle.pattern_match.specs.Bindings.{IsPlacement, AreMatches}
 use Rattle.pattern_match.specs.Found.{classes_in}
 use Rattle.pattern_match.specs.Listing.{Lists}
 use Rattle.pattern_match.specs.Matches.{IsMatchOf}
@@ -13,16 +12,15 @@ use Rattle.pattern_match.proofs.plain.matches.Goals as goal
 pub placements-requires-clause-below : goal.placements-requires-clause-below
 placements-requires-clause-below c =
     let r = c.args.rule.now in
-    subst₂ (λ n t. AreBelow n t) (ap length (sym c.variables.ensures.sorts)) (sym c.left.ensures) (rule_below r c.variables.ensures.rule)
+    subst₂ (λ n t. AreBelow n t) (ap length (sym c.variables-variables.ensures.sorts)) (sym c.left.ensures) (rule_below r c.variables-variables.ensures.rule)
 
 pub returns : goal.returns
 returns c =
     let g = c.args.graph.now in
     let r = c.args.rule.now in
-    let is = c.in_ok-bounds.ensures.graph in
-    let rule = c.variables.ensures.rule in
-    let out = c.in_ok-bounds.bounds.items in
-    let placed = subst₂ (λ t n. Lists (IsPlacement g t n) (map settled out)) c.left.ensures (ap length c.variables.ensures.sorts) c.in_ok-bounds.ensures.exact in
-    let found = c.loop-bound.invariant ∙ ap (map settled) (take_all c.loop-bound.bound-index c.deref-bound-items.result.now c.loop-bound-test.false ∙ c.deref-bound-items.ensures.value) in
-    let listed = lists_same (IsPlacement g r.left (length r.variables)) (IsMatchOf g (plain r)) (map settled out) (rule_matched g is r rule) (matched_rule g is r rule) placed in
-    record { exact = subst (Lists (IsMatchOf g (plain r))) (sym (ap (map classes_in) c.from.ensures ∙ found)) listed }
+    let is = c.in_ok-tables.ensures.graph in
+    let rule = c.variables-variables.ensures.rule in
+    let out = c.in_ok-found.found.items in
+    let placed = subst₂ (λ t n. AreMatches g t (IsPlacement g t n) out) c.left.ensures (ap length c.variables-variables.ensures.sorts) c.in_ok-found.ensures.exact in
+    let listed = lists_same (IsPlacement g r.left (length r.variables)) (IsMatchOf g (plain r)) (map classes_in out) (rule_matched g is r rule) (matched_rule g is r rule) placed.lists in
+    record { exact = subst (λ xs. Lists (IsMatchOf g (plain r)) (map classes_in xs)) (sym c.from.ensures) listed }

@@ -1,0 +1,45 @@
+use Rattle.std.proofs.Common.{◌≡◌, ◌^◌, ◌-◌, min, length, map, sym, ap, ◌∙◌, subst}
+use Rattle.std.proofs.lemmas.List.{length-map}
+use Rattle.std.proofs.lemmas.Option.{MatchOption-at_some, MatchOption-at_none}
+use Rattle.axiom_base.specs.Equations as rows
+use Rattle.axiom_base.specs.Schemes.{calc_kinds, schemes}
+use Rattle.saturation.specs.Asking.{AreAsked, AreUnmetOf, AreUnmetOfKind, StopFits}
+use Rattle.saturation.specs.Trace.{operators_asked}
+use Rattle.saturation.specs.Instances.{asked_of}
+use Rattle.saturation.proofs.LoopSteps.{end_fits, goes_on_with}
+use Rattle.saturation.proofs.Searched.{all_are_asked, zip_length}
+use Rattle.saturation.proofs.stepping.decide.Goals as goal
+use Rattle.saturation.proofs.stepping.decide.Goals.{After-len}
+
+pub ask-requires-clause-by_equation : goal.ask-requires-clause-by_equation
+ask-requires-clause-by_equation c = zip_length (AreUnmetOf c.args.graph.now) rows.equations c.in_ok-unmet.unmet.equations.items c.in_ok-unmet.ensures.found.equations ∙ sym (ap length c.requires.equations)
+
+pub ask-requires-clause-by_rule : goal.ask-requires-clause-by_rule
+ask-requires-clause-by_rule c = zip_length (AreUnmetOf c.args.graph.now) c.args.program.now c.in_ok-unmet.unmet.program.items c.in_ok-unmet.ensures.found.program
+
+pub ask-requires-clause-by_kind : goal.ask-requires-clause-by_kind
+ask-requires-clause-by_kind c = zip_length (AreUnmetOfKind c.args.graph.now) calc_kinds c.in_ok-unmet.unmet.kinds.items c.in_ok-unmet.ensures.found.kinds
+
+are_asked : (c : After-len) → AreAsked c.args.graph.now (schemes c.args.program.now) (map asked_of c.in_ok-asked.asked.items)
+are_asked c =
+    let g = c.args.graph.now in
+    let axioms = c.args.program.now in
+    subst (AreAsked g (schemes axioms)) (sym c.in_ok-asked.ensures.asked) (all_are_asked c.schemes_are_true.ensures.weights g c.operators_are_listed.ensures.each c.matches_have_sorts.ensures.folds axioms c.in_ok-unmet.unmet c.in_ok-unmet.ensures.found)
+
+count_is : (c : After-len) → c.len.result ≡ length (map asked_of c.in_ok-asked.asked.items)
+count_is c = c.len.ensures ∙ c.in_ok-asked.asked.ok.0 ∙ sym (length-map c.in_ok-asked.asked.items asked_of)
+
+need_is : (c : After-len) → c.need_of-need.result ≡ min (operators_asked (map asked_of c.in_ok-asked.asked.items)) (2 ^ 64 - 1)
+need_is c = c.need_of-need.ensures ∙ ap (λ xs. min (operators_asked (map asked_of xs)) (2 ^ 64 - 1)) c.deref.ensures.value
+
+pub returns-in-Some-clause-step : goal.returns-in-Some-clause-step
+returns-in-Some-clause-step c =
+    let k = (goal.at.returns-in-Some-clause-step c).After-len in
+    let fits = MatchOption-at_some _ _ c.in-Some.stop c.in-Some.is c.stop_of.ensures in
+    end_fits c.args.program.now c.args.graph.now (map asked_of c.in_ok-asked.asked.items) (are_asked k) c.need_of-need.result c.rows.result c.args.nodes c.args.last c.in-Some.stop (need_is k) c.rows.ensures.value (subst (λ n. StopFits n c.need_of-need.result c.rows.result c.args.last c.args.nodes c.in-Some.stop) (count_is k) fits)
+
+pub returns-clause-step : goal.returns-clause-step
+returns-clause-step c =
+    let k = (goal.at.returns-clause-step c).After-len in
+    let none = MatchOption-at_none _ _ c.in-None.is c.stop_of.ensures in
+    goes_on_with c.args.program.now c.args.graph.now c.args.last (map asked_of c.in_ok-asked.asked.items) c.need_of-need.result c.rows.result c.args.nodes c.len.result (are_asked k) (count_is k) (need_is k) c.rows.ensures.value c.requires.nodes none

@@ -1,0 +1,27 @@
+-- What is done with a graph after a number of rounds. From this project.
+use Rattle.std.specs.Prelude.{◌≡◌, ◌≢◌, ℕ, ◌+◌, ◌≤◌, Bool, true, false, List, length, map}
+use Rattle.word_ops.specs.declared.sorts.Op.{Op}
+use Rattle.axiom_base.specs.Rewrites.{Rewrite}
+use Rattle.axiom_base.specs.Schemes.{schemes}
+use Rattle.egraph.specs.Graph.{Graph}
+use Rattle.saturation.specs.Asking.{AreAsked}
+use Rattle.saturation.specs.Grown.{IsQuiet, IsFull}
+use Rattle.saturation.specs.Instances.{asked_of}
+use Rattle.saturation.specs.Trace.{Asked, operators_asked}
+use Rattle.saturation.specs.declared.stepping.Step.{Step}
+use Rattle.saturation.specs.declared.stepping.Step.TheVariants.{End, Round}
+use Rattle.saturation.specs.declared.rounds.Stop.TheVariants.{Quiet, Rounds, Full}
+
+-- what another round asks for: some of it, and not more than there is room for
+pub record GoesOn (axioms : List Rewrite) (g : Graph Op) (last : Bool) (nodes : ℕ) (asked : List Asked) : Type 0 where
+  pub are : AreAsked g (schemes axioms) asked
+  pub some : length asked ≢ 0
+  pub more : last ≡ false
+  pub within : length g.rows + operators_asked asked ≤ nodes
+
+-- the step is the one that a graph with so many rows allowed calls for; `last` says that all rounds are done
+abbrev pub StepFits : List Rewrite → Graph Op → Bool → ℕ → Step → Type 0
+StepFits axioms g last nodes (End Quiet) = IsQuiet axioms g
+StepFits axioms g last nodes (End Rounds) = (¬ IsQuiet axioms g) × (last ≡ true)
+StepFits axioms g last nodes (End Full) = (¬ IsQuiet axioms g) × (last ≡ false) × IsFull axioms g nodes
+StepFits axioms g last nodes (Round asked) = GoesOn axioms g last nodes (map asked_of asked.items)

@@ -1,0 +1,71 @@
+// Whether rounds end with a graph, and what the next one asks for where they go on.
+ghost use Rattle.std.specs.Prelude.{◌≡◌, ◌≢◌, ◌≤◌, ◌+◌, false, All, MatchOption, IfOk, OnOk};
+ghost use Rattle.word_terms.specs.Keys.{op_signature};
+ghost use Rattle.axiom_base.specs.Equations as rows;
+ghost use Rattle.axiom_base.specs.Rewrites.{IsRule};
+ghost use Rattle.egraph.specs.Graph.{IsGraph};
+ghost use Rattle.saturation.specs.Asking.{StopFits};
+ghost use Rattle.saturation.specs.Steps.{StepFits};
+
+use crate::asking::{ask, need_of};
+use crate::instance::Instance;
+use crate::rounds::Stop;
+use crate::searching::search;
+use axiom_base::{Rule, schemes_are_true};
+use egraph::Egraph;
+use items::NoMemory;
+use pattern_match::matches_have_sorts;
+use std::alloc::Global;
+use word_ops::{Op, operators_are_listed};
+
+/// What is done with a graph after a number of rounds.
+#[derive(Drop)]
+pub(crate) enum Step {
+    /// The rounds end.
+    End(Stop),
+    /// Another round is made, in which all of this is asked for.
+    Round(Vec<Instance>),
+}
+
+/// Whether rounds end with the graph; `last` says that no more are asked for.
+pub(crate) fn decide(
+    alloc: Global,
+    graph: &Egraph<Op>,
+    equations: &[Rule],
+    program: &[Rule],
+    last: bool,
+    nodes: u32,
+) -> Result<Step, NoMemory>
+    requires graph { IsGraph op_signature graph.now }
+    requires equations { equations.now ≡ rows.equations }
+    requires nodes { nodes ≤ 4096 }
+    ensures step { IfOk result (StepFits program.now graph.now last nodes) }
+    ensures rules { OnOk result (All IsRule program.now) }
+{
+    schemes_are_true();
+    operators_are_listed();
+    matches_have_sorts();
+    let unmet = search(alloc, graph, equations, program)?;
+    let asked = ask(alloc, equations, program, &unmet)?;
+    let need = need_of(&asked);
+    match stop_of(asked.len(), need, graph.rows(), last, nodes) {
+        Some(stop) => Ok(Step::End(stop)),
+        None => Ok(Step::Round(asked)),
+    }
+}
+
+fn stop_of(asked: usize, need: u64, rows: u32, last: bool, nodes: u32) -> Option<Stop>
+    ensures { MatchOption result
+        ((asked ≢ 0) × (last ≡ false) × (rows + need ≤ nodes))
+        (λ stop. StopFits asked need rows last nodes stop) }
+{
+    if asked == 0 {
+        Some(Stop::Quiet)
+    } else if last {
+        Some(Stop::Rounds)
+    } else if need > u64::from(nodes) || u64::from(rows) + need > u64::from(nodes) {
+        Some(Stop::Full)
+    } else {
+        None
+    }
+}
