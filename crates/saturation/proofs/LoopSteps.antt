@@ -6,7 +6,7 @@ use Rattle.word_ops.specs.Worlds.{World, IsWorld}
 use Rattle.word_ops.specs.declared.sorts.Op.{Op}
 use Rattle.word_terms.specs.Tree.{Tree}
 use Rattle.word_terms.specs.Keys.{op_signature}
-use Rattle.axiom_base.specs.Rewrites.{Rewrite, IsUsable, IsTrueIn}
+use Rattle.axiom_base.specs.Rewrites.{Rewrite, IsRule, IsUsable, IsTrueIn}
 use Rattle.axiom_base.specs.Schemes.{IsRuleOf, schemes}
 use Rattle.egraph.specs.Graph.{Graph, IsGraph}
 use Rattle.egraph.specs.declared.faults.MergeFault.{MergeFault}
@@ -76,12 +76,13 @@ module _ (axioms : List Rewrite) (g : Graph Op) (asked : List Asked) (are : AreA
   end_fits need rows nodes last Full n r h = (unmet h.0, h.1, record { need = operators_asked asked; is = are.needs; passed = let p = h.2 in omega (arith, n, r, p) })
 
 -- rounds go on with what is asked
-pub goes_on_with : (axioms : List Rewrite) (g : Graph Op) (last : Bool) (asked : List Asked) (need rows nodes count : ℕ) → AreAsked g (schemes axioms) asked → count ≡ length asked → need ≡ min (operators_asked asked) (2 ^ 64 - 1) → rows ≡ length g.rows → nodes ≤ 4096 → (count ≢ 0) × (last ≡ false) × (rows + need ≤ nodes) → GoesOn axioms g last nodes asked
-goes_on_with axioms g last asked need rows nodes count are c n r few h = record {
+pub goes_on_with : (axioms : List Rewrite) (g : Graph Op) (last : Bool) (asked : List Asked) (need rows nodes count : ℕ) → AreAsked g (schemes axioms) asked → count ≡ length asked → need ≡ min (operators_asked asked) (2 ^ 64 - 1) → rows ≡ length g.rows → nodes ≤ 4096 → All IsRule axioms → (count ≢ 0) × (last ≡ false) × (rows + need ≤ nodes) → GoesOn axioms g last nodes asked
+goes_on_with axioms g last asked need rows nodes count are c n r few rules h = record {
   are = are;
   some = λ e. h.0 (c ∙ e);
   more = h.1;
   within = let w = h.2 in omega (arith, n, r, few, w);
+  rules = rules;
 }
 
 module _ (axioms : List Rewrite) (start : Graph Op) (rounds nodes : ℕ) (g : Graph Op) (j : ℕ) (running : Running axioms start rounds nodes g j) (asked : List Asked) (need : ℕ) (ready : Ready axioms g asked need)

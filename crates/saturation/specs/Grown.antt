@@ -22,6 +22,10 @@ pub record IsGrown (axioms : List Rewrite) (present : List (Tree Op)) (equal : L
   pub inhabited : AreInhabited g
   pub exact : (t u : Tree Op) → HaveOneClass g [] t u ↔ Derives axioms present equal j t u
 
+-- no match of these schemes is unmet
+abbrev pub AreMet : Graph Op → List Scheme → Type 0
+AreMet g ss = (s : Scheme) → Contains ss s → (places : List ℕ) → ¬ IsUnmetOf g s places
+
 -- no match is unmet
 abbrev pub IsQuiet : List Rewrite → Graph Op → Type 0
 IsQuiet axioms g = (s : Scheme) → Contains (schemes axioms) s → (places : List ℕ) → ¬ IsUnmetOf g s places

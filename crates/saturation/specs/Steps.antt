@@ -1,7 +1,7 @@
 -- What is done with a graph after a number of rounds. From this project.
-use Rattle.std.specs.Prelude.{◌≡◌, ◌≢◌, ℕ, ◌+◌, ◌≤◌, Bool, true, false, List, length, map}
+use Rattle.std.specs.Prelude.{◌≡◌, ◌≢◌, ℕ, ◌+◌, ◌≤◌, Bool, true, false, List, length, map, All}
 use Rattle.word_ops.specs.declared.sorts.Op.{Op}
-use Rattle.axiom_base.specs.Rewrites.{Rewrite}
+use Rattle.axiom_base.specs.Rewrites.{Rewrite, IsRule}
 use Rattle.axiom_base.specs.Schemes.{schemes}
 use Rattle.egraph.specs.Graph.{Graph}
 use Rattle.saturation.specs.Asking.{AreAsked}
@@ -18,6 +18,7 @@ pub record GoesOn (axioms : List Rewrite) (g : Graph Op) (last : Bool) (nodes : 
   pub some : length asked ≢ 0
   pub more : last ≡ false
   pub within : length g.rows + operators_asked asked ≤ nodes
+  pub rules : All IsRule axioms
 
 -- the step is the one that a graph with so many rows allowed calls for; `last` says that all rounds are done
 abbrev pub StepFits : List Rewrite → Graph Op → Bool → ℕ → Step → Type 0

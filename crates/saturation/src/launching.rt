@@ -29,8 +29,7 @@ use word_ops::Op;
 use word_terms::{Term, terms_are_trees};
 
 /// What is launched from the graph of a goal after its rounds. All rows are kept in their order; classes and declared
-/// operators are numbered from 0 in the order of their first rows. For each term of the goal it looks at each row once
-/// an operator.
+/// operators are numbered from 0 in the order of their first rows. Each operator of a term of the goal costs a look-up.
 pub fn to_launch(
     alloc: Global,
     saturated: &Saturated,

@@ -13,6 +13,7 @@ mod launching;
 mod laws;
 mod making;
 mod numbering;
+mod quiet;
 mod rounds;
 mod searching;
 mod stepping;

@@ -1,14 +1,14 @@
 // Whether rounds end with a graph, and what the next one asks for where they go on.
-ghost use Rattle.std.specs.Prelude.{◌≡◌, ◌≢◌, ◌≤◌, ◌+◌, false, All, MatchOption, IfOk, OnOk};
+ghost use Rattle.std.specs.Prelude.{◌≡◌, ◌≢◌, ◌≤◌, ◌+◌, false, MatchOption, IfOk};
 ghost use Rattle.word_terms.specs.Keys.{op_signature};
 ghost use Rattle.axiom_base.specs.Equations as rows;
-ghost use Rattle.axiom_base.specs.Rewrites.{IsRule};
 ghost use Rattle.egraph.specs.Graph.{IsGraph};
 ghost use Rattle.saturation.specs.Asking.{StopFits};
 ghost use Rattle.saturation.specs.Steps.{StepFits};
 
 use crate::asking::{ask, need_of};
 use crate::instance::Instance;
+use crate::quiet::is_quiet;
 use crate::rounds::Stop;
 use crate::searching::search;
 use axiom_base::{Rule, schemes_are_true};
@@ -40,11 +40,16 @@ pub(crate) fn decide(
     requires equations { equations.now ≡ rows.equations }
     requires nodes { nodes ≤ 4096 }
     ensures step { IfOk result (StepFits program.now graph.now last nodes) }
-    ensures rules { OnOk result (All IsRule program.now) }
 {
     schemes_are_true();
     operators_are_listed();
     matches_have_sorts();
+    if last {
+        if is_quiet(alloc, graph, equations, program)? {
+            return Ok(Step::End(Stop::Quiet));
+        }
+        return Ok(Step::End(Stop::Rounds));
+    }
     let unmet = search(alloc, graph, equations, program)?;
     let asked = ask(alloc, equations, program, &unmet)?;
     let need = need_of(&asked);

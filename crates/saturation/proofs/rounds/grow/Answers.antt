@@ -40,7 +40,7 @@ facts c =
     record {
       ready = record {
         graph = c.made-made.ensures.graph;
-        usable = λ r. c.schemes_are_true.ensures.usable axioms r c.in_ok-stop.ensures.rules;
+        usable = λ r. c.schemes_are_true.ensures.usable axioms r on.rules;
         are = on.are;
         asks = asks_of c.constants_are_numbered.ensures.numbers c.computed_rules_are_true.ensures.one axioms g c.made-made.ensures.graph asked on.are;
         need_is = let w = on.within in omega (arith, w, c.requires.nodes);

@@ -1,4 +1,4 @@
-use Rattle.std.proofs.Common.{◌≡◌, ◌^◌, ◌-◌, min, length, map, sym, ap, ◌∙◌, subst}
+use Rattle.std.proofs.Common.{true, false, ◌≡◌, ◌^◌, ◌-◌, min, length, map, sym, ap, ◌∙◌, subst}
 use Rattle.std.proofs.lemmas.List.{length-map}
 use Rattle.std.proofs.lemmas.Option.{MatchOption-at_some, MatchOption-at_none}
 use Rattle.axiom_base.specs.Equations as rows
@@ -32,14 +32,22 @@ count_is c = c.len.ensures ∙ c.in_ok-asked.asked.ok.0 ∙ sym (length-map c.in
 need_is : (c : After-len) → c.need_of-need.result ≡ min (operators_asked (map asked_of c.in_ok-asked.asked.items)) (2 ^ 64 - 1)
 need_is c = c.need_of-need.ensures ∙ ap (λ xs. min (operators_asked (map asked_of xs)) (2 ^ 64 - 1)) c.deref.ensures.value
 
-pub returns-in-Some-clause-step : goal.returns-in-Some-clause-step
-returns-in-Some-clause-step c =
-    let k = (goal.at.returns-in-Some-clause-step c).After-len in
-    let fits = MatchOption-at_some _ _ c.in-Some.stop c.in-Some.is c.stop_of.ensures in
-    end_fits c.args.program.now c.args.graph.now (map asked_of c.in_ok-asked.asked.items) (are_asked k) c.need_of-need.result c.rows.result c.args.nodes c.args.last c.in-Some.stop (need_is k) c.rows.ensures.value (subst (λ n. StopFits n c.need_of-need.result c.rows.result c.args.last c.args.nodes c.in-Some.stop) (count_is k) fits)
+pub returns-then-branch : goal.returns-then-branch
+returns-then-branch c = record { step = c.in_ok-is_quiet.ensures.0 c.if-branch.true }
 
-pub returns-clause-step : goal.returns-clause-step
-returns-clause-step c =
-    let k = (goal.at.returns-clause-step c).After-len in
+pub returns-then-last : goal.returns-then-last
+returns-then-last c =
+    let f : c.in_ok-is_quiet.field-0 ≡ false = c.if-branch.false in
+    record { step = (λ q. (let t : c.in_ok-is_quiet.field-0 ≡ true = c.in_ok-is_quiet.ensures.1 q in absurd (cc)), c.if-last.true) }
+
+pub returns-in-Some : goal.returns-in-Some
+returns-in-Some c =
+    let k = (goal.at.returns-in-Some c).After-len in
+    let fits = MatchOption-at_some _ _ c.in-Some.stop c.in-Some.is c.stop_of.ensures in
+    record { step = end_fits c.args.program.now c.args.graph.now (map asked_of c.in_ok-asked.asked.items) (are_asked k) c.need_of-need.result c.rows.result c.args.nodes c.args.last c.in-Some.stop (need_is k) c.rows.ensures.value (subst (λ n. StopFits n c.need_of-need.result c.rows.result c.args.last c.args.nodes c.in-Some.stop) (count_is k) fits) }
+
+pub returns : goal.returns
+returns c =
+    let k = (goal.at.returns c).After-len in
     let none = MatchOption-at_none _ _ c.in-None.is c.stop_of.ensures in
-    goes_on_with c.args.program.now c.args.graph.now c.args.last (map asked_of c.in_ok-asked.asked.items) c.need_of-need.result c.rows.result c.args.nodes c.len.result (are_asked k) (count_is k) (need_is k) c.rows.ensures.value c.requires.nodes none
+    record { step = goes_on_with c.args.program.now c.args.graph.now c.args.last (map asked_of c.in_ok-asked.asked.items) c.need_of-need.result c.rows.result c.args.nodes c.len.result (are_asked k) (count_is k) (need_is k) c.rows.ensures.value c.requires.nodes c.in_ok-unmet.ensures.rules none }

@@ -1,0 +1,93 @@
+// Whether a match is unmet at all.
+ghost use Rattle.std.specs.Prelude.{◌≡◌, ◌↔◌, true, false, map, IsTrue, IfOk};
+ghost use Rattle.word_terms.specs.Keys.{op_signature};
+ghost use Rattle.axiom_base.specs.Equations as rows;
+ghost use Rattle.axiom_base.specs.Schemes.{plain, computed, calc_kinds};
+ghost use Rattle.egraph.specs.Graph.{IsGraph};
+ghost use Rattle.pattern_match.specs.ByOperator.{AreLists};
+ghost use Rattle.saturation.specs.Grown.{AreMet, IsQuiet};
+
+use axiom_base::{CALC_KINDS, Rule};
+use egraph::Egraph;
+use items::NoMemory;
+use pattern_match::{RowTables, find_calc_unmet, find_unmet, folds, matches_have_sorts};
+use std::alloc::Global;
+use word_ops::{Op, operators_are_listed};
+
+/// Whether no match is unmet, with the program's own rules. The search ends with the first one that is.
+pub(crate) fn is_quiet(
+    alloc: Global,
+    graph: &Egraph<Op>,
+    equations: &[Rule],
+    program: &[Rule],
+) -> Result<bool, NoMemory>
+    requires graph { IsGraph op_signature graph.now }
+    requires equations { equations.now ≡ rows.equations }
+    ensures { IfOk result (λ quiet. IsTrue quiet ↔ IsQuiet program.now graph.now) }
+{
+    let tables = RowTables::new(alloc, graph)?;
+    is_quiet_by(alloc, graph, &tables, equations, program)
+}
+
+fn is_quiet_by(
+    alloc: Global,
+    graph: &Egraph<Op>,
+    tables: &RowTables,
+    equations: &[Rule],
+    program: &[Rule],
+) -> Result<bool, NoMemory>
+    requires graph { IsGraph op_signature graph.now }
+    requires by_class { AreLists true graph.now 0 tables.now.by_class.firsts.entries tables.now.by_class.nexts.items }
+    requires by_operator { AreLists false graph.now 0 tables.now.by_operator.firsts.entries tables.now.by_operator.nexts.items }
+    requires equations { equations.now ≡ rows.equations }
+    ensures { IfOk result (λ quiet. IsTrue quiet ↔ IsQuiet program.now graph.now) }
+{
+    operators_are_listed();
+    matches_have_sorts();
+    if !are_met(alloc, graph, tables, equations)? {
+        return Ok(false);
+    }
+    if !are_met(alloc, graph, tables, program)? {
+        return Ok(false);
+    }
+    if !are_kinds_met(alloc, graph, tables)? {
+        return Ok(false);
+    }
+    let found = folds(alloc, graph)?;
+    Ok(found.len() == 0)
+}
+
+fn are_met(
+    alloc: Global,
+    graph: &Egraph<Op>,
+    tables: &RowTables,
+    rules: &[Rule],
+) -> Result<bool, NoMemory>
+    requires graph { IsGraph op_signature graph.now }
+    requires by_class { AreLists true graph.now 0 tables.now.by_class.firsts.entries tables.now.by_class.nexts.items }
+    requires by_operator { AreLists false graph.now 0 tables.now.by_operator.firsts.entries tables.now.by_operator.nexts.items }
+    ensures { IfOk result (λ met. IsTrue met ↔ AreMet graph.now (map plain rules.now)) }
+{
+    for rule in rules {
+        let found = find_unmet(alloc, graph, tables, rule, 0)?;
+        if found.len() > 0 {
+            return Ok(false);
+        }
+    }
+    Ok(true)
+}
+
+fn are_kinds_met(alloc: Global, graph: &Egraph<Op>, tables: &RowTables) -> Result<bool, NoMemory>
+    requires graph { IsGraph op_signature graph.now }
+    requires by_class { AreLists true graph.now 0 tables.now.by_class.firsts.entries tables.now.by_class.nexts.items }
+    requires by_operator { AreLists false graph.now 0 tables.now.by_operator.firsts.entries tables.now.by_operator.nexts.items }
+    ensures { IfOk result (λ met. IsTrue met ↔ AreMet graph.now (map computed calc_kinds)) }
+{
+    for kind in &CALC_KINDS {
+        let found = find_calc_unmet(alloc, graph, tables, *kind)?;
+        if found.len() > 0 {
+            return Ok(false);
+        }
+    }
+    Ok(true)
+}
