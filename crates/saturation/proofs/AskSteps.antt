@@ -65,7 +65,7 @@ module _ {A B : Type 0} (R : A → B → Type 0) where
 
 -- ---- what is asked for by several schemes
 
-operators_append : (xs ys : List Asked) → operators_asked (xs ++ ys) ≡ operators_asked xs + operators_asked ys
+pub operators_append : (xs ys : List Asked) → operators_asked (xs ++ ys) ≡ operators_asked xs + operators_asked ys
 operators_append [] ys = omega arith
 operators_append (x ∷ xs) ys = let e = operators_append xs ys in omega (arith, e)
 

@@ -25,6 +25,7 @@ pub mod Folded
 pub mod MatchLists
 pub mod SchemeLists
 pub mod Searched
+pub mod NeedSteps
 pub mod MetMatches
 pub mod LoopSteps
 pub mod FewRows

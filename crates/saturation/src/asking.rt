@@ -1,8 +1,7 @@
 // What a round asks for: the right side of each unmet match, over the classes of the match.
-ghost use Rattle.std.specs.Prelude.{◌≡◌, [], ◌++◌, ◌-◌, ◌^◌, min, map, length, IfOk, OnOk};
+ghost use Rattle.std.specs.Prelude.{◌≡◌, [], ◌++◌, map, length, IfOk, OnOk};
 ghost use Rattle.axiom_base.specs.Equations as rows;
 ghost use Rattle.axiom_base.specs.Schemes.{calc_kinds};
-ghost use Rattle.saturation.specs.Trace.{operators_asked};
 ghost use Rattle.saturation.specs.Asking.{asked_of_each, asked_of_all, fold_asked, kind_asked, rule_asked};
 ghost use Rattle.saturation.specs.Instances.{asked_of};
 
@@ -10,7 +9,7 @@ use crate::instance::Instance;
 use crate::searching::Unmet;
 use axiom_base::{CALC_KINDS, Calc, Rule, calc_right};
 use items::{Items, NoMemory};
-use pattern_match::{Fold, Match, operators};
+use pattern_match::{Fold, Match};
 use std::alloc::Global;
 use word_ops::Op;
 use word_terms::application;
@@ -119,15 +118,4 @@ fn ask_folds(alloc: Global, found: &[Fold], asked: &mut Vec<Instance>) -> Result
         })?;
     }
     Ok(())
-}
-
-/// The operators of all that is asked for, or 2 ^ 64 - 1 where they are more.
-pub(crate) fn need_of(asked: &[Instance]) -> u64
-    ensures { result ≡ min (operators_asked (map asked_of asked.now)) (2 ^ 64 - 1) }
-{
-    let mut need: u64 = 0;
-    for one in asked {
-        need = need.saturating_add(operators(&one.right));
-    }
-    need
 }

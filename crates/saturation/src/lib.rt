@@ -12,6 +12,7 @@ mod launch_laws;
 mod launching;
 mod laws;
 mod making;
+mod needing;
 mod numbering;
 mod quiet;
 mod rounds;

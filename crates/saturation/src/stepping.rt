@@ -1,13 +1,14 @@
 // Whether rounds end with a graph, and what the next one asks for where they go on.
-ghost use Rattle.std.specs.Prelude.{◌≡◌, ◌≢◌, ◌≤◌, ◌+◌, false, MatchOption, IfOk};
+ghost use Rattle.std.specs.Prelude.{◌≡◌, ◌≢◌, ◌≤◌, ◌<◌, ◌+◌, ◌↔◌, false, IsTrue, MatchOption, IfOk};
 ghost use Rattle.word_terms.specs.Keys.{op_signature};
 ghost use Rattle.axiom_base.specs.Equations as rows;
 ghost use Rattle.egraph.specs.Graph.{IsGraph};
 ghost use Rattle.saturation.specs.Asking.{StopFits};
 ghost use Rattle.saturation.specs.Steps.{StepFits};
 
-use crate::asking::{ask, need_of};
+use crate::asking::ask;
 use crate::instance::Instance;
+use crate::needing::need_of;
 use crate::quiet::is_quiet;
 use crate::rounds::Stop;
 use crate::searching::search;
@@ -51,12 +52,23 @@ pub(crate) fn decide(
         return Ok(Step::End(Stop::Rounds));
     }
     let unmet = search(alloc, graph, equations, program)?;
+    let need = need_of(alloc, equations, program, &unmet)?;
+    if is_over(need, graph.rows(), nodes) {
+        return Ok(Step::End(Stop::Full));
+    }
     let asked = ask(alloc, equations, program, &unmet)?;
-    let need = need_of(&asked);
     match stop_of(asked.len(), need, graph.rows(), last, nodes) {
         Some(stop) => Ok(Step::End(stop)),
         None => Ok(Step::Round(asked)),
     }
+}
+
+// Whether something is needed for which there is no room.
+fn is_over(need: u64, rows: u32, nodes: u32) -> bool
+    requires { nodes ≤ 4096 }
+    ensures { IsTrue result ↔ ((0 < need) × (nodes < rows + need)) }
+{
+    need > 0 && (need > u64::from(nodes) || u64::from(rows) + need > u64::from(nodes))
 }
 
 fn stop_of(asked: usize, need: u64, rows: u32, last: bool, nodes: u32) -> Option<Stop>
