@@ -5,11 +5,10 @@ use Rattle.word_terms.specs.OperatorsIn.{operators_in}
 use Rattle.axiom_base.specs.Computed.{calc_right}
 use Rattle.axiom_base.specs.declared.kinds.Calc.{Calc}
 use Rattle.axiom_base.specs.declared.kinds.Calc.TheVariants.{C1, C2, C3, C4, C5, C6, C7, C8, C9, C10, C11, C12}
-use Rattle.axiom_base.specs.Rewrites.{Rewrite}
 use Rattle.pattern_match.specs.declared.found.Match.{Match}
 use Rattle.pattern_match.specs.declared.found.Fold.{Fold}
 use Rattle.saturation.specs.Trace.{Asked, operators_asked}
-use Rattle.saturation.specs.Asking.{asked_of_each, rule_asked, kind_asked, fold_asked}
+use Rattle.saturation.specs.Asking.{asked_of_each, fold_asked}
 use Rattle.saturation.proofs.AskSteps.{operators_append}
 use Rattle.saturation.proofs.Searched.{one_more_rule}
 
