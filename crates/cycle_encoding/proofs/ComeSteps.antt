@@ -229,13 +229,15 @@ module _ (g : LaunchGraph) (table : Table) where
   row_of row true i h w = absurd (no_word g.guard i h w)
   row_of row false i h w = found_row (slice_get g.rows row) (λ r. op_instr g r.op r.operands) i h
 
-  pub word-row : (row n : ℕ) → word_latency g table row ≡ Some n → (row < length g.rows) × (class_at g row < next_class g.rows)
-  word-row row n h =
-      let l = latency-out row n h in
-      let r = row_of row (row == length g.rows) l.0 l.2 l.3 in
+  pub giving-row : (row : ℕ) (i : InstrKind) → instr_at g row ≡ Some i → gives_word i ≡ true → (row < length g.rows) × (class_at g row < next_class g.rows)
+  giving-row row i h w =
+      let r = row_of row (row == length g.rows) i h w in
       let class : class_at g row ≡ r.0.class = ap (λ (o : Option LaunchRow). option_map_or (λ r. r.class) o 0) r.1 in
       let above = fold_above g.rows 0 row r.0 r.1 in
       (slice_get_within g.rows row r.0 r.1, (omega arith))
+
+  pub word-row : (row n : ℕ) → word_latency g table row ≡ Some n → (row < length g.rows) × (class_at g row < next_class g.rows)
+  word-row row n h = (let l = latency-out row n h in giving-row row l.0 l.2 l.3)
 
 -- ---- the steps of the code
 

@@ -9,6 +9,7 @@ pub mod Totals
 pub mod Launched
 pub mod Tables
 pub mod ComeSteps
+pub mod WantSteps
 pub mod OperandLists
 pub mod Listed
 pub mod Places

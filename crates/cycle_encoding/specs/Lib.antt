@@ -7,5 +7,6 @@ pub mod Counts
 pub mod Plans
 pub mod Facts
 pub mod Coming
+pub mod Wanting
 pub mod Steps
 pub mod Faults

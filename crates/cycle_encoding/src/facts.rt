@@ -8,6 +8,7 @@ ghost use Rattle.schedule_meaning.specs.Launches as launches;
 ghost use Rattle.cycle_encoding.specs.Counts.{row_is};
 ghost use Rattle.schedule_meaning.specs.Readers.{operand_of};
 ghost use Rattle.cycle_encoding.specs.Facts.{IsTableOf, is_made_class};
+ghost use Rattle.cycle_encoding.specs.Wanting.{is_wanted_target};
 ghost use Rattle.cycle_encoding.specs.Families as families;
 ghost use Rattle.cycle_encoding.specs.Variables as variables;
 
@@ -167,6 +168,13 @@ impl<'a> Facts<'a> {
         ensures { result ≡ families.is_made self.now (operand_of class second) }
     {
         !(self.is_zero(class) || (second && self.is_byte(class))) && !self.is_input(class)
+    }
+
+    /// Whether a target is a word and no input's.
+    pub fn is_wanted_target(&self, set: &SetClass) -> bool
+        ensures { result ≡ is_wanted_target self.now set.now }
+    {
+        !set.is_memory() && !self.is_input(set.class)
     }
 
     /// Whether a target has to be made by a launch.

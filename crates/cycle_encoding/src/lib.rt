@@ -17,6 +17,7 @@ mod plans;
 mod scopes;
 mod seen;
 mod slots;
+mod wanting;
 
 pub use coming::come_cycles;
 pub use counts::{Sizes, cycle_sizes, one_size, one_vars, row_count, slot_count};

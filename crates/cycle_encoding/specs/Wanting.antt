@@ -1,0 +1,62 @@
+-- How wanted classes are found: each is marked once, and listed in the order in which it was.
+-- Source: this project.
+use Rattle.std.specs.Prelude.{◌≡◌, ◌↔◌, ℕ, ◌<◌, ◌&&◌, ◌||◌, ◌==◌, not, Bool, true, false, List, ◌++◌, length, Option, Contains, IsTrue, slice_get, slice_index_or}
+use Rattle.std.specs.Option.{option_map_or}
+use Rattle.std.specs.List.{count_by, filter, range_with_len}
+use Rattle.word_ops.specs.declared.sorts.Op.{Op}
+use Rattle.word_ops.specs.declared.sorts.Op.TheVariants.{Store, Put}
+use Rattle.launch_graph.specs.Graphs.{is_memory_name}
+use Rattle.schedule_meaning.specs.Launches.{gives_word, is_branch, class_at}
+use Rattle.launch_graph.specs.declared.graphs.LaunchGraph.{LaunchGraph}
+use Rattle.launch_graph.specs.declared.graphs.SetClass.{SetClass}
+use Rattle.cycle_encoding.specs.Variables.{is_input}
+use Rattle.cycle_encoding.specs.Counts.{row_is}
+use Rattle.cycle_encoding.specs.Narrow.{Wanted}
+use Rattle.cycle_encoding.specs.Coming.{needs_of}
+
+abbrev pub is_marked : List Bool → ℕ → Bool
+is_marked marks class = slice_index_or marks class false
+
+-- a target whose class is wanted for itself
+abbrev pub is_wanted_target : LaunchGraph → SetClass → Bool
+is_wanted_target g s = not (is_memory_name s.name) && not (is_input g s.class)
+
+abbrev pub is_store_op : Op → Bool
+is_store_op Store = true
+is_store_op Put = true
+is_store_op op = false
+
+abbrev pub is_store_row : LaunchGraph → ℕ → Bool
+is_store_row g row = option_map_or (λ r. is_store_op r.op) (slice_get g.rows row) false
+
+-- a row whose operands are wanted whatever its class is: a store, or the branch
+abbrev pub is_root : LaunchGraph → ℕ → Bool
+is_root g row = row_is g is_branch row || is_store_row g row
+
+-- the rows that give the class's word
+abbrev pub giving_rows : LaunchGraph → ℕ → List ℕ
+giving_rows g class =
+    filter (λ row. row_is g gives_word row && (class_at g row == class)) (range_with_len 0 (length g.rows))
+
+-- only wanted classes are listed, each once, and those are the marked ones
+pub record AreMarks (g : LaunchGraph) (marks : List Bool) (order : List ℕ) : Type 0 where
+  pub wanted : (class : ℕ) → Contains order class → Wanted g class
+  pub listed : (class : ℕ) → IsTrue (is_marked marks class) → Contains order class
+  pub within : (class : ℕ) → Contains order class → class < length marks
+  pub count : count_by (λ b. b) marks ≡ length order
+
+-- nothing is taken off the list
+abbrev pub IsLonger : List ℕ → List ℕ → Type 0
+IsLonger old new = (rest : List ℕ) × (new ≡ old ++ rest)
+
+-- marked classes stay so
+abbrev pub StillMarked : List Bool → List Bool → Type 0
+StillMarked old new = (class : ℕ) → IsTrue (is_marked old class) → IsTrue (is_marked new class)
+
+-- each of the classes is marked, where the table has it
+abbrev pub HasMarks : List Bool → List ℕ → Type 0
+HasMarks marks classes = (class : ℕ) → Contains classes class → class < length marks → IsTrue (is_marked marks class)
+
+-- what each row that gives the class's word needs is marked
+abbrev pub IsFollowed : LaunchGraph → List Bool → ℕ → Type 0
+IsFollowed g marks class = (row : ℕ) → Contains (giving_rows g class) row → HasMarks marks (needs_of g row)

@@ -1,0 +1,191 @@
+// Which classes are wanted: those of targets, what stores and the branch need, and what rows of wanted classes need.
+ghost use Rattle.std.specs.Prelude.{◌≡◌, ◌↔◌, ◌∷◌, [], ℕ, ◌+◌, ◌<◌, ◌≤◌, ◌^◌, Contains, IsTrue, length, map, IfOk, OnOk};
+ghost use Rattle.std.specs.List.{range_with_len};
+ghost use Rattle.launch_graph.specs.WellFormed as wellformed;
+ghost use Rattle.launch_graph.specs.WellFormed.{IsLaunchGraph};
+ghost use Rattle.launch_graph.specs.declared.graphs.SetClass.{SetClass as SetClassOf};
+ghost use Rattle.cycle_encoding.specs.Coming.{needs_of};
+ghost use Rattle.cycle_encoding.specs.Facts.{IsTableOf};
+ghost use Rattle.cycle_encoding.specs.Narrow.{Wanted};
+ghost use Rattle.cycle_encoding.specs.Steps.{put_at};
+ghost use Rattle.cycle_encoding.specs.Wanting as wanting;
+ghost use Rattle.cycle_encoding.specs.Wanting.{giving_rows, is_marked, is_wanted_target, AreMarks, HasMarks, IsFollowed, IsLonger, StillMarked};
+
+use crate::Facts;
+use crate::facts::next_class;
+use items::{Items, NoMemory};
+use launch_graph::LaunchGraph;
+use machine_table::InstrKind;
+use schedule_meaning::class_at;
+use std::alloc::Global;
+use word_ops::Op;
+
+/// Marks a wanted class and lists it, if the table has it and it isn't marked yet.
+fn want(
+    marks: &mut Vec<bool>,
+    order: &mut Vec<u32>,
+    _facts: &Facts,
+    class: u32,
+) -> Result<(), NoMemory>
+    requires marks { AreMarks _facts.now marks.old.items order.old.items }
+    requires wanted { Wanted _facts.now class }
+    ensures size { length marks.new.items ≡ length marks.old.items }
+    ensures marks { OnOk result (AreMarks _facts.now marks.new.items order.new.items) }
+    ensures longer { OnOk result (IsLonger order.old.items order.new.items) }
+    ensures still { StillMarked marks.old.items marks.new.items }
+    ensures has { HasMarks marks.new.items (class ∷ []) }
+{
+    if class as usize >= marks.len() {
+        return Ok(());
+    }
+    if marks[class as usize] {
+        return Ok(());
+    }
+    marks[class as usize] = true;
+    order.push(class)?;
+    Ok(())
+}
+
+/// Marks and lists wanted classes.
+fn want_all(
+    marks: &mut Vec<bool>,
+    order: &mut Vec<u32>,
+    facts: &Facts,
+    classes: &[u32],
+) -> Result<(), NoMemory>
+    requires marks { AreMarks facts.now marks.old.items order.old.items }
+    requires wanted { (class : ℕ) → Contains classes.now class → Wanted facts.now class }
+    ensures size { length marks.new.items ≡ length marks.old.items }
+    ensures marks { OnOk result (AreMarks facts.now marks.new.items order.new.items) }
+    ensures longer { OnOk result (IsLonger order.old.items order.new.items) }
+    ensures still { StillMarked marks.old.items marks.new.items }
+    ensures has { OnOk result (HasMarks marks.new.items classes.now) }
+{
+    for class in classes {
+        want(marks, order, facts, *class)?;
+    }
+    Ok(())
+}
+
+/// Wants each target that is a word and no input's.
+fn want_targets(marks: &mut Vec<bool>, order: &mut Vec<u32>, facts: &Facts) -> Result<(), NoMemory>
+    requires marks { AreMarks facts.now marks.old.items order.old.items }
+    ensures size { length marks.new.items ≡ length marks.old.items }
+    ensures marks { OnOk result (AreMarks facts.now marks.new.items order.new.items) }
+    ensures has { OnOk result ((s : SetClassOf) → Contains facts.now.sets s → IsTrue (is_wanted_target facts.now s)
+        → HasMarks marks.new.items (s.class ∷ [])) }
+{
+    for set in facts.graph().sets.as_slice() {
+        if facts.is_wanted_target(set) {
+            want(marks, order, facts, set.class)?;
+        }
+    }
+    Ok(())
+}
+
+/// Whether the row's operands are wanted whatever its class is: it is a store, or the branch.
+fn is_root(facts: &Facts, row: u32) -> bool
+    ensures { result ≡ wanting.is_root facts.now row }
+{
+    match facts.instr_at(row) {
+        Some(InstrKind::Beq) => true,
+        _ => is_store_row(facts.graph(), row),
+    }
+}
+
+fn is_store_row(graph: &LaunchGraph, row: u32) -> bool
+    ensures { result ≡ wanting.is_store_row graph.now row }
+{
+    match graph.rows.as_slice().get(row as usize) {
+        Some(found) => matches!(found.op, Op::Store | Op::Put),
+        None => false,
+    }
+}
+
+/// Wants what stores and the branch need.
+fn want_roots(
+    marks: &mut Vec<bool>,
+    order: &mut Vec<u32>,
+    facts: &Facts,
+    needs: &[Items<u32>],
+) -> Result<(), NoMemory>
+    requires rows { length facts.now.rows < 2 ^ 30 }
+    requires needs { needs.now ≡ map (needs_of facts.now) (range_with_len 0 (length facts.now.rows + 1)) }
+    requires marks { AreMarks facts.now marks.old.items order.old.items }
+    ensures size { length marks.new.items ≡ length marks.old.items }
+    ensures marks { OnOk result (AreMarks facts.now marks.new.items order.new.items) }
+    ensures still { StillMarked marks.old.items marks.new.items }
+    ensures has { OnOk result ((row : ℕ) → row < length facts.now.rows + 1 → IsTrue (wanting.is_root facts.now row)
+        → HasMarks marks.new.items (needs_of facts.now row)) }
+{
+    let rows = facts.graph().rows.len() as u32;
+    for row in 0..rows + 1 {
+        if is_root(facts, row) {
+            want_all(marks, order, facts, needs[row as usize].as_slice())?;
+        }
+    }
+    Ok(())
+}
+
+/// For each class the rows that give its word.
+fn rows_by_class(alloc: Global, facts: &Facts) -> Result<Vec<Items<u32>>, NoMemory>
+    requires graph { IsLaunchGraph facts.now }
+    ensures { IfOk result (λ lists. lists.items
+        ≡ map (giving_rows facts.now) (range_with_len 0 (wellformed.next_class facts.now.rows))) }
+{
+    let mut lists = empty_row_lists(alloc, next_class(facts.graph()))?;
+    let rows = facts.graph().rows.len() as u32;
+    for row in 0..rows {
+        if facts.gives_word(row) {
+            put_row(&mut lists, class_at(facts.graph(), row), row)?;
+        }
+    }
+    Ok(lists)
+}
+
+/// So many empty lists.
+#[tactic(auto, using(crate::proofs::Tables::table_more))]
+fn empty_row_lists(alloc: Global, count: u32) -> Result<Vec<Items<u32>>, NoMemory>
+    ensures { IfOk result (λ lists. lists.items ≡ map (λ _. []) (range_with_len 0 count)) }
+{
+    let mut lists = Vec::new(alloc);
+    for _made in 0..count {
+        lists.push(Items::new(alloc))?;
+    }
+    Ok(lists)
+}
+
+/// Puts a row at the end of the list of a class, if there is one.
+fn put_row(lists: &mut Vec<Items<u32>>, class: u32, row: u32) -> Result<(), NoMemory>
+    ensures { OnOk result (lists.new.items ≡ put_at lists.old.items class row) }
+{
+    if let Some(list) = lists.get_mut(class as usize) {
+        list.push(row)?;
+    }
+    Ok(())
+}
+
+/// Wants what the rows of a wanted class need.
+fn follow(
+    marks: &mut Vec<bool>,
+    order: &mut Vec<u32>,
+    facts: &Facts,
+    needs: &[Items<u32>],
+    class: u32,
+    rows: &[u32],
+) -> Result<(), NoMemory>
+    requires needs { needs.now ≡ map (needs_of facts.now) (range_with_len 0 (length facts.now.rows + 1)) }
+    requires rows { rows.now ≡ giving_rows facts.now class }
+    requires wanted { Wanted facts.now class }
+    requires marks { AreMarks facts.now marks.old.items order.old.items }
+    ensures size { length marks.new.items ≡ length marks.old.items }
+    ensures marks { OnOk result (AreMarks facts.now marks.new.items order.new.items) }
+    ensures longer { OnOk result (IsLonger order.old.items order.new.items) }
+    ensures still { StillMarked marks.old.items marks.new.items }
+    ensures followed { OnOk result (IsFollowed facts.now marks.new.items class) }
+{
+    for row in rows {
+        want_all(marks, order, facts, needs[*row as usize].as_slice())?;
+    }
+    Ok(())
+}
