@@ -1,9 +1,9 @@
 -- By which cycles classes come, one row more at a time.
 use Rattle.std.proofs.Common.{◌≡◌, ℕ, zero, suc, ◌+◌, ◌<◌, ◌≤◌, Bool, true, false, cond, List, [], ◌∷◌, ◌++◌, length, map, take, max, set, get_or, refl, sym, ap, ◌∙◌, subst, arith, inl, inr, ◌⊎◌, Option, Some, None}
-use Rattle.std.specs.Prelude.{◌&&◌, ◌==◌, nat_le, nat_lt, not, IsTrue, Contains, option_map, option_and_then, slice_get}
+use Rattle.std.specs.Prelude.{◌==◌, nat_le, not, Contains, option_map, option_and_then, slice_get}
 use Rattle.std.specs.Option.{option_map_or}
-use Rattle.std.specs.List.{All, filter, fold, range_with_len}
-use Rattle.std.proofs.lemmas.Bool.{false≢true, cases_Bool, cases_lt, cases_eq, leb-true, le-leb, ltb-true, lt-ltb, le-ltb, and_parts, and_from, and_left, and_right, not-true, not_from_false}
+use Rattle.std.specs.List.{filter, fold, range_with_len}
+use Rattle.std.proofs.lemmas.Bool.{false≢true, cases_Bool, cases_lt, cases_eq, leb-true, le-leb, lt-ltb, le-ltb, and_parts, and_from, and_left, and_right, not-true, not_from_false}
 use Rattle.std.proofs.lemmas.Option.{same_Some, none-some, slice_get_within}
 use Rattle.std.proofs.lemmas.List.{get_or-set_same, get_or-set_other, take_more}
 use Rattle.std.proofs.lemmas.List.Elements.{All-contains}
@@ -221,7 +221,7 @@ module _ (g : LaunchGraph) (table : Table) where
   no_word None i h w = none-some i h
   no_word (Some x) i h w = (let e : Beq ≡ i = same_Some Beq i h in false≢true (ap gives_word e ∙ w))
 
-  found_row : (o : Option LaunchRow) (f : LaunchRow → Option InstrKind) (i : InstrKind) → option_and_then f o ≡ Some i → (r : LaunchRow) × (o ≡ Some r)
+  pub found_row : (o : Option LaunchRow) (f : LaunchRow → Option InstrKind) (i : InstrKind) → option_and_then f o ≡ Some i → (r : LaunchRow) × (o ≡ Some r)
   found_row None f i h = absurd (none-some i h)
   found_row (Some r) f i h = (r, refl)
 

@@ -1,6 +1,6 @@
 -- Sums over all launches, row by row.
 use Rattle.std.proofs.Common.{◌≡◌, ℕ, suc, ◌+◌, ◌-◌, ◌*◌, ◌<◌, Bool, true, false, List, [], ◌∷◌, ◌++◌, length, map, refl, sym, ap, ◌∙◌, subst, arith, inl, inr, Option, Some, None, length-append}
-use Rattle.std.specs.Prelude.{◌&&◌, ◌==◌, nat_lt, Contains, option_and_then}
+use Rattle.std.specs.Prelude.{◌&&◌, ◌==◌, Contains, option_and_then}
 use Rattle.std.specs.Option.{option_map_or}
 use Rattle.std.specs.List.{filter, flat_map, list_any, count_by, sum_by, range_with_len}
 use Rattle.std.proofs.lemmas.Bool.{false≢true, cases_Bool, eqb-true, eq-eqb, false_from_ne_true}

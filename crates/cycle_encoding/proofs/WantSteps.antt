@@ -1,13 +1,13 @@
 -- Marks of wanted classes, one more at a time.
-use Rattle.std.proofs.Common.{◌≡◌, ℕ, zero, suc, ◌+◌, ◌<◌, ◌≤◌, Bool, true, false, cond, List, [], ◌∷◌, ◌++◌, length, map, take, set, get_or, refl, sym, ap, ◌∙◌, subst, arith, inl, inr, Option, Some, None, append_assoc}
-use Rattle.std.specs.Prelude.{◌&&◌, ◌||◌, ◌==◌, not, Contains, slice_get}
+use Rattle.std.proofs.Common.{◌≡◌, ℕ, zero, suc, ◌+◌, ◌<◌, ◌≤◌, Bool, true, false, cond, List, [], ◌∷◌, ◌++◌, length, map, take, set, get_or, refl, sym, ap, ◌∙◌, subst, arith, inl, inr, ◌⊎◌, Option, Some, None, append_assoc}
+use Rattle.std.specs.Prelude.{◌&&◌, ◌==◌, ◌↔◌, not, Contains, option_map, option_and_then, slice_get}
 use Rattle.std.specs.Option.{option_map_or}
-use Rattle.std.specs.List.{count_by, range_with_len}
-use Rattle.std.proofs.lemmas.Bool.{false≢true, cases_Bool, cases_eq, cases_lt, eq-eqb, and_from, or_left, or_right, not_from_false}
-use Rattle.std.proofs.lemmas.Option.{same_Some, none-some, slice_get_within}
-use Rattle.std.proofs.lemmas.List.{get_or-set_same, get_or-set_other, get_or_append_left, take_more, length-append, length-set, append-nil}
-use Rattle.std.proofs.lemmas.List.Sums.{sum_by-set, count_by-le-length}
-use Rattle.std.proofs.lemmas.List.Elements.{Contains-append_left, Contains-push, Contains-push_cases, Contains-get_or}
+use Rattle.std.specs.List.{count_by, filter, range_with_len}
+use Rattle.std.proofs.lemmas.Bool.{false≢true, cases_Bool, cases_eq, eq-eqb, eqb-true, and_from, and_parts, or_cases, or_left, or_right, not-true, not_from_false}
+use Rattle.std.proofs.lemmas.Option.{slice_get_within}
+use Rattle.std.proofs.lemmas.List.{get_or-set_same, get_or-set_other, get_or_append_left, get_or_default, take_more, length-append, length-set, append-nil}
+use Rattle.std.proofs.lemmas.List.Sums.{sum_by-cons, sum_by-set, count_by-le-length}
+use Rattle.std.proofs.lemmas.List.Elements.{filter-append, Contains-append_left, Contains-push, Contains-push_cases}
 use Rattle.launch_graph.specs.Graphs.{is_memory_name}
 use Rattle.launch_graph.specs.WellFormed.{next_class}
 use Rattle.launch_graph.specs.declared.graphs.LaunchGraph.{LaunchGraph}
@@ -15,18 +15,22 @@ use Rattle.launch_graph.specs.declared.graphs.LaunchRow.{LaunchRow}
 use Rattle.launch_graph.specs.declared.graphs.SetClass.{SetClass}
 use Rattle.machine_table.specs.Tables.{ev6}
 use Rattle.machine_table.specs.declared.tables.InstrKind.{InstrKind}
-use Rattle.schedule_meaning.specs.Launches.{instr_at, gives_word, is_branch, class_at, Operand}
+use Rattle.machine_table.specs.declared.tables.InstrKind.TheVariants.{Beq}
+use Rattle.schedule_meaning.specs.Launches.{instr_at, op_instr, gives_word, is_branch, class_at}
 use Rattle.word_ops.specs.declared.sorts.Op.{Op}
 use Rattle.word_ops.specs.declared.sorts.Op.TheVariants.{Store, Put}
 use Rattle.cycle_encoding.specs.Variables.{is_input}
 use Rattle.cycle_encoding.specs.Counts.{row_is}
-use Rattle.cycle_encoding.specs.Narrow.{Needs, Wanted}
+use Rattle.cycle_encoding.specs.Narrow.{Wanted}
 use Rattle.cycle_encoding.specs.Narrow.Wanted.{target, guard, store, operand}
 use Rattle.cycle_encoding.specs.Coming.{needs_of}
-use Rattle.cycle_encoding.specs.Wanting.{is_marked, is_wanted_target, is_store_op, is_root, giving_rows, AreMarks, HasMarks, IsFollowed, IsLonger, StillMarked}
-use Rattle.cycle_encoding.proofs.Members.{here, nothing, filter-in, range-in}
+use Rattle.cycle_encoding.specs.Wanting.{is_marked, is_wanted_target, is_store_op, is_store_row, is_root, giving_rows, AreMarks, HasMarks, IsFollowed, IsLonger, StillMarked}
+use Rattle.cycle_encoding.proofs.Members.{here, nothing, filter-in, filter-out, range-in, range-out}
 use Rattle.cycle_encoding.proofs.Tests.{input-is, input-from}
-use Rattle.cycle_encoding.proofs.ComeSteps.{need-in, giving-row}
+use Rattle.cycle_encoding.specs.Steps.{put_at}
+use Rattle.cycle_encoding.proofs.Rows.{range_more}
+use Rattle.cycle_encoding.proofs.Sorted.{put_more, put_none}
+use Rattle.cycle_encoding.proofs.ComeSteps.{need-in, need-out, giving-row, found_row}
 
 pub longer-same : (xs : List ℕ) → IsLonger xs xs
 longer-same xs = ([], sym (append-nil xs))
@@ -51,7 +55,7 @@ one-mark marks class h c (zero, l, e) lt = subst (λ x. is_marked marks x ≡ tr
 one-mark marks class h c (suc i, l, e) lt = absurd (let z : length (class ∷ []) ≡ 1 = refl in omega (arith, z, l))
 
 -- one class marked and listed
-module _ (g : LaunchGraph) (old new : List Bool) (order longer : List ℕ) (class : ℕ) (lt : class < length old) (free : get_or old class false ≡ false) (en : new ≡ set old class true) where
+module _ (g : LaunchGraph) (old new : List Bool) (order longer : List ℕ) (class : ℕ) (lt : class < length old) (d : Bool) (free : get_or old class d ≡ false) (en : new ≡ set old class true) where
   other : (c : ℕ) → (c ≡ class → ⊥) → is_marked new c ≡ is_marked old c
   other c ne = ap (λ (xs : List Bool). get_or xs c false) en ∙ get_or-set_other old class c true false ne
 
@@ -85,7 +89,7 @@ module _ (g : LaunchGraph) (old new : List Bool) (order longer : List ℕ) (clas
         (let f : Bool → ℕ = λ b. cond {A = ℕ} b 1 0 in
         let a = ap (count_by (λ b. b)) en in
         let b = sum_by-set f old class true false lt in
-        let z : f (get_or old class false) ≡ 0 = ap f free in
+        let z : f (get_or old class false) ≡ 0 = ap f (get_or_default old class false d lt ∙ free) in
         let o : f true ≡ 1 = refl in
         let k = before.count in
         let l = ap (λ (zs : List ℕ). length zs) eo ∙ length-append order (class ∷ []) in
@@ -100,3 +104,192 @@ more-marks old new classes i d lt still size before now c k l =
       | inl h ↦ still c (before c h (omega arith))
       | inr e ↦ now c (subst (λ x. Contains (get_or classes i d ∷ []) x) e (here (get_or classes i d) [])) l
     ]
+
+-- ---- targets
+
+pub target-wanted : (g : LaunchGraph) (s : SetClass) → Contains g.sets s → is_wanted_target g s ≡ true → Wanted g s.class
+target-wanted g s h t =
+    let p = and_parts (not (is_memory_name s.name)) (not (is_input g s.class)) t in
+    target s h (λ m. false≢true (sym (not-true (is_memory_name s.name) p.0) ∙ m)) (λ i. false≢true (sym (not-true (is_input g s.class) p.1) ∙ input-from g s.class i))
+
+pub more-targets : (g : LaunchGraph) (old new : List Bool) (i : ℕ) (d s : SetClass) → i < length g.sets → s ≡ get_or g.sets i d → StillMarked old new → length new ≡ length old
+    → ((x : SetClass) → Contains (take i g.sets) x → is_wanted_target g x ≡ true → HasMarks old (x.class ∷ []))
+    → (is_wanted_target g s ≡ true → HasMarks new (s.class ∷ []))
+    → (x : SetClass) → Contains (take (i + 1) g.sets) x → is_wanted_target g x ≡ true → HasMarks new (x.class ∷ [])
+more-targets g old new i d s lt e still size before now x h t =
+    elim (Contains-push_cases (take i g.sets) (get_or g.sets i d) x (subst (λ (zs : List SetClass). Contains zs x) (take_more g.sets i d lt) h)) [
+      | inl k ↦ kept-marks old new (x.class ∷ []) still size (before x k t)
+      | inr q ↦ (let same : s ≡ x = e ∙ q in subst (λ (y : SetClass). HasMarks new (y.class ∷ [])) same (now (subst (λ (y : SetClass). is_wanted_target g y ≡ true) (sym same) t)))
+    ]
+
+-- ---- stores and the branch
+
+is_store_is : (op : Op) → is_store_op op ≡ true → (op ≡ Store) ⊎ (op ≡ Put)
+is_store_is Store h = inl refl
+is_store_is Put h = inr refl
+is_store_is op h = absurd (false≢true h)
+
+store_in : (g : LaunchGraph) (o : Option LaunchRow) → option_map_or (λ r. is_store_op r.op) o false ≡ true → (r : LaunchRow) × (o ≡ Some r) × ((r.op ≡ Store) ⊎ (r.op ≡ Put))
+store_in g None h = absurd (false≢true h)
+store_in g (Some r) h = (r, refl, is_store_is r.op h)
+
+branch_in : (o : Option InstrKind) → option_map_or is_branch o false ≡ true → (i : InstrKind) × (o ≡ Some i) × (is_branch i ≡ true)
+branch_in None h = absurd (false≢true h)
+branch_in (Some i) h = (i, refl, h)
+
+pub root-needs : (g : LaunchGraph) (row : ℕ) → is_root g row ≡ true → (class : ℕ) → Contains (needs_of g row) class → Wanted g class
+root-needs g row h class k =
+    let o = need-out g ev6 row class k in
+    elim (or_cases (row_is g is_branch row) (is_store_row g row) h) [
+      | inl b ↦ (let i = branch_in (instr_at g row) b in subst (Wanted g) o.2 (guard row o.0 i.0 i.1 i.2 o.1))
+      | inr s ↦ (let r = store_in g (slice_get g.rows row) s in subst (Wanted g) o.2 (store row r.0 o.0 r.1 r.2 o.1))
+    ]
+
+pub more-roots : (g : LaunchGraph) (old new : List Bool) (row : ℕ) → StillMarked old new → length new ≡ length old
+    → ((r : ℕ) → r < row → is_root g r ≡ true → HasMarks old (needs_of g r))
+    → (is_root g row ≡ true → HasMarks new (needs_of g row))
+    → (r : ℕ) → r < row + 1 → is_root g r ≡ true → HasMarks new (needs_of g r)
+more-roots g old new row still size before now r lt t =
+    elim (cases_eq r row) [
+      | inl e ↦ subst (λ x. is_root g x ≡ true → HasMarks new (needs_of g x)) (sym e) now t
+      | inr ne ↦ kept-marks old new (needs_of g r) still size (before r (omega arith) t)
+    ]
+
+-- ---- rows of a wanted class
+
+pub giving-out : (g : LaunchGraph) (class row : ℕ) → Contains (giving_rows g class) row → (row < length g.rows) × (row_is g gives_word row ≡ true) × (class_at g row ≡ class)
+giving-out g class row h =
+    let f = filter-out (λ row. row_is g gives_word row && (class_at g row == class)) (range_with_len 0 (length g.rows)) row h in
+    let p = and_parts (row_is g gives_word row) (class_at g row == class) f.1 in
+    let b = range-out 0 (length g.rows) row f.0 in
+    let low = b.1 in
+    ((omega arith), p.0, eqb-true (class_at g row) class p.1)
+
+word_in : (o : Option InstrKind) → option_map_or gives_word o false ≡ true → (i : InstrKind) × (o ≡ Some i) × (gives_word i ≡ true)
+word_in None h = absurd (false≢true h)
+word_in (Some i) h = (i, refl, h)
+
+pub follow-wanted : (g : LaunchGraph) (class row c : ℕ) → Wanted g class → Contains (giving_rows g class) row → Contains (needs_of g row) c → Wanted g c
+follow-wanted g class row c w h k =
+    let r = giving-out g class row h in
+    let i = word_in (instr_at g row) r.1 in
+    let o = need-out g ev6 row c k in
+    subst (Wanted g) o.2 (operand row o.0 i.0 i.1 i.2 (subst (Wanted g) (sym r.2) w) o.1)
+
+pub more-rows : (g : LaunchGraph) (old new : List Bool) (rows : List ℕ) (i d : ℕ) → i < length rows → StillMarked old new → length new ≡ length old
+    → ((r : ℕ) → Contains (take i rows) r → HasMarks old (needs_of g r))
+    → HasMarks new (needs_of g (get_or rows i d))
+    → (r : ℕ) → Contains (take (i + 1) rows) r → HasMarks new (needs_of g r)
+more-rows g old new rows i d lt still size before now r h =
+    elim (Contains-push_cases (take i rows) (get_or rows i d) r (subst (λ (zs : List ℕ). Contains zs r) (take_more rows i d lt) h)) [
+      | inl k ↦ kept-marks old new (needs_of g r) still size (before r k)
+      | inr e ↦ subst (λ x. HasMarks new (needs_of g x)) e now
+    ]
+
+-- ---- one class more that is followed
+
+module _ (g : LaunchGraph) (old new : List Bool) (order longer : List ℕ) (at : ℕ) (lt : at < length order) (still : StillMarked old new) (size : length new ≡ length old) (l : IsLonger order longer) where
+  kept-followed : (class : ℕ) → IsFollowed g old class → IsFollowed g new class
+  kept-followed class f row h = kept-marks old new (needs_of g row) still size (f row h)
+
+  pub more-followed : IsFollowed g new (get_or order at 0) → ((p : ℕ) → p < at → p < length order → IsFollowed g old (get_or order p 0)) → (p : ℕ) → p < at + 1 → p < length longer → IsFollowed g new (get_or longer p 0)
+  more-followed now before p small in_list =
+      elim (cases_eq p at) [
+        | inl e ↦ subst (IsFollowed g new) (sym (ap (λ i. get_or longer i 0) e ∙ longer-at order longer at 0 l lt)) now
+        | inr ne ↦ subst (IsFollowed g new) (sym (longer-at order longer p 0 l (omega arith))) (kept-followed (get_or order p 0) (before p (omega arith) (omega arith)))
+      ]
+
+pub all-followed : (g : LaunchGraph) (marks : List Bool) (order : List ℕ) (at : ℕ) → length order ≤ at → ((p : ℕ) → p < at → p < length order → IsFollowed g marks (get_or order p 0)) → (class : ℕ) → Contains order class → IsFollowed g marks class
+all-followed g marks order at le done class (p, lt, e) = subst (IsFollowed g marks) (get_or_default order p 0 class lt ∙ e) (done p (omega arith) lt)
+
+-- no more classes are listed than there are
+pub few-listed : (g : LaunchGraph) (marks : List Bool) (order : List ℕ) → AreMarks g marks order → length order ≤ length marks
+few-listed g marks order m = (let c = m.count in let l = count_by-le-length (λ (b : Bool). b) marks in omega arith)
+
+-- ---- exactly the wanted classes are marked
+
+store_op_in : (r : LaunchRow) → (r.op ≡ Store) ⊎ (r.op ≡ Put) → is_store_op r.op ≡ true
+store_op_in r (inl e) = ap is_store_op e
+store_op_in r (inr e) = ap is_store_op e
+
+module _ (g : LaunchGraph) (marks : List Bool) (order : List ℕ) (size : length marks ≡ next_class g.rows) (are : AreMarks g marks order)
+    (targets : (s : SetClass) → Contains g.sets s → is_wanted_target g s ≡ true → HasMarks marks (s.class ∷ []))
+    (roots : (row : ℕ) → row < length g.rows + 1 → is_root g row ≡ true → HasMarks marks (needs_of g row))
+    (followed : (class : ℕ) → Contains order class → IsFollowed g marks class) where
+  row_bound : (row : ℕ) (b : Bool) → (row == length g.rows) ≡ b → (i : InstrKind) → instr_at g row ≡ Some i → row < length g.rows + 1
+  row_bound row true e i h = (let same = eqb-true row (length g.rows) e in omega arith)
+  row_bound row false e i h = (let r = found_row g ev6 (slice_get g.rows row) (λ r. op_instr g r.op r.operands) i (sym (ap (λ b. cond b (option_map (λ _. Beq) g.guard) (option_and_then (λ r. op_instr g r.op r.operands) (slice_get g.rows row))) e) ∙ h) in let lt = slice_get_within g.rows row r.0 r.1 in omega arith)
+
+  all-marked : (class : ℕ) → Wanted g class → class < length marks → is_marked marks class ≡ true
+  all-marked _ (target s h nm ni) lt =
+      let memory : is_memory_name s.name ≡ false = elim (cases_Bool (is_memory_name s.name)) [ inl t ↦ absurd (nm t) | inr f ↦ f ] in
+      let input : is_input g s.class ≡ false = elim (cases_Bool (is_input g s.class)) [ inl t ↦ absurd (ni (input-is g s.class t)) | inr f ↦ f ] in
+      targets s h (and_from (not (is_memory_name s.name)) (not (is_input g s.class)) (not_from_false (is_memory_name s.name) memory) (not_from_false (is_input g s.class) input)) s.class (here s.class []) lt
+  all-marked _ (guard row o i e b need) lt =
+      let is : row_is g is_branch row ≡ true = ap (λ (o : Option InstrKind). option_map_or is_branch o false) e ∙ b in
+      roots row (row_bound row (row == length g.rows) refl i e) (or_left (row_is g is_branch row) (is_store_row g row) is) o.class (need-in g ev6 row o need) lt
+  all-marked _ (store row r o e op need) lt =
+      let is : is_store_row g row ≡ true = ap (λ (o : Option LaunchRow). option_map_or (λ r. is_store_op r.op) o false) e ∙ store_op_in r op in
+      roots row (let w = slice_get_within g.rows row r e in omega arith) (or_right (row_is g is_branch row) (is_store_row g row) is) o.class (need-in g ev6 row o need) lt
+  all-marked _ (operand row o i e w inner need) lt =
+      let bound = giving-row g ev6 row i e w in
+      let low = bound.1 in
+      let mark = all-marked (class_at g row) inner (omega arith) in
+      let gives : row_is g gives_word row ≡ true = ap (λ (o : Option InstrKind). option_map_or gives_word o false) e ∙ w in
+      let member : Contains (giving_rows g (class_at g row)) row = filter-in (λ r. row_is g gives_word r && (class_at g r == class_at g row)) (range_with_len 0 (length g.rows)) row (range-in 0 (length g.rows) row (omega arith) (let l = bound.0 in omega arith)) (and_from (row_is g gives_word row) (class_at g row == class_at g row) gives (eq-eqb (class_at g row) (class_at g row) refl)) in
+      followed (class_at g row) (are.listed (class_at g row) mark) row member o.class (need-in g ev6 row o need) lt
+
+  pub marks-exact : (class : ℕ) → (is_marked marks class ≡ true) ↔ (Wanted g class × (class < next_class g.rows))
+  marks-exact class = (
+    (λ h. let c = are.listed class h in (are.wanted class c, (let b = are.within class c in omega arith))),
+    (λ h. all-marked class h.0 (let b = h.1 in omega arith)),
+  )
+
+-- ---- rows by class, one more row
+
+module _ (g : LaunchGraph) (n row : ℕ) (mid new : List (List ℕ)) where
+  abbrev gives_it : ℕ → ℕ → Bool
+  gives_it class r = row_is g gives_word r && (class_at g r == class)
+
+  abbrev upto : ℕ → ℕ → List ℕ
+  upto m class = filter (gives_it class) (range_with_len 0 m)
+
+  upto_more : (class : ℕ) → upto (row + 1) class ≡ upto row class ++ cond (gives_it class row) (row ∷ []) []
+  upto_more class = ap (filter (gives_it class)) (range_more row) ∙ filter-append (gives_it class) (range_with_len 0 row) (row ∷ [])
+
+  rows_put : (b : Bool) → row_is g gives_word row ≡ b → mid ≡ map (upto row) (range_with_len 0 n) → new ≡ cond b (put_at mid (class_at g row) row) mid → new ≡ map (upto (row + 1)) (range_with_len 0 n)
+  rows_put true e is p =
+      p ∙ ap (λ (xs : List (List ℕ)). put_at xs (class_at g row) row) is
+      ∙ put_more (upto row) (upto (row + 1)) n (class_at g row) row (λ class. upto_more class ∙ ap (λ c. upto row class ++ cond (c && (class_at g row == class)) (row ∷ []) []) e)
+  rows_put false e is p =
+      p ∙ is
+      ∙ put_none (upto row) (upto (row + 1)) n 0 row (λ class. upto_more class ∙ ap (λ c. upto row class ++ cond (c && (class_at g row == class)) (row ∷ []) []) e ∙ append-nil (upto row class))
+
+  pub rows-put : mid ≡ map (upto row) (range_with_len 0 n) → new ≡ cond (row_is g gives_word row) (put_at mid (class_at g row) row) mid → new ≡ map (upto (row + 1)) (range_with_len 0 n)
+  rows-put = rows_put (row_is g gives_word row) refl
+
+-- ---- at first nothing is marked
+
+unmarked_at : (a n i : ℕ) → get_or (map {A = ℕ} (λ _. false) (range_with_len a n)) i false ≡ false
+unmarked_at a zero i = refl
+unmarked_at a (suc n) zero = refl
+unmarked_at a (suc n) (suc i) = unmarked_at (a + 1) n i
+
+none_count : (a n : ℕ) → count_by (λ b. b) (map {A = ℕ} (λ _. false) (range_with_len a n)) ≡ 0
+none_count a zero = refl
+none_count a (suc n) =
+    let r = none_count (a + 1) n in
+    let s = sum_by-cons (λ b. cond {A = ℕ} b 1 0) false (map {A = ℕ} (λ _. false) (range_with_len (a + 1) n)) in
+    omega arith
+
+pub none-marked : (g : LaunchGraph) (n : ℕ) (marks : List Bool) (order : List ℕ) → marks ≡ map (λ _. false) (range_with_len 0 n) → order ≡ [] → AreMarks g marks order
+none-marked g n marks order e eo =
+    let nobody : (c : ℕ) → Contains order c → ⊥ = λ c h. nothing c (subst (λ (zs : List ℕ). Contains zs c) eo h) in
+    let size : length order ≡ 0 = ap (λ (zs : List ℕ). length zs) eo in
+    let count = ap (count_by (λ b. b)) e ∙ none_count 0 n in
+    record {
+      wanted = λ c h. absurd (nobody c h);
+      listed = λ c h. absurd (false≢true (sym (unmarked_at 0 n c) ∙ ap (λ (xs : List Bool). get_or xs c false) (sym e) ∙ h));
+      within = λ c h. absurd (nobody c h);
+      count = omega arith;
+    }

@@ -1,6 +1,6 @@
 -- How it is found from which cycle a row can start: cycle by cycle, each class has the first by which it has come so far.
 -- Source: this project.
-use Rattle.std.specs.Prelude.{◌≡◌, ◌↔◌, ℕ, ◌+◌, ◌≤◌, ◌<◌, ◌&&◌, nat_le, nat_lt, Bool, true, false, List, [], ◌∷◌, length, set, Option, None, Some, IsTrue, option_and_then, if◌then◌else◌, slice_index_or}
+use Rattle.std.specs.Prelude.{◌≡◌, ◌↔◌, ℕ, ◌+◌, ◌≤◌, ◌&&◌, nat_le, nat_lt, Bool, true, false, List, [], ◌∷◌, length, set, Option, None, Some, IsTrue, option_and_then, if◌then◌else◌, slice_index_or}
 use Rattle.std.specs.Option.{option_map_or}
 use Rattle.machine_table.specs.Tables.{latency_of}
 use Rattle.schedule_meaning.specs.Launches.{instr_at, gives_word, class_at, operands_at}

@@ -1,7 +1,7 @@
 -- The narrow encoding: variables only for launches that can start by their cycle and whose word is wanted, and only for
 -- wanted classes. Its clauses are those of the wide one over the variables that are there.
 -- Source: this project.
-use Rattle.std.specs.Prelude.{◌≡◌, ℕ, ◌+◌, ◌≤◌, Bool, List, Some, IsTrue, Contains, Decides, ◌⊎◌, slice_get}
+use Rattle.std.specs.Prelude.{◌≡◌, ℕ, ◌+◌, ◌≤◌, Bool, Some, IsTrue, Contains, Decides, ◌⊎◌, slice_get}
 use Rattle.std.specs.List.{filter}
 use Rattle.word_ops.specs.declared.sorts.Op.TheVariants.{Store, Put}
 use Rattle.machine_table.specs.Tables.{use_of}

@@ -1,6 +1,6 @@
 -- How wanted classes are found: each is marked once, and listed in the order in which it was.
 -- Source: this project.
-use Rattle.std.specs.Prelude.{◌≡◌, ◌↔◌, ℕ, ◌<◌, ◌&&◌, ◌||◌, ◌==◌, not, Bool, true, false, List, ◌++◌, length, Option, Contains, IsTrue, slice_get, slice_index_or}
+use Rattle.std.specs.Prelude.{◌≡◌, ℕ, ◌<◌, ◌&&◌, ◌||◌, ◌==◌, not, Bool, true, false, List, ◌++◌, length, Contains, IsTrue, slice_get, slice_index_or}
 use Rattle.std.specs.Option.{option_map_or}
 use Rattle.std.specs.List.{count_by, filter, range_with_len}
 use Rattle.word_ops.specs.declared.sorts.Op.{Op}

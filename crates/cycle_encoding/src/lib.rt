@@ -19,7 +19,7 @@ mod seen;
 mod slots;
 mod wanting;
 
-pub use coming::come_cycles;
+pub use coming::{come_cycles, needs};
 pub use counts::{Sizes, cycle_sizes, one_size, one_vars, row_count, slot_count};
 pub use encoding::{add_vars, build_cycles, encode};
 pub use facts::{Facts, next_class};
@@ -30,3 +30,4 @@ pub use operands::made_operands;
 pub use plans::{EncodeFault, Encoded, VarPlan, launch_of};
 pub use scopes::Scope;
 pub use seen::{Seen, has_cluster};
+pub use wanting::wanted;

@@ -1,10 +1,12 @@
 // Which classes are wanted: those of targets, what stores and the branch need, and what rows of wanted classes need.
-ghost use Rattle.std.specs.Prelude.{◌≡◌, ◌↔◌, ◌∷◌, [], ℕ, ◌+◌, ◌<◌, ◌≤◌, ◌^◌, Contains, IsTrue, length, map, IfOk, OnOk};
+ghost use Rattle.std.specs.Prelude.{◌≡◌, ◌↔◌, ◌∷◌, [], ℕ, ◌+◌, ◌<◌, ◌^◌, Contains, IsTrue, if◌then◌else◌, length, map, IfOk, OnOk};
 ghost use Rattle.std.specs.List.{range_with_len};
 ghost use Rattle.launch_graph.specs.WellFormed as wellformed;
 ghost use Rattle.launch_graph.specs.WellFormed.{IsLaunchGraph};
 ghost use Rattle.launch_graph.specs.declared.graphs.SetClass.{SetClass as SetClassOf};
+ghost use Rattle.schedule_meaning.specs.Launches as launches;
 ghost use Rattle.cycle_encoding.specs.Coming.{needs_of};
+ghost use Rattle.cycle_encoding.specs.Counts.{row_is};
 ghost use Rattle.cycle_encoding.specs.Facts.{IsTableOf};
 ghost use Rattle.cycle_encoding.specs.Narrow.{Wanted};
 ghost use Rattle.cycle_encoding.specs.Steps.{put_at};
@@ -13,8 +15,9 @@ ghost use Rattle.cycle_encoding.specs.Wanting.{giving_rows, is_marked, is_wanted
 
 use crate::Facts;
 use crate::facts::next_class;
+use crate::marks::unmarked;
 use items::{Items, NoMemory};
-use launch_graph::LaunchGraph;
+use launch_graph::{LaunchGraph, SetClass};
 use machine_table::InstrKind;
 use schedule_meaning::class_at;
 use std::alloc::Global;
@@ -67,6 +70,26 @@ fn want_all(
     Ok(())
 }
 
+/// Wants the class of a target that is a word and no input's.
+fn want_target(
+    marks: &mut Vec<bool>,
+    order: &mut Vec<u32>,
+    facts: &Facts,
+    set: &SetClass,
+) -> Result<(), NoMemory>
+    requires set { Contains facts.now.sets set.now }
+    requires marks { AreMarks facts.now marks.old.items order.old.items }
+    ensures size { length marks.new.items ≡ length marks.old.items }
+    ensures marks { OnOk result (AreMarks facts.now marks.new.items order.new.items) }
+    ensures still { StillMarked marks.old.items marks.new.items }
+    ensures has { OnOk result (IsTrue (is_wanted_target facts.now set.now) → HasMarks marks.new.items (set.now.class ∷ [])) }
+{
+    if !facts.is_wanted_target(set) {
+        return Ok(());
+    }
+    want(marks, order, facts, set.class)
+}
+
 /// Wants each target that is a word and no input's.
 fn want_targets(marks: &mut Vec<bool>, order: &mut Vec<u32>, facts: &Facts) -> Result<(), NoMemory>
     requires marks { AreMarks facts.now marks.old.items order.old.items }
@@ -76,9 +99,7 @@ fn want_targets(marks: &mut Vec<bool>, order: &mut Vec<u32>, facts: &Facts) -> R
         → HasMarks marks.new.items (s.class ∷ [])) }
 {
     for set in facts.graph().sets.as_slice() {
-        if facts.is_wanted_target(set) {
-            want(marks, order, facts, set.class)?;
-        }
+        want_target(marks, order, facts, set)?;
     }
     Ok(())
 }
@@ -102,6 +123,27 @@ fn is_store_row(graph: &LaunchGraph, row: u32) -> bool
     }
 }
 
+/// Wants what the row needs, if it is a store or the branch.
+fn want_root(
+    marks: &mut Vec<bool>,
+    order: &mut Vec<u32>,
+    facts: &Facts,
+    needs: &[u32],
+    row: u32,
+) -> Result<(), NoMemory>
+    requires needs { needs.now ≡ needs_of facts.now row }
+    requires marks { AreMarks facts.now marks.old.items order.old.items }
+    ensures size { length marks.new.items ≡ length marks.old.items }
+    ensures marks { OnOk result (AreMarks facts.now marks.new.items order.new.items) }
+    ensures still { StillMarked marks.old.items marks.new.items }
+    ensures has { OnOk result (IsTrue (wanting.is_root facts.now row) → HasMarks marks.new.items (needs_of facts.now row)) }
+{
+    if !is_root(facts, row) {
+        return Ok(());
+    }
+    want_all(marks, order, facts, needs)
+}
+
 /// Wants what stores and the branch need.
 fn want_roots(
     marks: &mut Vec<bool>,
@@ -120,9 +162,7 @@ fn want_roots(
 {
     let rows = facts.graph().rows.len() as u32;
     for row in 0..rows + 1 {
-        if is_root(facts, row) {
-            want_all(marks, order, facts, needs[row as usize].as_slice())?;
-        }
+        want_root(marks, order, facts, needs[row as usize].as_slice(), row)?;
     }
     Ok(())
 }
@@ -136,11 +176,20 @@ fn rows_by_class(alloc: Global, facts: &Facts) -> Result<Vec<Items<u32>>, NoMemo
     let mut lists = empty_row_lists(alloc, next_class(facts.graph()))?;
     let rows = facts.graph().rows.len() as u32;
     for row in 0..rows {
-        if facts.gives_word(row) {
-            put_row(&mut lists, class_at(facts.graph(), row), row)?;
-        }
+        put_giving(&mut lists, facts, row)?;
     }
     Ok(lists)
+}
+
+/// Puts a row at the end of the list of its class, if it gives a word.
+fn put_giving(lists: &mut Vec<Items<u32>>, facts: &Facts, row: u32) -> Result<(), NoMemory>
+    ensures { OnOk result (lists.new.items ≡ (if row_is facts.now launches.gives_word row
+        then put_at lists.old.items (launches.class_at facts.now row) row else lists.old.items)) }
+{
+    if facts.gives_word(row) {
+        put_row(lists, class_at(facts.graph(), row), row)?;
+    }
+    Ok(())
 }
 
 /// So many empty lists.
@@ -188,4 +237,52 @@ fn follow(
         want_all(marks, order, facts, needs[*row as usize].as_slice())?;
     }
     Ok(())
+}
+
+/// Goes on until what the rows of each listed class need is marked. A class is listed once, so there are no more turns than
+/// classes.
+fn close(
+    marks: &mut Vec<bool>,
+    order: &mut Vec<u32>,
+    facts: &Facts,
+    needs: &[Items<u32>],
+    rows: &[Items<u32>],
+    classes: u32,
+) -> Result<(), NoMemory>
+    requires needs { needs.now ≡ map (needs_of facts.now) (range_with_len 0 (length facts.now.rows + 1)) }
+    requires rows { rows.now ≡ map (giving_rows facts.now) (range_with_len 0 classes) }
+    requires size { length marks.old.items ≡ classes }
+    requires marks { AreMarks facts.now marks.old.items order.old.items }
+    ensures size { length marks.new.items ≡ length marks.old.items }
+    ensures marks { OnOk result (AreMarks facts.now marks.new.items order.new.items) }
+    ensures still { StillMarked marks.old.items marks.new.items }
+    ensures followed { OnOk result ((class : ℕ) → Contains order.new.items class
+        → IsFollowed facts.now marks.new.items class) }
+{
+    for at in 0..classes {
+        if at as usize >= order.len() {
+            return Ok(());
+        }
+        let class = order[at as usize];
+        let found = rows[class as usize].as_slice();
+        follow(marks, order, facts, needs, class, found)?;
+    }
+    Ok(())
+}
+
+/// Which classes are wanted. It costs each row and each of its operands a few steps.
+pub fn wanted(alloc: Global, facts: &Facts, needs: &[Items<u32>]) -> Result<Vec<bool>, NoMemory>
+    requires graph { IsLaunchGraph facts.now }
+    requires needs { needs.now ≡ map (needs_of facts.now) (range_with_len 0 (length facts.now.rows + 1)) }
+    ensures { IfOk result (λ marks. (class : ℕ) → IsTrue (is_marked marks.items class)
+        ↔ (Wanted facts.now class × (class < wellformed.next_class facts.now.rows))) }
+{
+    let classes = next_class(facts.graph());
+    let mut marks = unmarked(alloc, classes)?;
+    let mut order = Vec::new(alloc);
+    want_targets(&mut marks, &mut order, facts)?;
+    want_roots(&mut marks, &mut order, facts, needs)?;
+    let rows = rows_by_class(alloc, facts)?;
+    close(&mut marks, &mut order, facts, needs, &rows, classes)?;
+    Ok(marks)
 }

@@ -1,4 +1,4 @@
-use Rattle.std.proofs.Common.{◌≡◌, ◌∙◌, ◌≤◌, ap, arith, map}
+use Rattle.std.proofs.Common.{◌∙◌, ap, arith}
 use Rattle.std.specs.Prelude.{length}
 use Rattle.launch_graph.specs.WellFormed.{next_class}
 use Rattle.std.proofs.lemmas.List.FromFn.{length-map-range_with_len}

@@ -1,4 +1,4 @@
-use Rattle.std.proofs.Common.{◌∙◌, sym, arith}
+use Rattle.std.proofs.Common.{◌∙◌, sym}
 use Rattle.cycle_encoding.proofs.ComeSteps.{are-more, are-not}
 use Rattle.cycle_encoding.proofs.coming.have_come.Goals as goal
 

@@ -1,4 +1,4 @@
-use Rattle.std.proofs.Common.{◌∙◌, ap, subst, take, List, ℕ, arith}
+use Rattle.std.proofs.Common.{◌∙◌, subst, List, ℕ}
 use Rattle.std.proofs.lemmas.List.{take_all}
 use Rattle.cycle_encoding.specs.Wanting.{HasMarks}
 use Rattle.cycle_encoding.proofs.WantSteps.{longer-both, more-marks}
