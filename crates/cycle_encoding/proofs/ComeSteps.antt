@@ -21,7 +21,7 @@ use Rattle.launch_graph.specs.declared.graphs.LaunchGraph.{LaunchGraph}
 use Rattle.cycle_encoding.specs.Variables.{is_input}
 use Rattle.cycle_encoding.specs.Families.{is_free, is_made}
 use Rattle.cycle_encoding.specs.Narrow.{Needs, HasCome, come, CanStart}
-use Rattle.cycle_encoding.specs.Coming.{needs_of, word_latency, is_come, are_come, earlier, come_by, AreSound, IsExactUpTo, IsPassed, AreFound, StillCome}
+use Rattle.cycle_encoding.specs.Coming.{needs_of, word_latency, is_come, are_come, earlier, come_by, AreSound, IsExactUpTo, IsPassed, ComesAreFound, StillCome}
 use Rattle.cycle_encoding.proofs.Members.{filter-in, filter-out, find-out, map-in, map-out, here, later, nothing}
 use Rattle.cycle_encoding.proofs.Tests.{free-is, free-from, input-is, input-from}
 
@@ -151,7 +151,7 @@ module _ (g : LaunchGraph) (table : Table) where
       let m = come-out known t o.class (are-out known t (needs_of g row) h o.class (need-in row o need)) in
       come-later o.class m.0 t (sound o.class m.0 m.1) m.2
 
-  pub start-found : (known : List (Option ℕ)) (t row : ℕ) → AreFound g table known t → CanStart g table row t → are_come known t (needs_of g row) ≡ true
+  pub start-found : (known : List (Option ℕ)) (t row : ℕ) → ComesAreFound g table known t → CanStart g table row t → are_come known t (needs_of g row) ≡ true
   start-found known t row found start =
       are-in known t (needs_of g row) (λ c k.
       let o = need-out row c k in
@@ -260,7 +260,7 @@ module _ (g : LaunchGraph) (table : Table) (known : List (Option ℕ)) (cycle ro
   ready : are_come known cycle needs ≡ true → are_come known cycle (needs_of g row) ≡ true
   ready h = ap (are_come known cycle) (sym en) ∙ h
 
-  pub not-ready : AreFound g table known cycle → are_come known cycle needs ≡ false → IsPassed g table known cycle row
+  pub not-ready : ComesAreFound g table known cycle → are_come known cycle needs ≡ false → IsPassed g table known cycle row
   not-ready found h m e start = absurd (false≢true (sym h ∙ ap (are_come known cycle) en ∙ start-found g table known cycle row found start))
 
   module _ (class m : ℕ) (new : List (Option ℕ)) (ec : class ≡ class_at g row) (em : m ≡ cycle + n) (e : new ≡ come_by known class m) (sound : AreSound g table known) (h : are_come known cycle needs ≡ true) where

@@ -19,7 +19,7 @@ use Rattle.schedule_meaning.specs.declared.schedules.Launch.{Launch}
 use Rattle.cycle_encoding.specs.Shapes.{vars_of, counters, counters_vars}
 use Rattle.cycle_encoding.specs.Variables.{slots_of, use_launches, row_launches, launches_from, shown_classes, clusters_of, all_seen, Seen}
 use Rattle.cycle_encoding.specs.Families.{is_at, is_made, is_made_target, slot_row, slot_groups, target_clauses, operand_clauses, seen_clauses, makes, is_seen}
-use Rattle.cycle_encoding.specs.CycleFormula.{Scope, listed_in, launch_vars, seen_vars, before_slots, after_cycles, cycle_part, first_in, wants_in}
+use Rattle.cycle_encoding.specs.CycleFormula.{Scope, listed_in, launch_vars, seen_vars, before_slots, after_cycles, cycle_part, first_cycle_in, wants_in}
 use Rattle.cycle_encoding.specs.Counts.{one_if, row_use, cycles_of, can_begin, row_count, row_has, row_numbers, sum_launches, at_count, sum_places, seen_count, cycle_vars, cycle_size}
 use Rattle.cycle_encoding.proofs.Counting.{sum-same}
 use Rattle.cycle_encoding.proofs.Tests.{some_of, some_in}
@@ -58,8 +58,8 @@ module _ (g : LaunchGraph) (table : Table) (k : ℕ) (s : Scope) where
     by_instr first None = refl
     by_instr first (Some i) = by_use first (use_of table i)
 
-    pub by_row : sum_by F (row_launches g table k (first_in s row) row) ≡ option_map_or (λ u. option_map_or (λ n. C n u) (first_in s row) 0) (row_use g table row) 0
-    by_row = by_instr (first_in s row) (instr_at g row)
+    pub by_row : sum_by F (row_launches g table k (first_cycle_in s row) row) ≡ option_map_or (λ u. option_map_or (λ n. C n u) (first_cycle_in s row) 0) (row_use g table row) 0
+    by_row = by_instr (first_cycle_in s row) (instr_at g row)
 
   pub use_sum : (row n : ℕ) (u : Use) (F : Launch → ℕ) → sum_by F (use_launches table k row n u) ≡ sum_by (λ s. sum_by (λ t. F (at row s t)) (range_with_len n (cycles_of k n u))) (slots_of table u)
   use_sum row n u F =
@@ -84,13 +84,13 @@ module _ (g : LaunchGraph) (table : Table) (k : ℕ) (s : Scope) where
   times_in c D first None = (let z : 0 ≡ 0 * c = omega arith in z)
   times_in c D first (Some u) = times_one c (λ n. D n u) first
 
-  pub sum-rows : (f : ℕ → ℕ) → sum_by (λ (l : Launch). f l.row) (launches_from g table k (first_in s)) ≡ sum_launches g table k s f
+  pub sum-rows : (f : ℕ → ℕ) → sum_by (λ (l : Launch). f l.row) (launches_from g table k (first_cycle_in s)) ≡ sum_launches g table k s f
   sum-rows f =
-      sum-flat (λ (l : Launch). f l.row) (λ row. row_launches g table k (first_in s row) row) (row_numbers g table k s)
-      ∙ sum-same (λ row. sum_by (λ (l : Launch). f l.row) (row_launches g table k (first_in s row) row)) (λ row. row_count g table k s row * f row) (row_numbers g table k s) (λ row. by_row row (λ l. f l.row) (λ n u. length (slots_of table u) * cycles_of k n u * f row) (use_row f row) ∙ times_in (f row) (λ n u. length (slots_of table u) * cycles_of k n u) (first_in s row) (row_use g table row))
+      sum-flat (λ (l : Launch). f l.row) (λ row. row_launches g table k (first_cycle_in s row) row) (row_numbers g table k s)
+      ∙ sum-same (λ row. sum_by (λ (l : Launch). f l.row) (row_launches g table k (first_cycle_in s row) row)) (λ row. row_count g table k s row * f row) (row_numbers g table k s) (λ row. by_row row (λ l. f l.row) (λ n u. length (slots_of table u) * cycles_of k n u * f row) (use_row f row) ∙ times_in (f row) (λ n u. length (slots_of table u) * cycles_of k n u) (first_cycle_in s row) (row_use g table row))
 
-  pub launch-count : length (launches_from g table k (first_in s)) ≡ sum_launches g table k s (λ row. 1)
-  launch-count = size-ones (launches_from g table k (first_in s)) ∙ sum-rows (λ row. 1)
+  pub launch-count : length (launches_from g table k (first_cycle_in s)) ≡ sum_launches g table k s (λ row. 1)
+  launch-count = size-ones (launches_from g table k (first_cycle_in s)) ∙ sum-rows (λ row. 1)
 
   -- a slot and a cycle
   any_slot : (u : Use) (s : ℕ) → s < length table.slots → list_any (λ x. x == s) (slots_of table u) ≡ list_any (λ r. r == s) u.slots
@@ -124,10 +124,10 @@ module _ (g : LaunchGraph) (table : Table) (k : ℕ) (s : Scope) where
   one_in D first None = refl
   one_in D first (Some u) = one_first (λ n. D n u) first
 
-  pub at-count : (x t : ℕ) → x < length table.slots → count_by (is_at x t) (launches_from g table k (first_in s)) ≡ at_count g table k s x t
+  pub at-count : (x t : ℕ) → x < length table.slots → count_by (is_at x t) (launches_from g table k (first_cycle_in s)) ≡ at_count g table k s x t
   at-count x t lt =
-      sum-flat (λ l. one_if (is_at x t l)) (λ row. row_launches g table k (first_in s row) row) (row_numbers g table k s)
-      ∙ sum-same (λ row. count_by (is_at x t) (row_launches g table k (first_in s row) row)) (λ row. one_if (row_has g table k s x t row)) (row_numbers g table k s) (λ row. by_row row (λ l. one_if (is_at x t l)) (λ n u. one_if (list_any (λ r. r == x) u.slots && can_begin k n u t)) (use_at x t row lt) ∙ one_in (λ n u. list_any (λ r. r == x) u.slots && can_begin k n u t) (first_in s row) (row_use g table row))
+      sum-flat (λ l. one_if (is_at x t l)) (λ row. row_launches g table k (first_cycle_in s row) row) (row_numbers g table k s)
+      ∙ sum-same (λ row. count_by (is_at x t) (row_launches g table k (first_cycle_in s row) row)) (λ row. one_if (row_has g table k s x t row)) (row_numbers g table k s) (λ row. by_row row (λ l. one_if (is_at x t l)) (λ n u. one_if (list_any (λ r. r == x) u.slots && can_begin k n u t)) (use_at x t row lt) ∙ one_in (λ n u. list_any (λ r. r == x) u.slots && can_begin k n u t) (first_cycle_in s row) (row_use g table row))
 
   -- ---- what is seen
 
@@ -149,7 +149,7 @@ module _ (g : LaunchGraph) (table : Table) (k : ℕ) (s : Scope) where
       ∙ same-in (λ s. sum_by (λ (c : List Lit). h (length c)) (slot_row s k xs)) (λ x. sum_by (λ t. h (at_count g table k s x t)) (range_with_len 0 k)) (range_with_len 0 (length table.slots)) (λ x hs.
       let lt : x < length table.slots = (let b = (range-out 0 (length table.slots) x hs).1 in omega arith) in
       sum-map (λ (c : List Lit). h (length c)) (λ t. vars_of (is_at x t) xs) (range_with_len 0 k)
-      ∙ sum-same (λ t. h (length (vars_of (is_at x t) xs))) (λ t. h (at_count g table k s x t)) (range_with_len 0 k) (λ t. ap h (size-vars (is_at x t) 0 (launches_from g table k (first_in s)) ∙ at-count x t lt)))
+      ∙ sum-same (λ t. h (length (vars_of (is_at x t) xs))) (λ t. h (at_count g table k s x t)) (range_with_len 0 k) (λ t. ap h (size-vars (is_at x t) 0 (launches_from g table k (first_cycle_in s)) ∙ at-count x t lt)))
 
   -- ---- the part of the cycles
 
@@ -171,8 +171,8 @@ module _ (g : LaunchGraph) (table : Table) (k : ℕ) (s : Scope) where
         let c4 = counters (before_slots g table k e) 1 (slot_groups table k xs) in
         let l1 : length c1 ≡ count_by (is_made_target g) g.sets = size-map (λ (s : SetClass). vars_of (gives g s.class) xs) (filter (is_made_target g) g.sets) ∙ length-filter (is_made_target g) g.sets in
         let l2 : length c2 ≡ sum_launches g table k s (λ row. count_by (is_made g) (operands_at g row)) =
-        size-implied (λ (l : Launch). map (λ o. vars_of (is_seen o.class (cluster_of table l.slot) l.cycle) ds) (filter (is_made g) (operands_at g l.row))) 0 (launches_from g table k (first_in s))
-        ∙ sum-same (λ (l : Launch). length (map (λ o. vars_of (is_seen o.class (cluster_of table l.slot) l.cycle) ds) (filter (is_made g) (operands_at g l.row)))) (λ l. count_by (is_made g) (operands_at g l.row)) (launches_from g table k (first_in s)) (λ l. size-map (λ o. vars_of (is_seen o.class (cluster_of table l.slot) l.cycle) ds) (filter (is_made g) (operands_at g l.row)) ∙ length-filter (is_made g) (operands_at g l.row))
+        size-implied (λ (l : Launch). map (λ o. vars_of (is_seen o.class (cluster_of table l.slot) l.cycle) ds) (filter (is_made g) (operands_at g l.row))) 0 (launches_from g table k (first_cycle_in s))
+        ∙ sum-same (λ (l : Launch). length (map (λ o. vars_of (is_seen o.class (cluster_of table l.slot) l.cycle) ds) (filter (is_made g) (operands_at g l.row)))) (λ l. count_by (is_made g) (operands_at g l.row)) (launches_from g table k (first_cycle_in s)) (λ l. size-map (λ o. vars_of (is_seen o.class (cluster_of table l.slot) l.cycle) ds) (filter (is_made g) (operands_at g l.row)) ∙ length-filter (is_made g) (operands_at g l.row))
         ∙ sum-rows (λ row. count_by (is_made g) (operands_at g row)) in
         let l3 : length c3 ≡ seen_count g table k s = size-implied (λ d. vars_of (makes g table d) xs ∷ []) (length e.launches) e.seen ∙ sym (size-ones e.seen) ∙ seen-size in
         let l4 : length c4 ≡ sum_places g table k s (λ x t. at_most_size 1 (at_count g table k s x t)) = counters-size 1 size (before_slots g table k e) (slot_groups table k xs) ∙ places (at_most_size 1) in

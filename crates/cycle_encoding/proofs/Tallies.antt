@@ -12,7 +12,7 @@ use Rattle.machine_table.specs.declared.tables.InstrKind.{InstrKind}
 use Rattle.launch_graph.specs.declared.graphs.LaunchGraph.{LaunchGraph}
 use Rattle.launch_graph.specs.WellFormed.{next_class}
 use Rattle.cycle_encoding.specs.Variables.{slots_of, shown_classes, clusters_of}
-use Rattle.cycle_encoding.specs.CycleFormula.{Scope, first_in, wants_in}
+use Rattle.cycle_encoding.specs.CycleFormula.{Scope, first_cycle_in, wants_in}
 use Rattle.cycle_encoding.specs.Steps.{has_cluster}
 use Rattle.cycle_encoding.specs.Facts.{may_use, is_shown_class}
 use Rattle.cycle_encoding.specs.Counts.{seen_count, row_use, row_count, row_has, cycles_of, can_begin}
@@ -45,25 +45,25 @@ module _ (g : LaunchGraph) (table : Table) (k : ℕ) (s : Scope) (row : ℕ) whe
       ∙ ap (λ t. length (filter t (range_with_len 0 (length table.slots))) * (k + 1 - latency - n)) test
       ∙ ap (λ m. m * (k + 1 - latency - n)) (length-filter (may_use table instr) (range_with_len 0 (length table.slots)))
 
-  pub count_is : (instr : InstrKind) (latency n : ℕ) → instr_at g row ≡ Some instr → latency_of table instr ≡ Some latency → first_in s row ≡ Some n → row_count g table k s row ≡ count_by (may_use table instr) (range_with_len 0 (length table.slots)) * (k + 1 - latency - n)
-  count_is instr latency n e h f = ap (count_of (first_in s row)) e ∙ ap (λ (o : Option ℕ). use_count o (use_of table instr)) f ∙ count_known instr n (use_of table instr) latency refl h
+  pub count_is : (instr : InstrKind) (latency n : ℕ) → instr_at g row ≡ Some instr → latency_of table instr ≡ Some latency → first_cycle_in s row ≡ Some n → row_count g table k s row ≡ count_by (may_use table instr) (range_with_len 0 (length table.slots)) * (k + 1 - latency - n)
+  count_is instr latency n e h f = ap (count_of (first_cycle_in s row)) e ∙ ap (λ (o : Option ℕ). use_count o (use_of table instr)) f ∙ count_known instr n (use_of table instr) latency refl h
 
   no_first : (o : Option Use) → use_count None o ≡ 0
   no_first None = refl
   no_first (Some u) = refl
 
-  pub count_without_first : first_in s row ≡ None → row_count g table k s row ≡ 0
+  pub count_without_first : first_cycle_in s row ≡ None → row_count g table k s row ≡ 0
   count_without_first f = ap (λ (o : Option ℕ). use_count o (row_use g table row)) f ∙ no_first (row_use g table row)
 
-  no_use : (o : Option Use) → option_map (λ u. u.latency) o ≡ None → use_count (first_in s row) o ≡ 0
+  no_use : (o : Option Use) → option_map (λ u. u.latency) o ≡ None → use_count (first_cycle_in s row) o ≡ 0
   no_use None h = refl
   no_use (Some u) h = absurd (let f : Some u.latency ≡ None = h in cc)
 
   pub count_without_use : (instr : InstrKind) → instr_at g row ≡ Some instr → latency_of table instr ≡ None → row_count g table k s row ≡ 0
-  count_without_use instr e h = ap (count_of (first_in s row)) e ∙ no_use (use_of table instr) h
+  count_without_use instr e h = ap (count_of (first_cycle_in s row)) e ∙ no_use (use_of table instr) h
 
   pub count_without_instr : instr_at g row ≡ None → row_count g table k s row ≡ 0
-  count_without_instr e = ap (count_of (first_in s row)) e
+  count_without_instr e = ap (count_of (first_cycle_in s row)) e
 
   module _ (slot cycle : ℕ) where
     abbrev use_has : Option ℕ → Option Use → Bool
@@ -79,25 +79,25 @@ module _ (g : LaunchGraph) (table : Table) (k : ℕ) (s : Scope) (row : ℕ) whe
         ap (λ m. list_any (λ r. r == slot) u.slots && (nat_le n cycle && nat_lt cycle (k + 1 - m))) l
         ∙ ap (λ (o : Option Use). option_map_or (λ (u : Use). list_any (λ r. r == slot) u.slots) o false && (nat_le n cycle && nat_lt cycle (k + 1 - latency))) (sym e)
 
-    pub has_is : (instr : InstrKind) (latency n : ℕ) → instr_at g row ≡ Some instr → latency_of table instr ≡ Some latency → first_in s row ≡ Some n → row_has g table k s slot cycle row ≡ (may_use table instr slot && (nat_le n cycle && nat_lt cycle (k + 1 - latency)))
-    has_is instr latency n e h f = ap (has_of (first_in s row)) e ∙ ap (λ (o : Option ℕ). use_has o (use_of table instr)) f ∙ has_known instr n (use_of table instr) latency refl h
+    pub has_is : (instr : InstrKind) (latency n : ℕ) → instr_at g row ≡ Some instr → latency_of table instr ≡ Some latency → first_cycle_in s row ≡ Some n → row_has g table k s slot cycle row ≡ (may_use table instr slot && (nat_le n cycle && nat_lt cycle (k + 1 - latency)))
+    has_is instr latency n e h f = ap (has_of (first_cycle_in s row)) e ∙ ap (λ (o : Option ℕ). use_has o (use_of table instr)) f ∙ has_known instr n (use_of table instr) latency refl h
 
     has_no_first : (o : Option Use) → use_has None o ≡ false
     has_no_first None = refl
     has_no_first (Some u) = refl
 
-    pub has_without_first : first_in s row ≡ None → row_has g table k s slot cycle row ≡ false
+    pub has_without_first : first_cycle_in s row ≡ None → row_has g table k s slot cycle row ≡ false
     has_without_first f = ap (λ (o : Option ℕ). use_has o (row_use g table row)) f ∙ has_no_first (row_use g table row)
 
-    has_none : (o : Option Use) → option_map (λ u. u.latency) o ≡ None → use_has (first_in s row) o ≡ false
+    has_none : (o : Option Use) → option_map (λ u. u.latency) o ≡ None → use_has (first_cycle_in s row) o ≡ false
     has_none None h = refl
     has_none (Some u) h = absurd (let f : Some u.latency ≡ None = h in cc)
 
     pub has_without_use : (instr : InstrKind) → instr_at g row ≡ Some instr → latency_of table instr ≡ None → row_has g table k s slot cycle row ≡ false
-    has_without_use instr e h = ap (has_of (first_in s row)) e ∙ has_none (use_of table instr) h
+    has_without_use instr e h = ap (has_of (first_cycle_in s row)) e ∙ has_none (use_of table instr) h
 
     pub has_without_instr : instr_at g row ≡ None → row_has g table k s slot cycle row ≡ false
-    has_without_instr e = ap (has_of (first_in s row)) e
+    has_without_instr e = ap (has_of (first_cycle_in s row)) e
 
 -- what is seen, by the counts of classes and clusters
 pub seen_is : (g : LaunchGraph) (table : Table) (k : ℕ) (s : Scope) (m n j : ℕ) → m ≡ count_by (is_shown_class g (wants_in s)) (range_with_len 0 (next_class g.rows)) → n ≡ count_by (has_cluster table) (range_with_len 0 4) → j ≡ k → m * (n * j) ≡ seen_count g table k s

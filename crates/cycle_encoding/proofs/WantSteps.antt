@@ -24,7 +24,7 @@ use Rattle.cycle_encoding.specs.Counts.{row_is}
 use Rattle.cycle_encoding.specs.Narrow.{Wanted}
 use Rattle.cycle_encoding.specs.Narrow.Wanted.{target, guard, store, operand}
 use Rattle.cycle_encoding.specs.Coming.{needs_of}
-use Rattle.cycle_encoding.specs.Wanting.{is_marked, is_wanted_target, is_store_op, is_store_row, is_root, giving_rows, AreMarks, HasMarks, IsFollowed, IsLonger, StillMarked}
+use Rattle.cycle_encoding.specs.Wanting.{is_marked_class, is_wanted_target, is_store_op, is_store_row, is_root, giving_rows, AreWantedMarks, AreAllMarked, IsFollowed, IsLonger, StillMarked}
 use Rattle.cycle_encoding.proofs.Members.{here, nothing, filter-in, filter-out, range-in, range-out}
 use Rattle.cycle_encoding.proofs.Tests.{input-is, input-from}
 use Rattle.cycle_encoding.specs.Steps.{put_at}
@@ -47,31 +47,31 @@ longer-at xs ys i d l lt = ap (λ (zs : List ℕ). get_or zs i d) l.1 ∙ get_or
 longer-size : (xs ys : List ℕ) → IsLonger xs ys → length xs ≤ length ys
 longer-size xs ys l = (let e = ap (λ (zs : List ℕ). length zs) l.1 ∙ length-append xs l.0 in omega arith)
 
-pub kept-marks : (old new : List Bool) (classes : List ℕ) → StillMarked old new → length new ≡ length old → HasMarks old classes → HasMarks new classes
+pub kept-marks : (old new : List Bool) (classes : List ℕ) → StillMarked old new → length new ≡ length old → AreAllMarked old classes → AreAllMarked new classes
 kept-marks old new classes still size h c k lt = still c (h c k (omega arith))
 
-pub one-mark : (marks : List Bool) (class : ℕ) → (class < length marks → is_marked marks class ≡ true) → HasMarks marks (class ∷ [])
-one-mark marks class h c (zero, l, e) lt = subst (λ x. is_marked marks x ≡ true) e (h (let same : class ≡ c = e in omega arith))
+pub one-mark : (marks : List Bool) (class : ℕ) → (class < length marks → is_marked_class marks class ≡ true) → AreAllMarked marks (class ∷ [])
+one-mark marks class h c (zero, l, e) lt = subst (λ x. is_marked_class marks x ≡ true) e (h (let same : class ≡ c = e in omega arith))
 one-mark marks class h c (suc i, l, e) lt = absurd (let z : length (class ∷ []) ≡ 1 = refl in omega (arith, z, l))
 
 -- one class marked and listed
 module _ (g : LaunchGraph) (old new : List Bool) (order longer : List ℕ) (class : ℕ) (lt : class < length old) (d : Bool) (free : get_or old class d ≡ false) (en : new ≡ set old class true) where
-  other : (c : ℕ) → (c ≡ class → ⊥) → is_marked new c ≡ is_marked old c
+  other : (c : ℕ) → (c ≡ class → ⊥) → is_marked_class new c ≡ is_marked_class old c
   other c ne = ap (λ (xs : List Bool). get_or xs c false) en ∙ get_or-set_other old class c true false ne
 
-  this : is_marked new class ≡ true
+  this : is_marked_class new class ≡ true
   this = ap (λ (xs : List Bool). get_or xs class false) en ∙ get_or-set_same old class true false lt
 
   size : length new ≡ length old
   size = ap (λ (xs : List Bool). length xs) en ∙ length-set old class true
 
   pub mark-still : StillMarked old new
-  mark-still c h = elim (cases_eq c class) [ inl e ↦ subst (λ x. is_marked new x ≡ true) (sym e) this | inr ne ↦ other c ne ∙ h ]
+  mark-still c h = elim (cases_eq c class) [ inl e ↦ subst (λ x. is_marked_class new x ≡ true) (sym e) this | inr ne ↦ other c ne ∙ h ]
 
-  pub mark-has : HasMarks new (class ∷ [])
+  pub mark-has : AreAllMarked new (class ∷ [])
   mark-has = one-mark new class (λ _. this)
 
-  pub mark-marks : longer ≡ order ++ class ∷ [] → Wanted g class → AreMarks g old order → AreMarks g new longer
+  pub mark-marks : longer ≡ order ++ class ∷ [] → Wanted g class → AreWantedMarks g old order → AreWantedMarks g new longer
   mark-marks eo w before = record {
     wanted = λ c h. elim (Contains-push_cases order class c (subst (λ (zs : List ℕ). Contains zs c) eo h)) [
       | inl k ↦ before.wanted c k
@@ -98,7 +98,7 @@ module _ (g : LaunchGraph) (old new : List Bool) (order longer : List ℕ) (clas
   }
 
 -- one more of several classes
-pub more-marks : (old new : List Bool) (classes : List ℕ) (i d : ℕ) → i < length classes → StillMarked old new → length new ≡ length old → HasMarks old (take i classes) → HasMarks new (get_or classes i d ∷ []) → HasMarks new (take (i + 1) classes)
+pub more-marks : (old new : List Bool) (classes : List ℕ) (i d : ℕ) → i < length classes → StillMarked old new → length new ≡ length old → AreAllMarked old (take i classes) → AreAllMarked new (get_or classes i d ∷ []) → AreAllMarked new (take (i + 1) classes)
 more-marks old new classes i d lt still size before now c k l =
     elim (Contains-push_cases (take i classes) (get_or classes i d) c (subst (λ (zs : List ℕ). Contains zs c) (take_more classes i d lt) k)) [
       | inl h ↦ still c (before c h (omega arith))
@@ -113,13 +113,13 @@ target-wanted g s h t =
     target s h (λ m. false≢true (sym (not-true (is_memory_name s.name) p.0) ∙ m)) (λ i. false≢true (sym (not-true (is_input g s.class) p.1) ∙ input-from g s.class i))
 
 pub more-targets : (g : LaunchGraph) (old new : List Bool) (i : ℕ) (d s : SetClass) → i < length g.sets → s ≡ get_or g.sets i d → StillMarked old new → length new ≡ length old
-    → ((x : SetClass) → Contains (take i g.sets) x → is_wanted_target g x ≡ true → HasMarks old (x.class ∷ []))
-    → (is_wanted_target g s ≡ true → HasMarks new (s.class ∷ []))
-    → (x : SetClass) → Contains (take (i + 1) g.sets) x → is_wanted_target g x ≡ true → HasMarks new (x.class ∷ [])
+    → ((x : SetClass) → Contains (take i g.sets) x → is_wanted_target g x ≡ true → AreAllMarked old (x.class ∷ []))
+    → (is_wanted_target g s ≡ true → AreAllMarked new (s.class ∷ []))
+    → (x : SetClass) → Contains (take (i + 1) g.sets) x → is_wanted_target g x ≡ true → AreAllMarked new (x.class ∷ [])
 more-targets g old new i d s lt e still size before now x h t =
     elim (Contains-push_cases (take i g.sets) (get_or g.sets i d) x (subst (λ (zs : List SetClass). Contains zs x) (take_more g.sets i d lt) h)) [
       | inl k ↦ kept-marks old new (x.class ∷ []) still size (before x k t)
-      | inr q ↦ (let same : s ≡ x = e ∙ q in subst (λ (y : SetClass). HasMarks new (y.class ∷ [])) same (now (subst (λ (y : SetClass). is_wanted_target g y ≡ true) (sym same) t)))
+      | inr q ↦ (let same : s ≡ x = e ∙ q in subst (λ (y : SetClass). AreAllMarked new (y.class ∷ [])) same (now (subst (λ (y : SetClass). is_wanted_target g y ≡ true) (sym same) t)))
     ]
 
 -- ---- stores and the branch
@@ -146,12 +146,12 @@ root-needs g row h class k =
     ]
 
 pub more-roots : (g : LaunchGraph) (old new : List Bool) (row : ℕ) → StillMarked old new → length new ≡ length old
-    → ((r : ℕ) → r < row → is_root g r ≡ true → HasMarks old (needs_of g r))
-    → (is_root g row ≡ true → HasMarks new (needs_of g row))
-    → (r : ℕ) → r < row + 1 → is_root g r ≡ true → HasMarks new (needs_of g r)
+    → ((r : ℕ) → r < row → is_root g r ≡ true → AreAllMarked old (needs_of g r))
+    → (is_root g row ≡ true → AreAllMarked new (needs_of g row))
+    → (r : ℕ) → r < row + 1 → is_root g r ≡ true → AreAllMarked new (needs_of g r)
 more-roots g old new row still size before now r lt t =
     elim (cases_eq r row) [
-      | inl e ↦ subst (λ x. is_root g x ≡ true → HasMarks new (needs_of g x)) (sym e) now t
+      | inl e ↦ subst (λ x. is_root g x ≡ true → AreAllMarked new (needs_of g x)) (sym e) now t
       | inr ne ↦ kept-marks old new (needs_of g r) still size (before r (omega arith) t)
     ]
 
@@ -177,13 +177,13 @@ follow-wanted g class row c w h k =
     subst (Wanted g) o.2 (operand row o.0 i.0 i.1 i.2 (subst (Wanted g) (sym r.2) w) o.1)
 
 pub more-rows : (g : LaunchGraph) (old new : List Bool) (rows : List ℕ) (i d : ℕ) → i < length rows → StillMarked old new → length new ≡ length old
-    → ((r : ℕ) → Contains (take i rows) r → HasMarks old (needs_of g r))
-    → HasMarks new (needs_of g (get_or rows i d))
-    → (r : ℕ) → Contains (take (i + 1) rows) r → HasMarks new (needs_of g r)
+    → ((r : ℕ) → Contains (take i rows) r → AreAllMarked old (needs_of g r))
+    → AreAllMarked new (needs_of g (get_or rows i d))
+    → (r : ℕ) → Contains (take (i + 1) rows) r → AreAllMarked new (needs_of g r)
 more-rows g old new rows i d lt still size before now r h =
     elim (Contains-push_cases (take i rows) (get_or rows i d) r (subst (λ (zs : List ℕ). Contains zs r) (take_more rows i d lt) h)) [
       | inl k ↦ kept-marks old new (needs_of g r) still size (before r k)
-      | inr e ↦ subst (λ x. HasMarks new (needs_of g x)) e now
+      | inr e ↦ subst (λ x. AreAllMarked new (needs_of g x)) e now
     ]
 
 -- ---- one class more that is followed
@@ -203,7 +203,7 @@ pub all-followed : (g : LaunchGraph) (marks : List Bool) (order : List ℕ) (at 
 all-followed g marks order at le done class (p, lt, e) = subst (IsFollowed g marks) (get_or_default order p 0 class lt ∙ e) (done p (omega arith) lt)
 
 -- no more classes are listed than there are
-pub few-listed : (g : LaunchGraph) (marks : List Bool) (order : List ℕ) → AreMarks g marks order → length order ≤ length marks
+pub few-listed : (g : LaunchGraph) (marks : List Bool) (order : List ℕ) → AreWantedMarks g marks order → length order ≤ length marks
 few-listed g marks order m = (let c = m.count in let l = count_by-le-length (λ (b : Bool). b) marks in omega arith)
 
 -- ---- exactly the wanted classes are marked
@@ -212,15 +212,15 @@ store_op_in : (r : LaunchRow) → (r.op ≡ Store) ⊎ (r.op ≡ Put) → is_sto
 store_op_in r (inl e) = ap is_store_op e
 store_op_in r (inr e) = ap is_store_op e
 
-module _ (g : LaunchGraph) (marks : List Bool) (order : List ℕ) (size : length marks ≡ next_class g.rows) (are : AreMarks g marks order)
-    (targets : (s : SetClass) → Contains g.sets s → is_wanted_target g s ≡ true → HasMarks marks (s.class ∷ []))
-    (roots : (row : ℕ) → row < length g.rows + 1 → is_root g row ≡ true → HasMarks marks (needs_of g row))
+module _ (g : LaunchGraph) (marks : List Bool) (order : List ℕ) (size : length marks ≡ next_class g.rows) (are : AreWantedMarks g marks order)
+    (targets : (s : SetClass) → Contains g.sets s → is_wanted_target g s ≡ true → AreAllMarked marks (s.class ∷ []))
+    (roots : (row : ℕ) → row < length g.rows + 1 → is_root g row ≡ true → AreAllMarked marks (needs_of g row))
     (followed : (class : ℕ) → Contains order class → IsFollowed g marks class) where
   row_bound : (row : ℕ) (b : Bool) → (row == length g.rows) ≡ b → (i : InstrKind) → instr_at g row ≡ Some i → row < length g.rows + 1
   row_bound row true e i h = (let same = eqb-true row (length g.rows) e in omega arith)
   row_bound row false e i h = (let r = found_row g ev6 (slice_get g.rows row) (λ r. op_instr g r.op r.operands) i (sym (ap (λ b. cond b (option_map (λ _. Beq) g.guard) (option_and_then (λ r. op_instr g r.op r.operands) (slice_get g.rows row))) e) ∙ h) in let lt = slice_get_within g.rows row r.0 r.1 in omega arith)
 
-  all-marked : (class : ℕ) → Wanted g class → class < length marks → is_marked marks class ≡ true
+  all-marked : (class : ℕ) → Wanted g class → class < length marks → is_marked_class marks class ≡ true
   all-marked _ (target s h nm ni) lt =
       let memory : is_memory_name s.name ≡ false = elim (cases_Bool (is_memory_name s.name)) [ inl t ↦ absurd (nm t) | inr f ↦ f ] in
       let input : is_input g s.class ≡ false = elim (cases_Bool (is_input g s.class)) [ inl t ↦ absurd (ni (input-is g s.class t)) | inr f ↦ f ] in
@@ -239,7 +239,7 @@ module _ (g : LaunchGraph) (marks : List Bool) (order : List ℕ) (size : length
       let member : Contains (giving_rows g (class_at g row)) row = filter-in (λ r. row_is g gives_word r && (class_at g r == class_at g row)) (range_with_len 0 (length g.rows)) row (range-in 0 (length g.rows) row (omega arith) (let l = bound.0 in omega arith)) (and_from (row_is g gives_word row) (class_at g row == class_at g row) gives (eq-eqb (class_at g row) (class_at g row) refl)) in
       followed (class_at g row) (are.listed (class_at g row) mark) row member o.class (need-in g ev6 row o need) lt
 
-  pub marks-exact : (class : ℕ) → (is_marked marks class ≡ true) ↔ (Wanted g class × (class < next_class g.rows))
+  pub marks-exact : (class : ℕ) → (is_marked_class marks class ≡ true) ↔ (Wanted g class × (class < next_class g.rows))
   marks-exact class = (
     (λ h. let c = are.listed class h in (are.wanted class c, (let b = are.within class c in omega arith))),
     (λ h. all-marked class h.0 (let b = h.1 in omega arith)),
@@ -282,7 +282,7 @@ none_count a (suc n) =
     let s = sum_by-cons (λ b. cond {A = ℕ} b 1 0) false (map {A = ℕ} (λ _. false) (range_with_len (a + 1) n)) in
     omega arith
 
-pub none-marked : (g : LaunchGraph) (n : ℕ) (marks : List Bool) (order : List ℕ) → marks ≡ map (λ _. false) (range_with_len 0 n) → order ≡ [] → AreMarks g marks order
+pub none-marked : (g : LaunchGraph) (n : ℕ) (marks : List Bool) (order : List ℕ) → marks ≡ map (λ _. false) (range_with_len 0 n) → order ≡ [] → AreWantedMarks g marks order
 none-marked g n marks order e eo =
     let nobody : (c : ℕ) → Contains order c → ⊥ = λ c h. nothing c (subst (λ (zs : List ℕ). Contains zs c) eo h) in
     let size : length order ≡ 0 = ap (λ (zs : List ℕ). length zs) eo in

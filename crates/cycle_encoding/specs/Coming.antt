@@ -46,8 +46,8 @@ IsPassed g table come cycle row =
     → IsTrue (is_come come (cycle + n) (class_at g row))
 
 -- what has come by t was found
-abbrev pub AreFound : LaunchGraph → Table → List (Option ℕ) → ℕ → Type 0
-AreFound g table come t = (class : ℕ) → HasCome g table class t → IsTrue (is_come come t class)
+abbrev pub ComesAreFound : LaunchGraph → Table → List (Option ℕ) → ℕ → Type 0
+ComesAreFound g table come t = (class : ℕ) → HasCome g table class t → IsTrue (is_come come t class)
 
 -- what was found to have come still is
 abbrev pub StillCome : List (Option ℕ) → List (Option ℕ) → Type 0

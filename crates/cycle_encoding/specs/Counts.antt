@@ -12,7 +12,7 @@ use Rattle.machine_table.specs.declared.tables.InstrKind.{InstrKind}
 use Rattle.launch_graph.specs.declared.graphs.LaunchGraph.{LaunchGraph}
 use Rattle.cycle_encoding.specs.Variables.{slots_of, shown_classes, clusters_of}
 use Rattle.cycle_encoding.specs.Families.{is_made, is_made_target}
-use Rattle.cycle_encoding.specs.CycleFormula.{Scope, first_in, wants_in}
+use Rattle.cycle_encoding.specs.CycleFormula.{Scope, first_cycle_in, wants_in}
 
 abbrev pub one_if : Bool → ℕ
 one_if b = if b then 1 else 0
@@ -37,13 +37,13 @@ module _ (g : LaunchGraph) (table : Table) (k : ℕ) (s : Scope) where
   abbrev pub row_count : ℕ → ℕ
   row_count row =
       option_map_or
-      (λ u. option_map_or (λ n. length (slots_of table u) * cycles_of k n u) (first_in s row) 0)
+      (λ u. option_map_or (λ n. length (slots_of table u) * cycles_of k n u) (first_cycle_in s row) 0)
       (row_use g table row) 0
 
   abbrev pub row_has : ℕ → ℕ → ℕ → Bool
   row_has slot cycle row =
       option_map_or
-      (λ u. option_map_or (λ n. list_any (λ r. r == slot) u.slots && can_begin k n u cycle) (first_in s row) false)
+      (λ u. option_map_or (λ n. list_any (λ r. r == slot) u.slots && can_begin k n u cycle) (first_cycle_in s row) false)
       (row_use g table row) false
 
   -- all numbers of rows, and a sum over the launches of something that hangs on the row alone

@@ -22,15 +22,15 @@ pub record Scope : Type 0 where
   pub firsts : List (Option ℕ)
   pub wants : List Bool
 
-abbrev pub first_in : Scope → ℕ → Option ℕ
-first_in s row = if s.narrow then slice_index_or s.firsts row None else Some 0
+abbrev pub first_cycle_in : Scope → ℕ → Option ℕ
+first_cycle_in s row = if s.narrow then slice_index_or s.firsts row None else Some 0
 
 abbrev pub wants_in : Scope → ℕ → Bool
 wants_in s class = if s.narrow then slice_index_or s.wants class false else true
 
 abbrev pub listed_in : LaunchGraph → Table → ℕ → Scope → Listed
 listed_in g table k s =
-    record { launches = launches_from g table k (first_in s); seen = all_seen table k (shown_classes g (wants_in s)) }
+    record { launches = launches_from g table k (first_cycle_in s); seen = all_seen table k (shown_classes g (wants_in s)) }
 
 abbrev pub wide_scope : Scope
 wide_scope = record { narrow = false; firsts = []; wants = [] }

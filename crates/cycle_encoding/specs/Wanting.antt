@@ -14,8 +14,8 @@ use Rattle.cycle_encoding.specs.Counts.{row_is}
 use Rattle.cycle_encoding.specs.Narrow.{Wanted}
 use Rattle.cycle_encoding.specs.Coming.{needs_of}
 
-abbrev pub is_marked : List Bool → ℕ → Bool
-is_marked marks class = slice_index_or marks class false
+abbrev pub is_marked_class : List Bool → ℕ → Bool
+is_marked_class marks class = slice_index_or marks class false
 
 -- a target whose class is wanted for itself
 abbrev pub is_wanted_target : LaunchGraph → SetClass → Bool
@@ -39,9 +39,9 @@ giving_rows g class =
     filter (λ row. row_is g gives_word row && (class_at g row == class)) (range_with_len 0 (length g.rows))
 
 -- only wanted classes are listed, each once, and those are the marked ones
-pub record AreMarks (g : LaunchGraph) (marks : List Bool) (order : List ℕ) : Type 0 where
+pub record AreWantedMarks (g : LaunchGraph) (marks : List Bool) (order : List ℕ) : Type 0 where
   pub wanted : (class : ℕ) → Contains order class → Wanted g class
-  pub listed : (class : ℕ) → IsTrue (is_marked marks class) → Contains order class
+  pub listed : (class : ℕ) → IsTrue (is_marked_class marks class) → Contains order class
   pub within : (class : ℕ) → Contains order class → class < length marks
   pub count : count_by (λ b. b) marks ≡ length order
 
@@ -51,12 +51,12 @@ IsLonger old new = (rest : List ℕ) × (new ≡ old ++ rest)
 
 -- marked classes stay so
 abbrev pub StillMarked : List Bool → List Bool → Type 0
-StillMarked old new = (class : ℕ) → IsTrue (is_marked old class) → IsTrue (is_marked new class)
+StillMarked old new = (class : ℕ) → IsTrue (is_marked_class old class) → IsTrue (is_marked_class new class)
 
 -- each of the classes is marked, where the table has it
-abbrev pub HasMarks : List Bool → List ℕ → Type 0
-HasMarks marks classes = (class : ℕ) → Contains classes class → class < length marks → IsTrue (is_marked marks class)
+abbrev pub AreAllMarked : List Bool → List ℕ → Type 0
+AreAllMarked marks classes = (class : ℕ) → Contains classes class → class < length marks → IsTrue (is_marked_class marks class)
 
 -- what each row that gives the class's word needs is marked
 abbrev pub IsFollowed : LaunchGraph → List Bool → ℕ → Type 0
-IsFollowed g marks class = (row : ℕ) → Contains (giving_rows g class) row → HasMarks marks (needs_of g row)
+IsFollowed g marks class = (row : ℕ) → Contains (giving_rows g class) row → AreAllMarked marks (needs_of g row)

@@ -4,7 +4,7 @@ ghost use Rattle.std.specs.List.{range_with_len};
 ghost use Rattle.launch_graph.specs.WellFormed.{IsLaunchGraph, next_class};
 ghost use Rattle.machine_table.specs.Tables.{IsTable};
 ghost use Rattle.cycle_encoding.specs.Coming as coming;
-ghost use Rattle.cycle_encoding.specs.Coming.{are_come, come_by, is_come, needs_of, AreFound, AreSound, IsExactUpTo, IsPassed, StillCome};
+ghost use Rattle.cycle_encoding.specs.Coming.{are_come, come_by, is_come, needs_of, ComesAreFound, AreSound, IsExactUpTo, IsPassed, StillCome};
 
 use crate::facts::next_class;
 use crate::marks::without_constants;
@@ -95,7 +95,7 @@ fn pass_row(
     requires table { IsTable table.now }
     requires long { length come.old.items ≡ next_class facts.now.rows }
     requires sound { AreSound facts.now table.now come.old.items }
-    requires found { AreFound facts.now table.now come.old.items cycle }
+    requires found { ComesAreFound facts.now table.now come.old.items cycle }
     ensures long { length come.new.items ≡ length come.old.items }
     ensures sound { AreSound facts.now table.now come.new.items }
     ensures still { StillCome come.old.items come.new.items }
@@ -124,7 +124,7 @@ fn pass_rows(
     requires rows { length facts.now.rows < 2 ^ 30 }
     requires long { length come.old.items ≡ next_class facts.now.rows }
     requires sound { AreSound facts.now table.now come.old.items }
-    requires found { AreFound facts.now table.now come.old.items cycle }
+    requires found { ComesAreFound facts.now table.now come.old.items cycle }
     ensures long { length come.new.items ≡ length come.old.items }
     ensures sound { AreSound facts.now table.now come.new.items }
     ensures still { StillCome come.old.items come.new.items }

@@ -3,7 +3,7 @@ ghost use Rattle.std.specs.Prelude.{◌≡◌, ◌+◌, ◌<◌, ◌≤◌, ◌^
 ghost use Rattle.cnf_core.specs.Formula.{Formula};
 ghost use Rattle.launch_graph.specs.WellFormed.{IsLaunchGraph};
 ghost use Rattle.machine_table.specs.Tables.{IsTable};
-ghost use Rattle.cycle_encoding.specs.CycleFormula.{cycle_formula, listed_in, wide, first_in};
+ghost use Rattle.cycle_encoding.specs.CycleFormula.{cycle_formula, listed_in, wide, first_cycle_in};
 ghost use Rattle.cycle_encoding.specs.Variables.{launches_from};
 ghost use Rattle.cycle_encoding.specs.Faults.{EncodeFaultIs};
 ghost use Rattle.cycle_encoding.specs.Plans.{IsTooLarge, plan_of};
@@ -81,7 +81,7 @@ pub fn build_cycles(
     requires vars { (cycle_formula facts.now table.now k (listed_in facts.now table.now k scope.now)).vars ≤ 262144 }
     requires clauses { length (cycle_formula facts.now table.now k (listed_in facts.now table.now k scope.now)).clauses ≤ 2000000 }
     ensures formula { IfOk result (λ e. e.cnf ≡ cycle_formula facts.now table.now k (listed_in facts.now table.now k scope.now)) }
-    ensures plan { IfOk result (λ e. e.plan ≡ record { cycles = k; launches = launches_from facts.now table.now k (first_in scope.now) }) }
+    ensures plan { IfOk result (λ e. e.plan ≡ record { cycles = k; launches = launches_from facts.now table.now k (first_cycle_in scope.now) }) }
 {
     counters_count();
     let launches = launches_from(alloc, facts, table, scope, k)?;

@@ -1,7 +1,7 @@
 // The launches that have variables.
 ghost use Rattle.std.specs.Prelude.{◌≡◌, ◌+◌, ◌-◌, ◌<◌, ◌≤◌, ◌^◌, ◌++◌, ◌&&◌, nat_le, nat_lt, Some, IfOk, OnOk, length};
 ghost use Rattle.machine_table.specs.Tables.{IsTable, latency_of};
-ghost use Rattle.cycle_encoding.specs.CycleFormula.{first_in};
+ghost use Rattle.cycle_encoding.specs.CycleFormula.{first_cycle_in};
 ghost use Rattle.cycle_encoding.specs.Facts as facts;
 ghost use Rattle.cycle_encoding.specs.Facts.{slot_launches, slots_launches};
 ghost use Rattle.cycle_encoding.specs.Variables.{launches_from, row_launches};
@@ -24,7 +24,7 @@ pub fn launches_from(
     requires cycles { k ≤ 24 }
     requires table { IsTable table.now }
     requires rows { length facts.now.rows < 2 ^ 30 }
-    ensures { IfOk result (λ launches. launches.items ≡ launches_from facts.now table.now k (first_in scope.now)) }
+    ensures { IfOk result (λ launches. launches.items ≡ launches_from facts.now table.now k (first_cycle_in scope.now)) }
 {
     let mut launches = Vec::new(alloc);
     let rows = facts.graph().rows.len() as u32;

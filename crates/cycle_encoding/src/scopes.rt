@@ -1,6 +1,6 @@
 // From which cycle on launches of a row have variables, and of which classes it is said where they are seen.
 ghost use Rattle.std.specs.Prelude.{◌≡◌};
-ghost use Rattle.cycle_encoding.specs.CycleFormula.{first_in, wants_in, wide_scope};
+ghost use Rattle.cycle_encoding.specs.CycleFormula.{first_cycle_in, wants_in, wide_scope};
 
 use std::alloc::Global;
 use std::marker::Model;
@@ -35,7 +35,7 @@ impl Scope {
 
     /// The cycle from which launches of the row have variables, if any have.
     pub fn first(&self, row: u32) -> Option<u32>
-        ensures { result ≡ first_in self.now row }
+        ensures { result ≡ first_cycle_in self.now row }
     {
         if !self.narrow {
             return Some(0);

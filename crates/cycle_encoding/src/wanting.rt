@@ -11,7 +11,7 @@ ghost use Rattle.cycle_encoding.specs.Facts.{IsTableOf};
 ghost use Rattle.cycle_encoding.specs.Narrow.{Wanted};
 ghost use Rattle.cycle_encoding.specs.Steps.{put_at};
 ghost use Rattle.cycle_encoding.specs.Wanting as wanting;
-ghost use Rattle.cycle_encoding.specs.Wanting.{giving_rows, is_marked, is_wanted_target, AreMarks, HasMarks, IsFollowed, IsLonger, StillMarked};
+ghost use Rattle.cycle_encoding.specs.Wanting.{giving_rows, is_marked_class, is_wanted_target, AreWantedMarks, AreAllMarked, IsFollowed, IsLonger, StillMarked};
 
 use crate::Facts;
 use crate::facts::next_class;
@@ -30,13 +30,13 @@ fn want(
     _facts: &Facts,
     class: u32,
 ) -> Result<(), NoMemory>
-    requires marks { AreMarks _facts.now marks.old.items order.old.items }
+    requires marks { AreWantedMarks _facts.now marks.old.items order.old.items }
     requires wanted { Wanted _facts.now class }
     ensures size { length marks.new.items ≡ length marks.old.items }
-    ensures marks { OnOk result (AreMarks _facts.now marks.new.items order.new.items) }
+    ensures marks { OnOk result (AreWantedMarks _facts.now marks.new.items order.new.items) }
     ensures longer { OnOk result (IsLonger order.old.items order.new.items) }
     ensures still { StillMarked marks.old.items marks.new.items }
-    ensures has { HasMarks marks.new.items (class ∷ []) }
+    ensures has { AreAllMarked marks.new.items (class ∷ []) }
 {
     if class as usize >= marks.len() {
         return Ok(());
@@ -56,13 +56,13 @@ fn want_all(
     facts: &Facts,
     classes: &[u32],
 ) -> Result<(), NoMemory>
-    requires marks { AreMarks facts.now marks.old.items order.old.items }
+    requires marks { AreWantedMarks facts.now marks.old.items order.old.items }
     requires wanted { (class : ℕ) → Contains classes.now class → Wanted facts.now class }
     ensures size { length marks.new.items ≡ length marks.old.items }
-    ensures marks { OnOk result (AreMarks facts.now marks.new.items order.new.items) }
+    ensures marks { OnOk result (AreWantedMarks facts.now marks.new.items order.new.items) }
     ensures longer { OnOk result (IsLonger order.old.items order.new.items) }
     ensures still { StillMarked marks.old.items marks.new.items }
-    ensures has { OnOk result (HasMarks marks.new.items classes.now) }
+    ensures has { OnOk result (AreAllMarked marks.new.items classes.now) }
 {
     for class in classes {
         want(marks, order, facts, *class)?;
@@ -78,11 +78,11 @@ fn want_target(
     set: &SetClass,
 ) -> Result<(), NoMemory>
     requires set { Contains facts.now.sets set.now }
-    requires marks { AreMarks facts.now marks.old.items order.old.items }
+    requires marks { AreWantedMarks facts.now marks.old.items order.old.items }
     ensures size { length marks.new.items ≡ length marks.old.items }
-    ensures marks { OnOk result (AreMarks facts.now marks.new.items order.new.items) }
+    ensures marks { OnOk result (AreWantedMarks facts.now marks.new.items order.new.items) }
     ensures still { StillMarked marks.old.items marks.new.items }
-    ensures has { OnOk result (IsTrue (is_wanted_target facts.now set.now) → HasMarks marks.new.items (set.now.class ∷ [])) }
+    ensures has { OnOk result (IsTrue (is_wanted_target facts.now set.now) → AreAllMarked marks.new.items (set.now.class ∷ [])) }
 {
     if !facts.is_wanted_target(set) {
         return Ok(());
@@ -92,11 +92,11 @@ fn want_target(
 
 /// Wants each target that is a word and no input's.
 fn want_targets(marks: &mut Vec<bool>, order: &mut Vec<u32>, facts: &Facts) -> Result<(), NoMemory>
-    requires marks { AreMarks facts.now marks.old.items order.old.items }
+    requires marks { AreWantedMarks facts.now marks.old.items order.old.items }
     ensures size { length marks.new.items ≡ length marks.old.items }
-    ensures marks { OnOk result (AreMarks facts.now marks.new.items order.new.items) }
+    ensures marks { OnOk result (AreWantedMarks facts.now marks.new.items order.new.items) }
     ensures has { OnOk result ((s : SetClassOf) → Contains facts.now.sets s → IsTrue (is_wanted_target facts.now s)
-        → HasMarks marks.new.items (s.class ∷ [])) }
+        → AreAllMarked marks.new.items (s.class ∷ [])) }
 {
     for set in facts.graph().sets.as_slice() {
         want_target(marks, order, facts, set)?;
@@ -132,11 +132,11 @@ fn want_root(
     row: u32,
 ) -> Result<(), NoMemory>
     requires needs { needs.now ≡ needs_of facts.now row }
-    requires marks { AreMarks facts.now marks.old.items order.old.items }
+    requires marks { AreWantedMarks facts.now marks.old.items order.old.items }
     ensures size { length marks.new.items ≡ length marks.old.items }
-    ensures marks { OnOk result (AreMarks facts.now marks.new.items order.new.items) }
+    ensures marks { OnOk result (AreWantedMarks facts.now marks.new.items order.new.items) }
     ensures still { StillMarked marks.old.items marks.new.items }
-    ensures has { OnOk result (IsTrue (wanting.is_root facts.now row) → HasMarks marks.new.items (needs_of facts.now row)) }
+    ensures has { OnOk result (IsTrue (wanting.is_root facts.now row) → AreAllMarked marks.new.items (needs_of facts.now row)) }
 {
     if !is_root(facts, row) {
         return Ok(());
@@ -153,12 +153,12 @@ fn want_roots(
 ) -> Result<(), NoMemory>
     requires rows { length facts.now.rows < 2 ^ 30 }
     requires needs { needs.now ≡ map (needs_of facts.now) (range_with_len 0 (length facts.now.rows + 1)) }
-    requires marks { AreMarks facts.now marks.old.items order.old.items }
+    requires marks { AreWantedMarks facts.now marks.old.items order.old.items }
     ensures size { length marks.new.items ≡ length marks.old.items }
-    ensures marks { OnOk result (AreMarks facts.now marks.new.items order.new.items) }
+    ensures marks { OnOk result (AreWantedMarks facts.now marks.new.items order.new.items) }
     ensures still { StillMarked marks.old.items marks.new.items }
     ensures has { OnOk result ((row : ℕ) → row < length facts.now.rows + 1 → IsTrue (wanting.is_root facts.now row)
-        → HasMarks marks.new.items (needs_of facts.now row)) }
+        → AreAllMarked marks.new.items (needs_of facts.now row)) }
 {
     let rows = facts.graph().rows.len() as u32;
     for row in 0..rows + 1 {
@@ -226,9 +226,9 @@ fn follow(
     requires needs { needs.now ≡ map (needs_of facts.now) (range_with_len 0 (length facts.now.rows + 1)) }
     requires rows { rows.now ≡ giving_rows facts.now class }
     requires wanted { Wanted facts.now class }
-    requires marks { AreMarks facts.now marks.old.items order.old.items }
+    requires marks { AreWantedMarks facts.now marks.old.items order.old.items }
     ensures size { length marks.new.items ≡ length marks.old.items }
-    ensures marks { OnOk result (AreMarks facts.now marks.new.items order.new.items) }
+    ensures marks { OnOk result (AreWantedMarks facts.now marks.new.items order.new.items) }
     ensures longer { OnOk result (IsLonger order.old.items order.new.items) }
     ensures still { StillMarked marks.old.items marks.new.items }
     ensures followed { OnOk result (IsFollowed facts.now marks.new.items class) }
@@ -252,9 +252,9 @@ fn close(
     requires needs { needs.now ≡ map (needs_of facts.now) (range_with_len 0 (length facts.now.rows + 1)) }
     requires rows { rows.now ≡ map (giving_rows facts.now) (range_with_len 0 classes) }
     requires size { length marks.old.items ≡ classes }
-    requires marks { AreMarks facts.now marks.old.items order.old.items }
+    requires marks { AreWantedMarks facts.now marks.old.items order.old.items }
     ensures size { length marks.new.items ≡ length marks.old.items }
-    ensures marks { OnOk result (AreMarks facts.now marks.new.items order.new.items) }
+    ensures marks { OnOk result (AreWantedMarks facts.now marks.new.items order.new.items) }
     ensures still { StillMarked marks.old.items marks.new.items }
     ensures followed { OnOk result ((class : ℕ) → Contains order.new.items class
         → IsFollowed facts.now marks.new.items class) }
@@ -274,7 +274,7 @@ fn close(
 pub fn wanted(alloc: Global, facts: &Facts, needs: &[Items<u32>]) -> Result<Vec<bool>, NoMemory>
     requires graph { IsLaunchGraph facts.now }
     requires needs { needs.now ≡ map (needs_of facts.now) (range_with_len 0 (length facts.now.rows + 1)) }
-    ensures { IfOk result (λ marks. (class : ℕ) → IsTrue (is_marked marks.items class)
+    ensures { IfOk result (λ marks. (class : ℕ) → IsTrue (is_marked_class marks.items class)
         ↔ (Wanted facts.now class × (class < wellformed.next_class facts.now.rows))) }
 {
     let classes = next_class(facts.graph());

@@ -15,7 +15,7 @@ use Rattle.schedule_meaning.specs.Launches.{instr_at, is_store, is_load}
 use Rattle.cycle_encoding.specs.Variables.{slots_of}
 use Rattle.cycle_encoding.specs.Facts.{may_use}
 use Rattle.cycle_encoding.specs.Counts.{can_begin, one_if, row_is, row_use, row_count, sum_launches}
-use Rattle.cycle_encoding.specs.CycleFormula.{Scope, first_in}
+use Rattle.cycle_encoding.specs.CycleFormula.{Scope, first_cycle_in}
 pub use Rattle.cycle_encoding.proofs.Tallies.{sum_more, count_more}
 use Rattle.order_encoding.specs.OrderVariables.{is_memory_class, memory_classes}
 use Rattle.order_encoding.specs.OrderSteps.{row_stores, row_uses}
@@ -27,7 +27,7 @@ module _ (g : LaunchGraph) (table : Table) (k : ℕ) (s : Scope) (cycle row : �
   in_use first b o = option_map_or (λ u. option_map_or (λ n. length (slots_of table u) * one_if (b && can_begin k n u cycle)) first 0) o 0
 
   abbrev in_instr : Bool → Option InstrKind → ℕ
-  in_instr b o = in_use (first_in s row) b (option_and_then (use_of table) o)
+  in_instr b o = in_use (first_cycle_in s row) b (option_and_then (use_of table) o)
 
   no_times : (n : ℕ) → n * 0 ≡ 0
   no_times n = omega arith
@@ -36,10 +36,10 @@ module _ (g : LaunchGraph) (table : Table) (k : ℕ) (s : Scope) (cycle row : �
   none_first n None = refl
   none_first n (Some m) = no_times n
 
-  none_in : (b : Bool) (o : Option Use) → b ≡ false → in_use (first_in s row) b o ≡ 0
+  none_in : (b : Bool) (o : Option Use) → b ≡ false → in_use (first_cycle_in s row) b o ≡ 0
   none_in b None e = refl
   none_in true (Some u) e = absurd (let f : true ≡ false = e in cc)
-  none_in false (Some u) e = none_first (length (slots_of table u)) (first_in s row)
+  none_in false (Some u) e = none_first (length (slots_of table u)) (first_cycle_in s row)
 
   pub no_store : row_is g is_store row ≡ false → row_stores g table k s cycle row ≡ 0
   no_store e = none_in (row_is g is_store row) (row_use g table row) e
@@ -47,7 +47,7 @@ module _ (g : LaunchGraph) (table : Table) (k : ℕ) (s : Scope) (cycle row : �
   pub stores_without_instr : instr_at g row ≡ None → row_stores g table k s cycle row ≡ 0
   stores_without_instr e = ap (in_instr (row_is g is_store row)) e
 
-  no_use : (b : Bool) (o : Option Use) → option_map (λ u. u.latency) o ≡ None → in_use (first_in s row) b o ≡ 0
+  no_use : (b : Bool) (o : Option Use) → option_map (λ u. u.latency) o ≡ None → in_use (first_cycle_in s row) b o ≡ 0
   no_use b None h = refl
   no_use b (Some u) h = absurd (let f : Some u.latency ≡ None = h in cc)
 
@@ -58,7 +58,7 @@ module _ (g : LaunchGraph) (table : Table) (k : ℕ) (s : Scope) (cycle row : �
   no_first b None = refl
   no_first b (Some u) = refl
 
-  pub stores_without_first : first_in s row ≡ None → row_stores g table k s cycle row ≡ 0
+  pub stores_without_first : first_cycle_in s row ≡ None → row_stores g table k s cycle row ≡ 0
   stores_without_first f = ap (λ (o : Option ℕ). in_use o (row_is g is_store row) (row_use g table row)) f ∙ no_first (row_is g is_store row) (row_use g table row)
 
   use_stores : (instr : InstrKind) (n : ℕ) (b in_time : Bool) (o : Option Use) (latency : ℕ) → use_of table instr ≡ o → option_map (λ u. u.latency) o ≡ Some latency → b ≡ true → (nat_le n cycle && nat_lt cycle (k + 1 - latency)) ≡ in_time → in_use (Some n) b o ≡ count_by (may_use table instr) (range_with_len 0 (length table.slots)) * one_if in_time
@@ -72,18 +72,18 @@ module _ (g : LaunchGraph) (table : Table) (k : ℕ) (s : Scope) (cycle row : �
       ∙ ap (λ t. length (filter t (range_with_len 0 (length table.slots))) * one_if in_time) test
       ∙ ap (λ n. n * one_if in_time) (length-filter (may_use table instr) (range_with_len 0 (length table.slots)))
 
-  in_known : (instr : InstrKind) (latency n : ℕ) (in_time : Bool) → instr_at g row ≡ Some instr → latency_of table instr ≡ Some latency → first_in s row ≡ Some n → row_is g is_store row ≡ true → (nat_le n cycle && nat_lt cycle (k + 1 - latency)) ≡ in_time → row_stores g table k s cycle row ≡ count_by (may_use table instr) (range_with_len 0 (length table.slots)) * one_if in_time
+  in_known : (instr : InstrKind) (latency n : ℕ) (in_time : Bool) → instr_at g row ≡ Some instr → latency_of table instr ≡ Some latency → first_cycle_in s row ≡ Some n → row_is g is_store row ≡ true → (nat_le n cycle && nat_lt cycle (k + 1 - latency)) ≡ in_time → row_stores g table k s cycle row ≡ count_by (may_use table instr) (range_with_len 0 (length table.slots)) * one_if in_time
   in_known instr latency n in_time e h f t c =
       ap (in_instr (row_is g is_store row)) e
       ∙ ap (λ (o : Option ℕ). in_use o (row_is g is_store row) (use_of table instr)) f
       ∙ use_stores instr n (row_is g is_store row) in_time (use_of table instr) latency refl h t c
 
-  pub stores_in_time : (instr : InstrKind) (latency n : ℕ) → instr_at g row ≡ Some instr → latency_of table instr ≡ Some latency → first_in s row ≡ Some n → row_is g is_store row ≡ true → (nat_le n cycle && nat_lt cycle (k + 1 - latency)) ≡ true → row_stores g table k s cycle row ≡ count_by (may_use table instr) (range_with_len 0 (length table.slots))
+  pub stores_in_time : (instr : InstrKind) (latency n : ℕ) → instr_at g row ≡ Some instr → latency_of table instr ≡ Some latency → first_cycle_in s row ≡ Some n → row_is g is_store row ≡ true → (nat_le n cycle && nat_lt cycle (k + 1 - latency)) ≡ true → row_stores g table k s cycle row ≡ count_by (may_use table instr) (range_with_len 0 (length table.slots))
   stores_in_time instr latency n e h f t c =
       in_known instr latency n true e h f t c
       ∙ (let z : (n : ℕ) → n * 1 ≡ n = λ n. omega arith in z (count_by (may_use table instr) (range_with_len 0 (length table.slots))))
 
-  pub stores_too_late : (instr : InstrKind) (latency n : ℕ) → instr_at g row ≡ Some instr → latency_of table instr ≡ Some latency → first_in s row ≡ Some n → row_is g is_store row ≡ true → (nat_le n cycle && nat_lt cycle (k + 1 - latency)) ≡ false → row_stores g table k s cycle row ≡ 0
+  pub stores_too_late : (instr : InstrKind) (latency n : ℕ) → instr_at g row ≡ Some instr → latency_of table instr ≡ Some latency → first_cycle_in s row ≡ Some n → row_is g is_store row ≡ true → (nat_le n cycle && nat_lt cycle (k + 1 - latency)) ≡ false → row_stores g table k s cycle row ≡ 0
   stores_too_late instr latency n e h f t c = in_known instr latency n false e h f t c ∙ no_times (count_by (may_use table instr) (range_with_len 0 (length table.slots)))
 
 -- clauses of use

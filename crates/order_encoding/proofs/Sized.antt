@@ -15,7 +15,7 @@ use Rattle.cycle_encoding.specs.Variables.{launches_from}
 use Rattle.order_encoding.specs.OrderVariables.{memory_classes, all_held, all_taken, Held, Taken}
 use Rattle.order_encoding.specs.OrderFamilies.{stores_at, uses_memory, waits, branches_by, is_held_at, is_taken_at, held_groups, store_groups, entry_clauses, memory_clauses, kept_clauses, last_clauses, branch_groups, register_clauses, register_groups}
 use Rattle.cycle_encoding.specs.Families.{any}
-use Rattle.cycle_encoding.specs.CycleFormula.{Listed, Scope, first_in, listed_in, launch_vars, after_cycles, cycle_part}
+use Rattle.cycle_encoding.specs.CycleFormula.{Listed, Scope, first_cycle_in, listed_in, launch_vars, after_cycles, cycle_part}
 use Rattle.order_encoding.specs.WholeFormula.{held_vars, before_stores, store_vars, before_held, memory_groups, after_memory, come_cycles, come_vars, before_branch, after_guard, taken_vars, before_pool, memory_part, guard_part, pool_part, memory_formula, guard_formula, whole_formula}
 use Rattle.cycle_encoding.specs.Counts.{one_if, row_is, sum_launches, cycle_vars, cycle_size}
 use Rattle.order_encoding.specs.OrderCounts.{store_count, held_count, memory_vars, memory_size, branch_count, guard_vars, guard_size, taken_count, pool_vars, pool_size}
@@ -79,7 +79,7 @@ module _ (g : LaunchGraph) (table : Table) (k : ℕ) (sc : Scope) where
       ∙ sum-const (h (held_count g table k sc)) (range_with_len 0 (k + 1)) ∙ ap (λ n. n * h (held_count g table k sc)) (length-range_with_len 0 (k + 1)) in
       let b : sum_by (λ (c : List Lit). h (length c)) (store_groups g k xs) ≡ sum_by (λ t. h (store_count g table k sc t)) (range_with_len 0 k) =
       sum-map (λ (c : List Lit). h (length c)) (λ t. vars_of (stores_at g t) xs) (range_with_len 0 k)
-      ∙ sum-same (λ t. h (length (vars_of (stores_at g t) xs))) (λ t. h (store_count g table k sc t)) (range_with_len 0 k) (λ t. ap h (size-vars (stores_at g t) 0 (launches_from g table k (first_in sc)) ∙ store-count g table k sc t)) in
+      ∙ sum-same (λ t. h (length (vars_of (stores_at g t) xs))) (λ t. h (store_count g table k sc t)) (range_with_len 0 k) (λ t. ap h (size-vars (stores_at g t) 0 (launches_from g table k (first_cycle_in sc)) ∙ store-count g table k sc t)) in
       sum_by-append (λ (c : List Lit). h (length c)) (held_groups k ms) (store_groups g k xs)
       ∙ ap (λ n. n + sum_by (λ (c : List Lit). h (length c)) (store_groups g k xs)) a
       ∙ ap (λ n. (k + 1) * h (held_count g table k sc) + n) b
@@ -111,8 +111,8 @@ module _ (g : LaunchGraph) (table : Table) (k : ℕ) (sc : Scope) where
       let ws = store_vars g table k e in
       let a : Launch → List (List Lit) = λ l. vars_of (is_held_at (memory_class_at g l.row) l.cycle) ms ∷ [] in
       let b : Launch → List (List Lit) = λ l. vars_of (is_held_at (class_at g l.row) (l.cycle + 1)) ms ∷ vars_of (λ t. t == l.cycle) ws ∷ [] in
-      size-implied (λ l. when (uses_memory g l) (a l) ++ when (launches g is_store l) (b l)) 0 (launches_from g table k (first_in sc))
-      ∙ sum-same (λ l. length (when (uses_memory g l) (a l) ++ when (launches g is_store l) (b l))) (λ (l : Launch). one_if (row_is g is_load l.row || row_is g is_store l.row) + one_if (row_is g is_store l.row) * 2) (launches_from g table k (first_in sc))
+      size-implied (λ l. when (uses_memory g l) (a l) ++ when (launches g is_store l) (b l)) 0 (launches_from g table k (first_cycle_in sc))
+      ∙ sum-same (λ l. length (when (uses_memory g l) (a l) ++ when (launches g is_store l) (b l))) (λ (l : Launch). one_if (row_is g is_load l.row || row_is g is_store l.row) + one_if (row_is g is_store l.row) * 2) (launches_from g table k (first_cycle_in sc))
       (λ l. length-append (when (uses_memory g l) (a l)) (when (launches g is_store l) (b l)) ∙ ap (λ n. n + length (when (launches g is_store l) (b l))) (size-one (uses_memory g l) (vars_of (is_held_at (memory_class_at g l.row) l.cycle) ms)) ∙ ap (λ n. one_if (uses_memory g l) + n) (size-when (launches g is_store l) (b l)))
       ∙ sum-rows g table k sc (λ row. one_if (row_is g is_load row || row_is g is_store row) + one_if (row_is g is_store row) * 2)
 
@@ -135,7 +135,7 @@ module _ (g : LaunchGraph) (table : Table) (k : ℕ) (sc : Scope) where
   -- ---- the guard
 
   branch-lits : length (vars_of (launches g is_branch) (launch_vars g table k e)) ≡ branch_count g table k sc
-  branch-lits = size-vars (launches g is_branch) 0 (launches_from g table k (first_in sc)) ∙ sum-rows g table k sc (λ row. one_if (row_is g is_branch row))
+  branch-lits = size-vars (launches g is_branch) 0 (launches_from g table k (first_cycle_in sc)) ∙ sum-rows g table k sc (λ row. one_if (row_is g is_branch row))
 
   guard_vars_in : (b : Bool) (n : ℕ) (lits : List Lit) → length lits ≡ n → length (when b (range_with_len 0 k)) + counters_vars 1 (when b (lits ∷ [])) ≡ cond b (k + at_most_vars 1 n) 0
   guard_vars_in true n lits e =
@@ -208,7 +208,7 @@ module _ (g : LaunchGraph) (table : Table) (k : ℕ) (sc : Scope) where
         let f : Launch → List (List Lit) = λ l. when (waits g l) (vars_of (λ t. t == l.cycle) bs ∷ []) in
         let w = sum_launches g table k sc (λ row. one_if (row_is g is_store row || (row_is g is_load row && is_held g))) in
         let ew : length (implied xs f) ≡ w =
-        size-implied f 0 (launches_from g table k (first_in sc)) ∙ sum-same (λ l. length (f l)) (λ (l : Launch). one_if (row_is g is_store l.row || (row_is g is_load l.row && is_held g))) (launches_from g table k (first_in sc)) (λ l. size-one (waits g l) (vars_of (λ t. t == l.cycle) bs))
+        size-implied f 0 (launches_from g table k (first_cycle_in sc)) ∙ sum-same (λ l. length (f l)) (λ (l : Launch). one_if (row_is g is_store l.row || (row_is g is_load l.row && is_held g))) (launches_from g table k (first_cycle_in sc)) (λ l. size-one (waits g l) (vars_of (λ t. t == l.cycle) bs))
         ∙ sum-rows g table k sc (λ row. one_if (row_is g is_store row || (row_is g is_load row && is_held g))) in
         let ec : length (implied bs (λ t. vars_of (branches_by g t) xs ∷ [])) ≡ cond (is_some g.guard) k 0 =
         size-implied (λ t. vars_of (branches_by g t) xs ∷ []) (after_memory g table k e) (come_cycles g table k e) ∙ sym (size-ones (come_cycles g table k e)) ∙ come_in (is_some g.guard) in
@@ -221,7 +221,7 @@ module _ (g : LaunchGraph) (table : Table) (k : ℕ) (sc : Scope) where
         let p = length g.pool in
         let f : Launch → List (List Lit) = λ l. when (launches g gives_word l) (vars_of (is_taken_at l.slot l.cycle) us ∷ []) in
         length-append (register_clauses g xs us) (counters (before_pool g table k e) p (register_groups us))
-        ∙ ap (λ n. n + length (counters (before_pool g table k e) p (register_groups us))) (size-implied f 0 (launches_from g table k (first_in sc)) ∙ sum-same (λ l. length (f l)) (λ (l : Launch). one_if (row_is g gives_word l.row)) (launches_from g table k (first_in sc)) (λ l. size-one (launches g gives_word l) (vars_of (is_taken_at l.slot l.cycle) us)) ∙ sum-rows g table k sc (λ row. one_if (row_is g gives_word row)))
+        ∙ ap (λ n. n + length (counters (before_pool g table k e) p (register_groups us))) (size-implied f 0 (launches_from g table k (first_cycle_in sc)) ∙ sum-same (λ l. length (f l)) (λ (l : Launch). one_if (row_is g gives_word l.row)) (launches_from g table k (first_cycle_in sc)) (λ l. size-one (launches g gives_word l) (vars_of (is_taken_at l.slot l.cycle) us)) ∙ sum-rows g table k sc (λ row. one_if (row_is g gives_word row)))
         ∙ ap (λ n. sum_launches g table k sc (λ row. one_if (row_is g gives_word row)) + n) (counters-size p size (before_pool g table k e) (register_groups us) ∙ sum_by-cons (λ (c : List Lit). at_most_size p (length c)) (vars_of any us) [] ∙ (let z : at_most_size p (length (vars_of any us)) + 0 ≡ at_most_size p (length (vars_of any us)) = omega arith in z) ∙ ap (at_most_size p) taken-lits)
 
     pub with-memory-size : length (memory_formula g table k e).clauses ≡ cycle_size g table k sc + memory_size g table k sc

@@ -9,7 +9,7 @@ use Rattle.machine_table.specs.declared.tables.Table.{Table}
 use Rattle.launch_graph.specs.declared.graphs.LaunchGraph.{LaunchGraph}
 use Rattle.cycle_encoding.specs.Variables.{slots_of}
 use Rattle.cycle_encoding.specs.Counts.{one_if, row_is, row_use, can_begin, row_numbers, sum_launches}
-use Rattle.cycle_encoding.specs.CycleFormula.{Scope, first_in}
+use Rattle.cycle_encoding.specs.CycleFormula.{Scope, first_cycle_in}
 use Rattle.order_encoding.specs.OrderVariables.{memory_classes}
 
 module _ (g : LaunchGraph) (table : Table) (k : ℕ) (s : Scope) where
@@ -19,7 +19,7 @@ module _ (g : LaunchGraph) (table : Table) (k : ℕ) (s : Scope) where
       sum_by (λ row. option_map_or
       (λ u. option_map_or
       (λ n. length (slots_of table u) * one_if (row_is g is_store row && can_begin k n u cycle))
-      (first_in s row) 0)
+      (first_cycle_in s row) 0)
       (row_use g table row) 0)
       (row_numbers g table k s)
 

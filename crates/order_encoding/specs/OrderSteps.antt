@@ -14,7 +14,7 @@ use Rattle.schedule_meaning.specs.declared.schedules.Launch.{Launch}
 use Rattle.cycle_encoding.specs.Shapes.{numbered, vars_of, implied, when, counters, counters_vars}
 use Rattle.cycle_encoding.specs.Variables.{slots_of}
 use Rattle.cycle_encoding.specs.Counts.{can_begin, one_if, row_is, row_use}
-use Rattle.cycle_encoding.specs.CycleFormula.{Scope, first_in}
+use Rattle.cycle_encoding.specs.CycleFormula.{Scope, first_cycle_in}
 use Rattle.order_encoding.specs.OrderVariables.{Held, Taken, is_memory_class, memory_classes, all_held, all_taken}
 use Rattle.order_encoding.specs.OrderFamilies.{is_held_at, is_taken_at, stores_at, uses_memory, waits, entry_clauses, memory_clauses, kept_clauses, held_groups, store_groups, last_clauses, branch_clauses, branch_groups, wait_clauses, come_clauses, register_clauses, register_groups}
 
@@ -97,7 +97,7 @@ row_stores g table k s cycle row =
     option_map_or
     (λ u. option_map_or
     (λ n. length (slots_of table u) * one_if (row_is g is_store row && can_begin k n u cycle))
-    (first_in s row) 0)
+    (first_cycle_in s row) 0)
     (row_use g table row) 0
 
 -- a launch of the row waits for the branch

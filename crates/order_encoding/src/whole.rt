@@ -5,7 +5,7 @@ ghost use Rattle.launch_graph.specs.WellFormed.{IsLaunchGraph};
 ghost use Rattle.machine_table.specs.Tables.{IsTable};
 ghost use Rattle.schedule_meaning.specs.Fits.{Fits};
 ghost use Rattle.schedule_meaning.specs.declared.schedules.Launch.{Launch as LaunchOf};
-ghost use Rattle.cycle_encoding.specs.CycleFormula.{first_in, listed_in, wide};
+ghost use Rattle.cycle_encoding.specs.CycleFormula.{first_cycle_in, listed_in, wide};
 ghost use Rattle.cycle_encoding.specs.Variables.{launches_from};
 ghost use Rattle.cycle_encoding.specs.Faults.{EncodeFaultIs};
 ghost use Rattle.cycle_encoding.specs.Plans.{IsTooLarge, plan_of};
@@ -116,7 +116,7 @@ fn build_whole(
     requires graph { IsLaunchGraph facts.now }
     requires within { ¬ IsTooLarge (whole_formula facts.now table.now k (listed_in facts.now table.now k scope.now)) }
     ensures formula { IfOk result (λ e. e.cnf ≡ whole_formula facts.now table.now k (listed_in facts.now table.now k scope.now)) }
-    ensures plan { IfOk result (λ e. e.plan ≡ record { cycles = k; launches = launches_from facts.now table.now k (first_in scope.now) }) }
+    ensures plan { IfOk result (λ e. e.plan ≡ record { cycles = k; launches = launches_from facts.now table.now k (first_cycle_in scope.now) }) }
 {
     let encoded = build_cycles(alloc, facts, table, scope, k)?;
     let mut cnf = encoded.cnf;

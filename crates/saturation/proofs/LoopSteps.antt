@@ -17,7 +17,7 @@ use Rattle.saturation.specs.Derives.{Pair}
 use Rattle.saturation.specs.Grown.{IsGrown, GoesOnGrowing, NotBefore, IsQuiet}
 use Rattle.saturation.specs.GraphStands.{GraphStands, RulesHold}
 use Rattle.saturation.specs.Asking.{AreAsked, StopFits}
-use Rattle.saturation.specs.Steps.{GoesOn, StepFits}
+use Rattle.saturation.specs.Steps.{CallsForRound, StepFits}
 use Rattle.saturation.specs.declared.stepping.Step.TheVariants.{End}
 use Rattle.saturation.specs.Rounds.{IsAfter, IsImpossible, SaturateFaultIs, IsHopeless, KeepsStanding, StopIs}
 use Rattle.saturation.specs.declared.rounds.Stop.{Stop}
@@ -76,7 +76,7 @@ module _ (axioms : List Rewrite) (g : Graph Op) (asked : List Asked) (are : AreA
   end_fits need rows nodes last Full n r h = (unmet h.0, h.1, record { need = operators_asked asked; is = are.needs; passed = let p = h.2 in omega (arith, n, r, p) })
 
 -- rounds go on with what is asked
-pub goes_on_with : (axioms : List Rewrite) (g : Graph Op) (last : Bool) (asked : List Asked) (need rows nodes count : ℕ) → AreAsked g (schemes axioms) asked → count ≡ length asked → need ≡ min (operators_asked asked) (2 ^ 64 - 1) → rows ≡ length g.rows → nodes ≤ 4096 → All IsRule axioms → (count ≢ 0) × (last ≡ false) × (rows + need ≤ nodes) → GoesOn axioms g last nodes asked
+pub goes_on_with : (axioms : List Rewrite) (g : Graph Op) (last : Bool) (asked : List Asked) (need rows nodes count : ℕ) → AreAsked g (schemes axioms) asked → count ≡ length asked → need ≡ min (operators_asked asked) (2 ^ 64 - 1) → rows ≡ length g.rows → nodes ≤ 4096 → All IsRule axioms → (count ≢ 0) × (last ≡ false) × (rows + need ≤ nodes) → CallsForRound axioms g last nodes asked
 goes_on_with axioms g last asked need rows nodes count are c n r few rules h = record {
   are = are;
   some = λ e. h.0 (c ∙ e);

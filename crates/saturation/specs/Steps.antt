@@ -13,7 +13,7 @@ use Rattle.saturation.specs.declared.stepping.Step.TheVariants.{End, Round}
 use Rattle.saturation.specs.declared.rounds.Stop.TheVariants.{Quiet, Rounds, Full}
 
 -- what another round asks for: some of it, and not more than there is room for
-pub record GoesOn (axioms : List Rewrite) (g : Graph Op) (last : Bool) (nodes : ℕ) (asked : List Asked) : Type 0 where
+pub record CallsForRound (axioms : List Rewrite) (g : Graph Op) (last : Bool) (nodes : ℕ) (asked : List Asked) : Type 0 where
   pub are : AreAsked g (schemes axioms) asked
   pub some : length asked ≢ 0
   pub more : last ≡ false
@@ -25,4 +25,4 @@ abbrev pub StepFits : List Rewrite → Graph Op → Bool → ℕ → Step → Ty
 StepFits axioms g last nodes (End Quiet) = IsQuiet axioms g
 StepFits axioms g last nodes (End Rounds) = (¬ IsQuiet axioms g) × (last ≡ true)
 StepFits axioms g last nodes (End Full) = (¬ IsQuiet axioms g) × (last ≡ false) × IsFull axioms g nodes
-StepFits axioms g last nodes (Round asked) = GoesOn axioms g last nodes (map asked_of asked.items)
+StepFits axioms g last nodes (Round asked) = CallsForRound axioms g last nodes (map asked_of asked.items)

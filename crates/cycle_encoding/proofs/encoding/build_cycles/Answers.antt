@@ -1,7 +1,7 @@
 use Rattle.std.proofs.Common.{◌≡◌, ◌∙◌, ◌+◌, ◌<◌, ◌^◌, ℕ, List, length, ap, sym, subst}
 use Rattle.cnf_core.specs.declared.literal.Lit.{Lit}
 use Rattle.schedule_meaning.specs.declared.schedules.Launch.{Launch}
-use Rattle.cycle_encoding.specs.CycleFormula.{first_in, wants_in}
+use Rattle.cycle_encoding.specs.CycleFormula.{first_cycle_in, wants_in}
 use Rattle.cycle_encoding.specs.Shapes.{numbered, counters_size}
 use Rattle.cycle_encoding.specs.Variables.{Seen, launches_from, all_seen, shown_classes}
 use Rattle.cycle_encoding.specs.Families.{target_clauses, operand_clauses, seen_clauses, slot_rows, slot_groups}
@@ -15,7 +15,7 @@ add_seen-requires-clause-room c =
     let g = c.args.facts.now in
     let table = c.args.table.now in
     let k = c.args.k in
-    let A = launches_from g table k (first_in c.args.scope.now) in
+    let A = launches_from g table k (first_cycle_in c.args.scope.now) in
     let D = all_seen table k (shown_classes g (wants_in c.args.scope.now)) in
     let n = length A + length D in
     let xs = numbered 0 A in
@@ -42,7 +42,7 @@ add_slots-requires-clause-room c =
     let g = c.args.facts.now in
     let table = c.args.table.now in
     let k = c.args.k in
-    let A = launches_from g table k (first_in c.args.scope.now) in
+    let A = launches_from g table k (first_cycle_in c.args.scope.now) in
     let D = all_seen table k (shown_classes g (wants_in c.args.scope.now)) in
     let n = length A + length D in
     let xs = numbered 0 A in
@@ -72,7 +72,7 @@ returns-clause-formula c =
     let g = c.args.facts.now in
     let table = c.args.table.now in
     let k = c.args.k in
-    let A = launches_from g table k (first_in c.args.scope.now) in
+    let A = launches_from g table k (first_cycle_in c.args.scope.now) in
     let D = all_seen table k (shown_classes g (wants_in c.args.scope.now)) in
     let n = length A + length D in
     let xs = numbered 0 A in

@@ -1,6 +1,6 @@
 use Rattle.std.proofs.Common.{◌∙◌, ap, sym, arith}
 use Rattle.launch_graph.specs.declared.graphs.LaunchGraph.{LaunchGraph}
-use Rattle.cycle_encoding.specs.CycleFormula.{Scope, cycle_formula, first_in, wide, wide_scope}
+use Rattle.cycle_encoding.specs.CycleFormula.{Scope, cycle_formula, first_cycle_in, wide, wide_scope}
 use Rattle.cycle_encoding.specs.Variables.{launches_from}
 use Rattle.cycle_encoding.specs.Plans.{Plan, plan_of}
 use Rattle.cycle_encoding.specs.Counts.{cycle_vars, cycle_size}
@@ -56,5 +56,5 @@ returns-clause-plan c =
     let k = c.args.k in
     let g = c.in_ok-facts.facts in
     c.in_ok-build_cycles.ensures.plan
-    ∙ ap {A = Scope} {B = Plan} (λ s. record { cycles = k; launches = launches_from g table k (first_in s) }) c.wide-scope.ensures
+    ∙ ap {A = Scope} {B = Plan} (λ s. record { cycles = k; launches = launches_from g table k (first_cycle_in s) }) c.wide-scope.ensures
     ∙ ap (λ (g : LaunchGraph). plan_of g table k) c.in_ok-facts.ensures

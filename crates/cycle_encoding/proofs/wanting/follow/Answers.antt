@@ -4,7 +4,7 @@ use Rattle.std.proofs.lemmas.List.{take_all}
 use Rattle.std.proofs.lemmas.List.Elements.{Contains-get_or}
 use Rattle.std.proofs.lemmas.List.FromFn.{length-map-range_with_len, get_or-map-range_with_len}
 use Rattle.cycle_encoding.specs.Coming.{needs_of}
-use Rattle.cycle_encoding.specs.Wanting.{giving_rows, HasMarks}
+use Rattle.cycle_encoding.specs.Wanting.{giving_rows, AreAllMarked}
 use Rattle.cycle_encoding.proofs.WantSteps.{giving-out, follow-wanted, longer-both, more-rows}
 use Rattle.cycle_encoding.proofs.wanting.follow.Goals as goal
 
@@ -49,7 +49,7 @@ loop-row-preserved c =
       marks = n.marks;
       longer = longer-both c.args.order.now.items c.loop-row.order.items c.want_all.new.order.items v.longer n.longer;
       still = λ class h. n.still class (v.still class h);
-      has = more-rows g c.loop-row.marks.items c.want_all.new.marks.items c.args.rows.now i 0 c.loop-row-test.true n.still n.size v.has (subst (λ (cs : List ℕ). HasMarks c.want_all.new.marks.items cs) e n.has);
+      has = more-rows g c.loop-row.marks.items c.want_all.new.marks.items c.args.rows.now i 0 c.loop-row-test.true n.still n.size v.has (subst (λ (cs : List ℕ). AreAllMarked c.want_all.new.marks.items cs) e n.has);
     }
 
 pub returns-clause-followed : goal.returns-clause-followed

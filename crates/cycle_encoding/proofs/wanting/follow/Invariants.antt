@@ -1,14 +1,14 @@
 use Rattle.std.proofs.Common.{ℕ, ◌≡◌, length, take}
 use Rattle.std.specs.Prelude.{Contains}
 use Rattle.cycle_encoding.specs.Coming.{needs_of}
-use Rattle.cycle_encoding.specs.Wanting.{AreMarks, HasMarks, IsLonger, StillMarked}
+use Rattle.cycle_encoding.specs.Wanting.{AreWantedMarks, AreAllMarked, IsLonger, StillMarked}
 use Rattle.cycle_encoding.proofs.wanting.follow.Given as goal
 
 abbrev pub invariant-loop-row : goal.invariant-loop-row
 invariant-loop-row l = record {
   size : length l.marks.items ≡ length l.initial.marks.items;
-  marks : AreMarks l.facts l.marks.items l.order.items;
+  marks : AreWantedMarks l.facts l.marks.items l.order.items;
   longer : IsLonger l.initial.order.items l.order.items;
   still : StillMarked l.initial.marks.items l.marks.items;
-  has : (row : ℕ) → Contains (take l.row-index l.rows) row → HasMarks l.marks.items (needs_of l.facts row);
+  has : (row : ℕ) → Contains (take l.row-index l.rows) row → AreAllMarked l.marks.items (needs_of l.facts row);
 }

@@ -1,6 +1,6 @@
 use Rattle.std.proofs.Common.{◌∙◌, subst, List, ℕ}
 use Rattle.std.proofs.lemmas.List.{take_all}
-use Rattle.cycle_encoding.specs.Wanting.{HasMarks}
+use Rattle.cycle_encoding.specs.Wanting.{AreAllMarked}
 use Rattle.cycle_encoding.proofs.WantSteps.{longer-both, more-marks}
 use Rattle.cycle_encoding.proofs.wanting.want_all.Goals as goal
 
@@ -17,4 +17,4 @@ loop-class-preserved c =
     }
 
 pub returns-clause-has : goal.returns-clause-has
-returns-clause-has c = subst (λ (cs : List ℕ). HasMarks c.loop-class.marks.items cs) (take_all c.loop-class.class-index c.args.classes.now c.loop-class-test.false) c.loop-class.invariant.has
+returns-clause-has c = subst (λ (cs : List ℕ). AreAllMarked c.loop-class.marks.items cs) (take_all c.loop-class.class-index c.args.classes.now c.loop-class-test.false) c.loop-class.invariant.has

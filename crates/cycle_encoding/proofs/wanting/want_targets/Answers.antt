@@ -3,7 +3,7 @@ use Rattle.std.specs.Prelude.{Contains, IsTrue}
 use Rattle.std.proofs.lemmas.List.{take_all}
 use Rattle.launch_graph.specs.declared.graphs.LaunchGraph.{LaunchGraph}
 use Rattle.launch_graph.specs.declared.graphs.SetClass.{SetClass}
-use Rattle.cycle_encoding.specs.Wanting.{is_wanted_target, HasMarks}
+use Rattle.cycle_encoding.specs.Wanting.{is_wanted_target, AreAllMarked}
 use Rattle.cycle_encoding.proofs.WantSteps.{more-targets}
 use Rattle.cycle_encoding.proofs.wanting.want_targets.Goals as goal
 
@@ -29,5 +29,5 @@ pub returns-clause-has : goal.returns-clause-has
 returns-clause-has c =
     let k = c.loop-set.set-index in
     let e = c.as_slice-set-items.ensures ∙ ap (λ (g : LaunchGraph). g.sets) c.graph.ensures in
-    subst (λ (sets : List SetClass). (s : SetClass) → Contains sets s → IsTrue (is_wanted_target c.args.facts.now s) → HasMarks c.loop-set.marks.items (s.class ∷ []))
+    subst (λ (sets : List SetClass). (s : SetClass) → Contains sets s → IsTrue (is_wanted_target c.args.facts.now s) → AreAllMarked c.loop-set.marks.items (s.class ∷ []))
     (take_all k c.args.facts.now.sets (subst (λ (xs : List SetClass). length xs ≤ k) e c.loop-set-test.false)) c.loop-set.invariant.has

@@ -1,12 +1,12 @@
 use Rattle.std.proofs.Common.{◌≡◌, length, take, ◌∷◌, []}
 use Rattle.std.specs.Prelude.{Contains, IsTrue}
 use Rattle.launch_graph.specs.declared.graphs.SetClass.{SetClass}
-use Rattle.cycle_encoding.specs.Wanting.{is_wanted_target, AreMarks, HasMarks}
+use Rattle.cycle_encoding.specs.Wanting.{is_wanted_target, AreWantedMarks, AreAllMarked}
 use Rattle.cycle_encoding.proofs.wanting.want_targets.Given as goal
 
 abbrev pub invariant-loop-set : goal.invariant-loop-set
 invariant-loop-set l = record {
   size : length l.marks.items ≡ length l.initial.marks.items;
-  marks : AreMarks l.facts l.marks.items l.order.items;
-  has : (s : SetClass) → Contains (take l.set-index l.facts.sets) s → IsTrue (is_wanted_target l.facts s) → HasMarks l.marks.items (s.class ∷ []);
+  marks : AreWantedMarks l.facts l.marks.items l.order.items;
+  has : (s : SetClass) → Contains (take l.set-index l.facts.sets) s → IsTrue (is_wanted_target l.facts s) → AreAllMarked l.marks.items (s.class ∷ []);
 }

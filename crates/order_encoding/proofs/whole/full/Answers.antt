@@ -2,7 +2,7 @@ use Rattle.std.proofs.Common.{◌∙◌, ◌≡◌, sym, ap}
 use Rattle.std.specs.Prelude.{length}
 use Rattle.cnf_core.specs.Formula.{Formula}
 use Rattle.launch_graph.specs.declared.graphs.LaunchGraph.{LaunchGraph}
-use Rattle.cycle_encoding.specs.CycleFormula.{Scope, first_in, listed_in, wide, wide_scope}
+use Rattle.cycle_encoding.specs.CycleFormula.{Scope, first_cycle_in, listed_in, wide, wide_scope}
 use Rattle.cycle_encoding.specs.Variables.{launches_from}
 use Rattle.cycle_encoding.specs.Plans.{Plan, plan_of}
 use Rattle.order_encoding.specs.WholeFormula.{whole_formula}
@@ -24,7 +24,7 @@ returns-clause-plan c =
     let k = c.args.k in
     let h = c.in_ok-facts.facts in
     c.in_ok-build_whole.ensures.plan
-    ∙ ap {A = Scope} {B = Plan} (λ s. record { cycles = k; launches = launches_from h table k (first_in s) }) c.wide-scope.ensures
+    ∙ ap {A = Scope} {B = Plan} (λ s. record { cycles = k; launches = launches_from h table k (first_cycle_in s) }) c.wide-scope.ensures
     ∙ ap (λ (x : LaunchGraph). plan_of x table k) c.in_ok-facts.ensures
 
 pub returns-clause-shown : goal.returns-clause-shown

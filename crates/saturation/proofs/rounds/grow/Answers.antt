@@ -1,6 +1,6 @@
 use Rattle.std.proofs.Common.{◌≢◌, ◌+◌, ◌≤◌, eqb, length, map, sym, subst, arith}
 use Rattle.std.proofs.lemmas.Result.{err_from_is_err_and}
-use Rattle.saturation.specs.Steps.{StepFits, GoesOn}
+use Rattle.saturation.specs.Steps.{StepFits, CallsForRound}
 use Rattle.saturation.specs.Trace.{CanMakeAll, AreAllMade, operators_asked}
 use Rattle.saturation.specs.Instances.{asked_of, RefusalOfAll}
 use Rattle.saturation.proofs.Asks.{asks_of}
@@ -36,7 +36,7 @@ facts c =
     let g = c.loop-graph.graph in
     let last = eqb c.loop-graph.done c.args.rounds in
     let asked = map asked_of c.in-Round.asked.items in
-    let on : GoesOn axioms g last c.args.nodes asked = subst (StepFits axioms g last c.args.nodes) c.in-Round.is c.in_ok-stop.ensures.step in
+    let on : CallsForRound axioms g last c.args.nodes asked = subst (StepFits axioms g last c.args.nodes) c.in-Round.is c.in_ok-stop.ensures.step in
     record {
       ready = record {
         graph = c.made-made.ensures.graph;
