@@ -121,12 +121,12 @@ module _ (g : LaunchGraph) (table : Table) where
   pub come-later : (class t u : ℕ) → HasCome g table class t → t ≤ u → HasCome g table class u
   come-later _ _ u (come row start t i u0 e w k le needs) lt = come row start u i u0 e w k (omega arith) needs
 
-  are-out : (known : List (Option ℕ)) (t : ℕ) (cs : List ℕ) → are_come known t cs ≡ true → (c : ℕ) → Contains cs c → is_come known t c ≡ true
+  pub are-out : (known : List (Option ℕ)) (t : ℕ) (cs : List ℕ) → are_come known t cs ≡ true → (c : ℕ) → Contains cs c → is_come known t c ≡ true
   are-out known t [] h c k = absurd (nothing c k)
   are-out known t (d ∷ cs) h c (zero, lt, e) = subst (λ x. is_come known t x ≡ true) e (and_parts (is_come known t d) (are_come known t cs) h).0
   are-out known t (d ∷ cs) h c (suc i, lt, e) = are-out known t cs (and_parts (is_come known t d) (are_come known t cs) h).1 c (i, (let s : length (d ∷ cs) ≡ suc (length cs) = refl in omega (arith, s, lt)), e)
 
-  are-in : (known : List (Option ℕ)) (t : ℕ) (cs : List ℕ) → ((c : ℕ) → Contains cs c → is_come known t c ≡ true) → are_come known t cs ≡ true
+  pub are-in : (known : List (Option ℕ)) (t : ℕ) (cs : List ℕ) → ((c : ℕ) → Contains cs c → is_come known t c ≡ true) → are_come known t cs ≡ true
   are-in known t [] h = refl
   are-in known t (d ∷ cs) h = and_from (is_come known t d) (are_come known t cs) (h d (here d cs)) (are-in known t cs (λ c k. h c (later d c cs k)))
 
@@ -196,6 +196,15 @@ module _ (g : LaunchGraph) (table : Table) where
     least i u e =
         let is : IsUse table u = All-contains (IsUse table) table.uses u is_table.uses (find-out (λ (u : Use). kind_number u.instr == kind_number i) table.uses u e).0 in
         is.latency.0
+
+    -- and no more than 16
+    pub few-latency : (row n : ℕ) → word_latency g table row ≡ Some n → n ≤ 16
+    few-latency row n h =
+        let l = latency-out row n h in
+        let is : IsUse table l.1 = All-contains (IsUse table) table.uses l.1 is_table.uses (find-out (λ (u : Use). kind_number u.instr == kind_number l.0) table.uses l.1 l.4).0 in
+        let most = is.latency.1 in
+        let same = l.5 in
+        omega arith
 
     -- where all rows passed in the cycles below t, all is found that has come by t
     pub all-found : (known : List (Option ℕ)) (t : ℕ) → ((s row : ℕ) → s < t → IsPassed g table known s row) → (u class : ℕ) → u ≤ t → HasCome g table class u → is_come known u class ≡ true

@@ -10,6 +10,7 @@ pub mod Launched
 pub mod Tables
 pub mod ComeSteps
 pub mod WantSteps
+pub mod ScopeSteps
 pub mod OperandLists
 pub mod Listed
 pub mod Places

@@ -8,5 +8,6 @@ pub mod Plans
 pub mod Facts
 pub mod Coming
 pub mod Wanting
+pub mod Scoped
 pub mod Steps
 pub mod Faults

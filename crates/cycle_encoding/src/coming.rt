@@ -1,5 +1,5 @@
 // By which cycle each class has come: the word of some row of it is ready in its own cluster.
-ghost use Rattle.std.specs.Prelude.{◌≡◌, ◌+◌, ◌<◌, ◌≤◌, ◌^◌, ℕ, length, map, IfOk};
+ghost use Rattle.std.specs.Prelude.{◌≡◌, ◌+◌, ◌<◌, ◌≤◌, ◌^◌, ℕ, None, length, map, IfOk};
 ghost use Rattle.std.specs.List.{range_with_len};
 ghost use Rattle.launch_graph.specs.WellFormed.{IsLaunchGraph, next_class};
 ghost use Rattle.machine_table.specs.Tables.{IsTable};
@@ -7,7 +7,6 @@ ghost use Rattle.cycle_encoding.specs.Coming as coming;
 ghost use Rattle.cycle_encoding.specs.Coming.{are_come, come_by, is_come, needs_of, ComesAreFound, AreSound, IsExactUpTo, IsPassed, StillCome};
 
 use crate::facts::next_class;
-use crate::marks::without_constants;
 use crate::{Facts, made_operands};
 use items::{Items, NoMemory};
 use machine_table::{InstrKind, Table};
@@ -42,17 +41,17 @@ fn word_latency(facts: &Facts, table: &Table, row: u32) -> Option<u32>
 }
 
 /// Whether the class has come by a cycle, as far as was found.
-fn has_come(come: &[Option<u64>], cycle: u32, class: u32) -> bool
+fn has_come(come: &[Option<u32>], cycle: u32, class: u32) -> bool
     ensures { result ≡ is_come come.now cycle class }
 {
     match come.get(class as usize) {
-        Some(Some(first)) => *first <= u64::from(cycle),
+        Some(Some(first)) => *first <= cycle,
         _ => false,
     }
 }
 
 /// Whether each of the classes has.
-fn have_come(come: &[Option<u64>], cycle: u32, classes: &[u32]) -> bool
+fn have_come(come: &[Option<u32>], cycle: u32, classes: &[u32]) -> bool
     ensures { result ≡ are_come come.now cycle classes.now }
 {
     for class in classes {
@@ -63,7 +62,7 @@ fn have_come(come: &[Option<u64>], cycle: u32, classes: &[u32]) -> bool
     true
 }
 
-fn earlier(first: Option<u64>, cycle: u64) -> u64
+fn earlier(first: Option<u32>, cycle: u32) -> u32
     ensures { result ≡ coming.earlier first cycle }
 {
     match first {
@@ -73,7 +72,7 @@ fn earlier(first: Option<u64>, cycle: u64) -> u64
 }
 
 /// The class has come by a cycle too, if the table has it.
-fn put_come(come: &mut Vec<Option<u64>>, class: u32, cycle: u64)
+fn put_come(come: &mut Vec<Option<u32>>, class: u32, cycle: u32)
     ensures { come.new.items ≡ come_by come.old.items class cycle }
 {
     if let Some(first) = come.get_mut(class as usize) {
@@ -83,7 +82,7 @@ fn put_come(come: &mut Vec<Option<u64>>, class: u32, cycle: u64)
 
 /// Finds when the row's word comes, if the row can start at the cycle.
 fn pass_row(
-    come: &mut Vec<Option<u64>>,
+    come: &mut Vec<Option<u32>>,
     facts: &Facts,
     table: &Table,
     needs: &[u32],
@@ -106,13 +105,13 @@ fn pass_row(
     };
     if have_come(come, cycle, needs) {
         let class = class_at(facts.graph(), row);
-        put_come(come, class, u64::from(cycle) + u64::from(latency));
+        put_come(come, class, cycle + latency);
     }
 }
 
 /// Finds what comes of all rows that can start at the cycle.
 fn pass_rows(
-    come: &mut Vec<Option<u64>>,
+    come: &mut Vec<Option<u32>>,
     facts: &Facts,
     table: &Table,
     needs: &[Items<u32>],
@@ -143,19 +142,31 @@ fn pass_rows(
     }
 }
 
+/// A table in which no class has come.
+#[tactic(auto, using(crate::proofs::Tables::table_more))]
+fn none_come(alloc: Global, classes: u32) -> Result<Vec<Option<u32>>, NoMemory>
+    ensures { IfOk result (λ come. come.items ≡ map (λ _. None) (range_with_len 0 classes)) }
+{
+    let mut come = Vec::new(alloc);
+    for _made in 0..classes {
+        come.push(None)?;
+    }
+    Ok(come)
+}
+
 /// For each class the first cycle by which it has come, where that is one up to 24 or soon behind it.
 pub fn come_cycles(
     alloc: Global,
     facts: &Facts,
     table: &Table,
     needs: &[Items<u32>],
-) -> Result<Vec<Option<u64>>, NoMemory>
+) -> Result<Vec<Option<u32>>, NoMemory>
     requires needs { needs.now ≡ map (needs_of facts.now) (range_with_len 0 (length facts.now.rows + 1)) }
     requires table { IsTable table.now }
     requires graph { IsLaunchGraph facts.now }
     ensures { IfOk result (λ come. IsExactUpTo facts.now table.now come.items 24) }
 {
-    let mut come = without_constants(alloc, next_class(facts.graph()))?;
+    let mut come = none_come(alloc, next_class(facts.graph()))?;
     for cycle in 0..LAST + 1 {
         pass_rows(&mut come, facts, table, needs, cycle);
     }

@@ -1,7 +1,20 @@
 // From which cycle on launches of a row have variables, and of which classes it is said where they are seen.
-ghost use Rattle.std.specs.Prelude.{◌≡◌};
-ghost use Rattle.cycle_encoding.specs.CycleFormula.{first_cycle_in, wants_in, wide_scope};
+ghost use Rattle.std.specs.Prelude.{◌≡◌, ◌+◌, ◌<◌, ◌≤◌, ◌^◌, ℕ, length, map, IfOk};
+ghost use Rattle.std.specs.List.{range_with_len};
+ghost use Rattle.launch_graph.specs.WellFormed.{IsLaunchGraph};
+ghost use Rattle.machine_table.specs.Tables.{IsTable};
+ghost use Rattle.cycle_encoding.specs.Coming as coming;
+ghost use Rattle.cycle_encoding.specs.Coming.{needs_of};
+ghost use Rattle.cycle_encoding.specs.Narrow.{IsNarrow};
+ghost use Rattle.cycle_encoding.specs.Scoped as scoped;
+ghost use Rattle.cycle_encoding.specs.CycleFormula.{first_cycle_in, listed_in, wants_in, wide_scope};
 
+use crate::Facts;
+use crate::coming::{come_cycles, needs};
+use crate::wanting::wanted;
+use items::{Items, NoMemory};
+use machine_table::{InstrKind, Table};
+use schedule_meaning::class_at;
 use std::alloc::Global;
 use std::marker::Model;
 
@@ -33,6 +46,23 @@ impl Scope {
         }
     }
 
+    /// Launches that can start by their cycle and whose word is wanted, and wanted classes.
+    pub fn narrow(alloc: Global, facts: &Facts, table: &Table) -> Result<Scope, NoMemory>
+        requires table { IsTable table.now }
+        requires graph { IsLaunchGraph facts.now }
+        ensures { IfOk result (λ s. (k : ℕ) → k ≤ 24 → IsNarrow facts.now table.now k (listed_in facts.now table.now k s)) }
+    {
+        let needs = needs(alloc, facts)?;
+        let come = come_cycles(alloc, facts, table, &needs)?;
+        let wants = wanted(alloc, facts, &needs)?;
+        let firsts = first_cycles(alloc, facts, &needs, &come, &wants)?;
+        Ok(Scope {
+            narrow: true,
+            firsts,
+            wants,
+        })
+    }
+
     /// The cycle from which launches of the row have variables, if any have.
     pub fn first(&self, row: u32) -> Option<u32>
         ensures { result ≡ first_cycle_in self.now row }
@@ -58,4 +88,75 @@ impl Scope {
             None => false,
         }
     }
+}
+
+/// For each row's number the cycle from which its launches have variables, if any have.
+#[tactic(auto, using(crate::proofs::Tables::table_more))]
+fn first_cycles(
+    alloc: Global,
+    facts: &Facts,
+    needs: &[Items<u32>],
+    come: &[Option<u32>],
+    marks: &[bool],
+) -> Result<Vec<Option<u32>>, NoMemory>
+    requires rows { length facts.now.rows < 2 ^ 30 }
+    requires needs { needs.now ≡ map (needs_of facts.now) (range_with_len 0 (length facts.now.rows + 1)) }
+    ensures { IfOk result (λ firsts. firsts.items
+        ≡ map (scoped.first_cycle facts.now come.now marks.now) (range_with_len 0 (length facts.now.rows + 1))) }
+{
+    let mut firsts = Vec::new(alloc);
+    let rows = facts.graph().rows.len() as u32;
+    for row in 0..rows + 1 {
+        let first = first_cycle(facts, needs[row as usize].as_slice(), come, marks, row);
+        firsts.push(first)?;
+    }
+    Ok(firsts)
+}
+
+fn first_cycle(
+    facts: &Facts,
+    needs: &[u32],
+    come: &[Option<u32>],
+    marks: &[bool],
+    row: u32,
+) -> Option<u32>
+    requires needs { needs.now ≡ needs_of facts.now row }
+    ensures { result ≡ scoped.first_cycle facts.now come.now marks.now row }
+{
+    if is_spoken_of(facts, marks, row) {
+        latest(come, needs)
+    } else {
+        None
+    }
+}
+
+/// Whether the row is a store, the branch, or of a marked class.
+fn is_spoken_of(facts: &Facts, marks: &[bool], row: u32) -> bool
+    ensures { result ≡ scoped.is_spoken_of facts.now marks.now row }
+{
+    match facts.instr_at(row) {
+        Some(InstrKind::StqU | InstrKind::Beq) => true,
+        _ => match marks.get(class_at(facts.graph(), row) as usize) {
+            Some(marked) => *marked,
+            None => false,
+        },
+    }
+}
+
+/// The last of the cycles by which the classes have come, if all have.
+fn latest(come: &[Option<u32>], classes: &[u32]) -> Option<u32>
+    ensures { result ≡ coming.latest come.now classes.now }
+{
+    let mut latest = 0;
+    for class in classes {
+        match come.get(*class as usize) {
+            Some(Some(first)) => {
+                if latest < *first {
+                    latest = *first;
+                }
+            }
+            _ => return None,
+        }
+    }
+    Some(latest)
 }

@@ -1,0 +1,17 @@
+-- The scope of the narrow encoding, by tables of what has come and what is wanted.
+-- Source: this project.
+use Rattle.std.specs.Prelude.{ℕ, ◌||◌, Bool, List, Option, None, if◌then◌else◌}
+use Rattle.schedule_meaning.specs.Launches.{is_store, is_branch, class_at}
+use Rattle.launch_graph.specs.declared.graphs.LaunchGraph.{LaunchGraph}
+use Rattle.cycle_encoding.specs.Counts.{row_is}
+use Rattle.cycle_encoding.specs.Coming.{latest, needs_of}
+use Rattle.cycle_encoding.specs.Wanting.{is_marked_class}
+
+-- the row is a store, the branch, or of a wanted class
+abbrev pub is_spoken_of : LaunchGraph → List Bool → ℕ → Bool
+is_spoken_of g marks row =
+    row_is g is_store row || (row_is g is_branch row || is_marked_class marks (class_at g row))
+
+-- the cycle from which launches of the row have variables, if any have
+abbrev pub first_cycle : LaunchGraph → List (Option ℕ) → List Bool → ℕ → Option ℕ
+first_cycle g come marks row = if is_spoken_of g marks row then latest come (needs_of g row) else None
