@@ -3,7 +3,7 @@ use Rattle.std.proofs.Common.{◌≡◌, ℕ, ◌+◌, ◌<◌, ◌≤◌, ◌^�
 use Rattle.cnf_core.specs.declared.literal.Lit.{Lit}
 use Rattle.cnf_core.specs.Formula.{Formula}
 use Rattle.cycle_encoding.specs.Shapes.{counters, counters_vars, counters_size}
-use Rattle.std.specs.Prelude.{Result, Ok, Err, OnOk}
+use Rattle.std.specs.Prelude.{Result, Ok, Err, IfOk, IfErr, OnOk}
 use Rattle.cycle_encoding.specs.Plans.{IsTooLarge, PassesLimit}
 use Rattle.cycle_encoding.specs.Steps.{with_clauses}
 use Rattle.cycle_encoding.proofs.Rows.{formula}
@@ -66,3 +66,16 @@ module _ (f : Formula) (vars clauses : ℕ) (ev : vars ≡ f.vars) (ec : clauses
 pub on_ok : {A E : Type 0} (r : Result A E) (P : Type 0) → P → OnOk r P
 on_ok (Ok a) P p = p
 on_ok (Err x) P p = tt
+
+-- the same of a result whose promise says more
+pub if_ok : {A E : Type 0} (P Q : A → Type 0) (r : Result A E) → ((a : A) → P a → Q a) → IfOk r P → IfOk r Q
+if_ok P Q (Ok a) f h = f a h
+if_ok P Q (Err x) f h = tt
+
+pub if_err : {A E : Type 0} (P Q : E → Type 0) (r : Result A E) → ((x : E) → P x → Q x) → IfErr r P → IfErr r Q
+if_err P Q (Ok a) f h = tt
+if_err P Q (Err x) f h = f x h
+
+pub on_ok_more : {A E : Type 0} (P Q : Type 0) (r : Result A E) → (P → Q) → OnOk r P → OnOk r Q
+on_ok_more P Q (Ok a) f h = f h
+on_ok_more P Q (Err x) f h = tt

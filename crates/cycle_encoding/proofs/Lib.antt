@@ -11,6 +11,7 @@ pub mod Tables
 pub mod ComeSteps
 pub mod WantSteps
 pub mod ScopeSteps
+pub mod OneList
 pub mod OperandLists
 pub mod Listed
 pub mod Places

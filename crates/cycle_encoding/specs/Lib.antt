@@ -9,5 +9,6 @@ pub mod Facts
 pub mod Coming
 pub mod Wanting
 pub mod Scoped
+pub mod Encodings
 pub mod Steps
 pub mod Faults

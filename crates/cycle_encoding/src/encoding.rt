@@ -3,7 +3,8 @@ ghost use Rattle.std.specs.Prelude.{◌≡◌, ◌+◌, ◌<◌, ◌≤◌, ◌^
 ghost use Rattle.cnf_core.specs.Formula.{Formula};
 ghost use Rattle.launch_graph.specs.WellFormed.{IsLaunchGraph};
 ghost use Rattle.machine_table.specs.Tables.{IsTable};
-ghost use Rattle.cycle_encoding.specs.CycleFormula.{cycle_formula, listed_in, wide, first_cycle_in};
+ghost use Rattle.cycle_encoding.specs.CycleFormula.{cycle_formula, first_cycle_in, listed_in, wide, Listed as ListedOf};
+ghost use Rattle.cycle_encoding.specs.Encodings.{AreListed};
 ghost use Rattle.cycle_encoding.specs.Variables.{launches_from};
 ghost use Rattle.cycle_encoding.specs.Faults.{EncodeFaultIs};
 ghost use Rattle.cycle_encoding.specs.Plans.{IsTooLarge, plan_of};
@@ -11,11 +12,11 @@ ghost use Rattle.cycle_encoding.specs.Plans.{IsTooLarge, plan_of};
 use crate::counts::cycle_sizes;
 use crate::families::{add_operands, add_seen, add_targets};
 use crate::launches::launches_from;
-use crate::laws::cycle_counts_are_found;
+use crate::laws::{cycle_counts_are_found, each_encoding_has_one_list};
 use crate::plans::{EncodeFault, Encoded, VarPlan};
 use crate::seen::seen_vars;
 use crate::slots::add_slots;
-use crate::{Facts, Scope};
+use crate::{Encoding, Facts, Scope};
 use cnf_core::{Cnf, counters_count};
 use items::{Items, NoMemory};
 use launch_graph::LaunchGraph;
@@ -38,9 +39,34 @@ pub fn encode(
     ensures size { IfErr result (EncodeFaultIs (cycle_formula graph.now table.now k (wide graph.now table.now k))) }
     ensures within { OnOk result (¬ IsTooLarge (cycle_formula graph.now table.now k (wide graph.now table.now k))) }
 {
+    encode_as(alloc, Encoding::Wide, graph, table, k)
+}
+
+/// The same in an encoding: `encode` is this with the wide one.
+pub fn encode_as(
+    alloc: Global,
+    encoding: Encoding,
+    graph: &LaunchGraph,
+    table: &Table,
+    k: u32,
+) -> Result<Encoded, EncodeFault>
+    requires cycles { k ≤ 24 }
+    requires table { IsTable table.now }
+    requires graph { IsLaunchGraph graph.now }
+    ensures listed { OnOk result ((l : ListedOf) × AreListed encoding graph.now table.now k l) }
+    ensures formula { IfOk result (λ e. (l : ListedOf) → AreListed encoding graph.now table.now k l
+        → e.cnf ≡ cycle_formula graph.now table.now k l) }
+    ensures plan { IfOk result (λ e. (l : ListedOf) → AreListed encoding graph.now table.now k l
+        → e.plan ≡ record { cycles = k; launches = l.launches }) }
+    ensures size { IfErr result (λ fault. (l : ListedOf) → AreListed encoding graph.now table.now k l
+        → EncodeFaultIs (cycle_formula graph.now table.now k l) fault) }
+    ensures within { OnOk result ((l : ListedOf) → AreListed encoding graph.now table.now k l
+        → ¬ IsTooLarge (cycle_formula graph.now table.now k l)) }
+{
     cycle_counts_are_found();
+    each_encoding_has_one_list();
     let facts = Facts::new(alloc, graph)?;
-    let scope = Scope::wide(alloc);
+    let scope = Scope::of(alloc, encoding, &facts, table)?;
     let sizes = cycle_sizes(alloc, &facts, table, &scope, k)?;
     if sizes.vars > 262144 {
         return Err(EncodeFault::Size {

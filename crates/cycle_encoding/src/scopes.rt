@@ -5,13 +5,14 @@ ghost use Rattle.launch_graph.specs.WellFormed.{IsLaunchGraph};
 ghost use Rattle.machine_table.specs.Tables.{IsTable};
 ghost use Rattle.cycle_encoding.specs.Coming as coming;
 ghost use Rattle.cycle_encoding.specs.Coming.{needs_of};
+ghost use Rattle.cycle_encoding.specs.Encodings.{AreListed};
 ghost use Rattle.cycle_encoding.specs.Narrow.{IsNarrow};
 ghost use Rattle.cycle_encoding.specs.Scoped as scoped;
 ghost use Rattle.cycle_encoding.specs.CycleFormula.{first_cycle_in, listed_in, wants_in, wide_scope};
 
-use crate::Facts;
 use crate::coming::{come_cycles, needs};
 use crate::wanting::wanted;
+use crate::{Encoding, Facts};
 use items::{Items, NoMemory};
 use machine_table::{InstrKind, Table};
 use schedule_meaning::class_at;
@@ -61,6 +62,24 @@ impl Scope {
             firsts,
             wants,
         })
+    }
+
+    /// What has variables in the encoding.
+    pub fn of(
+        alloc: Global,
+        encoding: Encoding,
+        facts: &Facts,
+        table: &Table,
+    ) -> Result<Scope, NoMemory>
+        requires table { IsTable table.now }
+        requires graph { IsLaunchGraph facts.now }
+        ensures { IfOk result (λ s. (k : ℕ) → k ≤ 24
+            → AreListed encoding facts.now table.now k (listed_in facts.now table.now k s)) }
+    {
+        match encoding {
+            Encoding::Wide => Ok(Scope::wide(alloc)),
+            Encoding::Narrow => Scope::narrow(alloc, facts, table),
+        }
     }
 
     /// The cycle from which launches of the row have variables, if any have.

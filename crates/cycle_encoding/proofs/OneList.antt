@@ -1,0 +1,44 @@
+-- An encoding gives one list.
+use Rattle.std.proofs.Common.{◌≡◌, ℕ, Bool, true, false, cond, List, [], ◌∷◌, refl, sym, ap, ◌∙◌}
+use Rattle.std.specs.Prelude.{Contains, Decides}
+use Rattle.std.specs.List.{filter}
+use Rattle.std.proofs.lemmas.Bool.{false_from_ne_true, false≢true}
+use Rattle.machine_table.specs.declared.tables.Table.{Table}
+use Rattle.launch_graph.specs.declared.graphs.LaunchGraph.{LaunchGraph}
+use Rattle.schedule_meaning.specs.declared.schedules.Launch.{Launch}
+use Rattle.cycle_encoding.specs.Variables.{Seen, all_launches, all_seen, made_classes}
+use Rattle.cycle_encoding.specs.CycleFormula.{Listed}
+use Rattle.cycle_encoding.specs.Narrow.{HasVariable, Wanted, IsNarrow}
+use Rattle.cycle_encoding.specs.Encodings.{AreListed}
+use Rattle.cycle_encoding.specs.declared.encodings.Encoding.{Encoding}
+use Rattle.cycle_encoding.specs.declared.encodings.Encoding.TheVariants.{Wide, Narrow}
+use Rattle.cycle_encoding.proofs.Members.{here, later}
+
+decided : (p q : Bool) (P : Type 0) → Decides p P → Decides q P → p ≡ q
+decided true q P a b = sym (b.1 (a.0 refl))
+decided false q P a b = sym (false_from_ne_true q (λ t. false≢true (a.1 (b.0 t))))
+
+filter_same : {X : Type 0} (p q : X → Bool) (xs : List X) → ((x : X) → Contains xs x → p x ≡ q x) → filter p xs ≡ filter q xs
+filter_same p q [] e = refl
+filter_same p q (x ∷ xs) e =
+    ap (λ b. cond b (x ∷ filter p xs) (filter p xs)) (e x (here x xs))
+    ∙ ap (λ ys. cond (q x) (x ∷ ys) ys) (filter_same p q xs (λ y h. e y (later x y xs h)))
+
+listed_by : (a b : List Launch) (c d : List Seen) → a ≡ b → c ≡ d → (let l : Listed = record { launches = a; seen = c } in let m : Listed = record { launches = b; seen = d } in l ≡ m)
+listed_by a b c d p q =
+    let l : Listed = record { launches = a; seen = c } in
+    let n : Listed = record { launches = b; seen = c } in
+    let m : Listed = record { launches = b; seen = d } in
+    let x : l ≡ n = ap {A = List Launch} {B = Listed} (λ ls. record { launches = ls; seen = c }) p in
+    let y : n ≡ m = ap {A = List Seen} {B = Listed} (λ ds. record { launches = b; seen = ds }) q in
+    x ∙ y
+
+narrow-one : (g : LaunchGraph) (table : Table) (k : ℕ) (l m : Listed) → IsNarrow g table k l → IsNarrow g table k m → l ≡ m
+narrow-one g table k l m a b =
+    listed_by l.launches m.launches l.seen m.seen
+    (a.launches_are ∙ filter_same a.keep b.keep (all_launches g table k) (λ x h. decided (a.keep x) (b.keep x) (HasVariable g table x) (a.keeps x h) (b.keeps x h)) ∙ sym b.launches_are)
+    (a.seen_are ∙ ap (all_seen table k) (filter_same a.want b.want (made_classes g) (λ c h. decided (a.want c) (b.want c) (Wanted g c) (a.wants c h) (b.wants c h))) ∙ sym b.seen_are)
+
+pub one-list : (e : Encoding) (g : LaunchGraph) (table : Table) (k : ℕ) (l m : Listed) → AreListed e g table k l → AreListed e g table k m → l ≡ m
+one-list Wide g table k l m a b = a ∙ sym b
+one-list Narrow g table k l m a b = narrow-one g table k l m a b

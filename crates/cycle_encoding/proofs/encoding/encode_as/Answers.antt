@@ -1,0 +1,94 @@
+use Rattle.std.proofs.Common.{◌≡◌, ◌∙◌, ap, sym, subst, arith, ℕ}
+use Rattle.launch_graph.specs.declared.graphs.LaunchGraph.{LaunchGraph}
+use Rattle.machine_table.specs.declared.tables.Table.{Table}
+use Rattle.cycle_encoding.specs.CycleFormula.{Listed, Scope, cycle_formula, first_cycle_in, listed_in}
+use Rattle.cycle_encoding.specs.Variables.{launches_from}
+use Rattle.cycle_encoding.specs.Counts.{cycle_vars, cycle_size}
+use Rattle.cycle_encoding.specs.Encodings.{AreListed}
+use Rattle.cycle_encoding.specs.Plans.{Plan, IsTooLarge, PassesLimit}
+use Rattle.cycle_encoding.specs.declared.encodings.Encoding.{Encoding}
+use Rattle.cycle_encoding.proofs.Built.{passes_by_vars, passes_by_clauses, keeps_within}
+use Rattle.cycle_encoding.proofs.encoding.encode_as.Goals as goal
+
+-- the scope's list is one of the encoding's
+own-list : (e : Encoding) (g h : LaunchGraph) (table : Table) (k : ℕ) (s : Scope) → h ≡ g → AreListed e h table k (listed_in h table k s) → AreListed e g table k (listed_in g table k s)
+own-list e g h table k s eh own = subst (λ x. AreListed e x table k (listed_in x table k s)) eh own
+
+pub returns-then-sizes-gt262144-clause-size : goal.returns-then-sizes-gt262144-clause-size
+returns-then-sizes-gt262144-clause-size c =
+    let g = c.args.graph.now in
+    let table = c.args.table.now in
+    let k = c.args.k in
+    let s = c.in_ok-scope.scope in
+    let own = own-list c.args.encoding g c.in_ok-facts.facts table k s c.in_ok-facts.ensures (c.in_ok-scope.ensures k c.requires.cycles) in
+    let vars = c.in_ok-sizes.ensures.vars ∙ ap (λ (x : LaunchGraph). cycle_vars x table k s) c.in_ok-facts.ensures ∙ sym (c.cycle_counts_are_found.ensures.vars g table k s) in
+    let clauses = c.in_ok-sizes.ensures.clauses ∙ ap (λ (x : LaunchGraph). cycle_size x table k s) c.in_ok-facts.ensures ∙ sym (c.cycle_counts_are_found.ensures.clauses g table k s) in
+    λ l a. subst (λ (x : Listed). PassesLimit (cycle_formula g table k x) c.in_ok-sizes.sizes.vars c.in_ok-sizes.sizes.clauses) (sym (c.each_encoding_has_one_list.ensures c.args.encoding g table k l (listed_in g table k s) a own))
+    (passes_by_vars (cycle_formula g table k (listed_in g table k s)) c.in_ok-sizes.sizes.vars c.in_ok-sizes.sizes.clauses vars clauses c.if-sizes-gt262144.true)
+
+pub returns-then-sizes-gt2000000-clause-size : goal.returns-then-sizes-gt2000000-clause-size
+returns-then-sizes-gt2000000-clause-size c =
+    let g = c.args.graph.now in
+    let table = c.args.table.now in
+    let k = c.args.k in
+    let s = c.in_ok-scope.scope in
+    let own = own-list c.args.encoding g c.in_ok-facts.facts table k s c.in_ok-facts.ensures (c.in_ok-scope.ensures k c.requires.cycles) in
+    let vars = c.in_ok-sizes.ensures.vars ∙ ap (λ (x : LaunchGraph). cycle_vars x table k s) c.in_ok-facts.ensures ∙ sym (c.cycle_counts_are_found.ensures.vars g table k s) in
+    let clauses = c.in_ok-sizes.ensures.clauses ∙ ap (λ (x : LaunchGraph). cycle_size x table k s) c.in_ok-facts.ensures ∙ sym (c.cycle_counts_are_found.ensures.clauses g table k s) in
+    λ l a. subst (λ (x : Listed). PassesLimit (cycle_formula g table k x) c.in_ok-sizes.sizes.vars c.in_ok-sizes.sizes.clauses) (sym (c.each_encoding_has_one_list.ensures c.args.encoding g table k l (listed_in g table k s) a own))
+    (passes_by_clauses (cycle_formula g table k (listed_in g table k s)) c.in_ok-sizes.sizes.vars c.in_ok-sizes.sizes.clauses vars clauses c.if-sizes-gt2000000.true)
+
+pub build_cycles-requires-clause-vars : goal.build_cycles-requires-clause-vars
+build_cycles-requires-clause-vars c =
+    let vars = c.in_ok-sizes.ensures.vars ∙ sym (c.cycle_counts_are_found.ensures.vars c.in_ok-facts.facts c.args.table.now c.args.k c.in_ok-scope.scope) in
+    omega (arith, vars, c.if-sizes-gt262144.false)
+
+pub build_cycles-requires-clause-clauses : goal.build_cycles-requires-clause-clauses
+build_cycles-requires-clause-clauses c =
+    let clauses = c.in_ok-sizes.ensures.clauses ∙ sym (c.cycle_counts_are_found.ensures.clauses c.in_ok-facts.facts c.args.table.now c.args.k c.in_ok-scope.scope) in
+    omega (arith, clauses, c.if-sizes-gt2000000.false)
+
+pub returns-clause-listed : goal.returns-clause-listed
+returns-clause-listed c =
+    let g = c.args.graph.now in
+    let table = c.args.table.now in
+    let k = c.args.k in
+    let s = c.in_ok-scope.scope in
+    let own = own-list c.args.encoding g c.in_ok-facts.facts table k s c.in_ok-facts.ensures (c.in_ok-scope.ensures k c.requires.cycles) in
+    (listed_in g table k s, own)
+
+pub returns-clause-formula : goal.returns-clause-formula
+returns-clause-formula c =
+    let g = c.args.graph.now in
+    let table = c.args.table.now in
+    let k = c.args.k in
+    let s = c.in_ok-scope.scope in
+    let own = own-list c.args.encoding g c.in_ok-facts.facts table k s c.in_ok-facts.ensures (c.in_ok-scope.ensures k c.requires.cycles) in
+    λ l a.
+    c.in_ok-build_cycles.ensures.formula
+    ∙ ap (λ (x : LaunchGraph). cycle_formula x table k (listed_in x table k s)) c.in_ok-facts.ensures
+    ∙ ap (cycle_formula g table k) (sym (c.each_encoding_has_one_list.ensures c.args.encoding g table k l (listed_in g table k s) a own))
+
+pub returns-clause-plan : goal.returns-clause-plan
+returns-clause-plan c =
+    let g = c.args.graph.now in
+    let table = c.args.table.now in
+    let k = c.args.k in
+    let s = c.in_ok-scope.scope in
+    let own = own-list c.args.encoding g c.in_ok-facts.facts table k s c.in_ok-facts.ensures (c.in_ok-scope.ensures k c.requires.cycles) in
+    λ l a.
+    c.in_ok-build_cycles.ensures.plan
+    ∙ ap {A = LaunchGraph} {B = Plan} (λ x. record { cycles = k; launches = launches_from x table k (first_cycle_in s) }) c.in_ok-facts.ensures
+    ∙ ap {A = Listed} {B = Plan} (λ x. record { cycles = k; launches = x.launches }) (sym (c.each_encoding_has_one_list.ensures c.args.encoding g table k l (listed_in g table k s) a own))
+
+pub returns-clause-within : goal.returns-clause-within
+returns-clause-within c =
+    let g = c.args.graph.now in
+    let table = c.args.table.now in
+    let k = c.args.k in
+    let s = c.in_ok-scope.scope in
+    let own = own-list c.args.encoding g c.in_ok-facts.facts table k s c.in_ok-facts.ensures (c.in_ok-scope.ensures k c.requires.cycles) in
+    let vars = c.in_ok-sizes.ensures.vars ∙ ap (λ (x : LaunchGraph). cycle_vars x table k s) c.in_ok-facts.ensures ∙ sym (c.cycle_counts_are_found.ensures.vars g table k s) in
+    let clauses = c.in_ok-sizes.ensures.clauses ∙ ap (λ (x : LaunchGraph). cycle_size x table k s) c.in_ok-facts.ensures ∙ sym (c.cycle_counts_are_found.ensures.clauses g table k s) in
+    λ l a. subst (λ x. IsTooLarge (cycle_formula g table k x) → ⊥) (sym (c.each_encoding_has_one_list.ensures c.args.encoding g table k l (listed_in g table k s) a own))
+    (keeps_within (cycle_formula g table k (listed_in g table k s)) c.in_ok-sizes.sizes.vars c.in_ok-sizes.sizes.clauses vars clauses (omega (arith, c.if-sizes-gt262144.false)) (omega (arith, c.if-sizes-gt2000000.false)))
