@@ -79,3 +79,7 @@ if_err P Q (Err x) f h = f x h
 pub on_ok_more : {A E : Type 0} (P Q : Type 0) (r : Result A E) → (P → Q) → OnOk r P → OnOk r Q
 on_ok_more P Q (Ok a) f h = f h
 on_ok_more P Q (Err x) f h = tt
+
+pub if_ok_both : {A E : Type 0} (P R Q : A → Type 0) (r : Result A E) → ((a : A) → P a → R a → Q a) → IfOk r P → IfOk r R → IfOk r Q
+if_ok_both P R Q (Ok a) f h k = f a h k
+if_ok_both P R Q (Err x) f h k = tt

@@ -1,5 +1,5 @@
 -- What the whole formula of a call says, and what its refusals say.
-use Rattle.std.proofs.Common.{◌≡◌, ℕ, ◌<◌, ◌≤◌, ◌++◌, ◌⊎◌, inl, inr, length, Bool, List, sym, ap, subst, ◌∙◌, arith, length-append}
+use Rattle.std.proofs.Common.{◌≡◌, ℕ, ◌<◌, ◌≤◌, ◌++◌, ◌⊎◌, inl, inr, length, Bool, List, sym, subst, arith, length-append}
 use Rattle.std.specs.Prelude.{Contains, ◌↔◌}
 use Rattle.cnf_core.specs.Formula.{Formula, Satisfies}
 use Rattle.machine_table.specs.declared.tables.Table.{Table}
@@ -7,7 +7,11 @@ use Rattle.launch_graph.specs.declared.graphs.LaunchGraph.{LaunchGraph}
 use Rattle.schedule_meaning.specs.Fits.{Fits}
 use Rattle.schedule_meaning.specs.declared.schedules.Launch.{Launch}
 use Rattle.cycle_encoding.specs.Shapes.{shown, numbered}
-use Rattle.cycle_encoding.specs.CycleFormula.{Listed, wide, cycle_formula, cycle_part}
+use Rattle.cycle_encoding.specs.CycleFormula.{Listed, launch_vars, wide, cycle_formula, cycle_part}
+use Rattle.cycle_encoding.specs.Encodings.{AreListed}
+use Rattle.cycle_encoding.specs.Narrow.{IsNarrow}
+use Rattle.cycle_encoding.specs.declared.encodings.Encoding.{Encoding}
+use Rattle.cycle_encoding.specs.declared.encodings.Encoding.TheVariants.{Wide, Narrow}
 use Rattle.cycle_encoding.specs.Plans.{Plan, plan_of, IsTooLarge}
 use Rattle.order_encoding.specs.WholeFormula.{memory_part, guard_part, pool_part, memory_formula, guard_formula, whole_formula}
 
@@ -62,3 +66,27 @@ module _ (g : LaunchGraph) (table : Table) (k : ℕ) (e : Listed) where
       let p = pool_part g table k e in
       let s1 = length-append (a ++ b ++ d) p in
       larger (guard_formula g table k e).vars (length (a ++ b ++ d)) (whole_formula g table k e).vars (length (a ++ b ++ d ++ p)) (omega arith) (omega arith) h
+
+-- ---- either encoding
+
+abbrev Shown : LaunchGraph → Table → ℕ → Listed → Type 0
+Shown g table k l = (v : ℕ → Bool) → Satisfies v (whole_formula g table k l).clauses → Fits g table k (shown v (launch_vars g table k l))
+
+abbrev Some_of : LaunchGraph → Table → ℕ → Listed → List Launch → Type 0
+Some_of g table k l ls =
+    (ms : List Launch) × Fits g table k ms × ((x : Launch) → Contains ms x → Contains ls x)
+    × ((v : ℕ → Bool) × Satisfies v (whole_formula g table k l).clauses
+    × ((x : Launch) → Contains (shown v (launch_vars g table k l)) x ↔ Contains ms x))
+
+abbrev Each_of : LaunchGraph → Table → ℕ → Listed → List Launch → Type 0
+Each_of g table k l ls =
+    (v : ℕ → Bool) × Satisfies v (whole_formula g table k l).clauses
+    × ((x : Launch) → Contains (shown v (launch_vars g table k l)) x ↔ Contains ls x)
+
+pub shown-as : (e : Encoding) (g : LaunchGraph) (table : Table) (k : ℕ) (l : Listed) → Shown g table k (wide g table k) → (IsNarrow g table k l → Shown g table k l) → AreListed e g table k l → Shown g table k l
+shown-as Wide g table k l w n a = subst (Shown g table k) (sym a) w
+shown-as Narrow g table k l w n a = n a
+
+pub some-as : (e : Encoding) (g : LaunchGraph) (table : Table) (k : ℕ) (l : Listed) (ls : List Launch) → Fits g table k ls → Each_of g table k (wide g table k) ls → (IsNarrow g table k l → Some_of g table k l ls) → AreListed e g table k l → Some_of g table k l ls
+some-as Wide g table k l ls f w n a = (ls, f, (λ x h. h), subst (λ m. Each_of g table k m ls) (sym a) w)
+some-as Narrow g table k l ls f w n a = n a

@@ -1,6 +1,6 @@
 -- A schedule that fits does so without its launches that have no variables in the narrow encoding.
 use Rattle.std.proofs.Common.{◌≡◌, ℕ, suc, zero, ◌+◌, ◌<◌, ◌≤◌, Bool, true, false, not, cond, List, [], ◌∷◌, get_or, refl, sym, ap, ◌∙◌, subst, arith, inl, inr, ◌⊎◌, Option, Some, None}
-use Rattle.std.specs.Prelude.{◌&&◌, ◌==◌, IsTrue, Any, Contains, IfSome, Decides, unwrap_or, option_map}
+use Rattle.std.specs.Prelude.{◌==◌, IsTrue, Contains, IfSome, Decides, unwrap_or, option_map}
 use Rattle.std.specs.Option.{option_map_or}
 use Rattle.std.specs.List.{All, AllPairs, filter, list_any, count_by}
 use Rattle.std.proofs.lemmas.Bool.{false≢true, cases_Bool, eqb-true, eq-eqb, and_parts, and_from, not-true}
@@ -9,8 +9,8 @@ use Rattle.std.proofs.lemmas.List.Elements.{All-filter, All-contains, All-weaker
 use Rattle.machine_table.specs.Tables.{IsTable, IsUse, use_of, latency_of, cluster_of, MayUse}
 use Rattle.machine_table.specs.InstrOrder.{kind_number}
 use Rattle.launch_graph.specs.Graphs.{memory_target, is_memory_name}
-use Rattle.schedule_meaning.specs.Launches.{instr_at, launches, is_store, is_branch, gives_word, class_at, memory_class_at, operands_at, ready_in, IsFree, IsClassOfInput, IsReadable, Gives, Operand}
-use Rattle.schedule_meaning.specs.Fits.{CanLaunch, Collide, CanRead, EndsBy, IsReached, IsLatestStore, IsLeft, UsesMemory, Waits, Fits}
+use Rattle.schedule_meaning.specs.Launches.{instr_at, launches, is_store, is_branch, gives_word, class_at, memory_class_at, operands_at, ready_in, IsFree, IsReadable, Gives, Operand}
+use Rattle.schedule_meaning.specs.Fits.{CanLaunch, Collide, CanRead, EndsBy, IsReached, IsLeft, UsesMemory, Waits, Fits}
 use Rattle.machine_table.specs.declared.tables.Table.{Table}
 use Rattle.machine_table.specs.declared.tables.Use.{Use}
 use Rattle.machine_table.specs.declared.tables.InstrKind.{InstrKind}

@@ -11,7 +11,9 @@ ghost use Rattle.schedule_meaning.specs.Worked.{sum_graph, two_slots, copy_graph
 ghost use Rattle.schedule_meaning.specs.declared.schedules.Launch.{Launch as LaunchOf};
 ghost use Rattle.cycle_encoding.specs.Shapes.{shown};
 ghost use Rattle.cycle_encoding.specs.CycleFormula.{launch_vars, listed_in, wide, Listed as ListedOf, Scope as ScopeOf};
+ghost use Rattle.cycle_encoding.specs.Encodings.{AreListed};
 ghost use Rattle.cycle_encoding.specs.Narrow.{IsNarrow};
+ghost use Rattle.cycle_encoding.specs.declared.encodings.Encoding.{Encoding as EncodingOf};
 ghost use Rattle.cycle_encoding.specs.Counts.{cycle_vars, cycle_size};
 ghost use Rattle.order_encoding.specs.WholeFormula.{guard_formula, memory_formula, whole_formula};
 ghost use Rattle.order_encoding.specs.OrderCounts.{memory_vars, memory_size, guard_vars, guard_size, pool_vars, pool_size};
@@ -58,6 +60,22 @@ pub fn narrow_clauses_say_fits()
 {
     counters_count();
     memories_are_left();
+}
+
+/// In either encoding, values that satisfy the whole formula show a schedule that fits; and each schedule that fits has a
+/// part that fits and that some values show which satisfy it.
+pub fn each_encoding_says_fits()
+    ensures shown { (e : EncodingOf) (g : Graph) (table : TableOf) (k : ℕ) (l : ListedOf) (v : ℕ → Bool) → IsTable table
+        → AreListed e g table k l → Satisfies v (whole_formula g table k l).clauses
+        → Fits g table k (shown v (launch_vars g table k l)) }
+    ensures some { (e : EncodingOf) (g : Graph) (table : TableOf) (k : ℕ) (l : ListedOf) (ls : List LaunchOf)
+        → IsTable table → IsLaunchGraph g → AreListed e g table k l → Fits g table k ls
+        → (ms : List LaunchOf) × Fits g table k ms × ((x : LaunchOf) → Contains ms x → Contains ls x)
+        × ((v : ℕ → Bool) × Satisfies v (whole_formula g table k l).clauses
+        × ((x : LaunchOf) → Contains (shown v (launch_vars g table k l)) x ↔ Contains ms x)) }
+{
+    clauses_say_fits();
+    narrow_clauses_say_fits();
 }
 
 /// The two counts of the whole formula, as they are found row by row.

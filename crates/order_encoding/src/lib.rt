@@ -18,9 +18,9 @@ mod whole;
 pub use counts::pass_limit;
 pub use guard::add_guard;
 pub use laws::{
-    clauses_say_fits, counts_are_found, launches_without_variables_may_go, narrow_clauses_say_fits,
-    parts_are_counted, worked_formulas,
+    clauses_say_fits, counts_are_found, each_encoding_says_fits, launches_without_variables_may_go,
+    narrow_clauses_say_fits, parts_are_counted, worked_formulas,
 };
 pub use memory::add_memory;
 pub use pool::add_pool;
-pub use whole::{count_clauses, full};
+pub use whole::{count_clauses, full, full_as};

@@ -5,7 +5,8 @@ ghost use Rattle.launch_graph.specs.WellFormed.{IsLaunchGraph};
 ghost use Rattle.machine_table.specs.Tables.{IsTable};
 ghost use Rattle.schedule_meaning.specs.Fits.{Fits};
 ghost use Rattle.schedule_meaning.specs.declared.schedules.Launch.{Launch as LaunchOf};
-ghost use Rattle.cycle_encoding.specs.CycleFormula.{first_cycle_in, listed_in, wide};
+ghost use Rattle.cycle_encoding.specs.CycleFormula.{first_cycle_in, listed_in, wide, Listed as ListedOf};
+ghost use Rattle.cycle_encoding.specs.Encodings.{AreListed};
 ghost use Rattle.cycle_encoding.specs.Variables.{launches_from};
 ghost use Rattle.cycle_encoding.specs.Faults.{EncodeFaultIs};
 ghost use Rattle.cycle_encoding.specs.Plans.{IsTooLarge, plan_of};
@@ -14,10 +15,13 @@ ghost use Rattle.order_encoding.specs.WholeFormula.{whole_formula};
 
 use crate::counts::{both, guard_sizes, memory_sizes, pass_limit, pool_sizes};
 use crate::guard::extend_by_guard;
-use crate::laws::{clauses_say_fits, counts_are_found};
+use crate::laws::{clauses_say_fits, counts_are_found, each_encoding_says_fits};
 use crate::memory::extend_by_memory;
 use crate::pool::extend_by_pool;
-use cycle_encoding::{EncodeFault, Encoded, Facts, Scope, Sizes, build_cycles, cycle_sizes};
+use cycle_encoding::{
+    EncodeFault, Encoded, Encoding, Facts, Scope, Sizes, build_cycles, cycle_sizes,
+    each_encoding_has_one_list,
+};
 use items::NoMemory;
 use launch_graph::LaunchGraph;
 use machine_table::Table;
@@ -91,8 +95,44 @@ pub fn full(
         × ((l : LaunchOf) → Contains (shown v (numbered 0 e.plan.launches)) l ↔ Contains ls l)) }
 {
     clauses_say_fits();
+    full_as(alloc, Encoding::Wide, graph, table, k)
+}
+
+/// The same in an encoding: `full` is this with the wide one.
+pub fn full_as(
+    alloc: Global,
+    encoding: Encoding,
+    graph: &LaunchGraph,
+    table: &Table,
+    k: u32,
+) -> Result<Encoded, EncodeFault>
+    requires cycles { k ≤ 24 }
+    requires table { IsTable table.now }
+    requires graph { IsLaunchGraph graph.now }
+    ensures listed { OnOk result ((l : ListedOf) × AreListed encoding graph.now table.now k l) }
+    ensures formula { IfOk result (λ e. (l : ListedOf) → AreListed encoding graph.now table.now k l
+        → e.cnf ≡ whole_formula graph.now table.now k l) }
+    ensures plan { IfOk result (λ e. (l : ListedOf) → AreListed encoding graph.now table.now k l
+        → e.plan ≡ record { cycles = k; launches = l.launches }) }
+    ensures size { IfErr result (λ fault. (l : ListedOf) → AreListed encoding graph.now table.now k l
+        → EncodeFaultIs (whole_formula graph.now table.now k l) fault) }
+    ensures within { OnOk result ((l : ListedOf) → AreListed encoding graph.now table.now k l
+        → ¬ IsTooLarge (whole_formula graph.now table.now k l)) }
+    ensures vars { IfOk result (λ e. length e.plan.launches ≤ e.cnf.vars) }
+
+    // What the values of variables show fits where they satisfy the clauses, and each schedule that fits has a part that
+    // fits and is shown.
+    ensures shown { IfOk result (λ e. (v : ℕ → Bool) → Satisfies v e.cnf.clauses
+        → Fits graph.now table.now k (shown v (numbered 0 e.plan.launches))) }
+    ensures some { IfOk result (λ e. (ls : List LaunchOf) → Fits graph.now table.now k ls
+        → (ms : List LaunchOf) × Fits graph.now table.now k ms × ((l : LaunchOf) → Contains ms l → Contains ls l)
+        × ((v : ℕ → Bool) × Satisfies v e.cnf.clauses
+        × ((l : LaunchOf) → Contains (shown v (numbered 0 e.plan.launches)) l ↔ Contains ms l))) }
+{
+    each_encoding_has_one_list();
+    each_encoding_says_fits();
     let facts = Facts::new(alloc, graph)?;
-    let scope = Scope::wide(alloc);
+    let scope = Scope::of(alloc, encoding, &facts, table)?;
     let sizes = whole_sizes(alloc, &facts, table, &scope, k)?;
     if pass_limit(sizes) {
         return Err(EncodeFault::Size {

@@ -1,6 +1,6 @@
 use Rattle.std.proofs.Common.{◌≡◌, subst}
 use Rattle.std.specs.Prelude.{IfOk, length}
-use Rattle.cycle_encoding.specs.CycleFormula.{Scope, wide, wide_scope, listed_in}
+use Rattle.cycle_encoding.specs.CycleFormula.{Scope, wide, listed_in}
 use Rattle.launch_graph.specs.declared.graphs.LaunchGraph.{LaunchGraph}
 use Rattle.order_encoding.specs.WholeFormula.{whole_formula}
 use Rattle.order_encoding.proofs.whole.count_clauses.Goals as goal

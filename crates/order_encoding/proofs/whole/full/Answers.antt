@@ -1,44 +1,27 @@
-use Rattle.std.proofs.Common.{◌∙◌, ◌≡◌, sym, ap}
-use Rattle.std.specs.Prelude.{length}
-use Rattle.cnf_core.specs.Formula.{Formula}
-use Rattle.launch_graph.specs.declared.graphs.LaunchGraph.{LaunchGraph}
-use Rattle.cycle_encoding.specs.CycleFormula.{Scope, first_cycle_in, listed_in, wide, wide_scope}
-use Rattle.cycle_encoding.specs.Variables.{launches_from}
-use Rattle.cycle_encoding.specs.Plans.{Plan, plan_of}
+use Rattle.std.proofs.Common.{refl}
+use Rattle.cycle_encoding.specs.CycleFormula.{wide}
+use Rattle.cycle_encoding.specs.Faults.{EncodeFaultIs}
+use Rattle.cycle_encoding.proofs.Built.{if_ok, if_ok_both, if_err, on_ok_more}
 use Rattle.order_encoding.specs.WholeFormula.{whole_formula}
-use Rattle.order_encoding.proofs.Composed.{shows, has_each}
+use Rattle.order_encoding.proofs.Composed.{has_each}
 use Rattle.order_encoding.proofs.whole.full.Goals as goal
 
 pub returns-clause-formula : goal.returns-clause-formula
-returns-clause-formula c =
-    let table = c.args.table.now in
-    let k = c.args.k in
-    let h = c.in_ok-facts.facts in
-    c.in_ok-build_whole.ensures.formula
-    ∙ ap (λ (s : Scope). whole_formula h table k (listed_in h table k s)) c.wide-scope.ensures
-    ∙ ap (λ (x : LaunchGraph). whole_formula x table k (wide x table k)) c.in_ok-facts.ensures
+returns-clause-formula c = if_ok _ _ c.full_as.result (λ e h. h (wide c.args.graph.now c.args.table.now c.args.k) refl) c.full_as.ensures.formula
 
 pub returns-clause-plan : goal.returns-clause-plan
-returns-clause-plan c =
-    let table = c.args.table.now in
-    let k = c.args.k in
-    let h = c.in_ok-facts.facts in
-    c.in_ok-build_whole.ensures.plan
-    ∙ ap {A = Scope} {B = Plan} (λ s. record { cycles = k; launches = launches_from h table k (first_cycle_in s) }) c.wide-scope.ensures
-    ∙ ap (λ (x : LaunchGraph). plan_of x table k) c.in_ok-facts.ensures
+returns-clause-plan c = if_ok _ _ c.full_as.result (λ e h. h (wide c.args.graph.now c.args.table.now c.args.k) refl) c.full_as.ensures.plan
 
-pub returns-clause-shown : goal.returns-clause-shown
-returns-clause-shown c =
-    let g = c.args.graph.now in
-    let table = c.args.table.now in
-    let k = c.args.k in
-    let e = c.in_ok-build_whole.field-0 in
-    shows g table k e.cnf e.plan (returns-clause-formula c) (returns-clause-plan c) (λ v s. c.clauses_say_fits.ensures.shown g table k v c.requires.table s)
+pub returns-clause-size : goal.returns-clause-size
+returns-clause-size c = if_err _ (EncodeFaultIs (whole_formula c.args.graph.now c.args.table.now c.args.k (wide c.args.graph.now c.args.table.now c.args.k))) c.full_as.result (λ x h. h (wide c.args.graph.now c.args.table.now c.args.k) refl) c.full_as.ensures.size
+
+pub returns-clause-within : goal.returns-clause-within
+returns-clause-within c = on_ok_more _ _ c.full_as.result (λ h. h (wide c.args.graph.now c.args.table.now c.args.k) refl) c.full_as.ensures.within
 
 pub returns-clause-each : goal.returns-clause-each
 returns-clause-each c =
     let g = c.args.graph.now in
     let table = c.args.table.now in
     let k = c.args.k in
-    let e = c.in_ok-build_whole.field-0 in
-    λ ls fit. has_each g table k e.cnf e.plan (returns-clause-formula c) (returns-clause-plan c) ls (c.clauses_say_fits.ensures.each g table k ls c.requires.table c.requires.graph fit)
+    let w = wide g table k in
+    if_ok_both _ _ _ c.full_as.result (λ e formula plan ls fit. has_each g table k e.cnf e.plan (formula w refl) (plan w refl) ls (c.clauses_say_fits.ensures.each g table k ls c.requires.table c.requires.graph fit)) c.full_as.ensures.formula c.full_as.ensures.plan
