@@ -8,11 +8,11 @@ use crate::reading::{Lines, Words, split_before, split_line};
 use crate::reports::{Trouble, put, put_number, put_numbers};
 use crate::texts::table_of;
 use cnf_core::Cnf;
-use cycle_encoding::{EncodeFault, Encoded, encode};
+use cycle_encoding::{EncodeFault, Encoded, Encoding, encode, encode_as};
 use items::Items;
 use launch_graph::LaunchGraph;
 use machine_table::Table;
-use order_encoding::{add_guard, add_memory, add_pool, full};
+use order_encoding::{add_guard, add_memory, add_pool, full, full_as};
 use register_assign::{Listing, assign, words_of};
 use schedule_meaning::{Broken, Launch, Schedule};
 use std::alloc::Global;
@@ -210,5 +210,19 @@ pub(crate) fn formulas(alloc: Global, input: &[u8]) -> Result<Vec<u8>, Trouble> 
     put_formula(&mut report, encode(alloc, &graph, &table, cycles))?;
     put_formula(&mut report, full(alloc, &graph, &table, cycles))?;
     put_formula(&mut report, by_parts(alloc, &graph, &table, cycles))?;
+    Ok(report)
+}
+
+/// The same input: the first families of the narrow encoding, and all of them.
+pub(crate) fn narrow_formulas(alloc: Global, input: &[u8]) -> Result<Vec<u8>, Trouble> {
+    let (table, rest) = table_in(alloc, input)?;
+    let (graph, rest) = split_before(rest, b"cycles ");
+    let graph = graph_in(alloc, graph)?;
+    let (cycles, _) = cycles_in(rest)?;
+    let mut report = Vec::new(alloc);
+    let first = encode_as(alloc, Encoding::Narrow, &graph, &table, cycles);
+    put_formula(&mut report, first)?;
+    let whole = full_as(alloc, Encoding::Narrow, &graph, &table, cycles);
+    put_formula(&mut report, whole)?;
     Ok(report)
 }

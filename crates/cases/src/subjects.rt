@@ -31,6 +31,7 @@ pub(crate) enum Subject {
     Fits,
     Listings,
     Formulas,
+    NarrowFormulas,
     Counters,
     LineTexts,
     Refutations,
@@ -45,7 +46,7 @@ pub(crate) enum Subject {
 }
 
 /// The name of each subject.
-const NAMES: [(&str, Subject); 33] = [
+const NAMES: [(&str, Subject); 34] = [
     ("decimals", Subject::Decimals),
     ("tokens", Subject::Tokens),
     ("trees", Subject::Trees),
@@ -68,6 +69,7 @@ const NAMES: [(&str, Subject); 33] = [
     ("fits", Subject::Fits),
     ("listings", Subject::Listings),
     ("formulas", Subject::Formulas),
+    ("narrow-formulas", Subject::NarrowFormulas),
     ("counters", Subject::Counters),
     ("line-texts", Subject::LineTexts),
     ("refutations", Subject::Refutations),
@@ -124,6 +126,7 @@ pub(crate) fn answer(alloc: Global, subject: Subject, input: &[u8]) -> Result<Ve
         Subject::Fits => schedules::fits(alloc, input),
         Subject::Listings => schedules::listings(alloc, input),
         Subject::Formulas => schedules::formulas(alloc, input),
+        Subject::NarrowFormulas => schedules::narrow_formulas(alloc, input),
         Subject::Counters => clauses::counters(alloc, input),
         Subject::LineTexts => clauses::line_texts(alloc, input),
         Subject::Refutations => clauses::refutations(alloc, input),
