@@ -1,9 +1,14 @@
 -- What holds of a claim whose tests all hold.
-use Rattle.std.proofs.Common.{◌≡◌, ◌≢◌, ℕ, ◌-◌, ◌<◌, ◌≤◌, ◌^◌, List, length, Option, Some, None, Result, Ok, Err, refl, sym, ◌∙◌, arith}
+use Rattle.std.proofs.Common.{◌≡◌, ◌≢◌, ℕ, ◌-◌, ◌<◌, ◌≤◌, ◌^◌, List, length, Option, Some, None, Result, Ok, Err, refl, sym, ap, subst, ◌∙◌, arith}
 use Rattle.std.specs.Prelude.{IfOk, IfSome, IfNone, MatchOption}
+use Rattle.cnf_core.specs.Formula.{Formula}
 use Rattle.cnf_core.specs.declared.line.Lines.{Lines}
-use Rattle.launch_graph.specs.declared.graphs.LaunchGraph.{LaunchGraph}
+use Rattle.cycle_encoding.specs.CycleFormula.{Scope, listed_in}
+use Rattle.cycle_encoding.specs.Encodings.{IsScope}
+use Rattle.cycle_encoding.specs.declared.encodings.Encoding.{Encoding}
+use Rattle.graph_meaning.specs.declared.graphs.LaunchGraph.{LaunchGraph}
 use Rattle.machine_table.specs.declared.tables.Table.{Table}
+use Rattle.order_encoding.specs.WholeFormula.{AreFormulas, formula_in}
 use Rattle.schedule_meaning.specs.Fits.{Fits}
 use Rattle.schedule_meaning.specs.declared.schedules.Launch.{Launch}
 use Rattle.answer_texts.specs.AnswerLines.{refuted_below}
@@ -11,10 +16,10 @@ use Rattle.answer_texts.specs.WellFormed.{HasRefutation, nothing_less, refuted, 
 use Rattle.answer_texts.specs.declared.answers.Claim.{Claim}
 use Rattle.answer_texts.specs.declared.answers.Claim.TheVariants.{NoWorld, Scheduled, Missing, SpentConflicts, SpentSize}
 use Rattle.answer_texts.specs.declared.answers.Claimed.{Claimed}
-use Rattle.answer_check.specs.Soundness.{DoesAsClaimed, NoneFitsBelow, IsTrueClaim}
+use Rattle.answer_check.specs.Soundness.{DoesAsClaimed, NoneFitsBelow, IsSound, IsTrueClaim}
 use Rattle.answer_check.specs.Verdicts.{IsFitting, HasRightSize, HasLemmas, IsOutcome, IsVerdict, seen, tested}
 use Rattle.answer_check.specs.declared.verdicts.Verdict.{Verdict}
-use Rattle.answer_check.specs.declared.verdicts.Verdict.TheVariants.{Seen}
+use Rattle.answer_check.specs.declared.verdicts.Verdict.TheVariants.{Holds, Seen}
 
 pub few_lines : (below : ℕ) (refute : Option Lines) → HasRefutation below refute
     → IfSome refute (λ (l : Lines). length l.lines < 2 ^ 29)
@@ -40,21 +45,53 @@ module _ (table : Table) (g : LaunchGraph) where
   none_below longer _ _ (refuted {k} few some) none =
       λ j ls less fit. none ls (longer j (k - 1) ls (omega (arith, less)) fit)
 
-  pub true_claim : (claim : Claim) → ((class a b : ℕ) → claim ≢ NoWorld class a b) → IsFitting table g claim
-      → DoesAsClaimed table g claim → HasRightSize table g claim → HasLemmas table g claim
-      → NoneFitsBelow table g (refuted_below claim) → IsTrueClaim table g claim
-  true_claim (NoWorld class a b) world fits does size lemmas none = world class a b refl
-  true_claim (Scheduled k schedule words places) world fits does size lemmas none = (fits, does, none)
-  true_claim (Missing k) world fits does size lemmas none = none
-  true_claim (SpentConflicts k lines) world fits does size lemmas none = (none, lemmas)
-  true_claim (SpentSize k vars clauses) world fits does size lemmas none = (none, size)
+  pub true_claim : (clauses_for : ℕ → Formula) (claim : Claim) → ((class a b : ℕ) → claim ≢ NoWorld class a b)
+      → IsFitting table g claim → DoesAsClaimed table g claim → HasRightSize clauses_for claim
+      → HasLemmas clauses_for claim → NoneFitsBelow table g (refuted_below claim)
+      → IsTrueClaim table g clauses_for claim
+  true_claim f (NoWorld class a b) world fits does size lemmas none = world class a b refl
+  true_claim f (Scheduled k schedule words places) world fits does size lemmas none = (fits, does, none)
+  true_claim f (Missing k) world fits does size lemmas none = none
+  true_claim f (SpentConflicts k lines) world fits does size lemmas none = (none, lemmas)
+  true_claim f (SpentSize k vars clauses) world fits does size lemmas none = (none, size)
 
 -- a goal without a graph has no world
-pub seen_where : (table : Table) (c : Claimed) → IsClaimed c → c.graph ≡ None → IsVerdict table c Seen
-seen_where table c (no_world is graph refute) none = seen is refl
-seen_where table c (worked world graph formed fits refute) none = absurd (let e = sym graph ∙ none in cc)
+pub seen_where : (e : Encoding) (table : Table) (c : Claimed) → IsClaimed c → c.graph ≡ None → IsVerdict e table c Seen
+seen_where e table c (no_world is graph refute) none = seen is refl
+seen_where e table c (worked world graph formed fits refute) none = absurd (let e = sym graph ∙ none in cc)
 
-pub tested_where : {E : Type 0} (table : Table) (c : Claimed) (g : LaunchGraph) → c.graph ≡ Some g
-    → (r : Result Verdict E) → IfOk r (IsOutcome table g c) → IfOk r (IsVerdict table c)
-tested_where table c g is (Ok v) h = tested is h
-tested_where table c g is (Err e) h = tt
+-- the clauses over what a scope gives variables are those of its encoding
+pub formulas_in : (e : Encoding) (g : LaunchGraph) (table : Table) (s : Scope) → IsScope e g table s
+    → AreFormulas e g table (formula_in s g table)
+formulas_in e g table s is = λ k few. record { lists = listed_in g table k s; listed = is.lists k few; is = refl }
+
+-- the same of a graph that is the one over which the scope is
+pub formulas_at : (e : Encoding) (g h : LaunchGraph) (table : Table) (s : Scope) → h ≡ g → IsScope e h table s
+    → AreFormulas e g table (formula_in s h table)
+formulas_at e g h table s same is =
+    subst (λ (x : LaunchGraph). AreFormulas e x table (formula_in s h table)) same (formulas_in e h table s is)
+
+pub tested_where : {E : Type 0} (e : Encoding) (table : Table) (c : Claimed) (g h : LaunchGraph) (s : Scope)
+    → c.graph ≡ Some g → h ≡ g → IsScope e h table s → (r : Result Verdict E)
+    → IfOk r (IsOutcome table g (formula_in s h table) c) → IfOk r (IsVerdict e table c)
+tested_where e table c g h s is same of (Ok v) o = tested is (formulas_at e g h table s same of) o
+tested_where e table c g h s is same of (Err x) o = tt
+
+pub sound_where : {E : Type 0} (e : Encoding) (table : Table) (c : Claimed) (g h : LaunchGraph) (s : Scope)
+    → c.graph ≡ Some g → h ≡ g → IsScope e h table s → (r : Result Verdict E)
+    → IfOk r (λ v. v ≡ Holds → IsTrueClaim table g (formula_in s h table) c.claim)
+    → IfOk r (λ v. v ≡ Holds → IsSound e table c)
+sound_where e table c g h s is same of (Ok v) o =
+    λ holds. record {
+      graph = g;
+      printed = is;
+      clauses_for = formula_in s h table;
+      formulas = formulas_at e g h table s same of;
+      claim = o holds;
+    }
+sound_where e table c g h s is same of (Err x) o = tt
+
+-- the scope's own encoding is the one that was asked for
+pub own_scope : (e : Encoding) (g : LaunchGraph) (table : Table) (s : Scope) → IsScope e g table s
+    → IsScope s.encoding g table s
+own_scope e g table s is = subst (λ (x : Encoding). IsScope x g table s) (sym is.encoding) is

@@ -7,6 +7,7 @@ use Rattle.std.proofs.lemmas.List.Concat.{flat_map-cons}
 use Rattle.std.proofs.lemmas.List.Folds.{list_any-append}
 use Rattle.std.proofs.lemmas.Grind.{flat_map-append}
 use Rattle.answer_texts.specs.declared.answers.Claimed.{Claimed}
+use Rattle.cycle_encoding.specs.declared.encodings.Encoding.{Encoding}
 use Rattle.machine_table.specs.declared.tables.Table.{Table}
 use Rattle.text_core.specs.LineTexts.{Words, line_text, lines_text}
 use Rattle.answer_check.specs.Reports.{IsJudged, IsCheckReportOn, is_rejection, verdict_lines, verdict_words}
@@ -38,14 +39,14 @@ or_false false true = refl
 or_false false false = refl
 
 -- the report on goals, after one more
-pub reported : (table : Table) (goals : List Claimed) (bytes new : List ℕ) (before after : Bool) (c : Claimed)
-    (v : Verdict) → IsCheckReportOn table goals bytes before → IsJudged table c v → new ≡ bytes ++ line_text (verdict_words c v)
-    → after ≡ (before || is_rejection v) → IsCheckReportOn table (goals ++ c ∷ []) new after
-reported table goals bytes new before after c v so_far judged printed told = record {
+pub reported : (e : Encoding) (table : Table) (goals : List Claimed) (bytes new : List ℕ) (before after : Bool) (c : Claimed)
+    (v : Verdict) → IsCheckReportOn e table goals bytes before → IsJudged e table c v → new ≡ bytes ++ line_text (verdict_words c v)
+    → after ≡ (before || is_rejection v) → IsCheckReportOn e table (goals ++ c ∷ []) new after
+reported e table goals bytes new before after c v so_far judged printed told = record {
   verdicts = so_far.verdicts ++ v ∷ [];
-  judged = one_more (IsJudged table) goals so_far.verdicts c v so_far.judged judged;
+  judged = one_more (IsJudged e table) goals so_far.verdicts c v so_far.judged judged;
   is = printed ∙ ap (λ t. t ++ line_text (verdict_words c v)) so_far.is
-      ∙ sym (ap lines_text (more_lines (IsJudged table) goals so_far.verdicts c v so_far.judged)
+      ∙ sym (ap lines_text (more_lines (IsJudged e table) goals so_far.verdicts c v so_far.judged)
       ∙ last_line (verdict_lines goals so_far.verdicts) (verdict_words c v));
   rejects = told ∙ ap (λ b. b || is_rejection v) so_far.rejects
       ∙ sym (list_any-append is_rejection so_far.verdicts (v ∷ [])
@@ -60,12 +61,12 @@ pub rejected_now : (before after b : Bool) → before ≡ false → after ≡ b 
 rejected_now before after b was is = is ∙ sym (ap (λ x. x || b) was)
 
 -- the next goal, as it is taken from all of them
-pub reported_next : (table : Table) (goals shown : List Claimed) (i : ℕ) (bytes new : List ℕ) (before after : Bool)
+pub reported_next : (e : Encoding) (table : Table) (goals shown : List Claimed) (i : ℕ) (bytes new : List ℕ) (before after : Bool)
     (c : Claimed) (v : Verdict) → shown ≡ goals → i < length shown → c ≡ get_or shown i c
-    → IsCheckReportOn table (take i goals) bytes before → IsJudged table c v → new ≡ bytes ++ line_text (verdict_words c v)
-    → after ≡ (before || is_rejection v) → IsCheckReportOn table (take (i + 1) goals) new after
-reported_next table goals shown i bytes new before after c v same lt is so_far judged printed told =
-    subst (λ (gs : List Claimed). IsCheckReportOn table gs new after)
+    → IsCheckReportOn e table (take i goals) bytes before → IsJudged e table c v → new ≡ bytes ++ line_text (verdict_words c v)
+    → after ≡ (before || is_rejection v) → IsCheckReportOn e table (take (i + 1) goals) new after
+reported_next e table goals shown i bytes new before after c v same lt is so_far judged printed told =
+    subst (λ (gs : List Claimed). IsCheckReportOn e table gs new after)
     (ap (λ (x : Claimed). take i goals ++ x ∷ []) (subst (λ (gs : List Claimed). c ≡ get_or gs i c) same is)
     ∙ sym (take_more goals i c (subst (λ (gs : List Claimed). i < length gs) same lt)))
-    (reported table (take i goals) bytes new before after c v so_far judged printed told)
+    (reported e table (take i goals) bytes new before after c v so_far judged printed told)

@@ -1,7 +1,7 @@
 -- The words and places of a listing, compared with others.
 use Rattle.std.proofs.Common.{◌≡◌, ℕ, List, map, sym, ap, subst, ◌∙◌}
 use Rattle.alpha_encode.specs.Formats.{encoded}
-use Rattle.launch_graph.specs.declared.graphs.LaunchGraph.{LaunchGraph}
+use Rattle.graph_meaning.specs.declared.graphs.LaunchGraph.{LaunchGraph}
 use Rattle.machine_table.specs.declared.tables.Table.{Table}
 use Rattle.register_assign.specs.Assigned.{IsTheListing}
 use Rattle.register_assign.specs.declared.listings.Item.{Item}

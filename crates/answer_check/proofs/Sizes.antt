@@ -1,36 +1,35 @@
 -- The counts of the clauses that a claim speaks of.
 use Rattle.std.proofs.Common.{◌≡◌, ℕ, length, Option, Some, None, Result, Ok, Err, sym, subst, IsTrue, refl}
 use Rattle.std.specs.Prelude.{IfOk, MatchOption, is_some}
+use Rattle.cnf_core.specs.Formula.{Formula}
 use Rattle.cnf_core.specs.declared.line.Lines.{Lines}
 use Rattle.cycle_encoding.specs.Plans.{IsTooLarge, PassesLimit}
 use Rattle.cycle_encoding.specs.declared.counts.Sizes.{Sizes}
-use Rattle.launch_graph.specs.declared.graphs.LaunchGraph.{LaunchGraph}
-use Rattle.machine_table.specs.declared.tables.Table.{Table}
 use Rattle.answer_texts.specs.AnswerLines.{refuted_below, refuted_cycles}
 use Rattle.answer_texts.specs.declared.answers.Claim.{Claim}
 use Rattle.answer_texts.specs.declared.answers.Claim.TheVariants.{SpentConflicts, SpentSize}
 use Rattle.answer_texts.specs.declared.answers.Claimed.{Claimed}
-use Rattle.answer_check.specs.Verdicts.{clauses_for, HasRightSize, IsWithinBelow}
+use Rattle.answer_check.specs.Verdicts.{HasRightSize, IsWithinBelow}
 
-module _ (table : Table) (g : LaunchGraph) where
+module _ (clauses_for : ℕ → Formula) where
   -- the counts for k cycles where one passes its limit
   abbrev pub Large : ℕ → Option Sizes → Type 0
   Large k found =
-      MatchOption found (¬ IsTooLarge (clauses_for table g k))
-      (λ (s : Sizes). PassesLimit (clauses_for table g k) s.vars s.clauses)
+      MatchOption found (¬ IsTooLarge (clauses_for k))
+      (λ (s : Sizes). PassesLimit (clauses_for k) s.vars s.clauses)
 
   abbrev pub LargeBelow : Claimed → Option Sizes → Type 0
   LargeBelow c found =
-      MatchOption found (IsWithinBelow table g c)
+      MatchOption found (IsWithinBelow clauses_for c)
       (λ (s : Sizes). IsTrue (is_some c.refute)
-      × PassesLimit (clauses_for table g (refuted_cycles c.claim)) s.vars s.clauses)
+      × PassesLimit (clauses_for (refuted_cycles c.claim)) s.vars s.clauses)
 
   large : (c : Claimed) (k : ℕ) (lines : Lines) → k ≡ refuted_cycles c.claim → c.refute ≡ Some lines
       → (found : Option Sizes) → Large k found → LargeBelow c found
-  large c k lines of is None h = λ there. subst (λ n. ¬ IsTooLarge (clauses_for table g n)) of h
+  large c k lines of is None h = λ there. subst (λ n. ¬ IsTooLarge (clauses_for n)) of h
   large c k lines of is (Some s) h = (
     subst (λ (r : Option Lines). IsTrue (is_some r)) (sym is) refl,
-    subst (λ n. PassesLimit (clauses_for table g n) s.vars s.clauses) of h,
+    subst (λ n. PassesLimit (clauses_for n) s.vars s.clauses) of h,
   )
 
   pub large_below_is : {E : Type 0} (c : Claimed) (k : ℕ) (lines : Lines) → k ≡ refuted_cycles c.claim
@@ -40,9 +39,9 @@ module _ (table : Table) (g : LaunchGraph) where
 
   abbrev pub WrongSize : Claim → Option Sizes → Type 0
   WrongSize claim found =
-      MatchOption found (HasRightSize table g claim)
-      (λ (s : Sizes). (¬ HasRightSize table g claim) × (s.vars ≡ (clauses_for table g (refuted_below claim)).vars)
-      × (s.clauses ≡ length (clauses_for table g (refuted_below claim)).clauses))
+      MatchOption found (HasRightSize clauses_for claim)
+      (λ (s : Sizes). (¬ HasRightSize clauses_for claim) × (s.vars ≡ (clauses_for (refuted_below claim)).vars)
+      × (s.clauses ≡ length (clauses_for (refuted_below claim)).clauses))
 
   of_lemmas : (k : ℕ) (lemmas : Lines) (found : Option Sizes) → Large k found
       → WrongSize (SpentConflicts k lemmas) found

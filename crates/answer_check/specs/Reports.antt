@@ -1,10 +1,12 @@
 -- The line of each goal, and the report on an answer. Source: this project.
-use Rattle.std.specs.Prelude.{ℕ, ◌≡◌, Bool, true, false, List, [], ◌∷◌, codes, decimal}
+use Rattle.std.specs.Prelude.{ℕ, ◌≡◌, ◌==◌, Bool, true, false, List, [], ◌∷◌, codes, decimal, if◌then◌else◌}
 use Rattle.std.specs.List.{AllZip, list_any}
 use Rattle.answer_texts.specs.declared.answers.AnswerText.{AnswerText}
 use Rattle.answer_texts.specs.declared.answers.Claim.{Claim}
 use Rattle.answer_texts.specs.declared.answers.Claim.TheVariants.{NoWorld, Scheduled, Missing, SpentConflicts, SpentSize}
 use Rattle.answer_texts.specs.declared.answers.Claimed.{Claimed}
+use Rattle.cycle_encoding.specs.declared.encodings.Encoding.{Encoding}
+use Rattle.cycle_encoding.specs.declared.encodings.Encoding.TheVariants.{Wide, Narrow}
 use Rattle.machine_table.specs.declared.tables.Table.{Table}
 use Rattle.text_core.specs.LineTexts.{Words, lines_text}
 use Rattle.answer_check.specs.Soundness.{IsSound}
@@ -44,17 +46,22 @@ verdict_lines [] verdicts = []
 verdict_lines (c ∷ cs) [] = []
 verdict_lines (c ∷ cs) (v ∷ vs) = verdict_words c v ∷ verdict_lines cs vs
 
+-- the encoding that an answer names by its number
+abbrev pub encoding_named : ℕ → Encoding
+encoding_named number = if number == 2 then Narrow else Wide
+
 -- the goal's verdict; and where all tests hold, what is claimed is true
-pub record IsJudged (table : Table) (c : Claimed) (v : Verdict) : Type 0 where
-  pub verdict : IsVerdict table c v
-  pub sound : v ≡ Holds → IsSound table c
+pub record IsJudged (e : Encoding) (table : Table) (c : Claimed) (v : Verdict) : Type 0 where
+  pub verdict : IsVerdict e table c v
+  pub sound : v ≡ Holds → IsSound e table c
 
 -- each goal has its verdict, the bytes are the lines of these in order, and it is told whether some goal is rejected
-pub record IsCheckReportOn (table : Table) (goals : List Claimed) (bytes : List ℕ) (rejected : Bool) : Type 0 where
+pub record IsCheckReportOn (e : Encoding) (table : Table) (goals : List Claimed) (bytes : List ℕ) (rejected : Bool)
+    : Type 0 where
   pub verdicts : List Verdict
-  pub judged : AllZip (IsJudged table) goals verdicts
+  pub judged : AllZip (IsJudged e table) goals verdicts
   pub is : bytes ≡ lines_text (verdict_lines goals verdicts)
   pub rejects : rejected ≡ list_any is_rejection verdicts
 
 abbrev pub IsCheckReport : AnswerText → List ℕ → Bool → Type 0
-IsCheckReport a bytes rejected = IsCheckReportOn a.table a.goals bytes rejected
+IsCheckReport a bytes rejected = IsCheckReportOn (encoding_named a.encoding) a.table a.goals bytes rejected

@@ -3,17 +3,19 @@ use Rattle.std.specs.Prelude.{ℕ, ◌≡◌, ◌+◌, ◌<◌, List, Some}
 use Rattle.answer_texts.specs.declared.answers.Claim.{Claim}
 use Rattle.answer_texts.specs.declared.answers.Claim.TheVariants.{NoWorld, Scheduled, Missing, SpentConflicts, SpentSize}
 use Rattle.answer_texts.specs.declared.answers.Claimed.{Claimed}
+use Rattle.cnf_core.specs.Formula.{Formula}
 use Rattle.cnf_core.specs.Refutation.{AreLemmas}
 use Rattle.cycle_encoding.specs.Plans.{PassesLimit}
-use Rattle.launch_graph.specs.declared.graphs.LaunchGraph.{LaunchGraph}
+use Rattle.cycle_encoding.specs.declared.encodings.Encoding.{Encoding}
+use Rattle.graph_meaning.specs.declared.graphs.LaunchGraph.{LaunchGraph}
 use Rattle.machine_table.specs.declared.tables.Table.{Table}
+use Rattle.order_encoding.specs.WholeFormula.{AreFormulas}
 use Rattle.register_assign.specs.Assigned.{IsTheListing, KeepsWord}
 use Rattle.register_assign.specs.Outcomes.{AreWordsOf}
 use Rattle.register_assign.specs.declared.listings.Item.{Item}
 use Rattle.register_assign.specs.declared.listings.Where.{Where}
 use Rattle.schedule_meaning.specs.Fits.{Fits}
 use Rattle.schedule_meaning.specs.declared.schedules.Launch.{Launch}
-use Rattle.answer_check.specs.Verdicts.{clauses_for}
 
 -- These are the words and places of the launches' listing. Where the graph is proper its instructions keep to the table
 -- in k cycles, and the words do what the graph says.
@@ -32,18 +34,21 @@ DoesAsClaimed table g claim = Unit {0}
 abbrev pub NoneFitsBelow : Table → LaunchGraph → ℕ → Type 0
 NoneFitsBelow table g k = (j : ℕ) (ls : List Launch) → j < k → Fits g table j ls → ⊥
 
-abbrev pub IsTrueClaim : Table → LaunchGraph → Claim → Type 0
-IsTrueClaim table g (NoWorld class a b) = ⊥
-IsTrueClaim table g (Scheduled k schedule words places) =
+-- by the clauses for each number of cycles
+abbrev pub IsTrueClaim : Table → LaunchGraph → (ℕ → Formula) → Claim → Type 0
+IsTrueClaim table g clauses_for (NoWorld class a b) = ⊥
+IsTrueClaim table g clauses_for (Scheduled k schedule words places) =
     Fits g table k schedule.launches × DoesAsListed table g k schedule.launches words places × NoneFitsBelow table g k
-IsTrueClaim table g (Missing k) = NoneFitsBelow table g (k + 1)
-IsTrueClaim table g (SpentConflicts k lemmas) =
-    NoneFitsBelow table g k × AreLemmas (clauses_for table g k) lemmas.lines
-IsTrueClaim table g (SpentSize k vars clauses) =
-    NoneFitsBelow table g k × PassesLimit (clauses_for table g k) vars clauses
+IsTrueClaim table g clauses_for (Missing k) = NoneFitsBelow table g (k + 1)
+IsTrueClaim table g clauses_for (SpentConflicts k lemmas) =
+    NoneFitsBelow table g k × AreLemmas (clauses_for k) lemmas.lines
+IsTrueClaim table g clauses_for (SpentSize k vars clauses) =
+    NoneFitsBelow table g k × PassesLimit (clauses_for k) vars clauses
 
--- what is claimed of the printed graph is true
-pub record IsSound (table : Table) (c : Claimed) : Type 0 where
+-- what is claimed of the printed graph is true, by the clauses of the encoding
+pub record IsSound (e : Encoding) (table : Table) (c : Claimed) : Type 0 where
   pub graph : LaunchGraph
   pub printed : c.graph ≡ Some graph
-  pub claim : IsTrueClaim table graph c.claim
+  pub clauses_for : ℕ → Formula
+  pub formulas : AreFormulas e graph table clauses_for
+  pub claim : IsTrueClaim table graph clauses_for c.claim

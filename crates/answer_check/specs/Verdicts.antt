@@ -8,11 +8,11 @@ use Rattle.answer_texts.specs.declared.answers.Claimed.{Claimed}
 use Rattle.cnf_core.specs.Formula.{Formula}
 use Rattle.cnf_core.specs.Refutation.{Refutes, AreLemmas, IsFirstRefusal, IsEmptyOnlyLast, IsFilled}
 use Rattle.cnf_core.specs.declared.line.Lines.{Lines}
-use Rattle.cycle_encoding.specs.CycleFormula.{wide}
 use Rattle.cycle_encoding.specs.Plans.{IsTooLarge, PassesLimit}
-use Rattle.launch_graph.specs.declared.graphs.LaunchGraph.{LaunchGraph}
+use Rattle.cycle_encoding.specs.declared.encodings.Encoding.{Encoding}
+use Rattle.graph_meaning.specs.declared.graphs.LaunchGraph.{LaunchGraph}
 use Rattle.machine_table.specs.declared.tables.Table.{Table}
-use Rattle.order_encoding.specs.WholeFormula.{whole_formula}
+use Rattle.order_encoding.specs.WholeFormula.{AreFormulas}
 use Rattle.register_assign.specs.Assigned.{IsTheListing}
 use Rattle.register_assign.specs.declared.listings.Item.{Item}
 use Rattle.register_assign.specs.declared.listings.Where.{Where}
@@ -29,13 +29,9 @@ pub record HasListing (g : LaunchGraph) (table : Table) (ls : List Launch) (word
   pub listing : IsTheListing g table ls items places
   pub words_are : words ≡ map (λ a. encoded a.instr) items
 
+-- ---- the tests, in their order; each holds of the claims that it doesn't concern
+
 module _ (table : Table) (g : LaunchGraph) where
-  -- the clauses for k cycles, built from the graph and the table alone
-  abbrev pub clauses_for : ℕ → Formula
-  clauses_for k = whole_formula g table k (wide g table k)
-
-  -- ---- the tests, in their order; each holds of the claims that it doesn't concern
-
   abbrev pub IsFitting : Claim → Type 0
   IsFitting (Scheduled k schedule words places) = Fits g table k schedule.launches
   IsFitting claim = Unit {0}
@@ -44,6 +40,13 @@ module _ (table : Table) (g : LaunchGraph) where
   IsListed (Scheduled k schedule words places) = HasListing g table schedule.launches words places
   IsListed claim = Unit {0}
 
+  -- the first launch that breaks the least broken rule
+  abbrev pub IsBroken : Claim → ℕ → ℕ → Type 0
+  IsBroken (Scheduled k schedule words places) launch rule = IsFirstBroken g table k schedule.launches launch rule
+  IsBroken claim launch rule = ⊥
+
+-- the clauses for each number of cycles
+module _ (clauses_for : ℕ → Formula) where
   -- the clauses that lines are to refute are within the limits
   abbrev pub IsWithinBelow : Claimed → Type 0
   IsWithinBelow c = IsTrue (is_some c.refute) → ¬ IsTooLarge (clauses_for (refuted_cycles c.claim))
@@ -61,12 +64,7 @@ module _ (table : Table) (g : LaunchGraph) where
   HasLemmas (SpentConflicts k lemmas) = AreLemmas (clauses_for k) lemmas.lines
   HasLemmas claim = Unit {0}
 
-  -- ---- how each test fails
-
-  -- the first launch that breaks the least broken rule
-  abbrev pub IsBroken : Claim → ℕ → ℕ → Type 0
-  IsBroken (Scheduled k schedule words places) launch rule = IsFirstBroken g table k schedule.launches launch rule
-  IsBroken claim launch rule = ⊥
+  -- ---- how these fail
 
   -- The true counts of clauses whose size is wrong: of those that lines are to refute; or, where these are within the
   -- limits, of those that the claim itself speaks of.
@@ -89,22 +87,29 @@ module _ (table : Table) (g : LaunchGraph) where
       (k ≡ n) × IsFirstRefusal IsFilled (clauses_for n) lemmas.lines line why
   HasRefusedLemma claim k line why = ⊥
 
-  -- ---- the first test that fails, and how; or that all hold
+-- ---- the first test that fails, and how; or that all hold
 
+module _ (table : Table) (g : LaunchGraph) (clauses_for : ℕ → Formula) where
   abbrev pub IsOutcome : Claimed → Verdict → Type 0
   IsOutcome c Seen = ⊥
-  IsOutcome c (Broken launch rule) = IsBroken c.claim launch rule
-  IsOutcome c Listing = IsFitting c.claim × (¬ IsListed c.claim)
-  IsOutcome c (Size vars clauses) = IsFitting c.claim × IsListed c.claim × HasWrongSize c vars clauses
+  IsOutcome c (Broken launch rule) = IsBroken table g c.claim launch rule
+  IsOutcome c Listing = IsFitting table g c.claim × (¬ IsListed table g c.claim)
+  IsOutcome c (Size vars clauses) =
+      IsFitting table g c.claim × IsListed table g c.claim × HasWrongSize clauses_for c vars clauses
   IsOutcome c (Refutation k line why) =
-      IsFitting c.claim × IsListed c.claim × IsWithinBelow c × HasRightSize c.claim × IsRefusedBelow c k line why
+      IsFitting table g c.claim × IsListed table g c.claim × IsWithinBelow clauses_for c
+      × HasRightSize clauses_for c.claim × IsRefusedBelow clauses_for c k line why
   IsOutcome c (Lemmas k line why) =
-      IsFitting c.claim × IsListed c.claim × IsWithinBelow c × HasRightSize c.claim × HasRefutingLines c
-      × HasRefusedLemma c.claim k line why
+      IsFitting table g c.claim × IsListed table g c.claim × IsWithinBelow clauses_for c
+      × HasRightSize clauses_for c.claim × HasRefutingLines clauses_for c
+      × HasRefusedLemma clauses_for c.claim k line why
   IsOutcome c Holds =
-      IsFitting c.claim × IsListed c.claim × IsWithinBelow c × HasRightSize c.claim × HasRefutingLines c × HasLemmas c.claim
+      IsFitting table g c.claim × IsListed table g c.claim × IsWithinBelow clauses_for c
+      × HasRightSize clauses_for c.claim × HasRefutingLines clauses_for c × HasLemmas clauses_for c.claim
 
--- the verdict on a claimed goal: one without a world is seen and isn't tested, each other one is tested
-pub data IsVerdict (table : Table) (c : Claimed) (v : Verdict) : Type 0 where
-  seen : {class a b : ℕ} → c.claim ≡ NoWorld class a b → v ≡ Seen → IsVerdict table c v
-  tested : {g : LaunchGraph} → c.graph ≡ Some g → IsOutcome table g c v → IsVerdict table c v
+-- The verdict on a claimed goal: one without a world is seen and isn't tested, each other one is tested by the clauses of
+-- the encoding, built from the graph and the table alone.
+pub data IsVerdict (e : Encoding) (table : Table) (c : Claimed) (v : Verdict) : Type 0 where
+  seen : {class a b : ℕ} → c.claim ≡ NoWorld class a b → v ≡ Seen → IsVerdict e table c v
+  tested : {g : LaunchGraph} {clauses_for : ℕ → Formula} → c.graph ≡ Some g → AreFormulas e g table clauses_for
+      → IsOutcome table g clauses_for c v → IsVerdict e table c v

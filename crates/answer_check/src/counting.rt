@@ -1,18 +1,18 @@
 // For how many cycles the clauses are that a claim speaks of, and how many they are, before any is built.
 ghost use Rattle.std.specs.Prelude.{◌≡◌, ◌↔◌, ◌≤◌, ◌<◌, ◌⊎◌, length, IfOk, IsTrue, is_some, MatchOption};
-ghost use Rattle.answer_check.specs.Verdicts.{HasRightSize, HasWrongSize, IsWithinBelow, clauses_for};
+ghost use Rattle.answer_check.specs.Verdicts.{HasRightSize, HasWrongSize, IsWithinBelow};
 ghost use Rattle.answer_texts.specs.AnswerLines as format;
 ghost use Rattle.answer_texts.specs.WellFormed.{FitsClaim};
 ghost use Rattle.cycle_encoding.specs.Plans.{IsTooLarge, PassesLimit};
-ghost use Rattle.launch_graph.specs.WellFormed.{IsLaunchGraph};
+ghost use Rattle.graph_meaning.specs.WellFormed.{IsLaunchGraph};
 ghost use Rattle.machine_table.specs.Tables.{IsTable};
+ghost use Rattle.order_encoding.specs.WholeFormula.{formula_in};
 
 use answer_texts::{Claim, Claimed};
-use cycle_encoding::Sizes;
+use cycle_encoding::{Facts, Scope, Sizes};
 use items::NoMemory;
-use launch_graph::LaunchGraph;
 use machine_table::Table;
-use order_encoding::{count_clauses, pass_limit};
+use order_encoding::{count_in, pass_limit};
 use std::alloc::Global;
 
 /// A claim says that no schedule fits in fewer cycles than these.
@@ -49,17 +49,18 @@ fn is_large(sizes: Sizes) -> bool
 /// The counts of the clauses for k cycles, where one of them passes its limit.
 fn large_counts(
     alloc: Global,
-    graph: &LaunchGraph,
+    facts: &Facts,
     table: &Table,
+    scope: &Scope,
     k: u32,
 ) -> Result<Option<Sizes>, NoMemory>
     requires cycles { k ≤ 24 }
     requires table { IsTable table.now }
-    requires graph { IsLaunchGraph graph.now }
-    ensures { IfOk result (λ found. MatchOption found (¬ IsTooLarge (clauses_for table.now graph.now k))
-        (λ s. PassesLimit (clauses_for table.now graph.now k) s.vars s.clauses)) }
+    requires graph { IsLaunchGraph facts.now }
+    ensures { IfOk result (λ found. MatchOption found (¬ IsTooLarge (formula_in scope.now facts.now table.now k))
+        (λ s. PassesLimit (formula_in scope.now facts.now table.now k) s.vars s.clauses)) }
 {
-    let sizes = count_clauses(alloc, graph, table, k)?;
+    let sizes = count_in(alloc, facts, table, scope, k)?;
     if is_large(sizes) {
         Ok(Some(sizes))
     } else {
@@ -70,21 +71,23 @@ fn large_counts(
 /// The true counts of the clauses for k cycles, where the printed ones aren't these, or none passes its limit.
 fn untrue_counts(
     alloc: Global,
-    graph: &LaunchGraph,
+    facts: &Facts,
     table: &Table,
+    scope: &Scope,
     k: u32,
     printed: Sizes,
 ) -> Result<Option<Sizes>, NoMemory>
     requires cycles { k ≤ 24 }
     requires table { IsTable table.now }
-    requires graph { IsLaunchGraph graph.now }
+    requires graph { IsLaunchGraph facts.now }
     ensures { IfOk result
-        (λ found. MatchOption found (PassesLimit (clauses_for table.now graph.now k) printed.vars printed.clauses)
-        (λ s. (¬ PassesLimit (clauses_for table.now graph.now k) printed.vars printed.clauses)
-        × (s.vars ≡ (clauses_for table.now graph.now k).vars)
-        × (s.clauses ≡ length (clauses_for table.now graph.now k).clauses))) }
+        (λ found. MatchOption found
+        (PassesLimit (formula_in scope.now facts.now table.now k) printed.vars printed.clauses)
+        (λ s. (¬ PassesLimit (formula_in scope.now facts.now table.now k) printed.vars printed.clauses)
+        × (s.vars ≡ (formula_in scope.now facts.now table.now k).vars)
+        × (s.clauses ≡ length (formula_in scope.now facts.now table.now k).clauses))) }
 {
-    let sizes = count_clauses(alloc, graph, table, k)?;
+    let sizes = count_in(alloc, facts, table, scope, k)?;
     if !is_large(sizes) {
         return Ok(Some(sizes));
     }
@@ -100,46 +103,51 @@ fn untrue_counts(
 /// The counts of the clauses that lines are to refute, where one of them passes its limit.
 fn large_below(
     alloc: Global,
-    graph: &LaunchGraph,
+    facts: &Facts,
     table: &Table,
+    scope: &Scope,
     goal: &Claimed,
 ) -> Result<Option<Sizes>, NoMemory>
     requires claim { FitsClaim goal.now.claim }
     requires table { IsTable table.now }
-    requires graph { IsLaunchGraph graph.now }
-    ensures { IfOk result (λ found. MatchOption found (IsWithinBelow table.now graph.now goal.now)
+    requires graph { IsLaunchGraph facts.now }
+    ensures { IfOk result (λ found. MatchOption found
+        (IsWithinBelow (formula_in scope.now facts.now table.now) goal.now)
         (λ s. IsTrue (is_some goal.now.refute)
-        × PassesLimit (clauses_for table.now graph.now (format.refuted_cycles goal.now.claim)) s.vars s.clauses)) }
+        × PassesLimit (formula_in scope.now facts.now table.now
+        (format.refuted_cycles goal.now.claim)) s.vars s.clauses)) }
 {
     match &goal.refute {
         None => Ok(None),
-        Some(_) => large_counts(alloc, graph, table, refuted_cycles(&goal.claim)),
+        Some(_) => large_counts(alloc, facts, table, scope, refuted_cycles(&goal.claim)),
     }
 }
 
 /// The true counts of the clauses that a claim speaks of, where their size is wrong.
 fn wrong_own_size(
     alloc: Global,
-    graph: &LaunchGraph,
+    facts: &Facts,
     table: &Table,
+    scope: &Scope,
     claim: &Claim,
 ) -> Result<Option<Sizes>, NoMemory>
     requires claim { FitsClaim claim.now }
     requires table { IsTable table.now }
-    requires graph { IsLaunchGraph graph.now }
-    ensures { IfOk result (λ found. MatchOption found (HasRightSize table.now graph.now claim.now)
-        (λ s. (¬ HasRightSize table.now graph.now claim.now)
-        × (s.vars ≡ (clauses_for table.now graph.now (format.refuted_below claim.now)).vars)
-        × (s.clauses ≡ length (clauses_for table.now graph.now (format.refuted_below claim.now)).clauses))) }
+    requires graph { IsLaunchGraph facts.now }
+    ensures { IfOk result (λ found. MatchOption found
+        (HasRightSize (formula_in scope.now facts.now table.now) claim.now)
+        (λ s. (¬ HasRightSize (formula_in scope.now facts.now table.now) claim.now)
+        × (s.vars ≡ (formula_in scope.now facts.now table.now (format.refuted_below claim.now)).vars)
+        × (s.clauses ≡ length (formula_in scope.now facts.now table.now (format.refuted_below claim.now)).clauses))) }
 {
     match claim {
-        Claim::SpentConflicts { k, .. } => large_counts(alloc, graph, table, *k),
+        Claim::SpentConflicts { k, .. } => large_counts(alloc, facts, table, scope, *k),
         Claim::SpentSize { k, vars, clauses } => {
             let printed = Sizes {
                 vars: *vars,
                 clauses: *clauses,
             };
-            untrue_counts(alloc, graph, table, *k, printed)
+            untrue_counts(alloc, facts, table, scope, *k, printed)
         }
         Claim::NoWorld { .. } => Ok(None),
         Claim::Scheduled { .. } => Ok(None),
@@ -151,19 +159,21 @@ fn wrong_own_size(
 /// claim itself speaks of.
 pub(crate) fn wrong_size(
     alloc: Global,
-    graph: &LaunchGraph,
+    facts: &Facts,
     table: &Table,
+    scope: &Scope,
     goal: &Claimed,
 ) -> Result<Option<Sizes>, NoMemory>
     requires claim { FitsClaim goal.now.claim }
     requires table { IsTable table.now }
-    requires graph { IsLaunchGraph graph.now }
+    requires graph { IsLaunchGraph facts.now }
     ensures { IfOk result (λ found. MatchOption found
-        (IsWithinBelow table.now graph.now goal.now × HasRightSize table.now graph.now goal.now.claim)
-        (λ s. HasWrongSize table.now graph.now goal.now s.vars s.clauses)) }
+        (IsWithinBelow (formula_in scope.now facts.now table.now) goal.now
+        × HasRightSize (formula_in scope.now facts.now table.now) goal.now.claim)
+        (λ s. HasWrongSize (formula_in scope.now facts.now table.now) goal.now s.vars s.clauses)) }
 {
-    if let Some(sizes) = large_below(alloc, graph, table, goal)? {
+    if let Some(sizes) = large_below(alloc, facts, table, scope, goal)? {
         return Ok(Some(sizes));
     }
-    wrong_own_size(alloc, graph, table, &goal.claim)
+    wrong_own_size(alloc, facts, table, scope, &goal.claim)
 }

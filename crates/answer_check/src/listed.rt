@@ -3,13 +3,13 @@ ghost use Rattle.std.specs.Prelude.{◌≡◌, ◌↔◌, ◌≤◌, IfOk, IfErr
 ghost use Rattle.answer_check.specs.Soundness.{DoesAsClaimed, DoesAsListed};
 ghost use Rattle.answer_check.specs.Verdicts.{HasListing, IsBroken, IsFitting, IsListed};
 ghost use Rattle.answer_texts.specs.WellFormed.{FitsClaim};
-ghost use Rattle.launch_graph.specs.WellFormed.{IsLaunchGraph};
+ghost use Rattle.graph_meaning.specs.WellFormed.{IsLaunchGraph};
 ghost use Rattle.machine_table.specs.Tables.{IsTable};
 ghost use Rattle.schedule_meaning.specs.Fits.{Fits};
 
 use answer_texts::Claim;
+use graph_meaning::LaunchGraph;
 use items::NoMemory;
-use launch_graph::LaunchGraph;
 use machine_table::Table;
 use register_assign::{Where, assign, words_of};
 use schedule_meaning::{Broken, Schedule, fits};

@@ -1,12 +1,13 @@
 // The line of each goal, and the report on a whole answer.
 ghost use Rattle.std.specs.Prelude.{◌≡◌, ◌++◌, ◌∷◌, [], IfOk, OnOk, codes, decimal, map};
-ghost use Rattle.answer_check.specs.Reports.{IsCheckReport, claim_words, verdict_words};
+ghost use Rattle.answer_check.specs.Reports.{IsCheckReport, claim_words, encoding_named, verdict_words};
 ghost use Rattle.answer_check.specs.Verdicts.{IsVerdict};
 ghost use Rattle.answer_texts.specs.WellFormed.{IsAnswer};
 ghost use Rattle.text_core.specs.LineTexts.{line_text};
 
 use crate::{Checked, Verdict, check_goal};
 use answer_texts::{AnswerText, Claim, Claimed, put, put_number, put_word};
+use cycle_encoding::Encoding;
 use items::NoMemory;
 use std::alloc::Global;
 
@@ -67,6 +68,17 @@ fn put_verdict(text: &mut Vec<u8>, goal: &Claimed, verdict: Verdict) -> Result<(
     }
 }
 
+/// The encoding that an answer names by its number.
+fn encoding_named(number: u8) -> Encoding
+    ensures { result ≡ encoding_named number }
+{
+    if number == 2 {
+        Encoding::Narrow
+    } else {
+        Encoding::Wide
+    }
+}
+
 /// Tests what an answer claims of its goals, one after another: a line for each, and whether some claim is rejected.
 pub fn check_answer(alloc: Global, answer: &AnswerText) -> Result<Checked, NoMemory>
     requires { IsAnswer answer.now }
@@ -75,7 +87,8 @@ pub fn check_answer(alloc: Global, answer: &AnswerText) -> Result<Checked, NoMem
     let mut bytes = Vec::new(alloc);
     let mut rejected = false;
     for goal in answer.goals.as_slice() {
-        let verdict = check_goal(alloc, &answer.table, goal)?;
+        let encoding = encoding_named(answer.encoding);
+        let verdict = check_goal(alloc, encoding, &answer.table, goal)?;
         put_verdict(&mut bytes, goal, verdict)?;
         rejected = rejected || verdict.is_rejection();
     }

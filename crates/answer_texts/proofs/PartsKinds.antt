@@ -5,7 +5,7 @@ use Rattle.machine_table.specs.declared.tables.Slot.{Slot}
 use Rattle.saturation.specs.declared.rounds.Stop.{Stop}
 use Rattle.saturation.specs.declared.rounds.Stop.TheVariants.{Quiet, Rounds, Full}
 use Rattle.text_core.specs.LineTexts.{Words}
-use Rattle.answer_texts.specs.AnswerLines.{stop_name, rounds_words, noworld_words, scheduled_words, none_words, conflicts_words, size_words, counted_words, cross_words, goal_words, built_in_words, own_words}
+use Rattle.answer_texts.specs.AnswerLines.{encoding_words, stop_name, rounds_words, noworld_words, scheduled_words, none_words, conflicts_words, size_words, counted_words, cross_words, goal_words, built_in_words, own_words}
 use Rattle.answer_texts.specs.AnswerParts.{IsVersion, IsEncoding, IsTableLine, IsCross, IsCount, IsClaimOf, IsClaimLine, IsGoalName, IsEnd, IsBodyLine}
 use Rattle.answer_texts.specs.declared.parts.BodyLine.{BodyLine}
 use Rattle.answer_texts.specs.declared.parts.BodyLine.TheVariants as bodies
@@ -26,7 +26,10 @@ pub version_once : (words : Words) (x y : ℕ) → IsVersion words x → IsVersi
 version_once words x y a b = a.known ∙ sym b.known
 
 pub encoding_once : (words : Words) (x y : ℕ) → IsEncoding words x → IsEncoding words y → x ≡ y
-encoding_once words x y a b = a.known ∙ sym b.known
+encoding_once words x y a b =
+    let low = a.known.1 in
+    let less = b.known.1 in
+    number_same 1 x y (encoding_words x) (encoding_words y) (omega (arith, low)) (omega (arith, less)) (sym a.is ∙ b.is) refl refl
 
 pub table_line_once : (words : Words) (x y : TableLine) → IsTableLine words x → IsTableLine words y → x ≡ y
 table_line_once words tables.BuiltIn tables.BuiltIn a b = refl

@@ -7,7 +7,7 @@ use Rattle.std.proofs.lemmas.List.Elements.{All-nil, All-cons, All-append}
 use Rattle.cnf_core.specs.declared.line.Lines.{Lines}
 use Rattle.launch_graph.specs.GraphLines.{said_row}
 use Rattle.launch_graph.specs.GraphTexts.{IsGraphAt}
-use Rattle.launch_graph.specs.declared.graphs.LaunchGraph.{LaunchGraph}
+use Rattle.graph_meaning.specs.declared.graphs.LaunchGraph.{LaunchGraph}
 use Rattle.machine_table.specs.Tables.{IsTable, ev6, slot_of}
 use Rattle.machine_table.specs.declared.tables.Slot.{Slot}
 use Rattle.machine_table.specs.declared.tables.Table.{Table}

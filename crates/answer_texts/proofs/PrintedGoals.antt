@@ -9,8 +9,8 @@ use Rattle.cnf_core.specs.declared.line.Lines.{Lines}
 use Rattle.launch_graph.specs.GraphLines.{graph_lines, said}
 use Rattle.launch_graph.specs.GraphTexts.{EndsGraph, IsGraphAt}
 use Rattle.launch_graph.specs.LineFormats.{words_between, words_from}
-use Rattle.launch_graph.specs.WellFormed.{IsLaunchGraph}
-use Rattle.launch_graph.specs.declared.graphs.LaunchGraph.{LaunchGraph}
+use Rattle.graph_meaning.specs.WellFormed.{IsLaunchGraph}
+use Rattle.graph_meaning.specs.declared.graphs.LaunchGraph.{LaunchGraph}
 use Rattle.machine_table.specs.declared.tables.Table.{Table}
 use Rattle.saturation.specs.declared.rounds.Stop.{Stop}
 use Rattle.text_core.specs.Lines.{Line}

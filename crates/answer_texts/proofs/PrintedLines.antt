@@ -13,8 +13,8 @@ use Rattle.alpha_encode.specs.declared.instructions.Instr.{Instr}
 use Rattle.cnf_core.specs.declared.line.Line.{Line as Row}
 use Rattle.cnf_core.specs.declared.line.Lines.{Lines}
 use Rattle.launch_graph.specs.GraphLines.{graph_lines, said}
-use Rattle.launch_graph.specs.WellFormed.{IsLaunchGraph}
-use Rattle.launch_graph.specs.declared.graphs.LaunchGraph.{LaunchGraph}
+use Rattle.graph_meaning.specs.WellFormed.{IsLaunchGraph}
+use Rattle.graph_meaning.specs.declared.graphs.LaunchGraph.{LaunchGraph}
 use Rattle.machine_table.specs.InstrOrder.{instr_name}
 use Rattle.machine_table.specs.Tables.{IsTable, IsUse}
 use Rattle.machine_table.specs.declared.tables.InstrKind.{InstrKind}
@@ -291,7 +291,7 @@ module _ (laws : WordLaws) where
   pub answer_can : (a : AnswerText) → IsPrintable a → All CanBeLine (answer_lines a)
   answer_can a is =
       let version : a.version < 2 ^ 64 = (let one = is.version in omega (arith, one)) in
-      let encoding : a.encoding < 2 ^ 64 = (let one = is.encoding in omega (arith, one)) in
+      let encoding : a.encoding < 2 ^ 64 = (let two = is.encoding.1 in omega (arith, two)) in
       each_line
       (a_line (number_line (codes "denali") a.version (record { some = λ e. cc; printed = refl }) version)
       (a_line (number_line (codes "encoding") a.encoding (record { some = λ e. cc; printed = refl }) encoding)

@@ -12,7 +12,7 @@ use Rattle.alpha_encode.specs.declared.instructions.Instr.TheVariants.{Operate, 
 use Rattle.cnf_core.specs.declared.line.Line.{Line}
 use Rattle.cnf_core.specs.declared.line.Lines.{Lines}
 use Rattle.launch_graph.specs.GraphLines.{graph_lines, said}
-use Rattle.launch_graph.specs.declared.graphs.LaunchGraph.{LaunchGraph}
+use Rattle.graph_meaning.specs.declared.graphs.LaunchGraph.{LaunchGraph}
 use Rattle.machine_table.specs.InstrOrder.{instr_name}
 use Rattle.machine_table.specs.declared.tables.Slot.{Slot}
 use Rattle.machine_table.specs.declared.tables.Table.{Table}

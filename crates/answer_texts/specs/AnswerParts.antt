@@ -5,7 +5,7 @@ use Rattle.alpha_encode.specs.Decoded.{decoded}
 use Rattle.cnf_core.specs.declared.line.Lines.{Lines}
 use Rattle.launch_graph.specs.GraphTexts.{IsGraphAt}
 use Rattle.launch_graph.specs.LineFaults.{IsFirstGraphFault}
-use Rattle.launch_graph.specs.declared.graphs.LaunchGraph.{LaunchGraph}
+use Rattle.graph_meaning.specs.declared.graphs.LaunchGraph.{LaunchGraph}
 use Rattle.machine_table.specs.Tables.{IsTable, ev6}
 use Rattle.machine_table.specs.declared.tables.Slot.{Slot}
 use Rattle.machine_table.specs.declared.tables.Table.{Table}
@@ -39,7 +39,7 @@ pub record IsVersion (words : Words) (version : ℕ) : Type 0 where
   pub is : words ≡ version_words version
 
 pub record IsEncoding (words : Words) (encoding : ℕ) : Type 0 where
-  pub known : encoding ≡ 1
+  pub known : (1 ≤ encoding) × (encoding ≤ 2)
   pub is : words ≡ encoding_words encoding
 
 -- ---- the table

@@ -2,8 +2,8 @@
 -- format, and what stands beside a claim fits it. Source: this project.
 use Rattle.std.specs.Prelude.{ℕ, zero, suc, ◌≡◌, ◌<◌, ◌≤◌, ◌^◌, List, length, Option, None, Some, All, IsSomeAnd, IsTrue}
 use Rattle.cnf_core.specs.declared.line.Lines.{Lines}
-use Rattle.launch_graph.specs.WellFormed.{IsLaunchGraph}
-use Rattle.launch_graph.specs.declared.graphs.LaunchGraph.{LaunchGraph}
+use Rattle.graph_meaning.specs.WellFormed.{IsLaunchGraph}
+use Rattle.graph_meaning.specs.declared.graphs.LaunchGraph.{LaunchGraph}
 use Rattle.machine_table.specs.Tables.{IsTable, ev6}
 use Rattle.machine_table.specs.declared.tables.Table.{Table}
 use Rattle.refutation_check.specs.LineWords.{IsReadableLine}
@@ -47,7 +47,7 @@ pub data IsPrintableGoal (table : Table) : Claimed → Type 0 where
 
 pub record IsPrintable (a : AnswerText) : Type 0 where
   pub version : a.version ≡ 1
-  pub encoding : a.encoding ≡ 1
+  pub encoding : (1 ≤ a.encoding) × (a.encoding ≤ 2)
   pub table : IsTable a.table
   pub names : All (λ s. IsName s.name) a.table.slots
   pub built_in : IsTrue a.builtin → a.table ≡ ev6

@@ -1,8 +1,8 @@
 -- What holds of each answer that a text says, beside its lines. Source: this project.
 use Rattle.std.specs.Prelude.{ℕ, ◌≡◌, ◌≢◌, ◌<◌, ◌≤◌, ◌^◌, length, Option, None, Some, All, IsTrue}
 use Rattle.cnf_core.specs.declared.line.Lines.{Lines}
-use Rattle.launch_graph.specs.WellFormed.{IsLaunchGraph}
-use Rattle.launch_graph.specs.declared.graphs.LaunchGraph.{LaunchGraph}
+use Rattle.graph_meaning.specs.WellFormed.{IsLaunchGraph}
+use Rattle.graph_meaning.specs.declared.graphs.LaunchGraph.{LaunchGraph}
 use Rattle.machine_table.specs.Tables.{IsTable, ev6}
 use Rattle.answer_texts.specs.AnswerLines.{refuted_below}
 use Rattle.answer_texts.specs.declared.answers.AnswerText.{AnswerText}

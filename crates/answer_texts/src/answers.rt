@@ -1,7 +1,7 @@
 // What the text of an answer says: of each goal its graph, what is claimed of it, and the lines that are to show it.
 use cnf_core::Lines;
+use graph_meaning::LaunchGraph;
 use items::Items;
-use launch_graph::LaunchGraph;
 use machine_table::Table;
 use register_assign::Where;
 use saturation::Stop;

@@ -18,10 +18,11 @@ use saturation::Stop;
 use std::alloc::Global;
 use text_core::{Fault, Kind, Name, TextFault, TextLines, decimal, is_name};
 
-/// The only version and the only encoding so far.
+/// The only version so far.
 const VERSION: u64 = 1;
 
-const ENCODING: u64 = 1;
+/// What the numbers of encodings stay below; they begin with 1.
+const ENCODINGS: u64 = 3;
 
 /// The most cycles that a claim may speak of.
 const MOST_CYCLES: u64 = 24;
@@ -94,8 +95,12 @@ pub(crate) fn encoding_line(text: &TextLines<'_>, line: u32) -> Option<u8>
     if !has_form(text, line, b"encoding", 2) {
         return None;
     }
-    let encoding = decimal(text.word(line, 1))?;
-    if encoding == ENCODING { Some(1) } else { None }
+    let encoding = below(text.word(line, 1), ENCODINGS)?;
+    if encoding == 0 {
+        None
+    } else {
+        Some(encoding as u8)
+    }
 }
 
 /// Whether the table is the built-in one.

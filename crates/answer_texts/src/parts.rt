@@ -1,7 +1,7 @@
 // What single lines of an answer say, where what may stand behind them depends on it.
 use crate::answers::Claim;
 use cnf_core::Lines;
-use launch_graph::LaunchGraph;
+use graph_meaning::LaunchGraph;
 use saturation::Stop;
 
 /// The first line of a table.

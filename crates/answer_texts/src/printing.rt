@@ -1,7 +1,7 @@
 // The text of an answer.
 ghost use Rattle.std.specs.Prelude.{◌≡◌, ◌++◌, IfOk, OnOk};
 ghost use Rattle.text_core.specs.LineTexts.{line_text, lines_text};
-ghost use Rattle.launch_graph.specs.declared.graphs.LaunchGraph.{LaunchGraph as Graph};
+ghost use Rattle.graph_meaning.specs.declared.graphs.LaunchGraph.{LaunchGraph as Graph};
 ghost use Rattle.answer_texts.specs.AnswerLines as format;
 
 use crate::answers::{AnswerText, Claim, Claimed};
@@ -78,7 +78,8 @@ fn put_schedule(
     places: &Items<Where>,
 ) -> Result<(), NoMemory>
     ensures { OnOk result (text.new.items
-        ≡ text.old.items ++ lines_text (format.claim_part table.now (Claim.Scheduled k schedule.now words.now places.now))) }
+        ≡ text.old.items ++ lines_text (format.claim_part table.now
+        (Claim.Scheduled k schedule.now words.now places.now))) }
 {
     put_numbered(text, b"scheduled", u64::from(k))?;
     put_launches(text, table, schedule.launches.as_slice())?;

@@ -1,11 +1,11 @@
-// The layer of clauses: the whole formula of a launch graph's schedules is built, on the table of the 21264.
+// The layer of clauses: the whole narrow formula of a launch graph's schedules is built, on the table of the 21264.
 ghost use Rattle.std.specs.Prelude.{◌<◌, ◌^◌, length};
 
 use crate::texts::Outcome;
-use cycle_encoding::EncodeFault;
+use cycle_encoding::{EncodeFault, Encoding};
 use launch_graph::read;
 use machine_table::{ev6, tables_keep_limits};
-use order_encoding::full;
+use order_encoding::full_as;
 use std::alloc::Global;
 use text_core::lines;
 
@@ -20,7 +20,7 @@ pub(crate) fn count_clauses(alloc: Global, cycles: u32, text: &[u8]) -> Option<O
     let text = lines(alloc, text).ok()?;
     let (graph, _) = read(alloc, &text, 0).ok()?;
     let table = ev6(alloc).ok()?;
-    match full(alloc, &graph, &table, cycles) {
+    match full_as(alloc, Encoding::Narrow, &graph, &table, cycles) {
         Ok(encoded) => Some(Outcome::Formula {
             vars: encoded.cnf.vars(),
             clauses: encoded.cnf.clauses(),

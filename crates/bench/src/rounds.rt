@@ -1,8 +1,8 @@
 // The layer of rounds: the graph of each goal is grown by rounds of matching.
 ghost use Rattle.std.specs.Prelude.{◌≤◌, ◌<◌, ◌^◌, List, length};
-ghost use Rattle.goal_reader.specs.Views.{goal_view, input_view};
-ghost use Rattle.goal_reader.specs.WellFormed.{IsGoal, IsInput};
-ghost use Rattle.goal_reader.specs.declared.scopes.DeclaredOp.{DeclaredOp};
+ghost use Rattle.goal_meaning.specs.Views.{goal_view, input_view};
+ghost use Rattle.goal_meaning.specs.WellFormed.{IsGoal, IsInput};
+ghost use Rattle.goal_meaning.specs.declared.goals.DeclaredOp.{DeclaredOp};
 
 use goal_reader::{Goal, Input, read, read_inputs_are_well_formed};
 use saturation::{Rules, Stop, rules, saturate, start};

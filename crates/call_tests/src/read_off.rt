@@ -1,5 +1,5 @@
 //! Launches that are read off, and the plan's variables.
-use cycle_encoding::{VarPlan, launch_of};
+use cycle_encoding::{Encoding, VarPlan, launch_of};
 use items::Items;
 use schedule_meaning::Launch;
 use schedule_reader::read_off;
@@ -31,7 +31,7 @@ fn reads_true_launches_in_order(rt: HostRuntime) -> Result<(), Fail> {
             row: 9,
         },
     ];
-    let plan = VarPlan::new(2, Items::from_slice(alloc, &launches)?);
+    let plan = VarPlan::new(Encoding::Wide, 2, Items::from_slice(alloc, &launches)?);
     let schedule = read_off(alloc, &plan, &[true, false, true, true, true])?;
     let wanted = [launches[3], launches[2], launches[0]];
     assert_eq!(rt; schedule.launches.as_slice(), wanted.as_slice());

@@ -30,14 +30,14 @@ pub(crate) fn verdicts(alloc: Global, input: &[u8]) -> Result<Vec<u8>, Trouble>
 
 /// A call of the top: its words, a source and a sink.
 #[derive(Drop)]
-struct Call {
+pub(crate) struct Call {
     words: Vec<String>,
     text: Vec<u8>,
-    source_step: usize,
-    source_fails: Vec<u64>,
+    pub(crate) source_step: usize,
+    pub(crate) source_fails: Vec<u64>,
     room: usize,
-    sink_step: usize,
-    sink_fails: Vec<u64>,
+    pub(crate) sink_step: usize,
+    pub(crate) sink_fails: Vec<u64>,
 }
 
 /// What a call has before a case says otherwise.
@@ -101,7 +101,7 @@ fn take_line(alloc: Global, call: &mut Call, line: &[u8]) -> Result<(), Trouble>
 
 /// The call of a case: `words WORD..` or `word WORD`, which may be empty; `source STEP CALL..` and `sink ROOM STEP CALL..`, the
 /// calls that fail; `fill COUNT BYTE`, behind which nothing else is read; and behind a line `text` the text.
-fn call_of(alloc: Global, input: &[u8]) -> Result<Call, Trouble> {
+pub(crate) fn call_of(alloc: Global, input: &[u8]) -> Result<Call, Trouble> {
     let (head, rest) = split_before(input, b"text\n");
     let mut call = plain_call(alloc);
     let mut lines = Lines { rest: head };
@@ -117,7 +117,7 @@ fn call_of(alloc: Global, input: &[u8]) -> Result<Call, Trouble> {
 }
 
 /// What the top call writes, and its status.
-fn replied(alloc: Global, call: Call) -> Result<(Vec<u8>, Status), Trouble> {
+pub(crate) fn replied(alloc: Global, call: Call) -> Result<(Vec<u8>, Status), Trouble> {
     let Call {
         words: owned,
         text,

@@ -9,6 +9,7 @@ mod building;
 mod case_files;
 mod clauses;
 mod equalities;
+mod failing;
 mod machine;
 mod plain_building;
 mod plain_scripts;

@@ -1,6 +1,6 @@
 // Schedules: when they fit, their listings, and the formulas that ask for them.
 ghost use Rattle.std.specs.Prelude.{◌<◌, ◌≤◌, ◌^◌, length, IfOk};
-ghost use Rattle.launch_graph.specs.WellFormed.{IsLaunchGraph};
+ghost use Rattle.graph_meaning.specs.WellFormed.{IsLaunchGraph};
 ghost use Rattle.machine_table.specs.Tables.{IsTable};
 ghost use Rattle.register_assign.specs.Assigned.{HaveWords};
 
@@ -9,8 +9,8 @@ use crate::reports::{Trouble, put, put_number, put_numbers};
 use crate::texts::table_of;
 use cnf_core::Cnf;
 use cycle_encoding::{EncodeFault, Encoded, Encoding, encode, encode_as};
+use graph_meaning::LaunchGraph;
 use items::Items;
-use launch_graph::LaunchGraph;
 use machine_table::Table;
 use order_encoding::{add_guard, add_memory, add_pool, full, full_as};
 use register_assign::{Listing, assign, words_of};

@@ -1,8 +1,8 @@
 // What cases ask: the subjects by their names.
 use crate::reports::Trouble;
 use crate::{
-    answers, clauses, equalities, machine, plain_scripts, rounds, schedules, scripts, streams,
-    texts, tokens, worlds,
+    answers, clauses, equalities, failing, machine, plain_scripts, rounds, schedules, scripts,
+    streams, texts, tokens, worlds,
 };
 use std::alloc::Global;
 
@@ -42,11 +42,12 @@ pub(crate) enum Subject {
     Reads,
     Writes,
     Commands,
+    Failing,
     Solved,
 }
 
 /// The name of each subject.
-const NAMES: [(&str, Subject); 34] = [
+const NAMES: [(&str, Subject); 35] = [
     ("decimals", Subject::Decimals),
     ("tokens", Subject::Tokens),
     ("trees", Subject::Trees),
@@ -80,6 +81,7 @@ const NAMES: [(&str, Subject); 34] = [
     ("reads", Subject::Reads),
     ("writes", Subject::Writes),
     ("commands", Subject::Commands),
+    ("failing", Subject::Failing),
     ("solved", Subject::Solved),
 ];
 
@@ -137,6 +139,7 @@ pub(crate) fn answer(alloc: Global, subject: Subject, input: &[u8]) -> Result<Ve
         Subject::Reads => streams::reads(alloc, input),
         Subject::Writes => streams::writes(alloc, input),
         Subject::Commands => answers::commands(alloc, input),
+        Subject::Failing => failing::failing(alloc, input),
         Subject::Solved => answers::solved(alloc, input),
     }
 }

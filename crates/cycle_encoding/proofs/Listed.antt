@@ -14,7 +14,7 @@ use Rattle.schedule_meaning.specs.Launches.{instr_at}
 use Rattle.machine_table.specs.declared.tables.Table.{Table}
 use Rattle.machine_table.specs.declared.tables.Use.{Use}
 use Rattle.machine_table.specs.declared.tables.InstrKind.{InstrKind}
-use Rattle.launch_graph.specs.declared.graphs.LaunchGraph.{LaunchGraph}
+use Rattle.graph_meaning.specs.declared.graphs.LaunchGraph.{LaunchGraph}
 use Rattle.schedule_meaning.specs.declared.schedules.Launch.{Launch}
 use Rattle.cycle_encoding.specs.Variables.{slots_of, use_launches, row_launches}
 use Rattle.cycle_encoding.specs.Facts.{may_use, launch_at, slot_launches, slots_launches}

@@ -7,8 +7,8 @@ use Rattle.std.proofs.lemmas.List.{take_more}
 use Rattle.std.proofs.lemmas.List.FromFn.{length-map-range_with_len, get_or-map-range_with_len}
 use Rattle.word_ops.specs.Meanings.{constant_in}
 use Rattle.std.specs.Option.{option_or}
-use Rattle.launch_graph.specs.Graphs.{constant_among}
-use Rattle.launch_graph.specs.declared.graphs.LaunchRow.{LaunchRow}
+use Rattle.graph_meaning.specs.Graphs.{constant_among}
+use Rattle.graph_meaning.specs.declared.graphs.LaunchRow.{LaunchRow}
 use Rattle.cycle_encoding.specs.Facts.{class_marked, with_constant}
 use Rattle.cycle_encoding.proofs.Sorted.{map_same, set_map}
 

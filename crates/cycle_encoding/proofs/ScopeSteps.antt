@@ -12,14 +12,16 @@ use Rattle.machine_table.specs.declared.tables.Table.{Table}
 use Rattle.machine_table.specs.declared.tables.Use.{Use}
 use Rattle.machine_table.specs.declared.tables.InstrKind.{InstrKind}
 use Rattle.machine_table.specs.declared.tables.InstrKind.TheVariants.{StqU, Beq}
-use Rattle.launch_graph.specs.WellFormed.{next_class}
-use Rattle.launch_graph.specs.declared.graphs.LaunchGraph.{LaunchGraph}
+use Rattle.graph_meaning.specs.WellFormed.{next_class}
+use Rattle.graph_meaning.specs.declared.graphs.LaunchGraph.{LaunchGraph}
 use Rattle.schedule_meaning.specs.Launches.{instr_at, launches, gives_word, is_store, is_branch, class_at}
 use Rattle.schedule_meaning.specs.declared.schedules.Launch.{Launch}
 use Rattle.cycle_encoding.specs.Variables.{slots_of, use_launches, row_launches, launches_from, all_launches, all_seen, shown_classes, made_classes, is_word_class, is_input, classes_of}
-use Rattle.launch_graph.specs.Graphs.{is_zero_class}
+use Rattle.graph_meaning.specs.Graphs.{is_zero_class}
 use Rattle.cycle_encoding.specs.Counts.{row_is}
-use Rattle.cycle_encoding.specs.CycleFormula.{Scope, first_cycle_in, wants_in, listed_in}
+use Rattle.cycle_encoding.specs.CycleFormula.{Scope, first_by, wants_by, first_cycle_in, wants_in, listed_in}
+use Rattle.cycle_encoding.specs.declared.encodings.Encoding.{Encoding}
+use Rattle.cycle_encoding.specs.declared.encodings.Encoding.TheVariants.{Narrow}
 use Rattle.cycle_encoding.specs.Narrow.{Wanted, CanStart, HasVariable, IsNarrow}
 use Rattle.cycle_encoding.specs.Coming.{needs_of, is_come, are_come, latest, latest_from, IsExactUpTo}
 use Rattle.cycle_encoding.specs.Wanting.{is_marked_class}
@@ -257,16 +259,16 @@ module _ (g : LaunchGraph) (table : Table) (come : List (Option ℕ)) (marks : L
       ap (λ b. is_begun (cond b (latest come (needs_of g l.row)) None) l.cycle) (spoken-in l i e v.wanted)
       ∙ latest-begun come l.cycle (needs_of g l.row) ∙ start-in l.row l.cycle le v.start
 
-  module _ (s : Scope) (narrow : s.narrow ≡ true) (firsts : s.firsts ≡ map (first_cycle g come marks) (range_with_len 0 (length g.rows + 1))) (wants : s.wants ≡ marks) (k : ℕ) (few : k ≤ 24) where
+  module _ (s : Scope) (narrow : s.encoding ≡ Narrow) (firsts : s.firsts ≡ map (first_cycle g come marks) (range_with_len 0 (length g.rows + 1))) (wants : s.wants ≡ marks) (k : ℕ) (few : k ≤ 24) where
     first-is : (row : ℕ) → row < length g.rows + 1 → first_cycle_in s row ≡ first_cycle g come marks row
     first-is row lt =
-        ap (λ b. cond b (slice_index_or s.firsts row None) (Some 0)) narrow
+        ap (λ (e : Encoding). first_by e s.firsts row) narrow
         ∙ ap (λ (xs : List (Option ℕ)). slice_index_or xs row None) firsts
         ∙ get_or-map-range_with_len (first_cycle g come marks) 0 (length g.rows + 1) row row None lt (omega arith)
 
     wants-is : (class : ℕ) → wants_in s class ≡ is_marked_class marks class
     wants-is class =
-        ap (λ b. cond b (slice_index_or s.wants class false) true) narrow
+        ap (λ (e : Encoding). wants_by e s.wants class) narrow
         ∙ ap (λ (xs : List Bool). slice_index_or xs class false) wants
 
     keep : Launch → Bool

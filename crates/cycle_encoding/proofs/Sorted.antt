@@ -6,7 +6,7 @@ use Rattle.std.proofs.lemmas.Bool.{cases_lt, eq-eqb, ne_eqb, lt-ltb, le-ltb}
 use Rattle.std.proofs.lemmas.List.{append-nil}
 use Rattle.std.proofs.lemmas.List.FromFn.{length-map-range_with_len, get_or-map-range_with_len}
 use Rattle.cnf_core.specs.declared.literal.Lit.{Lit}
-use Rattle.launch_graph.specs.declared.graphs.LaunchGraph.{LaunchGraph}
+use Rattle.graph_meaning.specs.declared.graphs.LaunchGraph.{LaunchGraph}
 use Rattle.schedule_meaning.specs.Launches.{launches, gives_word, gives, class_at}
 use Rattle.schedule_meaning.specs.declared.schedules.Launch.{Launch}
 use Rattle.cycle_encoding.specs.Shapes.{numbered, positive, vars_of}

@@ -9,8 +9,8 @@ use Rattle.schedule_meaning.specs.Launches.{instr_at}
 use Rattle.machine_table.specs.declared.tables.Table.{Table}
 use Rattle.machine_table.specs.declared.tables.Use.{Use}
 use Rattle.machine_table.specs.declared.tables.InstrKind.{InstrKind}
-use Rattle.launch_graph.specs.declared.graphs.LaunchGraph.{LaunchGraph}
-use Rattle.launch_graph.specs.WellFormed.{next_class}
+use Rattle.graph_meaning.specs.declared.graphs.LaunchGraph.{LaunchGraph}
+use Rattle.graph_meaning.specs.WellFormed.{next_class}
 use Rattle.cycle_encoding.specs.Variables.{slots_of, shown_classes, clusters_of}
 use Rattle.cycle_encoding.specs.CycleFormula.{Scope, first_cycle_in, wants_in}
 use Rattle.cycle_encoding.specs.Steps.{has_cluster}

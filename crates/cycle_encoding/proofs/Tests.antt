@@ -13,13 +13,13 @@ use Rattle.word_ops.specs.declared.operators.WordOp.TheVariants as ops
 use Rattle.word_ops.specs.declared.sorts.Op.{Op}
 use Rattle.word_ops.specs.declared.sorts.Op.TheVariants.{Word, Select, Store, Load, Put}
 use Rattle.machine_table.specs.InstrOrder.{operate_kind}
-use Rattle.launch_graph.specs.Graphs.{constant_of, is_zero_class}
+use Rattle.graph_meaning.specs.Graphs.{constant_of, is_zero_class}
 use Rattle.schedule_meaning.specs.Launches.{instr_at, launches, gives_word, is_branch, word_op_instr, op_instr, class_at, IsZero, IsByteConstant, IsFree, IsClassOfInput, Gives, Operand, gives}
 use Rattle.machine_table.specs.declared.tables.InstrKind.{InstrKind}
 use Rattle.machine_table.specs.declared.tables.InstrKind.TheVariants.{Lda, Ldah, LdqU, StqU, Beq}
-use Rattle.launch_graph.specs.declared.graphs.LaunchGraph.{LaunchGraph}
-use Rattle.launch_graph.specs.declared.graphs.LaunchRow.{LaunchRow}
-use Rattle.launch_graph.specs.declared.graphs.Guard.{Guard}
+use Rattle.graph_meaning.specs.declared.graphs.LaunchGraph.{LaunchGraph}
+use Rattle.graph_meaning.specs.declared.graphs.LaunchRow.{LaunchRow}
+use Rattle.graph_meaning.specs.declared.graphs.Guard.{Guard}
 use Rattle.schedule_meaning.specs.declared.schedules.Launch.{Launch}
 use Rattle.cycle_encoding.specs.Variables.{is_input, is_byte}
 use Rattle.cycle_encoding.specs.Families.{is_free}

@@ -5,7 +5,7 @@ use Rattle.std.specs.Option.{option_map_or}
 use Rattle.machine_table.specs.Tables.{latency_of}
 use Rattle.schedule_meaning.specs.Launches.{instr_at, gives_word, class_at, operands_at}
 use Rattle.machine_table.specs.declared.tables.Table.{Table}
-use Rattle.launch_graph.specs.declared.graphs.LaunchGraph.{LaunchGraph}
+use Rattle.graph_meaning.specs.declared.graphs.LaunchGraph.{LaunchGraph}
 use Rattle.cycle_encoding.specs.Facts.{made_among}
 use Rattle.cycle_encoding.specs.Narrow.{CanStart, HasCome}
 

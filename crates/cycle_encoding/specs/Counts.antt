@@ -9,7 +9,7 @@ use Rattle.schedule_meaning.specs.Launches.{instr_at, operands_at}
 use Rattle.machine_table.specs.declared.tables.Table.{Table}
 use Rattle.machine_table.specs.declared.tables.Use.{Use}
 use Rattle.machine_table.specs.declared.tables.InstrKind.{InstrKind}
-use Rattle.launch_graph.specs.declared.graphs.LaunchGraph.{LaunchGraph}
+use Rattle.graph_meaning.specs.declared.graphs.LaunchGraph.{LaunchGraph}
 use Rattle.cycle_encoding.specs.Variables.{slots_of, shown_classes, clusters_of}
 use Rattle.cycle_encoding.specs.Families.{is_made, is_made_target}
 use Rattle.cycle_encoding.specs.CycleFormula.{Scope, first_cycle_in, wants_in}

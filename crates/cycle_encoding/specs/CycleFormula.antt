@@ -1,39 +1,50 @@
 -- The formula of cycles, slots and values: the numbers of its variables, and its clauses in their order.
 -- Source: this project.
-use Rattle.std.specs.Prelude.{ℕ, ◌+◌, Bool, true, false, List, [], ◌++◌, length, Option, Some, None, if◌then◌else◌}
+use Rattle.std.specs.Prelude.{ℕ, ◌+◌, Bool, true, false, List, [], ◌++◌, length, Option, Some, None}
 use Rattle.std.specs.List.{slice_index_or}
 use Rattle.cnf_core.specs.declared.literal.Lit.{Lit}
 use Rattle.cnf_core.specs.Formula.{Formula}
 use Rattle.machine_table.specs.declared.tables.Table.{Table}
-use Rattle.launch_graph.specs.declared.graphs.LaunchGraph.{LaunchGraph}
+use Rattle.graph_meaning.specs.declared.graphs.LaunchGraph.{LaunchGraph}
 use Rattle.schedule_meaning.specs.declared.schedules.Launch.{Launch}
 use Rattle.cycle_encoding.specs.Shapes.{numbered, counters, counters_vars}
 use Rattle.cycle_encoding.specs.Variables.{launches_from, shown_classes, all_seen, Seen}
 use Rattle.cycle_encoding.specs.Families.{target_clauses, operand_clauses, seen_clauses, slot_groups}
+use Rattle.cycle_encoding.specs.declared.encodings.Encoding.{Encoding}
+use Rattle.cycle_encoding.specs.declared.encodings.Encoding.TheVariants.{Wide, Narrow}
 
 -- the launches that have variables, and what is seen, by which an encoding differs from others
 pub record Listed : Type 0 where
   pub launches : List Launch
   pub seen : List Seen
 
--- what has variables: all, or by tables the launches of a row from its first cycle, and what is seen of a wanted class
+-- what has variables in an encoding: all, or by tables the launches of a row from its first cycle, and what is seen of a
+-- wanted class
 pub record Scope : Type 0 where
-  pub narrow : Bool
+  pub encoding : Encoding
   pub firsts : List (Option ℕ)
   pub wants : List Bool
 
+abbrev pub first_by : Encoding → List (Option ℕ) → ℕ → Option ℕ
+first_by Wide firsts row = Some 0
+first_by Narrow firsts row = slice_index_or firsts row None
+
 abbrev pub first_cycle_in : Scope → ℕ → Option ℕ
-first_cycle_in s row = if s.narrow then slice_index_or s.firsts row None else Some 0
+first_cycle_in s row = first_by s.encoding s.firsts row
+
+abbrev pub wants_by : Encoding → List Bool → ℕ → Bool
+wants_by Wide wants class = true
+wants_by Narrow wants class = slice_index_or wants class false
 
 abbrev pub wants_in : Scope → ℕ → Bool
-wants_in s class = if s.narrow then slice_index_or s.wants class false else true
+wants_in s class = wants_by s.encoding s.wants class
 
 abbrev pub listed_in : LaunchGraph → Table → ℕ → Scope → Listed
 listed_in g table k s =
     record { launches = launches_from g table k (first_cycle_in s); seen = all_seen table k (shown_classes g (wants_in s)) }
 
 abbrev pub wide_scope : Scope
-wide_scope = record { narrow = false; firsts = []; wants = [] }
+wide_scope = record { encoding = Wide; firsts = []; wants = [] }
 
 -- every launch that ends by k, and every class that is made by launches
 abbrev pub wide : LaunchGraph → Table → ℕ → Listed

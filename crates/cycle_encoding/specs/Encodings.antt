@@ -1,8 +1,8 @@
 -- The lists of each encoding. Source: this project.
-use Rattle.std.specs.Prelude.{◌≡◌, ℕ}
+use Rattle.std.specs.Prelude.{◌≡◌, ◌≤◌, ℕ}
 use Rattle.machine_table.specs.declared.tables.Table.{Table}
-use Rattle.launch_graph.specs.declared.graphs.LaunchGraph.{LaunchGraph}
-use Rattle.cycle_encoding.specs.CycleFormula.{Listed, wide}
+use Rattle.graph_meaning.specs.declared.graphs.LaunchGraph.{LaunchGraph}
+use Rattle.cycle_encoding.specs.CycleFormula.{Listed, Scope, listed_in, wide}
 use Rattle.cycle_encoding.specs.Narrow.{IsNarrow}
 use Rattle.cycle_encoding.specs.declared.encodings.Encoding.{Encoding}
 use Rattle.cycle_encoding.specs.declared.encodings.Encoding.TheVariants.{Wide, Narrow}
@@ -11,3 +11,12 @@ use Rattle.cycle_encoding.specs.declared.encodings.Encoding.TheVariants.{Wide, N
 abbrev pub AreListed : Encoding → LaunchGraph → Table → ℕ → Listed → Type 0
 AreListed Wide g table k e = e ≡ wide g table k
 AreListed Narrow g table k e = IsNarrow g table k e
+
+-- it holds of the lists of the encoding
+abbrev pub OnLists : Encoding → LaunchGraph → Table → ℕ → (Listed → Type 0) → Type 0
+OnLists e g table k P = (l : Listed) → AreListed e g table k l → P l
+
+-- the scope gives the lists of the encoding, for as many cycles as may be asked for
+pub record IsScope (e : Encoding) (g : LaunchGraph) (table : Table) (s : Scope) : Type 0 where
+  pub encoding : s.encoding ≡ e
+  pub lists : (k : ℕ) → k ≤ 24 → AreListed e g table k (listed_in g table k s)

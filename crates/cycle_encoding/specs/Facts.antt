@@ -4,11 +4,11 @@ use Rattle.std.specs.Prelude.{◌≡◌, ◌==◌, ◌&&◌, nat_lt, ℕ, Bool, 
 use Rattle.std.specs.Option.{option_map_or, option_or}
 use Rattle.std.specs.List.{filter, flat_map, list_any, range_with_len, slice_index_or}
 use Rattle.machine_table.specs.Tables.{use_of}
-use Rattle.launch_graph.specs.Graphs.{constant_of, is_zero_class}
+use Rattle.graph_meaning.specs.Graphs.{constant_of, is_zero_class}
 use Rattle.schedule_meaning.specs.Launches.{instr_at, Operand}
 use Rattle.machine_table.specs.declared.tables.InstrKind.{InstrKind}
 use Rattle.machine_table.specs.declared.tables.Table.{Table}
-use Rattle.launch_graph.specs.declared.graphs.LaunchGraph.{LaunchGraph}
+use Rattle.graph_meaning.specs.declared.graphs.LaunchGraph.{LaunchGraph}
 use Rattle.schedule_meaning.specs.declared.schedules.Launch.{Launch}
 use Rattle.cycle_encoding.specs.Families.{is_made}
 use Rattle.cycle_encoding.specs.Variables.{is_word_class, is_input}

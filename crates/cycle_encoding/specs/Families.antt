@@ -5,11 +5,11 @@ use Rattle.std.specs.Prelude.{ℕ, ◌==◌, ◌&&◌, ◌||◌, nat_le, Bool, t
 use Rattle.std.specs.List.{filter, flat_map, range_with_len}
 use Rattle.cnf_core.specs.declared.literal.Lit.{Lit}
 use Rattle.machine_table.specs.Tables.{cluster_of}
-use Rattle.launch_graph.specs.Graphs.{is_memory_name, is_zero_class}
+use Rattle.graph_meaning.specs.Graphs.{is_memory_name, is_zero_class}
 use Rattle.schedule_meaning.specs.Launches.{gives, operands_at, ready_in, Operand}
 use Rattle.machine_table.specs.declared.tables.Table.{Table}
-use Rattle.launch_graph.specs.declared.graphs.LaunchGraph.{LaunchGraph}
-use Rattle.launch_graph.specs.declared.graphs.SetClass.{SetClass}
+use Rattle.graph_meaning.specs.declared.graphs.LaunchGraph.{LaunchGraph}
+use Rattle.graph_meaning.specs.declared.graphs.SetClass.{SetClass}
 use Rattle.schedule_meaning.specs.declared.schedules.Launch.{Launch}
 use Rattle.cycle_encoding.specs.Shapes.{vars_of, implied}
 use Rattle.cycle_encoding.specs.Variables.{is_input, is_byte, Seen}

@@ -3,18 +3,21 @@
 use Rattle.std.specs.Prelude.{◌≡◌, ℕ, ◌<◌, List, length, ◌⊎◌}
 use Rattle.cnf_core.specs.Formula.{Formula}
 use Rattle.machine_table.specs.declared.tables.Table.{Table}
-use Rattle.launch_graph.specs.declared.graphs.LaunchGraph.{LaunchGraph}
+use Rattle.graph_meaning.specs.declared.graphs.LaunchGraph.{LaunchGraph}
 use Rattle.schedule_meaning.specs.declared.schedules.Launch.{Launch}
 use Rattle.cycle_encoding.specs.Variables.{all_launches}
+use Rattle.cycle_encoding.specs.declared.encodings.Encoding.{Encoding}
+use Rattle.cycle_encoding.specs.declared.encodings.Encoding.TheVariants.{Wide}
 
--- for how many cycles a formula is, and the launches of its first variables, in order
+-- in which encoding and for how many cycles a formula is, and the launches of its first variables, in order
 pub record Plan : Type 0 where
+  pub encoding : Encoding
   pub cycles : ℕ
   pub launches : List Launch
 
--- what is kept beside each formula of a graph and table in k cycles
+-- what is kept beside each formula of the wide encoding
 abbrev pub plan_of : LaunchGraph → Table → ℕ → Plan
-plan_of g table k = record { cycles = k; launches = all_launches g table k }
+plan_of g table k = record { encoding = Wide; cycles = k; launches = all_launches g table k }
 
 -- one of the two counts passes its limit
 abbrev pub IsTooLarge : Formula → Type 0

@@ -2,7 +2,7 @@
 -- Source: this project.
 use Rattle.std.specs.Prelude.{ℕ, ◌||◌, Bool, List, Option, None, if◌then◌else◌}
 use Rattle.schedule_meaning.specs.Launches.{is_store, is_branch, class_at}
-use Rattle.launch_graph.specs.declared.graphs.LaunchGraph.{LaunchGraph}
+use Rattle.graph_meaning.specs.declared.graphs.LaunchGraph.{LaunchGraph}
 use Rattle.cycle_encoding.specs.Counts.{row_is}
 use Rattle.cycle_encoding.specs.Coming.{latest, needs_of}
 use Rattle.cycle_encoding.specs.Wanting.{is_marked_class}

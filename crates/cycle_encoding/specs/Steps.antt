@@ -5,11 +5,11 @@ use Rattle.std.specs.List.{slice_index_or, list_any, flat_map, filter, range_wit
 use Rattle.cnf_core.specs.declared.literal.Lit.{Lit}
 use Rattle.cnf_core.specs.Formula.{Formula}
 use Rattle.machine_table.specs.declared.tables.Table.{Table}
-use Rattle.launch_graph.specs.declared.graphs.LaunchGraph.{LaunchGraph}
-use Rattle.launch_graph.specs.declared.graphs.SetClass.{SetClass}
+use Rattle.graph_meaning.specs.declared.graphs.LaunchGraph.{LaunchGraph}
+use Rattle.graph_meaning.specs.declared.graphs.SetClass.{SetClass}
 use Rattle.schedule_meaning.specs.Launches.{gives, ready_in}
 use Rattle.schedule_meaning.specs.declared.schedules.Launch.{Launch}
-use Rattle.launch_graph.specs.WellFormed.{next_class}
+use Rattle.graph_meaning.specs.WellFormed.{next_class}
 use Rattle.cycle_encoding.specs.Shapes.{negative, numbered, vars_of, counters, counters_vars}
 use Rattle.cycle_encoding.specs.Variables.{Seen, all_seen, shown_classes}
 use Rattle.cycle_encoding.specs.Families.{is_at, is_seen, is_made_target}

@@ -7,12 +7,12 @@ use Rattle.word_ops.specs.Meanings.{sort_of}
 use Rattle.word_ops.specs.declared.sorts.Sort.{Sort}
 use Rattle.word_ops.specs.declared.sorts.Sort.TheVariants as sort
 use Rattle.machine_table.specs.Tables.{use_of}
-use Rattle.launch_graph.specs.Graphs.{constant_of, is_zero_class}
-use Rattle.launch_graph.specs.WellFormed.{next_class}
+use Rattle.graph_meaning.specs.Graphs.{constant_of, is_zero_class}
+use Rattle.graph_meaning.specs.WellFormed.{next_class}
 use Rattle.schedule_meaning.specs.Launches.{instr_at}
 use Rattle.machine_table.specs.declared.tables.Table.{Table}
 use Rattle.machine_table.specs.declared.tables.Use.{Use}
-use Rattle.launch_graph.specs.declared.graphs.LaunchGraph.{LaunchGraph}
+use Rattle.graph_meaning.specs.declared.graphs.LaunchGraph.{LaunchGraph}
 use Rattle.schedule_meaning.specs.declared.schedules.Launch.{Launch}
 pub use Rattle.cycle_encoding.specs.declared.seen.Seen.{Seen}
 

@@ -1,7 +1,7 @@
 // By which cycle each class has come: the word of some row of it is ready in its own cluster.
 ghost use Rattle.std.specs.Prelude.{◌≡◌, ◌+◌, ◌<◌, ◌≤◌, ◌^◌, ℕ, None, length, map, IfOk};
 ghost use Rattle.std.specs.List.{range_with_len};
-ghost use Rattle.launch_graph.specs.WellFormed.{IsLaunchGraph, next_class};
+ghost use Rattle.graph_meaning.specs.WellFormed.{IsLaunchGraph, next_class};
 ghost use Rattle.machine_table.specs.Tables.{IsTable};
 ghost use Rattle.cycle_encoding.specs.Coming as coming;
 ghost use Rattle.cycle_encoding.specs.Coming.{are_come, come_by, is_come, needs_of, ComesAreFound, AreSound, IsExactUpTo, IsPassed, StillCome};

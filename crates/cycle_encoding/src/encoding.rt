@@ -1,7 +1,7 @@
 // The formula of cycles, slots and values.
 ghost use Rattle.std.specs.Prelude.{◌≡◌, ◌+◌, ◌<◌, ◌≤◌, ◌^◌, length, IfOk, IfErr, OnOk};
 ghost use Rattle.cnf_core.specs.Formula.{Formula};
-ghost use Rattle.launch_graph.specs.WellFormed.{IsLaunchGraph};
+ghost use Rattle.graph_meaning.specs.WellFormed.{IsLaunchGraph};
 ghost use Rattle.machine_table.specs.Tables.{IsTable};
 ghost use Rattle.cycle_encoding.specs.CycleFormula.{cycle_formula, first_cycle_in, listed_in, wide, Listed as ListedOf};
 ghost use Rattle.cycle_encoding.specs.Encodings.{AreListed};
@@ -18,8 +18,8 @@ use crate::seen::seen_vars;
 use crate::slots::add_slots;
 use crate::{Encoding, Facts, Scope};
 use cnf_core::{Cnf, counters_count};
+use graph_meaning::LaunchGraph;
 use items::{Items, NoMemory};
-use launch_graph::LaunchGraph;
 use machine_table::Table;
 use std::alloc::Global;
 
@@ -57,7 +57,7 @@ pub fn encode_as(
     ensures formula { IfOk result (λ e. (l : ListedOf) → AreListed encoding graph.now table.now k l
         → e.cnf ≡ cycle_formula graph.now table.now k l) }
     ensures plan { IfOk result (λ e. (l : ListedOf) → AreListed encoding graph.now table.now k l
-        → e.plan ≡ record { cycles = k; launches = l.launches }) }
+        → e.plan ≡ record { encoding = encoding; cycles = k; launches = l.launches }) }
     ensures size { IfErr result (λ fault. (l : ListedOf) → AreListed encoding graph.now table.now k l
         → EncodeFaultIs (cycle_formula graph.now table.now k l) fault) }
     ensures within { OnOk result ((l : ListedOf) → AreListed encoding graph.now table.now k l
@@ -107,7 +107,11 @@ pub fn build_cycles(
     requires vars { (cycle_formula facts.now table.now k (listed_in facts.now table.now k scope.now)).vars ≤ 262144 }
     requires clauses { length (cycle_formula facts.now table.now k (listed_in facts.now table.now k scope.now)).clauses ≤ 2000000 }
     ensures formula { IfOk result (λ e. e.cnf ≡ cycle_formula facts.now table.now k (listed_in facts.now table.now k scope.now)) }
-    ensures plan { IfOk result (λ e. e.plan ≡ record { cycles = k; launches = launches_from facts.now table.now k (first_cycle_in scope.now) }) }
+    ensures plan { IfOk result (λ e. e.plan ≡ record {
+      encoding = scope.now.encoding;
+      cycles = k;
+      launches = launches_from facts.now table.now k (first_cycle_in scope.now);
+    }) }
 {
     counters_count();
     let launches = launches_from(alloc, facts, table, scope, k)?;
@@ -130,6 +134,6 @@ pub fn build_cycles(
     add_slots(alloc, &mut cnf, &launches, table.slots.len() as u32, k)?;
     Ok(Encoded {
         cnf,
-        plan: VarPlan::new(k, Items::from(launches)),
+        plan: VarPlan::new(scope.encoding(), k, Items::from(launches)),
     })
 }

@@ -1,9 +1,9 @@
 // What a graph says of its classes and rows, in tables.
 ghost use Rattle.std.specs.Prelude.{◌≡◌, ◌<◌, ◌^◌, ◌&&◌, IfOk, length};
 ghost use Rattle.word_ops.specs.Meanings as meanings;
-ghost use Rattle.launch_graph.specs.Graphs as graphs;
-ghost use Rattle.launch_graph.specs.WellFormed as wellformed;
-ghost use Rattle.launch_graph.specs.WellFormed.{IsLaunchGraph};
+ghost use Rattle.graph_meaning.specs.Graphs as graphs;
+ghost use Rattle.graph_meaning.specs.WellFormed as wellformed;
+ghost use Rattle.graph_meaning.specs.WellFormed.{IsLaunchGraph};
 ghost use Rattle.schedule_meaning.specs.Launches as launches;
 ghost use Rattle.cycle_encoding.specs.Counts.{row_is};
 ghost use Rattle.schedule_meaning.specs.Readers.{operand_of};
@@ -13,8 +13,8 @@ ghost use Rattle.cycle_encoding.specs.Families as families;
 ghost use Rattle.cycle_encoding.specs.Variables as variables;
 
 use crate::marks::{give_constant, mark, unmarked, without_constants};
+use graph_meaning::{LaunchGraph, SetClass, graphs_are_consistent};
 use items::NoMemory;
-use launch_graph::{LaunchGraph, SetClass, graphs_are_consistent};
 use machine_table::{InstrKind, Table};
 use schedule_meaning::{Launch, class_at, cluster_of, instr_at};
 use std::alloc::Global;
@@ -32,7 +32,7 @@ pub struct Facts<'a> {
 }
 
 impl<'a> Model for Facts<'a> {
-    ghost use Rattle.launch_graph.specs.declared.graphs.LaunchGraph.{LaunchGraph as Graph};
+    ghost use Rattle.graph_meaning.specs.declared.graphs.LaunchGraph.{LaunchGraph as Graph};
     ghost use Rattle.cycle_encoding.specs.Facts.{AreFacts};
 
     ghost Value = { Graph };

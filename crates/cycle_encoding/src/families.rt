@@ -2,7 +2,7 @@
 ghost use Rattle.std.specs.Prelude.{◌≡◌, ◌+◌, ◌<◌, ◌≤◌, ◌^◌, [], ◌∷◌, ◌++◌, if◌then◌else◌, length, map, IfOk, OnOk, All};
 ghost use Rattle.std.specs.List.{filter};
 ghost use Rattle.cnf_core.specs.Formula.{IsLitOf};
-ghost use Rattle.launch_graph.specs.WellFormed.{IsLaunchGraph};
+ghost use Rattle.graph_meaning.specs.WellFormed.{IsLaunchGraph};
 ghost use Rattle.schedule_meaning.specs.Launches as launches;
 ghost use Rattle.schedule_meaning.specs.Launches.{gives};
 ghost use Rattle.machine_table.specs.Tables as tables;
@@ -17,8 +17,8 @@ use crate::facts::next_class;
 use crate::seen::{Seen, SeenVars, seen_var};
 use crate::{Facts, Scope, made_operands};
 use cnf_core::{Cnf, Lit};
+use graph_meaning::SetClass;
 use items::{Items, NoMemory};
-use launch_graph::SetClass;
 use machine_table::Table;
 use schedule_meaning::{Launch, class_at, cluster_of};
 use std::alloc::Global;

@@ -1,7 +1,7 @@
 // What the definitions say of all graphs and tables.
 ghost use Rattle.std.specs.Prelude.{◌≡◌, ℕ, length};
 ghost use Rattle.machine_table.specs.declared.tables.Table.{Table as TableOf};
-ghost use Rattle.launch_graph.specs.declared.graphs.LaunchGraph.{LaunchGraph as Graph};
+ghost use Rattle.graph_meaning.specs.declared.graphs.LaunchGraph.{LaunchGraph as Graph};
 ghost use Rattle.cycle_encoding.specs.CycleFormula.{cycle_formula, listed_in, Listed as ListedOf, Scope as ScopeOf};
 ghost use Rattle.cycle_encoding.specs.Encodings.{AreListed};
 ghost use Rattle.cycle_encoding.specs.declared.encodings.Encoding.{Encoding as EncodingOf};

@@ -1,14 +1,17 @@
 // A formula, and which of its variables means which launch.
 ghost use Rattle.std.specs.Prelude.{◌≡◌, ◌-◌, ◌==◌, None, slice_get, if◌then◌else◌};
 
+use crate::Encoding;
 use cnf_core::Cnf;
 use items::{Items, NoMemory};
 use schedule_meaning::Launch;
 use std::marker::Model;
+use thiserror::Error;
 
-/// For how many cycles a formula is, and the launches of its first variables, in order.
+/// In which encoding and for how many cycles a formula is, and the launches of its first variables, in order.
 #[derive(Drop)]
 pub struct VarPlan {
+    encoding: Encoding,
     cycles: u32,
     launches: Items<Launch>,
 }
@@ -18,14 +21,24 @@ impl Model for VarPlan {
 
     ghost Value = { Plan };
 
-    ghost view = { λ a. record { cycles = a.cycles; launches = a.launches } };
+    ghost view = { λ a. record { encoding = a.encoding; cycles = a.cycles; launches = a.launches } };
 }
 
 impl VarPlan {
-    pub fn new(cycles: u32, launches: Items<Launch>) -> VarPlan
-        ensures { result ≡ record { cycles = cycles; launches = launches } }
+    pub fn new(encoding: Encoding, cycles: u32, launches: Items<Launch>) -> VarPlan
+        ensures { result ≡ record { encoding = encoding; cycles = cycles; launches = launches } }
     {
-        VarPlan { cycles, launches }
+        VarPlan {
+            encoding,
+            cycles,
+            launches,
+        }
+    }
+
+    pub fn encoding(&self) -> Encoding
+        ensures { result ≡ self.now.encoding }
+    {
+        self.encoding
     }
 
     pub fn cycles(&self) -> u32
@@ -51,9 +64,11 @@ pub struct Encoded {
 
 /// Why no formula is given. `Size` has the two counts of the formula that was asked for, one of which passes its limit:
 /// 262,144 variables or 2,000,000 clauses.
-#[derive(Clone, Copy, PartialEq, Eq, Debug)]
+#[derive(Clone, Copy, PartialEq, Eq, Debug, Error)]
 pub enum EncodeFault {
+    #[error("{vars} variables and {clauses} clauses are too many")]
     Size { vars: u64, clauses: u64 },
+    #[error("out of memory")]
     Memory,
 }
 

@@ -1,14 +1,14 @@
 // From which cycle on launches of a row have variables, and of which classes it is said where they are seen.
-ghost use Rattle.std.specs.Prelude.{◌≡◌, ◌+◌, ◌<◌, ◌≤◌, ◌^◌, ℕ, length, map, IfOk};
+ghost use Rattle.std.specs.Prelude.{◌≡◌, ◌+◌, ◌<◌, ◌^◌, length, map, IfOk};
 ghost use Rattle.std.specs.List.{range_with_len};
-ghost use Rattle.launch_graph.specs.WellFormed.{IsLaunchGraph};
+ghost use Rattle.graph_meaning.specs.WellFormed.{IsLaunchGraph};
 ghost use Rattle.machine_table.specs.Tables.{IsTable};
 ghost use Rattle.cycle_encoding.specs.Coming as coming;
 ghost use Rattle.cycle_encoding.specs.Coming.{needs_of};
-ghost use Rattle.cycle_encoding.specs.Encodings.{AreListed};
-ghost use Rattle.cycle_encoding.specs.Narrow.{IsNarrow};
+ghost use Rattle.cycle_encoding.specs.Encodings.{IsScope};
+ghost use Rattle.cycle_encoding.specs.declared.encodings.Encoding.TheVariants.{Narrow as NarrowOne};
 ghost use Rattle.cycle_encoding.specs.Scoped as scoped;
-ghost use Rattle.cycle_encoding.specs.CycleFormula.{first_cycle_in, listed_in, wants_in, wide_scope};
+ghost use Rattle.cycle_encoding.specs.CycleFormula.{first_cycle_in, wants_in, wide_scope};
 
 use crate::coming::{come_cycles, needs};
 use crate::wanting::wanted;
@@ -22,7 +22,7 @@ use std::marker::Model;
 /// By an encoding's scope: the first cycle of each row's launches, and the classes that it speaks of.
 #[derive(Drop)]
 pub struct Scope {
-    narrow: bool,
+    encoding: Encoding,
     firsts: Vec<Option<u32>>,
     wants: Vec<bool>,
 }
@@ -32,7 +32,7 @@ impl Model for Scope {
 
     ghost Value = { ScopeOf };
 
-    ghost view = { λ a. record { narrow = a.narrow; firsts = a.firsts.items; wants = a.wants.items } };
+    ghost view = { λ a. record { encoding = a.encoding; firsts = a.firsts.items; wants = a.wants.items } };
 }
 
 impl Scope {
@@ -41,7 +41,7 @@ impl Scope {
         ensures { result ≡ wide_scope }
     {
         Scope {
-            narrow: false,
+            encoding: Encoding::Wide,
             firsts: Vec::new(alloc),
             wants: Vec::new(alloc),
         }
@@ -51,20 +51,20 @@ impl Scope {
     pub fn narrow(alloc: Global, facts: &Facts, table: &Table) -> Result<Scope, NoMemory>
         requires table { IsTable table.now }
         requires graph { IsLaunchGraph facts.now }
-        ensures { IfOk result (λ s. (k : ℕ) → k ≤ 24 → IsNarrow facts.now table.now k (listed_in facts.now table.now k s)) }
+        ensures { IfOk result (IsScope NarrowOne facts.now table.now) }
     {
         let needs = needs(alloc, facts)?;
         let come = come_cycles(alloc, facts, table, &needs)?;
         let wants = wanted(alloc, facts, &needs)?;
         let firsts = first_cycles(alloc, facts, &needs, &come, &wants)?;
         Ok(Scope {
-            narrow: true,
+            encoding: Encoding::Narrow,
             firsts,
             wants,
         })
     }
 
-    /// What has variables in the encoding.
+    /// What has variables in the encoding: once for a graph and a table, for any number of cycles.
     pub fn of(
         alloc: Global,
         encoding: Encoding,
@@ -73,8 +73,7 @@ impl Scope {
     ) -> Result<Scope, NoMemory>
         requires table { IsTable table.now }
         requires graph { IsLaunchGraph facts.now }
-        ensures { IfOk result (λ s. (k : ℕ) → k ≤ 24
-            → AreListed encoding facts.now table.now k (listed_in facts.now table.now k s)) }
+        ensures { IfOk result (IsScope encoding facts.now table.now) }
     {
         match encoding {
             Encoding::Wide => Ok(Scope::wide(alloc)),
@@ -82,16 +81,23 @@ impl Scope {
         }
     }
 
+    /// The encoding.
+    pub fn encoding(&self) -> Encoding
+        ensures { result ≡ self.now.encoding }
+    {
+        self.encoding
+    }
+
     /// The cycle from which launches of the row have variables, if any have.
     pub fn first(&self, row: u32) -> Option<u32>
         ensures { result ≡ first_cycle_in self.now row }
     {
-        if !self.narrow {
-            return Some(0);
-        }
-        match self.firsts.get(row as usize) {
-            Some(first) => *first,
-            None => None,
+        match self.encoding {
+            Encoding::Wide => Some(0),
+            Encoding::Narrow => match self.firsts.get(row as usize) {
+                Some(first) => *first,
+                None => None,
+            },
         }
     }
 
@@ -99,12 +105,12 @@ impl Scope {
     pub fn wants(&self, class: u32) -> bool
         ensures { result ≡ wants_in self.now class }
     {
-        if !self.narrow {
-            return true;
-        }
-        match self.wants.get(class as usize) {
-            Some(wants) => *wants,
-            None => false,
+        match self.encoding {
+            Encoding::Wide => true,
+            Encoding::Narrow => match self.wants.get(class as usize) {
+                Some(wants) => *wants,
+                None => false,
+            },
         }
     }
 }

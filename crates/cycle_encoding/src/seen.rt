@@ -1,6 +1,6 @@
 // What is seen: in which cluster and cycle a class is readable.
 ghost use Rattle.std.specs.Prelude.{◌≡◌, ◌+◌, ◌<◌, ◌≤◌, ◌^◌, [], ◌++◌, if◌then◌else◌, length, IfOk, OnOk};
-ghost use Rattle.launch_graph.specs.WellFormed.{IsLaunchGraph};
+ghost use Rattle.graph_meaning.specs.WellFormed.{IsLaunchGraph};
 ghost use Rattle.cycle_encoding.specs.CycleFormula.{wants_in};
 ghost use Rattle.cycle_encoding.specs.Steps as steps;
 ghost use Rattle.cycle_encoding.specs.Facts.{is_shown_class};

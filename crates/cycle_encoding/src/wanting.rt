@@ -1,9 +1,9 @@
 // Which classes are wanted: those of targets, what stores and the branch need, and what rows of wanted classes need.
 ghost use Rattle.std.specs.Prelude.{◌≡◌, ◌↔◌, ◌∷◌, [], ℕ, ◌+◌, ◌<◌, ◌^◌, Contains, IsTrue, if◌then◌else◌, length, map, IfOk, OnOk};
 ghost use Rattle.std.specs.List.{range_with_len};
-ghost use Rattle.launch_graph.specs.WellFormed as wellformed;
-ghost use Rattle.launch_graph.specs.WellFormed.{IsLaunchGraph};
-ghost use Rattle.launch_graph.specs.declared.graphs.SetClass.{SetClass as SetClassOf};
+ghost use Rattle.graph_meaning.specs.WellFormed as wellformed;
+ghost use Rattle.graph_meaning.specs.WellFormed.{IsLaunchGraph};
+ghost use Rattle.graph_meaning.specs.declared.graphs.SetClass.{SetClass as SetClassOf};
 ghost use Rattle.schedule_meaning.specs.Launches as launches;
 ghost use Rattle.cycle_encoding.specs.Coming.{needs_of};
 ghost use Rattle.cycle_encoding.specs.Counts.{row_is};
@@ -16,8 +16,8 @@ ghost use Rattle.cycle_encoding.specs.Wanting.{giving_rows, is_marked_class, is_
 use crate::Facts;
 use crate::facts::next_class;
 use crate::marks::unmarked;
+use graph_meaning::{LaunchGraph, SetClass};
 use items::{Items, NoMemory};
-use launch_graph::{LaunchGraph, SetClass};
 use machine_table::InstrKind;
 use schedule_meaning::class_at;
 use std::alloc::Global;

@@ -4,8 +4,8 @@ use Rattle.std.specs.Prelude.{slice_get, Some}
 use Rattle.std.specs.List.{AllZip}
 use Rattle.std.proofs.lemmas.List.{length-map}
 use Rattle.std.proofs.lemmas.Option.{slice_get_cases}
-use Rattle.goal_reader.specs.Views.{GoalTree, goal_view}
-use Rattle.goal_reader.specs.declared.goals.Goal.{Goal}
+use Rattle.goal_meaning.specs.Views.{GoalTree, goal_view}
+use Rattle.goal_meaning.specs.declared.goals.Goal.{Goal}
 use Rattle.denali_run.specs.declared.results.Answered.{Answered}
 
 next : (i : ℕ) → i + 1 ≡ suc i

@@ -6,8 +6,8 @@ use Rattle.std.proofs.Math.Seq.{take-length}
 use Rattle.std.proofs.lemmas.Grind.{flat_map-append}
 use Rattle.answer_texts.specs.AnswerLines.{goal_lines}
 use Rattle.answer_texts.specs.declared.answers.Claimed.{Claimed}
-use Rattle.goal_reader.specs.Views.{GoalTree, goal_view}
-use Rattle.goal_reader.specs.declared.goals.Goal.{Goal}
+use Rattle.goal_meaning.specs.Views.{GoalTree, goal_view}
+use Rattle.goal_meaning.specs.declared.goals.Goal.{Goal}
 use Rattle.machine_table.specs.declared.tables.Table.{Table}
 use Rattle.text_core.specs.LineTexts.{Words, line_text, lines_text}
 use Rattle.denali_run.specs.ClaimedResults.{claimed, goals_claimed}

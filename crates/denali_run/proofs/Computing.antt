@@ -11,16 +11,16 @@ use Rattle.word_ops.specs.declared.sorts.Op.{Op}
 use Rattle.word_terms.specs.Tree.{Tree}
 use Rattle.alpha_encode.specs.declared.instructions.Instr.{Instr}
 use Rattle.alpha_machine.specs.Runs.{trace}
-use Rattle.goal_reader.specs.Holds.{HoldsFor, goal_value}
-use Rattle.goal_reader.specs.Outcomes.{NewValue, exit, fall, is_left, is_memory, is_zero, new_memory, new_value, new_words}
-use Rattle.goal_reader.specs.Views.{GoalTree, InputTree, TargetTree}
-use Rattle.goal_reader.specs.declared.goals.InputReg.{InputReg}
-use Rattle.goal_reader.specs.declared.scopes.DeclaredOp.{DeclaredOp}
-use Rattle.launch_graph.specs.Graphs.{is_memory_name}
-use Rattle.launch_graph.specs.declared.graphs.LaunchGraph.{LaunchGraph}
-use Rattle.launch_graph.specs.declared.graphs.Guard.{Guard}
-use Rattle.launch_graph.specs.declared.graphs.SetClass.{SetClass}
-use Rattle.launch_graph.specs.declared.graphs.InputClass.{InputClass}
+use Rattle.goal_meaning.specs.Holds.{HoldsFor, goal_value}
+use Rattle.goal_meaning.specs.Outcomes.{NewValue, exit, fall, is_left, is_memory, is_zero, new_memory, new_value, new_words}
+use Rattle.goal_meaning.specs.Views.{GoalTree, InputTree, TargetTree}
+use Rattle.goal_meaning.specs.declared.goals.InputReg.{InputReg}
+use Rattle.goal_meaning.specs.declared.goals.DeclaredOp.{DeclaredOp}
+use Rattle.graph_meaning.specs.Graphs.{is_memory_name}
+use Rattle.graph_meaning.specs.declared.graphs.LaunchGraph.{LaunchGraph}
+use Rattle.graph_meaning.specs.declared.graphs.Guard.{Guard}
+use Rattle.graph_meaning.specs.declared.graphs.SetClass.{SetClass}
+use Rattle.graph_meaning.specs.declared.graphs.InputClass.{InputClass}
 use Rattle.register_assign.specs.Obeys.{loads}
 use Rattle.register_assign.specs.Outcomes.{DoesAsGraphSays, Falls, Exits, entry_state, instrs_of}
 use Rattle.register_assign.specs.declared.listings.Item.{Item}

@@ -8,20 +8,21 @@ use Rattle.answer_texts.specs.AnswerParts.{AreLaunches, IsLaunch}
 use Rattle.answer_texts.specs.Printable.{AreLinesBelow, IsGraphClaim, IsPrintable, IsPrintableGoal, no_world, worked}
 use Rattle.answer_texts.specs.declared.answers.Claim.{Claim}
 use Rattle.answer_texts.specs.declared.answers.Claim.TheVariants as claims
+use Rattle.cnf_core.specs.Formula.{Formula}
 use Rattle.cnf_core.specs.declared.line.Lines.{Lines}
-use Rattle.goal_reader.specs.Views.{GoalTree, InputTree}
-use Rattle.goal_reader.specs.WellFormed.{IsGoal, IsInput}
-use Rattle.launch_graph.specs.declared.graphs.LaunchGraph.{LaunchGraph}
+use Rattle.goal_meaning.specs.Views.{GoalTree, InputTree}
+use Rattle.goal_meaning.specs.WellFormed.{IsGoal, IsInput}
+use Rattle.graph_meaning.specs.declared.graphs.LaunchGraph.{LaunchGraph}
 use Rattle.register_assign.specs.Outcomes.{instrs_of}
 use Rattle.saturation.specs.AtStart.{most_rows_at_start}
 use Rattle.schedule_meaning.specs.declared.schedules.Launch.{Launch}
 use Rattle.text_core.specs.Names.{IsName}
 use Rattle.denali_run.specs.ClaimedResults.{StartsWithinFormat, answer_to, claimed, claimed_on, goals_claimed}
 use Rattle.denali_run.specs.MatchedGoals.{IsMatched, IsSettings}
-use Rattle.denali_run.specs.Right.{AreRefutedBelow, Right, formula_in, nothing_less, one_less}
+use Rattle.denali_run.specs.Right.{AreRefutedBelow, Right, nothing_less, one_less}
 use Rattle.denali_run.specs.declared.results.Answered.{Answered}
 use Rattle.denali_run.specs.declared.results.Answered.TheVariants.{Scheduled, Nowhere, SpentConflicts, SpentSize, NoWorld}
-use Rattle.denali_run.specs.declared.results.Encoding.TheVariants.{Wide}
+use Rattle.cycle_encoding.specs.declared.encodings.Encoding.TheVariants.{Narrow}
 use Rattle.denali_run.specs.declared.results.Matched.{Matched}
 use Rattle.denali_run.specs.declared.settings.Settings.{Settings}
 use Rattle.denali_run.proofs.SameLaunches.{IsPlaced, SlotsAreThere, are_placed}
@@ -45,13 +46,14 @@ module _ (registers : RegistersAreLow) (slots : SlotsAreThere) (accepted : Accep
       (λ l at. (at.0, at.1, at.2, (let lt : l.slot < length input.table.slots = at.1 in let few = is.table.slots.1 in omega (arith, lt, few))))
       ls placed
 
-  below : (g : LaunchGraph) (k : ℕ) (lines : Option Lines) → AreRefutedBelow Wide g input.table s.conflicts k lines
+  below : (f : ℕ → Formula) (g : LaunchGraph) (k : ℕ) (lines : Option Lines)
+      → AreRefutedBelow f g input.table s.conflicts k lines
       → AreLinesBelow k lines
-  below g _ _ nothing_less = refl
-  below g _ _ (one_less {k = j} {lines = lines} few) =
+  below f g _ _ nothing_less = refl
+  below f g _ _ (one_less {k = j} {lines = lines} few) =
       subst (λ n. AreLinesBelow n (Some lines)) (let e : suc j ≡ j + 1 = omega arith in e)
       (let short = few.few in let most = set.conflicts.1 in
-      let read = readable accepted (formula_in Wide g input.table j) lines.lines few.none_fits.within few.refutes.accepted
+      let read = readable accepted (f j) lines.lines few.none_fits.within few.refutes.accepted
       (omega (arith, short, most)) in
       record { few = read.1; each = read.0 })
 
@@ -69,39 +71,40 @@ module _ (registers : RegistersAreLow) (slots : SlotsAreThere) (accepted : Accep
         (let few = matched.few in let most = set.nodes.1 in omega (arith, few, most, small))
         (let reached = matched.reached.0 in let most = set.rounds in omega (arith, reached, most)) on are
 
-    printable : (r : Answered) → Right Wide input goal s r → IsPrintableGoal input.table (claimed goal.name r)
+    printable : (r : Answered) → Right Narrow input goal s r → IsPrintableGoal input.table (claimed goal.name r)
     printable (Scheduled f) right =
         let low : f.k ≤ 24 = cycles_low f.k right.1 in
         on_graph f.matched (claims.Scheduled f.k f.schedule f.words f.listing.wheres) f.refutation right.0 (
           low,
           launches_are f.schedule.launches
-              (are_placed slots f.matched.graph input.table is.table right.0.graph.few f.k f.schedule.launches low right.3.fits),
-          are_codes (instrs_of f.listing.items) f.words right.3.low right.3.words,
+              (are_placed slots f.matched.graph input.table is.table right.0.graph.few f.k f.schedule.launches low right.2.fits),
+          are_codes (instrs_of f.listing.items) f.words right.2.low right.2.words,
           are_places registers f.matched.graph right.0.graph input.table f.schedule.launches f.listing.items
-              f.listing.wheres right.3.listing.is,
+              f.listing.wheres right.2.listing.is,
         )
-        (below f.matched.graph f.k f.refutation right.4.refuted)
+        (below right.3.clauses_for f.matched.graph f.k f.refutation right.3.holds.1.refuted)
     printable (Nowhere m) right =
         on_graph m.matched (claims.Missing m.k) (Some m.refutation) right.0
         (cycles_low m.k (let same = right.1 in omega (arith, same)))
-        (below m.matched.graph (m.k + 1) (Some m.refutation) right.2.refuted)
+        (below right.2.clauses_for m.matched.graph (m.k + 1) (Some m.refutation) right.2.holds.refuted)
     printable (SpentConflicts t) right =
         on_graph t.matched (claims.SpentConflicts t.k t.lemmas) t.refutation right.0 (
           cycles_low t.k right.1,
-          (let count = right.3.count in let most = set.conflicts.1 in
-              let read = readable accepted (formula_in Wide t.matched.graph input.table t.k) t.lemmas.lines right.2
-              right.3.accepted (omega (arith, count, most)) in
+          (let count = right.2.holds.1.count in let most = set.conflicts.1 in
+              let read = readable accepted (right.2.clauses_for t.k) t.lemmas.lines right.2.holds.0
+              right.2.holds.1.accepted (omega (arith, count, most)) in
               record { few = read.1; each = read.0 }),
         )
-        (below t.matched.graph t.k t.refutation right.4.refuted)
+        (below right.2.clauses_for t.matched.graph t.k t.refutation right.2.holds.2.refuted)
     printable (SpentSize l) right =
         on_graph l.matched (claims.SpentSize l.k l.vars l.clauses) l.refutation right.0
-        (cycles_low l.k right.1, right.3, right.4) (below l.matched.graph l.k l.refutation right.5.refuted)
+        (cycles_low l.k right.1, right.2, right.3)
+        (below right.4.clauses_for l.matched.graph l.k l.refutation right.4.holds.1.refuted)
     printable (NoWorld class a b) right = no_world named right.1 right.2 right.3
 
   all_printable : (goals : List GoalTree) (results : List Answered) → All (IsGoal input.ops) goals
       → All (λ (goal : GoalTree). most_rows_at_start goal ≤ 1000000) goals
-      → AllZip (λ goal answered. Right Wide input goal s answered) goals results
+      → AllZip (λ goal answered. Right Narrow input goal s answered) goals results
       → All (IsPrintableGoal input.table) (goals_claimed goals results)
   all_printable [] [] each small right = λ i d lt. absurd (omega (arith, lt))
   all_printable [] (r ∷ rs) each small right = absurd right
@@ -114,15 +117,15 @@ module _ (registers : RegistersAreLow) (slots : SlotsAreThere) (accepted : Accep
       (All-tail (λ (goal : GoalTree). most_rows_at_start goal ≤ 1000000) goal goals small) right.1)
 
   pub answers_can_be_printed : (results : List Answered) → StartsWithinFormat input
-      → AllZip (λ goal answered. Right Wide input goal s answered) input.goals results
-      → IsPrintable (answer_to Wide input results)
+      → AllZip (λ goal answered. Right Narrow input goal s answered) input.goals results
+      → IsPrintable (answer_to Narrow input results)
   answers_can_be_printed results small right =
-      let many = as_many input.goals results (λ goal answered. Right Wide input goal s answered) right in
+      let many = as_many input.goals results (λ goal answered. Right Narrow input goal s answered) right in
       let some = is.some_goal in
       let few = is.few.2 in
       record {
         version = refl;
-        encoding = refl;
+        encoding = (let least : 1 ≤ 2 = omega arith in let most : 2 ≤ 2 = omega arith in (least, most));
         table = is.table;
         names = is.slots;
         built_in = is.builtin;

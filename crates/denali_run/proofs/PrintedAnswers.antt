@@ -5,13 +5,14 @@ use Rattle.std.specs.List.{AllZip}
 use Rattle.std.proofs.lemmas.List.Elements.{All-head, All-tail}
 use Rattle.alpha_encode.specs.Decoded.{decoded}
 use Rattle.alpha_encode.specs.declared.instructions.Instr.{Instr}
+use Rattle.cnf_core.specs.Formula.{Formula}
 use Rattle.cnf_core.specs.declared.line.Line.{Line}
 use Rattle.cnf_core.specs.declared.line.Lines.{Lines}
-use Rattle.goal_reader.specs.Views.{GoalTree, InputTree}
-use Rattle.goal_reader.specs.WellFormed.{IsGoal, IsInput}
+use Rattle.goal_meaning.specs.Views.{GoalTree, InputTree}
+use Rattle.goal_meaning.specs.WellFormed.{IsGoal, IsInput}
 use Rattle.launch_graph.specs.GraphLines.{graph_lines, said}
-use Rattle.launch_graph.specs.WellFormed.{IsLaunchGraph}
-use Rattle.launch_graph.specs.declared.graphs.LaunchGraph.{LaunchGraph}
+use Rattle.graph_meaning.specs.WellFormed.{IsLaunchGraph}
+use Rattle.graph_meaning.specs.declared.graphs.LaunchGraph.{LaunchGraph}
 use Rattle.machine_table.specs.declared.tables.Slot.{Slot}
 use Rattle.machine_table.specs.declared.tables.Table.{Table}
 use Rattle.refutation_check.specs.LineWords.{IsReadableLine, line_words}
@@ -29,10 +30,10 @@ use Rattle.answer_texts.specs.AnswerParts.{IsPlace}
 use Rattle.answer_texts.specs.AnswerLines.{launch_words, refute_lines, stop_name, where_words, word_words}
 use Rattle.denali_run.proofs.ResultLines.{answered_lines, below_lines, goal_lines, goals_lines, matched_lines}
 use Rattle.denali_run.specs.MatchedGoals.{IsMatched, IsSettings}
-use Rattle.denali_run.specs.Right.{AreRefutedBelow, IsTooFew, one_less, formula_in, Right}
+use Rattle.denali_run.specs.Right.{AreRefutedBelow, IsTooFew, one_less, Right}
 use Rattle.denali_run.specs.declared.results.Answered.{Answered}
 use Rattle.denali_run.specs.declared.results.Answered.TheVariants.{Scheduled, Nowhere, SpentConflicts, SpentSize, NoWorld}
-use Rattle.denali_run.specs.declared.results.Encoding.{Encoding}
+use Rattle.cycle_encoding.specs.declared.encodings.Encoding.{Encoding}
 use Rattle.denali_run.specs.declared.results.Matched.{Matched}
 use Rattle.denali_run.specs.declared.settings.Settings.{Settings}
 use Rattle.denali_run.proofs.LineWords.{no_words, a_word, can_be, CanBeLines, no_lines, a_line, lines_from, lines_of, and_lines}
@@ -101,26 +102,26 @@ module _ (laws : Laws) where
       (subst (All CanBeLine) (words_placed 0 (map line_words lines))
       (laws.each 0 _ _ (laws.refutation_lines 0 lines can.0))))
 
-  few_readable : (e : Encoding) (g : LaunchGraph) (table : Table) (conflicts j : ℕ) (lines : List Line)
-      → conflicts ≤ 1000000 → IsTooFew e g table conflicts j lines
+  few_readable : (f : ℕ → Formula) (g : LaunchGraph) (table : Table) (conflicts j : ℕ) (lines : List Line)
+      → conflicts ≤ 1000000 → IsTooFew f g table conflicts j lines
       → All IsReadableLine lines × (length lines < 2 ^ 31)
-  few_readable e g table conflicts j lines most refuted =
-      readable laws.accepted (formula_in e g table j) lines refuted.none_fits.within refuted.refutes.accepted
+  few_readable f g table conflicts j lines most refuted =
+      readable laws.accepted (f j) lines refuted.none_fits.within refuted.refutes.accepted
       (let few : length lines ≤ conflicts = refuted.few in omega (arith, few, most))
 
-  below_can : (e : Encoding) (g : LaunchGraph) (table : Table) (conflicts k : ℕ) (lines : Option Lines) → k ≤ 24
-      → conflicts ≤ 1000000 → AreRefutedBelow e g table conflicts k lines → CanBeLines (below_lines k lines)
-  below_can e g table conflicts k None low most are = no_lines
-  below_can e g table conflicts k (Some lines) low most (one_less {k = j} refuted) =
+  below_can : (f : ℕ → Formula) (g : LaunchGraph) (table : Table) (conflicts k : ℕ) (lines : Option Lines) → k ≤ 24
+      → conflicts ≤ 1000000 → AreRefutedBelow f g table conflicts k lines → CanBeLines (below_lines k lines)
+  below_can f g table conflicts k None low most are = no_lines
+  below_can f g table conflicts k (Some lines) low most (one_less {k = j} refuted) =
       block_lines (codes "refute") (j + 1 - 1) lines.lines (record { some = λ e. cc; printed = refl })
-      (omega (arith, low)) (few_readable e g table conflicts j lines.lines most refuted)
+      (omega (arith, low)) (few_readable f g table conflicts j lines.lines most refuted)
 
-  refuted_can : (e : Encoding) (g : LaunchGraph) (table : Table) (conflicts k after : ℕ) (lines : Lines)
-      → after ≡ k + 1 → k ≤ 24 → conflicts ≤ 1000000 → AreRefutedBelow e g table conflicts after (Some lines)
+  refuted_can : (f : ℕ → Formula) (g : LaunchGraph) (table : Table) (conflicts k after : ℕ) (lines : Lines)
+      → after ≡ k + 1 → k ≤ 24 → conflicts ≤ 1000000 → AreRefutedBelow f g table conflicts after (Some lines)
       → CanBeLines (refute_lines k lines.lines)
-  refuted_can e g table conflicts k after lines is low most (one_less {k = j} refuted) =
+  refuted_can f g table conflicts k after lines is low most (one_less {k = j} refuted) =
       block_lines (codes "refute") k lines.lines (record { some = λ e. cc; printed = refl }) (omega (arith, low))
-      (few_readable e g table conflicts j lines.lines most refuted)
+      (few_readable f g table conflicts j lines.lines most refuted)
 
   -- ---- graphs
 
@@ -162,18 +163,19 @@ module _ (laws : Laws) where
         (and_lines _
         (lines_of (launch_words input.table) (IsPlaced input.table) (launch_line input.table is.slots) f.schedule.launches
         (are_placed laws.slots f.matched.graph input.table is.table right.0.graph.few f.k f.schedule.launches low
-        right.3.fits))
-        (and_lines _ (word_lines (instrs_of f.listing.items) f.words right.3.low right.3.words)
+        right.2.fits))
+        (and_lines _ (word_lines (instrs_of f.listing.items) f.words right.2.low right.2.words)
         (and_lines _
         (where_lines f.matched.graph right.0.graph input.table f.schedule.launches f.listing.items f.listing.wheres
-        right.3.listing.is)
-        (below_can e f.matched.graph input.table s.conflicts f.k f.refutation low set.conflicts.1 right.4.refuted)))))
+        right.2.listing.is)
+        (below_can right.3.clauses_for f.matched.graph input.table s.conflicts f.k f.refutation low set.conflicts.1
+        right.3.holds.1.refuted)))))
     answered_can goal (Nowhere m) right =
         let low : m.k ≤ 24 = cycles_low m.k (let same = right.1 in omega (arith, same)) in
         and_lines _ (front goal m.matched right.0)
         (a_line (number_line (codes "none") m.k (record { some = λ e. cc; printed = refl }) low)
-        (refuted_can e m.matched.graph input.table s.conflicts m.k (m.k + 1) m.refutation refl low set.conflicts.1
-        right.2.refuted))
+        (refuted_can right.2.clauses_for m.matched.graph input.table s.conflicts m.k (m.k + 1) m.refutation refl low
+        set.conflicts.1 right.2.holds.refuted))
     answered_can goal (SpentConflicts t) right =
         let low : t.k ≤ 24 = cycles_low t.k right.1 in
         and_lines _ (front goal t.matched right.0)
@@ -182,10 +184,11 @@ module _ (laws : Laws) where
         (a_word (record { some = λ e. cc; printed = refl })
         (a_word (record { some = λ e. cc; printed = refl })
         (a_word (laws.number t.k (omega (arith, low))) no_words))))
-        (and_lines _ (below_can e t.matched.graph input.table s.conflicts t.k t.refutation low set.conflicts.1 right.4.refuted)
+        (and_lines _ (below_can right.2.clauses_for t.matched.graph input.table s.conflicts t.k t.refutation low set.conflicts.1
+        right.2.holds.2.refuted)
         (block_lines (codes "lemmas") t.k t.lemmas.lines (record { some = λ e. cc; printed = refl }) (omega (arith, low))
-        (readable laws.accepted (formula_in e t.matched.graph input.table t.k) t.lemmas.lines right.2
-        right.3.accepted (let count = right.3.count in let most = set.conflicts.1 in omega (arith, count, most))))))
+        (readable laws.accepted (right.2.clauses_for t.k) t.lemmas.lines right.2.holds.0
+        right.2.holds.1.accepted (let count = right.2.holds.1.count in let most = set.conflicts.1 in omega (arith, count, most))))))
     answered_can goal (SpentSize l) right =
         let low : l.k ≤ 24 = cycles_low l.k right.1 in
         and_lines _ (front goal l.matched right.0)
@@ -194,8 +197,9 @@ module _ (laws : Laws) where
         (a_word (record { some = λ e. cc; printed = refl })
         (a_word (record { some = λ e. cc; printed = refl })
         (a_word (laws.number l.k (omega (arith, low)))
-        (a_word (laws.number l.vars right.3) (a_word (laws.number l.clauses right.4) no_words))))))
-        (below_can e l.matched.graph input.table s.conflicts l.k l.refutation low set.conflicts.1 right.5.refuted))
+        (a_word (laws.number l.vars right.2) (a_word (laws.number l.clauses right.3) no_words))))))
+        (below_can right.4.clauses_for l.matched.graph input.table s.conflicts l.k l.refutation low set.conflicts.1
+        right.4.holds.1.refuted))
     answered_can goal (NoWorld class a b) right =
         a_line
         (can_be

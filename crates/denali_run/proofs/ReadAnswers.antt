@@ -2,15 +2,15 @@
 use Rattle.std.proofs.Common.{◌≡◌, ◌∙◌, List, sym, ap}
 use Rattle.std.specs.List.{AllZip}
 use Rattle.std.proofs.lemmas.Grind.{flat_map-append}
-use Rattle.goal_reader.specs.Views.{InputTree}
-use Rattle.goal_reader.specs.WellFormed.{IsInput}
+use Rattle.goal_meaning.specs.Views.{InputTree}
+use Rattle.goal_meaning.specs.WellFormed.{IsInput}
 use Rattle.text_core.specs.LineTexts.{Words, line_text, lines_text}
 use Rattle.denali_run.specs.ClaimedResults.{answer_text}
 use Rattle.denali_run.proofs.ResultLines.{goals_lines, whole_head, same_answer}
 use Rattle.denali_run.specs.MatchedGoals.{IsSettings}
 use Rattle.denali_run.specs.Right.{Right}
 use Rattle.denali_run.specs.declared.results.Answered.{Answered}
-use Rattle.denali_run.specs.declared.results.Encoding.{Encoding}
+use Rattle.cycle_encoding.specs.declared.encodings.Encoding.{Encoding}
 use Rattle.denali_run.specs.declared.settings.Settings.{Settings}
 use Rattle.denali_run.proofs.LineWords.{each_line}
 use Rattle.denali_run.proofs.LinesApart.{lines_once}

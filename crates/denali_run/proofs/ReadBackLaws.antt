@@ -6,8 +6,8 @@ use Rattle.alpha_encode.specs.Formats.{IsWellFormed, encoded}
 use Rattle.alpha_encode.specs.declared.instructions.Instr.{Instr}
 use Rattle.cnf_core.specs.declared.line.Line.{Line as Row}
 use Rattle.launch_graph.specs.GraphLines.{graph_lines, said}
-use Rattle.launch_graph.specs.WellFormed.{IsLaunchGraph}
-use Rattle.launch_graph.specs.declared.graphs.LaunchGraph.{LaunchGraph}
+use Rattle.graph_meaning.specs.WellFormed.{IsLaunchGraph}
+use Rattle.graph_meaning.specs.declared.graphs.LaunchGraph.{LaunchGraph}
 use Rattle.refutation_check.specs.LineWords.{IsReadableLine, line_words}
 use Rattle.text_core.specs.LineTexts.{CanBeLine, lines_text, placed_lines, words_of_lines}
 use Rattle.text_core.specs.Lines.{Line, AreLines, IsLineWord}

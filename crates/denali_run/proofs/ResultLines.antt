@@ -5,14 +5,14 @@ use Rattle.std.proofs.lemmas.List.Concat.{flat_map-cons}
 use Rattle.answer_texts.specs.AnswerLines.{launch_words, word_words, where_words, refute_lines, lemmas_lines, rounds_words, scheduled_words, none_words, conflicts_words, size_words, noworld_words, goal_words, end_words, head_lines, answer_lines}
 use Rattle.answer_texts.specs.AnswerLines as format
 use Rattle.cnf_core.specs.declared.line.Lines.{Lines}
-use Rattle.goal_reader.specs.Views.{GoalTree, InputTree}
+use Rattle.goal_meaning.specs.Views.{GoalTree, InputTree}
 use Rattle.launch_graph.specs.GraphLines.{graph_lines, said}
 use Rattle.machine_table.specs.declared.tables.Table.{Table}
 use Rattle.text_core.specs.LineTexts.{Words}
 use Rattle.denali_run.specs.ClaimedResults.{answer_to, claimed, encoding_number, goals_claimed}
 use Rattle.denali_run.specs.declared.results.Answered.{Answered}
 use Rattle.denali_run.specs.declared.results.Answered.TheVariants.{Scheduled, Nowhere, SpentConflicts, SpentSize, NoWorld}
-use Rattle.denali_run.specs.declared.results.Encoding.{Encoding}
+use Rattle.cycle_encoding.specs.declared.encodings.Encoding.{Encoding}
 use Rattle.denali_run.specs.declared.results.Matched.{Matched}
 
 -- those for k - 1 cycles, where there are some

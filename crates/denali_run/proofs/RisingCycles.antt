@@ -4,59 +4,68 @@ use Rattle.std.proofs.Common.{Result, Ok, Err}
 use Rattle.std.specs.Prelude.{All, Decides, IfOk}
 use Rattle.std.proofs.lemmas.Bool.{false≢true}
 use Rattle.std.proofs.lemmas.Bool.Decides.{Decides-ltb}
+use Rattle.word_ops.specs.Words.{IsWord}
 use Rattle.cnf_core.specs.Formula.{Formula, Satisfies}
+use Rattle.cnf_core.specs.Outcome.{IsSpent}
 use Rattle.cnf_core.specs.Refutation.{Refutes, HaveNoSolution}
 use Rattle.cnf_core.specs.declared.line.Line.{Line}
 use Rattle.cnf_core.specs.declared.line.Lines.{Lines}
+use Rattle.cycle_encoding.specs.CycleFormula.{Scope, listed_in}
+use Rattle.cycle_encoding.specs.Encodings.{IsScope}
 use Rattle.cycle_encoding.specs.Faults.{EncodeFaultIs}
-use Rattle.cycle_encoding.specs.Plans.{IsTooLarge}
+use Rattle.cycle_encoding.specs.Plans.{IsTooLarge, PassesLimit}
+use Rattle.cycle_encoding.specs.declared.encodings.Encoding.{Encoding}
 use Rattle.cycle_encoding.specs.declared.plans.EncodeFault.{EncodeFault}
 use Rattle.cycle_encoding.specs.declared.plans.EncodeFault.TheVariants.{Size, Memory}
-use Rattle.goal_reader.specs.Views.{GoalTree, InputTree}
-use Rattle.launch_graph.specs.declared.graphs.LaunchGraph.{LaunchGraph}
+use Rattle.goal_meaning.specs.Views.{GoalTree, InputTree}
+use Rattle.graph_meaning.specs.declared.graphs.LaunchGraph.{LaunchGraph}
 use Rattle.machine_table.specs.declared.tables.Table.{Table}
+use Rattle.order_encoding.specs.WholeFormula.{AreFormulas, formula_in}
 use Rattle.register_assign.specs.Assigned.{IsTheListing, KeepsWord}
 use Rattle.register_assign.specs.Outcomes.{AreWordsOf}
 use Rattle.saturation.specs.StandsFor.{StandsFor}
 use Rattle.schedule_meaning.specs.Fits.{Fits}
 use Rattle.schedule_meaning.specs.declared.schedules.Launch.{Launch}
 use Rattle.denali_run.specs.MatchedGoals.{IsMatched}
-use Rattle.denali_run.specs.Right.{formula_in, NoneFits, IsTooFew, nothing_less, one_less, IsLeast, IsScheduled, Right}
-use Rattle.denali_run.specs.Trials.{IsTrial, IsLargeBy}
+use Rattle.denali_run.specs.Right.{NoneFits, IsTooFew, nothing_less, one_less, IsLeast, IsScheduled, Right}
+use Rattle.denali_run.specs.Trials.{IsTrial, IsLargeBy, IsReached, IsReachedIn}
 use Rattle.denali_run.proofs.Computing.{computes}
-use Rattle.denali_run.specs.declared.results.Encoding.TheVariants.{Wide}
-use Rattle.denali_run.specs.declared.results.Answered.TheVariants.{Scheduled, Nowhere}
+use Rattle.cycle_encoding.specs.declared.encodings.Encoding.TheVariants.{Narrow}
+use Rattle.denali_run.specs.declared.results.Answered.TheVariants.{Scheduled, Nowhere, SpentConflicts, SpentSize}
 use Rattle.denali_run.specs.declared.results.Found.{Found}
+use Rattle.denali_run.specs.declared.results.Large.{Large}
 use Rattle.denali_run.specs.declared.results.Missing.{Missing}
+use Rattle.denali_run.specs.declared.results.Tried.{Tried}
 use Rattle.denali_run.specs.declared.settings.Settings.{Settings}
+use Rattle.denali_run.specs.declared.searching.Reached.{Reached}
 use Rattle.denali_run.specs.declared.searching.Trial.{Trial}
-use Rattle.denali_run.specs.declared.searching.Trial.TheVariants.{Fitting, Refuted, Spent, Large}
+use Rattle.denali_run.specs.declared.searching.Trial.TheVariants as trials
 
-module _ (g : LaunchGraph) (table : Table) (conflicts : ℕ) where
-  pub refuted_of : (k : ℕ) (f : Formula) (lines : List Line) → length lines ≤ conflicts → f ≡ formula_in Wide g table k
-      → ¬ IsTooLarge (formula_in Wide g table k) → Refutes f lines → HaveNoSolution f.clauses
+module _ (clauses_for : ℕ → Formula) (g : LaunchGraph) (table : Table) (conflicts : ℕ) where
+  pub refuted_of : (k : ℕ) (f : Formula) (lines : List Line) → length lines ≤ conflicts → f ≡ clauses_for k
+      → ¬ IsTooLarge (clauses_for k) → Refutes f lines → HaveNoSolution f.clauses
       → ((ls : List Launch) → Fits g table k ls → (v : ℕ → Bool) × Satisfies v f.clauses)
-      → IsTooFew Wide g table conflicts k lines
+      → IsTooFew clauses_for g table conflicts k lines
   refuted_of k f lines few is within refutes none each = record {
     few = few;
     refutes = subst (λ f. Refutes f lines) is refutes;
     none_fits = record { within = within; none = λ ls fit. let v = each ls fit in none v.0 v.1 };
   }
 
-  pub least_at_first : IsLeast Wide g table conflicts 0 None
+  pub least_at_first : IsLeast clauses_for g table conflicts 0 None
   least_at_first = record { refuted = nothing_less; none_fits = λ j lt. absurd (omega arith) }
 
   by_test : (b : Bool) (j k : ℕ) → Decides b (j < k) → j < k + 1 → (j < k) ⊎ (j ≡ k)
   by_test true j k d lt = inl (d.0 refl)
   by_test false j k d lt = inr (let n : ¬ (j < k) = λ l. false≢true (d.1 l) in omega (arith, n, lt))
 
-  none_below : (k j : ℕ) → ((i : ℕ) → i < k → NoneFits Wide g table i) → NoneFits Wide g table k → (j < k) ⊎ (j ≡ k)
-      → NoneFits Wide g table j
+  none_below : (k j : ℕ) → ((i : ℕ) → i < k → NoneFits clauses_for g table i) → NoneFits clauses_for g table k → (j < k) ⊎ (j ≡ k)
+      → NoneFits clauses_for g table j
   none_below k j below at (inl lt) = below j lt
-  none_below k j below at (inr e) = subst (NoneFits Wide g table) (sym e) at
+  none_below k j below at (inr e) = subst (NoneFits clauses_for g table) (sym e) at
 
-  pub least_after : (k : ℕ) (before : Option Lines) (lines : Lines) → IsLeast Wide g table conflicts k before
-      → IsTooFew Wide g table conflicts k lines.lines → IsLeast Wide g table conflicts (k + 1) (Some lines)
+  pub least_after : (k : ℕ) (before : Option Lines) (lines : Lines) → IsLeast clauses_for g table conflicts k before
+      → IsTooFew clauses_for g table conflicts k lines.lines → IsLeast clauses_for g table conflicts (k + 1) (Some lines)
   least_after k before lines least refuted = record {
     refuted = one_less refuted;
     none_fits = λ j lt. none_below k j least.none_fits refuted.none_fits (by_test (nat_lt j k) j k (Decides-ltb j k) lt);
@@ -82,45 +91,108 @@ module _ (input : InputTree) (goal : GoalTree) (s : Settings) where
   at_table : (table : Table) (P : Table → Type 0) → input.table ≡ table → P table → P input.table
   at_table table P is h = subst P (sym is) h
 
-  pub found_right : (table : Table) (f : Found) → input.table ≡ table → IsMatched input goal s f.matched
-      → f.k ≤ s.cycles → (¬ IsTooLarge (formula_in Wide f.matched.graph table f.k))
-      × Fits f.matched.graph table f.k f.schedule.launches
+  pub found_right : (table : Table) (f : Found) (clauses_for : ℕ → Formula) → input.table ≡ table
+      → IsMatched input goal s f.matched → f.k ≤ s.cycles → AreFormulas Narrow f.matched.graph table clauses_for
+      → (¬ IsTooLarge (clauses_for f.k)) × Fits f.matched.graph table f.k f.schedule.launches
       → IsTheListing f.matched.graph table f.schedule.launches f.listing.items f.listing.wheres
       → AreWordsOf f.listing.items f.words → All (λ word. word < 2 ^ 32) f.words
       → KeepsWord f.matched.graph table f.k f.listing.items f.listing.wheres
-      → IsLeast Wide f.matched.graph table s.conflicts f.k f.refutation → Right Wide input goal s (Scheduled f)
-  found_right table f is matched few trial listing words low keeps least =
+      → IsLeast clauses_for f.matched.graph table s.conflicts f.k f.refutation → Right Narrow input goal s (Scheduled f)
+  found_right table f clauses_for is matched few formulas trial listing words low keeps least =
       let at : (P : Table → Type 0) → P table → P input.table = λ P h. at_table table P is h in (
         matched,
         few,
-        at (λ t. ¬ IsTooLarge (formula_in Wide f.matched.graph t f.k)) trial.0,
         scheduled f (at (λ t. Fits f.matched.graph t f.k f.schedule.launches) trial.1)
             (at (λ t. IsTheListing f.matched.graph t f.schedule.launches f.listing.items f.listing.wheres) listing) words low
             (at (λ t. KeepsWord f.matched.graph t f.k f.listing.items f.listing.wheres) keeps) matched.stands,
-        at (λ t. IsLeast Wide f.matched.graph t s.conflicts f.k f.refutation) least,
+        record {
+          clauses_for = clauses_for;
+          formulas = at (λ t. AreFormulas Narrow f.matched.graph t clauses_for) formulas;
+          holds = (trial.0, at (λ t. IsLeast clauses_for f.matched.graph t s.conflicts f.k f.refutation) least);
+        },
       )
 
-  pub missing_right : (table : Table) (m : Missing) → input.table ≡ table → IsMatched input goal s m.matched
-      → m.k ≡ s.cycles → IsLeast Wide m.matched.graph table s.conflicts (m.k + 1) (Some m.refutation)
-      → Right Wide input goal s (Nowhere m)
-  missing_right table m is matched last least = (
+  pub missing_right : (table : Table) (m : Missing) (clauses_for : ℕ → Formula) → input.table ≡ table
+      → IsMatched input goal s m.matched → m.k ≡ s.cycles → AreFormulas Narrow m.matched.graph table clauses_for
+      → IsLeast clauses_for m.matched.graph table s.conflicts (m.k + 1) (Some m.refutation)
+      → Right Narrow input goal s (Nowhere m)
+  missing_right table m clauses_for is matched last formulas least = (
     matched,
     last,
-    at_table table (λ t. IsLeast Wide m.matched.graph t s.conflicts (m.k + 1) (Some m.refutation)) is least,
+    record {
+      clauses_for = clauses_for;
+      formulas = at_table table (λ t. AreFormulas Narrow m.matched.graph t clauses_for) is formulas;
+      holds = at_table table (λ t. IsLeast clauses_for m.matched.graph t s.conflicts (m.k + 1) (Some m.refutation)) is least;
+    },
   )
+
+  pub spent_right : (table : Table) (t : Tried) (clauses_for : ℕ → Formula) → input.table ≡ table
+      → IsMatched input goal s t.matched → t.k ≤ s.cycles → AreFormulas Narrow t.matched.graph table clauses_for
+      → (¬ IsTooLarge (clauses_for t.k)) × IsSpent (clauses_for t.k) s.conflicts t.lemmas.lines
+      → IsLeast clauses_for t.matched.graph table s.conflicts t.k t.refutation
+      → Right Narrow input goal s (SpentConflicts t)
+  spent_right table t clauses_for is matched few formulas trial least = (
+    matched,
+    few,
+    record {
+      clauses_for = clauses_for;
+      formulas = at_table table (λ x. AreFormulas Narrow t.matched.graph x clauses_for) is formulas;
+      holds = (
+        trial.0,
+        trial.1,
+        at_table table (λ x. IsLeast clauses_for t.matched.graph x s.conflicts t.k t.refutation) is least,
+      );
+    },
+  )
+
+  pub large_right : (table : Table) (l : Large) (clauses_for : ℕ → Formula) → input.table ≡ table
+      → IsMatched input goal s l.matched → l.k ≤ s.cycles → AreFormulas Narrow l.matched.graph table clauses_for
+      → PassesLimit (clauses_for l.k) l.vars l.clauses × IsWord l.vars × IsWord l.clauses
+      → IsLeast clauses_for l.matched.graph table s.conflicts l.k l.refutation
+      → Right Narrow input goal s (SpentSize l)
+  large_right table l clauses_for is matched few formulas trial least = (
+    matched,
+    few,
+    trial.1,
+    trial.2,
+    record {
+      clauses_for = clauses_for;
+      formulas = at_table table (λ x. AreFormulas Narrow l.matched.graph x clauses_for) is formulas;
+      holds = (
+        trial.0,
+        at_table table (λ x. IsLeast clauses_for l.matched.graph x s.conflicts l.k l.refutation) is least,
+      );
+    },
+  )
+
+-- the clauses over what a scope gives variables are those of its encoding
+pub formulas_in : (e : Encoding) (g : LaunchGraph) (table : Table) (s : Scope) → IsScope e g table s
+    → AreFormulas e g table (formula_in s g table)
+formulas_in e g table s is = λ k few. record { lists = listed_in g table k s; listed = is.lists k few; is = refl }
+
+-- where numbers of cycles ended by these clauses, they did so by those of the encoding
+pub reached_in : {E : Type 0} (e : Encoding) (g h : LaunchGraph) (table : Table) (scope : Scope) (s : Settings) → h ≡ g
+    → IsScope e h table scope → (r : Result Reached E) → IfOk r (IsReached (formula_in scope h table) g table s)
+    → IfOk r (IsReachedIn e g table s)
+reached_in e g h table scope s same is (Ok r) holds = record {
+  clauses_for = formula_in scope h table;
+  formulas = subst (λ (x : LaunchGraph). AreFormulas e x table (formula_in scope h table)) same (formulas_in e h table scope is);
+  holds = holds;
+}
+reached_in e g h table scope s same is (Err x) holds = tt
 
 -- ---- formulas that are too large
 
-module _ (g : LaunchGraph) (table : Table) (k conflicts : ℕ) where
-  large : (fault : EncodeFault) (t : Trial) → EncodeFaultIs (formula_in Wide g table k) fault → IsLargeBy fault t
-      → IsTrial Wide g table k conflicts t
-  large (Size v c) (Large vars clauses) h e = ((h.0, e.0 ∙ h.1, e.1 ∙ h.2), e.2, e.3)
-  large (Size v c) (Fitting s) h e = absurd e
-  large (Size v c) (Refuted s) h e = absurd e
-  large (Size v c) (Spent s) h e = absurd e
+module _ (clauses_for : ℕ → Formula) (g : LaunchGraph) (table : Table) (k conflicts : ℕ) where
+  large : (fault : EncodeFault) (t : Trial) → EncodeFaultIs (clauses_for k) fault → IsLargeBy fault t
+      → IsTrial clauses_for g table k conflicts t
+  large (Size v c) (trials.Large vars clauses) h e = ((h.0, e.0 ∙ h.1, e.1 ∙ h.2), e.2, e.3)
+  large (Size v c) (trials.Fitting s) h e = absurd e
+  large (Size v c) (trials.Refuted s) h e = absurd e
+  large (Size v c) (trials.Spent s) h e = absurd e
   large Memory t h e = absurd e
 
-  pub all_large : {E : Type 0} (fault : EncodeFault) (r : Result Trial E) → EncodeFaultIs (formula_in Wide g table k) fault
-      → IfOk r (IsLargeBy fault) → IfOk r (IsTrial Wide g table k conflicts)
+  pub all_large : {E : Type 0} (fault : EncodeFault) (r : Result Trial E) → EncodeFaultIs (clauses_for k) fault
+      → IfOk r (IsLargeBy fault) → IfOk r (IsTrial clauses_for g table k conflicts)
   all_large fault (Ok t) h e = large fault t h e
   all_large fault (Err x) h e = tt

@@ -6,8 +6,8 @@ use Rattle.std.proofs.lemmas.List.Elements.{All-head, All-tail}
 use Rattle.alpha_encode.specs.Decoded.{decoded}
 use Rattle.alpha_encode.specs.declared.instructions.Instr.{Instr}
 use Rattle.cnf_core.specs.declared.line.Lines.{Lines}
-use Rattle.goal_reader.specs.Views.{GoalTree, InputTree}
-use Rattle.goal_reader.specs.WellFormed.{IsInput}
+use Rattle.goal_meaning.specs.Views.{GoalTree, InputTree}
+use Rattle.goal_meaning.specs.WellFormed.{IsInput}
 use Rattle.launch_graph.specs.GraphLines.{graph_lines, said}
 use Rattle.machine_table.specs.declared.tables.Table.{Table}
 use Rattle.register_assign.specs.Listings.{IsListing}
@@ -16,10 +16,10 @@ use Rattle.text_core.specs.LineTexts.{Words}
 use Rattle.answer_texts.specs.AnswerLines.{conflicts_words, end_words, goal_words, lemmas_lines, none_words, noworld_words, refute_lines, rounds_words, scheduled_words, size_words, where_words, word_words}
 use Rattle.denali_run.proofs.ResultLines.{answered_lines, below_lines, goals_lines, matched_lines}
 use Rattle.denali_run.specs.MatchedGoals.{IsMatched, IsSettings}
-use Rattle.denali_run.specs.Right.{AreRefutedBelow, Right, formula_in}
+use Rattle.denali_run.specs.Right.{AreRefutedBelow, Right}
 use Rattle.denali_run.specs.declared.results.Answered.{Answered}
 use Rattle.denali_run.specs.declared.results.Answered.TheVariants.{Scheduled, Nowhere, SpentConflicts, SpentSize, NoWorld}
-use Rattle.denali_run.specs.declared.results.Encoding.{Encoding}
+use Rattle.cycle_encoding.specs.declared.encodings.Encoding.{Encoding}
 use Rattle.denali_run.specs.declared.results.Found.{Found}
 use Rattle.denali_run.specs.declared.results.Large.{Large}
 use Rattle.denali_run.specs.declared.results.Matched.{Matched}
@@ -132,24 +132,24 @@ module _ (laws : Laws) where
         let launches = launches_once table is.table f.schedule.launches g.schedule.launches
         (map word_words f.words ++ (map where_words f.listing.wheres ++ (below_lines f.k f.refutation ++ x)))
         (map word_words g.words ++ (map where_words g.listing.wheres ++ (below_lines g.k g.refutation ++ y)))
-        (are_placed laws.slots f.matched.graph table is.table p.0.graph.few f.k f.schedule.launches low p.3.fits)
-        (are_placed laws.slots g.matched.graph table is.table o.0.graph.few g.k g.schedule.launches less o.3.fits)
+        (are_placed laws.slots f.matched.graph table is.table p.0.graph.few f.k f.schedule.launches low p.2.fits)
+        (are_placed laws.slots g.matched.graph table is.table o.0.graph.few g.k g.schedule.launches less o.2.fits)
         (no_launch f x apart) (no_launch g y alone) rest in
         let listed : IsListing f.matched.graph table f.schedule.launches g.listing.items g.listing.wheres =
         subst (λ m. IsListing m.graph table f.schedule.launches g.listing.items g.listing.wheres) (sym same)
         (subst (λ ls. IsListing g.matched.graph table ls g.listing.items g.listing.wheres) (sym launches.0)
-        o.3.listing.is) in
-        let places = p.3.listing.only g.listing.items g.listing.wheres listed in
+        o.2.listing.is) in
+        let places = p.2.listing.only g.listing.items g.listing.wheres listed in
         let words : f.words ≡ g.words =
-        words_once (instrs_of f.listing.items) f.words g.words p.3.low o.3.low p.3.words
-        (subst (λ items. AreWordsOf items g.words) places.0 o.3.words) in
+        words_once (instrs_of f.listing.items) f.words g.words p.2.low o.2.low p.2.words
+        (subst (λ items. AreWordsOf items g.words) places.0 o.2.words) in
         let front : map word_words f.words ++ (map where_words f.listing.wheres ++ (below_lines g.k g.refutation ++ y))
         ≡ map word_words g.words ++ (map where_words g.listing.wheres ++ (below_lines g.k g.refutation ++ y)) =
         ap (λ ws. map word_words ws ++ (map where_words f.listing.wheres ++ (below_lines g.k g.refutation ++ y))) words
         ∙ ap (λ ps. map word_words g.words ++ (map where_words ps ++ (below_lines g.k g.refutation ++ y))) (sym places.1) in
-        let below = below_once laws.accepted laws.one_line e f.matched.graph table s.conflicts set.conflicts.1 f.k g.k
-        f.refutation g.refutation x y level p.4.refuted
-        (subst (λ m. AreRefutedBelow e m.graph table s.conflicts g.k g.refutation) (sym same) o.4.refuted)
+        let below = below_once laws.accepted laws.one_line p.3.clauses_for o.3.clauses_for f.matched.graph table s.conflicts set.conflicts.1 f.k g.k
+        f.refutation g.refutation x y level p.3.holds.1.refuted
+        (subst (λ m. AreRefutedBelow o.3.clauses_for m.graph table s.conflicts g.k g.refutation) (sym same) o.3.holds.1.refuted)
         (append_same (map where_words f.listing.wheres) (below_lines f.k f.refutation ++ x)
         (below_lines g.k g.refutation ++ y)
         (append_same (map word_words f.words) (map where_words f.listing.wheres ++ (below_lines f.k f.refutation ++ x))
@@ -163,9 +163,10 @@ module _ (laws : Laws) where
         → behind table (Nowhere m) x ≡ behind table (Nowhere n) y → (Nowhere m ≡ Nowhere n) × (x ≡ y)
     missing_once m n x y p o same rest =
         let level : m.k ≡ n.k = p.1 ∙ sym o.1 in
-        let below = below_once laws.accepted laws.one_line e m.matched.graph table s.conflicts set.conflicts.1
-        (m.k + 1) (n.k + 1) (Some m.refutation) (Some n.refutation) x y (ap (λ k. k + 1) level) p.2.refuted
-        (subst (λ g. AreRefutedBelow e g.graph table s.conflicts (n.k + 1) (Some n.refutation)) (sym same) o.2.refuted)
+        let below = below_once laws.accepted laws.one_line p.2.clauses_for o.2.clauses_for m.matched.graph table s.conflicts set.conflicts.1
+        (m.k + 1) (n.k + 1) (Some m.refutation) (Some n.refutation) x y (ap (λ k. k + 1) level) p.2.holds.refuted
+        (subst (λ g. AreRefutedBelow o.2.clauses_for g.graph table s.conflicts (n.k + 1) (Some n.refutation)) (sym same)
+        o.2.holds.refuted)
         (ap (λ k. refute_lines k m.refutation.lines ++ x) (one_less_than m.k) ∙ rest
         ∙ ap (λ k. refute_lines k n.refutation.lines ++ y) (sym (one_less_than n.k))) in
         (ap Nowhere (same_missing m n same level (some_lines m.refutation n.refutation below.0)), below.1)
@@ -184,14 +185,16 @@ module _ (laws : Laws) where
         cycles_same (codes "conflicts") t.k u.k [] [] low less
         (rest_same (codes "spent") (codes "spent") (codes "conflicts" ∷ decimal t.k ∷ [])
         (codes "conflicts" ∷ decimal u.k ∷ []) kind) in
-        let below = below_once laws.accepted laws.one_line e t.matched.graph table s.conflicts set.conflicts.1 t.k u.k
+        let below = below_once laws.accepted laws.one_line p.2.clauses_for o.2.clauses_for t.matched.graph table s.conflicts set.conflicts.1 t.k u.k
         t.refutation u.refutation (lemmas_lines t.k t.lemmas.lines ++ x) (lemmas_lines u.k u.lemmas.lines ++ y) level
-        p.4.refuted (subst (λ m. AreRefutedBelow e m.graph table s.conflicts u.k u.refutation) (sym same) o.4.refuted) rest in
+        p.2.holds.2.refuted
+        (subst (λ m. AreRefutedBelow o.2.clauses_for m.graph table s.conflicts u.k u.refutation) (sym same)
+        o.2.holds.2.refuted) rest in
         let lemmas = block_once laws.one_line (codes "lemmas") (decimal t.k) t.lemmas.lines u.lemmas.lines x y
-        (readable laws.accepted (formula_in e t.matched.graph table t.k) t.lemmas.lines p.2 p.3.accepted
-        (let count = p.3.count in let most = set.conflicts.1 in omega (arith, count, most)))
-        (readable laws.accepted (formula_in e u.matched.graph table u.k) u.lemmas.lines o.2 o.3.accepted
-        (let count = o.3.count in let most = set.conflicts.1 in omega (arith, count, most)))
+        (readable laws.accepted (p.2.clauses_for t.k) t.lemmas.lines p.2.holds.0 p.2.holds.1.accepted
+        (let count = p.2.holds.1.count in let most = set.conflicts.1 in omega (arith, count, most)))
+        (readable laws.accepted (o.2.clauses_for u.k) u.lemmas.lines o.2.holds.0 o.2.holds.1.accepted
+        (let count = o.2.holds.1.count in let most = set.conflicts.1 in omega (arith, count, most)))
         (below.1 ∙ ap (λ k. lemmas_lines k u.lemmas.lines ++ y) (sym level)) in
         (ap SpentConflicts (same_tried t u same level below.0 (same_lines t.lemmas u.lemmas lemmas.0)), lemmas.1)
 
@@ -213,13 +216,14 @@ module _ (laws : Laws) where
         (rest_same (codes "size") (codes "size") (decimal l.k ∷ decimal l.vars ∷ decimal l.clauses ∷ [])
         (decimal m.k ∷ decimal m.vars ∷ decimal m.clauses ∷ []) size) in
         let vars : l.vars ≡ m.vars =
-        number_same l.vars m.vars (decimal l.clauses ∷ []) (decimal m.clauses ∷ []) p.3 o.3 counts in
+        number_same l.vars m.vars (decimal l.clauses ∷ []) (decimal m.clauses ∷ []) p.2 o.2 counts in
         let clauses : l.clauses ≡ m.clauses =
-        number_same l.clauses m.clauses [] [] p.4 o.4
+        number_same l.clauses m.clauses [] [] p.3 o.3
         (rest_same (decimal l.vars) (decimal m.vars) (decimal l.clauses ∷ []) (decimal m.clauses ∷ []) counts) in
-        let below = below_once laws.accepted laws.one_line e l.matched.graph table s.conflicts set.conflicts.1 l.k m.k
-        l.refutation m.refutation x y level p.5.refuted
-        (subst (λ g. AreRefutedBelow e g.graph table s.conflicts m.k m.refutation) (sym same) o.5.refuted) rest in
+        let below = below_once laws.accepted laws.one_line p.4.clauses_for o.4.clauses_for l.matched.graph table s.conflicts set.conflicts.1 l.k m.k
+        l.refutation m.refutation x y level p.4.holds.1.refuted
+        (subst (λ g. AreRefutedBelow o.4.clauses_for g.graph table s.conflicts m.k m.refutation) (sym same)
+        o.4.holds.1.refuted) rest in
         (ap SpentSize (same_large l m same level below.0 vars clauses), below.1)
 
     noworld_once : (class a b other c d : ℕ) (x y : List Words) → Right e input goal s (NoWorld class a b)

@@ -7,14 +7,13 @@ use Rattle.cnf_core.specs.Refutation.{AreAccepted}
 use Rattle.cnf_core.specs.declared.line.Line.{Line}
 use Rattle.cnf_core.specs.declared.line.Lines.{Lines}
 use Rattle.cycle_encoding.specs.Plans.{IsTooLarge}
-use Rattle.launch_graph.specs.declared.graphs.LaunchGraph.{LaunchGraph}
+use Rattle.graph_meaning.specs.declared.graphs.LaunchGraph.{LaunchGraph}
 use Rattle.machine_table.specs.declared.tables.Table.{Table}
 use Rattle.refutation_check.specs.LineWords.{IsLineOf, IsReadableLine, line_words}
 use Rattle.text_core.specs.LineTexts.{Words}
 use Rattle.answer_texts.specs.AnswerLines.{refute_lines}
 use Rattle.denali_run.proofs.ResultLines.{below_lines}
-use Rattle.denali_run.specs.Right.{IsTooFew, AreRefutedBelow, nothing_less, one_less, formula_in}
-use Rattle.denali_run.specs.declared.results.Encoding.{Encoding}
+use Rattle.denali_run.specs.Right.{IsTooFew, AreRefutedBelow, nothing_less, one_less}
 use Rattle.denali_run.proofs.SameParts.{head_same, rest_same, cons_same, counted_same, each_once}
 
 -- ---- lines of a refutation
@@ -67,29 +66,29 @@ pub same_lines : (a b : Lines) → a.lines ≡ b.lines → a ≡ b
 unfolding lines_of
 same_lines a b e = ap lines_of e
 
-module _ (accepted : AcceptedAreReadable) (one : WordsAreOneLine) (e : Encoding) (g : LaunchGraph) (table : Table)
-    (conflicts : ℕ) (low : conflicts ≤ 1000000) where
-  pub refuted_once : (j : ℕ) (a b : Lines) (r q : List Words) → IsTooFew e g table conflicts j a.lines
-      → IsTooFew e g table conflicts j b.lines → refute_lines j a.lines ++ r ≡ refute_lines j b.lines ++ q
+module _ (accepted : AcceptedAreReadable) (one : WordsAreOneLine) (c d : ℕ → Formula) (g : LaunchGraph)
+    (table : Table) (conflicts : ℕ) (low : conflicts ≤ 1000000) where
+  pub refuted_once : (j : ℕ) (a b : Lines) (r q : List Words) → IsTooFew c g table conflicts j a.lines
+      → IsTooFew d g table conflicts j b.lines → refute_lines j a.lines ++ r ≡ refute_lines j b.lines ++ q
       → (a ≡ b) × (r ≡ q)
   refuted_once j a b r q f h is =
       let few : length a.lines ≤ conflicts = f.few in
       let also : length b.lines ≤ conflicts = h.few in
       let both = block_once one (codes "refute") (decimal j) a.lines b.lines r q
-      (readable accepted (formula_in e g table j) a.lines f.none_fits.within f.refutes.accepted (omega (arith, few, low)))
-      (readable accepted (formula_in e g table j) b.lines h.none_fits.within h.refutes.accepted (omega (arith, also, low)))
+      (readable accepted (c j) a.lines f.none_fits.within f.refutes.accepted (omega (arith, few, low)))
+      (readable accepted (d j) b.lines h.none_fits.within h.refutes.accepted (omega (arith, also, low)))
       is in
       (same_lines a b both.0, both.1)
 
   -- the lines that refute the clauses for one cycle less, where there is one
-  pub below_once : (k m : ℕ) (a b : Option Lines) (r q : List Words) → k ≡ m → AreRefutedBelow e g table conflicts k a
-      → AreRefutedBelow e g table conflicts m b → below_lines k a ++ r ≡ below_lines m b ++ q → (a ≡ b) × (r ≡ q)
+  pub below_once : (k m : ℕ) (a b : Option Lines) (r q : List Words) → k ≡ m → AreRefutedBelow c g table conflicts k a
+      → AreRefutedBelow d g table conflicts m b → below_lines k a ++ r ≡ below_lines m b ++ q → (a ≡ b) × (r ≡ q)
   below_once k m None None r q same f h is = (refl, is)
   below_once k m None (Some b) r q same nothing_less (one_less {k = n} h) is = absurd (omega (arith, same))
   below_once k m (Some a) None r q same (one_less {k = n} f) nothing_less is = absurd (omega (arith, same))
   below_once k m (Some a) (Some b) r q same (one_less {k = n} f) (one_less {k = j} h) is =
       let level : n ≡ j = omega (arith, same) in
-      let both = refuted_once n a b r q f (subst (λ i. IsTooFew e g table conflicts i b.lines) (sym level) h)
+      let both = refuted_once n a b r q f (subst (λ i. IsTooFew d g table conflicts i b.lines) (sym level) h)
       (ap (λ i. refute_lines i a.lines ++ r) (sym (one_less_than n)) ∙ is
       ∙ ap (λ i. refute_lines i b.lines ++ q) (one_less_than j ∙ sym level)) in
       (ap Some both.0, both.1)

@@ -1,7 +1,7 @@
 -- Each goal of a text that the program reads has a first graph within the format.
 use Rattle.std.proofs.Common.{ℕ, zero, suc, ◌*◌, ◌<◌, ◌≤◌, ◌^◌, List, [], ◌∷◌, length, get_or, arith}
-use Rattle.goal_reader.specs.Views.{InputTree}
-use Rattle.goal_reader.specs.WellFormed.{IsInput, operators_of_goal, operators_of_input, sum_over}
+use Rattle.goal_meaning.specs.Views.{InputTree}
+use Rattle.goal_meaning.specs.WellFormed.{IsInput, operators_of_goal, operators_of_input, sum_over}
 use Rattle.denali_run.specs.ClaimedResults.{StartsWithinFormat}
 
 -- one of several is no larger than all

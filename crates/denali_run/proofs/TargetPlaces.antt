@@ -8,10 +8,10 @@ use Rattle.std.proofs.lemmas.List.Elements.{All-cons, All-head, All-tail, All-ma
 use Rattle.alpha_encode.specs.Decoded.{decoded}
 use Rattle.alpha_encode.specs.declared.instructions.Instr.{Instr}
 use Rattle.answer_texts.specs.AnswerParts.{AreCodes, AreWherePlaces, IsCode, IsPlace}
-use Rattle.launch_graph.specs.Graphs.{input_register, is_memory_name, is_zero_class}
-use Rattle.launch_graph.specs.WellFormed.{ClassHasSort, IsLaunchGraph}
-use Rattle.launch_graph.specs.declared.graphs.LaunchGraph.{LaunchGraph}
-use Rattle.launch_graph.specs.declared.graphs.SetClass.{SetClass}
+use Rattle.graph_meaning.specs.Graphs.{input_register, is_memory_name, is_zero_class}
+use Rattle.graph_meaning.specs.WellFormed.{ClassHasSort, IsLaunchGraph}
+use Rattle.graph_meaning.specs.declared.graphs.LaunchGraph.{LaunchGraph}
+use Rattle.graph_meaning.specs.declared.graphs.SetClass.{SetClass}
 use Rattle.machine_table.specs.declared.tables.Table.{Table}
 use Rattle.register_assign.specs.Listings.{IsListing, or_register, register_at, target_register, word_targets}
 use Rattle.register_assign.specs.declared.listings.Item.{Item}

@@ -6,13 +6,13 @@ use Rattle.answer_texts.specs.declared.answers.Claim.{Claim}
 use Rattle.answer_texts.specs.declared.answers.Claim.TheVariants as claims
 use Rattle.answer_texts.specs.declared.answers.Claimed.{Claimed}
 use Rattle.cnf_core.specs.declared.line.Lines.{Lines}
-use Rattle.goal_reader.specs.Views.{GoalTree, InputTree}
+use Rattle.goal_meaning.specs.Views.{GoalTree, InputTree}
 use Rattle.saturation.specs.AtStart.{most_rows_at_start}
 use Rattle.saturation.specs.declared.rounds.Stop.TheVariants.{Quiet}
 use Rattle.denali_run.specs.declared.results.Answered.{Answered}
 use Rattle.denali_run.specs.declared.results.Answered.TheVariants.{Scheduled, Nowhere, SpentConflicts, SpentSize, NoWorld}
-use Rattle.denali_run.specs.declared.results.Encoding.{Encoding}
-use Rattle.denali_run.specs.declared.results.Encoding.TheVariants.{Wide}
+use Rattle.cycle_encoding.specs.declared.encodings.Encoding.{Encoding}
+use Rattle.cycle_encoding.specs.declared.encodings.Encoding.TheVariants.{Wide, Narrow}
 use Rattle.denali_run.specs.declared.results.Matched.{Matched}
 
 -- a claim with the graph that it is about, and the lines that refute fewer cycles
@@ -30,8 +30,10 @@ claimed name (SpentSize l) = claimed_on name l.matched (claims.SpentSize l.k l.v
 claimed name (NoWorld class a b) =
     record { name = name; graph = None; rounds = 0; stop = Quiet; claim = claims.NoWorld class a b; refute = None }
 
+-- the number by which an answer names an encoding
 abbrev pub encoding_number : Encoding → ℕ
 encoding_number Wide = 1
+encoding_number Narrow = 2
 
 -- each goal with its result
 abbrev pub goals_claimed : List GoalTree → List Answered → List Claimed

@@ -7,10 +7,10 @@ use Rattle.word_ops.specs.Worlds.{World, IsWorld, Value, word, memory}
 use Rattle.alpha_machine.specs.States.{MachineState}
 use Rattle.alpha_machine.specs.Runs.{Runs, trace}
 use Rattle.alpha_machine.specs.declared.running.End.TheVariants.{Fall, Exit}
-use Rattle.goal_reader.specs.Holds.{HoldsFor}
-use Rattle.goal_reader.specs.Outcomes.{NewValue, Outcome, exit, fall, outcome}
-use Rattle.goal_reader.specs.Views.{GoalTree, InputTree}
-use Rattle.goal_reader.specs.declared.goals.InputReg.{InputReg}
+use Rattle.goal_meaning.specs.Holds.{HoldsFor}
+use Rattle.goal_meaning.specs.Outcomes.{NewValue, Outcome, exit, fall, outcome}
+use Rattle.goal_meaning.specs.Views.{GoalTree, InputTree}
+use Rattle.goal_meaning.specs.declared.goals.InputReg.{InputReg}
 use Rattle.register_assign.specs.Obeys.{loads}
 use Rattle.register_assign.specs.Outcomes.{entry_state, instrs_of}
 use Rattle.register_assign.specs.declared.listings.Item.{Item}

@@ -1,9 +1,9 @@
 -- The graph of a goal after its rounds of matching. From Denali (PLDI 2002), its matching phase; when rounds end is this
 -- project's.
 use Rattle.std.specs.Prelude.{ℕ, ◌≤◌, length, max}
-use Rattle.goal_reader.specs.Views.{GoalTree, InputTree}
-use Rattle.launch_graph.specs.WellFormed.{IsLaunchGraph}
-use Rattle.launch_graph.specs.declared.graphs.LaunchGraph.{LaunchGraph}
+use Rattle.goal_meaning.specs.Views.{GoalTree, InputTree}
+use Rattle.graph_meaning.specs.WellFormed.{IsLaunchGraph}
+use Rattle.graph_meaning.specs.declared.graphs.LaunchGraph.{LaunchGraph}
 use Rattle.saturation.specs.AtStart.{most_rows_at_start}
 use Rattle.saturation.specs.Derives.{IsClash}
 use Rattle.saturation.specs.GoalTerms.{assumed_pairs, present_terms, rules_of}

@@ -7,13 +7,12 @@ use Rattle.cnf_core.specs.Outcome.{IsSpent}
 use Rattle.cnf_core.specs.Refutation.{Refutes}
 use Rattle.cnf_core.specs.declared.line.Line.{Line}
 use Rattle.cnf_core.specs.declared.line.Lines.{Lines}
-use Rattle.cycle_encoding.specs.CycleFormula.{wide}
 use Rattle.cycle_encoding.specs.Plans.{IsTooLarge, PassesLimit}
-use Rattle.goal_reader.specs.Holds.{HoldsFor}
-use Rattle.goal_reader.specs.Views.{GoalTree, InputTree}
-use Rattle.launch_graph.specs.declared.graphs.LaunchGraph.{LaunchGraph}
+use Rattle.goal_meaning.specs.Holds.{HoldsFor}
+use Rattle.goal_meaning.specs.Views.{GoalTree, InputTree}
+use Rattle.graph_meaning.specs.declared.graphs.LaunchGraph.{LaunchGraph}
 use Rattle.machine_table.specs.declared.tables.Table.{Table}
-use Rattle.order_encoding.specs.WholeFormula.{whole_formula}
+use Rattle.order_encoding.specs.WholeFormula.{AreFormulas}
 use Rattle.register_assign.specs.Assigned.{IsTheListing}
 use Rattle.register_assign.specs.Obeys.{Obeys}
 use Rattle.register_assign.specs.Outcomes.{AreWordsOf}
@@ -23,41 +22,42 @@ use Rattle.denali_run.specs.GoalOutcomes.{Computes}
 use Rattle.denali_run.specs.MatchedGoals.{IsClashOf, IsMatched, ReachesRound}
 use Rattle.denali_run.specs.declared.results.Answered.{Answered}
 use Rattle.denali_run.specs.declared.results.Answered.TheVariants.{Scheduled, Nowhere, SpentConflicts, SpentSize, NoWorld}
-use Rattle.denali_run.specs.declared.results.Encoding.{Encoding}
-use Rattle.denali_run.specs.declared.results.Encoding.TheVariants.{Wide}
+use Rattle.cycle_encoding.specs.declared.encodings.Encoding.{Encoding}
 use Rattle.denali_run.specs.declared.results.Found.{Found}
 use Rattle.denali_run.specs.declared.settings.Settings.{Settings}
 
--- ---- clauses and schedules of a graph
-
--- the clauses that say in an encoding that a schedule fits in k cycles
-abbrev pub formula_in : Encoding → LaunchGraph → Table → ℕ → Formula
-formula_in Wide g table k = whole_formula g table k (wide g table k)
+-- ---- clauses and schedules of a graph, by the clauses for each number of cycles
 
 -- the clauses for k cycles are within the limits, and no list of launches fits in k cycles
-pub record NoneFits (e : Encoding) (g : LaunchGraph) (table : Table) (k : ℕ) : Type 0 where
-  pub within : ¬ IsTooLarge (formula_in e g table k)
+pub record NoneFits (clauses_for : ℕ → Formula) (g : LaunchGraph) (table : Table) (k : ℕ) : Type 0 where
+  pub within : ¬ IsTooLarge (clauses_for k)
   pub none : (ls : List Launch) → Fits g table k ls → ⊥
 
 -- at most so many lines refute the clauses for k cycles, one for each conflict, and no schedule fits in them
-pub record IsTooFew (e : Encoding) (g : LaunchGraph) (table : Table) (conflicts k : ℕ) (lines : List Line)
+pub record IsTooFew (clauses_for : ℕ → Formula) (g : LaunchGraph) (table : Table) (conflicts k : ℕ) (lines : List Line)
     : Type 0 where
   pub few : length lines ≤ conflicts
-  pub refutes : Refutes (formula_in e g table k) lines
-  pub none_fits : NoneFits e g table k
+  pub refutes : Refutes (clauses_for k) lines
+  pub none_fits : NoneFits clauses_for g table k
 
 -- where k isn't 0 there are lines, and they refute the clauses for k - 1 cycles
-pub data AreRefutedBelow (e : Encoding) (g : LaunchGraph) (table : Table) (conflicts : ℕ) : ℕ → Option Lines
-    → Type 0 where
-  nothing_less : AreRefutedBelow e g table conflicts 0 None
-  one_less : {k : ℕ} {lines : Lines} → IsTooFew e g table conflicts k lines.lines
-      → AreRefutedBelow e g table conflicts (k + 1) (Some lines)
+pub data AreRefutedBelow (clauses_for : ℕ → Formula) (g : LaunchGraph) (table : Table) (conflicts : ℕ)
+    : ℕ → Option Lines → Type 0 where
+  nothing_less : AreRefutedBelow clauses_for g table conflicts 0 None
+  one_less : {k : ℕ} {lines : Lines} → IsTooFew clauses_for g table conflicts k lines.lines
+      → AreRefutedBelow clauses_for g table conflicts (k + 1) (Some lines)
 
 -- the lines refute the clauses for k - 1, and no schedule fits in fewer cycles than k
-pub record IsLeast (e : Encoding) (g : LaunchGraph) (table : Table) (conflicts k : ℕ) (refutation : Option Lines)
-    : Type 0 where
-  pub refuted : AreRefutedBelow e g table conflicts k refutation
-  pub none_fits : (j : ℕ) → j < k → NoneFits e g table j
+pub record IsLeast (clauses_for : ℕ → Formula) (g : LaunchGraph) (table : Table) (conflicts k : ℕ)
+    (refutation : Option Lines) : Type 0 where
+  pub refuted : AreRefutedBelow clauses_for g table conflicts k refutation
+  pub none_fits : (j : ℕ) → j < k → NoneFits clauses_for g table j
+
+-- these are the clauses of the encoding for each number of cycles, and so much holds by them
+pub record ByClauses (e : Encoding) (g : LaunchGraph) (table : Table) (Holds : (ℕ → Formula) → Type 0) : Type 0 where
+  pub clauses_for : ℕ → Formula
+  pub formulas : AreFormulas e g table clauses_for
+  pub holds : Holds clauses_for
 
 -- ---- results
 
@@ -82,26 +82,27 @@ abbrev pub Right : Encoding → InputTree → GoalTree → Settings → Answered
 Right e input goal s (Scheduled f) =
     IsMatched input goal s f.matched
     × (f.k ≤ s.cycles)
-    × (¬ IsTooLarge (formula_in e f.matched.graph input.table f.k))
     × IsScheduled input goal f
-    × IsLeast e f.matched.graph input.table s.conflicts f.k f.refutation
+    × ByClauses e f.matched.graph input.table (λ clauses_for. (¬ IsTooLarge (clauses_for f.k))
+    × IsLeast clauses_for f.matched.graph input.table s.conflicts f.k f.refutation)
 Right e input goal s (Nowhere m) =
     IsMatched input goal s m.matched
     × (m.k ≡ s.cycles)
-    × IsLeast e m.matched.graph input.table s.conflicts (m.k + 1) (Some m.refutation)
+    × ByClauses e m.matched.graph input.table (λ clauses_for.
+    IsLeast clauses_for m.matched.graph input.table s.conflicts (m.k + 1) (Some m.refutation))
 Right e input goal s (SpentConflicts t) =
     IsMatched input goal s t.matched
     × (t.k ≤ s.cycles)
-    × (¬ IsTooLarge (formula_in e t.matched.graph input.table t.k))
-    × IsSpent (formula_in e t.matched.graph input.table t.k) s.conflicts t.lemmas.lines
-    × IsLeast e t.matched.graph input.table s.conflicts t.k t.refutation
+    × ByClauses e t.matched.graph input.table (λ clauses_for. (¬ IsTooLarge (clauses_for t.k))
+    × IsSpent (clauses_for t.k) s.conflicts t.lemmas.lines
+    × IsLeast clauses_for t.matched.graph input.table s.conflicts t.k t.refutation)
 Right e input goal s (SpentSize l) =
     IsMatched input goal s l.matched
     × (l.k ≤ s.cycles)
-    × PassesLimit (formula_in e l.matched.graph input.table l.k) l.vars l.clauses
     × IsWord l.vars
     × IsWord l.clauses
-    × IsLeast e l.matched.graph input.table s.conflicts l.k l.refutation
+    × ByClauses e l.matched.graph input.table (λ clauses_for. PassesLimit (clauses_for l.k) l.vars l.clauses
+    × IsLeast clauses_for l.matched.graph input.table s.conflicts l.k l.refutation)
 Right e input goal s (NoWorld class a b) =
     HasNoWorld input goal s a b
     × (class < 2 ^ 31)

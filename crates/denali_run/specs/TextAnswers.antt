@@ -3,13 +3,13 @@ use Rattle.std.specs.Prelude.{◌≡◌, ℕ, ◌≤◌, ◌^◌, List, length, 
 use Rattle.std.specs.List.{AllZip}
 use Rattle.answer_texts.specs.ReadAnswers.{ReadsAnswer}
 use Rattle.goal_reader.specs.Grammar.{IsFirstTextFault, Reads}
-use Rattle.goal_reader.specs.Views.{InputTree}
+use Rattle.goal_meaning.specs.Views.{InputTree}
 use Rattle.denali_run.specs.ClaimedResults.{answer_to, answer_text}
 use Rattle.denali_run.specs.Right.{Right}
 use Rattle.denali_run.specs.Statuses.{status_code}
 use Rattle.denali_run.specs.declared.results.Answered.{Answered}
 use Rattle.denali_run.specs.declared.results.Answered.TheVariants.{Scheduled, Nowhere, SpentConflicts, SpentSize, NoWorld}
-use Rattle.denali_run.specs.declared.results.Encoding.TheVariants.{Wide}
+use Rattle.cycle_encoding.specs.declared.encodings.Encoding.TheVariants.{Narrow}
 use Rattle.denali_run.specs.declared.settings.Settings.{Settings}
 use Rattle.denali_run.specs.declared.statuses.Status.{Status}
 use Rattle.denali_run.specs.declared.statuses.Status.TheVariants as status
@@ -39,9 +39,9 @@ pub record Answers (s : Settings) (text bytes : List ℕ) (status : Status) : Ty
   pub input : InputTree
   pub reads : Reads text input
   pub results : List Answered
-  pub right : AllZip (λ goal answered. Right Wide input goal s answered) input.goals results
-  pub bytes_are : bytes ≡ answer_text Wide input results
-  pub read_back : length text ≤ 2 ^ 20 → ReadsAnswer bytes (answer_to Wide input results)
+  pub right : AllZip (λ goal answered. Right Narrow input goal s answered) input.goals results
+  pub bytes_are : bytes ≡ answer_text Narrow input results
+  pub read_back : length text ≤ 2 ^ 20 → ReadsAnswer bytes (answer_to Narrow input results)
   pub status_is : status ≡ greatest_status results
 
 -- why a text has no answer

@@ -1,33 +1,63 @@
 -- What the clauses for a number of cycles come to, and what refusals are passed on.
 -- Source: this project.
-use Rattle.std.specs.Prelude.{◌≡◌, ℕ}
+use Rattle.std.specs.Prelude.{◌≡◌, ◌+◌, ◌≤◌, ℕ, Some}
 use Rattle.word_ops.specs.Words.{IsWord}
+use Rattle.cnf_core.specs.Formula.{Formula}
 use Rattle.cnf_core.specs.Outcome.{IsSpent}
 use Rattle.cycle_encoding.specs.Plans.{IsTooLarge, PassesLimit}
+use Rattle.cycle_encoding.specs.declared.encodings.Encoding.{Encoding}
 use Rattle.cycle_encoding.specs.declared.plans.EncodeFault.{EncodeFault}
 use Rattle.cycle_encoding.specs.declared.plans.EncodeFault.TheVariants as encode
-use Rattle.launch_graph.specs.declared.graphs.LaunchGraph.{LaunchGraph}
+use Rattle.graph_meaning.specs.declared.graphs.LaunchGraph.{LaunchGraph}
 use Rattle.machine_table.specs.declared.tables.Table.{Table}
 use Rattle.saturation.specs.declared.faults.SaturateFault.{SaturateFault}
 use Rattle.saturation.specs.declared.faults.SaturateFault.TheVariants as rounds
 use Rattle.saturation.specs.declared.faults.StartFault.{StartFault}
 use Rattle.saturation.specs.declared.faults.StartFault.TheVariants as start
 use Rattle.schedule_meaning.specs.Fits.{Fits}
-use Rattle.denali_run.specs.Right.{IsTooFew, formula_in}
+use Rattle.denali_run.specs.Right.{ByClauses, IsLeast, IsTooFew}
 use Rattle.denali_run.specs.declared.results.Answered.{Answered}
 use Rattle.denali_run.specs.declared.results.Answered.TheVariants.{NoWorld}
-use Rattle.denali_run.specs.declared.results.Encoding.{Encoding}
+use Rattle.denali_run.specs.declared.searching.Reached.{Reached}
+use Rattle.denali_run.specs.declared.searching.Reached.TheVariants as reached
 use Rattle.denali_run.specs.declared.searching.Trial.{Trial}
 use Rattle.denali_run.specs.declared.searching.Trial.TheVariants.{Fitting, Refuted, Spent, Large}
+use Rattle.denali_run.specs.declared.settings.Settings.{Settings}
 
-abbrev pub IsTrial : Encoding → LaunchGraph → Table → ℕ → ℕ → Trial → Type 0
-IsTrial e g table k conflicts (Fitting schedule) =
-    (¬ IsTooLarge (formula_in e g table k)) × Fits g table k schedule.launches
-IsTrial e g table k conflicts (Refuted lines) = IsTooFew e g table conflicts k lines.lines
-IsTrial e g table k conflicts (Spent lines) =
-    (¬ IsTooLarge (formula_in e g table k)) × IsSpent (formula_in e g table k) conflicts lines.lines
-IsTrial e g table k conflicts (Large vars clauses) =
-    PassesLimit (formula_in e g table k) vars clauses × IsWord vars × IsWord clauses
+-- by the clauses for each number of cycles
+abbrev pub IsTrial : (ℕ → Formula) → LaunchGraph → Table → ℕ → ℕ → Trial → Type 0
+IsTrial clauses_for g table k conflicts (Fitting schedule) =
+    (¬ IsTooLarge (clauses_for k)) × Fits g table k schedule.launches
+IsTrial clauses_for g table k conflicts (Refuted lines) = IsTooFew clauses_for g table conflicts k lines.lines
+IsTrial clauses_for g table k conflicts (Spent lines) =
+    (¬ IsTooLarge (clauses_for k)) × IsSpent (clauses_for k) conflicts lines.lines
+IsTrial clauses_for g table k conflicts (Large vars clauses) =
+    PassesLimit (clauses_for k) vars clauses × IsWord vars × IsWord clauses
+
+-- where numbers of cycles in rising order ended, by the clauses for each of them
+abbrev pub IsReached : (ℕ → Formula) → LaunchGraph → Table → Settings → Reached → Type 0
+IsReached clauses_for g table s (reached.Fitting k refutation schedule) =
+    (k ≤ s.cycles)
+    × (¬ IsTooLarge (clauses_for k))
+    × Fits g table k schedule.launches
+    × IsLeast clauses_for g table s.conflicts k refutation
+IsReached clauses_for g table s (reached.Missing k refutation) =
+    (k ≡ s.cycles) × IsLeast clauses_for g table s.conflicts (k + 1) (Some refutation)
+IsReached clauses_for g table s (reached.Spent k refutation lemmas) =
+    (k ≤ s.cycles)
+    × (¬ IsTooLarge (clauses_for k))
+    × IsSpent (clauses_for k) s.conflicts lemmas.lines
+    × IsLeast clauses_for g table s.conflicts k refutation
+IsReached clauses_for g table s (reached.Large k refutation vars clauses) =
+    (k ≤ s.cycles)
+    × PassesLimit (clauses_for k) vars clauses
+    × IsWord vars
+    × IsWord clauses
+    × IsLeast clauses_for g table s.conflicts k refutation
+
+-- the same by the clauses of an encoding
+abbrev pub IsReachedIn : Encoding → LaunchGraph → Table → Settings → Reached → Type 0
+IsReachedIn e g table s r = ByClauses e g table (λ clauses_for. IsReached clauses_for g table s r)
 
 -- these counts were what the fault told, and are words
 abbrev pub IsLargeBy : EncodeFault → Trial → Type 0

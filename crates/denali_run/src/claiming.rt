@@ -1,16 +1,16 @@
 // The text of an answer, from the results of goals.
 ghost use Rattle.std.specs.Prelude.{◌≡◌, IfOk, length};
-ghost use Rattle.goal_reader.specs.Views.{input_view};
+ghost use Rattle.goal_meaning.specs.Views.{input_view};
 ghost use Rattle.denali_run.specs.ClaimedResults as format;
 ghost use Rattle.denali_run.specs.TextAnswers as texts;
-ghost use Rattle.denali_run.specs.declared.results.Encoding.TheVariants.{Wide};
+ghost use Rattle.cycle_encoding.specs.declared.encodings.Encoding.TheVariants.{Narrow};
 
 use crate::reports::Report;
 use crate::results::{Answered, Found, Large, Matched, Missing, Tried};
-use crate::text_solving::greatest_status;
+use crate::statuses::greatest_status;
 use answer_texts::{Claim, Claimed, put_goal, put_head};
 use cnf_core::Lines;
-use goal_reader::Input;
+use goal_meaning::Input;
 use items::NoMemory;
 use saturation::Stop;
 use std::alloc::Global;
@@ -19,7 +19,7 @@ use text_core::Name;
 /// The version of the text, and the number of the encoding that it names.
 const VERSION: u8 = 1;
 
-const WIDE: u8 = 1;
+const NARROW: u8 = 2;
 
 /// A claim with the graph that it is about, and the lines that refute fewer cycles.
 fn claimed_on(name: Name, matched: Matched, claim: Claim, refute: Option<Lines>) -> Claimed
@@ -99,10 +99,10 @@ fn claimed(name: Name, answered: Answered) -> Claimed
 /// The bytes of the answer to an input with these results.
 fn print(alloc: Global, input: &Input, results: Vec<Answered>) -> Result<Vec<u8>, NoMemory>
     requires { length results.items ≡ length input.now.goals }
-    ensures { IfOk result (λ text. text.items ≡ format.answer_text Wide (input_view input.now) results.items) }
+    ensures { IfOk result (λ text. text.items ≡ format.answer_text Narrow (input_view input.now) results.items) }
 {
     let mut text = Vec::new(alloc);
-    put_head(&mut text, VERSION, WIDE, &input.table, input.builtin)?;
+    put_head(&mut text, VERSION, NARROW, &input.table, input.builtin)?;
     let goals = input.goals.as_slice();
     let mut at = 0;
     for answered in results {
@@ -118,7 +118,7 @@ fn print(alloc: Global, input: &Input, results: Vec<Answered>) -> Result<Vec<u8>
 pub fn answer_text(alloc: Global, input: &Input, results: Vec<Answered>) -> Result<Report, NoMemory>
     requires { length results.items ≡ length input.now.goals }
     ensures bytes { IfOk result (λ report. report.bytes.items
-        ≡ format.answer_text Wide (input_view input.now) results.items) }
+        ≡ format.answer_text Narrow (input_view input.now) results.items) }
     ensures status { IfOk result (λ report. report.status ≡ texts.greatest_status results.items) }
 {
     let status = greatest_status(&results);

@@ -5,7 +5,7 @@ ghost use Rattle.denali_run.specs.GeneratedAnswers as lines;
 ghost use Rattle.denali_run.specs.GeneratedAnswers.{AnswersGenerated, IsGeneratedLine};
 ghost use Rattle.denali_run.specs.MatchedGoals.{IsSettings};
 ghost use Rattle.denali_run.specs.Right.{Right};
-ghost use Rattle.denali_run.specs.declared.results.Encoding.TheVariants.{Wide};
+ghost use Rattle.cycle_encoding.specs.declared.encodings.Encoding.TheVariants.{Narrow};
 
 use crate::reports::Report;
 use crate::results::{Answered, Found};
@@ -86,7 +86,7 @@ fn report_scheduled(alloc: Global, size: u32, found: &Found) -> Result<Report, N
 /// other two results don't come.
 fn report_generated(alloc: Global, size: u32, answered: &Answered) -> Result<Report, NoMemory>
     requires few { size ≤ 20 }
-    requires right { Right Wide (generated_input size) (generated_goal size) lines.generated_settings answered.now }
+    requires right { Right Narrow (generated_input size) (generated_goal size) lines.generated_settings answered.now }
     ensures { IfOk result (λ r. IsGeneratedLine size answered.now r.bytes.items r.status) }
 {
     generated_goals_have_a_world();

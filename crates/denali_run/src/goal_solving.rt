@@ -1,16 +1,16 @@
 // The work on one goal: its graph, rounds of matching, and then cycles in rising order until they are enough.
 ghost use Rattle.std.specs.Prelude.{◌≡◌, ◌<◌, length, IfOk, Some, slice_get};
-ghost use Rattle.goal_reader.specs.Views.{GoalTree, InputTree, input_view};
-ghost use Rattle.goal_reader.specs.WellFormed.{IsInput};
+ghost use Rattle.goal_meaning.specs.Views.{GoalTree, InputTree, input_view};
+ghost use Rattle.goal_meaning.specs.WellFormed.{IsInput};
 ghost use Rattle.denali_run.specs.MatchedGoals.{IsSettings};
 ghost use Rattle.denali_run.specs.Right.{Right};
 ghost use Rattle.denali_run.specs.Trials.{IsNoWorldAtStart, IsNoWorldInRounds};
-ghost use Rattle.denali_run.specs.declared.results.Encoding.TheVariants.{Wide};
+ghost use Rattle.cycle_encoding.specs.declared.encodings.Encoding.TheVariants.{Narrow};
 
 use crate::results::{Answered, Matched};
 use crate::searching::search;
 use crate::settings::Settings;
-use goal_reader::Input;
+use goal_meaning::Input;
 use items::NoMemory;
 use pick_rule::{Picker, Rule};
 use saturation::{
@@ -51,7 +51,7 @@ pub fn solve_goal<F: Rule>(
     requires at { at < length input.now.goals }
     requires settings { IsSettings settings.now }
     ensures right { IfOk result (λ answered. (goal : GoalTree) → slice_get (input_view input.now).goals at ≡ Some goal
-        → Right Wide (input_view input.now) goal settings.now answered) }
+        → Right Narrow (input_view input.now) goal settings.now answered) }
 {
     grown_graphs_are_one();
     axioms_make_rules_true();

@@ -1,15 +1,15 @@
 // What an answer's text says of its results. The calls do nothing: their clauses hold of all results.
 ghost use Rattle.std.specs.Prelude.{◌≡◌, List};
 ghost use Rattle.std.specs.List.{AllZip};
-ghost use Rattle.goal_reader.specs.Views.{InputTree};
-ghost use Rattle.goal_reader.specs.WellFormed.{IsInput};
+ghost use Rattle.goal_meaning.specs.Views.{InputTree};
+ghost use Rattle.goal_meaning.specs.WellFormed.{IsInput};
 ghost use Rattle.answer_texts.specs.ReadAnswers.{ReadsAnswer};
 ghost use Rattle.denali_run.specs.ClaimedResults.{StartsWithinFormat, answer_to, answer_text};
 ghost use Rattle.denali_run.specs.MatchedGoals.{IsSettings};
 ghost use Rattle.denali_run.specs.Right.{Right};
 ghost use Rattle.denali_run.specs.declared.results.Answered.{Answered as AnsweredOf};
-ghost use Rattle.denali_run.specs.declared.results.Encoding.{Encoding as EncodingOf};
-ghost use Rattle.denali_run.specs.declared.results.Encoding.TheVariants.{Wide};
+ghost use Rattle.cycle_encoding.specs.declared.encodings.Encoding.{Encoding as EncodingOf};
+ghost use Rattle.cycle_encoding.specs.declared.encodings.Encoding.TheVariants.{Narrow};
 ghost use Rattle.denali_run.specs.declared.settings.Settings.{Settings as SettingsOf};
 
 use alpha_encode::words_and_instructions;
@@ -44,8 +44,8 @@ pub fn one_text_has_one_answer()
 pub fn right_answers_are_read()
     ensures { (s : SettingsOf) (input : InputTree) (results : List AnsweredOf)
         → IsInput input → IsSettings s → StartsWithinFormat input
-        → AllZip (λ goal answered. Right Wide input goal s answered) input.goals results
-        → ReadsAnswer (answer_text Wide input results) (answer_to Wide input results) }
+        → AllZip (λ goal answered. Right Narrow input goal s answered) input.goals results
+        → ReadsAnswer (answer_text Narrow input results) (answer_to Narrow input results) }
 {
     printed_answers_are_read();
     graphs_are_consistent();

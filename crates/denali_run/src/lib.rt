@@ -16,12 +16,14 @@ mod text_checking;
 mod text_running;
 mod text_solving;
 
+pub use answer_texts::{AnswerText, Claim, Claimed, print_answer, read_answer};
 pub use claiming::answer_text;
+pub use cycle_encoding::Encoding;
 pub use generated_solving::gen_text;
 pub use goal_solving::solve_goal;
 pub use laws::{one_text_has_one_answer, right_answers_are_read};
 pub use reports::{Report, TextError};
-pub use results::{Answered, Encoding, Found, Large, Matched, Missing, Tried};
+pub use results::{Answered, Found, Large, Matched, Missing, Tried};
 pub use settings::{Pick, Settings};
 pub use statuses::Status;
 pub use text_checking::check_text;

@@ -1,17 +1,10 @@
 // What a goal is answered by.
 use cnf_core::Lines;
+use graph_meaning::LaunchGraph;
 use items::Items;
-use launch_graph::LaunchGraph;
 use register_assign::Listing;
 use saturation::Stop;
 use schedule_meaning::Schedule;
-
-/// Which launches have variables in the clauses. `Wide`: each launch that a table allows, in each cycle in which it can
-/// end in time.
-#[derive(Clone, Copy, PartialEq, Eq, Debug)]
-pub enum Encoding {
-    Wide,
-}
 
 /// The graph of a goal after its rounds of matching, how many there were, and why they ended.
 #[derive(Drop)]

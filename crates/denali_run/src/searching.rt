@@ -1,21 +1,23 @@
 // Numbers of cycles in rising order, until they are enough.
 ghost use Rattle.std.specs.Prelude.{◌≡◌, ◌≤◌, IfOk};
-ghost use Rattle.goal_reader.specs.Views.{GoalTree, InputTree};
-ghost use Rattle.launch_graph.specs.WellFormed.{IsLaunchGraph};
+ghost use Rattle.cycle_encoding.specs.Encodings.{IsScope};
+ghost use Rattle.goal_meaning.specs.Views.{GoalTree, InputTree};
+ghost use Rattle.graph_meaning.specs.WellFormed.{IsLaunchGraph};
 ghost use Rattle.machine_table.specs.Tables.{IsTable};
+ghost use Rattle.order_encoding.specs.WholeFormula.{formula_in};
 ghost use Rattle.denali_run.specs.MatchedGoals.{IsMatched, IsSettings};
 ghost use Rattle.denali_run.specs.Right.{Right};
-ghost use Rattle.denali_run.specs.Trials.{IsLargeBy, IsTrial};
-ghost use Rattle.denali_run.specs.declared.results.Encoding.TheVariants.{Wide};
+ghost use Rattle.denali_run.specs.Trials.{IsLargeBy, IsReached, IsReachedIn, IsTrial};
+ghost use Rattle.cycle_encoding.specs.declared.encodings.Encoding.TheVariants.{Narrow};
 
 use crate::results::{Answered, Found, Large, Matched, Missing, Tried};
 use crate::settings::Settings;
 use cnf_core::{Lines, refutations_leave_no_solution};
-use cycle_encoding::EncodeFault;
+use cycle_encoding::{EncodeFault, Encoding, Facts, Scope};
+use graph_meaning::LaunchGraph;
 use items::{Items, NoMemory};
-use launch_graph::LaunchGraph;
 use machine_table::Table;
-use order_encoding::full;
+use order_encoding::{each_encoding_says_fits, full_in};
 use pick_rule::{Picker, Rule};
 use register_assign::{assign, words_of};
 use sat_core::{Verdict, solve};
@@ -46,7 +48,9 @@ fn too_large(fault: EncodeFault) -> Result<Trial, NoMemory>
 pub(crate) fn try_cycles<F: Rule>(
     alloc: Global,
     graph: &LaunchGraph,
+    facts: &Facts,
     table: &Table,
+    scope: &Scope,
     k: u32,
     conflicts: u32,
     picker: &Picker<F>,
@@ -54,12 +58,15 @@ pub(crate) fn try_cycles<F: Rule>(
     requires cycles { k ≤ 24 }
     requires table { IsTable table.now }
     requires graph { IsLaunchGraph graph.now }
+    requires facts { facts.now ≡ graph.now }
+    requires scope { IsScope Narrow facts.now table.now scope.now }
     requires conflicts { (1 ≤ conflicts) × (conflicts ≤ 1000000) }
-    ensures { IfOk result (IsTrial Wide graph.now table.now k conflicts) }
+    ensures { IfOk result (IsTrial (formula_in scope.now facts.now table.now) graph.now table.now k conflicts) }
 {
     refutations_leave_no_solution();
     fits_in_any_order();
-    let encoded = match full(alloc, graph, table, k) {
+    each_encoding_says_fits();
+    let encoded = match full_in(alloc, facts, table, scope, k) {
         Ok(encoded) => encoded,
         Err(fault) => return too_large(fault),
     };
@@ -70,6 +77,117 @@ pub(crate) fn try_cycles<F: Rule>(
         }
         Verdict::Refuted(lines) => Ok(Trial::Refuted(lines)),
         Verdict::Spent(lines) => Ok(Trial::Spent(lines)),
+    }
+}
+
+/// Where numbers of cycles in rising order ended: at the first that is enough, at the last that was asked for, or where a
+/// budget was spent. The refutation is that of one cycle less, and in `Missing` of `k` itself.
+#[derive(Drop)]
+pub(crate) enum Reached {
+    Fitting {
+        k: u32,
+        refutation: Option<Lines>,
+        schedule: Schedule,
+    },
+    Missing {
+        k: u32,
+        refutation: Lines,
+    },
+    Spent {
+        k: u32,
+        refutation: Option<Lines>,
+        lemmas: Lines,
+    },
+    Large {
+        k: u32,
+        refutation: Option<Lines>,
+        vars: u64,
+        clauses: u64,
+    },
+}
+
+/// Tries numbers of cycles in rising order. What the graph and the table say, and what has variables, is found once for
+/// all of them.
+fn reach<F: Rule>(
+    alloc: Global,
+    graph: &LaunchGraph,
+    table: &Table,
+    settings: &Settings,
+    picker: &Picker<F>,
+) -> Result<Reached, NoMemory>
+    requires table { IsTable table.now }
+    requires settings { IsSettings settings.now }
+    requires graph { IsLaunchGraph graph.now }
+    ensures { IfOk result (IsReachedIn Narrow graph.now table.now settings.now) }
+{
+    let facts = Facts::new(alloc, graph)?;
+    let scope = Scope::of(alloc, Encoding::Narrow, &facts, table)?;
+    reach_in(alloc, graph, &facts, table, &scope, settings, picker)
+}
+
+/// The same over what was found of the graph and the table.
+fn reach_in<F: Rule>(
+    alloc: Global,
+    graph: &LaunchGraph,
+    facts: &Facts,
+    table: &Table,
+    scope: &Scope,
+    settings: &Settings,
+    picker: &Picker<F>,
+) -> Result<Reached, NoMemory>
+    requires table { IsTable table.now }
+    requires settings { IsSettings settings.now }
+    requires graph { IsLaunchGraph graph.now }
+    requires facts { facts.now ≡ graph.now }
+    requires scope { IsScope Narrow facts.now table.now scope.now }
+    ensures { IfOk result (IsReached (formula_in scope.now facts.now table.now) graph.now table.now settings.now) }
+{
+    let mut k = 0;
+    let mut refutation = None;
+    loop {
+        match try_cycles(
+            alloc,
+            graph,
+            facts,
+            table,
+            scope,
+            k,
+            settings.conflicts,
+            picker,
+        )? {
+            Trial::Fitting(schedule) => {
+                return Ok(Reached::Fitting {
+                    k,
+                    refutation,
+                    schedule,
+                });
+            }
+            Trial::Refuted(lines) => {
+                if k == settings.cycles {
+                    return Ok(Reached::Missing {
+                        k,
+                        refutation: lines,
+                    });
+                }
+                refutation = Some(lines);
+                k += 1;
+            }
+            Trial::Spent(lemmas) => {
+                return Ok(Reached::Spent {
+                    k,
+                    refutation,
+                    lemmas,
+                });
+            }
+            Trial::Large { vars, clauses } => {
+                return Ok(Reached::Large {
+                    k,
+                    refutation,
+                    vars,
+                    clauses,
+                });
+            }
+        }
     }
 }
 
@@ -85,52 +203,52 @@ pub(crate) fn search<F: Rule>(
     requires settings { IsSettings settings.now }
     requires graph { IsLaunchGraph matched.graph }
     ensures { IfOk result (λ answered. (input : InputTree) (goal : GoalTree) → input.table ≡ table.now
-        → IsMatched input goal settings.now matched → Right Wide input goal settings.now answered) }
+        → IsMatched input goal settings.now matched → Right Narrow input goal settings.now answered) }
 {
-    let mut k = 0;
-    let mut refutation = None;
-    loop {
-        match try_cycles(alloc, &matched.graph, table, k, settings.conflicts, picker)? {
-            Trial::Fitting(schedule) => {
-                let listing = assign(alloc, &matched.graph, table, k, &schedule)?;
-                let words = words_of(alloc, listing.items.as_slice())?;
-                return Ok(Answered::Scheduled(Found {
-                    matched,
-                    k,
-                    schedule,
-                    listing,
-                    words: Items::from(words),
-                    refutation,
-                }));
-            }
-            Trial::Refuted(lines) => {
-                if k == settings.cycles {
-                    return Ok(Answered::Nowhere(Missing {
-                        matched,
-                        k,
-                        refutation: lines,
-                    }));
-                }
-                refutation = Some(lines);
-                k += 1;
-            }
-            Trial::Spent(lemmas) => {
-                return Ok(Answered::SpentConflicts(Tried {
-                    matched,
-                    k,
-                    refutation,
-                    lemmas,
-                }));
-            }
-            Trial::Large { vars, clauses } => {
-                return Ok(Answered::SpentSize(Large {
-                    matched,
-                    k,
-                    refutation,
-                    vars,
-                    clauses,
-                }));
-            }
+    let reached = reach(alloc, &matched.graph, table, settings, picker)?;
+    match reached {
+        Reached::Fitting {
+            k,
+            refutation,
+            schedule,
+        } => {
+            let listing = assign(alloc, &matched.graph, table, k, &schedule)?;
+            let words = words_of(alloc, listing.items.as_slice())?;
+            Ok(Answered::Scheduled(Found {
+                matched,
+                k,
+                schedule,
+                listing,
+                words: Items::from(words),
+                refutation,
+            }))
         }
+        Reached::Missing { k, refutation } => Ok(Answered::Nowhere(Missing {
+            matched,
+            k,
+            refutation,
+        })),
+        Reached::Spent {
+            k,
+            refutation,
+            lemmas,
+        } => Ok(Answered::SpentConflicts(Tried {
+            matched,
+            k,
+            refutation,
+            lemmas,
+        })),
+        Reached::Large {
+            k,
+            refutation,
+            vars,
+            clauses,
+        } => Ok(Answered::SpentSize(Large {
+            matched,
+            k,
+            refutation,
+            vars,
+            clauses,
+        })),
     }
 }

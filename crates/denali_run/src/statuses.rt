@@ -1,6 +1,9 @@
 // How a command ends.
 ghost use Rattle.std.specs.Prelude.{◌≡◌};
 ghost use Rattle.denali_run.specs.Statuses.{status_code};
+ghost use Rattle.denali_run.specs.TextAnswers as texts;
+
+use crate::results::Answered;
 
 /// How a command ends.
 ///
@@ -37,4 +40,39 @@ impl Status {
             Status::NoWorld => 8,
         }
     }
+}
+
+/// The status that a result asks for.
+fn status_of(answered: &Answered) -> Status
+    ensures { result ≡ texts.status_of answered.now }
+{
+    match answered {
+        Answered::Scheduled(_) => Status::Done,
+        Answered::Nowhere(_) => Status::Missing,
+        Answered::SpentConflicts(_) | Answered::SpentSize(_) => Status::Spent,
+        Answered::NoWorld { .. } => Status::NoWorld,
+    }
+}
+
+/// Of two statuses the one with the greater code.
+fn greater(one: Status, other: Status) -> Status
+    ensures { result ≡ texts.greater one other }
+{
+    if one.code() < other.code() {
+        other
+    } else {
+        one
+    }
+}
+
+/// The status with the greatest code that the results ask for.
+#[tactic(auto, using(crate::proofs::GreatestStatus::status_more))]
+pub(crate) fn greatest_status(results: &[Answered]) -> Status
+    ensures { result ≡ texts.greatest_status results.now }
+{
+    let mut greatest = Status::Done;
+    for answered in results {
+        greatest = greater(greatest, status_of(answered));
+    }
+    greatest
 }

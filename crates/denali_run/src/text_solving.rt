@@ -2,13 +2,13 @@
 ghost use Rattle.std.specs.Prelude.{◌≡◌, ◌+◌, ◌<◌, ◌^◌, IfOk, IfErr, length};
 ghost use Rattle.std.specs.List.{AllZip};
 ghost use Rattle.pick_rule.specs.Busiest.{IsBusiest};
-ghost use Rattle.goal_reader.specs.Views.{input_view};
-ghost use Rattle.goal_reader.specs.WellFormed.{IsInput};
+ghost use Rattle.goal_meaning.specs.Views.{input_view};
+ghost use Rattle.goal_meaning.specs.WellFormed.{IsInput};
 ghost use Rattle.denali_run.specs.MatchedGoals.{IsSettings};
 ghost use Rattle.denali_run.specs.Right.{Right};
 ghost use Rattle.denali_run.specs.TextAnswers as texts;
 ghost use Rattle.denali_run.specs.TextAnswers.{Answers, TextErrorIs};
-ghost use Rattle.denali_run.specs.declared.results.Encoding.TheVariants.{Wide};
+ghost use Rattle.cycle_encoding.specs.declared.encodings.Encoding.TheVariants.{Narrow};
 
 use crate::claiming::answer_text;
 use crate::goal_solving::solve_goal;
@@ -16,47 +16,11 @@ use crate::laws::right_answers_are_read;
 use crate::reports::{Report, TextError};
 use crate::results::Answered;
 use crate::settings::{Pick, Settings};
-use crate::statuses::Status;
 use goal_reader::{Input, read, read_inputs_are_well_formed, read_inputs_have_few_operators};
 use items::NoMemory;
 use pick_rule::{Picker, Rule, busiest_place, first_place, last_place};
 use std::alloc::Global;
 use text_core::TextFault;
-
-/// The status that a result asks for.
-fn status_of(answered: &Answered) -> Status
-    ensures { result ≡ texts.status_of answered.now }
-{
-    match answered {
-        Answered::Scheduled(_) => Status::Done,
-        Answered::Nowhere(_) => Status::Missing,
-        Answered::SpentConflicts(_) | Answered::SpentSize(_) => Status::Spent,
-        Answered::NoWorld { .. } => Status::NoWorld,
-    }
-}
-
-/// Of two statuses the one with the greater code.
-fn greater(one: Status, other: Status) -> Status
-    ensures { result ≡ texts.greater one other }
-{
-    if one.code() < other.code() {
-        other
-    } else {
-        one
-    }
-}
-
-/// The status with the greatest code that the results ask for.
-#[tactic(auto, using(crate::proofs::GreatestStatus::status_more))]
-pub(crate) fn greatest_status(results: &[Answered]) -> Status
-    ensures { result ≡ texts.greatest_status results.now }
-{
-    let mut greatest = Status::Done;
-    for answered in results {
-        greatest = greater(greatest, status_of(answered));
-    }
-    greatest
-}
 
 /// Each goal's result, in the goals' order.
 fn solve_goals<F: Rule>(
@@ -67,7 +31,8 @@ fn solve_goals<F: Rule>(
 ) -> Result<Vec<Answered>, NoMemory>
     requires input { IsInput (input_view input.now) }
     requires settings { IsSettings settings.now }
-    ensures right { IfOk result (λ results. AllZip (λ goal answered. Right Wide (input_view input.now) goal settings.now
+    ensures right { IfOk result (λ results. AllZip (λ goal answered. Right Narrow
+        (input_view input.now) goal settings.now
         answered) (input_view input.now).goals results.items) }
 {
     let mut results = Vec::new(alloc);
@@ -87,7 +52,8 @@ fn solve_by<F: Rule + Drop>(
     requires input { IsInput (input_view input.now) }
     requires settings { IsSettings settings.now }
     requires rule { F.answers_places rule }
-    ensures right { IfOk result (λ results. AllZip (λ goal answered. Right Wide (input_view input.now) goal settings.now
+    ensures right { IfOk result (λ results. AllZip (λ goal answered. Right Narrow
+        (input_view input.now) goal settings.now
         answered) (input_view input.now).goals results.items) }
 {
     let picker = Picker::new(rule);
@@ -97,7 +63,8 @@ fn solve_by<F: Rule + Drop>(
 fn solve_first(alloc: Global, input: &Input, settings: &Settings) -> Result<Vec<Answered>, NoMemory>
     requires input { IsInput (input_view input.now) }
     requires settings { IsSettings settings.now }
-    ensures right { IfOk result (λ results. AllZip (λ goal answered. Right Wide (input_view input.now) goal settings.now
+    ensures right { IfOk result (λ results. AllZip (λ goal answered. Right Narrow
+        (input_view input.now) goal settings.now
         answered) (input_view input.now).goals results.items) }
 {
     solve_by(
@@ -113,7 +80,8 @@ fn solve_first(alloc: Global, input: &Input, settings: &Settings) -> Result<Vec<
 fn solve_last(alloc: Global, input: &Input, settings: &Settings) -> Result<Vec<Answered>, NoMemory>
     requires input { IsInput (input_view input.now) }
     requires settings { IsSettings settings.now }
-    ensures right { IfOk result (λ results. AllZip (λ goal answered. Right Wide (input_view input.now) goal settings.now
+    ensures right { IfOk result (λ results. AllZip (λ goal answered. Right Narrow
+        (input_view input.now) goal settings.now
         answered) (input_view input.now).goals results.items) }
 {
     solve_by(
@@ -134,7 +102,8 @@ fn solve_busiest(
 ) -> Result<Vec<Answered>, NoMemory>
     requires input { IsInput (input_view input.now) }
     requires settings { IsSettings settings.now }
-    ensures right { IfOk result (λ results. AllZip (λ goal answered. Right Wide (input_view input.now) goal settings.now
+    ensures right { IfOk result (λ results. AllZip (λ goal answered. Right Narrow
+        (input_view input.now) goal settings.now
         answered) (input_view input.now).goals results.items) }
 {
     solve_by(
@@ -156,7 +125,8 @@ pub(crate) fn solve_input(
 ) -> Result<Vec<Answered>, NoMemory>
     requires input { IsInput (input_view input.now) }
     requires settings { IsSettings settings.now }
-    ensures right { IfOk result (λ results. AllZip (λ goal answered. Right Wide (input_view input.now) goal settings.now
+    ensures right { IfOk result (λ results. AllZip (λ goal answered. Right Narrow
+        (input_view input.now) goal settings.now
         answered) (input_view input.now).goals results.items) }
 {
     match settings.pick {

@@ -9,10 +9,10 @@ use Rattle.word_ops.specs.declared.sorts.Op.TheVariants.{Declared}
 use Rattle.word_terms.specs.Tree.{Tree, application, none, more}
 use Rattle.egraph.specs.Graph.{Graph, HasRow}
 use Rattle.pattern_match.specs.Classes.{IsClass, at_row, classes, no_classes}
-use Rattle.goal_reader.specs.declared.scopes.DeclaredOp.{DeclaredOp}
-use Rattle.launch_graph.specs.WellFormed.{IsLaunchGraph, declared_index}
-use Rattle.launch_graph.specs.declared.graphs.LaunchGraph.{LaunchGraph}
-use Rattle.launch_graph.specs.declared.graphs.LaunchRow.{LaunchRow}
+use Rattle.goal_meaning.specs.declared.goals.DeclaredOp.{DeclaredOp}
+use Rattle.graph_meaning.specs.WellFormed.{IsLaunchGraph, declared_index}
+use Rattle.graph_meaning.specs.declared.graphs.LaunchGraph.{LaunchGraph}
+use Rattle.graph_meaning.specs.declared.graphs.LaunchRow.{LaunchRow}
 use Rattle.saturation.specs.StandsFor.{graph_view, numbered_op, row_view}
 use Rattle.schedule_meaning.specs.Launches.{instr_at, operands_at, class_at, op_instr, op_operands}
 

@@ -6,7 +6,7 @@ use Rattle.machine_table.specs.declared.tables.InstrKind.{InstrKind}
 use Rattle.machine_table.specs.declared.tables.InstrKind.TheVariants as kinds
 use Rattle.word_ops.specs.declared.operators.WordOp.{WordOp}
 use Rattle.word_ops.specs.declared.operators.WordOp.TheVariants.{Addq, Subq, Xor, Bis, S4addq}
-use Rattle.launch_graph.specs.declared.graphs.LaunchGraph.{LaunchGraph}
+use Rattle.graph_meaning.specs.declared.graphs.LaunchGraph.{LaunchGraph}
 use Rattle.schedule_meaning.specs.Launches.{gives_word, is_load, is_store, operate_operands, word_op_instr, word_op_operands}
 use Rattle.generated_goals.specs.Generated.{picked}
 

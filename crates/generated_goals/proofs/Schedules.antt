@@ -2,14 +2,14 @@
 use Rattle.std.proofs.Common.{◌≡◌, ℕ, zero, suc, ◌<◌, ◌≤◌, List, [], ◌∷◌, length, Some, Bool, true, refl, sym, ap, ◌∙◌, subst, inl, inr, ◌⊎◌, arith}
 use Rattle.std.specs.Prelude.{All, AllPairs}
 use Rattle.std.proofs.lemmas.List.Elements.{All-nil, All-cons, All-weaker}
-use Rattle.launch_graph.proofs.Lists.{any_here, any_there}
+use Rattle.graph_meaning.proofs.Lists.{any_here, any_there}
 use Rattle.machine_table.proofs.Decide.{pairs_nil, pairs_cons}
 use Rattle.machine_table.specs.Tables.{cluster_of, ev6}
 use Rattle.machine_table.specs.declared.tables.InstrKind.{InstrKind}
 use Rattle.word_ops.specs.declared.sorts.Op.{Op}
 use Rattle.word_ops.specs.declared.sorts.Op.TheVariants.{Word}
 use Rattle.word_terms.specs.Tree.{Tree}
-use Rattle.launch_graph.specs.declared.graphs.LaunchGraph.{LaunchGraph}
+use Rattle.graph_meaning.specs.declared.graphs.LaunchGraph.{LaunchGraph}
 use Rattle.saturation.specs.GoalTerms.{input_term}
 use Rattle.saturation.specs.StandsFor.{HasClassIn, graph_view}
 use Rattle.schedule_meaning.specs.Fits.{CanRead, Collide}

@@ -5,15 +5,15 @@ use Rattle.std.specs.List.{AllZip}
 use Rattle.std.proofs.lemmas.Bool.{false≢true}
 use Rattle.std.proofs.lemmas.List.Elements.{All-nil, All-cons, All-weaker}
 use Rattle.std.proofs.lemmas.List.Sums.{count_by-le-length}
-use Rattle.launch_graph.proofs.Lists.{any_here, any_there}
+use Rattle.graph_meaning.proofs.Lists.{any_here, any_there}
 use Rattle.machine_table.specs.Tables.{ev6}
 use Rattle.word_ops.specs.declared.sorts.Op.TheVariants.{Input}
-use Rattle.launch_graph.specs.Graphs.{is_memory_name, memory_target}
-use Rattle.launch_graph.specs.WellFormed.{IsLaunchGraph}
-use Rattle.launch_graph.specs.declared.graphs.Guard.{Guard}
-use Rattle.launch_graph.specs.declared.graphs.LaunchGraph.{LaunchGraph}
-use Rattle.launch_graph.specs.declared.graphs.SetClass.{SetClass}
-use Rattle.goal_reader.specs.declared.goals.InputReg.{InputReg}
+use Rattle.graph_meaning.specs.Graphs.{is_memory_name, memory_target}
+use Rattle.graph_meaning.specs.WellFormed.{IsLaunchGraph}
+use Rattle.graph_meaning.specs.declared.graphs.Guard.{Guard}
+use Rattle.graph_meaning.specs.declared.graphs.LaunchGraph.{LaunchGraph}
+use Rattle.graph_meaning.specs.declared.graphs.SetClass.{SetClass}
+use Rattle.goal_meaning.specs.declared.goals.InputReg.{InputReg}
 use Rattle.saturation.specs.GoalTerms.{input_term}
 use Rattle.saturation.specs.StandsFor.{HasClassIn, IsGuardOf, IsInputClass, IsSetClass, StandsFor, graph_view}
 use Rattle.schedule_meaning.specs.Fits.{CanLaunch, EndsBy, Fits, IsLeft, IsReached, KeepsMemory, UsesMemory, Waits}

@@ -13,15 +13,15 @@ use Rattle.word_terms.specs.Sorting.{HasSort}
 use Rattle.forms.specs.Printing.{Plain, Plains, levels, more, most_levels, plains_from}
 use Rattle.machine_table.specs.Tables.{IsTable, ev6, slot_of}
 use Rattle.machine_table.specs.declared.tables.Slot.{Slot}
-use Rattle.goal_reader.specs.Grammar.{KeepsRules, default_pool}
-use Rattle.goal_reader.specs.InputNames.{IsNamedGoal}
-use Rattle.goal_reader.specs.Printing.{input_plains, naming, term_plain}
-use Rattle.goal_reader.specs.Roles.{is_reserved}
-use Rattle.goal_reader.specs.Scopes.{is_written, word_named}
-use Rattle.goal_reader.specs.Views.{GoalTree, TargetTree}
-use Rattle.goal_reader.specs.WellFormed.{IsAssume, IsAxiom, IsGoal, IsInput, IsOfGoal, IsTarget, operators_of_goal}
-use Rattle.goal_reader.specs.declared.goals.InputReg.{InputReg}
-use Rattle.goal_reader.specs.declared.scopes.DeclaredOp.{DeclaredOp}
+use Rattle.goal_meaning.specs.Rules.{KeepsRules, default_pool}
+use Rattle.goal_meaning.specs.Names.{IsNamedGoal}
+use Rattle.goal_meaning.specs.InputForms.{input_plains, naming, term_plain}
+use Rattle.goal_meaning.specs.Names.{is_reserved}
+use Rattle.goal_meaning.specs.Names.{is_written, word_named}
+use Rattle.goal_meaning.specs.Views.{GoalTree, TargetTree}
+use Rattle.goal_meaning.specs.WellFormed.{IsAssume, IsAxiom, IsGoal, IsInput, IsOfGoal, IsTarget, operators_of_goal}
+use Rattle.goal_meaning.specs.declared.goals.InputReg.{InputReg}
+use Rattle.goal_meaning.specs.declared.goals.DeclaredOp.{DeclaredOp}
 use Rattle.generated_goals.specs.Generated.{chain, generated_goal, generated_input, input_in, number_at, picked, registers}
 use Rattle.generated_goals.proofs.Plain.{each_picked}
 

@@ -7,7 +7,7 @@ use Rattle.std.proofs.lemmas.Option.{none-some}
 use Rattle.word_ops.specs.Memory.{IsMemory}
 use Rattle.word_ops.specs.Words.{IsWord}
 use Rattle.word_ops.specs.Worlds.{IsWorld, World}
-use Rattle.goal_reader.specs.Holds.{HoldsFor, HoldsOfAll, IsMet}
+use Rattle.goal_meaning.specs.Holds.{HoldsFor, HoldsOfAll, IsMet}
 use Rattle.generated_goals.specs.Generated.{generated_goal, generated_input}
 
 abbrev zeros : World

@@ -7,9 +7,9 @@ use Rattle.word_ops.specs.declared.sorts.Op.{Op}
 use Rattle.word_ops.specs.declared.sorts.Op.TheVariants.{Word}
 use Rattle.word_terms.specs.Tree.{Tree, application, none, more}
 use Rattle.machine_table.specs.Tables.{ev6}
-use Rattle.goal_reader.specs.Grammar.{default_pool}
-use Rattle.goal_reader.specs.Views.{GoalTree, InputTree}
-use Rattle.goal_reader.specs.declared.goals.InputReg.{InputReg}
+use Rattle.goal_meaning.specs.Rules.{default_pool}
+use Rattle.goal_meaning.specs.Views.{GoalTree, InputTree}
+use Rattle.goal_meaning.specs.declared.goals.InputReg.{InputReg}
 use Rattle.saturation.specs.GoalTerms.{input_term}
 
 -- ---- the operators

@@ -1,12 +1,12 @@
 // A goal made from a number.
 ghost use Rattle.std.specs.Prelude.{◌≡◌, ◌<◌, ◌≤◌, ◌∷◌, [], IfOk};
-ghost use Rattle.goal_reader.specs.Grammar.{default_pool};
-ghost use Rattle.goal_reader.specs.Views.{goal_view, input_view, target_view};
+ghost use Rattle.goal_meaning.specs.Rules.{default_pool};
+ghost use Rattle.goal_meaning.specs.Views.{goal_view, input_view, target_view};
 ghost use Rattle.saturation.specs.GoalTerms.{input_term};
 ghost use Rattle.word_terms.specs.View.{tree_of};
 ghost use Rattle.generated_goals.specs.Generated as specs;
 
-use goal_reader::{Goal, Input, InputReg, Set};
+use goal_meaning::{Goal, Input, InputReg, Set};
 use items::{Items, NoMemory};
 use machine_table::ev6;
 use std::alloc::Global;

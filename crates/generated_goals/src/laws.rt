@@ -2,10 +2,10 @@
 ghost use Rattle.std.specs.Prelude.{ℕ, ◌≤◌, List};
 ghost use Rattle.word_ops.specs.Worlds.{IsWorld, World};
 ghost use Rattle.machine_table.specs.Tables.{ev6};
-ghost use Rattle.goal_reader.specs.Holds.{HoldsFor};
-ghost use Rattle.goal_reader.specs.WellFormed.{IsInput};
-ghost use Rattle.launch_graph.specs.WellFormed.{IsLaunchGraph};
-ghost use Rattle.launch_graph.specs.declared.graphs.LaunchGraph.{LaunchGraph};
+ghost use Rattle.goal_meaning.specs.Holds.{HoldsFor};
+ghost use Rattle.goal_meaning.specs.WellFormed.{IsInput};
+ghost use Rattle.graph_meaning.specs.WellFormed.{IsLaunchGraph};
+ghost use Rattle.graph_meaning.specs.declared.graphs.LaunchGraph.{LaunchGraph};
 ghost use Rattle.saturation.specs.StandsFor.{StandsFor};
 ghost use Rattle.schedule_meaning.specs.Fits.{Fits};
 ghost use Rattle.schedule_meaning.specs.declared.schedules.Launch.{Launch as LaunchOf};

@@ -9,7 +9,7 @@ use Rattle.forms.specs.Forms.{Form, Forms, Atom, atom, list, more, name, number,
 use Rattle.forms.specs.Faults.{own, inside}
 use Rattle.forms.proofs.First.{no_fault}
 use Rattle.goal_reader.specs.declared.scopes.Scope.{Scope}
-use Rattle.goal_reader.specs.declared.scopes.DeclaredOp.{DeclaredOp}
+use Rattle.goal_meaning.specs.declared.goals.DeclaredOp.{DeclaredOp}
 use Rattle.goal_reader.specs.declared.scopes.Named.TheVariants.{Memory, Input, Variable}
 use Rattle.goal_reader.specs.Scopes.{operator_named}
 use Rattle.goal_reader.specs.Terms.{Writes, WritesEach, memory, input, variable, constant, application, nothing, operand}

@@ -9,7 +9,7 @@ use Rattle.text_core.specs.Faults.{fault_number, IsFirst}
 use Rattle.forms.specs.Forms.{Form, place_of, parts_of, name_in, number_in, part}
 use Rattle.forms.specs.Forms.{Stands}
 use Rattle.forms.proofs.First.{first_own, no_fault}
-use Rattle.goal_reader.specs.declared.scopes.DeclaredOp.{DeclaredOp}
+use Rattle.goal_meaning.specs.declared.goals.DeclaredOp.{DeclaredOp}
 use Rattle.goal_reader.specs.Roles.{a_list, declaration, an_arity, no_arity, arity_0, arity_above, too_few, IsOwn, part_role, IsFaultAs, arity_named, declaration_in, ◌>>=◌}
 use Rattle.goal_reader.specs.Reading.{IsClear, IsArityOf}
 use Rattle.goal_reader.proofs.Owns as owns

@@ -12,16 +12,17 @@ use Rattle.word_terms.specs.Tree.{Tree, Trees}
 use Rattle.forms.specs.Forms.{Form, Forms, atom, list, name, parts_of, forms_from, name_in, names_in}
 use Rattle.machine_table.specs.Grammar.{Each, more_of, IsNameOf}
 use Rattle.text_core.specs.declared.faults.Kind.{Kind}
-use Rattle.goal_reader.specs.declared.scopes.DeclaredOp.{DeclaredOp}
+use Rattle.goal_meaning.specs.declared.goals.DeclaredOp.{DeclaredOp}
 use Rattle.goal_reader.specs.declared.scopes.Named.TheVariants.{Memory, Input, Variable, Lacking}
 use Rattle.goal_reader.specs.declared.scopes.Scope.{Scope}
 use Rattle.goal_reader.specs.Grammar.{WritesAxiom, axiom_scope}
 use Rattle.goal_reader.specs.Reading.{IsClear, meaning_right, mentioned_scope}
 use Rattle.goal_reader.specs.Roles as roles
 use Rattle.text_core.specs.Names.{is_among}
-use Rattle.goal_reader.specs.Roles.{a_list, own_name, left_side, term, IsOwn, too_few, is_reserved, names_of_declared, rank_from, mentions, mentions_any, left_scope, right_scope, Role, past, part_role}
+use Rattle.goal_reader.specs.Roles.{a_list, own_name, left_side, term, IsOwn, too_few, rank_from, mentions, mentions_any, left_scope, right_scope, Role, past, part_role}
+use Rattle.goal_meaning.specs.Names.{is_reserved, names_of_declared}
 use Rattle.goal_reader.specs.Terms.{Writes, WritesEach, memory, input, variable, constant, application, nothing, operand}
-use Rattle.goal_reader.specs.Views.{AxiomTree}
+use Rattle.goal_meaning.specs.Views.{AxiomTree}
 use Rattle.goal_reader.proofs.Apart.{writes_clear}
 use Rattle.goal_reader.proofs.AxiomForms.{equation_only, left_told, numbered, same_number, left_same, right_same}
 use Rattle.goal_reader.proofs.Heads.{list_from}

@@ -14,19 +14,20 @@ use Rattle.word_terms.specs.View.{tree_of}
 use Rattle.text_core.specs.Names.{is_among}
 use Rattle.forms.specs.Forms.{Form, Forms, atom, list, none, more, name, place_of, part, parts_of, name_in, forms_from, is_list, names_in}
 use Rattle.machine_table.specs.Grammar.{Each, IsNameOf}
-use Rattle.goal_reader.specs.declared.scopes.DeclaredOp.{DeclaredOp}
+use Rattle.goal_meaning.specs.declared.goals.DeclaredOp.{DeclaredOp}
 use Rattle.goal_reader.specs.declared.scopes.Scope.{Scope}
 use Rattle.goal_reader.specs.declared.scopes.Leaf.{Leaf}
 use Rattle.goal_reader.specs.declared.scopes.Named.{Named}
 use Rattle.goal_reader.specs.declared.scopes.Named.TheVariants.{Memory, Input, Variable, Lacking}
-use Rattle.goal_reader.specs.declared.goals.Axiom.{Axiom}
+use Rattle.goal_meaning.specs.declared.goals.Axiom.{Axiom}
 use Rattle.goal_reader.specs.Grammar.{WritesAxiom, axiom_scope}
 use Rattle.goal_reader.specs.Reading.{IsClear, meaning_right, mentioned_scope}
 use Rattle.goal_reader.specs.Roles as roles
+use Rattle.goal_meaning.specs.Names as goal_names
 use Rattle.goal_reader.specs.Roles.{a_list, too_few, IsOwn, rank, rank_from, text_keywords, numbered_leaves, mentions, mentions_any, variables_in, left_scope, right_scope, WritesTerm, Role, Shape, wrong, wrong_part}
 use Rattle.goal_reader.specs.Scopes.{leaf_named}
 use Rattle.goal_reader.specs.Terms.{Writes, WritesEach, memory, input, variable, constant, application, nothing, operand}
-use Rattle.goal_reader.specs.Views.{axiom_view}
+use Rattle.goal_meaning.specs.Views.{axiom_view}
 use Rattle.goal_reader.proofs.ItemForms.{keyworded_by, list_from_list}
 use Rattle.goal_reader.proofs.VariableSteps.{is_seen, some_seen, all_free, none_free, each_named}
 
@@ -212,7 +213,7 @@ module _ (declared : List DeclaredOp) (form a b : Form) (names : List (List ℕ)
         variables = subst (λ ns. Each (λ f n. IsNameOf n f) (parts_of a) ns) all (each_named (parts_of a) (λ j part g. let s = is_seen declared a clear j part g in (s.0, s.1)));
         some = subst (λ ns. (0 < length ns) × (length ns ≤ 8)) (sym same) (subst (λ ns. 0 < length ns) (sym names_are) (named_some (parts_of a) some (λ j part g. let s = is_seen declared a clear j part g in (s.0, s.1))), few);
         differ = subst (λ ns. AllPairs (λ m n. m ≢ n) ns) all free.pairs;
-        own = subst (λ ns. All (λ n. (roles.is_reserved n ≡ false) × (is_among (roles.names_of_declared declared) n ≡ false)) ns) all free.own;
+        own = subst (λ ns. All (λ n. (goal_names.is_reserved n ≡ false) × (is_among (goal_names.names_of_declared declared) n ≡ false)) ns) all free.own;
         application = list_b;
         left = subst (λ ns. Writes (axiom_scope declared ns) sorts.Word b (tree_of axiom_is.left)) (sym same) l;
         right = subst (λ ns. Writes (axiom_scope declared ns) sorts.Word c (tree_of axiom_is.right)) (sym same) (on_left_too declared names b r);

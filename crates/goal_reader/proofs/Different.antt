@@ -10,9 +10,9 @@ use Rattle.std.proofs.lemmas.List.Quantifiers.{all_pairs_push}
 use Rattle.std.proofs.lemmas.Slice.Eq.{bytes_eq-Decides}
 use Rattle.forms.specs.Forms.{Form}
 use Rattle.goal_reader.specs.Drafts.{AreDifferent}
-use Rattle.goal_reader.specs.Grammar.{free_registers, default_pool}
+use Rattle.goal_meaning.specs.Rules.{free_registers, default_pool, has_register}
 use Rattle.text_core.specs.Names.{is_among}
-use Rattle.goal_reader.specs.Roles.{has_register, is_digit, number_of_register, register_number, register_of, registers_in}
+use Rattle.goal_reader.specs.Roles.{is_digit, number_of_register, register_number, register_of, registers_in}
 
 pub or_left : (a b : Bool) → a || b ≡ false → a ≡ false
 or_left true b h = cc

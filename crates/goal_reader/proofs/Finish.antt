@@ -10,17 +10,20 @@ use Rattle.forms.specs.Forms.{Form, Forms, atom, list, none, more, name, place_o
 use Rattle.forms.specs.Faults.{own}
 use Rattle.machine_table.specs.Grammar.{Each, more_of, IsListOf, IsNameOf}
 use Rattle.machine_table.specs.Grammar as grammar
-use Rattle.goal_reader.specs.declared.scopes.DeclaredOp.{DeclaredOp}
+use Rattle.goal_meaning.specs.declared.goals.DeclaredOp.{DeclaredOp}
 use Rattle.goal_reader.specs.declared.scopes.Scope.{Scope}
-use Rattle.goal_reader.specs.declared.goals.InputReg.{InputReg}
-use Rattle.goal_reader.specs.declared.goals.Set.{Set}
-use Rattle.goal_reader.specs.declared.goals.Goal.{Goal}
+use Rattle.goal_meaning.specs.declared.goals.InputReg.{InputReg}
+use Rattle.goal_meaning.specs.declared.goals.Set.{Set}
+use Rattle.goal_meaning.specs.declared.goals.Goal.{Goal}
 use Rattle.goal_reader.specs.declared.drafts.Draft.{Draft}
-use Rattle.goal_reader.specs.Views.{TargetTree, goal_view, assume_view, target_view}
+use Rattle.goal_meaning.specs.Views.{TargetTree, goal_view, assume_view, target_view}
 use Rattle.goal_reader.specs.Drafts.{AreDifferent, KeepsSoFar, IsAssumed, IsTargeted, pool_read, IsDraft, IsWritten, IsPoolWritten, one_pool, pool_kept}
-use Rattle.goal_reader.specs.Grammar.{WritesInput, WritesAssume, WritesTarget, WritesGuard, WritesPool, WritesGoal, KeepsRules, absent, given}
-use Rattle.goal_reader.specs.Reading.{IsClear, input_registers}
+use Rattle.goal_reader.specs.Grammar.{WritesInput, WritesAssume, WritesTarget, WritesGuard, WritesPool, WritesGoal, absent, given}
+use Rattle.goal_meaning.specs.Rules.{KeepsRules}
+use Rattle.goal_reader.specs.Reading.{IsClear}
+use Rattle.goal_meaning.specs.WellFormed.{input_registers}
 use Rattle.goal_reader.specs.Roles as roles
+use Rattle.goal_meaning.specs.Names as goal_names
 use Rattle.goal_reader.specs.Roles.{a_list, no_set, rank, is_of_rank, of_rank, goal_keywords, text_keywords, items_of, second_name, goal_scope, Role}
 use Rattle.goal_reader.proofs.Different.{pairs_map, default_different}
 use Rattle.goal_reader.proofs.ItemForms.{keyworded_by, is_name, list_from_list}
@@ -77,8 +80,8 @@ module _ (declared : List DeclaredOp) (form : Form) (g : Goal) (d : Draft) (draf
       let few = k.few in
       record {
         input_names = subst (λ is. AllPairs (λ (a b : InputReg). a.name ≢ b.name) is) (sym inputs) k.input_names;
-        own_names = subst (λ is. All (λ (a : InputReg). roles.is_reserved a.name ≡ false) is) (sym inputs) k.own_names;
-        not_declared = subst (λ is. All (λ (a : InputReg). is_among (roles.names_of_declared declared) a.name ≡ false) is) (sym inputs) k.not_declared;
+        own_names = subst (λ is. All (λ (a : InputReg). goal_names.is_reserved a.name ≡ false) is) (sym inputs) k.own_names;
+        not_declared = subst (λ is. All (λ (a : InputReg). is_among (goal_names.names_of_declared declared) a.name ≡ false) is) (sym inputs) k.not_declared;
         registers = registers.pairs;
         low = registers.low;
         targets = pairs_map (λ (a b : TargetTree). a.name ≢ b.name) target_view g.sets (subst (λ ts. AllPairs (λ (a b : Set). a.name ≢ b.name) ts) (sym sets) k.targets);

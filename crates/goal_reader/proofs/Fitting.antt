@@ -18,15 +18,15 @@ use Rattle.text_core.specs.Pieces.{is_word_byte}
 use Rattle.word_ops.specs.Meanings.{count_of}
 use Rattle.word_ops.specs.declared.sorts.Op.{Op}
 use Rattle.word_terms.specs.Tree.{Tree}
-use Rattle.goal_reader.specs.declared.goals.InputReg.{InputReg}
-use Rattle.goal_reader.specs.declared.scopes.DeclaredOp.{DeclaredOp}
+use Rattle.goal_meaning.specs.declared.goals.InputReg.{InputReg}
+use Rattle.goal_meaning.specs.declared.goals.DeclaredOp.{DeclaredOp}
 use Rattle.goal_reader.specs.declared.scopes.Scope.{Scope}
 use Rattle.goal_reader.specs.Grammar.{WritesInput, WritesAssume, WritesGuard, WritesTarget, WritesGoal, WritesDeclaration, WritesAxiom, axiom_scope, unguarded, guarded}
-use Rattle.goal_reader.specs.InputNames.{IsNamedGoal}
-use Rattle.goal_reader.specs.Printing.{Naming, naming, term_plain, register_plain, input_plain, pool_plain, assume_plain, guard_plains, target_plain, goal_plain, declaration_plain, variable_plain, axiom_plain}
-use Rattle.goal_reader.specs.Reading.{input_registers}
+use Rattle.goal_meaning.specs.Names.{IsNamedGoal}
+use Rattle.goal_meaning.specs.InputForms.{Naming, naming, term_plain, register_plain, input_plain, pool_plain, assume_plain, guard_plains, target_plain, goal_plain, declaration_plain, variable_plain, axiom_plain}
+use Rattle.goal_meaning.specs.WellFormed.{input_registers}
 use Rattle.goal_reader.specs.Roles.{goal_scope}
-use Rattle.goal_reader.specs.Views.{TwoTrees, TargetTree, GoalTree, AxiomTree}
+use Rattle.goal_meaning.specs.Views.{TwoTrees, TargetTree, GoalTree, AxiomTree}
 use Rattle.goal_reader.proofs.Different.{register_low}
 use Rattle.goal_reader.proofs.FormsPrint.{all_back}
 use Rattle.goal_reader.proofs.Moved.{AreNamed, term_told}

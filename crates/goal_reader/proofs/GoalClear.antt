@@ -10,16 +10,19 @@ use Rattle.forms.specs.Forms.{Form, atom, name, parts_of, name_in}
 use Rattle.forms.proofs.First.{no_fault}
 use Rattle.machine_table.specs.Grammar.{Each, more_of}
 use Rattle.text_core.specs.declared.faults.Kind.{Kind}
-use Rattle.goal_reader.specs.declared.goals.InputReg.{InputReg}
+use Rattle.goal_meaning.specs.declared.goals.InputReg.{InputReg}
 use Rattle.goal_reader.specs.declared.order.Admission.TheVariants.{Admitted}
-use Rattle.goal_reader.specs.declared.scopes.DeclaredOp.{DeclaredOp}
+use Rattle.goal_meaning.specs.declared.goals.DeclaredOp.{DeclaredOp}
 use Rattle.goal_reader.specs.declared.scopes.Scope.{Scope}
 use Rattle.goal_reader.specs.Grammar.{IsRegister, WritesInput, WritesPool, WritesAssume, WritesGuard, WritesTarget, WritesGoal, absent, given, unguarded, guarded}
-use Rattle.goal_reader.specs.Reading.{IsClear, names_of_inputs, input_registers, sort_of_target}
+use Rattle.goal_reader.specs.Reading.{IsClear, names_of_inputs}
+use Rattle.goal_meaning.specs.WellFormed.{input_registers, sort_of_target}
 use Rattle.goal_reader.specs.Roles as roles
 use Rattle.text_core.specs.Names.{is_among}
-use Rattle.goal_reader.specs.Roles.{Role, a_list, wrong, IsOwn, too_few, part_role, own_name, fresh_name, fresh_register, term, is_reserved, has_register, names_of_declared, rank, of_rank, is_of_rank, goal_keywords, goal_bounds, bound_at, items_of, item_role, role_in, goal_scope, inputs_in, names_given, registers_in, WritesTerm, second_name, register_of}
-use Rattle.goal_reader.specs.Views.{TwoTrees, TargetTree, GoalTree}
+use Rattle.goal_reader.specs.Roles.{Role, a_list, wrong, IsOwn, too_few, part_role, own_name, fresh_name, fresh_register, term, rank, of_rank, is_of_rank, goal_keywords, goal_bounds, bound_at, items_of, item_role, role_in, goal_scope, inputs_in, names_given, registers_in, WritesTerm, second_name, register_of}
+use Rattle.goal_meaning.specs.Names.{is_reserved, names_of_declared}
+use Rattle.goal_meaning.specs.Rules.{has_register}
+use Rattle.goal_meaning.specs.Views.{TwoTrees, TargetTree, GoalTree}
 use Rattle.goal_reader.proofs.Admitting.{role_told}
 use Rattle.goal_reader.proofs.Apart.{writes_clear}
 use Rattle.goal_reader.proofs.GoalSteps.{got_dropped, goal_clear, item_at, other_inputs, other_targets, one_input, one_target, mapped_more}

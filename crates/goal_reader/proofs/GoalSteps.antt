@@ -12,16 +12,17 @@ use Rattle.forms.specs.Forms.{Form, atom, list, place_of, parts_of, is_list, sex
 use Rattle.goal_reader.proofs.NewNames.{parts_form}
 use Rattle.forms.specs.Forms.{Stands}
 use Rattle.forms.proofs.First.{ClearTo, first_own, first_inside, no_fault}
-use Rattle.goal_reader.specs.declared.scopes.DeclaredOp.{DeclaredOp}
+use Rattle.goal_meaning.specs.declared.goals.DeclaredOp.{DeclaredOp}
 use Rattle.goal_reader.specs.declared.scopes.Scope.{Scope}
-use Rattle.goal_reader.specs.declared.goals.InputReg.{InputReg}
-use Rattle.goal_reader.specs.declared.goals.Set.{Set}
+use Rattle.goal_meaning.specs.declared.goals.InputReg.{InputReg}
+use Rattle.goal_meaning.specs.declared.goals.Set.{Set}
 use Rattle.goal_reader.specs.declared.drafts.Draft.{Draft}
 use Rattle.goal_reader.specs.declared.order.Admission.TheVariants.{Admitted}
 use Rattle.goal_reader.specs.Roles as roles
 use Rattle.goal_reader.specs.Roles.{Role, a_list, wrong, goal, IsOwn, too_few, no_set, part_role, IsFaultAs, rank, is_of_rank, of_rank, goal_keywords, goal_bounds, bound_at, items_of, item_role, role_in, goal_scope, inputs_in, input_in, names_given, second_name, fresh_name}
 use Rattle.goal_reader.specs.Order.{IsAdmission}
-use Rattle.goal_reader.specs.Reading.{IsClear, names_of_targets, input_registers}
+use Rattle.goal_reader.specs.Reading.{IsClear, names_of_targets}
+use Rattle.goal_meaning.specs.WellFormed.{input_registers}
 use Rattle.goal_reader.specs.Drafts.{IsNext, IsDraft, draft_role, items_before, input_leaf, with_input}
 use Rattle.goal_reader.specs.Drafts as drafts
 use Rattle.goal_reader.proofs.Admitting.{role_told}

@@ -14,18 +14,17 @@ use Rattle.word_ops.specs.declared.sorts.Sort.{Sort}
 use Rattle.word_ops.specs.declared.sorts.Sort.TheVariants as sorts
 use Rattle.word_terms.specs.Sorting.{IsApplication}
 use Rattle.word_terms.specs.Tree.{Tree}
-use Rattle.goal_reader.specs.declared.scopes.DeclaredOp.{DeclaredOp}
+use Rattle.goal_meaning.specs.declared.goals.DeclaredOp.{DeclaredOp}
 use Rattle.goal_reader.specs.declared.scopes.Named.TheVariants.{Memory, Input, Variable}
 use Rattle.goal_reader.specs.declared.scopes.Scope.{Scope}
 use Rattle.goal_reader.specs.Grammar.{WritesAssume, WritesGuard, WritesTarget, WritesGoal, WritesAxiom, WritesMachine, WritesText, axiom_scope, unguarded, guarded, built_in, own}
-use Rattle.goal_reader.specs.InputNames.{IsNamedInput}
-use Rattle.goal_reader.specs.Printing.{input_plains}
-use Rattle.goal_reader.specs.Reading.{input_registers}
+use Rattle.goal_meaning.specs.Names.{IsNamedInput}
+use Rattle.goal_meaning.specs.InputForms.{input_plains}
+use Rattle.goal_meaning.specs.WellFormed.{input_registers, IsOfAxiom, IsOfGoal, IsOperation, IsAxiom, IsGoalTerm, IsAssume, IsTarget, IsGoal, IsInput, axiom_sorts, operators_of_axiom, operators_of_goal, operators_of_input}
 use Rattle.goal_reader.specs.Roles.{goal_scope, rank_from}
 use Rattle.goal_reader.specs.Scopes.{leaf_named}
 use Rattle.goal_reader.specs.Terms.{Writes, memory, input, variable, constant, application}
-use Rattle.goal_reader.specs.Views.{TwoTrees, TargetTree, GoalTree, AxiomTree, InputTree}
-use Rattle.goal_reader.specs.WellFormed.{IsOfAxiom, IsOfGoal, IsOperation, IsAxiom, IsGoalTerm, IsAssume, IsTarget, IsGoal, IsInput, axiom_sorts, operators_of_axiom, operators_of_goal, operators_of_input}
+use Rattle.goal_meaning.specs.Views.{TwoTrees, TargetTree, GoalTree, AxiomTree, InputTree}
 use Rattle.goal_reader.proofs.AxiomForms.{left_told}
 use Rattle.goal_reader.proofs.Fitting.{Fits, FitAll, fit_head, fit_tail, front_fits, back_fits, parts_fit, axiom_fits, goal_fits}
 use Rattle.goal_reader.proofs.PrintedNames.{leaves_of, input_leaf}

@@ -13,9 +13,9 @@ use Rattle.machine_table.specs.declared.tables.Table.{Table}
 use Rattle.text_core.specs.Names.{IsName}
 use Rattle.text_core.specs.Trees.{SexpTrees}
 use Rattle.goal_reader.specs.Grammar.{WritesDeclaration, WritesAxiom, WritesGoal, WritesMachine, WritesText, Reads, built_in, own}
-use Rattle.goal_reader.specs.InputNames.{IsNamedGoal, IsNamedInput}
-use Rattle.goal_reader.specs.Printing.{declaration_plain, axiom_plain, goal_plain, machine_plains, input_plains}
-use Rattle.goal_reader.specs.Views.{InputTree}
+use Rattle.goal_meaning.specs.Names.{IsNamedGoal, IsNamedInput}
+use Rattle.goal_meaning.specs.InputForms.{declaration_plain, axiom_plain, goal_plain, machine_plains, input_plains}
+use Rattle.goal_meaning.specs.Views.{InputTree}
 use Rattle.goal_reader.proofs.Fitting.{FitAll, fit_none, fit_head, fit_both, front_fits, back_fits, each_fits, list_told, name_told, parts_fit, declaration_fits, axiom_fits, goal_fits}
 use Rattle.goal_reader.proofs.Moved.{plains_map}
 

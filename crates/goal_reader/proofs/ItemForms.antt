@@ -12,13 +12,14 @@ use Rattle.forms.specs.Forms.{Form, Forms, atom, list, none, more, name, parts_o
 use Rattle.forms.specs.Forms as forms
 use Rattle.forms.specs.Faults.{own, inside}
 use Rattle.goal_reader.specs.declared.scopes.Scope.{Scope}
-use Rattle.goal_reader.specs.declared.scopes.DeclaredOp.{DeclaredOp}
-use Rattle.goal_reader.specs.declared.goals.InputReg.{InputReg}
-use Rattle.goal_reader.specs.declared.goals.Assume.{Assume}
-use Rattle.goal_reader.specs.declared.goals.Set.{Set}
+use Rattle.goal_meaning.specs.declared.goals.DeclaredOp.{DeclaredOp}
+use Rattle.goal_meaning.specs.declared.goals.InputReg.{InputReg}
+use Rattle.goal_meaning.specs.declared.goals.Assume.{Assume}
+use Rattle.goal_meaning.specs.declared.goals.Set.{Set}
 use Rattle.goal_reader.specs.Roles as roles
 use Rattle.goal_reader.specs.Roles.{Role, Shape, a_list, wrong, wrong_part, IsOwn, too_few, no_register, bad_register, part_role, shape_part, least_parts, IsFaultAs, fresh_register, rank, rank_from, goal_keywords, register_of, register_number, registers_in, input_in, second_name, WritesTerm, ◌>>=◌}
-use Rattle.goal_reader.specs.Reading.{IsClear, WritesPart, tree_sort, sort_of_target}
+use Rattle.goal_reader.specs.Reading.{IsClear, WritesPart, tree_sort}
+use Rattle.goal_meaning.specs.WellFormed.{sort_of_target}
 use Rattle.goal_reader.specs.Terms.{Writes}
 use Rattle.goal_reader.specs.Grammar.{IsRegister, WritesInput}
 use Rattle.goal_reader.specs.Drafts.{IsAssumed, IsTargeted}

@@ -8,19 +8,22 @@ use Rattle.text_core.specs.declared.faults.Kind.TheVariants.{BadForm, Twice, Lim
 use Rattle.forms.specs.Forms.{Form, atom, list, more, name, place_of, parts_of, forms_list, name_in, register_in}
 use Rattle.forms.specs.Faults.{own, inside}
 use Rattle.machine_table.specs.Grammar.{Each, more_of, IsNameOf}
-use Rattle.goal_reader.specs.declared.scopes.DeclaredOp.{DeclaredOp}
+use Rattle.goal_meaning.specs.declared.goals.DeclaredOp.{DeclaredOp}
 use Rattle.goal_reader.specs.declared.scopes.Scope.{Scope}
-use Rattle.goal_reader.specs.declared.goals.InputReg.{InputReg}
-use Rattle.goal_reader.specs.declared.goals.Set.{Set}
+use Rattle.goal_meaning.specs.declared.goals.InputReg.{InputReg}
+use Rattle.goal_meaning.specs.declared.goals.Set.{Set}
 use Rattle.goal_reader.specs.declared.drafts.Draft.{Draft}
-use Rattle.goal_reader.specs.Views.{TargetTree, target_view}
+use Rattle.goal_meaning.specs.Views.{TargetTree, target_view}
 use Rattle.goal_reader.specs.Drafts.{AreDifferent, KeepsSoFar, pool_read, IsNext, IsWritten, IsPoolWritten, draft_role, with_input, no_pool, one_pool, with_pool}
 use Rattle.goal_reader.specs.Drafts as drafts
 use Rattle.goal_reader.specs.Grammar.{IsRegister, WritesInput, WritesTarget}
-use Rattle.goal_reader.specs.Reading.{IsClear, names_of_inputs, names_of_targets, input_registers}
+use Rattle.goal_reader.specs.Reading.{IsClear, names_of_inputs, names_of_targets}
+use Rattle.goal_meaning.specs.WellFormed.{input_registers}
 use Rattle.goal_reader.specs.Roles as roles
 use Rattle.text_core.specs.Names.{is_among}
-use Rattle.goal_reader.specs.Roles.{Role, a_list, own_name, fresh_name, fresh_register, name_used, name_taken, register_given, part_role, is_reserved, has_register, names_of_declared, rank, of_rank, is_later_than, goal_keywords, goal_bounds, bound_at, registers_in, register_of, register_number, ◌>>=◌}
+use Rattle.goal_reader.specs.Roles.{Role, a_list, own_name, fresh_name, fresh_register, name_used, name_taken, register_given, part_role, rank, of_rank, is_later_than, goal_keywords, goal_bounds, bound_at, registers_in, register_of, register_number, ◌>>=◌}
+use Rattle.goal_meaning.specs.Names.{is_reserved, names_of_declared}
+use Rattle.goal_meaning.specs.Rules.{has_register}
 use Rattle.goal_reader.proofs.Different.{or_left, or_right, among_apart, one_more, all_more, register_low}
 use Rattle.goal_reader.proofs.GoalSteps.{mapped_more}
 use Rattle.goal_reader.proofs.ItemForms.{keyworded, bind_some, input_writes, register_known_by, target_writes}

@@ -15,10 +15,10 @@ use Rattle.machine_table.specs.Grammar as grammar
 use Rattle.goal_reader.specs.declared.scopes.Named.TheVariants.{Memory, Input, Variable}
 use Rattle.goal_reader.specs.declared.scopes.Scope.{Scope}
 use Rattle.goal_reader.specs.Grammar.{WritesAssume, WritesGuard, WritesTarget, unguarded, guarded}
-use Rattle.goal_reader.specs.Printing.{Naming, leaf_atom, atom_or, operator_name, input_name, term_plain, terms_plain, assume_plain, guard_plains, target_plain}
+use Rattle.goal_meaning.specs.InputForms.{Naming, leaf_atom, atom_or, operator_name, input_name, term_plain, terms_plain, assume_plain, guard_plains, target_plain}
 use Rattle.goal_reader.specs.Scopes.{leaf_named, operator_named}
 use Rattle.goal_reader.specs.Terms.{Writes, WritesEach, memory, input, variable, constant, application, nothing, operand}
-use Rattle.goal_reader.specs.Views.{TwoTrees, TargetTree}
+use Rattle.goal_meaning.specs.Views.{TwoTrees, TargetTree}
 use Rattle.goal_reader.proofs.ItemForms.{list_from_list}
 
 -- ---- forms by what they print

@@ -7,9 +7,10 @@ use Rattle.word_ops.specs.Names.{name_of}
 use Rattle.word_ops.specs.declared.operators.WordOp.{WordOp}
 use Rattle.word_ops.specs.declared.operators.WordOp.TheVariants as words
 use Rattle.word_ops.specs.declared.sorts.Op.TheVariants.{Declared}
-use Rattle.goal_reader.specs.declared.scopes.DeclaredOp.{DeclaredOp}
+use Rattle.goal_meaning.specs.declared.goals.DeclaredOp.{DeclaredOp}
 use Rattle.goal_reader.specs.declared.scopes.Leaf.{Leaf}
-use Rattle.goal_reader.specs.Scopes.{leaf_named, declared_named, word_named, built_in_named, memory_operator_named, as_written, written_or_memory}
+use Rattle.goal_reader.specs.Scopes.{leaf_named, declared_named}
+use Rattle.goal_meaning.specs.Names.{word_named, built_in_named, memory_operator_named, as_written, written_or_memory}
 
 pub leaf_here : (leaves : List Leaf) (i : ℕ) (leaf : Leaf) (name : List ℕ) → i < length leaves → leaf ≡ get_or leaves i leaf
     → leaf_named (drop i leaves) name ≡ (if bytes_eq leaf.name name then Some leaf.named else leaf_named (drop (i + 1) leaves) name)

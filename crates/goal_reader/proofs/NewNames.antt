@@ -8,11 +8,14 @@ use Rattle.text_core.specs.Faults.{fault_number, IsFirst}
 use Rattle.forms.specs.Forms.{Form, list, place_of, parts_of, name_in, register_in, part}
 use Rattle.forms.specs.Forms.{Stands}
 use Rattle.forms.proofs.First.{first_own, no_fault}
-use Rattle.goal_reader.specs.declared.scopes.DeclaredOp.{DeclaredOp}
-use Rattle.goal_reader.specs.declared.goals.InputReg.{InputReg}
+use Rattle.goal_meaning.specs.declared.goals.DeclaredOp.{DeclaredOp}
+use Rattle.goal_meaning.specs.declared.goals.InputReg.{InputReg}
 use Rattle.text_core.specs.Names.{is_among}
-use Rattle.goal_reader.specs.Roles.{Role, own_name, fresh_register, fresh_name, no_fresh_name, name_taken, set, second_name, target_sort, a_list, input, guard, IsOwn, no_own_name, name_used, no_register, bad_register, register_given, too_few, part_role, IsFaultAs, is_reserved, has_register, register_number, register_of, ◌>>=◌, input_in}
-use Rattle.goal_reader.specs.Reading.{IsClear, IsOwnName, sort_of_target}
+use Rattle.goal_reader.specs.Roles.{Role, own_name, fresh_register, fresh_name, no_fresh_name, name_taken, set, second_name, target_sort, a_list, input, guard, IsOwn, no_own_name, name_used, no_register, bad_register, register_given, too_few, part_role, IsFaultAs, register_number, register_of, ◌>>=◌, input_in}
+use Rattle.goal_meaning.specs.Names.{is_reserved}
+use Rattle.goal_meaning.specs.Rules.{has_register}
+use Rattle.goal_reader.specs.Reading.{IsClear, IsOwnName}
+use Rattle.goal_meaning.specs.WellFormed.{sort_of_target}
 use Rattle.std.proofs.lemmas.Option.{slice_get-get_or}
 use Rattle.std.proofs.lemmas.List.{length-map}
 use Rattle.text_core.specs.declared.sexps.Sexp.{Sexp}

@@ -8,7 +8,7 @@ use Rattle.text_core.specs.declared.faults.Kind.{Kind}
 use Rattle.text_core.specs.Faults.{fault_number}
 use Rattle.forms.specs.Forms.{Form, Forms, atom, list, more, name, number, parts_of, name_in}
 use Rattle.goal_reader.specs.declared.scopes.Scope.{Scope}
-use Rattle.goal_reader.specs.declared.scopes.DeclaredOp.{DeclaredOp}
+use Rattle.goal_meaning.specs.declared.goals.DeclaredOp.{DeclaredOp}
 use Rattle.goal_reader.specs.declared.scopes.Named.{Named}
 use Rattle.goal_reader.specs.declared.scopes.Named.TheVariants.{Lacking}
 use Rattle.goal_reader.specs.Scopes.{leaf_named, operator_named}

@@ -9,7 +9,8 @@ use Rattle.forms.specs.Forms.{Form, Forms, Atom, atom, list, none, more, name, p
 use Rattle.forms.specs.Forms as forms
 use Rattle.forms.specs.Forms.{Stands}
 use Rattle.forms.proofs.First.{ClearTo, first_inside, no_fault}
-use Rattle.goal_reader.specs.Roles.{Role, a_list, pool, fresh_register, IsOwn, too_few, part_role, IsFaultAs, has_register, register_of, registers_in, rank_from, is_of_rank, ◌>>=◌}
+use Rattle.goal_reader.specs.Roles.{Role, a_list, pool, fresh_register, IsOwn, too_few, part_role, IsFaultAs, register_of, registers_in, rank_from, is_of_rank, ◌>>=◌}
+use Rattle.goal_meaning.specs.Rules.{has_register}
 use Rattle.goal_reader.specs.Reading.{IsClear}
 use Rattle.goal_reader.proofs.NewNames.{fresh_register_clear}
 use Rattle.goal_reader.proofs.Fixed.{got_within}

@@ -9,14 +9,15 @@ use Rattle.word_ops.specs.declared.sorts.Op.{Op}
 use Rattle.word_terms.specs.Tree.{operands_of}
 use Rattle.word_terms.specs.declared.term.Term.{Term}
 use Rattle.word_terms.specs.View.{tree_of}
-use Rattle.goal_reader.specs.declared.goals.Assume.{Assume}
-use Rattle.goal_reader.specs.declared.goals.Axiom.{Axiom}
-use Rattle.goal_reader.specs.declared.goals.Goal.{Goal}
-use Rattle.goal_reader.specs.declared.goals.Input.{Input}
-use Rattle.goal_reader.specs.declared.goals.Set.{Set}
-use Rattle.goal_reader.specs.declared.scopes.DeclaredOp.{DeclaredOp}
-use Rattle.goal_reader.specs.Printing.{Naming, term_plain, terms_plain, atom_or, assume_plain, axiom_plain, declaration_plain, goal_plain, guard_plains, input_plain, input_text, machine_plains, naming, pool_plain, target_plain}
-use Rattle.goal_reader.specs.Views.{assume_view, axiom_view, goal_view, input_view, target_view}
+use Rattle.goal_meaning.specs.declared.goals.Assume.{Assume}
+use Rattle.goal_meaning.specs.declared.goals.Axiom.{Axiom}
+use Rattle.goal_meaning.specs.declared.goals.Goal.{Goal}
+use Rattle.goal_meaning.specs.declared.goals.Input.{Input}
+use Rattle.goal_meaning.specs.declared.goals.Set.{Set}
+use Rattle.goal_meaning.specs.declared.goals.DeclaredOp.{DeclaredOp}
+use Rattle.goal_meaning.specs.InputForms.{Naming, term_plain, terms_plain, atom_or, assume_plain, axiom_plain, declaration_plain, goal_plain, guard_plains, input_plain, machine_plains, naming, pool_plain, target_plain}
+use Rattle.goal_reader.specs.Printing.{input_text}
+use Rattle.goal_meaning.specs.Views.{assume_view, axiom_view, goal_view, input_view, target_view}
 use Rattle.std.proofs.lemmas.List.{take_more}
 use Rattle.std.proofs.lemmas.Grind.{flat_map-append}
 

@@ -8,13 +8,13 @@ use Rattle.forms.specs.Forms.{Form, name, register, number, forms_from}
 use Rattle.forms.specs.Printing.{atom, list, plain_of, plains_from}
 use Rattle.machine_table.specs.Grammar.{Each, more_of, IsListOf, IsNameOf}
 use Rattle.machine_table.specs.Grammar as grammar
-use Rattle.goal_reader.specs.declared.goals.InputReg.{InputReg}
-use Rattle.goal_reader.specs.declared.scopes.DeclaredOp.{DeclaredOp}
+use Rattle.goal_meaning.specs.declared.goals.InputReg.{InputReg}
+use Rattle.goal_meaning.specs.declared.goals.DeclaredOp.{DeclaredOp}
 use Rattle.goal_reader.specs.Grammar.{IsRegister, WritesInput, WritesGoal, WritesDeclaration, WritesAxiom, WritesAssume, WritesTarget, axiom_scope, given}
-use Rattle.goal_reader.specs.Printing.{Naming, naming, register_plain, input_plain, pool_plain, assume_plain, guard_plains, target_plain, goal_plain, declaration_plain, variable_plain, axiom_plain, term_plain}
-use Rattle.goal_reader.specs.Reading.{input_registers}
+use Rattle.goal_meaning.specs.InputForms.{Naming, naming, register_plain, input_plain, pool_plain, assume_plain, guard_plains, target_plain, goal_plain, declaration_plain, variable_plain, axiom_plain, term_plain}
+use Rattle.goal_meaning.specs.WellFormed.{input_registers}
 use Rattle.goal_reader.specs.Roles.{goal_scope, number_of_register, is_digit}
-use Rattle.goal_reader.specs.Views.{GoalTree, AxiomTree}
+use Rattle.goal_meaning.specs.Views.{GoalTree, AxiomTree}
 use Rattle.goal_reader.proofs.Moved.{name_form, number_form, list_form, listed_form, one_more_form, no_more_form, split_forms, each_from, plains_map, plains_once, term_again, assume_again, target_again, guard_again, AreNamed}
 use Rattle.goal_reader.proofs.PrintedNames.{goal_named, axiom_named}
 use Rattle.std.proofs.lemmas.Fmt.{decimal_digit, decimal_step}

@@ -8,17 +8,18 @@ use Rattle.word_ops.specs.Operators.{operators}
 use Rattle.word_ops.specs.declared.operators.WordOp.{WordOp}
 use Rattle.word_ops.specs.declared.sorts.Op.{Op}
 use Rattle.word_ops.specs.declared.sorts.Op.TheVariants as ops
-use Rattle.goal_reader.specs.declared.goals.InputReg.{InputReg}
-use Rattle.goal_reader.specs.declared.scopes.DeclaredOp.{DeclaredOp}
+use Rattle.goal_meaning.specs.declared.goals.InputReg.{InputReg}
+use Rattle.goal_meaning.specs.declared.goals.DeclaredOp.{DeclaredOp}
 use Rattle.goal_reader.specs.declared.scopes.Leaf.{Leaf}
 use Rattle.goal_reader.specs.declared.scopes.Named.{Named}
 use Rattle.goal_reader.specs.declared.scopes.Named.TheVariants.{Memory, Input, Variable}
 use Rattle.goal_reader.specs.Grammar.{axiom_scope}
-use Rattle.goal_reader.specs.Printing.{naming, input_name, operator_name, leaf_atom}
-use Rattle.goal_reader.specs.Reading.{input_registers}
+use Rattle.goal_meaning.specs.InputForms.{naming, input_name, operator_name, leaf_atom}
+use Rattle.goal_meaning.specs.WellFormed.{input_registers}
 use Rattle.goal_reader.specs.Roles.{goal_scope, rank_from}
 use Rattle.std.specs.Option.{option_or}
-use Rattle.goal_reader.specs.Scopes.{leaf_named, declared_named, is_written, word_named, memory_operator_named, written_or_memory, operator_named}
+use Rattle.goal_reader.specs.Scopes.{leaf_named, declared_named, operator_named}
+use Rattle.goal_meaning.specs.Names.{is_written, word_named, memory_operator_named, written_or_memory}
 use Rattle.goal_reader.proofs.AxiomForms.{left_told, same_number}
 use Rattle.goal_reader.proofs.ItemForms.{rank_from_is}
 use Rattle.goal_reader.proofs.Moved.{AreNamed}

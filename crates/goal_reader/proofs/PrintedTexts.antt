@@ -15,8 +15,8 @@ use Rattle.machine_table.specs.declared.tables.Slot.{Slot}
 use Rattle.machine_table.specs.declared.tables.Table.{Table}
 use Rattle.machine_table.specs.declared.tables.Use.{Use}
 use Rattle.goal_reader.specs.Grammar.{WritesDeclaration, WritesAxiom, WritesGoal, WritesMachine, WritesText, built_in, own}
-use Rattle.goal_reader.specs.Printing.{declaration_plain, axiom_plain, goal_plain, machine_plains, input_plains}
-use Rattle.goal_reader.specs.Views.{InputTree}
+use Rattle.goal_meaning.specs.InputForms.{declaration_plain, axiom_plain, goal_plain, machine_plains, input_plains}
+use Rattle.goal_meaning.specs.Views.{InputTree}
 use Rattle.goal_reader.proofs.ItemForms.{list_from_list}
 use Rattle.goal_reader.proofs.Moved.{name_form, number_form, list_form, listed_form, one_more_form, no_more_form, split_forms, each_from, plains_map, plains_once}
 use Rattle.goal_reader.proofs.PrintedForms.{all_head, all_tail, declaration_again, axiom_again, goal_again}

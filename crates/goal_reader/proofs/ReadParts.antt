@@ -9,14 +9,14 @@ use Rattle.word_ops.specs.declared.sorts.Sort.TheVariants as sorts
 use Rattle.word_terms.specs.Tree.{Tree}
 use Rattle.forms.specs.Forms.{Form, atom, list, name, parts_of, forms_from, name_in, number_in}
 use Rattle.machine_table.specs.Grammar.{Each, more_of, IsListOf, IsNameOf}
-use Rattle.goal_reader.specs.declared.goals.InputReg.{InputReg}
-use Rattle.goal_reader.specs.declared.scopes.DeclaredOp.{DeclaredOp}
+use Rattle.goal_meaning.specs.declared.goals.InputReg.{InputReg}
+use Rattle.goal_meaning.specs.declared.goals.DeclaredOp.{DeclaredOp}
 use Rattle.goal_reader.specs.declared.scopes.Scope.{Scope}
 use Rattle.goal_reader.specs.Grammar.{IsRegister, WritesInput, WritesPool, WritesAssume, WritesGuard, WritesTarget, WritesGoal, WritesDeclaration, WritesAxiom, absent, given, unguarded, guarded, axiom_scope}
 use Rattle.goal_reader.specs.Roles.{rank, of_rank, goal_keywords, text_keywords, items_of, goal_scope, second_name, register_of, input_in, declaration_in, arity_named, ◌>>=◌}
 use Rattle.goal_reader.specs.Terms.{Writes}
-use Rattle.goal_reader.specs.Views.{TwoTrees, TargetTree, GoalTree, AxiomTree}
-use Rattle.goal_reader.specs.Reading.{input_registers}
+use Rattle.goal_meaning.specs.Views.{TwoTrees, TargetTree, GoalTree, AxiomTree}
+use Rattle.goal_meaning.specs.WellFormed.{input_registers}
 use Rattle.goal_reader.proofs.Grouped.{AllOf, all_ranked, listed_rank, first_of, skip_of, of_other}
 use Rattle.goal_reader.proofs.Heads.{list_from}
 use Rattle.goal_reader.proofs.OneTerm.{one_term}

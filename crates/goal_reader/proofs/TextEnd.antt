@@ -18,16 +18,17 @@ use Rattle.forms.specs.Forms.{Form, more, Stand, forms_from, forms_list, form_of
 use Rattle.machine_table.specs.Grammar.{Each}
 use Rattle.machine_table.specs.Tables.{ev6}
 use Rattle.machine_table.specs.declared.tables.Table.{Table}
-use Rattle.goal_reader.specs.declared.goals.Goal.{Goal}
-use Rattle.goal_reader.specs.declared.goals.Input.{Input}
-use Rattle.goal_reader.specs.declared.scopes.DeclaredOp.{DeclaredOp}
+use Rattle.goal_meaning.specs.declared.goals.Goal.{Goal}
+use Rattle.goal_meaning.specs.declared.goals.Input.{Input}
+use Rattle.goal_meaning.specs.declared.goals.DeclaredOp.{DeclaredOp}
 use Rattle.goal_reader.specs.declared.texts.TextDraft.{TextDraft}
 use Rattle.goal_reader.specs.Grammar.{WritesDeclaration, WritesAxiom, WritesGoal, WritesMachine, WritesText, IsFirstTextFault, in_passes, in_forms, built_in, own}
 use Rattle.goal_reader.specs.Roles as roles
+use Rattle.goal_meaning.specs.Names as goal_names
 use Rattle.goal_reader.specs.Roles.{is_of_rank, of_rank, text_keywords, IsTextFault, no_goal, in_form, in_machine}
 use Rattle.goal_reader.specs.TextDrafts.{IsTextWritten, IsTableWritten, KeepsText, IsAxiomOf, IsGoalOf, one_table}
 use Rattle.goal_reader.specs.TextFaults.{IsFormFault, as_role, as_machine, role_at, AreClear}
-use Rattle.goal_reader.specs.Views.{GoalTree, input_view, goal_view, axiom_view}
+use Rattle.goal_meaning.specs.Views.{GoalTree, input_view, goal_view, axiom_view}
 use Rattle.goal_reader.proofs.Different.{pairs_map}
 use Rattle.goal_reader.proofs.Finish.{each_map}
 use Rattle.goal_reader.proofs.Fixed.{got_within}
@@ -157,7 +158,7 @@ text_written fs d i w k some table builtin ops axs gs =
       all_goals = each_map (WritesGoal i.ops) goal_view (of_rank text_keywords 3 fs) i.goals
           (subst (λ xs. Each (IsGoalOf i.ops) (of_rank text_keywords 3 fs) xs) (sym gs) (subst (λ (ds : List DeclaredOp). Each (IsGoalOf ds) (of_rank text_keywords 3 fs) d.goals) (sym ops) w.goals));
       op_names = subst (λ ds. AllPairs (λ (x y : DeclaredOp). x.name ≢ y.name) ds) (sym ops) k.op_names;
-      own_names = subst (λ ds. All (λ (x : DeclaredOp). roles.is_reserved x.name ≡ false) ds) (sym ops) k.own_names;
+      own_names = subst (λ ds. All (λ (x : DeclaredOp). goal_names.is_reserved x.name ≡ false) ds) (sym ops) k.own_names;
       goal_names = pairs_map (λ (x y : GoalTree). x.name ≢ y.name) goal_view i.goals (subst (λ xs. AllPairs (λ (x y : Goal). x.name ≢ y.name) xs) (sym gs) k.goal_names);
       some_goal = omega (arith, some, goal_count, g);
       few = (omega (arith, o, few.0), omega (arith, axiom_count, a, few.1), omega (arith, goal_count, g, few.2));

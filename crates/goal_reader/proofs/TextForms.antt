@@ -12,9 +12,9 @@ use Rattle.goal_reader.specs.Reading.{IsClear}
 use Rattle.goal_reader.specs.TextFaults.{IsFormFault, as_role, as_machine}
 use Rattle.goal_reader.specs.TextDrafts.{IsClearForm, IsTextWritten, IsAxiomOf, IsGoalOf, no_table}
 use Rattle.goal_reader.specs.Grammar.{WritesDeclaration}
-use Rattle.goal_reader.specs.declared.goals.Axiom.{Axiom}
-use Rattle.goal_reader.specs.declared.goals.Goal.{Goal}
-use Rattle.goal_reader.specs.declared.scopes.DeclaredOp.{DeclaredOp}
+use Rattle.goal_meaning.specs.declared.goals.Axiom.{Axiom}
+use Rattle.goal_meaning.specs.declared.goals.Goal.{Goal}
+use Rattle.goal_meaning.specs.declared.goals.DeclaredOp.{DeclaredOp}
 
 no_list : (shape : Shape) → a_list shape ≡ a_machine → ⊥
 no_list shape e = cc

@@ -10,15 +10,16 @@ use Rattle.machine_table.specs.declared.tables.Table.{Table}
 use Rattle.text_core.specs.Trees.{SexpTrees}
 use Rattle.text_core.specs.declared.faults.Kind.{Kind}
 use Rattle.goal_reader.specs.declared.order.Admission.TheVariants.{Admitted}
-use Rattle.goal_reader.specs.declared.scopes.DeclaredOp.{DeclaredOp}
+use Rattle.goal_meaning.specs.declared.goals.DeclaredOp.{DeclaredOp}
 use Rattle.goal_reader.specs.Grammar.{WritesDeclaration, WritesAxiom, WritesGoal, WritesMachine, WritesText, Reads, IsFirstTextFault, built_in, own}
 use Rattle.goal_reader.specs.Reading.{IsClear}
 use Rattle.goal_reader.specs.Roles as roles
 use Rattle.text_core.specs.Names.{is_among}
-use Rattle.goal_reader.specs.Roles.{Role, a_list, a_machine, wrong, own_name, an_arity, IsTextFault, no_goal, in_form, in_machine, is_reserved, names_of_declared, rank, of_rank, is_of_rank, text_keywords, text_bounds, bound_at, top_role, role_in, declared_in, declaration_in, names_given, second_name, arity_named}
+use Rattle.goal_reader.specs.Roles.{Role, a_list, a_machine, wrong, own_name, an_arity, IsTextFault, no_goal, in_form, in_machine, rank, of_rank, is_of_rank, text_keywords, text_bounds, bound_at, top_role, role_in, declared_in, declaration_in, names_given, second_name, arity_named}
+use Rattle.goal_meaning.specs.Names.{is_reserved, names_of_declared}
 use Rattle.goal_reader.specs.TextDrafts.{IsClearForm}
 use Rattle.goal_reader.specs.TextFaults.{as_role, as_machine}
-use Rattle.goal_reader.specs.Views.{AxiomTree, GoalTree, InputTree}
+use Rattle.goal_meaning.specs.Views.{AxiomTree, GoalTree, InputTree}
 use Rattle.goal_reader.proofs.Admitting.{role_told}
 use Rattle.goal_reader.proofs.Arities.{arity_clear, declaration_only}
 use Rattle.goal_reader.proofs.AxiomClear.{written_axiom_clear}

@@ -12,9 +12,9 @@ use Rattle.word_ops.specs.declared.sorts.Arity.TheVariants.{One, Two, Three, Fou
 use Rattle.forms.specs.Forms.{Form, atom, list, none, more, name, number, parts_of, name_in, number_in}
 use Rattle.forms.specs.Forms as forms
 use Rattle.machine_table.specs.Grammar.{Each, IsNameOf, IsNumberOf}
-use Rattle.goal_reader.specs.declared.goals.Goal.{Goal}
+use Rattle.goal_meaning.specs.declared.goals.Goal.{Goal}
 use Rattle.goal_reader.specs.declared.order.Admission.TheVariants.{Admitted}
-use Rattle.goal_reader.specs.declared.scopes.DeclaredOp.{DeclaredOp}
+use Rattle.goal_meaning.specs.declared.goals.DeclaredOp.{DeclaredOp}
 use Rattle.goal_reader.specs.declared.texts.TextDraft.{TextDraft}
 use Rattle.goal_reader.specs.Drafts.{names_of_goals}
 use Rattle.goal_reader.specs.Grammar.{WritesDeclaration}
@@ -22,7 +22,8 @@ use Rattle.goal_reader.specs.Order.{IsAdmission}
 use Rattle.goal_reader.specs.Reading.{IsClear}
 use Rattle.goal_reader.specs.Roles as roles
 use Rattle.text_core.specs.Names.{is_among}
-use Rattle.goal_reader.specs.Roles.{Role, Shape, a_list, a_machine, wrong, own_name, fresh_name, is_reserved, names_of_declared, arity_named, declaration_in, declared_in, second_name, names_given, rank, of_rank, is_later_than, text_keywords, text_bounds, bound_at, role_in, top_role, ◌>>=◌}
+use Rattle.goal_reader.specs.Roles.{Role, Shape, a_list, a_machine, wrong, own_name, fresh_name, arity_named, declaration_in, declared_in, second_name, names_given, rank, of_rank, is_later_than, text_keywords, text_bounds, bound_at, role_in, top_role, ◌>>=◌}
+use Rattle.goal_meaning.specs.Names.{is_reserved, names_of_declared}
 use Rattle.goal_reader.specs.TextDrafts.{IsClearForm, IsNextForm, IsTextDraft, IsTextWritten, KeepsText, IsAxiomOf, IsGoalOf, IsTableWritten, one_table, text_role}
 use Rattle.goal_reader.specs.TextDrafts as drafts
 use Rattle.goal_reader.specs.TextFaults.{IsFormFault, as_role, role_at, AreClear}

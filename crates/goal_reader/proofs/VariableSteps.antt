@@ -16,10 +16,11 @@ use Rattle.forms.specs.Faults.{own}
 use Rattle.forms.proofs.First.{ClearTo, first_own}
 use Rattle.machine_table.specs.Grammar.{Each, more_of, IsNameOf}
 use Rattle.machine_table.specs.Grammar as grammar
-use Rattle.goal_reader.specs.declared.scopes.DeclaredOp.{DeclaredOp}
+use Rattle.goal_meaning.specs.declared.goals.DeclaredOp.{DeclaredOp}
 use Rattle.goal_reader.specs.Roles as roles
 use Rattle.text_core.specs.Names.{is_among}
-use Rattle.goal_reader.specs.Roles.{Role, a_list, own_name, past, past_limit, too_few, no_own_name, IsOwn, part_role, IsFaultAs, names_of_declared, is_reserved, mentions, mentions_any}
+use Rattle.goal_reader.specs.Roles.{Role, a_list, own_name, past, past_limit, too_few, no_own_name, IsOwn, part_role, IsFaultAs, mentions, mentions_any}
+use Rattle.goal_meaning.specs.Names.{names_of_declared, is_reserved}
 use Rattle.goal_reader.specs.Reading.{IsClear, IsOwnName}
 use Rattle.goal_reader.proofs.Different.{or_left, or_right, among_apart, pairs_nil}
 use Rattle.goal_reader.proofs.Growing.{clear_next, part_first}

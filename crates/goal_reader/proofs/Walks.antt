@@ -10,7 +10,8 @@ use Rattle.machine_table.specs.Grammar.{Each, more_of}
 use Rattle.text_core.specs.declared.faults.Kind.{Kind}
 use Rattle.goal_reader.specs.Reading.{IsClear}
 use Rattle.text_core.specs.Names.{is_among}
-use Rattle.goal_reader.specs.Roles.{Role, IsOwn, part_role, rank, of_rank, is_later_than, has_register}
+use Rattle.goal_reader.specs.Roles.{Role, IsOwn, part_role, rank, of_rank, is_later_than}
+use Rattle.goal_meaning.specs.Rules.{has_register}
 use Rattle.goal_reader.proofs.Names.{not_true, decides_false}
 use Rattle.goal_reader.proofs.Ranks.{is_itself, later_more, of_rank_more, none_later, none_of}
 

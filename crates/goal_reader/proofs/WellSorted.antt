@@ -15,13 +15,14 @@ use Rattle.word_terms.specs.Sorting.{HasSort, HaveSorts, sort_at, tree_count}
 use Rattle.word_terms.specs.Tree.{Tree, Trees}
 use Rattle.forms.specs.Forms.{Form, Forms, forms_list}
 use Rattle.forms.specs.Printing.{CanPrint, CanPrintAll, plain_of, plains_of}
-use Rattle.goal_reader.specs.declared.scopes.DeclaredOp.{DeclaredOp}
+use Rattle.goal_meaning.specs.declared.goals.DeclaredOp.{DeclaredOp}
 use Rattle.goal_reader.specs.declared.scopes.Named.TheVariants.{Memory, Input, Variable}
 use Rattle.goal_reader.specs.declared.scopes.Scope.{Scope}
 use Rattle.std.specs.Option.{option_or}
-use Rattle.goal_reader.specs.Scopes.{leaf_named, declared_named, is_written, word_named, memory_operator_named, written_or_memory, operator_named}
+use Rattle.goal_reader.specs.Scopes.{leaf_named, declared_named, operator_named}
+use Rattle.goal_meaning.specs.Names.{is_written, word_named, memory_operator_named, written_or_memory}
 use Rattle.goal_reader.specs.Terms.{Writes, WritesEach, memory, input, variable, constant, application, nothing, operand}
-use Rattle.goal_reader.specs.WellFormed.{IsDeclared}
+use Rattle.goal_meaning.specs.WellFormed.{IsDeclared}
 
 -- ---- the operator of a name
 

@@ -11,13 +11,13 @@ use Rattle.word_terms.specs.Tree.{Tree, Trees}
 use Rattle.forms.specs.Forms.{Form, Forms, atom, list, none, more, forms_list, forms_from, Stands, Stand}
 use Rattle.machine_table.specs.Grammar.{Each, more_of, IsListOf}
 use Rattle.machine_table.specs.Grammar as grammar
-use Rattle.goal_reader.specs.declared.scopes.DeclaredOp.{DeclaredOp}
+use Rattle.goal_meaning.specs.declared.goals.DeclaredOp.{DeclaredOp}
 use Rattle.goal_reader.specs.declared.scopes.Scope.{Scope}
 use Rattle.goal_reader.specs.Grammar.{WritesAssume, WritesGuard, WritesTarget, WritesGoal, WritesAxiom, WritesText, unguarded, guarded, axiom_scope}
 use Rattle.goal_reader.specs.Roles.{goal_scope}
 use Rattle.goal_reader.specs.Terms.{Writes, WritesEach, memory, input, variable, constant, application, nothing, operand}
-use Rattle.goal_reader.specs.Views.{TwoTrees, TargetTree, GoalTree, AxiomTree, InputTree}
-use Rattle.goal_reader.specs.WellFormed.{sum_over, operators_of_sides, operators_of_target, operators_of_goal, operators_of_axiom, operators_of_input}
+use Rattle.goal_meaning.specs.Views.{TwoTrees, TargetTree, GoalTree, AxiomTree, InputTree}
+use Rattle.goal_meaning.specs.WellFormed.{sum_over, operators_of_sides, operators_of_target, operators_of_goal, operators_of_axiom, operators_of_input}
 
 abbrev mutual
   pub signs : Form → ℕ

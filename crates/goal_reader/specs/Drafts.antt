@@ -5,24 +5,27 @@ use Rattle.word_ops.specs.declared.sorts.Op.{Op}
 use Rattle.word_terms.specs.View.{tree_of}
 use Rattle.word_terms.specs.declared.term.Term.{Term}
 use Rattle.forms.specs.Forms.{Form, parts_of}
-use Rattle.goal_reader.specs.declared.scopes.DeclaredOp.{DeclaredOp}
+use Rattle.goal_meaning.specs.declared.goals.DeclaredOp.{DeclaredOp}
 use Rattle.goal_reader.specs.declared.scopes.Leaf.{Leaf}
 use Rattle.goal_reader.specs.declared.scopes.Scope.{Scope}
 use Rattle.goal_reader.specs.declared.scopes.Named.TheVariants.{Input}
-use Rattle.goal_reader.specs.declared.goals.InputReg.{InputReg}
-use Rattle.goal_reader.specs.declared.goals.Assume.{Assume}
-use Rattle.goal_reader.specs.declared.goals.Set.{Set}
-use Rattle.goal_reader.specs.declared.goals.Goal.{Goal}
+use Rattle.goal_meaning.specs.declared.goals.InputReg.{InputReg}
+use Rattle.goal_meaning.specs.declared.goals.Assume.{Assume}
+use Rattle.goal_meaning.specs.declared.goals.Set.{Set}
+use Rattle.goal_meaning.specs.declared.goals.Goal.{Goal}
 use Rattle.goal_reader.specs.declared.drafts.Draft.{Draft}
 use Rattle.goal_reader.specs.Roles as roles
 use Rattle.text_core.specs.Names.{is_among}
-use Rattle.goal_reader.specs.Roles.{Role, a_list, wrong, is_reserved, names_of_declared, goal_scope, inputs_in, input_in, names_given, of_rank, goal_keywords, items_of, second_name, registers_in, ◌>>=◌}
+use Rattle.goal_reader.specs.Roles.{Role, a_list, wrong, goal_scope, inputs_in, input_in, names_given, of_rank, goal_keywords, items_of, second_name, registers_in}
+use Rattle.goal_meaning.specs.Names.{is_reserved, names_of_declared}
 use Rattle.std.specs.Prelude.{get_or, codes}
-use Rattle.goal_reader.specs.Grammar.{default_pool, IsRegister, WritesInput, WritesAssume, WritesGuard, WritesTarget}
+use Rattle.goal_meaning.specs.Rules.{default_pool}
+use Rattle.goal_reader.specs.Grammar.{IsRegister, WritesInput, WritesAssume, WritesGuard, WritesTarget}
 use Rattle.machine_table.specs.Grammar.{Each, IsListOf}
-use Rattle.goal_reader.specs.Views.{assume_view, target_view}
+use Rattle.goal_meaning.specs.Views.{assume_view, target_view}
 use Rattle.std.specs.Prelude.{option_map}
-use Rattle.goal_reader.specs.Reading.{WritesPart, names_of_targets, input_registers, tree_sort, sort_of_target}
+use Rattle.goal_reader.specs.Reading.{WritesPart, names_of_targets, tree_sort}
+use Rattle.goal_meaning.specs.WellFormed.{input_registers, sort_of_target}
 
 abbrev pub input_leaf : InputReg → Leaf
 input_leaf i = record { name = i.name; named = Input i.reg }

@@ -1,15 +1,16 @@
 -- What goals, axioms and declarations are written as. Source: this project; the notation follows Denali's guarded
 -- multi-assignment (PLDI 2002).
-use Rattle.std.specs.Prelude.{Bool, true, false, ℕ, ◌≡◌, ◌≢◌, ◌<◌, ◌≤◌, not, List, [], ◌∷◌, ◌++◌, length, map, filter, codes, bytes_eq, Option, None, Some, All, AllPairs, if◌then◌else◌}
-use Rattle.std.specs.List.{range_with_len}
+use Rattle.std.specs.Prelude.{Bool, true, false, ℕ, ◌≡◌, ◌≢◌, ◌<◌, ◌≤◌, List, [], ◌∷◌, ◌++◌, length, map, codes, bytes_eq, Option, None, Some, All, AllPairs, if◌then◌else◌}
 use Rattle.forms.specs.Forms.{Form, atom, list, forms_from, forms_list, forms_of, register, is_list}
 use Rattle.forms.specs.Reading.{TextHasTrees, IsFirstReadFault}
 use Rattle.text_core.specs.Names.{is_among}
-use Rattle.goal_reader.specs.Roles.{numbered_leaves, IsTextFault, goal_scope, is_reserved, has_register, register_number, names_of_declared}
+use Rattle.goal_reader.specs.Roles.{numbered_leaves, IsTextFault, goal_scope, register_number}
+use Rattle.goal_meaning.specs.Names.{is_reserved, names_of_declared}
 use Rattle.goal_reader.specs.Terms.{Writes}
-use Rattle.goal_reader.specs.Views.{TwoTrees, TargetTree, GoalTree, AxiomTree, InputTree}
-use Rattle.goal_reader.specs.declared.goals.InputReg.{InputReg}
-use Rattle.goal_reader.specs.declared.scopes.DeclaredOp.{DeclaredOp}
+use Rattle.goal_meaning.specs.Rules.{default_pool, KeepsRules}
+use Rattle.goal_meaning.specs.Views.{TwoTrees, TargetTree, GoalTree, AxiomTree, InputTree}
+use Rattle.goal_meaning.specs.declared.goals.InputReg.{InputReg}
+use Rattle.goal_meaning.specs.declared.goals.DeclaredOp.{DeclaredOp}
 use Rattle.goal_reader.specs.declared.scopes.Named.TheVariants.{Variable}
 use Rattle.goal_reader.specs.declared.scopes.Scope.{Scope}
 use Rattle.machine_table.specs.Grammar.{Each, IsListOf, IsNameOf, IsNumberOf, WritesTable}
@@ -39,14 +40,6 @@ pub record WritesInput (form : Form) (input : InputReg) : Type 0 where
   pub is : IsListOf (codes "in") (first ∷ second ∷ []) form
   pub named : IsNameOf input.name first
   pub placed : IsRegister input.reg second
-
--- the registers that are free where nothing else is said: 0 to 8, 16 to 25, 27 and 28
-abbrev pub free_registers : List ℕ
-free_registers = range_with_len 0 9 ++ range_with_len 16 10 ++ 27 ∷ 28 ∷ []
-
--- a pool that isn't given has these, but for the inputs' registers
-abbrev pub default_pool : List ℕ → List ℕ
-default_pool inputs = filter (λ r. not (has_register inputs r)) free_registers
 
 -- [ ( pool {REGISTER} ) ]
 pub data WritesPool (inputs : List ℕ) : List Form → List ℕ → Type 0 where
@@ -78,17 +71,6 @@ pub record WritesTarget (scope : Scope) (form : Form) (target : TargetTree) : Ty
   pub is : IsListOf (codes "set") (first ∷ second ∷ []) form
   pub named : IsNameOf target.name first
   pub value : Writes scope (if bytes_eq target.name (codes "M") then sorts.Memory else sorts.Word) second target.value
-
--- the names and registers of a goal, and how many of everything there may be
-pub record KeepsRules (declared : List DeclaredOp) (goal : GoalTree) : Type 0 where
-  pub input_names : AllPairs (λ (i j : InputReg). i.name ≢ j.name) goal.inputs
-  pub own_names : All (λ (i : InputReg). is_reserved i.name ≡ false) goal.inputs
-  pub not_declared : All (λ (i : InputReg). is_among (names_of_declared declared) i.name ≡ false) goal.inputs
-  pub registers : AllPairs (λ a b. a ≢ b) (map (λ (i : InputReg). i.reg) goal.inputs ++ goal.pool)
-  pub low : All (λ r. r < 31) (map (λ (i : InputReg). i.reg) goal.inputs ++ goal.pool)
-  pub targets : AllPairs (λ (s t : TargetTree). s.name ≢ t.name) goal.sets
-  pub some_target : 0 < length goal.sets
-  pub few : (length goal.inputs ≤ 16) × (length goal.assumes ≤ 16) × (length goal.sets ≤ 16)
 
 -- ( goal NAME {in} [pool] {assume} [when] set {set} )
 pub record WritesGoal (declared : List DeclaredOp) (form : Form) (goal : GoalTree) : Type 0 where

@@ -5,11 +5,6 @@ pub mod Grammar
 pub mod Reading
 pub mod Order
 pub mod Drafts
-pub mod Views
 pub mod TextFaults
 pub mod TextDrafts
 pub mod Printing
-pub mod Holds
-pub mod Outcomes
-pub mod InputNames
-pub mod WellFormed

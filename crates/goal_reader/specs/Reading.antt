@@ -1,19 +1,20 @@
 -- What the reader's parts give. Source: this project.
-use Rattle.std.specs.Prelude.{ℕ, ◌≡◌, ◌||◌, false, List, map, Option, Some, slice_get, if◌then◌else◌, bytes_eq, codes}
+use Rattle.std.specs.Prelude.{ℕ, ◌≡◌, ◌||◌, false, List, map, Option, Some, slice_get, if◌then◌else◌}
 use Rattle.word_ops.specs.declared.sorts.Sort.{Sort}
 use Rattle.word_ops.specs.declared.sorts.Op.{Op}
 use Rattle.word_terms.specs.Tree.{Tree, variable, application}
 use Rattle.word_ops.specs.Meanings.{sort_of}
 use Rattle.word_ops.specs.declared.sorts.Sort.TheVariants as sorts
-use Rattle.goal_reader.specs.declared.goals.Set.{Set}
+use Rattle.goal_meaning.specs.declared.goals.Set.{Set}
 use Rattle.goal_reader.specs.declared.scopes.Scope.{Scope}
 use Rattle.text_core.specs.declared.faults.Kind.{Kind}
 use Rattle.forms.specs.Forms.{Form, name_in, number_in, parts_of}
 use Rattle.word_ops.specs.declared.sorts.Arity.{Arity}
-use Rattle.goal_reader.specs.declared.goals.InputReg.{InputReg}
+use Rattle.goal_meaning.specs.declared.goals.InputReg.{InputReg}
 use Rattle.text_core.specs.Names.{is_among}
-use Rattle.goal_reader.specs.Roles.{Role, IsFaultAs, is_reserved, WritesTerm, arity_named, mentions, numbered_leaves}
-use Rattle.goal_reader.specs.declared.scopes.DeclaredOp.{DeclaredOp}
+use Rattle.goal_reader.specs.Roles.{Role, IsFaultAs, WritesTerm, arity_named, mentions, numbered_leaves}
+use Rattle.goal_meaning.specs.Names.{is_reserved}
+use Rattle.goal_meaning.specs.declared.goals.DeclaredOp.{DeclaredOp}
 use Rattle.goal_reader.specs.declared.scopes.Named.{Named}
 use Rattle.goal_reader.specs.declared.scopes.Named.TheVariants.{Variable, Lacking}
 
@@ -23,9 +24,6 @@ IsClear role form = (place : ℕ) (kind : Kind) → IsFaultAs role form place ki
 
 abbrev pub names_of_inputs : List InputReg → List (List ℕ)
 names_of_inputs inputs = map (λ (i : InputReg). i.name) inputs
-
-abbrev pub input_registers : List InputReg → List ℕ
-input_registers inputs = map (λ (i : InputReg). i.reg) inputs
 
 -- a name that is free
 pub record IsOwnName (names : List (List ℕ)) (form : Form) (bytes : List ℕ) : Type 0 where
@@ -42,9 +40,6 @@ pub record WritesPart (scope : Scope) (wanted : Option Sort) (form : Form) (at :
 abbrev pub tree_sort : Tree Op → Sort
 tree_sort (variable n) = sorts.Word
 tree_sort (application op operands) = sort_of op
-
-abbrev pub sort_of_target : List ℕ → Sort
-sort_of_target name = if bytes_eq name (codes "M") then sorts.Memory else sorts.Word
 
 abbrev pub names_of_targets : List Set → List (List ℕ)
 names_of_targets targets = map (λ (t : Set). t.name) targets

@@ -1,5 +1,5 @@
 -- The faults of forms, row by row. Source: this project.
-use Rattle.std.specs.Prelude.{Bool, true, false, ℕ, zero, suc, ◌≡◌, ◌≢◌, ◌+◌, ◌<◌, ◌||◌, ◌&&◌, ◌-◌, ◌*◌, ◌==◌, nat_lt, nat_le, if◌then◌else◌, List, [], ◌∷◌, ◌++◌, length, map, take, drop, get_or, slice_get, filter, filter_map, codes, bytes_eq, Option, Some, None, is_some, option_map}
+use Rattle.std.specs.Prelude.{Bool, true, false, ℕ, zero, suc, ◌≡◌, ◌≢◌, ◌+◌, ◌<◌, ◌||◌, ◌&&◌, ◌-◌, ◌*◌, ◌==◌, nat_lt, nat_le, if◌then◌else◌, List, [], ◌∷◌, ◌++◌, length, map, take, drop, get_or, slice_get, filter, filter_map, codes, bytes_eq, Option, Some, None, option_map}
 use Rattle.std.specs.Option.{option_map_or}
 use Rattle.std.specs.List.{list_any}
 use Rattle.word_ops.specs.Meanings.{arity_of_op, sort_of, operand_sort}
@@ -15,14 +15,16 @@ use Rattle.forms.specs.Forms as forms
 use Rattle.forms.specs.Faults.{IsFault}
 use Rattle.machine_table.specs.Roles.{IsMachineFault}
 use Rattle.goal_reader.specs.declared.scopes.Scope.{Scope}
-use Rattle.goal_reader.specs.declared.scopes.DeclaredOp.{DeclaredOp}
+use Rattle.goal_meaning.specs.declared.goals.DeclaredOp.{DeclaredOp}
 use Rattle.goal_reader.specs.declared.scopes.Named.{Named}
 use Rattle.goal_reader.specs.declared.scopes.Named.TheVariants.{Memory, Input, Variable, Lacking}
 use Rattle.goal_reader.specs.declared.scopes.Leaf.{Leaf}
-use Rattle.goal_reader.specs.declared.goals.InputReg.{InputReg}
+use Rattle.goal_meaning.specs.Names.{is_reserved, names_of_declared}
+use Rattle.goal_meaning.specs.Rules.{has_register}
+use Rattle.goal_meaning.specs.declared.goals.InputReg.{InputReg}
 use Rattle.word_ops.specs.declared.sorts.Arity.{Arity}
 use Rattle.word_ops.specs.declared.sorts.Arity.TheVariants.{One, Two, Three, Four}
-use Rattle.goal_reader.specs.Scopes.{leaf_named, operator_named, built_in_named}
+use Rattle.goal_reader.specs.Scopes.{leaf_named, operator_named}
 use Rattle.goal_reader.specs.Terms.{Writes}
 
 infixl 10 ◌>>=◌
@@ -56,13 +58,6 @@ can_be_term (list place (more form forms)) = true
 can_be_term _ = false
 
 -- ---- what the forms before give
-
-abbrev pub has_register : List ℕ → ℕ → Bool
-has_register given register = list_any (λ other. other == register) given
-
--- an operator that every text has, or the memory
-abbrev pub is_reserved : List ℕ → Bool
-is_reserved name = is_some (built_in_named name) || bytes_eq name (codes "M")
 
 abbrev pub is_digit : ℕ → Bool
 is_digit b = nat_le 48 b && nat_le b 57
@@ -346,9 +341,6 @@ goal_part declared names form (suc zero) = Some (fresh_name names)
 goal_part declared names form (suc (suc at)) =
     option_map (role_in goal_keywords goal_bounds (take at (items_of form)) (item_role declared (take at
     (items_of form)))) (slice_get (items_of form) at)
-
-abbrev pub names_of_declared : List DeclaredOp → List (List ℕ)
-names_of_declared declared = map (λ (d : DeclaredOp). d.name) declared
 
 abbrev pub shape_part : Shape → Form → ℕ → Option Role
 shape_part (input declared inputs) form at = listed (own_name (names_of_declared declared

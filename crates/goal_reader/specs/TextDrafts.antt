@@ -4,12 +4,13 @@ use Rattle.forms.specs.Forms.{Form}
 use Rattle.goal_reader.specs.Drafts.{names_of_goals}
 use Rattle.goal_reader.specs.Grammar.{WritesDeclaration, WritesAxiom, WritesGoal}
 use Rattle.goal_reader.specs.Roles as roles
-use Rattle.goal_reader.specs.Roles.{Role, a_list, a_machine, wrong, declaration_in, declared_in, is_reserved, names_given, of_rank, text_keywords}
+use Rattle.goal_reader.specs.Roles.{Role, a_list, a_machine, wrong, declaration_in, declared_in, names_given, of_rank, text_keywords}
+use Rattle.goal_meaning.specs.Names.{is_reserved}
 use Rattle.goal_reader.specs.TextFaults.{IsFormFault}
-use Rattle.goal_reader.specs.Views.{axiom_view, goal_view}
-use Rattle.goal_reader.specs.declared.goals.Axiom.{Axiom}
-use Rattle.goal_reader.specs.declared.goals.Goal.{Goal}
-use Rattle.goal_reader.specs.declared.scopes.DeclaredOp.{DeclaredOp}
+use Rattle.goal_meaning.specs.Views.{axiom_view, goal_view}
+use Rattle.goal_meaning.specs.declared.goals.Axiom.{Axiom}
+use Rattle.goal_meaning.specs.declared.goals.Goal.{Goal}
+use Rattle.goal_meaning.specs.declared.goals.DeclaredOp.{DeclaredOp}
 use Rattle.goal_reader.specs.declared.texts.TextDraft.{TextDraft}
 use Rattle.machine_table.specs.Grammar.{Each, WritesTable}
 use Rattle.machine_table.specs.declared.tables.Table.{Table}

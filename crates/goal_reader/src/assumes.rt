@@ -8,12 +8,13 @@ ghost use Rattle.forms.specs.Reading.{IsSexpOf};
 ghost use Rattle.goal_reader.specs.Roles as roles;
 ghost use Rattle.text_core.specs.Names.{is_among};
 ghost use Rattle.goal_reader.specs.Roles.{IsFaultAs, is_of_rank, goal_keywords, second_name};
-ghost use Rattle.goal_reader.specs.Reading.{IsClear, WritesPart, tree_sort, sort_of_target, names_of_targets};
+ghost use Rattle.goal_reader.specs.Reading.{IsClear, WritesPart, tree_sort, names_of_targets};
+ghost use Rattle.goal_meaning.specs.WellFormed.{sort_of_target};
 
-use crate::goals::{Assume, Set};
 use crate::scopes::Scope;
 use crate::terms::term;
 use forms::{at, name, parts, place, sexps_are_forms};
+use goal_meaning::{Assume, Set};
 use std::alloc::Global;
 use text_core::{Kind, Name, Sexp, TextFault};
 use word_ops::{Op, Sort};

@@ -9,14 +9,14 @@ ghost use Rattle.forms.specs.Reading.{IsSexpOf};
 ghost use Rattle.goal_reader.specs.Roles as roles;
 ghost use Rattle.goal_reader.specs.Roles.{IsFaultAs, WritesTerm, rank, text_keywords};
 ghost use Rattle.goal_reader.specs.Grammar.{WritesAxiom};
-ghost use Rattle.goal_reader.specs.Views.{AxiomTree, axiom_view};
+ghost use Rattle.goal_meaning.specs.Views.{AxiomTree, axiom_view};
 ghost use Rattle.goal_reader.specs.Reading.{IsClear};
 
-use crate::goals::Axiom;
-use crate::scopes::{DeclaredOp, Scope};
+use crate::scopes::Scope;
 use crate::terms::term;
 use crate::variables::{left_scope, right_scope, variables};
 use forms::{at, parts, place, sexps_are_forms};
+use goal_meaning::{Axiom, DeclaredOp};
 use items::Items;
 use std::alloc::Global;
 use text_core::{Kind, Sexp, TextFault};

@@ -4,13 +4,15 @@ ghost use Rattle.text_core.specs.Faults.{IsFirst, IsFaultBy};
 ghost use Rattle.forms.specs.Forms.{sexp_form};
 ghost use Rattle.forms.specs.Reading.{IsSexpOf};
 ghost use Rattle.goal_reader.specs.Roles as roles;
+ghost use Rattle.goal_meaning.specs.Names as goal_names;
 ghost use Rattle.text_core.specs.Names.{is_among};
-ghost use Rattle.goal_reader.specs.Roles.{IsFaultAs, names_of_declared, declaration_in, arity_named};
+ghost use Rattle.goal_reader.specs.Roles.{IsFaultAs, declaration_in, arity_named};
+ghost use Rattle.goal_meaning.specs.Names.{names_of_declared};
 ghost use Rattle.goal_reader.specs.Reading.{IsClear, IsOwnName, IsArityOf};
 
 use crate::inputs::{is_declared, is_reserved};
-use crate::scopes::DeclaredOp;
 use forms::{at, name, number, parts, place, sexps_are_forms};
+use goal_meaning::DeclaredOp;
 use std::alloc::Global;
 use text_core::{Kind, Name, Sexp, TextFault};
 use word_ops::Arity;
@@ -38,7 +40,7 @@ fn operator_name<'a>(
 }
 
 fn is_used_operator(name: &[u8], declared: &[DeclaredOp]) -> bool
-    ensures { result ≡ (roles.is_reserved name.now || is_among (names_of_declared declared.now) name.now) }
+    ensures { result ≡ (goal_names.is_reserved name.now || is_among (names_of_declared declared.now) name.now) }
 {
     let reserved = is_reserved(name);
     let declared = is_declared(declared, name);

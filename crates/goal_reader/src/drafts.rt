@@ -8,11 +8,11 @@ ghost use Rattle.goal_reader.specs.Reading.{IsClear};
 ghost use Rattle.goal_reader.specs.Drafts.{IsNext, draft_role};
 
 use crate::assumes::{assume, target};
-use crate::goals::{Assume, InputReg, Set};
 use crate::guards::guard;
 use crate::inputs::input;
 use crate::pools::pool;
 use crate::scopes::{Leaf, Named, Scope};
+use goal_meaning::{Assume, InputReg, Set};
 use items::Items;
 use std::alloc::Global;
 use text_core::{Sexp, TextFault};

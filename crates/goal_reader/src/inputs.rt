@@ -5,13 +5,17 @@ ghost use Rattle.text_core.specs.Faults.{IsFirst, IsFaultBy};
 ghost use Rattle.forms.specs.Forms.{sexp_form, name_in, parts_of};
 ghost use Rattle.forms.specs.Reading.{IsSexpOf};
 ghost use Rattle.goal_reader.specs.Roles as roles;
+ghost use Rattle.goal_meaning.specs.Names as goal_names;
 ghost use Rattle.text_core.specs.Names.{is_among};
-ghost use Rattle.goal_reader.specs.Roles.{IsFaultAs, is_reserved, has_register, names_of_declared, register_number as number_of_name, number_of_register, register_of, is_of_rank, goal_keywords, input_in};
-ghost use Rattle.goal_reader.specs.Reading.{IsOwnName, IsClear, input_registers, names_of_inputs};
+ghost use Rattle.goal_reader.specs.Roles.{IsFaultAs, register_number as number_of_name, number_of_register, register_of, is_of_rank, goal_keywords, input_in};
+ghost use Rattle.goal_meaning.specs.Names.{is_reserved, names_of_declared};
+ghost use Rattle.goal_meaning.specs.Rules.{has_register};
+ghost use Rattle.goal_reader.specs.Reading.{IsOwnName, IsClear, names_of_inputs};
+ghost use Rattle.goal_meaning.specs.WellFormed.{input_registers};
 
-use crate::goals::InputReg;
-use crate::scopes::{DeclaredOp, built_in};
+use crate::scopes::built_in;
 use forms::{at, name, parts, place, register, sexps_are_forms};
+use goal_meaning::{DeclaredOp, InputReg};
 use std::alloc::Global;
 use text_core::{Kind, Name, Sexp, TextFault};
 
@@ -73,13 +77,13 @@ pub fn is_given(inputs: &[InputReg], register: u8) -> bool
 }
 
 pub fn is_reserved(name: &[u8]) -> bool
-    ensures { result ≡ roles.is_reserved name.now }
+    ensures { result ≡ goal_names.is_reserved name.now }
 {
     built_in(name).is_some() || name == b"M".as_slice()
 }
 
 fn is_used(name: &[u8], declared: &[DeclaredOp], inputs: &[InputReg]) -> bool
-    ensures { result ≡ (roles.is_reserved name.now || is_among (names_of_declared declared.now
+    ensures { result ≡ (goal_names.is_reserved name.now || is_among (names_of_declared declared.now
         ++ names_of_inputs inputs.now) name.now) }
 {
     let reserved = is_reserved(name);

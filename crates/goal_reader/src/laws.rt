@@ -1,19 +1,15 @@
 // What holds of all texts of goals. The calls do nothing: their clauses are laws.
-ghost use Rattle.std.specs.Prelude.{◌≡◌, ◌<◌, ◌≤◌, ◌*◌, ◌^◌, ℕ, List, [], None, Some, true, false, find, slice_get, length};
+ghost use Rattle.std.specs.Prelude.{◌≡◌, ◌<◌, ◌≤◌, ◌*◌, ◌^◌, ℕ, List, Some, false, slice_get, length};
 ghost use Rattle.std.specs.List.{list_any};
 ghost use Rattle.forms.specs.Forms.{Form, forms_of, forms_list};
 ghost use Rattle.goal_reader.specs.Grammar.{IsFirstTextFault, Reads};
-ghost use Rattle.goal_reader.specs.InputNames.{IsNamedInput};
+ghost use Rattle.goal_meaning.specs.Names.{IsNamedInput};
 ghost use Rattle.goal_reader.specs.Printing.{input_text};
 ghost use Rattle.goal_reader.specs.Roles.{IsTextFault, is_of_rank, text_keywords};
 ghost use Rattle.goal_reader.specs.TextFaults.{IsFormFault, role_at, AreClear};
-ghost use Rattle.goal_reader.specs.Holds.{Holds, HoldsFor};
-ghost use Rattle.goal_reader.specs.Outcomes.{exit, fall, is_left, is_memory, new_memory, new_words, outcome};
-ghost use Rattle.goal_reader.specs.Views.{GoalTree, InputTree};
-ghost use Rattle.goal_reader.specs.WellFormed.{IsInput, operators_of_input};
-ghost use Rattle.goal_reader.specs.declared.scopes.DeclaredOp.{DeclaredOp};
+ghost use Rattle.goal_meaning.specs.Views.{InputTree};
+ghost use Rattle.goal_meaning.specs.WellFormed.{IsInput, operators_of_input};
 ghost use Rattle.text_core.specs.Faults.{IsFirst};
-ghost use Rattle.word_ops.specs.Worlds.{World, memory};
 ghost use Rattle.text_core.specs.Places.{ArePlaced};
 ghost use Rattle.text_core.specs.Trees.{SexpTrees};
 ghost use Rattle.text_core.specs.declared.faults.Kind.TheVariants.{BadForm};
@@ -54,32 +50,6 @@ pub fn the_first_form_decides()
         → AreClear (forms_list (forms_of text trees)) (length (forms_list (forms_of text trees)))
         → list_any (is_of_rank text_keywords 3) (forms_list (forms_of text trees)) ≡ false
         → IsFirst (IsTextFault (length text) (forms_list (forms_of text trees))) (length text) BadForm }
-{}
-
-/// Whether the axioms of an input hold in a world turns on its declared operators and its axioms alone, not on its
-/// table or its goals; an input without axioms holds in each world.
-pub fn axioms_hold_for_all_goals()
-    ensures same { (input other : InputTree) (world : World) → input.ops ≡ other.ops → input.axioms ≡ other.axioms
-        → Holds input world → Holds other world }
-    ensures none { (input : InputTree) (world : World) → input.axioms ≡ [] → Holds input world }
-    ensures goal { (input : InputTree) (goal : GoalTree) (world : World) → goal.assumes ≡ []
-        → Holds input world → HoldsFor input goal world }
-{}
-
-/// A goal without a guard, or with one that isn't 0, gives its targets their new values; one whose guard is 0 is left.
-/// The memory stays where it is no target.
-pub fn goals_have_outcomes()
-    ensures unguarded { (declared : List DeclaredOp) (world : World) (goal : GoalTree) → goal.guard ≡ None
-        → outcome declared world goal
-        ≡ fall (new_words declared world goal.sets) (new_memory declared world goal.sets) }
-    ensures stays { (declared : List DeclaredOp) (world : World) (goal : GoalTree)
-        → is_left declared world goal.guard ≡ false
-        → outcome declared world goal
-        ≡ fall (new_words declared world goal.sets) (new_memory declared world goal.sets) }
-    ensures leaves { (declared : List DeclaredOp) (world : World) (goal : GoalTree)
-        → is_left declared world goal.guard ≡ true → outcome declared world goal ≡ exit }
-    ensures memory { (declared : List DeclaredOp) (world : World) (goal : GoalTree) → find is_memory goal.sets ≡ None
-        → new_memory declared world goal.sets ≡ memory world.memory_at_entry }
 {}
 
 /// The canonical text of an input that was read is read as that input. The names of an input that was read are names.

@@ -2,14 +2,14 @@
 //!
 //! A text is read in passes: its bytes, its parentheses, and then its forms, each in the role that its keyword and the
 //! forms before give it. A machine form is read by `machine_table`. `term`, `axiom` and `goal` read one form each.
-//! `print` gives the canonical text of an input, which is read as that input again.
+//! `print` gives the canonical text of an input, which is read as that input again. `goal_meaning` says what inputs and
+//! goals mean; its types and laws are given out again here.
 #![tactic(auto)]
 
 mod assumes;
 mod axioms;
 mod declarations;
 mod drafts;
-mod goals;
 mod guards;
 mod inputs;
 mod keywords;
@@ -25,14 +25,16 @@ mod variables;
 mod whole;
 
 pub use axioms::axiom;
-pub use goals::{Assume, Axiom, Goal, Input, InputReg, Set};
+pub use goal_meaning::{
+    Assume, Axiom, DeclaredOp, Goal, Input, InputReg, Set, axioms_hold_for_all_goals,
+    goals_have_outcomes,
+};
 pub use laws::{
-    axioms_hold_for_all_goals, goals_have_outcomes, printed_inputs_are_read,
-    read_inputs_are_well_formed, read_inputs_have_few_operators, texts_have_one_first_fault,
-    texts_have_one_reading, the_first_form_decides,
+    printed_inputs_are_read, read_inputs_are_well_formed, read_inputs_have_few_operators,
+    texts_have_one_first_fault, texts_have_one_reading, the_first_form_decides,
 };
 pub use printing::print;
 pub use reading::read;
-pub use scopes::{DeclaredOp, Leaf, Named, Scope};
+pub use scopes::{Leaf, Named, Scope};
 pub use terms::term;
 pub use whole::goal;

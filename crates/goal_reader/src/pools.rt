@@ -4,12 +4,14 @@ ghost use Rattle.text_core.specs.Faults.{IsFirst, IsFaultBy};
 ghost use Rattle.forms.specs.Forms.{sexp_form, parts_of};
 ghost use Rattle.forms.specs.Reading.{IsSexpOf};
 ghost use Rattle.goal_reader.specs.Roles as roles;
-ghost use Rattle.goal_reader.specs.Roles.{IsFaultAs, has_register, registers_in, register_of, is_of_rank, goal_keywords};
-ghost use Rattle.goal_reader.specs.Reading.{IsClear, input_registers};
+ghost use Rattle.goal_reader.specs.Roles.{IsFaultAs, registers_in, register_of, is_of_rank, goal_keywords};
+ghost use Rattle.goal_meaning.specs.Rules.{has_register};
+ghost use Rattle.goal_reader.specs.Reading.{IsClear};
+ghost use Rattle.goal_meaning.specs.WellFormed.{input_registers};
 
-use crate::goals::InputReg;
 use crate::inputs::{is_given, register_number};
 use forms::{at, parts, place, register, sexps_are_forms};
+use goal_meaning::InputReg;
 use std::alloc::Global;
 use text_core::{Kind, Sexp, TextFault};
 

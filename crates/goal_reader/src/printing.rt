@@ -3,14 +3,15 @@ ghost use Rattle.std.specs.Prelude.{◌≡◌, ◌+◌, ◌∷◌, ◌++◌, [],
 ghost use Rattle.std.specs.Option.{option_map_or};
 ghost use Rattle.std.specs.List.{flat_map};
 ghost use Rattle.forms.specs.Printing.{atom_text, lines_of, others_of, plain_text, plains_from, plains_text};
-ghost use Rattle.goal_reader.specs.Printing.{axiom_plain, declaration_plain, declared_name, goal_plain, guard_plains, input_name as name_of_input, input_plain, input_text, leaf_atom, machine_plains, naming, operator_name, pool_plain, register_plain, target_plain, assume_plain, term_plain, variable_plain};
-ghost use Rattle.goal_reader.specs.Views.{assume_view, axiom_view, goal_view, input_view, target_view};
-ghost use Rattle.goal_reader.specs.declared.goals.InputReg.{InputReg as InputRegOf};
+ghost use Rattle.goal_meaning.specs.InputForms.{axiom_plain, declaration_plain, goal_plain, guard_plains, input_name as name_of_input, input_plain, leaf_atom, machine_plains, naming, operator_name, pool_plain, register_plain, target_plain, assume_plain, term_plain, variable_plain};
+ghost use Rattle.goal_meaning.specs.Names.{declared_name};
+ghost use Rattle.goal_reader.specs.Printing.{input_text};
+ghost use Rattle.goal_meaning.specs.Views.{assume_view, axiom_view, goal_view, input_view, target_view};
+ghost use Rattle.goal_meaning.specs.declared.goals.InputReg.{InputReg as InputRegOf};
 ghost use Rattle.std.specs.Prelude.{List, slice_index_or};
 ghost use Rattle.word_terms.specs.View.{tree_of};
 
-use crate::goals::{Assume, Axiom, Goal, Input, InputReg, Set};
-use crate::scopes::DeclaredOp;
+use goal_meaning::{Assume, Axiom, DeclaredOp, Goal, Input, InputReg, Set};
 use items::NoMemory;
 use itoa::Buffer;
 use std::alloc::Global;

@@ -9,9 +9,8 @@ ghost use Rattle.text_core.specs.Faults.{IsFaultBy, IsFirst};
 
 use crate::axioms::axiom;
 use crate::declarations::declaration;
-use crate::goals::{Axiom, Goal};
-use crate::scopes::DeclaredOp;
 use crate::whole::goal;
+use goal_meaning::{Axiom, DeclaredOp, Goal};
 use items::Items;
 use machine_table::Table;
 use std::alloc::Global;

@@ -6,12 +6,15 @@ ghost use Rattle.forms.specs.Reading.{IsSexpOf};
 ghost use Rattle.goal_reader.specs.Grammar.{axiom_scope};
 ghost use Rattle.goal_reader.specs.Reading.{IsClear, IsOwnName, mentioned_scope, meaning_right};
 ghost use Rattle.goal_reader.specs.Roles as roles;
+ghost use Rattle.goal_meaning.specs.Names as goal_names;
 ghost use Rattle.text_core.specs.Names.{is_among};
-ghost use Rattle.goal_reader.specs.Roles.{IsFaultAs, names_of_declared, mentions as is_mentioned};
+ghost use Rattle.goal_reader.specs.Roles.{IsFaultAs, mentions as is_mentioned};
+ghost use Rattle.goal_meaning.specs.Names.{names_of_declared};
 
 use crate::inputs::{is_declared, is_reserved};
-use crate::scopes::{DeclaredOp, Leaf, Named, Scope};
+use crate::scopes::{Leaf, Named, Scope};
 use forms::{at, name, parts, place, sexps_are_forms};
+use goal_meaning::DeclaredOp;
 use items::{Items, NoMemory};
 use std::alloc::Global;
 use text_core::{Kind, Name, Sexp, TextFault};
@@ -28,7 +31,7 @@ fn is_variable(names: &[Name], name: &[u8]) -> bool
 }
 
 fn is_used(name: &[u8], declared: &[DeclaredOp], names: &[Name]) -> bool
-    ensures { result ≡ (roles.is_reserved name.now || is_among (names_of_declared declared.now ++ names.now) name.now) }
+    ensures { result ≡ (goal_names.is_reserved name.now || is_among (names_of_declared declared.now ++ names.now) name.now) }
 {
     let reserved = is_reserved(name);
     let declared = is_declared(declared, name);

@@ -13,9 +13,9 @@ use Rattle.word_ops.specs.declared.operators.WordOp.{WordOp}
 use Rattle.word_ops.specs.declared.sorts.Sort.{Sort}
 use Rattle.word_ops.specs.declared.sorts.Sort.TheVariants as sorts
 use Rattle.launch_graph.specs.declared.class_marks.Mark.{Mark}
-use Rattle.launch_graph.specs.declared.graphs.InputClass.{InputClass}
-use Rattle.launch_graph.specs.declared.graphs.Guard.{Guard}
-use Rattle.launch_graph.specs.declared.graphs.SetClass.{SetClass}
+use Rattle.graph_meaning.specs.declared.graphs.InputClass.{InputClass}
+use Rattle.graph_meaning.specs.declared.graphs.Guard.{Guard}
+use Rattle.graph_meaning.specs.declared.graphs.SetClass.{SetClass}
 use Rattle.launch_graph.specs.declared.row_lines.RowLine.{RowLine}
 use Rattle.launch_graph.specs.BehindRows.{IsRight, IsCleanBehindRows, IsFaultBehind, IsEntryAt, IsInputAt, IsGuardAt, IsSetAt, TakesSets, targets, no_guard, AreInputsAt, AreSetsAt}
 use Rattle.launch_graph.specs.ClassMarks.{AreMarks}
@@ -27,7 +27,7 @@ use Rattle.launch_graph.specs.LineFaults.{IsFirstGraphFault}
 use Rattle.launch_graph.specs.LineReading.{IsEntryLine, IsInputLine, IsPoolLine, IsGuardLine, IsSetLine}
 use Rattle.launch_graph.specs.RowFaults.{IsWrongClass}
 use Rattle.launch_graph.specs.RowsRead.{IsFaultOfLine}
-use Rattle.launch_graph.specs.WellFormed.{set_sort}
+use Rattle.graph_meaning.specs.WellFormed.{set_sort}
 use Rattle.launch_graph.proofs.Between.{between_more, between_none}
 use Rattle.launch_graph.proofs.ClassLines.{entry_class, input_class, pool_class, guard_class, set_class}
 use Rattle.launch_graph.proofs.FirstFaults.{missing_first, bad_line_first, wrong_class_first, clean_line}

@@ -7,9 +7,9 @@ use Rattle.word_ops.specs.Names.{name_of}
 use Rattle.word_ops.specs.declared.operators.WordOp.{WordOp}
 use Rattle.word_ops.specs.declared.sorts.Sort.TheVariants as sorts
 use Rattle.launch_graph.specs.declared.class_marks.Mark.{Mark}
-use Rattle.launch_graph.specs.declared.graphs.InputClass.{InputClass}
-use Rattle.launch_graph.specs.declared.graphs.Guard.{Guard}
-use Rattle.launch_graph.specs.declared.graphs.SetClass.{SetClass}
+use Rattle.graph_meaning.specs.declared.graphs.InputClass.{InputClass}
+use Rattle.graph_meaning.specs.declared.graphs.Guard.{Guard}
+use Rattle.graph_meaning.specs.declared.graphs.SetClass.{SetClass}
 use Rattle.launch_graph.specs.declared.row_lines.RowLine.{RowLine}
 use Rattle.launch_graph.specs.BehindRows.{IsRight, IsCleanBehindRows, IsEntryAt, IsPoolAt, IsGuardAt, HasNoGuard, targets, no_guard, CanTakeSets, AreInputsAt, AreSetsAt, line_after_guard, IsReadBehind}
 use Rattle.launch_graph.specs.GraphLines.{entry_words, in_words, pool_words, guard_lines}

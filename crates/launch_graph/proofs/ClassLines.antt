@@ -4,12 +4,12 @@ use Rattle.std.proofs.lemmas.Fmt.{decimal_injective}
 use Rattle.word_ops.specs.declared.sorts.Sort.{Sort}
 use Rattle.word_ops.specs.declared.sorts.Sort.TheVariants as sorts
 use Rattle.text_core.specs.LineTexts.{Words}
-use Rattle.launch_graph.specs.declared.graphs.InputClass.{InputClass}
-use Rattle.launch_graph.specs.declared.graphs.Guard.{Guard}
-use Rattle.launch_graph.specs.declared.graphs.SetClass.{SetClass}
+use Rattle.graph_meaning.specs.declared.graphs.InputClass.{InputClass}
+use Rattle.graph_meaning.specs.declared.graphs.Guard.{Guard}
+use Rattle.graph_meaning.specs.declared.graphs.SetClass.{SetClass}
 use Rattle.launch_graph.specs.GraphLines.{entry_words, in_words, pool_words, guard_words, held_word, set_words}
 use Rattle.launch_graph.specs.GraphTexts.{IsClassLine, entry, input, guard, set}
-use Rattle.launch_graph.specs.WellFormed.{set_sort}
+use Rattle.graph_meaning.specs.WellFormed.{set_sort}
 
 pub head_same : (x y : List ℕ) (xs ys : Words) → x ∷ xs ≡ y ∷ ys → x ≡ y
 head_same x y xs ys e = cc

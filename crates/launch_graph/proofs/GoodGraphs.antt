@@ -13,14 +13,14 @@ use Rattle.word_ops.specs.Meanings.{sort_of, operand_sort, constant_in}
 use Rattle.word_ops.specs.declared.sorts.Arity.{Arity}
 use Rattle.word_ops.specs.declared.sorts.Op.{Op}
 use Rattle.word_ops.specs.declared.sorts.Op.TheVariants.{Entry, Input, Constant, Word, Select, Store, Load, Put, Declared}
-use Rattle.launch_graph.specs.declared.graphs.LaunchRow.{LaunchRow}
-use Rattle.launch_graph.specs.declared.graphs.LaunchGraph.{LaunchGraph}
+use Rattle.graph_meaning.specs.declared.graphs.LaunchRow.{LaunchRow}
+use Rattle.graph_meaning.specs.declared.graphs.LaunchGraph.{LaunchGraph}
 use Rattle.launch_graph.specs.declared.row_lines.LineOp.{LineOp}
 use Rattle.launch_graph.specs.declared.row_lines.LineOp.TheVariants.{Plain, Use, Unknown}
 use Rattle.launch_graph.specs.declared.row_lines.RowLine.{RowLine}
 use Rattle.launch_graph.specs.GraphLines.{said_row, said_op}
 use Rattle.launch_graph.specs.RowFaults.{sort_given, sort_taken, line_constant, names_used, ops_of}
-use Rattle.launch_graph.specs.WellFormed.{IsLaunchGraph, next_index, next_after, declared_index}
+use Rattle.graph_meaning.specs.WellFormed.{IsLaunchGraph, next_index, next_after, declared_index}
 use Rattle.launch_graph.proofs.Printed.{map_count}
 
 -- ---- what is said of an operator

@@ -9,15 +9,15 @@ use Rattle.word_ops.specs.Meanings.{arity_of_op, count_of, sort_of, operand_sort
 use Rattle.word_ops.specs.declared.sorts.Arity.{Arity}
 use Rattle.word_ops.specs.declared.sorts.Arity.TheVariants as arities
 use Rattle.word_ops.specs.declared.sorts.Sort.{Sort}
-use Rattle.launch_graph.specs.declared.graphs.LaunchRow.{LaunchRow}
-use Rattle.launch_graph.specs.declared.graphs.LaunchGraph.{LaunchGraph}
+use Rattle.graph_meaning.specs.declared.graphs.LaunchRow.{LaunchRow}
+use Rattle.graph_meaning.specs.declared.graphs.LaunchGraph.{LaunchGraph}
 use Rattle.launch_graph.specs.declared.row_lines.RowLine.{RowLine}
 use Rattle.launch_graph.specs.GraphLines.{said_row, said_op}
 use Rattle.launch_graph.specs.RowFaults.{IsBadRow, unknown_operator, wrong_count, repeated, seventeenth_name, use_of_none, use_of_many, another_count, IsBadClass, operand, own, second_constant, not_next, IsWrongClass, not_below, no_row, other_sort, class_sort, sort_given, sort_taken, tells_sort, next_line_class, line_constant, names_used, ops_of}
 use Rattle.launch_graph.specs.CleanLines.{IsGoodRow}
-use Rattle.launch_graph.specs.WellFormed.{IsLaunchGraph, ClassHasSort, next_class}
-use Rattle.launch_graph.proofs.Classes.{class_below, own_sorts, one_sort, next_more}
-use Rattle.launch_graph.proofs.Lists.{same_number, any_here, any_there}
+use Rattle.graph_meaning.specs.WellFormed.{IsLaunchGraph, ClassHasSort, next_class}
+use Rattle.graph_meaning.proofs.Classes.{class_below, own_sorts, one_sort, next_more}
+use Rattle.graph_meaning.proofs.Lists.{same_number, any_here, any_there}
 use Rattle.launch_graph.proofs.Printed.{map_count}
 use Rattle.launch_graph.proofs.GoodGraphs.{said_plain, said_use, said_unknown, said_given, said_taken, said_constant, SameSaid, same_plain, same_use, same_said, map_take, map_get, Said, any_launch, said_among, names_upto, map_append, few_names}
 

@@ -14,16 +14,16 @@ use Rattle.word_ops.specs.declared.sorts.Sort.TheVariants as sorts
 use Rattle.text_core.specs.Lines.{IsLineWord}
 use Rattle.text_core.specs.LineTexts.{Words, CanBeLine}
 use Rattle.text_core.specs.Names.{IsName}
-use Rattle.launch_graph.specs.declared.graphs.LaunchRow.{LaunchRow}
-use Rattle.launch_graph.specs.declared.graphs.InputClass.{InputClass}
-use Rattle.launch_graph.specs.declared.graphs.Guard.{Guard}
-use Rattle.launch_graph.specs.declared.graphs.SetClass.{SetClass}
-use Rattle.launch_graph.specs.declared.graphs.LaunchGraph.{LaunchGraph}
+use Rattle.graph_meaning.specs.declared.graphs.LaunchRow.{LaunchRow}
+use Rattle.graph_meaning.specs.declared.graphs.InputClass.{InputClass}
+use Rattle.graph_meaning.specs.declared.graphs.Guard.{Guard}
+use Rattle.graph_meaning.specs.declared.graphs.SetClass.{SetClass}
+use Rattle.graph_meaning.specs.declared.graphs.LaunchGraph.{LaunchGraph}
 use Rattle.launch_graph.specs.declared.row_lines.RowLine.{RowLine}
 use Rattle.launch_graph.specs.GraphLines.{graph_lines, said, said_row, said_op, AreGraphLines, rows_words, entry_words, in_words, pool_words, guard_words, guard_lines, held_word, set_words}
 use Rattle.launch_graph.specs.RowLines.{row_words, line_op_words, IsRowLine, IsLineOp}
-use Rattle.launch_graph.specs.WellFormed.{IsLaunchGraph, ClassHasSort, TakesItsSorts, declared_index, register_of_input, set_sort}
-use Rattle.launch_graph.proofs.Classes.{class_below, rows_low}
+use Rattle.graph_meaning.specs.WellFormed.{IsLaunchGraph, ClassHasSort, TakesItsSorts, declared_index, register_of_input, set_sort}
+use Rattle.graph_meaning.proofs.Classes.{class_below, rows_low}
 use Rattle.launch_graph.proofs.Printed.{map_count}
 
 pub operator_word : (op : WordOp) → IsLineWord (name_of op)

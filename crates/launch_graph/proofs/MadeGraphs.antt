@@ -12,8 +12,8 @@ use Rattle.word_ops.specs.declared.sorts.Op.{Op}
 use Rattle.word_ops.specs.declared.sorts.Op.TheVariants.{Entry, Input, Constant, Word, Select, Store, Load, Put, Declared}
 use Rattle.word_ops.specs.declared.sorts.Sort.{Sort}
 use Rattle.word_ops.specs.declared.sorts.Sort.TheVariants as sorts
-use Rattle.launch_graph.specs.declared.graphs.LaunchRow.{LaunchRow}
-use Rattle.launch_graph.specs.declared.graphs.LaunchGraph.{LaunchGraph}
+use Rattle.graph_meaning.specs.declared.graphs.LaunchRow.{LaunchRow}
+use Rattle.graph_meaning.specs.declared.graphs.LaunchGraph.{LaunchGraph}
 use Rattle.launch_graph.specs.declared.index.RowKey.{RowKey}
 use Rattle.launch_graph.specs.declared.numbering.UsedName.{UsedName}
 use Rattle.launch_graph.specs.declared.row_lines.RowLine.{RowLine}
@@ -23,13 +23,13 @@ use Rattle.launch_graph.specs.RowLines.{IsLineOp}
 use Rattle.launch_graph.specs.RowFaults.{repeated, operand, own, second_constant, not_next, IsWrongClass, no_row, other_sort, HasRowOfClass, class_sort, sort_given, tells_sort, next_line_class}
 use Rattle.launch_graph.specs.CleanLines.{IsGoodRow}
 use Rattle.launch_graph.specs.Numbering.{AreNumbered}
-use Rattle.launch_graph.specs.declared.graphs.InputClass.{InputClass}
-use Rattle.launch_graph.specs.declared.graphs.Guard.{Guard}
-use Rattle.launch_graph.specs.declared.graphs.SetClass.{SetClass}
-use Rattle.launch_graph.specs.WellFormed.{IsLaunchGraph, ClassHasSort, next_class, next_index, declared_index, register_of_input, TakesItsSorts, AreRows, HaveOneName, set_sort}
+use Rattle.graph_meaning.specs.declared.graphs.InputClass.{InputClass}
+use Rattle.graph_meaning.specs.declared.graphs.Guard.{Guard}
+use Rattle.graph_meaning.specs.declared.graphs.SetClass.{SetClass}
+use Rattle.graph_meaning.specs.WellFormed.{IsLaunchGraph, ClassHasSort, next_class, next_index, declared_index, register_of_input, TakesItsSorts, AreRows, HaveOneName, set_sort}
 use Rattle.launch_graph.proofs.GoodGraphs.{said_given, said_taken, said_constant, map_take, map_get, any_launch}
 use Rattle.launch_graph.proofs.GoodRows.{next_said, sort_said}
-use Rattle.launch_graph.proofs.Lists.{any_nil, any_here, any_there, any_cases, number_itself}
+use Rattle.graph_meaning.proofs.Lists.{any_nil, any_here, any_there, any_cases, number_itself}
 use Rattle.launch_graph.proofs.Printed.{map_count}
 
 abbrev OfClass : ℕ → RowLine → Type 0

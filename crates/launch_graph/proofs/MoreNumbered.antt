@@ -8,7 +8,7 @@ use Rattle.std.proofs.lemmas.Option.{same_Some, none-some, get_or_from_slice_get
 use Rattle.word_ops.specs.Meanings.{arity_of_op}
 use Rattle.word_ops.specs.declared.sorts.Op.{Op}
 use Rattle.word_ops.specs.declared.sorts.Op.TheVariants.{Entry, Input, Constant, Word, Select, Store, Load, Put, Declared}
-use Rattle.launch_graph.specs.declared.graphs.LaunchRow.{LaunchRow}
+use Rattle.graph_meaning.specs.declared.graphs.LaunchRow.{LaunchRow}
 use Rattle.launch_graph.specs.declared.index.RowKey.{RowKey}
 use Rattle.launch_graph.specs.declared.numbering.UsedName.{UsedName}
 use Rattle.launch_graph.specs.declared.row_lines.LineOp.TheVariants.{Plain, Use}
@@ -17,7 +17,7 @@ use Rattle.launch_graph.specs.GraphLines.{said_row, said_op}
 use Rattle.launch_graph.specs.RowLines.{IsLineOp}
 use Rattle.launch_graph.specs.RowsRead.{line_op_name}
 use Rattle.launch_graph.specs.Numbering.{IsNumberedOp, plain, again, anew, row_key, IsNumberedRow, AreNumbered}
-use Rattle.launch_graph.specs.WellFormed.{next_index, next_after, declared_index}
+use Rattle.graph_meaning.specs.WellFormed.{next_index, next_after, declared_index}
 use Rattle.launch_graph.proofs.GoodGraphs.{map_append}
 use Rattle.launch_graph.proofs.NumberedRows.{names_then, few_then, arity_then}
 use Rattle.launch_graph.proofs.Rows.{same_row}

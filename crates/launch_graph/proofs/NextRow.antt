@@ -13,7 +13,7 @@ use Rattle.text_core.specs.Lines.{Line, line_at, BeginsAt}
 use Rattle.text_core.specs.LineTexts.{Words}
 use Rattle.text_core.specs.declared.faults.Kind.TheVariants.{BadLine, BadRow, BadClass}
 use Rattle.launch_graph.specs.declared.class_marks.Mark.{Mark}
-use Rattle.launch_graph.specs.declared.graphs.LaunchRow.{LaunchRow}
+use Rattle.graph_meaning.specs.declared.graphs.LaunchRow.{LaunchRow}
 use Rattle.launch_graph.specs.declared.index.RowKey.{RowKey}
 use Rattle.launch_graph.specs.declared.numbering.UsedName.{UsedName}
 use Rattle.launch_graph.specs.declared.row_lines.LineOp.TheVariants.{Use}
@@ -27,7 +27,7 @@ use Rattle.launch_graph.specs.RowFaults.{IsBadRow, IsBadClass, repeated}
 use Rattle.launch_graph.specs.RowLines.{IsRowLine, IsLineOp}
 use Rattle.launch_graph.specs.RowsRead.{AreRowsTo, line_op_name}
 use Rattle.launch_graph.specs.SeenRows.{IsSeen}
-use Rattle.launch_graph.specs.WellFormed.{declared_index}
+use Rattle.graph_meaning.specs.WellFormed.{declared_index}
 use Rattle.launch_graph.proofs.CleanSteps.{clean_row}
 use Rattle.launch_graph.proofs.FirstFaults.{bad_line_first, bad_row_first, bad_class_first}
 use Rattle.launch_graph.proofs.GoodGraphs.{map_get, any_launch}

@@ -9,7 +9,7 @@ use Rattle.word_ops.specs.declared.sorts.Arity.{Arity}
 use Rattle.word_ops.specs.declared.sorts.Arity.TheVariants as arities
 use Rattle.word_ops.specs.declared.sorts.Op.{Op}
 use Rattle.word_ops.specs.declared.sorts.Op.TheVariants.{Entry, Input, Constant, Word, Select, Store, Load, Put, Declared}
-use Rattle.launch_graph.specs.declared.graphs.LaunchRow.{LaunchRow}
+use Rattle.graph_meaning.specs.declared.graphs.LaunchRow.{LaunchRow}
 use Rattle.launch_graph.specs.declared.index.RowKey.{RowKey}
 use Rattle.launch_graph.specs.declared.numbering.UsedName.{UsedName}
 use Rattle.launch_graph.specs.declared.row_lines.LineOp.{LineOp}
@@ -18,7 +18,7 @@ use Rattle.launch_graph.specs.declared.row_lines.RowLine.{RowLine}
 use Rattle.launch_graph.specs.GraphLines.{said_row, said_op}
 use Rattle.launch_graph.specs.RowFaults.{IsBadRow, unknown_operator, wrong_count, repeated, seventeenth_name, use_of_none, use_of_many, another_count, names_used, ops_of}
 use Rattle.launch_graph.specs.Numbering.{names_of, IsUnused, IsNumberedOp, plain, again, anew, HasNoNumber, unknown, wrong_arity, no_arity, other_arity, too_many, row_key, AreNumbered}
-use Rattle.launch_graph.specs.WellFormed.{declared_index}
+use Rattle.graph_meaning.specs.WellFormed.{declared_index}
 use Rattle.launch_graph.proofs.GoodGraphs.{name_step, names_push, step_known, step_new, map_append, map_get, any_launch}
 use Rattle.launch_graph.proofs.Printed.{map_count}
 

@@ -17,11 +17,11 @@ use Rattle.word_ops.specs.declared.sorts.Op.{Op}
 use Rattle.word_ops.specs.declared.sorts.Op.TheVariants.{Entry, Input, Constant, Word, Select, Store, Load, Put, Declared}
 use Rattle.text_core.specs.Lines.{Line, line_at}
 use Rattle.text_core.specs.LineTexts.{Words, words_of_lines}
-use Rattle.launch_graph.specs.declared.graphs.LaunchRow.{LaunchRow}
-use Rattle.launch_graph.specs.declared.graphs.InputClass.{InputClass}
-use Rattle.launch_graph.specs.declared.graphs.Guard.{Guard}
-use Rattle.launch_graph.specs.declared.graphs.SetClass.{SetClass}
-use Rattle.launch_graph.specs.declared.graphs.LaunchGraph.{LaunchGraph}
+use Rattle.graph_meaning.specs.declared.graphs.LaunchRow.{LaunchRow}
+use Rattle.graph_meaning.specs.declared.graphs.InputClass.{InputClass}
+use Rattle.graph_meaning.specs.declared.graphs.Guard.{Guard}
+use Rattle.graph_meaning.specs.declared.graphs.SetClass.{SetClass}
+use Rattle.graph_meaning.specs.declared.graphs.LaunchGraph.{LaunchGraph}
 use Rattle.launch_graph.specs.declared.row_lines.RowLine.{RowLine}
 use Rattle.launch_graph.specs.LineFormats.{words_between, words_from}
 use Rattle.launch_graph.specs.GraphLines.{GraphLines, said, said_row, said_op, rows_words, entry_words, in_words, pool_words, guard_words, held_word, guard_lines, set_words}
@@ -30,7 +30,7 @@ use Rattle.launch_graph.specs.GraphStages.{InputFits, SetFits, Low, GuardFits}
 use Rattle.launch_graph.specs.declared.row_lines.LineOp.TheVariants.{Use}
 use Rattle.launch_graph.specs.LineFaults.{AreRowLines}
 use Rattle.launch_graph.specs.RowFaults.{names_used, ops_of}
-use Rattle.launch_graph.specs.WellFormed.{IsLaunchGraph, declared_index}
+use Rattle.graph_meaning.specs.WellFormed.{IsLaunchGraph, declared_index}
 use Rattle.launch_graph.proofs.Blocks.{rows_once, each_lines}
 use Rattle.launch_graph.proofs.ClassLines.{begin_same, head_same, rest_same}
 use Rattle.launch_graph.proofs.GoodGraphs.{SameSaid, same_plain, same_use, same_said, map_take, map_get, any_launch, names_upto, names_are, one_name}

@@ -8,7 +8,7 @@ use Rattle.text_core.specs.Lines.{Line}
 use Rattle.text_core.specs.declared.faults.Kind.{Kind}
 use Rattle.text_core.specs.declared.faults.TextFault.{TextFault}
 use Rattle.text_core.specs.declared.faults.TextFault.TheVariants as faults
-use Rattle.launch_graph.specs.declared.graphs.LaunchGraph.{LaunchGraph}
+use Rattle.graph_meaning.specs.declared.graphs.LaunchGraph.{LaunchGraph}
 use Rattle.launch_graph.specs.GraphTexts.{IsGraphAt}
 use Rattle.launch_graph.specs.LineFaults.{IsFirstGraphFault}
 

@@ -5,8 +5,8 @@ use Rattle.std.proofs.lemmas.List.{take_more}
 use Rattle.std.proofs.lemmas.List.Concat.{flat_map-cons}
 use Rattle.std.proofs.lemmas.Grind.{flat_map-append}
 use Rattle.text_core.specs.LineTexts.{Words, line_text, lines_text}
-use Rattle.launch_graph.specs.declared.graphs.LaunchRow.{LaunchRow}
-use Rattle.launch_graph.specs.declared.graphs.LaunchGraph.{LaunchGraph}
+use Rattle.graph_meaning.specs.declared.graphs.LaunchRow.{LaunchRow}
+use Rattle.graph_meaning.specs.declared.graphs.LaunchGraph.{LaunchGraph}
 use Rattle.launch_graph.specs.GraphLines.{graph_lines, said, said_row, said_op, rows_words, entry_words, in_words, pool_words, guard_lines, set_words}
 use Rattle.launch_graph.specs.LineParts.{words_behind}
 use Rattle.launch_graph.specs.RowLines.{row_words, line_op_words}

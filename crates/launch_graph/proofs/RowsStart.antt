@@ -17,7 +17,7 @@ use Rattle.launch_graph.specs.RowsRead.{AreRowsTo}
 use Rattle.launch_graph.specs.SeenRows.{IsSeen}
 use Rattle.launch_graph.proofs.Blocks.{rows_once, each_lines}
 use Rattle.launch_graph.proofs.CleanSteps.{clean_start}
-use Rattle.launch_graph.proofs.Lists.{any_nil}
+use Rattle.graph_meaning.proofs.Lists.{any_nil}
 
 no_constants : (n : ℕ) (constants : List (Option ℕ)) → length constants ≡ n → ((k : ℕ) → get_or constants k None ≡ None) → IsSeen n [] 0 constants
 no_constants n constants size none =

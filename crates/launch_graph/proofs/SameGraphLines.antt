@@ -6,12 +6,12 @@ use Rattle.std.proofs.lemmas.List.Elements.{All-head, All-tail}
 use Rattle.word_ops.specs.Names.{name_of}
 use Rattle.word_ops.specs.declared.operators.WordOp.{WordOp}
 use Rattle.text_core.specs.LineTexts.{Words}
-use Rattle.launch_graph.specs.declared.graphs.LaunchGraph.{LaunchGraph}
+use Rattle.graph_meaning.specs.declared.graphs.LaunchGraph.{LaunchGraph}
 use Rattle.launch_graph.specs.declared.row_lines.RowLine.{RowLine}
 use Rattle.launch_graph.specs.GraphLines.{graph_lines, said, said_row, rows_words, entry_words, in_words, pool_words, guard_lines, set_words}
 use Rattle.launch_graph.specs.GraphTexts.{EndsGraph}
 use Rattle.launch_graph.specs.RowLines.{IsRowLine, row_words}
-use Rattle.launch_graph.specs.WellFormed.{IsLaunchGraph}
+use Rattle.graph_meaning.specs.WellFormed.{IsLaunchGraph}
 use Rattle.launch_graph.proofs.ClassLines.{head_same, rest_same}
 use Rattle.launch_graph.proofs.LineWords.{entry_fits, guard_fits, inputs_fit, rows_fit, sets_fit}
 use Rattle.launch_graph.proofs.OneGraph.{rows_alike, same_graph, same_inputs, same_targets}

@@ -12,10 +12,10 @@ use Rattle.word_ops.specs.declared.sorts.Sort.TheVariants as sorts
 use Rattle.text_core.specs.Lines.{Line, line_at}
 use Rattle.text_core.specs.LineTexts.{Words, words_of_lines}
 use Rattle.text_core.specs.declared.faults.Kind.{Kind}
-use Rattle.launch_graph.specs.declared.graphs.InputClass.{InputClass}
-use Rattle.launch_graph.specs.declared.graphs.Guard.{Guard}
-use Rattle.launch_graph.specs.declared.graphs.SetClass.{SetClass}
-use Rattle.launch_graph.specs.declared.graphs.LaunchGraph.{LaunchGraph}
+use Rattle.graph_meaning.specs.declared.graphs.InputClass.{InputClass}
+use Rattle.graph_meaning.specs.declared.graphs.Guard.{Guard}
+use Rattle.graph_meaning.specs.declared.graphs.SetClass.{SetClass}
+use Rattle.graph_meaning.specs.declared.graphs.LaunchGraph.{LaunchGraph}
 use Rattle.launch_graph.specs.declared.row_lines.RowLine.{RowLine}
 use Rattle.launch_graph.specs.LineFormats.{words_between, GoesOn}
 use Rattle.launch_graph.specs.GraphLines.{GraphLines, AreGraphLines, graph_lines, said, said_row, rows_words, entry_words, in_words, pool_words, guard_words, guard_lines, set_words}
@@ -26,7 +26,7 @@ use Rattle.launch_graph.specs.RowFaults.{IsWrongClass}
 use Rattle.launch_graph.specs.LineFaults.{bad_line, missing, bad_row, bad_class, wrong_class}
 use Rattle.launch_graph.specs.CleanLines.{EachRow, no_rows, IsGoodRow, IsClean}
 use Rattle.launch_graph.specs.CleanLines.EachRow.{row as each_row}
-use Rattle.launch_graph.specs.WellFormed.{IsLaunchGraph, ClassHasSort, set_sort}
+use Rattle.graph_meaning.specs.WellFormed.{IsLaunchGraph, ClassHasSort, set_sort}
 use Rattle.launch_graph.proofs.Between.{between_split, between_first}
 use Rattle.launch_graph.proofs.Blocks.{each_lines}
 use Rattle.launch_graph.proofs.ClassLines.{entry_class, input_class, pool_class, guard_class, set_class}

@@ -11,10 +11,10 @@ use Rattle.word_ops.specs.declared.sorts.Sort.{Sort}
 use Rattle.word_ops.specs.declared.sorts.Sort.TheVariants as sorts
 use Rattle.launch_graph.specs.declared.behind_rows.BehindRows.{BehindRows}
 use Rattle.launch_graph.specs.declared.class_marks.Mark.{Mark}
-use Rattle.launch_graph.specs.declared.graphs.InputClass.{InputClass}
-use Rattle.launch_graph.specs.declared.graphs.Guard.{Guard}
-use Rattle.launch_graph.specs.declared.graphs.SetClass.{SetClass}
-use Rattle.launch_graph.specs.declared.graphs.LaunchGraph.{LaunchGraph}
+use Rattle.graph_meaning.specs.declared.graphs.InputClass.{InputClass}
+use Rattle.graph_meaning.specs.declared.graphs.Guard.{Guard}
+use Rattle.graph_meaning.specs.declared.graphs.SetClass.{SetClass}
+use Rattle.graph_meaning.specs.declared.graphs.LaunchGraph.{LaunchGraph}
 use Rattle.launch_graph.specs.declared.row_lines.RowLine.{RowLine}
 use Rattle.launch_graph.specs.declared.rows_reading.RowsSoFar.{RowsSoFar}
 use Rattle.launch_graph.specs.BehindRows.{IsRight, IsCleanBehindRows, IsReadBehind}
@@ -29,7 +29,7 @@ use Rattle.launch_graph.specs.Readings.{IsHeaderAt, IsBlockEnd}
 use Rattle.launch_graph.specs.RowFaults.{IsWrongClass}
 use Rattle.launch_graph.specs.RowLines.{row_words}
 use Rattle.launch_graph.specs.RowsRead.{AreRowsTo, IsBlockFrom, HasRead}
-use Rattle.launch_graph.specs.WellFormed.{IsLaunchGraph, ClassHasSort, set_sort}
+use Rattle.graph_meaning.specs.WellFormed.{IsLaunchGraph, ClassHasSort, set_sort}
 use Rattle.launch_graph.proofs.Between.{between_split, between_first}
 use Rattle.launch_graph.proofs.GraphRuns.{row_itself}
 use Rattle.launch_graph.proofs.MadeGraphs.{right_class, made_graph}

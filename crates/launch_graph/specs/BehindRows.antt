@@ -9,9 +9,9 @@ use Rattle.text_core.specs.LineTexts.{Words, SaysNone}
 use Rattle.text_core.specs.declared.faults.TextFault.{TextFault}
 use Rattle.launch_graph.specs.declared.behind_rows.BehindRows.{BehindRows}
 use Rattle.launch_graph.specs.declared.class_marks.Mark.{Mark}
-use Rattle.launch_graph.specs.declared.graphs.InputClass.{InputClass}
-use Rattle.launch_graph.specs.declared.graphs.Guard.{Guard}
-use Rattle.launch_graph.specs.declared.graphs.SetClass.{SetClass}
+use Rattle.graph_meaning.specs.declared.graphs.InputClass.{InputClass}
+use Rattle.graph_meaning.specs.declared.graphs.Guard.{Guard}
+use Rattle.graph_meaning.specs.declared.graphs.SetClass.{SetClass}
 use Rattle.launch_graph.specs.declared.row_lines.RowLine.{RowLine}
 use Rattle.launch_graph.specs.ClassMarks.{AreMarks}
 use Rattle.launch_graph.specs.CleanLines.{IsClean}
@@ -23,7 +23,7 @@ use Rattle.launch_graph.specs.LineFaults.{IsFirstGraphFault}
 use Rattle.launch_graph.specs.LineFormats.{words_between, words_from}
 use Rattle.launch_graph.specs.LineReading.{IsEntryLine, IsInputLine, IsPoolLine, IsGuardLine, IsSetLine}
 use Rattle.launch_graph.specs.RowFaults.{IsWrongClass}
-use Rattle.launch_graph.specs.WellFormed.{set_sort}
+use Rattle.graph_meaning.specs.WellFormed.{set_sort}
 
 -- Whatever rows have these marks, the class isn't wrong where this sort is wanted.
 abbrev pub IsRight : List Mark → Sort → ℕ → Type 0

@@ -7,11 +7,11 @@ use Rattle.text_core.specs.Names.{IsName}
 use Rattle.launch_graph.specs.declared.row_lines.LineOp.{LineOp}
 use Rattle.launch_graph.specs.declared.row_lines.LineOp.TheVariants.{Plain, Use}
 use Rattle.launch_graph.specs.declared.row_lines.RowLine.{RowLine}
-use Rattle.launch_graph.specs.declared.graphs.LaunchRow.{LaunchRow}
-use Rattle.launch_graph.specs.declared.graphs.InputClass.{InputClass}
-use Rattle.launch_graph.specs.declared.graphs.Guard.{Guard}
-use Rattle.launch_graph.specs.declared.graphs.SetClass.{SetClass}
-use Rattle.launch_graph.specs.declared.graphs.LaunchGraph.{LaunchGraph}
+use Rattle.graph_meaning.specs.declared.graphs.LaunchRow.{LaunchRow}
+use Rattle.graph_meaning.specs.declared.graphs.InputClass.{InputClass}
+use Rattle.graph_meaning.specs.declared.graphs.Guard.{Guard}
+use Rattle.graph_meaning.specs.declared.graphs.SetClass.{SetClass}
+use Rattle.graph_meaning.specs.declared.graphs.LaunchGraph.{LaunchGraph}
 use Rattle.launch_graph.specs.RowLines.{row_words, IsRowLine}
 
 -- What the lines of a graph say; its rows and classes may be wrong.

@@ -4,10 +4,10 @@ use Rattle.word_ops.specs.declared.sorts.Sort.{Sort}
 use Rattle.word_ops.specs.declared.sorts.Sort.TheVariants as sorts
 use Rattle.text_core.specs.Lines.{Line}
 use Rattle.text_core.specs.LineTexts.{Words}
-use Rattle.launch_graph.specs.declared.graphs.LaunchGraph.{LaunchGraph}
+use Rattle.graph_meaning.specs.declared.graphs.LaunchGraph.{LaunchGraph}
 use Rattle.launch_graph.specs.LineFormats.{words_between, words_from}
 use Rattle.launch_graph.specs.GraphLines.{GraphLines, AreGraphLines, graph_lines, said}
-use Rattle.launch_graph.specs.WellFormed.{IsLaunchGraph, set_sort}
+use Rattle.graph_meaning.specs.WellFormed.{IsLaunchGraph, set_sort}
 
 -- a line that no graph has behind its pool
 abbrev pub IsNoTarget : Words → Type 0

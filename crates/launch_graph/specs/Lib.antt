@@ -4,7 +4,6 @@ pub mod CleanLines
 pub mod GraphLines
 pub mod GraphStages
 pub mod GraphTexts
-pub mod Graphs
 pub mod LineFaults
 pub mod LineFormats
 pub mod LineParts
@@ -16,4 +15,3 @@ pub mod RowLines
 pub mod RowReading
 pub mod RowsRead
 pub mod SeenRows
-pub mod WellFormed

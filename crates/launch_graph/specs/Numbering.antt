@@ -5,7 +5,7 @@ use Rattle.word_ops.specs.Meanings.{arity_of_op, count_of}
 use Rattle.word_ops.specs.declared.sorts.Arity.{Arity}
 use Rattle.word_ops.specs.declared.sorts.Op.{Op}
 use Rattle.word_ops.specs.declared.sorts.Op.TheVariants.{Entry, Input, Constant, Word, Select, Store, Load, Put, Declared}
-use Rattle.launch_graph.specs.declared.graphs.LaunchRow.{LaunchRow}
+use Rattle.graph_meaning.specs.declared.graphs.LaunchRow.{LaunchRow}
 use Rattle.launch_graph.specs.declared.index.RowKey.{RowKey}
 use Rattle.launch_graph.specs.declared.numbering.UsedName.{UsedName}
 use Rattle.launch_graph.specs.declared.row_lines.LineOp.{LineOp}
@@ -13,7 +13,7 @@ use Rattle.launch_graph.specs.declared.row_lines.LineOp.TheVariants.{Plain, Use,
 use Rattle.launch_graph.specs.declared.row_lines.RowLine.{RowLine}
 use Rattle.launch_graph.specs.GraphLines.{said_row}
 use Rattle.launch_graph.specs.RowFaults.{names_used, ops_of}
-use Rattle.launch_graph.specs.WellFormed.{declared_index, next_index}
+use Rattle.graph_meaning.specs.WellFormed.{declared_index, next_index}
 
 abbrev pub names_of : List UsedName → List (List ℕ)
 names_of used = map (λ (u : UsedName). u.name) used

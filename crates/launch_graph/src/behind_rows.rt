@@ -6,13 +6,13 @@ ghost use Rattle.launch_graph.specs.BehindRows.{IsFaultBehind, IsEntryAt, IsInpu
 ghost use Rattle.launch_graph.specs.GraphStages.{Stage, rows, inputs, behind_pool};
 ghost use Rattle.launch_graph.specs.GraphTexts.{EndsGraph, IsNoTarget};
 ghost use Rattle.launch_graph.specs.LineFormats.{words_from};
-ghost use Rattle.launch_graph.specs.WellFormed.{set_sort};
+ghost use Rattle.graph_meaning.specs.WellFormed.{set_sort};
 ghost use Rattle.launch_graph.specs.declared.class_marks.Mark.{Mark as MarkOf};
 
 use crate::class_marks::{Mark, is_wrong};
-use crate::graphs::{Guard, InputClass, SetClass};
 use crate::line_faults::line_fault;
 use crate::line_reading::{begins_with, entry_line, guard_line, input_line, pool_line, set_line};
+use graph_meaning::{Guard, InputClass, SetClass};
 use items::{Items, NoMemory};
 use std::alloc::Global;
 use text_core::{Kind, TextFault, TextLines};

@@ -1,17 +1,14 @@
-//! Launch graphs: the E-graph of a goal as it is printed, its rows and what the goal has of classes and registers.
+//! The texts of launch graphs: the lines of a graph, printed, and read back or refused with the first fault.
 //!
-//! A graph is a list of rows, each an operator over classes in a class of its own. The layers above choose from it what
-//! to launch.
+//! `graph_meaning` says what a graph is, and when it is well formed; its types and calls are given out again here.
 #![tactic(auto)]
 
 mod behind_rows;
 mod class_marks;
-mod graphs;
 mod index;
 mod laws;
 mod line_faults;
 mod line_reading;
-mod lookups;
 mod numbering;
 mod printing;
 mod reading;
@@ -20,11 +17,11 @@ mod row_reading;
 mod rows_reading;
 mod seen_rows;
 
-pub use graphs::{Guard, InputClass, LaunchGraph, LaunchRow, SetClass};
-pub use laws::{
-    classes_have_values, graphs_are_consistent, one_graph, printed_graphs_are_lines,
-    registers_are_apart,
+pub use graph_meaning::{
+    Guard, InputClass, LaunchGraph, LaunchRow, SetClass, classes_have_values,
+    graphs_are_consistent, registers_are_apart,
 };
+pub use laws::{one_graph, printed_graphs_are_lines};
 pub use printing::{print, put_graph};
 pub use reading::read;
 pub use row_lines::{LineOp, RowLine};

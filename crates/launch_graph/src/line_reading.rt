@@ -5,8 +5,8 @@ ghost use Rattle.launch_graph.specs.GraphLines.{held_word};
 ghost use Rattle.text_core.specs.LineTexts.{SaysNone};
 ghost use Rattle.launch_graph.specs.LineReading.{IsHeaderLine, IsEntryLine, IsInputLine, IsPoolLine, IsGuardLine, IsSetLine};
 
-use crate::graphs::{Guard, InputClass, SetClass};
 use crate::row_reading::{below, same};
+use graph_meaning::{Guard, InputClass, SetClass};
 use items::{Items, NoMemory};
 use std::alloc::Global;
 use text_core::{Name, TextLines, is_name};

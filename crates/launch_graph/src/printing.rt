@@ -6,7 +6,7 @@ ghost use Rattle.launch_graph.specs.GraphLines as format;
 ghost use Rattle.launch_graph.specs.LineParts.{words_behind};
 ghost use Rattle.launch_graph.specs.RowLines.{line_op_words, row_words};
 
-use crate::graphs::{Guard, InputClass, LaunchGraph, LaunchRow, SetClass};
+use graph_meaning::{Guard, InputClass, LaunchGraph, LaunchRow, SetClass};
 use items::NoMemory;
 use itoa::Buffer;
 use std::alloc::Global;

@@ -6,15 +6,15 @@ ghost use Rattle.text_core.specs.declared.faults.TextFault.TheVariants as faults
 ghost use Rattle.launch_graph.specs.GraphTexts.{IsGraphAt};
 ghost use Rattle.launch_graph.specs.LineFaults.{IsFirstGraphFault};
 ghost use Rattle.launch_graph.specs.Readings.{IsHeaderAt, IsBlockEnd};
-ghost use Rattle.launch_graph.specs.declared.graphs.LaunchGraph.{LaunchGraph as Graph};
+ghost use Rattle.graph_meaning.specs.declared.graphs.LaunchGraph.{LaunchGraph as Graph};
 
 use crate::behind_rows::read_behind;
 use crate::class_marks::class_marks;
-use crate::graphs::LaunchGraph;
 use crate::laws::one_graph;
 use crate::line_faults::line_fault;
 use crate::line_reading::header_line;
 use crate::rows_reading::read_rows;
+use graph_meaning::LaunchGraph;
 use std::alloc::Global;
 use text_core::{Kind, TextFault, TextLines};
 use word_ops::operators_are_listed;

@@ -6,13 +6,13 @@ ghost use Rattle.launch_graph.specs.RowsRead.{IsBlockFrom, AreRowsTo, HasRead, l
 ghost use Rattle.launch_graph.specs.declared.row_lines.RowLine.{RowLine as Row};
 
 use crate::class_marks::Mark;
-use crate::graphs::LaunchRow;
 use crate::index::RowIndex;
 use crate::line_faults::line_fault;
 use crate::numbering::{UsedName, numbered_op, row_key};
 use crate::row_lines::{LineOp, RowLine};
 use crate::row_reading::row_line;
 use crate::seen_rows::{has_bad_class, see_row};
+use graph_meaning::LaunchRow;
 use items::{Items, NoMemory};
 use std::alloc::Global;
 use text_core::{Kind, Name, TextFault, TextLines};

@@ -6,14 +6,14 @@ use Rattle.std.proofs.lemmas.Bool.{false≢true, cases_Bool, eqb-true, eqb-false
 use Rattle.std.proofs.lemmas.List.Sums.{sum_by-le-sum_by}
 use Rattle.std.proofs.lemmas.List.Elements.{All-contains, All-weaker, Contains-get_or}
 use Rattle.machine_table.specs.Tables.{IsTable, cluster_of}
-use Rattle.launch_graph.specs.Graphs.{memory_target, is_memory_name, is_zero_class}
-use Rattle.launch_graph.specs.WellFormed.{IsLaunchGraph, next_class}
+use Rattle.graph_meaning.specs.Graphs.{memory_target, is_memory_name, is_zero_class}
+use Rattle.graph_meaning.specs.WellFormed.{IsLaunchGraph, next_class}
 use Rattle.schedule_meaning.specs.Launches.{launches, gives_word, is_store, is_load, is_branch, is_held, class_at, memory_class_at, operands_at, ready_in, memory_before, IsFree, IsReadable, Gives, Operand, gives}
 use Rattle.schedule_meaning.specs.Fits.{CanLaunch, CanRead, EndsBy, IsReached, IsLatestStore, IsLeft, Fits}
 use Rattle.machine_table.specs.declared.tables.Table.{Table}
-use Rattle.launch_graph.specs.declared.graphs.LaunchGraph.{LaunchGraph}
-use Rattle.launch_graph.specs.declared.graphs.SetClass.{SetClass}
-use Rattle.launch_graph.specs.declared.graphs.Guard.{Guard}
+use Rattle.graph_meaning.specs.declared.graphs.LaunchGraph.{LaunchGraph}
+use Rattle.graph_meaning.specs.declared.graphs.SetClass.{SetClass}
+use Rattle.graph_meaning.specs.declared.graphs.Guard.{Guard}
 use Rattle.schedule_meaning.specs.declared.schedules.Launch.{Launch}
 use Rattle.cycle_encoding.specs.Shapes.{when}
 use Rattle.cycle_encoding.specs.CycleFormula.{Listed, wide}

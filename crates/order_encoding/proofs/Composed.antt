@@ -3,7 +3,7 @@ use Rattle.std.proofs.Common.{◌≡◌, ℕ, ◌<◌, ◌≤◌, ◌++◌, ◌�
 use Rattle.std.specs.Prelude.{Contains, ◌↔◌}
 use Rattle.cnf_core.specs.Formula.{Formula, Satisfies}
 use Rattle.machine_table.specs.declared.tables.Table.{Table}
-use Rattle.launch_graph.specs.declared.graphs.LaunchGraph.{LaunchGraph}
+use Rattle.graph_meaning.specs.declared.graphs.LaunchGraph.{LaunchGraph}
 use Rattle.schedule_meaning.specs.Fits.{Fits}
 use Rattle.schedule_meaning.specs.declared.schedules.Launch.{Launch}
 use Rattle.cycle_encoding.specs.Shapes.{shown, numbered}
@@ -90,3 +90,25 @@ shown-as Narrow g table k l w n a = n a
 pub some-as : (e : Encoding) (g : LaunchGraph) (table : Table) (k : ℕ) (l : Listed) (ls : List Launch) → Fits g table k ls → Each_of g table k (wide g table k) ls → (IsNarrow g table k l → Some_of g table k l ls) → AreListed e g table k l → Some_of g table k l ls
 some-as Wide g table k l ls f w n a = (ls, f, (λ x h. h), subst (λ m. Each_of g table k m ls) (sym a) w)
 some-as Narrow g table k l ls f w n a = n a
+
+-- the same of a formula and of launches that are these
+module _ (g : LaunchGraph) (table : Table) (k : ℕ) (l : Listed) (f : Formula) (ls : List Launch)
+    (ef : f ≡ whole_formula g table k l) (el : ls ≡ l.launches) where
+  pub shows_in : Shown g table k l → (v : ℕ → Bool) → Satisfies v f.clauses → Fits g table k (shown v (numbered 0 ls))
+  shows_in h v s =
+      subst (λ (x : List Launch). Fits g table k (shown v (numbered 0 x))) (sym el) (h v (subst (λ (x : Formula). Satisfies v x.clauses) ef s))
+
+  pub some_in : ((xs : List Launch) → Fits g table k xs → Some_of g table k l xs) → (xs : List Launch) → Fits g table k xs
+      → (ms : List Launch) × Fits g table k ms × ((x : Launch) → Contains ms x → Contains xs x)
+      × ((v : ℕ → Bool) × Satisfies v f.clauses × ((x : Launch) → Contains (shown v (numbered 0 ls)) x ↔ Contains ms x))
+  some_in h xs fit =
+      let p = h xs fit in (
+        p.0,
+        p.1,
+        p.2,
+        (
+          p.3.0,
+          subst (λ (x : Formula). Satisfies p.3.0 x.clauses) (sym ef) p.3.1,
+          subst (λ (x : List Launch). (y : Launch) → Contains (shown p.3.0 (numbered 0 x)) y ↔ Contains p.0 y) (sym el) p.3.2,
+        ),
+      )

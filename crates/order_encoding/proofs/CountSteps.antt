@@ -9,8 +9,8 @@ use Rattle.machine_table.specs.Tables.{use_of, latency_of}
 use Rattle.machine_table.specs.declared.tables.Table.{Table}
 use Rattle.machine_table.specs.declared.tables.Use.{Use}
 use Rattle.machine_table.specs.declared.tables.InstrKind.{InstrKind}
-use Rattle.launch_graph.specs.WellFormed.{next_class}
-use Rattle.launch_graph.specs.declared.graphs.LaunchGraph.{LaunchGraph}
+use Rattle.graph_meaning.specs.WellFormed.{next_class}
+use Rattle.graph_meaning.specs.declared.graphs.LaunchGraph.{LaunchGraph}
 use Rattle.schedule_meaning.specs.Launches.{instr_at, is_store, is_load}
 use Rattle.cycle_encoding.specs.Variables.{slots_of}
 use Rattle.cycle_encoding.specs.Facts.{may_use}

@@ -10,7 +10,7 @@ use Rattle.cnf_core.specs.Counter.{at_most_clauses, at_most_size, at_most_vars}
 use Rattle.std.specs.List.{range_with_len}
 use Rattle.machine_table.specs.declared.tables.Table.{Table}
 use Rattle.cycle_encoding.specs.Families.{any}
-use Rattle.launch_graph.specs.declared.graphs.LaunchGraph.{LaunchGraph}
+use Rattle.graph_meaning.specs.declared.graphs.LaunchGraph.{LaunchGraph}
 use Rattle.schedule_meaning.specs.Launches.{launches, is_branch}
 use Rattle.schedule_meaning.specs.declared.schedules.Launch.{Launch}
 use Rattle.order_encoding.specs.OrderVariables.{Held, all_held, all_taken}

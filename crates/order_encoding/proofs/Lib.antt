@@ -3,6 +3,7 @@ pub mod Sound
 pub mod Reading
 pub mod RowFacts
 pub mod Listing
+pub mod Lists
 pub mod Complete
 pub mod Narrowed
 pub mod Making

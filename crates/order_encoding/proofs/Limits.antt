@@ -6,11 +6,10 @@ use Rattle.cnf_core.specs.declared.literal.Lit.{Lit}
 use Rattle.cnf_core.specs.Formula.{Formula}
 use Rattle.cnf_core.specs.Counter.{at_most_clauses, at_most_size}
 use Rattle.machine_table.specs.declared.tables.Table.{Table}
-use Rattle.launch_graph.specs.declared.graphs.LaunchGraph.{LaunchGraph}
+use Rattle.graph_meaning.specs.declared.graphs.LaunchGraph.{LaunchGraph}
 use Rattle.schedule_meaning.specs.declared.schedules.Launch.{Launch}
 use Rattle.cycle_encoding.specs.Shapes.{numbered}
-use Rattle.cycle_encoding.specs.Variables.{all_launches}
-use Rattle.cycle_encoding.specs.CycleFormula.{Listed, Scope, wide, wide_scope, cycle_formula}
+use Rattle.cycle_encoding.specs.CycleFormula.{Listed, Scope, listed_in, cycle_formula}
 use Rattle.cycle_encoding.specs.Plans.{IsTooLarge, PassesLimit}
 use Rattle.cycle_encoding.proofs.Launched.{cycle-vars, cycle-size}
 use Rattle.order_encoding.specs.OrderCounts.{memory_vars, memory_size, guard_vars, guard_size, pool_vars, pool_size}
@@ -84,71 +83,70 @@ module _ (g : LaunchGraph) (table : Table) (k : ℕ) (e : Listed) (ls : List Lau
 
 -- ---- one call after another
 
-module _ (g h : LaunchGraph) (table : Table) (k j : ℕ) (eh : h ≡ g) (ej : j ≡ k) (s : Scope) (es : s ≡ wide_scope) where
+module _ (g : LaunchGraph) (table : Table) (k j : ℕ) (ej : j ≡ k) (s : Scope) where
   abbrev cycles : Formula
-  cycles = cycle_formula g table k (wide g table k)
+  cycles = cycle_formula g table k (listed_in g table k s)
 
   abbrev memories : Formula
-  memories = memory_formula g table k (wide g table k)
+  memories = memory_formula g table k (listed_in g table k s)
 
   abbrev guards : Formula
-  guards = guard_formula g table k (wide g table k)
+  guards = guard_formula g table k (listed_in g table k s)
 
   abbrev wholes : Formula
-  wholes = whole_formula g table k (wide g table k)
-
-  -- the same of the graph, the cycles and the scope that the code has
-  there : (F : LaunchGraph → ℕ → Scope → ℕ) → F h j s ≡ F g k wide_scope
-  there F = ap (λ (x : LaunchGraph). F x j s) eh ∙ ap (λ n. F g n s) ej ∙ ap (F g k) es
+  wholes = whole_formula g table k (listed_in g table k s)
 
   module _ (f : Formula) (v : ℕ) where
-    pub memory_vars_now : f ≡ cycles → v ≡ f.vars + memory_vars h table j s → v ≡ memories.vars
+    pub memory_vars_now : f ≡ cycles → v ≡ f.vars + memory_vars g table j s → v ≡ memories.vars
     memory_vars_now ef ev =
-        ev ∙ ap (λ (f : Formula). f.vars + memory_vars h table j s) ef ∙ ap (λ n. cycles.vars + n) (there (λ g k s. memory_vars g table k s))
-        ∙ ap (λ n. n + memory_vars g table k wide_scope) (cycle-vars g table k wide_scope) ∙ sym (memory-vars g table k wide_scope)
+        ev ∙ ap (λ (f : Formula). f.vars + memory_vars g table j s) ef ∙ ap (λ n. cycles.vars + memory_vars g table n s) ej
+        ∙ ap (λ n. n + memory_vars g table k s) (cycle-vars g table k s) ∙ sym (memory-vars g table k s)
 
-    pub guard_vars_now : f ≡ memories → v ≡ f.vars + guard_vars h table j s → v ≡ guards.vars
+    pub guard_vars_now : f ≡ memories → v ≡ f.vars + guard_vars g table j s → v ≡ guards.vars
     guard_vars_now ef ev =
-        ev ∙ ap (λ (f : Formula). f.vars + guard_vars h table j s) ef ∙ ap (λ n. memories.vars + n) (there (λ g k s. guard_vars g table k s))
-        ∙ ap (λ n. n + guard_vars g table k wide_scope) (memory-vars g table k wide_scope) ∙ sym (guard-vars g table k wide_scope)
+        ev ∙ ap (λ (f : Formula). f.vars + guard_vars g table j s) ef ∙ ap (λ n. memories.vars + guard_vars g table n s) ej
+        ∙ ap (λ n. n + guard_vars g table k s) (memory-vars g table k s) ∙ sym (guard-vars g table k s)
 
-    pub pool_vars_now : f ≡ guards → v ≡ f.vars + pool_vars h table j s → v ≡ wholes.vars
+    pub pool_vars_now : f ≡ guards → v ≡ f.vars + pool_vars g table j s → v ≡ wholes.vars
     pool_vars_now ef ev =
-        ev ∙ ap (λ (f : Formula). f.vars + pool_vars h table j s) ef ∙ ap (λ n. guards.vars + n) (there (λ g k s. pool_vars g table k s))
-        ∙ ap (λ n. n + pool_vars g table k wide_scope) (guard-vars g table k wide_scope) ∙ sym (whole-vars g table k wide_scope)
+        ev ∙ ap (λ (f : Formula). f.vars + pool_vars g table j s) ef ∙ ap (λ n. guards.vars + pool_vars g table n s) ej
+        ∙ ap (λ n. n + pool_vars g table k s) (guard-vars g table k s) ∙ sym (whole-vars g table k s)
 
     module _ (size : (old p : ℕ) (lits : List Lit) → length (at_most_clauses old p lits) ≡ at_most_size p (length lits)) where
-      pub memory_size_now : f ≡ cycles → v ≡ length f.clauses + memory_size h table j s → v ≡ length memories.clauses
+      pub memory_size_now : f ≡ cycles → v ≡ length f.clauses + memory_size g table j s → v ≡ length memories.clauses
       memory_size_now ef ev =
-          ev ∙ ap (λ (f : Formula). length f.clauses + memory_size h table j s) ef ∙ ap (λ n. length cycles.clauses + n) (there (λ g k s. memory_size g table k s))
-          ∙ ap (λ n. n + memory_size g table k wide_scope) (cycle-size g table k wide_scope size) ∙ sym (with-memory-size g table k wide_scope size)
+          ev ∙ ap (λ (f : Formula). length f.clauses + memory_size g table j s) ef
+          ∙ ap (λ n. length cycles.clauses + memory_size g table n s) ej
+          ∙ ap (λ n. n + memory_size g table k s) (cycle-size g table k s size) ∙ sym (with-memory-size g table k s size)
 
-      pub guard_size_now : f ≡ memories → v ≡ length f.clauses + guard_size h table j s → v ≡ length guards.clauses
+      pub guard_size_now : f ≡ memories → v ≡ length f.clauses + guard_size g table j s → v ≡ length guards.clauses
       guard_size_now ef ev =
-          ev ∙ ap (λ (f : Formula). length f.clauses + guard_size h table j s) ef ∙ ap (λ n. length memories.clauses + n) (there (λ g k s. guard_size g table k s))
-          ∙ ap (λ n. n + guard_size g table k wide_scope) (with-memory-size g table k wide_scope size) ∙ sym (with-guard-size g table k wide_scope size)
+          ev ∙ ap (λ (f : Formula). length f.clauses + guard_size g table j s) ef
+          ∙ ap (λ n. length memories.clauses + guard_size g table n s) ej
+          ∙ ap (λ n. n + guard_size g table k s) (with-memory-size g table k s size) ∙ sym (with-guard-size g table k s size)
 
-      pub pool_size_now : f ≡ guards → v ≡ length f.clauses + pool_size h table j s → v ≡ length wholes.clauses
+      pub pool_size_now : f ≡ guards → v ≡ length f.clauses + pool_size g table j s → v ≡ length wholes.clauses
       pool_size_now ef ev =
-          ev ∙ ap (λ (f : Formula). length f.clauses + pool_size h table j s) ef ∙ ap (λ n. length guards.clauses + n) (there (λ g k s. pool_size g table k s))
-          ∙ ap (λ n. n + pool_size g table k wide_scope) (with-guard-size g table k wide_scope size) ∙ sym (whole-size g table k wide_scope size)
+          ev ∙ ap (λ (f : Formula). length f.clauses + pool_size g table j s) ef
+          ∙ ap (λ n. length guards.clauses + pool_size g table n s) ej
+          ∙ ap (λ n. n + pool_size g table k s) (with-guard-size g table k s size) ∙ sym (whole-size g table k s size)
 
   -- the formulas
-  module _ (ls : List Launch) (f : Formula) (els : ls ≡ all_launches g table k) where
+  module _ (ls : List Launch) (f : Formula) (els : ls ≡ (listed_in g table k s).launches) where
     abbrev all : List Launch
-    all = all_launches g table k
+    all = (listed_in g table k s).launches
 
-    pub memory_now : f ≡ cycles → with_memory h j (numbered 0 ls) f ≡ memories
+    pub memory_now : f ≡ cycles → with_memory g j (numbered 0 ls) f ≡ memories
     memory_now ef =
-        ap (λ (x : LaunchGraph). with_memory x j (numbered 0 ls) f) eh ∙ ap (λ x. with_memory g x (numbered 0 ls) f) ej
+        ap (λ x. with_memory g x (numbered 0 ls) f) ej
         ∙ ap (λ (x : List Launch). with_memory g k (numbered 0 x) f) els ∙ ap (with_memory g k (numbered 0 all)) ef
 
-    pub guard_now : f ≡ memories → formula_with_guard h j (numbered 0 ls) f ≡ guards
+    pub guard_now : f ≡ memories → formula_with_guard g j (numbered 0 ls) f ≡ guards
     guard_now ef =
-        ap (λ (x : LaunchGraph). formula_with_guard x j (numbered 0 ls) f) eh ∙ ap (λ x. formula_with_guard g x (numbered 0 ls) f) ej
+        ap (λ x. formula_with_guard g x (numbered 0 ls) f) ej
         ∙ ap (λ (x : List Launch). formula_with_guard g k (numbered 0 x) f) els ∙ ap (formula_with_guard g k (numbered 0 all)) ef
 
-    pub pool_now : f ≡ guards → formula_with_pool h j (numbered 0 ls) f table ≡ wholes
+    pub pool_now : f ≡ guards → formula_with_pool g j (numbered 0 ls) f table ≡ wholes
     pool_now ef =
-        ap (λ (x : LaunchGraph). formula_with_pool x j (numbered 0 ls) f table) eh ∙ ap (λ x. formula_with_pool g x (numbered 0 ls) f table) ej
+        ap (λ x. formula_with_pool g x (numbered 0 ls) f table) ej
         ∙ ap (λ (x : List Launch). formula_with_pool g k (numbered 0 x) f table) els ∙ ap (λ (x : Formula). formula_with_pool g k (numbered 0 all) x table) ef

@@ -7,11 +7,11 @@ use Rattle.std.proofs.lemmas.List.FromFn.{length-range_with_len}
 use Rattle.cnf_core.specs.declared.literal.Lit.{Lit}
 use Rattle.cnf_core.specs.Formula.{Satisfies}
 use Rattle.cnf_core.specs.Counter.{count_true, Extends, HasExtension}
-use Rattle.launch_graph.specs.WellFormed.{IsLaunchGraph}
+use Rattle.graph_meaning.specs.WellFormed.{IsLaunchGraph}
 use Rattle.schedule_meaning.specs.Launches.{launches, is_branch, memory_before}
 use Rattle.schedule_meaning.specs.Fits.{Fits, IsLeft}
 use Rattle.machine_table.specs.declared.tables.Table.{Table}
-use Rattle.launch_graph.specs.declared.graphs.LaunchGraph.{LaunchGraph}
+use Rattle.graph_meaning.specs.declared.graphs.LaunchGraph.{LaunchGraph}
 use Rattle.schedule_meaning.specs.declared.schedules.Launch.{Launch}
 use Rattle.cycle_encoding.specs.Shapes.{numbered, vars_of, shown, when, counters}
 use Rattle.order_encoding.specs.OrderVariables.{Held, Taken, all_held, all_taken}

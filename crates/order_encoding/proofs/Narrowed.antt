@@ -8,16 +8,16 @@ use Rattle.std.proofs.lemmas.List.Sums.{sum_by-cons}
 use Rattle.std.proofs.lemmas.List.Elements.{All-filter, All-contains, All-weaker, Contains-get_or}
 use Rattle.machine_table.specs.Tables.{IsTable, IsUse, use_of, latency_of, cluster_of, MayUse}
 use Rattle.machine_table.specs.InstrOrder.{kind_number}
-use Rattle.launch_graph.specs.Graphs.{memory_target, is_memory_name}
+use Rattle.graph_meaning.specs.Graphs.{memory_target, is_memory_name}
 use Rattle.schedule_meaning.specs.Launches.{instr_at, launches, is_store, is_branch, gives_word, class_at, memory_class_at, operands_at, ready_in, IsFree, IsReadable, Gives, Operand}
 use Rattle.schedule_meaning.specs.Fits.{CanLaunch, Collide, CanRead, EndsBy, IsReached, IsLeft, UsesMemory, Waits, Fits}
 use Rattle.machine_table.specs.declared.tables.Table.{Table}
 use Rattle.machine_table.specs.declared.tables.Use.{Use}
 use Rattle.machine_table.specs.declared.tables.InstrKind.{InstrKind}
 use Rattle.machine_table.specs.declared.tables.InstrKind.TheVariants.{Beq, StqU}
-use Rattle.launch_graph.specs.declared.graphs.LaunchGraph.{LaunchGraph}
-use Rattle.launch_graph.specs.declared.graphs.SetClass.{SetClass}
-use Rattle.launch_graph.specs.declared.graphs.Guard.{Guard}
+use Rattle.graph_meaning.specs.declared.graphs.LaunchGraph.{LaunchGraph}
+use Rattle.graph_meaning.specs.declared.graphs.SetClass.{SetClass}
+use Rattle.graph_meaning.specs.declared.graphs.Guard.{Guard}
 use Rattle.schedule_meaning.specs.declared.schedules.Launch.{Launch}
 use Rattle.cycle_encoding.specs.Variables.{is_input, all_launches, made_classes}
 use Rattle.cycle_encoding.specs.Families.{is_at, is_free}

@@ -10,7 +10,7 @@ use Rattle.cnf_core.specs.Counter.{count_true}
 use Rattle.schedule_meaning.specs.Launches.{launches, is_branch}
 use Rattle.schedule_meaning.specs.Fits.{Fits}
 use Rattle.machine_table.specs.declared.tables.Table.{Table}
-use Rattle.launch_graph.specs.declared.graphs.LaunchGraph.{LaunchGraph}
+use Rattle.graph_meaning.specs.declared.graphs.LaunchGraph.{LaunchGraph}
 use Rattle.schedule_meaning.specs.declared.schedules.Launch.{Launch}
 use Rattle.cycle_encoding.specs.Shapes.{vars_of, shown, when, counters}
 use Rattle.order_encoding.specs.OrderVariables.{Held, all_held, all_taken}

@@ -12,15 +12,15 @@ use Rattle.word_ops.specs.declared.sorts.Op.{Op}
 use Rattle.word_ops.specs.declared.sorts.Op.TheVariants.{Word, Select, Store, Load, Put}
 use Rattle.word_ops.specs.declared.sorts.Sort.TheVariants as sort
 use Rattle.machine_table.specs.InstrOrder.{operate_kind}
-use Rattle.launch_graph.specs.Graphs.{constant_of, memory_target, is_memory_name}
-use Rattle.launch_graph.specs.WellFormed.{ClassHasSort, IsLaunchGraph, next_class}
+use Rattle.graph_meaning.specs.Graphs.{constant_of, memory_target, is_memory_name}
+use Rattle.graph_meaning.specs.WellFormed.{ClassHasSort, IsLaunchGraph, next_class}
 use Rattle.schedule_meaning.specs.Launches.{instr_at, launches, gives_word, is_store, is_load, word_op_instr, op_instr, class_at, memory_class_at}
 use Rattle.machine_table.specs.declared.tables.InstrKind.{InstrKind}
 use Rattle.machine_table.specs.declared.tables.InstrKind.TheVariants.{Lda, Ldah, LdqU, StqU, Beq}
-use Rattle.launch_graph.specs.declared.graphs.LaunchGraph.{LaunchGraph}
-use Rattle.launch_graph.specs.declared.graphs.LaunchRow.{LaunchRow}
-use Rattle.launch_graph.specs.declared.graphs.SetClass.{SetClass}
-use Rattle.launch_graph.specs.declared.graphs.Guard.{Guard}
+use Rattle.graph_meaning.specs.declared.graphs.LaunchGraph.{LaunchGraph}
+use Rattle.graph_meaning.specs.declared.graphs.LaunchRow.{LaunchRow}
+use Rattle.graph_meaning.specs.declared.graphs.SetClass.{SetClass}
+use Rattle.graph_meaning.specs.declared.graphs.Guard.{Guard}
 use Rattle.schedule_meaning.specs.declared.schedules.Launch.{Launch}
 use Rattle.cycle_encoding.specs.Variables.{is_word, is_word_class}
 use Rattle.order_encoding.specs.OrderVariables.{is_memory_class}

@@ -8,10 +8,10 @@ use Rattle.cnf_core.specs.declared.literal.Lit.{Lit}
 use Rattle.cnf_core.specs.Formula.{lit_true, clause_true, Satisfies}
 use Rattle.cnf_core.specs.Counter.{count_true}
 use Rattle.machine_table.specs.Tables.{cluster_of}
-use Rattle.launch_graph.specs.Graphs.{memory_target}
+use Rattle.graph_meaning.specs.Graphs.{memory_target}
 use Rattle.schedule_meaning.specs.Launches.{launches, gives_word, is_store, is_branch, class_at, memory_class_at, operands_at, gives}
 use Rattle.machine_table.specs.declared.tables.Table.{Table}
-use Rattle.launch_graph.specs.declared.graphs.LaunchGraph.{LaunchGraph}
+use Rattle.graph_meaning.specs.declared.graphs.LaunchGraph.{LaunchGraph}
 use Rattle.schedule_meaning.specs.declared.schedules.Launch.{Launch}
 use Rattle.cycle_encoding.specs.Shapes.{vars_of, shown, implied, when}
 use Rattle.cycle_encoding.specs.declared.seen.Seen.{Seen}

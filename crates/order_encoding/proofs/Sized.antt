@@ -8,7 +8,7 @@ use Rattle.cnf_core.specs.declared.literal.Lit.{Lit}
 use Rattle.cnf_core.specs.Counter.{at_most_clauses, at_most_size, at_most_vars}
 use Rattle.schedule_meaning.specs.Launches.{launches, gives_word, is_load, is_store, is_branch, is_held, class_at, memory_class_at}
 use Rattle.machine_table.specs.declared.tables.Table.{Table}
-use Rattle.launch_graph.specs.declared.graphs.LaunchGraph.{LaunchGraph}
+use Rattle.graph_meaning.specs.declared.graphs.LaunchGraph.{LaunchGraph}
 use Rattle.schedule_meaning.specs.declared.schedules.Launch.{Launch}
 use Rattle.cycle_encoding.specs.Shapes.{vars_of, implied, when, counters, counters_vars}
 use Rattle.cycle_encoding.specs.Variables.{launches_from}

@@ -7,13 +7,13 @@ use Rattle.std.proofs.lemmas.List.Sums.{sum_by-le}
 use Rattle.std.proofs.lemmas.List.FromFn.{length-range_with_len, get_or-range_with_len}
 use Rattle.std.proofs.lemmas.List.Elements.{All-weaker, All-contains, Contains-get_or}
 use Rattle.machine_table.specs.Tables.{cluster_of}
-use Rattle.launch_graph.specs.Graphs.{memory_target, is_memory_name, is_zero_class}
+use Rattle.graph_meaning.specs.Graphs.{memory_target, is_memory_name, is_zero_class}
 use Rattle.schedule_meaning.specs.Launches.{launches, gives_word, is_store, is_load, is_branch, is_held, class_at, memory_class_at, operands_at, ready_in, IsFree, IsReadable, Gives, Operand, gives}
 use Rattle.schedule_meaning.specs.Fits.{CanLaunch, Collide, CanRead, EndsBy, IsReached, IsLatestStore, IsLeft, UsesMemory, KeepsMemory, HasOneBranch, Waits, Fits}
 use Rattle.machine_table.specs.declared.tables.Table.{Table}
-use Rattle.launch_graph.specs.declared.graphs.LaunchGraph.{LaunchGraph}
-use Rattle.launch_graph.specs.declared.graphs.SetClass.{SetClass}
-use Rattle.launch_graph.specs.declared.graphs.Guard.{Guard}
+use Rattle.graph_meaning.specs.declared.graphs.LaunchGraph.{LaunchGraph}
+use Rattle.graph_meaning.specs.declared.graphs.SetClass.{SetClass}
+use Rattle.graph_meaning.specs.declared.graphs.Guard.{Guard}
 use Rattle.schedule_meaning.specs.declared.schedules.Launch.{Launch}
 use Rattle.cycle_encoding.specs.Variables.{is_input}
 use Rattle.cycle_encoding.specs.declared.seen.Seen.{Seen}

@@ -6,7 +6,7 @@ use Rattle.std.specs.List.{count_by, sum_by, range_with_len}
 use Rattle.schedule_meaning.specs.Launches.{is_store}
 use Rattle.machine_table.specs.declared.tables.Table.{Table}
 use Rattle.machine_table.specs.declared.tables.Use.{Use}
-use Rattle.launch_graph.specs.declared.graphs.LaunchGraph.{LaunchGraph}
+use Rattle.graph_meaning.specs.declared.graphs.LaunchGraph.{LaunchGraph}
 use Rattle.cycle_encoding.specs.Variables.{slots_of, use_launches, row_launches, launches_from}
 use Rattle.cycle_encoding.specs.Counts.{one_if, row_is, row_use, cycles_of, can_begin, row_numbers}
 use Rattle.cycle_encoding.specs.CycleFormula.{Scope, first_cycle_in}

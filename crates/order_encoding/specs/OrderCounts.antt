@@ -6,7 +6,7 @@ use Rattle.std.specs.List.{count_by, sum_by, range_with_len}
 use Rattle.cnf_core.specs.Counter.{at_most_size, at_most_vars}
 use Rattle.schedule_meaning.specs.Launches.{gives_word, is_load, is_store, is_branch, is_held}
 use Rattle.machine_table.specs.declared.tables.Table.{Table}
-use Rattle.launch_graph.specs.declared.graphs.LaunchGraph.{LaunchGraph}
+use Rattle.graph_meaning.specs.declared.graphs.LaunchGraph.{LaunchGraph}
 use Rattle.cycle_encoding.specs.Variables.{slots_of}
 use Rattle.cycle_encoding.specs.Counts.{one_if, row_is, row_use, can_begin, row_numbers, sum_launches}
 use Rattle.cycle_encoding.specs.CycleFormula.{Scope, first_cycle_in}

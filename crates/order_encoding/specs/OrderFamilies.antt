@@ -3,9 +3,9 @@
 use Rattle.std.specs.Prelude.{ℕ, ◌+◌, ◌==◌, ◌&&◌, ◌||◌, nat_le, Bool, not, List, [], ◌∷◌, ◌++◌, map, is_some}
 use Rattle.std.specs.List.{flat_map, range_with_len}
 use Rattle.cnf_core.specs.declared.literal.Lit.{Lit}
-use Rattle.launch_graph.specs.Graphs.{memory_target}
+use Rattle.graph_meaning.specs.Graphs.{memory_target}
 use Rattle.schedule_meaning.specs.Launches.{launches, gives_word, is_load, is_store, is_branch, class_at, memory_class_at, is_held}
-use Rattle.launch_graph.specs.declared.graphs.LaunchGraph.{LaunchGraph}
+use Rattle.graph_meaning.specs.declared.graphs.LaunchGraph.{LaunchGraph}
 use Rattle.schedule_meaning.specs.declared.schedules.Launch.{Launch}
 use Rattle.cycle_encoding.specs.Shapes.{vars_of, implied, when}
 use Rattle.cycle_encoding.specs.Families.{any}

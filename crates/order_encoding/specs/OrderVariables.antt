@@ -4,7 +4,7 @@ use Rattle.std.specs.Prelude.{ℕ, ◌+◌, ◌==◌, ◌&&◌, Bool, not, List,
 use Rattle.std.specs.List.{filter, flat_map, list_any, range_with_len}
 use Rattle.word_ops.specs.Meanings.{sort_of}
 use Rattle.machine_table.specs.declared.tables.Table.{Table}
-use Rattle.launch_graph.specs.declared.graphs.LaunchGraph.{LaunchGraph}
+use Rattle.graph_meaning.specs.declared.graphs.LaunchGraph.{LaunchGraph}
 use Rattle.cycle_encoding.specs.Variables.{is_word, classes_of}
 
 -- some row of the class gives a memory

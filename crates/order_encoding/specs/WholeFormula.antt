@@ -1,13 +1,15 @@
 -- The formula of a schedule: the numbers of its variables, and its clauses in their order, part by part.
 -- Source: this project.
-use Rattle.std.specs.Prelude.{ℕ, ◌+◌, List, ◌++◌, length, is_some}
+use Rattle.std.specs.Prelude.{◌≡◌, ℕ, ◌+◌, ◌≤◌, List, ◌++◌, length, is_some}
 use Rattle.std.specs.List.{range_with_len}
 use Rattle.cnf_core.specs.declared.literal.Lit.{Lit}
 use Rattle.cnf_core.specs.Formula.{Formula}
 use Rattle.machine_table.specs.declared.tables.Table.{Table}
-use Rattle.launch_graph.specs.declared.graphs.LaunchGraph.{LaunchGraph}
+use Rattle.graph_meaning.specs.declared.graphs.LaunchGraph.{LaunchGraph}
 use Rattle.cycle_encoding.specs.Shapes.{numbered, counters, counters_vars, when}
-use Rattle.cycle_encoding.specs.CycleFormula.{Listed, launch_vars, after_cycles, cycle_part}
+use Rattle.cycle_encoding.specs.Encodings.{AreListed}
+use Rattle.cycle_encoding.specs.declared.encodings.Encoding.{Encoding}
+use Rattle.cycle_encoding.specs.CycleFormula.{Listed, Scope, listed_in, launch_vars, after_cycles, cycle_part}
 use Rattle.order_encoding.specs.OrderVariables.{all_held, all_taken, Held, Taken}
 use Rattle.order_encoding.specs.OrderFamilies.{entry_clauses, memory_clauses, kept_clauses, held_groups, store_groups, last_clauses, branch_clauses, branch_groups, wait_clauses, come_clauses, register_clauses, register_groups}
 
@@ -86,3 +88,17 @@ module _ (g : LaunchGraph) (table : Table) (k : ℕ) (e : Listed) where
   abbrev pub whole_formula : Formula
   whole_formula =
       record { vars = after_pool; clauses = cycle_part g table k e ++ memory_part ++ guard_part ++ pool_part }
+
+-- these are the clauses for k cycles over the lists of the encoding
+pub record IsFormulaOf (e : Encoding) (g : LaunchGraph) (table : Table) (k : ℕ) (f : Formula) : Type 0 where
+  pub lists : Listed
+  pub listed : AreListed e g table k lists
+  pub is : f ≡ whole_formula g table k lists
+
+-- for each number of cycles that may be asked for these are the encoding's clauses
+abbrev pub AreFormulas : Encoding → LaunchGraph → Table → (ℕ → Formula) → Type 0
+AreFormulas e g table formulas = (k : ℕ) → k ≤ 24 → IsFormulaOf e g table k (formulas k)
+
+-- the clauses for k cycles over what a scope gives variables
+abbrev pub formula_in : Scope → LaunchGraph → Table → ℕ → Formula
+formula_in s g table k = whole_formula g table k (listed_in g table k s)

@@ -4,8 +4,8 @@ use Rattle.std.specs.Prelude.{List, [], ◌∷◌, None, codes}
 use Rattle.cnf_core.specs.declared.literal.Lit.{Lit}
 use Rattle.word_ops.specs.declared.operators.WordOp.TheVariants as ops
 use Rattle.word_ops.specs.declared.sorts.Op.TheVariants as op
-use Rattle.launch_graph.specs.Graphs.{plain_row}
-use Rattle.launch_graph.specs.declared.graphs.LaunchGraph.{LaunchGraph}
+use Rattle.graph_meaning.specs.Graphs.{plain_row}
+use Rattle.graph_meaning.specs.declared.graphs.LaunchGraph.{LaunchGraph}
 use Rattle.schedule_meaning.specs.Worked.{input_class, set_class}
 use Rattle.cycle_encoding.specs.Shapes.{positive, negative}
 

@@ -3,8 +3,8 @@ ghost use Rattle.std.specs.Prelude.{◌≡◌, ◌+◌, ◌*◌, ◌<◌, ◌≤
 ghost use Rattle.std.specs.List.{count_by, range_with_len, sum_by};
 ghost use Rattle.cnf_core.specs.Counter as counter;
 ghost use Rattle.cnf_core.specs.declared.literal.Lit.{Lit as LitOf};
-ghost use Rattle.launch_graph.specs.WellFormed as wellformed;
-ghost use Rattle.launch_graph.specs.WellFormed.{IsLaunchGraph};
+ghost use Rattle.graph_meaning.specs.WellFormed as wellformed;
+ghost use Rattle.graph_meaning.specs.WellFormed.{IsLaunchGraph};
 ghost use Rattle.machine_table.specs.Tables.{IsTable};
 ghost use Rattle.schedule_meaning.specs.Launches as launches;
 ghost use Rattle.cycle_encoding.specs.Counts as cycle_counts;
@@ -20,7 +20,7 @@ use cnf_core::{Cnf, at_most_size, at_most_vars};
 use cycle_encoding::{
     Facts, Scope, Sizes, can_begin, next_class, one_size, one_vars, row_count, slot_count,
 };
-use launch_graph::LaunchGraph;
+use graph_meaning::LaunchGraph;
 use machine_table::Table;
 
 /// Whether one of the counts passes its limit: 262,144 variables, 2,000,000 clauses.
@@ -119,9 +119,11 @@ fn store_sizes(facts: &Facts, table: &Table, scope: &Scope, k: u32) -> Sizes
     requires cycles { k ≤ 24 }
     requires rows { length facts.now.rows < 2 ^ 30 }
     ensures vars { result.vars
-        ≡ sum_by (λ t. counter.at_most_vars 1 (counts.store_count facts.now table.now k scope.now t)) (range_with_len 0 k) }
+        ≡ sum_by (λ t. counter.at_most_vars 1 (counts.store_count facts.now table.now k scope.now t))
+        (range_with_len 0 k) }
     ensures clauses { result.clauses
-        ≡ sum_by (λ t. counter.at_most_size 1 (counts.store_count facts.now table.now k scope.now t)) (range_with_len 0 k) }
+        ≡ sum_by (λ t. counter.at_most_size 1 (counts.store_count facts.now table.now k scope.now t))
+        (range_with_len 0 k) }
     ensures few_vars { result.vars < 2 ^ 40 }
     ensures few_clauses { result.clauses < 2 ^ 42 }
 {
@@ -301,7 +303,8 @@ fn word_count(facts: &Facts, table: &Table, scope: &Scope, k: u32) -> u64
     requires table { IsTable table.now }
     requires cycles { k ≤ 24 }
     requires rows { length facts.now.rows < 2 ^ 30 }
-    ensures value { result ≡ sum_launches facts.now table.now k scope.now (λ row. one_if (row_is facts.now launches.gives_word row)) }
+    ensures value { result ≡ sum_launches facts.now table.now k scope.now
+        (λ row. one_if (row_is facts.now launches.gives_word row)) }
     ensures few { result < 2 ^ 40 }
 {
     let rows = facts.graph().rows.len() as u32;

@@ -1,8 +1,8 @@
 // The memory that is held in a cycle: its variables, and the clauses that say which it is at first and at last.
 ghost use Rattle.std.specs.Prelude.{◌≡◌, ◌==◌, ◌+◌, ◌<◌, ◌≤◌, ◌^◌, ◌∷◌, [], length, All, IfOk, OnOk};
 ghost use Rattle.cnf_core.specs.Formula.{IsLitOf};
-ghost use Rattle.launch_graph.specs.WellFormed.{IsLaunchGraph};
-ghost use Rattle.launch_graph.specs.WellFormed as wellformed;
+ghost use Rattle.graph_meaning.specs.WellFormed.{IsLaunchGraph};
+ghost use Rattle.graph_meaning.specs.WellFormed as wellformed;
 ghost use Rattle.cycle_encoding.specs.Shapes.{numbered, negative, implied, vars_of, counters_vars, counters_size};
 ghost use Rattle.cycle_encoding.specs.Steps.{listed, of_thing, with_clauses, with_counters};
 ghost use Rattle.order_encoding.specs.OrderVariables as variables;
@@ -69,7 +69,8 @@ pub fn held_vars(alloc: Global, facts: &Facts, k: u32, first: u32) -> Result<Hel
 pub fn held_var(held: &HeldVars, facts: &Facts, class: u32, cycle: u32) -> Option<Lit>
     requires held { AreHeldVars facts.now held.now.cycles held.now.classes.items held.now.starts.items }
     requires few { held.now.first + length (all_held facts.now held.now.cycles) < 2 ^ 29 }
-    ensures { listed result ≡ vars_of (is_held_at class cycle) (numbered held.now.first (all_held facts.now held.now.cycles)) }
+    ensures { listed result ≡ vars_of (is_held_at class cycle)
+        (numbered held.now.first (all_held facts.now held.now.cycles)) }
 {
     if cycle > held.cycles {
         return None;
@@ -93,7 +94,8 @@ fn var_from(
     requires class { class < wellformed.next_class facts.now.rows }
     requires cycle { cycle ≤ held.now.cycles }
     requires few { held.now.first + length (all_held facts.now held.now.cycles) < 2 ^ 29 }
-    ensures { listed result ≡ vars_of (is_held_at class cycle) (numbered held.now.first (all_held facts.now held.now.cycles)) }
+    ensures { listed result ≡ vars_of (is_held_at class cycle)
+        (numbered held.now.first (all_held facts.now held.now.cycles)) }
 {
     match start {
         Some(start) => Some(Lit {
@@ -150,7 +152,8 @@ fn add_others(cnf: &mut Cnf, facts: &Facts, held: &HeldVars) -> Result<(), NoMem
     requires exist { held.now.first + length (all_held facts.now held.now.cycles) ≤ cnf.old.vars }
     requires few { cnf.old.vars < 2 ^ 29 }
     requires room { length cnf.old.clauses
-        + length (implied (numbered held.now.first (all_held facts.now held.now.cycles)) (not_at_entry facts.now)) < 2 ^ 30 }
+        + length (implied (numbered held.now.first (all_held facts.now held.now.cycles)) (not_at_entry facts.now))
+        < 2 ^ 30 }
     ensures { OnOk result (cnf.new ≡ with_clauses cnf.old
         (implied (numbered held.now.first (all_held facts.now held.now.cycles)) (not_at_entry facts.now))) }
 {
@@ -197,9 +200,11 @@ pub fn add_held_counters(
     requires held { AreHeldVars facts.now held.now.cycles held.now.classes.items held.now.starts.items }
     requires cycles { held.now.cycles ≤ 24 }
     requires exist { held.now.first + length (all_held facts.now held.now.cycles) ≤ cnf.old.vars }
-    requires vars { cnf.old.vars + counters_vars 1 (held_groups held.now.cycles (numbered held.now.first (all_held facts.now held.now.cycles))) < 2 ^ 29 }
+    requires vars { cnf.old.vars + counters_vars 1 (held_groups held.now.cycles
+        (numbered held.now.first (all_held facts.now held.now.cycles))) < 2 ^ 29 }
     requires room { length cnf.old.clauses
-        + counters_size 1 (held_groups held.now.cycles (numbered held.now.first (all_held facts.now held.now.cycles))) < 2 ^ 30 }
+        + counters_size 1 (held_groups held.now.cycles (numbered held.now.first (all_held facts.now held.now.cycles)))
+        < 2 ^ 30 }
     ensures { OnOk result (cnf.new ≡ with_counters cnf.old
         (held_groups held.now.cycles (numbered held.now.first (all_held facts.now held.now.cycles)))) }
 {

@@ -4,8 +4,8 @@ ghost use Rattle.std.specs.List.{filter};
 ghost use Rattle.cnf_core.specs.Formula.{Satisfies};
 ghost use Rattle.machine_table.specs.Tables.{IsTable, ev6};
 ghost use Rattle.machine_table.specs.declared.tables.Table.{Table as TableOf};
-ghost use Rattle.launch_graph.specs.WellFormed.{IsLaunchGraph};
-ghost use Rattle.launch_graph.specs.declared.graphs.LaunchGraph.{LaunchGraph as Graph};
+ghost use Rattle.graph_meaning.specs.WellFormed.{IsLaunchGraph};
+ghost use Rattle.graph_meaning.specs.declared.graphs.LaunchGraph.{LaunchGraph as Graph};
 ghost use Rattle.schedule_meaning.specs.Fits.{Fits};
 ghost use Rattle.schedule_meaning.specs.Worked.{sum_graph, two_slots, copy_graph};
 ghost use Rattle.schedule_meaning.specs.declared.schedules.Launch.{Launch as LaunchOf};
@@ -80,7 +80,8 @@ pub fn each_encoding_says_fits()
 
 /// The two counts of the whole formula, as they are found row by row.
 pub fn counts_are_found()
-    ensures vars { (g : Graph) (table : TableOf) (k : ℕ) (s : ScopeOf) → (whole_formula g table k (listed_in g table k s)).vars
+    ensures vars { (g : Graph) (table : TableOf) (k : ℕ) (s : ScopeOf)
+        → (whole_formula g table k (listed_in g table k s)).vars
         ≡ cycle_vars g table k s + memory_vars g table k s + guard_vars g table k s + pool_vars g table k s }
     ensures clauses { (g : Graph) (table : TableOf) (k : ℕ) (s : ScopeOf)
         → length (whole_formula g table k (listed_in g table k s)).clauses
@@ -92,16 +93,20 @@ pub fn counts_are_found()
 /// The counts of the formula with memory, and of the one with memory and a guard's branch too, as they are found row by
 /// row.
 pub fn parts_are_counted()
-    ensures memory_vars { (g : Graph) (table : TableOf) (k : ℕ) (s : ScopeOf) → (memory_formula g table k (listed_in g table k s)).vars
+    ensures memory_vars { (g : Graph) (table : TableOf) (k : ℕ) (s : ScopeOf)
+        → (memory_formula g table k (listed_in g table k s)).vars
         ≡ cycle_vars g table k s + memory_vars g table k s }
     ensures memory_clauses { (g : Graph) (table : TableOf) (k : ℕ) (s : ScopeOf)
-        → length (memory_formula g table k (listed_in g table k s)).clauses ≡ cycle_size g table k s + memory_size g table k s }
-    ensures guard_vars { (g : Graph) (table : TableOf) (k : ℕ) (s : ScopeOf) → (guard_formula g table k (listed_in g table k s)).vars
+        → length (memory_formula g table k (listed_in g table k s)).clauses
+        ≡ cycle_size g table k s + memory_size g table k s }
+    ensures guard_vars { (g : Graph) (table : TableOf) (k : ℕ) (s : ScopeOf)
+        → (guard_formula g table k (listed_in g table k s)).vars
         ≡ cycle_vars g table k s + memory_vars g table k s + guard_vars g table k s }
     ensures guard_clauses { (g : Graph) (table : TableOf) (k : ℕ) (s : ScopeOf)
         → length (guard_formula g table k (listed_in g table k s)).clauses
         ≡ cycle_size g table k s + memory_size g table k s + guard_size g table k s }
-    ensures whole_vars { (g : Graph) (table : TableOf) (k : ℕ) (s : ScopeOf) → (whole_formula g table k (listed_in g table k s)).vars
+    ensures whole_vars { (g : Graph) (table : TableOf) (k : ℕ) (s : ScopeOf)
+        → (whole_formula g table k (listed_in g table k s)).vars
         ≡ cycle_vars g table k s + memory_vars g table k s + guard_vars g table k s + pool_vars g table k s }
     ensures whole_clauses { (g : Graph) (table : TableOf) (k : ℕ) (s : ScopeOf)
         → length (whole_formula g table k (listed_in g table k s)).clauses

@@ -1,7 +1,7 @@
 //! The clauses of a schedule: memory in order, a guard's branch, registers; and the whole formula, which can be
 //! satisfied exactly where a schedule fits.
 //!
-//! `count_clauses` counts the whole formula, and builds none of it; `full` gives it at once; `add_memory`, `add_guard`
+//! `count_in` counts the whole formula, and builds none of it; `full` and `full_in` give it at once; `add_memory`, `add_guard`
 //! and `add_pool` add its parts one after another to the formula of cycles, slots and values.
 #![tactic(auto)]
 
@@ -23,4 +23,4 @@ pub use laws::{
 };
 pub use memory::add_memory;
 pub use pool::add_pool;
-pub use whole::{count_clauses, full, full_as};
+pub use whole::{count_in, full, full_as, full_in};

@@ -2,12 +2,13 @@
 ghost use Rattle.std.specs.Prelude.{◌≡◌, ◌+◌, ◌<◌, ◌≤◌, ◌==◌, ◌^◌, ◌++◌, length, map, IfOk, IfErr, OnOk};
 ghost use Rattle.std.specs.List.{filter, range_with_len};
 ghost use Rattle.cnf_core.specs.Formula.{IsLitOf};
-ghost use Rattle.launch_graph.specs.WellFormed.{IsLaunchGraph};
+ghost use Rattle.graph_meaning.specs.WellFormed.{IsLaunchGraph};
 ghost use Rattle.machine_table.specs.Tables.{IsTable};
 ghost use Rattle.schedule_meaning.specs.Launches as specs;
-ghost use Rattle.cycle_encoding.specs.CycleFormula.{cycle_formula, wide};
+ghost use Rattle.cycle_encoding.specs.CycleFormula.{cycle_formula, listed_in};
+ghost use Rattle.cycle_encoding.specs.Encodings.{OnLists};
 ghost use Rattle.cycle_encoding.specs.Faults.{EncodeFaultIs};
-ghost use Rattle.cycle_encoding.specs.Plans.{IsTooLarge, plan_of};
+ghost use Rattle.cycle_encoding.specs.Plans.{IsTooLarge};
 ghost use Rattle.cycle_encoding.specs.Shapes.{negative, positive, implied, numbered, counters_vars, counters_size};
 ghost use Rattle.cycle_encoding.specs.Steps.{of_thing, with_clauses, with_counters};
 ghost use Rattle.order_encoding.specs.OrderVariables.{all_held};
@@ -23,9 +24,11 @@ use crate::held::{
 use crate::kinds::{is_load, is_store, push_var_if, stores};
 use crate::laws::parts_are_counted;
 use cnf_core::{Cnf, Lit, at_most_one, counters_count};
-use cycle_encoding::{EncodeFault, Encoded, Facts, Scope, add_implied, add_vars};
+use cycle_encoding::{
+    EncodeFault, Encoded, Facts, Scope, add_implied, add_vars, each_encoding_has_one_list,
+};
+use graph_meaning::LaunchGraph;
 use items::NoMemory;
-use launch_graph::LaunchGraph;
 use machine_table::Table;
 use schedule_meaning::{Launch, class_at, memory_class_at};
 use std::alloc::Global;
@@ -45,9 +48,11 @@ fn add_uses(
     requires cycles { stores + held.now.cycles ≤ cnf.old.vars }
     requires few { cnf.old.vars < 2 ^ 29 }
     requires room { length cnf.old.clauses + length (memory_clauses facts.now (numbered 0 launches.now)
-        (numbered held.now.first (all_held facts.now held.now.cycles)) (numbered stores (range_with_len 0 held.now.cycles))) < 2 ^ 30 }
+        (numbered held.now.first (all_held facts.now held.now.cycles))
+        (numbered stores (range_with_len 0 held.now.cycles))) < 2 ^ 30 }
     ensures { OnOk result (cnf.new ≡ with_clauses cnf.old (memory_clauses facts.now (numbered 0 launches.now)
-        (numbered held.now.first (all_held facts.now held.now.cycles)) (numbered stores (range_with_len 0 held.now.cycles)))) }
+        (numbered held.now.first (all_held facts.now held.now.cycles))
+        (numbered stores (range_with_len 0 held.now.cycles)))) }
 {
     for (index, launch) in launches.iter().enumerate() {
         add_use(cnf, facts, held, stores, index as u32 + 1, *launch)?;
@@ -70,11 +75,14 @@ fn add_use(
     requires exist { held.now.first + length (all_held facts.now held.now.cycles) ≤ stores }
     requires cycles { stores + held.now.cycles ≤ cnf.old.vars }
     requires few { cnf.old.vars < 2 ^ 29 }
-    requires room { length cnf.old.clauses + length (reads facts.now (numbered held.now.first (all_held facts.now held.now.cycles)) launch
-        ++ leaves facts.now (numbered held.now.first (all_held facts.now held.now.cycles)) (numbered stores (range_with_len 0 held.now.cycles)) launch) < 2 ^ 30 }
+    requires room { length cnf.old.clauses + length (reads facts.now
+        (numbered held.now.first (all_held facts.now held.now.cycles)) launch
+        ++ leaves facts.now (numbered held.now.first (all_held facts.now held.now.cycles))
+        (numbered stores (range_with_len 0 held.now.cycles)) launch) < 2 ^ 30 }
     ensures { OnOk result (cnf.new ≡ with_clauses cnf.old (of_thing var
         (reads facts.now (numbered held.now.first (all_held facts.now held.now.cycles)) launch
-        ++ leaves facts.now (numbered held.now.first (all_held facts.now held.now.cycles)) (numbered stores (range_with_len 0 held.now.cycles)) launch))) }
+        ++ leaves facts.now (numbered held.now.first (all_held facts.now held.now.cycles))
+        (numbered stores (range_with_len 0 held.now.cycles)) launch))) }
 {
     add_read(cnf, facts, held, var, launch)?;
     add_left(cnf, facts, held, stores, var, launch)
@@ -121,10 +129,12 @@ fn add_left(
     requires exist { held.now.first + length (all_held facts.now held.now.cycles) ≤ stores }
     requires cycles { stores + held.now.cycles ≤ cnf.old.vars }
     requires few { cnf.old.vars < 2 ^ 29 }
-    requires room { length cnf.old.clauses + length (leaves facts.now (numbered held.now.first (all_held facts.now held.now.cycles))
+    requires room { length cnf.old.clauses + length (leaves facts.now
+        (numbered held.now.first (all_held facts.now held.now.cycles))
         (numbered stores (range_with_len 0 held.now.cycles)) launch) < 2 ^ 30 }
     ensures { OnOk result (cnf.new ≡ with_clauses cnf.old (of_thing var
-        (leaves facts.now (numbered held.now.first (all_held facts.now held.now.cycles)) (numbered stores (range_with_len 0 held.now.cycles)) launch))) }
+        (leaves facts.now (numbered held.now.first (all_held facts.now held.now.cycles))
+        (numbered stores (range_with_len 0 held.now.cycles)) launch))) }
 {
     if !is_store(facts, launch.row) {
         return Ok(());
@@ -151,9 +161,12 @@ fn add_kept(
     requires cycles { stores + held.now.cycles ≤ cnf.old.vars }
     requires few { cnf.old.vars < 2 ^ 29 }
     requires room { length cnf.old.clauses + length (kept_clauses facts.now held.now.cycles (numbered 0 launches.now)
-        (numbered held.now.first (all_held facts.now held.now.cycles)) (numbered stores (range_with_len 0 held.now.cycles))) < 2 ^ 30 }
-    ensures { OnOk result (cnf.new ≡ with_clauses cnf.old (kept_clauses facts.now held.now.cycles (numbered 0 launches.now)
-        (numbered held.now.first (all_held facts.now held.now.cycles)) (numbered stores (range_with_len 0 held.now.cycles)))) }
+        (numbered held.now.first (all_held facts.now held.now.cycles))
+        (numbered stores (range_with_len 0 held.now.cycles))) < 2 ^ 30 }
+    ensures { OnOk result (cnf.new ≡ with_clauses cnf.old
+        (kept_clauses facts.now held.now.cycles (numbered 0 launches.now)
+        (numbered held.now.first (all_held facts.now held.now.cycles))
+        (numbered stores (range_with_len 0 held.now.cycles)))) }
 {
     for cycle in 0..held.cycles {
         add_stored(alloc, cnf, facts, launches, found, held, stores, cycle)?;
@@ -180,7 +193,8 @@ fn add_stored(
     requires cycle { cycle < held.now.cycles }
     requires room { length cnf.old.clauses < 2 ^ 30 }
     ensures { OnOk result (cnf.new ≡ with_clauses cnf.old
-        (implied (numbered stores (range_with_len 0 held.now.cycles)) (stored facts.now (numbered 0 launches.now) cycle))) }
+        (implied (numbered stores (range_with_len 0 held.now.cycles))
+        (stored facts.now (numbered 0 launches.now) cycle))) }
 {
     let mut clause = Vec::new(alloc);
     clause.push(Lit {
@@ -215,10 +229,14 @@ fn add_stays(
     requires cycles { stores + held.now.cycles ≤ cnf.old.vars }
     requires few { cnf.old.vars < 2 ^ 29 }
     requires cycle { cycle < held.now.cycles }
-    requires room { length cnf.old.clauses + length (implied (numbered held.now.first (all_held facts.now held.now.cycles))
-        (stays (numbered held.now.first (all_held facts.now held.now.cycles)) (numbered stores (range_with_len 0 held.now.cycles)) cycle)) < 2 ^ 30 }
-    ensures { OnOk result (cnf.new ≡ with_clauses cnf.old (implied (numbered held.now.first (all_held facts.now held.now.cycles))
-        (stays (numbered held.now.first (all_held facts.now held.now.cycles)) (numbered stores (range_with_len 0 held.now.cycles)) cycle))) }
+    requires room { length cnf.old.clauses + length (implied
+        (numbered held.now.first (all_held facts.now held.now.cycles))
+        (stays (numbered held.now.first (all_held facts.now held.now.cycles))
+        (numbered stores (range_with_len 0 held.now.cycles)) cycle)) < 2 ^ 30 }
+    ensures { OnOk result (cnf.new ≡ with_clauses cnf.old
+        (implied (numbered held.now.first (all_held facts.now held.now.cycles))
+        (stays (numbered held.now.first (all_held facts.now held.now.cycles))
+        (numbered stores (range_with_len 0 held.now.cycles)) cycle))) }
 {
     let mut var = held.first + cycle + 1;
     for class in held.classes.as_slice() {
@@ -247,7 +265,8 @@ fn add_stay(
     requires cycle { cycle < held.now.cycles }
     requires room { length cnf.old.clauses < 2 ^ 30 }
     ensures { OnOk result (cnf.new ≡ with_clauses cnf.old (of_thing var
-        (stays (numbered held.now.first (all_held facts.now held.now.cycles)) (numbered stores (range_with_len 0 held.now.cycles)) cycle (held_at class cycle)))) }
+        (stays (numbered held.now.first (all_held facts.now held.now.cycles))
+        (numbered stores (range_with_len 0 held.now.cycles)) cycle (held_at class cycle)))) }
 {
     let not = Lit {
         var,
@@ -275,7 +294,8 @@ fn add_store_counters(
     requires found { found.now ≡ launched_in facts.now specs.is_store launches.now }
     requires exist { length launches.now ≤ cnf.old.vars }
     requires vars { cnf.old.vars + counters_vars 1 (store_groups facts.now k (numbered 0 launches.now)) < 2 ^ 29 }
-    requires room { length cnf.old.clauses + counters_size 1 (store_groups facts.now k (numbered 0 launches.now)) < 2 ^ 30 }
+    requires room { length cnf.old.clauses + counters_size 1
+        (store_groups facts.now k (numbered 0 launches.now)) < 2 ^ 30 }
     ensures { OnOk result (cnf.new ≡ with_counters cnf.old (store_groups facts.now k (numbered 0 launches.now))) }
 {
     counters_count();
@@ -319,7 +339,10 @@ fn add_memory_vars(cnf: &mut Cnf, facts: &Facts, held: &HeldVars) -> u32
     requires held { AreHeldVars facts.now held.now.cycles held.now.classes.items held.now.starts.items }
     requires few { cnf.old.vars + length (all_held facts.now held.now.cycles) + held.now.cycles < 2 ^ 29 }
     ensures value { result ≡ cnf.old.vars + length (all_held facts.now held.now.cycles) }
-    ensures vars { cnf.new ≡ record cnf.old { vars = cnf.old.vars + length (all_held facts.now held.now.cycles) + held.now.cycles } }
+    ensures vars { cnf.new ≡ record cnf.old {
+      vars = cnf.old.vars + length
+          (all_held facts.now held.now.cycles) + held.now.cycles;
+    } }
 {
     for _class in held.classes.as_slice() {
         add_vars(cnf, held.cycles + 1);
@@ -339,29 +362,57 @@ pub fn add_memory(
     requires cycles { encoded.plan.cycles ≤ 24 }
     requires table { IsTable table.now }
     requires graph { IsLaunchGraph graph.now }
-    requires formula { encoded.cnf ≡ cycle_formula graph.now table.now encoded.plan.cycles (wide graph.now table.now encoded.plan.cycles) }
-    requires plan { encoded.plan ≡ plan_of graph.now table.now encoded.plan.cycles }
-    ensures formula { IfOk result (λ e. e.cnf
-        ≡ memory_formula graph.now table.now encoded.plan.cycles (wide graph.now table.now encoded.plan.cycles)) }
+    requires formula { OnLists encoded.plan.encoding graph.now table.now encoded.plan.cycles
+        (λ l. encoded.cnf ≡ cycle_formula graph.now table.now encoded.plan.cycles l) }
+    requires plan { OnLists encoded.plan.encoding graph.now table.now encoded.plan.cycles
+        (λ l. encoded.plan.launches ≡ l.launches) }
+    ensures formula { IfOk result (λ e. OnLists encoded.plan.encoding graph.now table.now encoded.plan.cycles
+        (λ l. e.cnf ≡ memory_formula graph.now table.now encoded.plan.cycles l)) }
     ensures plan { IfOk result (λ e. e.plan ≡ encoded.plan) }
-    ensures size { IfErr result (EncodeFaultIs
-        (memory_formula graph.now table.now encoded.plan.cycles (wide graph.now table.now encoded.plan.cycles))) }
-    ensures within { OnOk result (¬ IsTooLarge
-        (memory_formula graph.now table.now encoded.plan.cycles (wide graph.now table.now encoded.plan.cycles))) }
+    ensures size { IfErr result (λ fault. OnLists encoded.plan.encoding graph.now table.now encoded.plan.cycles
+        (λ l. EncodeFaultIs (memory_formula graph.now table.now encoded.plan.cycles l) fault)) }
+    ensures within { OnOk result (OnLists encoded.plan.encoding graph.now table.now encoded.plan.cycles
+        (λ l. ¬ IsTooLarge (memory_formula graph.now table.now encoded.plan.cycles l))) }
+{
+    each_encoding_has_one_list();
+    let facts = Facts::new(alloc, graph)?;
+    let scope = Scope::of(alloc, encoded.plan.encoding(), &facts, table)?;
+    add_memory_in(alloc, encoded, &facts, table, &scope)
+}
+
+/// The same over what a scope gives variables.
+fn add_memory_in(
+    alloc: Global,
+    encoded: Encoded,
+    facts: &Facts,
+    table: &Table,
+    scope: &Scope,
+) -> Result<Encoded, EncodeFault>
+    requires cycles { encoded.plan.cycles ≤ 24 }
+    requires table { IsTable table.now }
+    requires graph { IsLaunchGraph facts.now }
+    requires formula { encoded.cnf ≡ cycle_formula facts.now table.now encoded.plan.cycles
+        (listed_in facts.now table.now encoded.plan.cycles scope.now) }
+    requires launches { encoded.plan.launches ≡ (listed_in facts.now table.now encoded.plan.cycles scope.now).launches }
+    ensures formula { IfOk result (λ e. e.cnf ≡ memory_formula facts.now table.now encoded.plan.cycles
+        (listed_in facts.now table.now encoded.plan.cycles scope.now)) }
+    ensures plan { IfOk result (λ e. e.plan ≡ encoded.plan) }
+    ensures size { IfErr result (EncodeFaultIs (memory_formula facts.now table.now encoded.plan.cycles
+        (listed_in facts.now table.now encoded.plan.cycles scope.now))) }
+    ensures within { OnOk result (¬ IsTooLarge (memory_formula facts.now table.now encoded.plan.cycles
+        (listed_in facts.now table.now encoded.plan.cycles scope.now))) }
 {
     parts_are_counted();
     counters_count();
-    let facts = Facts::new(alloc, graph)?;
     let mut cnf = encoded.cnf;
     let plan = encoded.plan;
-    let scope = Scope::wide(alloc);
-    let sizes = grown(&cnf, memory_sizes(&facts, table, &scope, plan.cycles()));
+    let sizes = grown(&cnf, memory_sizes(facts, table, scope, plan.cycles()));
     if pass_limit(sizes) {
         return Err(EncodeFault::Size {
             vars: sizes.vars,
             clauses: sizes.clauses,
         });
     }
-    extend_by_memory(alloc, &mut cnf, &facts, plan.launches(), plan.cycles())?;
+    extend_by_memory(alloc, &mut cnf, facts, plan.launches(), plan.cycles())?;
     Ok(Encoded { cnf, plan })
 }

@@ -1,11 +1,12 @@
 // Registers: launches that give words take no more registers than the pool has.
 ghost use Rattle.std.specs.Prelude.{◌≡◌, ◌+◌, ◌<◌, ◌≤◌, ◌^◌, List, length, IfOk, IfErr, OnOk};
-ghost use Rattle.launch_graph.specs.WellFormed.{IsLaunchGraph};
+ghost use Rattle.graph_meaning.specs.WellFormed.{IsLaunchGraph};
 ghost use Rattle.machine_table.specs.Tables.{IsTable};
-ghost use Rattle.cycle_encoding.specs.CycleFormula.{wide};
+ghost use Rattle.cycle_encoding.specs.CycleFormula.{listed_in};
 ghost use Rattle.cycle_encoding.specs.Families.{any};
+ghost use Rattle.cycle_encoding.specs.Encodings.{OnLists};
 ghost use Rattle.cycle_encoding.specs.Faults.{EncodeFaultIs};
-ghost use Rattle.cycle_encoding.specs.Plans.{IsTooLarge, plan_of};
+ghost use Rattle.cycle_encoding.specs.Plans.{IsTooLarge};
 ghost use Rattle.cycle_encoding.specs.Shapes.{implied, numbered, vars_of};
 ghost use Rattle.cycle_encoding.specs.Steps.{listed, of_thing, with_clauses};
 ghost use Rattle.order_encoding.specs.OrderVariables.{all_taken, Taken};
@@ -16,9 +17,11 @@ ghost use Rattle.order_encoding.specs.WholeFormula.{guard_formula, whole_formula
 use crate::counts::{grown, pass_limit, pool_sizes, registers};
 use crate::laws::parts_are_counted;
 use cnf_core::{Cnf, Lit, at_most, counters_count};
-use cycle_encoding::{EncodeFault, Encoded, Facts, Scope, add_implied, add_vars};
+use cycle_encoding::{
+    EncodeFault, Encoded, Facts, Scope, add_implied, add_vars, each_encoding_has_one_list,
+};
+use graph_meaning::LaunchGraph;
 use items::NoMemory;
-use launch_graph::LaunchGraph;
 use machine_table::Table;
 use schedule_meaning::Launch;
 use std::alloc::Global;
@@ -53,7 +56,8 @@ fn add_takes(
     requires exist { first + length (all_taken table.now k) ≤ cnf.old.vars }
     requires few { cnf.old.vars < 2 ^ 29 }
     requires room { length cnf.old.clauses
-        + length (register_clauses facts.now (numbered 0 launches.now) (numbered first (all_taken table.now k))) < 2 ^ 30 }
+        + length (register_clauses facts.now (numbered 0 launches.now) (numbered first (all_taken table.now k)))
+        < 2 ^ 30 }
     ensures { OnOk result (cnf.new ≡ with_clauses cnf.old
         (register_clauses facts.now (numbered 0 launches.now) (numbered first (all_taken table.now k)))) }
 {
@@ -77,7 +81,8 @@ fn add_take(
     requires launches { var ≤ first }
     requires exist { first + length (all_taken table.now k) ≤ cnf.old.vars }
     requires few { cnf.old.vars < 2 ^ 29 }
-    requires room { length cnf.old.clauses + length (takes facts.now (numbered first (all_taken table.now k)) launch) < 2 ^ 30 }
+    requires room { length cnf.old.clauses + length (takes facts.now (numbered first (all_taken table.now k)) launch)
+        < 2 ^ 30 }
     ensures { OnOk result (cnf.new ≡ with_clauses cnf.old
         (of_thing var (takes facts.now (numbered first (all_taken table.now k)) launch))) }
 {
@@ -95,7 +100,8 @@ fn add_take(
 /// So many variables, one after another; `first` is the one before them.
 fn following(alloc: Global, first: u32, count: u32) -> Result<Vec<Lit>, NoMemory>
     requires few { first + count < 2 ^ 29 }
-    ensures { IfOk result (λ lits. (xs : List Taken) → length xs ≡ count → lits.items ≡ vars_of any (numbered first xs)) }
+    ensures { IfOk result (λ lits. (xs : List Taken) → length xs ≡ count
+        → lits.items ≡ vars_of any (numbered first xs)) }
 {
     let mut lits = Vec::new(alloc);
     for place in 0..count {
@@ -120,7 +126,8 @@ pub fn extend_by_pool(
     requires table { IsTable table.now }
     requires exist { length launches.now ≤ cnf.old.vars }
     requires vars { (formula_with_pool facts.now k (numbered 0 launches.now) cnf.old table.now).vars ≤ 262144 }
-    requires clauses { length (formula_with_pool facts.now k (numbered 0 launches.now) cnf.old table.now).clauses ≤ 2000000 }
+    requires clauses { length (formula_with_pool facts.now k (numbered 0 launches.now) cnf.old table.now).clauses
+        ≤ 2000000 }
     ensures { OnOk result (cnf.new ≡ formula_with_pool facts.now k (numbered 0 launches.now) cnf.old table.now) }
 {
     counters_count();
@@ -143,23 +150,51 @@ pub fn add_pool(
     requires cycles { encoded.plan.cycles ≤ 24 }
     requires table { IsTable table.now }
     requires graph { IsLaunchGraph graph.now }
-    requires formula { encoded.cnf ≡ guard_formula graph.now table.now encoded.plan.cycles (wide graph.now table.now encoded.plan.cycles) }
-    requires plan { encoded.plan ≡ plan_of graph.now table.now encoded.plan.cycles }
-    ensures formula { IfOk result (λ e. e.cnf
-        ≡ whole_formula graph.now table.now encoded.plan.cycles (wide graph.now table.now encoded.plan.cycles)) }
+    requires formula { OnLists encoded.plan.encoding graph.now table.now encoded.plan.cycles
+        (λ l. encoded.cnf ≡ guard_formula graph.now table.now encoded.plan.cycles l) }
+    requires plan { OnLists encoded.plan.encoding graph.now table.now encoded.plan.cycles
+        (λ l. encoded.plan.launches ≡ l.launches) }
+    ensures formula { IfOk result (λ e. OnLists encoded.plan.encoding graph.now table.now encoded.plan.cycles
+        (λ l. e.cnf ≡ whole_formula graph.now table.now encoded.plan.cycles l)) }
     ensures plan { IfOk result (λ e. e.plan ≡ encoded.plan) }
-    ensures size { IfErr result (EncodeFaultIs
-        (whole_formula graph.now table.now encoded.plan.cycles (wide graph.now table.now encoded.plan.cycles))) }
-    ensures within { OnOk result (¬ IsTooLarge
-        (whole_formula graph.now table.now encoded.plan.cycles (wide graph.now table.now encoded.plan.cycles))) }
+    ensures size { IfErr result (λ fault. OnLists encoded.plan.encoding graph.now table.now encoded.plan.cycles
+        (λ l. EncodeFaultIs (whole_formula graph.now table.now encoded.plan.cycles l) fault)) }
+    ensures within { OnOk result (OnLists encoded.plan.encoding graph.now table.now encoded.plan.cycles
+        (λ l. ¬ IsTooLarge (whole_formula graph.now table.now encoded.plan.cycles l))) }
+{
+    each_encoding_has_one_list();
+    let facts = Facts::new(alloc, graph)?;
+    let scope = Scope::of(alloc, encoded.plan.encoding(), &facts, table)?;
+    add_pool_in(alloc, encoded, &facts, table, &scope)
+}
+
+/// The same over what a scope gives variables.
+fn add_pool_in(
+    alloc: Global,
+    encoded: Encoded,
+    facts: &Facts,
+    table: &Table,
+    scope: &Scope,
+) -> Result<Encoded, EncodeFault>
+    requires cycles { encoded.plan.cycles ≤ 24 }
+    requires table { IsTable table.now }
+    requires graph { IsLaunchGraph facts.now }
+    requires formula { encoded.cnf ≡ guard_formula facts.now table.now encoded.plan.cycles
+        (listed_in facts.now table.now encoded.plan.cycles scope.now) }
+    requires launches { encoded.plan.launches ≡ (listed_in facts.now table.now encoded.plan.cycles scope.now).launches }
+    ensures formula { IfOk result (λ e. e.cnf ≡ whole_formula facts.now table.now encoded.plan.cycles
+        (listed_in facts.now table.now encoded.plan.cycles scope.now)) }
+    ensures plan { IfOk result (λ e. e.plan ≡ encoded.plan) }
+    ensures size { IfErr result (EncodeFaultIs (whole_formula facts.now table.now encoded.plan.cycles
+        (listed_in facts.now table.now encoded.plan.cycles scope.now))) }
+    ensures within { OnOk result (¬ IsTooLarge (whole_formula facts.now table.now encoded.plan.cycles
+        (listed_in facts.now table.now encoded.plan.cycles scope.now))) }
 {
     parts_are_counted();
     counters_count();
-    let facts = Facts::new(alloc, graph)?;
     let mut cnf = encoded.cnf;
     let plan = encoded.plan;
-    let scope = Scope::wide(alloc);
-    let sizes = grown(&cnf, pool_sizes(&facts, table, &scope, plan.cycles()));
+    let sizes = grown(&cnf, pool_sizes(facts, table, scope, plan.cycles()));
     if pass_limit(sizes) {
         return Err(EncodeFault::Size {
             vars: sizes.vars,
@@ -169,7 +204,7 @@ pub fn add_pool(
     extend_by_pool(
         alloc,
         &mut cnf,
-        &facts,
+        facts,
         table,
         plan.launches(),
         plan.cycles(),

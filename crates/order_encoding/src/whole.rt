@@ -1,17 +1,16 @@
 // The whole formula of a schedule.
 ghost use Rattle.std.specs.Prelude.{◌≡◌, ◌↔◌, ◌≤◌, ◌<◌, ◌^◌, ℕ, Bool, List, Contains, length, IfOk, IfErr, OnOk};
 ghost use Rattle.cnf_core.specs.Formula.{Satisfies};
-ghost use Rattle.launch_graph.specs.WellFormed.{IsLaunchGraph};
+ghost use Rattle.graph_meaning.specs.WellFormed.{IsLaunchGraph};
 ghost use Rattle.machine_table.specs.Tables.{IsTable};
 ghost use Rattle.schedule_meaning.specs.Fits.{Fits};
 ghost use Rattle.schedule_meaning.specs.declared.schedules.Launch.{Launch as LaunchOf};
-ghost use Rattle.cycle_encoding.specs.CycleFormula.{first_cycle_in, listed_in, wide, Listed as ListedOf};
+ghost use Rattle.cycle_encoding.specs.CycleFormula.{listed_in, wide, Listed as ListedOf};
 ghost use Rattle.cycle_encoding.specs.Encodings.{AreListed};
-ghost use Rattle.cycle_encoding.specs.Variables.{launches_from};
 ghost use Rattle.cycle_encoding.specs.Faults.{EncodeFaultIs};
 ghost use Rattle.cycle_encoding.specs.Plans.{IsTooLarge, plan_of};
 ghost use Rattle.cycle_encoding.specs.Shapes.{numbered, shown};
-ghost use Rattle.order_encoding.specs.WholeFormula.{whole_formula};
+ghost use Rattle.order_encoding.specs.WholeFormula.{formula_in, whole_formula};
 
 use crate::counts::{both, guard_sizes, memory_sizes, pass_limit, pool_sizes};
 use crate::guard::extend_by_guard;
@@ -22,25 +21,26 @@ use cycle_encoding::{
     EncodeFault, Encoded, Encoding, Facts, Scope, Sizes, build_cycles, cycle_sizes,
     each_encoding_has_one_list,
 };
+use graph_meaning::LaunchGraph;
 use items::NoMemory;
-use launch_graph::LaunchGraph;
 use machine_table::Table;
 use std::alloc::Global;
 
-/// The counts of the whole formula, by numbers alone.
-fn whole_sizes(
+/// The two counts of the whole formula over what a scope gives variables; no clause is built. It goes over the graph's
+/// rows a few times for each cycle.
+pub fn count_in(
     alloc: Global,
     facts: &Facts,
     table: &Table,
     scope: &Scope,
     k: u32,
 ) -> Result<Sizes, NoMemory>
-    requires graph { IsLaunchGraph facts.now }
-    requires table { IsTable table.now }
     requires cycles { k ≤ 24 }
-    ensures vars { IfOk result (λ sizes. sizes.vars ≡ (whole_formula facts.now table.now k (listed_in facts.now table.now k scope.now)).vars) }
+    requires table { IsTable table.now }
+    requires graph { IsLaunchGraph facts.now }
+    ensures vars { IfOk result (λ sizes. sizes.vars ≡ (formula_in scope.now facts.now table.now k).vars) }
     ensures clauses { IfOk result (λ sizes. sizes.clauses
-        ≡ length (whole_formula facts.now table.now k (listed_in facts.now table.now k scope.now)).clauses) }
+        ≡ length (formula_in scope.now facts.now table.now k).clauses) }
 {
     counts_are_found();
     let cycle = cycle_sizes(alloc, facts, table, scope, k)?;
@@ -49,24 +49,36 @@ fn whole_sizes(
     Ok(both(formula_with_guard, pool_sizes(facts, table, scope, k)))
 }
 
-/// The two counts of the whole formula, for which no clause is built. It goes over the graph's rows a few times for each
-/// cycle.
-pub fn count_clauses(
+/// The whole formula over what a scope gives variables. Facts and scope are made once for a graph and a table, and serve
+/// any number of cycles. The counts are found before any clause is built; where one passes its limit they are the answer.
+pub fn full_in(
     alloc: Global,
-    graph: &LaunchGraph,
+    facts: &Facts,
     table: &Table,
+    scope: &Scope,
     k: u32,
-) -> Result<Sizes, NoMemory>
+) -> Result<Encoded, EncodeFault>
     requires cycles { k ≤ 24 }
     requires table { IsTable table.now }
-    requires graph { IsLaunchGraph graph.now }
-    ensures vars { IfOk result (λ sizes. sizes.vars ≡ (whole_formula graph.now table.now k (wide graph.now table.now k)).vars) }
-    ensures clauses { IfOk result (λ sizes. sizes.clauses
-        ≡ length (whole_formula graph.now table.now k (wide graph.now table.now k)).clauses) }
+    requires graph { IsLaunchGraph facts.now }
+    ensures formula { IfOk result (λ e. e.cnf ≡ formula_in scope.now facts.now table.now k) }
+    ensures plan { IfOk result (λ e. e.plan ≡ record {
+      encoding = scope.now.encoding;
+      cycles = k;
+      launches = (listed_in facts.now table.now k scope.now).launches;
+    }) }
+    ensures size { IfErr result (EncodeFaultIs (formula_in scope.now facts.now table.now k)) }
+    ensures within { OnOk result (¬ IsTooLarge (formula_in scope.now facts.now table.now k)) }
+    ensures vars { IfOk result (λ e. length e.plan.launches ≤ e.cnf.vars) }
 {
-    let facts = Facts::new(alloc, graph)?;
-    let scope = Scope::wide(alloc);
-    whole_sizes(alloc, &facts, table, &scope, k)
+    let sizes = count_in(alloc, facts, table, scope, k)?;
+    if pass_limit(sizes) {
+        return Err(EncodeFault::Size {
+            vars: sizes.vars,
+            clauses: sizes.clauses,
+        });
+    }
+    Ok(build_whole(alloc, facts, table, scope, k)?)
 }
 
 /// The whole formula of schedules in k cycles: cycles, slots and values, memory, the branch of a guard, and registers.
@@ -113,7 +125,7 @@ pub fn full_as(
     ensures formula { IfOk result (λ e. (l : ListedOf) → AreListed encoding graph.now table.now k l
         → e.cnf ≡ whole_formula graph.now table.now k l) }
     ensures plan { IfOk result (λ e. (l : ListedOf) → AreListed encoding graph.now table.now k l
-        → e.plan ≡ record { cycles = k; launches = l.launches }) }
+        → e.plan ≡ record { encoding = encoding; cycles = k; launches = l.launches }) }
     ensures size { IfErr result (λ fault. (l : ListedOf) → AreListed encoding graph.now table.now k l
         → EncodeFaultIs (whole_formula graph.now table.now k l) fault) }
     ensures within { OnOk result ((l : ListedOf) → AreListed encoding graph.now table.now k l
@@ -133,14 +145,7 @@ pub fn full_as(
     each_encoding_says_fits();
     let facts = Facts::new(alloc, graph)?;
     let scope = Scope::of(alloc, encoding, &facts, table)?;
-    let sizes = whole_sizes(alloc, &facts, table, &scope, k)?;
-    if pass_limit(sizes) {
-        return Err(EncodeFault::Size {
-            vars: sizes.vars,
-            clauses: sizes.clauses,
-        });
-    }
-    Ok(build_whole(alloc, &facts, table, &scope, k)?)
+    full_in(alloc, &facts, table, &scope, k)
 }
 
 /// Builds the whole formula of a scope, whose counts are within the limits.
@@ -154,9 +159,13 @@ fn build_whole(
     requires cycles { k ≤ 24 }
     requires table { IsTable table.now }
     requires graph { IsLaunchGraph facts.now }
-    requires within { ¬ IsTooLarge (whole_formula facts.now table.now k (listed_in facts.now table.now k scope.now)) }
-    ensures formula { IfOk result (λ e. e.cnf ≡ whole_formula facts.now table.now k (listed_in facts.now table.now k scope.now)) }
-    ensures plan { IfOk result (λ e. e.plan ≡ record { cycles = k; launches = launches_from facts.now table.now k (first_cycle_in scope.now) }) }
+    requires within { ¬ IsTooLarge (formula_in scope.now facts.now table.now k) }
+    ensures formula { IfOk result (λ e. e.cnf ≡ formula_in scope.now facts.now table.now k) }
+    ensures plan { IfOk result (λ e. e.plan ≡ record {
+      encoding = scope.now.encoding;
+      cycles = k;
+      launches = (listed_in facts.now table.now k scope.now).launches;
+    }) }
 {
     let encoded = build_cycles(alloc, facts, table, scope, k)?;
     let mut cnf = encoded.cnf;

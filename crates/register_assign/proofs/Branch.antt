@@ -12,9 +12,9 @@ use Rattle.schedule_meaning.specs.Launches.{launches, gives_word, is_store, is_b
 use Rattle.register_assign.specs.Listings.{register_for, instr_of, row_instr, branch_class, reg}
 use Rattle.register_assign.specs.Outcomes.{IsExit}
 use Rattle.alpha_encode.specs.declared.instructions.Instr.TheVariants as instrs
-use Rattle.launch_graph.specs.declared.graphs.Guard.{Guard}
-use Rattle.launch_graph.specs.declared.graphs.LaunchRow.{LaunchRow}
-use Rattle.launch_graph.specs.declared.graphs.LaunchGraph.{LaunchGraph}
+use Rattle.graph_meaning.specs.declared.graphs.Guard.{Guard}
+use Rattle.graph_meaning.specs.declared.graphs.LaunchRow.{LaunchRow}
+use Rattle.graph_meaning.specs.declared.graphs.LaunchGraph.{LaunchGraph}
 use Rattle.machine_table.specs.declared.tables.Table.{Table}
 use Rattle.machine_table.specs.declared.tables.InstrKind.{InstrKind}
 use Rattle.machine_table.specs.declared.tables.InstrKind.TheVariants as kinds

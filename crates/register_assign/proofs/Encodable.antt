@@ -19,16 +19,16 @@ use Rattle.alpha_encode.specs.declared.instructions.Second.TheVariants.{Reg, Lit
 use Rattle.alpha_encode.specs.declared.instructions.Instr.TheVariants as instrs
 use Rattle.machine_table.specs.InstrOrder.{operate_kind}
 use Rattle.machine_table.specs.Tables.{MayUse, cluster_of}
-use Rattle.launch_graph.specs.Graphs.{constant_of, is_zero_class}
-use Rattle.launch_graph.specs.WellFormed.{IsLaunchGraph}
+use Rattle.graph_meaning.specs.Graphs.{constant_of, is_zero_class}
+use Rattle.graph_meaning.specs.WellFormed.{IsLaunchGraph}
 use Rattle.schedule_meaning.specs.Launches.{launches, gives_word, instr_at, op_instr, word_op_instr as launch_instr, ready_in}
 use Rattle.schedule_meaning.specs.Fits.{CanLaunch}
 use Rattle.register_assign.specs.Listings.{register_at, register_by, register_for, or_register, literal_or, second_for, displacement_of, operate_instr, word_instr, row_instr, instr_of, branch_class, reg}
-use Rattle.launch_graph.specs.Graphs.{input_register}
+use Rattle.graph_meaning.specs.Graphs.{input_register}
 use Rattle.schedule_meaning.specs.Launches.{gives}
-use Rattle.launch_graph.specs.declared.graphs.LaunchRow.{LaunchRow}
-use Rattle.launch_graph.specs.declared.graphs.InputClass.{InputClass}
-use Rattle.launch_graph.specs.declared.graphs.LaunchGraph.{LaunchGraph}
+use Rattle.graph_meaning.specs.declared.graphs.LaunchRow.{LaunchRow}
+use Rattle.graph_meaning.specs.declared.graphs.InputClass.{InputClass}
+use Rattle.graph_meaning.specs.declared.graphs.LaunchGraph.{LaunchGraph}
 use Rattle.machine_table.specs.declared.tables.Table.{Table}
 use Rattle.machine_table.specs.declared.tables.InstrKind.{InstrKind}
 use Rattle.machine_table.specs.declared.tables.InstrKind.TheVariants as kinds

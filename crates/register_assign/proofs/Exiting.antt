@@ -16,16 +16,16 @@ use Rattle.alpha_encode.specs.declared.instructions.Instr.{Instr}
 use Rattle.alpha_machine.specs.States.{MachineState}
 use Rattle.alpha_machine.specs.Steps.{step, address, next_pc}
 use Rattle.alpha_machine.specs.Runs.{stepped, after}
-use Rattle.launch_graph.specs.Graphs.{constant_of}
+use Rattle.graph_meaning.specs.Graphs.{constant_of}
 use Rattle.schedule_meaning.specs.Launches.{launches, is_store, is_load, is_branch, is_held, op_instr, word_op_instr, class_at, latest, later, group_of}
 use Rattle.schedule_meaning.specs.Fits.{Waits}
 use Rattle.register_assign.specs.Listings.{items_of, instr_of}
 use Rattle.register_assign.specs.Obeys.{loads}
 use Rattle.register_assign.specs.Outcomes.{entry_state, instrs_of, AreWordsOf, IsExit, Exits}
 use Rattle.alpha_machine.specs.Runs.{trace, stepped_first}
-use Rattle.launch_graph.specs.declared.graphs.Guard.{Guard}
-use Rattle.launch_graph.specs.declared.graphs.LaunchRow.{LaunchRow}
-use Rattle.launch_graph.specs.declared.graphs.LaunchGraph.{LaunchGraph}
+use Rattle.graph_meaning.specs.declared.graphs.Guard.{Guard}
+use Rattle.graph_meaning.specs.declared.graphs.LaunchRow.{LaunchRow}
+use Rattle.graph_meaning.specs.declared.graphs.LaunchGraph.{LaunchGraph}
 use Rattle.machine_table.specs.declared.tables.Table.{Table}
 use Rattle.machine_table.specs.declared.tables.InstrKind.{InstrKind}
 use Rattle.machine_table.specs.declared.tables.InstrKind.TheVariants as kinds

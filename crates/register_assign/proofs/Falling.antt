@@ -6,7 +6,7 @@ use Rattle.std.proofs.lemmas.Bool.{false≢true}
 use Rattle.std.proofs.lemmas.List.{take_all}
 use Rattle.std.proofs.lemmas.List.Elements.{All-head, All-tail}
 use Rattle.word_ops.specs.Worlds.{World, Value, word}
-use Rattle.launch_graph.specs.Graphs.{is_memory_name, memory_target}
+use Rattle.graph_meaning.specs.Graphs.{is_memory_name, memory_target}
 use Rattle.schedule_meaning.specs.Launches.{IsZero, IsClassOfInput, Gives, memory_after}
 use Rattle.schedule_meaning.specs.Fits.{IsReached as IsFound}
 use Rattle.alpha_machine.specs.States.{MachineState}
@@ -16,9 +16,9 @@ use Rattle.register_assign.specs.Listings.{items_from, items_of, wheres_of, targ
 use Rattle.register_assign.specs.Outcomes.{entry_state, instrs_of, AreWordsOf, IsExit, Falls}
 use Rattle.alpha_encode.specs.Decoded.{decoded}
 use Rattle.register_assign.specs.declared.listings.Item.{Item}
-use Rattle.launch_graph.specs.declared.graphs.SetClass.{SetClass}
+use Rattle.graph_meaning.specs.declared.graphs.SetClass.{SetClass}
 use Rattle.register_assign.specs.declared.listings.Where.{Where}
-use Rattle.launch_graph.specs.declared.graphs.LaunchGraph.{LaunchGraph}
+use Rattle.graph_meaning.specs.declared.graphs.LaunchGraph.{LaunchGraph}
 use Rattle.machine_table.specs.declared.tables.Table.{Table}
 use Rattle.schedule_meaning.specs.declared.schedules.Launch.{Launch}
 use Rattle.schedule_meaning.proofs.Memory as mem

@@ -9,14 +9,14 @@ use Rattle.machine_table.specs.Tables.{MayUse, latency_of, ready, cluster_of, Is
 use Rattle.schedule_meaning.specs.Launches.{instr_at, launches, gives_word, is_store, ready_in, StandsBefore}
 use Rattle.schedule_meaning.specs.Fits.{CanLaunch, Collide, EndsBy, Fits}
 use Rattle.register_assign.specs.Listings.{item_of, items_from, items_of, instr_of, register_at, register_for, or_register}
-use Rattle.launch_graph.specs.Graphs.{input_register, is_zero_class}
+use Rattle.graph_meaning.specs.Graphs.{input_register, is_zero_class}
 use Rattle.schedule_meaning.specs.Launches.{gives}
 use Rattle.register_assign.specs.Obeys.{kind_of, stores, reads, writes, latency_in, ready_from, HasOperands, Obeys}
 use Rattle.machine_table.specs.declared.tables.InstrKind.{InstrKind}
 use Rattle.machine_table.specs.declared.tables.InstrKind.TheVariants.{Beq}
-use Rattle.launch_graph.specs.declared.graphs.InputClass.{InputClass}
+use Rattle.graph_meaning.specs.declared.graphs.InputClass.{InputClass}
 use Rattle.register_assign.specs.declared.listings.Item.{Item}
-use Rattle.launch_graph.specs.declared.graphs.LaunchGraph.{LaunchGraph}
+use Rattle.graph_meaning.specs.declared.graphs.LaunchGraph.{LaunchGraph}
 use Rattle.machine_table.specs.declared.tables.Table.{Table}
 use Rattle.schedule_meaning.specs.declared.schedules.Launch.{Launch}
 use Rattle.schedule_meaning.proofs.Rules.{at_each, all_at, at_pair}

@@ -8,7 +8,7 @@ use Rattle.std.proofs.lemmas.Option.{same_Some, none-some}
 use Rattle.word_ops.specs.declared.operators.WordOp.{WordOp}
 use Rattle.word_ops.specs.declared.operators.WordOp.TheVariants.{Lda, Ldah}
 use Rattle.machine_table.specs.InstrOrder.{operate_kind}
-use Rattle.launch_graph.specs.Graphs.{constant_of}
+use Rattle.graph_meaning.specs.Graphs.{constant_of}
 use Rattle.machine_table.specs.Tables.{MayUse}
 use Rattle.schedule_meaning.specs.Launches.{instr_at, op_instr, word_op_instr as launch_instr, gives_word}
 use Rattle.register_assign.specs.Listings.{instr_of, row_instr, word_instr, operate_instr, reg, branch_class, register_for, register_at, literal_or}
@@ -23,9 +23,9 @@ use Rattle.machine_table.specs.declared.tables.InstrKind.{InstrKind}
 use Rattle.machine_table.specs.declared.tables.InstrKind.TheVariants as kinds
 use Rattle.word_ops.specs.declared.sorts.Op.{Op}
 use Rattle.word_ops.specs.declared.sorts.Op.TheVariants as op
-use Rattle.launch_graph.specs.declared.graphs.Guard.{Guard}
-use Rattle.launch_graph.specs.declared.graphs.LaunchRow.{LaunchRow}
-use Rattle.launch_graph.specs.declared.graphs.LaunchGraph.{LaunchGraph}
+use Rattle.graph_meaning.specs.declared.graphs.Guard.{Guard}
+use Rattle.graph_meaning.specs.declared.graphs.LaunchRow.{LaunchRow}
+use Rattle.graph_meaning.specs.declared.graphs.LaunchGraph.{LaunchGraph}
 use Rattle.machine_table.specs.declared.tables.Table.{Table}
 use Rattle.schedule_meaning.specs.declared.schedules.Launch.{Launch}
 use Rattle.schedule_meaning.proofs.Rules.{in_list}

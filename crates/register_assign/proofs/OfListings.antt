@@ -2,14 +2,14 @@
 use Rattle.std.proofs.Common.{◌≡◌, ℕ, ◌^◌, ◌<◌, ◌≤◌, List, length, sym, subst, arith}
 use Rattle.alpha_encode.specs.Formats.{IsWellFormed}
 use Rattle.machine_table.specs.Tables.{IsTable}
-use Rattle.launch_graph.specs.WellFormed.{IsLaunchGraph}
+use Rattle.graph_meaning.specs.WellFormed.{IsLaunchGraph}
 use Rattle.schedule_meaning.specs.Launches.{IsInWordOrder}
 use Rattle.schedule_meaning.specs.Fits.{Fits, CanLaunch}
 use Rattle.register_assign.specs.Listings.{IsListing, items_of, wheres_of}
 use Rattle.register_assign.specs.Obeys.{Obeys}
 use Rattle.register_assign.specs.Outcomes.{AreWordsOf, DoesAsGraphSays}
 use Rattle.register_assign.specs.Assigned.{IsTheListing, HaveWords, MayRun, KeepsWord}
-use Rattle.launch_graph.specs.declared.graphs.LaunchGraph.{LaunchGraph}
+use Rattle.graph_meaning.specs.declared.graphs.LaunchGraph.{LaunchGraph}
 use Rattle.register_assign.specs.declared.listings.Item.{Item}
 use Rattle.register_assign.specs.declared.listings.Where.{Where}
 use Rattle.machine_table.specs.declared.tables.Table.{Table}

@@ -5,7 +5,7 @@ use Rattle.std.proofs.lemmas.List.Sorted.{Contains-permutation, IsPermutation-sy
 use Rattle.schedule_meaning.specs.Launches.{StandsBefore, IsInWordOrder}
 use Rattle.schedule_meaning.specs.Fits.{Collide, Fits}
 use Rattle.register_assign.specs.Listings.{IsListing, items_of, wheres_of}
-use Rattle.launch_graph.specs.declared.graphs.LaunchGraph.{LaunchGraph}
+use Rattle.graph_meaning.specs.declared.graphs.LaunchGraph.{LaunchGraph}
 use Rattle.register_assign.specs.declared.listings.Item.{Item}
 use Rattle.register_assign.specs.declared.listings.Where.{Where}
 use Rattle.machine_table.specs.declared.tables.Table.{Table}

@@ -13,11 +13,11 @@ use Rattle.word_ops.specs.declared.sorts.Sort.TheVariants as sorts
 use Rattle.alpha_machine.specs.States.{MachineState}
 use Rattle.alpha_machine.specs.Steps.{second_value, address}
 use Rattle.machine_table.specs.Tables.{cluster_of}
-use Rattle.launch_graph.specs.Graphs.{constant_of}
+use Rattle.graph_meaning.specs.Graphs.{constant_of}
 use Rattle.schedule_meaning.specs.Launches.{IsZero, IsFree, IsReadable, Operand, plain}
 use Rattle.register_assign.specs.Listings.{register_for, literal_or, second_for, displacement_of}
 use Rattle.alpha_encode.specs.declared.instructions.Second.TheVariants.{Reg, Literal}
-use Rattle.launch_graph.specs.declared.graphs.LaunchGraph.{LaunchGraph}
+use Rattle.graph_meaning.specs.declared.graphs.LaunchGraph.{LaunchGraph}
 use Rattle.machine_table.specs.declared.tables.Table.{Table}
 use Rattle.machine_table.specs.declared.tables.InstrKind.{InstrKind}
 use Rattle.schedule_meaning.specs.declared.schedules.Launch.{Launch}

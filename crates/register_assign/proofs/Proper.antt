@@ -3,12 +3,12 @@ use Rattle.std.proofs.Common.{◌≡◌, ◌≢◌, ℕ, zero, suc, ◌+◌, ◌
 use Rattle.std.specs.Prelude.{All, AllPairs, Contains}
 use Rattle.std.proofs.lemmas.List.{get_or_append_left, get_or-append-add}
 use Rattle.machine_table.specs.Tables.{IsTable}
-use Rattle.launch_graph.specs.Graphs.{IsProper}
+use Rattle.graph_meaning.specs.Graphs.{IsProper}
 use Rattle.schedule_meaning.specs.Launches.{IsInWordOrder}
 use Rattle.schedule_meaning.specs.Fits.{Fits}
 use Rattle.register_assign.specs.Listings.{items_of}
 use Rattle.register_assign.specs.Obeys.{Obeys}
-use Rattle.launch_graph.specs.declared.graphs.LaunchGraph.{LaunchGraph}
+use Rattle.graph_meaning.specs.declared.graphs.LaunchGraph.{LaunchGraph}
 use Rattle.machine_table.specs.declared.tables.Table.{Table}
 use Rattle.schedule_meaning.specs.declared.schedules.Launch.{Launch}
 use Rattle.schedule_meaning.proofs.Ordered.{fits_permuted}

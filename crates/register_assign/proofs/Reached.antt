@@ -4,7 +4,7 @@ use Rattle.word_ops.specs.Worlds.{World, Value, word, memory}
 use Rattle.schedule_meaning.specs.Launches.{launches, gives_word, class_at, memory_after}
 use Rattle.alpha_machine.specs.States.{MachineState}
 use Rattle.register_assign.specs.Listings.{register_at}
-use Rattle.launch_graph.specs.declared.graphs.LaunchGraph.{LaunchGraph}
+use Rattle.graph_meaning.specs.declared.graphs.LaunchGraph.{LaunchGraph}
 use Rattle.schedule_meaning.specs.declared.schedules.Launch.{Launch}
 
 -- the entry state, with the words of the launches so far each in a register of its own, and the stores so far

@@ -9,26 +9,26 @@ use Rattle.std.proofs.lemmas.List.Elements.{All-head, All-tail, All-contains}
 use Rattle.std.proofs.lemmas.List.Quantifiers.{position-Some}
 use Rattle.std.proofs.lemmas.Option.{slice_get-get_or, same_Some, none-some}
 use Rattle.word_ops.specs.Worlds.{World, Value, word}
-use Rattle.launch_graph.specs.Graphs.{constant_among, constant_of, row_meaning, IsTrueUnder, is_zero_class}
+use Rattle.graph_meaning.specs.Graphs.{constant_among, constant_of, row_meaning, IsTrueUnder, is_zero_class}
 use Rattle.word_ops.specs.Meanings.{constant_in}
 use Rattle.word_ops.specs.Meanings.{meaning}
 use Rattle.machine_table.specs.Tables.{cluster_of}
 use Rattle.schedule_meaning.specs.Launches.{launches, gives_word, class_at, ready_in, StandsBefore, IsZero, IsClassOfInput, IsReadable, Gives}
 use Rattle.alpha_machine.specs.States.{MachineState}
 use Rattle.register_assign.specs.Listings.{register_at, register_by, register_for, target_register, or_register}
-use Rattle.launch_graph.specs.Graphs.{input_register}
+use Rattle.graph_meaning.specs.Graphs.{input_register}
 use Rattle.schedule_meaning.specs.Launches.{gives}
 use Rattle.register_assign.proofs.Reached.{HasReached}
 use Rattle.word_ops.specs.declared.sorts.Op.{Op}
 use Rattle.word_ops.specs.declared.sorts.Op.TheVariants.{Entry, Input, Constant, Word, Select, Store, Load, Put, Declared}
-use Rattle.launch_graph.specs.declared.graphs.LaunchRow.{LaunchRow}
-use Rattle.launch_graph.specs.declared.graphs.InputClass.{InputClass}
-use Rattle.launch_graph.specs.declared.graphs.LaunchGraph.{LaunchGraph}
+use Rattle.graph_meaning.specs.declared.graphs.LaunchRow.{LaunchRow}
+use Rattle.graph_meaning.specs.declared.graphs.InputClass.{InputClass}
+use Rattle.graph_meaning.specs.declared.graphs.LaunchGraph.{LaunchGraph}
 use Rattle.machine_table.specs.declared.tables.Table.{Table}
 use Rattle.schedule_meaning.specs.declared.schedules.Launch.{Launch}
 use Rattle.schedule_meaning.proofs.Comparisons.{and_left, and_right, and_both, le_true, true_le}
 use Rattle.schedule_meaning.proofs.Rules.{in_list, at_pair}
-use Rattle.launch_graph.proofs.Lists.{any_cases, any_nil}
+use Rattle.graph_meaning.proofs.Lists.{any_cases, any_nil}
 
 -- ---- constants
 

@@ -2,13 +2,13 @@
 use Rattle.std.proofs.Common.{ℕ, ◌^◌, ◌<◌, List, length}
 use Rattle.word_ops.specs.Worlds.{World, IsWorld, Value}
 use Rattle.machine_table.specs.Tables.{IsTable}
-use Rattle.launch_graph.specs.Graphs.{IsProper, IsTrueUnder}
-use Rattle.launch_graph.specs.WellFormed.{IsLaunchGraph}
+use Rattle.graph_meaning.specs.Graphs.{IsProper, IsTrueUnder}
+use Rattle.graph_meaning.specs.WellFormed.{IsLaunchGraph}
 use Rattle.schedule_meaning.specs.Launches.{IsInWordOrder}
 use Rattle.schedule_meaning.specs.Fits.{Fits}
 use Rattle.register_assign.specs.Listings.{items_of, wheres_of}
 use Rattle.register_assign.specs.Outcomes.{AreWordsOf, DoesAsGraphSays}
-use Rattle.launch_graph.specs.declared.graphs.LaunchGraph.{LaunchGraph}
+use Rattle.graph_meaning.specs.declared.graphs.LaunchGraph.{LaunchGraph}
 use Rattle.machine_table.specs.declared.tables.Table.{Table}
 use Rattle.schedule_meaning.specs.declared.schedules.Launch.{Launch}
 use Rattle.schedule_meaning.proofs.Ordered.{fits_permuted}

@@ -13,7 +13,7 @@ use Rattle.alpha_machine.specs.States.{MachineState}
 use Rattle.alpha_machine.specs.Steps.{written, with_register}
 use Rattle.register_assign.specs.Listings.{register_at}
 use Rattle.register_assign.proofs.Reached.{HasReached}
-use Rattle.launch_graph.specs.declared.graphs.LaunchGraph.{LaunchGraph}
+use Rattle.graph_meaning.specs.declared.graphs.LaunchGraph.{LaunchGraph}
 use Rattle.schedule_meaning.specs.declared.schedules.Launch.{Launch}
 use Rattle.schedule_meaning.proofs.Rules.{in_list}
 

@@ -9,14 +9,14 @@ use Rattle.word_ops.specs.Meanings.{sort_of, arity_of_op, operand_sort}
 use Rattle.word_ops.specs.declared.sorts.Op.{Op}
 use Rattle.word_ops.specs.declared.sorts.Sort.{Sort}
 use Rattle.machine_table.specs.Tables.{IsTable, cluster_of, MayUse}
-use Rattle.launch_graph.specs.Graphs.{IsProper, IsTrueUnder, row_meaning}
-use Rattle.launch_graph.specs.WellFormed.{IsLaunchGraph, ClassHasSort}
+use Rattle.graph_meaning.specs.Graphs.{IsProper, IsTrueUnder, row_meaning}
+use Rattle.graph_meaning.specs.WellFormed.{IsLaunchGraph, ClassHasSort}
 use Rattle.schedule_meaning.specs.Launches.{instr_at, op_instr, class_at, ready_in, StandsBefore, IsFree, IsReadable, operands_at, op_operands, row_operands, guard_operands, memory_class_at}
 use Rattle.schedule_meaning.specs.Fits.{Fits, CanLaunch, CanRead}
 use Rattle.register_assign.specs.Listings.{instr_of, row_instr, branch_class, reg}
 use Rattle.alpha_encode.specs.declared.instructions.Instr.TheVariants as instrs
-use Rattle.launch_graph.specs.declared.graphs.LaunchRow.{LaunchRow}
-use Rattle.launch_graph.specs.declared.graphs.LaunchGraph.{LaunchGraph}
+use Rattle.graph_meaning.specs.declared.graphs.LaunchRow.{LaunchRow}
+use Rattle.graph_meaning.specs.declared.graphs.LaunchGraph.{LaunchGraph}
 use Rattle.machine_table.specs.declared.tables.Table.{Table}
 use Rattle.machine_table.specs.declared.tables.InstrKind.{InstrKind}
 use Rattle.machine_table.specs.declared.tables.InstrKind.TheVariants as kinds

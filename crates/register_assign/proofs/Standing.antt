@@ -13,8 +13,8 @@ use Rattle.alpha_encode.specs.declared.instructions.Instr.TheVariants as instrs
 use Rattle.alpha_machine.specs.Runs.{IsAllowedAt, AllMayStand}
 use Rattle.register_assign.specs.Listings.{instr_of, row_instr, word_instr, operate_instr, items_of, branch_class, reg}
 use Rattle.register_assign.specs.Outcomes.{AreWordsOf, instrs_of}
-use Rattle.launch_graph.specs.declared.graphs.LaunchRow.{LaunchRow}
-use Rattle.launch_graph.specs.declared.graphs.LaunchGraph.{LaunchGraph}
+use Rattle.graph_meaning.specs.declared.graphs.LaunchRow.{LaunchRow}
+use Rattle.graph_meaning.specs.declared.graphs.LaunchGraph.{LaunchGraph}
 use Rattle.machine_table.specs.declared.tables.Table.{Table}
 use Rattle.schedule_meaning.specs.declared.schedules.Launch.{Launch}
 use Rattle.schedule_meaning.proofs.Rules.{in_list}

@@ -18,12 +18,12 @@ use Rattle.alpha_machine.specs.States.{MachineState}
 use Rattle.alpha_machine.specs.Steps.{step, second_value, is_unary, operate_value, address, with_register, next_pc}
 use Rattle.machine_table.specs.InstrOrder.{operate_kind}
 use Rattle.machine_table.specs.Tables.{cluster_of, MayUse}
-use Rattle.launch_graph.specs.Graphs.{row_meaning}
+use Rattle.graph_meaning.specs.Graphs.{row_meaning}
 use Rattle.schedule_meaning.specs.Launches.{launches, gives_word, is_store, is_load, instr_at, op_instr, word_op_instr as launch_instr, class_at, memory_after, IsFree, IsReadable, plain, op_operands, Operand, operate_operands, word_op_operands}
 use Rattle.register_assign.specs.Listings.{register_at, register_for, second_for, displacement_of, instr_of, row_instr, word_instr, operate_instr}
 use Rattle.alpha_encode.specs.declared.instructions.Instr.{Instr}
-use Rattle.launch_graph.specs.declared.graphs.LaunchRow.{LaunchRow}
-use Rattle.launch_graph.specs.declared.graphs.LaunchGraph.{LaunchGraph}
+use Rattle.graph_meaning.specs.declared.graphs.LaunchRow.{LaunchRow}
+use Rattle.graph_meaning.specs.declared.graphs.LaunchGraph.{LaunchGraph}
 use Rattle.machine_table.specs.declared.tables.Table.{Table}
 use Rattle.machine_table.specs.declared.tables.InstrKind.{InstrKind}
 use Rattle.machine_table.specs.declared.tables.InstrKind.TheVariants as kinds

@@ -8,7 +8,7 @@ use Rattle.std.proofs.lemmas.List.Elements.{All-head, All-tail}
 use Rattle.std.proofs.lemmas.Option.{slice_get-get_or, get_or_from_slice_get, same_Some, none-some}
 use Rattle.schedule_meaning.specs.Launches.{launches, is_store, class_at, latest, later, memory_after, memory_class_at, StandsBefore, group_of}
 use Rattle.schedule_meaning.specs.Fits.{IsLeft, UsesMemory, KeepsMemory}
-use Rattle.launch_graph.specs.declared.graphs.LaunchGraph.{LaunchGraph}
+use Rattle.graph_meaning.specs.declared.graphs.LaunchGraph.{LaunchGraph}
 use Rattle.schedule_meaning.specs.declared.schedules.Launch.{Launch}
 use Rattle.schedule_meaning.proofs.Rules.{at_each, all_at, at_pair, in_list}
 use Rattle.schedule_meaning.proofs.Memory.{IsLatest, latest_is, left_once}

@@ -4,7 +4,7 @@ use Rattle.std.specs.Prelude.{slice_get}
 use Rattle.std.specs.Option.{option_map_or}
 use Rattle.std.proofs.lemmas.Option.{slice_get_cases, same_Some, none-some}
 use Rattle.word_ops.specs.Worlds.{World, IsWorld, Value}
-use Rattle.launch_graph.specs.Graphs.{IsTrueUnder}
+use Rattle.graph_meaning.specs.Graphs.{IsTrueUnder}
 use Rattle.alpha_machine.specs.States.{MachineState}
 use Rattle.alpha_machine.specs.Steps.{step}
 use Rattle.alpha_machine.specs.Runs.{stepped, after}
@@ -12,7 +12,7 @@ use Rattle.register_assign.specs.Listings.{items_from, items_of, instr_of}
 use Rattle.register_assign.specs.Outcomes.{entry_state, instrs_of}
 use Rattle.register_assign.proofs.Reached.{HasReached}
 use Rattle.alpha_encode.specs.declared.instructions.Instr.{Instr}
-use Rattle.launch_graph.specs.declared.graphs.LaunchGraph.{LaunchGraph}
+use Rattle.graph_meaning.specs.declared.graphs.LaunchGraph.{LaunchGraph}
 use Rattle.machine_table.specs.declared.tables.Table.{Table}
 use Rattle.schedule_meaning.specs.declared.schedules.Launch.{Launch}
 

@@ -3,11 +3,11 @@
 use Rattle.std.specs.Prelude.{◌≡◌, ℕ, List, All}
 use Rattle.alpha_encode.specs.Formats.{IsWellFormed}
 use Rattle.alpha_machine.specs.Runs.{AllMayStand}
-use Rattle.launch_graph.specs.Graphs.{IsProper}
+use Rattle.graph_meaning.specs.Graphs.{IsProper}
 use Rattle.register_assign.specs.Listings.{IsListing}
 use Rattle.register_assign.specs.Obeys.{Obeys}
 use Rattle.register_assign.specs.Outcomes.{AreWordsOf, DoesAsGraphSays}
-use Rattle.launch_graph.specs.declared.graphs.LaunchGraph.{LaunchGraph}
+use Rattle.graph_meaning.specs.declared.graphs.LaunchGraph.{LaunchGraph}
 use Rattle.register_assign.specs.declared.listings.Item.{Item}
 use Rattle.register_assign.specs.declared.listings.Where.{Where}
 use Rattle.machine_table.specs.declared.tables.Table.{Table}

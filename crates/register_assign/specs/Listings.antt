@@ -6,7 +6,7 @@ use Rattle.std.specs.Int.{cast_signed, w16}
 use Rattle.word_ops.specs.declared.operators.WordOp.{WordOp}
 use Rattle.word_ops.specs.declared.operators.WordOp.TheVariants as ops
 use Rattle.machine_table.specs.Tables.{cluster_of}
-use Rattle.launch_graph.specs.Graphs.{constant_of, is_zero_class, input_register, is_memory_name}
+use Rattle.graph_meaning.specs.Graphs.{constant_of, is_zero_class, input_register, is_memory_name}
 use Rattle.schedule_meaning.specs.Launches.{launches, gives_word, gives, ready_in, IsInWordOrder}
 use Rattle.alpha_encode.specs.declared.instructions.Second.{Second}
 use Rattle.alpha_encode.specs.declared.instructions.Second.TheVariants.{Reg, Literal}
@@ -17,8 +17,8 @@ use Rattle.word_ops.specs.declared.sorts.Op.TheVariants as op
 use Rattle.register_assign.specs.declared.listings.Item.{Item}
 use Rattle.register_assign.specs.declared.listings.Where.{Where}
 use Rattle.machine_table.specs.declared.tables.Table.{Table}
-use Rattle.launch_graph.specs.declared.graphs.SetClass.{SetClass}
-use Rattle.launch_graph.specs.declared.graphs.LaunchGraph.{LaunchGraph}
+use Rattle.graph_meaning.specs.declared.graphs.SetClass.{SetClass}
+use Rattle.graph_meaning.specs.declared.graphs.LaunchGraph.{LaunchGraph}
 use Rattle.schedule_meaning.specs.declared.schedules.Launch.{Launch}
 
 -- ---- registers and words. `ordered` is the schedule in word order

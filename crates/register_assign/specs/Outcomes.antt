@@ -9,13 +9,13 @@ use Rattle.alpha_machine.specs.States.{MachineState}
 use Rattle.alpha_machine.specs.Runs.{Runs, trace}
 use Rattle.alpha_machine.specs.declared.running.End.TheVariants.{Fall, Exit}
 use Rattle.alpha_encode.specs.declared.instructions.Instr.{Instr}
-use Rattle.launch_graph.specs.Graphs.{memory_target, IsTrueUnder}
+use Rattle.graph_meaning.specs.Graphs.{memory_target, IsTrueUnder}
 use Rattle.schedule_meaning.specs.Launches.{is_held}
 use Rattle.register_assign.specs.Obeys.{loads}
 use Rattle.register_assign.specs.Listings.{word_targets}
 use Rattle.register_assign.specs.declared.listings.Item.{Item}
 use Rattle.register_assign.specs.declared.listings.Where.{Where}
-use Rattle.launch_graph.specs.declared.graphs.LaunchGraph.{LaunchGraph}
+use Rattle.graph_meaning.specs.declared.graphs.LaunchGraph.{LaunchGraph}
 
 -- at the first word, with any registers and memory
 abbrev pub entry_state : World → MachineState

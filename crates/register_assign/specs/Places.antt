@@ -1,9 +1,9 @@
 -- The places of some of the targets.
 -- Source: this project.
 use Rattle.std.specs.Prelude.{List, map, filter, not}
-use Rattle.launch_graph.specs.Graphs.{is_memory_name}
-use Rattle.launch_graph.specs.declared.graphs.SetClass.{SetClass}
-use Rattle.launch_graph.specs.declared.graphs.LaunchGraph.{LaunchGraph}
+use Rattle.graph_meaning.specs.Graphs.{is_memory_name}
+use Rattle.graph_meaning.specs.declared.graphs.SetClass.{SetClass}
+use Rattle.graph_meaning.specs.declared.graphs.LaunchGraph.{LaunchGraph}
 use Rattle.schedule_meaning.specs.declared.schedules.Launch.{Launch}
 use Rattle.register_assign.specs.Listings.{target_register}
 use Rattle.register_assign.specs.declared.listings.Where.{Where}

@@ -1,15 +1,15 @@
 // From a schedule to its listing.
 ghost use Rattle.std.specs.Prelude.{◌≡◌, ◌≤◌, ◌<◌, ◌^◌, length, IfOk};
 ghost use Rattle.machine_table.specs.Tables.{IsTable};
-ghost use Rattle.launch_graph.specs.WellFormed.{IsLaunchGraph};
+ghost use Rattle.graph_meaning.specs.WellFormed.{IsLaunchGraph};
 ghost use Rattle.schedule_meaning.specs.Launches.{IsInWordOrder};
 ghost use Rattle.schedule_meaning.specs.Fits.{Fits};
 ghost use Rattle.register_assign.specs.Assigned.{IsTheListing, HaveWords, MayRun, KeepsWord};
 
 use crate::listings::Listing;
 use crate::wording::{items_of, wheres_of};
+use graph_meaning::LaunchGraph;
 use items::NoMemory;
-use launch_graph::LaunchGraph;
 use machine_table::Table;
 use schedule_meaning::{Launch, Schedule, group_of};
 use std::alloc::Global;

@@ -1,13 +1,13 @@
 // The register of each launch and class, and the instruction of each launch.
 ghost use Rattle.std.specs.Prelude.{◌≡◌, ◌&&◌, ◌≤◌, ◌<◌, ◌^◌, count_by, take, length, position, Some};
-ghost use Rattle.launch_graph.specs.Graphs as graphs;
+ghost use Rattle.graph_meaning.specs.Graphs as graphs;
 ghost use Rattle.schedule_meaning.specs.Launches as launches;
 ghost use Rattle.register_assign.specs.Listings as listings;
 ghost use Rattle.register_assign.specs.Listings.{register_at};
 ghost use Rattle.schedule_meaning.specs.Readers.{passes};
 
 use alpha_encode::Second;
-use launch_graph::LaunchGraph;
+use graph_meaning::LaunchGraph;
 use machine_table::Table;
 use schedule_meaning::{Launch, may_take, words_before};
 

@@ -3,11 +3,11 @@ use Rattle.std.proofs.Common.{◌≡◌, List, [], ◌∷◌, map, All, arith}
 use Rattle.std.proofs.lemmas.List.Elements.{All-cons, All-head, All-tail}
 use Rattle.word_ops.specs.Worlds.{World}
 use Rattle.axiom_base.specs.Rewrites.{IsRule, IsTrueIn, value_in}
-use Rattle.goal_reader.specs.Holds.{HoldsOfAll, HoldsFor, IsMet}
-use Rattle.goal_reader.specs.Printing.{declared_name}
-use Rattle.goal_reader.specs.Views.{AxiomTree, TwoTrees, GoalTree, InputTree}
-use Rattle.goal_reader.specs.WellFormed.{IsAxiom, IsInput}
-use Rattle.goal_reader.specs.declared.scopes.DeclaredOp.{DeclaredOp}
+use Rattle.goal_meaning.specs.Holds.{HoldsOfAll, HoldsFor, IsMet}
+use Rattle.goal_meaning.specs.Names.{declared_name}
+use Rattle.goal_meaning.specs.Views.{AxiomTree, TwoTrees, GoalTree, InputTree}
+use Rattle.goal_meaning.specs.WellFormed.{IsAxiom, IsInput}
+use Rattle.goal_meaning.specs.declared.goals.DeclaredOp.{DeclaredOp}
 use Rattle.saturation.specs.Derives.{Pair}
 use Rattle.saturation.specs.GoalTerms.{rule_of, rules_of, assumed_pair, assumed_pairs}
 use Rattle.saturation.specs.GraphStands.{RulesHold}

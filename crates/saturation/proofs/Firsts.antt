@@ -10,7 +10,7 @@ use Rattle.std.proofs.lemmas.List.Folds.{position_or_len_push}
 use Rattle.std.proofs.lemmas.List.Sums.{fold_push, fold-append, passes_at_first, fails_before_first, prefix_len-le-length}
 use Rattle.std.proofs.lemmas.Map.Keys.{IsDistinct-from_apart}
 use Rattle.std.proofs.lemmas.Map.Steps.{length-le_from_distinct_below}
-use Rattle.launch_graph.specs.WellFormed.{next_after}
+use Rattle.graph_meaning.specs.WellFormed.{next_after}
 use Rattle.saturation.specs.Numbered.{place_in, with_new, firsts}
 use Rattle.saturation.proofs.Mapped.{filter_map_more}
 

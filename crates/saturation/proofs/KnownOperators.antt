@@ -23,11 +23,11 @@ use Rattle.axiom_base.specs.declared.kinds.Calc.TheVariants.{C1, C2, C3, C4, C5,
 use Rattle.egraph.specs.Graph.{Graph, IsGraph, HasClass}
 use Rattle.egraph.specs.declared.rows.Row.{Row}
 use Rattle.pattern_match.specs.Classes.{IsClass, AreClasses, at_row, no_classes, classes}
-use Rattle.goal_reader.specs.Views.{TwoTrees, TargetTree, GoalTree, AxiomTree, InputTree}
-use Rattle.goal_reader.specs.WellFormed.{IsInput, IsGoal, IsAxiom, IsAssume, IsTarget, IsGoalTerm, IsOfGoal, IsOfAxiom}
-use Rattle.goal_reader.specs.Reading.{input_registers}
-use Rattle.goal_reader.specs.declared.goals.InputReg.{InputReg}
-use Rattle.goal_reader.specs.declared.scopes.DeclaredOp.{DeclaredOp}
+use Rattle.goal_meaning.specs.Views.{TwoTrees, TargetTree, GoalTree, AxiomTree, InputTree}
+use Rattle.goal_meaning.specs.WellFormed.{IsInput, IsGoal, IsAxiom, IsAssume, IsTarget, IsGoalTerm, IsOfGoal, IsOfAxiom}
+use Rattle.goal_meaning.specs.WellFormed.{input_registers}
+use Rattle.goal_meaning.specs.declared.goals.InputReg.{InputReg}
+use Rattle.goal_meaning.specs.declared.goals.DeclaredOp.{DeclaredOp}
 use Rattle.saturation.specs.Derives.{Derives, DerivesEach, Pair, IsAmong, first, rest, given, assumed, back, through, later, operand, congruent, by_rule, no_operands, operands}
 use Rattle.saturation.specs.GoalTerms.{entry_term, input_term, input_terms, guard_terms, set_terms, sides_of, assume_terms, kept_terms, present_terms, assumed_pair, assumed_pairs, renumbered, rule_of, rules_of, variables_below}
 use Rattle.saturation.specs.Grown.{IsGrown, AreInhabited}

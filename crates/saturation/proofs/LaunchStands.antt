@@ -11,17 +11,17 @@ use Rattle.word_ops.specs.declared.sorts.Op.TheVariants as op
 use Rattle.word_ops.specs.declared.sorts.Arity.{Arity}
 use Rattle.word_terms.specs.Tree.{Tree, Trees, each_value}
 use Rattle.axiom_base.specs.Rewrites.{value_in}
-use Rattle.goal_reader.specs.Holds.{HoldsFor}
-use Rattle.goal_reader.specs.Printing.{declared_name}
-use Rattle.goal_reader.specs.Views.{TargetTree, GoalTree, InputTree}
-use Rattle.goal_reader.specs.declared.goals.InputReg.{InputReg}
-use Rattle.goal_reader.specs.declared.scopes.DeclaredOp.{DeclaredOp}
-use Rattle.launch_graph.specs.Graphs.{row_meaning}
-use Rattle.launch_graph.specs.declared.graphs.LaunchGraph.{LaunchGraph}
-use Rattle.launch_graph.specs.declared.graphs.LaunchRow.{LaunchRow}
-use Rattle.launch_graph.specs.declared.graphs.InputClass.{InputClass}
-use Rattle.launch_graph.specs.declared.graphs.SetClass.{SetClass}
-use Rattle.launch_graph.specs.declared.graphs.Guard.{Guard}
+use Rattle.goal_meaning.specs.Holds.{HoldsFor}
+use Rattle.goal_meaning.specs.Names.{declared_name}
+use Rattle.goal_meaning.specs.Views.{TargetTree, GoalTree, InputTree}
+use Rattle.goal_meaning.specs.declared.goals.InputReg.{InputReg}
+use Rattle.goal_meaning.specs.declared.goals.DeclaredOp.{DeclaredOp}
+use Rattle.graph_meaning.specs.Graphs.{row_meaning}
+use Rattle.graph_meaning.specs.declared.graphs.LaunchGraph.{LaunchGraph}
+use Rattle.graph_meaning.specs.declared.graphs.LaunchRow.{LaunchRow}
+use Rattle.graph_meaning.specs.declared.graphs.InputClass.{InputClass}
+use Rattle.graph_meaning.specs.declared.graphs.SetClass.{SetClass}
+use Rattle.graph_meaning.specs.declared.graphs.Guard.{Guard}
 use Rattle.pattern_match.specs.Classes.{AreClasses, at_variable, at_row, no_classes, classes}
 use Rattle.saturation.specs.GoalTerms.{entry_term, input_term, kept_terms, assumed_pairs, rules_of}
 use Rattle.saturation.specs.GraphStands.{GraphStands, RulesHold, IsTrueGraph}

@@ -20,17 +20,17 @@ use Rattle.axiom_base.specs.Schemes.{IsRuleOf}
 use Rattle.egraph.specs.Graph.{Graph, IsGraph, HasClass}
 use Rattle.egraph.specs.declared.rows.Row.{Row}
 use Rattle.pattern_match.specs.Classes.{IsClass, at_variable, at_row, CanFindClass}
-use Rattle.goal_reader.specs.Views.{TargetTree, InputTree, goal_view, target_view}
-use Rattle.goal_reader.specs.WellFormed.{IsGoal, IsGoalTerm, IsTarget, IsInput}
-use Rattle.goal_reader.specs.declared.goals.Goal.{Goal}
-use Rattle.goal_reader.specs.declared.goals.InputReg.{InputReg}
-use Rattle.goal_reader.specs.declared.goals.Set.{Set}
-use Rattle.launch_graph.specs.Graphs.{registers_of}
-use Rattle.launch_graph.specs.WellFormed.{IsLaunchGraph, ClassHasSort, set_sort}
-use Rattle.launch_graph.specs.declared.graphs.LaunchGraph.{LaunchGraph}
-use Rattle.launch_graph.specs.declared.graphs.InputClass.{InputClass}
-use Rattle.launch_graph.specs.declared.graphs.SetClass.{SetClass}
-use Rattle.launch_graph.specs.declared.graphs.Guard.{Guard}
+use Rattle.goal_meaning.specs.Views.{TargetTree, InputTree, goal_view, target_view}
+use Rattle.goal_meaning.specs.WellFormed.{IsGoal, IsGoalTerm, IsTarget, IsInput}
+use Rattle.goal_meaning.specs.declared.goals.Goal.{Goal}
+use Rattle.goal_meaning.specs.declared.goals.InputReg.{InputReg}
+use Rattle.goal_meaning.specs.declared.goals.Set.{Set}
+use Rattle.graph_meaning.specs.Graphs.{registers_of}
+use Rattle.graph_meaning.specs.WellFormed.{IsLaunchGraph, ClassHasSort, set_sort}
+use Rattle.graph_meaning.specs.declared.graphs.LaunchGraph.{LaunchGraph}
+use Rattle.graph_meaning.specs.declared.graphs.InputClass.{InputClass}
+use Rattle.graph_meaning.specs.declared.graphs.SetClass.{SetClass}
+use Rattle.graph_meaning.specs.declared.graphs.Guard.{Guard}
 use Rattle.saturation.specs.GoalTerms.{entry_term, input_term, input_terms, guard_terms, set_terms}
 use Rattle.saturation.specs.Launched.{CanMakeLaunchGraph, IsLaunched, KeepsGrown, KeepsStop}
 use Rattle.saturation.specs.Numbered.{AreClassNumbers, IsClassNumber, IsInputNumber, IsSetNumber, IsGuardNumber, firsts, indexes_of, launched_row}

@@ -18,12 +18,12 @@ use Rattle.word_terms.specs.Keys.{op_signature}
 use Rattle.egraph.specs.Graph.{Graph, IsGraph, HasClass}
 use Rattle.egraph.specs.Joined.{relabel}
 use Rattle.egraph.specs.declared.rows.Row.{Row}
-use Rattle.launch_graph.specs.WellFormed.{ClassHasSort, TakesItsSorts, AreRows, HaveOneName, declared_index, register_of_input, next_class, next_index, next_after}
-use Rattle.launch_graph.specs.declared.graphs.LaunchGraph.{LaunchGraph}
-use Rattle.launch_graph.specs.declared.graphs.LaunchRow.{LaunchRow}
-use Rattle.goal_reader.specs.Printing.{declared_name}
-use Rattle.goal_reader.specs.WellFormed.{IsDeclared}
-use Rattle.goal_reader.specs.declared.scopes.DeclaredOp.{DeclaredOp}
+use Rattle.graph_meaning.specs.WellFormed.{ClassHasSort, TakesItsSorts, AreRows, HaveOneName, declared_index, register_of_input, next_class, next_index, next_after}
+use Rattle.graph_meaning.specs.declared.graphs.LaunchGraph.{LaunchGraph}
+use Rattle.graph_meaning.specs.declared.graphs.LaunchRow.{LaunchRow}
+use Rattle.goal_meaning.specs.Names.{declared_name}
+use Rattle.goal_meaning.specs.WellFormed.{IsDeclared}
+use Rattle.goal_meaning.specs.declared.goals.DeclaredOp.{DeclaredOp}
 use Rattle.saturation.specs.Launched.{IsKnown, row_in}
 use Rattle.saturation.specs.Numbered.{AreClassNumbers, classes_of_rows, indexes_of, firsts, place_in, launched_name, launched_op, launched_row}
 use Rattle.saturation.specs.Renamed.{IsRenamed}

@@ -17,11 +17,11 @@ use Rattle.word_terms.specs.Keys.{op_signature}
 use Rattle.word_terms.specs.Sorting.{HasSort, HaveSorts, Occurs, OccursInOne, IsApplication, sort_at, tree_count}
 use Rattle.word_terms.specs.Tree.{Tree, Trees, variable, application, none, more, substituted, each_substituted, value, each_value, AreBelow, EachBelow}
 use Rattle.axiom_base.specs.Rewrites.{IsRule, IsTrueIn, AreValuesFor}
-use Rattle.goal_reader.specs.Holds.{HoldsOfAll}
-use Rattle.goal_reader.specs.Printing.{declared_name}
-use Rattle.goal_reader.specs.Views.{AxiomTree}
-use Rattle.goal_reader.specs.WellFormed.{IsAxiom}
-use Rattle.goal_reader.specs.declared.scopes.DeclaredOp.{DeclaredOp}
+use Rattle.goal_meaning.specs.Holds.{HoldsOfAll}
+use Rattle.goal_meaning.specs.Names.{declared_name}
+use Rattle.goal_meaning.specs.Views.{AxiomTree}
+use Rattle.goal_meaning.specs.WellFormed.{IsAxiom}
+use Rattle.goal_meaning.specs.declared.goals.DeclaredOp.{DeclaredOp}
 use Rattle.saturation.specs.GoalTerms.{has_variable, have_variable, variables_below, renumbered, rule_of}
 use Rattle.saturation.proofs.Below.{sort_below}
 

@@ -15,10 +15,10 @@ use Rattle.word_terms.specs.View.{tree_of, trees_of}
 use Rattle.word_terms.specs.declared.term.Term.{Term}
 use Rattle.word_terms.specs.declared.term.Term.TheVariants.{App}
 use Rattle.axiom_base.specs.Rewrites.{Rewrite, rewrite, IsRule}
-use Rattle.goal_reader.specs.Views.{AxiomTree, axiom_view}
-use Rattle.goal_reader.specs.WellFormed.{IsAxiom, axiom_sorts}
-use Rattle.goal_reader.specs.declared.goals.Axiom.{Axiom}
-use Rattle.goal_reader.specs.declared.scopes.DeclaredOp.{DeclaredOp}
+use Rattle.goal_meaning.specs.Views.{AxiomTree, axiom_view}
+use Rattle.goal_meaning.specs.WellFormed.{IsAxiom, axiom_sorts}
+use Rattle.goal_meaning.specs.declared.goals.Axiom.{Axiom}
+use Rattle.goal_meaning.specs.declared.goals.DeclaredOp.{DeclaredOp}
 use Rattle.saturation.specs.GoalTerms.{has_variable, have_variable, variables_below, renumbered, rule_of}
 use Rattle.saturation.proofs.Renumbering.{count_more, count_up_to, below, axiom_is_rule}
 use Rattle.saturation.proofs.StartSteps.{in_map, at_map}

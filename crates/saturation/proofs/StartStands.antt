@@ -11,7 +11,7 @@ use Rattle.word_terms.specs.Sorting.{HasSort}
 use Rattle.word_terms.specs.Tree.{Tree, value}
 use Rattle.axiom_base.specs.Rewrites.{value_in}
 use Rattle.egraph.specs.Graph.{Graph, IsGraph}
-use Rattle.goal_reader.specs.Views.{TwoTrees}
+use Rattle.goal_meaning.specs.Views.{TwoTrees}
 use Rattle.saturation.specs.AtStart.{IsSorted, AreSorted}
 use Rattle.saturation.specs.GoalTerms.{assumed_pair}
 use Rattle.saturation.specs.Trace.{MayJoin, IsBuilt, AreInserted, none_inserted, one_inserted, IsAssumeMade, AreAssumed, none_assumed, one_assumed, IsAssumedRefused, AreRefused, refused_here, refused_after}

@@ -14,9 +14,9 @@ use Rattle.egraph.specs.Faults.{FaultIs}
 use Rattle.egraph.specs.Graph.{Graph}
 use Rattle.egraph.specs.declared.faults.MergeFault.{MergeFault}
 use Rattle.egraph.specs.declared.faults.MergeFault.TheVariants as merging
-use Rattle.goal_reader.specs.Views.{TwoTrees, TargetTree, target_view}
-use Rattle.goal_reader.specs.declared.goals.Set.{Set}
-use Rattle.goal_reader.specs.WellFormed.{sum_over, operators_of_sides}
+use Rattle.goal_meaning.specs.Views.{TwoTrees, TargetTree, target_view}
+use Rattle.goal_meaning.specs.declared.goals.Set.{Set}
+use Rattle.goal_meaning.specs.WellFormed.{sum_over, operators_of_sides}
 use Rattle.saturation.specs.AtStart.{IsSorted, AreSorted, operators_of, CanInsertAll, CanAssume, CanAssumeAll, AssumeFaultIs, AssumeFaultOfAll, start_fault}
 use Rattle.saturation.specs.Derives.{Pair}
 use Rattle.saturation.specs.GoalTerms.{set_terms, assumed_pair}

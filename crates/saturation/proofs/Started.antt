@@ -10,10 +10,10 @@ use Rattle.word_terms.specs.OperatorsIn.{operators_in}
 use Rattle.word_terms.specs.Tree.{Tree}
 use Rattle.axiom_base.specs.Rewrites.{value_in}
 use Rattle.egraph.specs.Graph.{Graph, IsGraph}
-use Rattle.goal_reader.specs.Views.{TwoTrees, TargetTree, GoalTree}
-use Rattle.goal_reader.specs.WellFormed.{IsGoal, IsGoalTerm, IsAssume, IsTarget, sum_over, operators_of_sides, operators_of_target}
-use Rattle.goal_reader.specs.declared.goals.InputReg.{InputReg}
-use Rattle.goal_reader.specs.declared.scopes.DeclaredOp.{DeclaredOp}
+use Rattle.goal_meaning.specs.Views.{TwoTrees, TargetTree, GoalTree}
+use Rattle.goal_meaning.specs.WellFormed.{IsGoal, IsGoalTerm, IsAssume, IsTarget, sum_over, operators_of_sides, operators_of_target}
+use Rattle.goal_meaning.specs.declared.goals.InputReg.{InputReg}
+use Rattle.goal_meaning.specs.declared.goals.DeclaredOp.{DeclaredOp}
 use Rattle.saturation.specs.AtStart.{IsSorted, AreSorted, operators_of, CanInsertAll, CanAssumeAll, AssumeFaultOfAll, IsGrownAtStart, StandsAtStart, StartFaultIs, IsHopelessAtStart, most_rows_at_start}
 use Rattle.saturation.specs.Derives.{Pair}
 use Rattle.saturation.specs.GoalTerms.{entry_term, input_term, input_terms, assume_terms, guard_terms, set_terms, kept_terms, present_terms, assumed_pair, assumed_pairs}

@@ -6,7 +6,7 @@ use Rattle.word_ops.specs.declared.sorts.Arity.{Arity}
 use Rattle.word_ops.specs.declared.sorts.Op.{Op}
 use Rattle.word_ops.specs.declared.sorts.Op.TheVariants.{Entry, Input, Constant, Word, Select, Store, Load, Put, Declared}
 use Rattle.egraph.specs.declared.rows.Row.{Row}
-use Rattle.launch_graph.specs.WellFormed.{declared_index}
+use Rattle.graph_meaning.specs.WellFormed.{declared_index}
 use Rattle.saturation.specs.Numbered.{firsts, indexes_of, place_in, with_new}
 use Rattle.saturation.proofs.Firsts.{cases}
 use Rattle.saturation.proofs.Mapped.{filter_map_more}

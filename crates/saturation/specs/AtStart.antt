@@ -12,8 +12,8 @@ use Rattle.axiom_base.specs.Rewrites.{Rewrite}
 use Rattle.egraph.specs.Graph.{Graph, IsGraph}
 use Rattle.egraph.specs.declared.faults.MergeFault.{MergeFault}
 use Rattle.egraph.specs.declared.faults.MergeFault.TheVariants as merging
-use Rattle.goal_reader.specs.Views.{TwoTrees, GoalTree}
-use Rattle.goal_reader.specs.WellFormed.{sum_over, operators_of_sides, operators_of_goal}
+use Rattle.goal_meaning.specs.Views.{TwoTrees, GoalTree}
+use Rattle.goal_meaning.specs.WellFormed.{sum_over, operators_of_sides, operators_of_goal}
 use Rattle.saturation.specs.Derives.{Pair, IsClash}
 use Rattle.saturation.specs.GoalTerms.{present_terms, kept_terms, assumed_pairs}
 use Rattle.saturation.specs.GraphStands.{GraphStands, RulesHold}

@@ -6,8 +6,8 @@ use Rattle.word_ops.specs.declared.sorts.Op.TheVariants.{Entry, Input}
 use Rattle.word_ops.specs.declared.sorts.Sort.TheVariants as sorts
 use Rattle.word_terms.specs.Tree.{Tree, Trees, variable, application, none, more, substituted}
 use Rattle.axiom_base.specs.Rewrites.{Rewrite, rewrite}
-use Rattle.goal_reader.specs.declared.goals.InputReg.{InputReg}
-use Rattle.goal_reader.specs.Views.{TwoTrees, TargetTree, GoalTree, AxiomTree, InputTree}
+use Rattle.goal_meaning.specs.declared.goals.InputReg.{InputReg}
+use Rattle.goal_meaning.specs.Views.{TwoTrees, TargetTree, GoalTree, AxiomTree, InputTree}
 use Rattle.saturation.specs.Derives.{Pair}
 
 -- ---- the terms of a goal

@@ -9,15 +9,15 @@ use Rattle.word_terms.specs.declared.term.Term.{Term}
 use Rattle.egraph.specs.Graph.{Graph, HasClass}
 use Rattle.egraph.specs.declared.rows.Row.{Row}
 use Rattle.pattern_match.specs.Classes.{IsClass}
-use Rattle.launch_graph.specs.WellFormed.{declared_index}
-use Rattle.launch_graph.specs.declared.graphs.LaunchRow.{LaunchRow}
-use Rattle.launch_graph.specs.declared.graphs.Guard.{Guard}
-use Rattle.launch_graph.specs.declared.graphs.InputClass.{InputClass}
-use Rattle.launch_graph.specs.declared.graphs.SetClass.{SetClass}
-use Rattle.goal_reader.specs.Printing.{declared_name}
-use Rattle.goal_reader.specs.declared.goals.InputReg.{InputReg}
-use Rattle.goal_reader.specs.declared.goals.Set.{Set}
-use Rattle.goal_reader.specs.declared.scopes.DeclaredOp.{DeclaredOp}
+use Rattle.graph_meaning.specs.WellFormed.{declared_index}
+use Rattle.graph_meaning.specs.declared.graphs.LaunchRow.{LaunchRow}
+use Rattle.graph_meaning.specs.declared.graphs.Guard.{Guard}
+use Rattle.graph_meaning.specs.declared.graphs.InputClass.{InputClass}
+use Rattle.graph_meaning.specs.declared.graphs.SetClass.{SetClass}
+use Rattle.goal_meaning.specs.Names.{declared_name}
+use Rattle.goal_meaning.specs.declared.goals.InputReg.{InputReg}
+use Rattle.goal_meaning.specs.declared.goals.Set.{Set}
+use Rattle.goal_meaning.specs.declared.goals.DeclaredOp.{DeclaredOp}
 use Rattle.saturation.specs.GoalTerms.{input_term}
 use Rattle.saturation.specs.StandsFor.{has_select}
 

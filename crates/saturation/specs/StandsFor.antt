@@ -9,17 +9,17 @@ use Rattle.word_terms.specs.Tree.{Tree, Trees, variable, application, none, more
 use Rattle.egraph.specs.Graph.{Graph}
 use Rattle.egraph.specs.declared.rows.Row.{Row}
 use Rattle.pattern_match.specs.Classes.{IsClass}
-use Rattle.launch_graph.specs.Graphs.{IsTrueUnder, IsProper}
-use Rattle.launch_graph.specs.WellFormed.{next_class}
-use Rattle.launch_graph.specs.declared.graphs.LaunchGraph.{LaunchGraph}
-use Rattle.launch_graph.specs.declared.graphs.LaunchRow.{LaunchRow}
-use Rattle.launch_graph.specs.declared.graphs.InputClass.{InputClass}
-use Rattle.launch_graph.specs.declared.graphs.SetClass.{SetClass}
-use Rattle.launch_graph.specs.declared.graphs.Guard.{Guard}
-use Rattle.goal_reader.specs.Holds.{goal_value, HoldsFor}
-use Rattle.goal_reader.specs.Views.{TargetTree, GoalTree, InputTree}
-use Rattle.goal_reader.specs.declared.goals.InputReg.{InputReg}
-use Rattle.goal_reader.specs.declared.scopes.DeclaredOp.{DeclaredOp}
+use Rattle.graph_meaning.specs.Graphs.{IsTrueUnder, IsProper}
+use Rattle.graph_meaning.specs.WellFormed.{next_class}
+use Rattle.graph_meaning.specs.declared.graphs.LaunchGraph.{LaunchGraph}
+use Rattle.graph_meaning.specs.declared.graphs.LaunchRow.{LaunchRow}
+use Rattle.graph_meaning.specs.declared.graphs.InputClass.{InputClass}
+use Rattle.graph_meaning.specs.declared.graphs.SetClass.{SetClass}
+use Rattle.graph_meaning.specs.declared.graphs.Guard.{Guard}
+use Rattle.goal_meaning.specs.Holds.{goal_value, HoldsFor}
+use Rattle.goal_meaning.specs.Views.{TargetTree, GoalTree, InputTree}
+use Rattle.goal_meaning.specs.declared.goals.InputReg.{InputReg}
+use Rattle.goal_meaning.specs.declared.goals.DeclaredOp.{DeclaredOp}
 use Rattle.saturation.specs.GoalTerms.{entry_term, input_term}
 
 -- ---- the rows of a launch graph as those of an E-graph

@@ -1,15 +1,15 @@
 // The axioms of an input as rules.
 ghost use Rattle.std.specs.Prelude.{◌≡◌, List, IfOk};
 ghost use Rattle.word_terms.specs.View.{tree_of};
-ghost use Rattle.goal_reader.specs.Views.{axiom_view, input_view};
-ghost use Rattle.goal_reader.specs.WellFormed.{IsAxiom, IsInput};
-ghost use Rattle.goal_reader.specs.declared.scopes.DeclaredOp.{DeclaredOp};
+ghost use Rattle.goal_meaning.specs.Views.{axiom_view, input_view};
+ghost use Rattle.goal_meaning.specs.WellFormed.{IsAxiom, IsInput};
+ghost use Rattle.goal_meaning.specs.declared.goals.DeclaredOp.{DeclaredOp};
 ghost use Rattle.saturation.specs.GoalTerms as terms;
 ghost use Rattle.saturation.specs.GoalTerms.{rule_of, rules_of};
 
 use crate::rounds::Rules;
 use axiom_base::Rule;
-use goal_reader::{Axiom, Input};
+use goal_meaning::{Axiom, Input};
 use items::{Items, NoMemory};
 use std::alloc::Global;
 use word_ops::{Op, Sort};

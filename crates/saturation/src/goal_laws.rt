@@ -2,10 +2,10 @@
 ghost use Rattle.std.specs.Prelude.{All};
 ghost use Rattle.word_ops.specs.Worlds.{World};
 ghost use Rattle.axiom_base.specs.Rewrites.{IsRule};
-ghost use Rattle.goal_reader.specs.Holds.{HoldsFor};
-ghost use Rattle.goal_reader.specs.Printing.{declared_name};
-ghost use Rattle.goal_reader.specs.Views.{GoalTree, InputTree};
-ghost use Rattle.goal_reader.specs.WellFormed.{IsInput};
+ghost use Rattle.goal_meaning.specs.Holds.{HoldsFor};
+ghost use Rattle.goal_meaning.specs.Names.{declared_name};
+ghost use Rattle.goal_meaning.specs.Views.{GoalTree, InputTree};
+ghost use Rattle.goal_meaning.specs.WellFormed.{IsInput};
 ghost use Rattle.saturation.specs.GoalTerms.{assumed_pairs, rules_of};
 ghost use Rattle.saturation.specs.GraphStands.{RulesHold};
 

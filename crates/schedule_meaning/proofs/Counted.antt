@@ -12,7 +12,7 @@ use Rattle.machine_table.specs.InstrOrder.{kind_number}
 use Rattle.machine_table.specs.Tables.{MayUse, use_of, latency_of, IsTable, IsUse}
 use Rattle.schedule_meaning.specs.Launches.{instr_at, ready_in}
 use Rattle.schedule_meaning.specs.Fits.{CanLaunch, EndsBy, Fits}
-use Rattle.launch_graph.specs.declared.graphs.LaunchGraph.{LaunchGraph}
+use Rattle.graph_meaning.specs.declared.graphs.LaunchGraph.{LaunchGraph}
 use Rattle.machine_table.specs.declared.tables.InstrKind.{InstrKind}
 use Rattle.machine_table.specs.declared.tables.InstrKind.TheVariants.{Beq}
 use Rattle.machine_table.specs.declared.tables.Use.{Use}

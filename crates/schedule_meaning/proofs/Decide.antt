@@ -2,7 +2,7 @@
 use Rattle.std.proofs.Common.{◌≡◌, ℕ, zero, suc, ◌<◌, ◌≤◌, List, [], ◌∷◌, length, refl, sym, ap, subst, inl, inr, ◌⊎◌, arith, Bool, true, false, get_or, Option, Some, None}
 use Rattle.std.specs.Prelude.{Any, Contains, IsTrue, IsSomeAnd, IfSome, slice_get}
 use Rattle.std.proofs.lemmas.Bool.{false≢true}
-use Rattle.launch_graph.proofs.Lists.{any_nil, any_here, any_there, any_cases}
+use Rattle.graph_meaning.proofs.Lists.{any_nil, any_here, any_there, any_cases}
 use Rattle.machine_table.proofs.Decide.{Dec, dec_nat, dec_map, dec_le}
 
 abbrev pub dec_true : (b : Bool) → Dec (IsTrue b)

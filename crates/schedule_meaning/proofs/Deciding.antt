@@ -2,7 +2,7 @@
 use Rattle.std.proofs.Common.{◌≡◌, ℕ, ◌+◌, ◌<◌, ◌≤◌, List, length, inl, inr, ◌⊎◌, arith, Option, Some, None}
 use Rattle.std.specs.Prelude.{IsTrue, count_by, unwrap_or, Contains}
 use Rattle.machine_table.specs.Tables.{MayUse, use_of, latency_of, cluster_of}
-use Rattle.launch_graph.specs.Graphs.{memory_target, constant_of, is_memory_name}
+use Rattle.graph_meaning.specs.Graphs.{memory_target, constant_of, is_memory_name}
 use Rattle.schedule_meaning.specs.Launches.{launches, is_store, is_load, is_branch, gives_word, memory_class_at, memory_before, memory_after, class_at, instr_at, operands_at, ready_in, IsFree, IsReadable, IsClassOfInput, Gives, Operand, is_held}
 use Rattle.schedule_meaning.specs.Fits.{Collide, CanRead, IsReached, UsesMemory, Waits, Fits}
 use Rattle.schedule_meaning.specs.Broken.{number, NoEarlier, KeepsMemoryAt, Asks, AsksOfAll, IsKept, Breaks}
@@ -10,8 +10,8 @@ use Rattle.schedule_meaning.specs.declared.fitting.Rule.{Rule}
 use Rattle.schedule_meaning.specs.declared.fitting.Rule.TheVariants.{Rows, Apart, Operands, InTime, Targets, Memory, OneBranch, AfterBranch, Pool}
 use Rattle.machine_table.specs.declared.tables.InstrKind.TheVariants.{Beq}
 use Rattle.machine_table.specs.declared.tables.Table.{Table}
-use Rattle.launch_graph.specs.declared.graphs.SetClass.{SetClass}
-use Rattle.launch_graph.specs.declared.graphs.LaunchGraph.{LaunchGraph}
+use Rattle.graph_meaning.specs.declared.graphs.SetClass.{SetClass}
+use Rattle.graph_meaning.specs.declared.graphs.LaunchGraph.{LaunchGraph}
 use Rattle.schedule_meaning.specs.declared.schedules.Launch.{Launch}
 use Rattle.machine_table.proofs.Decide.{Dec, dec_nat, dec_lt, dec_le, dec_map, dec_and, dec_not, dec_all}
 use Rattle.schedule_meaning.proofs.Decide.{HoldBelow, FailsFirst, first, dec_true, dec_or, dec_imp, dec_any, dec_some, dec_if_some, dec_contains, dec_constant, dec_small}

@@ -8,12 +8,12 @@ use Rattle.std.proofs.lemmas.List.Elements.{All-push, All-nil, All-cons, All-hea
 use Rattle.machine_table.specs.Tables.{cluster_of}
 use Rattle.schedule_meaning.specs.Fits.{CanRead}
 use Rattle.schedule_meaning.specs.Launches.{Operand, operate_operands, operands_at, launches, gives_word, class_at, ready_in, Gives, IsFree, IsClassOfInput, IsZero}
-use Rattle.launch_graph.specs.Graphs.{is_memory_name}
+use Rattle.graph_meaning.specs.Graphs.{is_memory_name}
 use Rattle.schedule_meaning.specs.Fits.{IsReached}
-use Rattle.launch_graph.specs.declared.graphs.SetClass.{SetClass}
+use Rattle.graph_meaning.specs.declared.graphs.SetClass.{SetClass}
 use Rattle.schedule_meaning.specs.Launches.{gives}
 use Rattle.schedule_meaning.specs.Readers.{operand_of, passes, CanUse, CanUseAll}
-use Rattle.launch_graph.specs.declared.graphs.LaunchGraph.{LaunchGraph}
+use Rattle.graph_meaning.specs.declared.graphs.LaunchGraph.{LaunchGraph}
 use Rattle.machine_table.specs.declared.tables.Table.{Table}
 use Rattle.schedule_meaning.specs.declared.schedules.Launch.{Launch}
 use Rattle.schedule_meaning.proofs.Comparisons.{and_left, and_right, and_both, le_true, true_le}

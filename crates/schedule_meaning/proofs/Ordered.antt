@@ -9,15 +9,15 @@ use Rattle.std.proofs.lemmas.Option.{same_Some, none-some}
 use Rattle.machine_table.specs.Tables.{use_of, latency_of, MayUse, IsTable, IsUse, ready, cluster_of}
 use Rattle.schedule_meaning.specs.Launches.{launches, gives_word, instr_at, ready_in, is_store, is_branch, IsFree, IsReadable, Gives, memory_class_at, class_at, Operand}
 use Rattle.machine_table.specs.InstrOrder.{kind_number}
-use Rattle.launch_graph.specs.Graphs.{memory_target}
+use Rattle.graph_meaning.specs.Graphs.{memory_target}
 use Rattle.schedule_meaning.specs.Fits.{CanLaunch, CanRead, Collide, EndsBy, IsReached, IsLatestStore, IsLeft, UsesMemory, Waits, Fits}
-use Rattle.launch_graph.specs.declared.graphs.Guard.{Guard}
-use Rattle.launch_graph.specs.declared.graphs.SetClass.{SetClass}
+use Rattle.graph_meaning.specs.declared.graphs.Guard.{Guard}
+use Rattle.graph_meaning.specs.declared.graphs.SetClass.{SetClass}
 use Rattle.machine_table.specs.declared.tables.InstrKind.{InstrKind}
 use Rattle.machine_table.specs.declared.tables.InstrKind.TheVariants.{Beq}
 use Rattle.machine_table.specs.declared.tables.Use.{Use}
 use Rattle.machine_table.specs.declared.tables.Table.{Table}
-use Rattle.launch_graph.specs.declared.graphs.LaunchGraph.{LaunchGraph}
+use Rattle.graph_meaning.specs.declared.graphs.LaunchGraph.{LaunchGraph}
 use Rattle.schedule_meaning.specs.declared.schedules.Launch.{Launch}
 use Rattle.schedule_meaning.proofs.Rules.{at_each}
 

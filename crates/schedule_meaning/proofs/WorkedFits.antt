@@ -5,7 +5,7 @@ use Rattle.schedule_meaning.specs.Fits.{Fits}
 use Rattle.schedule_meaning.specs.Broken.{IsFirstBroken}
 use Rattle.schedule_meaning.specs.Worked.{sum_graph, two_slots, sum_in_three, sum_in_two, sum_twice, copy_graph, copy_graph_with, free_copy_graph, at_slot, copy_at, copy_with, copy_without_branch, copy_without_store, copy_without_sum, copy_of_no_row, copy_stored_above}
 use Rattle.machine_table.specs.declared.tables.Table.{Table}
-use Rattle.launch_graph.specs.declared.graphs.LaunchGraph.{LaunchGraph}
+use Rattle.graph_meaning.specs.declared.graphs.LaunchGraph.{LaunchGraph}
 use Rattle.schedule_meaning.specs.declared.schedules.Launch.{Launch}
 use Rattle.schedule_meaning.proofs.Rules.{Found}
 use Rattle.schedule_meaning.proofs.Deciding.{decided, broken_pair}

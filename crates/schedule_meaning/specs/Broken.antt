@@ -1,13 +1,13 @@
 -- Which launch of a list breaks which rule first.
 -- Source: this project.
 use Rattle.std.specs.Prelude.{◌≡◌, ℕ, ◌<◌, ◌≤◌, List, length, Some, All, IsTrue, count_by, slice_get}
-use Rattle.launch_graph.specs.Graphs.{memory_target}
+use Rattle.graph_meaning.specs.Graphs.{memory_target}
 use Rattle.schedule_meaning.specs.Launches.{launches, is_store, gives_word, memory_class_at, memory_before, memory_after}
 use Rattle.schedule_meaning.specs.Fits.{CanLaunch, Collide, CanRead, EndsBy, IsReached, UsesMemory, HasOneBranch, Waits}
 use Rattle.schedule_meaning.specs.declared.fitting.Rule.{Rule}
 use Rattle.schedule_meaning.specs.declared.fitting.Rule.TheVariants.{Rows, Apart, Operands, InTime, Targets, Memory, OneBranch, AfterBranch, Pool}
 use Rattle.machine_table.specs.declared.tables.Table.{Table}
-use Rattle.launch_graph.specs.declared.graphs.LaunchGraph.{LaunchGraph}
+use Rattle.graph_meaning.specs.declared.graphs.LaunchGraph.{LaunchGraph}
 use Rattle.schedule_meaning.specs.declared.schedules.Launch.{Launch}
 
 -- the launch m stands earlier in the list than place i, and R holds of it

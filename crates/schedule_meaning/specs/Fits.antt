@@ -2,11 +2,11 @@
 -- Source: this project, over Denali (PLDI 2002): issue slots, latencies, clusters, memory in order, the guard's branch.
 use Rattle.std.specs.Prelude.{◌≡◌, ℕ, ◌+◌, ◌<◌, ◌≤◌, List, length, unwrap_or, All, AllPairs, Any, IsTrue, IsSomeAnd, IfSome, ◌⊎◌, count_by}
 use Rattle.machine_table.specs.Tables.{MayUse, latency_of, cluster_of}
-use Rattle.launch_graph.specs.Graphs.{memory_target, is_memory_name}
+use Rattle.graph_meaning.specs.Graphs.{memory_target, is_memory_name}
 use Rattle.schedule_meaning.specs.Launches.{instr_at, launches, is_load, is_store, is_branch, gives_word, operands_at, memory_class_at, class_at, IsZero, IsFree, IsClassOfInput, IsReadable, Gives, is_held}
 use Rattle.machine_table.specs.declared.tables.Table.{Table}
-use Rattle.launch_graph.specs.declared.graphs.SetClass.{SetClass}
-use Rattle.launch_graph.specs.declared.graphs.LaunchGraph.{LaunchGraph}
+use Rattle.graph_meaning.specs.declared.graphs.SetClass.{SetClass}
+use Rattle.graph_meaning.specs.declared.graphs.LaunchGraph.{LaunchGraph}
 use Rattle.schedule_meaning.specs.declared.schedules.Launch.{Launch}
 use Rattle.machine_table.specs.declared.tables.InstrKind.TheVariants.{Beq}
 

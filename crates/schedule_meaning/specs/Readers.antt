@@ -4,7 +4,7 @@ use Rattle.std.specs.Prelude.{ℕ, nat_le, nat_lt, ◌&&◌, if◌then◌else◌
 use Rattle.machine_table.specs.Tables.{cluster_of}
 use Rattle.schedule_meaning.specs.Launches.{ready_in, Operand, IsFree, IsReadable, launches, is_store}
 use Rattle.machine_table.specs.declared.tables.Table.{Table}
-use Rattle.launch_graph.specs.declared.graphs.LaunchGraph.{LaunchGraph}
+use Rattle.graph_meaning.specs.declared.graphs.LaunchGraph.{LaunchGraph}
 use Rattle.schedule_meaning.specs.declared.schedules.Launch.{Launch}
 
 -- those that are ready for it; without a reader all

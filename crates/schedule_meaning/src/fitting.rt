@@ -7,7 +7,7 @@ use crate::operands::{can_read_all, targets_are_reached};
 use crate::schedules::{Launch, Schedule};
 use crate::stores::{keeps_memory, memory_is_left};
 use crate::testing::{can_launch, ends_by, has_one_branch, has_room, is_alone, waits};
-use launch_graph::LaunchGraph;
+use graph_meaning::LaunchGraph;
 use machine_table::Table;
 
 /// The least broken rule, and the first launch that breaks it; the list's length for a rule on the whole schedule.

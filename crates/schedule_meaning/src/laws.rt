@@ -1,7 +1,7 @@
 // What the definitions say of all schedules. The calls do nothing: their clauses are laws.
 ghost use Rattle.std.specs.Prelude.{◌≡◌, ◌*◌, ◌<◌, ◌≤◌, ◌⊎◌, ℕ, List, All, IsPermutation, length};
-ghost use Rattle.launch_graph.specs.Graphs.{memory_target};
-ghost use Rattle.launch_graph.specs.declared.graphs.LaunchGraph.{LaunchGraph as Graph};
+ghost use Rattle.graph_meaning.specs.Graphs.{memory_target};
+ghost use Rattle.graph_meaning.specs.declared.graphs.LaunchGraph.{LaunchGraph as Graph};
 ghost use Rattle.machine_table.specs.Tables.{IsTable};
 ghost use Rattle.machine_table.specs.declared.tables.Table.{Table as TableOf};
 ghost use Rattle.schedule_meaning.specs.Broken.{IsFirstBroken};

@@ -4,7 +4,7 @@ ghost use Rattle.machine_table.specs.Tables as tables;
 ghost use Rattle.schedule_meaning.specs.Launches as launches;
 
 use crate::schedules::Launch;
-use launch_graph::LaunchGraph;
+use graph_meaning::LaunchGraph;
 use machine_table::{InstrKind, Table, operate_kind};
 use word_ops::{Op, WordOp};
 

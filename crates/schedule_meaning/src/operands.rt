@@ -8,7 +8,7 @@ ghost use Rattle.schedule_meaning.specs.Readers.{passes, operand_of, CanUse, Can
 use crate::lookups::operand;
 use crate::readers::may_take;
 use crate::schedules::Launch;
-use launch_graph::{LaunchGraph, SetClass};
+use graph_meaning::{LaunchGraph, SetClass};
 use machine_table::{Table, operate_kind};
 use word_ops::{Op, WordOp};
 

@@ -5,7 +5,7 @@ ghost use Rattle.schedule_meaning.specs.Readers.{passes};
 
 use crate::lookups::{cluster_of, gives, gives_word, ready_in};
 use crate::schedules::Launch;
-use launch_graph::LaunchGraph;
+use graph_meaning::LaunchGraph;
 use machine_table::Table;
 
 /// How many launches before a place give a word.

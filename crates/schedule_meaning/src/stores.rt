@@ -1,6 +1,6 @@
 // Whether launches read the memory that earlier stores leave.
 ghost use Rattle.std.specs.Prelude.{◌≡◌, ◌↔◌, ◌≤◌, ◌<◌, IsTrue, length, Some};
-ghost use Rattle.launch_graph.specs.Graphs as graphs;
+ghost use Rattle.graph_meaning.specs.Graphs as graphs;
 ghost use Rattle.schedule_meaning.specs.Launches as launches;
 ghost use Rattle.schedule_meaning.specs.Fits as rules;
 ghost use Rattle.schedule_meaning.specs.Readers.{is_store_below, later_of};
@@ -8,7 +8,7 @@ ghost use Rattle.schedule_meaning.specs.Broken.{NoEarlier, KeepsMemoryAt};
 
 use crate::lookups::{class_at, is_load, is_store, memory_class_at};
 use crate::schedules::Launch;
-use launch_graph::LaunchGraph;
+use graph_meaning::LaunchGraph;
 
 fn is_store_below(graph: &LaunchGraph, cycle: Option<u32>, launch: Launch) -> bool
     ensures { result ≡ is_store_below graph.now cycle launch }

@@ -7,7 +7,7 @@ ghost use Rattle.schedule_meaning.specs.Broken.{NoEarlier};
 use crate::lookups::{instr_at, is_branch, is_held, is_load, is_store};
 use crate::readers::words_before;
 use crate::schedules::Launch;
-use launch_graph::LaunchGraph;
+use graph_meaning::LaunchGraph;
 use machine_table::{InstrKind, Table};
 
 pub(crate) fn can_launch(graph: &LaunchGraph, table: &Table, launch: Launch) -> bool

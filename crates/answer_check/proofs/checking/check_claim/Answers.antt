@@ -1,6 +1,23 @@
-use Rattle.answer_texts.specs.AnswerLines.{refuted_below}
+use Rattle.std.proofs.Common.{◌≡◌, ◌-◌, ◌<◌, ◌^◌, ℕ, List, length, Option, subst, sym}
+use Rattle.std.specs.Prelude.{IfSome}
+use Rattle.answer_texts.specs.AnswerLines.{refuted_below, refuted_cycles}
+use Rattle.cnf_core.specs.declared.line.Lines.{Lines}
+use Rattle.graph_meaning.specs.WellFormed.{IsLaunchGraph}
+use Rattle.graph_meaning.specs.declared.graphs.LaunchGraph.{LaunchGraph}
+use Rattle.order_encoding.specs.WholeFormula.{formula_in}
+use Rattle.schedule_meaning.specs.Fits.{Fits}
+use Rattle.schedule_meaning.specs.declared.schedules.Launch.{Launch}
 use Rattle.answer_check.proofs.Claims.{few_lines, if_none, none_below, true_claim, where_none}
 use Rattle.answer_check.proofs.checking.check_claim.Goals as goal
+
+pub wrong_size-requires-clause-graph : goal.wrong_size-requires-clause-graph
+wrong_size-requires-clause-graph c = subst IsLaunchGraph (sym c.requires.facts) c.requires.graph
+
+pub refused_below-requires-clause-graph : goal.refused_below-requires-clause-graph
+refused_below-requires-clause-graph c = subst IsLaunchGraph (sym c.requires.facts) c.requires.graph
+
+pub refused_lemma-requires-clause-graph : goal.refused_lemma-requires-clause-graph
+refused_lemma-requires-clause-graph c = subst IsLaunchGraph (sym c.requires.facts) c.requires.graph
 
 pub refused_below-requires-clause-few : goal.refused_below-requires-clause-few
 refused_below-requires-clause-few c =
@@ -11,10 +28,13 @@ returns-clause-sound c =
     let g = c.args.graph.now in
     let table = c.args.table.now in
     let claim = c.args.goal.now.claim in
-    λ holds. true_claim table g claim c.requires.world c.in_default.ensures.fits
-    (c.in_ok-is_listed.ensures.does c.if-not-branch.false)
+    let none = subst
+    (λ (x : LaunchGraph). IfSome c.args.goal.now.refute
+    (λ (l : Lines). (ls : List Launch) → Fits x table (refuted_cycles claim) ls → ⊥))
+    c.requires.facts (if_none c.in_ok-rejected.field-0 c.in_default-3.is c.in_ok-rejected.ensures.none_fits) in
+    λ holds. true_claim table g (formula_in c.args.scope.now c.args.facts.now table) claim c.requires.world
+    c.in_default.ensures.fits (c.in_ok-is_listed.ensures.does c.if-not-branch.false)
     (where_none _ c.in_ok-sizes.field-0 c.in_default-2.is c.in_ok-sizes.ensures).1
     (where_none _ c.in_ok-rejected-2.field-0 c.in_default-4.is c.in_ok-rejected-2.ensures)
     (none_below table g (λ k m ls le fit. c.schedules_fit_or_break.ensures.longer g table k m ls le fit)
-    (refuted_below claim) c.args.goal.now.refute c.requires.refute
-    (if_none c.in_ok-rejected.field-0 c.in_default-3.is c.in_ok-rejected.ensures.none_fits))
+    (refuted_below claim) c.args.goal.now.refute c.requires.refute none)

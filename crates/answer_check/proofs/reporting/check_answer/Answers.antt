@@ -2,7 +2,7 @@ use Rattle.std.proofs.Common.{◌≡◌, ◌<◌, List, get_or, length, sym, sub
 use Rattle.std.specs.Prelude.{◌||◌}
 use Rattle.answer_texts.specs.WellFormed.{IsClaimed}
 use Rattle.answer_texts.specs.declared.answers.Claimed.{Claimed}
-use Rattle.answer_check.specs.Reports.{is_rejection}
+use Rattle.answer_check.specs.Reports.{IsJudged, encoding_named, is_rejection}
 use Rattle.answer_check.proofs.Judging.{rejected_before, rejected_now, reported_next}
 use Rattle.answer_check.proofs.reporting.check_answer.Goals as goal
 use Rattle.answer_check.proofs.reporting.check_answer.Goals.{then-rejected, else-rejected}
@@ -27,8 +27,10 @@ loop-goal-preserved c =
       | else-rejected w ↦
           rejected_now before after now w.if-rejected.false (w.rejected-is ∙ w.is_rejection-rejected.ensures)
     ] in
-    reported_next c.args.answer.now.table c.args.answer.now.goals c.as_slice-goal-items.result.now c.loop-goal.goal-index
+    reported_next (encoding_named c.args.answer.now.encoding) c.args.answer.now.table c.args.answer.now.goals c.as_slice-goal-items.result.now c.loop-goal.goal-index
     c.loop-goal.bytes.items c.put_verdict.new.text.items before after c.goal-item.result c.in_ok-verdict.verdict
     c.as_slice-goal-items.ensures c.loop-goal-test.true c.goal-item.is c.loop-goal.invariant
-    (record { verdict = c.in_ok-verdict.ensures.verdict; sound = c.in_ok-verdict.ensures.sound })
+    (subst (λ e. IsJudged e c.args.answer.now.table c.goal-item.result c.in_ok-verdict.verdict)
+    c.encoding_named-encoding.ensures
+    (record { verdict = c.in_ok-verdict.ensures.verdict; sound = c.in_ok-verdict.ensures.sound }))
     c.in_ok-put_verdict.ensures told

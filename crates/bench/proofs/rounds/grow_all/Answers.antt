@@ -1,6 +1,6 @@
 use Rattle.std.proofs.Common.{map, All, sym, subst}
-use Rattle.goal_reader.specs.Views.{goal_view}
-use Rattle.goal_reader.specs.WellFormed.{IsGoal}
+use Rattle.goal_meaning.specs.Views.{goal_view}
+use Rattle.goal_meaning.specs.WellFormed.{IsGoal}
 use Rattle.bench.proofs.ListedGoals.{goal_at}
 use Rattle.bench.proofs.rounds.grow_all.Goals as goal
 

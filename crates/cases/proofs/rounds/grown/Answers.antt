@@ -1,8 +1,8 @@
 use Rattle.std.proofs.Common.{◌≡◌, List, [], ◌∷◌, map, Some, None, slice_get, All, sym, subst}
 use Rattle.std.proofs.lemmas.List.Elements.{All-head}
-use Rattle.goal_reader.specs.Views.{GoalTree, goal_view, input_view}
-use Rattle.goal_reader.specs.WellFormed.{IsGoal}
-use Rattle.goal_reader.specs.declared.goals.Goal.{Goal}
+use Rattle.goal_meaning.specs.Views.{GoalTree, goal_view, input_view}
+use Rattle.goal_meaning.specs.WellFormed.{IsGoal}
+use Rattle.goal_meaning.specs.declared.goals.Goal.{Goal}
 use Rattle.cases.proofs.rounds.grown.Goals as goal
 
 first_of : (P : GoalTree → Type 0) (xs : List Goal) (g : Goal) → Some g ≡ slice_get xs 0 → All P (map goal_view xs) → P (goal_view g)

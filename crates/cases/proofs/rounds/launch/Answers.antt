@@ -1,9 +1,9 @@
 use Rattle.std.proofs.Common.{◌≡◌, ◌<◌, ◌^◌, List, [], ◌∷◌, length, map, Some, None, slice_get, ap, subst, arith, Contains}
 use Rattle.std.proofs.lemmas.List.Elements.{All-contains}
 use Rattle.axiom_base.specs.Rewrites.{Rewrite}
-use Rattle.goal_reader.specs.Views.{goal_view, input_view}
-use Rattle.goal_reader.specs.WellFormed.{IsGoal}
-use Rattle.goal_reader.specs.declared.goals.Goal.{Goal}
+use Rattle.goal_meaning.specs.Views.{goal_view, input_view}
+use Rattle.goal_meaning.specs.WellFormed.{IsGoal}
+use Rattle.goal_meaning.specs.declared.goals.Goal.{Goal}
 use Rattle.saturation.specs.GoalTerms.{assumed_pairs, present_terms}
 use Rattle.saturation.specs.Grown.{IsGrown}
 use Rattle.cases.proofs.rounds.launch.Goals as goal

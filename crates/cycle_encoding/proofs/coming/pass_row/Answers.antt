@@ -1,6 +1,6 @@
 use Rattle.std.proofs.Common.{refl, ◌∙◌, ◌+◌, sym, ap, arith}
 use Rattle.schedule_meaning.specs.Launches.{class_at}
-use Rattle.launch_graph.specs.declared.graphs.LaunchGraph.{LaunchGraph}
+use Rattle.graph_meaning.specs.declared.graphs.LaunchGraph.{LaunchGraph}
 use Rattle.cycle_encoding.specs.Coming.{are_come}
 use Rattle.cycle_encoding.proofs.ComeSteps.{few-latency, not-ready, row-sound, row-passed}
 use Rattle.cycle_encoding.proofs.coming.pass_row.Goals as goal

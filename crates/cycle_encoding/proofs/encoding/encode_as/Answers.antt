@@ -1,5 +1,5 @@
 use Rattle.std.proofs.Common.{◌≡◌, ◌∙◌, ap, sym, subst, arith, ℕ}
-use Rattle.launch_graph.specs.declared.graphs.LaunchGraph.{LaunchGraph}
+use Rattle.graph_meaning.specs.declared.graphs.LaunchGraph.{LaunchGraph}
 use Rattle.machine_table.specs.declared.tables.Table.{Table}
 use Rattle.cycle_encoding.specs.CycleFormula.{Listed, Scope, cycle_formula, first_cycle_in, listed_in}
 use Rattle.cycle_encoding.specs.Variables.{launches_from}
@@ -20,7 +20,7 @@ returns-then-sizes-gt262144-clause-size c =
     let table = c.args.table.now in
     let k = c.args.k in
     let s = c.in_ok-scope.scope in
-    let own = own-list c.args.encoding g c.in_ok-facts.facts table k s c.in_ok-facts.ensures (c.in_ok-scope.ensures k c.requires.cycles) in
+    let own = own-list c.args.encoding g c.in_ok-facts.facts table k s c.in_ok-facts.ensures (c.in_ok-scope.ensures.lists k c.requires.cycles) in
     let vars = c.in_ok-sizes.ensures.vars ∙ ap (λ (x : LaunchGraph). cycle_vars x table k s) c.in_ok-facts.ensures ∙ sym (c.cycle_counts_are_found.ensures.vars g table k s) in
     let clauses = c.in_ok-sizes.ensures.clauses ∙ ap (λ (x : LaunchGraph). cycle_size x table k s) c.in_ok-facts.ensures ∙ sym (c.cycle_counts_are_found.ensures.clauses g table k s) in
     λ l a. subst (λ (x : Listed). PassesLimit (cycle_formula g table k x) c.in_ok-sizes.sizes.vars c.in_ok-sizes.sizes.clauses) (sym (c.each_encoding_has_one_list.ensures c.args.encoding g table k l (listed_in g table k s) a own))
@@ -32,7 +32,7 @@ returns-then-sizes-gt2000000-clause-size c =
     let table = c.args.table.now in
     let k = c.args.k in
     let s = c.in_ok-scope.scope in
-    let own = own-list c.args.encoding g c.in_ok-facts.facts table k s c.in_ok-facts.ensures (c.in_ok-scope.ensures k c.requires.cycles) in
+    let own = own-list c.args.encoding g c.in_ok-facts.facts table k s c.in_ok-facts.ensures (c.in_ok-scope.ensures.lists k c.requires.cycles) in
     let vars = c.in_ok-sizes.ensures.vars ∙ ap (λ (x : LaunchGraph). cycle_vars x table k s) c.in_ok-facts.ensures ∙ sym (c.cycle_counts_are_found.ensures.vars g table k s) in
     let clauses = c.in_ok-sizes.ensures.clauses ∙ ap (λ (x : LaunchGraph). cycle_size x table k s) c.in_ok-facts.ensures ∙ sym (c.cycle_counts_are_found.ensures.clauses g table k s) in
     λ l a. subst (λ (x : Listed). PassesLimit (cycle_formula g table k x) c.in_ok-sizes.sizes.vars c.in_ok-sizes.sizes.clauses) (sym (c.each_encoding_has_one_list.ensures c.args.encoding g table k l (listed_in g table k s) a own))
@@ -54,7 +54,7 @@ returns-clause-listed c =
     let table = c.args.table.now in
     let k = c.args.k in
     let s = c.in_ok-scope.scope in
-    let own = own-list c.args.encoding g c.in_ok-facts.facts table k s c.in_ok-facts.ensures (c.in_ok-scope.ensures k c.requires.cycles) in
+    let own = own-list c.args.encoding g c.in_ok-facts.facts table k s c.in_ok-facts.ensures (c.in_ok-scope.ensures.lists k c.requires.cycles) in
     (listed_in g table k s, own)
 
 pub returns-clause-formula : goal.returns-clause-formula
@@ -63,7 +63,7 @@ returns-clause-formula c =
     let table = c.args.table.now in
     let k = c.args.k in
     let s = c.in_ok-scope.scope in
-    let own = own-list c.args.encoding g c.in_ok-facts.facts table k s c.in_ok-facts.ensures (c.in_ok-scope.ensures k c.requires.cycles) in
+    let own = own-list c.args.encoding g c.in_ok-facts.facts table k s c.in_ok-facts.ensures (c.in_ok-scope.ensures.lists k c.requires.cycles) in
     λ l a.
     c.in_ok-build_cycles.ensures.formula
     ∙ ap (λ (x : LaunchGraph). cycle_formula x table k (listed_in x table k s)) c.in_ok-facts.ensures
@@ -75,11 +75,12 @@ returns-clause-plan c =
     let table = c.args.table.now in
     let k = c.args.k in
     let s = c.in_ok-scope.scope in
-    let own = own-list c.args.encoding g c.in_ok-facts.facts table k s c.in_ok-facts.ensures (c.in_ok-scope.ensures k c.requires.cycles) in
+    let own = own-list c.args.encoding g c.in_ok-facts.facts table k s c.in_ok-facts.ensures (c.in_ok-scope.ensures.lists k c.requires.cycles) in
     λ l a.
     c.in_ok-build_cycles.ensures.plan
-    ∙ ap {A = LaunchGraph} {B = Plan} (λ x. record { cycles = k; launches = launches_from x table k (first_cycle_in s) }) c.in_ok-facts.ensures
-    ∙ ap {A = Listed} {B = Plan} (λ x. record { cycles = k; launches = x.launches }) (sym (c.each_encoding_has_one_list.ensures c.args.encoding g table k l (listed_in g table k s) a own))
+    ∙ ap {A = LaunchGraph} {B = Plan} (λ x. record { encoding = s.encoding; cycles = k; launches = launches_from x table k (first_cycle_in s) }) c.in_ok-facts.ensures
+    ∙ ap {A = Encoding} {B = Plan} (λ e. record { encoding = e; cycles = k; launches = launches_from g table k (first_cycle_in s) }) c.in_ok-scope.ensures.encoding
+    ∙ ap {A = Listed} {B = Plan} (λ x. record { encoding = c.args.encoding; cycles = k; launches = x.launches }) (sym (c.each_encoding_has_one_list.ensures c.args.encoding g table k l (listed_in g table k s) a own))
 
 pub returns-clause-within : goal.returns-clause-within
 returns-clause-within c =
@@ -87,7 +88,7 @@ returns-clause-within c =
     let table = c.args.table.now in
     let k = c.args.k in
     let s = c.in_ok-scope.scope in
-    let own = own-list c.args.encoding g c.in_ok-facts.facts table k s c.in_ok-facts.ensures (c.in_ok-scope.ensures k c.requires.cycles) in
+    let own = own-list c.args.encoding g c.in_ok-facts.facts table k s c.in_ok-facts.ensures (c.in_ok-scope.ensures.lists k c.requires.cycles) in
     let vars = c.in_ok-sizes.ensures.vars ∙ ap (λ (x : LaunchGraph). cycle_vars x table k s) c.in_ok-facts.ensures ∙ sym (c.cycle_counts_are_found.ensures.vars g table k s) in
     let clauses = c.in_ok-sizes.ensures.clauses ∙ ap (λ (x : LaunchGraph). cycle_size x table k s) c.in_ok-facts.ensures ∙ sym (c.cycle_counts_are_found.ensures.clauses g table k s) in
     λ l a. subst (λ x. IsTooLarge (cycle_formula g table k x) → ⊥) (sym (c.each_encoding_has_one_list.ensures c.args.encoding g table k l (listed_in g table k s) a own))

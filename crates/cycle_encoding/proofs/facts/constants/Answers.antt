@@ -2,8 +2,8 @@ use Rattle.std.proofs.Common.{◌∙◌, ◌<◌, ◌≤◌, List, ap, subst, ge
 use Rattle.std.specs.Prelude.{length}
 use Rattle.std.specs.List.{range_with_len}
 use Rattle.std.proofs.lemmas.List.{take_all}
-use Rattle.launch_graph.specs.Graphs.{constant_among, constant_of}
-use Rattle.launch_graph.specs.declared.graphs.LaunchRow.{LaunchRow}
+use Rattle.graph_meaning.specs.Graphs.{constant_among, constant_of}
+use Rattle.graph_meaning.specs.declared.graphs.LaunchRow.{LaunchRow}
 use Rattle.word_ops.specs.Meanings.{constant_in}
 use Rattle.cycle_encoding.proofs.Marking.{constant_step}
 use Rattle.cycle_encoding.proofs.Tables.{table_of}

@@ -1,6 +1,6 @@
 use Rattle.std.proofs.Common.{◌≡◌, take, map}
 use Rattle.std.specs.List.{range_with_len}
-use Rattle.launch_graph.specs.Graphs.{constant_among}
+use Rattle.graph_meaning.specs.Graphs.{constant_among}
 use Rattle.cycle_encoding.proofs.facts.constants.Given as goal
 
 abbrev pub invariant-loop-row : goal.invariant-loop-row

@@ -2,7 +2,7 @@ use Rattle.std.proofs.Common.{◌∙◌, ◌<◌, ◌≤◌, ◌==◌, ℕ, true
 use Rattle.std.specs.Prelude.{length}
 use Rattle.std.specs.List.{list_any, range_with_len}
 use Rattle.std.proofs.lemmas.List.{take_all}
-use Rattle.launch_graph.specs.declared.graphs.InputClass.{InputClass}
+use Rattle.graph_meaning.specs.declared.graphs.InputClass.{InputClass}
 use Rattle.cycle_encoding.specs.Variables.{is_input}
 use Rattle.cycle_encoding.proofs.Marking.{mark_step, and_true}
 use Rattle.cycle_encoding.proofs.Tables.{table_of}

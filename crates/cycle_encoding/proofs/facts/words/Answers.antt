@@ -2,7 +2,7 @@ use Rattle.std.proofs.Common.{◌∙◌, ◌<◌, ◌≤◌, ◌==◌, ℕ, List
 use Rattle.std.specs.Prelude.{length, ◌&&◌}
 use Rattle.std.specs.List.{list_any, range_with_len}
 use Rattle.std.proofs.lemmas.List.{take_all}
-use Rattle.launch_graph.specs.declared.graphs.LaunchRow.{LaunchRow}
+use Rattle.graph_meaning.specs.declared.graphs.LaunchRow.{LaunchRow}
 use Rattle.word_ops.specs.Meanings.{sort_of}
 use Rattle.cycle_encoding.specs.Variables.{is_word, is_word_class}
 use Rattle.cycle_encoding.proofs.Marking.{mark_step}

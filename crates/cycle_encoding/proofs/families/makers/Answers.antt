@@ -2,8 +2,8 @@ use Rattle.std.proofs.Common.{◌∙◌, ℕ, [], ap, List, map, arith}
 use Rattle.std.specs.List.{range_with_len}
 use Rattle.std.proofs.lemmas.List.{take_all}
 use Rattle.schedule_meaning.specs.declared.schedules.Launch.{Launch}
-use Rattle.launch_graph.specs.declared.graphs.LaunchGraph.{LaunchGraph}
-use Rattle.launch_graph.specs.WellFormed.{next_class}
+use Rattle.graph_meaning.specs.declared.graphs.LaunchGraph.{LaunchGraph}
+use Rattle.graph_meaning.specs.WellFormed.{next_class}
 use Rattle.cycle_encoding.specs.Steps.{given_in}
 use Rattle.cycle_encoding.proofs.Sorted.{maker_step, given_empty}
 use Rattle.cycle_encoding.proofs.Tables.{table_of}

@@ -1,6 +1,6 @@
 use Rattle.std.proofs.Common.{◌≡◌, take, map}
 use Rattle.std.specs.List.{range_with_len}
-use Rattle.launch_graph.specs.WellFormed.{next_class}
+use Rattle.graph_meaning.specs.WellFormed.{next_class}
 use Rattle.cycle_encoding.specs.Steps.{given_in}
 use Rattle.cycle_encoding.proofs.families.makers.Given as goal
 

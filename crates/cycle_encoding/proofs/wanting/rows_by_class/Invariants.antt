@@ -1,7 +1,7 @@
 use Rattle.std.proofs.Common.{◌≡◌, map}
 use Rattle.std.specs.Prelude.{◌&&◌, ◌==◌}
 use Rattle.std.specs.List.{filter, range_with_len}
-use Rattle.launch_graph.specs.WellFormed.{next_class}
+use Rattle.graph_meaning.specs.WellFormed.{next_class}
 use Rattle.schedule_meaning.specs.Launches.{gives_word, class_at}
 use Rattle.cycle_encoding.specs.Counts.{row_is}
 use Rattle.cycle_encoding.proofs.wanting.rows_by_class.Given as goal

@@ -1,8 +1,8 @@
 use Rattle.std.proofs.Common.{◌<◌, ◌≤◌, ◌∙◌, ap, subst, sym, List, length, get_or, ◌∷◌, []}
 use Rattle.std.specs.Prelude.{Contains, IsTrue}
 use Rattle.std.proofs.lemmas.List.{take_all}
-use Rattle.launch_graph.specs.declared.graphs.LaunchGraph.{LaunchGraph}
-use Rattle.launch_graph.specs.declared.graphs.SetClass.{SetClass}
+use Rattle.graph_meaning.specs.declared.graphs.LaunchGraph.{LaunchGraph}
+use Rattle.graph_meaning.specs.declared.graphs.SetClass.{SetClass}
 use Rattle.cycle_encoding.specs.Wanting.{is_wanted_target, AreAllMarked}
 use Rattle.cycle_encoding.proofs.WantSteps.{more-targets}
 use Rattle.cycle_encoding.proofs.wanting.want_targets.Goals as goal

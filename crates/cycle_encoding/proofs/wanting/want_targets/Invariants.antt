@@ -1,6 +1,6 @@
 use Rattle.std.proofs.Common.{◌≡◌, length, take, ◌∷◌, []}
 use Rattle.std.specs.Prelude.{Contains, IsTrue}
-use Rattle.launch_graph.specs.declared.graphs.SetClass.{SetClass}
+use Rattle.graph_meaning.specs.declared.graphs.SetClass.{SetClass}
 use Rattle.cycle_encoding.specs.Wanting.{is_wanted_target, AreWantedMarks, AreAllMarked}
 use Rattle.cycle_encoding.proofs.wanting.want_targets.Given as goal
 

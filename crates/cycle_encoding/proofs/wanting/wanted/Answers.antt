@@ -1,7 +1,7 @@
 use Rattle.std.proofs.Common.{◌∙◌, ap, Bool, List, length, ◌∷◌, []}
 use Rattle.std.proofs.lemmas.List.FromFn.{length-map-range_with_len}
-use Rattle.launch_graph.specs.WellFormed.{next_class}
-use Rattle.launch_graph.specs.declared.graphs.LaunchGraph.{LaunchGraph}
+use Rattle.graph_meaning.specs.WellFormed.{next_class}
+use Rattle.graph_meaning.specs.declared.graphs.LaunchGraph.{LaunchGraph}
 use Rattle.cycle_encoding.specs.Coming.{needs_of}
 use Rattle.cycle_encoding.proofs.WantSteps.{none-marked, kept-marks, marks-exact}
 use Rattle.cycle_encoding.proofs.wanting.wanted.Goals as goal

@@ -1,7 +1,7 @@
 use Rattle.std.proofs.Common.{◌≡◌, ◌++◌, length, map, take}
 use Rattle.std.specs.List.{flat_map}
 use Rattle.answer_texts.specs.AnswerLines.{goal_lines, head_lines}
-use Rattle.goal_reader.specs.Views.{goal_view}
+use Rattle.goal_meaning.specs.Views.{goal_view}
 use Rattle.text_core.specs.LineTexts.{lines_text}
 use Rattle.denali_run.specs.ClaimedResults.{goals_claimed}
 use Rattle.denali_run.proofs.claiming.print.Given as goal
@@ -11,5 +11,5 @@ abbrev pub invariant-loop-answered : goal.invariant-loop-answered
 invariant-loop-answered l =
     (l.at ≡ length l.yielded)
     × (l.text.items
-    ≡ lines_text (head_lines 1 1 l.input.table l.input.builtin)
+    ≡ lines_text (head_lines 1 2 l.input.table l.input.builtin)
     ++ lines_text (flat_map (goal_lines l.input.table) (goals_claimed (map goal_view l.input.goals) (take l.at l.fn.results.items))))

@@ -1,4 +1,4 @@
-use Rattle.goal_reader.specs.Views.{input_view}
+use Rattle.goal_meaning.specs.Views.{input_view}
 use Rattle.denali_run.proofs.GeneratedResults.{line_answers, one_right}
 use Rattle.denali_run.proofs.generated_solving.gen_text.Goals as goal
 

@@ -1,9 +1,9 @@
 use Rattle.std.proofs.Common.{refl, subst, List, Contains, length, map}
 use Rattle.std.proofs.lemmas.List.Elements.{All-contains}
 use Rattle.axiom_base.specs.Rewrites.{Rewrite}
-use Rattle.goal_reader.specs.Printing.{declared_name}
-use Rattle.goal_reader.specs.Views.{goal_view, input_view}
-use Rattle.goal_reader.specs.WellFormed.{IsGoal}
+use Rattle.goal_meaning.specs.Names.{declared_name}
+use Rattle.goal_meaning.specs.Views.{goal_view, input_view}
+use Rattle.goal_meaning.specs.WellFormed.{IsGoal}
 use Rattle.saturation.specs.AtStart.{most_rows_at_start}
 use Rattle.saturation.specs.Launched.{row_in}
 use Rattle.saturation.specs.GoalTerms.{assumed_pairs, kept_terms, present_terms, rules_of}

@@ -1,49 +1,73 @@
-use Rattle.std.proofs.Common.{◌<◌, ◌^◌, arith, subst, sym}
+use Rattle.std.proofs.Common.{◌<◌, ◌≤◌, ◌^◌, arith, subst, sym}
 use Rattle.std.specs.Prelude.{All}
+use Rattle.cycle_encoding.specs.declared.encodings.Encoding.TheVariants.{Narrow}
 use Rattle.register_assign.specs.Outcomes.{AreWordsOf}
-use Rattle.denali_run.specs.Trials.{IsTrial}
-use Rattle.denali_run.specs.declared.results.Encoding.TheVariants.{Wide}
-use Rattle.denali_run.proofs.RisingCycles.{least_at_first, least_after, found_right, missing_right}
+use Rattle.denali_run.specs.Trials.{IsReachedIn}
+use Rattle.denali_run.proofs.RisingCycles.{found_right, large_right, missing_right, spent_right}
 use Rattle.denali_run.proofs.searching.search.Goals as goal
 
-pub loop-refutation-init : goal.loop-refutation-init
-loop-refutation-init g c = (omega arith, least_at_first c.args.matched.graph c.args.table.now c.args.settings.now.conflicts)
+pub assign-requires-clause-fits : goal.assign-requires-clause-fits
+assign-requires-clause-fits g c =
+    (subst (IsReachedIn Narrow c.args.matched.graph c.args.table.now c.args.settings.now) c.in-Fitting.is
+    c.in_ok-reached.ensures).holds.2
 
-pub returns-in-Fitting : goal.returns-in-Fitting
-returns-in-Fitting g c = λ input goal is matched.
+pub assign-requires-clause-few : goal.assign-requires-clause-few
+assign-requires-clause-few g c =
+    (let low = (subst (IsReachedIn Narrow c.args.matched.graph c.args.table.now c.args.settings.now) c.in-Fitting.is
+    c.in_ok-reached.ensures).holds.0 in
+    let most = c.requires.settings.cycles in
+    omega (arith, low, most))
+
+pub returns-in_ok-words-in-Fitting : goal.returns-in_ok-words-in-Fitting
+returns-in_ok-words-in-Fitting g c = λ input goal is matched.
+    let by = subst (IsReachedIn Narrow c.args.matched.graph c.args.table.now c.args.settings.now) c.in-Fitting.is
+    c.in_ok-reached.ensures in
     found_right input goal c.args.settings.now c.args.table.now
     (record {
       matched = c.args.matched;
-      k = c.loop-refutation.k;
+      k = c.in-Fitting.k;
       schedule = c.in-Fitting.schedule;
       listing = c.in_ok-listing-in-Fitting.listing;
       words = c.from.result;
-      refutation = c.loop-refutation.refutation;
+      refutation = c.in-Fitting.refutation;
     })
-    is matched c.loop-refutation.invariant.0
-    (subst (IsTrial Wide c.args.matched.graph c.args.table.now c.loop-refutation.k c.args.settings.now.conflicts)
-    c.in-Fitting.is c.in_ok-schedule.ensures)
-    c.in_ok-listing-in-Fitting.ensures.listing
+    by.clauses_for is matched by.holds.0 by.formulas (by.holds.1, by.holds.2) c.in_ok-listing-in-Fitting.ensures.listing
     (subst (AreWordsOf c.in_ok-listing-in-Fitting.listing.items) (sym c.from.ensures)
     (subst (λ items. AreWordsOf items c.in_ok-words-in-Fitting.words.items) c.as_slice.ensures c.in_ok-words-in-Fitting.ensures.decode))
     (subst (All (λ word. word < 2 ^ 32)) (sym c.from.ensures) c.in_ok-words-in-Fitting.ensures.low)
-    c.in_ok-listing-in-Fitting.ensures.keeps c.loop-refutation.invariant.1
+    c.in_ok-listing-in-Fitting.ensures.keeps by.holds.3
 
-pub returns-then-k-settings : goal.returns-then-k-settings
-returns-then-k-settings g c = λ input goal is matched.
+pub returns-in-Missing : goal.returns-in-Missing
+returns-in-Missing g c = λ input goal is matched.
+    let by = subst (IsReachedIn Narrow c.args.matched.graph c.args.table.now c.args.settings.now) c.in-Missing.is
+    c.in_ok-reached.ensures in
     missing_right input goal c.args.settings.now c.args.table.now
-    (record { matched = c.args.matched; k = c.loop-refutation.k; refutation = c.in-Refuted.lines }) is matched
-    c.if-k-settings.true
-    (least_after c.args.matched.graph c.args.table.now c.args.settings.now.conflicts c.loop-refutation.k c.loop-refutation.refutation c.in-Refuted.lines
-    c.loop-refutation.invariant.1
-    (subst (IsTrial Wide c.args.matched.graph c.args.table.now c.loop-refutation.k c.args.settings.now.conflicts)
-    c.in-Refuted.is c.in_ok-schedule.ensures))
+    (record { matched = c.args.matched; k = c.in-Missing.k; refutation = c.in-Missing.refutation }) by.clauses_for is
+    matched by.holds.0 by.formulas by.holds.1
 
-pub loop-refutation-preserved : goal.loop-refutation-preserved
-loop-refutation-preserved g c = (
-  (let le = c.loop-refutation.invariant.0 in let ne = c.if-k-settings.false in omega (arith, le, ne)),
-  least_after c.args.matched.graph c.args.table.now c.args.settings.now.conflicts c.loop-refutation.k c.loop-refutation.refutation c.in-Refuted.lines
-      c.loop-refutation.invariant.1
-      (subst (IsTrial Wide c.args.matched.graph c.args.table.now c.loop-refutation.k c.args.settings.now.conflicts)
-      c.in-Refuted.is c.in_ok-schedule.ensures),
-)
+pub returns-in-Spent : goal.returns-in-Spent
+returns-in-Spent g c = λ input goal is matched.
+    let by = subst (IsReachedIn Narrow c.args.matched.graph c.args.table.now c.args.settings.now) c.in-Spent.is
+    c.in_ok-reached.ensures in
+    spent_right input goal c.args.settings.now c.args.table.now
+    (record {
+      matched = c.args.matched;
+      k = c.in-Spent.k;
+      refutation = c.in-Spent.refutation;
+      lemmas = c.in-Spent.lemmas;
+    })
+    by.clauses_for is matched by.holds.0 by.formulas (by.holds.1, by.holds.2) by.holds.3
+
+pub returns-in-Large : goal.returns-in-Large
+returns-in-Large g c = λ input goal is matched.
+    let by = subst (IsReachedIn Narrow c.args.matched.graph c.args.table.now c.args.settings.now) c.in-Large.is
+    c.in_ok-reached.ensures in
+    large_right input goal c.args.settings.now c.args.table.now
+    (record {
+      matched = c.args.matched;
+      k = c.in-Large.k;
+      refutation = c.in-Large.refutation;
+      vars = c.in-Large.vars;
+      clauses = c.in-Large.clauses;
+    })
+    by.clauses_for is matched by.holds.0 by.formulas (by.holds.1, by.holds.2, by.holds.3) by.holds.4

@@ -1,31 +1,68 @@
-use Rattle.std.proofs.Common.{subst}
+use Rattle.std.proofs.Common.{◌≡◌, ℕ, Bool, List, ap, subst, sym}
 use Rattle.std.specs.Prelude.{IsPermutation}
-use Rattle.cnf_core.specs.Formula.{assigned}
+use Rattle.cnf_core.specs.Formula.{Formula, Satisfies, assigned}
 use Rattle.cnf_core.specs.Outcome.{IsSolved, IsRefuted as IsRefutedFormula}
 use Rattle.sat_core.specs.Verdicts.{IfSat, IfRefuted}
+use Rattle.graph_meaning.specs.WellFormed.{IsLaunchGraph}
+use Rattle.graph_meaning.specs.declared.graphs.LaunchGraph.{LaunchGraph}
+use Rattle.schedule_meaning.specs.Fits.{Fits}
+use Rattle.schedule_meaning.specs.declared.schedules.Launch.{Launch}
+use Rattle.cycle_encoding.specs.CycleFormula.{listed_in}
+use Rattle.cycle_encoding.specs.Plans.{Plan}
 use Rattle.cycle_encoding.specs.Shapes.{shown, numbered}
-use Rattle.denali_run.proofs.RisingCycles.{refuted_of}
+use Rattle.cycle_encoding.specs.declared.encodings.Encoding.TheVariants.{Narrow}
+use Rattle.order_encoding.specs.WholeFormula.{formula_in}
+use Rattle.denali_run.specs.Right.{IsTooFew}
+use Rattle.denali_run.proofs.RisingCycles.{all_large, refuted_of}
 use Rattle.denali_run.proofs.searching.try_cycles.Goals as goal
+
+-- the formula is that of the graph
+pub full_in-requires-clause-graph : goal.full_in-requires-clause-graph
+full_in-requires-clause-graph g c = subst IsLaunchGraph (sym c.requires.facts) c.requires.graph
+
+pub returns-in-Err : goal.returns-in-Err
+returns-in-Err g c =
+    all_large (formula_in c.args.scope.now c.args.facts.now c.args.table.now) c.args.graph.now c.args.table.now c.args.k
+    c.args.conflicts c.in-Err.fault c.too_large.result c.in-Err.ensures.size c.too_large.ensures
 
 pub returns-in-Sat : goal.returns-in-Sat
 returns-in-Sat g c =
+    let graph = c.args.facts.now in
+    let table = c.args.table.now in
+    let k = c.args.k in
+    let l = listed_in graph table k c.args.scope.now in
     let solved : IsSolved c.in-Ok.encoded.cnf c.in-Sat.values =
     subst (λ v. IfSat v (IsSolved c.in-Ok.encoded.cnf)) c.in-Sat.is c.in_ok-values.ensures.solved in
     let same : IsPermutation (shown (assigned c.in-Sat.values) (numbered 0 c.in-Ok.encoded.plan.launches))
     c.in_ok-schedule-in-Sat.schedule.launches =
     subst (λ xs. IsPermutation (shown (assigned xs) (numbered 0 c.in-Ok.encoded.plan.launches))
-    c.in_ok-schedule-in-Sat.schedule.launches) c.as_slice.ensures c.in_ok-schedule-in-Sat.ensures.same in (
+    c.in_ok-schedule-in-Sat.schedule.launches) c.as_slice.ensures c.in_ok-schedule-in-Sat.ensures.same in
+    let here : IsPermutation (shown (assigned c.in-Sat.values) (numbered 0 l.launches)) c.in_ok-schedule-in-Sat.schedule.launches =
+    subst (λ (p : Plan). IsPermutation (shown (assigned c.in-Sat.values) (numbered 0 p.launches))
+    c.in_ok-schedule-in-Sat.schedule.launches) c.in-Ok.ensures.plan same in (
       c.in-Ok.ensures.within,
-      c.fits_in_any_order.ensures c.args.graph.now c.args.table.now c.args.k _ _ same
-          (c.in-Ok.ensures.shown (assigned c.in-Sat.values) solved.satisfied),
+      subst (λ (x : LaunchGraph). Fits x table k c.in_ok-schedule-in-Sat.schedule.launches) c.requires.facts
+          (c.fits_in_any_order.ensures graph table k _ _ here
+          (c.each_encoding_says_fits.ensures.shown Narrow graph table k l (assigned c.in-Sat.values) c.requires.table
+          (c.requires.scope.lists k c.requires.cycles)
+          (subst (λ (f : Formula). Satisfies (assigned c.in-Sat.values) f.clauses) c.in-Ok.ensures.formula solved.satisfied))),
     )
 
 pub returns-in-Refuted : goal.returns-in-Refuted
 returns-in-Refuted g c =
+    let graph = c.args.facts.now in
+    let table = c.args.table.now in
+    let k = c.args.k in
+    let l = listed_in graph table k c.args.scope.now in
     let refuted : IsRefutedFormula c.in-Ok.encoded.cnf c.args.conflicts c.in-Refuted.lines.lines =
     subst (λ v. IfRefuted v (IsRefutedFormula c.in-Ok.encoded.cnf c.args.conflicts)) c.in-Refuted.is
     c.in_ok-values.ensures.refuted in
-    refuted_of c.args.graph.now c.args.table.now c.args.conflicts c.args.k c.in-Ok.encoded.cnf c.in-Refuted.lines.lines
-    refuted.few c.in-Ok.ensures.formula c.in-Ok.ensures.within refuted.refutes
+    subst (λ (x : LaunchGraph). IsTooFew (formula_in c.args.scope.now graph table) x table c.args.conflicts k c.in-Refuted.lines.lines)
+    c.requires.facts
+    (refuted_of (formula_in c.args.scope.now graph table) graph table c.args.conflicts k c.in-Ok.encoded.cnf
+    c.in-Refuted.lines.lines refuted.few c.in-Ok.ensures.formula c.in-Ok.ensures.within refuted.refutes
     (c.refutations_leave_no_solution.ensures c.in-Ok.encoded.cnf c.in-Refuted.lines.lines refuted.refutes)
-    (λ ls fit. let v = c.in-Ok.ensures.each ls fit in (v.0, v.1))
+    (λ ls fit.
+    let v = c.each_encoding_says_fits.ensures.some Narrow graph table k l ls c.requires.table
+    (subst IsLaunchGraph (sym c.requires.facts) c.requires.graph) (c.requires.scope.lists k c.requires.cycles) fit in
+    (v.3.0, subst (λ (f : Formula). Satisfies v.3.0 f.clauses) (sym c.in-Ok.ensures.formula) v.3.1)))

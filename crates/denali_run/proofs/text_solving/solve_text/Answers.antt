@@ -1,18 +1,18 @@
 use Rattle.std.proofs.Common.{◌∙◌, map, subst, sym}
 use Rattle.std.proofs.lemmas.List.{length-map}
 use Rattle.answer_texts.specs.ReadAnswers.{ReadsAnswer}
-use Rattle.goal_reader.specs.Views.{goal_view, input_view}
-use Rattle.goal_reader.specs.WellFormed.{IsInput}
+use Rattle.goal_meaning.specs.Views.{goal_view, input_view}
+use Rattle.goal_meaning.specs.WellFormed.{IsInput}
 use Rattle.denali_run.specs.ClaimedResults.{answer_to}
 use Rattle.denali_run.specs.Right.{Right}
-use Rattle.denali_run.specs.declared.results.Encoding.TheVariants.{Wide}
+use Rattle.cycle_encoding.specs.declared.encodings.Encoding.TheVariants.{Narrow}
 use Rattle.denali_run.proofs.AnsweredGoals.{as_many}
 use Rattle.denali_run.proofs.SmallTexts.{starts_small}
 use Rattle.denali_run.proofs.text_solving.solve_text.Goals as goal
 
 pub answer_text-requires : goal.answer_text-requires
 answer_text-requires c =
-    as_many (λ goal answered. Right Wide (input_view c.in-Ok.input) goal c.args.settings.now answered)
+    as_many (λ goal answered. Right Narrow (input_view c.in-Ok.input) goal c.args.settings.now answered)
     (map goal_view c.in-Ok.input.goals) c.in_ok-results.results.items c.in_ok-results.ensures.right
     ∙ length-map c.in-Ok.input.goals goal_view
 
@@ -30,7 +30,7 @@ returns-clause-answered c =
       right = c.in_ok-results.ensures.right;
       bytes_are = c.in_ok-answer_text.ensures.bytes;
       read_back = λ short.
-          subst (λ bytes. ReadsAnswer bytes (answer_to Wide input results)) (sym c.in_ok-answer_text.ensures.bytes)
+          subst (λ bytes. ReadsAnswer bytes (answer_to Narrow input results)) (sym c.in_ok-answer_text.ensures.bytes)
           (c.right_answers_are_read.ensures c.args.settings.now input results is c.requires.settings
           (starts_small text input is (c.read_inputs_have_few_operators.ensures text input c.in-Ok.ensures.input) short)
           c.in_ok-results.ensures.right);

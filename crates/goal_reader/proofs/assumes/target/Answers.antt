@@ -6,12 +6,12 @@ use Rattle.text_core.specs.Faults.{IsFirst, IsFaultBy}
 use Rattle.forms.specs.Forms.{place_of, sexp_form, parts_of, part}
 use Rattle.forms.proofs.Told.{told, told_of_part}
 use Rattle.goal_reader.specs.Roles as roles
-use Rattle.goal_reader.specs.Roles.{Role, Shape, IsFaultAs, WritesTerm, sort_in, ◌>>=◌}
+use Rattle.goal_reader.specs.Roles.{Role, Shape, IsFaultAs, WritesTerm, sort_in, ◌>>=◌, target_sort}
 use Rattle.goal_reader.proofs.Fixed.{short_first, clear_none, clear_more, part_first, whole_clear, wrong_first}
 use Rattle.goal_reader.proofs.NewNames.{nth_part, part_of, count_form, set_only, fresh_name_clear, target_told, target_sort_told}
 use Rattle.goal_reader.proofs.Apart.{writes_clear}
-use Rattle.goal_reader.specs.Roles.{target_sort}
-use Rattle.goal_reader.specs.Reading.{names_of_targets, sort_of_target}
+use Rattle.goal_reader.specs.Reading.{names_of_targets}
+use Rattle.goal_meaning.specs.WellFormed.{sort_of_target}
 use Rattle.goal_reader.proofs.assumes.target.Goals as goal
 
 pub returns-then-parts-lt3-clause-fault : goal.returns-then-parts-lt3-clause-fault

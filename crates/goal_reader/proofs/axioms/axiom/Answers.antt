@@ -4,7 +4,7 @@ use Rattle.text_core.proofs.Outcomes.{first_once}
 use Rattle.goal_reader.specs.Grammar.{WritesAxiom}
 use Rattle.goal_reader.specs.Roles as roles
 use Rattle.goal_reader.specs.Roles.{IsFaultAs}
-use Rattle.goal_reader.specs.Views.{axiom_view}
+use Rattle.goal_meaning.specs.Views.{axiom_view}
 use Rattle.text_core.specs.Faults.{IsFirst}
 use Rattle.goal_reader.proofs.AxiomClear.{written_axiom_clear}
 use Rattle.goal_reader.proofs.ReadParts.{axiom_once}

@@ -5,9 +5,9 @@ use Rattle.text_core.specs.Faults.{IsFirst, IsFaultBy}
 use Rattle.word_terms.specs.View.{tree_of}
 use Rattle.forms.specs.Forms.{place_of, sexp_form, parts_of, names_in}
 use Rattle.forms.proofs.Told.{told, told_of_part}
-use Rattle.goal_reader.specs.declared.scopes.DeclaredOp.{DeclaredOp}
+use Rattle.goal_meaning.specs.declared.goals.DeclaredOp.{DeclaredOp}
 use Rattle.goal_reader.specs.declared.scopes.Scope.{Scope}
-use Rattle.goal_reader.specs.declared.goals.Axiom.{Axiom}
+use Rattle.goal_meaning.specs.declared.goals.Axiom.{Axiom}
 use Rattle.goal_reader.specs.Grammar.{axiom_scope}
 use Rattle.goal_reader.specs.Reading.{IsClear, mentioned_scope}
 use Rattle.goal_reader.specs.Roles as roles

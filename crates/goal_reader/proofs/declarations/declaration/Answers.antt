@@ -3,8 +3,9 @@ use Rattle.text_core.specs.declared.faults.Kind.TheVariants.{BadForm}
 use Rattle.forms.specs.Forms.{place_of, sexp_form, parts_of}
 use Rattle.forms.proofs.Told.{told, told_of_part}
 use Rattle.goal_reader.specs.Roles as roles
-use Rattle.goal_reader.specs.Roles.{Role, Shape, IsFaultAs, names_of_declared, arity_named, ◌>>=◌}
-use Rattle.goal_reader.specs.declared.scopes.DeclaredOp.{DeclaredOp}
+use Rattle.goal_reader.specs.Roles.{Role, Shape, IsFaultAs, arity_named, ◌>>=◌}
+use Rattle.goal_meaning.specs.Names.{names_of_declared}
+use Rattle.goal_meaning.specs.declared.goals.DeclaredOp.{DeclaredOp}
 use Rattle.word_ops.specs.declared.sorts.Arity.{Arity}
 use Rattle.goal_reader.proofs.Fixed.{short_first, clear_none, clear_more, part_first, whole_clear, wrong_first}
 use Rattle.goal_reader.proofs.GoalSteps.{no_parts}

@@ -1,6 +1,6 @@
 use Rattle.std.proofs.Common.{◌++◌, ◌∷◌, [], List, ap, ap₂, ◌∙◌}
 use Rattle.goal_reader.specs.declared.scopes.Leaf.{Leaf}
-use Rattle.goal_reader.specs.declared.goals.InputReg.{InputReg}
+use Rattle.goal_meaning.specs.declared.goals.InputReg.{InputReg}
 use Rattle.goal_reader.specs.declared.drafts.Draft.{Draft}
 use Rattle.goal_reader.specs.declared.scopes.Named.TheVariants.{Input}
 use Rattle.goal_reader.specs.Drafts as drafts

@@ -1,5 +1,5 @@
 use Rattle.std.proofs.Common.{List, ap}
-use Rattle.goal_reader.specs.declared.goals.Set.{Set}
+use Rattle.goal_meaning.specs.declared.goals.Set.{Set}
 use Rattle.goal_reader.specs.declared.drafts.Draft.{Draft}
 use Rattle.goal_reader.specs.Drafts as drafts
 use Rattle.goal_reader.proofs.drafts.add_target.Goals as goal

@@ -2,8 +2,9 @@ use Rattle.std.proofs.Common.{sym, ◌∙◌, ap}
 use Rattle.forms.specs.Forms.{place_of, sexp_form}
 use Rattle.forms.proofs.Told.{told}
 use Rattle.goal_reader.specs.Roles as roles
-use Rattle.goal_reader.specs.Roles.{IsFaultAs, register_number, ◌>>=◌, Role, names_of_declared}
-use Rattle.goal_reader.specs.Reading.{input_registers}
+use Rattle.goal_reader.specs.Roles.{IsFaultAs, register_number, ◌>>=◌, Role}
+use Rattle.goal_meaning.specs.Names.{names_of_declared}
+use Rattle.goal_meaning.specs.WellFormed.{input_registers}
 use Rattle.goal_reader.proofs.NewNames.{no_register_first, bad_register_first, given_first}
 use Rattle.goal_reader.proofs.inputs.fresh_register.Goals as goal
 

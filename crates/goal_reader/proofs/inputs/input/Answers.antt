@@ -3,8 +3,10 @@ use Rattle.text_core.specs.declared.faults.Kind.TheVariants.{BadForm}
 use Rattle.forms.specs.Forms.{place_of, sexp_form, parts_of}
 use Rattle.forms.proofs.Told.{told, told_of_part}
 use Rattle.goal_reader.specs.Roles as roles
-use Rattle.goal_reader.specs.Roles.{Role, Shape, IsFaultAs, names_of_declared}
-use Rattle.goal_reader.specs.Reading.{names_of_inputs, input_registers}
+use Rattle.goal_reader.specs.Roles.{Role, Shape, IsFaultAs}
+use Rattle.goal_meaning.specs.Names.{names_of_declared}
+use Rattle.goal_reader.specs.Reading.{names_of_inputs}
+use Rattle.goal_meaning.specs.WellFormed.{input_registers}
 use Rattle.goal_reader.proofs.Fixed.{short_first, clear_none, clear_more, part_first, whole_clear, wrong_first}
 use Rattle.goal_reader.proofs.NewNames.{own_name_clear, fresh_register_clear, input_only, nth_part, part_of, count_form, input_found}
 use Rattle.goal_reader.proofs.inputs.input.Goals as goal

@@ -1,7 +1,8 @@
 use Rattle.std.proofs.Common.{sym, ◌∙◌, map}
 use Rattle.forms.specs.Forms.{forms_list, forms_of}
 use Rattle.forms.specs.Printing.{plain_of, plains_from}
-use Rattle.goal_reader.specs.Printing.{input_plains, input_text}
+use Rattle.goal_meaning.specs.InputForms.{input_plains}
+use Rattle.goal_reader.specs.Printing.{input_text}
 use Rattle.goal_reader.proofs.FormsPrint.{text_prints}
 use Rattle.goal_reader.proofs.InputPrints.{read_fits}
 use Rattle.goal_reader.proofs.Moved.{plains_map, plains_once}

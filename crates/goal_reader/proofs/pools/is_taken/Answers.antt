@@ -1,6 +1,6 @@
 use Rattle.std.proofs.Common.{◌||◌, sym, ap, ◌∙◌}
-use Rattle.goal_reader.specs.Roles.{has_register}
-use Rattle.goal_reader.specs.Reading.{input_registers}
+use Rattle.goal_meaning.specs.Rules.{has_register}
+use Rattle.goal_meaning.specs.WellFormed.{input_registers}
 use Rattle.goal_reader.proofs.PoolSteps.{register_both}
 use Rattle.goal_reader.proofs.pools.is_taken.Goals as goal
 

@@ -4,8 +4,9 @@ use Rattle.text_core.specs.Faults.{IsFirst, IsFaultBy}
 use Rattle.forms.specs.Forms.{place_of, sexp_form, parts_of}
 use Rattle.forms.proofs.Told.{told_of_part}
 use Rattle.goal_reader.specs.Roles as roles
-use Rattle.goal_reader.specs.Roles.{IsFaultAs, goal_keywords, registers_in, has_register}
-use Rattle.goal_reader.specs.Reading.{input_registers}
+use Rattle.goal_reader.specs.Roles.{IsFaultAs, goal_keywords, registers_in}
+use Rattle.goal_meaning.specs.Rules.{has_register}
+use Rattle.goal_meaning.specs.WellFormed.{input_registers}
 use Rattle.goal_reader.proofs.NewNames.{nth_part, count_form}
 use Rattle.goal_reader.proofs.PoolSteps.{clear_one, keyword_first, pool_first, pool_clear_more, registers_next, pool_clear}
 use Rattle.goal_reader.proofs.pools.pool.Goals as goal

@@ -1,7 +1,7 @@
 use Rattle.std.proofs.Common.{◌≡◌, ◌++◌, ◌≤◌, List, length, map, ap, sym, ◌∙◌, arith}
 use Rattle.forms.specs.Forms.{name}
 use Rattle.forms.specs.Printing.{atom, list, more, plain_text}
-use Rattle.goal_reader.specs.Printing.{leaf_atom, naming, operator_name, term_plain, terms_plain}
+use Rattle.goal_meaning.specs.InputForms.{leaf_atom, naming, operator_name, term_plain, terms_plain}
 use Rattle.word_ops.specs.declared.sorts.Op.{Op}
 use Rattle.word_terms.specs.Tree.{operands_of}
 use Rattle.word_terms.specs.View.{tree_of}

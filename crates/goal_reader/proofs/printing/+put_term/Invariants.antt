@@ -4,7 +4,7 @@ use Rattle.word_ops.specs.declared.sorts.Op.{Op}
 use Rattle.word_terms.specs.View.{tree_of}
 use Rattle.word_terms.specs.declared.term.Term.{Term}
 use Rattle.forms.specs.Printing.{plain_text}
-use Rattle.goal_reader.specs.Printing.{naming, term_plain}
+use Rattle.goal_meaning.specs.InputForms.{naming, term_plain}
 use Rattle.goal_reader.proofs.printing.+put_term.Given as goal
 
 abbrev pub decreases-put_term : goal.decreases-put_term

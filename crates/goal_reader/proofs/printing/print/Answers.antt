@@ -1,10 +1,10 @@
 use Rattle.std.proofs.Common.{◌++◌, List, map, sym, ◌∙◌, ap}
 use Rattle.forms.specs.Printing.{lines_of, plains_from}
-use Rattle.goal_reader.specs.Printing.{axiom_plain, declaration_plain, goal_plain}
-use Rattle.goal_reader.specs.Views.{axiom_view, goal_view}
-use Rattle.goal_reader.specs.declared.goals.Axiom.{Axiom}
-use Rattle.goal_reader.specs.declared.goals.Goal.{Goal}
-use Rattle.goal_reader.specs.declared.scopes.DeclaredOp.{DeclaredOp}
+use Rattle.goal_meaning.specs.InputForms.{axiom_plain, declaration_plain, goal_plain}
+use Rattle.goal_meaning.specs.Views.{axiom_view, goal_view}
+use Rattle.goal_meaning.specs.declared.goals.Axiom.{Axiom}
+use Rattle.goal_meaning.specs.declared.goals.Goal.{Goal}
+use Rattle.goal_meaning.specs.declared.goals.DeclaredOp.{DeclaredOp}
 use Rattle.goal_reader.proofs.Printed.{input_lines, input_printed}
 use Rattle.goal_reader.proofs.printing.print.Goals as goal
 

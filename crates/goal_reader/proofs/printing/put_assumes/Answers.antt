@@ -1,8 +1,8 @@
 use Rattle.std.proofs.Common.{[], arith}
 use Rattle.goal_reader.proofs.Printed.{all_printed}
-use Rattle.goal_reader.specs.Printing.{assume_plain, naming}
-use Rattle.goal_reader.specs.Views.{assume_view}
-use Rattle.goal_reader.specs.declared.goals.Assume.{Assume}
+use Rattle.goal_meaning.specs.InputForms.{assume_plain, naming}
+use Rattle.goal_meaning.specs.Views.{assume_view}
+use Rattle.goal_meaning.specs.declared.goals.Assume.{Assume}
 use Rattle.goal_reader.proofs.printing.put_assumes.Goals as goal
 
 pub returns : goal.returns

@@ -1,9 +1,9 @@
 use Rattle.std.proofs.Common.{◌≡◌, ◌∷◌, ◌++◌, [], take}
 use Rattle.std.specs.List.{flat_map}
 use Rattle.forms.specs.Printing.{plain_text}
-use Rattle.goal_reader.specs.Printing.{assume_plain, naming}
-use Rattle.goal_reader.specs.Views.{assume_view}
-use Rattle.goal_reader.specs.declared.goals.Assume.{Assume}
+use Rattle.goal_meaning.specs.InputForms.{assume_plain, naming}
+use Rattle.goal_meaning.specs.Views.{assume_view}
+use Rattle.goal_meaning.specs.declared.goals.Assume.{Assume}
 use Rattle.goal_reader.proofs.printing.put_assumes.Given as goal
 
 abbrev pub invariant-loop-assume : goal.invariant-loop-assume

@@ -1,8 +1,8 @@
 use Rattle.std.proofs.Common.{arith}
 use Rattle.goal_reader.proofs.Printed.{all_lines}
-use Rattle.goal_reader.specs.Printing.{axiom_plain}
-use Rattle.goal_reader.specs.Views.{axiom_view}
-use Rattle.goal_reader.specs.declared.goals.Axiom.{Axiom}
+use Rattle.goal_meaning.specs.InputForms.{axiom_plain}
+use Rattle.goal_meaning.specs.Views.{axiom_view}
+use Rattle.goal_meaning.specs.declared.goals.Axiom.{Axiom}
 use Rattle.goal_reader.proofs.printing.put_axioms.Goals as goal
 
 pub returns : goal.returns

@@ -1,9 +1,9 @@
 use Rattle.std.proofs.Common.{◌≡◌, ◌∷◌, ◌++◌, [], take}
 use Rattle.std.specs.List.{flat_map}
 use Rattle.forms.specs.Printing.{plain_text}
-use Rattle.goal_reader.specs.Printing.{axiom_plain}
-use Rattle.goal_reader.specs.Views.{axiom_view}
-use Rattle.goal_reader.specs.declared.goals.Axiom.{Axiom}
+use Rattle.goal_meaning.specs.InputForms.{axiom_plain}
+use Rattle.goal_meaning.specs.Views.{axiom_view}
+use Rattle.goal_meaning.specs.declared.goals.Axiom.{Axiom}
 use Rattle.goal_reader.proofs.printing.put_axioms.Given as goal
 
 abbrev pub invariant-loop-one : goal.invariant-loop-one

@@ -1,6 +1,6 @@
 use Rattle.std.proofs.Common.{arith}
 use Rattle.goal_reader.proofs.Printed.{all_lines}
-use Rattle.goal_reader.specs.Printing.{declaration_plain}
+use Rattle.goal_meaning.specs.InputForms.{declaration_plain}
 use Rattle.goal_reader.proofs.printing.put_declarations.Goals as goal
 
 pub returns : goal.returns

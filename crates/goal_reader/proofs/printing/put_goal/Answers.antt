@@ -1,10 +1,10 @@
 use Rattle.std.proofs.Common.{◌++◌, List, [], ap, ◌∙◌, map, codes, option_map}
 use Rattle.forms.specs.Printing.{others_of, plain_text, plains_from}
-use Rattle.goal_reader.specs.Printing.{assume_plain, guard_plains, input_plain, naming, pool_plain, target_plain}
-use Rattle.goal_reader.specs.Views.{assume_view, target_view}
-use Rattle.goal_reader.specs.declared.goals.Assume.{Assume}
-use Rattle.goal_reader.specs.declared.goals.InputReg.{InputReg}
-use Rattle.goal_reader.specs.declared.goals.Set.{Set}
+use Rattle.goal_meaning.specs.InputForms.{assume_plain, guard_plains, input_plain, naming, pool_plain, target_plain}
+use Rattle.goal_meaning.specs.Views.{assume_view, target_view}
+use Rattle.goal_meaning.specs.declared.goals.Assume.{Assume}
+use Rattle.goal_meaning.specs.declared.goals.InputReg.{InputReg}
+use Rattle.goal_meaning.specs.declared.goals.Set.{Set}
 use Rattle.word_terms.specs.View.{tree_of}
 use Rattle.goal_reader.proofs.Printed.{goal_items, goal_printed}
 use Rattle.goal_reader.proofs.printing.put_goal.Goals as goal

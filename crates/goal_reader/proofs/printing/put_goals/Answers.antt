@@ -1,8 +1,8 @@
 use Rattle.std.proofs.Common.{arith}
 use Rattle.goal_reader.proofs.Printed.{all_lines}
-use Rattle.goal_reader.specs.Printing.{goal_plain}
-use Rattle.goal_reader.specs.Views.{goal_view}
-use Rattle.goal_reader.specs.declared.goals.Goal.{Goal}
+use Rattle.goal_meaning.specs.InputForms.{goal_plain}
+use Rattle.goal_meaning.specs.Views.{goal_view}
+use Rattle.goal_meaning.specs.declared.goals.Goal.{Goal}
 use Rattle.goal_reader.proofs.printing.put_goals.Goals as goal
 
 pub returns : goal.returns

@@ -1,9 +1,9 @@
 use Rattle.std.proofs.Common.{◌≡◌, ◌∷◌, ◌++◌, [], take}
 use Rattle.std.specs.List.{flat_map}
 use Rattle.forms.specs.Printing.{plain_text}
-use Rattle.goal_reader.specs.Printing.{goal_plain}
-use Rattle.goal_reader.specs.Views.{goal_view}
-use Rattle.goal_reader.specs.declared.goals.Goal.{Goal}
+use Rattle.goal_meaning.specs.InputForms.{goal_plain}
+use Rattle.goal_meaning.specs.Views.{goal_view}
+use Rattle.goal_meaning.specs.declared.goals.Goal.{Goal}
 use Rattle.goal_reader.proofs.printing.put_goals.Given as goal
 
 abbrev pub invariant-loop-goal : goal.invariant-loop-goal

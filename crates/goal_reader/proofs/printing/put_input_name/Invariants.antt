@@ -1,5 +1,5 @@
 use Rattle.std.proofs.Common.{◌≡◌, drop}
-use Rattle.goal_reader.specs.Printing.{input_name}
+use Rattle.goal_meaning.specs.InputForms.{input_name}
 use Rattle.goal_reader.proofs.printing.put_input_name.Given as goal
 
 abbrev pub invariant-loop-input : goal.invariant-loop-input

@@ -1,7 +1,7 @@
 use Rattle.std.proofs.Common.{◌≡◌, ◌∷◌, ◌++◌, take}
 use Rattle.std.specs.List.{flat_map}
 use Rattle.forms.specs.Printing.{plain_text}
-use Rattle.goal_reader.specs.Printing.{input_plain}
+use Rattle.goal_meaning.specs.InputForms.{input_plain}
 use Rattle.goal_reader.proofs.printing.put_inputs.Given as goal
 
 abbrev pub invariant-loop-input : goal.invariant-loop-input

@@ -1,7 +1,7 @@
 use Rattle.std.proofs.Common.{◌≡◌, ◌∷◌, ◌++◌, take}
 use Rattle.std.specs.List.{flat_map}
 use Rattle.forms.specs.Printing.{plain_text}
-use Rattle.goal_reader.specs.Printing.{variable_plain}
+use Rattle.goal_meaning.specs.InputForms.{variable_plain}
 use Rattle.goal_reader.proofs.printing.put_more_names.Given as goal
 
 abbrev pub invariant-loop-name : goal.invariant-loop-name

@@ -1,6 +1,6 @@
 use Rattle.std.proofs.Common.{arith}
 use Rattle.goal_reader.proofs.Printed.{all_printed}
-use Rattle.goal_reader.specs.Printing.{register_plain}
+use Rattle.goal_meaning.specs.InputForms.{register_plain}
 use Rattle.goal_reader.proofs.printing.put_registers.Goals as goal
 
 pub returns : goal.returns

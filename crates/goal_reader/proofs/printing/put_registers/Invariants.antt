@@ -1,7 +1,7 @@
 use Rattle.std.proofs.Common.{◌≡◌, ◌∷◌, ◌++◌, take}
 use Rattle.std.specs.List.{flat_map}
 use Rattle.forms.specs.Printing.{plain_text}
-use Rattle.goal_reader.specs.Printing.{register_plain}
+use Rattle.goal_meaning.specs.InputForms.{register_plain}
 use Rattle.goal_reader.proofs.printing.put_registers.Given as goal
 
 abbrev pub invariant-loop-register : goal.invariant-loop-register

@@ -1,8 +1,8 @@
 use Rattle.std.proofs.Common.{[], arith}
 use Rattle.goal_reader.proofs.Printed.{all_printed}
-use Rattle.goal_reader.specs.Printing.{target_plain, naming}
-use Rattle.goal_reader.specs.Views.{target_view}
-use Rattle.goal_reader.specs.declared.goals.Set.{Set}
+use Rattle.goal_meaning.specs.InputForms.{target_plain, naming}
+use Rattle.goal_meaning.specs.Views.{target_view}
+use Rattle.goal_meaning.specs.declared.goals.Set.{Set}
 use Rattle.goal_reader.proofs.printing.put_targets.Goals as goal
 
 pub returns : goal.returns

@@ -1,9 +1,9 @@
 use Rattle.std.proofs.Common.{◌≡◌, ◌∷◌, ◌++◌, [], take}
 use Rattle.std.specs.List.{flat_map}
 use Rattle.forms.specs.Printing.{plain_text}
-use Rattle.goal_reader.specs.Printing.{target_plain, naming}
-use Rattle.goal_reader.specs.Views.{target_view}
-use Rattle.goal_reader.specs.declared.goals.Set.{Set}
+use Rattle.goal_meaning.specs.InputForms.{target_plain, naming}
+use Rattle.goal_meaning.specs.Views.{target_view}
+use Rattle.goal_meaning.specs.declared.goals.Set.{Set}
 use Rattle.goal_reader.proofs.printing.put_targets.Given as goal
 
 abbrev pub invariant-loop-target : goal.invariant-loop-target

@@ -1,6 +1,6 @@
 use Rattle.forms.proofs.Told.{gives}
 use Rattle.goal_reader.specs.Grammar.{Reads, IsFirstTextFault}
-use Rattle.goal_reader.specs.Views.{input_view}
+use Rattle.goal_meaning.specs.Views.{input_view}
 use Rattle.goal_reader.proofs.TextEnd.{one_text_fault, refuses_by}
 use Rattle.goal_reader.proofs.TextRead.{reads_once, reads_apart}
 use Rattle.goal_reader.proofs.reading.read.Goals as goal

@@ -6,10 +6,10 @@ use Rattle.forms.specs.Forms.{Form, Forms, Stand, forms_of, forms_from, forms_li
 use Rattle.forms.specs.Reading.{IsFirstReadFault, IsSexpOf}
 use Rattle.forms.proofs.Told.{told_as}
 use Rattle.std.proofs.Common.{All}
-use Rattle.goal_reader.specs.declared.goals.Input.{Input}
+use Rattle.goal_meaning.specs.declared.goals.Input.{Input}
 use Rattle.goal_reader.specs.Grammar.{IsFirstTextFault, WritesText, in_passes, in_forms}
 use Rattle.goal_reader.specs.Roles.{IsTextFault}
-use Rattle.goal_reader.specs.Views.{input_view}
+use Rattle.goal_meaning.specs.Views.{input_view}
 use Rattle.goal_reader.proofs.TextEnd.{no_text_fault, forms_map, forms_are, text_written}
 use Rattle.goal_reader.proofs.reading.read_text.Goals as goal
 

@@ -6,7 +6,7 @@ use Rattle.forms.specs.Forms.{is_list, sexp_form}
 use Rattle.forms.specs.Reading.{IsSexpOf}
 use Rattle.forms.proofs.Views.{atom_form, list_form}
 use Rattle.forms.proofs.Told.{told_of_part}
-use Rattle.goal_reader.specs.Roles.{term, IsFaultAs}
+use Rattle.goal_reader.specs.Roles.{term, IsFaultAs, WritesTerm}
 use Rattle.goal_reader.proofs.Operands.{operand_first, whole_term, rest_is, operand_count, all_rest}
 use Rattle.std.proofs.Common.{Some}
 use Rattle.std.proofs.lemmas.List.{take_all, length-drop}
@@ -17,7 +17,6 @@ use Rattle.word_terms.specs.declared.term.Term.{Term}
 use Rattle.word_terms.specs.Tree.{Tree, operands_of}
 use Rattle.forms.specs.Forms.{forms_from, sexp_forms, none}
 use Rattle.goal_reader.specs.Terms.{WritesEach, nothing}
-use Rattle.goal_reader.specs.Roles.{WritesTerm}
 use Rattle.goal_reader.proofs.Trees.{tree_of_application}
 use Rattle.goal_reader.proofs.Operands.{step_writes}
 use Rattle.goal_reader.proofs.terms.+read_term.Goals as goal

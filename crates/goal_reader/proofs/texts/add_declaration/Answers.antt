@@ -2,7 +2,7 @@ use Rattle.std.proofs.Common.{List, ap, subst}
 use Rattle.text_core.specs.Faults.{IsFirst, IsFaultBy}
 use Rattle.forms.specs.Forms.{sexp_form}
 use Rattle.forms.proofs.Told.{told_as}
-use Rattle.goal_reader.specs.declared.scopes.DeclaredOp.{DeclaredOp}
+use Rattle.goal_meaning.specs.declared.goals.DeclaredOp.{DeclaredOp}
 use Rattle.goal_reader.specs.declared.texts.TextDraft.{TextDraft}
 use Rattle.goal_reader.specs.Roles as roles
 use Rattle.goal_reader.specs.Roles.{Shape, a_list, IsFaultAs}

@@ -3,7 +3,8 @@ use Rattle.std.proofs.lemmas.List.{take_all}
 use Rattle.forms.specs.Forms.{place_of, sexp_form, parts_of, names_in}
 use Rattle.forms.proofs.Told.{told, told_of_part}
 use Rattle.goal_reader.specs.Roles as roles
-use Rattle.goal_reader.specs.Roles.{IsFaultAs, names_of_declared}
+use Rattle.goal_reader.specs.Roles.{IsFaultAs}
+use Rattle.goal_meaning.specs.Names.{names_of_declared}
 use Rattle.goal_reader.proofs.Growing.{all_clear}
 use Rattle.goal_reader.proofs.NewNames.{nth_part, part_of, count_form}
 use Rattle.goal_reader.proofs.VariableSteps.{no_part, none_left, some_left, variables_own, short_first, name_first, ninth_first, names_next, variable_clear}

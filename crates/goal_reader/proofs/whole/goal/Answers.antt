@@ -7,7 +7,7 @@ use Rattle.goal_reader.specs.Grammar.{WritesGoal}
 use Rattle.goal_reader.specs.Roles as roles
 use Rattle.text_core.specs.Names.{is_among}
 use Rattle.goal_reader.specs.Roles.{IsFaultAs}
-use Rattle.goal_reader.specs.Views.{GoalTree, goal_view}
+use Rattle.goal_meaning.specs.Views.{GoalTree, goal_view}
 use Rattle.text_core.specs.Faults.{IsFirst}
 use Rattle.goal_reader.proofs.Finish.{both_ok}
 use Rattle.goal_reader.proofs.GoalClear.{written_goal_clear}

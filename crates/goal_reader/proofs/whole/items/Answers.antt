@@ -4,7 +4,7 @@ use Rattle.forms.specs.Forms.{Form, place_of, sexp_form, parts_of}
 use Rattle.forms.specs.Reading.{IsSexpOf}
 use Rattle.forms.proofs.Told.{told, told_of_part}
 use Rattle.goal_reader.specs.declared.scopes.Scope.{Scope}
-use Rattle.goal_reader.specs.declared.scopes.DeclaredOp.{DeclaredOp}
+use Rattle.goal_meaning.specs.declared.goals.DeclaredOp.{DeclaredOp}
 use Rattle.goal_reader.specs.Roles as roles
 use Rattle.goal_reader.specs.Roles.{IsFaultAs, is_of_rank, goal_keywords, goal_bounds, bound_at, of_rank, items_of, item_role, role_in, fresh_name, Role}
 use Rattle.goal_reader.specs.Order.{IsOrderOf}

@@ -1,6 +1,6 @@
 use Rattle.std.proofs.Common.{◌≡◌, ◌++◌, drop, filter, not}
-use Rattle.goal_reader.specs.Reading.{input_registers}
-use Rattle.goal_reader.specs.Roles.{has_register}
+use Rattle.goal_meaning.specs.WellFormed.{input_registers}
+use Rattle.goal_meaning.specs.Rules.{has_register}
 use Rattle.goal_reader.proofs.whole.not_given.Given as goal
 
 abbrev pub invariant-loop-register : goal.invariant-loop-register

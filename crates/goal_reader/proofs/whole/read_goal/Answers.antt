@@ -1,8 +1,8 @@
 use Rattle.std.proofs.Common.{◌≡◌, ◌∙◌, refl, ap}
 use Rattle.forms.specs.Forms.{sexp_form}
 use Rattle.goal_reader.specs.Drafts.{names_of_goals, pool_kept}
-use Rattle.goal_reader.specs.Reading.{input_registers}
-use Rattle.goal_reader.specs.declared.goals.Goal.{Goal}
+use Rattle.goal_meaning.specs.WellFormed.{input_registers}
+use Rattle.goal_meaning.specs.declared.goals.Goal.{Goal}
 use Rattle.goal_reader.proofs.Finish.{goal_written, has_set}
 use Rattle.goal_reader.proofs.whole.read_goal.Goals as goal
 

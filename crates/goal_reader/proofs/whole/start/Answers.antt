@@ -1,14 +1,14 @@
 use Rattle.std.proofs.Common.{◌≡◌, List, [], None, refl, sym, subst}
 use Rattle.goal_reader.specs.declared.scopes.Scope.{Scope}
-use Rattle.goal_reader.specs.declared.goals.InputReg.{InputReg}
-use Rattle.goal_reader.specs.declared.goals.Assume.{Assume}
-use Rattle.goal_reader.specs.declared.goals.Set.{Set}
+use Rattle.goal_meaning.specs.declared.goals.InputReg.{InputReg}
+use Rattle.goal_meaning.specs.declared.goals.Assume.{Assume}
+use Rattle.goal_meaning.specs.declared.goals.Set.{Set}
 use Rattle.goal_reader.specs.Grammar.{unguarded, WritesInput}
 use Rattle.machine_table.specs.Grammar.{Each}
 use Rattle.machine_table.specs.Grammar as grammar
 use Rattle.goal_reader.specs.Drafts.{IsAssumed, IsTargeted, IsWritten, no_pool, KeepsSoFar}
 use Rattle.std.proofs.Common.{arith, ◌∷◌, ◌≢◌}
-use Rattle.goal_reader.specs.declared.scopes.DeclaredOp.{DeclaredOp}
+use Rattle.goal_meaning.specs.declared.goals.DeclaredOp.{DeclaredOp}
 use Rattle.goal_reader.proofs.Different.{pairs_nil}
 use Rattle.goal_reader.proofs.whole.start.Goals as goal
 

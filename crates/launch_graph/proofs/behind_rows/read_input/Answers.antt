@@ -2,7 +2,7 @@ use Rattle.std.proofs.Common.{◌∙◌, sym, subst, Option}
 use Rattle.std.specs.Prelude.{MatchOption}
 use Rattle.std.proofs.lemmas.Bool.{false≢true}
 use Rattle.text_core.specs.Lines.{line_at}
-use Rattle.launch_graph.specs.declared.graphs.InputClass.{InputClass}
+use Rattle.graph_meaning.specs.declared.graphs.InputClass.{InputClass}
 use Rattle.text_core.specs.LineTexts.{SaysNone}
 use Rattle.launch_graph.specs.LineReading.{IsInputLine}
 use Rattle.launch_graph.proofs.BehindLines.{wrong_input}

@@ -1,7 +1,7 @@
 use Rattle.std.proofs.Common.{◌<◌, ◌+◌, arith, length, sym, subst, Option}
 use Rattle.std.specs.Prelude.{MatchOption}
 use Rattle.launch_graph.specs.BehindRows.{HasNoInput, IsInputAt, AreInputsAt}
-use Rattle.launch_graph.specs.declared.graphs.InputClass.{InputClass}
+use Rattle.graph_meaning.specs.declared.graphs.InputClass.{InputClass}
 use Rattle.launch_graph.proofs.BehindLines.{inputs_more}
 use Rattle.launch_graph.proofs.behind_rows.read_inputs.Goals as goal
 

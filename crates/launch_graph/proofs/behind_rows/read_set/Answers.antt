@@ -3,7 +3,7 @@ use Rattle.std.specs.Prelude.{MatchOption}
 use Rattle.std.proofs.lemmas.Bool.{false≢true}
 use Rattle.text_core.specs.Lines.{line_at}
 use Rattle.word_ops.specs.declared.sorts.Sort.{Sort}
-use Rattle.launch_graph.specs.declared.graphs.SetClass.{SetClass}
+use Rattle.graph_meaning.specs.declared.graphs.SetClass.{SetClass}
 use Rattle.launch_graph.specs.BehindRows.{IsRight}
 use Rattle.text_core.specs.LineTexts.{SaysNone}
 use Rattle.launch_graph.specs.LineReading.{IsSetLine}

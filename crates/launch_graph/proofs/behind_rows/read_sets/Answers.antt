@@ -4,7 +4,7 @@ use Rattle.std.proofs.lemmas.Result.{err_from_is_err_and}
 use Rattle.text_core.specs.Lines.{line_at}
 use Rattle.launch_graph.specs.BehindRows.{IsSetAt, AreSetsAt}
 use Rattle.launch_graph.specs.GraphTexts.{IsNoTarget}
-use Rattle.launch_graph.specs.declared.graphs.SetClass.{SetClass}
+use Rattle.graph_meaning.specs.declared.graphs.SetClass.{SetClass}
 use Rattle.launch_graph.proofs.BehindLines.{sets_more}
 use Rattle.launch_graph.proofs.behind_rows.read_sets.Goals as goal
 

@@ -1,7 +1,7 @@
 use Rattle.std.proofs.Common.{◌∙◌, [], ◌∷◌, ℕ, List, ap}
 use Rattle.cnf_core.specs.declared.literal.Lit.{Lit}
-use Rattle.launch_graph.specs.Graphs.{memory_target}
-use Rattle.launch_graph.specs.declared.graphs.LaunchGraph.{LaunchGraph}
+use Rattle.graph_meaning.specs.Graphs.{memory_target}
+use Rattle.graph_meaning.specs.declared.graphs.LaunchGraph.{LaunchGraph}
 use Rattle.cycle_encoding.specs.Shapes.{numbered, vars_of}
 use Rattle.cycle_encoding.specs.Steps.{listed}
 use Rattle.order_encoding.specs.OrderVariables.{all_held}

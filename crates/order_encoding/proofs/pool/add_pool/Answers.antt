@@ -1,76 +1,43 @@
-use Rattle.std.proofs.Common.{◌∙◌, ◌+◌, ◌≤◌, sym, ap, subst}
-use Rattle.std.specs.Prelude.{length}
+use Rattle.std.proofs.Common.{◌≡◌, ℕ}
 use Rattle.cnf_core.specs.Formula.{Formula}
-use Rattle.cycle_encoding.specs.CycleFormula.{wide}
-use Rattle.cycle_encoding.specs.Plans.{Plan}
-use Rattle.order_encoding.specs.WholeFormula.{whole_formula}
-use Rattle.order_encoding.proofs.Limits.{limit_passed, few_vars, few_clauses, not_large, pool_vars_now, pool_size_now, pool_now}
+use Rattle.graph_meaning.specs.declared.graphs.LaunchGraph.{LaunchGraph}
+use Rattle.cycle_encoding.specs.CycleFormula.{Listed}
+use Rattle.cycle_encoding.specs.Faults.{EncodeFaultIs}
+use Rattle.cycle_encoding.specs.Plans.{IsTooLarge}
+use Rattle.cycle_encoding.proofs.Built.{if_ok, if_err, on_ok_more}
+use Rattle.order_encoding.specs.WholeFormula.{guard_formula, whole_formula}
+use Rattle.order_encoding.proofs.Lists.{as_listed, named, of_listed}
 use Rattle.order_encoding.proofs.pool.add_pool.Goals as goal
 
-pub returns-then-pass_limit-clause-size : goal.returns-then-pass_limit-clause-size
-returns-then-pass_limit-clause-size c =
-    let g = c.args.graph.now in
-    let table = c.args.table.now in
-    let k = c.args.encoded.plan.cycles in
-    let h = c.in_ok-facts.facts in
-    let w = whole_formula g table k (wide g table k) in
-    let f = c.args.encoded.cnf in
-    let size = c.counters_count.ensures.size in
-    let vars = pool_vars_now g h table k c.cycles.result c.in_ok-facts.ensures c.cycles.ensures c.wide-scope.result c.wide-scope.ensures f c.grown-sizes.result.vars c.requires.formula (c.grown-sizes.ensures.vars ∙ ap (λ n. f.vars + n) c.pool_sizes.ensures.vars) in
-    let clauses = pool_size_now g h table k c.cycles.result c.in_ok-facts.ensures c.cycles.ensures c.wide-scope.result c.wide-scope.ensures f c.grown-sizes.result.clauses size c.requires.formula (c.grown-sizes.ensures.clauses ∙ ap (λ n. length f.clauses + n) c.pool_sizes.ensures.clauses) in
-    limit_passed w c.grown-sizes.result.vars c.grown-sizes.result.clauses vars clauses (sym c.pass_limit.ensures ∙ c.if-pass_limit.true)
+pub add_pool_in-requires-clause-formula : goal.add_pool_in-requires-clause-formula
+add_pool_in-requires-clause-formula c =
+    let e = c.args.encoded in
+    of_listed c.each_encoding_has_one_list.ensures e.plan.encoding c.args.graph.now c.in_ok-facts.facts c.args.table.now e.plan.cycles c.in_ok-scope.scope c.in_ok-facts.ensures (named e.plan.encoding c.encoding.result c.in_ok-facts.facts c.args.table.now c.in_ok-scope.scope c.encoding.ensures c.in_ok-scope.ensures) c.requires.cycles
+    (λ (x : LaunchGraph) (l : Listed). e.cnf ≡ guard_formula x c.args.table.now e.plan.cycles l) c.requires.formula
 
-pub extend_by_pool-requires-clause-vars : goal.extend_by_pool-requires-clause-vars
-extend_by_pool-requires-clause-vars c =
-    let g = c.args.graph.now in
-    let table = c.args.table.now in
-    let k = c.args.encoded.plan.cycles in
-    let h = c.in_ok-facts.facts in
-    let w = whole_formula g table k (wide g table k) in
-    let f = c.args.encoded.cnf in
-    let size = c.counters_count.ensures.size in
-    let vars = pool_vars_now g h table k c.cycles.result c.in_ok-facts.ensures c.cycles.ensures c.wide-scope.result c.wide-scope.ensures f c.grown-sizes.result.vars c.requires.formula (c.grown-sizes.ensures.vars ∙ ap (λ n. f.vars + n) c.pool_sizes.ensures.vars) in
-    let clauses = pool_size_now g h table k c.cycles.result c.in_ok-facts.ensures c.cycles.ensures c.wide-scope.result c.wide-scope.ensures f c.grown-sizes.result.clauses size c.requires.formula (c.grown-sizes.ensures.clauses ∙ ap (λ n. length f.clauses + n) c.pool_sizes.ensures.clauses) in
-    let is = pool_now g h table k c.cycles-2.result c.in_ok-facts.ensures c.cycles-2.ensures c.wide-scope.result c.wide-scope.ensures c.launches.result.now f (c.launches.ensures ∙ ap (λ (p : Plan). p.launches) c.requires.plan) c.requires.formula in
-    subst (λ (x : Formula). x.vars ≤ 262144) (sym is) (few_vars w c.grown-sizes.result.vars c.grown-sizes.result.clauses vars clauses (sym c.pass_limit.ensures ∙ c.if-pass_limit.false))
-
-pub extend_by_pool-requires-clause-clauses : goal.extend_by_pool-requires-clause-clauses
-extend_by_pool-requires-clause-clauses c =
-    let g = c.args.graph.now in
-    let table = c.args.table.now in
-    let k = c.args.encoded.plan.cycles in
-    let h = c.in_ok-facts.facts in
-    let w = whole_formula g table k (wide g table k) in
-    let f = c.args.encoded.cnf in
-    let size = c.counters_count.ensures.size in
-    let vars = pool_vars_now g h table k c.cycles.result c.in_ok-facts.ensures c.cycles.ensures c.wide-scope.result c.wide-scope.ensures f c.grown-sizes.result.vars c.requires.formula (c.grown-sizes.ensures.vars ∙ ap (λ n. f.vars + n) c.pool_sizes.ensures.vars) in
-    let clauses = pool_size_now g h table k c.cycles.result c.in_ok-facts.ensures c.cycles.ensures c.wide-scope.result c.wide-scope.ensures f c.grown-sizes.result.clauses size c.requires.formula (c.grown-sizes.ensures.clauses ∙ ap (λ n. length f.clauses + n) c.pool_sizes.ensures.clauses) in
-    let is = pool_now g h table k c.cycles-2.result c.in_ok-facts.ensures c.cycles-2.ensures c.wide-scope.result c.wide-scope.ensures c.launches.result.now f (c.launches.ensures ∙ ap (λ (p : Plan). p.launches) c.requires.plan) c.requires.formula in
-    subst (λ (x : Formula). length x.clauses ≤ 2000000) (sym is) (few_clauses w c.grown-sizes.result.vars c.grown-sizes.result.clauses vars clauses (sym c.pass_limit.ensures ∙ c.if-pass_limit.false))
-
-pub returns-clause-within : goal.returns-clause-within
-returns-clause-within c =
-    let g = c.args.graph.now in
-    let table = c.args.table.now in
-    let k = c.args.encoded.plan.cycles in
-    let h = c.in_ok-facts.facts in
-    let w = whole_formula g table k (wide g table k) in
-    let f = c.args.encoded.cnf in
-    let size = c.counters_count.ensures.size in
-    let vars = pool_vars_now g h table k c.cycles.result c.in_ok-facts.ensures c.cycles.ensures c.wide-scope.result c.wide-scope.ensures f c.grown-sizes.result.vars c.requires.formula (c.grown-sizes.ensures.vars ∙ ap (λ n. f.vars + n) c.pool_sizes.ensures.vars) in
-    let clauses = pool_size_now g h table k c.cycles.result c.in_ok-facts.ensures c.cycles.ensures c.wide-scope.result c.wide-scope.ensures f c.grown-sizes.result.clauses size c.requires.formula (c.grown-sizes.ensures.clauses ∙ ap (λ n. length f.clauses + n) c.pool_sizes.ensures.clauses) in
-    not_large w (few_vars w c.grown-sizes.result.vars c.grown-sizes.result.clauses vars clauses (sym c.pass_limit.ensures ∙ c.if-pass_limit.false)) (few_clauses w c.grown-sizes.result.vars c.grown-sizes.result.clauses vars clauses (sym c.pass_limit.ensures ∙ c.if-pass_limit.false))
+pub add_pool_in-requires-clause-launches : goal.add_pool_in-requires-clause-launches
+add_pool_in-requires-clause-launches c =
+    let e = c.args.encoded in
+    of_listed c.each_encoding_has_one_list.ensures e.plan.encoding c.args.graph.now c.in_ok-facts.facts c.args.table.now e.plan.cycles c.in_ok-scope.scope c.in_ok-facts.ensures (named e.plan.encoding c.encoding.result c.in_ok-facts.facts c.args.table.now c.in_ok-scope.scope c.encoding.ensures c.in_ok-scope.ensures) c.requires.cycles
+    (λ (x : LaunchGraph) (l : Listed). e.plan.launches ≡ l.launches) c.requires.plan
 
 pub returns-clause-formula : goal.returns-clause-formula
 returns-clause-formula c =
-    let g = c.args.graph.now in
-    let table = c.args.table.now in
-    let k = c.args.encoded.plan.cycles in
-    let h = c.in_ok-facts.facts in
-    let w = whole_formula g table k (wide g table k) in
-    let f = c.args.encoded.cnf in
-    let size = c.counters_count.ensures.size in
-    let vars = pool_vars_now g h table k c.cycles.result c.in_ok-facts.ensures c.cycles.ensures c.wide-scope.result c.wide-scope.ensures f c.grown-sizes.result.vars c.requires.formula (c.grown-sizes.ensures.vars ∙ ap (λ n. f.vars + n) c.pool_sizes.ensures.vars) in
-    let clauses = pool_size_now g h table k c.cycles.result c.in_ok-facts.ensures c.cycles.ensures c.wide-scope.result c.wide-scope.ensures f c.grown-sizes.result.clauses size c.requires.formula (c.grown-sizes.ensures.clauses ∙ ap (λ n. length f.clauses + n) c.pool_sizes.ensures.clauses) in
-    let is = pool_now g h table k c.cycles-2.result c.in_ok-facts.ensures c.cycles-2.ensures c.wide-scope.result c.wide-scope.ensures c.launches.result.now f (c.launches.ensures ∙ ap (λ (p : Plan). p.launches) c.requires.plan) c.requires.formula in
-    c.in_ok-extend_by_pool.ensures ∙ is
+    let e = c.args.encoded in
+    if_ok _ _ c.add_pool_in.result
+    (λ r is. as_listed c.each_encoding_has_one_list.ensures e.plan.encoding c.args.graph.now c.in_ok-facts.facts c.args.table.now e.plan.cycles c.in_ok-scope.scope c.in_ok-facts.ensures (named e.plan.encoding c.encoding.result c.in_ok-facts.facts c.args.table.now c.in_ok-scope.scope c.encoding.ensures c.in_ok-scope.ensures) c.requires.cycles
+    (λ (x : LaunchGraph) (l : Listed). r.cnf ≡ whole_formula x c.args.table.now e.plan.cycles l) is) c.add_pool_in.ensures.formula
+
+pub returns-clause-size : goal.returns-clause-size
+returns-clause-size c =
+    let e = c.args.encoded in
+    if_err _ _ c.add_pool_in.result
+    (λ r is. as_listed c.each_encoding_has_one_list.ensures e.plan.encoding c.args.graph.now c.in_ok-facts.facts c.args.table.now e.plan.cycles c.in_ok-scope.scope c.in_ok-facts.ensures (named e.plan.encoding c.encoding.result c.in_ok-facts.facts c.args.table.now c.in_ok-scope.scope c.encoding.ensures c.in_ok-scope.ensures) c.requires.cycles
+    (λ (x : LaunchGraph) (l : Listed). EncodeFaultIs (whole_formula x c.args.table.now e.plan.cycles l) r) is) c.add_pool_in.ensures.size
+
+pub returns-clause-within : goal.returns-clause-within
+returns-clause-within c =
+    let e = c.args.encoded in
+    on_ok_more _ _ c.add_pool_in.result
+    (λ is. as_listed c.each_encoding_has_one_list.ensures e.plan.encoding c.args.graph.now c.in_ok-facts.facts c.args.table.now e.plan.cycles c.in_ok-scope.scope c.in_ok-facts.ensures (named e.plan.encoding c.encoding.result c.in_ok-facts.facts c.args.table.now c.in_ok-scope.scope c.encoding.ensures c.in_ok-scope.ensures) c.requires.cycles
+    (λ (x : LaunchGraph) (l : Listed). IsTooLarge (whole_formula x c.args.table.now e.plan.cycles l) → ⊥) is) c.add_pool_in.ensures.within

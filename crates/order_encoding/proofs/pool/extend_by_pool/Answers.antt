@@ -3,7 +3,7 @@ use Rattle.std.specs.Prelude.{length, All}
 use Rattle.cnf_core.specs.declared.literal.Lit.{Lit}
 use Rattle.cnf_core.specs.Formula.{Formula, IsLitOf}
 use Rattle.cnf_core.specs.Counter.{at_most_vars, at_most_size, at_most_clauses}
-use Rattle.launch_graph.specs.declared.graphs.LaunchGraph.{LaunchGraph}
+use Rattle.graph_meaning.specs.declared.graphs.LaunchGraph.{LaunchGraph}
 use Rattle.cycle_encoding.specs.Shapes.{numbered, vars_of}
 use Rattle.cycle_encoding.specs.Families.{any}
 use Rattle.cycle_encoding.proofs.Blocks.{vars-over}

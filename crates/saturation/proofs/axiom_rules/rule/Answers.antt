@@ -4,7 +4,7 @@ use Rattle.std.specs.declared.alloc.Global.{Global}
 use Rattle.word_ops.specs.declared.sorts.Sort.{Sort}
 use Rattle.word_terms.specs.Tree.{variable, AreBelow, substituted}
 use Rattle.word_terms.specs.View.{tree_of, trees_of}
-use Rattle.goal_reader.specs.Views.{axiom_view}
+use Rattle.goal_meaning.specs.Views.{axiom_view}
 use Rattle.saturation.proofs.RuleSteps.{Numbered, numbers_more, sorts_more, sorts_same, few_sorts, sorts_count, side_below, rule_can}
 use Rattle.saturation.proofs.axiom_rules.rule.Goals as goal
 use Rattle.saturation.proofs.axiom_rules.rule.Goals.{then-has_variable+in_ok-push-2, else-has_variable, After-deref}

@@ -3,7 +3,7 @@ use Rattle.std.specs.List.{range_with_len}
 use Rattle.word_ops.specs.declared.sorts.Sort.TheVariants as sorts
 use Rattle.word_terms.specs.Tree.{variable}
 use Rattle.word_terms.specs.View.{trees_of}
-use Rattle.goal_reader.specs.Views.{axiom_view}
+use Rattle.goal_meaning.specs.Views.{axiom_view}
 use Rattle.saturation.specs.GoalTerms.{variables_below}
 use Rattle.saturation.proofs.axiom_rules.rule.Given as goal
 

@@ -1,6 +1,6 @@
 use Rattle.std.proofs.Common.{map, All, sym, ◌∙◌, subst}
-use Rattle.goal_reader.specs.Views.{axiom_view}
-use Rattle.goal_reader.specs.WellFormed.{IsAxiom}
+use Rattle.goal_meaning.specs.Views.{axiom_view}
+use Rattle.goal_meaning.specs.WellFormed.{IsAxiom}
 use Rattle.saturation.proofs.RuleSteps.{next_axiom, more_rules}
 use Rattle.saturation.proofs.axiom_rules.rules.Goals as goal
 

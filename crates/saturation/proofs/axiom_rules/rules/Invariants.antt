@@ -1,5 +1,5 @@
 use Rattle.std.proofs.Common.{◌≡◌, map, take}
-use Rattle.goal_reader.specs.Views.{axiom_view}
+use Rattle.goal_meaning.specs.Views.{axiom_view}
 use Rattle.saturation.specs.GoalTerms.{rule_of}
 use Rattle.saturation.proofs.axiom_rules.rules.Given as goal
 

@@ -1,6 +1,6 @@
 use Rattle.std.proofs.Common.{map, sym, subst}
 use Rattle.std.proofs.lemmas.Result.{err_from_is_err_and}
-use Rattle.goal_reader.specs.Views.{assume_view}
+use Rattle.goal_meaning.specs.Views.{assume_view}
 use Rattle.saturation.specs.AtStart.{CanAssume, AssumeFaultIs}
 use Rattle.saturation.specs.GoalTerms.{assumed_pair}
 use Rattle.saturation.specs.Trace.{IsAssumeMade, none_assumed}

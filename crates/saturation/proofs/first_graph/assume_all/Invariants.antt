@@ -1,5 +1,5 @@
 use Rattle.std.proofs.Common.{map, take}
-use Rattle.goal_reader.specs.Views.{assume_view}
+use Rattle.goal_meaning.specs.Views.{assume_view}
 use Rattle.saturation.specs.GoalTerms.{assumed_pair}
 use Rattle.saturation.specs.Trace.{AreAssumed}
 use Rattle.saturation.proofs.first_graph.assume_all.Given as goal

@@ -1,5 +1,5 @@
 use Rattle.saturation.proofs.StartSteps.{second_can, sides_can}
-use Rattle.goal_reader.specs.Views.{assume_view}
+use Rattle.goal_meaning.specs.Views.{assume_view}
 use Rattle.saturation.proofs.first_graph.assume_equal.Goals as goal
 
 pub build-requires-2 : goal.build-requires-2

@@ -2,7 +2,7 @@ use Rattle.std.proofs.Common.{[], ◌∷◌, map, OnOk, option_map, sym, subst}
 use Rattle.std.proofs.lemmas.Result.{on_ok_weaker}
 use Rattle.word_ops.specs.declared.sorts.Op.TheVariants.{Entry}
 use Rattle.word_terms.specs.View.{tree_of}
-use Rattle.goal_reader.specs.Views.{assume_view, target_view}
+use Rattle.goal_meaning.specs.Views.{assume_view, target_view}
 use Rattle.saturation.specs.AtStart.{CanInsertAll}
 use Rattle.saturation.specs.GoalTerms.{entry_term, input_terms, assume_terms, guard_terms, set_terms}
 use Rattle.saturation.specs.Trace.{AreInserted}

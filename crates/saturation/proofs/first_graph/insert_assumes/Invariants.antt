@@ -1,5 +1,5 @@
 use Rattle.std.proofs.Common.{map, take}
-use Rattle.goal_reader.specs.Views.{assume_view}
+use Rattle.goal_meaning.specs.Views.{assume_view}
 use Rattle.saturation.specs.GoalTerms.{assume_terms}
 use Rattle.saturation.specs.Trace.{AreInserted}
 use Rattle.saturation.proofs.first_graph.insert_assumes.Given as goal

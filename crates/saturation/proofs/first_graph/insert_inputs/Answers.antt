@@ -1,6 +1,6 @@
 use Rattle.std.proofs.Common.{[], ◌∷◌, ◌∙◌, sym, subst}
 use Rattle.word_ops.specs.declared.sorts.Op.TheVariants.{Input}
-use Rattle.goal_reader.specs.declared.goals.InputReg.{InputReg}
+use Rattle.goal_meaning.specs.declared.goals.InputReg.{InputReg}
 use Rattle.saturation.specs.AtStart.{CanInsertAll}
 use Rattle.saturation.specs.GoalTerms.{input_term, input_terms}
 use Rattle.saturation.specs.Trace.{AreInserted, none_inserted}

@@ -1,6 +1,6 @@
 use Rattle.std.proofs.Common.{[], ◌∷◌, map, sym, subst}
 use Rattle.word_terms.specs.View.{tree_of}
-use Rattle.goal_reader.specs.Views.{target_view}
+use Rattle.goal_meaning.specs.Views.{target_view}
 use Rattle.saturation.specs.AtStart.{CanInsertAll}
 use Rattle.saturation.specs.GoalTerms.{set_terms}
 use Rattle.saturation.specs.Trace.{AreInserted, none_inserted}

@@ -1,5 +1,5 @@
 use Rattle.std.proofs.Common.{map, take}
-use Rattle.goal_reader.specs.Views.{target_view}
+use Rattle.goal_meaning.specs.Views.{target_view}
 use Rattle.saturation.specs.GoalTerms.{set_terms}
 use Rattle.saturation.specs.Trace.{AreInserted}
 use Rattle.saturation.proofs.first_graph.insert_sets.Given as goal

@@ -3,7 +3,7 @@ use Rattle.std.proofs.lemmas.Result.{IfOk-weaker, IfErr-weaker}
 use Rattle.word_ops.specs.declared.sorts.Op.{Op}
 use Rattle.word_terms.specs.Keys.{op_signature}
 use Rattle.egraph.specs.Graph.{Graph, IsGraph}
-use Rattle.goal_reader.specs.Views.{assume_view, goal_view}
+use Rattle.goal_meaning.specs.Views.{assume_view, goal_view}
 use Rattle.saturation.specs.AtStart.{CanInsertAll, CanAssumeAll, AssumeFaultOfAll, IsStarted, IsGrownAtStart, StandsAtStart, StartFaultIs, IsHopelessAtStart, most_rows_at_start}
 use Rattle.saturation.specs.GoalTerms.{present_terms, assumed_pair, assumed_pairs}
 use Rattle.saturation.specs.Trace.{AreInserted, AreAssumed}

@@ -1,7 +1,7 @@
 use Rattle.std.proofs.Common.{◌+◌, take, refl, sym, subst, ℕ, []}
 use Rattle.std.specs.List.{AllZip}
 use Rattle.pattern_match.specs.Classes.{IsClass}
-use Rattle.goal_reader.specs.declared.goals.InputReg.{InputReg}
+use Rattle.goal_meaning.specs.declared.goals.InputReg.{InputReg}
 use Rattle.saturation.specs.GoalTerms.{input_term}
 use Rattle.saturation.specs.Numbered.{IsInputNumber}
 use Rattle.saturation.proofs.Mapped.{all_zip_next}

@@ -2,7 +2,7 @@ use Rattle.std.proofs.Common.{◌+◌, take, sym, subst, ℕ, []}
 use Rattle.std.specs.List.{AllZip}
 use Rattle.word_terms.specs.View.{tree_of}
 use Rattle.pattern_match.specs.Classes.{IsClass}
-use Rattle.goal_reader.specs.declared.goals.Set.{Set}
+use Rattle.goal_meaning.specs.declared.goals.Set.{Set}
 use Rattle.saturation.specs.Numbered.{IsSetNumber}
 use Rattle.saturation.proofs.Mapped.{all_zip_next}
 use Rattle.saturation.proofs.launching.launch_sets.Goals as goal

@@ -2,10 +2,10 @@ use Rattle.std.proofs.Common.{◌≤◌, ℕ, map, length, sym, ap, ◌∙◌, s
 use Rattle.std.specs.List.{AllZip}
 use Rattle.word_terms.specs.View.{tree_of}
 use Rattle.pattern_match.specs.Classes.{CanFindClass, IsClass}
-use Rattle.goal_reader.specs.Views.{input_view}
-use Rattle.goal_reader.specs.declared.goals.InputReg.{InputReg}
-use Rattle.goal_reader.specs.declared.goals.Set.{Set}
-use Rattle.launch_graph.specs.declared.graphs.LaunchGraph.{LaunchGraph}
+use Rattle.goal_meaning.specs.Views.{input_view}
+use Rattle.goal_meaning.specs.declared.goals.InputReg.{InputReg}
+use Rattle.goal_meaning.specs.declared.goals.Set.{Set}
+use Rattle.graph_meaning.specs.declared.graphs.LaunchGraph.{LaunchGraph}
 use Rattle.saturation.specs.GoalTerms.{entry_term, input_term}
 use Rattle.saturation.specs.Numbered.{IsClassNumber, IsInputNumber, IsSetNumber, IsGuardNumber, firsts, indexes_of, launched_row}
 use Rattle.saturation.proofs.LaunchedRows.{few_used}

@@ -1,6 +1,6 @@
 use Rattle.std.proofs.Common.{rules, ◌≡◌, ◌<◌, List, length, get_or, subst}
 use Rattle.schedule_meaning.specs.Fits.{IsReached}
-use Rattle.launch_graph.specs.declared.graphs.SetClass.{SetClass}
+use Rattle.graph_meaning.specs.declared.graphs.SetClass.{SetClass}
 use Rattle.schedule_meaning.proofs.Loops.{all_more, all_pass}
 use Rattle.schedule_meaning.proofs.operands.targets_are_reached.Goals as goal
 

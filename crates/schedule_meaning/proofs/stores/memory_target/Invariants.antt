@@ -1,6 +1,6 @@
 use Rattle.std.proofs.Common.{◌≡◌, drop}
 use Rattle.std.specs.Prelude.{find}
-use Rattle.launch_graph.specs.Graphs.{is_memory_name}
+use Rattle.graph_meaning.specs.Graphs.{is_memory_name}
 use Rattle.schedule_meaning.proofs.stores.memory_target.Given as goal
 
 abbrev pub invariant-loop-set : goal.invariant-loop-set

@@ -1,5 +1,5 @@
 use Rattle.std.proofs.Common.{◌∙◌, ap}
-use Rattle.launch_graph.specs.declared.graphs.LaunchGraph.{LaunchGraph}
+use Rattle.graph_meaning.specs.declared.graphs.LaunchGraph.{LaunchGraph}
 use Rattle.schedule_meaning.specs.Launches.{instr_at}
 use Rattle.cycle_encoding.proofs.Tables.{table_at}
 use Rattle.cycle_encoding.proofs.facts.Facts.instr_at.Goals as goal

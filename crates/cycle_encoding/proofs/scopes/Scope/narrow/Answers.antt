@@ -1,7 +1,8 @@
-use Rattle.std.proofs.Common.{◌∙◌, ◌+◌, ap, map, refl, true, Bool, List, Option, ℕ}
+use Rattle.std.proofs.Common.{◌∙◌, ◌+◌, ap, map, refl, Bool, List, Option, ℕ}
 use Rattle.std.specs.Prelude.{length}
 use Rattle.std.specs.List.{range_with_len}
 use Rattle.cycle_encoding.specs.Scoped.{first_cycle}
+use Rattle.cycle_encoding.specs.declared.encodings.Encoding.TheVariants.{Narrow}
 use Rattle.cycle_encoding.proofs.ScopeSteps.{narrow-lists}
 use Rattle.cycle_encoding.proofs.scopes.Scope.narrow.Goals as goal
 
@@ -15,5 +16,8 @@ returns c =
     c.in_ok-firsts.ensures
     ∙ ap (λ (x : List (Option ℕ)). map (first_cycle g x c.deref-5.result.now) rows) c.deref-4.ensures.value
     ∙ ap (λ (y : List Bool). map (first_cycle g come y) rows) c.deref-5.ensures.value in
-    λ k few. narrow-lists g c.args.table.now come marks c.in_ok-come.ensures c.in_ok-wants.ensures
-    (record { narrow = true; firsts = c.in_ok-firsts.firsts.items; wants = marks }) refl firsts refl k few
+    record {
+      encoding = refl;
+      lists = λ k few. narrow-lists g c.args.table.now come marks c.in_ok-come.ensures c.in_ok-wants.ensures
+          (record { encoding = Narrow; firsts = c.in_ok-firsts.firsts.items; wants = marks }) refl firsts refl k few;
+    }

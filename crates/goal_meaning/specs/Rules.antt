@@ -1,0 +1,30 @@
+-- The names and registers of a goal, and the pool of a goal that gives none. Source: this project.
+use Rattle.std.specs.Prelude.{Bool, false, ℕ, ◌≡◌, ◌≢◌, ◌<◌, ◌≤◌, ◌==◌, not, List, [], ◌∷◌, ◌++◌, length, map, filter, All, AllPairs}
+use Rattle.std.specs.List.{list_any, range_with_len}
+use Rattle.text_core.specs.Names.{is_among}
+use Rattle.goal_meaning.specs.Names.{is_reserved, names_of_declared}
+use Rattle.goal_meaning.specs.Views.{TargetTree, GoalTree}
+use Rattle.goal_meaning.specs.declared.goals.DeclaredOp.{DeclaredOp}
+use Rattle.goal_meaning.specs.declared.goals.InputReg.{InputReg}
+
+abbrev pub has_register : List ℕ → ℕ → Bool
+has_register given register = list_any (λ other. other == register) given
+
+-- the registers that are free where nothing else is said: 0 to 8, 16 to 25, 27 and 28
+abbrev pub free_registers : List ℕ
+free_registers = range_with_len 0 9 ++ range_with_len 16 10 ++ 27 ∷ 28 ∷ []
+
+-- a pool that isn't given has these, but for the inputs' registers
+abbrev pub default_pool : List ℕ → List ℕ
+default_pool inputs = filter (λ r. not (has_register inputs r)) free_registers
+
+-- the names and registers of a goal, and how many of everything there may be
+pub record KeepsRules (declared : List DeclaredOp) (goal : GoalTree) : Type 0 where
+  pub input_names : AllPairs (λ (i j : InputReg). i.name ≢ j.name) goal.inputs
+  pub own_names : All (λ (i : InputReg). is_reserved i.name ≡ false) goal.inputs
+  pub not_declared : All (λ (i : InputReg). is_among (names_of_declared declared) i.name ≡ false) goal.inputs
+  pub registers : AllPairs (λ a b. a ≢ b) (map (λ (i : InputReg). i.reg) goal.inputs ++ goal.pool)
+  pub low : All (λ r. r < 31) (map (λ (i : InputReg). i.reg) goal.inputs ++ goal.pool)
+  pub targets : AllPairs (λ (s t : TargetTree). s.name ≢ t.name) goal.sets
+  pub some_target : 0 < length goal.sets
+  pub few : (length goal.inputs ≤ 16) × (length goal.assumes ≤ 16) × (length goal.sets ≤ 16)

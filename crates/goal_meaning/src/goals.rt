@@ -1,0 +1,63 @@
+// Goals, axioms and declared operators, and inputs of them.
+use items::Items;
+use machine_table::Table;
+use text_core::Name;
+use word_ops::{Arity, Op};
+use word_terms::Term;
+
+/// An operator that an input declares.
+#[derive(Drop)]
+pub struct DeclaredOp {
+    pub name: Name,
+    pub arity: Arity,
+}
+
+/// An input and the register that has it.
+#[derive(Drop)]
+pub struct InputReg {
+    pub name: Name,
+    pub reg: u8,
+}
+
+/// Two terms that are taken to be equal.
+#[derive(Drop)]
+pub struct Assume {
+    pub left: Term<Op>,
+    pub right: Term<Op>,
+}
+
+/// A target and its new value. The name `M` is memory.
+#[derive(Drop)]
+pub struct Set {
+    pub name: Name,
+    pub value: Term<Op>,
+}
+
+/// A guarded multi-assignment, with the registers of its inputs and those that it may use.
+#[derive(Drop)]
+pub struct Goal {
+    pub name: Name,
+    pub inputs: Items<InputReg>,
+    pub pool: Items<u8>,
+    pub assumes: Items<Assume>,
+    pub guard: Option<Term<Op>>,
+    pub sets: Items<Set>,
+}
+
+/// An equation of terms with variables, which are numbered in the order of the list.
+#[derive(Drop)]
+pub struct Axiom {
+    pub variables: Items<Name>,
+    pub left: Term<Op>,
+    pub right: Term<Op>,
+}
+
+/// What a text of goals says. `builtin` is true where the text has no machine form.
+#[derive(Drop)]
+pub struct Input {
+    pub table: Table,
+    pub builtin: bool,
+    pub ops: Items<DeclaredOp>,
+    pub axioms: Items<Axiom>,
+    pub goals: Items<Goal>,
+}

@@ -1,0 +1,11 @@
+//! Inputs and goals: declared operators, axioms and guarded multi-assignments of terms; when they are well formed, when
+//! axioms and assumptions hold in a world, and what a goal's outcome in it is.
+//!
+//! `goal_reader` reads inputs from texts and prints them.
+#![tactic(auto)]
+
+mod goals;
+mod laws;
+
+pub use goals::{Assume, Axiom, DeclaredOp, Goal, Input, InputReg, Set};
+pub use laws::{axioms_hold_for_all_goals, goals_have_outcomes};

@@ -1,0 +1,4 @@
+pub mod Lists
+pub mod Classes
+pub mod Values
+pub mod Registers

@@ -1,0 +1,12 @@
+use Rattle.graph_meaning.proofs.Registers.{pool_differs, pool_low, inputs_apart, inputs_differ, inputs_low}
+use Rattle.graph_meaning.proofs.laws.registers_are_apart.Goals as goal
+
+pub returns : goal.returns
+returns c =
+    record {
+      differ = pool_differs;
+      low = pool_low;
+      inputs = inputs_apart;
+      inputs_differ = inputs_differ;
+      inputs_low = inputs_low;
+    }

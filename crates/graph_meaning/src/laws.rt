@@ -1,0 +1,54 @@
+// What is true of each launch graph. The calls do nothing: their clauses hold of all graphs.
+ghost use Rattle.std.specs.Prelude.{◌≡◌, ◌≢◌, ◌<◌, ℕ, All, AllPairs, Any, Contains, Some, None, length, slice_index};
+ghost use Rattle.word_ops.specs.Meanings.{sort_of, constant_in};
+ghost use Rattle.word_ops.specs.Words.{IsWord};
+ghost use Rattle.word_ops.specs.Worlds.{Value, World, IsValue, word};
+ghost use Rattle.word_ops.specs.declared.sorts.Sort.{Sort as SortOf};
+ghost use Rattle.word_ops.specs.declared.sorts.Sort.TheVariants as sorts;
+ghost use Rattle.graph_meaning.specs.Graphs.{IsProper, IsTrueUnder, constant_of, input_register, memory_target};
+ghost use Rattle.graph_meaning.specs.WellFormed.{IsLaunchGraph, ClassHasSort};
+ghost use Rattle.graph_meaning.specs.declared.graphs.LaunchRow.{LaunchRow as Row};
+ghost use Rattle.graph_meaning.specs.declared.graphs.LaunchGraph.{LaunchGraph as Graph};
+
+/// In a well-formed graph each class has one sort and at most one constant, its number is below the number of rows, and
+/// a class with a constant or an input is a word.
+pub fn graphs_are_consistent()
+    ensures below { (g : Graph) → IsLaunchGraph g → All (λ r. r.class < length g.rows) g.rows }
+    ensures classes { (g : Graph) (sort : SortOf) (class : ℕ) → IsLaunchGraph g
+        → ClassHasSort g sort class → class < length g.rows }
+    ensures own_sort { (g : Graph) → IsLaunchGraph g → All (λ r. ClassHasSort g (sort_of r.op) r.class) g.rows }
+    ensures one_sort { (g : Graph) (sort other : SortOf) (class : ℕ) → IsLaunchGraph g
+        → ClassHasSort g sort class → ClassHasSort g other class → sort ≡ other }
+    ensures constant { (g : Graph) (row : Row) (n : ℕ) → IsLaunchGraph g → Contains g.rows row
+        → constant_in row.op ≡ Some n → constant_of g row.class ≡ Some n }
+    ensures constant_row { (g : Graph) (class n : ℕ) → constant_of g class ≡ Some n
+        → Any (λ r. (r.class ≡ class) × (constant_in r.op ≡ Some n)) g.rows }
+    ensures constant_word { (g : Graph) (class n : ℕ) → IsLaunchGraph g → constant_of g class ≡ Some n
+        → IsWord n × ClassHasSort g sorts.Word class }
+    ensures input { (g : Graph) (class register : ℕ) → input_register g class ≡ Some register
+        → Any (λ i. (i.class ≡ class) × (i.reg ≡ register)) g.inputs }
+    ensures no_input { (g : Graph) (class : ℕ) → input_register g class ≡ None
+        → All (λ i. i.class ≢ class) g.inputs }
+    ensures input_word { (g : Graph) (class register : ℕ) → IsLaunchGraph g → input_register g class ≡ Some register
+        → (register < 31) × ClassHasSort g sorts.Word class }
+    ensures memory_target { (g : Graph) → IsLaunchGraph g → ClassHasSort g sorts.Memory (memory_target g) }
+{}
+
+/// The registers of a proper graph: those of the pool differ, are 0 to 30, and are no input's.
+pub fn registers_are_apart()
+    ensures differ { (g : Graph) → IsProper g → AllPairs (λ a b. a ≢ b) g.pool }
+    ensures low { (g : Graph) → IsProper g → All (λ r. r < 31) g.pool }
+    ensures inputs { (g : Graph) → IsProper g → All (λ i. ¬ Contains g.pool i.reg) g.inputs }
+    ensures inputs_differ { (g : Graph) → IsProper g → AllPairs (λ i j. i.reg ≢ j.reg) g.inputs }
+    ensures inputs_low { (g : Graph) → IsProper g → All (λ i. i.reg < 31) g.inputs }
+{}
+
+/// Where a graph is true, a class has the value of its constant and of its first input, and one of its sort.
+pub fn classes_have_values()
+    ensures constant { (g : Graph) (world : World) (value : ℕ → Value) (class n : ℕ) → IsTrueUnder g world value
+        → constant_of g class ≡ Some n → value class ≡ word n }
+    ensures input { (g : Graph) (world : World) (value : ℕ → Value) (class register : ℕ) → IsTrueUnder g world value
+        → input_register g class ≡ Some register → value class ≡ word (slice_index world.registers register) }
+    ensures sort { (g : Graph) (world : World) (value : ℕ → Value) (sort : SortOf) (class : ℕ)
+        → IsTrueUnder g world value → ClassHasSort g sort class → IsValue sort (value class) }
+{}

@@ -1,7 +1,0 @@
-use Rattle.std.proofs.Common.{◌≡◌, drop}
-use Rattle.launch_graph.specs.Graphs.{constant_among}
-use Rattle.launch_graph.proofs.graphs.LaunchGraph.constant_of.Given as goal
-
--- The rows so far have no constant of the class.
-abbrev pub invariant-loop-row : goal.invariant-loop-row
-invariant-loop-row l = constant_among l.self.rows l.class ≡ constant_among (drop l.row-index l.self.rows) l.class
