@@ -8,8 +8,8 @@ pub enum Second {
     Literal(u8),
 }
 
-/// An instruction. `ra`, `rb` and `rc` are register numbers. A displacement is in bytes for `Lda`, `LdqU` and `StqU`, in
-/// units of 65536 bytes for `Ldah`, and for `Beq` in words from the word after it.
+/// An instruction. `ra`, `rb` and `rc` are register numbers. A displacement is in bytes for `Lda`, `LdqU` and `StqU`,
+/// in units of 65536 bytes for `Ldah`, and for `Beq` in words from the word after it.
 #[derive(Clone, Copy, PartialEq, Eq, Debug)]
 pub enum Instr {
     Operate {

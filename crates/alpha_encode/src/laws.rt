@@ -7,6 +7,7 @@ ghost use Rattle.alpha_encode.specs.declared.instructions.Instr.{Instr as Instru
 /// Instructions and their words are one to one.
 pub fn words_and_instructions()
     ensures back { (instr : Instruction) → IsWellFormed instr → decoded (encoded instr) ≡ Some instr }
-    ensures forth { (word : ℕ) (instr : Instruction) → word < 2 ^ 32 → decoded word ≡ Some instr → IsWellFormed instr × (encoded instr ≡ word) }
+    ensures forth { (word : ℕ) (instr : Instruction) → word < 2 ^ 32 → decoded word ≡ Some instr
+        → IsWellFormed instr × (encoded instr ≡ word) }
     ensures own_word { (a b : Instruction) → IsWellFormed a → IsWellFormed b → encoded a ≡ encoded b → a ≡ b }
 {}

@@ -41,7 +41,7 @@ pub record Runs (words : List ℕ) (start : MachineState) (end : End) (state : M
   pub steps : after (length words) instrs start ≡ state
   pub ends : state.pc ≡ end_pc end (length words)
 
--- a branch at a place leaves to the one place that is allowed
+-- a branch at a place leads to the one place that is allowed
 abbrev pub IsAllowedAt : ℕ → ℕ → Instr → Type 0
 IsAllowedAt count at (Beq ra disp) = disp ≡ pos (count - at)
 IsAllowedAt count at _ = Unit {0}

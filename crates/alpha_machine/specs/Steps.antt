@@ -21,7 +21,7 @@ abbrev pub second_value : Second → List ℕ → ℕ
 second_value (Reg r) registers = slice_index registers r
 second_value (Literal n) registers = n
 
--- an operate of one operand has it in its second place
+-- an operate of one operand takes it from its second place
 abbrev pub operate_value : WordOp → ℕ → ℕ → ℕ
 operate_value op a b = if is_unary op then value_at op b 0 0 else value_at op a b 0
 

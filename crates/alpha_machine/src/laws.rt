@@ -7,14 +7,15 @@ ghost use Rattle.alpha_machine.specs.States.{MachineState};
 ghost use Rattle.alpha_machine.specs.Steps.{address};
 ghost use Rattle.alpha_machine.specs.Runs.{after, stepped};
 
-/// The low 16 bits of a word, taken with their sign as a displacement, lead where the operators `lda` and `ldah` lead
-/// with that word.
+/// The operators `lda` and `ldah` give, for a base and a word, the address that the instructions compute from the base
+/// and the word's low 16 bits, sign-extended, as their displacement.
 pub fn displacements_are_low_bits()
     ensures low { (x k : ℕ) → address x 1 (cast_signed w16 (k % 2 ^ 16)) ≡ lda x k }
     ensures high { (x k : ℕ) → address x 65536 (cast_signed w16 (k % 2 ^ 16)) ≡ ldah x k }
 {}
 
-/// Steps add up, one more is the last one, and past the words nothing happens.
+/// After m steps and then n more, the state is that after m + n steps. The last of n + 1 steps is one step from the
+/// state after n. A state whose pc is past the words stays as it is.
 pub fn steps_add_up()
     ensures sums { (m n : ℕ) (instrs : List Instr) (s : MachineState)
         → after (m + n) instrs s ≡ after n instrs (after m instrs s) }

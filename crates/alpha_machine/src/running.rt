@@ -11,36 +11,38 @@ use thiserror::Error;
 /// Where a run ends.
 #[derive(Clone, Copy, PartialEq, Eq, Debug)]
 pub enum End {
-    /// Behind the last word.
+    /// Just after the last word: no branch was taken.
     Fall,
-    /// One word further, by a branch.
+    /// One word further: a branch was taken.
     Exit,
 }
 
 /// Why words weren't run.
 #[derive(Clone, Copy, PartialEq, Eq, Debug, Error)]
 pub enum RunFault {
-    /// The first word that is no instruction, or a branch that leads elsewhere than one word behind the last.
+    /// The first word that is no instruction, or that is a branch to another place than one word past the end of the
+    /// words. `at` is its index in the words.
     #[error("word {at}, {word:#010x}, can't be run")]
     Bad { at: u32, word: u32 },
     #[error("out of memory")]
     Memory,
 }
 
-fn may_stand(word: u32, at: usize, count: usize) -> bool
-    requires at { at < count }
+/// Whether the word is an instruction that may stand at this place of so many words: a branch leads one word behind the
+/// last.
+pub fn may_stand(word: u32, at: usize, count: usize) -> bool
     requires few { count < 2 ^ 29 }
     ensures yes { IsTrue result → MayStandAt count at word }
     ensures no { IsFalse result → ¬ MayStandAt count at word }
 {
     match decode(word) {
-        Some(Instr::Beq { disp, .. }) => disp == (count - at) as i32,
+        Some(Instr::Beq { disp, .. }) => disp == count.saturating_sub(at) as i32,
         Some(_) => true,
         None => false,
     }
 }
 
-/// The place of the first word that may not stand where it does.
+/// The index of the first word that may not stand where it does.
 fn first_bad(words: &[u32]) -> Option<u32>
     requires { length words.now < 2 ^ 29 }
     ensures { MatchOption result (AllMayStand words.now) (λ at. IsFirstBad words.now at (slice_index words.now at)) }
@@ -53,8 +55,8 @@ fn first_bad(words: &[u32]) -> Option<u32>
     None
 }
 
-/// Runs the words, which stand from address 0 on. A word that isn't allowed is found before the first step. Each word is
-/// executed at most once, since all branches lead behind the words.
+/// Runs the words, which stand from address 0 on. A word that isn't allowed is found before the first step. Each word
+/// is executed at most once, since every branch leads past the words.
 pub fn run(words: &[u32], state: &mut State) -> Result<End, RunFault>
     requires few { length words.now < 2 ^ 29 }
     requires start { state.old.pc ≡ 0 }

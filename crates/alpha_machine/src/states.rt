@@ -13,7 +13,7 @@ use items::NoMemory;
 use std::marker::Model;
 use word_ops::{Mem, WordOp};
 
-/// 32 registers, of which number 31 is 0, a memory, and the address of the next word.
+/// 32 registers, of which register 31 is always 0, a memory, and the address of the next word, the pc.
 #[derive(Drop)]
 pub struct State {
     regs: [u64; 32],

@@ -5,7 +5,7 @@ ghost use Rattle.alpha_machine.specs.Steps as steps;
 
 use word_ops::{WordOp, apply, arity};
 
-/// What an operate gives. One of a single operand has it in its second place.
+/// The value of an operate. One of a single operand has that operand as its second.
 pub(crate) fn operate_value(op: WordOp, first: u64, second: u64) -> u64
     requires { IsSome (code_of op) }
     ensures { result ≡ steps.operate_value op first second }

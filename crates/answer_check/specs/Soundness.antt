@@ -34,7 +34,7 @@ DoesAsClaimed table g claim = Unit {0}
 abbrev pub NoneFitsBelow : Table → LaunchGraph → ℕ → Type 0
 NoneFitsBelow table g k = (j : ℕ) (ls : List Launch) → j < k → Fits g table j ls → ⊥
 
--- by the clauses for each number of cycles
+-- what is claimed is true, by the clauses for each number of cycles
 abbrev pub IsTrueClaim : Table → LaunchGraph → (ℕ → Formula) → Claim → Type 0
 IsTrueClaim table g clauses_for (NoWorld class a b) = ⊥
 IsTrueClaim table g clauses_for (Scheduled k schedule words places) =

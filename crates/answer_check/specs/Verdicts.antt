@@ -51,7 +51,7 @@ module _ (clauses_for : ℕ → Formula) where
   abbrev pub IsWithinBelow : Claimed → Type 0
   IsWithinBelow c = IsTrue (is_some c.refute) → ¬ IsTooLarge (clauses_for (refuted_cycles c.claim))
 
-  -- so are the clauses of lemmas; and printed counts are the true ones, and one passes its limit
+  -- the clauses of lemmas are within the limits; and printed counts are the true ones, and one of them passes its limit
   abbrev pub HasRightSize : Claim → Type 0
   HasRightSize (SpentConflicts k lemmas) = ¬ IsTooLarge (clauses_for k)
   HasRightSize (SpentSize k vars clauses) = PassesLimit (clauses_for k) vars clauses
@@ -81,7 +81,7 @@ module _ (clauses_for : ℕ → Formula) where
       × IsSomeAnd c.refute (λ (l : Lines).
       IsFirstRefusal (IsEmptyOnlyLast l.lines) (clauses_for (refuted_cycles c.claim)) l.lines line why)
 
-  -- the same of a line of lemmas
+  -- the first line for k cycles that is refused as one of lemmas, and its least reason
   abbrev pub HasRefusedLemma : Claim → ℕ → ℕ → ℕ → Type 0
   HasRefusedLemma (SpentConflicts n lemmas) k line why =
       (k ≡ n) × IsFirstRefusal IsFilled (clauses_for n) lemmas.lines line why
@@ -107,8 +107,8 @@ module _ (table : Table) (g : LaunchGraph) (clauses_for : ℕ → Formula) where
       IsFitting table g c.claim × IsListed table g c.claim × IsWithinBelow clauses_for c
       × HasRightSize clauses_for c.claim × HasRefutingLines clauses_for c × HasLemmas clauses_for c.claim
 
--- The verdict on a claimed goal: one without a world is seen and isn't tested, each other one is tested by the clauses of
--- the encoding, built from the graph and the table alone.
+-- The verdict on a claimed goal: one without a world is seen and isn't tested, each other one is tested by the clauses
+-- of the encoding, built from the graph and the table alone.
 pub data IsVerdict (e : Encoding) (table : Table) (c : Claimed) (v : Verdict) : Type 0 where
   seen : {class a b : ℕ} → c.claim ≡ NoWorld class a b → v ≡ Seen → IsVerdict e table c v
   tested : {g : LaunchGraph} {clauses_for : ℕ → Formula} → c.graph ≡ Some g → AreFormulas e g table clauses_for

@@ -76,9 +76,9 @@ fn check_claim(
     Ok(Verdict::Holds)
 }
 
-/// Tests what is claimed of a goal by the clauses of an encoding, whoever wrote it. Where all tests hold, the claim is
-/// true. The clauses for one number of cycles are built at a time; the cost is that of building them, and of looking at
-/// each hint's clause once.
+/// Tests a goal's claim, whoever made it, against the clauses of an encoding. If every test holds, the claim is true.
+/// The clauses for one number of cycles are built at a time; the cost is that of building them, and of looking once at
+/// each clause that a hint names.
 pub fn check_goal(
     alloc: Global,
     encoding: Encoding,

@@ -1,4 +1,4 @@
-// For how many cycles the clauses are that a claim speaks of, and how many they are, before any is built.
+// The numbers of cycles that a claim speaks of, and the counts of their clauses, found before any clause is built.
 ghost use Rattle.std.specs.Prelude.{◌≡◌, ◌↔◌, ◌≤◌, ◌<◌, ◌⊎◌, length, IfOk, IsTrue, is_some, MatchOption};
 ghost use Rattle.answer_check.specs.Verdicts.{HasRightSize, HasWrongSize, IsWithinBelow};
 ghost use Rattle.answer_texts.specs.AnswerLines as format;
@@ -15,8 +15,8 @@ use machine_table::Table;
 use order_encoding::{count_in, pass_limit};
 use std::alloc::Global;
 
-/// A claim says that no schedule fits in fewer cycles than these.
-pub fn refuted_below(claim: &Claim) -> u32
+/// The number of cycles below which, as the claim says, no schedule fits.
+pub(crate) fn refuted_below(claim: &Claim) -> u32
     requires { FitsClaim claim.now }
     ensures value { result ≡ format.refuted_below claim.now }
     ensures few { result ≤ 25 }
@@ -30,13 +30,13 @@ pub fn refuted_below(claim: &Claim) -> u32
     }
 }
 
-/// For how many cycles the clauses are that the lines of a claim are to refute.
+/// The number of cycles of the clauses that a claim's lines are to refute.
 pub(crate) fn refuted_cycles(claim: &Claim) -> u32
     requires { FitsClaim claim.now }
     ensures value { result ≡ format.refuted_cycles claim.now }
     ensures few { result ≤ 24 }
 {
-    refuted_below(claim).saturating_sub(1)
+    claim.as_ref().refuted_cycles()
 }
 
 /// Whether one of the counts passes its limit.
@@ -68,7 +68,7 @@ fn large_counts(
     }
 }
 
-/// The true counts of the clauses for k cycles, where the printed ones aren't these, or none passes its limit.
+/// The true counts of the clauses for k cycles, if the printed counts differ from them or no count passes its limit.
 fn untrue_counts(
     alloc: Global,
     facts: &Facts,
@@ -100,7 +100,7 @@ fn untrue_counts(
     Ok(None)
 }
 
-/// The counts of the clauses that lines are to refute, where one of them passes its limit.
+/// The counts of the clauses that lines are to refute, if one of the counts passes its limit.
 fn large_below(
     alloc: Global,
     facts: &Facts,
@@ -123,7 +123,7 @@ fn large_below(
     }
 }
 
-/// The true counts of the clauses that a claim speaks of, where their size is wrong.
+/// The true counts of the clauses that a claim itself speaks of, if the size that it gives is wrong.
 fn wrong_own_size(
     alloc: Global,
     facts: &Facts,
@@ -155,8 +155,8 @@ fn wrong_own_size(
     }
 }
 
-/// The true counts of clauses whose size is wrong: first of those that lines are to refute, then of those that the
-/// claim itself speaks of.
+/// The true counts of the first clauses whose size is wrong: first come those that lines are to refute, then those that
+/// the claim itself speaks of.
 pub(crate) fn wrong_size(
     alloc: Global,
     facts: &Facts,

@@ -14,7 +14,6 @@ mod reporting;
 mod verdicts;
 
 pub use checking::check_goal;
-pub use counting::refuted_below;
 pub use laws::one_verdict;
 pub use reporting::check_answer;
 pub use verdicts::{Checked, Verdict};

@@ -1,15 +1,15 @@
 // The line of each goal, and the report on a whole answer.
 ghost use Rattle.std.specs.Prelude.{◌≡◌, ◌++◌, ◌∷◌, [], IfOk, OnOk, codes, decimal, map};
 ghost use Rattle.answer_check.specs.Reports.{IsCheckReport, claim_words, encoding_named, verdict_words};
-ghost use Rattle.answer_check.specs.Verdicts.{IsVerdict};
 ghost use Rattle.answer_texts.specs.WellFormed.{IsAnswer};
 ghost use Rattle.text_core.specs.LineTexts.{line_text};
 
 use crate::{Checked, Verdict, check_goal};
-use answer_texts::{AnswerText, Claim, Claimed, put, put_number, put_word};
+use answer_texts::{AnswerText, Claim, Claimed};
 use cycle_encoding::Encoding;
 use items::NoMemory;
 use std::alloc::Global;
+use text_core::{put, put_number, put_word};
 
 /// A line of a word, a goal's name, and what is said of it.
 fn put_line(

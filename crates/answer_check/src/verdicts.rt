@@ -2,10 +2,10 @@
 ghost use Rattle.std.specs.Prelude.{◌≡◌};
 ghost use Rattle.answer_check.specs.Reports.{is_rejection};
 
-/// What a check comes to for one goal: each test holds, the goal has no world and isn't tested, or the first test that
-/// fails. `Broken` is the least rule that the schedule breaks, and the first launch that breaks it. `Size` has the true
-/// counts of clauses. `Refutation` and `Lemmas` have for how many cycles the lines are, and the first line that is
-/// refused with its least reason.
+/// What a check comes to for one goal: every test holds; or the goal has no world, and is seen without a test; or the
+/// first test that fails. `Broken` has the least rule that the schedule breaks, and the first launch that breaks it.
+/// `Size` has the true counts of the clauses. `Refutation` and `Lemmas` have the number of cycles of the clauses, the
+/// first line that is refused, and the least reason against it.
 #[derive(Clone, Copy, PartialEq, Eq, Debug)]
 pub enum Verdict {
     Holds,

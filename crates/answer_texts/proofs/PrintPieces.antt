@@ -1,5 +1,6 @@
 -- Lines that are printed one after another.
 use Rattle.std.proofs.Common.{◌≡◌, ℕ, ◌+◌, ◌<◌, List, [], ◌∷◌, ◌++◌, length, take, get_or, map, refl, sym, ap, ◌∙◌, append_assoc, append-nil, codes, decimal, Bool, Some}
+use Rattle.std.specs.Prelude.{option_copied}
 use Rattle.std.specs.List.{flat_map}
 use Rattle.std.proofs.lemmas.List.{take_more}
 use Rattle.std.proofs.lemmas.List.Concat.{flat_map-cons}
@@ -20,6 +21,8 @@ use Rattle.graph_meaning.specs.declared.graphs.LaunchGraph.{LaunchGraph}
 use Rattle.schedule_meaning.specs.declared.schedules.Schedule.{Schedule}
 use Rattle.answer_texts.specs.declared.answers.Claim.TheVariants.{Scheduled}
 use Rattle.answer_texts.specs.declared.answers.Claimed.{Claimed}
+use Rattle.answer_texts.specs.declared.lent.ClaimedRef.{ClaimedRef}
+use Rattle.answer_texts.specs.Lent.{lent_claim, lent_claimed}
 use Rattle.answer_texts.specs.AnswerLines.{name_among, slot_words, cross_words, inst_words, own_words, own_lines, hex_text, text_words, word_words, rounds_words, goal_words, end_words, graph_part, claim_part, refute_part, lemmas_part, refuted_cycles, goal_lines, version_words, encoding_words, head_lines, table_lines, scheduled_words, launch_words, where_words}
 use Rattle.answer_texts.proofs.InstrTexts.{instr_text}
 
@@ -143,14 +146,14 @@ own_text table start t1 t2 t3 t4 e1 e2 e3 e4 =
 -- ---- goals
 
 -- a goal is its name, its graph, its claim, the lines for fewer cycles, the lemmas, and its end
-pub goal_text : (table : Table) (c : Claimed) (start t1 t2 t3 t4 t5 t6 : List ℕ)
+goal_pieces : (table : Table) (c : Claimed) (start t1 t2 t3 t4 t5 t6 : List ℕ)
     → t1 ≡ start ++ line_text (goal_words c.name)
     → t2 ≡ t1 ++ lines_text (graph_part c.rounds c.stop c.graph)
     → t3 ≡ t2 ++ lines_text (claim_part table c.claim)
     → t4 ≡ t3 ++ lines_text (refute_part (refuted_cycles c.claim) c.refute)
     → t5 ≡ t4 ++ lines_text (lemmas_part c.claim) → t6 ≡ t5 ++ codes "end\n"
     → t6 ≡ start ++ lines_text (goal_lines table c)
-goal_text table c start t1 t2 t3 t4 t5 t6 e1 e2 e3 e4 e5 e6 =
+goal_pieces table c start t1 t2 t3 t4 t5 t6 e1 e2 e3 e4 e5 e6 =
     let last : List Words = lemmas_part c.claim ++ (end_words ∷ []) in
     let refuted : List Words = refute_part (refuted_cycles c.claim) c.refute ++ last in
     let claim : List Words = claim_part table c.claim ++ refuted in
@@ -159,6 +162,17 @@ goal_text table c start t1 t2 t3 t4 t5 t6 e1 e2 e3 e4 e5 e6 =
     (then_lines (claim_part table c.claim) refuted t2 t3 t6 e3
     (then_lines (refute_part (refuted_cycles c.claim) c.refute) last t3 t4 t6 e4
     (then_lines (lemmas_part c.claim) (end_words ∷ []) t4 t5 t6 e5 e6))))
+
+-- the same of a goal that is lent
+pub goal_text : (table : Table) (c : ClaimedRef) (start t1 t2 t3 t4 t5 t6 : List ℕ)
+    → t1 ≡ start ++ line_text (goal_words c.name.now)
+    → t2 ≡ t1 ++ lines_text (graph_part c.rounds c.stop (option_copied c.graph))
+    → t3 ≡ t2 ++ lines_text (claim_part table (lent_claim c.claim))
+    → t4 ≡ t3 ++ lines_text (refute_part (refuted_cycles (lent_claim c.claim)) (option_copied c.refute))
+    → t5 ≡ t4 ++ lines_text (lemmas_part (lent_claim c.claim)) → t6 ≡ t5 ++ codes "end\n"
+    → t6 ≡ start ++ lines_text (goal_lines table (lent_claimed c))
+goal_text table c start t1 t2 t3 t4 t5 t6 e1 e2 e3 e4 e5 e6 =
+    goal_pieces table (lent_claimed c) start t1 t2 t3 t4 t5 t6 e1 e2 e3 e4 e5 e6
 
 pub head_text : (version encoding : ℕ) (table : Table) (builtin : Bool) (start t1 t2 t3 : List ℕ)
     → t1 ≡ start ++ line_text (version_words version) → t2 ≡ t1 ++ line_text (encoding_words encoding)

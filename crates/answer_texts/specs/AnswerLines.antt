@@ -91,7 +91,7 @@ hex_text word = hex_digits 8 word
 abbrev pub before_comma : ℕ → List ℕ
 before_comma r = register r ++ codes ","
 
--- an operate of one operand has no first one
+-- an operate of one operand is printed without a first operand
 abbrev pub first_operand_words : WordOp → ℕ → Words
 first_operand_words op ra = if is_unary op then [] else before_comma ra ∷ []
 
@@ -123,11 +123,11 @@ where_words w = codes "where" ∷ w.name ∷ decimal w.reg ∷ []
 
 -- ---- refutations and lemmas
 
--- a word, for how many cycles the lines behind it are, and how many they are
+-- a word, the number of cycles of the lines behind it, and the number of these lines
 abbrev pub counted_words : List ℕ → ℕ → ℕ → Words
 counted_words first cycles count = first ∷ decimal cycles ∷ decimal count ∷ []
 
--- the lines that refute the clauses for so many cycles
+-- the lines that refute the clauses for this number of cycles
 abbrev pub refute_lines : ℕ → List Line → List Words
 refute_lines cycles lines = counted_words (codes "refute") cycles (length lines) ∷ map line_words lines
 
@@ -179,7 +179,7 @@ claim_part table (Missing k) = none_words k ∷ []
 claim_part table (SpentConflicts k lemmas) = conflicts_words k ∷ []
 claim_part table (SpentSize k vars clauses) = size_words k vars clauses ∷ []
 
--- a claim says that no schedule fits in fewer cycles than these
+-- the number of cycles below which, as a claim says, no schedule fits
 abbrev pub refuted_below : Claim → ℕ
 refuted_below (NoWorld class a b) = 0
 refuted_below (Scheduled k schedule words places) = k
@@ -187,7 +187,7 @@ refuted_below (Missing k) = k + 1
 refuted_below (SpentConflicts k lemmas) = k
 refuted_below (SpentSize k vars clauses) = k
 
--- for how many cycles the clauses are that its lines are to refute, where there are some: one less
+-- the number of cycles of the clauses that a claim's lines are to refute, where there are lines: one less
 abbrev pub refuted_cycles : Claim → ℕ
 refuted_cycles claim = refuted_below claim - 1
 

@@ -115,7 +115,7 @@ pub record IsCount (first : List ℕ) (cycles : ℕ) (words : Words) (count : �
   pub small : count < 2 ^ 31
   pub is : words ≡ counted_words first cycles count
 
--- so many lines of a refutation
+-- `count` lines of a refutation
 pub record AreCounted (lines : List Line) (count from next : ℕ) (read : Lines) : Type 0 where
   pub within : from ≤ length lines
   pub are : AreLinesAt lines from count read.lines

@@ -1,5 +1,6 @@
 pub mod AnswerLines
 pub mod AnswerParts
+pub mod Lent
 pub mod LineParts
 pub mod Printable
 pub mod ReadAnswers

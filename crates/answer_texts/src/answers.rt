@@ -17,7 +17,7 @@ pub enum Claim {
         a: u64,
         b: u64,
     },
-    /// The launches fit in `k` cycles; these are their words, and the registers of the targets.
+    /// The launches fit in `k` cycles; `words` are their instruction words, and `places` the registers of the targets.
     Scheduled {
         k: u32,
         schedule: Schedule,
@@ -33,7 +33,7 @@ pub enum Claim {
         k: u32,
         lemmas: Lines,
     },
-    /// The clauses for `k` cycles would have so many variables and be so many.
+    /// The formula for `k` cycles is too large: it would have `vars` variables and `clauses` clauses.
     SpentSize {
         k: u32,
         vars: u64,
@@ -41,9 +41,9 @@ pub enum Claim {
     },
 }
 
-/// What an answer says of one goal. Where it claims that the goal has no world there is no graph, and the rounds are 0
-/// and quiet. `refute` are the lines that are to refute the clauses for `k` cycles of a missing schedule, and for `k` - 1
-/// of each other claim; for fewer than 0 cycles there are none.
+/// What an answer says of one goal. If the claim is that the goal has no world, there is no graph, and `rounds` and
+/// `stop` are 0 and quiet. `refute` are lines that are to refute the clauses for `k` cycles, in the claim of a missing
+/// schedule, or for one cycle less than `k`, in every other claim with a `k`; there are none for fewer than 0 cycles.
 #[derive(Drop)]
 pub struct Claimed {
     pub name: Name,

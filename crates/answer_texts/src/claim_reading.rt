@@ -14,7 +14,7 @@ use schedule_meaning::Schedule;
 use std::alloc::Global;
 use text_core::{TextFault, TextLines};
 
-/// How many lines for so many cycles the line that begins with this word tells.
+/// The number of lines that a line tells which begins with this word and names this number of cycles.
 fn read_count(text: &TextLines<'_>, from: u32, first: &[u8], k: u32) -> Result<u32, TextFault>
     requires { from ≤ length text.now }
     ensures ok { IfOk result (IsOneLine (IsCount first.now k) text.now from (from + 1)) }
@@ -30,7 +30,7 @@ fn read_count(text: &TextLines<'_>, from: u32, first: &[u8], k: u32) -> Result<u
     }
 }
 
-/// So many lines of a refutation.
+/// `count` lines of a refutation.
 fn read_lines(
     alloc: Global,
     text: &TextLines<'_>,
@@ -47,7 +47,7 @@ fn read_lines(
     Ok((lines, from + count))
 }
 
-/// The lines for so many cycles behind a line that begins with this word.
+/// The lines behind a line that begins with this word and names this number of cycles.
 fn read_counted(
     alloc: Global,
     text: &TextLines<'_>,

@@ -17,7 +17,7 @@ use refutation_check::printed_lines_are_read_back;
 use text_core::{one_splitting, printed_lines_are_lines};
 use word_ops::operators_are_listed;
 
-/// A text says one answer at most, and then it has no fault. The first fault is one.
+/// A text is at most one answer, and a text that is one has no fault. There is at most one first fault.
 pub fn one_answer()
     ensures answer { (text : List ℕ) (answer other : Answer)
         → ReadsAnswer text answer → ReadsAnswer text other → answer ≡ other }
@@ -33,15 +33,15 @@ pub fn one_answer()
     tables_keep_limits();
 }
 
-/// What was read prints the bytes that were read.
+/// An answer prints as the bytes that it was read from.
 pub fn read_answers_print_their_text()
     ensures { (text : List ℕ) (answer : Answer) → ReadsAnswer text answer → answer_bytes answer ≡ text }
 {
     printed_lines_are_lines();
 }
 
-/// Each answer that is read has a table within the limits, and of each goal a well-formed graph, lines that are to refute
-/// fewer cycles, and numbers within bounds; a goal without a world has none of these.
+/// Each answer that is read has a table within the limits. Each of its goals has either no world, or a well-formed
+/// graph, lines that are to refute fewer cycles, and numbers within bounds.
 pub fn read_answers_are_well_formed()
     ensures { (text : List ℕ) (answer : Answer) → length text < 2 ^ 29 → ReadsAnswer text answer → IsAnswer answer }
 {
@@ -50,7 +50,7 @@ pub fn read_answers_are_well_formed()
     tables_keep_limits();
 }
 
-/// The line of a word of the machine can be a line.
+/// The words of the line that prints an instruction word can be a line of a text.
 pub fn word_lines_can_be_lines()
     ensures { (word : ℕ) (instr : Decoded) → word < 2 ^ 32 → decoded word ≡ Some instr → CanBeLine (word_words word) }
 {
@@ -59,7 +59,7 @@ pub fn word_lines_can_be_lines()
     operators_are_listed();
 }
 
-/// An answer that can be printed is what the bytes that it prints are read as. Only such answers are read.
+/// An answer that can be printed is read back from the bytes that it prints. Only answers that can be printed are read.
 pub fn printed_answers_are_read()
     ensures read { (answer : Answer) → IsPrintable answer → ReadsAnswer (answer_bytes answer) answer }
     ensures printable { (text : List ℕ) (answer : Answer) → ReadsAnswer text answer → IsPrintable answer }

@@ -1,7 +1,7 @@
 //! The text of an answer: what it says of each goal, read from the text and printed again.
 //!
-//! A text that says something says one thing, and else it has one first fault. Whether what it claims is so is for others
-//! to test.
+//! Each text parses to exactly one answer, or has exactly one first fault. Whether what it claims is true is tested
+//! elsewhere.
 #![tactic(auto)]
 
 mod answers;
@@ -9,6 +9,7 @@ mod claim_reading;
 mod goal_reading;
 mod hexadecimal;
 mod laws;
+mod lent;
 mod line_printing;
 mod line_reading;
 mod parts;
@@ -25,6 +26,6 @@ pub use laws::{
     one_answer, printed_answers_are_read, read_answers_are_well_formed,
     read_answers_print_their_text, word_lines_can_be_lines,
 };
-pub use line_printing::{put, put_number, put_word};
+pub use lent::{ClaimRef, ClaimedRef};
 pub use printing::{print_answer, put_goal, put_head};
 pub use reading::read_answer;

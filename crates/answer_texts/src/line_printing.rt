@@ -1,45 +1,12 @@
 // Pieces of lines, put behind a text.
-ghost use Rattle.std.specs.Prelude.{◌≡◌, ◌++◌, ◌∷◌, [], OnOk, length, map, codes, decimal};
+ghost use Rattle.std.specs.Prelude.{◌≡◌, ◌++◌, ◌∷◌, [], OnOk, length, map, decimal};
 ghost use Rattle.text_core.specs.LineTexts.{line_text, lines_text};
 ghost use Rattle.refutation_check.specs.LineWords.{line_words};
 
 use cnf_core::Lines;
 use items::NoMemory;
-use itoa::Buffer;
 use std::alloc::Global;
-
-/// Bytes behind a text.
-pub fn put(text: &mut Vec<u8>, bytes: &[u8]) -> Result<(), NoMemory>
-    ensures { OnOk result (text.new.items ≡ text.old.items ++ bytes.now) }
-{
-    text.extend_from_slice(bytes)?;
-    Ok(())
-}
-
-/// A word behind a text, with a space before it.
-pub fn put_word(text: &mut Vec<u8>, word: &[u8]) -> Result<(), NoMemory>
-    ensures { OnOk result (text.new.items ≡ text.old.items ++ (codes " " ++ word.now)) }
-{
-    put(text, b" ")?;
-    put(text, word)
-}
-
-/// A decimal number behind a text, with a space before it.
-pub fn put_number(text: &mut Vec<u8>, number: u64) -> Result<(), NoMemory>
-    ensures { OnOk result (text.new.items ≡ text.old.items ++ (codes " " ++ decimal number)) }
-{
-    let mut buffer = Buffer::new();
-    put_word(text, buffer.format(number).as_bytes())
-}
-
-/// A line of a word and a number.
-pub(crate) fn put_numbered(text: &mut Vec<u8>, word: &[u8], number: u64) -> Result<(), NoMemory>
-    ensures { OnOk result (text.new.items ≡ text.old.items ++ line_text (word.now ∷ decimal number ∷ [])) }
-{
-    put(text, word)?;
-    put_number(text, number)?;
-    put(text, b"\n")
-}
+use text_core::{put, put_number, put_word};
 
 /// A line of two words.
 pub(crate) fn put_pair(text: &mut Vec<u8>, word: &[u8], other: &[u8]) -> Result<(), NoMemory>
@@ -50,7 +17,7 @@ pub(crate) fn put_pair(text: &mut Vec<u8>, word: &[u8], other: &[u8]) -> Result<
     put(text, b"\n")
 }
 
-/// The lines of a refutation, or of lemmas, behind one that tells for how many cycles they are and how many they are.
+/// Appends a line with the number of cycles and of lines, and then the lines of a refutation or of lemmas.
 pub(crate) fn put_lines(
     alloc: Global,
     text: &mut Vec<u8>,

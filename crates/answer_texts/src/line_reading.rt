@@ -1,8 +1,8 @@
 // The lines of an answer that begin as they do and have a fixed number of words, each by itself.
-ghost use Rattle.std.specs.Prelude.{◌≡◌, ◌<◌, ◌≤◌, ◌^◌, ◌↔◌, ℕ, length, codes, IfOk, IfSome, IfNone, IsTrue, MatchOption};
+ghost use Rattle.std.specs.Prelude.{◌≡◌, ◌<◌, ◌≤◌, ◌↔◌, ℕ, length, IfOk, IfSome, IfNone, IsTrue, MatchOption};
 ghost use Rattle.std.specs.Prelude as std;
 ghost use Rattle.text_core.specs.Faults.{IsFaultBy};
-ghost use Rattle.text_core.specs.Lines.{line_at, line_word};
+ghost use Rattle.text_core.specs.Lines.{line_at};
 ghost use Rattle.text_core.specs.LineTexts.{SaysNone};
 ghost use Rattle.saturation.specs.declared.rounds.Stop.{Stop as StopOf};
 ghost use Rattle.answer_texts.specs.AnswerLines.{end_words, stop_name};
@@ -16,19 +16,21 @@ use items::NoMemory;
 use machine_table::Slot;
 use saturation::Stop;
 use std::alloc::Global;
-use text_core::{Fault, Kind, Name, TextFault, TextLines, decimal, is_name};
+use text_core::{
+    Fault, Kind, Name, TextFault, TextLines, begins_with, decimal, has_form, is_name, same,
+};
 
 /// The only version so far.
 const VERSION: u64 = 1;
 
-/// What the numbers of encodings stay below; they begin with 1.
+/// The numbers of encodings are 1 up to below this one.
 const ENCODINGS: u64 = 3;
 
 /// The most cycles that a claim may speak of.
 const MOST_CYCLES: u64 = 24;
 
-/// What numbers of lines stay below, but for words of 64 bits.
-const LIMIT: u64 = 1 << 31;
+/// Numbers on lines are below this one, except words of 64 bits.
+pub(crate) const LIMIT: u64 = 1 << 31;
 
 /// The fault of a line, or of the end of the text where the line is the count.
 pub(crate) fn bad_line(text: &TextLines<'_>, line: u32) -> TextFault
@@ -41,12 +43,6 @@ pub(crate) fn bad_line(text: &TextLines<'_>, line: u32) -> TextFault
     })
 }
 
-pub(crate) fn same(word: &[u8], other: &[u8]) -> bool
-    ensures { IsTrue result ↔ (word.now ≡ other.now) }
-{
-    word == other
-}
-
 /// The number that a word writes, below a limit.
 pub(crate) fn below(word: &[u8], limit: u64) -> Option<u64>
     ensures some { IfSome result (λ n. (word.now ≡ std.decimal n) × (n < limit)) }
@@ -54,23 +50,6 @@ pub(crate) fn below(word: &[u8], limit: u64) -> Option<u64>
 {
     let number = decimal(word)?;
     if number < limit { Some(number) } else { None }
-}
-
-/// Whether a line begins with this word.
-pub(crate) fn begins_with(text: &TextLines<'_>, line: u32, first: &[u8]) -> bool
-    requires { line < length text.now }
-    ensures { IsTrue result ↔ (line_word text.now line 0 ≡ first.now) }
-{
-    text.words(line) > 0 && same(text.word(line, 0), first)
-}
-
-/// Whether a line has so many words, and this one first.
-pub(crate) fn has_form(text: &TextLines<'_>, line: u32, first: &[u8], count: u32) -> bool
-    requires { line < length text.now }
-    ensures { IsTrue result
-        ↔ ((length (line_at text.now line).words ≡ count) × (line_word text.now line 0 ≡ first.now)) }
-{
-    text.words(line) == count && begins_with(text, line, first)
 }
 
 /// The version of the format.
@@ -272,7 +251,7 @@ pub(crate) fn claim_line(text: &TextLines<'_>, line: u32) -> Option<ClaimLine>
     }
 }
 
-/// How many lines for so many cycles stand behind a line that begins with this word.
+/// The number of lines that a line tells which begins with this word and names this number of cycles.
 pub(crate) fn count_line(text: &TextLines<'_>, line: u32, first: &[u8], k: u32) -> Option<u32>
     requires { line < length text.now }
     ensures { MatchOption result (SaysNone (IsCount first.now k) (line_at text.now line).words)

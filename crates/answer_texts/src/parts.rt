@@ -1,4 +1,4 @@
-// What single lines of an answer say, where what may stand behind them depends on it.
+// What a single line of an answer says, where it decides what may stand behind it.
 use crate::answers::Claim;
 use cnf_core::Lines;
 use graph_meaning::LaunchGraph;

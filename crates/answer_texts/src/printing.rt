@@ -1,11 +1,13 @@
 // The text of an answer.
-ghost use Rattle.std.specs.Prelude.{◌≡◌, ◌++◌, IfOk, OnOk};
+ghost use Rattle.std.specs.Prelude.{◌≡◌, ◌++◌, IfOk, OnOk, option_copied};
 ghost use Rattle.text_core.specs.LineTexts.{line_text, lines_text};
-ghost use Rattle.graph_meaning.specs.declared.graphs.LaunchGraph.{LaunchGraph as Graph};
 ghost use Rattle.answer_texts.specs.AnswerLines as format;
+ghost use Rattle.answer_texts.specs.declared.answers.Claim.{Claim};
+ghost use Rattle.answer_texts.specs.Lent.{lent_claim, lent_claimed};
 
-use crate::answers::{AnswerText, Claim, Claimed};
-use crate::line_printing::{put, put_lines, put_number, put_numbered, put_pair, put_word};
+use crate::answers::AnswerText;
+use crate::lent::{ClaimRef, ClaimedRef};
+use crate::line_printing::{put_lines, put_pair};
 use crate::schedule_printing::{put_codes, put_launches, put_wheres};
 use crate::table_printing::put_table;
 use cnf_core::Lines;
@@ -16,6 +18,7 @@ use register_assign::Where;
 use saturation::Stop;
 use schedule_meaning::Schedule;
 use std::alloc::Global;
+use text_core::{put, put_number, put_numbered, put_word};
 
 fn stop_name(stop: Stop) -> &'static [u8]
     ensures { result.now ≡ format.stop_name stop }
@@ -56,10 +59,10 @@ fn put_matched(
     text: &mut Vec<u8>,
     rounds: u32,
     stop: Stop,
-    graph: &Option<LaunchGraph>,
+    graph: Option<&LaunchGraph>,
 ) -> Result<(), NoMemory>
     ensures { OnOk result (text.new.items
-        ≡ text.old.items ++ lines_text (format.graph_part rounds stop graph.now)) }
+        ≡ text.old.items ++ lines_text (format.graph_part rounds stop (option_copied graph.entry))) }
 {
     match graph {
         Some(graph) => put_worked(text, rounds, stop, graph),
@@ -121,33 +124,22 @@ fn put_claim(
     alloc: Global,
     text: &mut Vec<u8>,
     table: &Table,
-    claim: &Claim,
+    claim: &ClaimRef,
 ) -> Result<(), NoMemory>
-    ensures { OnOk result (text.new.items ≡ text.old.items ++ lines_text (format.claim_part table.now claim.now)) }
+    ensures { OnOk result (text.new.items
+        ≡ text.old.items ++ lines_text (format.claim_part table.now (lent_claim claim.now))) }
 {
     match claim {
-        Claim::NoWorld { class, a, b } => put_noworld(text, *class, *a, *b),
-        Claim::Scheduled {
+        ClaimRef::NoWorld { class, a, b } => put_noworld(text, *class, *a, *b),
+        ClaimRef::Scheduled {
             k,
             schedule,
             words,
             places,
         } => put_schedule(alloc, text, table, *k, schedule, words, places),
-        Claim::Missing { k } => put_numbered(text, b"none", u64::from(*k)),
-        Claim::SpentConflicts { k, lemmas: _ } => put_conflicts(text, *k),
-        Claim::SpentSize { k, vars, clauses } => put_size(text, *k, *vars, *clauses),
-    }
-}
-
-/// For how many cycles the clauses are that the lines of a claim are to refute, where there are some.
-fn refuted_cycles(claim: &Claim) -> u32
-    ensures { result ≡ format.refuted_cycles claim.now }
-{
-    match claim {
-        Claim::NoWorld { .. } => 0,
-        Claim::Missing { k } => *k,
-        Claim::Scheduled { k, .. } | Claim::SpentConflicts { k, .. } | Claim::SpentSize { k, .. } =>
-            k.saturating_sub(1),
+        ClaimRef::Missing { k } => put_numbered(text, b"none", u64::from(*k)),
+        ClaimRef::SpentConflicts { k, lemmas: _ } => put_conflicts(text, *k),
+        ClaimRef::SpentSize { k, vars, clauses } => put_size(text, *k, *vars, *clauses),
     }
 }
 
@@ -155,9 +147,10 @@ fn put_refutation(
     alloc: Global,
     text: &mut Vec<u8>,
     cycles: u32,
-    refute: &Option<Lines>,
+    refute: Option<&Lines>,
 ) -> Result<(), NoMemory>
-    ensures { OnOk result (text.new.items ≡ text.old.items ++ lines_text (format.refute_part cycles refute.now)) }
+    ensures { OnOk result (text.new.items
+        ≡ text.old.items ++ lines_text (format.refute_part cycles (option_copied refute.entry))) }
 {
     match refute {
         Some(lines) => put_lines(alloc, text, b"refute", cycles, lines),
@@ -165,34 +158,35 @@ fn put_refutation(
     }
 }
 
-fn put_lemmas(alloc: Global, text: &mut Vec<u8>, claim: &Claim) -> Result<(), NoMemory>
-    ensures { OnOk result (text.new.items ≡ text.old.items ++ lines_text (format.lemmas_part claim.now)) }
+fn put_lemmas(alloc: Global, text: &mut Vec<u8>, claim: &ClaimRef) -> Result<(), NoMemory>
+    ensures { OnOk result (text.new.items ≡ text.old.items ++ lines_text (format.lemmas_part (lent_claim claim.now))) }
 {
     match claim {
-        Claim::SpentConflicts { k, lemmas } => put_lines(alloc, text, b"lemmas", *k, lemmas),
+        ClaimRef::SpentConflicts { k, lemmas } => put_lines(alloc, text, b"lemmas", *k, lemmas),
         _ => Ok(()),
     }
 }
 
-/// The lines of one goal, put behind a text.
+/// Appends the lines of one goal to a text.
 #[tactic(auto, using(crate::proofs::PrintPieces::goal_text))]
 pub fn put_goal(
     alloc: Global,
     text: &mut Vec<u8>,
     table: &Table,
-    goal: &Claimed,
+    goal: &ClaimedRef,
 ) -> Result<(), NoMemory>
-    ensures { OnOk result (text.new.items ≡ text.old.items ++ lines_text (format.goal_lines table.now goal.now)) }
+    ensures { OnOk result (text.new.items
+        ≡ text.old.items ++ lines_text (format.goal_lines table.now (lent_claimed goal.now))) }
 {
     put_pair(text, b"goal", goal.name.bytes())?;
-    put_matched(text, goal.rounds, goal.stop, &goal.graph)?;
+    put_matched(text, goal.rounds, goal.stop, goal.graph)?;
     put_claim(alloc, text, table, &goal.claim)?;
-    put_refutation(alloc, text, refuted_cycles(&goal.claim), &goal.refute)?;
+    put_refutation(alloc, text, goal.claim.refuted_cycles(), goal.refute)?;
     put_lemmas(alloc, text, &goal.claim)?;
     put(text, b"end\n")
 }
 
-/// The lines before the first goal, put behind a text.
+/// Appends the lines before the first goal to a text.
 #[tactic(auto, using(crate::proofs::PrintPieces::head_text))]
 pub fn put_head(
     text: &mut Vec<u8>,
@@ -209,7 +203,8 @@ pub fn put_head(
     put_table(text, table, builtin)
 }
 
-/// The text of an answer. For an answer that was read these are the bytes that were read. The cost is linear in the text.
+/// The text of an answer. An answer that was read prints as the bytes that it was read from. The cost is linear in the
+/// text.
 #[tactic(auto, using(crate::proofs::PrintPieces::goals_more, crate::proofs::PrintPieces::then_lines))]
 pub fn print_answer(alloc: Global, answer: &AnswerText) -> Result<Vec<u8>, NoMemory>
     ensures { IfOk result (λ text. text.items ≡ format.answer_bytes answer.now) }
@@ -223,7 +218,7 @@ pub fn print_answer(alloc: Global, answer: &AnswerText) -> Result<Vec<u8>, NoMem
         answer.builtin,
     )?;
     for goal in answer.goals.as_slice() {
-        put_goal(alloc, &mut text, &answer.table, goal)?;
+        put_goal(alloc, &mut text, &answer.table, &goal.as_ref())?;
     }
     Ok(text)
 }

@@ -74,8 +74,8 @@ fn answer(alloc: Global, text: &[u8]) -> Result<AnswerText, TextFault>
     answer_in(alloc, &text)
 }
 
-/// Reads the text of an answer. A fault is the first of the text: BadByte, BadLine, BadRow or BadClass. The cost is linear
-/// in the length of the text, up to what its graphs cost.
+/// Reads the text of an answer. A fault is the text's first: BadByte, BadLine, BadRow or BadClass. The cost is linear
+/// in the length of the text, beside the cost of reading its graphs.
 pub fn read_answer(alloc: Global, text: &[u8]) -> Result<AnswerText, TextFault>
     requires { length text.now < 2 ^ 29 }
 

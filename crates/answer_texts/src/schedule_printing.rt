@@ -6,13 +6,13 @@ ghost use Rattle.text_core.specs.LineTexts.{line_text, lines_text};
 ghost use Rattle.answer_texts.specs.AnswerLines as format;
 
 use crate::hexadecimal::put_hex;
-use crate::line_printing::{put, put_number, put_word};
 use alpha_encode::{Instr, decode};
 use items::NoMemory;
 use machine_table::{Slot, Table};
 use register_assign::Where;
 use schedule_meaning::Launch;
 use std::alloc::Global;
+use text_core::{put, put_number, put_word};
 
 /// The name of a slot, and nothing for one that isn't there.
 pub(crate) fn name_among(slots: &[Slot], slot: u32) -> &[u8]

@@ -1,14 +1,13 @@
 // The lines of a schedule: its launches, its words, and the places of the targets.
-ghost use Rattle.std.specs.Prelude.{◌≡◌, ◌≤◌, ◌<◌, ◌^◌, ◌∷◌, [], ℕ, length, is_some, IfOk, IfErr, IsTrue, MatchOption};
-ghost use Rattle.alpha_encode.specs.Decoded.{decoded};
+ghost use Rattle.std.specs.Prelude.{◌≡◌, ◌≤◌, ◌<◌, ◌∷◌, [], length, IfOk, IfErr, MatchOption};
 ghost use Rattle.text_core.specs.Faults.{IsFaultBy};
 ghost use Rattle.text_core.specs.Lines.{line_at};
 ghost use Rattle.register_assign.specs.declared.listings.Where.{Where as WhereOf};
 ghost use Rattle.schedule_meaning.specs.declared.schedules.Launch.{Launch as LaunchOf};
-ghost use Rattle.answer_texts.specs.AnswerLines.{launch_words, where_words, word_words};
-ghost use Rattle.answer_texts.specs.AnswerParts.{AreCodes, AreLaunches, AreWherePlaces, CodesFault, CodesPart, LaunchesFault, LaunchesPart, PlacesFault, PlacesPart};
+ghost use Rattle.answer_texts.specs.AnswerLines.{launch_words, where_words};
+ghost use Rattle.answer_texts.specs.AnswerParts.{AreLaunches, AreWherePlaces, CodesFault, CodesPart, LaunchesFault, LaunchesPart, PlacesFault, PlacesPart};
 
-use crate::line_reading::{bad_line, begins_with, below, has_form};
+use crate::line_reading::{LIMIT, bad_line, below};
 use crate::table_reading::slot_named;
 use crate::word_lines::word_line;
 use items::{Items, NoMemory};
@@ -16,10 +15,7 @@ use machine_table::Table;
 use register_assign::Where;
 use schedule_meaning::Launch;
 use std::alloc::Global;
-use text_core::{Name, TextFault, TextLines, is_name};
-
-/// What numbers of lines stay below.
-const LIMIT: u64 = 1 << 31;
+use text_core::{Name, TextFault, TextLines, begins_with, has_form, is_name};
 
 /// The launch of a line.
 fn launch_line(text: &TextLines<'_>, line: u32, table: &Table) -> Option<Launch>

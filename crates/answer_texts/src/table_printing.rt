@@ -4,10 +4,11 @@ ghost use Rattle.launch_graph.specs.LineParts.{words_behind};
 ghost use Rattle.text_core.specs.LineTexts.{line_text, lines_text};
 ghost use Rattle.answer_texts.specs.AnswerLines as format;
 
-use crate::line_printing::{put, put_number, put_numbered, put_pair, put_word};
+use crate::line_printing::put_pair;
 use crate::schedule_printing::name_among;
 use items::NoMemory;
 use machine_table::{Slot, Table, Use, instr_name};
+use text_core::{put, put_number, put_numbered, put_word};
 
 fn put_slot(text: &mut Vec<u8>, slot: &Slot) -> Result<(), NoMemory>
     ensures { OnOk result (text.new.items ≡ text.old.items ++ line_text (format.slot_words slot.now)) }

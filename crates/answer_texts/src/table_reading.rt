@@ -10,12 +10,12 @@ ghost use Rattle.answer_texts.specs.AnswerLines.{slot_words, inst_words, name_am
 ghost use Rattle.answer_texts.specs.AnswerParts.{AreNamedSlots, AreTableUses, OwnFault, OwnPart, SlotsFault, SlotsPart, TableFault, TablePart, UsesFault, UsesPart, IsCross, IsTableLine};
 ghost use Rattle.answer_texts.specs.LineParts.{IsOneLine, IsNoLine};
 
-use crate::line_reading::{bad_line, begins_with, below, cross_line, same, table_line};
+use crate::line_reading::{bad_line, below, cross_line, table_line};
 use crate::parts::TableLine;
 use items::{Items, NoMemory};
 use machine_table::{InstrKind, Slot, Table, Use, ev6, instr_number, instr_of};
 use std::alloc::Global;
-use text_core::{Name, TextFault, TextLines, is_name};
+use text_core::{Name, TextFault, TextLines, begins_with, is_name, same};
 
 /// The most slots of a table.
 const MOST_SLOTS: usize = 8;

@@ -1,15 +1,14 @@
 // The line of a word of the machine: its hexadecimal digits, and the text of its instruction.
-ghost use Rattle.std.specs.Prelude.{◌≡◌, ◌≤◌, ◌<◌, ◌^◌, ◌∷◌, [], ◌↔◌, ◌++◌, ℕ, List, length, drop, IfOk, IfSome, IfNone, IsTrue, MatchOption};
+ghost use Rattle.std.specs.Prelude.{◌≡◌, ◌<◌, ◌^◌, ◌∷◌, [], ◌↔◌, ◌++◌, ℕ, List, length, drop, IfOk, IfSome, IfNone, IsTrue, MatchOption};
 ghost use Rattle.alpha_encode.specs.Formats.{IsWellFormed};
 ghost use Rattle.text_core.specs.Lines.{line_at};
 ghost use Rattle.answer_texts.specs.AnswerLines.{hex_digit, hex_text, instr_words, word_words};
 ghost use Rattle.answer_texts.specs.AnswerParts.{AreCodes};
 
-use crate::line_reading::begins_with;
 use alpha_encode::{Instr, decode};
 use items::NoMemory;
 use std::alloc::Global;
-use text_core::{TextLines, one_splitting, printed_lines_are_lines};
+use text_core::{TextLines, begins_with, one_splitting, printed_lines_are_lines};
 use word_ops::operators_are_listed;
 
 /// The value of an upper-case hexadecimal digit.

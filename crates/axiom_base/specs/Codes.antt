@@ -1,5 +1,5 @@
--- Rewrite rules as ghost values that tell them apart, which a type that contracts see as a rule needs. It says
--- nothing of what they mean.
+-- Rewrite rules as ghost values, one for each rule: a type that contracts see as a rule needs such a value. The values
+-- say nothing of what the rules mean.
 use Rattle.std.specs.Prelude.{refl}
 use Rattle.std.specs.Coded.{Coded, code_by, coded×, coded_list, coded_ℕ}
 use Rattle.word_terms.specs.Codes.{tree_code, op_code, sort_code}

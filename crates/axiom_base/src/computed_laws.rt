@@ -14,9 +14,10 @@ ghost use Rattle.axiom_base.specs.declared.kinds.Calc.{Calc as Kind};
 use crate::table::equations_are_true;
 use word_ops::{meanings_are_in_range, memories_hold_words, words_have_bits};
 
-/// Does nothing. Its clauses are laws of the computed rules: each is true in every world at the constants that meet its
-/// condition, and these give one constant; its sides are well formed at all constants, over variables that its left side
-/// has, of which the last are the constants'; and each kind is listed.
+/// Does nothing. Its clauses are laws of the computed rules. A rule whose constants meet its condition is true in every
+/// world, and the constants give one constant for its right side. Whatever its constants, the sides of a rule are well
+/// formed, the left side has every variable of the rule, and the last variables are those of the constants. Each kind
+/// is listed.
 pub fn computed_rules_are_true()
     ensures true_rules { (world : World) (names : ℕ → List ℕ) (kind : Kind) (cs : List ℕ) (e : ℕ) →
         IsCalc kind cs e → IsTrueIn world names (calc_rewrite kind cs e) }
@@ -30,13 +31,14 @@ pub fn computed_rules_are_true()
     words_have_bits();
 }
 
-/// Does nothing. Its clause is a law of computed rules and folds: which variables stand for constants.
+/// Does nothing. Its clause is a law of computed rules and folds: which of a rule's variables stand for constants.
 pub fn constants_are_numbered()
     ensures numbers { (k : ℕ) (cs : List ℕ) (n c : ℕ) → Contains (constants_from k cs) (n, c)
         ↔ ((i : ℕ) × (i < length cs) × (n ≡ k + i) × (c ≡ slice_index cs i)) }
 {}
 
-/// Does nothing. Its clauses are laws of folding: an operator of constants is the constant that it gives, in every world.
+/// Does nothing. Its clauses are laws of folding: in every world, an operator applied to constants equals the constant
+/// that it gives.
 pub fn folds_are_true()
     ensures true_rules { (world : World) (names : ℕ → List ℕ) (op : Operator) (cs : List ℕ) →
         length cs ≡ arity_of op → IsTrueIn world names (fold_rewrite op cs) }
@@ -47,7 +49,8 @@ pub fn folds_are_true()
 }
 
 /// Does nothing. Its clauses are laws of all rules of a saturation: each is true in a world where the program's axioms
-/// are, both of its sides are well formed, and the right sides of a scheme's rules have as many operators.
+/// are true, both of its sides are well formed, and the right sides of the rules of one scheme have the same number of
+/// operators.
 pub fn schemes_are_true()
     ensures true_rules { (world : World) (names : ℕ → List ℕ) (axioms : List Rewrite) (r : Rewrite) →
         All (IsTrueIn world names) axioms → IsRuleOf axioms r → IsTrueIn world names r }

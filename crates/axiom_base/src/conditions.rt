@@ -63,7 +63,7 @@ fn displacement(c: u64) -> Option<u64>
     }
 }
 
-// The displacement of which the word is the 65536-fold.
+// The displacement, not 0, of which the word is 65536 times the value.
 fn high_displacement(c: u64) -> Option<u64>
     ensures { MatchOption result ((e : ℕ) → IsWord e → ¬ Condition C2 c 0 e) (Condition C2 c 0) }
 {
@@ -80,7 +80,8 @@ fn high_displacement(c: u64) -> Option<u64>
     }
 }
 
-// What is left of the word without its low 16 bits, extended by their sign.
+// The word less its sign-extended low 16 bits, for a word that is no displacement and whose low 16 bits aren't 0, if
+// the rest is 65536 times a displacement.
 fn high_part(c: u64) -> Option<u64>
     ensures { MatchOption result ((e : ℕ) → ¬ Condition C5 c 0 e) (Condition C5 c 0) }
 {
@@ -110,7 +111,7 @@ fn exponent(n: u64, least: u64) -> Option<u64>
     None
 }
 
-// Which bytes are 255, as bits, where the others are 0.
+// One bit for each byte of the word: 1 where the byte is 255; `None` unless every other byte is 0.
 fn full_bytes(c: u64) -> Option<u64>
     ensures { MatchOption result ((e : ℕ) → ¬ IsByteMask c e) (IsByteMask c) }
 {

@@ -3,9 +3,9 @@ ghost use Rattle.std.specs.Prelude.{◌≡◌, ◌≤◌};
 ghost use Rattle.axiom_base.specs.Conditions.{constants_of};
 ghost use Rattle.axiom_base.specs.Computed as rules;
 
-/// A family of rules over constants `c` and, in the last, `d`: one rule for each choice of these that meets the family's
-/// condition. In its right side stands `e`, which the constants give. Displacements are words that 16 bits with a sign
-/// can say; sums, products and differences are modulo 2 ^ 64.
+/// A family of rules over constants `c` and, in the last, `d`: one rule for each choice of these that meets the
+/// family's condition. In its right side stands `e`, which the constants give. Displacements are words that 16 bits
+/// with a sign can say; sums, products and differences are modulo 2 ^ 64.
 #[derive(Clone, Copy, PartialEq, Eq, Debug)]
 pub enum Calc {
     /// `addq x c` is `lda x e`, where c is a displacement that isn't 0 and e is c.

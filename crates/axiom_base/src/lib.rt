@@ -1,5 +1,5 @@
-//! Rewrite rules over terms: 48 equations between operators, 12 kinds of rules whose constants are computed, and folding,
-//! each of them true for all words and memories.
+//! Rewrite rules over terms: 48 equations between operators, 12 kinds of rules whose constants are computed, and
+//! folding, each of them true for all words and memories.
 #![tactic(auto)]
 
 mod building;

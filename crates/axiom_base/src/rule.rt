@@ -11,7 +11,7 @@ use std::marker::Model;
 use word_ops::{Op, Sort};
 use word_terms::Term;
 
-/// A rule that makes, where its left side stands, its right side equal to it.
+/// A rewrite rule: wherever its left side stands, its right side is made equal to it.
 #[derive(Drop)]
 pub struct Rule {
     variables: Items<Sort>,
@@ -34,8 +34,8 @@ impl Model for Rule {
 }
 
 impl Rule {
-    /// The rule of two sides, or `None` where they make none. Costs the number of variables times the length of the
-    /// left side, beside the length of both.
+    /// The rule with these two sides, or `None` where they make none. It costs the number of variables times the length
+    /// of the left side, and the length of both sides.
     pub fn new(alloc: Global, left: Term<Op>, right: Term<Op>) -> Result<Option<Rule>, NoMemory>
         ensures some { IfOk result (λ made. IfSome made (λ rule.
             (rule.left ≡ tree_of left) × (rule.right ≡ tree_of right) × IsRule rule)) }

@@ -22,7 +22,7 @@ pub(crate) fn commutative(alloc: Global, op: WordOp) -> Result<Rule, NoMemory>
     Rule::over(alloc, &[Sort::Word, Sort::Word], left, right)
 }
 
-/// Of three operands, the last two may be taken first.
+/// Of three operands, the last two may be joined first.
 pub(crate) fn associative(alloc: Global, op: WordOp) -> Result<Rule, NoMemory>
     requires { arity_of op ≡ 2 }
     ensures { IfOk result (λ rule. rule ≡ words_3 (λ x y z. (w2 op (w2 op x y) z, w2 op x (w2 op y z)))) }

@@ -7,10 +7,10 @@ use egraph::Egraph;
 use std::alloc::Global;
 use text_core::{Token, TokenKind, lex};
 
-/// How many rows the graph has at the end of the script, or none where it can't be done.
+/// How many rows the graph has at the end of the script, or none where the script can't be done.
 ///
-/// A step is a name and two numbers. `leaf 3 0` inserts the leaf 3; `negation 0 0` and `sum 0 1` insert an operator over the
-/// classes that the inserts of these numbers, from 0, gave; `merge 0 1` joins two such classes.
+/// A step is a name and two numbers. `leaf 3 0` inserts the leaf 3; `negation 0 0` and `sum 0 1` insert an operator
+/// over the classes that the inserts of these numbers, from 0, gave; `merge 0 1` joins two such classes.
 pub(crate) fn count_rows(alloc: Global, text: &[u8]) -> Option<usize>
     requires { length text.now < 2 ^ 29 }
 {

@@ -1,11 +1,11 @@
 //! Does the work of one layer once over standard input, and prints how much of it there was. It is there to be timed.
 //!
-//! The first word names the layer: `lex`, `tree`, `goals`, `lines`, `rows`, `read`, `check`, `graph`, `matches`, `rounds`,
-//! `clauses` or `sat`. After `check` comes the number of clauses of the chain that the text refutes, after `matches` the
-//! number of operates of the graph, which has no text, after `clauses` the number of cycles; after `rounds` may come the
-//! number of rounds that are asked for, and then the limit on rows, after `sat` the most conflicts that its solver may
-//! have. Where the input has a fault, a goal no world, or the text doesn't refute the chain, the program prints `fault`
-//! and ends with status 1.
+//! The first word names the layer: `lex`, `tree`, `goals`, `lines`, `rows`, `read`, `check`, `graph`, `matches`,
+//! `rounds`, `clauses` or `sat`. After `check` comes the number of clauses of the chain that the text refutes, after
+//! `matches` the number of operates of the graph, which has no text, after `clauses` the number of cycles; after
+//! `rounds` may come the number of rounds that are asked for, and then the limit on rows, after `sat` the most
+//! conflicts that its solver may have. Where the input has a fault, a goal no world, or the text doesn't refute the
+//! chain, the program prints `fault` and ends with status 1.
 #![tactic(auto)]
 
 mod clauses;

@@ -10,7 +10,8 @@ use std::alloc::Global;
 
 /// What the solver comes to with at most `budget` conflicts, and how many lines it learns.
 ///
-/// Each line of the text is a clause, written as a refutation's line without hints: `5 1 -2 0 0` has the literals 1 and -2.
+/// Each line of the text is a clause, written as a refutation's line without hints: `5 1 -2 0 0` has the literals 1 and
+/// -2.
 pub(crate) fn count_learnt(alloc: Global, budget: u32, text: &[u8]) -> Option<Outcome>
     requires { length text.now < 2 ^ 29 }
 {

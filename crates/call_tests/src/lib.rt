@@ -1,5 +1,5 @@
-//! Tests of what no case's text can ask: generic calls at a second operator type, and calls that the program's own calls
-//! don't reach.
+//! Tests of what no case's text can ask: generic calls at a second operator type, and calls that the program's own
+//! calls don't reach.
 #![tactic(auto)]
 
 #[cfg(test)]

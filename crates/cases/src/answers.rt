@@ -99,8 +99,9 @@ fn take_line(alloc: Global, call: &mut Call, line: &[u8]) -> Result<(), Trouble>
     Ok(())
 }
 
-/// The call of a case: `words WORD..` or `word WORD`, which may be empty; `source STEP CALL..` and `sink ROOM STEP CALL..`, the
-/// calls that fail; `fill COUNT BYTE`, behind which nothing else is read; and behind a line `text` the text.
+/// Input: `words WORD..` or `word WORD`, which may be empty; `source STEP CALL..` and `sink ROOM STEP CALL..`, with the
+/// calls that fail; `fill COUNT BYTE`, behind which nothing else is read; and behind a line `text` the text. Gives the
+/// call of the top.
 pub(crate) fn call_of(alloc: Global, input: &[u8]) -> Result<Call, Trouble> {
     let (head, rest) = split_before(input, b"text\n");
     let mut call = plain_call(alloc);
@@ -198,8 +199,8 @@ fn put_places(report: &mut Vec<u8>, places: &[Where], state: &State) -> Result<(
     Ok(())
 }
 
-/// How a run of a goal's words ends: the end, behind the last word each target with the word in its place, and each address
-/// that doesn't hold 0.
+/// How a run of a goal's words ends: the end, behind the last word each target with the word in its place, and each
+/// address that doesn't hold 0.
 fn put_run(
     alloc: Global,
     report: &mut Vec<u8>,
@@ -229,7 +230,8 @@ fn put_run(
     put(report, b"\n")
 }
 
-/// How many of the answer's words are such instructions or such words: each is named by what stands behind it in its line.
+/// How many of the answer's instruction words are of these names: a name is a word in hexadecimal digits, or an
+/// instruction's name.
 fn count_words(answer: &[u8], names: &[u8]) -> u64 {
     let mut count = 0u64;
     let mut lines = Lines { rest: answer };
@@ -252,8 +254,8 @@ fn count_words(answer: &[u8], names: &[u8]) -> u64 {
     count
 }
 
-/// Answers a line that asks of an answer: `run GOAL reg N WORD mem ADDRESS WORD..` runs the words of a goal, by its number from
-/// 0; `count NAME..` counts words.
+/// Answers a line that asks of an answer: `run GOAL reg N WORD mem ADDRESS WORD..` runs the words of a goal, by its
+/// number from 0; `count NAME..` counts words.
 fn put_asked(
     alloc: Global,
     report: &mut Vec<u8>,
@@ -284,9 +286,9 @@ fn is_same_in_pieces(
     Ok(replied(alloc, again)?.0.as_slice() == written)
 }
 
-/// Of lines that ask of an answer, a line `of`, and a call of `solve`: the status, what `check` writes of the answer, and what
-/// is asked. So a case needs no choice of the solver's. A first line `pieces STEP` also asks whether the same bytes are written
-/// where the source gives at most so many a call.
+/// Input: lines that ask of an answer, a line `of`, and a call of `solve`. Answers with the status, what `check` writes
+/// of the answer, and what is asked, so that a case doesn't depend on the solver's choice. A first line `pieces STEP`
+/// also asks whether the same bytes are written where the source gives at most STEP bytes a call.
 pub(crate) fn solved(alloc: Global, input: &[u8]) -> Result<Vec<u8>, Trouble> {
     let (asked, rest) = split_before(input, b"of\n");
     let (_, call) = split_line(rest);

@@ -7,10 +7,10 @@
 //     --
 //     WANTED
 //
-// where the input ends before the line feed in front of `--`, and what is wanted before the line feed in front of the next
-// block or of the end: an empty line there means that it ends with a line feed. A line `INPUT => WANTED` is a case too,
-// whose wanted answer has one line. In a case `\` and two hexadecimal digits stand for a byte. Empty lines between cases,
-// and lines there that begin with `#`, say nothing.
+// where the input ends before the line feed in front of `--`, and what is wanted before the line feed in front of the
+// next block or of the end: an empty line there means that it ends with a line feed. A line `INPUT => WANTED` is a case
+// too, whose wanted answer has one line. In a case `\` and two hexadecimal digits stand for a byte. Empty lines between
+// cases, and lines there that begin with `#`, say nothing.
 use crate::reading::{split_before, split_line};
 use crate::reports::Trouble;
 use crate::subjects::{Subject, answer};

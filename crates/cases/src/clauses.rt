@@ -89,8 +89,8 @@ fn put_formula(report: &mut Vec<u8>, cnf: &Cnf) -> Result<(), Trouble> {
     Ok(())
 }
 
-/// Of a line `VARS BOUND LITERAL..`: the clauses that say that at most so many of the literals are true, over so many
-/// variables before them, and whether as many variables and clauses came as were foretold.
+/// Input: a line `VARS BOUND LITERAL..`, with literals of the variables 1 to VARS. Answers with the clauses that say
+/// that at most BOUND of the literals are true, and whether as many variables and clauses came as were foretold.
 pub(crate) fn counters(alloc: Global, input: &[u8]) -> Result<Vec<u8>, Trouble> {
     let mut words = Words { rest: input };
     let mut cnf = over(alloc, words.small()?)?;
@@ -111,7 +111,8 @@ pub(crate) fn counters(alloc: Global, input: &[u8]) -> Result<Vec<u8>, Trouble> 
     Ok(report)
 }
 
-/// Of a line `from N count M` and a text: the M lines of a refutation that begin at line N, printed again, or the fault.
+/// Input: a line `from N count M` and a text. Answers with the M lines of a refutation that begin at line N, printed
+/// again, or the fault.
 pub(crate) fn line_texts(alloc: Global, input: &[u8]) -> Result<Vec<u8>, Trouble> {
     let (head, text) = split_line(input);
     let mut words = Words { rest: head };
@@ -165,7 +166,8 @@ fn put_check(
     }
 }
 
-/// Of a formula, a line `lines` and lines: whether these refute the formula, and whether they are lemmas of it.
+/// Input: a formula, a line `lines` and lines. Answers whether these refute the formula, and whether they are lemmas of
+/// it.
 pub(crate) fn refutations(alloc: Global, input: &[u8]) -> Result<Vec<u8>, Trouble> {
     let (front, rest) = split_before(input, b"lines\n");
     let cnf = formula(alloc, front)?;
@@ -283,8 +285,9 @@ fn put_verdict(
     }
 }
 
-/// Of a line `budget N` and a formula: what the solver comes to with so many conflicts, for each of three rules that pick: the
-/// first place, the last, and the end with the higher score. Values are tested, and lines are checked.
+/// Input: a line `budget N` and a formula. Answers with what the solver comes to with N conflicts, for each of three
+/// rules that pick: the first place, the last, and the end with the higher score. Values are tested, and lines are
+/// checked.
 pub(crate) fn searches(alloc: Global, input: &[u8]) -> Result<Vec<u8>, Trouble> {
     let (head, rest) = split_line(input);
     let number = head.strip_prefix(b"budget ").ok_or(Trouble::Unread)?;

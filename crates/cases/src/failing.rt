@@ -51,9 +51,9 @@ fn failing_at(
     Ok(call)
 }
 
-/// Behind a line `source STEP` or `sink STEP` stands a call, which is made again and again: first its first read or write
-/// fails, then its second, and so on until none does. For each there is a line of its number, the status, and how many
-/// bytes were written; for the last one the status and the bytes.
+/// Input: a line `source STEP` or `sink STEP`, and a call, which is made again and again: first its first read or write
+/// fails, then its second, and so on until none does. For each there is a line with its number, the status, and how
+/// many bytes were written; for the last one the status and the bytes.
 pub(crate) fn failing(alloc: Global, input: &[u8]) -> Result<Vec<u8>, Trouble> {
     let (line, call) = split_line(input);
     let (side, step) = side_named(line)?;

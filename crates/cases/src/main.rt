@@ -1,7 +1,7 @@
 //! Runs the cases of the files that its words name, and tells for each file how many passed.
 //!
-//! A file begins with a line `subject NAME`, which says what its cases ask; `subjects.rt` lists the subjects. The first case
-//! that doesn't pass is printed whole, with what was wanted and what came, and the status is 1.
+//! A file begins with a line `subject NAME`, which says what its cases ask; `subjects.rt` lists the subjects. The first
+//! case that doesn't pass is printed whole, with what was wanted and what came, and the status is 1.
 #![tactic(auto)]
 
 mod answers;
@@ -45,8 +45,8 @@ fn main(rt: HostRuntime) -> ExitCode {
     ExitCode::from(if passed && written { 0 } else { 1 })
 }
 
-/// Whether all cases of the files pass. A line tells for each file how many passed, or its first case that doesn't pass is
-/// printed.
+/// Whether all cases of the files pass. A line tells for each file how many passed, or its first case that doesn't pass
+/// is printed.
 fn all_pass(rt: &HostRuntime, args: Args, said: &mut Vec<u8>) -> Result<bool, Trouble> {
     let alloc = rt.alloc();
     let names: Vec<String> = args.skip(1).collect(alloc)?;

@@ -49,8 +49,8 @@ fn grown(alloc: Global, text: &[u8], rounds: u32, nodes: u32) -> Result<Saturate
     }
 }
 
-/// Of a line `ROUNDS NODES` and a text: the rows, rounds and stop of its first goal's graph after at most so many rounds, with
-/// this limit on rows, or the constants that met.
+/// Input: a line `ROUNDS NODES` and a text. Answers with the rows, rounds and stop of its first goal's graph after at
+/// most ROUNDS rounds and with the limit NODES on rows, or with the two constants that met.
 pub(crate) fn rounds(alloc: Global, input: &[u8]) -> Result<Vec<u8>, Trouble> {
     let (head, text) = split_line(input);
     let mut words = Words { rest: head };

@@ -98,7 +98,8 @@ fn put_broken(report: &mut Vec<u8>, broken: Broken) -> Result<(), Trouble> {
     )
 }
 
-/// Of perhaps a machine form, a graph's lines, a line `cycles K`, and launches: whether they fit, or what they break.
+/// Input: a machine form, which may be left out, a graph's lines, a line `cycles K`, and launches. Answers whether they
+/// fit, or what they break.
 pub(crate) fn fits(alloc: Global, input: &[u8]) -> Result<Vec<u8>, Trouble> {
     let (table, rest) = table_in(alloc, input)?;
     let (graph, rest) = split_before(rest, b"cycles ");
@@ -138,7 +139,7 @@ fn listed(alloc: Global, listing: &Listing) -> Result<Vec<u8>, Trouble>
     Ok(report)
 }
 
-/// The same input as of `fits`: the listing of the launches, or what they break.
+/// Input as for `fits`. Answers with the listing of the launches, or what they break.
 pub(crate) fn listings(alloc: Global, input: &[u8]) -> Result<Vec<u8>, Trouble> {
     let (table, rest) = table_in(alloc, input)?;
     let (graph, rest) = split_before(rest, b"cycles ");
@@ -199,8 +200,8 @@ fn put_formula(report: &mut Vec<u8>, formula: Result<Encoded, EncodeFault>) -> R
     }
 }
 
-/// Of perhaps a machine form, a graph's lines, and a line `cycles K`: the first families alone, all of them at once, and all
-/// of them part by part.
+/// Input: a machine form, which may be left out, a graph's lines, and a line `cycles K`. Answers with the first
+/// families alone, all of them at once, and all of them part by part.
 pub(crate) fn formulas(alloc: Global, input: &[u8]) -> Result<Vec<u8>, Trouble> {
     let (table, rest) = table_in(alloc, input)?;
     let (graph, rest) = split_before(rest, b"cycles ");
@@ -213,7 +214,7 @@ pub(crate) fn formulas(alloc: Global, input: &[u8]) -> Result<Vec<u8>, Trouble> 
     Ok(report)
 }
 
-/// The same input: the first families of the narrow encoding, and all of them.
+/// Input as for `formulas`. Answers with the first families of the narrow encoding, and with all of them.
 pub(crate) fn narrow_formulas(alloc: Global, input: &[u8]) -> Result<Vec<u8>, Trouble> {
     let (table, rest) = table_in(alloc, input)?;
     let (graph, rest) = split_before(rest, b"cycles ");

@@ -267,10 +267,10 @@ fn done_all(alloc: Global, rules: &[Rule], input: &[u8]) -> Result<Vec<u8>, Trou
     Ok(report)
 }
 
-/// Lines that make an E-graph and ask of it. `OP CLASS..` inserts a row, as in the lines of a graph, and says the class;
-/// `merge A B` joins two classes, and where two constants meet it says so and ends; `matches R`, `unmet R` and `need R` ask of
-/// an equation by its number, or of a computed rule by `C` and its number; `folds` and `classes` list these. Classes are said
-/// by the first of those that are one with them.
+/// Input: lines that make an E-graph and ask of it. `OP CLASS..` inserts a row, as in the lines of a graph, and says
+/// the class; `merge A B` joins two classes, and where two constants meet it says so and ends; `matches R`, `unmet R`
+/// and `need R` ask of an equation by its number, or of a computed rule by `C` and its number; `folds` and `classes`
+/// list these. A class is named by the first of the classes that are one with it.
 pub(crate) fn scripts(alloc: Global, input: &[u8]) -> Result<Vec<u8>, Trouble> {
     let rules = equations(alloc)?;
     done_all(alloc, rules.as_slice(), input)

@@ -21,8 +21,8 @@ pub(crate) fn step(words: &mut Words<'_>) -> Result<usize, Trouble> {
     Ok(words.small()?.max(1) as usize)
 }
 
-/// Of a line `LIMIT STEP CALL..` and a text: what `read_all` with this limit answers over a source of the text that gives at
-/// most so many bytes a call, and fails at the calls of these numbers.
+/// Input: a line `LIMIT STEP CALL..` and a text. Answers with what `read_all` with this limit gives over a source of
+/// the text that gives at most STEP bytes a call, and fails at the calls of these numbers.
 pub(crate) fn reads(alloc: Global, input: &[u8]) -> Result<Vec<u8>, Trouble> {
     let (head, text) = split_line(input);
     let mut words = Words { rest: head };
@@ -46,8 +46,8 @@ pub(crate) fn reads(alloc: Global, input: &[u8]) -> Result<Vec<u8>, Trouble> {
     Ok(report)
 }
 
-/// Of a line `ROOM STEP CALL..` and a text: what `write_all` answers over a sink with so much room that takes at most so
-/// many bytes a call, and fails at the calls of these numbers; and what was written.
+/// Input: a line `ROOM STEP CALL..` and a text. Answers with what `write_all` gives over a sink with this room that
+/// takes at most STEP bytes a call, and fails at the calls of these numbers; and with what was written.
 pub(crate) fn writes(alloc: Global, input: &[u8]) -> Result<Vec<u8>, Trouble> {
     let (head, text) = split_line(input);
     let mut words = Words { rest: head };

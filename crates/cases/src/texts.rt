@@ -45,8 +45,8 @@ pub(crate) fn tables(alloc: Global, input: &[u8]) -> Result<Vec<u8>, Trouble>
     }
 }
 
-/// The name of an instruction, its latency on the table, or `none`, and whether each slot may launch it, with the slot's
-/// cluster.
+/// The name of an instruction, its latency on the table, or `none`, and whether each slot may launch it, with the
+/// slot's cluster.
 fn put_instruction(report: &mut Vec<u8>, table: &Table, instr: InstrKind) -> Result<(), Trouble> {
     put(report, instr_name(instr))?;
     match table.latency(instr) {
@@ -63,8 +63,8 @@ fn put_instruction(report: &mut Vec<u8>, table: &Table, instr: InstrKind) -> Res
     put(report, b"\n")
 }
 
-/// Of a line with the name of an instruction, and a machine form behind it where the table isn't `ev6`: what the table says
-/// of the instruction, and its cross delay.
+/// Input: a line with the name of an instruction, and a machine form behind it where the table isn't `ev6`. Answers
+/// with what the table says of the instruction, and its cross delay.
 pub(crate) fn instructions(alloc: Global, input: &[u8]) -> Result<Vec<u8>, Trouble>
     requires { length input.now ≤ 2 ^ 24 }
 {
@@ -85,8 +85,8 @@ pub(crate) fn instructions(alloc: Global, input: &[u8]) -> Result<Vec<u8>, Troub
     Ok(report)
 }
 
-/// Of a line `from N` and a text: the lines of the graph that begins at line N of the text, and the line behind it, or the
-/// fault.
+/// Input: a line `from N` and a text. Answers with the lines of the graph that begins at line N of the text, and the
+/// number of the line behind it, or with the fault.
 pub(crate) fn graphs(alloc: Global, input: &[u8]) -> Result<Vec<u8>, Trouble>
     requires { length input.now ≤ 2 ^ 24 }
 {

@@ -41,8 +41,8 @@ fn place(words: &mut Words<'_>) -> Result<u64, Trouble>
     Ok(words.number()? % (1 << 61))
 }
 
-/// Lines of what is done with a memory that holds nothing at first: `set PLACE WORD`, `get PLACE`, `copy`, which goes on with
-/// a copy and takes the first apart, and `entries`.
+/// Input: lines that say what is done with a memory, which holds nothing at first: `set PLACE WORD`, `get PLACE`,
+/// `entries`, and `copy`, which goes on with a copy and takes the first memory apart.
 pub(crate) fn memories(alloc: Global, input: &[u8]) -> Result<Vec<u8>, Trouble> {
     let mut report = Vec::new(alloc);
     let mut memory = Mem::new(alloc);

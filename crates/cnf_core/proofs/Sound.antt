@@ -9,7 +9,7 @@ use Rattle.cnf_core.specs.declared.literal.Lit.{Lit}
 use Rattle.cnf_core.specs.declared.line.Line.{Line}
 use Rattle.cnf_core.specs.Formula.{Formula, lit_true, clause_true, Satisfies, negated}
 use Rattle.cnf_core.specs.Values.{partial_of, IsFalse, IsFalseClause}
-use Rattle.cnf_core.specs.Refutation.{known, clause_at, Reaches, refuted, IsAccepted, Refutes, HaveNoSolution}
+use Rattle.cnf_core.specs.Refutation.{known_clauses, clause_at, Reaches, negations, IsAccepted, Refutes, HaveNoSolution}
 use Rattle.cnf_core.proofs.Truth.{lit_true-negated}
 
 -- these literals are all true
@@ -81,19 +81,19 @@ reaches_true v clauses s (g ∷ hs) t sat names h r =
     r.2
 
 -- where a lemma is false, its literals' opposites are true
-refuted_true : (v : ℕ → Bool) (lemma : List Lit) → clause_true v lemma ≡ false → AllTrue v (refuted lemma)
+refuted_true : (v : ℕ → Bool) (lemma : List Lit) → clause_true v lemma ≡ false → AllTrue v (negations lemma)
 refuted_true v [] e = All-nil (λ m. lit_true v m ≡ true)
 refuted_true v (l ∷ ls) e =
     let parts = or_parts (lit_true v l) (clause_true v ls) e in
-    All-cons (λ m. lit_true v m ≡ true) (negated l) (refuted ls) (lit_true-negated v l ∙ ap not parts.0) (refuted_true v ls parts.1)
+    All-cons (λ m. lit_true v m ≡ true) (negated l) (negations ls) (lit_true-negated v l ∙ ap not parts.0) (refuted_true v ls parts.1)
 
-pub length-known : (clauses : List (List Lit)) (earlier : List Line) → length (known clauses earlier) ≡ length clauses + length earlier
+pub length-known : (clauses : List (List Lit)) (earlier : List Line) → length (known_clauses clauses earlier) ≡ length clauses + length earlier
 length-known clauses earlier = simp (length-append, length-map)
 
 -- **an accepted lemma is true where the clauses and the earlier lemmas are**
-pub accepted_true : (v : ℕ → Bool) (f : Formula) (earlier : List Line) (line : Line) → IsAccepted f earlier line → Satisfies v (known f.clauses earlier) → clause_true v line.lits ≡ true
+pub accepted_true : (v : ℕ → Bool) (f : Formula) (earlier : List Line) (line : Line) → IsAccepted f earlier line → Satisfies v (known_clauses f.clauses earlier) → clause_true v line.lits ≡ true
 accepted_true v f earlier line ok sat =
-    let clauses = known f.clauses earlier in
+    let clauses = known_clauses f.clauses earlier in
     let hints = line.hints in
     let lemma = line.lits in
     let front = take (length hints - 1) hints in
@@ -103,28 +103,28 @@ accepted_true v f earlier line ok sat =
       | inl holds ↦ holds
       | inr fails ↦
           (let t = ok.ends.0 in
-          let true' : AllTrue v t = reaches_true v clauses (refuted lemma) front t sat (All-take N (length hints - 1) hints names) (refuted_true v lemma fails) ok.ends.1 in
+          let true' : AllTrue v t = reaches_true v clauses (negations lemma) front t sat (All-take N (length hints - 1) hints names) (refuted_true v lemma fails) ok.ends.1 in
           let last = All-get_or N hints (length hints - 1) 0 (omega (arith, ok.ends.2)) names in
           absurd (no_false_clause v t (clause_at clauses (slice_index hints (length hints - 1))) true' ok.ends.3
           (clause_at_true v clauses (slice_index hints (length hints - 1)) sat last.0 last.1)))
     ]
 
-known-more : (clauses : List (List Lit)) (lines : List Line) (k : ℕ) (d : Line) → k < length lines → known clauses (take (k + 1) lines) ≡ known clauses (take k lines) ++ (get_or lines k d).lits ∷ []
+known-more : (clauses : List (List Lit)) (lines : List Line) (k : ℕ) (d : Line) → k < length lines → known_clauses clauses (take (k + 1) lines) ≡ known_clauses clauses (take k lines) ++ (get_or lines k d).lits ∷ []
 known-more clauses lines k d few =
-    ap (known clauses) (take_more lines k d few)
+    ap (known_clauses clauses) (take_more lines k d few)
     ∙ ap (λ (xs : List (List Lit)). clauses ++ xs) (map_push (λ (l : Line). l.lits) (take k lines) (get_or lines k d))
     ∙ sym (append_assoc clauses (map (λ (l : Line). l.lits) (take k lines)) ((get_or lines k d).lits ∷ []))
 
 -- so all lemmas are true where the formula is
-all_true : (v : ℕ → Bool) (f : Formula) (lines : List Line) (d : Line) → ((k : ℕ) (d : Line) → k < length lines → IsAccepted f (take k lines) (get_or lines k d)) → Satisfies v f.clauses → (k : ℕ) → k ≤ length lines → Satisfies v (known f.clauses (take k lines))
+all_true : (v : ℕ → Bool) (f : Formula) (lines : List Line) (d : Line) → ((k : ℕ) (d : Line) → k < length lines → IsAccepted f (take k lines) (get_or lines k d)) → Satisfies v f.clauses → (k : ℕ) → k ≤ length lines → Satisfies v (known_clauses f.clauses (take k lines))
 all_true v f lines d ok sat zero few = rw append-nil sat
 all_true v f lines d ok sat (suc k) few =
     let before = all_true v f lines d ok sat k (omega arith) in
     let P : List Lit → Type 0 = λ c. clause_true v c ≡ true in
     let at : k + 1 ≡ suc k = omega arith in
-    subst (λ (m : ℕ). All P (known f.clauses (take m lines))) at
+    subst (λ (m : ℕ). All P (known_clauses f.clauses (take m lines))) at
     (subst (All P) (sym (known-more f.clauses lines k d (omega arith)))
-    (All-push P (known f.clauses (take k lines)) (get_or lines k d).lits before (accepted_true v f (take k lines) (get_or lines k d) (ok k d (omega arith)) before)))
+    (All-push P (known_clauses f.clauses (take k lines)) (get_or lines k d).lits before (accepted_true v f (take k lines) (get_or lines k d) (ok k d (omega arith)) before)))
 
 -- **lines that refute a formula show that no assignment satisfies it**
 pub refutes_sound : (f : Formula) (lines : List Line) → Refutes f lines → HaveNoSolution f.clauses

@@ -5,7 +5,7 @@ use Rattle.std.specs.List.{slice_index_or}
 use Rattle.cnf_core.specs.declared.line.Line.{Line}
 use Rattle.cnf_core.specs.Formula.{Formula, Satisfies, assigned}
 use Rattle.cnf_core.specs.Values.{Partial, IsClosed}
-use Rattle.cnf_core.specs.Refutation.{known, AreAccepted, Refutes, HaveNoSolution, IsFresh}
+use Rattle.cnf_core.specs.Refutation.{known_clauses, AreAccepted, Refutes, HaveNoSolution, IsFresh}
 
 -- a value for each variable, and they satisfy the formula
 pub record IsSolved (f : Formula) (values : List Bool) : Type 0 where
@@ -24,6 +24,6 @@ pub record IsSpent (f : Formula) (conflicts : ℕ) (lines : List Line) : Type 0 
   pub count : length lines ≡ conflicts
   pub accepted : AreAccepted f lines
   pub fresh : (k : ℕ) (d : Line) → k < length lines
-      → IsFresh (known f.clauses (take k lines)) (slice_index_or lines k d).lits
+      → IsFresh (known_clauses f.clauses (take k lines)) (slice_index_or lines k d).lits
   pub few : conflicts < 3 ^ f.vars
   pub closed : (s : Partial) × IsClosed s f.clauses

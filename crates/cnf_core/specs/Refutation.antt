@@ -9,8 +9,8 @@ use Rattle.cnf_core.specs.Formula.{Formula, IsLitOf, Satisfies, negated}
 use Rattle.cnf_core.specs.Values.{Partial, partial_of, IsUnit, IsFalseClause, IsClosed, IsHeld, IsFalse}
 
 -- the formula's clauses and the lemmas of these lines
-abbrev pub known : List (List Lit) → List Line → List (List Lit)
-known clauses earlier = clauses ++ map (λ (l : Line). l.lits) earlier
+abbrev pub known_clauses : List (List Lit) → List Line → List (List Lit)
+known_clauses clauses earlier = clauses ++ map (λ (l : Line). l.lits) earlier
 
 -- the clause that a hint names, from 1
 abbrev pub clause_at : List (List Lit) → ℕ → List Lit
@@ -22,9 +22,9 @@ Reaches clauses s [] t = s ≡ t
 Reaches clauses s (hint ∷ hints) t =
     (l : Lit) × IsUnit (partial_of s) (clause_at clauses hint) l × Reaches clauses (l ∷ s) hints t
 
--- all literals of the lemma are false
-abbrev pub refuted : List Lit → List Lit
-refuted lemma = map negated lemma
+-- the negations of the lemma's literals, which are true where all of these are false
+abbrev pub negations : List Lit → List Lit
+negations lemma = map negated lemma
 
 -- the line has the next number after the clauses and the earlier lines
 abbrev pub IsNumbered : Formula → List Line → Line → Type 0
@@ -47,16 +47,17 @@ pub record IsNamed (f : Formula) (earlier : List Line) (line : Line) : Type 0 wh
 -- each hint before the last is unit
 abbrev pub HasUnits : Formula → List Line → Line → Type 0
 HasUnits f earlier line =
-    (t : List Lit) × Reaches (known f.clauses earlier) (refuted line.lits) (take (length line.hints - 1) line.hints) t
+    (t : List Lit)
+    × Reaches (known_clauses f.clauses earlier) (negations line.lits) (take (length line.hints - 1) line.hints) t
 
 -- there is a last hint, and it is false then
 abbrev pub EndsFalse : Formula → List Line → Line → Type 0
 EndsFalse f earlier line =
     (t : List Lit)
-    × Reaches (known f.clauses earlier) (refuted line.lits) (take (length line.hints - 1) line.hints) t
+    × Reaches (known_clauses f.clauses earlier) (negations line.lits) (take (length line.hints - 1) line.hints) t
     × (1 ≤ length line.hints)
     × IsFalseClause (partial_of t)
-    (clause_at (known f.clauses earlier) (slice_index line.hints (length line.hints - 1)))
+    (clause_at (known_clauses f.clauses earlier) (slice_index line.hints (length line.hints - 1)))
 
 -- none of the reasons 1 to 4 refuses the line
 pub record IsAccepted (f : Formula) (earlier : List Line) (line : Line) : Type 0 where
@@ -107,7 +108,7 @@ abbrev pub IsRefusedAt : (ℕ → Line → Type 0) → Formula → List Line →
 IsRefusedAt Placed f lines k line why =
     IsRefusedFor f (take k lines) line why ⊎ ((why ≡ 5) × IsAccepted f (take k lines) line × (Placed k line → ⊥))
 
--- the first refused line, from 1, and its least reason; no line at all is refused as line 1 for reason 5
+-- the first refused line, from 1, and its least reason; an empty list of lines is refused at line 1, for reason 5
 pub record IsFirstRefusal (Placed : ℕ → Line → Type 0) (f : Formula) (lines : List Line) (number why : ℕ) : Type 0 where
   pub from_one : 1 ≤ number
   pub none : length lines < number → (number ≡ 1) × (why ≡ 5)

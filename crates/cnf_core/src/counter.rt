@@ -14,7 +14,10 @@ pub fn at_most(cnf: &mut Cnf, lits: &[Lit], n: u32) -> Result<(), NoMemory>
     requires short { length lits.now < 2 ^ 29 }
     requires vars { cnf.old.vars + at_most_vars n (length lits.now) < 2 ^ 29 }
     requires room { length cnf.old.clauses + at_most_size n (length lits.now) < 2 ^ 30 }
-    ensures exact { OnOk result (cnf.new ≡ record { vars = cnf.old.vars + at_most_vars n (length lits.now); clauses = cnf.old.clauses ++ at_most_clauses cnf.old.vars n lits.now }) }
+    ensures exact { OnOk result (cnf.new ≡ record {
+      vars = cnf.old.vars + at_most_vars n (length lits.now);
+      clauses = cnf.old.clauses ++ at_most_clauses cnf.old.vars n lits.now;
+    }) }
     ensures err { OnErr result (cnf.new ≡ cnf.old) }
 {
     cnf.add_counter(lits, n)
@@ -26,13 +29,17 @@ pub fn at_most_one(cnf: &mut Cnf, lits: &[Lit]) -> Result<(), NoMemory>
     requires short { length lits.now < 2 ^ 29 }
     requires vars { cnf.old.vars + at_most_vars 1 (length lits.now) < 2 ^ 29 }
     requires room { length cnf.old.clauses + at_most_size 1 (length lits.now) < 2 ^ 30 }
-    ensures exact { OnOk result (cnf.new ≡ record { vars = cnf.old.vars + at_most_vars 1 (length lits.now); clauses = cnf.old.clauses ++ at_most_clauses cnf.old.vars 1 lits.now }) }
+    ensures exact { OnOk result (cnf.new ≡ record {
+      vars = cnf.old.vars + at_most_vars 1 (length lits.now);
+      clauses = cnf.old.clauses ++ at_most_clauses cnf.old.vars 1 lits.now;
+    }) }
     ensures err { OnErr result (cnf.new ≡ cnf.old) }
 {
     at_most(cnf, lits, 1)
 }
 
-/// How many variables `at_most` adds for so many literals. It takes no memory, so callers can count before they build.
+/// The number of variables that `at_most` adds for this many literals. It takes no memory, so callers can count before
+/// they build.
 pub fn at_most_vars(n: u32, literals: usize) -> u64
     requires short { literals < 2 ^ 29 }
     ensures value { result ≡ at_most_vars n literals }
@@ -45,7 +52,8 @@ pub fn at_most_vars(n: u32, literals: usize) -> u64
     }
 }
 
-/// How many clauses `at_most` adds for so many literals. It takes no memory, so callers can count before they build.
+/// The number of clauses that `at_most` adds for this many literals. It takes no memory, so callers can count before
+/// they build.
 pub fn at_most_size(n: u32, literals: usize) -> u64
     requires short { literals < 2 ^ 29 }
     ensures value { result ≡ at_most_size n literals }
@@ -62,7 +70,8 @@ pub fn at_most_size(n: u32, literals: usize) -> u64
     last + (last - 1) * width + (last - 1) * (width - 1) + last
 }
 
-/// Puts the clauses of a counter up to `n` whose variables begin after `old`. Some of them may be there after a refusal.
+/// Puts the clauses of a counter up to `n` whose variables begin after `old`. Some of them may be there after a
+/// refusal.
 pub(crate) fn put_counter(
     clauses: &mut Clauses,
     lits: &[Lit],
@@ -83,7 +92,7 @@ pub(crate) fn put_counter(
     }
 }
 
-/// Puts a clause for each literal that says that it is false.
+/// For each literal, puts the clause that says that the literal is false.
 #[tactic(auto, using(crate::proofs::Rows::front_alone, crate::proofs::Rows::front_kept))]
 fn deny_all(clauses: &mut Clauses, lits: &[Lit]) -> Result<(), NoMemory>
     ensures ok { OnOk result (clauses.new ≡ clauses.old ++ map (λ l. negated l ∷ []) lits.now) }
@@ -116,7 +125,8 @@ fn first_row(clauses: &mut Clauses, lits: &[Lit], old: u32, width: u32) -> Resul
     requires more { width < length lits.now }
     requires some { 1 ≤ width }
     requires vars { old + (length lits.now - 1) * width < 2 ^ 29 }
-    ensures ok { OnOk result (clauses.new ≡ clauses.old ++ map (counts_first old width lits.now) (range_with_len 0 (length lits.now - 1))) }
+    ensures ok { OnOk result (clauses.new
+        ≡ clauses.old ++ map (counts_first old width lits.now) (range_with_len 0 (length lits.now - 1))) }
     ensures err { OnErr result (take (length clauses.old) clauses.new ≡ clauses.old) }
 {
     let last = lits.len() as u32 - 1;
@@ -162,7 +172,8 @@ fn next_row(
     requires some { 1 ≤ width }
     requires place { i + 1 < length lits.now }
     requires vars { old + (i + 2) * width < 2 ^ 29 }
-    ensures ok { OnOk result (clauses.new ≡ clauses.old ++ map (counts_next old width lits.now i) (range_with_len 0 (width - 1))) }
+    ensures ok { OnOk result (clauses.new
+        ≡ clauses.old ++ map (counts_next old width lits.now i) (range_with_len 0 (width - 1))) }
     ensures err { OnErr result (take (length clauses.old) clauses.new ≡ clauses.old) }
 {
     for j in 0..width - 1 {
@@ -181,7 +192,8 @@ fn next_rows(clauses: &mut Clauses, lits: &[Lit], old: u32, width: u32) -> Resul
     requires more { width < length lits.now }
     requires some { 1 ≤ width }
     requires vars { old + (length lits.now - 1) * width < 2 ^ 29 }
-    ensures ok { OnOk result (clauses.new ≡ clauses.old ++ counter_rows (counts_next old width lits.now) (length lits.now - 2) (width - 1)) }
+    ensures ok { OnOk result (clauses.new
+        ≡ clauses.old ++ counter_rows (counts_next old width lits.now) (length lits.now - 2) (width - 1)) }
     ensures err { OnErr result (take (length clauses.old) clauses.new ≡ clauses.old) }
 {
     let count = lits.len() as u32 - 2;
@@ -196,7 +208,8 @@ fn stop_row(clauses: &mut Clauses, lits: &[Lit], old: u32, width: u32) -> Result
     requires more { width < length lits.now }
     requires some { 1 ≤ width }
     requires vars { old + (length lits.now - 1) * width < 2 ^ 29 }
-    ensures ok { OnOk result (clauses.new ≡ clauses.old ++ map (stops old width lits.now) (range_with_len 0 (length lits.now - 1))) }
+    ensures ok { OnOk result (clauses.new
+        ≡ clauses.old ++ map (stops old width lits.now) (range_with_len 0 (length lits.now - 1))) }
     ensures err { OnErr result (take (length clauses.old) clauses.new ≡ clauses.old) }
 {
     let last = lits.len() as u32 - 1;

@@ -99,7 +99,10 @@ impl Cnf {
         requires short { length lits.now < 2 ^ 29 }
         requires vars { self.old.vars + at_most_vars n (length lits.now) < 2 ^ 29 }
         requires room { length self.old.clauses + at_most_size n (length lits.now) < 2 ^ 30 }
-        ensures ok { OnOk result (self.new ≡ record { vars = self.old.vars + at_most_vars n (length lits.now); clauses = self.old.clauses ++ at_most_clauses self.old.vars n lits.now }) }
+        ensures ok { OnOk result (self.new ≡ record {
+          vars = self.old.vars + at_most_vars n (length lits.now);
+          clauses = self.old.clauses ++ at_most_clauses self.old.vars n lits.now;
+        }) }
         ensures err { OnErr result (self.new ≡ self.old) }
     {
         let count = self.clauses.len();

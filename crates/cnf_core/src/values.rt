@@ -7,7 +7,7 @@ ghost use Rattle.cnf_core.specs.Statuses.{HasStatus};
 
 use crate::Lit;
 
-/// Whoever keeps the values of some variables.
+/// A partial assignment: it gives some of the variables a value.
 pub trait Values {
     /// The last variable that may have a value.
     ghost last: { Self → ℕ };

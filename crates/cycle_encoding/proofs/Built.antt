@@ -1,10 +1,9 @@
 -- The formula that the steps of the encoder build.
-use Rattle.std.proofs.Common.{◌≡◌, ℕ, ◌+◌, ◌<◌, ◌≤◌, ◌^◌, List, ◌++◌, [], length, refl, ap, ◌∙◌, arith, inl, inr, length-append}
+use Rattle.std.proofs.Common.{◌≡◌, ℕ, ◌+◌, ◌<◌, ◌≤◌, ◌^◌, List, ◌++◌, [], length, refl, ap, ◌∙◌, arith, length-append}
 use Rattle.cnf_core.specs.declared.literal.Lit.{Lit}
 use Rattle.cnf_core.specs.Formula.{Formula}
 use Rattle.cycle_encoding.specs.Shapes.{counters, counters_vars, counters_size}
 use Rattle.std.specs.Prelude.{Result, Ok, Err, IfOk, IfErr, OnOk}
-use Rattle.cycle_encoding.specs.Plans.{IsTooLarge, PassesLimit}
 use Rattle.cycle_encoding.specs.Steps.{with_clauses}
 use Rattle.cycle_encoding.proofs.Rows.{formula}
 
@@ -50,18 +49,6 @@ module _ (T O S : List (List Lit)) (groups : List (List Lit)) (n : ℕ) (f0 f1 f
 pub begun : (f h : Formula) (a b c d : ℕ) → f ≡ record { vars = 0; clauses = [] } → h ≡ record f { vars = f.vars + (a + b) } → a ≡ c → b ≡ d → h ≡ record { vars = c + d; clauses = [] }
 begun f h a b c d ef eh ea eb =
     eh ∙ formula (f.vars + (a + b)) (c + d) f.clauses [] (let v = ap (λ (f : Formula). f.vars) ef in omega arith) (ap (λ (f : Formula). f.clauses) ef)
-
--- counts and limits
-module _ (f : Formula) (vars clauses : ℕ) (ev : vars ≡ f.vars) (ec : clauses ≡ length f.clauses) where
-  pub passes_by_vars : 262144 < vars → PassesLimit f vars clauses
-  passes_by_vars lt = (inl (omega arith), ev, ec)
-
-  pub passes_by_clauses : 2000000 < clauses → PassesLimit f vars clauses
-  passes_by_clauses lt = (inr (omega arith), ev, ec)
-
-  pub keeps_within : vars ≤ 262144 → clauses ≤ 2000000 → IsTooLarge f → ⊥
-  keeps_within lv lc (inl lt) = omega arith
-  keeps_within lv lc (inr lt) = omega arith
 
 pub on_ok : {A E : Type 0} (r : Result A E) (P : Type 0) → P → OnOk r P
 on_ok (Ok a) P p = p

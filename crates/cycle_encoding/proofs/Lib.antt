@@ -23,3 +23,14 @@ pub mod Arities
 pub mod Built
 pub mod Sorted
 pub mod Marking
+pub mod MadeLists
+pub mod ShownTests
+pub mod RowFacts
+pub mod LaunchLists
+pub mod CycleSays
+pub mod CycleSound
+pub mod CycleReading
+pub mod CycleComplete
+pub mod CycleMaking
+pub mod NarrowRules
+pub mod TooLarge

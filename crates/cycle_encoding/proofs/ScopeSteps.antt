@@ -23,7 +23,7 @@ use Rattle.cycle_encoding.specs.CycleFormula.{Scope, first_by, wants_by, first_c
 use Rattle.cycle_encoding.specs.declared.encodings.Encoding.{Encoding}
 use Rattle.cycle_encoding.specs.declared.encodings.Encoding.TheVariants.{Narrow}
 use Rattle.cycle_encoding.specs.Narrow.{Wanted, CanStart, HasVariable, IsNarrow}
-use Rattle.cycle_encoding.specs.Coming.{needs_of, is_come, are_come, latest, latest_from, IsExactUpTo}
+use Rattle.cycle_encoding.specs.Coming.{needs_of, is_come, are_come, last_come, last_come_from, IsExactUpTo}
 use Rattle.cycle_encoding.specs.Wanting.{is_marked_class}
 use Rattle.cycle_encoding.specs.Scoped.{is_spoken_of, first_cycle}
 use Rattle.cycle_encoding.proofs.Rows.{range_more}
@@ -55,7 +55,7 @@ le-max n m t =
       ]
     ]
 
-latest-one : (come : List (Option ℕ)) (t n : ℕ) (cs : List ℕ) → ((m : ℕ) → is_begun (latest_from come m cs) t ≡ (nat_le m t && are_come come t cs)) → (o : Option ℕ) → is_begun (option_map_or (λ m. latest_from come (max n m) cs) o None) t ≡ (nat_le n t && (option_map_or (λ m. nat_le m t) o false && are_come come t cs))
+latest-one : (come : List (Option ℕ)) (t n : ℕ) (cs : List ℕ) → ((m : ℕ) → is_begun (last_come_from come m cs) t ≡ (nat_le m t && are_come come t cs)) → (o : Option ℕ) → is_begun (option_map_or (λ m. last_come_from come (max n m) cs) o None) t ≡ (nat_le n t && (option_map_or (λ m. nat_le m t) o false && are_come come t cs))
 latest-one come t n cs rest None = sym (and-false (nat_le n t))
 latest-one come t n cs rest (Some m) = rest (max n m) ∙ ap (λ b. b && are_come come t cs) (le-max n m t) ∙ sym (assoc (nat_le n t) (nat_le m t) (are_come come t cs))
 
@@ -63,12 +63,12 @@ true-last : (b : Bool) → b ≡ (b && true)
 true-last true = refl
 true-last false = refl
 
-latest-is : (come : List (Option ℕ)) (t : ℕ) (cs : List ℕ) (n : ℕ) → is_begun (latest_from come n cs) t ≡ (nat_le n t && are_come come t cs)
+latest-is : (come : List (Option ℕ)) (t : ℕ) (cs : List ℕ) (n : ℕ) → is_begun (last_come_from come n cs) t ≡ (nat_le n t && are_come come t cs)
 latest-is come t [] n = true-last (nat_le n t)
 latest-is come t (c ∷ cs) n = latest-one come t n cs (λ m. latest-is come t cs m) (get_or come c None)
 
 -- the classes have come where the last of them has
-pub latest-begun : (come : List (Option ℕ)) (t : ℕ) (cs : List ℕ) → is_begun (latest come cs) t ≡ are_come come t cs
+pub latest-begun : (come : List (Option ℕ)) (t : ℕ) (cs : List ℕ) → is_begun (last_come come cs) t ≡ are_come come t cs
 latest-begun come t cs = latest-is come t cs 0 ∙ ap (λ b. b && are_come come t cs) (le-leb 0 t (omega arith))
 
 -- ---- launches from a first cycle
@@ -247,7 +247,7 @@ module _ (g : LaunchGraph) (table : Table) (come : List (Option ℕ)) (marks : L
         | inr (inr t) ↦ or_right (row_is g is_store l.row) (row_is g is_branch l.row || is_marked_class marks (class_at g l.row)) (or_left (row_is g is_branch l.row) (is_marked_class marks (class_at g l.row)) (ap (λ (o : Option InstrKind). option_map_or is_branch o false) e ∙ t))
       ]
 
-  first-out : (l : Launch) (b : Bool) → is_spoken_of g marks l.row ≡ b → is_begun (cond b (latest come (needs_of g l.row)) None) l.cycle ≡ true → l.cycle ≤ 24 → HasVariable g table l
+  first-out : (l : Launch) (b : Bool) → is_spoken_of g marks l.row ≡ b → is_begun (cond b (last_come come (needs_of g l.row)) None) l.cycle ≡ true → l.cycle ≤ 24 → HasVariable g table l
   first-out l true e h le = record {
     start = start-out l.row l.cycle le (sym (latest-begun come l.cycle (needs_of g l.row)) ∙ h);
     wanted = spoken-out l e;
@@ -256,7 +256,7 @@ module _ (g : LaunchGraph) (table : Table) (come : List (Option ℕ)) (marks : L
 
   first-in : (l : Launch) (i : InstrKind) → instr_at g l.row ≡ Some i → l.cycle ≤ 24 → HasVariable g table l → is_begun (first_cycle g come marks l.row) l.cycle ≡ true
   first-in l i e le v =
-      ap (λ b. is_begun (cond b (latest come (needs_of g l.row)) None) l.cycle) (spoken-in l i e v.wanted)
+      ap (λ b. is_begun (cond b (last_come come (needs_of g l.row)) None) l.cycle) (spoken-in l i e v.wanted)
       ∙ latest-begun come l.cycle (needs_of g l.row) ∙ start-in l.row l.cycle le v.start
 
   module _ (s : Scope) (narrow : s.encoding ≡ Narrow) (firsts : s.firsts ≡ map (first_cycle g come marks) (range_with_len 0 (length g.rows + 1))) (wants : s.wants ≡ marks) (k : ℕ) (few : k ≤ 24) where

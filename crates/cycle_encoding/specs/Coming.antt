@@ -1,6 +1,7 @@
--- How it is found from which cycle a row can start: cycle by cycle, each class has the first by which it has come so far.
--- Source: this project.
-use Rattle.std.specs.Prelude.{◌≡◌, ◌↔◌, ℕ, ◌+◌, ◌≤◌, ◌&&◌, nat_le, nat_lt, Bool, true, false, List, [], ◌∷◌, length, max, set, Option, None, Some, IsTrue, option_and_then, if◌then◌else◌, slice_index_or}
+-- How it is found from which cycle a row can start: cycle by cycle, each class has the first by which it has come so
+-- far. Source: this project.
+use Rattle.std.specs.Prelude.{◌≡◌, ◌↔◌, ℕ, ◌+◌, ◌≤◌, ◌&&◌, nat_le, nat_lt, Bool, true, false, List, [], ◌∷◌, length}
+use Rattle.std.specs.Prelude.{max, set, Option, None, Some, IsTrue, option_and_then, if◌then◌else◌, slice_index_or}
 use Rattle.std.specs.Option.{option_map_or}
 use Rattle.machine_table.specs.Tables.{latency_of}
 use Rattle.schedule_meaning.specs.Launches.{instr_at, gives_word, class_at, operands_at}
@@ -59,11 +60,11 @@ IsExactUpTo g table come t =
     (u class : ℕ) → u ≤ t → IsTrue (is_come come u class) ↔ HasCome g table class u
 
 -- the last of the cycles by which the classes have come, from one on, if all have
-abbrev pub latest_from : List (Option ℕ) → ℕ → List ℕ → Option ℕ
-latest_from come n [] = Some n
-latest_from come n (c ∷ cs) =
-    option_map_or (λ m. latest_from come (max n m) cs) (slice_index_or come c None) None
+abbrev pub last_come_from : List (Option ℕ) → ℕ → List ℕ → Option ℕ
+last_come_from come n [] = Some n
+last_come_from come n (c ∷ cs) =
+    option_map_or (λ m. last_come_from come (max n m) cs) (slice_index_or come c None) None
 
 -- the cycle from which a row can start, or none
-abbrev pub latest : List (Option ℕ) → List ℕ → Option ℕ
-latest come cs = latest_from come 0 cs
+abbrev pub last_come : List (Option ℕ) → List ℕ → Option ℕ
+last_come come cs = last_come_from come 0 cs

@@ -1,6 +1,7 @@
 -- How many variables and clauses there are of cycles, slots and values, as numbers that are found row by row, before
 -- any clause is. Source: this project.
-use Rattle.std.specs.Prelude.{ℕ, ◌+◌, ◌-◌, ◌*◌, ◌==◌, ◌&&◌, nat_le, nat_lt, Bool, false, List, length, Option, option_and_then, if◌then◌else◌}
+use Rattle.std.specs.Prelude.{ℕ, ◌+◌, ◌-◌, ◌*◌, ◌==◌, ◌&&◌, nat_le, nat_lt, Bool, false, List, length, Option}
+use Rattle.std.specs.Prelude.{option_and_then, if◌then◌else◌}
 use Rattle.std.specs.Option.{option_map_or}
 use Rattle.std.specs.List.{list_any, count_by, sum_by, range_with_len}
 use Rattle.cnf_core.specs.Counter.{at_most_size, at_most_vars}
@@ -43,7 +44,9 @@ module _ (g : LaunchGraph) (table : Table) (k : ℕ) (s : Scope) where
   abbrev pub row_has : ℕ → ℕ → ℕ → Bool
   row_has slot cycle row =
       option_map_or
-      (λ u. option_map_or (λ n. list_any (λ r. r == slot) u.slots && can_begin k n u cycle) (first_cycle_in s row) false)
+      (λ u. option_map_or
+      (λ n. list_any (λ r. r == slot) u.slots && can_begin k n u cycle)
+      (first_cycle_in s row) false)
       (row_use g table row) false
 
   -- all numbers of rows, and a sum over the launches of something that hangs on the row alone

@@ -18,8 +18,8 @@ pub record Listed : Type 0 where
   pub launches : List Launch
   pub seen : List Seen
 
--- what has variables in an encoding: all, or by tables the launches of a row from its first cycle, and what is seen of a
--- wanted class
+-- what has variables in an encoding: all, or by tables the launches of a row from its first cycle, and what is seen of
+-- a wanted class
 pub record Scope : Type 0 where
   pub encoding : Encoding
   pub firsts : List (Option ℕ)
@@ -41,7 +41,10 @@ wants_in s class = wants_by s.encoding s.wants class
 
 abbrev pub listed_in : LaunchGraph → Table → ℕ → Scope → Listed
 listed_in g table k s =
-    record { launches = launches_from g table k (first_cycle_in s); seen = all_seen table k (shown_classes g (wants_in s)) }
+    record {
+      launches = launches_from g table k (first_cycle_in s);
+      seen = all_seen table k (shown_classes g (wants_in s));
+    }
 
 abbrev pub wide_scope : Scope
 wide_scope = record { encoding = Wide; firsts = []; wants = [] }

@@ -10,5 +10,6 @@ pub mod Coming
 pub mod Wanting
 pub mod Scoped
 pub mod Encodings
+pub mod CycleRules
 pub mod Steps
 pub mod Faults

@@ -6,7 +6,8 @@ use Rattle.std.specs.List.{filter}
 use Rattle.word_ops.specs.declared.sorts.Op.TheVariants.{Store, Put}
 use Rattle.machine_table.specs.Tables.{use_of}
 use Rattle.graph_meaning.specs.Graphs.{is_memory_name}
-use Rattle.schedule_meaning.specs.Launches.{instr_at, launches, gives_word, is_store, is_branch, class_at, operands_at, IsFree, IsClassOfInput, Operand}
+use Rattle.schedule_meaning.specs.Launches.{instr_at, launches, gives_word, is_store, is_branch, class_at}
+use Rattle.schedule_meaning.specs.Launches.{operands_at, IsFree, IsClassOfInput, Operand}
 use Rattle.machine_table.specs.declared.tables.Table.{Table}
 use Rattle.machine_table.specs.declared.tables.Use.{Use}
 use Rattle.machine_table.specs.declared.tables.InstrKind.{InstrKind}
@@ -23,8 +24,8 @@ pub record Needs (g : LaunchGraph) (row : ℕ) (o : Operand) : Type 0 where
   pub free : ¬ IsFree g o
   pub input : ¬ IsClassOfInput g o.class
 
--- the least set of classes with those of word targets, of what the branch and each store need, and of what each row of a
--- wanted class needs that can be launched and gives a word
+-- the least set of classes with those of word targets, of what the branch and each store need, and of what each row of
+-- a wanted class needs that can be launched and gives a word
 pub data Wanted (g : LaunchGraph) : ℕ → Type 0 where
   target : (s : SetClass) → Contains g.sets s → ¬ IsTrue (is_memory_name s.name) → ¬ IsClassOfInput g s.class
       → Wanted g s.class

@@ -4,7 +4,7 @@ use Rattle.std.specs.Prelude.{ℕ, ◌||◌, Bool, List, Option, None, if◌then
 use Rattle.schedule_meaning.specs.Launches.{is_store, is_branch, class_at}
 use Rattle.graph_meaning.specs.declared.graphs.LaunchGraph.{LaunchGraph}
 use Rattle.cycle_encoding.specs.Counts.{row_is}
-use Rattle.cycle_encoding.specs.Coming.{latest, needs_of}
+use Rattle.cycle_encoding.specs.Coming.{last_come, needs_of}
 use Rattle.cycle_encoding.specs.Wanting.{is_marked_class}
 
 -- the row is a store, the branch, or of a wanted class
@@ -14,4 +14,4 @@ is_spoken_of g marks row =
 
 -- the cycle from which launches of the row have variables, if any have
 abbrev pub first_cycle : LaunchGraph → List (Option ℕ) → List Bool → ℕ → Option ℕ
-first_cycle g come marks row = if is_spoken_of g marks row then latest come (needs_of g row) else None
+first_cycle g come marks row = if is_spoken_of g marks row then last_come come (needs_of g row) else None

@@ -1,6 +1,7 @@
 -- What the steps of the encoder add to a formula, and what they look up.
 -- Source: this project.
-use Rattle.std.specs.Prelude.{◌≡◌, ◌+◌, ◌==◌, nat_le, nat_lt, set, if◌then◌else◌, ℕ, length, Bool, List, map, [], ◌∷◌, ◌++◌, Option, None, Some}
+use Rattle.std.specs.Prelude.{◌≡◌, ◌+◌, ◌==◌, nat_le, nat_lt, set, if◌then◌else◌, ℕ, length, Bool, List, map, [], ◌∷◌}
+use Rattle.std.specs.Prelude.{◌++◌}
 use Rattle.std.specs.List.{slice_index_or, list_any, flat_map, filter, range_with_len}
 use Rattle.cnf_core.specs.declared.literal.Lit.{Lit}
 use Rattle.cnf_core.specs.Formula.{Formula}
@@ -23,10 +24,6 @@ with_clauses f cs = record f { clauses = f.clauses ++ cs }
 abbrev pub with_counters : Formula → List (List Lit) → Formula
 with_counters f groups =
     record { vars = f.vars + counters_vars 1 groups; clauses = f.clauses ++ counters f.vars 1 groups }
-
-abbrev pub listed : {X : Type 0} → Option X → List X
-listed None = []
-listed (Some x) = x ∷ []
 
 -- some slot has the cluster
 abbrev pub has_cluster : Table → ℕ → Bool

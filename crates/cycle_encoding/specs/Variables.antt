@@ -1,6 +1,7 @@
 -- What the first variables of a schedule's formula stand for.
 -- Source: this project, over Denali (PLDI 2002): a variable for each launch that may be made.
-use Rattle.std.specs.Prelude.{ℕ, ◌+◌, ◌-◌, ◌==◌, ◌&&◌, nat_le, Bool, true, false, not, List, [], map, length, Option, Some}
+use Rattle.std.specs.Prelude.{ℕ, ◌+◌, ◌-◌, ◌==◌, ◌&&◌, nat_le, Bool, true, false, not, List, [], map, length, Option}
+use Rattle.std.specs.Prelude.{Some}
 use Rattle.std.specs.Option.{option_map_or}
 use Rattle.std.specs.List.{filter, flat_map, list_any, range_with_len}
 use Rattle.word_ops.specs.Meanings.{sort_of}
@@ -36,8 +37,8 @@ row_launches g table k first row =
     (λ i. option_map_or (λ u. option_map_or (λ n. use_launches table k row n u) first []) (use_of table i) [])
     (instr_at g row) []
 
--- the launches of each row from its first cycle that end by k: by row, the branch of a guard last, then by slot, then by
--- cycle
+-- the launches of each row from its first cycle that end by k: by row, the branch of a guard last, then by slot, then
+-- by cycle
 abbrev pub launches_from : LaunchGraph → Table → ℕ → (ℕ → Option ℕ) → List Launch
 launches_from g table k firsts =
     flat_map (λ row. row_launches g table k (firsts row) row) (range_with_len 0 (length g.rows + 1))

@@ -1,6 +1,7 @@
 -- How wanted classes are found: each is marked once, and listed in the order in which it was.
 -- Source: this project.
-use Rattle.std.specs.Prelude.{◌≡◌, ℕ, ◌<◌, ◌&&◌, ◌||◌, ◌==◌, not, Bool, true, false, List, ◌++◌, length, Contains, IsTrue, slice_get, slice_index_or}
+use Rattle.std.specs.Prelude.{◌≡◌, ℕ, ◌<◌, ◌&&◌, ◌||◌, ◌==◌, not, Bool, true, false, List, ◌++◌, length, Contains}
+use Rattle.std.specs.Prelude.{IsTrue, slice_get, slice_index_or}
 use Rattle.std.specs.Option.{option_map_or}
 use Rattle.std.specs.List.{count_by, filter, range_with_len}
 use Rattle.word_ops.specs.declared.sorts.Op.{Op}
@@ -55,7 +56,8 @@ StillMarked old new = (class : ℕ) → IsTrue (is_marked_class old class) → I
 
 -- each of the classes is marked, where the table has it
 abbrev pub AreAllMarked : List Bool → List ℕ → Type 0
-AreAllMarked marks classes = (class : ℕ) → Contains classes class → class < length marks → IsTrue (is_marked_class marks class)
+AreAllMarked marks classes =
+    (class : ℕ) → Contains classes class → class < length marks → IsTrue (is_marked_class marks class)
 
 -- what each row that gives the class's word needs is marked
 abbrev pub IsFollowed : LaunchGraph → List Bool → ℕ → Type 0

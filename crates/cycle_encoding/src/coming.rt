@@ -4,7 +4,8 @@ ghost use Rattle.std.specs.List.{range_with_len};
 ghost use Rattle.graph_meaning.specs.WellFormed.{IsLaunchGraph, next_class};
 ghost use Rattle.machine_table.specs.Tables.{IsTable};
 ghost use Rattle.cycle_encoding.specs.Coming as coming;
-ghost use Rattle.cycle_encoding.specs.Coming.{are_come, come_by, is_come, needs_of, ComesAreFound, AreSound, IsExactUpTo, IsPassed, StillCome};
+ghost use Rattle.cycle_encoding.specs.Coming.{are_come, come_by, is_come, needs_of, ComesAreFound, AreSound};
+ghost use Rattle.cycle_encoding.specs.Coming.{IsExactUpTo, IsPassed, StillCome};
 
 use crate::facts::next_class;
 use crate::{Facts, made_operands};
@@ -20,7 +21,8 @@ const LAST: u32 = 24;
 #[tactic(auto, using(crate::proofs::Tables::table_more))]
 pub fn needs(alloc: Global, facts: &Facts) -> Result<Vec<Items<u32>>, NoMemory>
     requires rows { length facts.now.rows < 2 ^ 30 }
-    ensures { IfOk result (λ needs. needs.items ≡ map (needs_of facts.now) (range_with_len 0 (length facts.now.rows + 1))) }
+    ensures { IfOk result (λ needs. needs.items
+        ≡ map (needs_of facts.now) (range_with_len 0 (length facts.now.rows + 1))) }
 {
     let mut needs = Vec::new(alloc);
     let rows = facts.graph().rows.len() as u32;

@@ -1,7 +1,8 @@
-// The counts of the formula of cycles, slots and values, found row by row before any clause is.
-ghost use Rattle.std.specs.Prelude.{◌≡◌, ◌+◌, ◌*◌, ◌<◌, ◌≤◌, ◌^◌, length, IfOk};
+// The counts of the formula of cycles, slots and values, found row by row before any clause is; and what counts may be.
+ghost use Rattle.std.specs.Prelude.{◌≡◌, ◌+◌, ◌*◌, ◌<◌, ◌≤◌, ◌^◌, ◌||◌, nat_lt, length, IfOk, IfErr, OnOk};
 ghost use Rattle.std.specs.List.{count_by, filter, range_with_len, sum_by};
 ghost use Rattle.cnf_core.specs.Counter as counter;
+ghost use Rattle.cnf_core.specs.Formula.{Formula};
 ghost use Rattle.graph_meaning.specs.WellFormed as wellformed;
 ghost use Rattle.graph_meaning.specs.WellFormed.{IsLaunchGraph};
 ghost use Rattle.cycle_encoding.specs.CycleFormula.{wants_in};
@@ -11,14 +12,22 @@ ghost use Rattle.schedule_meaning.specs.Launches.{operands_at};
 ghost use Rattle.cycle_encoding.specs.Counts as counts;
 ghost use Rattle.cycle_encoding.specs.Facts as specs;
 ghost use Rattle.cycle_encoding.specs.Families.{is_made, is_made_target};
+ghost use Rattle.cycle_encoding.specs.Faults.{EncodeFaultIs};
+ghost use Rattle.cycle_encoding.specs.Plans.{IsTooLarge};
 
 use crate::facts::next_class;
 use crate::launches::{can_begin, cycles, may_use};
 use crate::seen::{has_cluster, is_shown};
-use crate::{Facts, Scope, made_operands};
+use crate::{EncodeFault, Facts, Scope, made_operands};
 use items::NoMemory;
 use machine_table::{InstrKind, Table};
 use std::alloc::Global;
+
+/// The most variables that a formula may have.
+const MOST_VARS: u64 = 262144;
+
+/// The most clauses.
+const MOST_CLAUSES: u64 = 2000000;
 
 /// How many slots the instruction may use.
 #[tactic(auto, using(crate::proofs::Tallies::count_more))]
@@ -138,7 +147,8 @@ fn at_count(facts: &Facts, table: &Table, scope: &Scope, k: u32, slot: u32, cycl
 #[tactic(auto, using(crate::proofs::Tallies::count_more))]
 fn shown_count(facts: &Facts, scope: &Scope) -> u64
     requires graph { IsLaunchGraph facts.now }
-    ensures value { result ≡ count_by (specs.is_shown_class facts.now (wants_in scope.now)) (range_with_len 0 (wellformed.next_class facts.now.rows)) }
+    ensures value { result ≡ count_by (specs.is_shown_class facts.now (wants_in scope.now))
+        (range_with_len 0 (wellformed.next_class facts.now.rows)) }
     ensures few { result < 2 ^ 32 }
 {
     let mut count = 0;
@@ -168,15 +178,44 @@ pub struct Sizes {
     pub clauses: u64,
 }
 
+impl Sizes {
+    /// Whether one of the counts passes its limit.
+    pub fn pass_limit(self) -> bool
+        ensures { result ≡ (nat_lt 262144 self.vars || nat_lt 2000000 self.clauses) }
+    {
+        self.vars > MOST_VARS || self.clauses > MOST_CLAUSES
+    }
+
+    /// Refuses counts of which one passes its limit.
+    pub fn within_limits(self) -> Result<(), EncodeFault>
+        ensures size { IfErr result (λ fault. (f : Formula) → self.vars ≡ f.vars → self.clauses ≡ length f.clauses
+            → EncodeFaultIs f fault) }
+        ensures within { OnOk result ((f : Formula) → self.vars ≡ f.vars → self.clauses ≡ length f.clauses
+            → ¬ IsTooLarge f) }
+        ensures few_vars { OnOk result (self.vars ≤ 262144) }
+        ensures few_clauses { OnOk result (self.clauses ≤ 2000000) }
+    {
+        if self.pass_limit() {
+            return Err(EncodeFault::Size {
+                vars: self.vars,
+                clauses: self.clauses,
+            });
+        }
+        Ok(())
+    }
+}
+
 /// The counts of the counters of a slot.
 #[tactic(auto, using(crate::proofs::Tallies::sum_more))]
 fn slot_sizes(facts: &Facts, table: &Table, scope: &Scope, k: u32, slot: u32) -> Sizes
     requires cycles { k ≤ 24 }
     requires rows { length facts.now.rows < 2 ^ 30 }
     ensures vars { result.vars
-        ≡ sum_by (λ t. counter.at_most_vars 1 (counts.at_count facts.now table.now k scope.now slot t)) (range_with_len 0 k) }
+        ≡ sum_by (λ t. counter.at_most_vars 1 (counts.at_count facts.now table.now k scope.now slot t))
+        (range_with_len 0 k) }
     ensures clauses { result.clauses
-        ≡ sum_by (λ t. counter.at_most_size 1 (counts.at_count facts.now table.now k scope.now slot t)) (range_with_len 0 k) }
+        ≡ sum_by (λ t. counter.at_most_size 1 (counts.at_count facts.now table.now k scope.now slot t))
+        (range_with_len 0 k) }
     ensures few_vars { result.vars < 2 ^ 36 }
     ensures few_clauses { result.clauses < 2 ^ 38 }
 {

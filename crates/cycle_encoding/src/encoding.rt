@@ -68,18 +68,7 @@ pub fn encode_as(
     let facts = Facts::new(alloc, graph)?;
     let scope = Scope::of(alloc, encoding, &facts, table)?;
     let sizes = cycle_sizes(alloc, &facts, table, &scope, k)?;
-    if sizes.vars > 262144 {
-        return Err(EncodeFault::Size {
-            vars: sizes.vars,
-            clauses: sizes.clauses,
-        });
-    }
-    if sizes.clauses > 2000000 {
-        return Err(EncodeFault::Size {
-            vars: sizes.vars,
-            clauses: sizes.clauses,
-        });
-    }
+    sizes.within_limits()?;
     Ok(build_cycles(alloc, &facts, table, &scope, k)?)
 }
 
@@ -105,8 +94,10 @@ pub fn build_cycles(
     requires table { IsTable table.now }
     requires graph { IsLaunchGraph facts.now }
     requires vars { (cycle_formula facts.now table.now k (listed_in facts.now table.now k scope.now)).vars ≤ 262144 }
-    requires clauses { length (cycle_formula facts.now table.now k (listed_in facts.now table.now k scope.now)).clauses ≤ 2000000 }
-    ensures formula { IfOk result (λ e. e.cnf ≡ cycle_formula facts.now table.now k (listed_in facts.now table.now k scope.now)) }
+    requires clauses { length (cycle_formula facts.now table.now k (listed_in facts.now table.now k scope.now)).clauses
+        ≤ 2000000 }
+    ensures formula { IfOk result (λ e. e.cnf
+        ≡ cycle_formula facts.now table.now k (listed_in facts.now table.now k scope.now)) }
     ensures plan { IfOk result (λ e. e.plan ≡ record {
       encoding = scope.now.encoding;
       cycles = k;

@@ -1,5 +1,6 @@
 // The families of clauses of cycles, slots and values.
-ghost use Rattle.std.specs.Prelude.{◌≡◌, ◌+◌, ◌<◌, ◌≤◌, ◌^◌, [], ◌∷◌, ◌++◌, if◌then◌else◌, length, map, IfOk, OnOk, All};
+ghost use Rattle.std.specs.Prelude.{◌≡◌, ◌+◌, ◌<◌, ◌≤◌, ◌^◌, [], ◌∷◌, ◌++◌, if◌then◌else◌, length, map, IfOk, OnOk};
+ghost use Rattle.std.specs.Prelude.{All, option_to_list};
 ghost use Rattle.std.specs.List.{filter};
 ghost use Rattle.cnf_core.specs.Formula.{IsLitOf};
 ghost use Rattle.graph_meaning.specs.WellFormed.{IsLaunchGraph};
@@ -10,7 +11,8 @@ ghost use Rattle.cycle_encoding.specs.CycleFormula.{wants_in};
 ghost use Rattle.cycle_encoding.specs.Facts.{IsTableOf};
 ghost use Rattle.cycle_encoding.specs.Families.{is_made, is_seen, makes, operand_clauses, seen_clauses, target_clauses};
 ghost use Rattle.cycle_encoding.specs.Shapes.{negative, numbered, positive, vars_of};
-ghost use Rattle.cycle_encoding.specs.Steps.{AreSeenVars, given_in, target_groups, is_ready, listed, of_thing, put_at, sights, with_clauses};
+ghost use Rattle.cycle_encoding.specs.Steps.{AreSeenVars, given_in, target_groups, is_ready, of_thing, put_at};
+ghost use Rattle.cycle_encoding.specs.Steps.{sights, with_clauses};
 
 use crate::buckets::{empty_lists, put_into};
 use crate::facts::next_class;
@@ -124,9 +126,11 @@ pub fn add_operands(
     requires first { length launches.now ≡ seen.now.first }
     requires exist { seen.now.first + length seen.now.seen.items ≤ cnf.old.vars }
     requires few { cnf.old.vars < 2 ^ 29 }
-    requires seen { AreSeenVars facts.now (wants_in scope.now) table.now seen.now.cycles seen.now.first seen.now.seen.items seen.now.starts.items }
+    requires seen { AreSeenVars facts.now (wants_in scope.now) table.now seen.now.cycles seen.now.first
+        seen.now.seen.items seen.now.starts.items }
     requires room { length cnf.old.clauses
-        + length (operand_clauses facts.now table.now (numbered 0 launches.now) (numbered seen.now.first seen.now.seen.items)) < 2 ^ 30 }
+        + length (operand_clauses facts.now table.now (numbered 0 launches.now)
+        (numbered seen.now.first seen.now.seen.items)) < 2 ^ 30 }
     ensures { OnOk result (cnf.new ≡ with_clauses cnf.old
         (operand_clauses facts.now table.now (numbered 0 launches.now) (numbered seen.now.first seen.now.seen.items))) }
 {
@@ -153,10 +157,12 @@ fn add_sights(
     requires within { var ≤ seen.now.first }
     requires exist { seen.now.first + length seen.now.seen.items ≤ cnf.old.vars }
     requires few { cnf.old.vars < 2 ^ 29 }
-    requires seen { AreSeenVars facts.now (wants_in scope.now) table.now seen.now.cycles seen.now.first seen.now.seen.items seen.now.starts.items }
+    requires seen { AreSeenVars facts.now (wants_in scope.now) table.now seen.now.cycles seen.now.first
+        seen.now.seen.items seen.now.starts.items }
     requires room { length cnf.old.clauses + length made.now < 2 ^ 30 }
     ensures { OnOk result (cnf.new ≡ with_clauses cnf.old (of_thing var
-        (sights (tables.cluster_of table.now launch.slot) launch.cycle (numbered seen.now.first seen.now.seen.items) made.now))) }
+        (sights (tables.cluster_of table.now launch.slot) launch.cycle
+        (numbered seen.now.first seen.now.seen.items) made.now))) }
 {
     let cluster = cluster_of(table, launch.slot);
     for class in made {
@@ -169,9 +175,9 @@ fn add_sights(
 /// Adds the clause that a variable implies a literal, or that it is false where there is none.
 pub fn add_implied(cnf: &mut Cnf, var: u32, lit: Option<Lit>) -> Result<(), NoMemory>
     requires var { IsLitOf cnf.old.vars (negative var) }
-    requires lit { All (IsLitOf cnf.old.vars) (listed lit) }
+    requires lit { All (IsLitOf cnf.old.vars) (option_to_list lit) }
     requires room { length cnf.old.clauses < 2 ^ 30 }
-    ensures { OnOk result (cnf.new ≡ with_clauses cnf.old ((negative var ∷ listed lit) ∷ [])) }
+    ensures { OnOk result (cnf.new ≡ with_clauses cnf.old ((negative var ∷ option_to_list lit) ∷ [])) }
 {
     let not = Lit {
         var,
@@ -197,7 +203,8 @@ pub fn add_seen(
     requires exist { seen.now.first + length seen.now.seen.items ≤ cnf.old.vars }
     requires few { cnf.old.vars < 2 ^ 29 }
     requires room { length cnf.old.clauses
-        + length (seen_clauses facts.now table.now (numbered 0 launches.now) (numbered seen.now.first seen.now.seen.items)) < 2 ^ 30 }
+        + length (seen_clauses facts.now table.now (numbered 0 launches.now)
+        (numbered seen.now.first seen.now.seen.items)) < 2 ^ 30 }
     ensures { OnOk result (cnf.new ≡ with_clauses cnf.old
         (seen_clauses facts.now table.now (numbered 0 launches.now) (numbered seen.now.first seen.now.seen.items))) }
 {

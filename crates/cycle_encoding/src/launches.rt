@@ -24,7 +24,8 @@ pub fn launches_from(
     requires cycles { k ≤ 24 }
     requires table { IsTable table.now }
     requires rows { length facts.now.rows < 2 ^ 30 }
-    ensures { IfOk result (λ launches. launches.items ≡ launches_from facts.now table.now k (first_cycle_in scope.now)) }
+    ensures { IfOk result (λ launches. launches.items
+        ≡ launches_from facts.now table.now k (first_cycle_in scope.now)) }
 {
     let mut launches = Vec::new(alloc);
     let rows = facts.graph().rows.len() as u32;

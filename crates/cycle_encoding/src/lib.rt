@@ -27,7 +27,10 @@ pub use encodings::Encoding;
 pub use facts::{Facts, next_class};
 pub use families::{add_implied, variables};
 pub use launches::{can_begin, cycles, launches_from, may_use};
-pub use laws::{cycle_counts_are_found, each_encoding_has_one_list};
+pub use laws::{
+    cycle_clauses_say_rules, cycle_counts_are_found, each_encoding_has_one_list,
+    narrow_parts_keep_rules,
+};
 pub use operands::made_operands;
 pub use plans::{EncodeFault, Encoded, VarPlan, launch_of};
 pub use scopes::Scope;

@@ -170,7 +170,7 @@ fn is_spoken_of(facts: &Facts, marks: &[bool], row: u32) -> bool
 
 /// The last of the cycles by which the classes have come, if all have.
 fn latest(come: &[Option<u32>], classes: &[u32]) -> Option<u32>
-    ensures { result ≡ coming.latest come.now classes.now }
+    ensures { result ≡ coming.last_come come.now classes.now }
 {
     let mut latest = 0;
     for class in classes {

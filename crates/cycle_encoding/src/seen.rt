@@ -1,12 +1,13 @@
 // What is seen: in which cluster and cycle a class is readable.
 ghost use Rattle.std.specs.Prelude.{◌≡◌, ◌+◌, ◌<◌, ◌≤◌, ◌^◌, [], ◌++◌, if◌then◌else◌, length, IfOk, OnOk};
+ghost use Rattle.std.specs.Prelude.{option_to_list};
 ghost use Rattle.graph_meaning.specs.WellFormed.{IsLaunchGraph};
 ghost use Rattle.cycle_encoding.specs.CycleFormula.{wants_in};
 ghost use Rattle.cycle_encoding.specs.Steps as steps;
 ghost use Rattle.cycle_encoding.specs.Facts.{is_shown_class};
 ghost use Rattle.cycle_encoding.specs.Families.{is_seen};
 ghost use Rattle.cycle_encoding.specs.Shapes.{numbered, vars_of};
-ghost use Rattle.cycle_encoding.specs.Steps.{AreSeenVars, cluster_seen, clusters_before, clusters_seen, listed};
+ghost use Rattle.cycle_encoding.specs.Steps.{AreSeenVars, cluster_seen, clusters_before, clusters_seen};
 
 use crate::facts::next_class;
 use crate::{Facts, Scope};
@@ -55,7 +56,8 @@ pub fn seen_vars(
     requires graph { IsLaunchGraph facts.now }
     ensures first { IfOk result (λ vars. vars.first ≡ first) }
     ensures cycles { IfOk result (λ vars. vars.cycles ≡ k) }
-    ensures seen { IfOk result (λ vars. AreSeenVars facts.now (wants_in scope.now) table.now k first vars.seen.items vars.starts.items) }
+    ensures seen { IfOk result (λ vars. AreSeenVars facts.now (wants_in scope.now) table.now k first
+        vars.seen.items vars.starts.items) }
 {
     let mut seen = Vec::new(alloc);
     let mut starts = Vec::new(alloc);
@@ -134,8 +136,10 @@ pub fn seen_var(
     cycle: u32,
 ) -> Option<Lit>
     requires few { vars.now.first + length vars.now.seen.items < 2 ^ 29 }
-    requires vars { AreSeenVars facts.now (wants_in scope.now) table.now vars.now.cycles vars.now.first vars.now.seen.items vars.now.starts.items }
-    ensures { listed result ≡ vars_of (is_seen class cluster cycle) (numbered vars.now.first vars.now.seen.items) }
+    requires vars { AreSeenVars facts.now (wants_in scope.now) table.now vars.now.cycles vars.now.first
+        vars.now.seen.items vars.now.starts.items }
+    ensures { option_to_list result
+        ≡ vars_of (is_seen class cluster cycle) (numbered vars.now.first vars.now.seen.items) }
 {
     if !is_shown(facts, scope, class) {
         return None;

@@ -24,7 +24,10 @@ pub fn add_slots(
     requires exist { length launches.now ≤ cnf.old.vars }
     requires vars { cnf.old.vars + counters_vars 1 (slot_rows slots k (numbered 0 launches.now)) < 2 ^ 29 }
     requires room { length cnf.old.clauses + counters_size 1 (slot_rows slots k (numbered 0 launches.now)) < 2 ^ 30 }
-    ensures { OnOk result (cnf.new ≡ record { vars = cnf.old.vars + counters_vars 1 (slot_rows slots k (numbered 0 launches.now)); clauses = cnf.old.clauses ++ counters cnf.old.vars 1 (slot_rows slots k (numbered 0 launches.now)) }) }
+    ensures { OnOk result (cnf.new ≡ record {
+      vars = cnf.old.vars + counters_vars 1 (slot_rows slots k (numbered 0 launches.now));
+      clauses = cnf.old.clauses ++ counters cnf.old.vars 1 (slot_rows slots k (numbered 0 launches.now));
+    }) }
 {
     counters_count();
     for slot in 0..slots {
@@ -45,7 +48,10 @@ fn add_slot(
     requires exist { length launches.now ≤ cnf.old.vars }
     requires vars { cnf.old.vars + counters_vars 1 (slot_row slot k (numbered 0 launches.now)) < 2 ^ 29 }
     requires room { length cnf.old.clauses + counters_size 1 (slot_row slot k (numbered 0 launches.now)) < 2 ^ 30 }
-    ensures { OnOk result (cnf.new ≡ record { vars = cnf.old.vars + counters_vars 1 (slot_row slot k (numbered 0 launches.now)); clauses = cnf.old.clauses ++ counters cnf.old.vars 1 (slot_row slot k (numbered 0 launches.now)) }) }
+    ensures { OnOk result (cnf.new ≡ record {
+      vars = cnf.old.vars + counters_vars 1 (slot_row slot k (numbered 0 launches.now));
+      clauses = cnf.old.clauses ++ counters cnf.old.vars 1 (slot_row slot k (numbered 0 launches.now));
+    }) }
 {
     counters_count();
     let lists = slot_lists(alloc, launches, slot, k)?;

@@ -1,5 +1,6 @@
 // Which classes are wanted: those of targets, what stores and the branch need, and what rows of wanted classes need.
-ghost use Rattle.std.specs.Prelude.{◌≡◌, ◌↔◌, ◌∷◌, [], ℕ, ◌+◌, ◌<◌, ◌^◌, Contains, IsTrue, if◌then◌else◌, length, map, IfOk, OnOk};
+ghost use Rattle.std.specs.Prelude.{◌≡◌, ◌↔◌, ◌∷◌, [], ℕ, ◌+◌, ◌<◌, ◌^◌, Contains, IsTrue, if◌then◌else◌, length};
+ghost use Rattle.std.specs.Prelude.{map, IfOk, OnOk};
 ghost use Rattle.std.specs.List.{range_with_len};
 ghost use Rattle.graph_meaning.specs.WellFormed as wellformed;
 ghost use Rattle.graph_meaning.specs.WellFormed.{IsLaunchGraph};
@@ -11,7 +12,8 @@ ghost use Rattle.cycle_encoding.specs.Facts.{IsTableOf};
 ghost use Rattle.cycle_encoding.specs.Narrow.{Wanted};
 ghost use Rattle.cycle_encoding.specs.Steps.{put_at};
 ghost use Rattle.cycle_encoding.specs.Wanting as wanting;
-ghost use Rattle.cycle_encoding.specs.Wanting.{giving_rows, is_marked_class, is_wanted_target, AreWantedMarks, AreAllMarked, IsFollowed, IsLonger, StillMarked};
+ghost use Rattle.cycle_encoding.specs.Wanting.{giving_rows, is_marked_class, is_wanted_target, AreWantedMarks};
+ghost use Rattle.cycle_encoding.specs.Wanting.{AreAllMarked, IsFollowed, IsLonger, StillMarked};
 
 use crate::Facts;
 use crate::facts::next_class;
@@ -82,7 +84,8 @@ fn want_target(
     ensures size { length marks.new.items ≡ length marks.old.items }
     ensures marks { OnOk result (AreWantedMarks facts.now marks.new.items order.new.items) }
     ensures still { StillMarked marks.old.items marks.new.items }
-    ensures has { OnOk result (IsTrue (is_wanted_target facts.now set.now) → AreAllMarked marks.new.items (set.now.class ∷ [])) }
+    ensures has { OnOk result (IsTrue (is_wanted_target facts.now set.now)
+        → AreAllMarked marks.new.items (set.now.class ∷ [])) }
 {
     if !facts.is_wanted_target(set) {
         return Ok(());
@@ -136,7 +139,8 @@ fn want_root(
     ensures size { length marks.new.items ≡ length marks.old.items }
     ensures marks { OnOk result (AreWantedMarks facts.now marks.new.items order.new.items) }
     ensures still { StillMarked marks.old.items marks.new.items }
-    ensures has { OnOk result (IsTrue (wanting.is_root facts.now row) → AreAllMarked marks.new.items (needs_of facts.now row)) }
+    ensures has { OnOk result (IsTrue (wanting.is_root facts.now row)
+        → AreAllMarked marks.new.items (needs_of facts.now row)) }
 {
     if !is_root(facts, row) {
         return Ok(());
@@ -239,8 +243,8 @@ fn follow(
     Ok(())
 }
 
-/// Goes on until what the rows of each listed class need is marked. A class is listed once, so there are no more turns than
-/// classes.
+/// Goes on until what the rows of each listed class need is marked. A class is listed once, so there are no more turns
+/// than classes.
 fn close(
     marks: &mut Vec<bool>,
     order: &mut Vec<u32>,

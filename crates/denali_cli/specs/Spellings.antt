@@ -73,7 +73,8 @@ abbrev pub solve_in : List Row → Option Command
 solve_in rows = option_map (λ o. Solve (settings_of o)) (options_in rows)
 
 abbrev pub gen_in : List Row → Option Command
-gen_in rows = option_map (λ size. Gen (unwrap_or size default_size)) (value_given size_value (first_of (codes "size") rows))
+gen_in rows =
+    option_map (λ size. Gen (unwrap_or size default_size)) (value_given size_value (first_of (codes "size") rows))
 
 -- the command of a subcommand with these matches
 abbrev pub command_in : Text × List Row → Option Command

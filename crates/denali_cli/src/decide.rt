@@ -17,9 +17,10 @@ use outside_io::{ReadAllFault, Source, read_all};
 use std::alloc::Global;
 use text_core::Fault;
 
-/// How many bytes a command that reads takes at most: a text of goals or of a program, and an answer.
+/// The most bytes of a text of goals or of a program.
 const LIMIT: u32 = 1048576;
 
+/// The most bytes of an answer that is to be checked.
 const ANSWER_LIMIT: u32 = 268435456;
 
 /// `fault LIMIT TooLong`, for an input of more bytes.

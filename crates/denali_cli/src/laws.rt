@@ -11,9 +11,9 @@ use answer_texts::one_answer;
 use goal_reader::{texts_have_one_first_fault, texts_have_one_reading};
 use run_texts::one_program;
 
-/// A reply is a fault exactly where the text passes the limit or has a fault, and reports exactly where it is within the
-/// limit and has a reading for the command. No other status is a reply's, and each of the three kinds of text has its one
-/// reply.
+/// Every reply is a fault or a report. It is a fault exactly where the text is longer than the limit or has a fault,
+/// and a report exactly where the text is within the limit and the command can read it. A text that is too long, a text
+/// with a fault and a text that can be read each have the one reply that is defined for them.
 pub fn replies_are_exact()
     ensures fault { (command : Asked) (text written : List ℕ) (status : Ending) → Reply command text written status
         → (status ≡ ReadFault)

@@ -7,6 +7,20 @@ ghost use Rattle.denali_cli.specs.PlainForms as plain;
 use denali_run::{Pick, Settings};
 use text_core::decimal;
 
+/// The greatest values of the options.
+pub(crate) const MOST_ROUNDS: u32 = 16;
+
+pub(crate) const MOST_NODES: u32 = 4096;
+
+pub(crate) const MOST_CYCLES: u32 = 24;
+
+pub(crate) const MOST_CONFLICTS: u32 = 1_000_000;
+
+pub(crate) const MOST_SIZE: u32 = 20;
+
+/// How many operators a generated goal has where no option says so.
+pub(crate) const DEFAULT_SIZE: u32 = 10;
+
 /// The options that words have set.
 #[derive(Clone, Copy, Debug, PartialEq, Eq)]
 pub(crate) struct Options {
@@ -64,13 +78,13 @@ fn with_option(options: Options, name: &str, value: &str) -> Option<Options>
 {
     let mut options = options;
     if name == "--rounds" {
-        options.rounds = Some(once(options.rounds, value_in(0, 16, value))?);
+        options.rounds = Some(once(options.rounds, value_in(0, MOST_ROUNDS, value))?);
     } else if name == "--nodes" {
-        options.nodes = Some(once(options.nodes, value_in(1, 4096, value))?);
+        options.nodes = Some(once(options.nodes, value_in(1, MOST_NODES, value))?);
     } else if name == "--cycles" {
-        options.cycles = Some(once(options.cycles, value_in(0, 24, value))?);
+        options.cycles = Some(once(options.cycles, value_in(0, MOST_CYCLES, value))?);
     } else if name == "--conflicts" {
-        options.conflicts = Some(once(options.conflicts, value_in(1, 1000000, value))?);
+        options.conflicts = Some(once(options.conflicts, value_in(1, MOST_CONFLICTS, value))?);
     } else if name == "--pick" {
         options.pick = Some(once(options.pick, pick_of(value))?);
     } else {
@@ -98,9 +112,6 @@ pub(crate) fn options_of(words: &[&str]) -> Option<Options>
     Some(options)
 }
 
-/// How many operators a generated goal has where no option says so.
-pub(crate) const DEFAULT_SIZE: u32 = 10;
-
 /// The size that the words of `gen` set.
 pub(crate) fn size_in(words: &[&str]) -> Option<u32>
     ensures value { result ≡ plain.size_in (map (λ word. word.now) words.now) }
@@ -108,7 +119,7 @@ pub(crate) fn size_in(words: &[&str]) -> Option<u32>
 {
     match words {
         [] => Some(DEFAULT_SIZE),
-        [name, value] if *name == "--size" => value_in(1, 20, value),
+        [name, value] if *name == "--size" => value_in(1, MOST_SIZE, value),
         _ => None,
     }
 }

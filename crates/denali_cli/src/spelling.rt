@@ -8,7 +8,10 @@ ghost use Rattle.denali_cli.specs.OptionValues as values;
 ghost use Rattle.denali_cli.specs.Spellings as spec;
 
 use crate::commands::Command;
-use crate::options::{DEFAULT_SIZE, Options, pick_of, settings_of, value_in};
+use crate::options::{
+    DEFAULT_SIZE, MOST_CONFLICTS, MOST_CYCLES, MOST_NODES, MOST_ROUNDS, MOST_SIZE, Options,
+    pick_of, settings_of, value_in,
+};
 use clap::error::ErrorKind;
 use clap::{Arg, ArgAction, ArgMatches, Command as Parser};
 use denali_run::Pick;
@@ -16,7 +19,7 @@ use items::NoMemory;
 use std::alloc::{AllocError, Global};
 
 /// The command with one more option, `--name VALUE`.
-fn with_option<'a>(
+fn with_argument<'a>(
     alloc: Global,
     command: Parser<'a>,
     name: &'a str,
@@ -33,11 +36,11 @@ fn solve_parser<'a>(alloc: Global) -> Result<Parser<'a>, NoMemory>
     ensures local { IfOk result (λ c. (fields_of c).has_globals ≡ false) }
 {
     let solve = Parser::new(alloc, "solve");
-    let solve = with_option(alloc, solve, "rounds")?;
-    let solve = with_option(alloc, solve, "nodes")?;
-    let solve = with_option(alloc, solve, "cycles")?;
-    let solve = with_option(alloc, solve, "conflicts")?;
-    with_option(alloc, solve, "pick")
+    let solve = with_argument(alloc, solve, "rounds")?;
+    let solve = with_argument(alloc, solve, "nodes")?;
+    let solve = with_argument(alloc, solve, "cycles")?;
+    let solve = with_argument(alloc, solve, "conflicts")?;
+    with_argument(alloc, solve, "pick")
 }
 
 /// `gen` with its option.
@@ -45,13 +48,14 @@ fn gen_parser<'a>(alloc: Global) -> Result<Parser<'a>, NoMemory>
     ensures app { IfOk result (λ c. app_of c ≡ spec.gen_app) }
     ensures local { IfOk result (λ c. (fields_of c).has_globals ≡ false) }
 {
-    with_option(alloc, Parser::new(alloc, "gen"), "size")
+    with_argument(alloc, Parser::new(alloc, "gen"), "size")
 }
 
 /// The program with the two commands on goals and answers, for words without its name.
 fn first_commands<'a>(alloc: Global) -> Result<Parser<'a>, NoMemory>
     ensures { IfOk result (λ c. app_of c
-        ≡ spec.with_commands (spec.of_words (new_app (codes "denali"))) (spec.solve_app ∷ new_app (codes "check") ∷ [])) }
+        ≡ spec.with_commands (spec.of_words (new_app (codes "denali")))
+        (spec.solve_app ∷ new_app (codes "check") ∷ [])) }
 {
     let solve = solve_parser(alloc)?;
     Parser::new(alloc, "denali")
@@ -100,10 +104,10 @@ fn options_in(matches: &ArgMatches<'_>) -> Option<Options>
     ensures value { result ≡ spec.options_in (rows_of (found_of matches.now)) }
     ensures within { IfSome result values.AreInRange }
 {
-    let rounds = number_given(matches, "rounds", 0, 16)?;
-    let nodes = number_given(matches, "nodes", 1, 4096)?;
-    let cycles = number_given(matches, "cycles", 0, 24)?;
-    let conflicts = number_given(matches, "conflicts", 1, 1000000)?;
+    let rounds = number_given(matches, "rounds", 0, MOST_ROUNDS)?;
+    let nodes = number_given(matches, "nodes", 1, MOST_NODES)?;
+    let cycles = number_given(matches, "cycles", 0, MOST_CYCLES)?;
+    let conflicts = number_given(matches, "conflicts", 1, MOST_CONFLICTS)?;
     let pick = pick_given(matches, "pick")?;
     Some(Options {
         rounds,
@@ -128,7 +132,7 @@ fn gen_in(matches: &ArgMatches<'_>) -> Option<Command>
     ensures value { result ≡ spec.gen_in (rows_of (found_of matches.now)) }
     ensures within { IfSome result HasValuesInRange }
 {
-    let size = number_given(matches, "size", 1, 20)?;
+    let size = number_given(matches, "size", 1, MOST_SIZE)?;
     Some(Command::Gen(size.unwrap_or(DEFAULT_SIZE)))
 }
 

@@ -25,15 +25,15 @@ pub fn run<S: Source, T: Sink>(
         (S.left source.old) (S.left source.new) (T.written sink.old) (T.written sink.new) result }
     ensures usage { result ≡ Status.Usage → asked_by words.now ≡ None }
 
-    // The headline: where the status reports, the command's report on the input was written. For `solve` the input reads
-    // as goals, and the report is the lines of their results. Where a goal is scheduled, the printed words leave its
-    // values where the answer says, in each world in which the axioms and its assumptions hold and from any registers
-    // and memory, within the printed cycles of the table's slots and latencies; the printed graph holds every equality
-    // that the printed rounds derive, and no schedule of it fits in fewer cycles, as the printed lines show for one cycle
-    // less. Where none is found, lines show that none fits in the most cycles that were asked for. For `check` the
-    // input reads as an answer, whoever wrote it, and the report is a line for each of its goals: `ok` only where what it
-    // claims of the printed graph is true. For `run` the input reads as a program, and the report is how it ends. For
-    // `gen` the report is the line of a right result of the goal that is made from the size.
+    // The headline: where the status reports, the command's report on the input was written. For `solve` the input
+    // reads as goals, and the report is the lines of their results. Where a goal is scheduled, the printed words leave
+    // its values where the answer says, in each world in which the axioms and its assumptions hold and from any
+    // registers and memory, within the printed cycles of the table's slots and latencies; the printed graph holds every
+    // equality that the printed rounds derive, and no schedule of it fits in fewer cycles, as the printed lines show
+    // for one cycle less. Where none is found, lines show that none fits in the most cycles that were asked for. For
+    // `check` the input reads as an answer, whoever wrote it, and the report is a line for each of its goals: `ok` only
+    // where what it claims of the printed graph is true. For `run` the input reads as a program, and the report is how
+    // it ends. For `gen` the report is the line of a right result of the goal that is made from the size.
     ensures right { (command : Asked) → asked_by words.now ≡ Some command → IsReported result → Works command
         (S.left source.old) (S.left source.new) (T.written sink.old) (T.written sink.new) result }
 

@@ -28,7 +28,7 @@ use Rattle.schedule_meaning.specs.Fits.{Fits}
 use Rattle.schedule_meaning.specs.declared.schedules.Launch.{Launch}
 use Rattle.denali_run.specs.MatchedGoals.{IsMatched}
 use Rattle.denali_run.specs.Right.{NoneFits, IsTooFew, nothing_less, one_less, IsLeast, IsScheduled, Right}
-use Rattle.denali_run.specs.Trials.{IsTrial, IsLargeBy, IsReached, IsReachedIn}
+use Rattle.denali_run.specs.Trials.{IsTrial, IsLargeBy, IsTrialsEnd, IsTrialsEndIn}
 use Rattle.denali_run.proofs.Computing.{computes}
 use Rattle.cycle_encoding.specs.declared.encodings.Encoding.TheVariants.{Narrow}
 use Rattle.denali_run.specs.declared.results.Answered.TheVariants.{Scheduled, Nowhere, SpentConflicts, SpentSize}
@@ -172,8 +172,8 @@ formulas_in e g table s is = λ k few. record { lists = listed_in g table k s; l
 
 -- where numbers of cycles ended by these clauses, they did so by those of the encoding
 pub reached_in : {E : Type 0} (e : Encoding) (g h : LaunchGraph) (table : Table) (scope : Scope) (s : Settings) → h ≡ g
-    → IsScope e h table scope → (r : Result Reached E) → IfOk r (IsReached (formula_in scope h table) g table s)
-    → IfOk r (IsReachedIn e g table s)
+    → IsScope e h table scope → (r : Result Reached E) → IfOk r (IsTrialsEnd (formula_in scope h table) g table s)
+    → IfOk r (IsTrialsEndIn e g table s)
 reached_in e g h table scope s same is (Ok r) holds = record {
   clauses_for = formula_in scope h table;
   formulas = subst (λ (x : LaunchGraph). AreFormulas e x table (formula_in scope h table)) same (formulas_in e h table scope is);

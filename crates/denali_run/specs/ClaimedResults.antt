@@ -54,6 +54,6 @@ answer_to e input results = record {
 abbrev pub answer_text : Encoding → InputTree → List Answered → List ℕ
 answer_text e input results = answer_bytes (answer_to e input results)
 
--- the first graph of each goal has no more rows than the format has for a goal
+-- the first graph of each goal has at most as many rows as the format allows for a goal
 abbrev pub StartsWithinFormat : InputTree → Type 0
 StartsWithinFormat input = All (λ (goal : GoalTree). most_rows_at_start goal ≤ 1000000) input.goals

@@ -1,5 +1,5 @@
--- The graph of a goal after its rounds of matching. From Denali (PLDI 2002), its matching phase; when rounds end is this
--- project's.
+-- The graph of a goal after its rounds of matching. From Denali (PLDI 2002), its matching phase; when rounds end is
+-- this project's.
 use Rattle.std.specs.Prelude.{ℕ, ◌≤◌, length, max}
 use Rattle.goal_meaning.specs.Views.{GoalTree, InputTree}
 use Rattle.graph_meaning.specs.WellFormed.{IsLaunchGraph}
@@ -20,12 +20,12 @@ pub record IsSettings (s : Settings) : Type 0 where
   pub cycles : s.cycles ≤ 24
   pub conflicts : (1 ≤ s.conflicts) × (s.conflicts ≤ 1000000)
 
--- two terms have one class in the graph exactly where so many rounds make them equal, and each class is that of a term
+-- two terms have one class in the graph exactly where j rounds make them equal, and each class is that of a term
 abbrev pub IsGrownFor : InputTree → GoalTree → LaunchGraph → ℕ → Type 0
 IsGrownFor input goal g j =
     IsGrown (rules_of input) (present_terms goal) (assumed_pairs goal) (graph_view input.ops g) j
 
--- so many rounds make these constants equal, which differ
+-- j rounds make these constants equal, which differ
 abbrev pub IsClashOf : InputTree → GoalTree → ℕ → ℕ → ℕ → Type 0
 IsClashOf input goal j a b = IsClash (rules_of input) (present_terms goal) (assumed_pairs goal) j a b
 

@@ -1,5 +1,6 @@
--- When what a goal is answered by is right. Source: this project, over Denali (PLDI 2002).
+-- When the result that answers a goal is right. Source: this project, over Denali (PLDI 2002).
 use Rattle.std.specs.Prelude.{◌≡◌, ℕ, ◌+◌, ◌<◌, ◌≤◌, ◌^◌, All, List, Option, None, Some, length}
+use Rattle.std.specs.List.{AllZip}
 use Rattle.word_ops.specs.Words.{IsWord}
 use Rattle.word_ops.specs.Worlds.{World, IsWorld}
 use Rattle.cnf_core.specs.Formula.{Formula}
@@ -33,7 +34,8 @@ pub record NoneFits (clauses_for : ℕ → Formula) (g : LaunchGraph) (table : T
   pub within : ¬ IsTooLarge (clauses_for k)
   pub none : (ls : List Launch) → Fits g table k ls → ⊥
 
--- at most so many lines refute the clauses for k cycles, one for each conflict, and no schedule fits in them
+-- the lines refute the clauses for k cycles, at most as many lines as conflicts were allowed, and no schedule fits in k
+-- cycles
 pub record IsTooFew (clauses_for : ℕ → Formula) (g : LaunchGraph) (table : Table) (conflicts k : ℕ) (lines : List Line)
     : Type 0 where
   pub few : length lines ≤ conflicts
@@ -53,7 +55,7 @@ pub record IsLeast (clauses_for : ℕ → Formula) (g : LaunchGraph) (table : Ta
   pub refuted : AreRefutedBelow clauses_for g table conflicts k refutation
   pub none_fits : (j : ℕ) → j < k → NoneFits clauses_for g table j
 
--- these are the clauses of the encoding for each number of cycles, and so much holds by them
+-- some clauses for each number of cycles are the clauses of the encoding, and what is asked holds of them
 pub record ByClauses (e : Encoding) (g : LaunchGraph) (table : Table) (Holds : (ℕ → Formula) → Type 0) : Type 0 where
   pub clauses_for : ℕ → Formula
   pub formulas : AreFormulas e g table clauses_for
@@ -108,3 +110,7 @@ Right e input goal s (NoWorld class a b) =
     × (class < 2 ^ 31)
     × IsWord a
     × IsWord b
+
+-- the results of an input's goals, in their order
+abbrev pub AreRightResults : Encoding → InputTree → Settings → List Answered → Type 0
+AreRightResults e input s results = AllZip (λ goal answered. Right e input goal s answered) input.goals results

@@ -1,11 +1,10 @@
 -- Which bytes and which status answer a text of goals. Source: this project.
 use Rattle.std.specs.Prelude.{◌≡◌, ℕ, ◌≤◌, ◌^◌, List, length, fold, nat_lt, if◌then◌else◌}
-use Rattle.std.specs.List.{AllZip}
 use Rattle.answer_texts.specs.ReadAnswers.{ReadsAnswer}
 use Rattle.goal_reader.specs.Grammar.{IsFirstTextFault, Reads}
 use Rattle.goal_meaning.specs.Views.{InputTree}
 use Rattle.denali_run.specs.ClaimedResults.{answer_to, answer_text}
-use Rattle.denali_run.specs.Right.{Right}
+use Rattle.denali_run.specs.Right.{AreRightResults}
 use Rattle.denali_run.specs.Statuses.{status_code}
 use Rattle.denali_run.specs.declared.results.Answered.{Answered}
 use Rattle.denali_run.specs.declared.results.Answered.TheVariants.{Scheduled, Nowhere, SpentConflicts, SpentSize, NoWorld}
@@ -32,14 +31,14 @@ greater one other = if nat_lt (status_code one) (status_code other) then other e
 abbrev pub greatest_status : List Answered → Status
 greatest_status results = fold (λ s r. greater s (status_of r)) status.Done results
 
--- The text reads as an input, each of its goals has a result that is right, the bytes are the lines of these results, and
--- the status is the one with the greatest code that they ask for. Of a text of at most 2^20 bytes, as many as the program
--- reads, the bytes are read as the answer that the results make.
+-- The text reads as an input, each of its goals has a result that is right, the bytes are the lines of these results,
+-- and the status is the one with the greatest code that they ask for. Of a text of at most 2^20 bytes, as many as the
+-- program reads, the bytes are read as the answer that the results make.
 pub record Answers (s : Settings) (text bytes : List ℕ) (status : Status) : Type 0 where
   pub input : InputTree
   pub reads : Reads text input
   pub results : List Answered
-  pub right : AllZip (λ goal answered. Right Narrow input goal s answered) input.goals results
+  pub right : AreRightResults Narrow input s results
   pub bytes_are : bytes ≡ answer_text Narrow input results
   pub read_back : length text ≤ 2 ^ 20 → ReadsAnswer bytes (answer_to Narrow input results)
   pub status_is : status ≡ greatest_status results

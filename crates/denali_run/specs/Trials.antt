@@ -1,5 +1,5 @@
--- What the clauses for a number of cycles come to, and what refusals are passed on.
--- Source: this project.
+-- What the clauses for a number of cycles come to, where trials of rising numbers end, and which refusals are passed
+-- on. Source: this project.
 use Rattle.std.specs.Prelude.{◌≡◌, ◌+◌, ◌≤◌, ℕ, Some}
 use Rattle.word_ops.specs.Words.{IsWord}
 use Rattle.cnf_core.specs.Formula.{Formula}
@@ -24,7 +24,7 @@ use Rattle.denali_run.specs.declared.searching.Trial.{Trial}
 use Rattle.denali_run.specs.declared.searching.Trial.TheVariants.{Fitting, Refuted, Spent, Large}
 use Rattle.denali_run.specs.declared.settings.Settings.{Settings}
 
--- by the clauses for each number of cycles
+-- what the clauses for k cycles come to, by the clauses for each number of cycles
 abbrev pub IsTrial : (ℕ → Formula) → LaunchGraph → Table → ℕ → ℕ → Trial → Type 0
 IsTrial clauses_for g table k conflicts (Fitting schedule) =
     (¬ IsTooLarge (clauses_for k)) × Fits g table k schedule.launches
@@ -35,20 +35,20 @@ IsTrial clauses_for g table k conflicts (Large vars clauses) =
     PassesLimit (clauses_for k) vars clauses × IsWord vars × IsWord clauses
 
 -- where numbers of cycles in rising order ended, by the clauses for each of them
-abbrev pub IsReached : (ℕ → Formula) → LaunchGraph → Table → Settings → Reached → Type 0
-IsReached clauses_for g table s (reached.Fitting k refutation schedule) =
+abbrev pub IsTrialsEnd : (ℕ → Formula) → LaunchGraph → Table → Settings → Reached → Type 0
+IsTrialsEnd clauses_for g table s (reached.Fitting k refutation schedule) =
     (k ≤ s.cycles)
     × (¬ IsTooLarge (clauses_for k))
     × Fits g table k schedule.launches
     × IsLeast clauses_for g table s.conflicts k refutation
-IsReached clauses_for g table s (reached.Missing k refutation) =
+IsTrialsEnd clauses_for g table s (reached.Missing k refutation) =
     (k ≡ s.cycles) × IsLeast clauses_for g table s.conflicts (k + 1) (Some refutation)
-IsReached clauses_for g table s (reached.Spent k refutation lemmas) =
+IsTrialsEnd clauses_for g table s (reached.Spent k refutation lemmas) =
     (k ≤ s.cycles)
     × (¬ IsTooLarge (clauses_for k))
     × IsSpent (clauses_for k) s.conflicts lemmas.lines
     × IsLeast clauses_for g table s.conflicts k refutation
-IsReached clauses_for g table s (reached.Large k refutation vars clauses) =
+IsTrialsEnd clauses_for g table s (reached.Large k refutation vars clauses) =
     (k ≤ s.cycles)
     × PassesLimit (clauses_for k) vars clauses
     × IsWord vars
@@ -56,15 +56,15 @@ IsReached clauses_for g table s (reached.Large k refutation vars clauses) =
     × IsLeast clauses_for g table s.conflicts k refutation
 
 -- the same by the clauses of an encoding
-abbrev pub IsReachedIn : Encoding → LaunchGraph → Table → Settings → Reached → Type 0
-IsReachedIn e g table s r = ByClauses e g table (λ clauses_for. IsReached clauses_for g table s r)
+abbrev pub IsTrialsEndIn : Encoding → LaunchGraph → Table → Settings → Reached → Type 0
+IsTrialsEndIn e g table s r = ByClauses e g table (λ clauses_for. IsTrialsEnd clauses_for g table s r)
 
--- these counts were what the fault told, and are words
+-- the counts are those that the fault has, and are words
 abbrev pub IsLargeBy : EncodeFault → Trial → Type 0
 IsLargeBy (encode.Size v c) (Large vars clauses) = (vars ≡ v) × (clauses ≡ c) × IsWord vars × IsWord clauses
 IsLargeBy _ _ = ⊥
 
--- class and constants are those that the refusal told, and the constants are words
+-- class and constants are those that the refusal has, and the constants are words
 abbrev pub IsNoWorldAtStart : StartFault → Answered → Type 0
 IsNoWorldAtStart (start.NoWorld class a b) (NoWorld c x y) = (c ≡ class) × (x ≡ a) × (y ≡ b) × IsWord x × IsWord y
 IsNoWorldAtStart _ _ = ⊥

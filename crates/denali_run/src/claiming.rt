@@ -1,6 +1,7 @@
 // The text of an answer, from the results of goals.
-ghost use Rattle.std.specs.Prelude.{◌≡◌, IfOk, length};
+ghost use Rattle.std.specs.Prelude.{◌≡◌, IfOk, length, option_copied};
 ghost use Rattle.goal_meaning.specs.Views.{input_view};
+ghost use Rattle.answer_texts.specs.Lent.{lent_claim, lent_claimed};
 ghost use Rattle.denali_run.specs.ClaimedResults as format;
 ghost use Rattle.denali_run.specs.TextAnswers as texts;
 ghost use Rattle.cycle_encoding.specs.declared.encodings.Encoding.TheVariants.{Narrow};
@@ -8,7 +9,7 @@ ghost use Rattle.cycle_encoding.specs.declared.encodings.Encoding.TheVariants.{N
 use crate::reports::Report;
 use crate::results::{Answered, Found, Large, Matched, Missing, Tried};
 use crate::statuses::greatest_status;
-use answer_texts::{Claim, Claimed, put_goal, put_head};
+use answer_texts::{ClaimRef, ClaimedRef, put_goal, put_head};
 use cnf_core::Lines;
 use goal_meaning::Input;
 use items::NoMemory;
@@ -22,12 +23,18 @@ const VERSION: u8 = 1;
 const NARROW: u8 = 2;
 
 /// A claim with the graph that it is about, and the lines that refute fewer cycles.
-fn claimed_on(name: Name, matched: Matched, claim: Claim, refute: Option<Lines>) -> Claimed
-    ensures { result ≡ format.claimed_on name matched claim refute }
+fn claimed_on<'a>(
+    name: &'a Name,
+    matched: &'a Matched,
+    claim: ClaimRef<'a>,
+    refute: Option<&'a Lines>,
+) -> ClaimedRef<'a>
+    ensures { lent_claimed result
+        ≡ format.claimed_on name.now matched.now (lent_claim claim.entry) (option_copied refute.entry) }
 {
-    Claimed {
+    ClaimedRef {
         name,
-        graph: Some(matched.graph),
+        graph: Some(&matched.graph),
         rounds: matched.rounds,
         stop: matched.stop,
         claim,
@@ -35,95 +42,94 @@ fn claimed_on(name: Name, matched: Matched, claim: Claim, refute: Option<Lines>)
     }
 }
 
-fn found_claim(name: Name, found: Found) -> Claimed
-    ensures { result ≡ format.claimed name (Answered.Scheduled found) }
+fn found_claim<'a>(name: &'a Name, found: &'a Found) -> ClaimedRef<'a>
+    ensures { lent_claimed result ≡ format.claimed name.now (Answered.Scheduled found.now) }
 {
-    let listing = found.listing;
-    let claim = Claim::Scheduled {
+    let claim = ClaimRef::Scheduled {
         k: found.k,
-        schedule: found.schedule,
-        words: found.words,
-        places: listing.wheres,
+        schedule: &found.schedule,
+        words: &found.words,
+        places: &found.listing.wheres,
     };
-    claimed_on(name, found.matched, claim, found.refutation)
+    claimed_on(name, &found.matched, claim, found.refutation.as_ref())
 }
 
-fn missing_claim(name: Name, missing: Missing) -> Claimed
-    ensures { result ≡ format.claimed name (Answered.Nowhere missing) }
+fn missing_claim<'a>(name: &'a Name, missing: &'a Missing) -> ClaimedRef<'a>
+    ensures { lent_claimed result ≡ format.claimed name.now (Answered.Nowhere missing.now) }
 {
-    let claim = Claim::Missing { k: missing.k };
-    claimed_on(name, missing.matched, claim, Some(missing.refutation))
+    let claim = ClaimRef::Missing { k: missing.k };
+    claimed_on(name, &missing.matched, claim, Some(&missing.refutation))
 }
 
-fn tried_claim(name: Name, tried: Tried) -> Claimed
-    ensures { result ≡ format.claimed name (Answered.SpentConflicts tried) }
+fn tried_claim<'a>(name: &'a Name, tried: &'a Tried) -> ClaimedRef<'a>
+    ensures { lent_claimed result ≡ format.claimed name.now (Answered.SpentConflicts tried.now) }
 {
-    let claim = Claim::SpentConflicts {
+    let claim = ClaimRef::SpentConflicts {
         k: tried.k,
-        lemmas: tried.lemmas,
+        lemmas: &tried.lemmas,
     };
-    claimed_on(name, tried.matched, claim, tried.refutation)
+    claimed_on(name, &tried.matched, claim, tried.refutation.as_ref())
 }
 
-fn large_claim(name: Name, large: Large) -> Claimed
-    ensures { result ≡ format.claimed name (Answered.SpentSize large) }
+fn large_claim<'a>(name: &'a Name, large: &'a Large) -> ClaimedRef<'a>
+    ensures { lent_claimed result ≡ format.claimed name.now (Answered.SpentSize large.now) }
 {
-    let claim = Claim::SpentSize {
+    let claim = ClaimRef::SpentSize {
         k: large.k,
         vars: large.vars,
         clauses: large.clauses,
     };
-    claimed_on(name, large.matched, claim, large.refutation)
+    claimed_on(name, &large.matched, claim, large.refutation.as_ref())
 }
 
 /// What is claimed of the goal of this name with this result.
-fn claimed(name: Name, answered: Answered) -> Claimed
-    ensures { result ≡ format.claimed name answered }
+fn claimed<'a>(name: &'a Name, answered: &'a Answered) -> ClaimedRef<'a>
+    ensures { lent_claimed result ≡ format.claimed name.now answered.now }
 {
     match answered {
         Answered::Scheduled(found) => found_claim(name, found),
         Answered::Nowhere(missing) => missing_claim(name, missing),
         Answered::SpentConflicts(tried) => tried_claim(name, tried),
         Answered::SpentSize(large) => large_claim(name, large),
-        Answered::NoWorld { class, a, b } => Claimed {
+        Answered::NoWorld { class, a, b } => ClaimedRef {
             name,
             graph: None,
             rounds: 0,
             stop: Stop::Quiet,
-            claim: Claim::NoWorld { class, a, b },
+            claim: ClaimRef::NoWorld {
+                class: *class,
+                a: *a,
+                b: *b,
+            },
             refute: None,
         },
     }
 }
 
 /// The bytes of the answer to an input with these results.
-fn print(alloc: Global, input: &Input, results: Vec<Answered>) -> Result<Vec<u8>, NoMemory>
-    requires { length results.items ≡ length input.now.goals }
-    ensures { IfOk result (λ text. text.items ≡ format.answer_text Narrow (input_view input.now) results.items) }
+fn print(alloc: Global, input: &Input, results: &[Answered]) -> Result<Vec<u8>, NoMemory>
+    requires { length results.now ≡ length input.now.goals }
+    ensures { IfOk result (λ text. text.items ≡ format.answer_text Narrow (input_view input.now) results.now) }
 {
     let mut text = Vec::new(alloc);
     put_head(&mut text, VERSION, NARROW, &input.table, input.builtin)?;
     let goals = input.goals.as_slice();
-    let mut at = 0;
-    for answered in results {
-        let goal = claimed(goals[at].name.copy()?, answered);
+    for (at, answered) in results.iter().enumerate() {
+        let goal = claimed(&goals[at].name, answered);
         put_goal(alloc, &mut text, &input.table, &goal)?;
-        at += 1;
     }
     Ok(text)
 }
 
-/// The answer to an input, of which each goal has a result, and the status that the results ask for. It takes the results,
-/// since what is claimed of a goal is made of its result.
-pub fn answer_text(alloc: Global, input: &Input, results: Vec<Answered>) -> Result<Report, NoMemory>
-    requires { length results.items ≡ length input.now.goals }
+/// The answer to an input, of which each goal has a result, and the status that the results ask for.
+pub fn answer_text(alloc: Global, input: &Input, results: &[Answered]) -> Result<Report, NoMemory>
+    requires { length results.now ≡ length input.now.goals }
     ensures bytes { IfOk result (λ report. report.bytes.items
-        ≡ format.answer_text Narrow (input_view input.now) results.items) }
-    ensures status { IfOk result (λ report. report.status ≡ texts.greatest_status results.items) }
+        ≡ format.answer_text Narrow (input_view input.now) results.now) }
+    ensures status { IfOk result (λ report. report.status ≡ texts.greatest_status results.now) }
 {
-    let status = greatest_status(&results);
     Ok(Report {
         bytes: print(alloc, input, results)?,
-        status,
+        status: greatest_status(results),
     })
 }

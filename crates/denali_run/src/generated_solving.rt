@@ -12,13 +12,13 @@ use crate::results::{Answered, Found};
 use crate::settings::{Pick, Settings};
 use crate::statuses::Status;
 use crate::text_solving::solve_input;
-use answer_texts::{put, put_number, put_word};
 use generated_goals::{
     generated, generated_goals_can_be_scheduled, generated_goals_have_a_world,
     generated_inputs_are_well_formed,
 };
 use items::NoMemory;
 use std::alloc::Global;
+use text_core::{put, put_number, put_word};
 
 /// What the work on each generated goal may take.
 fn generated_settings() -> Settings
@@ -100,7 +100,7 @@ fn report_generated(alloc: Global, size: u32, answered: &Answered) -> Result<Rep
     }
 }
 
-/// Makes the goal of a number from 1 to 20, solves it, and tells of its result in one line.
+/// Makes the goal with `size` operators, 1 to 20, solves it, and reports the result in one line.
 pub fn gen_text(alloc: Global, size: u32) -> Result<Report, NoMemory>
     requires size { (1 ≤ size) × (size ≤ 20) }
     ensures answered { IfOk result (λ report. AnswersGenerated size report.bytes.items report.status) }

@@ -2,6 +2,7 @@
 ghost use Rattle.std.specs.Prelude.{◌≡◌, ◌<◌, length, IfOk, Some, slice_get};
 ghost use Rattle.goal_meaning.specs.Views.{GoalTree, InputTree, input_view};
 ghost use Rattle.goal_meaning.specs.WellFormed.{IsInput};
+ghost use Rattle.saturation.specs.GoalTerms.{rules_of};
 ghost use Rattle.denali_run.specs.MatchedGoals.{IsSettings};
 ghost use Rattle.denali_run.specs.Right.{Right};
 ghost use Rattle.denali_run.specs.Trials.{IsNoWorldAtStart, IsNoWorldInRounds};
@@ -14,12 +15,12 @@ use goal_meaning::Input;
 use items::NoMemory;
 use pick_rule::{Picker, Rule};
 use saturation::{
-    SaturateFault, StartFault, axioms_make_rules_true, grown_graphs_are_one,
+    Rules, SaturateFault, StartFault, axioms_make_rules_true, grown_graphs_are_one,
     grown_graphs_can_be_launched, launched_graphs_stand, rules, saturate, start, to_launch,
 };
 use std::alloc::{AllocError, Global};
 
-/// Two constants in one class at the start are no want of memory.
+/// Two constants in one class at the start are a result of the goal, unlike running out of memory.
 fn no_world_at_start(fault: StartFault) -> Result<Answered, NoMemory>
     ensures { IfOk result (IsNoWorldAtStart fault) }
 {
@@ -29,7 +30,7 @@ fn no_world_at_start(fault: StartFault) -> Result<Answered, NoMemory>
     }
 }
 
-/// Two constants in one class after some rounds are no want of memory.
+/// Two constants in one class after some rounds are a result of the goal, unlike running out of memory.
 fn no_world_in_rounds(fault: SaturateFault) -> Result<Answered, NoMemory>
     ensures { IfOk result (IsNoWorldInRounds fault) }
 {
@@ -53,17 +54,36 @@ pub fn solve_goal<F: Rule>(
     ensures right { IfOk result (λ answered. (goal : GoalTree) → slice_get (input_view input.now).goals at ≡ Some goal
         → Right Narrow (input_view input.now) goal settings.now answered) }
 {
+    let rules = rules(alloc, input)?;
+    solve_by_rules(alloc, input, &rules, at, settings, picker)
+}
+
+/// Answers one goal by the rules of its input, which serve for all goals.
+pub(crate) fn solve_by_rules<F: Rule>(
+    alloc: Global,
+    input: &Input,
+    rules: &Rules,
+    at: u32,
+    settings: &Settings,
+    picker: &Picker<F>,
+) -> Result<Answered, NoMemory>
+    requires input { IsInput (input_view input.now) }
+    requires rules { rules.now.program ≡ rules_of (input_view input.now) }
+    requires at { at < length input.now.goals }
+    requires settings { IsSettings settings.now }
+    ensures right { IfOk result (λ answered. (goal : GoalTree) → slice_get (input_view input.now).goals at ≡ Some goal
+        → Right Narrow (input_view input.now) goal settings.now answered) }
+{
     grown_graphs_are_one();
     axioms_make_rules_true();
     launched_graphs_stand();
     grown_graphs_can_be_launched();
     let goal = &input.goals.as_slice()[at as usize];
-    let program = rules(alloc, input)?;
     let first = match start(alloc, goal) {
         Ok(graph) => graph,
         Err(fault) => return no_world_at_start(fault),
     };
-    let saturated = match saturate(alloc, first, &program, settings.rounds, settings.nodes) {
+    let saturated = match saturate(alloc, first, rules, settings.rounds, settings.nodes) {
         Ok(saturated) => saturated,
         Err(fault) => return no_world_in_rounds(fault),
     };

@@ -1,12 +1,11 @@
-// What an answer's text says of its results. The calls do nothing: their clauses hold of all results.
+// What the text of an answer says of its results. The calls do nothing: their clauses hold of all results.
 ghost use Rattle.std.specs.Prelude.{◌≡◌, List};
-ghost use Rattle.std.specs.List.{AllZip};
 ghost use Rattle.goal_meaning.specs.Views.{InputTree};
 ghost use Rattle.goal_meaning.specs.WellFormed.{IsInput};
 ghost use Rattle.answer_texts.specs.ReadAnswers.{ReadsAnswer};
 ghost use Rattle.denali_run.specs.ClaimedResults.{StartsWithinFormat, answer_to, answer_text};
 ghost use Rattle.denali_run.specs.MatchedGoals.{IsSettings};
-ghost use Rattle.denali_run.specs.Right.{Right};
+ghost use Rattle.denali_run.specs.Right.{AreRightResults};
 ghost use Rattle.denali_run.specs.declared.results.Answered.{Answered as AnsweredOf};
 ghost use Rattle.cycle_encoding.specs.declared.encodings.Encoding.{Encoding as EncodingOf};
 ghost use Rattle.cycle_encoding.specs.declared.encodings.Encoding.TheVariants.{Narrow};
@@ -19,13 +18,13 @@ use machine_table::tables_keep_limits;
 use refutation_check::printed_lines_are_read_back;
 use text_core::{one_splitting, printed_lines_are_lines};
 
-/// Two lists of right results of one input that have one text are one. So a reader of the bytes knows of which results
-/// the answer speaks.
+/// Two lists of right results of one input that print the same text are equal. So a reader of the bytes knows which
+/// results the answer speaks of.
 pub fn one_text_has_one_answer()
     ensures { (e : EncodingOf) (s : SettingsOf) (input : InputTree) (results others : List AnsweredOf)
         → IsInput input → IsSettings s
-        → AllZip (λ goal answered. Right e input goal s answered) input.goals results
-        → AllZip (λ goal answered. Right e input goal s answered) input.goals others
+        → AreRightResults e input s results
+        → AreRightResults e input s others
         → answer_text e input results ≡ answer_text e input others → results ≡ others }
 {
     words_and_instructions();
@@ -39,12 +38,12 @@ pub fn one_text_has_one_answer()
     word_lines_can_be_lines();
 }
 
-/// The answer that right results of an input make is what its bytes are read as, where the first graph of each goal has no
-/// more rows than the format has for a goal.
+/// The text of right results of an input is read back as the answer that they make, if the first graph of each goal has
+/// no more rows than the format allows for a goal.
 pub fn right_answers_are_read()
     ensures { (s : SettingsOf) (input : InputTree) (results : List AnsweredOf)
         → IsInput input → IsSettings s → StartsWithinFormat input
-        → AllZip (λ goal answered. Right Narrow input goal s answered) input.goals results
+        → AreRightResults Narrow input s results
         → ReadsAnswer (answer_text Narrow input results) (answer_to Narrow input results) }
 {
     printed_answers_are_read();

@@ -1,6 +1,6 @@
-//! The work of each command: `solve`, from the bytes of a text of goals to those of their answers; `check`, from those of
-//! an answer to a line for each of its goals; `run`, from those of a program's text to those of its report; and `gen`, from
-//! a number to the line of the goal that is made from it.
+//! The work of each command: `solve`, from the bytes of a text of goals to those of their answers; `check`, from those
+//! of an answer to a line for each of its goals; `run`, from those of a program's text to those of its report; and
+//! `gen`, from a number to the line of the goal that is made from it.
 #![tactic(auto)]
 
 mod claiming;

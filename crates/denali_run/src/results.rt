@@ -14,7 +14,8 @@ pub struct Matched {
     pub stop: Stop,
 }
 
-/// A schedule in `k` cycles with its listing and words, and lines that refute the clauses for `k` - 1, where `k` isn't 0.
+/// A schedule in `k` cycles with its listing and words, and lines that refute the clauses for `k` - 1, where `k` isn't
+/// 0.
 #[derive(Drop)]
 pub struct Found {
     pub matched: Matched,
@@ -33,8 +34,8 @@ pub struct Missing {
     pub refutation: Lines,
 }
 
-/// The lemmas for `k` cycles that spent the solver's budget, and lines that refute the clauses for `k` - 1, where `k`
-/// isn't 0.
+/// The lemmas that the solver found for `k` cycles until its budget was spent, and lines that refute the clauses for
+/// `k` - 1, where `k` isn't 0.
 #[derive(Drop)]
 pub struct Tried {
     pub matched: Matched,
@@ -43,8 +44,8 @@ pub struct Tried {
     pub lemmas: Lines,
 }
 
-/// The counts of the clauses for `k` cycles, of which one passes its limit, and lines that refute those for `k` - 1,
-/// where `k` isn't 0.
+/// The counts of the variables and clauses for `k` cycles, one of which passes its limit, and lines that refute the
+/// clauses for `k` - 1, where `k` isn't 0.
 #[derive(Drop)]
 pub struct Large {
     pub matched: Matched,

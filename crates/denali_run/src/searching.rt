@@ -7,7 +7,7 @@ ghost use Rattle.machine_table.specs.Tables.{IsTable};
 ghost use Rattle.order_encoding.specs.WholeFormula.{formula_in};
 ghost use Rattle.denali_run.specs.MatchedGoals.{IsMatched, IsSettings};
 ghost use Rattle.denali_run.specs.Right.{Right};
-ghost use Rattle.denali_run.specs.Trials.{IsLargeBy, IsReached, IsReachedIn, IsTrial};
+ghost use Rattle.denali_run.specs.Trials.{IsLargeBy, IsTrialsEnd, IsTrialsEndIn, IsTrial};
 ghost use Rattle.cycle_encoding.specs.declared.encodings.Encoding.TheVariants.{Narrow};
 
 use crate::results::{Answered, Found, Large, Matched, Missing, Tried};
@@ -34,7 +34,7 @@ pub(crate) enum Trial {
     Large { vars: u64, clauses: u64 },
 }
 
-/// A formula that is too large is no want of memory.
+/// A formula that is too large is an outcome of the trial, unlike running out of memory.
 fn too_large(fault: EncodeFault) -> Result<Trial, NoMemory>
     ensures { IfOk result (IsLargeBy fault) }
 {
@@ -80,8 +80,8 @@ pub(crate) fn try_cycles<F: Rule>(
     }
 }
 
-/// Where numbers of cycles in rising order ended: at the first that is enough, at the last that was asked for, or where a
-/// budget was spent. The refutation is that of one cycle less, and in `Missing` of `k` itself.
+/// Where the trial of numbers of cycles in rising order ended: at the first that is enough, at the last that was asked
+/// for, or where a budget was spent. The refutation is that for one cycle less, but in `Missing` that for `k` itself.
 #[derive(Drop)]
 pub(crate) enum Reached {
     Fitting {
@@ -118,7 +118,7 @@ fn reach<F: Rule>(
     requires table { IsTable table.now }
     requires settings { IsSettings settings.now }
     requires graph { IsLaunchGraph graph.now }
-    ensures { IfOk result (IsReachedIn Narrow graph.now table.now settings.now) }
+    ensures { IfOk result (IsTrialsEndIn Narrow graph.now table.now settings.now) }
 {
     let facts = Facts::new(alloc, graph)?;
     let scope = Scope::of(alloc, Encoding::Narrow, &facts, table)?;
@@ -140,7 +140,7 @@ fn reach_in<F: Rule>(
     requires graph { IsLaunchGraph graph.now }
     requires facts { facts.now ≡ graph.now }
     requires scope { IsScope Narrow facts.now table.now scope.now }
-    ensures { IfOk result (IsReached (formula_in scope.now facts.now table.now) graph.now table.now settings.now) }
+    ensures { IfOk result (IsTrialsEnd (formula_in scope.now facts.now table.now) graph.now table.now settings.now) }
 {
     let mut k = 0;
     let mut refutation = None;

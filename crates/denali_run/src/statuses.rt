@@ -54,7 +54,7 @@ fn status_of(answered: &Answered) -> Status
     }
 }
 
-/// Of two statuses the one with the greater code.
+/// The one of two statuses that has the greater code.
 fn greater(one: Status, other: Status) -> Status
     ensures { result ≡ texts.greater one other }
 {

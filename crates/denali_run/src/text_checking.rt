@@ -9,8 +9,8 @@ use answer_texts::{read_answer, read_answers_are_well_formed};
 use std::alloc::Global;
 use text_core::TextFault;
 
-/// Tests what an answer claims of its goals, whoever wrote it. Nothing that it says is trusted: clauses are built from its
-/// graphs and its table alone. It holds one formula at a time beside what was read.
+/// Tests what an answer claims of its goals, whoever wrote it. Nothing that it says is trusted: clauses are built from
+/// its graphs and its table alone. One formula at a time is held in memory, beside what was read.
 pub fn check_text(alloc: Global, text: &[u8]) -> Result<Report, TextError>
     requires few { length text.now < 2 ^ 29 }
     ensures checked { IfOk result (λ report. ChecksText text.now report.bytes.items report.status) }

@@ -8,8 +8,8 @@ use run_texts::{read, report};
 use std::alloc::Global;
 use text_core::TextFault;
 
-/// Runs the program of a text, from its first word, with the words that the text gives registers and places, and reports
-/// the end, and which registers and places don't hold 0 then.
+/// Runs the program of a text from its first word, with the words that the text puts into registers and memory, and
+/// reports how it ends, and which registers and places of memory then don't hold 0.
 pub fn run_text(alloc: Global, text: &[u8]) -> Result<Report, TextError>
     requires few { length text.now < 2 ^ 29 }
     ensures ran { IfOk result (λ report. RunsText text.now report.bytes.items report.status) }

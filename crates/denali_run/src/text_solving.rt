@@ -1,17 +1,16 @@
 // The work of `solve`, from the bytes of a text of goals to those of its answer.
 ghost use Rattle.std.specs.Prelude.{◌≡◌, ◌+◌, ◌<◌, ◌^◌, IfOk, IfErr, length};
-ghost use Rattle.std.specs.List.{AllZip};
 ghost use Rattle.pick_rule.specs.Busiest.{IsBusiest};
 ghost use Rattle.goal_meaning.specs.Views.{input_view};
 ghost use Rattle.goal_meaning.specs.WellFormed.{IsInput};
 ghost use Rattle.denali_run.specs.MatchedGoals.{IsSettings};
-ghost use Rattle.denali_run.specs.Right.{Right};
+ghost use Rattle.denali_run.specs.Right.{AreRightResults};
 ghost use Rattle.denali_run.specs.TextAnswers as texts;
 ghost use Rattle.denali_run.specs.TextAnswers.{Answers, TextErrorIs};
 ghost use Rattle.cycle_encoding.specs.declared.encodings.Encoding.TheVariants.{Narrow};
 
 use crate::claiming::answer_text;
-use crate::goal_solving::solve_goal;
+use crate::goal_solving::solve_by_rules;
 use crate::laws::right_answers_are_read;
 use crate::reports::{Report, TextError};
 use crate::results::Answered;
@@ -19,6 +18,7 @@ use crate::settings::{Pick, Settings};
 use goal_reader::{Input, read, read_inputs_are_well_formed, read_inputs_have_few_operators};
 use items::NoMemory;
 use pick_rule::{Picker, Rule, busiest_place, first_place, last_place};
+use saturation::rules;
 use std::alloc::Global;
 use text_core::TextFault;
 
@@ -31,13 +31,13 @@ fn solve_goals<F: Rule>(
 ) -> Result<Vec<Answered>, NoMemory>
     requires input { IsInput (input_view input.now) }
     requires settings { IsSettings settings.now }
-    ensures right { IfOk result (λ results. AllZip (λ goal answered. Right Narrow
-        (input_view input.now) goal settings.now
-        answered) (input_view input.now).goals results.items) }
+    ensures right { IfOk result (λ results. AreRightResults Narrow (input_view input.now)
+        settings.now results.items) }
 {
+    let rules = rules(alloc, input)?;
     let mut results = Vec::new(alloc);
     for at in 0..input.goals.len() {
-        results.push(solve_goal(alloc, input, at as u32, settings, picker)?)?;
+        results.push(solve_by_rules(alloc, input, &rules, at as u32, settings, picker)?)?;
     }
     Ok(results)
 }
@@ -52,9 +52,8 @@ fn solve_by<F: Rule + Drop>(
     requires input { IsInput (input_view input.now) }
     requires settings { IsSettings settings.now }
     requires rule { F.answers_places rule }
-    ensures right { IfOk result (λ results. AllZip (λ goal answered. Right Narrow
-        (input_view input.now) goal settings.now
-        answered) (input_view input.now).goals results.items) }
+    ensures right { IfOk result (λ results. AreRightResults Narrow (input_view input.now)
+        settings.now results.items) }
 {
     let picker = Picker::new(rule);
     solve_goals(alloc, input, settings, &picker)
@@ -63,9 +62,8 @@ fn solve_by<F: Rule + Drop>(
 fn solve_first(alloc: Global, input: &Input, settings: &Settings) -> Result<Vec<Answered>, NoMemory>
     requires input { IsInput (input_view input.now) }
     requires settings { IsSettings settings.now }
-    ensures right { IfOk result (λ results. AllZip (λ goal answered. Right Narrow
-        (input_view input.now) goal settings.now
-        answered) (input_view input.now).goals results.items) }
+    ensures right { IfOk result (λ results. AreRightResults Narrow (input_view input.now)
+        settings.now results.items) }
 {
     solve_by(
         alloc,
@@ -80,9 +78,8 @@ fn solve_first(alloc: Global, input: &Input, settings: &Settings) -> Result<Vec<
 fn solve_last(alloc: Global, input: &Input, settings: &Settings) -> Result<Vec<Answered>, NoMemory>
     requires input { IsInput (input_view input.now) }
     requires settings { IsSettings settings.now }
-    ensures right { IfOk result (λ results. AllZip (λ goal answered. Right Narrow
-        (input_view input.now) goal settings.now
-        answered) (input_view input.now).goals results.items) }
+    ensures right { IfOk result (λ results. AreRightResults Narrow (input_view input.now)
+        settings.now results.items) }
 {
     solve_by(
         alloc,
@@ -102,9 +99,8 @@ fn solve_busiest(
 ) -> Result<Vec<Answered>, NoMemory>
     requires input { IsInput (input_view input.now) }
     requires settings { IsSettings settings.now }
-    ensures right { IfOk result (λ results. AllZip (λ goal answered. Right Narrow
-        (input_view input.now) goal settings.now
-        answered) (input_view input.now).goals results.items) }
+    ensures right { IfOk result (λ results. AreRightResults Narrow (input_view input.now)
+        settings.now results.items) }
 {
     solve_by(
         alloc,
@@ -125,9 +121,8 @@ pub(crate) fn solve_input(
 ) -> Result<Vec<Answered>, NoMemory>
     requires input { IsInput (input_view input.now) }
     requires settings { IsSettings settings.now }
-    ensures right { IfOk result (λ results. AllZip (λ goal answered. Right Narrow
-        (input_view input.now) goal settings.now
-        answered) (input_view input.now).goals results.items) }
+    ensures right { IfOk result (λ results. AreRightResults Narrow (input_view input.now)
+        settings.now results.items) }
 {
     match settings.pick {
         Pick::First => solve_first(alloc, input, settings),
@@ -152,5 +147,5 @@ pub fn solve_text(alloc: Global, text: &[u8], settings: &Settings) -> Result<Rep
         Err(TextFault::Memory) => return Err(TextError::Memory),
     };
     let results = solve_input(alloc, &input, settings)?;
-    Ok(answer_text(alloc, &input, results)?)
+    Ok(answer_text(alloc, &input, &results)?)
 }

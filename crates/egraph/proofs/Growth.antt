@@ -7,8 +7,8 @@ use Rattle.slab.specs.Slab.{Slab, get}
 use Rattle.word_terms.specs.Signature.{Signature}
 use Rattle.egraph.specs.declared.rows.Row.{Row}
 use Rattle.egraph.specs.declared.row_index.RowKey.{RowKey}
-use Rattle.egraph.specs.Keys.{key_of, place_in, listed_at, constant_at}
-use Rattle.egraph.specs.Tables.{Grows, IsListed, IsIndexed, RowsAreMade, ConstantRow}
+use Rattle.egraph.specs.Keys.{key_of_row, indexed_place, listed_at, constant_at}
+use Rattle.egraph.specs.Tables.{Grows, FitLists, IsIndexed, RowsAreMade, ConstantRow}
 use Rattle.egraph.proofs.Places.{same_key_agrees}
 
 pub grows_same : (old new : List (List ℕ)) → ((class : ℕ) → listed_at new class ≡ listed_at old class) → Grows old new
@@ -37,9 +37,9 @@ noted_more old new operands i place l grows added noted class h =
 module _ {O : Type 0} (s : Signature O) where
   -- where no row changes, the tables may grow
   pub grown_listed : (rows rows' : Slab (Row O)) (own own' uses uses' members members' : List (List ℕ)) (constants constants' : List (Option ℕ)) (current current' : List ℕ) →
-      IsListed s rows own uses members constants current → ((place : ℕ) → get rows' place ≡ get rows place) →
+      FitLists s rows own uses members constants current → ((place : ℕ) → get rows' place ≡ get rows place) →
       Grows own own' → Grows uses uses' → Grows members members' → ((class : ℕ) → constant_at constants' class ≡ constant_at constants class) → current' ≡ current →
-      IsListed s rows' own' uses' members' constants' current'
+      FitLists s rows' own' uses' members' constants' current'
   grown_listed rows rows' own own' uses uses' members members' constants constants' current current' is same own_grows uses_grow members_grow constant ec =
       let was = λ (place : ℕ) (r : Row O) (e : get rows' place ≡ Some r). sym (same place) ∙ e in
       record {
@@ -61,7 +61,7 @@ module _ {O : Type 0} (s : Signature O) where
     ]
 
     pub added_listed : (own own' uses uses' members members' : List (List ℕ)) (constants constants' : List (Option ℕ)) (current current' : List ℕ) →
-        IsListed s rows own uses members constants current →
+        FitLists s rows own uses members constants current →
         length row.operands ≡ s.arity row.op → row.class ≡ length current → RowsAreMade rows (length current) →
         Grows own own' → Grows uses uses' → Grows members members' → get rows place ≡ None →
         Contains (listed_at own' row.class) place → ((used : ℕ) → Contains row.operands used → Contains (listed_at uses' used) place) → Contains (listed_at members' row.class) row.class →
@@ -69,7 +69,7 @@ module _ {O : Type 0} (s : Signature O) where
         ((x : ℕ) → constant_at constants' row.class ≡ Some x → (s.constant row.op ≡ Some x) ⊎ (constant_at constants row.class ≡ Some x)) →
         ((other : ℕ) → other ≢ row.class → constant_at constants' other ≡ constant_at constants other) →
         current' ≡ current ++ row.class ∷ [] →
-        IsListed s rows' own' uses' members' constants' current'
+        FitLists s rows' own' uses' members' constants' current'
     added_listed own own' uses uses' members members' constants constants' current current' is arity class_is made own_grows uses_grow members_grow vacant in_own in_uses in_members constant no_other other_constants ec =
         let still : (at : ℕ) (r : Row O) → get rows at ≡ Some r → get rows' at ≡ Some r =
         λ at r e. elim (cases_eq at place) [
@@ -118,12 +118,12 @@ module _ {O : Type 0} (s : Signature O) where
         (index index' : List (RowKey × ℕ)) → IsIndexed s rows index → length row.operands ≡ s.arity row.op →
         ((at : ℕ) (r : Row O) → get rows at ≡ Some r → length r.operands ≡ s.arity r.op) →
         ((at : ℕ) (r : Row O) → get rows at ≡ Some r → r.op ≡ row.op → r.operands ≢ row.operands) →
-        place_in index' (key_of s row.op row.operands) ≡ Some place →
-        ((key : RowKey) → key ≢ key_of s row.op row.operands → place_in index' key ≡ place_in index key) →
+        indexed_place index' (key_of_row s row.op row.operands) ≡ Some place →
+        ((key : RowKey) → key ≢ key_of_row s row.op row.operands → indexed_place index' key ≡ indexed_place index key) →
         IsIndexed s rows' index'
     added_indexed own four index index' is arity arities absent noted rest at r e = elim (new_or_old at r e) [
-      | inl n ↦ ap (λ (q : Row O). place_in index' (key_of s q.op q.operands)) n.1 ∙ noted ∙ ap Some (sym n.0)
-      | inr o ↦ rest (key_of s r.op r.operands) (λ same.
+      | inl n ↦ ap (λ (q : Row O). indexed_place index' (key_of_row s q.op q.operands)) n.1 ∙ noted ∙ ap Some (sym n.0)
+      | inr o ↦ rest (key_of_row s r.op r.operands) (λ same.
           let a = same_key_agrees s own four r.op row.op r.operands row.operands (arities at r o) arity same in
           absent at r o a.0 a.1) ∙ is at r o
     ]
@@ -134,10 +134,10 @@ module _ {O : Type 0} (s : Signature O) where
       ((at : ℕ) (r : Row O) → get rows at ≡ Some r → length r.operands ≡ s.arity r.op) →
       ((at : ℕ) (r : Row O) → get rows at ≡ Some r → r.op ≡ op → r.operands ≢ operands) →
       ((place : ℕ) → get rows' place ≡ get rows place) →
-      ((key : RowKey) → key ≢ key_of s op operands → place_in index' key ≡ place_in index key) →
+      ((key : RowKey) → key ≢ key_of_row s op operands → indexed_place index' key ≡ indexed_place index key) →
       IsIndexed s rows' index'
   kept_indexed own four rows rows' op operands index index' is arity arities absent same rest at r e =
       let o = sym (same at) ∙ e in
-      rest (key_of s r.op r.operands) (λ same_key.
+      rest (key_of_row s r.op r.operands) (λ same_key.
       let a = same_key_agrees s own four r.op op r.operands operands (arities at r o) arity same_key in
       absent at r o a.0 a.1) ∙ is at r o

@@ -10,8 +10,8 @@ use Rattle.egraph.specs.declared.rows.Row.{Row}
 use Rattle.egraph.specs.declared.row_index.RowKey.{RowKey}
 use Rattle.egraph.specs.Joined.{relabel}
 use Rattle.egraph.specs.Steps.{moved}
-use Rattle.egraph.specs.Keys.{key_of, place_in, listed_at, constant_at}
-use Rattle.egraph.specs.Tables.{reclass, reoperand, EachBecomes, ListsUsesOf, IsTracked, IsListed}
+use Rattle.egraph.specs.Keys.{key_of_row, indexed_place, listed_at, constant_at}
+use Rattle.egraph.specs.Tables.{reclass, reoperand, EachBecomes, ListsUsesOf, IsTracked, FitLists}
 use Rattle.egraph.proofs.Lists.{moved_cases, at_map, contains_map_back}
 use Rattle.egraph.proofs.Places.{IsOwn, IsUse}
 
@@ -60,7 +60,7 @@ module _ {O : Type 0} (s : Signature O) where
   pub reclass_tracked : (f : ℕ → ℕ) (old new : Slab (Row O)) (index : List (RowKey × ℕ)) (waiting : List ℕ) → EachBecomes (reclass f) old new → (place : ℕ) → IsTracked s old index waiting place → IsTracked s new index waiting place
   reclass_tracked f old new index waiting each place h r e =
       let t = become_back (reclass f) old new each place r e in
-      subst (λ (q : Row O). (place_in index (key_of s q.op q.operands) ≡ Some place) ⊎ Contains waiting place) (sym t.2) (h t.0 t.1)
+      subst (λ (q : Row O). (indexed_place index (key_of_row s q.op q.operands) ≡ Some place) ⊎ Contains waiting place) (sym t.2) (h t.0 t.1)
 
   pub reclass_uses : (f : ℕ → ℕ) (old new : Slab (Row O)) → EachBecomes (reclass f) old new → (class : ℕ) (places : List ℕ) → ListsUsesOf old class places → ListsUsesOf new class places
   reclass_uses f old new each class places h place r e c =
@@ -68,13 +68,13 @@ module _ {O : Type 0} (s : Signature O) where
       h place t.0 t.1 (subst (λ xs. Contains xs class) (ap (λ (q : Row O). q.operands) t.2) c)
 
   pub joined_listed : (from to : ℕ) (rows rows' : Slab (Row O)) (own own' uses uses' members members' : List (List ℕ)) (constants constants' : List (Option ℕ)) (current current' : List ℕ) →
-      IsListed s rows own uses members constants current →
+      FitLists s rows own uses members constants current →
       EachBecomes (relabel (moved from to)) rows rows' →
       MovesTo (IsOwn rows) from to own own' → MovesTo (IsUse rows) from to uses uses' → MovesTo Anything from to members members' →
       ((class x : ℕ) → constant_at constants class ≡ Some x → constant_at constants' (moved from to class) ≡ Some x) →
       ((class x : ℕ) → constant_at constants' class ≡ Some x → (before : ℕ) × (moved from to before ≡ class) × (constant_at constants before ≡ Some x)) →
       current' ≡ map (moved from to) current →
-      IsListed s rows' own' uses' members' constants' current'
+      FitLists s rows' own' uses' members' constants' current'
   joined_listed from to rows rows' own own' uses uses' members members' constants constants' current current' is each own_moves uses_move members_move forth back ec =
       let f = moved from to in
       let before = become_back (relabel f) rows rows' each in

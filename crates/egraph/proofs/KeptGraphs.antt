@@ -10,7 +10,7 @@ use Rattle.egraph.specs.declared.rows.Row.{Row}
 use Rattle.egraph.specs.declared.row_index.RowKey.{RowKey}
 use Rattle.egraph.specs.Graph.{Graph, IsGraph, HasRow, LacksRow, HasConstant, LacksConstant, HasOneConstantEach}
 use Rattle.egraph.specs.Keys.{constant_at}
-use Rattle.egraph.specs.Tables.{IsListed, IsIndexed, IsOrder, IsKept, RowsAreMade, ConstantRow, rows_in}
+use Rattle.egraph.specs.Tables.{FitLists, IsIndexed, IsOrder, FitTables, RowsAreMade, ConstantRow, rows_in}
 use Rattle.egraph.proofs.Merging.{row_made}
 use Rattle.egraph.proofs.Orders.{filter_map_has, filter_map_from, rows_same}
 
@@ -44,7 +44,7 @@ module _ {O : Type 0} (s : Signature O) where
   pub has_constant : (rows : Slab (Row O)) (order : List ℕ) → IsOrder rows order → (class x : ℕ) → ConstantRow s rows class x → HasConstant s (rows_in rows order) class x
   has_constant rows order is class x h = record { row = h.row; there = has_row rows order is h.row h.place h.there; of_class = h.of_class; is = h.is }
 
-  pub constant_answer : (rows : Slab (Row O)) (order : List ℕ) (own uses members : List (List ℕ)) (constants : List (Option ℕ)) (current : List ℕ) → IsListed s rows own uses members constants current → IsOrder rows order →
+  pub constant_answer : (rows : Slab (Row O)) (order : List ℕ) (own uses members : List (List ℕ)) (constants : List (Option ℕ)) (current : List ℕ) → FitLists s rows own uses members constants current → IsOrder rows order →
       (class : ℕ) (o : Option ℕ) → o ≡ constant_at constants class → MatchOption o (LacksConstant s (rows_in rows order) class) (HasConstant s (rows_in rows order) class)
   constant_answer rows order own uses members constants current is in_order class None e = lacks_constant rows order constants is.constant_of class (sym e)
   constant_answer rows order own uses members constants current is in_order class (Some x) e = has_constant rows order in_order class x (is.constant_there class x (sym e))
@@ -89,8 +89,8 @@ same_view rows rows' current current' order order' same ec eo =
     λ i. record { rows = e i; current = ec i }
 
 pub kept_as_before : {O : Type 0} (s : Signature O) (rows rows' : Slab (Row O)) (index index' : List (RowKey × ℕ)) (own own' uses uses' members members' : List (List ℕ)) (constants constants' : List (Option ℕ)) (current current' order order' : List ℕ) →
-    IsKept s rows index own uses members constants current order → ((place : ℕ) → get rows' place ≡ get rows place) → current' ≡ current → order' ≡ order →
-    IsListed s rows' own' uses' members' constants' current' → IsIndexed s rows' index' → IsKept s rows' index' own' uses' members' constants' current' order'
+    FitTables s rows index own uses members constants current order → ((place : ℕ) → get rows' place ≡ get rows place) → current' ≡ current → order' ≡ order →
+    FitLists s rows' own' uses' members' constants' current' → IsIndexed s rows' index' → FitTables s rows' index' own' uses' members' constants' current' order'
 kept_as_before s rows rows' index index' own own' uses uses' members members' constants constants' current current' order order' is same ec eo listed indexed =
     record {
       graph = subst (IsGraph s) (sym (same_view rows rows' current current' order order' same ec eo)) is.graph;
@@ -105,7 +105,7 @@ kept_as_before s rows rows' index index' own own' uses uses' members members' co
 
 -- no rows and no classes
 pub none_kept : {O : Type 0} (s : Signature O) (rows : Slab (Row O)) (index : List (RowKey × ℕ)) (own uses members : List (List ℕ)) (constants : List (Option ℕ)) (current order : List ℕ) →
-    rows.slots ≡ [] → constants ≡ [] → current ≡ [] → order ≡ [] → IsKept s rows index own uses members constants current order
+    rows.slots ≡ [] → constants ≡ [] → current ≡ [] → order ≡ [] → FitTables s rows index own uses members constants current order
 none_kept {O} s rows index own uses members constants current order er ek ec eo =
     let none : (place : ℕ) (r : Row O) → get rows place ≡ Some r → ⊥ = λ place r e. let f : None ≡ Some r = sym (ap (λ xs. get_or xs place None) er) ∙ e in cc in
     record {

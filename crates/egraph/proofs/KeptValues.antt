@@ -4,7 +4,7 @@ use Rattle.std.proofs.lemmas.List.Elements.{All-contains, All-push, All-map, Con
 use Rattle.std.proofs.lemmas.Bool.Decides.{eqb_tells}
 use Rattle.word_terms.specs.Signature.{Signature}
 use Rattle.egraph.specs.Graph.{Graph, HasClass, IsGraph, AreMade, IsInserted, read_through, with_row}
-use Rattle.egraph.specs.Joined.{Joined, kept, pair, back, through, congruent, IsMerged}
+use Rattle.egraph.specs.Joined.{Joined, kept, pair, symmetric, transitive, congruent, IsMerged}
 use Rattle.egraph.specs.Values.{AllTrue, KeepsValues, ExtendsValues, JoinedHaveOneValue}
 use Rattle.egraph.proofs.Lists.{map_agree, map-map, map_at_each}
 use Rattle.egraph.proofs.Merging.{at, row_present, has_made, has_present, operands_have, current_has}
@@ -14,8 +14,8 @@ module _ {O V : Type 0} (s : Signature O) (old : Graph O) (is : IsGraph s old) (
   one_value : {x y : ℕ} → Joined old a b x y → value (at old x) ≡ value (at old y)
   one_value (kept x y lx ly e) = ap value e
   one_value pair = one
-  one_value (back j) = sym (one_value j)
-  one_value (through j k) = one_value j ∙ one_value k
+  one_value (symmetric j) = sym (one_value j)
+  one_value (transitive j k) = one_value j ∙ one_value k
   one_value (congruent r t h k op l each) =
       let at_r : map value r.operands ≡ map (λ x. value (at old x)) r.operands = map_agree value (λ x. value (at old x)) r.operands (λ n d b. ap value (sym (has_present s old is (get_or r.operands n d) (operands_have s old is r h n d b)))) in
       let at_t : map value t.operands ≡ map (λ x. value (at old x)) t.operands = map_agree value (λ x. value (at old x)) t.operands (λ n d b. ap value (sym (has_present s old is (get_or t.operands n d) (operands_have s old is t k n d b)))) in

@@ -5,7 +5,7 @@ use Rattle.std.proofs.lemmas.List.Elements.{Contains-get_or}
 use Rattle.word_terms.specs.Signature.{Signature}
 use Rattle.egraph.specs.declared.rows.Row.{Row}
 use Rattle.egraph.specs.Graph.{Graph, IsGraph, HasOneConstantEach}
-use Rattle.egraph.specs.Joined.{Joined, kept, pair, back, through, relabel, IsMerged, Clash}
+use Rattle.egraph.specs.Joined.{Joined, kept, pair, symmetric, transitive, relabel, IsMerged, Clash}
 use Rattle.egraph.specs.Steps.{moved, AgreesAt, HasTwoConstants}
 use Rattle.egraph.proofs.Lists.{some_at, moved_cases, moved_to, at_map}
 use Rattle.egraph.proofs.Merging.{IsMerging, MayJoin, joined_up, step, start, agreeing_may_join, drop_twin, has_made, has_present, row_made, current_has, joined_made}
@@ -26,7 +26,7 @@ module _ {O : Type 0} (s : Signature O) (old : Graph O) (is : IsGraph s old) (a 
         to_made = mb;
         to_settled = pb;
         to_present = pb;
-        forced = through (kept (get_or old.current a 0) a ma la pa) (through pair (kept b (get_or old.current b 0) lb mb (sym pb)));
+        forced = transitive (kept (get_or old.current a 0) a ma la pa) (transitive pair (kept b (get_or old.current b 0) lb mb (sym pb)));
       }
 
   -- the classes of a and b are one after the first step
@@ -105,7 +105,7 @@ pub no_clash : {O : Type 0} (s : Signature O) (old : Graph O) (is : IsGraph s ol
 no_clash s old is a b new m one class x y h =
     let l1 = row_made s old is h.first h.first_there in
     let l2 = row_made s old is h.second h.second_there in
-    let e = (m.joined h.first.class h.second.class l1 l2).1 (through h.first_joined (back h.second_joined)) in
+    let e = (m.joined h.first.class h.second.class l1 l2).1 (transitive h.first_joined (symmetric h.second_joined)) in
     let f = λ (c : ℕ). get_or new.current c 0 in
     h.differ (one (f h.second.class) x y
     (record { row = relabel f h.first; there = m.images h.first h.first_there; of_class = e; is = h.first_is })

@@ -4,7 +4,7 @@ use Rattle.word_terms.specs.Signature.{Signature, HasWordConstant}
 use Rattle.egraph.specs.declared.rows.Row.{Row}
 use Rattle.egraph.specs.Graph.{Graph, Agree, HasClass, IsPresent, IsGraph, HasOneConstantEach, HasOneSortEach, HasSortedOperands}
 use Rattle.egraph.specs.Sorts.{AreOfOneSort}
-use Rattle.egraph.specs.Joined.{Joined, kept, pair, back, through, congruent, relabel, IsMerged}
+use Rattle.egraph.specs.Joined.{Joined, kept, pair, symmetric, transitive, congruent, relabel, IsMerged}
 use Rattle.egraph.specs.Steps.{moved}
 use Rattle.std.proofs.lemmas.List.{length-map, get_or-map, get_or_default}
 use Rattle.std.proofs.lemmas.List.Elements.{All-contains, All-get_or, All-map, Contains-get_or}
@@ -34,7 +34,7 @@ joined_up from to g = record { rows = map (relabel (moved from to)) g.rows; curr
 moved_joined : {O : Type 0} (old : Graph O) (a b from to x y : ℕ) → Joined old a b from to → Joined old a b x y → Joined old a b x (moved from to y)
 moved_joined old a b from to x y j h =
     elim (moved_cases from to y) [
-      | inl e ↦ subst (Joined old a b x) (sym e.1) (through (subst (Joined old a b x) e.0 h) j)
+      | inl e ↦ subst (Joined old a b x) (sym e.1) (transitive (subst (Joined old a b x) e.0 h) j)
       | inr e ↦ subst (Joined old a b x) (sym e.1) h
     ]
 
@@ -76,8 +76,8 @@ module _ {O : Type 0} (s : Signature O) (old : Graph O) (is : IsGraph s old) (a 
   pub joined_made : a < length old.current → b < length old.current → {x y : ℕ} → Joined old a b x y → (x < length old.current) × (y < length old.current)
   joined_made la lb (kept x y lx ly e) = (lx, ly)
   joined_made la lb pair = (la, lb)
-  joined_made la lb (back j) = let h = joined_made la lb j in (h.1, h.0)
-  joined_made la lb (through j k) = ((joined_made la lb j).0, (joined_made la lb k).1)
+  joined_made la lb (symmetric j) = let h = joined_made la lb j in (h.1, h.0)
+  joined_made la lb (transitive j k) = ((joined_made la lb j).0, (joined_made la lb k).1)
   joined_made la lb (congruent r t h k op l each) = (row_made s old is r h, row_made s old is t k)
 
   -- rows of joined classes give one sort
@@ -85,8 +85,8 @@ module _ {O : Type 0} (s : Signature O) (old : Graph O) (is : IsGraph s old) (a 
       (r t : Row O) → Contains old.rows r → Contains old.rows t → r.class ≡ at old x → t.class ≡ at old y → s.sort r.op ≡ s.sort t.op
   joined_one_sort la lb one (kept x y lx ly e) r t h k er et = is.one_sort r t h k (er ∙ e ∙ sym et)
   joined_one_sort la lb one pair r t h k er et = one r t h k er et
-  joined_one_sort la lb one (back j) r t h k er et = sym (joined_one_sort la lb one j t r k h et er)
-  joined_one_sort la lb one (through {y} i j) r t h k er et =
+  joined_one_sort la lb one (symmetric j) r t h k er et = sym (joined_one_sort la lb one j t r k h et er)
+  joined_one_sort la lb one (transitive {y} i j) r t h k er et =
       let m = current_has s old is y (joined_made la lb i).1 in
       joined_one_sort la lb one i r m.row h m.there er m.is ∙ joined_one_sort la lb one j m.row t m.there k m.is et
   joined_one_sort la lb one (congruent u v hu hv op l each) r t h k er et =
@@ -165,13 +165,13 @@ module _ {O : Type 0} (s : Signature O) (old : Graph O) (is : IsGraph s old) (a 
       let y = get_or u.0.operands n 0 in
       let lx : x < length old.current = has_made s old is x (operands_have s old is v.0 v.1 n 0 l) in
       let ly : y < length old.current = has_made s old is y (operands_have s old is u.0 u.1 n 0 (omega (arith, l, length_vu))) in
-      through (m.sound x lx) (subst (λ z. Joined old a b z y) (sym (each_of_map (at new) v.0.operands u.0.operands ops n l)) (back (m.sound y ly))) in
+      transitive (m.sound x lx) (subst (λ z. Joined old a b z y) (sym (each_of_map (at new) v.0.operands u.0.operands ops n l)) (symmetric (m.sound y ly))) in
       let j : Joined old a b v.0.class u.0.class = congruent v.0 u.0 v.1 u.1 (sym (ap (λ x. x.op) v.2) ∙ sym e.op ∙ ap (λ x. x.op) u.2) length_vu each in
       record {
         to_made = subst (λ x. x < length old.current) (sym cu) (m.below u.0.class lu);
         to_settled = subst (λ x. at new x ≡ x) (sym cu) (m.settled u.0.class lu);
         to_present = subst (λ x. at old x ≡ x) (sym cu) (m.was_present u.0.class lu);
-        forced = subst (λ x. Joined old a b x r.class) (sym cv) (subst (λ y. Joined old a b (at new v.0.class) y) (sym cu) (through (back (m.sound v.0.class lv)) (through j (m.sound u.0.class lu))));
+        forced = subst (λ x. Joined old a b x r.class) (sym cv) (subst (λ y. Joined old a b (at new v.0.class) y) (sym cu) (transitive (symmetric (m.sound v.0.class lv)) (transitive j (m.sound u.0.class lu))));
       }
 
   -- of two equal rows one may go
@@ -190,7 +190,7 @@ module _ {O : Type 0} (s : Signature O) (old : Graph O) (is : IsGraph s old) (a 
 
   -- classes that are one now were joined
   pub one_now : (x y : ℕ) → x < length old.current → y < length old.current → at new x ≡ at new y → Joined old a b x y
-  one_now x y lx ly e = through (m.sound x lx) (subst (λ z. Joined old a b z y) (sym e) (back (m.sound y ly)))
+  one_now x y lx ly e = transitive (m.sound x lx) (subst (λ z. Joined old a b z y) (sym e) (symmetric (m.sound y ly)))
 
   module _ (la : a < length old.current) (lb : b < length old.current) (one : AreOfOneSort s old a b) where
     pub rows_of_one_sort : HasOneSortEach s new.rows
@@ -225,8 +225,8 @@ module _ {O : Type 0} (s : Signature O) (old : Graph O) (is : IsGraph s old) (a 
     pub complete : {x y : ℕ} → Joined old a b x y → at new x ≡ at new y
     complete (kept x y lx ly e) = sym (m.follows x lx) ∙ ap (at new) e ∙ m.follows y ly
     complete pair = pair_joined
-    complete (back j) = sym (complete j)
-    complete (through j k) = complete j ∙ complete k
+    complete (symmetric j) = sym (complete j)
+    complete (transitive j k) = complete j ∙ complete k
     complete (congruent r t h k op l each) =
         let ops : map (at new) r.operands ≡ map (at new) t.operands = map_at_each (at new) r.operands t.operands l (λ n b. complete (each n b)) in
         ap (λ x. x.class) (one_row new.rows (relabel (at new) r) (relabel (at new) t) apart (m.images r h) (m.images t k) (record { op = op; operands = ops }))

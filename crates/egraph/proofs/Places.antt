@@ -12,7 +12,7 @@ use Rattle.egraph.specs.declared.rows.Row.{Row}
 use Rattle.egraph.specs.declared.row_index.RowKey.{RowKey}
 use Rattle.egraph.specs.Graph.{Agree}
 use Rattle.egraph.specs.Steps.{moved}
-use Rattle.egraph.specs.Keys.{key_of, place_in}
+use Rattle.egraph.specs.Keys.{key_of_row, indexed_place}
 use Rattle.egraph.specs.Tables.{reoperand, Becomes, ListsUsesOf, ListsMembersOf, HasArities, IsTracked}
 use Rattle.egraph.proofs.Lists.{moved_cases, moved_to, map-map, map_agree}
 
@@ -94,13 +94,13 @@ module _ {O : Type 0} where
   -- a row whose operands changed waits, and the others stay tracked
   pub still_tracked : (s : Signature O) (now next : Slab (Row O)) (index index' : List (RowKey × ℕ)) (waiting waiting' : List ℕ) (p : ℕ) →
       ((k : ℕ) → k ≢ p → get next k ≡ get now k) →
-      ((k : ℕ) → k ≢ p → (key : RowKey) → place_in index key ≡ Some k → place_in index' key ≡ Some k) →
+      ((k : ℕ) → k ≢ p → (key : RowKey) → indexed_place index key ≡ Some k → indexed_place index' key ≡ Some k) →
       waiting' ≡ waiting ++ p ∷ [] →
       (k : ℕ) → IsTracked s now index waiting k → IsTracked s next index' waiting' k
   still_tracked s now next index index' waiting waiting' p others keeps ew k h r e = elim (cases_eq k p) [
     | inl same ↦ inr (subst (λ xs. Contains xs k) (sym ew) (subst (Contains (waiting ++ p ∷ [])) (sym same) (Contains-push waiting p)))
     | inr differs ↦ elim (h r (sym (others k differs) ∙ e)) [
-      | inl there ↦ inl (keeps k differs (key_of s r.op r.operands) there)
+      | inl there ↦ inl (keeps k differs (key_of_row s r.op r.operands) there)
       | inr waits ↦ inr (subst (λ xs. Contains xs k) (sym ew) (Contains-append_left waiting (p ∷ []) k waits))
     ]
   ]
@@ -180,7 +180,7 @@ module _ {O : Type 0} (s : Signature O) where
   -- rows with one key agree
   pub same_key_agrees : ((op other : O) → s.key op ≡ s.key other → op ≡ other) → ((op : O) → s.arity op ≤ 4) →
       (op other : O) (xs ys : List ℕ) → length xs ≡ s.arity op → length ys ≡ s.arity other →
-      key_of s op xs ≡ key_of s other ys → (op ≡ other) × (xs ≡ ys)
+      key_of_row s op xs ≡ key_of_row s other ys → (op ≡ other) × (xs ≡ ys)
   same_key_agrees own four op other xs ys lx ly e =
       let op_key : s.key op ≡ s.key other = λ i. ((e i).kind, (e i).number) in
       let op_is : op ≡ other = own op other op_key in
@@ -194,24 +194,24 @@ module _ {O : Type 0} (s : Signature O) where
 
   -- a row that is put into the index is tracked, and the others stay so
   pub noted_tracked : ((op other : O) → s.key op ≡ s.key other → op ≡ other) → ((op : O) → s.arity op ≤ 4) →
-      (rows : Slab (Row O)) (index index' : List (RowKey × ℕ)) (waiting waiting' : List ℕ) (place : ℕ) (row : Row O) (key : RowKey) → key ≡ key_of s row.op row.operands →
+      (rows : Slab (Row O)) (index index' : List (RowKey × ℕ)) (waiting waiting' : List ℕ) (place : ℕ) (row : Row O) (key : RowKey) → key ≡ key_of_row s row.op row.operands →
       HasArities s rows → get rows place ≡ Some row →
       waiting ≡ waiting' ++ place ∷ [] →
-      ((first : ℕ) (r : Row O) → place_in index key ≡ Some first → get rows first ≡ Some r → first ≢ place → ¬ Agree r row) →
-      place_in index' key ≡ Some place →
-      ((other : RowKey) → other ≢ key → place_in index' other ≡ place_in index other) →
+      ((first : ℕ) (r : Row O) → indexed_place index key ≡ Some first → get rows first ≡ Some r → first ≢ place → ¬ Agree r row) →
+      indexed_place index' key ≡ Some place →
+      ((other : RowKey) → other ≢ key → indexed_place index' other ≡ indexed_place index other) →
       (k : ℕ) → IsTracked s rows index waiting k → IsTracked s rows index' waiting' k
   noted_tracked own four rows index index' waiting waiting' place row key is_key arities there ew alone noted others k h r e =
-      let mine : k ≡ place → place_in index' (key_of s r.op r.operands) ≡ Some k =
+      let mine : k ≡ place → indexed_place index' (key_of_row s r.op r.operands) ≡ Some k =
       λ same. let er : Some r ≡ Some row = sym e ∙ ap (get rows) same ∙ there in
       let er' : r ≡ row = cc in
-      ap (λ (q : Row O). place_in index' (key_of s q.op q.operands)) er' ∙ ap (place_in index') (sym is_key) ∙ noted ∙ ap Some (sym same) in
+      ap (λ (q : Row O). indexed_place index' (key_of_row s q.op q.operands)) er' ∙ ap (indexed_place index') (sym is_key) ∙ noted ∙ ap Some (sym same) in
       elim (h r e) [
         | inl at ↦ elim (cases_eq k place) [
           | inl same ↦ inl (mine same)
-          | inr differs ↦ inl (others (key_of s r.op r.operands) (λ same_key.
+          | inr differs ↦ inl (others (key_of_row s r.op r.operands) (λ same_key.
               let a = same_key_agrees own four r.op row.op r.operands row.operands (arities k r e) (arities place row there) (same_key ∙ is_key) in
-              alone k r (ap (place_in index) (sym same_key) ∙ at) e differs (record { op = a.0; operands = a.1 })) ∙ at)
+              alone k r (ap (indexed_place index) (sym same_key) ∙ at) e differs (record { op = a.0; operands = a.1 })) ∙ at)
         ]
         | inr waits ↦ elim (Contains-push_cases waiting' place k (subst (λ xs. Contains xs k) ew waits)) [
           | inl before ↦ inr before

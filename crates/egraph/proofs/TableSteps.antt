@@ -9,11 +9,11 @@ use Rattle.egraph.specs.declared.row_index.RowKey.{RowKey}
 use Rattle.egraph.specs.declared.faults.MergeFault.{MergeFault}
 use Rattle.egraph.specs.declared.faults.MergeFault.TheVariants.{NoWorld, Memory}
 use Rattle.egraph.specs.Graph.{Graph, IsGraph, Agree, HasConstant}
-use Rattle.egraph.specs.Joined.{kept, pair, back, through, relabel, Clash}
+use Rattle.egraph.specs.Joined.{kept, pair, symmetric, transitive, relabel, Clash}
 use Rattle.egraph.specs.Steps.{moved}
 use Rattle.egraph.specs.Faults.{FaultIs, NamesLowClass}
-use Rattle.egraph.specs.Keys.{key_of, place_in, constant_at}
-use Rattle.egraph.specs.Tables.{EachBecomes, IsListed, IsIndexed, IsOrder, IsTracked, Twins, TwoConstants, JoinedUp, rows_in}
+use Rattle.egraph.specs.Keys.{key_of_row, indexed_place, constant_at}
+use Rattle.egraph.specs.Tables.{EachBecomes, FitLists, IsIndexed, IsOrder, IsTracked, Twins, TwoConstants, JoinedUp, rows_in}
 use Rattle.egraph.proofs.Lists.{moved_to, at_map, contains_map}
 use Rattle.egraph.proofs.Merging.{IsMerging, MayJoin, joined_up, step, start, agreeing_may_join, has_made, has_present, current_has}
 use Rattle.egraph.proofs.MergeSteps.{moved_from, clash_from, clash_low, pair_kept}
@@ -39,7 +39,7 @@ module _ {O : Type 0} (s : Signature O) (old : Graph O) (is : IsGraph s old) (a 
         to_made = ma;
         to_settled = pa;
         to_present = pa;
-        forced = through (kept (get_or old.current b 0) b mb lb pb) (through (back pair) (kept a (get_or old.current a 0) la ma (sym pa)));
+        forced = transitive (kept (get_or old.current b 0) b mb lb pb) (transitive (symmetric pair) (kept a (get_or old.current a 0) la ma (sym pa)));
       }
 
   module _ (rows : Slab (Row O)) (order current : List ℕ) (m : IsMerging old a b (graph_of rows order current)) where
@@ -50,7 +50,7 @@ module _ {O : Type 0} (s : Signature O) (old : Graph O) (is : IsGraph s old) (a 
     pub joined_merging : (x y : ℕ) (rows' : Slab (Row O)) (current' : List ℕ) → MayJoin s old is a b (graph_of rows order current) m x y → MayJoin s old is a b (graph_of rows order current) m y x → JoinedEither x y rows rows' current current' → IsMerging old a b (graph_of rows' order current')
     joined_merging x y rows' current' may yam j = elim j [ inl h ↦ one_joined x y rows' current' may h | inr h ↦ one_joined y x rows' current' yam h ]
 
-    module _ (own uses members : List (List ℕ)) (constants : List (Option ℕ)) (listed : IsListed s rows own uses members constants current) (in_order : IsOrder rows order) where
+    module _ (own uses members : List (List ℕ)) (constants : List (Option ℕ)) (listed : FitLists s rows own uses members constants current) (in_order : IsOrder rows order) where
       moved_constant : (from to class x : ℕ) → constant_at constants class ≡ Some x → moved from to class ≡ to → HasConstant s (map (relabel (moved from to)) (rows_in rows order)) to x
       moved_constant from to class x e to_is =
           let h = listed.constant_there class x e in
@@ -188,7 +188,7 @@ module _ {O : Type 0} (s : Signature O) (rows rows' : Slab (Row O)) (first secon
   pub gone_tracked : (index : List (RowKey × ℕ)) (waiting : List ℕ) (k : ℕ) → IsTracked s rows index waiting k → IsTracked s rows' index waiting k
   gone_tracked index waiting k h r e = h r (was k r e)
 
-  pub gone_listed : (own uses members : List (List ℕ)) (constants : List (Option ℕ)) (current : List ℕ) → IsListed s rows own uses members constants current → IsListed s rows' own uses members constants current
+  pub gone_listed : (own uses members : List (List ℕ)) (constants : List (Option ℕ)) (current : List ℕ) → FitLists s rows own uses members constants current → FitLists s rows' own uses members constants current
   gone_listed own uses members constants current is = record {
     arities = λ place r e. is.arities place r (was place r e);
     own_rows = λ class place r e k. is.own_rows class place r (was place r e) k;
@@ -225,8 +225,8 @@ kept_apart {O} s rows index order indexed held once i j d lt l agree =
     let t = get_or (rows_in rows order) j d in
     let ri : get rows ki ≡ Some r = sym (row_of rows order held i li) ∙ slice_get-get_or (rows_in rows order) i d (omega (arith, li, n)) in
     let rj : get rows kj ≡ Some t = sym (row_of rows order held j lj) ∙ slice_get-get_or (rows_in rows order) j d l in
-    let keys : key_of s r.op r.operands ≡ key_of s t.op t.operands = λ k. key_of s (agree.op k) (agree.operands k) in
-    let e : Some ki ≡ Some kj = sym (indexed ki r ri) ∙ ap (place_in index) keys ∙ indexed kj t rj in
+    let keys : key_of_row s r.op r.operands ≡ key_of_row s t.op t.operands = λ k. key_of_row s (agree.op k) (agree.operands k) in
+    let e : Some ki ≡ Some kj = sym (indexed ki r ri) ∙ ap (indexed_place index) keys ∙ indexed kj t rj in
     once i j 0 lt lj (cc)
 
 pub same_class : {O : Type 0} (rows : Slab (Row O)) (place : ℕ) (r t : Row O) → get rows place ≡ Some r → get rows place ≡ Some t → r.class ≡ t.class

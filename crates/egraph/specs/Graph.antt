@@ -73,7 +73,7 @@ pub record IsGraph {O : Type 0} (s : Signature O) (g : Graph O) : Type 0 where
 abbrev pub AreMade : List ℕ → List ℕ → Type 0
 AreMade current classes = All (λ c. c < length current) classes
 
--- the classes that these are in at present
+-- the classes that the given ones are in at present
 abbrev pub read_through : {O : Type 0} → Graph O → List ℕ → List ℕ
 read_through g classes = map (slice_index g.current) classes
 

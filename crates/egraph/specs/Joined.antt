@@ -14,8 +14,8 @@ pub data Joined {O : Type 0} (g : Graph O) (a b : ℕ) : ℕ → ℕ → Type 0 
       slice_index g.current x ≡ slice_index g.current y →
       Joined g a b x y
   pair : Joined g a b a b
-  back : {x y : ℕ} → Joined g a b x y → Joined g a b y x
-  through : {x y z : ℕ} → Joined g a b x y → Joined g a b y z → Joined g a b x z
+  symmetric : {x y : ℕ} → Joined g a b x y → Joined g a b y x
+  transitive : {x y z : ℕ} → Joined g a b x y → Joined g a b y z → Joined g a b x z
   congruent :
       (r t : Row O) →
       Contains g.rows r →
@@ -45,7 +45,7 @@ pub record IsMerged {O : Type 0} (old : Graph O) (a b : ℕ) (new : Graph O) : T
       (x : ℕ) → x < length old.current → slice_index old.current (slice_index new.current x) ≡ slice_index new.current x
   pub settled :
       (x : ℕ) → x < length old.current → slice_index new.current (slice_index new.current x) ≡ slice_index new.current x
-  -- the rows are the old ones, read so
+  -- the rows are the old ones, with the present class of each class that they name
   pub images : (r : Row O) → Contains old.rows r → Contains new.rows (relabel (slice_index new.current) r)
   pub from_old :
       (r : Row O) →

@@ -6,11 +6,13 @@ use Rattle.egraph.specs.declared.row_index.RowKey.{RowKey}
 
 -- the keys are the same in each part
 abbrev pub same_key : RowKey → RowKey → Bool
-same_key a b = (a.kind == b.kind) && ((a.number == b.number) && ((a.first == b.first) && ((a.second == b.second) && ((a.third == b.third) && (a.fourth == b.fourth)))))
+same_key a b =
+    (a.kind == b.kind) && ((a.number == b.number) && ((a.first == b.first)
+    && ((a.second == b.second) && ((a.third == b.third) && (a.fourth == b.fourth)))))
 
 -- the place that stands with the key
-abbrev pub place_in : List (RowKey × ℕ) → RowKey → Option ℕ
-place_in entries key = lookup (same_key key) entries
+abbrev pub indexed_place : List (RowKey × ℕ) → RowKey → Option ℕ
+indexed_place entries key = lookup (same_key key) entries
 
 -- the list of a class
 abbrev pub listed_at : List (List ℕ) → ℕ → List ℕ
@@ -21,8 +23,8 @@ abbrev pub constant_at : List (Option ℕ) → ℕ → Option ℕ
 constant_at constants class = slice_index_or constants class None
 
 -- the key of an operator and operands
-abbrev pub key_of : {O : Type 0} → Signature O → O → List ℕ → RowKey
-key_of s op operands = record {
+abbrev pub key_of_row : {O : Type 0} → Signature O → O → List ℕ → RowKey
+key_of_row s op operands = record {
   kind = (s.key op).0;
   number = (s.key op).1;
   first = slice_index_or operands 0 0;

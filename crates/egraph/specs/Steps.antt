@@ -4,7 +4,7 @@ use Rattle.word_terms.specs.Signature.{Signature}
 use Rattle.egraph.specs.declared.rows.Row.{Row}
 use Rattle.egraph.specs.Graph.{Agree, HasConstant}
 
--- `to` in place of `from`
+-- the class, or `to` in place of `from`
 abbrev pub moved : ℕ → ℕ → ℕ → ℕ
 moved from to class = if class == from then to else class
 

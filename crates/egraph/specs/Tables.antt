@@ -10,7 +10,7 @@ use Rattle.egraph.specs.declared.faults.MergeFault.TheVariants.{NoWorld, Memory}
 use Rattle.egraph.specs.Graph.{Agree, IsGraph}
 use Rattle.egraph.specs.Joined.{relabel}
 use Rattle.egraph.specs.Steps.{moved}
-use Rattle.egraph.specs.Keys.{key_of, place_in, listed_at, constant_at}
+use Rattle.egraph.specs.Keys.{key_of_row, indexed_place, listed_at, constant_at}
 
 -- f of the row's class
 abbrev pub reclass : {O : Type 0} → (ℕ → ℕ) → Row O → Row O
@@ -30,11 +30,13 @@ EachBecomes f old new = (place : ℕ) → Becomes f old new place
 
 -- the list has the key of each row with this class
 abbrev pub ListsRowsOf : {O : Type 0} → Slab (Row O) → ℕ → List ℕ → Type 0
-ListsRowsOf {O} rows class places = (place : ℕ) (r : Row O) → get rows place ≡ Some r → r.class ≡ class → Contains places place
+ListsRowsOf {O} rows class places =
+    (place : ℕ) (r : Row O) → get rows place ≡ Some r → r.class ≡ class → Contains places place
 
 -- the list has the key of each row with this operand
 abbrev pub ListsUsesOf : {O : Type 0} → Slab (Row O) → ℕ → List ℕ → Type 0
-ListsUsesOf {O} rows class places = (place : ℕ) (r : Row O) → get rows place ≡ Some r → Contains r.operands class → Contains places place
+ListsUsesOf {O} rows class places =
+    (place : ℕ) (r : Row O) → get rows place ≡ Some r → Contains r.operands class → Contains places place
 
 -- the list has each class that is in this one
 abbrev pub ListsMembersOf : List ℕ → ℕ → List ℕ → Type 0
@@ -46,11 +48,17 @@ HasArities {O} s rows = (place : ℕ) (r : Row O) → get rows place ≡ Some r 
 
 -- the index has the key of the row there, or the place is among those that wait
 abbrev pub IsTracked : {O : Type 0} → Signature O → Slab (Row O) → List (RowKey × ℕ) → List ℕ → ℕ → Type 0
-IsTracked {O} s rows index waiting place = (r : Row O) → get rows place ≡ Some r → (place_in index (key_of s r.op r.operands) ≡ Some place) ⊎ Contains waiting place
+IsTracked {O} s rows index waiting place =
+    (r : Row O) →
+    get rows place ≡ Some r →
+    (indexed_place index (key_of_row s r.op r.operands) ≡ Some place) ⊎ Contains waiting place
 
 -- the index has the key of each row
 abbrev pub IsIndexed : {O : Type 0} → Signature O → Slab (Row O) → List (RowKey × ℕ) → Type 0
-IsIndexed {O} s rows index = (place : ℕ) (r : Row O) → get rows place ≡ Some r → place_in index (key_of s r.op r.operands) ≡ Some place
+IsIndexed {O} s rows index =
+    (place : ℕ) (r : Row O) →
+    get rows place ≡ Some r →
+    indexed_place index (key_of_row s r.op r.operands) ≡ Some place
 
 -- a row of the class that is the constant
 pub record ConstantRow {O : Type 0} (s : Signature O) (rows : Slab (Row O)) (class x : ℕ) : Type 0 where
@@ -74,12 +82,17 @@ abbrev pub rows_in : {O : Type 0} → Slab (Row O) → List ℕ → List (Row O)
 rows_in rows order = filter_map (get rows) order
 
 -- what the lists beside the rows keep
-pub record IsListed {O : Type 0} (s : Signature O) (rows : Slab (Row O)) (own uses members : List (List ℕ)) (constants : List (Option ℕ)) (current : List ℕ) : Type 0 where
+pub record FitLists {O : Type 0} (s : Signature O) (rows : Slab (Row O)) (own uses members : List (List ℕ))
+    (constants : List (Option ℕ)) (current : List ℕ) : Type 0 where
   pub arities : HasArities s rows
   pub own_rows : (class : ℕ) → ListsRowsOf rows class (listed_at own class)
   pub used : (class : ℕ) → ListsUsesOf rows class (listed_at uses class)
   pub members_of : (class : ℕ) → ListsMembersOf current class (listed_at members class)
-  pub constant_of : (place : ℕ) (r : Row O) (x : ℕ) → get rows place ≡ Some r → s.constant r.op ≡ Some x → constant_at constants r.class ≡ Some x
+  pub constant_of :
+      (place : ℕ) (r : Row O) (x : ℕ) →
+      get rows place ≡ Some r →
+      s.constant r.op ≡ Some x →
+      constant_at constants r.class ≡ Some x
   pub constant_there : (class x : ℕ) → constant_at constants class ≡ Some x → ConstantRow s rows class x
 
 -- the list has each key with a row, and each once
@@ -89,7 +102,8 @@ pub record IsOrder {O : Type 0} (rows : Slab (Row O)) (order : List ℕ) : Type 
 
 -- two constants that would be of the class `to`
 abbrev pub TwoConstants : List (Option ℕ) → ℕ → ℕ → MergeFault → Type 0
-TwoConstants constants from to (NoWorld class x y) = (class ≡ to) × (constant_at constants from ≡ Some x) × (constant_at constants to ≡ Some y) × (x ≢ y)
+TwoConstants constants from to (NoWorld class x y) =
+    (class ≡ to) × (constant_at constants from ≡ Some x) × (constant_at constants to ≡ Some y) × (x ≢ y)
 TwoConstants constants from to Memory = Unit {0}
 
 -- what stood in a list stands in it
@@ -101,9 +115,10 @@ abbrev pub RowsAreMade : {O : Type 0} → Slab (Row O) → ℕ → Type 0
 RowsAreMade {O} rows made = (place : ℕ) (r : Row O) → get rows place ≡ Some r → r.class < made
 
 -- what the rows of a graph and their tables keep
-pub record IsKept {O : Type 0} (s : Signature O) (rows : Slab (Row O)) (index : List (RowKey × ℕ)) (own uses members : List (List ℕ)) (constants : List (Option ℕ)) (current order : List ℕ) : Type 0 where
+pub record FitTables {O : Type 0} (s : Signature O) (rows : Slab (Row O)) (index : List (RowKey × ℕ))
+    (own uses members : List (List ℕ)) (constants : List (Option ℕ)) (current order : List ℕ) : Type 0 where
   pub graph : IsGraph s (record { rows = rows_in rows order; current = current })
-  pub listed : IsListed s rows own uses members constants current
+  pub listed : FitLists s rows own uses members constants current
   pub indexed : IsIndexed s rows index
   pub in_order : IsOrder rows order
   pub occupied : All (λ place. IsSome (get rows place)) order

@@ -7,7 +7,8 @@ use thiserror::Error;
 
 #[derive(Clone, Copy, PartialEq, Eq, Debug, Error)]
 pub enum MergeFault {
-    /// The merge puts the different constants `a` and `b` into `class`, so no world gives the joined terms one value.
+    /// The merge would put the different constants `a` and `b` into `class`, so no world gives the joined terms one
+    /// value.
     #[error("the constants {a} and {b} would be one")]
     NoWorld { class: u32, a: u64, b: u64 },
     #[error("out of memory")]

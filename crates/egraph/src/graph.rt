@@ -34,14 +34,14 @@ pub struct Egraph<O: Operator> {
 
 impl<O: Operator> Model for Egraph<O> {
     ghost use Rattle.egraph.specs.Graph.{Graph};
-    ghost use Rattle.egraph.specs.Tables.{rows_in, IsKept};
+    ghost use Rattle.egraph.specs.Tables.{rows_in, FitTables};
 
     ghost Value = { Graph O };
 
     ghost view = { λ g. record { rows = rows_in g.tables.rows g.order.items; current = g.tables.current.items } };
 
     ghost invariant = { λ g.
-        IsKept O.signature g.tables.rows g.tables.index
+        FitTables O.signature g.tables.rows g.tables.index
         g.tables.own g.tables.uses g.tables.members g.tables.constants.items g.tables.current.items g.order.items };
 }
 
@@ -157,9 +157,9 @@ impl<O: Operator> Egraph<O> {
         Ok(class)
     }
 
-    /// Puts the classes a and b into one, and whatever congruence then joins. Of two classes the one that fewer rows
-    /// name, as their class or as an operand, goes, and a walk over these is what their join costs; a merge that drops
-    /// a row costs a walk over the order of the rows besides.
+    /// Joins the classes a and b, and whatever congruence then joins. Of two classes that are joined, the one that
+    /// fewer rows name, as their class or as an operand, is renamed, and walking over these rows is what the join
+    /// costs; a merge that drops a row also costs a walk over the order of the rows.
     pub fn merge(self, a: u32, b: u32) -> Result<Egraph<O>, MergeFault>
         requires a_made { a < length self.current }
         requires b_made { b < length self.current }

@@ -4,8 +4,8 @@ ghost use Rattle.slab.specs.Slab.{get, HasRoomFor};
 ghost use Rattle.std.specs.Vec.{vec_len, vec_capacity};
 ghost use Rattle.egraph.specs.declared.rows.Row.{Row as RowOf};
 ghost use Rattle.egraph.specs.declared.row_index.RowKey.{RowKey as Key};
-ghost use Rattle.egraph.specs.Keys.{key_of, place_in, listed_at, constant_at};
-ghost use Rattle.egraph.specs.Tables.{IsIndexed, IsListed, Grows, RowsAreMade};
+ghost use Rattle.egraph.specs.Keys.{key_of_row, indexed_place, listed_at, constant_at};
+ghost use Rattle.egraph.specs.Tables.{IsIndexed, FitLists, Grows, RowsAreMade};
 
 use crate::class_constants::put_constant;
 use crate::class_lists::Lists;
@@ -49,8 +49,8 @@ fn note_row(
     members.add(class, class as usize)
 }
 
-/// Takes the memory that one more row needs, and puts its key, which has no row yet, where it will be looked for. What
-/// is there already stays.
+/// Takes the memory that one more row needs, and puts its key, which has no row yet, into the lists where it will be
+/// looked for. What is there already stays.
 fn make_room<O: Operator>(
     tables: &mut Tables<O>,
     op: O,
@@ -63,8 +63,8 @@ fn make_room<O: Operator>(
     ensures own { Grows tables.old.own tables.new.own }
     ensures uses { Grows tables.old.uses tables.new.uses }
     ensures members { Grows tables.old.members tables.new.members }
-    ensures index { (key : Key) → key ≢ key_of O.signature op operands.now →
-        place_in tables.new.index key ≡ place_in tables.old.index key }
+    ensures index { (key : Key) → key ≢ key_of_row O.signature op operands.now →
+        indexed_place tables.new.index key ≡ indexed_place tables.old.index key }
     ensures constants { (other : ℕ) → other ≢ class →
         constant_at tables.new.constants.items other ≡ constant_at tables.old.constants.items other }
     ensures room { OnOk result (HasRoomFor tables.new.rows 1) }
@@ -73,7 +73,8 @@ fn make_room<O: Operator>(
     ensures uses_noted { OnOk result ((used : ℕ) → Contains operands.now used →
         Contains (listed_at tables.new.uses used) place) }
     ensures member_noted { OnOk result (Contains (listed_at tables.new.members class) class) }
-    ensures indexed { OnOk result (place_in tables.new.index (key_of O.signature op operands.now) ≡ Some place) }
+    ensures indexed { OnOk result (indexed_place tables.new.index (key_of_row O.signature op operands.now)
+        ≡ Some place) }
     ensures constant { OnOk result ((x : ℕ) → O.signature.constant op ≡ Some x →
         constant_at tables.new.constants.items class ≡ Some x) }
     ensures no_other { (x : ℕ) → constant_at tables.new.constants.items class ≡ Some x →
@@ -108,7 +109,7 @@ pub(crate) fn add_row<O: Operator>(
     requires few { length tables.old.current.items < 2 ^ 31 }
     requires arity { length operands.items ≡ O.signature.arity op }
     requires made { RowsAreMade tables.old.rows (length tables.old.current.items) }
-    requires listed { IsListed O.signature tables.old.rows
+    requires listed { FitLists O.signature tables.old.rows
         tables.old.own tables.old.uses tables.old.members tables.old.constants.items tables.old.current.items }
     requires indexed { IsIndexed O.signature tables.old.rows tables.old.index }
     requires absent { (place : ℕ) (r : RowOf O) → get tables.old.rows place ≡ Some r → r.op ≡ op →
@@ -123,7 +124,7 @@ pub(crate) fn add_row<O: Operator>(
         get tables.new.rows other ≡ get tables.old.rows other) }
     ensures current { OnOk result (tables.new.current.items
         ≡ tables.old.current.items ++ length tables.old.current.items ∷ []) }
-    ensures listed { IsListed O.signature tables.new.rows
+    ensures listed { FitLists O.signature tables.new.rows
         tables.new.own tables.new.uses tables.new.members tables.new.constants.items tables.new.current.items }
     ensures indexed { IsIndexed O.signature tables.new.rows tables.new.index }
 {

@@ -3,7 +3,7 @@ ghost use Rattle.std.specs.Prelude.{◌≡◌, ◌≢◌, ◌<◌, ◌⊎◌, �
 ghost use Rattle.slab.specs.Slab.{slab_len};
 ghost use Rattle.egraph.specs.Joined.{relabel};
 ghost use Rattle.egraph.specs.Steps.{moved};
-ghost use Rattle.egraph.specs.Tables.{EachBecomes, IsTracked, IsListed, TwoConstants, JoinedUp};
+ghost use Rattle.egraph.specs.Tables.{EachBecomes, IsTracked, FitLists, TwoConstants, JoinedUp};
 
 use crate::class_constants::{find_two_constants, move_constant};
 use crate::class_lists::Lists;
@@ -22,11 +22,11 @@ fn join<O: Operator>(
     to: u32,
 ) -> Result<(), MergeFault>
     requires differ { from ≢ to }
-    requires listed { IsListed O.signature tables.old.rows
+    requires listed { FitLists O.signature tables.old.rows
         tables.old.own tables.old.uses tables.old.members tables.old.constants.items tables.old.current.items }
     ensures rows { OnOk result (EachBecomes (relabel (moved from to)) tables.old.rows tables.new.rows) }
     ensures current { OnOk result (tables.new.current.items ≡ map (moved from to) tables.old.current.items) }
-    ensures listed { OnOk result (IsListed O.signature tables.new.rows
+    ensures listed { OnOk result (FitLists O.signature tables.new.rows
         tables.new.own tables.new.uses tables.new.members tables.new.constants.items tables.new.current.items) }
     ensures tracked { OnOk result ((place : ℕ) →
         IsTracked O.signature tables.old.rows tables.old.index waiting.old.items place →
@@ -60,7 +60,7 @@ fn join<O: Operator>(
     Ok(())
 }
 
-/// The two classes, first the one that fewer rows name, and the second one where as many name both.
+/// The two classes with the one that fewer rows name first, or the second one where as many rows name both.
 fn lighter_first(own: &Lists, uses: &Lists, x: u32, y: u32) -> (u32, u32)
     ensures { (result ≡ (x, y)) ⊎ (result ≡ (y, x)) }
 {
@@ -69,7 +69,7 @@ fn lighter_first(own: &Lists, uses: &Lists, x: u32, y: u32) -> (u32, u32)
     if of_x < of_y { (x, y) } else { (y, x) }
 }
 
-/// Puts two classes into one. The one that fewer rows name goes, and the second one where as many do.
+/// Joins two classes. The one that fewer rows name is renamed, or the second one where as many rows name both.
 pub(crate) fn join_classes<O: Operator>(
     alloc: Global,
     tables: &mut Tables<O>,
@@ -77,11 +77,12 @@ pub(crate) fn join_classes<O: Operator>(
     x: u32,
     y: u32,
 ) -> Result<(), MergeFault>
-    requires listed { IsListed O.signature tables.old.rows
+    requires listed { FitLists O.signature tables.old.rows
         tables.old.own tables.old.uses tables.old.members tables.old.constants.items tables.old.current.items }
-    ensures joined { OnOk result (JoinedUp x y tables.old.rows tables.new.rows tables.old.current.items tables.new.current.items
+    ensures joined { OnOk result (
+        JoinedUp x y tables.old.rows tables.new.rows tables.old.current.items tables.new.current.items
         ⊎ JoinedUp y x tables.old.rows tables.new.rows tables.old.current.items tables.new.current.items) }
-    ensures listed { OnOk result (IsListed O.signature tables.new.rows
+    ensures listed { OnOk result (FitLists O.signature tables.new.rows
         tables.new.own tables.new.uses tables.new.members tables.new.constants.items tables.new.current.items) }
     ensures tracked { OnOk result ((place : ℕ) →
         IsTracked O.signature tables.old.rows tables.old.index waiting.old.items place →

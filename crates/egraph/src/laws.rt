@@ -9,7 +9,7 @@ ghost use Rattle.egraph.specs.Sorts.{IsOfSort, AreOfSorts, FitOperator, AreOfOne
 
 use word_terms::Operator;
 
-/// The classes that a graph's rows name are present ones, and each class ever made is in one that has a row.
+/// The classes that a graph's rows name are present ones, and each class ever made is now in a class that has a row.
 pub fn rows_name_present_classes<O: Operator>()
     ensures present { (g : Graph O) (c : ℕ) → IsGraph O.signature g → HasClass g c → IsPresent g c }
     ensures operands { (g : Graph O) (r : RowOf O) → IsGraph O.signature g → Contains g.rows r →
@@ -39,7 +39,7 @@ pub fn classes_have_one_sort<O: Operator>()
         IsOfSort O.signature g a sort → IsOfSort O.signature g b sort → AreOfOneSort O.signature g a b }
 {}
 
-/// An insert keeps all rows and classes, and what it was asked for is there.
+/// An insert keeps all rows and classes, and the row that it was asked for is there.
 pub fn inserts_keep_rows<O: Operator>()
     ensures longer { (old : Graph O) (op : O) (operands : List ℕ) (class : ℕ) (new : Graph O) →
         IsInserted old op operands class new → length old.current ≤ length new.current }
@@ -52,7 +52,7 @@ pub fn inserts_keep_rows<O: Operator>()
         IsInserted old op operands class new → HasRow new.rows op (read_through old operands) class }
 {}
 
-/// After a merge a class and the one that it was in are in one class, which has a row.
+/// After a merge each class is in the same class as the one that it was in before, and that class has a row.
 pub fn merges_keep_classes<O: Operator>()
     ensures again { (old : Graph O) (a b : ℕ) (new : Graph O) → IsGraph O.signature old → IsMerged old a b new →
         (c : ℕ) → c < length old.current →

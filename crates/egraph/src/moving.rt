@@ -4,7 +4,7 @@ ghost use Rattle.slab.specs.Slab.{get, slab_len};
 ghost use Rattle.egraph.specs.declared.rows.Row.{Row as RowOf};
 ghost use Rattle.egraph.specs.Steps.{moved};
 ghost use Rattle.egraph.specs.declared.row_index.RowKey.{RowKey as Key};
-ghost use Rattle.egraph.specs.Keys.{place_in};
+ghost use Rattle.egraph.specs.Keys.{indexed_place};
 ghost use Rattle.egraph.specs.Tables.{reclass, reoperand, Becomes, EachBecomes, ListsRowsOf, ListsUsesOf, ListsMembersOf, IsTracked};
 
 use crate::row_index::{RowIndex, row_key};
@@ -105,8 +105,7 @@ pub(crate) fn still_using<O: Operator>(
     Ok(kept)
 }
 
-/// Puts the class `to` in place of `from` as the class of rows, where the list has the keys of all that it is the
-/// class of.
+/// Replaces the class `from` by `to` in the rows whose class it is; the list has the keys of all these rows.
 pub(crate) fn move_classes<O: Operator>(
     rows: &mut Slab<Row<O>>,
     places: &[usize],
@@ -124,8 +123,8 @@ pub(crate) fn move_classes<O: Operator>(
 
 /// Takes the row under the key out of the index.
 fn forget_row<O: Operator>(rows: &Slab<Row<O>>, index: &mut RowIndex, place: usize)
-    ensures { (other : ℕ) → other ≢ place → (key : Key) → place_in index.old key ≡ Some other →
-        place_in index.new key ≡ Some other }
+    ensures { (other : ℕ) → other ≢ place → (key : Key) → indexed_place index.old key ≡ Some other →
+        indexed_place index.new key ≡ Some other }
 {
     if let Some(row) = rows.get(place) {
         let key = row_key(row.op, row.operands.as_slice());
@@ -135,8 +134,8 @@ fn forget_row<O: Operator>(rows: &Slab<Row<O>>, index: &mut RowIndex, place: usi
     }
 }
 
-/// Puts the class `to` in place of `from` in the operands of rows, where the list has the keys of all that it is an
-/// operand of. These rows then wait to be put back into the index.
+/// Replaces the class `from` by `to` in the rows that have it as an operand; the list has the keys of all these rows.
+/// They then wait to be put back into the index.
 pub(crate) fn move_uses<O: Operator>(
     alloc: Global,
     rows: &mut Slab<Row<O>>,
@@ -160,7 +159,7 @@ pub(crate) fn move_uses<O: Operator>(
     Ok(())
 }
 
-/// Puts the class `to` in place of `from` as the class that one class is in.
+/// Puts one class that is in `from` into `to`.
 fn move_member(current: &mut [u32], member: usize, from: u32, to: u32)
     ensures len { length current.new ≡ length current.old }
     ensures moved { member < length current.old →
@@ -172,7 +171,7 @@ fn move_member(current: &mut [u32], member: usize, from: u32, to: u32)
     }
 }
 
-/// Puts the class `to` in place of `from` as the class that classes are in, where the list has all those.
+/// Puts the classes that are in `from` into `to`; the list has all these classes.
 fn move_listed(current: &mut [u32], members: &[usize], from: u32, to: u32)
     requires listed { ListsMembersOf current.old from members.now }
     ensures { current.new ≡ map (moved from to) current.old }
@@ -182,7 +181,7 @@ fn move_listed(current: &mut [u32], members: &[usize], from: u32, to: u32)
     }
 }
 
-/// Puts the class `to` in place of `from` as the class that classes are in, where the list has all those.
+/// Puts the classes that are in `from` into `to`; the list has all these classes.
 pub(crate) fn move_members(current: &mut Vec<u32>, members: &[usize], from: u32, to: u32)
     requires listed { ListsMembersOf current.old.items from members.now }
     ensures { current.new.items ≡ map (moved from to) current.old.items }

@@ -4,7 +4,7 @@ ghost use Rattle.slab.specs.Slab.{get};
 ghost use Rattle.egraph.specs.declared.rows.Row.{Row as RowOf};
 ghost use Rattle.egraph.specs.Graph.{AreMade};
 ghost use Rattle.egraph.specs.declared.row_index.RowKey.{RowKey as Key};
-ghost use Rattle.egraph.specs.Keys.{key_of, place_in};
+ghost use Rattle.egraph.specs.Keys.{key_of_row, indexed_place};
 ghost use Rattle.egraph.specs.Tables.{IsIndexed};
 
 use crate::rows::{Row, is_row};
@@ -15,7 +15,7 @@ use std::alloc::Global;
 use std::marker::Model;
 use word_terms::Operator;
 
-/// An operator by its key, and its operands, of which there are four at most; where there are fewer, the others are 0.
+/// The key of an operator, and its operands, at most four, filled up with 0.
 #[derive(Clone, Copy, PartialEq, Eq, Hash, Debug)]
 pub struct RowKey {
     pub kind: u8,
@@ -44,7 +44,7 @@ impl Model for RowIndex {
 impl RowIndex {
     /// No places, for which no memory is taken.
     pub fn new(alloc: Global) -> RowIndex
-        ensures { (key : Key) → place_in result key ≡ None }
+        ensures { (key : Key) → indexed_place result key ≡ None }
     {
         RowIndex {
             places: IndexMap::new(alloc),
@@ -52,7 +52,7 @@ impl RowIndex {
     }
 
     pub fn find(&self, key: RowKey) -> Option<usize>
-        ensures { result ≡ place_in self.now key }
+        ensures { result ≡ indexed_place self.now key }
     {
         match self.places.get(&key) {
             Some(place) => Some(*place),
@@ -61,9 +61,9 @@ impl RowIndex {
     }
 
     pub fn note(&mut self, key: RowKey, place: usize) -> Result<(), NoMemory>
-        ensures noted { OnOk result (place_in self.new key ≡ Some place) }
-        ensures others { (other : Key) → other ≢ key → place_in self.new other ≡ place_in self.old other }
-        ensures err { OnErr result ((other : Key) → place_in self.new other ≡ place_in self.old other) }
+        ensures noted { OnOk result (indexed_place self.new key ≡ Some place) }
+        ensures others { (other : Key) → other ≢ key → indexed_place self.new other ≡ indexed_place self.old other }
+        ensures err { OnErr result ((other : Key) → indexed_place self.new other ≡ indexed_place self.old other) }
     {
         self.places.insert(key, place)?;
         Ok(())
@@ -71,8 +71,8 @@ impl RowIndex {
 
     /// Forgets the place of the key.
     pub fn forget(&mut self, key: RowKey)
-        ensures forgotten { place_in self.new key ≡ None }
-        ensures others { (other : Key) → other ≢ key → place_in self.new other ≡ place_in self.old other }
+        ensures forgotten { indexed_place self.new key ≡ None }
+        ensures others { (other : Key) → other ≢ key → indexed_place self.new other ≡ indexed_place self.old other }
     {
         let _ = self.places.swap_remove(&key);
     }
@@ -89,7 +89,7 @@ fn operand_at(operands: &[u32], at: usize) -> u32
 }
 
 pub(crate) fn row_key<O: Operator>(op: O, operands: &[u32]) -> RowKey
-    ensures { result ≡ key_of O.signature op operands.now }
+    ensures { result ≡ key_of_row O.signature op operands.now }
 {
     let (kind, number) = op.key();
     RowKey {
@@ -115,7 +115,7 @@ fn present_at(current: &[u32], operands: &[u32], at: usize) -> u32
 
 fn present_key<O: Operator>(current: &[u32], op: O, operands: &[u32]) -> RowKey
     requires { AreMade current.now operands.now }
-    ensures { result ≡ key_of O.signature op (map (slice_index current.now) operands.now) }
+    ensures { result ≡ key_of_row O.signature op (map (slice_index current.now) operands.now) }
 {
     let (kind, number) = op.key();
     RowKey {

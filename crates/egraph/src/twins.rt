@@ -3,7 +3,7 @@ ghost use Rattle.std.specs.Prelude.{◌≡◌, ◌≢◌, ◌<◌, ℕ, [], None
 ghost use Rattle.slab.specs.Slab.{get};
 ghost use Rattle.egraph.specs.declared.rows.Row.{Row as RowOf};
 ghost use Rattle.egraph.specs.Graph.{Agree};
-ghost use Rattle.egraph.specs.Keys.{place_in};
+ghost use Rattle.egraph.specs.Keys.{indexed_place};
 ghost use Rattle.egraph.specs.Tables.{HasArities, IsTracked, Twins};
 
 use crate::row_index::{RowIndex, RowKey, row_key};
@@ -21,7 +21,7 @@ fn find_twin<O: Operator>(
     row: &Row<O>,
 ) -> Option<usize>
     ensures { MatchOption result
-        ((first : ℕ) (r : RowOf O) → place_in index.now key ≡ Some first → get rows.now first ≡ Some r →
+        ((first : ℕ) (r : RowOf O) → indexed_place index.now key ≡ Some first → get rows.now first ≡ Some r →
         first ≢ place → ¬ Agree r row.now)
         (λ first. (first ≢ place) × (r : RowOf O) × (get rows.now first ≡ Some r) × Agree r row.now) }
 {
@@ -34,8 +34,8 @@ fn find_twin<O: Operator>(
     }
 }
 
-/// The keys of two rows that agree, of which the second waits to be put into the index; rows that agree with no
-/// other one are put into it.
+/// The keys of two rows that agree; the second of these waits to be put into the index. A row that agrees with no other
+/// one is put into the index.
 pub(crate) fn next_twins<O: Operator>(
     rows: &Slab<Row<O>>,
     index: &mut RowIndex,

@@ -14,9 +14,9 @@ ghost use Rattle.text_core.specs.declared.tokens.Token.{Token};
 
 use text_core::{one_lexing, one_parsing, sexps_are_trees};
 
-/// The form that an atom is, and the one that a list is. An atom of a text stands within it, and the bytes of a name
-/// are a name; the parts of a list of a text are trees of the text. A form of a text begins somewhere, and its parts
-/// stand one behind the other.
+/// Which form an atom is, and which form a list is. An atom of a text lies within the text, and if it is a name, its
+/// bytes are a well-formed name. The parts of a list of a text are trees of the text. A form of a text has a place, and
+/// its parts follow one another.
 pub fn sexps_are_forms()
     ensures atoms { (text : List ℕ) (token : Token)
         → sexp_form text (sexps.Atom token) ≡ atom token.place (atom_of token.kind (token_bytes text token)) }
@@ -33,8 +33,8 @@ pub fn sexps_are_forms()
     sexps_are_trees();
 }
 
-/// A text has trees of one form at most, and then neither its bytes nor its tokens have a fault. The trees are of the
-/// text, and its forms stand one behind the other within it. The first fault is one.
+/// A text has at most one list of trees, and where it has one, neither its bytes nor its tokens have a fault. The trees
+/// are trees of the text, and their forms follow one another within it. There is at most one first fault.
 pub fn one_reading()
     ensures trees { (text : List ℕ) (trees others : SexpTrees)
         → TextHasTrees text trees → TextHasTrees text others → trees ≡ others }

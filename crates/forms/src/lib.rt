@@ -1,7 +1,8 @@
 //! Forms: the trees of a text with what their atoms say, and the faults that a form and its parts may have.
 //!
-//! Goals, axioms and machine tables are read from forms. Each reader says which faults a form has of its own and what
-//! its parts are to be read as; which faults there are then, and which of them is first, is defined here once.
+//! Goals, axioms and machine tables are read from forms. A reader says which faults a form has of its own, and what its
+//! parts are to be read as; from this the faults of a whole form, and which of them is the first, are defined here
+//! once.
 #![tactic(auto)]
 
 mod laws;

@@ -81,13 +81,14 @@ pub fn number(form: &Sexp) -> Option<u64>
     }
 }
 
-/// The parts of a list, each of them a tree of the text that the list is of.
+/// The parts of a list. Each is a tree of the same text.
 pub fn parts<'a>(form: &'a Sexp) -> Option<&'a [Sexp]>
     ensures parts { (text : List ℕ) → MatchOption result
         (is_list (sexp_form text form.now) ≡ false)
         (λ parts. sexp_form text form.now
         ≡ list (place_of (sexp_form text form.now)) (forms_from (sexp_forms text parts.now))) }
-    ensures of { (text : List ℕ) → IsSexpOf text form.now → MatchOption result ⊤ (λ parts. All (IsSexpOf text) parts.now) }
+    ensures of { (text : List ℕ) → IsSexpOf text form.now
+        → MatchOption result ⊤ (λ parts. All (IsSexpOf text) parts.now) }
 {
     sexps_are_forms();
     match form {

@@ -15,10 +15,7 @@ fn lexed_and_parsed(alloc: Global, text: &[u8]) -> Result<Vec<Sexp>, TextFault>
     ensures trees { IfOk result (λ forms. TextHasTrees text.now (sexp_trees forms.items)) }
     ensures fault { IfErr result (IsFaultBy (IsFirstReadFault text.now)) }
 {
-    let tokens = match lex(alloc, text) {
-        Ok(tokens) => tokens,
-        Err(fault) => return Err(fault),
-    };
+    let tokens = lex(alloc, text)?;
     match tree(alloc, &tokens) {
         Ok(forms) => Ok(forms),
         Err(fault) => Err(fault),

@@ -19,7 +19,7 @@ use Rattle.saturation.specs.StandsFor.{HasClassIn, IsGuardOf, IsInputClass, IsSe
 use Rattle.schedule_meaning.specs.Fits.{CanLaunch, EndsBy, Fits, IsLeft, IsReached, KeepsMemory, UsesMemory, Waits}
 use Rattle.schedule_meaning.specs.Launches.{Gives, IsClassOfInput, gives_word, is_load, is_store, launches, memory_class_at, ready_in}
 use Rattle.schedule_meaning.specs.declared.schedules.Launch.{Launch}
-use Rattle.generated_goals.specs.Generated.{generated_goal, generated_input, input_in}
+use Rattle.generated_goals.specs.Generated.{generated_goal, generated_input, named_input}
 use Rattle.generated_goals.proofs.GraphRows.{leaf_row, one_class, row_of}
 use Rattle.generated_goals.proofs.Schedules.{IsChain, IsStep, launched, launches_by}
 
@@ -115,8 +115,8 @@ module _ (g : LaunchGraph) (n : ℕ) (ls : List Launch) (class : ℕ) (made : Is
 pub scheduled : (size : ℕ) (g : LaunchGraph) → size ≤ 20 → IsLaunchGraph g → StandsFor (generated_input size) (generated_goal size) g → (ls : List Launch) × Fits g ev6 size ls
 scheduled size g few graph stands =
     let of = stands.of in
-    let a = input_is g graph (input_in (codes "a") 9) (first_zip (IsInputClass [] g) g.inputs _ _ of.inputs) in
-    let b = input_is g graph (input_in (codes "b") 10) (second_zip (IsInputClass [] g) g.inputs _ _ _ of.inputs) in
+    let a = input_is g graph (named_input (codes "a") 9) (first_zip (IsInputClass [] g) g.inputs _ _ of.inputs) in
+    let b = input_is g graph (named_input (codes "b") 10) (second_zip (IsInputClass [] g) g.inputs _ _ _ of.inputs) in
     let one = only_zip (IsSetClass [] g) g.sets _ of.sets in
     let made = launched g a b size size one.0.class one.2.class in
     let pool : length g.pool ≡ 21 = ap length of.pool in

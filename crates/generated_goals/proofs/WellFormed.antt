@@ -22,11 +22,11 @@ use Rattle.goal_meaning.specs.Views.{GoalTree, TargetTree}
 use Rattle.goal_meaning.specs.WellFormed.{IsAssume, IsAxiom, IsGoal, IsInput, IsOfGoal, IsTarget, operators_of_goal}
 use Rattle.goal_meaning.specs.declared.goals.InputReg.{InputReg}
 use Rattle.goal_meaning.specs.declared.goals.DeclaredOp.{DeclaredOp}
-use Rattle.generated_goals.specs.Generated.{chain, generated_goal, generated_input, input_in, number_at, picked, registers}
+use Rattle.generated_goals.specs.Generated.{chain, generated_goal, generated_input, named_input, number_at, picked, registers}
 use Rattle.generated_goals.proofs.Plain.{each_picked}
 
 abbrev inputs : List InputReg
-inputs = input_in (codes "a") 9 ∷ input_in (codes "b") 10 ∷ []
+inputs = named_input (codes "a") 9 ∷ named_input (codes "b") 10 ∷ []
 
 -- ---- the term
 
@@ -59,8 +59,8 @@ names_apart = sure (dec_pairs (λ i j. i.name ≢ j.name) (λ i j. dec_not (dec_
 
 own_names : All (λ (i : InputReg). is_reserved i.name ≡ false) inputs
 unfolding word_named
-own_names = All-cons (λ (i : InputReg). is_reserved i.name ≡ false) (input_in (codes "a") 9) (input_in (codes "b") 10 ∷ []) refl
-    (All-cons (λ (i : InputReg). is_reserved i.name ≡ false) (input_in (codes "b") 10) [] refl (All-nil (λ (i : InputReg). is_reserved i.name ≡ false)))
+own_names = All-cons (λ (i : InputReg). is_reserved i.name ≡ false) (named_input (codes "a") 9) (named_input (codes "b") 10 ∷ []) refl
+    (All-cons (λ (i : InputReg). is_reserved i.name ≡ false) (named_input (codes "b") 10) [] refl (All-nil (λ (i : InputReg). is_reserved i.name ≡ false)))
 
 abbrev all_registers : List ℕ
 all_registers = registers ++ default_pool registers
@@ -86,8 +86,8 @@ rules size = record {
 named : (size : ℕ) → IsNamedGoal (generated_goal size)
 named size = record {
   own = record { begins = refl; each = refl };
-  inputs = All-cons (λ (i : InputReg). IsName i.name) (input_in (codes "a") 9) (input_in (codes "b") 10 ∷ []) (record { begins = refl; each = refl })
-      (All-cons (λ (i : InputReg). IsName i.name) (input_in (codes "b") 10) [] (record { begins = refl; each = refl }) (All-nil (λ (i : InputReg). IsName i.name)));
+  inputs = All-cons (λ (i : InputReg). IsName i.name) (named_input (codes "a") 9) (named_input (codes "b") 10 ∷ []) (record { begins = refl; each = refl })
+      (All-cons (λ (i : InputReg). IsName i.name) (named_input (codes "b") 10) [] (record { begins = refl; each = refl }) (All-nil (λ (i : InputReg). IsName i.name)));
   targets = All-cons (λ (t : TargetTree). IsName t.name) _ [] (record { begins = refl; each = refl }) (All-nil (λ (t : TargetTree). IsName t.name));
 }
 

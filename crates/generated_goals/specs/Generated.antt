@@ -47,14 +47,14 @@ chain size (suc i) = applied (picked (number_at size (suc i))) (chain size i)
 
 -- ---- the goal
 
-abbrev pub input_in : List ℕ → ℕ → InputReg
-input_in name register = record { name = name; reg = register }
+abbrev pub named_input : List ℕ → ℕ → InputReg
+named_input name register = record { name = name; reg = register }
 
 -- ( goal gen ( in a $9 ) ( in b $10 ) ( set x term ) )
 abbrev pub generated_goal : ℕ → GoalTree
 generated_goal size = record {
   name = codes "gen";
-  inputs = input_in (codes "a") 9 ∷ input_in (codes "b") 10 ∷ [];
+  inputs = named_input (codes "a") 9 ∷ named_input (codes "b") 10 ∷ [];
   pool = default_pool registers;
   assumes = [];
   guard = None;

@@ -6,7 +6,7 @@ ghost use Rattle.saturation.specs.GoalTerms.{input_term};
 ghost use Rattle.word_terms.specs.View.{tree_of};
 ghost use Rattle.generated_goals.specs.Generated as specs;
 
-use goal_meaning::{Goal, Input, InputReg, Set};
+use goal_meaning::{FREE_REGISTERS, Goal, Input, InputReg, Set};
 use items::{Items, NoMemory};
 use machine_table::ev6;
 use std::alloc::Global;
@@ -18,12 +18,8 @@ use word_terms::{Term, application};
 const A: u8 = 9;
 /// The register of the input `b`.
 const B: u8 = 10;
-/// The registers that a goal may use which gives no pool.
-const POOL: [u8; 21] = [
-    0, 1, 2, 3, 4, 5, 6, 7, 8, 16, 17, 18, 19, 20, 21, 22, 23, 24, 25, 27, 28,
-];
 
-/// The number behind one in the sequence.
+/// The next number of the sequence.
 fn next_number(number: u32) -> u32
     requires { number < 256 }
     ensures value { result ≡ specs.next_number number }
@@ -60,7 +56,7 @@ fn applied(alloc: Global, op: WordOp, term: Term<Op>) -> Result<Term<Op>, NoMemo
     Ok(application(Op::Word(op), operands))
 }
 
-/// `a` with so many operators applied.
+/// `a` with `size` operators applied.
 fn chain(alloc: Global, size: u32) -> Result<Term<Op>, NoMemory>
     requires { size < 256 }
     ensures { IfOk result (λ t. tree_of t ≡ specs.chain size size) }
@@ -75,7 +71,7 @@ fn chain(alloc: Global, size: u32) -> Result<Term<Op>, NoMemory>
 }
 
 fn input_in(alloc: Global, name: &[u8], register: u8) -> Result<InputReg, NoMemory>
-    ensures { IfOk result (λ i. i ≡ specs.input_in name.now register) }
+    ensures { IfOk result (λ i. i ≡ specs.named_input name.now register) }
 {
     Ok(InputReg {
         name: Name::new(alloc, name)?,
@@ -106,7 +102,7 @@ fn target(alloc: Global, size: u32) -> Result<Set, NoMemory>
 fn pool(alloc: Global) -> Result<Items<u8>, NoMemory>
     ensures { IfOk result (λ pool. pool ≡ default_pool specs.registers) }
 {
-    Items::from_slice(alloc, &POOL)
+    Items::from_slice(alloc, &FREE_REGISTERS)
 }
 
 fn goal(alloc: Global, size: u32) -> Result<Goal, NoMemory>
@@ -123,7 +119,7 @@ fn goal(alloc: Global, size: u32) -> Result<Goal, NoMemory>
     })
 }
 
-/// The input whose one goal sets `x` to a chain of so many operators, from 1 to 20.
+/// The input with one goal, which sets `x` to a chain of `size` operators, 1 to 20.
 pub fn generated(alloc: Global, size: u32) -> Result<Input, NoMemory>
     requires { (1 ≤ size) × (size ≤ 20) }
     ensures { IfOk result (λ input. input_view input ≡ specs.generated_input size) }

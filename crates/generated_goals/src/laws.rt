@@ -26,8 +26,8 @@ pub fn generated_goals_have_a_world()
         → (world : World) × IsWorld world × HoldsFor (generated_input size) (generated_goal size) world }
 {}
 
-/// A graph that stands for a generated goal has a schedule in as many cycles as the goal has operators: they are
-/// launched in the slot U0, one in each cycle.
+/// A graph that stands for a generated goal has a schedule in as many cycles as the goal has operators: one operator is
+/// launched in each cycle, in the slot U0.
 pub fn generated_goals_can_be_scheduled()
     ensures { (size : ℕ) (g : LaunchGraph) → size ≤ 20 → IsLaunchGraph g
         → StandsFor (generated_input size) (generated_goal size) g → (ls : List LaunchOf) × Fits g ev6 size ls }

@@ -1,5 +1,5 @@
-//! Goals that are made from a number: a chain of so many operators over two inputs, without axioms. Each of them can be
-//! scheduled in as many cycles, whatever its graph is.
+//! Goals that are made from a number: a chain of that many operators over two inputs, without axioms. Each can be
+//! scheduled in as many cycles as it has operators, whatever its graph is.
 #![tactic(auto)]
 
 mod generating;

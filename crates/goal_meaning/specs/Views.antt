@@ -1,5 +1,5 @@
--- What is seen of goals, axioms and inputs: their terms are trees, since two vectors with the same items may differ.
--- Source: this project.
+-- Goals, axioms and inputs as contracts see them: their terms are trees, since two vectors with the same items may
+-- differ. Source: this project.
 use Rattle.std.specs.Prelude.{ℕ, Bool, List, map, Option, option_map}
 use Rattle.word_ops.specs.declared.sorts.Op.{Op}
 use Rattle.word_terms.specs.Tree.{Tree}

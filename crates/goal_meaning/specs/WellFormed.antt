@@ -1,4 +1,4 @@
--- Well-formed inputs: what an input keeps that was read. Source: this project.
+-- Well-formed inputs: what holds of every input that was read. Source: this project.
 use Rattle.std.specs.Prelude.{true, false, ℕ, ◌≡◌, ◌≢◌, ◌+◌, ◌^◌, ◌<◌, ◌≤◌, if◌then◌else◌, List, [], ◌∷◌, length, map, replicate, slice_get, bytes_eq, codes, None, Some, IfSome, All, AllPairs, Contains}
 use Rattle.std.specs.Option.{option_map_or}
 use Rattle.text_core.specs.Names.{IsName, is_among}
@@ -147,5 +147,5 @@ pub record IsInput (input : InputTree) : Type 0 where
   pub some_goal : 0 < length input.goals
   pub few : (length input.ops ≤ 16) × (length input.axioms ≤ 64) × (length input.goals ≤ 64)
   pub few_operators : operators_of_input input < 2 ^ 29
-  -- as many lists stand inside one another in its canonical text
+  -- so many lists stand inside one another in its canonical text
   pub nested : most_levels (plains_from (input_plains input)) ≤ 64

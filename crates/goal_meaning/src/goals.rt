@@ -5,6 +5,11 @@ use text_core::Name;
 use word_ops::{Arity, Op};
 use word_terms::Term;
 
+/// The registers that a goal may use where it gives no pool, but for those of its inputs.
+pub const FREE_REGISTERS: [u8; 21] = [
+    0, 1, 2, 3, 4, 5, 6, 7, 8, 16, 17, 18, 19, 20, 21, 22, 23, 24, 25, 27, 28,
+];
+
 /// An operator that an input declares.
 #[derive(Drop)]
 pub struct DeclaredOp {

@@ -6,7 +6,7 @@ ghost use Rattle.goal_meaning.specs.Views.{GoalTree, InputTree};
 ghost use Rattle.goal_meaning.specs.declared.goals.DeclaredOp.{DeclaredOp};
 ghost use Rattle.word_ops.specs.Worlds.{World, memory};
 
-/// Whether the axioms of an input hold in a world turns on its declared operators and its axioms alone, not on its
+/// Whether the axioms of an input hold in a world depends on its declared operators and its axioms alone, not on its
 /// table or its goals; an input without axioms holds in each world.
 pub fn axioms_hold_for_all_goals()
     ensures same { (input other : InputTree) (world : World) → input.ops ≡ other.ops → input.axioms ≡ other.axioms
@@ -16,8 +16,8 @@ pub fn axioms_hold_for_all_goals()
         → Holds input world → HoldsFor input goal world }
 {}
 
-/// A goal without a guard, or with one that isn't 0, gives its targets their new values; one whose guard is 0 is left.
-/// The memory stays where it is no target.
+/// If a goal has no guard, or one that isn't 0, its targets get their new values; if its guard is 0, the block is left.
+/// The memory stays as it is where it is no target.
 pub fn goals_have_outcomes()
     ensures unguarded { (declared : List DeclaredOp) (world : World) (goal : GoalTree) → goal.guard ≡ None
         → outcome declared world goal

@@ -7,5 +7,5 @@
 mod goals;
 mod laws;
 
-pub use goals::{Assume, Axiom, DeclaredOp, Goal, Input, InputReg, Set};
+pub use goals::{Assume, Axiom, DeclaredOp, FREE_REGISTERS, Goal, Input, InputReg, Set};
 pub use laws::{axioms_hold_for_all_goals, goals_have_outcomes};

@@ -24,7 +24,7 @@ use Rattle.goal_reader.specs.Reading.{IsClear}
 use Rattle.goal_meaning.specs.WellFormed.{input_registers}
 use Rattle.goal_reader.specs.Roles as roles
 use Rattle.goal_meaning.specs.Names as goal_names
-use Rattle.goal_reader.specs.Roles.{a_list, no_set, rank, is_of_rank, of_rank, goal_keywords, text_keywords, items_of, second_name, goal_scope, Role}
+use Rattle.goal_reader.specs.Roles.{a_list, no_set, rank, is_of_rank, of_rank, goal_keywords, text_keywords, items_of_goal, second_name, goal_scope, Role}
 use Rattle.goal_reader.proofs.Different.{pairs_map, default_different}
 use Rattle.goal_reader.proofs.ItemForms.{keyworded_by, is_name, list_from_list}
 use Rattle.goal_reader.proofs.Keeping.{each_length}
@@ -43,8 +43,8 @@ set_there : (b : Bool) → (b ≡ false → ⊥) → b ≡ true
 set_there true h = refl
 set_there false h = absurd (h refl)
 
-pub has_set : (declared : List DeclaredOp) (names : List (List ℕ)) (form : Form) → IsClear (a_list (roles.goal declared names)) form → list_any (is_of_rank goal_keywords 4) (items_of form) ≡ true
-has_set declared names form clear = set_there (list_any (is_of_rank goal_keywords 4) (items_of form)) (λ e. clear (place_of form) BadForm (own (no_set e) refl))
+pub has_set : (declared : List DeclaredOp) (names : List (List ℕ)) (form : Form) → IsClear (a_list (roles.goal declared names)) form → list_any (is_of_rank goal_keywords 4) (items_of_goal form) ≡ true
+has_set declared names form clear = set_there (list_any (is_of_rank goal_keywords 4) (items_of_goal form)) (λ e. clear (place_of form) BadForm (own (no_set e) refl))
 
 kept_some : (b : Bool) (f : Form) (rest : List Form) (other : Bool) → b || other ≡ true → (other ≡ true → 0 < length rest) → 0 < length (if b then f ∷ rest else rest)
 kept_some true f rest other e later = omega arith
@@ -63,15 +63,15 @@ registers_kept : (inputs : List ℕ) (p : Option (List ℕ)) → AreDifferent (i
 registers_kept inputs None d = default_different inputs (subst AreDifferent (append-nil inputs) d)
 registers_kept inputs (Some rs) d = d
 
-module _ (declared : List DeclaredOp) (form : Form) (g : Goal) (d : Draft) (draft : IsDraft declared (items_of form) d) (w : IsWritten (items_of form) d) (k : KeepsSoFar declared d)
+module _ (declared : List DeclaredOp) (form : Form) (g : Goal) (d : Draft) (draft : IsDraft declared (items_of_goal form) d) (w : IsWritten (items_of_goal form) d) (k : KeepsSoFar declared d)
     (inputs : g.inputs ≡ d.inputs) (pool : g.pool ≡ pool_kept (input_registers d.inputs) d.pool) (assumes : g.assumes ≡ d.assumes) (guard : g.guard ≡ d.guard) (sets : g.sets ≡ d.sets)
-    (some : list_any (is_of_rank goal_keywords 4) (items_of form) ≡ true) where
+    (some : list_any (is_of_rank goal_keywords 4) (items_of_goal form) ≡ true) where
   rules_kept : KeepsRules declared (goal_view g)
   rules_kept =
       let registers : AreDifferent (input_registers g.inputs ++ g.pool) =
       subst (λ rs. AreDifferent (input_registers g.inputs ++ rs)) (sym pool) (subst (λ is. AreDifferent (input_registers is ++ pool_kept (input_registers d.inputs) d.pool)) (sym inputs) (registers_kept (input_registers d.inputs) d.pool k.registers)) in
-      let count = some_of_rank goal_keywords 4 (items_of form) some in
-      let same = each_length (IsTargeted d.scope) (of_rank goal_keywords 4 (items_of form)) d.sets w.targets in
+      let count = some_of_rank goal_keywords 4 (items_of_goal form) some in
+      let same = each_length (IsTargeted d.scope) (of_rank goal_keywords 4 (items_of_goal form)) d.sets w.targets in
       let sets_length = length-map g.sets target_view in
       let assumes_length = length-map g.assumes assume_view in
       let s = ap length sets in
@@ -99,8 +99,8 @@ module _ (declared : List DeclaredOp) (form : Form) (g : Goal) (d : Draft) (draf
       let first = second.0 in
       let others = second.1 in
       let whole : form ≡ list q.place (more (atom q.head (name (codes "goal"))) (more first others)) = q.is ∙ ap (λ r. list q.place (more (atom q.head (name (codes "goal"))) r)) second.2 in
-      let items : items_of form ≡ forms_list others = ap items_of whole in
-      let r : ℕ → List Form = λ n. of_rank goal_keywords n (items_of form) in
+      let items : items_of_goal form ≡ forms_list others = ap items_of_goal whole in
+      let r : ℕ → List Form = λ n. of_rank goal_keywords n (items_of_goal form) in
       let sorted : forms_list others ≡ r 0 ++ (r 1 ++ (r 2 ++ (r 3 ++ r 4))) = sym items ∙ w.sorted in
       let spread : more first others ≡ forms_from (first ∷ (r 0 ++ (r 1 ++ (r 2 ++ (r 3 ++ r 4))))) = ap (more first) (list_from_list others ∙ ap forms_from sorted) in
       record {

@@ -7,7 +7,7 @@ use Rattle.text_core.specs.Faults.{IsFirst}
 use Rattle.forms.specs.Forms.{Form, place_of, parts_of}
 use Rattle.forms.specs.Forms.{Stands}
 use Rattle.forms.proofs.First.{first_own, first_inside, ClearTo, no_fault}
-use Rattle.goal_reader.specs.Roles.{Role, Shape, a_list, wrong, IsOwn, too_few, wrong_part, part_role, shape_part, listed, least_parts, IsFaultAs}
+use Rattle.goal_reader.specs.Roles.{Role, Shape, a_list, wrong, IsOwn, too_few, wrong_part, part_role, shape_part, listed_role, least_parts, IsFaultAs}
 use Rattle.goal_reader.specs.Reading.{IsClear}
 use Rattle.goal_reader.proofs.Owns as owns
 
@@ -22,7 +22,7 @@ wrong_first form low high h = first_own IsOwn part_role wrong form low high BadF
 
 module _ (shape : Shape) (form : Form) (roles : List Role) (low high : ℕ) (h : Stands low high form)
     (only : (k : Kind) → IsOwn (a_list shape) form k → length (parts_of form) < least_parts shape)
-    (listed_are : (at : ℕ) → shape_part shape form at ≡ listed roles at) where
+    (listed_are : (at : ℕ) → shape_part shape form at ≡ listed_role roles at) where
   pub short_first : length (parts_of form) < least_parts shape → IsFirst (IsFaultAs (a_list shape) form) (place_of form) BadForm
   short_first few = first_own IsOwn part_role (a_list shape) form low high BadForm h (too_few few) (λ k is. owns.own_at_least is)
 

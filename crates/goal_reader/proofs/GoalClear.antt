@@ -19,7 +19,7 @@ use Rattle.goal_reader.specs.Reading.{IsClear, names_of_inputs}
 use Rattle.goal_meaning.specs.WellFormed.{input_registers, sort_of_target}
 use Rattle.goal_reader.specs.Roles as roles
 use Rattle.text_core.specs.Names.{is_among}
-use Rattle.goal_reader.specs.Roles.{Role, a_list, wrong, IsOwn, too_few, part_role, own_name, fresh_name, fresh_register, term, rank, of_rank, is_of_rank, goal_keywords, goal_bounds, bound_at, items_of, item_role, role_in, goal_scope, inputs_in, names_given, registers_in, WritesTerm, second_name, register_of}
+use Rattle.goal_reader.specs.Roles.{Role, a_list, wrong, IsOwn, too_few, part_role, own_name, fresh_name, fresh_register, term, rank, of_rank, is_of_rank, goal_keywords, goal_bounds, bound_at, items_of_goal, item_role, role_in, goal_scope, inputs_in, names_given, registers_in, WritesTerm, second_name, register_of}
 use Rattle.goal_meaning.specs.Names.{is_reserved, names_of_declared}
 use Rattle.goal_meaning.specs.Rules.{has_register}
 use Rattle.goal_meaning.specs.Views.{TwoTrees, TargetTree, GoalTree}
@@ -273,13 +273,13 @@ written_goal_clear declared names form g w fresh =
     let walk = items_walk declared g k.input_names k.own_names k.not_declared k.registers k.targets k.few w.ins w.pools w.assumes w.whens w.sets w.inputs w.pool w.assumptions w.guard w.targets in
     let enough : 2 ≤ length (parts_of form) = (let n = ap length parts in omega (arith, n)) in
     let sets = some_there goal_keywords 4 w.sets (all_sets declared form g w) (sets_counted (WritesTarget (goal_scope declared g.inputs)) w.sets g.sets w.targets k.some_target) in
-    let some : list_any (is_of_rank goal_keywords 4) (items_of form) ≡ true =
+    let some : list_any (is_of_rank goal_keywords 4) (items_of_goal form) ≡ true =
     ap (list_any (is_of_rank goal_keywords 4)) items ∙ any_behind _ w.ins _ (any_behind _ w.pools _ (any_behind _ w.assumes _ (any_behind _ w.whens w.sets sets))) in
     no_fault IsOwn part_role (a_list (roles.goal declared names)) form (goal_clear declared names form enough some)
     (λ j part other place kind got e. part_clear j part other got e parts items walk place kind)
   where
     part_clear : (j : ℕ) (part : Form) (other : Role) → slice_get (parts_of form) j ≡ Some part → part_role (a_list (roles.goal declared names)) form j ≡ Some other
-        → parts_of form ≡ atom w.is.head_place (name (codes "goal")) ∷ w.name_form ∷ read.behind_name declared form g w → items_of form ≡ read.behind_name declared form g w
+        → parts_of form ≡ atom w.is.head_place (name (codes "goal")) ∷ w.name_form ∷ read.behind_name declared form g w → items_of_goal form ≡ read.behind_name declared form g w
         → Walk (HasNoFault declared) [] (read.behind_name declared form g w) → IsClear other part
     part_clear zero part other got e parts items walk = no_role other part e
     part_clear (suc zero) part other got e parts items walk =
@@ -288,7 +288,7 @@ written_goal_clear declared names form g w fresh =
         subst (λ (f : Form). IsClear other f) same (as_role (fresh_name names) w.name_form (fresh_name_clear names w.name_form g.name (ap name_in w.named.is) fresh) other e)
     part_clear (suc (suc at)) part other got e parts items walk =
         let role = item_at declared names form (suc (suc at)) part (omega arith) got in
-        let at_is : take (suc (suc at) - 2) (items_of form) ≡ take at (read.behind_name declared form g w) = ap₂ (λ n (fs : List Form). take n fs) (let n : suc (suc at) - 2 ≡ at = omega arith in n) items in
+        let at_is : take (suc (suc at) - 2) (items_of_goal form) ≡ take at (read.behind_name declared form g w) = ap₂ (λ n (fs : List Form). take n fs) (let n : suc (suc at) - 2 ≡ at = omega arith in n) items in
         let there : slice_get (read.behind_name declared form g w) at ≡ Some part = ap (λ fs. slice_get fs at) (sym items) ∙ got_dropped (parts_of form) at ∙ got in
         let clear = walk_at (HasNoFault declared) [] (read.behind_name declared form g w) walk at part there in
         as_role (role_in goal_keywords goal_bounds (take at (read.behind_name declared form g w)) (item_role declared (take at (read.behind_name declared form g w))) part) part clear other

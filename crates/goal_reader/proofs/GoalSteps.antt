@@ -19,7 +19,7 @@ use Rattle.goal_meaning.specs.declared.goals.Set.{Set}
 use Rattle.goal_reader.specs.declared.drafts.Draft.{Draft}
 use Rattle.goal_reader.specs.declared.order.Admission.TheVariants.{Admitted}
 use Rattle.goal_reader.specs.Roles as roles
-use Rattle.goal_reader.specs.Roles.{Role, a_list, wrong, goal, IsOwn, too_few, no_set, part_role, IsFaultAs, rank, is_of_rank, of_rank, goal_keywords, goal_bounds, bound_at, items_of, item_role, role_in, goal_scope, inputs_in, input_in, names_given, second_name, fresh_name}
+use Rattle.goal_reader.specs.Roles.{Role, a_list, wrong, goal, IsOwn, too_few, no_set, part_role, IsFaultAs, rank, is_of_rank, of_rank, goal_keywords, goal_bounds, bound_at, items_of_goal, item_role, role_in, goal_scope, inputs_in, input_in, names_given, second_name, fresh_name}
 use Rattle.goal_reader.specs.Order.{IsAdmission}
 use Rattle.goal_reader.specs.Reading.{IsClear, names_of_targets}
 use Rattle.goal_meaning.specs.WellFormed.{input_registers}
@@ -49,7 +49,7 @@ dropped_map text [] = refl
 dropped_map text (x ∷ []) = refl
 dropped_map text (x ∷ y ∷ xs) = refl
 
-pub items_are : (text : List ℕ) (form : Form) (p : ℕ) (parts : List Sexp) → form ≡ list p (forms_from (sexp_forms text parts)) → sexp_forms text (take (length parts - 2) (drop 2 parts)) ≡ items_of form
+pub items_are : (text : List ℕ) (form : Form) (p : ℕ) (parts : List Sexp) → form ≡ list p (forms_from (sexp_forms text parts)) → sexp_forms text (take (length parts - 2) (drop 2 parts)) ≡ items_of_goal form
 items_are text form p parts e = ap (sexp_forms text) (rest_two parts) ∙ dropped_map text parts ∙ ap (drop 2) (sym (parts_form form p (sexp_forms text parts) e))
 
 pub all_two : {X : Type 0} (P : X → Type 0) (xs rest : List X) → rest ≡ drop 2 xs → All P xs → All P rest
@@ -146,7 +146,7 @@ module _ (declared : List DeclaredOp) (names : List (List ℕ)) (form : Form) wh
   abbrev pub whole : Role
   whole = a_list (goal declared names)
 
-  pub goal_clear : 2 ≤ length (parts_of form) → list_any (is_of_rank goal_keywords 4) (items_of form) ≡ true → (k : Kind) → IsOwn whole form k → ⊥
+  pub goal_clear : 2 ≤ length (parts_of form) → list_any (is_of_rank goal_keywords 4) (items_of_goal form) ≡ true → (k : Kind) → IsOwn whole form k → ⊥
   goal_clear enough some k (too_few l) = absurd (omega (arith, enough, l))
   goal_clear enough some k (no_set e) = let f : true ≡ false = sym some ∙ e in cc
 
@@ -155,18 +155,18 @@ module _ (declared : List DeclaredOp) (names : List (List ℕ)) (form : Form) wh
   item_at zero part l g = absurd (omega (arith, l))
   item_at (suc zero) part l g = absurd (omega (arith, l))
   item_at (suc (suc at)) part l g =
-      subst (λ n. part_role whole form (suc (suc at)) ≡ Some (role_in goal_keywords goal_bounds (take n (items_of form)) (item_role declared (take n (items_of form))) part))
+      subst (λ n. part_role whole form (suc (suc at)) ≡ Some (role_in goal_keywords goal_bounds (take n (items_of_goal form)) (item_role declared (take n (items_of_goal form))) part))
       (let e : at ≡ suc (suc at) - 2 = omega arith in e)
-      (ap (λ o. option_map (role_in goal_keywords goal_bounds (take at (items_of form)) (item_role declared (take at (items_of form)))) o) (got_dropped (parts_of form) at ∙ g))
+      (ap (λ o. option_map (role_in goal_keywords goal_bounds (take at (items_of_goal form)) (item_role declared (take at (items_of_goal form)))) o) (got_dropped (parts_of form) at ∙ g))
 
   pub before_next : (i : ℕ) (part : Form) → 2 ≤ i → slice_get (parts_of form) i ≡ Some part → items_before form (i + 1) ≡ items_before form i ++ part ∷ []
   before_next zero part l g = absurd (omega (arith, l))
   before_next (suc zero) part l g = absurd (omega (arith, l))
   before_next (suc (suc at)) part l g =
-      ap (λ n. take n (items_of form)) (let e : suc (suc at) + 1 - 2 ≡ at + 1 = omega arith in e) ∙ got_more (items_of form) at part (got_dropped (parts_of form) at ∙ g)
-      ∙ ap (λ n. take n (items_of form) ++ part ∷ []) (let e : at ≡ suc (suc at) - 2 = omega arith in e)
+      ap (λ n. take n (items_of_goal form)) (let e : suc (suc at) + 1 - 2 ≡ at + 1 = omega arith in e) ∙ got_more (items_of_goal form) at part (got_dropped (parts_of form) at ∙ g)
+      ∙ ap (λ n. take n (items_of_goal form) ++ part ∷ []) (let e : at ≡ suc (suc at) - 2 = omega arith in e)
 
-  pub all_items : (i : ℕ) → length (parts_of form) ≤ i → items_before form i ≡ items_of form
+  pub all_items : (i : ℕ) → length (parts_of form) ≤ i → items_before form i ≡ items_of_goal form
   all_items i most = take_all (i - 2) (drop 2 (parts_of form)) (let l = length-drop 2 (parts_of form) in omega (arith, l, most))
 
   pub clear_one : ClearTo IsOwn part_role whole form 1
@@ -187,7 +187,7 @@ module _ (declared : List DeclaredOp) (names : List (List ℕ)) (form : Form) wh
         | inr (inr after) ↦ absurd (omega (arith, below, after))
       ]
 
-  pub whole_clear : (n : ℕ) → 2 ≤ length (parts_of form) → list_any (is_of_rank goal_keywords 4) (items_of form) ≡ true → length (parts_of form) ≤ n → ClearTo IsOwn part_role whole form n → IsClear whole form
+  pub whole_clear : (n : ℕ) → 2 ≤ length (parts_of form) → list_any (is_of_rank goal_keywords 4) (items_of_goal form) ≡ true → length (parts_of form) ≤ n → ClearTo IsOwn part_role whole form n → IsClear whole form
   whole_clear n enough some most clear =
       no_fault IsOwn part_role whole form (goal_clear enough some)
       (λ j part other place kind g e fault. clear j part other place kind (let l = got_within (parts_of form) j part g in omega (arith, l, most)) g e fault)
@@ -196,9 +196,9 @@ module _ (declared : List DeclaredOp) (names : List (List ℕ)) (form : Form) wh
     pub short_goal : length (parts_of form) < 2 → IsFirst (IsFaultAs whole form) (place_of form) BadForm
     short_goal l = first_own IsOwn part_role whole form low high BadForm h (too_few l) (λ k is. owns.own_at_least is)
 
-    pub no_set_first : list_any (is_of_rank goal_keywords 4) (items_of form) ≡ false → IsFirst (IsFaultAs whole form) (place_of form) BadForm
+    pub no_set_first : list_any (is_of_rank goal_keywords 4) (items_of_goal form) ≡ false → IsFirst (IsFaultAs whole form) (place_of form) BadForm
     no_set_first e = first_own IsOwn part_role whole form low high BadForm h (no_set e) (λ k is. owns.own_at_least is)
 
-    pub part_first : (i : ℕ) (part : Form) (role : Role) (place : ℕ) (kind : Kind) → 2 ≤ length (parts_of form) → list_any (is_of_rank goal_keywords 4) (items_of form) ≡ true
+    pub part_first : (i : ℕ) (part : Form) (role : Role) (place : ℕ) (kind : Kind) → 2 ≤ length (parts_of form) → list_any (is_of_rank goal_keywords 4) (items_of_goal form) ≡ true
         → slice_get (parts_of form) i ≡ Some part → part_role whole form i ≡ Some role → ClearTo IsOwn part_role whole form i → IsFirst (IsFaultAs role part) place kind → IsFirst (IsFaultAs whole form) place kind
     part_first i part role place kind enough some g e clear first = first_inside IsOwn part_role whole form low high i part role place kind h (goal_clear enough some) g e clear first

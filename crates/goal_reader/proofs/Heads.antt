@@ -14,7 +14,7 @@ use Rattle.forms.specs.Forms.{Stands}
 use Rattle.forms.proofs.First.{first_own, first_inside, ClearTo, span_of}
 use Rattle.goal_reader.specs.declared.scopes.Scope.{Scope}
 use Rattle.goal_reader.specs.Scopes.{operator_named}
-use Rattle.goal_reader.specs.Roles.{Role, term, operator, IsOwn, no_term, wrong_arity, wrong_sort, no_operator_name, unknown_operator, operator_in, sort_in, can_be_term, part_role, IsFaultAs, IsWanted, IsApplication, ◌>>=◌}
+use Rattle.goal_reader.specs.Roles.{Role, term, operator, IsOwn, no_term, wrong_arity, wrong_sort, no_operator_name, unknown_operator, operator_in, sort_in, can_be_term, part_role, IsFaultAs, IsWanted, IsApplicationForm, ◌>>=◌}
 use Rattle.goal_reader.proofs.Owns as owns
 
 abbrev FirstFault : Role → Form → ℕ → Kind → Type 0
@@ -106,7 +106,7 @@ module _ (scope : Scope) (wanted : Option Sort) (form : Form) (p low high : ℕ)
       let first = sort_fault scope wanted p f (forms_from fs) low high (subst (λ (x : Form). Stands low high x) e h) op (ap (operator_in scope.declared) (sym e) ∙ k) (ap length (list_from (f ∷ fs)) ∙ n) w in
       subst (λ (x : Form). FirstFault (term scope wanted) x (place_of x) WrongSort) (sym e) first
 
-  pub application_is : (forms : List Form) (op : Op) → form ≡ list p (forms_from forms) → operator_in scope.declared form ≡ Some op → length forms ≡ 1 + arity_of_op op → IsWanted wanted (sort_of op) → IsApplication scope wanted form op
+  pub application_is : (forms : List Form) (op : Op) → form ≡ list p (forms_from forms) → operator_in scope.declared form ≡ Some op → length forms ≡ 1 + arity_of_op op → IsWanted wanted (sort_of op) → IsApplicationForm scope wanted form op
   application_is forms op e k n w = record { known = k; count = count_of_parts forms e ∙ n; wanted_one = w }
 
 pub part_form : (text : List ℕ) (parts : List Sexp) (i : ℕ) (part : Sexp) → slice_get parts i ≡ Some part → slice_get (sexp_forms text parts) i ≡ Some (sexp_form text part)

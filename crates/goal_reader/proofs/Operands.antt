@@ -16,7 +16,7 @@ use Rattle.forms.proofs.First.{first_inside, ClearTo}
 use Rattle.goal_reader.specs.declared.scopes.Scope.{Scope}
 use Rattle.goal_reader.specs.Scopes.{operator_named}
 use Rattle.goal_reader.specs.Terms.{Writes, WritesEach, application, nothing, operand}
-use Rattle.goal_reader.specs.Roles.{term, operator, IsOwn, part_role, IsFaultAs, IsApplication, WritesTerm, operator_in, ◌>>=◌}
+use Rattle.goal_reader.specs.Roles.{term, operator, IsOwn, part_role, IsFaultAs, IsApplicationForm, WritesTerm, operator_in, ◌>>=◌}
 use Rattle.goal_reader.proofs.Heads.{list_from, part_form}
 use Rattle.goal_reader.proofs.Apart.{operator_name_clear, each_clear, operand_role, at_role}
 use Rattle.goal_reader.proofs.Atoms.{name_is}
@@ -55,7 +55,7 @@ known_name scope op None k = cc
 known_name scope op (Some bytes) k = (bytes, refl, k)
 
 -- the head of an application that is known has no fault
-head_clear : (scope : Scope) (wanted : Option Sort) (p : ℕ) (head : Form) (rest : Forms) (op : Op) → IsApplication scope wanted (list p (more head rest)) op → (place : ℕ) (kind : Kind) → IsFaultAs (operator scope.declared) head place kind → ⊥
+head_clear : (scope : Scope) (wanted : Option Sort) (p : ℕ) (head : Form) (rest : Forms) (op : Op) → IsApplicationForm scope wanted (list p (more head rest)) op → (place : ℕ) (kind : Kind) → IsFaultAs (operator scope.declared) head place kind → ⊥
 head_clear scope wanted p head rest op a =
     let n = known_name scope op (name_in head) a.known in
     operator_name_clear scope.declared head n.0 op n.1 n.2
@@ -67,7 +67,7 @@ take_get (x ∷ xs) zero k l = absurd (omega arith)
 take_get (x ∷ xs) (suc i) zero l = refl
 take_get (x ∷ xs) (suc i) (suc k) l = take_get xs i k (omega arith)
 
-clear_before : (scope : Scope) (wanted : Option Sort) (p : ℕ) (head : Form) (rest : List Form) (op : Op) (i : ℕ) (ts : List (Tree Op)) → IsApplication scope wanted (list p (more head (forms_from rest))) op → WritesEach scope op 0 (forms_from (take i rest)) (operands_of ts)
+clear_before : (scope : Scope) (wanted : Option Sort) (p : ℕ) (head : Form) (rest : List Form) (op : Op) (i : ℕ) (ts : List (Tree Op)) → IsApplicationForm scope wanted (list p (more head (forms_from rest))) op → WritesEach scope op 0 (forms_from (take i rest)) (operands_of ts)
     → ClearTo IsOwn part_role (term scope wanted) (list p (more head (forms_from rest))) (suc i)
 clear_before scope wanted p head rest op i ts a each zero part other place kind l g e fault =
     let same : part ≡ head = cc in
@@ -80,12 +80,12 @@ clear_before scope wanted p head rest op i ts a each (suc k) part other place ki
     each_clear each k part got place kind (at_role _ other part part place kind (role ∙ ap (λ m. term scope (Some (operand_sort op m))) (omega arith)) refl fault)
 
 -- the first fault of an application whose operands so far have none
-module _ (scope : Scope) (wanted : Option Sort) (form : Form) (p low high : ℕ) (h : Stands low high form) (op : Op) (a : IsApplication scope wanted form op) where
+module _ (scope : Scope) (wanted : Option Sort) (form : Form) (p low high : ℕ) (h : Stands low high form) (op : Op) (a : IsApplicationForm scope wanted form op) where
   operand_first_in : (text : List ℕ) (head : Form) (rest : List Sexp) (ts : List (Tree Op)) (part : Sexp) (i place : ℕ) (kind : Kind) → form ≡ list p (more head (forms_from (sexp_forms text rest))) → i < length rest → part ≡ get_or rest i part
       → WritesEach scope op 0 (forms_from (sexp_forms text (take i rest))) (operands_of ts) → IsFirst (IsFaultAs (term scope (Some (operand_sort op i))) (sexp_form text part)) place kind → IsFirst (IsFaultAs (term scope wanted) form) place kind
   operand_first_in text head rest ts part i place kind e l is each first =
       let whole : Form = list p (more head (forms_from (sexp_forms text rest))) in
-      let b : IsApplication scope wanted whole op = subst (λ (x : Form). IsApplication scope wanted x op) e a in
+      let b : IsApplicationForm scope wanted whole op = subst (λ (x : Form). IsApplicationForm scope wanted x op) e a in
       let s : Stands low high whole = subst (λ (x : Form). Stands low high x) e h in
       let got : slice_get rest i ≡ Some part = slice_get-get_or rest i part l ∙ ap Some (sym is) in
       let got_form : slice_get (forms_list (forms_from (sexp_forms text rest))) i ≡ Some (sexp_form text part) = ap (λ fs. slice_get fs i) (list_from (sexp_forms text rest)) ∙ part_form text rest i part got in
@@ -104,7 +104,7 @@ module _ (scope : Scope) (wanted : Option Sort) (form : Form) (p low high : ℕ)
   whole_in : (text : List ℕ) (head : Form) (rest : List Sexp) (ts : List (Tree Op)) → form ≡ list p (more head (forms_from (sexp_forms text rest))) → WritesEach scope op 0 (forms_from (sexp_forms text rest)) (operands_of ts)
       → WritesTerm scope wanted form (tree.application op (operands_of ts))
   whole_in text head rest ts e each =
-      let b : IsApplication scope wanted (list p (more head (forms_from (sexp_forms text rest)))) op = subst (λ (x : Form). IsApplication scope wanted x op) e a in
+      let b : IsApplicationForm scope wanted (list p (more head (forms_from (sexp_forms text rest)))) op = subst (λ (x : Form). IsApplicationForm scope wanted x op) e a in
       let n = known_name scope op (name_in head) b.known in
       let is : head ≡ atom (place_of head) (name n.0) = name_is head n.0 n.1 in
       let count : length (forms_list (forms_from (sexp_forms text rest))) ≡ arity_of_op op = (let c = b.count in omega (arith, c)) in
@@ -124,7 +124,7 @@ rest_is [] = refl
 rest_is (x ∷ xs) = take_all (length (x ∷ xs) - 1) xs (omega arith)
 
 -- how many operands an application has
-pub operand_count : (scope : Scope) (wanted : Option Sort) (form : Form) (p : ℕ) (op : Op) (text : List ℕ) (parts : List Sexp) → IsApplication scope wanted form op → form ≡ list p (forms_from (sexp_forms text parts)) → length parts ≡ 1 + arity_of_op op
+pub operand_count : (scope : Scope) (wanted : Option Sort) (form : Form) (p : ℕ) (op : Op) (text : List ℕ) (parts : List Sexp) → IsApplicationForm scope wanted form op → form ≡ list p (forms_from (sexp_forms text parts)) → length parts ≡ 1 + arity_of_op op
 operand_count scope wanted form p op text parts a e =
     sym (length-map parts (sexp_form text)) ∙ sym (ap length (list_from (sexp_forms text parts))) ∙ ap (λ (f : Form). length (parts_of f)) (sym e) ∙ a.count
 

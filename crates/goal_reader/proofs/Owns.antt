@@ -12,7 +12,7 @@ use Rattle.goal_meaning.specs.declared.goals.DeclaredOp.{DeclaredOp}
 use Rattle.goal_reader.specs.declared.scopes.Named.{Named}
 use Rattle.goal_reader.specs.declared.scopes.Named.TheVariants.{Lacking}
 use Rattle.goal_reader.specs.Scopes.{leaf_named, operator_named}
-use Rattle.goal_reader.specs.Roles.{Role, term, operator, IsOwn, no_term, unknown_name, wrong_arity, wrong_sort, lacking, no_operator_name, unknown_operator, left_term, no_application, no_fresh_name, name_taken, no_own_name, name_used, no_register, bad_register, register_given, no_arity, arity_0, arity_above, too_few, no_set, wrong_part, past_limit, operator_in, sort_of_leaf, IsWanted, IsApplication}
+use Rattle.goal_reader.specs.Roles.{Role, term, operator, IsOwn, no_term, unknown_name, wrong_arity, wrong_sort, lacking, no_operator_name, unknown_operator, left_term, no_application, no_fresh_name, name_taken, no_own_name, name_used, no_register, bad_register, register_given, no_arity, arity_0, arity_above, too_few, no_set, wrong_part, past_limit, operator_in, sort_of_leaf, IsWanted, IsApplicationForm}
 
 -- no fault of a form has a lower number than BadForm
 pub own_at_least : {role : Role} {form : Form} {kind : Kind} → IsOwn role form kind → 6 ≤ fault_number kind
@@ -72,7 +72,7 @@ module _ (scope : Scope) (p : ℕ) (head : Form) (rest : Forms) where
   sort_least wanted op k n kind (wrong_sort h i) = omega arith
   sort_least wanted op k n kind (lacking h i) = cc
 
-  pub application_clear : (wanted : Option Sort) (op : Op) → IsApplication scope wanted whole op → (kind : Kind) → IsOwn (term scope wanted) whole kind → ⊥
+  pub application_clear : (wanted : Option Sort) (op : Op) → IsApplicationForm scope wanted whole op → (kind : Kind) → IsOwn (term scope wanted) whole kind → ⊥
   application_clear wanted op a kind (no_term h) = cc
   application_clear wanted op a kind (unknown_name h i) = cc
   application_clear wanted op a kind (wrong_arity {op = other} h i) =

@@ -4,8 +4,9 @@ use Rattle.goal_reader.specs.Order.{IsOrderOf}
 use Rattle.goal_reader.specs.declared.order.Order.{Order}
 use Rattle.std.specs.Option.{option_map_or}
 use Rattle.std.specs.List.{list_any}
+use Rattle.std.proofs.lemmas.Bool.{false≢true}
 use Rattle.std.proofs.lemmas.Bool.Decides.{nat_tests}
-use Rattle.forms.specs.Forms.{Form}
+use Rattle.forms.specs.Forms.{Form, atom, list, is_list}
 use Rattle.goal_reader.specs.Roles.{rank, is_of_rank, is_later_than, of_rank}
 
 abbrev later : ℕ → Option ℕ → Bool
@@ -113,3 +114,9 @@ module _ (keywords : List (List ℕ)) where
 
   pub out_of_order : (before : List Form) (order : Order) (at : ℕ) → IsOrderOf keywords before order → at < order.last → list_any (is_later_than keywords at) before ≡ true
   out_of_order before order at h l = some_later order.last at before l (some_of (order.last) (order.count) _ at h.some h.counted l)
+
+-- ---- a form with a keyword is a list
+
+pub has_parts : (keywords : List (List ℕ)) (at : ℕ) (f : Form) → is_of_rank keywords at f ≡ true → is_list f ≡ false → ⊥
+has_parts keywords at (atom p a) h e = false≢true h
+has_parts keywords at (list p ps) h e = false≢true (sym e)

@@ -13,7 +13,7 @@ use Rattle.goal_meaning.specs.declared.goals.InputReg.{InputReg}
 use Rattle.goal_meaning.specs.declared.goals.DeclaredOp.{DeclaredOp}
 use Rattle.goal_reader.specs.declared.scopes.Scope.{Scope}
 use Rattle.goal_reader.specs.Grammar.{IsRegister, WritesInput, WritesPool, WritesAssume, WritesGuard, WritesTarget, WritesGoal, WritesDeclaration, WritesAxiom, absent, given, unguarded, guarded, axiom_scope}
-use Rattle.goal_reader.specs.Roles.{rank, of_rank, goal_keywords, text_keywords, items_of, goal_scope, second_name, register_of, input_in, declaration_in, arity_named, ◌>>=◌}
+use Rattle.goal_reader.specs.Roles.{rank, of_rank, goal_keywords, text_keywords, items_of_goal, goal_scope, second_name, register_of, input_in, declaration_in, arity_named, ◌>>=◌}
 use Rattle.goal_reader.specs.Terms.{Writes}
 use Rattle.goal_meaning.specs.Views.{TwoTrees, TargetTree, GoalTree, AxiomTree}
 use Rattle.goal_meaning.specs.WellFormed.{input_registers}
@@ -139,7 +139,7 @@ module _ (declared : List DeclaredOp) (form : Form) (g : GoalTree) (w : WritesGo
   pub parts_are : parts_of form ≡ atom w.is.head_place (name (codes "goal")) ∷ w.name_form ∷ behind_name
   parts_are = ap parts_of w.is.is ∙ ap (λ fs. atom w.is.head_place (name (codes "goal")) ∷ w.name_form ∷ fs) (list_from behind_name)
 
-  pub items_are : items_of form ≡ behind_name
+  pub items_are : items_of_goal form ≡ behind_name
   items_are = ap (drop 2) parts_are
 
   pub goal_ranked : rank text_keywords form ≡ Some 3
@@ -164,7 +164,7 @@ module _ (declared : List DeclaredOp) (form : Form) (g : GoalTree) (w : WritesGo
   all_sets = all_ranked goal_keywords (WritesTarget (goal_scope declared g.inputs)) 4 (target_ranked (goal_scope declared g.inputs)) w.sets g.sets w.targets
 
   abbrev items : ℕ → List Form
-  items at = of_rank goal_keywords at (items_of form)
+  items at = of_rank goal_keywords at (items_of_goal form)
 
   ins_are : items 0 ≡ w.ins
   ins_are =
@@ -221,7 +221,7 @@ goal_back g = refl
 
 pub goal_once : (declared : List DeclaredOp) (form : Form) (g h : GoalTree) → WritesGoal declared form g → WritesGoal declared form h → g ≡ h
 goal_once declared form g h w v =
-    let items : ℕ → List Form = λ at. of_rank goal_keywords at (items_of form) in
+    let items : ℕ → List Form = λ at. of_rank goal_keywords at (items_of_goal form) in
     let names = same_some (second_name form) g.name h.name (goal_told declared form g w) (goal_told declared form h v) in
     let inputs = each_once WritesInput input_once (items 0) g.inputs h.inputs (reads_inputs declared form g w) (reads_inputs declared form h v) in
     let scope = goal_scope declared h.inputs in

@@ -16,7 +16,7 @@ use Rattle.goal_reader.proofs.Fixed.{got_within}
 
 stays : (role : Role) (form : Form) (place : ℕ) (kind : Kind) (low high : ℕ) → Stands low high form → IsFormFault role form place kind → (low ≤ place) × (place < high)
 stays role form place kind low high s (as_role f) = within IsOwn part_role f low high s
-stays role form place kind low high s (as_machine e f) = within machines.IsOwn machines.part_role f low high s
+stays role form place kind low high s (as_machine e f) = within machines.IsOwnTableFault machines.table_part_role f low high s
 
 module _ (size : ℕ) (forms : Forms) (h : Stand 0 size forms) where
   abbrev all : List Form

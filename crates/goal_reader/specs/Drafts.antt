@@ -16,7 +16,7 @@ use Rattle.goal_meaning.specs.declared.goals.Goal.{Goal}
 use Rattle.goal_reader.specs.declared.drafts.Draft.{Draft}
 use Rattle.goal_reader.specs.Roles as roles
 use Rattle.text_core.specs.Names.{is_among}
-use Rattle.goal_reader.specs.Roles.{Role, a_list, wrong, goal_scope, inputs_in, input_in, names_given, of_rank, goal_keywords, items_of, second_name, registers_in}
+use Rattle.goal_reader.specs.Roles.{Role, a_list, wrong, goal_scope, inputs_in, input_in, names_given, of_rank, goal_keywords, items_of_goal, second_name, registers_in}
 use Rattle.goal_meaning.specs.Names.{is_reserved, names_of_declared}
 use Rattle.std.specs.Prelude.{get_or, codes}
 use Rattle.goal_meaning.specs.Rules.{default_pool}
@@ -111,7 +111,7 @@ pub record IsDraft (declared : List DeclaredOp) (before : List Form) (d : Draft)
 
 -- the items before the part of this number
 abbrev pub items_before : Form → ℕ → List Form
-items_before form at = take (at - 2) (items_of form)
+items_before form at = take (at - 2) (items_of_goal form)
 
 abbrev pub names_of_goals : List Goal → List (List ℕ)
 names_of_goals goals = map (λ (g : Goal). g.name) goals

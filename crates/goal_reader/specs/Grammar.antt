@@ -1,5 +1,5 @@
--- What goals, axioms and declarations are written as. Source: this project; the notation follows Denali's guarded
--- multi-assignment (PLDI 2002).
+-- The grammar of goals, axioms and declarations: which forms write them. Source: this project; the notation follows
+-- Denali's guarded multi-assignment (PLDI 2002).
 use Rattle.std.specs.Prelude.{Bool, true, false, ℕ, ◌≡◌, ◌≢◌, ◌<◌, ◌≤◌, List, [], ◌∷◌, ◌++◌, length, map, codes, bytes_eq, Option, None, Some, All, AllPairs, if◌then◌else◌}
 use Rattle.forms.specs.Forms.{Form, atom, list, forms_from, forms_list, forms_of, register, is_list}
 use Rattle.forms.specs.Reading.{TextHasTrees, IsFirstReadFault}

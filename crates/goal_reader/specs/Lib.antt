@@ -3,6 +3,7 @@ pub mod Terms
 pub mod Roles
 pub mod Grammar
 pub mod Reading
+pub mod Keywords
 pub mod Order
 pub mod Drafts
 pub mod TextFaults

@@ -1,4 +1,4 @@
--- The faults of forms, row by row. Source: this project.
+-- What a form can be read as, its role, and which faults of its own a form has in each role. Source: this project.
 use Rattle.std.specs.Prelude.{Bool, true, false, ℕ, zero, suc, ◌≡◌, ◌≢◌, ◌+◌, ◌<◌, ◌||◌, ◌&&◌, ◌-◌, ◌*◌, ◌==◌, nat_lt, nat_le, if◌then◌else◌, List, [], ◌∷◌, ◌++◌, length, map, take, drop, get_or, slice_get, filter, filter_map, codes, bytes_eq, Option, Some, None, option_map}
 use Rattle.std.specs.Option.{option_map_or}
 use Rattle.std.specs.List.{list_any}
@@ -107,8 +107,8 @@ abbrev pub is_later_than : List (List ℕ) → ℕ → Form → Bool
 is_later_than keywords at form = option_map_or (λ r. nat_lt at r) (rank keywords form) false
 
 -- the items of a goal stand behind its keyword and its name
-abbrev pub items_of : Form → List Form
-items_of form = drop 2 (parts_of form)
+abbrev pub items_of_goal : Form → List Form
+items_of_goal form = drop 2 (parts_of form)
 
 -- the name that is the second part of a list
 abbrev pub second_name : Form → Option (List ℕ)
@@ -281,7 +281,7 @@ pub data IsOwn : Role → Form → Kind → Type 0 where
   too_few : {shape : Shape} {form : Form}
       → length (parts_of form) < least_parts shape → IsOwn (a_list shape) form BadForm
   no_set : {declared : List DeclaredOp} {names : List (List ℕ)} {form : Form}
-      → list_any (is_of_rank goal_keywords 4) (items_of form) ≡ false
+      → list_any (is_of_rank goal_keywords 4) (items_of_goal form) ≡ false
       → IsOwn (a_list (goal declared names)) form BadForm
   wrong_part : {form : Form} → IsOwn wrong form BadForm
   past_limit : {form : Form} → IsOwn past form LimitPassed
@@ -327,9 +327,9 @@ item_role declared before at =
 -- ---- the roles of parts
 
 -- the parts behind the keyword, in order, and no more
-abbrev pub listed : List Role → ℕ → Option Role
-listed roles zero = None
-listed roles (suc at) = Some (get_or roles at wrong)
+abbrev pub listed_role : List Role → ℕ → Option Role
+listed_role roles zero = None
+listed_role roles (suc at) = Some (get_or roles at wrong)
 
 abbrev pub target_sort : Form → Option Sort
 target_sort form = option_map (λ name. if bytes_eq name (codes "M")
@@ -339,20 +339,20 @@ abbrev pub goal_part : List DeclaredOp → List (List ℕ) → Form → ℕ → 
 goal_part declared names form zero = None
 goal_part declared names form (suc zero) = Some (fresh_name names)
 goal_part declared names form (suc (suc at)) =
-    option_map (role_in goal_keywords goal_bounds (take at (items_of form)) (item_role declared (take at
-    (items_of form)))) (slice_get (items_of form) at)
+    option_map (role_in goal_keywords goal_bounds (take at (items_of_goal form)) (item_role declared (take at
+    (items_of_goal form)))) (slice_get (items_of_goal form) at)
 
 abbrev pub shape_part : Shape → Form → ℕ → Option Role
-shape_part (input declared inputs) form at = listed (own_name (names_of_declared declared
+shape_part (input declared inputs) form at = listed_role (own_name (names_of_declared declared
     ++ map (λ (i : InputReg). i.name) inputs) ∷ fresh_register (map (λ (i : InputReg). i.reg) inputs) ∷ []) at
 shape_part (pool given) form zero = None
 shape_part (pool given) form (suc at) = Some (fresh_register (given ++ registers_in (take (suc at) (parts_of form))))
-shape_part (assume scope) form at = listed (term scope None ∷ term scope (part 1 form >>= sort_in scope) ∷ []) at
-shape_part (guard scope) form at = listed (term scope (Some sorts.Word) ∷ []) at
-shape_part (set scope names) form at = listed (fresh_name names ∷ term scope (target_sort form) ∷ []) at
+shape_part (assume scope) form at = listed_role (term scope None ∷ term scope (part 1 form >>= sort_in scope) ∷ []) at
+shape_part (guard scope) form at = listed_role (term scope (Some sorts.Word) ∷ []) at
+shape_part (set scope names) form at = listed_role (fresh_name names ∷ term scope (target_sort form) ∷ []) at
 shape_part (goal declared names) form at = goal_part declared names form at
-shape_part (declaration declared) form at = listed (own_name (names_of_declared declared) ∷ an_arity ∷ []) at
-shape_part (equation declared) form at = listed (a_list (variables declared) ∷ left_side (left_scope declared form)
+shape_part (declaration declared) form at = listed_role (own_name (names_of_declared declared) ∷ an_arity ∷ []) at
+shape_part (equation declared) form at = listed_role (a_list (variables declared) ∷ left_side (left_scope declared form)
     ∷ term (right_scope declared form) (Some sorts.Word) ∷ []) at
 shape_part (variables declared) form at =
     Some (if nat_lt at 8 then own_name (names_of_declared declared ++ names_in (take at (parts_of form))) else past)
@@ -385,7 +385,7 @@ pub record WritesTerm (scope : Scope) (wanted : Option Sort) (form : Form) (term
   pub writes : Writes scope sort form term
 
 -- the form is an application of this operator without a fault of its own, and its operator is a name
-pub record IsApplication (scope : Scope) (wanted : Option Sort) (form : Form) (op : Op) : Type 0 where
+pub record IsApplicationForm (scope : Scope) (wanted : Option Sort) (form : Form) (op : Op) : Type 0 where
   pub known : operator_in scope.declared form ≡ Some op
   pub count : length (parts_of form) ≡ 1 + arity_of_op op
   pub wanted_one : IsWanted wanted (sort_of op)

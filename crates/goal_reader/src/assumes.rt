@@ -43,20 +43,14 @@ pub fn assume(alloc: Global, form: &Sexp, text: &[u8], scope: &Scope) -> Result<
 {
     sexps_are_forms();
     let Some(parts) = parts(form) else {
-        return Err(TextFault::Memory);
+        unreachable!();
     };
     if parts.len() < 3 {
         return Err(at(place(form), Kind::BadForm));
     }
-    let left = match term(alloc, &parts[1], text, scope, None) {
-        Ok(left) => left,
-        Err(fault) => return Err(fault),
-    };
+    let left = term(alloc, &parts[1], text, scope, None)?;
     let sort = term_sort(&left);
-    let right = match term(alloc, &parts[2], text, scope, Some(sort)) {
-        Ok(right) => right,
-        Err(fault) => return Err(fault),
-    };
+    let right = term(alloc, &parts[2], text, scope, Some(sort))?;
     if parts.len() > 3 {
         return Err(at(place(&parts[3]), Kind::BadForm));
     }
@@ -101,7 +95,7 @@ fn sort_wanted(name: &[u8]) -> Sort
     Sort::Word
 }
 
-/// Reads `( set NAME term )`, behind these targets.
+/// Reads `( set NAME term )`, given the targets before it.
 pub fn target(
     alloc: Global,
     form: &Sexp,
@@ -122,20 +116,14 @@ pub fn target(
 {
     sexps_are_forms();
     let Some(parts) = parts(form) else {
-        return Err(TextFault::Memory);
+        unreachable!();
     };
     if parts.len() < 3 {
         return Err(at(place(form), Kind::BadForm));
     }
-    let bytes = match target_name(&parts[1], text, targets) {
-        Ok(bytes) => bytes,
-        Err(fault) => return Err(fault),
-    };
+    let bytes = target_name(&parts[1], text, targets)?;
     let sort = sort_wanted(bytes);
-    let value = match term(alloc, &parts[2], text, scope, Some(sort)) {
-        Ok(value) => value,
-        Err(fault) => return Err(fault),
-    };
+    let value = term(alloc, &parts[2], text, scope, Some(sort))?;
     if parts.len() > 3 {
         return Err(at(place(&parts[3]), Kind::BadForm));
     }

@@ -23,7 +23,7 @@ use text_core::{Kind, Sexp, TextFault};
 use word_ops::{Op, Sort};
 use word_terms::Term;
 
-/// Reads the left side of an axiom: a word that is an application.
+/// Reads the left side of an axiom: an application that gives a word.
 pub fn left_side(
     alloc: Global,
     form: &Sexp,
@@ -38,10 +38,7 @@ pub fn left_side(
     ensures fault { IfErr result (IsFaultBy (IsFirst (IsFaultAs (roles.left_side scope.now)
         (sexp_form text.now form.now)))) }
 {
-    let left = match term(alloc, form, text, scope, Some(Sort::Word)) {
-        Ok(left) => left,
-        Err(fault) => return Err(fault),
-    };
+    let left = term(alloc, form, text, scope, Some(Sort::Word))?;
     let Some(_parts) = parts(form) else {
         return Err(at(place(form), Kind::BadAxiom));
     };
@@ -70,22 +67,13 @@ fn read_axiom(
     if parts.len() < 4 {
         return Err(at(place(form), Kind::BadForm));
     }
-    let variables = match variables(alloc, &parts[1], text, declared.as_slice()) {
-        Ok(variables) => variables,
-        Err(fault) => return Err(fault),
-    };
+    let variables = variables(alloc, &parts[1], text, declared.as_slice())?;
     let left_form = &parts[2];
     let scope = left_scope(alloc, declared, variables.as_slice())?;
-    let left = match left_side(alloc, left_form, text, &scope) {
-        Ok(left) => left,
-        Err(fault) => return Err(fault),
-    };
+    let left = left_side(alloc, left_form, text, &scope)?;
     let Scope { declared, .. } = scope;
     let scope = right_scope(alloc, declared, variables.as_slice(), left_form, text)?;
-    let right = match term(alloc, &parts[3], text, &scope, Some(Sort::Word)) {
-        Ok(right) => right,
-        Err(fault) => return Err(fault),
-    };
+    let right = term(alloc, &parts[3], text, &scope, Some(Sort::Word))?;
     if parts.len() > 4 {
         return Err(at(place(&parts[4]), Kind::BadForm));
     }

@@ -79,7 +79,7 @@ fn arity(form: &Sexp, text: &[u8]) -> Result<Arity, TextFault>
     Err(at(place(form), Kind::LimitPassed))
 }
 
-/// Reads `( op NAME NUMBER )`, behind these declarations.
+/// Reads `( op NAME NUMBER )`, given the declarations before it.
 pub fn declaration(
     alloc: Global,
     form: &Sexp,
@@ -100,14 +100,8 @@ pub fn declaration(
     if parts.len() < 3 {
         return Err(at(place(form), Kind::BadForm));
     }
-    let bytes = match operator_name(&parts[1], text, declared) {
-        Ok(bytes) => bytes,
-        Err(fault) => return Err(fault),
-    };
-    let arity = match arity(&parts[2], text) {
-        Ok(arity) => arity,
-        Err(fault) => return Err(fault),
-    };
+    let bytes = operator_name(&parts[1], text, declared)?;
+    let arity = arity(&parts[2], text)?;
     if parts.len() > 3 {
         return Err(at(place(&parts[3]), Kind::BadForm));
     }

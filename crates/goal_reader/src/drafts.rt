@@ -6,10 +6,12 @@ ghost use Rattle.forms.specs.Reading.{IsSexpOf};
 ghost use Rattle.goal_reader.specs.Roles.{IsFaultAs, is_of_rank, rank, goal_keywords};
 ghost use Rattle.goal_reader.specs.Reading.{IsClear};
 ghost use Rattle.goal_reader.specs.Drafts.{IsNext, draft_role};
+ghost use Rattle.goal_reader.specs.Keywords.{item_rank};
 
 use crate::assumes::{assume, target};
 use crate::guards::guard;
 use crate::inputs::input;
+use crate::keywords::ItemKeyword;
 use crate::pools::pool;
 use crate::scopes::{Leaf, Named, Scope};
 use goal_meaning::{Assume, InputReg, Set};
@@ -37,16 +39,13 @@ fn add_input(alloc: Global, form: &Sexp, text: &[u8], draft: Draft) -> Result<Dr
     ensures clear { IfOk result (λ _. IsClear (draft_role draft 0) (sexp_form text.now form.now)) }
     ensures fault { IfErr result (IsFaultBy (IsFirst (IsFaultAs (draft_role draft 0) (sexp_form text.now form.now)))) }
 {
-    let input = match input(
+    let input = input(
         alloc,
         form,
         text,
         draft.scope.declared.as_slice(),
         draft.inputs.as_slice(),
-    ) {
-        Ok(input) => input,
-        Err(fault) => return Err(fault),
-    };
+    )?;
     let Draft {
         scope,
         mut inputs,
@@ -81,10 +80,7 @@ fn add_pool(alloc: Global, form: &Sexp, text: &[u8], draft: Draft) -> Result<Dra
     ensures clear { IfOk result (λ _. IsClear (draft_role draft 1) (sexp_form text.now form.now)) }
     ensures fault { IfErr result (IsFaultBy (IsFirst (IsFaultAs (draft_role draft 1) (sexp_form text.now form.now)))) }
 {
-    let registers = match pool(alloc, form, text, draft.inputs.as_slice()) {
-        Ok(registers) => registers,
-        Err(fault) => return Err(fault),
-    };
+    let registers = pool(alloc, form, text, draft.inputs.as_slice())?;
     let Draft {
         scope,
         inputs,
@@ -112,10 +108,7 @@ fn add_assume(alloc: Global, form: &Sexp, text: &[u8], draft: Draft) -> Result<D
     ensures clear { IfOk result (λ _. IsClear (draft_role draft 2) (sexp_form text.now form.now)) }
     ensures fault { IfErr result (IsFaultBy (IsFirst (IsFaultAs (draft_role draft 2) (sexp_form text.now form.now)))) }
 {
-    let one = match assume(alloc, form, text, &draft.scope) {
-        Ok(one) => one,
-        Err(fault) => return Err(fault),
-    };
+    let one = assume(alloc, form, text, &draft.scope)?;
     let Draft {
         scope,
         inputs,
@@ -143,10 +136,7 @@ fn add_guard(alloc: Global, form: &Sexp, text: &[u8], draft: Draft) -> Result<Dr
     ensures clear { IfOk result (λ _. IsClear (draft_role draft 3) (sexp_form text.now form.now)) }
     ensures fault { IfErr result (IsFaultBy (IsFirst (IsFaultAs (draft_role draft 3) (sexp_form text.now form.now)))) }
 {
-    let term = match guard(alloc, form, text, &draft.scope) {
-        Ok(term) => term,
-        Err(fault) => return Err(fault),
-    };
+    let term = guard(alloc, form, text, &draft.scope)?;
     let Draft {
         scope,
         inputs,
@@ -174,10 +164,7 @@ fn add_target(alloc: Global, form: &Sexp, text: &[u8], draft: Draft) -> Result<D
     ensures clear { IfOk result (λ _. IsClear (draft_role draft 4) (sexp_form text.now form.now)) }
     ensures fault { IfErr result (IsFaultBy (IsFirst (IsFaultAs (draft_role draft 4) (sexp_form text.now form.now)))) }
 {
-    let one = match target(alloc, form, text, &draft.scope, draft.sets.as_slice()) {
-        Ok(one) => one,
-        Err(fault) => return Err(fault),
-    };
+    let one = target(alloc, form, text, &draft.scope, draft.sets.as_slice())?;
     let Draft {
         scope,
         inputs,
@@ -197,27 +184,26 @@ fn add_target(alloc: Global, form: &Sexp, text: &[u8], draft: Draft) -> Result<D
     })
 }
 
-/// Reads an item with the keyword of this number, behind what was read.
+/// Reads an item with this keyword, given what was read before it.
 pub fn item(
     alloc: Global,
     form: &Sexp,
     text: &[u8],
-    at: usize,
+    keyword: ItemKeyword,
     draft: Draft,
 ) -> Result<Draft, TextFault>
     requires of { IsSexpOf text.now form.now }
     requires few { length draft.scope.declared ≤ 16 }
-    requires keyword { rank goal_keywords (sexp_form text.now form.now) ≡ Some at }
-    ensures next { IfOk result (λ next. IsNext (sexp_form text.now form.now) draft at next) }
-    ensures clear { IfOk result (λ _. IsClear (draft_role draft at) (sexp_form text.now form.now)) }
-    ensures fault { IfErr result (IsFaultBy (IsFirst (IsFaultAs (draft_role draft at) (sexp_form text.now form.now)))) }
+    requires keyword { rank goal_keywords (sexp_form text.now form.now) ≡ Some (item_rank keyword) }
+    ensures next { IfOk result (λ next. IsNext (sexp_form text.now form.now) draft (item_rank keyword) next) }
+    ensures clear { IfOk result (λ _. IsClear (draft_role draft (item_rank keyword)) (sexp_form text.now form.now)) }
+    ensures fault { IfErr result (IsFaultBy (IsFirst (IsFaultAs (draft_role draft (item_rank keyword)) (sexp_form text.now form.now)))) }
 {
-    match at {
-        0 => add_input(alloc, form, text, draft),
-        1 => add_pool(alloc, form, text, draft),
-        2 => add_assume(alloc, form, text, draft),
-        3 => add_guard(alloc, form, text, draft),
-        4 => add_target(alloc, form, text, draft),
-        _ => Err(TextFault::Memory),
+    match keyword {
+        ItemKeyword::In => add_input(alloc, form, text, draft),
+        ItemKeyword::Pool => add_pool(alloc, form, text, draft),
+        ItemKeyword::Assume => add_assume(alloc, form, text, draft),
+        ItemKeyword::When => add_guard(alloc, form, text, draft),
+        ItemKeyword::Set => add_target(alloc, form, text, draft),
     }
 }

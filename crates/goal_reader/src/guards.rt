@@ -30,15 +30,12 @@ pub fn guard(alloc: Global, form: &Sexp, text: &[u8], scope: &Scope) -> Result<T
 {
     sexps_are_forms();
     let Some(parts) = parts(form) else {
-        return Err(TextFault::Memory);
+        unreachable!();
     };
     if parts.len() < 2 {
         return Err(at(place(form), Kind::BadForm));
     }
-    let guard = match term(alloc, &parts[1], text, scope, Some(Sort::Word)) {
-        Ok(guard) => guard,
-        Err(fault) => return Err(fault),
-    };
+    let guard = term(alloc, &parts[1], text, scope, Some(Sort::Word))?;
     if parts.len() > 2 {
         return Err(at(place(&parts[2]), Kind::BadForm));
     }

@@ -136,7 +136,7 @@ pub fn fresh_register(form: &Sexp, text: &[u8], inputs: &[InputReg]) -> Result<u
     Ok(number)
 }
 
-/// Reads `( in NAME REGISTER )`, behind these inputs.
+/// Reads `( in NAME REGISTER )`, given the inputs before it.
 pub fn input(
     alloc: Global,
     form: &Sexp,
@@ -154,19 +154,13 @@ pub fn input(
 {
     sexps_are_forms();
     let Some(parts) = parts(form) else {
-        return Err(TextFault::Memory);
+        unreachable!();
     };
     if parts.len() < 3 {
         return Err(at(place(form), Kind::BadForm));
     }
-    let bytes = match own_name(&parts[1], text, declared, inputs) {
-        Ok(bytes) => bytes,
-        Err(fault) => return Err(fault),
-    };
-    let reg = match fresh_register(&parts[2], text, inputs) {
-        Ok(reg) => reg,
-        Err(fault) => return Err(fault),
-    };
+    let bytes = own_name(&parts[1], text, declared, inputs)?;
+    let reg = fresh_register(&parts[2], text, inputs)?;
     if parts.len() > 3 {
         return Err(at(place(&parts[3]), Kind::BadForm));
     }

@@ -1,9 +1,10 @@
 // The keywords of lists, and whether a list may stand behind those before it.
-ghost use Rattle.std.specs.Prelude.{◌≡◌, ◌≤◌, ◌<◌, ◌^◌, ◌∷◌, [], codes, ℕ, List, IfOk, IfErr, Some, None, MatchOption};
+ghost use Rattle.std.specs.Prelude.{◌≡◌, ◌≤◌, ◌<◌, ◌==◌, ◌∷◌, [], codes, ℕ, List, IfOk, IfErr, Some, None, MatchOption, option_map};
 ghost use Rattle.text_core.specs.Faults.{IsFirst, IsFaultBy};
 ghost use Rattle.forms.specs.Forms.{Form, sexp_form, head_in};
 ghost use Rattle.forms.specs.Reading.{IsSexpOf};
 ghost use Rattle.goal_reader.specs.Roles.{Role, IsFaultAs, rank, rank_from, goal_keywords, goal_bounds, text_keywords, text_bounds, bound_at, role_in};
+ghost use Rattle.goal_reader.specs.Keywords.{item_rank, form_rank};
 ghost use Rattle.goal_reader.specs.TextFaults.{IsFormFault};
 ghost use Rattle.goal_reader.specs.Order.{IsOrderOf, IsAdmission, beyond_kind};
 ghost use Rattle.goal_reader.specs.declared.order.Admission.TheVariants as admissions;
@@ -11,6 +12,25 @@ ghost use Rattle.goal_reader.specs.declared.order.Admission.TheVariants as admis
 use crate::order::{Admission, Order};
 use forms::{at, name, parts, place, sexps_are_forms};
 use text_core::{Kind, Sexp, TextFault};
+
+/// The keywords of a goal's items, in the order in which the items stand.
+#[derive(Clone, Copy)]
+pub enum ItemKeyword {
+    In,
+    Pool,
+    Assume,
+    When,
+    Set,
+}
+
+/// The keywords of a text's forms, in the order in which the forms stand.
+#[derive(Clone, Copy)]
+pub enum FormKeyword {
+    Machine,
+    Op,
+    Axiom,
+    Goal,
+}
 
 // The first word of a list.
 fn head<'a>(form: &Sexp, text: &'a [u8]) -> Option<&'a [u8]>
@@ -27,158 +47,201 @@ fn head<'a>(form: &Sexp, text: &'a [u8]) -> Option<&'a [u8]>
     name(first, text)
 }
 
-fn goal_word(word: &[u8]) -> Option<usize>
-    ensures { result ≡ rank_from 0 goal_keywords word.now }
-{
-    if word == b"in".as_slice() {
-        return Some(0);
+impl ItemKeyword {
+    fn named(word: &[u8]) -> Option<ItemKeyword>
+        ensures { option_map item_rank result ≡ rank_from 0 goal_keywords word.now }
+    {
+        if word == b"in".as_slice() {
+            return Some(ItemKeyword::In);
+        }
+        if word == b"pool".as_slice() {
+            return Some(ItemKeyword::Pool);
+        }
+        if word == b"assume".as_slice() {
+            return Some(ItemKeyword::Assume);
+        }
+        if word == b"when".as_slice() {
+            return Some(ItemKeyword::When);
+        }
+        if word == b"set".as_slice() {
+            return Some(ItemKeyword::Set);
+        }
+        None
     }
-    if word == b"pool".as_slice() {
-        return Some(1);
+
+    /// Its place among the keywords.
+    pub fn rank(self) -> usize
+        ensures { result ≡ item_rank self }
+    {
+        match self {
+            ItemKeyword::In => 0,
+            ItemKeyword::Pool => 1,
+            ItemKeyword::Assume => 2,
+            ItemKeyword::When => 3,
+            ItemKeyword::Set => 4,
+        }
     }
-    if word == b"assume".as_slice() {
-        return Some(2);
+
+    /// How many items of it a goal may have.
+    fn most(self) -> usize
+        ensures most { result ≡ (bound_at goal_bounds (item_rank self)).most }
+        ensures few { result ≤ 64 }
+    {
+        match self {
+            ItemKeyword::In | ItemKeyword::Assume | ItemKeyword::Set => 16,
+            ItemKeyword::Pool | ItemKeyword::When => 1,
+        }
     }
-    if word == b"when".as_slice() {
-        return Some(3);
+
+    /// The fault of one item more.
+    fn beyond(self) -> Kind
+        ensures { result ≡ beyond_kind (bound_at goal_bounds (item_rank self)).beyond }
+    {
+        match self {
+            ItemKeyword::In | ItemKeyword::Assume | ItemKeyword::Set => Kind::LimitPassed,
+            ItemKeyword::Pool | ItemKeyword::When => Kind::BadForm,
+        }
     }
-    if word == b"set".as_slice() {
-        return Some(4);
+
+    /// Whether it is that of a target.
+    pub fn is_set(self) -> bool
+        ensures { result ≡ (item_rank self == 4) }
+    {
+        match self {
+            ItemKeyword::Set => true,
+            ItemKeyword::In | ItemKeyword::Pool | ItemKeyword::Assume | ItemKeyword::When => false,
+        }
     }
-    None
 }
 
-/// The number of an item's keyword.
-pub fn goal_rank(form: &Sexp, text: &[u8]) -> Option<usize>
+/// The keyword of an item.
+pub fn item_keyword(form: &Sexp, text: &[u8]) -> Option<ItemKeyword>
     requires of { IsSexpOf text.now form.now }
-    ensures { result ≡ rank goal_keywords (sexp_form text.now form.now) }
+    ensures { option_map item_rank result ≡ rank goal_keywords (sexp_form text.now form.now) }
 {
     match head(form, text) {
-        Some(word) => goal_word(word),
+        Some(word) => ItemKeyword::named(word),
         None => None,
     }
 }
 
-fn goal_most(at: usize) -> usize
-    ensures most { result ≡ (bound_at goal_bounds at).most }
-    ensures few { result ≤ 64 }
-{
-    match at {
-        0 | 2 | 4 => 16,
-        1 | 3 => 1,
-        _ => 0,
-    }
-}
-
-fn goal_beyond(at: usize) -> Kind
-    ensures { result ≡ beyond_kind (bound_at goal_bounds at).beyond }
-{
-    match at {
-        0 | 2 | 4 => Kind::LimitPassed,
-        _ => Kind::BadForm,
-    }
-}
-
-/// The number of an item's keyword, where the item may stand behind those before it.
-pub fn admitted_item(form: &Sexp, text: &[u8], order: &Order) -> Result<usize, TextFault>
+/// An item's keyword, where the item may stand behind those before it.
+pub fn admitted_item(form: &Sexp, text: &[u8], order: &Order) -> Result<ItemKeyword, TextFault>
     requires of { IsSexpOf text.now form.now }
-    ensures rank { IfOk result (λ at. rank goal_keywords (sexp_form text.now form.now) ≡ Some at) }
-    ensures admitted { IfOk result (λ at. (before : List Form) → IsOrderOf goal_keywords before order.now
-        → IsAdmission goal_keywords before at (bound_at goal_bounds at).most admissions.Admitted) }
-    ensures later { IfOk result (λ at. order.now.last ≤ at) }
-    ensures few { IfOk result (λ at. at ≡ order.now.last → order.now.count < 64) }
+    ensures rank { IfOk result (λ keyword. rank goal_keywords (sexp_form text.now form.now) ≡ Some (item_rank keyword)) }
+    ensures admitted { IfOk result (λ keyword. (before : List Form) → IsOrderOf goal_keywords before order.now
+        → IsAdmission goal_keywords before (item_rank keyword) (bound_at goal_bounds (item_rank keyword)).most
+        admissions.Admitted) }
+    ensures later { IfOk result (λ keyword. order.now.last ≤ item_rank keyword) }
+    ensures few { IfOk result (λ keyword. item_rank keyword ≡ order.now.last → order.now.count < 64) }
     ensures fault { IfErr result (λ fault. (before : List Form) (inner : ℕ → Role)
         → IsOrderOf goal_keywords before order.now
         → IsFaultBy (IsFirst (IsFaultAs (role_in goal_keywords goal_bounds before inner (sexp_form text.now form.now))
         (sexp_form text.now form.now))) fault) }
 {
     sexps_are_forms();
-    let Some(rank) = goal_rank(form, text) else {
+    let Some(keyword) = item_keyword(form, text) else {
         return Err(at(place(form), Kind::BadForm));
     };
-    match order.admits(rank, goal_most(rank)) {
+    match order.admits(keyword.rank(), keyword.most()) {
         Admission::OutOfOrder => Err(at(place(form), Kind::BadForm)),
-        Admission::Beyond => Err(at(place(form), goal_beyond(rank))),
-        Admission::Admitted => Ok(rank),
+        Admission::Beyond => Err(at(place(form), keyword.beyond())),
+        Admission::Admitted => Ok(keyword),
     }
 }
 
-fn later_text_word(word: &[u8]) -> Option<usize>
-    ensures { result ≡ rank_from 2 (codes "axiom" ∷ codes "goal" ∷ []) word.now }
-{
-    if word == b"axiom".as_slice() {
-        return Some(2);
+impl FormKeyword {
+    fn named(word: &[u8]) -> Option<FormKeyword>
+        ensures { option_map form_rank result ≡ rank_from 0 text_keywords word.now }
+    {
+        if word == b"machine".as_slice() {
+            return Some(FormKeyword::Machine);
+        }
+        if word == b"op".as_slice() {
+            return Some(FormKeyword::Op);
+        }
+        FormKeyword::later_named(word)
     }
-    if word == b"goal".as_slice() {
-        return Some(3);
+
+    fn later_named(word: &[u8]) -> Option<FormKeyword>
+        ensures { option_map form_rank result ≡ rank_from 2 (codes "axiom" ∷ codes "goal" ∷ []) word.now }
+    {
+        if word == b"axiom".as_slice() {
+            return Some(FormKeyword::Axiom);
+        }
+        if word == b"goal".as_slice() {
+            return Some(FormKeyword::Goal);
+        }
+        None
     }
-    None
+
+    /// Its place among the keywords.
+    pub fn rank(self) -> usize
+        ensures { result ≡ form_rank self }
+    {
+        match self {
+            FormKeyword::Machine => 0,
+            FormKeyword::Op => 1,
+            FormKeyword::Axiom => 2,
+            FormKeyword::Goal => 3,
+        }
+    }
+
+    /// How many forms of it a text may have.
+    fn most(self) -> usize
+        ensures most { result ≡ (bound_at text_bounds (form_rank self)).most }
+        ensures few { result ≤ 64 }
+    {
+        match self {
+            FormKeyword::Machine => 1,
+            FormKeyword::Op => 16,
+            FormKeyword::Axiom | FormKeyword::Goal => 64,
+        }
+    }
+
+    /// The fault of one form more.
+    fn beyond(self) -> Kind
+        ensures { result ≡ beyond_kind (bound_at text_bounds (form_rank self)).beyond }
+    {
+        match self {
+            FormKeyword::Machine => Kind::BadForm,
+            FormKeyword::Op | FormKeyword::Axiom | FormKeyword::Goal => Kind::LimitPassed,
+        }
+    }
 }
 
-fn text_word(word: &[u8]) -> Option<usize>
-    ensures { result ≡ rank_from 0 text_keywords word.now }
-{
-    if word == b"machine".as_slice() {
-        return Some(0);
-    }
-    if word == b"op".as_slice() {
-        return Some(1);
-    }
-    later_text_word(word)
-}
-
-/// The number of the keyword of a form of a text.
-fn text_rank(form: &Sexp, text: &[u8]) -> Option<usize>
+/// The keyword of a form of a text.
+fn form_keyword(form: &Sexp, text: &[u8]) -> Option<FormKeyword>
     requires of { IsSexpOf text.now form.now }
-    ensures { result ≡ rank text_keywords (sexp_form text.now form.now) }
+    ensures { option_map form_rank result ≡ rank text_keywords (sexp_form text.now form.now) }
 {
     match head(form, text) {
-        Some(word) => text_word(word),
+        Some(word) => FormKeyword::named(word),
         None => None,
     }
 }
 
-fn text_most(at: usize) -> usize
-    ensures most { result ≡ (bound_at text_bounds at).most }
-    ensures few { result ≤ 64 }
-{
-    match at {
-        0 => 1,
-        1 => 16,
-        2 | 3 => 64,
-        _ => 0,
-    }
-}
-
-fn text_beyond(at: usize) -> Kind
-    ensures { result ≡ beyond_kind (bound_at text_bounds at).beyond }
-{
-    match at {
-        1 | 2 | 3 => Kind::LimitPassed,
-        _ => Kind::BadForm,
-    }
-}
-
-/// The number of the keyword of a form of a text, where the form may stand behind those before it.
-pub fn admitted_form(form: &Sexp, text: &[u8], order: &Order) -> Result<usize, TextFault>
+/// The keyword of a form of a text, where the form may stand behind those before it.
+pub fn admitted_form(form: &Sexp, text: &[u8], order: &Order) -> Result<FormKeyword, TextFault>
     requires of { IsSexpOf text.now form.now }
-    ensures rank { IfOk result (λ at. rank text_keywords (sexp_form text.now form.now) ≡ Some at) }
-    ensures admitted { IfOk result (λ at. (before : List Form) → IsOrderOf text_keywords before order.now
-        → IsAdmission text_keywords before at (bound_at text_bounds at).most admissions.Admitted) }
-    ensures later { IfOk result (λ at. order.now.last ≤ at) }
-    ensures few { IfOk result (λ at. at ≡ order.now.last → order.now.count < 64) }
+    ensures rank { IfOk result (λ keyword. rank text_keywords (sexp_form text.now form.now) ≡ Some (form_rank keyword)) }
+    ensures admitted { IfOk result (λ keyword. (before : List Form) → IsOrderOf text_keywords before order.now
+        → IsAdmission text_keywords before (form_rank keyword) (bound_at text_bounds (form_rank keyword)).most
+        admissions.Admitted) }
+    ensures later { IfOk result (λ keyword. order.now.last ≤ form_rank keyword) }
+    ensures few { IfOk result (λ keyword. form_rank keyword ≡ order.now.last → order.now.count < 64) }
     ensures fault { IfErr result (λ fault. (before : List Form) (inner : ℕ → Role)
         → IsOrderOf text_keywords before order.now
         → IsFaultBy (IsFirst (IsFormFault (role_in text_keywords text_bounds before inner
         (sexp_form text.now form.now)) (sexp_form text.now form.now))) fault) }
 {
     sexps_are_forms();
-    let Some(rank) = text_rank(form, text) else {
+    let Some(keyword) = form_keyword(form, text) else {
         return Err(at(place(form), Kind::BadForm));
     };
-    match order.admits(rank, text_most(rank)) {
+    match order.admits(keyword.rank(), keyword.most()) {
         Admission::OutOfOrder => Err(at(place(form), Kind::BadForm)),
-        Admission::Beyond => Err(at(place(form), text_beyond(rank))),
-        Admission::Admitted => Ok(rank),
+        Admission::Beyond => Err(at(place(form), keyword.beyond())),
+        Admission::Admitted => Ok(keyword),
     }
 }

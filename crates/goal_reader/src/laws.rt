@@ -19,7 +19,7 @@ use forms::{one_reading, printed_lines_are_read};
 use machine_table::{one_table, printed_tables_are_read, tables_keep_limits};
 use text_core::one_lexing;
 
-/// The first fault of a text is one.
+/// A text has at most one first fault.
 pub fn texts_have_one_first_fault()
     ensures { (text : List ℕ) (place other : ℕ) (kind another : Kind)
         → IsFirstTextFault text place kind → IsFirstTextFault text other another
@@ -28,7 +28,7 @@ pub fn texts_have_one_first_fault()
     one_reading();
 }
 
-/// A text has one reading at most, and then it has no fault.
+/// A text has at most one reading, and a text with a reading has no fault.
 pub fn texts_have_one_reading()
     ensures once { (text : List ℕ) (input other : InputTree) → Reads text input → Reads text other → input ≡ other }
     ensures apart { (text : List ℕ) (input : InputTree) (place : ℕ) (kind : Kind)
@@ -38,7 +38,8 @@ pub fn texts_have_one_reading()
     one_table();
 }
 
-/// Of a text's forms the first that has a fault has the text's first one. Behind them all a goal may lack.
+/// The first form with a fault has the text's first fault. If no form is faulty, the only fault left is a missing goal,
+/// at the end of the text.
 pub fn the_first_form_decides()
     ensures forms { (text : List ℕ) (trees : SexpTrees) → ArePlaced 0 (length text) trees
         → (at : ℕ) (form : Form) (place : ℕ) (kind : Kind)
@@ -52,7 +53,7 @@ pub fn the_first_form_decides()
         → IsFirst (IsTextFault (length text) (forms_list (forms_of text trees))) (length text) BadForm }
 {}
 
-/// The canonical text of an input that was read is read as that input. The names of an input that was read are names.
+/// The canonical text of an input that was read is read as that input again. All its names are well-formed names.
 pub fn printed_inputs_are_read()
     ensures read { (text : List ℕ) (input : InputTree) → Reads text input → Reads (input_text input) input }
     ensures named { (text : List ℕ) (input : InputTree) → Reads text input → IsNamedInput input }
@@ -62,16 +63,15 @@ pub fn printed_inputs_are_read()
     printed_tables_are_read();
 }
 
-/// A text has at least five bytes for each four operators of its terms: each operand takes a byte at least, and an
-/// operator, which has four operands at most, takes a parenthesis beside its name.
+/// A text has at least five bytes for every four operators in its terms: each operand takes a byte at least, and an
+/// operator, which has at most four operands, takes a parenthesis beside its name.
 pub fn read_inputs_have_few_operators()
     ensures { (text : List ℕ) (input : InputTree) → Reads text input → 5 * operators_of_input input ≤ 4 * length text }
 {
     one_reading();
 }
 
-/// What a text is read as is well formed, where the text has fewer than 2^29 bytes: an operator of a term takes one of
-/// them at least.
+/// The input that a text of fewer than 2^29 bytes is read as is well formed.
 pub fn read_inputs_are_well_formed()
     ensures { (text : List ℕ) (input : InputTree) → length text < 2 ^ 29 → Reads text input → IsInput input }
 {

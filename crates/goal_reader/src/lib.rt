@@ -1,9 +1,9 @@
-//! Goal texts: declared operators, axioms and goals, read as the grammar has them, or refused with the first fault.
+//! Goal texts: declared operators, axioms and goals, read by the grammar, or refused with the first fault.
 //!
 //! A text is read in passes: its bytes, its parentheses, and then its forms, each in the role that its keyword and the
-//! forms before give it. A machine form is read by `machine_table`. `term`, `axiom` and `goal` read one form each.
+//! forms before it give. A machine form is read by `machine_table`. `term`, `axiom` and `goal` read one form each.
 //! `print` gives the canonical text of an input, which is read as that input again. `goal_meaning` says what inputs and
-//! goals mean; its types and laws are given out again here.
+//! goals mean; its types and laws are exported again here.
 #![tactic(auto)]
 
 mod assumes;

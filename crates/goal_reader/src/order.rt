@@ -5,12 +5,12 @@ ghost use Rattle.goal_reader.specs.Roles.{rank, of_rank};
 ghost use Rattle.goal_reader.specs.declared.order.Admission.TheVariants as admissions;
 ghost use Rattle.goal_reader.specs.Order.{IsOrderOf, IsAdmission};
 
-/// How a list stands behind those before it.
+/// Whether a list may come next, behind the lists before it.
 #[derive(Clone, Copy, PartialEq, Eq, Debug)]
 pub enum Admission {
-    /// A list of a later keyword stands before it.
+    /// A list whose keyword comes later in the order stands before it.
     OutOfOrder,
-    /// As many of its keyword as are allowed stand before it.
+    /// There are already as many lists of its keyword as are allowed.
     Beyond,
     Admitted,
 }
@@ -29,7 +29,7 @@ impl Order {
         Order { last: 0, count: 0 }
     }
 
-    /// Whether a list of a keyword may come next, of which there may be so many.
+    /// Whether a list with keyword number `at` may come next, where at most `most` of these are allowed.
     pub fn admits(&self, at: usize, most: usize) -> Admission
         ensures admission { (keywords : List (List ℕ)) (before : List Form) → IsOrderOf keywords before self.now
             → IsAdmission keywords before at most result }
@@ -45,7 +45,7 @@ impl Order {
         Admission::Admitted
     }
 
-    // How many lists of a keyword there are that isn't before the last one.
+    // How many lists there are of a keyword that is the last one or a later one.
     fn count_of(&self, at: usize) -> usize
         requires later { self.now.last ≤ at }
         ensures last { at ≡ self.now.last → result ≡ self.now.count }
@@ -58,7 +58,7 @@ impl Order {
         0
     }
 
-    /// The order behind one more list, which is admitted.
+    /// The order after one more list, which is admitted.
     pub fn after(self, at: usize) -> Order
         requires later { self.last ≤ at }
         requires few { at ≡ self.last → self.count < 2 ^ 32 }

@@ -60,7 +60,7 @@ fn pool_register(
     Ok(number)
 }
 
-/// Reads `( pool {REGISTER} )`, behind these inputs.
+/// Reads `( pool {REGISTER} )`, given the inputs before it.
 pub fn pool(
     alloc: Global,
     form: &Sexp,
@@ -77,14 +77,12 @@ pub fn pool(
 {
     sexps_are_forms();
     let Some(parts) = parts(form) else {
-        return Err(TextFault::Memory);
+        unreachable!();
     };
     let mut pool = Vec::new(alloc);
     for index in 1..parts.len() {
-        match pool_register(&parts[index], text, inputs, &pool) {
-            Ok(register) => pool.push(register)?,
-            Err(fault) => return Err(fault),
-        }
+        let register = pool_register(&parts[index], text, inputs, &pool)?;
+        pool.push(register)?;
     }
     Ok(pool)
 }

@@ -35,15 +35,9 @@ fn read_forms(alloc: Global, forms: &[Sexp], text: &[u8]) -> Result<TextDraft, T
     let mut draft = start_text(alloc);
     for index in 0..forms.len() {
         let form = &forms[index];
-        let keyword = match admitted_form(form, text, &order) {
-            Ok(keyword) => keyword,
-            Err(fault) => return Err(fault),
-        };
-        draft = match text_form(alloc, form, text, keyword, draft) {
-            Ok(next) => next,
-            Err(fault) => return Err(fault),
-        };
-        order = order.after(keyword);
+        let keyword = admitted_form(form, text, &order)?;
+        draft = text_form(alloc, form, text, keyword, draft)?;
+        order = order.after(keyword.rank());
     }
     if draft.goals.is_empty() {
         return Err(at(text.len() as u32, Kind::BadForm));
@@ -51,7 +45,7 @@ fn read_forms(alloc: Global, forms: &[Sexp], text: &[u8]) -> Result<TextDraft, T
     Ok(draft)
 }
 
-/// The table that was read, or else the table `ev6`, and whether it is the latter.
+/// The table that was read and `false`, or else the table `ev6` and `true`.
 fn table_or_built_in(alloc: Global, table: Option<Table>) -> Result<(Table, bool), NoMemory>
     ensures table { IfOk result (λ kept. kept.0 ≡ unwrap_or table built_in) }
     ensures builtin { IfOk result (λ kept. kept.1 ≡ is_none table) }
@@ -69,14 +63,8 @@ fn read_text(alloc: Global, bytes: &[u8]) -> Result<Input, TextFault>
     ensures fault { IfErr result (IsFaultBy (IsFirstTextFault bytes.now)) }
 {
     one_reading();
-    let forms = match trees(alloc, bytes) {
-        Ok(forms) => forms,
-        Err(fault) => return Err(fault),
-    };
-    let draft = match read_forms(alloc, &forms, bytes) {
-        Ok(draft) => draft,
-        Err(fault) => return Err(fault),
-    };
+    let forms = trees(alloc, bytes)?;
+    let draft = read_forms(alloc, &forms, bytes)?;
     let TextDraft {
         table,
         declared,
@@ -93,8 +81,8 @@ fn read_text(alloc: Global, bytes: &[u8]) -> Result<Input, TextFault>
     })
 }
 
-/// Reads a text of goals. The cost is linear in the length of the text but for the search for names, of which a goal has
-/// few.
+/// Reads a text of goals. The cost is linear in the length of the text, beside the search for names, of which a goal
+/// has few.
 pub fn read(alloc: Global, bytes: &[u8]) -> Result<Input, TextFault>
     requires { length bytes.now < 2 ^ 29 }
 

@@ -8,7 +8,7 @@ ghost use Rattle.word_terms.specs.Tree.{Tree};
 ghost use Rattle.word_terms.specs.View.{tree_of};
 ghost use Rattle.forms.specs.Forms.{sexp_form, is_list};
 ghost use Rattle.forms.specs.Reading.{IsSexpOf};
-ghost use Rattle.goal_reader.specs.Roles.{IsFaultAs, term as a_term, WritesTerm, IsApplication, IsWanted, sort_of_leaf};
+ghost use Rattle.goal_reader.specs.Roles.{IsFaultAs, term as a_term, WritesTerm, IsApplicationForm, IsWanted, sort_of_leaf};
 ghost use Rattle.std.specs.Prelude.{true, false};
 
 use crate::scopes::{Named, Scope, leaf_of, operator};
@@ -91,13 +91,13 @@ fn application(
     requires of { IsSexpOf text.now form.now }
     requires list { is_list (sexp_form text.now form.now) ≡ true }
     requires few { length scope.now.declared ≤ 16 }
-    ensures op { IfOk result (λ op. IsApplication scope.now wanted (sexp_form text.now form.now) op) }
+    ensures op { IfOk result (λ op. IsApplicationForm scope.now wanted (sexp_form text.now form.now) op) }
     ensures fault { IfErr result (IsFaultBy (IsFirst (IsFaultAs (a_term scope.now wanted)
         (sexp_form text.now form.now)))) }
 {
     sexps_are_forms();
     let Some(parts) = parts(form) else {
-        return Err(TextFault::Memory);
+        unreachable!();
     };
     let Some(head) = parts.first() else {
         return Err(at(place(form), Kind::BadForm));
@@ -139,17 +139,16 @@ fn read_term(
             let rest = &parts[1..];
             for (index, part) in rest.iter().enumerate() {
                 let sort = op.operand_sort(index);
-                match read_term(alloc, part, text, scope, Some(sort)) {
-                    Ok(operand) => operands.push(operand)?,
-                    Err(fault) => return Err(fault),
-                }
+                let operand = read_term(alloc, part, text, scope, Some(sort))?;
+                operands.push(operand)?;
             }
             Ok(Term::App(op, operands))
         }
     }
 }
 
-/// Reads a term; a sort may be wanted. The cost is linear in the length of the text but for the search for names.
+/// Reads a term, of a wanted sort if there is one. The cost is linear in the length of the text, beside the search for
+/// names.
 pub fn term(
     alloc: Global,
     form: &Sexp,

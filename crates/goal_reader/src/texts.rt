@@ -2,6 +2,7 @@
 ghost use Rattle.std.specs.Prelude.{◌≡◌, ◌≤◌, [], length, IfOk, IfErr, Some};
 ghost use Rattle.forms.specs.Forms.{sexp_form};
 ghost use Rattle.forms.specs.Reading.{IsSexpOf};
+ghost use Rattle.goal_reader.specs.Keywords.{form_rank};
 ghost use Rattle.goal_reader.specs.Roles.{rank, text_keywords};
 ghost use Rattle.goal_reader.specs.TextDrafts.{IsClearForm, IsNextForm, IsTextDraft, IsTextWritten, KeepsText, text_role};
 ghost use Rattle.goal_reader.specs.TextFaults.{IsFormFault};
@@ -9,6 +10,7 @@ ghost use Rattle.text_core.specs.Faults.{IsFaultBy, IsFirst};
 
 use crate::axioms::axiom;
 use crate::declarations::declaration;
+use crate::keywords::FormKeyword;
 use crate::whole::goal;
 use goal_meaning::{Axiom, DeclaredOp, Goal};
 use items::Items;
@@ -50,10 +52,7 @@ fn add_table(
     ensures clear { IfOk result (λ _. IsClearForm (text_role draft 0) (sexp_form text.now form.now)) }
     ensures fault { IfErr result (IsFaultBy (IsFirst (IsFormFault (text_role draft 0) (sexp_form text.now form.now)))) }
 {
-    let table = match machine_table::read(alloc, form, text) {
-        Ok(table) => table,
-        Err(fault) => return Err(fault),
-    };
+    let table = machine_table::read(alloc, form, text)?;
     let TextDraft {
         declared,
         axioms,
@@ -80,10 +79,7 @@ fn add_declaration(
     ensures clear { IfOk result (λ _. IsClearForm (text_role draft 1) (sexp_form text.now form.now)) }
     ensures fault { IfErr result (IsFaultBy (IsFirst (IsFormFault (text_role draft 1) (sexp_form text.now form.now)))) }
 {
-    let one = match declaration(alloc, form, text, draft.declared.as_slice()) {
-        Ok(one) => one,
-        Err(fault) => return Err(fault),
-    };
+    let one = declaration(alloc, form, text, draft.declared.as_slice())?;
     let TextDraft {
         table,
         mut declared,
@@ -118,10 +114,7 @@ fn add_axiom(
         mut axioms,
         goals,
     } = draft;
-    let (one, declared) = match axiom(alloc, form, text, declared) {
-        Ok(read) => read,
-        Err(fault) => return Err(fault),
-    };
+    let (one, declared) = axiom(alloc, form, text, declared)?;
     axioms.push(one)?;
     Ok(TextDraft {
         table,
@@ -150,10 +143,7 @@ fn add_goal(
         axioms,
         mut goals,
     } = draft;
-    let (one, declared) = match goal(alloc, form, text, declared, goals.as_slice()) {
-        Ok(read) => read,
-        Err(fault) => return Err(fault),
-    };
+    let (one, declared) = goal(alloc, form, text, declared, goals.as_slice())?;
     goals.push(one)?;
     Ok(TextDraft {
         table,
@@ -163,27 +153,26 @@ fn add_goal(
     })
 }
 
-/// Reads a form with the keyword of this number, behind what was read.
+/// Reads a form with this keyword, given what was read before it.
 pub fn text_form(
     alloc: Global,
     form: &Sexp,
     text: &[u8],
-    at: usize,
+    keyword: FormKeyword,
     draft: TextDraft,
 ) -> Result<TextDraft, TextFault>
     requires of { IsSexpOf text.now form.now }
     requires few { length draft.declared ≤ 16 }
-    requires keyword { rank text_keywords (sexp_form text.now form.now) ≡ Some at }
-    ensures next { IfOk result (λ next. IsNextForm (sexp_form text.now form.now) draft at next) }
-    ensures clear { IfOk result (λ _. IsClearForm (text_role draft at) (sexp_form text.now form.now)) }
-    ensures fault { IfErr result (IsFaultBy (IsFirst (IsFormFault (text_role draft at)
+    requires keyword { rank text_keywords (sexp_form text.now form.now) ≡ Some (form_rank keyword) }
+    ensures next { IfOk result (λ next. IsNextForm (sexp_form text.now form.now) draft (form_rank keyword) next) }
+    ensures clear { IfOk result (λ _. IsClearForm (text_role draft (form_rank keyword)) (sexp_form text.now form.now)) }
+    ensures fault { IfErr result (IsFaultBy (IsFirst (IsFormFault (text_role draft (form_rank keyword))
         (sexp_form text.now form.now)))) }
 {
-    match at {
-        0 => add_table(alloc, form, text, draft),
-        1 => add_declaration(alloc, form, text, draft),
-        2 => add_axiom(alloc, form, text, draft),
-        3 => add_goal(alloc, form, text, draft),
-        _ => Err(TextFault::Memory),
+    match keyword {
+        FormKeyword::Machine => add_table(alloc, form, text, draft),
+        FormKeyword::Op => add_declaration(alloc, form, text, draft),
+        FormKeyword::Axiom => add_axiom(alloc, form, text, draft),
+        FormKeyword::Goal => add_goal(alloc, form, text, draft),
     }
 }

@@ -31,7 +31,8 @@ fn is_variable(names: &[Name], name: &[u8]) -> bool
 }
 
 fn is_used(name: &[u8], declared: &[DeclaredOp], names: &[Name]) -> bool
-    ensures { result ≡ (goal_names.is_reserved name.now || is_among (names_of_declared declared.now ++ names.now) name.now) }
+    ensures { result
+        ≡ (goal_names.is_reserved name.now || is_among (names_of_declared declared.now ++ names.now) name.now) }
 {
     let reserved = is_reserved(name);
     let declared = is_declared(declared, name);
@@ -91,10 +92,8 @@ pub fn variables(
         if index >= 8 {
             return Err(at(place(part), Kind::LimitPassed));
         }
-        match variable_name(part, text, declared, names.as_slice()) {
-            Ok(bytes) => names.push(Name::new(alloc, bytes)?)?,
-            Err(fault) => return Err(fault),
-        }
+        let bytes = variable_name(part, text, declared, names.as_slice())?;
+        names.push(Name::new(alloc, bytes)?)?;
     }
     Ok(names)
 }
@@ -125,7 +124,7 @@ fn mentions(form: &Sexp, text: &[u8], wanted: &[u8]) -> bool
     }
 }
 
-/// The names of an axiom's variables, as its left side has them.
+/// What names mean on the left side of an axiom.
 pub fn left_scope(
     alloc: Global,
     declared: Items<DeclaredOp>,
@@ -154,7 +153,7 @@ fn right_meaning(name: &[u8], number: u32, left: &Sexp, text: &[u8]) -> Named
     Named::Lacking
 }
 
-/// The same names on the right side, where the left side may lack some.
+/// What names mean on the right side of an axiom: a variable that the left side lacks has a meaning of its own.
 pub fn right_scope(
     alloc: Global,
     declared: Items<DeclaredOp>,

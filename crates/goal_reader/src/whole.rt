@@ -8,7 +8,7 @@ ghost use Rattle.forms.specs.Reading.{IsSexpOf};
 ghost use Rattle.std.specs.Prelude.{All};
 ghost use Rattle.goal_reader.specs.Roles as roles;
 ghost use Rattle.text_core.specs.Names.{is_among};
-ghost use Rattle.goal_reader.specs.Roles.{IsFaultAs, is_of_rank, goal_keywords, text_keywords, rank, second_name, items_of};
+ghost use Rattle.goal_reader.specs.Roles.{IsFaultAs, is_of_rank, goal_keywords, text_keywords, rank, second_name, items_of_goal};
 ghost use Rattle.goal_meaning.specs.Rules.{has_register, default_pool as default_registers, free_registers};
 ghost use Rattle.goal_reader.specs.Reading.{IsClear};
 ghost use Rattle.goal_meaning.specs.WellFormed.{input_registers};
@@ -18,11 +18,11 @@ ghost use Rattle.goal_meaning.specs.Views.{GoalTree, goal_view};
 
 use crate::drafts::{Draft, item};
 use crate::inputs::is_given;
-use crate::keywords::{admitted_item, goal_rank};
+use crate::keywords::{admitted_item, item_keyword};
 use crate::order::Order;
 use crate::scopes::{Leaf, Named, Scope};
 use forms::{at, name, parts, place, sexps_are_forms};
-use goal_meaning::{DeclaredOp, Goal, InputReg};
+use goal_meaning::{DeclaredOp, FREE_REGISTERS, Goal, InputReg};
 use items::{Items, NoMemory};
 use std::alloc::Global;
 use text_core::{Kind, Name, Sexp, TextFault};
@@ -60,8 +60,8 @@ fn is_set(form: &Sexp, text: &[u8]) -> bool
     requires of { IsSexpOf text.now form.now }
     ensures { result ≡ is_of_rank goal_keywords 4 (sexp_form text.now form.now) }
 {
-    match goal_rank(form, text) {
-        Some(rank) => rank == 4,
+    match item_keyword(form, text) {
+        Some(keyword) => keyword.is_set(),
         None => false,
     }
 }
@@ -110,8 +110,8 @@ fn items(
     requires of { IsSexpOf text.now form.now }
     requires few { length declared ≤ 16 }
     ensures named { IfOk result (λ read. second_name (sexp_form text.now form.now) ≡ Some read.0) }
-    ensures draft { IfOk result (λ read. IsDraft declared (items_of (sexp_form text.now form.now)) read.1) }
-    ensures written { IfOk result (λ read. IsWritten (items_of (sexp_form text.now form.now)) read.1) }
+    ensures draft { IfOk result (λ read. IsDraft declared (items_of_goal (sexp_form text.now form.now)) read.1) }
+    ensures written { IfOk result (λ read. IsWritten (items_of_goal (sexp_form text.now form.now)) read.1) }
     ensures keeps { IfOk result (λ read. KeepsSoFar declared read.1) }
     ensures fresh { IfOk result (λ read. is_among (names_of_goals goals.now) read.0 ≡ false) }
     ensures clear { IfOk result (λ _. IsClear (roles.a_list (roles.goal declared (names_of_goals goals.now)))
@@ -129,32 +129,18 @@ fn items(
     if !has_target(&parts[2..], text) {
         return Err(at(place(form), Kind::BadForm));
     }
-    let bytes = match goal_name(&parts[1], text, goals) {
-        Ok(bytes) => bytes,
-        Err(fault) => return Err(fault),
-    };
+    let bytes = goal_name(&parts[1], text, goals)?;
     let mut order = Order::new();
     let mut draft = start(alloc, declared)?;
     for index in 2..parts.len() {
         let part = &parts[index];
-        let at = match admitted_item(part, text, &order) {
-            Ok(at) => at,
-            Err(fault) => return Err(fault),
-        };
-        draft = match item(alloc, part, text, at, draft) {
-            Ok(next) => next,
-            Err(fault) => return Err(fault),
-        };
-        order = order.after(at);
+        let keyword = admitted_item(part, text, &order)?;
+        draft = item(alloc, part, text, keyword, draft)?;
+        order = order.after(keyword.rank());
     }
     let name = Name::new(alloc, bytes)?;
     Ok((name, draft))
 }
-
-/// The registers that are free where nothing else is said.
-const FREE_REGISTERS: [u8; 21] = [
-    0, 1, 2, 3, 4, 5, 6, 7, 8, 16, 17, 18, 19, 20, 21, 22, 23, 24, 25, 27, 28,
-];
 
 /// Those of the registers that no input has.
 fn not_given(alloc: Global, inputs: &[InputReg], among: &[u8]) -> Result<Items<u8>, NoMemory>
@@ -207,10 +193,7 @@ fn read_goal(
     ensures fault { IfErr result (IsFaultBy (IsFirst (IsFaultAs (roles.a_list (roles.goal declared
         (names_of_goals goals.now))) (sexp_form text.now form.now)))) }
 {
-    let (name, draft) = match items(alloc, form, text, declared, goals) {
-        Ok(read) => read,
-        Err(fault) => return Err(fault),
-    };
+    let (name, draft) = items(alloc, form, text, declared, goals)?;
     let Draft {
         scope,
         inputs,
@@ -232,8 +215,8 @@ fn read_goal(
     Ok((goal, declared))
 }
 
-/// Reads a goal, behind these goals. The declared operators are given back. The cost is linear in the length of the
-/// text but for the search for names.
+/// Reads a goal, given the goals before it. The declared operators are given back. The cost is linear in the length of
+/// the text, beside the search for names.
 pub fn goal(
     alloc: Global,
     form: &Sexp,

@@ -34,7 +34,8 @@ pub fn graphs_are_consistent()
     ensures memory_target { (g : Graph) → IsLaunchGraph g → ClassHasSort g sorts.Memory (memory_target g) }
 {}
 
-/// The registers of a proper graph: those of the pool differ, are 0 to 30, and are no input's.
+/// In a proper graph, the registers of the pool differ, are 0 to 30, and are no input's; the inputs' registers differ
+/// and are 0 to 30.
 pub fn registers_are_apart()
     ensures differ { (g : Graph) → IsProper g → AllPairs (λ a b. a ≢ b) g.pool }
     ensures low { (g : Graph) → IsProper g → All (λ r. r < 31) g.pool }
@@ -43,7 +44,8 @@ pub fn registers_are_apart()
     ensures inputs_low { (g : Graph) → IsProper g → All (λ i. i.reg < 31) g.inputs }
 {}
 
-/// Where a graph is true, a class has the value of its constant and of its first input, and one of its sort.
+/// Where a graph is true in a world, each class has a value of its sort, equal to its constant if it has one, and to
+/// the word in the register of its first input if it has one.
 pub fn classes_have_values()
     ensures constant { (g : Graph) (world : World) (value : ℕ → Value) (class n : ℕ) → IsTrueUnder g world value
         → constant_of g class ≡ Some n → value class ≡ word n }

@@ -1,8 +1,8 @@
-//! Launch graphs: the E-graph of a goal, its rows and what the goal has of classes and registers; when a graph is well
+//! Launch graphs: the E-graph of a goal, its rows and the classes and registers of the goal; when a graph is well
 //! formed, and when it is true in a world.
 //!
-//! A graph is a list of rows, each an operator over classes in a class of its own. The layers above choose from it what
-//! to launch. `launch_graph` prints and reads one.
+//! A graph is a list of rows, each an operator over classes that is itself in a class. The layers above choose from it
+//! what to launch. `launch_graph` prints and reads one.
 #![tactic(auto)]
 
 mod graphs;

@@ -5,7 +5,8 @@ use crate::NoMemory;
 use std::alloc::Global;
 use std::marker::Model;
 
-/// A `Vec` of which contracts see the items alone. It is made from a `Vec` and gives it back, and neither takes memory.
+/// A `Vec` that contracts see as the list of its items. It is made from a `Vec` and gives it back, and neither takes
+/// memory.
 #[derive(Debug, Drop)]
 pub struct Items<T> {
     items: Vec<T>,

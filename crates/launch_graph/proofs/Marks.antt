@@ -13,7 +13,7 @@ use Rattle.launch_graph.specs.RowFaults.{IsWrongClass, not_below, no_row, other_
 use Rattle.launch_graph.specs.RowLines.{IsRowLine}
 use Rattle.launch_graph.specs.RowReading.{IsOnlyRow}
 use Rattle.launch_graph.specs.LineFaults.{AreRowLines, none, row, other}
-use Rattle.launch_graph.specs.ClassMarks.{OnlyRows, IsMark, after, absent, unsorted, sorted, AreMarks, HasMarks}
+use Rattle.launch_graph.specs.ClassMarks.{OnlyRows, IsMark, next_mark, absent, unsorted, sorted, AreMarks, HasMarks}
 
 -- ---- the rows of one more line
 
@@ -137,15 +137,15 @@ mark_stays rows one class mark differs (unsorted has untold) = unsorted (has_lef
 mark_stays rows one class mark differs (sorted has sort) = sorted (has_left rows one class has) (sort_stays rows one class _ sort)
 
 -- a class that no row told the sort of
-by_told : (rows : List RowLine) (class : ℕ) (t : Option Sort) → HasRowOfClass rows class → class_sort rows class ≡ t → IsMark rows class (after Unsorted t)
+by_told : (rows : List RowLine) (class : ℕ) (t : Option Sort) → HasRowOfClass rows class → class_sort rows class ≡ t → IsMark rows class (next_mark Unsorted t)
 by_told rows class None has e = unsorted has e
 by_told rows class (Some sort) has e = sorted has e
 
-by_told_absent : (rows : List RowLine) (class : ℕ) (t : Option Sort) → HasRowOfClass rows class → class_sort rows class ≡ t → IsMark rows class (after Absent t)
+by_told_absent : (rows : List RowLine) (class : ℕ) (t : Option Sort) → HasRowOfClass rows class → class_sort rows class ≡ t → IsMark rows class (next_mark Absent t)
 by_told_absent rows class None has e = unsorted has e
 by_told_absent rows class (Some sort) has e = sorted has e
 
-pub mark_comes : (rows : List RowLine) (one : RowLine) (class : ℕ) (mark : Mark) (t : Option Sort) → one.class ≡ class → t ≡ (if tells_sort one.op (length one.operands) then Some (sort_given one.op) else None) → IsMark rows class mark → IsMark (rows ++ one ∷ []) class (after mark t)
+pub mark_comes : (rows : List RowLine) (one : RowLine) (class : ℕ) (mark : Mark) (t : Option Sort) → one.class ≡ class → t ≡ (if tells_sort one.op (length one.operands) then Some (sort_given one.op) else None) → IsMark rows class mark → IsMark (rows ++ one ∷ []) class (next_mark mark t)
 mark_comes rows one class mark t same is (absent never untold) = by_told_absent (rows ++ one ∷ []) class t (has_last rows one class same) (sort_comes rows one class untold ∙ same_told one class same ∙ sym is)
 mark_comes rows one class mark t same is (unsorted has untold) = by_told (rows ++ one ∷ []) class t (has_last rows one class same) (sort_comes rows one class untold ∙ same_told one class same ∙ sym is)
 mark_comes rows one class mark t same is (sorted has sort) = sorted (has_last rows one class same) (sort_stays rows one class _ sort)
@@ -161,7 +161,7 @@ at_class marks rows one count m low h is =
       ];
     }
 
-pub marked : (marks : List Mark) (rows : List RowLine) (one : RowLine) (count : ℕ) (mark m : Mark) (t : Option Sort) → one.class < count → mark ≡ get_or marks one.class Absent → m ≡ after mark t
+pub marked : (marks : List Mark) (rows : List RowLine) (one : RowLine) (count : ℕ) (mark m : Mark) (t : Option Sort) → one.class < count → mark ≡ get_or marks one.class Absent → m ≡ next_mark mark t
     → t ≡ (if tells_sort one.op (length one.operands) then Some (sort_given one.op) else None) → AreMarks count rows marks → AreMarks count (rows ++ one ∷ []) (set marks one.class m)
 marked marks rows one count mark m t low read is told_is h =
     at_class marks rows one count m low h

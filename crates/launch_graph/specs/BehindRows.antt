@@ -31,8 +31,8 @@ IsRight marks sort class =
     (all : List RowLine) → AreMarks (length marks) all marks → IsWrongClass (length marks) all sort class → ⊥
 
 -- Up to a line a graph has no fault, all its rows are read, and its lines have come to this stage.
-pub record IsCleanBehindRows (lines : List Line) (from : ℕ) (all : List RowLine) (marks : List Mark) (at : ℕ) (stage : Stage)
-    : Type 0 where
+pub record IsCleanBehindRows (lines : List Line) (from : ℕ) (all : List RowLine) (marks : List Mark) (at : ℕ)
+    (stage : Stage) : Type 0 where
   pub clean : IsClean lines from (length marks) all all at stage
   pub full : length all ≡ length marks
   pub marks_are : AreMarks (length marks) all marks

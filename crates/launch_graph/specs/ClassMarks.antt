@@ -17,15 +17,16 @@ pub record OnlyRows (lines : List Line) (rows : List RowLine) : Type 0 where
 pub data IsMark (rows : List RowLine) (class : ℕ) : Mark → Type 0 where
   absent : (HasRowOfClass rows class → ⊥) → class_sort rows class ≡ None → IsMark rows class Absent
   unsorted : HasRowOfClass rows class → class_sort rows class ≡ None → IsMark rows class Unsorted
-  sorted : {sort : Sort} → HasRowOfClass rows class → class_sort rows class ≡ Some sort → IsMark rows class (Sorted sort)
+  sorted : {sort : Sort} → HasRowOfClass rows class → class_sort rows class ≡ Some sort
+      → IsMark rows class (Sorted sort)
 
 -- what is known of a class once one more row of it is seen
-abbrev pub after : Mark → Option Sort → Mark
-after (Sorted sort) told = Sorted sort
-after Absent None = Unsorted
-after Absent (Some sort) = Sorted sort
-after Unsorted None = Unsorted
-after Unsorted (Some sort) = Sorted sort
+abbrev pub next_mark : Mark → Option Sort → Mark
+next_mark (Sorted sort) told = Sorted sort
+next_mark Absent None = Unsorted
+next_mark Absent (Some sort) = Sorted sort
+next_mark Unsorted None = Unsorted
+next_mark Unsorted (Some sort) = Sorted sort
 
 -- a mark for each class below the count
 pub record AreMarks (count : ℕ) (rows : List RowLine) (marks : List Mark) : Type 0 where

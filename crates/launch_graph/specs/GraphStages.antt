@@ -1,4 +1,4 @@
--- How far a graph has come with some lines: which lines can stand next. Source: this project.
+-- How far into a graph some lines have come, and which lines may stand next. Source: this project.
 use Rattle.std.specs.Prelude.{ℕ, zero, suc, ◌≡◌, ◌<◌, ◌≤◌, ◌^◌, List, [], ◌∷◌, Option, All, IfSome}
 use Rattle.text_core.specs.LineTexts.{Words}
 use Rattle.text_core.specs.Names.{IsName}

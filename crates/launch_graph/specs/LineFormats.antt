@@ -1,4 +1,4 @@
--- Formats of lines: which lines a format can go on behind. Source: this project.
+-- Formats of lines: behind which lines a format can go on. Source: this project.
 use Rattle.std.specs.Prelude.{ℕ, List, ◌++◌, drop}
 use Rattle.std.specs.List.{slice_range}
 use Rattle.text_core.specs.Lines.{Line}

@@ -11,11 +11,11 @@ ghost use Rattle.launch_graph.specs.declared.class_marks.Mark.{Mark as MarkOf};
 
 use crate::class_marks::{Mark, is_wrong};
 use crate::line_faults::line_fault;
-use crate::line_reading::{begins_with, entry_line, guard_line, input_line, pool_line, set_line};
+use crate::line_reading::{entry_line, guard_line, input_line, pool_line, set_line};
 use graph_meaning::{Guard, InputClass, SetClass};
-use items::{Items, NoMemory};
+use items::Items;
 use std::alloc::Global;
-use text_core::{Kind, TextFault, TextLines};
+use text_core::{Kind, TextFault, TextLines, begins_with};
 use word_ops::{Sort, operators_are_listed};
 
 /// What the lines behind the rows say.

@@ -1,9 +1,9 @@
-// A first walk over the lines of a block of rows: which classes there are, and their sorts. A row may name the class of
-// a later one.
+// A first walk over the lines of a block of rows, which finds which classes there are, and their sorts: a row may name
+// the class of a later row.
 ghost use Rattle.std.specs.Prelude.{◌≡◌, ◌≤◌, ◌<◌, ◌+◌, ◌-◌, ◌++◌, ◌∷◌, [], ℕ, List, length, take, drop, IfOk, OnOk, Some, None, if◌then◌else◌, IsTrue, false, ◌↔◌};
 ghost use Rattle.text_core.specs.Lines.{Line};
 ghost use Rattle.launch_graph.specs.RowFaults.{tells_sort, sort_given, sort_taken, IsWrongClass};
-ghost use Rattle.launch_graph.specs.ClassMarks.{AreMarks, HasMarks, HasWrongOperand, after};
+ghost use Rattle.launch_graph.specs.ClassMarks.{AreMarks, HasMarks, HasWrongOperand, next_mark};
 ghost use Rattle.launch_graph.specs.declared.row_lines.RowLine.{RowLine as Row};
 
 use crate::row_lines::{LineOp, RowLine};
@@ -40,7 +40,7 @@ fn told_sort(op: &LineOp, count: usize) -> Option<Sort>
 
 /// The mark of a class once more rows of it are seen.
 fn mark_after(mark: Mark, told: Option<Sort>) -> Mark
-    ensures { result ≡ after mark told }
+    ensures { result ≡ next_mark mark told }
 {
     match (mark, told) {
         (Mark::Sorted(sort), _) => Mark::Sorted(sort),
@@ -120,7 +120,7 @@ fn is_sort(sort: Sort, wanted: Sort) -> bool
     )
 }
 
-/// Whether a class where one of this sort is wanted is wrong.
+/// Whether a class is wrong in a place where one of this sort is wanted.
 pub(crate) fn is_wrong(marks: &[Mark], wanted: Sort, class: u32) -> bool
     ensures low { result ≡ false → class < length marks.now }
     ensures wrong { (rows : List Row) → AreMarks (length marks.now) rows marks.now

@@ -1,4 +1,4 @@
-// The rows of a graph by what they apply.
+// The rows of a graph, found by their operator and operands.
 ghost use Rattle.std.specs.Prelude.{◌≡◌, ◌↔◌, ◌++◌, ◌∷◌, [], IfOk, OnErr, IsTrue, Contains, false};
 
 use indexmap::IndexSet;
@@ -6,8 +6,7 @@ use items::NoMemory;
 use std::alloc::Global;
 use std::marker::Model;
 
-/// An operator by its key, and its operands; where there are fewer than four, the others are 2 ^ 32 - 1, which is no
-/// class.
+/// The key of an operator, and its operands, filled up to four with 2 ^ 32 - 1, which is no class.
 #[derive(Clone, Copy, PartialEq, Eq, Hash, Debug)]
 pub struct RowKey {
     pub kind: u8,

@@ -13,8 +13,8 @@ ghost use Rattle.graph_meaning.specs.declared.graphs.LaunchGraph.{LaunchGraph as
 use text_core::printed_lines_are_lines;
 use word_ops::operators_are_listed;
 
-/// What is printed of a well-formed graph is lines of words, wherever it stands in a text; with at most 1,000,000 rows
-/// they have the form of a graph's lines.
+/// The lines that a well-formed graph prints are lines of words, wherever they stand in a text; with at most 1,000,000
+/// rows they have the form of a graph's lines.
 pub fn printed_graphs_are_lines()
     ensures form { (g : Graph) → IsLaunchGraph g → length g.rows ≤ 1000000 → AreGraphLines (said g) }
     ensures words { (g : Graph) → IsLaunchGraph g → All CanBeLine (graph_lines (said g)) }
@@ -24,9 +24,9 @@ pub fn printed_graphs_are_lines()
     printed_lines_are_lines();
 }
 
-/// Lines have one graph at most from a line on, and then no fault. The first fault is one. The lines that a well-formed
-/// graph prints have it, wherever they stand and whatever stands behind them that no graph goes on with. Well-formed
-/// graphs with the same lines are one graph, however many rows they have.
+/// From a line on there is at most one graph, and where there is one, no fault. There is at most one first fault. The
+/// lines that a well-formed graph prints are read as that graph, wherever they stand and whatever follows them, unless
+/// a graph could go on with it. Two well-formed graphs with the same lines are one graph, however many rows they have.
 pub fn one_graph()
     ensures graph { (lines : List Line) (from next other : ℕ) (g h : Graph)
         → IsGraphAt lines from next g → IsGraphAt lines from other h → (next ≡ other) × (g ≡ h) }

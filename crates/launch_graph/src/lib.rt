@@ -1,6 +1,6 @@
 //! The texts of launch graphs: the lines of a graph, printed, and read back or refused with the first fault.
 //!
-//! `graph_meaning` says what a graph is, and when it is well formed; its types and calls are given out again here.
+//! `graph_meaning` says what a graph is, and when it is well formed; its types and calls are exported again here.
 #![tactic(auto)]
 
 mod behind_rows;

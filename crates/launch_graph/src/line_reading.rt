@@ -1,35 +1,18 @@
 // The lines of a graph that are no rows, each by itself.
-ghost use Rattle.std.specs.Prelude.{◌≡◌, ◌≢◌, ◌<◌, ◌^◌, [], length, codes, IfOk, MatchOption, IsTrue, ◌↔◌};
-ghost use Rattle.text_core.specs.Lines.{line_at, line_word};
+ghost use Rattle.std.specs.Prelude.{◌≡◌, ◌≢◌, ◌<◌, length, codes, IfOk, MatchOption};
+ghost use Rattle.text_core.specs.Lines.{line_at};
 ghost use Rattle.launch_graph.specs.GraphLines.{held_word};
 ghost use Rattle.text_core.specs.LineTexts.{SaysNone};
 ghost use Rattle.launch_graph.specs.LineReading.{IsHeaderLine, IsEntryLine, IsInputLine, IsPoolLine, IsGuardLine, IsSetLine};
 
-use crate::row_reading::{below, same};
+use crate::row_reading::below;
 use graph_meaning::{Guard, InputClass, SetClass};
 use items::{Items, NoMemory};
 use std::alloc::Global;
-use text_core::{Name, TextLines, is_name};
+use text_core::{Name, TextLines, begins_with, has_form, is_name, same};
 
 /// The most rows that a text of a graph may have.
 const MOST_ROWS: u32 = 1_000_000;
-
-/// Whether a line begins with this word.
-pub(crate) fn begins_with(text: &TextLines<'_>, line: u32, first: &[u8]) -> bool
-    requires { line < length text.now }
-    ensures { IsTrue result ↔ (line_word text.now line 0 ≡ first.now) }
-{
-    text.words(line) > 0 && same(text.word(line, 0), first)
-}
-
-/// Whether a line has so many words, and this one first.
-fn has_form(text: &TextLines<'_>, line: u32, first: &[u8], count: u32) -> bool
-    requires { line < length text.now }
-    ensures { IsTrue result
-        ↔ ((length (line_at text.now line).words ≡ count) × (line_word text.now line 0 ≡ first.now)) }
-{
-    text.words(line) == count && begins_with(text, line, first)
-}
 
 /// The number of rows that a header tells.
 pub(crate) fn header_line(text: &TextLines<'_>, line: u32) -> Option<u32>

@@ -1,5 +1,5 @@
 // Printing the lines of a graph, a line a function.
-ghost use Rattle.std.specs.Prelude.{◌≡◌, ◌++◌, ◌∷◌, [], IfOk, OnOk, map, codes, decimal};
+ghost use Rattle.std.specs.Prelude.{◌≡◌, ◌++◌, IfOk, OnOk, map, codes, decimal};
 ghost use Rattle.std.specs.List.{flat_map};
 ghost use Rattle.text_core.specs.LineTexts.{line_text, lines_text};
 ghost use Rattle.launch_graph.specs.GraphLines as format;
@@ -10,30 +10,8 @@ use graph_meaning::{Guard, InputClass, LaunchGraph, LaunchRow, SetClass};
 use items::NoMemory;
 use itoa::Buffer;
 use std::alloc::Global;
+use text_core::{put, put_number, put_numbered, put_word};
 use word_ops::{Op, op_name};
-
-fn put(text: &mut Vec<u8>, bytes: &[u8]) -> Result<(), NoMemory>
-    ensures { OnOk result (text.new.items ≡ text.old.items ++ bytes.now) }
-{
-    text.extend_from_slice(bytes)?;
-    Ok(())
-}
-
-/// A word with a space before it.
-fn put_word(text: &mut Vec<u8>, word: &[u8]) -> Result<(), NoMemory>
-    ensures { OnOk result (text.new.items ≡ text.old.items ++ (codes " " ++ word.now)) }
-{
-    put(text, b" ")?;
-    put(text, word)
-}
-
-/// A number with a space before it.
-fn put_number(text: &mut Vec<u8>, number: u64) -> Result<(), NoMemory>
-    ensures { OnOk result (text.new.items ≡ text.old.items ++ (codes " " ++ decimal number)) }
-{
-    let mut buffer = Buffer::new();
-    put_word(text, buffer.format(number).as_bytes())
-}
 
 /// Each class with a space before it.
 #[tactic(auto, using(crate::proofs::Printed::each_more))]
@@ -106,15 +84,6 @@ fn put_rows(text: &mut Vec<u8>, rows: &[LaunchRow]) -> Result<(), NoMemory>
     Ok(())
 }
 
-/// A line of a word and a number.
-fn put_numbered(text: &mut Vec<u8>, word: &[u8], number: u64) -> Result<(), NoMemory>
-    ensures { OnOk result (text.new.items ≡ text.old.items ++ line_text (word.now ∷ decimal number ∷ [])) }
-{
-    put(text, word)?;
-    put_number(text, number)?;
-    put(text, b"\n")
-}
-
 fn put_input(text: &mut Vec<u8>, input: &InputClass) -> Result<(), NoMemory>
     ensures { OnOk result (text.new.items ≡ text.old.items ++ line_text (format.in_words input.now)) }
 {
@@ -181,7 +150,7 @@ fn put_sets(text: &mut Vec<u8>, sets: &[SetClass]) -> Result<(), NoMemory>
     Ok(())
 }
 
-/// Puts the lines of a graph behind a text. The cost is linear in them. After an error the text may have some of them.
+/// Appends the lines of a graph to a text. The cost is linear in them. After an error the text may have some of them.
 #[tactic(auto, using(crate::proofs::Printed::graph_text))]
 pub fn put_graph(text: &mut Vec<u8>, graph: &LaunchGraph) -> Result<(), NoMemory>
     ensures { OnOk result (text.new.items ≡ text.old.items ++ lines_text (format.graph_lines (format.said graph.now))) }

@@ -75,9 +75,9 @@ fn graph_at(alloc: Global, text: &TextLines<'_>, from: u32) -> Result<(LaunchGra
 
 /// Reads the launch graph whose lines begin at the line `from`, and gives the number of the line behind it. Only a
 /// well-formed graph is read, and one that was printed is read as itself. A fault is the first of the lines: BadLine,
-/// BadRow or BadClass. The cost is linear in the text and in the number of rows that the first line tells, up to
-/// look-ups among at most sixteen names of declared operators; a row is compared with those before it by its key in an
-/// index.
+/// BadRow or BadClass. The cost is linear in the text and in the number of rows that the first line tells, beside
+/// look-ups among at most sixteen names of declared operators; whether an earlier row applies the same is looked up in
+/// an index.
 pub fn read(alloc: Global, text: &TextLines<'_>, from: u32) -> Result<(LaunchGraph, u32), TextFault>
     requires { from ≤ length text.now }
     ensures graph { IfOk result (λ p. IsGraphAt text.now from p.1 p.0) }

@@ -1,20 +1,20 @@
 // The words of a line as those of a row.
-ghost use Rattle.std.specs.Prelude.{◌≡◌, ◌≢◌, ◌<◌, ◌≤◌, ◌+◌, ◌^◌, ℕ, List, length, drop, decimal as decimal_of, IfOk, IfSome, IfNone, MatchOption, IsTrue, ◌↔◌};
+ghost use Rattle.std.specs.Prelude.{◌≡◌, ◌<◌, ◌≤◌, ◌^◌, ℕ, List, length, drop, decimal as decimal_of, IfOk, IfSome, IfNone, MatchOption};
 ghost use Rattle.word_ops.specs.declared.sorts.Op.{Op as Operator};
 ghost use Rattle.text_core.specs.Lines.{line_at};
 ghost use Rattle.launch_graph.specs.RowLines.{IsRowLine, op_word};
 ghost use Rattle.launch_graph.specs.RowReading.{IsHead, head_of, IsOpBefore, HasNoOp, IsArgument, AreNumbers, IsOnlyRow};
-ghost use Rattle.text_core.specs.Names.{IsName};
 ghost use Rattle.launch_graph.specs.declared.row_lines.LineOp.{LineOp as OpOfLine};
 ghost use Rattle.launch_graph.specs.declared.row_lines.RowLine.{RowLine as Row};
 
 use crate::row_lines::{LineOp, RowLine};
 use items::{Items, NoMemory};
 use std::alloc::Global;
-use text_core::{Name, TextLines, decimal, is_name};
+use text_core::{Name, TextLines, decimal, is_name, same};
 use word_ops::{Op, op_of};
 
-/// What the word of an operator tells: an operator that stands alone, one with an argument, or none.
+/// What a word tells that stands in the place of an operator: an operator without an argument, one with an argument, or
+/// none.
 #[derive(Clone, Copy)]
 pub enum Head {
     Plain(Op),
@@ -22,7 +22,7 @@ pub enum Head {
     Unknown,
 }
 
-/// What the word behind that of an operator is to be.
+/// What the argument of an operator is to be.
 #[derive(Clone, Copy)]
 pub enum Argument {
     Register,
@@ -41,12 +41,6 @@ pub(crate) fn below(word: &[u8], limit: u32) -> Option<u32>
     } else {
         None
     }
-}
-
-pub(crate) fn same(word: &[u8], other: &[u8]) -> bool
-    ensures { IsTrue result ↔ (word.now ≡ other.now) }
-{
-    word == other
 }
 
 /// What a word tells as the word of an operator.

@@ -22,27 +22,27 @@ use Rattle.machine_table.proofs.TableForms.{append_both, joined, numbers_apart, 
 use Rattle.machine_table.proofs.UseLists.{names_both}
 use Rattle.machine_table.specs.Grammar.{WritesTable, Each, none, more_of, IsListOf, IsNumberOf, WritesSlot, IsSlotNamed, WritesUse, WritesOps}
 use Rattle.machine_table.specs.InstrOrder.{instr_name, kind_number}
-use Rattle.machine_table.specs.Reading.{AreSlotNumbers, IsUseOf, IsClear, slot_names, name_at, slot_names_used, names_of_uses}
+use Rattle.machine_table.specs.Reading.{AreSlotNumbers, IsUseOf, IsClearTableForm, slot_names, name_at, slot_names_used, names_of_uses}
 use Rattle.machine_table.specs.Roles as roles
 use Rattle.text_core.specs.Names.{is_among}
-use Rattle.machine_table.specs.Roles.{Role, IsOwn, part_role, named_in_all, slots_in, slots_in_form, first_name, has_head, other_keyword, too_few, no_list, none_used, no_slot, slot_again}
+use Rattle.machine_table.specs.Roles.{TableRole, IsOwnTableFault, table_part_role, named_in_all, slots_in, slots_in_form, first_name, has_head, other_keyword, too_few, no_list, none_used, no_slot, slot_again}
 use Rattle.machine_table.specs.Tables.{IsUse}
 use Rattle.machine_table.specs.declared.tables.Slot.{Slot}
 use Rattle.machine_table.specs.declared.tables.Table.{Table}
 use Rattle.machine_table.specs.declared.tables.Use.{Use}
 use Rattle.text_core.specs.declared.faults.Kind.{Kind}
 
-all_parts : (role : Role) (form : Form) → ((k : Kind) → IsOwn role form k → ⊥)
-    → ((j : ℕ) (part : Form) (other : Role) → slice_get (parts_of form) j ≡ Some part → part_role role form j ≡ Some other → IsClear other part) → IsClear role form
-all_parts role form own each = no_fault IsOwn part_role role form own (λ j part other place kind g r fault. each j part other g r place kind fault)
+all_parts : (role : TableRole) (form : Form) → ((k : Kind) → IsOwnTableFault role form k → ⊥)
+    → ((j : ℕ) (part : Form) (other : TableRole) → slice_get (parts_of form) j ≡ Some part → table_part_role role form j ≡ Some other → IsClearTableForm other part) → IsClearTableForm role form
+all_parts role form own each = no_fault IsOwnTableFault table_part_role role form own (λ j part other place kind g r fault. each j part other g r place kind fault)
 
-as_is : (one role other : Role) (form part : Form) → Some one ≡ Some role → Some form ≡ Some part → one ≡ other → IsClear other form → IsClear role part
+as_is : (one role other : TableRole) (form part : Form) → Some one ≡ Some role → Some form ≡ Some part → one ≡ other → IsClearTableForm other form → IsClearTableForm role part
 as_is one role other form part r f same clear =
     let roles : other ≡ role = cc in
     let forms : form ≡ part = cc in
-    subst (λ (x : Role). IsClear x part) roles (subst (λ (x : Form). IsClear other x) forms clear)
+    subst (λ (x : TableRole). IsClearTableForm x part) roles (subst (λ (x : Form). IsClearTableForm other x) forms clear)
 
-no_role : (role : Role) (part : Form) → None ≡ Some role → IsClear role part
+no_role : (role : TableRole) (part : Form) → None ≡ Some role → IsClearTableForm role part
 no_role role part e = cc
 
 module _ {X : Type 0} (P : X → Type 0) where
@@ -85,36 +85,36 @@ module _ (before : List (List ℕ)) (form : Form) (slot : Slot) (w : WritesSlot 
   slot_parts : parts_of form ≡ w.first ∷ w.second ∷ []
   slot_parts = ap parts_of w.is
 
-  slot_own : (k : Kind) → IsOwn (roles.slot before) form k → ⊥
+  slot_own : (k : Kind) → IsOwnTableFault (roles.slot before) form k → ⊥
   slot_own k (other_keyword i j) = cc
   slot_own k (too_few l) = let n = ap length slot_parts in omega (arith, n, l)
   slot_own k (slot_again {name = other} i j) =
       no_both (is_among before slot.name) (ap (is_among before) (same_some (first_name form) slot.name other (first_named form slot w) i) ∙ j) fresh
 
-  slot_each : (j : ℕ) (part : Form) (other : Role) → slice_get (w.first ∷ w.second ∷ []) j ≡ Some part → part_role (roles.slot before) form j ≡ Some other → IsClear other part
+  slot_each : (j : ℕ) (part : Form) (other : TableRole) → slice_get (w.first ∷ w.second ∷ []) j ≡ Some part → table_part_role (roles.slot before) form j ≡ Some other → IsClearTableForm other part
   slot_each zero part other g r = as_is roles.slot_name other roles.slot_name w.first part r g refl (slot_name_clear w.first slot.name (name_of w.first slot.name w.named))
   slot_each (suc zero) part other g r = as_is roles.cluster other roles.cluster w.second part r g refl (cluster_clear w.second slot.cluster (ap number_in w.placed.is) low)
   slot_each (suc (suc j)) part other g r = cc
 
-  pub slot_clear : IsClear (roles.slot before) form
+  pub slot_clear : IsClearTableForm (roles.slot before) form
   slot_clear = all_parts (roles.slot before) form slot_own (λ j part other g r. slot_each j part other (ap (λ ps. slice_get ps j) (sym slot_parts) ∙ g) r)
 
 pub slot_at : (before : List (List ℕ)) (forms : List Form) (slots : List Slot) → Each WritesSlot forms slots → All (λ s. s.cluster ≤ 3) slots → FreshAll before (slot_names slots)
-    → (i : ℕ) (part : Form) → slice_get forms i ≡ Some part → IsClear (roles.slot (before ++ slots_in (take i forms))) part
+    → (i : ℕ) (part : Form) → slice_get forms i ≡ Some part → IsClearTableForm (roles.slot (before ++ slots_in (take i forms))) part
 slot_at before _ _ none low fresh i part g = cc
 slot_at before _ _ (more_of {form = form} {forms = forms} {y = slot} {ys = slots} w ws) low fresh zero part g =
     as_is (roles.slot before) (roles.slot (before ++ [])) (roles.slot before) form part (ap (λ b. Some (roles.slot b)) (sym (append-nil before))) g refl
     (slot_clear before form slot w (low 0 slot (omega arith)) fresh.0)
 slot_at before _ _ (more_of {form = form} {forms = forms} {y = slot} {ys = slots} w ws) low fresh (suc i) part g =
     let rest = slot_at (before ++ slot.name ∷ []) forms slots ws (λ k d l. low (suc k) d (omega (arith, l))) fresh.1 i part g in
-    subst (λ b. IsClear (roles.slot b) part) (append_both before (slot.name ∷ []) (slots_in (take i forms)) ∙ ap (λ ns. before ++ ns) (sym (slots_first form slot w (take i forms)))) rest
+    subst (λ b. IsClearTableForm (roles.slot b) part) (append_both before (slot.name ∷ []) (slots_in (take i forms)) ∙ ap (λ ns. before ++ ns) (sym (slots_first form slot w (take i forms)))) rest
   where
     slots_first : (form : Form) (slot : Slot) → WritesSlot form slot → (forms : List Form) → slots_in (form ∷ forms) ≡ slot.name ∷ slots_in forms
     slots_first form slot w forms = ap (λ o. cons_option o (slots_in forms)) (first_named form slot w)
 
 -- ---- the slots that instructions may be launched in
 pub used_at : (slots : List Slot) (before : List (List ℕ)) (forms : List Form) (used : List ℕ) → Each (IsSlotNamed slots) forms used → FreshAll before (slot_names_used slots used)
-    → (i : ℕ) (part : Form) → slice_get forms i ≡ Some part → IsClear (roles.used_slot (slot_names slots) (before ++ names_in (take i forms))) part
+    → (i : ℕ) (part : Form) → slice_get forms i ≡ Some part → IsClearTableForm (roles.used_slot (slot_names slots) (before ++ names_in (take i forms))) part
 used_at slots before _ _ none fresh i part g = cc
 used_at slots before _ _ (more_of {form = form} {forms = forms} {y = at} {ys = used} w ws) fresh zero part g =
     as_is (roles.used_slot (slot_names slots) before) (roles.used_slot (slot_names slots) (before ++ [])) (roles.used_slot (slot_names slots) before) form part
@@ -127,31 +127,31 @@ used_at slots before _ _ (more_of {form = form} {forms = forms} {y = at} {ys = u
     let first : names_in (form ∷ take i forms) ≡ n ∷ names_in (take i forms) =
     ap (λ o. cons_option o (names_in (take i forms))) (name_of form w.slot.name w.named)
     ∙ ap (λ (m : List ℕ). m ∷ names_in (take i forms)) (sym (name_at_is slots at w.slot w.found)) in
-    subst (λ b. IsClear (roles.used_slot (slot_names slots) b) part) (append_both before (n ∷ []) (names_in (take i forms)) ∙ ap (λ ns. before ++ ns) (sym first)) rest
+    subst (λ b. IsClearTableForm (roles.used_slot (slot_names slots) b) part) (append_both before (n ∷ []) (names_in (take i forms)) ∙ ap (λ ns. before ++ ns) (sym first)) rest
 
 module _ (slots : List Slot) (form : Form) (p : ℕ) (forms : List Form) (used : List ℕ) (is : form ≡ list p (forms_from forms)) (some : 0 < length forms)
     (named : Each (IsSlotNamed slots) forms used) (fresh : FreshAll [] (slot_names_used slots used)) where
   used_parts : parts_of form ≡ forms
   used_parts = ap parts_of is ∙ list_from forms
 
-  used_own : (k : Kind) → IsOwn (roles.used_slots (slot_names slots)) form k → ⊥
+  used_own : (k : Kind) → IsOwnTableFault (roles.used_slots (slot_names slots)) form k → ⊥
   used_own k (other_keyword i j) = cc
   used_own k (too_few l) = omega (arith, l)
   used_own k (no_list i) = no_both (is_list form) (ap is_list is) i
   used_own k (none_used i j) = let n = ap length used_parts in omega (arith, n, j, some)
 
-  used_each : (j : ℕ) (part : Form) (other : Role) → slice_get (parts_of form) j ≡ Some part → part_role (roles.used_slots (slot_names slots)) form j ≡ Some other → IsClear other part
+  used_each : (j : ℕ) (part : Form) (other : TableRole) → slice_get (parts_of form) j ≡ Some part → table_part_role (roles.used_slots (slot_names slots)) form j ≡ Some other → IsClearTableForm other part
   used_each j part other g r =
       as_is (roles.used_slot (slot_names slots) (names_in (take j (parts_of form)))) other (roles.used_slot (slot_names slots) (names_in (take j (parts_of form)))) part part r refl refl
-      (subst (λ fs. IsClear (roles.used_slot (slot_names slots) (names_in (take j fs))) part) (sym used_parts)
+      (subst (λ fs. IsClearTableForm (roles.used_slot (slot_names slots) (names_in (take j fs))) part) (sym used_parts)
       (used_at slots [] forms used named fresh j part (ap (λ ps. slice_get ps j) (sym used_parts) ∙ g)))
 
-  pub used_slots_clear : IsClear (roles.used_slots (slot_names slots)) form
+  pub used_slots_clear : IsClearTableForm (roles.used_slots (slot_names slots)) form
   used_slots_clear = all_parts (roles.used_slots (slot_names slots)) form used_own used_each
 
 -- ---- the instructions
 pub instr_at : (latency : ℕ) (slots : List ℕ) (before : List (List ℕ)) (forms : List Form) (uses : List Use) → Each (WritesUse latency slots) forms uses → FreshAll before (names_of_uses uses)
-    → (i : ℕ) (part : Form) → slice_get forms i ≡ Some part → IsClear (roles.instr (before ++ names_in (take i forms))) part
+    → (i : ℕ) (part : Form) → slice_get forms i ≡ Some part → IsClearTableForm (roles.instr (before ++ names_in (take i forms))) part
 instr_at latency slots before _ _ none fresh i part g = cc
 instr_at latency slots before _ _ (more_of {form = form} {forms = forms} {y = u} {ys = uses} w ws) fresh zero part g =
     as_is (roles.instr before) (roles.instr (before ++ [])) (roles.instr before) form part (ap (λ b. Some (roles.instr b)) (sym (append-nil before))) g refl
@@ -160,7 +160,7 @@ instr_at latency slots before _ _ (more_of {form = form} {forms = forms} {y = u}
     let n = instr_name u.instr in
     let rest = instr_at latency slots (before ++ n ∷ []) forms uses ws fresh.1 i part g in
     let first : names_in (form ∷ take i forms) ≡ n ∷ names_in (take i forms) = ap (λ o. cons_option o (names_in (take i forms))) (name_of form n w.instr) in
-    subst (λ b. IsClear (roles.instr b) part) (append_both before (n ∷ []) (names_in (take i forms)) ∙ ap (λ ns. before ++ ns) (sym first)) rest
+    subst (λ b. IsClearTableForm (roles.instr b) part) (append_both before (n ∷ []) (names_in (take i forms)) ∙ ap (λ ns. before ++ ns) (sym first)) rest
 
 module _ (slots : List Slot) (before : List (List ℕ)) (form : Form) (uses : List Use) (w : WritesOps slots form uses) (latency : (1 ≤ w.latency) × (w.latency ≤ 16))
     (some : 0 < length w.slot_forms) (once : FreshAll [] (slot_names_used slots w.slots)) (fresh : FreshAll before (names_of_uses uses)) where
@@ -172,13 +172,13 @@ module _ (slots : List Slot) (before : List (List ℕ)) (form : Form) (uses : Li
       ap parts_of w.is.is
       ∙ ap (λ fs. atom w.is.head_place (name (codes "ops")) ∷ w.latency_form ∷ list w.slots_place (forms_from w.slot_forms) ∷ w.first ∷ fs) (list_from w.others)
 
-  ops_own : (k : Kind) → IsOwn (roles.ops (slot_names slots) before) form k → ⊥
+  ops_own : (k : Kind) → IsOwnTableFault (roles.ops (slot_names slots) before) form k → ⊥
   ops_own k (other_keyword {word = word} i j) =
       let same : codes "ops" ≡ word = cc in
       no_both (has_head word form) (ap (λ f. has_head word f) w.is.is ∙ (bytes_eq-Decides (codes "ops") word).1 same) j
   ops_own k (too_few l) = let n = ap length ops_parts in omega (arith, n, l)
 
-  ops_each : (j : ℕ) (part : Form) (other : Role) → slice_get parts j ≡ Some part → part_role (roles.ops (slot_names slots) before) form j ≡ Some other → IsClear other part
+  ops_each : (j : ℕ) (part : Form) (other : TableRole) → slice_get parts j ≡ Some part → table_part_role (roles.ops (slot_names slots) before) form j ≡ Some other → IsClearTableForm other part
   ops_each zero part other g r = no_role other part r
   ops_each (suc zero) part other g r =
       as_is roles.latency other roles.latency w.latency_form part r g refl (latency_clear w.latency_form w.latency (ap number_in w.latency_is.is) latency.0 latency.1)
@@ -187,10 +187,10 @@ module _ (slots : List Slot) (before : List (List ℕ)) (form : Form) (uses : Li
       (used_slots_clear slots (list w.slots_place (forms_from w.slot_forms)) w.slots_place w.slot_forms w.slots refl some w.slots_are once)
   ops_each (suc (suc (suc j))) part other g r =
       as_is (roles.instr (before ++ names_in (take j (drop 3 (parts_of form))))) other (roles.instr (before ++ names_in (take j (drop 3 (parts_of form))))) part part r refl refl
-      (subst (λ fs. IsClear (roles.instr (before ++ names_in (take j (drop 3 fs)))) part) (sym ops_parts)
+      (subst (λ fs. IsClearTableForm (roles.instr (before ++ names_in (take j (drop 3 fs)))) part) (sym ops_parts)
       (instr_at w.latency w.slots before (w.first ∷ w.others) uses w.written fresh j part g))
 
-  pub ops_clear : IsClear (roles.ops (slot_names slots) before) form
+  pub ops_clear : IsClearTableForm (roles.ops (slot_names slots) before) form
   ops_clear = all_parts (roles.ops (slot_names slots) before) form ops_own (λ j part other g r. ops_each j part other (ap (λ ps. slice_get ps j) (sym ops_parts) ∙ g) r)
 
 -- ---- the whole form
@@ -211,13 +211,13 @@ each_length P _ _ none l = l
 each_length P _ _ (more_of w ws) l = omega arith
 
 module _ (slots : List Slot) (differ : AllPairs (λ s r. s.name ≢ r.name) slots) where
-  one_clear : (before : List (List ℕ)) (form : Form) (uses : List Use) → WritesOps slots form uses → All (IsUseOf slots) uses → FreshAll before (names_of_uses uses) → IsClear (roles.ops (slot_names slots) before) form
+  one_clear : (before : List (List ℕ)) (form : Form) (uses : List Use) → WritesOps slots form uses → All (IsUseOf slots) uses → FreshAll before (names_of_uses uses) → IsClearTableForm (roles.ops (slot_names slots) before) form
   one_clear before form uses w each fresh =
       let first = first_use slots w.latency w.slots w.first w.others uses w.written each in
       ops_clear slots before form uses w (first.0, first.1) (each_length (IsSlotNamed slots) w.slot_forms w.slots w.slots_are first.2) (numbers_fresh slots w.slots differ first.3) fresh
 
   pub ops_at : (before : List (List ℕ)) (forms : List Form) (written : List (List Use)) → Each (WritesOps slots) forms written → All (IsUseOf slots) (joined written) → FreshAll before (names_of_uses (joined written))
-      → (i : ℕ) (part : Form) → slice_get forms i ≡ Some part → IsClear (roles.ops (slot_names slots) (before ++ named_in_all (take i forms))) part
+      → (i : ℕ) (part : Form) → slice_get forms i ≡ Some part → IsClearTableForm (roles.ops (slot_names slots) (before ++ named_in_all (take i forms))) part
   ops_at before _ _ none each fresh i part g = cc
   ops_at before _ _ (more_of {form = form} {forms = forms} {y = uses} {ys = written} w ws) each fresh zero part g =
       let split = fresh_split before (names_of_uses uses) (names_of_uses (joined written)) (subst (FreshAll before) (names_both uses (joined written)) fresh) in
@@ -227,7 +227,7 @@ module _ (slots : List Slot) (differ : AllPairs (λ s r. s.name ≢ r.name) slot
   ops_at before _ _ (more_of {form = form} {forms = forms} {y = uses} {ys = written} w ws) each fresh (suc i) part g =
       let split = fresh_split before (names_of_uses uses) (names_of_uses (joined written)) (subst (FreshAll before) (names_both uses (joined written)) fresh) in
       let rest = ops_at (before ++ names_of_uses uses) forms written ws (all_right (IsUseOf slots) uses (joined written) each) split.1 i part g in
-      subst (λ b. IsClear (roles.ops (slot_names slots) b) part)
+      subst (λ b. IsClearTableForm (roles.ops (slot_names slots) b) part)
       (append_both before (names_of_uses uses) (named_in_all (take i forms)) ∙ ap (λ ns. before ++ (ns ++ named_in_all (take i forms))) (sym (ops_named slots form uses w))) rest
 
 -- ---- the slots of a table
@@ -242,14 +242,14 @@ module _ (form : Form) (forms : List Form) (slots : List Slot) (is : IsListOf (c
   slots_count : length forms ≡ length slots
   slots_count = each_count WritesSlot forms slots written
 
-  slots_own : (k : Kind) → IsOwn roles.slots form k → ⊥
+  slots_own : (k : Kind) → IsOwnTableFault roles.slots form k → ⊥
   slots_own k (other_keyword {word = word} i j) =
       let same : codes "slots" ≡ word = cc in
       no_both (has_head word form) (ap (λ f. has_head word f) is.is ∙ (bytes_eq-Decides (codes "slots") word).1 same) j
   slots_own k (too_few l) = let n = ap length slots_parts in omega (arith, n, l)
   slots_own k (no_slot l) = let n = ap length slots_parts in let m = slots_count in omega (arith, n, m, l, t)
 
-  slots_each : (j : ℕ) (part : Form) (other : Role) → slice_get slots_list j ≡ Some part → part_role roles.slots form j ≡ Some other → IsClear other part
+  slots_each : (j : ℕ) (part : Form) (other : TableRole) → slice_get slots_list j ≡ Some part → table_part_role roles.slots form j ≡ Some other → IsClearTableForm other part
   slots_each zero part other g r = no_role other part r
   slots_each (suc j) part other g r =
       let before = slots_in (take j (drop 1 (parts_of form))) in
@@ -258,9 +258,9 @@ module _ (form : Form) (forms : List Form) (slots : List Slot) (is : IsListOf (c
       let below : nat_lt j 8 ≡ true = (Decides-ltb j 8).1 (omega (arith, within, m, t)) in
       let role : Some (roles.slot before) ≡ Some other = ap (λ b. Some (if b then roles.slot before else roles.ninth_slot)) (sym below) ∙ r in
       as_is (roles.slot before) other (roles.slot before) part part role refl refl
-      (subst (λ fs. IsClear (roles.slot (slots_in (take j (drop 1 fs)))) part) (sym slots_parts) (slot_at [] forms slots written low fresh j part g))
+      (subst (λ fs. IsClearTableForm (roles.slot (slots_in (take j (drop 1 fs)))) part) (sym slots_parts) (slot_at [] forms slots written low fresh j part g))
 
-  pub slots_clear : IsClear roles.slots form
+  pub slots_clear : IsClearTableForm roles.slots form
   slots_clear = all_parts roles.slots form slots_own (λ j part other g r. slots_each j part other (ap (λ ps. slice_get ps j) (sym slots_parts) ∙ g) r)
 
 -- ---- the delay
@@ -268,18 +268,18 @@ module _ (form delay_form : Form) (n : ℕ) (is : IsListOf (codes "cross") (dela
   cross_parts : parts_of form ≡ atom is.head_place (name (codes "cross")) ∷ delay_form ∷ []
   cross_parts = ap parts_of is.is
 
-  cross_own : (k : Kind) → IsOwn roles.cross form k → ⊥
+  cross_own : (k : Kind) → IsOwnTableFault roles.cross form k → ⊥
   cross_own k (other_keyword {word = word} i j) =
       let same : codes "cross" ≡ word = cc in
       no_both (has_head word form) (ap (λ f. has_head word f) is.is ∙ (bytes_eq-Decides (codes "cross") word).1 same) j
   cross_own k (too_few l) = let m = ap length cross_parts in omega (arith, m, l)
 
-  cross_each : (j : ℕ) (part : Form) (other : Role) → slice_get (atom is.head_place (name (codes "cross")) ∷ delay_form ∷ []) j ≡ Some part → part_role roles.cross form j ≡ Some other → IsClear other part
+  cross_each : (j : ℕ) (part : Form) (other : TableRole) → slice_get (atom is.head_place (name (codes "cross")) ∷ delay_form ∷ []) j ≡ Some part → table_part_role roles.cross form j ≡ Some other → IsClearTableForm other part
   cross_each zero part other g r = no_role other part r
   cross_each (suc zero) part other g r = as_is roles.delay other roles.delay delay_form part r g refl (delay_clear delay_form n (ap number_in number.is) below)
   cross_each (suc (suc j)) part other g r = cc
 
-  pub cross_clear : IsClear roles.cross form
+  pub cross_clear : IsClearTableForm roles.cross form
   cross_clear = all_parts roles.cross form cross_own (λ j part other g r. cross_each j part other (ap (λ ps. slice_get ps j) (sym cross_parts) ∙ g) r)
 
 -- ---- all of it
@@ -302,7 +302,7 @@ module _ (form : Form) (table : Table) (w : WritesTable form table) where
   pub whole_parts : parts_of form ≡ table_parts
   whole_parts = ap parts_of w.is.is ∙ ap (λ fs. atom w.is.head_place (name (codes "machine")) ∷ w.slots_form ∷ w.cross_form ∷ fs) (list_from w.ops_forms)
 
-  whole_own : (k : Kind) → IsOwn roles.machine form k → ⊥
+  whole_own : (k : Kind) → IsOwnTableFault roles.machine form k → ⊥
   whole_own k (other_keyword {word = word} i j) =
       let same : codes "machine" ≡ word = cc in
       no_both (has_head word form) (ap (λ f. has_head word f) w.is.is ∙ (bytes_eq-Decides (codes "machine") word).1 same) j
@@ -329,7 +329,7 @@ module _ (form : Form) (table : Table) (w : WritesTable form table) where
   slots_fresh : FreshAll [] (slot_names table.slots)
   slots_fresh = fresh_all (λ (s : Slot). s.name) [] table.slots (λ k d l. refl) w.well_formed.names
 
-  whole_each : (j : ℕ) (part : Form) (other : Role) → slice_get table_parts j ≡ Some part → part_role roles.machine form j ≡ Some other → IsClear other part
+  whole_each : (j : ℕ) (part : Form) (other : TableRole) → slice_get table_parts j ≡ Some part → table_part_role roles.machine form j ≡ Some other → IsClearTableForm other part
   whole_each zero part other g r = no_role other part r
   whole_each (suc zero) part other g r =
       as_is roles.slots other roles.slots w.slots_form part r g refl
@@ -340,8 +340,8 @@ module _ (form : Form) (table : Table) (w : WritesTable form table) where
       let before = named_in_all (take j (drop 3 (parts_of form))) in
       let role : Some (roles.ops (slot_names table.slots) before) ≡ Some other = ap (λ s. Some (roles.ops s before)) (sym named_slots) ∙ r in
       as_is (roles.ops (slot_names table.slots) before) other (roles.ops (slot_names table.slots) before) part part role refl refl
-      (subst (λ fs. IsClear (roles.ops (slot_names table.slots) (named_in_all (take j (drop 3 fs)))) part) (sym whole_parts)
+      (subst (λ fs. IsClearTableForm (roles.ops (slot_names table.slots) (named_in_all (take j (drop 3 fs)))) part) (sym whole_parts)
       (ops_at table.slots w.well_formed.names [] w.ops_forms w.written w.ops limits instrs_fresh j part g))
 
-  pub written_clear : IsClear roles.machine form
+  pub written_clear : IsClearTableForm roles.machine form
   written_clear = all_parts roles.machine form whole_own (λ j part other g r. whole_each j part other (ap (λ ps. slice_get ps j) (sym whole_parts) ∙ g) r)

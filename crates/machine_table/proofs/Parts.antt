@@ -9,9 +9,9 @@ use Rattle.forms.specs.Forms.{Form, Forms, Stands, atom, list, none, more, name,
 use Rattle.forms.specs.Reading.{IsSexpOf}
 use Rattle.machine_table.proofs.Leaves.{First, form_first, no_some}
 use Rattle.machine_table.specs.Grammar.{IsListOf, IsNameOf}
-use Rattle.machine_table.specs.Reading.{IsFaultAs, IsClear}
+use Rattle.machine_table.specs.Reading.{IsTableFault, IsClearTableForm}
 use Rattle.machine_table.specs.Roles as roles
-use Rattle.machine_table.specs.Roles.{Role, IsOwn, part_role, has_head, wrong_part}
+use Rattle.machine_table.specs.Roles.{TableRole, IsOwnTableFault, table_part_role, has_head, wrong_part}
 use Rattle.text_core.specs.declared.faults.Kind.{Kind}
 use Rattle.text_core.specs.declared.faults.Kind.TheVariants.{BadForm}
 use Rattle.text_core.specs.declared.sexps.Sexp.{Sexp}
@@ -126,45 +126,45 @@ headed word (list p (more (atom q parenthesis) rest)) e = cc
 headed word (list p (more (list q ps) rest)) e = cc
 
 -- ---- parts that are read in turn
-module _ (role : Role) (form : Form) where
+module _ (role : TableRole) (form : Form) where
   abbrev pub ClearBefore : ℕ → Type 0
-  ClearBefore n = ClearTo IsOwn part_role role form n
+  ClearBefore n = ClearTo IsOwnTableFault table_part_role role form n
 
   pub clear_0 : ClearBefore 0
   clear_0 j part other place kind l = absurd (omega (arith, l))
 
-  pub clear_next : (n : ℕ) (one : Form) (other : Role) → slice_get (parts_of form) n ≡ Some one → part_role role form n ≡ Some other → IsClear other one → ClearBefore n → ClearBefore (n + 1)
+  pub clear_next : (n : ℕ) (one : Form) (other : TableRole) → slice_get (parts_of form) n ≡ Some one → table_part_role role form n ≡ Some other → IsClearTableForm other one → ClearBefore n → ClearBefore (n + 1)
   clear_next n one other g r is clear j part another place kind l got role_is fault =
       elim (cases_order j n) [
         | inl same ↦
             let parts : Some one ≡ Some part = sym g ∙ ap (slice_get (parts_of form)) (sym same) ∙ got in
             let part_is : part ≡ one = cc in
-            let both : Some other ≡ Some another = sym r ∙ ap (part_role role form) (sym same) ∙ role_is in
+            let both : Some other ≡ Some another = sym r ∙ ap (table_part_role role form) (sym same) ∙ role_is in
             let role_same : another ≡ other = cc in
-            is place kind (subst (λ (x : Role). IsFaultAs x one place kind) role_same (subst (λ (x : Form). IsFaultAs another x place kind) part_is fault))
+            is place kind (subst (λ (x : TableRole). IsTableFault x one place kind) role_same (subst (λ (x : Form). IsTableFault another x place kind) part_is fault))
         | inr (inl before) ↦ clear j part another place kind before got role_is fault
         | inr (inr after) ↦ absurd (omega (arith, l, after))
       ]
 
-  pub clear_skip : (n : ℕ) → part_role role form n ≡ None → ClearBefore n → ClearBefore (n + 1)
+  pub clear_skip : (n : ℕ) → table_part_role role form n ≡ None → ClearBefore n → ClearBefore (n + 1)
   clear_skip n r clear j part another place kind l got role_is fault =
       elim (cases_order j n) [
-        | inl same ↦ absurd (no_some (part_role role form n) another (ap (part_role role form) (sym same) ∙ role_is) r)
+        | inl same ↦ absurd (no_some (table_part_role role form n) another (ap (table_part_role role form) (sym same) ∙ role_is) r)
         | inr (inl before) ↦ clear j part another place kind before got role_is fault
         | inr (inr after) ↦ absurd (omega (arith, l, after))
       ]
 
-  pub all_clear : (n : ℕ) → ((k : Kind) → IsOwn role form k → ⊥) → length (parts_of form) ≤ n → ClearBefore n → IsClear role form
+  pub all_clear : (n : ℕ) → ((k : Kind) → IsOwnTableFault role form k → ⊥) → length (parts_of form) ≤ n → ClearBefore n → IsClearTableForm role form
   all_clear n own most clear =
-      no_fault IsOwn part_role role form own
+      no_fault IsOwnTableFault table_part_role role form own
       (λ j part other place kind g r fault. clear j part other place kind (let l = got_within (parts_of form) j part g in omega (arith, l, most)) g r fault)
 
-  module _ (low high : ℕ) (h : Stands low high form) (own : (k : Kind) → IsOwn role form k → ⊥) where
-    pub part_first : (n : ℕ) (part : Form) (other : Role) (place : ℕ) (kind : Kind) → slice_get (parts_of form) n ≡ Some part → part_role role form n ≡ Some other → ClearBefore n
+  module _ (low high : ℕ) (h : Stands low high form) (own : (k : Kind) → IsOwnTableFault role form k → ⊥) where
+    pub part_first : (n : ℕ) (part : Form) (other : TableRole) (place : ℕ) (kind : Kind) → slice_get (parts_of form) n ≡ Some part → table_part_role role form n ≡ Some other → ClearBefore n
         → First other part place kind → First role form place kind
-    part_first n part other place kind g r clear first = first_inside IsOwn part_role role form low high n part other place kind h own g r clear first
+    part_first n part other place kind g r clear first = first_inside IsOwnTableFault table_part_role role form low high n part other place kind h own g r clear first
 
     -- a part that the grammar doesn't have
-    pub extra_first : (n : ℕ) (part : Form) (from to : ℕ) → Stands from to part → slice_get (parts_of form) n ≡ Some part → part_role role form n ≡ Some roles.wrong → ClearBefore n
+    pub extra_first : (n : ℕ) (part : Form) (from to : ℕ) → Stands from to part → slice_get (parts_of form) n ≡ Some part → table_part_role role form n ≡ Some roles.wrong → ClearBefore n
         → First role form (place_of part) BadForm
     extra_first n part from to s g r clear = part_first n part roles.wrong (place_of part) BadForm g r clear (form_first part from to s roles.wrong wrong_part)

@@ -6,10 +6,10 @@ use Rattle.forms.specs.Forms.{Form, Stands, list, place_of, parts_of, forms_from
 use Rattle.machine_table.proofs.Leaves.{First, form_first, no_some, same_some, no_both, slot_name_clear}
 use Rattle.machine_table.proofs.Parts.{ClearBefore, clear_0, clear_next, clear_skip, all_clear, part_first, extra_first, name_is, headed}
 use Rattle.machine_table.specs.Grammar.{IsNumberOf, IsListOf}
-use Rattle.machine_table.specs.Reading.{IsClear, IsSlotRead, IsCrossRead}
+use Rattle.machine_table.specs.Reading.{IsClearTableForm, IsSlotRead, IsCrossRead}
 use Rattle.machine_table.specs.Roles as roles
 use Rattle.text_core.specs.Names.{is_among}
-use Rattle.machine_table.specs.Roles.{IsOwn, part_role, first_name, has_head, other_keyword, too_few, no_slot_name, slot_again}
+use Rattle.machine_table.specs.Roles.{IsOwnTableFault, table_part_role, first_name, has_head, other_keyword, too_few, no_slot_name, slot_again}
 use Rattle.machine_table.specs.Tables.{slot_of}
 use Rattle.text_core.specs.Faults.{fault_number}
 use Rattle.text_core.specs.declared.faults.Kind.{Kind}
@@ -32,7 +32,7 @@ module _ (before : List (List ℕ)) (form : Form) (low high : ℕ) (h : Stands l
     named_first : first_name form ≡ name_in first
     named_first = ap (option_and_then name_in) g
 
-    own_unnamed : name_in first ≡ None → (k : Kind) → IsOwn (roles.slot before) form k → ⊥
+    own_unnamed : name_in first ≡ None → (k : Kind) → IsOwnTableFault (roles.slot before) form k → ⊥
     own_unnamed e k (other_keyword i j) = cc
     own_unnamed e k (too_few l) = omega (arith, l, enough)
     own_unnamed e k (slot_again {name = other} i j) = no_some (first_name form) other i (named_first ∙ e)
@@ -43,16 +43,16 @@ module _ (before : List (List ℕ)) (form : Form) (low high : ℕ) (h : Stands l
         (clear_0 (roles.slot before) form) (form_first first from to s roles.slot_name (no_slot_name e))
 
     module _ (bytes : List ℕ) (named : name_in first ≡ Some bytes) where
-      again_least : (k : Kind) → IsOwn (roles.slot before) form k → 14 ≤ fault_number k
+      again_least : (k : Kind) → IsOwnTableFault (roles.slot before) form k → 14 ≤ fault_number k
       again_least k (other_keyword i j) = cc
       again_least k (too_few l) = absurd (omega (arith, l, enough))
       again_least k (slot_again i j) = omega arith
 
       pub again_first : is_among before bytes ≡ true → First (roles.slot before) form (place_of form) BadSlot
-      again_first e = first_own IsOwn part_role (roles.slot before) form low high BadSlot h (slot_again (named_first ∙ named) e) again_least
+      again_first e = first_own IsOwnTableFault table_part_role (roles.slot before) form low high BadSlot h (slot_again (named_first ∙ named) e) again_least
 
       module _ (fresh : is_among before bytes ≡ false) (second : Form) (g1 : slice_get (parts_of form) 1 ≡ Some second) where
-        own : (k : Kind) → IsOwn (roles.slot before) form k → ⊥
+        own : (k : Kind) → IsOwnTableFault (roles.slot before) form k → ⊥
         own k (other_keyword i j) = cc
         own k (too_few l) = omega (arith, l, enough)
         own k (slot_again {name = other} i j) =
@@ -64,7 +64,7 @@ module _ (before : List (List ℕ)) (form : Form) (low high : ℕ) (h : Stands l
         pub cluster_fault : (place : ℕ) (kind : Kind) → First roles.cluster second place kind → First (roles.slot before) form place kind
         cluster_fault place kind first_is = part_first (roles.slot before) form low high h own 1 second roles.cluster place kind g1 refl clear_1 first_is
 
-        module _ (clear : IsClear roles.cluster second) where
+        module _ (clear : IsClearTableForm roles.cluster second) where
           clear_2 : ClearBefore (roles.slot before) form 2
           clear_2 = clear_next (roles.slot before) form 1 second roles.cluster g1 refl clear clear_1
 
@@ -102,7 +102,7 @@ module _ (form : Form) (low high : ℕ) (h : Stands low high form) where
   short_cross_first l = form_first form low high h roles.cross (too_few l)
 
   module _ (keyword : has_head (codes "cross") form ≡ true) (enough : 2 ≤ length (parts_of form)) (second : Form) (g : slice_get (parts_of form) 1 ≡ Some second) where
-    cross_own : (k : Kind) → IsOwn roles.cross form k → ⊥
+    cross_own : (k : Kind) → IsOwnTableFault roles.cross form k → ⊥
     cross_own k (other_keyword {word = word} i j) = let same : codes "cross" ≡ word = cc in no_both (has_head word form) (ap (λ w. has_head w form) (sym same) ∙ keyword) j
     cross_own k (too_few l) = omega (arith, l, enough)
 
@@ -112,7 +112,7 @@ module _ (form : Form) (low high : ℕ) (h : Stands low high form) where
     pub delay_fault : (place : ℕ) (kind : Kind) → First roles.delay second place kind → First roles.cross form place kind
     delay_fault place kind first_is = part_first roles.cross form low high h cross_own 1 second roles.delay place kind g refl cross_clear_1 first_is
 
-    module _ (clear : IsClear roles.delay second) where
+    module _ (clear : IsClearTableForm roles.delay second) where
       cross_clear_2 : ClearBefore roles.cross form 2
       cross_clear_2 = clear_next roles.cross form 1 second roles.delay g refl clear cross_clear_1
 

@@ -17,7 +17,7 @@ use Rattle.machine_table.specs.Grammar.{Each, none, more_of, IsSlotNamed, Writes
 use Rattle.machine_table.specs.Reading.{slot_names, name_at, slot_names_used, AreSlots, AreSlotNumbers, AreSlotsRead, AreUsedRead, IsSlotRead, IsUsedRead}
 use Rattle.machine_table.specs.Roles as roles
 use Rattle.text_core.specs.Names.{is_among}
-use Rattle.machine_table.specs.Roles.{Role, IsOwn, part_role, slots_in, first_name, has_head, other_keyword, too_few, no_list, none_used, no_slot}
+use Rattle.machine_table.specs.Roles.{TableRole, IsOwnTableFault, table_part_role, slots_in, first_name, has_head, other_keyword, too_few, no_list, none_used, no_slot}
 use Rattle.machine_table.specs.declared.tables.Slot.{Slot}
 use Rattle.text_core.specs.Faults.{fault_number}
 use Rattle.text_core.specs.declared.faults.Kind.{Kind}
@@ -67,26 +67,26 @@ slots_written _ _ (more_of {form = form} {forms = forms} {y = slot} {ys = slots}
 
 -- ---- the slots that instructions may be launched in
 module _ (slots : List Slot) (form : Form) where
-  abbrev whole : Role
+  abbrev whole : TableRole
   whole = roles.used_slots (slot_names slots)
 
-  empty_least : is_list form ≡ true → (k : Kind) → IsOwn whole form k → 14 ≤ fault_number k
+  empty_least : is_list form ≡ true → (k : Kind) → IsOwnTableFault whole form k → 14 ≤ fault_number k
   empty_least e k (other_keyword i j) = cc
   empty_least e k (too_few l) = absurd (omega (arith, l))
   empty_least e k (no_list i) = absurd (no_both (is_list form) e i)
   empty_least e k (none_used i j) = omega arith
 
   pub empty_first : (low high : ℕ) → Stands low high form → is_list form ≡ true → length (parts_of form) ≡ 0 → First whole form (place_of form) BadSlot
-  empty_first low high h e l = first_own IsOwn part_role whole form low high BadSlot h (none_used e l) (empty_least e)
+  empty_first low high h e l = first_own IsOwnTableFault table_part_role whole form low high BadSlot h (none_used e l) (empty_least e)
 
-  used_own : is_list form ≡ true → 1 ≤ length (parts_of form) → (k : Kind) → IsOwn whole form k → ⊥
+  used_own : is_list form ≡ true → 1 ≤ length (parts_of form) → (k : Kind) → IsOwnTableFault whole form k → ⊥
   used_own e l k (other_keyword i j) = cc
   used_own e l k (too_few m) = omega (arith, m)
   used_own e l k (no_list i) = no_both (is_list form) e i
   used_own e l k (none_used i j) = omega (arith, j, l)
 
   module _ (i : ℕ) (used : List ℕ) (named : Each (IsSlotNamed slots) (take i (parts_of form)) used) where
-    used_role : part_role whole form i ≡ Some (roles.used_slot (slot_names slots) (slot_names_used slots used))
+    used_role : table_part_role whole form i ≡ Some (roles.used_slot (slot_names slots) (slot_names_used slots used))
     used_role = ap (λ ns. Some (roles.used_slot (slot_names slots) ns)) (slots_named slots (take i (parts_of form)) used named)
 
     pub used_fault : (low high : ℕ) → Stands low high form → is_list form ≡ true → 1 ≤ length (parts_of form) → (part : Form) → slice_get (parts_of form) i ≡ Some part → ClearBefore whole form i
@@ -148,29 +148,29 @@ module _ (form : Form) where
   no_slots_first low high h e = form_first form low high h roles.slots (other_keyword refl e)
 
   module _ (keyword : has_head (codes "slots") form ≡ true) where
-    one_least : 1 ≤ length (parts_of form) → (k : Kind) → IsOwn roles.slots form k → 14 ≤ fault_number k
+    one_least : 1 ≤ length (parts_of form) → (k : Kind) → IsOwnTableFault roles.slots form k → 14 ≤ fault_number k
     one_least some k (other_keyword {word = word} i j) =
         let same : codes "slots" ≡ word = cc in absurd (no_both (has_head word form) (ap (λ w. has_head w form) (sym same) ∙ keyword) j)
     one_least some k (too_few l) = absurd (omega (arith, l, some))
     one_least some k (no_slot l) = omega arith
 
     pub one_first : (low high : ℕ) → Stands low high form → length (parts_of form) ≡ 1 → First roles.slots form (place_of form) BadSlot
-    one_first low high h l = first_own IsOwn part_role roles.slots form low high BadSlot h (no_slot l) (one_least (omega (arith, l)))
+    one_first low high h l = first_own IsOwnTableFault table_part_role roles.slots form low high BadSlot h (no_slot l) (one_least (omega (arith, l)))
 
     module _ (some : 2 ≤ length (parts_of form)) where
-      slots_own : (k : Kind) → IsOwn roles.slots form k → ⊥
+      slots_own : (k : Kind) → IsOwnTableFault roles.slots form k → ⊥
       slots_own k (other_keyword {word = word} i j) =
           let same : codes "slots" ≡ word = cc in no_both (has_head word form) (ap (λ w. has_head w form) (sym same) ∙ keyword) j
       slots_own k (too_few l) = omega (arith, l, some)
       slots_own k (no_slot l) = omega (arith, l, some)
 
-      slot_role : (i : ℕ) (names : List (List ℕ)) → 1 ≤ i → i ≤ 8 → slots_in (between 1 i (parts_of form)) ≡ names → part_role roles.slots form i ≡ Some (roles.slot names)
+      slot_role : (i : ℕ) (names : List (List ℕ)) → 1 ≤ i → i ≤ 8 → slots_in (between 1 i (parts_of form)) ≡ names → table_part_role roles.slots form i ≡ Some (roles.slot names)
       slot_role zero names l m e = absurd (omega (arith, l))
       slot_role (suc i) names l m e =
           ap (λ b. Some (if b then roles.slot (slots_in (take i (drop 1 (parts_of form)))) else roles.ninth_slot)) ((Decides-ltb i 8).1 (omega (arith, m)))
           ∙ ap (λ ns. Some (roles.slot ns)) (ap slots_in (sym (between_1 i (parts_of form))) ∙ e)
 
-      ninth_role : (i : ℕ) → 8 < i → part_role roles.slots form i ≡ Some roles.ninth_slot
+      ninth_role : (i : ℕ) → 8 < i → table_part_role roles.slots form i ≡ Some roles.ninth_slot
       ninth_role zero l = absurd (omega (arith, l))
       ninth_role (suc i) l =
           ap (λ b. Some (if b then roles.slot (slots_in (take i (drop 1 (parts_of form)))) else roles.ninth_slot)) (not_true (nat_lt i 8) (λ t. let k = (Decides-ltb i 8).0 t in omega (arith, k, l)))

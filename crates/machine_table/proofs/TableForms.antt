@@ -15,9 +15,9 @@ use Rattle.machine_table.proofs.SlotLists.{each_push, each_forms, slots_written,
 use Rattle.machine_table.proofs.UseLists.{names_both, uses_written}
 use Rattle.machine_table.specs.Grammar.{Each, none, more_of, WritesOps, WritesTable, IsListOf}
 use Rattle.machine_table.specs.InstrOrder.{kind_number}
-use Rattle.machine_table.specs.Reading.{slot_names, names_of_uses, IsClear, AreUses, IsUseOf, AreSlotsRead, AreOpsRead, IsCrossRead, DontFall}
+use Rattle.machine_table.specs.Reading.{slot_names, names_of_uses, IsClearTableForm, AreUses, IsUseOf, AreSlotsRead, AreOpsRead, IsCrossRead, DontFall}
 use Rattle.machine_table.specs.Roles as roles
-use Rattle.machine_table.specs.Roles.{Role, IsOwn, part_role, named_in_ops, named_in_all, slots_in, slots_in_form, has_head, other_keyword, too_few}
+use Rattle.machine_table.specs.Roles.{TableRole, IsOwnTableFault, table_part_role, named_in_ops, named_in_all, slots_in, slots_in_form, has_head, other_keyword, too_few}
 use Rattle.machine_table.specs.Tables.{IsTable, IsUse}
 use Rattle.machine_table.specs.declared.tables.Slot.{Slot}
 use Rattle.machine_table.specs.declared.tables.Table.{Table}
@@ -104,7 +104,7 @@ in_order uses sorted differ moved rise i j d l m =
 
 -- ---- the form
 module _ (form : Form) where
-  abbrev pub whole : Role
+  abbrev pub whole : TableRole
   whole = roles.machine
 
   pub no_machine_first : (low high : ℕ) → Stands low high form → has_head (codes "machine") form ≡ false → First whole form (place_of form) BadForm
@@ -114,7 +114,7 @@ module _ (form : Form) where
   short_machine_first low high h l = form_first form low high h whole (too_few l)
 
   module _ (keyword : has_head (codes "machine") form ≡ true) (enough : 3 ≤ length (parts_of form)) (second : Form) (g1 : slice_get (parts_of form) 1 ≡ Some second) where
-    own : (k : Kind) → IsOwn whole form k → ⊥
+    own : (k : Kind) → IsOwnTableFault whole form k → ⊥
     own k (other_keyword {word = word} i j) =
         let same : codes "machine" ≡ word = cc in no_both (has_head word form) (ap (λ w. has_head w form) (sym same) ∙ keyword) j
     own k (too_few l) = omega (arith, l, enough)
@@ -132,7 +132,7 @@ module _ (form : Form) where
       pub cross_fault : (low high : ℕ) → Stands low high form → (place : ℕ) (kind : Kind) → First roles.cross third place kind → First whole form place kind
       cross_fault low high h place kind first = part_first whole form low high h own 2 third roles.cross place kind g2 refl clear_2 first
 
-      pub clear_3 : IsClear roles.cross third → ClearBefore whole form 3
+      pub clear_3 : IsClearTableForm roles.cross third → ClearBefore whole form 3
       clear_3 cross_clear = clear_next whole form 2 third roles.cross g2 refl cross_clear clear_2
 
       slots_are : slots_in_form form ≡ slot_names slots
@@ -143,14 +143,14 @@ module _ (form : Form) where
           ∙ slots_written slots_read.forms slots slots_read.written
 
       module _ (i : ℕ) (written : List (List Use)) (uses : List Use) (l : 3 ≤ i) (each : Each (WritesOps slots) (between 3 i (parts_of form)) written) (is : joined written ≡ uses) where
-        role_from : (j : ℕ) → 3 ≤ j → named_in_all (between 3 j (parts_of form)) ≡ names_of_uses uses → part_role whole form j ≡ Some (roles.ops (slot_names slots) (names_of_uses uses))
+        role_from : (j : ℕ) → 3 ≤ j → named_in_all (between 3 j (parts_of form)) ≡ names_of_uses uses → table_part_role whole form j ≡ Some (roles.ops (slot_names slots) (names_of_uses uses))
         role_from zero m e = absurd (omega (arith, m))
         role_from (suc zero) m e = absurd (omega (arith, m))
         role_from (suc (suc zero)) m e = absurd (omega (arith, m))
         role_from (suc (suc (suc j))) m e =
             ap₂ (λ s ns. Some (roles.ops s ns)) slots_are (ap named_in_all (sym (between_3 j (parts_of form))) ∙ e)
 
-        ops_role : part_role whole form i ≡ Some (roles.ops (slot_names slots) (names_of_uses uses))
+        ops_role : table_part_role whole form i ≡ Some (roles.ops (slot_names slots) (names_of_uses uses))
         ops_role = role_from i l (all_named slots (between 3 i (parts_of form)) written each ∙ ap names_of_uses is)
 
         module _ (part : Form) (g : slice_get (parts_of form) i ≡ Some part) where
@@ -204,7 +204,7 @@ module _ (form : Form) where
             well_formed = table_is;
           }
 
-      pub machine_clear : (i : ℕ) → length (parts_of form) ≤ i → ClearBefore whole form i → IsClear whole form
+      pub machine_clear : (i : ℕ) → length (parts_of form) ≤ i → ClearBefore whole form i → IsClearTableForm whole form
       machine_clear i most clear = all_clear whole form i own most clear
 
       pub no_ops : Each (WritesOps slots) (between 3 3 (parts_of form)) []

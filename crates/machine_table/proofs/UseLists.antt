@@ -11,10 +11,10 @@ use Rattle.machine_table.proofs.Parts.{ClearBefore, clear_0, clear_next, clear_s
 use Rattle.machine_table.proofs.SlotLists.{each_push, each_forms}
 use Rattle.machine_table.specs.Grammar.{Each, none, more_of, WritesUse, IsListOf, IsNumberOf}
 use Rattle.machine_table.specs.InstrOrder.{instr_name}
-use Rattle.machine_table.specs.Reading.{slot_names, names_of_uses, IsClear, AreUses, IsUseOf, AreUsedRead, AreOpsRead, IsInstrRead}
+use Rattle.machine_table.specs.Reading.{slot_names, names_of_uses, IsClearTableForm, AreUses, IsUseOf, AreUsedRead, AreOpsRead, IsInstrRead}
 use Rattle.machine_table.specs.Roles as roles
 use Rattle.text_core.specs.Names.{is_among}
-use Rattle.machine_table.specs.Roles.{Role, IsOwn, part_role, has_head, other_keyword, too_few}
+use Rattle.machine_table.specs.Roles.{TableRole, IsOwnTableFault, table_part_role, has_head, other_keyword, too_few}
 use Rattle.machine_table.specs.declared.tables.InstrKind.{InstrKind}
 use Rattle.machine_table.specs.declared.tables.Slot.{Slot}
 use Rattle.machine_table.specs.declared.tables.Use.{Use}
@@ -67,7 +67,7 @@ four_parts (a ∷ (b ∷ (c ∷ (d ∷ ds)))) second third l g e =
     record { first = d; others = ds; is = ap₂ (λ x y. x ∷ y ∷ d ∷ ds) one two; rest = refl }
 
 module _ (slots : List Slot) (before : List Use) (form : Form) where
-  abbrev pub whole : Role
+  abbrev pub whole : TableRole
   whole = roles.ops (slot_names slots) (names_of_uses before)
 
   pub no_ops_first : (low high : ℕ) → Stands low high form → has_head (codes "ops") form ≡ false → First whole form (place_of form) BadForm
@@ -77,7 +77,7 @@ module _ (slots : List Slot) (before : List Use) (form : Form) where
   short_ops_first low high h l = form_first form low high h whole (too_few l)
 
   module _ (keyword : has_head (codes "ops") form ≡ true) (enough : 4 ≤ length (parts_of form)) (second : Form) (g1 : slice_get (parts_of form) 1 ≡ Some second) where
-    own : (k : Kind) → IsOwn whole form k → ⊥
+    own : (k : Kind) → IsOwnTableFault whole form k → ⊥
     own k (other_keyword {word = word} i j) =
         let same : codes "ops" ≡ word = cc in no_both (has_head word form) (ap (λ w. has_head w form) (sym same) ∙ keyword) j
     own k (too_few l) = omega (arith, l, enough)
@@ -88,26 +88,26 @@ module _ (slots : List Slot) (before : List Use) (form : Form) where
     pub latency_fault : (low high : ℕ) → Stands low high form → (place : ℕ) (kind : Kind) → First roles.latency second place kind → First whole form place kind
     latency_fault low high h place kind first = part_first whole form low high h own 1 second roles.latency place kind g1 refl clear_1 first
 
-    module _ (latency_clear : IsClear roles.latency second) (third : Form) (g2 : slice_get (parts_of form) 2 ≡ Some third) where
+    module _ (latency_clear : IsClearTableForm roles.latency second) (third : Form) (g2 : slice_get (parts_of form) 2 ≡ Some third) where
       clear_2 : ClearBefore whole form 2
       clear_2 = clear_next whole form 1 second roles.latency g1 refl latency_clear clear_1
 
       pub slots_fault : (low high : ℕ) → Stands low high form → (place : ℕ) (kind : Kind) → First (roles.used_slots (slot_names slots)) third place kind → First whole form place kind
       slots_fault low high h place kind first = part_first whole form low high h own 2 third (roles.used_slots (slot_names slots)) place kind g2 refl clear_2 first
 
-      pub clear_3 : IsClear (roles.used_slots (slot_names slots)) third → ClearBefore whole form 3
+      pub clear_3 : IsClearTableForm (roles.used_slots (slot_names slots)) third → ClearBefore whole form 3
       clear_3 used_clear = clear_next whole form 2 third (roles.used_slots (slot_names slots)) g2 refl used_clear clear_2
 
     -- ---- the instructions
     module _ (latency : ℕ) (used : List ℕ) (i : ℕ) (uses added : List Use) (l : 3 ≤ i) (is : uses ≡ before ++ added) (written : Each (WritesUse latency used) (between 3 i (parts_of form)) added) where
-      role_from : (j : ℕ) → 3 ≤ j → names_in (between 3 j (parts_of form)) ≡ names_of_uses added → part_role whole form j ≡ Some (roles.instr (names_of_uses before ++ names_of_uses added))
+      role_from : (j : ℕ) → 3 ≤ j → names_in (between 3 j (parts_of form)) ≡ names_of_uses added → table_part_role whole form j ≡ Some (roles.instr (names_of_uses before ++ names_of_uses added))
       role_from zero m e = absurd (omega (arith, m))
       role_from (suc zero) m e = absurd (omega (arith, m))
       role_from (suc (suc zero)) m e = absurd (omega (arith, m))
       role_from (suc (suc (suc j))) m e =
           ap (λ ns. Some (roles.instr (names_of_uses before ++ ns))) (ap names_in (sym (between_3 j (parts_of form))) ∙ e)
 
-      instr_role : part_role whole form i ≡ Some (roles.instr (names_of_uses uses))
+      instr_role : table_part_role whole form i ≡ Some (roles.instr (names_of_uses uses))
       instr_role =
           role_from i l (uses_written latency used (between 3 i (parts_of form)) added written)
           ∙ ap (λ ns. Some (roles.instr ns)) (sym (ap names_of_uses is ∙ names_both before added))

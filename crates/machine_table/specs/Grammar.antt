@@ -1,4 +1,4 @@
--- What a machine form writes. Source: this project.
+-- The grammar of machine forms: which table a form writes. Source: this project.
 use Rattle.std.specs.Prelude.{ℕ, ◌≡◌, List, [], ◌∷◌, codes, IsPermutation, Some, slice_get}
 use Rattle.std.specs.List.{flat_map}
 use Rattle.forms.specs.Forms.{Form, list, atom, more, forms_from, name, number}

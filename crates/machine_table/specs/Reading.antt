@@ -7,19 +7,19 @@ use Rattle.machine_table.specs.Grammar.{Each, WritesSlot, IsSlotNamed, WritesOps
 use Rattle.machine_table.specs.InstrOrder.{instr_name, kind_number}
 use Rattle.machine_table.specs.Roles as roles
 use Rattle.text_core.specs.Names.{is_among}
-use Rattle.machine_table.specs.Roles.{Role, IsOwn, part_role}
+use Rattle.machine_table.specs.Roles.{TableRole, IsOwnTableFault, table_part_role}
 use Rattle.machine_table.specs.declared.tables.InstrKind.{InstrKind}
 use Rattle.machine_table.specs.declared.tables.Slot.{Slot}
 use Rattle.machine_table.specs.declared.tables.Use.{Use}
 use Rattle.text_core.specs.declared.faults.Kind.{Kind}
 
--- a fault of a form that is read as this
-abbrev pub IsFaultAs : Role → Form → ℕ → Kind → Type 0
-IsFaultAs role form = IsFault IsOwn part_role role form
+-- a fault of a form that is read in this role
+abbrev pub IsTableFault : TableRole → Form → ℕ → Kind → Type 0
+IsTableFault role form = IsFault IsOwnTableFault table_part_role role form
 
 -- a form without faults
-abbrev pub IsClear : Role → Form → Type 0
-IsClear role form = (place : ℕ) (kind : Kind) → IsFaultAs role form place kind → ⊥
+abbrev pub IsClearTableForm : TableRole → Form → Type 0
+IsClearTableForm role form = (place : ℕ) (kind : Kind) → IsTableFault role form place kind → ⊥
 
 abbrev pub slot_names : List Slot → List (List ℕ)
 slot_names slots = map (λ (s : Slot). s.name) slots
@@ -45,7 +45,7 @@ pub record IsSlotRead (before : List (List ℕ)) (form : Form) (slot : Slot) : T
   pub writes : WritesSlot form slot
   pub fresh : is_among before slot.name ≡ false
   pub cluster : slot.cluster ≤ 3
-  pub clear : IsClear (roles.slot before) form
+  pub clear : IsClearTableForm (roles.slot before) form
 
 -- the slots of a table
 pub record AreSlotsRead (form : Form) (slots : List Slot) : Type 0 where
@@ -54,7 +54,7 @@ pub record AreSlotsRead (form : Form) (slots : List Slot) : Type 0 where
   pub written : Each WritesSlot forms slots
   pub some : 1 ≤ length slots
   pub differ : AreSlots slots
-  pub clear : IsClear roles.slots form
+  pub clear : IsClearTableForm roles.slots form
 
 -- numbers of slots, each of which exists and stands once
 pub record AreSlotNumbers (slots : List Slot) (used : List ℕ) : Type 0 where
@@ -65,7 +65,7 @@ pub record AreSlotNumbers (slots : List Slot) (used : List ℕ) : Type 0 where
 pub record IsUsedRead (slots : List Slot) (used : List ℕ) (form : Form) (at : ℕ) : Type 0 where
   pub named : IsSlotNamed slots form at
   pub fresh : is_among (slot_names_used slots used) (name_at slots at) ≡ false
-  pub clear : IsClear (roles.used_slot (slot_names slots) (slot_names_used slots used)) form
+  pub clear : IsClearTableForm (roles.used_slot (slot_names slots) (slot_names_used slots used)) form
 
 -- the slot of this number has the name
 pub record IsNameAt (slots : List Slot) (name : List ℕ) (at : ℕ) : Type 0 where
@@ -81,13 +81,13 @@ pub record AreUsedRead (slots : List Slot) (form : Form) (used : List ℕ) : Typ
   pub named : Each (IsSlotNamed slots) forms used
   pub some : 0 < length used
   pub numbers : AreSlotNumbers slots used
-  pub clear : IsClear (roles.used_slots (slot_names slots)) form
+  pub clear : IsClearTableForm (roles.used_slots (slot_names slots)) form
 
 -- an instruction that stands behind others
 pub record IsInstrRead (before : List (List ℕ)) (form : Form) (instr : InstrKind) : Type 0 where
   pub named : IsNameOf (instr_name instr) form
   pub fresh : is_among before (instr_name instr) ≡ false
-  pub clear : IsClear (roles.instr before) form
+  pub clear : IsClearTableForm (roles.instr before) form
 
 -- a use within the limits of a table with these slots
 pub record IsUseOf (slots : List Slot) (u : Use) : Type 0 where
@@ -106,7 +106,7 @@ pub record AreOpsRead (slots : List Slot) (before : List Use) (form : Form) (aft
   pub is : after ≡ before ++ added
   pub written : WritesOps slots form added
   pub uses : AreUses slots after
-  pub clear : IsClear (roles.ops (slot_names slots) (names_of_uses before)) form
+  pub clear : IsClearTableForm (roles.ops (slot_names slots) (names_of_uses before)) form
 
 -- the delay between clusters
 pub record IsCrossRead (form : Form) (delay : ℕ) : Type 0 where
@@ -114,7 +114,7 @@ pub record IsCrossRead (form : Form) (delay : ℕ) : Type 0 where
   pub is : IsListOf (codes "cross") (delay_form ∷ []) form
   pub number : IsNumberOf delay delay_form
   pub below : delay ≤ 4
-  pub clear : IsClear roles.cross form
+  pub clear : IsClearTableForm roles.cross form
 
 -- the uses don't fall in the order of their instructions
 abbrev pub DontFall : List Use → Type 0

@@ -6,7 +6,7 @@ ghost use Rattle.forms.specs.Reading.{TextHasTrees};
 ghost use Rattle.machine_table.specs.Grammar.{WritesTable};
 ghost use Rattle.machine_table.specs.InstrOrder.{instr_name, instr_named, kind_number, operate_kind};
 ghost use Rattle.machine_table.specs.Printing.{table_plain, table_text};
-ghost use Rattle.machine_table.specs.Reading.{IsClear};
+ghost use Rattle.machine_table.specs.Reading.{IsClearTableForm};
 ghost use Rattle.machine_table.specs.Roles.{machine};
 ghost use Rattle.machine_table.specs.Tables.{IsTable, MayUse, cluster_of, ev6, latency_of};
 ghost use Rattle.machine_table.specs.declared.tables.InstrKind.{InstrKind};
@@ -19,8 +19,8 @@ ghost use Rattle.text_core.specs.Trees.{SexpTrees};
 
 use forms::printed_lines_are_read;
 
-/// A slot that an instruction may use on a table is one of the table's, of which there are eight at most, and what is
-/// launched in it takes 1 to 16 cycles. A slot is in one of four clusters. The table `ev6` is within the limits.
+/// A slot that an instruction may use on a table is one of the table's slots, of which there are at most eight, and the
+/// instruction takes 1 to 16 cycles. A slot is in one of four clusters. The table `ev6` is within the limits.
 pub fn tables_keep_limits()
     ensures latency { (table : Table) (instr : InstrKind) (slot : ℕ) → IsTable table → MayUse table instr slot
         → (1 ≤ unwrap_or (latency_of table instr) 0) × (unwrap_or (latency_of table instr) 0 ≤ 16) }
@@ -32,8 +32,8 @@ pub fn tables_keep_limits()
     ensures built_in { IsTable ev6 }
 {}
 
-/// The names of the instructions are names, each of one instruction, and so are their numbers. An operate has the name
-/// and the number of its operator, and no other operator has it.
+/// The name of an instruction is a well-formed name, and its number is below 60; no other instruction has either. An
+/// operate has the name and the number of its operator, and an operator with a number below 55 has an operate.
 pub fn instructions_have_names()
     ensures named { (instr : InstrKind) → IsName (instr_name instr) }
     ensures found { (instr : InstrKind) → instr_named (instr_name instr) ≡ Some instr }
@@ -45,8 +45,8 @@ pub fn instructions_have_names()
     ensures none { (op : WordOp) → operate_kind op ≡ None → 55 ≤ number_of op }
 {}
 
-/// What a table within the limits prints is read back as the same forms, where its slots have names; and no other
-/// table within the limits has these forms.
+/// The text that a table within the limits prints is read back as the forms that were printed, if its slots have
+/// well-formed names; and no other table within the limits has these forms.
 pub fn printed_tables_are_read()
     ensures read { (table : Table) → IsTable table → All (λ s. IsName s.name) table.slots
         → (trees : SexpTrees) × TextHasTrees (table_text table) trees
@@ -57,9 +57,9 @@ pub fn printed_tables_are_read()
     printed_lines_are_read();
 }
 
-/// A form writes one table at most, and then it has no fault.
+/// A form writes at most one table, and a form that writes one has no fault.
 pub fn one_table()
     ensures once { (form : Form) (table other : Table) → WritesTable form table → WritesTable form other
         → table ≡ other }
-    ensures clear { (form : Form) (table : Table) → WritesTable form table → IsClear machine form }
+    ensures clear { (form : Form) (table : Table) → WritesTable form table → IsClearTableForm machine form }
 {}

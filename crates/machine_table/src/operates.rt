@@ -5,7 +5,7 @@ ghost use Rattle.machine_table.specs.InstrOrder as order;
 use crate::tables::InstrKind;
 use word_ops::WordOp;
 
-/// The operate of an operator; none for the operators that are no operates.
+/// The operate that computes an operator, or `None` for the operators that are no operates.
 pub fn operate_kind(op: WordOp) -> Option<InstrKind>
     ensures { result ≡ order.operate_kind op }
 {

@@ -27,7 +27,7 @@ impl Table {
         }
     }
 
-    /// Whether the instruction may be launched in the slot; in one that isn't there it may not.
+    /// Whether the instruction may be launched in the slot, which it may not where the table has no such slot.
     pub fn may_use(&self, instr: InstrKind, slot: u32) -> bool
         ensures { IsTrue result ↔ MayUse self.now instr slot }
     {

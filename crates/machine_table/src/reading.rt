@@ -3,7 +3,7 @@ ghost use Rattle.std.specs.Prelude.{◌≡◌, ◌≤◌, IfOk, IfErr, IsPermuta
 ghost use Rattle.forms.specs.Forms.{sexp_form};
 ghost use Rattle.forms.specs.Reading.{IsSexpOf};
 ghost use Rattle.machine_table.specs.Grammar.{IsNumberOf, WritesTable};
-ghost use Rattle.machine_table.specs.Reading.{DontFall, IsClear, IsCrossRead, IsFaultAs};
+ghost use Rattle.machine_table.specs.Reading.{DontFall, IsClearTableForm, IsCrossRead, IsTableFault};
 ghost use Rattle.machine_table.specs.Roles as roles;
 ghost use Rattle.machine_table.specs.Roles.{IsMachineFault};
 ghost use Rattle.machine_table.specs.Tables.{IsTable};
@@ -24,8 +24,8 @@ fn delay(form: &Sexp, text: &[u8]) -> Result<u32, TextFault>
     requires of { IsSexpOf text.now form.now }
     ensures delay { IfOk result (λ n. IsNumberOf n (sexp_form text.now form.now)) }
     ensures below { IfOk result (λ n. n ≤ 4) }
-    ensures clear { IfOk result (λ _. IsClear roles.delay (sexp_form text.now form.now)) }
-    ensures fault { IfErr result (IsFaultBy (IsFirst (IsFaultAs roles.delay (sexp_form text.now form.now)))) }
+    ensures clear { IfOk result (λ _. IsClearTableForm roles.delay (sexp_form text.now form.now)) }
+    ensures fault { IfErr result (IsFaultBy (IsFirst (IsTableFault roles.delay (sexp_form text.now form.now)))) }
 {
     sexps_are_forms();
     let Some(delay) = number(form) else {
@@ -41,7 +41,7 @@ fn delay(form: &Sexp, text: &[u8]) -> Result<u32, TextFault>
 fn cross(form: &Sexp, text: &[u8]) -> Result<u32, TextFault>
     requires of { IsSexpOf text.now form.now }
     ensures cross { IfOk result (IsCrossRead (sexp_form text.now form.now)) }
-    ensures fault { IfErr result (IsFaultBy (IsFirst (IsFaultAs roles.cross (sexp_form text.now form.now)))) }
+    ensures fault { IfErr result (IsFaultBy (IsFirst (IsTableFault roles.cross (sexp_form text.now form.now)))) }
 {
     sexps_are_forms();
     if !has_keyword(form, text, b"cross") {
@@ -53,10 +53,7 @@ fn cross(form: &Sexp, text: &[u8]) -> Result<u32, TextFault>
     if parts.len() < 2 {
         return Err(at(place(form), Kind::BadForm));
     }
-    let delay = match delay(&parts[1], text) {
-        Ok(delay) => delay,
-        Err(fault) => return Err(fault),
-    };
+    let delay = delay(&parts[1], text)?;
     if parts.len() > 2 {
         return Err(at(place(&parts[2]), Kind::BadForm));
     }
@@ -77,7 +74,7 @@ fn read_table(alloc: Global, form: &Sexp, text: &[u8]) -> Result<Table, TextFaul
     requires of { IsSexpOf text.now form.now }
     ensures table { IfOk result (WritesTable (sexp_form text.now form.now)) }
     ensures is_table { IfOk result IsTable }
-    ensures clear { IfOk result (λ _. IsClear roles.machine (sexp_form text.now form.now)) }
+    ensures clear { IfOk result (λ _. IsClearTableForm roles.machine (sexp_form text.now form.now)) }
     ensures fault { IfErr result (IsFaultBy (IsFirst (IsMachineFault (sexp_form text.now form.now)))) }
 {
     sexps_are_forms();
@@ -90,22 +87,13 @@ fn read_table(alloc: Global, form: &Sexp, text: &[u8]) -> Result<Table, TextFaul
     if parts.len() < 3 {
         return Err(at(place(form), Kind::BadForm));
     }
-    let slots = match slots(alloc, &parts[1], text) {
-        Ok(slots) => slots,
-        Err(fault) => return Err(fault),
-    };
-    let cross = match cross(&parts[2], text) {
-        Ok(cross) => cross,
-        Err(fault) => return Err(fault),
-    };
+    let slots = slots(alloc, &parts[1], text)?;
+    let cross = cross(&parts[2], text)?;
     let mut uses = Items::new(alloc);
     let slots_read = slots.as_slice();
     for index in 3..parts.len() {
         let part = &parts[index];
-        match ops(alloc, part, text, slots_read, &mut uses) {
-            Ok(()) => {}
-            Err(fault) => return Err(fault),
-        }
+        ops(alloc, part, text, slots_read, &mut uses)?;
     }
     Ok(Table {
         slots,
@@ -125,7 +113,7 @@ pub fn read(alloc: Global, form: &Sexp, text: &[u8]) -> Result<Table, TextFault>
         → GivesUnlessMemory (λ read. read ≡ table) result }
 
     // A form that is read has no fault, and of another form the first fault is answered.
-    ensures clear { IfOk result (λ _. IsClear roles.machine (sexp_form text.now form.now)) }
+    ensures clear { IfOk result (λ _. IsClearTableForm roles.machine (sexp_form text.now form.now)) }
     ensures fault { IfErr result (IsFaultBy (IsFirst (IsMachineFault (sexp_form text.now form.now)))) }
 {
     read_table(alloc, form, text)

@@ -3,7 +3,7 @@ ghost use Rattle.std.specs.Prelude.{◌≡◌, ◌≤◌, IfOk, IfErr};
 ghost use Rattle.forms.specs.Forms.{sexp_form};
 ghost use Rattle.forms.specs.Reading.{IsSexpOf};
 ghost use Rattle.machine_table.specs.Grammar.{IsNumberOf};
-ghost use Rattle.machine_table.specs.Reading.{AreSlotsRead, IsClear, IsFaultAs, IsSlotRead, slot_names};
+ghost use Rattle.machine_table.specs.Reading.{AreSlotsRead, IsClearTableForm, IsTableFault, IsSlotRead, slot_names};
 ghost use Rattle.machine_table.specs.Roles as roles;
 ghost use Rattle.text_core.specs.Names.{is_among};
 ghost use Rattle.machine_table.specs.Roles.{has_head};
@@ -48,8 +48,8 @@ fn cluster(form: &Sexp, text: &[u8]) -> Result<u8, TextFault>
     requires of { IsSexpOf text.now form.now }
     ensures cluster { IfOk result (λ n. IsNumberOf n (sexp_form text.now form.now)) }
     ensures below { IfOk result (λ n. n ≤ 3) }
-    ensures clear { IfOk result (λ _. IsClear roles.cluster (sexp_form text.now form.now)) }
-    ensures fault { IfErr result (IsFaultBy (IsFirst (IsFaultAs roles.cluster (sexp_form text.now form.now)))) }
+    ensures clear { IfOk result (λ _. IsClearTableForm roles.cluster (sexp_form text.now form.now)) }
+    ensures fault { IfErr result (IsFaultBy (IsFirst (IsTableFault roles.cluster (sexp_form text.now form.now)))) }
 {
     sexps_are_forms();
     let Some(cluster) = number(form) else {
@@ -61,12 +61,12 @@ fn cluster(form: &Sexp, text: &[u8]) -> Result<u8, TextFault>
     Ok(cluster as u8)
 }
 
-/// Reads `( NAME NUMBER )`, behind these slots.
+/// Reads `( NAME NUMBER )`, given the slots before it.
 fn slot(alloc: Global, form: &Sexp, text: &[u8], slots: &[Slot]) -> Result<Slot, TextFault>
     requires of { IsSexpOf text.now form.now }
     ensures slot { IfOk result (IsSlotRead (slot_names slots.now) (sexp_form text.now form.now)) }
     ensures fault { IfErr result (IsFaultBy (IsFirst
-        (IsFaultAs (roles.slot (slot_names slots.now)) (sexp_form text.now form.now)))) }
+        (IsTableFault (roles.slot (slot_names slots.now)) (sexp_form text.now form.now)))) }
 {
     sexps_are_forms();
     let Some(parts) = parts(form) else {
@@ -82,10 +82,7 @@ fn slot(alloc: Global, form: &Sexp, text: &[u8], slots: &[Slot]) -> Result<Slot,
     if is_slot(slots, bytes) {
         return Err(at(place(form), Kind::BadSlot));
     }
-    let cluster = match cluster(&parts[1], text) {
-        Ok(cluster) => cluster,
-        Err(fault) => return Err(fault),
-    };
+    let cluster = cluster(&parts[1], text)?;
     if parts.len() > 2 {
         return Err(at(place(&parts[2]), Kind::BadForm));
     }
@@ -96,7 +93,7 @@ fn slot(alloc: Global, form: &Sexp, text: &[u8], slots: &[Slot]) -> Result<Slot,
 /// The fault of what stands behind eight slots.
 fn ninth_slot(form: &Sexp, text: &[u8]) -> TextFault
     requires of { IsSexpOf text.now form.now }
-    ensures { IsFaultBy (IsFirst (IsFaultAs roles.ninth_slot (sexp_form text.now form.now))) result }
+    ensures { IsFaultBy (IsFirst (IsTableFault roles.ninth_slot (sexp_form text.now form.now))) result }
 {
     sexps_are_forms();
     match parts(form) {
@@ -109,7 +106,7 @@ fn ninth_slot(form: &Sexp, text: &[u8]) -> TextFault
 pub fn slots(alloc: Global, form: &Sexp, text: &[u8]) -> Result<Items<Slot>, TextFault>
     requires of { IsSexpOf text.now form.now }
     ensures slots { IfOk result (AreSlotsRead (sexp_form text.now form.now)) }
-    ensures fault { IfErr result (IsFaultBy (IsFirst (IsFaultAs roles.slots (sexp_form text.now form.now)))) }
+    ensures fault { IfErr result (IsFaultBy (IsFirst (IsTableFault roles.slots (sexp_form text.now form.now)))) }
 {
     sexps_are_forms();
     if !has_keyword(form, text, b"slots") {
@@ -127,10 +124,8 @@ pub fn slots(alloc: Global, form: &Sexp, text: &[u8]) -> Result<Items<Slot>, Tex
         if index > 8 {
             return Err(ninth_slot(part, text));
         }
-        match slot(alloc, part, text, slots.as_slice()) {
-            Ok(slot) => slots.push(slot)?,
-            Err(fault) => return Err(fault),
-        }
+        let slot = slot(alloc, part, text, slots.as_slice())?;
+        slots.push(slot)?;
     }
     Ok(slots)
 }

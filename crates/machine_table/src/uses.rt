@@ -4,7 +4,7 @@ ghost use Rattle.forms.specs.Forms.{sexp_form};
 ghost use Rattle.forms.specs.Reading.{IsSexpOf};
 ghost use Rattle.machine_table.specs.Grammar.{IsNumberOf};
 ghost use Rattle.machine_table.specs.InstrOrder.{instr_name};
-ghost use Rattle.machine_table.specs.Reading.{AreSlotNumbers, AreOpsRead, AreSlots, AreUsedRead, AreUses, IsClear, IsFaultAs, IsInstrRead, IsNameAt, IsUsedRead, slot_names, names_of_uses, slot_names_used};
+ghost use Rattle.machine_table.specs.Reading.{AreSlotNumbers, AreOpsRead, AreSlots, AreUsedRead, AreUses, IsClearTableForm, IsTableFault, IsInstrRead, IsNameAt, IsUsedRead, slot_names, names_of_uses, slot_names_used};
 ghost use Rattle.machine_table.specs.Roles as roles;
 ghost use Rattle.text_core.specs.Names.{is_among};
 ghost use Rattle.text_core.specs.Faults.{IsFaultBy, IsFirst};
@@ -22,8 +22,8 @@ fn latency(form: &Sexp, text: &[u8]) -> Result<u32, TextFault>
     requires of { IsSexpOf text.now form.now }
     ensures latency { IfOk result (λ n. IsNumberOf n (sexp_form text.now form.now)) }
     ensures within { IfOk result (λ n. (1 ≤ n) × (n ≤ 16)) }
-    ensures clear { IfOk result (λ _. IsClear roles.latency (sexp_form text.now form.now)) }
-    ensures fault { IfErr result (IsFaultBy (IsFirst (IsFaultAs roles.latency (sexp_form text.now form.now)))) }
+    ensures clear { IfOk result (λ _. IsClearTableForm roles.latency (sexp_form text.now form.now)) }
+    ensures fault { IfErr result (IsFaultBy (IsFirst (IsTableFault roles.latency (sexp_form text.now form.now)))) }
 {
     sexps_are_forms();
     let Some(latency) = number(form) else {
@@ -54,7 +54,7 @@ fn used_slot(form: &Sexp, text: &[u8], slots: &[Slot], used: &[u32]) -> Result<u
     requires slots { AreSlots slots.now }
     requires used { AreSlotNumbers slots.now used.now }
     ensures used { IfOk result (IsUsedRead slots.now used.now (sexp_form text.now form.now)) }
-    ensures fault { IfErr result (IsFaultBy (IsFirst (IsFaultAs
+    ensures fault { IfErr result (IsFaultBy (IsFirst (IsTableFault
         (roles.used_slot (slot_names slots.now) (slot_names_used slots.now used.now)) (sexp_form text.now form.now)))) }
 {
     sexps_are_forms();
@@ -81,7 +81,7 @@ fn used_slots(
     requires slots { AreSlots slots.now }
     ensures used { IfOk result (AreUsedRead slots.now (sexp_form text.now form.now)) }
     ensures fault { IfErr result (IsFaultBy (IsFirst
-        (IsFaultAs (roles.used_slots (slot_names slots.now)) (sexp_form text.now form.now)))) }
+        (IsTableFault (roles.used_slots (slot_names slots.now)) (sexp_form text.now form.now)))) }
 {
     sexps_are_forms();
     let Some(parts) = parts(form) else {
@@ -93,10 +93,8 @@ fn used_slots(
     let mut used = Items::new(alloc);
     for index in 0..parts.len() {
         let part = &parts[index];
-        match used_slot(part, text, slots, used.as_slice()) {
-            Ok(slot) => used.push(slot)?,
-            Err(fault) => return Err(fault),
-        }
+        let slot = used_slot(part, text, slots, used.as_slice())?;
+        used.push(slot)?;
     }
     Ok(used)
 }
@@ -117,7 +115,7 @@ fn instr(form: &Sexp, text: &[u8], uses: &[Use]) -> Result<InstrKind, TextFault>
     requires of { IsSexpOf text.now form.now }
     ensures instr { IfOk result (IsInstrRead (names_of_uses uses.now) (sexp_form text.now form.now)) }
     ensures fault { IfErr result (IsFaultBy (IsFirst
-        (IsFaultAs (roles.instr (names_of_uses uses.now)) (sexp_form text.now form.now)))) }
+        (IsTableFault (roles.instr (names_of_uses uses.now)) (sexp_form text.now form.now)))) }
 {
     sexps_are_forms();
     let Some(bytes) = name(form, text) else {
@@ -132,7 +130,8 @@ fn instr(form: &Sexp, text: &[u8], uses: &[Use]) -> Result<InstrKind, TextFault>
     Ok(instr)
 }
 
-/// Reads `( ops NUMBER ( {NAME} ) NAME {NAME} )` behind these uses, and adds those of its instructions.
+/// Reads `( ops NUMBER ( {NAME} ) NAME {NAME} )`, given the uses before it, and adds a use for each of its
+/// instructions.
 pub fn ops(
     alloc: Global,
     form: &Sexp,
@@ -145,7 +144,7 @@ pub fn ops(
     requires uses { AreUses slots.now uses.old }
     ensures ops { OnOk result (AreOpsRead slots.now uses.old (sexp_form text.now form.now) uses.new) }
     ensures fault { IfErr result (IsFaultBy (IsFirst
-        (IsFaultAs (roles.ops (slot_names slots.now) (names_of_uses uses.old)) (sexp_form text.now form.now)))) }
+        (IsTableFault (roles.ops (slot_names slots.now) (names_of_uses uses.old)) (sexp_form text.now form.now)))) }
 {
     sexps_are_forms();
     if !has_keyword(form, text, b"ops") {
@@ -157,21 +156,12 @@ pub fn ops(
     if parts.len() < 4 {
         return Err(at(place(form), Kind::BadForm));
     }
-    let latency = match latency(&parts[1], text) {
-        Ok(latency) => latency,
-        Err(fault) => return Err(fault),
-    };
-    let used = match used_slots(alloc, &parts[2], text, slots) {
-        Ok(used) => used,
-        Err(fault) => return Err(fault),
-    };
+    let latency = latency(&parts[1], text)?;
+    let used = used_slots(alloc, &parts[2], text, slots)?;
     let numbers = used.as_slice();
     for index in 3..parts.len() {
         let part = &parts[index];
-        let instr = match instr(part, text, uses.as_slice()) {
-            Ok(instr) => instr,
-            Err(fault) => return Err(fault),
-        };
+        let instr = instr(part, text, uses.as_slice())?;
         uses.push(Use {
             instr,
             latency,

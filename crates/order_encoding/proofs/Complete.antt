@@ -1,104 +1,56 @@
--- What the families say holds of the launches of a schedule that fits, with what its launches make seen, held and taken.
-use Rattle.std.proofs.Common.{◌≡◌, ℕ, ◌+◌, ◌<◌, ◌≤◌, Bool, true, false, not, cond, List, length, get_or, refl, sym, ap, ◌∙◌, subst, arith, inl, inr, ◌⊎◌, Option, Some, None}
-use Rattle.std.specs.Prelude.{◌||◌, ◌&&◌, ◌==◌, nat_le, is_some, IsTrue, Contains, IfSome}
-use Rattle.std.specs.List.{All, filter, list_any, count_by, range_with_len}
-use Rattle.std.proofs.lemmas.Bool.{false≢true, cases_Bool, eqb-true, eqb-false, eq-eqb, le-leb, and_parts, and_from, or_cases, or_left, or_right, not-true, not_from_false, false_from_ne_true}
+-- What the families say holds of the launches of a schedule that fits, with what its launches make held and taken.
+use Rattle.std.proofs.Common.{◌≡◌, ℕ, suc, ◌+◌, ◌<◌, ◌≤◌, Bool, true, false, not, cond, List, [], ◌∷◌, length, get_or, refl, sym, ap, ◌∙◌, subst, arith, inl, inr, ◌⊎◌, Option, Some, None}
+use Rattle.std.specs.Prelude.{◌||◌, ◌&&◌, ◌==◌, ◌↔◌, nat_le, is_some, IsTrue, Contains, IfSome}
+use Rattle.std.specs.List.{All, AllPairs, filter, list_any, count_by, range_with_len}
+use Rattle.std.proofs.lemmas.Bool.{false≢true, cases_Bool, eqb-true, eqb-false, eq-eqb, le-leb, and_parts, and_from, or_cases, or_left, or_right, not-true}
 use Rattle.std.proofs.lemmas.List.Sums.{sum_by-le-sum_by}
-use Rattle.std.proofs.lemmas.List.Elements.{All-contains, All-weaker, Contains-get_or}
-use Rattle.machine_table.specs.Tables.{IsTable, cluster_of}
-use Rattle.graph_meaning.specs.Graphs.{memory_target, is_memory_name, is_zero_class}
+use Rattle.std.proofs.lemmas.List.Elements.{All-contains, Contains-get_or}
+use Rattle.graph_meaning.specs.Graphs.{memory_target}
 use Rattle.graph_meaning.specs.WellFormed.{IsLaunchGraph, next_class}
-use Rattle.schedule_meaning.specs.Launches.{launches, gives_word, is_store, is_load, is_branch, is_held, class_at, memory_class_at, operands_at, ready_in, memory_before, IsFree, IsReadable, Gives, Operand, gives}
-use Rattle.schedule_meaning.specs.Fits.{CanLaunch, CanRead, EndsBy, IsReached, IsLatestStore, IsLeft, Fits}
+use Rattle.schedule_meaning.specs.Launches.{launches, gives_word, is_store, is_load, is_branch, is_held, class_at, memory_class_at, memory_before}
+use Rattle.schedule_meaning.specs.Fits.{Collide, IsLatestStore, IsLeft, Fits}
 use Rattle.machine_table.specs.declared.tables.Table.{Table}
 use Rattle.graph_meaning.specs.declared.graphs.LaunchGraph.{LaunchGraph}
-use Rattle.graph_meaning.specs.declared.graphs.SetClass.{SetClass}
 use Rattle.graph_meaning.specs.declared.graphs.Guard.{Guard}
 use Rattle.schedule_meaning.specs.declared.schedules.Launch.{Launch}
 use Rattle.cycle_encoding.specs.Shapes.{when}
-use Rattle.cycle_encoding.specs.CycleFormula.{Listed, wide}
-use Rattle.cycle_encoding.specs.Variables.{all_launches, made_classes, classes_of, is_word_class, is_input}
-use Rattle.cycle_encoding.specs.declared.seen.Seen.{Seen}
+use Rattle.cycle_encoding.specs.Variables.{classes_of}
+use Rattle.cycle_encoding.specs.CycleRules.{HasPlace, KeepsCycleRules}
 use Rattle.order_encoding.specs.OrderVariables.{memory_classes, is_memory_class, all_held, all_taken, Held, Taken}
-use Rattle.cycle_encoding.specs.Families.{is_at, is_free, is_made, is_made_target, is_seen, makes, any}
+use Rattle.cycle_encoding.specs.Families.{any}
 use Rattle.order_encoding.specs.OrderFamilies.{is_held_at, stores_at, uses_memory, branches_by, waits, is_taken_at}
-use Rattle.cycle_encoding.proofs.Tests.{some_of, some_in, two_at, All-to_filter, zero-from, input-from, free-from, gives-from}
+use Rattle.cycle_encoding.proofs.Tests.{some_of, some_in, two_at}
 use Rattle.cycle_encoding.proofs.Counting.{count-one, count-none, count-by-places}
 use Rattle.cycle_encoding.proofs.Members.{NoTwice, twice, filter-in, filter-out, filter-once, range-in, range-out, All-from_members, few-among}
-use Rattle.order_encoding.proofs.Says.{SaysCycles, SaysMemory, SaysGuard, SaysRegisters}
-use Rattle.order_encoding.proofs.Sound.{IsListed}
-use Rattle.order_encoding.proofs.RowFacts.{word-launch, store-launch, read-launch, memory-sort, target-class}
-use Rattle.order_encoding.proofs.Listing.{launches-once, listed-one, listed-all, listed-in, cluster-in, seen-in, held-in, held-out, held-once, taken-in, taken-once}
+use Rattle.order_encoding.proofs.Says.{SaysMemory, SaysGuard, SaysRegisters}
+use Rattle.order_encoding.proofs.MemoryRows.{store-launch, read-launch, memory-sort, target-class}
+use Rattle.order_encoding.proofs.Listing.{held-in, held-out, held-once, taken-in, taken-once}
 
--- ---- the same launch
+-- the launches of a list, each once and in its place
+pub record SameLaunches (table : Table) (k : ℕ) (ls S : List Launch) : Type 0 where
+  pub members : (l : Launch) → Contains S l ↔ Contains ls l
+  pub once : NoTwice S
+  pub places : All (HasPlace table k) S
 
-pub same : Launch → Launch → Bool
-same a b = (a.cycle == b.cycle) && ((a.slot == b.slot) && (a.row == b.row))
+-- launches of which no two collide are each once
+apart-once : (ls : List Launch) → AllPairs (λ l m. ¬ Collide l m) ls → NoTwice ls
+apart-once [] h = tt
+apart-once (l ∷ ls) h =
+    let size : length (l ∷ ls) ≡ suc (length ls) = refl in (
+      (λ c.
+          let in_tail : c.0 < length ls = c.1 in
+          let is : get_or ls c.0 l ≡ l = c.2 in
+          h 0 (suc c.0) l (omega arith) (omega (arith, size)) (ap (λ (x : Launch). x.cycle) (sym is), ap (λ (x : Launch). x.slot) (sym is))),
+      apart-once ls (λ i j d lt len. h (suc i) (suc j) d (omega arith) (omega (arith, size))),
+    )
 
-equal : (a b : Launch) → a.cycle ≡ b.cycle → a.slot ≡ b.slot → a.row ≡ b.row → a ≡ b
-equal a b p q r =
-    let x : a ≡ record { cycle = b.cycle; slot = a.slot; row = a.row } = ap (λ c. record { cycle = c; slot = a.slot; row = a.row }) p in
-    let y : record { cycle = b.cycle; slot = a.slot; row = a.row } ≡ record { cycle = b.cycle; slot = b.slot; row = a.row } = ap (λ s. record { cycle = b.cycle; slot = s; row = a.row }) q in
-    let z : record { cycle = b.cycle; slot = b.slot; row = a.row } ≡ b = ap (λ r. record { cycle = b.cycle; slot = b.slot; row = r }) r in
-    x ∙ y ∙ z
-
-pub same-is : (a b : Launch) → same a b ≡ true → a ≡ b
-unfolding same
-same-is a b h =
-    let p = and_parts (a.cycle == b.cycle) ((a.slot == b.slot) && (a.row == b.row)) h in
-    let q = and_parts (a.slot == b.slot) (a.row == b.row) p.1 in
-    equal a b (eqb-true a.cycle b.cycle p.0) (eqb-true a.slot b.slot q.0) (eqb-true a.row b.row q.1)
-
-pub same-itself : (a : Launch) → same a a ≡ true
-unfolding same
-same-itself a = and_from (a.cycle == a.cycle) ((a.slot == a.slot) && (a.row == a.row)) (eq-eqb a.cycle a.cycle refl) (and_from (a.slot == a.slot) (a.row == a.row) (eq-eqb a.slot a.slot refl) (eq-eqb a.row a.row refl))
-
-abbrev pub among : List Launch → Launch → Bool
-among ls l = list_any (same l) ls
-
-pub among-is : (ls : List Launch) (l : Launch) → among ls l ≡ true → Contains ls l
-among-is ls l h = (let m = some_of (same l) ls h in subst (λ x. Contains ls x) (sym (same-is l m.0 m.2)) m.1)
-
-pub among-from : (ls : List Launch) (l : Launch) → Contains ls l → among ls l ≡ true
-among-from ls l h = some_in (same l) ls l h (same-itself l)
-
--- the list has a variable for each of these launches, none twice, and for all that they have to see
-pub record Serves (g : LaunchGraph) (table : Table) (k : ℕ) (e : Listed) (ls : List Launch) : Type 0 where
-  pub listed : All (IsListed g table k) e.launches
-  pub once : NoTwice e.launches
-  pub members : (l : Launch) → Contains ls l → Contains e.launches l
-  pub seen : (l m : Launch) (o : Operand) → Contains ls l → Contains (operands_at g l.row) o → is_made g o ≡ true → Contains ls m → Gives g o.class m → Contains e.seen (record { class = o.class; cluster = cluster_of table l.slot; cycle = l.cycle })
-
--- an operand that has to be made and that a launch gives is of a class that is made
-pub made_class : (g : LaunchGraph) (o : Operand) (l : Launch) → is_made g o ≡ true → Gives g o.class l → Contains (made_classes g) o.class
-made_class g o l h gave =
-    let p = and_parts (not (is_free g o)) (not (is_input g o.class)) h in
-    let w = subst (λ c. (is_word_class g c ≡ true) × (c < next_class g.rows)) gave.1 (word-launch g l gave.0) in
-    let bound = w.1 in
-    let zero_free : is_zero_class g o.class ≡ true → ⊥ = λ z. false≢true (sym (not-true (is_free g o) p.0) ∙ or_left (is_zero_class g o.class) (o.second && _) z) in
-    filter-in (λ c. is_word_class g c && (not (is_input g c) && not (is_zero_class g c))) (classes_of g) o.class (range-in 0 (next_class g.rows) o.class (omega arith) (omega arith))
-    (and_from (is_word_class g o.class) (not (is_input g o.class) && not (is_zero_class g o.class)) w.0
-    (and_from (not (is_input g o.class)) (not (is_zero_class g o.class)) p.1 (not_from_false (is_zero_class g o.class) (false_from_ne_true (is_zero_class g o.class) zero_free))))
-
--- the list of all launches that end by k serves each schedule that fits
-pub wide-serves : (g : LaunchGraph) (table : Table) (k : ℕ) (ls : List Launch) → IsTable table → Fits g table k ls → Serves g table k (wide g table k) ls
-wide-serves g table k ls is_table fit =
-    let member : (l : Launch) → Contains ls l → Contains (all_launches g table k) l = λ l h. listed-in g table k is_table l (All-contains (CanLaunch g table) ls l fit.rows h) (All-contains (EndsBy g table k) ls l fit.in_time h) in
-    record {
-      listed = listed-all g table k is_table;
-      once = launches-once g table k;
-      members = member;
-      seen = λ l m o hl ho t hm gave.
-          let ok = listed-one g table k is_table l (member l hl) in
-          seen-in g table k (made_classes g) o.class (cluster_of table l.slot) l.cycle (made_class g o m t gave) (cluster-in g table k is_table l.slot ok.slot) ok.early;
-    }
+-- what is shown of launches, and keeps the rules of cycles, slots and values, is each of them once
+pub shown-same : (g : LaunchGraph) (table : Table) (k : ℕ) (ls S : List Launch) → ((l : Launch) → Contains S l ↔ Contains ls l) → KeepsCycleRules g table k S → All (HasPlace table k) S → SameLaunches table k ls S
+shown-same g table k ls S members rules places = record { members = members; once = apart-once S rules.apart; places = places }
 
 -- ---- the things that a schedule makes true
 
-module _ (g : LaunchGraph) (table : Table) (k : ℕ) (ls : List Launch) (e : Listed) where
-  abbrev pub seen_now : Seen → Bool
-  seen_now d = list_any (makes g table d) ls
-
+module _ (g : LaunchGraph) (table : Table) (k : ℕ) (ls : List Launch) where
   abbrev pub held_now : Held → Bool
   held_now m = m.class == memory_before g ls m.cycle
 
@@ -114,12 +66,6 @@ module _ (g : LaunchGraph) (table : Table) (k : ℕ) (ls : List Launch) (e : Lis
   abbrev pub taken_now : Taken → Bool
   taken_now u = list_any (takes u) ls
 
-  abbrev pub launched : List Launch
-  launched = filter (among ls) e.launches
-
-  abbrev pub seen : List Seen
-  seen = filter seen_now e.seen
-
   abbrev pub held : List Held
   held = filter held_now (all_held g k)
 
@@ -132,94 +78,32 @@ module _ (g : LaunchGraph) (table : Table) (k : ℕ) (ls : List Launch) (e : Lis
   abbrev pub taken : List Taken
   taken = filter taken_now (all_taken table k)
 
-  module _ (serves : Serves g table k e ls) (is_graph : IsLaunchGraph g) (fit : Fits g table k ls) where
-    abbrev S : List Launch
-    S = launched
-
+  module _ (S : List Launch) (same : SameLaunches table k ls S) (is_graph : IsLaunchGraph g) (fit : Fits g table k ls) where
     -- ---- the same launches
 
-    pub launched-out : (l : Launch) → Contains S l → Contains ls l
-    launched-out l h = among-is ls l (filter-out (among ls) e.launches l h).1
+    launched-out : (l : Launch) → Contains S l → Contains ls l
+    launched-out l h = (same.members l).0 h
 
-    pub launched-in : (l : Launch) → Contains ls l → Contains S l
-    launched-in l h =
-        filter-in (among ls) e.launches l (serves.members l h) (among-from ls l h)
+    launched-in : (l : Launch) → Contains ls l → Contains S l
+    launched-in l h = (same.members l).1 h
 
-    pub launched-once : NoTwice S
-    launched-once = filter-once (among ls) e.launches serves.once
-
-    is_listed : (l : Launch) → Contains S l → IsListed g table k l
-    is_listed l h = All-contains (IsListed g table k) e.launches l serves.listed (filter-out (among ls) e.launches l h).0
+    place : (l : Launch) → Contains S l → HasPlace table k l
+    place l h = All-contains (HasPlace table k) S l same.places h
 
     -- a test that some launch passes
     pass : (test : Launch → Bool) → list_any test ls ≡ true → list_any test S ≡ true
     pass test h = (let l = some_of test ls h in some_in test S l.0 (launched-in l.0 l.1) l.2)
 
-    -- ---- slots
-
-    abbrev PairOf : (Launch → Bool) → Type 0
-    PairOf test = (i j : ℕ) (d : Launch) → i < j → j < length ls → test (get_or ls i d) ≡ true → test (get_or ls j d) ≡ true → ⊥
-
-    pub slots-few : (s t : ℕ) → count_by (is_at s t) S ≤ 1
-    slots-few s t =
-        few-among (is_at s t) S ls launched-once launched-out (λ i j d lt len p q.
-        let a = get_or ls i d in
-        let b = get_or ls j d in
-        let pa = and_parts (a.slot == s) (a.cycle == t) p in
-        let pb = and_parts (b.slot == s) (b.cycle == t) q in
-        fit.apart i j d lt len (eqb-true a.cycle t pa.1 ∙ sym (eqb-true b.cycle t pb.1), eqb-true a.slot s pa.0 ∙ sym (eqb-true b.slot s pb.0)))
+    -- ---- stores
 
     pub stores-few : (t : ℕ) → count_by (stores_at g t) S ≤ 1
     stores-few t =
-        few-among (stores_at g t) S ls launched-once launched-out (λ i j d lt len p q.
+        few-among (stores_at g t) S ls same.once launched-out (λ i j d lt len p q.
         let a = get_or ls i d in
         let b = get_or ls j d in
         let pa = and_parts (launches g is_store a) (a.cycle == t) p in
         let pb = and_parts (launches g is_store b) (b.cycle == t) q in
         fit.memory.single i j d lt len pa.0 pb.0 (eqb-true a.cycle t pa.1 ∙ sym (eqb-true b.cycle t pb.1)))
-
-    -- ---- values
-
-    made_target : (s : SetClass) → is_made_target g s ≡ true → IsReached g ls s → list_any (gives g s.class) S ≡ true
-    made_target s t (inl m) =
-        let p = and_parts (not (is_memory_name s.name)) (not (is_input g s.class) && not (is_zero_class g s.class)) t in
-        absurd (false≢true (sym (not-true (is_memory_name s.name) p.0) ∙ m))
-    made_target s t (inr (inl i)) =
-        let p = and_parts (not (is_memory_name s.name)) (not (is_input g s.class) && not (is_zero_class g s.class)) t in
-        let q = and_parts (not (is_input g s.class)) (not (is_zero_class g s.class)) p.1 in
-        absurd (false≢true (sym (not-true (is_input g s.class) q.0) ∙ input-from g s.class i))
-    made_target s t (inr (inr (inl z))) =
-        let p = and_parts (not (is_memory_name s.name)) (not (is_input g s.class) && not (is_zero_class g s.class)) t in
-        let q = and_parts (not (is_input g s.class)) (not (is_zero_class g s.class)) p.1 in
-        absurd (false≢true (sym (not-true (is_zero_class g s.class) q.1) ∙ zero-from g s.class z))
-    made_target s t (inr (inr (inr (j, l, lt, e', h)))) = pass (gives g s.class) (some_in (gives g s.class) ls l (j, lt, e') (gives-from g s.class l h))
-
-    -- an operand that has to be made is seen
-    sees : (l : Launch) → Contains S l → (o : Operand) → Contains (operands_at g l.row) o → is_made g o ≡ true → IsFree g o ⊎ IsReadable g table ls o.class l.cycle (cluster_of table l.slot) → list_any (is_seen o.class (cluster_of table l.slot) l.cycle) seen ≡ true
-    sees l h o ho t (inl f) =
-        let p = and_parts (not (is_free g o)) (not (is_input g o.class)) t in
-        absurd (false≢true (sym (not-true (is_free g o) p.0) ∙ free-from g o f))
-    sees l h o ho t (inr (inl i)) =
-        let p = and_parts (not (is_free g o)) (not (is_input g o.class)) t in
-        absurd (false≢true (sym (not-true (is_input g o.class) p.1) ∙ input-from g o.class i))
-    sees l h o ho t (inr (inr (j, m, lt, e', (gave, ready)))) =
-        let c = o.class in
-        let n = cluster_of table l.slot in
-        let d : Seen = record { class = c; cluster = n; cycle = l.cycle } in
-        let listed = serves.seen l m o (launched-out l h) ho t (j, lt, e') gave in
-        let made : makes g table d m ≡ true = and_from (gives g c m) (nat_le (ready_in g table n m) l.cycle) (gives-from g c m gave) (le-leb (ready_in g table n m) l.cycle ready) in
-        some_in (is_seen c n l.cycle) seen d (filter-in seen_now e.seen d listed (some_in (makes g table d) ls m (j, lt, e') made))
-        (and_from (c == c) ((n == n) && (l.cycle == l.cycle)) (eq-eqb c c refl) (and_from (n == n) (l.cycle == l.cycle) (eq-eqb n n refl) (eq-eqb l.cycle l.cycle refl)))
-
-    pub cycles : SaysCycles g table k S seen
-    cycles = record {
-      targets = All-to_filter (is_made_target g) (λ s. list_any (gives g s.class) S ≡ true) g.sets (All-weaker (IsReached g ls) (λ s. is_made_target g s ≡ true → list_any (gives g s.class) S ≡ true) (λ s r t. made_target s t r) g.sets fit.targets);
-      operands = All-from_members (λ l. All (λ o. list_any (is_seen o.class (cluster_of table l.slot) l.cycle) seen ≡ true) (filter (is_made g) (operands_at g l.row))) S (λ l h.
-          All-to_filter (is_made g) (λ o. list_any (is_seen o.class (cluster_of table l.slot) l.cycle) seen ≡ true) (operands_at g l.row)
-          (All-from_members (λ o. is_made g o ≡ true → list_any (is_seen o.class (cluster_of table l.slot) l.cycle) seen ≡ true) (operands_at g l.row) (λ o ho t.
-          sees l h o ho t (All-contains (λ o. IsFree g o ⊎ IsReadable g table ls o.class l.cycle (cluster_of table l.slot)) (operands_at g l.row) o (All-contains (CanRead g table ls) ls l fit.operands (launched-out l h)) ho))));
-      seen = All-from_members (λ d. list_any (makes g table d) S ≡ true) seen (λ d h. pass (makes g table d) (filter-out seen_now e.seen d h).1);
-    }
 
     -- ---- memory
 
@@ -312,12 +196,12 @@ module _ (g : LaunchGraph) (table : Table) (k : ℕ) (ls : List Launch) (e : Lis
             false≢true (sym (not-true (m.class == g.entry) p.1) ∙ eq-eqb m.class g.entry same));
         uses = All-from_members (λ l. uses_memory g l ≡ true → list_any (is_held_at (memory_class_at g l.row) l.cycle) held ≡ true) S (λ l h u.
             let from = launched-out l h in
-            let early = (is_listed l h).early in
+            let early : l.cycle < k = (place l h).1 in
             let is : IsLeft g ls l.cycle (memory_class_at g l.row) = All-contains (λ l. IsTrue (launches g is_load l) ⊎ IsTrue (launches g is_store l) → IsLeft g ls l.cycle (memory_class_at g l.row)) ls l fit.memory.each from (elim (or_cases (launches g is_load l) (launches g is_store l) u) [ inl a ↦ inl a | inr b ↦ inr b ]) in
             held_one (memory_class_at g l.row) l.cycle (memory_in (memory_class_at g l.row) (read-launch g is_graph l u)) (omega arith) is);
         leaves = All-from_members (λ l. launches g is_store l ≡ true → (list_any (is_held_at (class_at g l.row) (l.cycle + 1)) held ≡ true) × (list_any (λ t. t == l.cycle) stored ≡ true)) S (λ l h s.
             let from = launched-out l h in
-            let early = (is_listed l h).early in (
+            let early : l.cycle < k = (place l h).1 in (
               held_one (class_at g l.row) (l.cycle + 1) (memory_in (class_at g l.row) (store-launch g l s)) (omega arith) (after_store l from s),
               in_stored l.cycle early (some_in (stores_at g l.cycle) ls l from (and_from (launches g is_store l) (l.cycle == l.cycle) s (eq-eqb l.cycle l.cycle refl))),
             ));
@@ -325,7 +209,7 @@ module _ (g : LaunchGraph) (table : Table) (k : ℕ) (ls : List Launch) (e : Lis
             pass (stores_at g t) (subst (λ t. stored_now t ≡ true) (eqb-true c t e) (filter-out stored_now (range_with_len 0 k) c hc).1)));
         stays = All-from_members (λ t. All (λ m. (m.cycle == t) ≡ true → (list_any (λ c. c == t) stored || list_any (is_held_at m.class (t + 1)) held) ≡ true) held) (range_with_len 0 k) (λ t ht. All-from_members (λ m. (m.cycle == t) ≡ true → (list_any (λ c. c == t) stored || list_any (is_held_at m.class (t + 1)) held) ≡ true) held (λ m hm e.
             stays_one t (let b = (range-out 0 k t ht).1 in omega arith) m hm e));
-        last = held_one (memory_target g) k (memory_in (memory_target g) (target-class g is_graph)) (omega arith) (fit.memory.last k (All-from_members (λ l. l.cycle < k) ls (λ l h. (is_listed l (launched-in l h)).early)));
+        last = held_one (memory_target g) k (memory_in (memory_target g) (target-class g is_graph)) (omega arith) (fit.memory.last k (All-from_members (λ l. l.cycle < k) ls (λ l h. (place l (launched-in l h)).1)));
       }
 
       pub held-few : (t : ℕ) → count_by (λ (m : Held). m.cycle == t) held ≤ 1
@@ -361,7 +245,7 @@ module _ (g : LaunchGraph) (table : Table) (k : ℕ) (ls : List Launch) (e : Lis
 
     pub branch-few : is_some g.guard ≡ true → count_by (launches g is_branch) S ≤ 1
     branch-few e =
-        few-among (launches g is_branch) S ls launched-once launched-out (λ i j d lt len p q.
+        few-among (launches g is_branch) S ls same.once launched-out (λ i j d lt len p q.
         let one = guard_one g.guard (count_by (launches g is_branch) ls) fit.one_branch e in
         let two = two_at (launches g is_branch) ls i j d lt len p q in
         absurd (omega arith))
@@ -375,7 +259,7 @@ module _ (g : LaunchGraph) (table : Table) (k : ℕ) (ls : List Launch) (e : Lis
       branch = λ e. pass (launches g is_branch) (a_branch e);
       wait = λ e. All-from_members (λ l. waits g l ≡ true → list_any (λ t. t == l.cycle) come ≡ true) S (λ l h w.
           let b = some_of (launches g is_branch) ls (a_branch e) in
-          let early = (is_listed l h).early in
+          let early : l.cycle < k = (place l h).1 in
           let after = All-contains (λ l. IsTrue (launches g is_store l) ⊎ (IsTrue (launches g is_load l) × IsTrue (is_held g)) → All (λ b. IsTrue (launches g is_branch b) → b.cycle ≤ l.cycle) ls) ls l fit.after_branch (launched-out l h) (elim (or_cases (launches g is_store l) (launches g is_load l && is_held g) w) [ inl a ↦ inl a | inr c ↦ (let p = and_parts (launches g is_load l) (is_held g) c in inr (p.0, p.1)) ]) in
           let le : (b.0).cycle ≤ l.cycle = All-contains (λ b. IsTrue (launches g is_branch b) → b.cycle ≤ l.cycle) ls b.0 after b.1 b.2 in
           let passes : branches_by g l.cycle b.0 ≡ true = and_from (launches g is_branch b.0) (nat_le (b.0).cycle l.cycle) b.2 (le-leb (b.0).cycle l.cycle le) in
@@ -390,10 +274,10 @@ module _ (g : LaunchGraph) (table : Table) (k : ℕ) (ls : List Launch) (e : Lis
     pub registers : SaysRegisters g table k S taken
     registers =
         All-from_members (λ l. launches g gives_word l ≡ true → list_any (is_taken_at l.slot l.cycle) taken ≡ true) S (λ l h w.
-        let ok = is_listed l h in
+        let ok = place l h in
         let at : is_taken_at l.slot l.cycle (record { slot = l.slot; cycle = l.cycle }) ≡ true = and_from (l.slot == l.slot) (l.cycle == l.cycle) (eq-eqb l.slot l.slot refl) (eq-eqb l.cycle l.cycle refl) in
         some_in (is_taken_at l.slot l.cycle) taken (record { slot = l.slot; cycle = l.cycle })
-        (filter-in taken_now (all_taken table k) (record { slot = l.slot; cycle = l.cycle }) (taken-in g table k l.slot l.cycle ok.slot ok.early)
+        (filter-in taken_now (all_taken table k) (record { slot = l.slot; cycle = l.cycle }) (taken-in g table k l.slot l.cycle ok.0 ok.1)
         (some_in (takes (record { slot = l.slot; cycle = l.cycle })) ls l (launched-out l h) (and_from (launches g gives_word l) (is_taken_at l.slot l.cycle (record { slot = l.slot; cycle = l.cycle })) w at))) at)
 
     by_launch : (l : Launch) → count_by (λ u. any u && takes u l) taken ≤ cond {A = ℕ} (launches g gives_word l) 1 0

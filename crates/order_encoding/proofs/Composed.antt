@@ -13,7 +13,8 @@ use Rattle.cycle_encoding.specs.Narrow.{IsNarrow}
 use Rattle.cycle_encoding.specs.declared.encodings.Encoding.{Encoding}
 use Rattle.cycle_encoding.specs.declared.encodings.Encoding.TheVariants.{Wide, Narrow}
 use Rattle.cycle_encoding.specs.Plans.{Plan, plan_of, IsTooLarge}
-use Rattle.order_encoding.specs.WholeFormula.{memory_part, guard_part, pool_part, memory_formula, guard_formula, whole_formula}
+use Rattle.order_encoding.specs.WholeFormula.{memory_formula, guard_formula, whole_formula}
+use Rattle.order_encoding.proofs.WholeParts.{memory_part, guard_part, pool_part}
 
 module _ (g : LaunchGraph) (table : Table) (k : ℕ) where
   abbrev whole : Formula

@@ -18,8 +18,7 @@ use Rattle.cycle_encoding.specs.Counts.{can_begin, one_if, row_is, row_use, row_
 use Rattle.cycle_encoding.specs.CycleFormula.{Scope, first_cycle_in}
 pub use Rattle.cycle_encoding.proofs.Tallies.{sum_more, count_more}
 use Rattle.order_encoding.specs.OrderVariables.{is_memory_class, memory_classes}
-use Rattle.order_encoding.specs.OrderSteps.{row_stores, row_uses}
-use Rattle.order_encoding.specs.OrderCounts.{held_count, memory_vars, memory_size, store_count}
+use Rattle.order_encoding.specs.OrderCounts.{row_stores, row_uses, held_count, memory_vars, memory_size, store_count}
 
 -- the stores of a row in a cycle
 module _ (g : LaunchGraph) (table : Table) (k : ℕ) (s : Scope) (cycle row : ℕ) where

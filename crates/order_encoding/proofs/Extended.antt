@@ -14,8 +14,8 @@ use Rattle.graph_meaning.specs.declared.graphs.LaunchGraph.{LaunchGraph}
 use Rattle.schedule_meaning.specs.Launches.{launches, is_branch}
 use Rattle.schedule_meaning.specs.declared.schedules.Launch.{Launch}
 use Rattle.order_encoding.specs.OrderVariables.{Held, all_held, all_taken}
-use Rattle.order_encoding.specs.OrderFamilies.{branches_by, register_clauses, entry_clauses, memory_clauses, kept_clauses, held_groups, store_groups, last_clauses}
-use Rattle.order_encoding.specs.OrderSteps.{with_memory, formula_with_guard, formula_with_pool, comes_after}
+use Rattle.order_encoding.specs.OrderFamilies.{branches_by, register_clauses, entry_clauses, memory_clauses, kept_clauses, held_groups, store_groups, last_clauses, comes_after}
+use Rattle.order_encoding.specs.WholeFormula.{with_memory, formula_with_guard, formula_with_pool}
 use Rattle.cycle_encoding.specs.Shapes.{numbered, vars_of, implied, when, counters, counters_vars, counters_size}
 use Rattle.cycle_encoding.specs.Steps.{with_clauses, with_counters}
 use Rattle.cycle_encoding.proofs.Adding.{added}

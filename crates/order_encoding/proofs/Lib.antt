@@ -1,7 +1,8 @@
+pub mod WholeParts
 pub mod Says
 pub mod Sound
 pub mod Reading
-pub mod RowFacts
+pub mod MemoryRows
 pub mod Listing
 pub mod Lists
 pub mod Complete

@@ -1,262 +1,110 @@
--- A schedule that fits does so without its launches that have no variables in the narrow encoding.
-use Rattle.std.proofs.Common.{◌≡◌, ℕ, suc, zero, ◌+◌, ◌<◌, ◌≤◌, Bool, true, false, not, cond, List, [], ◌∷◌, get_or, refl, sym, ap, ◌∙◌, subst, arith, inl, inr, ◌⊎◌, Option, Some, None}
-use Rattle.std.specs.Prelude.{◌==◌, IsTrue, Contains, IfSome, Decides, unwrap_or, option_map}
-use Rattle.std.specs.Option.{option_map_or}
+-- A schedule that fits does so without launches that are no stores and no branch, where the others keep the rules of
+-- cycles, slots and values.
+use Rattle.std.proofs.Common.{◌≡◌, ℕ, ◌<◌, ◌≤◌, Bool, true, List, get_or, refl, sym, ap, ◌∙◌, arith, inl, inr, ◌⊎◌, Option, Some, None}
+use Rattle.std.specs.Prelude.{◌==◌, IsTrue, Contains, IfSome}
 use Rattle.std.specs.List.{All, AllPairs, filter, list_any, count_by}
-use Rattle.std.proofs.lemmas.Bool.{false≢true, cases_Bool, eqb-true, eq-eqb, and_parts, and_from, not-true}
-use Rattle.std.proofs.lemmas.List.Sums.{sum_by-cons}
+use Rattle.std.proofs.lemmas.Bool.{false≢true, cases_Bool, eqb-true, eq-eqb, and_parts, and_from}
 use Rattle.std.proofs.lemmas.List.Elements.{All-filter, All-contains, All-weaker, Contains-get_or}
-use Rattle.machine_table.specs.Tables.{IsTable, IsUse, use_of, latency_of, cluster_of, MayUse}
-use Rattle.machine_table.specs.InstrOrder.{kind_number}
-use Rattle.graph_meaning.specs.Graphs.{memory_target, is_memory_name}
-use Rattle.schedule_meaning.specs.Launches.{instr_at, launches, is_store, is_branch, gives_word, class_at, memory_class_at, operands_at, ready_in, IsFree, IsReadable, Gives, Operand}
-use Rattle.schedule_meaning.specs.Fits.{CanLaunch, Collide, CanRead, EndsBy, IsReached, IsLeft, UsesMemory, Waits, Fits}
+use Rattle.graph_meaning.specs.Graphs.{memory_target}
+use Rattle.schedule_meaning.specs.Launches.{launches, is_store, is_branch, gives_word, memory_class_at}
+use Rattle.schedule_meaning.specs.Fits.{IsLeft, UsesMemory, Waits, Fits}
 use Rattle.machine_table.specs.declared.tables.Table.{Table}
-use Rattle.machine_table.specs.declared.tables.Use.{Use}
-use Rattle.machine_table.specs.declared.tables.InstrKind.{InstrKind}
-use Rattle.machine_table.specs.declared.tables.InstrKind.TheVariants.{Beq, StqU}
 use Rattle.graph_meaning.specs.declared.graphs.LaunchGraph.{LaunchGraph}
-use Rattle.graph_meaning.specs.declared.graphs.SetClass.{SetClass}
 use Rattle.graph_meaning.specs.declared.graphs.Guard.{Guard}
 use Rattle.schedule_meaning.specs.declared.schedules.Launch.{Launch}
-use Rattle.cycle_encoding.specs.Variables.{is_input, all_launches, made_classes}
-use Rattle.cycle_encoding.specs.Families.{is_at, is_free}
-use Rattle.cycle_encoding.specs.CycleFormula.{Listed}
-use Rattle.cycle_encoding.specs.Narrow.{Needs, Wanted, HasCome, come, CanStart, HasVariable, IsNarrow}
-use Rattle.cycle_encoding.specs.Narrow.Wanted.{target, guard, store, operand}
+use Rattle.cycle_encoding.specs.CycleRules.{KeepsCycleRules}
 use Rattle.order_encoding.specs.OrderFamilies.{stores_at}
-use Rattle.cycle_encoding.proofs.Tests.{two_at, one_at, some_of, some_in, any_from, free-is, free-from, input-is, input-from}
+use Rattle.cycle_encoding.proofs.Tests.{two_at, one_at, some_of, some_in}
 use Rattle.cycle_encoding.proofs.Counting.{count-one, count-none}
-use Rattle.cycle_encoding.proofs.Members.{NoTwice, filter-in, filter-out, filter-once, find-out, All-from_members}
-use Rattle.order_encoding.proofs.Sound.{IsListed}
-use Rattle.order_encoding.proofs.Listing.{listed-all, listed-in, listed-one, launches-once, cluster-in, seen-in}
-use Rattle.order_encoding.proofs.Complete.{Serves, made_class}
-use Rattle.order_encoding.proofs.RowFacts.{some-and, test-some, store-row}
+use Rattle.cycle_encoding.proofs.Members.{filter-in, filter-out, All-from_members}
+use Rattle.cycle_encoding.proofs.MadeLists.{count_less}
 
-count_less : {X : Type 0} (keep test : X → Bool) (xs : List X) → count_by test (filter keep xs) ≤ count_by test xs
-count_less keep test [] = omega arith
-count_less {X} keep test (x ∷ xs) =
-    let a = sum_by-cons (λ x. cond {A = ℕ} (test x) 1 0) x xs in
-    let r = count_less keep test xs in
-    elim (cases_Bool (keep x)) [
-      | inl t ↦
-          (let e : filter keep (x ∷ xs) ≡ x ∷ filter keep xs = ap (λ b. cond b (x ∷ filter keep xs) (filter keep xs)) t in
-          let b = ap (count_by test) e ∙ sum_by-cons (λ x. cond {A = ℕ} (test x) 1 0) x (filter keep xs) in
-          omega arith)
-      | inr f ↦
-          (let e : filter keep (x ∷ xs) ≡ filter keep xs = ap (λ b. cond b (x ∷ filter keep xs) (filter keep xs)) f in
-          let b = ap (count_by test) e in
-          omega arith)
-    ]
+-- a schedule that fits keeps the rules of cycles, slots and values
+pub rules_of : (g : LaunchGraph) (table : Table) (k : ℕ) (ls : List Launch) → Fits g table k ls → KeepsCycleRules g table k ls
+rules_of g table k ls fit = record {
+  rows = fit.rows;
+  apart = fit.apart;
+  operands = fit.operands;
+  in_time = fit.in_time;
+  targets = fit.targets;
+}
 
-module _ (g : LaunchGraph) (table : Table) (k : ℕ) (is_table : IsTable table) (ls : List Launch) (fit : Fits g table k ls) where
-  use_latency : (l : Launch) (i : InstrKind) (u : Use) → instr_at g l.row ≡ Some i → use_of table i ≡ Some u → unwrap_or (latency_of table (unwrap_or (instr_at g l.row) Beq)) 0 ≡ u.latency
-  use_latency l i u ei eu = ap (λ o. unwrap_or (option_map (λ (u : Use). u.latency) (use_of table (unwrap_or o Beq))) 0) ei ∙ ap (λ o. unwrap_or (option_map (λ (u : Use). u.latency) o) 0) eu
+module _ (g : LaunchGraph) (table : Table) (k : ℕ) (ls : List Launch) (fit : Fits g table k ls) (below : All (λ l. l.cycle < k) ls) (keep : Launch → Bool)
+    (order : (l : Launch) → Contains ls l → IsTrue (launches g is_store l) ⊎ IsTrue (launches g is_branch l) → IsTrue (keep l))
+    (rules : KeepsCycleRules g table k (filter keep ls)) where
+  abbrev kept : List Launch
+  kept = filter keep ls
 
-  -- an operand that is needed has come, where the launches before can start
-  come_from : (l : Launch) → ((m : Launch) → Contains ls m → m.cycle < l.cycle → CanStart g table m.row m.cycle) → (o : Operand) → Needs g l.row o → IsFree g o ⊎ IsReadable g table ls o.class l.cycle (cluster_of table l.slot) → HasCome g table o.class l.cycle
-  come_from l before o need (inl f) = absurd (need.free f)
-  come_from l before o need (inr (inl i)) = absurd (need.input i)
-  come_from l before o need (inr (inr (j, m, lt, e, (gave, ready)))) =
-      let here : Contains ls m = (j, lt, e) in
-      let gives = test-some (instr_at g m.row) gives_word gave.0 in
-      let can = some-and (instr_at g m.row) (λ i. MayUse table i m.slot) (All-contains (CanLaunch g table) ls m fit.rows here) in
-      let u = some-and (use_of table can.0) (λ u. Contains u.slots m.slot) can.2 in
-      let latency = use_latency m can.0 u.0 can.1 u.1 in
-      let known : IsUse table u.0 = All-contains (IsUse table) table.uses u.0 is_table.uses (find-out (λ (u : Use). kind_number u.instr == kind_number can.0) table.uses u.0 u.1).0 in
-      let least : 1 ≤ (u.0).latency = known.latency.0 in
-      let same : Some gives.0 ≡ Some can.0 = sym gives.1 ∙ can.1 in
-      let word : gives_word can.0 ≡ true = (let q : gives.0 ≡ can.0 = cc in ap gives_word (sym q) ∙ gives.2) in
-      let until : m.cycle + (u.0).latency ≤ l.cycle = omega arith in
-      subst (λ c. HasCome g table c l.cycle) gave.1 (come m.row m.cycle l.cycle can.0 u.0 can.1 word u.1 until (before m here (omega arith)))
+  into : (l : Launch) → Contains ls l → IsTrue (launches g is_store l) ⊎ IsTrue (launches g is_branch l) → Contains kept l
+  into l h w = filter-in keep ls l h (order l h w)
 
-  starts_below : (n : ℕ) (l : Launch) → Contains ls l → l.cycle < n → CanStart g table l.row l.cycle
-  starts_below zero l h lt = absurd (omega arith)
-  starts_below (suc n) l h lt = λ o need.
-      come_from l (λ m c b. starts_below n m c (omega arith)) o need (All-contains (λ o. IsFree g o ⊎ IsReadable g table ls o.class l.cycle (cluster_of table l.slot)) (operands_at g l.row) o (All-contains (CanRead g table ls) ls l fit.operands h) need.operand)
+  back : (l : Launch) → Contains kept l → Contains ls l
+  back l h = (filter-out keep ls l h).0
 
-  pub can-start : (l : Launch) → Contains ls l → CanStart g table l.row l.cycle
-  can-start l h = starts_below (l.cycle + 1) l h (omega arith)
+  single_kept : AllPairs (λ l m. IsTrue (launches g is_store l) → IsTrue (launches g is_store m) → ¬ (l.cycle ≡ m.cycle)) kept
+  single_kept i j d lt len sa sb c =
+      let a = get_or kept i d in
+      let b = get_or kept j d in
+      let test = stores_at g a.cycle in
+      let two = two_at test kept i j d lt len (and_from (launches g is_store a) (a.cycle == a.cycle) sa (eq-eqb a.cycle a.cycle refl)) (and_from (launches g is_store b) (b.cycle == a.cycle) sb (eq-eqb b.cycle a.cycle (sym c))) in
+      let one = count-one test ls (λ i j d lt len q r.
+      let x = get_or ls i d in
+      let y = get_or ls j d in
+      let qs = and_parts (launches g is_store x) (x.cycle == a.cycle) q in
+      let rs = and_parts (launches g is_store y) (y.cycle == a.cycle) r in
+      fit.memory.single i j d lt len qs.0 rs.0 (eqb-true x.cycle a.cycle qs.1 ∙ sym (eqb-true y.cycle a.cycle rs.1))) in
+      let less = count_less keep test ls in
+      absurd (omega arith)
 
-  -- ---- without what is not kept
+  left_kept : (t c : ℕ) → IsLeft g ls t c → IsLeft g kept t c
+  left_kept t c (inl h) = inl (h.0, All-filter keep (λ m. IsTrue (launches g is_store m) → t ≤ m.cycle) ls h.1)
+  left_kept t c (inr (j, l, lt, e, (r, q))) =
+      let at = into l (j, lt, e) (inl r.store) in
+      inr (at.0, l, at.1, at.2, (record { store = r.store; early = r.early; latest = All-filter keep (λ m. IsTrue (launches g is_store m) → m.cycle < t → m.cycle ≤ l.cycle) ls r.latest }, q))
 
-  module _ (keep : Launch → Bool) (keeps : (l : Launch) → Contains (all_launches g table k) l → Decides (keep l) (HasVariable g table l)) where
-    member : (l : Launch) → Contains ls l → Contains (all_launches g table k) l
-    member l h = listed-in g table k is_table l (All-contains (CanLaunch g table) ls l fit.rows h) (All-contains (EndsBy g table k) ls l fit.in_time h)
+  left_from : (t c : ℕ) → ((l : Launch) → Contains kept l → l.cycle < t) → ((l : Launch) → Contains ls l → l.cycle < k) → IsLeft g ls k c → IsLeft g kept t c
+  left_from t c after all (inl h) =
+      inl (h.0, All-from_members (λ m. IsTrue (launches g is_store m) → t ≤ m.cycle) kept (λ m hm s. let b = back m hm in let a : k ≤ m.cycle = All-contains (λ m. IsTrue (launches g is_store m) → k ≤ m.cycle) ls m h.1 b s in let z = all m b in absurd (omega arith)))
+  left_from t c after all (inr (j, l, lt, e, (r, q))) =
+      let at = into l (j, lt, e) (inl r.store) in
+      inr (at.0, l, at.1, at.2, (record { store = r.store; early = after l at; latest = All-from_members (λ m. IsTrue (launches g is_store m) → m.cycle < t → m.cycle ≤ l.cycle) kept (λ m hm s b. let w = back m hm in All-contains (λ m. IsTrue (launches g is_store m) → m.cycle < k → m.cycle ≤ l.cycle) ls m r.latest w s (all m w)) }, q))
 
-    abbrev pub kept : List Launch
-    kept = filter keep ls
+  ends_early : (l : Launch) → Contains ls l → l.cycle < k
+  ends_early l h = All-contains (λ l. l.cycle < k) ls l below h
 
-    into : (l : Launch) → Contains ls l → IsTrue (launches g is_store l) ⊎ IsTrue (launches g is_branch l) ⊎ Wanted g (class_at g l.row) → Contains kept l
-    into l h w = filter-in keep ls l h ((keeps l (member l h)).1 (record { start = can-start l h; wanted = w }))
+  one_in : (o : Option Guard) (n m : ℕ) → (n ≡ 1 → m ≡ 1) → IfSome o (λ _. n ≡ 1) → IfSome o (λ _. m ≡ 1)
+  one_in None n m f h = tt
+  one_in (Some x) n m f h = f h
 
-    pub back : (l : Launch) → Contains kept l → Contains ls l × HasVariable g table l
-    back l h = (let f = filter-out keep ls l h in (f.0, (keeps l (member l f.0)).0 f.1))
+  count_some : (xs : List Launch) (test : Launch → Bool) → 1 ≤ count_by test xs → list_any test xs ≡ true
+  count_some xs test h =
+      elim (cases_Bool (list_any test xs)) [
+        | inl t ↦ t
+        | inr f ↦ (let z = count-none test xs (λ i d lt t. false≢true (sym f ∙ some_in test xs (get_or xs i d) (Contains-get_or xs i d lt) t)) in absurd (omega arith))
+      ]
 
-    apart_kept : AllPairs (λ l m. ¬ Collide l m) kept
-    apart_kept i j d lt len c =
-        let a = get_or kept i d in
-        let b = get_or kept j d in
-        let test = is_at a.slot a.cycle in
-        let two = two_at test kept i j d lt len (and_from (a.slot == a.slot) (a.cycle == a.cycle) (eq-eqb a.slot a.slot refl) (eq-eqb a.cycle a.cycle refl)) (and_from (b.slot == a.slot) (b.cycle == a.cycle) (eq-eqb b.slot a.slot (sym c.1)) (eq-eqb b.cycle a.cycle (sym c.0))) in
-        let one = count-one test ls (λ i j d lt len q r.
-        let x = get_or ls i d in
-        let y = get_or ls j d in
-        let qs = and_parts (x.slot == a.slot) (x.cycle == a.cycle) q in
-        let rs = and_parts (y.slot == a.slot) (y.cycle == a.cycle) r in
-        fit.apart i j d lt len (eqb-true x.cycle a.cycle qs.1 ∙ sym (eqb-true y.cycle a.cycle rs.1), eqb-true x.slot a.slot qs.0 ∙ sym (eqb-true y.slot a.slot rs.0))) in
-        let less = count_less keep test ls in
-        absurd (omega arith)
+  branch_kept : count_by (launches g is_branch) ls ≡ 1 → count_by (launches g is_branch) kept ≡ 1
+  branch_kept one =
+      let most = count_less keep (launches g is_branch) ls in
+      let b = some_of (launches g is_branch) ls (count_some ls (launches g is_branch) (omega arith)) in
+      let at = into b.0 b.1 (inr b.2) in
+      let is : get_or kept at.0 b.0 ≡ b.0 = at.2 in
+      let least = one_at (launches g is_branch) kept at.0 b.0 at.1 (ap (launches g is_branch) is ∙ b.2) in
+      omega arith
 
-    single_kept : AllPairs (λ l m. IsTrue (launches g is_store l) → IsTrue (launches g is_store m) → ¬ (l.cycle ≡ m.cycle)) kept
-    single_kept i j d lt len sa sb c =
-        let a = get_or kept i d in
-        let b = get_or kept j d in
-        let test = stores_at g a.cycle in
-        let two = two_at test kept i j d lt len (and_from (launches g is_store a) (a.cycle == a.cycle) sa (eq-eqb a.cycle a.cycle refl)) (and_from (launches g is_store b) (b.cycle == a.cycle) sb (eq-eqb b.cycle a.cycle (sym c))) in
-        let one = count-one test ls (λ i j d lt len q r.
-        let x = get_or ls i d in
-        let y = get_or ls j d in
-        let qs = and_parts (launches g is_store x) (x.cycle == a.cycle) q in
-        let rs = and_parts (launches g is_store y) (y.cycle == a.cycle) r in
-        fit.memory.single i j d lt len qs.0 rs.0 (eqb-true x.cycle a.cycle qs.1 ∙ sym (eqb-true y.cycle a.cycle rs.1))) in
-        let less = count_less keep test ls in
-        absurd (omega arith)
-
-    three_kinds : (i : InstrKind) → (gives_word i ≡ true) ⊎ (is_store i ≡ true) ⊎ (is_branch i ≡ true)
-    three_kinds StqU = inr (inl refl)
-    three_kinds Beq = inr (inr refl)
-    three_kinds i = inl refl
-
-    want_by : (l : Launch) → Contains ls l → (o : Operand) → Needs g l.row o → IsTrue (launches g is_store l) ⊎ IsTrue (launches g is_branch l) ⊎ Wanted g (class_at g l.row) → Wanted g o.class
-    want_by l h o need (inl s) = (let r = store-row g l s in store l.row r.0 o r.1 r.2 need)
-    want_by l h o need (inr (inl b)) = (let i = test-some (instr_at g l.row) is_branch b in guard l.row o i.0 i.1 i.2 need)
-    want_by l h o need (inr (inr w)) =
-        let can = some-and (instr_at g l.row) (λ i. MayUse table i l.slot) (All-contains (CanLaunch g table) ls l fit.rows h) in
-        elim (three_kinds can.0) [
-          | inl t ↦ operand l.row o can.0 can.1 t w need
-          | inr (inl t) ↦ (let s : launches g is_store l ≡ true = ap (λ o. option_map_or is_store o false) can.1 ∙ t in let r = store-row g l s in store l.row r.0 o r.1 r.2 need)
-          | inr (inr t) ↦ guard l.row o can.0 can.1 t need
-        ]
-
-    -- what a kept launch needs is wanted
-    pub wants_one : (l : Launch) → Contains ls l → HasVariable g table l → (o : Operand) → Needs g l.row o → Wanted g o.class
-    wants_one l h ok o need = want_by l h o need ok.wanted
-
-    left_kept : (t c : ℕ) → IsLeft g ls t c → IsLeft g kept t c
-    left_kept t c (inl h) = inl (h.0, All-filter keep (λ m. IsTrue (launches g is_store m) → t ≤ m.cycle) ls h.1)
-    left_kept t c (inr (j, l, lt, e, (r, q))) =
-        let at = into l (j, lt, e) (inl r.store) in
-        inr (at.0, l, at.1, at.2, (record { store = r.store; early = r.early; latest = All-filter keep (λ m. IsTrue (launches g is_store m) → m.cycle < t → m.cycle ≤ l.cycle) ls r.latest }, q))
-
-    read_kept : (l : Launch) → Contains ls l → HasVariable g table l → (o : Operand) → Contains (operands_at g l.row) o → IsFree g o ⊎ IsReadable g table ls o.class l.cycle (cluster_of table l.slot) → IsFree g o ⊎ IsReadable g table kept o.class l.cycle (cluster_of table l.slot)
-    read_kept l h ok o ho (inl f) = inl f
-    read_kept l h ok o ho (inr (inl i)) = inr (inl i)
-    read_kept l h ok o ho (inr (inr (j, m, lt, e, (gave, ready)))) =
-        elim (cases_Bool (is_free g o)) [
-          | inl f ↦ inl (free-is g o f)
-          | inr nf ↦ elim (cases_Bool (is_input g o.class)) [
-            | inl i ↦ inr (inl (input-is g o.class i))
-            | inr ni ↦
-                (let need : Needs g l.row o = record { operand = ho; free = λ f. false≢true (sym nf ∙ free-from g o f); input = λ i. false≢true (sym ni ∙ input-from g o.class i) } in
-                let w : Wanted g (class_at g m.row) = subst (Wanted g) (sym gave.1) (wants_one l h ok o need) in
-                inr (inr (any_from (λ m. Gives g o.class m × (ready_in g table (cluster_of table l.slot) m ≤ l.cycle)) kept m (into m (j, lt, e) (inr (inr w))) (gave, ready))))
-          ]
-        ]
-
-    reads_kept : All (CanRead g table kept) kept
-    reads_kept =
-        All-from_members (CanRead g table kept) kept (λ l h.
-        let b = back l h in
-        All-from_members (λ o. IsFree g o ⊎ IsReadable g table kept o.class l.cycle (cluster_of table l.slot)) (operands_at g l.row) (λ o ho.
-        read_kept l b.0 b.1 o ho (All-contains (λ o. IsFree g o ⊎ IsReadable g table ls o.class l.cycle (cluster_of table l.slot)) (operands_at g l.row) o (All-contains (CanRead g table ls) ls l fit.operands b.0) ho)))
-
-    reach_kept : (s : SetClass) → Contains g.sets s → IsReached g ls s → IsReached g kept s
-    reach_kept s h (inl m) = inl m
-    reach_kept s h (inr (inl i)) = inr (inl i)
-    reach_kept s h (inr (inr (inl z))) = inr (inr (inl z))
-    reach_kept s h (inr (inr (inr (j, l, lt, e, gave)))) =
-        elim (cases_Bool (is_memory_name s.name)) [
-          | inl m ↦ inl m
-          | inr nm ↦ elim (cases_Bool (is_input g s.class)) [
-            | inl i ↦ inr (inl (input-is g s.class i))
-            | inr ni ↦
-                (let w : Wanted g (class_at g l.row) = subst (Wanted g) (sym gave.1) (target s h (λ m. false≢true (sym nm ∙ m)) (λ i. false≢true (sym ni ∙ input-from g s.class i))) in
-                inr (inr (inr (any_from (Gives g s.class) kept l (into l (j, lt, e) (inr (inr w))) gave))))
-          ]
-        ]
-
-    left_from : (t c : ℕ) → ((l : Launch) → Contains kept l → l.cycle < t) → ((l : Launch) → Contains ls l → l.cycle < k) → IsLeft g ls k c → IsLeft g kept t c
-    left_from t c after all (inl h) =
-        inl (h.0, All-from_members (λ m. IsTrue (launches g is_store m) → t ≤ m.cycle) kept (λ m hm s. let b = back m hm in let a : k ≤ m.cycle = All-contains (λ m. IsTrue (launches g is_store m) → k ≤ m.cycle) ls m h.1 b.0 s in let z = all m b.0 in absurd (omega arith)))
-    left_from t c after all (inr (j, l, lt, e, (r, q))) =
-        let at = into l (j, lt, e) (inl r.store) in
-        inr (at.0, l, at.1, at.2, (record { store = r.store; early = after l at; latest = All-from_members (λ m. IsTrue (launches g is_store m) → m.cycle < t → m.cycle ≤ l.cycle) kept (λ m hm s b. let w = back m hm in All-contains (λ m. IsTrue (launches g is_store m) → m.cycle < k → m.cycle ≤ l.cycle) ls m r.latest w.0 s (all m w.0)) }, q))
-
-    ends_early : (l : Launch) → Contains ls l → l.cycle < k
-    ends_early l h =
-        let can = some-and (instr_at g l.row) (λ i. MayUse table i l.slot) (All-contains (CanLaunch g table) ls l fit.rows h) in
-        let u = some-and (use_of table can.0) (λ u. Contains u.slots l.slot) can.2 in
-        let latency = use_latency l can.0 u.0 can.1 u.1 in
-        let known : IsUse table u.0 = All-contains (IsUse table) table.uses u.0 is_table.uses (find-out (λ (u : Use). kind_number u.instr == kind_number can.0) table.uses u.0 u.1).0 in
-        let least : 1 ≤ (u.0).latency = known.latency.0 in
-        let ends : EndsBy g table k l = All-contains (EndsBy g table k) ls l fit.in_time h in
-        omega arith
-
-    one_in : (o : Option Guard) (n m : ℕ) → (n ≡ 1 → m ≡ 1) → IfSome o (λ _. n ≡ 1) → IfSome o (λ _. m ≡ 1)
-    one_in None n m f h = tt
-    one_in (Some x) n m f h = f h
-
-    count_some : (xs : List Launch) (test : Launch → Bool) → 1 ≤ count_by test xs → list_any test xs ≡ true
-    count_some xs test h =
-        elim (cases_Bool (list_any test xs)) [
-          | inl t ↦ t
-          | inr f ↦ (let z = count-none test xs (λ i d lt t. false≢true (sym f ∙ some_in test xs (get_or xs i d) (Contains-get_or xs i d lt) t)) in absurd (omega arith))
-        ]
-
-    branch_kept : count_by (launches g is_branch) ls ≡ 1 → count_by (launches g is_branch) kept ≡ 1
-    branch_kept one =
-        let most = count_less keep (launches g is_branch) ls in
-        let b = some_of (launches g is_branch) ls (count_some ls (launches g is_branch) (omega arith)) in
-        let at = into b.0 b.1 (inr (inl b.2)) in
-        let is : get_or kept at.0 b.0 ≡ b.0 = at.2 in
-        let least = one_at (launches g is_branch) kept at.0 b.0 at.1 (ap (launches g is_branch) is ∙ b.2) in
-        omega arith
-
-    pub fits_kept : Fits g table k kept
-    fits_kept = record {
-      rows = All-filter keep (CanLaunch g table) ls fit.rows;
-      apart = apart_kept;
-      operands = reads_kept;
-      in_time = All-filter keep (EndsBy g table k) ls fit.in_time;
-      targets = All-from_members (IsReached g kept) g.sets (λ s h. reach_kept s h (All-contains (IsReached g ls) g.sets s fit.targets h));
-      memory = record {
-        each = All-filter keep (λ l. UsesMemory g l → IsLeft g kept l.cycle (memory_class_at g l.row)) ls (All-weaker (λ l. UsesMemory g l → IsLeft g ls l.cycle (memory_class_at g l.row)) (λ l. UsesMemory g l → IsLeft g kept l.cycle (memory_class_at g l.row)) (λ l h u. left_kept l.cycle (memory_class_at g l.row) (h u)) ls fit.memory.each);
-        single = single_kept;
-        last = λ t after. left_from t (memory_target g) (λ l h. All-contains (λ l. l.cycle < t) kept l after h) ends_early (fit.memory.last k (All-from_members (λ l. l.cycle < k) ls ends_early));
-      };
-      one_branch = one_in g.guard (count_by (launches g is_branch) ls) (count_by (launches g is_branch) kept) branch_kept fit.one_branch;
-      after_branch = All-filter keep (Waits g kept) ls (All-weaker (Waits g ls) (Waits g kept) (λ l h w. All-filter keep (λ b. IsTrue (launches g is_branch b) → b.cycle ≤ l.cycle) ls (h w)) ls fit.after_branch);
-      pool = (let less = count_less keep (launches g gives_word) ls in let few = fit.pool in omega arith);
-    }
-
--- the narrow lists serve what is kept
-pub narrow-serves : (g : LaunchGraph) (table : Table) (k : ℕ) (is_table : IsTable table) (ls : List Launch) (fit : Fits g table k ls) (e : Listed) (n : IsNarrow g table k e) → Serves g table k e (filter n.keep ls)
-narrow-serves g table k is_table ls fit e n =
-    let member : (l : Launch) → Contains ls l → Contains (all_launches g table k) l = λ l h. listed-in g table k is_table l (All-contains (CanLaunch g table) ls l fit.rows h) (All-contains (EndsBy g table k) ls l fit.in_time h) in
-    record {
-      listed = subst (λ (ls : List Launch). All (IsListed g table k) ls) (sym n.launches_are) (All-filter n.keep (IsListed g table k) (all_launches g table k) (listed-all g table k is_table));
-      once = subst (λ (ls : List Launch). NoTwice ls) (sym n.launches_are) (filter-once n.keep (all_launches g table k) (launches-once g table k));
-      members = λ l h.
-          let f = filter-out n.keep ls l h in
-          subst (λ (ls : List Launch). Contains ls l) (sym n.launches_are) (filter-in n.keep (all_launches g table k) l (member l f.0) f.1);
-      seen = λ l m o hl ho t hm gave.
-          let b = back g table k is_table ls fit n.keep n.keeps l hl in
-          let ok = listed-one g table k is_table l (member l b.0) in
-          let p = and_parts (not (is_free g o)) (not (is_input g o.class)) t in
-          let need : Needs g l.row o = record { operand = ho; free = λ f. false≢true (sym (not-true (is_free g o) p.0) ∙ free-from g o f); input = λ i. false≢true (sym (not-true (is_input g o.class) p.1) ∙ input-from g o.class i) } in
-          let made = made_class g o m t gave in
-          let wanted : Wanted g o.class = wants_one g table k is_table ls fit n.keep n.keeps l b.0 b.1 o need in
-          subst (λ ds. Contains ds (record { class = o.class; cluster = cluster_of table l.slot; cycle = l.cycle })) (sym n.seen_are)
-          (seen-in g table k (filter n.want (made_classes g)) o.class (cluster_of table l.slot) l.cycle (filter-in n.want (made_classes g) o.class made ((n.wants o.class made).1 wanted)) (cluster-in g table k is_table l.slot ok.slot) ok.early);
-    }
+  pub fits_kept : Fits g table k kept
+  fits_kept = record {
+    rows = rules.rows;
+    apart = rules.apart;
+    operands = rules.operands;
+    in_time = rules.in_time;
+    targets = rules.targets;
+    memory = record {
+      each = All-filter keep (λ l. UsesMemory g l → IsLeft g kept l.cycle (memory_class_at g l.row)) ls (All-weaker (λ l. UsesMemory g l → IsLeft g ls l.cycle (memory_class_at g l.row)) (λ l. UsesMemory g l → IsLeft g kept l.cycle (memory_class_at g l.row)) (λ l h u. left_kept l.cycle (memory_class_at g l.row) (h u)) ls fit.memory.each);
+      single = single_kept;
+      last = λ t after. left_from t (memory_target g) (λ l h. All-contains (λ l. l.cycle < t) kept l after h) ends_early (fit.memory.last k (All-from_members (λ l. l.cycle < k) ls ends_early));
+    };
+    one_branch = one_in g.guard (count_by (launches g is_branch) ls) (count_by (launches g is_branch) kept) branch_kept fit.one_branch;
+    after_branch = All-filter keep (Waits g kept) ls (All-weaker (Waits g ls) (Waits g kept) (λ l h w. All-filter keep (λ b. IsTrue (launches g is_branch b) → b.cycle ≤ l.cycle) ls (h w)) ls fit.after_branch);
+    pool = (let less = count_less keep (launches g gives_word) ls in let few = fit.pool in omega arith);
+  }

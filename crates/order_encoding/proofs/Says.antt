@@ -1,33 +1,25 @@
--- What the families say of the launches and the other things whose variables are true.
-use Rattle.std.proofs.Common.{◌≡◌, ℕ, ◌+◌, ◌≤◌, Bool, true, false, not, List, [], ◌∷◌, ◌++◌, map, get_or, sym, ap, ◌∙◌, arith}
+-- What the families of memory, guards and registers say of the launches and the other things whose variables are true.
+use Rattle.std.proofs.Common.{◌≡◌, ℕ, ◌+◌, Bool, true, false, not, List, [], ◌∷◌, ◌++◌, get_or, sym, ap, ◌∙◌}
 use Rattle.std.specs.Prelude.{◌||◌, ◌&&◌, ◌==◌, is_some}
-use Rattle.std.specs.List.{All, filter, list_any, count_by, range_with_len}
-use Rattle.std.proofs.lemmas.List.Elements.{All-nil, All-cons, All-head, All-tail, All-weaker}
+use Rattle.std.specs.List.{All, list_any, range_with_len}
+use Rattle.std.proofs.lemmas.List.Elements.{All-weaker}
 use Rattle.std.proofs.lemmas.List.Folds.{list_any-append}
 use Rattle.cnf_core.specs.declared.literal.Lit.{Lit}
 use Rattle.cnf_core.specs.Formula.{lit_true, clause_true, Satisfies}
-use Rattle.cnf_core.specs.Counter.{count_true}
-use Rattle.machine_table.specs.Tables.{cluster_of}
 use Rattle.graph_meaning.specs.Graphs.{memory_target}
-use Rattle.schedule_meaning.specs.Launches.{launches, gives_word, is_store, is_branch, class_at, memory_class_at, operands_at, gives}
+use Rattle.schedule_meaning.specs.Launches.{launches, gives_word, is_store, is_branch, class_at, memory_class_at}
 use Rattle.machine_table.specs.declared.tables.Table.{Table}
 use Rattle.graph_meaning.specs.declared.graphs.LaunchGraph.{LaunchGraph}
 use Rattle.schedule_meaning.specs.declared.schedules.Launch.{Launch}
 use Rattle.cycle_encoding.specs.Shapes.{vars_of, shown, implied, when}
-use Rattle.cycle_encoding.specs.declared.seen.Seen.{Seen}
 use Rattle.order_encoding.specs.OrderVariables.{Held, Taken}
-use Rattle.cycle_encoding.specs.Families.{is_made, is_made_target, is_seen, makes, target_clauses, operand_clauses, seen_clauses}
 use Rattle.order_encoding.specs.OrderFamilies.{is_held_at, stores_at, uses_memory, branches_by, waits, is_taken_at, entry_clauses, memory_clauses, kept_clauses, last_clauses, branch_clauses, wait_clauses, come_clauses, register_clauses}
-use Rattle.cycle_encoding.proofs.Shown.{both, left, right, first, rest, one, when-out, when-in, any_of, count_of, implied-out, implied-in, map-out, map-in, flat-out, flat-in}
+use Rattle.cycle_encoding.proofs.Shown.{both, left, right, first, rest, one, when-out, when-in, any_of, implied-out, implied-in, flat-out, flat-in}
+use Rattle.cycle_encoding.proofs.ShownTests.{some-out, some-in}
 
 -- ---- what each plain family says
 
 module _ (g : LaunchGraph) (table : Table) (k : ℕ) where
-  pub record SaysCycles (S : List Launch) (D : List Seen) : Type 0 where
-    pub targets : All (λ s. list_any (gives g s.class) S ≡ true) (filter (is_made_target g) g.sets)
-    pub operands : All (λ l. All (λ o. list_any (is_seen o.class (cluster_of table l.slot) l.cycle) D ≡ true) (filter (is_made g) (operands_at g l.row))) S
-    pub seen : All (λ d. list_any (makes g table d) S ≡ true) D
-
   pub record SaysMemory (S : List Launch) (M : List Held) (W : List ℕ) : Type 0 where
     pub entry : list_any (is_held_at g.entry 0) M ≡ true
     pub others : All (λ m. ((m.cycle == 0) && not (m.class == g.entry)) ≡ true → ⊥) M
@@ -48,53 +40,7 @@ module _ (g : LaunchGraph) (table : Table) (k : ℕ) where
 empty_clause : (v : ℕ → Bool) → Satisfies v ([] ∷ []) → ⊥
 empty_clause v h = (let f : false ≡ true = first v [] [] h in cc)
 
--- one list of literals of things
-module _ {X : Type 0} (v : ℕ → Bool) (test : X → Bool) (ps : List (ℕ × X)) where
-  some-out : clause_true v (vars_of test ps) ≡ true → list_any test (shown v ps) ≡ true
-  some-out h = sym (any_of v test ps) ∙ h
-
-  some-in : list_any test (shown v ps) ≡ true → clause_true v (vars_of test ps) ≡ true
-  some-in h = any_of v test ps ∙ h
-
-  few-out : (p : ℕ) → count_true v (vars_of test ps) ≤ p → count_by test (shown v ps) ≤ p
-  few-out p h = (let e = count_of v test ps in omega arith)
-
-  pub few-in : (p : ℕ) → count_by test (shown v ps) ≤ p → count_true v (vars_of test ps) ≤ p
-  few-in p h = (let e = count_of v test ps in omega arith)
-
 module _ (g : LaunchGraph) (table : Table) (k : ℕ) (v : ℕ → Bool) (xs : List (ℕ × Launch)) where
-  pub targets-out : Satisfies v (target_clauses g xs) → All (λ s. list_any (gives g s.class) (shown v xs) ≡ true) (filter (is_made_target g) g.sets)
-  targets-out h = All-weaker (λ s. clause_true v (vars_of (gives g s.class) xs) ≡ true) (λ s. list_any (gives g s.class) (shown v xs) ≡ true) (λ s p. some-out v (gives g s.class) xs p) (filter (is_made_target g) g.sets) (map-out v (λ s. vars_of (gives g s.class) xs) (filter (is_made_target g) g.sets) h)
-
-  pub targets-in : All (λ s. list_any (gives g s.class) (shown v xs) ≡ true) (filter (is_made_target g) g.sets) → Satisfies v (target_clauses g xs)
-  targets-in h = map-in v (λ s. vars_of (gives g s.class) xs) (filter (is_made_target g) g.sets) (All-weaker (λ s. list_any (gives g s.class) (shown v xs) ≡ true) (λ s. clause_true v (vars_of (gives g s.class) xs) ≡ true) (λ s p. some-in v (gives g s.class) xs p) (filter (is_made_target g) g.sets) h)
-
-  module _ (ds : List (ℕ × Seen)) where
-    abbrev seen_by : Launch → List (List Lit)
-    seen_by l = map (λ o. vars_of (is_seen o.class (cluster_of table l.slot) l.cycle) ds) (filter (is_made g) (operands_at g l.row))
-
-    abbrev Sees : Launch → Type 0
-    Sees l = All (λ o. list_any (is_seen o.class (cluster_of table l.slot) l.cycle) (shown v ds) ≡ true) (filter (is_made g) (operands_at g l.row))
-
-    pub operands-out : Satisfies v (operand_clauses g table xs ds) → All Sees (shown v xs)
-    operands-out h =
-        All-weaker (λ l. Satisfies v (seen_by l)) Sees
-        (λ l p. All-weaker (λ o. clause_true v (vars_of (is_seen o.class (cluster_of table l.slot) l.cycle) ds) ≡ true) (λ o. list_any (is_seen o.class (cluster_of table l.slot) l.cycle) (shown v ds) ≡ true) (λ o q. some-out v (is_seen o.class (cluster_of table l.slot) l.cycle) ds q) (filter (is_made g) (operands_at g l.row)) (map-out v (λ o. vars_of (is_seen o.class (cluster_of table l.slot) l.cycle) ds) (filter (is_made g) (operands_at g l.row)) p))
-        (shown v xs) (implied-out v seen_by xs h)
-
-    pub operands-in : All Sees (shown v xs) → Satisfies v (operand_clauses g table xs ds)
-    operands-in h =
-        implied-in v seen_by xs
-        (All-weaker Sees (λ l. Satisfies v (seen_by l))
-        (λ l p. map-in v (λ o. vars_of (is_seen o.class (cluster_of table l.slot) l.cycle) ds) (filter (is_made g) (operands_at g l.row)) (All-weaker (λ o. list_any (is_seen o.class (cluster_of table l.slot) l.cycle) (shown v ds) ≡ true) (λ o. clause_true v (vars_of (is_seen o.class (cluster_of table l.slot) l.cycle) ds) ≡ true) (λ o q. some-in v (is_seen o.class (cluster_of table l.slot) l.cycle) ds q) (filter (is_made g) (operands_at g l.row)) p))
-        (shown v xs) h)
-
-    pub seen-out : Satisfies v (seen_clauses g table xs ds) → All (λ d. list_any (makes g table d) (shown v xs) ≡ true) (shown v ds)
-    seen-out h = All-weaker (λ d. Satisfies v (vars_of (makes g table d) xs ∷ [])) (λ d. list_any (makes g table d) (shown v xs) ≡ true) (λ d p. some-out v (makes g table d) xs (first v (vars_of (makes g table d) xs) [] p)) (shown v ds) (implied-out v (λ d. vars_of (makes g table d) xs ∷ []) ds h)
-
-    pub seen-in : All (λ d. list_any (makes g table d) (shown v xs) ≡ true) (shown v ds) → Satisfies v (seen_clauses g table xs ds)
-    seen-in h = implied-in v (λ d. vars_of (makes g table d) xs ∷ []) ds (All-weaker (λ d. list_any (makes g table d) (shown v xs) ≡ true) (λ d. Satisfies v (vars_of (makes g table d) xs ∷ [])) (λ d p. one v (vars_of (makes g table d) xs) (some-in v (makes g table d) xs p)) (shown v ds) h)
-
   -- memory
   module _ (ms : List (ℕ × Held)) (ws : List (ℕ × ℕ)) where
     abbrev wrong : Held → Bool
@@ -230,10 +176,3 @@ module _ (g : LaunchGraph) (table : Table) (k : ℕ) (v : ℕ → Bool) (xs : Li
 
     pub registers-in : SaysRegisters g table k (shown v xs) (shown v us) → Satisfies v (register_clauses g xs us)
     registers-in h = implied-in v taken xs (All-weaker (λ l. launches g gives_word l ≡ true → list_any (is_taken_at l.slot l.cycle) (shown v us) ≡ true) (λ l. Satisfies v (taken l)) (λ l p. when-in v (launches g gives_word l) (vars_of (is_taken_at l.slot l.cycle) us ∷ []) (λ w. one v (vars_of (is_taken_at l.slot l.cycle) us) (some-in v (is_taken_at l.slot l.cycle) us (p w)))) (shown v xs) h)
-
--- ---- what the counters count
-
-module _ {X A : Type 0} (P : A → Type 0) (f : X → A) where
-  pub All-unmap : (xs : List X) → All P (map f xs) → All (λ x. P (f x)) xs
-  All-unmap [] h = All-nil (λ x. P (f x))
-  All-unmap (x ∷ xs) h = All-cons (λ x. P (f x)) x xs (All-head P (f x) (map f xs) h) (All-unmap xs (All-tail P (f x) (map f xs) h))

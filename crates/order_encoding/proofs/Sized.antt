@@ -16,15 +16,16 @@ use Rattle.order_encoding.specs.OrderVariables.{memory_classes, all_held, all_ta
 use Rattle.order_encoding.specs.OrderFamilies.{stores_at, uses_memory, waits, branches_by, is_held_at, is_taken_at, held_groups, store_groups, entry_clauses, memory_clauses, kept_clauses, last_clauses, branch_groups, register_clauses, register_groups}
 use Rattle.cycle_encoding.specs.Families.{any}
 use Rattle.cycle_encoding.specs.CycleFormula.{Listed, Scope, first_cycle_in, listed_in, launch_vars, after_cycles, cycle_part}
-use Rattle.order_encoding.specs.WholeFormula.{held_vars, before_stores, store_vars, before_held, memory_groups, after_memory, come_cycles, come_vars, before_branch, after_guard, taken_vars, before_pool, memory_part, guard_part, pool_part, memory_formula, guard_formula, whole_formula}
+use Rattle.order_encoding.specs.WholeFormula.{memory_formula, guard_formula, whole_formula}
 use Rattle.cycle_encoding.specs.Counts.{one_if, row_is, sum_launches, cycle_vars, cycle_size}
-use Rattle.order_encoding.specs.OrderCounts.{store_count, held_count, memory_vars, memory_size, branch_count, guard_vars, guard_size, taken_count, pool_vars, pool_size}
+use Rattle.order_encoding.specs.OrderCounts.{store_count, held_count, memory_vars, memory_size, branch_count, guard_vars, guard_size, taken_places, pool_vars, pool_size}
+use Rattle.order_encoding.proofs.WholeParts.{held_vars, before_stores, store_vars, before_held, memory_groups, after_memory, come_cycles, come_vars, before_branch, after_guard, taken_vars, before_pool, memory_part, guard_part, pool_part}
 use Rattle.cycle_encoding.proofs.Counting.{sum-same, count-any}
 use Rattle.cycle_encoding.proofs.Members.{range-out}
 use Rattle.cycle_encoding.proofs.Rows.{counters-size}
 use Rattle.cycle_encoding.proofs.Totals.{sum-flat, sum-map, sum-const, size-ones, size-flat, size-vars, size-implied, count-first}
 use Rattle.order_encoding.proofs.Stored.{store-count}
-use Rattle.cycle_encoding.proofs.Launched.{same-in, size-map, sum-rows, cycle-vars, cycle-size}
+use Rattle.cycle_encoding.proofs.Launched.{same-in, size-map, sum-rows}
 
 size-when : {A : Type 0} (b : Bool) (xs : List A) → length (when b xs) ≡ one_if b * length xs
 size-when true xs = omega arith
@@ -84,11 +85,12 @@ module _ (g : LaunchGraph) (table : Table) (k : ℕ) (sc : Scope) where
       ∙ ap (λ n. n + sum_by (λ (c : List Lit). h (length c)) (store_groups g k xs)) a
       ∙ ap (λ n. (k + 1) * h (held_count g table k sc) + n) b
 
-  pub memory-vars : after_memory g table k e ≡ cycle_vars g table k sc + memory_vars g table k sc
-  memory-vars =
+  -- the counts of the formula of cycles, slots and values are given to these by its law
+  pub memory-vars : after_cycles g table k e ≡ cycle_vars g table k sc → after_memory g table k e ≡ cycle_vars g table k sc + memory_vars g table k sc
+  memory-vars cycles =
       let m = counters_vars 1 (memory_groups g table k e) in
       let h = length (all_held g k) in
-      ap (λ n. n + h + k + m) (cycle-vars g table k sc)
+      ap (λ n. n + h + k + m) cycles
       ∙ ap (λ n. cycle_vars g table k sc + n + k + m) held-size
       ∙ ap (λ n. cycle_vars g table k sc + held_count g table k sc * (k + 1) + k + n) (groups (at_most_vars 1))
       ∙ (let s : (a b c d : ℕ) → a + b + c + d ≡ a + (b + c + d) = λ a b c d. omega arith in s (cycle_vars g table k sc) (held_count g table k sc * (k + 1)) k ((k + 1) * at_most_vars 1 (held_count g table k sc) + sum_by (λ t. at_most_vars 1 (store_count g table k sc t)) (range_with_len 0 k)))
@@ -143,33 +145,33 @@ module _ (g : LaunchGraph) (table : Table) (k : ℕ) (sc : Scope) where
       ∙ ap (λ m. k + m) (sum_by-cons (λ (c : List Lit). at_most_vars 1 (length c)) lits [] ∙ (let z : at_most_vars 1 (length lits) + 0 ≡ at_most_vars 1 (length lits) = omega arith in z) ∙ ap (at_most_vars 1) e)
   guard_vars_in false n lits e = refl
 
-  pub guard-vars : after_guard g table k e ≡ cycle_vars g table k sc + memory_vars g table k sc + guard_vars g table k sc
-  guard-vars =
+  pub guard-vars : after_cycles g table k e ≡ cycle_vars g table k sc → after_guard g table k e ≡ cycle_vars g table k sc + memory_vars g table k sc + guard_vars g table k sc
+  guard-vars cycles =
       let b = length (come_cycles g table k e) in
       let c = counters_vars 1 (branch_groups g (launch_vars g table k e)) in
-      ap (λ n. n + b + c) memory-vars
+      ap (λ n. n + b + c) (memory-vars cycles)
       ∙ (let s : (x y z : ℕ) → x + y + z ≡ x + (y + z) = λ x y z. omega arith in s (cycle_vars g table k sc + memory_vars g table k sc) b c)
       ∙ ap (λ n. cycle_vars g table k sc + memory_vars g table k sc + n) (guard_vars_in (is_some g.guard) (branch_count g table k sc) (vars_of (launches g is_branch) (launch_vars g table k e)) branch-lits)
 
   -- ---- registers
 
-  taken-size : length (all_taken table k) ≡ taken_count g table k sc
+  taken-size : length (all_taken table k) ≡ taken_places g table k sc
   taken-size =
       size-flat (λ s. map {B = Taken} (λ t. record { slot = s; cycle = t }) (range_with_len 0 k)) (range_with_len 0 (length table.slots))
       ∙ sum-same (λ s. length (map {B = Taken} (λ t. record { slot = s; cycle = t }) (range_with_len 0 k))) (λ s. k) (range_with_len 0 (length table.slots)) (λ s. size-map {A = Taken} (λ t. record { slot = s; cycle = t }) (range_with_len 0 k) ∙ length-range_with_len 0 k)
       ∙ sum-const k (range_with_len 0 (length table.slots)) ∙ ap (λ n. n * k) (length-range_with_len 0 (length table.slots))
 
-  taken-lits : length (vars_of any (taken_vars g table k e)) ≡ taken_count g table k sc
+  taken-lits : length (vars_of any (taken_vars g table k e)) ≡ taken_places g table k sc
   taken-lits = size-vars any (after_guard g table k e) (all_taken table k) ∙ count-any (all_taken table k) ∙ taken-size
 
-  pub whole-vars : (whole_formula g table k e).vars ≡ cycle_vars g table k sc + memory_vars g table k sc + guard_vars g table k sc + pool_vars g table k sc
-  whole-vars =
+  pub whole-vars : after_cycles g table k e ≡ cycle_vars g table k sc → (whole_formula g table k e).vars ≡ cycle_vars g table k sc + memory_vars g table k sc + guard_vars g table k sc + pool_vars g table k sc
+  whole-vars cycles =
       let p = length g.pool in
       let c = counters_vars p (register_groups (taken_vars g table k e)) in
-      ap (λ n. n + length (all_taken table k) + c) guard-vars
+      ap (λ n. n + length (all_taken table k) + c) (guard-vars cycles)
       ∙ ap (λ n. cycle_vars g table k sc + memory_vars g table k sc + guard_vars g table k sc + n + c) taken-size
-      ∙ ap (λ n. cycle_vars g table k sc + memory_vars g table k sc + guard_vars g table k sc + taken_count g table k sc + n) (sum_by-cons (λ (c : List Lit). at_most_vars p (length c)) (vars_of any (taken_vars g table k e)) [] ∙ (let z : at_most_vars p (length (vars_of any (taken_vars g table k e))) + 0 ≡ at_most_vars p (length (vars_of any (taken_vars g table k e))) = omega arith in z) ∙ ap (at_most_vars p) taken-lits)
-      ∙ (let s : (x y z : ℕ) → x + y + z ≡ x + (y + z) = λ x y z. omega arith in s (cycle_vars g table k sc + memory_vars g table k sc + guard_vars g table k sc) (taken_count g table k sc) (at_most_vars p (taken_count g table k sc)))
+      ∙ ap (λ n. cycle_vars g table k sc + memory_vars g table k sc + guard_vars g table k sc + taken_places g table k sc + n) (sum_by-cons (λ (c : List Lit). at_most_vars p (length c)) (vars_of any (taken_vars g table k e)) [] ∙ (let z : at_most_vars p (length (vars_of any (taken_vars g table k e))) + 0 ≡ at_most_vars p (length (vars_of any (taken_vars g table k e))) = omega arith in z) ∙ ap (at_most_vars p) taken-lits)
+      ∙ (let s : (x y z : ℕ) → x + y + z ≡ x + (y + z) = λ x y z. omega arith in s (cycle_vars g table k sc + memory_vars g table k sc + guard_vars g table k sc) (taken_places g table k sc) (at_most_vars p (taken_places g table k sc)))
 
   module _ (size : (old p : ℕ) (lits : List Lit) → length (at_most_clauses old p lits) ≡ at_most_size p (length lits)) where
     memory-size : length (memory_part g table k e) ≡ memory_size g table k sc
@@ -224,26 +226,26 @@ module _ (g : LaunchGraph) (table : Table) (k : ℕ) (sc : Scope) where
         ∙ ap (λ n. n + length (counters (before_pool g table k e) p (register_groups us))) (size-implied f 0 (launches_from g table k (first_cycle_in sc)) ∙ sum-same (λ l. length (f l)) (λ (l : Launch). one_if (row_is g gives_word l.row)) (launches_from g table k (first_cycle_in sc)) (λ l. size-one (launches g gives_word l) (vars_of (is_taken_at l.slot l.cycle) us)) ∙ sum-rows g table k sc (λ row. one_if (row_is g gives_word row)))
         ∙ ap (λ n. sum_launches g table k sc (λ row. one_if (row_is g gives_word row)) + n) (counters-size p size (before_pool g table k e) (register_groups us) ∙ sum_by-cons (λ (c : List Lit). at_most_size p (length c)) (vars_of any us) [] ∙ (let z : at_most_size p (length (vars_of any us)) + 0 ≡ at_most_size p (length (vars_of any us)) = omega arith in z) ∙ ap (at_most_size p) taken-lits)
 
-    pub with-memory-size : length (memory_formula g table k e).clauses ≡ cycle_size g table k sc + memory_size g table k sc
-    with-memory-size =
+    pub with-memory-size : length (cycle_part g table k e) ≡ cycle_size g table k sc → length (memory_formula g table k e).clauses ≡ cycle_size g table k sc + memory_size g table k sc
+    with-memory-size cycles =
         let a = cycle_part g table k e in
         let b = memory_part g table k e in
-        length-append a b ∙ ap (λ n. n + length b) (cycle-size g table k sc size) ∙ ap (λ n. cycle_size g table k sc + n) memory-size
+        length-append a b ∙ ap (λ n. n + length b) cycles ∙ ap (λ n. cycle_size g table k sc + n) memory-size
 
-    pub with-guard-size : length (guard_formula g table k e).clauses ≡ cycle_size g table k sc + memory_size g table k sc + guard_size g table k sc
-    with-guard-size =
+    pub with-guard-size : length (cycle_part g table k e) ≡ cycle_size g table k sc → length (guard_formula g table k e).clauses ≡ cycle_size g table k sc + memory_size g table k sc + guard_size g table k sc
+    with-guard-size cycles =
         let c = guard_part g table k e in
-        length-append (cycle_part g table k e ++ memory_part g table k e) c ∙ ap (λ n. n + length c) with-memory-size ∙ ap (λ n. cycle_size g table k sc + memory_size g table k sc + n) guard-size
+        length-append (cycle_part g table k e ++ memory_part g table k e) c ∙ ap (λ n. n + length c) (with-memory-size cycles) ∙ ap (λ n. cycle_size g table k sc + memory_size g table k sc + n) guard-size
 
-    pub whole-size : length (whole_formula g table k e).clauses ≡ cycle_size g table k sc + memory_size g table k sc + guard_size g table k sc + pool_size g table k sc
-    whole-size =
+    pub whole-size : length (cycle_part g table k e) ≡ cycle_size g table k sc → length (whole_formula g table k e).clauses ≡ cycle_size g table k sc + memory_size g table k sc + guard_size g table k sc + pool_size g table k sc
+    whole-size cycles =
         let a = cycle_part g table k e in
         let b = memory_part g table k e in
         let c = guard_part g table k e in
         let d = pool_part g table k e in
         length-append (a ++ b ++ c) d
         ∙ ap (λ n. n + length d) (length-append (a ++ b) c ∙ ap (λ n. n + length c) (length-append a b))
-        ∙ ap (λ n. n + length b + length c + length d) (cycle-size g table k sc size)
+        ∙ ap (λ n. n + length b + length c + length d) cycles
         ∙ ap (λ n. cycle_size g table k sc + n + length c + length d) memory-size
         ∙ ap (λ n. cycle_size g table k sc + memory_size g table k sc + n + length d) guard-size
         ∙ ap (λ n. cycle_size g table k sc + memory_size g table k sc + guard_size g table k sc + n) pool-size

@@ -1,108 +1,27 @@
--- Launches of which the families hold make a schedule that fits.
-use Rattle.std.proofs.Common.{◌≡◌, ℕ, suc, zero, ◌+◌, ◌<◌, ◌≤◌, Bool, true, false, not, List, length, get_or, refl, sym, ap, ◌∙◌, subst, arith, inl, inr, ◌⊎◌, Option, Some, None}
+-- Launches that keep the rules of cycles, slots and values, and of which the families hold, make a schedule that fits.
+use Rattle.std.proofs.Common.{◌≡◌, ℕ, suc, zero, ◌+◌, ◌<◌, ◌≤◌, Bool, true, false, List, length, get_or, refl, sym, ap, ◌∙◌, subst, arith, inl, inr, ◌⊎◌, Option, Some, None}
 use Rattle.std.specs.Prelude.{◌||◌, ◌&&◌, ◌==◌, nat_le, is_some, IsTrue, Contains, IfSome}
-use Rattle.std.specs.List.{All, AllPairs, list_any, count_by, range_with_len}
-use Rattle.std.proofs.lemmas.Bool.{false≢true, cases_Bool, eqb-true, eqb-false, leb-true, eq-eqb, and_parts, and_from, or_left, or_right, not_from_false}
+use Rattle.std.specs.List.{All, AllPairs, list_any, count_by}
+use Rattle.std.proofs.lemmas.Bool.{false≢true, cases_Bool, eqb-true, eqb-false, leb-true, eq-eqb, and_parts, and_from, or_left, or_right}
 use Rattle.std.proofs.lemmas.List.Sums.{sum_by-le}
-use Rattle.std.proofs.lemmas.List.FromFn.{length-range_with_len, get_or-range_with_len}
-use Rattle.std.proofs.lemmas.List.Elements.{All-weaker, All-contains, Contains-get_or}
-use Rattle.machine_table.specs.Tables.{cluster_of}
-use Rattle.graph_meaning.specs.Graphs.{memory_target, is_memory_name, is_zero_class}
-use Rattle.schedule_meaning.specs.Launches.{launches, gives_word, is_store, is_load, is_branch, is_held, class_at, memory_class_at, operands_at, ready_in, IsFree, IsReadable, Gives, Operand, gives}
-use Rattle.schedule_meaning.specs.Fits.{CanLaunch, Collide, CanRead, EndsBy, IsReached, IsLatestStore, IsLeft, UsesMemory, KeepsMemory, HasOneBranch, Waits, Fits}
+use Rattle.std.proofs.lemmas.List.Elements.{All-contains, Contains-get_or}
+use Rattle.graph_meaning.specs.Graphs.{memory_target}
+use Rattle.schedule_meaning.specs.Launches.{launches, gives_word, is_store, is_load, is_branch, is_held, class_at, memory_class_at}
+use Rattle.schedule_meaning.specs.Fits.{Collide, IsLatestStore, IsLeft, UsesMemory, KeepsMemory, HasOneBranch, Waits, Fits}
 use Rattle.machine_table.specs.declared.tables.Table.{Table}
 use Rattle.graph_meaning.specs.declared.graphs.LaunchGraph.{LaunchGraph}
-use Rattle.graph_meaning.specs.declared.graphs.SetClass.{SetClass}
 use Rattle.graph_meaning.specs.declared.graphs.Guard.{Guard}
 use Rattle.schedule_meaning.specs.declared.schedules.Launch.{Launch}
-use Rattle.cycle_encoding.specs.Variables.{is_input}
-use Rattle.cycle_encoding.specs.declared.seen.Seen.{Seen}
+use Rattle.cycle_encoding.specs.CycleRules.{KeepsCycleRules}
 use Rattle.order_encoding.specs.OrderVariables.{Held, Taken}
-use Rattle.cycle_encoding.specs.Families.{is_at, is_free, is_made, is_made_target, is_seen, makes, any}
+use Rattle.cycle_encoding.specs.Families.{any}
 use Rattle.order_encoding.specs.OrderFamilies.{is_held_at, stores_at, uses_memory, branches_by, waits, is_taken_at}
-use Rattle.cycle_encoding.proofs.Tests.{one_at, two_at, same_at, All-from_filter, some_of, any_from, zero-is, input-is, free-is, gives-is, guarded}
+use Rattle.cycle_encoding.proofs.Tests.{one_at, two_at, same_at, some_of, guarded}
 use Rattle.cycle_encoding.proofs.Counting.{count-one, count-any, count-by-places}
-use Rattle.order_encoding.proofs.Says.{SaysCycles, SaysMemory, SaysGuard, SaysRegisters}
+use Rattle.cycle_encoding.proofs.MadeLists.{at_range}
+use Rattle.order_encoding.proofs.Says.{SaysMemory, SaysGuard, SaysRegisters}
 
--- what holds of each launch that has a variable
-pub record IsListed (g : LaunchGraph) (table : Table) (k : ℕ) (l : Launch) : Type 0 where
-  pub can : CanLaunch g table l
-  pub ends : EndsBy g table k l
-  pub slot : l.slot < length table.slots
-  pub early : l.cycle < k
-
-at_range : (P : ℕ → Type 0) (n : ℕ) → All P (range_with_len 0 n) → (i : ℕ) → i < n → P i
-at_range P n h i lt =
-    let l : i < length (range_with_len 0 n) = omega (arith, length-range_with_len 0 n) in
-    let e : get_or (range_with_len 0 n) i 0 ≡ i = get_or-range_with_len 0 n i 0 lt ∙ (let z : 0 + i ≡ i = omega arith in z) in
-    subst P e (h i 0 l)
-
-module _ (g : LaunchGraph) (table : Table) (k : ℕ) (S : List Launch) (listed : All (IsListed g table k) S) where
-  -- ---- slots
-
-  pub apart : ((s t : ℕ) → s < length table.slots → t < k → count_by (is_at s t) S ≤ 1) → AllPairs (λ l m. ¬ Collide l m) S
-  apart few i j d lt len c =
-      let a = get_or S i d in
-      let b = get_or S j d in
-      let la : i < length S = omega arith in
-      let ok : IsListed g table k a = listed i d la in
-      let pa : is_at a.slot a.cycle a ≡ true = and_from (a.slot == a.slot) (a.cycle == a.cycle) (eq-eqb a.slot a.slot refl) (eq-eqb a.cycle a.cycle refl) in
-      let pb : is_at a.slot a.cycle b ≡ true = and_from (b.slot == a.slot) (b.cycle == a.cycle) (eq-eqb b.slot a.slot (sym c.1)) (eq-eqb b.cycle a.cycle (sym c.0)) in
-      let two = two_at (is_at a.slot a.cycle) S i j d lt len pa pb in
-      let one = few a.slot a.cycle ok.slot ok.early in
-      absurd (omega arith)
-
-  -- ---- values
-
-  module _ (D : List Seen) (says : SaysCycles g table k S D) where
-    seen_read : (c n t : ℕ) → list_any (is_seen c n t) D ≡ true → IsReadable g table S c t n
-    seen_read c n t h =
-        let d = some_of (is_seen c n t) D h in
-        let p = and_parts (d.0.class == c) ((d.0.cluster == n) && (d.0.cycle == t)) d.2 in
-        let q = and_parts (d.0.cluster == n) (d.0.cycle == t) p.1 in
-        let l = some_of (makes g table d.0) S (All-contains (λ d. list_any (makes g table d) S ≡ true) D d.0 says.seen d.1) in
-        let r = and_parts (gives g d.0.class l.0) (nat_le (ready_in g table d.0.cluster l.0) d.0.cycle) l.2 in
-        let ec : d.0.class ≡ c = eqb-true d.0.class c p.0 in
-        let en : d.0.cluster ≡ n = eqb-true d.0.cluster n q.0 in
-        let et : d.0.cycle ≡ t = eqb-true d.0.cycle t q.1 in
-        let gave : Gives g c l.0 = subst (λ c. Gives g c l.0) ec (gives-is g d.0.class l.0 r.0) in
-        let ready : ready_in g table n l.0 ≤ t = subst (λ t. ready_in g table n l.0 ≤ t) et (subst (λ n. ready_in g table n l.0 ≤ d.0.cycle) en (leb-true (ready_in g table d.0.cluster l.0) d.0.cycle r.1)) in
-        inr (any_from (λ l. Gives g c l × (ready_in g table n l ≤ t)) S l.0 l.1 (gave, ready))
-
-    read_one : (l : Launch) (o : Operand) → (is_made g o ≡ true → list_any (is_seen o.class (cluster_of table l.slot) l.cycle) D ≡ true) → IsFree g o ⊎ IsReadable g table S o.class l.cycle (cluster_of table l.slot)
-    read_one l o h =
-        elim (cases_Bool (is_free g o)) [
-          | inl f ↦ inl (free-is g o f)
-          | inr n ↦ elim (cases_Bool (is_input g o.class)) [
-            | inl i ↦ inr (inl (input-is g o.class i))
-            | inr m ↦ inr (seen_read o.class (cluster_of table l.slot) l.cycle (h (and_from (not (is_free g o)) (not (is_input g o.class)) (not_from_false (is_free g o) n) (not_from_false (is_input g o.class) m))))
-          ]
-        ]
-
-    pub reads : All (CanRead g table S) S
-    reads i d lt =
-        let l = get_or S i d in
-        All-weaker (λ o. is_made g o ≡ true → list_any (is_seen o.class (cluster_of table l.slot) l.cycle) D ≡ true) (λ o. IsFree g o ⊎ IsReadable g table S o.class l.cycle (cluster_of table l.slot)) (λ o h. read_one l o h) (operands_at g l.row)
-        (All-from_filter (is_made g) (λ o. list_any (is_seen o.class (cluster_of table l.slot) l.cycle) D ≡ true) (operands_at g l.row) (says.operands i d lt))
-
-    reach_one : (s : SetClass) → (is_made_target g s ≡ true → list_any (gives g s.class) S ≡ true) → IsReached g S s
-    reach_one s h =
-        elim (cases_Bool (is_memory_name s.name)) [
-          | inl m ↦ inl m
-          | inr a ↦ elim (cases_Bool (is_input g s.class)) [
-            | inl i ↦ inr (inl (input-is g s.class i))
-            | inr b ↦ elim (cases_Bool (is_zero_class g s.class)) [
-              | inl z ↦ inr (inr (inl (zero-is g s.class z)))
-              | inr c ↦
-                  (let l = some_of (gives g s.class) S (h (and_from (not (is_memory_name s.name)) (not (is_input g s.class) && not (is_zero_class g s.class)) (not_from_false (is_memory_name s.name) a) (and_from (not (is_input g s.class)) (not (is_zero_class g s.class)) (not_from_false (is_input g s.class) b) (not_from_false (is_zero_class g s.class) c)))) in
-                  inr (inr (inr (any_from (Gives g s.class) S l.0 l.1 (gives-is g s.class l.0 l.2)))))
-            ]
-          ]
-        ]
-
-    pub reached : All (IsReached g S) g.sets
-    reached = All-weaker (λ s. is_made_target g s ≡ true → list_any (gives g s.class) S ≡ true) (IsReached g S) reach_one g.sets (All-from_filter (is_made_target g) (λ s. list_any (gives g s.class) S ≡ true) g.sets says.targets)
-
+module _ (g : LaunchGraph) (table : Table) (k : ℕ) (S : List Launch) (below : All (λ l. l.cycle < k) S) where
   -- ---- memory
 
   module _ (M : List Held) (W : List ℕ) (says : SaysMemory g table k S M W)
@@ -202,7 +121,7 @@ module _ (g : LaunchGraph) (table : Table) (k : ℕ) (S : List Launch) (listed :
     uses_is l (inr b) = or_right (launches g is_load l) (launches g is_store l) b
 
     left_later : (t c : ℕ) → All (λ l. l.cycle < t) S → IsLeft g S k c → IsLeft g S t c
-    left_later t c after (inl p) = inl (p.0, λ i d lt s. (let a = p.1 i d lt s in let b = (listed i d lt).early in absurd (omega arith)))
+    left_later t c after (inl p) = inl (p.0, λ i d lt s. (let a = p.1 i d lt s in let b = below i d lt in absurd (omega arith)))
     left_later t c after (inr (j, l, lt, e, (r, q))) =
         let at : (get_or S j l) ≡ l = e in
         let early : l.cycle < t = subst (λ (l : Launch). l.cycle < t) at (after j l lt) in
@@ -215,7 +134,7 @@ module _ (g : LaunchGraph) (table : Table) (k : ℕ) (S : List Launch) (listed :
             record {
               store = r.store;
               early = early;
-              latest = λ i d len s b. r.latest i d len s (listed i d len).early;
+              latest = λ i d len s b. r.latest i d len s (below i d len);
             },
             q,
           ),
@@ -225,9 +144,9 @@ module _ (g : LaunchGraph) (table : Table) (k : ℕ) (S : List Launch) (listed :
     keeps = record {
       each = λ i d lt u.
           let l = get_or S i d in
-          let n = now l.cycle (let a = (listed i d lt).early in omega arith) in
+          let n = now l.cycle (let a = below i d lt in omega arith) in
           let h : IsHeld (memory_class_at g l.row) l.cycle = says.uses i d lt (uses_is l u) in
-          subst (λ c. IsLeft g S l.cycle c) (held_once n.0 (memory_class_at g l.row) l.cycle (let a = (listed i d lt).early in omega arith) n.2 h) n.1;
+          subst (λ c. IsLeft g S l.cycle c) (held_once n.0 (memory_class_at g l.row) l.cycle (let a = below i d lt in omega arith) n.2 h) n.1;
       single = λ i j d lt len sa sb e.
           let a = get_or S i d in
           let b = get_or S j d in
@@ -235,7 +154,7 @@ module _ (g : LaunchGraph) (table : Table) (k : ℕ) (S : List Launch) (listed :
           let pa : stores_at g a.cycle a ≡ true = and_from (launches g is_store a) (a.cycle == a.cycle) sa (eq-eqb a.cycle a.cycle refl) in
           let pb : stores_at g a.cycle b ≡ true = and_from (launches g is_store b) (b.cycle == a.cycle) sb (eq-eqb b.cycle a.cycle (sym e)) in
           let two = two_at (stores_at g a.cycle) S i j d lt len pa pb in
-          let one = single a.cycle (listed i d la).early in
+          let one = single a.cycle (below i d la) in
           absurd (omega arith);
       last = λ t after.
           let n = now k (omega arith) in
@@ -299,13 +218,13 @@ module _ (g : LaunchGraph) (table : Table) (k : ℕ) (S : List Launch) (listed :
         let c = count-any U in
         omega arith
 
-  pub fits_where : (D : List Seen) → SaysCycles g table k S D → ((s t : ℕ) → s < length table.slots → t < k → count_by (is_at s t) S ≤ 1) → KeepsMemory g S → HasOneBranch g S → All (Waits g S) S → count_by (launches g gives_word) S ≤ length g.pool → Fits g table k S
-  fits_where D says few memory branch after pool = record {
-    rows = All-weaker (IsListed g table k) (CanLaunch g table) (λ l h. h.can) S listed;
-    apart = apart few;
-    operands = reads D says;
-    in_time = All-weaker (IsListed g table k) (EndsBy g table k) (λ l h. h.ends) S listed;
-    targets = reached D says;
+  pub fits_where : KeepsCycleRules g table k S → KeepsMemory g S → HasOneBranch g S → All (Waits g S) S → count_by (launches g gives_word) S ≤ length g.pool → Fits g table k S
+  fits_where rules memory branch after pool = record {
+    rows = rules.rows;
+    apart = rules.apart;
+    operands = rules.operands;
+    in_time = rules.in_time;
+    targets = rules.targets;
     memory = memory;
     one_branch = branch;
     after_branch = after;

@@ -1,10 +1,11 @@
 -- The clauses of memory, of a guard's branch, and of registers. Each family is a function of the things that have
--- variables. Source: this project.
+-- variables, by what each of these things implies. Source: this project.
 use Rattle.std.specs.Prelude.{ℕ, ◌+◌, ◌==◌, ◌&&◌, ◌||◌, nat_le, Bool, not, List, [], ◌∷◌, ◌++◌, map, is_some}
 use Rattle.std.specs.List.{flat_map, range_with_len}
 use Rattle.cnf_core.specs.declared.literal.Lit.{Lit}
 use Rattle.graph_meaning.specs.Graphs.{memory_target}
-use Rattle.schedule_meaning.specs.Launches.{launches, gives_word, is_load, is_store, is_branch, class_at, memory_class_at, is_held}
+use Rattle.schedule_meaning.specs.Launches.{launches, gives_word, is_load, is_store, is_branch, class_at}
+use Rattle.schedule_meaning.specs.Launches.{memory_class_at, is_held}
 use Rattle.graph_meaning.specs.declared.graphs.LaunchGraph.{LaunchGraph}
 use Rattle.schedule_meaning.specs.declared.schedules.Launch.{Launch}
 use Rattle.cycle_encoding.specs.Shapes.{vars_of, implied, when}
@@ -34,27 +35,44 @@ is_taken_at slot cycle u = (u.slot == slot) && (u.cycle == cycle)
 
 -- ---- memory: xs are the launches with their variables, ms what is held, ws the cycles in which there is a store
 
+-- a memory that isn't the one at entry isn't held at first
+abbrev pub not_at_entry : LaunchGraph → Held → List (List Lit)
+not_at_entry g m = when ((m.cycle == 0) && not (m.class == g.entry)) ([] ∷ [])
+
 -- 5: the memory at entry is held at first, and no other
 abbrev pub entry_clauses : LaunchGraph → List (ℕ × Held) → List (List Lit)
-entry_clauses g ms =
-    vars_of (is_held_at g.entry 0) ms ∷ implied ms (λ m. when ((m.cycle == 0) && not (m.class == g.entry)) ([] ∷ []))
+entry_clauses g ms = vars_of (is_held_at g.entry 0) ms ∷ implied ms (λ m. not_at_entry g m)
 
--- 6: a load or store uses the memory that is held; a store leaves its own
+-- a load or store uses the memory that is held
+abbrev pub uses_held : LaunchGraph → List (ℕ × Held) → Launch → List (List Lit)
+uses_held g ms l = when (uses_memory g l) (vars_of (is_held_at (memory_class_at g l.row) l.cycle) ms ∷ [])
+
+-- a store leaves its own, and there is a store in its cycle
+abbrev pub leaves : LaunchGraph → List (ℕ × Held) → List (ℕ × ℕ) → Launch → List (List Lit)
+leaves g ms ws l =
+    when (launches g is_store l)
+    (vars_of (is_held_at (class_at g l.row) (l.cycle + 1)) ms ∷ vars_of (λ t. t == l.cycle) ws ∷ [])
+
+-- 6: both of each launch
 abbrev pub memory_clauses : LaunchGraph → List (ℕ × Launch) → List (ℕ × Held) → List (ℕ × ℕ) → List (List Lit)
-memory_clauses g xs ms ws =
-    implied xs (λ l.
-    when (uses_memory g l) (vars_of (is_held_at (memory_class_at g l.row) l.cycle) ms ∷ [])
-    ++ when (launches g is_store l)
-    (vars_of (is_held_at (class_at g l.row) (l.cycle + 1)) ms ∷ vars_of (λ t. t == l.cycle) ws ∷ []))
+memory_clauses g xs ms ws = implied xs (λ l. uses_held g ms l ++ leaves g ms ws l)
+
+-- there is a store in a cycle where its variable says so
+abbrev pub stored : LaunchGraph → List (ℕ × Launch) → ℕ → ℕ → List (List Lit)
+stored g xs t c = when (c == t) (vars_of (stores_at g t) xs ∷ [])
+
+-- what is held in a cycle is held in the next, or there is a store
+abbrev pub stays : List (ℕ × Held) → List (ℕ × ℕ) → ℕ → Held → List (List Lit)
+stays ms ws t m = when (m.cycle == t) ((vars_of (λ c. c == t) ws ++ vars_of (is_held_at m.class (t + 1)) ms) ∷ [])
+
+-- both of a cycle
+abbrev pub kept_at : LaunchGraph → List (ℕ × Launch) → List (ℕ × Held) → List (ℕ × ℕ) → ℕ → List (List Lit)
+kept_at g xs ms ws t = implied ws (stored g xs t) ++ implied ms (stays ms ws t)
 
 -- 7: in each cycle there is a store, or what is held stays
-abbrev pub kept_clauses : LaunchGraph → ℕ → List (ℕ × Launch) → List (ℕ × Held) → List (ℕ × ℕ) → List (List Lit)
-kept_clauses g k xs ms ws =
-    flat_map (λ t.
-    implied ws (λ c. when (c == t) (vars_of (stores_at g t) xs ∷ []))
-    ++ implied ms (λ m. when (m.cycle == t)
-    ((vars_of (λ c. c == t) ws ++ vars_of (is_held_at m.class (t + 1)) ms) ∷ [])))
-    (range_with_len 0 k)
+abbrev pub kept_clauses : LaunchGraph → ℕ → List (ℕ × Launch) → List (ℕ × Held) → List (ℕ × ℕ)
+    → List (List Lit)
+kept_clauses g k xs ms ws = flat_map (λ t. kept_at g xs ms ws t) (range_with_len 0 k)
 
 -- 8 and 9: at most one memory is held at a time, and at most one store is in a cycle
 abbrev pub held_groups : ℕ → List (ℕ × Held) → List (List Lit)
@@ -77,10 +95,13 @@ branch_clauses g xs = when (is_some g.guard) (vars_of (launches g is_branch) xs 
 abbrev pub branch_groups : LaunchGraph → List (ℕ × Launch) → List (List Lit)
 branch_groups g xs = when (is_some g.guard) (vars_of (launches g is_branch) xs ∷ [])
 
--- 13: what waits comes when the branch has come
+-- what waits comes when the branch has come
+abbrev pub comes_after : LaunchGraph → List (ℕ × ℕ) → Launch → List (List Lit)
+comes_after g bs l = when (waits g l) (vars_of (λ t. t == l.cycle) bs ∷ [])
+
+-- 13: each launch that waits does
 abbrev pub wait_clauses : LaunchGraph → List (ℕ × Launch) → List (ℕ × ℕ) → List (List Lit)
-wait_clauses g xs bs =
-    when (is_some g.guard) (implied xs (λ l. when (waits g l) (vars_of (λ t. t == l.cycle) bs ∷ [])))
+wait_clauses g xs bs = when (is_some g.guard) (implied xs (λ l. comes_after g bs l))
 
 -- 14: the branch has come where it was launched by then
 abbrev pub come_clauses : LaunchGraph → List (ℕ × Launch) → List (ℕ × ℕ) → List (List Lit)
@@ -88,10 +109,13 @@ come_clauses g xs bs = when (is_some g.guard) (implied bs (λ t. vars_of (branch
 
 -- ---- registers: us are the slots and cycles whose launches take one
 
--- 15: a launch that gives a word takes a register
+-- what gives a word takes a register
+abbrev pub takes : LaunchGraph → List (ℕ × Taken) → Launch → List (List Lit)
+takes g us l = when (launches g gives_word l) (vars_of (is_taken_at l.slot l.cycle) us ∷ [])
+
+-- 15: each launch that gives a word takes one
 abbrev pub register_clauses : LaunchGraph → List (ℕ × Launch) → List (ℕ × Taken) → List (List Lit)
-register_clauses g xs us =
-    implied xs (λ l. when (launches g gives_word l) (vars_of (is_taken_at l.slot l.cycle) us ∷ []))
+register_clauses g xs us = implied xs (λ l. takes g us l)
 
 -- 16: at most as many registers are taken as the pool has
 abbrev pub register_groups : List (ℕ × Taken) → List (List Lit)

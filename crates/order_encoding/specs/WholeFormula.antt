@@ -6,88 +6,101 @@ use Rattle.cnf_core.specs.declared.literal.Lit.{Lit}
 use Rattle.cnf_core.specs.Formula.{Formula}
 use Rattle.machine_table.specs.declared.tables.Table.{Table}
 use Rattle.graph_meaning.specs.declared.graphs.LaunchGraph.{LaunchGraph}
+use Rattle.schedule_meaning.specs.declared.schedules.Launch.{Launch}
 use Rattle.cycle_encoding.specs.Shapes.{numbered, counters, counters_vars, when}
 use Rattle.cycle_encoding.specs.Encodings.{AreListed}
 use Rattle.cycle_encoding.specs.declared.encodings.Encoding.{Encoding}
-use Rattle.cycle_encoding.specs.CycleFormula.{Listed, Scope, listed_in, launch_vars, after_cycles, cycle_part}
+use Rattle.cycle_encoding.specs.CycleFormula.{Listed, Scope, listed_in, launch_vars, cycle_formula}
 use Rattle.order_encoding.specs.OrderVariables.{all_held, all_taken, Held, Taken}
-use Rattle.order_encoding.specs.OrderFamilies.{entry_clauses, memory_clauses, kept_clauses, held_groups, store_groups, last_clauses, branch_clauses, branch_groups, wait_clauses, come_clauses, register_clauses, register_groups}
+use Rattle.order_encoding.specs.OrderFamilies.{entry_clauses, memory_clauses, kept_clauses, held_groups}
+use Rattle.order_encoding.specs.OrderFamilies.{store_groups, last_clauses, branch_clauses, branch_groups}
+use Rattle.order_encoding.specs.OrderFamilies.{wait_clauses, come_clauses, register_clauses, register_groups}
+
+-- ---- a formula f with a part more: xs are the launches with their variables, and each kind of new variables begins
+-- after the last one before it
+
+module _ (g : LaunchGraph) (k : ℕ) (xs : List (ℕ × Launch)) (f : Formula) where
+  -- memory
+
+  abbrev pub new_held : List (ℕ × Held)
+  new_held = numbered f.vars (all_held g k)
+
+  abbrev pub before_new_stores : ℕ
+  before_new_stores = f.vars + length (all_held g k)
+
+  abbrev pub new_stores : List (ℕ × ℕ)
+  new_stores = numbered before_new_stores (range_with_len 0 k)
+
+  abbrev pub before_new_groups : ℕ
+  before_new_groups = before_new_stores + k
+
+  abbrev pub new_groups : List (List Lit)
+  new_groups = held_groups k new_held ++ store_groups g k xs
+
+  abbrev pub added_memory : List (List Lit)
+  added_memory =
+      entry_clauses g new_held
+      ++ memory_clauses g xs new_held new_stores
+      ++ kept_clauses g k xs new_held new_stores
+      ++ counters before_new_groups 1 new_groups
+      ++ last_clauses g k new_held
+
+  abbrev pub with_memory : Formula
+  with_memory =
+      record { vars = before_new_groups + counters_vars 1 new_groups; clauses = f.clauses ++ added_memory }
+
+  -- the branch of a guard
+
+  abbrev pub new_come_cycles : List ℕ
+  new_come_cycles = when (is_some g.guard) (range_with_len 0 k)
+
+  abbrev pub new_come : List (ℕ × ℕ)
+  new_come = numbered f.vars new_come_cycles
+
+  abbrev pub before_new_branch : ℕ
+  before_new_branch = f.vars + length new_come_cycles
+
+  abbrev pub added_guard : List (List Lit)
+  added_guard =
+      branch_clauses g xs
+      ++ counters before_new_branch 1 (branch_groups g xs)
+      ++ wait_clauses g xs new_come
+      ++ come_clauses g xs new_come
+
+  abbrev pub formula_with_guard : Formula
+  formula_with_guard =
+      record { vars = before_new_branch + counters_vars 1 (branch_groups g xs); clauses = f.clauses ++ added_guard }
+
+  -- registers
+
+  module _ (table : Table) where
+    abbrev pub new_taken : List (ℕ × Taken)
+    new_taken = numbered f.vars (all_taken table k)
+
+    abbrev pub before_new_pool : ℕ
+    before_new_pool = f.vars + length (all_taken table k)
+
+    abbrev pub added_pool : List (List Lit)
+    added_pool =
+        register_clauses g xs new_taken ++ counters before_new_pool (length g.pool) (register_groups new_taken)
+
+    abbrev pub formula_with_pool : Formula
+    formula_with_pool = record {
+      vars = before_new_pool + counters_vars (length g.pool) (register_groups new_taken);
+      clauses = f.clauses ++ added_pool;
+    }
+
+-- ---- the formulas of the calls, one after another
 
 module _ (g : LaunchGraph) (table : Table) (k : ℕ) (e : Listed) where
-  -- ---- the variables: each kind begins after the last one before it
-
-  abbrev pub held_vars : List (ℕ × Held)
-  held_vars = numbered (after_cycles g table k e) (all_held g k)
-
-  abbrev pub before_stores : ℕ
-  before_stores = after_cycles g table k e + length (all_held g k)
-
-  abbrev pub store_vars : List (ℕ × ℕ)
-  store_vars = numbered before_stores (range_with_len 0 k)
-
-  abbrev pub before_held : ℕ
-  before_held = before_stores + k
-
-  abbrev pub memory_groups : List (List Lit)
-  memory_groups = held_groups k held_vars ++ store_groups g k (launch_vars g table k e)
-
-  abbrev pub after_memory : ℕ
-  after_memory = before_held + counters_vars 1 memory_groups
-
-  abbrev pub come_cycles : List ℕ
-  come_cycles = when (is_some g.guard) (range_with_len 0 k)
-
-  abbrev pub come_vars : List (ℕ × ℕ)
-  come_vars = numbered after_memory come_cycles
-
-  abbrev pub before_branch : ℕ
-  before_branch = after_memory + length come_cycles
-
-  abbrev pub after_guard : ℕ
-  after_guard = before_branch + counters_vars 1 (branch_groups g (launch_vars g table k e))
-
-  abbrev pub taken_vars : List (ℕ × Taken)
-  taken_vars = numbered after_guard (all_taken table k)
-
-  abbrev pub before_pool : ℕ
-  before_pool = after_guard + length (all_taken table k)
-
-  abbrev pub after_pool : ℕ
-  after_pool = before_pool + counters_vars (length g.pool) (register_groups taken_vars)
-
-  -- ---- the clauses
-
-  abbrev pub memory_part : List (List Lit)
-  memory_part =
-      entry_clauses g held_vars
-      ++ memory_clauses g (launch_vars g table k e) held_vars store_vars
-      ++ kept_clauses g k (launch_vars g table k e) held_vars store_vars
-      ++ counters before_held 1 memory_groups
-      ++ last_clauses g k held_vars
-
-  abbrev pub guard_part : List (List Lit)
-  guard_part =
-      branch_clauses g (launch_vars g table k e)
-      ++ counters before_branch 1 (branch_groups g (launch_vars g table k e))
-      ++ wait_clauses g (launch_vars g table k e) come_vars
-      ++ come_clauses g (launch_vars g table k e) come_vars
-
-  abbrev pub pool_part : List (List Lit)
-  pool_part =
-      register_clauses g (launch_vars g table k e) taken_vars
-      ++ counters before_pool (length g.pool) (register_groups taken_vars)
-
-  -- ---- the formulas of the calls, one after another
-
   abbrev pub memory_formula : Formula
-  memory_formula = record { vars = after_memory; clauses = cycle_part g table k e ++ memory_part }
+  memory_formula = with_memory g k (launch_vars g table k e) (cycle_formula g table k e)
 
   abbrev pub guard_formula : Formula
-  guard_formula = record { vars = after_guard; clauses = cycle_part g table k e ++ memory_part ++ guard_part }
+  guard_formula = formula_with_guard g k (launch_vars g table k e) memory_formula
 
   abbrev pub whole_formula : Formula
-  whole_formula =
-      record { vars = after_pool; clauses = cycle_part g table k e ++ memory_part ++ guard_part ++ pool_part }
+  whole_formula = formula_with_pool g k (launch_vars g table k e) guard_formula table
 
 -- these are the clauses for k cycles over the lists of the encoding
 pub record IsFormulaOf (e : Encoding) (g : LaunchGraph) (table : Table) (k : ℕ) (f : Formula) : Type 0 where

@@ -10,8 +10,7 @@ ghost use Rattle.schedule_meaning.specs.Launches as launches;
 ghost use Rattle.cycle_encoding.specs.Counts as cycle_counts;
 ghost use Rattle.cycle_encoding.specs.Counts.{one_if, row_is, sum_launches};
 ghost use Rattle.order_encoding.specs.OrderCounts as counts;
-ghost use Rattle.order_encoding.specs.OrderSteps as steps;
-ghost use Rattle.order_encoding.specs.OrderSteps.{row_uses, row_waits};
+ghost use Rattle.order_encoding.specs.OrderCounts.{row_uses, row_waits};
 ghost use Rattle.order_encoding.specs.OrderVariables.{memory_classes};
 
 use crate::held::is_memory_class;
@@ -23,11 +22,11 @@ use cycle_encoding::{
 use graph_meaning::LaunchGraph;
 use machine_table::Table;
 
-/// Whether one of the counts passes its limit: 262,144 variables, 2,000,000 clauses.
+/// Whether one of the counts passes its limit.
 pub fn pass_limit(sizes: Sizes) -> bool
     ensures { result ≡ (nat_lt 262144 sizes.vars || nat_lt 2000000 sizes.clauses) }
 {
-    sizes.vars > 262144 || sizes.clauses > 2000000
+    sizes.pass_limit()
 }
 
 /// The counts of a formula to which a part is added.
@@ -73,7 +72,7 @@ fn times(factor: u32, count: u64) -> u64
 fn row_stores(facts: &Facts, table: &Table, scope: &Scope, k: u32, cycle: u32, row: u32) -> u64
     requires table { IsTable table.now }
     requires cycles { k ≤ 24 }
-    ensures value { result ≡ steps.row_stores facts.now table.now k scope.now cycle row }
+    ensures value { result ≡ counts.row_stores facts.now table.now k scope.now cycle row }
     ensures few { result ≤ 8 }
 {
     if !is_store(facts, row) {

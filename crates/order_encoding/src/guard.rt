@@ -10,11 +10,11 @@ ghost use Rattle.cycle_encoding.specs.Faults.{EncodeFaultIs};
 ghost use Rattle.cycle_encoding.specs.Plans.{IsTooLarge};
 ghost use Rattle.cycle_encoding.specs.Shapes.{positive, implied, numbered, vars_of};
 ghost use Rattle.cycle_encoding.specs.Steps.{of_thing, with_clauses};
-ghost use Rattle.order_encoding.specs.OrderFamilies.{branches_by};
-ghost use Rattle.order_encoding.specs.OrderSteps.{comes_after, launched_in, formula_with_guard};
-ghost use Rattle.order_encoding.specs.WholeFormula.{guard_formula, memory_formula};
+ghost use Rattle.order_encoding.specs.OrderFamilies.{branches_by, comes_after};
+ghost use Rattle.order_encoding.specs.OrderSteps.{launched_in};
+ghost use Rattle.order_encoding.specs.WholeFormula.{formula_with_guard, guard_formula, memory_formula};
 
-use crate::counts::{grown, guard_sizes, pass_limit};
+use crate::counts::{grown, guard_sizes};
 use crate::cycles::cycle_var;
 use crate::kinds::{branches, push_var_if, waits};
 use crate::laws::parts_are_counted;
@@ -198,16 +198,10 @@ fn add_guard_in(
         (listed_in facts.now table.now encoded.plan.cycles scope.now))) }
 {
     parts_are_counted();
-    counters_count();
     let mut cnf = encoded.cnf;
     let plan = encoded.plan;
     let sizes = grown(&cnf, guard_sizes(facts, table, scope, plan.cycles()));
-    if pass_limit(sizes) {
-        return Err(EncodeFault::Size {
-            vars: sizes.vars,
-            clauses: sizes.clauses,
-        });
-    }
+    sizes.within_limits()?;
     extend_by_guard(alloc, &mut cnf, facts, plan.launches(), plan.cycles())?;
     Ok(Encoded { cnf, plan })
 }

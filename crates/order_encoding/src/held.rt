@@ -1,14 +1,15 @@
 // The memory that is held in a cycle: its variables, and the clauses that say which it is at first and at last.
-ghost use Rattle.std.specs.Prelude.{◌≡◌, ◌==◌, ◌+◌, ◌<◌, ◌≤◌, ◌^◌, ◌∷◌, [], length, All, IfOk, OnOk};
+ghost use Rattle.std.specs.Prelude.{◌≡◌, ◌==◌, ◌+◌, ◌<◌, ◌≤◌, ◌^◌, ◌∷◌, [], length, All, IfOk, OnOk, option_to_list};
 ghost use Rattle.cnf_core.specs.Formula.{IsLitOf};
 ghost use Rattle.graph_meaning.specs.WellFormed.{IsLaunchGraph};
 ghost use Rattle.graph_meaning.specs.WellFormed as wellformed;
 ghost use Rattle.cycle_encoding.specs.Shapes.{numbered, negative, implied, vars_of, counters_vars, counters_size};
-ghost use Rattle.cycle_encoding.specs.Steps.{listed, of_thing, with_clauses, with_counters};
+ghost use Rattle.cycle_encoding.specs.Steps.{of_thing, with_clauses, with_counters};
 ghost use Rattle.order_encoding.specs.OrderVariables as variables;
 ghost use Rattle.order_encoding.specs.OrderVariables.{all_held};
 ghost use Rattle.order_encoding.specs.OrderFamilies.{is_held_at, entry_clauses, held_groups, last_clauses};
-ghost use Rattle.order_encoding.specs.OrderSteps.{AreHeldVars, held_at, held_before, not_at_entry};
+ghost use Rattle.order_encoding.specs.OrderFamilies.{not_at_entry};
+ghost use Rattle.order_encoding.specs.OrderSteps.{AreHeldVars, held_at, held_before};
 
 use cnf_core::{Cnf, Lit, at_most_one, counters_count};
 use cycle_encoding::{Facts, add_implied, next_class};
@@ -69,7 +70,7 @@ pub fn held_vars(alloc: Global, facts: &Facts, k: u32, first: u32) -> Result<Hel
 pub fn held_var(held: &HeldVars, facts: &Facts, class: u32, cycle: u32) -> Option<Lit>
     requires held { AreHeldVars facts.now held.now.cycles held.now.classes.items held.now.starts.items }
     requires few { held.now.first + length (all_held facts.now held.now.cycles) < 2 ^ 29 }
-    ensures { listed result ≡ vars_of (is_held_at class cycle)
+    ensures { option_to_list result ≡ vars_of (is_held_at class cycle)
         (numbered held.now.first (all_held facts.now held.now.cycles)) }
 {
     if cycle > held.cycles {
@@ -94,7 +95,7 @@ fn var_from(
     requires class { class < wellformed.next_class facts.now.rows }
     requires cycle { cycle ≤ held.now.cycles }
     requires few { held.now.first + length (all_held facts.now held.now.cycles) < 2 ^ 29 }
-    ensures { listed result ≡ vars_of (is_held_at class cycle)
+    ensures { option_to_list result ≡ vars_of (is_held_at class cycle)
         (numbered held.now.first (all_held facts.now held.now.cycles)) }
 {
     match start {
@@ -110,7 +111,7 @@ fn var_from(
 pub fn held_after(held: &HeldVars, facts: &Facts, class: u32, cycle: u32) -> Option<Lit>
     requires held { AreHeldVars facts.now held.now.cycles held.now.classes.items held.now.starts.items }
     requires few { held.now.first + length (all_held facts.now held.now.cycles) < 2 ^ 29 }
-    ensures { listed result
+    ensures { option_to_list result
         ≡ vars_of (is_held_at class (cycle + 1)) (numbered held.now.first (all_held facts.now held.now.cycles)) }
 {
     if cycle >= held.cycles {
@@ -136,9 +137,9 @@ pub fn add_entry(cnf: &mut Cnf, facts: &Facts, held: &HeldVars) -> Result<(), No
 
 /// Adds the clause of a literal, or the empty one where there is none.
 fn add_option(cnf: &mut Cnf, lit: Option<Lit>) -> Result<(), NoMemory>
-    requires lit { All (IsLitOf cnf.old.vars) (listed lit) }
+    requires lit { All (IsLitOf cnf.old.vars) (option_to_list lit) }
     requires room { length cnf.old.clauses < 2 ^ 30 }
-    ensures { OnOk result (cnf.new ≡ with_clauses cnf.old (listed lit ∷ [])) }
+    ensures { OnOk result (cnf.new ≡ with_clauses cnf.old (option_to_list lit ∷ [])) }
 {
     match lit {
         Some(lit) => cnf.add(&[lit]),

@@ -3,7 +3,7 @@ ghost use Rattle.std.specs.Prelude.{◌≡◌, ◌<◌, ◌^◌, [], ◌∷◌, 
 ghost use Rattle.schedule_meaning.specs.Launches as specs;
 ghost use Rattle.cycle_encoding.specs.Counts.{row_is};
 ghost use Rattle.cycle_encoding.specs.Shapes.{positive};
-ghost use Rattle.order_encoding.specs.OrderSteps as steps;
+ghost use Rattle.order_encoding.specs.OrderCounts as counts;
 ghost use Rattle.order_encoding.specs.OrderSteps.{launched_in};
 
 use cnf_core::Lit;
@@ -45,7 +45,7 @@ pub fn is_branch(facts: &Facts, row: u32) -> bool
 
 /// Whether a launch of the row may come in no earlier cycle than the branch.
 pub fn waits(facts: &Facts, row: u32) -> bool
-    ensures { result ≡ steps.row_waits facts.now row }
+    ensures { result ≡ counts.row_waits facts.now row }
 {
     is_store(facts, row) || is_load(facts, row) && is_held(facts.graph())
 }

@@ -16,10 +16,12 @@ ghost use Rattle.cycle_encoding.specs.Narrow.{IsNarrow};
 ghost use Rattle.cycle_encoding.specs.declared.encodings.Encoding.{Encoding as EncodingOf};
 ghost use Rattle.cycle_encoding.specs.Counts.{cycle_vars, cycle_size};
 ghost use Rattle.order_encoding.specs.WholeFormula.{guard_formula, memory_formula, whole_formula};
-ghost use Rattle.order_encoding.specs.OrderCounts.{memory_vars, memory_size, guard_vars, guard_size, pool_vars, pool_size};
+ghost use Rattle.order_encoding.specs.OrderCounts.{memory_vars, memory_size, guard_vars, guard_size, pool_vars};
+ghost use Rattle.order_encoding.specs.OrderCounts.{pool_size};
 ghost use Rattle.order_encoding.specs.Worked.{one_sum_clauses, one_sum_graph, sum_clauses};
 
 use cnf_core::counters_count;
+use cycle_encoding::{cycle_clauses_say_rules, cycle_counts_are_found, narrow_parts_keep_rules};
 use schedule_meaning::memories_are_left;
 
 /// Values that satisfy the whole formula show a schedule that fits; and each schedule that fits, with useless and
@@ -35,19 +37,24 @@ pub fn clauses_say_fits()
 {
     counters_count();
     memories_are_left();
+    cycle_clauses_say_rules();
 }
 
-/// A schedule that fits does so without its launches that have no variables in the narrow encoding, and the others have.
+/// A schedule that fits does so without its launches that have no variables in the narrow encoding; the others have
+/// variables.
 pub fn launches_without_variables_may_go()
     ensures fits { (g : Graph) (table : TableOf) (k : ℕ) (e : ListedOf) (ls : List LaunchOf) → IsTable table
         → (n : IsNarrow g table k e) → Fits g table k ls → Fits g table k (filter n.keep ls) }
     ensures listed { (g : Graph) (table : TableOf) (k : ℕ) (e : ListedOf) (ls : List LaunchOf) → IsTable table
         → (n : IsNarrow g table k e) → Fits g table k ls
         → (l : LaunchOf) → Contains (filter n.keep ls) l → Contains e.launches l }
-{}
+{
+    cycle_clauses_say_rules();
+    narrow_parts_keep_rules();
+}
 
-/// Values that satisfy the whole formula of the narrow encoding show a schedule that fits; and each schedule that fits has
-/// a part that fits too and is what some values show that satisfy it.
+/// Values that satisfy the whole formula of the narrow encoding show a schedule that fits; and each schedule that fits
+/// has a part that fits too and is what some values show that satisfy it.
 pub fn narrow_clauses_say_fits()
     ensures shown { (g : Graph) (table : TableOf) (k : ℕ) (e : ListedOf) (v : ℕ → Bool) → IsTable table
         → IsNarrow g table k e → Satisfies v (whole_formula g table k e).clauses
@@ -60,10 +67,13 @@ pub fn narrow_clauses_say_fits()
 {
     counters_count();
     memories_are_left();
+    cycle_clauses_say_rules();
+    narrow_parts_keep_rules();
+    launches_without_variables_may_go();
 }
 
-/// In either encoding, values that satisfy the whole formula show a schedule that fits; and each schedule that fits has a
-/// part that fits and that some values show which satisfy it.
+/// In either encoding, values that satisfy the whole formula show a schedule that fits; and each schedule that fits has
+/// a part that fits and is what some values show that satisfy it.
 pub fn each_encoding_says_fits()
     ensures shown { (e : EncodingOf) (g : Graph) (table : TableOf) (k : ℕ) (l : ListedOf) (v : ℕ → Bool) → IsTable table
         → AreListed e g table k l → Satisfies v (whole_formula g table k l).clauses
@@ -88,6 +98,7 @@ pub fn counts_are_found()
         ≡ cycle_size g table k s + memory_size g table k s + guard_size g table k s + pool_size g table k s }
 {
     counters_count();
+    cycle_counts_are_found();
 }
 
 /// The counts of the formula with memory, and of the one with memory and a guard's branch too, as they are found row by
@@ -113,11 +124,12 @@ pub fn parts_are_counted()
         ≡ cycle_size g table k s + memory_size g table k s + guard_size g table k s + pool_size g table k s }
 {
     counters_count();
+    cycle_counts_are_found();
 }
 
 /// Worked formulas: the clauses of a sum on two slots in 2 cycles; those of one addition in no cycle, and their numbers
-/// in one; and the sizes of a loop that copies words, with loads, a store and a branch, in 2 cycles. The last two are on
-/// the Alpha 21264's table.
+/// in one; and the sizes of a loop that copies words, with loads, a store and a branch, in 2 cycles. The last two are
+/// on the Alpha 21264's table.
 pub fn worked_formulas()
     ensures sum { whole_formula sum_graph two_slots 2 (wide sum_graph two_slots 2)
         ≡ record { vars = 21; clauses = sum_clauses } }

@@ -1,8 +1,8 @@
 //! The clauses of a schedule: memory in order, a guard's branch, registers; and the whole formula, which can be
 //! satisfied exactly where a schedule fits.
 //!
-//! `count_in` counts the whole formula, and builds none of it; `full` and `full_in` give it at once; `add_memory`, `add_guard`
-//! and `add_pool` add its parts one after another to the formula of cycles, slots and values.
+//! `count_in` counts the whole formula, and builds none of it; `full` and `full_in` give it at once; `add_memory`,
+//! `add_guard` and `add_pool` add its parts one after another to the formula of cycles, slots and values.
 #![tactic(auto)]
 
 mod counts;

@@ -12,11 +12,12 @@ ghost use Rattle.cycle_encoding.specs.Plans.{IsTooLarge};
 ghost use Rattle.cycle_encoding.specs.Shapes.{negative, positive, implied, numbered, counters_vars, counters_size};
 ghost use Rattle.cycle_encoding.specs.Steps.{of_thing, with_clauses, with_counters};
 ghost use Rattle.order_encoding.specs.OrderVariables.{all_held};
-ghost use Rattle.order_encoding.specs.OrderFamilies.{kept_clauses, memory_clauses, store_groups};
-ghost use Rattle.order_encoding.specs.OrderSteps.{AreHeldVars, held_at, launched_in, leaves, reads, stays, stored, with_memory};
-ghost use Rattle.order_encoding.specs.WholeFormula.{memory_formula};
+ghost use Rattle.order_encoding.specs.OrderFamilies.{kept_clauses, memory_clauses, store_groups, leaves, uses_held};
+ghost use Rattle.order_encoding.specs.OrderFamilies.{stays, stored};
+ghost use Rattle.order_encoding.specs.OrderSteps.{AreHeldVars, held_at, launched_in};
+ghost use Rattle.order_encoding.specs.WholeFormula.{with_memory, memory_formula};
 
-use crate::counts::{grown, memory_sizes, pass_limit};
+use crate::counts::{grown, memory_sizes};
 use crate::cycles::cycle_var;
 use crate::held::{
     HeldVars, add_entry, add_held_counters, add_last, held_after, held_var, held_vars,
@@ -25,7 +26,8 @@ use crate::kinds::{is_load, is_store, push_var_if, stores};
 use crate::laws::parts_are_counted;
 use cnf_core::{Cnf, Lit, at_most_one, counters_count};
 use cycle_encoding::{
-    EncodeFault, Encoded, Facts, Scope, add_implied, add_vars, each_encoding_has_one_list,
+    EncodeFault, Encoded, Facts, Scope, add_implied, add_vars, cycle_counts_are_found,
+    each_encoding_has_one_list,
 };
 use graph_meaning::LaunchGraph;
 use items::NoMemory;
@@ -75,12 +77,12 @@ fn add_use(
     requires exist { held.now.first + length (all_held facts.now held.now.cycles) ≤ stores }
     requires cycles { stores + held.now.cycles ≤ cnf.old.vars }
     requires few { cnf.old.vars < 2 ^ 29 }
-    requires room { length cnf.old.clauses + length (reads facts.now
+    requires room { length cnf.old.clauses + length (uses_held facts.now
         (numbered held.now.first (all_held facts.now held.now.cycles)) launch
         ++ leaves facts.now (numbered held.now.first (all_held facts.now held.now.cycles))
         (numbered stores (range_with_len 0 held.now.cycles)) launch) < 2 ^ 30 }
     ensures { OnOk result (cnf.new ≡ with_clauses cnf.old (of_thing var
-        (reads facts.now (numbered held.now.first (all_held facts.now held.now.cycles)) launch
+        (uses_held facts.now (numbered held.now.first (all_held facts.now held.now.cycles)) launch
         ++ leaves facts.now (numbered held.now.first (all_held facts.now held.now.cycles))
         (numbered stores (range_with_len 0 held.now.cycles)) launch))) }
 {
@@ -102,9 +104,9 @@ fn add_read(
     requires exist { held.now.first + length (all_held facts.now held.now.cycles) ≤ cnf.old.vars }
     requires few { cnf.old.vars < 2 ^ 29 }
     requires room { length cnf.old.clauses
-        + length (reads facts.now (numbered held.now.first (all_held facts.now held.now.cycles)) launch) < 2 ^ 30 }
+        + length (uses_held facts.now (numbered held.now.first (all_held facts.now held.now.cycles)) launch) < 2 ^ 30 }
     ensures { OnOk result (cnf.new ≡ with_clauses cnf.old (of_thing var
-        (reads facts.now (numbered held.now.first (all_held facts.now held.now.cycles)) launch))) }
+        (uses_held facts.now (numbered held.now.first (all_held facts.now held.now.cycles)) launch))) }
 {
     if is_load(facts, launch.row) || is_store(facts, launch.row) {
         let class = memory_class_at(facts.graph(), launch.row);
@@ -402,17 +404,12 @@ fn add_memory_in(
     ensures within { OnOk result (¬ IsTooLarge (memory_formula facts.now table.now encoded.plan.cycles
         (listed_in facts.now table.now encoded.plan.cycles scope.now))) }
 {
+    cycle_counts_are_found();
     parts_are_counted();
-    counters_count();
     let mut cnf = encoded.cnf;
     let plan = encoded.plan;
     let sizes = grown(&cnf, memory_sizes(facts, table, scope, plan.cycles()));
-    if pass_limit(sizes) {
-        return Err(EncodeFault::Size {
-            vars: sizes.vars,
-            clauses: sizes.clauses,
-        });
-    }
+    sizes.within_limits()?;
     extend_by_memory(alloc, &mut cnf, facts, plan.launches(), plan.cycles())?;
     Ok(Encoded { cnf, plan })
 }

@@ -1,5 +1,5 @@
 // Registers: launches that give words take no more registers than the pool has.
-ghost use Rattle.std.specs.Prelude.{◌≡◌, ◌+◌, ◌<◌, ◌≤◌, ◌^◌, List, length, IfOk, IfErr, OnOk};
+ghost use Rattle.std.specs.Prelude.{◌≡◌, ◌+◌, ◌<◌, ◌≤◌, ◌^◌, List, length, IfOk, IfErr, OnOk, option_to_list};
 ghost use Rattle.graph_meaning.specs.WellFormed.{IsLaunchGraph};
 ghost use Rattle.machine_table.specs.Tables.{IsTable};
 ghost use Rattle.cycle_encoding.specs.CycleFormula.{listed_in};
@@ -7,14 +7,13 @@ ghost use Rattle.cycle_encoding.specs.Families.{any};
 ghost use Rattle.cycle_encoding.specs.Encodings.{OnLists};
 ghost use Rattle.cycle_encoding.specs.Faults.{EncodeFaultIs};
 ghost use Rattle.cycle_encoding.specs.Plans.{IsTooLarge};
-ghost use Rattle.cycle_encoding.specs.Shapes.{implied, numbered, vars_of};
-ghost use Rattle.cycle_encoding.specs.Steps.{listed, of_thing, with_clauses};
+ghost use Rattle.cycle_encoding.specs.Shapes.{numbered, vars_of};
+ghost use Rattle.cycle_encoding.specs.Steps.{of_thing, with_clauses};
 ghost use Rattle.order_encoding.specs.OrderVariables.{all_taken, Taken};
-ghost use Rattle.order_encoding.specs.OrderFamilies.{is_taken_at, register_clauses};
-ghost use Rattle.order_encoding.specs.OrderSteps.{takes, formula_with_pool};
-ghost use Rattle.order_encoding.specs.WholeFormula.{guard_formula, whole_formula};
+ghost use Rattle.order_encoding.specs.OrderFamilies.{is_taken_at, register_clauses, takes};
+ghost use Rattle.order_encoding.specs.WholeFormula.{formula_with_pool, guard_formula, whole_formula};
 
-use crate::counts::{grown, pass_limit, pool_sizes, registers};
+use crate::counts::{grown, pool_sizes, registers};
 use crate::laws::parts_are_counted;
 use cnf_core::{Cnf, Lit, at_most, counters_count};
 use cycle_encoding::{
@@ -29,7 +28,7 @@ use std::alloc::Global;
 /// The variable of a slot and cycle whose launch takes a register, if it has one; `first` is the variable before those.
 fn taken_var(table: &Table, k: u32, first: u32, slot: u32, cycle: u32) -> Option<Lit>
     requires few { first + length (all_taken table.now k) < 2 ^ 29 }
-    ensures { listed result ≡ vars_of (is_taken_at slot cycle) (numbered first (all_taken table.now k)) }
+    ensures { option_to_list result ≡ vars_of (is_taken_at slot cycle) (numbered first (all_taken table.now k)) }
 {
     if slot as usize >= table.slots.len() {
         return None;
@@ -191,16 +190,10 @@ fn add_pool_in(
         (listed_in facts.now table.now encoded.plan.cycles scope.now))) }
 {
     parts_are_counted();
-    counters_count();
     let mut cnf = encoded.cnf;
     let plan = encoded.plan;
     let sizes = grown(&cnf, pool_sizes(facts, table, scope, plan.cycles()));
-    if pass_limit(sizes) {
-        return Err(EncodeFault::Size {
-            vars: sizes.vars,
-            clauses: sizes.clauses,
-        });
-    }
+    sizes.within_limits()?;
     extend_by_pool(
         alloc,
         &mut cnf,

@@ -12,7 +12,7 @@ ghost use Rattle.cycle_encoding.specs.Plans.{IsTooLarge, plan_of};
 ghost use Rattle.cycle_encoding.specs.Shapes.{numbered, shown};
 ghost use Rattle.order_encoding.specs.WholeFormula.{formula_in, whole_formula};
 
-use crate::counts::{both, guard_sizes, memory_sizes, pass_limit, pool_sizes};
+use crate::counts::{both, guard_sizes, memory_sizes, pool_sizes};
 use crate::guard::extend_by_guard;
 use crate::laws::{clauses_say_fits, counts_are_found, each_encoding_says_fits};
 use crate::memory::extend_by_memory;
@@ -49,8 +49,9 @@ pub fn count_in(
     Ok(both(formula_with_guard, pool_sizes(facts, table, scope, k)))
 }
 
-/// The whole formula over what a scope gives variables. Facts and scope are made once for a graph and a table, and serve
-/// any number of cycles. The counts are found before any clause is built; where one passes its limit they are the answer.
+/// The whole formula over what a scope gives variables. Facts and scope are made once for a graph and a table, and
+/// serve any number of cycles. The counts are found before any clause is built; where one passes its limit they are
+/// the answer.
 pub fn full_in(
     alloc: Global,
     facts: &Facts,
@@ -72,12 +73,7 @@ pub fn full_in(
     ensures vars { IfOk result (λ e. length e.plan.launches ≤ e.cnf.vars) }
 {
     let sizes = count_in(alloc, facts, table, scope, k)?;
-    if pass_limit(sizes) {
-        return Err(EncodeFault::Size {
-            vars: sizes.vars,
-            clauses: sizes.clauses,
-        });
-    }
+    sizes.within_limits()?;
     Ok(build_whole(alloc, facts, table, scope, k)?)
 }
 
@@ -132,8 +128,8 @@ pub fn full_as(
         → ¬ IsTooLarge (whole_formula graph.now table.now k l)) }
     ensures vars { IfOk result (λ e. length e.plan.launches ≤ e.cnf.vars) }
 
-    // What the values of variables show fits where they satisfy the clauses, and each schedule that fits has a part that
-    // fits and is shown.
+    // What the values of variables show fits where they satisfy the clauses, and each schedule that fits has a part
+    // that fits and is shown.
     ensures shown { IfOk result (λ e. (v : ℕ → Bool) → Satisfies v e.cnf.clauses
         → Fits graph.now table.now k (shown v (numbered 0 e.plan.launches))) }
     ensures some { IfOk result (λ e. (ls : List LaunchOf) → Fits graph.now table.now k ls

@@ -33,5 +33,5 @@ abbrev pub given_count : SourceBytes → ℕ → ℕ
 given_count source room = min (min source.step room) (length source.left)
 
 -- how many of n bytes a write takes
-abbrev pub taken_count : SinkBytes → ℕ → ℕ
-taken_count sink n = min (min sink.step n) (sink.room - length sink.held)
+abbrev pub written_count : SinkBytes → ℕ → ℕ
+written_count sink n = min (min sink.step n) (sink.room - length sink.held)

@@ -3,14 +3,14 @@ ghost use Rattle.std.specs.Prelude.{◌≡◌, ◌⊎◌, ◌<◌, ◌≤◌, []
 ghost use Rattle.std.specs.Io.{WritesAtMost};
 ghost use Rattle.std.specs.Io.KnownBytes.{WriteAppends};
 ghost use Rattle.outside_io.specs.Causes.{HasCause, next_count};
-ghost use Rattle.outside_io.specs.InMemory.{taken_count};
+ghost use Rattle.outside_io.specs.InMemory.{written_count};
 
 use crate::{Failed, MemSink, Sink};
 use items::NoMemory;
 use std::alloc::Global;
 use std::marker::Model;
 
-/// A `MemSink`, but also the writes whose numbers, from 1, are listed fail. These append nothing.
+/// A `MemSink` of which the writes whose numbers, from 1, are listed fail too. These append nothing.
 #[derive(Drop)]
 pub struct FailingSink {
     inner: MemSink,
@@ -72,7 +72,7 @@ impl Sink for FailingSink {
         ensures full { (0 < length bytes.now) × (self.old.inner.room ≤ length self.old.inner.held) → IsErr result }
         ensures failed { IsErr result → Contains self.old.fails (next_count self.old.calls)
             ⊎ ((0 < length bytes.now) × (self.old.inner.room ≤ length self.old.inner.held)) }
-        ensures count { IfOk result (λ n. n ≡ taken_count self.old.inner (length bytes.now)) }
+        ensures count { IfOk result (λ n. n ≡ written_count self.old.inner (length bytes.now)) }
         ensures calls { self.new.calls ≡ next_count self.old.calls }
         ensures keeps { (self.new.fails ≡ self.old.fails)
             × (self.new.inner.room ≡ self.old.inner.room) × (self.new.inner.step ≡ self.old.inner.step) }

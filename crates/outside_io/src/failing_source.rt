@@ -8,7 +8,7 @@ ghost use Rattle.outside_io.specs.InMemory.{given_count};
 use crate::{Failed, MemSource, Source};
 use std::marker::Model;
 
-/// A `MemSource`, but exactly the reads whose numbers, from 1, are listed fail. These give nothing.
+/// A `MemSource` of which exactly the reads whose numbers, from 1, are listed fail. These give nothing.
 #[derive(Drop)]
 pub struct FailingSource {
     inner: MemSource,

@@ -3,7 +3,7 @@ ghost use Rattle.std.specs.Prelude.{◌≡◌, ◌↔◌, ◌<◌, ◌≤◌, []
 ghost use Rattle.std.specs.Io.{WritesAtMost};
 ghost use Rattle.std.specs.Io.KnownBytes.{WriteAppends};
 ghost use Rattle.outside_io.specs.Causes.{HasCause};
-ghost use Rattle.outside_io.specs.InMemory.{taken_count};
+ghost use Rattle.outside_io.specs.InMemory.{written_count};
 
 use crate::{Failed, Sink};
 use items::NoMemory;
@@ -62,7 +62,7 @@ impl Sink for MemSink {
         ensures bytes { WriteAppends (Some self.old.held) (Some self.new.held) result bytes.now }
         ensures cause { HasCause self.old.faults self.new.faults result }
         ensures full { IsErr result ↔ ((0 < length bytes.now) × (self.old.room ≤ length self.old.held)) }
-        ensures count { IfOk result (λ n. n ≡ taken_count self.old (length bytes.now)) }
+        ensures count { IfOk result (λ n. n ≡ written_count self.old (length bytes.now)) }
         ensures keeps { (self.new.room ≡ self.old.room) × (self.new.step ≡ self.old.step) }
     {
         let free = self.room - self.held.len();

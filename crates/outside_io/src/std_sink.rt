@@ -8,7 +8,7 @@ use crate::{Failed, Sink};
 use std::io::Write;
 use std::marker::Model;
 
-/// A writer of std. It tells no bytes, and counts each error, and each answer that it took no byte of some.
+/// A writer of std. It tells no bytes. It counts each error, and each write of at least one byte that took none.
 #[derive(Drop)]
 pub struct StdSink<W> {
     writer: W,

@@ -1,4 +1,4 @@
--- Matches of computed rules, by the placements of their left sides. What `axiom_base` promises of these rules is given
+-- Matches of computed rules, by the substitutions of their left sides. What `axiom_base` promises of these rules is given
 -- here as arguments.
 use Rattle.std.proofs.Common.{◌≡◌, ℕ, ◌+◌, ◌<◌, List, Option, Some, None, length, get_or, drop, replicate, refl, sym, ap, ◌∙◌, subst, arith}
 use Rattle.std.specs.Prelude.{Contains, ◌↔◌, true, false, is_some, MatchOption}
@@ -15,11 +15,11 @@ use Rattle.axiom_base.specs.Schemes.{Scheme, computed, IsOf, itself, calculated,
 use Rattle.axiom_base.specs.declared.kinds.Calc.{Calc}
 use Rattle.egraph.specs.Graph.{Graph, IsGraph, HasConstant}
 use Rattle.pattern_match.specs.Classes.{IsClass, CanFindClass}
-use Rattle.pattern_match.specs.Bindings.{IsPlacement, CanGive, AreGiven, AreUnmet, IsUnmetGiven}
-use Rattle.pattern_match.specs.Matches.{IsMatch, IsUnmet, IsMatchOf, IsUnmetOf, IsUnmetCalc}
+use Rattle.pattern_match.specs.Bindings.{IsSubstitution, AreUnmet, IsUnmetGiven}
+use Rattle.pattern_match.specs.Matches.{variables_of, IsMatch, IsUnmet, IsMatchOf, IsUnmetOf, IsUnmetCalc, CanGive, AreGiven}
 use Rattle.pattern_match.specs.declared.found.Match.{Match}
 use Rattle.pattern_match.proofs.Walking.{one_class}
-use Rattle.pattern_match.proofs.Matching.{sort_below, placed_present, class_has, is_unmet, unmet_differs}
+use Rattle.pattern_match.proofs.Matching.{sort_below, matched_present, class_has, is_unmet, unmet_differs}
 use Rattle.pattern_match.proofs.ConstantsOf.{zip_length, zip_at, zip_from, one_list}
 
 -- some constant is given
@@ -32,9 +32,6 @@ computed_only s q kind p (calculated other ws e is) =
     let k : other ≡ kind = cc in
     (ws, e, subst (λ x. IsCalc x ws e) k is, ap (λ x. calc_rewrite x ws e) k)
 computed_only s q kind p (folded op cs words count) = absurd (cc)
-
-abbrev pub count_for : Calc → ℕ
-count_for kind = first_constant kind + constants_of kind
 
 abbrev pub AreWellFormed : Type 0
 AreWellFormed = (kind : Calc) (cs : List ℕ) (e : ℕ) → length cs ≡ constants_of kind → IsWord e → IsUsable (calc_rewrite kind cs e)
@@ -56,30 +53,27 @@ module _ (usable : AreWellFormed) (last : EndInConstants) where
   usable_at : (kind : Calc) (e : ℕ) → IsWord e → IsUsable (calc_rewrite kind (some_words (constants_of kind)) e)
   usable_at kind e w = usable kind (some_words (constants_of kind)) e (some_words-length (constants_of kind)) w
 
-  pub left_occurs : (kind : Calc) (n : ℕ) → n < count_for kind → Occurs n (calc_left kind)
+  pub left_occurs : (kind : Calc) (n : ℕ) → n < variables_of kind → Occurs n (calc_left kind)
   left_occurs kind n l = (usable_at kind 0 (omega arith)).all n (omega (arith, l, last kind))
 
-  pub left_below : (kind : Calc) → AreBelow (count_for kind) (calc_left kind)
+  pub left_below : (kind : Calc) → AreBelow (variables_of kind) (calc_left kind)
   left_below kind = let u = usable_at kind 0 (omega arith) in subst (λ n. AreBelow n (calc_left kind)) (last kind) (sort_below (calc_variables kind) u.sort (calc_left kind) u.left)
 
-  right_below : (kind : Calc) (e : ℕ) → IsWord e → AreBelow (count_for kind) (calc_right kind e)
+  right_below : (kind : Calc) (e : ℕ) → IsWord e → AreBelow (variables_of kind) (calc_right kind e)
   right_below kind e w = let u = usable_at kind e w in subst (λ n. AreBelow n (calc_right kind e)) (last kind) (sort_below (calc_variables kind) u.sort (calc_right kind e) u.right)
 
   module _ (g : Graph Op) (is : IsGraph op_signature g) (kind : Calc) (cs : List ℕ) where
-    pub can_give : IsPlacement g (calc_left kind) (count_for kind) cs → CanGive g kind cs
-    can_give h = record { graph = is; present = placed_present g is (calc_left kind) (count_for kind) (left_occurs kind) cs h; count = h.length_is }
-
-    pub left_can : CanGive g kind cs → CanFindClass g cs (calc_left kind)
-    left_can h = record { graph = h.graph; present = h.present; below = subst (λ n. AreBelow n (calc_left kind)) (sym h.count) (left_below kind) }
+    pub can_give : IsSubstitution g (calc_left kind) (variables_of kind) cs → CanGive g kind cs
+    can_give h = record { graph = is; present = matched_present g is (calc_left kind) (variables_of kind) (left_occurs kind) cs h; count = h.length_is }
 
     pub right_can : (e : ℕ) → IsWord e → CanGive g kind cs → CanFindClass g cs (calc_right kind e)
     right_can e w h = record { graph = h.graph; present = h.present; below = subst (λ n. AreBelow n (calc_right kind e)) (sym h.count) (right_below kind e w) }
 
     module _ (numbers : AreNumbered) where
-      given_match : (h : IsPlacement g (calc_left kind) (count_for kind) cs) (e : ℕ) (a : AreGiven g kind cs e) → IsMatch g (calc_rewrite kind a.words e) cs h.class
+      given_match : (h : IsSubstitution g (calc_left kind) (variables_of kind) cs) (e : ℕ) (a : AreGiven g kind cs e) → IsMatch g (calc_rewrite kind a.words e) cs h.class
       given_match h e a = record {
         count = h.length_is ∙ sym (last kind);
-        present = placed_present g is (calc_left kind) (count_for kind) (left_occurs kind) cs h;
+        present = matched_present g is (calc_left kind) (variables_of kind) (left_occurs kind) cs h;
         left = h.left;
         constants = λ n c k.
             let m = (numbers (first_constant kind) a.words n c).0 k in
@@ -90,7 +84,7 @@ module _ (usable : AreWellFormed) (last : EndInConstants) where
             subst (λ x. HasConstant op_signature g.rows x c) place (subst (λ x. HasConstant op_signature g.rows (get_or (drop (first_constant kind) cs) m.0 0) x) word at);
       }
 
-      match_given : (ws : List ℕ) (e c : ℕ) → IsCalc kind ws e → IsMatch g (calc_rewrite kind ws e) cs c → IsPlacement g (calc_left kind) (count_for kind) cs × AreGiven g kind cs e
+      match_given : (ws : List ℕ) (e c : ℕ) → IsCalc kind ws e → IsMatch g (calc_rewrite kind ws e) cs c → IsSubstitution g (calc_left kind) (variables_of kind) cs × AreGiven g kind cs e
       match_given ws e c is_calc m = (
         record { length_is = m.count ∙ last kind; class = c; has = class_has g cs (calc_left kind) m.present m.left; left = m.left },
         record {
@@ -103,16 +97,16 @@ module _ (usable : AreWellFormed) (last : EndInConstants) where
         },
       )
 
-      pub computed_matched : IsPlacement g (calc_left kind) (count_for kind) cs × ((e : ℕ) × AreGiven g kind cs e) → IsMatchOf g (computed kind) cs
+      pub computed_matched : IsSubstitution g (calc_left kind) (variables_of kind) cs × ((e : ℕ) × AreGiven g kind cs e) → IsMatchOf g (computed kind) cs
       computed_matched h = record { rule = calc_rewrite kind h.1.1.words h.1.0; of = calculated kind h.1.1.words h.1.0 h.1.1.calc; class = h.0.class; match = given_match h.0 h.1.0 h.1.1 }
 
-      pub matched_computed : IsMatchOf g (computed kind) cs → IsPlacement g (calc_left kind) (count_for kind) cs × ((e : ℕ) × AreGiven g kind cs e)
+      pub matched_computed : IsMatchOf g (computed kind) cs → IsSubstitution g (calc_left kind) (variables_of kind) cs × ((e : ℕ) × AreGiven g kind cs e)
       matched_computed m =
           let o = computed_only (computed kind) m.rule kind refl m.of in
           let b = match_given o.0 o.1 m.class o.2 (subst (λ q. IsMatch g q cs m.class) o.3 m.match) in
           (b.0, (o.1, b.1))
 
-      pub computed_unmet : IsPlacement g (calc_left kind) (count_for kind) cs × AreUnmet g kind cs → IsUnmetOf g (computed kind) cs
+      pub computed_unmet : IsSubstitution g (calc_left kind) (variables_of kind) cs × AreUnmet g kind cs → IsUnmetOf g (computed kind) cs
       computed_unmet h =
           let a = h.1.given in
           record {
@@ -122,7 +116,7 @@ module _ (usable : AreWellFormed) (last : EndInConstants) where
             unmet = is_unmet g (calc_rewrite kind a.words h.1.e) cs h.0.class (given_match h.0 h.1.e a) h.1.unmet;
           }
 
-      pub unmet_computed : IsUnmetOf g (computed kind) cs → IsPlacement g (calc_left kind) (count_for kind) cs × AreUnmet g kind cs
+      pub unmet_computed : IsUnmetOf g (computed kind) cs → IsSubstitution g (calc_left kind) (variables_of kind) cs × AreUnmet g kind cs
       unmet_computed u =
           let o = computed_only (computed kind) u.rule kind refl u.of in
           let v = subst (λ q. IsUnmet g q cs u.class) o.3 u.unmet in
@@ -151,7 +145,7 @@ module _ (g : Graph Op) (is : IsGraph op_signature g) (kind : Calc) (m : Match) 
   pub met_if : ((e : ℕ) → IsUnmetGiven g kind m e → ⊥) → AreUnmet g kind m.classes → ⊥
   met_if none u = none u.e (record { given = u.given; unmet = λ k. u.unmet (record { class = m.class; first = left; second = k }) })
 
-  pub unmet_calc : (usable : AreWellFormed) (last : EndInConstants) (numbers : AreNumbered) → IsPlacement g (calc_left kind) (count_for kind) m.classes → (e : ℕ) → IsUnmetGiven g kind m e → (x : Match) → x ≡ record { classes = m.classes; class = m.class; given = Some e } → IsUnmetCalc g kind x
+  pub unmet_calc : (usable : AreWellFormed) (last : EndInConstants) (numbers : AreNumbered) → IsSubstitution g (calc_left kind) (variables_of kind) m.classes → (e : ℕ) → IsUnmetGiven g kind m e → (x : Match) → x ≡ record { classes = m.classes; class = m.class; given = Some e } → IsUnmetCalc g kind x
   unmet_calc usable last numbers h e u x same =
       let a = u.given in
       let k = given_match usable last g is kind m.classes numbers h e a in

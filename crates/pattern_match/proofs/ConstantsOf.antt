@@ -9,7 +9,7 @@ use Rattle.std.proofs.lemmas.List.Elements.{all_zip_more}
 use Rattle.axiom_base.specs.Conditions.{IsCalc}
 use Rattle.axiom_base.specs.Computed.{first_constant}
 use Rattle.axiom_base.specs.declared.kinds.Calc.{Calc}
-use Rattle.pattern_match.specs.Bindings.{HaveConstants, AreGiven}
+use Rattle.pattern_match.specs.Matches.{HaveConstants, AreGiven}
 
 pub zip_length : (R : ℕ → ℕ → Type 0) (xs ys : List ℕ) → AllZip R xs ys → length ys ≡ length xs
 zip_length R [] [] h = refl

@@ -4,7 +4,7 @@ use Rattle.std.proofs.lemmas.List.{get_or-set_same, get_or-set_other, length-set
 use Rattle.std.proofs.lemmas.List.Kept.{AllPairs-cons}
 use Rattle.std.proofs.lemmas.List.Elements.{All-append, Contains-append_left, Contains-append_right, Contains-append_cases, Contains-get_or}
 use Rattle.std.proofs.lemmas.Bool.Decides.{eqb_tells}
-use Rattle.pattern_match.specs.Bindings.{Binding, known, Agrees, Covered, Apart, Finds, IsBound, AreBound, Keeps}
+use Rattle.pattern_match.specs.Bindings.{Binding, known_class, Agrees, Covered, Apart, Finds, IsBound, AreBound, Keeps}
 
 pub pairs_append : {X : Type 0} (R : X → X → Type 0) (xs ys : List X) → AllPairs R xs → AllPairs R ys → ((x y : X) → Contains xs x → Contains ys y → R x y) → AllPairs R (xs ++ ys)
 pairs_append R [] ys p q r = q
@@ -95,7 +95,7 @@ keeps_through bs ds V W U out parts f g = record {
 
 -- nothing else is known of it
 abbrev pub IsFree : Binding → ℕ → ℕ → Type 0
-IsFree b v c = (known b v ≡ None) ⊎ (known b v ≡ Some c)
+IsFree b v c = (known_class b v ≡ None) ⊎ (known_class b v ≡ Some c)
 
 pub set_agrees : (b : Binding) (v c : ℕ) (cs : List ℕ) → v < length b → IsFree b v c → Agrees (set b v (Some c)) cs → Agrees b cs × (get_or cs v 0 ≡ c)
 set_agrees b v c cs l free h =
@@ -103,8 +103,8 @@ set_agrees b v c cs l free h =
       record {
         count = h.count ∙ length-set b v (Some c);
         each = λ w x k. elim (eqb_tells w v) [
-          | inl e ↦ (let kv : known b v ≡ Some x = subst (λ u. known b u ≡ Some x) e.1 k in
-              let xc : c ≡ x = ⊎_elim (λ (n : known b v ≡ None). absurd (cc)) (λ (s : known b v ≡ Some c). cc) free in
+          | inl e ↦ (let kv : known_class b v ≡ Some x = subst (λ u. known_class b u ≡ Some x) e.1 k in
+              let xc : c ≡ x = ⊎_elim (λ (n : known_class b v ≡ None). absurd (cc)) (λ (s : known_class b v ≡ Some c). cc) free in
               subst (λ u. get_or cs u 0 ≡ x) (sym e.1) (at ∙ xc))
           | inr e ↦ h.each w x (get_or-set_other b v w (Some c) None e.1 ∙ k)
         ];
@@ -116,7 +116,7 @@ pub agrees_set : (b : Binding) (v c : ℕ) (cs : List ℕ) → v < length b → 
 agrees_set b v c cs l h at = record {
   count = h.count ∙ sym (length-set b v (Some c));
   each = λ w x k. elim (eqb_tells w v) [
-    | inl e ↦ (let s : Some c ≡ Some x = sym (get_or-set_same b v (Some c) None l) ∙ subst (λ u. known (set b v (Some c)) u ≡ Some x) e.1 k in
+    | inl e ↦ (let s : Some c ≡ Some x = sym (get_or-set_same b v (Some c) None l) ∙ subst (λ u. known_class (set b v (Some c)) u ≡ Some x) e.1 k in
         let xc : c ≡ x = cc in
         subst (λ u. get_or cs u 0 ≡ x) (sym e.1) (at ∙ xc))
     | inr e ↦ h.each w x (sym (get_or-set_other b v w (Some c) None e.1) ∙ k)
@@ -126,6 +126,6 @@ agrees_set b v c cs l h at = record {
 pub set_bound : (b : Binding) (v c w : ℕ) → v < length b → (IsBound b w ⊎ (w ≡ v)) → IsBound (set b v (Some c)) w
 set_bound b v c w l h =
     elim (eqb_tells w v) [
-      | inl e ↦ (c, subst (λ u. known (set b v (Some c)) u ≡ Some c) (sym e.1) (get_or-set_same b v (Some c) None l))
+      | inl e ↦ (c, subst (λ u. known_class (set b v (Some c)) u ≡ Some c) (sym e.1) (get_or-set_same b v (Some c) None l))
       | inr e ↦ elim h [ inl k ↦ (k.0, get_or-set_other b v w (Some c) None e.1 ∙ k.1) | inr k ↦ absurd (e.1 k) ]
     ]

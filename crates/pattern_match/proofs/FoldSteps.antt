@@ -18,8 +18,7 @@ use Rattle.axiom_base.specs.Schemes.{folding, folded}
 use Rattle.egraph.specs.declared.rows.Row.{Row}
 use Rattle.egraph.specs.Graph.{Graph, IsGraph, HasClass, HasConstant, HasRow}
 use Rattle.pattern_match.specs.Classes.{IsClass, AreClasses, at_variable, at_row, no_classes, classes}
-use Rattle.pattern_match.specs.Bindings.{HaveConstants}
-use Rattle.pattern_match.specs.Matches.{IsMatch, IsUnmetFold}
+use Rattle.pattern_match.specs.Matches.{IsMatch, IsUnmetFold, HaveConstants}
 use Rattle.pattern_match.proofs.Walking.{one_class}
 use Rattle.pattern_match.proofs.ConstantsOf.{zip_length, zip_at, zip_from, one_list}
 use Rattle.pattern_match.proofs.MatchSorts.{fold_only, words_length, drop_none}

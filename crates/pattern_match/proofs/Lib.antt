@@ -1,7 +1,7 @@
 pub mod Finding
 pub mod Walking
 pub mod RowSteps
-pub mod Settling
+pub mod Substitutions
 pub mod Choosing
 pub mod Matching
 pub mod ReadingSteps

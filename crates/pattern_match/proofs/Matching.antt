@@ -1,4 +1,4 @@
--- Matches of rules, by the placements of their left sides.
+-- Matches of rules, by the substitutions of their left sides.
 use Rattle.std.proofs.Common.{◌≡◌, ℕ, suc, ◌<◌, ◌+◌, List, length, get_or, refl, sym, subst, inl, inr, arith}
 use Rattle.std.specs.Prelude.{All, AllPairs, Contains}
 use Rattle.std.proofs.lemmas.List.{get_or_default}
@@ -13,7 +13,7 @@ use Rattle.axiom_base.specs.Schemes.{Scheme, plain, IsOf, itself, calculated, fo
 use Rattle.egraph.specs.declared.rows.Row.{Row}
 use Rattle.egraph.specs.Graph.{Graph, IsGraph, HasClass, Agree}
 use Rattle.pattern_match.specs.Classes.{IsClass, AreClasses, at_variable, at_row, classes, HaveOneClass, CanFindClass}
-use Rattle.pattern_match.specs.Bindings.{IsPlacement}
+use Rattle.pattern_match.specs.Bindings.{IsSubstitution}
 use Rattle.pattern_match.specs.Matches.{IsMatch, IsUnmet, IsMatchOf, IsUnmetOf}
 use Rattle.pattern_match.proofs.Walking.{one_class}
 
@@ -28,7 +28,7 @@ mutual
   sorts_below variables op at none h = tt
   sorts_below variables op at (more t ts) h = (sort_below variables _ t h.0, sorts_below variables op (at + 1) ts h.1)
 
--- ---- the classes of a placement are of the graph
+-- ---- the classes of a substitution are of the graph
 
 module _ (g : Graph Op) (is : IsGraph op_signature g) (cs : List ℕ) (v : ℕ) where
   mutual
@@ -41,8 +41,8 @@ module _ (g : Graph Op) (is : IsGraph op_signature g) (cs : List ℕ) (v : ℕ) 
     place_has_in none o k h = absurd o
     place_has_in (more p ps) o (classes {c} {cs = ds} k m) h = elim o [ inl a ↦ place_has p a k (h 0 c (omega arith)) | inr b ↦ place_has_in ps b m (λ i d l. h (suc i) d (omega (arith, l))) ]
 
-pub placed_present : (g : Graph Op) → IsGraph op_signature g → (p : Tree Op) (n : ℕ) → ((v : ℕ) → v < n → Occurs v p) → (cs : List ℕ) → IsPlacement g p n cs → All (HasClass g) cs
-placed_present g is p n all cs h = λ k d l. subst (HasClass g) (get_or_default cs k 0 d l) (place_has g is cs k p (all k (omega (arith, l, h.length_is))) h.left h.has)
+pub matched_present : (g : Graph Op) → IsGraph op_signature g → (p : Tree Op) (n : ℕ) → ((v : ℕ) → v < n → Occurs v p) → (cs : List ℕ) → IsSubstitution g p n cs → All (HasClass g) cs
+matched_present g is p n all cs h = λ k d l. subst (HasClass g) (get_or_default cs k 0 d l) (place_has g is cs k p (all k (omega (arith, l, h.length_is))) h.left h.has)
 
 pub class_has : (g : Graph Op) (cs : List ℕ) (t : Tree Op) {c : ℕ} → All (HasClass g) cs → IsClass g cs t c → HasClass g c
 class_has g cs (variable n) h (at_variable l) = h n 0 l
@@ -69,42 +69,35 @@ plain_only s q r e (calculated kind cs n is) = absurd (cc)
 plain_only s q r e (folded op cs words count) = absurd (cc)
 
 module _ (g : Graph Op) (is : IsGraph op_signature g) (r : Rewrite) (rule : IsRule r) (cs : List ℕ) where
-  pub rule_match : (h : IsPlacement g r.left (length r.variables) cs) → IsMatch g r cs h.class
+  pub rule_match : (h : IsSubstitution g r.left (length r.variables) cs) → IsMatch g r cs h.class
   rule_match h = record {
     count = h.length_is;
-    present = placed_present g is r.left (length r.variables) rule.all cs h;
+    present = matched_present g is r.left (length r.variables) rule.all cs h;
     left = h.left;
     constants = λ n c k. absurd (let m = subst (λ xs. Contains xs (n, c)) rule.free k in omega (arith, m.1));
   }
 
-  match_rule : (c : ℕ) → IsMatch g r cs c → IsPlacement g r.left (length r.variables) cs
+  match_rule : (c : ℕ) → IsMatch g r cs c → IsSubstitution g r.left (length r.variables) cs
   match_rule c m = record { length_is = m.count; class = c; has = class_has g cs r.left m.present m.left; left = m.left }
 
-  pub rule_matched : IsPlacement g r.left (length r.variables) cs → IsMatchOf g (plain r) cs
+  pub rule_matched : IsSubstitution g r.left (length r.variables) cs → IsMatchOf g (plain r) cs
   rule_matched h = record { rule = r; of = itself r; class = h.class; match = rule_match h }
 
-  pub matched_rule : IsMatchOf g (plain r) cs → IsPlacement g r.left (length r.variables) cs
+  pub matched_rule : IsMatchOf g (plain r) cs → IsSubstitution g r.left (length r.variables) cs
   matched_rule m = match_rule m.class (subst (λ q. IsMatch g q cs m.class) (plain_only (plain r) m.rule r refl m.of) m.match)
 
-  pub rule_unmet : IsPlacement g r.left (length r.variables) cs × (HaveOneClass g cs r.left r.right → ⊥) → IsUnmetOf g (plain r) cs
+  pub rule_unmet : IsSubstitution g r.left (length r.variables) cs × (HaveOneClass g cs r.left r.right → ⊥) → IsUnmetOf g (plain r) cs
   rule_unmet h = record { rule = r; of = itself r; class = h.0.class; unmet = is_unmet g r cs h.0.class (rule_match h.0) h.1 }
 
-  pub unmet_rule : IsUnmetOf g (plain r) cs → IsPlacement g r.left (length r.variables) cs × (HaveOneClass g cs r.left r.right → ⊥)
+  pub unmet_rule : IsUnmetOf g (plain r) cs → IsSubstitution g r.left (length r.variables) cs × (HaveOneClass g cs r.left r.right → ⊥)
   unmet_rule u =
       let v = subst (λ q. IsUnmet g q cs u.class) (plain_only (plain r) u.rule r refl u.of) u.unmet in
       (match_rule u.class v.match, unmet_differs g r cs is.distinct u.class v)
 
-  pub left_reads : IsPlacement g r.left (length r.variables) cs → CanFindClass g cs r.left
-  left_reads h = record {
-    graph = is;
-    present = placed_present g is r.left (length r.variables) rule.all cs h;
-    below = subst (λ n. AreBelow n r.left) (sym h.length_is) (sort_below r.variables rule.sides.0 r.left rule.sides.1);
-  }
-
-  pub right_reads : IsPlacement g r.left (length r.variables) cs → CanFindClass g cs r.right
+  pub right_reads : IsSubstitution g r.left (length r.variables) cs → CanFindClass g cs r.right
   right_reads h = record {
     graph = is;
-    present = placed_present g is r.left (length r.variables) rule.all cs h;
+    present = matched_present g is r.left (length r.variables) rule.all cs h;
     below = subst (λ n. AreBelow n r.right) (sym h.length_is) (sort_below r.variables rule.sides.0 r.right rule.sides.2);
   }
 
@@ -121,7 +114,7 @@ module _ (g : Graph Op) (is : IsGraph op_signature g) (t u : Tree Op) (cs : List
   one_if k = record { class = c; first = left; second = k }
 
 -- a match with its class
-pub unmet_with : (g : Graph Op) (is : IsGraph op_signature g) (r : Rewrite) (rule : IsRule r) (cs : List ℕ) (c : ℕ) → IsPlacement g r.left (length r.variables) cs → IsClass g cs r.left c → (IsClass g cs r.right c → ⊥) → IsUnmet g r cs c
+pub unmet_with : (g : Graph Op) (is : IsGraph op_signature g) (r : Rewrite) (rule : IsRule r) (cs : List ℕ) (c : ℕ) → IsSubstitution g r.left (length r.variables) cs → IsClass g cs r.left c → (IsClass g cs r.right c → ⊥) → IsUnmet g r cs c
 unmet_with g is r rule cs c h left never =
     let m = rule_match g is r rule cs h in
     record { match = record { count = m.count; present = m.present; left = left; constants = m.constants }; right = never }

@@ -14,7 +14,7 @@ use Rattle.word_terms.specs.declared.term.Term.{Term}
 use Rattle.word_terms.specs.declared.term.Term.TheVariants.{Var, App}
 use Rattle.egraph.specs.Graph.{Graph, HasClass, IsGraph, IsPresent, HasRow, LacksRow, AreMade, read_through}
 use Rattle.pattern_match.specs.Classes.{IsClass, AreClasses, at_variable, at_row, no_classes, classes, CanFindClass}
-use Rattle.pattern_match.specs.Bindings.{nodes}
+use Rattle.pattern_match.specs.Bindings.{node_count}
 use Rattle.pattern_match.proofs.Walking.{one_class, one_classes, are_push, below_at, variable_is, application_is, operands_smaller, in_trees, at_tree, one_more_tree, operand_smaller}
 use Rattle.pattern_match.proofs.Matching.{class_has}
 
@@ -63,7 +63,7 @@ module _ (g : Graph Op) (places : List ℕ) where
     pub next_read : (cs : List ℕ) (d : ℕ) → AreClasses g places (operands_of (take k (trees_of items))) cs → IsClass g places (tree_of x) d → AreClasses g places (operands_of (take (k + 1) (trees_of items))) (cs ++ d ∷ [])
     next_read cs d h m = subst (λ ts. AreClasses g places (operands_of ts) (cs ++ d ∷ [])) (sym (one_more_tree items k x l at)) (are_push g places (take k (trees_of items)) (tree_of x) h m)
 
-    pub smaller_operand : nodes (tree_of x) < nodes (tree_of p)
+    pub smaller_operand : node_count (tree_of x) < node_count (tree_of p)
     smaller_operand = omega (arith, operand_smaller items k x l at, operands_smaller p op v items is e)
 
   pub all_taken : (items : List (Term Op)) (k : ℕ) → length items ≤ k → take k (trees_of items) ≡ trees_of items

@@ -15,7 +15,7 @@ use Rattle.word_terms.specs.Sorting.{Occurs, OccursInOne, tree_count}
 use Rattle.egraph.specs.declared.rows.Row.{Row}
 use Rattle.egraph.specs.Graph.{Graph, Agree, IsGraph}
 use Rattle.pattern_match.specs.Classes.{IsClass, AreClasses, at_variable, at_row, no_classes, classes}
-use Rattle.pattern_match.specs.Bindings.{Binding, known, Agrees, Covered, Apart, Finds, IsBound, AreBound, Keeps, CanExtend, CanExtendAll, Extended, ExtendedAll, IsByRow, ExtendedBefore, nodes, nodes_all}
+use Rattle.pattern_match.specs.Bindings.{Binding, known_class, Agrees, Covered, Apart, Finds, IsBound, AreBound, Keeps, CanExtend, CanExtendAll, Extended, ExtendedAll, IsByRow, ExtendedBefore, node_count, node_count_all}
 use Rattle.pattern_match.proofs.Finding.{covered_left, covered_right, covered_cases, covered_one, one_covered, finds_none, finds_one, finds_same, finds_append, keeps_none, keeps_append, keeps_itself, keeps_through, IsFree, set_agrees, agrees_set, set_bound}
 
 -- ---- a variable
@@ -40,7 +40,7 @@ apart_before bs i b d apart l is h =
     subst₂ Apart at it (apart k i d lk l)
 
 module _ (v c : ℕ) (bs : List Binding) (i : ℕ) (b : Binding) (l : i < length bs) (is : b ≡ get_or bs i b) (out : List Binding) (h : Binds v c (take i bs) bs out) where
-  pub binds_skip : ((x : ℕ) × (known b v ≡ Some x) × (x ≢ c)) → Binds v c (take i bs ++ b ∷ []) bs out
+  pub binds_skip : ((x : ℕ) × (known_class b v ≡ Some x) × (x ≢ c)) → Binds v c (take i bs ++ b ∷ []) bs out
   binds_skip other = record {
     finds = finds_same _ _ out
         (λ cs k. (covered_left (take i bs) (b ∷ []) cs k.0, k.1))
@@ -250,8 +250,8 @@ module _ (v c : ℕ) (bs : List Binding) (i : ℕ) (b bound : Binding) (l : i < 
   taken : take (i + 1) bs ≡ take i bs ++ b ∷ []
   taken = take_more bs i b l ∙ ap (λ x. take i bs ++ x ∷ []) (sym is)
 
-  pub bind_skips : ((x : ℕ) × (known bound v ≡ Some x) × (x ≡ c → ⊥)) → Binds v c (take (i + 1) bs) bs out
-  bind_skips other = subst (λ d. Binds v c d bs out) (sym taken) (binds_skip v c bs i b l is out h (subst (λ y. (x : ℕ) × (known y v ≡ Some x) × (x ≢ c)) e other))
+  pub bind_skips : ((x : ℕ) × (known_class bound v ≡ Some x) × (x ≡ c → ⊥)) → Binds v c (take (i + 1) bs) bs out
+  bind_skips other = subst (λ d. Binds v c d bs out) (sym taken) (binds_skip v c bs i b l is out h (subst (λ y. (x : ℕ) × (known_class y v ≡ Some x) × (x ≢ c)) e other))
 
   pub bind_adds : (made : Binding) (after : List Binding) → CanExtend (variable v) bs → (made ≡ set bound v (Some c)) × IsFree bound v c → after ≡ out ++ made ∷ [] → Binds v c (take (i + 1) bs) bs after
   bind_adds made after can m a =
@@ -287,13 +287,13 @@ pub count_is : (items : List (Term Op)) → tree_count (operands_of (trees_of it
 count_is [] = refl
 count_is (t ∷ ts) = let e = count_is ts in omega (arith, e)
 
-pub operands_smaller : (p : Term Op) (op : Op) (v : Vec (Term Op) Global) (items : List (Term Op)) → p ≡ App op v → items ≡ v.items → nodes_all (operands_of (trees_of items)) + 1 ≡ nodes (tree_of p)
+pub operands_smaller : (p : Term Op) (op : Op) (v : Vec (Term Op) Global) (items : List (Term Op)) → p ≡ App op v → items ≡ v.items → node_count_all (operands_of (trees_of items)) + 1 ≡ node_count (tree_of p)
 operands_smaller p op v items is e =
-    let w : nodes (tree_of p) ≡ 1 + nodes_all (operands_of (trees_of v.items)) = ap nodes (application_is p op v is) in
-    let x : nodes_all (operands_of (trees_of items)) ≡ nodes_all (operands_of (trees_of v.items)) = ap (λ xs. nodes_all (operands_of (trees_of xs))) e in
+    let w : node_count (tree_of p) ≡ 1 + node_count_all (operands_of (trees_of v.items)) = ap node_count (application_is p op v is) in
+    let x : node_count_all (operands_of (trees_of items)) ≡ node_count_all (operands_of (trees_of v.items)) = ap (λ xs. node_count_all (operands_of (trees_of xs))) e in
     omega (arith, w, x)
 
-nodes_at : (ts : List (Tree Op)) (k : ℕ) (d : Tree Op) → k < length ts → nodes (get_or ts k d) ≤ nodes_all (operands_of ts)
+nodes_at : (ts : List (Tree Op)) (k : ℕ) (d : Tree Op) → k < length ts → node_count (get_or ts k d) ≤ node_count_all (operands_of ts)
 nodes_at [] k d l = absurd (omega arith)
 nodes_at (t ∷ ts) zero d l = omega arith
 nodes_at (t ∷ ts) (suc k) d l = let h = nodes_at ts k d (omega arith) in omega (arith, h)
@@ -308,8 +308,8 @@ module _ (items : List (Term Op)) (k : ℕ) (x : Term Op) (l : k < length items)
   pub one_more_tree : take (k + 1) (trees_of items) ≡ take k (trees_of items) ++ tree_of x ∷ []
   one_more_tree = take_more (trees_of items) k (tree_of x) in_trees ∙ ap (λ y. take k (trees_of items) ++ y ∷ []) at_tree
 
-  pub operand_smaller : nodes (tree_of x) ≤ nodes_all (operands_of (trees_of items))
-  operand_smaller = let h = nodes_at (trees_of items) k (tree_of x) in_trees in let e : nodes (get_or (trees_of items) k (tree_of x)) ≡ nodes (tree_of x) = ap nodes at_tree in omega (arith, h, e)
+  pub operand_smaller : node_count (tree_of x) ≤ node_count_all (operands_of (trees_of items))
+  operand_smaller = let h = nodes_at (trees_of items) k (tree_of x) in_trees in let e : node_count (get_or (trees_of items) k (tree_of x)) ≡ node_count (tree_of x) = ap node_count at_tree in omega (arith, h, e)
 
   pub next_can : (g : Graph Op) (bs found : List Binding) (ds : List ℕ) → CanExtendAll (operands_of (trees_of items)) bs → ExtendedAll g (operands_of (take k (trees_of items))) ds bs found → CanExtend (tree_of x) found
   next_can g bs found ds can h = subst (λ t. CanExtend t found) at_tree (can_next g (trees_of items) bs found k (tree_of x) ds can in_trees h)

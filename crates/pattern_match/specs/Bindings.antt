@@ -1,18 +1,16 @@
 -- What the walk over a pattern knows of its variables' classes, and what its steps find. From this project.
-use Rattle.std.specs.Prelude.{◌≡◌, ℕ, ◌+◌, ◌<◌, ◌⊎◌, List, length, get_or, drop, map, unwrap_or, Option, Some, None, All, AllPairs, Contains}
-use Rattle.std.specs.List.{AllZip}
+use Rattle.std.specs.Prelude.{◌≡◌, ℕ, ◌+◌, ◌<◌, ◌⊎◌, List, length, get_or, map, unwrap_or, Option, Some, None, All, AllPairs, Contains}
 use Rattle.word_ops.specs.declared.sorts.Op.{Op}
 use Rattle.word_terms.specs.Tree.{Tree, Trees, variable, application, none, more, AreBelow, EachBelow}
 use Rattle.word_terms.specs.Sorting.{Occurs, OccursInOne}
 use Rattle.egraph.specs.declared.rows.Row.{Row}
-use Rattle.word_terms.specs.Keys.{op_signature}
-use Rattle.axiom_base.specs.Conditions.{IsCalc, constants_of}
-use Rattle.axiom_base.specs.Computed.{first_constant, calc_left, calc_right}
+use Rattle.axiom_base.specs.Computed.{calc_left, calc_right}
 use Rattle.axiom_base.specs.declared.kinds.Calc.{Calc}
-use Rattle.egraph.specs.Graph.{Graph, IsGraph, HasClass, HasConstant}
+use Rattle.egraph.specs.Graph.{Graph, HasClass}
 use Rattle.pattern_match.specs.Classes.{IsClass, AreClasses, HaveOneClass}
 use Rattle.pattern_match.specs.Found.{classes_in}
 use Rattle.pattern_match.specs.Listing.{Lists}
+use Rattle.pattern_match.specs.Matches.{AreGiven}
 use Rattle.pattern_match.specs.declared.found.Match.{Match}
 
 -- for each variable, by its number, the class that is known of it, if one is
@@ -20,13 +18,13 @@ abbrev pub Binding : Type 0
 Binding = List (Option ℕ)
 
 -- the class that is known of the variable
-abbrev pub known : Binding → ℕ → Option ℕ
-known b v = get_or b v None
+abbrev pub known_class : Binding → ℕ → Option ℕ
+known_class b v = get_or b v None
 
 -- the classes are as many as the variables, and what is known of them
 pub record Agrees (b : Binding) (cs : List ℕ) : Type 0 where
   pub count : length cs ≡ length b
-  pub each : (v x : ℕ) → known b v ≡ Some x → get_or cs v 0 ≡ x
+  pub each : (v x : ℕ) → known_class b v ≡ Some x → get_or cs v 0 ≡ x
 
 -- some of the list agrees
 pub record Covered (bs : List Binding) (cs : List ℕ) : Type 0 where
@@ -45,7 +43,7 @@ pub record Finds (Q : List ℕ → Type 0) (out : List Binding) : Type 0 where
   pub apart : AllPairs Apart out
 
 abbrev pub IsBound : Binding → ℕ → Type 0
-IsBound b v = (x : ℕ) × (known b v ≡ Some x)
+IsBound b v = (x : ℕ) × (known_class b v ≡ Some x)
 
 abbrev pub AreBound : List Binding → ℕ → Type 0
 AreBound bs v = All (λ b. IsBound b v) bs
@@ -67,7 +65,7 @@ pub record CanExtendAll (ps : Trees Op) (bs : List Binding) : Type 0 where
   pub below : EachBelow count ps
   pub apart : AllPairs Apart bs
 
--- the items of `out` are those of `bs` with what gives the pattern the class
+-- `out` has the items of `bs`, each extended by what gives the pattern the class
 pub record Extended (g : Graph Op) (p : Tree Op) (c : ℕ) (bs out : List Binding) : Type 0 where
   pub finds : Finds (λ cs. Covered bs cs × IsClass g cs p c) out
   pub keeps : Keeps bs (λ v. Occurs v p) out
@@ -90,18 +88,18 @@ pub record ExtendedBefore (g : Graph Op) (op : Op) (ps : Trees Op) (c end : ℕ)
   pub finds : Finds (λ cs. Covered bs cs × IsByRow g op ps c end cs) out
   pub keeps : Keeps bs (λ v. OccursInOne v ps) out
 
--- how many nodes a pattern has
+-- how many nodes a pattern has: its variables and operators
 abbrev mutual
-  pub nodes : Tree Op → ℕ
-  nodes (variable n) = 1
-  nodes (application op ts) = 1 + nodes_all ts
+  pub node_count : Tree Op → ℕ
+  node_count (variable n) = 1
+  node_count (application op ts) = 1 + node_count_all ts
 
-  pub nodes_all : Trees Op → ℕ
-  nodes_all none = 0
-  nodes_all (more t ts) = nodes t + nodes_all ts
+  pub node_count_all : Trees Op → ℕ
+  node_count_all none = 0
+  node_count_all (more t ts) = node_count t + node_count_all ts
 
 -- the classes, as many as `count`, give the pattern a class of the graph, which is below `end`
-pub record IsPlacedByClass (g : Graph Op) (p : Tree Op) (count end : ℕ) (cs : List ℕ) : Type 0 where
+pub record IsSubstitutionByClass (g : Graph Op) (p : Tree Op) (count end : ℕ) (cs : List ℕ) : Type 0 where
   pub length_is : length cs ≡ count
   pub class : ℕ
   pub before : class < end
@@ -109,7 +107,7 @@ pub record IsPlacedByClass (g : Graph Op) (p : Tree Op) (count end : ℕ) (cs : 
   pub left : IsClass g cs p class
 
 -- the classes, as many as `count`, give the operands those of a row of the operator before a place
-pub record IsPlacedByRow (g : Graph Op) (op : Op) (ps : Trees Op) (count end : ℕ) (cs : List ℕ) : Type 0 where
+pub record IsSubstitutionByRow (g : Graph Op) (op : Op) (ps : Trees Op) (count end : ℕ) (cs : List ℕ) : Type 0 where
   pub length_is : length cs ≡ count
   pub at : ℕ
   pub before : at < end
@@ -119,27 +117,11 @@ pub record IsPlacedByRow (g : Graph Op) (op : Op) (ps : Trees Op) (count end : �
   pub operands : AreClasses g cs ps row.operands
 
 -- the classes, as many as `count`, give the pattern a class of the graph
-pub record IsPlacement (g : Graph Op) (p : Tree Op) (count : ℕ) (cs : List ℕ) : Type 0 where
+pub record IsSubstitution (g : Graph Op) (p : Tree Op) (count : ℕ) (cs : List ℕ) : Type 0 where
   pub length_is : length cs ≡ count
   pub class : ℕ
   pub has : HasClass g class
   pub left : IsClass g cs p class
-
--- each of the classes has the constant in its place
-abbrev pub HaveConstants : Graph Op → List ℕ → List ℕ → Type 0
-HaveConstants g classes words = AllZip (λ class word. HasConstant op_signature g.rows class word) classes words
-
--- the classes are those of a graph of the program, as many as the kind's rules have variables
-pub record CanGive (g : Graph Op) (kind : Calc) (classes : List ℕ) : Type 0 where
-  pub graph : IsGraph op_signature g
-  pub present : All (HasClass g) classes
-  pub count : length classes ≡ first_constant kind + constants_of kind
-
--- the classes behind those of other variables have constants that give e
-pub record AreGiven (g : Graph Op) (kind : Calc) (classes : List ℕ) (e : ℕ) : Type 0 where
-  pub words : List ℕ
-  pub constants : HaveConstants g (drop (first_constant kind) classes) words
-  pub calc : IsCalc kind words e
 
 -- they give the constant e, and the right side that is made with it hasn't the match's class
 pub record IsUnmetGiven (g : Graph Op) (kind : Calc) (m : Match) (e : ℕ) : Type 0 where
@@ -155,14 +137,14 @@ pub record AreUnmet (g : Graph Op) (kind : Calc) (classes : List ℕ) : Type 0 w
 -- nothing is known of `count` variables
 pub record IsUnknown (count : ℕ) (b : Binding) : Type 0 where
   pub length_is : length b ≡ count
-  pub each : (v : ℕ) → known b v ≡ None
+  pub each : (v : ℕ) → known_class b v ≡ None
 
-abbrev pub settled : Binding → List ℕ
-settled b = map (λ o. unwrap_or o 0) b
+abbrev pub substitution : Binding → List ℕ
+substitution b = map (λ o. unwrap_or o 0) b
 
 -- what is known of the variables, all of them, as a match of this class
-abbrev pub settled_match : ℕ → Binding → Match
-settled_match class b = record { classes = settled b; class = class; given = None }
+abbrev pub substitution_match : ℕ → Binding → Match
+substitution_match class b = record { classes = substitution b; class = class; given = None }
 
 -- the matches have the lists of classes with Q, each once, and each has the pattern's class under its own
 pub record AreMatches (g : Graph Op) (p : Tree Op) (Q : List ℕ → Type 0) (out : List Match) : Type 0 where

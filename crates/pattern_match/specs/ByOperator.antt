@@ -7,6 +7,7 @@ use Rattle.word_terms.specs.Keys.{key_of}
 use Rattle.egraph.specs.declared.rows.Row.{Row}
 use Rattle.egraph.specs.Graph.{Graph}
 use Rattle.pattern_match.specs.declared.row_lists.ListKey.{ListKey}
+use Rattle.pattern_match.specs.declared.row_lists.RowTables.{RowTables}
 
 -- what tables go by beside the operator: the class, or nothing
 abbrev pub class_part : Bool → ℕ → ℕ
@@ -40,11 +41,16 @@ abbrev pub first_in : List (ListKey × ℕ) → ListKey → Option ℕ
 first_in firsts key = lookup (same_list key) firsts
 
 -- the tables give the rows from a place on
-pub record AreLists (by_class : Bool) (g : Graph Op) (from : ℕ) (firsts : List (ListKey × ℕ)) (nexts : List (Option ℕ)) :
-    Type 0 where
+pub record AreLists (by_class : Bool) (g : Graph Op) (from : ℕ) (firsts : List (ListKey × ℕ))
+    (nexts : List (Option ℕ)) : Type 0 where
   pub firsts_are : (op : Op) (class : ℕ) → IsNextRow by_class g op class from (first_in firsts (list_key op class))
   pub nexts_are :
       (at : ℕ) (row : Row Op) →
       from ≤ at →
       slice_get g.rows at ≡ Some row →
       IsNextRow by_class g row.op (class_part by_class row.class) (at + 1) (slice_index_or nexts at None)
+
+-- those of all rows, by operator and class and by operator alone
+pub record AreTables (g : Graph Op) (t : RowTables) : Type 0 where
+  pub by_class : AreLists true g 0 t.by_class.firsts.entries t.by_class.nexts.items
+  pub by_operator : AreLists false g 0 t.by_operator.firsts.entries t.by_operator.nexts.items

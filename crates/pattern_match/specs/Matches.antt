@@ -1,6 +1,7 @@
 -- Matches of rules in an E-graph. From Denali (PLDI 2002): a match is an instance of a rule's left side that the graph
 -- holds.
-use Rattle.std.specs.Prelude.{◌≡◌, ℕ, ◌+◌, ◌*◌, List, [], ◌∷◌, length, get_or, Some, All, Contains}
+use Rattle.std.specs.Prelude.{◌≡◌, ℕ, ◌+◌, ◌*◌, List, [], ◌∷◌, length, get_or, drop, Some, All, Contains}
+use Rattle.std.specs.List.{AllZip}
 use Rattle.word_ops.specs.declared.operators.WordOp.{WordOp}
 use Rattle.word_ops.specs.declared.sorts.Op.{Op}
 use Rattle.word_ops.specs.declared.sorts.Op.TheVariants.{Word}
@@ -8,9 +9,10 @@ use Rattle.word_terms.specs.Keys.{op_signature}
 use Rattle.axiom_base.specs.Rewrites.{Rewrite}
 use Rattle.axiom_base.specs.Equations.{constant}
 use Rattle.axiom_base.specs.Schemes.{Scheme, computed, folding, IsOf, weight}
-use Rattle.axiom_base.specs.Computed.{calc_right}
+use Rattle.axiom_base.specs.Conditions.{IsCalc, constants_of}
+use Rattle.axiom_base.specs.Computed.{first_constant, calc_right}
 use Rattle.axiom_base.specs.declared.kinds.Calc.{Calc}
-use Rattle.egraph.specs.Graph.{Graph, HasClass, HasConstant}
+use Rattle.egraph.specs.Graph.{Graph, IsGraph, HasClass, HasConstant}
 use Rattle.egraph.specs.declared.rows.Row.{Row}
 use Rattle.pattern_match.specs.Classes.{IsClass}
 use Rattle.pattern_match.specs.Listing.{Count}
@@ -77,6 +79,26 @@ pub record IsFoldOf (g : Graph Op) (row : Row Op) (fold : Fold) : Type 0 where
   pub unmet : IsUnmetFold g row fold.value
 
 -- ---- computed rules
+
+-- each of the classes has the constant in its place
+abbrev pub HaveConstants : Graph Op → List ℕ → List ℕ → Type 0
+HaveConstants g classes words = AllZip (λ class word. HasConstant op_signature g.rows class word) classes words
+
+-- how many variables the kind's rules have
+abbrev pub variables_of : Calc → ℕ
+variables_of kind = first_constant kind + constants_of kind
+
+-- the classes are those of a graph of the program, as many as the kind's rules have variables
+pub record CanGive (g : Graph Op) (kind : Calc) (classes : List ℕ) : Type 0 where
+  pub graph : IsGraph op_signature g
+  pub present : All (HasClass g) classes
+  pub count : length classes ≡ variables_of kind
+
+-- the classes behind those of other variables have constants that give e
+pub record AreGiven (g : Graph Op) (kind : Calc) (classes : List ℕ) (e : ℕ) : Type 0 where
+  pub words : List ℕ
+  pub constants : HaveConstants g (drop (first_constant kind) classes) words
+  pub calc : IsCalc kind words e
 
 -- the match is an unmet one of the kind's rule whose right side is made with the match's constant
 pub record IsUnmetCalc (g : Graph Op) (kind : Calc) (m : Match) : Type 0 where

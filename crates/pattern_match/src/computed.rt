@@ -1,20 +1,21 @@
 // Matches of computed rules.
-ghost use Rattle.std.specs.Prelude.{◌≡◌, ℕ, ◌^◌, ◌-◌, min, map, true, false, All, IfOk, MatchOption};
+ghost use Rattle.std.specs.Prelude.{◌≡◌, ℕ, ◌^◌, ◌-◌, min, map, All, IfOk, MatchOption};
 ghost use Rattle.word_terms.specs.Keys.{op_signature};
+ghost use Rattle.axiom_base.specs.Computed as sides;
 ghost use Rattle.axiom_base.specs.Schemes.{computed};
 ghost use Rattle.egraph.specs.Graph.{IsGraph};
-ghost use Rattle.pattern_match.specs.Bindings.{CanGive, AreGiven, IsUnmetGiven};
-ghost use Rattle.pattern_match.specs.ByOperator.{AreLists};
+ghost use Rattle.pattern_match.specs.Bindings.{AreMatches, IsSubstitution, IsUnmetGiven};
+ghost use Rattle.pattern_match.specs.ByOperator.{AreTables};
 ghost use Rattle.pattern_match.specs.Listing.{Lists};
-ghost use Rattle.pattern_match.specs.Matches.{IsMatchOf, IsUnmetOf, IsUnmetCalc, IsNeed};
+ghost use Rattle.pattern_match.specs.Matches.{IsMatchOf, IsUnmetOf, IsUnmetCalc, IsNeed, CanGive, AreGiven, variables_of};
 ghost use Rattle.pattern_match.specs.Found.{classes_in};
 
 use crate::constants::constants_at;
 use crate::found::Match;
-use crate::placing::placements;
 use crate::plain::operators;
 use crate::reading::has_class;
 use crate::row_lists::RowTables;
+use crate::searching::substitutions;
 use axiom_base::{
     Calc, calc, calc_left, calc_right, computed_rules_are_true, constants, constants_are_numbered,
     first_constant,
@@ -24,19 +25,17 @@ use items::{Items, NoMemory};
 use std::alloc::Global;
 use word_ops::Op;
 
-/// The matches of the kind's rules, each once, in no stated order: those of the left side where the constants of the
-/// classes of c and d meet the condition.
+/// The matches of the kind's rules, each once, in no stated order: those matches of the left side in which the classes
+/// of c and d have constants that meet the condition.
 pub fn calc_matches(alloc: Global, graph: &Egraph<Op>, kind: Calc) -> Result<Items<Match>, NoMemory>
     ensures exact { IfOk result (λ found. Lists (IsMatchOf graph.now (computed kind)) (map classes_in found)) }
 {
     computed_rules_are_true();
     constants_are_numbered();
     let tables = RowTables::new(alloc, graph)?;
-    let left = calc_left(alloc, kind)?;
-    let count = first_constant(kind) + constants(kind);
-    let placed = placements(alloc, graph, &tables, &left, count)?;
+    let matched = calc_substitutions(alloc, graph, &tables, kind)?;
     let mut found = Vec::new(alloc);
-    for one in &placed {
+    for one in &matched {
         let given = calc_given(alloc, graph, kind, one.classes.as_slice())?;
         if given.is_some() {
             found.push(one.with(alloc, given)?)?;
@@ -45,7 +44,7 @@ pub fn calc_matches(alloc: Global, graph: &Egraph<Op>, kind: Calc) -> Result<Ite
     Ok(Items::from(found))
 }
 
-/// Those of the matches under which the right side has no class, or another one than the left side.
+/// The matches under which the right side has no class, or another class than the left side.
 pub fn calc_unmet(alloc: Global, graph: &Egraph<Op>, kind: Calc) -> Result<Items<Match>, NoMemory>
     ensures exact { IfOk result (λ found. Lists (IsUnmetOf graph.now (computed kind)) (map classes_in found)) }
 {
@@ -53,7 +52,7 @@ pub fn calc_unmet(alloc: Global, graph: &Egraph<Op>, kind: Calc) -> Result<Items
     find_calc_unmet(alloc, graph, &tables, kind)
 }
 
-/// The same by the tables of the graph's rows, which serve for all rules.
+/// The same, found with tables of the graph's rows that serve for all rules.
 pub fn find_calc_unmet(
     alloc: Global,
     graph: &Egraph<Op>,
@@ -61,18 +60,15 @@ pub fn find_calc_unmet(
     kind: Calc,
 ) -> Result<Items<Match>, NoMemory>
     requires graph { IsGraph op_signature graph.now }
-    requires by_class { AreLists true graph.now 0 tables.now.by_class.firsts.entries tables.now.by_class.nexts.items }
-    requires by_operator { AreLists false graph.now 0 tables.now.by_operator.firsts.entries tables.now.by_operator.nexts.items }
+    requires tables { AreTables graph.now tables.now }
     ensures exact { IfOk result (λ found. Lists (IsUnmetOf graph.now (computed kind)) (map classes_in found)) }
     ensures each { IfOk result (All (IsUnmetCalc graph.now kind)) }
 {
     computed_rules_are_true();
     constants_are_numbered();
-    let left = calc_left(alloc, kind)?;
-    let count = first_constant(kind) + constants(kind);
-    let placed = placements(alloc, graph, tables, &left, count)?;
+    let matched = calc_substitutions(alloc, graph, tables, kind)?;
     let mut found = Vec::new(alloc);
-    for one in &placed {
+    for one in &matched {
         let given = unmet_constant(alloc, graph, kind, one)?;
         if given.is_some() {
             found.push(one.with(alloc, given)?)?;
@@ -81,8 +77,26 @@ pub fn find_calc_unmet(
     Ok(Items::from(found))
 }
 
-/// The number of unmet matches times the number of operators of the right side, a constant being one and a variable
-/// none, or 2 ^ 64 - 1 where that is greater.
+// The lists of classes under which the left side of the kind's rules has a class of the graph.
+fn calc_substitutions(
+    alloc: Global,
+    graph: &Egraph<Op>,
+    tables: &RowTables,
+    kind: Calc,
+) -> Result<Vec<Match>, NoMemory>
+    requires graph { IsGraph op_signature graph.now }
+    requires tables { AreTables graph.now tables.now }
+    ensures { IfOk result (λ found. AreMatches graph.now (sides.calc_left kind)
+        (IsSubstitution graph.now (sides.calc_left kind) (variables_of kind)) found.items) }
+{
+    computed_rules_are_true();
+    let left = calc_left(alloc, kind)?;
+    let count = first_constant(kind) + constants(kind);
+    substitutions(alloc, graph, tables, &left, count)
+}
+
+/// The rows that the unmet matches may add: their number times the operators of the right side, where a constant counts
+/// as one and a variable as none; 2 ^ 64 - 1 if that is less.
 pub fn calc_need(alloc: Global, graph: &Egraph<Op>, kind: Calc) -> Result<u64, NoMemory>
     ensures exact { IfOk result (λ need.
         (n : ℕ) × IsNeed graph.now (computed kind) n × (need ≡ min n (2 ^ 64 - 1))) }
@@ -92,8 +106,8 @@ pub fn calc_need(alloc: Global, graph: &Egraph<Op>, kind: Calc) -> Result<u64, N
     Ok((found.len() as u64).saturating_mul(operators(&right)))
 }
 
-/// The constant e that those of the classes of c and d give, or `None` where one of these classes has no constant or they
-/// don't meet the condition.
+/// The constant e that the constants of the classes of c and d give, or `None` where one of these classes has no
+/// constant or they don't meet the condition.
 pub fn calc_given(
     alloc: Global,
     graph: &Egraph<Op>,

@@ -2,7 +2,7 @@
 ghost use Rattle.std.specs.Prelude.{ℕ, List, All, MatchOption, IfOk};
 ghost use Rattle.word_terms.specs.Keys.{op_signature};
 ghost use Rattle.egraph.specs.Graph.{IsGraph, HasClass};
-ghost use Rattle.pattern_match.specs.Bindings.{HaveConstants};
+ghost use Rattle.pattern_match.specs.Matches.{HaveConstants};
 
 use egraph::{Egraph, rows_name_present_classes};
 use items::NoMemory;

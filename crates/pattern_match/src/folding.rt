@@ -16,8 +16,8 @@ use items::{Items, NoMemory};
 use std::alloc::Global;
 use word_ops::{Op, apply};
 
-/// One for each row of an operator on words whose operand classes all have constants, and whose class hasn't the
-/// constant that the operator gives; in the order of the rows. Their number is what folding needs.
+/// A fold for each row of an operator on words whose operand classes all have constants, and whose class doesn't have
+/// the constant that the operator gives for these; in the order of the rows. The number of folds is what folding needs.
 pub fn folds(alloc: Global, graph: &Egraph<Op>) -> Result<Items<Fold>, NoMemory>
     ensures exact { IfOk result (Chosen (IsFoldOf graph.now) graph.now.rows) }
     ensures need { IfOk result (λ found. AreNeeds graph.now (map folding operators) (length found)) }

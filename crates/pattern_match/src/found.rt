@@ -4,8 +4,9 @@ ghost use Rattle.std.specs.Prelude.{◌≡◌, IfOk};
 use items::{Items, NoMemory};
 use std::alloc::Global;
 
-/// A match of a rule: a class for each of the rule's variables, in the order of their numbers, and the class of its left
-/// side. Of a computed rule it has the constant e that the rule's right side is made with, and of any other rule none.
+/// A match of a rule: a class for each of the rule's variables, in the order of their numbers, and the class of its
+/// left side. A match of a computed rule also has the constant e that the rule's right side is made with; a match of
+/// another rule has none.
 #[derive(Drop)]
 pub struct Match {
     pub classes: Items<u32>,

@@ -16,8 +16,8 @@ ghost use Rattle.pattern_match.specs.Matches.{IsMatch};
 use egraph::classes_have_one_sort;
 use word_ops::Op;
 
-/// Does nothing. Its clauses are laws: where no two rows agree, a term has one class at most, and so have terms place
-/// by place; and the class of a term over classes of the graph is one of the graph.
+/// Does nothing. Its clauses are laws: where no two rows agree, a term has at most one class, and so has each of a list
+/// of terms; and the class of a term whose variables stand for classes of the graph is a class of the graph.
 pub fn terms_have_one_class()
     ensures one { (g : Graph TermOperator) (places : List ℕ) (t : Tree TermOperator) (c d : ℕ) →
         AllPairs (λ x y. ¬ Agree x y) g.rows → IsClass g places t c → IsClass g places t d → c ≡ d }
@@ -27,8 +27,8 @@ pub fn terms_have_one_class()
         All (HasClass g) places → IsClass g places t c → HasClass g c }
 {}
 
-/// Does nothing. Its clauses are laws of the matches of rules in a graph: the class of the left side is one of the
-/// graph and of the sort of both sides; each variable's class is of the variable's sort; and a match of folding is a
+/// Does nothing. Its clauses are laws of the matches of rules in a graph: the class of the left side is a class of the
+/// graph, and of the sort of both sides; each variable's class has the variable's sort; and a match of folding is a
 /// row.
 pub fn matches_have_sorts()
     ensures has { (g : Graph TermOperator) (r : Rewrite) (places : List ℕ) (c : ℕ) →

@@ -1,5 +1,5 @@
-//! Matches of rewrite rules in an E-graph: each list of classes for a rule's variables under which the graph has the
-//! rule's left side, and those of them under which its right side isn't in that class.
+//! E-matching: every substitution of classes under which the left side is in the graph; `unmet` keeps those whose right
+//! side isn't yet in its class.
 #![tactic(auto)]
 
 mod computed;
@@ -7,10 +7,10 @@ mod constants;
 mod folding;
 mod found;
 mod laws;
-mod placing;
 mod plain;
 mod reading;
 mod row_lists;
+mod searching;
 mod walk;
 
 pub use computed::{calc_given, calc_matches, calc_need, calc_unmet, find_calc_unmet};

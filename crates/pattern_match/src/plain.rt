@@ -1,20 +1,20 @@
 // Matches of equations and axioms.
-ghost use Rattle.std.specs.Prelude.{◌≡◌, ℕ, ◌^◌, ◌-◌, min, map, true, false, All, IfOk};
+ghost use Rattle.std.specs.Prelude.{◌≡◌, ℕ, ◌^◌, ◌-◌, min, map, All, IfOk};
 ghost use Rattle.word_terms.specs.View.{tree_of};
 ghost use Rattle.word_terms.specs.Keys.{op_signature};
 ghost use Rattle.word_terms.specs.OperatorsIn.{operators_in};
 ghost use Rattle.axiom_base.specs.Schemes.{plain};
 ghost use Rattle.egraph.specs.Graph.{IsGraph};
-ghost use Rattle.pattern_match.specs.ByOperator.{AreLists};
+ghost use Rattle.pattern_match.specs.ByOperator.{AreTables};
 ghost use Rattle.pattern_match.specs.Listing.{Lists, ListsUpTo};
 ghost use Rattle.pattern_match.specs.Matches.{IsMatchOf, IsUnmet, IsUnmetOf, IsNeed};
 ghost use Rattle.pattern_match.specs.Found.{classes_in};
 ghost use Rattle.pattern_match.specs.declared.found.Match.{Match as Found};
 
 use crate::found::Match;
-use crate::placing::placements;
 use crate::reading::has_class;
 use crate::row_lists::RowTables;
+use crate::searching::substitutions;
 use axiom_base::Rule;
 use egraph::Egraph;
 use items::{Items, NoMemory};
@@ -22,18 +22,18 @@ use std::alloc::Global;
 use word_ops::Op;
 use word_terms::{Term, terms_are_trees};
 
-/// The matches of the rule, each once, in no stated order. Each row of the graph costs a look-up, and from there on only
-/// rows are walked that are of the operator, and below the root of the class, that the left side asks for.
+/// The matches of the rule, each once, in no stated order. Each row of the graph costs a look-up; then only those rows
+/// are walked that have the operator that the left side has there, and, below its root, the class.
 pub fn matches(alloc: Global, graph: &Egraph<Op>, rule: &Rule) -> Result<Items<Match>, NoMemory>
     ensures exact { IfOk result (λ found. Lists (IsMatchOf graph.now (plain rule.now)) (map classes_in found)) }
 {
     let tables = RowTables::new(alloc, graph)?;
     let variables = rule.variables();
-    let found = placements(alloc, graph, &tables, rule.left(), variables.len())?;
+    let found = substitutions(alloc, graph, &tables, rule.left(), variables.len())?;
     Ok(Items::from(found))
 }
 
-/// Those of the matches under which the right side has no class, or another one than the left side.
+/// The matches under which the right side has no class, or another class than the left side.
 pub fn unmet(alloc: Global, graph: &Egraph<Op>, rule: &Rule) -> Result<Items<Match>, NoMemory>
     ensures exact { IfOk result (λ found. Lists (IsUnmetOf graph.now (plain rule.now)) (map classes_in found)) }
 {
@@ -43,8 +43,8 @@ pub fn unmet(alloc: Global, graph: &Egraph<Op>, rule: &Rule) -> Result<Items<Mat
     Ok(found)
 }
 
-/// The same by the tables of the graph's rows, which serve for all rules. The search ends with the first match that makes
-/// them more than `most`.
+/// The same, found with tables of the graph's rows that serve for all rules. The search ends with the first match that
+/// makes them more than `most`.
 pub fn find_unmet(
     alloc: Global,
     graph: &Egraph<Op>,
@@ -53,17 +53,16 @@ pub fn find_unmet(
     most: usize,
 ) -> Result<Items<Match>, NoMemory>
     requires graph { IsGraph op_signature graph.now }
-    requires by_class { AreLists true graph.now 0 tables.now.by_class.firsts.entries tables.now.by_class.nexts.items }
-    requires by_operator { AreLists false graph.now 0 tables.now.by_operator.firsts.entries tables.now.by_operator.nexts.items }
+    requires tables { AreTables graph.now tables.now }
     ensures found { IfOk result (λ found.
         ListsUpTo (IsUnmetOf graph.now (plain rule.now)) most (map classes_in found)) }
     ensures each { IfOk result (All (λ (m : Found). IsUnmet graph.now rule.now m.classes m.class)) }
 {
     let variables = rule.variables();
     let right = rule.right();
-    let placed = placements(alloc, graph, tables, rule.left(), variables.len())?;
+    let matched = substitutions(alloc, graph, tables, rule.left(), variables.len())?;
     let mut found = Vec::new(alloc);
-    for one in &placed {
+    for one in &matched {
         if !has_class(alloc, graph, right, one.classes.as_slice(), one.class)? {
             found.push(one.with(alloc, None)?)?;
             if found.len() > most {
@@ -74,8 +73,8 @@ pub fn find_unmet(
     Ok(Items::from(found))
 }
 
-/// The number of unmet matches times the number of operators of the right side, a constant being one and a variable
-/// none, or 2 ^ 64 - 1 where that is greater.
+/// The rows that the unmet matches may add: their number times the operators of the right side, where a constant counts
+/// as one and a variable as none; 2 ^ 64 - 1 if that is less.
 pub fn need(alloc: Global, graph: &Egraph<Op>, rule: &Rule) -> Result<u64, NoMemory>
     ensures exact { IfOk result (λ need.
         (n : ℕ) × IsNeed graph.now (plain rule.now) n × (need ≡ min n (2 ^ 64 - 1))) }

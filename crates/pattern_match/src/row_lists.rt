@@ -1,9 +1,9 @@
 // The rows of a graph by operator, and by operator and class.
-ghost use Rattle.std.specs.Prelude.{◌≡◌, ◌≢◌, ℕ, ◌<◌, length, slice_set, slice_index_or, Some, None, true, false, IfOk, OnOk};
+ghost use Rattle.std.specs.Prelude.{◌≡◌, ◌≢◌, ℕ, ◌<◌, length, slice_set, slice_index_or, Some, None, IfOk, OnOk};
 ghost use Rattle.word_terms.specs.Keys.{op_signature};
 ghost use Rattle.egraph.specs.Graph.{IsGraph};
 ghost use Rattle.pattern_match.specs.declared.row_lists.ListKey.{ListKey as Key};
-ghost use Rattle.pattern_match.specs.ByOperator.{class_part as part_of, list_key, first_in, AreLists};
+ghost use Rattle.pattern_match.specs.ByOperator.{class_part as part_of, list_key, first_in, AreLists, AreTables};
 
 use egraph::Egraph;
 use indexmap::IndexMap;
@@ -12,7 +12,7 @@ use std::alloc::Global;
 use word_ops::Op;
 use word_terms::Operator;
 
-/// An operator by its key, and a class, or 0 where rows are listed by operators alone.
+/// The key of an operator, and a class, or 0 where rows are listed by operators alone.
 #[derive(Clone, Copy, PartialEq, Eq, Hash, Debug)]
 pub struct ListKey {
     pub kind: u8,
@@ -30,10 +30,7 @@ pub struct RowTables {
 impl RowTables {
     /// The tables of all rows of the graph. Each row costs two look-ups.
     pub fn new(alloc: Global, graph: &Egraph<Op>) -> Result<RowTables, NoMemory>
-        ensures by_class { IfOk result (λ made.
-            AreLists true graph.now 0 made.by_class.firsts.entries made.by_class.nexts.items) }
-        ensures by_operator { IfOk result (λ made.
-            AreLists false graph.now 0 made.by_operator.firsts.entries made.by_operator.nexts.items) }
+        ensures tables { IfOk result (AreTables graph.now) }
         ensures graph { OnOk result (IsGraph op_signature graph.now) }
     {
         let by_class = RowLists::new(alloc, graph, true)?;
@@ -45,7 +42,7 @@ impl RowTables {
     }
 }
 
-/// For each operator, and each class where lists go by classes, the first of their rows, and for each row the next one of
+/// Lists of rows by operator, or by operator and class: for each list its first row, and for each row the next one of
 /// its list.
 #[derive(Drop)]
 pub struct RowLists {

@@ -6,7 +6,7 @@ ghost use Rattle.word_ops.specs.declared.sorts.Op.{Op as TermOperator};
 ghost use Rattle.word_terms.specs.Keys.{op_signature};
 ghost use Rattle.egraph.specs.Graph.{Graph, IsGraph};
 ghost use Rattle.pattern_match.specs.ByOperator.{AreLists};
-ghost use Rattle.pattern_match.specs.Bindings.{known, Extended, ExtendedAll, CanExtend, CanExtendAll};
+ghost use Rattle.pattern_match.specs.Bindings.{known_class, Extended, ExtendedAll, CanExtend, CanExtendAll};
 
 use crate::row_lists::RowLists;
 use egraph::Egraph;
@@ -24,9 +24,9 @@ fn bind_one(
 ) -> Result<Option<Items<Option<u32>>>, NoMemory>
     requires { number < length bound.now }
     ensures { IfOk result (λ made. MatchOption made
-        ((x : ℕ) × (known bound.now number ≡ Some x) × (x ≡ class → ⊥))
+        ((x : ℕ) × (known_class bound.now number ≡ Some x) × (x ≡ class → ⊥))
         (λ b. (b ≡ slice_set bound.now number (Some class))
-        × ((known bound.now number ≡ None) ⊎ (known bound.now number ≡ Some class)))) }
+        × ((known_class bound.now number ≡ None) ⊎ (known_class bound.now number ≡ Some class)))) }
 {
     if let Some(old) = bound[number] {
         if old != class {
@@ -67,8 +67,9 @@ fn copies(alloc: Global, list: &[Items<Option<u32>>]) -> Result<Vec<Items<Option
     Ok(out)
 }
 
-/// What is known of the variables, with what gives the pattern the class. For each row of the pattern's operator and the
-/// class its operands are walked over the items of the list.
+/// Each item of the list is what is known of the variables so far, and is extended by all that gives the pattern the
+/// class. For each row of the pattern's operator and the class, the row's operands are walked over the items of the
+/// list.
 #[cycle(walk)]
 pub(crate) fn extend(
     alloc: Global,

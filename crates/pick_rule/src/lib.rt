@@ -10,7 +10,7 @@ mod places;
 pub use places::{busiest_place, first_place, last_place};
 use std::marker::Model;
 
-/// What a picker asks of its rule. Each closure over scores is one.
+/// A rule that picks a place of a list of scores. Each closure over scores is one.
 pub trait Rule {
     /// It may be called on each list that isn't empty, and answers a place below its length.
     ghost answers_places: { Self → Type 0 };
@@ -36,8 +36,8 @@ impl<F: Fn(&[u64]) -> usize> Rule for F {
     }
 }
 
-/// A rule that answers places, seen as the rule itself. It is made in a function that takes the rule as a parameter:
-/// the check doesn't find the rule's facts where a function names this struct at one closure.
+/// A rule that answers places; contracts see it as the rule itself. It is made in a function that takes the rule as a
+/// parameter, since the check doesn't find the rule's facts where a function names this struct at one closure.
 #[derive(Drop)]
 pub struct Picker<F: Rule> {
     f: F,
@@ -52,7 +52,8 @@ impl<F: Rule> Model for Picker<F> {
 }
 
 impl<F: Rule> Picker<F> {
-    /// Keeps a rule. A closure that is stored has clauses of its own, since the rule is asked about every list.
+    /// Keeps a rule. A closure that is kept must have clauses of its own, which hold for every list, since it is asked
+    /// about every list.
     pub fn new(f: F) -> Picker<F>
         requires { F.answers_places f }
         ensures rule { result ≡ f }

@@ -17,7 +17,7 @@ pub fn last_place(scores: &[u64]) -> usize
     scores.len() - 1
 }
 
-/// The place of the greatest score, the first of them.
+/// The place of the greatest score; of several, the first.
 pub fn busiest_place(scores: &[u64]) -> usize
     requires { 0 < length scores.now }
     ensures { IsBusiest scores.now (length scores.now) result }

@@ -8,7 +8,7 @@ use Rattle.cnf_core.specs.declared.literal.Lit.{Lit}
 use Rattle.cnf_core.specs.Formula.{IsLitOf}
 use Rattle.cnf_core.specs.Formula.{negated}
 use Rattle.cnf_core.specs.Values.{IsUnassigned}
-use Rattle.cnf_core.specs.Refutation.{refuted}
+use Rattle.cnf_core.specs.Refutation.{negations}
 use Rattle.refutation_check.specs.declared.values.Mark.{Mark}
 use Rattle.refutation_check.specs.Marked.{marked, Shows, with_true, NoneIsLater, AreDistinctAmong}
 use Rattle.refutation_check.proofs.Showing.{Shows-none, Shows-push, free-differ, differ-free}
@@ -16,7 +16,7 @@ use Rattle.refutation_check.proofs.Showing.{Shows-none, Shows-push, free-differ,
 -- the literals so far are apart, and the marks show that they are false
 pub record AssumedSoFar (line : ℕ) (marks : List Mark) (front : List Lit) : Type 0 where
   pub apart : AreDistinctAmong (length marks) front
-  pub shows : Shows line marks (refuted front)
+  pub shows : Shows line marks (negations front)
   pub bound : NoneIsLater line marks
 
 pub assumed-none : (line : ℕ) (marks : List Mark) (lits : List Lit) → 1 ≤ line → NoneIsLater (line - 1) marks → AssumedSoFar line marks (take 0 lits)
@@ -39,9 +39,9 @@ assumed-more line marks lits i d few h at free =
         differ = subst (AllPairs (λ (a b : Lit). a.var ≢ b.var)) (sym e)
             (all_pairs_push (λ (a b : Lit). a.var ≢ b.var) (take i lits) l h.apart.differ (free-differ (take i lits) l.var (h.shows l.var at.above at.within ∙ free)));
       };
-      shows = subst (λ (xs : List Lit). Shows line (with_true line marks (negated l)) (refuted xs)) (sym e)
+      shows = subst (λ (xs : List Lit). Shows line (with_true line marks (negated l)) (negations xs)) (sym e)
           (subst (Shows line (with_true line marks (negated l))) (sym (map_push negated (take i lits) l))
-          (Shows-push line marks (refuted (take i lits)) (negated l) h.shows at.above at.within free));
+          (Shows-push line marks (negations (take i lits)) (negated l) h.shows at.above at.within free));
       bound = All-set (λ (m : Mark). m.line ≤ line) marks (l.var - 1) (record { line = line; positive = not l.positive }) (omega arith) h.bound;
     }
 

@@ -8,7 +8,7 @@ use Rattle.cnf_core.specs.declared.literal.Lit.{Lit}
 use Rattle.cnf_core.specs.declared.line.Line.{Line}
 use Rattle.cnf_core.specs.Formula.{Formula, IsLitOf}
 use Rattle.cnf_core.specs.Values.{partial_of, IsUnit, IsFalseClause}
-use Rattle.cnf_core.specs.Refutation.{known, clause_at, Reaches, refuted, HasUnits, EndsFalse}
+use Rattle.cnf_core.specs.Refutation.{known_clauses, clause_at, Reaches, negations, HasUnits, EndsFalse}
 use Rattle.refutation_check.proofs.Reaching.{reaches-more, reaches-stuck, reaches-unique, unit-agrees, false-agrees}
 use Rattle.refutation_check.specs.declared.values.Mark.{Mark}
 use Rattle.refutation_check.specs.Marked.{marked, Shows, with_true, NoneIsLater, Follows}
@@ -20,7 +20,7 @@ get_or-lemmas [] i d few = absurd (omega arith)
 get_or-lemmas (l ∷ ls) zero d few = refl
 get_or-lemmas (l ∷ ls) (suc i) d few = get_or-lemmas ls i d (omega arith)
 
-pub clause_at-lemma : (clauses : List (List Lit)) (earlier : List Line) (h : ℕ) (d : Line) → length clauses < h → h ≤ length clauses + length earlier → clause_at (known clauses earlier) h ≡ (get_or earlier (h - length clauses - 1) d).lits
+pub clause_at-lemma : (clauses : List (List Lit)) (earlier : List Line) (h : ℕ) (d : Line) → length clauses < h → h ≤ length clauses + length earlier → clause_at (known_clauses clauses earlier) h ≡ (get_or earlier (h - length clauses - 1) d).lits
 clause_at-lemma clauses earlier h d low high =
     let e : h - 1 - length clauses ≡ h - length clauses - 1 = omega arith in
     get_or-append_right clauses (map (λ (l : Line). l.lits) earlier) (length clauses) (h - 1) [] refl (omega arith)
@@ -71,16 +71,16 @@ take-nil (suc n) = refl
 -- no hint at all: none before the last is not unit, and there is no last
 pub no-hints : (f : Formula) (earlier : List Line) (line : Line) → length line.hints ≡ 0 → HasUnits f earlier line × (EndsFalse f earlier line → ⊥)
 no-hints f earlier line none =
-    let s = refuted line.lits in
+    let s = negations line.lits in
     let e : take (length line.hints - 1) line.hints ≡ [] = ap (take (length line.hints - 1)) (nil_from_length line.hints none) ∙ take-nil (length line.hints - 1) in
-    ((s, subst (λ (xs : List ℕ). Reaches (known f.clauses earlier) s xs s) (sym e) refl), (λ ends. let some = ends.2 in omega arith))
+    ((s, subst (λ (xs : List ℕ). Reaches (known_clauses f.clauses earlier) s xs s) (sym e) refl), (λ ends. let some = ends.2 in omega arith))
 
 -- the last hint is not false
-pub not-ends : (f : Formula) (earlier : List Line) (line : Line) (number : ℕ) (marks : List Mark) (c : List Lit) (t : List Lit) → Reaches (known f.clauses earlier) (refuted line.lits) (take (length line.hints - 1) line.hints) t → Shows number marks t → length marks ≡ f.vars → c ≡ clause_at (known f.clauses earlier) (slice_index line.hints (length line.hints - 1)) → All (IsLitOf f.vars) c → (IsFalseClause (marked number marks) c → ⊥) → HasUnits f earlier line × (EndsFalse f earlier line → ⊥)
+pub not-ends : (f : Formula) (earlier : List Line) (line : Line) (number : ℕ) (marks : List Mark) (c : List Lit) (t : List Lit) → Reaches (known_clauses f.clauses earlier) (negations line.lits) (take (length line.hints - 1) line.hints) t → Shows number marks t → length marks ≡ f.vars → c ≡ clause_at (known_clauses f.clauses earlier) (slice_index line.hints (length line.hints - 1)) → All (IsLitOf f.vars) c → (IsFalseClause (marked number marks) c → ⊥) → HasUnits f earlier line × (EndsFalse f earlier line → ⊥)
 not-ends f earlier line number marks c t way shows size is exist' fails =
     let exist = subst (λ (k : ℕ). All (IsLitOf k) c) (sym size) exist' in (
       (t, way),
       (λ ends.
-          let same = reaches-unique (known f.clauses earlier) (refuted line.lits) (take (length line.hints - 1) line.hints) ends.0 t ends.1 way in
+          let same = reaches-unique (known_clauses f.clauses earlier) (negations line.lits) (take (length line.hints - 1) line.hints) ends.0 t ends.1 way in
           fails (false-marked number marks t c shows exist (subst (λ (x : List Lit). IsFalseClause (partial_of x) c) same (subst (λ (x : List Lit). IsFalseClause (partial_of ends.0) x) (sym is) ends.3)))),
     )

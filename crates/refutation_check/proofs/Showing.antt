@@ -6,7 +6,7 @@ use Rattle.std.proofs.lemmas.List.{get_or-set_same, get_or-set_other, length-set
 use Rattle.std.proofs.lemmas.List.Elements.{All-nil, All-cons, All-head, All-tail, All-get_or}
 use Rattle.cnf_core.specs.declared.literal.Lit.{Lit}
 use Rattle.cnf_core.specs.Values.{partial_of}
-use Rattle.cnf_core.specs.Refutation.{refuted}
+use Rattle.cnf_core.specs.Refutation.{negations}
 use Rattle.refutation_check.specs.declared.values.Mark.{Mark}
 use Rattle.refutation_check.specs.Marked.{value_of_mark, marked, Shows, with_true, NoneIsLater}
 
@@ -67,18 +67,18 @@ Shows-push line marks s l h low high free x low' high' =
     ]
 
 -- a variable has no value exactly where no literal is of it
-pub free-differ : (xs : List Lit) (x : ℕ) → partial_of (refuted xs) x ≡ None → All (λ (m : Lit). m.var ≢ x) xs
+pub free-differ : (xs : List Lit) (x : ℕ) → partial_of (negations xs) x ≡ None → All (λ (m : Lit). m.var ≢ x) xs
 free-differ [] x free = All-nil (λ (m : Lit). m.var ≢ x)
 free-differ (m ∷ ms) x free =
     All-cons (λ (k : Lit). k.var ≢ x) m ms
-    (λ e. none≢some (sym free ∙ cond-true (eqb m.var x) (Some (not m.positive)) (partial_of (refuted ms) x) (eq-eqb m.var x e)))
+    (λ e. none≢some (sym free ∙ cond-true (eqb m.var x) (Some (not m.positive)) (partial_of (negations ms) x) (eq-eqb m.var x e)))
     (free-differ ms x (elim (cases_Bool (eqb m.var x)) [
-      | inl same ↦ absurd (none≢some (sym free ∙ cond-true (eqb m.var x) (Some (not m.positive)) (partial_of (refuted ms) x) same))
-      | inr other ↦ sym (cond-false (eqb m.var x) (Some (not m.positive)) (partial_of (refuted ms) x) other) ∙ free
+      | inl same ↦ absurd (none≢some (sym free ∙ cond-true (eqb m.var x) (Some (not m.positive)) (partial_of (negations ms) x) same))
+      | inr other ↦ sym (cond-false (eqb m.var x) (Some (not m.positive)) (partial_of (negations ms) x) other) ∙ free
     ]))
 
-pub differ-free : (xs : List Lit) (x : ℕ) → All (λ (m : Lit). m.var ≢ x) xs → partial_of (refuted xs) x ≡ None
+pub differ-free : (xs : List Lit) (x : ℕ) → All (λ (m : Lit). m.var ≢ x) xs → partial_of (negations xs) x ≡ None
 differ-free [] x h = refl
 differ-free (m ∷ ms) x h =
     let P : Lit → Type 0 = λ k. k.var ≢ x in
-    cond-false (eqb m.var x) (Some (not m.positive)) (partial_of (refuted ms) x) (ne_eqb m.var x (All-head P m ms h)) ∙ differ-free ms x (All-tail P m ms h)
+    cond-false (eqb m.var x) (Some (not m.positive)) (partial_of (negations ms) x) (ne_eqb m.var x (All-head P m ms h)) ∙ differ-free ms x (All-tail P m ms h)

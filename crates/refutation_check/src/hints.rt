@@ -2,7 +2,7 @@
 ghost use Rattle.std.specs.Prelude.{◌≡◌, ◌⊎◌, ◌+◌, ◌-◌, ◌≤◌, ◌↔◌, length, IsTrue, OnOk, IfErr};
 ghost use Rattle.std.specs.List.{All};
 ghost use Rattle.cnf_core.specs.Formula.{IsLitOf};
-ghost use Rattle.cnf_core.specs.Refutation.{EndsFalse, HasUnits, AreNames, refuted, known, clause_at};
+ghost use Rattle.cnf_core.specs.Refutation.{EndsFalse, HasUnits, AreNames, negations, known_clauses, clause_at};
 ghost use Rattle.refutation_check.specs.Marked.{Shows, NoneIsLater, LemmasExist, Follows};
 
 use crate::values::{Mark, is_false_clause, set_true, unit_of};
@@ -20,7 +20,7 @@ fn named<'a>(cnf: &'a Cnf, earlier: &'a [Line], hint: u32) -> &'a [Lit]
     requires first { 1 ≤ hint }
     requires last { hint ≤ length cnf.now.clauses + length earlier.now }
     requires exist { LemmasExist cnf.now.vars earlier.now }
-    ensures value { result.now ≡ clause_at (known cnf.now.clauses earlier.now) hint }
+    ensures value { result.now ≡ clause_at (known_clauses cnf.now.clauses earlier.now) hint }
     ensures exist { All (IsLitOf cnf.now.vars) result.now }
 {
     let clauses = cnf.clauses();
@@ -31,14 +31,14 @@ fn named<'a>(cnf: &'a Cnf, earlier: &'a [Line], hint: u32) -> &'a [Lit]
     }
 }
 
-/// Makes the literal of each hint true, or says that one isn't unit. Each clause is looked at once.
+/// Makes the literal of each hint true, in order, or says that a hint isn't unit. Each clause is looked at once.
 fn follow(cnf: &Cnf, earlier: &[Line], hints: &[u32], marks: &mut [Mark], line: u32) -> bool
     requires vars { length marks.old ≡ cnf.now.vars }
     requires names { AreNames (length cnf.now.clauses + length earlier.now) hints.now }
     requires exist { LemmasExist cnf.now.vars earlier.now }
     requires bound { NoneIsLater line marks.old }
     ensures bound { NoneIsLater line marks.new }
-    ensures led { Follows result (known cnf.now.clauses earlier.now) hints.now line marks.old marks.new }
+    ensures led { Follows result (known_clauses cnf.now.clauses earlier.now) hints.now line marks.old marks.new }
 {
     for hint in hints {
         match unit_of(named(cnf, earlier, *hint), marks, line) {
@@ -49,8 +49,8 @@ fn follow(cnf: &Cnf, earlier: &[Line], hints: &[u32], marks: &mut [Mark], line: 
     true
 }
 
-/// Follows the hints of a line whose lemma is false. The reason is 3 where a hint before the last isn't unit, and 4 where
-/// there is none or the last isn't false.
+/// Follows the hints of a line whose lemma is taken to be false. The reason is 3 where a hint before the last isn't
+/// unit, and 4 where there is no hint or the last isn't false.
 pub(crate) fn conflict(
     cnf: &Cnf,
     earlier: &[Line],
@@ -62,10 +62,11 @@ pub(crate) fn conflict(
     requires names { AreNames (length cnf.now.clauses + length earlier.now) line.now.hints }
     requires exist { LemmasExist cnf.now.vars earlier.now }
     requires bound { NoneIsLater number marks.old }
-    requires shows { Shows number marks.old (refuted line.now.lits) }
+    requires shows { Shows number marks.old (negations line.now.lits) }
     ensures bound { NoneIsLater number marks.new }
     ensures ok { OnOk result (EndsFalse cnf.now earlier.now line.now) }
-    ensures err { IfErr result (λ why. ((why ≡ 3) × (HasUnits cnf.now earlier.now line.now → ⊥)) ⊎ ((why ≡ 4) × HasUnits cnf.now earlier.now line.now × (EndsFalse cnf.now earlier.now line.now → ⊥))) }
+    ensures err { IfErr result (λ why. ((why ≡ 3) × (HasUnits cnf.now earlier.now line.now → ⊥))
+        ⊎ ((why ≡ 4) × HasUnits cnf.now earlier.now line.now × (EndsFalse cnf.now earlier.now line.now → ⊥))) }
 {
     let hints = line.hints.as_slice();
     let count = hints.len();

@@ -10,11 +10,13 @@ ghost use Rattle.refutation_check.specs.LineWords.{IsReadableLine, IsLineOf, Are
 
 use text_core::printed_lines_are_lines;
 
-/// Printed lines are lines of words at any place of a text, and there each is read as the line that was printed; a text
-/// that has their words somewhere has them from there on. Words are one line at most. Accepted lines can be read back.
+/// Printed lines are lines of words at any place of a text, and each is read as the line that was printed. Where the
+/// words of printed lines stand in a text, these lines are read from there on. Words are at most one line of a
+/// refutation. Accepted lines can be read back.
 pub fn printed_lines_are_read_back()
     ensures lines { (place : ℕ) (lines : List Row)
-        → All IsReadableLine lines → AreLines place (placed_lines place (map line_words lines)) (lines_text (map line_words lines)) }
+        → All IsReadableLine lines
+        → AreLines place (placed_lines place (map line_words lines)) (lines_text (map line_words lines)) }
     ensures each { (place : ℕ) (lines : List Row) (k : ℕ) (d : Row)
         → All IsReadableLine lines → k < length lines
         → IsLineOf (line_at (placed_lines place (map line_words lines)) k).words (slice_index_or lines k d) }

@@ -1,4 +1,5 @@
-//! Checks the lines of a refutation, hint by hint: whoever accepts its yes needs no trust in the solver that wrote them.
+//! Checks the lines of a refutation, hint by hint. Whoever has lines accepted here needs no trust in the solver that
+//! wrote them.
 #![tactic(auto)]
 
 mod hints;

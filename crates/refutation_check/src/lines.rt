@@ -1,6 +1,6 @@
 // Lines one after another: the first that is refused, and its least reason.
 ghost use Rattle.std.specs.Prelude.{◌≡◌, ◌+◌, ◌-◌, ◌^◌, ◌<◌, ◌≤◌, ◌↔◌, length, IsTrue, OnOk, IfErr, IsOk};
-ghost use Rattle.cnf_core.specs.Refutation.{IsAccepted, IsRefusedFor, IsFirstRefusal, AreRight, IsEmptyOnlyLast, IsFilled, Refutes, AreLemmas, HaveNoSolution, refuted};
+ghost use Rattle.cnf_core.specs.Refutation.{IsAccepted, IsRefusedFor, IsFirstRefusal, AreRight, IsEmptyOnlyLast, IsFilled, Refutes, AreLemmas, HaveNoSolution, negations};
 ghost use Rattle.refutation_check.specs.Marked.{Shows, NoneIsLater, AreDistinctAmong, LemmasExist};
 ghost use Rattle.refutation_check.specs.Placing.{Placed, IsRightPlace};
 
@@ -10,9 +10,9 @@ use crate::values::{Mark, clear, is_free, set_true};
 use cnf_core::{Cnf, Line, Lines, Lit, refutations_leave_no_solution};
 use thiserror::Error;
 
-/// The first refused line, from 1, and its least reason:
-/// 1 its id isn't the next number; 2 a literal or a hint names nothing, or a variable stands twice; 3 a hint before the
-/// last isn't unit; 4 there is no hint or the last isn't false; 5 its lemma is empty in the wrong place.
+/// The first line that is refused, from 1, and the least reason against it: 1 its id isn't the next number; 2 a literal
+/// or a hint names nothing, or a variable stands twice; 3 a hint before the last isn't unit; 4 there is no hint, or the
+/// last isn't false; 5 its lemma is empty in the wrong place.
 #[derive(Clone, Copy, Debug, PartialEq, Eq, Error)]
 #[error("line {line} is refused for reason {why}")]
 pub struct Rejected {
@@ -27,13 +27,14 @@ pub(crate) enum Demand {
     Lemmas,
 }
 
-/// Checks that the lines refute the formula. No memory is taken, and each hint's clause is looked at once.
+/// Checks that the lines refute the formula. No memory is taken, and each clause that a hint names is looked at once.
 pub fn check(cnf: &Cnf, lines: &Lines, marks: &mut Marks) -> Result<(), Rejected>
     requires vars { marks.old ≡ cnf.now.vars }
     requires few { length lines.now.lines < 2 ^ 29 }
     ensures marks { marks.new ≡ marks.old }
     ensures exact { IsOk result ↔ Refutes cnf.now lines.now.lines }
-    ensures refused { IfErr result (λ e. IsFirstRefusal (IsEmptyOnlyLast lines.now.lines) cnf.now lines.now.lines e.line e.why) }
+    ensures refused { IfErr result (λ e.
+        IsFirstRefusal (IsEmptyOnlyLast lines.now.lines) cnf.now lines.now.lines e.line e.why) }
     ensures sound { OnOk result (HaveNoSolution cnf.now.clauses) }
 {
     refutations_leave_no_solution();
@@ -45,7 +46,7 @@ pub fn check(cnf: &Cnf, lines: &Lines, marks: &mut Marks) -> Result<(), Rejected
     )
 }
 
-/// Checks that the lines are lemmas of the formula, none of which is empty. No line at all is refused.
+/// Checks that there is a line, and that the lines are lemmas of the formula, none of which is empty.
 pub fn check_lemmas(cnf: &Cnf, lines: &Lines, marks: &mut Marks) -> Result<(), Rejected>
     requires vars { marks.old ≡ cnf.now.vars }
     requires few { length lines.now.lines < 2 ^ 29 }
@@ -96,7 +97,7 @@ fn check_lines(
     Ok(())
 }
 
-/// Checks one line: its least reason of 1 to 4 where it is refused.
+/// Checks one line. If it is refused, the error is the least reason, 1 to 4.
 fn check_line(cnf: &Cnf, earlier: &[Line], line: &Line, marks: &mut [Mark]) -> Result<(), u8>
     requires vars { length marks.old ≡ cnf.now.vars }
     requires exist { LemmasExist cnf.now.vars earlier.now }
@@ -126,7 +127,7 @@ fn assume(lits: &[Lit], marks: &mut [Mark], line: u32) -> bool
     requires fresh { NoneIsLater (line - 1) marks.old }
     ensures marks { NoneIsLater line marks.new }
     ensures apart { IsTrue result ↔ AreDistinctAmong (length marks.old) lits.now }
-    ensures shows { IsTrue result → Shows line marks.new (refuted lits.now) }
+    ensures shows { IsTrue result → Shows line marks.new (negations lits.now) }
 {
     for lit in lits {
         if lit.var == 0 || lit.var as usize > marks.len() {

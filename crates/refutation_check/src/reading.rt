@@ -10,12 +10,13 @@ use items::{Items, NoMemory};
 use std::alloc::Global;
 use text_core::{Fault, Kind, TextFault, TextLines};
 
-/// Reads so many lines from one line on. A line that isn't of this form is a fault at its first byte, and a missing one at
-/// the end of the text.
+/// Reads `count` lines from the line `from` on. A line that isn't of this form is a fault at its first byte, and a
+/// missing line is one at the end of the text.
 pub fn read(alloc: Global, text: &TextLines<'_>, from: u32, count: u32) -> Result<Lines, TextFault>
     requires { from ≤ length text.now }
     ensures ok { IfOk result (λ read. AreLinesAt text.now from count read.lines) }
-    ensures only { IfOk result (λ read. (others : List Row) → AreLinesAt text.now from count others → others ≡ read.lines) }
+    ensures only { IfOk result (λ read. (others : List Row)
+        → AreLinesAt text.now from count others → others ≡ read.lines) }
     ensures fault { IfErr result (IsReadFault text.now from count) }
 {
     let last = text.count();
@@ -43,7 +44,8 @@ fn bad_line(text: &TextLines<'_>, line: u32) -> TextFault
     })
 }
 
-/// The literals from a word on, and the place after the zero that ends them; none where the words aren't so.
+/// The literals from a word on, and the place after the zero that ends them; `None` where the words aren't literals up
+/// to a zero.
 fn literals(
     alloc: Global,
     text: &TextLines<'_>,
@@ -51,7 +53,9 @@ fn literals(
     from: u32,
 ) -> Result<Option<(Items<Lit>, u32)>, NoMemory>
     requires { line < length text.now }
-    ensures { IfOk result (λ found. MatchOption found (IsNoRun literal_word IsIdLiteral (line_at text.now line).words from) (λ p. IsRun literal_word IsIdLiteral (line_at text.now line).words from p.0 p.1)) }
+    ensures { IfOk result (λ found. MatchOption found
+        (IsNoRun literal_word IsIdLiteral (line_at text.now line).words from)
+        (λ p. IsRun literal_word IsIdLiteral (line_at text.now line).words from p.0 p.1)) }
 {
     let mut lits = Items::new(alloc);
     for at in from..text.words(line) {
@@ -75,7 +79,9 @@ fn hints(
     from: u32,
 ) -> Result<Option<(Items<u32>, u32)>, NoMemory>
     requires { line < length text.now }
-    ensures { IfOk result (λ found. MatchOption found (IsNoRun decimal IsId (line_at text.now line).words from) (λ p. IsRun decimal IsId (line_at text.now line).words from p.0 p.1)) }
+    ensures { IfOk result (λ found. MatchOption found
+        (IsNoRun decimal IsId (line_at text.now line).words from)
+        (λ p. IsRun decimal IsId (line_at text.now line).words from p.0 p.1)) }
 {
     let mut ids = Items::new(alloc);
     for at in from..text.words(line) {
@@ -91,10 +97,12 @@ fn hints(
     Ok(None)
 }
 
-/// The line that the words of a line of the text are, where they are one.
+/// The line of a refutation that the words of a line of the text are, if they are one.
 fn read_line(alloc: Global, text: &TextLines<'_>, line: u32) -> Result<Option<Line>, NoMemory>
     requires { line < length text.now }
-    ensures { IfOk result (λ found. MatchOption found ((l : Row) → IsLineOf (line_at text.now line).words l → ⊥) (IsLineOf (line_at text.now line).words)) }
+    ensures { IfOk result (λ found. MatchOption found
+        ((l : Row) → IsLineOf (line_at text.now line).words l → ⊥)
+        (IsLineOf (line_at text.now line).words)) }
 {
     if text.words(line) == 0 {
         return Ok(None);

@@ -131,7 +131,9 @@ pub(crate) fn is_false_clause(clause: &[Lit], marks: &[Mark], line: u32) -> bool
 /// The one literal that a unit clause makes true.
 pub(crate) fn unit_of(clause: &[Lit], marks: &[Mark], line: u32) -> Option<Lit>
     requires { All (IsLitOf (length marks.now)) clause.now }
-    ensures { MatchOption result ((l : Literal) → IsUnit (marked line marks.now) clause.now l → ⊥) (IsUnit (marked line marks.now) clause.now) }
+    ensures { MatchOption result
+        ((l : Literal) → IsUnit (marked line marks.now) clause.now l → ⊥)
+        (IsUnit (marked line marks.now) clause.now) }
 {
     match status(clause, marks, line) {
         ClauseStatus::Unit(lit) => Some(lit),

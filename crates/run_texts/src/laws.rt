@@ -9,7 +9,8 @@ ghost use Rattle.run_texts.specs.declared.texts.RunText.{RunText as Program};
 use text_core::one_splitting;
 use word_ops::memories_hold_words;
 
-/// A text is read as one program at most, which can be run, and then it has no fault. The first fault is one.
+/// A text is at most one program, which can be run, and a text that is one has no fault. There is at most one first
+/// fault.
 pub fn one_program()
     ensures program { (text : List ℕ) (run other : Program) → ReadsRun text run → ReadsRun text other → run ≡ other }
     ensures runnable { (text : List ℕ) (run : Program) → ReadsRun text run → CanRun run }
@@ -21,8 +22,8 @@ pub fn one_program()
     one_splitting();
 }
 
-/// A program starts with what its text gives: each register and each place that it names holds its word, and all others
-/// hold 0.
+/// A program starts with what its text gives: each register and each place of memory that it names holds its word, and
+/// all others hold 0.
 pub fn programs_start_as_given()
     ensures registers { (text : List ℕ) (run : Program) → ReadsRun text run
         → All (λ r. slice_index (start_state run).registers r.register ≡ r.word) run.registers }
@@ -36,7 +37,8 @@ pub fn programs_start_as_given()
     memories_hold_words();
 }
 
-/// A program has one report.
+/// A program has at most one report.
 pub fn one_report()
-    ensures { (run : Program) (bytes others : List ℕ) → IsRunReport run bytes → IsRunReport run others → bytes ≡ others }
+    ensures { (run : Program) (bytes others : List ℕ)
+        → IsRunReport run bytes → IsRunReport run others → bytes ≡ others }
 {}

@@ -1,7 +1,7 @@
-//! Texts of programs to be run: reading them, and what running them prints.
+//! Texts of programs to be run: reading them, and printing what running them leaves.
 //!
 //! A text has the program's words, then the words that registers hold at first, then those that places of memory hold.
-//! The report has the end, and the registers and places that don't hold 0 then.
+//! The report says how the program ends, and lists the registers and places that don't hold 0 then.
 #![tactic(auto)]
 
 mod laws;

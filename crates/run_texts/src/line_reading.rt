@@ -1,41 +1,18 @@
 // The lines of a program's text, each by itself.
-ghost use Rattle.std.specs.Prelude.{◌≡◌, ◌<◌, ◌≤◌, ◌^◌, ℕ, length, IfSome, IfNone, MatchOption, IsTrue, ◌↔◌};
+ghost use Rattle.std.specs.Prelude.{◌≡◌, ◌<◌, ◌^◌, ℕ, length, IfSome, IfNone, MatchOption};
 ghost use Rattle.std.specs.Prelude as std;
 ghost use Rattle.std.specs.Str.Parse.{digits_value};
-ghost use Rattle.text_core.specs.Lines.{line_at, line_word};
+ghost use Rattle.text_core.specs.Lines.{line_at};
 ghost use Rattle.text_core.specs.LineTexts.{words_of_lines, SaysNone};
 ghost use Rattle.run_texts.specs.RunTexts.{IsHexWord};
 ghost use Rattle.run_texts.specs.RunFaults.{word_count};
 ghost use Rattle.run_texts.specs.LineReading.{IsWordLine, IsRegisterLine, IsPlaceLine};
 
 use crate::texts::{PlaceWord, RegisterWord};
-use text_core::{TextLines, decimal};
+use text_core::{TextLines, begins_with, decimal, has_form};
 
 /// How many registers a text may name: 0 to 30.
 const REGISTERS: u64 = 31;
-
-fn same(word: &[u8], other: &[u8]) -> bool
-    ensures { IsTrue result ↔ (word.now ≡ other.now) }
-{
-    word == other
-}
-
-/// Whether a line begins with this word.
-pub(crate) fn begins_with(text: &TextLines<'_>, line: u32, first: &[u8]) -> bool
-    requires { line < length text.now }
-    ensures { IsTrue result ↔ (line_word text.now line 0 ≡ first.now) }
-{
-    text.words(line) > 0 && same(text.word(line, 0), first)
-}
-
-/// Whether a line has so many words, and this one first.
-fn has_form(text: &TextLines<'_>, line: u32, first: &[u8], count: u32) -> bool
-    requires { line < length text.now }
-    ensures { IsTrue result
-        ↔ ((length (line_at text.now line).words ≡ count) × (line_word text.now line 0 ≡ first.now)) }
-{
-    text.words(line) == count && begins_with(text, line, first)
-}
 
 /// How many lines at the front begin with `word`.
 pub(crate) fn word_lines(text: &TextLines<'_>) -> u32

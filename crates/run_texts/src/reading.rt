@@ -1,6 +1,5 @@
 // A program read from its text.
-ghost use Rattle.std.specs.Prelude.{◌≡◌, ◌≢◌, ◌⊎◌, ◌<◌, ◌≤◌, ◌+◌, ◌^◌, ◌/◌, ℕ, All, codes, length, IfOk, IfErr, OnOk, Ok, Err, IsTrue, IsFalse, ◌↔◌};
-ghost use Rattle.alpha_machine.specs.Runs.{MayStandAt};
+ghost use Rattle.std.specs.Prelude.{◌≡◌, ◌≢◌, ◌⊎◌, ◌<◌, ◌+◌, ◌^◌, ◌/◌, ℕ, All, codes, length, IfOk, IfErr, OnOk, Ok, Err, IsTrue, IsFalse};
 ghost use Rattle.text_core.specs.Faults.{IsFaultBy};
 ghost use Rattle.text_core.specs.Lines.{line_word};
 ghost use Rattle.text_core.specs.LineTexts.{words_of_lines};
@@ -12,12 +11,12 @@ ghost use Rattle.run_texts.specs.SoFar.{IsFaultAtLine, IsRunTextTo, AreSeen};
 ghost use Rattle.run_texts.specs.declared.texts.RunText.{RunText as Program};
 
 use crate::laws::one_program;
-use crate::line_reading::{begins_with, place_line, register_line, word_line, word_lines};
-use crate::texts::{PlaceWord, RegisterWord, RunText};
-use alpha_encode::{Instr, decode};
-use items::{Items, NoMemory};
+use crate::line_reading::{place_line, register_line, word_line, word_lines};
+use crate::texts::{RegisterWord, RunText};
+use alpha_machine::may_stand;
+use items::Items;
 use std::alloc::Global;
-use text_core::{Fault, Kind, TextFault, TextLines, lines};
+use text_core::{Fault, Kind, TextFault, TextLines, begins_with, lines};
 use word_ops::{Mem, memories_hold_words};
 
 /// The most words and the most places that a text may have.
@@ -34,18 +33,6 @@ fn line_fault(text: &TextLines<'_>, line: u32, kind: Kind) -> TextFault
         place: text.place(line),
         kind,
     })
-}
-
-/// Whether the word is an instruction that may stand at this place of so many words.
-fn may_stand(word: u32, at: usize, count: u32) -> bool
-    requires { count < 2 ^ 29 }
-    ensures { IsTrue result ↔ MayStandAt count at word }
-{
-    match decode(word) {
-        Some(Instr::Beq { disp, .. }) => disp == (count as usize).saturating_sub(at) as i32,
-        Some(_) => true,
-        None => false,
-    }
 }
 
 /// Whether the register was given before. It looks at each in turn; there are 31 at most.
@@ -78,7 +65,7 @@ fn read_word(
     if !run.registers.is_empty() || !run.places.is_empty() {
         return Err(line_fault(text, line, Kind::BadLine));
     }
-    if !may_stand(word, run.words.len(), count) {
+    if !may_stand(word, run.words.len(), count as usize) {
         return Err(line_fault(text, line, Kind::BadLine));
     }
     if run.words.len() == MOST_WORDS {
@@ -105,7 +92,7 @@ fn read_register(text: &TextLines<'_>, line: u32, run: &mut RunText) -> Result<(
     Ok(run.registers.push(given)?)
 }
 
-/// Reads a place's word behind the lines so far. The places that were given hold 1 in `seen`.
+/// Reads a place's word behind the lines so far. In `seen`, the places that were given hold 1.
 fn read_place(
     text: &TextLines<'_>,
     line: u32,
@@ -190,8 +177,8 @@ fn program(alloc: Global, text: &[u8]) -> Result<RunText, TextFault>
     run_of(alloc, &text)
 }
 
-/// Reads the text of a program to be run. A fault is the first of the text: BadByte, BadLine or LimitPassed. The cost
-/// is linear in the length of the text, up to a look-up of each place among those before it.
+/// Reads the text of a program to be run. A fault is the text's first: BadByte, BadLine or LimitPassed. The cost is
+/// linear in the length of the text, beside a look-up of each place among those before it.
 pub fn read(alloc: Global, text: &[u8]) -> Result<RunText, TextFault>
     requires { length text.now < 2 ^ 29 }
 

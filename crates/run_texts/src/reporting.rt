@@ -1,5 +1,5 @@
 // What running a program prints.
-ghost use Rattle.std.specs.Prelude.{◌≡◌, ◌++◌, ◌∷◌, ◌<◌, ◌^◌, [], length, take, map, IfOk, OnOk, codes, decimal, slice_index, All};
+ghost use Rattle.std.specs.Prelude.{◌≡◌, ◌++◌, ◌∷◌, ◌<◌, ◌^◌, [], length, take, map, IfOk, OnOk, decimal, slice_index, All};
 ghost use Rattle.text_core.specs.LineTexts.{line_text, lines_text};
 ghost use Rattle.alpha_machine.specs.Runs.{Runs, AllMayStand};
 ghost use Rattle.run_texts.specs.Reports as reports;
@@ -7,8 +7,8 @@ ghost use Rattle.run_texts.specs.Reports as reports;
 use crate::texts::{PlaceWord, RegisterWord, RunText};
 use alpha_machine::{End, RunFault, State, run};
 use items::NoMemory;
-use itoa::Buffer;
 use std::alloc::{AllocError, Global};
+use text_core::{put, put_number};
 use word_ops::Mem;
 
 /// The registers that hold what is given, and 0 elsewhere.
@@ -47,22 +47,6 @@ fn run_words(words: &[u32], state: &mut State) -> Result<End, NoMemory>
         Err(RunFault::Memory) => Err(AllocError),
         Err(RunFault::Bad { .. }) => unreachable!(),
     }
-}
-
-fn put(text: &mut Vec<u8>, bytes: &[u8]) -> Result<(), NoMemory>
-    ensures { OnOk result (text.new.items ≡ text.old.items ++ bytes.now) }
-{
-    text.extend_from_slice(bytes)?;
-    Ok(())
-}
-
-/// A number with a space before it.
-fn put_number(text: &mut Vec<u8>, number: u64) -> Result<(), NoMemory>
-    ensures { OnOk result (text.new.items ≡ text.old.items ++ (codes " " ++ decimal number)) }
-{
-    let mut buffer = Buffer::new();
-    put(text, b" ")?;
-    put(text, buffer.format(number).as_bytes())
 }
 
 /// A line of a word and two numbers.
@@ -127,8 +111,8 @@ fn print(alloc: Global, end: End, state: &State) -> Result<Vec<u8>, NoMemory>
     Ok(text)
 }
 
-/// Runs a program's words from the first one on, with what is given, and prints how it ended: the end, each register
-/// from 0 to 30 that doesn't hold 0, and each place that doesn't hold 0, rising, by its address.
+/// Runs a program's words from the first one on, with what its text gives, and prints how it ended: the end, each
+/// register from 0 to 30 that doesn't hold 0, and each place of memory that doesn't hold 0, by rising address.
 pub fn report(alloc: Global, program: &RunText) -> Result<Vec<u8>, NoMemory>
     requires { reports.CanRun program.now }
     ensures { IfOk result (λ text. reports.IsRunReport program.now text.items) }

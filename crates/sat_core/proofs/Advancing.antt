@@ -6,7 +6,7 @@ use Rattle.cnf_core.specs.Formula.{AreOver}
 use Rattle.cnf_core.specs.Values.{IsClosed}
 use Rattle.sat_core.specs.declared.trail.Step.{Step}
 use Rattle.sat_core.specs.declared.trail.Trail.{Trail}
-use Rattle.sat_core.specs.Steps.{given, var_count, IsTrailState, Propagates, AreClosedBefore}
+use Rattle.sat_core.specs.Steps.{assignment_of, var_count, IsTrailState, Propagates, AreClosedBefore}
 use Rattle.sat_core.proofs.States.{propagated-closed, decided-closed, closed-held}
 
 -- what a turn that decided leaves
@@ -19,7 +19,7 @@ pub record IsAdvanced (clauses : List (List Lit)) (n : ℕ) (old new : Trail) : 
 
 pub advanced : (clauses : List (List Lit)) (n : ℕ) (old mid new : Trail) (step : Step)
     → AreOver n clauses → var_count old ≡ n → AreClosedBefore clauses old.steps.items
-    → IsTrailState clauses (var_count old) mid → Propagates old.steps.items mid.steps.items → IsClosed (given mid.values.items) clauses
+    → IsTrailState clauses (var_count old) mid → Propagates old.steps.items mid.steps.items → IsClosed (assignment_of mid.values.items) clauses
     → new.steps.items ≡ mid.steps.items ++ step ∷ [] → ((cs : List (List Lit)) → IsTrailState cs (var_count mid) mid → IsTrailState cs (var_count mid) new)
     → IsAdvanced clauses n old new
 advanced clauses n old mid new step over size before state adds closed is keeps =

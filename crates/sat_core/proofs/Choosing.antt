@@ -10,13 +10,13 @@ use Rattle.cnf_core.specs.Formula.{IsLitOf}
 use Rattle.cnf_core.specs.Values.{IsFalse}
 use Rattle.sat_core.specs.declared.trail.Step.{Step}
 use Rattle.sat_core.specs.declared.trail.Value.{Value}
-use Rattle.sat_core.specs.Steps.{given, trail_values, AreSteps}
+use Rattle.sat_core.specs.Steps.{assignment_of, trail_values, AreSteps}
 use Rattle.sat_core.specs.Watches.{IsFalseFrom, IsNoLater, IsLatest, IsLaterOf, IsChosen}
 use Rattle.sat_core.proofs.Holding.{none≢some, held-at, held-whole, free-before, step-of}
 
 -- a false literal becomes false at the place of its variable's step
 pub falls-false : (clauses : List (List Lit)) (n : ℕ) (steps : List Step) (values : List Value) (indices decisions : List ℕ) (l : Lit) → IsLitOf n l → AreSteps clauses n steps values indices decisions
-    → IsFalse (given values) l → IsFalseFrom steps l (get_or indices (l.var - 1) 0)
+    → IsFalse (assignment_of values) l → IsFalseFrom steps l (get_or indices (l.var - 1) 0)
 falls-false clauses n steps values indices decisions l at s f k le =
     let e : Step = record { lit = l; reason = None } in
     let (j, few, is) = step-of steps l.var (not l.positive) (s.shows l.var at.above at.within ∙ f) in
@@ -35,7 +35,7 @@ falls-false clauses n steps values indices decisions l at s f k le =
 
 -- a literal that isn't false becomes false nowhere
 pub falls-not : (clauses : List (List Lit)) (n : ℕ) (steps : List Step) (values : List Value) (indices decisions : List ℕ) (l : Lit) → IsLitOf n l → AreSteps clauses n steps values indices decisions
-    → (IsFalse (given values) l → ⊥) → IsFalseFrom steps l (length steps)
+    → (IsFalse (assignment_of values) l → ⊥) → IsFalseFrom steps l (length steps)
 falls-not clauses n steps values indices decisions l at s not' k le = (
   (λ f. absurd (not' (sym (s.shows l.var at.above at.within) ∙ held-whole steps k l.var (not l.positive) f))),
   (λ past. absurd (omega arith)),

@@ -9,12 +9,12 @@ use Rattle.cnf_core.specs.declared.literal.Lit.{Lit}
 use Rattle.cnf_core.specs.declared.line.Line.{Line}
 use Rattle.cnf_core.specs.Formula.{IsLitOf, AreOver}
 use Rattle.cnf_core.specs.Values.{Partial, partial_of, IsUnit, IsFalse, IsFalseClause, IsOpenClause, IsClosed}
-use Rattle.cnf_core.specs.Refutation.{clause_at, Reaches, refuted, AreNames, HaveDifferentVars, IsAccepted, IsFresh}
+use Rattle.cnf_core.specs.Refutation.{clause_at, Reaches, negations, AreNames, HaveDifferentVars, IsAccepted, IsFresh}
 use Rattle.sat_core.specs.declared.trail.Step.{Step}
 use Rattle.sat_core.specs.declared.trail.Trail.{Trail}
 use Rattle.sat_core.specs.declared.conflict.Analysis.{Analysis}
 use Rattle.sat_core.specs.declared.trail.Value.{Value}
-use Rattle.sat_core.specs.Steps.{given, trail_values, IsTrailState, AreSteps, AreClosedBefore}
+use Rattle.sat_core.specs.Steps.{assignment_of, trail_values, IsTrailState, AreSteps, AreClosedBefore}
 use Rattle.sat_core.specs.FalseClauses.{IsFalsified}
 use Rattle.sat_core.specs.Conflicts.{GoesOnWith}
 use Rattle.sat_core.specs.Walks.{AreNoMarks, trail_index, IsStepOf, is_marked, last_level_count, IsLastDecision, IsAsserting, IsWalked, MarksClause, LeadsToConflict, IsBackjump}
@@ -68,7 +68,7 @@ late-literal clauses n steps values indices decisions last c seen s exist false'
 
 -- **at the end of the trail**
 pub walked-start : (clauses : List (List Lit)) (n : ℕ) (steps : List Step) (values : List Value) (indices decisions : List ℕ) (id last at_last_level added : ℕ) (old : List Bool) (c : List Lit) (a : Analysis)
-    → AreSteps clauses n steps values indices decisions → AreOver n clauses → AreClosedBefore clauses steps → IsFalsified (given values) clauses id → IsLastDecision steps last
+    → AreSteps clauses n steps values indices decisions → AreOver n clauses → AreClosedBefore clauses steps → IsFalsified (assignment_of values) clauses id → IsLastDecision steps last
     → c ≡ clause_at clauses id → AreNoMarks n old → MarksClause indices c c last old a.seen.items added → All (λ l. a.lowest ≤ trail_index indices l) c
     → (a.lowest ≡ length steps) ⊎ ((l : Lit) × Contains c l × (a.lowest ≡ trail_index indices l))
     → a.at_last_level ≡ added → a.last ≡ last → a.lits.items ≡ [] → a.hints.items ≡ []
@@ -147,7 +147,7 @@ names-reverse clauses (h ∷ hs) names =
 abbrev EndIn : List (List Lit) → List Lit → List ℕ → Type 0
 EndIn cs lits hints =
     (t : List Lit)
-    × Reaches cs (refuted lits) (take (length hints - 1) hints) t
+    × Reaches cs (negations lits) (take (length hints - 1) hints) t
     × (1 ≤ length hints)
     × IsFalseClause (partial_of t) (clause_at cs (slice_index hints (length hints - 1)))
 
@@ -160,12 +160,12 @@ line-shown clauses n steps a id line h leads low high is-id is-lits is-hints =
     let all = front ++ id ∷ [] in
     let long = length_push front id in
     let count : length all - 1 ≡ length front = omega arith in
-    let (u, way, false') = leads (refuted a.lits.items) (λ k d below few mark. absurd (omega arith)) (λ x free. refl) in
+    let (u, way, false') = leads (negations a.lits.items) (λ k d below few mark. absurd (omega arith)) (λ x free. refl) in
     let first : take (length all - 1) all ≡ front = take_at front (id ∷ []) (length all - 1) (sym count) in
     let last : slice_index all (length all - 1) ≡ id = get_or_at front id [] 0 (length all - 1) (sym count) in
     let ends : EndIn clauses a.lits.items all = (
       u,
-      subst (λ (hs : List ℕ). Reaches clauses (refuted a.lits.items) hs u) (sym first) way,
+      subst (λ (hs : List ℕ). Reaches clauses (negations a.lits.items) hs u) (sym first) way,
       (omega arith),
       subst (λ (x : ℕ). IsFalseClause (partial_of u) (clause_at clauses x)) (sym last) false',
     ) in

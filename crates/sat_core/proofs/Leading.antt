@@ -7,7 +7,7 @@ use Rattle.std.proofs.lemmas.List.Elements.{All-head, All-tail, All-weaker}
 use Rattle.cnf_core.specs.declared.literal.Lit.{Lit}
 use Rattle.cnf_core.specs.Formula.{negated}
 use Rattle.cnf_core.specs.Values.{partial_of, IsHeld, IsFalse, IsFalseClause, IsUnit}
-use Rattle.cnf_core.specs.Refutation.{clause_at, refuted}
+use Rattle.cnf_core.specs.Refutation.{clause_at, negations}
 use Rattle.sat_core.specs.declared.trail.Step.{Step}
 use Rattle.sat_core.specs.declared.trail.Value.{Value}
 use Rattle.sat_core.specs.Steps.{trail_values, IsTrail, IsReason, AreSteps}
@@ -55,11 +55,11 @@ leads-skip clauses steps i seen lits hints conflict unmarked leads t covers rest
     (λ x free. rest x (free-before steps i (i + 1) x (omega arith) free))
 
 -- a lemma says nothing of a variable that none of its literals has
-pub refuted-none : (lits : List Lit) (x : ℕ) → All (λ (l : Lit). l.var ≢ x) lits → partial_of (refuted lits) x ≡ None
+pub refuted-none : (lits : List Lit) (x : ℕ) → All (λ (l : Lit). l.var ≢ x) lits → partial_of (negations lits) x ≡ None
 refuted-none [] x others = refl
 refuted-none (l ∷ ls) x others =
     let P : Lit → Type 0 = λ m. m.var ≢ x in
-    partial_of-cons-other (negated l) (refuted ls) x (All-head P l ls others) ∙ refuted-none ls x (All-tail P l ls others)
+    partial_of-cons-other (negated l) (negations ls) x (All-head P l ls others) ∙ refuted-none ls x (All-tail P l ls others)
 
 not-not : (b : Bool) → not (not b) ≡ b
 not-not true = refl
@@ -77,10 +77,10 @@ pub leads-keep : (clauses : List (List Lit)) (steps : List Step) (i : ℕ) (d : 
     → LeadsToConflict clauses steps (i + 1) seen lits hints conflict → LeadsToConflict clauses steps i needed' (lits ++ negated (get_or steps i d).lit ∷ []) hints conflict
 leads-keep clauses steps i d seen needed' lits hints conflict trail few free is leads t covers rest =
     let l = (get_or steps i d).lit in
-    let all : refuted (lits ++ negated l ∷ []) ≡ refuted lits ++ negated (negated l) ∷ [] = map_push negated lits (negated l) in
+    let all : negations (lits ++ negated l ∷ []) ≡ negations lits ++ negated (negated l) ∷ [] = map_push negated lits (negated l) in
     let at-l : partial_of t l.var ≡ Some l.positive =
     rest l.var (trail i d few).free ∙ ap (λ (ls : List Lit). partial_of ls l.var) all
-    ∙ partial_of-push-same (refuted lits) (negated (negated l)) (refuted-none lits l.var (others-later clauses steps i d lits trail few free))
+    ∙ partial_of-push-same (negations lits) (negated (negated l)) (refuted-none lits l.var (others-later clauses steps i d lits trail few free))
     ∙ ap (λ (b : Bool). Some b) (not-not l.positive) in
     leads t
     (λ k e below few' mark. elim (cases_eq k i) [
@@ -90,7 +90,7 @@ leads-keep clauses steps i d seen needed' lits hints conflict trail few free is 
     ])
     (λ x free-x.
     let other : l.var ≢ x = λ same. none≢some (sym free-x ∙ ap (trail_values (take (i + 1) steps)) (sym same) ∙ held-step clauses steps i d trail few) in
-    rest x (free-before steps i (i + 1) x (omega arith) free-x) ∙ ap (λ (ls : List Lit). partial_of ls x) all ∙ partial_of-push-other (refuted lits) (negated (negated l)) x other)
+    rest x (free-before steps i (i + 1) x (omega arith) free-x) ∙ ap (λ (ls : List Lit). partial_of ls x) all ∙ partial_of-push-other (negations lits) (negated (negated l)) x other)
 
 -- a step that is resolved with its reason
 pub leads-resolve : (clauses : List (List Lit)) (n : ℕ) (steps : List Step) (values : List Value) (indices decisions : List ℕ) (i : ℕ) (d : Step) (id : ℕ) (seen mid needed' : List Bool) (lits : List Lit) (hints : List ℕ) (conflict : List Lit)

@@ -8,7 +8,7 @@ use Rattle.std.proofs.lemmas.List.Elements.{All-filter, All-map, filter_passes}
 use Rattle.std.proofs.lemmas.List.FromFn.{filter_of_map_range_with_len_more, get_or-range_with_len, length-range_with_len, length-map-range_with_len}
 use Rattle.sat_core.specs.declared.trail.Value.{Value}
 use Rattle.sat_core.specs.declared.trail.Value.TheVariants.{Unassigned}
-use Rattle.sat_core.specs.Steps.{is_unassigned, given}
+use Rattle.sat_core.specs.Steps.{is_unassigned, assignment_of}
 use Rattle.sat_core.specs.Picks.{free_list, scores_of}
 
 none-true : (o : Option Bool) → is_none o ≡ true → o ≡ None
@@ -17,10 +17,10 @@ none-true (Some b) e = absurd (false≢true e)
 
 -- the free variables up to a place
 abbrev pub free_to : List Value → ℕ → List ℕ
-free_to values n = filter (λ x. is_none (given values x)) (map (λ i. i + 1) (range_with_len 0 n))
+free_to values n = filter (λ x. is_none (assignment_of values x)) (map (λ i. i + 1) (range_with_len 0 n))
 
 pub free-more : (values : List Value) (n : ℕ) → is_unassigned (get_or values n Unassigned) ≡ true → free_to values n ++ (n + 1) ∷ [] ≡ free_to values (n + 1)
-unfolding given
+unfolding assignment_of
 free-more values n free =
     let p : ℕ → Bool = λ x. is_unassigned (get_or values (x - 1) Unassigned) in
     let at : n + 1 - 1 ≡ n = omega arith in
@@ -28,7 +28,7 @@ free-more values n free =
     sym (filter_of_map_range_with_len_more p (λ i. i + 1) 0 n n (omega arith) ∙ ap (λ (ys : List ℕ). free_to values n ++ ys) (cond-true (p (n + 1)) ((n + 1) ∷ []) [] yes))
 
 pub free-keep : (values : List Value) (n : ℕ) → is_unassigned (get_or values n Unassigned) ≡ false → free_to values n ≡ free_to values (n + 1)
-unfolding given
+unfolding assignment_of
 free-keep values n some =
     let p : ℕ → Bool = λ x. is_unassigned (get_or values (x - 1) Unassigned) in
     let at : n + 1 - 1 ≡ n = omega arith in
@@ -36,16 +36,16 @@ free-keep values n some =
     sym (filter_of_map_range_with_len_more p (λ i. i + 1) 0 n n (omega arith) ∙ ap (λ (ys : List ℕ). free_to values n ++ ys) (cond-false (p (n + 1)) ((n + 1) ∷ []) [] no) ∙ append-nil (free_to values n))
 
 -- **each variable of the list exists and is free**
-pub free-at : (values : List Value) (place d : ℕ) → place < length (free_list values) → (1 ≤ get_or (free_list values) place d) × (get_or (free_list values) place d ≤ length values) × (given values (get_or (free_list values) place d) ≡ None)
+pub free-at : (values : List Value) (place d : ℕ) → place < length (free_list values) → (1 ≤ get_or (free_list values) place d) × (get_or (free_list values) place d ≤ length values) × (assignment_of values (get_or (free_list values) place d) ≡ None)
 free-at values place d few =
-    let p : ℕ → Bool = λ x. is_none (given values x) in
+    let p : ℕ → Bool = λ x. is_none (assignment_of values x) in
     let E : ℕ → Type 0 = λ x. (1 ≤ x) × (x ≤ length values) in
     let exist : All E (map (λ i. i + 1) (range_with_len 0 (length values))) =
     All-map E (λ i. i + 1) (range_with_len 0 (length values)) (λ k d' few'.
     let within : k < length values = omega (arith, length-range_with_len 0 (length values)) in
     let is = get_or-range_with_len 0 (length values) k d' within in ((omega arith), (omega arith))) in
     let at = All-filter p E (map (λ i. i + 1) (range_with_len 0 (length values))) exist place d few in
-    (at.0, at.1, none-true (given values (get_or (free_list values) place d)) (filter_passes p (map (λ i. i + 1) (range_with_len 0 (length values))) place d few))
+    (at.0, at.1, none-true (assignment_of values (get_or (free_list values) place d)) (filter_passes p (map (λ i. i + 1) (range_with_len 0 (length values))) place d few))
 
 nil≢cons : (x : ℕ) (xs : List ℕ) → x ∷ xs ≡ [] → ⊥
 nil≢cons x xs e = (let n = ap length e in absurd (omega arith))
@@ -60,9 +60,9 @@ filter-some p (y ∷ ys) (suc k) d few h e =
     ]
 
 -- **where the list is empty, every variable has a value**
-pub none-free : (values : List Value) (x : ℕ) → free_list values ≡ [] → 1 ≤ x → x ≤ length values → given values x ≡ None → ⊥
+pub none-free : (values : List Value) (x : ℕ) → free_list values ≡ [] → 1 ≤ x → x ≤ length values → assignment_of values x ≡ None → ⊥
 none-free values x empty low high free =
-    let p : ℕ → Bool = λ y. is_none (given values y) in
+    let p : ℕ → Bool = λ y. is_none (assignment_of values y) in
     let xs = map (λ i. i + 1) (range_with_len 0 (length values)) in
     let size = length-map-range_with_len (λ i. i + 1) 0 (length values) in
     let is : get_or xs (x - 1) 0 ≡ x =
@@ -76,7 +76,7 @@ pub record IsPicked (values : List Value) (place var : ℕ) : Type 0 where
   pub is : var ≡ get_or (free_list values) place 0
   pub above : 1 ≤ var
   pub exists : var ≤ length values
-  pub free : given values var ≡ None
+  pub free : assignment_of values var ≡ None
 
 pub picked-at : (values : List Value) (counts free scores : List ℕ) (place var : ℕ) → free ≡ free_list values → scores ≡ scores_of counts values → place < length scores → var ≡ get_or free place var → IsPicked values place var
 picked-at values counts free scores place var is is-scores few at =
@@ -89,7 +89,7 @@ picked-at values counts free scores place var is is-scores few at =
       is = here;
       above = subst (λ (x : ℕ). 1 ≤ x) (sym here) h.0;
       exists = subst (λ (x : ℕ). x ≤ length values) (sym here) h.1;
-      free = subst (λ (x : ℕ). given values x ≡ None) (sym here) h.2;
+      free = subst (λ (x : ℕ). assignment_of values x ≡ None) (sym here) h.2;
     }
 
 pub free-exist : (values : List Value) → All (λ x. (1 ≤ x) × (x ≤ length values)) (free_list values)

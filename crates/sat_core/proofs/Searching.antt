@@ -10,12 +10,12 @@ use Rattle.cnf_core.specs.declared.literal.Lit.{Lit}
 use Rattle.cnf_core.specs.declared.line.Line.{Line}
 use Rattle.cnf_core.specs.Formula.{Formula, IsLitOf, AreOver, assigned, lit_true, clause_true}
 use Rattle.cnf_core.specs.Values.{partial_of, IsFalseClause, IsClosed}
-use Rattle.cnf_core.specs.Refutation.{known, clause_at, Reaches, refuted, AreNames, IsAccepted, AreAccepted, Refutes, HaveNoSolution, IsFresh}
+use Rattle.cnf_core.specs.Refutation.{known_clauses, clause_at, Reaches, negations, AreNames, IsAccepted, AreAccepted, Refutes, HaveNoSolution, IsFresh}
 use Rattle.cnf_core.specs.Outcome.{IsSolved, IsRefuted, IsSpent}
 use Rattle.sat_core.specs.declared.trail.Trail.{Trail}
 use Rattle.sat_core.specs.declared.trail.Value.{Value}
 use Rattle.sat_core.specs.declared.trail.Value.TheVariants.{Unassigned}
-use Rattle.sat_core.specs.Steps.{truth_value, given, var_count, IsTrailState, AreClosedBefore}
+use Rattle.sat_core.specs.Steps.{truth_value, assignment_of, var_count, IsTrailState, AreClosedBefore}
 use Rattle.sat_core.specs.Picks.{free_list}
 use Rattle.sat_core.specs.Conflicts.{GoesOnWith}
 use Rattle.sat_core.proofs.Holding.{some-same}
@@ -24,11 +24,11 @@ use Rattle.sat_core.proofs.Bound.{AreFresh, fresh-few}
 
 -- each lemma is fresh after the formula and the lemmas before it
 abbrev pub AreFreshLines : Formula → List Line → Type 0
-AreFreshLines f lines = (k : ℕ) (d : Line) → k < length lines → IsFresh (known f.clauses (take k lines)) (get_or lines k d).lits
+AreFreshLines f lines = (k : ℕ) (d : Line) → k < length lines → IsFresh (known_clauses f.clauses (take k lines)) (get_or lines k d).lits
 
 -- what the search keeps between two conflicts
 pub record IsSearch (f : Formula) (lines : List Line) (clauses : List (List Lit)) (trail : Trail) : Type 0 where
-  pub known' : clauses ≡ known f.clauses lines
+  pub known' : clauses ≡ known_clauses f.clauses lines
   pub exist : AreOver f.vars clauses
   pub vars : var_count trail ≡ f.vars
   pub state : IsTrailState clauses (var_count trail) trail
@@ -36,10 +36,10 @@ pub record IsSearch (f : Formula) (lines : List Line) (clauses : List (List Lit)
   pub accepted : AreAccepted f lines
   pub fresh : AreFreshLines f lines
 
-pub length-known : (clauses : List (List Lit)) (lines : List Line) → length (known clauses lines) ≡ length clauses + length lines
+pub length-known : (clauses : List (List Lit)) (lines : List Line) → length (known_clauses clauses lines) ≡ length clauses + length lines
 length-known clauses lines = simp (length-append, length-map)
 
-pub known-push : (clauses : List (List Lit)) (lines : List Line) (line : Line) → known clauses (lines ++ line ∷ []) ≡ known clauses lines ++ line.lits ∷ []
+pub known-push : (clauses : List (List Lit)) (lines : List Line) (line : Line) → known_clauses clauses (lines ++ line ∷ []) ≡ known_clauses clauses lines ++ line.lits ∷ []
 known-push clauses lines line =
     ap (λ (xs : List (List Lit)). clauses ++ xs) (map_push (λ (l : Line). l.lits) lines line)
     ∙ sym (append_assoc clauses (map (λ (l : Line). l.lits) lines) (line.lits ∷ []))
@@ -76,12 +76,12 @@ each-push P lines line each last k d few =
 abbrev EndIn : List (List Lit) → Line → Type 0
 EndIn cs line =
     (t : List Lit)
-    × Reaches cs (refuted line.lits) (take (length line.hints - 1) line.hints) t
+    × Reaches cs (negations line.lits) (take (length line.hints - 1) line.hints) t
     × (1 ≤ length line.hints)
     × IsFalseClause (partial_of t) (clause_at cs (slice_index line.hints (length line.hints - 1)))
 
 -- a line that is accepted after the clauses so far is accepted after the formula and the lines
-shown-accepted : (f : Formula) (lines : List Line) (clauses : List (List Lit)) (line : Line) → clauses ≡ known f.clauses lines → IsAccepted (record { vars = f.vars; clauses = clauses }) [] line → IsAccepted f lines line
+shown-accepted : (f : Formula) (lines : List Line) (clauses : List (List Lit)) (line : Line) → clauses ≡ known_clauses f.clauses lines → IsAccepted (record { vars = f.vars; clauses = clauses }) [] line → IsAccepted f lines line
 shown-accepted f lines clauses line is shown =
     let size : length clauses + 0 ≡ length f.clauses + length lines = omega (arith, ap length is ∙ length-known f.clauses lines) in
     record {
@@ -109,7 +109,7 @@ search-more f lines lines' clauses clauses' old new line h same-vars shown' on i
       state = subst (λ (n : ℕ). IsTrailState (clauses ++ line.lits ∷ []) n new) (sym same-vars) on.state;
       before = on.before;
       accepted = each-push (IsAccepted f) lines line h.accepted (shown-accepted f lines clauses line h.known' shown);
-      fresh = each-push (λ (front : List Line) (l : Line). IsFresh (known f.clauses front) l.lits) lines line h.fresh (subst (λ (cs : List (List Lit)). IsFresh cs line.lits) h.known' on.fresh);
+      fresh = each-push (λ (front : List Line) (l : Line). IsFresh (known_clauses f.clauses front) l.lits) lines line h.fresh (subst (λ (cs : List (List Lit)). IsFresh cs line.lits) h.known' on.fresh);
     }))
 
 -- **an empty lemma ends a refutation**
@@ -150,7 +150,7 @@ lits-few f lines fresh accepted k d few =
     let few' : k < length lines = omega (arith, length-map lines (λ (l : Line). l.lits)) in
     let e : Line = get_or lines k (record { id = 0; lits = []; hints = [] }) in
     let at : get_or (map (λ (l : Line). l.lits) lines) k d ≡ e.lits = get_or-map (λ (l : Line). l.lits) lines k (record { id = 0; lits = []; hints = [] }) d few' in
-    let front : known f.clauses (take k lines) ≡ f.clauses ++ take k (map (λ (l : Line). l.lits) lines) = ap (λ (xs : List (List Lit)). f.clauses ++ xs) (map-front lines k) in (
+    let front : known_clauses f.clauses (take k lines) ≡ f.clauses ++ take k (map (λ (l : Line). l.lits) lines) = ap (λ (xs : List (List Lit)). f.clauses ++ xs) (map-front lines k) in (
       subst (λ (c : List Lit). IsFresh (f.clauses ++ take k (map (λ (l : Line). l.lits) lines)) c) (sym at)
           (subst (λ (cs : List (List Lit)). IsFresh cs e.lits) front (fresh k (record { id = 0; lits = []; hints = [] }) few')),
       subst (All (IsLitOf f.vars)) (sym at) (accepted k (record { id = 0; lits = []; hints = [] }) few').named.exist,
@@ -187,14 +187,14 @@ all_of : List Value → List Bool
 all_of values = map (λ v. unwrap_or (truth_value v) false) values
 
 -- each variable's value is the assigned one
-total : (values : List Value) (x : ℕ) → free_list values ≡ [] → 1 ≤ x → x ≤ length values → given values x ≡ Some (assigned (all_of values) x)
-unfolding given all_of
+total : (values : List Value) (x : ℕ) → free_list values ≡ [] → 1 ≤ x → x ≤ length values → assignment_of values x ≡ Some (assigned (all_of values) x)
+unfolding assignment_of all_of
 total values x empty low high =
     some-of (truth_value (get_or values (x - 1) Unassigned)) (none-free values x empty low high)
     ∙ ap (λ (b : Bool). Some b) (sym (get_or-map (λ v. unwrap_or (truth_value v) false) values (x - 1) Unassigned false (omega arith)))
 
 -- **where every variable has a value and the clauses are closed, the values satisfy the formula**
-pub search-solved : (f : Formula) (lines : List Line) (clauses : List (List Lit)) (n : ℕ) (values : List Value) (all : List Bool) → clauses ≡ known f.clauses lines → AreOver f.vars clauses → length values ≡ f.vars → IsClosed (given values) clauses → free_list values ≡ [] → all ≡ map (λ v. unwrap_or (truth_value v) false) values → IsSolved f all
+pub search-solved : (f : Formula) (lines : List Line) (clauses : List (List Lit)) (n : ℕ) (values : List Value) (all : List Bool) → clauses ≡ known_clauses f.clauses lines → AreOver f.vars clauses → length values ≡ f.vars → IsClosed (assignment_of values) clauses → free_list values ≡ [] → all ≡ map (λ v. unwrap_or (truth_value v) false) values → IsSolved f all
 unfolding all_of
 search-solved f lines clauses n values all is over size closed empty is-all =
     subst (IsSolved f) (sym is-all)

@@ -14,7 +14,7 @@ use Rattle.cnf_core.specs.Refutation.{clause_at}
 use Rattle.sat_core.specs.declared.trail.Step.{Step}
 use Rattle.sat_core.specs.declared.trail.Value.{Value}
 use Rattle.sat_core.specs.declared.trail.Value.TheVariants.{Unassigned}
-use Rattle.sat_core.specs.Steps.{truth_value, is_unassigned, given, trail_values, with_decision, decision_indices, IsReason, IsRightStep, AreSteps, Propagates, AreClosedBefore}
+use Rattle.sat_core.specs.Steps.{truth_value, is_unassigned, assignment_of, trail_values, with_decision, decision_indices, IsReason, IsRightStep, AreSteps, Propagates, AreClosedBefore}
 use Rattle.sat_core.specs.FalseClauses.{IsFalsified}
 use Rattle.sat_core.proofs.Agreeing.{unit-agrees, false-agrees, open-agrees}
 use Rattle.sat_core.proofs.Holding.{none≢some, held-push-other, held-push-same, held-at}
@@ -23,17 +23,17 @@ use Rattle.sat_core.proofs.Deciding.{decisions-push}
 abbrev Values : Type 0
 Values = List Value
 
-given-same : (values : Values) (l : Lit) (v : Value) → truth_value v ≡ Some l.positive → 1 ≤ l.var → l.var ≤ length values → given (set values (l.var - 1) v) l.var ≡ Some l.positive
-unfolding given
+given-same : (values : Values) (l : Lit) (v : Value) → truth_value v ≡ Some l.positive → 1 ≤ l.var → l.var ≤ length values → assignment_of (set values (l.var - 1) v) l.var ≡ Some l.positive
+unfolding assignment_of
 given-same values l v is low high = ap truth_value (get_or-set_same values (l.var - 1) v Unassigned (omega arith)) ∙ is
 
-given-other : (values : Values) (l : Lit) (v : Value) (x : ℕ) → 1 ≤ l.var → 1 ≤ x → (l.var ≡ x → ⊥) → given (set values (l.var - 1) v) x ≡ given values x
-unfolding given
+given-other : (values : Values) (l : Lit) (v : Value) (x : ℕ) → 1 ≤ l.var → 1 ≤ x → (l.var ≡ x → ⊥) → assignment_of (set values (l.var - 1) v) x ≡ assignment_of values x
+unfolding assignment_of
 given-other values l v x low low' other = let ne : x - 1 ≢ l.var - 1 = omega arith in ap truth_value (get_or-set_other values (l.var - 1) (x - 1) v Unassigned ne)
 
 -- one variable fewer without a value
-room-push : (values : Values) (l : Lit) (v : Value) → truth_value v ≡ Some l.positive → 1 ≤ l.var → l.var ≤ length values → given values l.var ≡ None → count_by is_unassigned (set values (l.var - 1) v) + 1 ≡ count_by is_unassigned values
-unfolding given
+room-push : (values : Values) (l : Lit) (v : Value) → truth_value v ≡ Some l.positive → 1 ≤ l.var → l.var ≤ length values → assignment_of values l.var ≡ None → count_by is_unassigned (set values (l.var - 1) v) + 1 ≡ count_by is_unassigned values
+unfolding assignment_of
 room-push values l v is low high free =
     let e : count_by is_unassigned (set values (l.var - 1) v) + cond {A = ℕ} (is_unassigned (get_or values (l.var - 1) Unassigned)) 1 0 ≡ count_by is_unassigned values + cond {A = ℕ} (is_unassigned v) 1 0 =
     sum_by-set (λ (o : Value). cond {A = ℕ} (is_unassigned o) 1 0) values (l.var - 1) v Unassigned (omega arith) in
@@ -47,7 +47,7 @@ steps-push-of clauses n steps values indices decisions step v is-v at h right =
     let l = step.lit in
     let size = length-set values (l.var - 1) v in
     let slots = length-set indices (l.var - 1) (length steps) in
-    let free : given values l.var ≡ None = sym (h.shows l.var at.above at.within) ∙ right.free in
+    let free : assignment_of values l.var ≡ None = sym (h.shows l.var at.above at.within) ∙ right.free in
     let within : l.var ≤ length values = (let a = at.within in let b = h.size in omega arith) in
     let within' : l.var - 1 < length indices = (let a = at.within in let c = at.above in let b = h.slots in omega arith) in
     let long = length_push steps step in
@@ -65,7 +65,7 @@ steps-push-of clauses n steps values indices decisions step v is-v at h right =
       exist = All-push (λ (s : Step). IsLitOf n s.lit) steps step h.exist at;
       size = size ∙ h.size;
       shows = λ x low high. elim (cases_eq l.var x) [
-        | inl same ↦ subst (λ (y : ℕ). trail_values (steps ++ step ∷ []) y ≡ given (set values (l.var - 1) v) y) same
+        | inl same ↦ subst (λ (y : ℕ). trail_values (steps ++ step ∷ []) y ≡ assignment_of (set values (l.var - 1) v) y) same
             (held-push-same steps step right.free ∙ sym (given-same values l v is-v at.above within))
         | inr other ↦ held-push-other steps step x other ∙ h.shows x low high ∙ sym (given-other values l v x at.above low other)
       ];
@@ -104,7 +104,7 @@ steps-push clauses n steps steps' values values' indices indices' decisions deci
 
 -- the last step taken back
 pub steps-pop : (clauses : List (List Lit)) (n : ℕ) (steps : List Step) (step : Step) (values : Values) (indices decisions decisions' : List ℕ) → (decisions ≡ decision_indices (steps ++ step ∷ []) → decisions' ≡ decision_indices steps) → AreSteps clauses n (steps ++ step ∷ []) values indices decisions → AreSteps clauses n steps (set values (step.lit.var - 1) Unassigned) indices decisions'
-unfolding given
+unfolding assignment_of
 steps-pop clauses n steps step values indices decisions decisions' fewer h =
     let l = step.lit in
     let size = length-set values (l.var - 1) Unassigned in
@@ -139,7 +139,7 @@ steps-pop clauses n steps step values indices decisions decisions' fewer h =
     }
 
 -- the values and the steps agree on a clause's variables
-pub agree : (clauses : List (List Lit)) (n : ℕ) (steps : List Step) (values : Values) (indices decisions : List ℕ) (c : List Lit) → AreSteps clauses n steps values indices decisions → All (IsLitOf n) c → (m : Lit) → Contains c m → given values m.var ≡ trail_values steps m.var
+pub agree : (clauses : List (List Lit)) (n : ℕ) (steps : List Step) (values : Values) (indices decisions : List ℕ) (c : List Lit) → AreSteps clauses n steps values indices decisions → All (IsLitOf n) c → (m : Lit) → Contains c m → assignment_of values m.var ≡ trail_values steps m.var
 agree clauses n steps values indices decisions c h exist m there =
     let at = All-contains (IsLitOf n) c m exist there in
     sym (h.shows m.var at.above at.within)
@@ -148,17 +148,17 @@ pub clause-exists : (clauses : List (List Lit)) (n id : ℕ) → AreOver n claus
 clause-exists clauses n id exist low high = exist (id - 1) [] (omega arith)
 
 -- **a clause that is unit by the values gives a right step**
-pub reason-right : (clauses : List (List Lit)) (n : ℕ) (steps : List Step) (values : Values) (indices decisions : List ℕ) (l : Lit) (id : ℕ) → AreSteps clauses n steps values indices decisions → AreOver n clauses → IsReason (given values) clauses id l → IsLitOf n l × IsRightStep clauses steps (record { lit = l; reason = Some id })
+pub reason-right : (clauses : List (List Lit)) (n : ℕ) (steps : List Step) (values : Values) (indices decisions : List ℕ) (l : Lit) (id : ℕ) → AreSteps clauses n steps values indices decisions → AreOver n clauses → IsReason (assignment_of values) clauses id l → IsLitOf n l × IsRightStep clauses steps (record { lit = l; reason = Some id })
 reason-right clauses n steps values indices decisions l id h over r =
     let c = clause_at clauses id in
     let exist = clause-exists clauses n id over r.low r.high in
-    let u = unit-agrees (given values) (trail_values steps) c l (agree clauses n steps values indices decisions c h exist) r.unit in (
+    let u = unit-agrees (assignment_of values) (trail_values steps) c l (agree clauses n steps values indices decisions c h exist) r.unit in (
       All-contains (IsLitOf n) c l exist u.among,
       record { free = u.free; forced = λ id' is. (let same : id ≡ id' = cc in subst (λ (i : ℕ). IsReason (trail_values steps) clauses i l) same (record { low = r.low; high = r.high; unit = u })) },
     )
 
 -- a decision of a free variable is a right step
-pub decision-right : (clauses : List (List Lit)) (n : ℕ) (steps : List Step) (values : Values) (indices decisions : List ℕ) (l : Lit) → AreSteps clauses n steps values indices decisions → 1 ≤ l.var → l.var ≤ n → given values l.var ≡ None → IsRightStep clauses steps (record { lit = l; reason = None })
+pub decision-right : (clauses : List (List Lit)) (n : ℕ) (steps : List Step) (values : Values) (indices decisions : List ℕ) (l : Lit) → AreSteps clauses n steps values indices decisions → 1 ≤ l.var → l.var ≤ n → assignment_of values l.var ≡ None → IsRightStep clauses steps (record { lit = l; reason = None })
 decision-right clauses n steps values indices decisions l h low high free =
     record { free = h.shows l.var low high ∙ free; forced = λ id is. absurd (no-id id is) }
   where
@@ -166,13 +166,13 @@ decision-right clauses n steps values indices decisions l h low high free =
     no-id id e = cc
 
 -- what holds by the values holds by the steps
-pub closed-held : (clauses : List (List Lit)) (n : ℕ) (steps : List Step) (values : Values) (indices decisions : List ℕ) → AreSteps clauses n steps values indices decisions → AreOver n clauses → IsClosed (given values) clauses → IsClosed (trail_values steps) clauses
+pub closed-held : (clauses : List (List Lit)) (n : ℕ) (steps : List Step) (values : Values) (indices decisions : List ℕ) → AreSteps clauses n steps values indices decisions → AreOver n clauses → IsClosed (assignment_of values) clauses → IsClosed (trail_values steps) clauses
 closed-held clauses n steps values indices decisions h exist closed = λ k d few.
-    open-agrees (given values) (trail_values steps) (get_or clauses k d) (agree clauses n steps values indices decisions (get_or clauses k d) h (exist k d few)) (closed k d few)
+    open-agrees (assignment_of values) (trail_values steps) (get_or clauses k d) (agree clauses n steps values indices decisions (get_or clauses k d) h (exist k d few)) (closed k d few)
 
-pub falsified-held : (clauses : List (List Lit)) (n : ℕ) (steps : List Step) (values : Values) (indices decisions : List ℕ) (id : ℕ) → AreSteps clauses n steps values indices decisions → AreOver n clauses → IsFalsified (given values) clauses id → IsFalseClause (trail_values steps) (clause_at clauses id)
+pub falsified-held : (clauses : List (List Lit)) (n : ℕ) (steps : List Step) (values : Values) (indices decisions : List ℕ) (id : ℕ) → AreSteps clauses n steps values indices decisions → AreOver n clauses → IsFalsified (assignment_of values) clauses id → IsFalseClause (trail_values steps) (clause_at clauses id)
 falsified-held clauses n steps values indices decisions id h over r =
-    false-agrees (given values) (trail_values steps) (clause_at clauses id) (agree clauses n steps values indices decisions (clause_at clauses id) h (clause-exists clauses n id over r.low r.high)) r.false'
+    false-agrees (assignment_of values) (trail_values steps) (clause_at clauses id) (agree clauses n steps values indices decisions (clause_at clauses id) h (clause-exists clauses n id over r.low r.high)) r.false'
 
 pub propagates-push : (old new new' : List Step) (step : Step) → Propagates old new → new' ≡ new ++ step ∷ [] → (step.reason ≢ None) → Propagates old new'
 propagates-push old new new' step (added, is, forced) is' some = (
@@ -208,7 +208,7 @@ decided-closed clauses old new step closed now is =
 
 -- no step at all
 pub steps-none : (clauses : List (List Lit)) (n : ℕ) (steps : List Step) (values : Values) (indices decisions : List ℕ) → steps ≡ [] → values ≡ replicate n Unassigned → indices ≡ replicate n 0 → decisions ≡ [] → AreSteps clauses n steps values indices decisions
-unfolding given
+unfolding assignment_of
 steps-none clauses n steps values indices decisions is-steps is-values is-indices is-decisions =
     subst (λ (ss : List Step). AreSteps clauses n ss values indices decisions) (sym is-steps)
     (subst (λ (vs : Values). AreSteps clauses n [] vs indices decisions) (sym is-values)

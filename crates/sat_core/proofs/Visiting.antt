@@ -13,7 +13,7 @@ use Rattle.sat_core.specs.declared.watches.Watcher.{Watcher}
 use Rattle.sat_core.specs.declared.watches.Pair.{Pair}
 use Rattle.sat_core.specs.FalseClauses.{IsFalsified}
 use Rattle.sat_core.specs.declared.trail.Value.{Value}
-use Rattle.sat_core.specs.Steps.{given, trail_values, IsReason, IsRightStep, AreSteps, Propagates, AreClosedBefore}
+use Rattle.sat_core.specs.Steps.{assignment_of, trail_values, IsReason, IsRightStep, AreSteps, Propagates, AreClosedBefore}
 use Rattle.sat_core.specs.Watches.{no_pair, no_watcher, list_of, watchers, pair_at, IsTrueClause, with_pair, IsWatcher, KeepWatches, ArePassedIn, IsFalsifiedAt, IsReplacement, IsNextReplacement, IsChosen}
 use Rattle.sat_core.proofs.Holding.{held-push-same}
 use Rattle.sat_core.proofs.Agreeing.{open-agrees}
@@ -61,7 +61,7 @@ visit-other clauses n steps lists pairs head l place w p other h v is-p first =
 
 -- **its clause is true**
 pub visit-true : (clauses : List (List Lit)) (n : ℕ) (steps : List Step) (values : List Value) (indices decisions : List ℕ) (lists : List (List Watcher)) (pairs : List Pair) (head : ℕ) (l : Lit) (place : ℕ) (w : Watcher) (m : Lit)
-    → AreSteps clauses n steps values indices decisions → IsVisit clauses n lists pairs l place w → Contains (get_or clauses w.clause []) m → IsHeld (given values) m
+    → AreSteps clauses n steps values indices decisions → IsVisit clauses n lists pairs l place w → Contains (get_or clauses w.clause []) m → IsHeld (assignment_of values) m
     → ArePassedIn clauses steps lists pairs head (list_of l) place → ArePassedIn clauses steps lists pairs head (list_of l) (place + 1)
 visit-true clauses n steps values indices decisions lists pairs head l place w m s v among holds passed =
     let at = All-contains (IsLitOf n) (get_or clauses w.clause []) m v.over among in
@@ -118,7 +118,7 @@ visit-step clauses n steps new lists pairs head l place w m id within is v among
 -- **its clause gets another watched literal**
 pub visit-exchange : (clauses : List (List Lit)) (n : ℕ) (steps : List Step) (values : List Value) (indices decisions : List ℕ) (lists : List (List Watcher)) (pairs : List Pair) (head : ℕ) (l : Lit) (place : ℕ) (w : Watcher) (other found : Lit) (saved : ℕ) (c : List Lit)
     → AreSteps clauses n steps values indices decisions → KeepWatches clauses n steps lists pairs head → IsFalsifiedAt steps head l → IsLitOf n l → IsVisit clauses n lists pairs l place w → IsOther clauses n pairs l w.clause other
-    → c ≡ get_or clauses w.clause [] → Contains c found → (found ≢ other) → (IsFalse (given values) found → ⊥)
+    → c ≡ get_or clauses w.clause [] → Contains c found → (found ≢ other) → (IsFalse (assignment_of values) found → ⊥)
     → IsExchange clauses steps lists pairs l place w.clause (record { a = other; b = found; saved = saved })
 visit-exchange clauses n steps values indices decisions lists pairs head l place w other found saved c s h at exist v o is among differ free =
     let among' = subst (λ (x : List Lit). Contains x found) is among in
@@ -141,14 +141,14 @@ visit-exchange clauses n steps values indices decisions lists pairs head l place
 -- **a new clause is attached**
 pub attached : (clauses : List (List Lit)) (n : ℕ) (steps : List Step) (values : List Value) (indices decisions : List ℕ) (lists lists' : List (List Watcher)) (pairs pairs' : List Pair) (head head' : ℕ) (c : List Lit) (p : Pair)
     → AreSteps clauses n steps values indices decisions → AreOver n clauses → AreClosedBefore clauses steps → KeepWatches clauses n steps lists pairs head
-    → length pairs < length clauses → IsOpenClause (given values) (get_or clauses (length pairs) []) → c ≡ get_or clauses (length pairs) [] → IsChosen steps c p
+    → length pairs < length clauses → IsOpenClause (assignment_of values) (get_or clauses (length pairs) []) → c ≡ get_or clauses (length pairs) [] → IsChosen steps c p
     → (p.a ≡ p.b → lists' ≡ lists) → (p.a ≢ p.b → lists' ≡ with_pair lists (length pairs) p) → pairs' ≡ pairs ++ p ∷ [] → head' ≡ head
     → KeepWatches clauses n steps lists' pairs' head'
 attached clauses n steps values indices decisions lists lists' pairs pairs' head head' c p s over before h more opens is chosen one two is-pairs is-head =
     let clause = get_or clauses (length pairs) [] in
     let chosen' = subst (λ (x : List Lit). IsChosen steps x p) is chosen in
     let exist = over (length pairs) [] more in
-    let open' = open-agrees (given values) (trail_values steps) clause (agree clauses n steps values indices decisions clause s exist) opens in
+    let open' = open-agrees (assignment_of values) (trail_values steps) clause (agree clauses n steps values indices decisions clause s exist) opens in
     subst (λ (ps : List Pair). KeepWatches clauses n steps lists' ps head') (sym is-pairs)
     (subst (λ (k : ℕ). KeepWatches clauses n steps lists' (pairs ++ p ∷ []) k) (sym is-head)
     (kept-added clauses n steps lists lists' pairs head p h more chosen' before open'
@@ -165,10 +165,10 @@ chosen-exist clauses n steps place c p over few is chosen =
     )
 
 -- what is closed by the steps is closed by the values
-pub closed-given : (clauses : List (List Lit)) (n : ℕ) (steps : List Step) (values : List Value) (indices decisions : List ℕ) → AreSteps clauses n steps values indices decisions → AreOver n clauses → IsClosed (trail_values steps) clauses → IsClosed (given values) clauses
+pub closed-given : (clauses : List (List Lit)) (n : ℕ) (steps : List Step) (values : List Value) (indices decisions : List ℕ) → AreSteps clauses n steps values indices decisions → AreOver n clauses → IsClosed (trail_values steps) clauses → IsClosed (assignment_of values) clauses
 closed-given clauses n steps values indices decisions s over closed k d few =
     let c = get_or clauses k d in
-    open-agrees (trail_values steps) (given values) c (λ m there. sym (agree clauses n steps values indices decisions c s (over k d few) m there)) (closed k d few)
+    open-agrees (trail_values steps) (assignment_of values) c (λ m there. sym (agree clauses n steps values indices decisions c s (over k d few) m there)) (closed k d few)
 
 -- no step yet
 pub propagates-none : (steps : List Step) → Propagates steps steps

@@ -7,11 +7,11 @@ use Rattle.cnf_core.specs.declared.line.Line.{Line}
 use Rattle.sat_core.specs.declared.trail.Step.{Step}
 use Rattle.sat_core.specs.declared.trail.Trail.{Trail}
 use Rattle.sat_core.specs.declared.trail.Value.{Value}
-use Rattle.sat_core.specs.Steps.{given, var_count, IsTrailState}
+use Rattle.sat_core.specs.Steps.{assignment_of, var_count, IsTrailState}
 
 -- the variables without a value, rising
 abbrev pub free_list : List Value → List ℕ
-free_list values = filter (λ x. is_none (given values x)) (map (λ i. i + 1) (range_with_len 0 (length values)))
+free_list values = filter (λ x. is_none (assignment_of values x)) (map (λ i. i + 1) (range_with_len 0 (length values)))
 
 -- whether the lemma has the variable
 abbrev pub has_var : List Lit → ℕ → Bool

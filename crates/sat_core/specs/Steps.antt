@@ -21,8 +21,8 @@ abbrev pub is_unassigned : Value → Bool
 is_unassigned v = is_none (truth_value v)
 
 -- the value of each variable, that of x at the place x - 1
-unfoldable pub given : List Value → Partial
-given values x = truth_value (slice_index_or values (x - 1) Unassigned)
+unfoldable pub assignment_of : List Value → Partial
+assignment_of values x = truth_value (slice_index_or values (x - 1) Unassigned)
 
 -- the literals that the steps made true
 abbrev pub lits_of : List Step → List Lit
@@ -67,7 +67,7 @@ pub record AreSteps (clauses : List (List Lit)) (n : ℕ) (steps : List Step) (v
   pub trail : IsTrail clauses steps
   pub exist : All (λ (s : Step). IsLitOf n s.lit) steps
   pub size : length values ≡ n
-  pub shows : (x : ℕ) → 1 ≤ x → x ≤ n → trail_values steps x ≡ given values x
+  pub shows : (x : ℕ) → 1 ≤ x → x ≤ n → trail_values steps x ≡ assignment_of values x
   pub room : length steps + count_by is_unassigned values ≡ n
   pub slots : length indices ≡ n
   pub placed : (k : ℕ) (d : Step) → k < length steps → slice_index indices ((slice_index_or steps k d).lit.var - 1) ≡ k

@@ -5,7 +5,7 @@ use Rattle.std.specs.List.{slice_index_or, All, Contains, count_by}
 use Rattle.cnf_core.specs.declared.literal.Lit.{Lit}
 use Rattle.cnf_core.specs.Formula.{IsLitOf, negated}
 use Rattle.cnf_core.specs.Values.{Partial, partial_of, IsHeld, IsUnassigned, IsFalse, IsFalseClause, IsOpenClause}
-use Rattle.cnf_core.specs.Refutation.{clause_at, Reaches, refuted, AreNames, HaveDifferentVars}
+use Rattle.cnf_core.specs.Refutation.{clause_at, Reaches, negations, AreNames, HaveDifferentVars}
 use Rattle.sat_core.specs.declared.trail.Step.{Step}
 use Rattle.sat_core.specs.declared.conflict.Analysis.{Analysis}
 use Rattle.sat_core.specs.Steps.{trail_values}
@@ -171,7 +171,7 @@ Covers steps i seen t =
 -- of other variables they hold what refutes the lemma
 abbrev pub HoldsRefuted : List Step → ℕ → List Lit → List Lit → Type 0
 HoldsRefuted steps i lits t =
-    (x : ℕ) → trail_values (take i steps) x ≡ None → partial_of t x ≡ partial_of (refuted lits) x
+    (x : ℕ) → trail_values (take i steps) x ≡ None → partial_of t x ≡ partial_of (negations lits) x
 
 -- from such literals the hints lead to the conflict
 abbrev pub LeadsToConflict : List (List Lit) → List Step → ℕ → List Bool → List Lit → List ℕ → List Lit → Type 0

@@ -23,7 +23,7 @@ pub(crate) fn watched_pair(clause: &[Lit], trail: &Trail) -> Pair
     Pair { a, b, saved: 0 }
 }
 
-/// The literal of a clause that becomes false last, but for one that is passed over.
+/// The literal of a clause that becomes false last, other than the one that is passed over.
 fn latest(clause: &[Lit], trail: &Trail, but: Option<Lit>) -> Option<Lit>
     requires exist { All (IsLitOf (var_count trail.now)) clause.now }
     requires slots { length trail.now.indices.items ≡ var_count trail.now }

@@ -5,7 +5,7 @@ ghost use Rattle.sat_core.specs.declared.trail.Step.{Step as Taken};
 ghost use Rattle.cnf_core.specs.declared.literal.Lit.{Lit as Literal};
 ghost use Rattle.cnf_core.specs.Formula.{AreOver, IsLitOf};
 ghost use Rattle.cnf_core.specs.Refutation.{clause_at, IsAccepted};
-ghost use Rattle.sat_core.specs.Steps.{given, var_count, IsTrailState, AreClosedBefore};
+ghost use Rattle.sat_core.specs.Steps.{assignment_of, var_count, IsTrailState, AreClosedBefore};
 ghost use Rattle.sat_core.specs.FalseClauses.{IsFalsified};
 ghost use Rattle.sat_core.specs.Conflicts.{GoesOnWith};
 ghost use Rattle.sat_core.specs.Walks.{is_marked, last_level_count, IsStepOf, MarksClause, IsLastDecision, IsDecisionOrEnd, IsKeptAt, IsTakenBack, KeepsStep, Resolves, IsWalked, LeadsBy, IsBackjump, IsSpareStep, IsImpliedStep, AddsNoStep, AddsNoLiteral, IsMinimalAt, AreNoMarks, trail_index, backjump_after, backjump_at_end};
@@ -35,8 +35,8 @@ struct Analysis {
     backjump: usize,
 }
 
-/// The line of a conflict with the clause that has this id. Where its lemma isn't empty, the trail is taken back to the
-/// first decision before which the lemma is unit already. No mark is set before and after.
+/// The line of a conflict, whose false clause has this id. If its lemma isn't empty, the trail is cut back to the first
+/// decision before which the lemma is unit already. No mark is set before and after.
 pub(crate) fn learn(
     alloc: Global,
     clauses: &Clauses,
@@ -48,7 +48,7 @@ pub(crate) fn learn(
     requires exist { AreOver (var_count trail.old) clauses.now }
     requires state { IsTrailState clauses.now (var_count trail.old) trail.old }
     requires before { AreClosedBefore clauses.now trail.old.steps.items }
-    requires falsified { IsFalsified (given trail.old.values.items) clauses.now id }
+    requires falsified { IsFalsified (assignment_of trail.old.values.items) clauses.now id }
     requires unmarked { AreNoMarks (var_count trail.old) seen.old.items }
     ensures shown { IfOk result (IsAccepted (record { vars = var_count trail.old; clauses = clauses.now }) []) }
     ensures size { OnOk result (var_count trail.new ≡ var_count trail.old) }
@@ -83,7 +83,7 @@ fn analyze(
     requires exist { AreOver (var_count trail.now) clauses.now }
     requires state { IsTrailState clauses.now (var_count trail.now) trail.now }
     requires before { AreClosedBefore clauses.now trail.now.steps.items }
-    requires falsified { IsFalsified (given trail.now.values.items) clauses.now id }
+    requires falsified { IsFalsified (assignment_of trail.now.values.items) clauses.now id }
     requires unmarked { AreNoMarks (var_count trail.now) seen.items }
     ensures last { IfOk result (λ a. IsLastDecision trail.now.steps.items a.last) }
     ensures walked { IfOk result (IsWalked clauses.now (var_count trail.now) trail.now.steps.items 0) }
@@ -108,7 +108,7 @@ fn start(alloc: Global, clauses: &Clauses, trail: &Trail, mut seen: Vec<bool>, i
     requires exist { AreOver (var_count trail.now) clauses.now }
     requires state { IsTrailState clauses.now (var_count trail.now) trail.now }
     requires before { AreClosedBefore clauses.now trail.now.steps.items }
-    requires falsified { IsFalsified (given trail.now.values.items) clauses.now id }
+    requires falsified { IsFalsified (assignment_of trail.now.values.items) clauses.now id }
     requires unmarked { AreNoMarks (var_count trail.now) seen.items }
     ensures last { IsLastDecision trail.now.steps.items result.last }
     ensures walked { IsWalked clauses.now (var_count trail.now) trail.now.steps.items
@@ -133,7 +133,7 @@ fn start(alloc: Global, clauses: &Clauses, trail: &Trail, mut seen: Vec<bool>, i
     }
 }
 
-/// Marks the steps of a clause's literals. How many of the last level weren't marked before.
+/// Marks the steps of a clause's literals, and counts those of the last level that weren't marked before.
 fn mark_clause(clause: &[Lit], indices: &[usize], last: usize, seen: &mut [bool]) -> usize
     requires steps { All (IsStepOf indices.now (length seen.old)) clause.now }
     ensures needs { MarksClause indices.now clause.now clause.now last seen.old seen.new result }
@@ -257,9 +257,9 @@ impl Analysis {
         }
     }
 
-    /// Whether a step of an earlier level is implied by its reason, where the literals that aren't needed yet are
-    /// implied in turn by needed ones: without its literal the lemma follows too. The time grows as the sum of the
-    /// lengths of the reasons of the reason's literals.
+    /// Whether a step of an earlier level is implied by its reason, where the literals of the reason that aren't needed
+    /// yet are implied by needed ones in turn: then the lemma follows without the step's literal too. The time grows
+    /// with the sum of the lengths of the reasons of the reason's literals.
     fn is_spare(&self, clauses: &Clauses, trail: &Trail, index: usize, first: usize) -> bool
         requires exist { AreOver (var_count trail.now) clauses.now }
         requires state { IsTrailState clauses.now (var_count trail.now) trail.now }
@@ -341,8 +341,9 @@ impl Analysis {
         true
     }
 
-    /// The clause with which a needed step is resolved, or none where it is kept. Kept are the last one of the current
-    /// level, and those of earlier levels but the steps before any decision and the spare ones.
+    /// The clause with which a needed step is resolved, or none where its literal is kept. Kept are the last needed
+    /// step of the current level, and those needed steps of earlier levels that are neither spare nor before every
+    /// decision.
     fn resolvent(&self, step: Step, index: usize, first: usize, spare: bool) -> Option<u32>
         ensures { MatchOption result
             ((step.reason ≡ None) ⊎ IsKeptAt first self.now.last self.now.at_last_level index spare)

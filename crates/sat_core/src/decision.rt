@@ -3,7 +3,7 @@ ghost use Rattle.std.specs.Prelude.{◌≡◌, ℕ, ◌+◌, ◌-◌, ◌^◌, �
 ghost use Rattle.std.specs.List.{All, list_any, slice_index_or};
 ghost use Rattle.cnf_core.specs.Formula.{IsLitOf};
 ghost use Rattle.cnf_core.specs.Refutation.{HaveDifferentVars};
-ghost use Rattle.sat_core.specs.Steps.{given, var_count, IsTrailState};
+ghost use Rattle.sat_core.specs.Steps.{assignment_of, var_count, IsTrailState};
 ghost use Rattle.sat_core.specs.Picks.{free_list, scores_of, has_var, IsDecidedBy};
 
 use crate::trail::{Step, Trail, Value};
@@ -53,7 +53,7 @@ impl Scores {
 }
 
 /// The variables without a value, rising.
-#[tactic(auto, unfolding(crate::specs::Steps::given))]
+#[tactic(auto, unfolding(crate::specs::Steps::assignment_of))]
 fn list_free(free: &mut Vec<u32>, values: &[Value]) -> Result<(), NoMemory>
     requires { length values.now < 2 ^ 29 }
     ensures { OnOk result (free.new.items ≡ free_list values.now) }
@@ -79,7 +79,7 @@ fn list_scores(free_scores: &mut Vec<u64>, free: &[u32], counts: &[u64]) -> Resu
     Ok(())
 }
 
-/// Decides the free variable at the picker's place, false. No where there is none.
+/// Makes the free variable at the picker's place false, as a decision. Answers no where no variable is free.
 pub(crate) fn decide<F: Rule>(
     picker: &Picker<F>,
     trail: &mut Trail,

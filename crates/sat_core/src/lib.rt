@@ -1,6 +1,6 @@
-//! Finds values that satisfy a formula, or lines that refute it: conflict-driven clause learning.
+//! Finds values that satisfy a formula, or lines that refute it, by conflict-driven clause learning.
 //!
-//! Whoever doubts a refutation can check its lines without this crate.
+//! The lines of a refutation can be checked without this crate.
 #![tactic(auto)]
 
 mod choice;

@@ -3,7 +3,7 @@ ghost use Rattle.std.specs.Prelude.{◌≡◌, ◌≢◌, ◌⊎◌, ◌+◌, �
 ghost use Rattle.std.specs.List.{All, AllWithin};
 ghost use Rattle.cnf_core.specs.Formula.{AreOver, IsLitOf};
 ghost use Rattle.cnf_core.specs.Values.{IsClosed, IsOpenClause, IsFalse};
-ghost use Rattle.sat_core.specs.Steps.{given, var_count, IsTrailState, Propagates, AreClosedBefore};
+ghost use Rattle.sat_core.specs.Steps.{assignment_of, var_count, IsTrailState, Propagates, AreClosedBefore};
 ghost use Rattle.sat_core.specs.FalseClauses.{IsFalsified};
 ghost use Rattle.sat_core.specs.Watches.{list_of, watchers, AreWatched, ArePassed, IsFalsifiedAt, IsPassedOver, IsFirstWithin, IsNextReplacement, VisitSays, AreVisited};
 
@@ -24,9 +24,9 @@ pub(crate) enum Visit {
     Falsified(u32),
 }
 
-/// Unit propagation: makes literals true, each by a clause that is unit under those before it, until no clause is unit
-/// or one is false: the id of that one. Each new clause is visited once, and after it those alone that watch a literal
-/// that became false.
+/// Unit propagation: makes literals true, each by a clause that is unit under those before it, until no clause is unit,
+/// or a clause is false, whose id is the answer. Each new clause is visited once, and after it only the clauses that
+/// watch a literal that became false.
 pub(crate) fn propagate(
     clauses: &Clauses,
     trail: &mut Trail,
@@ -39,8 +39,8 @@ pub(crate) fn propagate(
     requires watched { AreWatched clauses.now (var_count trail.old) trail.old.steps.items watches.old }
     ensures state { OnOk result (IsTrailState clauses.now (var_count trail.old) trail.new) }
     ensures adds { OnOk result (Propagates trail.old.steps.items trail.new.steps.items) }
-    ensures done { IfOk result (λ o. MatchOption o (IsClosed (given trail.new.values.items) clauses.now)
-        (IsFalsified (given trail.new.values.items) clauses.now)) }
+    ensures done { IfOk result (λ o. MatchOption o (IsClosed (assignment_of trail.new.values.items) clauses.now)
+        (IsFalsified (assignment_of trail.new.values.items) clauses.now)) }
     ensures watched { OnOk result (AreWatched clauses.now (var_count trail.old) trail.new.steps.items watches.new) }
     ensures visited { IfOk result (λ o. o ≡ None → AreVisited clauses.now trail.new.steps.items watches.new) }
 {
@@ -70,7 +70,7 @@ fn attach_new(
     ensures adds { OnOk result (Propagates trail.old.steps.items trail.new.steps.items) }
     ensures watched { OnOk result (AreWatched clauses.now (var_count trail.old) trail.new.steps.items watches.new) }
     ensures done { IfOk result (λ o. MatchOption o (length watches.new.pairs.items ≡ length clauses.now)
-        (IsFalsified (given trail.new.values.items) clauses.now)) }
+        (IsFalsified (assignment_of trail.new.values.items) clauses.now)) }
 {
     while watches.pairs.len() < clauses.len() {
         if let Some(id) = assert_unit(clauses, trail, watches.pairs.len())? {
@@ -81,7 +81,8 @@ fn attach_new(
     Ok(None)
 }
 
-/// Makes the literal of a clause true where the clause is unit. The clause is open then, or it is false: its id.
+/// Makes the literal of a clause true where the clause is unit. Otherwise the clause is open, or it is false, and its
+/// id is the answer.
 fn assert_unit(clauses: &Clauses, trail: &mut Trail, place: usize) -> Result<Option<u32>, NoMemory>
     requires few { length clauses.now < 2 ^ 31 }
     requires exist { AreOver (var_count trail.old) clauses.now }
@@ -90,8 +91,8 @@ fn assert_unit(clauses: &Clauses, trail: &mut Trail, place: usize) -> Result<Opt
     ensures state { OnOk result (IsTrailState clauses.now (var_count trail.old) trail.new) }
     ensures adds { OnOk result (Propagates trail.old.steps.items trail.new.steps.items) }
     ensures done { IfOk result (λ o. MatchOption o
-        (IsOpenClause (given trail.new.values.items) (slice_index_or clauses.now place []))
-        (IsFalsified (given trail.new.values.items) clauses.now)) }
+        (IsOpenClause (assignment_of trail.new.values.items) (slice_index_or clauses.now place []))
+        (IsFalsified (assignment_of trail.new.values.items) clauses.now)) }
 {
     let id = place as u32 + 1;
     match status_of(clauses.get(place), trail) {
@@ -115,7 +116,7 @@ fn attach(clauses: &Clauses, trail: &Trail, watches: &mut Watches) -> Result<(),
     requires before { AreClosedBefore clauses.now trail.now.steps.items }
     requires watched { AreWatched clauses.now (var_count trail.now) trail.now.steps.items watches.old }
     requires more { length watches.old.pairs.items < length clauses.now }
-    requires opens { IsOpenClause (given trail.now.values.items)
+    requires opens { IsOpenClause (assignment_of trail.now.values.items)
         (slice_index_or clauses.now (length watches.old.pairs.items) []) }
     ensures watched { OnOk result (AreWatched clauses.now (var_count trail.now) trail.now.steps.items watches.new) }
     ensures count { OnOk result (length watches.new.pairs.items ≡ length watches.old.pairs.items + 1) }
@@ -141,7 +142,7 @@ fn visit_list(
     ensures watched { OnOk result (AreWatched clauses.now (var_count trail.old) trail.new.steps.items watches.new) }
     ensures attached { OnOk result (length watches.new.pairs.items ≡ length watches.old.pairs.items) }
     ensures done { IfOk result (λ o. MatchOption o (watches.new.head ≡ watches.old.head + 1)
-        (IsFalsified (given trail.new.values.items) clauses.now)) }
+        (IsFalsified (assignment_of trail.new.values.items) clauses.now)) }
 {
     let lit = trail.steps[watches.head].lit.negated();
     let list = list_place(lit);
@@ -178,8 +179,8 @@ fn visit_watcher(
     ensures watched { OnOk result (AreWatched clauses.now (var_count trail.old) trail.new.steps.items watches.new) }
     ensures attached { OnOk result (length watches.new.pairs.items ≡ length watches.old.pairs.items) }
     ensures head { OnOk result (watches.new.head ≡ watches.old.head) }
-    ensures says { IfOk result (VisitSays clauses.now trail.new.steps.items (given trail.new.values.items) lit place
-        (length (watchers watches.old.lists.items (list_of lit))) watches.new) }
+    ensures says { IfOk result (VisitSays clauses.now trail.new.steps.items (assignment_of trail.new.values.items)
+        lit place (length (watchers watches.old.lists.items (list_of lit))) watches.new) }
 {
     let list = list_place(lit);
     let watcher = watches.lists[list].get(place);
@@ -229,8 +230,8 @@ fn other_than(pair: Pair, lit: Lit) -> Lit
 /// first before it.
 fn replacement(clause: &[Lit], other: Lit, trail: &Trail, saved: usize) -> Option<usize>
     requires exist { All (IsLitOf (var_count trail.now)) clause.now }
-    ensures { MatchOption result (All (IsPassedOver (given trail.now.values.items) other) clause.now)
-        (IsNextReplacement (given trail.now.values.items) clause.now other saved) }
+    ensures { MatchOption result (All (IsPassedOver (assignment_of trail.now.values.items) other) clause.now)
+        (IsNextReplacement (assignment_of trail.now.values.items) clause.now other saved) }
 {
     let middle = saved.min(clause.len());
     match first_between(clause, other, trail, middle, clause.len()) {
@@ -250,8 +251,8 @@ fn first_between(
     requires exist { All (IsLitOf (var_count trail.now)) clause.now }
     requires end { end ≤ length clause.now }
     ensures { MatchOption result
-        (AllWithin (IsPassedOver (given trail.now.values.items) other) clause.now start end)
-        (IsFirstWithin (given trail.now.values.items) clause.now other start end) }
+        (AllWithin (IsPassedOver (assignment_of trail.now.values.items) other) clause.now start end)
+        (IsFirstWithin (assignment_of trail.now.values.items) clause.now other start end) }
 {
     for at in start..end {
         if clause[at] != other && !trail.is_false(clause[at]) {

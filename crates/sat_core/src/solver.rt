@@ -3,7 +3,7 @@ ghost use Rattle.std.specs.Prelude.{◌≡◌, ◌+◌, ◌^◌, ◌<◌, ◌≤
 ghost use Rattle.cnf_core.specs.Formula.{AreOver};
 ghost use Rattle.cnf_core.specs.Values.{IsClosed};
 ghost use Rattle.cnf_core.specs.Outcome.{IsSolved, IsRefuted, IsSpent};
-ghost use Rattle.sat_core.specs.Steps.{truth_value, given, var_count, IsTrailState, AreClosedBefore};
+ghost use Rattle.sat_core.specs.Steps.{truth_value, assignment_of, var_count, IsTrailState, AreClosedBefore};
 ghost use Rattle.sat_core.specs.FalseClauses.{IsFalsified};
 ghost use Rattle.sat_core.specs.Picks.{free_list};
 ghost use Rattle.sat_core.specs.Watches.{AreWatched};
@@ -26,15 +26,16 @@ pub enum Verdict {
     Sat(Items<bool>),
     /// Lines that refute the formula.
     Refuted(Lines),
-    /// As many lemmas as the budget allows, none of which unit propagation could find from the clauses before it.
+    /// As many lemmas as the budget allows; none of them could be found by unit propagation from the clauses and lemmas
+    /// before it.
     Spent(Lines),
 }
 
-/// Searches for values that satisfy the formula, with at most so many conflicts. Each decision is the free variable at
-/// the picker's place among one score for each free variable, rising, and it is tried false first. A score is the
-/// number of lemmas so far that have the variable. Each conflict takes one line: the first unique implication point
-/// without literals that its others imply, with the clauses that it was resolved from as hints. Memory grows with
-/// the formula and with what is learnt, not with `conflicts`.
+/// Searches for values that satisfy the formula, with at most `conflicts` conflicts. For each decision the picker gets
+/// the scores of the free variables, in rising order of these, and the free variable at the place that it answers is
+/// tried, false first. A score is the number of lemmas so far that have the variable. Each conflict adds one line: the
+/// lemma of the first unique implication point, without the literals that its other literals imply, and as hints the
+/// clauses that it was resolved from. Memory grows with the formula and with what is learnt, not with `conflicts`.
 pub fn solve<F: Rule>(
     alloc: Global,
     cnf: &Cnf,
@@ -84,7 +85,7 @@ fn clauses_of(alloc: Global, cnf: &Cnf) -> Result<Clauses, NoMemory>
     Ok(clauses)
 }
 
-/// Propagates and decides until a clause is false, the id of which is told, or every variable has a value.
+/// Propagates and decides until a clause is false, whose id is the answer, or every variable has a value.
 fn advance<F: Rule>(
     clauses: &Clauses,
     picker: &Picker<F>,
@@ -104,8 +105,8 @@ fn advance<F: Rule>(
     ensures watched { OnOk result (AreWatched clauses.now (var_count trail.old) trail.new.steps.items watches.new) }
     ensures scores { OnOk result (scores.new.counts ≡ scores.old.counts) }
     ensures done { IfOk result (λ o. MatchOption o
-        (IsClosed (given trail.new.values.items) clauses.now × (free_list trail.new.values.items ≡ []))
-        (IsFalsified (given trail.new.values.items) clauses.now)) }
+        (IsClosed (assignment_of trail.new.values.items) clauses.now × (free_list trail.new.values.items ≡ []))
+        (IsFalsified (assignment_of trail.new.values.items) clauses.now)) }
 {
     loop {
         if let Some(id) = propagate(clauses, trail, watches)? {

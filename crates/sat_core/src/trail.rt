@@ -5,7 +5,7 @@ ghost use Rattle.sat_core.specs.declared.trail.Step.{Step as Taken};
 ghost use Rattle.cnf_core.specs.declared.literal.Lit.{Lit as Literal};
 ghost use Rattle.cnf_core.specs.Formula.{IsLitOf};
 ghost use Rattle.cnf_core.specs.Values.{IsHeld, IsFalse};
-ghost use Rattle.sat_core.specs.Steps.{truth_value, is_unassigned, given, with_decision, decision_indices, IsTrailState, IsRightStep, var_count};
+ghost use Rattle.sat_core.specs.Steps.{truth_value, is_unassigned, assignment_of, with_decision, decision_indices, IsTrailState, IsRightStep, var_count};
 ghost use Rattle.sat_core.specs.Walks.{IsLastDecision, IsDecisionOrEnd};
 ghost use Rattle.sat_core.specs.Watches.{IsFalseFrom};
 
@@ -77,9 +77,9 @@ pub(crate) struct Trail {
 impl Values for Trail {
     ghost last = { λ trail. length trail.values.items };
 
-    ghost partial = { λ trail. given trail.values.items };
+    ghost partial = { λ trail. assignment_of trail.values.items };
 
-    #[tactic(auto, unfolding(crate::specs::Steps::given))]
+    #[tactic(auto, unfolding(crate::specs::Steps::assignment_of))]
     fn value(&self, var: u32) -> Option<bool> {
         self.values[(var - 1) as usize].as_option()
     }
@@ -102,19 +102,19 @@ impl Trail {
     }
 
     /// Whether a literal is true.
-    #[tactic(auto, unfolding(crate::specs::Steps::given))]
+    #[tactic(auto, unfolding(crate::specs::Steps::assignment_of))]
     pub(crate) fn is_true(&self, lit: Lit) -> bool
         requires exist { IsLitOf (var_count self.now) lit }
-        ensures { IsTrue result ↔ IsHeld (given self.now.values.items) lit }
+        ensures { IsTrue result ↔ IsHeld (assignment_of self.now.values.items) lit }
     {
         self.values[(lit.var - 1) as usize].makes_true(lit.positive)
     }
 
     /// Whether a literal is false.
-    #[tactic(auto, unfolding(crate::specs::Steps::given))]
+    #[tactic(auto, unfolding(crate::specs::Steps::assignment_of))]
     pub(crate) fn is_false(&self, lit: Lit) -> bool
         requires exist { IsLitOf (var_count self.now) lit }
-        ensures { IsTrue result ↔ IsFalse (given self.now.values.items) lit }
+        ensures { IsTrue result ↔ IsFalse (assignment_of self.now.values.items) lit }
     {
         self.values[(lit.var - 1) as usize].makes_true(!lit.positive)
     }

@@ -1,22 +1,18 @@
 -- Steps of the calls that find what a round asks for.
-use Rattle.std.proofs.Common.{◌≡◌, ℕ, zero, suc, ◌+◌, ◌*◌, List, [], ◌∷◌, ◌++◌, map, length, get_or, Contains, All, refl, sym, ap, ◌∙◌, subst, inl, inr, ◌⊎◌, arith}
+use Rattle.std.proofs.Common.{◌≡◌, ℕ, zero, suc, ◌+◌, ◌*◌, List, [], ◌∷◌, ◌++◌, length, get_or, Contains, All, refl, sym, ap, ◌∙◌, subst, inl, inr, ◌⊎◌, arith}
 use Rattle.std.specs.List.{AllZip}
-use Rattle.std.proofs.lemmas.List.{append-nil, map-append, append_assoc}
 use Rattle.std.proofs.lemmas.List.Elements.{Contains-append_left, Contains-append_right, Contains-append_cases, Contains-get_or, All-contains}
 use Rattle.word_ops.specs.declared.sorts.Op.{Op}
 use Rattle.word_terms.specs.Tree.{Tree, operands_of}
 use Rattle.axiom_base.specs.Rewrites.{Rewrite}
 use Rattle.word_ops.specs.Operators.{operators}
-use Rattle.axiom_base.specs.Equations.{equations}
 use Rattle.word_terms.specs.OperatorsIn.{operators_in, operators_in_all}
-use Rattle.axiom_base.specs.Schemes.{Scheme, plain, computed, folding, calc_kinds, schemes, IsOf, weight}
+use Rattle.axiom_base.specs.Schemes.{Scheme, schemes, IsOf, weight}
 use Rattle.egraph.specs.Graph.{Graph}
 use Rattle.pattern_match.specs.Listing.{Lists}
 use Rattle.pattern_match.specs.Matches.{IsUnmetOf, IsNeed, AreNeeds, no_need, one_need}
 use Rattle.saturation.specs.Trace.{Asked, operators_asked}
-use Rattle.saturation.specs.Asking.{IsAskedOf, AreAsked, Adds}
-use Rattle.saturation.specs.Instances.{asked_of}
-use Rattle.saturation.specs.declared.instance.Instance.{Instance}
+use Rattle.saturation.specs.Asking.{IsAskedOf, AreAsked}
 
 -- ---- lists
 
@@ -69,7 +65,7 @@ pub operators_append : (xs ys : List Asked) → operators_asked (xs ++ ys) ≡ o
 operators_append [] ys = omega arith
 operators_append (x ∷ xs) ys = let e = operators_append xs ys in omega (arith, e)
 
-needs_append : {g : Graph Op} {ss ts : List Scheme} {m n : ℕ} → AreNeeds g ss m → AreNeeds g ts n → AreNeeds g (ss ++ ts) (m + n)
+pub needs_append : {g : Graph Op} {ss ts : List Scheme} {m n : ℕ} → AreNeeds g ss m → AreNeeds g ts n → AreNeeds g (ss ++ ts) (m + n)
 needs_append {g} {ts = ts} {n = n} no_need k = let e : n ≡ 0 + n = omega arith in subst (AreNeeds g ts) e k
 needs_append {g} {ts = ts} {n = n} (one_need {s} {ss} {m = a} {n = b} h t) k =
     let e : a + (b + n) ≡ a + b + n = omega arith in
@@ -97,33 +93,6 @@ both_asked g ss ts xs ys h k = record {
   ];
   needs = subst (AreNeeds g (ss ++ ts)) (sym (operators_append xs ys)) (needs_append h.needs k.needs);
 }
-
--- ---- what is added
-
-pub adds_none : (P : List Asked → Type 0) (xs : List Asked) → P [] → Adds P xs xs
-adds_none P xs h = record { more = []; is = sym (append-nil xs); holds = h }
-
-pub adds_both : (g : Graph Op) (ss ts : List Scheme) (old mid new : List Asked) → Adds (AreAsked g ss) old mid → Adds (AreAsked g ts) mid new → Adds (AreAsked g (ss ++ ts)) old new
-adds_both g ss ts old mid new h k = record {
-  more = h.more ++ k.more;
-  is = k.is ∙ ap (λ xs. xs ++ k.more) h.is ∙ append_assoc old h.more k.more;
-  holds = both_asked g ss ts h.more k.more h.holds k.holds;
-}
-
-pub adds_to_none : (P : List Asked → Type 0) (new : List Asked) → Adds P [] new → P new
-adds_to_none P new h = subst P (sym h.is) h.holds
-
--- one more instance for one more match
-module _ (g : Graph Op) (s : Scheme) (old : List Asked) where
-  abbrev pub Zipped : List (List ℕ) → List Asked → Type 0
-  Zipped ps asked = Adds (AllZip (IsAskedOf g s) ps) old asked
-
-  pub zipped_more : (ps : List (List ℕ)) (p : List ℕ) (items : List Instance) (one : Instance) → Zipped ps (map asked_of items) → IsAskedOf g s p (asked_of one) → Zipped (ps ++ p ∷ []) (map asked_of (items ++ one ∷ []))
-  zipped_more ps p items one h r = record {
-    more = h.more ++ asked_of one ∷ [];
-    is = map-append asked_of items (one ∷ []) ∙ ap (λ xs. xs ++ asked_of one ∷ []) h.is ∙ append_assoc old h.more (asked_of one ∷ []);
-    holds = zip_push (IsAskedOf g s) ps h.more p (asked_of one) h.holds r;
-  }
 
 -- ---- what is asked for by one scheme
 
@@ -154,29 +123,8 @@ module _ (weights : HaveWeights) (g : Graph Op) (s : Scheme) where
         subst (AreNeeds g (s ∷ [])) z (one_need one no_need);
   }
 
-  pub zipped_asked : (ps : List (List ℕ)) (old new : List Asked) → Lists (IsUnmetOf g s) ps → Zipped g s old ps new → Adds (AreAsked g (s ∷ [])) old new
-  zipped_asked ps old new lists h = record { more = h.more; is = h.is; holds = scheme_asked ps h.more lists h.holds }
-
 -- ---- numbers of operators
 
 pub operators_more : (ts : List (Tree Op)) (p : Tree Op) → operators_in_all (operands_of (ts ++ p ∷ [])) ≡ operators_in_all (operands_of ts) + operators_in p
 operators_more [] p = omega arith
 operators_more (t ∷ ts) p = let e = operators_more ts p in omega (arith, e)
-
-pub asked_more : (xs : List Asked) (a : Asked) → operators_asked (xs ++ a ∷ []) ≡ operators_asked xs + operators_in a.right
-asked_more xs a = let e = operators_append xs (a ∷ []) in omega (arith, e)
-
--- ---- all schemes
-
-pub all_schemes :
-    (g : Graph Op) (axioms : List Rewrite) (first second third new : List Asked) →
-    Adds (AreAsked g (map plain equations)) [] first →
-    Adds (AreAsked g (map plain axioms)) first second →
-    Adds (AreAsked g (map computed calc_kinds)) second third →
-    Adds (AreAsked g (map folding operators)) third new →
-    AreAsked g (schemes axioms) new
-all_schemes g axioms first second third new a b c d =
-    let ab = adds_both g (map plain equations) (map plain axioms) [] first second a b in
-    let abc = adds_both g (map plain equations ++ map plain axioms) (map computed calc_kinds) [] second third ab c in
-    let abcd = adds_both g (map plain equations ++ map plain axioms ++ map computed calc_kinds) (map folding operators) [] third new abc d in
-    adds_to_none (AreAsked g (schemes axioms)) new abcd

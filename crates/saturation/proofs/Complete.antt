@@ -5,7 +5,7 @@ use Rattle.word_terms.specs.Tree.{Tree, Trees, application, none, more}
 use Rattle.axiom_base.specs.Rewrites.{Rewrite}
 use Rattle.egraph.specs.Graph.{Graph, Agree}
 use Rattle.pattern_match.specs.Classes.{IsClass, AreClasses, at_row, no_classes, classes, HaveOneClass}
-use Rattle.saturation.specs.Derives.{IsAmong, first, rest, Derives, DerivesEach, given, assumed, back, through, later, operand, congruent, by_rule, no_operands, operands}
+use Rattle.saturation.specs.Derives.{IsAmong, first, rest, Derives, DerivesEach, given, assumed, symmetric, transitive, later, operand, congruent, by_rule, no_operands, operands}
 use Rattle.saturation.proofs.Classes.{one_class}
 use Rattle.saturation.proofs.Sound.{Each, each_none, each_one, IsEquality}
 
@@ -17,8 +17,8 @@ module _ (axioms : List Rewrite) (present : List (Tree Op)) (equal : List (Tree 
 
   pub derives_equality : IsEquality (Derives axioms present equal j)
   derives_equality = record {
-    turn = λ d. back d;
-    join = λ d e. through d e;
+    turn = λ d. symmetric d;
+    join = λ d e. transitive d e;
     apply = λ d e. congruent d (derives_each e);
   }
 
@@ -62,8 +62,8 @@ module _ (axioms : List Rewrite) (present : List (Tree Op)) (equal : List (Tree 
     pub complete_at_start : {j : ℕ} {t u : Tree Op} → Derives axioms present equal j t u → j ≡ 0 → HaveOneClass g [] t u
     complete_at_start (given t h) e = have t h
     complete_at_start (assumed t u h) e = same t u h
-    complete_at_start (back d) e = one_back g apart (complete_at_start d e)
-    complete_at_start (through d f) e = one_through g apart (complete_at_start d e) (complete_at_start f e)
+    complete_at_start (symmetric d) e = one_back g apart (complete_at_start d e)
+    complete_at_start (transitive d f) e = one_through g apart (complete_at_start d e) (complete_at_start f e)
     complete_at_start (later d) e = absurd (omega arith)
     complete_at_start (operand t h d) e = operand_class g apart t h (complete_at_start d e)
     complete_at_start (congruent d f) e = congruent_class g apart (complete_at_start d e) (complete_each_at_start f e)

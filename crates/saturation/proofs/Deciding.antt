@@ -11,7 +11,7 @@ use Rattle.egraph.specs.declared.rows.Row.{Row}
 use Rattle.pattern_match.specs.Classes.{IsClass, AreClasses, at_variable, at_row, no_classes, classes}
 use Rattle.saturation.proofs.Classes.{one_class, one_classes}
 
-one_number : (a b : ℕ) → (a ≡ b) ⊎ (a ≢ b)
+pub one_number : (a b : ℕ) → (a ≡ b) ⊎ (a ≢ b)
 one_number a b = elim (eqb_tells a b) [ inl h ↦ inl h.1 | inr h ↦ inr h.1 ]
 
 one_list : (xs ys : List ℕ) → (xs ≡ ys) ⊎ (xs ≢ ys)
@@ -94,7 +94,7 @@ module _ (g : Graph Op) (apart : AllPairs (λ r t. ¬ Agree r t) g.rows) (places
   each_class t ts (classes {c} {cs} h k) = ((c, h), (cs, k))
 
   mutual
-    find_class : (t : Tree Op) → ((c : ℕ) × IsClass g places t c) ⊎ ((c : ℕ) → ¬ IsClass g places t c)
+    pub find_class : (t : Tree Op) → ((c : ℕ) × IsClass g places t c) ⊎ ((c : ℕ) → ¬ IsClass g places t c)
     find_class (variable n) =
         elim (cases_lt n (length places)) [
           | inl l ↦ inl (get_or places n 0, at_variable l)

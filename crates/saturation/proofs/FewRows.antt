@@ -6,7 +6,7 @@ use Rattle.word_terms.specs.OperatorsIn.{operators_in, operators_in_all}
 use Rattle.word_terms.specs.Tree.{Tree, Trees}
 use Rattle.egraph.specs.Graph.{Graph, IsInserted, read_through}
 use Rattle.egraph.specs.declared.rows.Row.{Row}
-use Rattle.saturation.specs.Trace.{Asked, IsBuilt, AreBuilt, placed, put, none_built, one_built, IsMade, AreAllMade, finished, work, operators_asked}
+use Rattle.saturation.specs.Trace.{Asked, IsBuilt, AreBuilt, placed, put, none_built, one_built, IsApplied, AreAllApplied, finished, work, operators_asked}
 
 inserted_rows : (old : Graph Op) (op : Op) (operands : List ℕ) (class : ℕ) (new : Graph Op) → IsInserted old op operands class new → length new.rows ≤ length old.rows + 1
 inserted_rows old op operands class new i = elim i [
@@ -28,9 +28,9 @@ module _ (places : List ℕ) where
     are_built_rows none_built = omega arith
     are_built_rows (one_built b a) = let k = built_rows b in let m = are_built_rows a in omega (arith, k, m)
 
-made_rows : (a : Asked) (g new : Graph Op) → IsMade a g new → length new.rows ≤ length g.rows + operators_in a.right
+made_rows : (a : Asked) (g new : Graph Op) → IsApplied a g new → length new.rows ≤ length g.rows + operators_in a.right
 made_rows a g new h = let f = built_rows a.places h.built in omega (arith, f, h.joined.merged.no_more)
 
-pub all_made_rows : {asks : List Asked} {g new : Graph Op} → AreAllMade asks g new → length new.rows ≤ length g.rows + operators_asked asks
+pub all_made_rows : {asks : List Asked} {g new : Graph Op} → AreAllApplied asks g new → length new.rows ≤ length g.rows + operators_asked asks
 all_made_rows finished = omega arith
 all_made_rows (work {a} {asks} {g} {h} m w) = let f = made_rows a g h m in let k = all_made_rows w in omega (arith, f, k)

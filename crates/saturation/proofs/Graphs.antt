@@ -1,10 +1,10 @@
 -- What follows of a graph's own facts.
-use Rattle.std.proofs.Common.{◌≡◌, ℕ, ◌<◌, length, slice_index, Contains, All, ap, subst}
+use Rattle.std.proofs.Common.{◌≡◌, ℕ, ◌<◌, length, slice_index, Contains, All, subst}
 use Rattle.std.proofs.lemmas.List.Elements.{All-contains, All-get_or}
 use Rattle.word_terms.specs.Signature.{Signature}
 use Rattle.egraph.specs.declared.rows.Row.{Row}
 use Rattle.egraph.specs.Graph.{Graph, HasClass, IsPresent, IsGraph}
-use Rattle.egraph.specs.Joined.{kept, IsMerged, relabel}
+use Rattle.egraph.specs.Joined.{kept, IsMerged}
 
 -- the class that each class is in
 abbrev pub cur : {O : Type 0} → Graph O → ℕ → ℕ
@@ -35,6 +35,3 @@ now_again s old is a b new m x l =
     let h = current_has s old is x l in
     let lo = has_made s old is (cur old x) h in
     (m.joined (cur old x) x lo l).1 (kept (cur old x) x lo l (has_present s old is (cur old x) h))
-
-pub merged_has : {O : Type 0} (old : Graph O) (a b : ℕ) (new : Graph O) → IsMerged old a b new → (c : ℕ) → HasClass old c → HasClass new (cur new c)
-merged_has old a b new m c h = record { row = relabel (cur new) h.row; there = m.images h.row h.there; is = ap (cur new) h.is }

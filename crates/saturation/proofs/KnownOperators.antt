@@ -28,7 +28,7 @@ use Rattle.goal_meaning.specs.WellFormed.{IsInput, IsGoal, IsAxiom, IsAssume, Is
 use Rattle.goal_meaning.specs.WellFormed.{input_registers}
 use Rattle.goal_meaning.specs.declared.goals.InputReg.{InputReg}
 use Rattle.goal_meaning.specs.declared.goals.DeclaredOp.{DeclaredOp}
-use Rattle.saturation.specs.Derives.{Derives, DerivesEach, Pair, IsAmong, first, rest, given, assumed, back, through, later, operand, congruent, by_rule, no_operands, operands}
+use Rattle.saturation.specs.Derives.{Derives, DerivesEach, Pair, IsAmong, first, rest, given, assumed, symmetric, transitive, later, operand, congruent, by_rule, no_operands, operands}
 use Rattle.saturation.specs.GoalTerms.{entry_term, input_term, input_terms, guard_terms, set_terms, sides_of, assume_terms, kept_terms, present_terms, assumed_pair, assumed_pairs, renumbered, rule_of, rules_of, variables_below}
 use Rattle.saturation.specs.Grown.{IsGrown, AreInhabited}
 use Rattle.saturation.specs.Launched.{IsKnown, CanMakeLaunchGraph}
@@ -235,8 +235,8 @@ module _ (declared : List DeclaredOp) where
       derived_known : {j : ℕ} {t u : Tree Op} → Derives (map rule_of axioms) present equal j t u → HasKnown t × HasKnown u
       derived_known (given t h) = let k = All-contains HasKnown present t present_known h in (k, k)
       derived_known (assumed t u h) = All-contains (λ (p : Pair). HasKnown p.0 × HasKnown p.1) equal (t, u) equal_known h
-      derived_known (back d) = let k = derived_known d in (k.1, k.0)
-      derived_known (through d e) = ((derived_known d).0, (derived_known e).1)
+      derived_known (symmetric d) = let k = derived_known d in (k.1, k.0)
+      derived_known (transitive d e) = ((derived_known d).0, (derived_known e).1)
       derived_known (later d) = derived_known d
       derived_known (operand {ts = ts} t among d) = let k = of_operand (IsKnown declared) t ts among (derived_known d).0.1 in (k, k)
       derived_known (congruent d each) = let k = (derived_known d).0 in (k, (k.0, (deriveds_known each).1))

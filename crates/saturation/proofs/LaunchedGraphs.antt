@@ -138,7 +138,7 @@ module _ (input : InputTree) (goal : Goal) (is_input : IsInput input) (given : C
 
   -- ---- its launch graph
 
-  pub record IsMade (numbers : List ℕ) (g : LaunchGraph) : Type 0 where
+  pub record IsApplied (numbers : List ℕ) (g : LaunchGraph) : Type 0 where
     pub numbers_are : AreClassNumbers graph numbers
     pub rows_are : g.rows ≡ map (launched_row numbers (firsts (indexes_of graph.rows)) input.ops) graph.rows
     pub entry : IsClassNumber graph numbers entry_term g.entry
@@ -147,7 +147,7 @@ module _ (input : InputTree) (goal : Goal) (is_input : IsInput input) (given : C
     pub guard : IsGuardNumber graph numbers g.guard goal.guard
     pub sets : AllZip (IsSetNumber graph numbers) g.sets goal.sets
 
-  module _ (numbers : List ℕ) (g : LaunchGraph) (made : IsMade numbers g) where
+  module _ (numbers : List ℕ) (g : LaunchGraph) (made : IsApplied numbers g) where
     abbrev number : ℕ → ℕ
     number c = slice_index numbers c
 

@@ -18,11 +18,8 @@ pub mod Below
 pub mod Deciding
 pub mod OneRule
 pub mod Asks
-pub mod ConstantsOf
 pub mod AskSteps
-pub mod Matched
 pub mod Folded
-pub mod MatchLists
 pub mod SchemeLists
 pub mod Searched
 pub mod NeedSteps
@@ -30,6 +27,9 @@ pub mod MetMatches
 pub mod LoopSteps
 pub mod FewRows
 pub mod Alike
+pub mod AlikeNeeds
+pub mod FiniteLists
+pub mod Needed
 pub mod Firsts
 pub mod KnownOperators
 pub mod LaunchStands

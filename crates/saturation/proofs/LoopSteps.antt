@@ -11,7 +11,7 @@ use Rattle.axiom_base.specs.Schemes.{IsRuleOf, schemes}
 use Rattle.egraph.specs.Graph.{Graph, IsGraph}
 use Rattle.egraph.specs.declared.faults.MergeFault.{MergeFault}
 use Rattle.egraph.specs.declared.faults.MergeFault.TheVariants.{NoWorld, Memory}
-use Rattle.saturation.specs.Trace.{Asked, AreAllMade, IsRefused, CanMakeAll, operators_asked}
+use Rattle.saturation.specs.Trace.{Asked, AreAllApplied, IsRefused, CanApplyAll, operators_asked}
 use Rattle.saturation.specs.Instances.{RefusalOfAll, saturate_fault}
 use Rattle.saturation.specs.Derives.{Pair}
 use Rattle.saturation.specs.Grown.{IsGrown, GoesOnGrowing, NotBefore, IsQuiet}
@@ -91,7 +91,7 @@ module _ (axioms : List Rewrite) (start : Graph Op) (rounds nodes : ℕ) (g : Gr
     total_within : length g.rows + operators_asked asked ≤ nodes
     total_within = omega (arith, ready.need_is, within, few_nodes)
 
-    pub round_can : CanMakeAll g asked
+    pub round_can : CanApplyAll g asked
     round_can = record {
       graph = ready.graph;
       may = all_may axioms ready.usable g ready.graph asked ready.asks;
@@ -107,6 +107,7 @@ module _ (axioms : List Rewrite) (start : Graph Op) (rounds nodes : ℕ) (g : Gr
               (let e : j ≡ i = omega (arith, b, l) in
               subst (GoesOnGrowing axioms present equal rounds nodes) e (record {
                 graph = g;
+                is_graph = ready.graph;
                 grown = a.0;
                 unmet = unmet axioms g asked ready.are some;
                 asked = more;
@@ -115,7 +116,7 @@ module _ (axioms : List Rewrite) (start : Graph Op) (rounds nodes : ℕ) (g : Gr
         ]
 
     module _ (law : Law) (true_rules : AreTrue) where
-      pub running_more : (new : Graph Op) → AreAllMade asked g new → Running axioms start rounds nodes new (j + 1)
+      pub running_more : (new : Graph Op) → AreAllApplied asked g new → Running axioms start rounds nodes new (j + 1)
       running_more new made = record {
         after = record {
           grown = λ present equal h.

@@ -11,10 +11,10 @@ use Rattle.axiom_base.specs.Equations.{constant}
 use Rattle.egraph.specs.declared.rows.Row.{Row}
 use Rattle.egraph.specs.Graph.{Graph, IsGraph, HasConstant}
 use Rattle.egraph.specs.Joined as closure
-use Rattle.egraph.specs.Joined.{pair, IsMerged, Joined, Clash}
+use Rattle.egraph.specs.Joined.{pair, IsMerged}
 use Rattle.pattern_match.specs.Classes.{IsClass, at_row, no_classes}
-use Rattle.saturation.specs.Trace.{Asked, IsBuilt, IsMade, AreAllMade, finished, work, IsRefusedMerge, IsRefused, here, after}
-use Rattle.saturation.specs.Derives.{Derives, back, through}
+use Rattle.saturation.specs.Trace.{Asked, IsBuilt, IsApplied, AreAllApplied, finished, work, IsRefusedMerge, IsRefused, here, after}
+use Rattle.saturation.specs.Derives.{Derives, symmetric, transitive}
 use Rattle.saturation.specs.Grown.{AreInhabited}
 use Rattle.saturation.proofs.Graphs.{cur, row_present}
 use Rattle.saturation.proofs.Classes.{class_moved, at_instance}
@@ -24,24 +24,21 @@ use Rattle.saturation.proofs.Sound.{IsSound, merge_sound, joined_sound}
 use Rattle.saturation.proofs.Complete.{derives_equality}
 
 -- the graph and the class before the merge
-pub middle_graph : (a : Asked) (g new : Graph Op) → IsMade a g new → IsGraph op_signature g → (m : Graph Op) × IsGraph op_signature m
-middle_graph a g new h is = (h.middle, built_graph a.places h.built is)
-
-pub made_graph : (a : Asked) (g new : Graph Op) → IsMade a g new → IsGraph op_signature new
+pub made_graph : (a : Asked) (g new : Graph Op) → IsApplied a g new → IsGraph op_signature new
 made_graph a g new h = h.joined.graph
 
-pub made_follows : (a : Asked) (g new : Graph Op) → IsMade a g new → IsGraph op_signature g → Follows g new
+pub made_follows : (a : Asked) (g new : Graph Op) → IsApplied a g new → IsGraph op_signature g → Follows g new
 made_follows a g new h is =
     let im = built_graph a.places h.built is in
     follows_through op_signature g h.middle new is
     (extends_follows op_signature g is h.middle (built_extends a.places h.built))
     (merge_follows op_signature h.middle im h.class a.class new h.joined.merged)
 
-pub all_made_graph : {asks : List Asked} {g new : Graph Op} → AreAllMade asks g new → IsGraph op_signature g → IsGraph op_signature new
+pub all_made_graph : {asks : List Asked} {g new : Graph Op} → AreAllApplied asks g new → IsGraph op_signature g → IsGraph op_signature new
 all_made_graph finished is = is
 all_made_graph (work {a} {asks} {g} {h} m w) is = all_made_graph w (made_graph a g h m)
 
-pub all_made_follow : {asks : List Asked} {g new : Graph Op} → AreAllMade asks g new → IsGraph op_signature g → Follows g new
+pub all_made_follow : {asks : List Asked} {g new : Graph Op} → AreAllApplied asks g new → IsGraph op_signature g → Follows g new
 all_made_follow (finished {g}) is = follows_itself op_signature g is
 all_made_follow (work {a} {asks} {g} {h} {new} m w) is = follows_through op_signature g h new is (made_follows a g h m is) (all_made_follow w (made_graph a g h m))
 
@@ -59,7 +56,7 @@ about_later g new f a h = record { places = λ n d l. let k = h.places n d l in 
 abbrev pub IsThere : Graph Op → Asked → Type 0
 IsThere new a = IsClass new (map (cur new) a.places) a.right (cur new a.class)
 
-pub made_there : (a : Asked) (g new : Graph Op) → IsMade a g new → IsGraph op_signature g → IsAbout g a → IsThere new a
+pub made_there : (a : Asked) (g new : Graph Op) → IsApplied a g new → IsGraph op_signature g → IsAbout g a → IsThere new a
 made_there a g new h is about =
     let im = built_graph a.places h.built is in
     let f = built_extends a.places h.built in
@@ -72,7 +69,7 @@ made_there a g new h is about =
 there_follows : (a : Asked) (g new : Graph Op) → Follows g new → IsAbout g a → IsThere g a → IsThere new a
 there_follows a g new f about h = class_follows g new f a.places about.places about.class h
 
-pub all_there : {asks : List Asked} {g new : Graph Op} → AreAllMade asks g new → IsGraph op_signature g → All (IsAbout g) asks → All (IsThere new) asks
+pub all_there : {asks : List Asked} {g new : Graph Op} → AreAllApplied asks g new → IsGraph op_signature g → All (IsAbout g) asks → All (IsThere new) asks
 all_there finished is about n d l = absurd (omega arith)
 all_there (work {a} {asks} {g} {h} {new} m w) is about zero d l =
     let ih = made_graph a g h m in
@@ -143,7 +140,7 @@ module _ (axioms : List Rewrite) (present : List (Tree Op)) (equal : List (Tree 
   unfolding justified_follows
   middle a g m c b is good q =
       let f = built_extends a.places b in
-      let here : D (substituted q.values a.right) (substituted q.values a.right) = through (back q.equal) q.equal in
+      let here : D (substituted q.values a.right) (substituted q.values a.right) = transitive (symmetric q.equal) q.equal in
       let q' = justified_follows D g m (extends_follows op_signature g is m f) a q in
       let class = built_class a.places b is q.stand.made in
       record {
@@ -153,16 +150,16 @@ module _ (axioms : List Rewrite) (present : List (Tree Op)) (equal : List (Tree 
         right = at_instance m (map (cur m) a.places) q.values (stand_each m a.places q.values q'.stand) class.1;
       }
 
-  pub made_good : (a : Asked) (g new : Graph Op) → IsMade a g new → IsGraph op_signature g → Good g → IsJustified D g a → Good new
+  pub made_good : (a : Asked) (g new : Graph Op) → IsApplied a g new → IsGraph op_signature g → Good g → IsJustified D g a → Good new
   made_good a g new h is good q =
       let im = built_graph a.places h.built is in
       let m = middle a g h.middle h.class h.built is good q in
       let q' = m.justified in (
-        merge_sound D (derives_equality axioms present equal j) op_signature h.middle im m.good.0 m.good.1 h.class a.class m.class_made q'.class_made (substituted q'.values a.right) q'.left m.right q'.left_class (back q'.equal) new h.joined.merged,
+        merge_sound D (derives_equality axioms present equal j) op_signature h.middle im m.good.0 m.good.1 h.class a.class m.class_made q'.class_made (substituted q'.values a.right) q'.left m.right q'.left_class (symmetric q'.equal) new h.joined.merged,
         merge_inhabited h.middle h.class a.class new h.joined.merged m.good.1,
       )
 
-  pub all_made_good : {asks : List Asked} {g new : Graph Op} → AreAllMade asks g new → IsGraph op_signature g → Good g → All (IsJustified D g) asks → Good new
+  pub all_made_good : {asks : List Asked} {g new : Graph Op} → AreAllApplied asks g new → IsGraph op_signature g → Good g → All (IsJustified D g) asks → Good new
   all_made_good finished is good f = good
   all_made_good (work {a} {asks} {g} {h} m w) is good f =
       all_made_good w (made_graph a g h m) (made_good a g h m is good (All-head (IsJustified D g) a asks f))
@@ -178,8 +175,8 @@ module _ (axioms : List Rewrite) (present : List (Tree Op)) (equal : List (Tree 
       let eq = derives_equality axioms present equal j in
       let cx : IsClass h.middle [] (constant x) (cur h.middle k.first.class) = subst (IsClass h.middle [] (constant x)) (sym (row_present op_signature h.middle im k.first k.first_there)) (constant_class h.middle im k.first.class x (record { row = k.first; there = k.first_there; of_class = refl; is = k.first_is })) in
       let cy : IsClass h.middle [] (constant y) (cur h.middle k.second.class) = subst (IsClass h.middle [] (constant y)) (sym (row_present op_signature h.middle im k.second k.second_there)) (constant_class h.middle im k.second.class y (record { row = k.second; there = k.second_there; of_class = refl; is = k.second_is })) in (
-        joined_sound D eq op_signature h.middle im m.good.0 m.good.1 h.class a.class m.class_made q'.class_made (substituted q'.values a.right) q'.left m.right q'.left_class (back q'.equal)
-            (closure.through k.first_joined (closure.back k.second_joined)) (constant x) (constant y) cx cy,
+        joined_sound D eq op_signature h.middle im m.good.0 m.good.1 h.class a.class m.class_made q'.class_made (substituted q'.values a.right) q'.left m.right q'.left_class (symmetric q'.equal)
+            (closure.transitive k.first_joined (closure.symmetric k.second_joined)) (constant x) (constant y) cx cy,
         k.differ,
       )
 

@@ -19,7 +19,7 @@ at_least (suc n) m = let h = at_least n m in omega (arith, h, next n m)
     next : (n m : ℕ) → suc (suc n) * m ≡ suc n * m + m
     next n m = omega arith
 
-capped_product : (n w most : ℕ) → min (n * min w most) most ≡ min (n * w) most
+pub capped_product : (n w most : ℕ) → min (n * min w most) most ≡ min (n * w) most
 capped_product zero w most = omega arith
 capped_product (suc n) w most =
     ⊎_elim

@@ -7,7 +7,7 @@ use Rattle.word_ops.specs.declared.sorts.Op.{Op}
 use Rattle.word_terms.specs.Keys.{op_signature}
 use Rattle.egraph.specs.declared.rows.Row.{Row}
 use Rattle.egraph.specs.Graph.{Graph, IsGraph}
-use Rattle.egraph.specs.Joined.{Joined, kept, pair, back, through, congruent}
+use Rattle.egraph.specs.Joined.{Joined, kept, pair, symmetric, transitive, congruent}
 use Rattle.saturation.specs.Trace.{Asked, MayJoin, IsRefusedMerge, IsRefused, here, after}
 use Rattle.saturation.proofs.Lists.{map_agree}
 use Rattle.saturation.proofs.Graphs.{cur, row_present, has_present, operands_have}
@@ -34,8 +34,8 @@ module _ (law : Law) (world : World) (is_world : IsWorld world) (names : ℕ →
     one_value : {x y : ℕ} → Joined g a b x y → V (cur g x) ≡ V (cur g y)
     one_value (kept x y lx ly e) = ap V e
     one_value pair = one
-    one_value (back j) = sym (one_value j)
-    one_value (through j k) = one_value j ∙ one_value k
+    one_value (symmetric j) = sym (one_value j)
+    one_value (transitive j k) = one_value j ∙ one_value k
     one_value (congruent r t h k op l each) =
         let ops = map_at_each (λ x. V (cur g x)) r.operands t.operands l (λ n m. one_value (each n m)) in
         let true_r = sym (All-contains (λ (q : Row Op). V q.class ≡ M q.op (map V q.operands)) g.rows r true.rows h) in
@@ -48,7 +48,7 @@ module _ (law : Law) (world : World) (is_world : IsWorld world) (names : ℕ →
       let im = built_graph a.places h.built is in
       let k = h.clash in
       let W = m.values in
-      let e : W (cur h.middle k.first.class) ≡ W (cur h.middle k.second.class) = one_value h.middle im h.class a.class W m.true m.one (through k.first_joined (back k.second_joined)) in
+      let e : W (cur h.middle k.first.class) ≡ W (cur h.middle k.second.class) = one_value h.middle im h.class a.class W m.true m.one (transitive k.first_joined (symmetric k.second_joined)) in
       let vx = ap W (row_present op_signature h.middle im k.first k.first_there) ∙ constant_value law world is_world names h.middle W m.true k.first.class x (record { row = k.first; there = k.first_there; of_class = λ i. k.first.class; is = k.first_is }) in
       let vy = ap W (row_present op_signature h.middle im k.second k.second_there) ∙ constant_value law world is_world names h.middle W m.true k.second.class y (record { row = k.second; there = k.second_there; of_class = λ i. k.second.class; is = k.second_is }) in
       k.differ (ap as_word (sym vx ∙ e ∙ vy))

@@ -24,6 +24,9 @@ rule_of (itself r) = refl
 rule_of (calculated kind cs e is) = (cs, e, is, refl)
 rule_of (folded op cs words count) = (cs, count, refl)
 
+pub of_plain : {r q : Rewrite} → IsOf (plain r) q → q ≡ r
+of_plain of = rule_of of
+
 abbrev pub AreNumbered : Type 0
 AreNumbered = (k : ℕ) (cs : List ℕ) (n c : ℕ) → Contains {X = ℕ × ℕ} (constants_from k cs) (n, c) ↔ ((i : ℕ) × (i < length cs) × (n ≡ k + i) × (c ≡ get_or cs i 0))
 

@@ -150,6 +150,10 @@ module _ (f : ℕ → ℕ) (old new : Graph Op) (re : IsRenamed f old new) where
   pub grown_to : (axioms : List Rewrite) (present : List (Tree Op)) (equal : List Pair) (j : ℕ) → IsGrown axioms present equal old j → IsGrown axioms present equal new j
   grown_to axioms present equal j grown = record {
     distinct = distinct grown.distinct;
+    operands =
+        subst (All (λ (r : Row Op). All (HasClass new) r.operands)) (sym re.rows)
+        (All-map (λ (r : Row Op). All (HasClass new) r.operands) (relabel f) old.rows
+        (All-weaker (λ (r : Row Op). All (HasClass old) r.operands) (λ (r : Row Op). All (HasClass new) (map f r.operands)) (λ r h. all_have r.operands h) old.rows grown.operands));
     inhabited = λ d h.
         let c = has_back d h in
         let t = grown.inhabited c.0 c.1 in

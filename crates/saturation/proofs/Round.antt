@@ -13,8 +13,8 @@ use Rattle.egraph.specs.Graph.{Graph, Agree, HasClass, HasConstant, IsGraph}
 use Rattle.pattern_match.specs.Classes.{IsClass, AreClasses, at_row, no_classes, classes, HaveOneClass}
 use Rattle.axiom_base.specs.Schemes.{IsRuleOf}
 use Rattle.pattern_match.specs.Matches.{IsMatch}
-use Rattle.saturation.specs.Trace.{Asked, AreAllMade, IsRefused}
-use Rattle.saturation.specs.Derives.{Derives, DerivesEach, given, assumed, back, through, later, operand, congruent, by_rule, no_operands, operands}
+use Rattle.saturation.specs.Trace.{Asked, AreAllApplied, IsRefused}
+use Rattle.saturation.specs.Derives.{Derives, DerivesEach, given, assumed, symmetric, transitive, later, operand, congruent, by_rule, no_operands, operands}
 use Rattle.saturation.specs.Grown.{IsGrown, AreInhabited}
 use Rattle.saturation.proofs.Graphs.{cur, has_made, has_present}
 use Rattle.saturation.proofs.Classes.{one_class, at_instance, from_instance, class_has, class_moved}
@@ -50,7 +50,7 @@ collect (suc n) P f =
     (h.0 ∷ t.0, ap suc t.1, λ k. by_cases Q (λ l. h.1) (λ m l. t.2 m (omega arith)) k)
 
 -- a class of a constant's term has the constant
-class_constant : (g : Graph Op) (c x : ℕ) → IsClass g [] (constant x) c → HasConstant op_signature g.rows c x
+pub class_constant : (g : Graph Op) (c x : ℕ) → IsClass g [] (constant x) c → HasConstant op_signature g.rows c x
 class_constant g c x (at_row {cs} {c = d} no_classes k) = record { row = record { op = Constant x; operands = []; class = d }; there = k; of_class = refl; is = refl }
 
 module _ (axioms : List Rewrite) (present : List (Tree Op)) (equal : List (Tree Op × Tree Op)) (j : ℕ)
@@ -96,8 +96,8 @@ module _ (axioms : List Rewrite) (present : List (Tree Op)) (equal : List (Tree 
     complete_after : {k : ℕ} {t u : Tree Op} → Derives axioms present equal k t u → k ≡ j + 1 → HaveOneClass new [] t u
     complete_after (given t h) e = absurd (omega arith)
     complete_after (assumed t u h) e = absurd (omega arith)
-    complete_after (back d) e = one_back new apart' (complete_after d e)
-    complete_after (through d f) e = one_through new apart' (complete_after d e) (complete_after f e)
+    complete_after (symmetric d) e = one_back new apart' (complete_after d e)
+    complete_after (transitive d f) e = one_through new apart' (complete_after d e) (complete_after f e)
     complete_after (later {j = i} {t} {u} d) e = let f : i ≡ j = omega arith in kept_one (before t u (subst (λ n. Derives axioms present equal n t u) f d))
     complete_after (operand t h d) e = operand_class new apart' t h (complete_after d e)
     complete_after (congruent d f) e = congruent_class new apart' (complete_after d e) (complete_each_after f e)
@@ -166,7 +166,7 @@ module _ (axioms : List Rewrite) (present : List (Tree Op)) (equal : List (Tree 
   sound_before : (t u : Tree Op) (c : ℕ) → IsClass g [] t c → IsClass g [] u c → Derives axioms present equal (j + 1) t u
   sound_before t u c h k = later ((grown.exact t u).0 (record { class = c; first = h; second = k }))
 
-  pub round_is_grown : (new : Graph Op) → AreAllMade asked g new → IsGrown axioms present equal new (j + 1)
+  pub round_is_grown : (new : Graph Op) → AreAllApplied asked g new → IsGrown axioms present equal new (j + 1)
   round_is_grown new made =
       let good = all_made_good axioms present equal (j + 1) made is (sound_before, grown.inhabited) all_justified in
       let follows = all_made_follow made is in
@@ -182,6 +182,7 @@ module _ (axioms : List Rewrite) (present : List (Tree Op)) (equal : List (Tree 
       ] in
       record {
         distinct = new_is.distinct;
+        operands = new_is.operands;
         inhabited = good.1;
         exact = λ t u. (
           λ h. good.0 t u h.class h.first h.second,

@@ -9,7 +9,7 @@ use Rattle.axiom_base.specs.Rewrites.{Rewrite, IsTrueIn, IsUsable}
 use Rattle.egraph.specs.Graph.{Graph, IsGraph}
 use Rattle.pattern_match.specs.Classes.{IsClass, AreClasses, at_variable, at_row, no_classes, classes}
 use Rattle.axiom_base.specs.Schemes.{IsRuleOf}
-use Rattle.saturation.specs.Trace.{Asked, AreAllMade, MayJoin}
+use Rattle.saturation.specs.Trace.{Asked, AreAllApplied, MayJoin}
 use Rattle.saturation.specs.Asking.{AsksFor}
 use Rattle.saturation.proofs.Asks.{Asks, asked_may, as_asked, over_places}
 use Rattle.saturation.specs.GraphStands.{RulesHold, GraphStands}
@@ -61,7 +61,7 @@ module _ (axioms : List Rewrite) (usable : (r : Rewrite) → IsRuleOf axioms r �
 
   module _ (law : Law) (names : ℕ → List ℕ) (equal : List (Tree Op × Tree Op)) (terms : List (Tree Op))
       (rules_hold : (world : World) → IsWorld world → RulesHold world names axioms equal → (r : Rewrite) → IsRuleOf axioms r → IsTrueIn world names r) where
-    pub round_stands : (new : Graph Op) → AreAllMade asked g new → GraphStands names axioms equal terms g → GraphStands names axioms equal terms new
+    pub round_stands : (new : Graph Op) → AreAllApplied asked g new → GraphStands names axioms equal terms g → GraphStands names axioms equal terms new
     round_stands new made stands =
         let follows = all_made_follow made is in
         record {

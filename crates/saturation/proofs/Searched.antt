@@ -48,11 +48,17 @@ module _ (weights : HaveWeights) (g : Graph Op) where
   are_asked_of_each scheme R f one (x ∷ xs) [] h = absurd h
   are_asked_of_each scheme R f one (x ∷ xs) (ms ∷ found) h = both_asked g (scheme x ∷ []) (map scheme xs) (map (f x) ms) (asked_of_each f xs found) (one x ms h.0) (are_asked_of_each scheme R f one xs found h.1)
 
+  pub rules_are_asked : (rs : List Rewrite) (found : List (List Match)) → AllZip (AreUnmetOf g) rs found → AreAsked g (map plain rs) (asked_of_each rule_asked rs found)
+  rules_are_asked = are_asked_of_each plain (AreUnmetOf g) rule_asked rule_are_asked
+
+  pub kinds_are_asked : (found : List (List Match)) → AllZip (AreUnmetOfKind g) calc_kinds found → AreAsked g (map computed calc_kinds) (asked_of_each kind_asked calc_kinds found)
+  kinds_are_asked = are_asked_of_each computed (AreUnmetOfKind g) kind_asked kind_are_asked calc_kinds
+
   pub all_are_asked : (listed : (op : WordOp) → Contains operators op) (rows_are : FoldsAreRows) (axioms : List Rewrite) (u : Unmet) → AreFound g axioms u → AreAsked g (schemes axioms) (asked_of_all axioms u)
   all_are_asked listed rows_are axioms u h =
-      let a = are_asked_of_each plain (AreUnmetOf g) rule_asked rule_are_asked rows.equations u.equations.items h.equations in
-      let b = are_asked_of_each plain (AreUnmetOf g) rule_asked rule_are_asked axioms u.program.items h.program in
-      let c = are_asked_of_each computed (AreUnmetOfKind g) kind_asked kind_are_asked calc_kinds u.kinds.items h.kinds in
+      let a = rules_are_asked rows.equations u.equations.items h.equations in
+      let b = rules_are_asked axioms u.program.items h.program in
+      let c = kinds_are_asked u.kinds.items h.kinds in
       let d = folds_asked listed rows_are g u.folds h.folds h.folds_need in
       both_asked g (map plain rows.equations ++ map plain axioms ++ map computed calc_kinds) (map folding operators) _ _
       (both_asked g (map plain rows.equations ++ map plain axioms) (map computed calc_kinds) _ _

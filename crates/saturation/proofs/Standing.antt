@@ -14,7 +14,7 @@ use Rattle.word_terms.specs.Sorting.{HasSort, HaveSorts, sort_at}
 use Rattle.egraph.specs.declared.rows.Row.{Row}
 use Rattle.egraph.specs.Graph.{Graph, HasClass, IsGraph, HasConstant, read_through}
 use Rattle.pattern_match.specs.Classes.{IsClass, AreClasses, at_variable, at_row, no_classes, classes}
-use Rattle.saturation.specs.Trace.{Asked, IsPut, IsJoined, IsBuilt, AreBuilt, placed, put, none_built, one_built, IsMade, AreAllMade, finished, work, MayJoin}
+use Rattle.saturation.specs.Trace.{Asked, IsPut, IsJoined, IsBuilt, AreBuilt, placed, put, none_built, one_built, IsApplied, AreAllApplied, finished, work, MayJoin}
 use Rattle.pattern_match.specs.Matches.{IsMatch}
 use Rattle.saturation.specs.GraphStands.{IsTrueGraph}
 use Rattle.saturation.proofs.Graphs.{cur, row_made, row_present, has_made, has_present, current_has}
@@ -178,7 +178,7 @@ module _ (law : Law) (world : World) (is_world : IsWorld world) (names : ℕ →
       class_value mid W first.true (map (cur mid) a.places) cls.1 ∙ value_agrees (length a.places) _ _ agree a.right (may_below g a may) ∙ asked in
       record { values = W; true = first.true; one = right_value ∙ sym (at a.class may.class.made); at = at }
 
-  pub made_true : (a : Asked) (g new : Graph Op) (V : ℕ → Value) → IsMade a g new → IsGraph op_signature g → MayJoin g a → True V g → TrueAsk V g a → Moves V g new
+  pub made_true : (a : Asked) (g new : Graph Op) (V : ℕ → Value) → IsApplied a g new → IsGraph op_signature g → MayJoin g a → True V g → TrueAsk V g a → Moves V g new
   made_true a g new V h is may true asked =
       let m = meeting a g h.middle h.class V h.built is may true asked in
       let ext = built_extends a.places h.built in
@@ -190,7 +190,7 @@ module _ (law : Law) (world : World) (is_world : IsWorld world) (names : ℕ →
       let places_made = made_of g a.places a.right may.sort may.right in
       value_agrees (length a.places) _ _ (λ k l. moved (get_or a.places k 0) (places_made k 0 l)) a.right (may_below g a may) ∙ asked ∙ sym (moved a.class may.class.made)
 
-  pub all_made_true : {asks : List Asked} {g new : Graph Op} (V : ℕ → Value) → AreAllMade asks g new → IsGraph op_signature g → All (MayJoin g) asks → True V g → All (TrueAsk V g) asks → Moves V g new
+  pub all_made_true : {asks : List Asked} {g new : Graph Op} (V : ℕ → Value) → AreAllApplied asks g new → IsGraph op_signature g → All (MayJoin g) asks → True V g → All (TrueAsk V g) asks → Moves V g new
   all_made_true V finished is may true asked = record { values = V; true = true; moved = λ c l. refl }
   all_made_true V (work {a} {asks} {g} {h} {new} m w) is may true asked =
       let first = made_true a g h V m is (All-head (MayJoin g) a asks may) true (All-head (TrueAsk V g) a asks asked) in

@@ -20,7 +20,7 @@ use Rattle.goal_meaning.specs.WellFormed.{sum_over, operators_of_sides}
 use Rattle.saturation.specs.AtStart.{IsSorted, AreSorted, operators_of, CanInsertAll, CanAssume, CanAssumeAll, AssumeFaultIs, AssumeFaultOfAll, start_fault}
 use Rattle.saturation.specs.Derives.{Pair}
 use Rattle.saturation.specs.GoalTerms.{set_terms, assumed_pair}
-use Rattle.saturation.specs.Trace.{MayBuild, CanBuild, CanMake, IsBuilt, IsJoined, AreInserted, none_inserted, one_inserted, IsAssumeMade, AreAssumed, none_assumed, one_assumed, AreRefused, refused_here, refused_after}
+use Rattle.saturation.specs.Trace.{MayBuild, CanBuild, CanApply, IsBuilt, IsJoined, AreInserted, none_inserted, one_inserted, IsAssumeMade, AreAssumed, none_assumed, one_assumed, AreRefused, refused_here, refused_after}
 use Rattle.saturation.specs.declared.faults.StartFault.{StartFault}
 use Rattle.saturation.specs.declared.faults.StartFault.TheVariants.{NoWorld, Memory}
 use Rattle.saturation.proofs.Built.{built_graph, built_sort}
@@ -155,7 +155,7 @@ module _ (g : Graph Op) (a : TwoTrees) (can : CanAssume g a) where
   first_can = record { graph = can.graph; sort = can.sorted.sort; may = first_may; few = let f = can.few in omega (arith, f) }
 
   module _ (m : Graph Op) (c : ℕ) (b : IsBuilt [] a.left g c m) where
-    make_can : CanMake m (record { right = a.right; places = []; class = c })
+    make_can : CanApply m (record { right = a.right; places = []; class = c })
     make_can = record {
       graph = built_graph [] b can.graph;
       may = record {

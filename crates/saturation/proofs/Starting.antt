@@ -9,7 +9,7 @@ use Rattle.axiom_base.specs.Equations.{constant}
 use Rattle.egraph.specs.Graph.{Graph, IsGraph}
 use Rattle.pattern_match.specs.Classes.{IsClass, at_variable, at_row}
 use Rattle.saturation.specs.Trace.{Asked, IsBuilt, AreInserted, none_inserted, one_inserted, IsAssumeMade, AreAssumed, none_assumed, one_assumed, AreRefused, refused_here, refused_after}
-use Rattle.saturation.specs.Derives.{Derives, given, assumed, back, through}
+use Rattle.saturation.specs.Derives.{Derives, given, assumed, symmetric, transitive}
 use Rattle.saturation.specs.Grown.{IsGrown}
 use Rattle.saturation.proofs.Graphs.{cur}
 use Rattle.saturation.proofs.Follows.{Follows, follows_itself, follows_through, extends_follows, closed_follows}
@@ -137,7 +137,7 @@ module _ (axioms : List Rewrite) (present : List (Tree Op)) (equal : List (Tree 
   assumed_good p g new a is good d =
       let im = built_graph [] a.built is in
       made_good axioms present equal 0 (record { right = p.1; places = []; class = a.class }) a.middle new a.made im
-      (one_good p.0 g a.middle a.class a.built is good (through d (back d))) (justified p g a.middle a.class a.built is d)
+      (one_good p.0 g a.middle a.class a.built is good (transitive d (symmetric d))) (justified p g a.middle a.class a.built is d)
 
   all_assumed_good : {ps : List (Tree Op × Tree Op)} {g new : Graph Op} → AreAssumed ps g new → IsGraph op_signature g → Fine g → All (λ (p : Tree Op × Tree Op). D p.0 p.1) ps → Fine new
   all_assumed_good none_assumed is good d = good
@@ -149,7 +149,7 @@ module _ (axioms : List Rewrite) (present : List (Tree Op)) (equal : List (Tree 
       let im = built_graph [] a.built is in
       let h = All-head (λ (q : Tree Op × Tree Op). D q.0 q.1) p ps d in
       refused_at axioms present equal 0 (record { right = p.1; places = []; class = a.class }) a.middle x y a.refused im
-      (one_good p.0 g a.middle a.class a.built is good (through h (back h))) (justified p g a.middle a.class a.built is h)
+      (one_good p.0 g a.middle a.class a.built is good (transitive h (symmetric h))) (justified p g a.middle a.class a.built is h)
   all_refused_clash (refused_after {p} {ps} {g} {h} a w) is good d =
       all_refused_clash w (assumed_graph p g h a) (assumed_good p g h a is good (All-head (λ (q : Tree Op × Tree Op). D q.0 q.1) p ps d)) (All-tail (λ (q : Tree Op × Tree Op). D q.0 q.1) p ps d)
 
@@ -177,6 +177,7 @@ module _ (axioms : List Rewrite) (present : List (Tree Op)) (equal : List (Tree 
       let pairs = all_together assumes im in
       record {
         distinct = inew.distinct;
+        operands = inew.operands;
         inhabited = good.1;
         exact = λ t u. (
           λ h. good.0 t u h.class h.first h.second,

@@ -1,4 +1,4 @@
--- What a round asks for, by the rules of which it comes. From this project.
+-- What a round asks for, and the rules that it comes from. From this project.
 use Rattle.std.specs.Prelude.{◌≡◌, ◌≢◌, ℕ, ◌+◌, ◌<◌, ◌⊎◌, Bool, true, false, List, [], ◌∷◌, ◌++◌, map, length, unwrap_or, All, Contains}
 use Rattle.std.specs.List.{AllZip}
 use Rattle.word_ops.specs.Operators.{operators}
@@ -10,7 +10,7 @@ use Rattle.axiom_base.specs.Computed.{calc_right}
 use Rattle.axiom_base.specs.declared.kinds.Calc.{Calc}
 use Rattle.axiom_base.specs.Schemes.{Scheme, plain, computed, folding, calc_kinds, IsOf}
 use Rattle.egraph.specs.Graph.{Graph}
-use Rattle.pattern_match.specs.Matches.{IsUnmet, IsUnmetOf, IsUnmetCalc, IsFoldOf, AreNeeds}
+use Rattle.pattern_match.specs.Matches.{IsUnmet, IsUnmetOf, IsUnmetCalc, IsFoldOf, IsNeed, AreNeeds}
 use Rattle.pattern_match.specs.Found.{classes_in}
 use Rattle.pattern_match.specs.Listing.{Lists, Chosen}
 use Rattle.pattern_match.specs.declared.found.Match.{Match}
@@ -32,8 +32,8 @@ pub record IsAskedOf (g : Graph Op) (s : Scheme) (places : List ℕ) (a : Asked)
   pub unmet : IsUnmet g rule places a.class
   pub asks : AsksFor rule places a
 
--- what is asked comes of unmet matches of these schemes, each of which is asked for; together it has as many operators
--- as they need
+-- what is asked comes from unmet matches of these schemes, each of which is asked for; all of it together has as many
+-- operators as the matches need
 pub record AreAsked (g : Graph Op) (ss : List Scheme) (asked : List Asked) : Type 0 where
   pub each : All (λ a. (s : Scheme) × Contains ss s × ((places : List ℕ) × IsAskedOf g s places a)) asked
   pub all :
@@ -43,17 +43,23 @@ pub record AreAsked (g : Graph Op) (ss : List Scheme) (asked : List Asked) : Typ
       ((a : Asked) × Contains asked a × IsAskedOf g s places a)
   pub needs : AreNeeds g ss (operators_asked asked)
 
--- the old list with more behind it, of which P holds
-pub record Adds (P : List Asked → Type 0) (old new : List Asked) : Type 0 where
-  pub more : List Asked
-  pub is : new ≡ old ++ more
-  pub holds : P more
-
 -- why the numbers end the rounds
 abbrev pub StopFits : ℕ → ℕ → ℕ → Bool → ℕ → Stop → Type 0
 StopFits asked need rows last nodes Quiet = asked ≡ 0
 StopFits asked need rows last nodes Rounds = (asked ≢ 0) × (last ≡ true)
 StopFits asked need rows last nodes Full = (asked ≢ 0) × (last ≡ false) × (nodes < rows + need)
+
+-- the unmet matches of the schemes need more than this
+pub record NeedMoreThan (g : Graph Op) (ss : List Scheme) (most : ℕ) : Type 0 where
+  pub need : ℕ
+  pub are : AreNeeds g ss need
+  pub more : most < need
+
+-- the unmet matches of the rule need more than this
+pub record RuleNeedsMore (g : Graph Op) (r : Rewrite) (most : ℕ) : Type 0 where
+  pub need : ℕ
+  pub is : IsNeed g (plain r) need
+  pub more : most < need
 
 -- ---- the search before a round
 

@@ -22,8 +22,8 @@ use Rattle.saturation.specs.Trace.{AreInserted, AreAssumed, IsAssumedRefused, Ar
 use Rattle.saturation.specs.declared.faults.StartFault.{StartFault}
 use Rattle.saturation.specs.declared.faults.StartFault.TheVariants.{NoWorld, Memory}
 
--- the terms are inserted one after another, operands before their application, and then the sides of each assumption are
--- made equal
+-- the terms are inserted one after another, operands before their application, and then the sides of each assumption
+-- are made equal
 pub record IsStarted (goal : GoalTree) (g : Graph Op) : Type 0 where
   pub middle : Graph Op
   pub inserted : AreInserted (present_terms goal) (record { rows = []; current = [] }) middle

@@ -23,8 +23,8 @@ mutual
       ℕ → Tree Op → Tree Op → Type 0 where
     given : (t : Tree Op) → Contains present t → Derives axioms present equal 0 t t
     assumed : (t u : Tree Op) → Contains equal (t, u) → Derives axioms present equal 0 t u
-    back : {j : ℕ} {t u : Tree Op} → Derives axioms present equal j t u → Derives axioms present equal j u t
-    through :
+    symmetric : {j : ℕ} {t u : Tree Op} → Derives axioms present equal j t u → Derives axioms present equal j u t
+    transitive :
         {j : ℕ} {t u v : Tree Op} →
         Derives axioms present equal j t u →
         Derives axioms present equal j u v →
@@ -50,7 +50,7 @@ mutual
         ((n c : ℕ) → Contains r.constants (n, c) → Derives axioms present equal j (put_in values n) (constant c)) →
         Derives axioms present equal (j + 1) (substituted values r.left) (substituted values r.right)
 
-  -- the same of operands, place by place
+  -- the operands are equal in the same way, place by place
   pub data DerivesEach (axioms : List Rewrite) (present : List (Tree Op)) (equal : List Pair) :
       ℕ → Trees Op → Trees Op → Type 0 where
     no_operands : {j : ℕ} → DerivesEach axioms present equal j none none
@@ -60,7 +60,7 @@ mutual
         DerivesEach axioms present equal j ts us →
         DerivesEach axioms present equal j (more t ts) (more u us)
 
--- two different constants are equal after so many rounds
+-- two different constants are equal after j rounds
 pub record IsClash (axioms : List Rewrite) (present : List (Tree Op)) (equal : List Pair) (j a b : ℕ) : Type 0 where
   pub derived : Derives axioms present equal j (constant a) (constant b)
   pub differ : a ≢ b

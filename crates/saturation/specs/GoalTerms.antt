@@ -1,4 +1,5 @@
--- The terms of a goal, what it assumes of them, and the rules that the axioms of an input are. Source: this project.
+-- The terms of a goal, the equalities that it assumes of them, and the rules that an input's axioms give. Source: this
+-- project.
 use Rattle.std.specs.Prelude.{ℕ, Bool, false, ◌||◌, ◌==◌, Option, Some, None, List, [], ◌∷◌, ◌++◌, map, length, replicate}
 use Rattle.std.specs.List.{filter, flat_map, range_with_len}
 use Rattle.word_ops.specs.declared.sorts.Op.{Op}
@@ -70,14 +71,15 @@ abbrev mutual
 abbrev pub variables_below : AxiomTree → ℕ → List ℕ
 variables_below a n = filter (λ m. has_variable m a.left) (range_with_len 0 n)
 
--- those of all of them
+-- the numbers of the left side's variables, of all variables
 abbrev pub left_variables : AxiomTree → List ℕ
 left_variables a = variables_below a (length a.variables)
 
 -- variables that the left side lacks are left out, and the others are numbered from 0 in their old order: each by how
 -- many of the left side's come before it
 abbrev pub renumbered : AxiomTree → Tree Op → Tree Op
-renumbered a t = substituted (map (λ n. variable (length (variables_below a n))) (range_with_len 0 (length a.variables))) t
+renumbered a t =
+    substituted (map (λ n. variable (length (variables_below a n))) (range_with_len 0 (length a.variables))) t
 
 -- all variables are words
 abbrev pub rule_of : AxiomTree → Rewrite

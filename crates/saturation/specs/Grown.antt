@@ -1,11 +1,12 @@
 -- The E-graph after a number of rounds, and when rounds end. From Denali (PLDI 2002), its matching phase; when rounds
 -- end is this project's.
-use Rattle.std.specs.Prelude.{◌≡◌, ◌≢◌, ℕ, ◌+◌, ◌<◌, ◌≤◌, ◌⊎◌, ◌↔◌, List, [], length, Contains, AllPairs}
+use Rattle.std.specs.Prelude.{◌≡◌, ◌≢◌, ℕ, ◌+◌, ◌<◌, ◌≤◌, ◌⊎◌, ◌↔◌, List, [], length, All, Contains, AllPairs}
 use Rattle.word_ops.specs.declared.sorts.Op.{Op}
+use Rattle.word_terms.specs.Keys.{op_signature}
 use Rattle.word_terms.specs.Tree.{Tree}
 use Rattle.axiom_base.specs.Rewrites.{Rewrite}
 use Rattle.axiom_base.specs.Schemes.{Scheme, schemes}
-use Rattle.egraph.specs.Graph.{Graph, Agree, HasClass}
+use Rattle.egraph.specs.Graph.{Graph, Agree, HasClass, IsGraph}
 use Rattle.pattern_match.specs.Classes.{IsClass, HaveOneClass}
 use Rattle.pattern_match.specs.Matches.{IsUnmetOf, AreNeeds}
 use Rattle.saturation.specs.Derives.{Derives, Pair}
@@ -14,11 +15,12 @@ use Rattle.saturation.specs.Derives.{Derives, Pair}
 abbrev pub AreInhabited : {O : Type 0} → Graph O → Type 0
 AreInhabited {O} g = (c : ℕ) → HasClass g c → ((t : Tree O) × IsClass g [] t c)
 
--- no row stands twice, each class is that of a term, and terms have one class exactly where so many rounds make them
--- equal
+-- no row stands twice, rows name classes of the graph, each class is that of a term, and terms have one class exactly
+-- where j rounds make them equal
 pub record IsGrown (axioms : List Rewrite) (present : List (Tree Op)) (equal : List Pair) (g : Graph Op) (j : ℕ) :
     Type 0 where
   pub distinct : AllPairs (λ r t. ¬ Agree r t) g.rows
+  pub operands : All (λ r. All (HasClass g) r.operands) g.rows
   pub inhabited : AreInhabited g
   pub exact : (t u : Tree Op) → HaveOneClass g [] t u ↔ Derives axioms present equal j t u
 
@@ -36,7 +38,7 @@ pub record IsFull (axioms : List Rewrite) (g : Graph Op) (nodes : ℕ) : Type 0 
   pub is : AreNeeds g (schemes axioms) need
   pub passed : nodes < length g.rows + need
 
--- they don't pass it
+-- the rows and what the unmet matches need don't pass the limit
 pub record IsWithin (axioms : List Rewrite) (g : Graph Op) (nodes : ℕ) : Type 0 where
   pub need : ℕ
   pub is : AreNeeds g (schemes axioms) need
@@ -50,12 +52,14 @@ Ends axioms g rounds nodes j = IsQuiet axioms g ⊎ (j ≡ rounds) ⊎ IsFull ax
 pub record Halts (axioms : List Rewrite) (present : List (Tree Op)) (equal : List Pair) (rounds nodes j : ℕ) :
     Type 0 where
   pub graph : Graph Op
+  pub is_graph : IsGraph op_signature graph
   pub grown : IsGrown axioms present equal graph j
   pub ends : Ends axioms graph rounds nodes j
 
 pub record GoesOnGrowing (axioms : List Rewrite) (present : List (Tree Op)) (equal : List Pair) (rounds nodes j : ℕ) :
     Type 0 where
   pub graph : Graph Op
+  pub is_graph : IsGraph op_signature graph
   pub grown : IsGrown axioms present equal graph j
   pub unmet : ¬ IsQuiet axioms graph
   pub asked : j ≢ rounds

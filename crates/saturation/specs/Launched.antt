@@ -62,14 +62,14 @@ pub record IsLaunched (declared : List DeclaredOp) (goal : GoalTree) (graph : Gr
       r.op ≡ Declared index arity →
       declared_name declared (declared_number declared r.name) ≡ r.name
 
--- what rounds make the first graph, they make the second
+-- after each number of rounds that makes the first graph, the second one is made too
 abbrev pub KeepsGrown : Graph Op → Graph Op → Type 0
 KeepsGrown old new =
     (axioms : List Rewrite) (present : List (Tree Op)) (equal : List Pair) (j : ℕ) →
     IsGrown axioms present equal old j →
     IsGrown axioms present equal new j
 
--- why the rounds end with the first graph, they end with the second
+-- if rounds end with the first graph for a cause, they end with the second one for the same cause
 abbrev pub KeepsStop : Graph Op → Graph Op → Type 0
 KeepsStop old new =
     (axioms : List Rewrite) (rounds nodes j : ℕ) (stop : Stop) →

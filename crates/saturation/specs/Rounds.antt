@@ -34,7 +34,7 @@ pub record IsSaturated (axioms : List Rewrite) (start : Graph Op) (rounds nodes 
   pub stops : StopIs axioms g rounds nodes j stop
   pub graph : IsGraph op_signature g
 
--- what the first graph stands for, the second does
+-- whatever the first graph stands for, the second one stands for
 abbrev pub KeepsStanding : List Rewrite → Graph Op → Graph Op → Type 0
 KeepsStanding axioms old new =
     (names : ℕ → List ℕ) (equal : List Pair) (terms : List (Tree Op)) →

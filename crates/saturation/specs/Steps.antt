@@ -1,4 +1,4 @@
--- What is done with a graph after a number of rounds. From this project.
+-- What is done with a graph after some rounds. From this project.
 use Rattle.std.specs.Prelude.{◌≡◌, ◌≢◌, ℕ, ◌+◌, ◌≤◌, Bool, true, false, List, length, map, All}
 use Rattle.word_ops.specs.declared.sorts.Op.{Op}
 use Rattle.axiom_base.specs.Rewrites.{Rewrite, IsRule}
@@ -12,8 +12,13 @@ use Rattle.saturation.specs.declared.stepping.Step.{Step}
 use Rattle.saturation.specs.declared.stepping.Step.TheVariants.{End, Round}
 use Rattle.saturation.specs.declared.rounds.Stop.TheVariants.{Quiet, Rounds, Full}
 
+-- some match is unmet, and with what they need the rows pass the limit
+abbrev pub IsOver : List Rewrite → Graph Op → ℕ → Type 0
+IsOver axioms g nodes = (¬ IsQuiet axioms g) × IsFull axioms g nodes
+
 -- what another round asks for: some of it, and not more than there is room for
-pub record CallsForRound (axioms : List Rewrite) (g : Graph Op) (last : Bool) (nodes : ℕ) (asked : List Asked) : Type 0 where
+pub record CallsForRound (axioms : List Rewrite) (g : Graph Op) (last : Bool) (nodes : ℕ) (asked : List Asked) :
+    Type 0 where
   pub are : AreAsked g (schemes axioms) asked
   pub some : length asked ≢ 0
   pub more : last ≡ false

@@ -40,7 +40,7 @@ pub record CanBuild (g : Graph Op) (places : List ℕ) (t : Tree Op) : Type 0 wh
   pub may : MayBuild g places t sort
   pub few : length g.current + operators_in t ≤ 2 ^ 31
 
-pub record CanMake (g : Graph Op) (a : Asked) : Type 0 where
+pub record CanApply (g : Graph Op) (a : Asked) : Type 0 where
   pub graph : IsGraph op_signature g
   pub may : MayJoin g a
   pub few : length g.current + operators_in a.right ≤ 2 ^ 31
@@ -50,7 +50,7 @@ abbrev pub operators_asked : List Asked → ℕ
 operators_asked [] = 0
 operators_asked (a ∷ asks) = operators_in a.right + operators_asked asks
 
-pub record CanMakeAll (g : Graph Op) (asked : List Asked) : Type 0 where
+pub record CanApplyAll (g : Graph Op) (asked : List Asked) : Type 0 where
   pub graph : IsGraph op_signature g
   pub may : All (MayJoin g) asked
   pub few : length g.current + operators_asked asked ≤ 2 ^ 31
@@ -88,20 +88,20 @@ mutual
         AreBuilt places (more t ts) g (c ∷ cs) new
 
 -- the right side is built, and its class is merged with what is asked
-pub record IsMade (a : Asked) (g new : Graph Op) : Type 0 where
+pub record IsApplied (a : Asked) (g new : Graph Op) : Type 0 where
   pub middle : Graph Op
   pub class : ℕ
   pub built : IsBuilt a.places a.right g class middle
   pub joined : IsJoined middle class a.class new
 
 -- all that is asked is made, in order
-pub data AreAllMade : List Asked → Graph Op → Graph Op → Type 0 where
-  finished : {g : Graph Op} → AreAllMade [] g g
+pub data AreAllApplied : List Asked → Graph Op → Graph Op → Type 0 where
+  finished : {g : Graph Op} → AreAllApplied [] g g
   work :
       {a : Asked} {asks : List Asked} {g h new : Graph Op} →
-      IsMade a g h →
-      AreAllMade asks h new →
-      AreAllMade (a ∷ asks) g new
+      IsApplied a g h →
+      AreAllApplied asks h new →
+      AreAllApplied (a ∷ asks) g new
 
 -- what is asked is made in order, up to a merge that puts the constants x and y into one class
 pub record IsRefusedMerge (a : Asked) (g : Graph Op) (x y : ℕ) : Type 0 where
@@ -115,7 +115,7 @@ pub data IsRefused : List Asked → Graph Op → ℕ → ℕ → Type 0 where
   here : {a : Asked} {asks : List Asked} {g : Graph Op} {x y : ℕ} → IsRefusedMerge a g x y → IsRefused (a ∷ asks) g x y
   after :
       {a : Asked} {asks : List Asked} {g h : Graph Op} {x y : ℕ} →
-      IsMade a g h →
+      IsApplied a g h →
       IsRefused asks h x y →
       IsRefused (a ∷ asks) g x y
 
@@ -134,7 +134,7 @@ pub record IsAssumeMade (p : Pair) (g new : Graph Op) : Type 0 where
   pub middle : Graph Op
   pub class : ℕ
   pub built : IsBuilt [] p.0 g class middle
-  pub made : IsMade (record { right = p.1; places = []; class = class }) middle new
+  pub made : IsApplied (record { right = p.1; places = []; class = class }) middle new
 
 pub data AreAssumed : List Pair → Graph Op → Graph Op → Type 0 where
   none_assumed : {g : Graph Op} → AreAssumed [] g g

@@ -8,24 +8,25 @@ ghost use Rattle.saturation.specs.GoalTerms as terms;
 ghost use Rattle.saturation.specs.GoalTerms.{rule_of, rules_of};
 
 use crate::rounds::Rules;
-use axiom_base::Rule;
+use axiom_base::{Rule, equations};
 use goal_meaning::{Axiom, Input};
 use items::{Items, NoMemory};
 use std::alloc::Global;
 use word_ops::{Op, Sort};
 use word_terms::{Term, subst, terms_are_trees, variable};
 
-/// The axioms of the input as rules, in order. Variables that the left side lacks are left out, and the others are
-/// numbered from 0 in their old order.
+/// The equations, and the axioms of the input as rules, in order. In a rule, variables that the axiom's left side lacks
+/// are left out, and the others are numbered from 0 in their old order.
 pub fn rules(alloc: Global, input: &Input) -> Result<Rules, NoMemory>
     requires input { IsInput (input_view input.now) }
     ensures program { IfOk result (λ rules. rules.program ≡ rules_of (input_view input.now)) }
 {
+    let equations = equations(alloc)?;
     let mut program = Items::new(alloc);
     for equation in input.axioms.as_slice() {
         program.push(rule(alloc, equation)?)?;
     }
-    Ok(Rules { program })
+    Ok(Rules { equations, program })
 }
 
 fn rule(alloc: Global, equation: &Axiom) -> Result<Rule, NoMemory>

@@ -11,7 +11,7 @@ use thiserror::Error;
 
 #[derive(Clone, Copy, PartialEq, Eq, Debug, Error)]
 pub enum StartFault {
-    /// The assumptions put the different constants `a` and `b` into `class`, so they hold in no world.
+    /// The assumptions would put the different constants `a` and `b` into `class`, so they hold in no world.
     #[error("the constants {a} and {b} would be one")]
     NoWorld { class: u32, a: u64, b: u64 },
     #[error("out of memory")]
@@ -39,7 +39,7 @@ impl From<MergeFault> for StartFault {
 
 #[derive(Clone, Copy, PartialEq, Eq, Debug, Error)]
 pub enum SaturateFault {
-    /// A round puts the different constants `a` and `b` into `class`, so the axioms hold in no world.
+    /// A round would put the different constants `a` and `b` into `class`, so the axioms hold in no world.
     #[error("the constants {a} and {b} would be one")]
     NoWorld { class: u32, a: u64, b: u64 },
     #[error("out of memory")]

@@ -10,8 +10,8 @@ ghost use Rattle.saturation.specs.AtStart.{IsStarted, IsGrownAtStart, StandsAtSt
 ghost use Rattle.saturation.specs.GoalTerms.{input_terms, assume_terms, guard_terms, set_terms, present_terms, assumed_pair};
 ghost use Rattle.saturation.specs.Trace.{AreInserted, IsAssumeMade, AreAssumed};
 
+use crate::applying::build;
 use crate::faults::StartFault;
-use crate::making::build;
 use egraph::Egraph;
 use goal_meaning::{Assume, Goal, InputReg, Set};
 use items::NoMemory;

@@ -9,8 +9,8 @@ ghost use Rattle.goal_meaning.specs.WellFormed.{IsInput};
 ghost use Rattle.saturation.specs.GoalTerms.{assumed_pairs, rules_of};
 ghost use Rattle.saturation.specs.GraphStands.{RulesHold};
 
-/// Does nothing. Its clauses are laws of the axioms of a well-formed input: as rules they are well formed, and they are
-/// true in each world where the axioms hold.
+/// Does nothing. Its clauses are laws of the axioms of a well-formed input: the rules that they give are well formed,
+/// and are true in each world where the axioms hold.
 pub fn axioms_make_rules_true()
     ensures true_rules { (input : InputTree) (goal : GoalTree) (world : World) → IsInput input
         → HoldsFor input goal world

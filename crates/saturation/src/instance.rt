@@ -3,8 +3,8 @@ use items::Items;
 use word_ops::Op;
 use word_terms::Term;
 
-/// That the right term be in the class, where its variables stand for the classes in `places`. Classes are any ever
-/// made.
+/// A rewrite to apply: build `right` with its variables bound to `places`, and merge it with `class`. The classes may
+/// be any that were ever made.
 #[derive(Drop)]
 pub struct Instance {
     pub right: Term<Op>,

@@ -16,7 +16,8 @@ ghost use Rattle.saturation.specs.StandsFor.{StandsFor};
 use crate::goal_laws::axioms_make_rules_true;
 use axiom_base::schemes_are_true;
 
-/// Does nothing. Its clause is a law: what is launched from a graph that stands for a goal's terms stands for the goal.
+/// Does nothing. Its clause is a law: the launch graph made from a graph that stands for a goal's terms stands for the
+/// goal.
 pub fn launched_graphs_stand()
     ensures stand { (input : InputTree) (goal : GoalTree) (graph : Graph TermOperator) (g : LaunchGraph) →
         IsInput input → IsLaunched input.ops goal graph g →
@@ -26,8 +27,9 @@ pub fn launched_graphs_stand()
     axioms_make_rules_true();
 }
 
-/// Does nothing. Its clause is a law: a graph with fewer than 2 ^ 30 rows, which is a goal's after a number of rounds,
-/// can be launched. For rounds make no operator that neither the goal nor an axiom has, but for those of every text.
+/// Does nothing. Its clause is a law: from a graph of a goal after a number of rounds, with fewer than 2 ^ 30 rows, a
+/// launch graph can be made, since rounds make only operators that stand in the goal, in an axiom or in the rules of
+/// every text.
 pub fn grown_graphs_can_be_launched()
     ensures can { (input : InputTree) (goal : GoalTree) (graph : Graph TermOperator) (j : ℕ) →
         IsInput input → Contains input.goals goal → IsGraph op_signature graph → length graph.rows < 2 ^ 30 →

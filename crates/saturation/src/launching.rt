@@ -28,8 +28,9 @@ use text_core::Name;
 use word_ops::Op;
 use word_terms::{Term, terms_are_trees};
 
-/// What is launched from the graph of a goal after its rounds. All rows are kept in their order; classes and declared
-/// operators are numbered from 0 in the order of their first rows. Each operator of a term of the goal costs a look-up.
+/// The launch graph made from the graph of a goal after its rounds. All rows are kept in their order; classes and
+/// declared operators are numbered from 0 in the order of their first rows. Each operator of a term of the goal costs a
+/// look-up.
 pub fn to_launch(
     alloc: Global,
     saturated: &Saturated,

@@ -1,7 +1,8 @@
-//! Rounds of matching over an E-graph, from the start of a goal to the graph that is launched from: each equality that
-//! the rules give in so many rounds, and no other.
+//! Rounds of matching over an E-graph, from the first graph of a goal to the launch graph made from the last one: each
+//! equality that the rules give in these rounds is in it, and no other.
 #![tactic(auto)]
 
+mod applying;
 mod asking;
 mod axiom_rules;
 mod faults;
@@ -11,7 +12,6 @@ mod instance;
 mod launch_laws;
 mod launching;
 mod laws;
-mod making;
 mod needing;
 mod numbering;
 mod quiet;
@@ -25,5 +25,5 @@ pub use first_graph::start;
 pub use goal_laws::axioms_make_rules_true;
 pub use launch_laws::{grown_graphs_can_be_launched, launched_graphs_stand};
 pub use launching::to_launch;
-pub use laws::grown_graphs_are_one;
+pub use laws::{grown_graphs_are_one, rounds_end_once};
 pub use rounds::{Rules, Saturated, Stop, saturate};

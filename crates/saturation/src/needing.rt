@@ -1,4 +1,4 @@
-// What all unmet matches need: the operators of their right sides, as many rows as a round adds at most.
+// What all unmet matches need: the operators of their right sides, which are the most rows that a round adds.
 ghost use Rattle.std.specs.Prelude.{◌≡◌, ◌+◌, ◌-◌, ◌*◌, ◌^◌, min, length, IfOk};
 ghost use Rattle.axiom_base.specs.Equations as rows;
 ghost use Rattle.axiom_base.specs.Schemes.{calc_kinds};
@@ -11,7 +11,8 @@ use items::{Items, NoMemory};
 use pattern_match::{Match, operators};
 use std::alloc::Global;
 
-/// The operators of all that the matches ask for, or 2 ^ 64 - 1 where they are more. No right side is built for it.
+/// The number of operators of all that the matches ask for, or 2 ^ 64 - 1 if that is less. No right side is built for
+/// it.
 pub(crate) fn need_of(
     alloc: Global,
     equations: &[Rule],
@@ -31,7 +32,8 @@ pub(crate) fn need_of(
     Ok(of_kinds.saturating_add(unmet.folds.len() as u64))
 }
 
-fn with_rules(before: u64, rules: &[Rule], found: &[Items<Match>]) -> u64
+/// The number `before` and what the matches of these rules need.
+pub(crate) fn with_rules(before: u64, rules: &[Rule], found: &[Items<Match>]) -> u64
     requires { length found.now ≡ length rules.now }
     ensures { result
         ≡ min (before + operators_asked (asked_of_each rule_asked rules.now found.now)) (2 ^ 64 - 1) }
@@ -43,7 +45,12 @@ fn with_rules(before: u64, rules: &[Rule], found: &[Items<Match>]) -> u64
     need
 }
 
-fn with_kinds(alloc: Global, before: u64, found: &[Items<Match>]) -> Result<u64, NoMemory>
+/// The number `before` and what the matches of the computed rules need.
+pub(crate) fn with_kinds(
+    alloc: Global,
+    before: u64,
+    found: &[Items<Match>],
+) -> Result<u64, NoMemory>
     requires { length found.now ≡ length calc_kinds }
     ensures { IfOk result (λ need. need
         ≡ min (before + operators_asked (asked_of_each kind_asked calc_kinds found.now)) (2 ^ 64 - 1)) }
@@ -56,7 +63,8 @@ fn with_kinds(alloc: Global, before: u64, found: &[Items<Match>]) -> Result<u64,
     Ok(need)
 }
 
-fn with_matches(before: u64, count: usize, weight: u64) -> u64
+/// The number `before` and what `count` matches need, with `weight` operators each.
+pub(crate) fn with_matches(before: u64, count: usize, weight: u64) -> u64
     ensures { result ≡ min (before + min (count * weight) (2 ^ 64 - 1)) (2 ^ 64 - 1) }
 {
     before.saturating_add((count as u64).saturating_mul(weight))

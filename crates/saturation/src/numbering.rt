@@ -9,7 +9,7 @@ use items::NoMemory;
 use std::alloc::Global;
 use word_ops::Op;
 
-/// For each class ever made a number. Those that rows have are numbered from 0 in the order of their first rows.
+/// For each class ever made, a number: the classes that rows have are numbered from 0 in the order of their first rows.
 pub(crate) fn class_numbers(alloc: Global, graph: &Egraph<Op>) -> Result<Vec<u32>, NoMemory>
     requires graph { IsGraph op_signature graph.now }
     ensures numbers { IfOk result (λ numbers. AreClassNumbers graph.now numbers.items) }
@@ -60,7 +60,7 @@ fn place_of(numbers: &[u8], number: u8) -> usize
     numbers.len()
 }
 
-/// The operator with its place among those that are used, where it is a declared one.
+/// The operator; a declared one has as its number its place among those that are used.
 pub(crate) fn op_of_place(used: &[u8], op: Op) -> Op
     requires { length used.now ≤ 16 }
     ensures { result ≡ launched_op used.now op }

@@ -1,10 +1,10 @@
 // Whether a match is unmet at all.
-ghost use Rattle.std.specs.Prelude.{◌≡◌, ◌↔◌, true, false, map, IsTrue, IfOk};
+ghost use Rattle.std.specs.Prelude.{◌≡◌, ◌↔◌, map, IsTrue, IfOk};
 ghost use Rattle.word_terms.specs.Keys.{op_signature};
 ghost use Rattle.axiom_base.specs.Equations as rows;
 ghost use Rattle.axiom_base.specs.Schemes.{plain, computed, calc_kinds};
 ghost use Rattle.egraph.specs.Graph.{IsGraph};
-ghost use Rattle.pattern_match.specs.ByOperator.{AreLists};
+ghost use Rattle.pattern_match.specs.ByOperator.{AreTables};
 ghost use Rattle.saturation.specs.Grown.{AreMet, IsQuiet};
 
 use axiom_base::{CALC_KINDS, Rule};
@@ -14,7 +14,8 @@ use pattern_match::{RowTables, find_calc_unmet, find_unmet, folds, matches_have_
 use std::alloc::Global;
 use word_ops::{Op, operators_are_listed};
 
-/// Whether no match is unmet, with the program's own rules. The search ends with the first one that is.
+/// Whether no match is unmet, of the rules of every text and of the program's own. The search ends with the first unmet
+/// match.
 pub(crate) fn is_quiet(
     alloc: Global,
     graph: &Egraph<Op>,
@@ -37,8 +38,7 @@ fn is_quiet_by(
     program: &[Rule],
 ) -> Result<bool, NoMemory>
     requires graph { IsGraph op_signature graph.now }
-    requires by_class { AreLists true graph.now 0 tables.now.by_class.firsts.entries tables.now.by_class.nexts.items }
-    requires by_operator { AreLists false graph.now 0 tables.now.by_operator.firsts.entries tables.now.by_operator.nexts.items }
+    requires tables { AreTables graph.now tables.now }
     requires equations { equations.now ≡ rows.equations }
     ensures { IfOk result (λ quiet. IsTrue quiet ↔ IsQuiet program.now graph.now) }
 {
@@ -64,8 +64,7 @@ fn are_met(
     rules: &[Rule],
 ) -> Result<bool, NoMemory>
     requires graph { IsGraph op_signature graph.now }
-    requires by_class { AreLists true graph.now 0 tables.now.by_class.firsts.entries tables.now.by_class.nexts.items }
-    requires by_operator { AreLists false graph.now 0 tables.now.by_operator.firsts.entries tables.now.by_operator.nexts.items }
+    requires tables { AreTables graph.now tables.now }
     ensures { IfOk result (λ met. IsTrue met ↔ AreMet graph.now (map plain rules.now)) }
 {
     for rule in rules {
@@ -79,8 +78,7 @@ fn are_met(
 
 fn are_kinds_met(alloc: Global, graph: &Egraph<Op>, tables: &RowTables) -> Result<bool, NoMemory>
     requires graph { IsGraph op_signature graph.now }
-    requires by_class { AreLists true graph.now 0 tables.now.by_class.firsts.entries tables.now.by_class.nexts.items }
-    requires by_operator { AreLists false graph.now 0 tables.now.by_operator.firsts.entries tables.now.by_operator.nexts.items }
+    requires tables { AreTables graph.now tables.now }
     ensures { IfOk result (λ met. IsTrue met ↔ AreMet graph.now (map computed calc_kinds)) }
 {
     for kind in &CALC_KINDS {

@@ -3,21 +3,36 @@ ghost use Rattle.std.specs.Prelude.{◌≡◌, ◌≤◌, ◌<◌, ◌^◌, leng
 ghost use Rattle.axiom_base.specs.Equations as rows;
 ghost use Rattle.saturation.specs.Rounds.{IsSaturated, KeepsStanding, SaturateFaultIs, IsHopeless, RoundsNameLowClass};
 
+use crate::applying::apply_all;
 use crate::faults::SaturateFault;
-use crate::making::make_all;
 use crate::stepping::{Step, decide};
-use axiom_base::{
-    Rule, computed_rules_are_true, constants_are_numbered, equations, schemes_are_true,
-};
+use axiom_base::{Rule, computed_rules_are_true, constants_are_numbered, schemes_are_true};
 use egraph::{Egraph, MergeFault};
 use items::{Items, NoMemory};
 use std::alloc::Global;
+use std::marker::Model;
 use word_ops::{Op, meanings_are_in_range};
 
-/// The program's own rules. Equations, computed rules and folding always apply.
+/// The equations and a program's own rules, which serve for all goals of a text. Computed rules and folding always
+/// apply.
 #[derive(Drop)]
 pub struct Rules {
-    pub program: Items<Rule>,
+    pub(crate) equations: Items<Rule>,
+    pub(crate) program: Items<Rule>,
+}
+
+impl Model for Rules {
+    ghost use Rattle.std.specs.Prelude.{◌≡◌};
+    ghost use Rattle.axiom_base.specs.Equations as rows;
+    ghost use Rattle.saturation.specs.ProgramRules.{ProgramRules, program_rules_code};
+
+    ghost Value = { ProgramRules };
+
+    ghost coded = { program_rules_code };
+
+    ghost view = { λ r. record { program = r.program } };
+
+    ghost invariant = { λ r. r.equations ≡ rows.equations };
 }
 
 /// Why rounds end.
@@ -39,7 +54,7 @@ pub struct Saturated {
     pub stop: Stop,
 }
 
-/// Rounds of matching until no match is unmet, the rounds asked for are done, or another might pass the limit on rows.
+/// Rounds of matching, until no match is unmet, the rounds asked for are done, or another might pass the limit on rows.
 /// Each round finds all unmet matches, and then makes the right side of each. A round costs some look-ups for each row
 /// and each match.
 pub fn saturate(
@@ -60,11 +75,10 @@ pub fn saturate(
     ensures hopeless { IfErr result (IsHopeless rules.now.program graph) }
     ensures low { IfErr result RoundsNameLowClass }
 {
-    let equations = equations(alloc)?;
     grow(
         alloc,
         graph,
-        equations.as_slice(),
+        rules.equations.as_slice(),
         rules.program.as_slice(),
         rounds,
         nodes,
@@ -109,7 +123,7 @@ fn grow(
                 });
             }
             Step::Round(asked) => {
-                graph = make_all(alloc, graph, &asked)?;
+                graph = apply_all(alloc, graph, &asked)?;
                 done += 1;
             }
         }

@@ -1,23 +1,27 @@
 // The search for unmet matches before a round.
-ghost use Rattle.std.specs.Prelude.{◌≡◌, true, false, All, IfOk, OnOk};
+ghost use Rattle.std.specs.Prelude.{◌≡◌, ◌<◌, ◌*◌, ◌^◌, ℕ, map, All, IfOk, MatchOption};
 ghost use Rattle.std.specs.List.{AllZip};
 ghost use Rattle.word_terms.specs.Keys.{op_signature};
 ghost use Rattle.axiom_base.specs.Equations as rows;
 ghost use Rattle.axiom_base.specs.Rewrites.{IsRule};
-ghost use Rattle.axiom_base.specs.Schemes.{calc_kinds};
+ghost use Rattle.axiom_base.specs.Schemes.{plain, calc_kinds};
 ghost use Rattle.egraph.specs.Graph.{IsGraph};
-ghost use Rattle.pattern_match.specs.ByOperator.{AreLists};
-ghost use Rattle.saturation.specs.Asking.{AreFound, AreUnmetOf, AreUnmetOfKind};
+ghost use Rattle.pattern_match.specs.ByOperator.{AreTables};
+ghost use Rattle.saturation.specs.Asking.{AreFound, AreUnmetOf, AreUnmetOfKind, NeedMoreThan, RuleNeedsMore};
+ghost use Rattle.saturation.specs.Steps.{IsOver};
 
-use axiom_base::{CALC_KINDS, Rule};
+use crate::needing::{with_kinds, with_matches, with_rules};
+use axiom_base::{CALC_KINDS, Rule, schemes_are_true};
 use egraph::Egraph;
 use items::{Items, NoMemory};
-use pattern_match::{Fold, Match, RowTables, find_calc_unmet, find_unmet, folds};
+use pattern_match::{
+    Fold, Match, RowTables, find_calc_unmet, find_unmet, folds, matches_have_sorts, operators,
+};
 use std::alloc::Global;
-use word_ops::Op;
+use word_ops::{Op, operators_are_listed};
 
-/// The unmet matches of each rule: of the equations, of the program's own rules, of the computed rules by their kinds, and
-/// of folding.
+/// The unmet matches of each rule: of the equations, of the program's own rules, of the computed rules by their kinds,
+/// and of folding.
 #[derive(Drop)]
 pub struct Unmet {
     pub equations: Vec<Items<Match>>,
@@ -26,66 +30,110 @@ pub struct Unmet {
     pub folds: Items<Fold>,
 }
 
-/// The unmet matches of all rules, with the program's own rules. The graph's rows are put into tables once.
+/// The unmet matches of all rules, the program's own among them, or `None` where the rows, with what the matches need,
+/// pass the limit. The graph's rows are put into tables once, and the search ends with the first match that passes the
+/// limit.
 pub(crate) fn search(
     alloc: Global,
     graph: &Egraph<Op>,
     equations: &[Rule],
     program: &[Rule],
-) -> Result<Unmet, NoMemory>
+    nodes: u32,
+) -> Result<Option<Unmet>, NoMemory>
     requires graph { IsGraph op_signature graph.now }
     requires equations { equations.now ≡ rows.equations }
-    ensures found { IfOk result (AreFound graph.now program.now) }
-    ensures rules { OnOk result (All IsRule program.now) }
+    ensures found { IfOk result (λ found. MatchOption found
+        (IsOver program.now graph.now nodes)
+        (λ unmet. AreFound graph.now program.now unmet × All IsRule program.now)) }
 {
+    schemes_are_true();
+    operators_are_listed();
+    matches_have_sorts();
     let tables = RowTables::new(alloc, graph)?;
-    let equations = search_rules(alloc, graph, &tables, equations)?;
-    let program = search_rules(alloc, graph, &tables, program)?;
-    let kinds = search_kinds(alloc, graph, &tables)?;
     let folds = folds(alloc, graph)?;
-    Ok(Unmet {
-        equations,
-        program,
+    let kinds = search_kinds(alloc, graph, &tables)?;
+    let before = with_kinds(alloc, folds.len() as u64, &kinds)?;
+    let room = u64::from(nodes).saturating_sub(u64::from(graph.rows()));
+    if before > room {
+        return Ok(None);
+    }
+    let Some(by_equation) = search_rules(alloc, graph, &tables, equations, room - before)? else {
+        return Ok(None);
+    };
+    let so_far = with_rules(before, equations, &by_equation);
+    let left = room.saturating_sub(so_far);
+    let Some(by_rule) = search_rules(alloc, graph, &tables, program, left)? else {
+        return Ok(None);
+    };
+    Ok(Some(Unmet {
+        equations: by_equation,
+        program: by_rule,
         kinds,
         folds,
-    })
+    }))
 }
 
+// The unmet matches of each rule, or `None` where they need more than there is room for.
 fn search_rules(
     alloc: Global,
     graph: &Egraph<Op>,
     tables: &RowTables,
     rules: &[Rule],
-) -> Result<Vec<Items<Match>>, NoMemory>
+    room: u64,
+) -> Result<Option<Vec<Items<Match>>>, NoMemory>
     requires graph { IsGraph op_signature graph.now }
-    requires by_class { AreLists true graph.now 0 tables.now.by_class.firsts.entries tables.now.by_class.nexts.items }
-    requires by_operator { AreLists false graph.now 0 tables.now.by_operator.firsts.entries tables.now.by_operator.nexts.items }
-    ensures found { IfOk result (λ found. AllZip (AreUnmetOf graph.now) rules.now found.items) }
-    ensures rules { OnOk result (All IsRule rules.now) }
+    requires tables { AreTables graph.now tables.now }
+    ensures found { IfOk result (λ found. MatchOption found
+        (NeedMoreThan graph.now (map plain rules.now) room)
+        (λ found. AllZip (AreUnmetOf graph.now) rules.now found.items × All IsRule rules.now)) }
 {
     let mut found = Vec::new(alloc);
+    let mut need = 0;
     for rule in rules {
-        found.push(search_rule(alloc, graph, tables, rule)?)?;
+        let left = room.saturating_sub(need);
+        let Some(unmet) = search_rule(alloc, graph, tables, rule, left)? else {
+            return Ok(None);
+        };
+        need = with_matches(need, unmet.len(), operators(rule.right()));
+        found.push(unmet)?;
     }
-    Ok(found)
+    Ok(Some(found))
 }
 
+// The unmet matches of the rule, or `None` where they need more than there is room for.
 fn search_rule(
     alloc: Global,
     graph: &Egraph<Op>,
     tables: &RowTables,
     rule: &Rule,
-) -> Result<Items<Match>, NoMemory>
+    room: u64,
+) -> Result<Option<Items<Match>>, NoMemory>
     requires graph { IsGraph op_signature graph.now }
-    requires by_class { AreLists true graph.now 0 tables.now.by_class.firsts.entries tables.now.by_class.nexts.items }
-    requires by_operator { AreLists false graph.now 0 tables.now.by_operator.firsts.entries tables.now.by_operator.nexts.items }
-    ensures found { IfOk result (AreUnmetOf graph.now rule.now) }
+    requires tables { AreTables graph.now tables.now }
+    ensures found { IfOk result (λ found. MatchOption found
+        (RuleNeedsMore graph.now rule.now room)
+        (AreUnmetOf graph.now rule.now)) }
     ensures rule { IsRule rule.now }
 {
     let _variables = rule.variables();
-    let found = find_unmet(alloc, graph, tables, rule, usize::MAX)?;
-    let _count = found.len();
-    Ok(found)
+    let most = most_within(room, operators(rule.right()));
+    let found = find_unmet(alloc, graph, tables, rule, most)?;
+    if found.len() > most {
+        Ok(None)
+    } else {
+        Ok(Some(found))
+    }
+}
+
+// The number of matches that there is room for, where each needs `weight` rows.
+fn most_within(room: u64, weight: u64) -> usize
+    ensures { (count : ℕ) → count < 2 ^ 64 → result < count → room < count * weight }
+{
+    if weight == 0 {
+        usize::MAX
+    } else {
+        (room / weight) as usize
+    }
 }
 
 fn search_kinds(
@@ -94,8 +142,7 @@ fn search_kinds(
     tables: &RowTables,
 ) -> Result<Vec<Items<Match>>, NoMemory>
     requires graph { IsGraph op_signature graph.now }
-    requires by_class { AreLists true graph.now 0 tables.now.by_class.firsts.entries tables.now.by_class.nexts.items }
-    requires by_operator { AreLists false graph.now 0 tables.now.by_operator.firsts.entries tables.now.by_operator.nexts.items }
+    requires tables { AreTables graph.now tables.now }
     ensures found { IfOk result (λ found. AllZip (AreUnmetOfKind graph.now) calc_kinds found.items) }
 {
     let mut found = Vec::new(alloc);

@@ -1,5 +1,5 @@
 // Whether rounds end with a graph, and what the next one asks for where they go on.
-ghost use Rattle.std.specs.Prelude.{◌≡◌, ◌≢◌, ◌≤◌, ◌<◌, ◌+◌, ◌↔◌, false, IsTrue, MatchOption, IfOk};
+ghost use Rattle.std.specs.Prelude.{◌≡◌, ◌≢◌, ◌≤◌, ◌+◌, false, MatchOption, IfOk};
 ghost use Rattle.word_terms.specs.Keys.{op_signature};
 ghost use Rattle.axiom_base.specs.Equations as rows;
 ghost use Rattle.egraph.specs.Graph.{IsGraph};
@@ -19,16 +19,17 @@ use pattern_match::matches_have_sorts;
 use std::alloc::Global;
 use word_ops::{Op, operators_are_listed};
 
-/// What is done with a graph after a number of rounds.
+/// What is done with a graph after some rounds.
 #[derive(Drop)]
 pub(crate) enum Step {
     /// The rounds end.
     End(Stop),
-    /// Another round is made, in which all of this is asked for.
+    /// Another round is made, which applies all of these.
     Round(Vec<Instance>),
 }
 
-/// Whether rounds end with the graph; `last` says that no more are asked for.
+/// Whether rounds end with the graph, or what the next round asks for. If `last` is true, no further round was asked
+/// for.
 pub(crate) fn decide(
     alloc: Global,
     graph: &Egraph<Op>,
@@ -51,24 +52,15 @@ pub(crate) fn decide(
         }
         return Ok(Step::End(Stop::Rounds));
     }
-    let unmet = search(alloc, graph, equations, program)?;
-    let need = need_of(alloc, equations, program, &unmet)?;
-    if is_over(need, graph.rows(), nodes) {
+    let Some(unmet) = search(alloc, graph, equations, program, nodes)? else {
         return Ok(Step::End(Stop::Full));
-    }
+    };
+    let need = need_of(alloc, equations, program, &unmet)?;
     let asked = ask(alloc, equations, program, &unmet)?;
     match stop_of(asked.len(), need, graph.rows(), last, nodes) {
         Some(stop) => Ok(Step::End(stop)),
         None => Ok(Step::Round(asked)),
     }
-}
-
-// Whether something is needed for which there is no room.
-fn is_over(need: u64, rows: u32, nodes: u32) -> bool
-    requires { nodes ≤ 4096 }
-    ensures { IsTrue result ↔ ((0 < need) × (nodes < rows + need)) }
-{
-    need > 0 && (need > u64::from(nodes) || u64::from(rows) + need > u64::from(nodes))
 }
 
 fn stop_of(asked: usize, need: u64, rows: u32, last: bool, nodes: u32) -> Option<Stop>

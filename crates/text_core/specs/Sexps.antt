@@ -1,4 +1,4 @@
--- The trees that the code's trees are. Source: this project.
+-- The trees that the trees of the code stand for. Source: this project.
 use Rattle.std.specs.Prelude.{List, [], ◌∷◌, map}
 use Rattle.text_core.specs.declared.sexps.Sexp.{Sexp}
 use Rattle.text_core.specs.declared.sexps.Sexp.TheOpen.{Sexp-F, Atom, List as ListOf}

@@ -8,10 +8,10 @@ use itoa::Buffer;
 use std::alloc::{AllocFailed, Global};
 use thiserror::Error;
 
-/// Why a text is refused. The number of a kind decides between two faults at one place.
+/// Why a text is refused. Of two faults at one place, the one with the smaller number comes first.
 #[derive(Clone, Copy, Debug, PartialEq, Eq)]
 pub enum Kind {
-    /// A byte outside comments that begins no token and isn't white space, or one that no line may have.
+    /// A byte outside comments that begins no token and isn't white space, or a byte that no text of lines may have.
     BadByte = 1,
     /// An open parenthesis without its closing one.
     Unclosed,

@@ -1,4 +1,4 @@
-// What a text is read as is one thing. The calls do nothing: their clauses hold of all texts.
+// What a text is read as is unique. The calls do nothing: their clauses hold of all texts.
 ghost use Rattle.std.specs.Prelude.{◌≡◌, ◌+◌, ◌≤◌, ◌<◌, ◌^◌, ℕ, List, All, AllPairs, Contains, length, take, drop, map, decimal};
 ghost use Rattle.std.specs.declared.vec.Vec.{Vec as VecOf};
 ghost use Rattle.std.specs.declared.alloc.Global.{Global as GlobalOf};
@@ -17,8 +17,9 @@ ghost use Rattle.text_core.specs.declared.sexps.Sexp.TheVariants as sexps;
 ghost use Rattle.text_core.specs.declared.tokens.Token.{Token};
 ghost use Rattle.text_core.specs.declared.tokens.TokenKind.TheVariants as kinds;
 
-/// A text has one list of tokens at most, no more of them than bytes, each of them that of the bytes at its place and
-/// behind the one before; the bytes of a name are a name. Then the text's bytes have no fault. The first fault is one.
+/// A text has at most one list of tokens, and a text that has one has no fault in its bytes. There are at most as many
+/// tokens as bytes; each token is that of the bytes at its place, and stands behind the one before; the bytes of a name
+/// are a well-formed name. There is at most one first fault.
 pub fn one_lexing()
     ensures tokens { (text : List ℕ) (tokens others : List Token)
         → HasTokens text tokens → HasTokens text others → tokens ≡ others }
@@ -37,9 +38,9 @@ pub fn one_lexing()
         → (place ≡ other) × (kind ≡ another) }
 {}
 
-/// Tokens spell one list of trees at most, and then none of them has a fault. The trees of a text stand one behind the
-/// other within it, and so do the parts of each; their atoms are tokens of the text. The first fault is one, and in
-/// the tokens of a text it is the earliest by its place.
+/// Tokens spell at most one list of trees, and if they do, none of them has a fault. The trees of a text follow one
+/// another within it, and so do the parts of each; their atoms are tokens of the text. There is at most one first
+/// fault; in the tokens of a text it is the one at the lowest place.
 pub fn one_parsing()
     ensures trees { (tokens : List Token) (trees others : SexpTrees)
         → HasTrees tokens trees → HasTrees tokens others → trees ≡ others }
@@ -57,15 +58,15 @@ pub fn one_parsing()
         → IsFirst (IsTreeFaultAt tokens) place kind }
 {}
 
-/// The tree that an atom is, and the one that a list is.
+/// Which tree an atom is, and which tree a list is.
 pub fn sexps_are_trees()
     ensures atoms { (token : Token) → sexp_tree (sexps.Atom token) ≡ atom token }
     ensures lists { (place : ℕ) (parts : VecOf Sexp GlobalOf)
         → sexp_tree (sexps.List place parts) ≡ list place (sexp_trees parts.items) }
 {}
 
-/// A text has one list of lines at most, and then it has no fault. The first fault is one. Lines have as many bytes as
-/// their text.
+/// A text has at most one list of lines, and a text that has one has no fault. There is at most one first fault. Lines
+/// have as many bytes as their text.
 pub fn one_splitting()
     ensures lines { (text : List ℕ) (lines others : List Line)
         → HasLines text lines → HasLines text others → lines ≡ others }
@@ -78,8 +79,8 @@ pub fn one_splitting()
         → HasLines text lines → length text ≡ text_length lines }
 {}
 
-/// Lines that were printed are read back as the same words, wherever they stand in a text, and each text of lines is
-/// what its words print. Decimal numbers and names are words of lines.
+/// Printed lines are read back as the same words, wherever they stand in a text, and each text of lines is what its
+/// words print. Decimal numbers and names can be words of a line.
 pub fn printed_lines_are_lines()
     ensures lines { (place : ℕ) (lines : List Words)
         → All CanBeLine lines → AreLines place (placed_lines place lines) (lines_text lines) }

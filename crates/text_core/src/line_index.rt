@@ -5,8 +5,8 @@ ghost use Rattle.text_core.specs.LineIndex.{IsIndex, lines_in};
 
 use std::marker::Model;
 
-/// A text of lines of words, in which each line and each word is found in constant time. It borrows the text, and
-/// keeps four bytes for each line and for each word.
+/// A text of lines of words, in which each line and each word is found in constant time. It borrows the text, and keeps
+/// four bytes for each line and each word.
 #[derive(Drop)]
 pub struct TextLines<'a> {
     text: &'a [u8],
@@ -49,7 +49,7 @@ impl<'a> TextLines<'a> {
         self.firsts.len() as u32 - 1
     }
 
-    /// The offset of a line's first byte, and the text's length where the line is the count.
+    /// The offset of a line's first byte, or the text's length where the line is the number of lines.
     pub fn place(&self, line: u32) -> u32
         requires { line ≤ length self.now }
         ensures line { line < length self.now → result ≡ (line_at self.now line).place }

@@ -60,7 +60,7 @@ impl Parser {
         self.add(Sexp::List { place, parts })
     }
 
-    /// Takes the token at a place of the list, behind those that it took.
+    /// Takes the token at a place of the list, which comes after those taken before.
     fn step(&mut self, alloc: Global, tokens: &[Token], at: usize) -> Result<(), TextFault>
         requires small { length tokens.now < 2 ^ 29 }
         requires within { at < length tokens.now }
@@ -105,8 +105,8 @@ fn open_behind(kind: TokenKind, depth: usize) -> usize
     }
 }
 
-/// The first fault where an opening parenthesis stands inside 64 others: it, unless the outermost of them has no
-/// closing one.
+/// The first fault where an opening parenthesis stands inside 64 others: the fault of this parenthesis, unless the
+/// outermost of the 64 has no closing one.
 fn fault_inside(tokens: &[Token], at: usize, outermost: u32) -> Fault
     requires small { length tokens.now < 2 ^ 29 }
     requires within { at < length tokens.now }

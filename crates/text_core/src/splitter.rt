@@ -82,7 +82,7 @@ impl Splitter {
         Ok(())
     }
 
-    /// Takes the byte at a place of the text, behind those that it took.
+    /// Takes the byte at a place of the text, which comes after those taken before.
     fn step(&mut self, text: &[u8], at: usize) -> Result<(), TextFault>
         requires small { length text.now < 2 ^ 29 }
         requires bytes { AreLineBytes text.now }

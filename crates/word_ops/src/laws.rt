@@ -18,15 +18,16 @@ pub fn operators_are_listed()
     ensures names { (op other : Operator) → name_of op ≡ name_of other → op ≡ other }
 {}
 
-/// What an operator gives is in range where its operands are.
+/// What an operator gives is in range if its operands are.
 pub fn meanings_are_in_range()
     ensures words { (op : Operator) (vs : List ℕ) → All IsWord vs → IsWord (value_of op vs) }
     ensures values { (world : World) (names : ℕ → List ℕ) (op : TermOperator) (vs : List Value) →
         IsWorld world → IsInRange op → AreOperands op vs → IsValue (sort_of op) (meaning world names op vs) }
 {}
 
-/// A memory after a write: the place holds the word, every other place what it held. Two memories are equal where each
-/// place holds the same word in both.
+/// After a write to a memory, the place holds the word, and every other place what it held before; of two writes to one
+/// place the second counts; and what is written is a memory again. Two memories are equal if each place holds the same
+/// word in both.
 pub fn memories_hold_words()
     ensures put { (m : Memory) (place v : ℕ) → word_at (put_word m place v) place ≡ v }
     ensures others { (m : Memory) (place v other : ℕ) → other ≢ place →
@@ -39,7 +40,8 @@ pub fn memories_hold_words()
         ((place : ℕ) → word_at m place ≡ word_at n place) → m ≡ n }
 {}
 
-/// The bits of a shift, of a sign extended and of a mask of bytes; and a byte put into a word, by the byte operators.
+/// Which bits a shift, a sign extension and a mask of bytes give; and `storeb`, a byte put into a word, in terms of the
+/// operators that mask and insert a byte.
 pub fn words_have_bits()
     ensures shifted_left { (a b i : ℕ) → i < 64 → b % 64 ≤ i →
         bit_at (value.sll a b) i ≡ bit_at a (i - b % 64) }

@@ -1,8 +1,8 @@
 //! The operators on words and memories, and what each gives: the 55 integer operates of the Alpha, six further
-//! operators of terms, and a memory of 64-bit words.
+//! operators of terms, and the operators on a memory of 64-bit words.
 //!
-//! A word is a number below 2 ^ 64, a memory is a finite map from places below 2 ^ 61 to words that aren't 0, and a
-//! world has the registers, the memory at entry and the declared operators that a term is read in.
+//! A word is a number below 2 ^ 64. A memory is a finite map from places below 2 ^ 61 to words that aren't 0. A world
+//! has the registers, the memory at entry and the declared operators; a term has its value in a world.
 #![tactic(auto)]
 
 mod arithmetic;

@@ -43,7 +43,7 @@ pub enum Op {
 }
 
 impl Arity {
-    /// The arity of so many operands, or `None` where there is none.
+    /// The arity of a declared operator with this number of operands, or `None` where there is no such arity.
     pub fn of(count: usize) -> Option<Arity>
         ensures exact { (arity : ArityOf) → (result ≡ Some arity) ↔ (meanings.count_of arity ≡ count) }
     {

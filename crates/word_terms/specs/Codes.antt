@@ -1,5 +1,5 @@
--- Trees, operators and sorts as ghost values that tell them apart, which a type that contracts see as one of them
--- needs. It says nothing of what they mean.
+-- Trees, operators and sorts as ghost values, one for each of them: a type that contracts see as one of them needs such
+-- a value. The values say nothing of what they mean.
 use Rattle.std.specs.Prelude.{◌≡◌, ℕ, ◌==◌, if◌then◌else◌, refl}
 use Rattle.std.specs.Coded.{Coded, code_by, coded×, coded_ℕ}
 use Rattle.std.proofs.Common.{ap, sym, arith}

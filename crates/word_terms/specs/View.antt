@@ -1,4 +1,4 @@
--- The tree that a term is.
+-- The tree that a term stands for.
 use Rattle.std.specs.Prelude.{List, map}
 use Rattle.word_terms.specs.Tree.{Tree, variable, application, operands_of}
 use Rattle.word_terms.specs.declared.term.Term.{Term, Term-F, fold-Term}

@@ -1,5 +1,5 @@
-//! Terms over an operator type: what an operator type has to say of itself, and the calls on terms that every such
-//! type shares.
+//! Terms over an operator type: what an operator type says of itself, and the calls on terms that every such type
+//! shares.
 //!
 //! `Op` of `word_ops` is such a type. `SmallOp` is another, small enough to be read at a glance: the tests of each
 //! crate that is generic in its operators run at both.

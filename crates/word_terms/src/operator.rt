@@ -1,4 +1,4 @@
-// What an operator type has to say of itself.
+// What an operator type says of itself.
 ghost use Rattle.std.specs.Prelude.{◌≡◌, ℕ, ◌<◌, ◌≤◌, List, [], Some};
 ghost use Rattle.word_ops.specs.Worlds.{Value, World, IsWorld, IsValue, word};
 ghost use Rattle.word_ops.specs.declared.sorts.Sort.TheVariants as sorts;

@@ -48,7 +48,7 @@ pub fn application<O: Operator>(op: O, operands: Vec<Term<O>>) -> Term<O>
     Term::App(op, operands)
 }
 
-/// The term with a copy of `values[n]` in place of each variable n. Costs what is written.
+/// The term with a copy of `values[n]` in place of each variable n. The cost is the size of the result.
 pub fn subst<O: Operator>(
     alloc: Global,
     term: &Term<O>,

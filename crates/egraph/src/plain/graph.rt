@@ -132,8 +132,8 @@ impl<O: Operator> Egraph<O> {
         Ok(class)
     }
 
-    /// Puts the classes a and b into one, and whatever congruence then joins. Each of the classes joined costs a
-    /// search for two rows that agree, of all pairs of rows, and a walk over all rows and classes.
+    /// Joins the classes a and b, and whatever congruence then joins. Each join of two classes costs a search among all
+    /// pairs of rows for two that agree, and a walk over all rows and classes.
     pub fn merge(self, a: u32, b: u32) -> Result<Egraph<O>, MergeFault>
         requires a_made { a < length self.current }
         requires b_made { b < length self.current }

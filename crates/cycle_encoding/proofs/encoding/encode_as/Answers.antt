@@ -1,21 +1,21 @@
-use Rattle.std.proofs.Common.{◌≡◌, ◌∙◌, ap, sym, subst, arith, ℕ}
+use Rattle.std.proofs.Common.{◌≡◌, ◌∙◌, ap, sym, subst, arith, ℕ, length}
+use Rattle.std.proofs.lemmas.Result.{err_from_is_err_and}
 use Rattle.graph_meaning.specs.declared.graphs.LaunchGraph.{LaunchGraph}
 use Rattle.machine_table.specs.declared.tables.Table.{Table}
 use Rattle.cycle_encoding.specs.CycleFormula.{Listed, Scope, cycle_formula, first_cycle_in, listed_in}
 use Rattle.cycle_encoding.specs.Variables.{launches_from}
 use Rattle.cycle_encoding.specs.Counts.{cycle_vars, cycle_size}
 use Rattle.cycle_encoding.specs.Encodings.{AreListed}
-use Rattle.cycle_encoding.specs.Plans.{Plan, IsTooLarge, PassesLimit}
+use Rattle.cycle_encoding.specs.Plans.{Plan, IsTooLarge}
 use Rattle.cycle_encoding.specs.declared.encodings.Encoding.{Encoding}
-use Rattle.cycle_encoding.proofs.Built.{passes_by_vars, passes_by_clauses, keeps_within}
 use Rattle.cycle_encoding.proofs.encoding.encode_as.Goals as goal
 
 -- the scope's list is one of the encoding's
 own-list : (e : Encoding) (g h : LaunchGraph) (table : Table) (k : ℕ) (s : Scope) → h ≡ g → AreListed e h table k (listed_in h table k s) → AreListed e g table k (listed_in g table k s)
 own-list e g h table k s eh own = subst (λ x. AreListed e x table k (listed_in x table k s)) eh own
 
-pub returns-then-sizes-gt262144-clause-size : goal.returns-then-sizes-gt262144-clause-size
-returns-then-sizes-gt262144-clause-size c =
+pub returns-in_err-within_limits-clause-size : goal.returns-in_err-within_limits-clause-size
+returns-in_err-within_limits-clause-size c =
     let g = c.args.graph.now in
     let table = c.args.table.now in
     let k = c.args.k in
@@ -23,30 +23,22 @@ returns-then-sizes-gt262144-clause-size c =
     let own = own-list c.args.encoding g c.in_ok-facts.facts table k s c.in_ok-facts.ensures (c.in_ok-scope.ensures.lists k c.requires.cycles) in
     let vars = c.in_ok-sizes.ensures.vars ∙ ap (λ (x : LaunchGraph). cycle_vars x table k s) c.in_ok-facts.ensures ∙ sym (c.cycle_counts_are_found.ensures.vars g table k s) in
     let clauses = c.in_ok-sizes.ensures.clauses ∙ ap (λ (x : LaunchGraph). cycle_size x table k s) c.in_ok-facts.ensures ∙ sym (c.cycle_counts_are_found.ensures.clauses g table k s) in
-    λ l a. subst (λ (x : Listed). PassesLimit (cycle_formula g table k x) c.in_ok-sizes.sizes.vars c.in_ok-sizes.sizes.clauses) (sym (c.each_encoding_has_one_list.ensures c.args.encoding g table k l (listed_in g table k s) a own))
-    (passes_by_vars (cycle_formula g table k (listed_in g table k s)) c.in_ok-sizes.sizes.vars c.in_ok-sizes.sizes.clauses vars clauses c.if-sizes-gt262144.true)
-
-pub returns-then-sizes-gt2000000-clause-size : goal.returns-then-sizes-gt2000000-clause-size
-returns-then-sizes-gt2000000-clause-size c =
-    let g = c.args.graph.now in
-    let table = c.args.table.now in
-    let k = c.args.k in
-    let s = c.in_ok-scope.scope in
-    let own = own-list c.args.encoding g c.in_ok-facts.facts table k s c.in_ok-facts.ensures (c.in_ok-scope.ensures.lists k c.requires.cycles) in
-    let vars = c.in_ok-sizes.ensures.vars ∙ ap (λ (x : LaunchGraph). cycle_vars x table k s) c.in_ok-facts.ensures ∙ sym (c.cycle_counts_are_found.ensures.vars g table k s) in
-    let clauses = c.in_ok-sizes.ensures.clauses ∙ ap (λ (x : LaunchGraph). cycle_size x table k s) c.in_ok-facts.ensures ∙ sym (c.cycle_counts_are_found.ensures.clauses g table k s) in
-    λ l a. subst (λ (x : Listed). PassesLimit (cycle_formula g table k x) c.in_ok-sizes.sizes.vars c.in_ok-sizes.sizes.clauses) (sym (c.each_encoding_has_one_list.ensures c.args.encoding g table k l (listed_in g table k s) a own))
-    (passes_by_clauses (cycle_formula g table k (listed_in g table k s)) c.in_ok-sizes.sizes.vars c.in_ok-sizes.sizes.clauses vars clauses c.if-sizes-gt2000000.true)
+    let p = err_from_is_err_and c.from_residual-in_err-within_limits.result c.from_residual-in_err-within_limits.ensures.1 in
+    rw (p.1, p.2)
+    (λ l a.
+    let same = sym (c.each_encoding_has_one_list.ensures c.args.encoding g table k l (listed_in g table k s) a own) in
+    c.in_err-within_limits.ensures.size (cycle_formula g table k l) (vars ∙ ap (λ (x : Listed). (cycle_formula g table k x).vars) same)
+    (clauses ∙ ap (λ (x : Listed). length (cycle_formula g table k x).clauses) same))
 
 pub build_cycles-requires-clause-vars : goal.build_cycles-requires-clause-vars
 build_cycles-requires-clause-vars c =
     let vars = c.in_ok-sizes.ensures.vars ∙ sym (c.cycle_counts_are_found.ensures.vars c.in_ok-facts.facts c.args.table.now c.args.k c.in_ok-scope.scope) in
-    omega (arith, vars, c.if-sizes-gt262144.false)
+    omega (arith, vars, c.in_ok-within_limits.ensures.few_vars)
 
 pub build_cycles-requires-clause-clauses : goal.build_cycles-requires-clause-clauses
 build_cycles-requires-clause-clauses c =
     let clauses = c.in_ok-sizes.ensures.clauses ∙ sym (c.cycle_counts_are_found.ensures.clauses c.in_ok-facts.facts c.args.table.now c.args.k c.in_ok-scope.scope) in
-    omega (arith, clauses, c.if-sizes-gt2000000.false)
+    omega (arith, clauses, c.in_ok-within_limits.ensures.few_clauses)
 
 pub returns-clause-listed : goal.returns-clause-listed
 returns-clause-listed c =
@@ -92,4 +84,4 @@ returns-clause-within c =
     let vars = c.in_ok-sizes.ensures.vars ∙ ap (λ (x : LaunchGraph). cycle_vars x table k s) c.in_ok-facts.ensures ∙ sym (c.cycle_counts_are_found.ensures.vars g table k s) in
     let clauses = c.in_ok-sizes.ensures.clauses ∙ ap (λ (x : LaunchGraph). cycle_size x table k s) c.in_ok-facts.ensures ∙ sym (c.cycle_counts_are_found.ensures.clauses g table k s) in
     λ l a. subst (λ x. IsTooLarge (cycle_formula g table k x) → ⊥) (sym (c.each_encoding_has_one_list.ensures c.args.encoding g table k l (listed_in g table k s) a own))
-    (keeps_within (cycle_formula g table k (listed_in g table k s)) c.in_ok-sizes.sizes.vars c.in_ok-sizes.sizes.clauses vars clauses (omega (arith, c.if-sizes-gt262144.false)) (omega (arith, c.if-sizes-gt2000000.false)))
+    (c.in_ok-within_limits.ensures.within (cycle_formula g table k (listed_in g table k s)) vars clauses)

@@ -11,6 +11,6 @@ loop-at-preserved g c =
     subst (λ rs. AllZip (λ goal answered. Right Narrow (input_view c.args.input.now) goal c.args.settings.now answered)
     (take (c.loop-at.at + 1) (map goal_view c.args.input.now.goals)) rs) (sym c.in_ok-push.ensures.items)
     (one_more_result (λ goal answered. Right Narrow (input_view c.args.input.now) goal c.args.settings.now answered)
-    (map goal_view c.args.input.now.goals) c.loop-at.results.items c.loop-at.at c.in_ok-solve_goal.field-0
+    (map goal_view c.args.input.now.goals) c.loop-at.results.items c.loop-at.at c.in_ok-solve_by_rules.field-0
     (below_goals c.args.input.now.goals c.loop-at.at (subst (λ n. c.loop-at.at < n) c.len-at-end.ensures c.loop-at-test.true))
-    c.loop-at.invariant c.in_ok-solve_goal.ensures.right)
+    c.loop-at.invariant c.in_ok-solve_by_rules.ensures.right)

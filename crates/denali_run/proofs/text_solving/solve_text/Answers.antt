@@ -1,9 +1,11 @@
-use Rattle.std.proofs.Common.{◌∙◌, map, subst, sym}
+use Rattle.std.proofs.Common.{◌≡◌, ◌∙◌, ap, length, List, map, subst, sym}
 use Rattle.std.proofs.lemmas.List.{length-map}
 use Rattle.answer_texts.specs.ReadAnswers.{ReadsAnswer}
 use Rattle.goal_meaning.specs.Views.{goal_view, input_view}
 use Rattle.goal_meaning.specs.WellFormed.{IsInput}
-use Rattle.denali_run.specs.ClaimedResults.{answer_to}
+use Rattle.denali_run.specs.ClaimedResults.{answer_text, answer_to}
+use Rattle.denali_run.specs.TextAnswers.{greatest_status}
+use Rattle.denali_run.specs.declared.results.Answered.{Answered}
 use Rattle.denali_run.specs.Right.{Right}
 use Rattle.cycle_encoding.specs.declared.encodings.Encoding.TheVariants.{Narrow}
 use Rattle.denali_run.proofs.AnsweredGoals.{as_many}
@@ -12,9 +14,10 @@ use Rattle.denali_run.proofs.text_solving.solve_text.Goals as goal
 
 pub answer_text-requires : goal.answer_text-requires
 answer_text-requires c =
-    as_many (λ goal answered. Right Narrow (input_view c.in-Ok.input) goal c.args.settings.now answered)
+    subst (λ (rs : List Answered). length rs ≡ length c.in-Ok.input.goals) (sym c.deref.ensures.value)
+    (as_many (λ goal answered. Right Narrow (input_view c.in-Ok.input) goal c.args.settings.now answered)
     (map goal_view c.in-Ok.input.goals) c.in_ok-results.results.items c.in_ok-results.ensures.right
-    ∙ length-map c.in-Ok.input.goals goal_view
+    ∙ length-map c.in-Ok.input.goals goal_view)
 
 pub returns-clause-answered : goal.returns-clause-answered
 returns-clause-answered c =
@@ -23,16 +26,20 @@ returns-clause-answered c =
     let results = c.in_ok-results.results.items in
     let is : IsInput (input_view c.in-Ok.input) =
     c.read_inputs_are_well_formed.ensures text input c.requires.few c.in-Ok.ensures.input in
+    let bytes : c.in_ok-answer_text.field-0.bytes.items
+    ≡ answer_text Narrow (input_view c.in-Ok.input) c.in_ok-results.results.items =
+    c.in_ok-answer_text.ensures.bytes
+    ∙ ap (answer_text Narrow (input_view c.in-Ok.input)) c.deref.ensures.value in
     record {
       input = input;
       reads = c.in-Ok.ensures.input;
       results = results;
       right = c.in_ok-results.ensures.right;
-      bytes_are = c.in_ok-answer_text.ensures.bytes;
+      bytes_are = bytes;
       read_back = λ short.
-          subst (λ bytes. ReadsAnswer bytes (answer_to Narrow input results)) (sym c.in_ok-answer_text.ensures.bytes)
+          subst (λ bytes. ReadsAnswer bytes (answer_to Narrow input results)) (sym bytes)
           (c.right_answers_are_read.ensures c.args.settings.now input results is c.requires.settings
           (starts_small text input is (c.read_inputs_have_few_operators.ensures text input c.in-Ok.ensures.input) short)
           c.in_ok-results.ensures.right);
-      status_is = c.in_ok-answer_text.ensures.status;
+      status_is = c.in_ok-answer_text.ensures.status ∙ ap greatest_status c.deref.ensures.value;
     }

@@ -2,7 +2,7 @@ use Rattle.std.proofs.Common.{ℕ, ◌≡◌, ◌≢◌, ◌∙◌, List, ◌++�
 use Rattle.std.proofs.lemmas.Bool.{cases_eq}
 use Rattle.slab.specs.Slab.{get}
 use Rattle.egraph.specs.declared.rows.Row.{Row}
-use Rattle.egraph.specs.Keys.{key_of, place_in, constant_at}
+use Rattle.egraph.specs.Keys.{key_of_row, indexed_place, constant_at}
 use Rattle.egraph.proofs.Growth.{grown_listed, added_listed, added_indexed, kept_indexed}
 use Rattle.egraph.proofs.growing.add_row.Goals as goal
 
@@ -63,7 +63,7 @@ returns-clause-indexed g c =
     let there : get rows place ≡ Some row = subst (λ k. get rows k ≡ Some row) ek c.insert_reserved.ensures.updates.changed in
     let others : (other : ℕ) → other ≢ place → get rows other ≡ get t.rows other = λ o d. c.insert_reserved.ensures.updates.others o (λ e. d (e ∙ ek)) ∙ ap (λ x. get x o) m.rows in
     let operands : c.from.result ≡ c.deref.result.now = c.from.ensures ∙ sym c.deref.ensures.value in
-    let key : key_of s c.args.op c.from.result ≡ key_of s c.args.op c.deref.result.now = ap (key_of s c.args.op) operands in
+    let key : key_of_row s c.args.op c.from.result ≡ key_of_row s c.args.op c.deref.result.now = ap (key_of_row s c.args.op) operands in
     added_indexed s t.rows rows place row there others g.met.O.Operator.key_is_own g.met.O.Operator.takes_at_most_four t.index n.index c.requires.indexed
     (ap length c.from.ensures ∙ c.requires.arity) c.requires.listed.arities (λ at r h o k. c.requires.absent at r h o (k ∙ c.from.ensures))
-    (ap (place_in n.index) key ∙ m.indexed) (λ k d. m.index k (λ e. d (e ∙ sym key)))
+    (ap (indexed_place n.index) key ∙ m.indexed) (λ k d. m.index k (λ e. d (e ∙ sym key)))

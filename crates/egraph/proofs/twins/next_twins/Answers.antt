@@ -1,5 +1,5 @@
 use Rattle.std.proofs.Common.{ℕ, ◌≡◌, ◌-◌, ◌∙◌, List, ◌++◌, ◌∷◌, [], Some, length, slice_get, sym, ap, subst}
-use Rattle.egraph.specs.Keys.{key_of}
+use Rattle.egraph.specs.Keys.{key_of_row}
 use Rattle.egraph.specs.Tables.{IsTracked}
 use Rattle.egraph.proofs.Places.{noted_tracked, vacant_tracked, popped}
 use Rattle.egraph.proofs.twins.next_twins.Goals as goal
@@ -26,7 +26,7 @@ loop-place-preserved g c =
     λ k h. elim c.match-get.branch [
       | in-Some-get+in_default-find_twin+in_ok-note w ↦
           let row = w.in-Some-get.row.now in
-          let is_key : w.row_key-key.result ≡ key_of s row.op row.operands = w.row_key-key.ensures ∙ ap (key_of s row.op) w.as_slice.ensures in
+          let is_key : w.row_key-key.result ≡ key_of_row s row.op row.operands = w.row_key-key.ensures ∙ ap (key_of_row s row.op) w.as_slice.ensures in
           subst (λ x. IsTracked s rows x waiting' k) (sym w.index-is)
           (noted_tracked s g.met.O.Operator.key_is_own g.met.O.Operator.takes_at_most_four rows c.loop-place.index w.note.new.self waiting waiting' place row w.row_key-key.result is_key c.requires.arities (sym w.in-Some-get.ensures) ew w.in_default-find_twin.ensures w.in_ok-note.ensures.noted w.in_ok-note.ensures.others k (c.loop-place.invariant k h))
       | in_default-get w ↦

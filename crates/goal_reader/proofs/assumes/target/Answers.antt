@@ -1,4 +1,5 @@
 use Rattle.std.proofs.Common.{◌≡◌, ◌<◌, List, [], ◌∷◌, Option, Some, length, sym, ◌∙◌, ap, refl, subst, arith}
+use Rattle.std.proofs.lemmas.Result.{err_from_is_err_and}
 use Rattle.word_ops.specs.declared.sorts.Sort.{Sort}
 use Rattle.word_terms.specs.View.{tree_of}
 use Rattle.text_core.specs.declared.faults.Kind.TheVariants.{BadForm}
@@ -6,13 +7,18 @@ use Rattle.text_core.specs.Faults.{IsFirst, IsFaultBy}
 use Rattle.forms.specs.Forms.{place_of, sexp_form, parts_of, part}
 use Rattle.forms.proofs.Told.{told, told_of_part}
 use Rattle.goal_reader.specs.Roles as roles
-use Rattle.goal_reader.specs.Roles.{Role, Shape, IsFaultAs, WritesTerm, sort_in, ◌>>=◌, target_sort}
+use Rattle.goal_reader.specs.Roles.{Role, Shape, IsFaultAs, WritesTerm, sort_in, ◌>>=◌, target_sort, goal_keywords}
 use Rattle.goal_reader.proofs.Fixed.{short_first, clear_none, clear_more, part_first, whole_clear, wrong_first}
 use Rattle.goal_reader.proofs.NewNames.{nth_part, part_of, count_form, set_only, fresh_name_clear, target_told, target_sort_told}
 use Rattle.goal_reader.proofs.Apart.{writes_clear}
 use Rattle.goal_reader.specs.Reading.{names_of_targets}
 use Rattle.goal_meaning.specs.WellFormed.{sort_of_target}
+use Rattle.goal_reader.proofs.Ranks.{has_parts}
 use Rattle.goal_reader.proofs.assumes.target.Goals as goal
+
+pub unreachable-requires : goal.unreachable-requires
+unreachable-requires c =
+    has_parts goal_keywords 4 (sexp_form c.args.text.now c.args.form.now) c.requires.keyword (c.in_default.ensures.parts c.args.text.now)
 
 pub returns-then-parts-lt3-clause-fault : goal.returns-then-parts-lt3-clause-fault
 returns-then-parts-lt3-clause-fault c =
@@ -30,8 +36,9 @@ returns-then-parts-lt3-clause-fault c =
     told (IsFaultAs (roles.a_list shape) form) c.at.result c.place.result (place_of form) _ c.at.ensures (c.place.ensures text)
     (short_first shape form each s.0 s.1 s.2 only (λ at. refl) (let f = c.if-parts-lt3.true in omega (arith, count, f)))
 
-pub returns-in-Err-clause-fault : goal.returns-in-Err-clause-fault
-returns-in-Err-clause-fault c =
+pub returns-in_err-bytes-clause-fault : goal.returns-in_err-bytes-clause-fault
+returns-in_err-bytes-clause-fault c =
+    let p = err_from_is_err_and c.from_residual.result c.from_residual.ensures.1 in
     let text = c.args.text.now in
     let form = sexp_form text c.args.form.now in
     let scope = c.args.scope.now in
@@ -46,11 +53,13 @@ returns-in-Err-clause-fault c =
     let enough : length (parts_of form) < 3 → ⊥ = λ l. (let f = c.if-parts-lt3.false in omega (arith, count, l, f)) in
     let none = clear_none shape form each s.0 s.1 s.2 only (λ at. refl) in
     let g1 = nth_part text form (place_of form) parts 1 c.index-parts-1.result is (let f = c.if-parts-lt3.false in omega (arith, f)) c.index-parts-1.is in
-    told_of_part (IsFaultAs (roles.fresh_name (names_of_targets c.args.targets.now)) (sexp_form text c.index-parts-1.result)) (IsFaultAs (roles.a_list shape) form)
-    (λ p k first. part_first shape form each s.0 s.1 s.2 only (λ at. refl) 0 (sexp_form text c.index-parts-1.result) p k enough none g1 first) c.in-Err.fault c.in-Err.ensures.fault
+    rw (p.1, p.2)
+    (told_of_part (IsFaultAs (roles.fresh_name (names_of_targets c.args.targets.now)) (sexp_form text c.index-parts-1.result)) (IsFaultAs (roles.a_list shape) form)
+    (λ p k first. part_first shape form each s.0 s.1 s.2 only (λ at. refl) 0 (sexp_form text c.index-parts-1.result) p k enough none g1 first) c.in_err-bytes.field-0.0 c.in_err-bytes.ensures.fault)
 
-pub returns-in-Err-term-clause-fault : goal.returns-in-Err-term-clause-fault
-returns-in-Err-term-clause-fault c =
+pub returns-in_err-value-clause-fault : goal.returns-in_err-value-clause-fault
+returns-in_err-value-clause-fault c =
+    let p = err_from_is_err_and c.from_residual-in_err-value.result c.from_residual-in_err-value.ensures.1 in
     let text = c.args.text.now in
     let form = sexp_form text c.args.form.now in
     let scope = c.args.scope.now in
@@ -65,13 +74,14 @@ returns-in-Err-term-clause-fault c =
     let enough : length (parts_of form) < 3 → ⊥ = λ l. (let f = c.if-parts-lt3.false in omega (arith, count, l, f)) in
     let none = clear_none shape form each s.0 s.1 s.2 only (λ at. refl) in
     let g1 = nth_part text form (place_of form) parts 1 c.index-parts-1.result is (let f = c.if-parts-lt3.false in omega (arith, f)) c.index-parts-1.is in
-    let clear1 = clear_more shape form each s.0 s.1 s.2 only (λ at. refl) 0 (sexp_form text c.index-parts-1.result) none g1 (fresh_name_clear _ _ c.in-Ok.bytes.now c.in-Ok.ensures.named c.in-Ok.ensures.fresh) in
+    let clear1 = clear_more shape form each s.0 s.1 s.2 only (λ at. refl) 0 (sexp_form text c.index-parts-1.result) none g1 (fresh_name_clear _ _ c.in_ok-bytes.bytes.now c.in_ok-bytes.ensures.named c.in_ok-bytes.ensures.fresh) in
     let g2 = nth_part text form (place_of form) parts 2 c.index-parts-2.result is (let f = c.if-parts-lt3.false in omega (arith, f)) c.index-parts-2.is in
-    let named = target_told form _ c.in-Ok.bytes.now g1 c.in-Ok.ensures.named in
-    let sorted : Some c.sort_wanted-sort.result ≡ second = ap Some c.sort_wanted-sort.ensures ∙ target_sort_told form c.in-Ok.bytes.now named in
-    let told = subst (λ w. IsFaultBy (IsFirst (IsFaultAs (roles.term scope w) (sexp_form text c.index-parts-2.result))) c.in-Err-term.fault) sorted c.in-Err-term.ensures.fault in
-    told_of_part (IsFaultAs (roles.term scope second) (sexp_form text c.index-parts-2.result)) (IsFaultAs (roles.a_list shape) form)
-    (λ p k first. part_first shape form each s.0 s.1 s.2 only (λ at. refl) 1 (sexp_form text c.index-parts-2.result) p k enough clear1 g2 first) c.in-Err-term.fault told
+    let named = target_told form _ c.in_ok-bytes.bytes.now g1 c.in_ok-bytes.ensures.named in
+    let sorted : Some c.sort_wanted-sort.result ≡ second = ap Some c.sort_wanted-sort.ensures ∙ target_sort_told form c.in_ok-bytes.bytes.now named in
+    let told = subst (λ w. IsFaultBy (IsFirst (IsFaultAs (roles.term scope w) (sexp_form text c.index-parts-2.result))) c.in_err-value.field-0.0) sorted c.in_err-value.ensures.fault in
+    rw (p.1, p.2)
+    (told_of_part (IsFaultAs (roles.term scope second) (sexp_form text c.index-parts-2.result)) (IsFaultAs (roles.a_list shape) form)
+    (λ p k first. part_first shape form each s.0 s.1 s.2 only (λ at. refl) 1 (sexp_form text c.index-parts-2.result) p k enough clear1 g2 first) c.in_err-value.field-0.0 told)
 
 pub returns-then-parts-gt3-clause-fault : goal.returns-then-parts-gt3-clause-fault
 returns-then-parts-gt3-clause-fault c =
@@ -89,11 +99,11 @@ returns-then-parts-gt3-clause-fault c =
     let enough : length (parts_of form) < 3 → ⊥ = λ l. (let f = c.if-parts-lt3.false in omega (arith, count, l, f)) in
     let none = clear_none shape form each s.0 s.1 s.2 only (λ at. refl) in
     let g1 = nth_part text form (place_of form) parts 1 c.index-parts-1.result is (let f = c.if-parts-lt3.false in omega (arith, f)) c.index-parts-1.is in
-    let clear1 = clear_more shape form each s.0 s.1 s.2 only (λ at. refl) 0 (sexp_form text c.index-parts-1.result) none g1 (fresh_name_clear _ _ c.in-Ok.bytes.now c.in-Ok.ensures.named c.in-Ok.ensures.fresh) in
+    let clear1 = clear_more shape form each s.0 s.1 s.2 only (λ at. refl) 0 (sexp_form text c.index-parts-1.result) none g1 (fresh_name_clear _ _ c.in_ok-bytes.bytes.now c.in_ok-bytes.ensures.named c.in_ok-bytes.ensures.fresh) in
     let g2 = nth_part text form (place_of form) parts 2 c.index-parts-2.result is (let f = c.if-parts-lt3.false in omega (arith, f)) c.index-parts-2.is in
-    let named = target_told form _ c.in-Ok.bytes.now g1 c.in-Ok.ensures.named in
-    let sorted : Some c.sort_wanted-sort.result ≡ second = ap Some c.sort_wanted-sort.ensures ∙ target_sort_told form c.in-Ok.bytes.now named in
-    let right = subst (λ w. WritesTerm scope w (sexp_form text c.index-parts-2.result) (tree_of c.in-Ok-term.value)) sorted c.in-Ok-term.ensures.term in
+    let named = target_told form _ c.in_ok-bytes.bytes.now g1 c.in_ok-bytes.ensures.named in
+    let sorted : Some c.sort_wanted-sort.result ≡ second = ap Some c.sort_wanted-sort.ensures ∙ target_sort_told form c.in_ok-bytes.bytes.now named in
+    let right = subst (λ w. WritesTerm scope w (sexp_form text c.index-parts-2.result) (tree_of c.in_ok-value.value)) sorted c.in_ok-value.ensures.term in
     let clear2 = clear_more shape form each s.0 s.1 s.2 only (λ at. refl) 1 (sexp_form text c.index-parts-2.result) clear1 g2 (writes_clear right.writes second right.wanted_one) in
     let g3 = nth_part text form (place_of form) parts 3 c.index-parts-3.result is c.if-parts-gt3.true c.index-parts-3.is in
     let of = c.sexps_are_forms.ensures.stands text c.index-parts-3.result (part_of text parts 3 c.index-parts-3.result (c.in-Some.ensures.of text c.requires.of) c.if-parts-gt3.true c.index-parts-3.is) in
@@ -116,10 +126,10 @@ returns-clause-named c =
     let enough : length (parts_of form) < 3 → ⊥ = λ l. (let f = c.if-parts-lt3.false in omega (arith, count, l, f)) in
     let none = clear_none shape form each s.0 s.1 s.2 only (λ at. refl) in
     let g1 = nth_part text form (place_of form) parts 1 c.index-parts-1.result is (let f = c.if-parts-lt3.false in omega (arith, f)) c.index-parts-1.is in
-    let clear1 = clear_more shape form each s.0 s.1 s.2 only (λ at. refl) 0 (sexp_form text c.index-parts-1.result) none g1 (fresh_name_clear _ _ c.in-Ok.bytes.now c.in-Ok.ensures.named c.in-Ok.ensures.fresh) in
+    let clear1 = clear_more shape form each s.0 s.1 s.2 only (λ at. refl) 0 (sexp_form text c.index-parts-1.result) none g1 (fresh_name_clear _ _ c.in_ok-bytes.bytes.now c.in_ok-bytes.ensures.named c.in_ok-bytes.ensures.fresh) in
     let g2 = nth_part text form (place_of form) parts 2 c.index-parts-2.result is (let f = c.if-parts-lt3.false in omega (arith, f)) c.index-parts-2.is in
-    let named = target_told form _ c.in-Ok.bytes.now g1 c.in-Ok.ensures.named in
-    let sorted : Some c.sort_wanted-sort.result ≡ second = ap Some c.sort_wanted-sort.ensures ∙ target_sort_told form c.in-Ok.bytes.now named in
+    let named = target_told form _ c.in_ok-bytes.bytes.now g1 c.in_ok-bytes.ensures.named in
+    let sorted : Some c.sort_wanted-sort.result ≡ second = ap Some c.sort_wanted-sort.ensures ∙ target_sort_told form c.in_ok-bytes.bytes.now named in
     named ∙ ap Some (sym c.in_ok-name.ensures)
 
 pub returns-clause-value : goal.returns-clause-value
@@ -138,11 +148,11 @@ returns-clause-value c =
     let enough : length (parts_of form) < 3 → ⊥ = λ l. (let f = c.if-parts-lt3.false in omega (arith, count, l, f)) in
     let none = clear_none shape form each s.0 s.1 s.2 only (λ at. refl) in
     let g1 = nth_part text form (place_of form) parts 1 c.index-parts-1.result is (let f = c.if-parts-lt3.false in omega (arith, f)) c.index-parts-1.is in
-    let clear1 = clear_more shape form each s.0 s.1 s.2 only (λ at. refl) 0 (sexp_form text c.index-parts-1.result) none g1 (fresh_name_clear _ _ c.in-Ok.bytes.now c.in-Ok.ensures.named c.in-Ok.ensures.fresh) in
+    let clear1 = clear_more shape form each s.0 s.1 s.2 only (λ at. refl) 0 (sexp_form text c.index-parts-1.result) none g1 (fresh_name_clear _ _ c.in_ok-bytes.bytes.now c.in_ok-bytes.ensures.named c.in_ok-bytes.ensures.fresh) in
     let g2 = nth_part text form (place_of form) parts 2 c.index-parts-2.result is (let f = c.if-parts-lt3.false in omega (arith, f)) c.index-parts-2.is in
-    let named = target_told form _ c.in-Ok.bytes.now g1 c.in-Ok.ensures.named in
-    let sorted : Some c.sort_wanted-sort.result ≡ second = ap Some c.sort_wanted-sort.ensures ∙ target_sort_told form c.in-Ok.bytes.now named in
-    record { part = sexp_form text c.index-parts-2.result; found = g2; writes = subst (λ w. WritesTerm scope (Some w) (sexp_form text c.index-parts-2.result) (tree_of c.in-Ok-term.value)) (c.sort_wanted-sort.ensures ∙ ap sort_of_target (sym c.in_ok-name.ensures)) c.in-Ok-term.ensures.term }
+    let named = target_told form _ c.in_ok-bytes.bytes.now g1 c.in_ok-bytes.ensures.named in
+    let sorted : Some c.sort_wanted-sort.result ≡ second = ap Some c.sort_wanted-sort.ensures ∙ target_sort_told form c.in_ok-bytes.bytes.now named in
+    record { part = sexp_form text c.index-parts-2.result; found = g2; writes = subst (λ w. WritesTerm scope (Some w) (sexp_form text c.index-parts-2.result) (tree_of c.in_ok-value.value)) (c.sort_wanted-sort.ensures ∙ ap sort_of_target (sym c.in_ok-name.ensures)) c.in_ok-value.ensures.term }
 
 pub returns-clause-clear : goal.returns-clause-clear
 returns-clause-clear c =
@@ -160,10 +170,10 @@ returns-clause-clear c =
     let enough : length (parts_of form) < 3 → ⊥ = λ l. (let f = c.if-parts-lt3.false in omega (arith, count, l, f)) in
     let none = clear_none shape form each s.0 s.1 s.2 only (λ at. refl) in
     let g1 = nth_part text form (place_of form) parts 1 c.index-parts-1.result is (let f = c.if-parts-lt3.false in omega (arith, f)) c.index-parts-1.is in
-    let clear1 = clear_more shape form each s.0 s.1 s.2 only (λ at. refl) 0 (sexp_form text c.index-parts-1.result) none g1 (fresh_name_clear _ _ c.in-Ok.bytes.now c.in-Ok.ensures.named c.in-Ok.ensures.fresh) in
+    let clear1 = clear_more shape form each s.0 s.1 s.2 only (λ at. refl) 0 (sexp_form text c.index-parts-1.result) none g1 (fresh_name_clear _ _ c.in_ok-bytes.bytes.now c.in_ok-bytes.ensures.named c.in_ok-bytes.ensures.fresh) in
     let g2 = nth_part text form (place_of form) parts 2 c.index-parts-2.result is (let f = c.if-parts-lt3.false in omega (arith, f)) c.index-parts-2.is in
-    let named = target_told form _ c.in-Ok.bytes.now g1 c.in-Ok.ensures.named in
-    let sorted : Some c.sort_wanted-sort.result ≡ second = ap Some c.sort_wanted-sort.ensures ∙ target_sort_told form c.in-Ok.bytes.now named in
-    let right = subst (λ w. WritesTerm scope w (sexp_form text c.index-parts-2.result) (tree_of c.in-Ok-term.value)) sorted c.in-Ok-term.ensures.term in
+    let named = target_told form _ c.in_ok-bytes.bytes.now g1 c.in_ok-bytes.ensures.named in
+    let sorted : Some c.sort_wanted-sort.result ≡ second = ap Some c.sort_wanted-sort.ensures ∙ target_sort_told form c.in_ok-bytes.bytes.now named in
+    let right = subst (λ w. WritesTerm scope w (sexp_form text c.index-parts-2.result) (tree_of c.in_ok-value.value)) sorted c.in_ok-value.ensures.term in
     let clear2 = clear_more shape form each s.0 s.1 s.2 only (λ at. refl) 1 (sexp_form text c.index-parts-2.result) clear1 g2 (writes_clear right.writes second right.wanted_one) in
     whole_clear shape form each s.0 s.1 s.2 only (λ at. refl) 2 enough (let f = c.if-parts-gt3.false in omega (arith, count, f)) clear2

@@ -8,4 +8,4 @@ abbrev put : Draft → List Assume → Draft
 put d xs = record { scope = d.scope; inputs = d.inputs; pool = d.pool; assumes = xs; guard = d.guard; sets = d.sets }
 
 pub returns-clause-next : goal.returns-clause-next
-returns-clause-next c = drafts.assume c.in-Ok.one c.in-Ok.ensures.left c.in-Ok.ensures.right (ap (λ xs. put c.args.draft xs) c.in_ok-push.ensures.ok)
+returns-clause-next c = drafts.assume c.in_ok-one.one c.in_ok-one.ensures.left c.in_ok-one.ensures.right (ap (λ xs. put c.args.draft xs) c.in_ok-push.ensures.ok)

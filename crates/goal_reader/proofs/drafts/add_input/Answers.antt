@@ -12,6 +12,6 @@ put d leaves inputs = record { scope = record { declared = d.scope.declared; lea
 pub returns-clause-next : goal.returns-clause-next
 returns-clause-next c =
     let d = c.args.draft in
-    let i = c.in-Ok.input in
+    let i = c.in_ok-input.input in
     let leaves = c.in_ok-push.ensures.ok ∙ ap (λ name. d.scope.leaves ++ (record { name = name; named = Input i.reg }) ∷ []) c.in_ok-name.ensures in
-    drafts.input i c.in-Ok.ensures.input (ap₂ (put d) leaves c.in_ok-push-2.ensures.ok)
+    drafts.input i c.in_ok-input.ensures.input (ap₂ (put d) leaves c.in_ok-push-2.ensures.ok)

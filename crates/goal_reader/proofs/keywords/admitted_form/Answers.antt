@@ -1,9 +1,11 @@
-use Rattle.std.proofs.Common.{◌≡◌, ◌≤◌, length, sym, ap, subst}
+use Rattle.std.proofs.Common.{◌≡◌, ◌<◌, ◌≤◌, true, false, length, refl, sym, ap, ◌∙◌, subst, arith}
+use Rattle.std.specs.List.{list_any}
 use Rattle.text_core.specs.declared.faults.Kind.TheVariants.{BadForm}
 use Rattle.text_core.specs.Faults.{IsFirst}
 use Rattle.forms.specs.Forms.{place_of, sexp_form}
 use Rattle.forms.proofs.Told.{told}
-use Rattle.goal_reader.specs.Roles.{Role, wrong, text_keywords, text_bounds, bound_at, of_rank, role_in, role_of_rank}
+use Rattle.goal_reader.specs.Roles.{Role, wrong, text_keywords, text_bounds, bound_at, is_later_than, of_rank, role_in, role_of_rank}
+use Rattle.goal_reader.specs.Keywords.{form_rank}
 use Rattle.goal_reader.specs.declared.order.Admission.TheVariants.{OutOfOrder, Beyond}
 use Rattle.goal_reader.specs.TextFaults.{IsFormFault}
 use Rattle.goal_reader.proofs.Admitting.{role_told, wrong_form_first, beyond_form_first}
@@ -23,7 +25,9 @@ returns-in-OutOfOrder-clause-fault c = λ before inner h.
     let text = c.args.text.now in
     let form = sexp_form text c.args.form.now in
     let s = c.sexps_are_forms.ensures.stands text c.args.form.now c.requires.of in
-    let role = role_told text_keywords text_bounds before inner form c.in-Some.rank OutOfOrder (sym c.in-Some.ensures) (c.in-OutOfOrder.ensures.admission text_keywords before h) in
+    let late : list_any (is_later_than text_keywords (form_rank c.in-Some.keyword)) before ≡ true =
+    subst (λ n. list_any (is_later_than text_keywords n) before ≡ true) c.rank.ensures (c.in-OutOfOrder.ensures.admission text_keywords before h) in
+    let role = role_told text_keywords text_bounds before inner form (form_rank c.in-Some.keyword) OutOfOrder (sym c.in-Some.ensures) late in
     told (IsFormFault (role_in text_keywords text_bounds before inner form) form) c.at-in-OutOfOrder.result c.place-in-OutOfOrder.result (place_of form) _ c.at-in-OutOfOrder.ensures (c.place-in-OutOfOrder.ensures text)
     (subst (λ (r : Role). IsFirst (IsFormFault r form) (place_of form) BadForm) (sym role) (wrong_form_first form s.0 s.1 s.2))
 
@@ -32,11 +36,31 @@ returns-in-Beyond-clause-fault c = λ before inner h.
     let text = c.args.text.now in
     let form = sexp_form text c.args.form.now in
     let s = c.sexps_are_forms.ensures.stands text c.args.form.now c.requires.of in
-    let at = c.in-Some.rank in
+    let at = form_rank c.in-Some.keyword in
     let beyond = (bound_at text_bounds at).beyond in
-    let is = c.in-Beyond.ensures.admission text_keywords before h in
-    let most : (bound_at text_bounds at).most ≤ length (of_rank text_keywords at before) = subst (λ n. n ≤ length (of_rank text_keywords at before)) c.text_most.ensures.most is.1 in
+    let is =
+    subst (λ n. (list_any (is_later_than text_keywords n) before ≡ false) × (c.most.result ≤ length (of_rank text_keywords n before)))
+    c.rank.ensures (c.in-Beyond.ensures.admission text_keywords before h) in
+    let most : (bound_at text_bounds at).most ≤ length (of_rank text_keywords at before) = subst (λ n. n ≤ length (of_rank text_keywords at before)) c.most.ensures.most is.1 in
     let role = role_told text_keywords text_bounds before inner form at Beyond (sym c.in-Some.ensures) (is.0, most) in
-    let first = subst (λ k. IsFirst (IsFormFault beyond form) (place_of form) k) (sym c.text_beyond.ensures) (beyond_form_first form s.0 s.1 s.2 at) in
+    let first = subst (λ k. IsFirst (IsFormFault beyond form) (place_of form) k) (sym c.beyond.ensures) (beyond_form_first form s.0 s.1 s.2 at) in
     told (IsFormFault (role_in text_keywords text_bounds before inner form) form) c.at-in-Beyond.result c.place-in-Beyond.result (place_of form) _ c.at-in-Beyond.ensures (c.place-in-Beyond.ensures text)
-    (subst (λ (r : Role). IsFirst (IsFormFault r form) (place_of form) c.text_beyond.result) (sym role) first)
+    (subst (λ (r : Role). IsFirst (IsFormFault r form) (place_of form) c.beyond.result) (sym role) first)
+
+pub returns-in-Admitted-clause-admitted : goal.returns-in-Admitted-clause-admitted
+returns-in-Admitted-clause-admitted c = λ before h.
+    let at = form_rank c.in-Some.keyword in
+    let is =
+    subst (λ n. (list_any (is_later_than text_keywords n) before ≡ false) × (length (of_rank text_keywords n before) < c.most.result))
+    c.rank.ensures (c.in-Admitted.ensures.admission text_keywords before h) in
+    (is.0, subst (λ most. length (of_rank text_keywords at before) < most) c.most.ensures.most is.1)
+
+pub returns-in-Admitted-clause-later : goal.returns-in-Admitted-clause-later
+returns-in-Admitted-clause-later c =
+    subst (λ n. c.args.order.now.last ≤ n) c.rank.ensures (c.in-Admitted.ensures.next refl).0
+
+pub returns-in-Admitted-clause-few : goal.returns-in-Admitted-clause-few
+returns-in-Admitted-clause-few c = λ is.
+    let fewer = (c.in-Admitted.ensures.next refl).1 (c.rank.ensures ∙ is) in
+    let most = c.most.ensures.few in
+    omega (arith, fewer, most)

@@ -1,4 +1,5 @@
 use Rattle.std.proofs.Common.{◌≡◌, ◌-◌, List, length, take, drop, sym, ◌∙◌, ap, subst, arith}
+use Rattle.std.proofs.lemmas.Result.{err_from_is_err_and}
 use Rattle.text_core.specs.declared.sexps.Sexp.{Sexp}
 use Rattle.word_ops.specs.Meanings.{operand_sort}
 use Rattle.word_terms.specs.View.{trees_of}
@@ -63,8 +64,9 @@ operand_sort-sort-requires t c =
     let m = length-drop 1 d in
     omega (arith, n, e, r, l, m)
 
-pub returns-in-Err-clause-fault : goal.returns-in-Err-clause-fault
-returns-in-Err-clause-fault t c =
+pub returns-in_err-operand-in-List-clause-fault : goal.returns-in_err-operand-in-List-clause-fault
+returns-in_err-operand-in-List-clause-fault t c =
+    let p = err_from_is_err_and c.from_residual-in_err-operand-in-List.result c.from_residual-in_err-operand-in-List.ensures.1 in
     let text = c.args.text.now in
     let form = sexp_form text c.args.form.now in
     let is = list_form text (c.sexps_are_forms.ensures.lists text) c.args.form.now c.in-List.place c.in-List.parts c.in-List.is in
@@ -73,10 +75,11 @@ returns-in-Err-clause-fault t c =
     let s = c.sexps_are_forms.ensures.stands text c.args.form.now c.requires.of in
     let op = c.in_ok-op-in-List.op in
     let part = sexp_form text c.index-rest-index.result in
-    let told = subst (λ (x : Sort). IsFaultBy (IsFirst (IsFaultAs (term c.args.scope.now (Some x)) part)) c.in-Err.fault) c.operand_sort-sort.ensures c.in-Err.ensures.fault in
-    told_of_part (IsFaultAs (term c.args.scope.now (Some (operand_sort op c.loop-index.index))) part) (IsFaultAs (term c.args.scope.now c.args.wanted) form)
+    let told = subst (λ (x : Sort). IsFaultBy (IsFirst (IsFaultAs (term c.args.scope.now (Some x)) part)) c.in_err-operand-in-List.field-0.0) c.operand_sort-sort.ensures c.in_err-operand-in-List.ensures.fault in
+    rw (p.1, p.2)
+    (told_of_part (IsFaultAs (term c.args.scope.now (Some (operand_sort op c.loop-index.index))) part) (IsFaultAs (term c.args.scope.now c.args.wanted) form)
     (λ p k first. operand_first c.args.scope.now c.args.wanted form c.in-List.place s.0 s.1 s.2 op c.in_ok-op-in-List.ensures.op text c.in-List.parts.items _ (trees_of c.loop-index.operands.items) c.index-rest-index.result c.loop-index.index p k is rest c.loop-index-test.true c.index-rest-index.is c.loop-index.invariant.writes first)
-    c.in-Err.fault told
+    c.in_err-operand-in-List.field-0.0 told)
 
 pub returns-after-loop-index-clause-term : goal.returns-after-loop-index-clause-term
 returns-after-loop-index-clause-term t c =
@@ -95,8 +98,8 @@ returns-after-loop-index-clause-term t c =
 pub loop-index-preserved : goal.loop-index-preserved
 loop-index-preserved t c =
     record {
-      writes = step_writes c.args.scope.now c.in_ok-op-in-List.op c.args.text.now _ c.loop-index.operands.items c.push.new.self.items c.index-rest-index.result c.in-Ok.operand c.operand_sort-sort.result c.loop-index.index c.loop-index-test.true c.index-rest-index.is c.operand_sort-sort.ensures
-          c.in_ok-push-in-Ok.ensures.items c.loop-index.invariant.writes c.in-Ok.ensures.term;
+      writes = step_writes c.args.scope.now c.in_ok-op-in-List.op c.args.text.now _ c.loop-index.operands.items c.push.new.self.items c.index-rest-index.result c.in_ok-operand-in-List.operand c.operand_sort-sort.result c.loop-index.index c.loop-index-test.true c.index-rest-index.is c.operand_sort-sort.ensures
+          c.in_ok-push-in-List.ensures.items c.loop-index.invariant.writes c.in_ok-operand-in-List.ensures.term;
       of = c.loop-index.invariant.of;
     }
 

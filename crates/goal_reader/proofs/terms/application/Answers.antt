@@ -1,4 +1,5 @@
 use Rattle.std.proofs.Common.{◌≡◌, ◌+◌, length, sym, ◌∙◌, ap, refl, subst}
+use Rattle.std.proofs.lemmas.Bool.{false≢true}
 use Rattle.std.proofs.lemmas.List.{length-map}
 use Rattle.word_ops.specs.Meanings.{arity_of_op}
 use Rattle.forms.specs.Forms.{place_of, sexp_form, sexp_forms}
@@ -7,6 +8,9 @@ use Rattle.goal_reader.specs.Roles.{term, IsFaultAs, IsWanted}
 use Rattle.goal_reader.specs.Scopes.{operator_named}
 use Rattle.goal_reader.proofs.Heads.{empty_first, no_name_first, unknown_first, operator_known, arity_first, sort_first, application_is, part_form, no_part_form}
 use Rattle.goal_reader.proofs.terms.application.Goals as goal
+
+pub unreachable-requires : goal.unreachable-requires
+unreachable-requires c = false≢true (sym (c.in_default.ensures.parts c.args.text.now) ∙ c.requires.list)
 
 pub returns-in_default-first-clause-fault : goal.returns-in_default-first-clause-fault
 returns-in_default-first-clause-fault c =

@@ -1,4 +1,5 @@
 use Rattle.std.proofs.Common.{List, ap₂}
+use Rattle.std.proofs.lemmas.Result.{err_from_is_err_and}
 use Rattle.text_core.specs.Faults.{IsFirst}
 use Rattle.forms.specs.Forms.{sexp_form}
 use Rattle.forms.proofs.Told.{told_as}
@@ -12,19 +13,21 @@ use Rattle.goal_reader.specs.TextDrafts as drafts
 use Rattle.goal_reader.proofs.TextForms.{list_first, list_clear}
 use Rattle.goal_reader.proofs.texts.add_axiom.Goals as goal
 
-pub returns-in-Err-clause-fault : goal.returns-in-Err-clause-fault
-returns-in-Err-clause-fault c =
+pub returns-in_err-one-clause-fault : goal.returns-in_err-one-clause-fault
+returns-in_err-one-clause-fault c =
+    let p = err_from_is_err_and c.from_residual.result c.from_residual.ensures.1 in
     let form = sexp_form c.args.text.now c.args.form.now in
     let shape : Shape = roles.equation c.args.draft.declared in
-    told_as (IsFirst (IsFaultAs (a_list shape) form)) (IsFirst (IsFormFault (a_list shape) form)) (list_first shape form) c.in-Err.fault c.in-Err.ensures.fault
+    rw (p.1, p.2)
+    (told_as (IsFirst (IsFaultAs (a_list shape) form)) (IsFirst (IsFormFault (a_list shape) form)) (list_first shape form) c.in_err-one.field-0.0 c.in_err-one.ensures.fault)
 
 abbrev put : TextDraft → List DeclaredOp → List Axiom → TextDraft
 put d ops axs = record { table = d.table; declared = ops; axioms = axs; goals = d.goals }
 
 pub returns-clause-next : goal.returns-clause-next
-returns-clause-next c = drafts.equation c.in-Ok.read.0 c.in-Ok.ensures.axiom (ap₂ (put c.args.draft) c.in-Ok.ensures.declared c.in_ok-push.ensures.ok)
+returns-clause-next c = drafts.equation c.in_ok-one.one c.in_ok-one.ensures.axiom (ap₂ (put c.args.draft) c.in_ok-one.ensures.declared c.in_ok-push.ensures.ok)
 
 pub returns-clause-clear : goal.returns-clause-clear
 returns-clause-clear c =
     let form = sexp_form c.args.text.now c.args.form.now in
-    list_clear (roles.equation c.args.draft.declared) form c.in-Ok.ensures.clear
+    list_clear (roles.equation c.args.draft.declared) form c.in_ok-one.ensures.clear

@@ -1,4 +1,5 @@
 use Rattle.std.proofs.Common.{◌≡◌, ◌++◌, ◌<◌, ◌≤◌, [], ◌∷◌, length, take, ◌∙◌, ap, arith, length-append}
+use Rattle.std.proofs.lemmas.Result.{err_from_is_err_and}
 use Rattle.std.proofs.lemmas.List.{take_all}
 use Rattle.forms.specs.Forms.{place_of, sexp_form, parts_of, names_in}
 use Rattle.forms.proofs.Told.{told, told_of_part}
@@ -50,8 +51,9 @@ returns-then-index-ge8-clause-fault c =
     told (IsFaultAs (roles.a_list (roles.variables declared)) form) c.at-then-index-ge8.result c.place-then-index-ge8.result (place_of part) _ c.at-then-index-ge8.ensures (c.place-then-index-ge8.ensures text)
     (ninth_first declared form s.0 s.1 s.2 i part of.0 of.1 of.2 some c.if-index-ge8.true g inv.clear)
 
-pub returns-in-Err-clause-fault : goal.returns-in-Err-clause-fault
-returns-in-Err-clause-fault c =
+pub returns-in_err-bytes-clause-fault : goal.returns-in_err-bytes-clause-fault
+returns-in_err-bytes-clause-fault c =
+    let p = err_from_is_err_and c.from_residual.result c.from_residual.ensures.1 in
     let text = c.args.text.now in
     let form = sexp_form text c.args.form.now in
     let declared = c.args.declared.now in
@@ -67,8 +69,9 @@ returns-in-Err-clause-fault c =
     let below : i < 8 = (let l = c.if-index-ge8.false in omega (arith, l)) in
     let names = c.as_slice.result.now in
     let read : names ≡ names_in (take i (parts_of form)) = c.as_slice.ensures ∙ inv.read in
-    told_of_part (IsFaultAs (roles.own_name (names_of_declared declared ++ names)) part) (IsFaultAs (roles.a_list (roles.variables declared)) form)
-    (λ p k one. name_first declared form s.0 s.1 s.2 i part names p k some below g read inv.clear one) c.in-Err.fault c.in-Err.ensures.fault
+    rw (p.1, p.2)
+    (told_of_part (IsFaultAs (roles.own_name (names_of_declared declared ++ names)) part) (IsFaultAs (roles.a_list (roles.variables declared)) form)
+    (λ p k one. name_first declared form s.0 s.1 s.2 i part names p k some below g read inv.clear one) c.in_err-bytes.field-0.0 c.in_err-bytes.ensures.fault)
 
 pub loop-index-preserved : goal.loop-index-preserved
 loop-index-preserved c =
@@ -87,15 +90,15 @@ loop-index-preserved c =
     let below : i < 8 = (let l = c.if-index-ge8.false in omega (arith, l)) in
     let names = c.as_slice.result.now in
     let read : names ≡ names_in (take i (parts_of form)) = c.as_slice.ensures ∙ inv.read in
-    let own = c.in-Ok.ensures.ok in
-    let pushed : c.push.new.self ≡ c.loop-index.names ++ c.in-Ok.bytes.now ∷ [] = c.in_ok-push-in-Ok.ensures.ok ∙ ap (λ n. c.loop-index.names ++ n ∷ []) c.in_ok-new-in-Ok.ensures in
-    let longer = ap length pushed ∙ length-append c.loop-index.names (c.in-Ok.bytes.now ∷ []) in
+    let own = c.in_ok-bytes.ensures.ok in
+    let pushed : c.push.new.self ≡ c.loop-index.names ++ c.in_ok-bytes.bytes.now ∷ [] = c.in_ok-push.ensures.ok ∙ ap (λ n. c.loop-index.names ++ n ∷ []) c.in_ok-new.ensures in
+    let longer = ap length pushed ∙ length-append c.loop-index.names (c.in_ok-bytes.bytes.now ∷ []) in
     let before = inv.count in
     record {
-      read = pushed ∙ names_next declared form i part c.loop-index.names c.in-Ok.bytes.now g inv.read own.named;
+      read = pushed ∙ names_next declared form i part c.loop-index.names c.in_ok-bytes.bytes.now g inv.read own.named;
       few = omega (arith, below);
       count = omega (arith, longer, before);
-      clear = variable_clear declared form i part names c.in-Ok.bytes.now below g read own inv.clear;
+      clear = variable_clear declared form i part names c.in_ok-bytes.bytes.now below g read own inv.clear;
     }
 
 pub returns-clause-names : goal.returns-clause-names

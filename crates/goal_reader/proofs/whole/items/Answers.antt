@@ -1,4 +1,5 @@
 use Rattle.std.proofs.Common.{◌≡◌, ◌<◌, ◌≤◌, List, Some, true, length, sym, ◌∙◌, ap, refl, subst, arith}
+use Rattle.std.proofs.lemmas.Result.{err_from_is_err_and}
 use Rattle.std.specs.List.{list_any}
 use Rattle.forms.specs.Forms.{Form, place_of, sexp_form, parts_of}
 use Rattle.forms.specs.Reading.{IsSexpOf}
@@ -6,10 +7,11 @@ use Rattle.forms.proofs.Told.{told, told_of_part}
 use Rattle.goal_reader.specs.declared.scopes.Scope.{Scope}
 use Rattle.goal_meaning.specs.declared.goals.DeclaredOp.{DeclaredOp}
 use Rattle.goal_reader.specs.Roles as roles
-use Rattle.goal_reader.specs.Roles.{IsFaultAs, is_of_rank, goal_keywords, goal_bounds, bound_at, of_rank, items_of, item_role, role_in, fresh_name, Role}
+use Rattle.goal_reader.specs.Roles.{IsFaultAs, is_of_rank, goal_keywords, goal_bounds, bound_at, of_rank, items_of_goal, item_role, role_in, fresh_name, Role}
+use Rattle.goal_reader.specs.Keywords.{item_rank}
 use Rattle.goal_reader.specs.Order.{IsOrderOf}
 use Rattle.goal_reader.specs.Drafts.{names_of_goals, IsDraft, IsWritten, items_before, draft_role}
-use Rattle.goal_reader.proofs.NewNames.{nth_part, count_form, fresh_name_clear}
+use Rattle.goal_reader.proofs.NewNames.{nth_part, count_form, fresh_name_clear, target_told}
 use Rattle.goal_reader.proofs.GoalSteps.{rest_two, items_are, all_two, no_parts, next_draft, admitted_role, item_at, before_next, all_items, clear_one, clear_next, whole_clear, short_goal, no_set_first, part_first}
 use Rattle.goal_reader.proofs.WrittenItems.{next_written, fewer_than_one}
 use Rattle.goal_reader.proofs.Keeping.{next_keeps}
@@ -57,8 +59,9 @@ returns-then-not-has_target-clause-fault c =
     told (IsFaultAs (roles.a_list (roles.goal declared names)) form) c.at-then-not-has_target.result c.place-then-not-has_target.result (place_of form) _ c.at-then-not-has_target.ensures (c.place-then-not-has_target.ensures text)
     (no_set_first declared names form s.0 s.1 s.2 (sym set ∙ c.if-not-has_target.true))
 
-pub returns-in-Err-clause-fault : goal.returns-in-Err-clause-fault
-returns-in-Err-clause-fault c =
+pub returns-in_err-bytes-clause-fault : goal.returns-in_err-bytes-clause-fault
+returns-in_err-bytes-clause-fault c =
+    let p = err_from_is_err_and c.from_residual.result c.from_residual.ensures.1 in
     let text = c.args.text.now in
     let form = sexp_form text c.args.form.now in
     let declared = c.args.declared in
@@ -69,11 +72,12 @@ returns-in-Err-clause-fault c =
     let count = count_form text form (place_of form) parts is in
     let enough : 2 ≤ length (parts_of form) = (let f = c.if-parts-lt2.false in omega (arith, count, f)) in
     let set = c.has_target.ensures ∙ ap (list_any (is_of_rank goal_keywords 4)) (items_are text form (place_of form) parts is) in
-    let some : list_any (is_of_rank goal_keywords 4) (items_of form) ≡ true = sym set ∙ c.if-not-has_target.false in
+    let some : list_any (is_of_rank goal_keywords 4) (items_of_goal form) ≡ true = sym set ∙ c.if-not-has_target.false in
     let g1 = nth_part text form (place_of form) parts 1 c.index-parts-1.result is (let f = c.if-parts-lt2.false in omega (arith, f)) c.index-parts-1.is in
     let first = sexp_form text c.index-parts-1.result in
-    told_of_part (IsFaultAs (fresh_name names) first) (IsFaultAs (roles.a_list (roles.goal declared names)) form)
-    (λ p k one. part_first declared names form s.0 s.1 s.2 1 first (fresh_name names) p k enough some g1 refl (clear_one declared names form) one) c.in-Err.fault c.in-Err.ensures.fault
+    rw (p.1, p.2)
+    (told_of_part (IsFaultAs (fresh_name names) first) (IsFaultAs (roles.a_list (roles.goal declared names)) form)
+    (λ p k one. part_first declared names form s.0 s.1 s.2 1 first (fresh_name names) p k enough some g1 refl (clear_one declared names form) one) c.in_err-bytes.field-0.0 c.in_err-bytes.ensures.fault)
 
 pub loop-index-init : goal.loop-index-init
 loop-index-init c =
@@ -87,7 +91,7 @@ loop-index-init c =
     let count = count_form text form (place_of form) parts is in
     let enough : 2 ≤ length (parts_of form) = (let f = c.if-parts-lt2.false in omega (arith, count, f)) in
     let set = c.has_target.ensures ∙ ap (list_any (is_of_rank goal_keywords 4)) (items_are text form (place_of form) parts is) in
-    let some : list_any (is_of_rank goal_keywords 4) (items_of form) ≡ true = sym set ∙ c.if-not-has_target.false in
+    let some : list_any (is_of_rank goal_keywords 4) (items_of_goal form) ≡ true = sym set ∙ c.if-not-has_target.false in
     let g1 = nth_part text form (place_of form) parts 1 c.index-parts-1.result is (let f = c.if-parts-lt2.false in omega (arith, f)) c.index-parts-1.is in
     let first = sexp_form text c.index-parts-1.result in
     record {
@@ -95,11 +99,12 @@ loop-index-init c =
       written = c.in_ok-draft.ensures.written;
       keeps = c.in_ok-draft.ensures.keeps;
       order = c.new-order.ensures goal_keywords;
-      clear = clear_next declared names form 1 first (fresh_name names) g1 refl (fresh_name_clear names first c.in-Ok.bytes.now c.in-Ok.ensures.named c.in-Ok.ensures.fresh) (clear_one declared names form);
+      clear = clear_next declared names form 1 first (fresh_name names) g1 refl (fresh_name_clear names first c.in_ok-bytes.bytes.now c.in_ok-bytes.ensures.named c.in_ok-bytes.ensures.fresh) (clear_one declared names form);
     }
 
-pub returns-in-Err-admitted_item-clause-fault : goal.returns-in-Err-admitted_item-clause-fault
-returns-in-Err-admitted_item-clause-fault c =
+pub returns-in_err-keyword-clause-fault : goal.returns-in_err-keyword-clause-fault
+returns-in_err-keyword-clause-fault c =
+    let p = err_from_is_err_and c.from_residual-in_err-keyword.result c.from_residual-in_err-keyword.ensures.1 in
     let text = c.args.text.now in
     let form = sexp_form text c.args.form.now in
     let declared = c.args.declared in
@@ -110,7 +115,7 @@ returns-in-Err-admitted_item-clause-fault c =
     let count = count_form text form (place_of form) parts is in
     let enough : 2 ≤ length (parts_of form) = (let f = c.if-parts-lt2.false in omega (arith, count, f)) in
     let set = c.has_target.ensures ∙ ap (list_any (is_of_rank goal_keywords 4)) (items_are text form (place_of form) parts is) in
-    let some : list_any (is_of_rank goal_keywords 4) (items_of form) ≡ true = sym set ∙ c.if-not-has_target.false in
+    let some : list_any (is_of_rank goal_keywords 4) (items_of_goal form) ≡ true = sym set ∙ c.if-not-has_target.false in
     let g1 = nth_part text form (place_of form) parts 1 c.index-parts-1.result is (let f = c.if-parts-lt2.false in omega (arith, f)) c.index-parts-1.is in
     let first = sexp_form text c.index-parts-1.result in
     let i = c.loop-index.index in
@@ -121,16 +126,23 @@ returns-in-Err-admitted_item-clause-fault c =
     let before = items_before form i in
     let at_i = item_at declared names form i part l g in
     let role = role_in goal_keywords goal_bounds before (item_role declared before) part in
-    told_of_part (IsFaultAs role part) (IsFaultAs (roles.a_list (roles.goal declared names)) form)
-    (λ p k one. part_first declared names form s.0 s.1 s.2 i part role p k enough some g at_i inv.clear one) c.in-Err-admitted_item.fault
-    (c.in-Err-admitted_item.ensures.fault before (item_role declared before) inv.order)
+    rw (p.1, p.2)
+    (told_of_part (IsFaultAs role part) (IsFaultAs (roles.a_list (roles.goal declared names)) form)
+    (λ p k one. part_first declared names form s.0 s.1 s.2 i part role p k enough some g at_i inv.clear one) c.in_err-keyword.field-0.0
+    (c.in_err-keyword.ensures.fault before (item_role declared before) inv.order))
+
+pub after-order-requires-clause-few : goal.after-order-requires-clause-few
+after-order-requires-clause-few c = λ is.
+    let few = c.in_ok-keyword.ensures.few (sym c.rank.ensures ∙ is) in
+    omega (arith, few)
 
 pub item-requires-clause-few : goal.item-requires-clause-few
 item-requires-clause-few c =
     subst (λ (ds : List DeclaredOp). length ds ≤ 16) (sym (ap (λ (s : Scope). s.declared) c.loop-index.invariant.draft.scope)) c.requires.few
 
-pub returns-in-Err-item-clause-fault : goal.returns-in-Err-item-clause-fault
-returns-in-Err-item-clause-fault c =
+pub returns-in_err-draft-2-clause-fault : goal.returns-in_err-draft-2-clause-fault
+returns-in_err-draft-2-clause-fault c =
+    let p = err_from_is_err_and c.from_residual-in_err-draft-2.result c.from_residual-in_err-draft-2.ensures.1 in
     let text = c.args.text.now in
     let form = sexp_form text c.args.form.now in
     let declared = c.args.declared in
@@ -141,7 +153,7 @@ returns-in-Err-item-clause-fault c =
     let count = count_form text form (place_of form) parts is in
     let enough : 2 ≤ length (parts_of form) = (let f = c.if-parts-lt2.false in omega (arith, count, f)) in
     let set = c.has_target.ensures ∙ ap (list_any (is_of_rank goal_keywords 4)) (items_are text form (place_of form) parts is) in
-    let some : list_any (is_of_rank goal_keywords 4) (items_of form) ≡ true = sym set ∙ c.if-not-has_target.false in
+    let some : list_any (is_of_rank goal_keywords 4) (items_of_goal form) ≡ true = sym set ∙ c.if-not-has_target.false in
     let g1 = nth_part text form (place_of form) parts 1 c.index-parts-1.result is (let f = c.if-parts-lt2.false in omega (arith, f)) c.index-parts-1.is in
     let first = sexp_form text c.index-parts-1.result in
     let i = c.loop-index.index in
@@ -152,10 +164,11 @@ returns-in-Err-item-clause-fault c =
     let before = items_before form i in
     let at_i = item_at declared names form i part l g in
     let d = c.loop-index.draft in
-    let at = c.in-Ok-admitted_item.at in
-    let role = admitted_role declared before part d inv.draft at c.in-Ok-admitted_item.ensures.rank (c.in-Ok-admitted_item.ensures.admitted before inv.order) in
-    told_of_part (IsFaultAs (draft_role d at) part) (IsFaultAs (roles.a_list (roles.goal declared names)) form)
-    (λ p k one. part_first declared names form s.0 s.1 s.2 i part (draft_role d at) p k enough some g (at_i ∙ ap Some role) inv.clear one) c.in-Err-item.fault c.in-Err-item.ensures.fault
+    let at = item_rank c.in_ok-keyword.keyword in
+    let role = admitted_role declared before part d inv.draft at c.in_ok-keyword.ensures.rank (c.in_ok-keyword.ensures.admitted before inv.order) in
+    rw (p.1, p.2)
+    (told_of_part (IsFaultAs (draft_role d at) part) (IsFaultAs (roles.a_list (roles.goal declared names)) form)
+    (λ p k one. part_first declared names form s.0 s.1 s.2 i part (draft_role d at) p k enough some g (at_i ∙ ap Some role) inv.clear one) c.in_err-draft-2.field-0.0 c.in_err-draft-2.ensures.fault)
 
 pub loop-index-preserved : goal.loop-index-preserved
 loop-index-preserved c =
@@ -169,7 +182,7 @@ loop-index-preserved c =
     let count = count_form text form (place_of form) parts is in
     let enough : 2 ≤ length (parts_of form) = (let f = c.if-parts-lt2.false in omega (arith, count, f)) in
     let set = c.has_target.ensures ∙ ap (list_any (is_of_rank goal_keywords 4)) (items_are text form (place_of form) parts is) in
-    let some : list_any (is_of_rank goal_keywords 4) (items_of form) ≡ true = sym set ∙ c.if-not-has_target.false in
+    let some : list_any (is_of_rank goal_keywords 4) (items_of_goal form) ≡ true = sym set ∙ c.if-not-has_target.false in
     let g1 = nth_part text form (place_of form) parts 1 c.index-parts-1.result is (let f = c.if-parts-lt2.false in omega (arith, f)) c.index-parts-1.is in
     let first = sexp_form text c.index-parts-1.result in
     let i = c.loop-index.index in
@@ -180,18 +193,18 @@ loop-index-preserved c =
     let before = items_before form i in
     let at_i = item_at declared names form i part l g in
     let d = c.loop-index.draft in
-    let at = c.in-Ok-admitted_item.at in
-    let role = admitted_role declared before part d inv.draft at c.in-Ok-admitted_item.ensures.rank (c.in-Ok-admitted_item.ensures.admitted before inv.order) in
-    let admitted = c.in-Ok-admitted_item.ensures.admitted before inv.order in
+    let at = item_rank c.in_ok-keyword.keyword in
+    let role = admitted_role declared before part d inv.draft at c.in_ok-keyword.ensures.rank (c.in_ok-keyword.ensures.admitted before inv.order) in
+    let admitted = c.in_ok-keyword.ensures.admitted before inv.order in
     let more = before_next declared names form i part l g in
     record {
-      draft = subst (λ (b : List Form). IsDraft declared b c.in-Ok-item.next) (sym more) (next_draft declared before part d inv.draft at c.in-Ok-item.next c.in-Ok-admitted_item.ensures.rank c.in-Ok-item.ensures.next);
-      written = subst (λ (b : List Form). IsWritten b c.in-Ok-item.next) (sym more) (next_written before part d inv.written at c.in-Ok-item.next c.in-Ok-admitted_item.ensures.rank admitted.0 c.in-Ok-item.ensures.next c.in-Ok-item.ensures.clear
+      draft = subst (λ (b : List Form). IsDraft declared b c.in_ok-draft-2.draft) (sym more) (next_draft declared before part d inv.draft at c.in_ok-draft-2.draft c.in_ok-keyword.ensures.rank c.in_ok-draft-2.ensures.next);
+      written = subst (λ (b : List Form). IsWritten b c.in_ok-draft-2.draft) (sym more) (next_written before part d inv.written at c.in_ok-draft-2.draft c.in_ok-keyword.ensures.rank admitted.0 c.in_ok-draft-2.ensures.next c.in_ok-draft-2.ensures.clear
           (λ is. fewer_than_one (of_rank goal_keywords 1 before) (subst (λ n. length (of_rank goal_keywords n before) < (bound_at goal_bounds n).most) is admitted.1))
           (λ is. fewer_than_one (of_rank goal_keywords 3 before) (subst (λ n. length (of_rank goal_keywords n before) < (bound_at goal_bounds n).most) is admitted.1)));
-      keeps = next_keeps declared before part d inv.written (ap (λ (x : Scope). x.declared) inv.draft.scope) inv.keeps at c.in-Ok-item.next c.in-Ok-admitted_item.ensures.rank admitted.0 admitted.1 c.in-Ok-item.ensures.next c.in-Ok-item.ensures.clear;
-      order = subst (λ (b : List Form). IsOrderOf goal_keywords b c.after-order.result) (sym more) (c.after-order.ensures goal_keywords before part inv.order c.in-Ok-admitted_item.ensures.rank);
-      clear = clear_next declared names form i part (draft_role d at) g (at_i ∙ ap Some role) c.in-Ok-item.ensures.clear inv.clear;
+      keeps = next_keeps declared before part d inv.written (ap (λ (x : Scope). x.declared) inv.draft.scope) inv.keeps at c.in_ok-draft-2.draft c.in_ok-keyword.ensures.rank admitted.0 admitted.1 c.in_ok-draft-2.ensures.next c.in_ok-draft-2.ensures.clear;
+      order = subst (λ (b : List Form). IsOrderOf goal_keywords b c.after-order.result) (sym more) (c.after-order.ensures goal_keywords before part inv.order (c.in_ok-keyword.ensures.rank ∙ ap Some (sym c.rank.ensures)));
+      clear = clear_next declared names form i part (draft_role d at) g (at_i ∙ ap Some role) c.in_ok-draft-2.ensures.clear inv.clear;
     }
 
 pub returns-clause-draft : goal.returns-clause-draft
@@ -206,7 +219,7 @@ returns-clause-draft c =
     let count = count_form text form (place_of form) parts is in
     let enough : 2 ≤ length (parts_of form) = (let f = c.if-parts-lt2.false in omega (arith, count, f)) in
     let set = c.has_target.ensures ∙ ap (list_any (is_of_rank goal_keywords 4)) (items_are text form (place_of form) parts is) in
-    let some : list_any (is_of_rank goal_keywords 4) (items_of form) ≡ true = sym set ∙ c.if-not-has_target.false in
+    let some : list_any (is_of_rank goal_keywords 4) (items_of_goal form) ≡ true = sym set ∙ c.if-not-has_target.false in
     let g1 = nth_part text form (place_of form) parts 1 c.index-parts-1.result is (let f = c.if-parts-lt2.false in omega (arith, f)) c.index-parts-1.is in
     let first = sexp_form text c.index-parts-1.result in
     let i = c.loop-index.index in
@@ -227,7 +240,7 @@ returns-clause-written c =
     let count = count_form text form (place_of form) parts is in
     let enough : 2 ≤ length (parts_of form) = (let f = c.if-parts-lt2.false in omega (arith, count, f)) in
     let set = c.has_target.ensures ∙ ap (list_any (is_of_rank goal_keywords 4)) (items_are text form (place_of form) parts is) in
-    let some : list_any (is_of_rank goal_keywords 4) (items_of form) ≡ true = sym set ∙ c.if-not-has_target.false in
+    let some : list_any (is_of_rank goal_keywords 4) (items_of_goal form) ≡ true = sym set ∙ c.if-not-has_target.false in
     let g1 = nth_part text form (place_of form) parts 1 c.index-parts-1.result is (let f = c.if-parts-lt2.false in omega (arith, f)) c.index-parts-1.is in
     let first = sexp_form text c.index-parts-1.result in
     let i = c.loop-index.index in
@@ -248,7 +261,7 @@ returns-clause-clear c =
     let count = count_form text form (place_of form) parts is in
     let enough : 2 ≤ length (parts_of form) = (let f = c.if-parts-lt2.false in omega (arith, count, f)) in
     let set = c.has_target.ensures ∙ ap (list_any (is_of_rank goal_keywords 4)) (items_are text form (place_of form) parts is) in
-    let some : list_any (is_of_rank goal_keywords 4) (items_of form) ≡ true = sym set ∙ c.if-not-has_target.false in
+    let some : list_any (is_of_rank goal_keywords 4) (items_of_goal form) ≡ true = sym set ∙ c.if-not-has_target.false in
     let g1 = nth_part text form (place_of form) parts 1 c.index-parts-1.result is (let f = c.if-parts-lt2.false in omega (arith, f)) c.index-parts-1.is in
     let first = sexp_form text c.index-parts-1.result in
     let i = c.loop-index.index in
@@ -256,3 +269,12 @@ returns-clause-clear c =
     let inv = c.loop-index.invariant in
     let most : length (parts_of form) ≤ i = (let f = c.loop-index-test.false in omega (arith, f, count)) in
     whole_clear declared names form i enough some most inv.clear
+
+pub returns-clause-named : goal.returns-clause-named
+returns-clause-named c =
+    let text = c.args.text.now in
+    let form = sexp_form text c.args.form.now in
+    let parts = c.in-Some.parts.now in
+    let is = c.in-Some.ensures.parts text in
+    let g1 = nth_part text form (place_of form) parts 1 c.index-parts-1.result is (let f = c.if-parts-lt2.false in omega (arith, f)) c.index-parts-1.is in
+    target_told form _ c.in_ok-bytes.bytes.now g1 c.in_ok-bytes.ensures.named ∙ ap Some (sym c.in_ok-name.ensures)

@@ -9,8 +9,8 @@ use Rattle.goal_reader.proofs.whole.read_goal.Goals as goal
 pub returns-clause-goal : goal.returns-clause-goal
 returns-clause-goal c =
     let form = sexp_form c.args.text.now c.args.form.now in
-    let d = c.in-Ok.read.1 in
-    let g : Goal = record { name = c.in-Ok.read.0; inputs = d.inputs; pool = c.in_ok-pool.pool; assumes = d.assumes; guard = d.guard; sets = d.sets } in
+    let d = c.in_ok-name.draft in
+    let g : Goal = record { name = c.in_ok-name.name; inputs = d.inputs; pool = c.in_ok-pool.pool; assumes = d.assumes; guard = d.guard; sets = d.sets } in
     let pool : g.pool ≡ pool_kept (input_registers d.inputs) d.pool = c.in_ok-pool.ensures ∙ ap (λ is. pool_kept (input_registers is) d.pool) c.as_slice.ensures in
-    goal_written c.args.declared form g d c.in-Ok.ensures.draft c.in-Ok.ensures.written c.in-Ok.ensures.keeps refl pool refl refl refl
-    (has_set c.args.declared (names_of_goals c.args.goals.now) form c.in-Ok.ensures.clear) c.requires.keyword c.in-Ok.ensures.named
+    goal_written c.args.declared form g d c.in_ok-name.ensures.draft c.in_ok-name.ensures.written c.in_ok-name.ensures.keeps refl pool refl refl refl
+    (has_set c.args.declared (names_of_goals c.args.goals.now) form c.in_ok-name.ensures.clear) c.requires.keyword c.in_ok-name.ensures.named

@@ -1,10 +1,11 @@
 use Rattle.std.proofs.Common.{◌+◌, ◌≤◌, List, length, refl, sym, ap, ◌∙◌, subst, arith}
+use Rattle.std.proofs.lemmas.Result.{err_from_is_err_and}
 use Rattle.forms.proofs.Told.{told, told_of_part}
 use Rattle.forms.specs.Forms.{place_of, parts_of, sexp_form}
 use Rattle.machine_table.proofs.Parts.{between, clear_0, clear_skip, count_form, nth_part}
 use Rattle.machine_table.proofs.SlotLists.{no_slots_first, one_first, ninth_fault, slot_fault, written_next, slots_clear_next, slots_next, slots_whole, no_between, no_slots, pushed_count, keyword_some}
 use Rattle.machine_table.specs.Grammar.{Each, WritesSlot}
-use Rattle.machine_table.specs.Reading.{AreSlots, IsFaultAs, IsSlotRead, slot_names}
+use Rattle.machine_table.specs.Reading.{AreSlots, IsTableFault, IsSlotRead, slot_names}
 use Rattle.machine_table.specs.Roles as roles
 use Rattle.machine_table.specs.declared.tables.Slot.{Slot}
 use Rattle.text_core.specs.Faults.{IsFaultBy, IsFirst}
@@ -15,7 +16,7 @@ returns-then-not-has_keyword-clause-fault c =
     let text = c.args.text.now in
     let form = sexp_form text c.args.form.now in
     let s = c.sexps_are_forms.ensures.stands text c.args.form.now c.requires.of in
-    told (IsFaultAs roles.slots form) c.at.result c.place.result (place_of form) _ c.at.ensures (c.place.ensures text)
+    told (IsTableFault roles.slots form) c.at.result c.place.result (place_of form) _ c.at.ensures (c.place.ensures text)
     (no_slots_first form s.0 s.1 s.2 (sym c.has_keyword.ensures ∙ c.if-not-has_keyword.true))
 
 pub returns-then-parts-lt2-clause-fault : goal.returns-then-parts-lt2-clause-fault
@@ -27,7 +28,7 @@ returns-then-parts-lt2-clause-fault c =
     let is = c.in-Some.ensures.parts text in
     let count = count_form text form (place_of form) parts is in
     let keyword = sym c.has_keyword.ensures ∙ c.if-not-has_keyword.false in
-    told (IsFaultAs roles.slots form) c.at-then-parts-lt2.result c.place-then-parts-lt2.result (place_of form) _ c.at-then-parts-lt2.ensures (c.place-then-parts-lt2.ensures text)
+    told (IsTableFault roles.slots form) c.at-then-parts-lt2.result c.place-then-parts-lt2.result (place_of form) _ c.at-then-parts-lt2.ensures (c.place-then-parts-lt2.ensures text)
     (one_first form keyword s.0 s.1 s.2 (let f = c.if-parts-lt2.true in let k = keyword_some _ form keyword in omega (arith, f, k, count)))
 
 pub loop-index-init : goal.loop-index-init
@@ -62,10 +63,11 @@ returns-then-index-gt8-clause-fault c =
     let inv = c.loop-index.invariant in
     let part = sexp_form text c.index-parts-index.result in
     let g = nth_part text form (place_of form) parts i c.index-parts-index.result is c.loop-index-test.true c.index-parts-index.is in
-    told_of_part (IsFaultAs roles.ninth_slot part) (IsFaultAs roles.slots form) (ninth_fault form keyword some s.0 s.1 s.2 i part g inv.clear c.if-index-gt8.true) c.ninth_slot.result c.ninth_slot.ensures
+    told_of_part (IsTableFault roles.ninth_slot part) (IsTableFault roles.slots form) (ninth_fault form keyword some s.0 s.1 s.2 i part g inv.clear c.if-index-gt8.true) c.ninth_slot.result c.ninth_slot.ensures
 
-pub returns-in-Err-clause-fault : goal.returns-in-Err-clause-fault
-returns-in-Err-clause-fault c =
+pub returns-in_err-slot-clause-fault : goal.returns-in_err-slot-clause-fault
+returns-in_err-slot-clause-fault c =
+    let p = err_from_is_err_and c.from_residual.result c.from_residual.ensures.1 in
     let text = c.args.text.now in
     let form = sexp_form text c.args.form.now in
     let s = c.sexps_are_forms.ensures.stands text c.args.form.now c.requires.of in
@@ -81,8 +83,9 @@ returns-in-Err-clause-fault c =
     let g = nth_part text form (place_of form) parts i c.index-parts-index.result is c.loop-index-test.true c.index-parts-index.is in
     let l : 1 ≤ i = c.loop-index.auto.index in
     let m : i ≤ 8 = (let f = c.if-index-gt8.false in omega (arith, f)) in
-    let first = subst (λ (ss : List Slot). IsFaultBy (IsFirst (IsFaultAs (roles.slot (slot_names ss)) part)) c.in-Err.fault) c.as_slice.ensures c.in-Err.ensures.fault in
-    told_of_part (IsFaultAs (roles.slot (slot_names slots)) part) (IsFaultAs roles.slots form) (slot_fault form keyword some s.0 s.1 s.2 i part g inv.clear slots l m inv.written) c.in-Err.fault first
+    let first = subst (λ (ss : List Slot). IsFaultBy (IsFirst (IsTableFault (roles.slot (slot_names ss)) part)) c.in_err-slot.field-0.0) c.as_slice.ensures c.in_err-slot.ensures.fault in
+    rw (p.1, p.2)
+    (told_of_part (IsTableFault (roles.slot (slot_names slots)) part) (IsTableFault roles.slots form) (slot_fault form keyword some s.0 s.1 s.2 i part g inv.clear slots l m inv.written) c.in_err-slot.field-0.0 first)
 
 pub loop-index-preserved : goal.loop-index-preserved
 loop-index-preserved c =
@@ -101,9 +104,9 @@ loop-index-preserved c =
     let g = nth_part text form (place_of form) parts i c.index-parts-index.result is c.loop-index-test.true c.index-parts-index.is in
     let l : 1 ≤ i = c.loop-index.auto.index in
     let m : i ≤ 8 = (let f = c.if-index-gt8.false in omega (arith, f)) in
-    let slot = c.in-Ok.slot in
-    let read = subst (λ (ss : List Slot). IsSlotRead (slot_names ss) part slot) c.as_slice.ensures c.in-Ok.ensures.slot in
-    let pushed = c.in_ok-push-in-Ok.ensures.ok in
+    let slot = c.in_ok-slot.slot in
+    let read = subst (λ (ss : List Slot). IsSlotRead (slot_names ss) part slot) c.as_slice.ensures c.in_ok-slot.ensures.slot in
+    let pushed = c.in_ok-push.ensures.ok in
     record {
       written = subst (λ (ss : List Slot). Each WritesSlot (between 1 (i + 1) (parts_of form)) ss) (sym pushed) (written_next form keyword some i slots l m inv.written part slot g read);
       count = ap (λ (ss : List Slot). length ss + 1) pushed ∙ pushed_count slots slot i inv.count;

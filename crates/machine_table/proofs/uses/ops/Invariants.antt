@@ -5,7 +5,7 @@ use Rattle.machine_table.proofs.Parts.{between}
 use Rattle.machine_table.specs.Grammar.{Each, WritesUse}
 use Rattle.machine_table.specs.Reading.{AreUses, slot_names, names_of_uses}
 use Rattle.machine_table.specs.Roles as roles
-use Rattle.machine_table.specs.Roles.{IsOwn, part_role}
+use Rattle.machine_table.specs.Roles.{IsOwnTableFault, table_part_role}
 use Rattle.machine_table.specs.declared.tables.Use.{Use}
 use Rattle.machine_table.proofs.uses.ops.Given as goal
 
@@ -15,5 +15,5 @@ invariant-loop-index l = record {
   is : l.uses ≡ l.initial.uses ++ added;
   written : Each (WritesUse l.latency l.numbers) (between 3 l.index (parts_of (sexp_form l.text l.form))) added;
   are : AreUses l.slots l.uses;
-  clear : ClearTo IsOwn part_role (roles.ops (slot_names l.slots) (names_of_uses l.initial.uses)) (sexp_form l.text l.form) l.index;
+  clear : ClearTo IsOwnTableFault table_part_role (roles.ops (slot_names l.slots) (names_of_uses l.initial.uses)) (sexp_form l.text l.form) l.index;
 }

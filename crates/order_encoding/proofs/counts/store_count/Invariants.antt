@@ -1,6 +1,6 @@
 use Rattle.std.proofs.Common.{◌≡◌, ◌≤◌, ◌*◌}
 use Rattle.std.specs.List.{sum_by, range_with_len}
-use Rattle.order_encoding.specs.OrderSteps.{row_stores}
+use Rattle.order_encoding.specs.OrderCounts.{row_stores}
 use Rattle.order_encoding.proofs.counts.store_count.Given as goal
 
 abbrev pub invariant-loop-row : goal.invariant-loop-row

@@ -1,7 +1,7 @@
 use Rattle.std.proofs.Common.{◌≡◌, ◌≤◌, ◌*◌}
 use Rattle.std.specs.List.{sum_by, range_with_len}
 use Rattle.cycle_encoding.specs.Counts.{row_count}
-use Rattle.order_encoding.specs.OrderSteps.{row_uses}
+use Rattle.order_encoding.specs.OrderCounts.{row_uses}
 use Rattle.order_encoding.proofs.counts.use_count.Given as goal
 
 abbrev pub invariant-loop-row : goal.invariant-loop-row

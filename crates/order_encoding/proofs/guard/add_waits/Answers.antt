@@ -2,7 +2,7 @@ use Rattle.std.proofs.Common.{◌+◌, refl, arith}
 use Rattle.std.specs.List.{range_with_len}
 use Rattle.cycle_encoding.specs.Shapes.{numbered}
 use Rattle.cycle_encoding.proofs.Adding.{implied_step, implied_room}
-use Rattle.order_encoding.specs.OrderSteps.{comes_after}
+use Rattle.order_encoding.specs.OrderFamilies.{comes_after}
 use Rattle.order_encoding.proofs.guard.add_waits.Goals as goal
 
 pub add_wait-requires-clause-room : goal.add_wait-requires-clause-room

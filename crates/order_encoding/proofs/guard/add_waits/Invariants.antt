@@ -2,7 +2,7 @@ use Rattle.std.proofs.Common.{◌≡◌, take}
 use Rattle.std.specs.List.{range_with_len}
 use Rattle.cycle_encoding.specs.Shapes.{numbered, implied}
 use Rattle.cycle_encoding.specs.Steps.{with_clauses}
-use Rattle.order_encoding.specs.OrderSteps.{comes_after}
+use Rattle.order_encoding.specs.OrderFamilies.{comes_after}
 use Rattle.order_encoding.proofs.guard.add_waits.Given as goal
 
 abbrev pub invariant-loop-index : goal.invariant-loop-index

@@ -10,8 +10,8 @@ use Rattle.cycle_encoding.specs.Shapes.{numbered, positive, implied, vars_of}
 use Rattle.cycle_encoding.specs.Steps.{with_clauses}
 use Rattle.cycle_encoding.proofs.Blocks.{vars-over}
 use Rattle.cycle_encoding.proofs.Rows.{counted, vars-short}
-use Rattle.order_encoding.specs.OrderFamilies.{branches_by}
-use Rattle.order_encoding.specs.OrderSteps.{comes_after, formula_with_guard}
+use Rattle.order_encoding.specs.OrderFamilies.{branches_by, comes_after}
+use Rattle.order_encoding.specs.WholeFormula.{formula_with_guard}
 use Rattle.order_encoding.proofs.AddSteps.{then_same}
 use Rattle.order_encoding.proofs.Found.{found_vars}
 use Rattle.order_encoding.proofs.Extended.{branch-room2, branch-room3, branch-room4, branch-vars2, branch-limit, branch-vars4, branch-ends, guard-by-numbers, has_guard}

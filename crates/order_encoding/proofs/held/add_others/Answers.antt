@@ -4,7 +4,7 @@ use Rattle.cnf_core.specs.Formula.{Formula}
 use Rattle.cycle_encoding.specs.Shapes.{numbered, implied}
 use Rattle.cycle_encoding.specs.Steps.{with_clauses}
 use Rattle.order_encoding.specs.OrderVariables.{Held}
-use Rattle.order_encoding.specs.OrderSteps.{not_at_entry}
+use Rattle.order_encoding.specs.OrderFamilies.{not_at_entry}
 use Rattle.order_encoding.proofs.HeldPlaces.{held-classes}
 use Rattle.order_encoding.proofs.HeldSteps.{next-place, place-within, next-clauses, next-room, no_other_entry, all-taken}
 use Rattle.order_encoding.proofs.held.add_others.Goals as goal

@@ -1,7 +1,8 @@
 use Rattle.std.proofs.Common.{◌≡◌, ◌+◌, length, take}
 use Rattle.cycle_encoding.specs.Shapes.{numbered, implied}
 use Rattle.cycle_encoding.specs.Steps.{with_clauses}
-use Rattle.order_encoding.specs.OrderSteps.{classes_held, not_at_entry}
+use Rattle.order_encoding.specs.OrderSteps.{classes_held}
+use Rattle.order_encoding.specs.OrderFamilies.{not_at_entry}
 use Rattle.order_encoding.proofs.held.add_others.Given as goal
 
 abbrev pub invariant-loop-class : goal.invariant-loop-class

@@ -1,8 +1,9 @@
+use Rattle.std.proofs.Common.{refl}
 use Rattle.cycle_encoding.specs.CycleFormula.{wide}
+use Rattle.cycle_encoding.specs.declared.encodings.Encoding.TheVariants.{Wide}
 use Rattle.cycle_encoding.proofs.Blocks.{AreExact}
-use Rattle.order_encoding.proofs.Reading.{fits}
-use Rattle.order_encoding.proofs.Listing.{listed-all}
-use Rattle.order_encoding.proofs.Complete.{wide-serves}
+use Rattle.order_encoding.proofs.Reading.{SayRules, HavePlaces, fits}
+use Rattle.order_encoding.proofs.Narrowed.{rules_of}
 use Rattle.order_encoding.proofs.Making.{complete}
 use Rattle.order_encoding.proofs.laws.clauses_say_fits.Goals as goal
 
@@ -10,8 +11,15 @@ pub returns : goal.returns
 returns c =
     let counters = c.counters_count.ensures in
     let memories = c.memories_are_left.ensures in
+    let cycles = c.cycle_clauses_say_rules.ensures in
     let exact : AreExact = λ old p lits h. (counters.say old p lits h, counters.over old p lits h, counters.size old p lits) in
     record {
-      shown = λ g table k v t h. fits g table k (wide g table k) exact (listed-all g table k t) v h;
-      each = λ g table k ls t w f. complete exact g table k (wide g table k) w ls (wide-serves g table k ls t f) f (λ n. memories.left g ls n) (λ n a b p q. memories.once g ls n a b f.memory.single p q);
+      shown = λ g table k v t h.
+          let says : SayRules g table k (wide g table k) = λ v s. cycles.shown Wide g table k (wide g table k) v t refl s in
+          let places : HavePlaces g table k = λ ls r. cycles.places g table k ls t r in
+          fits g table k (wide g table k) exact says places v h;
+      each = λ g table k ls t w f.
+          let says : SayRules g table k (wide g table k) = λ v s. cycles.shown Wide g table k (wide g table k) v t refl s in
+          let places : HavePlaces g table k = λ ls r. cycles.places g table k ls t r in
+          complete exact g table k (wide g table k) w ls f (λ n. memories.left g ls n) (λ n a b p q. memories.once g ls n a b f.memory.single p q) says places (cycles.each g table k ls t (rules_of g table k ls f));
     }

@@ -1,15 +1,10 @@
-use Rattle.std.proofs.Common.{sym, subst, List}
-use Rattle.std.specs.List.{All, filter}
-use Rattle.std.proofs.lemmas.List.Elements.{All-filter}
+use Rattle.std.specs.List.{filter}
 use Rattle.schedule_meaning.specs.Fits.{Fits}
-use Rattle.schedule_meaning.specs.declared.schedules.Launch.{Launch}
-use Rattle.cycle_encoding.specs.Variables.{all_launches}
+use Rattle.cycle_encoding.specs.declared.encodings.Encoding.TheVariants.{Narrow}
 use Rattle.cycle_encoding.proofs.Blocks.{AreExact}
 use Rattle.cycle_encoding.proofs.Members.{filter-out}
-use Rattle.order_encoding.proofs.Sound.{IsListed}
-use Rattle.order_encoding.proofs.Reading.{fits}
-use Rattle.order_encoding.proofs.Listing.{listed-all}
-use Rattle.order_encoding.proofs.Narrowed.{fits_kept, narrow-serves}
+use Rattle.order_encoding.proofs.Reading.{SayRules, HavePlaces, fits}
+use Rattle.order_encoding.proofs.Narrowed.{rules_of}
 use Rattle.order_encoding.proofs.Making.{complete}
 use Rattle.order_encoding.proofs.laws.narrow_clauses_say_fits.Goals as goal
 
@@ -17,11 +12,19 @@ pub returns : goal.returns
 returns c =
     let counters = c.counters_count.ensures in
     let memories = c.memories_are_left.ensures in
+    let cycles = c.cycle_clauses_say_rules.ensures in
+    let parts = c.narrow_parts_keep_rules.ensures in
+    let goes = c.launches_without_variables_may_go.ensures in
     let exact : AreExact = λ old p lits h. (counters.say old p lits h, counters.over old p lits h, counters.size old p lits) in
     record {
-      shown = λ g table k e v t n h. fits g table k e exact (subst (λ (ls : List Launch). All (IsListed g table k) ls) (sym n.launches_are) (All-filter n.keep (IsListed g table k) (all_launches g table k) (listed-all g table k t))) v h;
+      shown = λ g table k e v t n h.
+          let says : SayRules g table k e = λ v s. cycles.shown Narrow g table k e v t n s in
+          let places : HavePlaces g table k = λ ls r. cycles.places g table k ls t r in
+          fits g table k e exact says places v h;
       some = λ g table k e ls t w n f.
           let ms = filter n.keep ls in
-          let fit : Fits g table k ms = fits_kept g table k t ls f n.keep n.keeps in
-          (ms, fit, (λ l h. (filter-out n.keep ls l h).0), complete exact g table k e w ms (narrow-serves g table k t ls f e n) fit (λ i. memories.left g ms i) (λ i a b p q. memories.once g ms i a b fit.memory.single p q));
+          let fit : Fits g table k ms = goes.fits g table k e ls t n f in
+          let says : SayRules g table k e = λ v s. cycles.shown Narrow g table k e v t n s in
+          let places : HavePlaces g table k = λ ls r. cycles.places g table k ls t r in
+          (ms, fit, (λ l h. (filter-out n.keep ls l h).0), complete exact g table k e w ms fit (λ i. memories.left g ms i) (λ i a b p q. memories.once g ms i a b fit.memory.single p q) says places (parts.shown g table k e ls t n (rules_of g table k ls f)));
     }

@@ -2,11 +2,14 @@ use Rattle.order_encoding.proofs.Sized.{memory-vars, guard-vars, whole-vars, wit
 use Rattle.order_encoding.proofs.laws.parts_are_counted.Goals as goal
 
 pub returns : goal.returns
-returns c = record {
-  memory_vars = memory-vars;
-  memory_clauses = λ g table k s. with-memory-size g table k s c.counters_count.ensures.size;
-  guard_vars = guard-vars;
-  guard_clauses = λ g table k s. with-guard-size g table k s c.counters_count.ensures.size;
-  whole_vars = whole-vars;
-  whole_clauses = λ g table k s. whole-size g table k s c.counters_count.ensures.size;
-}
+returns c =
+    let cycles = c.cycle_counts_are_found.ensures in
+    let size = c.counters_count.ensures.size in
+    record {
+      memory_vars = λ g table k s. memory-vars g table k s (cycles.vars g table k s);
+      memory_clauses = λ g table k s. with-memory-size g table k s size (cycles.clauses g table k s);
+      guard_vars = λ g table k s. guard-vars g table k s (cycles.vars g table k s);
+      guard_clauses = λ g table k s. with-guard-size g table k s size (cycles.clauses g table k s);
+      whole_vars = λ g table k s. whole-vars g table k s (cycles.vars g table k s);
+      whole_clauses = λ g table k s. whole-size g table k s size (cycles.clauses g table k s);
+    }

@@ -4,7 +4,7 @@ use Rattle.cycle_encoding.specs.Shapes.{numbered, implied}
 use Rattle.cycle_encoding.proofs.Adding.{added, size-with}
 use Rattle.cycle_encoding.proofs.Listed.{flat_more}
 use Rattle.order_encoding.specs.OrderVariables.{all_held}
-use Rattle.order_encoding.specs.OrderSteps.{kept_at, stored, stays}
+use Rattle.order_encoding.specs.OrderFamilies.{kept_at, stored, stays}
 use Rattle.order_encoding.proofs.AddSteps.{flat-part}
 use Rattle.order_encoding.proofs.memory.add_kept.Goals as goal
 

@@ -3,7 +3,7 @@ use Rattle.std.specs.List.{flat_map, range_with_len}
 use Rattle.cycle_encoding.specs.Shapes.{numbered}
 use Rattle.cycle_encoding.specs.Steps.{with_clauses}
 use Rattle.order_encoding.specs.OrderVariables.{all_held}
-use Rattle.order_encoding.specs.OrderSteps.{kept_at}
+use Rattle.order_encoding.specs.OrderFamilies.{kept_at}
 use Rattle.order_encoding.proofs.memory.add_kept.Given as goal
 
 abbrev pub invariant-loop-cycle : goal.invariant-loop-cycle

@@ -5,7 +5,7 @@ use Rattle.cnf_core.specs.Formula.{Formula}
 use Rattle.cycle_encoding.specs.Shapes.{numbered, implied}
 use Rattle.cycle_encoding.specs.Steps.{with_clauses}
 use Rattle.order_encoding.specs.OrderVariables.{Held, all_held}
-use Rattle.order_encoding.specs.OrderSteps.{stays}
+use Rattle.order_encoding.specs.OrderFamilies.{stays}
 use Rattle.order_encoding.proofs.HeldPlaces.{held-classes}
 use Rattle.order_encoding.proofs.HeldSteps.{next-place, place-within, next-clauses, next-room, no_other_stay, all-taken}
 use Rattle.order_encoding.proofs.memory.add_stays.Goals as goal

@@ -3,7 +3,8 @@ use Rattle.std.specs.List.{range_with_len}
 use Rattle.cycle_encoding.specs.Shapes.{numbered, implied}
 use Rattle.cycle_encoding.specs.Steps.{with_clauses}
 use Rattle.order_encoding.specs.OrderVariables.{all_held}
-use Rattle.order_encoding.specs.OrderSteps.{classes_held, stays}
+use Rattle.order_encoding.specs.OrderSteps.{classes_held}
+use Rattle.order_encoding.specs.OrderFamilies.{stays}
 use Rattle.order_encoding.proofs.memory.add_stays.Given as goal
 
 abbrev pub invariant-loop-class : goal.invariant-loop-class

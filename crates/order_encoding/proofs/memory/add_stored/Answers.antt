@@ -1,8 +1,7 @@
 use Rattle.std.proofs.Common.{◌∙◌, ◌+◌, ◌∷◌, [], arith}
 use Rattle.std.specs.List.{range_with_len}
 use Rattle.cycle_encoding.specs.Shapes.{numbered, negative, implied, vars_of}
-use Rattle.order_encoding.specs.OrderFamilies.{stores_at}
-use Rattle.order_encoding.specs.OrderSteps.{stored}
+use Rattle.order_encoding.specs.OrderFamilies.{stores_at, stored}
 use Rattle.order_encoding.proofs.AddSteps.{put_together, then_is}
 use Rattle.order_encoding.proofs.Found.{stores_are, implies_exist}
 use Rattle.order_encoding.proofs.HeldSteps.{stored_is}

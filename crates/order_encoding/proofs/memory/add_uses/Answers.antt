@@ -4,7 +4,7 @@ use Rattle.schedule_meaning.specs.declared.schedules.Launch.{Launch}
 use Rattle.cycle_encoding.specs.Shapes.{numbered}
 use Rattle.cycle_encoding.proofs.Adding.{implied_step, implied_room}
 use Rattle.order_encoding.specs.OrderVariables.{all_held}
-use Rattle.order_encoding.specs.OrderSteps.{reads, leaves}
+use Rattle.order_encoding.specs.OrderFamilies.{uses_held, leaves}
 use Rattle.order_encoding.proofs.memory.add_uses.Goals as goal
 
 pub add_use-requires-clause-room : goal.add_use-requires-clause-room
@@ -12,11 +12,11 @@ add_use-requires-clause-room c =
     let g = c.args.facts.now in
     let ms = numbered c.args.held.now.first (all_held g c.args.held.now.cycles) in
     let ws = numbered c.args.stores (range_with_len 0 c.args.held.now.cycles) in
-    implied_room (λ (x : Launch). reads g ms x ++ leaves g ms ws x) 0 c.args.launches.now c.loop-index.index _ c.args.cnf.now c.loop-index.cnf c.loop-index-test.true c.loop-index.invariant c.requires.room
+    implied_room (λ (x : Launch). uses_held g ms x ++ leaves g ms ws x) 0 c.args.launches.now c.loop-index.index _ c.args.cnf.now c.loop-index.cnf c.loop-index-test.true c.loop-index.invariant c.requires.room
 
 pub loop-index-preserved : goal.loop-index-preserved
 loop-index-preserved c =
     let g = c.args.facts.now in
     let ms = numbered c.args.held.now.first (all_held g c.args.held.now.cycles) in
     let ws = numbered c.args.stores (range_with_len 0 c.args.held.now.cycles) in
-    implied_step (λ (x : Launch). reads g ms x ++ leaves g ms ws x) 0 c.args.launches.now c.loop-index.index _ c.args.cnf.now c.loop-index.cnf c.loop-index-test.true c.loop-index.invariant (c.loop-index.index + 1) c.add_use.new.cnf _ (omega arith) refl c.in_ok-add_use.ensures
+    implied_step (λ (x : Launch). uses_held g ms x ++ leaves g ms ws x) 0 c.args.launches.now c.loop-index.index _ c.args.cnf.now c.loop-index.cnf c.loop-index-test.true c.loop-index.invariant (c.loop-index.index + 1) c.add_use.new.cnf _ (omega arith) refl c.in_ok-add_use.ensures

@@ -6,7 +6,7 @@ use Rattle.cycle_encoding.specs.Shapes.{numbered}
 use Rattle.cycle_encoding.specs.Steps.{with_clauses}
 use Rattle.order_encoding.specs.OrderVariables.{all_held}
 use Rattle.order_encoding.specs.OrderFamilies.{entry_clauses, memory_clauses, kept_clauses, held_groups, store_groups, last_clauses}
-use Rattle.order_encoding.specs.OrderSteps.{with_memory}
+use Rattle.order_encoding.specs.WholeFormula.{with_memory}
 use Rattle.order_encoding.proofs.AddSteps.{then_same}
 use Rattle.order_encoding.proofs.Extended.{room1, room2, room3, room4, room5, room6, vars4, limit4, limit5, memory-ends, memory-by-numbers}
 use Rattle.order_encoding.proofs.memory.extend_by_memory.Goals as goal

@@ -2,7 +2,7 @@ use Rattle.std.proofs.Common.{◌+◌, refl, arith}
 use Rattle.cycle_encoding.specs.Shapes.{numbered}
 use Rattle.cycle_encoding.proofs.Adding.{implied_step, implied_room}
 use Rattle.order_encoding.specs.OrderVariables.{all_taken}
-use Rattle.order_encoding.specs.OrderSteps.{takes}
+use Rattle.order_encoding.specs.OrderFamilies.{takes}
 use Rattle.order_encoding.proofs.pool.add_takes.Goals as goal
 
 pub add_take-requires-clause-room : goal.add_take-requires-clause-room

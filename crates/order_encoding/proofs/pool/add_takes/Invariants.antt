@@ -2,7 +2,7 @@ use Rattle.std.proofs.Common.{◌≡◌, take}
 use Rattle.cycle_encoding.specs.Shapes.{numbered, implied}
 use Rattle.cycle_encoding.specs.Steps.{with_clauses}
 use Rattle.order_encoding.specs.OrderVariables.{all_taken}
-use Rattle.order_encoding.specs.OrderSteps.{takes}
+use Rattle.order_encoding.specs.OrderFamilies.{takes}
 use Rattle.order_encoding.proofs.pool.add_takes.Given as goal
 
 abbrev pub invariant-loop-index : goal.invariant-loop-index

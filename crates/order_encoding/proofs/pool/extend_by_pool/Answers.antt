@@ -11,7 +11,7 @@ use Rattle.cycle_encoding.proofs.Counting.{count-any}
 use Rattle.cycle_encoding.proofs.Totals.{size-vars}
 use Rattle.order_encoding.specs.OrderVariables.{all_taken}
 use Rattle.order_encoding.specs.OrderFamilies.{register_clauses}
-use Rattle.order_encoding.specs.OrderSteps.{formula_with_pool}
+use Rattle.order_encoding.specs.WholeFormula.{formula_with_pool}
 use Rattle.order_encoding.proofs.AddSteps.{then_same}
 use Rattle.order_encoding.proofs.TakenPlaces.{taken-count}
 use Rattle.order_encoding.proofs.Extended.{pool-room1, pool-room2, pool-vars2, pool-limit, pool-ends, pool-by-numbers, the_formula}

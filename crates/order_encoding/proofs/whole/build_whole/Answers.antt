@@ -4,8 +4,7 @@ use Rattle.cnf_core.specs.Formula.{Formula}
 use Rattle.cycle_encoding.specs.Shapes.{numbered}
 use Rattle.cycle_encoding.specs.CycleFormula.{cycle_formula, listed_in}
 use Rattle.cycle_encoding.specs.Plans.{Plan}
-use Rattle.order_encoding.specs.OrderSteps.{with_memory, formula_with_guard, formula_with_pool}
-use Rattle.order_encoding.specs.WholeFormula.{memory_formula, guard_formula, whole_formula}
+use Rattle.order_encoding.specs.WholeFormula.{with_memory, formula_with_guard, formula_with_pool, memory_formula, guard_formula, whole_formula}
 use Rattle.order_encoding.proofs.Composed.{cycle_less, memory_less, guard_less}
 use Rattle.order_encoding.proofs.Limits.{memory_is, guard_is, pool_is, within_vars, within_clauses}
 use Rattle.order_encoding.proofs.whole.build_whole.Goals as goal

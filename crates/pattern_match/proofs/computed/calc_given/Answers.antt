@@ -3,7 +3,7 @@ use Rattle.std.proofs.lemmas.List.{take_all, length-drop}
 use Rattle.std.specs.Prelude.{MatchOption}
 use Rattle.std.proofs.lemmas.Option.{MatchOption-at_some}
 use Rattle.axiom_base.specs.Conditions.{IsCalc}
-use Rattle.pattern_match.specs.Bindings.{HaveConstants}
+use Rattle.pattern_match.specs.Matches.{HaveConstants}
 use Rattle.pattern_match.proofs.ConstantsOf.{given_exactly}
 use Rattle.pattern_match.proofs.computed.calc_given.Goals as goal
 

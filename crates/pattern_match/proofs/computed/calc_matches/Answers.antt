@@ -1,39 +1,19 @@
 use Rattle.std.specs.Prelude.{is_some, true, false, MatchOption}
-use Rattle.std.proofs.Common.{rules, ◌≡◌, ◌+◌, ℕ, [], map, take, sym, ap, subst, subst₂, arith}
-use Rattle.word_terms.specs.Tree.{AreBelow}
-use Rattle.word_terms.specs.Sorting.{Occurs}
+use Rattle.std.proofs.Common.{rules, ◌≡◌, ◌+◌, ℕ, [], map, take, sym, ap, subst, arith}
 use Rattle.axiom_base.specs.Schemes.{computed}
 use Rattle.axiom_base.specs.Computed.{calc_left}
-use Rattle.pattern_match.specs.Bindings.{IsPlacement, CanGive, AreMatches, AreGiven}
+use Rattle.pattern_match.specs.Bindings.{IsSubstitution, AreMatches}
 use Rattle.pattern_match.specs.Found.{classes_in}
 use Rattle.pattern_match.specs.Listing.{Lists, Chosen, nothing}
-use Rattle.pattern_match.specs.Matches.{IsMatchOf}
+use Rattle.pattern_match.specs.Matches.{IsMatchOf, CanGive, AreGiven, variables_of}
 use Rattle.pattern_match.proofs.Choosing.{AsItself, lists_same, classes_at, loop_takes, loop_skips, whole}
-use Rattle.pattern_match.proofs.ComputedMatching.{count_for, left_occurs, left_below, can_give, computed_matched, matched_computed, IsGiven, some_if, none_if}
+use Rattle.pattern_match.proofs.ComputedMatching.{can_give, computed_matched, matched_computed, IsGiven, some_if, none_if}
 use Rattle.pattern_match.proofs.computed.calc_matches.Goals as goal
-use Rattle.pattern_match.proofs.computed.calc_matches.Goals.{After-constants, After-deref-one-items, then-is_some+in_ok-with+in_ok-push, else-is_some}
-
-counted : (c : After-constants) → c.first_constant.result + c.constants.result ≡ count_for c.args.kind
-counted c = omega (arith, c.first_constant.ensures.number, c.constants.ensures.count)
+use Rattle.pattern_match.proofs.computed.calc_matches.Goals.{After-deref-one-items, then-is_some+in_ok-with+in_ok-push, else-is_some}
 
 -- the matches of the left side
-matches_of : (c : After-deref-one-items) → AreMatches c.args.graph.now (calc_left c.args.kind) (IsPlacement c.args.graph.now (calc_left c.args.kind) (count_for c.args.kind)) c.deref-one-items.result.now
-matches_of c =
-    let g = c.args.graph.now in
-    let kind = c.args.kind in
-    let exact = subst₂ (λ t n. AreMatches g t (IsPlacement g t n) c.in_ok-placed.placed.items) c.in_ok-left.ensures.tree (counted (goal.at.loop-one-init c).After-constants) c.in_ok-placed.ensures.exact in
-    subst (AreMatches g (calc_left kind) (IsPlacement g (calc_left kind) (count_for kind))) (sym c.deref-one-items.ensures.value) exact
-
-pub placements-requires-clause-below : goal.placements-requires-clause-below
-placements-requires-clause-below c =
-    let law = c.computed_rules_are_true.ensures in
-    subst₂ (λ n t. AreBelow n t) (sym (counted (goal.at.placements-requires-clause-below c).After-constants)) (sym c.in_ok-left.ensures.tree) (left_below law.usable law.last c.args.kind)
-
-pub placements-requires-clause-all : goal.placements-requires-clause-all
-placements-requires-clause-all c = λ n l.
-    let law = c.computed_rules_are_true.ensures in
-    let e = counted (goal.at.placements-requires-clause-all c).After-constants in
-    subst (Occurs n) (sym c.in_ok-left.ensures.tree) (left_occurs law.usable law.last c.args.kind n (omega (arith, l, e)))
+matches_of : (c : After-deref-one-items) → AreMatches c.args.graph.now (calc_left c.args.kind) (IsSubstitution c.args.graph.now (calc_left c.args.kind) (variables_of c.args.kind)) c.deref-one-items.result.now
+matches_of c = subst (AreMatches c.args.graph.now (calc_left c.args.kind) (IsSubstitution c.args.graph.now (calc_left c.args.kind) (variables_of c.args.kind))) (sym c.deref-one-items.ensures.value) c.in_ok-matched.ensures
 
 pub loop-one-init : goal.loop-one-init
 loop-one-init c =
@@ -46,8 +26,8 @@ calc_given-requires c =
     let kind = c.args.kind in
     let law = c.computed_rules_are_true.ensures in
     let m = matches_of (goal.at.calc_given-requires c).After-deref-one-items in
-    let placed = classes_at c.deref-one-items.result.now c.loop-one.one-index c.one-item.result c.loop-one-test.true c.one-item.is (IsPlacement g (calc_left kind) (count_for kind)) m.lists.each in
-    subst (CanGive g kind) (sym c.as_slice.ensures) (can_give law.usable law.last g c.in_ok-tables.ensures.graph kind c.one-item.result.classes placed)
+    let matched = classes_at c.deref-one-items.result.now c.loop-one.one-index c.one-item.result c.loop-one-test.true c.one-item.is (IsSubstitution g (calc_left kind) (variables_of kind)) m.lists.each in
+    subst (CanGive g kind) (sym c.as_slice.ensures) (can_give law.usable law.last g c.in_ok-tables.ensures.graph kind c.one-item.result.classes matched)
 
 pub loop-one-preserved : goal.loop-one-preserved
 loop-one-preserved c =
@@ -80,7 +60,7 @@ returns c =
     let law = c.computed_rules_are_true.ensures in
     let numbers = c.constants_are_numbered.ensures.numbers in
     let D = IsGiven g kind in
-    let P = IsPlacement g (calc_left kind) (count_for kind) in
+    let P = IsSubstitution g (calc_left kind) (variables_of kind) in
     let all = matches_of (goal.at.returns c).After-deref-one-items in
     let listed = whole P D c.deref-one-items.result.now c.loop-one.found.items all.lists c.loop-one.one-index c.loop-one-test.false c.loop-one.invariant in
     let matches = lists_same (λ cs. P cs × D cs) (IsMatchOf g (computed kind)) (map classes_in c.loop-one.found.items) (λ cs h. computed_matched law.usable law.last g is kind cs numbers h) (λ cs h. matched_computed law.usable law.last g is kind cs numbers h) listed in

@@ -1,41 +1,21 @@
 use Rattle.std.specs.Prelude.{is_some, true, false}
-use Rattle.std.proofs.Common.{rules, ◌≡◌, ◌+◌, ℕ, All, [], map, take, sym, ap, ◌∙◌, subst, subst₂, arith}
-use Rattle.word_terms.specs.Tree.{AreBelow}
-use Rattle.word_terms.specs.Sorting.{Occurs}
+use Rattle.std.proofs.Common.{rules, ◌≡◌, ◌+◌, ℕ, All, [], map, take, sym, ap, ◌∙◌, subst, arith}
 use Rattle.axiom_base.specs.Schemes.{computed}
 use Rattle.axiom_base.specs.Computed.{calc_left}
-use Rattle.pattern_match.specs.Bindings.{IsPlacement, AreMatches, AreUnmet, IsUnmetGiven}
+use Rattle.pattern_match.specs.Bindings.{IsSubstitution, AreMatches, AreUnmet, IsUnmetGiven}
 use Rattle.pattern_match.specs.Classes.{IsClass}
 use Rattle.pattern_match.specs.Found.{classes_in}
 use Rattle.pattern_match.specs.Listing.{Lists, Chosen, nothing}
-use Rattle.pattern_match.specs.Matches.{IsUnmetOf, IsUnmetCalc}
+use Rattle.pattern_match.specs.Matches.{IsUnmetOf, IsUnmetCalc, variables_of}
 use Rattle.pattern_match.specs.declared.found.Match.{Match}
 use Rattle.pattern_match.proofs.Choosing.{AsItself, lists_same, classes_at, match_at, loop_takes, loop_skips, each_more, whole}
-use Rattle.pattern_match.proofs.ComputedMatching.{count_for, left_occurs, left_below, can_give, computed_unmet, unmet_computed, unmet_if, met_if, unmet_calc, some_if, none_if}
+use Rattle.pattern_match.proofs.ComputedMatching.{can_give, computed_unmet, unmet_computed, unmet_if, met_if, unmet_calc, some_if, none_if}
 use Rattle.pattern_match.proofs.computed.find_calc_unmet.Goals as goal
-use Rattle.pattern_match.proofs.computed.find_calc_unmet.Goals.{After-constants, After-deref-one-items, then-is_some+in_ok-with+in_ok-push, else-is_some}
-
-counted : (c : After-constants) → c.first_constant.result + c.constants.result ≡ count_for c.args.kind
-counted c = omega (arith, c.first_constant.ensures.number, c.constants.ensures.count)
+use Rattle.pattern_match.proofs.computed.find_calc_unmet.Goals.{After-deref-one-items, then-is_some+in_ok-with+in_ok-push, else-is_some}
 
 -- the matches of the left side
-matches_of : (c : After-deref-one-items) → AreMatches c.args.graph.now (calc_left c.args.kind) (IsPlacement c.args.graph.now (calc_left c.args.kind) (count_for c.args.kind)) c.deref-one-items.result.now
-matches_of c =
-    let g = c.args.graph.now in
-    let kind = c.args.kind in
-    let exact = subst₂ (λ t n. AreMatches g t (IsPlacement g t n) c.in_ok-placed.placed.items) c.in_ok-left.ensures.tree (counted (goal.at.loop-one-init c).After-constants) c.in_ok-placed.ensures.exact in
-    subst (AreMatches g (calc_left kind) (IsPlacement g (calc_left kind) (count_for kind))) (sym c.deref-one-items.ensures.value) exact
-
-pub placements-requires-clause-below : goal.placements-requires-clause-below
-placements-requires-clause-below c =
-    let law = c.computed_rules_are_true.ensures in
-    subst₂ (λ n t. AreBelow n t) (sym (counted (goal.at.placements-requires-clause-below c).After-constants)) (sym c.in_ok-left.ensures.tree) (left_below law.usable law.last c.args.kind)
-
-pub placements-requires-clause-all : goal.placements-requires-clause-all
-placements-requires-clause-all c = λ n l.
-    let law = c.computed_rules_are_true.ensures in
-    let e = counted (goal.at.placements-requires-clause-all c).After-constants in
-    subst (Occurs n) (sym c.in_ok-left.ensures.tree) (left_occurs law.usable law.last c.args.kind n (omega (arith, l, e)))
+matches_of : (c : After-deref-one-items) → AreMatches c.args.graph.now (calc_left c.args.kind) (IsSubstitution c.args.graph.now (calc_left c.args.kind) (variables_of c.args.kind)) c.deref-one-items.result.now
+matches_of c = subst (AreMatches c.args.graph.now (calc_left c.args.kind) (IsSubstitution c.args.graph.now (calc_left c.args.kind) (variables_of c.args.kind))) (sym c.deref-one-items.ensures.value) c.in_ok-matched.ensures
 
 pub loop-one-init : goal.loop-one-init
 loop-one-init c =
@@ -51,8 +31,8 @@ unmet_constant-requires c =
     let kind = c.args.kind in
     let law = c.computed_rules_are_true.ensures in
     let m = matches_of (goal.at.unmet_constant-requires c).After-deref-one-items in
-    let placed = classes_at c.deref-one-items.result.now c.loop-one.one-index c.one-item.result c.loop-one-test.true c.one-item.is (IsPlacement g (calc_left kind) (count_for kind)) m.lists.each in
-    record { can = can_give law.usable law.last g c.requires.graph kind c.one-item.result.classes placed }
+    let matched = classes_at c.deref-one-items.result.now c.loop-one.one-index c.one-item.result c.loop-one-test.true c.one-item.is (IsSubstitution g (calc_left kind) (variables_of kind)) m.lists.each in
+    record { can = can_give law.usable law.last g c.requires.graph kind c.one-item.result.classes matched }
 
 pub loop-one-preserved : goal.loop-one-preserved
 loop-one-preserved c =
@@ -66,7 +46,7 @@ loop-one-preserved c =
     let i = c.loop-one.one-index in
     let m = c.one-item.result in
     let all = matches_of (goal.at.loop-one-preserved c).After-deref-one-items in
-    let placed = classes_at items i m c.loop-one-test.true c.one-item.is (IsPlacement g (calc_left kind) (count_for kind)) all.lists.each in
+    let matched = classes_at items i m c.loop-one-test.true c.one-item.is (IsSubstitution g (calc_left kind) (variables_of kind)) all.lists.each in
     let left = match_at items i m c.loop-one-test.true c.one-item.is (λ (x : Match). IsClass g x.classes (calc_left kind) x.class) all.classes in
     let given = c.in_ok-given.given in
     let exact = c.in_ok-given.ensures in
@@ -77,7 +57,7 @@ loop-one-preserved c =
           let x = w.in_ok-with.field-0 in
           let same = w.in_ok-with.ensures in
           let after = loop_takes items i m c.loop-one-test.true c.one-item.is D c.loop-one.found.items c.loop-one.invariant.chosen _ x w.in_ok-push.ensures.items (ap classes_in same) (unmet_if g is kind m left e.0 e.2) in
-          let one = unmet_calc g is kind m left law.usable law.last numbers placed e.0 e.2 x (same ∙ ap (λ o. record { classes = m.classes; class = m.class; given = o }) e.1) in
+          let one = unmet_calc g is kind m left law.usable law.last numbers matched e.0 e.2 x (same ∙ ap (λ o. record { classes = m.classes; class = m.class; given = o }) e.1) in
           let each = each_more (IsUnmetCalc g kind) c.loop-one.found.items _ x c.loop-one.invariant.each w.in_ok-push.ensures.items one in
           record {
             chosen = subst (λ f. Chosen (AsItself D D) (map classes_in (take (i + 1) items)) (map classes_in f.items)) (sym w.found-is) after;
@@ -101,7 +81,7 @@ returns c =
     let law = c.computed_rules_are_true.ensures in
     let numbers = c.constants_are_numbered.ensures.numbers in
     let D = AreUnmet g kind in
-    let P = IsPlacement g (calc_left kind) (count_for kind) in
+    let P = IsSubstitution g (calc_left kind) (variables_of kind) in
     let all = matches_of (goal.at.returns c).After-deref-one-items in
     let listed = whole P D c.deref-one-items.result.now c.loop-one.found.items all.lists c.loop-one.one-index c.loop-one-test.false c.loop-one.invariant.chosen in
     let matches = lists_same (λ cs. P cs × D cs) (IsUnmetOf g (computed kind)) (map classes_in c.loop-one.found.items) (λ cs h. computed_unmet law.usable law.last g is kind cs numbers h) (λ cs h. unmet_computed law.usable law.last g is kind cs numbers h) listed in

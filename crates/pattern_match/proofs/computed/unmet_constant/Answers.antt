@@ -1,6 +1,6 @@
 use Rattle.std.proofs.Common.{◌≡◌, true, false, refl, sym, subst, subst₂}
 use Rattle.std.proofs.lemmas.Option.{MatchOption-at_none, MatchOption-at_some}
-use Rattle.pattern_match.specs.Bindings.{AreGiven, CanGive}
+use Rattle.pattern_match.specs.Matches.{AreGiven, CanGive}
 use Rattle.pattern_match.specs.Classes.{IsClass, CanFindClass}
 use Rattle.pattern_match.proofs.ComputedMatching.{met_given, right_can}
 use Rattle.pattern_match.proofs.computed.unmet_constant.Goals as goal

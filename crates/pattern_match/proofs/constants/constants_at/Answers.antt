@@ -2,7 +2,7 @@ use Rattle.std.proofs.Common.{◌≡◌, ◌+◌, get_or, take, slice_index, sym
 use Rattle.std.proofs.lemmas.Option.{MatchOption-at_some, MatchOption-at_none}
 use Rattle.word_terms.specs.Keys.{op_signature}
 use Rattle.egraph.specs.Graph.{HasConstant, LacksConstant}
-use Rattle.pattern_match.specs.Bindings.{HaveConstants}
+use Rattle.pattern_match.specs.Matches.{HaveConstants}
 use Rattle.pattern_match.proofs.ConstantsOf.{no_list, constants_more}
 use Rattle.pattern_match.proofs.constants.constants_at.Goals as goal
 use Rattle.pattern_match.proofs.constants.constants_at.Goals.{After-constant_of}

@@ -1,5 +1,5 @@
 use Rattle.std.proofs.Common.{take}
-use Rattle.pattern_match.specs.Bindings.{HaveConstants}
+use Rattle.pattern_match.specs.Matches.{HaveConstants}
 use Rattle.pattern_match.proofs.constants.constants_at.Given as goal
 
 abbrev pub invariant-loop-class : goal.invariant-loop-class

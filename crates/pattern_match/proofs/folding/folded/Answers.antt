@@ -3,8 +3,7 @@ use Rattle.std.proofs.lemmas.Option.{MatchOption-at_some, MatchOption-at_none}
 use Rattle.word_ops.specs.Operators.{value_of}
 use Rattle.word_ops.specs.declared.sorts.Op.TheVariants.{Constant}
 use Rattle.egraph.specs.Graph.{HasRow}
-use Rattle.pattern_match.specs.Bindings.{HaveConstants}
-use Rattle.pattern_match.specs.Matches.{IsUnmetFold}
+use Rattle.pattern_match.specs.Matches.{IsUnmetFold, HaveConstants}
 use Rattle.pattern_match.proofs.FoldSteps.{no_constants, counted, unmet_fold, met_fold}
 use Rattle.pattern_match.proofs.folding.folded.Goals as goal
 use Rattle.pattern_match.proofs.folding.folded.Goals.{After-deref, After-apply-value}

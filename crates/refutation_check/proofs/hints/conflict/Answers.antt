@@ -1,7 +1,7 @@
 use Rattle.std.proofs.Common.{◌≡◌, ℕ, ◌-◌, List, length, take, rules, refl, sym, subst, false, ◌∙◌, inr}
 use Rattle.std.specs.Prelude.{slice_index}
 use Rattle.std.proofs.lemmas.Bool.{false≢true}
-use Rattle.cnf_core.specs.Refutation.{known, clause_at, refuted, Reaches}
+use Rattle.cnf_core.specs.Refutation.{known_clauses, clause_at, negations, Reaches}
 use Rattle.refutation_check.proofs.Following.{no-hints, not-ends}
 use Rattle.refutation_check.proofs.hints.conflict.Goals as goal
 
@@ -12,8 +12,8 @@ returns-then-count-eq0-clause-err c =
 
 pub returns-then-not-is_false_clause-clause-err : goal.returns-then-not-is_false_clause-clause-err
 returns-then-not-is_false_clause-clause-err c =
-    let clauses = known c.args.cnf.now.clauses c.args.earlier.now in
-    let s = refuted c.args.line.now.lits in
+    let clauses = known_clauses c.args.cnf.now.clauses c.args.earlier.now in
+    let s = negations c.args.line.now.lits in
     let hints = c.args.line.now.hints in
     let (t, way, shows) = c.if-not-follow.ensures.led s c.requires.shows in
     let same = c.as_slice-hints.ensures in

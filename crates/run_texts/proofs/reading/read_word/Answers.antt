@@ -27,10 +27,10 @@ pub returns-then-not-may_stand-clause-fault : goal.returns-then-not-may_stand-cl
 returns-then-not-may_stand-clause-fault c =
     not_a_word c.args.text.now c.args.line c.args.run.now c.requires.so_far c.requires.line c.line_fault-then-not-may_stand.result c.line_fault-then-not-may_stand.ensures c.requires.first
     (λ n. (let same = one_word (line_at c.args.text.now c.args.line).words n.next c.in-Some.word n.is c.in-Some.ensures in
-    false≢true (sym c.if-not-may_stand.true ∙ c.may_stand.ensures.1
+    c.may_stand.ensures.no c.if-not-may_stand.true
     (subst (λ k. MayStandAt k c.len.result c.in-Some.word) (sym c.requires.count)
     (subst (λ k. MayStandAt (word_count (words_of_lines c.args.text.now)) k c.in-Some.word) (sym c.len.ensures)
-    (subst (MayStandAt (word_count (words_of_lines c.args.text.now)) (length c.args.run.now.words)) same n.stands))))))
+    (subst (MayStandAt (word_count (words_of_lines c.args.text.now)) (length c.args.run.now.words)) same n.stands)))))
 
 stands_here : (count other at place word : ℕ) → count ≡ other → at ≡ place → MayStandAt count at word → MayStandAt other place word
 stands_here count other at place word e f h = subst (λ k. MayStandAt k place word) e (subst (λ k. MayStandAt count k word) f h)
@@ -39,7 +39,7 @@ pub returns-then-len-eq-MOST_WORDS-clause-fault : goal.returns-then-len-eq-MOST_
 returns-then-len-eq-MOST_WORDS-clause-fault c =
     too_many_words c.args.text.now c.args.line c.args.run.now c.requires.so_far c.requires.line c.line_fault-then-len-eq-MOST_WORDS.result c.line_fault-then-len-eq-MOST_WORDS.ensures
     c.in-Some.word (c.is_empty.ensures.0 c.if-not-is_empty.false) (c.is_empty-else-not-is_empty.ensures.0 c.if-not-is_empty-2.false) c.in-Some.ensures
-    (stands_here _ _ _ _ c.in-Some.word c.requires.count c.len.ensures (c.may_stand.ensures.0 c.if-not-may_stand.false))
+    (stands_here _ _ _ _ c.in-Some.word c.requires.count c.len.ensures (c.may_stand.ensures.yes c.if-not-may_stand.false))
     (sym c.len-2.ensures ∙ c.if-len-eq-MOST_WORDS.true)
 
 pub returns-clause-ok : goal.returns-clause-ok
@@ -48,4 +48,4 @@ returns-clause-ok c =
     subst (λ ws. IsRunTextTo (words_of_lines c.args.text.now) (c.args.line + 1) (made ws c.args.run.now.registers c.args.run.now.places)) (sym c.in_ok-push.ensures.ok)
     (word_read c.args.text.now c.args.line c.args.run.now c.requires.so_far c.requires.line
     c.in-Some.word (c.is_empty.ensures.0 c.if-not-is_empty.false) (c.is_empty-else-not-is_empty.ensures.0 c.if-not-is_empty-2.false) c.in-Some.ensures
-    (stands_here _ _ _ _ c.in-Some.word c.requires.count c.len.ensures (c.may_stand.ensures.0 c.if-not-may_stand.false)) room)
+    (stands_here _ _ _ _ c.in-Some.word c.requires.count c.len.ensures (c.may_stand.ensures.yes c.if-not-may_stand.false)) room)

@@ -6,7 +6,7 @@ use Rattle.cnf_core.specs.Formula.{IsLitOf}
 use Rattle.cnf_core.specs.Values.{IsUnit, IsOpenClause, IsFalseClause}
 use Rattle.cnf_core.specs.Refutation.{clause_at}
 use Rattle.sat_core.specs.declared.trail.Step.{Step}
-use Rattle.sat_core.specs.Steps.{given, trail_values, var_count, IsRightStep, IsTrailState}
+use Rattle.sat_core.specs.Steps.{assignment_of, trail_values, var_count, IsRightStep, IsTrailState}
 use Rattle.sat_core.proofs.Holding.{held-push-same}
 use Rattle.sat_core.proofs.States.{reason-right}
 use Rattle.sat_core.proofs.propagation.assert_unit.Goals as goal
@@ -21,7 +21,7 @@ right c =
     let is = at-place clauses c.args.place ∙ get_or_from_slice_get clauses c.args.place c.get.result.now [] c.get.ensures in
     let few = c.requires.place in
     reason-right clauses (var_count t) t.steps.items t.values.items t.indices.items t.decisions.items c.in-Unit.lit (c.args.place + 1) c.requires.state c.requires.exist
-    (record { low = omega arith; high = omega arith; unit = subst (λ (x : List Lit). IsUnit (given t.values.items) x c.in-Unit.lit) (sym is) c.in-Unit.ensures })
+    (record { low = omega arith; high = omega arith; unit = subst (λ (x : List Lit). IsUnit (assignment_of t.values.items) x c.in-Unit.lit) (sym is) c.in-Unit.ensures })
 
 pub returns-in_ok-assign-in-Unit-clause-state : goal.returns-in_ok-assign-in-Unit-clause-state
 returns-in_ok-assign-in-Unit-clause-state c = c.in_ok-assign-in-Unit.ensures.state c.args.clauses.now c.requires.state (right c).1
@@ -35,7 +35,7 @@ returns-in_ok-assign-in-Unit-clause-done c =
     let step : Step = record { lit = lit; reason = Some (c.args.place + 1) } in
     let state : IsTrailState clauses (var_count t) c.assign.new.self = c.in_ok-assign-in-Unit.ensures.state clauses c.requires.state r.1 in
     let value = subst (λ (ss : List Step). trail_values ss lit.var ≡ Some lit.positive) (sym c.in_ok-assign-in-Unit.ensures.steps) (held-push-same t.steps.items step r.1.free) in
-    let u : IsUnit (given t.values.items) c.get.result.now lit = c.in-Unit.ensures in
+    let u : IsUnit (assignment_of t.values.items) c.get.result.now lit = c.in-Unit.ensures in
     inl (
       lit,
       subst (λ (x : List Lit). Contains x lit) (sym (get_or_from_slice_get clauses c.args.place c.get.result.now [] c.get.ensures)) u.among,
@@ -47,8 +47,8 @@ returns-in-Falsified-clause-done c =
     let clauses = c.args.clauses.now in
     let is = at-place clauses c.args.place ∙ get_or_from_slice_get clauses c.args.place c.get.result.now [] c.get.ensures in
     let few = c.requires.place in
-    record { low = omega arith; high = omega arith; false' = subst (IsFalseClause (given c.args.trail.now.values.items)) (sym is) c.in-Falsified.ensures }
+    record { low = omega arith; high = omega arith; false' = subst (IsFalseClause (assignment_of c.args.trail.now.values.items)) (sym is) c.in-Falsified.ensures }
 
 pub returns-in-Open-clause-done : goal.returns-in-Open-clause-done
 returns-in-Open-clause-done c =
-    subst (IsOpenClause (given c.args.trail.now.values.items)) (sym (get_or_from_slice_get c.args.clauses.now c.args.place c.get.result.now [] c.get.ensures)) c.in-Open.ensures
+    subst (IsOpenClause (assignment_of c.args.trail.now.values.items)) (sym (get_or_from_slice_get c.args.clauses.now c.args.place c.get.result.now [] c.get.ensures)) c.in-Open.ensures

@@ -1,7 +1,7 @@
 use Rattle.std.proofs.Common.{ℕ, ◌<◌, None, length, refl, sym, ap, ◌∙◌, subst, arith}
 use Rattle.cnf_core.specs.Formula.{IsLitOf}
 use Rattle.sat_core.specs.declared.trail.Step.{Step}
-use Rattle.sat_core.specs.Steps.{given, var_count, IsTrailState}
+use Rattle.sat_core.specs.Steps.{assignment_of, var_count, IsTrailState}
 use Rattle.sat_core.specs.Watches.{list_of, watchers, AreWatched, IsFalsifiedAt, VisitSays}
 use Rattle.sat_core.proofs.Watching.{list-within, propagates-trans, falsified-later, passed-start, kept-next}
 use Rattle.sat_core.proofs.Visiting.{propagates-none, falsified-by, list-read}
@@ -35,7 +35,7 @@ loop-place-preserved-in-Stays c =
     let w' = c.visit_watcher.new.watches in
     let lit = c.negated-lit.result in
     let count = length (watchers w.lists.items (list_of lit)) in
-    let says = subst (VisitSays clauses new.steps.items (given new.values.items) lit c.loop-place.place count w') c.in-Stays.is e.says in
+    let says = subst (VisitSays clauses new.steps.items (assignment_of new.values.items) lit c.loop-place.place count w') c.in-Stays.is e.says in
     record {
       state = subst (λ (n : ℕ). IsTrailState clauses n new) h.size e.state;
       adds = propagates-trans c.args.trail.now.steps.items old.steps.items new.steps.items h.adds e.adds;
@@ -58,7 +58,7 @@ loop-place-preserved c =
     let w' = c.visit_watcher.new.watches in
     let lit = c.negated-lit.result in
     let count = length (watchers w.lists.items (list_of lit)) in
-    let says = subst (VisitSays clauses new.steps.items (given new.values.items) lit c.loop-place.place count w') c.in-Moved.is e.says in
+    let says = subst (VisitSays clauses new.steps.items (assignment_of new.values.items) lit c.loop-place.place count w') c.in-Moved.is e.says in
     record {
       state = subst (λ (n : ℕ). IsTrailState clauses n new) h.size e.state;
       adds = propagates-trans c.args.trail.now.steps.items old.steps.items new.steps.items h.adds e.adds;

@@ -5,7 +5,7 @@ use Rattle.std.proofs.lemmas.Option.{get_or_from_slice_get}
 use Rattle.std.proofs.lemmas.List.Elements.{All-contains, Contains-get_or}
 use Rattle.cnf_core.specs.Formula.{IsLitOf}
 use Rattle.sat_core.specs.declared.watches.Pair.{Pair}
-use Rattle.sat_core.specs.Steps.{given, var_count}
+use Rattle.sat_core.specs.Steps.{assignment_of, var_count}
 use Rattle.sat_core.specs.declared.watches.Watcher.{Watcher}
 use Rattle.sat_core.specs.Watches.{no_literal, list_of, watchers, with_watcher, with_blocker, IsRemoved, KeepWatches, ArePassedIn}
 use Rattle.sat_core.proofs.States.{reason-right}
@@ -131,7 +131,7 @@ returns-then-is_false-clause-says c =
     let steps = t.steps.items in
     let v = visit-start clauses n steps w.lists.items w.pairs.items w.head l place c.list_place-list.result c.index.result.now watcher c.requires.watched c.requires.exist c.requires.lit c.requires.place c.list_place-list.ensures c.index.ensures c.get-watcher.ensures in
     let is : c.get-clause.result.now ≡ get_or clauses watcher.clause [] = sym (get_or_from_slice_get clauses watcher.clause c.get-clause.result.now [] c.get-clause.ensures) in
-    visit-falsified (given t.values.items) clauses watcher.clause c.get-clause.result.now c.other_than-other.result is v.exists c.in-None.ensures (c.is_false.ensures.0 c.if-is_false.true)
+    visit-falsified (assignment_of t.values.items) clauses watcher.clause c.get-clause.result.now c.other_than-other.result is v.exists c.in-None.ensures (c.is_false.ensures.0 c.if-is_false.true)
 
 pub returns-in_ok-move_watch-in-Some-clause-watched : goal.returns-in_ok-move_watch-in-Some-clause-watched
 returns-in_ok-move_watch-in-Some-clause-watched c =
@@ -202,7 +202,7 @@ returns-in_ok-assign-in-None-clause-state c =
     let other = c.other_than-other.result in
     let o = visit-other clauses n steps w.lists.items w.pairs.items w.head l place watcher c.index-old.result.now other c.requires.watched v c.index-old.ensures c.other_than-other.ensures in
     let is : c.get-clause.result.now ≡ get_or clauses watcher.clause [] = sym (get_or_from_slice_get clauses watcher.clause c.get-clause.result.now [] c.get-clause.ensures) in
-    let r = visit-unit (given t.values.items) clauses watcher.clause c.get-clause.result.now other is v.exists o.among c.in-None.ensures (iff_false c.is_true-2.ensures c.if-is_true-2.false) (iff_false c.is_false.ensures c.if-is_false.false) in
+    let r = visit-unit (assignment_of t.values.items) clauses watcher.clause c.get-clause.result.now other is v.exists o.among c.in-None.ensures (iff_false c.is_true-2.ensures c.if-is_true-2.false) (iff_false c.is_false.ensures c.if-is_false.false) in
     let right = reason-right clauses n steps t.values.items t.indices.items t.decisions.items other (watcher.clause + 1) c.requires.state c.requires.exist r in
     c.in_ok-assign-in-None.ensures.state clauses c.requires.state right.1
 
@@ -220,7 +220,7 @@ returns-in_ok-assign-in-None-clause-watched c =
     let other = c.other_than-other.result in
     let o = visit-other clauses n steps w.lists.items w.pairs.items w.head l place watcher c.index-old.result.now other c.requires.watched v c.index-old.ensures c.other_than-other.ensures in
     let is : c.get-clause.result.now ≡ get_or clauses watcher.clause [] = sym (get_or_from_slice_get clauses watcher.clause c.get-clause.result.now [] c.get-clause.ensures) in
-    let r = visit-unit (given t.values.items) clauses watcher.clause c.get-clause.result.now other is v.exists o.among c.in-None.ensures (iff_false c.is_true-2.ensures c.if-is_true-2.false) (iff_false c.is_false.ensures c.if-is_false.false) in
+    let r = visit-unit (assignment_of t.values.items) clauses watcher.clause c.get-clause.result.now other is v.exists o.among c.in-None.ensures (iff_false c.is_true-2.ensures c.if-is_true-2.false) (iff_false c.is_false.ensures c.if-is_false.false) in
     let right = reason-right clauses n steps t.values.items t.indices.items t.decisions.items other (watcher.clause + 1) c.requires.state c.requires.exist r in
     let done = visit-step clauses n steps c.assign.new.self.steps.items w.lists.items w.pairs.items w.head l place watcher other (watcher.clause + 1) c.requires.head.within c.in_ok-assign-in-None.ensures.steps v o.among right.1 c.requires.watched c.requires.passed in
     done.0
@@ -239,7 +239,7 @@ returns-in_ok-assign-in-None-clause-says c =
     let other = c.other_than-other.result in
     let o = visit-other clauses n steps w.lists.items w.pairs.items w.head l place watcher c.index-old.result.now other c.requires.watched v c.index-old.ensures c.other_than-other.ensures in
     let is : c.get-clause.result.now ≡ get_or clauses watcher.clause [] = sym (get_or_from_slice_get clauses watcher.clause c.get-clause.result.now [] c.get-clause.ensures) in
-    let r = visit-unit (given t.values.items) clauses watcher.clause c.get-clause.result.now other is v.exists o.among c.in-None.ensures (iff_false c.is_true-2.ensures c.if-is_true-2.false) (iff_false c.is_false.ensures c.if-is_false.false) in
+    let r = visit-unit (assignment_of t.values.items) clauses watcher.clause c.get-clause.result.now other is v.exists o.among c.in-None.ensures (iff_false c.is_true-2.ensures c.if-is_true-2.false) (iff_false c.is_false.ensures c.if-is_false.false) in
     let right = reason-right clauses n steps t.values.items t.indices.items t.decisions.items other (watcher.clause + 1) c.requires.state c.requires.exist r in
     let done = visit-step clauses n steps c.assign.new.self.steps.items w.lists.items w.pairs.items w.head l place watcher other (watcher.clause + 1) c.requires.head.within c.in_ok-assign-in-None.ensures.steps v o.among right.1 c.requires.watched c.requires.passed in
     (done.1, refl)

@@ -2,7 +2,7 @@ use Rattle.std.proofs.Common.{◌≡◌, ℕ, Bool, List, Option, [], ◌∷◌,
 use Rattle.std.specs.Prelude.{MatchBool, MatchOption, slice_index}
 use Rattle.cnf_core.specs.Values.{IsClosed}
 use Rattle.sat_core.specs.declared.trail.Trail.{Trail}
-use Rattle.sat_core.specs.Steps.{given, var_count, AreClosedBefore}
+use Rattle.sat_core.specs.Steps.{assignment_of, var_count, AreClosedBefore}
 use Rattle.sat_core.specs.FalseClauses.{IsFalsified}
 use Rattle.sat_core.specs.Picks.{IsDecidedBy, free_list, decision_of}
 use Rattle.sat_core.specs.declared.trail.Step.{Step}
@@ -27,8 +27,8 @@ returns-then-not-branch-clause-done g c =
     let mid = c.propagate.new.trail in
     let clauses = c.args.clauses.now in
     let decided = subst (λ (b : Bool). MatchBool b (IsDecidedBy g.F.Rule.picks c.args.picker.now c.loop-id.scores.counts.items mid c.decide.new.trail) ((free_list mid.values.items ≡ []) × (c.decide.new.trail ≡ mid))) c.if-not-branch.true c.in_ok-decide.ensures.decided in
-    let closed = subst (λ (o : Option ℕ). MatchOption o (IsClosed (given mid.values.items) clauses) (IsFalsified (given mid.values.items) clauses)) c.in_default.is c.in_ok-id.ensures.done in
-    subst (λ (t : Trail). IsClosed (given t.values.items) clauses × (free_list t.values.items ≡ [])) (sym decided.1) (closed, decided.0)
+    let closed = subst (λ (o : Option ℕ). MatchOption o (IsClosed (assignment_of mid.values.items) clauses) (IsFalsified (assignment_of mid.values.items) clauses)) c.in_default.is c.in_ok-id.ensures.done in
+    subst (λ (t : Trail). IsClosed (assignment_of t.values.items) clauses × (free_list t.values.items ≡ [])) (sym decided.1) (closed, decided.0)
 
 pub propagate-requires-clause-watched : goal.propagate-requires-clause-watched
 propagate-requires-clause-watched g c =
@@ -51,7 +51,7 @@ loop-id-preserved g c =
     let clauses = c.args.clauses.now in
     let h = c.loop-id.invariant in
     let d = subst (λ (b : Bool). MatchBool b (IsDecidedBy g.F.Rule.picks c.args.picker.now c.loop-id.scores.counts.items mid c.decide.new.trail) ((free_list mid.values.items ≡ []) × (c.decide.new.trail ≡ mid))) c.if-not-branch.false c.in_ok-decide.ensures.decided in
-    let closed = subst (λ (o : Option ℕ). MatchOption o (IsClosed (given mid.values.items) clauses) (IsFalsified (given mid.values.items) clauses)) c.in_default.is c.in_ok-id.ensures.done in
+    let closed = subst (λ (o : Option ℕ). MatchOption o (IsClosed (assignment_of mid.values.items) clauses) (IsFalsified (assignment_of mid.values.items) clauses)) c.in_default.is c.in_ok-id.ensures.done in
     let a = advanced clauses (var_count c.args.trail.now) c.loop-id.trail mid c.decide.new.trail (decision_of (slice_index (free_list mid.values.items) d.place)) c.requires.exist h.size h.before c.in_ok-id.ensures.state c.in_ok-id.ensures.adds closed d.steps d.state in
     let w = c.propagate.new.watches in
     let step : Step = decision_of (slice_index (free_list mid.values.items) d.place) in
@@ -72,7 +72,7 @@ loop-id-smaller g c =
     let clauses = c.args.clauses.now in
     let h = c.loop-id.invariant in
     let d = subst (λ (b : Bool). MatchBool b (IsDecidedBy g.F.Rule.picks c.args.picker.now c.loop-id.scores.counts.items mid c.decide.new.trail) ((free_list mid.values.items ≡ []) × (c.decide.new.trail ≡ mid))) c.if-not-branch.false c.in_ok-decide.ensures.decided in
-    let closed = subst (λ (o : Option ℕ). MatchOption o (IsClosed (given mid.values.items) clauses) (IsFalsified (given mid.values.items) clauses)) c.in_default.is c.in_ok-id.ensures.done in
+    let closed = subst (λ (o : Option ℕ). MatchOption o (IsClosed (assignment_of mid.values.items) clauses) (IsFalsified (assignment_of mid.values.items) clauses)) c.in_default.is c.in_ok-id.ensures.done in
     let a = advanced clauses (var_count c.args.trail.now) c.loop-id.trail mid c.decide.new.trail (decision_of (slice_index (free_list mid.values.items) d.place)) c.requires.exist h.size h.before c.in_ok-id.ensures.state c.in_ok-id.ensures.adds closed d.steps d.state in
     let size = h.size in
     let size' = a.size in

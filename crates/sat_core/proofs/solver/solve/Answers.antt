@@ -11,7 +11,7 @@ use Rattle.cnf_core.specs.Values.{IsClosed}
 use Rattle.sat_core.specs.declared.trail.Step.{Step}
 use Rattle.sat_core.specs.declared.trail.Value.{Value}
 use Rattle.sat_core.specs.declared.watches.Watches.{Watches}
-use Rattle.sat_core.specs.Steps.{truth_value, given, var_count, IsTrailState}
+use Rattle.sat_core.specs.Steps.{truth_value, assignment_of, var_count, IsTrailState}
 use Rattle.sat_core.specs.Walks.{AreNoMarks}
 use Rattle.sat_core.specs.Watches.{AreWatched, KeepWatches}
 use Rattle.sat_core.proofs.Ending.{marks-none}
@@ -80,7 +80,7 @@ returns-in-None-clause-solved g c =
     let h = c.loop-made.invariant.search in
     let clauses = c.loop-made.clauses in
     let values = c.advance.new.trail.values.items in
-    let done = subst (λ (o : Option ℕ). MatchOption o (IsClosed (given values) clauses × (free_list values ≡ [])) (IsFalsified (given values) clauses)) c.in-None.is c.in_ok-advance.ensures.done in
+    let done = subst (λ (o : Option ℕ). MatchOption o (IsClosed (assignment_of values) clauses × (free_list values ≡ [])) (IsFalsified (assignment_of values) clauses)) c.in-None.is c.in_ok-advance.ensures.done in
     let size : length values ≡ f.vars = c.in_ok-advance.ensures.state.size ∙ h.vars in
     search-solved f c.loop-made.lines clauses f.vars values c.in_ok-all_values-in-None.field-0 h.known' h.exist size done.0 done.1
     (c.in_ok-all_values-in-None.ensures ∙ ap (λ (vs : List Value). map (λ v. unwrap_or (truth_value v) false) vs) c.as_slice.ensures.value)

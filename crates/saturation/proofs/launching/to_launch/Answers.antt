@@ -9,7 +9,7 @@ use Rattle.graph_meaning.specs.declared.graphs.LaunchGraph.{LaunchGraph}
 use Rattle.saturation.specs.GoalTerms.{entry_term, input_term}
 use Rattle.saturation.specs.Numbered.{IsClassNumber, IsInputNumber, IsSetNumber, IsGuardNumber, firsts, indexes_of, launched_row}
 use Rattle.saturation.proofs.LaunchedRows.{few_used}
-use Rattle.saturation.proofs.LaunchedGraphs.{inputs_have, guard_has, guard_read, sets_have, sets_read, IsMade, launched, keeps_grown, keeps_stop}
+use Rattle.saturation.proofs.LaunchedGraphs.{inputs_have, guard_has, guard_read, sets_have, sets_read, IsApplied, launched, keeps_grown, keeps_stop}
 use Rattle.saturation.proofs.launching.to_launch.Goals as goal
 
 pub launch_rows-requires-clause-used : goal.launch_rows-requires-clause-used
@@ -39,7 +39,7 @@ returns c =
     let graph = c.args.saturated.now.graph in
     let numbers = c.in_ok-numbers.numbers.items in
     let g : LaunchGraph = record { rows = c.from.result; entry = c.leaf_number.result; inputs = c.from-2.result; pool = c.in_ok-from_slice.field-0; guard = c.in_ok-launch_guard.field-0; sets = c.from-3.result } in
-    let made : IsMade (input_view c.args.input.now) c.args.goal.now c.requires.input c.requires.goal graph c.requires.can numbers g = record {
+    let made : IsApplied (input_view c.args.input.now) c.args.goal.now c.requires.input c.requires.goal graph c.requires.can numbers g = record {
       numbers_are = c.in_ok-numbers.ensures.numbers;
       rows_are =
           c.from.ensures

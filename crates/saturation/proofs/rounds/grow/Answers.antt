@@ -1,7 +1,7 @@
 use Rattle.std.proofs.Common.{◌≢◌, ◌+◌, ◌≤◌, eqb, length, map, sym, subst, arith}
 use Rattle.std.proofs.lemmas.Result.{err_from_is_err_and}
 use Rattle.saturation.specs.Steps.{StepFits, CallsForRound}
-use Rattle.saturation.specs.Trace.{CanMakeAll, AreAllMade, operators_asked}
+use Rattle.saturation.specs.Trace.{CanApplyAll, AreAllApplied, operators_asked}
 use Rattle.saturation.specs.Instances.{asked_of, RefusalOfAll}
 use Rattle.saturation.proofs.Asks.{asks_of}
 use Rattle.saturation.proofs.LoopSteps.{Ready, running_none, round_can, running_more, fault_is, fault_hopeless, not_last, is_last, end_is}
@@ -50,12 +50,12 @@ facts c =
       within = on.within;
     }
 
-pub make_all-requires : goal.make_all-requires
-make_all-requires c =
+pub apply_all-requires : goal.apply_all-requires
+apply_all-requires c =
     let f = facts c in
     let asked = map asked_of c.in-Round.asked.items in
     let can = round_can c.args.program.now c.args.graph c.args.rounds c.args.nodes c.loop-graph.graph c.loop-graph.done c.loop-graph.invariant asked (operators_asked asked) f.ready c.requires.rounds c.requires.nodes f.some f.more f.within in
-    record { can = subst (λ xs. CanMakeAll c.loop-graph.graph (map asked_of xs)) (sym c.deref.ensures.value) can }
+    record { can = subst (λ xs. CanApplyAll c.loop-graph.graph (map asked_of xs)) (sym c.deref.ensures.value) can }
 
 pub returns-in_err-graph-in-Round-clause-fault : goal.returns-in_err-graph-in-Round-clause-fault
 returns-in_err-graph-in-Round-clause-fault c =
@@ -81,5 +81,5 @@ pub loop-graph-preserved : goal.loop-graph-preserved
 loop-graph-preserved c =
     let f = facts (goal.at.loop-graph-preserved c).After-deref in
     let asked = map asked_of c.in-Round.asked.items in
-    let made = subst (λ xs. AreAllMade (map asked_of xs) c.loop-graph.graph c.in_ok-graph-in-Round.graph) c.deref.ensures.value c.in_ok-graph-in-Round.ensures.made in
+    let made = subst (λ xs. AreAllApplied (map asked_of xs) c.loop-graph.graph c.in_ok-graph-in-Round.graph) c.deref.ensures.value c.in_ok-graph-in-Round.ensures.made in
     running_more c.args.program.now c.args.graph c.args.rounds c.args.nodes c.loop-graph.graph c.loop-graph.done c.loop-graph.invariant asked (operators_asked asked) f.ready c.requires.rounds c.requires.nodes f.some f.more f.within c.meanings_are_in_range.ensures.values c.schemes_are_true.ensures.true_rules c.in_ok-graph-in-Round.graph made

@@ -1,13 +1,77 @@
-use Rattle.std.proofs.Common.{subst}
+use Rattle.std.proofs.Common.{◌≡◌, ◌≤◌, ◌+◌, ◌-◌, ◌^◌, min, length, map, ap, ◌∙◌, subst, arith}
 use Rattle.std.specs.List.{AllZip}
-use Rattle.saturation.specs.Asking.{AreUnmetOf}
+use Rattle.std.proofs.lemmas.Option.{MatchOption-at_some, MatchOption-at_none}
+use Rattle.axiom_base.specs.Equations as rows
+use Rattle.axiom_base.specs.Schemes.{plain, computed, calc_kinds}
+use Rattle.pattern_match.specs.Matches.{AreNeeds}
+use Rattle.saturation.specs.Asking.{AreUnmetOf, AreUnmetOfKind, NeedMoreThan, asked_of_each, rule_asked, kind_asked}
+use Rattle.saturation.specs.Trace.{operators_asked}
+use Rattle.saturation.proofs.Needed.{over_by_kinds, over_by_equations, over_by_program}
+use Rattle.saturation.proofs.Searched.{rules_are_asked, kinds_are_asked, zip_length}
 use Rattle.saturation.proofs.searching.search.Goals as goal
+use Rattle.saturation.proofs.searching.search.Goals.{After-saturating_sub-room}
 
-pub returns-clause-found : goal.returns-clause-found
-returns-clause-found c = record {
-  equations = subst (λ rs. AllZip (AreUnmetOf c.args.graph.now) rs c.in_ok-equations.equations.items) c.requires.equations c.in_ok-equations.ensures.found;
-  program = c.in_ok-program.ensures.found;
-  kinds = c.in_ok-kinds.ensures.found;
-  folds = c.in_ok-folds.ensures.exact;
-  folds_need = c.in_ok-folds.ensures.need;
-}
+pub with_kinds-requires : goal.with_kinds-requires
+with_kinds-requires c = ap length c.deref.ensures.value ∙ zip_length (AreUnmetOfKind c.args.graph.now) calc_kinds c.in_ok-kinds.kinds.items c.in_ok-kinds.ensures.found
+
+-- what the computed rules need
+kinds_need : (c : After-saturating_sub-room) → AreNeeds c.args.graph.now (map computed calc_kinds) (operators_asked (asked_of_each kind_asked calc_kinds c.in_ok-kinds.kinds.items))
+kinds_need c = (kinds_are_asked c.schemes_are_true.ensures.weights c.args.graph.now c.in_ok-kinds.kinds.items c.in_ok-kinds.ensures.found).needs
+
+before_is : (c : After-saturating_sub-room) → c.in_ok-before.before ≤ length c.in_ok-folds.folds + operators_asked (asked_of_each kind_asked calc_kinds c.in_ok-kinds.kinds.items)
+before_is c =
+    let e = c.in_ok-before.ensures ∙ ap (λ fs. min (c.len.result + operators_asked (asked_of_each kind_asked calc_kinds fs)) (2 ^ 64 - 1)) c.deref.ensures.value in
+    omega (arith, e, c.len.ensures)
+
+room_is : (c : After-saturating_sub-room) → c.saturating_sub-room.result ≡ c.args.nodes - length c.args.graph.now.rows
+room_is c =
+    let e : c.saturating_sub-room.result ≡ c.from.result - c.from-2.result = c.saturating_sub-room.ensures in
+    omega (arith, e, c.from.ensures, c.from-2.ensures, c.rows.ensures.value)
+
+pub returns-then-before-room : goal.returns-then-before-room
+returns-then-before-room c =
+    let a = (goal.at.returns-then-before-room c).After-saturating_sub-room in
+    record { found = over_by_kinds c.args.graph.now c.requires.graph c.args.program.now _ _ c.args.nodes c.saturating_sub-room.result c.in_ok-before.before (kinds_need a) c.in_ok-folds.ensures.need (before_is a) (room_is a) c.if-before-room.true }
+
+pub returns-in_default : goal.returns-in_default
+returns-in_default c =
+    let a = (goal.at.returns-in_default c).After-saturating_sub-room in
+    let g = c.args.graph.now in
+    let none = MatchOption-at_none _ _ c.in_default.is c.in_ok-by_equation.ensures.found in
+    let more = subst (λ rs. NeedMoreThan g (map plain rs) (c.saturating_sub-room.result - c.in_ok-before.before)) c.requires.equations none in
+    record { found = over_by_equations g c.requires.graph c.args.program.now _ _ c.args.nodes c.saturating_sub-room.result c.in_ok-before.before (kinds_need a) c.in_ok-folds.ensures.need (before_is a) (room_is a) more }
+
+pub with_rules-so_far-requires : goal.with_rules-so_far-requires
+with_rules-so_far-requires c =
+    let some = MatchOption-at_some _ _ c.in-Some.by_equation c.in-Some.is c.in_ok-by_equation.ensures.found in
+    ap length c.deref-2.ensures.value ∙ zip_length (AreUnmetOf c.args.graph.now) c.args.equations.now c.in-Some.by_equation.items some.0
+
+pub returns-in_default-2 : goal.returns-in_default-2
+returns-in_default-2 c =
+    let a = (goal.at.returns-in_default-2 c).After-saturating_sub-room in
+    let g = c.args.graph.now in
+    let some = MatchOption-at_some _ _ c.in-Some.by_equation c.in-Some.is c.in_ok-by_equation.ensures.found in
+    let none = MatchOption-at_none _ _ c.in_default-2.is c.in_ok-by_rule.ensures.found in
+    let E = asked_of_each rule_asked c.args.equations.now c.in-Some.by_equation.items in
+    let needs = subst (λ rs. AreNeeds g (map plain rs) (operators_asked E)) c.requires.equations (rules_are_asked c.schemes_are_true.ensures.weights g c.args.equations.now c.in-Some.by_equation.items some.0).needs in
+    let so_far = c.with_rules-so_far.ensures ∙ ap (λ fs. min (c.in_ok-before.before + operators_asked (asked_of_each rule_asked c.args.equations.now fs)) (2 ^ 64 - 1)) c.deref-2.ensures.value in
+    let more = subst (NeedMoreThan g (map plain c.args.program.now)) c.saturating_sub-left.ensures none in
+    record { found = over_by_program g c.requires.graph c.args.program.now _ _ c.args.nodes c.saturating_sub-room.result c.in_ok-before.before (kinds_need a) c.in_ok-folds.ensures.need (before_is a) (room_is a) (operators_asked E) c.with_rules-so_far.result needs (omega (arith, so_far)) more }
+
+pub returns : goal.returns
+returns c =
+    let g = c.args.graph.now in
+    let by_equation = MatchOption-at_some _ _ c.in-Some.by_equation c.in-Some.is c.in_ok-by_equation.ensures.found in
+    let by_rule = MatchOption-at_some _ _ c.in-Some-2.by_rule c.in-Some-2.is c.in_ok-by_rule.ensures.found in
+    record {
+      found = (
+        record {
+          equations = subst (λ rs. AllZip (AreUnmetOf g) rs c.in-Some.by_equation.items) c.requires.equations by_equation.0;
+          program = by_rule.0;
+          kinds = c.in_ok-kinds.ensures.found;
+          folds = c.in_ok-folds.ensures.exact;
+          folds_need = c.in_ok-folds.ensures.need;
+        },
+        by_rule.1,
+      );
+    }

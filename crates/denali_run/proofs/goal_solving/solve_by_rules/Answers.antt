@@ -1,0 +1,130 @@
+use Rattle.std.proofs.Common.{refl, subst, List, Contains, length, map}
+use Rattle.std.proofs.lemmas.List.Elements.{All-contains}
+use Rattle.axiom_base.specs.Rewrites.{Rewrite}
+use Rattle.goal_meaning.specs.Names.{declared_name}
+use Rattle.goal_meaning.specs.Views.{goal_view, input_view}
+use Rattle.goal_meaning.specs.WellFormed.{IsGoal}
+use Rattle.saturation.specs.AtStart.{most_rows_at_start}
+use Rattle.saturation.specs.Launched.{row_in}
+use Rattle.saturation.specs.GoalTerms.{assumed_pairs, kept_terms, present_terms, rules_of}
+use Rattle.saturation.specs.GraphStands.{GraphStands}
+use Rattle.saturation.specs.Rounds.{IsHopeless, IsSaturated, KeepsStanding, SaturateFaultIs}
+use Rattle.denali_run.specs.declared.results.Matched.{Matched}
+use Rattle.denali_run.proofs.WorkedGoals.{RulesAreTrue, few_rows, for_the_goal, found_of, grown_after, is_one, launched_few, matched_is, rounds_refused, start_refused, there}
+use Rattle.denali_run.proofs.goal_solving.solve_by_rules.Goals as goal
+
+pub start-requires : goal.start-requires
+start-requires g c =
+    let goals = c.args.input.now.goals in
+    let goal = c.index-as_slice-at.result in
+    record {
+      goal = (
+        c.args.input.now.ops,
+        All-contains (IsGoal c.args.input.now.ops) (map goal_view goals) (goal_view goal) c.requires.input.goals
+            (is_one goals c.as_slice.result.now c.args.at goal c.as_slice.ensures c.requires.at c.index-as_slice-at.is),
+      );
+    }
+
+pub returns-in-Err : goal.returns-in-Err
+returns-in-Err g c =
+    let input = input_view c.args.input.now in
+    let goals = c.args.input.now.goals in
+    let goal = c.index-as_slice-at.result in
+    let rules_true : RulesAreTrue (input_view c.args.input.now) (goal_view c.index-as_slice-at.result) =
+    λ world is holds. c.axioms_make_rules_true.ensures.true_rules input (goal_view goal) world c.requires.input holds in
+    record {
+      right = for_the_goal input c.args.settings.now c.args.at (goal_view goal)
+          (there goals c.as_slice.result.now c.args.at goal c.as_slice.ensures c.requires.at c.index-as_slice-at.is)
+          c.no_world_at_start.result
+          (start_refused input (goal_view goal) c.args.settings.now rules_true c.in-Err.fault c.no_world_at_start.result
+          c.in-Err.ensures.fault c.in-Err.ensures.hopeless c.in-Err.ensures.low c.no_world_at_start.ensures);
+    }
+
+pub returns-in-Err-saturate : goal.returns-in-Err-saturate
+returns-in-Err-saturate g c =
+    let input = input_view c.args.input.now in
+    let goals = c.args.input.now.goals in
+    let goal = c.index-as_slice-at.result in
+    let s = c.args.settings.now in
+    let rules_true : RulesAreTrue (input_view c.args.input.now) (goal_view c.index-as_slice-at.result) =
+    λ world is holds. c.axioms_make_rules_true.ensures.true_rules input (goal_view goal) world c.requires.input holds in
+    let at_rules : (F : List Rewrite → Type 0) → F c.args.rules.now.program
+    → F (rules_of (input_view c.args.input.now)) = λ F h. subst F c.requires.rules h in
+    record {
+      right = for_the_goal input s c.args.at (goal_view goal)
+          (there goals c.as_slice.result.now c.args.at goal c.as_slice.ensures c.requires.at c.index-as_slice-at.is)
+          c.no_world_in_rounds.result
+          (rounds_refused input (goal_view goal) s rules_true c.in-Ok.graph (c.in-Ok.ensures.grown (rules_of input))
+          (c.in-Ok.ensures.stands (declared_name c.args.input.now.ops) (rules_of input)) c.in-Err-saturate.fault
+          c.no_world_in_rounds.result
+          (at_rules (λ rs. SaturateFaultIs rs c.in-Ok.graph s.rounds s.nodes c.in-Err-saturate.fault)
+          c.in-Err-saturate.ensures.fault)
+          (at_rules (λ rs. IsHopeless rs c.in-Ok.graph c.in-Err-saturate.fault) c.in-Err-saturate.ensures.hopeless)
+          c.in-Err-saturate.ensures.low c.no_world_in_rounds.ensures);
+    }
+
+pub to_launch-requires : goal.to_launch-requires
+to_launch-requires g c =
+    let input = input_view c.args.input.now in
+    let goals = c.args.input.now.goals in
+    let goal = c.index-as_slice-at.result in
+    let s = c.args.settings.now in
+    let one : Contains (map goal_view c.args.input.now.goals) (goal_view c.index-as_slice-at.result) =
+    is_one goals c.as_slice.result.now c.args.at goal c.as_slice.ensures c.requires.at c.index-as_slice-at.is in
+    record {
+      input = c.requires.input;
+      goal = one;
+      can = c.grown_graphs_can_be_launched.ensures.can input (goal_view goal) c.in-Ok-saturate.saturated.graph
+          c.in-Ok-saturate.saturated.rounds c.requires.input one c.in-Ok-saturate.ensures.saturated.graph
+          (few_rows _ _ _ s.nodes c.in-Ok.ensures.few c.in-Ok.ensures.graph.few_rows c.requires.settings.nodes.1
+          c.in-Ok-saturate.ensures.few)
+          (grown_after input (goal_view goal) c.args.rules.now.program c.in-Ok.graph
+          c.in-Ok-saturate.saturated.graph s.rounds s.nodes c.in-Ok-saturate.saturated.rounds
+          c.in-Ok-saturate.saturated.stop c.requires.rules c.in-Ok-saturate.ensures.saturated
+          (c.in-Ok.ensures.grown (rules_of input)));
+    }
+
+pub returns : goal.returns
+returns g c =
+    let input = input_view c.args.input.now in
+    let goals = c.args.input.now.goals in
+    let goal = c.index-as_slice-at.result in
+    let s = c.args.settings.now in
+    let sat = c.in-Ok-saturate.saturated in
+    let rules_true : RulesAreTrue (input_view c.args.input.now) (goal_view c.index-as_slice-at.result) =
+    λ world is holds. c.axioms_make_rules_true.ensures.true_rules input (goal_view goal) world c.requires.input holds in
+    let at_rules : (F : List Rewrite → Type 0) → F c.args.rules.now.program
+    → F (rules_of (input_view c.args.input.now)) = λ F h. subst F c.requires.rules h in
+    let stands_after : GraphStands (declared_name c.args.input.now.ops) (rules_of (input_view c.args.input.now))
+    (assumed_pairs (goal_view c.index-as_slice-at.result)) (kept_terms (goal_view c.index-as_slice-at.result))
+    c.in-Ok-saturate.saturated.graph =
+    at_rules (λ rs. KeepsStanding rs c.in-Ok.graph c.in-Ok-saturate.saturated.graph) c.in-Ok-saturate.ensures.stands
+    (declared_name c.args.input.now.ops) (assumed_pairs (goal_view goal)) (kept_terms (goal_view goal))
+    (c.in-Ok.ensures.stands (declared_name c.args.input.now.ops) (rules_of input)) in
+    let saturated : IsSaturated (rules_of (input_view c.args.input.now)) c.in-Ok.graph c.args.settings.now.rounds
+    c.args.settings.now.nodes c.in-Ok-saturate.saturated.graph c.in-Ok-saturate.saturated.rounds
+    c.in-Ok-saturate.saturated.stop =
+    at_rules (λ rs. IsSaturated rs c.in-Ok.graph s.rounds s.nodes sat.graph sat.rounds sat.stop)
+    c.in-Ok-saturate.ensures.saturated in
+    let m : Matched = record { graph = c.in_ok-graph.graph; rounds = sat.rounds; stop = sat.stop } in
+    record {
+      right = for_the_goal input s c.args.at (goal_view goal)
+          (there goals c.as_slice.result.now c.args.at goal c.as_slice.ensures c.requires.at c.index-as_slice-at.is)
+          c.search.result
+          (found_of s c.args.input.now.table m c.search.result c.search.ensures input (goal_view goal) refl
+          (matched_is input (goal_view goal) s rules_true c.in-Ok.graph (c.in-Ok.ensures.grown (rules_of input))
+          (c.in-Ok.ensures.stands (declared_name c.args.input.now.ops) (rules_of input)) sat.graph m saturated
+          c.in-Ok-saturate.ensures.rounds c.in_ok-graph.ensures.launched.well_formed
+          (c.launched_graphs_stand.ensures.stand input (goal_view goal) sat.graph c.in_ok-graph.graph c.requires.input
+          c.in_ok-graph.ensures.launched stands_after)
+          (launched_few (length c.in-Ok.graph.rows) (most_rows_at_start (goal_view goal)) s.nodes sat.graph.rows
+          c.in_ok-graph.graph.rows (row_in c.args.input.now.ops c.in_ok-graph.ensures.launched.class_in)
+          c.in_ok-graph.ensures.launched.rows c.in-Ok.ensures.few_rows c.in-Ok-saturate.ensures.few)
+          (λ h. c.in_ok-graph.ensures.grown (rules_of input) (present_terms (goal_view goal)) (assumed_pairs (goal_view goal))
+          sat.rounds h)
+          (λ h. c.in_ok-graph.ensures.stops (rules_of input) s.rounds s.nodes sat.rounds sat.stop
+          (c.axioms_make_rules_true.ensures.are_rules input c.requires.input) h)
+          (λ i a b grown le clash. c.grown_graphs_are_one.ensures.no_clash (rules_of input)
+          (present_terms (goal_view goal)) (assumed_pairs (goal_view goal)) sat.graph sat.rounds i a b saturated.graph grown
+          le clash)));
+    }

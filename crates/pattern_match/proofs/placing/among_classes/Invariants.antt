@@ -1,6 +1,0 @@
-use Rattle.word_terms.specs.View.{tree_of}
-use Rattle.pattern_match.specs.Bindings.{AreMatches, IsPlacedByClass}
-use Rattle.pattern_match.proofs.placing.among_classes.Given as goal
-
-abbrev pub invariant-loop-class : goal.invariant-loop-class
-invariant-loop-class l = AreMatches l.graph (tree_of l.pattern) (IsPlacedByClass l.graph (tree_of l.pattern) l.count l.class) l.out.items
