@@ -3,12 +3,13 @@ ghost use Rattle.std.specs.Prelude.{◌≡◌, ◌<◌, length};
 
 use pick_rule::{Picker, Rule};
 
-/// Scores, and the place that each of the three rules picks.
-const LISTS: [(&[u64], usize, usize, usize); 4] = [
-    (&[7], 0, 0, 0),
-    (&[3, 1, 2], 0, 2, 0),
-    (&[0, 0], 0, 1, 0),
-    (&[2, 9, 9, 4], 0, 3, 3),
+/// Scores, and the place that each of the three rules picks, if there is one.
+const LISTS: [(&[u64], [Option<usize>; 3]); 5] = [
+    (&[7], [Some(0), Some(0), Some(0)]),
+    (&[3, 1, 2], [Some(0), Some(2), Some(0)]),
+    (&[0, 0], [Some(0), Some(1), Some(0)]),
+    (&[2, 9, 9, 4], [Some(0), Some(3), Some(3)]),
+    (&[], [None, None, None]),
 ];
 
 fn picked<F: Rule + Drop>(rule: F, scores: &[u64]) -> Option<usize>
@@ -50,12 +51,15 @@ fn higher_end(scores: &[u64]) -> usize
     if scores[last] > scores[0] { last } else { 0 }
 }
 
+/// What the three rules pick.
+fn all_picked(scores: &[u64]) -> [Option<usize>; 3] {
+    [first(scores), last(scores), picked(higher_end, scores)]
+}
+
 #[test]
 fn stored_rules_answer(rt: HostRuntime) {
-    for (scores, at_first, at_last, at_higher) in &LISTS {
-        assert_eq!(rt; first(scores), Some(*at_first));
-        assert_eq!(rt; last(scores), Some(*at_last));
-        assert_eq!(rt; picked(higher_end, scores), Some(*at_higher));
+    for (scores, wanted) in &LISTS {
+        let picked = all_picked(scores);
+        assert_eq!(rt; picked.as_slice(), wanted.as_slice());
     }
-    assert_eq!(rt; last(&[]), None);
 }

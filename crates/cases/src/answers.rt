@@ -151,11 +151,11 @@ pub(crate) fn commands(alloc: Global, input: &[u8]) -> Result<Vec<u8>, Trouble> 
     Ok(report)
 }
 
-/// What `check` writes of a text.
-fn checked(alloc: Global, answer: &[u8]) -> Result<Vec<u8>, Trouble> {
+/// What a command without options writes of a text.
+pub(crate) fn written_by(alloc: Global, command: &[u8], text: &[u8]) -> Result<Vec<u8>, Trouble> {
     let mut call = plain_call(alloc);
-    add_word(alloc, &mut call, b"check")?;
-    put(&mut call.text, answer)?;
+    add_word(alloc, &mut call, command)?;
+    put(&mut call.text, text)?;
     Ok(replied(alloc, call)?.0)
 }
 
@@ -295,7 +295,7 @@ pub(crate) fn solved(alloc: Global, input: &[u8]) -> Result<Vec<u8>, Trouble> {
     let (written, status) = replied(alloc, call_of(alloc, call)?)?;
     let mut report = Vec::new(alloc);
     put_numbers(&mut report, b"status", &[u64::from(status.code())])?;
-    put(&mut report, &checked(alloc, &written)?)?;
+    put(&mut report, &written_by(alloc, b"check", &written)?)?;
     let mut lines = Lines { rest: asked };
     if let Some(step) = split_line(asked).0.strip_prefix(b"pieces ") {
         lines.rest = split_line(asked).1;

@@ -11,6 +11,7 @@
 // next block or of the end: an empty line there means that it ends with a line feed. A line `INPUT => WANTED` is a case
 // too, whose wanted answer has one line. In a case `\` and two hexadecimal digits stand for a byte. Empty lines between
 // cases, and lines there that begin with `#`, say nothing.
+use crate::answers::written_by;
 use crate::reading::{split_before, split_line};
 use crate::reports::Trouble;
 use crate::subjects::{Subject, answer};
@@ -149,4 +150,23 @@ pub(crate) fn run_file(alloc: Global, text: &[u8]) -> Result<Result<u64, Failure
         rest = behind;
     }
     Ok(Ok(count))
+}
+
+/// One case, whose input are goals and whose wanted answer is that of `solve` without options.
+pub(crate) fn run_goals(
+    alloc: Global,
+    name: &[u8],
+    goals: Vec<u8>,
+    wanted: Vec<u8>,
+) -> Result<Result<u64, Failure>, Trouble> {
+    let came = written_by(alloc, b"solve", &goals)?;
+    if came.as_slice() == wanted.as_slice() {
+        return Ok(Ok(1));
+    }
+    Ok(Err(Failure {
+        name: Vec::from_slice(alloc, name)?,
+        input: goals,
+        wanted,
+        came,
+    }))
 }

@@ -285,23 +285,47 @@ fn put_verdict(
     }
 }
 
-/// Input: a line `budget N` and a formula. Answers with what the solver comes to with N conflicts, for each of three
-/// rules that pick: the first place, the last, and the end with the higher score. Values are tested, and lines are
-/// checked.
+/// What a search with the rule of this name comes to.
+fn put_search(
+    alloc: Global,
+    report: &mut Vec<u8>,
+    cnf: &Cnf,
+    rule: &[u8],
+    budget: u32,
+) -> Result<(), Trouble>
+    requires some { 1 ≤ budget }
+    requires few { budget ≤ 1000000 }
+{
+    let verdict = if rule == b"first".as_slice() {
+        first_picked(alloc, cnf, budget)?
+    } else if rule == b"last".as_slice() {
+        last_picked(alloc, cnf, budget)?
+    } else if rule == b"end".as_slice() {
+        end_picked(alloc, cnf, budget)?
+    } else {
+        return Err(Trouble::Unread);
+    };
+    put_verdict(alloc, report, cnf, &verdict)
+}
+
+/// Input: a line `budget N RULE..` and a formula. Answers with what the solver comes to with N conflicts, for each of
+/// the rules that pick: `first` picks the first place, `last` the last, `end` the end with the higher score. Values are
+/// tested, and lines are checked.
 pub(crate) fn searches(alloc: Global, input: &[u8]) -> Result<Vec<u8>, Trouble> {
     let (head, rest) = split_line(input);
     let number = head.strip_prefix(b"budget ").ok_or(Trouble::Unread)?;
-    let budget = Words { rest: number }.small()?;
+    let mut words = Words { rest: number };
+    let budget = words.small()?;
     let cnf = formula(alloc, rest)?;
     if budget < 1 || 1000000 < budget {
         return Err(Trouble::Unread);
     }
     let mut report = Vec::new(alloc);
-    let verdict = first_picked(alloc, &cnf, budget)?;
-    put_verdict(alloc, &mut report, &cnf, &verdict)?;
-    let verdict = last_picked(alloc, &cnf, budget)?;
-    put_verdict(alloc, &mut report, &cnf, &verdict)?;
-    let verdict = end_picked(alloc, &cnf, budget)?;
-    put_verdict(alloc, &mut report, &cnf, &verdict)?;
+    for _ in 0..head.len() {
+        let Some(rule) = words.next() else {
+            break;
+        };
+        put_search(alloc, &mut report, &cnf, rule, budget)?;
+    }
     Ok(report)
 }

@@ -1,7 +1,10 @@
 //! Runs the cases of the files that its words name, and tells for each file how many passed.
 //!
-//! A file begins with a line `subject NAME`, which says what its cases ask; `subjects.rt` lists the subjects. The first
-//! case that doesn't pass is printed whole, with what was wanted and what came, and the status is 1.
+//! A file begins with a line `subject NAME`, which says what its cases ask; `subjects.rt` lists the subjects. A file
+//! NAME.goal is one case: `solve` without options answers its goals as the file NAME.answer says. The first case that
+//! doesn't pass is printed whole, with what was wanted and what came, and the status is 1.
+//!
+//! With the words `answer SUBJECT FILE` it prints what the subject answers to the bytes of a file, to be timed.
 #![tactic(auto)]
 
 mod answers;
@@ -31,6 +34,7 @@ use std::env;
 use std::env::Args;
 use std::fs::File;
 use std::process::ExitCode;
+use subjects::{Subject, answer};
 
 /// How many bytes of a file are read at most.
 const LIMIT: u32 = 1 << 24;
@@ -45,25 +49,47 @@ fn main(rt: HostRuntime) -> ExitCode {
     ExitCode::from(if passed && written { 0 } else { 1 })
 }
 
-/// Whether all cases of the files pass. A line tells for each file how many passed, or its first case that doesn't pass
-/// is printed.
+/// Whether what the words ask is done: all cases of the files pass, or a subject has an answer. A line tells for each
+/// file how many passed, or its first case that doesn't pass is printed.
 fn all_pass(rt: &HostRuntime, args: Args, said: &mut Vec<u8>) -> Result<bool, Trouble> {
     let alloc = rt.alloc();
-    let names: Vec<String> = args.skip(1).collect(alloc)?;
+    let words: Vec<String> = args.skip(1).collect(alloc)?;
+    if let Some(asked) = asked_subject(&words) {
+        return put_answer(rt, asked, &words, said);
+    }
     let mut passed = true;
-    for name in &names {
+    for name in &words {
         passed = passes(rt, name.as_str(), said)? && passed;
     }
     Ok(passed)
 }
 
-/// Whether the cases of a file pass.
-fn passes(rt: &HostRuntime, name: &str, said: &mut Vec<u8>) -> Result<bool, Trouble> {
-    let Some(file) = contents(rt, name) else {
-        reports::put_line(said, &[name.as_bytes(), b"can't be read"])?;
+/// The subject that the words ask for one answer, if they do.
+fn asked_subject(words: &[String]) -> Option<Subject> {
+    if words.first()?.as_str() != "answer" {
+        return None;
+    }
+    Subject::named(words.get(1)?.as_bytes())
+}
+
+/// Whether the file that is the third word could be read. What the subject answers to its bytes is printed.
+fn put_answer(
+    rt: &HostRuntime,
+    subject: Subject,
+    words: &[String],
+    said: &mut Vec<u8>,
+) -> Result<bool, Trouble> {
+    let Some(input) = words.get(2).and_then(|name| contents(rt, name.as_str())) else {
         return Ok(false);
     };
-    match case_files::run_file(rt.alloc(), &file) {
+    let came = answer(rt.alloc(), subject, &input)?;
+    reports::put(said, &came)?;
+    Ok(true)
+}
+
+/// Whether the cases of a file pass.
+fn passes(rt: &HostRuntime, name: &str, said: &mut Vec<u8>) -> Result<bool, Trouble> {
+    match outcome(rt, name) {
         Ok(Ok(count)) => {
             reports::put_numbers(said, name.as_bytes(), &[count])?;
             Ok(true)
@@ -78,6 +104,18 @@ fn passes(rt: &HostRuntime, name: &str, said: &mut Vec<u8>) -> Result<bool, Trou
         }
         Err(Trouble::Memory) => Err(Trouble::Memory),
     }
+}
+
+/// How many cases of a file pass, or the first that doesn't.
+fn outcome(rt: &HostRuntime, name: &str) -> Result<Result<u64, Failure>, Trouble> {
+    let alloc = rt.alloc();
+    let file = contents(rt, name).ok_or(Trouble::Unread)?;
+    let Some(stem) = name.strip_suffix(".goal") else {
+        return case_files::run_file(alloc, &file);
+    };
+    let beside = format!(in alloc; "{stem}.answer")?;
+    let wanted = contents(rt, beside.as_str()).ok_or(Trouble::Unread)?;
+    case_files::run_goals(alloc, name.as_bytes(), file, wanted)
 }
 
 /// Prints a case that didn't pass.

@@ -1,4 +1,6 @@
 // The lines and words of a case's input.
+ghost use Rattle.std.specs.Prelude.{◌<◌, length};
+
 use crate::reports::Trouble;
 use text_core::decimal;
 
@@ -10,10 +12,17 @@ pub(crate) fn split_line(text: &[u8]) -> (&[u8], &[u8]) {
     }
 }
 
+/// Whether a line begins at this place with this front.
+fn begins_line(text: &[u8], at: usize, front: &[u8]) -> bool
+    requires { at < length text.now }
+{
+    (at == 0 || text[at - 1] == b'\n') && text[at..].starts_with(front)
+}
+
 /// The text before the first line with this front, and from it on.
 pub(crate) fn split_before<'a>(text: &'a [u8], front: &[u8]) -> (&'a [u8], &'a [u8]) {
     for at in 0..text.len() {
-        if (at == 0 || text[at - 1] == b'\n') && text[at..].starts_with(front) {
+        if begins_line(text, at, front) {
             return (&text[..at], &text[at..]);
         }
     }

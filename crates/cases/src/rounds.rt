@@ -4,6 +4,7 @@ ghost use Rattle.std.specs.Prelude.{◌<◌, ◌≤◌, ◌^◌, length};
 use crate::reading::{Words, split_line};
 use crate::reports::{Trouble, faulty, put, put_number, put_numbers};
 use goal_reader::{Input, read, read_inputs_are_well_formed};
+use items::NoMemory;
 use launch_graph::print;
 use saturation::{
     SaturateFault, Saturated, StartFault, Stop, grown_graphs_can_be_launched, rules, saturate,
@@ -20,6 +21,36 @@ enum Refused {
     Memory,
 }
 
+impl From<TextFault> for Refused {
+    fn from(fault: TextFault) -> Refused {
+        Refused::Text(fault)
+    }
+}
+
+impl From<NoMemory> for Refused {
+    fn from(_: NoMemory) -> Refused {
+        Refused::Memory
+    }
+}
+
+impl From<StartFault> for Refused {
+    fn from(fault: StartFault) -> Refused {
+        match fault {
+            StartFault::NoWorld { a, b, .. } => Refused::Clash(a, b),
+            StartFault::Memory => Refused::Memory,
+        }
+    }
+}
+
+impl From<SaturateFault> for Refused {
+    fn from(fault: SaturateFault) -> Refused {
+        match fault {
+            SaturateFault::NoWorld { a, b, .. } => Refused::Clash(a, b),
+            SaturateFault::Memory => Refused::Memory,
+        }
+    }
+}
+
 /// The first goal of the text after rounds.
 fn grown(alloc: Global, text: &[u8], rounds: u32, nodes: u32) -> Result<Saturated, Refused>
     requires text { length text.now < 2 ^ 29 }
@@ -27,26 +58,42 @@ fn grown(alloc: Global, text: &[u8], rounds: u32, nodes: u32) -> Result<Saturate
     requires nodes { nodes ≤ 4096 }
 {
     read_inputs_are_well_formed();
-    let input = match read(alloc, text) {
-        Ok(input) => input,
-        Err(fault) => return Err(Refused::Text(fault)),
+    let input = read(alloc, text)?;
+    let program = rules(alloc, &input)?;
+    let Some(goal) = input.goals.as_slice().first() else {
+        return Err(Refused::Memory);
     };
-    let program = match rules(alloc, &input) {
-        Ok(program) => program,
-        Err(_) => return Err(Refused::Memory),
+    let graph = start(alloc, goal)?;
+    let grown = saturate(alloc, graph, &program, rounds, nodes)?;
+    Ok(grown)
+}
+
+/// A line for a graph after rounds: its rows, the rounds, and why they ended.
+fn put_grown(report: &mut Vec<u8>, grown: &Saturated) -> Result<(), Trouble> {
+    let stop = match grown.stop {
+        Stop::Quiet => b" quiet\n".as_slice(),
+        Stop::Rounds => b" rounds\n".as_slice(),
+        Stop::Full => b" full\n".as_slice(),
     };
-    match input.goals.as_slice().first() {
-        Some(goal) => match start(alloc, goal) {
-            Ok(graph) => match saturate(alloc, graph, &program, rounds, nodes) {
-                Ok(grown) => Ok(grown),
-                Err(SaturateFault::NoWorld { a, b, .. }) => Err(Refused::Clash(a, b)),
-                Err(SaturateFault::Memory) => Err(Refused::Memory),
-            },
-            Err(StartFault::NoWorld { a, b, .. }) => Err(Refused::Clash(a, b)),
-            Err(StartFault::Memory) => Err(Refused::Memory),
-        },
-        None => Err(Refused::Memory),
+    put(report, b"rows")?;
+    put_number(report, u64::from(grown.graph.rows()))?;
+    put(report, b" rounds")?;
+    put_number(report, u64::from(grown.rounds))?;
+    put(report, stop)
+}
+
+/// What rounds came to.
+fn told(alloc: Global, grown: Result<Saturated, Refused>) -> Result<Vec<u8>, Trouble> {
+    let mut report = Vec::new(alloc);
+    match grown {
+        Ok(grown) => put_grown(&mut report, &grown)?,
+        Err(Refused::Clash(a, b)) => {
+            put_numbers(&mut report, b"clash", &[a.min(b), a.max(b)])?;
+        }
+        Err(Refused::Text(fault)) => return faulty(alloc, fault),
+        Err(Refused::Memory) => return Err(Trouble::Memory),
     }
+    Ok(report)
 }
 
 /// Input: a line `ROUNDS NODES` and a text. Answers with the rows, rounds and stop of its first goal's graph after at
@@ -58,29 +105,7 @@ pub(crate) fn rounds(alloc: Global, input: &[u8]) -> Result<Vec<u8>, Trouble> {
     if rounds > 16 || nodes > 4096 || text.len() > 1 << 24 {
         return Err(Trouble::Unread);
     }
-    let mut report = Vec::new(alloc);
-    match grown(alloc, text, rounds, nodes) {
-        Ok(grown) => {
-            let stop = match grown.stop {
-                Stop::Quiet => b"quiet".as_slice(),
-                Stop::Rounds => b"rounds".as_slice(),
-                Stop::Full => b"full".as_slice(),
-            };
-            put(&mut report, b"rows")?;
-            put_number(&mut report, u64::from(grown.graph.rows()))?;
-            put(&mut report, b" rounds")?;
-            put_number(&mut report, u64::from(grown.rounds))?;
-            put(&mut report, b" ")?;
-            put(&mut report, stop)?;
-            put(&mut report, b"\n")?;
-        }
-        Err(Refused::Clash(a, b)) => {
-            put_numbers(&mut report, b"clash", &[a.min(b), a.max(b)])?;
-        }
-        Err(Refused::Text(fault)) => return faulty(alloc, fault),
-        Err(Refused::Memory) => return Err(Trouble::Memory),
-    }
-    Ok(report)
+    told(alloc, grown(alloc, text, rounds, nodes))
 }
 
 /// The lines of the first goal's graph after no round, or none where there is no such graph.

@@ -11,11 +11,12 @@ use pattern_match::{Match, calc_matches, calc_need, calc_unmet, folds, matches, 
 use std::alloc::Global;
 use word_ops::{Arity, Op, op_of};
 
-/// A script's graph, and what it has said.
+/// A script's graph, what it has said, and whether inserts say nothing.
 #[derive(Drop)]
 struct Script {
     graph: Egraph<Op>,
     report: Vec<u8>,
+    is_silent: bool,
 }
 
 /// The first of the classes that are one with a class.
@@ -120,9 +121,14 @@ fn put_folds(alloc: Global, script: &mut Script) -> Result<(), Trouble> {
     put_sorted(&mut script.report, lines)
 }
 
-/// A line for each class ever made: the first that is one with it, and its constant.
+/// The number of rows.
+fn put_rows(graph: &Egraph<Op>, report: &mut Vec<u8>) -> Result<(), Trouble> {
+    put_numbers(report, b"rows", &[u64::from(graph.rows())])
+}
+
+/// The number of rows, and a line for each class ever made: the first that is one with it, and its constant.
 fn put_classes(graph: &Egraph<Op>, report: &mut Vec<u8>) -> Result<(), Trouble> {
-    put_numbers(report, b"rows", &[u64::from(graph.rows())])?;
+    put_rows(graph, report)?;
     for class in 0..graph.made() {
         let first = first_of(graph, class);
         match graph.constant_of(class) {
@@ -169,7 +175,7 @@ fn put_found(
     put_matches(alloc, &script.graph, &mut script.report, found.as_slice())
 }
 
-/// Inserts the row of a line, and says its class.
+/// Inserts the row of a line, and says its class, but in a silent script.
 fn insert(
     alloc: Global,
     script: &mut Script,
@@ -186,6 +192,9 @@ fn insert(
         let operands = classes(alloc, words)?;
         put_row(&mut script.graph, op, &operands)?
     };
+    if script.is_silent {
+        return Ok(());
+    }
     let first = first_of(&script.graph, class);
     put_numbers(&mut script.report, b"is", &[first])
 }
@@ -198,6 +207,11 @@ fn ask(alloc: Global, rules: &[Rule], script: &mut Script, line: &[u8]) -> Resul
         put_folds(alloc, script)
     } else if verb == b"classes".as_slice() {
         put_classes(&script.graph, &mut script.report)
+    } else if verb == b"rows".as_slice() {
+        put_rows(&script.graph, &mut script.report)
+    } else if verb == b"silent".as_slice() {
+        script.is_silent = true;
+        Ok(())
     } else if verb == b"matches".as_slice()
         || verb == b"unmet".as_slice()
         || verb == b"need".as_slice()
@@ -217,9 +231,17 @@ pub(crate) fn pair(line: &[u8]) -> Result<(u32, u32), Trouble> {
 
 /// The script after a merge, or what it said where two constants met.
 fn merged(script: Script, a: u32, b: u32) -> Result<Result<Script, Vec<u8>>, Trouble> {
-    let Script { graph, mut report } = script;
+    let Script {
+        graph,
+        mut report,
+        is_silent,
+    } = script;
     match join(graph, a, b)? {
-        Ok(graph) => Ok(Ok(Script { graph, report })),
+        Ok(graph) => Ok(Ok(Script {
+            graph,
+            report,
+            is_silent,
+        })),
         Err(MergeFault::NoWorld { a, b, .. }) => {
             put_numbers(&mut report, b"clash", &[a.min(b), a.max(b)])?;
             Ok(Err(report))
@@ -252,6 +274,7 @@ fn done_all(alloc: Global, rules: &[Rule], input: &[u8]) -> Result<Vec<u8>, Trou
     let mut script = Script {
         graph: Egraph::new(alloc),
         report: Vec::new(alloc),
+        is_silent: false,
     };
     let mut lines = Lines { rest: input };
     for _ in 0..input.len() {
@@ -270,7 +293,8 @@ fn done_all(alloc: Global, rules: &[Rule], input: &[u8]) -> Result<Vec<u8>, Trou
 /// Input: lines that make an E-graph and ask of it. `OP CLASS..` inserts a row, as in the lines of a graph, and says
 /// the class; `merge A B` joins two classes, and where two constants meet it says so and ends; `matches R`, `unmet R`
 /// and `need R` ask of an equation by its number, or of a computed rule by `C` and its number; `folds` and `classes`
-/// list these. A class is named by the first of the classes that are one with it.
+/// list these, and `rows` counts rows. A class is named by the first of the classes that are one with it. Behind a line
+/// `silent` inserts say nothing.
 pub(crate) fn scripts(alloc: Global, input: &[u8]) -> Result<Vec<u8>, Trouble> {
     let rules = equations(alloc)?;
     done_all(alloc, rules.as_slice(), input)

@@ -11,7 +11,7 @@ first_of P (x ∷ xs) g e h = let k : x ≡ g = (let is : Some g ≡ Some x = e 
 
 pub start-requires : goal.start-requires
 start-requires c =
-    let input = input_view c.in-Ok.input in
-    let is = c.read_inputs_are_well_formed.ensures c.args.text.now input c.requires.text c.in-Ok.ensures.input in
+    let input = input_view c.in_ok-input.input in
+    let is = c.read_inputs_are_well_formed.ensures c.args.text.now input c.requires.text c.in_ok-input.ensures.input in
     let all = subst (λ xs. All (IsGoal input.ops) (map goal_view xs)) (sym c.as_slice.ensures) is.goals in
     record { goal = (input.ops, first_of (IsGoal input.ops) c.as_slice.result.now c.in-Some.goal.now c.in-Some.ensures.value all) }

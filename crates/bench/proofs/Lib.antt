@@ -1,2 +1,0 @@
-mod WordOperands
-mod ListedGoals

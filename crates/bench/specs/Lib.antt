@@ -1,2 +1,0 @@
-pub mod WordsOnly
-pub mod Laws
