@@ -15,6 +15,8 @@ use Rattle.graph_meaning.specs.declared.graphs.LaunchGraph.{LaunchGraph}
 use Rattle.graph_meaning.specs.declared.graphs.LaunchRow.{LaunchRow}
 use Rattle.saturation.specs.StandsFor.{graph_view, numbered_op, row_view}
 use Rattle.schedule_meaning.specs.Launches.{instr_at, operands_at, class_at, op_instr, op_operands}
+use Rattle.schedule_meaning.specs.Plain.{plain_class_at, plain_instr_at, plain_operands_at}
+use Rattle.schedule_meaning.proofs.Copies.{plain_class, plain_kind, plain_operands, row_no_copy}
 
 -- ---- terms
 
@@ -104,10 +106,16 @@ module _ (g : LaunchGraph) (number : ℕ) (row : LaunchRow) (there : slice_get g
   within = not_last number (length g.rows) (slice_get_within g.rows number row there)
 
   pub row_instr : instr_at g number ≡ op_instr g row.op row.operands
-  row_instr = rw (within, there) refl
+  row_instr =
+      let plain : plain_instr_at g number ≡ op_instr g row.op row.operands = rw (within, there) refl in
+      plain_kind g number (row_no_copy g number row there) ∙ plain
 
   pub row_reads : operands_at g number ≡ op_operands row.op row.operands
-  row_reads = rw (within, there) refl
+  row_reads =
+      let plain : plain_operands_at g number ≡ op_operands row.op row.operands = rw (within, there) refl in
+      plain_operands g number (row_no_copy g number row there) ∙ plain
 
   pub row_class : class_at g number ≡ row.class
-  row_class = rw there refl
+  row_class =
+      let plain : plain_class_at g number ≡ row.class = rw there refl in
+      plain_class g number (row_no_copy g number row there) ∙ plain

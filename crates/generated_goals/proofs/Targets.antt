@@ -8,7 +8,7 @@ use Rattle.std.proofs.lemmas.List.Sums.{count_by-le-length}
 use Rattle.graph_meaning.proofs.Lists.{any_here, any_there}
 use Rattle.machine_table.specs.Tables.{ev6}
 use Rattle.word_ops.specs.declared.sorts.Op.TheVariants.{Input}
-use Rattle.graph_meaning.specs.Graphs.{is_memory_name, memory_target}
+use Rattle.graph_meaning.specs.Graphs.{HasNoPins, is_memory_name, memory_target}
 use Rattle.graph_meaning.specs.WellFormed.{IsLaunchGraph}
 use Rattle.graph_meaning.specs.declared.graphs.Guard.{Guard}
 use Rattle.graph_meaning.specs.declared.graphs.LaunchGraph.{LaunchGraph}
@@ -16,10 +16,13 @@ use Rattle.graph_meaning.specs.declared.graphs.SetClass.{SetClass}
 use Rattle.goal_meaning.specs.declared.goals.InputReg.{InputReg}
 use Rattle.saturation.specs.GoalTerms.{input_term}
 use Rattle.saturation.specs.StandsFor.{HasClassIn, IsGuardOf, IsInputClass, IsSetClass, StandsFor, graph_view}
-use Rattle.schedule_meaning.specs.Fits.{CanLaunch, EndsBy, Fits, IsLeft, IsReached, KeepsMemory, UsesMemory, Waits}
+use Rattle.schedule_meaning.specs.Fits.{CanLaunch, EndsBy, Fits, IsLeft, KeepsMemory, UsesMemory}
 use Rattle.schedule_meaning.specs.Launches.{Gives, IsClassOfInput, gives_word, is_load, is_store, launches, memory_class_at, ready_in}
+use Rattle.schedule_meaning.specs.Plain.{FitsWithoutPins, IsPlainReached, WaitsPlain}
+use Rattle.schedule_meaning.specs.declared.schedules.To.TheVariants.{Pool}
 use Rattle.schedule_meaning.specs.declared.schedules.Launch.{Launch}
 use Rattle.generated_goals.specs.Generated.{generated_goal, generated_input, named_input}
+use Rattle.schedule_meaning.proofs.Unpinned.{fits_where_plain}
 use Rattle.generated_goals.proofs.GraphRows.{leaf_row, one_class, row_of}
 use Rattle.generated_goals.proofs.Schedules.{IsChain, IsStep, launched, launches_by}
 
@@ -66,7 +69,7 @@ module _ (g : LaunchGraph) (n : ℕ) where
   ends_by : (l : Launch) → IsStep g n l → EndsBy g ev6 n l
   ends_by l s = let e = s.early in rw (s.is, s.plain.latency) (omega arith)
 
-  waits : (ls : List Launch) (l : Launch) → IsStep g n l → Waits g ls l
+  waits : (ls : List Launch) (l : Launch) → IsStep g n l → WaitsPlain g ls l
   waits ls l s (inl h) = absurd (no_store l s h)
   waits ls l s (inr h) = absurd (no_load l s h.0)
 
@@ -79,7 +82,7 @@ no_guard (Some x) g h P = absurd h
 entry_stays : (g : LaunchGraph) (s : SetClass) → g.sets ≡ s ∷ [] → is_memory_name s.name ≡ false → memory_target g ≡ g.entry
 entry_stays g s e m = rw (e, m) refl
 
-given_words : (g : LaunchGraph) (class n : ℕ) (ls : List Launch) → IsClassOfInput g class ⊎ Any (λ l. Gives g class l × (ready_in g ev6 0 l ≤ n)) ls → (s : SetClass) → s.class ≡ class → IsReached g ls s
+given_words : (g : LaunchGraph) (class n : ℕ) (ls : List Launch) → IsClassOfInput g class ⊎ Any (λ l. Gives g class l × (ready_in g ev6 0 l ≤ n)) ls → (s : SetClass) → s.class ≡ class → IsPlainReached g ls s
 given_words g class n ls (inl i) s e = inr (inl (rw e i))
 given_words g class n ls (inr h) s e = inr (inr (inr (h.0, h.1, h.2, h.3, rw e h.4.0)))
 
@@ -99,18 +102,23 @@ module _ (g : LaunchGraph) (n : ℕ) (ls : List Launch) (class : ℕ) (made : Is
     last = λ t h. inl (entry_stays g s sets name, each (λ m. IsTrue (launches g is_store m) → t ≤ m.cycle) (λ m s h. absurd (no_store g n m s h)));
   }
 
-  pub chain_fits : Fits g ev6 n ls
-  chain_fits = record {
+  chain_fits_plain : FitsWithoutPins g ev6 n ls
+  chain_fits_plain = record {
     rows = each (CanLaunch g ev6) (can_launch g n);
     apart = made.apart;
     operands = made.operands;
     in_time = each (EndsBy g ev6 n) (ends_by g n);
-    targets = subst (All (IsReached g ls)) (sym sets) (All-cons (IsReached g ls) s [] (given_words g class n ls made.readable s is) (All-nil (IsReached g ls)));
+    targets = subst (All (IsPlainReached g ls)) (sym sets) (All-cons (IsPlainReached g ls) s [] (given_words g class n ls made.readable s is) (All-nil (IsPlainReached g ls)));
     memory = memory;
     one_branch = guard _;
-    after_branch = each (Waits g ls) (waits g n ls);
+    after_branch = each (WaitsPlain g ls) (waits g n ls);
     pool = (let f = count_by-le-length (launches g gives_word) ls in let c = made.count in omega arith);
   }
+
+  pub chain_fits : s.pin ≡ None → Fits g ev6 n ls
+  chain_fits plain =
+      let no_pins : HasNoPins g = subst (All (λ s. s.pin ≡ None)) (sym sets) (All-cons (λ s. s.pin ≡ None) s [] plain (All-nil (λ s. s.pin ≡ None))) in
+      fits_where_plain g no_pins ev6 n ls chain_fits_plain (each (λ l. l.to ≡ Pool) (λ l s. s.to))
 
 pub scheduled : (size : ℕ) (g : LaunchGraph) → size ≤ 20 → IsLaunchGraph g → StandsFor (generated_input size) (generated_goal size) g → (ls : List Launch) × Fits g ev6 size ls
 scheduled size g few graph stands =
@@ -120,4 +128,4 @@ scheduled size g few graph stands =
     let one = only_zip (IsSetClass [] g) g.sets _ of.sets in
     let made = launched g a b size size one.0.class one.2.class in
     let pool : length g.pool ≡ 21 = ap length of.pool in
-    (made.list, chain_fits g size made.list one.0.class made.fits one.0 one.1 refl (ap is_memory_name one.2.name) (no_guard g.guard g of.guard) (omega arith))
+    (made.list, chain_fits g size made.list one.0.class made.fits one.0 one.1 refl (ap is_memory_name one.2.name) (no_guard g.guard g of.guard) (omega arith) one.2.pin)

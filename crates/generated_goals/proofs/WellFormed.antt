@@ -1,5 +1,5 @@
 -- Generated inputs are well formed.
-use Rattle.std.proofs.Common.{◌≡◌, ◌≢◌, ℕ, zero, suc, ◌+◌, ◌*◌, ◌<◌, ◌≤◌, ◌++◌, List, [], ◌∷◌, true, false, refl, arith}
+use Rattle.std.proofs.Common.{◌≡◌, ◌≢◌, ℕ, zero, suc, ◌+◌, ◌*◌, ◌<◌, ◌≤◌, ◌++◌, List, [], ◌∷◌, true, false, None, refl, arith}
 use Rattle.std.specs.Prelude.{All, AllPairs, codes, bytes_eq}
 use Rattle.std.proofs.lemmas.Slice.Eq.{bytes_eq-Decides}
 use Rattle.std.proofs.lemmas.List.Elements.{All-nil, All-cons}
@@ -71,6 +71,12 @@ registers_apart = sure (dec_pairs (λ a b. a ≢ b) (λ a b. dec_not (dec_nat a 
 registers_low : All (λ r. r < 31) all_registers
 registers_low = sure (dec_all (λ r. r < 31) (λ r. dec_lt r 31) all_registers) refl
 
+pool_apart : AllPairs (λ a b. a ≢ b) (default_pool registers ++ [])
+pool_apart = sure (dec_pairs (λ a b. a ≢ b) (λ a b. dec_not (dec_nat a b)) (default_pool registers ++ [])) refl
+
+abbrev IsUnpinned : TargetTree → Type 0
+IsUnpinned t = bytes_eq t.name (codes "M") ≡ true → t.pin ≡ None
+
 rules : (size : ℕ) → KeepsRules [] (generated_goal size)
 rules size = record {
   input_names = names_apart;
@@ -80,6 +86,9 @@ rules size = record {
   low = registers_low;
   targets = pairs_cons (λ (s t : TargetTree). s.name ≢ t.name) _ [] (All-nil _) (pairs_nil (λ (s t : TargetTree). s.name ≢ t.name));
   some_target = omega arith;
+  pins = pool_apart;
+  low_pins = All-nil (λ r. r < 31);
+  memory_unpinned = All-cons IsUnpinned _ [] (λ e. refl) (All-nil IsUnpinned);
   few = (omega arith, omega arith, omega arith);
 }
 

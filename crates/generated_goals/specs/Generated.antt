@@ -58,7 +58,7 @@ generated_goal size = record {
   pool = default_pool registers;
   assumes = [];
   guard = None;
-  sets = record { name = codes "x"; value = chain size size } ∷ [];
+  sets = record { name = codes "x"; value = chain size size; pin = None } ∷ [];
 }
 
 -- the goal alone, for the table ev6

@@ -96,6 +96,7 @@ fn target(alloc: Global, size: u32) -> Result<Set, NoMemory>
     Ok(Set {
         name: Name::new(alloc, b"x")?,
         value: chain(alloc, size)?,
+        pin: None,
     })
 }
 

@@ -75,8 +75,14 @@ abbrev pub guard_plains : Naming → Option (Tree Op) → List Plain
 guard_plains names None = []
 guard_plains names (Some t) = keyword_list (codes "when") (term_plain names t ∷ []) ∷ []
 
+-- the pin stands behind the name
+abbrev pub pin_plains : Option ℕ → List Plain
+pin_plains None = []
+pin_plains (Some r) = register_plain r ∷ []
+
 abbrev pub target_plain : Naming → TargetTree → Plain
-target_plain names t = keyword_list (codes "set") (atom (name t.name) ∷ term_plain names t.value ∷ [])
+target_plain names t =
+    keyword_list (codes "set") (atom (name t.name) ∷ (pin_plains t.pin ++ term_plain names t.value ∷ []))
 
 -- the pool is explicit
 abbrev pub goal_plain : List DeclaredOp → GoalTree → Plain

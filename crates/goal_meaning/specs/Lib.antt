@@ -5,3 +5,4 @@ pub mod InputForms
 pub mod WellFormed
 pub mod Holds
 pub mod Outcomes
+pub mod Unpinned

@@ -1,5 +1,5 @@
 -- The names and registers of a goal, and the pool of a goal that gives none. Source: this project.
-use Rattle.std.specs.Prelude.{Bool, false, ℕ, ◌≡◌, ◌≢◌, ◌<◌, ◌≤◌, ◌==◌, not, List, [], ◌∷◌, ◌++◌, length, map, filter, All, AllPairs}
+use Rattle.std.specs.Prelude.{Bool, true, false, ℕ, ◌≡◌, ◌≢◌, ◌<◌, ◌≤◌, ◌==◌, not, List, [], ◌∷◌, ◌++◌, length, map, filter, filter_map, bytes_eq, codes, None, All, AllPairs}
 use Rattle.std.specs.List.{list_any, range_with_len}
 use Rattle.text_core.specs.Names.{is_among}
 use Rattle.goal_meaning.specs.Names.{is_reserved, names_of_declared}
@@ -14,9 +14,13 @@ has_register given register = list_any (λ other. other == register) given
 abbrev pub free_registers : List ℕ
 free_registers = range_with_len 0 9 ++ range_with_len 16 10 ++ 27 ∷ 28 ∷ []
 
--- a pool that isn't given has these, but for the inputs' registers
+-- a pool that isn't given has these, but for the registers of inputs and the pins
 abbrev pub default_pool : List ℕ → List ℕ
-default_pool inputs = filter (λ r. not (has_register inputs r)) free_registers
+default_pool taken = filter (λ r. not (has_register taken r)) free_registers
+
+-- the registers to which targets are pinned
+abbrev pub pins_of : List TargetTree → List ℕ
+pins_of targets = filter_map (λ (t : TargetTree). t.pin) targets
 
 -- the names and registers of a goal, and how many of everything there may be
 pub record KeepsRules (declared : List DeclaredOp) (goal : GoalTree) : Type 0 where
@@ -27,4 +31,8 @@ pub record KeepsRules (declared : List DeclaredOp) (goal : GoalTree) : Type 0 wh
   pub low : All (λ r. r < 31) (map (λ (i : InputReg). i.reg) goal.inputs ++ goal.pool)
   pub targets : AllPairs (λ (s t : TargetTree). s.name ≢ t.name) goal.sets
   pub some_target : 0 < length goal.sets
+  -- pins are registers that differ from each other and from those of the pool; one may be an input's
+  pub pins : AllPairs (λ a b. a ≢ b) (goal.pool ++ pins_of goal.sets)
+  pub low_pins : All (λ r. r < 31) (pins_of goal.sets)
+  pub memory_unpinned : All (λ (t : TargetTree). bytes_eq t.name (codes "M") ≡ true → t.pin ≡ None) goal.sets
   pub few : (length goal.inputs ≤ 16) × (length goal.assumes ≤ 16) × (length goal.sets ≤ 16)

@@ -20,6 +20,7 @@ pub record TwoTrees : Type 0 where
 pub record TargetTree : Type 0 where
   pub name : List ℕ
   pub value : Tree Op
+  pub pin : Option ℕ
 
 pub record GoalTree : Type 0 where
   pub name : List ℕ
@@ -45,7 +46,7 @@ abbrev pub assume_view : Assume → TwoTrees
 assume_view a = record { left = tree_of a.left; right = tree_of a.right }
 
 abbrev pub target_view : Set → TargetTree
-target_view t = record { name = t.name; value = tree_of t.value }
+target_view t = record { name = t.name; value = tree_of t.value; pin = t.pin }
 
 abbrev pub goal_view : Goal → GoalTree
 goal_view g = record {

@@ -5,7 +5,7 @@ use text_core::Name;
 use word_ops::{Arity, Op};
 use word_terms::Term;
 
-/// The registers that a goal may use where it gives no pool, but for those of its inputs.
+/// The registers that a goal may use where it gives no pool, but for those of its inputs and its pins.
 pub const FREE_REGISTERS: [u8; 21] = [
     0, 1, 2, 3, 4, 5, 6, 7, 8, 16, 17, 18, 19, 20, 21, 22, 23, 24, 25, 27, 28,
 ];
@@ -31,11 +31,13 @@ pub struct Assume {
     pub right: Term<Op>,
 }
 
-/// A target and its new value. The name `M` is memory.
+/// A target and its new value. The name `M` is memory. A word may be pinned to a register, which then has its new value;
+/// it may be an input's.
 #[derive(Drop)]
 pub struct Set {
     pub name: Name,
     pub value: Term<Op>,
+    pub pin: Option<u8>,
 }
 
 /// A guarded multi-assignment, with the registers of its inputs and those that it may use.

@@ -102,6 +102,23 @@ module _ {X : Type 0} (R : X → X → Type 0) where
       AllPairs-cons R (f y) (map f ys) (All-map (R (f y)) f ys (λ k d l. h 0 (suc k) d (omega arith) (omega (arith, l))))
       (pairs_map f ys (λ i j d l m. h (suc i) (suc j) d (omega (arith, l)) (omega (arith, m))))
 
+  pub pairs_back : (xs ys : List X) → AllPairs R (xs ++ ys) → AllPairs R ys
+  pairs_back [] ys h = h
+  pairs_back (x ∷ xs) ys h = pairs_back xs ys (tail_of x (xs ++ ys) h)
+
+all_back : (P : ℕ → Type 0) (xs ys : List ℕ) → All P (xs ++ ys) → All P ys
+all_back P [] ys h = h
+all_back P (x ∷ xs) ys h = all_back P xs ys (λ k d l. h (suc k) d (omega (arith, l)))
+
+-- registers behind others
+pub back_different : (xs ys : List ℕ) → AreDifferent (xs ++ ys) → AreDifferent ys
+back_different xs ys d = record { pairs = pairs_back (λ a b. a ≢ b) xs ys d.pairs; low = all_back (λ r. r < 31) xs ys d.low }
+
+-- one more, if there is one
+pub some_more : (rs pins : List ℕ) (o : Option ℕ) → AreDifferent (rs ++ pins) → ((r : ℕ) → o ≡ Some r → (has_register (rs ++ pins) r ≡ false) × (r < 31)) → AreDifferent (rs ++ (pins ++ cons_option o []))
+some_more rs pins None d h = subst (λ ps. AreDifferent (rs ++ ps)) (sym (append-nil pins)) d
+some_more rs pins (Some r) d h = let f = h r refl in subst AreDifferent (append_assoc rs pins (r ∷ [])) (one_more (rs ++ pins) r d f.0 f.1)
+
 -- ---- the pool that isn't given
 differ : List ℕ → Bool
 differ [] = true
@@ -136,11 +153,31 @@ free_differ : differ free_registers ≡ true
 unfolding differ
 free_differ = refl
 
-pub default_different : (given : List ℕ) → AreDifferent given → AreDifferent (given ++ default_pool given)
-default_different given d =
-    let pass : ℕ → Bool = λ r. not (has_register given r) in
-    record {
-      pairs = pairs_append (λ a b. a ≢ b) given (default_pool given) d.pairs (AllPairs-filter (λ a b. a ≢ b) pass free_registers (differ_pairs free_registers free_differ))
-          (λ i e l k f m. register_apart given _ (is_false _ (filter_passes pass free_registers k f m)) i e l);
-      low = All-append (λ r. r < 31) given (default_pool given) d.low (All-filter pass (λ r. r < 31) free_registers (differ_low free_registers free_differ));
-    }
+-- the pool that isn't given, behind registers that are taken and before such
+module _ (taken given : List ℕ) (free : (r : ℕ) → has_register taken r ≡ false → has_register given r ≡ false) (d : AreDifferent given) where
+  pass : ℕ → Bool
+  pass r = not (has_register taken r)
+
+  pool_pairs : AllPairs (λ a b. a ≢ b) (default_pool taken)
+  unfolding pass
+  pool_pairs = AllPairs-filter (λ a b. a ≢ b) pass free_registers (differ_pairs free_registers free_differ)
+
+  pool_low : All (λ r. r < 31) (default_pool taken)
+  unfolding pass
+  pool_low = All-filter pass (λ r. r < 31) free_registers (differ_low free_registers free_differ)
+
+  pool_free : (k e : ℕ) → k < length (default_pool taken) → has_register given (get_or (default_pool taken) k e) ≡ false
+  unfolding pass
+  pool_free k e l = free _ (is_false _ (filter_passes pass free_registers k e l))
+
+  pub pool_behind : AreDifferent (given ++ default_pool taken)
+  pool_behind = record {
+    pairs = pairs_append (λ a b. a ≢ b) given (default_pool taken) d.pairs pool_pairs (λ i e l k f m. register_apart given _ (pool_free k f m) i e l);
+    low = All-append (λ r. r < 31) given (default_pool taken) d.low pool_low;
+  }
+
+  pub pool_before : AreDifferent (default_pool taken ++ given)
+  pool_before = record {
+    pairs = pairs_append (λ a b. a ≢ b) (default_pool taken) given pool_pairs d.pairs (λ i e l k f m same. register_apart given _ (pool_free i e l) k f m (sym same));
+    low = All-append (λ r. r < 31) (default_pool taken) given pool_low d.low;
+  }

@@ -1,8 +1,9 @@
 -- The items of a goal that were read make the goal.
-use Rattle.std.proofs.Common.{◌≡◌, ◌≢◌, ℕ, ◌<◌, ◌++◌, if◌then◌else◌, ◌||◌, All, Ok, Err, Result, IfOk, Bool, true, false, Option, None, Some, List, [], ◌∷◌, map, option_map, length, refl, sym, ap, ◌∙◌, subst, arith, codes}
+use Rattle.std.proofs.Common.{◌≡◌, ◌≢◌, ℕ, ◌<◌, ◌++◌, if◌then◌else◌, ◌||◌, All, Ok, Err, Result, IfOk, Bool, true, false, Option, None, Some, List, [], ◌∷◌, map, option_map, length, refl, sym, ap, ap₂, ◌∙◌, subst, arith, bytes_eq, codes}
 use Rattle.std.specs.Prelude.{AllPairs}
-use Rattle.std.specs.List.{list_any}
+use Rattle.std.specs.List.{cons_option, list_any}
 use Rattle.std.proofs.lemmas.List.{length-map, append-nil}
+use Rattle.std.proofs.lemmas.List.Elements.{All-map}
 use Rattle.text_core.specs.declared.faults.Kind.TheVariants.{BadForm}
 use Rattle.word_terms.specs.View.{tree_of}
 use Rattle.text_core.specs.Names.{is_among}
@@ -19,15 +20,16 @@ use Rattle.goal_reader.specs.declared.drafts.Draft.{Draft}
 use Rattle.goal_meaning.specs.Views.{TargetTree, goal_view, assume_view, target_view}
 use Rattle.goal_reader.specs.Drafts.{AreDifferent, KeepsSoFar, IsAssumed, IsTargeted, pool_read, IsDraft, IsWritten, IsPoolWritten, one_pool, pool_kept}
 use Rattle.goal_reader.specs.Grammar.{WritesInput, WritesAssume, WritesTarget, WritesGuard, WritesPool, WritesGoal, absent, given}
-use Rattle.goal_meaning.specs.Rules.{KeepsRules}
-use Rattle.goal_reader.specs.Reading.{IsClear}
+use Rattle.goal_meaning.specs.Rules.{has_register, pins_of, KeepsRules}
+use Rattle.goal_reader.specs.Reading.{IsClear, pins_of_targets}
 use Rattle.goal_meaning.specs.WellFormed.{input_registers}
 use Rattle.goal_reader.specs.Roles as roles
 use Rattle.goal_meaning.specs.Names as goal_names
 use Rattle.goal_reader.specs.Roles.{a_list, no_set, rank, is_of_rank, of_rank, goal_keywords, text_keywords, items_of_goal, second_name, goal_scope, Role}
-use Rattle.goal_reader.proofs.Different.{pairs_map, default_different}
+use Rattle.goal_reader.proofs.Different.{back_different, or_left, or_right, pairs_map, pool_before, pool_behind}
 use Rattle.goal_reader.proofs.ItemForms.{keyworded_by, is_name, list_from_list}
 use Rattle.goal_reader.proofs.Keeping.{each_length}
+use Rattle.goal_reader.proofs.PoolSteps.{register_both}
 
 pub each_map : {X Y : Type 0} (W : Form → Y → Type 0) (v : X → Y) (fs : List Form) (xs : List X) → Each (λ f x. W f (v x)) fs xs → Each W fs (map v xs)
 each_map W v [] [] e = grammar.none
@@ -54,22 +56,36 @@ some_of_rank : (keywords : List (List ℕ)) (at : ℕ) (fs : List Form) → list
 some_of_rank keywords at [] e = cc
 some_of_rank keywords at (f ∷ fs) e = kept_some (is_of_rank keywords at f) f (of_rank keywords at fs) (list_any (is_of_rank keywords at) fs) e (some_of_rank keywords at fs)
 
-pool_written : (inputs : List ℕ) (fs : List Form) (p : Option (List ℕ)) → IsPoolWritten fs p → WritesPool inputs fs (pool_kept inputs p)
-pool_written inputs [] None w = absent
-pool_written inputs fs (Some rs) (one_pool forms is each) = given forms is each
-pool_written inputs (f ∷ fs) None w = elim w [ ]
+pool_written : (taken : List ℕ) (fs : List Form) (p : Option (List ℕ)) → IsPoolWritten fs p → WritesPool taken fs (pool_kept taken p)
+pool_written taken [] None w = absent
+pool_written taken fs (Some rs) (one_pool forms is each) = given forms is each
+pool_written taken (f ∷ fs) None w = elim w [ ]
 
-registers_kept : (inputs : List ℕ) (p : Option (List ℕ)) → AreDifferent (inputs ++ pool_read p) → AreDifferent (inputs ++ pool_kept inputs p)
-registers_kept inputs None d = default_different inputs (subst AreDifferent (append-nil inputs) d)
-registers_kept inputs (Some rs) d = d
+registers_kept : (inputs pins : List ℕ) (p : Option (List ℕ)) → AreDifferent (inputs ++ pool_read p) → AreDifferent (inputs ++ pool_kept (inputs ++ pins) p)
+registers_kept inputs pins None d =
+    pool_behind (inputs ++ pins) inputs (λ r f. or_left (has_register inputs r) (has_register pins r) (sym (register_both inputs pins r) ∙ f)) (subst AreDifferent (append-nil inputs) d)
+registers_kept inputs pins (Some rs) d = d
+
+pins_kept : (inputs pins : List ℕ) (p : Option (List ℕ)) → AreDifferent (pool_read p ++ pins) → AreDifferent (pool_kept (inputs ++ pins) p ++ pins)
+pins_kept inputs pins None d = pool_before (inputs ++ pins) pins (λ r f. or_right (has_register inputs r) (has_register pins r) (sym (register_both inputs pins r) ∙ f)) d
+pins_kept inputs pins (Some rs) d = d
+
+pins_viewed : (ts : List Set) → pins_of (map target_view ts) ≡ pins_of_targets ts
+pins_viewed [] = refl
+pins_viewed (t ∷ ts) = ap (cons_option t.pin) (pins_viewed ts)
 
 module _ (declared : List DeclaredOp) (form : Form) (g : Goal) (d : Draft) (draft : IsDraft declared (items_of_goal form) d) (w : IsWritten (items_of_goal form) d) (k : KeepsSoFar declared d)
-    (inputs : g.inputs ≡ d.inputs) (pool : g.pool ≡ pool_kept (input_registers d.inputs) d.pool) (assumes : g.assumes ≡ d.assumes) (guard : g.guard ≡ d.guard) (sets : g.sets ≡ d.sets)
+    (inputs : g.inputs ≡ d.inputs) (pool : g.pool ≡ pool_kept (input_registers d.inputs ++ pins_of_targets d.sets) d.pool) (assumes : g.assumes ≡ d.assumes) (guard : g.guard ≡ d.guard) (sets : g.sets ≡ d.sets)
     (some : list_any (is_of_rank goal_keywords 4) (items_of_goal form) ≡ true) where
   rules_kept : KeepsRules declared (goal_view g)
   rules_kept =
+      let pins = pins_of_targets d.sets in
+      let kept = pool_kept (input_registers d.inputs ++ pins) d.pool in
       let registers : AreDifferent (input_registers g.inputs ++ g.pool) =
-      subst (λ rs. AreDifferent (input_registers g.inputs ++ rs)) (sym pool) (subst (λ is. AreDifferent (input_registers is ++ pool_kept (input_registers d.inputs) d.pool)) (sym inputs) (registers_kept (input_registers d.inputs) d.pool k.registers)) in
+      subst (λ rs. AreDifferent (input_registers g.inputs ++ rs)) (sym pool) (subst (λ is. AreDifferent (input_registers is ++ kept)) (sym inputs) (registers_kept (input_registers d.inputs) pins d.pool k.registers)) in
+      let pins_are : pins_of (map target_view g.sets) ≡ pins = pins_viewed g.sets ∙ ap pins_of_targets sets in
+      let pinned : AreDifferent (g.pool ++ pins_of (map target_view g.sets)) =
+      subst (λ rs. AreDifferent (rs ++ pins_of (map target_view g.sets))) (sym pool) (subst (λ ps. AreDifferent (kept ++ ps)) (sym pins_are) (pins_kept (input_registers d.inputs) pins d.pool k.pins)) in
       let count = some_of_rank goal_keywords 4 (items_of_goal form) some in
       let same = each_length (IsTargeted d.scope) (of_rank goal_keywords 4 (items_of_goal form)) d.sets w.targets in
       let sets_length = length-map g.sets target_view in
@@ -85,6 +101,10 @@ module _ (declared : List DeclaredOp) (form : Form) (g : Goal) (d : Draft) (draf
         registers = registers.pairs;
         low = registers.low;
         targets = pairs_map (λ (a b : TargetTree). a.name ≢ b.name) target_view g.sets (subst (λ ts. AllPairs (λ (a b : Set). a.name ≢ b.name) ts) (sym sets) k.targets);
+        pins = pinned.pairs;
+        low_pins = (back_different g.pool (pins_of (map target_view g.sets)) pinned).low;
+        memory_unpinned = All-map (λ (t : TargetTree). bytes_eq t.name (codes "M") ≡ true → t.pin ≡ None) target_view g.sets
+            (subst (λ ts. All (λ (t : Set). bytes_eq t.name (codes "M") ≡ true → t.pin ≡ None) ts) (sym sets) k.unpinned);
         some_target = omega (arith, count, same, sets_length, s);
         few = (omega (arith, i, few.0), omega (arith, assumes_length, a, few.1), omega (arith, sets_length, s, few.2));
       }
@@ -102,6 +122,9 @@ module _ (declared : List DeclaredOp) (form : Form) (g : Goal) (d : Draft) (draf
       let items : items_of_goal form ≡ forms_list others = ap items_of_goal whole in
       let r : ℕ → List Form = λ n. of_rank goal_keywords n (items_of_goal form) in
       let sorted : forms_list others ≡ r 0 ++ (r 1 ++ (r 2 ++ (r 3 ++ r 4))) = sym items ∙ w.sorted in
+      let taken = input_registers g.inputs ++ pins_of (map target_view g.sets) in
+      let taken_is : input_registers d.inputs ++ pins_of_targets d.sets ≡ taken =
+      ap₂ (λ is ts. input_registers is ++ pins_of_targets ts) (sym inputs) (sym sets) ∙ ap (λ ps. input_registers g.inputs ++ ps) (sym (pins_viewed g.sets)) in
       let spread : more first others ≡ forms_from (first ∷ (r 0 ++ (r 1 ++ (r 2 ++ (r 3 ++ r 4))))) = ap (more first) (list_from_list others ∙ ap forms_from sorted) in
       record {
         name_form = first;
@@ -113,7 +136,7 @@ module _ (declared : List DeclaredOp) (form : Form) (g : Goal) (d : Draft) (draf
         is = record { place = q.place; head_place = q.head; is = whole ∙ ap (λ fs. list q.place (more (atom q.head (name (codes "goal"))) fs)) spread };
         named = is_name first g.name second.3;
         inputs = subst (λ is. Each WritesInput (r 0) is) (sym inputs) w.inputs;
-        pool = subst (λ rs. WritesPool (input_registers g.inputs) (r 1) rs) (sym pool) (subst (λ is. WritesPool (input_registers g.inputs) (r 1) (pool_kept (input_registers is) d.pool)) inputs (pool_written (input_registers g.inputs) (r 1) d.pool w.pool));
+        pool = subst (λ rs. WritesPool taken (r 1) rs) (sym pool) (subst (λ ts. WritesPool taken (r 1) (pool_kept ts d.pool)) (sym taken_is) (pool_written taken (r 1) d.pool w.pool));
         assumptions = each_map (WritesAssume (goal_scope declared g.inputs)) assume_view (r 2) g.assumes
             (subst (λ xs. Each (IsAssumed (goal_scope declared g.inputs)) (r 2) xs) (sym assumes) (subst (λ (s : Scope). Each (IsAssumed s) (r 2) d.assumes) scope_is w.assumptions));
         guard = subst (λ x. WritesGuard (goal_scope declared g.inputs) (r 3) (option_map tree_of x)) (sym guard) (subst (λ (s : Scope). WritesGuard s (r 3) (option_map tree_of d.guard)) scope_is w.guard);

@@ -21,9 +21,9 @@ use Rattle.word_terms.specs.Tree.{Tree}
 use Rattle.goal_meaning.specs.declared.goals.InputReg.{InputReg}
 use Rattle.goal_meaning.specs.declared.goals.DeclaredOp.{DeclaredOp}
 use Rattle.goal_reader.specs.declared.scopes.Scope.{Scope}
-use Rattle.goal_reader.specs.Grammar.{WritesInput, WritesAssume, WritesGuard, WritesTarget, WritesGoal, WritesDeclaration, WritesAxiom, axiom_scope, unguarded, guarded}
+use Rattle.goal_reader.specs.Grammar.{WritesInput, WritesAssume, WritesGuard, WritesPin, WritesTarget, WritesGoal, WritesDeclaration, WritesAxiom, axiom_scope, pinned, unpinned, unguarded, guarded}
 use Rattle.goal_meaning.specs.Names.{IsNamedGoal}
-use Rattle.goal_meaning.specs.InputForms.{Naming, naming, term_plain, register_plain, input_plain, pool_plain, assume_plain, guard_plains, target_plain, goal_plain, declaration_plain, variable_plain, axiom_plain}
+use Rattle.goal_meaning.specs.InputForms.{Naming, naming, term_plain, register_plain, input_plain, pool_plain, assume_plain, guard_plains, pin_plains, target_plain, goal_plain, declaration_plain, variable_plain, axiom_plain}
 use Rattle.goal_meaning.specs.WellFormed.{input_registers}
 use Rattle.goal_reader.specs.Roles.{goal_scope}
 use Rattle.goal_meaning.specs.Views.{TwoTrees, TargetTree, GoalTree, AxiomTree}
@@ -117,6 +117,10 @@ registers_fit n (r ∷ rs) low = fit_more n (register_plain r) (map register_pla
 pool_fits : (n : ℕ) (rs : List ℕ) → All (λ r. r < 31) rs → Fits (1 + n) (pool_plain rs)
 pool_fits n rs low = listed_fits n (codes "pool") (map register_plain rs) (record { begins = refl; each = refl }) (registers_fit n rs low)
 
+pin_fits : (n : ℕ) (ps : List Form) (o : Option ℕ) → WritesPin ps o → FitAll n (pin_plains o)
+pin_fits n _ _ unpinned = fit_none n
+pin_fits n _ _ (pinned {register = r} is) = fit_more n (register_plain r) [] (register_fits n r (register_low is.bytes r is.number)) (fit_none n)
+
 -- ---- the items of a goal
 abbrev HasName : InputReg → Type 0
 HasName i = IsName i.name
@@ -141,16 +145,20 @@ module _ (scope : Scope) (names : Naming) (named : AreNamed scope names) where
   guard_told _ _ unguarded = refl
   guard_told _ _ (guarded {form = f} one is w) = ap (λ p. p ∷ []) (listed_told (codes "when") (one ∷ []) f is ∙ ap (λ x. keyword_list (codes "when") (x ∷ [])) (term_told scope names named w))
 
-  target_told : (f : Form) (t : TargetTree) → WritesTarget scope f t → plain_of f ≡ target_plain names t
-  target_told f t w =
-      listed_told (codes "set") (w.first ∷ w.second ∷ []) f w.is
-      ∙ ap₂ (λ x y. keyword_list (codes "set") (x ∷ y ∷ [])) (name_told t.name w.first w.named) (term_told scope names named w.value)
-
   assume_fits : (n : ℕ) (f : Form) (a : TwoTrees) → WritesAssume scope f a → Fits n (plain_of f) → Fits n (assume_plain names a) × ⊤
   assume_fits n f a w fits = (subst (Fits n) (assume_told f a w) fits, tt)
 
-  target_fits : (n : ℕ) (f : Form) (t : TargetTree) → WritesTarget scope f t → Fits n (plain_of f) → Fits n (target_plain names t) × IsName t.name
-  target_fits n f t w fits = let h = subst (Fits n) (target_told f t w) fits in (h, h.0.1.0)
+  target_fits : (n : ℕ) (f : Form) (t : TargetTree) → WritesTarget scope f t → Fits (1 + n) (plain_of f) → Fits (1 + n) (target_plain names t) × IsName t.name
+  target_fits n f t w fits =
+      let value = term_plain names t.value in
+      let parts = parts_fit n (codes "set") (w.first ∷ (w.pins ++ w.last ∷ [])) f w.is fits in
+      let behind = fit_tail n (plain_of w.first) (map plain_of (w.pins ++ w.last ∷ [])) parts in
+      let own = subst (Fits n) (name_told t.name w.first w.named) (fit_head n (plain_of w.first) (map plain_of (w.pins ++ w.last ∷ [])) parts) in
+      let last = subst (Fits n) (term_told scope names named w.value) (fit_head n (plain_of w.last) [] (back_fits n w.pins (w.last ∷ []) behind)) in (
+        listed_fits n (codes "set") (atom (name t.name) ∷ (pin_plains t.pin ++ value ∷ [])) (record { begins = refl; each = refl })
+            (fit_more n (atom (name t.name)) (pin_plains t.pin ++ value ∷ []) own (fit_both n (pin_plains t.pin) (value ∷ []) (pin_fits n w.pins t.pin w.pin) (fit_more n value [] last (fit_none n)))),
+        own.0,
+      )
 
 -- ---- a goal
 pub goal_fits : (n : ℕ) (declared : List DeclaredOp) (f : Form) (g : GoalTree) → WritesGoal declared f g → Fits (1 + (1 + n)) (plain_of f) → Fits (1 + (1 + n)) (goal_plain declared g) × IsNamedGoal g
@@ -168,7 +176,7 @@ goal_fits n declared f g w fits =
     let ins = each_fits (1 + n) WritesInput input_plain HasName (input_fits n) w.ins g.inputs w.inputs (front_fits (1 + n) w.ins (w.pools ++ after_pools) all) in
     let assumes = each_fits (1 + n) (WritesAssume scope) (assume_plain names) (λ a. ⊤) (assume_fits scope names named (1 + n)) w.assumes g.assumes w.assumptions (front_fits (1 + n) w.assumes (w.whens ++ w.sets) behind) in
     let guard = subst (FitAll (1 + n)) (guard_told scope names named w.whens g.guard w.guard) (front_fits (1 + n) w.whens w.sets last) in
-    let sets = each_fits (1 + n) (WritesTarget scope) (target_plain names) (λ t. IsName t.name) (target_fits scope names named (1 + n)) w.sets g.sets w.targets (back_fits (1 + n) w.whens w.sets last) in
+    let sets = each_fits (1 + n) (WritesTarget scope) (target_plain names) (λ t. IsName t.name) (target_fits scope names named n) w.sets g.sets w.targets (back_fits (1 + n) w.whens w.sets last) in
     let pool = pool_fits n g.pool (all_back (λ r. r < 31) (input_registers g.inputs) g.pool w.rules.low) in
     let last_plains = guard_plains names g.guard ++ map (target_plain names) g.sets in
     let plains_behind = map (assume_plain names) g.assumes ++ last_plains in

@@ -21,9 +21,9 @@ pub wrong_first : (form : Form) (low high : ℕ) → Stands low high form → Is
 wrong_first form low high h = first_own IsOwn part_role wrong form low high BadForm h wrong_part (λ k is. owns.own_at_least is)
 
 module _ (shape : Shape) (form : Form) (roles : List Role) (low high : ℕ) (h : Stands low high form)
-    (only : (k : Kind) → IsOwn (a_list shape) form k → length (parts_of form) < least_parts shape)
+    (only : (k : Kind) → IsOwn (a_list shape) form k → length (parts_of form) < least_parts shape form)
     (listed_are : (at : ℕ) → shape_part shape form at ≡ listed_role roles at) where
-  pub short_first : length (parts_of form) < least_parts shape → IsFirst (IsFaultAs (a_list shape) form) (place_of form) BadForm
+  pub short_first : length (parts_of form) < least_parts shape form → IsFirst (IsFaultAs (a_list shape) form) (place_of form) BadForm
   short_first few = first_own IsOwn part_role (a_list shape) form low high BadForm h (too_few few) (λ k is. owns.own_at_least is)
 
   -- the parts behind the keyword, up to this one, have no fault
@@ -51,12 +51,12 @@ module _ (shape : Shape) (form : Form) (roles : List Role) (low high : ℕ) (h :
       let same : other ≡ get_or roles j wrong = cc in
       clear j part (omega (arith, l)) g place kind (subst (λ (r : Role). IsFaultAs r part place kind) same fault)
 
-  pub part_first : (n : ℕ) (part : Form) (place : ℕ) (kind : Kind) → (length (parts_of form) < least_parts shape → ⊥) → ClearParts n → slice_get (parts_of form) (suc n) ≡ Some part
+  pub part_first : (n : ℕ) (part : Form) (place : ℕ) (kind : Kind) → (length (parts_of form) < least_parts shape form → ⊥) → ClearParts n → slice_get (parts_of form) (suc n) ≡ Some part
       → IsFirst (IsFaultAs (get_or roles n wrong) part) place kind → IsFirst (IsFaultAs (a_list shape) form) place kind
   part_first n part place kind enough clear g first =
       first_inside IsOwn part_role (a_list shape) form low high (suc n) part (get_or roles n wrong) place kind h (λ k is. enough (only k is)) g (listed_are (suc n)) (clear_to n clear) first
 
-  pub whole_clear : (n : ℕ) → (length (parts_of form) < least_parts shape → ⊥) → length (parts_of form) ≤ suc n → ClearParts n → IsClear (a_list shape) form
+  pub whole_clear : (n : ℕ) → (length (parts_of form) < least_parts shape form → ⊥) → length (parts_of form) ≤ suc n → ClearParts n → IsClear (a_list shape) form
   whole_clear n enough most clear =
       no_fault IsOwn part_role (a_list shape) form (λ k is. enough (only k is))
       (λ j part other place kind g e fault. clear_to n clear j part other place kind (let l = got_within (parts_of form) j part g in omega (arith, l, most)) g e fault)

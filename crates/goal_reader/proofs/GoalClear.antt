@@ -1,37 +1,40 @@
 -- A form that writes a goal has no fault.
-use Rattle.std.proofs.Common.{◌≡◌, ◌≢◌, ℕ, zero, suc, ◌+◌, ◌-◌, ◌<◌, ◌≤◌, ◌||◌, ◌++◌, ◌==◌, Bool, true, false, All, None, Some, List, [], ◌∷◌, map, length, take, get_or, slice_get, refl, sym, ap, ap₂, ◌∙◌, subst, arith, codes, length-append}
-use Rattle.std.specs.Prelude.{AllPairs}
+use Rattle.std.proofs.Common.{◌≡◌, ◌≢◌, ℕ, zero, suc, ◌+◌, ◌-◌, ◌<◌, ◌≤◌, ◌||◌, ◌++◌, ◌==◌, if◌then◌else◌, Bool, true, false, All, Option, None, Some, List, [], ◌∷◌, map, length, take, get_or, slice_get, refl, sym, ap, ap₂, ◌∙◌, subst, arith, bytes_eq, codes, length-append}
+use Rattle.std.specs.Prelude.{AllPairs, is_some}
 use Rattle.std.specs.List.{list_any, cons_option}
 use Rattle.std.specs.Option.{option_map_or}
 use Rattle.std.proofs.lemmas.Bool.Decides.{nat_tests}
 use Rattle.std.proofs.lemmas.List.{append-nil, append_assoc}
 use Rattle.word_ops.specs.declared.sorts.Sort.TheVariants as sorts
-use Rattle.forms.specs.Forms.{Form, atom, name, parts_of, name_in}
+use Rattle.forms.specs.Forms.{Form, atom, name, parts_of, name_in, register_in}
 use Rattle.forms.proofs.First.{no_fault}
-use Rattle.machine_table.specs.Grammar.{Each, more_of}
+use Rattle.machine_table.specs.Grammar.{Each, more_of, IsListOf}
 use Rattle.text_core.specs.declared.faults.Kind.{Kind}
 use Rattle.goal_meaning.specs.declared.goals.InputReg.{InputReg}
 use Rattle.goal_reader.specs.declared.order.Admission.TheVariants.{Admitted}
 use Rattle.goal_meaning.specs.declared.goals.DeclaredOp.{DeclaredOp}
 use Rattle.goal_reader.specs.declared.scopes.Scope.{Scope}
-use Rattle.goal_reader.specs.Grammar.{IsRegister, WritesInput, WritesPool, WritesAssume, WritesGuard, WritesTarget, WritesGoal, absent, given, unguarded, guarded}
+use Rattle.goal_reader.specs.Grammar.{IsRegister, WritesInput, WritesPool, WritesAssume, WritesGuard, WritesPin, WritesTarget, WritesGoal, absent, given, pinned, unpinned, unguarded, guarded}
 use Rattle.goal_reader.specs.Reading.{IsClear, names_of_inputs}
 use Rattle.goal_meaning.specs.WellFormed.{input_registers, sort_of_target}
 use Rattle.goal_reader.specs.Roles as roles
 use Rattle.text_core.specs.Names.{is_among}
-use Rattle.goal_reader.specs.Roles.{Role, a_list, wrong, IsOwn, too_few, part_role, own_name, fresh_name, fresh_register, term, rank, of_rank, is_of_rank, goal_keywords, goal_bounds, bound_at, items_of_goal, item_role, role_in, goal_scope, inputs_in, names_given, registers_in, WritesTerm, second_name, register_of}
+use Rattle.goal_reader.specs.Roles.{Role, a_list, wrong, IsOwn, too_few, part_role, own_name, fresh_name, fresh_register, term, rank, of_rank, is_of_rank, goal_keywords, goal_bounds, bound_at, items_of_goal, item_role, role_in, goal_scope, inputs_in, names_given, registers_in, is_pinned, listed_role, pin_role, pins_in, pool_in, set_roles, target_sort, WritesTerm, second_name, register_of}
 use Rattle.goal_meaning.specs.Names.{is_reserved, names_of_declared}
-use Rattle.goal_meaning.specs.Rules.{has_register}
+use Rattle.goal_meaning.specs.Rules.{has_register, pins_of}
 use Rattle.goal_meaning.specs.Views.{TwoTrees, TargetTree, GoalTree}
 use Rattle.goal_reader.proofs.Admitting.{role_told}
 use Rattle.goal_reader.proofs.Apart.{writes_clear}
-use Rattle.goal_reader.proofs.GoalSteps.{got_dropped, goal_clear, item_at, other_inputs, other_targets, one_input, one_target, mapped_more}
+use Rattle.goal_reader.proofs.Different.{pairs_back}
+use Rattle.goal_reader.proofs.GoalSteps.{filter_more, got_dropped, goal_clear, item_at, other_inputs, other_pins, other_pool, other_targets, one_input, one_pin, one_pool, one_target, mapped_more}
+use Rattle.goal_reader.proofs.Names.{not_true}
 use Rattle.goal_reader.proofs.NewNames.{own_name_clear, fresh_name_clear, fresh_register_clear, input_only, guard_only, set_only, target_sort_told, among_both}
-use Rattle.goal_reader.proofs.ReadParts.{input_told, input_ranked, register_told, assume_ranked, target_ranked, target_named, parts_are, items_are, all_sets, goal_told}
+use Rattle.goal_reader.proofs.ReadParts.{input_told, input_ranked, no_register_writes, register_told, assume_ranked, pin_told, target_ranked, target_named, parts_are, items_are, all_sets, goal_told}
 use Rattle.goal_reader.proofs.ReadParts as read
 use Rattle.goal_reader.proofs.Sorts.{assume_only, sort_of_part, writes_sort}
 use Rattle.goal_reader.proofs.Grouped.{AllOf, listed_rank}
 use Rattle.goal_reader.proofs.Heads.{list_from}
+use Rattle.goal_reader.proofs.WrittenItems.{fewer_than_one}
 use Rattle.goal_reader.proofs.Walks.{EachClear, parts_clear, no_role, as_role, Walk, walk_at, walk_both, group_walk, Behind, behind_more, behind_next, name_new, register_new}
 
 -- ---- one item
@@ -71,8 +74,8 @@ pool_each role form inputs before h (f ∷ fs) (r ∷ rs) all at (more_of one ot
           ∙ ap (λ o. Some (fresh_register (inputs ++ (before ++ cons_option o (registers_in (take j fs)))))) told ∙ ap (λ xs. Some (fresh_register (inputs ++ xs))) (sym (append_assoc before (r ∷ []) (registers_in (take j fs))))),
     )
 
-pub pool_clear : (inputs : List ℕ) (form : Form) (fs : List Form) (rs : List ℕ) → WritesPool inputs (form ∷ fs) rs → AllPairs (λ a b. a ≢ b) (inputs ++ rs) → IsClear (a_list (roles.pool inputs)) form
-pool_clear inputs form _ rs (given forms is each) apart =
+pub pool_clear : (inputs : List ℕ) (form : Form) (forms : List Form) (rs : List ℕ) → IsListOf (codes "pool") forms form → Each (λ f r. IsRegister r f) forms rs → AllPairs (λ a b. a ≢ b) (inputs ++ rs) → IsClear (a_list (roles.pool inputs)) form
+pool_clear inputs form forms rs is each apart =
     let role = a_list (roles.pool inputs) in
     let h : Form = atom is.head_place (name (codes "pool")) in
     let parts : parts_of form ≡ h ∷ forms = ap parts_of is.is ∙ ap (λ fs. h ∷ fs) (list_from forms) in
@@ -84,6 +87,12 @@ pool_clear inputs form _ rs (given forms is each) apart =
   where
     no_own : (k : Kind) → IsOwn (a_list (roles.pool inputs)) form k → length (parts_of form) ≡ suc (length forms) → ⊥
     no_own k (too_few l) n = omega (arith, l, n)
+
+each_register : (fs : List Form) (rs : List ℕ) → Each (λ f r. IsRegister r f) fs rs → registers_in fs ≡ rs
+each_register [] [] e = refl
+each_register [] (r ∷ rs) e = elim e [ ]
+each_register (f ∷ fs) [] e = elim e [ ]
+each_register (f ∷ fs) (r ∷ rs) (more_of one others) = ap₂ (λ o xs. cons_option o xs) (register_told f r one) (each_register fs rs others)
 
 module _ (scope : Scope) where
   pub assume_clear : (form : Form) (a : TwoTrees) → WritesAssume scope form a → IsClear (a_list (roles.assume scope)) form
@@ -105,25 +114,69 @@ module _ (scope : Scope) where
       parts_clear (a_list (roles.guard scope)) form _ parts (λ k o. let l = guard_only scope form k o in let n = ap length parts in omega (arith, l, n))
       ((λ other e. no_role other _ e), ((λ other e. as_role (term scope (Some sorts.Word)) one (writes_clear w (Some sorts.Word) refl) other e), tt))
 
-  pub target_clear : (names : List (List ℕ)) (form : Form) (t : TargetTree) → WritesTarget scope form t → is_among names t.name ≡ false → IsClear (a_list (roles.set scope names)) form
-  target_clear names form t w fresh =
-      let parts = ap parts_of w.is.is in
-      parts_clear (a_list (roles.set scope names)) form _ parts (λ k o. let l = set_only scope names form k o in let n = ap length parts in omega (arith, l, n)) (
-        (λ other e. no_role other _ e),
-        (
-          (λ other e. as_role (fresh_name names) w.first (fresh_name_clear names w.first t.name (ap name_in w.named.is) fresh) other e),
-          ((λ other e. as_role (term scope (Some (sort_of_target t.name))) w.second (writes_clear w.value (Some (sort_of_target t.name)) refl) other (ap (λ s. Some (term scope s)) (target_sort_told form t.name (target_named scope form t w)) ∙ e)), tt),
-        ),
-      )
+  module _ (names : List (List ℕ)) (taken : List ℕ) (form : Form) (t : TargetTree) (w : WritesTarget scope form t) (fresh : is_among names t.name ≡ false)
+      (free : (r : ℕ) → t.pin ≡ Some r → has_register taken r ≡ false) (unpinned_memory : bytes_eq t.name (codes "M") ≡ true → t.pin ≡ None) where
+    as_set : Role
+    as_set = a_list (roles.set scope names taken)
+
+    abbrev roles_at : Bool → ℕ → Option Role
+    roles_at b at = listed_role (set_roles scope names taken form b) at
+
+    name_is_clear : (other : Role) → Some (fresh_name names) ≡ Some other → IsClear other w.first
+    name_is_clear other e = as_role (fresh_name names) w.first (fresh_name_clear names w.first t.name (ap name_in w.named.is) fresh) other e
+
+    value_is_clear : (other : Role) → Some (term scope (target_sort form)) ≡ Some other → IsClear other w.last
+    value_is_clear other e =
+        as_role (term scope (Some (sort_of_target t.name))) w.last (writes_clear w.value (Some (sort_of_target t.name)) refl) other (ap (λ s. Some (term scope s)) (target_sort_told form t.name (target_named scope form t w)) ∙ e)
+
+    pin_is_clear : (f : Form) (r : ℕ) → t.pin ≡ Some r → IsRegister r f → (other : Role) → Some (pin_role taken (second_name form)) ≡ Some other → IsClear other f
+    pin_is_clear f r e reg other g =
+        let word : bytes_eq t.name (codes "M") ≡ false = not_true (bytes_eq t.name (codes "M")) (λ m. let n : Some r ≡ None = sym e ∙ unpinned_memory m in cc) in
+        let role : pin_role taken (second_name form) ≡ fresh_register taken = ap (pin_role taken) (target_named scope form t w) ∙ ap (λ b. if b then wrong else fresh_register taken) word in
+        as_role (fresh_register taken) f (fresh_register_clear taken f r (register_told f r reg) (free r e)) other (ap Some (sym role) ∙ g)
+
+    parts_by : (ps : List Form) (o : Option ℕ) → t.pin ≡ o → WritesPin ps o → IsListOf (codes "set") (w.first ∷ (ps ++ w.last ∷ [])) form → IsClear as_set form
+    unfolding as_set
+    parts_by _ _ has unpinned is =
+        let parts = ap parts_of is.is in
+        let no_pin : is_pinned form ≡ false = ap is_pinned is.is ∙ ap is_some (no_register_writes w.value) in
+        let role : (at : ℕ) → roles_at (is_pinned form) at ≡ roles_at false at = λ at. ap (λ b. roles_at b at) no_pin in
+        parts_clear as_set form _ parts (λ k o. let l = set_only scope names taken form k o in let n = ap length parts in let least = ap {B = ℕ} (λ b. if b then 4 else 3) no_pin in omega (arith, l, n, least)) (
+          (λ other e. no_role other _ e),
+          ((λ other e. name_is_clear other (sym (role 1) ∙ e)), ((λ other e. value_is_clear other (sym (role 2) ∙ e)), tt)),
+        )
+    parts_by _ _ has (pinned {form = f} {register = r} reg) is =
+        let parts = ap parts_of is.is in
+        let there : is_pinned form ≡ true = ap is_pinned is.is ∙ ap (λ (x : Form). is_some (register_in x)) reg.is in
+        let role : (at : ℕ) → roles_at (is_pinned form) at ≡ roles_at true at = λ at. ap (λ b. roles_at b at) there in
+        parts_clear as_set form _ parts (λ k o. let l = set_only scope names taken form k o in let n = ap length parts in let least = ap {B = ℕ} (λ b. if b then 4 else 3) there in omega (arith, l, n, least)) (
+          (λ other e. no_role other _ e),
+          (
+            (λ other e. name_is_clear other (sym (role 1) ∙ e)),
+            ((λ other e. pin_is_clear f r has reg other (sym (role 2) ∙ e)), ((λ other e. value_is_clear other (sym (role 3) ∙ e)), tt)),
+          ),
+        )
+
+    pub target_clear : IsClear (a_list (roles.set scope names taken)) form
+    unfolding as_set
+    target_clear = parts_by w.pins t.pin refl w.pin w.is
 
 -- ---- what stands before an item
-record Before (before : List Form) (at n : ℕ) (inputs : List InputReg) (names : List (List ℕ)) : Type 0 where
+pub record Before (before : List Form) (at n : ℕ) (inputs : List InputReg) (pool : List ℕ) (targets : List TargetTree) : Type 0 where
   pub order : Behind goal_keywords before at n
   pub inputs_are : inputs_in before ≡ inputs
-  pub names_are : names_given (of_rank goal_keywords 4 before) ≡ names
+  pub pool_is : pool_in before ≡ pool
+  pub names_are : names_given (of_rank goal_keywords 4 before) ≡ map (λ (t : TargetTree). t.name) targets
+  pub pins_are : pins_in before ≡ pins_of targets
 
-before_next : (before : List Form) (at n : ℕ) (inputs : List InputReg) (names : List (List ℕ)) → Before before at n inputs names → Before before (at + 1) 0 inputs names
-before_next before at n inputs names b = record { order = behind_next goal_keywords before at n b.order; inputs_are = b.inputs_are; names_are = b.names_are }
+before_next : (before : List Form) (at n : ℕ) (inputs : List InputReg) (pool : List ℕ) (targets : List TargetTree) → Before before at n inputs pool targets → Before before (at + 1) 0 inputs pool targets
+before_next before at n inputs pool targets b = record {
+  order = behind_next goal_keywords before at n b.order;
+  inputs_are = b.inputs_are;
+  pool_is = b.pool_is;
+  names_are = b.names_are;
+  pins_are = b.pins_are;
+}
 
 pub one_longer : {X : Type 0} (xs : List X) (x : X) → length xs + 1 ≡ length (xs ++ x ∷ [])
 one_longer xs x = let n = length-append xs (x ∷ []) in omega (arith, n)
@@ -135,40 +188,48 @@ module _ (declared : List DeclaredOp) where
   abbrev HasNoFault : List Form → Form → Type 0
   HasNoFault before form = IsClear (role_in goal_keywords goal_bounds before (item_role declared before) form) form
 
-  abbrev roles_of : List InputReg → List (List ℕ) → ℕ → Role
-  roles_of inputs names at =
+  abbrev roles_of : List InputReg → List (List ℕ) → List ℕ → ℕ → Role
+  roles_of inputs names taken at =
       get_or (a_list (roles.input declared inputs) ∷ a_list (roles.pool (input_registers inputs)) ∷ a_list (roles.assume (goal_scope declared inputs)) ∷ a_list (roles.guard (goal_scope declared inputs))
-      ∷ a_list (roles.set (goal_scope declared inputs) names) ∷ []) at wrong
+      ∷ a_list (roles.set (goal_scope declared inputs) names taken) ∷ []) at wrong
 
-  admitted : (before : List Form) (at n : ℕ) (inputs : List InputReg) (names : List (List ℕ)) (form : Form) → Before before at n inputs names → rank goal_keywords form ≡ Some at → n < (bound_at goal_bounds at).most
-      → IsClear (roles_of inputs names at) form → HasNoFault before form
-  admitted before at n inputs names form b e l clear =
+  abbrev named : List TargetTree → List (List ℕ)
+  named ts = map (λ (t : TargetTree). t.name) ts
+
+  admitted : (before : List Form) (at n : ℕ) (inputs : List InputReg) (pool : List ℕ) (targets : List TargetTree) (form : Form) → Before before at n inputs pool targets → rank goal_keywords form ≡ Some at → n < (bound_at goal_bounds at).most
+      → IsClear (roles_of inputs (named targets) (pool ++ pins_of targets) at) form → HasNoFault before form
+  admitted before at n inputs pool targets form b e l clear =
       let count = b.order.count in
       let few : length (of_rank goal_keywords at before) < (bound_at goal_bounds at).most = subst (λ m. m < (bound_at goal_bounds at).most) (sym count) l in
       let told = role_told goal_keywords goal_bounds before (item_role declared before) form at Admitted e (b.order.later, few) in
-      let same : item_role declared before at ≡ roles_of inputs names at =
-      ap (λ is. roles_of is (names_given (of_rank goal_keywords 4 before)) at) b.inputs_are ∙ ap (λ ns. roles_of inputs ns at) b.names_are in
+      let same : item_role declared before at ≡ roles_of inputs (named targets) (pool ++ pins_of targets) at =
+      ap (λ is. roles_of is (names_given (of_rank goal_keywords 4 before)) (pool_in before ++ pins_in before) at) b.inputs_are ∙ ap (λ ns. roles_of inputs ns (pool_in before ++ pins_in before) at) b.names_are
+      ∙ ap (λ rs. roles_of inputs (named targets) rs at) (ap₂ (λ p q. p ++ q) b.pool_is b.pins_are) in
       subst (λ (r : Role). IsClear r form) (sym (told ∙ same)) clear
 
-  -- an item that is no input and no target
-  plain_more : (before : List Form) (at n : ℕ) (inputs : List InputReg) (names : List (List ℕ)) (form : Form) → Before before at n inputs names → rank goal_keywords form ≡ Some at → (at == 0) ≡ false → (at == 4) ≡ false → Before (before ++ form ∷ []) at (n + 1) inputs names
-  plain_more before at n inputs names form b e t0 t4 = record {
+  -- an item that is no input and no target, before which the pool is known
+  plain_more : (before : List Form) (at n : ℕ) (inputs : List InputReg) (pool more : List ℕ) (form : Form) → Before before at n inputs pool [] → rank goal_keywords form ≡ Some at → (at == 0) ≡ false → (at == 4) ≡ false → pool_in (before ++ form ∷ []) ≡ more
+      → Before (before ++ form ∷ []) at (n + 1) inputs more []
+  plain_more before at n inputs pool more form b e t0 t4 is = record {
     order = behind_more goal_keywords before at n form b.order e;
     inputs_are = other_inputs at form before e t0 ∙ b.inputs_are;
+    pool_is = is;
     names_are = other_targets at form before e t4 ∙ b.names_are;
+    pins_are = other_pins at form before e t4 ∙ b.pins_are;
   }
 
   module _ (g : GoalTree)
       (input_names : AllPairs (λ (i j : InputReg). i.name ≢ j.name) g.inputs) (own_names : All (λ (i : InputReg). is_reserved i.name ≡ false) g.inputs)
       (not_declared : All (λ (i : InputReg). is_among (names_of_declared declared) i.name ≡ false) g.inputs) (registers : AllPairs (λ a b. a ≢ b) (input_registers g.inputs ++ g.pool))
-      (targets : AllPairs (λ (s t : TargetTree). s.name ≢ t.name) g.sets) (few : (length g.inputs ≤ 16) × (length g.assumes ≤ 16) × (length g.sets ≤ 16)) where
+      (targets : AllPairs (λ (s t : TargetTree). s.name ≢ t.name) g.sets) (few : (length g.inputs ≤ 16) × (length g.assumes ≤ 16) × (length g.sets ≤ 16))
+      (pins : AllPairs (λ a b. a ≢ b) (g.pool ++ pins_of g.sets)) (unpinned_memory : All (λ (t : TargetTree). bytes_eq t.name (codes "M") ≡ true → t.pin ≡ None) g.sets) where
     abbrev scope : Scope
     scope = goal_scope declared g.inputs
 
-    one_of : (P : InputReg → Type 0) (done rest : List InputReg) (i : InputReg) → g.inputs ≡ done ++ i ∷ rest → All P g.inputs → P i
-    one_of P done rest i is h = subst P (here done) (subst (λ xs. All P xs) is h (length done) i (let n = length-append done (i ∷ rest) in omega (arith, n)))
+    one_of : {Y : Type 0} (P : Y → Type 0) (all done rest : List Y) (i : Y) → all ≡ done ++ i ∷ rest → All P all → P i
+    one_of P all done rest i is h = subst P (here done) (subst (λ xs. All P xs) is h (length done) i (let n = length-append done (i ∷ rest) in omega (arith, n)))
       where
-        here : (zs : List InputReg) → get_or (zs ++ i ∷ rest) (length zs) i ≡ i
+        here : (zs : List _) → get_or (zs ++ i ∷ rest) (length zs) i ≡ i
         here [] = refl
         here (z ∷ zs) = here zs
 
@@ -176,72 +237,116 @@ module _ (declared : List DeclaredOp) where
     map_both [] rest i = refl
     map_both (d ∷ done) rest i = ap (λ xs. d.reg ∷ xs) (map_both done rest i)
 
-    input_step : (before : List Form) (done rest : List InputReg) (form : Form) (i : InputReg) → g.inputs ≡ done ++ i ∷ rest → Before before 0 (length done) done [] → WritesInput form i
-        → HasNoFault before form × Before (before ++ form ∷ []) 0 (length (done ++ i ∷ [])) (done ++ i ∷ []) []
+    input_step : (before : List Form) (done rest : List InputReg) (form : Form) (i : InputReg) → g.inputs ≡ done ++ i ∷ rest → Before before 0 (length done) done [] [] → WritesInput form i
+        → HasNoFault before form × Before (before ++ form ∷ []) 0 (length (done ++ i ∷ [])) (done ++ i ∷ []) [] []
     input_step before done rest form i is b w =
         let e = input_ranked form i w in
         let told = input_told form i w in
         let all : input_registers g.inputs ++ g.pool ≡ input_registers done ++ i.reg ∷ (input_registers rest ++ g.pool) =
         ap (λ is. input_registers is ++ g.pool) is ∙ ap (λ rs. rs ++ g.pool) (map_both done rest i) ∙ append_assoc (input_registers done) (i.reg ∷ input_registers rest) g.pool in
-        let clear = input_clear declared done form i w (one_of (λ j. is_reserved j.name ≡ false) done rest i is own_names) (one_of (λ j. is_among (names_of_declared declared) j.name ≡ false) done rest i is not_declared)
+        let clear = input_clear declared done form i w (one_of (λ (j : InputReg). is_reserved j.name ≡ false) g.inputs done rest i is own_names) (one_of (λ (j : InputReg). is_among (names_of_declared declared) j.name ≡ false) g.inputs done rest i is not_declared)
         (name_new (λ (j : InputReg). j.name) g.inputs done i rest is input_names) (register_new (input_registers g.inputs ++ g.pool) (input_registers done) i.reg (input_registers rest ++ g.pool) all registers) in (
-          admitted before 0 (length done) done [] form b e (within done rest i g.inputs 16 is few.0) clear,
+          admitted before 0 (length done) done [] [] form b e (within done rest i g.inputs 16 is few.0) clear,
           record {
             order = subst (λ n. Behind goal_keywords (before ++ form ∷ []) 0 n) (one_longer done i) (behind_more goal_keywords before 0 (length done) form b.order e);
             inputs_are = one_input form before i e told ∙ ap (λ xs. xs ++ i ∷ []) b.inputs_are;
+            pool_is = other_pool 0 form before e refl ∙ b.pool_is;
             names_are = other_targets 0 form before e refl ∙ b.names_are;
+            pins_are = other_pins 0 form before e refl ∙ b.pins_are;
           },
         )
 
-    assume_step : (before : List Form) (done rest : List TwoTrees) (form : Form) (a : TwoTrees) → g.assumes ≡ done ++ a ∷ rest → Before before 2 (length done) g.inputs [] → WritesAssume scope form a
-        → HasNoFault before form × Before (before ++ form ∷ []) 2 (length (done ++ a ∷ [])) g.inputs []
-    assume_step before done rest form a is b w =
-        let e = assume_ranked scope form a w in (
-          admitted before 2 (length done) g.inputs [] form b e (within done rest a g.assumes 16 is few.1) (assume_clear scope form a w),
-          subst (λ n. Before (before ++ form ∷ []) 2 n g.inputs []) (one_longer done a) (plain_more before 2 (length done) g.inputs [] form b e refl refl),
-        )
+    -- no pin is a register of the pool that is given, nor an earlier pin
+    module _ (pool : List ℕ) (apart : AllPairs (λ a b. a ≢ b) (pool ++ pins_of g.sets)) where
+      pins_both : (done rest : List TargetTree) (t : TargetTree) (r : ℕ) → t.pin ≡ Some r → pins_of (done ++ t ∷ rest) ≡ pins_of done ++ r ∷ pins_of rest
+      pins_both [] rest t r e = ap (λ o. cons_option o (pins_of rest)) e
+      pins_both (d ∷ done) rest t r e = ap (cons_option d.pin) (pins_both done rest t r e) ∙ cons_behind d.pin (pins_of done) (r ∷ pins_of rest)
+        where
+          cons_behind : (o : Option ℕ) (xs ys : List ℕ) → cons_option o (xs ++ ys) ≡ cons_option o xs ++ ys
+          cons_behind None xs ys = refl
+          cons_behind (Some x) xs ys = refl
 
-    abbrev named : List TargetTree → List (List ℕ)
-    named ts = map (λ (t : TargetTree). t.name) ts
+      pin_new : (done rest : List TargetTree) (t : TargetTree) (r : ℕ) → g.sets ≡ done ++ t ∷ rest → t.pin ≡ Some r → has_register (pool ++ pins_of done) r ≡ false
+      pin_new done rest t r is e =
+          let all : pool ++ pins_of g.sets ≡ (pool ++ pins_of done) ++ r ∷ pins_of rest = ap (λ ts. pool ++ pins_of ts) is ∙ ap (λ rs. pool ++ rs) (pins_both done rest t r e) ∙ sym (append_assoc pool (pins_of done) (r ∷ pins_of rest)) in
+          register_new (pool ++ pins_of g.sets) (pool ++ pins_of done) r (pins_of rest) all apart
 
-    target_step : (before : List Form) (done rest : List TargetTree) (form : Form) (t : TargetTree) → g.sets ≡ done ++ t ∷ rest → Before before 4 (length done) g.inputs (named done) → WritesTarget scope form t
-        → HasNoFault before form × Before (before ++ form ∷ []) 4 (length (done ++ t ∷ [])) g.inputs (named (done ++ t ∷ []))
-    target_step before done rest form t is b w =
-        let e = target_ranked scope form t w in (
-          admitted before 4 (length done) g.inputs (named done) form b e (within done rest t g.sets 16 is few.2)
-              (target_clear scope (named done) form t w (name_new (λ (s : TargetTree). s.name) g.sets done t rest is targets)),
-          record {
-            order = subst (λ n. Behind goal_keywords (before ++ form ∷ []) 4 n) (one_longer done t) (behind_more goal_keywords before 4 (length done) form b.order e);
-            inputs_are = other_inputs 4 form before e refl ∙ b.inputs_are;
-            names_are = one_target form before t.name e (target_named scope form t w) ∙ ap (λ ns. ns ++ t.name ∷ []) b.names_are ∙ sym (mapped_more (λ (s : TargetTree). s.name) done t);
-          },
-        )
+      assume_step : (before : List Form) (done rest : List TwoTrees) (form : Form) (a : TwoTrees) → g.assumes ≡ done ++ a ∷ rest → Before before 2 (length done) g.inputs pool [] → WritesAssume scope form a
+          → HasNoFault before form × Before (before ++ form ∷ []) 2 (length (done ++ a ∷ [])) g.inputs pool []
+      assume_step before done rest form a is b w =
+          let e = assume_ranked scope form a w in (
+            admitted before 2 (length done) g.inputs pool [] form b e (within done rest a g.assumes 16 is few.1) (assume_clear scope form a w),
+            subst (λ n. Before (before ++ form ∷ []) 2 n g.inputs pool []) (one_longer done a) (plain_more before 2 (length done) g.inputs pool pool form b e refl refl (other_pool 2 form before e refl ∙ b.pool_is)),
+          )
 
-    pool_walk : (before fs : List Form) (rs : List ℕ) → rs ≡ g.pool → WritesPool (input_registers g.inputs) fs rs → Before before 1 0 g.inputs [] → (n : ℕ) × Walk HasNoFault before fs × Before (before ++ fs) 1 n g.inputs []
-    pool_walk before _ rs is absent b = (0, tt, subst (λ x. Before x 1 0 g.inputs []) (sym (append-nil before)) b)
-    pool_walk before _ rs is (given {form = form} forms listed each) b =
+      target_step : (before : List Form) (done rest : List TargetTree) (form : Form) (t : TargetTree) → g.sets ≡ done ++ t ∷ rest → Before before 4 (length done) g.inputs pool done → WritesTarget scope form t
+          → HasNoFault before form × Before (before ++ form ∷ []) 4 (length (done ++ t ∷ [])) g.inputs pool (done ++ t ∷ [])
+      target_step before done rest form t is b w =
+          let e = target_ranked scope form t w in (
+            admitted before 4 (length done) g.inputs pool done form b e (within done rest t g.sets 16 is few.2)
+                (target_clear scope (named done) (pool ++ pins_of done) form t w (name_new (λ (s : TargetTree). s.name) g.sets done t rest is targets)
+                (λ r f. pin_new done rest t r is f) (one_of (λ (s : TargetTree). bytes_eq s.name (codes "M") ≡ true → s.pin ≡ None) g.sets done rest t is unpinned_memory)),
+            record {
+              order = subst (λ n. Behind goal_keywords (before ++ form ∷ []) 4 n) (one_longer done t) (behind_more goal_keywords before 4 (length done) form b.order e);
+              inputs_are = other_inputs 4 form before e refl ∙ b.inputs_are;
+              pool_is = other_pool 4 form before e refl ∙ b.pool_is;
+              names_are = one_target form before t.name e (target_named scope form t w) ∙ ap (λ ns. ns ++ t.name ∷ []) b.names_are ∙ sym (mapped_more (λ (s : TargetTree). s.name) done t);
+              pins_are = one_pin form before t.pin e (pin_told scope form t w) ∙ ap (λ ps. ps ++ cons_option t.pin []) b.pins_are ∙ sym (filter_more (λ (s : TargetTree). s.pin) done t);
+            },
+          )
+
+      guard_walk : (before fs : List Form) (t : _) → WritesGuard scope fs t → Before before 3 0 g.inputs pool [] → (n : ℕ) × Walk HasNoFault before fs × Before (before ++ fs) 3 n g.inputs pool []
+      guard_walk before _ _ unguarded b = (0, tt, subst (λ x. Before x 3 0 g.inputs pool []) (sym (append-nil before)) b)
+      guard_walk before _ _ (guarded {form = form} {term = t} one listed w) b =
+          let e = listed_rank goal_keywords (codes "when") (one ∷ []) form listed in (
+            1,
+            (admitted before 3 0 g.inputs pool [] form b e (omega arith) (guard_clear scope form [] t (guarded one listed w)), tt),
+            plain_more before 3 0 g.inputs pool pool form b e refl refl (other_pool 3 form before e refl ∙ b.pool_is),
+          )
+
+    -- the pool, where it is given
+    pub record PoolWalk (before fs : List Form) : Type 0 where
+      pub pool : List ℕ
+      pub count : ℕ
+      pub apart : AllPairs (λ a b. a ≢ b) (pool ++ pins_of g.sets)
+      pub walk : Walk HasNoFault before fs
+      pub behind : Before (before ++ fs) 1 count g.inputs pool []
+
+    pool_walk : (taken : List ℕ) (before fs : List Form) (rs : List ℕ) → rs ≡ g.pool → WritesPool taken fs rs → Before before 1 0 g.inputs [] [] → PoolWalk before fs
+    pool_walk taken before _ rs is absent b = record {
+      pool = [];
+      count = 0;
+      apart = pairs_back (λ a b. a ≢ b) g.pool (pins_of g.sets) pins;
+      walk = tt;
+      behind = subst (λ x. Before x 1 0 g.inputs [] []) (sym (append-nil before)) b;
+    }
+    pool_walk taken before _ rs is (given {form = form} forms listed each) b =
         let e = listed_rank goal_keywords (codes "pool") forms form listed in
         let apart = subst (λ xs. AllPairs (λ a b. a ≢ b) (input_registers g.inputs ++ xs)) (sym is) registers in
-        (1, (admitted before 1 0 g.inputs [] form b e (omega arith) (pool_clear (input_registers g.inputs) form [] rs (given forms listed each) apart), tt), plain_more before 1 0 g.inputs [] form b e refl refl)
+        let read : registers_in (parts_of form) ≡ rs = ap (λ (x : Form). registers_in (parts_of x)) listed.is ∙ ap registers_in (list_from forms) ∙ each_register forms rs each in
+        let none_yet : of_rank goal_keywords 1 before ≡ [] = fewer_than_one (of_rank goal_keywords 1 before) (let n = b.order.count in omega (arith, n)) in
+        record {
+          pool = rs;
+          count = 1;
+          apart = subst (λ xs. AllPairs (λ a b. a ≢ b) (xs ++ pins_of g.sets)) (sym is) pins;
+          walk = (admitted before 1 0 g.inputs [] [] form b e (omega arith) (pool_clear (input_registers g.inputs) form forms rs listed each apart), tt);
+          behind = plain_more before 1 0 g.inputs [] rs form b e refl refl (one_pool form before e none_yet ∙ read);
+        }
 
-    guard_walk : (before fs : List Form) (t : _) → WritesGuard scope fs t → Before before 3 0 g.inputs [] → (n : ℕ) × Walk HasNoFault before fs × Before (before ++ fs) 3 n g.inputs []
-    guard_walk before _ _ unguarded b = (0, tt, subst (λ x. Before x 3 0 g.inputs []) (sym (append-nil before)) b)
-    guard_walk before _ _ (guarded {form = form} {term = t} one listed w) b =
-        let e = listed_rank goal_keywords (codes "when") (one ∷ []) form listed in
-        (1, (admitted before 3 0 g.inputs [] form b e (omega arith) (guard_clear scope form [] t (guarded one listed w)), tt), plain_more before 3 0 g.inputs [] form b e refl refl)
-
-    items_walk : (ins pools assumes whens sets : List Form) → Each WritesInput ins g.inputs → WritesPool (input_registers g.inputs) pools g.pool → Each (WritesAssume scope) assumes g.assumes → WritesGuard scope whens g.guard → Each (WritesTarget scope) sets g.sets
+    items_walk : (taken : List ℕ) (ins pools assumes whens sets : List Form) → Each WritesInput ins g.inputs → WritesPool taken pools g.pool → Each (WritesAssume scope) assumes g.assumes → WritesGuard scope whens g.guard → Each (WritesTarget scope) sets g.sets
         → Walk HasNoFault [] (ins ++ (pools ++ (assumes ++ (whens ++ sets))))
-    items_walk ins pools assumes whens sets wi wp wa wg wt =
-        let start : Before [] 0 0 [] [] = record { order = record { later = refl; count = refl }; inputs_are = refl; names_are = refl } in
-        let one = group_walk HasNoFault WritesInput (λ before done. Before before 0 (length done) done []) g.inputs input_step [] [] ins g.inputs wi refl start in
-        let two = pool_walk ins pools g.pool refl wp (before_next ins 0 (length g.inputs) g.inputs [] one.1) in
-        let three = group_walk HasNoFault (WritesAssume scope) (λ before done. Before before 2 (length done) g.inputs []) g.assumes assume_step (ins ++ pools) [] assumes g.assumes wa refl (before_next (ins ++ pools) 1 two.0 g.inputs [] two.2) in
-        let four = guard_walk ((ins ++ pools) ++ assumes) whens g.guard wg (before_next ((ins ++ pools) ++ assumes) 2 (length g.assumes) g.inputs [] three.1) in
-        let five = group_walk HasNoFault (WritesTarget scope) (λ before done. Before before 4 (length done) g.inputs (named done)) g.sets target_step (((ins ++ pools) ++ assumes) ++ whens) [] sets g.sets wt refl
-        (before_next (((ins ++ pools) ++ assumes) ++ whens) 3 four.0 g.inputs [] four.2) in
+    items_walk taken ins pools assumes whens sets wi wp wa wg wt =
+        let start : Before [] 0 0 [] [] [] = record { order = record { later = refl; count = refl }; inputs_are = refl; pool_is = refl; names_are = refl; pins_are = refl } in
+        let one = group_walk HasNoFault WritesInput (λ before done. Before before 0 (length done) done [] []) g.inputs input_step [] [] ins g.inputs wi refl start in
+        let two = pool_walk taken ins pools g.pool refl wp (before_next ins 0 (length g.inputs) g.inputs [] [] one.1) in
+        let pool = two.pool in
+        let three = group_walk HasNoFault (WritesAssume scope) (λ before done. Before before 2 (length done) g.inputs pool []) g.assumes (assume_step pool two.apart) (ins ++ pools) [] assumes g.assumes wa refl
+        (before_next (ins ++ pools) 1 two.count g.inputs pool [] two.behind) in
+        let four = guard_walk pool two.apart ((ins ++ pools) ++ assumes) whens g.guard wg (before_next ((ins ++ pools) ++ assumes) 2 (length g.assumes) g.inputs pool [] three.1) in
+        let five = group_walk HasNoFault (WritesTarget scope) (λ before done. Before before 4 (length done) g.inputs pool done) g.sets (target_step pool two.apart) (((ins ++ pools) ++ assumes) ++ whens) [] sets g.sets wt refl
+        (before_next (((ins ++ pools) ++ assumes) ++ whens) 3 four.0 g.inputs pool [] four.2) in
         walk_both HasNoFault [] ins _ one.0
-        (walk_both HasNoFault ins pools _ two.1
+        (walk_both HasNoFault ins pools _ two.walk
         (walk_both HasNoFault (ins ++ pools) assumes _ three.0
         (walk_both HasNoFault ((ins ++ pools) ++ assumes) whens sets four.1 five.0)))
 
@@ -270,7 +375,7 @@ written_goal_clear declared names form g w fresh =
     let k = w.rules in
     let parts = parts_are declared form g w in
     let items = items_are declared form g w in
-    let walk = items_walk declared g k.input_names k.own_names k.not_declared k.registers k.targets k.few w.ins w.pools w.assumes w.whens w.sets w.inputs w.pool w.assumptions w.guard w.targets in
+    let walk = items_walk declared g k.input_names k.own_names k.not_declared k.registers k.targets k.few k.pins k.memory_unpinned (input_registers g.inputs ++ pins_of g.sets) w.ins w.pools w.assumes w.whens w.sets w.inputs w.pool w.assumptions w.guard w.targets in
     let enough : 2 ≤ length (parts_of form) = (let n = ap length parts in omega (arith, n)) in
     let sets = some_there goal_keywords 4 w.sets (all_sets declared form g w) (sets_counted (WritesTarget (goal_scope declared g.inputs)) w.sets g.sets w.targets k.some_target) in
     let some : list_any (is_of_rank goal_keywords 4) (items_of_goal form) ≡ true =

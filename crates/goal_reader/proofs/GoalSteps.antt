@@ -1,6 +1,6 @@
 -- The items of a goal, one after another.
-use Rattle.std.proofs.Common.{◌≡◌, ℕ, zero, suc, ◌+◌, ◌-◌, ◌<◌, ◌≤◌, ◌++◌, ◌==◌, if◌then◌else◌, Bool, true, false, Option, None, Some, List, [], ◌∷◌, map, length, take, drop, get_or, refl, sym, ap, ◌∙◌, subst, arith, slice_get, filter_map, option_map, All, inl, inr}
-use Rattle.std.specs.List.{list_any, cons_option}
+use Rattle.std.proofs.Common.{◌≡◌, ℕ, zero, suc, ◌+◌, ◌-◌, ◌<◌, ◌≤◌, ◌++◌, ◌==◌, if◌then◌else◌, Bool, true, false, Option, None, Some, List, [], ◌∷◌, map, length, take, drop, get_or, refl, sym, ap, ap₂, ◌∙◌, subst, arith, slice_get, filter_map, option_map, All, inl, inr}
+use Rattle.std.specs.List.{flat_map, list_any, cons_option}
 use Rattle.std.specs.Option.{option_map_or}
 use Rattle.std.proofs.lemmas.Bool.{cases_order}
 use Rattle.std.proofs.lemmas.List.{take_all, length-drop}
@@ -19,11 +19,11 @@ use Rattle.goal_meaning.specs.declared.goals.Set.{Set}
 use Rattle.goal_reader.specs.declared.drafts.Draft.{Draft}
 use Rattle.goal_reader.specs.declared.order.Admission.TheVariants.{Admitted}
 use Rattle.goal_reader.specs.Roles as roles
-use Rattle.goal_reader.specs.Roles.{Role, a_list, wrong, goal, IsOwn, too_few, no_set, part_role, IsFaultAs, rank, is_of_rank, of_rank, goal_keywords, goal_bounds, bound_at, items_of_goal, item_role, role_in, goal_scope, inputs_in, input_in, names_given, second_name, fresh_name}
+use Rattle.goal_reader.specs.Roles.{Role, a_list, wrong, goal, IsOwn, too_few, no_set, part_role, IsFaultAs, rank, is_of_rank, of_rank, goal_keywords, goal_bounds, bound_at, items_of_goal, item_role, role_in, goal_scope, inputs_in, input_in, names_given, second_name, fresh_name, registers_in, pool_in, pin_in, pins_in}
 use Rattle.goal_reader.specs.Order.{IsAdmission}
-use Rattle.goal_reader.specs.Reading.{IsClear, names_of_targets}
+use Rattle.goal_reader.specs.Reading.{IsClear, names_of_targets, pins_of_targets}
 use Rattle.goal_meaning.specs.WellFormed.{input_registers}
-use Rattle.goal_reader.specs.Drafts.{IsNext, IsDraft, draft_role, items_before, input_leaf, with_input}
+use Rattle.goal_reader.specs.Drafts.{IsNext, IsDraft, draft_role, items_before, input_leaf, pool_read, with_input}
 use Rattle.goal_reader.specs.Drafts as drafts
 use Rattle.goal_reader.proofs.Admitting.{role_told}
 use Rattle.goal_reader.proofs.Fixed.{got_within}
@@ -81,6 +81,10 @@ pub map_more : {X Y : Type 0} (f : X → Option Y) (xs : List X) (x : X) (y : Y)
 map_more f [] x y e = ap (λ o. cons_option o []) e
 map_more f (z ∷ zs) x y e = cons_more (f z) _ _ _ (map_more f zs x y e)
 
+pub filter_more : {X Y : Type 0} (f : X → Option Y) (xs : List X) (x : X) → filter_map f (xs ++ x ∷ []) ≡ filter_map f xs ++ cons_option (f x) []
+filter_more f [] x = refl
+filter_more f (z ∷ zs) x = cons_more (f z) _ _ _ (filter_more f zs x)
+
 pub mapped_more : {X Y : Type 0} (f : X → Y) (xs : List X) (x : X) → map f (xs ++ x ∷ []) ≡ map f xs ++ f x ∷ []
 mapped_more f [] x = refl
 mapped_more f (y ∷ ys) x = ap (λ zs. f y ∷ zs) (mapped_more f ys x)
@@ -91,6 +95,20 @@ other_inputs at form before e t = ap (filter_map input_in) (same_rank at 0 form 
 pub other_targets : (at : ℕ) (form : Form) (before : List Form) → rank goal_keywords form ≡ Some at → (at == 4) ≡ false → names_given (of_rank goal_keywords 4 (before ++ form ∷ [])) ≡ names_given (of_rank goal_keywords 4 before)
 other_targets at form before e t = ap names_given (same_rank at 4 form before false e t ∙ nothing_more (of_rank goal_keywords 4 before))
 
+pub other_pool : (at : ℕ) (form : Form) (before : List Form) → rank goal_keywords form ≡ Some at → (at == 1) ≡ false → pool_in (before ++ form ∷ []) ≡ pool_in before
+other_pool at form before e t = ap (λ fs. registers_in (flat_map parts_of fs)) (same_rank at 1 form before false e t ∙ nothing_more (of_rank goal_keywords 1 before))
+
+pub other_pins : (at : ℕ) (form : Form) (before : List Form) → rank goal_keywords form ≡ Some at → (at == 4) ≡ false → pins_in (before ++ form ∷ []) ≡ pins_in before
+other_pins at form before e t = ap (filter_map pin_in) (same_rank at 4 form before false e t ∙ nothing_more (of_rank goal_keywords 4 before))
+
+pub one_pool : (form : Form) (before : List Form) → rank goal_keywords form ≡ Some 1 → of_rank goal_keywords 1 before ≡ [] → pool_in (before ++ form ∷ []) ≡ registers_in (parts_of form)
+one_pool form before e none =
+    ap (λ fs. registers_in (flat_map parts_of fs)) (same_rank 1 1 form before true e refl ∙ ap (λ (fs : List Form). fs ++ form ∷ []) none) ∙ ap registers_in (nothing_more (parts_of form))
+
+pub one_pin : (form : Form) (before : List Form) (o : Option ℕ) → rank goal_keywords form ≡ Some 4 → pin_in form ≡ o → pins_in (before ++ form ∷ []) ≡ pins_in before ++ cons_option o []
+one_pin form before o e is =
+    ap (filter_map pin_in) (same_rank 4 4 form before true e refl) ∙ filter_more pin_in (of_rank goal_keywords 4 before) form ∙ ap (λ x. pins_in before ++ cons_option x []) is
+
 pub one_input : (form : Form) (before : List Form) (i : InputReg) → rank goal_keywords form ≡ Some 0 → input_in form ≡ Some i → inputs_in (before ++ form ∷ []) ≡ inputs_in before ++ i ∷ []
 one_input form before i e is = ap (filter_map input_in) (same_rank 0 0 form before true e refl) ∙ map_more input_in (of_rank goal_keywords 0 before) form i is
 
@@ -99,15 +117,21 @@ one_target form before name e is = ap names_given (same_rank 4 4 form before tru
 
 module _ (declared : List DeclaredOp) (before : List Form) (form : Form) (d : Draft) (h : IsDraft declared before d) where
   -- an item that is no input and no target leaves these as they are
-  plain : (at : ℕ) (next : Draft) → rank goal_keywords form ≡ Some at → (at == 0) ≡ false → (at == 4) ≡ false → next.scope ≡ d.scope → next.inputs ≡ d.inputs → next.sets ≡ d.sets → IsDraft declared (before ++ form ∷ []) next
-  plain at next e t0 t4 scope inputs sets = record {
+  plain : (at : ℕ) (next : Draft) → rank goal_keywords form ≡ Some at → (at == 0) ≡ false → (at == 4) ≡ false → pool_read next.pool ≡ pool_in (before ++ form ∷ []) → next.scope ≡ d.scope → next.inputs ≡ d.inputs → next.sets ≡ d.sets
+      → IsDraft declared (before ++ form ∷ []) next
+  plain at next e t0 t4 pool scope inputs sets = record {
     scope = scope ∙ h.scope ∙ ap (goal_scope declared) (sym (other_inputs at form before e t0));
     inputs = inputs ∙ h.inputs ∙ sym (other_inputs at form before e t0);
+    pool = pool;
+    pins = ap pins_of_targets sets ∙ h.pins ∙ sym (other_pins at form before e t4);
     targets = ap names_of_targets sets ∙ h.targets ∙ sym (other_targets at form before e t4);
   }
 
-  pub next_draft : (at : ℕ) (next : Draft) → rank goal_keywords form ≡ Some at → IsNext form d at next → IsDraft declared (before ++ form ∷ []) next
-  next_draft at next e (drafts.input i is same) =
+  pool_stays : (at : ℕ) (next : Draft) → rank goal_keywords form ≡ Some at → (at == 1) ≡ false → next.pool ≡ d.pool → pool_read next.pool ≡ pool_in (before ++ form ∷ [])
+  pool_stays at next e t1 same = ap pool_read same ∙ h.pool ∙ sym (other_pool at form before e t1)
+
+  pub next_draft : (at : ℕ) (next : Draft) → rank goal_keywords form ≡ Some at → (at ≡ 1 → of_rank goal_keywords 1 before ≡ []) → IsNext form d at next → IsDraft declared (before ++ form ∷ []) next
+  next_draft at next e no_pool (drafts.input i is same) =
       let inputs = one_input form before i e is in
       let more : List InputReg → Scope = λ xs. goal_scope declared xs in
       let leaves : d.scope.leaves ++ input_leaf i ∷ [] ≡ (goal_scope declared (inputs_in before ++ i ∷ [])).leaves =
@@ -116,27 +140,33 @@ module _ (declared : List DeclaredOp) (before : List Form) (form : Form) (d : Dr
         scope = ap (λ (x : Draft). x.scope) same ∙ ap (λ ls. record { declared = d.scope.declared; leaves = ls }) leaves
             ∙ ap (λ ds. record { declared = ds; leaves = (goal_scope declared (inputs_in before ++ i ∷ [])).leaves }) (ap (λ (s : Scope). s.declared) h.scope) ∙ ap more (sym inputs);
         inputs = ap (λ (x : Draft). x.inputs) same ∙ ap (λ xs. xs ++ i ∷ []) h.inputs ∙ sym inputs;
+        pool = pool_stays 0 next e refl (ap (λ (x : Draft). x.pool) same);
+        pins = ap (λ (x : Draft). pins_of_targets x.sets) same ∙ h.pins ∙ sym (other_pins 0 form before e refl);
         targets = ap (λ (x : Draft). names_of_targets x.sets) same ∙ h.targets ∙ sym (other_targets 0 form before e refl);
       }
-  next_draft at next e (drafts.pool registers is same) = plain 1 next e refl refl (ap (λ (x : Draft). x.scope) same) (ap (λ (x : Draft). x.inputs) same) (ap (λ (x : Draft). x.sets) same)
-  next_draft at next e (drafts.assume one left right same) = plain 2 next e refl refl (ap (λ (x : Draft). x.scope) same) (ap (λ (x : Draft). x.inputs) same) (ap (λ (x : Draft). x.sets) same)
-  next_draft at next e (drafts.guard term is same) = plain 3 next e refl refl (ap (λ (x : Draft). x.scope) same) (ap (λ (x : Draft). x.inputs) same) (ap (λ (x : Draft). x.sets) same)
-  next_draft at next e (drafts.target one named value same) = record {
+  next_draft at next e no_pool (drafts.pool registers is same) = plain 1 next e refl refl (ap (λ (x : Draft). pool_read x.pool) same ∙ is ∙ sym (one_pool form before e (no_pool refl))) (ap (λ (x : Draft). x.scope) same) (ap (λ (x : Draft). x.inputs) same) (ap (λ (x : Draft). x.sets) same)
+  next_draft at next e no_pool (drafts.assume one left right same) = plain 2 next e refl refl (pool_stays 2 next e refl (ap (λ (x : Draft). x.pool) same)) (ap (λ (x : Draft). x.scope) same) (ap (λ (x : Draft). x.inputs) same) (ap (λ (x : Draft). x.sets) same)
+  next_draft at next e no_pool (drafts.guard term is same) = plain 3 next e refl refl (pool_stays 3 next e refl (ap (λ (x : Draft). x.pool) same)) (ap (λ (x : Draft). x.scope) same) (ap (λ (x : Draft). x.inputs) same) (ap (λ (x : Draft). x.sets) same)
+  next_draft at next e no_pool (drafts.target one named pinned value same) = record {
     scope = ap (λ (x : Draft). x.scope) same ∙ h.scope ∙ ap (goal_scope declared) (sym (other_inputs 4 form before e refl));
     inputs = ap (λ (x : Draft). x.inputs) same ∙ h.inputs ∙ sym (other_inputs 4 form before e refl);
+    pool = pool_stays 4 next e refl (ap (λ (x : Draft). x.pool) same);
+    pins = ap (λ (x : Draft). pins_of_targets x.sets) same ∙ filter_more (λ (t : Set). t.pin) d.sets one ∙ ap (λ ps. ps ++ cons_option one.pin []) h.pins ∙ sym (one_pin form before one.pin e pinned);
     targets = ap (λ (x : Draft). names_of_targets x.sets) same ∙ mapped_more (λ (t : Set). t.name) d.sets one ∙ ap (λ ns. ns ++ one.name ∷ []) h.targets ∙ sym (one_target form before one.name e named);
   }
 
-  abbrev roles_of : List DeclaredOp → List InputReg → Scope → List (List ℕ) → ℕ → Role
-  roles_of ds is scope names at = get_or (a_list (roles.input ds is) ∷ a_list (roles.pool (input_registers is)) ∷ a_list (roles.assume scope) ∷ a_list (roles.guard scope) ∷ a_list (roles.set scope names) ∷ []) at wrong
+  abbrev roles_of : List DeclaredOp → List InputReg → Scope → List (List ℕ) → List ℕ → ℕ → Role
+  roles_of ds is scope names taken at = get_or (a_list (roles.input ds is) ∷ a_list (roles.pool (input_registers is)) ∷ a_list (roles.assume scope) ∷ a_list (roles.guard scope) ∷ a_list (roles.set scope names taken) ∷ []) at wrong
 
   -- what the code reads the item as is what the definition has
   pub role_same : (at : ℕ) → draft_role d at ≡ item_role declared before at
   role_same at =
-      ap (λ ds. roles_of ds d.inputs d.scope (names_of_targets d.sets) at) (ap (λ (s : Scope). s.declared) h.scope)
-      ∙ ap (λ is. roles_of declared is d.scope (names_of_targets d.sets) at) h.inputs
-      ∙ ap (λ s. roles_of declared (inputs_in before) s (names_of_targets d.sets) at) h.scope
-      ∙ ap (λ ns. roles_of declared (inputs_in before) (goal_scope declared (inputs_in before)) ns at) h.targets
+      let taken = pool_read d.pool ++ pins_of_targets d.sets in
+      ap (λ ds. roles_of ds d.inputs d.scope (names_of_targets d.sets) taken at) (ap (λ (s : Scope). s.declared) h.scope)
+      ∙ ap (λ is. roles_of declared is d.scope (names_of_targets d.sets) taken at) h.inputs
+      ∙ ap (λ s. roles_of declared (inputs_in before) s (names_of_targets d.sets) taken at) h.scope
+      ∙ ap (λ ns. roles_of declared (inputs_in before) (goal_scope declared (inputs_in before)) ns taken at) h.targets
+      ∙ ap (λ rs. roles_of declared (inputs_in before) (goal_scope declared (inputs_in before)) (names_given (of_rank goal_keywords 4 before)) rs at) (ap₂ (λ p q. p ++ q) h.pool h.pins)
 
   pub admitted_role : (at : ℕ) → rank goal_keywords form ≡ Some at → IsAdmission goal_keywords before at (bound_at goal_bounds at).most Admitted → role_in goal_keywords goal_bounds before (item_role declared before) form ≡ draft_role d at
   admitted_role at e admitted = role_told goal_keywords goal_bounds before (item_role declared before) form at Admitted e admitted ∙ sym (role_same at)

@@ -155,7 +155,10 @@ module _ (declared : List DeclaredOp) (goal : GoalTree) where
   guard_keeps _ _ (guarded {form = f} one is w) all = term_keeps w (parts_fit 62 (codes "when") (one ∷ []) f is (fit_head 63 (plain_of f) [] all)).0.0
 
   target_keeps : (f : Form) (t : TargetTree) → WritesTarget scope_of f t → Fits 63 (plain_of f) → IsTarget declared goal t
-  target_keeps f t w fits = term_keeps w.value (parts_fit 62 (codes "set") (w.first ∷ w.second ∷ []) f w.is fits).0.1.0
+  target_keeps f t w fits =
+      let parts = parts_fit 62 (codes "set") (w.first ∷ (w.pins ++ w.last ∷ [])) f w.is fits in
+      let behind = back_fits 62 w.pins (w.last ∷ []) (fit_tail 62 (plain_of w.first) (map plain_of (w.pins ++ w.last ∷ [])) parts) in
+      term_keeps w.value (fit_head 62 (plain_of w.last) [] behind).0
 
 goal_keeps : (declared : List DeclaredOp) (f : Form) (g : GoalTree) → WritesGoal declared f g → Fits 64 (plain_of f) → operators_of_goal g < 2 ^ 29 → IsGoal declared g
 goal_keeps declared f g w fits few =

@@ -15,14 +15,12 @@ use Rattle.goal_reader.specs.declared.scopes.Scope.{Scope}
 use Rattle.goal_meaning.specs.declared.goals.DeclaredOp.{DeclaredOp}
 use Rattle.goal_meaning.specs.declared.goals.InputReg.{InputReg}
 use Rattle.goal_meaning.specs.declared.goals.Assume.{Assume}
-use Rattle.goal_meaning.specs.declared.goals.Set.{Set}
 use Rattle.goal_reader.specs.Roles as roles
-use Rattle.goal_reader.specs.Roles.{Role, Shape, a_list, wrong, wrong_part, IsOwn, too_few, no_register, bad_register, part_role, shape_part, least_parts, IsFaultAs, fresh_register, rank, rank_from, goal_keywords, register_of, register_number, registers_in, input_in, second_name, WritesTerm, ◌>>=◌}
+use Rattle.goal_reader.specs.Roles.{Role, Shape, a_list, wrong, wrong_part, IsOwn, too_few, no_register, bad_register, part_role, shape_part, least_parts, IsFaultAs, fresh_register, rank, rank_from, goal_keywords, register_of, register_number, registers_in, input_in, WritesTerm, ◌>>=◌}
 use Rattle.goal_reader.specs.Reading.{IsClear, WritesPart, tree_sort}
-use Rattle.goal_meaning.specs.WellFormed.{sort_of_target}
 use Rattle.goal_reader.specs.Terms.{Writes}
 use Rattle.goal_reader.specs.Grammar.{IsRegister, WritesInput}
-use Rattle.goal_reader.specs.Drafts.{IsAssumed, IsTargeted}
+use Rattle.goal_reader.specs.Drafts.{IsAssumed}
 use Rattle.machine_table.specs.Grammar.{Each, more_of, IsListOf, IsNameOf}
 use Rattle.machine_table.specs.Grammar as grammar
 use Rattle.goal_reader.proofs.Sorts.{writes_sort}
@@ -73,18 +71,18 @@ keyworded at form e = keyworded_by goal_keywords at form e
 -- ---- how many parts
 module _ (shape : Shape) (p : ℕ) (h : Form) where
   -- a part that the grammar doesn't have there is a fault
-  no_part : (at : ℕ) (rest : Forms) (part : Form) → IsClear (a_list shape) (list p (more h rest)) → slice_get (h ∷ forms_list rest) at ≡ Some part → shape_part shape (list p (more h rest)) at ≡ Some wrong → ⊥
+  pub no_part : (at : ℕ) (rest : Forms) (part : Form) → IsClear (a_list shape) (list p (more h rest)) → slice_get (h ∷ forms_list rest) at ≡ Some part → shape_part shape (list p (more h rest)) at ≡ Some wrong → ⊥
   no_part at rest part clear g e =
       clear (forms.place_of part) BadForm (inside at part wrong (λ o. clear p BadForm (own o refl)) (λ o. clear p LimitPassed (own o refl)) g e (own wrong_part refl))
 
-  pub three : (rest : Forms) → least_parts shape ≡ 3 → ((rest : Forms) → shape_part shape (list p (more h rest)) 3 ≡ Some wrong) → IsClear (a_list shape) (list p (more h rest)) → (a : Form) × (b : Form) × (rest ≡ more a (more b none))
-  three none least at clear = absurd (clear p BadForm (own (too_few (omega (arith, least))) refl))
-  three (more a none) least at clear = absurd (clear p BadForm (own (too_few (omega (arith, least))) refl))
+  pub three : (rest : Forms) → ((rest : Forms) → least_parts shape (list p (more h rest)) ≡ 3) → ((rest : Forms) → shape_part shape (list p (more h rest)) 3 ≡ Some wrong) → IsClear (a_list shape) (list p (more h rest)) → (a : Form) × (b : Form) × (rest ≡ more a (more b none))
+  three none least at clear = absurd (clear p BadForm (own (too_few (let e = least none in omega (arith, e))) refl))
+  three (more a none) least at clear = absurd (clear p BadForm (own (too_few (let e = least (more a none) in omega (arith, e))) refl))
   three (more a (more b none)) least at clear = (a, b, refl)
   three (more a (more b (more c rest))) least at clear = absurd (no_part 3 (more a (more b (more c rest))) c clear refl (at _))
 
-  pub two : (rest : Forms) → least_parts shape ≡ 2 → ((rest : Forms) → shape_part shape (list p (more h rest)) 2 ≡ Some wrong) → IsClear (a_list shape) (list p (more h rest)) → (a : Form) × (rest ≡ more a none)
-  two none least at clear = absurd (clear p BadForm (own (too_few (omega (arith, least))) refl))
+  pub two : (rest : Forms) → ((rest : Forms) → least_parts shape (list p (more h rest)) ≡ 2) → ((rest : Forms) → shape_part shape (list p (more h rest)) 2 ≡ Some wrong) → IsClear (a_list shape) (list p (more h rest)) → (a : Form) × (rest ≡ more a none)
+  two none least at clear = absurd (clear p BadForm (own (too_few (let e = least none in omega (arith, e))) refl))
   two (more a none) least at clear = (a, refl)
   two (more a (more b rest)) least at clear = absurd (no_part 2 (more a (more b rest)) b clear refl (at _))
 
@@ -123,7 +121,7 @@ pub input_writes : (declared : List DeclaredOp) (inputs : List InputReg) (form :
 input_writes declared inputs form i e is clear =
     let k = keyworded 0 form e in
     let shape : Shape = roles.input declared inputs in
-    let all = three shape k.place (atom k.head (name (codes "in"))) k.rest refl (λ rest. refl) (subst (λ (f : Form). IsClear (a_list shape) f) k.is clear) in
+    let all = three shape k.place (atom k.head (name (codes "in"))) k.rest (λ rest. refl) (λ rest. refl) (subst (λ (f : Form). IsClear (a_list shape) f) k.is clear) in
     let whole : form ≡ list k.place (more (atom k.head (name (codes "in"))) (more all.0 (more all.1 none))) = k.is ∙ ap (λ r. list k.place (more (atom k.head (name (codes "in"))) r)) all.2 in
     let read : input_in (list k.place (more (atom k.head (name (codes "in"))) (more all.0 (more all.1 none)))) ≡ Some i = sym (ap input_in whole) ∙ is in
     let b = bind_some (name_in all.0) (λ nm. register_of all.1 >>= (λ reg. Some (record { name = nm; reg = reg }))) i read in
@@ -158,13 +156,13 @@ pool_writes given form registers e is clear =
     )
 
 -- a term where a part is that part's
-term_at : (scope : Scope) (wanted : Option Sort) (form a : Form) (at : ℕ) (t : Tree Op) → slice_get (parts_of form) at ≡ Some a → WritesPart scope wanted form at t → WritesTerm scope wanted a t
+pub term_at : (scope : Scope) (wanted : Option Sort) (form a : Form) (at : ℕ) (t : Tree Op) → slice_get (parts_of form) at ≡ Some a → WritesPart scope wanted form at t → WritesTerm scope wanted a t
 term_at scope wanted form a at t g w =
     let both : Some a ≡ Some w.part = sym g ∙ w.found in
     let same : w.part ≡ a = cc in
     subst (λ (f : Form). WritesTerm scope wanted f t) same w.writes
 
-writes_as : (scope : Scope) (s r : Sort) (form : Form) (t : Tree Op) → s ≡ r → Writes scope s form t → Writes scope r form t
+pub writes_as : (scope : Scope) (s r : Sort) (form : Form) (t : Tree Op) → s ≡ r → Writes scope s form t → Writes scope r form t
 writes_as scope s r form t e w = subst (λ (x : Sort). Writes scope x form t) e w
 
 pub assume_writes : (scope : Scope) (form : Form) (one : Assume) → rank goal_keywords form ≡ Some 2 → WritesPart scope None form 1 (tree_of one.left) → WritesPart scope (Some (tree_sort (tree_of one.left))) form 2 (tree_of one.right)
@@ -172,7 +170,7 @@ pub assume_writes : (scope : Scope) (form : Form) (one : Assume) → rank goal_k
 assume_writes scope form one e left right clear =
     let k = keyworded 2 form e in
     let shape : Shape = roles.assume scope in
-    let all = three shape k.place (atom k.head (name (codes "assume"))) k.rest refl (λ rest. refl) (subst (λ (f : Form). IsClear (a_list shape) f) k.is clear) in
+    let all = three shape k.place (atom k.head (name (codes "assume"))) k.rest (λ rest. refl) (λ rest. refl) (subst (λ (f : Form). IsClear (a_list shape) f) k.is clear) in
     let whole : form ≡ list k.place (more (atom k.head (name (codes "assume"))) (more all.0 (more all.1 none))) = k.is ∙ ap (λ r. list k.place (more (atom k.head (name (codes "assume"))) r)) all.2 in
     let l = term_at scope None form all.0 1 (tree_of one.left) (ap (λ (f : Form). slice_get (parts_of f) 1) whole) left in
     let r = term_at scope (Some (tree_sort (tree_of one.left))) form all.1 2 (tree_of one.right) (ap (λ (f : Form). slice_get (parts_of f) 2) whole) right in
@@ -190,24 +188,7 @@ pub guard_writes : (scope : Scope) (form : Form) (t : Tree Op) → rank goal_key
 guard_writes scope form t e term clear =
     let k = keyworded 3 form e in
     let shape : Shape = roles.guard scope in
-    let all = two shape k.place (atom k.head (name (codes "when"))) k.rest refl (λ rest. refl) (subst (λ (f : Form). IsClear (a_list shape) f) k.is clear) in
+    let all = two shape k.place (atom k.head (name (codes "when"))) k.rest (λ rest. refl) (λ rest. refl) (subst (λ (f : Form). IsClear (a_list shape) f) k.is clear) in
     let whole : form ≡ list k.place (more (atom k.head (name (codes "when"))) (more all.0 none)) = k.is ∙ ap (λ r. list k.place (more (atom k.head (name (codes "when"))) r)) all.1 in
     let l = term_at scope (Some sorts.Word) form all.0 1 t (ap (λ (f : Form). slice_get (parts_of f) 1) whole) term in
     (all.0, record { place = k.place; head_place = k.head; is = whole }, writes_as scope l.sort sorts.Word all.0 t l.wanted_one l.writes)
-
-pub target_writes : (scope : Scope) (names : List (List ℕ)) (form : Form) (one : Set) → rank goal_keywords form ≡ Some 4 → second_name form ≡ Some one.name → WritesPart scope (Some (sort_of_target one.name)) form 2 (tree_of one.value)
-    → IsClear (a_list (roles.set scope names)) form → IsTargeted scope form one
-target_writes scope names form one e named value clear =
-    let k = keyworded 4 form e in
-    let shape : Shape = roles.set scope names in
-    let all = three shape k.place (atom k.head (name (codes "set"))) k.rest refl (λ rest. refl) (subst (λ (f : Form). IsClear (a_list shape) f) k.is clear) in
-    let whole : form ≡ list k.place (more (atom k.head (name (codes "set"))) (more all.0 (more all.1 none))) = k.is ∙ ap (λ r. list k.place (more (atom k.head (name (codes "set"))) r)) all.2 in
-    let r = term_at scope (Some (sort_of_target one.name)) form all.1 2 (tree_of one.value) (ap (λ (f : Form). slice_get (parts_of f) 2) whole) value in
-    let read : name_in all.0 ≡ Some one.name = sym (ap second_name whole) ∙ named in
-    record {
-      first = all.0;
-      second = all.1;
-      is = record { place = k.place; head_place = k.head; is = whole };
-      named = is_name all.0 one.name read;
-      value = writes_as scope r.sort (sort_of_target one.name) all.1 (tree_of one.value) r.wanted_one r.writes;
-    }

@@ -1,5 +1,7 @@
 -- A goal without a fault keeps the rules of names, registers and numbers.
-use Rattle.std.proofs.Common.{◌≡◌, ◌≢◌, ℕ, suc, ◌<◌, ◌≤◌, ◌||◌, ◌++◌, false, Option, None, Some, List, [], ◌∷◌, length, take, refl, sym, ap, ◌∙◌, subst, arith, slice_get, codes, length-append}
+use Rattle.std.proofs.Common.{◌≡◌, ◌≢◌, ℕ, suc, ◌<◌, ◌≤◌, ◌||◌, ◌++◌, true, false, Option, None, Some, List, [], ◌∷◌, length, take, refl, sym, ap, ◌∙◌, subst, arith, slice_get, bytes_eq, codes, length-append}
+use Rattle.std.specs.Prelude.{is_some}
+use Rattle.std.specs.Option.{option_map_or}
 use Rattle.std.specs.List.{list_any}
 use Rattle.std.proofs.lemmas.List.{append-nil}
 use Rattle.std.proofs.lemmas.List.Elements.{All-push}
@@ -7,7 +9,7 @@ use Rattle.std.proofs.lemmas.List.Quantifiers.{all_pairs_push}
 use Rattle.text_core.specs.declared.faults.Kind.TheVariants.{BadForm, Twice, LimitPassed}
 use Rattle.forms.specs.Forms.{Form, atom, list, more, name, place_of, parts_of, forms_list, name_in, register_in}
 use Rattle.forms.specs.Faults.{own, inside}
-use Rattle.machine_table.specs.Grammar.{Each, more_of, IsNameOf}
+use Rattle.machine_table.specs.Grammar.{Each, more_of, IsListOf, IsNameOf}
 use Rattle.goal_meaning.specs.declared.goals.DeclaredOp.{DeclaredOp}
 use Rattle.goal_reader.specs.declared.scopes.Scope.{Scope}
 use Rattle.goal_meaning.specs.declared.goals.InputReg.{InputReg}
@@ -16,17 +18,18 @@ use Rattle.goal_reader.specs.declared.drafts.Draft.{Draft}
 use Rattle.goal_meaning.specs.Views.{TargetTree, target_view}
 use Rattle.goal_reader.specs.Drafts.{AreDifferent, KeepsSoFar, pool_read, IsNext, IsWritten, IsPoolWritten, draft_role, with_input, no_pool, one_pool, with_pool}
 use Rattle.goal_reader.specs.Drafts as drafts
-use Rattle.goal_reader.specs.Grammar.{IsRegister, WritesInput, WritesTarget}
-use Rattle.goal_reader.specs.Reading.{IsClear, names_of_inputs, names_of_targets}
+use Rattle.goal_reader.specs.Grammar.{IsRegister, WritesInput, WritesPin, WritesTarget, pinned, unpinned}
+use Rattle.goal_reader.specs.Reading.{IsClear, names_of_inputs, names_of_targets, pins_of_targets}
 use Rattle.goal_meaning.specs.WellFormed.{input_registers}
 use Rattle.goal_reader.specs.Roles as roles
 use Rattle.text_core.specs.Names.{is_among}
-use Rattle.goal_reader.specs.Roles.{Role, a_list, own_name, fresh_name, fresh_register, name_used, name_taken, register_given, part_role, rank, of_rank, is_later_than, goal_keywords, goal_bounds, bound_at, registers_in, register_of, register_number, ◌>>=◌}
+use Rattle.goal_reader.specs.Roles.{Role, a_list, own_name, fresh_name, fresh_register, name_used, name_taken, register_given, part_role, rank, of_rank, is_later_than, goal_keywords, goal_bounds, bound_at, is_pinned, second_name, registers_in, register_of, register_number, ◌>>=◌}
 use Rattle.goal_meaning.specs.Names.{is_reserved, names_of_declared}
 use Rattle.goal_meaning.specs.Rules.{has_register}
-use Rattle.goal_reader.proofs.Different.{or_left, or_right, among_apart, one_more, all_more, register_low}
-use Rattle.goal_reader.proofs.GoalSteps.{mapped_more}
-use Rattle.goal_reader.proofs.ItemForms.{keyworded, bind_some, input_writes, register_known_by, target_writes}
+use Rattle.goal_reader.proofs.Different.{or_left, or_right, among_apart, one_more, some_more, all_more, back_different, register_low}
+use Rattle.goal_reader.proofs.GoalSteps.{filter_more, mapped_more}
+use Rattle.goal_reader.proofs.ItemForms.{keyworded, bind_some, input_writes, register_known_by}
+use Rattle.goal_reader.proofs.TargetForms.{name_role, pin_clear, pin_known, target_writes}
 use Rattle.goal_reader.proofs.Names.{not_true}
 use Rattle.goal_reader.proofs.NewNames.{among_both}
 use Rattle.goal_reader.proofs.Ranks.{none_of}
@@ -59,6 +62,11 @@ each_length W [] (y ∷ ys) e = elim e [ ]
 each_length W (f ∷ fs) [] e = elim e [ ]
 each_length W (f ∷ fs) (y ∷ ys) (more_of one others) = ap suc (each_length W fs ys others)
 
+pub nothing_each : {Y : Type 0} (W : Form → Y → Type 0) (fs : List Form) (ys : List Y) → fs ≡ [] → Each W fs ys → ys ≡ []
+nothing_each W [] [] e w = refl
+nothing_each W [] (y ∷ ys) e w = elim w [ ]
+nothing_each W (f ∷ fs) ys e w = cc
+
 none_yet : (fs : List Form) (p : Option (List ℕ)) → fs ≡ [] → IsPoolWritten fs p → p ≡ None
 none_yet [] None e w = refl
 none_yet [] (Some rs) e w = elim w [ ]
@@ -87,10 +95,41 @@ module _ (declared : List DeclaredOp) (inputs : List InputReg) (form : Form) (i 
       register_fresh (input_registers inputs) w.second i.reg (register_told w.second i.reg w.placed)
       (part_clear as_input (fresh_register (input_registers inputs)) form w.second 2 clear (ap (λ (f : Form). slice_get (parts_of f) 2) w.is.is) refl)
 
-target_free : (scope : Scope) (names : List (List ℕ)) (form : Form) (t : TargetTree) → WritesTarget scope form t → IsClear (a_list (roles.set scope names)) form → is_among names t.name ≡ false
-target_free scope names form t w clear =
-    name_fresh names w.first t.name w.named
-    (part_clear (a_list (roles.set scope names)) (fresh_name names) form w.first 1 clear (ap (λ (f : Form). slice_get (parts_of f) 1) w.is.is) refl)
+module _ (scope : Scope) (names : List (List ℕ)) (taken : List ℕ) (form : Form) (t : TargetTree) (w : WritesTarget scope form t) (clear : IsClear (a_list (roles.set scope names taken)) form) where
+  target_free : is_among names t.name ≡ false
+  target_free =
+      name_fresh names w.first t.name w.named
+      (part_clear (a_list (roles.set scope names taken)) (fresh_name names) form w.first 1 clear (ap (λ (f : Form). slice_get (parts_of f) 1) w.is.is) (name_role scope names taken form (is_pinned form)))
+
+  -- the pin is new, and the target is a word
+  pub record IsPinFree (r : ℕ) : Type 0 where
+    pub fresh : has_register taken r ≡ false
+    pub low : r < 31
+    pub word : bytes_eq t.name (codes "M") ≡ false
+
+  pin_free_by : (ps : List Form) (o : Option ℕ) → WritesPin ps o → IsListOf (codes "set") (w.first ∷ (ps ++ w.last ∷ [])) form → (r : ℕ) → o ≡ Some r → IsPinFree r
+  pin_free_by _ _ unpinned is r e = cc
+  pin_free_by _ _ (pinned {form = f} {register = s} reg) is r e =
+      let same : s ≡ r = cc in
+      let there : is_pinned form ≡ true = ap is_pinned is.is ∙ ap (λ (x : Form). is_some (register_in x)) reg.is in
+      let named : second_name form ≡ Some t.name = ap second_name is.is ∙ ap name_in w.named.is in
+      let known = pin_known taken (second_name form) f (pin_clear scope names taken form clear f there (ap (λ (x : Form). slice_get (parts_of x) 2) is.is)) in
+      let told = register_told f s reg in
+      subst IsPinFree same (record {
+        fresh = register_fresh taken f s told known.1;
+        low = below f s told;
+        word = sym (ap (λ n. option_map_or (λ bytes. bytes_eq bytes (codes "M")) n false) named) ∙ known.0;
+      })
+
+  pin_free : (r : ℕ) → t.pin ≡ Some r → IsPinFree r
+  pin_free r e = pin_free_by w.pins t.pin w.pin w.is r e
+
+  memory_unpinned_by : (o : Option ℕ) → ((r : ℕ) → o ≡ Some r → IsPinFree r) → bytes_eq t.name (codes "M") ≡ true → o ≡ None
+  memory_unpinned_by None free memory = refl
+  memory_unpinned_by (Some r) free memory = let word = (free r refl).word in let f : true ≡ false = sym memory ∙ word in cc
+
+  memory_unpinned : bytes_eq t.name (codes "M") ≡ true → t.pin ≡ None
+  memory_unpinned = memory_unpinned_by t.pin pin_free
 
 -- ---- a pool
 register_free : (before : List ℕ) (form : Form) → IsClear (fresh_register before) form → (r : ℕ) × (register_of form ≡ Some r) × (has_register before r ≡ false) × (r < 31)
@@ -129,6 +168,8 @@ module _ (declared : List DeclaredOp) (before : List Form) (form : Form) (d : Dr
         not_declared = All-push (λ (a : InputReg). is_among (names_of_declared declared) a.name ≡ false) d.inputs i k.not_declared
             (subst (λ (ds : List DeclaredOp). is_among (names_of_declared ds) i.name ≡ false) same_ops (or_left (is_among (names_of_declared d.scope.declared) i.name) (is_among (names_of_inputs d.inputs) i.name) split));
         registers = subst AreDifferent (sym (ap (λ rs. input_registers (d.inputs ++ i ∷ []) ++ rs) no_pool_yet ∙ append-nil (input_registers (d.inputs ++ i ∷ [])) ∙ mapped_more (λ (a : InputReg). a.reg) d.inputs i)) new;
+        pins = k.pins;
+        unpinned = k.unpinned;
         targets = k.targets;
         few = (longer d.inputs i _ (each_length WritesInput (of_rank goal_keywords 0 before) d.inputs w.inputs) few, k.few.1, k.few.2);
       }
@@ -138,13 +179,18 @@ module _ (declared : List DeclaredOp) (before : List Form) (form : Form) (d : Dr
   next_keeps at next e none_later few (drafts.input i is same) clear =
       subst (KeepsSoFar declared) (sym same) (with_input_keeps i (input_writes d.scope.declared d.inputs form i e is clear) clear e none_later few)
   next_keeps at next e none_later few (drafts.pool registers is same) clear =
+      let no_targets_yet = nothing_each (drafts.IsTargeted d.scope) (of_rank goal_keywords 4 before) d.sets (later_empty 1 e none_later 4 (omega arith)) w.targets in
       let no_pool_yet = ap pool_read (none_yet (of_rank goal_keywords 1 before) d.pool (fewer_than_one (of_rank goal_keywords 1 before) few) w.pool) in
       let old : AreDifferent (input_registers d.inputs) = subst AreDifferent (ap (λ rs. input_registers d.inputs ++ rs) no_pool_yet ∙ append-nil (input_registers d.inputs)) k.registers in
+      let grown = pool_free (input_registers d.inputs) form e clear old in
       subst (KeepsSoFar declared) (sym same) (record {
         input_names = k.input_names;
         own_names = k.own_names;
         not_declared = k.not_declared;
-        registers = subst (λ rs. AreDifferent (input_registers d.inputs ++ rs)) (sym is) (pool_free (input_registers d.inputs) form e clear old);
+        registers = subst (λ rs. AreDifferent (input_registers d.inputs ++ rs)) (sym is) grown;
+        pins = subst (λ ts. AreDifferent (registers ++ pins_of_targets ts)) (sym no_targets_yet)
+            (subst AreDifferent (sym (append-nil registers)) (subst AreDifferent (sym is) (back_different (input_registers d.inputs) (registers_in (parts_of form)) grown)));
+        unpinned = k.unpinned;
         targets = k.targets;
         few = k.few;
       })
@@ -154,6 +200,8 @@ module _ (declared : List DeclaredOp) (before : List Form) (form : Form) (d : Dr
         own_names = k.own_names;
         not_declared = k.not_declared;
         registers = k.registers;
+        pins = k.pins;
+        unpinned = k.unpinned;
         targets = k.targets;
         few = (k.few.0, longer d.assumes one _ (each_length (drafts.IsAssumed d.scope) (of_rank goal_keywords 2 before) d.assumes w.assumptions) few, k.few.2);
       })
@@ -163,16 +211,25 @@ module _ (declared : List DeclaredOp) (before : List Form) (form : Form) (d : Dr
         own_names = k.own_names;
         not_declared = k.not_declared;
         registers = k.registers;
+        pins = k.pins;
+        unpinned = k.unpinned;
         targets = k.targets;
         few = k.few;
       })
-  next_keeps at next e none_later few (drafts.target one named value same) clear =
-      let free = target_free d.scope (names_of_targets d.sets) form (target_view one) (target_writes d.scope (names_of_targets d.sets) form one e named value clear) clear in
+  next_keeps at next e none_later few (drafts.target one named has_pin value same) clear =
+      let taken = pool_read d.pool ++ pins_of_targets d.sets in
+      let names = names_of_targets d.sets in
+      let writes = target_writes d.scope names taken form clear one e named has_pin value in
+      let free = target_free d.scope names taken form (target_view one) writes clear in
+      let pin_is = pin_free d.scope names taken form (target_view one) writes clear in
       subst (KeepsSoFar declared) (sym same) (record {
         input_names = k.input_names;
         own_names = k.own_names;
         not_declared = k.not_declared;
         registers = k.registers;
+        pins = subst (λ ps. AreDifferent (pool_read d.pool ++ ps)) (sym (filter_more (λ (s : Set). s.pin) d.sets one))
+            (some_more (pool_read d.pool) (pins_of_targets d.sets) one.pin k.pins (λ r f. let p = pin_is r f in (p.fresh, p.low)));
+        unpinned = All-push (λ (s : Set). bytes_eq s.name (codes "M") ≡ true → s.pin ≡ None) d.sets one k.unpinned (memory_unpinned d.scope names taken form (target_view one) writes clear);
         targets = all_pairs_push (λ (a b : Set). a.name ≢ b.name) d.sets one k.targets (among_apart (λ (t : Set). t.name) d.sets one.name free);
         few = (k.few.0, k.few.1, longer d.sets one _ (each_length (drafts.IsTargeted d.scope) (of_rank goal_keywords 4 before) d.sets w.targets) few);
       })

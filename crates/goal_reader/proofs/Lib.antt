@@ -14,6 +14,7 @@ mod Sorts
 mod Admitting
 mod GoalSteps
 mod ItemForms
+mod TargetForms
 mod WrittenItems
 mod TextFirst
 mod Arities

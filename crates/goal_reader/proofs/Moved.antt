@@ -14,11 +14,11 @@ use Rattle.machine_table.specs.Grammar.{Each, more_of, IsListOf, IsNameOf, IsNum
 use Rattle.machine_table.specs.Grammar as grammar
 use Rattle.goal_reader.specs.declared.scopes.Named.TheVariants.{Memory, Input, Variable}
 use Rattle.goal_reader.specs.declared.scopes.Scope.{Scope}
-use Rattle.goal_reader.specs.Grammar.{WritesAssume, WritesGuard, WritesTarget, unguarded, guarded}
-use Rattle.goal_meaning.specs.InputForms.{Naming, leaf_atom, atom_or, operator_name, input_name, term_plain, terms_plain, assume_plain, guard_plains, target_plain}
+use Rattle.goal_reader.specs.Grammar.{WritesAssume, WritesGuard, unguarded, guarded}
+use Rattle.goal_meaning.specs.InputForms.{Naming, leaf_atom, atom_or, operator_name, input_name, term_plain, terms_plain, assume_plain, guard_plains}
 use Rattle.goal_reader.specs.Scopes.{leaf_named, operator_named}
 use Rattle.goal_reader.specs.Terms.{Writes, WritesEach, memory, input, variable, constant, application, nothing, operand}
-use Rattle.goal_meaning.specs.Views.{TwoTrees, TargetTree}
+use Rattle.goal_meaning.specs.Views.{TwoTrees}
 use Rattle.goal_reader.proofs.ItemForms.{list_from_list}
 
 -- ---- forms by what they print
@@ -169,21 +169,6 @@ module _ (scope : Scope) (names : Naming) (named : AreNamed scope names) where
         is = subst (λ ps. IsListOf (codes "assume") ps g) parts l.1;
         left = term_again w.left m.0 m.3;
         right = term_again w.right n.0 n.3;
-      }
-
-  pub target_again : (f g : Form) (t : TargetTree) → WritesTarget scope f t → plain_of g ≡ target_plain names t → WritesTarget scope g t
-  target_again f g t w e =
-      let l = listed_form (codes "set") (atom (name t.name) ∷ term_plain names t.value ∷ []) g e in
-      let m = one_more_form l.0 (atom (name t.name)) (term_plain names t.value ∷ []) l.2 in
-      let n = one_more_form m.1 (term_plain names t.value) [] m.4 in
-      let parts = m.2 ∙ ap (λ x. m.0 ∷ x) (n.2 ∙ ap (λ x. n.0 ∷ x) (no_more_form n.1 n.4)) in
-      let h = name_form m.0 t.name m.3 in
-      record {
-        first = m.0;
-        second = n.0;
-        is = subst (λ ps. IsListOf (codes "set") ps g) parts l.1;
-        named = record { place = h.0; is = h.1 };
-        value = term_again w.value n.0 n.3;
       }
 
   pub guard_again : (fs gs : List Form) (t : Option (Tree Op)) → WritesGuard scope fs t → map plain_of gs ≡ guard_plains names t → WritesGuard scope gs t

@@ -1,5 +1,6 @@
 -- Names and registers that are new, and an input of them.
-use Rattle.std.proofs.Common.{◌≡◌, ℕ, ◌<◌, ◌≤◌, ◌||◌, ◌++◌, Bool, true, false, Option, None, Some, List, length, get_or, refl, sym, ap, ap₂, ◌∙◌, subst, arith, slice_get, option_map, bytes_eq, All}
+use Rattle.std.proofs.Common.{◌≡◌, ℕ, ◌<◌, ◌≤◌, ◌||◌, ◌++◌, if◌then◌else◌, Bool, true, false, Option, None, Some, List, length, get_or, refl, sym, ap, ap₂, ◌∙◌, subst, arith, slice_get, option_map, bytes_eq, All}
+use Rattle.std.specs.Prelude.{is_some}
 use Rattle.forms.specs.Reading.{IsSexpOf}
 use Rattle.std.proofs.lemmas.List.Folds.{list_any-append}
 use Rattle.text_core.specs.declared.faults.Kind.{Kind}
@@ -11,7 +12,7 @@ use Rattle.forms.proofs.First.{first_own, no_fault}
 use Rattle.goal_meaning.specs.declared.goals.DeclaredOp.{DeclaredOp}
 use Rattle.goal_meaning.specs.declared.goals.InputReg.{InputReg}
 use Rattle.text_core.specs.Names.{is_among}
-use Rattle.goal_reader.specs.Roles.{Role, own_name, fresh_register, fresh_name, no_fresh_name, name_taken, set, second_name, target_sort, a_list, input, guard, IsOwn, no_own_name, name_used, no_register, bad_register, register_given, too_few, part_role, IsFaultAs, register_number, register_of, ◌>>=◌, input_in}
+use Rattle.goal_reader.specs.Roles.{Role, own_name, fresh_register, fresh_name, no_fresh_name, name_taken, set, second_name, target_sort, a_list, input, guard, is_pinned, pin_in, IsOwn, no_own_name, name_used, no_register, bad_register, register_given, too_few, least_parts, part_role, IsFaultAs, register_number, register_of, ◌>>=◌, input_in}
 use Rattle.goal_meaning.specs.Names.{is_reserved}
 use Rattle.goal_meaning.specs.Rules.{has_register}
 use Rattle.goal_reader.specs.Reading.{IsClear, IsOwnName}
@@ -116,8 +117,27 @@ part_of text parts i part all l is = subst (IsSexpOf text) (sym is) (all i part 
 pub guard_only : (scope : Scope) (form : Form) (k : Kind) → IsOwn (a_list (guard scope)) form k → length (parts_of form) < 2
 guard_only scope form k (too_few l) = l
 
-pub set_only : (scope : Scope) (names : List (List ℕ)) (form : Form) (k : Kind) → IsOwn (a_list (set scope names)) form k → length (parts_of form) < 3
-set_only scope names form k (too_few l) = l
+pub set_only : (scope : Scope) (names : List (List ℕ)) (taken : List ℕ) (form : Form) (k : Kind) → IsOwn (a_list (set scope names taken)) form k → length (parts_of form) < least_parts (set scope names taken) form
+set_only scope names taken form k (too_few l) = l
+
+-- a set of fewer than three parts lacks one, pinned or not
+pub short_set : (scope : Scope) (names : List (List ℕ)) (taken : List ℕ) (form : Form) → length (parts_of form) < 3 → length (parts_of form) < least_parts (set scope names taken) form
+short_set scope names taken form l = by_test (is_pinned form)
+  where
+    by_test : (b : Bool) → length (parts_of form) < (if b then 4 else 3)
+    by_test true = omega (arith, l)
+    by_test false = l
+
+pub no_pin_in : (form : Form) → is_pinned form ≡ false → pin_in form ≡ None
+no_pin_in form e = by_part (part 2 form) e
+  where
+    none : (o : Option (List ℕ)) → is_some o ≡ false → (o >>= register_number) ≡ None
+    none None e = refl
+    none (Some bytes) e = cc
+
+    by_part : (o : Option Form) → is_some (o >>= register_in) ≡ false → (o >>= register_of) ≡ None
+    by_part None e = refl
+    by_part (Some f) e = none (register_in f) e
 
 module _ (names : List (List ℕ)) (form : Form) where
   fresh_own_clear : (bytes : List ℕ) → name_in form ≡ Some bytes → is_among names bytes ≡ false → (k : Kind) → IsOwn (fresh_name names) form k → ⊥

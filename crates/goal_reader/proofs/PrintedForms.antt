@@ -1,5 +1,5 @@
 -- Forms that print as the canonical text of a goal, an axiom or a declaration, which some form writes, write it too.
-use Rattle.std.proofs.Common.{◌≡◌, ◌≢◌, ℕ, zero, suc, ◌+◌, ◌-◌, ◌*◌, ◌/◌, ◌%◌, ◌<◌, ◌≤◌, ◌&&◌, ◌++◌, if◌then◌else◌, nat_le, nat_lt, true, All, None, Some, inl, inr, ◌⊎◌, List, [], ◌∷◌, length, map, decimal, get_or, refl, sym, ap, ap₂, ◌∙◌, subst, arith, codes}
+use Rattle.std.proofs.Common.{◌≡◌, ◌≢◌, ℕ, zero, suc, ◌+◌, ◌-◌, ◌*◌, ◌/◌, ◌%◌, ◌<◌, ◌≤◌, ◌&&◌, ◌++◌, if◌then◌else◌, nat_le, nat_lt, true, All, Option, None, Some, inl, inr, ◌⊎◌, List, [], ◌∷◌, length, map, decimal, get_or, refl, sym, ap, ap₂, ◌∙◌, subst, arith, codes}
 use Rattle.std.specs.Prelude.{AllPairs}
 use Rattle.std.proofs.lemmas.Bool.Decides.{nat_tests}
 use Rattle.word_ops.specs.Meanings.{count_of}
@@ -10,12 +10,14 @@ use Rattle.machine_table.specs.Grammar.{Each, more_of, IsListOf, IsNameOf}
 use Rattle.machine_table.specs.Grammar as grammar
 use Rattle.goal_meaning.specs.declared.goals.InputReg.{InputReg}
 use Rattle.goal_meaning.specs.declared.goals.DeclaredOp.{DeclaredOp}
-use Rattle.goal_reader.specs.Grammar.{IsRegister, WritesInput, WritesGoal, WritesDeclaration, WritesAxiom, WritesAssume, WritesTarget, axiom_scope, given}
-use Rattle.goal_meaning.specs.InputForms.{Naming, naming, register_plain, input_plain, pool_plain, assume_plain, guard_plains, target_plain, goal_plain, declaration_plain, variable_plain, axiom_plain, term_plain}
+use Rattle.goal_reader.specs.Grammar.{IsRegister, WritesInput, WritesGoal, WritesDeclaration, WritesAxiom, WritesAssume, WritesPin, WritesTarget, axiom_scope, given, pinned, unpinned}
+use Rattle.goal_reader.specs.declared.scopes.Scope.{Scope}
+use Rattle.goal_meaning.specs.InputForms.{Naming, naming, register_plain, input_plain, pool_plain, assume_plain, guard_plains, pin_plains, target_plain, goal_plain, declaration_plain, variable_plain, axiom_plain, term_plain}
 use Rattle.goal_meaning.specs.WellFormed.{input_registers}
 use Rattle.goal_reader.specs.Roles.{goal_scope, number_of_register, is_digit}
-use Rattle.goal_meaning.specs.Views.{GoalTree, AxiomTree}
-use Rattle.goal_reader.proofs.Moved.{name_form, number_form, list_form, listed_form, one_more_form, no_more_form, split_forms, each_from, plains_map, plains_once, term_again, assume_again, target_again, guard_again, AreNamed}
+use Rattle.goal_meaning.specs.Views.{TargetTree, GoalTree, AxiomTree}
+use Rattle.goal_reader.proofs.Different.{register_low}
+use Rattle.goal_reader.proofs.Moved.{name_form, number_form, list_form, listed_form, one_more_form, no_more_form, split_forms, each_from, plains_map, plains_once, term_again, assume_again, guard_again, AreNamed}
 use Rattle.goal_reader.proofs.PrintedNames.{goal_named, axiom_named}
 use Rattle.std.proofs.lemmas.Fmt.{decimal_digit, decimal_step}
 use Rattle.goal_reader.proofs.ItemForms.{list_from_list}
@@ -117,6 +119,31 @@ pairs_front (x ∷ xs) ys h i j d l m = pairs_in i j l m
         let a = longer (x ∷ xs) ys i (omega (arith, l, m)) in
         let b = longer (x ∷ xs) ys j m in
         λ e. h i j d l b.0 (a.1 ∙ e ∙ sym b.1)
+
+-- ---- a target
+pin_again : (ps gs : List Form) (o : Option ℕ) → WritesPin ps o → map plain_of gs ≡ pin_plains o → WritesPin gs o
+pin_again _ gs _ unpinned e = subst (λ xs. WritesPin xs None) (sym (no_more_form gs e)) unpinned
+pin_again _ gs _ (pinned {register = r} is) e =
+    let m = one_more_form gs (register_plain r) [] e in
+    subst (λ xs. WritesPin xs (Some r)) (sym (m.2 ∙ ap (λ x. m.0 ∷ x) (no_more_form m.1 m.4))) (pinned (register_form m.0 r (register_low is.bytes r is.number) m.3))
+
+target_again : (scope : Scope) (names : Naming) (named : AreNamed scope names) (f g : Form) (t : TargetTree) → WritesTarget scope f t → plain_of g ≡ target_plain names t → WritesTarget scope g t
+target_again scope names named f g t w e =
+    let l = listed_form (codes "set") (atom (name t.name) ∷ (pin_plains t.pin ++ term_plain names t.value ∷ [])) g e in
+    let m = one_more_form l.0 (atom (name t.name)) (pin_plains t.pin ++ term_plain names t.value ∷ []) l.2 in
+    let s = split_forms m.1 (pin_plains t.pin) (term_plain names t.value ∷ []) m.4 in
+    let n = one_more_form s.1 (term_plain names t.value) [] s.4 in
+    let parts = m.2 ∙ ap (λ x. m.0 ∷ x) (s.2 ∙ ap (λ x. s.0 ++ x) (n.2 ∙ ap (λ x. n.0 ∷ x) (no_more_form n.1 n.4))) in
+    let h = name_form m.0 t.name m.3 in
+    record {
+      first = m.0;
+      pins = s.0;
+      last = n.0;
+      is = subst (λ ps. IsListOf (codes "set") ps g) parts l.1;
+      named = record { place = h.0; is = h.1 };
+      pin = pin_again w.pins s.0 t.pin w.pin s.3;
+      value = term_again scope names named w.value n.0 n.3;
+    }
 
 -- ---- a goal
 pub goal_again : (declared : List DeclaredOp) (f g : Form) (x : GoalTree) → WritesGoal declared f x → plain_of g ≡ goal_plain declared x → WritesGoal declared g x

@@ -1,5 +1,5 @@
 -- What the parts of a text write, they write alone.
-use Rattle.std.proofs.Common.{◌≡◌, ℕ, ◌++◌, Option, Some, List, [], ◌∷◌, drop, refl, sym, ap, ap₂, ◌∙◌, subst, codes}
+use Rattle.std.proofs.Common.{◌≡◌, ℕ, ◌++◌, Option, None, Some, List, [], ◌∷◌, drop, refl, sym, ap, ap₂, ◌∙◌, subst, codes}
 use Rattle.word_ops.specs.Meanings.{count_of}
 use Rattle.word_ops.specs.declared.sorts.Arity.{Arity}
 use Rattle.word_ops.specs.declared.sorts.Arity.TheVariants.{One, Two, Three, Four}
@@ -7,14 +7,15 @@ use Rattle.word_ops.specs.declared.sorts.Op.{Op}
 use Rattle.word_ops.specs.declared.sorts.Sort.{Sort}
 use Rattle.word_ops.specs.declared.sorts.Sort.TheVariants as sorts
 use Rattle.word_terms.specs.Tree.{Tree}
-use Rattle.forms.specs.Forms.{Form, atom, list, name, parts_of, forms_from, name_in, number_in}
+use Rattle.forms.specs.Forms.{Form, atom, list, name, parts_of, forms_from, name_in, number_in, register_in}
 use Rattle.machine_table.specs.Grammar.{Each, more_of, IsListOf, IsNameOf}
 use Rattle.goal_meaning.specs.declared.goals.InputReg.{InputReg}
 use Rattle.goal_meaning.specs.declared.goals.DeclaredOp.{DeclaredOp}
 use Rattle.goal_reader.specs.declared.scopes.Scope.{Scope}
-use Rattle.goal_reader.specs.Grammar.{IsRegister, WritesInput, WritesPool, WritesAssume, WritesGuard, WritesTarget, WritesGoal, WritesDeclaration, WritesAxiom, absent, given, unguarded, guarded, axiom_scope}
-use Rattle.goal_reader.specs.Roles.{rank, of_rank, goal_keywords, text_keywords, items_of_goal, goal_scope, second_name, register_of, input_in, declaration_in, arity_named, ◌>>=◌}
-use Rattle.goal_reader.specs.Terms.{Writes}
+use Rattle.goal_reader.specs.Grammar.{IsRegister, WritesInput, WritesPool, WritesAssume, WritesGuard, WritesPin, WritesTarget, WritesGoal, WritesDeclaration, WritesAxiom, absent, given, pinned, unpinned, unguarded, guarded, axiom_scope}
+use Rattle.goal_reader.specs.Roles.{rank, of_rank, goal_keywords, text_keywords, items_of_goal, goal_scope, second_name, pin_in, register_number, register_of, input_in, declaration_in, arity_named, ◌>>=◌}
+use Rattle.goal_reader.specs.Terms.{Writes, memory, input, variable, constant, application}
+use Rattle.goal_meaning.specs.Rules.{pins_of}
 use Rattle.goal_meaning.specs.Views.{TwoTrees, TargetTree, GoalTree, AxiomTree}
 use Rattle.goal_meaning.specs.WellFormed.{input_registers}
 use Rattle.goal_reader.proofs.Grouped.{AllOf, all_ranked, listed_rank, first_of, skip_of, of_other}
@@ -92,15 +93,29 @@ two_back : (t : TwoTrees) → two_of t.left t.right ≡ t
 unfolding two_of
 two_back t = refl
 
-target_of_parts : List ℕ → Tree Op → TargetTree
-target_of_parts n v = record { name = n; value = v }
+target_of_parts : List ℕ → Tree Op → Option ℕ → TargetTree
+target_of_parts n v p = record { name = n; value = v; pin = p }
 
-target_back : (t : TargetTree) → target_of_parts t.name t.value ≡ t
+target_back : (t : TargetTree) → target_of_parts t.name t.value t.pin ≡ t
 unfolding target_of_parts
 target_back t = refl
 
 term_alone : (scope : Scope) (s r : Sort) (f g : Form) (t u : Tree Op) → f ≡ g → Writes scope s f t → Writes scope r g u → t ≡ u
 term_alone scope s r f g t u same one other = one_term one (subst (λ (x : Form). Writes scope r x u) (sym same) other)
+
+-- a term is no register
+pub no_register_writes : {scope : Scope} {sort : Sort} {f : Form} {t : Tree Op} → Writes scope sort f t → register_in f ≡ None
+no_register_writes (memory l) = refl
+no_register_writes (input l) = refl
+no_register_writes (variable l) = refl
+no_register_writes constant = refl
+no_register_writes (application k s n each) = refl
+
+last_same : (ps qs : List Form) (o u : Option ℕ) → WritesPin ps o → WritesPin qs u → (a b c d : Form) → a ∷ (ps ++ b ∷ []) ≡ c ∷ (qs ++ d ∷ []) → b ≡ d
+last_same _ _ _ _ unpinned unpinned a b c d e = cc
+last_same _ _ _ _ unpinned (pinned has) a b c d e = cc
+last_same _ _ _ _ (pinned is) unpinned a b c d e = cc
+last_same _ _ _ _ (pinned is) (pinned has) a b c d e = cc
 
 module _ (scope : Scope) where
   pub assume_ranked : (form : Form) (a : TwoTrees) → WritesAssume scope form a → rank goal_keywords form ≡ Some 2
@@ -121,15 +136,26 @@ module _ (scope : Scope) where
       ap Some (term_alone scope _ _ one other t u (one_same (codes "when") one other form is has) w v)
 
   pub target_ranked : (form : Form) (t : TargetTree) → WritesTarget scope form t → rank goal_keywords form ≡ Some 4
-  target_ranked form t w = listed_rank goal_keywords (codes "set") (w.first ∷ w.second ∷ []) form w.is
+  target_ranked form t w = listed_rank goal_keywords (codes "set") (w.first ∷ (w.pins ++ w.last ∷ [])) form w.is
 
   pub target_named : (form : Form) (t : TargetTree) → WritesTarget scope form t → second_name form ≡ Some t.name
   target_named form t w = ap second_name w.is.is ∙ ap name_in w.named.is
 
+  pin_told_by : (form first last : Form) (ps : List Form) (o : Option ℕ) → WritesPin ps o → IsListOf (codes "set") (first ∷ (ps ++ last ∷ [])) form → register_in last ≡ None → pin_in form ≡ o
+  pin_told_by form first last _ _ unpinned is e = ap pin_in is.is ∙ ap (λ r. r >>= register_number) e
+  pin_told_by form first last _ _ (pinned {form = f} {register = r} reg) is e = ap pin_in is.is ∙ register_told f r reg
+
+  pub pin_told : (form : Form) (t : TargetTree) → WritesTarget scope form t → pin_in form ≡ t.pin
+  pin_told form t w = pin_told_by form w.first w.last w.pins t.pin w.pin w.is (no_register_writes w.value)
+
   target_once : (form : Form) (t u : TargetTree) → WritesTarget scope form t → WritesTarget scope form u → t ≡ u
   target_once form t u w v =
-      let same = two_same (codes "set") w.first w.second v.first v.second form w.is v.is in
-      sym (target_back t) ∙ ap₂ target_of_parts (same_some (second_name form) t.name u.name (target_named form t w) (target_named form u v)) (term_alone scope _ _ w.second v.second t.value u.value same.1 w.value v.value) ∙ target_back u
+      let parts = sym (listed_parts (codes "set") (w.first ∷ (w.pins ++ w.last ∷ [])) form w.is) ∙ listed_parts (codes "set") (v.first ∷ (v.pins ++ v.last ∷ [])) form v.is in
+      let same = last_same w.pins v.pins t.pin u.pin w.pin v.pin w.first w.last v.first v.last parts in
+      let names = same_some (second_name form) t.name u.name (target_named form t w) (target_named form u v) in
+      let values = term_alone scope _ _ w.last v.last t.value u.value same w.value v.value in
+      let pins = sym (pin_told form t w) ∙ pin_told form u v in
+      sym (target_back t) ∙ ap₂ (λ n x. target_of_parts n x t.pin) names values ∙ ap (target_of_parts u.name u.value) pins ∙ target_back u
 
 -- ---- a goal
 module _ (declared : List DeclaredOp) (form : Form) (g : GoalTree) (w : WritesGoal declared form g) where
@@ -152,7 +178,7 @@ module _ (declared : List DeclaredOp) (form : Form) (g : GoalTree) (w : WritesGo
   all_ins = all_ranked goal_keywords WritesInput 0 input_ranked w.ins g.inputs w.inputs
 
   pub all_pools : AllOf goal_keywords 1 w.pools
-  all_pools = pool_ranked (input_registers g.inputs) w.pools g.pool w.pool
+  all_pools = pool_ranked (input_registers g.inputs ++ pins_of g.sets) w.pools g.pool w.pool
 
   pub all_assumes : AllOf goal_keywords 2 w.assumes
   all_assumes = all_ranked goal_keywords (WritesAssume (goal_scope declared g.inputs)) 2 (assume_ranked (goal_scope declared g.inputs)) w.assumes g.assumes w.assumptions
@@ -200,8 +226,8 @@ module _ (declared : List DeclaredOp) (form : Form) (g : GoalTree) (w : WritesGo
   pub reads_inputs : Each WritesInput (items 0) g.inputs
   reads_inputs = subst (λ fs. Each WritesInput fs g.inputs) (sym ins_are) w.inputs
 
-  pub reads_pool : WritesPool (input_registers g.inputs) (items 1) g.pool
-  reads_pool = subst (λ fs. WritesPool (input_registers g.inputs) fs g.pool) (sym pools_are) w.pool
+  pub reads_pool : WritesPool (input_registers g.inputs ++ pins_of g.sets) (items 1) g.pool
+  reads_pool = subst (λ fs. WritesPool (input_registers g.inputs ++ pins_of g.sets) fs g.pool) (sym pools_are) w.pool
 
   pub reads_assumes : Each (WritesAssume (goal_scope declared g.inputs)) (items 2) g.assumes
   reads_assumes = subst (λ fs. Each (WritesAssume (goal_scope declared g.inputs)) fs g.assumes) (sym assumes_are) w.assumptions
@@ -225,10 +251,11 @@ goal_once declared form g h w v =
     let names = same_some (second_name form) g.name h.name (goal_told declared form g w) (goal_told declared form h v) in
     let inputs = each_once WritesInput input_once (items 0) g.inputs h.inputs (reads_inputs declared form g w) (reads_inputs declared form h v) in
     let scope = goal_scope declared h.inputs in
-    let pool = pool_once (input_registers h.inputs) (items 1) g.pool h.pool (subst (λ is. WritesPool (input_registers is) (items 1) g.pool) inputs (reads_pool declared form g w)) (reads_pool declared form h v) in
     let assumes = each_once (WritesAssume scope) (assume_once scope) (items 2) g.assumes h.assumes (subst (λ is. Each (WritesAssume (goal_scope declared is)) (items 2) g.assumes) inputs (reads_assumes declared form g w)) (reads_assumes declared form h v) in
     let guards = guard_once scope (items 3) g.guard h.guard (subst (λ is. WritesGuard (goal_scope declared is) (items 3) g.guard) inputs (reads_guard declared form g w)) (reads_guard declared form h v) in
     let sets = each_once (WritesTarget scope) (target_once scope) (items 4) g.sets h.sets (subst (λ is. Each (WritesTarget (goal_scope declared is)) (items 4) g.sets) inputs (reads_targets declared form g w)) (reads_targets declared form h v) in
+    let taken = ap₂ (λ is ts. input_registers is ++ pins_of ts) inputs sets in
+    let pool = pool_once (input_registers h.inputs ++ pins_of h.sets) (items 1) g.pool h.pool (subst (λ rs. WritesPool rs (items 1) g.pool) taken (reads_pool declared form g w)) (reads_pool declared form h v) in
     sym (goal_back g)
     ∙ ap₂ (λ n i. goal_of_parts n i g.pool g.assumes g.guard g.sets) names inputs
     ∙ ap₂ (λ p a. goal_of_parts h.name h.inputs p a g.guard g.sets) pool assumes

@@ -23,7 +23,6 @@ use Rattle.goal_meaning.specs.declared.goals.Input.{Input}
 use Rattle.goal_meaning.specs.declared.goals.DeclaredOp.{DeclaredOp}
 use Rattle.goal_reader.specs.declared.texts.TextDraft.{TextDraft}
 use Rattle.goal_reader.specs.Grammar.{WritesDeclaration, WritesAxiom, WritesGoal, WritesMachine, WritesText, IsFirstTextFault, in_passes, in_forms, built_in, own}
-use Rattle.goal_reader.specs.Roles as roles
 use Rattle.goal_meaning.specs.Names as goal_names
 use Rattle.goal_reader.specs.Roles.{is_of_rank, of_rank, text_keywords, IsTextFault, no_goal, in_form, in_machine}
 use Rattle.goal_reader.specs.TextDrafts.{IsTextWritten, IsTableWritten, KeepsText, IsAxiomOf, IsGoalOf, one_table}

@@ -73,7 +73,7 @@ declaration_writes declared form o e is clear =
     let k = keyworded_by text_keywords 1 form e in
     let shape : Shape = roles.declaration declared in
     let h : Form = atom k.head (name (codes "op")) in
-    let all = three shape k.place h k.rest refl (λ rest. refl) (subst (λ (f : Form). IsClear (a_list shape) f) k.is clear) in
+    let all = three shape k.place h k.rest (λ rest. refl) (λ rest. refl) (subst (λ (f : Form). IsClear (a_list shape) f) k.is clear) in
     let whole : form ≡ list k.place (more h (more all.0 (more all.1 none))) = k.is ∙ ap (λ r. list k.place (more h r)) all.2 in
     let read : declaration_in (list k.place (more h (more all.0 (more all.1 none)))) ≡ Some o = sym (ap declaration_in whole) ∙ is in
     let b = bind_some (name_in all.0) (λ nm. number_in all.1 >>= (λ n. arity_named n >>= (λ ar. Some (record { name = nm; arity = ar })))) o read in

@@ -17,7 +17,8 @@ use Rattle.goal_reader.specs.Drafts.{IsAssumed, IsTargeted, IsNext, IsWritten, I
 use Rattle.goal_reader.specs.Drafts as drafts
 use Rattle.goal_reader.proofs.GoalSteps.{same_rank}
 use Rattle.goal_reader.proofs.Ranks.{none_of}
-use Rattle.goal_reader.proofs.ItemForms.{input_writes, pool_writes, assume_writes, guard_writes, target_writes}
+use Rattle.goal_reader.proofs.ItemForms.{input_writes, pool_writes, assume_writes, guard_writes}
+use Rattle.goal_reader.proofs.TargetForms.{target_writes}
 
 pub nothing_more : {X : Type 0} (xs : List X) → xs ++ [] ≡ xs
 nothing_more [] = refl
@@ -162,7 +163,7 @@ module _ (before : List Form) (form : Form) (d : Draft) (w : IsWritten before d)
         guard = subst (λ fs. WritesGuard new.scope fs (option_map tree_of new.guard)) (sym (here 3 e none_later 3 refl)) (subst (λ fs. WritesGuard d.scope (fs ++ form ∷ []) (Some (tree_of term))) (sym (no_guard_yet refl)) (let p = guard_writes d.scope form (tree_of term) e is clear in guarded p.0 p.1 p.2));
         targets = subst (λ fs. Each (IsTargeted new.scope) fs new.sets) (sym (there 3 e none_later 4 refl)) w.targets;
       })
-  next_written at next e none_later (drafts.target one named value same) clear no_pool_yet no_guard_yet =
+  next_written at next e none_later (drafts.target one named pinned value same) clear no_pool_yet no_guard_yet =
       let new = drafts.with_target d one in
       subst (IsWritten (before ++ form ∷ [])) (sym same) (record {
         sorted = sorted_4 e none_later;
@@ -170,5 +171,5 @@ module _ (before : List Form) (form : Form) (d : Draft) (w : IsWritten before d)
         pool = subst (λ fs. IsPoolWritten fs new.pool) (sym (there 4 e none_later 1 refl)) w.pool;
         assumptions = subst (λ fs. Each (IsAssumed new.scope) fs new.assumes) (sym (there 4 e none_later 2 refl)) w.assumptions;
         guard = subst (λ fs. WritesGuard new.scope fs (option_map tree_of new.guard)) (sym (there 4 e none_later 3 refl)) w.guard;
-        targets = subst (λ fs. Each (IsTargeted new.scope) fs new.sets) (sym (here 4 e none_later 4 refl)) (each_more (IsTargeted d.scope) (r 4) d.sets form one w.targets (target_writes d.scope _ form one e named value clear));
+        targets = subst (λ fs. Each (IsTargeted new.scope) fs new.sets) (sym (here 4 e none_later 4 refl)) (each_more (IsTargeted d.scope) (r 4) d.sets form one w.targets (target_writes d.scope _ _ form clear one e named pinned value));
       })

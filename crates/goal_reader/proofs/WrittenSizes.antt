@@ -106,8 +106,9 @@ module _ (scope : Scope) where
   target_few : (f : Form) (t : TargetTree) → WritesTarget scope f t → 5 * operators_of_target t ≤ 4 * signs f
   target_few f t w =
       let a = few_operators w.value in
-      let e = signs_listed _ (w.first ∷ w.second ∷ []) f w.is in
-      omega (arith, a, e)
+      let e = signs_listed _ (w.first ∷ (w.pins ++ w.last ∷ [])) f w.is in
+      let b = signs_behind w.pins (w.last ∷ []) in
+      omega (arith, a, b, e)
 
 pub goal_few : (declared : List DeclaredOp) (f : Form) (g : GoalTree) → WritesGoal declared f g → 5 * operators_of_goal g ≤ 4 * signs f
 goal_few declared f g w =

@@ -1,5 +1,5 @@
 -- A goal that is being read: what each item adds to it, and what the items before give. Source: this project.
-use Rattle.std.specs.Prelude.{All, AllPairs, false, ◌≢◌, ◌<◌, ◌≤◌, ℕ, ◌≡◌, ◌-◌, List, [], ◌∷◌, ◌++◌, map, take, length, Option, Some, None}
+use Rattle.std.specs.Prelude.{All, AllPairs, true, false, bytes_eq, ◌≢◌, ◌<◌, ◌≤◌, ℕ, ◌≡◌, ◌-◌, List, [], ◌∷◌, ◌++◌, map, take, length, Option, Some, None}
 use Rattle.word_ops.specs.declared.sorts.Sort.TheVariants as sorts
 use Rattle.word_ops.specs.declared.sorts.Op.{Op}
 use Rattle.word_terms.specs.View.{tree_of}
@@ -16,7 +16,7 @@ use Rattle.goal_meaning.specs.declared.goals.Goal.{Goal}
 use Rattle.goal_reader.specs.declared.drafts.Draft.{Draft}
 use Rattle.goal_reader.specs.Roles as roles
 use Rattle.text_core.specs.Names.{is_among}
-use Rattle.goal_reader.specs.Roles.{Role, a_list, wrong, goal_scope, inputs_in, input_in, names_given, of_rank, goal_keywords, items_of_goal, second_name, registers_in}
+use Rattle.goal_reader.specs.Roles.{Role, a_list, wrong, goal_scope, inputs_in, input_in, names_given, of_rank, goal_keywords, items_of_goal, second_name, registers_in, pool_in, pin_in, pins_in, value_part}
 use Rattle.goal_meaning.specs.Names.{is_reserved, names_of_declared}
 use Rattle.std.specs.Prelude.{get_or, codes}
 use Rattle.goal_meaning.specs.Rules.{default_pool}
@@ -24,7 +24,7 @@ use Rattle.goal_reader.specs.Grammar.{IsRegister, WritesInput, WritesAssume, Wri
 use Rattle.machine_table.specs.Grammar.{Each, IsListOf}
 use Rattle.goal_meaning.specs.Views.{assume_view, target_view}
 use Rattle.std.specs.Prelude.{option_map}
-use Rattle.goal_reader.specs.Reading.{WritesPart, names_of_targets, tree_sort}
+use Rattle.goal_reader.specs.Reading.{WritesPart, names_of_targets, pins_of_targets, tree_sort}
 use Rattle.goal_meaning.specs.WellFormed.{input_registers, sort_of_target}
 
 abbrev pub input_leaf : InputReg → Leaf
@@ -92,21 +92,28 @@ pub data IsNext (form : Form) (d : Draft) : ℕ → Draft → Type 0 where
   guard : {next : Draft} (term : Term Op)
       → WritesPart d.scope (Some sorts.Word) form 1 (tree_of term) → next ≡ with_guard d term → IsNext form d 3 next
   target : {next : Draft} (one : Set)
-      → second_name form ≡ Some one.name
-      → WritesPart d.scope (Some (sort_of_target one.name)) form 2 (tree_of one.value)
+      → second_name form ≡ Some one.name → pin_in form ≡ one.pin
+      → WritesPart d.scope (Some (sort_of_target one.name)) form (value_part form) (tree_of one.value)
       → next ≡ with_target d one → IsNext form d 4 next
+
+-- the registers of a pool, none where there is none yet
+abbrev pub pool_read : Option (List ℕ) → List ℕ
+pool_read None = []
+pool_read (Some registers) = registers
 
 -- what an item with the keyword of this number is read as, behind what was read
 abbrev pub draft_role : Draft → ℕ → Role
 draft_role d at =
     get_or (a_list (roles.input d.scope.declared d.inputs) ∷ a_list (roles.pool (input_registers d.inputs))
     ∷ a_list (roles.assume d.scope) ∷ a_list (roles.guard d.scope)
-    ∷ a_list (roles.set d.scope (names_of_targets d.sets)) ∷ []) at wrong
+    ∷ a_list (roles.set d.scope (names_of_targets d.sets) (pool_read d.pool ++ pins_of_targets d.sets)) ∷ []) at wrong
 
 -- the draft is that of the items before
 pub record IsDraft (declared : List DeclaredOp) (before : List Form) (d : Draft) : Type 0 where
   pub scope : d.scope ≡ goal_scope declared (inputs_in before)
   pub inputs : d.inputs ≡ inputs_in before
+  pub pool : pool_read d.pool ≡ pool_in before
+  pub pins : pins_of_targets d.sets ≡ pins_in before
   pub targets : names_of_targets d.sets ≡ names_given (of_rank goal_keywords 4 before)
 
 -- the items before the part of this number
@@ -139,15 +146,10 @@ pub record IsWritten (before : List Form) (d : Draft) : Type 0 where
   pub guard : WritesGuard d.scope (of_rank goal_keywords 3 before) (option_map tree_of d.guard)
   pub targets : Each (IsTargeted d.scope) (of_rank goal_keywords 4 before) d.sets
 
--- the registers of a pool, none where there is none yet
-abbrev pub pool_read : Option (List ℕ) → List ℕ
-pool_read None = []
-pool_read (Some registers) = registers
-
--- the pool that a goal has: the one that was read, or else the default one
+-- the pool that a goal has: the one that was read, or else the default one, without the registers that are taken
 abbrev pub pool_kept : List ℕ → Option (List ℕ) → List ℕ
-pool_kept inputs None = default_pool inputs
-pool_kept inputs (Some registers) = registers
+pool_kept taken None = default_pool taken
+pool_kept taken (Some registers) = registers
 
 -- registers from 0 to 30, each of which stands once
 pub record AreDifferent (registers : List ℕ) : Type 0 where
@@ -160,5 +162,7 @@ pub record KeepsSoFar (declared : List DeclaredOp) (d : Draft) : Type 0 where
   pub own_names : All (λ (i : InputReg). is_reserved i.name ≡ false) d.inputs
   pub not_declared : All (λ (i : InputReg). is_among (names_of_declared declared) i.name ≡ false) d.inputs
   pub registers : AreDifferent (input_registers d.inputs ++ pool_read d.pool)
+  pub pins : AreDifferent (pool_read d.pool ++ pins_of_targets d.sets)
+  pub unpinned : All (λ (t : Set). bytes_eq t.name (codes "M") ≡ true → t.pin ≡ None) d.sets
   pub targets : AllPairs (λ (s t : Set). s.name ≢ t.name) d.sets
   pub few : (length d.inputs ≤ 16) × (length d.assumes ≤ 16) × (length d.sets ≤ 16)

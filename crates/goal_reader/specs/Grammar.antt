@@ -7,7 +7,7 @@ use Rattle.text_core.specs.Names.{is_among}
 use Rattle.goal_reader.specs.Roles.{numbered_leaves, IsTextFault, goal_scope, register_number}
 use Rattle.goal_meaning.specs.Names.{is_reserved, names_of_declared}
 use Rattle.goal_reader.specs.Terms.{Writes}
-use Rattle.goal_meaning.specs.Rules.{default_pool, KeepsRules}
+use Rattle.goal_meaning.specs.Rules.{default_pool, pins_of, KeepsRules}
 use Rattle.goal_meaning.specs.Views.{TwoTrees, TargetTree, GoalTree, AxiomTree, InputTree}
 use Rattle.goal_meaning.specs.declared.goals.InputReg.{InputReg}
 use Rattle.goal_meaning.specs.declared.goals.DeclaredOp.{DeclaredOp}
@@ -41,12 +41,12 @@ pub record WritesInput (form : Form) (input : InputReg) : Type 0 where
   pub named : IsNameOf input.name first
   pub placed : IsRegister input.reg second
 
--- [ ( pool {REGISTER} ) ]
-pub data WritesPool (inputs : List ℕ) : List Form → List ℕ → Type 0 where
-  absent : WritesPool inputs [] (default_pool inputs)
+-- [ ( pool {REGISTER} ) ]; a pool that isn't given has none of the registers that are taken
+pub data WritesPool (taken : List ℕ) : List Form → List ℕ → Type 0 where
+  absent : WritesPool taken [] (default_pool taken)
   given : {form : Form} {registers : List ℕ} (forms : List Form)
       → IsListOf (codes "pool") forms form → Each (λ f r. IsRegister r f) forms registers
-      → WritesPool inputs (form ∷ []) registers
+      → WritesPool taken (form ∷ []) registers
 
 -- ( assume term term ), the two of one sort
 pub record WritesAssume (scope : Scope) (form : Form) (assume : TwoTrees) : Type 0 where
@@ -64,13 +64,20 @@ pub data WritesGuard (scope : Scope) : List Form → Option (Tree Op) → Type 0
       → IsListOf (codes "when") (one ∷ []) form → Writes scope sorts.Word one term
       → WritesGuard scope (form ∷ []) (Some term)
 
--- ( set NAME term ); M takes a memory, every other name a word
+-- [REGISTER]
+pub data WritesPin : List Form → Option ℕ → Type 0 where
+  unpinned : WritesPin [] None
+  pinned : {form : Form} {register : ℕ} → IsRegister register form → WritesPin (form ∷ []) (Some register)
+
+-- ( set NAME [REGISTER] term ); M takes a memory, every other name a word
 pub record WritesTarget (scope : Scope) (form : Form) (target : TargetTree) : Type 0 where
   pub first : Form
-  pub second : Form
-  pub is : IsListOf (codes "set") (first ∷ second ∷ []) form
+  pub pins : List Form
+  pub last : Form
+  pub is : IsListOf (codes "set") (first ∷ (pins ++ last ∷ [])) form
   pub named : IsNameOf target.name first
-  pub value : Writes scope (if bytes_eq target.name (codes "M") then sorts.Memory else sorts.Word) second target.value
+  pub pin : WritesPin pins target.pin
+  pub value : Writes scope (if bytes_eq target.name (codes "M") then sorts.Memory else sorts.Word) last target.value
 
 -- ( goal NAME {in} [pool] {assume} [when] set {set} )
 pub record WritesGoal (declared : List DeclaredOp) (form : Form) (goal : GoalTree) : Type 0 where
@@ -83,7 +90,7 @@ pub record WritesGoal (declared : List DeclaredOp) (form : Form) (goal : GoalTre
   pub is : IsListOf (codes "goal") (name_form ∷ ins ++ (pools ++ (assumes ++ (whens ++ sets)))) form
   pub named : IsNameOf goal.name name_form
   pub inputs : Each WritesInput ins goal.inputs
-  pub pool : WritesPool (map (λ (i : InputReg). i.reg) goal.inputs) pools goal.pool
+  pub pool : WritesPool (map (λ (i : InputReg). i.reg) goal.inputs ++ pins_of goal.sets) pools goal.pool
   pub assumptions : Each (WritesAssume (goal_scope declared goal.inputs)) assumes goal.assumes
   pub guard : WritesGuard (goal_scope declared goal.inputs) whens goal.guard
   pub targets : Each (WritesTarget (goal_scope declared goal.inputs)) sets goal.sets

@@ -1,5 +1,5 @@
 -- What the reader's parts give. Source: this project.
-use Rattle.std.specs.Prelude.{ℕ, ◌≡◌, ◌||◌, false, List, map, Option, Some, slice_get, if◌then◌else◌}
+use Rattle.std.specs.Prelude.{ℕ, ◌≡◌, ◌||◌, false, List, map, filter_map, Option, Some, slice_get, if◌then◌else◌}
 use Rattle.word_ops.specs.declared.sorts.Sort.{Sort}
 use Rattle.word_ops.specs.declared.sorts.Op.{Op}
 use Rattle.word_terms.specs.Tree.{Tree, variable, application}
@@ -43,6 +43,9 @@ tree_sort (application op operands) = sort_of op
 
 abbrev pub names_of_targets : List Set → List (List ℕ)
 names_of_targets targets = map (λ (t : Set). t.name) targets
+
+abbrev pub pins_of_targets : List Set → List ℕ
+pins_of_targets targets = filter_map (λ (t : Set). t.pin) targets
 
 -- what a variable means on the right side of an axiom, by its left side
 abbrev pub meaning_right : Form → List ℕ → ℕ → Named

@@ -1,7 +1,7 @@
 -- What a form can be read as, its role, and which faults of its own a form has in each role. Source: this project.
-use Rattle.std.specs.Prelude.{Bool, true, false, ℕ, zero, suc, ◌≡◌, ◌≢◌, ◌+◌, ◌<◌, ◌||◌, ◌&&◌, ◌-◌, ◌*◌, ◌==◌, nat_lt, nat_le, if◌then◌else◌, List, [], ◌∷◌, ◌++◌, length, map, take, drop, get_or, slice_get, filter, filter_map, codes, bytes_eq, Option, Some, None, option_map}
+use Rattle.std.specs.Prelude.{Bool, true, false, ℕ, zero, suc, ◌≡◌, ◌≢◌, ◌+◌, ◌<◌, ◌||◌, ◌&&◌, ◌-◌, ◌*◌, ◌==◌, nat_lt, nat_le, if◌then◌else◌, List, [], ◌∷◌, ◌++◌, length, map, take, drop, get_or, slice_get, filter, filter_map, codes, bytes_eq, Option, Some, None, option_map, is_some}
 use Rattle.std.specs.Option.{option_map_or}
-use Rattle.std.specs.List.{list_any}
+use Rattle.std.specs.List.{flat_map, list_any}
 use Rattle.word_ops.specs.Meanings.{arity_of_op, sort_of, operand_sort}
 use Rattle.word_ops.specs.declared.sorts.Sort.{Sort}
 use Rattle.word_ops.specs.declared.sorts.Sort.TheVariants as sorts
@@ -143,6 +143,24 @@ declared_in forms = filter_map declaration_in (of_rank text_keywords 1 forms)
 abbrev pub names_given : List Form → List (List ℕ)
 names_given forms = filter_map second_name forms
 
+-- the registers of the pool that the items give
+abbrev pub pool_in : List Form → List ℕ
+pool_in items = registers_in (flat_map parts_of (of_rank goal_keywords 1 items))
+
+-- a set is pinned where its third part is a register
+abbrev pub is_pinned : Form → Bool
+is_pinned form = is_some (part 2 form >>= register_in)
+
+-- the number of the part that is its value
+abbrev pub value_part : Form → ℕ
+value_part form = if is_pinned form then 3 else 2
+
+abbrev pub pin_in : Form → Option ℕ
+pin_in form = part 2 form >>= register_of
+
+abbrev pub pins_in : List Form → List ℕ
+pins_in items = filter_map pin_in (of_rank goal_keywords 4 items)
+
 -- in a goal a name means an input, and M the memory at entry
 abbrev pub goal_scope : List DeclaredOp → List InputReg → Scope
 goal_scope declared inputs = record {
@@ -191,10 +209,11 @@ pub data Shape : Type 0 where
   input : List DeclaredOp → List InputReg → Shape
   -- ( pool {REGISTER} ), with the registers of the inputs
   pool : List ℕ → Shape
-  -- ( assume term term ), ( when term ), and ( set NAME term ) with the names set before
+  -- ( assume term term ), ( when term ), and ( set NAME [REGISTER] term ) with the names set before, and with the pool's
+  -- registers and the pins before
   assume : Scope → Shape
   guard : Scope → Shape
-  set : Scope → List (List ℕ) → Shape
+  set : Scope → List (List ℕ) → List ℕ → Shape
   -- ( goal NAME item.. ), with the names of the goals before
   goal : List DeclaredOp → List (List ℕ) → Shape
   -- ( op NAME NUMBER ), ( axiom ( NAME {NAME} ) term term ), and the list of its variables
@@ -226,16 +245,16 @@ pub data Role : Type 0 where
   past : Role
 
 -- how many parts a list needs at least, its keyword among them
-abbrev pub least_parts : Shape → ℕ
-least_parts (input declared inputs) = 3
-least_parts (pool given) = 1
-least_parts (assume scope) = 3
-least_parts (guard scope) = 2
-least_parts (set scope names) = 3
-least_parts (goal declared names) = 2
-least_parts (declaration declared) = 3
-least_parts (equation declared) = 4
-least_parts (variables declared) = 1
+abbrev pub least_parts : Shape → Form → ℕ
+least_parts (input declared inputs) form = 3
+least_parts (pool given) form = 1
+least_parts (assume scope) form = 3
+least_parts (guard scope) form = 2
+least_parts (set scope names taken) form = if is_pinned form then 4 else 3
+least_parts (goal declared names) form = 2
+least_parts (declaration declared) form = 3
+least_parts (equation declared) form = 4
+least_parts (variables declared) form = 1
 
 pub data IsOwn : Role → Form → Kind → Type 0 where
   no_term : {scope : Scope} {wanted : Option Sort} {form : Form}
@@ -279,7 +298,7 @@ pub data IsOwn : Role → Form → Kind → Type 0 where
   arity_above : {form : Form} {n : ℕ} → number_in form ≡ Some n → 4 < n → IsOwn an_arity form LimitPassed
   -- lists: a missing part is a fault of its list, and so is a missing set of a goal
   too_few : {shape : Shape} {form : Form}
-      → length (parts_of form) < least_parts shape → IsOwn (a_list shape) form BadForm
+      → length (parts_of form) < least_parts shape form → IsOwn (a_list shape) form BadForm
   no_set : {declared : List DeclaredOp} {names : List (List ℕ)} {form : Form}
       → list_any (is_of_rank goal_keywords 4) (items_of_goal form) ≡ false
       → IsOwn (a_list (goal declared names)) form BadForm
@@ -322,7 +341,7 @@ item_role declared before at =
     let scope = goal_scope declared inputs in
     get_or (a_list (input declared inputs) ∷ a_list (pool (map (λ (i : InputReg). i.reg) inputs))
     ∷ a_list (assume scope) ∷ a_list (guard scope)
-    ∷ a_list (set scope (names_given (of_rank goal_keywords 4 before))) ∷ []) at wrong
+    ∷ a_list (set scope (names_given (of_rank goal_keywords 4 before)) (pool_in before ++ pins_in before)) ∷ []) at wrong
 
 -- ---- the roles of parts
 
@@ -334,6 +353,16 @@ listed_role roles (suc at) = Some (get_or roles at wrong)
 abbrev pub target_sort : Form → Option Sort
 target_sort form = option_map (λ name. if bytes_eq name (codes "M")
     then sorts.Memory else sorts.Word) (second_name form)
+
+-- the pin of a set of this name is a register that isn't one of these; the memory has none
+abbrev pub pin_role : List ℕ → Option (List ℕ) → Role
+pin_role taken name =
+    if option_map_or (λ bytes. bytes_eq bytes (codes "M")) name false then wrong else fresh_register taken
+
+abbrev pub set_roles : Scope → List (List ℕ) → List ℕ → Form → Bool → List Role
+set_roles scope names taken form true =
+    fresh_name names ∷ pin_role taken (second_name form) ∷ term scope (target_sort form) ∷ []
+set_roles scope names taken form false = fresh_name names ∷ term scope (target_sort form) ∷ []
 
 abbrev pub goal_part : List DeclaredOp → List (List ℕ) → Form → ℕ → Option Role
 goal_part declared names form zero = None
@@ -349,7 +378,7 @@ shape_part (pool given) form zero = None
 shape_part (pool given) form (suc at) = Some (fresh_register (given ++ registers_in (take (suc at) (parts_of form))))
 shape_part (assume scope) form at = listed_role (term scope None ∷ term scope (part 1 form >>= sort_in scope) ∷ []) at
 shape_part (guard scope) form at = listed_role (term scope (Some sorts.Word) ∷ []) at
-shape_part (set scope names) form at = listed_role (fresh_name names ∷ term scope (target_sort form) ∷ []) at
+shape_part (set scope names taken) form at = listed_role (set_roles scope names taken form (is_pinned form)) at
 shape_part (goal declared names) form at = goal_part declared names form at
 shape_part (declaration declared) form at = listed_role (own_name (names_of_declared declared) ∷ an_arity ∷ []) at
 shape_part (equation declared) form at = listed_role (a_list (variables declared) ∷ left_side (left_scope declared form)

@@ -3,7 +3,6 @@
 use Rattle.std.specs.Prelude.{ℕ, ◌+◌, if◌then◌else◌, Option, Some, None, List, [], ◌∷◌, bytes_eq}
 use Rattle.std.specs.Option.{option_or}
 use Rattle.word_ops.specs.Operators.{operators}
-use Rattle.word_ops.specs.declared.operators.WordOp.TheVariants as words
 use Rattle.word_ops.specs.declared.sorts.Op.{Op}
 use Rattle.word_ops.specs.declared.sorts.Op.TheVariants.{Declared}
 use Rattle.goal_meaning.specs.Names.{built_in_named}

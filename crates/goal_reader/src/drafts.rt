@@ -5,15 +5,16 @@ ghost use Rattle.forms.specs.Forms.{sexp_form};
 ghost use Rattle.forms.specs.Reading.{IsSexpOf};
 ghost use Rattle.goal_reader.specs.Roles.{IsFaultAs, is_of_rank, rank, goal_keywords};
 ghost use Rattle.goal_reader.specs.Reading.{IsClear};
-ghost use Rattle.goal_reader.specs.Drafts.{IsNext, draft_role};
+ghost use Rattle.goal_reader.specs.Drafts.{IsNext, draft_role, pool_read};
 ghost use Rattle.goal_reader.specs.Keywords.{item_rank};
 
-use crate::assumes::{assume, target};
+use crate::assumes::assume;
 use crate::guards::guard;
 use crate::inputs::input;
 use crate::keywords::ItemKeyword;
 use crate::pools::pool;
 use crate::scopes::{Leaf, Named, Scope};
+use crate::targets::target;
 use goal_meaning::{Assume, InputReg, Set};
 use items::Items;
 use std::alloc::Global;
@@ -156,6 +157,16 @@ fn add_guard(alloc: Global, form: &Sexp, text: &[u8], draft: Draft) -> Result<Dr
     })
 }
 
+// The registers of the pool, none where there is no pool yet.
+fn registers_of_pool(pool: &Option<Items<u8>>) -> &[u8]
+    ensures { result.now ≡ pool_read pool.now }
+{
+    match pool {
+        Some(pool) => pool.as_slice(),
+        None => &[],
+    }
+}
+
 fn add_target(alloc: Global, form: &Sexp, text: &[u8], draft: Draft) -> Result<Draft, TextFault>
     requires of { IsSexpOf text.now form.now }
     requires few { length draft.scope.declared ≤ 16 }
@@ -164,7 +175,8 @@ fn add_target(alloc: Global, form: &Sexp, text: &[u8], draft: Draft) -> Result<D
     ensures clear { IfOk result (λ _. IsClear (draft_role draft 4) (sexp_form text.now form.now)) }
     ensures fault { IfErr result (IsFaultBy (IsFirst (IsFaultAs (draft_role draft 4) (sexp_form text.now form.now)))) }
 {
-    let one = target(alloc, form, text, &draft.scope, draft.sets.as_slice())?;
+    let pool = registers_of_pool(&draft.pool);
+    let one = target(alloc, form, text, &draft.scope, pool, draft.sets.as_slice())?;
     let Draft {
         scope,
         inputs,

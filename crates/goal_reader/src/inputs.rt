@@ -34,7 +34,7 @@ fn register_digits(digits: &[u8]) -> Option<u8>
     }
 }
 
-pub fn register_number(bytes: &[u8]) -> Option<u8>
+fn register_number(bytes: &[u8]) -> Option<u8>
     ensures { result ≡ number_of_name bytes.now }
 {
     match bytes {
@@ -115,6 +115,23 @@ pub fn own_name<'a>(
     Ok(bytes)
 }
 
+/// A register from 0 to 30, whichever are given.
+pub fn register_read(form: &Sexp, text: &[u8]) -> Result<u8, TextFault>
+    requires of { IsSexpOf text.now form.now }
+    ensures register { IfOk result (λ r. register_of (sexp_form text.now form.now) ≡ Some r) }
+    ensures fault { IfErr result (λ fault. (given : List ℕ)
+        → IsFaultBy (IsFirst (IsFaultAs (roles.fresh_register given) (sexp_form text.now form.now))) fault) }
+{
+    sexps_are_forms();
+    let Some(bytes) = register(form, text) else {
+        return Err(at(place(form), Kind::BadForm));
+    };
+    let Some(number) = register_number(bytes) else {
+        return Err(at(place(form), Kind::BadRegister));
+    };
+    Ok(number)
+}
+
 /// A register that no input has.
 pub fn fresh_register(form: &Sexp, text: &[u8], inputs: &[InputReg]) -> Result<u8, TextFault>
     requires of { IsSexpOf text.now form.now }
@@ -124,12 +141,7 @@ pub fn fresh_register(form: &Sexp, text: &[u8], inputs: &[InputReg]) -> Result<u
         (sexp_form text.now form.now)))) }
 {
     sexps_are_forms();
-    let Some(bytes) = register(form, text) else {
-        return Err(at(place(form), Kind::BadForm));
-    };
-    let Some(number) = register_number(bytes) else {
-        return Err(at(place(form), Kind::BadRegister));
-    };
+    let number = register_read(form, text)?;
     if is_given(inputs, number) {
         return Err(at(place(form), Kind::Twice));
     }

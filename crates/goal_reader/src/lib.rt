@@ -19,6 +19,7 @@ mod pools;
 mod printing;
 mod reading;
 mod scopes;
+mod targets;
 mod terms;
 mod texts;
 mod variables;

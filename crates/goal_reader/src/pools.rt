@@ -9,13 +9,13 @@ ghost use Rattle.goal_meaning.specs.Rules.{has_register};
 ghost use Rattle.goal_reader.specs.Reading.{IsClear};
 ghost use Rattle.goal_meaning.specs.WellFormed.{input_registers};
 
-use crate::inputs::{is_given, register_number};
-use forms::{at, parts, place, register, sexps_are_forms};
+use crate::inputs::{is_given, register_read};
+use forms::{at, parts, place, sexps_are_forms};
 use goal_meaning::InputReg;
 use std::alloc::Global;
 use text_core::{Kind, Sexp, TextFault};
 
-fn is_in_pool(pool: &[u8], register: u8) -> bool
+pub fn is_in_pool(pool: &[u8], register: u8) -> bool
     ensures { result ≡ has_register pool.now register }
 {
     for given in pool {
@@ -48,12 +48,7 @@ fn pool_register(
         ++ pool.now)) (sexp_form text.now form.now)))) }
 {
     sexps_are_forms();
-    let Some(bytes) = register(form, text) else {
-        return Err(at(place(form), Kind::BadForm));
-    };
-    let Some(number) = register_number(bytes) else {
-        return Err(at(place(form), Kind::BadRegister));
-    };
+    let number = register_read(form, text)?;
     if is_taken(inputs, pool, number) {
         return Err(at(place(form), Kind::Twice));
     }

@@ -3,7 +3,7 @@ ghost use Rattle.std.specs.Prelude.{◌≡◌, ◌+◌, ◌∷◌, ◌++◌, [],
 ghost use Rattle.std.specs.Option.{option_map_or};
 ghost use Rattle.std.specs.List.{flat_map};
 ghost use Rattle.forms.specs.Printing.{atom_text, lines_of, others_of, plain_text, plains_from, plains_text};
-ghost use Rattle.goal_meaning.specs.InputForms.{axiom_plain, declaration_plain, goal_plain, guard_plains, input_name as name_of_input, input_plain, leaf_atom, machine_plains, naming, operator_name, pool_plain, register_plain, target_plain, assume_plain, term_plain, variable_plain};
+ghost use Rattle.goal_meaning.specs.InputForms.{axiom_plain, declaration_plain, goal_plain, guard_plains, input_name as name_of_input, input_plain, leaf_atom, machine_plains, naming, operator_name, pin_plains, pool_plain, register_plain, target_plain, assume_plain, term_plain, variable_plain};
 ghost use Rattle.goal_meaning.specs.Names.{declared_name};
 ghost use Rattle.goal_reader.specs.Printing.{input_text};
 ghost use Rattle.goal_meaning.specs.Views.{assume_view, axiom_view, goal_view, input_view, target_view};
@@ -228,6 +228,17 @@ fn put_guard(
     Ok(())
 }
 
+/// The pin with a space before it, if there is one.
+fn put_pin(text: &mut Vec<u8>, pin: Option<u8>) -> Result<(), NoMemory>
+    ensures { OnOk result (text.new.items ≡ text.old.items ++ others_of (plains_from (pin_plains pin))) }
+{
+    if let Some(register) = pin {
+        text.extend_from_slice(b" ")?;
+        put_register(text, register)?;
+    }
+    Ok(())
+}
+
 fn put_target(
     text: &mut Vec<u8>,
     target: &Set,
@@ -239,6 +250,7 @@ fn put_target(
 {
     text.extend_from_slice(b"(set ")?;
     text.extend_from_slice(target.name.bytes())?;
+    put_pin(text, target.pin)?;
     text.extend_from_slice(b" ")?;
     put_term(text, &target.value, declared, inputs, &[])?;
     text.extend_from_slice(b")")?;

@@ -1,5 +1,5 @@
 // Reading a goal.
-ghost use Rattle.std.specs.Prelude.{◌≡◌, ◌≤◌, ℕ, [], filter, not, length, IfOk, IfErr, Some, false};
+ghost use Rattle.std.specs.Prelude.{◌≡◌, ◌≤◌, ◌++◌, ℕ, [], filter, not, length, IfOk, IfErr, Some, false};
 ghost use Rattle.std.specs.List.{list_any};
 ghost use Rattle.text_core.specs.Faults.{GivesUnlessMemory, IsFaultBy, IsFirst, RefusesUnlessMemory};
 ghost use Rattle.text_core.specs.declared.faults.Kind.{Kind as FaultKind};
@@ -10,7 +10,7 @@ ghost use Rattle.goal_reader.specs.Roles as roles;
 ghost use Rattle.text_core.specs.Names.{is_among};
 ghost use Rattle.goal_reader.specs.Roles.{IsFaultAs, is_of_rank, goal_keywords, text_keywords, rank, second_name, items_of_goal};
 ghost use Rattle.goal_meaning.specs.Rules.{has_register, default_pool as default_registers, free_registers};
-ghost use Rattle.goal_reader.specs.Reading.{IsClear};
+ghost use Rattle.goal_reader.specs.Reading.{IsClear, pins_of_targets};
 ghost use Rattle.goal_meaning.specs.WellFormed.{input_registers};
 ghost use Rattle.goal_reader.specs.Drafts.{names_of_goals, IsDraft, IsWritten, KeepsSoFar, pool_kept};
 ghost use Rattle.goal_reader.specs.Grammar.{WritesGoal};
@@ -21,8 +21,9 @@ use crate::inputs::is_given;
 use crate::keywords::{admitted_item, item_keyword};
 use crate::order::Order;
 use crate::scopes::{Leaf, Named, Scope};
+use crate::targets::is_pin;
 use forms::{at, name, parts, place, sexps_are_forms};
-use goal_meaning::{DeclaredOp, FREE_REGISTERS, Goal, InputReg};
+use goal_meaning::{DeclaredOp, FREE_REGISTERS, Goal, InputReg, Set};
 use items::{Items, NoMemory};
 use std::alloc::Global;
 use text_core::{Kind, Name, Sexp, TextFault};
@@ -142,23 +143,38 @@ fn items(
     Ok((name, draft))
 }
 
-/// Those of the registers that no input has.
-fn not_given(alloc: Global, inputs: &[InputReg], among: &[u8]) -> Result<Items<u8>, NoMemory>
-    ensures { IfOk result (λ pool. pool ≡ filter (λ r. not (has_register (input_registers inputs.now) r)) among.now) }
+fn is_taken(inputs: &[InputReg], targets: &[Set], register: u8) -> bool
+    ensures { result ≡ has_register (input_registers inputs.now ++ pins_of_targets targets.now) register }
+{
+    let given = is_given(inputs, register);
+    let pinned = is_pin(targets, register);
+    given || pinned
+}
+
+/// Those of the registers that are neither an input's nor a pin.
+fn not_taken(
+    alloc: Global,
+    inputs: &[InputReg],
+    targets: &[Set],
+    among: &[u8],
+) -> Result<Items<u8>, NoMemory>
+    ensures { IfOk result (λ pool. pool ≡ filter (λ r. not (has_register (input_registers inputs.now
+        ++ pins_of_targets targets.now) r)) among.now) }
 {
     let mut pool = Items::new(alloc);
     for register in among {
-        if !is_given(inputs, *register) {
+        if !is_taken(inputs, targets, *register) {
             pool.push(*register)?;
         }
     }
     Ok(pool)
 }
 
-fn default_pool(alloc: Global, inputs: &[InputReg]) -> Result<Items<u8>, NoMemory>
-    ensures { IfOk result (λ pool. pool ≡ default_registers (input_registers inputs.now)) }
+fn default_pool(alloc: Global, inputs: &[InputReg], targets: &[Set]) -> Result<Items<u8>, NoMemory>
+    ensures { IfOk result (λ pool. pool ≡ default_registers (input_registers inputs.now
+        ++ pins_of_targets targets.now)) }
 {
-    not_given(alloc, inputs, &FREE_REGISTERS)
+    not_taken(alloc, inputs, targets, &FREE_REGISTERS)
 }
 
 /// The pool that was read, or else the default one.
@@ -166,12 +182,13 @@ fn pool_or_default(
     alloc: Global,
     pool: Option<Items<u8>>,
     inputs: &[InputReg],
+    targets: &[Set],
 ) -> Result<Items<u8>, NoMemory>
-    ensures { IfOk result (λ kept. kept ≡ pool_kept (input_registers inputs.now) pool) }
+    ensures { IfOk result (λ kept. kept ≡ pool_kept (input_registers inputs.now ++ pins_of_targets targets.now) pool) }
 {
     match pool {
         Some(pool) => Ok(pool),
-        None => default_pool(alloc, inputs),
+        None => default_pool(alloc, inputs, targets),
     }
 }
 
@@ -202,7 +219,7 @@ fn read_goal(
         guard,
         sets,
     } = draft;
-    let pool = pool_or_default(alloc, pool, inputs.as_slice())?;
+    let pool = pool_or_default(alloc, pool, inputs.as_slice(), sets.as_slice())?;
     let Scope { declared, .. } = scope;
     let goal = Goal {
         name,

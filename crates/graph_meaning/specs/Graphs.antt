@@ -1,11 +1,13 @@
 -- Launch graphs: constants, the memory target, registers, and values under which every row is true.
 -- Source: Denali (PLDI 2002), E-graphs and "goal terms"; how registers are given is this project's.
-use Rattle.std.specs.Prelude.{◌≡◌, ◌≢◌, ℕ, ◌<◌, List, [], ◌∷◌, ◌++◌, map, Option, None, option_map, find, ◌==◌, All, AllPairs, if◌then◌else◌, codes, Bool, false, bytes_eq, slice_index}
+use Rattle.std.specs.Prelude.{◌≡◌, ◌≢◌, ℕ, ◌<◌, List, [], ◌∷◌, ◌++◌, map, Option, None, Some, option_map, find, ◌==◌, All, AllPairs, Any, Contains, IfSome, if◌then◌else◌, codes, Bool, false, bytes_eq, slice_index}
 use Rattle.std.specs.Option.{option_map_or, option_or}
+use Rattle.std.specs.List.{list_any}
 use Rattle.word_ops.specs.Worlds.{Value, word, memory, World, IsValue}
 use Rattle.word_ops.specs.Meanings.{meaning, sort_of, constant_in}
 use Rattle.word_ops.specs.declared.sorts.Op.{Op}
 use Rattle.graph_meaning.specs.declared.graphs.LaunchRow.{LaunchRow}
+use Rattle.graph_meaning.specs.declared.graphs.SetClass.{SetClass}
 use Rattle.graph_meaning.specs.declared.graphs.LaunchGraph.{LaunchGraph}
 
 -- a row of an operator that isn't declared
@@ -40,10 +42,29 @@ input_register g class = option_map (λ i. i.reg) (find (λ i. i.class == class)
 abbrev pub registers_of : LaunchGraph → List ℕ
 registers_of g = map (λ i. i.reg) g.inputs ++ g.pool
 
--- input registers and pool registers are all different numbers below 31
+-- no two sets are pinned to one register
+abbrev pub HaveOwnPins : List SetClass → Type 0
+HaveOwnPins sets = AllPairs (λ s t. (r : ℕ) → s.pin ≡ Some r → t.pin ≢ Some r) sets
+
+-- some set is pinned to the register
+abbrev pub IsPin : LaunchGraph → ℕ → Type 0
+IsPin g r = Any (λ s. s.pin ≡ Some r) g.sets
+
+-- no set has a pin
+abbrev pub HasNoPins : LaunchGraph → Type 0
+HasNoPins g = All (λ s. s.pin ≡ None) g.sets
+
+-- some input has the register
+abbrev pub is_input_register : LaunchGraph → ℕ → Bool
+is_input_register g r = list_any (λ i. i.reg == r) g.inputs
+
+-- input registers and pool registers are all different numbers below 31; so are pins, of which none is in the pool
 pub record IsProper (g : LaunchGraph) : Type 0 where
   pub differ : AllPairs (λ a b. a ≢ b) (registers_of g)
   pub low : All (λ r. r < 31) (registers_of g)
+  pub own_pins : HaveOwnPins g.sets
+  pub low_pins : All (λ s. IfSome s.pin (λ r. r < 31)) g.sets
+  pub pins_apart : All (λ s. IfSome s.pin (λ r. ¬ Contains g.pool r)) g.sets
 
 -- what a row gives in a world; a declared operator is the one of the row's name
 abbrev pub row_meaning : World → LaunchRow → List Value → Value

@@ -8,7 +8,7 @@ use Rattle.word_ops.specs.declared.sorts.Op.{Op}
 use Rattle.word_ops.specs.declared.sorts.Op.TheVariants.{Declared, Input}
 use Rattle.word_ops.specs.declared.sorts.Sort.{Sort}
 use Rattle.word_ops.specs.declared.sorts.Sort.TheVariants as sort
-use Rattle.graph_meaning.specs.Graphs.{is_memory_name}
+use Rattle.graph_meaning.specs.Graphs.{is_memory_name, HaveOwnPins}
 use Rattle.graph_meaning.specs.declared.graphs.LaunchRow.{LaunchRow}
 use Rattle.graph_meaning.specs.declared.graphs.LaunchGraph.{LaunchGraph}
 
@@ -80,3 +80,7 @@ pub record IsLaunchGraph (g : LaunchGraph) : Type 0 where
   pub guard : IfSome g.guard (λ guard. ClassHasSort g sort.Word guard.class)
   pub sets : All (λ s. ClassHasSort g (set_sort s.name) s.class) g.sets
   pub names : All (λ i. IsName i.name) g.inputs × All (λ s. IsName s.name) g.sets
+  -- a pin is a register, that of no other set, and the memory has none
+  pub pins : All (λ s. IfSome s.pin (λ r. r < 31)) g.sets
+  pub own_pins : HaveOwnPins g.sets
+  pub memory_unpinned : All (λ s. IsTrue (is_memory_name s.name) → s.pin ≡ None) g.sets

@@ -1,11 +1,11 @@
 // What is true of each launch graph. The calls do nothing: their clauses hold of all graphs.
-ghost use Rattle.std.specs.Prelude.{◌≡◌, ◌≢◌, ◌<◌, ℕ, All, AllPairs, Any, Contains, Some, None, length, slice_index};
+ghost use Rattle.std.specs.Prelude.{◌≡◌, ◌≢◌, ◌<◌, ℕ, All, AllPairs, Any, Contains, IfSome, Some, None, length, slice_index};
 ghost use Rattle.word_ops.specs.Meanings.{sort_of, constant_in};
 ghost use Rattle.word_ops.specs.Words.{IsWord};
 ghost use Rattle.word_ops.specs.Worlds.{Value, World, IsValue, word};
 ghost use Rattle.word_ops.specs.declared.sorts.Sort.{Sort as SortOf};
 ghost use Rattle.word_ops.specs.declared.sorts.Sort.TheVariants as sorts;
-ghost use Rattle.graph_meaning.specs.Graphs.{IsProper, IsTrueUnder, constant_of, input_register, memory_target};
+ghost use Rattle.graph_meaning.specs.Graphs.{HaveOwnPins, IsProper, IsTrueUnder, constant_of, input_register, memory_target};
 ghost use Rattle.graph_meaning.specs.WellFormed.{IsLaunchGraph, ClassHasSort};
 ghost use Rattle.graph_meaning.specs.declared.graphs.LaunchRow.{LaunchRow as Row};
 ghost use Rattle.graph_meaning.specs.declared.graphs.LaunchGraph.{LaunchGraph as Graph};
@@ -34,14 +34,17 @@ pub fn graphs_are_consistent()
     ensures memory_target { (g : Graph) → IsLaunchGraph g → ClassHasSort g sorts.Memory (memory_target g) }
 {}
 
-/// In a proper graph, the registers of the pool differ, are 0 to 30, and are no input's; the inputs' registers differ
-/// and are 0 to 30.
+/// In a proper graph, the registers of the pool differ, are 0 to 30, and are no input's and no set's pin; the inputs'
+/// registers differ and are 0 to 30. Pins are 0 to 30, and no two sets have one.
 pub fn registers_are_apart()
     ensures differ { (g : Graph) → IsProper g → AllPairs (λ a b. a ≢ b) g.pool }
     ensures low { (g : Graph) → IsProper g → All (λ r. r < 31) g.pool }
     ensures inputs { (g : Graph) → IsProper g → All (λ i. ¬ Contains g.pool i.reg) g.inputs }
     ensures inputs_differ { (g : Graph) → IsProper g → AllPairs (λ i j. i.reg ≢ j.reg) g.inputs }
     ensures inputs_low { (g : Graph) → IsProper g → All (λ i. i.reg < 31) g.inputs }
+    ensures own_pins { (g : Graph) → IsProper g → HaveOwnPins g.sets }
+    ensures low_pins { (g : Graph) → IsProper g → All (λ s. IfSome s.pin (λ r. r < 31)) g.sets }
+    ensures pins_apart { (g : Graph) → IsProper g → All (λ s. IfSome s.pin (λ r. ¬ Contains g.pool r)) g.sets }
 {}
 
 /// Where a graph is true in a world, each class has a value of its sort, equal to its constant if it has one, and to

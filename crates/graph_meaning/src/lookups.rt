@@ -33,6 +33,38 @@ impl LaunchGraph {
         }
         None
     }
+
+    /// Whether the class has the constant 0. It looks at each row in turn.
+    pub fn is_zero_class(&self, class: u32) -> bool
+        ensures { result ≡ graphs.is_zero_class self.now class }
+    {
+        match self.constant_of(class) {
+            Some(constant) => constant == 0,
+            None => false,
+        }
+    }
+
+    /// Whether some input has the register.
+    pub fn is_input_register(&self, register: u8) -> bool
+        ensures { result ≡ graphs.is_input_register self.now register }
+    {
+        self.inputs
+            .as_slice()
+            .iter()
+            .any(|input| input.reg == register)
+    }
+
+    /// The class of the memory target: that of the first set named M, or of the memory at entry.
+    pub fn memory_target(&self) -> u32
+        ensures { result ≡ graphs.memory_target self.now }
+    {
+        for set in self.sets.as_slice() {
+            if set.is_memory() {
+                return set.class;
+            }
+        }
+        self.entry
+    }
 }
 
 impl SetClass {

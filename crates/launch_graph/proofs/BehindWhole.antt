@@ -1,5 +1,5 @@
 -- The lines behind the rows, put together.
-use Rattle.std.proofs.Common.{◌≡◌, ℕ, ◌+◌, ◌<◌, ◌≤◌, ◌^◌, List, ◌∷◌, ◌++◌, length, map, refl, ap, ◌∙◌, arith, Option, Some, None}
+use Rattle.std.proofs.Common.{◌≡◌, ℕ, ◌+◌, ◌<◌, ◌≤◌, ◌^◌, List, [], ◌∷◌, ◌++◌, length, map, refl, ap, ◌∙◌, arith, Option, Some, None}
 use Rattle.std.specs.Prelude.{MatchOption, IfSome}
 use Rattle.text_core.specs.Lines.{Line}
 use Rattle.text_core.specs.LineTexts.{Words}
@@ -44,33 +44,33 @@ right_guard lines marks at (Some o) h = (h.is.small, h.right)
 
 module _ (names : (o p : WordOp) → name_of o ≡ name_of p → o ≡ p) (lines : List Line) (marks : List Mark) (first : ℕ) where
   module _ (entry : ℕ) (e : IsEntryAt lines marks first entry) where
-    pub at_inputs : (from : ℕ) (all : List RowLine) → IsCleanBehindRows lines from all marks first (rows 0) → IsCleanBehindRows lines from all marks (first + 1) inputs
-    at_inputs from all b = entry_more names lines marks first e.within entry e from all b
+    pub at_inputs : (version from : ℕ) (all : List RowLine) → IsCleanBehindRows version lines from all marks first (rows 0) → IsCleanBehindRows version lines from all marks (first + 1) inputs
+    at_inputs version from all b = entry_more names lines marks first e.within entry e version from all b
 
     module _ (line : ℕ) (is : List InputClass) (i : AreInputsAt lines marks (first + 1) line is) where
-      pub at_pool : (from : ℕ) (all : List RowLine) → IsCleanBehindRows lines from all marks first (rows 0) → IsCleanBehindRows lines from all marks line inputs
-      at_pool from all b = i.behind from all (at_inputs from all b)
+      pub at_pool : (version from : ℕ) (all : List RowLine) → IsCleanBehindRows version lines from all marks first (rows 0) → IsCleanBehindRows version lines from all marks line inputs
+      at_pool version from all b = i.behind version from all (at_inputs version from all b)
 
       module _ (pool : List ℕ) (p : IsPoolAt lines line pool) where
-        pub at_guard : (from : ℕ) (all : List RowLine) → IsCleanBehindRows lines from all marks first (rows 0)
-            → IsCleanBehindRows lines from all marks (line + 1) behind_pool
-        at_guard from all b = pool_more names lines marks line p.within pool p.is from all (at_pool from all b)
+        pub at_guard : (version from : ℕ) (all : List RowLine) → IsCleanBehindRows version lines from all marks first (rows 0)
+            → IsCleanBehindRows version lines from all marks (line + 1) behind_pool
+        at_guard version from all b = pool_more names lines marks line p.within pool p.is version from all (at_pool version from all b)
 
-        can_take : (found : Option Guard) → HasGuard lines marks (line + 1) found → (from : ℕ) (all : List RowLine)
-            → IsCleanBehindRows lines from all marks (line + 1) behind_pool → CanTakeSets lines from all marks (line_after_guard found (line + 1))
-        can_take None h from all b = record { stage = behind_pool; takes = no_guard h; behind = b }
-        can_take (Some o) h from all b =
-            record { stage = _; takes = targets; behind = guard_more names lines marks (line + 1) h.within o h from all b }
+        can_take : (found : Option Guard) → HasGuard lines marks (line + 1) found → (version from : ℕ) (all : List RowLine)
+            → IsCleanBehindRows version lines from all marks (line + 1) behind_pool → CanTakeSets version lines from all marks (line_after_guard found (line + 1)) []
+        can_take None h version from all b = record { stage = behind_pool; takes = no_guard h; behind = b }
+        can_take (Some o) h version from all b =
+            record { stage = _; takes = targets; behind = guard_more names lines marks (line + 1) h.within o h version from all b }
 
         module _ (found : Option Guard) (h : HasGuard lines marks (line + 1) found) where
-          pub at_sets : (from : ℕ) (all : List RowLine) → IsCleanBehindRows lines from all marks first (rows 0)
-              → CanTakeSets lines from all marks (line_after_guard found (line + 1))
-          at_sets from all b = can_take found h from all (at_guard from all b)
+          pub at_sets : (version from : ℕ) (all : List RowLine) → IsCleanBehindRows version lines from all marks first (rows 0)
+              → CanTakeSets version lines from all marks (line_after_guard found (line + 1)) []
+          at_sets version from all b = can_take found h version from all (at_guard version from all b)
 
-          pub read_whole : (ss : List SetClass) (next : ℕ) → AreSetsAt lines marks (line_after_guard found (line + 1)) next ss
+          pub read_whole : (version : ℕ) (ss : List SetClass) (next : ℕ) → AreSetsAt version lines marks (line_after_guard found (line + 1)) next ss
               → EndsGraph (words_from lines next)
-              → IsReadBehind lines marks first next (record { entry = entry; inputs = is; pool = pool; guard = found; sets = ss })
-          read_whole ss next s ends =
+              → IsReadBehind version lines marks first next (record { entry = entry; inputs = is; pool = pool; guard = found; sets = ss })
+          read_whole version ss next s ends =
               let t : ℕ = line_after_guard found (line + 1) in
               let a : first + 1 ≤ line = i.order in
               let b : line + 1 ≤ t = guard_order found (line + 1) in
@@ -94,5 +94,6 @@ module _ (names : (o p : WordOp) → name_of o ≡ name_of p → o ≡ p) (lines
                 pool = p.is.low;
                 guard = right_guard lines marks (line + 1) found h;
                 sets = (s.fit, s.right);
+                own_pins = s.own_pins;
                 ends = ends;
               }

@@ -7,7 +7,7 @@ use Rattle.text_core.specs.LineTexts.{Words}
 use Rattle.graph_meaning.specs.declared.graphs.InputClass.{InputClass}
 use Rattle.graph_meaning.specs.declared.graphs.Guard.{Guard}
 use Rattle.graph_meaning.specs.declared.graphs.SetClass.{SetClass}
-use Rattle.launch_graph.specs.GraphLines.{entry_words, in_words, pool_words, guard_words, held_word, set_words}
+use Rattle.launch_graph.specs.GraphLines.{entry_words, in_words, pool_words, guard_words, held_word, pin_words, set_words}
 use Rattle.launch_graph.specs.GraphTexts.{IsClassLine, entry, input, guard, set}
 use Rattle.graph_meaning.specs.WellFormed.{set_sort}
 
@@ -55,4 +55,4 @@ set_class s class sort low (input small e is) = absurd (let h : ◌≡◌ {A = �
 set_class s class sort low (guard small e is) = absurd (let h : ◌≡◌ {A = ℕ} 115 103 = begin_same _ _ _ _ e in omega (arith, h))
 set_class s class sort low (set {name = name} {words = ws} small e is) =
     let behind = rest_same _ _ _ _ e in
-    (one_class s.class class [] ws low small (rest_same _ _ _ _ behind), is ∙ ap set_sort (sym (head_same s.name name (decimal s.class ∷ []) (decimal class ∷ ws) behind)))
+    (one_class s.class class (pin_words s.pin) ws low small (rest_same _ _ _ _ behind), is ∙ ap set_sort (sym (head_same s.name name (decimal s.class ∷ pin_words s.pin) (decimal class ∷ ws) behind)))

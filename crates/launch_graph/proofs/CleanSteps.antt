@@ -14,9 +14,9 @@ use Rattle.launch_graph.proofs.Stages.{join}
 use Rattle.launch_graph.proofs.Between.{between_more, between_one}
 use Rattle.launch_graph.proofs.Blocks.{each_push}
 
-module _ (lines : List Line) (from count : ℕ) (all : List RowLine) where
+module _ {version : ℕ} (lines : List Line) (from count : ℕ) (all : List RowLine) where
   pub clean_start : from < length lines → (line_at lines from).words ≡ rows_words count → count ≤ 1000000
-      → AreRowLines (take count (drop (from + 1) lines)) all → IsClean lines from count all [] (from + 1) (rows count)
+      → AreRowLines (take count (drop (from + 1) lines)) all → IsClean version lines from count all [] (from + 1) (rows count)
   clean_start low is few are =
       record {
         low = low;
@@ -25,7 +25,7 @@ module _ (lines : List Line) (from count : ℕ) (all : List RowLine) where
         each = no_rows;
         all_are = are;
         good = λ i d lt. absurd (omega arith);
-        reaches = subst (λ ws. ReachesStage start ws (rows count)) (sym (between_one lines from low)) (go (header count few is) stay);
+        reaches = subst (λ ws. ReachesStage version start ws (rows count)) (sym (between_one lines from low)) (go (header count few is) stay);
         order = omega arith;
         within = omega arith;
         most = omega arith;
@@ -33,17 +33,17 @@ module _ (lines : List Line) (from count : ℕ) (all : List RowLine) where
         classes = λ j low less. absurd (omega arith);
       }
 
-  module _ (before : List RowLine) (at : ℕ) (c : IsClean lines from count all before at (rows (count - length before)))
+  module _ (before : List RowLine) (at : ℕ) (c : IsClean version lines from count all before at (rows (count - length before)))
       (one : RowLine) (lt : at < length lines) (here : at ≡ from + 1 + length before) (more : length before < count)
       (is : IsRowLine (line_at lines at).words one) (good : IsGoodRow count all before one) where
     pushed : length (before ++ one ∷ []) ≡ length before + 1
     pushed = length_push before one
 
-    pub row_step : Step (rows (count - length before)) (line_at lines at).words (rows (count - length (before ++ one ∷ [])))
+    pub row_step : Step version (rows (count - length before)) (line_at lines at).words (rows (count - length (before ++ one ∷ [])))
     row_step =
         let n : length (before ++ one ∷ []) ≡ length before + 1 = pushed in
         let k : count - length before ≡ suc (count - length (before ++ one ∷ [])) = omega arith in
-        subst (λ m. Step (rows m) (line_at lines at).words (rows (count - length (before ++ one ∷ [])))) (sym k) (row one is)
+        subst (λ m. Step version (rows m) (line_at lines at).words (rows (count - length (before ++ one ∷ [])))) (sym k) (row one is)
 
     each_more : EachRow (take (length (before ++ one ∷ [])) (drop (from + 1) lines)) (before ++ one ∷ [])
     each_more =
@@ -72,7 +72,7 @@ module _ (lines : List Line) (from count : ℕ) (all : List RowLine) where
               (sym (take-append-le i before (one ∷ []) (omega arith) ∙ take_all i before le)) good))
         ]
 
-    pub clean_row : IsClean lines from count all (before ++ one ∷ []) (at + 1) (rows (count - length (before ++ one ∷ [])))
+    pub clean_row : IsClean version lines from count all (before ++ one ∷ []) (at + 1) (rows (count - length (before ++ one ∷ [])))
     clean_row =
         let n : length (before ++ one ∷ []) ≡ length before + 1 = pushed in
         record {
@@ -83,7 +83,7 @@ module _ (lines : List Line) (from count : ℕ) (all : List RowLine) where
           all_are = c.all_are;
           good = good_more;
           reaches =
-              subst (λ ws. ReachesStage start ws (rows (count - length (before ++ one ∷ [])))) (sym (between_more lines from at (omega arith) lt))
+              subst (λ ws. ReachesStage version start ws (rows (count - length (before ++ one ∷ [])))) (sym (between_more lines from at (omega arith) lt))
               (join (words_between lines from at) ((line_at lines at).words ∷ []) start (rows (count - length before)) (rows (count - length (before ++ one ∷ []))) c.reaches (go row_step stay));
           order = omega arith;
           within = omega arith;

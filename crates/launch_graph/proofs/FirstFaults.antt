@@ -17,7 +17,7 @@ use Rattle.launch_graph.specs.GraphTexts.{BeginsWithGraph, IsGraphText, IsClassL
 use Rattle.launch_graph.specs.GraphStages.{Stage, start, over, Step, ReachesStage, stay, go}
 use Rattle.launch_graph.specs.RowLines.{IsRowLine}
 use Rattle.launch_graph.specs.RowFaults.{IsBadRow, IsBadClass, IsWrongClass}
-use Rattle.launch_graph.specs.LineFaults.{AreRowLines, IsBlock, IsRowAt, HasNoHeader, IsFaultAt, IsFirstGraphFault, line_rank, bad_line, missing, bad_row, bad_class, wrong_class}
+use Rattle.launch_graph.specs.LineFaults.{AreRowLines, IsBlock, IsRowAt, HasNoHeader, IsFaultAt, IsFirstFaultOf, line_rank, bad_line, missing, bad_row, bad_class, wrong_class}
 use Rattle.launch_graph.specs.CleanLines.{HasGoodClasses, IsClean}
 use Rattle.launch_graph.proofs.Stages.{one_stage, join}
 use Rattle.launch_graph.proofs.GraphRuns.{goes_text, text_goes, goes_part, IsDone, text_run}
@@ -26,8 +26,8 @@ use Rattle.launch_graph.proofs.Blocks.{rows_once, each_lines, each_take, each_at
 use Rattle.launch_graph.proofs.OneRow.{one_row_line}
 use Rattle.launch_graph.proofs.NoFaults.{step_at, header_here, no_bad_line}
 
-abbrev pub GraphFault : List Line → ℕ → ℕ → Kind → Type 0
-GraphFault lines from other kind = IsFaultAt BeginsWithGraph IsGraphText lines from other kind
+abbrev pub GraphFault : ℕ → List Line → ℕ → ℕ → Kind → Type 0
+GraphFault version lines from other kind = IsFaultAt (BeginsWithGraph version) (IsGraphText version) lines from other kind
 
 take_take : {X : Type 0} (n k : ℕ) (xs : List X) → n ≤ k → take n (take k xs) ≡ take n xs
 take_take zero k xs le = refl
@@ -59,10 +59,10 @@ record SameRow (before : List RowLine) (number : ℕ) (front : List RowLine) (on
   pub front_is : front ≡ take number before
   pub one_is : one ≡ get_or before number one
 
-module _ (names : (o p : WordOp) → name_of o ≡ name_of p → o ≡ p) (lines : List Line) (from count : ℕ) (all : List RowLine) where
-  module _ (before : List RowLine) (at : ℕ) (s : Stage) (c : IsClean lines from count all before at s) where
+module _ {version : ℕ} (names : (o p : WordOp) → name_of o ≡ name_of p → o ≡ p) (lines : List Line) (from count : ℕ) (all : List RowLine) where
+  module _ (before : List RowLine) (at : ℕ) (s : Stage) (c : IsClean version lines from count all before at s) where
     same_block : (first count' there : ℕ) (all' : List RowLine) → from < first → first ≤ there + 1 → IsBlock lines first count' all'
-        → GoesOn IsGraphText (words_between lines from (there + 1)) → SameBlock from count all first count' all'
+        → GoesOn (IsGraphText version) (words_between lines from (there + 1)) → SameBlock from count all first count' all'
     same_block first count' there all' low le block goes =
         let begins : first ≡ block.header + 1 = block.begins in
         let here : block.header ≡ from =
@@ -122,7 +122,7 @@ module _ (names : (o p : WordOp) → name_of o ≡ name_of p → o ≡ p) (lines
 
     -- ---- what is clean has no fault
 
-    pub no_fault : (other : ℕ) (kind : Kind) → GraphFault lines from other kind → at ≤ other
+    pub no_fault : (other : ℕ) (kind : Kind) → GraphFault version lines from other kind → at ≤ other
     no_fault other kind (bad_line low lt goes never) = no_bad_line lines from at other s c.reaches low never
     no_fault other kind (missing end goes never) = (let w : at ≤ length lines = c.within in omega arith)
     no_fault other kind (bad_row {first = first} {count = n} {number = number} {all = a} {before = front} {row = one} low block is at_is goes bad) =
@@ -163,9 +163,9 @@ module _ (names : (o p : WordOp) → name_of o ≡ name_of p → o ≡ p) (lines
 
     -- ---- the first fault behind
 
-    first_by : (place : ℕ) (kind : Kind) → GraphFault lines from at kind → BeginsAt lines at place
-        → ((another : Kind) → GraphFault lines from at another → line_rank kind ≤ line_rank another)
-        → IsFirstGraphFault lines from place kind
+    first_by : (place : ℕ) (kind : Kind) → GraphFault version lines from at kind → BeginsAt lines at place
+        → ((another : Kind) → GraphFault version lines from at another → line_rank kind ≤ line_rank another)
+        → IsFirstFaultOf version lines from place kind
     first_by place kind found placed ranked =
         record {
           at = at;
@@ -174,7 +174,7 @@ module _ (names : (o p : WordOp) → name_of o ≡ name_of p → o ≡ p) (lines
           earliest = λ other another f.
               (let le : at ≤ other = no_fault other another f in
               elim (cases_eq at other) [
-                | inl same ↦ inr (same, ranked another (subst (λ n. GraphFault lines from n another) (sym same) f))
+                | inl same ↦ inr (same, ranked another (subst (λ n. GraphFault version lines from n another) (sym same) f))
                 | inr apart ↦ inl (omega arith)
               ]);
         }
@@ -184,18 +184,18 @@ module _ (names : (o p : WordOp) → name_of o ≡ name_of p → o ≡ p) (lines
 
     -- no step leads on
     pub bad_line_first : (place : ℕ) → at < length lines → BeginsAt lines at place
-        → ((t : Stage) → Step s (line_at lines at).words t → ⊥) → IsFirstGraphFault lines from place BadLine
+        → ((t : Stage) → Step version s (line_at lines at).words t → ⊥) → IsFirstFaultOf version lines from place BadLine
     bad_line_first place lt placed never =
         first_by place BadLine
         (bad_line low_order lt (goes_text (words_between lines from at) s c.reaches)
         (λ goes.
         (let g = text_goes (words_between lines from (at + 1)) goes in
         let t = step_at lines from at g.0 low_order lt g.1 in
-        never g.0 (subst (λ x. Step x (line_at lines at).words g.0) (one_stage (words_between lines from at) start t.0 s t.1 c.reaches) t.2))))
+        never g.0 (subst (λ x. Step version x (line_at lines at).words g.0) (one_stage (words_between lines from at) start t.0 s t.1 c.reaches) t.2))))
         placed (λ another f. omega arith)
 
     -- the text ends where no graph can
-    pub missing_first : (place : ℕ) → at ≡ length lines → BeginsAt lines at place → (IsDone s → ⊥) → IsFirstGraphFault lines from place BadLine
+    pub missing_first : (place : ℕ) → at ≡ length lines → BeginsAt lines at place → (IsDone s → ⊥) → IsFirstFaultOf version lines from place BadLine
     missing_first place end placed never =
         first_by place BadLine
         (missing end (goes_text (words_between lines from at) s c.reaches)
@@ -204,14 +204,14 @@ module _ (names : (o p : WordOp) → name_of o ≡ name_of p → o ≡ p) (lines
         never (subst IsDone (one_stage (words_between lines from at) start r.0 s r.1 c.reaches) r.2))))
         placed (λ another f. omega arith)
 
-    module _ (t : Stage) (lt : at < length lines) (step : Step s (line_at lines at).words t) where
-      pub one_more : ReachesStage start (words_between lines from (at + 1)) t
+    module _ (t : Stage) (lt : at < length lines) (step : Step version s (line_at lines at).words t) where
+      pub one_more : ReachesStage version start (words_between lines from (at + 1)) t
       one_more =
-          subst (λ ws. ReachesStage start ws t) (sym (between_more lines from at low_order lt))
+          subst (λ ws. ReachesStage version start ws t) (sym (between_more lines from at low_order lt))
           (join (words_between lines from at) ((line_at lines at).words ∷ []) start s t c.reaches (go step stay))
 
       -- the line is no BadLine
-      ranked_one : (another : Kind) → GraphFault lines from at another → 1 ≤ line_rank another
+      ranked_one : (another : Kind) → GraphFault version lines from at another → 1 ≤ line_rank another
       ranked_one another (bad_line low less goes never) = absurd (never (goes_text (words_between lines from (at + 1)) t one_more))
       ranked_one another (missing end goes never) = absurd (omega arith)
       ranked_one another (bad_row low block is at_is goes bad) = omega arith
@@ -232,14 +232,14 @@ module _ (names : (o p : WordOp) → name_of o ≡ name_of p → o ≡ p) (lines
               before_are = each_lines (take (length before) (drop (from + 1) lines)) before c.each;
             }
 
-        pub bad_row_first : (place : ℕ) → BeginsAt lines at place → IsBadRow before one → IsFirstGraphFault lines from place BadRow
+        pub bad_row_first : (place : ℕ) → BeginsAt lines at place → IsBadRow before one → IsFirstFaultOf version lines from place BadRow
         bad_row_first place placed bad =
             first_by place BadRow
             (bad_row (omega arith) block_here row_at here (goes_part (words_between lines from (at + 1)) t one_more apart) bad)
             placed ranked_one
 
         -- the row of the line isn't BadRow
-        ranked_two : (IsBadRow before one → ⊥) → (another : Kind) → GraphFault lines from at another → 2 ≤ line_rank another
+        ranked_two : (IsBadRow before one → ⊥) → (another : Kind) → GraphFault version lines from at another → 2 ≤ line_rank another
         ranked_two right another (bad_line low less goes never) = absurd (never (goes_text (words_between lines from (at + 1)) t one_more))
         ranked_two right another (missing end goes never) = absurd (omega arith)
         ranked_two right another (bad_row {first = first} {count = n} {number = number} {all = a} {before = front} {row = other} low block is_at at_is goes bad) =
@@ -258,7 +258,7 @@ module _ (names : (o p : WordOp) → name_of o ≡ name_of p → o ≡ p) (lines
         ranked_two right another (wrong_class low block behind high none goes is_at wrong) = omega arith
 
         pub bad_class_first : (place : ℕ) → BeginsAt lines at place → (IsBadRow before one → ⊥) → IsBadClass count all before one
-            → IsFirstGraphFault lines from place BadClass
+            → IsFirstFaultOf version lines from place BadClass
         bad_class_first place placed right bad =
             first_by place BadClass
             (bad_class (omega arith) block_here row_at here (goes_part (words_between lines from (at + 1)) t one_more apart) bad)
@@ -276,7 +276,7 @@ module _ (names : (o p : WordOp) → name_of o ≡ name_of p → o ≡ p) (lines
             (goes_part (words_between lines from (at + 1)) t one_more apart) in
             omega arith
 
-        ranked_class : (another : Kind) → GraphFault lines from at another → 2 ≤ line_rank another
+        ranked_class : (another : Kind) → GraphFault version lines from at another → 2 ≤ line_rank another
         ranked_class another (bad_line low less goes never) = absurd (never (goes_text (words_between lines from (at + 1)) t one_more))
         ranked_class another (missing end goes never) = absurd (omega arith)
         ranked_class another (bad_row {first = first} {count = n} {number = number} {all = a} low block is_at at_is goes bad) =
@@ -291,13 +291,13 @@ module _ (names : (o p : WordOp) → name_of o ≡ name_of p → o ≡ p) (lines
         ranked_class another (wrong_class low block behind high none goes is_at wrong) = omega arith
 
         pub wrong_class_first : (place class : ℕ) (sort : Sort) → BeginsAt lines at place → IsClassLine (line_at lines at).words class sort
-            → IsWrongClass count all sort class → IsFirstGraphFault lines from place BadClass
+            → IsWrongClass count all sort class → IsFirstFaultOf version lines from place BadClass
         wrong_class_first place class sort placed is wrong =
             first_by place BadClass
             (wrong_class (omega arith) block_here behind_rows lt no_header (goes_part (words_between lines from (at + 1)) t one_more apart) is wrong)
             placed ranked_class
 
-        pub clean_line : HasGoodClasses count all (line_at lines at) → IsClean lines from count all before (at + 1) t
+        pub clean_line : HasGoodClasses count all (line_at lines at) → IsClean version lines from count all before (at + 1) t
         clean_line fine =
             record {
               low = c.low;

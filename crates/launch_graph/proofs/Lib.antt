@@ -10,6 +10,8 @@ pub mod FirstFaults
 pub mod GoodGraphs
 pub mod GoodRows
 pub mod ClassLines
+pub mod SetLines
+pub mod SetForms
 pub mod WholeGraphs
 pub mod OneGraph
 pub mod SameGraphLines

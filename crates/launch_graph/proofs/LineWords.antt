@@ -1,5 +1,5 @@
 -- Each line of a well-formed graph is words of a line.
-use Rattle.std.proofs.Common.{◌≡◌, ℕ, zero, suc, ◌<◌, ◌≤◌, ◌^◌, List, [], ◌∷◌, ◌++◌, length, map, get_or, refl, subst, arith, codes, decimal, Option, Some, None, true, false, Bool}
+use Rattle.std.proofs.Common.{◌≡◌, ℕ, zero, suc, ◌<◌, ◌≤◌, ◌^◌, List, [], ◌∷◌, ◌++◌, length, map, get_or, refl, sym, subst, arith, inl, inr, ◌⊎◌, codes, decimal, Option, Some, None, true, false, Bool}
 use Rattle.std.specs.Prelude.{All, IfSome, IsTrue, is_some, slice_get}
 use Rattle.std.proofs.lemmas.List.Elements.{All-nil, All-cons, All-append, All-map, All-weaker}
 use Rattle.std.proofs.lemmas.Option.{slice_get-get_or}
@@ -14,13 +14,14 @@ use Rattle.word_ops.specs.declared.sorts.Sort.TheVariants as sorts
 use Rattle.text_core.specs.Lines.{IsLineWord}
 use Rattle.text_core.specs.LineTexts.{Words, CanBeLine}
 use Rattle.text_core.specs.Names.{IsName}
+use Rattle.graph_meaning.specs.Graphs.{HasNoPins}
 use Rattle.graph_meaning.specs.declared.graphs.LaunchRow.{LaunchRow}
 use Rattle.graph_meaning.specs.declared.graphs.InputClass.{InputClass}
 use Rattle.graph_meaning.specs.declared.graphs.Guard.{Guard}
 use Rattle.graph_meaning.specs.declared.graphs.SetClass.{SetClass}
 use Rattle.graph_meaning.specs.declared.graphs.LaunchGraph.{LaunchGraph}
 use Rattle.launch_graph.specs.declared.row_lines.RowLine.{RowLine}
-use Rattle.launch_graph.specs.GraphLines.{graph_lines, said, said_row, said_op, AreGraphLines, rows_words, entry_words, in_words, pool_words, guard_words, guard_lines, held_word, set_words}
+use Rattle.launch_graph.specs.GraphLines.{graph_lines, said, said_row, said_op, AreGraphLines, PinFits, SetFits, rows_words, entry_words, in_words, pool_words, guard_words, guard_lines, held_word, pin_words, set_words}
 use Rattle.launch_graph.specs.RowLines.{row_words, line_op_words, IsRowLine, IsLineOp}
 use Rattle.graph_meaning.specs.WellFormed.{IsLaunchGraph, ClassHasSort, TakesItsSorts, declared_index, register_of_input, set_sort}
 use Rattle.graph_meaning.proofs.Classes.{class_below, rows_low}
@@ -101,6 +102,17 @@ op_row op.Load name low small named = tt
 op_row op.Put name low small named = tt
 op_row (op.Declared i a) name low small named = named refl
 
+-- in version 1 no set has a pin
+pub unpinned_lines : (sets : List SetClass) → All (SetFits 1) sets → All (λ (s : SetClass). s.pin ≡ None) sets
+unpinned_lines sets h k d lt = by_pin (get_or sets k d).pin (h k d lt).2
+  where
+    by_pin : (o : Option ℕ) → PinFits 1 o → o ≡ None
+    by_pin None fits = refl
+    by_pin (Some r) fits = (let one : ◌≡◌ {A = ℕ} 1 2 = fits.0 in absurd (omega (arith, one)))
+
+pub few_rows : (g : LaunchGraph) → length (map said_row g.rows) ≤ 1000000 → length g.rows ≤ 1000000
+few_rows g few = (let n = map_count said_row g.rows in omega (arith, n, few))
+
 module _ (g : LaunchGraph) (is : IsLaunchGraph g) where
   count : length (map said_row g.rows) ≡ length g.rows
   count = map_count said_row g.rows
@@ -152,19 +164,28 @@ module _ (g : LaunchGraph) (is : IsLaunchGraph g) where
   guard_fits None h = tt
   guard_fits (Some o) h = class_fits sorts.Word o.class h
 
-  abbrev SetFits : SetClass → Type 0
-  SetFits s = IsName s.name × (s.class < 2 ^ 31)
+  abbrev SetIsLow : SetClass → Type 0
+  SetIsLow s = IsName s.name × (s.class < 2 ^ 31) × IfSome s.pin (λ r. r < 31)
 
-  pub sets_fit : All SetFits g.sets
-  sets_fit k d lt =
-      (is.names.1 k d lt, class_fits (set_sort (get_or g.sets k d).name) (get_or g.sets k d).class (is.sets k d lt))
+  pub sets_low : All SetIsLow g.sets
+  sets_low k d lt =
+      (is.names.1 k d lt, class_fits (set_sort (get_or g.sets k d).name) (get_or g.sets k d).class (is.sets k d lt), is.pins k d lt)
 
   -- the words of a row say it
   pub rows_fit : All (λ (r : RowLine). IsRowLine (row_words r) r) (map said_row g.rows)
   rows_fit = All-map (λ (r : RowLine). IsRowLine (row_words r) r) said_row g.rows says_rows
 
-  pub are_graph_lines : length g.rows ≤ 1000000 → AreGraphLines (said g)
-  are_graph_lines few =
+  -- version 2 has each pin, and each version a set without one
+  pin_fits : (version : ℕ) → (version ≡ 2) ⊎ HasNoPins g → (k : ℕ) (d : SetClass) → k < length g.sets → PinFits version (get_or g.sets k d).pin
+  pin_fits version (inl two) k d lt = by_pin (get_or g.sets k d).pin (is.pins k d lt)
+    where
+      by_pin : (o : Option ℕ) → IfSome o (λ r. r < 31) → PinFits version o
+      by_pin None low = tt
+      by_pin (Some r) low = (two, low)
+  pin_fits version (inr unpinned) k d lt = subst (PinFits version) (sym (unpinned k d lt)) tt
+
+  pub are_graph_lines : (version : ℕ) → (version ≡ 2) ⊎ HasNoPins g → length g.rows ≤ 1000000 → AreGraphLines version (said g)
+  are_graph_lines version tells few =
       record {
         few = (let n : length (map said_row g.rows) ≡ length g.rows = count in omega arith);
         rows = rows_fit;
@@ -172,7 +193,8 @@ module _ (g : LaunchGraph) (is : IsLaunchGraph g) where
         inputs = inputs_fit;
         pool = is.pool;
         guard = guard_fits g.guard is.guard;
-        sets = sets_fit;
+        sets = λ k d lt. (let low = sets_low k d lt in (low.0, low.1, pin_fits version tells k d lt, is.memory_unpinned k d lt));
+        own_pins = is.own_pins;
       }
 
   module _ (number : (n : ℕ) → n < 2 ^ 64 → IsLineWord (decimal n)) (name : (bytes : List ℕ) → IsName bytes → IsLineWord bytes) where
@@ -225,10 +247,15 @@ module _ (g : LaunchGraph) (is : IsLaunchGraph g) where
         (two_words (decimal o.class) (held_word o.held) (small_number o.class h) (held_printed o.held)))
         (All-nil CanBeLine)
 
-    set_line : (s : SetClass) → SetFits s → CanBeLine (set_words s)
+    pin_word : (pin : Option ℕ) → IfSome pin (λ r. r < 31) → All IsLineWord (pin_words pin)
+    pin_word None h = All-nil IsLineWord
+    pin_word (Some r) h = (let low : r < 31 = h in one_word (decimal r) (number r (omega arith)))
+
+    set_line : (s : SetClass) → SetIsLow s → CanBeLine (set_words s)
     set_line s h =
-        fixed (codes "set") (record { some = λ e. cc; printed = refl }) (s.name ∷ decimal s.class ∷ [])
-        (two_words s.name (decimal s.class) (name s.name h.0) (small_number s.class h.1))
+        fixed (codes "set") (record { some = λ e. cc; printed = refl }) (s.name ∷ decimal s.class ∷ pin_words s.pin)
+        (All-cons IsLineWord s.name (decimal s.class ∷ pin_words s.pin) (name s.name h.0)
+        (All-cons IsLineWord (decimal s.class) (pin_words s.pin) (small_number s.class h.1) (pin_word s.pin h.2)))
 
     pub lines_have_words : All CanBeLine (graph_lines (said g))
     lines_have_words =
@@ -240,7 +267,7 @@ module _ (g : LaunchGraph) (is : IsLaunchGraph g) where
         let inputs : List Words = map in_words g.inputs ++ tail in
         let behind : List Words = entry_words g.entry ∷ inputs in
         let rows : List Words = map row_words (map said_row g.rows) in
-        let sets_are : All CanBeLine sets = All-map CanBeLine set_words g.sets (All-weaker SetFits (λ s. CanBeLine (set_words s)) set_line g.sets sets_fit) in
+        let sets_are : All CanBeLine sets = All-map CanBeLine set_words g.sets (All-weaker SetIsLow (λ s. CanBeLine (set_words s)) set_line g.sets sets_low) in
         let last_are : All CanBeLine last = All-append CanBeLine (guard_lines g.guard) sets (guard_line g.guard (guard_fits g.guard is.guard)) sets_are in
         let pool_is : CanBeLine (pool_words g.pool) =
         fixed (codes "pool") (record { some = λ e. cc; printed = refl }) (map decimal g.pool)

@@ -12,6 +12,7 @@ use Rattle.word_ops.specs.declared.sorts.Op.{Op}
 use Rattle.word_ops.specs.declared.sorts.Op.TheVariants.{Entry, Input, Constant, Word, Select, Store, Load, Put, Declared}
 use Rattle.word_ops.specs.declared.sorts.Sort.{Sort}
 use Rattle.word_ops.specs.declared.sorts.Sort.TheVariants as sorts
+use Rattle.graph_meaning.specs.Graphs.{HaveOwnPins, is_memory_name}
 use Rattle.graph_meaning.specs.declared.graphs.LaunchRow.{LaunchRow}
 use Rattle.graph_meaning.specs.declared.graphs.LaunchGraph.{LaunchGraph}
 use Rattle.launch_graph.specs.declared.index.RowKey.{RowKey}
@@ -296,8 +297,9 @@ module _ (g : LaunchGraph) (used : List UsedName) (keys : List RowKey) (h : AreN
   pub made_graph : length g.rows ≤ 1000000 → ClassHasSort g sorts.Memory g.entry
       → All (λ (i : InputClass). ClassHasSort g sorts.Word i.class × (i.reg < 31)) g.inputs → All (λ r. r < 31) g.pool
       → IfSome g.guard (λ (o : Guard). ClassHasSort g sorts.Word o.class) → All (λ (s : SetClass). ClassHasSort g (set_sort s.name) s.class) g.sets
-      → All (λ (i : InputClass). IsName i.name) g.inputs → All (λ (s : SetClass). IsName s.name) g.sets → IsLaunchGraph g
-  made_graph few entry inputs pool guard sets input_names set_names =
+      → All (λ (i : InputClass). IsName i.name) g.inputs → All (λ (s : SetClass). IsName s.name) g.sets
+      → All (λ (s : SetClass). IfSome s.pin (λ r. r < 31)) g.sets → HaveOwnPins g.sets → All (λ (s : SetClass). IsTrue (is_memory_name s.name) → s.pin ≡ None) g.sets → IsLaunchGraph g
+  made_graph few entry inputs pool guard sets input_names set_names pins own_pins memory_unpinned =
       record {
         few = omega arith;
         arities = h.arities;
@@ -319,4 +321,7 @@ module _ (g : LaunchGraph) (used : List UsedName) (keys : List RowKey) (h : AreN
         guard = guard;
         sets = sets;
         names = (input_names, set_names);
+        pins = pins;
+        own_pins = own_pins;
+        memory_unpinned = memory_unpinned;
       }

@@ -21,7 +21,7 @@ use Rattle.launch_graph.specs.declared.row_lines.RowLine.{RowLine}
 use Rattle.launch_graph.specs.declared.rows_reading.RowsSoFar.{RowsSoFar}
 use Rattle.launch_graph.specs.GraphLines.{said_row, said_op}
 use Rattle.launch_graph.specs.GraphStages.{Stage, rows, over, Step, row, entry}
-use Rattle.launch_graph.specs.LineFaults.{IsFirstGraphFault}
+use Rattle.launch_graph.specs.LineFaults.{IsFirstFaultOf}
 use Rattle.launch_graph.specs.Numbering.{IsNumberedOp, plain, again, anew, HasNoNumber, row_key, AreNumbered}
 use Rattle.launch_graph.specs.RowFaults.{IsBadRow, IsBadClass, repeated}
 use Rattle.launch_graph.specs.RowLines.{IsRowLine, IsLineOp}
@@ -41,18 +41,18 @@ rows_not_over : (n : ℕ) → rows n ≢ over
 rows_not_over n e = cc
 
 -- a stage with rows to go takes rows alone
-only_rows : (n : ℕ) (words : Words) (t : Stage) → 0 < n → ((r : RowLine) → IsRowLine words r → ⊥) → Step (rows n) words t → ⊥
+only_rows : {version : ℕ} (n : ℕ) (words : Words) (t : Stage) → 0 < n → ((r : RowLine) → IsRowLine words r → ⊥) → Step version (rows n) words t → ⊥
 only_rows zero words t some never (entry class low is) = omega arith
 only_rows (suc n) words t some never (row r is) = never r is
 
-module _ (names : (o p : WordOp) → name_of o ≡ name_of p → o ≡ p) (numbers : (o p : WordOp) → number_of o ≡ number_of p → o ≡ p)
+module _ {version : ℕ} (names : (o p : WordOp) → name_of o ≡ name_of p → o ≡ p) (numbers : (o p : WordOp) → number_of o ≡ number_of p → o ≡ p)
     (lines : List Line) (from : ℕ) (all before : List RowLine) (marks : List Mark) (at : ℕ) (so : RowsSoFar)
-    (a : AreRowsTo lines from all before marks at so) (more : length before < length marks) (lt : at < length lines)
+    (a : AreRowsTo version lines from all before marks at so) (more : length before < length marks) (lt : at < length lines)
     (place : ℕ) (placed : BeginsAt lines at place) where
   abbrev stage : Stage
   stage = rows (length marks - length before)
 
-  pub no_row_first : ((r : RowLine) → IsRowLine (line_at lines at).words r → ⊥) → IsFirstGraphFault lines from place BadLine
+  pub no_row_first : ((r : RowLine) → IsRowLine (line_at lines at).words r → ⊥) → IsFirstFaultOf version lines from place BadLine
   no_row_first never =
       bad_line_first names lines from (length marks) all before at stage a.clean place lt placed
       (λ t step. only_rows (length marks - length before) (line_at lines at).words t (omega arith) never step)
@@ -62,18 +62,18 @@ module _ (names : (o p : WordOp) → name_of o ≡ name_of p → o ≡ p) (numbe
     after = length marks - length (before ++ one ∷ [])
 
     -- the row alone leads on
-    step : Step stage (line_at lines at).words (rows after)
+    step : Step version stage (line_at lines at).words (rows after)
     step =
         let n : length (before ++ one ∷ []) ≡ length before + 1 = length_push before one in
         let k : length marks - length before ≡ suc after = omega arith in
-        subst (λ m. Step (rows m) (line_at lines at).words (rows after)) (sym k) (row one is)
+        subst (λ m. Step version (rows m) (line_at lines at).words (rows after)) (sym k) (row one is)
 
-    pub bad_first : IsBadRow before one → IsFirstGraphFault lines from place BadRow
+    pub bad_first : IsBadRow before one → IsFirstFaultOf version lines from place BadRow
     bad_first bad =
         bad_row_first names lines from (length marks) all before at stage a.clean (rows after) lt step one (rows_not_over after) a.place_is more is
         place placed bad
 
-    pub no_number_first : HasNoNumber so.used one.op (length one.operands) → IsFirstGraphFault lines from place BadRow
+    pub no_number_first : HasNoNumber so.used one.op (length one.operands) → IsFirstFaultOf version lines from place BadRow
     no_number_first none = bad_first (bad_of before so.used so.index so.rows a.numbered one none)
 
     module _ (used : List UsedName) (op : Op) (n : IsNumberedOp so.used used one.op (length one.operands) op) where
@@ -140,14 +140,14 @@ module _ (names : (o p : WordOp) → name_of o ≡ name_of p → o ≡ p) (numbe
           (same_four r.operands one.operands counts (omega arith) (ap (λ (k : RowKey). k.first) same) (ap (λ (k : RowKey). k.second) same)
           (ap (λ (k : RowKey). k.third) same) (ap (λ (k : RowKey). k.fourth) same))
 
-      pub not_fresh_first : Contains so.index (row_key op one.operands) → length one.operands ≤ 4 → IsFirstGraphFault lines from place BadRow
+      pub not_fresh_first : Contains so.index (row_key op one.operands) → length one.operands ≤ 4 → IsFirstFaultOf version lines from place BadRow
       not_fresh_first has few = bad_first (repeated_by has few)
 
       module _ (fresh : Contains so.index (row_key op one.operands) → ⊥) where
         right_row : IsBadRow before one → ⊥
         right_row = good_of before so.used so.index so.rows a.numbered one used op n fresh
 
-        pub class_first : IsBadClass (length marks) all before one → IsFirstGraphFault lines from place BadClass
+        pub class_first : IsBadClass (length marks) all before one → IsFirstFaultOf version lines from place BadClass
         class_first bad =
             bad_class_first names lines from (length marks) all before at stage a.clean (rows after) lt step one (rows_not_over after) a.place_is more is
             place placed right_row bad
@@ -157,7 +157,7 @@ module _ (names : (o p : WordOp) → name_of o ≡ name_of p → o ≡ p) (numbe
             → made.name ≡ line_op_name one.op → made.operands ≡ one.operands → (so' : RowsSoFar) → so'.used ≡ used
             → so'.index ≡ so.index ++ row_key op one.operands ∷ [] → so'.rows ≡ so.rows ++ made ∷ []
             → IsSeen (length marks) (before ++ one ∷ []) so'.next so'.constants.items
-            → AreRowsTo lines from all (before ++ one ∷ []) marks (at + 1) so'
+            → AreRowsTo version lines from all (before ++ one ∷ []) marks (at + 1) so'
         row_read right made c o nm ops so' us ks rs seen =
             record {
               clean =

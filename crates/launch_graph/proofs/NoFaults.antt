@@ -51,7 +51,7 @@ apart_set : codes "rows" ≡ codes "set" → ⊥
 apart_set e = (let h : ◌≡◌ {A = ℕ} 114 115 = ap (λ w. get_or w 0 0) e in omega (arith, h))
 
 -- a header is the first line
-header_first : (s t : Stage) (words rest : Words) → words ≡ codes "rows" ∷ rest → Step s words t → t ≢ over → s ≡ start
+header_first : {version : ℕ} (s t : Stage) (words rest : Words) → words ≡ codes "rows" ∷ rest → Step version s words t → t ≢ over → s ≡ start
 header_first s t words rest e (header c few is) n = refl
 header_first s t words rest e (row r is) n = absurd (row_no_header rest r (subst (λ w. IsRowLine w r) e is))
 header_first s t words rest e (entry c low is) n = absurd (apart_entry (begins_apart _ _ _ _ (sym e ∙ is)))
@@ -59,29 +59,12 @@ header_first s t words rest e (input i fits is) n = absurd (apart_in (begins_apa
 header_first s t words rest e (pool ns low is) n = absurd (apart_pool (begins_apart _ _ _ _ (sym e ∙ is)))
 header_first s t words rest e (guard o low is) n = absurd (apart_guard (begins_apart _ _ _ _ (sym e ∙ is)))
 header_first s t words rest e (first_set o low is) n = absurd (apart_set (begins_apart _ _ _ _ (sym e ∙ is)))
-header_first s t words rest e (set o low is) n = absurd (apart_set (begins_apart _ _ _ _ (sym e ∙ is)))
+header_first s t words rest e (set o low new is) n = absurd (apart_set (begins_apart _ _ _ _ (sym e ∙ is)))
 header_first s t words rest e (leave_pool h) n = absurd (n refl)
 header_first s t words rest e (leave h) n = absurd (n refl)
 header_first s t words rest e further n = absurd (n refl)
 
 module _ (lines : List Line) (from : ℕ) where
-  -- the stage behind fewer lines
-  pub front_stage : (a b : ℕ) (s : Stage) → from ≤ a → a ≤ b → ReachesStage start (words_between lines from b) s
-      → (t : Stage) × ReachesStage start (words_between lines from a) t × ReachesStage t (words_between lines a b) s
-  front_stage a b s low le h =
-      split (words_between lines from a) (words_between lines a b) start s
-      (subst (λ ws. ReachesStage start ws s) (between_split lines from a b low le) h)
-
-  -- the step of one line
-  pub step_at : (a : ℕ) (s : Stage) → from ≤ a → a < length lines → ReachesStage start (words_between lines from (a + 1)) s
-      → (t : Stage) × ReachesStage start (words_between lines from a) t × Step t (line_at lines a).words s
-  step_at a s low lt h =
-      let parts = split (words_between lines from a) ((line_at lines a).words ∷ []) start s (subst (λ ws. ReachesStage start ws s) (between_more lines from a low lt) h) in
-      (parts.0, parts.1, last parts.0 parts.2)
-    where
-      last : (t : Stage) → ReachesStage t ((line_at lines a).words ∷ []) s → Step t (line_at lines a).words s
-      last t (go h stay) = h
-
   empty_between : (a : ℕ) → from ≤ a → a < length lines → words_between lines from (a + 1) ≡ [] → ⊥
   empty_between a low lt e = (let size = ap length (sym (between_more lines from a low lt) ∙ e) in longer (words_between lines from a) size)
     where
@@ -102,20 +85,38 @@ module _ (lines : List Line) (from : ℕ) where
           split_le : (m n : ℕ) → m ≤ suc n → (m ≡ suc n) ⊎ (m ≤ n)
           split_le m n le = elim (cases_eq m (suc n)) [ inl same ↦ inl same | inr apart ↦ inr (omega arith) ]
 
+module _ {version : ℕ} (lines : List Line) (from : ℕ) where
+  -- the stage behind fewer lines
+  pub front_stage : (a b : ℕ) (s : Stage) → from ≤ a → a ≤ b → ReachesStage version start (words_between lines from b) s
+      → (t : Stage) × ReachesStage version start (words_between lines from a) t × ReachesStage version t (words_between lines a b) s
+  front_stage a b s low le h =
+      split (words_between lines from a) (words_between lines a b) start s
+      (subst (λ ws. ReachesStage version start ws s) (between_split lines from a b low le) h)
+
+  -- the step of one line
+  pub step_at : (a : ℕ) (s : Stage) → from ≤ a → a < length lines → ReachesStage version start (words_between lines from (a + 1)) s
+      → (t : Stage) × ReachesStage version start (words_between lines from a) t × Step version t (line_at lines a).words s
+  step_at a s low lt h =
+      let parts = split (words_between lines from a) ((line_at lines a).words ∷ []) start s (subst (λ ws. ReachesStage version start ws s) (between_more lines from a low lt) h) in
+      (parts.0, parts.1, last parts.0 parts.2)
+    where
+      last : (t : Stage) → ReachesStage version t ((line_at lines a).words ∷ []) s → Step version t (line_at lines a).words s
+      last t (go h stay) = h
+
   -- a header among the lines of a graph is its first line
   pub header_here : (h at : ℕ) (rest : Words) → from ≤ h → h < length lines → h ≤ at → (line_at lines h).words ≡ codes "rows" ∷ rest
-      → GoesOn IsGraphText (words_between lines from (at + 1)) → h ≡ from
+      → GoesOn (IsGraphText version) (words_between lines from (at + 1)) → h ≡ from
   header_here h at rest low lt le is goes =
       let p = part_goes (words_between lines from (at + 1)) goes in
       let f = front_stage (h + 1) (at + 1) p.0 (omega arith) (omega arith) p.1 in
-      let here : f.0 ≢ over = λ e. p.2 (stays_over (words_between lines (h + 1) (at + 1)) p.0 (subst (λ x. ReachesStage x (words_between lines (h + 1) (at + 1)) p.0) e f.2)) in
+      let here : f.0 ≢ over = λ e. p.2 (stays_over (words_between lines (h + 1) (at + 1)) p.0 (subst (λ x. ReachesStage version x (words_between lines (h + 1) (at + 1)) p.0) e f.2)) in
       let t = step_at h f.0 low lt f.1 in
       let first : t.0 ≡ start = header_first t.0 f.0 (line_at lines h).words rest is t.2 here in
-      between_empty h low (omega arith) (nothing_before (words_between lines from h) start (subst (λ x. ReachesStage start (words_between lines from h) x) first t.1)).0
+      between_empty lines from h low (omega arith) (nothing_before (words_between lines from h) start (subst (λ x. ReachesStage version start (words_between lines from h) x) first t.1)).0
 
   -- no line is wrong where a run goes on behind it
-  pub no_bad_line : (at other : ℕ) (s : Stage) → ReachesStage start (words_between lines from at) s → from ≤ other
-      → (GoesOn BeginsWithGraph (words_between lines from (other + 1)) → ⊥) → at ≤ other
+  pub no_bad_line : (at other : ℕ) (s : Stage) → ReachesStage version start (words_between lines from at) s → from ≤ other
+      → (GoesOn (BeginsWithGraph version) (words_between lines from (other + 1)) → ⊥) → at ≤ other
   no_bad_line at other s h low never = elim (cases_lt other at) [
     | inl less ↦ absurd (never (goes_text (words_between lines from (other + 1)) (front_stage (other + 1) at s (omega arith) (omega arith) h).0 (front_stage (other + 1) at s (omega arith) (omega arith) h).1))
     | inr le ↦ le

@@ -6,7 +6,7 @@ use Rattle.std.proofs.lemmas.Fmt.{decimal_injective}
 use Rattle.std.specs.List.{slice_range}
 use Rattle.std.proofs.lemmas.List.{length-drop, map-append}
 use Rattle.std.proofs.lemmas.List.Folds.{drop_split}
-use Rattle.std.proofs.lemmas.List.Elements.{All-head, All-tail}
+use Rattle.std.proofs.lemmas.List.Elements.{All-head, All-tail, All-weaker}
 use Rattle.std.proofs.lemmas.Option.{slice_get-get_or, none-some}
 use Rattle.word_ops.specs.Names.{name_of}
 use Rattle.word_ops.specs.Meanings.{arity_of_op, count_of}
@@ -24,9 +24,9 @@ use Rattle.graph_meaning.specs.declared.graphs.SetClass.{SetClass}
 use Rattle.graph_meaning.specs.declared.graphs.LaunchGraph.{LaunchGraph}
 use Rattle.launch_graph.specs.declared.row_lines.RowLine.{RowLine}
 use Rattle.launch_graph.specs.LineFormats.{words_between, words_from}
-use Rattle.launch_graph.specs.GraphLines.{GraphLines, said, said_row, said_op, rows_words, entry_words, in_words, pool_words, guard_words, held_word, guard_lines, set_words}
-use Rattle.launch_graph.specs.GraphTexts.{IsGraphAt, EndsGraph}
-use Rattle.launch_graph.specs.GraphStages.{InputFits, SetFits, Low, GuardFits}
+use Rattle.launch_graph.specs.GraphLines.{GraphLines, SetFits, said, said_row, said_op, rows_words, entry_words, in_words, pool_words, guard_words, held_word, guard_lines, pin_words, set_words}
+use Rattle.launch_graph.specs.GraphTexts.{IsGraphOf, EndsGraph}
+use Rattle.launch_graph.specs.GraphStages.{InputFits, Low, GuardFits}
 use Rattle.launch_graph.specs.declared.row_lines.LineOp.TheVariants.{Use}
 use Rattle.launch_graph.specs.LineFaults.{AreRowLines}
 use Rattle.launch_graph.specs.RowFaults.{names_used, ops_of}
@@ -35,6 +35,7 @@ use Rattle.launch_graph.proofs.Blocks.{rows_once, each_lines}
 use Rattle.launch_graph.proofs.ClassLines.{begin_same, head_same, rest_same}
 use Rattle.launch_graph.proofs.GoodGraphs.{SameSaid, same_plain, same_use, same_said, map_take, map_get, any_launch, names_upto, names_are, one_name}
 use Rattle.launch_graph.proofs.Printed.{map_count}
+use Rattle.launch_graph.proofs.SetLines.{SetIsLow, one_set, set_low}
 use Rattle.launch_graph.proofs.WholeGraphs.{cons_same, tail_lines, parts, block, tail_are, room}
 
 -- ---- lines behind the rows
@@ -55,19 +56,6 @@ one_input i j f g e =
     ap (λ n. input_of n i.reg i.class) (head_same i.name j.name (decimal i.reg ∷ decimal i.class ∷ []) (decimal j.reg ∷ decimal j.class ∷ []) behind)
     ∙ ap (λ r. input_of j.name r i.class) (decimal_injective i.reg j.reg (omega arith) (omega arith) (head_same (decimal i.reg) (decimal j.reg) (decimal i.class ∷ []) (decimal j.class ∷ []) numbers))
     ∙ ap (λ c. input_of j.name j.reg c) (decimal_injective i.class j.class (omega arith) (omega arith) (head_same (decimal i.class) (decimal j.class) [] [] classes))
-
-set_of : List ℕ → ℕ → SetClass
-set_of name class = record { name = name; class = class }
-
-one_set : (s t : SetClass) → SetFits s → SetFits t → set_words s ≡ set_words t → s ≡ t
-unfolding set_of
-one_set s t f g e =
-    let small : s.class < 2 ^ 31 = f.1 in
-    let fits : t.class < 2 ^ 31 = g.1 in
-    let behind = rest_same (codes "set") (codes "set") (s.name ∷ decimal s.class ∷ []) (t.name ∷ decimal t.class ∷ []) e in
-    let classes = rest_same s.name t.name (decimal s.class ∷ []) (decimal t.class ∷ []) behind in
-    ap (λ n. set_of n s.class) (head_same s.name t.name (decimal s.class ∷ []) (decimal t.class ∷ []) behind)
-    ∙ ap (λ c. set_of t.name c) (decimal_injective s.class t.class (omega arith) (omega arith) (head_same (decimal s.class) (decimal t.class) [] [] classes))
 
 one_held : (a b : Bool) → held_word a ≡ held_word b → a ≡ b
 one_held true true e = refl
@@ -102,23 +90,23 @@ no_set_behind s lines rest h e = (subst EndsGraph (sym e) h).1 refl
 no_guard_behind : (o : Guard) (lines rest : List Words) → EndsGraph rest → guard_words o ∷ lines ≡ rest → ⊥
 no_guard_behind o lines rest h e = (subst EndsGraph (sym e) h).0 refl
 
-same_sets : (ss ts : List SetClass) (r q : List Words) → All SetFits ss → All SetFits ts → EndsGraph r → EndsGraph q
+same_sets : (ss ts : List SetClass) (r q : List Words) → All SetIsLow ss → All SetIsLow ts → EndsGraph r → EndsGraph q
     → map set_words ss ++ r ≡ map set_words ts ++ q → (ss ≡ ts) × (r ≡ q)
 same_sets [] [] r q f g a b e = (refl, e)
 same_sets [] (t ∷ ts) r q f g a b e = absurd (no_set_behind t (map set_words ts ++ q) r a (sym e))
 same_sets (s ∷ ss) [] r q f g a b e = absurd (no_set_behind s (map set_words ss ++ r) q b e)
 same_sets (s ∷ ss) (t ∷ ts) r q f g a b e =
     let both = cons_same (set_words s) (set_words t) (map set_words ss ++ r) (map set_words ts ++ q) e in
-    let rest = same_sets ss ts r q (All-tail SetFits s ss f) (All-tail SetFits t ts g) a b both.1 in
-    (ap (λ x. x ∷ ss) (one_set s t (All-head SetFits s ss f) (All-head SetFits t ts g) both.0) ∙ ap (λ xs. t ∷ xs) rest.0, rest.1)
+    let rest = same_sets ss ts r q (All-tail SetIsLow s ss f) (All-tail SetIsLow t ts g) a b both.1 in
+    (ap (λ x. x ∷ ss) (one_set s t (All-head SetIsLow s ss f) (All-head SetIsLow t ts g) both.0) ∙ ap (λ xs. t ∷ xs) rest.0, rest.1)
 
 guard_apart : (o : Guard) (ss : List SetClass) (lines r : List Words) → EndsGraph r → guard_words o ∷ lines ≡ map set_words ss ++ r → ⊥
 guard_apart o [] lines r h e = no_guard_behind o lines r h e
 guard_apart o (s ∷ ss) lines r h e =
-    (let n : ◌≡◌ {A = ℕ} 103 115 = begin_same (codes "guard") (codes "set") (decimal o.class ∷ held_word o.held ∷ []) (s.name ∷ decimal s.class ∷ []) (cons_same (guard_words o) (set_words s) lines (map set_words ss ++ r) e).0 in
+    (let n : ◌≡◌ {A = ℕ} 103 115 = begin_same (codes "guard") (codes "set") (decimal o.class ∷ held_word o.held ∷ []) (s.name ∷ decimal s.class ∷ pin_words s.pin) (cons_same (guard_words o) (set_words s) lines (map set_words ss ++ r) e).0 in
     omega (arith, n))
 
-pub same_targets : (o p : Option Guard) (ss ts : List SetClass) (r q : List Words) → GuardFits o → GuardFits p → All SetFits ss → All SetFits ts
+pub same_targets : (o p : Option Guard) (ss ts : List SetClass) (r q : List Words) → GuardFits o → GuardFits p → All SetIsLow ss → All SetIsLow ts
     → EndsGraph r → EndsGraph q → guard_lines o ++ (map set_words ss ++ r) ≡ guard_lines p ++ (map set_words ts ++ q)
     → (o ≡ p) × (ss ≡ ts) × (r ≡ q)
 same_targets None None ss ts r q a b f g h j e = (let s = same_sets ss ts r q f g h j e in (refl, s.0, s.1))
@@ -276,17 +264,17 @@ one_count a b words la lb e f =
     decimal_injective a b (omega arith) (omega arith)
     (head_same (decimal a) (decimal b) [] [] (rest_same (codes "rows") (codes "rows") (decimal a ∷ []) (decimal b ∷ []) (sym e ∙ f)))
 
-module _ (names : (o p : WordOp) → name_of o ≡ name_of p → o ≡ p) (lines : List Line) (from : ℕ) where
-  from_split : (a c : ℕ) → a ≤ c → words_from lines a ≡ words_between lines a c ++ words_from lines c
-  from_split a c le =
-      ap words_of_lines (drop_split lines a c le)
-      ∙ map-append (λ (l : Line). l.words) (slice_range lines a c) (drop c lines)
+from_split : (lines : List Line) (a c : ℕ) → a ≤ c → words_from lines a ≡ words_between lines a c ++ words_from lines c
+from_split lines a c le =
+    ap words_of_lines (drop_split lines a c le)
+    ∙ map-append (λ (l : Line). l.words) (slice_range lines a c) (drop c lines)
 
-  words_count : (ls : List Line) → length (words_of_lines ls) ≡ length ls
-  words_count [] = refl
-  words_count (l ∷ ls) = ap suc (words_count ls)
+words_count : (ls : List Line) → length (words_of_lines ls) ≡ length ls
+words_count [] = refl
+words_count (l ∷ ls) = ap suc (words_count ls)
 
-  module _ (n m : ℕ) (g h : LaunchGraph) (p : IsGraphAt lines from n g) (q : IsGraphAt lines from m h) where
+module _ {version : ℕ} (names : (o p : WordOp) → name_of o ≡ name_of p → o ≡ p) (lines : List Line) (from : ℕ) where
+  module _ (n m : ℕ) (g h : LaunchGraph) (p : IsGraphOf version lines from n g) (q : IsGraphOf version lines from m h) where
     abbrev count : ℕ
     count = length (map said_row g.rows)
 
@@ -305,9 +293,9 @@ module _ (names : (o p : WordOp) → name_of o ≡ name_of p → o ≡ p) (lines
         let r : from + 1 + count < n = room lines from n g p in
         let s : from + 1 + length (map said_row h.rows) < m = room lines from m h q in
         ap (λ ws. ws ++ words_from lines n) (sym (tail_are lines from n g p))
-        ∙ sym (from_split (from + 1 + count) n (omega arith))
+        ∙ sym (from_split lines (from + 1 + count) n (omega arith))
         ∙ ap (λ k. words_from lines (from + 1 + k)) counts
-        ∙ from_split (from + 1 + length (map said_row h.rows)) m (omega arith)
+        ∙ from_split lines (from + 1 + length (map said_row h.rows)) m (omega arith)
         ∙ ap (λ ws. ws ++ words_from lines m) (tail_are lines from m h q)
 
     tail_then : (x : GraphLines) (rest : List Words) → tail_lines x ++ rest
@@ -323,7 +311,7 @@ module _ (names : (o p : WordOp) → name_of o ≡ name_of p → o ≡ p) (lines
         let second = same_inputs g.inputs h.inputs g.pool h.pool
         (guard_lines g.guard ++ (map set_words g.sets ++ words_from lines n))
         (guard_lines h.guard ++ (map set_words h.sets ++ words_from lines m)) p.are.inputs q.are.inputs p.are.pool q.are.pool first.1 in
-        let third = same_targets g.guard h.guard g.sets h.sets (words_from lines n) (words_from lines m) p.are.guard q.are.guard p.are.sets q.are.sets p.ends q.ends second.2 in
+        let third = same_targets g.guard h.guard g.sets h.sets (words_from lines n) (words_from lines m) p.are.guard q.are.guard (All-weaker (SetFits version) SetIsLow (set_low version) g.sets p.are.sets) (All-weaker (SetFits version) SetIsLow (set_low version) h.sets q.are.sets) p.ends q.ends second.2 in
         let low : g.entry < 2 ^ 31 = p.are.entry in
         let less : h.entry < 2 ^ 31 = q.are.entry in
         let entries : g.entry ≡ h.entry =

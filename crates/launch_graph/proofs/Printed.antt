@@ -6,8 +6,9 @@ use Rattle.std.proofs.lemmas.List.Concat.{flat_map-cons}
 use Rattle.std.proofs.lemmas.Grind.{flat_map-append}
 use Rattle.text_core.specs.LineTexts.{Words, line_text, lines_text}
 use Rattle.graph_meaning.specs.declared.graphs.LaunchRow.{LaunchRow}
+use Rattle.graph_meaning.specs.declared.graphs.SetClass.{SetClass}
 use Rattle.graph_meaning.specs.declared.graphs.LaunchGraph.{LaunchGraph}
-use Rattle.launch_graph.specs.GraphLines.{graph_lines, said, said_row, said_op, rows_words, entry_words, in_words, pool_words, guard_lines, set_words}
+use Rattle.launch_graph.specs.GraphLines.{graph_lines, said, said_row, said_op, rows_words, entry_words, in_words, pool_words, guard_lines, pin_words, set_words}
 use Rattle.launch_graph.specs.LineParts.{words_behind}
 use Rattle.launch_graph.specs.RowLines.{row_words, line_op_words}
 
@@ -81,6 +82,24 @@ pool_text pool start t1 t2 t3 e1 e2 e3 =
     two_pieces start (codes "pool") (numbers ++ codes "\n") t1 t3 e1 (two_pieces t1 numbers (codes "\n") t2 t3 e2 e3)
     ∙ ap (λ t. start ++ (codes "pool" ++ (t ++ codes "\n"))) (sym (words_numbers pool))
     ∙ ap (λ t. start ++ t) (sym (line_words (codes "pool") (map decimal pool)))
+
+pub set_text : (set : SetClass) (start t1 t2 t3 t4 t5 : List ℕ) → t1 ≡ start ++ codes "set"
+    → t2 ≡ t1 ++ (codes " " ++ set.name) → t3 ≡ t2 ++ (codes " " ++ decimal set.class)
+    → t4 ≡ t3 ++ words_behind (pin_words set.pin) → t5 ≡ t4 ++ codes "\n" → t5 ≡ start ++ line_text (set_words set)
+set_text set start t1 t2 t3 t4 t5 e1 e2 e3 e4 e5 =
+    let name : List ℕ = codes " " ++ set.name in
+    let class : List ℕ = codes " " ++ decimal set.class in
+    let pin : List ℕ = words_behind (pin_words set.pin) in
+    let words : words_behind (set.name ∷ decimal set.class ∷ pin_words set.pin) ≡ name ++ (class ++ pin) =
+    flat_map-cons (λ (u : List ℕ). codes " " ++ u) set.name (decimal set.class ∷ pin_words set.pin)
+    ∙ ap (λ t. name ++ t) (flat_map-cons (λ (u : List ℕ). codes " " ++ u) (decimal set.class) (pin_words set.pin)) in
+    two_pieces start (codes "set") (name ++ (class ++ (pin ++ codes "\n"))) t1 t5 e1
+    (two_pieces t1 name (class ++ (pin ++ codes "\n")) t2 t5 e2
+    (two_pieces t2 class (pin ++ codes "\n") t3 t5 e3 (two_pieces t3 pin (codes "\n") t4 t5 e4 e5)))
+    ∙ ap (λ t. start ++ (codes "set" ++ t))
+    (sym (ap (λ t. t ++ codes "\n") words ∙ append_assoc name (class ++ pin) (codes "\n")
+    ∙ ap (λ t. name ++ t) (append_assoc class pin (codes "\n"))))
+    ∙ ap (λ t. start ++ t) (sym (line_words (codes "set") (set.name ∷ decimal set.class ∷ pin_words set.pin)))
 
 map_again : {X Y Z : Type 0} (f : X → Y) (h : Y → Z) (xs : List X) → map h (map f xs) ≡ map (λ x. h (f x)) xs
 map_again f h [] = refl

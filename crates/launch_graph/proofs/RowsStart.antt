@@ -46,15 +46,15 @@ nothing_numbered =
     }
 
 -- behind the header nothing is read yet
-pub rows_start : (lines : List Line) (from : ℕ) (all : List RowLine) (marks : List Mark) (so : RowsSoFar) → from < length lines
+pub rows_start : {version : ℕ} (lines : List Line) (from : ℕ) (all : List RowLine) (marks : List Mark) (so : RowsSoFar) → from < length lines
     → (line_at lines from).words ≡ rows_words (length marks) → length marks ≤ 1000000
     → AreRowLines (take (length marks) (drop (from + 1) lines)) all → AreMarks (length marks) all marks
     → so.used ≡ [] → so.index ≡ [] → so.rows ≡ [] → so.next ≡ 0 → length so.constants.items ≡ length marks
-    → ((k : ℕ) → get_or so.constants.items k None ≡ None) → AreRowsTo lines from all [] marks (from + 1) so
-rows_start lines from all marks so low is few are marks_are us ks rs n size none =
+    → ((k : ℕ) → get_or so.constants.items k None ≡ None) → AreRowsTo version lines from all [] marks (from + 1) so
+rows_start {version} lines from all marks so low is few are marks_are us ks rs n size none =
     record {
       clean =
-          subst (λ k. IsClean lines from (length marks) all [] (from + 1) (rows k)) (let k : length marks ≡ length marks - 0 = omega arith in k)
+          subst (λ k. IsClean version lines from (length marks) all [] (from + 1) (rows k)) (let k : length marks ≡ length marks - 0 = omega arith in k)
           (clean_start lines from (length marks) all low is few are);
       place_is = omega arith;
       marks_are = marks_are;
@@ -65,8 +65,8 @@ rows_start lines from all marks so low is few are marks_are us ks rs n size none
     }
 
 -- where all rows are read, they are those of the block
-pub rows_end : (names : (o p : WordOp) → name_of o ≡ name_of p → o ≡ p) (lines : List Line) (from : ℕ) (all before : List RowLine) (marks : List Mark) (at : ℕ) (so : RowsSoFar)
-    → AreRowsTo lines from all before marks at so → length before ≡ length marks → before ≡ all
+pub rows_end : {version : ℕ} (names : (o p : WordOp) → name_of o ≡ name_of p → o ≡ p) (lines : List Line) (from : ℕ) (all before : List RowLine) (marks : List Mark) (at : ℕ) (so : RowsSoFar)
+    → AreRowsTo version lines from all before marks at so → length before ≡ length marks → before ≡ all
 rows_end names lines from all before marks at so a full =
     rows_once names (take (length marks) (drop (from + 1) lines)) before all
     (subst (λ k. AreRowLines (take k (drop (from + 1) lines)) before) full

@@ -1,5 +1,5 @@
 -- Well-formed graphs that have the same lines are one graph.
-use Rattle.std.proofs.Common.{◌≡◌, ℕ, suc, ◌+◌, ◌<◌, ◌≤◌, ◌^◌, List, [], ◌∷◌, ◌++◌, length, map, refl, sym, ap, subst, ◌∙◌, append_assoc, arith, codes, decimal}
+use Rattle.std.proofs.Common.{◌≡◌, ◌<◌, ◌^◌, List, [], ◌∷◌, ◌++◌, length, map, refl, sym, ap, subst, ◌∙◌, append_assoc, arith, codes, decimal}
 use Rattle.std.specs.Prelude.{All}
 use Rattle.std.proofs.lemmas.Fmt.{decimal_injective}
 use Rattle.std.proofs.lemmas.List.Elements.{All-head, All-tail}
@@ -13,7 +13,7 @@ use Rattle.launch_graph.specs.GraphTexts.{EndsGraph}
 use Rattle.launch_graph.specs.RowLines.{IsRowLine, row_words}
 use Rattle.graph_meaning.specs.WellFormed.{IsLaunchGraph}
 use Rattle.launch_graph.proofs.ClassLines.{head_same, rest_same}
-use Rattle.launch_graph.proofs.LineWords.{entry_fits, guard_fits, inputs_fit, rows_fit, sets_fit}
+use Rattle.launch_graph.proofs.LineWords.{entry_fits, guard_fits, inputs_fit, rows_fit, sets_low}
 use Rattle.launch_graph.proofs.OneGraph.{rows_alike, same_graph, same_inputs, same_targets}
 use Rattle.launch_graph.proofs.OneRow.{one_row_line}
 use Rattle.launch_graph.proofs.Printed.{map_count}
@@ -85,7 +85,7 @@ module _ (names : (o p : WordOp) → name_of o ≡ name_of p → o ≡ p) where
         (guard_lines h.guard ++ (map set_words h.sets ++ other)) (inputs_fit g is) (inputs_fit h also) is.pool also.pool
         first.1 in
         let third = same_targets g.guard h.guard g.sets h.sets behind other (guard_fits g is g.guard is.guard)
-        (guard_fits h also h.guard also.guard) (sets_fit g is) (sets_fit h also) ends stops second.2 in
+        (guard_fits h also h.guard also.guard) (sets_low g is) (sets_low h also) ends stops second.2 in
         let low : g.entry < 2 ^ 31 = entry_fits g is in
         let less : h.entry < 2 ^ 31 = entry_fits h also in
         let entries : g.entry ≡ h.entry =

@@ -19,7 +19,7 @@ use Rattle.graph_meaning.specs.declared.graphs.LaunchGraph.{LaunchGraph}
 use Rattle.launch_graph.specs.declared.row_lines.RowLine.{RowLine}
 use Rattle.launch_graph.specs.LineFormats.{words_between, GoesOn}
 use Rattle.launch_graph.specs.GraphLines.{GraphLines, AreGraphLines, graph_lines, said, said_row, rows_words, entry_words, in_words, pool_words, guard_words, guard_lines, set_words}
-use Rattle.launch_graph.specs.GraphTexts.{IsGraphText, IsGraphAt, EndsGraph, IsNoTarget, IsClassLine}
+use Rattle.launch_graph.specs.GraphTexts.{IsGraphText, IsGraphOf, EndsGraph, IsNoTarget, IsClassLine}
 use Rattle.launch_graph.specs.GraphStages.{RowFits, Stage, start, over, Step, ReachesStage, leave_pool, leave}
 use Rattle.launch_graph.specs.RowLines.{IsRowLine, row_words}
 use Rattle.launch_graph.specs.RowFaults.{IsWrongClass}
@@ -87,7 +87,7 @@ tail_lines g = entry_words g.entry ∷ (map in_words g.inputs ++ (pool_words g.p
 abbrev pub GoodWords : ℕ → List RowLine → Words → Type 0
 GoodWords count all words = (class : ℕ) (sort : Sort) → IsClassLine words class sort → IsWrongClass count all sort class → ⊥
 
-module _ (g : LaunchGraph) (is : IsLaunchGraph g) (are : AreGraphLines (said g)) where
+module _ {version : ℕ} (g : LaunchGraph) (is : IsLaunchGraph g) (are : AreGraphLines version (said g)) where
   abbrev rows_are : List RowLine
   rows_are = map said_row g.rows
 
@@ -128,7 +128,7 @@ module _ (g : LaunchGraph) (is : IsLaunchGraph g) (are : AreGraphLines (said g))
       (All-cons Good (pool_words g.pool) last good_pool
       (All-append Good (guard_lines g.guard) (map set_words g.sets) (good_guard g.guard is.guard are.guard) (All-map Good set_words g.sets good_sets))))
 
-module _ (lines : List Line) (from next : ℕ) (g : LaunchGraph) (h : IsGraphAt lines from next g) where
+module _ {version : ℕ} (lines : List Line) (from next : ℕ) (g : LaunchGraph) (h : IsGraphOf version lines from next g) where
   abbrev said_rows : List RowLine
   said_rows = map said_row g.rows
 
@@ -185,10 +185,10 @@ module _ (lines : List Line) (from next : ℕ) (g : LaunchGraph) (h : IsGraphAt 
       each_of (take count (drop (from + 1) lines)) said_rows h.are.rows
       (ap (λ k. words_of_lines (take k (drop (from + 1) lines))) (sym n) ∙ row_lines)
 
-  pub run : (u : Stage) × ReachesStage start (words_between lines from next) u × IsEnd u
+  pub run : (u : Stage) × ReachesStage version start (words_between lines from next) u × IsEnd u
   run =
       let r = graph_run (said g) h.are in
-      (r.0, subst (λ ws. ReachesStage start ws r.0) (sym h.is) r.1, r.2)
+      (r.0, subst (λ ws. ReachesStage version start ws r.0) (sym h.is) r.1, r.2)
 
   tail_good : (j : ℕ) → from + 1 + count ≤ j → j < next → GoodWords (length g.rows) said_rows (line_at lines j).words
   tail_good j low high =
@@ -201,7 +201,7 @@ module _ (lines : List Line) (from next : ℕ) (g : LaunchGraph) (h : IsGraphAt 
   pub counted : count ≡ length g.rows
   counted = map_count said_row g.rows
 
-  pub clean_whole : IsClean lines from count said_rows said_rows next run.0
+  pub clean_whole : IsClean version lines from count said_rows said_rows next run.0
   clean_whole =
       let r : from + 1 + count < next = room in
       let w : next ≤ length lines = h.within in
@@ -246,35 +246,35 @@ module _ (lines : List Line) (from next : ℕ) (g : LaunchGraph) (h : IsGraphAt 
         first_ends low =
             subst EndsGraph (ap words_of_lines (drop-cons lines next (record { place = 0; words = [] }) low)) h.ends
 
-    pub no_fault_whole : (other : ℕ) (kind : Kind) → GraphFault lines from other kind → ⊥
+    pub no_fault_whole : (other : ℕ) (kind : Kind) → GraphFault version lines from other kind → ⊥
     no_fault_whole other kind f = behind other kind f (no_fault names lines from count said_rows said_rows next run.0 clean_whole other kind f)
       where
-        run_to : (c : ℕ) → next ≤ c → (u : Stage) × ReachesStage start (words_between lines from c) u × IsDone u
+        run_to : (c : ℕ) → next ≤ c → (u : Stage) × ReachesStage version start (words_between lines from c) u × IsDone u
         run_to c le =
             let e = ends_from run.0 (words_between lines next c) run.2 (front_ends c le) in (
               e.0,
-              subst (λ ws. ReachesStage start ws e.0) (sym (between_split lines from next c h.order le)) (join (words_between lines from next) (words_between lines next c) start run.0 e.0 run.1 e.1),
+              subst (λ ws. ReachesStage version start ws e.0) (sym (between_split lines from next c h.order le)) (join (words_between lines from next) (words_between lines next c) start run.0 e.0 run.1 e.1),
               e.2,
             )
 
         -- a graph alone doesn't go on behind its end
-        not_part : (c : ℕ) → next < c → c ≤ length lines → GoesOn IsGraphText (words_between lines from c) → ⊥
+        not_part : (c : ℕ) → next < c → c ≤ length lines → GoesOn (IsGraphText version) (words_between lines from c) → ⊥
         not_part c less within goes =
             let p = part_goes (words_between lines from c) goes in
             let s = front_stage lines from (next + 1) c p.0 (let o : from ≤ next = h.order in omega arith) (omega arith) p.1 in
             let t = step_at lines from next s.0 h.order (omega arith) s.1 in
-            let here : Step run.0 (line_at lines next).words s.0 = subst (λ x. Step x (line_at lines next).words s.0) (one_stage (words_between lines from next) start t.0 run.0 t.1 run.1) t.2 in
+            let here : Step version run.0 (line_at lines next).words s.0 = subst (λ x. Step version x (line_at lines next).words s.0) (one_stage (words_between lines from next) start t.0 run.0 t.1 run.1) t.2 in
             let gone : s.0 ≡ over = one_step run.0 s.0 over (line_at lines next).words here (away run.0 (line_at lines next).words run.2 (first_target (omega arith))) in
-            p.2 (stays_over (words_between lines (next + 1) c) p.0 (subst (λ x. ReachesStage x (words_between lines (next + 1) c) p.0) gone s.2))
+            p.2 (stays_over (words_between lines (next + 1) c) p.0 (subst (λ x. ReachesStage version x (words_between lines (next + 1) c) p.0) gone s.2))
           where
-            away : (s : Stage) (words : Words) → IsEnd s → IsNoTarget words → Step s words over
+            away : (s : Stage) (words : Words) → IsEnd s → IsNoTarget words → Step version s words over
             away s words no_guard h = leave_pool h
             away s words targets h = leave h
 
             first_target : next < length lines → IsNoTarget (line_at lines next).words
             first_target low = subst EndsGraph (ap words_of_lines (drop-cons lines next (record { place = 0; words = [] }) low)) h.ends
 
-        behind : (o : ℕ) (k : Kind) → GraphFault lines from o k → next ≤ o → ⊥
+        behind : (o : ℕ) (k : Kind) → GraphFault version lines from o k → next ≤ o → ⊥
         behind o k (bad_line low lt goes never) le =
             never (goes_text (words_between lines from (o + 1)) (run_to (o + 1) (omega arith)).0 (run_to (o + 1) (omega arith)).1)
         behind o k (missing end goes never) le = never (told (words_between lines from o) (run_to o le).0 (run_to o le).2 (run_to o le).1)

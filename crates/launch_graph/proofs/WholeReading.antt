@@ -20,9 +20,9 @@ use Rattle.launch_graph.specs.declared.rows_reading.RowsSoFar.{RowsSoFar}
 use Rattle.launch_graph.specs.BehindRows.{IsRight, IsCleanBehindRows, IsReadBehind}
 use Rattle.launch_graph.specs.ClassMarks.{AreMarks, HasMarks}
 use Rattle.launch_graph.specs.CleanLines.{EachRow, no_rows, row, IsGoodRow, IsClean}
-use Rattle.launch_graph.specs.GraphLines.{said_row, said, graph_lines, AreGraphLines, rows_words}
-use Rattle.launch_graph.specs.GraphStages.{rows, RowFits, InputFits, SetFits}
-use Rattle.launch_graph.specs.GraphTexts.{IsGraphAt}
+use Rattle.launch_graph.specs.GraphLines.{said_row, said, graph_lines, AreGraphLines, SetFits, rows_words}
+use Rattle.launch_graph.specs.GraphStages.{rows, RowFits, InputFits}
+use Rattle.launch_graph.specs.GraphTexts.{IsGraphOf}
 use Rattle.launch_graph.specs.LineFaults.{AreRowLines}
 use Rattle.launch_graph.specs.LineFormats.{words_between}
 use Rattle.launch_graph.specs.Readings.{IsHeaderAt, IsBlockEnd}
@@ -30,6 +30,7 @@ use Rattle.launch_graph.specs.RowFaults.{IsWrongClass}
 use Rattle.launch_graph.specs.RowLines.{row_words}
 use Rattle.launch_graph.specs.RowsRead.{AreRowsTo, IsBlockFrom, HasRead}
 use Rattle.graph_meaning.specs.WellFormed.{IsLaunchGraph, ClassHasSort, set_sort}
+use Rattle.launch_graph.proofs.SetLines.{set_low}
 use Rattle.launch_graph.proofs.Between.{between_split, between_first}
 use Rattle.launch_graph.proofs.GraphRuns.{row_itself}
 use Rattle.launch_graph.proofs.MadeGraphs.{right_class, made_graph}
@@ -73,19 +74,19 @@ module _ (lines : List Line) (from count : ℕ) (marks : List Mark) (h : IsHeade
 
 -- ---- the rows are read
 
-module _ (names : (o p : WordOp) → name_of o ≡ name_of p → o ≡ p) (lines : List Line) (from : ℕ) (all : List RowLine) (marks : List Mark)
+module _ {version : ℕ} (names : (o p : WordOp) → name_of o ≡ name_of p → o ≡ p) (lines : List Line) (from : ℕ) (all : List RowLine) (marks : List Mark)
     (at : ℕ) (so : RowsSoFar) where
-  pub all_rows : (before : List RowLine) → AreRowsTo lines from all before marks at so → length before ≡ length marks
-      → AreRowsTo lines from all all marks at so
-  all_rows before a full = subst (λ rs. AreRowsTo lines from all rs marks at so) (rows_end names lines from all before marks at so a full) a
+  pub all_rows : (before : List RowLine) → AreRowsTo version lines from all before marks at so → length before ≡ length marks
+      → AreRowsTo version lines from all all marks at so
+  all_rows before a full = subst (λ rs. AreRowsTo version lines from all rs marks at so) (rows_end names lines from all before marks at so a full) a
 
-  pub all_count : (before : List RowLine) → AreRowsTo lines from all before marks at so → length before ≡ length marks → length all ≡ length marks
+  pub all_count : (before : List RowLine) → AreRowsTo version lines from all before marks at so → length before ≡ length marks → length all ≡ length marks
   all_count before a full = ap length (sym (rows_end names lines from all before marks at so a full)) ∙ full
 
-  pub begins_behind : AreRowsTo lines from all all marks at so → length all ≡ length marks → IsCleanBehindRows lines from all marks at (rows 0)
+  pub begins_behind : AreRowsTo version lines from all all marks at so → length all ≡ length marks → IsCleanBehindRows version lines from all marks at (rows 0)
   begins_behind a full =
       record {
-        clean = subst (λ n. IsClean lines from (length marks) all all at (rows n)) (omega (arith, full)) a.clean;
+        clean = subst (λ n. IsClean version lines from (length marks) all all at (rows n)) (omega (arith, full)) a.clean;
         full = full;
         marks_are = a.marks_are;
       }
@@ -107,9 +108,9 @@ each_fits (l ∷ ls) (r ∷ rs) (row is more) = All-cons RowFits r rs (row_itsel
 abbrev pub graph_of : RowsSoFar → BehindRows → LaunchGraph
 graph_of so b = record { rows = so.rows; entry = b.entry; inputs = b.inputs; pool = b.pool; guard = b.guard; sets = b.sets }
 
-module _ (lines : List Line) (from at next : ℕ) (marks : List Mark) (so : RowsSoFar) (b : BehindRows)
-    (a : AreRowsTo lines from (map said_row so.rows) (map said_row so.rows) marks at so) (full : length so.rows ≡ length marks)
-    (h : IsReadBehind lines marks at next b) where
+module _ {version : ℕ} (lines : List Line) (from at next : ℕ) (marks : List Mark) (so : RowsSoFar) (b : BehindRows)
+    (a : AreRowsTo version lines from (map said_row so.rows) (map said_row so.rows) marks at so) (full : length so.rows ≡ length marks)
+    (h : IsReadBehind version lines marks at next b) where
   abbrev g : LaunchGraph
   g = graph_of so b
 
@@ -152,11 +153,11 @@ module _ (lines : List Line) (from at next : ℕ) (marks : List Mark) (so : Rows
       (both InputFits (λ (i : InputClass). IsRight marks sorts.Word i.class) (λ (i : InputClass). ClassHasSort g sorts.Word i.class × (i.reg < 31)) b.inputs
       h.inputs.0 h.inputs.1 (λ i f r. (has sorts.Word i.class r, f.1)))
       h.pool (guard_has b.guard h.guard)
-      (both SetFits (λ (s : SetClass). IsRight marks (set_sort s.name) s.class) (λ (s : SetClass). ClassHasSort g (set_sort s.name) s.class) b.sets
+      (both (SetFits version) (λ (s : SetClass). IsRight marks (set_sort s.name) s.class) (λ (s : SetClass). ClassHasSort g (set_sort s.name) s.class) b.sets
       h.sets.0 h.sets.1 (λ s f r. has (set_sort s.name) s.class r))
-      (λ k d lt. (h.inputs.0 k d lt).0) (λ k d lt. (h.sets.0 k d lt).0)
+      (λ k d lt. (h.inputs.0 k d lt).0) (λ k d lt. (h.sets.0 k d lt).0) (λ k d lt. (set_low version (get_or b.sets k d) (h.sets.0 k d lt)).2) h.own_pins (λ k d lt. (h.sets.0 k d lt).3)
 
-  are_lines : AreGraphLines (said g)
+  are_lines : AreGraphLines version (said g)
   are_lines =
       record {
         few = omega (arith, few, counted);
@@ -166,6 +167,7 @@ module _ (lines : List Line) (from at next : ℕ) (marks : List Mark) (so : Rows
         pool = h.pool;
         guard = guard_small b.guard h.guard;
         sets = h.sets.0;
+        own_pins = h.own_pins;
       }
 
   row_lines : words_between lines (from + 1) at ≡ map row_words all
@@ -186,7 +188,7 @@ module _ (lines : List Line) (from at next : ℕ) (marks : List Mark) (so : Rows
       ∙ ap (λ (ws : List Words). ws ++ words_between lines at next) row_lines
       ∙ ap (λ (ws : List Words). map row_words all ++ ws) h.words)
 
-  pub graph_read : IsGraphAt lines from next g
+  pub graph_read : IsGraphOf version lines from next g
   graph_read =
       record {
         order = (let p : at ≡ from + 1 + length all = a.place_is in let o : at ≤ next = h.order in omega arith);
@@ -198,13 +200,13 @@ module _ (lines : List Line) (from at next : ℕ) (marks : List Mark) (so : Rows
       }
 
 -- the rows of the block are those that were read
-pub graph_by_rows : (lines : List Line) (from at next : ℕ) (all : List RowLine) (marks : List Mark) (so : RowsSoFar) (b : BehindRows)
-    → AreRowsTo lines from all all marks at so → length all ≡ length marks → IsReadBehind lines marks at next b
-    → IsGraphAt lines from next (graph_of so b)
-graph_by_rows lines from at next all marks so b a full h =
+pub graph_by_rows : {version : ℕ} (lines : List Line) (from at next : ℕ) (all : List RowLine) (marks : List Mark) (so : RowsSoFar) (b : BehindRows)
+    → AreRowsTo version lines from all all marks at so → length all ≡ length marks → IsReadBehind version lines marks at next b
+    → IsGraphOf version lines from next (graph_of so b)
+graph_by_rows {version} lines from at next all marks so b a full h =
     let same : all ≡ map said_row so.rows = sym a.numbered.said_are in
     let count : length (map said_row so.rows) ≡ length so.rows = map_count said_row so.rows in
-    graph_read lines from at next marks so b (subst (λ rs. AreRowsTo lines from rs rs marks at so) same a)
+    graph_read lines from at next marks so b (subst (λ rs. AreRowsTo version lines from rs rs marks at so) same a)
     (sym count ∙ ap length (sym same) ∙ full) h
 
 -- ---- behind the header
@@ -212,14 +214,14 @@ graph_by_rows lines from at next all marks so b a full h =
 module _ (names : (o p : WordOp) → name_of o ≡ name_of p → o ≡ p) (lines : List Line) (from count : ℕ) (marks : List Mark)
     (h : IsHeaderAt lines from count) (end : ℕ) (b : IsBlockEnd lines (from + 1) count end)
     (m : HasMarks (take (end - (from + 1)) (drop (from + 1) lines)) count marks) (so : RowsSoFar)
-    (read : HasRead lines marks (from + 1) (length marks) so) where
+    (read : HasRead lines marks (from + 1) (length marks) so) (version : ℕ) where
   abbrev at : ℕ
   at = from + 1 + length marks
 
-  here : (before : List RowLine) × AreRowsTo lines from m.rows before marks at so × (length before ≡ length marks)
-  here = read from m.rows (block lines from count marks h end b m)
+  here : (before : List RowLine) × AreRowsTo version lines from m.rows before marks at so × (length before ≡ length marks)
+  here = read version from m.rows (block lines from count marks h end b m)
 
-  rows_here : AreRowsTo lines from m.rows m.rows marks at so
+  rows_here : AreRowsTo version lines from m.rows m.rows marks at so
   rows_here = all_rows names lines from m.rows marks at so here.0 here.1 here.2
 
   full_here : length m.rows ≡ length marks
@@ -231,13 +233,13 @@ module _ (names : (o p : WordOp) → name_of o ≡ name_of p → o ≡ p) (lines
   pub behind_within : from + 1 + count ≤ length lines
   behind_within = subst (λ n. n ≤ length lines) at_is rows_here.clean.within
 
-  pub behind_here : IsCleanBehindRows lines from m.rows marks (from + 1 + count) (rows 0)
+  pub behind_here : IsCleanBehindRows version lines from m.rows marks (from + 1 + count) (rows 0)
   behind_here =
-      subst (λ n. IsCleanBehindRows lines from m.rows marks n (rows 0)) at_is
+      subst (λ n. IsCleanBehindRows version lines from m.rows marks n (rows 0)) at_is
       (begins_behind names lines from m.rows marks at so rows_here full_here)
 
-  pub graph_here : (behind : BehindRows) (next : ℕ) → IsReadBehind lines marks (from + 1 + count) next behind
-      → IsGraphAt lines from next (graph_of so behind)
+  pub graph_here : (behind : BehindRows) (next : ℕ) → IsReadBehind version lines marks (from + 1 + count) next behind
+      → IsGraphOf version lines from next (graph_of so behind)
   graph_here behind next is =
       graph_by_rows lines from at next m.rows marks so behind rows_here full_here
-      (subst (λ n. IsReadBehind lines marks n next behind) (sym at_is) is)
+      (subst (λ n. IsReadBehind version lines marks n next behind) (sym at_is) is)

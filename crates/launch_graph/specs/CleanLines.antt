@@ -29,14 +29,14 @@ HasGoodClasses count all line =
 
 -- Up to a line, the lines from a number on are a header, so many rows and lines behind them, and none has a fault.
 -- `all` are the rows of the block, of which some may stand behind that line.
-pub record IsClean (lines : List Line) (from count : ℕ) (all before : List RowLine) (at : ℕ) (s : Stage) : Type 0 where
+pub record IsClean (version : ℕ) (lines : List Line) (from count : ℕ) (all before : List RowLine) (at : ℕ) (s : Stage) : Type 0 where
   pub low : from < length lines
   pub header_is : (line_at lines from).words ≡ rows_words count
   pub few : count ≤ 1000000
   pub each : EachRow (take (length before) (drop (from + 1) lines)) before
   pub all_are : AreRowLines (take count (drop (from + 1) lines)) all
   pub good : (i : ℕ) (d : RowLine) → i < length before → IsGoodRow count all (take i before) (get_or before i d)
-  pub reaches : ReachesStage start (words_between lines from at) s
+  pub reaches : ReachesStage version start (words_between lines from at) s
   pub order : from + 1 + length before ≤ at
   pub within : at ≤ length lines
   pub most : length before ≤ count

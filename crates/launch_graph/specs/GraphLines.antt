@@ -1,5 +1,5 @@
 -- The lines of a launch graph. Source: this project.
-use Rattle.std.specs.Prelude.{ℕ, ◌≤◌, ◌<◌, ◌^◌, List, [], ◌∷◌, ◌++◌, length, map, codes, decimal, Option, None, Some, IfSome, All, if◌then◌else◌, Bool}
+use Rattle.std.specs.Prelude.{⊤, ℕ, ◌≡◌, ◌≤◌, ◌<◌, ◌^◌, List, [], ◌∷◌, ◌++◌, length, map, codes, decimal, Option, None, Some, IfSome, IsTrue, All, if◌then◌else◌, Bool}
 use Rattle.word_ops.specs.declared.sorts.Op.{Op}
 use Rattle.word_ops.specs.declared.sorts.Op.TheVariants.{Declared}
 use Rattle.text_core.specs.LineTexts.{Words}
@@ -7,6 +7,7 @@ use Rattle.text_core.specs.Names.{IsName}
 use Rattle.launch_graph.specs.declared.row_lines.LineOp.{LineOp}
 use Rattle.launch_graph.specs.declared.row_lines.LineOp.TheVariants.{Plain, Use}
 use Rattle.launch_graph.specs.declared.row_lines.RowLine.{RowLine}
+use Rattle.graph_meaning.specs.Graphs.{HaveOwnPins, is_memory_name}
 use Rattle.graph_meaning.specs.declared.graphs.LaunchRow.{LaunchRow}
 use Rattle.graph_meaning.specs.declared.graphs.InputClass.{InputClass}
 use Rattle.graph_meaning.specs.declared.graphs.Guard.{Guard}
@@ -45,8 +46,13 @@ abbrev pub guard_lines : Option Guard → List Words
 guard_lines None = []
 guard_lines (Some g) = guard_words g ∷ []
 
+-- the pin stands behind the class
+abbrev pub pin_words : Option ℕ → Words
+pin_words None = []
+pin_words (Some r) = decimal r ∷ []
+
 abbrev pub set_words : SetClass → Words
-set_words s = codes "set" ∷ s.name ∷ decimal s.class ∷ []
+set_words s = codes "set" ∷ s.name ∷ decimal s.class ∷ pin_words s.pin
 
 -- The lines of a graph, in order.
 abbrev pub graph_lines : GraphLines → List Words
@@ -56,15 +62,26 @@ graph_lines g =
     ++ (entry_words g.entry
     ∷ (map in_words g.inputs ++ (pool_words g.pool ∷ (guard_lines g.guard ++ map set_words g.sets)))))
 
--- Each line has the form of its kind, and there are at most 1,000,000 rows.
-pub record AreGraphLines (g : GraphLines) : Type 0 where
+-- a pin is a register, and version 2 alone has pins
+abbrev pub PinFits : ℕ → Option ℕ → Type 0
+PinFits version None = ⊤
+PinFits version (Some r) = (version ≡ 2) × (r < 31)
+
+-- the memory has no pin
+abbrev pub SetFits : ℕ → SetClass → Type 0
+SetFits version s =
+    IsName s.name × (s.class < 2 ^ 31) × PinFits version s.pin × (IsTrue (is_memory_name s.name) → s.pin ≡ None)
+
+-- Each line has the form that its kind has in the version, there are at most 1,000,000 rows, and no pin is repeated.
+pub record AreGraphLines (version : ℕ) (g : GraphLines) : Type 0 where
   pub few : length g.rows ≤ 1000000
   pub rows : All (λ (r : RowLine). IsRowLine (row_words r) r) g.rows
   pub entry : g.entry < 2 ^ 31
   pub inputs : All (λ (i : InputClass). IsName i.name × (i.reg < 31) × (i.class < 2 ^ 31)) g.inputs
   pub pool : All (λ r. r < 31) g.pool
   pub guard : IfSome g.guard (λ (g : Guard). g.class < 2 ^ 31)
-  pub sets : All (λ (s : SetClass). IsName s.name × (s.class < 2 ^ 31)) g.sets
+  pub sets : All (SetFits version) g.sets
+  pub own_pins : HaveOwnPins g.sets
 
 -- ---- the lines of a graph's value
 

@@ -19,28 +19,32 @@ abbrev pub EndsGraph : List Words → Type 0
 EndsGraph [] = ⊤
 EndsGraph (words ∷ lines) = IsNoTarget words
 
--- The lines of a graph, and then any lines.
-pub record BeginsWithGraph (lines : List Words) : Type 0 where
+-- The lines of a graph in the version, and then any lines.
+pub record BeginsWithGraph (version : ℕ) (lines : List Words) : Type 0 where
   pub graph : GraphLines
-  pub are : AreGraphLines graph
+  pub are : AreGraphLines version graph
   pub behind : List Words
   pub ends : EndsGraph behind
   pub whole : lines ≡ graph_lines graph ++ behind
 
 -- The lines of a graph alone.
-pub record IsGraphText (lines : List Words) : Type 0 where
+pub record IsGraphText (version : ℕ) (lines : List Words) : Type 0 where
   pub graph : GraphLines
-  pub are : AreGraphLines graph
+  pub are : AreGraphLines version graph
   pub whole : lines ≡ graph_lines graph
 
--- The lines from one number on and before another are those of the graph, and it ends there.
-pub record IsGraphAt (lines : List Line) (from next : ℕ) (g : LaunchGraph) : Type 0 where
+-- The lines from one number on and before another are those of the graph in the version, and it ends there.
+pub record IsGraphOf (version : ℕ) (lines : List Line) (from next : ℕ) (g : LaunchGraph) : Type 0 where
   pub order : from ≤ next
   pub within : next ≤ length lines
   pub well_formed : IsLaunchGraph g
-  pub are : AreGraphLines (said g)
+  pub are : AreGraphLines version (said g)
   pub is : words_between lines from next ≡ graph_lines (said g)
   pub ends : EndsGraph (words_from lines next)
+
+-- the same in version 1, in which no set has a pin
+abbrev pub IsGraphAt : List Line → ℕ → ℕ → LaunchGraph → Type 0
+IsGraphAt lines from next g = IsGraphOf 1 lines from next g
 
 -- a line behind the rows that is told by its first word, its class, and the sort that is wanted there
 pub data IsClassLine (line : Words) (class : ℕ) (sort : Sort) : Type 0 where

@@ -81,6 +81,11 @@ pub record IsFirstFault (IsText IsPart : List Words → Type 0) (lines : List Li
   pub earliest : (other : ℕ) (another : Kind) → IsFaultAt IsText IsPart lines from other another
       → (at < other) ⊎ ((at ≡ other) × (line_rank kind ≤ line_rank another))
 
--- The fault of a graph among the lines from a number on.
+-- The fault of a graph in the version among the lines from a number on.
+abbrev pub IsFirstFaultOf : ℕ → List Line → ℕ → ℕ → Kind → Type 0
+IsFirstFaultOf version lines from place kind =
+    IsFirstFault (BeginsWithGraph version) (IsGraphText version) lines from place kind
+
+-- the same in version 1
 abbrev pub IsFirstGraphFault : List Line → ℕ → ℕ → Kind → Type 0
-IsFirstGraphFault lines from place kind = IsFirstFault BeginsWithGraph IsGraphText lines from place kind
+IsFirstGraphFault lines from place kind = IsFirstFaultOf 1 lines from place kind

@@ -30,9 +30,9 @@ line_op_name (Use name) = name
 line_op_name (Unknown word) = word
 
 -- up to a line, the rows of a block are read, and nothing is wrong
-pub record AreRowsTo (lines : List Line) (from : ℕ) (all before : List RowLine) (marks : List Mark) (at : ℕ)
+pub record AreRowsTo (version : ℕ) (lines : List Line) (from : ℕ) (all before : List RowLine) (marks : List Mark) (at : ℕ)
     (so_far : RowsSoFar) : Type 0 where
-  pub clean : IsClean lines from (length marks) all before at (rows (length marks - length before))
+  pub clean : IsClean version lines from (length marks) all before at (rows (length marks - length before))
   pub place_is : at ≡ from + 1 + length before
   pub marks_are : AreMarks (length marks) all marks
   pub seen : IsSeen (length marks) before so_far.next so_far.constants.items
@@ -51,5 +51,5 @@ pub record IsBlockFrom (lines : List Line) (from : ℕ) (all : List RowLine) (ma
 -- Whatever block begins there, so many of its rows are read.
 abbrev pub HasRead : List Line → List Mark → ℕ → ℕ → RowsSoFar → Type 0
 HasRead lines marks first number so_far =
-    (from : ℕ) (all : List RowLine) → IsBlockFrom lines from all marks first
-    → (before : List RowLine) × AreRowsTo lines from all before marks (first + number) so_far × (length before ≡ number)
+    (version from : ℕ) (all : List RowLine) → IsBlockFrom lines from all marks first
+    → (before : List RowLine) × AreRowsTo version lines from all before marks (first + number) so_far × (length before ≡ number)

@@ -1,9 +1,10 @@
 // The lines of a graph behind its rows, read one after another.
-ghost use Rattle.std.specs.Prelude.{◌≡◌, ◌≤◌, ◌<◌, ◌+◌, ◌^◌, List, length, IfOk, IfErr, MatchOption};
+ghost use Rattle.std.specs.Prelude.{◌≡◌, ◌≤◌, ◌<◌, ◌+◌, ◌^◌, List, [], length, IfOk, IfErr, MatchOption, false};
+ghost use Rattle.std.specs.Option.{option_map_or};
 ghost use Rattle.text_core.specs.Lines.{line_at};
 ghost use Rattle.launch_graph.specs.BehindRows as behind;
-ghost use Rattle.launch_graph.specs.BehindRows.{IsFaultBehind, IsEntryAt, IsInputAt, IsPoolAt, IsGuardAt, IsSetAt, HasNoInput, HasNoGuard, TakesSets, AreInputsAt, AreSetsAt, IsReadBehind};
-ghost use Rattle.launch_graph.specs.GraphStages.{Stage, rows, inputs, behind_pool};
+ghost use Rattle.launch_graph.specs.BehindRows.{IsFaultBehind, IsFaultBehindOf, IsEntryAt, IsInputAt, IsPoolAt, IsGuardAt, IsSetAt, HasNoInput, HasNoGuard, TakesSets, AreInputsAt, AreSetsAt, IsReadBehind};
+ghost use Rattle.launch_graph.specs.GraphStages.{Stage, rows, inputs, behind_pool, has_pin, pins_among};
 ghost use Rattle.launch_graph.specs.GraphTexts.{EndsGraph, IsNoTarget};
 ghost use Rattle.launch_graph.specs.LineFormats.{words_from};
 ghost use Rattle.graph_meaning.specs.WellFormed.{set_sort};
@@ -153,18 +154,44 @@ fn target_sort(set: &SetClass) -> Sort
     }
 }
 
-/// The target of a line, if it is one's.
+/// Whether a target is pinned to the register.
+fn is_pin(sets: &[SetClass], register: u8) -> bool
+    ensures { result ≡ has_pin (pins_among sets.now) register }
+{
+    for set in sets {
+        if let Some(pin) = set.pin {
+            if pin == register {
+                return true;
+            }
+        }
+    }
+    false
+}
+
+/// Whether the target's pin is that of an earlier one.
+fn repeats_pin(sets: &[SetClass], set: &SetClass) -> bool
+    ensures { result ≡ option_map_or (has_pin (pins_among sets.now)) set.now.pin false }
+{
+    match set.pin {
+        Some(register) => is_pin(sets, register),
+        None => false,
+    }
+}
+
+/// The target of a line behind these, if it is one's.
 fn read_set(
     alloc: Global,
+    version: u8,
     text: &TextLines<'_>,
     marks: &[Mark],
     line: u32,
+    sets: &[SetClass],
 ) -> Result<Option<SetClass>, TextFault>
     requires { line < length text.now }
     ensures ok { IfOk result (λ found. MatchOption found (IsNoTarget (line_at text.now line).words)
-        (IsSetAt text.now marks.now line)) }
-    ensures fault { IfErr result (λ fault. (stage : Stage) → TakesSets text.now line stage
-        → IsFaultBehind text.now marks.now line stage fault) }
+        (IsSetAt version text.now marks.now line (pins_among sets.now))) }
+    ensures fault { IfErr result (λ fault. (stage : Stage) → TakesSets text.now line (pins_among sets.now) stage
+        → IsFaultBehindOf version text.now marks.now line stage fault) }
 {
     operators_are_listed();
     if begins_with(text, line, b"guard") {
@@ -173,9 +200,12 @@ fn read_set(
     if !begins_with(text, line, b"set") {
         return Ok(None);
     }
-    let Some(set) = set_line(alloc, text, line)? else {
+    let Some(set) = set_line(alloc, version, text, line)? else {
         return Err(line_fault(text, line, Kind::BadLine));
     };
+    if repeats_pin(sets, &set) {
+        return Err(line_fault(text, line, Kind::BadLine));
+    }
     if is_wrong(marks, target_sort(&set), set.class) {
         return Err(line_fault(text, line, Kind::BadClass));
     }
@@ -185,21 +215,22 @@ fn read_set(
 /// The targets from a line on, and the line behind them.
 fn read_sets(
     alloc: Global,
+    version: u8,
     text: &TextLines<'_>,
     marks: &[Mark],
     first: u32,
 ) -> Result<(Items<SetClass>, u32), TextFault>
     requires { first ≤ length text.now }
-    ensures sets { IfOk result (λ p. AreSetsAt text.now marks.now first p.1 p.0) }
+    ensures sets { IfOk result (λ p. AreSetsAt version text.now marks.now first p.1 p.0) }
     ensures end { IfOk result (λ p. EndsGraph (words_from text.now p.1)) }
-    ensures fault { IfErr result (λ fault. (stage : Stage) → TakesSets text.now first stage
-        → IsFaultBehind text.now marks.now first stage fault) }
+    ensures fault { IfErr result (λ fault. (stage : Stage) → TakesSets text.now first [] stage
+        → IsFaultBehindOf version text.now marks.now first stage fault) }
 {
     operators_are_listed();
     let mut sets = Items::new(alloc);
     let end = text.count();
     for line in first..end {
-        match read_set(alloc, text, marks, line)? {
+        match read_set(alloc, version, text, marks, line, sets.as_slice())? {
             Some(set) => sets.push(set)?,
             None => return Ok((sets, line)),
         }
@@ -210,13 +241,14 @@ fn read_sets(
 /// The lines behind the rows of a graph, which begin at `first`, and the line behind the graph.
 pub(crate) fn read_behind(
     alloc: Global,
+    version: u8,
     text: &TextLines<'_>,
     marks: &[Mark],
     first: u32,
 ) -> Result<(BehindRows, u32), TextFault>
     requires { first ≤ length text.now }
-    ensures ok { IfOk result (λ p. IsReadBehind text.now marks.now first p.1 p.0) }
-    ensures fault { IfErr result (IsFaultBehind text.now marks.now first (rows 0)) }
+    ensures ok { IfOk result (λ p. IsReadBehind version text.now marks.now first p.1 p.0) }
+    ensures fault { IfErr result (IsFaultBehindOf version text.now marks.now first (rows 0)) }
 {
     operators_are_listed();
     let entry = read_entry(text, marks, first)?;
@@ -224,7 +256,7 @@ pub(crate) fn read_behind(
     let pool = read_pool(alloc, text, line)?;
     let guard = read_guard(text, marks, line + 1)?;
     let targets = behind_guard(&guard, line + 1);
-    let (sets, next) = read_sets(alloc, text, marks, targets)?;
+    let (sets, next) = read_sets(alloc, version, text, marks, targets)?;
     Ok((
         BehindRows {
             entry,

@@ -21,7 +21,7 @@ pub use graph_meaning::{
     Guard, InputClass, LaunchGraph, LaunchRow, SetClass, classes_have_values,
     graphs_are_consistent, registers_are_apart,
 };
-pub use laws::{one_graph, printed_graphs_are_lines};
+pub use laws::{one_graph, one_graph_of_each_version, printed_graphs_are_lines};
 pub use printing::{print, put_graph};
-pub use reading::read;
+pub use reading::{read, read_as};
 pub use row_lines::{LineOp, RowLine};

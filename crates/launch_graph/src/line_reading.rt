@@ -3,7 +3,7 @@ ghost use Rattle.std.specs.Prelude.{◌≡◌, ◌≢◌, ◌<◌, length, codes
 ghost use Rattle.text_core.specs.Lines.{line_at};
 ghost use Rattle.launch_graph.specs.GraphLines.{held_word};
 ghost use Rattle.text_core.specs.LineTexts.{SaysNone};
-ghost use Rattle.launch_graph.specs.LineReading.{IsHeaderLine, IsEntryLine, IsInputLine, IsPoolLine, IsGuardLine, IsSetLine};
+ghost use Rattle.launch_graph.specs.LineReading.{IsHeaderLine, IsEntryLine, IsInputLine, IsPoolLine, IsGuardLine, IsPinnedSet, IsPlainSet, IsSetLine};
 
 use crate::row_reading::below;
 use graph_meaning::{Guard, InputClass, SetClass};
@@ -123,15 +123,15 @@ pub(crate) fn guard_line(text: &TextLines<'_>, line: u32) -> Option<Guard>
     Some(Guard { class, held })
 }
 
-/// The target of a line.
-pub(crate) fn set_line(
+/// The target of a line that tells no pin.
+fn plain_set_line(
     alloc: Global,
     text: &TextLines<'_>,
     line: u32,
 ) -> Result<Option<SetClass>, NoMemory>
     requires { line < length text.now }
-    ensures { IfOk result (λ found. MatchOption found (SaysNone IsSetLine (line_at text.now line).words)
-        (IsSetLine (line_at text.now line).words)) }
+    ensures { IfOk result (λ found. MatchOption found (SaysNone IsPlainSet (line_at text.now line).words)
+        (IsPlainSet (line_at text.now line).words)) }
 {
     if !has_form(text, line, b"set", 3) {
         return Ok(None);
@@ -146,5 +146,53 @@ pub(crate) fn set_line(
     Ok(Some(SetClass {
         name: Name::new(alloc, name)?,
         class,
+        pin: None,
     }))
+}
+
+/// The target of a line that tells its pin, which the memory doesn't have.
+fn pinned_set_line(
+    alloc: Global,
+    text: &TextLines<'_>,
+    line: u32,
+) -> Result<Option<SetClass>, NoMemory>
+    requires { line < length text.now }
+    ensures { IfOk result (λ found. MatchOption found (SaysNone IsPinnedSet (line_at text.now line).words)
+        (IsPinnedSet (line_at text.now line).words)) }
+{
+    if !has_form(text, line, b"set", 4) {
+        return Ok(None);
+    }
+    let name = text.word(line, 1);
+    if !is_name(name) || name == b"M".as_slice() {
+        return Ok(None);
+    }
+    let Some(class) = below(text.word(line, 2), 1 << 31) else {
+        return Ok(None);
+    };
+    let Some(register) = below(text.word(line, 3), 31) else {
+        return Ok(None);
+    };
+    Ok(Some(SetClass {
+        name: Name::new(alloc, name)?,
+        class,
+        pin: Some(register as u8),
+    }))
+}
+
+/// The target of a line. Version 2 alone has pins.
+pub(crate) fn set_line(
+    alloc: Global,
+    version: u8,
+    text: &TextLines<'_>,
+    line: u32,
+) -> Result<Option<SetClass>, NoMemory>
+    requires { line < length text.now }
+    ensures { IfOk result (λ found. MatchOption found (SaysNone (IsSetLine version) (line_at text.now line).words)
+        (IsSetLine version (line_at text.now line).words)) }
+{
+    if version == 2 && text.words(line) == 4 {
+        return pinned_set_line(alloc, text, line);
+    }
+    plain_set_line(alloc, text, line)
 }

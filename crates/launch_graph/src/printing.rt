@@ -131,12 +131,23 @@ fn put_guard(text: &mut Vec<u8>, guard: Option<Guard>) -> Result<(), NoMemory>
     put(text, b"\n")
 }
 
+fn put_pin(text: &mut Vec<u8>, pin: Option<u8>) -> Result<(), NoMemory>
+    ensures { OnOk result (text.new.items ≡ text.old.items ++ words_behind (format.pin_words pin)) }
+{
+    match pin {
+        Some(register) => put_number(text, u64::from(register)),
+        None => Ok(()),
+    }
+}
+
+#[tactic(auto, using(crate::proofs::Printed::set_text))]
 fn put_set(text: &mut Vec<u8>, set: &SetClass) -> Result<(), NoMemory>
     ensures { OnOk result (text.new.items ≡ text.old.items ++ line_text (format.set_words set.now)) }
 {
     put(text, b"set")?;
     put_word(text, set.name.bytes())?;
     put_number(text, u64::from(set.class))?;
+    put_pin(text, set.pin)?;
     put(text, b"\n")
 }
 

@@ -3,14 +3,14 @@ ghost use Rattle.std.specs.Prelude.{◌≡◌, ◌≤◌, ◌⊎◌, ℕ, length
 ghost use Rattle.text_core.specs.Faults.{IsFaultBy};
 ghost use Rattle.text_core.specs.declared.faults.Kind.{Kind as KindOf};
 ghost use Rattle.text_core.specs.declared.faults.TextFault.TheVariants as faults;
-ghost use Rattle.launch_graph.specs.GraphTexts.{IsGraphAt};
-ghost use Rattle.launch_graph.specs.LineFaults.{IsFirstGraphFault};
+ghost use Rattle.launch_graph.specs.GraphTexts.{IsGraphAt, IsGraphOf};
+ghost use Rattle.launch_graph.specs.LineFaults.{IsFirstFaultOf, IsFirstGraphFault};
 ghost use Rattle.launch_graph.specs.Readings.{IsHeaderAt, IsBlockEnd};
 ghost use Rattle.graph_meaning.specs.declared.graphs.LaunchGraph.{LaunchGraph as Graph};
 
 use crate::behind_rows::read_behind;
 use crate::class_marks::class_marks;
-use crate::laws::one_graph;
+use crate::laws::{one_graph, one_graph_of_each_version};
 use crate::line_faults::line_fault;
 use crate::line_reading::header_line;
 use crate::rows_reading::read_rows;
@@ -23,7 +23,7 @@ use word_ops::operators_are_listed;
 fn read_header(text: &TextLines<'_>, from: u32) -> Result<u32, TextFault>
     requires { from ≤ length text.now }
     ensures header { IfOk result (IsHeaderAt text.now from) }
-    ensures fault { IfErr result (IsFaultBy (IsFirstGraphFault text.now from)) }
+    ensures fault { IfErr result (λ fault. (version : ℕ) → IsFaultBy (IsFirstFaultOf version text.now from) fault) }
 {
     if from == text.count() {
         return Err(line_fault(text, from, Kind::BadLine));
@@ -48,10 +48,15 @@ fn block_end(text: &TextLines<'_>, first: u32, count: u32) -> u32
 }
 
 /// The graph from a line on, and the line behind it.
-fn graph_at(alloc: Global, text: &TextLines<'_>, from: u32) -> Result<(LaunchGraph, u32), TextFault>
+fn graph_at(
+    alloc: Global,
+    version: u8,
+    text: &TextLines<'_>,
+    from: u32,
+) -> Result<(LaunchGraph, u32), TextFault>
     requires { from ≤ length text.now }
-    ensures graph { IfOk result (λ p. IsGraphAt text.now from p.1 p.0) }
-    ensures fault { IfErr result (IsFaultBy (IsFirstGraphFault text.now from)) }
+    ensures graph { IfOk result (λ p. IsGraphOf version text.now from p.1 p.0) }
+    ensures fault { IfErr result (IsFaultBy (IsFirstFaultOf version text.now from)) }
 {
     operators_are_listed();
     let count = read_header(text, from)?;
@@ -59,7 +64,7 @@ fn graph_at(alloc: Global, text: &TextLines<'_>, from: u32) -> Result<(LaunchGra
     let end = block_end(text, first, count);
     let marks = class_marks(alloc, text, first, end, count)?;
     let so_far = read_rows(alloc, text, first, &marks)?;
-    let (behind, next) = read_behind(alloc, text, &marks, first + count)?;
+    let (behind, next) = read_behind(alloc, version, text, &marks, first + count)?;
     Ok((
         LaunchGraph {
             rows: so_far.rows,
@@ -73,11 +78,31 @@ fn graph_at(alloc: Global, text: &TextLines<'_>, from: u32) -> Result<(LaunchGra
     ))
 }
 
-/// Reads the launch graph whose lines begin at the line `from`, and gives the number of the line behind it. Only a
-/// well-formed graph is read, and one that was printed is read as itself. A fault is the first of the lines: BadLine,
-/// BadRow or BadClass. The cost is linear in the text and in the number of rows that the first line tells, beside
-/// look-ups among at most sixteen names of declared operators; whether an earlier row applies the same is looked up in
-/// an index.
+/// Reads the launch graph whose lines begin at the line `from`, and gives the number of the line behind it. In version 2
+/// a set may tell its pin; in version 1, and in each other one, none does. Only a well-formed graph is read, and one
+/// that was printed is read as itself. A fault is the first of the lines: BadLine, BadRow or BadClass. The cost is
+/// linear in the text and in the number of rows that the first line tells, beside look-ups among at most sixteen names
+/// of declared operators, and for each pin among those before it; whether an earlier row applies the same is looked up
+/// in an index.
+pub fn read_as(
+    alloc: Global,
+    version: u8,
+    text: &TextLines<'_>,
+    from: u32,
+) -> Result<(LaunchGraph, u32), TextFault>
+    requires { from ≤ length text.now }
+    ensures graph { IfOk result (λ p. IsGraphOf version text.now from p.1 p.0) }
+    ensures fault { IfErr result (IsFaultBy (IsFirstFaultOf version text.now from)) }
+    ensures read { (next : ℕ) (g : Graph) → IsGraphOf version text.now from next g
+        → (result ≡ Ok (g, next)) ⊎ (result ≡ Err faults.Memory) }
+    ensures refused { (place : ℕ) (kind : KindOf) → IsFirstFaultOf version text.now from place kind
+        → (result ≡ Err (faults.Fault (record { place = place; kind = kind }))) ⊎ (result ≡ Err faults.Memory) }
+{
+    one_graph_of_each_version();
+    graph_at(alloc, version, text, from)
+}
+
+/// Reads the launch graph in version 1, in which no set has a pin.
 pub fn read(alloc: Global, text: &TextLines<'_>, from: u32) -> Result<(LaunchGraph, u32), TextFault>
     requires { from ≤ length text.now }
     ensures graph { IfOk result (λ p. IsGraphAt text.now from p.1 p.0) }
@@ -88,5 +113,5 @@ pub fn read(alloc: Global, text: &TextLines<'_>, from: u32) -> Result<(LaunchGra
         → (result ≡ Err (faults.Fault (record { place = place; kind = kind }))) ⊎ (result ≡ Err faults.Memory) }
 {
     one_graph();
-    graph_at(alloc, text, from)
+    graph_at(alloc, 1, text, from)
 }

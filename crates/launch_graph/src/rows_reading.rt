@@ -1,7 +1,7 @@
 // The block of a graph's rows, read row by row.
 ghost use Rattle.std.specs.Prelude.{◌≡◌, ◌≤◌, ◌<◌, ◌+◌, ◌++◌, ◌∷◌, [], ℕ, None, get_or, List, length, IfOk, IfErr, OnOk};
 ghost use Rattle.text_core.specs.Faults.{IsFaultBy};
-ghost use Rattle.launch_graph.specs.LineFaults.{IsFirstGraphFault};
+ghost use Rattle.launch_graph.specs.LineFaults.{IsFirstFaultOf};
 ghost use Rattle.launch_graph.specs.RowsRead.{IsBlockFrom, AreRowsTo, HasRead, line_op_name};
 ghost use Rattle.launch_graph.specs.declared.row_lines.RowLine.{RowLine as Row};
 
@@ -68,13 +68,13 @@ pub(crate) fn next_row(
     requires few { length so_far.old.used ≤ 16 }
     ensures size { length so_far.new.constants.items ≡ length so_far.old.constants.items }
     ensures few { OnOk result (length so_far.new.used ≤ 16) }
-    ensures ok { OnOk result ((from : ℕ) (all before : List Row)
-        → AreRowsTo text.now from all before marks.now line so_far.old
+    ensures ok { OnOk result ((version from : ℕ) (all before : List Row)
+        → AreRowsTo version text.now from all before marks.now line so_far.old
         → length before < length marks.now
-        → (row : Row) × AreRowsTo text.now from all (before ++ row ∷ []) marks.now (line + 1) so_far.new) }
-    ensures fault { IfErr result (λ fault. (from : ℕ) (all before : List Row)
-        → AreRowsTo text.now from all before marks.now line so_far.old
-        → length before < length marks.now → IsFaultBy (IsFirstGraphFault text.now from) fault) }
+        → (row : Row) × AreRowsTo version text.now from all (before ++ row ∷ []) marks.now (line + 1) so_far.new) }
+    ensures fault { IfErr result (λ fault. (version from : ℕ) (all before : List Row)
+        → AreRowsTo version text.now from all before marks.now line so_far.old
+        → length before < length marks.now → IsFaultBy (IsFirstFaultOf version text.now from) fault) }
 {
     operators_are_listed();
     let Some(row) = row_line(alloc, text, line)? else {
@@ -128,8 +128,8 @@ pub(crate) fn read_rows(
     requires first { first ≤ length text.now }
     requires few { length marks.now ≤ 1000000 }
     ensures ok { IfOk result (HasRead text.now marks.now first (length marks.now)) }
-    ensures fault { IfErr result (λ fault. (from : ℕ) (all : List Row) → IsBlockFrom text.now from all marks.now first
-        → IsFaultBy (IsFirstGraphFault text.now from) fault) }
+    ensures fault { IfErr result (λ fault. (version from : ℕ) (all : List Row)
+        → IsBlockFrom text.now from all marks.now first → IsFaultBy (IsFirstFaultOf version text.now from) fault) }
 {
     operators_are_listed();
     let mut so_far = no_rows(alloc, marks.len())?;

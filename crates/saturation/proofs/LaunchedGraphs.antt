@@ -1,7 +1,7 @@
 -- The launch graph of a goal: its rows, and the classes of the goal's terms.
-use Rattle.std.proofs.Common.{◌≡◌, ◌≢◌, ℕ, suc, ◌+◌, ◌<◌, Option, Some, None, option_map, List, [], ◌∷◌, ◌++◌, length, map, get_or, slice_index, refl, sym, ap, ◌∙◌, subst, arith, All, AllPairs, Contains}
-use Rattle.std.specs.Prelude.{IfSome}
-use Rattle.std.specs.List.{AllZip}
+use Rattle.std.proofs.Common.{◌≡◌, ◌≢◌, ℕ, suc, ◌+◌, ◌<◌, Option, Some, None, option_map, List, [], ◌∷◌, ◌++◌, length, map, get_or, slice_index, refl, sym, ap, ap₂, ◌∙◌, subst, arith, All, AllPairs, Contains}
+use Rattle.std.specs.Prelude.{IfSome, IsTrue}
+use Rattle.std.specs.List.{AllZip, cons_option}
 use Rattle.std.proofs.lemmas.List.{get_or-map, length-map, length-append, get_or_append_left, get_or-append-add}
 use Rattle.std.proofs.lemmas.List.Elements.{All-nil, All-cons, All-head, All-tail, All-contains, Contains-append_left, Contains-append_right, Contains-get_or}
 use Rattle.text_core.specs.Names.{IsName}
@@ -20,12 +20,13 @@ use Rattle.axiom_base.specs.Schemes.{IsRuleOf}
 use Rattle.egraph.specs.Graph.{Graph, IsGraph, HasClass}
 use Rattle.egraph.specs.declared.rows.Row.{Row}
 use Rattle.pattern_match.specs.Classes.{IsClass, at_variable, at_row, CanFindClass}
+use Rattle.goal_meaning.specs.Rules.{pins_of}
 use Rattle.goal_meaning.specs.Views.{TargetTree, InputTree, goal_view, target_view}
 use Rattle.goal_meaning.specs.WellFormed.{IsGoal, IsGoalTerm, IsTarget, IsInput}
 use Rattle.goal_meaning.specs.declared.goals.Goal.{Goal}
 use Rattle.goal_meaning.specs.declared.goals.InputReg.{InputReg}
 use Rattle.goal_meaning.specs.declared.goals.Set.{Set}
-use Rattle.graph_meaning.specs.Graphs.{registers_of}
+use Rattle.graph_meaning.specs.Graphs.{HaveOwnPins, is_memory_name, registers_of}
 use Rattle.graph_meaning.specs.WellFormed.{IsLaunchGraph, ClassHasSort, set_sort}
 use Rattle.graph_meaning.specs.declared.graphs.LaunchGraph.{LaunchGraph}
 use Rattle.graph_meaning.specs.declared.graphs.InputClass.{InputClass}
@@ -39,6 +40,7 @@ use Rattle.saturation.specs.StandsFor.{HasClassIn, IsGraphOf, IsInputClass, IsSe
 use Rattle.saturation.proofs.LaunchedRows as rows
 use Rattle.saturation.proofs.LaunchTerms.{leaf_row}
 use Rattle.saturation.proofs.Mapped.{contains_map}
+use Rattle.saturation.proofs.PinsApart.{pins_among, own_pins_of, low_pins_of, pins_apart_of, differ_behind}
 use Rattle.saturation.proofs.Renaming.{class_to, grown_to, stops_to}
 
 -- ---- lists
@@ -173,7 +175,7 @@ module _ (input : InputTree) (goal : Goal) (is_input : IsInput input) (given : C
     input_class c i h = record { name = h.name; register = h.register; class = class_in_view (input_term i.reg) c.class h.class }
 
     set_class : (c : SetClass) (s : Set) → IsSetNumber graph numbers c s → IsSetClass input.ops g c (target_view s)
-    set_class c s h = record { name = h.name; class = class_in_view (tree_of s.value) c.class h.class }
+    set_class c s h = record { name = h.name; pin = h.pin; class = class_in_view (tree_of s.value) c.class h.class }
 
     guard_class : (o : Option Guard) (t : Option (Term Op)) → IsGuardNumber graph numbers o t → IsGuardOf input.ops g o (option_map tree_of t)
     guard_class None None h = tt
@@ -190,6 +192,29 @@ module _ (input : InputTree) (goal : Goal) (is_input : IsInput input) (given : C
         let rest = same_registers cs is z.1 in
         cc
 
+    same_pins : (cs : List SetClass) (ss : List Set) → AllZip (IsSetNumber graph numbers) cs ss → pins_among cs ≡ pins_of (map target_view ss)
+    same_pins [] [] z = refl
+    same_pins [] (s ∷ ss) z = absurd z
+    same_pins (c ∷ cs) [] z = absurd z
+    same_pins (c ∷ cs) (s ∷ ss) z = ap₂ (λ (o : Option ℕ) (rs : List ℕ). cons_option o rs) z.0.pin (same_pins cs ss z.1)
+
+    pins_are : pins_among g.sets ≡ pins_of (map target_view goal.sets)
+    pins_are = same_pins g.sets goal.sets made.sets
+
+    pins_differ : AllPairs (λ a b. a ≢ b) (g.pool ++ pins_among g.sets)
+    pins_differ =
+        subst (λ rs. AllPairs (λ a b. a ≢ b) (rs ++ pins_among g.sets)) (sym made.pool)
+        (subst (λ rs. AllPairs (λ a b. a ≢ b) (goal.pool ++ rs)) (sym pins_are) goal_is.rules.pins)
+
+    own_pins : HaveOwnPins g.sets
+    own_pins = own_pins_of g.sets (differ_behind g.pool (pins_among g.sets) pins_differ)
+
+    low_pins : All (λ (c : SetClass). IfSome c.pin (λ r. r < 31)) g.sets
+    low_pins = low_pins_of g.sets (subst (λ rs. All (λ r. r < 31) rs) (sym pins_are) goal_is.rules.low_pins)
+
+    pins_apart : All (λ (c : SetClass). IfSome c.pin (λ r. ¬ Contains g.pool r)) g.sets
+    pins_apart = pins_apart_of g.pool g.sets pins_differ
+
     registers_are : registers_of g ≡ map (λ (i : InputReg). i.reg) goal.inputs ++ goal.pool
     registers_are =
         ap (λ rs. rs ++ g.pool) (same_registers g.inputs goal.inputs made.inputs)
@@ -205,6 +230,9 @@ module _ (input : InputTree) (goal : Goal) (is_input : IsInput input) (given : C
       proper = record {
         differ = subst (λ rs. AllPairs (λ a b. a ≢ b) rs) (sym registers_are) goal_is.rules.registers;
         low = subst (λ rs. All (λ r. r < 31) rs) (sym registers_are) goal_is.rules.low;
+        own_pins = own_pins;
+        low_pins = low_pins;
+        pins_apart = pins_apart;
       };
     }
 
@@ -239,6 +267,12 @@ module _ (input : InputTree) (goal : Goal) (is_input : IsInput input) (given : C
       sets = zip_all (IsSetNumber graph numbers) (λ (s : Set). IsTarget input.ops (goal_view goal) (target_view s)) (λ (c : SetClass). ClassHasSort g (set_sort c.name) c.class) g.sets goal.sets
           (λ c s h target. subst (λ name. ClassHasSort g (set_sort name) c.class) (sym h.name) (subst (ClassHasSort g (set_sort s.name)) (sym h.class.2) (term_sort (tree_of s.value) h.class.0 (set_sort s.name) target.sorted h.class.1)))
           made.sets targets;
+      pins = low_pins;
+      own_pins = own_pins;
+      memory_unpinned =
+          zip_all (IsSetNumber graph numbers) (λ (s : Set). IsTrue (is_memory_name s.name) → s.pin ≡ None) (λ (c : SetClass). IsTrue (is_memory_name c.name) → c.pin ≡ None) g.sets goal.sets
+          (λ c s h unpinned memory. h.pin ∙ unpinned (subst (λ name. IsTrue (is_memory_name name)) h.name memory))
+          made.sets (all_of_map (λ (t : TargetTree). IsTrue (is_memory_name t.name) → t.pin ≡ None) target_view goal.sets goal_is.rules.memory_unpinned);
       names = (
         zip_all (IsInputNumber graph numbers) (λ (i : InputReg). IsName i.name) (λ (c : InputClass). IsName c.name) g.inputs goal.inputs (λ c i h name. subst IsName (sym h.name) name) made.inputs goal_is.named.inputs,
         zip_all (IsSetNumber graph numbers) (λ (s : Set). IsName s.name) (λ (c : SetClass). IsName c.name) g.sets goal.sets (λ c s h name. subst IsName (sym h.name) name) made.sets (all_of_map (λ (t : TargetTree). IsName t.name) target_view goal.sets goal_is.named.targets),

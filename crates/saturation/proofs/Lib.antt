@@ -33,6 +33,7 @@ pub mod Needed
 pub mod Firsts
 pub mod KnownOperators
 pub mod LaunchStands
+pub mod PinsApart
 pub mod LaunchedGraphs
 pub mod LaunchedRows
 pub mod Renaming

@@ -74,9 +74,10 @@ pub record IsInputNumber (g : Graph Op) (numbers : List ℕ) (c : InputClass) (i
   pub register : c.reg ≡ i.reg
   pub class : IsClassNumber g numbers (input_term i.reg) c.class
 
--- the target's name, with the number of its value's class
+-- the target's name and pin, with the number of its value's class
 pub record IsSetNumber (g : Graph Op) (numbers : List ℕ) (c : SetClass) (s : Set) : Type 0 where
   pub name : c.name ≡ s.name
+  pub pin : c.pin ≡ s.pin
   pub class : IsClassNumber g numbers (tree_of s.value) c.class
 
 -- the guard with the number of its term's class; it is held where the term reads no memory

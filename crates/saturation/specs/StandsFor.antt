@@ -69,6 +69,7 @@ pub record IsInputClass (declared : List DeclaredOp) (g : LaunchGraph) (c : Inpu
 
 pub record IsSetClass (declared : List DeclaredOp) (g : LaunchGraph) (c : SetClass) (s : TargetTree) : Type 0 where
   pub name : c.name ≡ s.name
+  pub pin : c.pin ≡ s.pin
   pub class : HasClassIn declared g s.value c.class
 
 -- loads wait for the branch where the guard's term reads no memory

@@ -180,6 +180,7 @@ fn launch_sets(
         classes.push(SetClass {
             name: set.name.copy()?,
             class: term_number(alloc, graph, numbers, &set.value)?,
+            pin: set.pin,
         })?;
     }
     Ok(classes)

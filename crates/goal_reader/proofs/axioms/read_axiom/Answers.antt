@@ -4,7 +4,7 @@ use Rattle.word_ops.specs.declared.sorts.Sort.TheVariants as sorts
 use Rattle.text_core.specs.declared.faults.Kind.TheVariants.{BadForm}
 use Rattle.text_core.specs.Faults.{IsFirst, IsFaultBy}
 use Rattle.word_terms.specs.View.{tree_of}
-use Rattle.forms.specs.Forms.{place_of, sexp_form, parts_of, names_in}
+use Rattle.forms.specs.Forms.{place_of, sexp_form, parts_of}
 use Rattle.forms.proofs.Told.{told, told_of_part}
 use Rattle.goal_meaning.specs.declared.goals.DeclaredOp.{DeclaredOp}
 use Rattle.goal_reader.specs.declared.scopes.Scope.{Scope}

@@ -3,7 +3,6 @@ use Rattle.forms.specs.Forms.{place_of, sexp_form}
 use Rattle.forms.proofs.Told.{told}
 use Rattle.goal_reader.specs.Roles as roles
 use Rattle.goal_reader.specs.Roles.{Role, Shape, IsFaultAs, arity_named, ◌>>=◌}
-use Rattle.goal_meaning.specs.Names.{names_of_declared}
 use Rattle.goal_reader.proofs.Arities.{above_four, no_arity_first, arity_0_first, above_first}
 use Rattle.goal_reader.proofs.declarations.arity.Goals as goal
 

@@ -8,4 +8,4 @@ abbrev put : Draft → List Set → Draft
 put d xs = record { scope = d.scope; inputs = d.inputs; pool = d.pool; assumes = d.assumes; guard = d.guard; sets = xs }
 
 pub returns-clause-next : goal.returns-clause-next
-returns-clause-next c = drafts.target c.in_ok-one.one c.in_ok-one.ensures.named c.in_ok-one.ensures.value (ap (λ xs. put c.args.draft xs) c.in_ok-push.ensures.ok)
+returns-clause-next c = drafts.target c.in_ok-one.one c.in_ok-one.ensures.named c.in_ok-one.ensures.pin c.in_ok-one.ensures.value (ap (λ xs. put c.args.draft xs) c.in_ok-push.ensures.ok)

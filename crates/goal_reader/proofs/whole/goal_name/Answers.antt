@@ -3,7 +3,6 @@ use Rattle.forms.specs.Forms.{place_of, sexp_form}
 use Rattle.forms.proofs.Told.{told}
 use Rattle.goal_reader.specs.Roles as roles
 use Rattle.goal_reader.specs.Roles.{Role, IsFaultAs, register_number, ◌>>=◌}
-use Rattle.goal_meaning.specs.Names.{names_of_declared}
 use Rattle.goal_reader.specs.Drafts.{names_of_goals}
 use Rattle.goal_reader.proofs.NewNames.{no_fresh_first, taken_first}
 use Rattle.goal_reader.proofs.whole.goal_name.Goals as goal

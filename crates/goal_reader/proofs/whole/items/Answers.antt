@@ -1,4 +1,4 @@
-use Rattle.std.proofs.Common.{◌≡◌, ◌<◌, ◌≤◌, List, Some, true, length, sym, ◌∙◌, ap, refl, subst, arith}
+use Rattle.std.proofs.Common.{◌≡◌, ◌<◌, ◌≤◌, List, [], Some, true, length, sym, ◌∙◌, ap, refl, subst, arith}
 use Rattle.std.proofs.lemmas.Result.{err_from_is_err_and}
 use Rattle.std.specs.List.{list_any}
 use Rattle.forms.specs.Forms.{Form, place_of, sexp_form, parts_of}
@@ -196,11 +196,13 @@ loop-index-preserved c =
     let at = item_rank c.in_ok-keyword.keyword in
     let role = admitted_role declared before part d inv.draft at c.in_ok-keyword.ensures.rank (c.in_ok-keyword.ensures.admitted before inv.order) in
     let admitted = c.in_ok-keyword.ensures.admitted before inv.order in
+    let no_pool : at ≡ 1 → of_rank goal_keywords 1 before ≡ [] =
+    λ is. fewer_than_one (of_rank goal_keywords 1 before) (subst (λ n. length (of_rank goal_keywords n before) < (bound_at goal_bounds n).most) is admitted.1) in
     let more = before_next declared names form i part l g in
     record {
-      draft = subst (λ (b : List Form). IsDraft declared b c.in_ok-draft-2.draft) (sym more) (next_draft declared before part d inv.draft at c.in_ok-draft-2.draft c.in_ok-keyword.ensures.rank c.in_ok-draft-2.ensures.next);
+      draft = subst (λ (b : List Form). IsDraft declared b c.in_ok-draft-2.draft) (sym more) (next_draft declared before part d inv.draft at c.in_ok-draft-2.draft c.in_ok-keyword.ensures.rank no_pool c.in_ok-draft-2.ensures.next);
       written = subst (λ (b : List Form). IsWritten b c.in_ok-draft-2.draft) (sym more) (next_written before part d inv.written at c.in_ok-draft-2.draft c.in_ok-keyword.ensures.rank admitted.0 c.in_ok-draft-2.ensures.next c.in_ok-draft-2.ensures.clear
-          (λ is. fewer_than_one (of_rank goal_keywords 1 before) (subst (λ n. length (of_rank goal_keywords n before) < (bound_at goal_bounds n).most) is admitted.1))
+          no_pool
           (λ is. fewer_than_one (of_rank goal_keywords 3 before) (subst (λ n. length (of_rank goal_keywords n before) < (bound_at goal_bounds n).most) is admitted.1)));
       keeps = next_keeps declared before part d inv.written (ap (λ (x : Scope). x.declared) inv.draft.scope) inv.keeps at c.in_ok-draft-2.draft c.in_ok-keyword.ensures.rank admitted.0 admitted.1 c.in_ok-draft-2.ensures.next c.in_ok-draft-2.ensures.clear;
       order = subst (λ (b : List Form). IsOrderOf goal_keywords b c.after-order.result) (sym more) (c.after-order.ensures goal_keywords before part inv.order (c.in_ok-keyword.ensures.rank ∙ ap Some (sym c.rank.ensures)));

@@ -33,6 +33,8 @@ none_kept declared s [] [] [] e f g = record {
   own_names = λ k d l. absurd (omega (arith, l));
   not_declared = λ k d l. absurd (omega (arith, l));
   registers = record { pairs = pairs_nil (λ a b. a ≢ b); low = λ k d l. absurd (omega (arith, l)) };
+  pins = record { pairs = pairs_nil (λ a b. a ≢ b); low = λ k d l. absurd (omega (arith, l)) };
+  unpinned = λ k d l. absurd (omega (arith, l));
   targets = pairs_nil (λ (a b : Set). a.name ≢ b.name);
   few = (omega arith, omega arith, omega arith);
 }

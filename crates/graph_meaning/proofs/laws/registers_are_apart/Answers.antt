@@ -9,4 +9,7 @@ returns c =
       inputs = inputs_apart;
       inputs_differ = inputs_differ;
       inputs_low = inputs_low;
+      own_pins = λ g proper. proper.own_pins;
+      low_pins = λ g proper. proper.low_pins;
+      pins_apart = λ g proper. proper.pins_apart;
     }

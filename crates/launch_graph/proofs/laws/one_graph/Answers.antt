@@ -1,3 +1,4 @@
+use Rattle.std.proofs.Common.{inr}
 use Rattle.launch_graph.specs.GraphTexts.{BeginsWithGraph, IsGraphText}
 use Rattle.launch_graph.proofs.LineWords.{are_graph_lines}
 use Rattle.launch_graph.proofs.OneFault.{once}
@@ -12,13 +13,13 @@ returns c =
     record {
       graph = λ lines from next other g h p q. graph_once names lines from next other g h p q;
       apart = λ lines from next place g kind p f. no_fault_whole lines from next g p names f.at kind f.found;
-      first = λ lines from place other kind another. once BeginsWithGraph IsGraphText lines from place other kind another;
-      printed = λ lines from next g is few order within same ends.
+      first = λ lines from place other kind another. once (BeginsWithGraph 1) (IsGraphText 1) lines from place other kind another;
+      printed = λ lines from next g is unpinned few order within same ends.
           record {
             order = order;
             within = within;
             well_formed = is;
-            are = are_graph_lines g is few;
+            are = are_graph_lines g is 1 (inr unpinned) few;
             is = same;
             ends = ends;
           };

@@ -6,6 +6,11 @@ use Rattle.launch_graph.specs.GraphStages.{rows}
 use Rattle.launch_graph.proofs.WholeReading.{block, behind_within, behind_here, graph_here}
 use Rattle.launch_graph.proofs.reading.graph_at.Goals as goal
 
+pub returns-in_err-count-clause-fault : goal.returns-in_err-count-clause-fault
+returns-in_err-count-clause-fault c =
+    let p = err_from_is_err_and c.from_residual.result c.from_residual.ensures.1 in
+    rw (p.1, p.2) (c.in_err-count.ensures.fault c.args.version)
+
 pub returns-in_err-so_far-clause-fault : goal.returns-in_err-so_far-clause-fault
 returns-in_err-so_far-clause-fault c =
     let p = err_from_is_err_and c.from_residual-in_err-so_far.result c.from_residual-in_err-so_far.ensures.1 in
@@ -14,7 +19,7 @@ returns-in_err-so_far-clause-fault c =
     let count = c.in_ok-count.count in
     let end = c.block_end-end.result in
     let m = subst (HasMarks (take (end - (from + 1)) (drop (from + 1) lines)) count) (sym c.deref.ensures.value) c.in_ok-marks.ensures in
-    rw (p.1, p.2) (c.in_err-so_far.ensures.fault from m.rows (block lines from count c.deref.result.now c.in_ok-count.ensures.header end c.block_end-end.ensures m))
+    rw (p.1, p.2) (c.in_err-so_far.ensures.fault c.args.version from m.rows (block lines from count c.deref.result.now c.in_ok-count.ensures.header end c.block_end-end.ensures m))
 
 pub read_behind-requires : goal.read_behind-requires
 read_behind-requires c =
@@ -24,7 +29,7 @@ read_behind-requires c =
     let end = c.block_end-end.result in
     let m = subst (HasMarks (take (end - (from + 1)) (drop (from + 1) lines)) count) (sym c.deref.ensures.value) c.in_ok-marks.ensures in
     behind_within c.operators_are_listed.ensures.names lines from count c.deref.result.now c.in_ok-count.ensures.header end c.block_end-end.ensures m
-    c.in_ok-so_far.so_far c.in_ok-so_far.ensures.ok
+    c.in_ok-so_far.so_far c.in_ok-so_far.ensures.ok c.args.version
 
 pub returns-in_err-behind-clause-fault : goal.returns-in_err-behind-clause-fault
 returns-in_err-behind-clause-fault c =
@@ -36,9 +41,9 @@ returns-in_err-behind-clause-fault c =
     let m = subst (HasMarks (take (end - (from + 1)) (drop (from + 1) lines)) count) (sym c.deref.ensures.value) c.in_ok-marks.ensures in
     rw (p.1, p.2)
     (c.in_err-behind.ensures.fault from m.rows
-    (subst (λ ms. IsCleanBehindRows lines from m.rows ms (from + 1 + count) (rows 0)) (c.deref.ensures.value ∙ sym c.deref-2.ensures.value)
+    (subst (λ ms. IsCleanBehindRows c.args.version lines from m.rows ms (from + 1 + count) (rows 0)) (c.deref.ensures.value ∙ sym c.deref-2.ensures.value)
     (behind_here c.operators_are_listed.ensures.names lines from count c.deref.result.now c.in_ok-count.ensures.header end c.block_end-end.ensures m
-    c.in_ok-so_far.so_far c.in_ok-so_far.ensures.ok)))
+    c.in_ok-so_far.so_far c.in_ok-so_far.ensures.ok c.args.version)))
 
 pub returns-clause-graph : goal.returns-clause-graph
 returns-clause-graph c =
@@ -48,6 +53,6 @@ returns-clause-graph c =
     let end = c.block_end-end.result in
     let m = subst (HasMarks (take (end - (from + 1)) (drop (from + 1) lines)) count) (sym c.deref.ensures.value) c.in_ok-marks.ensures in
     graph_here c.operators_are_listed.ensures.names lines from count c.deref.result.now c.in_ok-count.ensures.header end c.block_end-end.ensures m
-    c.in_ok-so_far.so_far c.in_ok-so_far.ensures.ok c.in_ok-behind.behind c.in_ok-behind.next
-    (subst (λ ms. IsReadBehind lines ms (from + 1 + count) c.in_ok-behind.next c.in_ok-behind.behind) (c.deref-2.ensures.value ∙ sym c.deref.ensures.value)
+    c.in_ok-so_far.so_far c.in_ok-so_far.ensures.ok c.args.version c.in_ok-behind.behind c.in_ok-behind.next
+    (subst (λ ms. IsReadBehind c.args.version lines ms (from + 1 + count) c.in_ok-behind.next c.in_ok-behind.behind) (c.deref-2.ensures.value ∙ sym c.deref.ensures.value)
     c.in_ok-behind.ensures.ok)

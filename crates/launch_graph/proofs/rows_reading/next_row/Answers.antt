@@ -11,7 +11,7 @@ use Rattle.std.specs.Vec.{with_items}
 use Rattle.std.proofs.lemmas.List.{with_items_is}
 use Rattle.launch_graph.specs.declared.row_lines.RowLine.{RowLine}
 use Rattle.launch_graph.specs.declared.rows_reading.RowsSoFar.{RowsSoFar}
-use Rattle.launch_graph.specs.LineFaults.{IsFirstGraphFault}
+use Rattle.launch_graph.specs.LineFaults.{IsFirstFaultOf}
 use Rattle.launch_graph.specs.Numbering.{HasNoNumber, IsNumberedOp, row_key}
 use Rattle.launch_graph.specs.RowFaults.{IsBadClass}
 use Rattle.launch_graph.specs.RowLines.{IsRowLine}
@@ -33,16 +33,16 @@ not_true : (b : Bool) → b ≡ false → b ≡ false
 not_true b e = e
 
 pub returns-in_default-clause-fault : goal.returns-in_default-clause-fault
-returns-in_default-clause-fault c = λ from all before a more.
+returns-in_default-clause-fault c = λ version from all before a more.
     (let laws = c.operators_are_listed.ensures in
     let words = (line_at c.args.text.now c.args.line).words in
     let none = subst (λ (o : Option RowLine). MatchOption o ((row : RowLine) → IsRowLine words row → ⊥) (IsOnlyRow words)) c.in_default.is c.in_ok-row.ensures in
     let f = c.line_fault.ensures in
-    subst (IsFaultBy (IsFirstGraphFault c.args.text.now from)) (sym f.is)
+    subst (IsFaultBy (IsFirstFaultOf version c.args.text.now from)) (sym f.is)
     (no_row_first laws.names (by_numbers laws.numbers) c.args.text.now from all before c.args.marks.now c.args.line c.args.so_far.now a more c.requires.line f.place f.placed none))
 
 pub returns-in_default-2-clause-fault : goal.returns-in_default-2-clause-fault
-returns-in_default-2-clause-fault c = λ from all before a more.
+returns-in_default-2-clause-fault c = λ version from all before a more.
     (let laws = c.operators_are_listed.ensures in
     let words = (line_at c.args.text.now c.args.line).words in
     let row = c.in-Some.row in
@@ -50,12 +50,12 @@ returns-in_default-2-clause-fault c = λ from all before a more.
     let used = c.args.so_far.now.used in
     let none = subst (λ (o : Option Op). MatchOption o (HasNoNumber used row.op c.len.result) (IsNumberedOp used c.numbered_op.new.used row.op c.len.result)) c.in_default-2.is c.in_ok-op.ensures in
     let f = c.line_fault-in_default-2.ensures in
-    subst (IsFaultBy (IsFirstGraphFault c.args.text.now from)) (sym f.is)
+    subst (IsFaultBy (IsFirstFaultOf version c.args.text.now from)) (sym f.is)
     (no_number_first laws.names (by_numbers laws.numbers) c.args.text.now from all before c.args.marks.now c.args.line c.args.so_far.now a more c.requires.line f.place f.placed row is.is
     (subst (HasNoNumber used row.op) c.len.ensures none)))
 
 pub returns-then-not-fresh-clause-fault : goal.returns-then-not-fresh-clause-fault
-returns-then-not-fresh-clause-fault c = λ from all before a more.
+returns-then-not-fresh-clause-fault c = λ version from all before a more.
     (let laws = c.operators_are_listed.ensures in
     let words = (line_at c.args.text.now c.args.line).words in
     let row = c.in-Some.row in
@@ -69,12 +69,12 @@ returns-then-not-fresh-clause-fault c = λ from all before a more.
     let f = c.line_fault-then-not-fresh.ensures in
     let there : Contains c.args.so_far.now.index (row_key op row.operands) =
     subst (Contains c.args.so_far.now.index) key (c.in_ok-fresh.ensures.there (not_true c.in_ok-fresh.fresh c.if-not-fresh.true)) in
-    subst (IsFaultBy (IsFirstGraphFault c.args.text.now from)) (sym f.is)
+    subst (IsFaultBy (IsFirstFaultOf version c.args.text.now from)) (sym f.is)
     (not_fresh_first laws.names (by_numbers laws.numbers) c.args.text.now from all before c.args.marks.now c.args.line c.args.so_far.now a more c.requires.line f.place f.placed row is.is
     new op n there (count_is used new row.op (length row.operands) op n)))
 
 pub returns-then-bad-clause-fault : goal.returns-then-bad-clause-fault
-returns-then-bad-clause-fault c = λ from all before a more.
+returns-then-bad-clause-fault c = λ version from all before a more.
     (let laws = c.operators_are_listed.ensures in
     let words = (line_at c.args.text.now c.args.line).words in
     let row = c.in-Some.row in
@@ -91,7 +91,7 @@ returns-then-bad-clause-fault c = λ from all before a more.
     let bad : IsBadClass (length c.args.marks.now) all before row =
     (c.has_bad_class-bad.ensures.bad all before a.marks_are
     (subst (IsSeen (length c.args.marks.now) before c.args.so_far.now.next) (sym c.as_slice-2.ensures.value) a.seen)).0 c.if-bad.true in
-    subst (IsFaultBy (IsFirstGraphFault c.args.text.now from)) (sym f.is)
+    subst (IsFaultBy (IsFirstFaultOf version c.args.text.now from)) (sym f.is)
     (class_first laws.names (by_numbers laws.numbers) c.args.text.now from all before c.args.marks.now c.args.line c.args.so_far.now a more c.requires.line f.place f.placed row is.is
     new op n fresh bad))
 
@@ -104,7 +104,7 @@ returns-clause-few c =
     few_more used new row.op c.len.result c.in-Some-2.op c.requires.few numbered
 
 pub returns-clause-ok : goal.returns-clause-ok
-returns-clause-ok c = λ from all before a more.
+returns-clause-ok c = λ version from all before a more.
     (let laws = c.operators_are_listed.ensures in
     let words = (line_at c.args.text.now c.args.line).words in
     let row = c.in-Some.row in

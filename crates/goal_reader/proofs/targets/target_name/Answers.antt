@@ -3,10 +3,9 @@ use Rattle.forms.specs.Forms.{place_of, sexp_form}
 use Rattle.forms.proofs.Told.{told}
 use Rattle.goal_reader.specs.Roles as roles
 use Rattle.goal_reader.specs.Roles.{Role, IsFaultAs, register_number, ◌>>=◌}
-use Rattle.goal_meaning.specs.Names.{names_of_declared}
 use Rattle.goal_reader.specs.Reading.{names_of_targets}
 use Rattle.goal_reader.proofs.NewNames.{no_fresh_first, taken_first}
-use Rattle.goal_reader.proofs.assumes.target_name.Goals as goal
+use Rattle.goal_reader.proofs.targets.target_name.Goals as goal
 
 pub returns-in_default-clause-fault : goal.returns-in_default-clause-fault
 returns-in_default-clause-fault c =

@@ -8,8 +8,8 @@ use Rattle.pattern_match.specs.Listing.{Lists, Chosen, nothing}
 use Rattle.pattern_match.specs.Matches.{IsMatchOf, CanGive, AreGiven, variables_of}
 use Rattle.pattern_match.proofs.Choosing.{AsItself, lists_same, classes_at, loop_takes, loop_skips, whole}
 use Rattle.pattern_match.proofs.ComputedMatching.{can_give, computed_matched, matched_computed, IsGiven, some_if, none_if}
-use Rattle.pattern_match.proofs.computed.calc_matches.Goals as goal
-use Rattle.pattern_match.proofs.computed.calc_matches.Goals.{After-deref-one-items, then-is_some+in_ok-with+in_ok-push, else-is_some}
+use Rattle.pattern_match.proofs.computed.find_calc_matches.Goals as goal
+use Rattle.pattern_match.proofs.computed.find_calc_matches.Goals.{After-deref-one-items, then-is_some+in_ok-with+in_ok-push, else-is_some}
 
 -- the matches of the left side
 matches_of : (c : After-deref-one-items) → AreMatches c.args.graph.now (calc_left c.args.kind) (IsSubstitution c.args.graph.now (calc_left c.args.kind) (variables_of c.args.kind)) c.deref-one-items.result.now
@@ -27,7 +27,7 @@ calc_given-requires c =
     let law = c.computed_rules_are_true.ensures in
     let m = matches_of (goal.at.calc_given-requires c).After-deref-one-items in
     let matched = classes_at c.deref-one-items.result.now c.loop-one.one-index c.one-item.result c.loop-one-test.true c.one-item.is (IsSubstitution g (calc_left kind) (variables_of kind)) m.lists.each in
-    subst (CanGive g kind) (sym c.as_slice.ensures) (can_give law.usable law.last g c.in_ok-tables.ensures.graph kind c.one-item.result.classes matched)
+    subst (CanGive g kind) (sym c.as_slice.ensures) (can_give law.usable law.last g c.requires.graph kind c.one-item.result.classes matched)
 
 pub loop-one-preserved : goal.loop-one-preserved
 loop-one-preserved c =
@@ -56,7 +56,7 @@ pub returns : goal.returns
 returns c =
     let g = c.args.graph.now in
     let kind = c.args.kind in
-    let is = c.in_ok-tables.ensures.graph in
+    let is = c.requires.graph in
     let law = c.computed_rules_are_true.ensures in
     let numbers = c.constants_are_numbered.ensures.numbers in
     let D = IsGiven g kind in

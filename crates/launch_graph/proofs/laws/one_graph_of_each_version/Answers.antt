@@ -1,0 +1,36 @@
+use Rattle.std.proofs.Common.{inl, refl}
+use Rattle.launch_graph.specs.GraphTexts.{BeginsWithGraph, IsGraphText}
+use Rattle.launch_graph.proofs.LineWords.{are_graph_lines, few_rows, unpinned_lines}
+use Rattle.launch_graph.proofs.OneFault.{once}
+use Rattle.launch_graph.proofs.OneGraph.{graph_once}
+use Rattle.launch_graph.proofs.WholeGraphs.{no_fault_whole}
+use Rattle.launch_graph.proofs.laws.one_graph_of_each_version.Goals as goal
+
+pub returns : goal.returns
+returns c =
+    let names = c.operators_are_listed.ensures.names in
+    record {
+      graph = λ version lines from next other g h p q. graph_once names lines from next other g h p q;
+      apart = λ version lines from next place g kind p f. no_fault_whole lines from next g p names f.at kind f.found;
+      first = λ version lines from place other kind another. once (BeginsWithGraph version) (IsGraphText version) lines from place other kind another;
+      printed = λ lines from next g is few order within same ends.
+          record {
+            order = order;
+            within = within;
+            well_formed = is;
+            are = are_graph_lines g is 2 (inl refl) few;
+            is = same;
+            ends = ends;
+          };
+      unpinned = λ lines from next g h. (
+        record {
+          order = h.order;
+          within = h.within;
+          well_formed = h.well_formed;
+          are = are_graph_lines g h.well_formed 2 (inl refl) (few_rows g h.are.few);
+          is = h.is;
+          ends = h.ends;
+        },
+        unpinned_lines g.sets h.are.sets,
+      );
+    }
