@@ -1,11 +1,10 @@
 -- A schedule whose guard's value is 0: its words leave by the branch, with memory and inputs as at entry.
 use Rattle.std.proofs.Common.{◌≡◌, ℕ, zero, suc, ◌+◌, ◌*◌, ◌/◌, ◌-◌, ◌<◌, ◌≤◌, List, [], ◌∷◌, length, take, refl, sym, ◌∙◌, ap, subst, inl, inr, ◌⊎◌, arith, Bool, true, false, cond, get_or, pos, Option, Some, None}
-use Rattle.std.specs.Prelude.{All, IsTrue, IsSomeAnd, IfSome, slice_get, slice_index, count_by, is_some, if◌then◌else◌}
+use Rattle.std.specs.Prelude.{All, IsTrue, IsSomeAnd, IfSome, slice_get, slice_index, count_by, is_some, ◌==◌, if◌then◌else◌}
 use Rattle.std.specs.Option.{option_map_or}
 use Rattle.std.proofs.lemmas.Bool.{false≢true}
 use Rattle.std.proofs.lemmas.List.Elements.{All-nil, All-cons, All-head, All-tail}
-use Rattle.std.proofs.lemmas.Option.{slice_get_past, slice_get_cases, same_Some}
-use Rattle.std.proofs.lemmas.List.Sums.{sum_by-cons}
+use Rattle.std.proofs.lemmas.Option.{slice_get_past, slice_get_cases, same_Some, slice_get-get_or}
 use Rattle.word_ops.specs.declared.operators.WordOp.{WordOp}
 use Rattle.word_ops.specs.declared.operators.WordOp.TheVariants as ops
 use Rattle.word_ops.specs.declared.sorts.Op.{Op}
@@ -17,24 +16,30 @@ use Rattle.alpha_machine.specs.States.{MachineState}
 use Rattle.alpha_machine.specs.Steps.{step, address, next_pc}
 use Rattle.alpha_machine.specs.Runs.{stepped, after}
 use Rattle.graph_meaning.specs.Graphs.{constant_of}
-use Rattle.schedule_meaning.specs.Launches.{launches, is_store, is_load, is_branch, is_held, op_instr, word_op_instr, class_at, latest, later, group_of}
+use Rattle.schedule_meaning.specs.Launches.{launches, is_store, is_load, is_branch, is_held, op_instr, word_op_instr, class_at, latest, later, group_of, copied_at, overwrites}
 use Rattle.schedule_meaning.specs.Fits.{Waits}
-use Rattle.register_assign.specs.Listings.{items_of, instr_of}
+use Rattle.alpha_encode.specs.declared.instructions.Instr.TheVariants.{Beq}
+use Rattle.register_assign.specs.Listings.{items_of, instr_of, copy_instr, plain_instr, row_instr, register_for}
 use Rattle.register_assign.specs.Obeys.{loads}
 use Rattle.register_assign.specs.Outcomes.{entry_state, instrs_of, AreWordsOf, IsExit, Exits}
 use Rattle.alpha_machine.specs.Runs.{trace, stepped_first}
 use Rattle.graph_meaning.specs.declared.graphs.Guard.{Guard}
 use Rattle.graph_meaning.specs.declared.graphs.LaunchRow.{LaunchRow}
+use Rattle.graph_meaning.specs.declared.graphs.InputClass.{InputClass}
 use Rattle.graph_meaning.specs.declared.graphs.LaunchGraph.{LaunchGraph}
 use Rattle.machine_table.specs.declared.tables.Table.{Table}
 use Rattle.machine_table.specs.declared.tables.InstrKind.{InstrKind}
 use Rattle.machine_table.specs.declared.tables.InstrKind.TheVariants as kinds
 use Rattle.schedule_meaning.specs.declared.schedules.Launch.{Launch}
 use Rattle.schedule_meaning.proofs.Rules.{at_each, all_at, in_list}
-use Rattle.register_assign.proofs.Reached.{HasReached}
+use Rattle.register_assign.proofs.Reached.{HasReached, IsUntouched}
+use Rattle.register_assign.proofs.First.{First, first_counted}
+use Rattle.schedule_meaning.proofs.Copies.{copy_kind}
+use Rattle.register_assign.proofs.Destinations.{can_go}
+use Rattle.schedule_meaning.proofs.Pins.{over_from, pin_from, any_at, number_same}
 use Rattle.register_assign.proofs.Scene.{IsScene, kind_is, can}
 use Rattle.register_assign.proofs.Proper.{inputs_apart}
-use Rattle.register_assign.proofs.Groups.{earlier_cycle, store_group, held_group, branch_group}
+use Rattle.register_assign.proofs.Groups.{earlier_cycle, store_group, held_group, branch_group, over_group}
 use Rattle.register_assign.proofs.Stores.{at_take}
 use Rattle.register_assign.proofs.Branch.{branch_tests, other_step, left_by}
 use Rattle.register_assign.proofs.Obeying.{kind_at}
@@ -42,28 +47,7 @@ use Rattle.register_assign.proofs.Operates.{branches_none}
 use Rattle.register_assign.proofs.Whole.{after_more, word_at_place, reached_after, reached_first}
 use Rattle.register_assign.proofs.Falling.{words_count, items_count}
 
--- ---- the first that passes
-
-abbrev First : {X : Type 0} → (X → Bool) → List X → Type 0
-First {X} p xs = (i : ℕ) × (x : X) × (slice_get xs i ≡ Some x) × (p x ≡ true) × ((j : ℕ) (y : X) → j < i → slice_get xs j ≡ Some y → p y ≡ false)
-
-first_here : {X : Type 0} (p : X → Bool) (x : X) (xs : List X) → p x ≡ true → First p (x ∷ xs)
-first_here p x xs t = (0, x, refl, t, λ j y lt e. absurd (omega arith))
-
-first_later : {X : Type 0} (p : X → Bool) (x : X) (xs : List X) → p x ≡ false → First p xs → First p (x ∷ xs)
-first_later {X} p x xs f r = (suc r.0, r.1, r.2, r.3, before)
-  where
-    before : (j : ℕ) (y : X) → j < suc r.0 → slice_get (x ∷ xs) j ≡ Some y → p y ≡ false
-    before zero y lt e = ap p (sym (same_Some x y e)) ∙ f
-    before (suc j) y lt e = r.4 j y (omega arith) e
-
-first_step : {X : Type 0} (p : X → Bool) (x : X) (xs : List X) (b : Bool) → p x ≡ b → (0 < count_by p xs → First p xs) → 0 < cond b 1 0 + count_by p xs → First p (x ∷ xs)
-first_step p x xs true t rest h = first_here p x xs t
-first_step p x xs false t rest h = first_later p x xs t (rest (omega arith))
-
-first_counted : {X : Type 0} (p : X → Bool) (xs : List X) → 0 < count_by p xs → First p xs
-first_counted p [] h = absurd (omega arith)
-first_counted p (x ∷ xs) h = first_step p x xs (p x) refl (first_counted p xs) (subst (λ n. 0 < n) (sum_by-cons (λ y. cond (p y) 1 0) x xs) h)
+-- ---- nothing passes
 
 none_step : (test : Launch → Bool) (m : Launch) (o : Option Launch) (b : Bool) → b ≡ false → o ≡ None → cond b (later m o) o ≡ None
 none_step test m o true t e = absurd (false≢true (sym t))
@@ -144,18 +128,22 @@ module _ (g : LaunchGraph) (table : Table) (k : ℕ) (ordered : List Launch) (w 
   no_row_by (Some r) e =
       absurd (false≢true (sym (ap (λ q. option_map_or is_branch q false) (kind_is g table k ordered w value scene b l here r.class r.op r.name r.operands e) ∙ no_branch_op g r.op r.operands) ∙ the_branch.3))
 
-  no_row : slice_get g.rows l.row ≡ None
-  no_row = no_row_by (slice_get g.rows l.row) refl
+  no_copy_by : (o : Option ℕ) → copied_at g l.row ≡ o → copied_at g l.row ≡ None
+  no_copy_by None e = e
+  no_copy_by (Some class) e = absurd (false≢true (sym (ap (λ q. option_map_or is_branch q false) (copy_kind g l.row class e)) ∙ the_branch.3))
 
-  waits : (j : ℕ) (m : Launch) → slice_get ordered j ≡ Some m → IsTrue (launches g is_store m) ⊎ (IsTrue (launches g is_load m) × IsTrue (is_held g)) → l.cycle ≤ m.cycle
+  no_row : (copied_at g l.row ≡ None) × (slice_get g.rows l.row ≡ None)
+  no_row = (no_copy_by (copied_at g l.row) refl, no_row_by (slice_get g.rows l.row) refl)
+
+  waits : (j : ℕ) (m : Launch) → slice_get ordered j ≡ Some m → IsTrue (launches g is_store m) ⊎ (IsTrue (launches g is_load m) × IsTrue (is_held g)) ⊎ IsTrue (overwrites g m) → l.cycle ≤ m.cycle
   waits j m e h =
       at_each (λ b. IsTrue (launches g is_branch b) → b.cycle ≤ m.cycle) ordered (at_each (Waits g ordered) ordered scene.fits.after_branch j m e h) b l here the_branch.3
 
   -- a launch that waits doesn't stand before the branch
-  not_before : (j : ℕ) (m : Launch) → j < b → slice_get ordered j ≡ Some m → IsTrue (launches g is_store m) ⊎ (IsTrue (launches g is_load m) × IsTrue (is_held g)) → 1 < group_of g m → ⊥
+  not_before : (j : ℕ) (m : Launch) → j < b → slice_get ordered j ≡ Some m → IsTrue (launches g is_store m) ⊎ (IsTrue (launches g is_load m) × IsTrue (is_held g)) ⊎ IsTrue (overwrites g m) → 1 < group_of g m → ⊥
   not_before j m lt e h more =
       let le : l.cycle ≤ m.cycle = waits j m e h in
-      let less : m.cycle < l.cycle = earlier_cycle g ordered scene.order j b m l lt e here (let one : group_of g l ≡ 1 = branch_group g l the_branch.3 in omega arith) in
+      let less : m.cycle < l.cycle = earlier_cycle g ordered scene.order j b m l lt e here (let one : group_of g l ≡ 1 = branch_group g l (can_go g table k ordered scene.graph scene.proper scene.fits b l here) the_branch.3 in omega arith) in
       absurd (omega arith)
 
   false_from : (q : Bool) → ¬ (q ≡ true) → q ≡ false
@@ -166,7 +154,7 @@ module _ (g : LaunchGraph) (table : Table) (k : ℕ) (ordered : List Launch) (w 
   no_store =
       all_at (λ m. launches g is_store m ≡ false) (take b ordered) (λ j m lt e.
       let p = at_take ordered b j m e in
-      false_from (launches g is_store m) (λ t. not_before j m p.0 p.1 (inl t) (let three : group_of g m ≡ 3 = store_group g m t in omega arith)))
+      false_from (launches g is_store m) (λ t. not_before j m p.0 p.1 (inl t) (let three : group_of g m ≡ 3 = store_group g m (can_go g table k ordered scene.graph scene.proper scene.fits j m p.1) t in omega arith)))
 
   abbrev instrs : List Instr
   instrs = instrs_of (items_of g table ordered)
@@ -238,7 +226,7 @@ module _ (g : LaunchGraph) (table : Table) (k : ℕ) (ordered : List Launch) (w 
   no_load_at held n m le e t =
       let load : launches g is_load m ≡ true = ap (λ o. option_map_or is_load o false) (kind_at g table ordered n m (can g table k ordered w value scene n m e)) ∙ t in
       elim (before_or_branch n le) [
-        | inl lt ↦ not_before n m lt e (inr (load, held)) (let two : group_of g m ≡ 2 = held_group g m held load in omega arith)
+        | inl lt ↦ not_before n m lt e (inr (inl (load, held))) (let two : group_of g m ≡ 2 = held_group g m (can_go g table k ordered scene.graph scene.proper scene.fits n m e) held load in omega arith)
         | inr same ↦ (
             let one : m ≡ l = same_Some m l (sym e ∙ ap (slice_get ordered) same ∙ here) in
             false≢true (sym (branch_tests g table k ordered w value scene b l here is_load no_row) ∙ ap (launches g is_load) (sym one) ∙ load))
@@ -266,6 +254,20 @@ module _ (g : LaunchGraph) (table : Table) (k : ℕ) (ordered : List Launch) (w 
         | inr c ↦ (let q : length ordered ≤ i = c.0 in absurd (omega arith))
       ]
 
+  -- what overwrites an input comes after the branch
+  input_kept : (i : InputClass) (at : ℕ) → slice_get g.inputs at ≡ Some i → IsUntouched g ordered b i.reg
+  input_kept i at there j m lt e wrote =
+      let over : overwrites g m ≡ true = over_from g i.reg m wrote (any_at (λ x. x.reg == i.reg) g.inputs at i there (number_same i.reg i.reg refl)) in
+      not_before j m lt e (inr (inr over)) (let four : group_of g m ≡ 4 = over_group g m over in omega arith)
+
+  is_branch_word : instr_of g table ordered b l ≡ Beq (register_for g table ordered l (option_map_or (λ guard. guard.class) g.guard 0)) (pos (length ordered - b))
+  is_branch_word =
+      ap (λ o. option_map_or (copy_instr g table ordered b l) o (plain_instr g table ordered b l)) no_row.0
+      ∙ ap (λ o. option_map_or (λ r. row_instr g table ordered b l r.op r.operands) o (Beq (register_for g table ordered l (option_map_or (λ guard. guard.class) g.guard 0)) (pos (length ordered - b)))) no_row.1
+
+  total : length words ≡ length ordered
+  total = words_count (items_of g table ordered) words are ∙ count
+
   pub exits : Exits g w (items_of g table ordered) words
   exits = record {
     state = left;
@@ -277,6 +279,12 @@ module _ (g : LaunchGraph) (table : Table) (k : ℕ) (ordered : List Launch) (w 
       ends = left_pc ∙ ap (λ n. 4 * n + 4) (sym (words_count (items_of g table ordered) words are ∙ count));
     };
     memory_is = memory_kept;
-    inputs = λ i d lt. (reached_at b (omega arith)).kept (get_or g.inputs i d).reg (inputs_apart g scene.proper i d lt);
+    inputs = λ i d lt. (reached_at b (omega arith)).kept (get_or g.inputs i d).reg (inputs_apart g scene.proper i d lt) (input_kept (get_or g.inputs i d) i (slice_get-get_or g.inputs i d lt));
+    others = λ r out no_pin. (reached_at b (omega arith)).kept r out (λ j m lt e wrote. no_pin (pin_from g r m wrote));
+    place = b;
+    inside = (let t = total in let i = inside in omega arith);
+    each = λ n le. (reached_at n le).pc;
+    branch = (register_for g table ordered l (option_map_or (λ guard. guard.class) g.guard 0), word_at_place g table ordered b l here ∙ ap Some is_branch_word ∙ ap (λ n. Some (Beq (register_for g table ordered l (option_map_or (λ guard. guard.class) g.guard 0)) (pos (n - b)))) (sym total));
+    taken = after_more b instrs (entry_state w) ∙ leaves;
     no_load = λ held. traced held b (length (items_of g table ordered)) 0 (omega arith);
   }

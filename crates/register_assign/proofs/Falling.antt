@@ -1,18 +1,25 @@
 -- A schedule without a branch: its words end past the last with each target's value in its place.
-use Rattle.std.proofs.Common.{◌≡◌, ℕ, suc, ◌+◌, ◌*◌, List, [], ◌∷◌, length, refl, sym, ◌∙◌, ap, subst, inl, inr, ◌⊎◌, arith, Bool, true, false, not, cond, get_or, map, Some}
-use Rattle.std.specs.Prelude.{All, Any, slice_index, filter}
+use Rattle.std.proofs.Common.{◌≡◌, ℕ, suc, ◌+◌, ◌*◌, List, [], ◌∷◌, length, refl, sym, ◌∙◌, ap, subst, inl, inr, arith, Bool, true, false, not, cond, get_or, map, ◌<◌, ◌≤◌, Option, Some, None}
+use Rattle.std.specs.Prelude.{All, Contains, slice_get, slice_index, filter, count_by, unwrap_or, option_and_then, take}
 use Rattle.std.specs.List.{AllZip}
 use Rattle.std.proofs.lemmas.Bool.{false≢true}
 use Rattle.std.proofs.lemmas.List.{take_all}
-use Rattle.std.proofs.lemmas.List.Elements.{All-head, All-tail}
+use Rattle.std.proofs.lemmas.List.Elements.{All-head, All-tail, All-contains}
+use Rattle.std.proofs.lemmas.Option.{same_Some, none-some}
 use Rattle.word_ops.specs.Worlds.{World, Value, word}
-use Rattle.graph_meaning.specs.Graphs.{is_memory_name, memory_target}
-use Rattle.schedule_meaning.specs.Launches.{IsZero, IsClassOfInput, Gives, memory_after}
-use Rattle.schedule_meaning.specs.Fits.{IsReached as IsFound}
+use Rattle.graph_meaning.specs.Graphs.{is_memory_name, memory_target, IsPin}
+use Rattle.schedule_meaning.specs.Launches.{HasInput, memory_after, pin_of, set_at, goes_to}
+use Rattle.schedule_meaning.specs.Fits.{IsWhereWanted, IsReached as IsFound}
 use Rattle.alpha_machine.specs.States.{MachineState}
 use Rattle.alpha_machine.specs.Runs.{after}
-use Rattle.register_assign.proofs.Reached.{HasReached}
-use Rattle.register_assign.specs.Listings.{items_from, items_of, wheres_of, target_register}
+use Rattle.register_assign.proofs.Reached.{HasReached, IsUntouched}
+use Rattle.register_assign.proofs.First.{first_counted}
+use Rattle.register_assign.proofs.Counts.{count_below}
+use Rattle.register_assign.proofs.Destinations.{can_go, one_pin, reg_of_pin, none_31}
+use Rattle.schedule_meaning.proofs.Pins.{go, goes_from, from_goes, pinned_from, written_from, pin_from}
+use Rattle.schedule_meaning.proofs.Rules.{all_at, in_list}
+use Rattle.schedule_meaning.specs.declared.schedules.To.TheVariants.{Set}
+use Rattle.register_assign.specs.Listings.{items_from, items_of, wheres_of, target_register, target_place}
 use Rattle.register_assign.specs.Outcomes.{entry_state, instrs_of, AreWordsOf, IsExit, Falls}
 use Rattle.alpha_encode.specs.Decoded.{decoded}
 use Rattle.register_assign.specs.declared.listings.Item.{Item}
@@ -45,41 +52,92 @@ module _ (g : LaunchGraph) (table : Table) (k : ℕ) (ordered : List Launch) (w 
   count : length words ≡ length ordered
   count = words_count (items_of g table ordered) words are ∙ items_count g table ordered 0 ordered
 
+  reached_at : (n : ℕ) → n ≤ length ordered → HasReached g w value ordered n (after n (instrs_of (items_of g table ordered)) (entry_state w))
+  reached_at n le =
+      reached_after g table ordered w value (length ordered) (λ n l s lt here reached. word_step g table k ordered w value scene n l here s reached no_exit) n le le (reached_first g w value ordered scene.world scene.true_in)
+
   final_reached : HasReached g w value ordered (length ordered) final
   final_reached =
       subst (λ n. HasReached g w value ordered (length ordered) (after n (instrs_of (items_of g table ordered)) (entry_state w))) (sym count)
       (reached_after g table ordered w value (length ordered) (λ n l s lt here reached. word_step g table k ordered w value scene n l here s reached no_exit) (length ordered) (omega arith) (omega arith) (reached_first g w value ordered scene.world scene.true_in))
 
-  place_value : (s : SetClass) → is_memory_name s.name ≡ false → IsFound g ordered s → word (slice_index final.registers (target_register g ordered s.class)) ≡ value s.class
-  place_value s no_memory h =
-      place_reads g table ordered w value scene.true_in scene.world.zero_register (pool_low g scene.proper) (inputs_apart g scene.proper) scene.order (positive g table k ordered w value scene) final final_reached s.class (found s no_memory h)
-    where
-      found : (s : SetClass) → is_memory_name s.name ≡ false → IsFound g ordered s → IsZero g s.class ⊎ (IsClassOfInput g s.class ⊎ Any (Gives g s.class) ordered)
-      found s no_memory (inl m) = absurd (false≢true (sym no_memory ∙ m))
-      found s no_memory (inr (inl i)) = inr (inl i)
-      found s no_memory (inr (inr (inl z))) = inl z
-      found s no_memory (inr (inr (inr a))) = inr (inr a)
+  -- the launch that goes to a pinned set leaves its class's value in the pin
+  pinned_value : (j : ℕ) (s : SetClass) (r : ℕ) → slice_get g.sets j ≡ Some s → s.pin ≡ Some r → (p : ℕ) (m : Launch) → slice_get ordered p ≡ Some m → goes_to j m ≡ true → word (slice_index final.registers r) ≡ value s.class
+  pinned_value j s r e pin p m at t =
+      let to : m.to ≡ Set j = goes_from g j m t in
+      let wrote : pin_of g m.to ≡ Some r = ap (pin_of g) to ∙ ap (option_and_then (λ s. s.pin)) e ∙ pin in
+      elim (go g m (can_go g table k ordered scene.graph scene.proper scene.fits p m at)) [
+        | inl q ↦ absurd (none-some r (sym q.1 ∙ wrote))
+        | inr (q, t, there, v, c) ↦ (
+            let same : t ≡ s = same_Some t s (sym there ∙ ap (set_at g) to ∙ e) in
+            ap (λ x. word (slice_index final.registers x)) (sym (reg_of_pin g table k ordered scene.graph scene.proper scene.fits p m r at wrote))
+            ∙ final_reached.given p m (in_list ordered p m at) at c.gives.0
+            ∙ ap value (c.gives.1 ∙ ap (λ x. x.class) same))
+      ]
+
+  -- a pinned set to which no launch goes is that of its input
+  nothing_goes : (j : ℕ) (s : SetClass) (r : ℕ) → slice_get g.sets j ≡ Some s → s.pin ≡ Some r → count_by (goes_to j) ordered ≡ 0 → IsUntouched g ordered (length ordered) r
+  nothing_goes j s r e pin none p m lt at wrote =
+      let q = pinned_from g m.to r (written_from g r m wrote) in
+      let same : q.0 ≡ j = one_pin g table k ordered scene.graph scene.proper scene.fits q.0 j r q.1 s q.3 e q.4 pin in
+      let some : count_by (goes_to j) (take p ordered) < count_by (goes_to j) ordered = count_below (goes_to j) ordered p m at (from_goes g j m (q.2 ∙ ap Set same)) in
+      absurd (omega arith)
+
+  input_stays : (j : ℕ) (s : SetClass) (r : ℕ) → slice_get g.sets j ≡ Some s → s.pin ≡ Some r → count_by (goes_to j) ordered ≡ 0 → HasInput g s.class (λ q. q ≡ r) → word (slice_index final.registers r) ≡ value s.class
+  input_stays j s r e pin none h =
+      let i = h.1 in
+      let reg : i.reg ≡ r = h.4.1 in
+      let out : ¬ Contains g.pool r = subst (λ q. ¬ Contains g.pool q) reg (All-contains (λ i. ¬ Contains g.pool i.reg) g.inputs i (inputs_apart g scene.proper) (h.0, h.2, h.3)) in
+      ap word (final_reached.kept r out (nothing_goes j s r e pin none))
+      ∙ ap (λ q. word (slice_index w.registers q)) (sym reg)
+      ∙ sym (All-contains (λ i. value i.class ≡ word (slice_index w.registers i.reg)) g.inputs i scene.true_in.inputs (h.0, h.2, h.3))
+      ∙ ap value h.4.0
+
+  pin_holds : (j : ℕ) (s : SetClass) (r : ℕ) → slice_get g.sets j ≡ Some s → s.pin ≡ Some r → IsWhereWanted g ordered j s (Some r) → word (slice_index final.registers r) ≡ value s.class
+  pin_holds j s r e pin (inl one) =
+      let f = first_counted (goes_to j) ordered (let c : count_by (goes_to j) ordered ≡ 1 = one in omega arith) in
+      pinned_value j s r e pin f.0 f.1 f.2 f.3
+  pin_holds j s r e pin (inr h) = input_stays j s r e pin h.0 h.1
+
+  place_by : (j : ℕ) (s : SetClass) → slice_get g.sets j ≡ Some s → (o : Option ℕ) → s.pin ≡ o → IsWhereWanted g ordered j s o → word (slice_index final.registers (unwrap_or o (target_register g table ordered s.class))) ≡ value s.class
+  place_by j s e None pin h =
+      place_reads g table ordered w value scene.true_in scene.world.zero_register (pool_low g scene.proper) (inputs_apart g scene.proper) (none_31 g table k ordered scene.graph scene.proper scene.fits) scene.fits.apart scene.order (positive g table k ordered w value scene) final final_reached s.class h
+  place_by j s e (Some r) pin h = pin_holds j s r e pin h
+
+  place_value : (j : ℕ) (s : SetClass) → slice_get g.sets j ≡ Some s → is_memory_name s.name ≡ false → IsFound g ordered j s → word (slice_index final.registers (target_place g table ordered s)) ≡ value s.class
+  place_value j s e no_memory (inl m) = absurd (false≢true (sym no_memory ∙ m))
+  place_value j s e no_memory (inr h) = place_by j s e s.pin refl h
+
+  abbrev HoldsValue : SetClass → Type 0
+  HoldsValue s = is_memory_name s.name ≡ false → word (slice_index final.registers (target_place g table ordered s)) ≡ value s.class
+
+  all_hold : All HoldsValue g.sets
+  all_hold = all_at HoldsValue g.sets (λ j s lt e no_memory. place_value j s e no_memory (scene.fits.targets j s e))
 
   abbrev IsPlace : Where → SetClass → Type 0
   IsPlace p s = (p.name ≡ s.name) × (word (slice_index final.registers p.reg) ≡ value s.class)
 
   abbrev where_of : SetClass → Where
-  where_of s = record { name = s.name; reg = target_register g ordered s.class }
+  where_of s = record { name = s.name; reg = target_place g table ordered s }
 
-  targets_step : (s : SetClass) (ss : List SetClass) (b : Bool) → is_memory_name s.name ≡ b → IsFound g ordered s → AllZip IsPlace (map where_of (filter (λ s. not (is_memory_name s.name)) ss)) (filter (λ s. not (is_memory_name s.name)) ss) → AllZip IsPlace (map where_of (cond (not b) (s ∷ filter (λ s. not (is_memory_name s.name)) ss) (filter (λ s. not (is_memory_name s.name)) ss))) (cond (not b) (s ∷ filter (λ s. not (is_memory_name s.name)) ss) (filter (λ s. not (is_memory_name s.name)) ss))
+  targets_step : (s : SetClass) (ss : List SetClass) (b : Bool) → is_memory_name s.name ≡ b → HoldsValue s → AllZip IsPlace (map where_of (filter (λ s. not (is_memory_name s.name)) ss)) (filter (λ s. not (is_memory_name s.name)) ss) → AllZip IsPlace (map where_of (cond (not b) (s ∷ filter (λ s. not (is_memory_name s.name)) ss) (filter (λ s. not (is_memory_name s.name)) ss))) (cond (not b) (s ∷ filter (λ s. not (is_memory_name s.name)) ss) (filter (λ s. not (is_memory_name s.name)) ss))
   targets_step s ss true e h rest = rest
-  targets_step s ss false e h rest = ((refl, place_value s e h), rest)
+  targets_step s ss false e h rest = ((refl, h e), rest)
 
-  targets_from : (ss : List SetClass) → All (IsFound g ordered) ss → AllZip IsPlace (map where_of (filter (λ s. not (is_memory_name s.name)) ss)) (filter (λ s. not (is_memory_name s.name)) ss)
+  targets_from : (ss : List SetClass) → All HoldsValue ss → AllZip IsPlace (map where_of (filter (λ s. not (is_memory_name s.name)) ss)) (filter (λ s. not (is_memory_name s.name)) ss)
   targets_from [] h = tt
-  targets_from (s ∷ ss) h = targets_step s ss (is_memory_name s.name) refl (All-head (IsFound g ordered) s ss h) (targets_from ss (All-tail (IsFound g ordered) s ss h))
+  targets_from (s ∷ ss) h = targets_step s ss (is_memory_name s.name) refl (All-head HoldsValue s ss h) (targets_from ss (All-tail HoldsValue s ss h))
 
   memory_left : memory_after g ordered ≡ memory_target g
   memory_left =
       let t = mem.after_all ordered in
       mem.after_is_before g ordered t.0 t.1 ∙ mem.left_once g ordered scene.fits.memory.single t.0 _ _ (mem.memory_before_is g t.0 ordered) (scene.fits.memory.last t.0 t.1)
 
-  pub falls : Falls g w value words (wheres_of g ordered)
+  -- a register that is no pin is never written but as one of the pool
+  unpinned : (r : ℕ) → ¬ IsPin g r → IsUntouched g ordered (length ordered) r
+  unpinned r no_pin j m lt e wrote = no_pin (pin_from g r m wrote)
+
+  pub falls : Falls g w value words (wheres_of g table ordered)
   falls = record {
     state = final;
     runs = record {
@@ -89,7 +147,9 @@ module _ (g : LaunchGraph) (table : Table) (k : ℕ) (ordered : List Launch) (w 
       steps = refl;
       ends = final_reached.pc ∙ ap (λ n. 4 * n) (sym count);
     };
-    targets = targets_from g.sets scene.fits.targets;
+    targets = targets_from g.sets all_hold;
     memory_is = final_reached.memory_is ∙ ap (λ ls. value (memory_after g ls)) (take_all (length ordered) ordered (omega arith)) ∙ ap value memory_left;
-    inputs = λ i d lt. final_reached.kept (get_or g.inputs i d).reg (inputs_apart g scene.proper i d lt);
+    inputs = λ i d lt no_pin. final_reached.kept (get_or g.inputs i d).reg (inputs_apart g scene.proper i d lt) (unpinned (get_or g.inputs i d).reg no_pin);
+    others = λ r out no_pin. final_reached.kept r out (unpinned r no_pin);
+    each = λ n le. (reached_at n (let c = count in omega arith)).pc;
   }

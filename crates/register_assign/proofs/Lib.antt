@@ -1,10 +1,15 @@
 mod Branch
+mod Counts
+mod Destinations
 mod Displacements
 mod Encodable
 mod Exiting
 mod Falling
+mod First
 mod Groups
+mod Intact
 mod Listed
+mod Moved
 mod Obeyed
 mod Obeying
 mod OfListings

@@ -3,7 +3,7 @@ use Rattle.std.proofs.Common.{◌≡◌, ℕ, zero, suc, ◌+◌, ◌<◌, List,
 use Rattle.std.specs.Prelude.{filter}
 use Rattle.std.proofs.lemmas.List.{take_more}
 use Rattle.graph_meaning.specs.Graphs.{is_memory_name}
-use Rattle.register_assign.specs.Listings.{items_from, item_of, target_register}
+use Rattle.register_assign.specs.Listings.{items_from, item_of, target_place}
 use Rattle.register_assign.specs.Places.{places}
 use Rattle.graph_meaning.specs.declared.graphs.SetClass.{SetClass}
 use Rattle.graph_meaning.specs.declared.graphs.LaunchGraph.{LaunchGraph}
@@ -25,17 +25,17 @@ module _ (g : LaunchGraph) (table : Table) (ordered : List Launch) where
       ∙ items_push 0 ordered n d h
       ∙ ap (λ k. items_from g table ordered 0 (take n ordered) ++ item_of g table ordered k (get_or ordered n d) ∷ []) (let e : 0 + n ≡ n = omega arith in e)
 
-module _ (g : LaunchGraph) (ordered : List Launch) where
+module _ (g : LaunchGraph) (table : Table) (ordered : List Launch) where
   abbrev where_of : SetClass → Where
-  where_of s = record { name = s.name; reg = target_register g ordered s.class }
+  where_of s = record { name = s.name; reg = target_place g table ordered s }
 
-  places_append : (ss ts : List SetClass) → places g ordered (ss ++ ts) ≡ places g ordered ss ++ places g ordered ts
+  places_append : (ss ts : List SetClass) → places g table ordered (ss ++ ts) ≡ places g table ordered ss ++ places g table ordered ts
   places_append [] ts = refl
   places_append (s ∷ ss) ts = by (not (is_memory_name s.name)) (places_append ss ts)
     where
-      by : (b : Bool) → places g ordered (ss ++ ts) ≡ places g ordered ss ++ places g ordered ts → map where_of (cond b (s ∷ filter (λ s. not (is_memory_name s.name)) (ss ++ ts)) (filter (λ s. not (is_memory_name s.name)) (ss ++ ts))) ≡ map where_of (cond b (s ∷ filter (λ s. not (is_memory_name s.name)) ss) (filter (λ s. not (is_memory_name s.name)) ss)) ++ places g ordered ts
+      by : (b : Bool) → places g table ordered (ss ++ ts) ≡ places g table ordered ss ++ places g table ordered ts → map where_of (cond b (s ∷ filter (λ s. not (is_memory_name s.name)) (ss ++ ts)) (filter (λ s. not (is_memory_name s.name)) (ss ++ ts))) ≡ map where_of (cond b (s ∷ filter (λ s. not (is_memory_name s.name)) ss) (filter (λ s. not (is_memory_name s.name)) ss)) ++ places g table ordered ts
       by true e = ap (λ xs. where_of s ∷ xs) e
       by false e = e
 
-  pub places_more : (n : ℕ) (d : SetClass) → n < length g.sets → places g ordered (take (n + 1) g.sets) ≡ places g ordered (take n g.sets) ++ places g ordered (get_or g.sets n d ∷ [])
-  places_more n d h = ap (places g ordered) (take_more g.sets n d h) ∙ places_append (take n g.sets) (get_or g.sets n d ∷ [])
+  pub places_more : (n : ℕ) (d : SetClass) → n < length g.sets → places g table ordered (take (n + 1) g.sets) ≡ places g table ordered (take n g.sets) ++ places g table ordered (get_or g.sets n d ∷ [])
+  places_more n d h = ap (places g table ordered) (take_more g.sets n d h) ∙ places_append (take n g.sets) (get_or g.sets n d ∷ [])

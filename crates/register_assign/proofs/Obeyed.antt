@@ -1,15 +1,17 @@
 -- The items of a fitting schedule in word order obey the table.
-use Rattle.std.proofs.Common.{◌≡◌, ◌≢◌, ℕ, zero, suc, ◌+◌, ◌<◌, ◌≤◌, List, [], ◌∷◌, refl, sym, ◌∙◌, ap, subst, inl, inr, ◌⊎◌, arith, Bool, true, false, ◌&&◌, get_or, take, Option, Some, None}
-use Rattle.std.specs.Prelude.{All, AllPairs, Contains, IsTrue, IsSomeAnd, slice_get, unwrap_or, count_by, find, position, option_map, ◌==◌, nat_le, if◌then◌else◌}
+use Rattle.std.proofs.Common.{◌≡◌, ℕ, zero, suc, ◌+◌, ◌<◌, ◌≤◌, List, [], ◌∷◌, refl, sym, ◌∙◌, ap, subst, inl, inr, ◌⊎◌, arith, Bool, true, false, ◌&&◌, get_or, Option, Some, None}
+use Rattle.std.specs.Prelude.{All, AllPairs, Contains, IsTrue, IsSomeAnd, slice_get, unwrap_or, find, position, option_map, ◌==◌, if◌then◌else◌}
 use Rattle.std.specs.Option.{option_map_or}
 use Rattle.std.proofs.lemmas.Option.{slice_get-get_or, same_Some, none-some}
-use Rattle.std.proofs.lemmas.List.Elements.{All-contains, Contains-get_or}
+use Rattle.std.proofs.lemmas.List.Elements.{All-contains}
 use Rattle.std.proofs.lemmas.List.Quantifiers.{position-Some}
 use Rattle.machine_table.specs.Tables.{MayUse, latency_of, ready, cluster_of, IsTable}
-use Rattle.schedule_meaning.specs.Launches.{instr_at, launches, gives_word, is_store, ready_in, StandsBefore}
+use Rattle.schedule_meaning.specs.Launches.{instr_at, launches, gives_word, is_store, ready_in, StandsBefore, IsInWordOrder, writes_pin}
 use Rattle.schedule_meaning.specs.Fits.{CanLaunch, Collide, EndsBy, Fits}
 use Rattle.register_assign.specs.Listings.{item_of, items_from, items_of, instr_of, register_at, register_for, or_register}
-use Rattle.graph_meaning.specs.Graphs.{input_register, is_zero_class}
+use Rattle.graph_meaning.specs.Graphs.{is_zero_class, is_input_register, IsProper}
+use Rattle.graph_meaning.specs.WellFormed.{IsLaunchGraph}
+use Rattle.schedule_meaning.specs.Readers.{is_intact, passes as passes_by, input_where}
 use Rattle.schedule_meaning.specs.Launches.{gives}
 use Rattle.register_assign.specs.Obeys.{kind_of, stores, reads, writes, latency_in, ready_from, HasOperands, Obeys}
 use Rattle.machine_table.specs.declared.tables.InstrKind.{InstrKind}
@@ -20,10 +22,14 @@ use Rattle.graph_meaning.specs.declared.graphs.LaunchGraph.{LaunchGraph}
 use Rattle.machine_table.specs.declared.tables.Table.{Table}
 use Rattle.schedule_meaning.specs.declared.schedules.Launch.{Launch}
 use Rattle.schedule_meaning.proofs.Rules.{at_each, all_at, at_pair}
-use Rattle.register_assign.proofs.Running.{own_register, in_pool}
+use Rattle.register_assign.proofs.Destinations.{own_register, own_kind}
+use Rattle.schedule_meaning.proofs.Pins.{any_at, number_same}
+use Rattle.register_assign.proofs.Intact.{intact_before}
+use Rattle.register_assign.proofs.Reached.{IsUntouched}
 use Rattle.register_assign.proofs.Reading.{found_passes}
 use Rattle.schedule_meaning.proofs.Comparisons.{and_left, and_right, true_le}
-use Rattle.schedule_meaning.proofs.Ordered.{latency_positive}
+use Rattle.schedule_meaning.proofs.Ordered.{latency_positive, fits_permuted}
+use Rattle.register_assign.proofs.Proper.{inputs_apart}
 use Rattle.register_assign.proofs.Obeying.{kind_at, writes_own, reads_chosen}
 
 module _ (g : LaunchGraph) (table : Table) (ordered : List Launch) where
@@ -48,38 +54,52 @@ module _ (g : LaunchGraph) (table : Table) (ordered : List Launch) where
 
   -- ---- the register that is chosen for a class
 
-  abbrev Source : Launch → ℕ → Type 0
-  Source l r =
+  abbrev Source : ℕ → Launch → ℕ → Type 0
+  Source n l r =
       (r ≡ 31)
-      ⊎ (¬ Contains g.pool r)
+      ⊎ ((¬ Contains g.pool r) × IsUntouched g ordered n r)
       ⊎ ((j : ℕ) × (m : Launch) × (slice_get ordered j ≡ Some m) × IsTrue (launches g gives_word m) × (ready_in g table (cluster_of table l.slot) m ≤ l.cycle) × (r ≡ register_at g ordered j))
 
-  module _ (inputs_apart : All (λ i. ¬ Contains g.pool i.reg) g.inputs) (l : Launch) (class : ℕ) where
+  module _ (inputs_apart : All (λ i. ¬ Contains g.pool i.reg) g.inputs)
+      (apart : AllPairs (λ l m. ¬ Collide l m) ordered) (order : AllPairs (StandsBefore g) ordered)
+      (n : ℕ) (l : Launch) (here : slice_get ordered n ≡ Some l) (class : ℕ) where
     abbrev passes : Launch → Bool
-    passes m = gives g class m && nat_le (ready_in g table (cluster_of table l.slot) m) l.cycle
+    passes m = gives g class m && passes_by g table (Some l) m
 
-    input_source : (o : Option InputClass) → find (λ i. i.class == class) g.inputs ≡ o → (r : ℕ) → option_map (λ i. i.reg) o ≡ Some r → ¬ Contains g.pool r
+    abbrev holds : ℕ → Bool
+    holds = is_intact g ordered (Some l)
+
+    abbrev of_class : InputClass → Bool
+    of_class i = (i.class == class) && holds i.reg
+
+    abbrev IsFree : ℕ → Type 0
+    IsFree r = (¬ Contains g.pool r) × IsUntouched g ordered n r
+
+    input_source : (o : Option InputClass) → find of_class g.inputs ≡ o → (r : ℕ) → option_map (λ i. i.reg) o ≡ Some r → IsFree r
     input_source None e r f = absurd (none-some r f)
-    input_source (Some i) e r f = subst (λ q. ¬ Contains g.pool q) (same_Some i.reg r f) (found_passes (λ x. x.class == class) (λ x. ¬ Contains g.pool x.reg) g.inputs i inputs_apart e).0
+    input_source (Some i) e r f =
+        let P : InputClass → Type 0 = λ x. (¬ Contains g.pool x.reg) × (is_input_register g x.reg ≡ true) in
+        let both : All P g.inputs = λ k d lt. (inputs_apart k d lt, any_at (λ x. x.reg == (get_or g.inputs k d).reg) g.inputs k (get_or g.inputs k d) (slice_get-get_or g.inputs k d lt) (number_same (get_or g.inputs k d).reg (get_or g.inputs k d).reg refl)) in
+        let found = found_passes of_class P g.inputs i both e in
+        subst IsFree (same_Some i.reg r f) (found.0.0, intact_before g ordered apart order n l i.reg here found.0.1 (and_right (i.class == class) (holds i.reg) found.1))
 
-    launch_source : (j : ℕ) → position passes ordered ≡ Some j → Source l (register_at g ordered j)
+    launch_source : (j : ℕ) → position passes ordered ≡ Some j → Source n l (register_at g ordered j)
     launch_source j e =
         let there = position-Some passes ordered j l e in
         let m : Launch = get_or ordered j l in
-        inr (inr (j, m, slice_get-get_or ordered j l there.0, and_left (launches g gives_word m) _ (and_left (gives g class m) _ there.1), true_le _ _ (and_right (gives g class m) (nat_le (ready_in g table (cluster_of table l.slot) m) l.cycle) there.1), refl))
+        inr (inr (j, m, slice_get-get_or ordered j l there.0, and_left (launches g gives_word m) _ (and_left (gives g class m) _ there.1), true_le (ready_in g table (cluster_of table l.slot) m) l.cycle (and_right (gives g class m) (passes_by g table (Some l) m) there.1), refl))
 
-    source_by : (z : Bool) (o : Option ℕ) → input_register g class ≡ o → (p : Option ℕ) → position passes ordered ≡ p → Source l (if z then 31 else or_register o (option_map_or (register_at g ordered) p 31))
+    source_by : (z : Bool) (o : Option ℕ) → input_where g holds class ≡ o → (p : Option ℕ) → position passes ordered ≡ p → Source n l (if z then 31 else or_register o (option_map_or (register_at g ordered) p 31))
     source_by true o i p e = inl refl
-    source_by false (Some r) i p e = inr (inl (input_source (find (λ i. i.class == class) g.inputs) refl r i))
+    source_by false (Some r) i p e = inr (inl (input_source (find of_class g.inputs) refl r i))
     source_by false None i (Some j) e = launch_source j e
     source_by false None i None e = inl refl
 
-    source : Source l (register_for g table ordered l class)
-    source = source_by (is_zero_class g class) (input_register g class) refl (position passes ordered) refl
+    source : Source n l (register_for g table ordered l class)
+    source = source_by (is_zero_class g class) (input_where g holds class) refl (position passes ordered) refl
 
-  module _ (k : ℕ) (is_table : IsTable table) (fits : Fits g table k ordered) (order : AllPairs (StandsBefore g) ordered)
-      (differ : AllPairs (λ a b. a ≢ b) g.pool)
-      (low : All (λ r. r < 31) g.pool)
+  module _ (k : ℕ) (is_table : IsTable table) (graph : IsLaunchGraph g) (proper : IsProper g) (fits : Fits g table k ordered)
+      (order : AllPairs (StandsBefore g) ordered)
       (inputs_apart : All (λ i. ¬ Contains g.pool i.reg) g.inputs) where
     can : (n : ℕ) (l : Launch) → slice_get ordered n ≡ Some l → CanLaunch g table l
     can n l e = at_each (CanLaunch g table) ordered fits.rows n l e
@@ -123,30 +143,33 @@ module _ (g : LaunchGraph) (table : Table) (ordered : List Launch) where
     same_register : (i j : ℕ) (l m : Launch) → slice_get ordered i ≡ Some l → slice_get ordered j ≡ Some m → IsTrue (launches g gives_word l) → IsTrue (launches g gives_word m) → register_at g ordered i ≡ register_at g ordered j → i ≡ j
     same_register i j l m el em gl gm same =
         elim (one_of_three i j) [
-          | inl h ↦ absurd (own_register g ordered fits.pool differ low i j l m h el em gl gm same)
-          | inr h ↦ elim h [ inl h ↦ absurd (own_register g ordered fits.pool differ low j i m l h em el gm gl (sym same)) | inr h ↦ h ]
+          | inl h ↦ absurd (own_register g table k ordered graph proper fits i j l m h el em gl gm same)
+          | inr h ↦ elim h [ inl h ↦ absurd (own_register g table k ordered graph proper fits j i m l h em el gm gl (sym same)) | inr h ↦ h ]
         ]
 
-    last_is_ready : (l : Launch) (r j : ℕ) (m : Launch) → slice_get ordered j ≡ Some m → IsTrue (launches g gives_word m) → r ≡ register_at g ordered j → ¬ (r ≡ 31) → Source l r → ready_in g table (cluster_of table l.slot) m ≤ l.cycle
-    last_is_ready l r j m em gm is not_31 (inl h) = absurd (not_31 h)
-    last_is_ready l r j m em gm is not_31 (inr (inl out)) =
-        absurd (out (subst (λ q. Contains g.pool q) (sym is) (Contains-get_or g.pool (count_by (launches g gives_word) (take j ordered)) 0 (in_pool g ordered fits.pool differ low j m em gm))))
-    last_is_ready l r j m em gm is not_31 (inr (inr (i, n, en, gn, ready, at))) =
-        let same : i ≡ j = same_register i j n m en em gn gm (sym at ∙ is) in
-        subst (λ x. ready_in g table (cluster_of table l.slot) x ≤ l.cycle) (same_Some n m (sym en ∙ ap (slice_get ordered) same ∙ em)) ready
+    last_is_ready : (n : ℕ) (l : Launch) (r j : ℕ) (m : Launch) → j < n → slice_get ordered j ≡ Some m → IsTrue (launches g gives_word m) → r ≡ register_at g ordered j → ¬ (r ≡ 31) → Source n l r → ready_in g table (cluster_of table l.slot) m ≤ l.cycle
+    last_is_ready n l r j m lt em gm is not_31 (inl h) = absurd (not_31 h)
+    last_is_ready n l r j m lt em gm is not_31 (inr (inl (out, none))) =
+        elim (own_kind g table k ordered graph proper fits j m em gm) [
+          | inl there ↦ absurd (out (subst (λ q. Contains g.pool q) (sym is) there))
+          | inr wrote ↦ absurd (none j m lt em (subst (λ q. IsTrue (writes_pin g q m)) (sym is) wrote))
+        ]
+    last_is_ready n l r j m lt em gm is not_31 (inr (inr (i, q, en, gn, ready, at))) =
+        let same : i ≡ j = same_register i j q m en em gn gm (sym at ∙ is) in
+        subst (λ x. ready_in g table (cluster_of table l.slot) x ≤ l.cycle) (same_Some q m (sym en ∙ ap (slice_get ordered) same ∙ em)) ready
 
-    chosen_source : (n : ℕ) (l : Launch) (r : ℕ) → (r ≡ 31) ⊎ ((class : ℕ) × (r ≡ register_for g table ordered l class)) → Source l r
-    chosen_source n l r (inl h) = inl h
-    chosen_source n l r (inr h) = subst (Source l) (sym h.1) (source inputs_apart l h.0)
+    chosen_source : (n : ℕ) (l : Launch) → slice_get ordered n ≡ Some l → (r : ℕ) → (r ≡ 31) ⊎ ((class : ℕ) × (r ≡ register_for g table ordered l class)) → Source n l r
+    chosen_source n l e r (inl h) = inl h
+    chosen_source n l e r (inr h) = subst (Source n l) (sym h.1) (source inputs_apart fits.apart order n l e h.0)
 
     operands_at : (n : ℕ) (l : Launch) → slice_get ordered n ≡ Some l → HasOperands table (items_of g table ordered) n (item_of g table ordered n l)
     operands_at n l e r a reads_it not_31 last =
         let f = item_at last.place a last.there in
         let own = writes_own g table ordered last.place f.0 (can last.place f.0 f.1) r (ap (λ x. writes x.instr) f.2 ∙ last.writes_it) in
         let gives : IsTrue (launches g gives_word f.0) = gives_at last.place f.0 f.1 own.0 in
-        let from : Source l r = chosen_source n l r (All-contains (λ q. (q ≡ 31) ⊎ ((class : ℕ) × (q ≡ register_for g table ordered l class))) (reads (instr_of g table ordered n l)) r (reads_chosen g table ordered n l) reads_it) in
+        let from : Source n l r = chosen_source n l e r (All-contains (λ q. (q ≡ 31) ⊎ ((class : ℕ) × (q ≡ register_for g table ordered l class))) (reads (instr_of g table ordered n l)) r (reads_chosen g table ordered n l) reads_it) in
         subst (λ x. ready_from table x (cluster_of table l.slot) ≤ l.cycle) f.2
-        (subst (λ c. c ≤ l.cycle) (sym (is_ready last.place f.0 (cluster_of table l.slot) f.1)) (last_is_ready l r last.place f.0 f.1 gives own.1 not_31 from))
+        (subst (λ c. c ≤ l.cycle) (sym (is_ready last.place f.0 (cluster_of table l.slot) f.1)) (last_is_ready n l r last.place f.0 last.earlier f.1 gives own.1 not_31 from))
 
     before : (i j : ℕ) (l m : Launch) → i < j → slice_get ordered i ≡ Some l → slice_get ordered j ≡ Some m → l.cycle ≤ m.cycle
     before i j l m lt el em =
@@ -165,3 +188,8 @@ module _ (g : LaunchGraph) (table : Table) (ordered : List Launch) where
       operands = λ n a e. let f = item_at n a e in subst (λ x. HasOperands table (items_of g table ordered) n x) f.2 (operands_at n f.0 f.1);
       one_store = pair_items (λ a b. IsTrue (stores a.instr) → IsTrue (stores b.instr) → ¬ (a.cycle ≡ b.cycle)) (λ i j l m lt el em sl sm. at_pair (λ x y. IsTrue (launches g is_store x) → IsTrue (launches g is_store y) → ¬ (x.cycle ≡ y.cycle)) ordered fits.memory.single i j l m lt el em (stores_at i l el sl) (stores_at j m em sm));
     }
+
+-- the items of a schedule that fits a proper graph obey the table
+pub obeys_where_fits : (g : LaunchGraph) (table : Table) (k : ℕ) (ls ordered : List Launch) → IsTable table → IsLaunchGraph g → IsProper g → Fits g table k ls → IsInWordOrder g ls ordered → Obeys table k (items_of g table ordered)
+obeys_where_fits g table k ls ordered t graph proper fits order =
+    obeys g table ordered k t graph proper (fits_permuted g table k ls ordered order.same fits) order.order (inputs_apart g proper)

@@ -1,5 +1,5 @@
 -- The items of a fitting schedule keep to the table.
-use Rattle.std.proofs.Common.{◌≡◌, ℕ, ◌<◌, List, [], ◌∷◌, length, refl, sym, ◌∙◌, ap, inl, inr, ◌⊎◌, arith, Bool, true, false, pos, ◌-◌, Option, Some, None}
+use Rattle.std.proofs.Common.{◌≡◌, ℕ, ◌<◌, List, [], ◌∷◌, length, refl, sym, ◌∙◌, ap, subst, inl, inr, ◌⊎◌, arith, Bool, true, false, pos, ◌-◌, Option, Some, None}
 use Rattle.std.specs.Prelude.{All, IsTrue, IsSomeAnd, slice_get, slice_index, ◌==◌, if◌then◌else◌, is_some, option_map, nat_le}
 use Rattle.std.specs.Option.{option_map_or, option_and_then}
 use Rattle.std.proofs.lemmas.Bool.{false≢true}
@@ -7,11 +7,12 @@ use Rattle.std.proofs.lemmas.Bool.Decides.{eqb_tells}
 use Rattle.std.proofs.lemmas.Option.{same_Some, none-some}
 use Rattle.word_ops.specs.declared.operators.WordOp.{WordOp}
 use Rattle.word_ops.specs.declared.operators.WordOp.TheVariants.{Lda, Ldah}
+use Rattle.word_ops.specs.declared.operators.WordOp.TheVariants as ops
 use Rattle.machine_table.specs.InstrOrder.{operate_kind}
 use Rattle.graph_meaning.specs.Graphs.{constant_of}
 use Rattle.machine_table.specs.Tables.{MayUse}
-use Rattle.schedule_meaning.specs.Launches.{instr_at, op_instr, word_op_instr as launch_instr, gives_word}
-use Rattle.register_assign.specs.Listings.{instr_of, row_instr, word_instr, operate_instr, reg, branch_class, register_for, register_at, literal_or}
+use Rattle.schedule_meaning.specs.Launches.{instr_at, copied_at, op_instr, word_op_instr as launch_instr, gives_word}
+use Rattle.register_assign.specs.Listings.{instr_of, copy_instr, row_instr, word_instr, operate_instr, reg, branch_class, register_for, register_at, literal_or}
 use Rattle.alpha_machine.specs.Steps.{is_unary}
 use Rattle.schedule_meaning.specs.Fits.{CanLaunch}
 use Rattle.alpha_encode.specs.declared.instructions.Second.TheVariants.{Reg, Literal}
@@ -30,6 +31,7 @@ use Rattle.machine_table.specs.declared.tables.Table.{Table}
 use Rattle.schedule_meaning.specs.declared.schedules.Launch.{Launch}
 use Rattle.schedule_meaning.proofs.Rules.{in_list}
 use Rattle.register_assign.proofs.Operates.{operate_gives}
+use Rattle.schedule_meaning.proofs.Copies.{copy_kind, plain_kind}
 
 some_if : (b : Bool) (k i : InstrKind) → (if b then Some k else None) ≡ Some i → k ≡ i
 some_if true k i e = same_Some k i e
@@ -77,8 +79,18 @@ module _ (g : LaunchGraph) (table : Table) (ordered : List Launch) (n : ℕ) (l 
   kind_cases false t (Some r) e guard P h = kind_found r (op_instr g r.op r.operands) refl P h
 
   -- the word's instruction is that of the launch
+  abbrev of_copy : Option ℕ → Instr
+  of_copy c = option_map_or (copy_instr g table ordered n l) c (of_row (slice_get g.rows l.row))
+
+  plain_can : copied_at g l.row ≡ None → CanLaunch g table l → IsSomeAnd (kind_by (l.row == length g.rows) (slice_get g.rows l.row) g.guard) (λ i. MayUse table i l.slot)
+  plain_can e h = subst (λ (o : Option InstrKind). IsSomeAnd o (λ i. MayUse table i l.slot)) (plain_kind g l.row e) h
+
+  kind_copied : CanLaunch g table l → (c : Option ℕ) → copied_at g l.row ≡ c → instr_at g l.row ≡ kind_of (of_copy c)
+  kind_copied h (Some class) e = copy_kind g l.row class e
+  kind_copied h None e = plain_kind g l.row e ∙ kind_cases (l.row == length g.rows) refl (slice_get g.rows l.row) refl g.guard (λ i. MayUse table i l.slot) (plain_can e h)
+
   pub kind_at : CanLaunch g table l → instr_at g l.row ≡ kind_of (instr_of g table ordered n l)
-  kind_at h = kind_cases (l.row == length g.rows) refl (slice_get g.rows l.row) refl g.guard (λ i. MayUse table i l.slot) h
+  kind_at h = kind_copied h (copied_at g l.row) refl
 
   -- ---- what a word writes
 
@@ -120,9 +132,13 @@ module _ (g : LaunchGraph) (table : Table) (ordered : List Launch) (n : ℕ) (l 
   writes_cases false t (Some q) e guard P h = writes_found q (op_instr g q.op q.operands) refl P h
   writes_cases b t None e guard P h = λ r w. absurd (none-some r w)
 
+  writes_copied : CanLaunch g table l → (c : Option ℕ) → copied_at g l.row ≡ c → OwnWord (of_copy c)
+  writes_copied h (Some class) e = operate_writes ops.Bis (class ∷ []) kinds.Bis refl
+  writes_copied h None e = writes_cases (l.row == length g.rows) refl (slice_get g.rows l.row) refl g.guard (λ i. MayUse table i l.slot) (plain_can e h)
+
   -- a word writes the launch's own register, and only where it gives a word
   pub writes_own : CanLaunch g table l → OwnWord (instr_of g table ordered n l)
-  writes_own h = writes_cases (l.row == length g.rows) refl (slice_get g.rows l.row) refl g.guard (λ i. MayUse table i l.slot) h
+  writes_own h = writes_copied h (copied_at g l.row) refl
 
   -- ---- what a word reads
 
@@ -179,5 +195,9 @@ module _ (g : LaunchGraph) (table : Table) (ordered : List Launch) (n : ℕ) (l 
   reads_by None = one_chosen (branch_class g table ordered n l)
   reads_by (Some q) = row_reads q.op q.operands
 
+  reads_copied : (c : Option ℕ) → All IsChosen (reads (of_copy c))
+  reads_copied (Some class) = operate_reads ops.Bis (class ∷ [])
+  reads_copied None = reads_by (slice_get g.rows l.row)
+
   pub reads_chosen : All IsChosen (reads (instr_of g table ordered n l))
-  reads_chosen = reads_by (slice_get g.rows l.row)
+  reads_chosen = reads_copied (copied_at g l.row)

@@ -19,8 +19,7 @@ use Rattle.schedule_meaning.proofs.Ordered.{fits_permuted}
 use Rattle.schedule_meaning.proofs.Counted.{few_launches}
 use Rattle.register_assign.proofs.Once.{one_listing}
 use Rattle.register_assign.proofs.Encodable.{encodable}
-use Rattle.register_assign.proofs.Obeyed.{all_items}
-use Rattle.register_assign.proofs.Proper.{obeys_where_fits}
+use Rattle.register_assign.proofs.Obeyed.{all_items, obeys_where_fits}
 use Rattle.register_assign.proofs.Right.{right_where_fits}
 use Rattle.register_assign.proofs.Standing.{words_stand}
 
@@ -35,7 +34,7 @@ module _ (g : LaunchGraph) (table : Table) (k : ℕ) (ls ordered : List Launch) 
   pub few_items : length ordered < 2 ^ 29
   few_items = let n = few in omega arith
 
-  module _ (items : List Item) (wheres : List Where) (items_are : items ≡ items_of g table ordered) (wheres_are : wheres ≡ wheres_of g ordered) where
+  module _ (items : List Item) (wheres : List Where) (items_are : items ≡ items_of g table ordered) (wheres_are : wheres ≡ wheres_of g table ordered) where
     is_listing : IsListing g table ls items wheres
     is_listing = record { ordered = ordered; order = order; items_are = items_are; wheres_are = wheres_are }
 
@@ -52,9 +51,9 @@ module _ (g : LaunchGraph) (table : Table) (k : ℕ) (ls ordered : List Launch) 
 
     pub keeps_word : KeepsWord g table k items wheres
     keeps_word = record {
-      obeys = λ proper. subst (λ (xs : List Item). Obeys table k xs) (sym items_are) (obeys_where_fits g table k ls ordered is_table proper fits order);
+      obeys = λ proper. subst (λ (xs : List Item). Obeys table k xs) (sym items_are) (obeys_where_fits g table k ls ordered is_table graph proper fits order);
       right = λ proper words are.
           subst (λ (ps : List Where). DoesAsGraphSays g items words ps) (sym wheres_are)
-          (subst (λ (xs : List Item). DoesAsGraphSays g xs words (wheres_of g ordered)) (sym items_are)
+          (subst (λ (xs : List Item). DoesAsGraphSays g xs words (wheres_of g table ordered)) (sym items_are)
           (right_where_fits g table k ls ordered is_table graph proper fits order (let m = few in omega arith) words (subst (λ (xs : List Item). AreWordsOf xs words) items_are are)));
     }

@@ -83,4 +83,4 @@ module _ (g : LaunchGraph) where
     pub one_listing : (items others : List Item) (wheres places : List Where) → IsListing g table ls items wheres → IsListing g table ls others places → (items ≡ others) × (wheres ≡ places)
     one_listing items others wheres places a b =
         let e : a.ordered ≡ b.ordered = one_word_order a.ordered b.ordered a.order b.order in
-        (a.items_are ∙ ap (items_of g table) e ∙ sym b.items_are, a.wheres_are ∙ ap (wheres_of g) e ∙ sym b.wheres_are)
+        (a.items_are ∙ ap (items_of g table) e ∙ sym b.items_are, a.wheres_are ∙ ap (wheres_of g table) e ∙ sym b.wheres_are)

@@ -12,9 +12,9 @@ use Rattle.word_ops.specs.Meanings.{as_word}
 use Rattle.word_ops.specs.declared.sorts.Sort.TheVariants as sorts
 use Rattle.alpha_machine.specs.States.{MachineState}
 use Rattle.alpha_machine.specs.Steps.{second_value, address}
-use Rattle.machine_table.specs.Tables.{cluster_of}
 use Rattle.graph_meaning.specs.Graphs.{constant_of}
-use Rattle.schedule_meaning.specs.Launches.{IsZero, IsFree, IsReadable, Operand, plain}
+use Rattle.schedule_meaning.specs.Launches.{IsZero, IsFree, IsReadable, plain}
+use Rattle.schedule_meaning.specs.declared.schedules.Operand.{Operand}
 use Rattle.register_assign.specs.Listings.{register_for, literal_or, second_for, displacement_of}
 use Rattle.alpha_encode.specs.declared.instructions.Second.TheVariants.{Reg, Literal}
 use Rattle.graph_meaning.specs.declared.graphs.LaunchGraph.{LaunchGraph}
@@ -25,6 +25,7 @@ use Rattle.register_assign.proofs.Reached.{HasReached}
 use Rattle.register_assign.proofs.Scene.{IsScene, positive}
 use Rattle.register_assign.proofs.Proper.{pool_low, inputs_apart}
 use Rattle.register_assign.proofs.Reading.{register_reads, constant_is}
+use Rattle.register_assign.proofs.Destinations.{none_31}
 use Rattle.register_assign.proofs.Displacements.{lda_is, ldah_is}
 
 -- ---- displacements
@@ -48,28 +49,28 @@ module _ (g : LaunchGraph) (table : Table) (k : ℕ) (ordered : List Launch) (w 
     (scene : IsScene g table k ordered w value)
     (n : ℕ) (l : Launch) (s : MachineState) (reached : HasReached g w value ordered n s) (here : slice_get ordered n ≡ Some l) where
   abbrev pub CanUse : Operand → Type 0
-  CanUse o = IsFree g o ⊎ IsReadable g table ordered o.class l.cycle (cluster_of table l.slot)
+  CanUse o = IsFree g o ⊎ IsReadable g table ordered l o.class
 
   abbrev pub as_second : ℕ → Operand
   as_second y = record { class = y; second = true }
 
-  reads_plain : (x : ℕ) → CanUse (plain x) → IsZero g x ⊎ IsReadable g table ordered x l.cycle (cluster_of table l.slot)
+  reads_plain : (x : ℕ) → CanUse (plain x) → IsZero g x ⊎ IsReadable g table ordered l x
   reads_plain x (inl (inl z)) = inl z
   reads_plain x (inl (inr h)) = absurd (false≢true h.0)
   reads_plain x (inr r) = inr r
 
-  reads_far : (y m : ℕ) → constant_of g y ≡ Some m → ¬ (m ≤ 255) → CanUse (as_second y) → IsZero g y ⊎ IsReadable g table ordered y l.cycle (cluster_of table l.slot)
+  reads_far : (y m : ℕ) → constant_of g y ≡ Some m → ¬ (m ≤ 255) → CanUse (as_second y) → IsZero g y ⊎ IsReadable g table ordered l y
   reads_far y m e far (inl (inl z)) = inl z
   reads_far y m e far (inl (inr h)) = absurd (far (subst (λ k. k ≤ 255) (same_Some h.1.0 m (sym h.1.1 ∙ e)) h.1.2))
   reads_far y m e far (inr r) = inr r
 
-  reads_none : (y : ℕ) → constant_of g y ≡ None → CanUse (as_second y) → IsZero g y ⊎ IsReadable g table ordered y l.cycle (cluster_of table l.slot)
+  reads_none : (y : ℕ) → constant_of g y ≡ None → CanUse (as_second y) → IsZero g y ⊎ IsReadable g table ordered l y
   reads_none y e (inl (inl z)) = inl z
   reads_none y e (inl (inr h)) = absurd (none-some h.1.0 (sym e ∙ h.1.1))
   reads_none y e (inr r) = inr r
 
-  by_register : (class : ℕ) → IsZero g class ⊎ IsReadable g table ordered class l.cycle (cluster_of table l.slot) → word (slice_index s.registers (register_for g table ordered l class)) ≡ value class
-  by_register = register_reads g table ordered w value scene.true_in scene.world.zero_register (pool_low g scene.proper) (inputs_apart g scene.proper) scene.order (positive g table k ordered w value scene) n l s reached here
+  by_register : (class : ℕ) → IsZero g class ⊎ IsReadable g table ordered l class → word (slice_index s.registers (register_for g table ordered l class)) ≡ value class
+  by_register = register_reads g table ordered w value scene.true_in scene.world.zero_register (pool_low g scene.proper) (inputs_apart g scene.proper) (none_31 g table k ordered scene.graph scene.proper scene.fits) scene.fits.apart scene.order (positive g table k ordered w value scene) n l s reached here
 
   -- a word operand that isn't the second of an operate_instr
   pub plain_reads : (x : ℕ) → CanUse (plain x) → word (slice_index s.registers (register_for g table ordered l x)) ≡ value x

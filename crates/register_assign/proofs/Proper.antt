@@ -2,17 +2,8 @@
 use Rattle.std.proofs.Common.{◌≡◌, ◌≢◌, ℕ, zero, suc, ◌+◌, ◌<◌, List, [], ◌∷◌, ◌++◌, length, refl, sym, ◌∙◌, ap, subst, arith, get_or, map, length-append}
 use Rattle.std.specs.Prelude.{All, AllPairs, Contains}
 use Rattle.std.proofs.lemmas.List.{get_or_append_left, get_or-append-add}
-use Rattle.machine_table.specs.Tables.{IsTable}
 use Rattle.graph_meaning.specs.Graphs.{IsProper}
-use Rattle.schedule_meaning.specs.Launches.{IsInWordOrder}
-use Rattle.schedule_meaning.specs.Fits.{Fits}
-use Rattle.register_assign.specs.Listings.{items_of}
-use Rattle.register_assign.specs.Obeys.{Obeys}
 use Rattle.graph_meaning.specs.declared.graphs.LaunchGraph.{LaunchGraph}
-use Rattle.machine_table.specs.declared.tables.Table.{Table}
-use Rattle.schedule_meaning.specs.declared.schedules.Launch.{Launch}
-use Rattle.schedule_meaning.proofs.Ordered.{fits_permuted}
-use Rattle.register_assign.proofs.Obeyed as obeyed
 
 map_at : {X : Type 0} (f : X → ℕ) (xs : List X) (k : ℕ) (d : X) (e : ℕ) → k < length xs → get_or (map f xs) k e ≡ f (get_or xs k d)
 map_at f [] k d e l = absurd (omega arith)
@@ -49,8 +40,3 @@ module _ (g : LaunchGraph) (proper : IsProper g) where
       let q : h.0 < length g.pool = h.1 in
       proper.differ k (length regs + h.0) r (omega arith) (omega arith)
       (get_or_append_left regs g.pool r k (omega arith) ∙ map_at (λ i. i.reg) g.inputs k d r lt ∙ sym h.2 ∙ sym (get_or-append-add regs g.pool h.0 r))
-
--- the items of a schedule that fits a proper graph obey the table
-pub obeys_where_fits : (g : LaunchGraph) (table : Table) (k : ℕ) (ls ordered : List Launch) → IsTable table → IsProper g → Fits g table k ls → IsInWordOrder g ls ordered → Obeys table k (items_of g table ordered)
-obeys_where_fits g table k ls ordered t proper fits order =
-    obeyed.obeys g table ordered k t (fits_permuted g table k ls ordered order.same fits) order.order (pool_differs g proper) (pool_low g proper) (inputs_apart g proper)

@@ -1,6 +1,6 @@
 -- What an item reads is the value of its operand's class.
 use Rattle.std.proofs.Common.{◌≡◌, ℕ, zero, suc, ◌+◌, ◌<◌, ◌≤◌, List, [], ◌∷◌, length, refl, sym, ◌∙◌, ap, subst, inl, inr, ◌⊎◌, arith, Bool, true, false, cond, ◌&&◌, get_or, map, Option, Some, None}
-use Rattle.std.specs.Prelude.{All, AllPairs, Any, Contains, Decides, slice_get, slice_index, ◌==◌, nat_le, nat_lt, not, if◌then◌else◌, position, find, option_map}
+use Rattle.std.specs.Prelude.{All, AllPairs, Any, Contains, Decides, IsTrue, slice_get, slice_index, ◌==◌, nat_lt, not, if◌then◌else◌, position, find, option_map}
 use Rattle.std.specs.Option.{option_map_or, option_or}
 use Rattle.std.specs.List.{prefix_len}
 use Rattle.std.proofs.lemmas.Bool.{false≢true}
@@ -13,12 +13,16 @@ use Rattle.graph_meaning.specs.Graphs.{constant_among, constant_of, row_meaning,
 use Rattle.word_ops.specs.Meanings.{constant_in}
 use Rattle.word_ops.specs.Meanings.{meaning}
 use Rattle.machine_table.specs.Tables.{cluster_of}
-use Rattle.schedule_meaning.specs.Launches.{launches, gives_word, class_at, ready_in, StandsBefore, IsZero, IsClassOfInput, IsReadable, Gives}
+use Rattle.schedule_meaning.specs.Launches.{launches, gives_word, class_at, ready_in, writes_pin, StandsBefore, IsZero, HasInput, IsUnwritten, IsReadable, Gives}
+use Rattle.schedule_meaning.specs.Readers.{is_intact, passes as passes_by, input_where}
+use Rattle.schedule_meaning.specs.Fits.{Collide}
 use Rattle.alpha_machine.specs.States.{MachineState}
 use Rattle.register_assign.specs.Listings.{register_at, register_by, register_for, target_register, or_register}
-use Rattle.graph_meaning.specs.Graphs.{input_register}
+use Rattle.graph_meaning.specs.Graphs.{is_input_register}
 use Rattle.schedule_meaning.specs.Launches.{gives}
-use Rattle.register_assign.proofs.Reached.{HasReached}
+use Rattle.register_assign.proofs.Reached.{HasReached, IsUntouched}
+use Rattle.schedule_meaning.proofs.Pins.{any_at}
+use Rattle.register_assign.proofs.Intact.{intact_before, intact_at_end, unspoilt_is_intact, unwritten_is_intact}
 use Rattle.word_ops.specs.declared.sorts.Op.{Op}
 use Rattle.word_ops.specs.declared.sorts.Op.TheVariants.{Entry, Input, Constant, Word, Select, Store, Load, Put, Declared}
 use Rattle.graph_meaning.specs.declared.graphs.LaunchRow.{LaunchRow}
@@ -26,6 +30,7 @@ use Rattle.graph_meaning.specs.declared.graphs.InputClass.{InputClass}
 use Rattle.graph_meaning.specs.declared.graphs.LaunchGraph.{LaunchGraph}
 use Rattle.machine_table.specs.declared.tables.Table.{Table}
 use Rattle.schedule_meaning.specs.declared.schedules.Launch.{Launch}
+use Rattle.schedule_meaning.specs.declared.schedules.To.TheVariants.{Pool}
 use Rattle.schedule_meaning.proofs.Comparisons.{and_left, and_right, and_both, le_true, true_le}
 use Rattle.schedule_meaning.proofs.Rules.{in_list, at_pair}
 use Rattle.graph_meaning.proofs.Lists.{any_cases, any_nil}
@@ -113,6 +118,8 @@ module _ (g : LaunchGraph) (table : Table) (ordered : List Launch) (w : World) (
     (zero_register : slice_index w.registers 31 ≡ 0)
     (low : All (λ r. r < 31) g.pool)
     (inputs_apart : All (λ i. ¬ Contains g.pool i.reg) g.inputs)
+    (none_31 : (j : ℕ) (m : Launch) → slice_get ordered j ≡ Some m → ¬ IsTrue (writes_pin g 31 m))
+    (apart : AllPairs (λ l m. ¬ Collide l m) ordered)
     (order : AllPairs (StandsBefore g) ordered)
     (positive : (j : ℕ) (m : Launch) (c : ℕ) → slice_get ordered j ≡ Some m → m.cycle < ready_in g table c m) where
   not_31 : ¬ Contains g.pool 31
@@ -137,69 +144,75 @@ module _ (g : LaunchGraph) (table : Table) (ordered : List Launch) (w : World) (
         ]
       ]
 
-  -- the register chosen among the launches that pass a test, all of which stand before place n
-  module _ (n : ℕ) (s : MachineState) (reached : HasReached g w value ordered n s) (test : Launch → Bool)
+  -- the register chosen among inputs whose registers were not written before place n, and launches that stand before it
+  module _ (n : ℕ) (s : MachineState) (reached : HasReached g w value ordered n s) (holds : ℕ → Bool) (test : Launch → Bool)
+      (untouched : (r : ℕ) → is_input_register g r ≡ true → holds r ≡ true → IsUntouched g ordered n r)
       (before : (j : ℕ) (m : Launch) → slice_get ordered j ≡ Some m → test m ≡ true → j < n) where
     abbrev passes : ℕ → Launch → Bool
     passes class m = gives g class m && test m
 
     abbrev pub IsChosenFrom : ℕ → Type 0
-    IsChosenFrom class = IsZero g class ⊎ (IsClassOfInput g class ⊎ Any (λ m. Gives g class m × (test m ≡ true)) ordered)
+    IsChosenFrom class = IsZero g class ⊎ (HasInput g class (λ r. holds r ≡ true) ⊎ Any (λ m. Gives g class m × (test m ≡ true)) ordered)
 
-    input_value : (class : ℕ) (o : Option InputClass) → find (λ i. i.class == class) g.inputs ≡ o → (r : ℕ) → option_map (λ i. i.reg) o ≡ Some r → word (slice_index s.registers r) ≡ value class
+    abbrev of_class : ℕ → InputClass → Bool
+    of_class class i = (i.class == class) && holds i.reg
+
+    input_value : (class : ℕ) (o : Option InputClass) → find (of_class class) g.inputs ≡ o → (r : ℕ) → option_map (λ i. i.reg) o ≡ Some r → word (slice_index s.registers r) ≡ value class
     input_value class None e r f = absurd (none-some r f)
     input_value class (Some i) e r f =
-        let P : InputClass → Type 0 = λ x. (value x.class ≡ word (slice_index w.registers x.reg)) × ¬ Contains g.pool x.reg in
-        let both : All P g.inputs = λ k d lt. (true_in.inputs k d lt, inputs_apart k d lt) in
-        let found : P i × ((i.class == class) ≡ true) = found_passes (λ x. x.class == class) P g.inputs i both e in
-        let same : i.class ≡ class = same_class w value i.class class found.1 in
+        let P : InputClass → Type 0 = λ x. (value x.class ≡ word (slice_index w.registers x.reg)) × (¬ Contains g.pool x.reg) × (is_input_register g x.reg ≡ true) in
+        let both : All P g.inputs = λ k d lt. (true_in.inputs k d lt, inputs_apart k d lt, any_at (λ x. x.reg == (get_or g.inputs k d).reg) g.inputs k (get_or g.inputs k d) (slice_get-get_or g.inputs k d lt) (equal_true (get_or g.inputs k d).reg (get_or g.inputs k d).reg refl)) in
+        let found : P i × (of_class class i ≡ true) = found_passes (of_class class) P g.inputs i both e in
+        let same : i.class ≡ class = same_class w value i.class class (and_left (i.class == class) (holds i.reg) found.1) in
         let reg : i.reg ≡ r = same_Some i.reg r f in
-        ap (λ x. word (slice_index s.registers x)) (sym reg) ∙ ap word (reached.kept i.reg found.0.1) ∙ sym found.0.0 ∙ ap value same
+        ap (λ x. word (slice_index s.registers x)) (sym reg) ∙ ap word (reached.kept i.reg found.0.1 (untouched i.reg found.0.2 (and_right (i.class == class) (holds i.reg) found.1))) ∙ sym found.0.0 ∙ ap value same
 
     launch_value : (class j : ℕ) → position (passes class) ordered ≡ Some j → word (slice_index s.registers (register_at g ordered j)) ≡ value class
     launch_value class j e =
-        let there = position-Some (passes class) ordered j (record { cycle = 0; slot = 0; row = 0 }) e in
-        let m : Launch = get_or ordered j (record { cycle = 0; slot = 0; row = 0 }) in
-        let at_j : slice_get ordered j ≡ Some m = slice_get-get_or ordered j (record { cycle = 0; slot = 0; row = 0 }) there.0 in
+        let there = position-Some (passes class) ordered j (record { cycle = 0; slot = 0; row = 0; to = Pool }) e in
+        let m : Launch = get_or ordered j (record { cycle = 0; slot = 0; row = 0; to = Pool }) in
+        let at_j : slice_get ordered j ≡ Some m = slice_get-get_or ordered j (record { cycle = 0; slot = 0; row = 0; to = Pool }) there.0 in
         let given : gives g class m ≡ true = and_left (gives g class m) (test m) there.1 in
         reached.given j m (before j m at_j (and_right (gives g class m) (test m) there.1)) at_j (and_left (launches g gives_word m) (class_at g m.row == class) given)
         ∙ ap value (same_class w value (class_at g m.row) class (and_right (launches g gives_word m) (class_at g m.row == class) given))
 
-    input_is_there : (class : ℕ) (o : Option InputClass) → find (λ i. i.class == class) g.inputs ≡ o → option_map (λ i. i.reg) o ≡ None → ¬ IsClassOfInput g class
-    input_is_there class None e f h = find_none (λ i. i.class == class) g.inputs e (h.0, h.1, h.2, h.3, equal_true h.1.class class h.4)
+    input_is_there : (class : ℕ) (o : Option InputClass) → find (of_class class) g.inputs ≡ o → option_map (λ i. i.reg) o ≡ None → ¬ HasInput g class (λ r. holds r ≡ true)
+    input_is_there class None e f h = find_none (of_class class) g.inputs e (h.0, h.1, h.2, h.3, and_both (h.1.class == class) (holds h.1.reg) (equal_true h.1.class class h.4.0) h.4.1)
     input_is_there class (Some i) e f h = none-some i.reg (sym f)
 
-    by_cases : (class : ℕ) → IsChosenFrom class → (z : Bool) → is_zero_class g class ≡ z → (o : Option ℕ) → input_register g class ≡ o → (p : Option ℕ) → position (passes class) ordered ≡ p → word (slice_index s.registers (if z then 31 else or_register o (option_map_or (register_at g ordered) p 31))) ≡ value class
-    by_cases class h true z o i p e = ap word (reached.kept 31 not_31 ∙ zero_register) ∙ sym (constant_is w value g.rows class 0 true_in.rows (zero_constant (constant_of g class) z))
-    by_cases class h false z (Some r) i p e = input_value class (find (λ i. i.class == class) g.inputs) refl r i
+    by_cases : (class : ℕ) → IsChosenFrom class → (z : Bool) → is_zero_class g class ≡ z → (o : Option ℕ) → input_where g holds class ≡ o → (p : Option ℕ) → position (passes class) ordered ≡ p → word (slice_index s.registers (if z then 31 else or_register o (option_map_or (register_at g ordered) p 31))) ≡ value class
+    by_cases class h true z o i p e = ap word (reached.kept 31 not_31 (λ j m lt em. none_31 j m em) ∙ zero_register) ∙ sym (constant_is w value g.rows class 0 true_in.rows (zero_constant (constant_of g class) z))
+    by_cases class h false z (Some r) i p e = input_value class (find (of_class class) g.inputs) refl r i
     by_cases class h false z None i (Some j) e = launch_value class j e
     by_cases class (inl h) false z None i None e = absurd (false≢true (sym z ∙ constant_zero (constant_of g class) h))
-    by_cases class (inr (inl h)) false z None i None e = absurd (input_is_there class (find (λ i. i.class == class) g.inputs) refl i h)
+    by_cases class (inr (inl h)) false z None i None e = absurd (input_is_there class (find (of_class class) g.inputs) refl i h)
     by_cases class (inr (inr h)) false z None i None e =
         absurd (position_none (passes class) ordered e h.0 h.1 (slice_get-get_or ordered h.0 h.1 h.2 ∙ ap Some h.3) (and_both (gives g class h.1) (test h.1) (and_both (launches g gives_word h.1) (class_at g h.1.row == class) h.4.0.0 (equal_true (class_at g h.1.row) class h.4.0.1)) h.4.1))
 
-    pub chosen_reads : (class : ℕ) → IsChosenFrom class → word (slice_index s.registers (register_by g ordered test class)) ≡ value class
-    chosen_reads class h = by_cases class h (is_zero_class g class) refl (input_register g class) refl (position (passes class) ordered) refl
+    pub chosen_reads : (class : ℕ) → IsChosenFrom class → word (slice_index s.registers (register_by g ordered holds test class)) ≡ value class
+    chosen_reads class h = by_cases class h (is_zero_class g class) refl (input_where g holds class) refl (position (passes class) ordered) refl
 
   -- at the end every launch stands before: the place of a target
-  pub place_reads : (s : MachineState) → HasReached g w value ordered (length ordered) s → (class : ℕ) → IsZero g class ⊎ (IsClassOfInput g class ⊎ Any (Gives g class) ordered) → word (slice_index s.registers (target_register g ordered class)) ≡ value class
-  place_reads s reached class h = chosen_reads (length ordered) s reached (λ m. true) (λ j m e t. in_list ordered j m e) class (any_passes class h)
+  pub place_reads : (s : MachineState) → HasReached g w value ordered (length ordered) s → (class : ℕ) → HasInput g class (IsUnwritten g ordered) ⊎ (IsZero g class ⊎ Any (Gives g class) ordered) → word (slice_index s.registers (target_register g table ordered class)) ≡ value class
+  place_reads s reached class h =
+      chosen_reads (length ordered) s reached (is_intact g ordered None) (passes_by g table None)
+      (λ r input holds. intact_at_end g ordered apart order r holds)
+      (λ j m e t. in_list ordered j m e) class (any_passes class h)
     where
-      any_passes : (class : ℕ) → IsZero g class ⊎ (IsClassOfInput g class ⊎ Any (Gives g class) ordered) → IsZero g class ⊎ (IsClassOfInput g class ⊎ Any (λ m. Gives g class m × (true ≡ true)) ordered)
-      any_passes class (inl h) = inl h
-      any_passes class (inr (inl h)) = inr (inl h)
+      any_passes : (class : ℕ) → HasInput g class (IsUnwritten g ordered) ⊎ (IsZero g class ⊎ Any (Gives g class) ordered) → IsZero g class ⊎ (HasInput g class (λ r. is_intact g ordered None r ≡ true) ⊎ Any (λ m. Gives g class m × (passes_by g table None m ≡ true)) ordered)
+      any_passes class (inl h) = inr (inl (h.0, h.1, h.2, h.3, (h.4.0, unwritten_is_intact g ordered apart order h.1.reg h.4.1)))
+      any_passes class (inr (inl h)) = inl h
       any_passes class (inr (inr h)) = inr (inr (h.0, h.1, h.2, h.3, (h.4, refl)))
 
   module _ (n : ℕ) (l : Launch) (s : MachineState) (reached : HasReached g w value ordered n s) (here : slice_get ordered n ≡ Some l) where
-    abbrev in_time : Launch → Bool
-    in_time m = nat_le (ready_in g table (cluster_of table l.slot) m) l.cycle
-
-    readable_passes : (class : ℕ) → IsZero g class ⊎ IsReadable g table ordered class l.cycle (cluster_of table l.slot) → IsZero g class ⊎ (IsClassOfInput g class ⊎ Any (λ m. Gives g class m × (in_time m ≡ true)) ordered)
+    readable_passes : (class : ℕ) → IsZero g class ⊎ IsReadable g table ordered l class → IsZero g class ⊎ (HasInput g class (λ r. is_intact g ordered (Some l) r ≡ true) ⊎ Any (λ m. Gives g class m × (passes_by g table (Some l) m ≡ true)) ordered)
     readable_passes class (inl h) = inl h
-    readable_passes class (inr (inl h)) = inr (inl h)
+    readable_passes class (inr (inl h)) = inr (inl (h.0, h.1, h.2, h.3, (h.4.0, unspoilt_is_intact g ordered apart order l h.1.reg h.4.1)))
     readable_passes class (inr (inr h)) = inr (inr (h.0, h.1, h.2, h.3, (h.4.0, le_true (ready_in g table (cluster_of table l.slot) h.1) l.cycle h.4.1)))
 
     -- the register that an operand is read from holds the value of its class
-    pub register_reads : (class : ℕ) → IsZero g class ⊎ IsReadable g table ordered class l.cycle (cluster_of table l.slot) → word (slice_index s.registers (register_for g table ordered l class)) ≡ value class
+    pub register_reads : (class : ℕ) → IsZero g class ⊎ IsReadable g table ordered l class → word (slice_index s.registers (register_for g table ordered l class)) ≡ value class
     register_reads class h =
-        chosen_reads n s reached in_time (λ j m e t. ready_stands_before n j l m (cluster_of table l.slot) here e (true_le (ready_in g table (cluster_of table l.slot) m) l.cycle t)) class (readable_passes class h)
+        chosen_reads n s reached (is_intact g ordered (Some l)) (passes_by g table (Some l))
+        (λ r input holds. intact_before g ordered apart order n l r here input holds)
+        (λ j m e t. ready_stands_before n j l m (cluster_of table l.slot) here e (true_le (ready_in g table (cluster_of table l.slot) m) l.cycle t)) class (readable_passes class h)

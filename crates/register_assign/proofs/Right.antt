@@ -30,7 +30,7 @@ module _ (g : LaunchGraph) (table : Table) (k : ℕ) (ls ordered : List Launch) 
     true_in = true_in;
   }
 
-  pub right_where_fits : (words : List ℕ) → AreWordsOf (items_of g table ordered) words → DoesAsGraphSays g (items_of g table ordered) words (wheres_of g ordered)
+  pub right_where_fits : (words : List ℕ) → AreWordsOf (items_of g table ordered) words → DoesAsGraphSays g (items_of g table ordered) words (wheres_of g table ordered)
   right_where_fits words are = record {
     falls = λ w value world true_in no_exit. falls g table k ordered w value (scene w value world true_in) no_exit words are;
     exits = λ w value world true_in exit. exits g table k ordered w value (scene w value world true_in) exit words are;

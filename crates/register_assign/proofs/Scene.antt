@@ -1,5 +1,5 @@
 -- The premises of a run: a schedule that fits a proper graph, in word order, and a world in which the graph is true.
-use Rattle.std.proofs.Common.{◌≡◌, ℕ, zero, suc, ◌^◌, ◌<◌, ◌-◌, pos, List, [], ◌∷◌, length, map, refl, ◌∙◌, ap, subst, inl, inr, ◌⊎◌, arith, false, get_or, Option, Some}
+use Rattle.std.proofs.Common.{◌≡◌, ℕ, zero, suc, ◌^◌, ◌<◌, ◌-◌, pos, List, [], ◌∷◌, length, map, refl, ◌∙◌, ap, subst, inl, inr, ◌⊎◌, arith, false, get_or, Option, Some, None}
 use Rattle.std.specs.Prelude.{All, AllPairs, IsSomeAnd, slice_get, slice_index, ◌==◌, if◌then◌else◌, option_map}
 use Rattle.std.specs.Option.{option_map_or, option_and_then}
 use Rattle.std.proofs.lemmas.Bool.Decides.{eqb_tells}
@@ -8,12 +8,12 @@ use Rattle.word_ops.specs.Worlds.{World, IsWorld, Value, IsValue}
 use Rattle.word_ops.specs.Meanings.{sort_of, arity_of_op, operand_sort}
 use Rattle.word_ops.specs.declared.sorts.Op.{Op}
 use Rattle.word_ops.specs.declared.sorts.Sort.{Sort}
-use Rattle.machine_table.specs.Tables.{IsTable, cluster_of, MayUse}
+use Rattle.machine_table.specs.Tables.{IsTable, MayUse}
 use Rattle.graph_meaning.specs.Graphs.{IsProper, IsTrueUnder, row_meaning}
 use Rattle.graph_meaning.specs.WellFormed.{IsLaunchGraph, ClassHasSort}
-use Rattle.schedule_meaning.specs.Launches.{instr_at, op_instr, class_at, ready_in, StandsBefore, IsFree, IsReadable, operands_at, op_operands, row_operands, guard_operands, memory_class_at}
+use Rattle.schedule_meaning.specs.Launches.{instr_at, op_instr, class_at, copied_at, ready_in, StandsBefore, IsFree, IsReadable, operands_at, op_operands, row_operands, guard_operands, memory_class_at}
 use Rattle.schedule_meaning.specs.Fits.{Fits, CanLaunch, CanRead}
-use Rattle.register_assign.specs.Listings.{instr_of, row_instr, branch_class, reg}
+use Rattle.register_assign.specs.Listings.{instr_of, row_instr, copy_instr, branch_class, reg}
 use Rattle.alpha_encode.specs.declared.instructions.Instr.TheVariants as instrs
 use Rattle.graph_meaning.specs.declared.graphs.LaunchRow.{LaunchRow}
 use Rattle.graph_meaning.specs.declared.graphs.LaunchGraph.{LaunchGraph}
@@ -23,6 +23,7 @@ use Rattle.machine_table.specs.declared.tables.InstrKind.TheVariants as kinds
 use Rattle.schedule_meaning.specs.declared.schedules.Launch.{Launch}
 use Rattle.schedule_meaning.proofs.Rules.{at_each, in_list}
 use Rattle.schedule_meaning.proofs.Ordered.{takes_time}
+use Rattle.schedule_meaning.proofs.Copies.{row_no_copy, plain_kind, plain_class, plain_operands}
 
 pub record IsScene (g : LaunchGraph) (table : Table) (k : ℕ) (ordered : List Launch) (w : World) (value : ℕ → Value) : Type 0 where
   pub is_table : IsTable table
@@ -72,21 +73,29 @@ module _ (g : LaunchGraph) (table : Table) (k : ℕ) (ordered : List Launch) (w 
       pub is_row : (l.row == length g.rows) ≡ false
       is_row = not_equal l.row (length g.rows) (in_list g.rows l.row _ row)
 
+      no_copy : copied_at g l.row ≡ None
+      no_copy = row_no_copy g l.row (row_with class o name xs) row
+
       pub kind_is : instr_at g l.row ≡ op_instr g o xs
       kind_is =
-          ap (λ b. if b then option_map (λ _. kinds.Beq) g.guard else option_and_then (λ r. op_instr g r.op r.operands) (slice_get g.rows l.row)) is_row
+          plain_kind g l.row no_copy
+          ∙ ap (λ b. if b then option_map (λ _. kinds.Beq) g.guard else option_and_then (λ r. op_instr g r.op r.operands) (slice_get g.rows l.row)) is_row
           ∙ ap (λ o. option_and_then (λ r. op_instr g r.op r.operands) o) row
 
       pub operands_are : operands_at g l.row ≡ op_operands o xs
       operands_are =
-          ap (λ b. if b then guard_operands g.guard else row_operands (slice_get g.rows l.row)) is_row ∙ ap row_operands row
+          plain_operands g l.row no_copy
+          ∙ ap (λ b. if b then guard_operands g.guard else row_operands (slice_get g.rows l.row)) is_row ∙ ap row_operands row
 
       pub instr_is : instr_of g table ordered n l ≡ row_instr g table ordered n l o xs
-      instr_is = ap (λ q. option_map_or (λ r. row_instr g table ordered n l r.op r.operands) q (instrs.Beq (reg g table ordered n l (branch_class g table ordered n l)) (pos (length ordered - n)))) row
+      instr_is =
+          ap (λ q. option_map_or (copy_instr g table ordered n l) q (option_map_or (λ r. row_instr g table ordered n l r.op r.operands) (slice_get g.rows l.row) (instrs.Beq (reg g table ordered n l (branch_class g table ordered n l)) (pos (length ordered - n))))) no_copy
+          ∙ ap (λ q. option_map_or (λ r. row_instr g table ordered n l r.op r.operands) q (instrs.Beq (reg g table ordered n l (branch_class g table ordered n l)) (pos (length ordered - n)))) row
 
       pub value_is : value (class_at g l.row) ≡ row_meaning w (row_with class o name xs) (map value xs)
       value_is =
-          ap (λ q. value (option_map_or (λ r. r.class) q 0)) row
+          ap value (plain_class g l.row no_copy)
+          ∙ ap (λ q. value (option_map_or (λ r. r.class) q 0)) row
           ∙ at_each (λ r. value r.class ≡ row_meaning w r (map value r.operands)) g.rows scene.true_in.rows l.row (row_with class o name xs) row
 
       pub memory_class_is : memory_class_at g l.row ≡ slice_index xs 0
@@ -103,5 +112,5 @@ module _ (g : LaunchGraph) (table : Table) (k : ℕ) (ordered : List Launch) (w 
       pub can_is : IsSomeAnd (op_instr g o xs) (λ i. MayUse table i l.slot)
       can_is = subst (λ (q : Option InstrKind). IsSomeAnd q (λ i. MayUse table i l.slot)) kind_is can
 
-      pub reads_is : All (λ p. IsFree g p ⊎ IsReadable g table ordered p.class l.cycle (cluster_of table l.slot)) (op_operands o xs)
-      reads_is = subst (All (λ p. IsFree g p ⊎ IsReadable g table ordered p.class l.cycle (cluster_of table l.slot))) operands_are can_read
+      pub reads_is : All (λ p. IsFree g p ⊎ IsReadable g table ordered l p.class) (op_operands o xs)
+      reads_is = subst (All (λ p. IsFree g p ⊎ IsReadable g table ordered l p.class)) operands_are can_read

@@ -11,7 +11,8 @@ use Rattle.alpha_encode.specs.Decoded.{decoded}
 use Rattle.alpha_encode.specs.declared.instructions.Instr.{Instr}
 use Rattle.alpha_encode.specs.declared.instructions.Instr.TheVariants as instrs
 use Rattle.alpha_machine.specs.Runs.{IsAllowedAt, AllMayStand}
-use Rattle.register_assign.specs.Listings.{instr_of, row_instr, word_instr, operate_instr, items_of, branch_class, reg}
+use Rattle.register_assign.specs.Listings.{instr_of, copy_instr, row_instr, word_instr, operate_instr, items_of, branch_class, reg}
+use Rattle.schedule_meaning.specs.Launches.{copied_at}
 use Rattle.register_assign.specs.Outcomes.{AreWordsOf, instrs_of}
 use Rattle.graph_meaning.specs.declared.graphs.LaunchRow.{LaunchRow}
 use Rattle.graph_meaning.specs.declared.graphs.LaunchGraph.{LaunchGraph}
@@ -52,8 +53,12 @@ module _ (g : LaunchGraph) (table : Table) (ordered : List Launch) (n : ℕ) (l 
   stands_by None = ap (λ m. pos (m - n)) (sym total)
   stands_by (Some r) = row_stands r.op r.operands
 
+  stands_copied : (o : Option ℕ) → IsAllowedAt count n (option_map_or (copy_instr g table ordered n l) o (option_map_or (λ r. row_instr g table ordered n l r.op r.operands) (slice_get g.rows l.row) (instrs.Beq (reg g table ordered n l (branch_class g table ordered n l)) (pos (length ordered - n)))))
+  stands_copied (Some class) = tt
+  stands_copied None = stands_by (slice_get g.rows l.row)
+
   instr_stands : IsAllowedAt count n (instr_of g table ordered n l)
-  instr_stands = stands_by (slice_get g.rows l.row)
+  instr_stands = stands_copied (copied_at g l.row)
 
 pub words_stand : (g : LaunchGraph) (table : Table) (ordered : List Launch) (words : List ℕ) → AreWordsOf (items_of g table ordered) words → AllMayStand words
 words_stand g table ordered words are at word here =

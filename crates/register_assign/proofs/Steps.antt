@@ -1,27 +1,30 @@
 -- The step of each kind of word takes what is reached one word further.
-use Rattle.std.proofs.Common.{◌≡◌, ℕ, suc, ◌+◌, ◌*◌, ◌/◌, List, [], ◌∷◌, ◌++◌, length, map, take, refl, sym, ◌∙◌, ap, subst, inl, inr, ◌⊎◌, arith, Bool, true, false, pos, Option, Some, None}
-use Rattle.std.specs.Prelude.{All, IsTrue, IsSomeAnd, slice_get, slice_index, is_some, if◌then◌else◌}
+use Rattle.std.proofs.Common.{◌≡◌, ℕ, suc, ◌+◌, ◌-◌, ◌*◌, ◌/◌, ◌<◌, List, [], ◌∷◌, ◌++◌, length, map, take, refl, sym, ◌∙◌, ap, subst, inl, inr, ◌⊎◌, arith, Bool, true, false, pos, Option, Some, None}
+use Rattle.std.specs.Prelude.{All, Contains, IsTrue, IsSomeAnd, slice_get, slice_index, is_some, if◌then◌else◌}
 use Rattle.std.specs.Option.{option_map_or}
+use Rattle.std.specs.Int.Bits.{or_zero_l}
 use Rattle.std.proofs.lemmas.Bool.{false≢true}
-use Rattle.std.proofs.lemmas.List.Elements.{All-head, All-tail}
+use Rattle.std.proofs.lemmas.List.Elements.{All-head, All-tail, All-contains}
 use Rattle.std.proofs.lemmas.Option.{same_Some, none-some}
 use Rattle.word_ops.specs.declared.operators.WordOp.{WordOp}
 use Rattle.word_ops.specs.declared.operators.WordOp.TheVariants as ops
 use Rattle.word_ops.specs.declared.sorts.Op.{Op}
 use Rattle.word_ops.specs.declared.sorts.Op.TheVariants as op
 use Rattle.word_ops.specs.Operators.{value_at, arity_of}
-use Rattle.word_ops.specs.Values.{lda, ldah}
+use Rattle.word_ops.specs.Values.{lda, ldah, bis}
 use Rattle.word_ops.specs.Memory.{Memory, word_at, put_word, select, store, load, put}
 use Rattle.word_ops.specs.Worlds.{World, Value, word, memory}
 use Rattle.word_ops.specs.Meanings.{as_word, as_memory, arity_of_op}
 use Rattle.alpha_machine.specs.States.{MachineState}
 use Rattle.alpha_machine.specs.Steps.{step, second_value, is_unary, operate_value, address, with_register, next_pc}
 use Rattle.machine_table.specs.InstrOrder.{operate_kind}
-use Rattle.machine_table.specs.Tables.{cluster_of, MayUse}
+use Rattle.machine_table.specs.Tables.{MayUse}
 use Rattle.graph_meaning.specs.Graphs.{row_meaning}
-use Rattle.schedule_meaning.specs.Launches.{launches, gives_word, is_store, is_load, instr_at, op_instr, word_op_instr as launch_instr, class_at, memory_after, IsFree, IsReadable, plain, op_operands, Operand, operate_operands, word_op_operands}
-use Rattle.register_assign.specs.Listings.{register_at, register_for, second_for, displacement_of, instr_of, row_instr, word_instr, operate_instr}
+use Rattle.schedule_meaning.specs.Launches.{launches, gives_word, is_store, is_load, instr_at, op_instr, word_op_instr as launch_instr, class_at, memory_after, IsFree, IsReadable, plain, op_operands, operate_operands, word_op_operands, copy_operands, copied_at}
+use Rattle.schedule_meaning.specs.declared.schedules.Operand.{Operand}
+use Rattle.register_assign.specs.Listings.{register_at, register_for, second_for, displacement_of, instr_of, row_instr, word_instr, operate_instr, copy_instr, branch_class, reg}
 use Rattle.alpha_encode.specs.declared.instructions.Instr.{Instr}
+use Rattle.alpha_encode.specs.declared.instructions.Instr.TheVariants as instrs
 use Rattle.graph_meaning.specs.declared.graphs.LaunchRow.{LaunchRow}
 use Rattle.graph_meaning.specs.declared.graphs.LaunchGraph.{LaunchGraph}
 use Rattle.machine_table.specs.declared.tables.Table.{Table}
@@ -30,11 +33,13 @@ use Rattle.machine_table.specs.declared.tables.InstrKind.TheVariants as kinds
 use Rattle.schedule_meaning.specs.declared.schedules.Launch.{Launch}
 use Rattle.register_assign.proofs.Operates.{operate_gives, operate_stores}
 use Rattle.register_assign.proofs.Reached.{HasReached}
-use Rattle.register_assign.proofs.Scene.{IsScene, row_with, kind_is, instr_is, value_is, arity_is, operand_value, can_is, reads_is, memory_class_is, place_few}
+use Rattle.register_assign.proofs.Scene.{IsScene, can_read, row_with, kind_is, instr_is, value_is, arity_is, operand_value, can_is, reads_is, memory_class_is, place_few}
 use Rattle.register_assign.proofs.Operands.{displaced_constant, plain_reads, second_reads, address_reads, base_reads, high_base_reads}
 use Rattle.register_assign.proofs.Stores.{memory_found, all_stores_before, latest_push_last}
 use Rattle.register_assign.proofs.Running.{one_word_more, take_more, latest_push, less_or_last}
-use Rattle.register_assign.proofs.Proper.{pool_differs, pool_low}
+use Rattle.register_assign.proofs.Proper.{pool_low}
+use Rattle.register_assign.proofs.Destinations.{none_31}
+use Rattle.schedule_meaning.proofs.Copies.{copy_kind, copy_class, copy_reads}
 
 -- ---- the operators of the machine's own instructions
 
@@ -95,6 +100,10 @@ four_of : (xs : List ℕ) → length xs ≡ 4 → (x : ℕ) × (y : ℕ) × (z :
 four_of [] h = absurd (omega arith)
 four_of (x ∷ xs) h = let t = three_of xs (omega arith) in (x, t.0, t.1, t.2, ap (λ ys. x ∷ ys) t.3)
 
+bis_value : (v : ℕ) → value_at ops.Bis 0 v 0 ≡ v
+unfolding value_at bis
+bis_value v = or_zero_l v
+
 module _ (g : LaunchGraph) (table : Table) (k : ℕ) (ordered : List Launch) (w : World) (value : ℕ → Value)
     (scene : IsScene g table k ordered w value)
     (n : ℕ) (l : Launch) (s : MachineState) (reached : HasReached g w value ordered n s) (here : slice_get ordered n ≡ Some l) where
@@ -104,7 +113,7 @@ module _ (g : LaunchGraph) (table : Table) (k : ℕ) (ordered : List Launch) (w 
   operate_word_is _ xs i h = refl
 
   abbrev Usable : Operand → Type 0
-  Usable p = IsFree g p ⊎ IsReadable g table ordered p.class l.cycle (cluster_of table l.slot)
+  Usable p = IsFree g p ⊎ IsReadable g table ordered l p.class
 
   abbrev Next : MachineState → Type 0
   Next t = HasReached g w value ordered (n + 1) t
@@ -112,7 +121,7 @@ module _ (g : LaunchGraph) (table : Table) (k : ℕ) (ordered : List Launch) (w 
   -- a word written to the launch's own register
   given : (v : ℕ) → IsTrue (launches g gives_word l) → launches g is_store l ≡ false → word v ≡ value (class_at g l.row) → Next (with_register s (register_at g ordered n) v)
   given v gives no_store is =
-      one_word_more g ordered scene.fits.pool (pool_differs g scene.proper) (pool_low g scene.proper) w value n s l v reached here gives no_store is (place_few g table k ordered w value scene n l here)
+      one_word_more g table k ordered scene.graph scene.proper scene.fits w value n s l v reached here gives no_store is (place_few g table k ordered w value scene n l here)
 
   taken : take (n + 1) ordered ≡ take n ordered ++ l ∷ []
   taken = ap (λ m. take m ordered) (let e : n + 1 ≡ suc n = omega arith in e) ∙ take_more ordered n l here
@@ -126,8 +135,8 @@ module _ (g : LaunchGraph) (table : Table) (k : ℕ) (ordered : List Launch) (w 
         pc = omega arith;
         count = reached.count;
         memory_is = is;
-        kept = reached.kept;
-        given = λ j q lt e gq. elim (less_or_last g ordered scene.fits.pool (pool_differs g scene.proper) (pool_low g scene.proper) j n lt) [
+        kept = λ r out none. reached.kept r out (λ j m lt e. none j m (omega arith) e);
+        given = λ j q lt e gq. elim (less_or_last j n lt) [
           | inl less ↦ reached.given j q less e gq
           | inr same ↦ (
               let one : q ≡ l = same_Some q l (sym e ∙ ap (slice_get ordered) same ∙ here) in
@@ -139,7 +148,7 @@ module _ (g : LaunchGraph) (table : Table) (k : ℕ) (ordered : List Launch) (w 
   stored m is_one gives is =
       no_word m gives
       (is ∙ sym (ap (λ ls. value (memory_after g ls)) taken
-      ∙ ap (λ o. value (option_map_or (λ m. class_at g m.row) o g.entry)) (latest_push_last (launches g is_store) (take n ordered) l is_one (all_stores_before g ordered scene.order scene.fits.memory n l here (inr is_one)))))
+      ∙ ap (λ o. value (option_map_or (λ m. class_at g m.row) o g.entry)) (latest_push_last (launches g is_store) (take n ordered) l is_one (all_stores_before g ordered scene.order scene.fits.memory scene.fits.destinations n l here (inr is_one)))))
 
   -- a word that neither writes a register nor stores
   pub passed : launches g is_store l ≡ false → launches g gives_word l ≡ false → Next (record { registers = s.registers; memory = s.memory; pc = next_pc s.pc })
@@ -166,7 +175,7 @@ module _ (g : LaunchGraph) (table : Table) (k : ℕ) (ordered : List Launch) (w 
     -- the memory that a load or store finds
     found : IsTrue (launches g is_load l) ⊎ IsTrue (launches g is_store l) → value (slice_index xs 0) ≡ memory s.memory
     found uses =
-        ap value (sym (memory_class_is g table k ordered w value scene n l here class o name xs row) ∙ memory_found g ordered scene.order scene.fits.memory n l here uses)
+        ap value (sym (memory_class_is g table k ordered w value scene n l here class o name xs row) ∙ memory_found g ordered scene.order scene.fits.memory scene.fits.destinations n l here uses)
         ∙ sym reached.memory_is
 
     does : (test : InstrKind → Bool) (b : Bool) → option_map_or test (op_instr g o xs) false ≡ b → launches g test l ≡ b
@@ -336,3 +345,30 @@ module _ (g : LaunchGraph) (table : Table) (k : ℕ) (ordered : List Launch) (w 
   -- a launch of a row
   pub row_step : (r : LaunchRow) → slice_get g.rows l.row ≡ Some r → Next (step now s)
   row_step r row = by_op r.class r.name r.operands r.op row (can r.class r.op r.name r.operands row)
+
+  -- ---- copies
+
+  module _ (class : ℕ) (copied : copied_at g l.row ≡ Some class) where
+    copy_is : instr_of g table ordered n l ≡ copy_instr g table ordered n l class
+    copy_is = ap (λ q. option_map_or (copy_instr g table ordered n l) q (option_map_or (λ r. row_instr g table ordered n l r.op r.operands) (slice_get g.rows l.row) (instrs.Beq (reg g table ordered n l (branch_class g table ordered n l)) (pos (length ordered - n))))) copied
+
+    copy_usable : All Usable (copy_operands class)
+    copy_usable = subst (All Usable) (copy_reads g l.row class copied) (can_read g table k ordered w value scene n l here)
+
+    not_31 : ¬ Contains g.pool 31
+    not_31 h = let low : 31 < 31 = All-contains (λ r. r < 31) g.pool 31 (pool_low g scene.proper) h in absurd (omega arith)
+
+    zero_read : slice_index s.registers 31 ≡ 0
+    zero_read = reached.kept 31 not_31 (λ j m lt e. none_31 g table k ordered scene.graph scene.proper scene.fits j m e) ∙ scene.world.zero_register
+
+    -- a copy gives the value of its class
+    pub copy_step : Next (step now s)
+    copy_step =
+        let test : (f : InstrKind → Bool) → launches g f l ≡ f kinds.Bis = λ f. ap (λ q. option_map_or f q false) (copy_kind g l.row class copied) in
+        let second : ℕ = second_value (second_for g table ordered l class) s.registers in
+        subst (λ i. Next (step i s)) (sym copy_is)
+        (given (operate_value ops.Bis (slice_index s.registers 31) second) (test gives_word) (test is_store)
+        (ap (λ a. word (value_at ops.Bis a second 0)) zero_read
+        ∙ ap word (bis_value second)
+        ∙ second_reads g table k ordered w value scene n l s reached here class (All-head Usable (as_second_operand class) [] copy_usable)
+        ∙ ap value (sym (copy_class g l.row class copied))))

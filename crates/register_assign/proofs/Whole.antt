@@ -59,6 +59,6 @@ reached_first g w value ordered world t = record {
   pc = omega arith;
   count = world.registers;
   memory_is = sym t.entry;
-  kept = λ r out. refl;
+  kept = λ r out clear. refl;
   given = λ j l lt e gives. absurd (omega arith);
 }

@@ -3,3 +3,4 @@ pub mod Obeys
 pub mod Outcomes
 pub mod Places
 pub mod Assigned
+pub mod Moved

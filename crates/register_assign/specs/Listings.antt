@@ -1,13 +1,14 @@
 -- The instructions of a schedule in word order, and the places of its targets.
--- Source: this project. Each launch that gives a word has a pool register of its own.
-use Rattle.std.specs.Prelude.{◌≡◌, ℕ, ℤ, pos, ◌+◌, ◌-◌, ◌%◌, ◌^◌, List, [], ◌∷◌, map, length, Option, Some, None, ◌&&◌, nat_le, Bool, true, not, unwrap_or, position, count_by, filter, take, slice_index, slice_get, if◌then◌else◌}
+-- Source: this project. Each launch to the pool that gives a word has a register of its own; one to a pinned set has
+-- its pin.
+use Rattle.std.specs.Prelude.{◌≡◌, ℕ, ℤ, pos, ◌+◌, ◌-◌, ◌%◌, ◌^◌, List, [], ◌∷◌, map, length, Option, Some, None, ◌&&◌, nat_le, Bool, not, unwrap_or, position, count_by, filter, take, slice_index, slice_get, option_and_then, if◌then◌else◌}
 use Rattle.std.specs.Option.{option_map_or}
 use Rattle.std.specs.Int.{cast_signed, w16}
 use Rattle.word_ops.specs.declared.operators.WordOp.{WordOp}
 use Rattle.word_ops.specs.declared.operators.WordOp.TheVariants as ops
-use Rattle.machine_table.specs.Tables.{cluster_of}
-use Rattle.graph_meaning.specs.Graphs.{constant_of, is_zero_class, input_register, is_memory_name}
-use Rattle.schedule_meaning.specs.Launches.{launches, gives_word, gives, ready_in, IsInWordOrder}
+use Rattle.graph_meaning.specs.Graphs.{constant_of, is_zero_class, is_memory_name}
+use Rattle.schedule_meaning.specs.Launches.{gives, pin_of, takes_pool, copied_at, IsInWordOrder}
+use Rattle.schedule_meaning.specs.Readers.{passes, is_intact, input_where}
 use Rattle.alpha_encode.specs.declared.instructions.Second.{Second}
 use Rattle.alpha_encode.specs.declared.instructions.Second.TheVariants.{Reg, Literal}
 use Rattle.alpha_encode.specs.declared.instructions.Instr.{Instr}
@@ -23,27 +24,36 @@ use Rattle.schedule_meaning.specs.declared.schedules.Launch.{Launch}
 
 -- ---- registers and words. `ordered` is the schedule in word order
 
--- the register of the launch at place i that gives a word: the n-th such takes the n-th of the pool
+-- the pin to which the launch at place i goes
+abbrev pub pin_at : LaunchGraph → List Launch → ℕ → Option ℕ
+pin_at g ordered i = option_and_then (λ l. pin_of g l.to) (slice_get ordered i)
+
+-- the register of the launch at place i that gives a word: its pin; to the pool, the n-th such takes the n-th register
 abbrev pub register_at : LaunchGraph → List Launch → ℕ → ℕ
-register_at g ordered i = slice_index g.pool (count_by (launches g gives_word) (take i ordered))
+register_at g ordered i = unwrap_or (pin_at g ordered i) (slice_index g.pool (count_by (takes_pool g) (take i ordered)))
 
 abbrev pub or_register : Option ℕ → ℕ → ℕ
 or_register None r = r
 or_register (Some r) _ = r
 
--- 31 for the zero class, or the first input's register, or that of the first launch that passes
-abbrev pub register_by : LaunchGraph → List Launch → (Launch → Bool) → ℕ → ℕ
-register_by g ordered test class =
+-- 31 for the zero class, or the register of the first input that still holds its word, or that of the first launch that
+-- passes
+abbrev pub register_by : LaunchGraph → List Launch → (ℕ → Bool) → (Launch → Bool) → ℕ → ℕ
+register_by g ordered holds test class =
     if is_zero_class g class then 31
-    else or_register (input_register g class)
+    else or_register (input_where g holds class)
     (option_map_or (register_at g ordered) (position (λ l. gives g class l && test l) ordered) 31)
 
 abbrev pub register_for : LaunchGraph → Table → List Launch → Launch → ℕ → ℕ
 register_for g table ordered l class =
-    register_by g ordered (λ m. nat_le (ready_in g table (cluster_of table l.slot) m) l.cycle) class
+    register_by g ordered (is_intact g ordered (Some l)) (passes g table (Some l)) class
 
-abbrev pub target_register : LaunchGraph → List Launch → ℕ → ℕ
-target_register g ordered class = register_by g ordered (λ m. true) class
+-- the place of a target without a pin
+abbrev pub target_register : LaunchGraph → Table → List Launch → ℕ → ℕ
+target_register g table ordered class = register_by g ordered (is_intact g ordered None) (passes g table None) class
+
+abbrev pub target_place : LaunchGraph → Table → List Launch → SetClass → ℕ
+target_place g table ordered s = unwrap_or s.pin (target_register g table ordered s.class)
 
 abbrev pub literal_or : Option ℕ → Second → Second
 literal_or None second = second
@@ -82,14 +92,22 @@ module _ (g : LaunchGraph) (table : Table) (ordered : List Launch) (i : ℕ) (l 
       StqU (reg (slice_index operands 3)) (reg (slice_index operands 1)) (displacement_of g (slice_index operands 2))
   row_instr _ operands = Operate ops.Bis 31 (Reg 31) 31
 
+  -- a class's word is copied by a bis
+  abbrev pub copy_instr : ℕ → Instr
+  copy_instr class = Operate ops.Bis 31 (second_for g table ordered l class) own
+
   abbrev pub branch_class : ℕ
   branch_class = option_map_or (λ guard. guard.class) g.guard 0
 
-  -- the word of the launch l at place i
-  abbrev pub instr_of : Instr
-  instr_of =
+  -- the word of a row, or of the branch
+  abbrev pub plain_instr : Instr
+  plain_instr =
       option_map_or (λ r. row_instr r.op r.operands) (slice_get g.rows l.row)
       (Beq (reg branch_class) (pos (length ordered - i)))
+
+  -- the word of the launch l at place i
+  abbrev pub instr_of : Instr
+  instr_of = option_map_or copy_instr (copied_at g l.row) plain_instr
 
   abbrev pub item_of : Item
   item_of = record { instr = instr_of; cycle = l.cycle; slot = l.slot }
@@ -104,8 +122,8 @@ items_of g table ordered = items_from g table ordered 0 ordered
 abbrev pub word_targets : LaunchGraph → List SetClass
 word_targets g = filter (λ s. not (is_memory_name s.name)) g.sets
 
-abbrev pub wheres_of : LaunchGraph → List Launch → List Where
-wheres_of g ordered = map (λ s. record { name = s.name; reg = target_register g ordered s.class }) (word_targets g)
+abbrev pub wheres_of : LaunchGraph → Table → List Launch → List Where
+wheres_of g table ordered = map (λ s. record { name = s.name; reg = target_place g table ordered s }) (word_targets g)
 
 -- the items and places of a schedule
 pub record IsListing (g : LaunchGraph) (table : Table) (ls : List Launch) (items : List Item)
@@ -113,4 +131,4 @@ pub record IsListing (g : LaunchGraph) (table : Table) (ls : List Launch) (items
   pub ordered : List Launch
   pub order : IsInWordOrder g ls ordered
   pub items_are : items ≡ items_of g table ordered
-  pub wheres_are : wheres ≡ wheres_of g ordered
+  pub wheres_are : wheres ≡ wheres_of g table ordered

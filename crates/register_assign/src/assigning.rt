@@ -7,7 +7,7 @@ ghost use Rattle.schedule_meaning.specs.Fits.{Fits};
 ghost use Rattle.register_assign.specs.Assigned.{IsTheListing, HaveWords, MayRun, KeepsWord};
 
 use crate::listings::Listing;
-use crate::wording::{items_of, wheres_of};
+use crate::registers::Ordered;
 use graph_meaning::LaunchGraph;
 use items::NoMemory;
 use machine_table::Table;
@@ -23,13 +23,16 @@ pub(crate) fn in_word_order(
     ensures { IfOk result (λ ordered. IsInWordOrder graph.now launches.now ordered.items) }
 {
     let mut ordered = Vec::from_slice(alloc, launches)?;
-    ordered.sort_unstable_by_key(|launch| (launch.cycle, group_of(graph, *launch), launch.slot));
+    ordered.sort_unstable_by_key(|launch| {
+        (launch.cycle, group_of(graph, *launch).number(), launch.slot)
+    });
     Ok(ordered)
 }
 
-/// The instructions of a schedule in word order, each launch that gives a word with a pool register of its own, and the
-/// registers of the word targets. On a proper graph the items keep to the table, and their words do what the graph
-/// says. It sorts the launches, and for each operand goes over the launches and the graph's rows.
+/// The instructions of a schedule in word order, each launch to the pool that gives a word with a register of its own
+/// and each launch to a pinned set with its pin, and the registers of the word targets. On a proper graph the items
+/// keep to the table, and their words do what the graph says. It sorts the launches, and for each operand goes over
+/// the launches and the graph's rows.
 pub fn assign(
     alloc: Global,
     graph: &LaunchGraph,
@@ -47,9 +50,14 @@ pub fn assign(
     ensures run { IfOk result (λ l. MayRun l.items) }
     ensures keeps { IfOk result (λ l. KeepsWord graph.now table.now k l.items l.wheres) }
 {
-    let ordered = in_word_order(alloc, graph, schedule.launches.as_slice())?;
+    let launches = in_word_order(alloc, graph, schedule.launches.as_slice())?;
+    let ordered = Ordered {
+        graph,
+        table,
+        launches: &launches,
+    };
     Ok(Listing {
-        items: items_of(alloc, graph, table, &ordered)?,
-        wheres: wheres_of(alloc, graph, table, &ordered)?,
+        items: ordered.items_of(alloc)?,
+        wheres: ordered.wheres_of(alloc)?,
     })
 }

@@ -18,6 +18,7 @@ use Rattle.machine_table.specs.declared.tables.InstrKind.TheVariants.{Beq}
 use Rattle.machine_table.specs.declared.tables.Use.{Use}
 use Rattle.machine_table.specs.declared.tables.Table.{Table}
 use Rattle.schedule_meaning.specs.declared.schedules.Launch.{Launch}
+use Rattle.schedule_meaning.specs.declared.schedules.To.TheVariants.{Pool}
 use Rattle.schedule_meaning.proofs.Ordered.{found_in, latency_positive, takes_time}
 
 slot_step : (table : Table) (o : Option Use) (slot : ℕ) → ((u : Use) → o ≡ Some u → IsUse table u) → IsSomeAnd o (λ u. Contains u.slots slot) → slot < length table.slots
@@ -59,7 +60,7 @@ pub few_launches : (g : LaunchGraph) (table : Table) (k : ℕ) (ls : List Launch
 few_launches g table k ls t fits =
     let places : (i : ℕ) (d : Launch) → i < length ls → ((get_or ls i d).cycle < k) × ((get_or ls i d).slot < 8) =
     λ i d lt. place_of_launch g table k t (get_or ls i d) (fits.rows i d lt) (fits.in_time i d lt) in
-    let none : Launch = record { cycle = 0; slot = 0; row = 0 } in
+    let none : Launch = record { cycle = 0; slot = 0; row = 0; to = Pool } in
     let count : length (map code ls) ≡ length ls = length-map ls code in
     let apart : AllPairs (λ x y. x ≢ y) (map code ls) = λ i j d lt len e.
     (let li : i < length ls = omega arith in

@@ -1,10 +1,11 @@
 -- Whether a schedule fits, or what it breaks first, found by computing.
 use Rattle.std.proofs.Common.{◌≡◌, ℕ, ◌+◌, ◌<◌, ◌≤◌, List, length, inl, inr, ◌⊎◌, arith, Option, Some, None}
-use Rattle.std.specs.Prelude.{IsTrue, count_by, unwrap_or, Contains}
+use Rattle.std.specs.Prelude.{IsTrue, IsSomeAnd, count_by, slice_get, unwrap_or, Contains}
 use Rattle.machine_table.specs.Tables.{MayUse, use_of, latency_of, cluster_of}
-use Rattle.graph_meaning.specs.Graphs.{memory_target, constant_of, is_memory_name}
-use Rattle.schedule_meaning.specs.Launches.{launches, is_store, is_load, is_branch, gives_word, memory_class_at, memory_before, memory_after, class_at, instr_at, operands_at, ready_in, IsFree, IsReadable, IsClassOfInput, Gives, Operand, is_held}
-use Rattle.schedule_meaning.specs.Fits.{Collide, CanRead, IsReached, UsesMemory, Waits, Fits}
+use Rattle.graph_meaning.specs.Graphs.{memory_target, constant_of, is_input_register, is_memory_name}
+use Rattle.schedule_meaning.specs.Launches.{launches, is_store, is_load, is_branch, gives_word, memory_class_at, memory_before, memory_after, class_at, instr_at, operands_at, ready_in, goes_to, overwrites, spoils, takes_pool, writes_pin, HasInput, IsFree, IsReadable, IsUnspoilt, IsUnwritten, Gives, is_held}
+use Rattle.schedule_meaning.specs.declared.schedules.Operand.{Operand}
+use Rattle.schedule_meaning.specs.Fits.{AreReached, CanGoTo, CanGoToPin, CanRead, Collide, IsWhereWanted, IsInItsPin, IsInSomeRegister, IsReached, UsesMemory, Waits, Fits}
 use Rattle.schedule_meaning.specs.Broken.{number, NoEarlier, KeepsMemoryAt, Asks, AsksOfAll, IsKept, Breaks}
 use Rattle.schedule_meaning.specs.declared.fitting.Rule.{Rule}
 use Rattle.schedule_meaning.specs.declared.fitting.Rule.TheVariants.{Rows, Apart, Operands, InTime, Targets, Memory, OneBranch, AfterBranch, Pool}
@@ -13,6 +14,8 @@ use Rattle.machine_table.specs.declared.tables.Table.{Table}
 use Rattle.graph_meaning.specs.declared.graphs.SetClass.{SetClass}
 use Rattle.graph_meaning.specs.declared.graphs.LaunchGraph.{LaunchGraph}
 use Rattle.schedule_meaning.specs.declared.schedules.Launch.{Launch}
+use Rattle.schedule_meaning.specs.declared.schedules.To.{To}
+use Rattle.schedule_meaning.specs.declared.schedules.To.TheVariants as tos
 use Rattle.machine_table.proofs.Decide.{Dec, dec_nat, dec_lt, dec_le, dec_map, dec_and, dec_not, dec_all}
 use Rattle.schedule_meaning.proofs.Decide.{HoldBelow, FailsFirst, first, dec_true, dec_or, dec_imp, dec_any, dec_some, dec_if_some, dec_contains, dec_constant, dec_small}
 use Rattle.schedule_meaning.proofs.Rules.{Found, Earlier, rule_step, next, no_rule_below, number_high, fits_where_kept, in_list}
@@ -34,6 +37,20 @@ module _ (ls : List Launch) (i : ℕ) (R : Launch → Type 0) where
 abbrev pub keeps_at : (g : LaunchGraph) (ls : List Launch) (i : ℕ) (l : Launch) → Dec ((UsesMemory g l → memory_class_at g l.row ≡ memory_before g ls l.cycle) × (IsTrue (launches g is_store l) → NoEarlier ls i (λ m. IsTrue (launches g is_store m) × (m.cycle ≡ l.cycle)))) → Dec (KeepsMemoryAt g ls i l)
 keeps_at g ls i l d = dec_map (λ h. record { reads = h.0; single = h.1 }) (λ n h. n (h.reads, h.single)) d
 
+abbrev pub goes_to_pin : (g : LaunchGraph) (l : Launch) (s : SetClass) (r : ℕ) → Dec (Gives g s.class l × (IsTrue (launches g is_load l) → ¬ IsTrue (is_input_register g r))) → Dec (CanGoToPin g l s r)
+goes_to_pin g l s r d = dec_map (λ h. record { gives = h.0; no_load = h.1 }) (λ n h. n (h.gives, h.no_load)) d
+
+module _ (g : LaunchGraph) (ls : List Launch) where
+  pub reached_from : HoldBelow (IsReached g ls) g.sets (length g.sets) → AreReached g ls
+  reached_from h j s e = h j s (in_list g.sets j s e) e
+
+  pub not_reached_from : FailsFirst (IsReached g ls) g.sets → ¬ AreReached g ls
+  not_reached_from f h = f.4 (h f.0 f.1 f.2)
+
+  abbrev pub reached_step : HoldBelow (IsReached g ls) g.sets (length g.sets) ⊎ FailsFirst (IsReached g ls) g.sets → Dec (AreReached g ls)
+  reached_step (inl h) = inl (reached_from h)
+  reached_step (inr f) = inr (not_reached_from f)
+
 module _ (g : LaunchGraph) (table : Table) (k : ℕ) (ls : List Launch) where
   abbrev pub dec_free : (o : Operand) → Dec (IsFree g o)
   dec_free o = dec_or (dec_constant (constant_of g o.class) 0) (dec_and (dec_true o.second) (dec_small (constant_of g o.class) 255))
@@ -41,20 +58,26 @@ module _ (g : LaunchGraph) (table : Table) (k : ℕ) (ls : List Launch) where
   abbrev pub dec_gives : (class : ℕ) (l : Launch) → Dec (Gives g class l)
   dec_gives class l = dec_and (dec_true (launches g gives_word l)) (dec_nat (class_at g l.row) class)
 
-  abbrev pub dec_input : (class : ℕ) → Dec (IsClassOfInput g class)
-  dec_input class = dec_any (λ i. i.class ≡ class) (λ i. dec_nat i.class class) g.inputs
+  abbrev pub dec_input : (class : ℕ) (P : ℕ → Type 0) → ((r : ℕ) → Dec (P r)) → Dec (HasInput g class P)
+  dec_input class P d = dec_any (λ i. (i.class ≡ class) × P i.reg) (λ i. dec_and (dec_nat i.class class) (d i.reg)) g.inputs
 
-  abbrev pub dec_readable : (class cycle cluster : ℕ) → Dec (IsReadable g table ls class cycle cluster)
-  dec_readable class cycle cluster =
+  abbrev pub dec_unspoilt : (l : Launch) (r : ℕ) → Dec (IsUnspoilt g ls l r)
+  dec_unspoilt l r = dec_all (λ m. ¬ IsTrue (spoils g l r m)) (λ m. dec_not (dec_true (spoils g l r m))) ls
+
+  abbrev pub dec_unwritten : (r : ℕ) → Dec (IsUnwritten g ls r)
+  dec_unwritten r = dec_all (λ m. ¬ IsTrue (writes_pin g r m)) (λ m. dec_not (dec_true (writes_pin g r m))) ls
+
+  abbrev pub dec_readable : (l : Launch) (class : ℕ) → Dec (IsReadable g table ls l class)
+  dec_readable l class =
       dec_or
-      (dec_input class)
-      (dec_any (λ l. Gives g class l × (ready_in g table cluster l ≤ cycle)) (λ l. dec_and (dec_gives class l) (dec_le (ready_in g table cluster l) cycle)) ls)
+      (dec_input class (IsUnspoilt g ls l) (dec_unspoilt l))
+      (dec_any (λ m. Gives g class m × (ready_in g table (cluster_of table l.slot) m ≤ l.cycle)) (λ m. dec_and (dec_gives class m) (dec_le (ready_in g table (cluster_of table l.slot) m) l.cycle)) ls)
 
   abbrev pub dec_can_read : (l : Launch) → Dec (CanRead g table ls l)
   dec_can_read l =
       dec_all
-      (λ o. IsFree g o ⊎ IsReadable g table ls o.class l.cycle (cluster_of table l.slot))
-      (λ o. dec_or (dec_free o) (dec_readable o.class l.cycle (cluster_of table l.slot)))
+      (λ o. IsFree g o ⊎ IsReadable g table ls l o.class)
+      (λ o. dec_or (dec_free o) (dec_readable l o.class))
       (operands_at g l.row)
 
   abbrev pub dec_uses : (l : Launch) → Dec (UsesMemory g l)
@@ -63,15 +86,36 @@ module _ (g : LaunchGraph) (table : Table) (k : ℕ) (ls : List Launch) where
   abbrev pub dec_waits : (l : Launch) → Dec (Waits g ls l)
   dec_waits l =
       dec_imp
-      (dec_or (dec_true (launches g is_store l)) (dec_and (dec_true (launches g is_load l)) (dec_true (is_held g))))
+      (dec_or (dec_true (launches g is_store l)) (dec_or (dec_and (dec_true (launches g is_load l)) (dec_true (is_held g))) (dec_true (overwrites g l))))
       (dec_all (λ b. IsTrue (launches g is_branch b) → b.cycle ≤ l.cycle) (λ b. dec_imp (dec_true (launches g is_branch b)) (dec_le b.cycle l.cycle)) ls)
 
-  abbrev pub dec_reached : (s : SetClass) → Dec (IsReached g ls s)
-  dec_reached s =
-      dec_or (dec_true (is_memory_name s.name)) (dec_or (dec_input s.class) (dec_or (dec_constant (constant_of g s.class) 0) (dec_any (Gives g s.class) (dec_gives s.class) ls)))
+  abbrev pub dec_in_some_register : (class : ℕ) → Dec (IsInSomeRegister g ls class)
+  dec_in_some_register class =
+      dec_or (dec_input class (IsUnwritten g ls) dec_unwritten) (dec_or (dec_constant (constant_of g class) 0) (dec_any (Gives g class) (dec_gives class) ls))
+
+  abbrev pub dec_in_its_pin : (launched class pin : ℕ) → Dec (IsInItsPin g launched class pin)
+  dec_in_its_pin launched class pin =
+      dec_or (dec_nat launched 1) (dec_and (dec_nat launched 0) (dec_input class (λ r. r ≡ pin) (λ r. dec_nat r pin)))
+
+  abbrev pub dec_place : (j : ℕ) (s : SetClass) (o : Option ℕ) → Dec (IsWhereWanted g ls j s o)
+  dec_place j s None = dec_in_some_register s.class
+  dec_place j s (Some pin) = dec_in_its_pin (count_by (goes_to j) ls) s.class pin
+
+  abbrev pub dec_reached : (j : ℕ) (s : SetClass) → Dec (IsReached g ls j s)
+  dec_reached j s = dec_or (dec_true (is_memory_name s.name)) (dec_place j s s.pin)
+
+  abbrev pub dec_pin : (l : Launch) (s : SetClass) (r : ℕ) → Dec (CanGoToPin g l s r)
+  dec_pin l s r = goes_to_pin g l s r (dec_and (dec_gives s.class l) (dec_imp (dec_true (launches g is_load l)) (dec_not (dec_true (is_input_register g r)))))
+
+  abbrev pub dec_go_to : (l : Launch) (to : To) → Dec (CanGoTo g l to)
+  dec_go_to l tos.Pool = inl tt
+  dec_go_to l (tos.Set j) = dec_some (slice_get g.sets j) (λ s. IsSomeAnd s.pin (CanGoToPin g l s)) (λ s. dec_some s.pin (CanGoToPin g l s) (dec_pin l s))
+
+  abbrev pub dec_launch : (l : Launch) → Dec (IsSomeAnd (instr_at g l.row) (λ n. MayUse table n l.slot))
+  dec_launch l = dec_some (instr_at g l.row) (λ n. MayUse table n l.slot) (λ n. dec_some (use_of table n) (λ u. Contains u.slots l.slot) (λ u. dec_contains u.slots l.slot))
 
   abbrev pub asks_dec : (r : Rule) (i : ℕ) (l : Launch) → Dec (Asks g table k ls r i l)
-  asks_dec Rows i l = dec_some (instr_at g l.row) (λ n. MayUse table n l.slot) (λ n. dec_some (use_of table n) (λ u. Contains u.slots l.slot) (λ u. dec_contains u.slots l.slot))
+  asks_dec Rows i l = dec_and (dec_launch l) (dec_go_to l l.to)
   asks_dec Apart i l = dec_no_earlier ls i (Collide l) (λ m. dec_and (dec_nat l.cycle m.cycle) (dec_nat l.slot m.slot))
   asks_dec Operands i l = dec_can_read l
   asks_dec InTime i l = dec_le (l.cycle + unwrap_or (latency_of table (unwrap_or (instr_at g l.row) Beq)) 0) k
@@ -90,11 +134,11 @@ module _ (g : LaunchGraph) (table : Table) (k : ℕ) (ls : List Launch) where
   whole_dec Apart = inl tt
   whole_dec Operands = inl tt
   whole_dec InTime = inl tt
-  whole_dec Targets = dec_all (IsReached g ls) dec_reached g.sets
+  whole_dec Targets = reached_step g ls (first (IsReached g ls) dec_reached g.sets)
   whole_dec Memory = dec_nat (memory_after g ls) (memory_target g)
   whole_dec OneBranch = dec_if_some g.guard (λ _. count_by (launches g is_branch) ls ≡ 1) (λ _. dec_nat (count_by (launches g is_branch) ls) 1)
   whole_dec AfterBranch = inl tt
-  whole_dec Pool = dec_le (count_by (launches g gives_word) ls) (length g.pool)
+  whole_dec Pool = dec_le (count_by (takes_pool g) ls) (length g.pool)
 
   -- the rule is kept, or broken at some place first
   abbrev pub decide_rule : (r : Rule) → IsKept g table k ls r ⊎ ((i : ℕ) × Breaks g table k ls r i)

@@ -7,10 +7,11 @@ use Rattle.std.proofs.lemmas.Bool.Decides.{eqb_tells}
 use Rattle.std.proofs.lemmas.List.Elements.{All-weaker, All-head, All-tail}
 use Rattle.std.proofs.lemmas.Option.{same_Some, none-some}
 use Rattle.machine_table.specs.Tables.{use_of, latency_of, MayUse, IsTable, IsUse, ready, cluster_of}
-use Rattle.schedule_meaning.specs.Launches.{launches, gives_word, instr_at, ready_in, is_store, is_branch, IsFree, IsReadable, Gives, memory_class_at, class_at, Operand}
+use Rattle.schedule_meaning.specs.Launches.{launches, takes_pool, goes_to, writes_pin, spoils, instr_at, ready_in, is_store, is_branch, IsFree, IsReadable, Gives, memory_class_at, class_at}
+use Rattle.schedule_meaning.specs.declared.schedules.Operand.{Operand}
 use Rattle.machine_table.specs.InstrOrder.{kind_number}
 use Rattle.graph_meaning.specs.Graphs.{memory_target}
-use Rattle.schedule_meaning.specs.Fits.{CanLaunch, CanRead, Collide, EndsBy, IsReached, IsLatestStore, IsLeft, UsesMemory, Waits, Fits}
+use Rattle.schedule_meaning.specs.Fits.{CanLaunch, CanGo, CanRead, Collide, EndsBy, IsWhereWanted, IsReached, IsLatestStore, IsLeft, UsesMemory, Waits, Fits}
 use Rattle.graph_meaning.specs.declared.graphs.Guard.{Guard}
 use Rattle.graph_meaning.specs.declared.graphs.SetClass.{SetClass}
 use Rattle.machine_table.specs.declared.tables.InstrKind.{InstrKind}
@@ -120,19 +121,30 @@ module _ (g : LaunchGraph) (table : Table) (k : ℕ) (ls ys : List Launch) (p : 
   back : IsPermutation ys ls
   back = IsPermutation-sym ls ys p
 
-  readable_permuted : (class cycle cluster : ℕ) → IsReadable g table ls class cycle cluster → IsReadable g table ys class cycle cluster
-  readable_permuted class cycle cluster (inl h) = inl h
-  readable_permuted class cycle cluster (inr h) = inr (any_permuted (λ l. Gives g class l × (ready_in g table cluster l ≤ cycle)) ls ys p h)
+  readable_permuted : (l : Launch) (class : ℕ) → IsReadable g table ls l class → IsReadable g table ys l class
+  readable_permuted l class (inl h) =
+      inl (h.0, h.1, h.2, h.3, (h.4.0, All-permutation (λ m. ¬ IsTrue (spoils g l h.1.reg m)) ls ys p h.4.1))
+  readable_permuted l class (inr h) =
+      inr (any_permuted (λ m. Gives g class m × (ready_in g table (cluster_of table l.slot) m ≤ l.cycle)) ls ys p h)
 
-  read_step : (l : Launch) (o : Operand) → IsFree g o ⊎ IsReadable g table ls o.class l.cycle (cluster_of table l.slot) → IsFree g o ⊎ IsReadable g table ys o.class l.cycle (cluster_of table l.slot)
+  read_step : (l : Launch) (o : Operand) → IsFree g o ⊎ IsReadable g table ls l o.class → IsFree g o ⊎ IsReadable g table ys l o.class
   read_step l o (inl f) = inl f
-  read_step l o (inr h) = inr (readable_permuted o.class l.cycle (cluster_of table l.slot) h)
+  read_step l o (inr h) = inr (readable_permuted l o.class h)
 
-  reached_permuted : (s : SetClass) → IsReached g ls s → IsReached g ys s
-  reached_permuted s (inl a) = inl a
-  reached_permuted s (inr (inl a)) = inr (inl a)
-  reached_permuted s (inr (inr (inl a))) = inr (inr (inl a))
-  reached_permuted s (inr (inr (inr a))) = inr (inr (inr (any_permuted (Gives g s.class) ls ys p a)))
+  counted_permuted : (test : Launch → Bool) → count_by test ys ≡ count_by test ls
+  counted_permuted test = sum_by-IsPermutation (λ x. cond (test x) 1 0) ls ys p
+
+  place_permuted : (j : ℕ) (s : SetClass) (o : Option ℕ) → IsWhereWanted g ls j s o → IsWhereWanted g ys j s o
+  place_permuted j s None (inl h) =
+      inl (h.0, h.1, h.2, h.3, (h.4.0, All-permutation (λ m. ¬ IsTrue (writes_pin g h.1.reg m)) ls ys p h.4.1))
+  place_permuted j s None (inr (inl z)) = inr (inl z)
+  place_permuted j s None (inr (inr a)) = inr (inr (any_permuted (Gives g s.class) ls ys p a))
+  place_permuted j s (Some r) (inl one) = inl (counted_permuted (goes_to j) ∙ one)
+  place_permuted j s (Some r) (inr h) = inr (counted_permuted (goes_to j) ∙ h.0, h.1)
+
+  reached_permuted : (j : ℕ) (s : SetClass) → IsReached g ls j s → IsReached g ys j s
+  reached_permuted j s (inl a) = inl a
+  reached_permuted j s (inr a) = inr (place_permuted j s s.pin a)
 
   latest_permuted : (t : ℕ) (l : Launch) → IsLatestStore g ls t l → IsLatestStore g ys t l
   latest_permuted t l s = record { store = s.store; early = s.early; latest = All-permutation (λ m. IsTrue (launches g is_store m) → m.cycle < t → m.cycle ≤ l.cycle) ls ys p s.latest }
@@ -151,10 +163,11 @@ module _ (g : LaunchGraph) (table : Table) (k : ℕ) (ls ys : List Launch) (p : 
   pub fits_permuted : Fits g table k ls → Fits g table k ys
   fits_permuted f = record {
     rows = All-permutation (CanLaunch g table) ls ys p f.rows;
+    destinations = All-permutation (CanGo g) ls ys p f.destinations;
     apart = all_pairs_permuted (λ l m. ¬ Collide l m) (λ l m n c. n (sym c.0, sym c.1)) ls ys p f.apart;
     operands = All-permutation (CanRead g table ys) ls ys p (All-weaker (CanRead g table ls) (CanRead g table ys) (λ l h i d lt. read_step l _ (h i d lt)) ls f.operands);
     in_time = All-permutation (EndsBy g table k) ls ys p f.in_time;
-    targets = All-weaker (IsReached g ls) (IsReached g ys) reached_permuted g.sets f.targets;
+    targets = λ j s e. reached_permuted j s (f.targets j s e);
     memory = record {
       each = All-permutation (λ l. UsesMemory g l → IsLeft g ys l.cycle (memory_class_at g l.row)) ls ys p (All-weaker (λ l. UsesMemory g l → IsLeft g ls l.cycle (memory_class_at g l.row)) (λ l. UsesMemory g l → IsLeft g ys l.cycle (memory_class_at g l.row)) (λ l h u. left_permuted l.cycle (memory_class_at g l.row) (h u)) ls f.memory.each);
       single = all_pairs_permuted (λ l m. IsTrue (launches g is_store l) → IsTrue (launches g is_store m) → ¬ (l.cycle ≡ m.cycle)) (λ l m n sm sl e. n sl sm (sym e)) ls ys p f.memory.single;
@@ -162,5 +175,5 @@ module _ (g : LaunchGraph) (table : Table) (k : ℕ) (ls ys : List Launch) (p : 
     };
     one_branch = branch_permuted g.guard f.one_branch;
     after_branch = All-permutation (Waits g ys) ls ys p (All-weaker (Waits g ls) (Waits g ys) (λ l h u. All-permutation (λ b. IsTrue (launches g is_branch b) → b.cycle ≤ l.cycle) ls ys p (h u)) ls f.after_branch);
-    pool = subst (λ n. n ≤ length g.pool) (sym (sum_by-IsPermutation (λ x. cond (launches g gives_word x) 1 0) ls ys p)) f.pool;
+    pool = subst (λ n. n ≤ length g.pool) (sym (counted_permuted (takes_pool g))) f.pool;
   }

@@ -1,9 +1,9 @@
 -- Exactly one of two: the schedule fits, or some rule is the least that is broken, by some first launch.
-use Rattle.std.proofs.Common.{◌≡◌, ℕ, zero, suc, ◌+◌, ◌<◌, ◌≤◌, List, length, refl, sym, ◌∙◌, ap, subst, inl, inr, ◌⊎◌, arith, get_or, Some, None}
+use Rattle.std.proofs.Common.{◌≡◌, ℕ, zero, suc, ◌+◌, ◌<◌, ◌≤◌, List, [], ◌∷◌, length, refl, sym, ◌∙◌, ap, subst, inl, inr, ◌⊎◌, arith, get_or, Some, None}
 use Rattle.std.specs.Prelude.{All, AllPairs, IsTrue, slice_get}
 use Rattle.std.proofs.lemmas.Option.{get_or_from_slice_get, slice_get-get_or, slice_get_cases}
 use Rattle.schedule_meaning.specs.Launches.{launches, is_store, memory_class_at}
-use Rattle.schedule_meaning.specs.Fits.{CanLaunch, Collide, CanRead, EndsBy, UsesMemory, Waits, KeepsMemory, Fits, IsLeft}
+use Rattle.schedule_meaning.specs.Fits.{CanLaunch, CanGo, Collide, CanRead, EndsBy, UsesMemory, Waits, KeepsMemory, Fits, IsLeft}
 use Rattle.schedule_meaning.specs.Broken.{number, Asks, AsksOfAll, IsKept, Breaks, at, whole, IsFirstBroken}
 use Rattle.schedule_meaning.specs.declared.fitting.Rule.{Rule}
 use Rattle.schedule_meaning.specs.declared.fitting.Rule.TheVariants.{Rows, Apart, Operands, InTime, Targets, Memory, OneBranch, AfterBranch, Pool}
@@ -46,7 +46,7 @@ module _ (g : LaunchGraph) (table : Table) (k : ℕ) (ls : List Launch) where
       }
 
   pub kept_where_fits : Fits g table k ls → (r : Rule) → IsKept g table k ls r
-  kept_where_fits f Rows = record { each = λ j m l e. at_each (CanLaunch g table) ls f.rows j m e; whole = tt }
+  kept_where_fits f Rows = record { each = λ j m l e. (at_each (CanLaunch g table) ls f.rows j m e, at_each (CanGo g) ls f.destinations j m e); whole = tt }
   kept_where_fits f Apart = record { each = λ j m l e i n lt ei c. at_pair (λ l m. ¬ Collide l m) ls f.apart i j n m lt ei e (sym c.0, sym c.1); whole = tt }
   kept_where_fits f Operands = record { each = λ j m l e. at_each (CanRead g table ls) ls f.operands j m e; whole = tt }
   kept_where_fits f InTime = record { each = λ j m l e. at_each (EndsBy g table k) ls f.in_time j m e; whole = tt }
@@ -65,7 +65,8 @@ module _ (g : LaunchGraph) (table : Table) (k : ℕ) (ls : List Launch) where
 
   pub fits_where_kept : ((r : Rule) → IsKept g table k ls r) → Fits g table k ls
   fits_where_kept h = record {
-    rows = all_at (CanLaunch g table) ls (h Rows).each;
+    rows = all_at (CanLaunch g table) ls (λ j m l e. ((h Rows).each j m l e).0);
+    destinations = all_at (CanGo g) ls (λ j m l e. ((h Rows).each j m l e).1);
     apart = λ i j d lt len c. (h Apart).each j (get_or ls j d) len (slice_get-get_or ls j d len) i (get_or ls i d) lt (slice_get-get_or ls i d (omega arith)) (sym c.0, sym c.1);
     operands = all_at (CanRead g table ls) ls (h Operands).each;
     in_time = all_at (EndsBy g table k) ls (h InTime).each;
@@ -88,6 +89,7 @@ module _ (g : LaunchGraph) (table : Table) (k : ℕ) (ls : List Launch) where
 pub fits_longer : (g : LaunchGraph) (table : Table) (k m : ℕ) (ls : List Launch) → k ≤ m → Fits g table k ls → Fits g table m ls
 fits_longer g table k m ls le f = record {
   rows = f.rows;
+  destinations = f.destinations;
   apart = f.apart;
   operands = f.operands;
   in_time = λ i d lt. (let ends = f.in_time i d lt in omega (arith, ends, le));
@@ -148,6 +150,22 @@ number_low OneBranch = omega arith
 number_low AfterBranch = omega arith
 number_low Pool = omega arith
 
+-- all rules, in the order of their numbers
+abbrev pub all_rules : List Rule
+all_rules = Rows ∷ Apart ∷ Operands ∷ InTime ∷ Targets ∷ Memory ∷ OneBranch ∷ AfterBranch ∷ Pool ∷ []
+
+pub number_at : (i : ℕ) (d : Rule) → i < 9 → number (get_or all_rules i d) ≡ i + 1
+number_at zero d h = refl
+number_at (suc zero) d h = refl
+number_at (suc (suc zero)) d h = refl
+number_at (suc (suc (suc zero))) d h = refl
+number_at (suc (suc (suc (suc zero)))) d h = refl
+number_at (suc (suc (suc (suc (suc zero))))) d h = refl
+number_at (suc (suc (suc (suc (suc (suc zero)))))) d h = refl
+number_at (suc (suc (suc (suc (suc (suc (suc zero))))))) d h = refl
+number_at (suc (suc (suc (suc (suc (suc (suc (suc zero)))))))) d h = refl
+number_at (suc (suc (suc (suc (suc (suc (suc (suc (suc n))))))))) d h = absurd (omega arith)
+
 less_or_same : (a b : ℕ) → a < b + 1 → (a < b) ⊎ (a ≡ b)
 less_or_same a b h = grind arith
 
@@ -199,6 +217,13 @@ module _ (g : LaunchGraph) (table : Table) (k : ℕ) (ls : List Launch) where
   abbrev pub next : (which : Rule) → Earlier (number which) → IsKept g table k ls which ⊎ ((i : ℕ) × Breaks g table k ls which i) → Earlier (number which + 1) ⊎ Found
   next which earlier (inl kept) = inl (one_more which earlier kept)
   next which earlier (inr b) = inr (b.0, number which, record { which = which; is = refl; earlier = earlier; broken = b.1 })
+
+  -- the same of a rule by its number
+  pub kept_after : (which : Rule) (n : ℕ) → number which ≡ n → Earlier n → IsKept g table k ls which → Earlier (n + 1)
+  kept_after which n e earlier kept = subst (λ m. Earlier (m + 1)) e (one_more which (subst Earlier (sym e) earlier) kept)
+
+  pub broken_at : (which : Rule) (n i : ℕ) → number which ≡ n → Earlier n → Breaks g table k ls which i → IsFirstBroken g table k ls i (number which)
+  broken_at which n i e earlier b = record { which = which; is = refl; earlier = subst Earlier (sym e) earlier; broken = b }
 
   pub no_rule_below : Earlier 1
   no_rule_below r lt = let l : 1 ≤ number r = number_low r in absurd (omega arith)

@@ -3,7 +3,7 @@ use Rattle.std.proofs.Common.{◌≡◌, ℕ, List, [], ◌∷◌, ◌++◌, tru
 use Rattle.machine_table.specs.Tables.{ev6}
 use Rattle.schedule_meaning.specs.Fits.{Fits}
 use Rattle.schedule_meaning.specs.Broken.{IsFirstBroken}
-use Rattle.schedule_meaning.specs.Worked.{sum_graph, two_slots, sum_in_three, sum_in_two, sum_twice, copy_graph, copy_graph_with, free_copy_graph, at_slot, copy_at, copy_with, copy_without_branch, copy_without_store, copy_without_sum, copy_of_no_row, copy_stored_above}
+use Rattle.schedule_meaning.specs.Worked.{sum_graph, two_slots, sum_in_three, sum_in_two, sum_twice, copy_graph, copy_graph_with, free_copy_graph, at_slot, copy_at, copy_with, copy_without_branch, copy_without_store, copy_without_sum, copy_of_no_row, copy_stored_above, step_graph, step_in_one, exchange_graph, exchange_in_two, exchange_in_one}
 use Rattle.machine_table.specs.declared.tables.Table.{Table}
 use Rattle.graph_meaning.specs.declared.graphs.LaunchGraph.{LaunchGraph}
 use Rattle.schedule_meaning.specs.declared.schedules.Launch.{Launch}
@@ -97,3 +97,16 @@ store_before_the_branch = breaks_by free_copy_graph ev6 6 (copy_at 5 1 4) 5 8 (d
 pub pool_too_small : IsFirstBroken (copy_graph_with true (0 ∷ 1 ∷ 2 ∷ [])) ev6 6 (copy_with 1 4) 6 9
 unfolding ev6
 pool_too_small = breaks_by (copy_graph_with true (0 ∷ 1 ∷ 2 ∷ [])) ev6 6 (copy_with 1 4) 6 9 (decided (copy_graph_with true (0 ∷ 1 ∷ 2 ∷ [])) ev6 6 (copy_with 1 4)) refl
+
+pub step_fits : Fits step_graph ev6 1 step_in_one
+unfolding ev6
+step_fits = fits_by step_graph ev6 1 step_in_one (decided step_graph ev6 1 step_in_one) refl
+
+pub exchange_fits : Fits exchange_graph ev6 2 exchange_in_two
+unfolding ev6
+exchange_fits = fits_by exchange_graph ev6 2 exchange_in_two (decided exchange_graph ev6 2 exchange_in_two) refl
+
+pub overwritten_before_read : IsFirstBroken exchange_graph ev6 1 exchange_in_one 0 3
+unfolding ev6
+overwritten_before_read =
+    breaks_by exchange_graph ev6 1 exchange_in_one 0 3 (decided exchange_graph ev6 1 exchange_in_one) refl

@@ -1,18 +1,33 @@
 -- When a schedule fits a graph and a table in k cycles.
 -- Source: this project, over Denali (PLDI 2002): issue slots, latencies, clusters, memory in order, the guard's branch.
-use Rattle.std.specs.Prelude.{◌≡◌, ℕ, ◌+◌, ◌<◌, ◌≤◌, List, length, unwrap_or, All, AllPairs, Any, IsTrue, IsSomeAnd, IfSome, ◌⊎◌, count_by}
-use Rattle.machine_table.specs.Tables.{MayUse, latency_of, cluster_of}
-use Rattle.graph_meaning.specs.Graphs.{memory_target, is_memory_name}
-use Rattle.schedule_meaning.specs.Launches.{instr_at, launches, is_load, is_store, is_branch, gives_word, operands_at, memory_class_at, class_at, IsZero, IsFree, IsClassOfInput, IsReadable, Gives, is_held}
+use Rattle.std.specs.Prelude.{◌≡◌, ℕ, ◌+◌, ◌<◌, ◌≤◌, List, length, unwrap_or, All, AllPairs, Any, IsTrue, IsSomeAnd, IfSome, Option, Some, None, ◌⊎◌, count_by, slice_get}
+use Rattle.machine_table.specs.Tables.{MayUse, latency_of}
+use Rattle.graph_meaning.specs.Graphs.{memory_target, is_memory_name, is_input_register}
+use Rattle.schedule_meaning.specs.Launches.{instr_at, launches, is_load, is_store, is_branch, operands_at, memory_class_at, class_at, IsZero, IsFree, IsUnwritten, HasInput, IsReadable, Gives, is_held, goes_to, overwrites, takes_pool}
 use Rattle.machine_table.specs.declared.tables.Table.{Table}
 use Rattle.graph_meaning.specs.declared.graphs.SetClass.{SetClass}
 use Rattle.graph_meaning.specs.declared.graphs.LaunchGraph.{LaunchGraph}
+use Rattle.schedule_meaning.specs.declared.schedules.To.{To}
+use Rattle.schedule_meaning.specs.declared.schedules.To.TheVariants.{Pool, Set}
 use Rattle.schedule_meaning.specs.declared.schedules.Launch.{Launch}
 use Rattle.machine_table.specs.declared.tables.InstrKind.TheVariants.{Beq}
 
--- the row can be launched, or is the branch, in a slot that the table allows for its instruction
+-- the row can be launched, or is the branch or a copy, in a slot that the table allows for its instruction
 abbrev pub CanLaunch : LaunchGraph → Table → Launch → Type 0
 CanLaunch g table l = IsSomeAnd (instr_at g l.row) (λ i. MayUse table i l.slot)
+
+-- the launch gives the set's word, and is no load where the pin is an input's register
+pub record CanGoToPin (g : LaunchGraph) (l : Launch) (s : SetClass) (r : ℕ) : Type 0 where
+  pub gives : Gives g s.class l
+  pub no_load : IsTrue (launches g is_load l) → ¬ IsTrue (is_input_register g r)
+
+-- the launch goes to the pool, or to a set that is there and has a pin
+abbrev pub CanGoTo : LaunchGraph → Launch → To → Type 0
+CanGoTo g l Pool = Unit {0}
+CanGoTo g l (Set j) = IsSomeAnd (slice_get g.sets j) (λ s. IsSomeAnd s.pin (CanGoToPin g l s))
+
+abbrev pub CanGo : LaunchGraph → Launch → Type 0
+CanGo g l = CanGoTo g l l.to
 
 abbrev pub Collide : Launch → Launch → Type 0
 Collide l m = (l.cycle ≡ m.cycle) × (l.slot ≡ m.slot)
@@ -20,15 +35,30 @@ Collide l m = (l.cycle ≡ m.cycle) × (l.slot ≡ m.slot)
 -- each word operand is free, or is readable at the launch's cycle in its slot's cluster
 abbrev pub CanRead : LaunchGraph → Table → List Launch → Launch → Type 0
 CanRead g table ls l =
-    All (λ o. IsFree g o ⊎ IsReadable g table ls o.class l.cycle (cluster_of table l.slot)) (operands_at g l.row)
+    All (λ o. IsFree g o ⊎ IsReadable g table ls l o.class) (operands_at g l.row)
 
 abbrev pub EndsBy : LaunchGraph → Table → ℕ → Launch → Type 0
 EndsBy g table k l = l.cycle + unwrap_or (latency_of table (unwrap_or (instr_at g l.row) Beq)) 0 ≤ k
 
--- a set of a word has a place where its value is at the end
-abbrev pub IsReached : LaunchGraph → List Launch → SetClass → Type 0
-IsReached g ls s =
-    IsTrue (is_memory_name s.name) ⊎ IsClassOfInput g s.class ⊎ IsZero g s.class ⊎ Any (Gives g s.class) ls
+-- the class's word is in some register at the end
+abbrev pub IsInSomeRegister : LaunchGraph → List Launch → ℕ → Type 0
+IsInSomeRegister g ls class = HasInput g class (IsUnwritten g ls) ⊎ IsZero g class ⊎ Any (Gives g class) ls
+
+-- the pin holds the class's word at the end: one launch goes to its set, or none does and an input has the word there
+abbrev pub IsInItsPin : LaunchGraph → ℕ → ℕ → ℕ → Type 0
+IsInItsPin g launched class pin = (launched ≡ 1) ⊎ ((launched ≡ 0) × HasInput g class (λ r. r ≡ pin))
+
+-- a word target has a place where its value is at the end: without a pin in any register, with one in that alone
+abbrev pub IsWhereWanted : LaunchGraph → List Launch → ℕ → SetClass → Option ℕ → Type 0
+IsWhereWanted g ls j s None = IsInSomeRegister g ls s.class
+IsWhereWanted g ls j s (Some pin) = IsInItsPin g (count_by (goes_to j) ls) s.class pin
+
+-- the j-th set is the memory, or has its place
+abbrev pub IsReached : LaunchGraph → List Launch → ℕ → SetClass → Type 0
+IsReached g ls j s = IsTrue (is_memory_name s.name) ⊎ IsWhereWanted g ls j s s.pin
+
+abbrev pub AreReached : LaunchGraph → List Launch → Type 0
+AreReached g ls = (j : ℕ) (s : SetClass) → slice_get g.sets j ≡ Some s → IsReached g ls j s
 
 -- the store is of the latest cycle below t in which there is one
 pub record IsLatestStore (g : LaunchGraph) (ls : List Launch) (t : ℕ) (l : Launch) : Type 0 where
@@ -59,19 +89,21 @@ pub record KeepsMemory (g : LaunchGraph) (ls : List Launch) : Type 0 where
 abbrev pub HasOneBranch : LaunchGraph → List Launch → Type 0
 HasOneBranch g ls = IfSome g.guard (λ _. count_by (launches g is_branch) ls ≡ 1)
 
--- with a guard, no store launches in an earlier cycle than the branch, nor does a load that is held
+-- with a guard, no store launches in an earlier cycle than the branch, nor does a load that is held, nor what overwrites
+-- an input
 abbrev pub Waits : LaunchGraph → List Launch → Launch → Type 0
 Waits g ls l =
-    IsTrue (launches g is_store l) ⊎ (IsTrue (launches g is_load l) × IsTrue (is_held g)) →
+    IsTrue (launches g is_store l) ⊎ (IsTrue (launches g is_load l) × IsTrue (is_held g)) ⊎ IsTrue (overwrites g l) →
     All (λ b. IsTrue (launches g is_branch b) → b.cycle ≤ l.cycle) ls
 
 pub record Fits (g : LaunchGraph) (table : Table) (k : ℕ) (ls : List Launch) : Type 0 where
   pub rows : All (CanLaunch g table) ls
+  pub destinations : All (CanGo g) ls
   pub apart : AllPairs (λ l m. ¬ Collide l m) ls
   pub operands : All (CanRead g table ls) ls
   pub in_time : All (EndsBy g table k) ls
-  pub targets : All (IsReached g ls) g.sets
+  pub targets : AreReached g ls
   pub memory : KeepsMemory g ls
   pub one_branch : HasOneBranch g ls
   pub after_branch : All (Waits g ls) ls
-  pub pool : count_by (launches g gives_word) ls ≤ length g.pool
+  pub pool : count_by (takes_pool g) ls ≤ length g.pool

@@ -1,20 +1,24 @@
--- Which rows can be launched, what a launch reads and gives, and in which order the words stand.
+-- Which rows can be launched, where a launch's word goes, what it reads and gives, and in which order the words stand.
 -- Source: this project, over the launches of Denali (PLDI 2002) and the clusters of the Alpha 21264.
-use Rattle.std.specs.Prelude.{◌≡◌, ℕ, ◌<◌, ◌≤◌, List, [], ◌∷◌, length, Option, Some, None, ◌==◌, ◌&&◌, nat_lt, Bool, true, false, unwrap_or, option_map, option_and_then, is_some, AllPairs, Any, if◌then◌else◌, IsTrue, ◌⊎◌, slice_get, slice_index, IsPermutation}
+use Rattle.std.specs.Prelude.{◌≡◌, ℕ, ◌+◌, ◌-◌, ◌<◌, ◌≤◌, List, [], ◌∷◌, length, Option, Some, None, ◌==◌, ◌&&◌, nat_lt, Bool, true, false, not, unwrap_or, option_map, option_and_then, is_some, All, AllPairs, Any, if◌then◌else◌, IsTrue, ◌⊎◌, slice_get, slice_index, IsPermutation}
 use Rattle.std.specs.Option.{option_map_or}
 use Rattle.machine_table.specs.InstrOrder.{operate_kind}
-use Rattle.machine_table.specs.Tables.{ready}
-use Rattle.graph_meaning.specs.Graphs.{constant_of}
+use Rattle.machine_table.specs.Tables.{cluster_of, ready}
+use Rattle.graph_meaning.specs.Graphs.{constant_of, is_input_register}
 use Rattle.word_ops.specs.declared.operators.WordOp.{WordOp}
 use Rattle.word_ops.specs.declared.operators.WordOp.TheVariants as ops
 use Rattle.machine_table.specs.declared.tables.InstrKind.{InstrKind}
-use Rattle.machine_table.specs.declared.tables.InstrKind.TheVariants.{Lda, Ldah, LdqU, StqU, Beq}
+use Rattle.machine_table.specs.declared.tables.InstrKind.TheVariants.{Bis, Lda, Ldah, LdqU, StqU, Beq}
 use Rattle.word_ops.specs.declared.sorts.Op.{Op}
 use Rattle.word_ops.specs.declared.sorts.Op.TheVariants.{Word, Select, Store, Load, Put}
 use Rattle.graph_meaning.specs.declared.graphs.Guard.{Guard}
 use Rattle.machine_table.specs.declared.tables.Table.{Table}
 use Rattle.graph_meaning.specs.declared.graphs.LaunchRow.{LaunchRow}
+use Rattle.graph_meaning.specs.declared.graphs.SetClass.{SetClass}
 use Rattle.graph_meaning.specs.declared.graphs.LaunchGraph.{LaunchGraph}
+use Rattle.schedule_meaning.specs.declared.schedules.Operand.{Operand}
+use Rattle.schedule_meaning.specs.declared.schedules.To.{To}
+use Rattle.schedule_meaning.specs.declared.schedules.To.TheVariants.{Pool, Set}
 use Rattle.schedule_meaning.specs.declared.schedules.Launch.{Launch}
 
 -- ---- instructions
@@ -37,12 +41,24 @@ op_instr g Load operands = displaced g LdqU (slice_index operands 2)
 op_instr g Put operands = displaced g StqU (slice_index operands 2)
 op_instr g _ operands = None
 
--- the instruction of a row's number; the number one past the last is the branch of a guard
+-- the class of a set that has a pin
+abbrev pub pinned_class : Option SetClass → Option ℕ
+pinned_class None = None
+pinned_class (Some s) = option_map (λ r. s.class) s.pin
+
+-- the class that a row's number copies: behind the branch's number each set has one, and that of a set with a pin is its
+-- copy
+abbrev pub copied_at : LaunchGraph → ℕ → Option ℕ
+copied_at g row =
+    if nat_lt (length g.rows) row then pinned_class (slice_get g.sets (row - (length g.rows + 1))) else None
+
+-- the instruction of a row's number; the number one past the last is the branch of a guard, and a copy is a bis
 abbrev pub instr_at : LaunchGraph → ℕ → Option InstrKind
 instr_at g row =
     if row == length g.rows
     then option_map (λ _. Beq) g.guard
-    else option_and_then (λ r. op_instr g r.op r.operands) (slice_get g.rows row)
+    else option_map_or (λ class. Some Bis) (copied_at g row)
+    (option_and_then (λ r. op_instr g r.op r.operands) (slice_get g.rows row))
 
 abbrev pub gives_word : InstrKind → Bool
 gives_word StqU = false
@@ -65,16 +81,47 @@ is_branch _ = false
 abbrev pub launches : LaunchGraph → (InstrKind → Bool) → Launch → Bool
 launches g test l = option_map_or test (instr_at g l.row) false
 
--- the class of a row's number
+-- the class of a row's number; that of a copy is its set's
 abbrev pub class_at : LaunchGraph → ℕ → ℕ
-class_at g row = option_map_or (λ r. r.class) (slice_get g.rows row) 0
+class_at g row = unwrap_or (copied_at g row) (option_map_or (λ r. r.class) (slice_get g.rows row) 0)
+
+-- ---- destinations
+
+-- the set that a launch goes to
+abbrev pub set_at : LaunchGraph → To → Option SetClass
+set_at g Pool = None
+set_at g (Set j) = slice_get g.sets j
+
+-- the pinned register that a launch with this destination writes
+abbrev pub pin_of : LaunchGraph → To → Option ℕ
+pin_of g to = option_and_then (λ s. s.pin) (set_at g to)
+
+abbrev pub is_pool : To → Bool
+is_pool Pool = true
+is_pool (Set j) = false
+
+-- it is the set of this number
+abbrev pub is_set : ℕ → To → Bool
+is_set j Pool = false
+is_set j (Set i) = i == j
+
+-- the launch goes to this set
+abbrev pub goes_to : ℕ → Launch → Bool
+goes_to j l = is_set j l.to
+
+-- the launch goes to a set that is pinned to the register
+abbrev pub writes_pin : LaunchGraph → ℕ → Launch → Bool
+writes_pin g r l = option_map_or (λ q. q == r) (pin_of g l.to) false
+
+-- it goes to a set that is pinned to an input's register
+abbrev pub overwrites : LaunchGraph → Launch → Bool
+overwrites g l = option_map_or (is_input_register g) (pin_of g l.to) false
+
+-- it takes a register of the pool
+abbrev pub takes_pool : LaunchGraph → Launch → Bool
+takes_pool g l = is_pool l.to && launches g gives_word l
 
 -- ---- operands
-
-pub record Operand : Type 0 where
-  pub class : ℕ
-  -- it is the second operand of an operate
-  pub second : Bool
 
 abbrev pub plain : ℕ → Operand
 plain class = record { class = class; second = false }
@@ -104,10 +151,16 @@ abbrev pub guard_operands : Option Guard → List Operand
 guard_operands None = []
 guard_operands (Some guard) = plain guard.class ∷ []
 
+-- a copy reads its set's class, as the second operand of its instruction
+abbrev pub copy_operands : ℕ → List Operand
+copy_operands class = record { class = class; second = true } ∷ []
+
 -- the word operands of a row's number
 abbrev pub operands_at : LaunchGraph → ℕ → List Operand
 operands_at g row =
-    if row == length g.rows then guard_operands g.guard else row_operands (slice_get g.rows row)
+    if row == length g.rows
+    then guard_operands g.guard
+    else option_map_or copy_operands (copied_at g row) (row_operands (slice_get g.rows row))
 
 -- the class of the memory that a load or store reads
 abbrev pub memory_class_at : LaunchGraph → ℕ → ℕ
@@ -135,12 +188,40 @@ gives g class l = launches g gives_word l && (class_at g l.row == class)
 abbrev pub ready_in : LaunchGraph → Table → ℕ → Launch → ℕ
 ready_in g table cluster l = ready table l.cycle l.slot (unwrap_or (instr_at g l.row) Beq) cluster
 
+-- some input is of the class
 abbrev pub IsClassOfInput : LaunchGraph → ℕ → Type 0
 IsClassOfInput g class = Any (λ i. i.class ≡ class) g.inputs
 
-abbrev pub IsReadable : LaunchGraph → Table → List Launch → ℕ → ℕ → ℕ → Type 0
-IsReadable g table ls class cycle cluster =
-    IsClassOfInput g class ⊎ Any (λ l. Gives g class l × (ready_in g table cluster l ≤ cycle)) ls
+-- one slot in one cycle
+abbrev pub collides : Launch → Launch → Bool
+collides l m = (l.cycle == m.cycle) && (l.slot == m.slot)
+
+-- the first cycle in which others may write what the launch reads: its own, since overwriting launches stand last in
+-- their cycle; for an overwriting one the next
+abbrev pub reads_until : LaunchGraph → Launch → ℕ
+reads_until g l = if overwrites g l then l.cycle + 1 else l.cycle
+
+-- m is another launch than l, and writes the register before l has read it
+abbrev pub spoils : LaunchGraph → Launch → ℕ → Launch → Bool
+spoils g l r m = writes_pin g r m && (not (collides l m) && nat_lt m.cycle (reads_until g l))
+
+-- the launch finds in the register what it had at entry
+abbrev pub IsUnspoilt : LaunchGraph → List Launch → Launch → ℕ → Type 0
+IsUnspoilt g ls l r = All (λ m. ¬ IsTrue (spoils g l r m)) ls
+
+-- no launch goes to a set that is pinned to the register
+abbrev pub IsUnwritten : LaunchGraph → List Launch → ℕ → Type 0
+IsUnwritten g ls r = All (λ m. ¬ IsTrue (writes_pin g r m)) ls
+
+-- some input of the class has a register of which this holds
+abbrev pub HasInput : LaunchGraph → ℕ → (ℕ → Type 0) → Type 0
+HasInput g class P = Any (λ i. (i.class ≡ class) × P i.reg) g.inputs
+
+-- the launch can read the class: from an input's register, or as the word of a launch that is ready in its cluster
+abbrev pub IsReadable : LaunchGraph → Table → List Launch → Launch → ℕ → Type 0
+IsReadable g table ls l class =
+    HasInput g class (IsUnspoilt g ls l)
+    ⊎ Any (λ m. Gives g class m × (ready_in g table (cluster_of table l.slot) m ≤ l.cycle)) ls
 
 -- ---- memory
 
@@ -174,9 +255,9 @@ kind_group held _ = 0
 abbrev pub is_held : LaunchGraph → Bool
 is_held g = option_map_or (λ guard. guard.held) g.guard false
 
--- operates and loads that need not wait, the branch, held loads, the store
+-- operates and loads that need not wait, the branch, held loads, the store, and last what overwrites inputs
 abbrev pub group_of : LaunchGraph → Launch → ℕ
-group_of g l = kind_group (is_held g) (instr_at g l.row)
+group_of g l = if overwrites g l then 4 else kind_group (is_held g) (instr_at g l.row)
 
 -- by cycle, then by group, then by slot
 abbrev pub StandsBefore : LaunchGraph → Launch → Launch → Type 0

@@ -11,15 +11,23 @@ use Rattle.graph_meaning.specs.declared.graphs.InputClass.{InputClass}
 use Rattle.graph_meaning.specs.declared.graphs.SetClass.{SetClass}
 use Rattle.graph_meaning.specs.declared.graphs.LaunchGraph.{LaunchGraph}
 use Rattle.schedule_meaning.specs.declared.schedules.Launch.{Launch}
+use Rattle.schedule_meaning.specs.declared.schedules.To.TheVariants.{Pool, Set}
 
 abbrev pub input_class : List ℕ → ℕ → ℕ → InputClass
 input_class name reg class = record { name = name; reg = reg; class = class }
 
 abbrev pub set_class : List ℕ → ℕ → SetClass
-set_class name class = record { name = name; class = class }
+set_class name class = record { name = name; class = class; pin = None }
+
+abbrev pub pinned_set : List ℕ → ℕ → ℕ → SetClass
+pinned_set name class pin = record { name = name; class = class; pin = Some pin }
 
 abbrev pub at_slot : ℕ → ℕ → ℕ → Launch
-at_slot cycle slot row = record { cycle = cycle; slot = slot; row = row }
+at_slot cycle slot row = record { cycle = cycle; slot = slot; row = row; to = Pool }
+
+-- the same, to the set of this number
+abbrev pub to_set : ℕ → ℕ → ℕ → ℕ → Launch
+to_set cycle slot row set = record { cycle = cycle; slot = slot; row = row; to = Set set }
 
 abbrev pub high_pool : List ℕ
 high_pool = 19 ∷ 20 ∷ 21 ∷ 22 ∷ 23 ∷ 24 ∷ 25 ∷ 27 ∷ 28 ∷ []
@@ -109,3 +117,39 @@ copy_of_no_row = copy_operates ++ at_slot 1 0 11 ∷ at_slot 1 2 5 ∷ at_slot 4
 -- its store in a slot that stores may not have
 abbrev pub copy_stored_above : List Launch
 copy_stored_above = copy_operates ++ at_slot 1 0 10 ∷ at_slot 1 2 5 ∷ at_slot 4 0 6 ∷ []
+
+-- ---- pinned targets
+
+-- (set p $16 (addq p 8)), with p in $16
+abbrev pub step_graph : LaunchGraph
+step_graph = record {
+  rows = plain_row 0 op.Entry [] ∷ plain_row 1 (op.Input 16) [] ∷ plain_row 2 (op.Constant 8) []
+      ∷ plain_row 3 (op.Word ops.Addq) (1 ∷ 2 ∷ []) ∷ [];
+  entry = 0;
+  inputs = input_class (codes "p") 16 1 ∷ [];
+  pool = low_pool ++ high_pool;
+  guard = None;
+  sets = pinned_set (codes "p") 3 16 ∷ [];
+}
+
+abbrev pub step_in_one : List Launch
+step_in_one = to_set 0 0 3 0 ∷ []
+
+-- (set p $16 q) (set q $17 p), with p in $16 and q in $17: the copies of the sets are rows 4 and 5
+abbrev pub exchange_graph : LaunchGraph
+exchange_graph = record {
+  rows = plain_row 0 op.Entry [] ∷ plain_row 1 (op.Input 16) [] ∷ plain_row 2 (op.Input 17) [] ∷ [];
+  entry = 0;
+  inputs = input_class (codes "p") 16 1 ∷ input_class (codes "q") 17 2 ∷ [];
+  pool = low_pool ++ high_pool;
+  guard = None;
+  sets = pinned_set (codes "p") 2 16 ∷ pinned_set (codes "q") 1 17 ∷ [];
+}
+
+-- p is copied to the pool, while q is copied to $16; then what was p is copied to $17
+abbrev pub exchange_in_two : List Launch
+exchange_in_two = at_slot 0 0 5 ∷ to_set 0 2 4 0 ∷ to_set 1 0 5 1 ∷ []
+
+-- both at once
+abbrev pub exchange_in_one : List Launch
+exchange_in_one = to_set 0 0 4 0 ∷ to_set 0 2 5 1 ∷ []

@@ -3,15 +3,19 @@ ghost use Rattle.std.specs.Prelude.{◌≡◌, ◌↔◌, ◌≤◌, ◌<◌, �
 ghost use Rattle.schedule_meaning.specs.Fits.{Fits};
 ghost use Rattle.schedule_meaning.specs.Broken as broken;
 
-use crate::operands::{can_read_all, targets_are_reached};
+use crate::destinations::can_go;
+use crate::operands::can_read;
 use crate::schedules::{Launch, Schedule};
 use crate::stores::{keeps_memory, memory_is_left};
+use crate::targets::are_reached;
 use crate::testing::{can_launch, ends_by, has_one_branch, has_room, is_alone, waits};
 use graph_meaning::LaunchGraph;
 use machine_table::Table;
+use thiserror::Error;
 
 /// The least broken rule, and the first launch that breaks it; the list's length for a rule on the whole schedule.
-#[derive(Clone, Copy, PartialEq, Eq, Debug)]
+#[derive(Clone, Copy, PartialEq, Eq, Debug, Error)]
+#[error("launch {launch} breaks rule {rule}")]
 pub struct Broken {
     pub launch: u32,
     pub rule: u8,
@@ -20,7 +24,8 @@ pub struct Broken {
 /// What a schedule has to keep.
 #[derive(Clone, Copy, PartialEq, Eq, Debug)]
 pub enum Rule {
-    /// Each launch is of a row that can be launched, or the branch, in a slot that its instruction may use.
+    /// Each launch is of a row that can be launched, of the branch or of a copy, in a slot that its instruction may
+    /// use, and goes to the pool or to a pinned set whose word it gives; no load overwrites an input.
     Rows,
     /// No two launches have one slot and one cycle.
     Apart,
@@ -28,95 +33,111 @@ pub enum Rule {
     Operands,
     /// Each launch ends in time.
     InTime,
-    /// Each word target has a place.
+    /// Each word target without a pin is in some register at the end, and each pinned one in its pin: one launch goes
+    /// to it, or none does and it is there from the start.
     Targets,
     /// Loads and stores read the memory that the stores of earlier cycles leave, no two stores are of one cycle, and
     /// the last leaves the memory target.
     Memory,
     /// With a guard there is one branch.
     OneBranch,
-    /// No store is of an earlier cycle than the branch, nor is a load that waits for it.
+    /// No store is of an earlier cycle than the branch, nor is a load that waits for it, nor what overwrites an
+    /// input.
     AfterBranch,
-    /// There is a register for each launch that gives a word.
+    /// There is a register for each launch to the pool that gives a word.
     Pool,
 }
 
-fn rule_at(number: u8) -> Rule
-    requires low { 1 ≤ number }
-    requires high { number ≤ 9 }
-    ensures { broken.number result ≡ number }
-{
-    match number {
-        1 => Rule::Rows,
-        2 => Rule::Apart,
-        3 => Rule::Operands,
-        4 => Rule::InTime,
-        5 => Rule::Targets,
-        6 => Rule::Memory,
-        7 => Rule::OneBranch,
-        8 => Rule::AfterBranch,
-        _ => Rule::Pool,
-    }
-}
+/// All rules, in the order of their numbers.
+const RULES: [Rule; 9] = [
+    Rule::Rows,
+    Rule::Apart,
+    Rule::Operands,
+    Rule::InTime,
+    Rule::Targets,
+    Rule::Memory,
+    Rule::OneBranch,
+    Rule::AfterBranch,
+    Rule::Pool,
+];
 
-/// What the rule asks of the launch at a place.
-fn asks(
-    graph: &LaunchGraph,
-    table: &Table,
-    k: u32,
-    list: &[Launch],
-    rule: Rule,
-    at: usize,
-    launch: Launch,
-) -> bool
-    requires { at ≤ length list.now }
-    ensures { IsTrue result ↔ broken.Asks graph.now table.now k list.now rule at launch }
-{
-    match rule {
-        Rule::Rows => can_launch(graph, table, launch),
-        Rule::Apart => is_alone(list, at, launch),
-        Rule::Operands => can_read_all(graph, table, list, launch),
-        Rule::InTime => ends_by(graph, table, k, launch),
-        Rule::Memory => keeps_memory(graph, list, at, launch),
-        Rule::AfterBranch => waits(graph, list, launch),
-        _ => true,
-    }
-}
-
-/// What it asks of the schedule as a whole.
-fn asks_of_all(graph: &LaunchGraph, table: &Table, k: u32, list: &[Launch], rule: Rule) -> bool
-    ensures { IsTrue result ↔ broken.AsksOfAll graph.now table.now k list.now rule }
-{
-    match rule {
-        Rule::Targets => targets_are_reached(graph, table, list),
-        Rule::Memory => memory_is_left(graph, list),
-        Rule::OneBranch => has_one_branch(graph, list),
-        Rule::Pool => has_room(graph, list),
-        _ => true,
-    }
-}
-
-/// The first launch that breaks the rule; the list's length where the whole breaks it.
-fn first_broken(
-    graph: &LaunchGraph,
-    table: &Table,
-    k: u32,
-    list: &[Launch],
-    rule: Rule,
-) -> Option<u32>
-    requires { length list.now < 2 ^ 29 }
-    ensures { MatchOption result (broken.IsKept graph.now table.now k list.now rule)
-        (λ i. broken.Breaks graph.now table.now k list.now rule i) }
-{
-    for (at, launch) in list.iter().enumerate() {
-        if !asks(graph, table, k, list, rule, at, *launch) {
-            return Some(at as u32);
+impl Rule {
+    /// From 1 to 9.
+    pub fn number(self) -> u8
+        ensures { result ≡ broken.number self }
+    {
+        match self {
+            Rule::Rows => 1,
+            Rule::Apart => 2,
+            Rule::Operands => 3,
+            Rule::InTime => 4,
+            Rule::Targets => 5,
+            Rule::Memory => 6,
+            Rule::OneBranch => 7,
+            Rule::AfterBranch => 8,
+            Rule::Pool => 9,
         }
     }
-    if !asks_of_all(graph, table, k, list, rule) {
-        return Some(list.len() as u32);
+}
+
+/// A list of launches, with the graph, the table and the cycles that it is to fit.
+#[derive(Clone, Copy)]
+struct Trial<'a> {
+    graph: &'a LaunchGraph,
+    table: &'a Table,
+    k: u32,
+    list: &'a [Launch],
+}
+
+impl<'a> Trial<'a> {
+    /// What the rule asks of the launch at a place.
+    fn asks(&self, rule: Rule, at: usize, launch: Launch) -> bool
+        requires { at ≤ length self.now.list.now }
+        ensures { IsTrue result
+            ↔ broken.Asks self.now.graph.now self.now.table.now self.now.k self.now.list.now rule at launch }
+    {
+        match rule {
+            Rule::Rows => can_launch(self.graph, self.table, launch) && can_go(self.graph, launch),
+            Rule::Apart => is_alone(self.list, at, launch),
+            Rule::Operands => can_read(self.graph, self.table, self.list, launch),
+            Rule::InTime => ends_by(self.graph, self.table, self.k, launch),
+            Rule::Memory => keeps_memory(self.graph, self.list, at, launch),
+            Rule::AfterBranch => waits(self.graph, self.list, launch),
+            _ => true,
+        }
     }
-    None
+
+    /// What it asks of the schedule as a whole.
+    fn asks_of_all(&self, rule: Rule) -> bool
+        ensures { IsTrue result
+            ↔ broken.AsksOfAll self.now.graph.now self.now.table.now self.now.k self.now.list.now rule }
+    {
+        match rule {
+            Rule::Targets => are_reached(self.graph, self.table, self.list),
+            Rule::Memory => memory_is_left(self.graph, self.list),
+            Rule::OneBranch => has_one_branch(self.graph, self.list),
+            Rule::Pool => has_room(self.graph, self.list),
+            _ => true,
+        }
+    }
+
+    /// The first launch that breaks the rule; the list's length where the whole breaks it.
+    fn first_broken(&self, rule: Rule) -> Option<u32>
+        requires { length self.now.list.now < 2 ^ 29 }
+        ensures { MatchOption result
+            (broken.IsKept self.now.graph.now self.now.table.now self.now.k self.now.list.now rule)
+            (λ i. broken.Breaks self.now.graph.now self.now.table.now self.now.k self.now.list.now rule i) }
+    {
+        for (at, launch) in self.list.iter().enumerate() {
+            if !self.asks(rule, at, *launch) {
+                return Some(at as u32);
+            }
+        }
+        if !self.asks_of_all(rule) {
+            return Some(self.list.len() as u32);
+        }
+        None
+    }
 }
 
 /// Whether the schedule fits the graph and the table in k cycles, and if not, the least rule that it breaks and the
@@ -129,12 +150,17 @@ pub fn fits(graph: &LaunchGraph, table: &Table, k: u32, schedule: &Schedule) -> 
         (λ b. broken.IsFirstBroken graph.now table.now k schedule.now.launches b.launch b.rule) }
     ensures not { IfErr result (λ b. ¬ Fits graph.now table.now k schedule.now.launches) }
 {
-    let list = schedule.launches.as_slice();
-    for number in 1..10u8 {
-        if let Some(launch) = first_broken(graph, table, k, list, rule_at(number)) {
+    let trial = Trial {
+        graph,
+        table,
+        k,
+        list: schedule.launches.as_slice(),
+    };
+    for rule in &RULES {
+        if let Some(launch) = trial.first_broken(*rule) {
             return Err(Broken {
                 launch,
-                rule: number,
+                rule: rule.number(),
             });
         }
     }

@@ -1,12 +1,14 @@
 // What the definitions say of all schedules. The calls do nothing: their clauses are laws.
-ghost use Rattle.std.specs.Prelude.{◌≡◌, ◌*◌, ◌<◌, ◌≤◌, ◌⊎◌, ℕ, List, All, IsPermutation, length};
-ghost use Rattle.graph_meaning.specs.Graphs.{memory_target};
+ghost use Rattle.std.specs.Prelude.{◌≡◌, ◌*◌, ◌<◌, ◌≤◌, ◌⊎◌, ◌↔◌, false, ℕ, List, All, IsPermutation, length};
+ghost use Rattle.graph_meaning.specs.Graphs.{HasNoPins};
 ghost use Rattle.graph_meaning.specs.declared.graphs.LaunchGraph.{LaunchGraph as Graph};
 ghost use Rattle.machine_table.specs.Tables.{IsTable};
 ghost use Rattle.machine_table.specs.declared.tables.Table.{Table as TableOf};
 ghost use Rattle.schedule_meaning.specs.Broken.{IsFirstBroken};
 ghost use Rattle.schedule_meaning.specs.Fits.{Fits, HasSingleStores, IsLeft};
-ghost use Rattle.schedule_meaning.specs.Launches.{memory_after, memory_before, ready_in};
+ghost use Rattle.schedule_meaning.specs.Launches.{class_at, group_of, instr_at, is_held, kind_group, memory_after, memory_before, operands_at, overwrites, ready_in};
+ghost use Rattle.schedule_meaning.specs.Plain.{FitsWithoutPins, plain_class_at, plain_instr_at, plain_operands_at};
+ghost use Rattle.schedule_meaning.specs.declared.schedules.To.TheVariants.{Pool};
 ghost use Rattle.schedule_meaning.specs.declared.schedules.Launch.{Launch as LaunchOf};
 
 /// A schedule fits, or some rule is the least that it breaks and some launch the first that breaks it; never both, and
@@ -20,6 +22,17 @@ pub fn schedules_fit_or_break()
         → IsFirstBroken g table k ls i r → IsFirstBroken g table k ls j s → (i ≡ j) × (r ≡ s) }
     ensures longer { (g : Graph) (table : TableOf) (k m : ℕ) (ls : List LaunchOf)
         → k ≤ m → Fits g table k ls → Fits g table m ls }
+{}
+
+/// Where no set has a pin, a schedule fits where all its launches go to the pool and it fits without pins; no row's
+/// number is a copy's, nothing is overwritten, and each launch that gives a word takes a register of the pool.
+pub fn pins_may_be_absent()
+    ensures fits { (g : Graph) (table : TableOf) (k : ℕ) (ls : List LaunchOf) → HasNoPins g
+        → Fits g table k ls ↔ (FitsWithoutPins g table k ls × All (λ l. l.to ≡ Pool) ls) }
+    ensures rows { (g : Graph) (row : ℕ) → HasNoPins g → (instr_at g row ≡ plain_instr_at g row)
+        × (class_at g row ≡ plain_class_at g row) × (operands_at g row ≡ plain_operands_at g row) }
+    ensures groups { (g : Graph) (l : LaunchOf) → HasNoPins g → (overwrites g l ≡ false)
+        × (group_of g l ≡ kind_group (is_held g) (plain_instr_at g l.row)) }
 {}
 
 /// What fits, fits in any order of its launches.

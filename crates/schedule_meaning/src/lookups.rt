@@ -1,15 +1,16 @@
 // What a graph and a table say of a row and of a launch.
 ghost use Rattle.std.specs.Prelude.{◌≡◌, slice_index, slice_get};
 ghost use Rattle.machine_table.specs.Tables as tables;
+ghost use Rattle.schedule_meaning.specs.Groups.{group_number};
 ghost use Rattle.schedule_meaning.specs.Launches as launches;
 
-use crate::schedules::Launch;
+use crate::schedules::{Group, Launch, To};
 use graph_meaning::LaunchGraph;
 use machine_table::{InstrKind, Table, operate_kind};
 use word_ops::{Op, WordOp};
 
-/// An operand by its place; 0 where there is none.
-pub fn operand(operands: &[u32], at: usize) -> u32
+/// The class of an operand by its place; 0 where there is none.
+pub fn operand_class(operands: &[u32], at: usize) -> u32
     ensures { result ≡ slice_index operands.now at }
 {
     match operands.get(at) {
@@ -31,8 +32,8 @@ fn word_op_instr(graph: &LaunchGraph, op: WordOp, operands: &[u32]) -> Option<In
     ensures { result ≡ launches.word_op_instr graph.now op operands.now }
 {
     match op {
-        WordOp::Lda => displaced(graph, InstrKind::Lda, operand(operands, 1)),
-        WordOp::Ldah => displaced(graph, InstrKind::Ldah, operand(operands, 1)),
+        WordOp::Lda => displaced(graph, InstrKind::Lda, operand_class(operands, 1)),
+        WordOp::Ldah => displaced(graph, InstrKind::Ldah, operand_class(operands, 1)),
         op => operate_kind(op),
     }
 }
@@ -44,14 +45,35 @@ fn op_instr(graph: &LaunchGraph, op: Op, operands: &[u32]) -> Option<InstrKind>
         Op::Word(op) => word_op_instr(graph, op, operands),
         Op::Select => Some(InstrKind::LdqU),
         Op::Store => Some(InstrKind::StqU),
-        Op::Load => displaced(graph, InstrKind::LdqU, operand(operands, 2)),
-        Op::Put => displaced(graph, InstrKind::StqU, operand(operands, 2)),
+        Op::Load => displaced(graph, InstrKind::LdqU, operand_class(operands, 2)),
+        Op::Put => displaced(graph, InstrKind::StqU, operand_class(operands, 2)),
         _ => None,
     }
 }
 
+/// The class that a row's number copies: behind the branch's number each set has one, and that of a set with a pin is
+/// its copy.
+pub fn copied_at(graph: &LaunchGraph, row: u32) -> Option<u32>
+    ensures { result ≡ launches.copied_at graph.now row }
+{
+    if row as usize <= graph.rows.len() {
+        return None;
+    }
+    match graph
+        .sets
+        .as_slice()
+        .get(row as usize - (graph.rows.len() + 1))
+    {
+        Some(set) => match set.pin {
+            Some(_) => Some(set.class),
+            None => None,
+        },
+        None => None,
+    }
+}
+
 /// The instruction of a row's number, where the row can be launched; that of the number one past the last row is the
-/// branch of a guard. It looks at each row in turn where the row has a displacement.
+/// branch of a guard, and a copy is a bis. It looks at each row in turn where the row has a displacement.
 pub fn instr_at(graph: &LaunchGraph, row: u32) -> Option<InstrKind>
     ensures { result ≡ launches.instr_at graph.now row }
 {
@@ -61,16 +83,22 @@ pub fn instr_at(graph: &LaunchGraph, row: u32) -> Option<InstrKind>
             None => None,
         };
     }
+    if copied_at(graph, row).is_some() {
+        return Some(InstrKind::Bis);
+    }
     match graph.rows.as_slice().get(row as usize) {
         Some(found) => op_instr(graph, found.op, found.operands.as_slice()),
         None => None,
     }
 }
 
-/// The class of a row's number; 0 where there is no such row.
+/// The class of a row's number, for a copy that of its set; 0 where there is no such row.
 pub fn class_at(graph: &LaunchGraph, row: u32) -> u32
     ensures { result ≡ launches.class_at graph.now row }
 {
+    if let Some(class) = copied_at(graph, row) {
+        return class;
+    }
     match graph.rows.as_slice().get(row as usize) {
         Some(found) => found.class,
         None => 0,
@@ -82,7 +110,7 @@ pub fn memory_class_at(graph: &LaunchGraph, row: u32) -> u32
     ensures { result ≡ launches.memory_class_at graph.now row }
 {
     match graph.rows.as_slice().get(row as usize) {
-        Some(row) => operand(row.operands.as_slice(), 0),
+        Some(row) => operand_class(row.operands.as_slice(), 0),
         None => 0,
     }
 }
@@ -141,16 +169,67 @@ pub fn is_held(graph: &LaunchGraph) -> bool
     }
 }
 
-/// The launch's place among those of its cycle: 0 for operates and for loads that need not wait, 1 for the branch, 2
-/// for loads that wait, 3 for the store.
-pub fn group_of(graph: &LaunchGraph, launch: Launch) -> u8
-    ensures { result ≡ launches.group_of graph.now launch }
+/// The pinned register that a launch with this destination writes.
+pub fn pin_of(graph: &LaunchGraph, to: To) -> Option<u8>
+    ensures { result ≡ launches.pin_of graph.now to }
 {
+    match to {
+        To::Pool => None,
+        To::Set(number) => match graph.sets.as_slice().get(number as usize) {
+            Some(set) => set.pin,
+            None => None,
+        },
+    }
+}
+
+/// Whether the launch goes to a set that is pinned to the register.
+pub fn writes_pin(graph: &LaunchGraph, register: u8, launch: Launch) -> bool
+    ensures { result ≡ launches.writes_pin graph.now register launch }
+{
+    match pin_of(graph, launch.to) {
+        Some(pin) => pin == register,
+        None => false,
+    }
+}
+
+/// Whether the launch goes to a set that is pinned to an input's register.
+pub fn overwrites(graph: &LaunchGraph, launch: Launch) -> bool
+    ensures { result ≡ launches.overwrites graph.now launch }
+{
+    match pin_of(graph, launch.to) {
+        Some(pin) => graph.is_input_register(pin),
+        None => false,
+    }
+}
+
+/// Whether the launch takes a register of the pool.
+pub fn takes_pool(graph: &LaunchGraph, launch: Launch) -> bool
+    ensures { result ≡ launches.takes_pool graph.now launch }
+{
+    match launch.to {
+        To::Pool => gives_word(graph, launch),
+        To::Set(_) => false,
+    }
+}
+
+/// The part of its cycle in which the launch's word stands.
+pub fn group_of(graph: &LaunchGraph, launch: Launch) -> Group
+    ensures { group_number result ≡ launches.group_of graph.now launch }
+{
+    if overwrites(graph, launch) {
+        return Group::Overwriting;
+    }
     match instr_at(graph, launch.row) {
-        Some(InstrKind::LdqU) => { if is_held(graph) { 2 } else { 0 } }
-        Some(InstrKind::Beq) => 1,
-        Some(InstrKind::StqU) => 3,
-        _ => 0,
+        Some(InstrKind::LdqU) => {
+            if is_held(graph) {
+                Group::HeldLoad
+            } else {
+                Group::Free
+            }
+        }
+        Some(InstrKind::Beq) => Group::Branch,
+        Some(InstrKind::StqU) => Group::Store,
+        _ => Group::Free,
     }
 }
 

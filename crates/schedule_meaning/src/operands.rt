@@ -1,32 +1,139 @@
-// Whether a launch can read its operands, and whether the targets are reached.
-ghost use Rattle.std.specs.Prelude.{◌≡◌, ◌↔◌, IsTrue, All, Any, ◌&&◌, ◌∷◌, [], length, slice_index, Some};
+// The word operands of a row, and whether a launch can read its own.
+ghost use Rattle.std.specs.Prelude.{◌≡◌, ◌↔◌, ◌∷◌, [], IsTrue, IfSome, length, slice_get};
 ghost use Rattle.schedule_meaning.specs.Launches as launches;
-ghost use Rattle.schedule_meaning.specs.Launches.{Operand};
 ghost use Rattle.schedule_meaning.specs.Fits as rules;
-ghost use Rattle.schedule_meaning.specs.Readers.{passes, operand_of, CanUse, CanUseAll};
+ghost use Rattle.schedule_meaning.specs.Readers.{CanUse, operand_of};
 
-use crate::lookups::operand;
-use crate::readers::may_take;
-use crate::schedules::Launch;
-use graph_meaning::{LaunchGraph, SetClass};
+use crate::lookups::{copied_at, operand_class};
+use crate::readers::{has_input, is_given};
+use crate::schedules::{Launch, Operand};
+use graph_meaning::LaunchGraph;
 use machine_table::{Table, operate_kind};
 use word_ops::{Op, WordOp};
 
-fn is_input(graph: &LaunchGraph, class: u32) -> bool
-    ensures { IsTrue result ↔ launches.IsClassOfInput graph.now class }
+/// All that the row of an operate has, of which the last is the second operand.
+fn operate_operand(operands: &[u32], at: usize) -> Option<Operand>
+    ensures { result ≡ slice_get (launches.operate_operands operands.now) at }
 {
-    for input in graph.inputs.as_slice() {
-        if input.class == class {
-            return true;
-        }
+    if at < operands.len() {
+        return Some(Operand {
+            class: operand_class(operands, at),
+            second: at + 1 == operands.len(),
+        });
     }
-    false
+    None
 }
 
-fn is_zero_class(graph: &LaunchGraph, class: u32) -> bool
+fn only_operand(class: u32, second: bool, at: usize) -> Option<Operand>
+    ensures { result ≡ slice_get (operand_of class second ∷ []) at }
+{
+    if at == 0 {
+        return Some(Operand { class, second });
+    }
+    None
+}
+
+fn one_of_two(one: u32, other: u32, at: usize) -> Option<Operand>
+    ensures { result ≡ slice_get (launches.plain one ∷ launches.plain other ∷ []) at }
+{
+    if at == 0 {
+        return Some(Operand {
+            class: one,
+            second: false,
+        });
+    }
+    if at == 1 {
+        return Some(Operand {
+            class: other,
+            second: false,
+        });
+    }
+    None
+}
+
+fn word_operand(op: WordOp, operands: &[u32], at: usize) -> Option<Operand>
+    ensures { result ≡ slice_get (launches.word_op_operands op operands.now) at }
+{
+    if operate_kind(op).is_some() {
+        return operate_operand(operands, at);
+    }
+    only_operand(operand_class(operands, 0), false, at)
+}
+
+fn op_operand(op: Op, operands: &[u32], at: usize) -> Option<Operand>
+    ensures { result ≡ slice_get (launches.op_operands op operands.now) at }
+{
+    match op {
+        Op::Word(op) => word_operand(op, operands, at),
+        Op::Select | Op::Load => only_operand(operand_class(operands, 1), false, at),
+        Op::Store => one_of_two(operand_class(operands, 1), operand_class(operands, 2), at),
+        Op::Put => one_of_two(operand_class(operands, 1), operand_class(operands, 3), at),
+        _ => None,
+    }
+}
+
+/// The word operand at a place of a row's number; the branch has the guard's class, and a copy that of its set.
+pub fn operand_at(graph: &LaunchGraph, row: u32, at: usize) -> Option<Operand>
+    ensures { result ≡ slice_get (launches.operands_at graph.now row) at }
+{
+    if row as usize == graph.rows.len() {
+        return match graph.guard {
+            Some(guard) => only_operand(guard.class, false, at),
+            None => None,
+        };
+    }
+    if let Some(class) = copied_at(graph, row) {
+        return only_operand(class, true, at);
+    }
+    match graph.rows.as_slice().get(row as usize) {
+        Some(found) => op_operand(found.op, found.operands.as_slice(), at),
+        None => None,
+    }
+}
+
+fn word_operand_count(op: WordOp, operands: &[u32]) -> usize
+    ensures { result ≡ length (launches.word_op_operands op operands.now) }
+{
+    if operate_kind(op).is_some() {
+        return operands.len();
+    }
+    1
+}
+
+fn op_operand_count(op: Op, operands: &[u32]) -> usize
+    ensures { result ≡ length (launches.op_operands op operands.now) }
+{
+    match op {
+        Op::Word(op) => word_operand_count(op, operands),
+        Op::Select | Op::Load => 1,
+        Op::Store | Op::Put => 2,
+        _ => 0,
+    }
+}
+
+/// How many word operands a row's number has: two at most where the graph is well formed.
+pub fn operand_count(graph: &LaunchGraph, row: u32) -> usize
+    ensures { result ≡ length (launches.operands_at graph.now row) }
+{
+    if row as usize == graph.rows.len() {
+        return match graph.guard {
+            Some(_) => 1,
+            None => 0,
+        };
+    }
+    if copied_at(graph, row).is_some() {
+        return 1;
+    }
+    match graph.rows.as_slice().get(row as usize) {
+        Some(found) => op_operand_count(found.op, found.operands.as_slice()),
+        None => 0,
+    }
+}
+
+pub(crate) fn is_zero_class(graph: &LaunchGraph, class: u32) -> bool
     ensures { IsTrue result ↔ launches.IsZero graph.now class }
 {
-    graph.constant_of(class) == Some(0)
+    graph.is_zero_class(class)
 }
 
 fn is_byte_constant(graph: &LaunchGraph, class: u32) -> bool
@@ -39,29 +146,10 @@ fn is_byte_constant(graph: &LaunchGraph, class: u32) -> bool
 }
 
 /// The operand needs no register: the zero class, or a literal.
-fn is_free(graph: &LaunchGraph, class: u32, second: bool) -> bool
-    ensures { IsTrue result ↔ launches.IsFree graph.now (operand_of class second) }
+fn is_free(graph: &LaunchGraph, wanted: Operand) -> bool
+    ensures { IsTrue result ↔ launches.IsFree graph.now wanted }
 {
-    is_zero_class(graph, class) || (second && is_byte_constant(graph, class))
-}
-
-/// Some launch of the list gives the class's word, and it is ready for the reader.
-fn is_given(
-    graph: &LaunchGraph,
-    table: &Table,
-    list: &[Launch],
-    reader: Option<Launch>,
-    class: u32,
-) -> bool
-    ensures { IsTrue result
-        ↔ Any (λ l. IsTrue (launches.gives graph.now class l && passes graph.now table.now reader l)) list.now }
-{
-    for launch in list {
-        if may_take(graph, table, reader, class, *launch) {
-            return true;
-        }
-    }
-    false
+    is_zero_class(graph, wanted.class) || (wanted.second && is_byte_constant(graph, wanted.class))
 }
 
 fn can_use(
@@ -69,170 +157,40 @@ fn can_use(
     table: &Table,
     list: &[Launch],
     launch: Launch,
-    class: u32,
-    second: bool,
+    wanted: Operand,
 ) -> bool
-    ensures { IsTrue result ↔ CanUse graph.now table.now list.now launch (operand_of class second) }
+    ensures { IsTrue result ↔ CanUse graph.now table.now list.now launch wanted }
 {
-    if is_free(graph, class, second) {
+    if is_free(graph, wanted) {
         return true;
     }
-    if is_input(graph, class) {
+    if has_input(graph, list, Some(launch), wanted.class) {
         return true;
     }
-    is_given(graph, table, list, Some(launch), class)
+    is_given(graph, table, list, Some(launch), wanted.class)
 }
 
-fn can_use_operands(
+fn can_read_at(
     graph: &LaunchGraph,
     table: &Table,
     list: &[Launch],
     launch: Launch,
-    operands: &[u32],
+    at: usize,
 ) -> bool
-    ensures { IsTrue result ↔ CanUseAll graph.now table.now list.now launch (launches.operate_operands operands.now) }
+    ensures { IsTrue result ↔ IfSome (slice_get (launches.operands_at graph.now launch.row) at)
+        (CanUse graph.now table.now list.now launch) }
 {
-    for (at, class) in operands.iter().enumerate() {
-        if !can_use(graph, table, list, launch, *class, at + 1 == operands.len()) {
-            return false;
-        }
+    match operand_at(graph, launch.row, at) {
+        Some(wanted) => can_use(graph, table, list, launch, wanted),
+        None => true,
     }
-    true
-}
-
-fn can_use_one(
-    graph: &LaunchGraph,
-    table: &Table,
-    list: &[Launch],
-    launch: Launch,
-    class: u32,
-) -> bool
-    ensures { IsTrue result ↔ CanUseAll graph.now table.now list.now launch (launches.plain class ∷ []) }
-{
-    can_use(graph, table, list, launch, class, false)
-}
-
-fn can_use_two(
-    graph: &LaunchGraph,
-    table: &Table,
-    list: &[Launch],
-    launch: Launch,
-    one: u32,
-    other: u32,
-) -> bool
-    ensures { IsTrue result
-        ↔ CanUseAll graph.now table.now list.now launch (launches.plain one ∷ launches.plain other ∷ []) }
-{
-    if !can_use(graph, table, list, launch, one, false) {
-        return false;
-    }
-    can_use(graph, table, list, launch, other, false)
-}
-
-fn can_use_word(
-    graph: &LaunchGraph,
-    table: &Table,
-    list: &[Launch],
-    launch: Launch,
-    op: WordOp,
-    operands: &[u32],
-) -> bool
-    ensures { IsTrue result
-        ↔ CanUseAll graph.now table.now list.now launch (launches.word_op_operands op operands.now) }
-{
-    if operate_kind(op).is_some() {
-        can_use_operands(graph, table, list, launch, operands)
-    } else {
-        can_use_one(graph, table, list, launch, operand(operands, 0))
-    }
-}
-
-fn can_use_row(
-    graph: &LaunchGraph,
-    table: &Table,
-    list: &[Launch],
-    launch: Launch,
-    op: Op,
-    operands: &[u32],
-) -> bool
-    ensures { IsTrue result ↔ CanUseAll graph.now table.now list.now launch (launches.op_operands op operands.now) }
-{
-    match op {
-        Op::Word(op) => can_use_word(graph, table, list, launch, op, operands),
-        Op::Select | Op::Load => can_use_one(graph, table, list, launch, operand(operands, 1)),
-        Op::Store => can_use_two(
-            graph,
-            table,
-            list,
-            launch,
-            operand(operands, 1),
-            operand(operands, 2),
-        ),
-        Op::Put => can_use_two(
-            graph,
-            table,
-            list,
-            launch,
-            operand(operands, 1),
-            operand(operands, 3),
-        ),
-        _ => needs_nothing(graph, table, list, launch),
-    }
-}
-
-fn needs_nothing(_graph: &LaunchGraph, _table: &Table, _list: &[Launch], _launch: Launch) -> bool
-    ensures { IsTrue result ↔ CanUseAll _graph.now _table.now _list.now _launch [] }
-{
-    true
 }
 
 pub(crate) fn can_read(graph: &LaunchGraph, table: &Table, list: &[Launch], launch: Launch) -> bool
-    ensures { IsTrue result
-        ↔ CanUseAll graph.now table.now list.now launch (launches.operands_at graph.now launch.row) }
-{
-    if launch.row as usize == graph.rows.len() {
-        return match graph.guard {
-            Some(guard) => can_use_one(graph, table, list, launch, guard.class),
-            None => needs_nothing(graph, table, list, launch),
-        };
-    }
-    match graph.rows.as_slice().get(launch.row as usize) {
-        Some(row) => can_use_row(graph, table, list, launch, row.op, row.operands.as_slice()),
-        None => needs_nothing(graph, table, list, launch),
-    }
-}
-
-pub(crate) fn can_read_all(
-    graph: &LaunchGraph,
-    table: &Table,
-    list: &[Launch],
-    launch: Launch,
-) -> bool
     ensures { IsTrue result ↔ rules.CanRead graph.now table.now list.now launch }
 {
-    can_read(graph, table, list, launch)
-}
-
-fn is_reached(graph: &LaunchGraph, table: &Table, list: &[Launch], set: &SetClass) -> bool
-    ensures { IsTrue result ↔ rules.IsReached graph.now list.now set.now }
-{
-    if set.is_memory() {
-        return true;
-    }
-    if is_input(graph, set.class) {
-        return true;
-    }
-    if is_zero_class(graph, set.class) {
-        return true;
-    }
-    is_given(graph, table, list, None, set.class)
-}
-
-pub(crate) fn targets_are_reached(graph: &LaunchGraph, table: &Table, list: &[Launch]) -> bool
-    ensures { IsTrue result ↔ All (rules.IsReached graph.now list.now) graph.now.sets }
-{
-    for set in graph.sets.as_slice() {
-        if !is_reached(graph, table, list, set) {
+    for at in 0..operand_count(graph, launch.row) {
+        if !can_read_at(graph, table, list, launch, at) {
             return false;
         }
     }

@@ -108,20 +108,8 @@ pub(crate) fn keeps_memory(graph: &LaunchGraph, list: &[Launch], at: usize, laun
     !is_store(graph, launch) || no_store_before(graph, list, at, launch.cycle)
 }
 
-/// The class of the memory target: that of the first set named M, or of the memory at entry.
-pub fn memory_target(graph: &LaunchGraph) -> u32
-    ensures { result ≡ graphs.memory_target graph.now }
-{
-    for set in graph.sets.as_slice() {
-        if set.is_memory() {
-            return set.class;
-        }
-    }
-    graph.entry
-}
-
 pub(crate) fn memory_is_left(graph: &LaunchGraph, list: &[Launch]) -> bool
     ensures { IsTrue result ↔ (launches.memory_after graph.now list.now ≡ graphs.memory_target graph.now) }
 {
-    memory_after(graph, list) == memory_target(graph)
+    memory_after(graph, list) == graph.memory_target()
 }

@@ -4,8 +4,8 @@ ghost use Rattle.schedule_meaning.specs.Launches as launches;
 ghost use Rattle.schedule_meaning.specs.Fits as rules;
 ghost use Rattle.schedule_meaning.specs.Broken.{NoEarlier};
 
-use crate::lookups::{instr_at, is_branch, is_held, is_load, is_store};
-use crate::readers::words_before;
+use crate::lookups::{instr_at, is_branch, is_held, is_load, is_store, overwrites};
+use crate::readers::taken_before;
 use crate::schedules::Launch;
 use graph_meaning::LaunchGraph;
 use machine_table::{InstrKind, Table};
@@ -73,13 +73,15 @@ fn no_later_branch(graph: &LaunchGraph, list: &[Launch], launch: Launch) -> bool
     true
 }
 
-/// The launch is a store, or a load that is held.
+/// The launch is a store, a load that is held, or overwrites an input.
 fn must_wait(graph: &LaunchGraph, launch: Launch) -> bool
     ensures { IsTrue result
         ↔ (IsTrue (launches.launches graph.now launches.is_store launch)
-        ⊎ (IsTrue (launches.launches graph.now launches.is_load launch) × IsTrue (launches.is_held graph.now))) }
+        ⊎ (IsTrue (launches.launches graph.now launches.is_load launch) × IsTrue (launches.is_held graph.now))
+        ⊎ IsTrue (launches.overwrites graph.now launch)) }
 {
-    is_store(graph, launch) || (is_load(graph, launch) && is_held(graph))
+    is_store(graph, launch)
+        || ((is_load(graph, launch) && is_held(graph)) || overwrites(graph, launch))
 }
 
 pub(crate) fn waits(graph: &LaunchGraph, list: &[Launch], launch: Launch) -> bool
@@ -112,7 +114,7 @@ pub(crate) fn has_one_branch(graph: &LaunchGraph, list: &[Launch]) -> bool
 
 pub(crate) fn has_room(graph: &LaunchGraph, list: &[Launch]) -> bool
     ensures { IsTrue result
-        ↔ (count_by (launches.launches graph.now launches.gives_word) list.now ≤ length graph.now.pool) }
+        ↔ (count_by (launches.takes_pool graph.now) list.now ≤ length graph.now.pool) }
 {
-    words_before(graph, list, list.len()) <= graph.pool.len()
+    taken_before(graph, list, list.len()) <= graph.pool.len()
 }

@@ -2,12 +2,13 @@
 ghost use Rattle.std.specs.Prelude.{◌++◌, ◌∷◌, [], true};
 ghost use Rattle.schedule_meaning.specs.Fits.{Fits};
 ghost use Rattle.schedule_meaning.specs.Broken.{IsFirstBroken};
-ghost use Rattle.schedule_meaning.specs.Worked.{sum_graph, two_slots, sum_in_three, sum_in_two, sum_twice, copy_graph, copy_graph_with, free_copy_graph, at_slot, copy_at, copy_with, copy_without_branch, copy_without_store, copy_without_sum, copy_of_no_row, copy_stored_above};
+ghost use Rattle.schedule_meaning.specs.Worked.{sum_graph, two_slots, sum_in_three, sum_in_two, sum_twice, copy_graph, copy_graph_with, free_copy_graph, at_slot, copy_at, copy_with, copy_without_branch, copy_without_store, copy_without_sum, copy_of_no_row, copy_stored_above, step_graph, step_in_one, exchange_graph, exchange_in_two, exchange_in_one};
 ghost use Rattle.machine_table.specs.Tables.{IsTable, ev6};
 
 /// `(set x (xor (addq a b) a))` on two slots in two clusters: it fits in 3 cycles; in 2 the second launch comes before
 /// its operand is seen in its cluster; and a launch that is given twice collides with itself. Then a loop that copies
-/// words, and for each rule a list of its launches that breaks that rule first.
+/// words, and for each rule a list of its launches that breaks that rule first. Then pinned targets: a register that
+/// is counted up in its place, and two registers that are exchanged.
 pub fn worked_schedules()
     ensures table { IsTable two_slots }
 
@@ -33,4 +34,9 @@ pub fn worked_schedules()
 
     // Where the guard holds no load, the load needn't wait for the branch.
     ensures free_copy_fits { Fits free_copy_graph ev6 4 (copy_at 1 0 3) }
+
+    // A launch may overwrite what it reads itself, but not what another that overwrites reads in the same cycle.
+    ensures step_fits { Fits step_graph ev6 1 step_in_one }
+    ensures exchange_fits { Fits exchange_graph ev6 2 exchange_in_two }
+    ensures overwritten_before_read { IsFirstBroken exchange_graph ev6 1 exchange_in_one 0 3 }
 {}

@@ -18,19 +18,19 @@ pub returns-clause-words : goal.returns-clause-words
 returns-clause-words c =
     let order : IsInWordOrder c.args.graph.now c.args.schedule.now.launches c.deref.result.now = search rules in
     let items : c.in_ok-items_of.field-0 ≡ items_of c.args.graph.now c.args.table.now c.deref.result.now = search rules in
-    let places : c.in_ok-wheres_of.field-0 ≡ wheres_of c.args.graph.now c.deref.result.now = search rules in
+    let places : c.in_ok-wheres_of.field-0 ≡ wheres_of c.args.graph.now c.args.table.now c.deref.result.now = search rules in
     have_words c.args.graph.now c.args.table.now c.args.k c.args.schedule.now.launches c.deref.result.now c.requires.graph c.requires.table c.requires.fits c.requires.few order _ _ items places
 
 pub returns-clause-keeps : goal.returns-clause-keeps
 returns-clause-keeps c =
     let order : IsInWordOrder c.args.graph.now c.args.schedule.now.launches c.deref.result.now = search rules in
     let items : c.in_ok-items_of.field-0 ≡ items_of c.args.graph.now c.args.table.now c.deref.result.now = search rules in
-    let places : c.in_ok-wheres_of.field-0 ≡ wheres_of c.args.graph.now c.deref.result.now = search rules in
+    let places : c.in_ok-wheres_of.field-0 ≡ wheres_of c.args.graph.now c.args.table.now c.deref.result.now = search rules in
     keeps_word c.args.graph.now c.args.table.now c.args.k c.args.schedule.now.launches c.deref.result.now c.requires.graph c.requires.table c.requires.fits c.requires.few order _ _ items places
 
 pub returns-clause-run : goal.returns-clause-run
 returns-clause-run c =
     let order : IsInWordOrder c.args.graph.now c.args.schedule.now.launches c.deref.result.now = search rules in
     let items : c.in_ok-items_of.field-0 ≡ items_of c.args.graph.now c.args.table.now c.deref.result.now = search rules in
-    let places : c.in_ok-wheres_of.field-0 ≡ wheres_of c.args.graph.now c.deref.result.now = search rules in
+    let places : c.in_ok-wheres_of.field-0 ≡ wheres_of c.args.graph.now c.args.table.now c.deref.result.now = search rules in
     may_run c.args.graph.now c.args.table.now c.args.k c.args.schedule.now.launches c.deref.result.now c.requires.graph c.requires.table c.requires.fits c.requires.few order _ _ items places

@@ -10,4 +10,8 @@ returns c = record {
   places = refl;
   sum_words = refl;
   sum_places = refl;
+  step_words = refl;
+  step_places = refl;
+  exchange_words = refl;
+  exchange_places = refl;
 }
