@@ -1,6 +1,6 @@
 -- What a decision does: the picker's place in the list of free variables, tried false: this project; no public clause
 -- cites it.
-use Rattle.std.specs.Prelude.{◌≡◌, ℕ, ◌+◌, ◌-◌, ◌<◌, ◌≤◌, ◌==◌, List, [], ◌∷◌, ◌++◌, length, map, filter, Bool, None, false, is_none, slice_index}
+use Rattle.std.specs.Prelude.{◌≡◌, ℕ, ◌+◌, ◌-◌, ◌^◌, ◌<◌, ◌≤◌, ◌==◌, List, [], ◌∷◌, ◌++◌, length, map, filter, min, Bool, None, false, is_none, slice_index, if◌then◌else◌}
 use Rattle.std.specs.List.{range_with_len, list_any, count_by}
 use Rattle.cnf_core.specs.declared.literal.Lit.{Lit}
 use Rattle.cnf_core.specs.declared.line.Line.{Line}
@@ -17,14 +17,22 @@ free_list values = filter (λ x. is_none (assignment_of values x)) (map (λ i. i
 abbrev pub has_var : List Lit → ℕ → Bool
 has_var lemma x = list_any (λ (l : Lit). l.var == x) lemma
 
--- the score of a variable: how many of the lemmas have it
-abbrev pub score_of : List Line → ℕ → ℕ
-score_of lines x = count_by (λ (line : Line). has_var line.lits x) lines
+-- how many of the lemmas have the variable
+abbrev pub lemma_count : List Line → ℕ → ℕ
+lemma_count lines x = count_by (λ (line : Line). has_var line.lits x) lines
 
--- the scores of the variables 1 to n, that of x at the place x - 1
-pub record AreScores (n : ℕ) (lines : List Line) (counts : List ℕ) : Type 0 where
+-- the score of a variable: the given one plus the number of lemmas that have it, or 2 ^ 64 - 1 where that is less
+abbrev pub score_of : List ℕ → List Line → ℕ → ℕ
+score_of given lines x = min (slice_index given (x - 1) + lemma_count lines x) (2 ^ 64 - 1)
+
+-- the score after one lemma more, of a variable that it has or hasn't
+abbrev pub next_score : Bool → ℕ → ℕ
+next_score has score = if has then min (score + 1) (2 ^ 64 - 1) else score
+
+-- the scores of the variables 1 to n, that of x at the place x - 1, as the given ones are
+pub record AreScores (n : ℕ) (given : List ℕ) (lines : List Line) (counts : List ℕ) : Type 0 where
   pub size : length counts ≡ n
-  pub each : (x : ℕ) → 1 ≤ x → x ≤ n → slice_index counts (x - 1) ≡ score_of lines x
+  pub each : (x : ℕ) → 1 ≤ x → x ≤ n → slice_index counts (x - 1) ≡ score_of given lines x
 
 -- the score of each free variable, rising
 abbrev pub scores_of : List ℕ → List Value → List ℕ

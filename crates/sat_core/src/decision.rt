@@ -1,10 +1,10 @@
 // Decisions: a free variable at the picker's place, tried false first.
-ghost use Rattle.std.specs.Prelude.{◌≡◌, ℕ, ◌+◌, ◌-◌, ◌^◌, ◌<◌, ◌≤◌, ◌==◌, [], ◌∷◌, ◌++◌, length, map, OnOk, IfOk, MatchBool, None, replicate, false, slice_index, if◌then◌else◌};
+ghost use Rattle.std.specs.Prelude.{◌≡◌, ℕ, ◌+◌, ◌-◌, ◌^◌, ◌<◌, ◌≤◌, ◌==◌, [], ◌∷◌, ◌++◌, length, map, OnOk, IfOk, MatchBool, None, false, slice_index};
 ghost use Rattle.std.specs.List.{All, list_any, slice_index_or};
 ghost use Rattle.cnf_core.specs.Formula.{IsLitOf};
 ghost use Rattle.cnf_core.specs.Refutation.{HaveDifferentVars};
 ghost use Rattle.sat_core.specs.Steps.{assignment_of, var_count, IsTrailState};
-ghost use Rattle.sat_core.specs.Picks.{free_list, scores_of, has_var, IsDecidedBy};
+ghost use Rattle.sat_core.specs.Picks.{free_list, scores_of, has_var, next_score, IsDecidedBy};
 
 use crate::trail::{Step, Trail, Value};
 use cnf_core::Lit;
@@ -12,7 +12,7 @@ use items::NoMemory;
 use pick_rule::{Picker, Rule};
 use std::alloc::Global;
 
-/// How many lemmas have each variable, and the two lists of a decision, whose memory is used again.
+/// The score of each variable, and the two lists of a decision, whose memory is used again.
 #[derive(Drop)]
 pub(crate) struct Scores {
     /// The score of variable x at the place x - 1.
@@ -24,30 +24,29 @@ pub(crate) struct Scores {
 }
 
 impl Scores {
-    /// No lemma, over this many variables.
-    pub(crate) fn new(alloc: Global, vars: u32) -> Result<Scores, NoMemory>
-        ensures { IfOk result (λ scores. scores.counts.items ≡ replicate vars 0) }
+    /// The given scores, that of variable x at the place x - 1.
+    pub(crate) fn new(alloc: Global, given: &[u64]) -> Result<Scores, NoMemory>
+        ensures { IfOk result (λ scores. scores.counts.items ≡ given.now) }
     {
-        let counts = vec![in alloc; 0u64; vars as usize]?;
         Ok(Scores {
-            counts,
+            counts: given.to_vec(alloc)?,
             free: Vec::new(alloc),
             free_scores: Vec::new(alloc),
         })
     }
 
-    /// Counts one lemma more.
+    /// Counts one lemma more. A score that is at the end of its type stays.
     pub(crate) fn add(&mut self, lemma: &[Lit])
         requires exist { All (IsLitOf (length self.old.counts.items)) lemma.now }
         requires differ { HaveDifferentVars lemma.now }
-        requires room { All (λ score. score + 1 < 2 ^ 64) self.old.counts.items }
         ensures size { length self.new.counts.items ≡ length self.old.counts.items }
         ensures counts { (x : ℕ) → 1 ≤ x → x ≤ length self.old.counts.items
             → slice_index self.new.counts.items (x - 1)
-            ≡ slice_index self.old.counts.items (x - 1) + (if has_var lemma.now x then 1 else 0) }
+            ≡ next_score (has_var lemma.now x) (slice_index self.old.counts.items (x - 1)) }
     {
         for lit in lemma {
-            self.counts[(lit.var - 1) as usize] += 1;
+            let place = (lit.var - 1) as usize;
+            self.counts[place] = self.counts[place].saturating_add(1);
         }
     }
 }

@@ -11,4 +11,4 @@ mod solver;
 mod trail;
 mod watches;
 
-pub use solver::{Verdict, solve};
+pub use solver::{Verdict, solve, solve_from};

@@ -31,11 +31,8 @@ pub enum Verdict {
     Spent(Lines),
 }
 
-/// Searches for values that satisfy the formula, with at most `conflicts` conflicts. For each decision the picker gets
-/// the scores of the free variables, in rising order of these, and the free variable at the place that it answers is
-/// tried, false first. A score is the number of lemmas so far that have the variable. Each conflict adds one line: the
-/// lemma of the first unique implication point, without the literals that its other literals imply, and as hints the
-/// clauses that it was resolved from. Memory grows with the formula and with what is learnt, not with `conflicts`.
+/// Searches for values that satisfy the formula, with at most `conflicts` conflicts: `solve_from` with the score 0 for
+/// each variable.
 pub fn solve<F: Rule>(
     alloc: Global,
     cnf: &Cnf,
@@ -47,21 +44,44 @@ pub fn solve<F: Rule>(
     ensures refuted { IfOk result (λ verdict. IfRefuted verdict (IsRefuted cnf.now conflicts)) }
     ensures spent { IfOk result (λ verdict. IfSpent verdict (IsSpent cnf.now conflicts)) }
 {
+    let scores = vec![in alloc; 0u64; cnf.vars() as usize]?;
+    solve_from(alloc, cnf, picker, conflicts, &scores)
+}
+
+/// Searches for values that satisfy the formula, with at most `conflicts` conflicts, from a score for each variable, that
+/// of variable x at the place x - 1. For each decision the picker gets the scores of the free variables, in rising order
+/// of these, and the free variable at the place that it answers is tried, false first. A score is the given one plus the
+/// number of lemmas so far that have the variable, and ends at 2^64 - 1. Each conflict adds one line: the lemma of the
+/// first unique implication point, without the literals that its other literals imply, and as hints the clauses that it
+/// was resolved from. Memory grows with the formula and with what is learnt, not with `conflicts`.
+pub fn solve_from<F: Rule>(
+    alloc: Global,
+    cnf: &Cnf,
+    picker: &Picker<F>,
+    conflicts: u32,
+    scores: &[u64],
+) -> Result<Verdict, NoMemory>
+    requires conflicts { (1 ≤ conflicts) × (conflicts ≤ 1000000) }
+    requires scores { length scores.now ≡ cnf.now.vars }
+    ensures solved { IfOk result (λ verdict. IfSat verdict (IsSolved cnf.now)) }
+    ensures refuted { IfOk result (λ verdict. IfRefuted verdict (IsRefuted cnf.now conflicts)) }
+    ensures spent { IfOk result (λ verdict. IfSpent verdict (IsSpent cnf.now conflicts)) }
+{
     let mut trail = Trail::new(alloc, cnf.vars())?;
     let mut watches = Watches::new(alloc, cnf.vars())?;
-    let mut scores = Scores::new(alloc, cnf.vars())?;
+    let mut tally = Scores::new(alloc, scores)?;
     let mut seen = vec![in alloc; false; cnf.vars() as usize]?;
     let mut clauses = clauses_of(alloc, cnf)?;
     let mut lines = Items::new(alloc);
     for made in 0..conflicts {
-        match advance(&clauses, picker, &mut trail, &mut watches, &mut scores)? {
+        match advance(&clauses, picker, &mut trail, &mut watches, &mut tally)? {
             None => return Ok(Verdict::Sat(all_values(alloc, trail.values.as_slice())?)),
             Some(id) => {
                 let line = learn(alloc, &clauses, &mut trail, &mut seen, id)?;
                 watches.take_back(trail.steps.len());
                 let refuted = line.lits.is_empty();
                 clauses.push(line.lits.as_slice())?;
-                scores.add(line.lits.as_slice());
+                tally.add(line.lits.as_slice());
                 lines.push(line)?;
                 if refuted {
                     refutations_leave_no_solution();

@@ -1,4 +1,4 @@
-use Rattle.std.proofs.Common.{◌≡◌, ℕ, ◌+◌, ◌-◌, ◌^◌, ◌<◌, ◌≤◌, cond, get_or, Vec, Global, [], ◌∷◌, ◌++◌, List, Option, false, length, map, min, arith, rules, sym, ap, ◌∙◌, subst}
+use Rattle.std.proofs.Common.{◌≡◌, ℕ, ◌-◌, ◌≤◌, get_or, Vec, Global, [], ◌∷◌, ◌++◌, List, Option, false, length, map, min, arith, rules, sym, ap, ◌∙◌, subst}
 use Rattle.std.specs.Prelude.{MatchOption, unwrap_or, replicate}
 use Rattle.std.specs.List.{All}
 use Rattle.std.proofs.lemmas.Bool.{false≢true}
@@ -17,10 +17,10 @@ use Rattle.sat_core.specs.Watches.{AreWatched, KeepWatches}
 use Rattle.sat_core.proofs.Ending.{marks-none}
 use Rattle.sat_core.proofs.Watching.{kept-cut, kept-more}
 use Rattle.sat_core.specs.FalseClauses.{IsFalsified}
-use Rattle.sat_core.specs.Picks.{free_list, has_var, AreScores}
-use Rattle.sat_core.proofs.Scoring.{scores-none, scores-room, scores-add}
+use Rattle.sat_core.specs.Picks.{free_list, has_var, next_score, AreScores}
+use Rattle.sat_core.proofs.Scoring.{scores-none, scores-add}
 use Rattle.sat_core.proofs.Searching.{IsSearch, search-none, search-moved, search-more, search-refuted, search-spent, search-solved}
-use Rattle.sat_core.proofs.solver.solve.Goals as goal
+use Rattle.sat_core.proofs.solver.solve_from.Goals as goal
 
 pub loop-made-init : goal.loop-made-init
 loop-made-init g c =
@@ -37,13 +37,13 @@ loop-made-init g c =
           (subst (λ (n : ℕ). AreWatched clauses n [] c.in_ok-watches.watches) (c.vars-2.ensures.value ∙ sym c.vars.ensures.value ∙ sym size) (c.in_ok-watches.ensures clauses)));
       scored =
           (let size = (c.in_ok-trail.ensures.state clauses).size in
-          subst (λ (ls : List Line). AreScores (var_count trail) ls c.in_ok-scores.scores.counts.items) (sym c.new-lines.ensures)
-          (scores-none (var_count trail) c.in_ok-scores.scores.counts.items
-          (c.in_ok-scores.ensures ∙ ap (λ (k : ℕ). replicate k 0) (c.vars-3.ensures.value ∙ sym c.vars.ensures.value ∙ sym size))));
+          subst (λ (ls : List Line). AreScores (var_count trail) c.args.scores.now ls c.in_ok-tally.tally.counts.items) (sym c.new-lines.ensures)
+          (scores-none (var_count trail) c.args.scores.now c.in_ok-tally.tally.counts.items c.in_ok-tally.ensures (c.requires.scores ∙ sym c.vars.ensures.value ∙ sym size)
+          (λ k few. (c.type_inv.scores k).fits)));
       unmarked =
           (let size = (c.in_ok-trail.ensures.state clauses).size in
-          let all : c.in_ok-seen.seen.items ≡ replicate c.vars-4.result false = search rules in
-          marks-none (var_count trail) c.in_ok-seen.seen.items (all ∙ ap (λ (k : ℕ). replicate k false) (c.vars-4.ensures.value ∙ sym c.vars.ensures.value ∙ sym size)));
+          let all : c.in_ok-seen.seen.items ≡ replicate c.vars-3.result false = search rules in
+          marks-none (var_count trail) c.in_ok-seen.seen.items (all ∙ ap (λ (k : ℕ). replicate k false) (c.vars-3.ensures.value ∙ sym c.vars.ensures.value ∙ sym size)));
       count = ap length c.new-lines.ensures;
     }
 
@@ -64,15 +64,6 @@ pub add-requires-clause-differ : goal.add-requires-clause-differ
 add-requires-clause-differ g c =
     let shown = c.in_ok-line-in-Some.ensures.shown in
     subst HaveDifferentVars (sym c.as_slice-in-Some-2.ensures) shown.named.differ
-
-pub add-requires-clause-room : goal.add-requires-clause-room
-add-requires-clause-room g c =
-    let count = c.loop-made.invariant.count in
-    let made = c.loop-made-test.true in
-    let end = c.loop-made.auto.made-end in
-    let most = c.requires.conflicts.1 in
-    subst (λ (v : Vec ℕ Global). All (λ score. score + 1 < 2 ^ 64) v.items) (sym c.in_ok-advance.ensures.scores)
-    (scores-room (var_count c.loop-made.trail) c.loop-made.lines c.loop-made.scores.counts.items c.loop-made.invariant.scored (omega arith))
 
 pub returns-in-None-clause-solved : goal.returns-in-None-clause-solved
 returns-in-None-clause-solved g c =
@@ -125,11 +116,12 @@ loop-made-preserved g c =
           (let n = var_count c.loop-made.trail in
           let counts = c.advance.new.scores.counts.items in
           let size = c.in_ok-line-in-Some.ensures.size ∙ c.in_ok-advance.ensures.state.size in
-          let before = subst (λ (v : Vec ℕ Global). AreScores n c.loop-made.lines v.items) (sym c.in_ok-advance.ensures.scores) c.loop-made.invariant.scored in
-          let each = subst (λ (lits : List Lit). (x : ℕ) → 1 ≤ x → x ≤ length counts → get_or c.add.new.self.counts.items (x - 1) 0 ≡ get_or counts (x - 1) 0 + cond {A = ℕ} (has_var lits x) 1 0) c.as_slice-in-Some-2.ensures c.add.ensures.counts in
-          subst (λ (k : ℕ). AreScores k c.push-in-Some.new.self c.add.new.self.counts.items) (sym size)
-          (subst (λ (ls : List Line). AreScores n ls c.add.new.self.counts.items) (sym is-lines)
-          (scores-add n c.loop-made.lines line counts c.add.new.self.counts.items before c.add.ensures.size each)));
+          let given = c.args.scores.now in
+          let before = subst (λ (v : Vec ℕ Global). AreScores n given c.loop-made.lines v.items) (sym c.in_ok-advance.ensures.scores) c.loop-made.invariant.scored in
+          let each = subst (λ (lits : List Lit). (x : ℕ) → 1 ≤ x → x ≤ length counts → get_or c.add.new.self.counts.items (x - 1) 0 ≡ next_score (has_var lits x) (get_or counts (x - 1) 0)) c.as_slice-in-Some-2.ensures c.add.ensures.counts in
+          subst (λ (k : ℕ). AreScores k given c.push-in-Some.new.self c.add.new.self.counts.items) (sym size)
+          (subst (λ (ls : List Line). AreScores n given ls c.add.new.self.counts.items) (sym is-lines)
+          (scores-add n given c.loop-made.lines line counts c.add.new.self.counts.items before c.add.ensures.size each)));
       unmarked = subst (λ (k : ℕ). AreNoMarks k c.learn.new.seen.items) (sym c.in_ok-line-in-Some.ensures.size) c.in_ok-line-in-Some.ensures.unmarked;
       count = omega arith;
     }
