@@ -58,7 +58,7 @@ module _ (table : Table) (g : LaunchGraph) where
 -- a goal without a graph has no world
 pub seen_where : (e : Encoding) (table : Table) (c : Claimed) → IsClaimed c → c.graph ≡ None → IsVerdict e table c Seen
 seen_where e table c (no_world is graph refute) none = seen is refl
-seen_where e table c (worked world graph formed fits refute) none = absurd (let e = sym graph ∙ none in cc)
+seen_where e table c (worked world graph formed unpinned fits refute) none = absurd (let e = sym graph ∙ none in cc)
 
 -- the clauses over what a scope gives variables are those of its encoding
 pub formulas_in : (e : Encoding) (g : LaunchGraph) (table : Table) (s : Scope) → IsScope e g table s

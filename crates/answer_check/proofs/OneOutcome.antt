@@ -183,7 +183,7 @@ module _ (table : Table) (g : LaunchGraph)
 worldless : (c : Claimed) (g : LaunchGraph) (class a b : ℕ) → IsClaimed c → c.claim ≡ NoWorld class a b
     → c.graph ≡ Some g → ⊥
 worldless c g class a b (no_world is graph refute) claim some = absurd (let e = sym graph ∙ some in cc)
-worldless c g class a b (worked world graph formed fits refute) claim some = world class a b claim
+worldless c g class a b (worked world graph formed unpinned fits refute) claim some = world class a b claim
 
 -- ---- two functions that give the same clauses for as many cycles as may be asked for
 
@@ -292,7 +292,7 @@ one_formula one e g table a b of too k few =
 -- a goal with a graph has a claim that fits
 fits_where : (c : Claimed) (g : LaunchGraph) → IsClaimed c → c.graph ≡ Some g → FitsClaim c.claim
 fits_where c g (no_world is none refute) some = absurd (let e = sym none ∙ some in cc)
-fits_where c g (worked world graph formed fits refute) some = fits
+fits_where c g (worked world graph formed unpinned fits refute) some = fits
 
 pub one_verdict_only : OneList → (e : Encoding) (table : Table) (c : Claimed)
     → ((g : LaunchGraph) (k : ℕ) (ls : List Launch) (i j r s : ℕ) → IsFirstBroken g table k ls i r

@@ -7,6 +7,7 @@ ghost use Rattle.answer_texts.specs.AnswerLines as format;
 ghost use Rattle.answer_texts.specs.WellFormed.{FitsClaim, HasRefutation, IsClaimed};
 ghost use Rattle.answer_texts.specs.declared.answers.Claim.TheVariants.{NoWorld};
 ghost use Rattle.cycle_encoding.specs.Encodings.{IsScope};
+ghost use Rattle.graph_meaning.specs.Graphs.{HasNoPins};
 ghost use Rattle.graph_meaning.specs.WellFormed.{IsLaunchGraph};
 ghost use Rattle.machine_table.specs.Tables.{IsTable};
 ghost use Rattle.order_encoding.specs.WholeFormula.{formula_in};
@@ -34,6 +35,7 @@ fn check_claim(
 ) -> Result<Verdict, NoMemory>
     requires table { IsTable table.now }
     requires graph { IsLaunchGraph graph.now }
+    requires unpinned { HasNoPins graph.now }
     requires facts { facts.now ≡ graph.now }
     requires scope { IsScope scope.now.encoding facts.now table.now scope.now }
     requires claim { FitsClaim goal.now.claim }

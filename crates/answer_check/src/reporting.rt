@@ -45,7 +45,8 @@ fn put_holds(text: &mut Vec<u8>, goal: &Claimed) -> Result<(), NoMemory>
     }
 }
 
-fn put_verdict(text: &mut Vec<u8>, goal: &Claimed, verdict: Verdict) -> Result<(), NoMemory>
+/// Appends the line of a goal with this verdict.
+pub fn put_verdict(text: &mut Vec<u8>, goal: &Claimed, verdict: Verdict) -> Result<(), NoMemory>
     ensures { OnOk result (text.new.items ≡ text.old.items ++ line_text (verdict_words goal.now verdict)) }
 {
     match verdict {
@@ -69,7 +70,7 @@ fn put_verdict(text: &mut Vec<u8>, goal: &Claimed, verdict: Verdict) -> Result<(
 }
 
 /// The encoding that an answer names by its number.
-fn encoding_named(number: u8) -> Encoding
+pub fn encoding_named(number: u8) -> Encoding
     ensures { result ≡ encoding_named number }
 {
     if number == 2 {

@@ -38,3 +38,4 @@ pub mod TableSlots
 pub mod TableUses
 pub mod WordsLines
 pub mod WordsRuns
+pub mod UnpinnedGraphs

@@ -11,6 +11,7 @@ use Rattle.machine_table.specs.declared.tables.Slot.{Slot}
 use Rattle.machine_table.specs.declared.tables.Table.{Table}
 use Rattle.machine_table.specs.declared.tables.Use.{Use}
 use Rattle.register_assign.specs.declared.listings.Where.{Where}
+use Rattle.schedule_meaning.specs.declared.schedules.To.{To}
 use Rattle.schedule_meaning.specs.declared.schedules.Launch.{Launch}
 use Rattle.text_core.specs.Names.{IsName}
 use Rattle.answer_texts.specs.AnswerLines.{name_among, slot_words, inst_words, launch_words, word_words, where_words}
@@ -124,8 +125,8 @@ uses_kind found slots cross = record {
 
 -- ---- launches
 
-launch_of : ℕ → ℕ → ℕ → Launch
-launch_of cycle slot row = record { cycle = cycle; slot = slot; row = row }
+launch_of : ℕ → ℕ → ℕ → To → Launch
+launch_of cycle slot row to = record { cycle = cycle; slot = slot; row = row; to = to }
 
 one_launch : (table : Table) → IsTable table → (l m : Launch) → IsLaunch table l → IsLaunch table m
     → launch_words table l ≡ launch_words table m → l ≡ m
@@ -135,14 +136,15 @@ one_launch table is l m a b e =
     let soon = b.0 in
     let low = a.2 in
     let less = b.2 in
-    ap (λ n. launch_of n l.slot l.row)
+    ap (λ n. launch_of n l.slot l.row l.to)
     (number_same 1 l.cycle m.cycle (launch_words table l) (launch_words table m) (omega (arith, early)) (omega (arith, soon))
     e refl refl)
-    ∙ ap (λ n. launch_of m.cycle n l.row)
+    ∙ ap (λ n. launch_of m.cycle n l.row l.to)
     (one_name table.slots l.slot m.slot is.names a.1 b.1 (word_same 2 (launch_words table l) (launch_words table m) e))
-    ∙ ap (λ n. launch_of m.cycle m.slot n)
+    ∙ ap (λ n. launch_of m.cycle m.slot n l.to)
     (number_same 3 l.row m.row (launch_words table l) (launch_words table m) (omega (arith, low)) (omega (arith, less))
     e refl refl)
+    ∙ ap (launch_of m.cycle m.slot m.row) (a.4 ∙ sym b.4)
 
 pub launches_kind : (table : Table) → IsTable table
     → IsKindOfLine (codes "launch") (launch_words table) (AreLaunches table)

@@ -13,6 +13,7 @@ use Rattle.answer_texts.specs.AnswerLines.{refuted_below}
 use Rattle.answer_texts.specs.AnswerParts.{TableRest, CountedPart, BelowPart, IsClaimLine, ClaimRest, ClaimPart, BodyRest, GoalPart, AreGoals, no_goals, more, claimed_of, AnswerPart}
 use Rattle.answer_texts.specs.LineParts.{AreLinesOf}
 use Rattle.answer_texts.specs.ReadAnswers.{ReadsAnswer}
+use Rattle.answer_texts.proofs.UnpinnedGraphs.{unpinned_at}
 use Rattle.answer_texts.specs.WellFormed.{FitsClaim, HasRefutation, nothing_less, refuted, IsClaimed, no_world, worked, IsAnswer}
 use Rattle.answer_texts.specs.declared.answers.AnswerText.{AnswerText}
 use Rattle.answer_texts.specs.declared.answers.Claim.{Claim}
@@ -118,7 +119,7 @@ module _ (lines : List Line) (few : length lines < 2 ^ 29) where
     rest_claimed name (bodies.Rounds rounds stop) from next body b =
         let shown = claim_shown b.middle b.second.middle b.second.said b.second.first in
         subst (λ (x : Body). IsClaimed (claimed_of name x)) (sym b.second.second.is)
-        (worked shown.worked_out refl b.first.well_formed shown.fits shown.refutation)
+        (worked shown.worked_out refl b.first.well_formed (unpinned_at lines _ _ _ b.first) shown.fits shown.refutation)
 
     goal_claimed : (from next : ℕ) (c : Claimed) → GoalPart lines table from next c → IsClaimed c
     goal_claimed from next c a =

@@ -13,6 +13,7 @@ use Rattle.machine_table.specs.declared.tables.Slot.{Slot}
 use Rattle.machine_table.specs.declared.tables.Table.{Table}
 use Rattle.text_core.specs.Lines.{Line}
 use Rattle.text_core.specs.Names.{IsName}
+use Rattle.answer_texts.proofs.UnpinnedGraphs.{unpinned_at}
 use Rattle.answer_texts.specs.AnswerLines.{refuted_below}
 use Rattle.answer_texts.specs.AnswerParts.{CountedPart, BelowPart, IsClaimLine, ClaimRest, ClaimPart, IsBodyLine, BodyRest, claimed_of, GoalPart, AreGoals, no_goals, more, OwnPart, TableRest, AnswerPart}
 use Rattle.answer_texts.specs.LineParts.{IsOneLine}
@@ -111,7 +112,7 @@ module _ (lines : List Line) where
     body_back name named (bodies.Rounds rounds stop) from middle next body a h =
         let fine = claim_back h.middle h.second.middle h.second.said h.second.first in
         subst (λ b. IsPrintableGoal table (claimed_of name b)) (sym h.second.second.is)
-        (worked named h.first.well_formed (few_rows middle h.middle h.said h.first) a.is.0 fine.0 fine.1)
+        (worked named h.first.well_formed (unpinned_at lines _ _ _ h.first) (few_rows middle h.middle h.said h.first) a.is.0 fine.0 fine.1)
 
     goal_back : (from next : ℕ) (c : Claimed) → GoalPart lines table from next c → IsPrintableGoal table c
     goal_back from next c h =

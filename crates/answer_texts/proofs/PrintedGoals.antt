@@ -9,6 +9,7 @@ use Rattle.cnf_core.specs.declared.line.Lines.{Lines}
 use Rattle.launch_graph.specs.GraphLines.{graph_lines, said}
 use Rattle.launch_graph.specs.GraphTexts.{EndsGraph, IsGraphAt}
 use Rattle.launch_graph.specs.LineFormats.{words_between, words_from}
+use Rattle.graph_meaning.specs.Graphs.{HasNoPins}
 use Rattle.graph_meaning.specs.WellFormed.{IsLaunchGraph}
 use Rattle.graph_meaning.specs.declared.graphs.LaunchGraph.{LaunchGraph}
 use Rattle.machine_table.specs.declared.tables.Table.{Table}
@@ -29,7 +30,7 @@ use Rattle.answer_texts.proofs.PrintedClaims.{LinesAreAmong, claim_ends_graph, c
 
 -- lines that begin with what a graph prints, and go on with nothing that a graph has, have the graph
 abbrev pub PrintedAreGraphs : Type 0
-PrintedAreGraphs = (lines : List Line) (from next : ℕ) (g : LaunchGraph) → IsLaunchGraph g → length g.rows ≤ 1000000
+PrintedAreGraphs = (lines : List Line) (from next : ℕ) (g : LaunchGraph) → IsLaunchGraph g → HasNoPins g → length g.rows ≤ 1000000
     → from ≤ next → next ≤ length lines → words_between lines from next ≡ graph_lines (said g)
     → EndsGraph (words_from lines next) → IsGraphAt lines from next g
 
@@ -40,15 +41,15 @@ join_behind g c r l e b =
     ∙ ap (λ x. c ++ x) (append_assoc r (l ++ e) b ∙ ap (λ x. r ++ x) (append_assoc l e b)))
 
 module _ (lines : List Line) (among : LinesAreAmong) (graphs : PrintedAreGraphs) (table : Table) where
-  graph_stands : (behind : List Words) (from : ℕ) (g : LaunchGraph) → IsLaunchGraph g → length g.rows ≤ 1000000
+  graph_stands : (behind : List Words) (from : ℕ) (g : LaunchGraph) → IsLaunchGraph g → HasNoPins g → length g.rows ≤ 1000000
       → EndsGraph behind → IsRest lines from (graph_lines (said g) ++ behind)
       → StandsBefore lines behind (GraphPart lines) from g
-  graph_stands behind from g is few ends a =
+  graph_stands behind from g is plain few ends a =
       let h = all_ahead lines from (graph_lines (said g)) behind a in
       let next : ℕ = from + length (graph_lines (said g)) in
       record {
         next = next;
-        is = graphs lines from next g is few (omega arith) h.low h.here (subst EndsGraph (sym h.rest.are) ends);
+        is = graphs lines from next g is plain few (omega arith) h.low h.here (subst EndsGraph (sym h.rest.are) ends);
         rest = h.rest;
       }
 
@@ -71,13 +72,13 @@ module _ (lines : List Line) (among : LinesAreAmong) (graphs : PrintedAreGraphs)
       (λ end last. says_stands lines behind end (claimed_of name body) last)))
 
   worked_of : (rounds : ℕ) (stop : Stop) (g : LaunchGraph) (claim : Claim) (refute : Option Lines) (behind : List Words)
-      (from : ℕ) → IsLaunchGraph g → length g.rows ≤ 1000000 → rounds < 2 ^ 31 → IsGraphClaim table claim
+      (from : ℕ) → IsLaunchGraph g → HasNoPins g → length g.rows ≤ 1000000 → rounds < 2 ^ 31 → IsGraphClaim table claim
       → AreLinesBelow (refuted_below claim) refute
       → IsRest lines from (rounds_words rounds stop ∷ (graph_lines (said g)
       ++ (claim_part table claim ++ (refute_part (refuted_cycles claim) refute ++ (lemmas_part claim ++ (end_words ∷ behind))))))
       → StandsBefore lines (end_words ∷ behind) (BodyPart lines table) from
       (record { graph = Some g; rounds = rounds; stop = stop; claim = claim; refute = refute })
-  worked_of rounds stop g claim refute behind from is few low fine below a =
+  worked_of rounds stop g claim refute behind from is plain few low fine below a =
       let body : Body = record { graph = Some g; rounds = rounds; stop = stop; claim = claim; refute = refute } in
       let tail : List Words = end_words ∷ behind in
       let s : List Words = refute_part (refuted_cycles claim) refute ++ (lemmas_part claim ++ tail) in
@@ -87,7 +88,7 @@ module _ (lines : List Line) (among : LinesAreAmong) (graphs : PrintedAreGraphs)
       (low, refl) a)
       (λ middle rest.
       leads_stands lines _ _ t tail middle g body
-      (graph_stands t middle g is few (claim_ends_graph table claim s fine) rest)
+      (graph_stands t middle g is plain few (claim_ends_graph table claim s fine) rest)
       (λ high also.
       leads_stands lines _ _ tail tail high (claim, refute) body
       (claim_stands lines among table behind claim refute high fine below also)
@@ -105,7 +106,7 @@ module _ (lines : List Line) (among : LinesAreAmong) (graphs : PrintedAreGraphs)
       (λ end last. says_stands lines (end_words ∷ behind) end body last))
       a
   goal_stands c behind from
-      (worked {name = name} {g = g} {rounds = rounds} {stop = stop} {claim = claim} {refute = refute} named is few low fine
+      (worked {name = name} {g = g} {rounds = rounds} {stop = stop} {claim = claim} {refute = refute} named is plain few low fine
       below) a =
       let body : Body = record { graph = Some g; rounds = rounds; stop = stop; claim = claim; refute = refute } in
       let graph : List Words = rounds_words rounds stop ∷ graph_lines (said g) in
@@ -118,7 +119,7 @@ module _ (lines : List Line) (among : LinesAreAmong) (graphs : PrintedAreGraphs)
       ∙ ap (λ x. cl ++ x) (append_assoc r l (end_words ∷ behind))) in
       goal_of name body (graph ++ (cl ++ (r ++ l))) behind from named
       (λ middle rest.
-      worked_of rounds stop g claim refute behind middle is few low fine below (subst (IsRest lines middle) whole rest))
+      worked_of rounds stop g claim refute behind middle is plain few low fine below (subst (IsRest lines middle) whole rest))
       (subst (λ x. IsRest lines from (goal_words name ∷ x)) (join_behind graph cl r l (end_words ∷ []) behind ∙ sym whole) a)
 
   -- ---- goals one behind another

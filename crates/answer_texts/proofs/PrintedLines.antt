@@ -265,7 +265,7 @@ module _ (laws : WordLaws) where
         (a_word (laws.number m first) (a_word (laws.number n second) no_words)))))
         (a_line end_line no_lines))
     goal_can c
-        (worked {name = name} {g = g} {rounds = rounds} {stop = stop} {claim = claim} {refute = refute} named is few low fine
+        (worked {name = name} {g = g} {rounds = rounds} {stop = stop} {claim = claim} {refute = refute} named is plain few low fine
         below) =
         a_line (name_line name named)
         (and_lines _

@@ -13,6 +13,7 @@ use Rattle.machine_table.specs.declared.tables.Use.{Use}
 use Rattle.refutation_check.specs.LineWords.{AreLinesAt, IsFirstBadLine}
 use Rattle.register_assign.specs.declared.listings.Where.{Where}
 use Rattle.saturation.specs.declared.rounds.Stop.TheVariants.{Quiet}
+use Rattle.schedule_meaning.specs.declared.schedules.To.TheVariants.{Pool}
 use Rattle.schedule_meaning.specs.declared.schedules.Launch.{Launch}
 use Rattle.text_core.specs.Lines.{Line}
 use Rattle.text_core.specs.LineTexts.{Words}
@@ -159,7 +160,8 @@ IsClaimLine words (lines_of.Size k vars clauses) =
 
 -- a launch in a slot of the table, all numbers of which are below 2 ^ 31
 abbrev pub IsLaunch : Table → Launch → Type 0
-IsLaunch table l = (l.cycle < 2 ^ 31) × (l.slot < length table.slots) × (l.row < 2 ^ 31) × (l.slot < 2 ^ 31)
+IsLaunch table l =
+    (l.cycle < 2 ^ 31) × (l.slot < length table.slots) × (l.row < 2 ^ 31) × (l.slot < 2 ^ 31) × (l.to ≡ Pool)
 
 abbrev pub AreLaunches : Table → List Launch → Type 0
 AreLaunches table launches = All (IsLaunch table) launches

@@ -2,6 +2,7 @@
 -- format, and what stands beside a claim fits it. Source: this project.
 use Rattle.std.specs.Prelude.{ℕ, zero, suc, ◌≡◌, ◌<◌, ◌≤◌, ◌^◌, List, length, Option, None, Some, All, IsSomeAnd, IsTrue}
 use Rattle.cnf_core.specs.declared.line.Lines.{Lines}
+use Rattle.graph_meaning.specs.Graphs.{HasNoPins}
 use Rattle.graph_meaning.specs.WellFormed.{IsLaunchGraph}
 use Rattle.graph_meaning.specs.declared.graphs.LaunchGraph.{LaunchGraph}
 use Rattle.machine_table.specs.Tables.{IsTable, ev6}
@@ -40,8 +41,8 @@ pub data IsPrintableGoal (table : Table) : Claimed → Type 0 where
   no_world : {name : List ℕ} {class a b : ℕ} → IsName name → class < 2 ^ 31 → a < 2 ^ 64 → b < 2 ^ 64
       → IsPrintableGoal table (claimed_of name (no_world_body class a b))
   worked : {name : List ℕ} {g : LaunchGraph} {rounds : ℕ} {stop : Stop} {claim : Claim} {refute : Option Lines}
-      → IsName name → IsLaunchGraph g → length g.rows ≤ 1000000 → rounds < 2 ^ 31 → IsGraphClaim table claim
-      → AreLinesBelow (refuted_below claim) refute
+      → IsName name → IsLaunchGraph g → HasNoPins g → length g.rows ≤ 1000000 → rounds < 2 ^ 31
+      → IsGraphClaim table claim → AreLinesBelow (refuted_below claim) refute
       → IsPrintableGoal table
       (record { name = name; graph = Some g; rounds = rounds; stop = stop; claim = claim; refute = refute })
 

@@ -1,6 +1,7 @@
 -- What holds of each answer that a text says, beside its lines. Source: this project.
 use Rattle.std.specs.Prelude.{ℕ, ◌≡◌, ◌≢◌, ◌<◌, ◌≤◌, ◌^◌, length, Option, None, Some, All, IsTrue}
 use Rattle.cnf_core.specs.declared.line.Lines.{Lines}
+use Rattle.graph_meaning.specs.Graphs.{HasNoPins}
 use Rattle.graph_meaning.specs.WellFormed.{IsLaunchGraph}
 use Rattle.graph_meaning.specs.declared.graphs.LaunchGraph.{LaunchGraph}
 use Rattle.machine_table.specs.Tables.{IsTable, ev6}
@@ -23,11 +24,12 @@ pub data HasRefutation : ℕ → Option Lines → Type 0 where
   nothing_less : HasRefutation 0 None
   refuted : {k : ℕ} {lines : Lines} → length lines.lines < 2 ^ 29 → 0 < k → HasRefutation k (Some lines)
 
--- a goal without a world has no graph and no lines, each other one has a well-formed graph and the lines that it needs
+-- a goal without a world has no graph and no lines, each other one has a well-formed graph without pins and the lines
+-- that it needs
 pub data IsClaimed (c : Claimed) : Type 0 where
   no_world : {class a b : ℕ} → c.claim ≡ NoWorld class a b → c.graph ≡ None → c.refute ≡ None → IsClaimed c
   worked : {g : LaunchGraph} → ((class a b : ℕ) → c.claim ≢ NoWorld class a b) → c.graph ≡ Some g → IsLaunchGraph g
-      → FitsClaim c.claim → HasRefutation (refuted_below c.claim) c.refute → IsClaimed c
+      → HasNoPins g → FitsClaim c.claim → HasRefutation (refuted_below c.claim) c.refute → IsClaimed c
 
 pub record IsAnswer (a : AnswerText) : Type 0 where
   pub table : IsTable a.table

@@ -1,23 +1,32 @@
 // The lines of a schedule: its launches, its words, and the places of the targets.
-ghost use Rattle.std.specs.Prelude.{◌≡◌, ◌≤◌, ◌<◌, ◌∷◌, [], length, IfOk, IfErr, MatchOption};
+ghost use Rattle.std.specs.Prelude.{◌≡◌, ◌≤◌, ◌<◌, ◌∷◌, ◌^◌, ℕ, [], length, IfOk, IfErr, IfNone, IfSome, MatchOption};
 ghost use Rattle.text_core.specs.Faults.{IsFaultBy};
 ghost use Rattle.text_core.specs.Lines.{line_at};
 ghost use Rattle.register_assign.specs.declared.listings.Where.{Where as WhereOf};
 ghost use Rattle.schedule_meaning.specs.declared.schedules.Launch.{Launch as LaunchOf};
-ghost use Rattle.answer_texts.specs.AnswerLines.{launch_words, where_words};
+ghost use Rattle.answer_texts.specs.AnswerLines.{launch_words, name_among, where_words};
 ghost use Rattle.answer_texts.specs.AnswerParts.{AreLaunches, AreWherePlaces, CodesFault, CodesPart, LaunchesFault, LaunchesPart, PlacesFault, PlacesPart};
 
 use crate::line_reading::{LIMIT, bad_line, below};
 use crate::table_reading::slot_named;
 use crate::word_lines::word_line;
 use items::{Items, NoMemory};
-use machine_table::Table;
+use machine_table::{Slot, Table};
 use register_assign::Where;
-use schedule_meaning::Launch;
+use schedule_meaning::{Launch, To};
 use std::alloc::Global;
 use text_core::{Name, TextFault, TextLines, begins_with, has_form, is_name};
 
-/// The launch of a line.
+/// The number of the first slot of this name, where it is below the limit of numbers.
+fn slot_number(slots: &[Slot], name: &[u8]) -> Option<u32>
+    ensures some { IfSome result (λ at. (at < length slots.now) × (at < 2 ^ 31) × (name_among slots.now at ≡ name.now)) }
+    ensures none { IfNone result ((at : ℕ) → at < length slots.now → at < 2 ^ 31 → name_among slots.now at ≡ name.now → ⊥) }
+{
+    let at = slot_named(slots, name)? as u64;
+    if at < LIMIT { Some(at as u32) } else { None }
+}
+
+/// The launch of a line. It goes to the pool.
 fn launch_line(text: &TextLines<'_>, line: u32, table: &Table) -> Option<Launch>
     requires { line < length text.now }
     ensures { MatchOption result
@@ -28,15 +37,13 @@ fn launch_line(text: &TextLines<'_>, line: u32, table: &Table) -> Option<Launch>
         return None;
     }
     let cycle = below(text.word(line, 1), LIMIT)?;
-    let slot = slot_named(table.slots.as_slice(), text.word(line, 2))? as u64;
-    if slot >= LIMIT {
-        return None;
-    }
+    let slot = slot_number(table.slots.as_slice(), text.word(line, 2))?;
     let row = below(text.word(line, 3), LIMIT)?;
     Some(Launch {
         cycle: cycle as u32,
-        slot: slot as u32,
+        slot,
         row: row as u32,
+        to: To::Pool,
     })
 }
 

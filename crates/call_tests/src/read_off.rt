@@ -1,7 +1,7 @@
 //! Launches that are read off a plan.
 use cycle_encoding::{Encoding, VarPlan};
 use items::{Items, NoMemory};
-use schedule_meaning::{Launch, Schedule};
+use schedule_meaning::{Launch, Schedule, To};
 use schedule_reader::read_off;
 use std::alloc::Global;
 use std::test::Fail;
@@ -12,21 +12,25 @@ const LAUNCHES: [Launch; 4] = [
         cycle: 1,
         slot: 0,
         row: 7,
+        to: To::Pool,
     },
     Launch {
         cycle: 0,
         slot: 0,
         row: 8,
+        to: To::Pool,
     },
     Launch {
         cycle: 1,
         slot: 0,
         row: 6,
+        to: To::Pool,
     },
     Launch {
         cycle: 0,
         slot: 3,
         row: 9,
+        to: To::Pool,
     },
 ];
 

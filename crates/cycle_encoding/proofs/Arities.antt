@@ -1,6 +1,7 @@
 -- A row has four word operands at most.
 use Rattle.std.proofs.Common.{◌≡◌, ℕ, zero, suc, ◌+◌, ◌*◌, ◌≤◌, Bool, true, false, cond, List, ◌∷◌, [], length, map, get_or, Option, Some, None, refl, ap, ◌∙◌, subst, arith}
-use Rattle.std.specs.Prelude.{nat_le, is_some, slice_get}
+use Rattle.std.specs.Prelude.{◌==◌, nat_le, is_some, slice_get}
+use Rattle.std.specs.Option.{option_map_or}
 use Rattle.std.specs.List.{count_by, filter}
 use Rattle.std.proofs.lemmas.Bool.{leb-true}
 use Rattle.std.proofs.lemmas.List.Sums.{length-filter, count_by-le-length}
@@ -14,7 +15,9 @@ use Rattle.graph_meaning.specs.WellFormed.{IsLaunchGraph}
 use Rattle.graph_meaning.specs.declared.graphs.LaunchGraph.{LaunchGraph}
 use Rattle.graph_meaning.specs.declared.graphs.LaunchRow.{LaunchRow}
 use Rattle.graph_meaning.specs.declared.graphs.Guard.{Guard}
-use Rattle.schedule_meaning.specs.Launches.{Operand, operands_at, row_operands, guard_operands, op_operands, operate_operands, plain}
+use Rattle.schedule_meaning.specs.Launches.{copied_at, copy_operands, operands_at, row_operands, guard_operands}
+use Rattle.schedule_meaning.specs.Launches.{op_operands, operate_operands, plain}
+use Rattle.schedule_meaning.specs.declared.schedules.Operand.{Operand}
 use Rattle.cycle_encoding.specs.Families.{is_made}
 use Rattle.cycle_encoding.specs.Facts.{made_among}
 use Rattle.cycle_encoding.proofs.OperandLists.{operate_size}
@@ -47,12 +50,13 @@ module _ (g : LaunchGraph) (well : IsLaunchGraph g) where
   guard_few None = omega arith
   guard_few (Some x) = omega arith
 
-  either_few : (row : ℕ) (b : Bool) → length (cond b (guard_operands g.guard) (row_operands (slice_get g.rows row))) ≤ 4
-  either_few row true = guard_few g.guard
-  either_few row false = row_few row (slice_get g.rows row) refl
+  either_few : (row : ℕ) (b : Bool) (o : Option ℕ) → length (cond b (guard_operands g.guard) (option_map_or copy_operands o (row_operands (slice_get g.rows row)))) ≤ 4
+  either_few row true o = guard_few g.guard
+  either_few row false None = row_few row (slice_get g.rows row) refl
+  either_few row false (Some class) = omega arith
 
   pub operands_few : (row : ℕ) → length (operands_at g row) ≤ 4
-  operands_few row = either_few row _
+  operands_few row = either_few row (row == length g.rows) (copied_at g row)
 
 size-map : {X A : Type 0} (f : X → A) (xs : List X) → length (map f xs) ≡ length xs
 size-map f [] = refl

@@ -3,17 +3,19 @@ use Rattle.std.proofs.Common.{◌≡◌, ℕ, zero, suc, ◌+◌, ◌<◌, ◌�
 use Rattle.std.specs.Prelude.{◌==◌, nat_le, not, Contains, option_map, option_and_then, slice_get}
 use Rattle.std.specs.Option.{option_map_or}
 use Rattle.std.specs.List.{filter, fold, range_with_len}
-use Rattle.std.proofs.lemmas.Bool.{false≢true, cases_Bool, cases_lt, cases_eq, leb-true, le-leb, lt-ltb, le-ltb, and_parts, and_from, and_left, and_right, not-true, not_from_false}
-use Rattle.std.proofs.lemmas.Option.{same_Some, none-some, slice_get_within}
+use Rattle.std.proofs.lemmas.Bool.{false≢true, cases_Bool, cases_lt, cases_eq, eq-eqb, leb-true, le-leb, lt-ltb, le-ltb}
+use Rattle.std.proofs.lemmas.Bool.{and_parts, and_from, and_left, and_right, not-true, not_from_false}
+use Rattle.std.proofs.lemmas.Option.{same_Some, none-some, slice_get_cases}
 use Rattle.std.proofs.lemmas.List.{get_or-set_same, get_or-set_other, take_more}
 use Rattle.std.proofs.lemmas.List.Elements.{All-contains}
 use Rattle.machine_table.specs.Tables.{IsTable, IsUse, use_of, latency_of}
 use Rattle.machine_table.specs.InstrOrder.{kind_number}
-use Rattle.schedule_meaning.specs.Launches.{instr_at, op_instr, gives_word, class_at, operands_at, Operand}
+use Rattle.schedule_meaning.specs.Launches.{instr_at, copied_at, op_instr, gives_word, class_at, operands_at}
+use Rattle.schedule_meaning.specs.declared.schedules.Operand.{Operand}
 use Rattle.machine_table.specs.declared.tables.Table.{Table}
 use Rattle.machine_table.specs.declared.tables.Use.{Use}
 use Rattle.machine_table.specs.declared.tables.InstrKind.{InstrKind}
-use Rattle.machine_table.specs.declared.tables.InstrKind.TheVariants.{Beq}
+use Rattle.machine_table.specs.declared.tables.InstrKind.TheVariants.{Beq, Bis}
 use Rattle.graph_meaning.specs.WellFormed.{next_class}
 use Rattle.graph_meaning.specs.declared.graphs.Guard.{Guard}
 use Rattle.graph_meaning.specs.declared.graphs.LaunchRow.{LaunchRow}
@@ -22,6 +24,7 @@ use Rattle.cycle_encoding.specs.Variables.{is_input}
 use Rattle.cycle_encoding.specs.Families.{is_free, is_made}
 use Rattle.cycle_encoding.specs.Narrow.{Needs, HasCome, come, CanStart}
 use Rattle.cycle_encoding.specs.Coming.{needs_of, word_latency, is_come, are_come, earlier, come_by, AreSound, IsExactUpTo, IsPassed, ComesAreFound, StillCome}
+use Rattle.schedule_meaning.proofs.Copies.{plain_class, row_no_copy}
 use Rattle.cycle_encoding.proofs.Members.{filter-in, filter-out, find-out, map-in, map-out, here, later, nothing}
 use Rattle.cycle_encoding.proofs.Tests.{free-is, free-from, input-is, input-from}
 
@@ -119,7 +122,7 @@ module _ (known : List (Option ℕ)) (class n : ℕ) where
 module _ (g : LaunchGraph) (table : Table) where
   -- what has come by a cycle has come by each later one
   pub come-later : (class t u : ℕ) → HasCome g table class t → t ≤ u → HasCome g table class u
-  come-later _ _ u (come row start t i u0 e w k le needs) lt = come row start u i u0 e w k (omega arith) needs
+  come-later _ _ u (come row start t i u0 low e w k le needs) lt = come row start u i u0 low e w k (omega arith) needs
 
   pub are-out : (known : List (Option ℕ)) (t : ℕ) (cs : List ℕ) → are_come known t cs ≡ true → (c : ℕ) → Contains cs c → is_come known t c ≡ true
   are-out known t [] h c k = absurd (nothing c k)
@@ -183,10 +186,10 @@ module _ (g : LaunchGraph) (table : Table) where
       ∙ ap (λ b. cond b (latency_of table i) None) w
       ∙ ap (option_map (λ (u : Use). u.latency)) k
 
-  pub comes : (row t n : ℕ) → word_latency g table row ≡ Some n → CanStart g table row t → HasCome g table (class_at g row) (t + n)
-  comes row t n h start =
+  pub comes : (row t n : ℕ) → row < length g.rows → word_latency g table row ≡ Some n → CanStart g table row t → HasCome g table (class_at g row) (t + n)
+  comes row t n low h start =
       let l = latency-out row n h in
-      come row t (t + n) l.0 l.1 l.2 l.3 l.4 (let e = l.5 in omega arith) start
+      come row t (t + n) l.0 l.1 low l.2 l.3 l.4 (let e = l.5 in omega arith) start
 
   -- ---- a cycle more
 
@@ -208,9 +211,9 @@ module _ (g : LaunchGraph) (table : Table) where
 
     -- where all rows passed in the cycles below t, all is found that has come by t
     pub all-found : (known : List (Option ℕ)) (t : ℕ) → ((s row : ℕ) → s < t → IsPassed g table known s row) → (u class : ℕ) → u ≤ t → HasCome g table class u → is_come known u class ≡ true
-    all-found known t passed _ _ le (come row start u i v e w k until needs) =
+    all-found known t passed _ _ le (come row start u i v low e w k until needs) =
         let one = least i v k in
-        let now = passed start row (omega arith) v.latency (latency-in row i v e w k) needs in
+        let now = passed start row (omega arith) low v.latency (latency-in row i v e w k) needs in
         let m = come-out known (start + v.latency) (class_at g row) now in
         let low = m.2 in
         come-in known u (class_at g row) m.0 m.1 (omega arith)
@@ -230,23 +233,26 @@ module _ (g : LaunchGraph) (table : Table) where
   no_word None i h w = none-some i h
   no_word (Some x) i h w = (let e : Beq ≡ i = same_Some Beq i h in false≢true (ap gives_word e ∙ w))
 
-  pub found_row : (o : Option LaunchRow) (f : LaunchRow → Option InstrKind) (i : InstrKind) → option_and_then f o ≡ Some i → (r : LaunchRow) × (o ≡ Some r)
-  found_row None f i h = absurd (none-some i h)
-  found_row (Some r) f i h = (r, refl)
+  row_there : (row : ℕ) → row < length g.rows → (r : LaunchRow) × (slice_get g.rows row ≡ Some r)
+  row_there row low = elim ((slice_get_cases g.rows row).1) [ inl h ↦ (h.0, h.2) | inr h ↦ (let past : length g.rows ≤ row = h.0 in absurd (omega arith)) ]
 
-  row_of : (row : ℕ) (b : Bool) (i : InstrKind) → cond b (option_map (λ _. Beq) g.guard) (option_and_then (λ r. op_instr g r.op r.operands) (slice_get g.rows row)) ≡ Some i → gives_word i ≡ true → (r : LaunchRow) × (slice_get g.rows row ≡ Some r)
-  row_of row true i h w = absurd (no_word g.guard i h w)
-  row_of row false i h w = found_row (slice_get g.rows row) (λ r. op_instr g r.op r.operands) i h
-
-  pub giving-row : (row : ℕ) (i : InstrKind) → instr_at g row ≡ Some i → gives_word i ≡ true → (row < length g.rows) × (class_at g row < next_class g.rows)
-  giving-row row i h w =
-      let r = row_of row (row == length g.rows) i h w in
-      let class : class_at g row ≡ r.0.class = ap (λ (o : Option LaunchRow). option_map_or (λ r. r.class) o 0) r.1 in
+  pub low-class : (row : ℕ) → row < length g.rows → class_at g row < next_class g.rows
+  low-class row low =
+      let r = row_there row low in
+      let class : class_at g row ≡ r.0.class = plain_class g row (row_no_copy g row r.0 r.1) ∙ ap (λ (o : Option LaunchRow). option_map_or (λ r. r.class) o 0) r.1 in
       let above = fold_above g.rows 0 row r.0 r.1 in
-      (slice_get_within g.rows row r.0 r.1, (omega arith))
+      omega arith
 
-  pub word-row : (row n : ℕ) → word_latency g table row ≡ Some n → (row < length g.rows) × (class_at g row < next_class g.rows)
-  word-row row n h = (let l = latency-out row n h in giving-row row l.0 l.2 l.3)
+  -- the branch gives no word
+  branch_is : (row : ℕ) → row ≡ length g.rows → instr_at g row ≡ option_map (λ _. Beq) g.guard
+  branch_is row same = ap (λ b. cond b (option_map (λ _. Beq) g.guard) (option_map_or (λ class. Some Bis) (copied_at g row) (option_and_then (λ r. op_instr g r.op r.operands) (slice_get g.rows row)))) (eq-eqb row (length g.rows) same)
+
+  pub giving-low : (row : ℕ) (i : InstrKind) → row < length g.rows + 1 → instr_at g row ≡ Some i → gives_word i ≡ true → row < length g.rows
+  giving-low row i within h w =
+      elim (cases_eq row (length g.rows)) [
+        | inl same ↦ absurd (no_word g.guard i (sym (branch_is row same) ∙ h) w)
+        | inr apart ↦ omega arith
+      ]
 
 -- ---- the steps of the code
 
@@ -265,24 +271,24 @@ are-not known t (x ∷ cs) zero d lt h = sym (and_left (is_come known t x) (are_
 are-not known t (x ∷ cs) (suc i) d lt h =
     sym (and_right (is_come known t x) (are_come known t cs) (sym (are-not known t cs i d (let s : length (x ∷ cs) ≡ suc (length cs) = refl in omega (arith, s)) h)))
 
-module _ (g : LaunchGraph) (table : Table) (known : List (Option ℕ)) (cycle row n : ℕ) (needs : List ℕ) (en : needs ≡ needs_of g row) (w : word_latency g table row ≡ Some n) where
+module _ (g : LaunchGraph) (table : Table) (known : List (Option ℕ)) (cycle row n : ℕ) (needs : List ℕ) (en : needs ≡ needs_of g row) (low : row < length g.rows) (w : word_latency g table row ≡ Some n) where
   ready : are_come known cycle needs ≡ true → are_come known cycle (needs_of g row) ≡ true
   ready h = ap (are_come known cycle) (sym en) ∙ h
 
   pub not-ready : ComesAreFound g table known cycle → are_come known cycle needs ≡ false → IsPassed g table known cycle row
-  not-ready found h m e start = absurd (false≢true (sym h ∙ ap (are_come known cycle) en ∙ start-found g table known cycle row found start))
+  not-ready found h _ m e start = absurd (false≢true (sym h ∙ ap (are_come known cycle) en ∙ start-found g table known cycle row found start))
 
   module _ (class m : ℕ) (new : List (Option ℕ)) (ec : class ≡ class_at g row) (em : m ≡ cycle + n) (e : new ≡ come_by known class m) (sound : AreSound g table known) (h : are_come known cycle needs ≡ true) where
     now : HasCome g table class m
-    now = subst (λ c. HasCome g table c m) (sym ec) (subst (HasCome g table (class_at g row)) (sym em) (comes g table row cycle n w (can-start g table known cycle row sound (ready h))))
+    now = subst (λ c. HasCome g table c m) (sym ec) (subst (HasCome g table (class_at g row)) (sym em) (comes g table row cycle n low w (can-start g table known cycle row sound (ready h))))
 
     pub row-sound : AreSound g table new
     row-sound = subst (AreSound g table) (sym e) (still-sound known class m g table sound now)
 
     pub row-passed : length known ≡ next_class g.rows → IsPassed g table new cycle row
-    row-passed long j ej start =
+    row-passed long _ j ej start =
         let same : n ≡ j = same_Some n j (sym w ∙ ej) in
-        let bound : class < length known = (let b = (word-row g table row n w).1 in omega arith) in
+        let bound : class < length known = (let b = low-class g table row low in omega arith) in
         let at : is_come (come_by known class m) m class ≡ true = come-now known class m bound in
         let until : m ≡ cycle + j = omega arith in
         ap (λ (xs : List (Option ℕ)). is_come xs (cycle + j) (class_at g row)) e
@@ -304,7 +310,7 @@ none-yet g table n known e class m h =
 
 module _ (g : LaunchGraph) (table : Table) (old new : List (Option ℕ)) (still-come : StillCome old new) where
   kept : (cycle row : ℕ) → IsPassed g table old cycle row → IsPassed g table new cycle row
-  kept cycle row p n e start = still-come (cycle + n) (class_at g row) (p n e start)
+  kept cycle row p low n e start = still-come (cycle + n) (class_at g row) (p low n e start)
 
   pub one-more-row : (cycle row : ℕ) → IsPassed g table new cycle row → ((r : ℕ) → r < row → IsPassed g table old cycle r) → (r : ℕ) → r < row + 1 → IsPassed g table new cycle r
   one-more-row cycle row this-row before r lt =

@@ -1,17 +1,22 @@
--- What the families of cycles, slots and values say holds of launches that keep the rules and of what they make seen.
+-- What the families of cycles, slots and values say holds of launches that keep the rules and of what they make seen,
+-- where no set has a pin.
 use Rattle.std.proofs.Common.{◌≡◌, ℕ, ◌<◌, ◌≤◌, Bool, true, not, List, get_or, refl, sym, ap, ◌∙◌, subst, arith, inl, inr, ◌⊎◌}
 use Rattle.std.specs.Prelude.{◌&&◌, ◌==◌, nat_le, Contains}
 use Rattle.std.specs.List.{All, filter, list_any, count_by}
 use Rattle.std.proofs.lemmas.Bool.{false≢true, eqb-true, eq-eqb, le-leb, and_parts, and_from, or_left, not-true, not_from_false, false_from_ne_true}
 use Rattle.std.proofs.lemmas.List.Elements.{All-contains, All-weaker}
 use Rattle.machine_table.specs.Tables.{IsTable, cluster_of}
-use Rattle.graph_meaning.specs.Graphs.{is_memory_name, is_zero_class}
+use Rattle.graph_meaning.specs.Graphs.{is_memory_name, is_zero_class, HasNoPins}
 use Rattle.graph_meaning.specs.WellFormed.{next_class}
-use Rattle.schedule_meaning.specs.Launches.{operands_at, ready_in, IsFree, IsReadable, Gives, Operand, gives}
-use Rattle.schedule_meaning.specs.Fits.{CanLaunch, CanRead, EndsBy, IsReached}
+use Rattle.schedule_meaning.specs.Launches.{operands_at, ready_in, IsFree, Gives, gives}
+use Rattle.schedule_meaning.specs.Fits.{CanLaunch, EndsBy}
+use Rattle.schedule_meaning.specs.Plain.{IsPlainReadable, CanReadPlain, IsPlainReached}
 use Rattle.machine_table.specs.declared.tables.Table.{Table}
 use Rattle.graph_meaning.specs.declared.graphs.LaunchGraph.{LaunchGraph}
 use Rattle.graph_meaning.specs.declared.graphs.SetClass.{SetClass}
+use Rattle.schedule_meaning.specs.declared.schedules.Operand.{Operand}
+use Rattle.schedule_meaning.specs.declared.schedules.To.{To}
+use Rattle.schedule_meaning.specs.declared.schedules.To.TheVariants.{Pool}
 use Rattle.schedule_meaning.specs.declared.schedules.Launch.{Launch}
 use Rattle.cycle_encoding.specs.CycleFormula.{Listed, wide}
 use Rattle.cycle_encoding.specs.CycleRules.{KeepsCycleRules}
@@ -29,19 +34,21 @@ use Rattle.cycle_encoding.proofs.LaunchLists.{IsListed, launches-once, listed-on
 pub same : Launch → Launch → Bool
 same a b = (a.cycle == b.cycle) && ((a.slot == b.slot) && (a.row == b.row))
 
-equal : (a b : Launch) → a.cycle ≡ b.cycle → a.slot ≡ b.slot → a.row ≡ b.row → a ≡ b
-equal a b p q r =
-    let x : a ≡ record { cycle = b.cycle; slot = a.slot; row = a.row } = ap (λ c. record { cycle = c; slot = a.slot; row = a.row }) p in
-    let y : record { cycle = b.cycle; slot = a.slot; row = a.row } ≡ record { cycle = b.cycle; slot = b.slot; row = a.row } = ap (λ s. record { cycle = b.cycle; slot = s; row = a.row }) q in
-    let z : record { cycle = b.cycle; slot = b.slot; row = a.row } ≡ b = ap (λ r. record { cycle = b.cycle; slot = b.slot; row = r }) r in
-    x ∙ y ∙ z
+equal : (a b : Launch) → a.cycle ≡ b.cycle → a.slot ≡ b.slot → a.row ≡ b.row → a.to ≡ b.to → a ≡ b
+equal a b p q r s =
+    let w : a ≡ record { cycle = b.cycle; slot = a.slot; row = a.row; to = a.to } = ap (λ c. record { cycle = c; slot = a.slot; row = a.row; to = a.to }) p in
+    let x : record { cycle = b.cycle; slot = a.slot; row = a.row; to = a.to } ≡ record { cycle = b.cycle; slot = b.slot; row = a.row; to = a.to } = ap (λ s. record { cycle = b.cycle; slot = s; row = a.row; to = a.to }) q in
+    let y : record { cycle = b.cycle; slot = b.slot; row = a.row; to = a.to } ≡ record { cycle = b.cycle; slot = b.slot; row = b.row; to = a.to } = ap (λ r. record { cycle = b.cycle; slot = b.slot; row = r; to = a.to }) r in
+    let z : record { cycle = b.cycle; slot = b.slot; row = b.row; to = a.to } ≡ b = ap (λ (t : To). record { cycle = b.cycle; slot = b.slot; row = b.row; to = t }) s in
+    w ∙ x ∙ y ∙ z
 
-pub same-is : (a b : Launch) → same a b ≡ true → a ≡ b
+-- launches with one destination
+pub same-is : (a b : Launch) → a.to ≡ b.to → same a b ≡ true → a ≡ b
 unfolding same
-same-is a b h =
+same-is a b to h =
     let p = and_parts (a.cycle == b.cycle) ((a.slot == b.slot) && (a.row == b.row)) h in
     let q = and_parts (a.slot == b.slot) (a.row == b.row) p.1 in
-    equal a b (eqb-true a.cycle b.cycle p.0) (eqb-true a.slot b.slot q.0) (eqb-true a.row b.row q.1)
+    equal a b (eqb-true a.cycle b.cycle p.0) (eqb-true a.slot b.slot q.0) (eqb-true a.row b.row q.1) to
 
 pub same-itself : (a : Launch) → same a a ≡ true
 unfolding same
@@ -50,8 +57,10 @@ same-itself a = and_from (a.cycle == a.cycle) ((a.slot == a.slot) && (a.row == a
 abbrev pub among : List Launch → Launch → Bool
 among ls l = list_any (same l) ls
 
-pub among-is : (ls : List Launch) (l : Launch) → among ls l ≡ true → Contains ls l
-among-is ls l h = (let m = some_of (same l) ls h in subst (λ x. Contains ls x) (sym (same-is l m.0 m.2)) m.1)
+pub among-is : (ls : List Launch) (l : Launch) → l.to ≡ Pool → All (λ m. m.to ≡ Pool) ls → among ls l ≡ true → Contains ls l
+among-is ls l pool pools h =
+    let m = some_of (same l) ls h in
+    subst (λ x. Contains ls x) (sym (same-is l m.0 (pool ∙ sym (All-contains (λ m. m.to ≡ Pool) ls m.0 pools m.1)) m.2)) m.1
 
 pub among-from : (ls : List Launch) (l : Launch) → Contains ls l → among ls l ≡ true
 among-from ls l h = some_in (same l) ls l h (same-itself l)
@@ -64,10 +73,10 @@ pub record Serves (g : LaunchGraph) (table : Table) (k : ℕ) (e : Listed) (ls :
   pub seen : (l m : Launch) (o : Operand) → Contains ls l → Contains (operands_at g l.row) o → is_made g o ≡ true → Contains ls m → Gives g o.class m → Contains e.seen (record { class = o.class; cluster = cluster_of table l.slot; cycle = l.cycle })
 
 -- an operand that has to be made and that a launch gives is of a class that is made
-pub made_class : (g : LaunchGraph) (o : Operand) (l : Launch) → is_made g o ≡ true → Gives g o.class l → Contains (made_classes g) o.class
-made_class g o l h gave =
+pub made_class : (g : LaunchGraph) → HasNoPins g → (o : Operand) (l : Launch) → is_made g o ≡ true → Gives g o.class l → Contains (made_classes g) o.class
+made_class g plain o l h gave =
     let p = and_parts (not (is_free g o)) (not (is_input g o.class)) h in
-    let w = subst (λ c. (is_word_class g c ≡ true) × (c < next_class g.rows)) gave.1 (word-launch g l gave.0) in
+    let w = subst (λ c. (is_word_class g c ≡ true) × (c < next_class g.rows)) gave.1 (word-launch g plain l gave.0) in
     let bound = w.1 in
     let zero_free : is_zero_class g o.class ≡ true → ⊥ = λ z. false≢true (sym (not-true (is_free g o) p.0) ∙ or_left (is_zero_class g o.class) (o.second && _) z) in
     filter-in (λ c. is_word_class g c && (not (is_input g c) && not (is_zero_class g c))) (classes_of g) o.class (range-in 0 (next_class g.rows) o.class (omega arith) (omega arith))
@@ -75,16 +84,16 @@ made_class g o l h gave =
     (and_from (not (is_input g o.class)) (not (is_zero_class g o.class)) p.1 (not_from_false (is_zero_class g o.class) (false_from_ne_true (is_zero_class g o.class) zero_free))))
 
 -- the list of all launches that end by k serves each that keeps the rules
-pub wide-serves : (g : LaunchGraph) (table : Table) (k : ℕ) (ls : List Launch) → IsTable table → KeepsCycleRules g table k ls → Serves g table k (wide g table k) ls
-wide-serves g table k ls is_table rules =
-    let member : (l : Launch) → Contains ls l → Contains (all_launches g table k) l = λ l h. listed-in g table k is_table l (All-contains (CanLaunch g table) ls l rules.rows h) (All-contains (EndsBy g table k) ls l rules.in_time h) in
+pub wide-serves : (g : LaunchGraph) (table : Table) (k : ℕ) (ls : List Launch) → IsTable table → HasNoPins g → KeepsCycleRules g table k ls → Serves g table k (wide g table k) ls
+wide-serves g table k ls is_table plain rules =
+    let member : (l : Launch) → Contains ls l → Contains (all_launches g table k) l = λ l h. listed-in g table k is_table plain l (All-contains (λ l. l.to ≡ Pool) ls l rules.to_pool h) (All-contains (CanLaunch g table) ls l rules.rows h) (All-contains (EndsBy g table k) ls l rules.in_time h) in
     record {
       listed = listed-all g table k is_table;
       once = launches-once g table k;
       members = member;
       seen = λ l m o hl ho t hm gave.
           let ok = listed-one g table k is_table l (member l hl) in
-          seen-in g table k (made_classes g) o.class (cluster_of table l.slot) l.cycle (made_class g o m t gave) (cluster-in g table k is_table l.slot ok.slot) ok.early;
+          seen-in g table k (made_classes g) o.class (cluster_of table l.slot) l.cycle (made_class g plain o m t gave) (cluster-in g table k is_table l.slot ok.slot) ok.early;
     }
 
 -- ---- the things that launches make true
@@ -106,7 +115,9 @@ module _ (g : LaunchGraph) (table : Table) (k : ℕ) (ls : List Launch) (e : Lis
     -- ---- the same launches
 
     pub launched-out : (l : Launch) → Contains S l → Contains ls l
-    launched-out l h = among-is ls l (filter-out (among ls) e.launches l h).1
+    launched-out l h =
+        let f = filter-out (among ls) e.launches l h in
+        among-is ls l (All-contains (IsListed g table k) e.launches l serves.listed f.0).to rules.to_pool f.1
 
     pub launched-in : (l : Launch) → Contains ls l → Contains S l
     launched-in l h =
@@ -132,7 +143,7 @@ module _ (g : LaunchGraph) (table : Table) (k : ℕ) (ls : List Launch) (e : Lis
 
     -- ---- values
 
-    made_target : (s : SetClass) → is_made_target g s ≡ true → IsReached g ls s → list_any (gives g s.class) S ≡ true
+    made_target : (s : SetClass) → is_made_target g s ≡ true → IsPlainReached g ls s → list_any (gives g s.class) S ≡ true
     made_target s t (inl m) =
         let p = and_parts (not (is_memory_name s.name)) (not (is_input g s.class) && not (is_zero_class g s.class)) t in
         absurd (false≢true (sym (not-true (is_memory_name s.name) p.0) ∙ m))
@@ -147,7 +158,7 @@ module _ (g : LaunchGraph) (table : Table) (k : ℕ) (ls : List Launch) (e : Lis
     made_target s t (inr (inr (inr (j, l, lt, e', h)))) = pass (gives g s.class) (some_in (gives g s.class) ls l (j, lt, e') (gives-from g s.class l h))
 
     -- an operand that has to be made is seen
-    sees : (l : Launch) → Contains S l → (o : Operand) → Contains (operands_at g l.row) o → is_made g o ≡ true → IsFree g o ⊎ IsReadable g table ls o.class l.cycle (cluster_of table l.slot) → list_any (is_seen o.class (cluster_of table l.slot) l.cycle) seen ≡ true
+    sees : (l : Launch) → Contains S l → (o : Operand) → Contains (operands_at g l.row) o → is_made g o ≡ true → IsFree g o ⊎ IsPlainReadable g table ls o.class l.cycle (cluster_of table l.slot) → list_any (is_seen o.class (cluster_of table l.slot) l.cycle) seen ≡ true
     sees l h o ho t (inl f) =
         let p = and_parts (not (is_free g o)) (not (is_input g o.class)) t in
         absurd (false≢true (sym (not-true (is_free g o) p.0) ∙ free-from g o f))
@@ -165,10 +176,10 @@ module _ (g : LaunchGraph) (table : Table) (k : ℕ) (ls : List Launch) (e : Lis
 
     pub cycles : SaysCycles g table k S seen
     cycles = record {
-      targets = All-to_filter (is_made_target g) (λ s. list_any (gives g s.class) S ≡ true) g.sets (All-weaker (IsReached g ls) (λ s. is_made_target g s ≡ true → list_any (gives g s.class) S ≡ true) (λ s r t. made_target s t r) g.sets rules.targets);
+      targets = All-to_filter (is_made_target g) (λ s. list_any (gives g s.class) S ≡ true) g.sets (All-weaker (IsPlainReached g ls) (λ s. is_made_target g s ≡ true → list_any (gives g s.class) S ≡ true) (λ s r t. made_target s t r) g.sets rules.targets);
       operands = All-from_members (λ l. All (λ o. list_any (is_seen o.class (cluster_of table l.slot) l.cycle) seen ≡ true) (filter (is_made g) (operands_at g l.row))) S (λ l h.
           All-to_filter (is_made g) (λ o. list_any (is_seen o.class (cluster_of table l.slot) l.cycle) seen ≡ true) (operands_at g l.row)
           (All-from_members (λ o. is_made g o ≡ true → list_any (is_seen o.class (cluster_of table l.slot) l.cycle) seen ≡ true) (operands_at g l.row) (λ o ho t.
-          sees l h o ho t (All-contains (λ o. IsFree g o ⊎ IsReadable g table ls o.class l.cycle (cluster_of table l.slot)) (operands_at g l.row) o (All-contains (CanRead g table ls) ls l rules.operands (launched-out l h)) ho))));
+          sees l h o ho t (All-contains (λ o. IsFree g o ⊎ IsPlainReadable g table ls o.class l.cycle (cluster_of table l.slot)) (operands_at g l.row) o (All-contains (CanReadPlain g table ls) ls l rules.operands (launched-out l h)) ho))));
       seen = All-from_members (λ d. list_any (makes g table d) S ≡ true) seen (λ d h. pass (makes g table d) (filter-out seen_now e.seen d h).1);
     }

@@ -1,4 +1,4 @@
--- Launches of which the families of cycles, slots and values hold keep the rules.
+-- Launches to the pool of which the families of cycles, slots and values hold keep the rules.
 use Rattle.std.proofs.Common.{◌≡◌, ℕ, ◌<◌, ◌≤◌, true, not, List, length, get_or, refl, sym, subst, arith, inl, inr, ◌⊎◌}
 use Rattle.std.specs.Prelude.{◌&&◌, ◌==◌, nat_le}
 use Rattle.std.specs.List.{All, AllPairs, list_any, count_by}
@@ -6,11 +6,14 @@ use Rattle.std.proofs.lemmas.Bool.{cases_Bool, eqb-true, leb-true, eq-eqb, and_p
 use Rattle.std.proofs.lemmas.List.Elements.{All-weaker, All-contains}
 use Rattle.machine_table.specs.Tables.{cluster_of}
 use Rattle.graph_meaning.specs.Graphs.{is_memory_name, is_zero_class}
-use Rattle.schedule_meaning.specs.Launches.{operands_at, ready_in, IsFree, IsReadable, Gives, Operand, gives}
-use Rattle.schedule_meaning.specs.Fits.{CanLaunch, Collide, CanRead, EndsBy, IsReached}
+use Rattle.schedule_meaning.specs.Launches.{operands_at, ready_in, IsFree, Gives, gives}
+use Rattle.schedule_meaning.specs.Fits.{CanLaunch, Collide, EndsBy}
+use Rattle.schedule_meaning.specs.Plain.{IsPlainReadable, CanReadPlain, IsPlainReached}
 use Rattle.machine_table.specs.declared.tables.Table.{Table}
 use Rattle.graph_meaning.specs.declared.graphs.LaunchGraph.{LaunchGraph}
 use Rattle.graph_meaning.specs.declared.graphs.SetClass.{SetClass}
+use Rattle.schedule_meaning.specs.declared.schedules.Operand.{Operand}
+use Rattle.schedule_meaning.specs.declared.schedules.To.TheVariants.{Pool}
 use Rattle.schedule_meaning.specs.declared.schedules.Launch.{Launch}
 use Rattle.cycle_encoding.specs.Variables.{is_input}
 use Rattle.cycle_encoding.specs.declared.seen.Seen.{Seen}
@@ -38,7 +41,7 @@ module _ (g : LaunchGraph) (table : Table) (k : ℕ) (S : List Launch) (listed :
   -- ---- values
 
   module _ (D : List Seen) (says : SaysCycles g table k S D) where
-    seen_read : (c n t : ℕ) → list_any (is_seen c n t) D ≡ true → IsReadable g table S c t n
+    seen_read : (c n t : ℕ) → list_any (is_seen c n t) D ≡ true → IsPlainReadable g table S c t n
     seen_read c n t h =
         let d = some_of (is_seen c n t) D h in
         let p = and_parts (d.0.class == c) ((d.0.cluster == n) && (d.0.cycle == t)) d.2 in
@@ -52,7 +55,7 @@ module _ (g : LaunchGraph) (table : Table) (k : ℕ) (S : List Launch) (listed :
         let ready : ready_in g table n l.0 ≤ t = subst (λ t. ready_in g table n l.0 ≤ t) et (subst (λ n. ready_in g table n l.0 ≤ d.0.cycle) en (leb-true (ready_in g table d.0.cluster l.0) d.0.cycle r.1)) in
         inr (any_from (λ l. Gives g c l × (ready_in g table n l ≤ t)) S l.0 l.1 (gave, ready))
 
-    read_one : (l : Launch) (o : Operand) → (is_made g o ≡ true → list_any (is_seen o.class (cluster_of table l.slot) l.cycle) D ≡ true) → IsFree g o ⊎ IsReadable g table S o.class l.cycle (cluster_of table l.slot)
+    read_one : (l : Launch) (o : Operand) → (is_made g o ≡ true → list_any (is_seen o.class (cluster_of table l.slot) l.cycle) D ≡ true) → IsFree g o ⊎ IsPlainReadable g table S o.class l.cycle (cluster_of table l.slot)
     read_one l o h =
         elim (cases_Bool (is_free g o)) [
           | inl f ↦ inl (free-is g o f)
@@ -62,13 +65,13 @@ module _ (g : LaunchGraph) (table : Table) (k : ℕ) (S : List Launch) (listed :
           ]
         ]
 
-    reads : All (CanRead g table S) S
+    reads : All (CanReadPlain g table S) S
     reads i d lt =
         let l = get_or S i d in
-        All-weaker (λ o. is_made g o ≡ true → list_any (is_seen o.class (cluster_of table l.slot) l.cycle) D ≡ true) (λ o. IsFree g o ⊎ IsReadable g table S o.class l.cycle (cluster_of table l.slot)) (λ o h. read_one l o h) (operands_at g l.row)
+        All-weaker (λ o. is_made g o ≡ true → list_any (is_seen o.class (cluster_of table l.slot) l.cycle) D ≡ true) (λ o. IsFree g o ⊎ IsPlainReadable g table S o.class l.cycle (cluster_of table l.slot)) (λ o h. read_one l o h) (operands_at g l.row)
         (All-from_filter (is_made g) (λ o. list_any (is_seen o.class (cluster_of table l.slot) l.cycle) D ≡ true) (operands_at g l.row) (says.operands i d lt))
 
-    reach_one : (s : SetClass) → (is_made_target g s ≡ true → list_any (gives g s.class) S ≡ true) → IsReached g S s
+    reach_one : (s : SetClass) → (is_made_target g s ≡ true → list_any (gives g s.class) S ≡ true) → IsPlainReached g S s
     reach_one s h =
         elim (cases_Bool (is_memory_name s.name)) [
           | inl m ↦ inl m
@@ -83,14 +86,15 @@ module _ (g : LaunchGraph) (table : Table) (k : ℕ) (S : List Launch) (listed :
           ]
         ]
 
-    reached : All (IsReached g S) g.sets
-    reached = All-weaker (λ s. is_made_target g s ≡ true → list_any (gives g s.class) S ≡ true) (IsReached g S) reach_one g.sets (All-from_filter (is_made_target g) (λ s. list_any (gives g s.class) S ≡ true) g.sets says.targets)
+    reached : All (IsPlainReached g S) g.sets
+    reached = All-weaker (λ s. is_made_target g s ≡ true → list_any (gives g s.class) S ≡ true) (IsPlainReached g S) reach_one g.sets (All-from_filter (is_made_target g) (λ s. list_any (gives g s.class) S ≡ true) g.sets says.targets)
 
   -- ---- all rules
 
   pub keep_rules : (D : List Seen) → SaysCycles g table k S D → ((s t : ℕ) → s < length table.slots → t < k → count_by (is_at s t) S ≤ 1) → KeepsCycleRules g table k S
   keep_rules D says few = record {
     rows = All-weaker (IsListed g table k) (CanLaunch g table) (λ l h. h.can) S listed;
+    to_pool = All-weaker (IsListed g table k) (λ l. l.to ≡ Pool) (λ l h. h.to) S listed;
     apart = apart few;
     operands = reads D says;
     in_time = All-weaker (IsListed g table k) (EndsBy g table k) (λ l h. h.ends) S listed;

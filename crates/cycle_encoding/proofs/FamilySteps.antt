@@ -10,7 +10,8 @@ use Rattle.machine_table.specs.Tables.{cluster_of}
 use Rattle.machine_table.specs.declared.tables.Table.{Table}
 use Rattle.graph_meaning.specs.declared.graphs.LaunchGraph.{LaunchGraph}
 use Rattle.graph_meaning.specs.declared.graphs.SetClass.{SetClass}
-use Rattle.schedule_meaning.specs.Launches.{gives, operands_at, Operand}
+use Rattle.schedule_meaning.specs.Launches.{gives, operands_at}
+use Rattle.schedule_meaning.specs.declared.schedules.Operand.{Operand}
 use Rattle.schedule_meaning.specs.declared.schedules.Launch.{Launch}
 use Rattle.cycle_encoding.specs.Shapes.{numbered, positive, negative, implied, vars_of}
 use Rattle.cycle_encoding.specs.Variables.{Seen}

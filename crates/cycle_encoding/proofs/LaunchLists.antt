@@ -7,6 +7,7 @@ use Rattle.std.proofs.lemmas.Bool.{eqb-true, eq-eqb}
 use Rattle.std.proofs.lemmas.List.Elements.{All-contains, All-filter, Contains-get_or}
 use Rattle.machine_table.specs.Tables.{IsTable, IsUse, use_of, latency_of, MayUse, cluster_of}
 use Rattle.machine_table.specs.InstrOrder.{kind_number}
+use Rattle.graph_meaning.specs.Graphs.{HasNoPins}
 use Rattle.schedule_meaning.specs.Launches.{instr_at}
 use Rattle.schedule_meaning.specs.Fits.{CanLaunch, EndsBy}
 use Rattle.machine_table.specs.declared.tables.Table.{Table}
@@ -15,6 +16,8 @@ use Rattle.machine_table.specs.declared.tables.Use.{Use}
 use Rattle.machine_table.specs.declared.tables.InstrKind.{InstrKind}
 use Rattle.machine_table.specs.declared.tables.InstrKind.TheVariants.{Beq}
 use Rattle.graph_meaning.specs.declared.graphs.LaunchGraph.{LaunchGraph}
+use Rattle.schedule_meaning.specs.declared.schedules.To.{To}
+use Rattle.schedule_meaning.specs.declared.schedules.To.TheVariants.{Pool}
 use Rattle.schedule_meaning.specs.declared.schedules.Launch.{Launch}
 use Rattle.cycle_encoding.specs.Variables.{slots_of, use_launches, row_launches, all_launches, clusters_of, all_seen}
 use Rattle.cycle_encoding.specs.declared.seen.Seen.{Seen}
@@ -35,6 +38,7 @@ pub record IsListed (g : LaunchGraph) (table : Table) (k : ℕ) (l : Launch) : T
   pub ends : EndsBy g table k l
   pub slot : l.slot < length table.slots
   pub early : l.cycle < k
+  pub to : l.to ≡ Pool
 
 module _ {X A : Type 0} (f : X → List A) where
   option-out : (o : Option X) (a : A) → Contains (option_map_or f o []) a → (x : X) × (o ≡ Some x) × Contains (f x) a
@@ -48,7 +52,7 @@ module _ {X A : Type 0} (f : X → List A) where
 -- ---- launches
 
 module _ (g : LaunchGraph) (table : Table) (k : ℕ) where
-  use_row : (row : ℕ) (u : Use) (l : Launch) → Contains (use_launches table k row 0 u) l → (l.row ≡ row) × Contains (slots_of table u) l.slot × (l.cycle < k + 1 - u.latency)
+  use_row : (row : ℕ) (u : Use) (l : Launch) → Contains (use_launches table k row 0 u) l → (l.row ≡ row) × Contains (slots_of table u) l.slot × (l.cycle < k + 1 - u.latency) × (l.to ≡ Pool)
   use_row row u l h =
       let s = flat-out (λ s. map (at row s) (range_with_len 0 (k + 1 - u.latency - 0))) (slots_of table u) l h in
       let t = map-out (at row s.0) (range_with_len 0 (k + 1 - u.latency - 0)) l s.2 in
@@ -57,6 +61,7 @@ module _ (g : LaunchGraph) (table : Table) (k : ℕ) where
         sym (ap (λ (l : Launch). l.row) t.2),
         subst (λ x. Contains (slots_of table u) x) (ap (λ (l : Launch). l.slot) t.2) s.1,
         omega arith,
+        sym (ap (λ (l : Launch). l.to) t.2),
       )
 
   row_row : (row : ℕ) (l : Launch) → Contains (row_launches g table k (Some 0) row) l → l.row ≡ row
@@ -113,14 +118,15 @@ module _ (g : LaunchGraph) (table : Table) (k : ℕ) where
           ends = omega arith;
           slot = (let b = (range-out 0 (length table.slots) l.slot s.0).1 in omega arith);
           early = omega arith;
+          to = is.3;
         }
 
     pub listed-all : All (IsListed g table k) (all_launches g table k)
     listed-all = All-from_members (IsListed g table k) (all_launches g table k) listed-one
 
-    -- each launch that can be made and ends by k has one
-    pub listed-in : (l : Launch) → CanLaunch g table l → EndsBy g table k l → Contains (all_launches g table k) l
-    listed-in l can ends =
+    -- where no set has a pin, each launch to the pool that can be made and ends by k has one
+    pub listed-in : HasNoPins g → (l : Launch) → l.to ≡ Pool → CanLaunch g table l → EndsBy g table k l → Contains (all_launches g table k) l
+    listed-in plain l pool can ends =
         let i = some-and (instr_at g l.row) (λ i. MayUse table i l.slot) can in
         let u = some-and (use_of table i.0) (λ u. Contains u.slots l.slot) i.2 in
         let known = use_is i.0 u.0 u.1 in
@@ -128,12 +134,15 @@ module _ (g : LaunchGraph) (table : Table) (k : ℕ) where
         let latency = latency_is i.0 u.0 (instr_at g l.row) i.1 u.1 in
         let slots : Contains (slots_of table u.0) l.slot = filter-in (λ s. list_any (λ r. r == s) (u.0).slots) (range_with_len 0 (length table.slots)) l.slot (range-in 0 (length table.slots) l.slot (omega arith) (omega arith)) (some_in (λ r. r == l.slot) (u.0).slots l.slot u.2 (eq-eqb l.slot l.slot refl)) in
         let cycle : Contains (range_with_len 0 (k + 1 - (u.0).latency - 0)) l.cycle = range-in 0 (k + 1 - (u.0).latency - 0) l.cycle (omega arith) (omega arith) in
-        let by_use : Contains (use_launches table k l.row 0 u.0) l =
-        flat-in (λ s. map (at l.row s) (range_with_len 0 (k + 1 - (u.0).latency - 0))) (slots_of table u.0) l.slot l slots (map-in (at l.row l.slot) (range_with_len 0 (k + 1 - (u.0).latency - 0)) l.cycle cycle) in
+        let m : Launch = at l.row l.slot l.cycle in
+        let by_slot : Contains (use_launches table k l.row 0 u.0) m =
+        flat-in (λ s. map (at l.row s) (range_with_len 0 (k + 1 - (u.0).latency - 0))) (slots_of table u.0) l.slot m slots (map-in (at l.row l.slot) (range_with_len 0 (k + 1 - (u.0).latency - 0)) l.cycle cycle) in
+        let same : m ≡ l = ap (λ (to : To). record { cycle = l.cycle; slot = l.slot; row = l.row; to = to }) (sym pool) in
+        let by_use : Contains (use_launches table k l.row 0 u.0) l = subst (λ (x : Launch). Contains (use_launches table k l.row 0 u.0) x) same by_slot in
         let by_row : Contains (row_launches g table k (Some 0) l.row) l =
         subst (λ o. Contains (option_map_or (λ i. option_map_or (use_launches table k l.row 0) (use_of table i) []) o []) l) (sym i.1)
         (subst (λ o. Contains (option_map_or (use_launches table k l.row 0) o []) l) (sym u.1) by_use) in
-        flat-in (row_launches g table k (Some 0)) (range_with_len 0 (length g.rows + 1)) l.row l (range-in 0 (length g.rows + 1) l.row (omega arith) (let w = within g l.row i.0 i.1 in omega arith)) by_row
+        flat-in (row_launches g table k (Some 0)) (range_with_len 0 (length g.rows + 1)) l.row l (range-in 0 (length g.rows + 1) l.row (omega arith) (let w = within g plain l.row i.0 i.1 in omega arith)) by_row
 
     -- the cluster of a slot is one of the table's
     pub cluster-in : (s : ℕ) → s < length table.slots → Contains (clusters_of table) (cluster_of table s)
@@ -147,11 +156,19 @@ module _ (g : LaunchGraph) (table : Table) (k : ℕ) where
         (some_in (λ (y : Slot). y.cluster == cluster_of table s) table.slots x.0 x.1 (eq-eqb (x.0).cluster (cluster_of table s) is))
 
     -- launches that can be made and end by k are in slots of the table and below k
+    place : (l : Launch) → CanLaunch g table l → EndsBy g table k l → HasPlace table k l
+    place l can ends =
+        let i = some-and (instr_at g l.row) (λ i. MayUse table i l.slot) can in
+        let u = some-and (use_of table i.0) (λ u. Contains u.slots l.slot) i.2 in
+        let known = use_is i.0 u.0 u.1 in
+        let latency = latency_is i.0 u.0 (instr_at g l.row) i.1 u.1 in
+        let one : 1 ≤ (u.0).latency = known.latency.0 in
+        (All-contains (λ s. s < length table.slots) (u.0).slots l.slot known.exist u.2, omega arith)
+
     pub places : (ls : List Launch) → KeepsCycleRules g table k ls → All (HasPlace table k) ls
     places ls rules =
         All-from_members (HasPlace table k) ls (λ l h.
-        let ok = listed-one l (listed-in l (All-contains (CanLaunch g table) ls l rules.rows h) (All-contains (EndsBy g table k) ls l rules.in_time h)) in
-        (ok.slot, ok.early))
+        place l (All-contains (CanLaunch g table) ls l rules.rows h) (All-contains (EndsBy g table k) ls l rules.in_time h))
 
     -- the launches of each encoding
     pub narrow-listed : (l : Listed) → IsNarrow g table k l → All (IsListed g table k) l.launches

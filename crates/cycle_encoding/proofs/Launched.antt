@@ -16,6 +16,7 @@ use Rattle.machine_table.specs.declared.tables.InstrKind.{InstrKind}
 use Rattle.graph_meaning.specs.declared.graphs.LaunchGraph.{LaunchGraph}
 use Rattle.graph_meaning.specs.declared.graphs.SetClass.{SetClass}
 use Rattle.schedule_meaning.specs.declared.schedules.Launch.{Launch}
+use Rattle.schedule_meaning.specs.declared.schedules.To.TheVariants.{Pool}
 use Rattle.cycle_encoding.specs.Shapes.{vars_of, counters, counters_vars}
 use Rattle.cycle_encoding.specs.Variables.{slots_of, use_launches, row_launches, launches_from, shown_classes, clusters_of, all_seen, Seen}
 use Rattle.cycle_encoding.specs.Families.{is_at, is_made, is_made_target, slot_row, slot_groups, target_clauses, operand_clauses, seen_clauses, makes, is_seen}
@@ -41,7 +42,7 @@ both_one true b = omega arith
 both_one false b = omega arith
 
 abbrev pub at : ℕ → ℕ → ℕ → Launch
-at row slot cycle = record { cycle = cycle; slot = slot; row = row }
+at row slot cycle = record { cycle = cycle; slot = slot; row = row; to = Pool }
 
 module _ (g : LaunchGraph) (table : Table) (k : ℕ) (s : Scope) where
   -- a sum over the launches of a row, use by use

@@ -1,5 +1,7 @@
--- Launches that keep the rules do so without those that have no variables in the narrow encoding.
-use Rattle.std.proofs.Common.{◌≡◌, ℕ, suc, zero, ◌+◌, ◌<◌, ◌≤◌, Bool, true, false, not, List, get_or, refl, sym, ap, ◌∙◌, subst, arith, inl, inr, ◌⊎◌, Some}
+-- Where no set has a pin, launches that keep the rules do so without those that have no variables in the narrow
+-- encoding.
+use Rattle.std.proofs.Common.{◌≡◌, ℕ, suc, zero, ◌+◌, ◌<◌, ◌≤◌, Bool, true, false, not, List, length, get_or, refl, sym}
+use Rattle.std.proofs.Common.{ap, ◌∙◌, subst, arith, inl, inr, ◌⊎◌, Some}
 use Rattle.std.specs.Prelude.{◌==◌, IsTrue, Contains, Decides, unwrap_or, option_map}
 use Rattle.std.specs.Option.{option_map_or}
 use Rattle.std.specs.List.{All, AllPairs, filter}
@@ -7,15 +9,19 @@ use Rattle.std.proofs.lemmas.Bool.{false≢true, cases_Bool, eqb-true, eq-eqb, a
 use Rattle.std.proofs.lemmas.List.Elements.{All-filter, All-contains}
 use Rattle.machine_table.specs.Tables.{IsTable, IsUse, use_of, latency_of, cluster_of, MayUse}
 use Rattle.machine_table.specs.InstrOrder.{kind_number}
-use Rattle.graph_meaning.specs.Graphs.{is_memory_name}
-use Rattle.schedule_meaning.specs.Launches.{instr_at, launches, is_store, is_branch, gives_word, class_at, operands_at, ready_in, IsFree, IsReadable, Gives, Operand}
-use Rattle.schedule_meaning.specs.Fits.{CanLaunch, Collide, CanRead, EndsBy, IsReached}
+use Rattle.graph_meaning.specs.Graphs.{is_memory_name, HasNoPins}
+use Rattle.schedule_meaning.specs.Launches.{instr_at, launches, is_store, is_branch, gives_word, class_at, operands_at}
+use Rattle.schedule_meaning.specs.Launches.{ready_in, IsFree, Gives}
+use Rattle.schedule_meaning.specs.Fits.{CanLaunch, Collide, EndsBy}
+use Rattle.schedule_meaning.specs.Plain.{IsPlainReadable, CanReadPlain, IsPlainReached}
 use Rattle.machine_table.specs.declared.tables.Table.{Table}
 use Rattle.machine_table.specs.declared.tables.Use.{Use}
 use Rattle.machine_table.specs.declared.tables.InstrKind.{InstrKind}
 use Rattle.machine_table.specs.declared.tables.InstrKind.TheVariants.{Beq, StqU}
 use Rattle.graph_meaning.specs.declared.graphs.LaunchGraph.{LaunchGraph}
 use Rattle.graph_meaning.specs.declared.graphs.SetClass.{SetClass}
+use Rattle.schedule_meaning.specs.declared.schedules.Operand.{Operand}
+use Rattle.schedule_meaning.specs.declared.schedules.To.TheVariants.{Pool}
 use Rattle.schedule_meaning.specs.declared.schedules.Launch.{Launch}
 use Rattle.cycle_encoding.specs.Variables.{is_input, all_launches, made_classes}
 use Rattle.cycle_encoding.specs.Families.{is_at, is_free}
@@ -27,16 +33,17 @@ use Rattle.cycle_encoding.proofs.Tests.{two_at, any_from, free-is, free-from, in
 use Rattle.cycle_encoding.proofs.Counting.{count-one}
 use Rattle.cycle_encoding.proofs.Members.{NoTwice, filter-in, filter-out, filter-once, find-out, All-from_members}
 use Rattle.cycle_encoding.proofs.MadeLists.{count_less}
-use Rattle.cycle_encoding.proofs.RowFacts.{some-and, test-some, store-row}
+use Rattle.cycle_encoding.proofs.ComeSteps.{giving-low}
+use Rattle.cycle_encoding.proofs.RowFacts.{some-and, test-some, store-row, within}
 use Rattle.cycle_encoding.proofs.LaunchLists.{narrow-listed, listed-in, listed-one, launches-once, cluster-in, seen-in}
 use Rattle.cycle_encoding.proofs.CycleComplete.{Serves, made_class}
 
-module _ (g : LaunchGraph) (table : Table) (k : ℕ) (is_table : IsTable table) (ls : List Launch) (rules : KeepsCycleRules g table k ls) where
+module _ (g : LaunchGraph) (table : Table) (k : ℕ) (is_table : IsTable table) (plain : HasNoPins g) (ls : List Launch) (rules : KeepsCycleRules g table k ls) where
   use_latency : (l : Launch) (i : InstrKind) (u : Use) → instr_at g l.row ≡ Some i → use_of table i ≡ Some u → unwrap_or (latency_of table (unwrap_or (instr_at g l.row) Beq)) 0 ≡ u.latency
   use_latency l i u ei eu = ap (λ o. unwrap_or (option_map (λ (u : Use). u.latency) (use_of table (unwrap_or o Beq))) 0) ei ∙ ap (λ o. unwrap_or (option_map (λ (u : Use). u.latency) o) 0) eu
 
   -- an operand that is needed has come, where the launches before can start
-  come_from : (l : Launch) → ((m : Launch) → Contains ls m → m.cycle < l.cycle → CanStart g table m.row m.cycle) → (o : Operand) → Needs g l.row o → IsFree g o ⊎ IsReadable g table ls o.class l.cycle (cluster_of table l.slot) → HasCome g table o.class l.cycle
+  come_from : (l : Launch) → ((m : Launch) → Contains ls m → m.cycle < l.cycle → CanStart g table m.row m.cycle) → (o : Operand) → Needs g l.row o → IsFree g o ⊎ IsPlainReadable g table ls o.class l.cycle (cluster_of table l.slot) → HasCome g table o.class l.cycle
   come_from l before o need (inl f) = absurd (need.free f)
   come_from l before o need (inr (inl i)) = absurd (need.input i)
   come_from l before o need (inr (inr (j, m, lt, e, (gave, ready)))) =
@@ -50,12 +57,13 @@ module _ (g : LaunchGraph) (table : Table) (k : ℕ) (is_table : IsTable table) 
       let same : Some gives.0 ≡ Some can.0 = sym gives.1 ∙ can.1 in
       let word : gives_word can.0 ≡ true = (let q : gives.0 ≡ can.0 = cc in ap gives_word (sym q) ∙ gives.2) in
       let until : m.cycle + (u.0).latency ≤ l.cycle = omega arith in
-      subst (λ c. HasCome g table c l.cycle) gave.1 (come m.row m.cycle l.cycle can.0 u.0 can.1 word u.1 until (before m here (omega arith)))
+      let low : m.row < length g.rows = giving-low g table m.row can.0 (within g plain m.row can.0 can.1) can.1 word in
+      subst (λ c. HasCome g table c l.cycle) gave.1 (come m.row m.cycle l.cycle can.0 u.0 low can.1 word u.1 until (before m here (omega arith)))
 
   starts_below : (n : ℕ) (l : Launch) → Contains ls l → l.cycle < n → CanStart g table l.row l.cycle
   starts_below zero l h lt = absurd (omega arith)
   starts_below (suc n) l h lt = λ o need.
-      come_from l (λ m c b. starts_below n m c (omega arith)) o need (All-contains (λ o. IsFree g o ⊎ IsReadable g table ls o.class l.cycle (cluster_of table l.slot)) (operands_at g l.row) o (All-contains (CanRead g table ls) ls l rules.operands h) need.operand)
+      come_from l (λ m c b. starts_below n m c (omega arith)) o need (All-contains (λ o. IsFree g o ⊎ IsPlainReadable g table ls o.class l.cycle (cluster_of table l.slot)) (operands_at g l.row) o (All-contains (CanReadPlain g table ls) ls l rules.operands h) need.operand)
 
   can-start : (l : Launch) → Contains ls l → CanStart g table l.row l.cycle
   can-start l h = starts_below (l.cycle + 1) l h (omega arith)
@@ -64,7 +72,7 @@ module _ (g : LaunchGraph) (table : Table) (k : ℕ) (is_table : IsTable table) 
 
   module _ (keep : Launch → Bool) (keeps : (l : Launch) → Contains (all_launches g table k) l → Decides (keep l) (HasVariable g table l)) where
     member : (l : Launch) → Contains ls l → Contains (all_launches g table k) l
-    member l h = listed-in g table k is_table l (All-contains (CanLaunch g table) ls l rules.rows h) (All-contains (EndsBy g table k) ls l rules.in_time h)
+    member l h = listed-in g table k is_table plain l (All-contains (λ l. l.to ≡ Pool) ls l rules.to_pool h) (All-contains (CanLaunch g table) ls l rules.rows h) (All-contains (EndsBy g table k) ls l rules.in_time h)
 
     abbrev kept : List Launch
     kept = filter keep ls
@@ -96,13 +104,13 @@ module _ (g : LaunchGraph) (table : Table) (k : ℕ) (is_table : IsTable table) 
     three_kinds i = inl refl
 
     want_by : (l : Launch) → Contains ls l → (o : Operand) → Needs g l.row o → IsTrue (launches g is_store l) ⊎ IsTrue (launches g is_branch l) ⊎ Wanted g (class_at g l.row) → Wanted g o.class
-    want_by l h o need (inl s) = (let r = store-row g l s in store l.row r.0 o r.1 r.2 need)
+    want_by l h o need (inl s) = (let r = store-row g plain l s in store l.row r.0 o r.1 r.2 need)
     want_by l h o need (inr (inl b)) = (let i = test-some (instr_at g l.row) is_branch b in guard l.row o i.0 i.1 i.2 need)
     want_by l h o need (inr (inr w)) =
         let can = some-and (instr_at g l.row) (λ i. MayUse table i l.slot) (All-contains (CanLaunch g table) ls l rules.rows h) in
         elim (three_kinds can.0) [
-          | inl t ↦ operand l.row o can.0 can.1 t w need
-          | inr (inl t) ↦ (let s : launches g is_store l ≡ true = ap (λ o. option_map_or is_store o false) can.1 ∙ t in let r = store-row g l s in store l.row r.0 o r.1 r.2 need)
+          | inl t ↦ (let low : l.row < length g.rows = giving-low g table l.row can.0 (within g plain l.row can.0 can.1) can.1 t in operand l.row o can.0 low can.1 t w need)
+          | inr (inl t) ↦ (let s : launches g is_store l ≡ true = ap (λ o. option_map_or is_store o false) can.1 ∙ t in let r = store-row g plain l s in store l.row r.0 o r.1 r.2 need)
           | inr (inr t) ↦ guard l.row o can.0 can.1 t need
         ]
 
@@ -110,7 +118,7 @@ module _ (g : LaunchGraph) (table : Table) (k : ℕ) (is_table : IsTable table) 
     wants_one : (l : Launch) → Contains ls l → HasVariable g table l → (o : Operand) → Needs g l.row o → Wanted g o.class
     wants_one l h ok o need = want_by l h o need ok.wanted
 
-    read_kept : (l : Launch) → Contains ls l → HasVariable g table l → (o : Operand) → Contains (operands_at g l.row) o → IsFree g o ⊎ IsReadable g table ls o.class l.cycle (cluster_of table l.slot) → IsFree g o ⊎ IsReadable g table kept o.class l.cycle (cluster_of table l.slot)
+    read_kept : (l : Launch) → Contains ls l → HasVariable g table l → (o : Operand) → Contains (operands_at g l.row) o → IsFree g o ⊎ IsPlainReadable g table ls o.class l.cycle (cluster_of table l.slot) → IsFree g o ⊎ IsPlainReadable g table kept o.class l.cycle (cluster_of table l.slot)
     read_kept l h ok o ho (inl f) = inl f
     read_kept l h ok o ho (inr (inl i)) = inr (inl i)
     read_kept l h ok o ho (inr (inr (j, m, lt, e, (gave, ready)))) =
@@ -125,14 +133,14 @@ module _ (g : LaunchGraph) (table : Table) (k : ℕ) (is_table : IsTable table) 
           ]
         ]
 
-    reads_kept : All (CanRead g table kept) kept
+    reads_kept : All (CanReadPlain g table kept) kept
     reads_kept =
-        All-from_members (CanRead g table kept) kept (λ l h.
+        All-from_members (CanReadPlain g table kept) kept (λ l h.
         let b = back l h in
-        All-from_members (λ o. IsFree g o ⊎ IsReadable g table kept o.class l.cycle (cluster_of table l.slot)) (operands_at g l.row) (λ o ho.
-        read_kept l b.0 b.1 o ho (All-contains (λ o. IsFree g o ⊎ IsReadable g table ls o.class l.cycle (cluster_of table l.slot)) (operands_at g l.row) o (All-contains (CanRead g table ls) ls l rules.operands b.0) ho)))
+        All-from_members (λ o. IsFree g o ⊎ IsPlainReadable g table kept o.class l.cycle (cluster_of table l.slot)) (operands_at g l.row) (λ o ho.
+        read_kept l b.0 b.1 o ho (All-contains (λ o. IsFree g o ⊎ IsPlainReadable g table ls o.class l.cycle (cluster_of table l.slot)) (operands_at g l.row) o (All-contains (CanReadPlain g table ls) ls l rules.operands b.0) ho)))
 
-    reach_kept : (s : SetClass) → Contains g.sets s → IsReached g ls s → IsReached g kept s
+    reach_kept : (s : SetClass) → Contains g.sets s → IsPlainReached g ls s → IsPlainReached g kept s
     reach_kept s h (inl m) = inl m
     reach_kept s h (inr (inl i)) = inr (inl i)
     reach_kept s h (inr (inr (inl z))) = inr (inr (inl z))
@@ -155,16 +163,17 @@ module _ (g : LaunchGraph) (table : Table) (k : ℕ) (is_table : IsTable table) 
     pub rules_kept : KeepsCycleRules g table k kept
     rules_kept = record {
       rows = All-filter keep (CanLaunch g table) ls rules.rows;
+      to_pool = All-filter keep (λ l. l.to ≡ Pool) ls rules.to_pool;
       apart = apart_kept;
       operands = reads_kept;
       in_time = All-filter keep (EndsBy g table k) ls rules.in_time;
-      targets = All-from_members (IsReached g kept) g.sets (λ s h. reach_kept s h (All-contains (IsReached g ls) g.sets s rules.targets h));
+      targets = All-from_members (IsPlainReached g kept) g.sets (λ s h. reach_kept s h (All-contains (IsPlainReached g ls) g.sets s rules.targets h));
     }
 
 -- the narrow lists serve what is kept
-pub narrow-serves : (g : LaunchGraph) (table : Table) (k : ℕ) (is_table : IsTable table) (ls : List Launch) (rules : KeepsCycleRules g table k ls) (e : Listed) (n : IsNarrow g table k e) → Serves g table k e (filter n.keep ls)
-narrow-serves g table k is_table ls rules e n =
-    let member : (l : Launch) → Contains ls l → Contains (all_launches g table k) l = λ l h. listed-in g table k is_table l (All-contains (CanLaunch g table) ls l rules.rows h) (All-contains (EndsBy g table k) ls l rules.in_time h) in
+pub narrow-serves : (g : LaunchGraph) (table : Table) (k : ℕ) (is_table : IsTable table) (plain : HasNoPins g) (ls : List Launch) (rules : KeepsCycleRules g table k ls) (e : Listed) (n : IsNarrow g table k e) → Serves g table k e (filter n.keep ls)
+narrow-serves g table k is_table plain ls rules e n =
+    let member : (l : Launch) → Contains ls l → Contains (all_launches g table k) l = λ l h. listed-in g table k is_table plain l (All-contains (λ l. l.to ≡ Pool) ls l rules.to_pool h) (All-contains (CanLaunch g table) ls l rules.rows h) (All-contains (EndsBy g table k) ls l rules.in_time h) in
     record {
       listed = narrow-listed g table k is_table e n;
       once = subst (λ (ls : List Launch). NoTwice ls) (sym n.launches_are) (filter-once n.keep (all_launches g table k) (launches-once g table k));
@@ -172,12 +181,12 @@ narrow-serves g table k is_table ls rules e n =
           let f = filter-out n.keep ls l h in
           subst (λ (ls : List Launch). Contains ls l) (sym n.launches_are) (filter-in n.keep (all_launches g table k) l (member l f.0) f.1);
       seen = λ l m o hl ho t hm gave.
-          let b = back g table k is_table ls rules n.keep n.keeps l hl in
+          let b = back g table k is_table plain ls rules n.keep n.keeps l hl in
           let ok = listed-one g table k is_table l (member l b.0) in
           let p = and_parts (not (is_free g o)) (not (is_input g o.class)) t in
           let need : Needs g l.row o = record { operand = ho; free = λ f. false≢true (sym (not-true (is_free g o) p.0) ∙ free-from g o f); input = λ i. false≢true (sym (not-true (is_input g o.class) p.1) ∙ input-from g o.class i) } in
-          let made = made_class g o m t gave in
-          let wanted : Wanted g o.class = wants_one g table k is_table ls rules n.keep n.keeps l b.0 b.1 o need in
+          let made = made_class g plain o m t gave in
+          let wanted : Wanted g o.class = wants_one g table k is_table plain ls rules n.keep n.keeps l b.0 b.1 o need in
           subst (λ ds. Contains ds (record { class = o.class; cluster = cluster_of table l.slot; cycle = l.cycle })) (sym n.seen_are)
           (seen-in g table k (filter n.want (made_classes g)) o.class (cluster_of table l.slot) l.cycle (filter-in n.want (made_classes g) o.class made ((n.wants o.class made).1 wanted)) (cluster-in g table k is_table l.slot ok.slot) ok.early);
     }

@@ -11,15 +11,18 @@ use Rattle.word_ops.specs.declared.sorts.Op.{Op}
 use Rattle.word_ops.specs.declared.sorts.Op.TheVariants.{Word, Select, Store, Load, Put}
 use Rattle.word_ops.specs.declared.sorts.Sort.TheVariants as sort
 use Rattle.machine_table.specs.InstrOrder.{operate_kind}
-use Rattle.graph_meaning.specs.Graphs.{constant_of}
+use Rattle.graph_meaning.specs.Graphs.{constant_of, HasNoPins}
 use Rattle.graph_meaning.specs.WellFormed.{next_class}
-use Rattle.schedule_meaning.specs.Launches.{instr_at, launches, gives_word, is_store, is_load, word_op_instr, op_instr, class_at}
+use Rattle.schedule_meaning.specs.Launches.{instr_at, launches, gives_word, is_store, is_load, word_op_instr, op_instr}
+use Rattle.schedule_meaning.specs.Launches.{class_at}
 use Rattle.machine_table.specs.declared.tables.InstrKind.{InstrKind}
 use Rattle.machine_table.specs.declared.tables.InstrKind.TheVariants.{Lda, Ldah, LdqU, StqU, Beq}
 use Rattle.graph_meaning.specs.declared.graphs.LaunchGraph.{LaunchGraph}
 use Rattle.graph_meaning.specs.declared.graphs.LaunchRow.{LaunchRow}
 use Rattle.graph_meaning.specs.declared.graphs.Guard.{Guard}
 use Rattle.schedule_meaning.specs.declared.schedules.Launch.{Launch}
+use Rattle.schedule_meaning.proofs.Copies.{plain_class, row_no_copy}
+use Rattle.schedule_meaning.proofs.Unpinned.{plain_rows}
 use Rattle.cycle_encoding.specs.Variables.{is_word, is_word_class}
 use Rattle.cycle_encoding.proofs.Tests.{some_in}
 use Rattle.cycle_encoding.proofs.Members.{here, later, either, nothing}
@@ -129,8 +132,11 @@ module _ (g : LaunchGraph) where
   row_in test f row true i h t = absurd (false≢true (sym f ∙ ap test (guard_instr g.guard i h) ∙ t))
   row_in test f row false i h t = (let r = then-some (slice_get g.rows row) (λ r. op_instr g r.op r.operands) i h in (r.0, i, r.1, r.2, t))
 
-  row_of : (test : InstrKind → Bool) → test Beq ≡ false → (l : Launch) → launches g test l ≡ true → Row test l.row
-  row_of test f l h = (let i = test-some (instr_at g l.row) test h in row_in test f l.row (l.row == length g.rows) i.0 i.1 i.2)
+  -- where no set has a pin, no row's number is a copy's
+  row_of : HasNoPins g → (test : InstrKind → Bool) → test Beq ≡ false → (l : Launch) → launches g test l ≡ true → Row test l.row
+  row_of plain test f l h =
+      let i = test-some (instr_at g l.row) test h in
+      row_in test f l.row (l.row == length g.rows) i.0 (sym (plain_rows g plain l.row).0 ∙ i.1) i.2
 
   row_within : (row : ℕ) (b : Bool) → (row == length g.rows) ≡ b → (i : InstrKind) → cond b (option_map (λ _. Beq) g.guard) (option_and_then (λ r. op_instr g r.op r.operands) (slice_get g.rows row)) ≡ Some i → row < length g.rows + 1
   row_within row true e i h = (let same = eqb-true row (length g.rows) e in omega arith)
@@ -141,12 +147,12 @@ module _ (g : LaunchGraph) where
         | inr le ↦ absurd (none_some r.0 (sym (past g.rows row le) ∙ r.1))
       ]
 
-  pub within : (row : ℕ) (i : InstrKind) → instr_at g row ≡ Some i → row < length g.rows + 1
-  within row i h = row_within row (row == length g.rows) refl i h
+  pub within : HasNoPins g → (row : ℕ) (i : InstrKind) → instr_at g row ≡ Some i → row < length g.rows + 1
+  within plain row i h = row_within row (row == length g.rows) refl i (sym (plain_rows g plain row).0 ∙ h)
 
-  pub store-row : (l : Launch) → launches g is_store l ≡ true → (r : LaunchRow) × (slice_get g.rows l.row ≡ Some r) × ((r.op ≡ Store) ⊎ (r.op ≡ Put))
+  pub store-row : HasNoPins g → (l : Launch) → launches g is_store l ≡ true → (r : LaunchRow) × (slice_get g.rows l.row ≡ Some r) × ((r.op ≡ Store) ⊎ (r.op ≡ Put))
   unfolding Row
-  store-row l h = (let r = row_of is_store refl l h in (r.0, r.2, store-op r.0.op r.0.operands r.1 r.3 r.4))
+  store-row plain l h = (let r = row_of plain is_store refl l h in (r.0, r.2, store-op r.0.op r.0.operands r.1 r.3 r.4))
 
   -- ---- classes
 
@@ -172,27 +178,27 @@ module _ (g : LaunchGraph) where
   )
 
   pub at_row : (row : ℕ) (r : LaunchRow) → slice_get g.rows row ≡ Some r → class_at g row ≡ r.class
-  at_row row r e = ap (λ o. option_map_or (λ (r : LaunchRow). r.class) o 0) e
+  at_row row r e = plain_class g row (row_no_copy g row r e) ∙ ap (λ o. option_map_or (λ (r : LaunchRow). r.class) o 0) e
 
   -- a launch that gives a word is of a word class
-  pub word-launch : (l : Launch) → launches g gives_word l ≡ true → (is_word_class g (class_at g l.row) ≡ true) × (class_at g l.row < next_class g.rows)
+  pub word-launch : HasNoPins g → (l : Launch) → launches g gives_word l ≡ true → (is_word_class g (class_at g l.row) ≡ true) × (class_at g l.row < next_class g.rows)
   unfolding Row
-  word-launch l h =
-      let r = row_of gives_word refl l h in
+  word-launch plain l h =
+      let r = row_of plain gives_word refl l h in
       subst (λ c. (is_word_class g c ≡ true) × (c < next_class g.rows)) (sym (at_row l.row r.0 r.2)) (word_class r.0 (got g.rows l.row r.0 r.2) ((op_fits r.0.op r.0.operands r.1 r.3).word r.4))
 
   -- ---- memory: the row of a store gives one, and that of a load or store takes one
 
-  pub store-sort : (l : Launch) → launches g is_store l ≡ true → (r : LaunchRow) × (slice_get g.rows l.row ≡ Some r) × (sort_of r.op ≡ sort.Memory)
+  pub store-sort : HasNoPins g → (l : Launch) → launches g is_store l ≡ true → (r : LaunchRow) × (slice_get g.rows l.row ≡ Some r) × (sort_of r.op ≡ sort.Memory)
   unfolding Row
-  store-sort l h = (let r = row_of is_store refl l h in (r.0, r.2, (op_fits r.0.op r.0.operands r.1 r.3).store r.4))
+  store-sort plain l h = (let r = row_of plain is_store refl l h in (r.0, r.2, (op_fits r.0.op r.0.operands r.1 r.3).store r.4))
 
   uses_any : (o : Option InstrKind) → (option_map_or is_load o false || option_map_or is_store o false) ≡ true → option_map_or (λ i. is_load i || is_store i) o false ≡ true
   uses_any None h = h
   uses_any (Some i) h = h
 
-  pub memory-taken : (l : Launch) → (launches g is_load l || launches g is_store l) ≡ true → (r : LaunchRow) × (slice_get g.rows l.row ≡ Some r) × (takes_memory r.op ≡ true)
+  pub memory-taken : HasNoPins g → (l : Launch) → (launches g is_load l || launches g is_store l) ≡ true → (r : LaunchRow) × (slice_get g.rows l.row ≡ Some r) × (takes_memory r.op ≡ true)
   unfolding Row
-  memory-taken l h =
-      let r = row_of (λ i. is_load i || is_store i) refl l (uses_any (instr_at g l.row) h) in
+  memory-taken plain l h =
+      let r = row_of plain (λ i. is_load i || is_store i) refl l (uses_any (instr_at g l.row) h) in
       (r.0, r.2, (op_fits r.0.op r.0.operands r.1 r.3).memory r.4)

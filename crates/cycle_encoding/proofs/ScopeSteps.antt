@@ -29,7 +29,7 @@ use Rattle.cycle_encoding.specs.Scoped.{is_spoken_of, first_cycle}
 use Rattle.cycle_encoding.proofs.Rows.{range_more}
 use Rattle.cycle_encoding.proofs.Launched.{at}
 use Rattle.cycle_encoding.proofs.Members.{filter-out, flat-out, map-out, range-out, nothing}
-use Rattle.cycle_encoding.proofs.ComeSteps.{are-in, are-out, need-in, need-out, giving-row}
+use Rattle.cycle_encoding.proofs.ComeSteps.{are-in, are-out, need-in, need-out, giving-low, low-class}
 
 -- ---- a first cycle, as a test
 
@@ -235,14 +235,14 @@ module _ (g : LaunchGraph) (table : Table) (come : List (Option ℕ)) (marks : L
         ]
       ]
 
-  spoken-in : (l : Launch) (i : InstrKind) → instr_at g l.row ≡ Some i → (launches g is_store l ≡ true) ⊎ (launches g is_branch l ≡ true) ⊎ Wanted g (class_at g l.row) → is_spoken_of g marks l.row ≡ true
-  spoken-in l i e (inl s) = or_left (row_is g is_store l.row) (row_is g is_branch l.row || is_marked_class marks (class_at g l.row)) s
-  spoken-in l i e (inr (inl b)) = or_right (row_is g is_store l.row) (row_is g is_branch l.row || is_marked_class marks (class_at g l.row)) (or_left (row_is g is_branch l.row) (is_marked_class marks (class_at g l.row)) b)
-  spoken-in l i e (inr (inr w)) =
+  spoken-in : (l : Launch) (i : InstrKind) → l.row < length g.rows + 1 → instr_at g l.row ≡ Some i → (launches g is_store l ≡ true) ⊎ (launches g is_branch l ≡ true) ⊎ Wanted g (class_at g l.row) → is_spoken_of g marks l.row ≡ true
+  spoken-in l i within e (inl s) = or_left (row_is g is_store l.row) (row_is g is_branch l.row || is_marked_class marks (class_at g l.row)) s
+  spoken-in l i within e (inr (inl b)) = or_right (row_is g is_store l.row) (row_is g is_branch l.row || is_marked_class marks (class_at g l.row)) (or_left (row_is g is_branch l.row) (is_marked_class marks (class_at g l.row)) b)
+  spoken-in l i within e (inr (inr w)) =
       elim (three_kinds i) [
         | inl t ↦
-            (let bound = giving-row g table l.row i e t in
-            or_right (row_is g is_store l.row) (row_is g is_branch l.row || is_marked_class marks (class_at g l.row)) (or_right (row_is g is_branch l.row) (is_marked_class marks (class_at g l.row)) ((wanted (class_at g l.row)).1 (w, bound.1))))
+            (let bound = low-class g table l.row (giving-low g table l.row i within e t) in
+            or_right (row_is g is_store l.row) (row_is g is_branch l.row || is_marked_class marks (class_at g l.row)) (or_right (row_is g is_branch l.row) (is_marked_class marks (class_at g l.row)) ((wanted (class_at g l.row)).1 (w, bound))))
         | inr (inl t) ↦ or_left (row_is g is_store l.row) (row_is g is_branch l.row || is_marked_class marks (class_at g l.row)) (ap (λ (o : Option InstrKind). option_map_or is_store o false) e ∙ t)
         | inr (inr t) ↦ or_right (row_is g is_store l.row) (row_is g is_branch l.row || is_marked_class marks (class_at g l.row)) (or_left (row_is g is_branch l.row) (is_marked_class marks (class_at g l.row)) (ap (λ (o : Option InstrKind). option_map_or is_branch o false) e ∙ t))
       ]
@@ -254,9 +254,9 @@ module _ (g : LaunchGraph) (table : Table) (come : List (Option ℕ)) (marks : L
   }
   first-out l false e h le = absurd (false≢true h)
 
-  first-in : (l : Launch) (i : InstrKind) → instr_at g l.row ≡ Some i → l.cycle ≤ 24 → HasVariable g table l → is_begun (first_cycle g come marks l.row) l.cycle ≡ true
-  first-in l i e le v =
-      ap (λ b. is_begun (cond b (last_come come (needs_of g l.row)) None) l.cycle) (spoken-in l i e v.wanted)
+  first-in : (l : Launch) (i : InstrKind) → l.row < length g.rows + 1 → instr_at g l.row ≡ Some i → l.cycle ≤ 24 → HasVariable g table l → is_begun (first_cycle g come marks l.row) l.cycle ≡ true
+  first-in l i within e le v =
+      ap (λ b. is_begun (cond b (last_come come (needs_of g l.row)) None) l.cycle) (spoken-in l i within e v.wanted)
       ∙ latest-begun come l.cycle (needs_of g l.row) ∙ start-in l.row l.cycle le v.start
 
   module _ (s : Scope) (narrow : s.encoding ≡ Narrow) (firsts : s.firsts ≡ map (first_cycle g come marks) (range_with_len 0 (length g.rows + 1))) (wants : s.wants ≡ marks) (k : ℕ) (few : k ≤ 24) where
@@ -281,7 +281,7 @@ module _ (g : LaunchGraph) (table : Table) (come : List (Option ℕ)) (marks : L
         let is = ap (λ (f : Option ℕ). is_begun f l.cycle) (first-is l.row o.2) in
         let late = o.3 in (
           (λ t. first-out l (is_spoken_of g marks l.row) refl (sym is ∙ t) (omega arith)),
-          (λ v. is ∙ first-in l o.0 o.1 (omega arith) v),
+          (λ v. is ∙ first-in l o.0 o.2 o.1 (omega arith) v),
         )
 
     wants-one : (c : ℕ) → Contains (made_classes g) c → Decides (wants_in s c) (Wanted g c)

@@ -14,9 +14,12 @@ use Rattle.word_ops.specs.declared.sorts.Op.{Op}
 use Rattle.word_ops.specs.declared.sorts.Op.TheVariants.{Word, Select, Store, Load, Put}
 use Rattle.machine_table.specs.InstrOrder.{operate_kind}
 use Rattle.graph_meaning.specs.Graphs.{constant_of, is_zero_class}
-use Rattle.schedule_meaning.specs.Launches.{instr_at, launches, gives_word, is_branch, word_op_instr, op_instr, class_at, IsZero, IsByteConstant, IsFree, IsClassOfInput, Gives, Operand, gives}
+use Rattle.schedule_meaning.specs.Launches.{instr_at, copied_at, launches, gives_word, is_branch, word_op_instr}
+use Rattle.schedule_meaning.specs.Launches.{op_instr, class_at, IsZero, IsByteConstant, IsFree, IsClassOfInput, Gives}
+use Rattle.schedule_meaning.specs.Launches.{gives}
+use Rattle.schedule_meaning.specs.declared.schedules.Operand.{Operand}
 use Rattle.machine_table.specs.declared.tables.InstrKind.{InstrKind}
-use Rattle.machine_table.specs.declared.tables.InstrKind.TheVariants.{Lda, Ldah, LdqU, StqU, Beq}
+use Rattle.machine_table.specs.declared.tables.InstrKind.TheVariants.{Bis, Lda, Ldah, LdqU, StqU, Beq}
 use Rattle.graph_meaning.specs.declared.graphs.LaunchGraph.{LaunchGraph}
 use Rattle.graph_meaning.specs.declared.graphs.LaunchRow.{LaunchRow}
 use Rattle.graph_meaning.specs.declared.graphs.Guard.{Guard}
@@ -169,9 +172,17 @@ module _ (g : LaunchGraph) where
   guard_in None h = absurd (no_instr h)
   guard_in (Some x) h = refl
 
-  branch_in : (b : Bool) (row : ℕ) → cond b (option_map (λ _. Beq) g.guard) (option_and_then (λ r. op_instr g r.op r.operands) (slice_get g.rows row)) ≡ Some Beq → is_some g.guard ≡ true
-  branch_in true row h = guard_in g.guard h
-  branch_in false row h = absurd (row_not (slice_get g.rows row) h)
+  no_copy : Some Bis ≡ Some Beq → ⊥
+  no_copy h = cc
+
+  -- the branch is that of the guard, one number behind the last row
+  branch_in : (row : ℕ) (b : Bool) → (row == length g.rows) ≡ b → (o : Option ℕ) → cond b (option_map (λ _. Beq) g.guard) (option_map_or (λ class. Some Bis) o (option_and_then (λ r. op_instr g r.op r.operands) (slice_get g.rows row))) ≡ Some Beq → (is_some g.guard ≡ true) × (row ≡ length g.rows)
+  branch_in row true e o h = (guard_in g.guard h, eqb-true row (length g.rows) e)
+  branch_in row false e None h = absurd (row_not (slice_get g.rows row) h)
+  branch_in row false e (Some class) h = absurd (no_copy h)
+
+  branch_at : (row : ℕ) → instr_at g row ≡ Some Beq → (is_some g.guard ≡ true) × (row ≡ length g.rows)
+  branch_at row h = branch_in row (row == length g.rows) refl (copied_at g row) h
 
   beq_is : (i : InstrKind) → is_branch i ≡ true → i ≡ Beq
   beq_is Beq h = refl
@@ -182,4 +193,7 @@ module _ (g : LaunchGraph) where
   branch_instr (Some i) h = ap Some (beq_is i h)
 
   pub guarded : (l : Launch) → launches g is_branch l ≡ true → is_some g.guard ≡ true
-  guarded l h = branch_in (l.row == length g.rows) l.row (branch_instr (instr_at g l.row) h)
+  guarded l h = (branch_at l.row (branch_instr (instr_at g l.row) h)).0
+
+  pub branch-row : (row : ℕ) (i : InstrKind) → instr_at g row ≡ Some i → is_branch i ≡ true → row ≡ length g.rows
+  branch-row row i e b = (branch_at row (branch_instr (instr_at g row) (ap (λ (o : Option InstrKind). option_map_or is_branch o false) e ∙ b))).1

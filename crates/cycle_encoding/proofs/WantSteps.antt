@@ -1,6 +1,6 @@
 -- Marks of wanted classes, one more at a time.
 use Rattle.std.proofs.Common.{◌≡◌, ℕ, zero, suc, ◌+◌, ◌<◌, ◌≤◌, Bool, true, false, cond, List, [], ◌∷◌, ◌++◌, length, map, take, set, get_or, refl, sym, ap, ◌∙◌, subst, arith, inl, inr, ◌⊎◌, Option, Some, None, append_assoc}
-use Rattle.std.specs.Prelude.{◌&&◌, ◌==◌, ◌↔◌, not, Contains, option_map, option_and_then, slice_get}
+use Rattle.std.specs.Prelude.{◌&&◌, ◌==◌, ◌↔◌, not, Contains, slice_get}
 use Rattle.std.specs.Option.{option_map_or}
 use Rattle.std.specs.List.{count_by, filter, range_with_len}
 use Rattle.std.proofs.lemmas.Bool.{false≢true, cases_Bool, cases_eq, eq-eqb, eqb-true, and_from, and_parts, or_cases, or_left, or_right, not-true, not_from_false}
@@ -15,8 +15,7 @@ use Rattle.graph_meaning.specs.declared.graphs.LaunchRow.{LaunchRow}
 use Rattle.graph_meaning.specs.declared.graphs.SetClass.{SetClass}
 use Rattle.machine_table.specs.Tables.{ev6}
 use Rattle.machine_table.specs.declared.tables.InstrKind.{InstrKind}
-use Rattle.machine_table.specs.declared.tables.InstrKind.TheVariants.{Beq}
-use Rattle.schedule_meaning.specs.Launches.{instr_at, op_instr, gives_word, is_branch, class_at}
+use Rattle.schedule_meaning.specs.Launches.{instr_at, gives_word, is_branch, class_at}
 use Rattle.word_ops.specs.declared.sorts.Op.{Op}
 use Rattle.word_ops.specs.declared.sorts.Op.TheVariants.{Store, Put}
 use Rattle.cycle_encoding.specs.Variables.{is_input}
@@ -26,11 +25,11 @@ use Rattle.cycle_encoding.specs.Narrow.Wanted.{target, guard, store, operand}
 use Rattle.cycle_encoding.specs.Coming.{needs_of}
 use Rattle.cycle_encoding.specs.Wanting.{is_marked_class, is_wanted_target, is_store_op, is_store_row, is_root, giving_rows, AreWantedMarks, AreAllMarked, IsFollowed, IsLonger, StillMarked}
 use Rattle.cycle_encoding.proofs.Members.{here, nothing, filter-in, filter-out, range-in, range-out}
-use Rattle.cycle_encoding.proofs.Tests.{input-is, input-from}
+use Rattle.cycle_encoding.proofs.Tests.{input-is, input-from, branch-row}
 use Rattle.cycle_encoding.specs.Steps.{put_at}
 use Rattle.cycle_encoding.proofs.Rows.{range_more}
 use Rattle.cycle_encoding.proofs.Sorted.{put_more, put_none}
-use Rattle.cycle_encoding.proofs.ComeSteps.{need-in, need-out, giving-row, found_row}
+use Rattle.cycle_encoding.proofs.ComeSteps.{need-in, need-out, low-class}
 
 pub longer-same : (xs : List ℕ) → IsLonger xs xs
 longer-same xs = ([], sym (append-nil xs))
@@ -174,7 +173,7 @@ follow-wanted g class row c w h k =
     let r = giving-out g class row h in
     let i = word_in (instr_at g row) r.1 in
     let o = need-out g ev6 row c k in
-    subst (Wanted g) o.2 (operand row o.0 i.0 i.1 i.2 (subst (Wanted g) (sym r.2) w) o.1)
+    subst (Wanted g) o.2 (operand row o.0 i.0 r.0 i.1 i.2 (subst (Wanted g) (sym r.2) w) o.1)
 
 pub more-rows : (g : LaunchGraph) (old new : List Bool) (rows : List ℕ) (i d : ℕ) → i < length rows → StillMarked old new → length new ≡ length old
     → ((r : ℕ) → Contains (take i rows) r → AreAllMarked old (needs_of g r))
@@ -216,9 +215,8 @@ module _ (g : LaunchGraph) (marks : List Bool) (order : List ℕ) (size : length
     (targets : (s : SetClass) → Contains g.sets s → is_wanted_target g s ≡ true → AreAllMarked marks (s.class ∷ []))
     (roots : (row : ℕ) → row < length g.rows + 1 → is_root g row ≡ true → AreAllMarked marks (needs_of g row))
     (followed : (class : ℕ) → Contains order class → IsFollowed g marks class) where
-  row_bound : (row : ℕ) (b : Bool) → (row == length g.rows) ≡ b → (i : InstrKind) → instr_at g row ≡ Some i → row < length g.rows + 1
-  row_bound row true e i h = (let same = eqb-true row (length g.rows) e in omega arith)
-  row_bound row false e i h = (let r = found_row g ev6 (slice_get g.rows row) (λ r. op_instr g r.op r.operands) i (sym (ap (λ b. cond b (option_map (λ _. Beq) g.guard) (option_and_then (λ r. op_instr g r.op r.operands) (slice_get g.rows row))) e) ∙ h) in let lt = slice_get_within g.rows row r.0 r.1 in omega arith)
+  row_bound : (row : ℕ) (i : InstrKind) → instr_at g row ≡ Some i → is_branch i ≡ true → row < length g.rows + 1
+  row_bound row i e b = (let same = branch-row g row i e b in omega arith)
 
   all-marked : (class : ℕ) → Wanted g class → class < length marks → is_marked_class marks class ≡ true
   all-marked _ (target s h nm ni) lt =
@@ -227,16 +225,15 @@ module _ (g : LaunchGraph) (marks : List Bool) (order : List ℕ) (size : length
       targets s h (and_from (not (is_memory_name s.name)) (not (is_input g s.class)) (not_from_false (is_memory_name s.name) memory) (not_from_false (is_input g s.class) input)) s.class (here s.class []) lt
   all-marked _ (guard row o i e b need) lt =
       let is : row_is g is_branch row ≡ true = ap (λ (o : Option InstrKind). option_map_or is_branch o false) e ∙ b in
-      roots row (row_bound row (row == length g.rows) refl i e) (or_left (row_is g is_branch row) (is_store_row g row) is) o.class (need-in g ev6 row o need) lt
+      roots row (row_bound row i e b) (or_left (row_is g is_branch row) (is_store_row g row) is) o.class (need-in g ev6 row o need) lt
   all-marked _ (store row r o e op need) lt =
       let is : is_store_row g row ≡ true = ap (λ (o : Option LaunchRow). option_map_or (λ r. is_store_op r.op) o false) e ∙ store_op_in r op in
       roots row (let w = slice_get_within g.rows row r e in omega arith) (or_right (row_is g is_branch row) (is_store_row g row) is) o.class (need-in g ev6 row o need) lt
-  all-marked _ (operand row o i e w inner need) lt =
-      let bound = giving-row g ev6 row i e w in
-      let low = bound.1 in
+  all-marked _ (operand row o i low e w inner need) lt =
+      let bound = low-class g ev6 row low in
       let mark = all-marked (class_at g row) inner (omega arith) in
       let gives : row_is g gives_word row ≡ true = ap (λ (o : Option InstrKind). option_map_or gives_word o false) e ∙ w in
-      let member : Contains (giving_rows g (class_at g row)) row = filter-in (λ r. row_is g gives_word r && (class_at g r == class_at g row)) (range_with_len 0 (length g.rows)) row (range-in 0 (length g.rows) row (omega arith) (let l = bound.0 in omega arith)) (and_from (row_is g gives_word row) (class_at g row == class_at g row) gives (eq-eqb (class_at g row) (class_at g row) refl)) in
+      let member : Contains (giving_rows g (class_at g row)) row = filter-in (λ r. row_is g gives_word r && (class_at g r == class_at g row)) (range_with_len 0 (length g.rows)) row (range-in 0 (length g.rows) row (omega arith) (omega arith)) (and_from (row_is g gives_word row) (class_at g row == class_at g row) gives (eq-eqb (class_at g row) (class_at g row) refl)) in
       followed (class_at g row) (are.listed (class_at g row) mark) row member o.class (need-in g ev6 row o need) lt
 
   pub marks-exact : (class : ℕ) → (is_marked_class marks class ≡ true) ↔ (Wanted g class × (class < next_class g.rows))

@@ -1,7 +1,8 @@
 -- How it is found from which cycle a row can start: cycle by cycle, each class has the first by which it has come so
 -- far. Source: this project.
-use Rattle.std.specs.Prelude.{◌≡◌, ◌↔◌, ℕ, ◌+◌, ◌≤◌, ◌&&◌, nat_le, nat_lt, Bool, true, false, List, [], ◌∷◌, length}
-use Rattle.std.specs.Prelude.{max, set, Option, None, Some, IsTrue, option_and_then, if◌then◌else◌, slice_index_or}
+use Rattle.std.specs.Prelude.{◌≡◌, ◌↔◌, ℕ, ◌+◌, ◌<◌, ◌≤◌, ◌&&◌, nat_le, nat_lt, Bool, true, false, List, [], ◌∷◌}
+use Rattle.std.specs.Prelude.{length, max, set, Option, None, Some, IsTrue, option_and_then, if◌then◌else◌}
+use Rattle.std.specs.Prelude.{slice_index_or}
 use Rattle.std.specs.Option.{option_map_or}
 use Rattle.machine_table.specs.Tables.{latency_of}
 use Rattle.schedule_meaning.specs.Launches.{instr_at, gives_word, class_at, operands_at}
@@ -43,7 +44,7 @@ AreSound g table come = (class n : ℕ) → slice_index_or come class None ≡ S
 -- where the row can start at the cycle, its word was found to come
 abbrev pub IsPassed : LaunchGraph → Table → List (Option ℕ) → ℕ → ℕ → Type 0
 IsPassed g table come cycle row =
-    (n : ℕ) → word_latency g table row ≡ Some n → CanStart g table row cycle
+    row < length g.rows → (n : ℕ) → word_latency g table row ≡ Some n → CanStart g table row cycle
     → IsTrue (is_come come (cycle + n) (class_at g row))
 
 -- what has come by t was found

@@ -1,16 +1,18 @@
 -- Tables of what a graph says of its classes and rows.
 -- Source: this project.
-use Rattle.std.specs.Prelude.{◌≡◌, ◌==◌, ◌&&◌, nat_lt, ℕ, Bool, false, true, not, List, length, map, set, Option}
-use Rattle.std.specs.Prelude.{None, Some, slice_get, if◌then◌else◌}
+use Rattle.std.specs.Prelude.{◌≡◌, ◌==◌, ◌&&◌, nat_lt, ℕ, Bool, false, true, not, List, [], ◌∷◌, length, map, set}
+use Rattle.std.specs.Prelude.{Option, None, Some, slice_get, if◌then◌else◌}
 use Rattle.std.specs.Option.{option_map_or, option_or}
 use Rattle.std.specs.List.{filter, flat_map, list_any, range_with_len, slice_index_or}
 use Rattle.machine_table.specs.Tables.{use_of}
 use Rattle.graph_meaning.specs.Graphs.{constant_of, is_zero_class}
-use Rattle.schedule_meaning.specs.Launches.{instr_at, Operand}
+use Rattle.schedule_meaning.specs.Launches.{instr_at}
+use Rattle.schedule_meaning.specs.declared.schedules.Operand.{Operand}
 use Rattle.machine_table.specs.declared.tables.InstrKind.{InstrKind}
 use Rattle.machine_table.specs.declared.tables.Table.{Table}
 use Rattle.graph_meaning.specs.declared.graphs.LaunchGraph.{LaunchGraph}
 use Rattle.schedule_meaning.specs.declared.schedules.Launch.{Launch}
+use Rattle.schedule_meaning.specs.declared.schedules.To.TheVariants.{Pool}
 use Rattle.cycle_encoding.specs.Families.{is_made}
 use Rattle.cycle_encoding.specs.Variables.{is_word_class, is_input}
 
@@ -37,12 +39,17 @@ is_shown_class g wants c = wants c && is_made_class g c
 abbrev pub made_among : LaunchGraph → List Operand → List ℕ
 made_among g os = map (λ o. o.class) (filter (is_made g) os)
 
+-- a list of the operand, if there is one
+abbrev pub one_or_none : Option Operand → List Operand
+one_or_none None = []
+one_or_none (Some o) = o ∷ []
+
 -- the instruction may be launched in the slot, in so many cycles
 abbrev pub may_use : Table → InstrKind → ℕ → Bool
 may_use table instr slot = option_map_or (λ u. list_any (λ r. r == slot) u.slots) (use_of table instr) false
 
 abbrev pub launch_at : ℕ → ℕ → ℕ → Launch
-launch_at row slot cycle = record { cycle = cycle; slot = slot; row = row }
+launch_at row slot cycle = record { cycle = cycle; slot = slot; row = row; to = Pool }
 
 -- the launches of a row in a slot, in each of so many cycles from a first one
 abbrev pub slot_launches : ℕ → ℕ → ℕ → ℕ → List Launch

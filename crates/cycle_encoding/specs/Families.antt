@@ -6,7 +6,8 @@ use Rattle.std.specs.List.{filter, flat_map, range_with_len}
 use Rattle.cnf_core.specs.declared.literal.Lit.{Lit}
 use Rattle.machine_table.specs.Tables.{cluster_of}
 use Rattle.graph_meaning.specs.Graphs.{is_memory_name, is_zero_class}
-use Rattle.schedule_meaning.specs.Launches.{gives, operands_at, ready_in, Operand}
+use Rattle.schedule_meaning.specs.Launches.{gives, operands_at, ready_in}
+use Rattle.schedule_meaning.specs.declared.schedules.Operand.{Operand}
 use Rattle.machine_table.specs.declared.tables.Table.{Table}
 use Rattle.graph_meaning.specs.declared.graphs.LaunchGraph.{LaunchGraph}
 use Rattle.graph_meaning.specs.declared.graphs.SetClass.{SetClass}

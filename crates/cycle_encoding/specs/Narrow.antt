@@ -1,13 +1,14 @@
 -- The narrow encoding: variables only for launches that can start by their cycle and whose word is wanted, and only for
 -- wanted classes. Its clauses are those of the wide one over the variables that are there.
 -- Source: this project.
-use Rattle.std.specs.Prelude.{◌≡◌, ℕ, ◌+◌, ◌≤◌, Bool, Some, IsTrue, Contains, Decides, ◌⊎◌, slice_get}
+use Rattle.std.specs.Prelude.{◌≡◌, ℕ, ◌+◌, ◌<◌, ◌≤◌, length, Bool, Some, IsTrue, Contains, Decides, ◌⊎◌, slice_get}
 use Rattle.std.specs.List.{filter}
 use Rattle.word_ops.specs.declared.sorts.Op.TheVariants.{Store, Put}
 use Rattle.machine_table.specs.Tables.{use_of}
 use Rattle.graph_meaning.specs.Graphs.{is_memory_name}
 use Rattle.schedule_meaning.specs.Launches.{instr_at, launches, gives_word, is_store, is_branch, class_at}
-use Rattle.schedule_meaning.specs.Launches.{operands_at, IsFree, IsClassOfInput, Operand}
+use Rattle.schedule_meaning.specs.Launches.{operands_at, IsFree, IsClassOfInput}
+use Rattle.schedule_meaning.specs.declared.schedules.Operand.{Operand}
 use Rattle.machine_table.specs.declared.tables.Table.{Table}
 use Rattle.machine_table.specs.declared.tables.Use.{Use}
 use Rattle.machine_table.specs.declared.tables.InstrKind.{InstrKind}
@@ -33,13 +34,13 @@ pub data Wanted (g : LaunchGraph) : ℕ → Type 0 where
       → Wanted g o.class
   store : (row : ℕ) (r : LaunchRow) (o : Operand) → slice_get g.rows row ≡ Some r → (r.op ≡ Store) ⊎ (r.op ≡ Put)
       → Needs g row o → Wanted g o.class
-  operand : (row : ℕ) (o : Operand) (i : InstrKind) → instr_at g row ≡ Some i → IsTrue (gives_word i)
-      → Wanted g (class_at g row) → Needs g row o → Wanted g o.class
+  operand : (row : ℕ) (o : Operand) (i : InstrKind) → row < length g.rows → instr_at g row ≡ Some i
+      → IsTrue (gives_word i) → Wanted g (class_at g row) → Needs g row o → Wanted g o.class
 
 -- some row of the class can start so early that its word is ready by t in its own cluster
 pub data HasCome (g : LaunchGraph) (table : Table) : ℕ → ℕ → Type 0 where
-  come : (row start t : ℕ) (i : InstrKind) (u : Use) → instr_at g row ≡ Some i → IsTrue (gives_word i)
-      → use_of table i ≡ Some u → start + u.latency ≤ t
+  come : (row start t : ℕ) (i : InstrKind) (u : Use) → row < length g.rows → instr_at g row ≡ Some i
+      → IsTrue (gives_word i) → use_of table i ≡ Some u → start + u.latency ≤ t
       → ((o : Operand) → Needs g row o → HasCome g table o.class start)
       → HasCome g table (class_at g row) t
 

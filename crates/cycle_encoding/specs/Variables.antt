@@ -15,6 +15,7 @@ use Rattle.machine_table.specs.declared.tables.Table.{Table}
 use Rattle.machine_table.specs.declared.tables.Use.{Use}
 use Rattle.graph_meaning.specs.declared.graphs.LaunchGraph.{LaunchGraph}
 use Rattle.schedule_meaning.specs.declared.schedules.Launch.{Launch}
+use Rattle.schedule_meaning.specs.declared.schedules.To.TheVariants.{Pool}
 pub use Rattle.cycle_encoding.specs.declared.seen.Seen.{Seen}
 
 -- ---- launches
@@ -23,11 +24,13 @@ pub use Rattle.cycle_encoding.specs.declared.seen.Seen.{Seen}
 abbrev pub slots_of : Table → Use → List ℕ
 slots_of table u = filter (λ s. list_any (λ r. r == s) u.slots) (range_with_len 0 (length table.slots))
 
--- the launches of a row in the slots that its use allows, in each cycle from the first one from which it ends by k
+-- the launches of a row to the pool in the slots that its use allows, in each cycle from the first one from which it
+-- ends by k
 abbrev pub use_launches : Table → ℕ → ℕ → ℕ → Use → List Launch
 use_launches table k row first u =
     flat_map
-    (λ s. map (λ t. record { cycle = t; slot = s; row = row }) (range_with_len first (k + 1 - u.latency - first)))
+    (λ s. map (λ t. record { cycle = t; slot = s; row = row; to = Pool })
+    (range_with_len first (k + 1 - u.latency - first)))
     (slots_of table u)
 
 -- the launches of a row's number from a first cycle, if the row can be launched and the table names its instruction

@@ -91,6 +91,7 @@ fn pass_row(
     row: u32,
     cycle: u32,
 )
+    requires inside { row < length facts.now.rows }
     requires needs { needs.now ≡ needs_of facts.now row }
     requires cycle { cycle ≤ 24 }
     requires table { IsTable table.now }

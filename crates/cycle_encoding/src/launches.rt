@@ -9,7 +9,7 @@ ghost use Rattle.cycle_encoding.specs.Variables.{launches_from, row_launches};
 use crate::{Facts, Scope};
 use items::NoMemory;
 use machine_table::{InstrKind, Table};
-use schedule_meaning::Launch;
+use schedule_meaning::{Launch, To};
 use std::alloc::Global;
 
 /// The launches of each row from its first cycle that end by k: by row, then by slot, then by cycle.
@@ -129,7 +129,12 @@ fn push_slot(
 {
     for step in 0..cycles {
         let cycle = first + step;
-        launches.push(Launch { cycle, slot, row })?;
+        launches.push(Launch {
+            cycle,
+            slot,
+            row,
+            to: To::Pool,
+        })?;
     }
     Ok(())
 }

@@ -4,7 +4,7 @@ use Rattle.std.specs.Prelude.{List, ℕ, [], ◌∷◌, None, Some, codes, if◌
 use Rattle.std.specs.Option.{option_map}
 use Rattle.std.specs.declared.option.Option.{Option}
 use Rattle.std.specs.Str.{bytes_eq}
-use Rattle.denali_cli.specs.Commands.{Command, Solve, Check, Run, Gen}
+use Rattle.denali_cli.specs.Commands.{Command, Solve, Check, Trim, Run, Gen}
 use Rattle.denali_cli.specs.declared.options.Options.{Options}
 use Rattle.denali_cli.specs.OptionValues.{rounds_value, nodes_value, cycles_value, conflicts_value, pick_value, no_options, settings_of, size_value, default_size}
 
@@ -58,6 +58,8 @@ plain_command (name ∷ words) =
     then option_map (λ o. Solve (settings_of o)) (set_options no_options words)
     else if bytes_eq name (codes "check")
     then alone Check words
+    else if bytes_eq name (codes "trim")
+    then alone Trim words
     else if bytes_eq name (codes "run")
     then alone Run words
     else if bytes_eq name (codes "gen")

@@ -4,25 +4,28 @@ use Rattle.std.specs.Prelude.{◌≡◌, ℕ, ◌<◌, ◌≤◌, List, ◌++◌
 use Rattle.answer_texts.specs.ReadAnswers.{IsAnswerFault, ReadsAnswer}
 use Rattle.answer_texts.specs.declared.answers.AnswerText.{AnswerText}
 use Rattle.goal_reader.specs.Grammar.{IsFirstTextFault, Reads}
+use Rattle.goal_meaning.specs.Unpinned.{AreUnpinned}
 use Rattle.goal_meaning.specs.Views.{InputTree}
 use Rattle.run_texts.specs.RunFaults.{IsRunFault, ReadsRun}
 use Rattle.run_texts.specs.declared.texts.RunText.{RunText}
 use Rattle.text_core.specs.Faults.{fault_text}
 use Rattle.text_core.specs.declared.faults.Kind.{Kind}
 use Rattle.denali_run.specs.GeneratedAnswers.{AnswersGenerated}
-use Rattle.denali_run.specs.TextAnswers.{Answers}
+use Rattle.denali_run.specs.TextAnswers.{Answers, IsNotYet}
 use Rattle.denali_run.specs.TextChecks.{ChecksText}
 use Rattle.denali_run.specs.TextRuns.{RunsText}
 use Rattle.denali_run.specs.declared.reports.TextError.{TextError}
-use Rattle.denali_run.specs.declared.reports.TextError.TheVariants.{Read, Memory}
+use Rattle.denali_run.specs.declared.reports.TextError.TheVariants.{Read, NotYet, Memory}
 use Rattle.denali_run.specs.declared.statuses.Status.{Status}
 use Rattle.denali_run.specs.declared.statuses.Status.TheVariants.{ReadFault}
-use Rattle.denali_cli.specs.Commands.{Command, Solve, Check, Run, Gen}
+use Rattle.refute_trim.specs.TrimmedAnswers.{TrimsText}
+use Rattle.denali_cli.specs.Commands.{Command, Solve, Check, Trim, Run, Gen}
 
 -- how many bytes a command reads at most, if it reads; an answer may be long
 abbrev pub limit_of : Command → Option ℕ
 limit_of (Solve s) = Some 1048576
 limit_of Check = Some 268435456
+limit_of Trim = Some 268435456
 limit_of Run = Some 1048576
 limit_of (Gen size) = None
 
@@ -41,15 +44,20 @@ too_long_line limit = codes "fault " ++ decimal limit ++ codes " TooLong\n"
 abbrev pub fault_line : ℕ → Kind → List ℕ
 fault_line place kind = fault_text (record { place = place; kind = kind }) ++ codes "\n"
 
+-- the line for a text that can be read, but isn't solved yet
+abbrev pub not_yet_line : List ℕ
+not_yet_line = codes "fault 0 NotYet\n"
+
 abbrev pub usage_line : List ℕ
 usage_line = codes "usage\n"
 
 -- ---- each command's texts; a command that doesn't read has the empty one, which is no fault
 
--- the text has a reading for the command
+-- the text has a reading that the command works on
 abbrev pub IsReadFor : Command → List ℕ → Type 0
-IsReadFor (Solve s) text = (input : InputTree) × Reads text input
+IsReadFor (Solve s) text = (input : InputTree) × Reads text input × AreUnpinned input
 IsReadFor Check text = (answer : AnswerText) × ReadsAnswer text answer
+IsReadFor Trim text = (answer : AnswerText) × ReadsAnswer text answer
 IsReadFor Run text = (program : RunText) × ReadsRun text program
 IsReadFor (Gen size) text = Unit {0}
 
@@ -57,19 +65,27 @@ IsReadFor (Gen size) text = Unit {0}
 abbrev pub IsFaultFor : Command → List ℕ → ℕ → Kind → Type 0
 IsFaultFor (Solve s) text place kind = IsFirstTextFault text place kind
 IsFaultFor Check text place kind = IsAnswerFault text place kind
+IsFaultFor Trim text place kind = IsAnswerFault text place kind
 IsFaultFor Run text place kind = IsRunFault text place kind
 IsFaultFor (Gen size) text place kind = ⊥
+
+-- the text has a reading that the command doesn't work on yet
+abbrev pub IsNotYetFor : Command → List ℕ → Type 0
+IsNotYetFor (Solve s) text = IsNotYet text
+IsNotYetFor _ text = ⊥
 
 -- the command's report on a text, and its status
 abbrev pub Reports : Command → List ℕ → List ℕ → Status → Type 0
 Reports (Solve s) text bytes status = Answers s text bytes status
 Reports Check text bytes status = ChecksText text bytes status
+Reports Trim text bytes status = TrimsText text bytes status
 Reports Run text bytes status = RunsText text bytes status
 Reports (Gen size) text bytes status = AnswersGenerated size bytes status
 
 -- why a command has no report on a text
 abbrev pub ErrorIs : Command → List ℕ → TextError → Type 0
 ErrorIs command text (Read fault) = IsFaultFor command text fault.place fault.kind
+ErrorIs command text NotYet = IsNotYetFor command text
 ErrorIs command text Memory = Unit {0}
 
 -- The bytes that answer a command and the bytes read, and the status: one row for each kind of text.
@@ -78,4 +94,6 @@ pub data Reply (command : Command) (text written : List ℕ) (status : Status) :
       → written ≡ too_long_line limit → status ≡ ReadFault → Reply command text written status
   faulty : (place : ℕ) (kind : Kind) → IsWithinLimit command text → IsFaultFor command text place kind
       → written ≡ fault_line place kind → status ≡ ReadFault → Reply command text written status
+  not_yet : IsWithinLimit command text → IsNotYetFor command text
+      → written ≡ not_yet_line → status ≡ ReadFault → Reply command text written status
   answered : IsWithinLimit command text → Reports command text written status → Reply command text written status

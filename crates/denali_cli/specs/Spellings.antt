@@ -7,7 +7,7 @@ use Rattle.std.specs.declared.option.Option.{Option}
 use Rattle.std.specs.Str.{bytes_eq}
 use Rattle.clap.specs.Words.{App, Kinds, Row, Rule, Text, fault_of, first_of, new_app, new_rule, subcommand_of, with_rule, with_subcommand}
 use Rattle.clap.specs.declared.builder.action.ArgAction.TheVariants.{Set}
-use Rattle.denali_cli.specs.Commands.{Command, Solve, Check, Run, Gen}
+use Rattle.denali_cli.specs.Commands.{Command, Solve, Check, Trim, Run, Gen}
 use Rattle.denali_cli.specs.declared.options.Options.{Options}
 use Rattle.denali_cli.specs.OptionValues.{rounds_value, nodes_value, cycles_value, conflicts_value, pick_value, settings_of, size_value, default_size}
 
@@ -38,7 +38,7 @@ with_commands a (command ∷ commands) = with_commands (with_subcommand a comman
 
 abbrev pub program : App
 program = with_commands (of_words (new_app (codes "denali")))
-    (solve_app ∷ new_app (codes "check") ∷ new_app (codes "run") ∷ gen_app ∷ [])
+    (solve_app ∷ new_app (codes "check") ∷ new_app (codes "trim") ∷ new_app (codes "run") ∷ gen_app ∷ [])
 
 -- clap finds no fault
 abbrev pub is_taken : Kinds → Bool
@@ -81,6 +81,7 @@ abbrev pub command_in : Text × List Row → Option Command
 command_in m =
     if bytes_eq m.0 (codes "solve") then solve_in m.1
     else if bytes_eq m.0 (codes "check") then Some Check
+    else if bytes_eq m.0 (codes "trim") then Some Trim
     else if bytes_eq m.0 (codes "run") then Some Run
     else if bytes_eq m.0 (codes "gen") then gen_in m.1
     else None

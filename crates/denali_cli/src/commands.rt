@@ -8,6 +8,8 @@ pub(crate) enum Command {
     Solve(Settings),
     /// Tests what an answer claims.
     Check,
+    /// Trims the refutations of an answer.
+    Trim,
     /// Runs the program of a text.
     Run,
     /// Solves the goal that is made from a number of operators.

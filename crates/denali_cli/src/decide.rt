@@ -4,7 +4,7 @@ ghost use Rattle.outside_io.specs.Causes.{IsCounted};
 ghost use Rattle.denali_cli.specs.Commands.{Command as Asked, HasValuesInRange};
 ghost use Rattle.denali_cli.specs.Said.{asked_by};
 ghost use Rattle.denali_cli.specs.Replies as replies;
-ghost use Rattle.denali_cli.specs.Replies.{ErrorIs, IsWithinLimit, Reply, Reports, fault_line, too_long_line};
+ghost use Rattle.denali_cli.specs.Replies.{ErrorIs, IsWithinLimit, Reply, Reports, fault_line, not_yet_line, too_long_line};
 ghost use Rattle.denali_cli.specs.declared.decide.Stop.TheVariants as stops;
 ghost use Rattle.denali_cli.specs.Outcomes.{Decides, IsReader, IsUnread, IsWhole, Takes};
 
@@ -14,13 +14,14 @@ use denali_run::{Report, Status, TextError, check_text, gen_text, run_text, solv
 use items::NoMemory;
 use itoa::Buffer;
 use outside_io::{ReadAllFault, Source, read_all};
+use refute_trim::trim_text;
 use std::alloc::Global;
 use text_core::Fault;
 
 /// The most bytes of a text of goals or of a program.
 const LIMIT: u32 = 1048576;
 
-/// The most bytes of an answer that is to be checked.
+/// The most bytes of an answer that is to be checked or trimmed.
 const ANSWER_LIMIT: u32 = 268435456;
 
 /// `fault LIMIT TooLong`, for an input of more bytes.
@@ -84,7 +85,7 @@ fn limit_of(command: Command) -> Option<u32>
 {
     match command {
         Command::Solve(_) => Some(LIMIT),
-        Command::Check => Some(ANSWER_LIMIT),
+        Command::Check | Command::Trim => Some(ANSWER_LIMIT),
         Command::Run => Some(LIMIT),
         Command::Gen(_) => None,
     }
@@ -100,12 +101,14 @@ fn report_on(alloc: Global, command: Command, text: &[u8]) -> Result<Report, Tex
     match command {
         Command::Solve(settings) => solve_text(alloc, text, &settings),
         Command::Check => check_text(alloc, text),
+        Command::Trim => trim_text(alloc, text),
         Command::Run => run_text(alloc, text),
         Command::Gen(size) => Ok(gen_text(alloc, size)?),
     }
 }
 
-/// The command's report on a text within its limit, or the line of the text's first fault.
+/// The command's report on a text within its limit, or the line of the text's first fault, or that of a text that isn't
+/// solved yet.
 fn answer(alloc: Global, command: Command, text: &[u8]) -> Result<Report, Stop>
     requires command { HasValuesInRange command }
     requires few { length text.now ≤ 268435456 }
@@ -118,6 +121,7 @@ fn answer(alloc: Global, command: Command, text: &[u8]) -> Result<Report, Stop>
     match report_on(alloc, command, text) {
         Ok(report) => Ok(report),
         Err(TextError::Read(fault)) => faulty(alloc, fault),
+        Err(TextError::NotYet) => report(alloc, b"fault 0 NotYet\n", Status::ReadFault),
         Err(TextError::Memory) => Err(Stop::Memory),
     }
 }

@@ -51,18 +51,19 @@ fn gen_parser<'a>(alloc: Global) -> Result<Parser<'a>, NoMemory>
     with_argument(alloc, Parser::new(alloc, "gen"), "size")
 }
 
-/// The program with the two commands on goals and answers, for words without its name.
+/// The program with the commands on goals and answers, for words without its name.
 fn first_commands<'a>(alloc: Global) -> Result<Parser<'a>, NoMemory>
     ensures { IfOk result (λ c. app_of c
         ≡ spec.with_commands (spec.of_words (new_app (codes "denali")))
-        (spec.solve_app ∷ new_app (codes "check") ∷ [])) }
+        (spec.solve_app ∷ new_app (codes "check") ∷ new_app (codes "trim") ∷ [])) }
 {
     let solve = solve_parser(alloc)?;
     Parser::new(alloc, "denali")
         .no_binary_name(true)
         .subcommand_required(true)
         .subcommand(solve)?
-        .subcommand(Parser::new(alloc, "check"))
+        .subcommand(Parser::new(alloc, "check"))?
+        .subcommand(Parser::new(alloc, "trim"))
 }
 
 /// The program with all its commands.
@@ -146,6 +147,8 @@ fn command_in(matches: &ArgMatches<'_>) -> Option<Command>
         solve_in(matches)
     } else if name == "check" {
         Some(Command::Check)
+    } else if name == "trim" {
+        Some(Command::Trim)
     } else if name == "run" {
         Some(Command::Run)
     } else if name == "gen" {

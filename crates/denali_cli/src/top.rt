@@ -32,8 +32,10 @@ pub fn run<S: Source, T: Sink>(
     // equality that the printed rounds derive, and no schedule of it fits in fewer cycles, as the printed lines show
     // for one cycle less. Where none is found, lines show that none fits in the most cycles that were asked for. For
     // `check` the input reads as an answer, whoever wrote it, and the report is a line for each of its goals: `ok` only
-    // where what it claims of the printed graph is true. For `run` the input reads as a program, and the report is how
-    // it ends. For `gen` the report is the line of a right result of the goal that is made from the size.
+    // where what it claims of the printed graph is true. For `trim` the input reads as an answer too, and the report is
+    // that answer with its refutations trimmed, or the line of the first goal whose refutation is too large or refused.
+    // For `run` the input reads as a program, and the report is how it ends. For `gen` the report is the line of a right
+    // result of the goal that is made from the size.
     ensures right { (command : Asked) → asked_by words.now ≡ Some command → IsReported result → Works command
         (S.left source.old) (S.left source.new) (T.written sink.old) (T.written sink.new) result }
 

@@ -36,6 +36,8 @@ fn in_plain_form(words: &[&str]) -> Option<Command>
         Some(Command::Solve(settings_of(options)))
     } else if *name == "check" {
         alone(Command::Check, words)
+    } else if *name == "trim" {
+        alone(Command::Trim, words)
     } else if *name == "run" {
         alone(Command::Run, words)
     } else if *name == "gen" {

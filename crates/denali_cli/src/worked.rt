@@ -1,7 +1,7 @@
 // What some words ask for, by the definitions.
 ghost use Rattle.std.specs.Prelude.{◌≡◌, [], ◌∷◌, None, Some, codes};
 ghost use Rattle.denali_run.specs.declared.settings.Pick.TheVariants.{Last, Busy};
-ghost use Rattle.denali_cli.specs.Commands.{Solve, Check, Run, Gen};
+ghost use Rattle.denali_cli.specs.Commands.{Solve, Check, Trim, Run, Gen};
 ghost use Rattle.denali_cli.specs.OptionValues.{no_options, settings_of};
 ghost use Rattle.denali_cli.specs.Said.{command_of};
 ghost use Rattle.denali_cli.specs.Spellings.{spelled_command};
@@ -25,6 +25,8 @@ pub fn worked_words()
     ensures bare { spelled_command (codes "solve" ∷ []) ≡ command_of (codes "solve" ∷ []) }
     ensures checks { command_of (codes "check" ∷ []) ≡ Some Check }
     ensures no_option_of_checks { command_of (codes "check" ∷ codes "--cycles=3" ∷ []) ≡ None }
+    ensures trims { command_of (codes "trim" ∷ []) ≡ Some Trim }
+    ensures no_option_of_trims { command_of (codes "trim" ∷ codes "--cycles=3" ∷ []) ≡ None }
     ensures runs { command_of (codes "run" ∷ []) ≡ Some Run }
     ensures runs_behind_dashes { command_of (codes "run" ∷ codes "--" ∷ []) ≡ Some Run }
     ensures no_option_of_runs { command_of (codes "run" ∷ codes "--rounds" ∷ codes "3" ∷ []) ≡ None }

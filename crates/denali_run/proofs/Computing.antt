@@ -1,11 +1,12 @@
 -- The words of a schedule that fits compute the goal for which the graph stands.
-use Rattle.std.proofs.Common.{◌≡◌, ℕ, ◌∙◌, List, [], ◌∷◌, Option, Some, None, Bool, true, false, not, filter, find, map, length, slice_index, refl, sym, ap, subst, All, IsTrue, cond}
+use Rattle.std.proofs.Common.{◌≡◌, ℕ, ◌∙◌, List, get_or, [], ◌∷◌, Option, Some, None, Bool, true, false, not, filter, find, map, length, slice_index, refl, sym, ap, subst, All, IsTrue, cond}
 use Rattle.std.specs.Prelude.{IsSomeAnd, IfSome}
 use Rattle.std.specs.List.{AllZip}
 use Rattle.std.specs.Option.{option_map_or}
 use Rattle.std.proofs.lemmas.Bool.{false≢true}
 use Rattle.std.proofs.lemmas.Bool.Decides.{Decides-eqb}
 use Rattle.std.proofs.lemmas.List.Elements.{All-nil, All-cons, All-head, All-tail}
+use Rattle.std.proofs.lemmas.Option.{none-some}
 use Rattle.word_ops.specs.Worlds.{World, IsWorld, Value, word, memory}
 use Rattle.word_ops.specs.declared.sorts.Op.{Op}
 use Rattle.word_terms.specs.Tree.{Tree}
@@ -16,7 +17,7 @@ use Rattle.goal_meaning.specs.Outcomes.{NewValue, exit, fall, is_left, is_memory
 use Rattle.goal_meaning.specs.Views.{GoalTree, InputTree, TargetTree}
 use Rattle.goal_meaning.specs.declared.goals.InputReg.{InputReg}
 use Rattle.goal_meaning.specs.declared.goals.DeclaredOp.{DeclaredOp}
-use Rattle.graph_meaning.specs.Graphs.{is_memory_name}
+use Rattle.graph_meaning.specs.Graphs.{HasNoPins, IsPin, is_memory_name}
 use Rattle.graph_meaning.specs.declared.graphs.LaunchGraph.{LaunchGraph}
 use Rattle.graph_meaning.specs.declared.graphs.Guard.{Guard}
 use Rattle.graph_meaning.specs.declared.graphs.SetClass.{SetClass}
@@ -138,8 +139,11 @@ inputs_kept declared g R (c ∷ cs) (i ∷ is) z h =
 
 -- ---- both ends
 
-module _ (input : InputTree) (goal : GoalTree) (g : LaunchGraph) (stands : StandsFor input goal g) (items : List Item)
-    (words : List ℕ) (wheres : List Where) (right : DoesAsGraphSays g items words wheres) where
+module _ (input : InputTree) (goal : GoalTree) (g : LaunchGraph) (stands : StandsFor input goal g) (plain : HasNoPins g)
+    (items : List Item) (words : List ℕ) (wheres : List Where) (right : DoesAsGraphSays g items words wheres) where
+  no_pin : (r : ℕ) → ¬ IsPin g r
+  no_pin r pin = none-some r (sym (plain pin.0 pin.1 pin.2) ∙ ap (λ (s : SetClass). s.pin) pin.3 ∙ pin.4)
+
   ends_with : (world : World) (value : ℕ → Value) → HasValues input.ops goal g world value
       → Falls g world value words wheres
       → EndsWith goal world words wheres (new_words input.ops world goal.sets) (new_memory input.ops world goal.sets)
@@ -152,7 +156,7 @@ module _ (input : InputTree) (goal : GoalTree) (g : LaunchGraph) (stands : Stand
         ∙ memory_found input.ops g world value (λ r. word (slice_index f.state.registers r)) g.entry
         (memory world.memory_at_entry) has.rows.entry g.sets goal.sets stands.of.sets has.sets;
     inputs = inputs_kept input.ops g (λ r. slice_index f.state.registers r ≡ slice_index world.registers r) g.inputs
-        goal.inputs stands.of.inputs f.inputs;
+        goal.inputs stands.of.inputs (λ k d lt. f.inputs k d lt (no_pin (get_or g.inputs k d).reg));
   }
 
   leaves_by : (world : World) → Exits g world items words → LeavesByBranch goal world items words

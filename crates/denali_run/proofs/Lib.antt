@@ -20,3 +20,4 @@ pub mod SameRefutations
 pub mod SmallTexts
 pub mod TargetPlaces
 pub mod WorkedGoals
+pub mod UnpinnedGraphs

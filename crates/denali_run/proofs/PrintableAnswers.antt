@@ -27,7 +27,7 @@ use Rattle.denali_run.specs.declared.results.Matched.{Matched}
 use Rattle.denali_run.specs.declared.settings.Settings.{Settings}
 use Rattle.denali_run.proofs.SameLaunches.{IsPlaced, SlotsAreThere, are_placed}
 use Rattle.denali_run.proofs.SameRefutations.{AcceptedAreReadable, readable}
-use Rattle.denali_run.proofs.TargetPlaces.{RegistersAreLow, are_codes, are_places}
+use Rattle.denali_run.proofs.TargetPlaces.{are_codes, are_places}
 
 as_many : (goals : List GoalTree) (results : List Answered) (P : GoalTree → Answered → Type 0) → AllZip P goals results
     → length (goals_claimed goals results) ≡ length goals
@@ -36,14 +36,14 @@ as_many [] (r ∷ rs) P z = absurd z
 as_many (goal ∷ goals) [] P z = absurd z
 as_many (goal ∷ goals) (r ∷ rs) P z = ap suc (as_many goals rs P z.1)
 
-module _ (registers : RegistersAreLow) (slots : SlotsAreThere) (accepted : AcceptedAreReadable) (input : InputTree)
+module _ (slots : SlotsAreThere) (accepted : AcceptedAreReadable) (input : InputTree)
     (s : Settings) (is : IsInput input) (set : IsSettings s) where
   -- ---- parts of a claim
 
   launches_are : (ls : List Launch) → All (IsPlaced input.table) ls → AreLaunches input.table ls
   launches_are ls placed =
       All-weaker (IsPlaced input.table) (IsLaunch input.table)
-      (λ l at. (at.0, at.1, at.2, (let lt : l.slot < length input.table.slots = at.1 in let few = is.table.slots.1 in omega (arith, lt, few))))
+      (λ l at. (at.0, at.1, at.2, (let lt : l.slot < length input.table.slots = at.1 in let few = is.table.slots.1 in omega (arith, lt, few)), at.3))
       ls placed
 
   below : (f : ℕ → Formula) (g : LaunchGraph) (k : ℕ) (lines : Option Lines)
@@ -67,7 +67,7 @@ module _ (registers : RegistersAreLow) (slots : SlotsAreThere) (accepted : Accep
         → IsGraphClaim input.table claim → AreLinesBelow (refuted_below claim) lines
         → IsPrintableGoal input.table (claimed_on goal.name m claim lines)
     on_graph m claim lines matched on are =
-        worked named matched.graph
+        worked named matched.graph matched.unpinned
         (let few = matched.few in let most = set.nodes.1 in omega (arith, few, most, small))
         (let reached = matched.reached.0 in let most = set.rounds in omega (arith, reached, most)) on are
 
@@ -77,9 +77,9 @@ module _ (registers : RegistersAreLow) (slots : SlotsAreThere) (accepted : Accep
         on_graph f.matched (claims.Scheduled f.k f.schedule f.words f.listing.wheres) f.refutation right.0 (
           low,
           launches_are f.schedule.launches
-              (are_placed slots f.matched.graph input.table is.table right.0.graph.few f.k f.schedule.launches low right.2.fits),
+              (are_placed slots f.matched.graph input.table is.table right.0.graph.few right.0.unpinned f.k f.schedule.launches low right.2.fits),
           are_codes (instrs_of f.listing.items) f.words right.2.low right.2.words,
-          are_places registers f.matched.graph right.0.graph input.table f.schedule.launches f.listing.items
+          are_places f.matched.graph right.0.graph input.table f.schedule.launches f.listing.items
               f.listing.wheres right.2.listing.is,
         )
         (below right.3.clauses_for f.matched.graph f.k f.refutation right.3.holds.1.refuted)

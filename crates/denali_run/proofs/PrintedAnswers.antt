@@ -58,7 +58,7 @@ module _ (laws : Laws) where
     pub where_lines : (table : Table) (ls : List Launch) (items : List Item) (wheres : List Where)
         → IsListing g table ls items wheres → CanBeLines (map where_words wheres)
     where_lines table ls items wheres listing =
-        lines_of where_words IsPlace place_line wheres (are_places laws.registers g is table ls items wheres listing)
+        lines_of where_words IsPlace place_line wheres (are_places g is table ls items wheres listing)
 
   -- ---- launches and words
 
@@ -162,7 +162,7 @@ module _ (laws : Laws) where
         (a_line (number_line (codes "scheduled") f.k (record { some = λ e. cc; printed = refl }) low)
         (and_lines _
         (lines_of (launch_words input.table) (IsPlaced input.table) (launch_line input.table is.slots) f.schedule.launches
-        (are_placed laws.slots f.matched.graph input.table is.table right.0.graph.few f.k f.schedule.launches low
+        (are_placed laws.slots f.matched.graph input.table is.table right.0.graph.few right.0.unpinned f.k f.schedule.launches low
         right.2.fits))
         (and_lines _ (word_lines (instrs_of f.listing.items) f.words right.2.low right.2.words)
         (and_lines _

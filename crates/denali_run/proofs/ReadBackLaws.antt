@@ -18,7 +18,6 @@ use Rattle.denali_run.proofs.LinesApart.{PrintedAreLines, LinesAreOne}
 use Rattle.denali_run.proofs.SameGraphs.{GraphsAreOne}
 use Rattle.denali_run.proofs.SameLaunches.{SlotsAreThere}
 use Rattle.denali_run.proofs.SameRefutations.{AcceptedAreReadable, WordsAreOneLine}
-use Rattle.denali_run.proofs.TargetPlaces.{RegistersAreLow}
 
 pub record Laws : Type 0 where
   pub number : NumbersAreWords
@@ -30,7 +29,6 @@ pub record Laws : Type 0 where
   pub word_line : (word : ℕ) (instr : Instr) → word < 2 ^ 32 → decoded word ≡ Some instr → CanBeLine (word_words word)
   pub forth : (word : ℕ) (instr : Instr) → word < 2 ^ 32 → decoded word ≡ Some instr
       → IsWellFormed instr × (encoded instr ≡ word)
-  pub registers : RegistersAreLow
   pub graph_words : (g : LaunchGraph) → IsLaunchGraph g → All CanBeLine (graph_lines (said g))
   pub graphs : GraphsAreOne
   pub slots : SlotsAreThere

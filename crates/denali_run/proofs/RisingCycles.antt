@@ -18,6 +18,7 @@ use Rattle.cycle_encoding.specs.declared.encodings.Encoding.{Encoding}
 use Rattle.cycle_encoding.specs.declared.plans.EncodeFault.{EncodeFault}
 use Rattle.cycle_encoding.specs.declared.plans.EncodeFault.TheVariants.{Size, Memory}
 use Rattle.goal_meaning.specs.Views.{GoalTree, InputTree}
+use Rattle.graph_meaning.specs.Graphs.{HasNoPins}
 use Rattle.graph_meaning.specs.declared.graphs.LaunchGraph.{LaunchGraph}
 use Rattle.machine_table.specs.declared.tables.Table.{Table}
 use Rattle.order_encoding.specs.WholeFormula.{AreFormulas, formula_in}
@@ -76,14 +77,14 @@ module _ (input : InputTree) (goal : GoalTree) (s : Settings) where
       → IsTheListing f.matched.graph input.table f.schedule.launches f.listing.items f.listing.wheres
       → AreWordsOf f.listing.items f.words → All (λ word. word < 2 ^ 32) f.words
       → KeepsWord f.matched.graph input.table f.k f.listing.items f.listing.wheres
-      → StandsFor input goal f.matched.graph → IsScheduled input goal f
-  scheduled f fits listing words low keeps stands = record {
+      → StandsFor input goal f.matched.graph → HasNoPins f.matched.graph → IsScheduled input goal f
+  scheduled f fits listing words low keeps stands plain = record {
     fits = fits;
     listing = listing;
     words = words;
     low = low;
     obeys = keeps.obeys stands.of.proper;
-    computes = computes input goal f.matched.graph stands f.listing.items f.words f.listing.wheres
+    computes = computes input goal f.matched.graph stands plain f.listing.items f.words f.listing.wheres
         (keeps.right stands.of.proper f.words words);
   }
 
@@ -104,7 +105,8 @@ module _ (input : InputTree) (goal : GoalTree) (s : Settings) where
         few,
         scheduled f (at (λ t. Fits f.matched.graph t f.k f.schedule.launches) trial.1)
             (at (λ t. IsTheListing f.matched.graph t f.schedule.launches f.listing.items f.listing.wheres) listing) words low
-            (at (λ t. KeepsWord f.matched.graph t f.k f.listing.items f.listing.wheres) keeps) matched.stands,
+            (at (λ t. KeepsWord f.matched.graph t f.k f.listing.items f.listing.wheres) keeps) matched.stands
+            matched.unpinned,
         record {
           clauses_for = clauses_for;
           formulas = at (λ t. AreFormulas Narrow f.matched.graph t clauses_for) formulas;

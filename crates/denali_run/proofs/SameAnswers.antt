@@ -132,8 +132,8 @@ module _ (laws : Laws) where
         let launches = launches_once table is.table f.schedule.launches g.schedule.launches
         (map word_words f.words ++ (map where_words f.listing.wheres ++ (below_lines f.k f.refutation ++ x)))
         (map word_words g.words ++ (map where_words g.listing.wheres ++ (below_lines g.k g.refutation ++ y)))
-        (are_placed laws.slots f.matched.graph table is.table p.0.graph.few f.k f.schedule.launches low p.2.fits)
-        (are_placed laws.slots g.matched.graph table is.table o.0.graph.few g.k g.schedule.launches less o.2.fits)
+        (are_placed laws.slots f.matched.graph table is.table p.0.graph.few p.0.unpinned f.k f.schedule.launches low p.2.fits)
+        (are_placed laws.slots g.matched.graph table is.table o.0.graph.few o.0.unpinned g.k g.schedule.launches less o.2.fits)
         (no_launch f x apart) (no_launch g y alone) rest in
         let listed : IsListing f.matched.graph table f.schedule.launches g.listing.items g.listing.wheres =
         subst (λ m. IsListing m.graph table f.schedule.launches g.listing.items g.listing.wheres) (sym same)

@@ -6,6 +6,7 @@ use Rattle.std.proofs.lemmas.Bool.Decides.{Decides-eqb}
 use Rattle.std.proofs.lemmas.Fmt.{decimal_injective}
 use Rattle.std.proofs.lemmas.List.Elements.{All-head, All-tail}
 use Rattle.std.proofs.lemmas.Option.{slice_get-get_or, slice_get_past}
+use Rattle.graph_meaning.specs.Graphs.{HasNoPins}
 use Rattle.graph_meaning.specs.declared.graphs.Guard.{Guard}
 use Rattle.graph_meaning.specs.declared.graphs.LaunchGraph.{LaunchGraph}
 use Rattle.graph_meaning.specs.declared.graphs.LaunchRow.{LaunchRow}
@@ -16,16 +17,20 @@ use Rattle.machine_table.specs.declared.tables.Slot.{Slot}
 use Rattle.machine_table.specs.declared.tables.Table.{Table}
 use Rattle.schedule_meaning.specs.Fits.{Fits, CanLaunch, EndsBy}
 use Rattle.schedule_meaning.specs.Launches.{instr_at, op_instr}
+use Rattle.schedule_meaning.specs.Plain.{plain_instr_at}
+use Rattle.schedule_meaning.specs.declared.schedules.To.{To}
+use Rattle.schedule_meaning.specs.declared.schedules.To.TheVariants.{Pool}
 use Rattle.schedule_meaning.specs.declared.schedules.Launch.{Launch}
+use Rattle.schedule_meaning.proofs.Unpinned.{plain_rows, plain_where_fits}
 use Rattle.text_core.specs.LineTexts.{Words}
 use Rattle.answer_texts.specs.AnswerLines.{launch_words, slot_name}
 use Rattle.denali_run.proofs.SameParts.{head_same, rest_same, cons_same}
 
 -- ---- where launches are
 
--- in a cycle that can be printed, in a slot of the table, of a row that can be printed
+-- in a cycle that can be printed, in a slot of the table, of a row that can be printed, and to the pool
 abbrev pub IsPlaced : Table → Launch → Type 0
-IsPlaced table l = (l.cycle < 2 ^ 31) × (l.slot < length table.slots) × (l.row < 2 ^ 31)
+IsPlaced table l = (l.cycle < 2 ^ 31) × (l.slot < length table.slots) × (l.row < 2 ^ 31) × (l.to ≡ Pool)
 
 -- a slot that an instruction may use is one of the table's
 abbrev pub SlotsAreThere : Type 0
@@ -44,26 +49,29 @@ past_row g row i false d lt e =
     (sym (ap (λ (o : Option LaunchRow). option_and_then (λ (r : LaunchRow). op_instr g r.op r.operands) o)
     (slice_get_past g.rows row (omega (arith, lt)))) ∙ e)
 
-row_low : (g : LaunchGraph) (row : ℕ) (i : InstrKind) → instr_at g row ≡ Some i → row ≤ length g.rows
-row_low g row i e =
-    let no : ¬ (length g.rows < row) = λ lt. past_row g row i (row == length g.rows) (Decides-eqb row (length g.rows)) lt e in
+row_low : (g : LaunchGraph) → HasNoPins g → (row : ℕ) (i : InstrKind) → instr_at g row ≡ Some i → row ≤ length g.rows
+row_low g plain row i e =
+    let at : plain_instr_at g row ≡ Some i = sym (plain_rows g plain row).0 ∙ e in
+    let no : ¬ (length g.rows < row) = λ lt. past_row g row i (row == length g.rows) (Decides-eqb row (length g.rows)) lt at in
     omega (arith, no)
 
-module _ (there : SlotsAreThere) (g : LaunchGraph) (table : Table) (is : IsTable table) (few : length g.rows < 2 ^ 30) where
+module _ (there : SlotsAreThere) (g : LaunchGraph) (table : Table) (is : IsTable table) (few : length g.rows < 2 ^ 30) (plain : HasNoPins g) where
   by_instr : (l : Launch) (o : Option InstrKind) → instr_at g l.row ≡ o → IsSomeAnd o (λ i. MayUse table i l.slot)
       → (l.slot < length table.slots) × (l.row < 2 ^ 31)
   by_instr l None e may = absurd may
   by_instr l (Some i) e may =
-      (there table i l.slot is may, (let low : l.row ≤ length g.rows = row_low g l.row i e in omega (arith, low, few)))
+      (there table i l.slot is may, (let low : l.row ≤ length g.rows = row_low g plain l.row i e in omega (arith, low, few)))
 
-  placed : (k : ℕ) → k ≤ 24 → (l : Launch) → CanLaunch g table l → EndsBy g table k l → IsPlaced table l
-  placed k small l can ends =
+  placed : (k : ℕ) → k ≤ 24 → (l : Launch) → CanLaunch g table l → EndsBy g table k l → l.to ≡ Pool → IsPlaced table l
+  placed k small l can ends pool =
       let at = by_instr l (instr_at g l.row) refl can in
-      ((let by = ends in omega (arith, by, small)), at.0, at.1)
+      ((let by = ends in omega (arith, by, small)), at.0, at.1, pool)
 
   -- those of a schedule that fits
   pub are_placed : (k : ℕ) (ls : List Launch) → k ≤ 24 → Fits g table k ls → All (IsPlaced table) ls
-  are_placed k ls small fits = λ i d lt. placed k small (get_or ls i d) (fits.rows i d lt) (fits.in_time i d lt)
+  are_placed k ls small fits =
+      let pools : All (λ l. l.to ≡ Pool) ls = (plain_where_fits g plain table k ls fits).1 in
+      λ i d lt. placed k small (get_or ls i d) (fits.rows i d lt) (fits.in_time i d lt) (pools i d lt)
 
 -- ---- their lines
 
@@ -86,8 +94,8 @@ one_slot table s t is lt less e =
     let behind : ¬ (t < s) = λ b. is.names t s any_slot b lt (sym names) in
     omega (arith, before, behind)
 
-launch_of : ℕ → ℕ → ℕ → Launch
-launch_of cycle slot row = record { cycle = cycle; slot = slot; row = row }
+launch_of : ℕ → ℕ → ℕ → To → Launch
+launch_of cycle slot row to = record { cycle = cycle; slot = slot; row = row; to = to }
 
 one_launch : (table : Table) → IsTable table → (l m : Launch) → IsPlaced table l → IsPlaced table m
     → launch_words table l ≡ launch_words table m → l ≡ m
@@ -103,13 +111,14 @@ one_launch table is l m a b e =
     (decimal m.cycle ∷ other ∷ decimal m.row ∷ []) e in
     let behind = rest_same (decimal l.cycle) (decimal m.cycle) (name ∷ decimal l.row ∷ []) (other ∷ decimal m.row ∷ []) all in
     let last = rest_same name other (decimal l.row ∷ []) (decimal m.row ∷ []) behind in
-    ap (λ n. launch_of n l.slot l.row)
+    ap (λ n. launch_of n l.slot l.row l.to)
     (decimal_injective l.cycle m.cycle (omega arith) (omega arith)
     (head_same (decimal l.cycle) (decimal m.cycle) (name ∷ decimal l.row ∷ []) (other ∷ decimal m.row ∷ []) all))
-    ∙ ap (λ n. launch_of m.cycle n l.row)
+    ∙ ap (λ n. launch_of m.cycle n l.row l.to)
     (one_slot table l.slot m.slot is a.1 b.1 (head_same name other (decimal l.row ∷ []) (decimal m.row ∷ []) behind))
-    ∙ ap (λ n. launch_of m.cycle m.slot n)
+    ∙ ap (λ n. launch_of m.cycle m.slot n l.to)
     (decimal_injective l.row m.row (omega arith) (omega arith) (head_same (decimal l.row) (decimal m.row) [] [] last))
+    ∙ ap (launch_of m.cycle m.slot m.row) (a.3 ∙ sym b.3)
 
 -- the first of the lines is no launch
 abbrev pub BeginsNoLaunch : List Words → Type 0

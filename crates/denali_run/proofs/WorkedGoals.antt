@@ -15,6 +15,7 @@ use Rattle.goal_meaning.specs.Holds.{HoldsFor}
 use Rattle.goal_meaning.specs.Names.{declared_name}
 use Rattle.goal_meaning.specs.Views.{GoalTree, InputTree, goal_view}
 use Rattle.goal_meaning.specs.declared.goals.Goal.{Goal}
+use Rattle.graph_meaning.specs.Graphs.{HasNoPins}
 use Rattle.graph_meaning.specs.WellFormed.{IsLaunchGraph}
 use Rattle.graph_meaning.specs.declared.graphs.LaunchRow.{LaunchRow}
 use Rattle.saturation.specs.GraphStands.{GraphStands, RulesHold}
@@ -107,7 +108,7 @@ module _ (input : InputTree) (goal : GoalTree) (s : Settings) (rules_true : Rule
 
     pub matched_is : (after : Graph Op) (m : Matched)
         → IsSaturated (rules_of input) graph s.rounds s.nodes after m.rounds m.stop → m.rounds ≤ s.rounds
-        → IsLaunchGraph m.graph → StandsFor input goal m.graph → length m.graph.rows ≤ max (most_rows_at_start goal) s.nodes
+        → IsLaunchGraph m.graph → HasNoPins m.graph → StandsFor input goal m.graph → length m.graph.rows ≤ max (most_rows_at_start goal) s.nodes
         → (IsGrown (rules_of input) (present_terms goal) (assumed_pairs goal) after m.rounds
         → IsGrown (rules_of input) (present_terms goal) (assumed_pairs goal) (graph_view input.ops m.graph) m.rounds)
         → (StopIs (rules_of input) after s.rounds s.nodes m.rounds m.stop
@@ -115,10 +116,11 @@ module _ (input : InputTree) (goal : GoalTree) (s : Settings) (rules_true : Rule
         → ((i a b : ℕ) → IsGrown (rules_of input) (present_terms goal) (assumed_pairs goal) after m.rounds → i ≤ m.rounds
         → IsClashOf input goal i a b → ⊥)
         → IsMatched input goal s m
-    matched_is after m saturated few well_formed stands_for few_rows keeps_grown keeps_stop no_clash =
+    matched_is after m saturated few well_formed unpinned stands_for few_rows keeps_grown keeps_stop no_clash =
         let h = saturated.after.grown (present_terms goal) (assumed_pairs goal) grown in
         record {
           graph = well_formed;
+          unpinned = unpinned;
           stands = stands_for;
           grown = keeps_grown h.0;
           reached = (few, h.1);

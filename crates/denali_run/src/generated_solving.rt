@@ -13,8 +13,8 @@ use crate::settings::{Pick, Settings};
 use crate::statuses::Status;
 use crate::text_solving::solve_input;
 use generated_goals::{
-    generated, generated_goals_can_be_scheduled, generated_goals_have_a_world,
-    generated_inputs_are_well_formed,
+    generated, generated_goals_are_unpinned, generated_goals_can_be_scheduled,
+    generated_goals_have_a_world, generated_inputs_are_well_formed,
 };
 use items::NoMemory;
 use std::alloc::Global;
@@ -106,6 +106,7 @@ pub fn gen_text(alloc: Global, size: u32) -> Result<Report, NoMemory>
     ensures answered { IfOk result (λ report. AnswersGenerated size report.bytes.items report.status) }
 {
     generated_inputs_are_well_formed();
+    generated_goals_are_unpinned();
     let settings = generated_settings();
     let input = generated(alloc, size)?;
     let results = solve_input(alloc, &input, &settings)?;

@@ -1,5 +1,6 @@
 // The work on one goal: its graph, rounds of matching, and then cycles in rising order until they are enough.
 ghost use Rattle.std.specs.Prelude.{◌≡◌, ◌<◌, length, IfOk, Some, slice_get};
+ghost use Rattle.goal_meaning.specs.Unpinned.{AreUnpinned};
 ghost use Rattle.goal_meaning.specs.Views.{GoalTree, InputTree, input_view};
 ghost use Rattle.goal_meaning.specs.WellFormed.{IsInput};
 ghost use Rattle.saturation.specs.GoalTerms.{rules_of};
@@ -49,6 +50,7 @@ pub fn solve_goal<F: Rule>(
     picker: &Picker<F>,
 ) -> Result<Answered, NoMemory>
     requires input { IsInput (input_view input.now) }
+    requires unpinned { AreUnpinned (input_view input.now) }
     requires at { at < length input.now.goals }
     requires settings { IsSettings settings.now }
     ensures right { IfOk result (λ answered. (goal : GoalTree) → slice_get (input_view input.now).goals at ≡ Some goal
@@ -68,6 +70,7 @@ pub(crate) fn solve_by_rules<F: Rule>(
     picker: &Picker<F>,
 ) -> Result<Answered, NoMemory>
     requires input { IsInput (input_view input.now) }
+    requires unpinned { AreUnpinned (input_view input.now) }
     requires rules { rules.now.program ≡ rules_of (input_view input.now) }
     requires at { at < length input.now.goals }
     requires settings { IsSettings settings.now }

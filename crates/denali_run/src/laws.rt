@@ -13,7 +13,7 @@ ghost use Rattle.denali_run.specs.declared.settings.Settings.{Settings as Settin
 
 use alpha_encode::words_and_instructions;
 use answer_texts::{printed_answers_are_read, word_lines_can_be_lines};
-use launch_graph::{graphs_are_consistent, one_graph, printed_graphs_are_lines};
+use launch_graph::{one_graph, printed_graphs_are_lines};
 use machine_table::tables_keep_limits;
 use refutation_check::printed_lines_are_read_back;
 use text_core::{one_splitting, printed_lines_are_lines};
@@ -28,7 +28,6 @@ pub fn one_text_has_one_answer()
         → answer_text e input results ≡ answer_text e input others → results ≡ others }
 {
     words_and_instructions();
-    graphs_are_consistent();
     printed_graphs_are_lines();
     one_graph();
     tables_keep_limits();
@@ -47,7 +46,6 @@ pub fn right_answers_are_read()
         → ReadsAnswer (answer_text Narrow input results) (answer_to Narrow input results) }
 {
     printed_answers_are_read();
-    graphs_are_consistent();
     tables_keep_limits();
     printed_lines_are_read_back();
 }

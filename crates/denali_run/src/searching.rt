@@ -2,6 +2,7 @@
 ghost use Rattle.std.specs.Prelude.{◌≡◌, ◌≤◌, IfOk};
 ghost use Rattle.cycle_encoding.specs.Encodings.{IsScope};
 ghost use Rattle.goal_meaning.specs.Views.{GoalTree, InputTree};
+ghost use Rattle.graph_meaning.specs.Graphs.{HasNoPins};
 ghost use Rattle.graph_meaning.specs.WellFormed.{IsLaunchGraph};
 ghost use Rattle.machine_table.specs.Tables.{IsTable};
 ghost use Rattle.order_encoding.specs.WholeFormula.{formula_in};
@@ -58,6 +59,7 @@ pub(crate) fn try_cycles<F: Rule>(
     requires cycles { k ≤ 24 }
     requires table { IsTable table.now }
     requires graph { IsLaunchGraph graph.now }
+    requires unpinned { HasNoPins graph.now }
     requires facts { facts.now ≡ graph.now }
     requires scope { IsScope Narrow facts.now table.now scope.now }
     requires conflicts { (1 ≤ conflicts) × (conflicts ≤ 1000000) }
@@ -118,6 +120,7 @@ fn reach<F: Rule>(
     requires table { IsTable table.now }
     requires settings { IsSettings settings.now }
     requires graph { IsLaunchGraph graph.now }
+    requires unpinned { HasNoPins graph.now }
     ensures { IfOk result (IsTrialsEndIn Narrow graph.now table.now settings.now) }
 {
     let facts = Facts::new(alloc, graph)?;
@@ -138,6 +141,7 @@ fn reach_in<F: Rule>(
     requires table { IsTable table.now }
     requires settings { IsSettings settings.now }
     requires graph { IsLaunchGraph graph.now }
+    requires unpinned { HasNoPins graph.now }
     requires facts { facts.now ≡ graph.now }
     requires scope { IsScope Narrow facts.now table.now scope.now }
     ensures { IfOk result (IsTrialsEnd (formula_in scope.now facts.now table.now) graph.now table.now settings.now) }
@@ -202,6 +206,7 @@ pub(crate) fn search<F: Rule>(
     requires table { IsTable table.now }
     requires settings { IsSettings settings.now }
     requires graph { IsLaunchGraph matched.graph }
+    requires unpinned { HasNoPins matched.graph }
     ensures { IfOk result (λ answered. (input : InputTree) (goal : GoalTree) → input.table ≡ table.now
         → IsMatched input goal settings.now matched → Right Narrow input goal settings.now answered) }
 {

@@ -1,14 +1,17 @@
--- What the families say holds of the launches of a schedule that fits, with what its launches make held and taken.
+-- What the families say holds of the launches of a schedule that fits without pins, with what its launches make held
+-- and taken.
 use Rattle.std.proofs.Common.{◌≡◌, ℕ, suc, ◌+◌, ◌<◌, ◌≤◌, Bool, true, false, not, cond, List, [], ◌∷◌, length, get_or, refl, sym, ap, ◌∙◌, subst, arith, inl, inr, ◌⊎◌, Option, Some, None}
 use Rattle.std.specs.Prelude.{◌||◌, ◌&&◌, ◌==◌, ◌↔◌, nat_le, is_some, IsTrue, Contains, IfSome}
 use Rattle.std.specs.List.{All, AllPairs, filter, list_any, count_by, range_with_len}
 use Rattle.std.proofs.lemmas.Bool.{false≢true, cases_Bool, eqb-true, eqb-false, eq-eqb, le-leb, and_parts, and_from, or_cases, or_left, or_right, not-true}
 use Rattle.std.proofs.lemmas.List.Sums.{sum_by-le-sum_by}
 use Rattle.std.proofs.lemmas.List.Elements.{All-contains, Contains-get_or}
-use Rattle.graph_meaning.specs.Graphs.{memory_target}
+use Rattle.graph_meaning.specs.Graphs.{memory_target, HasNoPins}
 use Rattle.graph_meaning.specs.WellFormed.{IsLaunchGraph, next_class}
-use Rattle.schedule_meaning.specs.Launches.{launches, gives_word, is_store, is_load, is_branch, is_held, class_at, memory_class_at, memory_before}
-use Rattle.schedule_meaning.specs.Fits.{Collide, IsLatestStore, IsLeft, Fits}
+use Rattle.schedule_meaning.specs.Launches.{launches, gives_word, is_store, is_load, is_branch, is_held, class_at}
+use Rattle.schedule_meaning.specs.Launches.{memory_class_at, memory_before}
+use Rattle.schedule_meaning.specs.Fits.{Collide, IsLatestStore, IsLeft}
+use Rattle.schedule_meaning.specs.Plain.{FitsWithoutPins}
 use Rattle.machine_table.specs.declared.tables.Table.{Table}
 use Rattle.graph_meaning.specs.declared.graphs.LaunchGraph.{LaunchGraph}
 use Rattle.graph_meaning.specs.declared.graphs.Guard.{Guard}
@@ -78,7 +81,7 @@ module _ (g : LaunchGraph) (table : Table) (k : ℕ) (ls : List Launch) where
   abbrev pub taken : List Taken
   taken = filter taken_now (all_taken table k)
 
-  module _ (S : List Launch) (same : SameLaunches table k ls S) (is_graph : IsLaunchGraph g) (fit : Fits g table k ls) where
+  module _ (S : List Launch) (same : SameLaunches table k ls S) (is_graph : IsLaunchGraph g) (fit : FitsWithoutPins g table k ls) where
     -- ---- the same launches
 
     launched-out : (l : Launch) → Contains S l → Contains ls l
@@ -184,8 +187,8 @@ module _ (g : LaunchGraph) (table : Table) (k : ℕ) (ls : List Launch) where
                 or_right (list_any (λ c. c == t) stored) (list_any (is_held_at m.class (t + 1)) held) (held_one m.class (t + 1) (held-out g table k m f'.0).0 (omega arith) (left_on t m.class lt f now)))
           ]
 
-      pub memories : SaysMemory g table k S held stored
-      memories = record {
+      pub memories : HasNoPins g → SaysMemory g table k S held stored
+      memories plain = record {
         entry = held_one g.entry 0 (memory_in g.entry (memory-sort g g.entry is_graph.entry)) (omega arith) at_first;
         others = All-from_members (λ m. ((m.cycle == 0) && not (m.class == g.entry)) ≡ true → ⊥) held (λ m h t.
             let p = and_parts (m.cycle == 0) (not (m.class == g.entry)) t in
@@ -198,11 +201,11 @@ module _ (g : LaunchGraph) (table : Table) (k : ℕ) (ls : List Launch) where
             let from = launched-out l h in
             let early : l.cycle < k = (place l h).1 in
             let is : IsLeft g ls l.cycle (memory_class_at g l.row) = All-contains (λ l. IsTrue (launches g is_load l) ⊎ IsTrue (launches g is_store l) → IsLeft g ls l.cycle (memory_class_at g l.row)) ls l fit.memory.each from (elim (or_cases (launches g is_load l) (launches g is_store l) u) [ inl a ↦ inl a | inr b ↦ inr b ]) in
-            held_one (memory_class_at g l.row) l.cycle (memory_in (memory_class_at g l.row) (read-launch g is_graph l u)) (omega arith) is);
+            held_one (memory_class_at g l.row) l.cycle (memory_in (memory_class_at g l.row) (read-launch g plain is_graph l u)) (omega arith) is);
         leaves = All-from_members (λ l. launches g is_store l ≡ true → (list_any (is_held_at (class_at g l.row) (l.cycle + 1)) held ≡ true) × (list_any (λ t. t == l.cycle) stored ≡ true)) S (λ l h s.
             let from = launched-out l h in
             let early : l.cycle < k = (place l h).1 in (
-              held_one (class_at g l.row) (l.cycle + 1) (memory_in (class_at g l.row) (store-launch g l s)) (omega arith) (after_store l from s),
+              held_one (class_at g l.row) (l.cycle + 1) (memory_in (class_at g l.row) (store-launch g plain l s)) (omega arith) (after_store l from s),
               in_stored l.cycle early (some_in (stores_at g l.cycle) ls l from (and_from (launches g is_store l) (l.cycle == l.cycle) s (eq-eqb l.cycle l.cycle refl))),
             ));
         stored = All-from_members (λ t. All (λ c. (c == t) ≡ true → list_any (stores_at g t) S ≡ true) stored) (range_with_len 0 k) (λ t ht. All-from_members (λ c. (c == t) ≡ true → list_any (stores_at g t) S ≡ true) stored (λ c hc e.

@@ -1,6 +1,5 @@
 -- What holds of a formula over what a scope gives variables holds over each list of its encoding.
 use Rattle.std.proofs.Common.{◌≡◌, ◌≤◌, ℕ, sym, subst}
-use Rattle.cnf_core.specs.Formula.{Formula}
 use Rattle.graph_meaning.specs.declared.graphs.LaunchGraph.{LaunchGraph}
 use Rattle.machine_table.specs.declared.tables.Table.{Table}
 use Rattle.cycle_encoding.specs.CycleFormula.{Listed, Scope, listed_in}

@@ -1,4 +1,4 @@
--- Each schedule that fits is what some values show that satisfy the whole formula.
+-- Each schedule that fits without pins is what some values show that satisfy the whole formula.
 use Rattle.std.proofs.Common.{◌≡◌, ℕ, ◌+◌, ◌≤◌, Bool, true, false, List, [], ◌∷◌, ◌++◌, length, get_or, refl, sym, ◌∙◌, subst, arith}
 use Rattle.std.specs.Prelude.{◌==◌, is_some, Contains, ◌↔◌}
 use Rattle.std.specs.List.{All, count_by, range_with_len}
@@ -7,9 +7,11 @@ use Rattle.std.proofs.lemmas.List.FromFn.{length-range_with_len}
 use Rattle.cnf_core.specs.declared.literal.Lit.{Lit}
 use Rattle.cnf_core.specs.Formula.{Satisfies}
 use Rattle.cnf_core.specs.Counter.{count_true, Extends, HasExtension}
+use Rattle.graph_meaning.specs.Graphs.{HasNoPins}
 use Rattle.graph_meaning.specs.WellFormed.{IsLaunchGraph}
 use Rattle.schedule_meaning.specs.Launches.{launches, is_branch, memory_before}
-use Rattle.schedule_meaning.specs.Fits.{Fits, IsLeft}
+use Rattle.schedule_meaning.specs.Fits.{IsLeft}
+use Rattle.schedule_meaning.specs.Plain.{FitsWithoutPins}
 use Rattle.machine_table.specs.declared.tables.Table.{Table}
 use Rattle.graph_meaning.specs.declared.graphs.LaunchGraph.{LaunchGraph}
 use Rattle.schedule_meaning.specs.declared.schedules.Launch.{Launch}
@@ -98,7 +100,7 @@ record Made (g : LaunchGraph) (table : Table) (k : ℕ) (ls : List Launch) (e : 
   branch : Satisfies values (counters (before_branch g table k e) 1 (branch_groups g (launch_vars g table k e)))
   pool : Satisfies values (counters (before_pool g table k e) (length g.pool) (register_groups (taken_vars g table k e)))
 
-module _ (exact : AreExact) (g : LaunchGraph) (table : Table) (k : ℕ) (e : Listed) (is_graph : IsLaunchGraph g) (ls : List Launch) (fit : Fits g table k ls)
+module _ (exact : AreExact) (g : LaunchGraph) (table : Table) (k : ℕ) (e : Listed) (is_graph : IsLaunchGraph g) (plain : HasNoPins g) (ls : List Launch) (fit : FitsWithoutPins g table k ls)
     (left : (t : ℕ) → IsLeft g ls t (memory_before g ls t)) (once : (t a b : ℕ) → IsLeft g ls t a → IsLeft g ls t b → a ≡ b)
     (v3 : ℕ → Bool) (same : SameLaunches table k ls (shown v3 (launch_vars g table k e))) where
   abbrev S : List Launch
@@ -171,7 +173,7 @@ module _ (exact : AreExact) (g : LaunchGraph) (table : Table) (k : ℕ) (e : Lis
       let ws = store_vars g table k e in
       let bs = come_vars g table k e in
       let us = taken_vars g table k e in
-      let says2 : SaysMemory g table k (shown v xs) (shown v ms) (shown v ws) = subst (λ S. SaysMemory g table k S (shown v ms) (shown v ws)) (sym m.launched_is) (subst (λ M. SaysMemory g table k S M (shown v ws)) (sym m.held_is) (subst (λ W. SaysMemory g table k S (held g table k ls) W) (sym m.stored_is) (memories g table k ls S same is_graph fit left once))) in
+      let says2 : SaysMemory g table k (shown v xs) (shown v ms) (shown v ws) = subst (λ S. SaysMemory g table k S (shown v ms) (shown v ws)) (sym m.launched_is) (subst (λ M. SaysMemory g table k S M (shown v ws)) (sym m.held_is) (subst (λ W. SaysMemory g table k S (held g table k ls) W) (sym m.stored_is) (memories g table k ls S same is_graph fit left once plain))) in
       let says3 : SaysGuard g table k (shown v xs) (shown v bs) = subst (λ S. SaysGuard g table k S (shown v bs)) (sym m.launched_is) (subst (λ B. SaysGuard g table k S B) (sym m.come_is) (guards g table k ls S same is_graph fit)) in
       let says4 : SaysRegisters g table k (shown v xs) (shown v us) = subst (λ S. SaysRegisters g table k S (shown v us)) (sym m.launched_is) (subst (λ U. SaysRegisters g table k S U) (sym m.taken_is) (registers g table k ls S same is_graph fit)) in
       let c5 = entry_clauses g ms in
@@ -192,13 +194,13 @@ module _ (exact : AreExact) (g : LaunchGraph) (table : Table) (k : ℕ) (e : Lis
       both v (cycle_part g table k e ++ memory_part g table k e ++ guard_part g table k e) (pool_part g table k e) (both v (cycle_part g table k e ++ memory_part g table k e) (guard_part g table k e) (both v (cycle_part g table k e) (memory_part g table k e) p1 p2) p3) p4
 
 -- what is shown in the formula of cycles, slots and values is shown in the whole one, where it fits
-pub complete : AreExact → (g : LaunchGraph) (table : Table) (k : ℕ) (e : Listed) → IsLaunchGraph g → (ls : List Launch) → Fits g table k ls → ((t : ℕ) → IsLeft g ls t (memory_before g ls t)) → ((t a b : ℕ) → IsLeft g ls t a → IsLeft g ls t b → a ≡ b)
+pub complete : AreExact → (g : LaunchGraph) (table : Table) (k : ℕ) (e : Listed) → IsLaunchGraph g → HasNoPins g → (ls : List Launch) → FitsWithoutPins g table k ls → ((t : ℕ) → IsLeft g ls t (memory_before g ls t)) → ((t a b : ℕ) → IsLeft g ls t a → IsLeft g ls t b → a ≡ b)
     → SayRules g table k e → HavePlaces g table k → AreShown g table k e ls
     → (v : ℕ → Bool) × Satisfies v (whole_formula g table k e).clauses × ((l : Launch) → Contains (shown v (launch_vars g table k e)) l ↔ Contains ls l)
-complete exact g table k e is_graph ls fit left once cycles places here =
+complete exact g table k e is_graph plain ls fit left once cycles places here =
     let v = here.values in
     let alike : Extends (after_cycles g table k e) v v = λ x le. refl in
     let rules = cycles v (here.satisfy v alike) in
     let same = shown-same g table k ls (shown v (launch_vars g table k e)) (here.show v alike) rules (places (shown v (launch_vars g table k e)) rules) in
-    let m = made exact g table k e is_graph ls fit left once v same in
-    (m.values, satisfied exact g table k e is_graph ls fit left once v same m (here.satisfy m.values m.extends), here.show m.values m.extends)
+    let m = made exact g table k e is_graph plain ls fit left once v same in
+    (m.values, satisfied exact g table k e is_graph plain ls fit left once v same m (here.satisfy m.values m.extends), here.show m.values m.extends)

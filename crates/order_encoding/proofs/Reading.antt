@@ -1,4 +1,4 @@
--- Values that satisfy the whole formula show a schedule that fits.
+-- Values that satisfy the whole formula show a schedule that fits without pins, all of whose launches go to the pool.
 use Rattle.std.proofs.Common.{◌≡◌, ℕ, ◌+◌, ◌<◌, ◌≤◌, Bool, true, false, List, [], ◌∷◌, ◌++◌, length, get_or, arith}
 use Rattle.std.specs.Prelude.{◌==◌, is_some}
 use Rattle.std.specs.List.{All, count_by, range_with_len}
@@ -7,9 +7,10 @@ use Rattle.cnf_core.specs.declared.literal.Lit.{Lit}
 use Rattle.cnf_core.specs.Formula.{Satisfies, AreOver, IsLitOf}
 use Rattle.cnf_core.specs.Counter.{count_true}
 use Rattle.schedule_meaning.specs.Launches.{launches, is_branch}
-use Rattle.schedule_meaning.specs.Fits.{Fits}
+use Rattle.schedule_meaning.specs.Plain.{FitsWithoutPins}
 use Rattle.machine_table.specs.declared.tables.Table.{Table}
 use Rattle.graph_meaning.specs.declared.graphs.LaunchGraph.{LaunchGraph}
+use Rattle.schedule_meaning.specs.declared.schedules.To.TheVariants.{Pool}
 use Rattle.schedule_meaning.specs.declared.schedules.Launch.{Launch}
 use Rattle.cycle_encoding.specs.Shapes.{vars_of, shown, when, counters}
 use Rattle.order_encoding.specs.OrderVariables.{Held, all_held, all_taken}
@@ -91,7 +92,7 @@ module _ (g : LaunchGraph) (table : Table) (k : ℕ) (e : Listed) where
 
   -- ---- the whole
 
-  pub fits : AreExact → SayRules g table k e → HavePlaces g table k → (v : ℕ → Bool) → Satisfies v (whole_formula g table k e).clauses → Fits g table k (shown v xs)
+  pub fits : AreExact → SayRules g table k e → HavePlaces g table k → (v : ℕ → Bool) → Satisfies v (whole_formula g table k e).clauses → FitsWithoutPins g table k (shown v xs) × All (λ l. l.to ≡ Pool) (shown v xs)
   fits exact cycles places v h =
       let ms = held_vars g table k e in
       let ws = store_vars g table k e in
@@ -148,8 +149,9 @@ module _ (g : LaunchGraph) (table : Table) (k : ℕ) (e : Listed) where
       let taken = registers-out g table k v xs us (left v c15 c16 q4) in
       let few16 = counters-out exact (length g.pool) (before_pool g table k e) (before_pool g table k e) v (register_groups us) (omega arith) pool-over (right v c15 c16 q4) in
       let pooled : count_by any (shown v us) ≤ length g.pool = few-out v any us (length g.pool) (All-head (λ c. count_true v c ≤ length g.pool) (vars_of any us) [] few16) in
-      fits_where g table k (shown v xs) below rules
+      let fit = fits_where g table k (shown v xs) below rules
       (keeps g table k (shown v xs) below (shown v ms) (shown v ws) memories (held-few v few8) (stores-few v few8))
       (one_branch g table k (shown v xs) below (shown v bs) guards few12)
       (after_branch g table k (shown v xs) below (shown v bs) guards few12)
-      (in_pool g table k (shown v xs) below (shown v us) taken pooled rules.apart)
+      (in_pool g table k (shown v xs) below (shown v us) taken pooled rules.apart) in
+      (fit, rules.to_pool)

@@ -1,4 +1,5 @@
--- Launches that keep the rules of cycles, slots and values, and of which the families hold, make a schedule that fits.
+-- Launches that keep the rules of cycles, slots and values, and of which the families hold, make a schedule that fits
+-- without pins.
 use Rattle.std.proofs.Common.{◌≡◌, ℕ, suc, zero, ◌+◌, ◌<◌, ◌≤◌, Bool, true, false, List, length, get_or, refl, sym, ap, ◌∙◌, subst, arith, inl, inr, ◌⊎◌, Option, Some, None}
 use Rattle.std.specs.Prelude.{◌||◌, ◌&&◌, ◌==◌, nat_le, is_some, IsTrue, Contains, IfSome}
 use Rattle.std.specs.List.{All, AllPairs, list_any, count_by}
@@ -6,8 +7,10 @@ use Rattle.std.proofs.lemmas.Bool.{false≢true, cases_Bool, eqb-true, eqb-false
 use Rattle.std.proofs.lemmas.List.Sums.{sum_by-le}
 use Rattle.std.proofs.lemmas.List.Elements.{All-contains, Contains-get_or}
 use Rattle.graph_meaning.specs.Graphs.{memory_target}
-use Rattle.schedule_meaning.specs.Launches.{launches, gives_word, is_store, is_load, is_branch, is_held, class_at, memory_class_at}
-use Rattle.schedule_meaning.specs.Fits.{Collide, IsLatestStore, IsLeft, UsesMemory, KeepsMemory, HasOneBranch, Waits, Fits}
+use Rattle.schedule_meaning.specs.Launches.{launches, gives_word, is_store, is_load, is_branch, is_held, class_at}
+use Rattle.schedule_meaning.specs.Launches.{memory_class_at}
+use Rattle.schedule_meaning.specs.Fits.{Collide, IsLatestStore, IsLeft, UsesMemory, KeepsMemory, HasOneBranch}
+use Rattle.schedule_meaning.specs.Plain.{WaitsPlain, FitsWithoutPins}
 use Rattle.machine_table.specs.declared.tables.Table.{Table}
 use Rattle.graph_meaning.specs.declared.graphs.LaunchGraph.{LaunchGraph}
 use Rattle.graph_meaning.specs.declared.graphs.Guard.{Guard}
@@ -181,7 +184,7 @@ module _ (g : LaunchGraph) (table : Table) (k : ℕ) (S : List Launch) (below : 
     waits_is l (inl a) = or_left (launches g is_store l) (launches g is_load l && is_held g) a
     waits_is l (inr b) = or_right (launches g is_store l) (launches g is_load l && is_held g) (and_from (launches g is_load l) (is_held g) b.0 b.1)
 
-    pub after_branch : All (Waits g S) S
+    pub after_branch : All (WaitsPlain g S) S
     after_branch i d lt w j e len isb =
         let l = get_or S i d in
         let b = get_or S j e in
@@ -218,7 +221,7 @@ module _ (g : LaunchGraph) (table : Table) (k : ℕ) (S : List Launch) (below : 
         let c = count-any U in
         omega arith
 
-  pub fits_where : KeepsCycleRules g table k S → KeepsMemory g S → HasOneBranch g S → All (Waits g S) S → count_by (launches g gives_word) S ≤ length g.pool → Fits g table k S
+  pub fits_where : KeepsCycleRules g table k S → KeepsMemory g S → HasOneBranch g S → All (WaitsPlain g S) S → count_by (launches g gives_word) S ≤ length g.pool → FitsWithoutPins g table k S
   fits_where rules memory branch after pool = record {
     rows = rules.rows;
     apart = rules.apart;

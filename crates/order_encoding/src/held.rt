@@ -14,7 +14,6 @@ ghost use Rattle.order_encoding.specs.OrderSteps.{AreHeldVars, held_at, held_bef
 use cnf_core::{Cnf, Lit, at_most_one, counters_count};
 use cycle_encoding::{Facts, add_implied, next_class};
 use items::NoMemory;
-use schedule_meaning::memory_target;
 use std::alloc::Global;
 
 /// The variables of memories that are held in the cycles from 0 to `cycles`: by class, then by cycle, after `first`.
@@ -187,7 +186,7 @@ pub fn add_last(cnf: &mut Cnf, facts: &Facts, held: &HeldVars) -> Result<(), NoM
     ensures { OnOk result (cnf.new ≡ with_clauses cnf.old
         (last_clauses facts.now held.now.cycles (numbered held.now.first (all_held facts.now held.now.cycles)))) }
 {
-    let target = memory_target(facts.graph());
+    let target = facts.graph().memory_target();
     add_option(cnf, held_var(held, facts, target, held.cycles))
 }
 

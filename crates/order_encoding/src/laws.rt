@@ -4,6 +4,7 @@ ghost use Rattle.std.specs.List.{filter};
 ghost use Rattle.cnf_core.specs.Formula.{Satisfies};
 ghost use Rattle.machine_table.specs.Tables.{IsTable, ev6};
 ghost use Rattle.machine_table.specs.declared.tables.Table.{Table as TableOf};
+ghost use Rattle.graph_meaning.specs.Graphs.{HasNoPins};
 ghost use Rattle.graph_meaning.specs.WellFormed.{IsLaunchGraph};
 ghost use Rattle.graph_meaning.specs.declared.graphs.LaunchGraph.{LaunchGraph as Graph};
 ghost use Rattle.schedule_meaning.specs.Fits.{Fits};
@@ -22,64 +23,67 @@ ghost use Rattle.order_encoding.specs.Worked.{one_sum_clauses, one_sum_graph, su
 
 use cnf_core::counters_count;
 use cycle_encoding::{cycle_clauses_say_rules, cycle_counts_are_found, narrow_parts_keep_rules};
-use schedule_meaning::memories_are_left;
+use schedule_meaning::{memories_are_left, pins_may_be_absent};
 
-/// Values that satisfy the whole formula show a schedule that fits; and each schedule that fits, with useless and
-/// repeated launches, is what some values show that satisfy it.
+/// Where no set of the graph has a pin, values that satisfy the whole formula show a schedule that fits; and each
+/// schedule that fits, with useless and repeated launches, is what some values show that satisfy it.
 pub fn clauses_say_fits()
-    ensures shown { (g : Graph) (table : TableOf) (k : ℕ) (v : ℕ → Bool) → IsTable table
+    ensures shown { (g : Graph) (table : TableOf) (k : ℕ) (v : ℕ → Bool) → IsTable table → HasNoPins g
         → Satisfies v (whole_formula g table k (wide g table k)).clauses
         → Fits g table k (shown v (launch_vars g table k (wide g table k))) }
     ensures each { (g : Graph) (table : TableOf) (k : ℕ) (ls : List LaunchOf) → IsTable table → IsLaunchGraph g
-        → Fits g table k ls
+        → HasNoPins g → Fits g table k ls
         → (v : ℕ → Bool) × Satisfies v (whole_formula g table k (wide g table k)).clauses
         × ((l : LaunchOf) → Contains (shown v (launch_vars g table k (wide g table k))) l ↔ Contains ls l) }
 {
     counters_count();
     memories_are_left();
+    pins_may_be_absent();
     cycle_clauses_say_rules();
 }
 
-/// A schedule that fits does so without its launches that have no variables in the narrow encoding; the others have
-/// variables.
+/// Where no set of the graph has a pin, a schedule that fits does so without its launches that have no variables in the
+/// narrow encoding; the others have variables.
 pub fn launches_without_variables_may_go()
     ensures fits { (g : Graph) (table : TableOf) (k : ℕ) (e : ListedOf) (ls : List LaunchOf) → IsTable table
-        → (n : IsNarrow g table k e) → Fits g table k ls → Fits g table k (filter n.keep ls) }
+        → HasNoPins g → (n : IsNarrow g table k e) → Fits g table k ls → Fits g table k (filter n.keep ls) }
     ensures listed { (g : Graph) (table : TableOf) (k : ℕ) (e : ListedOf) (ls : List LaunchOf) → IsTable table
-        → (n : IsNarrow g table k e) → Fits g table k ls
+        → HasNoPins g → (n : IsNarrow g table k e) → Fits g table k ls
         → (l : LaunchOf) → Contains (filter n.keep ls) l → Contains e.launches l }
 {
+    pins_may_be_absent();
     cycle_clauses_say_rules();
     narrow_parts_keep_rules();
 }
 
-/// Values that satisfy the whole formula of the narrow encoding show a schedule that fits; and each schedule that fits
-/// has a part that fits too and is what some values show that satisfy it.
+/// Where no set of the graph has a pin, values that satisfy the whole formula of the narrow encoding show a schedule
+/// that fits; and each schedule that fits has a part that fits too and is what some values show that satisfy it.
 pub fn narrow_clauses_say_fits()
     ensures shown { (g : Graph) (table : TableOf) (k : ℕ) (e : ListedOf) (v : ℕ → Bool) → IsTable table
-        → IsNarrow g table k e → Satisfies v (whole_formula g table k e).clauses
+        → HasNoPins g → IsNarrow g table k e → Satisfies v (whole_formula g table k e).clauses
         → Fits g table k (shown v (launch_vars g table k e)) }
     ensures some { (g : Graph) (table : TableOf) (k : ℕ) (e : ListedOf) (ls : List LaunchOf) → IsTable table
-        → IsLaunchGraph g → IsNarrow g table k e → Fits g table k ls
+        → IsLaunchGraph g → HasNoPins g → IsNarrow g table k e → Fits g table k ls
         → (ms : List LaunchOf) × Fits g table k ms × ((l : LaunchOf) → Contains ms l → Contains ls l)
         × ((v : ℕ → Bool) × Satisfies v (whole_formula g table k e).clauses
         × ((l : LaunchOf) → Contains (shown v (launch_vars g table k e)) l ↔ Contains ms l)) }
 {
     counters_count();
     memories_are_left();
+    pins_may_be_absent();
     cycle_clauses_say_rules();
     narrow_parts_keep_rules();
     launches_without_variables_may_go();
 }
 
-/// In either encoding, values that satisfy the whole formula show a schedule that fits; and each schedule that fits has
-/// a part that fits and is what some values show that satisfy it.
+/// Where no set of the graph has a pin, in either encoding, values that satisfy the whole formula show a schedule that
+/// fits; and each schedule that fits has a part that fits and is what some values show that satisfy it.
 pub fn each_encoding_says_fits()
     ensures shown { (e : EncodingOf) (g : Graph) (table : TableOf) (k : ℕ) (l : ListedOf) (v : ℕ → Bool) → IsTable table
-        → AreListed e g table k l → Satisfies v (whole_formula g table k l).clauses
+        → HasNoPins g → AreListed e g table k l → Satisfies v (whole_formula g table k l).clauses
         → Fits g table k (shown v (launch_vars g table k l)) }
     ensures some { (e : EncodingOf) (g : Graph) (table : TableOf) (k : ℕ) (l : ListedOf) (ls : List LaunchOf)
-        → IsTable table → IsLaunchGraph g → AreListed e g table k l → Fits g table k ls
+        → IsTable table → IsLaunchGraph g → HasNoPins g → AreListed e g table k l → Fits g table k ls
         → (ms : List LaunchOf) × Fits g table k ms × ((x : LaunchOf) → Contains ms x → Contains ls x)
         × ((v : ℕ → Bool) × Satisfies v (whole_formula g table k l).clauses
         × ((x : LaunchOf) → Contains (shown v (launch_vars g table k l)) x ↔ Contains ms x)) }

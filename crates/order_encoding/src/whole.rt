@@ -1,6 +1,7 @@
 // The whole formula of a schedule.
 ghost use Rattle.std.specs.Prelude.{◌≡◌, ◌↔◌, ◌≤◌, ◌<◌, ◌^◌, ℕ, Bool, List, Contains, length, IfOk, IfErr, OnOk};
 ghost use Rattle.cnf_core.specs.Formula.{Satisfies};
+ghost use Rattle.graph_meaning.specs.Graphs.{HasNoPins};
 ghost use Rattle.graph_meaning.specs.WellFormed.{IsLaunchGraph};
 ghost use Rattle.machine_table.specs.Tables.{IsTable};
 ghost use Rattle.schedule_meaning.specs.Fits.{Fits};
@@ -78,8 +79,8 @@ pub fn full_in(
 }
 
 /// The whole formula of schedules in k cycles: cycles, slots and values, memory, the branch of a guard, and registers.
-/// Values satisfy its clauses exactly where the launches that they show fit. Its counts are found before any clause is
-/// built; where one passes its limit they are the answer.
+/// Where no set of the graph has a pin, values satisfy its clauses exactly where the launches that they show fit. Its
+/// counts are found before any clause is built; where one passes its limit they are the answer.
 pub fn full(
     alloc: Global,
     graph: &LaunchGraph,
@@ -95,10 +96,11 @@ pub fn full(
     ensures within { OnOk result (¬ IsTooLarge (whole_formula graph.now table.now k (wide graph.now table.now k))) }
     ensures vars { IfOk result (λ e. length e.plan.launches ≤ e.cnf.vars) }
 
-    // What the values of variables show fits where they satisfy the clauses, and each schedule that fits is shown.
-    ensures shown { IfOk result (λ e. (v : ℕ → Bool) → Satisfies v e.cnf.clauses
+    // Where no set has a pin, what the values of variables show fits where they satisfy the clauses, and each schedule
+    // that fits is shown.
+    ensures shown { IfOk result (λ e. HasNoPins graph.now → (v : ℕ → Bool) → Satisfies v e.cnf.clauses
         → Fits graph.now table.now k (shown v (numbered 0 e.plan.launches))) }
-    ensures each { IfOk result (λ e. (ls : List LaunchOf) → Fits graph.now table.now k ls
+    ensures each { IfOk result (λ e. HasNoPins graph.now → (ls : List LaunchOf) → Fits graph.now table.now k ls
         → (v : ℕ → Bool) × Satisfies v e.cnf.clauses
         × ((l : LaunchOf) → Contains (shown v (numbered 0 e.plan.launches)) l ↔ Contains ls l)) }
 {
@@ -128,11 +130,11 @@ pub fn full_as(
         → ¬ IsTooLarge (whole_formula graph.now table.now k l)) }
     ensures vars { IfOk result (λ e. length e.plan.launches ≤ e.cnf.vars) }
 
-    // What the values of variables show fits where they satisfy the clauses, and each schedule that fits has a part
-    // that fits and is shown.
-    ensures shown { IfOk result (λ e. (v : ℕ → Bool) → Satisfies v e.cnf.clauses
+    // Where no set has a pin, what the values of variables show fits where they satisfy the clauses, and each schedule
+    // that fits has a part that fits and is shown.
+    ensures shown { IfOk result (λ e. HasNoPins graph.now → (v : ℕ → Bool) → Satisfies v e.cnf.clauses
         → Fits graph.now table.now k (shown v (numbered 0 e.plan.launches))) }
-    ensures some { IfOk result (λ e. (ls : List LaunchOf) → Fits graph.now table.now k ls
+    ensures some { IfOk result (λ e. HasNoPins graph.now → (ls : List LaunchOf) → Fits graph.now table.now k ls
         → (ms : List LaunchOf) × Fits graph.now table.now k ms × ((l : LaunchOf) → Contains ms l → Contains ls l)
         × ((v : ℕ → Bool) × Satisfies v e.cnf.clauses
         × ((l : LaunchOf) → Contains (shown v (numbered 0 e.plan.launches)) l ↔ Contains ms l))) }

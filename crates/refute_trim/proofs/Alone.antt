@@ -5,7 +5,7 @@ use Rattle.std.specs.List.{AllZip}
 use Rattle.std.proofs.lemmas.List.Elements.{All-contains}
 use Rattle.std.proofs.lemmas.Option.{same_Some}
 use Rattle.cnf_core.specs.declared.line.Line.{Line}
-use Rattle.refute_trim.specs.Trimmed.{AreTrimmed, IsFrom, new_number}
+use Rattle.refute_trim.specs.Trimmed.{AreTrimmed, IsLineFrom, new_number}
 use Rattle.refute_trim.proofs.Places.{head_below, tail_pairs}
 
 -- ---- rising lists with the same members
@@ -53,7 +53,7 @@ same_rising (p ∷ ps) (q ∷ qs) rp rq f g =
 
 -- ---- lines from the same places
 
-same_line : (n : ℕ) (all : List ℕ) (lines : List Line) (p : ℕ) (x y : Line) → IsFrom n all lines p x → IsFrom n all lines p y → x ≡ y
+same_line : (n : ℕ) (all : List ℕ) (lines : List Line) (p : ℕ) (x y : Line) → IsLineFrom n all lines p x → IsLineFrom n all lines p y → x ≡ y
 same_line n all lines p x y a b =
     let old : a.old ≡ b.old = same_Some a.old b.old (sym a.there ∙ b.there) in
     let same_id : x.id ≡ y.id = a.renumbered.id ∙ ap (λ (l : Line). new_number n all l.id) old ∙ sym b.renumbered.id in
@@ -61,7 +61,7 @@ same_line n all lines p x y a b =
     let same_hints : x.hints ≡ y.hints = a.renumbered.hints ∙ ap (λ (l : Line). map (new_number n all) l.hints) old ∙ sym b.renumbered.hints in
     λ i. record { id = same_id i; lits = same_lits i; hints = same_hints i }
 
-same_lines : (n : ℕ) (all : List ℕ) (lines : List Line) (ps : List ℕ) (new other : List Line) → AllZip (IsFrom n all lines) ps new → AllZip (IsFrom n all lines) ps other → new ≡ other
+same_lines : (n : ℕ) (all : List ℕ) (lines : List Line) (ps : List ℕ) (new other : List Line) → AllZip (IsLineFrom n all lines) ps new → AllZip (IsLineFrom n all lines) ps other → new ≡ other
 same_lines n all lines [] [] [] a b = refl
 same_lines n all lines [] [] (y ∷ other) a b = absurd b
 same_lines n all lines [] (x ∷ new) other a b = absurd a
@@ -77,4 +77,4 @@ one_way n lines new other a b =
     let places : b.places ≡ a.places = same_rising b.places a.places b.rising a.rising
     (λ k c. (a.exactly k).1 ((b.exactly k).0 c))
     (λ k c. (b.exactly k).1 ((a.exactly k).0 c)) in
-    same_lines n a.places lines a.places new other a.from (subst (λ ps. AllZip (IsFrom n ps lines) ps other) places b.from)
+    same_lines n a.places lines a.places new other a.from (subst (λ ps. AllZip (IsLineFrom n ps lines) ps other) places b.from)

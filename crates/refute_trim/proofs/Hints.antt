@@ -10,25 +10,25 @@ use Rattle.cnf_core.specs.Formula.{Formula}
 use Rattle.cnf_core.specs.Refutation.{AreAccepted}
 use Rattle.cnf_core.specs.declared.line.Line.{Line}
 use Rattle.refute_trim.specs.Needed.{IsNeeded, IsHintOf, last, hint}
-use Rattle.refute_trim.specs.Trimmed.{AreTrimmed, AllButLastAreHints, IsFrom, new_number}
+use Rattle.refute_trim.specs.Trimmed.{AreTrimmed, AllButLastAreHints, IsLineFrom, new_number}
 use Rattle.refute_trim.proofs.Accepted.{hint_earlier}
 
 -- ---- the lines that are left, beside their places
 
-pub zip_left : (n : ℕ) (ps all : List ℕ) (lines new : List Line) → AllZip (IsFrom n all lines) ps new → (k p : ℕ) → slice_get ps k ≡ Some p → (line : Line) × (slice_get new k ≡ Some line) × IsFrom n all lines p line
+pub zip_left : (n : ℕ) (ps all : List ℕ) (lines new : List Line) → AllZip (IsLineFrom n all lines) ps new → (k p : ℕ) → slice_get ps k ≡ Some p → (line : Line) × (slice_get new k ≡ Some line) × IsLineFrom n all lines p line
 zip_left n [] all lines new h k p e = absurd (none-some p e)
 zip_left n (q ∷ ps) all lines [] h k p e = absurd h
-zip_left n (q ∷ ps) all lines (l ∷ new) h zero p e = (l, refl, subst (λ r. IsFrom n all lines r l) (same_Some q p e) h.0)
+zip_left n (q ∷ ps) all lines (l ∷ new) h zero p e = (l, refl, subst (λ r. IsLineFrom n all lines r l) (same_Some q p e) h.0)
 zip_left n (q ∷ ps) all lines (l ∷ new) h (suc k) p e = zip_left n ps all lines new h.1 k p e
 
-pub zip_right : (n : ℕ) (ps all : List ℕ) (lines new : List Line) → AllZip (IsFrom n all lines) ps new → (k : ℕ) (line : Line) → slice_get new k ≡ Some line → (p : ℕ) × (slice_get ps k ≡ Some p) × IsFrom n all lines p line
+pub zip_right : (n : ℕ) (ps all : List ℕ) (lines new : List Line) → AllZip (IsLineFrom n all lines) ps new → (k : ℕ) (line : Line) → slice_get new k ≡ Some line → (p : ℕ) × (slice_get ps k ≡ Some p) × IsLineFrom n all lines p line
 zip_right n [] all lines [] h k line e = absurd (none-some line e)
 zip_right n [] all lines (l ∷ new) h k line e = absurd h
 zip_right n (p ∷ ps) all lines [] h k line e = absurd h
-zip_right n (p ∷ ps) all lines (l ∷ new) h zero line e = (p, refl, subst (IsFrom n all lines p) (same_Some l line e) h.0)
+zip_right n (p ∷ ps) all lines (l ∷ new) h zero line e = (p, refl, subst (IsLineFrom n all lines p) (same_Some l line e) h.0)
 zip_right n (p ∷ ps) all lines (l ∷ new) h (suc k) line e = zip_right n ps all lines new h.1 k line e
 
-pub zip_long : (n : ℕ) (ps all : List ℕ) (lines new : List Line) → AllZip (IsFrom n all lines) ps new → length ps ≡ length new
+pub zip_long : (n : ℕ) (ps all : List ℕ) (lines new : List Line) → AllZip (IsLineFrom n all lines) ps new → length ps ≡ length new
 zip_long n [] all lines [] h = refl
 zip_long n [] all lines (l ∷ new) h = absurd h
 zip_long n (p ∷ ps) all lines [] h = absurd h
@@ -73,7 +73,7 @@ module _ (f : Formula) (lines new : List Line) (accepted : AreAccepted f lines) 
   abbrev Later : ℕ → Line → Type 0
   Later k line = (m : ℕ) × (later : Line) × (k < m) × (slice_get new m ≡ Some later) × Contains later.hints line.id
 
-  of_hint : (k : ℕ) (line : Line) (p q : ℕ) → slice_get trimmed.places k ≡ Some p → IsFrom n trimmed.places lines p line → IsNeeded lines q → IsHintOf lines p q → Later k line
+  of_hint : (k : ℕ) (line : Line) (p q : ℕ) → slice_get trimmed.places k ≡ Some p → IsLineFrom n trimmed.places lines p line → IsNeeded lines q → IsHintOf lines p q → Later k line
   of_hint k line p q at from needed h =
       let c = (trimmed.exactly q).1 needed in
       let there : slice_get trimmed.places c.0 ≡ Some q = slice_get-get_or trimmed.places c.0 q c.1 ∙ ap Some c.2 in
@@ -86,7 +86,7 @@ module _ (f : Formula) (lines new : List Line) (accepted : AreAccepted f lines) 
       let id : new_number n trimmed.places h.hinted.id ≡ line.id = ap (λ (l : Line). new_number n trimmed.places l.id) same_hinted ∙ sym from.renumbered.id in
       (c.0, z.0, later_place k c.0 p q at there (hint_earlier f lines accepted p q h), z.1, subst (Contains z.0.hints) id (subst (λ xs. Contains xs (new_number n trimmed.places h.hinted.id)) hints among))
 
-  by_need : (k : ℕ) (line : Line) (p : ℕ) → slice_get trimmed.places k ≡ Some p → IsFrom n trimmed.places lines p line → k + 1 < length new → IsNeeded lines p → Later k line
+  by_need : (k : ℕ) (line : Line) (p : ℕ) → slice_get trimmed.places k ≡ Some p → IsLineFrom n trimmed.places lines p line → k + 1 < length new → IsNeeded lines p → Later k line
   by_need k line p at from more (last e) = absurd (
       let long = zip_long n trimmed.places trimmed.places lines new trimmed.from in
       let q = get_or trimmed.places (k + 1) 0 in

@@ -6,3 +6,10 @@ mod Again
 mod Alone
 mod Marking
 mod Numbering
+mod Claiming
+mod Reporting
+mod SplitLines
+mod Readable
+mod Checked
+mod TrimmedAgain
+mod OneReport

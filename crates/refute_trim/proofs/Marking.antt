@@ -74,7 +74,7 @@ clause_more n hints i d old now l m low =
 -- ---- all lines
 
 -- the lines from the last back have been visited, so many of them
-pub record AreVisited (lines : List Line) (done : ℕ) (marks : List Bool) : Type 0 where
+pub record AreVisitedBack (lines : List Line) (done : ℕ) (marks : List Bool) : Type 0 where
   pub size : length marks ≡ length lines
   pub sound : (j : ℕ) → IsMarkedAt marks j → IsNeeded lines j
   pub final : IsMarkedAt marks (length lines - 1)
@@ -86,7 +86,7 @@ marked_within marks k is = elim (cases_lt k (length marks)) [
   | inr past ↦ absurd (false≢true (sym (get_or_past marks k false past) ∙ is))
 ]
 
-pub visited_none : (lines : List Line) → 1 ≤ length lines → AreVisited lines 0 (set (replicate (length lines) false) (length lines - 1) true)
+pub visited_none : (lines : List Line) → 1 ≤ length lines → AreVisitedBack lines 0 (set (replicate (length lines) false) (length lines - 1) true)
 visited_none lines some =
     let none = replicate (length lines) false in
     let end = length lines - 1 in
@@ -118,7 +118,7 @@ module _ (f : Formula) (lines : List Line) (accepted : AreAccepted f lines) wher
       subst (λ (l : Line). Contains l.hints (length f.clauses + j + 1)) same (subst (Contains h.hinting.hints) (id_at f lines accepted j h.hinted h.hinted_there) h.among)
 
   -- a marked line is visited
-  pub visited_more : (done at : ℕ) (line : Line) (marks new : List Bool) → slice_get lines at ≡ Some line → at + done + 1 ≡ length lines → AreVisited lines done marks → IsMarkedAt marks at → AreMarked (length f.clauses) line.hints marks new → AreVisited lines (done + 1) new
+  pub visited_more : (done at : ℕ) (line : Line) (marks new : List Bool) → slice_get lines at ≡ Some line → at + done + 1 ≡ length lines → AreVisitedBack lines done marks → IsMarkedAt marks at → AreMarked (length f.clauses) line.hints marks new → AreVisitedBack lines (done + 1) new
   visited_more done at line marks new there place v is m = record {
     size = m.size ∙ v.size;
     sound = λ j marked. (
@@ -151,7 +151,7 @@ module _ (f : Formula) (lines : List Line) (accepted : AreAccepted f lines) wher
             | inr c ↦ absurd (let low = (All-contains (λ h. (1 ≤ h) × (h ≤ length f.clauses + at)) line.hints (length f.clauses + k + 1) (hints_at f lines accepted at line there) c).1 in omega (arith, low, later))
           ]
 
-  pub unmarked_more : (done at : ℕ) (marks : List Bool) → at + done + 1 ≡ length lines → AreVisited lines done marks → get_or marks at false ≡ false → AreVisited lines (done + 1) marks
+  pub unmarked_more : (done at : ℕ) (marks : List Bool) → at + done + 1 ≡ length lines → AreVisitedBack lines done marks → get_or marks at false ≡ false → AreVisitedBack lines (done + 1) marks
   unmarked_more done at marks place v unmarked = record {
     size = v.size;
     sound = v.sound;
@@ -162,9 +162,9 @@ module _ (f : Formula) (lines : List Line) (accepted : AreAccepted f lines) wher
     ];
   }
 
-all_marked : (lines : List Line) (marks : List Bool) → AreVisited lines (length lines) marks → (k : ℕ) → IsNeeded lines k → IsMarkedAt marks k
+all_marked : (lines : List Line) (marks : List Bool) → AreVisitedBack lines (length lines) marks → (k : ℕ) → IsNeeded lines k → IsMarkedAt marks k
 all_marked lines marks v k (last e) = let same : length lines - 1 ≡ k = omega (arith, e) in subst (IsMarkedAt marks) same v.final
 all_marked lines marks v k (hint {j} {k = q} needed h) = v.closed k q (omega arith) (all_marked lines marks v q needed) h
 
-pub visited_all : (lines : List Line) (marks : List Bool) → AreVisited lines (length lines) marks → AreNeededMarks lines marks
+pub visited_all : (lines : List Line) (marks : List Bool) → AreVisitedBack lines (length lines) marks → AreNeededMarks lines marks
 visited_all lines marks v = (v.size, λ k. (v.sound k, all_marked lines marks v k))

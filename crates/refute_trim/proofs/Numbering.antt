@@ -9,7 +9,7 @@ use Rattle.cnf_core.specs.Formula.{Formula}
 use Rattle.cnf_core.specs.Refutation.{AreAccepted}
 use Rattle.cnf_core.specs.declared.line.Line.{Line}
 use Rattle.refute_trim.specs.Marks.{AreNeededMarks, AreNewNumbers, HaveIdsBehind, places_of}
-use Rattle.refute_trim.specs.Trimmed.{AreTrimmed, IsFrom, IsRenumbered, new_number, places_below}
+use Rattle.refute_trim.specs.Trimmed.{AreTrimmed, IsLineFrom, IsRenumbered, new_number, places_below}
 use Rattle.refute_trim.proofs.Accepted.{ids}
 use Rattle.refute_trim.proofs.Places.{below_marked, below_none, below_unmarked, contained_marked, from_rising, marked_contained, of_line, places_kept, places_more}
 
@@ -70,7 +70,7 @@ of_number n places numbers number h high low = h (number - n - 1) (omega (arith,
 
 -- ---- lines
 
-zip_push : (n : ℕ) (all : List ℕ) (lines : List Line) (ps : List ℕ) (new : List Line) (p : ℕ) (line : Line) → AllZip (IsFrom n all lines) ps new → IsFrom n all lines p line → AllZip (IsFrom n all lines) (ps ++ p ∷ []) (new ++ line ∷ [])
+zip_push : (n : ℕ) (all : List ℕ) (lines : List Line) (ps : List ℕ) (new : List Line) (p : ℕ) (line : Line) → AllZip (IsLineFrom n all lines) ps new → IsLineFrom n all lines p line → AllZip (IsLineFrom n all lines) (ps ++ p ∷ []) (new ++ line ∷ [])
 zip_push n all lines [] [] p line h is = (is, tt)
 zip_push n all lines [] (l ∷ new) p line h is = absurd h
 zip_push n all lines (q ∷ ps) [] p line h is = absurd h
@@ -79,21 +79,21 @@ zip_push n all lines (q ∷ ps) (l ∷ new) p line h is = (h.0, zip_push n all l
 -- the lines that are left of the first ones
 abbrev pub AreKeptTo : ℕ → List Line → List Bool → List ℕ → ℕ → List Line → Type 0
 AreKeptTo n lines marks numbers at kept =
-    (places : List ℕ) → AreNewNumbers n places numbers → AllZip (IsFrom n places lines) (places_of (take at marks)) kept
+    (places : List ℕ) → AreNewNumbers n places numbers → AllZip (IsLineFrom n places lines) (places_of (take at marks)) kept
 
 pub kept_more : (n : ℕ) (lines : List Line) (marks : List Bool) (numbers : List ℕ) (at : ℕ) (kept : List Line) (line new : Line) → at < length lines → at < length marks → line ≡ get_or lines at line → get_or marks at false ≡ true → AreKeptTo n lines marks numbers at kept → ((places : List ℕ) → AreNewNumbers n places numbers → IsRenumbered n places line new) → AreKeptTo n lines marks numbers (at + 1) (kept ++ new ∷ [])
 kept_more n lines marks numbers at kept line new within inside is marked h renumbered places numbered =
     let there : slice_get lines at ≡ Some line = slice_get-get_or lines at line within ∙ ap Some (sym is) in
-    subst (λ ps. AllZip (IsFrom n places lines) ps (kept ++ new ∷ [])) (sym (places_more marks at inside marked))
+    subst (λ ps. AllZip (IsLineFrom n places lines) ps (kept ++ new ∷ [])) (sym (places_more marks at inside marked))
     (zip_push n places lines (places_of (take at marks)) kept at new (h places numbered) (record { old = line; there = there; renumbered = renumbered places numbered }))
 
 pub kept_same : (n : ℕ) (lines : List Line) (marks : List Bool) (numbers : List ℕ) (at : ℕ) (kept : List Line) → get_or marks at false ≡ false → AreKeptTo n lines marks numbers at kept → AreKeptTo n lines marks numbers (at + 1) kept
 kept_same n lines marks numbers at kept unmarked h places numbered =
-    subst (λ ps. AllZip (IsFrom n places lines) ps kept) (sym (places_kept marks at unmarked)) (h places numbered)
+    subst (λ ps. AllZip (IsLineFrom n places lines) ps kept) (sym (places_kept marks at unmarked)) (h places numbered)
 
 -- ---- all of them
 
-pub trimmed_from : (n : ℕ) (lines : List Line) (marks : List Bool) (new : List Line) → AreNeededMarks lines marks → AllZip (IsFrom n (places_of marks) lines) (places_of marks) new → AreTrimmed n lines new
+pub trimmed_from : (n : ℕ) (lines : List Line) (marks : List Bool) (new : List Line) → AreNeededMarks lines marks → AllZip (IsLineFrom n (places_of marks) lines) (places_of marks) new → AreTrimmed n lines new
 trimmed_from n lines marks new needed from = record {
   places = places_of marks;
   rising = from_rising 0 marks;
@@ -104,11 +104,11 @@ trimmed_from n lines marks new needed from = record {
   from = from;
 }
 
-pub trimmed_of : (f : Formula) (lines : List Line) (marks first second : List Bool) (numbers given : List ℕ) (clauses : ℕ) (new : List Line) → AreAccepted f lines → AreNeededMarks lines marks → first ≡ marks → second ≡ marks → given ≡ numbers → clauses ≡ length f.clauses → ((n : ℕ) → HaveIdsBehind n lines → AreNewNumbers n (places_of first) numbers) → ((places : List ℕ) → AreNewNumbers clauses places given → AllZip (IsFrom clauses places lines) (places_of second) new) → AreTrimmed (length f.clauses) lines new
+pub trimmed_of : (f : Formula) (lines : List Line) (marks first second : List Bool) (numbers given : List ℕ) (clauses : ℕ) (new : List Line) → AreAccepted f lines → AreNeededMarks lines marks → first ≡ marks → second ≡ marks → given ≡ numbers → clauses ≡ length f.clauses → ((n : ℕ) → HaveIdsBehind n lines → AreNewNumbers n (places_of first) numbers) → ((places : List ℕ) → AreNewNumbers clauses places given → AllZip (IsLineFrom clauses places lines) (places_of second) new) → AreTrimmed (length f.clauses) lines new
 trimmed_of f lines marks first second numbers given clauses new accepted needed same_first same_second same_numbers same_clauses each kept =
     let n = length f.clauses in
     let places = places_of marks in
     let ours : AreNewNumbers n places numbers = subst (λ (ms : List Bool). AreNewNumbers n (places_of ms) numbers) same_first (each n (ids f lines accepted)) in
     let theirs : AreNewNumbers clauses places given = subst (λ m. AreNewNumbers m places given) (sym same_clauses) (subst (λ (xs : List ℕ). AreNewNumbers n places xs) (sym same_numbers) ours) in
-    let from : AllZip (IsFrom clauses places lines) places new = subst (λ (ms : List Bool). AllZip (IsFrom clauses places lines) (places_of ms) new) same_second (kept places theirs) in
-    trimmed_from n lines marks new needed (subst (λ m. AllZip (IsFrom m places lines) places new) same_clauses from)
+    let from : AllZip (IsLineFrom clauses places lines) places new = subst (λ (ms : List Bool). AllZip (IsLineFrom clauses places lines) (places_of ms) new) same_second (kept places theirs) in
+    trimmed_from n lines marks new needed (subst (λ m. AllZip (IsLineFrom m places lines) places new) same_clauses from)

@@ -1,7 +1,7 @@
 -- The places of marks, and how many of them are before a place.
-use Rattle.std.proofs.Common.{◌≡◌, ℕ, zero, suc, ◌+◌, ◌-◌, ◌<◌, ◌≤◌, true, false, Bool, cond, List, [], ◌∷◌, ◌++◌, take, length, get_or, refl, sym, ◌∙◌, ap, subst, arith, Some}
+use Rattle.std.proofs.Common.{◌≡◌, ℕ, zero, suc, ◌+◌, ◌-◌, ◌<◌, ◌≤◌, true, false, Bool, cond, List, [], ◌∷◌, ◌++◌, take, length, get_or, refl, sym, ◌∙◌, ap, subst, inl, inr, arith, Some}
 use Rattle.std.specs.Prelude.{All, AllPairs, Contains, filter, slice_get, nat_lt, nat_le}
-use Rattle.std.proofs.lemmas.Bool.{false≢true}
+use Rattle.std.proofs.lemmas.Bool.{cases_lt, false≢true}
 use Rattle.std.proofs.lemmas.Bool.Decides.{nat_tests}
 use Rattle.std.proofs.lemmas.List.Elements.{All-head, All-tail, All-nil, All-cons, All-weaker}
 use Rattle.std.proofs.lemmas.Option.{slice_get_within, get_or_from_slice_get, same_Some, none-some}
@@ -41,7 +41,7 @@ cons_pairs q ps above h zero (suc j) d l m = above j d (omega (arith, m))
 cons_pairs q ps above h (suc i) zero d l m = absurd (omega (arith, l))
 cons_pairs q ps above h (suc i) (suc j) d l m = h i j d (omega (arith, l)) (omega (arith, m))
 
-below_at : (ps : List ℕ) → AllPairs (λ a b. a < b) ps → (k p : ℕ) → slice_get ps k ≡ Some p → places_below ps p ≡ k
+pub below_at : (ps : List ℕ) → AllPairs (λ a b. a < b) ps → (k p : ℕ) → slice_get ps k ≡ Some p → places_below ps p ≡ k
 below_at [] rising k p e = absurd (none-some p e)
 below_at (q ∷ ps) rising zero p e =
     let same : q ≡ p = same_Some q p e in
@@ -65,6 +65,37 @@ pub of_lemma : (n : ℕ) (ps : List ℕ) → AllPairs (λ a b. a < b) ps → (h 
 of_lemma n ps rising h j m e at =
     let place : h - n - 1 ≡ j = omega (arith, e) in
     of_line n ps h (omega (arith, e)) ∙ ap (λ i. n + places_below ps i + 1) place ∙ ap (λ i. n + i + 1) (below_at ps rising m j at)
+
+-- no number grows, and none becomes 0
+
+pub below_from : (s : ℕ) (ps : List ℕ) (j : ℕ) → All (λ q. s ≤ q) ps → AllPairs (λ a b. a < b) ps → places_below ps j ≤ j - s
+below_from s [] j above rising = let none : places_below [] j ≡ 0 = refl in omega (arith, none)
+below_from s (q ∷ ps) j above rising = elim (cases_lt q j) [
+  | inl lt ↦ (
+      let first = All-head (λ r. s ≤ r) q ps above in
+      let rest = below_from (suc q) ps j (All-weaker (λ r. q < r) (λ r. suc q ≤ r) (λ r l. omega (arith, l)) ps (head_below q ps rising)) (tail_pairs q ps rising) in
+      let more = below_yes q j ps lt in
+      omega (arith, first, rest, more, lt))
+  | inr le ↦ (
+      let same = below_no q j ps le in
+      let none = below_none ps j (All-weaker (λ r. q < r) (λ r. j ≤ r) (λ r l. omega (arith, l, le)) ps (head_below q ps rising)) in
+      omega (arith, same, none))
+]
+
+pub below_most : (ps : List ℕ) (j : ℕ) → AllPairs (λ a b. a < b) ps → places_below ps j ≤ j
+below_most ps j rising = let b = below_from 0 ps j (λ i d l. omega arith) rising in omega (arith, b)
+
+pub number_at_most : (n : ℕ) (ps : List ℕ) (h : ℕ) → AllPairs (λ a b. a < b) ps → new_number n ps h ≤ h
+number_at_most n ps h rising = elim (cases_lt n h) [
+  | inl lt ↦ (let e = of_line n ps h lt in let b = below_most ps (h - n - 1) rising in omega (arith, e, b, lt))
+  | inr le ↦ (let e = of_clause n ps h le in omega (arith, e))
+]
+
+pub number_at_least : (n : ℕ) (ps : List ℕ) (h : ℕ) → 1 ≤ h → 1 ≤ new_number n ps h
+number_at_least n ps h some = elim (cases_lt n h) [
+  | inl lt ↦ (let e = of_line n ps h lt in omega (arith, e))
+  | inr le ↦ (let e = of_clause n ps h le in omega (arith, e, some))
+]
 
 -- ---- places of marks
 

@@ -11,7 +11,7 @@ use Rattle.cnf_core.specs.Values.{partial_of, IsUnit, IsFalseClause}
 use Rattle.cnf_core.specs.declared.line.Line.{Line}
 use Rattle.cnf_core.specs.declared.literal.Lit.{Lit}
 use Rattle.refute_trim.specs.Needed.{IsNeeded, IsHintOf, last, hint}
-use Rattle.refute_trim.specs.Trimmed.{AreTrimmed, IsFrom, new_number}
+use Rattle.refute_trim.specs.Trimmed.{AreTrimmed, IsLineFrom, new_number}
 use Rattle.refute_trim.proofs.Accepted.{accepted_at, earlier}
 use Rattle.refute_trim.proofs.Hints.{zip_left, zip_right, zip_long, needed_within, place_needed, rises, later_place}
 use Rattle.refute_trim.proofs.Places.{of_clause, of_lemma}
@@ -64,7 +64,7 @@ module _ (f : Formula) (lines new : List Line) (accepted : AreAccepted f lines) 
   length_new : length trimmed.places ≡ length new
   length_new = zip_long n trimmed.places trimmed.places lines new trimmed.from
 
-  module _ (k p : ℕ) (line : Line) (at : slice_get trimmed.places k ≡ Some p) (there : slice_get new k ≡ Some line) (from : IsFrom n trimmed.places lines p line) where
+  module _ (k p : ℕ) (line : Line) (at : slice_get trimmed.places k ≡ Some p) (there : slice_get new k ≡ Some line) (from : IsLineFrom n trimmed.places lines p line) where
     abbrev old : Line
     old = from.old
 

@@ -34,7 +34,8 @@ HaveIdsBehind n lines = (k : ℕ) (d : Line) → k < length lines → (slice_ind
 
 -- the new number of each line, where the lines at some places stay
 abbrev pub AreNewNumbers : ℕ → List ℕ → List ℕ → Type 0
-AreNewNumbers n places numbers = (j : ℕ) → j < length numbers → slice_index_or numbers j 0 ≡ n + places_below places j + 1
+AreNewNumbers n places numbers =
+    (j : ℕ) → j < length numbers → slice_index_or numbers j 0 ≡ n + places_below places j + 1
 
 -- the line's id and hints are at most m
 pub record IsWithinNumbers (m : ℕ) (line : Line) : Type 0 where

@@ -21,7 +21,7 @@ pub record IsRenumbered (n : ℕ) (places : List ℕ) (old new : Line) : Type 0 
   pub hints : new.hints ≡ map (new_number n places) old.hints
 
 -- the line that stands at a place, renumbered
-pub record IsFrom (n : ℕ) (places : List ℕ) (lines : List Line) (place : ℕ) (new : Line) : Type 0 where
+pub record IsLineFrom (n : ℕ) (places : List ℕ) (lines : List Line) (place : ℕ) (new : Line) : Type 0 where
   pub old : Line
   pub there : slice_get lines place ≡ Some old
   pub renumbered : IsRenumbered n places old new
@@ -32,7 +32,7 @@ pub record AreTrimmed (n : ℕ) (lines new : List Line) : Type 0 where
   pub places : List ℕ
   pub rising : AllPairs (λ p q. p < q) places
   pub exactly : (k : ℕ) → Contains places k ↔ IsNeeded lines k
-  pub from : AllZip (IsFrom n places lines) places new
+  pub from : AllZip (IsLineFrom n places lines) places new
 
 -- each line but the last is a hint of a later one
 abbrev pub AllButLastAreHints : List Line → Type 0

@@ -3,7 +3,7 @@ ghost use Rattle.std.specs.Prelude.{◌≡◌, ℕ, ◌+◌, List, length, IfOk}
 ghost use Rattle.std.specs.List.{All, AllZip};
 ghost use Rattle.cnf_core.specs.Refutation.{Refutes};
 ghost use Rattle.refute_trim.specs.Marks.{AreNewNumbers, IsWithinNumbers, places_of};
-ghost use Rattle.refute_trim.specs.Trimmed.{AllButLastAreHints, AreTrimmed, IsFrom};
+ghost use Rattle.refute_trim.specs.Trimmed.{AllButLastAreHints, AreTrimmed, IsLineFrom};
 
 use crate::laws::trimmed_lines_refute;
 use crate::needed::needed_lines;
@@ -23,7 +23,7 @@ fn kept_lines(
     requires marks { length needed.now ≡ length lines.now }
     requires within { All (IsWithinNumbers (clauses + length numbers.now)) lines.now }
     ensures { IfOk result (λ kept. (places : List ℕ) → AreNewNumbers clauses places numbers.now
-        → AllZip (IsFrom clauses places lines.now) (places_of needed.now) kept) }
+        → AllZip (IsLineFrom clauses places lines.now) (places_of needed.now) kept) }
 {
     let mut kept = Items::new(alloc);
     for (at, line) in lines.iter().enumerate() {

@@ -3,13 +3,19 @@ use Rattle.std.specs.Prelude.{length, get_or}
 use Rattle.std.proofs.lemmas.List.FromFn.{length-map-range_with_len, get_or-map-range_with_len}
 use Rattle.graph_meaning.specs.declared.graphs.LaunchGraph.{LaunchGraph}
 use Rattle.cycle_encoding.specs.Coming.{needs_of}
-use Rattle.cycle_encoding.proofs.ComeSteps.{word-row, one-more-row}
+use Rattle.cycle_encoding.proofs.ComeSteps.{one-more-row}
 use Rattle.cycle_encoding.proofs.coming.pass_rows.Goals as goal
 
 pub bounds-needs-row : goal.bounds-needs-row
 bounds-needs-row c =
     let g = c.args.facts.now in
     let size = ap (λ (xs : List (List ℕ)). length xs) c.requires.needs ∙ length-map-range_with_len (needs_of g) 0 (length g.rows + 1) in
+    let rows = c.len-rows.ensures ∙ ap (λ (g : LaunchGraph). length g.rows) c.graph.ensures in
+    let lt = c.loop-row-test.true in
+    omega arith
+
+pub pass_row-requires-clause-inside : goal.pass_row-requires-clause-inside
+pass_row-requires-clause-inside c =
     let rows = c.len-rows.ensures ∙ ap (λ (g : LaunchGraph). length g.rows) c.graph.ensures in
     let lt = c.loop-row-test.true in
     omega arith
@@ -40,4 +46,4 @@ returns-clause-passed c =
     let g = c.args.facts.now in
     let rows = c.len-rows.ensures ∙ ap (λ (g : LaunchGraph). length g.rows) c.graph.ensures in
     let done = c.loop-row-test.false in
-    λ row n e start. c.loop-row.invariant.passed row (let lt = (word-row g c.args.table.now row n e).0 in omega arith) n e start
+    λ row low n e start. c.loop-row.invariant.passed row (omega (arith, low)) low n e start

@@ -1,7 +1,8 @@
 use Rattle.std.proofs.Common.{◌∙◌, ◌+◌, map, arith}
 use Rattle.std.specs.List.{filter}
 use Rattle.machine_table.specs.Tables.{cluster_of}
-use Rattle.schedule_meaning.specs.Launches.{Operand, operands_at}
+use Rattle.schedule_meaning.specs.Launches.{operands_at}
+use Rattle.schedule_meaning.specs.declared.schedules.Operand.{Operand}
 use Rattle.schedule_meaning.specs.declared.schedules.Launch.{Launch}
 use Rattle.cycle_encoding.specs.Shapes.{numbered, vars_of}
 use Rattle.cycle_encoding.specs.Families.{is_made, is_seen}

@@ -15,9 +15,9 @@ returns c =
     let exact : AreExact = λ old p lits h. (counters.say old p lits h, counters.over old p lits h, counters.size old p lits) in
     record {
       shown = λ e g table k l v t a s. shown_keep g table k l exact (listed-by g table k t e l a) v s;
-      each = λ g table k ls t r. are_shown exact g table k (wide g table k) ls (wide-serves g table k ls t r) r;
-      some = λ e g table k l ls t a r.
-          some-part e g table k l ls r (are_shown exact g table k (wide g table k) ls (wide-serves g table k ls t r) r)
-          (λ n. (filter n.keep ls, parts.rules g table k l ls t n r, (λ x h. (filter-out n.keep ls x h).0), parts.shown g table k l ls t n r)) a;
+      each = λ g table k ls t plain r. are_shown exact g table k (wide g table k) ls (wide-serves g table k ls t plain r) r;
+      some = λ e g table k l ls t plain a r.
+          some-part e g table k l ls r (are_shown exact g table k (wide g table k) ls (wide-serves g table k ls t plain r) r)
+          (λ n. (filter n.keep ls, parts.rules g table k l ls t plain n r, (λ x h. (filter-out n.keep ls x h).0), parts.shown g table k l ls t plain n r)) a;
       places = λ g table k ls t r. places g table k t ls r;
     }

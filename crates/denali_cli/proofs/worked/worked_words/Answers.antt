@@ -3,7 +3,7 @@ use Rattle.std.proofs.Common.{◌≡◌, [], ◌∷◌, None, Some, codes, refl}
 use Rattle.std.specs.Fmt.{digits}
 use Rattle.clap.proofs.OnLiterals.{clap_on_literals}
 use Rattle.denali_run.specs.declared.settings.Pick.TheVariants.{Last, Busy}
-use Rattle.denali_cli.specs.Commands.{Solve, Check, Run, Gen}
+use Rattle.denali_cli.specs.Commands.{Solve, Check, Trim, Run, Gen}
 use Rattle.denali_cli.specs.OptionValues.{no_options, settings_of}
 use Rattle.denali_cli.specs.Said.{command_of}
 use Rattle.denali_cli.specs.Spellings.{matched, spelled_command}
@@ -54,6 +54,14 @@ checks = refl
 no_option_of_checks : command_of (codes "check" ∷ codes "--cycles=3" ∷ []) ≡ None
 unfolding clap_on_literals matched digits
 no_option_of_checks = refl
+
+trims : command_of (codes "trim" ∷ []) ≡ Some Trim
+unfolding clap_on_literals matched digits
+trims = refl
+
+no_option_of_trims : command_of (codes "trim" ∷ codes "--cycles=3" ∷ []) ≡ None
+unfolding clap_on_literals matched digits
+no_option_of_trims = refl
 
 runs : command_of (codes "run" ∷ []) ≡ Some Run
 unfolding clap_on_literals matched digits
@@ -167,6 +175,8 @@ returns c = record {
   bare = bare;
   checks = checks;
   no_option_of_checks = no_option_of_checks;
+  trims = trims;
+  no_option_of_trims = no_option_of_trims;
   runs = runs;
   runs_behind_dashes = runs_behind_dashes;
   no_option_of_runs = no_option_of_runs;

@@ -12,7 +12,6 @@ returns c = λ e s input results others is set right also same.
       each = c.printed_lines_are_lines.ensures.each;
       word_line = c.word_lines_can_be_lines.ensures;
       forth = c.words_and_instructions.ensures.forth;
-      registers = c.graphs_are_consistent.ensures.input_word;
       graph_words = c.printed_graphs_are_lines.ensures.words;
       graphs = c.one_graph.ensures.alike;
       slots = c.tables_keep_limits.ensures.slot;

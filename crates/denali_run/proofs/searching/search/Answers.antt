@@ -1,4 +1,4 @@
-use Rattle.std.proofs.Common.{◌<◌, ◌≤◌, ◌^◌, arith, subst, sym}
+use Rattle.std.proofs.Common.{◌<◌, ◌^◌, arith, subst, sym}
 use Rattle.std.specs.Prelude.{All}
 use Rattle.cycle_encoding.specs.declared.encodings.Encoding.TheVariants.{Narrow}
 use Rattle.register_assign.specs.Outcomes.{AreWordsOf}

@@ -1,6 +1,8 @@
-use Rattle.std.proofs.Common.{◌≡◌, ◌∙◌, ap, length, List, map, subst, sym}
+use Rattle.std.proofs.Common.{◌≡◌, ◌∙◌, All, ap, length, List, map, subst, sym}
+use Rattle.std.proofs.lemmas.Bool.{false≢true}
 use Rattle.std.proofs.lemmas.List.{length-map}
 use Rattle.answer_texts.specs.ReadAnswers.{ReadsAnswer}
+use Rattle.goal_meaning.specs.Unpinned.{AreUnpinned}
 use Rattle.goal_meaning.specs.Views.{goal_view, input_view}
 use Rattle.goal_meaning.specs.WellFormed.{IsInput}
 use Rattle.denali_run.specs.ClaimedResults.{answer_text, answer_to}
@@ -10,6 +12,7 @@ use Rattle.denali_run.specs.Right.{Right}
 use Rattle.cycle_encoding.specs.declared.encodings.Encoding.TheVariants.{Narrow}
 use Rattle.denali_run.proofs.AnsweredGoals.{as_many}
 use Rattle.denali_run.proofs.SmallTexts.{starts_small}
+use Rattle.denali_run.proofs.UnpinnedGraphs.{HasPlainSets, plain_goals, unpinned_goals}
 use Rattle.denali_run.proofs.text_solving.solve_text.Goals as goal
 
 pub answer_text-requires : goal.answer_text-requires
@@ -26,6 +29,9 @@ returns-clause-answered c =
     let results = c.in_ok-results.results.items in
     let is : IsInput (input_view c.in-Ok.input) =
     c.read_inputs_are_well_formed.ensures text input c.requires.few c.in-Ok.ensures.input in
+    let unpinned : AreUnpinned (input_view c.in-Ok.input) =
+    unpinned_goals c.in-Ok.input.goals
+    (subst (All HasPlainSets) c.as_slice.ensures (c.are_unpinned.ensures.0 c.if-not-are_unpinned.false)) in
     let bytes : c.in_ok-answer_text.field-0.bytes.items
     ≡ answer_text Narrow (input_view c.in-Ok.input) c.in_ok-results.results.items =
     c.in_ok-answer_text.ensures.bytes
@@ -33,6 +39,7 @@ returns-clause-answered c =
     record {
       input = input;
       reads = c.in-Ok.ensures.input;
+      unpinned = unpinned;
       results = results;
       right = c.in_ok-results.ensures.right;
       bytes_are = bytes;
@@ -43,3 +50,16 @@ returns-clause-answered c =
           c.in_ok-results.ensures.right);
       status_is = c.in_ok-answer_text.ensures.status ∙ ap greatest_status c.deref.ensures.value;
     }
+
+pub solve_input-requires-clause-unpinned : goal.solve_input-requires-clause-unpinned
+solve_input-requires-clause-unpinned c =
+    unpinned_goals c.in-Ok.input.goals
+    (subst (All HasPlainSets) c.as_slice.ensures (c.are_unpinned.ensures.0 c.if-not-are_unpinned.false))
+
+pub returns-then-not-are_unpinned-clause-error : goal.returns-then-not-are_unpinned-clause-error
+returns-then-not-are_unpinned-clause-error c = (
+  input_view c.in-Ok.input,
+  c.in-Ok.ensures.input,
+  λ unpinned. false≢true (sym c.if-not-are_unpinned.true
+      ∙ c.are_unpinned.ensures.1 (subst (All HasPlainSets) (sym c.as_slice.ensures) (plain_goals c.in-Ok.input.goals unpinned))),
+)

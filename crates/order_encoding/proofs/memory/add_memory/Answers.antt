@@ -1,5 +1,4 @@
-use Rattle.std.proofs.Common.{◌≡◌, ℕ}
-use Rattle.cnf_core.specs.Formula.{Formula}
+use Rattle.std.proofs.Common.{◌≡◌}
 use Rattle.graph_meaning.specs.declared.graphs.LaunchGraph.{LaunchGraph}
 use Rattle.cycle_encoding.specs.CycleFormula.{Listed, cycle_formula}
 use Rattle.cycle_encoding.specs.Faults.{EncodeFaultIs}

@@ -24,4 +24,4 @@ returns-clause-each c =
     let table = c.args.table.now in
     let k = c.args.k in
     let w = wide g table k in
-    if_ok_both _ _ _ c.full_as.result (λ e formula plan ls fit. has_each g table k e.cnf e.plan (formula w refl) (plan w refl) ls (c.clauses_say_fits.ensures.each g table k ls c.requires.table c.requires.graph fit)) c.full_as.ensures.formula c.full_as.ensures.plan
+    if_ok_both _ _ _ c.full_as.result (λ e formula plan plain ls fit. has_each g table k e.cnf e.plan (formula w refl) (plan w refl) ls (c.clauses_say_fits.ensures.each g table k ls c.requires.table c.requires.graph plain fit)) c.full_as.ensures.formula c.full_as.ensures.plan

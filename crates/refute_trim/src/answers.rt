@@ -1,0 +1,122 @@
+// The refutations of an answer, trimmed.
+ghost use Rattle.std.specs.Prelude.{◌≡◌, ◌<◌, ◌^◌, ◌++◌, length, IfOk, IfErr, OnOk, MatchOption, option_copied};
+ghost use Rattle.answer_check.specs.Reports.{verdict_words};
+ghost use Rattle.answer_texts.specs.AnswerLines.{goal_lines};
+ghost use Rattle.answer_texts.specs.WellFormed.{IsAnswer, IsClaimed};
+ghost use Rattle.denali_run.specs.declared.statuses.Status.TheVariants.{Missing};
+ghost use Rattle.machine_table.specs.Tables.{IsTable};
+ghost use Rattle.text_core.specs.LineTexts.{line_text, lines_text};
+ghost use Rattle.refute_trim.specs.Outcomes.{IsPutTrimmed};
+ghost use Rattle.refute_trim.specs.TrimmedAnswers.{IsRejectedGoal, IsTrimReport, TrimErrorIs, TrimsText};
+
+use crate::goals::{Outcome, trim_goal};
+use answer_check::{Verdict, encoding_named, put_verdict};
+use answer_texts::{
+    AnswerText, Claimed, ClaimedRef, put_goal, put_head, read_answer, read_answers_are_well_formed,
+    read_answers_print_their_text,
+};
+use cnf_core::Lines;
+use cycle_encoding::Encoding;
+use denali_run::{Report, Status, TextError};
+use items::NoMemory;
+use machine_table::Table;
+use std::alloc::Global;
+use text_core::TextFault;
+
+/// Appends the lines of a goal, with these in place of its refutation.
+fn put_with(
+    alloc: Global,
+    text: &mut Vec<u8>,
+    table: &Table,
+    goal: &Claimed,
+    refute: Option<&Lines>,
+) -> Result<(), NoMemory>
+    ensures { OnOk result (text.new.items ≡ text.old.items
+        ++ lines_text (goal_lines table.now (record goal.now { refute = option_copied refute.entry }))) }
+{
+    let lent = ClaimedRef {
+        refute,
+        ..goal.as_ref()
+    };
+    put_goal(alloc, text, table, &lent)
+}
+
+/// Appends the lines of a goal with its refutation trimmed, or tells why it is rejected.
+fn put_trimmed(
+    alloc: Global,
+    text: &mut Vec<u8>,
+    encoding: Encoding,
+    table: &Table,
+    goal: &Claimed,
+) -> Result<Option<Verdict>, NoMemory>
+    requires table { IsTable table.now }
+    requires goal { IsClaimed goal.now }
+    ensures { IfOk result (λ found. MatchOption found
+        (IsPutTrimmed encoding table.now goal.now text.old.items text.new.items)
+        (λ verdict. IsRejectedGoal encoding table.now goal.now verdict)) }
+{
+    match trim_goal(alloc, encoding, table, goal)? {
+        Outcome::Kept(refute) => {
+            put_with(alloc, text, table, goal, refute.as_ref())?;
+            Ok(None)
+        }
+        Outcome::Rejected(verdict) => Ok(Some(verdict)),
+    }
+}
+
+/// The report on an answer of which this goal is rejected.
+fn rejection(alloc: Global, goal: &Claimed, verdict: Verdict) -> Result<Report, NoMemory>
+    ensures bytes { IfOk result (λ report. report.bytes.items ≡ line_text (verdict_words goal.now verdict)) }
+    ensures status { IfOk result (λ report. report.status ≡ Missing) }
+{
+    let mut bytes = Vec::new(alloc);
+    put_verdict(&mut bytes, goal, verdict)?;
+    Ok(Report {
+        bytes,
+        status: Status::Missing,
+    })
+}
+
+/// The answer with each goal's refutation trimmed, or the report on the first goal that is rejected.
+fn trim_answer(alloc: Global, answer: &AnswerText) -> Result<Report, NoMemory>
+    requires { IsAnswer answer.now }
+    ensures { IfOk result (λ report. IsTrimReport answer.now report.bytes.items report.status) }
+{
+    let encoding = encoding_named(answer.encoding);
+    let mut text = Vec::new(alloc);
+    put_head(
+        &mut text,
+        answer.version,
+        answer.encoding,
+        &answer.table,
+        answer.builtin,
+    )?;
+    for goal in answer.goals.as_slice() {
+        if let Some(verdict) = put_trimmed(alloc, &mut text, encoding, &answer.table, goal)? {
+            return rejection(alloc, goal, verdict);
+        }
+    }
+    Ok(Report {
+        bytes: text,
+        status: Status::Done,
+    })
+}
+
+/// Trims the refutations of the answer that a text is; all its other lines stay as they are, lemmas too, which aren't
+/// tested. Where the lines of a goal are to refute clauses that are too large, or don't refute them, the line of the
+/// first such goal is all that is written, and the status is `Missing`. The clauses are built from the printed graphs and
+/// table, for one goal at a time; the cost beside that is linear in the text.
+pub fn trim_text(alloc: Global, text: &[u8]) -> Result<Report, TextError>
+    requires few { length text.now < 2 ^ 29 }
+    ensures trimmed { IfOk result (λ report. TrimsText text.now report.bytes.items report.status) }
+    ensures error { IfErr result (TrimErrorIs text.now) }
+{
+    read_answers_are_well_formed();
+    read_answers_print_their_text();
+    let answer = match read_answer(alloc, text) {
+        Ok(answer) => answer,
+        Err(TextFault::Fault(fault)) => return Err(TextError::Read(fault)),
+        Err(TextFault::Memory) => return Err(TextError::Memory),
+    };
+    Ok(trim_answer(alloc, &answer)?)
+}

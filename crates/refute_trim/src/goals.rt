@@ -1,0 +1,137 @@
+// The refutation of one goal, trimmed.
+ghost use Rattle.std.specs.Prelude.{◌≡◌, ◌≤◌, ◌<◌, ◌^◌, length, IfOk, IfErr, Some};
+ghost use Rattle.answer_texts.specs.AnswerLines as format;
+ghost use Rattle.answer_texts.specs.WellFormed.{FitsClaim, IsClaimed};
+ghost use Rattle.answer_texts.specs.declared.answers.Claimed.{Claimed as ClaimedOf};
+ghost use Rattle.cycle_encoding.specs.Plans.{IsTooLarge};
+ghost use Rattle.graph_meaning.specs.WellFormed.{IsLaunchGraph};
+ghost use Rattle.machine_table.specs.Tables.{IsTable};
+ghost use Rattle.order_encoding.specs.WholeFormula.{IsFormulaOf};
+ghost use Rattle.refute_trim.specs.Outcomes.{IsLargeBy, IsOutcomeFor, IsSizeFault, IsTrial};
+
+use crate::trim;
+use answer_check::Verdict;
+use answer_texts::{Claim, Claimed};
+use cnf_core::{Cnf, Lines};
+use cycle_encoding::{EncodeFault, Encoded, Encoding, Facts, Scope};
+use graph_meaning::LaunchGraph;
+use items::NoMemory;
+use machine_table::Table;
+use order_encoding::full_in;
+use refutation_check::{Marks, Rejected, check};
+use std::alloc::{AllocError, Global};
+
+/// What comes of a goal's refutation: the lines that are needed, if there are some, or what is wrong with it.
+#[derive(Drop)]
+pub(crate) enum Outcome {
+    Kept(Option<Lines>),
+    Rejected(Verdict),
+}
+
+/// The number of cycles of the clauses that a claim's lines are to refute.
+fn refuted_cycles(claim: &Claim) -> u32
+    requires { FitsClaim claim.now }
+    ensures value { result ≡ format.refuted_cycles claim.now }
+    ensures few { result ≤ 24 }
+{
+    claim.as_ref().refuted_cycles()
+}
+
+/// The clauses for k cycles, from a printed graph and table; or their counts, if one passes its limit.
+fn clauses_for(
+    alloc: Global,
+    encoding: Encoding,
+    table: &Table,
+    graph: &LaunchGraph,
+    k: u32,
+) -> Result<Encoded, EncodeFault>
+    requires cycles { k ≤ 24 }
+    requires table { IsTable table.now }
+    requires graph { IsLaunchGraph graph.now }
+    ensures formula { IfOk result (λ e. IsFormulaOf encoding graph.now table.now k e.cnf) }
+    ensures within { IfOk result (λ e. ¬ IsTooLarge e.cnf) }
+    ensures size { IfErr result (IsSizeFault encoding graph.now table.now k) }
+{
+    let facts = Facts::new(alloc, graph)?;
+    let scope = Scope::of(alloc, encoding, &facts, table)?;
+    full_in(alloc, &facts, table, &scope, k)
+}
+
+/// Clauses that are too large are an outcome for the goal, unlike running out of memory.
+fn too_large(fault: EncodeFault) -> Result<Outcome, NoMemory>
+    ensures { IfOk result (IsLargeBy fault) }
+{
+    match fault {
+        EncodeFault::Size { vars, clauses } => {
+            Ok(Outcome::Rejected(Verdict::Size { vars, clauses }))
+        }
+        EncodeFault::Memory => Err(AllocError),
+    }
+}
+
+/// The needed ones of lines that refute a formula, or the first line that is refused.
+fn trim_checked(
+    alloc: Global,
+    cnf: &Cnf,
+    lines: &Lines,
+) -> Result<Result<Lines, Rejected>, NoMemory>
+    requires few { length lines.now.lines < 2 ^ 29 }
+    ensures { IfOk result (IsTrial cnf.now lines.now) }
+{
+    let mut marks = Marks::new(alloc, cnf.vars())?;
+    match check(cnf, lines, &mut marks) {
+        Ok(()) => Ok(Ok(trim(alloc, cnf, lines)?)),
+        Err(rejected) => Ok(Err(rejected)),
+    }
+}
+
+/// Trims lines that are to refute the clauses for k cycles.
+fn trim_lines(
+    alloc: Global,
+    encoding: Encoding,
+    table: &Table,
+    graph: &LaunchGraph,
+    k: u32,
+    lines: &Lines,
+) -> Result<Outcome, NoMemory>
+    requires cycles { k ≤ 24 }
+    requires table { IsTable table.now }
+    requires graph { IsLaunchGraph graph.now }
+    requires few { length lines.now.lines < 2 ^ 29 }
+    ensures { IfOk result (λ outcome. (c : ClaimedOf) → c.graph ≡ Some graph.now → c.refute ≡ Some lines.now
+        → format.refuted_cycles c.claim ≡ k → IsOutcomeFor encoding table.now c outcome) }
+{
+    let encoded = match clauses_for(alloc, encoding, table, graph, k) {
+        Ok(encoded) => encoded,
+        Err(fault) => return too_large(fault),
+    };
+    match trim_checked(alloc, &encoded.cnf, lines)? {
+        Ok(needed) => Ok(Outcome::Kept(Some(needed))),
+        Err(rejected) => Ok(Outcome::Rejected(Verdict::Refutation {
+            k,
+            line: rejected.line,
+            why: rejected.why,
+        })),
+    }
+}
+
+/// Trims the refutation of a goal. The clauses for one number of cycles are built, from the printed graph and table.
+pub(crate) fn trim_goal(
+    alloc: Global,
+    encoding: Encoding,
+    table: &Table,
+    goal: &Claimed,
+) -> Result<Outcome, NoMemory>
+    requires table { IsTable table.now }
+    requires goal { IsClaimed goal.now }
+    ensures { IfOk result (IsOutcomeFor encoding table.now goal.now) }
+{
+    let Some(graph) = &goal.graph else {
+        return Ok(Outcome::Kept(None));
+    };
+    let Some(lines) = &goal.refute else {
+        return Ok(Outcome::Kept(None));
+    };
+    let k = refuted_cycles(&goal.claim);
+    trim_lines(alloc, encoding, table, graph, k, lines)
+}
