@@ -6,26 +6,42 @@ use crate::reports::{Trouble, fault_line, put, put_line, put_number, put_numbers
 use crate::streams::calls;
 use alpha_machine::{End, State, run};
 use answer_texts::{AnswerText, Claim, Claimed, read_answer};
-use denali_run::{Status, TextError, check_text};
+use denali_run::{Report, Status, TextError, check_text};
 use items::Items;
 use outside_io::{FailingSink, FailingSource};
+use refute_trim::trim_text;
 use register_assign::Where;
 use std::alloc::Global;
 use word_ops::Mem;
 
-/// The lines of the verdicts on an answer and the status, or the fault of the text.
-pub(crate) fn verdicts(alloc: Global, input: &[u8]) -> Result<Vec<u8>, Trouble>
-    requires { length input.now ≤ 2 ^ 24 }
-{
-    match check_text(alloc, input) {
+/// What was written of an answer and the status, or the fault of the text.
+fn reported(alloc: Global, report: Result<Report, TextError>) -> Result<Vec<u8>, Trouble> {
+    match report {
         Ok(report) => {
             let mut bytes = report.bytes;
             put_numbers(&mut bytes, b"status", &[u64::from(report.status.code())])?;
             Ok(bytes)
         }
         Err(TextError::Read(fault)) => fault_line(alloc, fault),
+        // Only texts of goals are answered so.
+        Err(TextError::NotYet) => Err(Trouble::Unread),
         Err(TextError::Memory) => Err(Trouble::Memory),
     }
+}
+
+/// The lines of the verdicts on an answer and the status, or the fault of the text.
+pub(crate) fn verdicts(alloc: Global, input: &[u8]) -> Result<Vec<u8>, Trouble>
+    requires { length input.now ≤ 2 ^ 24 }
+{
+    reported(alloc, check_text(alloc, input))
+}
+
+/// The answer with its refutations trimmed, or the line of the first rejected goal, and the status; or the fault of the
+/// text.
+pub(crate) fn trims(alloc: Global, input: &[u8]) -> Result<Vec<u8>, Trouble>
+    requires { length input.now ≤ 2 ^ 24 }
+{
+    reported(alloc, trim_text(alloc, input))
 }
 
 /// A call of the top: its words, a source and a sink.

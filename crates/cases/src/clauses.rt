@@ -4,10 +4,10 @@ ghost use Rattle.std.specs.Prelude.{◌≡◌, ◌<◌, ◌≤◌, ◌^◌, leng
 use crate::reading::{Lines as TextLines, Words, split_before, split_line};
 use crate::reports::{Trouble, faulty, put, put_numbers};
 use cnf_core::{Cnf, Lines, Lit, at_most, at_most_size, at_most_vars, satisfied};
-use items::NoMemory;
 use pick_rule::{Picker, Rule};
 use refutation_check::{Marks, Rejected, check, check_lemmas, print, read};
-use sat_core::{Verdict, solve};
+use refute_trim::trim;
+use sat_core::{Verdict, solve, solve_from};
 use std::alloc::Global;
 use text_core::decimal;
 
@@ -184,22 +184,54 @@ pub(crate) fn refutations(alloc: Global, input: &[u8]) -> Result<Vec<u8>, Troubl
     Ok(report)
 }
 
-/// The verdict with the places that a rule picks.
+/// Input: a formula, a line `lines` and lines. Answers with the lines that are needed, where these refute the formula,
+/// and else with the first that is refused.
+pub(crate) fn trimmed_lines(alloc: Global, input: &[u8]) -> Result<Vec<u8>, Trouble> {
+    let (front, rest) = split_before(input, b"lines\n");
+    let cnf = formula(alloc, front)?;
+    let lines = lines_in(alloc, split_line(rest).1)?;
+    let mut marks = Marks::new(alloc, cnf.vars())?;
+    match check(&cnf, &lines, &mut marks) {
+        Ok(()) => Ok(print(alloc, &trim(alloc, &cnf, &lines)?)?),
+        Err(rejected) => {
+            let mut report = Vec::new(alloc);
+            put_check(&mut report, b"refutation", Err(rejected))?;
+            Ok(report)
+        }
+    }
+}
+
+/// The verdict with the places that a rule picks, from given scores or, where there are none, without.
 fn picked<F: Rule + Drop>(
     alloc: Global,
     cnf: &Cnf,
     rule: F,
     conflicts: u32,
-) -> Result<Verdict, NoMemory>
+    given: Option<&[u64]>,
+) -> Result<Verdict, Trouble>
     requires rule { F.answers_places rule }
     requires some { 1 ≤ conflicts }
     requires few { conflicts ≤ 1000000 }
 {
-    solve(alloc, cnf, &Picker::new(rule), conflicts)
+    let picker = Picker::new(rule);
+    match given {
+        None => Ok(solve(alloc, cnf, &picker, conflicts)?),
+        Some(scores) => {
+            if scores.len() != cnf.vars() as usize {
+                return Err(Trouble::Unread);
+            }
+            Ok(solve_from(alloc, cnf, &picker, conflicts, scores)?)
+        }
+    }
 }
 
 /// The verdict with the first free variable picked.
-fn first_picked(alloc: Global, cnf: &Cnf, conflicts: u32) -> Result<Verdict, NoMemory>
+fn first_picked(
+    alloc: Global,
+    cnf: &Cnf,
+    conflicts: u32,
+    given: Option<&[u64]>,
+) -> Result<Verdict, Trouble>
     requires some { 1 ≤ conflicts }
     requires few { conflicts ≤ 1000000 }
 {
@@ -210,11 +242,17 @@ fn first_picked(alloc: Global, cnf: &Cnf, conflicts: u32) -> Result<Verdict, NoM
             ensures { result ≡ 0 }
         { 0 },
         conflicts,
+        given,
     )
 }
 
 /// The verdict with the last free variable picked.
-fn last_picked(alloc: Global, cnf: &Cnf, conflicts: u32) -> Result<Verdict, NoMemory>
+fn last_picked(
+    alloc: Global,
+    cnf: &Cnf,
+    conflicts: u32,
+    given: Option<&[u64]>,
+) -> Result<Verdict, Trouble>
     requires some { 1 ≤ conflicts }
     requires few { conflicts ≤ 1000000 }
 {
@@ -226,11 +264,17 @@ fn last_picked(alloc: Global, cnf: &Cnf, conflicts: u32) -> Result<Verdict, NoMe
             ensures { result < length scores.entry.now }
         { scores.len() - 1 },
         conflicts,
+        given,
     )
 }
 
 /// The verdict with a free variable of an end picked: the last one, but where the first one's score is higher.
-fn end_picked(alloc: Global, cnf: &Cnf, conflicts: u32) -> Result<Verdict, NoMemory>
+fn end_picked(
+    alloc: Global,
+    cnf: &Cnf,
+    conflicts: u32,
+    given: Option<&[u64]>,
+) -> Result<Verdict, Trouble>
     requires some { 1 ≤ conflicts }
     requires few { conflicts ≤ 1000000 }
 {
@@ -245,6 +289,7 @@ fn end_picked(alloc: Global, cnf: &Cnf, conflicts: u32) -> Result<Verdict, NoMem
             if scores[0] > scores[last] { 0 } else { last }
         },
         conflicts,
+        given,
     )
 }
 
@@ -292,30 +337,53 @@ fn put_search(
     cnf: &Cnf,
     rule: &[u8],
     budget: u32,
+    given: Option<&[u64]>,
 ) -> Result<(), Trouble>
     requires some { 1 ≤ budget }
     requires few { budget ≤ 1000000 }
 {
     let verdict = if rule == b"first".as_slice() {
-        first_picked(alloc, cnf, budget)?
+        first_picked(alloc, cnf, budget, given)?
     } else if rule == b"last".as_slice() {
-        last_picked(alloc, cnf, budget)?
+        last_picked(alloc, cnf, budget, given)?
     } else if rule == b"end".as_slice() {
-        end_picked(alloc, cnf, budget)?
+        end_picked(alloc, cnf, budget, given)?
     } else {
         return Err(Trouble::Unread);
     };
     put_verdict(alloc, report, cnf, &verdict)
 }
 
-/// Input: a line `budget N RULE..` and a formula. Answers with what the solver comes to with N conflicts, for each of
-/// the rules that pick: `first` picks the first place, `last` the last, `end` the end with the higher score. Values are
-/// tested, and lines are checked.
+/// The scores of a line `scores S..`, if there is one.
+fn given_scores(alloc: Global, text: &[u8]) -> Result<Option<Vec<u64>>, Trouble> {
+    if text.is_empty() {
+        return Ok(None);
+    }
+    let (line, rest) = split_line(text);
+    let mut words = Words { rest: line };
+    if words.word()? != b"scores".as_slice() || !rest.is_empty() {
+        return Err(Trouble::Unread);
+    }
+    let mut scores = Vec::new(alloc);
+    for _ in 0..line.len() {
+        let Some(word) = words.next() else {
+            break;
+        };
+        scores.push(decimal(word).ok_or(Trouble::Unread)?)?;
+    }
+    Ok(Some(scores))
+}
+
+/// Input: a line `budget N RULE..`, perhaps a line `scores S..` with a score for each variable, and a formula. Answers
+/// with what the solver comes to with N conflicts, for each of the rules that pick: `first` picks the first place, `last`
+/// the last, `end` the end with the higher score. Values are tested, and lines are checked.
 pub(crate) fn searches(alloc: Global, input: &[u8]) -> Result<Vec<u8>, Trouble> {
     let (head, rest) = split_line(input);
     let number = head.strip_prefix(b"budget ").ok_or(Trouble::Unread)?;
     let mut words = Words { rest: number };
     let budget = words.small()?;
+    let (front, rest) = split_before(rest, b"vars ");
+    let scores = given_scores(alloc, front)?;
     let cnf = formula(alloc, rest)?;
     if budget < 1 || 1000000 < budget {
         return Err(Trouble::Unread);
@@ -325,7 +393,7 @@ pub(crate) fn searches(alloc: Global, input: &[u8]) -> Result<Vec<u8>, Trouble> 
         let Some(rule) = words.next() else {
             break;
         };
-        put_search(alloc, &mut report, &cnf, rule, budget)?;
+        put_search(alloc, &mut report, &cnf, rule, budget, scores.as_deref())?;
     }
     Ok(report)
 }

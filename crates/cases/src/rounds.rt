@@ -108,38 +108,29 @@ pub(crate) fn rounds(alloc: Global, input: &[u8]) -> Result<Vec<u8>, Trouble> {
     told(alloc, grown(alloc, text, rounds, nodes))
 }
 
-/// The lines of the first goal's graph after no round, or none where there is no such graph.
-fn launch(alloc: Global, text: &[u8]) -> Option<Vec<u8>>
+/// The lines of the first goal's graph after no round.
+fn launch(alloc: Global, text: &[u8]) -> Result<Vec<u8>, Refused>
     requires text { length text.now < 2 ^ 29 }
 {
     read_inputs_are_well_formed();
     grown_graphs_can_be_launched();
-    let Ok(input) = read(alloc, text) else {
-        return None;
+    let input = read(alloc, text)?;
+    let program = rules(alloc, &input)?;
+    let Some(goal) = input.goals.as_slice().first() else {
+        return Err(Refused::Memory);
     };
-    let Ok(program) = rules(alloc, &input) else {
-        return None;
-    };
-    match input.goals.as_slice().first() {
-        Some(goal) => match start(alloc, goal) {
-            Ok(graph) => match saturate(alloc, graph, &program, 0, 512) {
-                Ok(saturated) => match to_launch(alloc, &saturated, goal, &input) {
-                    Ok(graph) => print(alloc, &graph).ok(),
-                    Err(_) => None,
-                },
-                Err(_) => None,
-            },
-            Err(_) => None,
-        },
-        None => None,
-    }
+    let graph = start(alloc, goal)?;
+    let grown = saturate(alloc, graph, &program, 0, 512)?;
+    let launched = to_launch(alloc, &grown, goal, &input)?;
+    let lines = print(alloc, &launched)?;
+    Ok(lines)
 }
 
 /// The lines of the graph of a text's first goal after no round.
 pub(crate) fn launched(alloc: Global, input: &[u8]) -> Result<Vec<u8>, Trouble>
     requires { length input.now ≤ 2 ^ 24 }
 {
-    launch(alloc, input).ok_or(Trouble::Unread)
+    launch(alloc, input).ok().ok_or(Trouble::Unread)
 }
 
 /// The text of the goal of so many operators.

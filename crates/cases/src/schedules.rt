@@ -14,7 +14,7 @@ use items::Items;
 use machine_table::Table;
 use order_encoding::{add_guard, add_memory, add_pool, full, full_as};
 use register_assign::{Listing, assign, words_of};
-use schedule_meaning::{Broken, Launch, Schedule};
+use schedule_meaning::{Broken, Launch, Schedule, To};
 use std::alloc::Global;
 
 /// The table of a machine form in the first line, or else `ev6`, and the lines behind it.
@@ -37,7 +37,7 @@ fn table_in(alloc: Global, input: &[u8]) -> Result<(Table, &[u8]), Trouble>
     }
 }
 
-/// The graph of some lines.
+/// The graph of some lines, whose sets may have pins.
 fn graph_in(alloc: Global, text: &[u8]) -> Result<LaunchGraph, Trouble>
     ensures { IfOk result IsLaunchGraph }
 {
@@ -47,13 +47,21 @@ fn graph_in(alloc: Global, text: &[u8]) -> Result<LaunchGraph, Trouble>
     let Ok(lines) = text_core::lines(alloc, text) else {
         return Err(Trouble::Unread);
     };
-    match launch_graph::read(alloc, &lines, 0) {
+    match launch_graph::read_as(alloc, 2, &lines, 0) {
         Ok((graph, _)) => Ok(graph),
         Err(_) => Err(Trouble::Unread),
     }
 }
 
-/// The launches of lines `launch CYCLE SLOT ROW`, slots by their numbers.
+/// Where a launch goes: to the set whose number is left on its line, or else to the pool.
+fn destination(words: &mut Words<'_>) -> Result<To, Trouble> {
+    if words.rest.is_empty() {
+        return Ok(To::Pool);
+    }
+    Ok(To::Set(words.small()?))
+}
+
+/// The launches of lines `launch CYCLE SLOT ROW` and `launch CYCLE SLOT ROW SET`, slots and sets by their numbers.
 fn schedule_in(alloc: Global, text: &[u8]) -> Result<Schedule, Trouble>
     ensures { IfOk result (λ schedule. length schedule.launches < 2 ^ 29) }
 {
@@ -69,6 +77,7 @@ fn schedule_in(alloc: Global, text: &[u8]) -> Result<Schedule, Trouble>
             cycle: words.small()?,
             slot: words.small()?,
             row: words.small()?,
+            to: destination(&mut words)?,
         })?;
     }
     if launches.len() > 1 << 24 {

@@ -35,10 +35,12 @@ pub(crate) enum Subject {
     Counters,
     LineTexts,
     Refutations,
+    TrimmedLines,
     Searches,
     Words,
     Programs,
     Verdicts,
+    Trims,
     Reads,
     Writes,
     Commands,
@@ -47,7 +49,7 @@ pub(crate) enum Subject {
 }
 
 /// The name of each subject.
-const NAMES: [(&str, Subject); 35] = [
+const NAMES: [(&str, Subject); 37] = [
     ("decimals", Subject::Decimals),
     ("tokens", Subject::Tokens),
     ("trees", Subject::Trees),
@@ -74,10 +76,12 @@ const NAMES: [(&str, Subject); 35] = [
     ("counters", Subject::Counters),
     ("line-texts", Subject::LineTexts),
     ("refutations", Subject::Refutations),
+    ("trimmed-lines", Subject::TrimmedLines),
     ("searches", Subject::Searches),
     ("words", Subject::Words),
     ("programs", Subject::Programs),
     ("verdicts", Subject::Verdicts),
+    ("trims", Subject::Trims),
     ("reads", Subject::Reads),
     ("writes", Subject::Writes),
     ("commands", Subject::Commands),
@@ -132,10 +136,12 @@ pub(crate) fn answer(alloc: Global, subject: Subject, input: &[u8]) -> Result<Ve
         Subject::Counters => clauses::counters(alloc, input),
         Subject::LineTexts => clauses::line_texts(alloc, input),
         Subject::Refutations => clauses::refutations(alloc, input),
+        Subject::TrimmedLines => clauses::trimmed_lines(alloc, input),
         Subject::Searches => clauses::searches(alloc, input),
         Subject::Words => machine::words(alloc, input),
         Subject::Programs => machine::programs(alloc, input),
         Subject::Verdicts => answers::verdicts(alloc, input),
+        Subject::Trims => answers::trims(alloc, input),
         Subject::Reads => streams::reads(alloc, input),
         Subject::Writes => streams::writes(alloc, input),
         Subject::Commands => answers::commands(alloc, input),

@@ -85,16 +85,24 @@ pub(crate) fn instructions(alloc: Global, input: &[u8]) -> Result<Vec<u8>, Troub
     Ok(report)
 }
 
-/// Input: a line `from N` and a text. Answers with the lines of the graph that begins at line N of the text, and the
-/// number of the line behind it, or with the fault.
+/// Input: a line `from N`, or `from N version 2`, and a text. Answers with the lines of the graph that begins at line N of
+/// the text, and the number of the line behind it, or with the fault.
 pub(crate) fn graphs(alloc: Global, input: &[u8]) -> Result<Vec<u8>, Trouble>
     requires { length input.now ≤ 2 ^ 24 }
 {
     let (head, text) = split_line(input);
-    let Some(number) = head.strip_prefix(b"from ") else {
+    let Some(numbers) = head.strip_prefix(b"from ") else {
         return Err(Trouble::Unread);
     };
-    let from = Words { rest: number }.small()?;
+    let mut words = Words { rest: numbers };
+    let from = words.small()?;
+    let version = if words.rest.is_empty() {
+        1
+    } else if words.rest == b"version 2".as_slice() {
+        2
+    } else {
+        return Err(Trouble::Unread);
+    };
     if text.len() > input.len() {
         return Err(Trouble::Unread);
     }
@@ -105,7 +113,7 @@ pub(crate) fn graphs(alloc: Global, input: &[u8]) -> Result<Vec<u8>, Trouble>
     if from > lines.count() {
         return Err(Trouble::Unread);
     }
-    match launch_graph::read(alloc, &lines, from) {
+    match launch_graph::read_as(alloc, version, &lines, from) {
         Ok((graph, next)) => {
             let mut report = launch_graph::print(alloc, &graph)?;
             put_numbers(&mut report, b"next", &[u64::from(next)])?;

@@ -14,22 +14,22 @@ first_there (x ∷ xs) g e = let k : x ≡ g = (let is : Some g ≡ Some x = e i
 
 pub start-requires : goal.start-requires
 start-requires c =
-    let input = input_view c.in-Ok.input in
-    let is = c.read_inputs_are_well_formed.ensures c.args.text.now input c.requires.text c.in-Ok.ensures.input in
-    let there = first_there c.in-Ok.input.goals c.in-Some.goal.now (subst (λ xs. Some c.in-Some.goal.now ≡ slice_get xs 0) c.as_slice.ensures c.in-Some.ensures.value) in
+    let input = input_view c.in_ok-input.input in
+    let is = c.read_inputs_are_well_formed.ensures c.args.text.now input c.requires.text c.in_ok-input.ensures.input in
+    let there = first_there c.in_ok-input.input.goals c.in-Some.goal.now (subst (λ xs. Some c.in-Some.goal.now ≡ slice_get xs 0) c.as_slice.ensures c.in-Some.ensures.value) in
     record { goal = (input.ops, All-contains (IsGoal input.ops) input.goals (goal_view c.in-Some.goal.now) is.goals there) }
 
 pub to_launch-requires : goal.to_launch-requires
 to_launch-requires c =
-    let input = input_view c.in-Ok.input in
+    let input = input_view c.in_ok-input.input in
     let goal_is = goal_view c.in-Some.goal.now in
-    let is = c.read_inputs_are_well_formed.ensures c.args.text.now input c.requires.text c.in-Ok.ensures.input in
-    let there = first_there c.in-Ok.input.goals c.in-Some.goal.now (subst (λ xs. Some c.in-Some.goal.now ≡ slice_get xs 0) c.as_slice.ensures c.in-Some.ensures.value) in
-    let after = c.in-Ok-saturate.ensures.saturated.after.grown (present_terms goal_is) (assumed_pairs goal_is) (c.in-Ok-start.ensures.grown c.in-Ok-rules.program.program) in
-    let grown = subst (λ (axioms : List Rewrite). IsGrown axioms (present_terms goal_is) (assumed_pairs goal_is) c.in-Ok-saturate.saturated.graph c.in-Ok-saturate.saturated.rounds) c.in-Ok-rules.ensures.program after.0 in
-    let few : length c.in-Ok-saturate.saturated.graph.rows < 2 ^ 30 = omega (arith, c.in-Ok-saturate.ensures.few, c.in-Ok-start.ensures.graph.few_rows, c.in-Ok-start.ensures.few) in
+    let is = c.read_inputs_are_well_formed.ensures c.args.text.now input c.requires.text c.in_ok-input.ensures.input in
+    let there = first_there c.in_ok-input.input.goals c.in-Some.goal.now (subst (λ xs. Some c.in-Some.goal.now ≡ slice_get xs 0) c.as_slice.ensures c.in-Some.ensures.value) in
+    let after = c.in_ok-grown.ensures.saturated.after.grown (present_terms goal_is) (assumed_pairs goal_is) (c.in_ok-graph.ensures.grown c.in_ok-program.program.program) in
+    let grown = subst (λ (axioms : List Rewrite). IsGrown axioms (present_terms goal_is) (assumed_pairs goal_is) c.in_ok-grown.grown.graph c.in_ok-grown.grown.rounds) c.in_ok-program.ensures.program after.0 in
+    let few : length c.in_ok-grown.grown.graph.rows < 2 ^ 30 = omega (arith, c.in_ok-grown.ensures.few, c.in_ok-graph.ensures.graph.few_rows, c.in_ok-graph.ensures.few) in
     record {
       input = is;
       goal = there;
-      can = c.grown_graphs_can_be_launched.ensures.can input goal_is c.in-Ok-saturate.saturated.graph c.in-Ok-saturate.saturated.rounds is there c.in-Ok-saturate.ensures.saturated.graph few grown;
+      can = c.grown_graphs_can_be_launched.ensures.can input goal_is c.in_ok-grown.grown.graph c.in_ok-grown.grown.rounds is there c.in_ok-grown.ensures.saturated.graph few grown;
     }
