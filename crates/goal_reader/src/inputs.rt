@@ -34,7 +34,8 @@ fn register_digits(digits: &[u8]) -> Option<u8>
     }
 }
 
-fn register_number(bytes: &[u8]) -> Option<u8>
+/// The register from 0 to 30 that a dollar sign and its number name.
+pub fn register_number(bytes: &[u8]) -> Option<u8>
     ensures { result ≡ number_of_name bytes.now }
 {
     match bytes {

@@ -32,8 +32,8 @@ pub enum FormKeyword {
     Goal,
 }
 
-// The first word of a list.
-fn head<'a>(form: &Sexp, text: &'a [u8]) -> Option<&'a [u8]>
+/// The first word of a list.
+pub fn head<'a>(form: &Sexp, text: &'a [u8]) -> Option<&'a [u8]>
     requires of { IsSexpOf text.now form.now }
     ensures { MatchOption result (head_in (sexp_form text.now form.now) ≡ None)
         (λ bytes. head_in (sexp_form text.now form.now) ≡ Some bytes.now) }

@@ -30,6 +30,8 @@ pub use goal_meaning::{
     Assume, Axiom, DeclaredOp, Goal, Input, InputReg, Set, axioms_hold_for_all_goals,
     goals_have_outcomes,
 };
+pub use inputs::register_number;
+pub use keywords::head;
 pub use laws::{
     printed_inputs_are_read, read_inputs_are_well_formed, read_inputs_have_few_operators,
     texts_have_one_first_fault, texts_have_one_reading, the_first_form_decides,

@@ -24,6 +24,7 @@ pub mod SchemeLists
 pub mod Searched
 pub mod NeedSteps
 pub mod MetMatches
+pub mod MoreTerms
 pub mod LoopSteps
 pub mod FewRows
 pub mod Alike

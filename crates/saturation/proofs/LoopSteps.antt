@@ -19,10 +19,15 @@ use Rattle.saturation.specs.GraphStands.{GraphStands, RulesHold}
 use Rattle.saturation.specs.Asking.{AreAsked, StopFits}
 use Rattle.saturation.specs.Steps.{CallsForRound, StepFits}
 use Rattle.saturation.specs.declared.stepping.Step.TheVariants.{End}
-use Rattle.saturation.specs.Rounds.{IsAfter, IsImpossible, SaturateFaultIs, IsHopeless, KeepsStanding, StopIs}
+use Rattle.saturation.specs.Rounds.{IsAfter, IsImpossible, SaturateFaultIs, IsHopeless, KeepsClasses, KeepsStanding, StopIs}
 use Rattle.saturation.specs.declared.rounds.Stop.{Stop}
 use Rattle.saturation.specs.declared.rounds.Stop.TheVariants.{Quiet, Rounds, Full}
+use Rattle.pattern_match.specs.Classes.{IsClass}
 use Rattle.saturation.proofs.Asks.{Asks}
+use Rattle.saturation.proofs.Classes.{class_has}
+use Rattle.saturation.proofs.Follows.{Follows, follows_itself, follows_through, closed_follows}
+use Rattle.saturation.proofs.Graphs.{has_made, has_present}
+use Rattle.saturation.proofs.Made.{all_made_follow}
 use Rattle.saturation.proofs.Round.{round_is_grown, round_clashes}
 use Rattle.saturation.proofs.FewRows.{all_made_rows}
 use Rattle.saturation.proofs.RoundSteps.{all_made_few}
@@ -34,6 +39,7 @@ use Rattle.saturation.proofs.NoWorld.{refused_never}
 pub record Running (axioms : List Rewrite) (start : Graph Op) (rounds nodes : ℕ) (g : Graph Op) (j : ℕ) : Type 0 where
   pub after : IsAfter axioms start rounds nodes g j
   pub stands : KeepsStanding axioms start g
+  pub follows : IsGraph op_signature start → Follows start g
   pub few : length g.current ≤ 2 ^ 30 + j * 4096
   pub few_rows : length g.rows ≤ max (length start.rows) nodes
   pub asked : j ≤ rounds
@@ -42,6 +48,7 @@ pub running_none : (axioms : List Rewrite) (start : Graph Op) (rounds nodes : �
 running_none axioms start rounds nodes l = record {
   after = record { grown = λ present equal h. (h, λ i b. absurd (omega (arith, b))) };
   stands = λ names equal terms h. h;
+  follows = λ is. follows_itself op_signature start is;
   few = omega (arith, l);
   few_rows = omega arith;
   asked = omega arith;
@@ -124,6 +131,7 @@ module _ (axioms : List Rewrite) (start : Graph Op) (rounds nodes : ℕ) (g : Gr
         };
         stands = λ names equal terms h.
             round_stands axioms ready.usable g ready.graph asked ready.asks law names equal terms (λ world is holds r rule. true_rules world names axioms r holds.axioms_hold rule) new made (running.stands names equal terms h);
+        follows = λ is. follows_through op_signature start g new is (running.follows is) (all_made_follow made ready.graph);
         few = let f = all_made_few made in omega (arith, f, total_within, running.few, few_nodes);
         few_rows = let f = all_made_rows made in omega (arith, f, total_within);
         asked = omega (arith, running.asked, more);
@@ -151,6 +159,16 @@ module _ (axioms : List Rewrite) (start : Graph Op) (rounds nodes : ℕ) (g : Gr
     pub fault_is : (fault : MergeFault) → RefusalOfAll asked g fault → SaturateFaultIs axioms start rounds nodes (saturate_fault fault)
     fault_is (NoWorld class x y) h = impossible x y h
     fault_is Memory h = tt
+
+-- terms keep their classes
+pub classes_are_kept : (start g : Graph Op) → (IsGraph op_signature start → Follows start g) → KeepsClasses start g
+classes_are_kept start g follows is =
+    let f = follows is in (
+      f.longer,
+      λ t c h.
+          let has = class_has start h in
+          closed_follows start g f (has_made op_signature start is c has) (subst (IsClass start [] t) (sym (has_present op_signature start is c has)) h),
+    )
 
 pub not_last : (a b : ℕ) → eqb a b ≡ false → a ≢ b
 not_last a b e = elim (eqb_tells a b) [ inl h ↦ absurd (let k : true ≡ false = sym h.0 ∙ e in cc) | inr h ↦ h.1 ]

@@ -142,6 +142,9 @@ module _ (declared : List DeclaredOp) (goal : GoalTree) (is_goal : IsGoal declar
     pub few_made : (new : Graph Op) → AreAssumed (assumed_pairs goal) middle new → length new.current < 2 ^ 30
     few_made new assumed = omega (arith, made, none_made new assumed)
 
+    pub few_classes : (new : Graph Op) → AreAssumed (assumed_pairs goal) middle new → length new.current ≤ most_rows_at_start goal
+    few_classes new assumed = omega (arith, inserted_few inserted, none_made new assumed, count)
+
     pub few_rows : (new : Graph Op) → AreAssumed (assumed_pairs goal) middle new → length new.rows ≤ most_rows_at_start goal
     few_rows new assumed = let is_new = graph_is new assumed in omega (arith, inserted_few inserted, none_made new assumed, count, is_new.few_rows)
 

@@ -44,13 +44,13 @@ placed_built t g new c b is = let k = built_class [] b is (none_made g) in recor
 pub placed_later : (g new : Graph Op) → Follows g new → (t : Tree Op) → Placed g t → Placed new t
 placed_later g new f t p = record { class = p.class; made = omega (arith, f.longer, p.made); is = closed_follows g new f p.made p.is }
 
-record Together (g : Graph Op) (t u : Tree Op) : Type 0 where
+pub record Together (g : Graph Op) (t u : Tree Op) : Type 0 where
   pub class : ℕ
   pub made : class < length g.current
   pub first : IsClass g [] t (cur g class)
   pub second : IsClass g [] u (cur g class)
 
-together_later : (g new : Graph Op) → Follows g new → (t u : Tree Op) → Together g t u → Together new t u
+pub together_later : (g new : Graph Op) → Follows g new → (t u : Tree Op) → Together g t u → Together new t u
 together_later g new f t u p = record { class = p.class; made = omega (arith, f.longer, p.made); first = closed_follows g new f p.made p.first; second = closed_follows g new f p.made p.second }
 
 -- ---- graphs
@@ -117,13 +117,13 @@ module _ (axioms : List Rewrite) (present : List (Tree Op)) (equal : List (Tree 
   abbrev D : Tree Op → Tree Op → Type 0
   D = Derives axioms present equal 0
 
-  abbrev Fine : Graph Op → Type 0
+  abbrev pub Fine : Graph Op → Type 0
   Fine g = Good axioms present equal 0 g
 
   one_good : (t : Tree Op) (g new : Graph Op) (c : ℕ) → IsBuilt [] t g c new → IsGraph op_signature g → Fine g → D t t → Fine new
   one_good t g new c b is good d = built_sound axioms present equal 0 [] [] b is good (no_stand g) (subst (λ u. D u u) (sym (same_tree t)) d)
 
-  inserted_good : {ts : List (Tree Op)} {g new : Graph Op} → AreInserted ts g new → IsGraph op_signature g → Fine g → All (λ t. D t t) ts → Fine new
+  pub inserted_good : {ts : List (Tree Op)} {g new : Graph Op} → AreInserted ts g new → IsGraph op_signature g → Fine g → All (λ t. D t t) ts → Fine new
   inserted_good none_inserted is good d = good
   inserted_good (one_inserted {t} {ts} {g} {h} {new} {c} b w) is good d =
       inserted_good w (built_graph [] b is) (one_good t g h c b is good (All-head (λ u. D u u) t ts d)) (All-tail (λ u. D u u) t ts d)

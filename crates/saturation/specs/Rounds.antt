@@ -1,12 +1,13 @@
 -- What rounds together give, why they end, and what a refusal shows. From Denali (PLDI 2002), its matching phase; when
 -- rounds end is this project's.
-use Rattle.std.specs.Prelude.{◌≡◌, ◌≢◌, ℕ, ◌<◌, ◌≤◌, ◌^◌, List}
+use Rattle.std.specs.Prelude.{◌≡◌, ◌≢◌, ℕ, ◌<◌, ◌≤◌, ◌^◌, List, [], length, slice_index}
 use Rattle.word_ops.specs.Worlds.{World, IsWorld}
 use Rattle.word_ops.specs.declared.sorts.Op.{Op}
 use Rattle.word_terms.specs.Tree.{Tree}
 use Rattle.word_terms.specs.Keys.{op_signature}
 use Rattle.axiom_base.specs.Rewrites.{Rewrite}
 use Rattle.egraph.specs.Graph.{Graph, IsGraph}
+use Rattle.pattern_match.specs.Classes.{IsClass}
 use Rattle.saturation.specs.Derives.{IsClash, Pair}
 use Rattle.saturation.specs.Grown.{IsGrown, IsQuiet, IsFull, NotBefore}
 use Rattle.saturation.specs.GraphStands.{GraphStands, RulesHold}
@@ -40,6 +41,13 @@ KeepsStanding axioms old new =
     (names : ℕ → List ℕ) (equal : List Pair) (terms : List (Tree Op)) →
     GraphStands names axioms equal terms old →
     GraphStands names axioms equal terms new
+
+-- a term that has a class has, after the rounds, the class that this one then is in
+abbrev pub KeepsClasses : Graph Op → Graph Op → Type 0
+KeepsClasses old new =
+    IsGraph op_signature old →
+    (length old.current ≤ length new.current)
+    × ((t : Tree Op) (c : ℕ) → IsClass old [] t c → IsClass new [] t (slice_index new.current c))
 
 -- two different constants are equal after a number of rounds that the rounds reach
 pub record IsImpossible (axioms : List Rewrite) (start : Graph Op) (rounds nodes x y : ℕ) : Type 0 where

@@ -29,6 +29,7 @@ pub fn start(alloc: Global, goal: &Goal) -> Result<Egraph<Op>, StartFault>
     ensures stands { IfOk result (StandsAtStart (goal_view goal.now)) }
     ensures graph { IfOk result (IsGraph op_signature) }
     ensures few { IfOk result (λ g. length g.current < 2 ^ 30) }
+    ensures few_classes { IfOk result (λ g. length g.current ≤ most_rows_at_start (goal_view goal.now)) }
     ensures few_rows { IfOk result (λ g. length g.rows ≤ most_rows_at_start (goal_view goal.now)) }
     ensures fault { IfErr result (StartFaultIs (goal_view goal.now)) }
     ensures hopeless { IfErr result (IsHopelessAtStart (goal_view goal.now)) }

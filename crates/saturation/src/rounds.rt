@@ -1,7 +1,7 @@
 // Rounds of matching, and when they end.
 ghost use Rattle.std.specs.Prelude.{◌≡◌, ◌≤◌, ◌<◌, ◌^◌, length, max, IfOk, IfErr};
 ghost use Rattle.axiom_base.specs.Equations as rows;
-ghost use Rattle.saturation.specs.Rounds.{IsSaturated, KeepsStanding, SaturateFaultIs, IsHopeless, RoundsNameLowClass};
+ghost use Rattle.saturation.specs.Rounds.{IsSaturated, KeepsClasses, KeepsStanding, SaturateFaultIs, IsHopeless, RoundsNameLowClass};
 
 use crate::applying::apply_all;
 use crate::faults::SaturateFault;
@@ -70,6 +70,7 @@ pub fn saturate(
     ensures saturated { IfOk result (λ s. IsSaturated rules.now.program graph rounds nodes s.graph s.rounds s.stop) }
     ensures rounds { IfOk result (λ s. s.rounds ≤ rounds) }
     ensures stands { IfOk result (λ s. KeepsStanding rules.now.program graph s.graph) }
+    ensures classes { IfOk result (λ s. KeepsClasses graph s.graph) }
     ensures few { IfOk result (λ s. length s.graph.rows ≤ max (length graph.rows) nodes) }
     ensures fault { IfErr result (SaturateFaultIs rules.now.program graph rounds nodes) }
     ensures hopeless { IfErr result (IsHopeless rules.now.program graph) }
@@ -101,6 +102,7 @@ fn grow(
     ensures saturated { IfOk result (λ s. IsSaturated program.now graph rounds nodes s.graph s.rounds s.stop) }
     ensures rounds { IfOk result (λ s. s.rounds ≤ rounds) }
     ensures stands { IfOk result (λ s. KeepsStanding program.now graph s.graph) }
+    ensures classes { IfOk result (λ s. KeepsClasses graph s.graph) }
     ensures few { IfOk result (λ s. length s.graph.rows ≤ max (length graph.rows) nodes) }
     ensures fault { IfErr result (SaturateFaultIs program.now graph rounds nodes) }
     ensures hopeless { IfErr result (IsHopeless program.now graph) }

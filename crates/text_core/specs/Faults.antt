@@ -3,7 +3,7 @@ use Rattle.std.specs.Prelude.{ℕ, ◌≡◌, ◌<◌, ◌≤◌, ◌⊎◌, ⊤
 use Rattle.std.specs.declared.result.Result.{Result}
 use Rattle.std.specs.declared.result.Result.TheVariants.{Ok, Err}
 use Rattle.text_core.specs.declared.faults.Kind.{Kind}
-use Rattle.text_core.specs.declared.faults.Kind.TheVariants.{BadByte, Unclosed, Unopened, BadNumber, TooDeep, BadForm, UnknownName, Twice, WrongArity, WrongSort, BadRegister, BadAxiom, LimitPassed, BadSlot, BadLatency, OpTwice, BadRow, BadClass, BadLine}
+use Rattle.text_core.specs.declared.faults.Kind.TheVariants.{BadByte, Unclosed, Unopened, BadNumber, TooDeep, BadForm, UnknownName, Twice, WrongArity, WrongSort, BadRegister, BadAxiom, LimitPassed, BadSlot, BadLatency, OpTwice, BadRow, BadClass, BadLine, BadWord}
 use Rattle.text_core.specs.declared.faults.Fault.{Fault}
 use Rattle.text_core.specs.declared.faults.TextFault.{TextFault}
 use Rattle.text_core.specs.declared.faults.TextFault.TheVariants as answers
@@ -28,6 +28,7 @@ fault_number OpTwice = 16
 fault_number BadRow = 17
 fault_number BadClass = 18
 fault_number BadLine = 19
+fault_number BadWord = 20
 
 abbrev pub kind_name : Kind → List ℕ
 kind_name BadByte = codes "BadByte"
@@ -49,6 +50,7 @@ kind_name OpTwice = codes "OpTwice"
 kind_name BadRow = codes "BadRow"
 kind_name BadClass = codes "BadClass"
 kind_name BadLine = codes "BadLine"
+kind_name BadWord = codes "BadWord"
 
 -- fault PLACE KIND
 abbrev pub fault_text : Fault → List ℕ

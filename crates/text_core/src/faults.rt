@@ -49,10 +49,12 @@ pub enum Kind {
     BadClass,
     /// A line that the format doesn't have in its place.
     BadLine,
+    /// A number that is no word of a code, or a branch that may not stand there.
+    BadWord,
 }
 
 impl Kind {
-    /// From 1 to 19, in the order of the declaration.
+    /// From 1 to 20, in the order of the declaration.
     pub fn number(self) -> u8
         ensures { result ≡ fault_number self }
     {
@@ -83,6 +85,7 @@ impl Kind {
             Kind::BadRow => b"BadRow",
             Kind::BadClass => b"BadClass",
             Kind::BadLine => b"BadLine",
+            Kind::BadWord => b"BadWord",
         }
     }
 }

@@ -8,7 +8,7 @@ use Rattle.saturation.specs.AtStart.{CanInsertAll, CanAssumeAll, AssumeFaultOfAl
 use Rattle.saturation.specs.GoalTerms.{present_terms, assumed_pair, assumed_pairs}
 use Rattle.saturation.specs.Trace.{AreInserted, AreAssumed}
 use Rattle.saturation.specs.declared.faults.StartFault.{StartFault}
-use Rattle.saturation.proofs.Started.{all_can, assumes_can, grown, stands, few_made, few_rows, fault_is, hopeless}
+use Rattle.saturation.proofs.Started.{all_can, assumes_can, grown, stands, few_made, few_classes, few_rows, fault_is, hopeless}
 use Rattle.saturation.proofs.first_graph.start.Goals as goal
 use Rattle.saturation.proofs.first_graph.start.Goals.{After-as_slice, After-assume_all}
 
@@ -68,6 +68,11 @@ pub returns-clause-few : goal.returns-clause-few
 returns-clause-few c =
     let f = facts (goal.at.returns-clause-few c).After-as_slice in
     if_ok c (λ g. length g.current < 2 ^ 30) (few_made c.requires.goal.0 (goal_view c.args.goal.now) c.requires.goal.1 f.empty c.insert_all.new.graph f.inserted)
+
+pub returns-clause-few_classes : goal.returns-clause-few_classes
+returns-clause-few_classes c =
+    let f = facts (goal.at.returns-clause-few_classes c).After-as_slice in
+    if_ok c (λ g. length g.current ≤ most_rows_at_start (goal_view c.args.goal.now)) (few_classes c.requires.goal.0 (goal_view c.args.goal.now) c.requires.goal.1 f.empty c.insert_all.new.graph f.inserted)
 
 pub returns-clause-few_rows : goal.returns-clause-few_rows
 returns-clause-few_rows c =

@@ -4,7 +4,7 @@ use Rattle.saturation.specs.Steps.{StepFits, CallsForRound}
 use Rattle.saturation.specs.Trace.{CanApplyAll, AreAllApplied, operators_asked}
 use Rattle.saturation.specs.Instances.{asked_of, RefusalOfAll}
 use Rattle.saturation.proofs.Asks.{asks_of}
-use Rattle.saturation.proofs.LoopSteps.{Ready, running_none, round_can, running_more, fault_is, fault_hopeless, not_last, is_last, end_is}
+use Rattle.saturation.proofs.LoopSteps.{Ready, running_none, round_can, running_more, fault_is, fault_hopeless, not_last, is_last, end_is, classes_are_kept}
 use Rattle.saturation.proofs.rounds.grow.Goals as goal
 use Rattle.saturation.proofs.rounds.grow.Goals.{After-deref}
 
@@ -22,6 +22,9 @@ returns-in-End-clause-saturated c =
       stops = end_is axioms g c.args.rounds c.args.nodes c.loop-graph.done last c.in-End.stop (is_last c.loop-graph.done c.args.rounds) (not_last c.loop-graph.done c.args.rounds) fits;
       graph = c.made-made.ensures.graph;
     }
+
+pub returns-in-End-clause-classes : goal.returns-in-End-clause-classes
+returns-in-End-clause-classes c = classes_are_kept c.args.graph c.loop-graph.graph c.loop-graph.invariant.follows
 
 -- what is known where a round is made
 record Facts (c : After-deref) : Type 0 where

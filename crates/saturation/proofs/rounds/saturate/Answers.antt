@@ -17,6 +17,7 @@ returns c =
       saturated = at (λ p. IfOk c.grow.result (λ s. IsSaturated p g c.args.rounds c.args.nodes s.graph s.rounds s.stop)) c.grow.ensures.saturated;
       rounds = c.grow.ensures.rounds;
       stands = at (λ p. IfOk c.grow.result (λ s. KeepsStanding p g s.graph)) c.grow.ensures.stands;
+      classes = c.grow.ensures.classes;
       few = c.grow.ensures.few;
       fault = at (λ p. IfErr c.grow.result (SaturateFaultIs p g c.args.rounds c.args.nodes)) c.grow.ensures.fault;
       hopeless = at (λ p. IfErr c.grow.result (IsHopeless p g)) c.grow.ensures.hopeless;
