@@ -1,5 +1,5 @@
 -- The rows of the replies exclude one another.
-use Rattle.std.proofs.Common.{◌≡◌, ℕ, ◌<◌, ◌⊎◌, ◌↔◌, Bool, true, false, List, [], ◌∷◌, length, Some, fold, sym, ap, subst, ◌∙◌, inl, inr, arith, nat_lt, cond}
+use Rattle.std.proofs.Common.{◌≡◌, ℕ, ◌<◌, ◌≤◌, ◌^◌, ◌⊎◌, ◌↔◌, Bool, true, false, List, [], ◌∷◌, length, Some, fold, refl, sym, ap, subst, ◌∙◌, inl, inr, arith, nat_lt, cond}
 use Rattle.answer_texts.specs.ReadAnswers.{IsAnswerFault, ReadsAnswer}
 use Rattle.answer_texts.specs.declared.answers.AnswerText.{AnswerText}
 use Rattle.goal_reader.specs.Grammar.{IsFirstTextFault, Reads}
@@ -19,7 +19,9 @@ use Rattle.refute_trim.specs.TrimmedAnswers.{IsTrimReport, rejected, trimmed}
 use Rattle.denali_cli.specs.Outcomes.{IsReported}
 use Rattle.denali_cli.specs.Replies.{IsFaultFor, IsNotYetFor, IsPastLimit, IsReadFor, IsWithinLimit, Reply, Reports, answered}
 use Rattle.denali_cli.specs.Replies.{fault_line, faulty, limit_of, not_yet, not_yet_line, too_long, too_long_line}
-use Rattle.denali_cli.specs.Commands.{Command, Solve, Check, Trim, Run, Gen}
+use Rattle.code_check.specs.CodeGrammar.{CheckedTree, IsFirstCodesFault, ReadsCodes}
+use Rattle.denali_cli.specs.Commands.{Command, Solve, Check, Trim, Verify, Run, Gen}
+use Rattle.denali_cli.specs.VerifiedTexts.{told_status}
 
 -- ---- the status of results
 
@@ -53,12 +55,21 @@ trim_reports : (a : AnswerText) (bytes : List ℕ) {status : Status} → IsTrimR
 trim_reports a bytes (trimmed whole is) = tt
 trim_reports a bytes (rejected at goals each there bad is) = tt
 
+-- the status of codes
+told_reports : (unknown no_world : Bool) → IsReported (told_status unknown no_world)
+told_reports true true = tt
+told_reports false true = tt
+told_reports true false = tt
+told_reports false false = tt
+
 -- the status of a report
 pub reports_report : (command : Command) (text written : List ℕ) (status : Status) → Reports command text written status
     → IsReported status
 reports_report (Solve s) text written status a = subst IsReported (sym a.status_is) (all_report Done a.results tt)
 reports_report Check text written status a = subst IsReported (sym a.status_is) (one_reports a.rejected Done Missing tt tt)
 reports_report Trim text written status a = trim_reports a.answer written a.report
+reports_report (Verify rounds nodes) text written status a =
+    subst IsReported (sym a.status_is) (told_reports a.unknown a.no_world)
 reports_report Run text written status a = subst IsReported (sym a.done) tt
 reports_report (Gen size) text written status a = line_reports size a.answered written status a.line
 
@@ -68,6 +79,7 @@ reports_read : (command : Command) (text written : List ℕ) (status : Status) �
 reports_read (Solve s) text written status a = (a.input, a.reads, a.unpinned)
 reports_read Check text written status a = (a.answer, a.reads)
 reports_read Trim text written status a = (a.answer, a.reads)
+reports_read (Verify rounds nodes) text written status a = (a.told.checked, a.told.reads)
 reports_read Run text written status a = (a.program, a.reads)
 reports_read (Gen size) text written status a = tt
 
@@ -94,19 +106,28 @@ pub record Laws : Type 0 where
       → IsAnswerFault text place kind → ⊥
   pub answers_once : (text : List ℕ) (place other : ℕ) (kind another : Kind) → IsAnswerFault text place kind
       → IsAnswerFault text other another → (place ≡ other) × (kind ≡ another)
+  pub codes_apart : (text : List ℕ) (checked : CheckedTree) (place : ℕ) (kind : Kind) → length text < 2 ^ 29
+      → ReadsCodes text checked → IsFirstCodesFault text place kind → ⊥
+  pub codes_once : (text : List ℕ) (place other : ℕ) (kind another : Kind) → IsFirstCodesFault text place kind
+      → IsFirstCodesFault text other another → (place ≡ other) × (kind ≡ another)
   pub programs_apart : (text : List ℕ) (run : RunText) (place : ℕ) (kind : Kind) → ReadsRun text run
       → IsRunFault text place kind → ⊥
   pub programs_once : (text : List ℕ) (place other : ℕ) (kind another : Kind) → IsRunFault text place kind
       → IsRunFault text other another → (place ≡ other) × (kind ≡ another)
 
 module _ (laws : Laws) where
-  apart : (command : Command) (text : List ℕ) (place : ℕ) (kind : Kind) → IsReadFor command text
-      → IsFaultFor command text place kind → ⊥
-  apart (Solve s) text place kind read first = laws.goals_apart text read.0 place kind read.1 first
-  apart Check text place kind read first = laws.answers_apart text read.0 place kind read.1 first
-  apart Trim text place kind read first = laws.answers_apart text read.0 place kind read.1 first
-  apart Run text place kind read first = laws.programs_apart text read.0 place kind read.1 first
-  apart (Gen size) text place kind read first = absurd first
+  few_bytes : (text : List ℕ) → length text ≤ 1048576 → length text < 2 ^ 29
+  few_bytes text le = omega (arith, le)
+
+  apart : (command : Command) (text : List ℕ) (place : ℕ) (kind : Kind) → IsWithinLimit command text
+      → IsReadFor command text → IsFaultFor command text place kind → ⊥
+  apart (Solve s) text place kind within read first = laws.goals_apart text read.0 place kind read.1 first
+  apart Check text place kind within read first = laws.answers_apart text read.0 place kind read.1 first
+  apart Trim text place kind within read first = laws.answers_apart text read.0 place kind read.1 first
+  apart (Verify rounds nodes) text place kind within read first =
+      laws.codes_apart text read.0 place kind (few_bytes text (within 1048576 refl)) read.1 first
+  apart Run text place kind within read first = laws.programs_apart text read.0 place kind read.1 first
+  apart (Gen size) text place kind within read first = absurd first
 
   once : (command : Command) (text : List ℕ) (place other : ℕ) (kind another : Kind)
       → IsFaultFor command text place kind → IsFaultFor command text other another
@@ -114,6 +135,7 @@ module _ (laws : Laws) where
   once (Solve s) text place other kind another f g = laws.goals_once text place other kind another f g
   once Check text place other kind another f g = laws.answers_once text place other kind another f g
   once Trim text place other kind another f g = laws.answers_once text place other kind another f g
+  once (Verify rounds nodes) text place other kind another f g = laws.codes_once text place other kind another f g
   once Run text place other kind another f g = laws.programs_once text place other kind another f g
   once (Gen size) text place other kind another f g = absurd f
 
@@ -123,6 +145,7 @@ module _ (laws : Laws) where
   yet_no_fault (Solve s) text place kind isnt first = laws.goals_apart text isnt.0 place kind isnt.1 first
   yet_no_fault Check text place kind isnt first = isnt
   yet_no_fault Trim text place kind isnt first = isnt
+  yet_no_fault (Verify rounds nodes) text place kind isnt first = isnt
   yet_no_fault Run text place kind isnt first = isnt
   yet_no_fault (Gen size) text place kind isnt first = isnt
 
@@ -131,6 +154,7 @@ module _ (laws : Laws) where
       isnt.2 (subst AreUnpinned (laws.goals_same text read.0 isnt.0 read.1 isnt.1) read.2)
   yet_not_read Check text isnt read = isnt
   yet_not_read Trim text isnt read = isnt
+  yet_not_read (Verify rounds nodes) text isnt read = isnt
   yet_not_read Run text isnt read = isnt
   yet_not_read (Gen size) text isnt read = isnt
 
@@ -144,7 +168,7 @@ module _ (laws : Laws) where
     no_answer : Reports command text written status → IsWithinLimit command text
         → (IsPastLimit command text ⊎ (HasFault ⊎ IsNotYetFor command text)) → ⊥
     no_answer a within (inl past) = past_and_within command text past within
-    no_answer a within (inr (inl f)) = apart command text f.0 f.1 (reports_read command text written status a) f.2
+    no_answer a within (inr (inl f)) = apart command text f.0 f.1 within (reports_read command text written status a) f.2
     no_answer a within (inr (inr isnt)) = yet_not_read command text isnt (reports_read command text written status a)
 
     pub fault : Reply command text written status
@@ -164,7 +188,7 @@ module _ (laws : Laws) where
     )
     reported (faulty place kind within first line is) = (
       λ r. absurd (fault_is_none status is r),
-      λ h. absurd (apart command text place kind h.1 first),
+      λ h. absurd (apart command text place kind within h.1 first),
     )
     reported (not_yet within isnt line is) = (
       λ r. absurd (fault_is_none status is r),
@@ -201,13 +225,13 @@ module _ (laws : Laws) where
         line ∙ ap (λ n. fault_line n another) same.0 ∙ ap (fault_line place) same.1
     line_of_fault (not_yet _ isnt line is) place kind within first = absurd (yet_no_fault command text place kind isnt first)
     line_of_fault (answered _ a) place kind within first =
-        absurd (apart command text place kind (reports_read command text written status a) first)
+        absurd (apart command text place kind within (reports_read command text written status a) first)
 
     pub answers : Reply command text written status → IsWithinLimit command text → IsReadFor command text
         → Reports command text written status
     answers (too_long limit has long line e) within read =
         absurd (past_and_within command text (limit, has, long) within)
-    answers (faulty place kind _ first line e) within read = absurd (apart command text place kind read first)
+    answers (faulty place kind _ first line e) within read = absurd (apart command text place kind within read first)
     answers (not_yet _ isnt line e) within read = absurd (yet_not_read command text isnt read)
     answers (answered _ a) within read = a
 

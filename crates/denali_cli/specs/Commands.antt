@@ -2,12 +2,13 @@
 use Rattle.std.specs.Prelude.{◌≤◌}
 use Rattle.denali_run.specs.MatchedGoals.{IsSettings}
 pub use Rattle.denali_cli.specs.declared.commands.Command.{Command}
-pub use Rattle.denali_cli.specs.declared.commands.Command.TheVariants.{Solve, Check, Trim, Run, Gen}
+pub use Rattle.denali_cli.specs.declared.commands.Command.TheVariants.{Solve, Check, Trim, Verify, Run, Gen}
 
 -- its numbers are within their limits
 abbrev pub HasValuesInRange : Command → Type 0
 HasValuesInRange (Solve s) = IsSettings s
 HasValuesInRange Check = Unit {0}
 HasValuesInRange Trim = Unit {0}
+HasValuesInRange (Verify rounds nodes) = (rounds ≤ 16) × ((1 ≤ nodes) × (nodes ≤ 4096))
 HasValuesInRange Run = Unit {0}
 HasValuesInRange (Gen size) = (1 ≤ size) × (size ≤ 20)

@@ -5,3 +5,4 @@ pub mod PlainForms
 pub mod Replies
 pub mod Said
 pub mod Spellings
+pub mod VerifiedTexts

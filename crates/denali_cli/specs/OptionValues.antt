@@ -1,5 +1,5 @@
 -- What options take for values, and what stands where they aren't set. Source: this project.
-use Rattle.std.specs.Prelude.{ℕ, List, None, Some, codes, decimal, nat_lt, not, ◌≤◌, ◌&&◌, if◌then◌else◌, unwrap_or, IfSome}
+use Rattle.std.specs.Prelude.{ℕ, Bool, List, None, Some, is_none, codes, decimal, nat_lt, not, ◌≤◌, ◌&&◌, if◌then◌else◌, unwrap_or, IfSome}
 use Rattle.std.specs.Str.Parse.{digits_value}
 use Rattle.std.specs.declared.option.Option.{Option}
 use Rattle.std.specs.Str.{bytes_eq}
@@ -54,11 +54,21 @@ pub record AreInRange (o : Options) : Type 0 where
   pub cycles : IfSome o.cycles (λ n. n ≤ 24)
   pub conflicts : IfSome o.conflicts (λ n. (1 ≤ n) × (n ≤ 1000000))
 
+-- no other option is set than those of rounds
+abbrev pub has_rounds_alone : Options → Bool
+has_rounds_alone o = is_none o.cycles && (is_none o.conflicts && is_none o.pick)
+
+abbrev pub default_rounds : ℕ
+default_rounds = 4
+
+abbrev pub default_nodes : ℕ
+default_nodes = 512
+
 -- where an option isn't set, its default stands
 abbrev pub settings_of : Options → Settings
 settings_of o = record {
-  rounds = unwrap_or o.rounds 4;
-  nodes = unwrap_or o.nodes 512;
+  rounds = unwrap_or o.rounds default_rounds;
+  nodes = unwrap_or o.nodes default_nodes;
   cycles = unwrap_or o.cycles 8;
   conflicts = unwrap_or o.conflicts 20000;
   pick = unwrap_or o.pick First;

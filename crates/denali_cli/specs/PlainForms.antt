@@ -1,12 +1,12 @@
 -- Words in plain form: a command, and then pairs of an option and its value, in any order, each option at most once and
 -- each value one of its own. Source: this project.
-use Rattle.std.specs.Prelude.{List, ℕ, [], ◌∷◌, None, Some, codes, if◌then◌else◌}
-use Rattle.std.specs.Option.{option_map}
+use Rattle.std.specs.Prelude.{List, ℕ, [], ◌∷◌, None, Some, codes, unwrap_or, if◌then◌else◌}
+use Rattle.std.specs.Option.{option_and_then, option_map}
 use Rattle.std.specs.declared.option.Option.{Option}
 use Rattle.std.specs.Str.{bytes_eq}
-use Rattle.denali_cli.specs.Commands.{Command, Solve, Check, Trim, Run, Gen}
+use Rattle.denali_cli.specs.Commands.{Command, Solve, Check, Trim, Verify, Run, Gen}
 use Rattle.denali_cli.specs.declared.options.Options.{Options}
-use Rattle.denali_cli.specs.OptionValues.{rounds_value, nodes_value, cycles_value, conflicts_value, pick_value, no_options, settings_of, size_value, default_size}
+use Rattle.denali_cli.specs.OptionValues.{rounds_value, nodes_value, cycles_value, conflicts_value, pick_value, no_options, settings_of, has_rounds_alone, default_rounds, default_nodes, size_value, default_size}
 
 -- the value for an option that wasn't set before
 abbrev pub once : {A : Type 0} → Option A → Option A → Option A
@@ -50,6 +50,11 @@ size_in (name ∷ []) = None
 size_in (name ∷ value ∷ []) = if bytes_eq name (codes "--size") then size_value value else None
 size_in (name ∷ value ∷ word ∷ words) = None
 
+-- the command of `verify` with these options, which are those of rounds
+abbrev pub verify_of : Options → Option Command
+verify_of o =
+    if has_rounds_alone o then Some (Verify (unwrap_or o.rounds default_rounds) (unwrap_or o.nodes default_nodes)) else None
+
 -- the command of words in plain form; none for other words
 abbrev pub plain_command : List (List ℕ) → Option Command
 plain_command [] = None
@@ -60,6 +65,8 @@ plain_command (name ∷ words) =
     then alone Check words
     else if bytes_eq name (codes "trim")
     then alone Trim words
+    else if bytes_eq name (codes "verify")
+    then option_and_then verify_of (set_options no_options words)
     else if bytes_eq name (codes "run")
     then alone Run words
     else if bytes_eq name (codes "gen")

@@ -19,13 +19,16 @@ use Rattle.denali_run.specs.declared.reports.TextError.TheVariants.{Read, NotYet
 use Rattle.denali_run.specs.declared.statuses.Status.{Status}
 use Rattle.denali_run.specs.declared.statuses.Status.TheVariants.{ReadFault}
 use Rattle.refute_trim.specs.TrimmedAnswers.{TrimsText}
-use Rattle.denali_cli.specs.Commands.{Command, Solve, Check, Trim, Run, Gen}
+use Rattle.code_check.specs.CodeGrammar.{CheckedTree, IsFirstCodesFault, ReadsCodes}
+use Rattle.denali_cli.specs.Commands.{Command, Solve, Check, Trim, Verify, Run, Gen}
+use Rattle.denali_cli.specs.VerifiedTexts.{VerifiesText}
 
 -- how many bytes a command reads at most, if it reads; an answer may be long
 abbrev pub limit_of : Command → Option ℕ
 limit_of (Solve s) = Some 1048576
 limit_of Check = Some 268435456
 limit_of Trim = Some 268435456
+limit_of (Verify rounds nodes) = Some 1048576
 limit_of Run = Some 1048576
 limit_of (Gen size) = None
 
@@ -58,6 +61,7 @@ abbrev pub IsReadFor : Command → List ℕ → Type 0
 IsReadFor (Solve s) text = (input : InputTree) × Reads text input × AreUnpinned input
 IsReadFor Check text = (answer : AnswerText) × ReadsAnswer text answer
 IsReadFor Trim text = (answer : AnswerText) × ReadsAnswer text answer
+IsReadFor (Verify rounds nodes) text = (checked : CheckedTree) × ReadsCodes text checked
 IsReadFor Run text = (program : RunText) × ReadsRun text program
 IsReadFor (Gen size) text = Unit {0}
 
@@ -66,6 +70,7 @@ abbrev pub IsFaultFor : Command → List ℕ → ℕ → Kind → Type 0
 IsFaultFor (Solve s) text place kind = IsFirstTextFault text place kind
 IsFaultFor Check text place kind = IsAnswerFault text place kind
 IsFaultFor Trim text place kind = IsAnswerFault text place kind
+IsFaultFor (Verify rounds nodes) text place kind = IsFirstCodesFault text place kind
 IsFaultFor Run text place kind = IsRunFault text place kind
 IsFaultFor (Gen size) text place kind = ⊥
 
@@ -79,6 +84,7 @@ abbrev pub Reports : Command → List ℕ → List ℕ → Status → Type 0
 Reports (Solve s) text bytes status = Answers s text bytes status
 Reports Check text bytes status = ChecksText text bytes status
 Reports Trim text bytes status = TrimsText text bytes status
+Reports (Verify rounds nodes) text bytes status = VerifiesText rounds nodes text bytes status
 Reports Run text bytes status = RunsText text bytes status
 Reports (Gen size) text bytes status = AnswersGenerated size bytes status
 

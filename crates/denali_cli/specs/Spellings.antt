@@ -7,9 +7,9 @@ use Rattle.std.specs.declared.option.Option.{Option}
 use Rattle.std.specs.Str.{bytes_eq}
 use Rattle.clap.specs.Words.{App, Kinds, Row, Rule, Text, fault_of, first_of, new_app, new_rule, subcommand_of, with_rule, with_subcommand}
 use Rattle.clap.specs.declared.builder.action.ArgAction.TheVariants.{Set}
-use Rattle.denali_cli.specs.Commands.{Command, Solve, Check, Trim, Run, Gen}
+use Rattle.denali_cli.specs.Commands.{Command, Solve, Check, Trim, Verify, Run, Gen}
 use Rattle.denali_cli.specs.declared.options.Options.{Options}
-use Rattle.denali_cli.specs.OptionValues.{rounds_value, nodes_value, cycles_value, conflicts_value, pick_value, settings_of, size_value, default_size}
+use Rattle.denali_cli.specs.OptionValues.{rounds_value, nodes_value, cycles_value, conflicts_value, pick_value, settings_of, default_rounds, default_nodes, size_value, default_size}
 
 -- ---- the program
 
@@ -25,6 +25,9 @@ abbrev pub solve_app : App
 solve_app = with_options (new_app (codes "solve"))
     (codes "rounds" ∷ codes "nodes" ∷ codes "cycles" ∷ codes "conflicts" ∷ codes "pick" ∷ [])
 
+abbrev pub verify_app : App
+verify_app = with_options (new_app (codes "verify")) (codes "rounds" ∷ codes "nodes" ∷ [])
+
 abbrev pub gen_app : App
 gen_app = with_options (new_app (codes "gen")) (codes "size" ∷ [])
 
@@ -38,7 +41,7 @@ with_commands a (command ∷ commands) = with_commands (with_subcommand a comman
 
 abbrev pub program : App
 program = with_commands (of_words (new_app (codes "denali")))
-    (solve_app ∷ new_app (codes "check") ∷ new_app (codes "trim") ∷ new_app (codes "run") ∷ gen_app ∷ [])
+    (solve_app ∷ new_app (codes "check") ∷ new_app (codes "trim") ∷ verify_app ∷ new_app (codes "run") ∷ gen_app ∷ [])
 
 -- clap finds no fault
 abbrev pub is_taken : Kinds → Bool
@@ -72,6 +75,13 @@ options_in rows =
 abbrev pub solve_in : List Row → Option Command
 solve_in rows = option_map (λ o. Solve (settings_of o)) (options_in rows)
 
+abbrev pub verify_in : List Row → Option Command
+verify_in rows =
+    option_and_then (λ rounds.
+    option_map (λ nodes. Verify (unwrap_or rounds default_rounds) (unwrap_or nodes default_nodes))
+    (value_given nodes_value (first_of (codes "nodes") rows)))
+    (value_given rounds_value (first_of (codes "rounds") rows))
+
 abbrev pub gen_in : List Row → Option Command
 gen_in rows =
     option_map (λ size. Gen (unwrap_or size default_size)) (value_given size_value (first_of (codes "size") rows))
@@ -82,6 +92,7 @@ command_in m =
     if bytes_eq m.0 (codes "solve") then solve_in m.1
     else if bytes_eq m.0 (codes "check") then Some Check
     else if bytes_eq m.0 (codes "trim") then Some Trim
+    else if bytes_eq m.0 (codes "verify") then verify_in m.1
     else if bytes_eq m.0 (codes "run") then Some Run
     else if bytes_eq m.0 (codes "gen") then gen_in m.1
     else None

@@ -10,6 +10,8 @@ pub(crate) enum Command {
     Check,
     /// Trims the refutations of an answer.
     Trim,
+    /// Checks codes against their goals, in so many rounds and up to so many rows.
+    Verify { rounds: u32, nodes: u32 },
     /// Runs the program of a text.
     Run,
     /// Solves the goal that is made from a number of operators.

@@ -5,20 +5,22 @@ ghost use Rattle.denali_cli.specs.Commands.{Command as Asked, HasValuesInRange};
 ghost use Rattle.denali_cli.specs.Said.{asked_by};
 ghost use Rattle.denali_cli.specs.Replies as replies;
 ghost use Rattle.denali_cli.specs.Replies.{ErrorIs, IsWithinLimit, Reply, Reports, fault_line, not_yet_line, too_long_line};
+ghost use Rattle.denali_cli.specs.VerifiedTexts.{VerifiesText, VerifyErrorIs, told_status};
 ghost use Rattle.denali_cli.specs.declared.decide.Stop.TheVariants as stops;
 ghost use Rattle.denali_cli.specs.Outcomes.{Decides, IsReader, IsUnread, IsWhole, Takes};
 
 use crate::commands::Command;
 use crate::words::asked;
+use code_check::{Told, verify_text};
 use denali_run::{Report, Status, TextError, check_text, gen_text, run_text, solve_text};
 use items::NoMemory;
 use itoa::Buffer;
 use outside_io::{ReadAllFault, Source, read_all};
 use refute_trim::trim_text;
 use std::alloc::Global;
-use text_core::Fault;
+use text_core::{Fault, TextFault};
 
-/// The most bytes of a text of goals or of a program.
+/// The most bytes of a text of goals, of codes or of a program.
 const LIMIT: u32 = 1048576;
 
 /// The most bytes of an answer that is to be checked or trimmed.
@@ -86,8 +88,41 @@ fn limit_of(command: Command) -> Option<u32>
     match command {
         Command::Solve(_) => Some(LIMIT),
         Command::Check | Command::Trim => Some(ANSWER_LIMIT),
-        Command::Run => Some(LIMIT),
+        Command::Verify { .. } | Command::Run => Some(LIMIT),
         Command::Gen(_) => None,
+    }
+}
+
+/// The lines of codes, with the status that they ask for.
+fn told(told: Told) -> Report
+    ensures bytes { result.bytes.items ≡ told.bytes }
+    ensures status { result.status ≡ told_status told.unknown told.noworld }
+{
+    let status = if told.noworld {
+        Status::NoWorld
+    } else if told.unknown {
+        Status::Missing
+    } else {
+        Status::Done
+    };
+    Report {
+        bytes: told.bytes.into_vec(),
+        status,
+    }
+}
+
+/// The lines of a text's codes, or why it has none.
+fn verified(alloc: Global, text: &[u8], rounds: u32, nodes: u32) -> Result<Report, TextError>
+    requires few { length text.now ≤ 268435456 }
+    requires rounds { rounds ≤ 16 }
+    requires nodes { (1 ≤ nodes) × (nodes ≤ 4096) }
+    ensures told { IfOk result (λ r. VerifiesText rounds nodes text.now r.bytes.items r.status) }
+    ensures error { IfErr result (VerifyErrorIs text.now) }
+{
+    match verify_text(alloc, text, rounds, nodes) {
+        Ok(answer) => Ok(told(answer)),
+        Err(TextFault::Fault(fault)) => Err(TextError::Read(fault)),
+        Err(TextFault::Memory) => Err(TextError::Memory),
     }
 }
 
@@ -102,6 +137,7 @@ fn report_on(alloc: Global, command: Command, text: &[u8]) -> Result<Report, Tex
         Command::Solve(settings) => solve_text(alloc, text, &settings),
         Command::Check => check_text(alloc, text),
         Command::Trim => trim_text(alloc, text),
+        Command::Verify { rounds, nodes } => verified(alloc, text, rounds, nodes),
         Command::Run => run_text(alloc, text),
         Command::Gen(size) => Ok(gen_text(alloc, size)?),
     }

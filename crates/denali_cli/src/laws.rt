@@ -8,6 +8,7 @@ ghost use Rattle.denali_cli.specs.Outcomes.{IsReported};
 ghost use Rattle.denali_cli.specs.Replies.{IsFaultFor, IsNotYetFor, IsPastLimit, IsReadFor, IsWithinLimit, Reply, Reports, fault_line, limit_of, not_yet_line, too_long_line};
 
 use answer_texts::one_answer;
+use code_check::codes_have_one_reading;
 use goal_reader::{texts_have_one_first_fault, texts_have_one_reading};
 use run_texts::one_program;
 
@@ -39,5 +40,6 @@ pub fn replies_are_exact()
     texts_have_one_reading();
     texts_have_one_first_fault();
     one_answer();
+    codes_have_one_reading();
     one_program();
 }

@@ -18,6 +18,11 @@ pub(crate) const MOST_CONFLICTS: u32 = 1_000_000;
 
 pub(crate) const MOST_SIZE: u32 = 20;
 
+/// How many rounds are done at most, and up to how many rows, where no option says so.
+pub(crate) const DEFAULT_ROUNDS: u32 = 4;
+
+pub(crate) const DEFAULT_NODES: u32 = 512;
+
 /// How many operators a generated goal has where no option says so.
 pub(crate) const DEFAULT_SIZE: u32 = 10;
 
@@ -145,8 +150,8 @@ pub(crate) fn settings_of(options: Options) -> Settings
     ensures within { IsSettings result }
 {
     Settings {
-        rounds: options.rounds.unwrap_or(4),
-        nodes: options.nodes.unwrap_or(512),
+        rounds: options.rounds.unwrap_or(DEFAULT_ROUNDS),
+        nodes: options.nodes.unwrap_or(DEFAULT_NODES),
         cycles: options.cycles.unwrap_or(8),
         conflicts: options.conflicts.unwrap_or(20000),
         pick: options.pick.unwrap_or(Pick::First),

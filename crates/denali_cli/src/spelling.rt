@@ -9,8 +9,8 @@ ghost use Rattle.denali_cli.specs.Spellings as spec;
 
 use crate::commands::Command;
 use crate::options::{
-    DEFAULT_SIZE, MOST_CONFLICTS, MOST_CYCLES, MOST_NODES, MOST_ROUNDS, MOST_SIZE, Options,
-    pick_of, settings_of, value_in,
+    DEFAULT_NODES, DEFAULT_ROUNDS, DEFAULT_SIZE, MOST_CONFLICTS, MOST_CYCLES, MOST_NODES,
+    MOST_ROUNDS, MOST_SIZE, Options, pick_of, settings_of, value_in,
 };
 use clap::error::ErrorKind;
 use clap::{Arg, ArgAction, ArgMatches, Command as Parser};
@@ -43,6 +43,15 @@ fn solve_parser<'a>(alloc: Global) -> Result<Parser<'a>, NoMemory>
     with_argument(alloc, solve, "pick")
 }
 
+/// `verify` with its options.
+fn verify_parser<'a>(alloc: Global) -> Result<Parser<'a>, NoMemory>
+    ensures app { IfOk result (λ c. app_of c ≡ spec.verify_app) }
+    ensures local { IfOk result (λ c. (fields_of c).has_globals ≡ false) }
+{
+    let verify = with_argument(alloc, Parser::new(alloc, "verify"), "rounds")?;
+    with_argument(alloc, verify, "nodes")
+}
+
 /// `gen` with its option.
 fn gen_parser<'a>(alloc: Global) -> Result<Parser<'a>, NoMemory>
     ensures app { IfOk result (λ c. app_of c ≡ spec.gen_app) }
@@ -71,8 +80,10 @@ fn program<'a>(alloc: Global) -> Result<Parser<'a>, NoMemory>
     ensures { IfOk result (λ c. app_of c ≡ spec.program) }
 {
     let first = first_commands(alloc)?;
+    let verifier = verify_parser(alloc)?;
     let generator = gen_parser(alloc)?;
     first
+        .subcommand(verifier)?
         .subcommand(Parser::new(alloc, "run"))?
         .subcommand(generator)
 }
@@ -128,6 +139,19 @@ fn solve_in(matches: &ArgMatches<'_>) -> Option<Command>
     Some(Command::Solve(settings_of(options)))
 }
 
+/// The command of `verify` with the options that are given.
+fn verify_in(matches: &ArgMatches<'_>) -> Option<Command>
+    ensures value { result ≡ spec.verify_in (rows_of (found_of matches.now)) }
+    ensures within { IfSome result HasValuesInRange }
+{
+    let rounds = number_given(matches, "rounds", 0, MOST_ROUNDS)?;
+    let nodes = number_given(matches, "nodes", 1, MOST_NODES)?;
+    Some(Command::Verify {
+        rounds: rounds.unwrap_or(DEFAULT_ROUNDS),
+        nodes: nodes.unwrap_or(DEFAULT_NODES),
+    })
+}
+
 /// The command of `gen` with the size that is given.
 fn gen_in(matches: &ArgMatches<'_>) -> Option<Command>
     ensures value { result ≡ spec.gen_in (rows_of (found_of matches.now)) }
@@ -149,6 +173,8 @@ fn command_in(matches: &ArgMatches<'_>) -> Option<Command>
         Some(Command::Check)
     } else if name == "trim" {
         Some(Command::Trim)
+    } else if name == "verify" {
+        verify_in(matches)
     } else if name == "run" {
         Some(Command::Run)
     } else if name == "gen" {

@@ -34,8 +34,10 @@ pub fn run<S: Source, T: Sink>(
     // `check` the input reads as an answer, whoever wrote it, and the report is a line for each of its goals: `ok` only
     // where what it claims of the printed graph is true. For `trim` the input reads as an answer too, and the report is
     // that answer with its refutations trimmed, or the line of the first goal whose refutation is too large or refused.
-    // For `run` the input reads as a program, and the report is how it ends. For `gen` the report is the line of a right
-    // result of the goal that is made from the size.
+    // For `verify` the input reads as goals and codes for them, and the report is a line for each code: `yes` only where
+    // the code does what its goal says in each world in which the axioms and assumptions hold. For `run` the input reads
+    // as a program, and the report is how it ends. For `gen` the report is the line of a right result of the goal that is
+    // made from the size.
     ensures right { (command : Asked) → asked_by words.now ≡ Some command → IsReported result → Works command
         (S.left source.old) (S.left source.new) (T.written sink.old) (T.written sink.new) result }
 

@@ -2,12 +2,13 @@
 ghost use Rattle.std.specs.Prelude.{◌≡◌, IfOk, IfSome, Some, map};
 ghost use Rattle.std.specs.declared.result.Result.TheVariants as results;
 ghost use Rattle.denali_cli.specs.Commands.{Command as CommandOf, HasValuesInRange};
+ghost use Rattle.denali_cli.specs.OptionValues.{AreInRange};
 ghost use Rattle.denali_cli.specs.PlainForms as plain;
 ghost use Rattle.denali_cli.specs.PlainForms.{plain_command};
 ghost use Rattle.denali_cli.specs.Said.{asked_by};
 
 use crate::commands::Command;
-use crate::options::{options_of, settings_of, size_in};
+use crate::options::{DEFAULT_NODES, DEFAULT_ROUNDS, Options, options_of, settings_of, size_in};
 use crate::spelling::spelled;
 use items::NoMemory;
 use std::alloc::Global;
@@ -25,6 +26,21 @@ fn alone(command: Command, words: &[&str]) -> Option<Command>
     }
 }
 
+/// The command of `verify` with these options, which are those of rounds.
+fn verify_of(options: Options) -> Option<Command>
+    requires { AreInRange options }
+    ensures value { result ≡ plain.verify_of options }
+    ensures within { IfSome result HasValuesInRange }
+{
+    if options.cycles.is_some() || options.conflicts.is_some() || options.pick.is_some() {
+        return None;
+    }
+    Some(Command::Verify {
+        rounds: options.rounds.unwrap_or(DEFAULT_ROUNDS),
+        nodes: options.nodes.unwrap_or(DEFAULT_NODES),
+    })
+}
+
 /// The command of words in plain form.
 fn in_plain_form(words: &[&str]) -> Option<Command>
     ensures value { result ≡ plain_command (map (λ word. word.now) words.now) }
@@ -38,6 +54,9 @@ fn in_plain_form(words: &[&str]) -> Option<Command>
         alone(Command::Check, words)
     } else if *name == "trim" {
         alone(Command::Trim, words)
+    } else if *name == "verify" {
+        let options = options_of(words)?;
+        verify_of(options)
     } else if *name == "run" {
         alone(Command::Run, words)
     } else if *name == "gen" {

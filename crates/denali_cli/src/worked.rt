@@ -1,7 +1,7 @@
 // What some words ask for, by the definitions.
 ghost use Rattle.std.specs.Prelude.{◌≡◌, [], ◌∷◌, None, Some, codes};
 ghost use Rattle.denali_run.specs.declared.settings.Pick.TheVariants.{Last, Busy};
-ghost use Rattle.denali_cli.specs.Commands.{Solve, Check, Trim, Run, Gen};
+ghost use Rattle.denali_cli.specs.Commands.{Solve, Check, Trim, Verify, Run, Gen};
 ghost use Rattle.denali_cli.specs.OptionValues.{no_options, settings_of};
 ghost use Rattle.denali_cli.specs.Said.{command_of};
 ghost use Rattle.denali_cli.specs.Spellings.{spelled_command};
@@ -27,6 +27,11 @@ pub fn worked_words()
     ensures no_option_of_checks { command_of (codes "check" ∷ codes "--cycles=3" ∷ []) ≡ None }
     ensures trims { command_of (codes "trim" ∷ []) ≡ Some Trim }
     ensures no_option_of_trims { command_of (codes "trim" ∷ codes "--cycles=3" ∷ []) ≡ None }
+    ensures verifies { command_of (codes "verify" ∷ []) ≡ Some (Verify 4 512) }
+    ensures joined_rounds { command_of (codes "verify" ∷ codes "--rounds=3" ∷ []) ≡ Some (Verify 3 512) }
+    ensures rounds_and_rows { command_of (codes "verify" ∷ codes "--nodes" ∷ codes "7" ∷ codes "--rounds" ∷ codes "0" ∷ [])
+        ≡ Some (Verify 0 7) }
+    ensures no_cycles_of_codes { command_of (codes "verify" ∷ codes "--cycles" ∷ codes "3" ∷ []) ≡ None }
     ensures runs { command_of (codes "run" ∷ []) ≡ Some Run }
     ensures runs_behind_dashes { command_of (codes "run" ∷ codes "--" ∷ []) ≡ Some Run }
     ensures no_option_of_runs { command_of (codes "run" ∷ codes "--rounds" ∷ codes "3" ∷ []) ≡ None }

@@ -10,6 +10,8 @@ returns c =
       goals_once = c.texts_have_one_first_fault.ensures;
       answers_apart = c.one_answer.ensures.apart;
       answers_once = c.one_answer.ensures.first;
+      codes_apart = c.codes_have_one_reading.ensures.apart;
+      codes_once = c.codes_have_one_reading.ensures.first;
       programs_apart = c.one_program.ensures.apart;
       programs_once = c.one_program.ensures.first;
     } in

@@ -3,7 +3,7 @@ use Rattle.std.proofs.Common.{◌≡◌, [], ◌∷◌, None, Some, codes, refl}
 use Rattle.std.specs.Fmt.{digits}
 use Rattle.clap.proofs.OnLiterals.{clap_on_literals}
 use Rattle.denali_run.specs.declared.settings.Pick.TheVariants.{Last, Busy}
-use Rattle.denali_cli.specs.Commands.{Solve, Check, Trim, Run, Gen}
+use Rattle.denali_cli.specs.Commands.{Solve, Check, Trim, Verify, Run, Gen}
 use Rattle.denali_cli.specs.OptionValues.{no_options, settings_of}
 use Rattle.denali_cli.specs.Said.{command_of}
 use Rattle.denali_cli.specs.Spellings.{matched, spelled_command}
@@ -62,6 +62,23 @@ trims = refl
 no_option_of_trims : command_of (codes "trim" ∷ codes "--cycles=3" ∷ []) ≡ None
 unfolding clap_on_literals matched digits
 no_option_of_trims = refl
+
+verifies : command_of (codes "verify" ∷ []) ≡ Some (Verify 4 512)
+unfolding clap_on_literals matched digits
+verifies = refl
+
+joined_rounds : command_of (codes "verify" ∷ codes "--rounds=3" ∷ []) ≡ Some (Verify 3 512)
+unfolding clap_on_literals matched digits
+joined_rounds = refl
+
+rounds_and_rows : command_of (codes "verify" ∷ codes "--nodes" ∷ codes "7" ∷ codes "--rounds" ∷ codes "0" ∷ [])
+    ≡ Some (Verify 0 7)
+unfolding clap_on_literals matched digits
+rounds_and_rows = refl
+
+no_cycles_of_codes : command_of (codes "verify" ∷ codes "--cycles" ∷ codes "3" ∷ []) ≡ None
+unfolding clap_on_literals matched digits
+no_cycles_of_codes = refl
 
 runs : command_of (codes "run" ∷ []) ≡ Some Run
 unfolding clap_on_literals matched digits
@@ -177,6 +194,10 @@ returns c = record {
   no_option_of_checks = no_option_of_checks;
   trims = trims;
   no_option_of_trims = no_option_of_trims;
+  verifies = verifies;
+  joined_rounds = joined_rounds;
+  rounds_and_rows = rounds_and_rows;
+  no_cycles_of_codes = no_cycles_of_codes;
   runs = runs;
   runs_behind_dashes = runs_behind_dashes;
   no_option_of_runs = no_option_of_runs;

@@ -1,0 +1,203 @@
+-- What the check of a code comes to, from what its calls promise.
+use Rattle.std.proofs.Common.{◌≡◌, ℕ, ◌+◌, ◌-◌, ◌*◌, ◌<◌, ◌≤◌, ◌^◌, ◌∙◌, List, [], ◌∷◌, map, length, get_or, Result, Ok, Err, Option, Some, None, refl, sym, ap, subst, arith}
+use Rattle.std.specs.Prelude.{All, Contains, IfOk, IfSome, MatchOption, slice_get}
+use Rattle.std.proofs.lemmas.List.{get_or-map, length-map}
+use Rattle.std.proofs.lemmas.List.Elements.{All-weaker, Contains-get_or}
+use Rattle.std.proofs.lemmas.Option.{slice_get_read, slice_get_within}
+use Rattle.word_ops.specs.declared.sorts.Op.{Op}
+use Rattle.word_ops.specs.declared.sorts.Sort.TheVariants as sorts
+use Rattle.word_terms.specs.Tree.{AreBelow, Tree}
+use Rattle.egraph.specs.Graph.{Graph}
+use Rattle.alpha_encode.specs.Decoded.{decoded}
+use Rattle.alpha_encode.specs.declared.instructions.Instr.{Instr}
+use Rattle.goal_meaning.specs.Views.{GoalTree, InputTree, TargetTree, goal_view, target_view}
+use Rattle.goal_meaning.specs.WellFormed.{IsGoal, IsGoalTerm, IsTarget}
+use Rattle.goal_meaning.specs.declared.goals.Goal.{Goal}
+use Rattle.goal_meaning.specs.declared.goals.InputReg.{InputReg}
+use Rattle.saturation.specs.AtStart.{IsHopelessAtStart, StartFaultIs, StartNamesLowClass, most_rows_at_start}
+use Rattle.saturation.specs.GoalTerms.{rules_of}
+use Rattle.saturation.specs.Rounds.{IsHopeless, IsImpossible, RoundsNameLowClass, SaturateFaultIs}
+use Rattle.saturation.specs.declared.faults.SaturateFault.{SaturateFault}
+use Rattle.saturation.specs.declared.faults.SaturateFault.TheVariants as round_faults
+use Rattle.saturation.specs.declared.faults.StartFault.{StartFault}
+use Rattle.saturation.specs.declared.faults.StartFault.TheVariants as start_faults
+use Rattle.saturation.specs.declared.rounds.Stop.{Stop}
+use Rattle.code_check.specs.Answers.{IsAnswerOf, IsGoalBelow, IsNoWorldAtStart, IsNoWorldInRounds}
+use Rattle.code_check.specs.Outcomes.{DoesGoal}
+use Rattle.code_check.specs.Same.{IsFirstDifferent, Same}
+use Rattle.code_check.specs.Verified.{HasNoWorld, IsCompared, IsRightFor, IsVerified}
+use Rattle.code_check.specs.declared.codes.Code.{Code}
+use Rattle.code_check.specs.declared.codes.Part.{Part}
+use Rattle.code_check.specs.declared.codes.Verified.{Verified}
+use Rattle.code_check.specs.declared.codes.Verified.TheVariants.{Yes, Unknown, NoWorld}
+use Rattle.code_check.proofs.Sorting.{sort_below}
+
+-- ---- the instructions of words are one list
+
+map_same : (xs ys : List Instr) → map Some xs ≡ map Some ys → xs ≡ ys
+map_same [] [] e = refl
+map_same [] (y ∷ ys) e = absurd (no_cons (Some y) (map Some ys) e)
+  where
+    no_cons : (o : Option Instr) (os : List (Option Instr)) → [] ≡ o ∷ os → ⊥
+    no_cons o os e = cc
+map_same (x ∷ xs) [] e = absurd (no_nil (Some x) (map Some xs) e)
+  where
+    no_nil : (o : Option Instr) (os : List (Option Instr)) → o ∷ os ≡ [] → ⊥
+    no_nil o os e = cc
+map_same (x ∷ xs) (y ∷ ys) e =
+    let first : x ≡ y = head_same x y (map Some xs) (map Some ys) e in
+    let rest : xs ≡ ys = map_same xs ys (tail_same (Some x) (Some y) (map Some xs) (map Some ys) e) in
+    cc
+  where
+    head_same : (a b : Instr) (os ps : List (Option Instr)) → Some a ∷ os ≡ Some b ∷ ps → a ≡ b
+    head_same a b os ps e = cc
+
+    tail_same : (o p : Option Instr) (os ps : List (Option Instr)) → o ∷ os ≡ p ∷ ps → os ≡ ps
+    tail_same o p os ps e = cc
+
+-- ---- the goal's terms have no variables
+
+module _ (input : InputTree) (goal : GoalTree) (is : IsGoal input.ops goal) where
+  pub goal_below : IsGoalBelow goal
+  goal_below = record {
+    guard = guard_below goal.guard is.guard;
+    sets = All-weaker (IsTarget input.ops goal) (λ (t : TargetTree). AreBelow 0 t.value) (λ t h. sort_below [] _ t.value h.sorted) goal.sets is.sets;
+  }
+    where
+      guard_below : (o : Option (Tree Op)) → IfSome o (IsGoalTerm input.ops goal sorts.Word) → IfSome o (AreBelow 0)
+      guard_below None h = tt
+      guard_below (Some t) h = sort_below [] _ t h.sorted
+
+-- ---- answers for each input
+
+pub for_inputs :
+    {E : Type 0} (r : Result Verified E) (A B C : InputTree → Type 0) (Q : InputTree → Verified → Type 0) →
+    ((input : InputTree) → A input → B input → C input → IfOk r (Q input)) →
+    IfOk r (λ answer. (input : InputTree) → A input → B input → C input → Q input answer)
+for_inputs (Ok x) A B C Q h = h
+for_inputs (Err e) A B C Q h = tt
+
+-- ---- answers
+
+module _ (input : InputTree) (code : Code) (rounds nodes : ℕ) where
+  -- the goal of a place is the one that was taken from it
+  pub for_the_goal :
+      {E : Type 0} (goal : GoalTree) (r : Result Verified E) →
+      slice_get input.goals code.goal ≡ Some goal →
+      IfOk r (IsRightFor input goal code rounds nodes) →
+      IfOk r (λ answer.
+      (other : GoalTree) → slice_get input.goals code.goal ≡ Some other → IsRightFor input other code rounds nodes answer)
+  for_the_goal goal (Ok x) there h = λ other is.
+      let same : goal ≡ other = cc in
+      subst (λ (n : GoalTree). IsRightFor input n code rounds nodes x) same h
+  for_the_goal goal (Err e) there h = tt
+
+  module _ (goal : GoalTree) (instrs : List Instr) (decode : map decoded code.words ≡ map Some instrs) where
+    -- it is right for the instructions, and there are no others
+    pub for_the_code : {E : Type 0} (r : Result Verified E) → IfOk r (IsVerified input goal instrs code rounds nodes) → IfOk r (IsRightFor input goal code rounds nodes)
+    for_the_code (Ok x) h = λ others is.
+        subst (λ js. IsVerified input goal js code rounds nodes x) (map_same instrs others (sym decode ∙ is)) h
+    for_the_code (Err e) h = tt
+
+    named : (a b x y : ℕ) → x ≡ a → y ≡ b → HasNoWorld input goal instrs rounds nodes a b → HasNoWorld input goal instrs rounds nodes x y
+    named a b x y e f h = subst (λ n. HasNoWorld input goal instrs rounds nodes n y) (sym e) (subst (HasNoWorld input goal instrs rounds nodes a) (sym f) h)
+
+    low_class : (class c : ℕ) → class < 2 ^ 31 → c ≡ class → c < 2 ^ 31
+    low_class class c low e = omega (arith, low, e)
+
+    -- a refusal of the start
+    module _ (nowhere : (class a b : ℕ) → StartFaultIs goal (start_faults.NoWorld class a b) → IsHopelessAtStart goal (start_faults.NoWorld class a b) → HasNoWorld input goal instrs rounds nodes a b) where
+      at_start : (fault : StartFault) (answer : Verified) → StartFaultIs goal fault → IsHopelessAtStart goal fault → StartNamesLowClass fault → IsNoWorldAtStart fault answer → IsVerified input goal instrs code rounds nodes answer
+      at_start (start_faults.NoWorld class a b) (NoWorld c x y) h hopeless low e = (named a b x y e.1 e.2 (nowhere class a b h hopeless), low_class class c low e.0)
+      at_start (start_faults.NoWorld class a b) Yes h hopeless low e = absurd e
+      at_start (start_faults.NoWorld class a b) (Unknown j stop part) h hopeless low e = absurd e
+      at_start start_faults.Memory answer h hopeless low e = absurd e
+
+      pub start_refused :
+          {E : Type 0} (fault : StartFault) (r : Result Verified E) →
+          StartFaultIs goal fault →
+          IsHopelessAtStart goal fault →
+          StartNamesLowClass fault →
+          IfOk r (IsNoWorldAtStart fault) →
+          IfOk r (IsVerified input goal instrs code rounds nodes)
+      start_refused fault (Ok x) h hopeless low e = at_start fault x h hopeless low e
+      start_refused fault (Err x) h hopeless low e = tt
+
+    -- a refusal of the rounds
+    module _ (graph : Graph Op)
+        (nowhere : (class a b : ℕ) → IsImpossible (rules_of input) graph rounds nodes a b → IsHopeless (rules_of input) graph (round_faults.NoWorld class a b) → HasNoWorld input goal instrs rounds nodes a b) where
+      in_rounds :
+          (fault : SaturateFault) (answer : Verified) →
+          SaturateFaultIs (rules_of input) graph rounds nodes fault →
+          IsHopeless (rules_of input) graph fault →
+          RoundsNameLowClass fault →
+          IsNoWorldInRounds fault answer →
+          IsVerified input goal instrs code rounds nodes answer
+      in_rounds (round_faults.NoWorld class a b) (NoWorld c x y) h hopeless low e = (named a b x y e.1 e.2 (nowhere class a b h hopeless), low_class class c low e.0)
+      in_rounds (round_faults.NoWorld class a b) Yes h hopeless low e = absurd e
+      in_rounds (round_faults.NoWorld class a b) (Unknown j stop part) h hopeless low e = absurd e
+      in_rounds round_faults.Memory answer h hopeless low e = absurd e
+
+      pub rounds_refused :
+          {E : Type 0} (fault : SaturateFault) (r : Result Verified E) →
+          SaturateFaultIs (rules_of input) graph rounds nodes fault →
+          IsHopeless (rules_of input) graph fault →
+          RoundsNameLowClass fault →
+          IfOk r (IsNoWorldInRounds fault) →
+          IfOk r (IsVerified input goal instrs code rounds nodes)
+      rounds_refused fault (Ok x) h hopeless low e = in_rounds fault x h hopeless low e
+      rounds_refused fault (Err x) h hopeless low e = tt
+
+    -- what the comparison gives
+    module _ (g : Graph Op) (j : ℕ) (stop : Stop) (compared : IsCompared input goal instrs rounds nodes g j stop)
+        (does : Same g goal instrs code.places → DoesGoal input goal code.words code.places) where
+      pub answered :
+          (found : Option Part) (answer : Verified) →
+          MatchOption found (Same g goal instrs code.places) (IsFirstDifferent g goal instrs code.places) →
+          IsAnswerOf j stop found answer →
+          IsVerified input goal instrs code rounds nodes answer
+      answered None answer same e =
+          subst (IsVerified input goal instrs code rounds nodes) (sym e)
+          (record { graph = g; round = j; stop = stop; compared = compared; same = same; does_goal = does same })
+      answered (Some part) answer differs e = subst (IsVerified input goal instrs code rounds nodes) (sym e) (g, compared, differs)
+
+-- ---- room
+
+-- the goal's rows and those of the words are few
+pub few_words : (first inserted words : ℕ) → first + 20480 < 2 ^ 30 → words ≤ 4096 → inserted ≤ first + 5 * words → inserted < 2 ^ 30
+few_words first inserted words a b c = omega (arith, a, b, c)
+
+pub start_few : (input : InputTree) (goal : GoalTree) → IsGoal input.ops goal → (first : ℕ) → first ≤ most_rows_at_start goal → first + 20480 < 2 ^ 30
+start_few input goal is first le = omega (arith, is.few, is.rules.few.0, le)
+
+pub room_for : (first words : ℕ) → first + 20480 < 2 ^ 30 → words ≤ 4096 → first + 5 * words ≤ 2 ^ 31
+room_for first words a b = omega (arith, a, b)
+
+pub few_code : (words : List ℕ) → length words ≤ 4096 → length words < 2 ^ 29
+few_code words l = omega (arith, l)
+
+pub few_sets : (input : InputTree) (goal : Goal) → IsGoal input.ops (goal_view goal) → length goal.sets < 2 ^ 32
+few_sets input goal is = (let e = length-map goal.sets target_view in omega (arith, e, is.rules.few.2))
+
+-- ---- the goal at a place
+
+pub goal_low : (goals : List Goal) (place : ℕ) (goal : GoalTree) → slice_get (map goal_view goals) place ≡ Some goal → place < length goals
+goal_low goals place goal there = subst (λ n. place < n) (length-map goals goal_view) (slice_get_within (map goal_view goals) place goal there)
+
+pub low_inputs : (inputs : List InputReg) → All (λ (i : InputReg). i.reg < 31) inputs → All (λ (i : InputReg). i.reg < 32) inputs
+low_inputs inputs h = λ n d l. (let k = h n d l in omega (arith, k))
+
+module _ (goals shown : List Goal) (place : ℕ) (goal : Goal) (is : shown ≡ goals) (lt : place < length goals) (e : goal ≡ get_or shown place goal) where
+  view_at : goal_view goal ≡ get_or (map goal_view goals) place (goal_view goal)
+  view_at =
+      ap goal_view (subst (λ (gs : List Goal). goal ≡ get_or gs place goal) is e)
+      ∙ sym (get_or-map goal_view goals place goal (goal_view goal) lt)
+
+  below : place < length (map goal_view goals)
+  below = subst (λ n. place < n) (sym (length-map goals goal_view)) lt
+
+  pub goal_there : slice_get (map goal_view goals) place ≡ Some (goal_view goal)
+  goal_there = slice_get_read (map goal_view goals) (length (map goal_view goals)) place (goal_view goal) refl below view_at
+
+  pub goal_among : Contains (map goal_view goals) (goal_view goal)
+  goal_among = subst (Contains (map goal_view goals)) (sym view_at) (Contains-get_or (map goal_view goals) place (goal_view goal) below)

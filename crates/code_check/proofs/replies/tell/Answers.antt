@@ -1,0 +1,76 @@
+use Rattle.std.proofs.Common.{◌≡◌, ◌+◌, ◌<◌, ◌||◌, ◌++◌, [], ◌∷◌, false, length, take, sym, ap, subst, ◌∙◌}
+use Rattle.std.proofs.lemmas.List.{take_all, take_more}
+use Rattle.std.proofs.lemmas.Option.{same_Some}
+use Rattle.goal_meaning.specs.Views.{GoalTree, goal_view, input_view}
+use Rattle.code_check.specs.Codes.{IsCodeOf}
+use Rattle.code_check.specs.Replies.{AreSaid, CanBeSaid, is_no_world, is_unknown}
+use Rattle.code_check.specs.declared.codes.Code.{Code}
+use Rattle.code_check.proofs.Answering.{goal_low, goal_there}
+use Rattle.code_check.proofs.Replying.{can_be_said, nothing_said, reply_is, said_more}
+use Rattle.code_check.proofs.replies.tell.Goals as goal
+use Rattle.code_check.proofs.replies.tell.Goals.{After-index-codes-index}
+
+pub loop-index-init : goal.loop-index-init
+loop-index-init c =
+    subst (λ bs. AreSaid (input_view c.args.input.now) c.args.rounds c.args.nodes [] bs false false) (sym c.new-bytes.ensures.items)
+    (nothing_said (input_view c.args.input.now) c.args.rounds c.args.nodes)
+
+-- the code that is checked
+code_is : (c : After-index-codes-index) → IsCodeOf (input_view c.args.input.now) c.index-codes-index.result
+code_is c =
+    subst (λ (x : Code). IsCodeOf (input_view c.args.input.now) x) (sym c.index-codes-index.is)
+    (c.requires.codes c.loop-index.index c.index-codes-index.result c.loop-index-test.true)
+
+pub verify_by_rules-requires : goal.verify_by_rules-requires
+verify_by_rules-requires c = record {
+  input = c.requires.input;
+  rules = c.requires.rules;
+  code = code_is (goal.at.verify_by_rules-requires c).After-index-codes-index;
+  rounds = c.requires.rounds;
+  nodes = c.requires.nodes;
+}
+
+pub bounds-as_slice-at : goal.bounds-as_slice-at
+bounds-as_slice-at c =
+    let of = code_is (goal.at.bounds-as_slice-at c).After-index-codes-index in
+    subst (λ gs. c.index-codes-index.result.goal < length gs) (sym c.as_slice.ensures)
+    (goal_low c.args.input.now.goals c.index-codes-index.result.goal of.goal of.of_goal)
+
+pub put_reply-requires : goal.put_reply-requires
+put_reply-requires c =
+    let of = code_is (goal.at.put_reply-requires c).After-index-codes-index in
+    let input = input_view c.args.input.now in
+    let code = c.index-codes-index.result in
+    let answer = c.in_ok-answer.answer in
+    let g = c.index-as_slice-at.result in
+    let there = goal_there c.args.input.now.goals c.as_slice.result.now code.goal g c.as_slice.ensures (goal_low c.args.input.now.goals code.goal of.goal of.of_goal) c.index-as_slice-at.is in
+    let reply = reply_is input c.args.rounds c.args.nodes code answer of c.in_ok-answer.ensures.right in
+    let same = same_Some reply.goal (goal_view g) (sym reply.of_goal ∙ there) in
+    record { said = subst (λ (x : GoalTree). CanBeSaid x answer) same (can_be_said input reply.goal reply.instrs code c.args.rounds c.args.nodes answer reply.right) }
+
+pub loop-index-preserved : goal.loop-index-preserved
+loop-index-preserved c =
+    let of = code_is (goal.at.loop-index-preserved c).After-index-codes-index in
+    let input = input_view c.args.input.now in
+    let code = c.index-codes-index.result in
+    let answer = c.in_ok-answer.answer in
+    let g = c.index-as_slice-at.result in
+    let i = c.loop-index.index in
+    let codes = c.args.codes.now in
+    let there = goal_there c.args.input.now.goals c.as_slice.result.now code.goal g c.as_slice.ensures (goal_low c.args.input.now.goals code.goal of.goal of.of_goal) c.index-as_slice-at.is in
+    let reply = reply_is input c.args.rounds c.args.nodes code answer of c.in_ok-answer.ensures.right in
+    let said = said_more input c.args.rounds c.args.nodes (take i codes) c.loop-index.bytes.items c.loop-index.unknown c.loop-index.noworld code answer (goal_view g) c.loop-index.invariant reply there in
+    let more : take i codes ++ code ∷ [] ≡ take (i + 1) codes = sym (take_more codes i code c.loop-index-test.true ∙ ap (λ (x : Code). take i codes ++ x ∷ []) (sym c.index-codes-index.is)) in
+    let with_bytes = subst (λ bs. AreSaid input c.args.rounds c.args.nodes (take i codes ++ code ∷ []) bs (c.loop-index.unknown || is_unknown answer) (c.loop-index.noworld || is_no_world answer)) (sym c.in_ok-put_reply.ensures) said in
+    let with_unknown = subst (λ b. AreSaid input c.args.rounds c.args.nodes (take i codes ++ code ∷ []) c.put_reply.new.text.items b (c.loop-index.noworld || is_no_world answer)) (sym c.or_unknown-unknown.ensures) with_bytes in
+    let with_both = subst (λ b. AreSaid input c.args.rounds c.args.nodes (take i codes ++ code ∷ []) c.put_reply.new.text.items c.or_unknown-unknown.result b) (sym c.or_no_world-noworld.ensures) with_unknown in
+    subst (λ cs. AreSaid input c.args.rounds c.args.nodes cs c.put_reply.new.text.items c.or_unknown-unknown.result c.or_no_world-noworld.result) more with_both
+
+pub returns : goal.returns
+returns c =
+    let input = input_view c.args.input.now in
+    record {
+      said = subst (λ bs. AreSaid input c.args.rounds c.args.nodes c.args.codes.now bs c.loop-index.unknown c.loop-index.noworld) (sym c.from.ensures)
+          (subst (λ cs. AreSaid input c.args.rounds c.args.nodes cs c.loop-index.bytes.items c.loop-index.unknown c.loop-index.noworld)
+          (take_all c.loop-index.index c.args.codes.now c.loop-index-test.false) c.loop-index.invariant);
+    }

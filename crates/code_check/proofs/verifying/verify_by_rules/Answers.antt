@@ -1,0 +1,101 @@
+use Rattle.std.proofs.Common.{◌≡◌, ◌<◌, Some, length, map, sym, subst, ◌∙◌}
+use Rattle.std.specs.Prelude.{slice_get}
+use Rattle.std.proofs.lemmas.List.Elements.{All-contains}
+use Rattle.std.proofs.lemmas.Option.{same_Some}
+use Rattle.std.proofs.lemmas.Result.{IfOk-weaker}
+use Rattle.goal_meaning.specs.Views.{GoalTree, InputTree, goal_view, input_view}
+use Rattle.goal_meaning.specs.WellFormed.{IsGoal, IsInput}
+use Rattle.saturation.specs.GoalTerms.{rules_of}
+use Rattle.code_check.specs.Codes.{FitsGoal}
+use Rattle.code_check.specs.Verified.{IsRightFor}
+use Rattle.code_check.proofs.Deciding.{inputs_low}
+use Rattle.code_check.proofs.Answering.{few_sets, for_the_code, for_the_goal, goal_among, goal_below, goal_low, goal_there, low_inputs, start_few, start_refused}
+use Rattle.code_check.proofs.verifying.verify_by_rules.Goals as goal
+use Rattle.code_check.proofs.verifying.verify_by_rules.Goals.{After-start}
+
+pub bounds-as_slice-at : goal.bounds-as_slice-at
+bounds-as_slice-at c =
+    subst (λ gs. c.args.code.now.goal < length gs) (sym c.as_slice.ensures)
+    (goal_low c.args.input.now.goals c.args.code.now.goal c.requires.code.goal c.requires.code.of_goal)
+
+pub start-requires : goal.start-requires
+start-requires c =
+    let goals = c.args.input.now.goals in
+    let at = c.args.code.now.goal in
+    let g = c.index-as_slice-at.result in
+    let low = goal_low goals at c.requires.code.goal c.requires.code.of_goal in
+    record {
+      goal = (
+        c.args.input.now.ops,
+        All-contains (IsGoal c.args.input.now.ops) (map goal_view goals) (goal_view g) c.requires.input.goals
+            (goal_among goals c.as_slice.result.now at g c.as_slice.ensures low c.index-as_slice-at.is),
+      );
+    }
+
+-- the goal
+record Facts (c : After-start) : Type 0 where
+  pub is_goal : IsGoal c.args.input.now.ops (goal_view c.index-as_slice-at.result)
+  pub there : slice_get (map goal_view c.args.input.now.goals) c.args.code.now.goal ≡ Some (goal_view c.index-as_slice-at.result)
+  pub fits : FitsGoal (goal_view c.index-as_slice-at.result) c.args.code.now
+
+facts : (c : After-start) → Facts c
+facts c =
+    let goals = c.args.input.now.goals in
+    let at = c.args.code.now.goal in
+    let g = c.index-as_slice-at.result in
+    let low = goal_low goals at c.requires.code.goal c.requires.code.of_goal in
+    let is_there = goal_there goals c.as_slice.result.now at g c.as_slice.ensures low c.index-as_slice-at.is in
+    record {
+      is_goal = All-contains (IsGoal c.args.input.now.ops) (map goal_view goals) (goal_view g) c.requires.input.goals
+          (goal_among goals c.as_slice.result.now at g c.as_slice.ensures low c.index-as_slice-at.is);
+      there = is_there;
+      fits = subst (λ (n : GoalTree). FitsGoal n c.args.code.now)
+          (same_Some c.requires.code.goal (goal_view g) (sym c.requires.code.of_goal ∙ is_there)) c.requires.code.fits;
+    }
+
+pub returns-in-Err : goal.returns-in-Err
+returns-in-Err c =
+    let f = facts (goal.at.returns-in-Err c).After-start in
+    let input = input_view c.args.input.now in
+    let code = c.args.code.now in
+    let tree = goal_view c.index-as_slice-at.result in
+    let instrs = f.fits.instrs in
+    record {
+      right = for_the_goal input code c.args.rounds c.args.nodes tree c.no_world_at_start.result f.there
+          (for_the_code input code c.args.rounds c.args.nodes tree instrs f.fits.is_code.decode c.no_world_at_start.result
+          (start_refused input code c.args.rounds c.args.nodes tree instrs f.fits.is_code.decode
+          (λ class a b fault hopeless. c.compared_graphs_decide.ensures.start input tree instrs c.args.rounds c.args.nodes class a b c.requires.input fault hopeless)
+          c.in-Err.fault c.no_world_at_start.result c.in-Err.ensures.fault c.in-Err.ensures.hopeless c.in-Err.ensures.low
+          c.no_world_at_start.ensures));
+    }
+
+pub verify_from-requires : goal.verify_from-requires
+verify_from-requires c =
+    let f = facts (goal.at.verify_from-requires c).After-start in
+    let input = input_view c.args.input.now in
+    let g = c.index-as_slice-at.result in
+    record {
+      below = goal_below input (goal_view g) f.is_goal;
+      inputs = low_inputs g.inputs (inputs_low g.inputs g.pool f.is_goal.rules.low);
+      sets = few_sets input g f.is_goal;
+      fits = f.fits;
+      graph = c.in-Ok.ensures.graph;
+      grown = c.in-Ok.ensures.grown;
+      stands = c.in-Ok.ensures.stands;
+      few = start_few input (goal_view g) f.is_goal (length c.in-Ok.first.current) c.in-Ok.ensures.few_classes;
+      rounds = c.requires.rounds;
+      nodes = c.requires.nodes;
+    }
+
+pub returns-in-Ok : goal.returns-in-Ok
+returns-in-Ok c =
+    let f = facts (goal.at.returns-in-Ok c).After-start in
+    let input = input_view c.args.input.now in
+    let code = c.args.code.now in
+    let tree = goal_view c.index-as_slice-at.result in
+    record {
+      right = for_the_goal input code c.args.rounds c.args.nodes tree c.verify_from.result f.there
+          (IfOk-weaker c.verify_from.result (λ answer.
+          (of : InputTree) → IsInput of → c.args.rules.now.program ≡ rules_of of → IsGoal of.ops tree → IsRightFor of tree code c.args.rounds c.args.nodes answer) _
+          (λ answer h. h input c.requires.input c.requires.rules f.is_goal) c.verify_from.ensures.right);
+    }

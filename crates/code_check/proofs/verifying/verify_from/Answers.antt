@@ -1,0 +1,119 @@
+use Rattle.std.proofs.Common.{◌≡◌, ◌≤◌, ◌++◌, ℕ, List, Ok, Some, map, length, sym, subst}
+use Rattle.std.specs.Prelude.{MatchOption}
+use Rattle.alpha_encode.specs.Decoded.{decoded}
+use Rattle.goal_meaning.specs.Views.{goal_view}
+use Rattle.goal_meaning.specs.WellFormed.{IsGoal, IsInput}
+use Rattle.saturation.specs.GoalTerms.{kept_terms, rules_of}
+use Rattle.saturation.specs.Rounds.{IsHopeless, IsSaturated, KeepsStanding, SaturateFaultIs}
+use Rattle.code_check.specs.Codes.{ArePlaces}
+use Rattle.code_check.specs.Compared.{ArePresentClasses, terms_at_branch}
+use Rattle.code_check.specs.Same.{IsFirstDifferent, Same, terms_at_end}
+use Rattle.code_check.specs.Terms.{written_terms}
+use Rattle.code_check.specs.Verified.{IsRightFor}
+use Rattle.code_check.proofs.CodeTerms.{present_both}
+use Rattle.code_check.proofs.Answering.{answered, few_code, few_words, for_inputs, for_the_code, room_for, rounds_refused}
+use Rattle.code_check.proofs.verifying.verify_from.Goals as goal
+use Rattle.code_check.proofs.verifying.verify_from.Goals.{After-as_slice-places}
+
+-- ---- the code's terms
+
+pub insert_code-requires : goal.insert_code-requires
+insert_code-requires c =
+    let fits = c.requires.fits in
+    record {
+      graph = c.requires.graph;
+      goal = (goal_view c.args.goal.now, c.requires.stands);
+      code = (fits.instrs, subst (λ ws. map decoded ws ≡ map Some fits.instrs) (sym c.as_slice-words.ensures) fits.is_code.decode);
+      within = subst (λ n. n ≤ length c.as_slice-words.result.now) (sym c.words_before-before.ensures) c.find_branch-branch.ensures.within;
+      few = room_for (length c.args.first.current) (length c.as_slice-words.result.now) c.requires.few
+          (subst (λ (ws : List ℕ). length ws ≤ 4096) (sym c.as_slice-words.ensures) fits.few);
+    }
+
+pub saturate-requires : goal.saturate-requires
+saturate-requires c = record {
+  rounds = c.requires.rounds;
+  nodes = c.requires.nodes;
+  few = few_words (length c.args.first.current) (length c.insert_code.new.graph.current) (length c.as_slice-words.result.now) c.requires.few
+      (subst (λ (ws : List ℕ). length ws ≤ 4096) (sym c.as_slice-words.ensures) c.requires.fits.few) c.in_ok-inserted.ensures.few;
+}
+
+-- ---- after the rounds
+
+pub returns-in-Err : goal.returns-in-Err
+returns-in-Err c =
+    let code = c.args.code.now in
+    let tree = goal_view c.args.goal.now in
+    let fits = c.requires.fits in
+    let g = c.insert_code.new.graph in
+    let is = c.in_ok-inserted.ensures.inserted fits.instrs (subst (λ ws. map decoded ws ≡ map Some fits.instrs) (sym c.as_slice-words.ensures) fits.is_code.decode) in
+    record {
+      right = for_inputs c.no_world_in_rounds.result IsInput (λ input. c.args.rules.now.program ≡ rules_of input) (λ input. IsGoal input.ops tree)
+          (λ input answer. IsRightFor input tree code c.args.rounds c.args.nodes answer)
+          (λ input is_input rules is_goal.
+          for_the_code input code c.args.rounds c.args.nodes tree fits.instrs fits.is_code.decode c.no_world_in_rounds.result
+          (rounds_refused input code c.args.rounds c.args.nodes tree fits.instrs fits.is_code.decode g
+          (λ class a b impossible hopeless.
+          c.compared_graphs_decide.ensures.round input tree fits.instrs c.args.rounds c.args.nodes a b class c.args.first g is_input
+          c.requires.graph c.requires.grown c.requires.stands fits.is_code.well_formed is.inserted impossible hopeless)
+          c.in-Err.fault c.no_world_in_rounds.result
+          (subst (λ rs. SaturateFaultIs rs g c.args.rounds c.args.nodes c.in-Err.fault) rules c.in-Err.ensures.fault)
+          (subst (λ rs. IsHopeless rs g c.in-Err.fault) rules c.in-Err.ensures.hopeless) c.in-Err.ensures.low
+          c.no_world_in_rounds.ensures));
+    }
+
+present_is : (c : After-as_slice-places) →
+    ArePresentClasses c.in-Ok.saturated.graph c.in_ok-inserted.inserted.at_branch c.in_ok-inserted.inserted.memory_at_branch (terms_at_branch c.find_branch-branch.result c.requires.fits.instrs)
+    × ArePresentClasses c.in-Ok.saturated.graph c.in_ok-inserted.inserted.at_end c.in_ok-inserted.inserted.memory_at_end (terms_at_end c.requires.fits.instrs)
+present_is c =
+    let fits = c.requires.fits in
+    let words = c.as_slice-words.result.now in
+    present_both c.more_terms_may_be_inserted.ensures.others c.terms_have_one_class.ensures.has c.rows_name_present_classes.ensures.present
+    c.args.first c.insert_code.new.graph c.in-Ok.saturated.graph words fits.instrs c.find_branch-branch.result c.words_before-before.result
+    c.in_ok-inserted.inserted
+    (c.in_ok-inserted.ensures.inserted fits.instrs (subst (λ ws. map decoded ws ≡ map Some fits.instrs) (sym c.as_slice-words.ensures) fits.is_code.decode))
+    c.words_before-before.ensures (subst (λ ws. map decoded ws ≡ map Some fits.instrs) (sym c.as_slice-words.ensures) fits.is_code.decode)
+    c.in-Ok.ensures.classes c.in-Ok.ensures.saturated.graph
+
+pub first_different-requires : goal.first_different-requires
+first_different-requires c =
+    let present = present_is (goal.at.first_different-requires c).After-as_slice-places in
+    let instrs = c.requires.fits.instrs in
+    record {
+      below = c.requires.below;
+      inputs = c.requires.inputs;
+      few = c.requires.sets;
+      places = subst (ArePlaces (goal_view c.args.goal.now).sets) (sym c.as_slice-places.ensures) c.requires.fits.places;
+      register = c.find_branch-branch.ensures.low;
+      branch = (terms_at_branch c.find_branch-branch.result instrs, present.0);
+      end = (terms_at_end instrs, present.1);
+    }
+
+pub returns : goal.returns
+returns c =
+    let code = c.args.code.now in
+    let tree = goal_view c.args.goal.now in
+    let fits = c.requires.fits in
+    let instrs = fits.instrs in
+    let g = c.insert_code.new.graph in
+    let sat = c.in-Ok.saturated in
+    let is = c.in_ok-inserted.ensures.inserted fits.instrs (subst (λ ws. map decoded ws ≡ map Some fits.instrs) (sym c.as_slice-words.ensures) fits.is_code.decode) in
+    let present = present_is (goal.at.returns c).After-as_slice-places in
+    let decode = subst (λ ws. map decoded ws ≡ map Some instrs) (sym c.as_slice-words.ensures) fits.is_code.decode in
+    let found = subst (λ ps. MatchOption c.in_ok-different.different (Same sat.graph tree instrs ps) (IsFirstDifferent sat.graph tree instrs ps)) c.as_slice-places.ensures
+    (c.in_ok-different.ensures instrs (c.find_branch-branch.ensures.of_code instrs decode) fits.is_code.one_branch present.0 present.1) in
+    record {
+      right = λ input is_input rules is_goal.
+          let axioms = rules_of input in
+          let saturated = subst (λ rs. IsSaturated rs g c.args.rounds c.args.nodes sat.graph sat.rounds sat.stop) rules c.in-Ok.ensures.saturated in
+          let keeps = subst (λ rs. KeepsStanding rs g sat.graph) rules c.in-Ok.ensures.stands in
+          let compared = c.compared_graphs_decide.ensures.compared input tree instrs c.args.rounds c.args.nodes sat.rounds sat.stop c.args.first g sat.graph
+          c.requires.graph c.requires.grown is.inserted saturated c.in-Ok.ensures.rounds in
+          let stand = c.compared_graphs_decide.ensures.stand input tree instrs c.args.first g sat.graph c.requires.graph c.requires.stands
+          fits.is_code.well_formed is.inserted keeps in
+          for_the_code input code c.args.rounds c.args.nodes tree instrs fits.is_code.decode {E = ℕ} (Ok c.verified.result)
+          (answered input code c.args.rounds c.args.nodes tree instrs fits.is_code.decode sat.graph sat.rounds sat.stop compared
+          (λ same.
+          c.same_code_does_the_goal.ensures.does_goal input tree code.words instrs code.places (kept_terms tree ++ written_terms instrs) sat.graph
+          is_input is_goal fits.is_code (few_code code.words fits.few) fits.places.low stand same)
+          c.in_ok-different.different c.verified.result found c.verified.ensures);
+    }

@@ -1,0 +1,14 @@
+pub mod Answers
+pub mod Classes
+pub mod CodeGrammar
+pub mod CodeReading
+pub mod CodeRoles
+pub mod Codes
+pub mod Compared
+pub mod Inserted
+pub mod Outcomes
+pub mod Replies
+pub mod Same
+pub mod Terms
+pub mod Values
+pub mod Verified

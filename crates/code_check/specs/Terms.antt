@@ -1,0 +1,102 @@
+-- The terms that straight-line code gives registers and memory, over those of the registers and the memory at entry.
+-- From Denali (PLDI 2002), terms over registers and memory; Alpha Architecture Handbook, version 4, for what each
+-- instruction writes.
+use Rattle.std.specs.Prelude.{ℕ, ℤ, List, [], ◌∷◌, ◌++◌, take, ◌==◌, if◌then◌else◌}
+use Rattle.std.specs.Int.{cast_unsigned, w64}
+use Rattle.word_ops.specs.declared.operators.WordOp.{WordOp}
+use Rattle.word_ops.specs.declared.operators.WordOp.TheVariants.{Lda, Ldah}
+use Rattle.word_ops.specs.declared.sorts.Op.{Op}
+use Rattle.word_terms.specs.Tree.{Tree}
+use Rattle.axiom_base.specs.Equations.{constant, w1, w2, select_of, store_of}
+use Rattle.alpha_encode.specs.Codes.{is_unary}
+use Rattle.alpha_encode.specs.declared.instructions.Second.{Second}
+use Rattle.alpha_encode.specs.declared.instructions.Second.TheVariants.{Reg, Literal}
+use Rattle.alpha_encode.specs.declared.instructions.Instr.{Instr}
+use Rattle.alpha_encode.specs.declared.instructions.Instr.TheVariants as instrs
+use Rattle.saturation.specs.GoalTerms.{entry_term, input_term}
+
+-- the term of each register, by its number, and that of the memory
+pub record TermState : Type 0 where
+  pub registers : ℕ → Tree Op
+  pub memory : Tree Op
+
+-- each register is its input, but 31 is 0; the memory is the one at entry
+abbrev pub terms_at_entry : TermState
+terms_at_entry = record { registers = λ r. if r == 31 then constant 0 else input_term r; memory = entry_term }
+
+-- a write to register 31 is ignored
+abbrev pub term_written : (ℕ → Tree Op) → ℕ → Tree Op → ℕ → Tree Op
+term_written registers r t q = if r == 31 then registers q else (if q == r then t else registers q)
+
+abbrev pub with_term : TermState → ℕ → Tree Op → TermState
+with_term s r t = record { registers = term_written s.registers r t; memory = s.memory }
+
+-- a literal is a constant
+abbrev pub second_term : Second → (ℕ → Tree Op) → Tree Op
+second_term (Reg r) registers = registers r
+second_term (Literal n) registers = constant n
+
+-- an operate of one operand takes it from its second place
+abbrev pub operate_term : WordOp → Tree Op → Tree Op → Tree Op
+operate_term op a b = if is_unary op then w1 op b else w2 op a b
+
+-- a displacement with its sign extended to a word
+abbrev pub sign_extended : ℤ → ℕ
+sign_extended disp = cast_unsigned w64 disp
+
+-- the base where the displacement's word is 0, and else the base plus that word, as lda gives it
+abbrev pub address_at : Tree Op → ℕ → Tree Op
+address_at base n = if n == 0 then base else w2 Lda base (constant n)
+
+abbrev pub address_term : Tree Op → ℤ → Tree Op
+address_term base disp = address_at base (sign_extended disp)
+
+-- the terms after one instruction; a branch changes none
+abbrev pub term_step : Instr → TermState → TermState
+term_step (instrs.Operate op ra second rc) s =
+    with_term s rc (operate_term op (s.registers ra) (second_term second s.registers))
+term_step (instrs.Lda ra rb disp) s = with_term s ra (w2 Lda (s.registers rb) (constant (sign_extended disp)))
+term_step (instrs.Ldah ra rb disp) s = with_term s ra (w2 Ldah (s.registers rb) (constant (sign_extended disp)))
+term_step (instrs.LdqU ra rb disp) s =
+    with_term s ra (select_of s.memory (address_term (s.registers rb) disp))
+term_step (instrs.StqU ra rb disp) s = record {
+  registers = s.registers;
+  memory = store_of s.memory (address_term (s.registers rb) disp) (s.registers ra);
+}
+term_step (instrs.Beq ra disp) s = s
+
+-- the terms after the instructions, from those before
+abbrev pub terms_from : List Instr → TermState → TermState
+terms_from [] s = s
+terms_from (i ∷ is) s = terms_from is (term_step i s)
+
+-- the terms after the first n of the instructions
+abbrev pub terms_after : ℕ → List Instr → TermState
+terms_after n instrs = terms_from (take n instrs) terms_at_entry
+
+-- ---- what is present beside the goal's terms
+
+abbrev pub unless_zero_register : ℕ → Tree Op → List (Tree Op)
+unless_zero_register r t = if r == 31 then [] else t ∷ []
+
+-- what the instruction writes to a register other than 31, or to memory
+abbrev pub terms_written : Instr → TermState → List (Tree Op)
+terms_written (instrs.Operate op ra second rc) s =
+    unless_zero_register rc (operate_term op (s.registers ra) (second_term second s.registers))
+terms_written (instrs.Lda ra rb disp) s =
+    unless_zero_register ra (w2 Lda (s.registers rb) (constant (sign_extended disp)))
+terms_written (instrs.Ldah ra rb disp) s =
+    unless_zero_register ra (w2 Ldah (s.registers rb) (constant (sign_extended disp)))
+terms_written (instrs.LdqU ra rb disp) s =
+    unless_zero_register ra (select_of s.memory (address_term (s.registers rb) disp))
+terms_written (instrs.StqU ra rb disp) s =
+    store_of s.memory (address_term (s.registers rb) disp) (s.registers ra) ∷ []
+terms_written (instrs.Beq ra disp) s = []
+
+abbrev pub terms_written_from : List Instr → TermState → List (Tree Op)
+terms_written_from [] s = []
+terms_written_from (i ∷ is) s = terms_written i s ++ terms_written_from is (term_step i s)
+
+-- the terms that the instructions write, in order
+abbrev pub written_terms : List Instr → List (Tree Op)
+written_terms instrs = terms_written_from instrs terms_at_entry

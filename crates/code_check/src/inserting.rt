@@ -1,0 +1,294 @@
+// The terms of words, inserted into the graph of a goal's start. A class is kept for each register that was written, so a
+// word costs few rows however large its term is.
+ghost use Rattle.std.specs.Prelude.{◌≡◌, ℕ, ◌+◌, ◌<◌, ◌≤◌, ◌^◌, ◌∷◌, [], length, map, set, List, ◌*◌, Some, IfOk, OnOk, IsSome};
+ghost use Rattle.word_ops.specs.Meanings.{arity_of_op, operand_sort, sort_of};
+ghost use Rattle.word_ops.specs.declared.sorts.Sort.TheVariants as sorts;
+ghost use Rattle.word_terms.specs.Keys.{op_signature};
+ghost use Rattle.egraph.specs.Graph.{IsGraph};
+ghost use Rattle.egraph.specs.Sorts.{AreOfSorts, IsOfSort, KeepsSorts};
+ghost use Rattle.saturation.specs.Trace.{AreInserted, IsPut};
+ghost use Rattle.alpha_encode.specs.Codes.{code_of};
+ghost use Rattle.alpha_encode.specs.Decoded.{decoded};
+ghost use Rattle.alpha_encode.specs.declared.instructions.Instr.{Instr as Instruction};
+ghost use Rattle.alpha_encode.specs.Formats.{IsSecond, IsWellFormed};
+ghost use Rattle.code_check.specs.Terms.{TermState, address_at, operate_term, second_term, terms_from, terms_written_from};
+ghost use Rattle.axiom_base.specs.Equations.{constant, select_of, store_of, w2};
+ghost use Rattle.word_ops.specs.Operators.{arity_of};
+ghost use Rattle.code_check.specs.Classes.{IsTermInserted, IsRowInserted, AreClassesOfSome, InsertsWritten, AreClassesOf};
+
+use alpha_encode::{Instr, Second, decode};
+use egraph::{Egraph, classes_have_one_sort};
+use items::NoMemory;
+use saturation::more_terms_may_be_inserted;
+use word_ops::{Op, WordOp, arity};
+
+/// The class of the row with this operator and these operands.
+fn insert_row(graph: &mut Egraph<Op>, op: Op, operands: &[u32]) -> Result<u32, NoMemory>
+    requires arity { length operands.now ≡ arity_of_op op }
+    requires sorts { AreOfSorts op_signature graph.old (operand_sort op) operands.now }
+    requires few { length graph.old.current < 2 ^ 31 }
+    ensures row { IfOk result (λ c. IsRowInserted graph.old op operands.now c graph.new) }
+{
+    let _rows = graph.rows();
+    classes_have_one_sort::<Op>();
+    graph.insert(op, operands)
+}
+
+/// The class of a register's term. One that wasn't written is inserted as it is at entry.
+fn register_class(
+    graph: &mut Egraph<Op>,
+    classes: &[Option<u32>],
+    register: u8,
+) -> Result<u32, NoMemory>
+    requires low { register < 32 }
+    requires count { length classes.now ≡ 32 }
+    requires few { length graph.old.current < 2 ^ 31 }
+    ensures built { IfOk result (λ c. (ts : TermState) (memory : ℕ) → AreClassesOf graph.old classes.now memory ts →
+        IsTermInserted graph.old sorts.Word (ts.registers register) c graph.new) }
+    ensures few { OnOk result (length graph.new.current ≤ length graph.old.current + 1) }
+{
+    more_terms_may_be_inserted();
+    match classes[register as usize] {
+        Some(class) => Ok(class),
+        None if register == 31 => insert_row(graph, Op::Constant(0), &[]),
+        None => insert_row(graph, Op::Input(register), &[]),
+    }
+}
+
+/// The class of an operate's second operand.
+fn second_class(
+    graph: &mut Egraph<Op>,
+    classes: &[Option<u32>],
+    second: Second,
+) -> Result<u32, NoMemory>
+    requires second { IsSecond second }
+    requires count { length classes.now ≡ 32 }
+    requires few { length graph.old.current < 2 ^ 31 }
+    ensures built { IfOk result (λ c. (ts : TermState) (memory : ℕ) → AreClassesOf graph.old classes.now memory ts →
+        IsTermInserted graph.old sorts.Word (second_term second ts.registers) c graph.new) }
+    ensures few { OnOk result (length graph.new.current ≤ length graph.old.current + 1) }
+{
+    match second {
+        Second::Reg(register) => register_class(graph, classes, register),
+        Second::Literal(literal) => insert_row(graph, Op::Constant(u64::from(literal)), &[]),
+    }
+}
+
+/// The class of what an operate gives.
+fn operate_class(
+    graph: &mut Egraph<Op>,
+    classes: &[Option<u32>],
+    op: WordOp,
+    ra: u8,
+    second: Second,
+) -> Result<u32, NoMemory>
+    requires op { IsSome (code_of op) }
+    requires ra { ra < 32 }
+    requires second { IsSecond second }
+    requires count { length classes.now ≡ 32 }
+    requires terms { (memory : ℕ) × AreClassesOfSome graph.old classes.now memory }
+    requires few { length graph.old.current + 3 ≤ 2 ^ 31 }
+    ensures built { IfOk result (λ c. (ts : TermState) (memory : ℕ) → AreClassesOf graph.old classes.now memory ts →
+        IsTermInserted graph.old sorts.Word (operate_term op (ts.registers ra) (second_term second ts.registers)) c graph.new) }
+    ensures few { OnOk result (length graph.new.current ≤ length graph.old.current + 3) }
+{
+    more_terms_may_be_inserted();
+    if arity(op) == 1 {
+        let operand = second_class(graph, classes, second)?;
+        return insert_row(graph, Op::Word(op), &[operand]);
+    }
+    let first = register_class(graph, classes, ra)?;
+    let operand = second_class(graph, classes, second)?;
+    insert_row(graph, Op::Word(op), &[first, operand])
+}
+
+/// The class of an operator on a register's term and a displacement's word, which is a constant.
+fn displaced_class(
+    graph: &mut Egraph<Op>,
+    classes: &[Option<u32>],
+    op: WordOp,
+    rb: u8,
+    n: u64,
+) -> Result<u32, NoMemory>
+    requires op { arity_of op ≡ 2 }
+    requires rb { rb < 32 }
+    requires count { length classes.now ≡ 32 }
+    requires terms { (memory : ℕ) × AreClassesOfSome graph.old classes.now memory }
+    requires few { length graph.old.current + 3 ≤ 2 ^ 31 }
+    ensures built { IfOk result (λ c. (ts : TermState) (memory : ℕ) → AreClassesOf graph.old classes.now memory ts →
+        IsTermInserted graph.old sorts.Word (w2 op (ts.registers rb) (constant n)) c graph.new) }
+    ensures few { OnOk result (length graph.new.current ≤ length graph.old.current + 3) }
+{
+    let base = register_class(graph, classes, rb)?;
+    let constant = insert_row(graph, Op::Constant(n), &[])?;
+    insert_row(graph, Op::Word(op), &[base, constant])
+}
+
+/// The class of an address: the base alone where the displacement is 0.
+fn address_class(
+    graph: &mut Egraph<Op>,
+    classes: &[Option<u32>],
+    rb: u8,
+    n: u64,
+) -> Result<u32, NoMemory>
+    requires rb { rb < 32 }
+    requires count { length classes.now ≡ 32 }
+    requires terms { (memory : ℕ) × AreClassesOfSome graph.old classes.now memory }
+    requires few { length graph.old.current + 3 ≤ 2 ^ 31 }
+    ensures built { IfOk result (λ c. (ts : TermState) (memory : ℕ) → AreClassesOf graph.old classes.now memory ts →
+        IsTermInserted graph.old sorts.Word (address_at (ts.registers rb) n) c graph.new) }
+    ensures few { OnOk result (length graph.new.current ≤ length graph.old.current + 3) }
+{
+    if n == 0 {
+        return register_class(graph, classes, rb);
+    }
+    displaced_class(graph, classes, WordOp::Lda, rb, n)
+}
+
+/// The class of what a load gives.
+fn load_class(
+    graph: &mut Egraph<Op>,
+    classes: &[Option<u32>],
+    memory: u32,
+    rb: u8,
+    n: u64,
+) -> Result<u32, NoMemory>
+    requires rb { rb < 32 }
+    requires count { length classes.now ≡ 32 }
+    requires terms { AreClassesOfSome graph.old classes.now memory }
+    requires few { length graph.old.current + 4 ≤ 2 ^ 31 }
+    ensures built { IfOk result (λ c. (ts : TermState) → AreClassesOf graph.old classes.now memory ts →
+        IsTermInserted graph.old sorts.Word (select_of ts.memory (address_at (ts.registers rb) n)) c graph.new) }
+    ensures few { OnOk result (length graph.new.current ≤ length graph.old.current + 4) }
+{
+    more_terms_may_be_inserted();
+    let address = address_class(graph, classes, rb, n)?;
+    insert_row(graph, Op::Select, &[memory, address])
+}
+
+/// The class of the memory after a store.
+fn store_class(
+    graph: &mut Egraph<Op>,
+    classes: &[Option<u32>],
+    memory: u32,
+    ra: u8,
+    rb: u8,
+    n: u64,
+) -> Result<u32, NoMemory>
+    requires ra { ra < 32 }
+    requires rb { rb < 32 }
+    requires count { length classes.now ≡ 32 }
+    requires terms { AreClassesOfSome graph.old classes.now memory }
+    requires few { length graph.old.current + 5 ≤ 2 ^ 31 }
+    ensures built { IfOk result (λ c. (ts : TermState) → AreClassesOf graph.old classes.now memory ts →
+        IsTermInserted graph.old sorts.Memory (store_of ts.memory (address_at (ts.registers rb) n) (ts.registers ra)) c graph.new) }
+    ensures few { OnOk result (length graph.new.current ≤ length graph.old.current + 5) }
+{
+    more_terms_may_be_inserted();
+    let address = address_class(graph, classes, rb, n)?;
+    let value = register_class(graph, classes, ra)?;
+    insert_row(graph, Op::Store, &[memory, address, value])
+}
+
+/// A register was written. Register 31 isn't.
+fn write_register(classes: &mut [Option<u32>], register: u8, class: u32)
+    requires register { register < 32 }
+    requires count { length classes.old ≡ 32 }
+    ensures { classes.new ≡ set classes.old register (Some class) }
+{
+    classes[register as usize] = Some(class);
+}
+
+/// Inserts the term that the word's instruction gives, where it writes a register other than 31 or memory.
+fn insert_instr(
+    graph: &mut Egraph<Op>,
+    classes: &mut [Option<u32>],
+    memory: &mut u32,
+    instr: Instr,
+) -> Result<(), NoMemory>
+    requires instr { IsWellFormed instr }
+    requires count { length classes.old ≡ 32 }
+    requires terms { AreClassesOfSome graph.old classes.old memory.old }
+    requires few { length graph.old.current + 5 ≤ 2 ^ 31 }
+    ensures written { OnOk result (InsertsWritten instr graph.old classes.old memory.old graph.new classes.new memory.new) }
+    ensures few { OnOk result (length graph.new.current ≤ length graph.old.current + 5) }
+{
+    more_terms_may_be_inserted();
+    match instr {
+        Instr::Operate { op, ra, second, rc } => {
+            if rc != 31 {
+                let class = operate_class(graph, classes, op, ra, second)?;
+                write_register(classes, rc, class);
+            }
+        }
+        Instr::Lda { ra, rb, disp } => {
+            if ra != 31 {
+                let n = i64::from(disp).cast_unsigned();
+                let class = displaced_class(graph, classes, WordOp::Lda, rb, n)?;
+                write_register(classes, ra, class);
+            }
+        }
+        Instr::Ldah { ra, rb, disp } => {
+            if ra != 31 {
+                let n = i64::from(disp).cast_unsigned();
+                let class = displaced_class(graph, classes, WordOp::Ldah, rb, n)?;
+                write_register(classes, ra, class);
+            }
+        }
+        Instr::LdqU { ra, rb, disp } => {
+            if ra != 31 {
+                let n = i64::from(disp).cast_unsigned();
+                let class = load_class(graph, classes, *memory, rb, n)?;
+                write_register(classes, ra, class);
+            }
+        }
+        Instr::StqU { ra, rb, disp } => {
+            let n = i64::from(disp).cast_unsigned();
+            *memory = store_class(graph, classes, *memory, ra, rb, n)?;
+        }
+        Instr::Beq { .. } => {}
+    }
+    Ok(())
+}
+
+fn insert_word(
+    graph: &mut Egraph<Op>,
+    classes: &mut [Option<u32>],
+    memory: &mut u32,
+    word: u32,
+) -> Result<(), NoMemory>
+    requires count { length classes.old ≡ 32 }
+    requires terms { AreClassesOfSome graph.old classes.old memory.old }
+    requires few { length graph.old.current + 5 ≤ 2 ^ 31 }
+    ensures written { OnOk result ((i : Instruction) → decoded word ≡ Some i →
+        InsertsWritten i graph.old classes.old memory.old graph.new classes.new memory.new) }
+    ensures few { OnOk result (length graph.new.current ≤ length graph.old.current + 5) }
+{
+    match decode(word) {
+        Some(instr) => insert_instr(graph, classes, memory, instr),
+        None => Ok(()),
+    }
+}
+
+/// Inserts the terms that the words write, in order. Each word costs at most five rows, and each row one look-up.
+pub(crate) fn insert_words(
+    graph: &mut Egraph<Op>,
+    classes: &mut [Option<u32>],
+    memory: &mut u32,
+    words: &[u32],
+) -> Result<(), NoMemory>
+    requires code { (instrs : List Instruction) × (map decoded words.now ≡ map Some instrs) }
+    requires terms { AreClassesOfSome graph.old classes.old memory.old }
+    requires few { length graph.old.current + 5 * length words.now ≤ 2 ^ 31 }
+    ensures written { OnOk result ((instrs : List Instruction) (ts : TermState) → map decoded words.now ≡ map Some instrs →
+        AreClassesOf graph.old classes.old memory.old ts →
+        AreInserted (terms_written_from instrs ts) graph.old graph.new
+        × AreClassesOf graph.new classes.new memory.new (terms_from instrs ts)) }
+    ensures few { OnOk result (length graph.new.current ≤ length graph.old.current + 5 * length words.now) }
+{
+    more_terms_may_be_inserted();
+    for word in words {
+        insert_word(graph, classes, memory, *word)?;
+    }
+    Ok(())
+}

@@ -1,0 +1,208 @@
+// What is printed for the codes of a text.
+ghost use Rattle.std.specs.Prelude.{◌≡◌, ◌||◌, ◌++◌, ◌∷◌, [], ◌<◌, ◌≤◌, ◌^◌, ℕ, All, IfOk, IfErr, OnOk, codes as bytes_of, length};
+ghost use Rattle.text_core.specs.Faults.{IsFaultBy, RefusesUnlessMemory};
+ghost use Rattle.text_core.specs.LineTexts.{line_text};
+ghost use Rattle.text_core.specs.declared.faults.Kind.{Kind as FaultKind};
+ghost use Rattle.goal_meaning.specs.Views.{goal_view, input_view};
+ghost use Rattle.goal_meaning.specs.WellFormed.{IsInput};
+ghost use Rattle.saturation.specs.GoalTerms.{rules_of};
+ghost use Rattle.code_check.specs.CodeGrammar.{IsFirstCodesFault};
+ghost use Rattle.code_check.specs.Codes.{IsCodeOf};
+ghost use Rattle.code_check.specs.Replies as format;
+ghost use Rattle.code_check.specs.Replies.{AreSaid, CanBeSaid, IsPartOf, IsTold};
+ghost use Rattle.code_check.specs.declared.codes.Verified.TheVariants as answers;
+
+use crate::codes::{Code, Part, Verified};
+use crate::reading::read;
+use crate::verifying::verify_by_rules;
+use goal_meaning::{Goal, Input};
+use items::{Items, NoMemory};
+use saturation::{Rules, Stop, rules};
+use std::alloc::Global;
+use text_core::{TextFault, put, put_number, put_word};
+
+/// The lines of the codes of a text, and whether some code isn't known to be its goal, and some goal holds in no world.
+#[derive(Drop)]
+pub struct Told {
+    pub bytes: Items<u8>,
+    pub unknown: bool,
+    pub noworld: bool,
+}
+
+fn stop_name(stop: Stop) -> &'static [u8]
+    ensures { result.now ≡ format.stop_name stop }
+{
+    match stop {
+        Stop::Quiet => b"quiet",
+        Stop::Rounds => b"rounds",
+        Stop::Full => b"full",
+    }
+}
+
+/// Appends the last word of a line.
+fn put_last(text: &mut Vec<u8>, word: &[u8]) -> Result<(), NoMemory>
+    ensures { OnOk result (text.new.items ≡ text.old.items ++ (bytes_of " " ++ line_text (word.now ∷ []))) }
+{
+    put_word(text, word)?;
+    put(text, b"\n")
+}
+
+fn put_target(text: &mut Vec<u8>, goal: &Goal, set: u32) -> Result<(), NoMemory>
+    requires set { set < length goal.now.sets }
+    ensures { OnOk result (text.new.items ≡ text.old.items ++ (bytes_of " "
+        ++ line_text (bytes_of "set" ∷ format.target_name (goal_view goal.now) set ∷ []))) }
+{
+    put_word(text, b"set")?;
+    put_last(text, goal.sets.as_slice()[set as usize].name.bytes())
+}
+
+fn put_part(text: &mut Vec<u8>, goal: &Goal, part: Part) -> Result<(), NoMemory>
+    requires part { IsPartOf (goal_view goal.now) part }
+    ensures { OnOk result (text.new.items ≡ text.old.items ++ (bytes_of " "
+        ++ line_text (format.part_words (goal_view goal.now) part))) }
+{
+    match part {
+        Part::Guard => put_last(text, b"guard"),
+        Part::Exit => put_last(text, b"exit"),
+        Part::Set(set) => put_target(text, goal, set),
+        Part::Memory => put_last(text, b"memory"),
+    }
+}
+
+fn put_unknown(
+    text: &mut Vec<u8>,
+    goal: &Goal,
+    rounds: u32,
+    stop: Stop,
+    part: Part,
+) -> Result<(), NoMemory>
+    requires part { IsPartOf (goal_view goal.now) part }
+    ensures { OnOk result (text.new.items
+        ≡ text.old.items ++ line_text (format.reply_words (goal_view goal.now) (answers.Unknown rounds stop part))) }
+{
+    put(text, b"unknown")?;
+    put_word(text, goal.name.bytes())?;
+    put_word(text, b"rounds")?;
+    put_number(text, u64::from(rounds))?;
+    put_word(text, b"stop")?;
+    put_word(text, stop_name(stop))?;
+    put_part(text, goal, part)
+}
+
+fn put_no_world(text: &mut Vec<u8>, goal: &Goal, class: u32, a: u64, b: u64) -> Result<(), NoMemory>
+    ensures { OnOk result (text.new.items
+        ≡ text.old.items ++ line_text (format.reply_words (goal_view goal.now) (answers.NoWorld class a b))) }
+{
+    put(text, b"noworld")?;
+    put_word(text, goal.name.bytes())?;
+    put_number(text, a)?;
+    put_number(text, b)?;
+    put(text, b"\n")
+}
+
+fn put_yes(text: &mut Vec<u8>, goal: &Goal) -> Result<(), NoMemory>
+    ensures { OnOk result (text.new.items
+        ≡ text.old.items ++ line_text (format.reply_words (goal_view goal.now) answers.Yes)) }
+{
+    put(text, b"yes")?;
+    put_last(text, goal.name.bytes())
+}
+
+fn put_reply(text: &mut Vec<u8>, goal: &Goal, answer: Verified) -> Result<(), NoMemory>
+    requires said { CanBeSaid (goal_view goal.now) answer }
+    ensures { OnOk result (text.new.items ≡ text.old.items ++ line_text (format.reply_words (goal_view goal.now) answer)) }
+{
+    match answer {
+        Verified::Yes => put_yes(text, goal),
+        Verified::Unknown { rounds, stop, part } => put_unknown(text, goal, rounds, stop, part),
+        Verified::NoWorld { class, a, b } => put_no_world(text, goal, class, a, b),
+    }
+}
+
+fn is_unknown(answer: Verified) -> bool
+    ensures { result ≡ format.is_unknown answer }
+{
+    match answer {
+        Verified::Unknown { .. } => true,
+        Verified::Yes | Verified::NoWorld { .. } => false,
+    }
+}
+
+fn is_no_world(answer: Verified) -> bool
+    ensures { result ≡ format.is_no_world answer }
+{
+    match answer {
+        Verified::NoWorld { .. } => true,
+        Verified::Yes | Verified::Unknown { .. } => false,
+    }
+}
+
+/// Whether some answer is unknown, with this one.
+fn or_unknown(before: bool, answer: Verified) -> bool
+    ensures { result ≡ (before || format.is_unknown answer) }
+{
+    before || is_unknown(answer)
+}
+
+/// Whether some answer is that there is no world, with this one.
+fn or_no_world(before: bool, answer: Verified) -> bool
+    ensures { result ≡ (before || format.is_no_world answer) }
+{
+    before || is_no_world(answer)
+}
+
+fn tell(
+    alloc: Global,
+    input: &Input,
+    rules: &Rules,
+    codes: &[Code],
+    rounds: u32,
+    nodes: u32,
+) -> Result<Told, NoMemory>
+    requires input { IsInput (input_view input.now) }
+    requires rules { rules.now.program ≡ rules_of (input_view input.now) }
+    requires codes { All (IsCodeOf (input_view input.now)) codes.now }
+    requires rounds { rounds ≤ 16 }
+    requires nodes { nodes ≤ 4096 }
+    ensures said { IfOk result (λ told. AreSaid (input_view input.now) rounds nodes codes.now told.bytes told.unknown
+        told.noworld) }
+{
+    let mut bytes = Vec::new(alloc);
+    let mut unknown = false;
+    let mut noworld = false;
+    for index in 0..codes.len() {
+        let code = &codes[index];
+        let answer = verify_by_rules(alloc, input, rules, code, rounds, nodes)?;
+        let at = code.goal;
+        let goal = &input.goals.as_slice()[at as usize];
+        put_reply(&mut bytes, goal, answer)?;
+        unknown = or_unknown(unknown, answer);
+        noworld = or_no_world(noworld, answer);
+    }
+    Ok(Told {
+        bytes: Items::from(bytes),
+        unknown,
+        noworld,
+    })
+}
+
+/// A line for each code of a text. The rules are made once.
+pub fn verify_text(alloc: Global, bytes: &[u8], rounds: u32, nodes: u32) -> Result<Told, TextFault>
+    requires small { length bytes.now < 2 ^ 29 }
+    requires rounds { rounds ≤ 16 }
+    requires nodes { (1 ≤ nodes) × (nodes ≤ 4096) }
+
+    // Each code has a line with an answer that is right.
+    ensures told { IfOk result (λ told. IsTold bytes.now rounds nodes told.bytes told.unknown told.noworld) }
+
+    // A fault is the text's first one, and where there is one, it is answered.
+    ensures fault { IfErr result (IsFaultBy (IsFirstCodesFault bytes.now)) }
+    ensures refused { (place : ℕ) (kind : FaultKind) → IsFirstCodesFault bytes.now place kind
+        → RefusesUnlessMemory place kind result }
+{
+    let checked = read(alloc, bytes)?;
+    let rules = rules(alloc, &checked.input)?;
+    let codes = checked.codes.as_slice();
+    let told = tell(alloc, &checked.input, &rules, codes, rounds, nodes)?;
+    Ok(told)
+}

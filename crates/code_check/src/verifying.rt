@@ -1,0 +1,191 @@
+// The check of a code against its goal.
+ghost use Rattle.std.specs.Prelude.{◌≡◌, ◌+◌, ◌<◌, ◌≤◌, ◌^◌, List, length, All, IfOk, IfSome, MatchOption, Some, slice_get};
+ghost use Rattle.word_terms.specs.Keys.{op_signature};
+ghost use Rattle.egraph.specs.Graph.{IsGraph};
+ghost use Rattle.alpha_encode.specs.declared.instructions.Instr.{Instr};
+ghost use Rattle.goal_meaning.specs.Views.{GoalTree, InputTree, goal_view, input_view};
+ghost use Rattle.goal_meaning.specs.WellFormed.{IsGoal, IsInput};
+ghost use Rattle.saturation.specs.AtStart.{IsGrownAtStart, StandsAtStart};
+ghost use Rattle.saturation.specs.GoalTerms.{rules_of};
+ghost use Rattle.code_check.specs.Answers.{IsAnswerOf, IsGoalBelow, IsNoWorldAtStart, IsNoWorldInRounds};
+ghost use Rattle.code_check.specs.Codes.{ArePlaces, FitsGoal, IsCodeOf};
+ghost use Rattle.code_check.specs.Compared.{ArePresentClasses, ArePresentClassesOfSome, IsBranchOf, terms_at_branch};
+ghost use Rattle.code_check.specs.Outcomes.{HasOneBranch};
+ghost use Rattle.code_check.specs.Same.{IsFirstDifferent, Same, terms_at_end};
+ghost use Rattle.code_check.specs.Verified.{IsRightFor};
+
+use crate::branches::{Branch, find_branch, words_before};
+use crate::code_terms::{Inserted, insert_code};
+use crate::codes::{At, Code, Part, Verified};
+use crate::comparing::{first_different_target, is_same_guard, is_same_leaving, is_same_memory};
+use crate::laws::{compared_graphs_decide, same_code_does_the_goal};
+use egraph::{Egraph, rows_name_present_classes};
+use goal_meaning::{Goal, Input};
+use items::NoMemory;
+use pattern_match::terms_have_one_class;
+use saturation::{
+    Rules, SaturateFault, StartFault, Stop, more_terms_may_be_inserted, rules, saturate, start,
+};
+use std::alloc::{AllocError, Global};
+use word_ops::Op;
+
+/// Two constants in one class at the start are an answer, unlike running out of memory.
+fn no_world_at_start(fault: StartFault) -> Result<Verified, NoMemory>
+    ensures { IfOk result (IsNoWorldAtStart fault) }
+{
+    match fault {
+        StartFault::NoWorld { class, a, b } => Ok(Verified::NoWorld { class, a, b }),
+        StartFault::Memory => Err(AllocError),
+    }
+}
+
+/// Two constants in one class after some rounds are an answer, unlike running out of memory.
+fn no_world_in_rounds(fault: SaturateFault) -> Result<Verified, NoMemory>
+    ensures { IfOk result (IsNoWorldInRounds fault) }
+{
+    match fault {
+        SaturateFault::NoWorld { class, a, b } => Ok(Verified::NoWorld { class, a, b }),
+        SaturateFault::Memory => Err(AllocError),
+    }
+}
+
+/// The first part of the goal that isn't the same in the code.
+fn first_different(
+    alloc: Global,
+    graph: &Egraph<Op>,
+    goal: &Goal,
+    places: &[At],
+    branch: Option<Branch>,
+    inserted: &Inserted,
+) -> Result<Option<Part>, NoMemory>
+    requires below { IsGoalBelow (goal_view goal.now) }
+    requires inputs { All (λ i. i.reg < 32) goal.now.inputs }
+    requires few { length goal.now.sets < 2 ^ 32 }
+    requires places { ArePlaces (goal_view goal.now).sets places.now }
+    requires register { IfSome branch (λ b. b.register < 32) }
+    requires branch { ArePresentClassesOfSome graph.now inserted.now.at_branch inserted.now.memory_at_branch }
+    requires end { ArePresentClassesOfSome graph.now inserted.now.at_end inserted.now.memory_at_end }
+    ensures { IfOk result (λ found. (instrs : List Instr) → IsBranchOf instrs branch → HasOneBranch instrs →
+        ArePresentClasses graph.now inserted.now.at_branch inserted.now.memory_at_branch (terms_at_branch branch instrs) →
+        ArePresentClasses graph.now inserted.now.at_end inserted.now.memory_at_end (terms_at_end instrs) →
+        MatchOption found (Same graph.now (goal_view goal.now) instrs places.now)
+        (IsFirstDifferent graph.now (goal_view goal.now) instrs places.now)) }
+{
+    let guard = is_same_guard(alloc, graph, &goal.guard, branch, &inserted.at_branch)?;
+    if !guard {
+        return Ok(Some(Part::Guard));
+    }
+    let inputs = goal.inputs.as_slice();
+    let memory = inserted.memory_at_branch;
+    let exit = is_same_leaving(graph, inputs, branch, &inserted.at_branch, memory);
+    if !exit {
+        return Ok(Some(Part::Exit));
+    }
+    let sets = goal.sets.as_slice();
+    let different = first_different_target(alloc, graph, sets, places, &inserted.at_end)?;
+    if let Some(set) = different {
+        return Ok(Some(Part::Set(set)));
+    }
+    let memory = inserted.memory_at_end;
+    let same = is_same_memory(alloc, graph, sets, &inserted.at_end, memory)?;
+    if !same {
+        return Ok(Some(Part::Memory));
+    }
+    Ok(None)
+}
+
+fn verified(rounds: u32, stop: Stop, different: Option<Part>) -> Verified
+    ensures { IsAnswerOf rounds stop different result }
+{
+    match different {
+        Some(part) => Verified::Unknown { rounds, stop, part },
+        None => Verified::Yes,
+    }
+}
+
+/// The check from the first graph of the goal on.
+fn verify_from(
+    alloc: Global,
+    rules: &Rules,
+    goal: &Goal,
+    first: Egraph<Op>,
+    code: &Code,
+    rounds: u32,
+    nodes: u32,
+) -> Result<Verified, NoMemory>
+    requires below { IsGoalBelow (goal_view goal.now) }
+    requires inputs { All (λ i. i.reg < 32) goal.now.inputs }
+    requires sets { length goal.now.sets < 2 ^ 32 }
+    requires fits { FitsGoal (goal_view goal.now) code.now }
+    requires graph { IsGraph op_signature first }
+    requires grown { IsGrownAtStart (goal_view goal.now) first }
+    requires stands { StandsAtStart (goal_view goal.now) first }
+    requires few { length first.current + 20480 < 2 ^ 30 }
+    requires rounds { rounds ≤ 16 }
+    requires nodes { nodes ≤ 4096 }
+    ensures right { IfOk result (λ answer. (input : InputTree) → IsInput input → rules.now.program ≡ rules_of input →
+        IsGoal input.ops (goal_view goal.now) → IsRightFor input (goal_view goal.now) code.now rounds nodes answer) }
+{
+    compared_graphs_decide();
+    same_code_does_the_goal();
+    more_terms_may_be_inserted();
+    terms_have_one_class();
+    rows_name_present_classes::<Op>();
+    let words = code.words.as_slice();
+    let branch = find_branch(words);
+    let before = words_before(words, branch);
+    let mut graph = first;
+    let inserted = insert_code(&mut graph, words, before)?;
+    let saturated = match saturate(alloc, graph, rules, rounds, nodes) {
+        Ok(saturated) => saturated,
+        Err(fault) => return no_world_in_rounds(fault),
+    };
+    let places = code.places.as_slice();
+    let different = first_different(alloc, &saturated.graph, goal, places, branch, &inserted)?;
+    Ok(verified(saturated.rounds, saturated.stop, different))
+}
+
+/// Whether the words are the goal. The rounds are those of the goal's terms and of the terms that the words write.
+pub fn verify(
+    alloc: Global,
+    input: &Input,
+    code: &Code,
+    rounds: u32,
+    nodes: u32,
+) -> Result<Verified, NoMemory>
+    requires input { IsInput (input_view input.now) }
+    requires code { IsCodeOf (input_view input.now) code.now }
+    requires rounds { rounds ≤ 16 }
+    requires nodes { (1 ≤ nodes) × (nodes ≤ 4096) }
+    ensures right { IfOk result (λ answer. (goal : GoalTree) → slice_get (input_view input.now).goals code.now.goal ≡ Some goal →
+        IsRightFor (input_view input.now) goal code.now rounds nodes answer) }
+{
+    let rules = rules(alloc, input)?;
+    verify_by_rules(alloc, input, &rules, code, rounds, nodes)
+}
+
+/// The same by the rules of the input, which serve for all its codes.
+pub(crate) fn verify_by_rules(
+    alloc: Global,
+    input: &Input,
+    rules: &Rules,
+    code: &Code,
+    rounds: u32,
+    nodes: u32,
+) -> Result<Verified, NoMemory>
+    requires input { IsInput (input_view input.now) }
+    requires rules { rules.now.program ≡ rules_of (input_view input.now) }
+    requires code { IsCodeOf (input_view input.now) code.now }
+    requires rounds { rounds ≤ 16 }
+    requires nodes { nodes ≤ 4096 }
+    ensures right { IfOk result (λ answer. (goal : GoalTree) → slice_get (input_view input.now).goals code.now.goal ≡ Some goal →
+        IsRightFor (input_view input.now) goal code.now rounds nodes answer) }
+{
+    compared_graphs_decide();
+    let at = code.goal;
+    let goal = &input.goals.as_slice()[at as usize];
+    match start(alloc, goal) {
+        Ok(first) => verify_from(alloc, rules, goal, first, code, rounds, nodes),
+        Err(fault) => no_world_at_start(fault),
+    }
+}
