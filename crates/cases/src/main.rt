@@ -11,6 +11,7 @@ mod answers;
 mod building;
 mod case_files;
 mod clauses;
+mod codes;
 mod equalities;
 mod failing;
 mod machine;

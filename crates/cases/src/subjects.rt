@@ -1,8 +1,8 @@
 // What cases ask: the subjects by their names.
 use crate::reports::Trouble;
 use crate::{
-    answers, clauses, equalities, failing, machine, plain_scripts, rounds, schedules, scripts,
-    streams, texts, tokens, worlds,
+    answers, clauses, codes, equalities, failing, machine, plain_scripts, rounds, schedules,
+    scripts, streams, texts, tokens, worlds,
 };
 use std::alloc::Global;
 
@@ -46,10 +46,11 @@ pub(crate) enum Subject {
     Commands,
     Failing,
     Solved,
+    Verify,
 }
 
 /// The name of each subject.
-const NAMES: [(&str, Subject); 37] = [
+const NAMES: [(&str, Subject); 38] = [
     ("decimals", Subject::Decimals),
     ("tokens", Subject::Tokens),
     ("trees", Subject::Trees),
@@ -87,6 +88,7 @@ const NAMES: [(&str, Subject); 37] = [
     ("commands", Subject::Commands),
     ("failing", Subject::Failing),
     ("solved", Subject::Solved),
+    ("verify", Subject::Verify),
 ];
 
 impl Subject {
@@ -147,5 +149,6 @@ pub(crate) fn answer(alloc: Global, subject: Subject, input: &[u8]) -> Result<Ve
         Subject::Commands => answers::commands(alloc, input),
         Subject::Failing => failing::failing(alloc, input),
         Subject::Solved => answers::solved(alloc, input),
+        Subject::Verify => codes::verify(alloc, input),
     }
 }
