@@ -11,6 +11,7 @@ mod Deciding
 mod FormLists
 mod Growing
 mod Leaves
+mod OneAnswer
 mod Parts
 mod ReadTexts
 mod Replying

@@ -45,7 +45,7 @@ parts_are goal =
     (All-map (IsPartOf goal) parts.Set (word_targets_from 0 goal.sets) (targets_are goal))
     (All-cons (IsPartOf goal) parts.Memory [] tt (All-nil (IsPartOf goal)))))
 
-middle : {X : Type 0} (P : X → Type 0) (all before behind : List X) (x : X) → all ≡ before ++ x ∷ behind → All P all → P x
+pub middle : {X : Type 0} (P : X → Type 0) (all before behind : List X) (x : X) → all ≡ before ++ x ∷ behind → All P all → P x
 middle P all before behind x e h =
     subst P (get_or_at before x behind x (length before) refl)
     (All-get_or P (before ++ x ∷ behind) (length before) x (within before) (subst (All P) e h))

@@ -77,3 +77,10 @@ IsRightFor input goal code rounds nodes answer =
     (instrs : List Instr) →
     map decoded code.words ≡ map Some instrs →
     IsVerified input goal instrs code rounds nodes answer
+
+-- two answers of one kind; and where they are unknown, after one number of rounds and for one part
+abbrev pub AreOneAnswer : Verified → Verified → Type 0
+AreOneAnswer Yes Yes = Unit {0}
+AreOneAnswer (Unknown j stop part) (Unknown k reason other) = (j ≡ k) × (part ≡ other)
+AreOneAnswer (NoWorld class a b) (NoWorld other x y) = Unit {0}
+AreOneAnswer _ _ = ⊥

@@ -20,19 +20,24 @@ ghost use Rattle.saturation.specs.declared.faults.SaturateFault.TheVariants.{NoW
 ghost use Rattle.saturation.specs.declared.faults.StartFault.TheVariants.{NoWorld as start_no_world};
 ghost use Rattle.saturation.specs.declared.rounds.Stop.{Stop as StopCause};
 ghost use Rattle.code_check.specs.CodeGrammar.{CheckedTree, IsFirstCodesFault, ReadsCodes};
+ghost use Rattle.code_check.specs.Codes.{FitsGoal};
 ghost use Rattle.code_check.specs.Outcomes.{entry_state, DoesGoal, IsCode};
 ghost use Rattle.code_check.specs.Same.{Same};
 ghost use Rattle.code_check.specs.Terms.{terms_at_entry, terms_from, written_terms};
 ghost use Rattle.code_check.specs.Values.{HaveValues, after_all};
-ghost use Rattle.code_check.specs.Verified.{HasNoWorld, IsCompared};
+ghost use Rattle.code_check.specs.Verified.{AreOneAnswer, HasNoWorld, IsCompared, IsRightFor};
 ghost use Rattle.code_check.specs.declared.codes.At.{At as Place};
+ghost use Rattle.code_check.specs.declared.codes.Code.{Code as CheckedCode};
+ghost use Rattle.code_check.specs.declared.codes.Verified.{Verified as Answer};
 
 use alpha_machine::{displacements_are_low_bits, steps_add_up};
 use forms::one_reading;
 use goal_reader::{
     read_inputs_are_well_formed, texts_have_one_first_fault, texts_have_one_reading,
 };
-use saturation::{axioms_make_rules_true, grown_graphs_are_one, more_terms_may_be_inserted};
+use saturation::{
+    axioms_make_rules_true, grown_graphs_are_one, more_terms_may_be_inserted, rounds_end_once,
+};
 use word_ops::{meanings_are_in_range, memories_hold_words};
 
 /// A text has one reading as goals and codes, or one first fault, and never both.
@@ -111,4 +116,15 @@ pub fn compared_graphs_decide()
     more_terms_may_be_inserted();
     axioms_make_rules_true();
     grown_graphs_are_one();
+}
+
+/// Does nothing. Its clause is a law: two right answers to one code are of one kind, and where they are unknown, they are
+/// so after one number of rounds and for one part.
+pub fn codes_have_one_answer()
+    ensures one { (input : InputTree) (goal : GoalTree) (code : CheckedCode) (rounds nodes : ℕ) (x y : Answer) →
+        IsInput input → FitsGoal goal code → IsRightFor input goal code rounds nodes x →
+        IsRightFor input goal code rounds nodes y → AreOneAnswer x y }
+{
+    axioms_make_rules_true();
+    rounds_end_once();
 }

@@ -20,7 +20,7 @@ mod words;
 
 pub use codes::{At, Checked, Code, Part, Verified};
 pub use laws::{
-    codes_have_one_reading, compared_graphs_decide, same_code_does_the_goal,
+    codes_have_one_answer, codes_have_one_reading, compared_graphs_decide, same_code_does_the_goal,
     terms_are_what_words_compute, written_terms_are_sorted,
 };
 pub use reading::read;

@@ -20,7 +20,7 @@ use Rattle.graph_meaning.specs.WellFormed.{IsLaunchGraph}
 use Rattle.graph_meaning.specs.declared.graphs.LaunchGraph.{LaunchGraph}
 use Rattle.machine_table.specs.declared.tables.Table.{Table}
 use Rattle.order_encoding.specs.WholeFormula.{IsFormulaOf, formula_in}
-use Rattle.refute_trim.specs.Outcomes.{IsLargeBy, IsOutcomeFor, IsSizeFault}
+use Rattle.refute_trim.specs.Outcomes.{IsOutcomeFor, IsSizeFault, TellsSizeOf}
 use Rattle.refute_trim.specs.Trimmed.{AreTrimmed}
 use Rattle.refute_trim.specs.TrimmedAnswers.{AreToRefute, AreTrimmedLines, no_lines, needed, too_large, refused}
 use Rattle.refute_trim.specs.declared.goals.Outcome.{Outcome}
@@ -92,7 +92,7 @@ module _ (e : Encoding) (table : Table) (g : LaunchGraph) (k : ℕ) (c : Claimed
   pub is_too_large : (vars clauses : ℕ) → IsSizeFault e g table k (Size vars clauses) → IsOutcomeFor e table c (Rejected (verdict.Size vars clauses))
   is_too_large vars clauses (f, formula, passes) = too_large (to_refute f formula) passes
 
-  pub is_large : (fault : EncodeFault) (outcome : Outcome) → IsSizeFault e g table k fault → IsLargeBy fault outcome → IsOutcomeFor e table c outcome
+  pub is_large : (fault : EncodeFault) (outcome : Outcome) → IsSizeFault e g table k fault → TellsSizeOf fault outcome → IsOutcomeFor e table c outcome
   is_large fault (Kept refute) size by = absurd by
   is_large fault (Rejected (verdict.Size vars clauses)) size by = is_too_large vars clauses (subst (IsSizeFault e g table k) by size)
   is_large fault (Rejected verdict.Holds) size by = absurd by

@@ -29,14 +29,14 @@ IsSizeFault e g table k (Size vars clauses) = (f : Formula) × IsFormulaOf e g t
 IsSizeFault e g table k Memory = Unit {0}
 
 -- the counts of a fault are those of the verdict
-abbrev pub IsLargeBy : EncodeFault → Outcome → Type 0
-IsLargeBy fault (Rejected (verdict.Size vars clauses)) = fault ≡ Size vars clauses
-IsLargeBy fault outcome = ⊥
+abbrev pub TellsSizeOf : EncodeFault → Outcome → Type 0
+TellsSizeOf fault (Rejected (verdict.Size vars clauses)) = fault ≡ Size vars clauses
+TellsSizeOf fault outcome = ⊥
 
 -- the lines refute the formula, and these are the needed ones; or this is the first that is refused
-abbrev pub IsTrial : Formula → Lines → Result Lines Refused → Type 0
-IsTrial f lines (Ok new) = Refutes f lines.lines × AreTrimmed (length f.clauses) lines.lines new.lines
-IsTrial f lines (Err refused) = IsFirstRefusal (IsEmptyOnlyLast lines.lines) f lines.lines refused.line refused.why
+abbrev pub IsCheckedTrim : Formula → Lines → Result Lines Refused → Type 0
+IsCheckedTrim f lines (Ok new) = Refutes f lines.lines × AreTrimmed (length f.clauses) lines.lines new.lines
+IsCheckedTrim f lines (Err refused) = IsFirstRefusal (IsEmptyOnlyLast lines.lines) f lines.lines refused.line refused.why
 
 -- the goal's lines are trimmed, or the goal is rejected
 abbrev pub IsOutcomeFor : Encoding → Table → Claimed → Outcome → Type 0

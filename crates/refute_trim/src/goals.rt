@@ -7,7 +7,7 @@ ghost use Rattle.cycle_encoding.specs.Plans.{IsTooLarge};
 ghost use Rattle.graph_meaning.specs.WellFormed.{IsLaunchGraph};
 ghost use Rattle.machine_table.specs.Tables.{IsTable};
 ghost use Rattle.order_encoding.specs.WholeFormula.{IsFormulaOf};
-ghost use Rattle.refute_trim.specs.Outcomes.{IsLargeBy, IsOutcomeFor, IsSizeFault, IsTrial};
+ghost use Rattle.refute_trim.specs.Outcomes.{IsCheckedTrim, IsOutcomeFor, IsSizeFault, TellsSizeOf};
 
 use crate::trim;
 use answer_check::Verdict;
@@ -59,7 +59,7 @@ fn clauses_for(
 
 /// Clauses that are too large are an outcome for the goal, unlike running out of memory.
 fn too_large(fault: EncodeFault) -> Result<Outcome, NoMemory>
-    ensures { IfOk result (IsLargeBy fault) }
+    ensures { IfOk result (TellsSizeOf fault) }
 {
     match fault {
         EncodeFault::Size { vars, clauses } => {
@@ -76,7 +76,7 @@ fn trim_checked(
     lines: &Lines,
 ) -> Result<Result<Lines, Rejected>, NoMemory>
     requires few { length lines.now.lines < 2 ^ 29 }
-    ensures { IfOk result (IsTrial cnf.now lines.now) }
+    ensures { IfOk result (IsCheckedTrim cnf.now lines.now) }
 {
     let mut marks = Marks::new(alloc, cnf.vars())?;
     match check(cnf, lines, &mut marks) {
