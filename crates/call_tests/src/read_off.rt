@@ -36,7 +36,7 @@ const LAUNCHES: [Launch; 4] = [
 
 /// The launches where the values of variables 1, 3 and 4 are true, and 5 means none.
 fn read(alloc: Global) -> Result<Schedule, NoMemory> {
-    let plan = VarPlan::new(Encoding::Wide, 2, Items::from_slice(alloc, &LAUNCHES)?);
+    let plan = VarPlan::new(Encoding::Wide, 2, Items::from_slice(alloc, &LAUNCHES)?, 5);
     read_off(alloc, &plan, &[true, false, true, true, true])
 }
 

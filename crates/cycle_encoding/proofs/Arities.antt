@@ -1,10 +1,8 @@
 -- A row has four word operands at most.
-use Rattle.std.proofs.Common.{◌≡◌, ℕ, zero, suc, ◌+◌, ◌*◌, ◌≤◌, Bool, true, false, cond, List, ◌∷◌, [], length, map, get_or, Option, Some, None, refl, ap, ◌∙◌, subst, arith}
+use Rattle.std.proofs.Common.{◌≡◌, ℕ, zero, suc, ◌+◌, ◌*◌, ◌≤◌, Bool, true, false, cond, List, ◌∷◌, [], length, get_or, Option, Some, None, refl, subst, arith}
 use Rattle.std.specs.Prelude.{◌==◌, nat_le, is_some, slice_get}
 use Rattle.std.specs.Option.{option_map_or}
-use Rattle.std.specs.List.{count_by, filter}
 use Rattle.std.proofs.lemmas.Bool.{leb-true}
-use Rattle.std.proofs.lemmas.List.Sums.{length-filter, count_by-le-length}
 use Rattle.word_ops.specs.Meanings.{arity_of_op}
 use Rattle.word_ops.specs.declared.operators.WordOp.{WordOp}
 use Rattle.word_ops.specs.declared.operators.WordOp.TheVariants as ops
@@ -17,9 +15,6 @@ use Rattle.graph_meaning.specs.declared.graphs.LaunchRow.{LaunchRow}
 use Rattle.graph_meaning.specs.declared.graphs.Guard.{Guard}
 use Rattle.schedule_meaning.specs.Launches.{copied_at, copy_operands, operands_at, row_operands, guard_operands}
 use Rattle.schedule_meaning.specs.Launches.{op_operands, operate_operands, plain}
-use Rattle.schedule_meaning.specs.declared.schedules.Operand.{Operand}
-use Rattle.cycle_encoding.specs.Families.{is_made}
-use Rattle.cycle_encoding.specs.Facts.{made_among}
 use Rattle.cycle_encoding.proofs.OperandLists.{operate_size}
 use Rattle.cycle_encoding.proofs.Tables.{got_is}
 
@@ -58,13 +53,6 @@ module _ (g : LaunchGraph) (well : IsLaunchGraph g) where
   pub operands_few : (row : ℕ) → length (operands_at g row) ≤ 4
   operands_few row = either_few row (row == length g.rows) (copied_at g row)
 
-size-map : {X A : Type 0} (f : X → A) (xs : List X) → length (map f xs) ≡ length xs
-size-map f [] = refl
-size-map f (x ∷ xs) = ap suc (size-map f xs)
-
-pub made_count_is : (g : LaunchGraph) (os : List Operand) → length (made_among g os) ≡ count_by (is_made g) os
-made_count_is g os = size-map (λ (o : Operand). o.class) (filter (is_made g) os) ∙ length-filter (is_made g) os
-
 pub times_le : (n b m : ℕ) → n ≤ b → n * m ≤ b * m
 times_le n b zero le = (let x : n * zero ≡ 0 = omega arith in let y : b * zero ≡ 0 = omega arith in omega arith)
 times_le n b (suc m) le =
@@ -72,19 +60,3 @@ times_le n b (suc m) le =
     let x : n * suc m ≡ n * m + n = omega arith in
     let y : b * suc m ≡ b * m + b = omega arith in
     omega arith
-
--- the operands of a row's launches
-module _ (g : LaunchGraph) (well : IsLaunchGraph g) (row n : ℕ) (made : List ℕ) (is : made ≡ made_among g (operands_at g row)) where
-  made_is : length made ≡ count_by (is_made g) (operands_at g row)
-  made_is = ap (λ (xs : List ℕ). length xs) is ∙ made_count_is g (operands_at g row)
-
-  pub times_is : (m : ℕ) → n ≡ m → n * length made ≡ m * count_by (is_made g) (operands_at g row)
-  times_is m e = ap (λ x. x * length made) e ∙ ap (λ x. m * x) made_is
-
-  pub times_few : n ≤ 200 → n * length made ≤ 800
-  times_few le =
-      let a = times_le n 200 (length made) le in
-      let b = made_is in
-      let c = count_by-le-length (is_made g) (operands_at g row) in
-      let d = operands_few g well row in
-      omega arith

@@ -7,9 +7,10 @@ use Rattle.graph_meaning.specs.WellFormed.{next_class}
 use Rattle.graph_meaning.specs.declared.graphs.LaunchGraph.{LaunchGraph}
 use Rattle.cnf_core.specs.declared.literal.Lit.{Lit}
 use Rattle.cycle_encoding.specs.Shapes.{numbered, positive, vars_of}
-use Rattle.cycle_encoding.specs.Variables.{Seen, all_seen, shown_classes}
+use Rattle.cycle_encoding.specs.Variables.{Seen, all_seen}
+use Rattle.cycle_encoding.specs.Variables.{shown_classes}
 use Rattle.cycle_encoding.specs.Families.{is_seen}
-use Rattle.cycle_encoding.specs.Facts.{is_shown_class}
+use Rattle.cycle_encoding.specs.Facts.{is_unsafe_shown}
 use Rattle.cycle_encoding.specs.Steps.{has_cluster, seen_at, cluster_seen, clusters_before, seen_before, AreSeenVars}
 use Rattle.cycle_encoding.proofs.Listed.{kept_more}
 use Rattle.cycle_encoding.proofs.Places.{seen-is, seen-within, unseen-class, unseen-late-class, unseen-cluster, unseen-late-cluster, unseen-cycle}
@@ -36,7 +37,7 @@ module _ (g : LaunchGraph) (wants : ℕ → Bool) (table : Table) (k first : ℕ
   starts_size : length starts ≡ next_class g.rows
   starts_size = ap (λ (xs : List ℕ). length xs) is.starts_are ∙ length-map-range_with_len (seen_before g wants table k) 0 (next_class g.rows)
 
-  pub none-class : is_shown_class g wants class ≡ false → [] ≡ vars
+  pub none-class : is_unsafe_shown g wants class ≡ false → [] ≡ vars
   none-class e = by [] (unseen-class g wants table k first class cluster cycle e)
 
   pub none-late-class : length starts ≤ class → [] ≡ vars
@@ -51,7 +52,7 @@ module _ (g : LaunchGraph) (wants : ℕ → Bool) (table : Table) (k first : ℕ
   pub none-cycle : k ≤ cycle → [] ≡ vars
   none-cycle le = by [] (unseen-cycle g wants table k first class cluster cycle le)
 
-  module _ (lc : class < length starts) (mc : is_shown_class g wants class ≡ true) (ln : cluster < 4) (mn : has_cluster table cluster ≡ true) (lt : cycle < k) (start offset : ℕ) (d : ℕ) (es : start ≡ get_or starts class d) (eo : offset ≡ clusters_before table k class cluster) where
+  module _ (lc : class < length starts) (mc : is_unsafe_shown g wants class ≡ true) (ln : cluster < 4) (mn : has_cluster table cluster ≡ true) (lt : cycle < k) (start offset : ℕ) (d : ℕ) (es : start ≡ get_or starts class d) (eo : offset ≡ clusters_before table k class cluster) where
     start_is : start ≡ seen_before g wants table k class
     start_is = es ∙ ap (λ xs. get_or xs class d) is.starts_are ∙ (let size = starts_size in get_or-map-range_with_len (seen_before g wants table k) 0 (next_class g.rows) class class d (omega arith) (omega arith))
 

@@ -69,6 +69,17 @@ module _ {X : Type 0} (test : X → Bool) where
       (chosen-old (n + 1) xs u (n + 1) (omega arith) ∙ cond-true (eqb (n + 1) (n + 1)) (test x) (v (n + 1)) (eq-eqb (n + 1) (n + 1) refl))
       (chosen-shown (n + 1) xs u)
 
+  -- and hides those that don't
+  pub chosen-hidden : (n : ℕ) (xs : List X) (v : ℕ → Bool) → shown (λ y. not (chosen test n xs v y)) (numbered n xs) ≡ filter (λ x. not (test x)) xs
+  unfolding chosen
+  chosen-hidden n [] v = refl
+  chosen-hidden n (x ∷ xs) v =
+      let u : ℕ → Bool = λ y. cond (eqb y (n + 1)) (test x) (v y) in
+      let w : ℕ → Bool = chosen test (n + 1) xs u in
+      shown_front (n + 1) x (filter (λ p. not (w p.0)) (numbered (n + 1) xs)) (filter (λ x. not (test x)) xs) (not (w (n + 1))) (not (test x))
+      (ap not (chosen-old (n + 1) xs u (n + 1) (omega arith) ∙ cond-true (eqb (n + 1) (n + 1)) (test x) (v (n + 1)) (eq-eqb (n + 1) (n + 1) refl)))
+      (chosen-hidden (n + 1) xs u)
+
 -- ---- literals of a block
 
 pub lit-more : (n m : ℕ) (l : Lit) → n ≤ m → IsLitOf n l → IsLitOf m l

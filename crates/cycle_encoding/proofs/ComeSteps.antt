@@ -1,32 +1,28 @@
 -- By which cycles classes come, one row more at a time.
-use Rattle.std.proofs.Common.{◌≡◌, ℕ, zero, suc, ◌+◌, ◌<◌, ◌≤◌, Bool, true, false, cond, List, [], ◌∷◌, ◌++◌, length, map, take, max, set, get_or, refl, sym, ap, ◌∙◌, subst, arith, inl, inr, ◌⊎◌, Option, Some, None}
-use Rattle.std.specs.Prelude.{◌==◌, nat_le, not, Contains, option_map, option_and_then, slice_get}
+use Rattle.std.proofs.Common.{◌≡◌, ℕ, zero, suc, ◌+◌, ◌<◌, ◌≤◌, Bool, true, false, cond, List, [], ◌∷◌, ◌++◌, length, map, take, set, get_or, refl, sym, ap, ◌∙◌, subst, arith, inl, inr, ◌⊎◌, Option, Some, None}
+use Rattle.std.specs.Prelude.{◌==◌, nat_le, Contains, option_map, option_and_then}
 use Rattle.std.specs.Option.{option_map_or}
-use Rattle.std.specs.List.{filter, fold, range_with_len}
-use Rattle.std.proofs.lemmas.Bool.{false≢true, cases_Bool, cases_lt, cases_eq, eq-eqb, leb-true, le-leb, lt-ltb, le-ltb}
-use Rattle.std.proofs.lemmas.Bool.{and_parts, and_from, and_left, and_right, not-true, not_from_false}
-use Rattle.std.proofs.lemmas.Option.{same_Some, none-some, slice_get_cases}
+use Rattle.std.specs.List.{range_with_len}
+use Rattle.std.proofs.lemmas.Bool.{false≢true, cases_lt, cases_eq, leb-true, le-leb, lt-ltb, le-ltb}
+use Rattle.std.proofs.lemmas.Bool.{and_parts, and_from, and_left, and_right}
+use Rattle.std.proofs.lemmas.Option.{same_Some, none-some}
 use Rattle.std.proofs.lemmas.List.{get_or-set_same, get_or-set_other, take_more}
 use Rattle.std.proofs.lemmas.List.Elements.{All-contains}
 use Rattle.machine_table.specs.Tables.{IsTable, IsUse, use_of, latency_of}
 use Rattle.machine_table.specs.InstrOrder.{kind_number}
-use Rattle.schedule_meaning.specs.Launches.{instr_at, copied_at, op_instr, gives_word, class_at, operands_at}
-use Rattle.schedule_meaning.specs.declared.schedules.Operand.{Operand}
+use Rattle.schedule_meaning.specs.Launches.{instr_at, gives_word, class_at}
+use Rattle.schedule_meaning.specs.declared.schedules.To.TheVariants.{Pool}
 use Rattle.machine_table.specs.declared.tables.Table.{Table}
 use Rattle.machine_table.specs.declared.tables.Use.{Use}
 use Rattle.machine_table.specs.declared.tables.InstrKind.{InstrKind}
-use Rattle.machine_table.specs.declared.tables.InstrKind.TheVariants.{Beq, Bis}
-use Rattle.graph_meaning.specs.WellFormed.{next_class}
-use Rattle.graph_meaning.specs.declared.graphs.Guard.{Guard}
-use Rattle.graph_meaning.specs.declared.graphs.LaunchRow.{LaunchRow}
+use Rattle.graph_meaning.specs.WellFormed.{IsLaunchGraph, next_class}
 use Rattle.graph_meaning.specs.declared.graphs.LaunchGraph.{LaunchGraph}
-use Rattle.cycle_encoding.specs.Variables.{is_input}
-use Rattle.cycle_encoding.specs.Families.{is_free, is_made}
-use Rattle.cycle_encoding.specs.Narrow.{Needs, HasCome, come, CanStart}
-use Rattle.cycle_encoding.specs.Coming.{needs_of, word_latency, is_come, are_come, earlier, come_by, AreSound, IsExactUpTo, IsPassed, ComesAreFound, StillCome}
-use Rattle.schedule_meaning.proofs.Copies.{plain_class, row_no_copy}
-use Rattle.cycle_encoding.proofs.Members.{filter-in, filter-out, find-out, map-in, map-out, here, later, nothing}
-use Rattle.cycle_encoding.proofs.Tests.{free-is, free-from, input-is, input-from}
+use Rattle.cycle_encoding.specs.Narrow.{HasCome, come, CanStart}
+use Rattle.cycle_encoding.specs.Coming.{start_needs, word_latency, is_come, are_come, earlier, come_by, AreSound, IsExactUpTo, IsPassed, ComesAreFound, StillCome}
+use Rattle.cycle_encoding.specs.declared.operands.There.TheVariants.{AtEntry}
+use Rattle.cycle_encoding.proofs.Members.{find-out, here, later, nothing}
+use Rattle.cycle_encoding.proofs.LackSteps.{need-in, need-out}
+use Rattle.cycle_encoding.proofs.PinnedRows.{word-launch}
 
 -- ---- the table, with one class more
 
@@ -122,7 +118,7 @@ module _ (known : List (Option ℕ)) (class n : ℕ) where
 module _ (g : LaunchGraph) (table : Table) where
   -- what has come by a cycle has come by each later one
   pub come-later : (class t u : ℕ) → HasCome g table class t → t ≤ u → HasCome g table class u
-  come-later _ _ u (come row start t i u0 low e w k le needs) lt = come row start u i u0 low e w k (omega arith) needs
+  come-later _ _ u (come row start t i u0 e w k le needs) lt = come row start u i u0 e w k (omega arith) needs
 
   pub are-out : (known : List (Option ℕ)) (t : ℕ) (cs : List ℕ) → are_come known t cs ≡ true → (c : ℕ) → Contains cs c → is_come known t c ≡ true
   are-out known t [] h c k = absurd (nothing c k)
@@ -133,31 +129,16 @@ module _ (g : LaunchGraph) (table : Table) where
   are-in known t [] h = refl
   are-in known t (d ∷ cs) h = and_from (is_come known t d) (are_come known t cs) (h d (here d cs)) (are-in known t cs (λ c k. h c (later d c cs k)))
 
-  -- an operand that is needed is one of the classes, and the other way round
-  pub need-in : (row : ℕ) (o : Operand) → Needs g row o → Contains (needs_of g row) o.class
-  need-in row o need =
-      let free : is_free g o ≡ false = elim (cases_Bool (is_free g o)) [ inl t ↦ absurd (need.free (free-is g o t)) | inr f ↦ f ] in
-      let input : is_input g o.class ≡ false = elim (cases_Bool (is_input g o.class)) [ inl t ↦ absurd (need.input (input-is g o.class t)) | inr f ↦ f ] in
-      let made : is_made g o ≡ true = and_from (not (is_free g o)) (not (is_input g o.class)) (not_from_false (is_free g o) free) (not_from_false (is_input g o.class) input) in
-      map-in (λ (o : Operand). o.class) (filter (is_made g) (operands_at g row)) o (filter-in (is_made g) (operands_at g row) o need.operand made)
-
-  pub need-out : (row c : ℕ) → Contains (needs_of g row) c → (o : Operand) × Needs g row o × (o.class ≡ c)
-  need-out row c h =
-      let o = map-out (λ (o : Operand). o.class) (filter (is_made g) (operands_at g row)) c h in
-      let f = filter-out (is_made g) (operands_at g row) o.0 o.1 in
-      let p = and_parts (not (is_free g o.0)) (not (is_input g o.0.class)) f.1 in
-      (o.0, record { operand = f.0; free = λ x. false≢true (sym (not-true (is_free g o.0) p.0) ∙ free-from g o.0 x); input = λ x. false≢true (sym (not-true (is_input g o.0.class) p.1) ∙ input-from g o.0.class x) }, o.2)
-
   -- a row can start where its classes are found to have come
-  pub can-start : (known : List (Option ℕ)) (t row : ℕ) → AreSound g table known → are_come known t (needs_of g row) ≡ true → CanStart g table row t
+  pub can-start : (known : List (Option ℕ)) (t row : ℕ) → AreSound g table known → are_come known t (start_needs g row) ≡ true → CanStart g table row t
   can-start known t row sound h o need =
-      let m = come-out known t o.class (are-out known t (needs_of g row) h o.class (need-in row o need)) in
+      let m = come-out known t o.class (are-out known t (start_needs g row) h o.class (need-in AtEntry g row o need)) in
       come-later o.class m.0 t (sound o.class m.0 m.1) m.2
 
-  pub start-found : (known : List (Option ℕ)) (t row : ℕ) → ComesAreFound g table known t → CanStart g table row t → are_come known t (needs_of g row) ≡ true
+  pub start-found : (known : List (Option ℕ)) (t row : ℕ) → ComesAreFound g table known t → CanStart g table row t → are_come known t (start_needs g row) ≡ true
   start-found known t row found start =
-      are-in known t (needs_of g row) (λ c k.
-      let o = need-out row c k in
+      are-in known t (start_needs g row) (λ c k.
+      let o = need-out AtEntry g row c k in
       subst (λ x. is_come known t x ≡ true) o.2 (found o.0.class (start o.0 o.1)))
 
   -- ---- latencies
@@ -186,10 +167,10 @@ module _ (g : LaunchGraph) (table : Table) where
       ∙ ap (λ b. cond b (latency_of table i) None) w
       ∙ ap (option_map (λ (u : Use). u.latency)) k
 
-  pub comes : (row t n : ℕ) → row < length g.rows → word_latency g table row ≡ Some n → CanStart g table row t → HasCome g table (class_at g row) (t + n)
-  comes row t n low h start =
+  pub comes : (row t n : ℕ) → word_latency g table row ≡ Some n → CanStart g table row t → HasCome g table (class_at g row) (t + n)
+  comes row t n h start =
       let l = latency-out row n h in
-      come row t (t + n) l.0 l.1 low l.2 l.3 l.4 (let e = l.5 in omega arith) start
+      come row t (t + n) l.0 l.1 l.2 l.3 l.4 (let e = l.5 in omega arith) start
 
   -- ---- a cycle more
 
@@ -211,48 +192,19 @@ module _ (g : LaunchGraph) (table : Table) where
 
     -- where all rows passed in the cycles below t, all is found that has come by t
     pub all-found : (known : List (Option ℕ)) (t : ℕ) → ((s row : ℕ) → s < t → IsPassed g table known s row) → (u class : ℕ) → u ≤ t → HasCome g table class u → is_come known u class ≡ true
-    all-found known t passed _ _ le (come row start u i v low e w k until needs) =
+    all-found known t passed _ _ le (come row start u i v e w k until needs) =
         let one = least i v k in
-        let now = passed start row (omega arith) low v.latency (latency-in row i v e w k) needs in
+        let now = passed start row (omega arith) v.latency (latency-in row i v e w k) needs in
         let m = come-out known (start + v.latency) (class_at g row) now in
         let low = m.2 in
         come-in known u (class_at g row) m.0 m.1 (omega arith)
 
   -- ---- rows that give words
 
-  fold_from : (rows : List LaunchRow) (n : ℕ) → n ≤ fold (λ n r. max n (r.class + 1)) n rows
-  fold_from [] n = omega arith
-  fold_from (r ∷ rows) n = (let h = fold_from rows (max n (r.class + 1)) in omega arith)
-
-  fold_above : (rows : List LaunchRow) (n i : ℕ) (r : LaunchRow) → slice_get rows i ≡ Some r → r.class < fold (λ n r. max n (r.class + 1)) n rows
-  fold_above [] n i r h = absurd (none-some r h)
-  fold_above (s ∷ rows) n zero r h = (let same : s ≡ r = same_Some s r h in let e : s.class ≡ r.class = ap (λ (x : LaunchRow). x.class) same in let k = fold_from rows (max n (s.class + 1)) in omega arith)
-  fold_above (s ∷ rows) n (suc i) r h = fold_above rows (max n (s.class + 1)) i r h
-
-  no_word : (o : Option Guard) (i : InstrKind) → option_map (λ _. Beq) o ≡ Some i → gives_word i ≡ true → ⊥
-  no_word None i h w = none-some i h
-  no_word (Some x) i h w = (let e : Beq ≡ i = same_Some Beq i h in false≢true (ap gives_word e ∙ w))
-
-  row_there : (row : ℕ) → row < length g.rows → (r : LaunchRow) × (slice_get g.rows row ≡ Some r)
-  row_there row low = elim ((slice_get_cases g.rows row).1) [ inl h ↦ (h.0, h.2) | inr h ↦ (let past : length g.rows ≤ row = h.0 in absurd (omega arith)) ]
-
-  pub low-class : (row : ℕ) → row < length g.rows → class_at g row < next_class g.rows
-  low-class row low =
-      let r = row_there row low in
-      let class : class_at g row ≡ r.0.class = plain_class g row (row_no_copy g row r.0 r.1) ∙ ap (λ (o : Option LaunchRow). option_map_or (λ r. r.class) o 0) r.1 in
-      let above = fold_above g.rows 0 row r.0 r.1 in
-      omega arith
-
-  -- the branch gives no word
-  branch_is : (row : ℕ) → row ≡ length g.rows → instr_at g row ≡ option_map (λ _. Beq) g.guard
-  branch_is row same = ap (λ b. cond b (option_map (λ _. Beq) g.guard) (option_map_or (λ class. Some Bis) (copied_at g row) (option_and_then (λ r. op_instr g r.op r.operands) (slice_get g.rows row)))) (eq-eqb row (length g.rows) same)
-
-  pub giving-low : (row : ℕ) (i : InstrKind) → row < length g.rows + 1 → instr_at g row ≡ Some i → gives_word i ≡ true → row < length g.rows
-  giving-low row i within h w =
-      elim (cases_eq row (length g.rows)) [
-        | inl same ↦ absurd (no_word g.guard i (sym (branch_is row same) ∙ h) w)
-        | inr apart ↦ omega arith
-      ]
+  -- their classes stand in the tables
+  pub low-class : IsLaunchGraph g → (row : ℕ) (i : InstrKind) → instr_at g row ≡ Some i → gives_word i ≡ true → class_at g row < next_class g.rows
+  low-class well row i e w =
+      (word-launch g well (record { cycle = 0; slot = 0; row = row; to = Pool }) (ap (λ (o : Option InstrKind). option_map_or gives_word o false) e ∙ w)).1
 
 -- ---- the steps of the code
 
@@ -271,24 +223,25 @@ are-not known t (x ∷ cs) zero d lt h = sym (and_left (is_come known t x) (are_
 are-not known t (x ∷ cs) (suc i) d lt h =
     sym (and_right (is_come known t x) (are_come known t cs) (sym (are-not known t cs i d (let s : length (x ∷ cs) ≡ suc (length cs) = refl in omega (arith, s)) h)))
 
-module _ (g : LaunchGraph) (table : Table) (known : List (Option ℕ)) (cycle row n : ℕ) (needs : List ℕ) (en : needs ≡ needs_of g row) (low : row < length g.rows) (w : word_latency g table row ≡ Some n) where
-  ready : are_come known cycle needs ≡ true → are_come known cycle (needs_of g row) ≡ true
+module _ (g : LaunchGraph) (table : Table) (known : List (Option ℕ)) (cycle row n : ℕ) (needs : List ℕ) (en : needs ≡ start_needs g row) (w : word_latency g table row ≡ Some n) where
+  ready : are_come known cycle needs ≡ true → are_come known cycle (start_needs g row) ≡ true
   ready h = ap (are_come known cycle) (sym en) ∙ h
 
   pub not-ready : ComesAreFound g table known cycle → are_come known cycle needs ≡ false → IsPassed g table known cycle row
-  not-ready found h _ m e start = absurd (false≢true (sym h ∙ ap (are_come known cycle) en ∙ start-found g table known cycle row found start))
+  not-ready found h m e start = absurd (false≢true (sym h ∙ ap (are_come known cycle) en ∙ start-found g table known cycle row found start))
 
   module _ (class m : ℕ) (new : List (Option ℕ)) (ec : class ≡ class_at g row) (em : m ≡ cycle + n) (e : new ≡ come_by known class m) (sound : AreSound g table known) (h : are_come known cycle needs ≡ true) where
     now : HasCome g table class m
-    now = subst (λ c. HasCome g table c m) (sym ec) (subst (HasCome g table (class_at g row)) (sym em) (comes g table row cycle n low w (can-start g table known cycle row sound (ready h))))
+    now = subst (λ c. HasCome g table c m) (sym ec) (subst (HasCome g table (class_at g row)) (sym em) (comes g table row cycle n w (can-start g table known cycle row sound (ready h))))
 
     pub row-sound : AreSound g table new
     row-sound = subst (AreSound g table) (sym e) (still-sound known class m g table sound now)
 
-    pub row-passed : length known ≡ next_class g.rows → IsPassed g table new cycle row
-    row-passed long _ j ej start =
+    pub row-passed : IsLaunchGraph g → length known ≡ next_class g.rows → IsPassed g table new cycle row
+    row-passed well long j ej start =
         let same : n ≡ j = same_Some n j (sym w ∙ ej) in
-        let bound : class < length known = (let b = low-class g table row low in omega arith) in
+        let l = latency-out g table row n w in
+        let bound : class < length known = (let b = low-class g table well row l.0 l.2 l.3 in omega arith) in
         let at : is_come (come_by known class m) m class ≡ true = come-now known class m bound in
         let until : m ≡ cycle + j = omega arith in
         ap (λ (xs : List (Option ℕ)). is_come xs (cycle + j) (class_at g row)) e
@@ -310,7 +263,7 @@ none-yet g table n known e class m h =
 
 module _ (g : LaunchGraph) (table : Table) (old new : List (Option ℕ)) (still-come : StillCome old new) where
   kept : (cycle row : ℕ) → IsPassed g table old cycle row → IsPassed g table new cycle row
-  kept cycle row p low n e start = still-come (cycle + n) (class_at g row) (p low n e start)
+  kept cycle row p n e start = still-come (cycle + n) (class_at g row) (p n e start)
 
   pub one-more-row : (cycle row : ℕ) → IsPassed g table new cycle row → ((r : ℕ) → r < row → IsPassed g table old cycle r) → (r : ℕ) → r < row + 1 → IsPassed g table new cycle r
   one-more-row cycle row this-row before r lt =

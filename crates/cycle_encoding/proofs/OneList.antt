@@ -6,12 +6,13 @@ use Rattle.std.proofs.lemmas.Bool.{false_from_ne_true, false≢true}
 use Rattle.machine_table.specs.declared.tables.Table.{Table}
 use Rattle.graph_meaning.specs.declared.graphs.LaunchGraph.{LaunchGraph}
 use Rattle.schedule_meaning.specs.declared.schedules.Launch.{Launch}
-use Rattle.cycle_encoding.specs.Variables.{Seen, all_launches, all_seen, made_classes}
+use Rattle.cycle_encoding.specs.Variables.{Seen, all_seen}
+use Rattle.cycle_encoding.specs.Variables.{all_launches, made_classes}
 use Rattle.cycle_encoding.specs.CycleFormula.{Listed}
 use Rattle.cycle_encoding.specs.Narrow.{HasVariable, Wanted, IsNarrow}
 use Rattle.cycle_encoding.specs.Encodings.{AreListed}
 use Rattle.cycle_encoding.specs.declared.encodings.Encoding.{Encoding}
-use Rattle.cycle_encoding.specs.declared.encodings.Encoding.TheVariants.{Wide, Narrow}
+use Rattle.cycle_encoding.specs.declared.encodings.Encoding.TheVariants.{Wide, Narrow, Pinned}
 use Rattle.cycle_encoding.proofs.Members.{here, later}
 
 decided : (p q : Bool) (P : Type 0) → Decides p P → Decides q P → p ≡ q
@@ -33,12 +34,13 @@ listed_by a b c d p q =
     let y : n ≡ m = ap {A = List Seen} {B = Listed} (λ ds. record { launches = b; seen = ds }) q in
     x ∙ y
 
-narrow-one : (g : LaunchGraph) (table : Table) (k : ℕ) (l m : Listed) → IsNarrow g table k l → IsNarrow g table k m → l ≡ m
-narrow-one g table k l m a b =
+pinned-one : (g : LaunchGraph) (table : Table) (k : ℕ) (l m : Listed) → IsNarrow g table k l → IsNarrow g table k m → l ≡ m
+pinned-one g table k l m a b =
     listed_by l.launches m.launches l.seen m.seen
     (a.launches_are ∙ filter_same a.keep b.keep (all_launches g table k) (λ x h. decided (a.keep x) (b.keep x) (HasVariable g table x) (a.keeps x h) (b.keeps x h)) ∙ sym b.launches_are)
     (a.seen_are ∙ ap (all_seen table k) (filter_same a.want b.want (made_classes g) (λ c h. decided (a.want c) (b.want c) (Wanted g c) (a.wants c h) (b.wants c h))) ∙ sym b.seen_are)
 
 pub one-list : (e : Encoding) (g : LaunchGraph) (table : Table) (k : ℕ) (l m : Listed) → AreListed e g table k l → AreListed e g table k m → l ≡ m
 one-list Wide g table k l m a b = a ∙ sym b
-one-list Narrow g table k l m a b = narrow-one g table k l m a b
+one-list Narrow g table k l m a b = pinned-one g table k l m a b
+one-list Pinned g table k l m a b = pinned-one g table k l m a b

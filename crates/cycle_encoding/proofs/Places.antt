@@ -12,9 +12,10 @@ use Rattle.machine_table.specs.declared.tables.Table.{Table}
 use Rattle.graph_meaning.specs.WellFormed.{next_class}
 use Rattle.graph_meaning.specs.declared.graphs.LaunchGraph.{LaunchGraph}
 use Rattle.cycle_encoding.specs.Shapes.{numbered, positive, vars_of}
-use Rattle.cycle_encoding.specs.Variables.{Seen, all_seen, shown_classes}
+use Rattle.cycle_encoding.specs.Variables.{Seen, all_seen}
+use Rattle.cycle_encoding.specs.Variables.{shown_classes}
 use Rattle.cycle_encoding.specs.Families.{is_seen}
-use Rattle.cycle_encoding.specs.Facts.{is_shown_class}
+use Rattle.cycle_encoding.specs.Facts.{is_unsafe_shown}
 use Rattle.cycle_encoding.specs.Steps.{has_cluster, seen_at, cluster_seen, clusters_seen}
 use Rattle.cycle_encoding.proofs.Blocks.{vars-over}
 use Rattle.cycle_encoding.proofs.Tables.{table_more}
@@ -117,30 +118,30 @@ module _ (g : LaunchGraph) (wants : ℕ → Bool) (table : Table) (k first class
   ds = all_seen table k (shown_classes g wants)
 
   abbrev pub start : ℕ
-  start = length (flat_map (clusters_seen table k 4) (filter (is_shown_class g wants) (range_with_len 0 class)))
+  start = length (flat_map (clusters_seen table k 4) (filter (is_unsafe_shown g wants) (range_with_len 0 class)))
 
   abbrev pub offset : ℕ
   offset = length (flat_map (cluster_seen k class) (filter (has_cluster table) (range_with_len 0 cluster)))
 
-  pub seen-is : class < next_class g.rows → is_shown_class g wants class ≡ true → cluster < 4 → has_cluster table cluster ≡ true → cycle < k → vars_of T (numbered first ds) ≡ positive (first + start + offset + cycle + 1) ∷ []
+  pub seen-is : class < next_class g.rows → is_unsafe_shown g wants class ≡ true → cluster < 4 → has_cluster table cluster ≡ true → cycle < k → vars_of T (numbered first ds) ≡ positive (first + start + offset + cycle + 1) ∷ []
   seen-is lc mc ln mn lt =
-      at-block T class (clusters_seen table k 4) (is_shown_class g wants) other_class first (next_class g.rows) lc mc
+      at-block T class (clusters_seen table k 4) (is_unsafe_shown g wants) other_class first (next_class g.rows) lc mc
       ∙ at-block T cluster (cluster_seen k class) (has_cluster table) other_cluster (first + start) 4 ln mn
       ∙ at-item T cycle (seen_at class cluster) other_cycle (first + start + offset) k lt (and_from (class == class) ((cluster == cluster) && (cycle == cycle)) (eq-eqb class class refl) (and_from (cluster == cluster) (cycle == cycle) (eq-eqb cluster cluster refl) (eq-eqb cycle cycle refl)))
 
-  pub seen-within : class < next_class g.rows → is_shown_class g wants class ≡ true → cluster < 4 → has_cluster table cluster ≡ true → cycle < k → first + start + offset + cycle + 1 ≤ first + length ds
+  pub seen-within : class < next_class g.rows → is_unsafe_shown g wants class ≡ true → cluster < 4 → has_cluster table cluster ≡ true → cycle < k → first + start + offset + cycle + 1 ≤ first + length ds
   seen-within lc mc ln mn lt =
       let over = vars-over T first (first + length ds) ds (omega arith) in
       (All-head (IsLitOf (first + length ds)) (positive (first + start + offset + cycle + 1)) [] (subst (λ ls. All (IsLitOf (first + length ds)) ls) (seen-is lc mc ln mn lt) over)).within
 
-  pub unseen-class : is_shown_class g wants class ≡ false → vars_of T (numbered first ds) ≡ []
-  unseen-class e = no-block T class (clusters_seen table k 4) (is_shown_class g wants) other_class first (next_class g.rows) e
+  pub unseen-class : is_unsafe_shown g wants class ≡ false → vars_of T (numbered first ds) ≡ []
+  unseen-class e = no-block T class (clusters_seen table k 4) (is_unsafe_shown g wants) other_class first (next_class g.rows) e
 
   pub unseen-late-class : next_class g.rows ≤ class → vars_of T (numbered first ds) ≡ []
-  unseen-late-class le = before-block T class (clusters_seen table k 4) (is_shown_class g wants) other_class first (next_class g.rows) le
+  unseen-late-class le = before-block T class (clusters_seen table k 4) (is_unsafe_shown g wants) other_class first (next_class g.rows) le
 
   in_class : (ms : (m : ℕ) → vars_of T (numbered m (clusters_seen table k 4 class)) ≡ []) → vars_of T (numbered first ds) ≡ []
-  in_class ms = before-block T (next_class g.rows) (clusters_seen table k 4) (is_shown_class g wants) (λ a _ m. elim (cases_eq a class) [ inl e ↦ ap (λ a. vars_of T (numbered m (clusters_seen table k 4 a))) e ∙ ms m | inr ne ↦ other_class a ne m ]) first (next_class g.rows) (omega arith)
+  in_class ms = before-block T (next_class g.rows) (clusters_seen table k 4) (is_unsafe_shown g wants) (λ a _ m. elim (cases_eq a class) [ inl e ↦ ap (λ a. vars_of T (numbered m (clusters_seen table k 4 a))) e ∙ ms m | inr ne ↦ other_class a ne m ]) first (next_class g.rows) (omega arith)
 
   pub unseen-cluster : has_cluster table cluster ≡ false → vars_of T (numbered first ds) ≡ []
   unseen-cluster e = in_class (λ m. no-block T cluster (cluster_seen k class) (has_cluster table) other_cluster m 4 e)

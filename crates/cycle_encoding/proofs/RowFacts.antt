@@ -73,10 +73,10 @@ loads_none ops.Neg = refl
 loads_none _ = refl
 
 -- what an operator's instruction says of its sorts
-record HasSorts (op : Op) (i : InstrKind) : Type 0 where
-  word : gives_word i ≡ true → sort_of op ≡ sort.Word
-  store : is_store i ≡ true → sort_of op ≡ sort.Memory
-  memory : (is_load i || is_store i) ≡ true → takes_memory op ≡ true
+pub record HasSorts (op : Op) (i : InstrKind) : Type 0 where
+  pub word : gives_word i ≡ true → sort_of op ≡ sort.Word
+  pub store : is_store i ≡ true → sort_of op ≡ sort.Memory
+  pub memory : (is_load i || is_store i) ≡ true → takes_memory op ≡ true
 
 module _ (g : LaunchGraph) where
   word_kind : (op : WordOp) (j : InstrKind) → is_store j ≡ false → is_load j ≡ false → HasSorts (Word op) j
@@ -98,7 +98,7 @@ module _ (g : LaunchGraph) where
   word_fits op operands i h =
       word_kind op i (ap (λ q. option_map_or is_store q false) (sym h) ∙ stores_none op) (ap (λ q. option_map_or is_load q false) (sym h) ∙ loads_none op)
 
-  op_fits : (op : Op) (operands : List ℕ) (i : InstrKind) → op_instr g op operands ≡ Some i → HasSorts op i
+  pub op_fits : (op : Op) (operands : List ℕ) (i : InstrKind) → op_instr g op operands ≡ Some i → HasSorts op i
   op_fits (Word op) operands i h = word_fits op operands i h
   op_fits Select operands i h = subst (λ i. HasSorts Select i) (some_is LdqU i h) (load_kind Select refl refl)
   op_fits Store operands i h = subst (λ i. HasSorts Store i) (some_is StqU i h) (store_kind Store refl refl)
@@ -171,7 +171,7 @@ module _ (g : LaunchGraph) where
   pub class-below : (r : LaunchRow) → Contains g.rows r → r.class < next_class g.rows
   class-below r h = fold_above g.rows 0 r h
 
-  word_class : (r : LaunchRow) → Contains g.rows r → sort_of r.op ≡ sort.Word → (is_word_class g r.class ≡ true) × (r.class < next_class g.rows)
+  pub word_class : (r : LaunchRow) → Contains g.rows r → sort_of r.op ≡ sort.Word → (is_word_class g r.class ≡ true) × (r.class < next_class g.rows)
   word_class r h e = (
     some_in (λ s. s.class == r.class && is_word (sort_of s.op)) g.rows r h (and_from (r.class == r.class) (is_word (sort_of r.op)) (eq-eqb r.class r.class refl) (ap is_word e)),
     class-below r h,
@@ -186,19 +186,3 @@ module _ (g : LaunchGraph) where
   word-launch plain l h =
       let r = row_of plain gives_word refl l h in
       subst (λ c. (is_word_class g c ≡ true) × (c < next_class g.rows)) (sym (at_row l.row r.0 r.2)) (word_class r.0 (got g.rows l.row r.0 r.2) ((op_fits r.0.op r.0.operands r.1 r.3).word r.4))
-
-  -- ---- memory: the row of a store gives one, and that of a load or store takes one
-
-  pub store-sort : HasNoPins g → (l : Launch) → launches g is_store l ≡ true → (r : LaunchRow) × (slice_get g.rows l.row ≡ Some r) × (sort_of r.op ≡ sort.Memory)
-  unfolding Row
-  store-sort plain l h = (let r = row_of plain is_store refl l h in (r.0, r.2, (op_fits r.0.op r.0.operands r.1 r.3).store r.4))
-
-  uses_any : (o : Option InstrKind) → (option_map_or is_load o false || option_map_or is_store o false) ≡ true → option_map_or (λ i. is_load i || is_store i) o false ≡ true
-  uses_any None h = h
-  uses_any (Some i) h = h
-
-  pub memory-taken : HasNoPins g → (l : Launch) → (launches g is_load l || launches g is_store l) ≡ true → (r : LaunchRow) × (slice_get g.rows l.row ≡ Some r) × (takes_memory r.op ≡ true)
-  unfolding Row
-  memory-taken plain l h =
-      let r = row_of plain (λ i. is_load i || is_store i) refl l (uses_any (instr_at g l.row) h) in
-      (r.0, r.2, (op_fits r.0.op r.0.operands r.1 r.3).memory r.4)

@@ -1,4 +1,4 @@
--- The lists of the narrow encoding are those of its scope.
+-- The lists of the encodings that leave launches out are those of their scope.
 use Rattle.std.proofs.Common.{◌≡◌, ℕ, zero, suc, ◌+◌, ◌-◌, ◌<◌, ◌≤◌, Bool, true, false, cond, List, [], ◌∷◌, ◌++◌, length, map, max, get_or, refl, sym, ap, ◌∙◌, subst, arith, inl, inr, ◌⊎◌, Option, Some, None}
 use Rattle.std.specs.Prelude.{◌&&◌, ◌||◌, ◌↔◌, nat_le, not, Contains, Decides, slice_index_or}
 use Rattle.std.specs.Option.{option_map_or}
@@ -7,29 +7,38 @@ use Rattle.std.proofs.lemmas.Bool.{false≢true, cases_Bool, cases_lt, le-leb, l
 use Rattle.std.proofs.lemmas.List.{append-nil, map-id}
 use Rattle.std.proofs.lemmas.List.Elements.{filter-append}
 use Rattle.std.proofs.lemmas.List.FromFn.{get_or-map-range_with_len, map-range_with_len_more}
-use Rattle.machine_table.specs.Tables.{use_of}
+use Rattle.machine_table.specs.Tables.{IsTable, MayUse, use_of}
 use Rattle.machine_table.specs.declared.tables.Table.{Table}
 use Rattle.machine_table.specs.declared.tables.Use.{Use}
 use Rattle.machine_table.specs.declared.tables.InstrKind.{InstrKind}
 use Rattle.machine_table.specs.declared.tables.InstrKind.TheVariants.{StqU, Beq}
-use Rattle.graph_meaning.specs.WellFormed.{next_class}
+use Rattle.graph_meaning.specs.WellFormed.{IsLaunchGraph, next_class}
+use Rattle.graph_meaning.specs.Graphs.{is_zero_class}
 use Rattle.graph_meaning.specs.declared.graphs.LaunchGraph.{LaunchGraph}
 use Rattle.schedule_meaning.specs.Launches.{instr_at, launches, gives_word, is_store, is_branch, class_at}
+use Rattle.schedule_meaning.specs.declared.schedules.To.{To}
 use Rattle.schedule_meaning.specs.declared.schedules.Launch.{Launch}
-use Rattle.cycle_encoding.specs.Variables.{slots_of, use_launches, row_launches, launches_from, all_launches, all_seen, shown_classes, made_classes, is_word_class, is_input, classes_of}
-use Rattle.graph_meaning.specs.Graphs.{is_zero_class}
+use Rattle.cycle_encoding.specs.Variables.{slots_of, all_seen, is_word_class, classes_of}
+use Rattle.cycle_encoding.specs.Variables.{destinations, use_launches, row_launches, row_numbers, launches_from, all_launches, shown_classes, made_classes, is_safe}
+use Rattle.cycle_encoding.specs.CycleFormula.{listed_in}
+use Rattle.cycle_encoding.specs.Facts.{launch_to}
 use Rattle.cycle_encoding.specs.Counts.{row_is}
-use Rattle.cycle_encoding.specs.CycleFormula.{Scope, first_by, wants_by, first_cycle_in, wants_in, listed_in}
+use Rattle.cycle_encoding.specs.CycleFormula.{Listed, Scope, first_by, wants_by, first_cycle_in, wants_in}
+use Rattle.cycle_encoding.specs.Encodings.{IsScope}
 use Rattle.cycle_encoding.specs.declared.encodings.Encoding.{Encoding}
-use Rattle.cycle_encoding.specs.declared.encodings.Encoding.TheVariants.{Narrow}
+use Rattle.cycle_encoding.specs.declared.encodings.Encoding.TheVariants.{Wide, Narrow, Pinned}
+use Rattle.cycle_encoding.specs.declared.operands.There.TheVariants.{AtEntry}
 use Rattle.cycle_encoding.specs.Narrow.{Wanted, CanStart, HasVariable, IsNarrow}
-use Rattle.cycle_encoding.specs.Coming.{needs_of, is_come, are_come, last_come, last_come_from, IsExactUpTo}
+use Rattle.cycle_encoding.specs.Coming.{start_needs, is_come, are_come, last_come, last_come_from, IsExactUpTo}
 use Rattle.cycle_encoding.specs.Wanting.{is_marked_class}
 use Rattle.cycle_encoding.specs.Scoped.{is_spoken_of, first_cycle}
 use Rattle.cycle_encoding.proofs.Rows.{range_more}
-use Rattle.cycle_encoding.proofs.Launched.{at}
-use Rattle.cycle_encoding.proofs.Members.{filter-out, flat-out, map-out, range-out, nothing}
-use Rattle.cycle_encoding.proofs.ComeSteps.{are-in, are-out, need-in, need-out, giving-low, low-class}
+use Rattle.cycle_encoding.proofs.RowFacts.{some-and}
+use Rattle.cycle_encoding.proofs.Members.{filter-out, range-out}
+use Rattle.cycle_encoding.proofs.PinnedRows.{within}
+use Rattle.cycle_encoding.proofs.Lists.{listed-one}
+use Rattle.cycle_encoding.proofs.LackSteps.{need-in, need-out}
+use Rattle.cycle_encoding.proofs.ComeSteps.{are-in, are-out, low-class}
 
 -- ---- a first cycle, as a test
 
@@ -73,19 +82,19 @@ latest-begun come t cs = latest-is come t cs 0 ∙ ap (λ b. b && are_come come 
 
 -- ---- launches from a first cycle
 
-filter_map : {X A : Type 0} (p : A → Bool) (f : X → A) (xs : List X) → filter p (map f xs) ≡ map f (filter (λ x. p (f x)) xs)
-filter_map p f [] = refl
-filter_map {X} {A} p f (x ∷ xs) =
-    elim (cases_Bool (p (f x))) [
-      | inl t ↦
-          ap (λ b. cond b (f x ∷ filter p (map f xs)) (filter p (map f xs))) t
-          ∙ ap (λ ys. f x ∷ ys) (filter_map p f xs)
-          ∙ sym (ap (λ b. map f (cond b (x ∷ filter (λ x. p (f x)) xs) (filter (λ x. p (f x)) xs))) t)
-      | inr n ↦
-          ap (λ b. cond b (f x ∷ filter p (map f xs)) (filter p (map f xs))) n
-          ∙ filter_map p f xs
-          ∙ sym (ap (λ b. map f (cond b (x ∷ filter (λ x. p (f x)) xs) (filter (λ x. p (f x)) xs))) n)
-    ]
+filter_by : {X A : Type 0} (p : A → Bool) (f : X → A) (b : Bool) → ((x : X) → p (f x) ≡ b) → (xs : List X) → filter p (map f xs) ≡ cond b (map f xs) []
+filter_by p f true h [] = refl
+filter_by p f true h (x ∷ xs) = ap (λ b. cond b (f x ∷ filter p (map f xs)) (filter p (map f xs))) (h x) ∙ ap (λ ys. f x ∷ ys) (filter_by p f true h xs)
+filter_by p f false h [] = refl
+filter_by p f false h (x ∷ xs) = ap (λ b. cond b (f x ∷ filter p (map f xs)) (filter p (map f xs))) (h x) ∙ filter_by p f false h xs
+
+flat_step : {X A : Type 0} (f : X → List A) (b : Bool) (x : X) (ys : List X) (zs : List A) → zs ≡ flat_map f ys → cond b (f x) [] ++ zs ≡ flat_map f (cond b (x ∷ ys) ys)
+flat_step f true x ys zs e = ap (λ ws. f x ++ ws) e
+flat_step f false x ys zs e = e
+
+flat_some : {X A : Type 0} (q : X → Bool) (f : X → List A) (xs : List X) → flat_map (λ x. cond (q x) (f x) []) xs ≡ flat_map f (filter q xs)
+flat_some q f [] = refl
+flat_some q f (x ∷ xs) = flat_step f (q x) x (filter q xs) (flat_map (λ x. cond (q x) (f x) []) xs) (flat_some q f xs)
 
 filter_flat : {X A : Type 0} (p : A → Bool) (f : X → List A) (xs : List X) → filter p (flat_map f xs) ≡ flat_map (λ x. filter p (f x)) xs
 filter_flat p f [] = refl
@@ -124,49 +133,58 @@ module _ (g : LaunchGraph) (table : Table) (k : ℕ) (firsts : ℕ → Option �
   abbrev pub begun : Launch → Bool
   begun l = is_begun (firsts l.row) l.cycle
 
-  module _ (row : ℕ) where
-    slot_kept : (n m s : ℕ) → firsts row ≡ Some n → map (at row s) (range_with_len n (m - n)) ≡ filter begun (map (at row s) (range_with_len 0 (m - 0)))
+  module _ (row : ℕ) (tos : List To) where
+    abbrev in_cycle : ℕ → ℕ → List Launch
+    in_cycle s t = map (launch_to row s t) tos
+
+    -- of the launches in a slot those are left that are in or behind the first cycle
+    slot_left : (s : ℕ) (ts : List ℕ) → filter begun (flat_map (in_cycle s) ts) ≡ flat_map (in_cycle s) (filter (λ t. is_begun (firsts row) t) ts)
+    slot_left s ts =
+        filter_flat begun (in_cycle s) ts
+        ∙ flat_same (λ t. filter begun (in_cycle s t)) (λ t. cond (is_begun (firsts row) t) (in_cycle s t) []) ts (λ t. filter_by begun (launch_to row s t) (is_begun (firsts row) t) (λ to. refl) tos)
+        ∙ flat_some (λ t. is_begun (firsts row) t) (in_cycle s) ts
+
+    slot_kept : (n m s : ℕ) → firsts row ≡ Some n → flat_map (in_cycle s) (range_with_len n (m - n)) ≡ filter begun (flat_map (in_cycle s) (range_with_len 0 (m - 0)))
     slot_kept n m s e =
         let z : m - 0 ≡ m = omega arith in
-        sym (filter_map begun (at row s) (range_with_len 0 (m - 0))
-        ∙ ap (λ (o : Option ℕ). map (at row s) (filter (λ t. is_begun o t) (range_with_len 0 (m - 0)))) e
-        ∙ ap (map (at row s)) (range_tail n (m - 0))
-        ∙ ap (λ j. map (at row s) (range_with_len n (j - n))) z)
+        sym (slot_left s (range_with_len 0 (m - 0))
+        ∙ ap (λ (o : Option ℕ). flat_map (in_cycle s) (filter (λ t. is_begun o t) (range_with_len 0 (m - 0)))) e
+        ∙ ap (flat_map (in_cycle s)) (range_tail n (m - 0))
+        ∙ ap (λ j. flat_map (in_cycle s) (range_with_len n (j - n))) z)
 
     abbrev ends_by : Use → ℕ
     ends_by u = k + 1 - u.latency
 
     in_slot : Use → ℕ → List Launch
-    in_slot u s = map (at row s) (range_with_len 0 (ends_by u - 0))
+    in_slot u s = flat_map (in_cycle s) (range_with_len 0 (ends_by u - 0))
 
     none_kept : (u : Use) (s : ℕ) → firsts row ≡ None → filter begun (in_slot u s) ≡ []
     unfolding in_slot
     none_kept u s e =
-        filter_map begun (at row s) (range_with_len 0 (ends_by u - 0))
-        ∙ ap (λ (o : Option ℕ). map (at row s) (filter (λ t. is_begun o t) (range_with_len 0 (ends_by u - 0)))) e
-        ∙ ap (map (at row s)) (sym (filter_none (range_with_len 0 (ends_by u - 0))))
+        slot_left s (range_with_len 0 (ends_by u - 0))
+        ∙ ap (λ (o : Option ℕ). flat_map (in_cycle s) (filter (λ t. is_begun o t) (range_with_len 0 (ends_by u - 0)))) e
+        ∙ ap (flat_map (in_cycle s)) (sym (filter_none (range_with_len 0 (ends_by u - 0))))
 
-    use_kept : (u : Use) (o : Option ℕ) → firsts row ≡ o → option_map_or (λ n. use_launches table k row n u) o [] ≡ filter begun (use_launches table k row 0 u)
+    use_kept : (u : Use) (o : Option ℕ) → firsts row ≡ o → option_map_or (λ n. use_launches table k row n tos u) o [] ≡ filter begun (use_launches table k row 0 tos u)
     unfolding in_slot
     use_kept u None e = sym (filter_flat begun (in_slot u) (slots_of table u) ∙ flat_same (λ s. filter begun (in_slot u s)) (λ s. []) (slots_of table u) (λ s. none_kept u s e) ∙ flat_nil (slots_of table u))
-    use_kept u (Some n) e = flat_same (λ s. map (at row s) (range_with_len n (ends_by u - n))) (λ s. filter begun (in_slot u s)) (slots_of table u) (λ s. slot_kept n (ends_by u) s e) ∙ sym (filter_flat begun (in_slot u) (slots_of table u))
+    use_kept u (Some n) e = flat_same (λ s. flat_map (in_cycle s) (range_with_len n (ends_by u - n))) (λ s. filter begun (in_slot u s)) (slots_of table u) (λ s. slot_kept n (ends_by u) s e) ∙ sym (filter_flat begun (in_slot u) (slots_of table u))
 
-    by_use : (o : Option Use) → option_map_or (λ u. option_map_or (λ n. use_launches table k row n u) (firsts row) []) o [] ≡ filter begun (option_map_or (λ u. use_launches table k row 0 u) o [])
+    by_use : (o : Option Use) → option_map_or (λ u. option_map_or (λ n. use_launches table k row n tos u) (firsts row) []) o [] ≡ filter begun (option_map_or (λ u. use_launches table k row 0 tos u) o [])
     by_use None = refl
     by_use (Some u) = use_kept u (firsts row) refl
 
-    by_instr : (o : Option InstrKind) → option_map_or (λ i. option_map_or (λ u. option_map_or (λ n. use_launches table k row n u) (firsts row) []) (use_of table i) []) o [] ≡ filter begun (option_map_or (λ i. option_map_or (λ u. use_launches table k row 0 u) (use_of table i) []) o [])
-    by_instr None = refl
-    by_instr (Some i) = by_use (use_of table i)
+  by_instr : (row : ℕ) (o : Option InstrKind) → option_map_or (λ i. option_map_or (λ u. option_map_or (λ n. use_launches table k row n (destinations g i row) u) (firsts row) []) (use_of table i) []) o [] ≡ filter begun (option_map_or (λ i. option_map_or (λ u. use_launches table k row 0 (destinations g i row) u) (use_of table i) []) o [])
+  by_instr row None = refl
+  by_instr row (Some i) = by_use row (destinations g i row) (use_of table i)
 
-    row_kept : row_launches g table k (firsts row) row ≡ filter begun (row_launches g table k (Some 0) row)
-    row_kept = by_instr (instr_at g row)
+  row_kept : (row : ℕ) → row_launches g table k (firsts row) row ≡ filter begun (row_launches g table k (Some 0) row)
+  row_kept row = by_instr row (instr_at g row)
 
   pub all-kept : launches_from g table k firsts ≡ filter begun (all_launches g table k)
   all-kept =
-      let rows = range_with_len 0 (length g.rows + 1) in
-      flat_same (λ row. row_launches g table k (firsts row) row) (λ row. filter begun (row_launches g table k (Some 0) row)) rows row_kept
-      ∙ sym (filter_flat begun (row_launches g table k (Some 0)) rows)
+      flat_same (λ row. row_launches g table k (firsts row) row) (λ row. filter begun (row_launches g table k (Some 0) row)) (row_numbers g) row_kept
+      ∙ sym (filter_flat begun (row_launches g table k (Some 0)) (row_numbers g))
 
 -- ---- classes
 
@@ -187,26 +205,7 @@ filter_both p q (x ∷ xs) =
     ]
 
 pub shown-kept : (g : LaunchGraph) (wants : ℕ → Bool) → shown_classes g wants ≡ filter wants (made_classes g)
-shown-kept g wants = filter_both wants (λ c. is_word_class g c && (not (is_input g c) && not (is_zero_class g c))) (classes_of g)
-
--- ---- a launch that ends by k
-
-option-out : {X A : Type 0} (f : X → List A) (o : Option X) (a : A) → Contains (option_map_or f o []) a → (x : X) × (o ≡ Some x) × Contains (f x) a
-option-out f None a h = absurd (nothing a h)
-option-out f (Some x) a h = (x, refl, h)
-
-pub launch-out : (g : LaunchGraph) (table : Table) (k : ℕ) (l : Launch) → Contains (all_launches g table k) l → (i : InstrKind) × (instr_at g l.row ≡ Some i) × (l.row < length g.rows + 1) × (l.cycle ≤ k)
-launch-out g table k l h =
-    let r = flat-out (row_launches g table k (Some 0)) (range_with_len 0 (length g.rows + 1)) l h in
-    let i = option-out (λ i. option_map_or (λ u. use_launches table k r.0 0 u) (use_of table i) []) (instr_at g r.0) l r.2 in
-    let u = option-out (λ u. use_launches table k r.0 0 u) (use_of table i.0) l i.2 in
-    let s = flat-out (λ s. map (at r.0 s) (range_with_len 0 (k + 1 - (u.0).latency - 0))) (slots_of table u.0) l u.2 in
-    let t = map-out (at r.0 s.0) (range_with_len 0 (k + 1 - (u.0).latency - 0)) l s.2 in
-    let b = (range-out 0 (k + 1 - (u.0).latency - 0) t.0 t.1).1 in
-    let cycle : t.0 ≡ l.cycle = ap (λ (l : Launch). l.cycle) t.2 in
-    let row : r.0 ≡ l.row = ap (λ (l : Launch). l.row) t.2 in
-    let w = (range-out 0 (length g.rows + 1) r.0 r.1).1 in
-    (i.0, ap (instr_at g) (sym row) ∙ i.1, (omega arith), (omega arith))
+shown-kept g wants = filter_both wants (λ c. is_word_class g c && (not (is_safe g c) && not (is_zero_class g c))) (classes_of g)
 
 -- ---- which launches have variables
 
@@ -215,14 +214,14 @@ three_kinds StqU = inr (inl refl)
 three_kinds Beq = inr (inr refl)
 three_kinds i = inl refl
 
-module _ (g : LaunchGraph) (table : Table) (come : List (Option ℕ)) (marks : List Bool) (exact : IsExactUpTo g table come 24) (wanted : (class : ℕ) → (is_marked_class marks class ≡ true) ↔ (Wanted g class × (class < next_class g.rows))) where
-  start-out : (row t : ℕ) → t ≤ 24 → are_come come t (needs_of g row) ≡ true → CanStart g table row t
-  start-out row t le h o need = (exact t o.class le).0 (are-out g table come t (needs_of g row) h o.class (need-in g table row o need))
+module _ (g : LaunchGraph) (table : Table) (well : IsLaunchGraph g) (is_table : IsTable table) (come : List (Option ℕ)) (marks : List Bool) (exact : IsExactUpTo g table come 24) (wanted : (class : ℕ) → (is_marked_class marks class ≡ true) ↔ (Wanted g class × (class < next_class g.rows))) where
+  start-out : (row t : ℕ) → t ≤ 24 → are_come come t (start_needs g row) ≡ true → CanStart g table row t
+  start-out row t le h o need = (exact t o.class le).0 (are-out g table come t (start_needs g row) h o.class (need-in AtEntry g row o need))
 
-  start-in : (row t : ℕ) → t ≤ 24 → CanStart g table row t → are_come come t (needs_of g row) ≡ true
+  start-in : (row t : ℕ) → t ≤ 24 → CanStart g table row t → are_come come t (start_needs g row) ≡ true
   start-in row t le start =
-      are-in g table come t (needs_of g row) (λ c h.
-      let o = need-out g table row c h in
+      are-in g table come t (start_needs g row) (λ c h.
+      let o = need-out AtEntry g row c h in
       subst (λ x. is_come come t x ≡ true) o.2 ((exact t o.0.class le).1 (start o.0 o.1)))
 
   spoken-out : (l : Launch) → is_spoken_of g marks l.row ≡ true → (launches g is_store l ≡ true) ⊎ (launches g is_branch l ≡ true) ⊎ Wanted g (class_at g l.row)
@@ -235,69 +234,87 @@ module _ (g : LaunchGraph) (table : Table) (come : List (Option ℕ)) (marks : L
         ]
       ]
 
-  spoken-in : (l : Launch) (i : InstrKind) → l.row < length g.rows + 1 → instr_at g l.row ≡ Some i → (launches g is_store l ≡ true) ⊎ (launches g is_branch l ≡ true) ⊎ Wanted g (class_at g l.row) → is_spoken_of g marks l.row ≡ true
-  spoken-in l i within e (inl s) = or_left (row_is g is_store l.row) (row_is g is_branch l.row || is_marked_class marks (class_at g l.row)) s
-  spoken-in l i within e (inr (inl b)) = or_right (row_is g is_store l.row) (row_is g is_branch l.row || is_marked_class marks (class_at g l.row)) (or_left (row_is g is_branch l.row) (is_marked_class marks (class_at g l.row)) b)
-  spoken-in l i within e (inr (inr w)) =
+  spoken-in : (l : Launch) (i : InstrKind) → instr_at g l.row ≡ Some i → (launches g is_store l ≡ true) ⊎ (launches g is_branch l ≡ true) ⊎ Wanted g (class_at g l.row) → is_spoken_of g marks l.row ≡ true
+  spoken-in l i e (inl s) = or_left (row_is g is_store l.row) (row_is g is_branch l.row || is_marked_class marks (class_at g l.row)) s
+  spoken-in l i e (inr (inl b)) = or_right (row_is g is_store l.row) (row_is g is_branch l.row || is_marked_class marks (class_at g l.row)) (or_left (row_is g is_branch l.row) (is_marked_class marks (class_at g l.row)) b)
+  spoken-in l i e (inr (inr w)) =
       elim (three_kinds i) [
         | inl t ↦
-            (let bound = low-class g table l.row (giving-low g table l.row i within e t) in
+            (let bound = low-class g table well l.row i e t in
             or_right (row_is g is_store l.row) (row_is g is_branch l.row || is_marked_class marks (class_at g l.row)) (or_right (row_is g is_branch l.row) (is_marked_class marks (class_at g l.row)) ((wanted (class_at g l.row)).1 (w, bound))))
         | inr (inl t) ↦ or_left (row_is g is_store l.row) (row_is g is_branch l.row || is_marked_class marks (class_at g l.row)) (ap (λ (o : Option InstrKind). option_map_or is_store o false) e ∙ t)
         | inr (inr t) ↦ or_right (row_is g is_store l.row) (row_is g is_branch l.row || is_marked_class marks (class_at g l.row)) (or_left (row_is g is_branch l.row) (is_marked_class marks (class_at g l.row)) (ap (λ (o : Option InstrKind). option_map_or is_branch o false) e ∙ t))
       ]
 
-  first-out : (l : Launch) (b : Bool) → is_spoken_of g marks l.row ≡ b → is_begun (cond b (last_come come (needs_of g l.row)) None) l.cycle ≡ true → l.cycle ≤ 24 → HasVariable g table l
+  first-out : (l : Launch) (b : Bool) → is_spoken_of g marks l.row ≡ b → is_begun (cond b (last_come come (start_needs g l.row)) None) l.cycle ≡ true → l.cycle ≤ 24 → HasVariable g table l
   first-out l true e h le = record {
-    start = start-out l.row l.cycle le (sym (latest-begun come l.cycle (needs_of g l.row)) ∙ h);
+    start = start-out l.row l.cycle le (sym (latest-begun come l.cycle (start_needs g l.row)) ∙ h);
     wanted = spoken-out l e;
   }
   first-out l false e h le = absurd (false≢true h)
 
-  first-in : (l : Launch) (i : InstrKind) → l.row < length g.rows + 1 → instr_at g l.row ≡ Some i → l.cycle ≤ 24 → HasVariable g table l → is_begun (first_cycle g come marks l.row) l.cycle ≡ true
-  first-in l i within e le v =
-      ap (λ b. is_begun (cond b (last_come come (needs_of g l.row)) None) l.cycle) (spoken-in l i within e v.wanted)
-      ∙ latest-begun come l.cycle (needs_of g l.row) ∙ start-in l.row l.cycle le v.start
+  first-in : (l : Launch) (i : InstrKind) → instr_at g l.row ≡ Some i → l.cycle ≤ 24 → HasVariable g table l → is_begun (first_cycle g come marks l.row) l.cycle ≡ true
+  first-in l i e le v =
+      ap (λ b. is_begun (cond b (last_come come (start_needs g l.row)) None) l.cycle) (spoken-in l i e v.wanted)
+      ∙ latest-begun come l.cycle (start_needs g l.row) ∙ start-in l.row l.cycle le v.start
 
-  module _ (s : Scope) (narrow : s.encoding ≡ Narrow) (firsts : s.firsts ≡ map (first_cycle g come marks) (range_with_len 0 (length g.rows + 1))) (wants : s.wants ≡ marks) (k : ℕ) (few : k ≤ 24) where
-    first-is : (row : ℕ) → row < length g.rows + 1 → first_cycle_in s row ≡ first_cycle g come marks row
-    first-is row lt =
-        ap (λ (e : Encoding). first_by e s.firsts row) narrow
-        ∙ ap (λ (xs : List (Option ℕ)). slice_index_or xs row None) firsts
-        ∙ get_or-map-range_with_len (first_cycle g come marks) 0 (length g.rows + 1) row row None lt (omega arith)
+  module _ (s : Scope) (firsts : s.firsts ≡ map (first_cycle g come marks) (row_numbers g)) (wants : s.wants ≡ marks) where
+    module _ (by_firsts : (row : ℕ) → first_cycle_in s row ≡ slice_index_or s.firsts row None) (by_wants : (class : ℕ) → wants_in s class ≡ slice_index_or s.wants class false) (k : ℕ) (few : k ≤ 24) where
+      first-is : (row : ℕ) → row < length g.rows + 1 + length g.sets → first_cycle_in s row ≡ first_cycle g come marks row
+      first-is row lt =
+          by_firsts row
+          ∙ ap (λ (xs : List (Option ℕ)). slice_index_or xs row None) firsts
+          ∙ get_or-map-range_with_len (first_cycle g come marks) 0 (length g.rows + 1 + length g.sets) row row None lt (omega arith)
 
-    wants-is : (class : ℕ) → wants_in s class ≡ is_marked_class marks class
-    wants-is class =
-        ap (λ (e : Encoding). wants_by e s.wants class) narrow
-        ∙ ap (λ (xs : List Bool). slice_index_or xs class false) wants
+      wants-is : (class : ℕ) → wants_in s class ≡ is_marked_class marks class
+      wants-is class = by_wants class ∙ ap (λ (xs : List Bool). slice_index_or xs class false) wants
 
-    keep : Launch → Bool
-    keep l = is_begun (first_cycle_in s l.row) l.cycle
+      keep : Launch → Bool
+      keep l = is_begun (first_cycle_in s l.row) l.cycle
 
-    keeps-one : (l : Launch) → Contains (all_launches g table k) l → Decides (keep l) (HasVariable g table l)
-    unfolding keep
-    keeps-one l h =
-        let o = launch-out g table k l h in
-        let is = ap (λ (f : Option ℕ). is_begun f l.cycle) (first-is l.row o.2) in
-        let late = o.3 in (
-          (λ t. first-out l (is_spoken_of g marks l.row) refl (sym is ∙ t) (omega arith)),
-          (λ v. is ∙ first-in l o.0 o.2 o.1 (omega arith) v),
-        )
+      keeps-one : (l : Launch) → Contains (all_launches g table k) l → Decides (keep l) (HasVariable g table l)
+      unfolding keep
+      keeps-one l h =
+          let ok = listed-one g table k is_table l h in
+          let i = some-and (instr_at g l.row) (λ i. MayUse table i l.slot) ok.can in
+          let is = ap (λ (f : Option ℕ). is_begun f l.cycle) (first-is l.row (within g l.row i.0 i.1)) in
+          let early = ok.early in (
+            (λ t. first-out l (is_spoken_of g marks l.row) refl (sym is ∙ t) (omega arith)),
+            (λ v. is ∙ first-in l i.0 i.1 (omega arith) v),
+          )
 
-    wants-one : (c : ℕ) → Contains (made_classes g) c → Decides (wants_in s c) (Wanted g c)
-    wants-one c h =
-        let low = (range-out 0 (next_class g.rows) c (filter-out (λ c. is_word_class g c && (not (is_input g c) && not (is_zero_class g c))) (classes_of g) c h).0).1 in (
-          (λ t. ((wanted c).0 (sym (wants-is c) ∙ t)).0),
-          (λ w. wants-is c ∙ (wanted c).1 (w, (omega arith))),
-        )
+      wants-one : (c : ℕ) → Contains (made_classes g) c → Decides (wants_in s c) (Wanted g c)
+      wants-one c h =
+          let low = (range-out 0 (next_class g.rows) c (filter-out (λ c. is_word_class g c && (not (is_safe g c) && not (is_zero_class g c))) (classes_of g) c h).0).1 in (
+            (λ t. ((wanted c).0 (sym (wants-is c) ∙ t)).0),
+            (λ w. wants-is c ∙ (wanted c).1 (w, (omega arith))),
+          )
 
-    pub narrow-lists : IsNarrow g table k (listed_in g table k s)
-    unfolding keep
-    narrow-lists = record {
-      keep = keep;
-      keeps = keeps-one;
-      launches_are = all-kept g table k (first_cycle_in s);
-      want = wants_in s;
-      wants = wants-one;
-      seen_are = ap (all_seen table k) (shown-kept g (wants_in s));
+      tabled-lists : IsNarrow g table k (listed_in g table k s)
+      unfolding keep
+      tabled-lists = record {
+        keep = keep;
+        keeps = keeps-one;
+        launches_are = all-kept g table k (first_cycle_in s);
+        want = wants_in s;
+        wants = wants-one;
+        seen_are = ap (all_seen table k) (shown-kept g (wants_in s));
+      }
+
+    by-encoding : (e : Encoding) → s.encoding ≡ e → IsScope e g table s
+    by-encoding Wide is = record {
+      encoding = is;
+      lists = λ k few. ap {A = Encoding} {B = Listed} (λ e. record { launches = launches_from g table k (λ row. first_by e s.firsts row); seen = all_seen table k (shown_classes g (λ class. wants_by e s.wants class)) }) is;
     }
+    by-encoding Narrow is = record {
+      encoding = is;
+      lists = tabled-lists (λ row. ap (λ (e : Encoding). first_by e s.firsts row) is) (λ class. ap (λ (e : Encoding). wants_by e s.wants class) is);
+    }
+    by-encoding Pinned is = record {
+      encoding = is;
+      lists = tabled-lists (λ row. ap (λ (e : Encoding). first_by e s.firsts row) is) (λ class. ap (λ (e : Encoding). wants_by e s.wants class) is);
+    }
+
+    -- in each encoding the tables give its lists
+    pub tabled-scope : IsScope s.encoding g table s
+    tabled-scope = by-encoding s.encoding refl

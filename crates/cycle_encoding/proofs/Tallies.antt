@@ -10,12 +10,10 @@ use Rattle.machine_table.specs.declared.tables.Table.{Table}
 use Rattle.machine_table.specs.declared.tables.Use.{Use}
 use Rattle.machine_table.specs.declared.tables.InstrKind.{InstrKind}
 use Rattle.graph_meaning.specs.declared.graphs.LaunchGraph.{LaunchGraph}
-use Rattle.graph_meaning.specs.WellFormed.{next_class}
-use Rattle.cycle_encoding.specs.Variables.{slots_of, shown_classes, clusters_of}
-use Rattle.cycle_encoding.specs.CycleFormula.{Scope, first_cycle_in, wants_in}
-use Rattle.cycle_encoding.specs.Steps.{has_cluster}
-use Rattle.cycle_encoding.specs.Facts.{may_use, is_shown_class}
-use Rattle.cycle_encoding.specs.Counts.{seen_count, row_use, row_count, row_has, cycles_of, can_begin}
+use Rattle.cycle_encoding.specs.Variables.{slots_of}
+use Rattle.cycle_encoding.specs.CycleFormula.{Scope, first_cycle_in}
+use Rattle.cycle_encoding.specs.Facts.{may_use}
+use Rattle.cycle_encoding.specs.Counts.{row_use, row_count, row_has, cycles_of, can_begin}
 use Rattle.cycle_encoding.proofs.Rows.{range_more}
 
 pub sum_more : (f : ℕ → ℕ) (n : ℕ) → sum_by f (range_with_len 0 (n + 1)) ≡ sum_by f (range_with_len 0 n) + f n
@@ -98,10 +96,3 @@ module _ (g : LaunchGraph) (table : Table) (k : ℕ) (s : Scope) (row : ℕ) whe
 
     pub has_without_instr : instr_at g row ≡ None → row_has g table k s slot cycle row ≡ false
     has_without_instr e = ap (has_of (first_cycle_in s row)) e
-
--- what is seen, by the counts of classes and clusters
-pub seen_is : (g : LaunchGraph) (table : Table) (k : ℕ) (s : Scope) (m n j : ℕ) → m ≡ count_by (is_shown_class g (wants_in s)) (range_with_len 0 (next_class g.rows)) → n ≡ count_by (has_cluster table) (range_with_len 0 4) → j ≡ k → m * (n * j) ≡ seen_count g table k s
-seen_is g table k s m n j em en ej =
-    ap (λ x. x * (n * j)) (em ∙ sym (length-filter (is_shown_class g (wants_in s)) (range_with_len 0 (next_class g.rows))))
-    ∙ ap (λ x. length (shown_classes g (wants_in s)) * (x * j)) (en ∙ sym (length-filter (has_cluster table) (range_with_len 0 4)))
-    ∙ ap (λ x. length (shown_classes g (wants_in s)) * (length (clusters_of table) * x)) ej

@@ -1,6 +1,6 @@
 -- Marks of wanted classes, one more at a time.
 use Rattle.std.proofs.Common.{◌≡◌, ℕ, zero, suc, ◌+◌, ◌<◌, ◌≤◌, Bool, true, false, cond, List, [], ◌∷◌, ◌++◌, length, map, take, set, get_or, refl, sym, ap, ◌∙◌, subst, arith, inl, inr, ◌⊎◌, Option, Some, None, append_assoc}
-use Rattle.std.specs.Prelude.{◌&&◌, ◌==◌, ◌↔◌, not, Contains, slice_get}
+use Rattle.std.specs.Prelude.{◌&&◌, ◌==◌, ◌↔◌, not, Contains, is_some, slice_get}
 use Rattle.std.specs.Option.{option_map_or}
 use Rattle.std.specs.List.{count_by, filter, range_with_len}
 use Rattle.std.proofs.lemmas.Bool.{false≢true, cases_Bool, cases_eq, eq-eqb, eqb-true, and_from, and_parts, or_cases, or_left, or_right, not-true, not_from_false}
@@ -9,7 +9,7 @@ use Rattle.std.proofs.lemmas.List.{get_or-set_same, get_or-set_other, get_or_app
 use Rattle.std.proofs.lemmas.List.Sums.{sum_by-cons, sum_by-set, count_by-le-length}
 use Rattle.std.proofs.lemmas.List.Elements.{filter-append, Contains-append_left, Contains-push, Contains-push_cases}
 use Rattle.graph_meaning.specs.Graphs.{is_memory_name}
-use Rattle.graph_meaning.specs.WellFormed.{next_class}
+use Rattle.graph_meaning.specs.WellFormed.{IsLaunchGraph, next_class}
 use Rattle.graph_meaning.specs.declared.graphs.LaunchGraph.{LaunchGraph}
 use Rattle.graph_meaning.specs.declared.graphs.LaunchRow.{LaunchRow}
 use Rattle.graph_meaning.specs.declared.graphs.SetClass.{SetClass}
@@ -18,18 +18,20 @@ use Rattle.machine_table.specs.declared.tables.InstrKind.{InstrKind}
 use Rattle.schedule_meaning.specs.Launches.{instr_at, gives_word, is_branch, class_at}
 use Rattle.word_ops.specs.declared.sorts.Op.{Op}
 use Rattle.word_ops.specs.declared.sorts.Op.TheVariants.{Store, Put}
-use Rattle.cycle_encoding.specs.Variables.{is_input}
+use Rattle.cycle_encoding.specs.Variables.{is_safe, row_numbers}
 use Rattle.cycle_encoding.specs.Counts.{row_is}
 use Rattle.cycle_encoding.specs.Narrow.{Wanted}
-use Rattle.cycle_encoding.specs.Narrow.Wanted.{target, guard, store, operand}
-use Rattle.cycle_encoding.specs.Coming.{needs_of}
-use Rattle.cycle_encoding.specs.Wanting.{is_marked_class, is_wanted_target, is_store_op, is_store_row, is_root, giving_rows, AreWantedMarks, AreAllMarked, IsFollowed, IsLonger, StillMarked}
-use Rattle.cycle_encoding.proofs.Members.{here, nothing, filter-in, filter-out, range-in, range-out}
-use Rattle.cycle_encoding.proofs.Tests.{input-is, input-from, branch-row}
+use Rattle.cycle_encoding.specs.Narrow.Wanted.{target, pinned, guard, store, operand}
+use Rattle.cycle_encoding.specs.declared.operands.There.TheVariants.{Always}
+use Rattle.cycle_encoding.specs.Wanting.{is_marked_class, is_wanted_target, is_store_op, is_store_row, is_root, giving_rows, AreWantedMarks, AreAllMarked, IsFollowed, IsLonger, StillMarked, wanted_needs}
+use Rattle.cycle_encoding.proofs.Members.{here, nothing, filter-in, filter-out, range-in}
+use Rattle.cycle_encoding.proofs.PinnedTests.{safe-is, safe-from}
+use Rattle.cycle_encoding.proofs.PinnedRows.{within}
 use Rattle.cycle_encoding.specs.Steps.{put_at}
 use Rattle.cycle_encoding.proofs.Rows.{range_more}
 use Rattle.cycle_encoding.proofs.Sorted.{put_more, put_none}
-use Rattle.cycle_encoding.proofs.ComeSteps.{need-in, need-out, low-class}
+use Rattle.cycle_encoding.proofs.LackSteps.{need-in, need-out}
+use Rattle.cycle_encoding.proofs.ComeSteps.{low-class}
 
 pub longer-same : (xs : List ℕ) → IsLonger xs xs
 longer-same xs = ([], sym (append-nil xs))
@@ -106,10 +108,18 @@ more-marks old new classes i d lt still size before now c k l =
 
 -- ---- targets
 
+pinned-wanted : (g : LaunchGraph) (s : SetClass) → Contains g.sets s → (o : Option ℕ) → s.pin ≡ o → is_some o ≡ true → Wanted g s.class
+pinned-wanted g s h None e t = absurd (false≢true t)
+pinned-wanted g s h (Some r) e t = pinned s r h e
+
 pub target-wanted : (g : LaunchGraph) (s : SetClass) → Contains g.sets s → is_wanted_target g s ≡ true → Wanted g s.class
 target-wanted g s h t =
-    let p = and_parts (not (is_memory_name s.name)) (not (is_input g s.class)) t in
-    target s h (λ m. false≢true (sym (not-true (is_memory_name s.name) p.0) ∙ m)) (λ i. false≢true (sym (not-true (is_input g s.class) p.1) ∙ input-from g s.class i))
+    elim (or_cases (not (is_memory_name s.name) && not (is_safe g s.class)) (is_some s.pin) t) [
+      | inl w ↦ (
+          let p = and_parts (not (is_memory_name s.name)) (not (is_safe g s.class)) w in
+          target s h (λ m. false≢true (sym (not-true (is_memory_name s.name) p.0) ∙ m)) (λ i. false≢true (sym (not-true (is_safe g s.class) p.1) ∙ safe-from g s.class i)))
+      | inr p ↦ pinned-wanted g s h s.pin refl p
+    ]
 
 pub more-targets : (g : LaunchGraph) (old new : List Bool) (i : ℕ) (d s : SetClass) → i < length g.sets → s ≡ get_or g.sets i d → StillMarked old new → length new ≡ length old
     → ((x : SetClass) → Contains (take i g.sets) x → is_wanted_target g x ≡ true → AreAllMarked old (x.class ∷ []))
@@ -136,60 +146,58 @@ branch_in : (o : Option InstrKind) → option_map_or is_branch o false ≡ true 
 branch_in None h = absurd (false≢true h)
 branch_in (Some i) h = (i, refl, h)
 
-pub root-needs : (g : LaunchGraph) (row : ℕ) → is_root g row ≡ true → (class : ℕ) → Contains (needs_of g row) class → Wanted g class
+pub root-needs : (g : LaunchGraph) (row : ℕ) → is_root g row ≡ true → (class : ℕ) → Contains (wanted_needs g row) class → Wanted g class
 root-needs g row h class k =
-    let o = need-out g ev6 row class k in
+    let o = need-out Always g row class k in
     elim (or_cases (row_is g is_branch row) (is_store_row g row) h) [
       | inl b ↦ (let i = branch_in (instr_at g row) b in subst (Wanted g) o.2 (guard row o.0 i.0 i.1 i.2 o.1))
       | inr s ↦ (let r = store_in g (slice_get g.rows row) s in subst (Wanted g) o.2 (store row r.0 o.0 r.1 r.2 o.1))
     ]
 
 pub more-roots : (g : LaunchGraph) (old new : List Bool) (row : ℕ) → StillMarked old new → length new ≡ length old
-    → ((r : ℕ) → r < row → is_root g r ≡ true → AreAllMarked old (needs_of g r))
-    → (is_root g row ≡ true → AreAllMarked new (needs_of g row))
-    → (r : ℕ) → r < row + 1 → is_root g r ≡ true → AreAllMarked new (needs_of g r)
+    → ((r : ℕ) → r < row → is_root g r ≡ true → AreAllMarked old (wanted_needs g r))
+    → (is_root g row ≡ true → AreAllMarked new (wanted_needs g row))
+    → (r : ℕ) → r < row + 1 → is_root g r ≡ true → AreAllMarked new (wanted_needs g r)
 more-roots g old new row still size before now r lt t =
     elim (cases_eq r row) [
-      | inl e ↦ subst (λ x. is_root g x ≡ true → AreAllMarked new (needs_of g x)) (sym e) now t
-      | inr ne ↦ kept-marks old new (needs_of g r) still size (before r (omega arith) t)
+      | inl e ↦ subst (λ x. is_root g x ≡ true → AreAllMarked new (wanted_needs g x)) (sym e) now t
+      | inr ne ↦ kept-marks old new (wanted_needs g r) still size (before r (omega arith) t)
     ]
 
 -- ---- rows of a wanted class
 
-pub giving-out : (g : LaunchGraph) (class row : ℕ) → Contains (giving_rows g class) row → (row < length g.rows) × (row_is g gives_word row ≡ true) × (class_at g row ≡ class)
+pub giving-out : (g : LaunchGraph) (class row : ℕ) → Contains (giving_rows g class) row → Contains (row_numbers g) row × (row_is g gives_word row ≡ true) × (class_at g row ≡ class)
 giving-out g class row h =
-    let f = filter-out (λ row. row_is g gives_word row && (class_at g row == class)) (range_with_len 0 (length g.rows)) row h in
+    let f = filter-out (λ row. row_is g gives_word row && (class_at g row == class)) (row_numbers g) row h in
     let p = and_parts (row_is g gives_word row) (class_at g row == class) f.1 in
-    let b = range-out 0 (length g.rows) row f.0 in
-    let low = b.1 in
-    ((omega arith), p.0, eqb-true (class_at g row) class p.1)
+    (f.0, p.0, eqb-true (class_at g row) class p.1)
 
 word_in : (o : Option InstrKind) → option_map_or gives_word o false ≡ true → (i : InstrKind) × (o ≡ Some i) × (gives_word i ≡ true)
 word_in None h = absurd (false≢true h)
 word_in (Some i) h = (i, refl, h)
 
-pub follow-wanted : (g : LaunchGraph) (class row c : ℕ) → Wanted g class → Contains (giving_rows g class) row → Contains (needs_of g row) c → Wanted g c
+pub follow-wanted : (g : LaunchGraph) (class row c : ℕ) → Wanted g class → Contains (giving_rows g class) row → Contains (wanted_needs g row) c → Wanted g c
 follow-wanted g class row c w h k =
     let r = giving-out g class row h in
     let i = word_in (instr_at g row) r.1 in
-    let o = need-out g ev6 row c k in
-    subst (Wanted g) o.2 (operand row o.0 i.0 r.0 i.1 i.2 (subst (Wanted g) (sym r.2) w) o.1)
+    let o = need-out Always g row c k in
+    subst (Wanted g) o.2 (operand row o.0 i.0 i.1 i.2 (subst (Wanted g) (sym r.2) w) o.1)
 
 pub more-rows : (g : LaunchGraph) (old new : List Bool) (rows : List ℕ) (i d : ℕ) → i < length rows → StillMarked old new → length new ≡ length old
-    → ((r : ℕ) → Contains (take i rows) r → AreAllMarked old (needs_of g r))
-    → AreAllMarked new (needs_of g (get_or rows i d))
-    → (r : ℕ) → Contains (take (i + 1) rows) r → AreAllMarked new (needs_of g r)
+    → ((r : ℕ) → Contains (take i rows) r → AreAllMarked old (wanted_needs g r))
+    → AreAllMarked new (wanted_needs g (get_or rows i d))
+    → (r : ℕ) → Contains (take (i + 1) rows) r → AreAllMarked new (wanted_needs g r)
 more-rows g old new rows i d lt still size before now r h =
     elim (Contains-push_cases (take i rows) (get_or rows i d) r (subst (λ (zs : List ℕ). Contains zs r) (take_more rows i d lt) h)) [
-      | inl k ↦ kept-marks old new (needs_of g r) still size (before r k)
-      | inr e ↦ subst (λ x. AreAllMarked new (needs_of g x)) e now
+      | inl k ↦ kept-marks old new (wanted_needs g r) still size (before r k)
+      | inr e ↦ subst (λ x. AreAllMarked new (wanted_needs g x)) e now
     ]
 
 -- ---- one class more that is followed
 
 module _ (g : LaunchGraph) (old new : List Bool) (order longer : List ℕ) (at : ℕ) (lt : at < length order) (still : StillMarked old new) (size : length new ≡ length old) (l : IsLonger order longer) where
   kept-followed : (class : ℕ) → IsFollowed g old class → IsFollowed g new class
-  kept-followed class f row h = kept-marks old new (needs_of g row) still size (f row h)
+  kept-followed class f row h = kept-marks old new (wanted_needs g row) still size (f row h)
 
   pub more-followed : IsFollowed g new (get_or order at 0) → ((p : ℕ) → p < at → p < length order → IsFollowed g old (get_or order p 0)) → (p : ℕ) → p < at + 1 → p < length longer → IsFollowed g new (get_or longer p 0)
   more-followed now before p small in_list =
@@ -211,30 +219,33 @@ store_op_in : (r : LaunchRow) → (r.op ≡ Store) ⊎ (r.op ≡ Put) → is_sto
 store_op_in r (inl e) = ap is_store_op e
 store_op_in r (inr e) = ap is_store_op e
 
-module _ (g : LaunchGraph) (marks : List Bool) (order : List ℕ) (size : length marks ≡ next_class g.rows) (are : AreWantedMarks g marks order)
-    (targets : (s : SetClass) → Contains g.sets s → is_wanted_target g s ≡ true → AreAllMarked marks (s.class ∷ []))
-    (roots : (row : ℕ) → row < length g.rows + 1 → is_root g row ≡ true → AreAllMarked marks (needs_of g row))
-    (followed : (class : ℕ) → Contains order class → IsFollowed g marks class) where
-  row_bound : (row : ℕ) (i : InstrKind) → instr_at g row ≡ Some i → is_branch i ≡ true → row < length g.rows + 1
-  row_bound row i e b = (let same = branch-row g row i e b in omega arith)
+-- each number of a row that can be launched is one of all
+pub number-in : (g : LaunchGraph) (row : ℕ) (i : InstrKind) → instr_at g row ≡ Some i → Contains (row_numbers g) row
+number-in g row i e = range-in 0 (length g.rows + 1 + length g.sets) row (omega arith) (let w = within g row i e in omega arith)
 
+module _ (g : LaunchGraph) (well : IsLaunchGraph g) (marks : List Bool) (order : List ℕ) (size : length marks ≡ next_class g.rows) (are : AreWantedMarks g marks order)
+    (targets : (s : SetClass) → Contains g.sets s → is_wanted_target g s ≡ true → AreAllMarked marks (s.class ∷ []))
+    (roots : (row : ℕ) → Contains (row_numbers g) row → is_root g row ≡ true → AreAllMarked marks (wanted_needs g row))
+    (followed : (class : ℕ) → Contains order class → IsFollowed g marks class) where
   all-marked : (class : ℕ) → Wanted g class → class < length marks → is_marked_class marks class ≡ true
-  all-marked _ (target s h nm ni) lt =
+  all-marked _ (target s h nm ns) lt =
       let memory : is_memory_name s.name ≡ false = elim (cases_Bool (is_memory_name s.name)) [ inl t ↦ absurd (nm t) | inr f ↦ f ] in
-      let input : is_input g s.class ≡ false = elim (cases_Bool (is_input g s.class)) [ inl t ↦ absurd (ni (input-is g s.class t)) | inr f ↦ f ] in
-      targets s h (and_from (not (is_memory_name s.name)) (not (is_input g s.class)) (not_from_false (is_memory_name s.name) memory) (not_from_false (is_input g s.class) input)) s.class (here s.class []) lt
+      let safe : is_safe g s.class ≡ false = elim (cases_Bool (is_safe g s.class)) [ inl t ↦ absurd (ns (safe-is g s.class t)) | inr f ↦ f ] in
+      targets s h (or_left (not (is_memory_name s.name) && not (is_safe g s.class)) (is_some s.pin) (and_from (not (is_memory_name s.name)) (not (is_safe g s.class)) (not_from_false (is_memory_name s.name) memory) (not_from_false (is_safe g s.class) safe))) s.class (here s.class []) lt
+  all-marked _ (pinned s r h e) lt =
+      targets s h (or_right (not (is_memory_name s.name) && not (is_safe g s.class)) (is_some s.pin) (ap is_some e)) s.class (here s.class []) lt
   all-marked _ (guard row o i e b need) lt =
       let is : row_is g is_branch row ≡ true = ap (λ (o : Option InstrKind). option_map_or is_branch o false) e ∙ b in
-      roots row (row_bound row i e b) (or_left (row_is g is_branch row) (is_store_row g row) is) o.class (need-in g ev6 row o need) lt
+      roots row (number-in g row i e) (or_left (row_is g is_branch row) (is_store_row g row) is) o.class (need-in Always g row o need) lt
   all-marked _ (store row r o e op need) lt =
       let is : is_store_row g row ≡ true = ap (λ (o : Option LaunchRow). option_map_or (λ r. is_store_op r.op) o false) e ∙ store_op_in r op in
-      roots row (let w = slice_get_within g.rows row r e in omega arith) (or_right (row_is g is_branch row) (is_store_row g row) is) o.class (need-in g ev6 row o need) lt
-  all-marked _ (operand row o i low e w inner need) lt =
-      let bound = low-class g ev6 row low in
+      roots row (range-in 0 (length g.rows + 1 + length g.sets) row (omega arith) (let w = slice_get_within g.rows row r e in omega arith)) (or_right (row_is g is_branch row) (is_store_row g row) is) o.class (need-in Always g row o need) lt
+  all-marked _ (operand row o i e w inner need) lt =
+      let bound = low-class g ev6 well row i e w in
       let mark = all-marked (class_at g row) inner (omega arith) in
       let gives : row_is g gives_word row ≡ true = ap (λ (o : Option InstrKind). option_map_or gives_word o false) e ∙ w in
-      let member : Contains (giving_rows g (class_at g row)) row = filter-in (λ r. row_is g gives_word r && (class_at g r == class_at g row)) (range_with_len 0 (length g.rows)) row (range-in 0 (length g.rows) row (omega arith) (omega arith)) (and_from (row_is g gives_word row) (class_at g row == class_at g row) gives (eq-eqb (class_at g row) (class_at g row) refl)) in
-      followed (class_at g row) (are.listed (class_at g row) mark) row member o.class (need-in g ev6 row o need) lt
+      let member : Contains (giving_rows g (class_at g row)) row = filter-in (λ r. row_is g gives_word r && (class_at g r == class_at g row)) (row_numbers g) row (number-in g row i e) (and_from (row_is g gives_word row) (class_at g row == class_at g row) gives (eq-eqb (class_at g row) (class_at g row) refl)) in
+      followed (class_at g row) (are.listed (class_at g row) mark) row member o.class (need-in Always g row o need) lt
 
   pub marks-exact : (class : ℕ) → (is_marked_class marks class ≡ true) ↔ (Wanted g class × (class < next_class g.rows))
   marks-exact class = (

@@ -1,19 +1,20 @@
 -- How it is found from which cycle a row can start: cycle by cycle, each class has the first by which it has come so
 -- far. Source: this project.
-use Rattle.std.specs.Prelude.{◌≡◌, ◌↔◌, ℕ, ◌+◌, ◌<◌, ◌≤◌, ◌&&◌, nat_le, nat_lt, Bool, true, false, List, [], ◌∷◌}
+use Rattle.std.specs.Prelude.{◌≡◌, ◌↔◌, ℕ, ◌+◌, ◌≤◌, ◌&&◌, nat_le, nat_lt, Bool, true, false, List, [], ◌∷◌}
 use Rattle.std.specs.Prelude.{length, max, set, Option, None, Some, IsTrue, option_and_then, if◌then◌else◌}
 use Rattle.std.specs.Prelude.{slice_index_or}
 use Rattle.std.specs.Option.{option_map_or}
 use Rattle.machine_table.specs.Tables.{latency_of}
-use Rattle.schedule_meaning.specs.Launches.{instr_at, gives_word, class_at, operands_at}
+use Rattle.schedule_meaning.specs.Launches.{instr_at, gives_word, class_at}
 use Rattle.machine_table.specs.declared.tables.Table.{Table}
 use Rattle.graph_meaning.specs.declared.graphs.LaunchGraph.{LaunchGraph}
-use Rattle.cycle_encoding.specs.Facts.{made_among}
 use Rattle.cycle_encoding.specs.Narrow.{CanStart, HasCome}
+use Rattle.cycle_encoding.specs.Lacking.{needs_of}
+use Rattle.cycle_encoding.specs.declared.operands.There.TheVariants.{AtEntry}
 
--- the classes that a launch of the row needs from other launches
-abbrev pub needs_of : LaunchGraph → ℕ → List ℕ
-needs_of g row = made_among g (operands_at g row)
+-- the classes that have to come before a launch of the row can start
+abbrev pub start_needs : LaunchGraph → ℕ → List ℕ
+start_needs = needs_of AtEntry
 
 -- after how many cycles the row gives its word, if it gives one and the table names its instruction
 abbrev pub word_latency : LaunchGraph → Table → ℕ → Option ℕ
@@ -44,7 +45,7 @@ AreSound g table come = (class n : ℕ) → slice_index_or come class None ≡ S
 -- where the row can start at the cycle, its word was found to come
 abbrev pub IsPassed : LaunchGraph → Table → List (Option ℕ) → ℕ → ℕ → Type 0
 IsPassed g table come cycle row =
-    row < length g.rows → (n : ℕ) → word_latency g table row ≡ Some n → CanStart g table row cycle
+    (n : ℕ) → word_latency g table row ≡ Some n → CanStart g table row cycle
     → IsTrue (is_come come (cycle + n) (class_at g row))
 
 -- what has come by t was found

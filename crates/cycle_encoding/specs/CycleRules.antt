@@ -1,35 +1,58 @@
 -- What the formula of cycles, slots and values says: which launches the values of its variables show.
 -- Source: this project.
-use Rattle.std.specs.Prelude.{◌≡◌, ℕ, ◌<◌, Bool, List, length, All, AllPairs, Contains, ◌↔◌}
+use Rattle.std.specs.Prelude.{ℕ, ◌<◌, length, ◌≡◌, ◌↔◌, ◌≤◌, Bool, List, Some, None, All, AllPairs, Any, Contains}
+use Rattle.std.specs.Prelude.{IsTrue, ◌⊎◌, count_by}
+use Rattle.machine_table.specs.declared.tables.Table.{Table}
+use Rattle.schedule_meaning.specs.declared.schedules.Launch.{Launch}
 use Rattle.cnf_core.specs.Formula.{Satisfies}
 use Rattle.cnf_core.specs.Counter.{Extends}
-use Rattle.machine_table.specs.declared.tables.Table.{Table}
+use Rattle.graph_meaning.specs.Graphs.{is_memory_name}
 use Rattle.graph_meaning.specs.declared.graphs.LaunchGraph.{LaunchGraph}
-use Rattle.schedule_meaning.specs.Fits.{CanLaunch, Collide, EndsBy}
-use Rattle.schedule_meaning.specs.Plain.{CanReadPlain, IsPlainReached}
-use Rattle.schedule_meaning.specs.declared.schedules.Launch.{Launch}
-use Rattle.schedule_meaning.specs.declared.schedules.To.TheVariants.{Pool}
+use Rattle.graph_meaning.specs.declared.graphs.SetClass.{SetClass}
+use Rattle.schedule_meaning.specs.Launches.{goes_to, pin_of}
+use Rattle.schedule_meaning.specs.Fits.{CanLaunch, CanGo, Collide, CanRead, EndsBy, IsInSomeRegister}
+use Rattle.schedule_meaning.specs.declared.schedules.To.TheVariants.{Set}
 use Rattle.cycle_encoding.specs.Shapes.{shown}
-use Rattle.cycle_encoding.specs.CycleFormula.{Listed, launch_vars, cycle_formula}
-
--- all launches go to the pool, and keep the first five rules of a schedule, as `FitsWithoutPins` has them: of rows,
--- slots, operands, cycles and targets, and not those of memory, the branch and the pool
-pub record KeepsCycleRules (g : LaunchGraph) (table : Table) (k : ℕ) (ls : List Launch) : Type 0 where
-  pub rows : All (CanLaunch g table) ls
-  pub to_pool : All (λ l. l.to ≡ Pool) ls
-  pub apart : AllPairs (λ l m. ¬ Collide l m) ls
-  pub operands : All (CanReadPlain g table ls) ls
-  pub in_time : All (EndsBy g table k) ls
-  pub targets : All (IsPlainReached g ls) g.sets
+use Rattle.cycle_encoding.specs.CycleFormula.{Listed, launch_vars}
+use Rattle.cycle_encoding.specs.Variables.{all_overwritten, is_overwriting, Overwritten}
+use Rattle.cycle_encoding.specs.CycleFormula.{overwritten_vars, cycle_formula}
 
 -- the launch is in a slot of the table, in one of k cycles
 abbrev pub HasPlace : Table → ℕ → Launch → Type 0
 HasPlace table k l = (l.slot < length table.slots) × (l.cycle < k)
 
--- some values satisfy the formula and show exactly these launches, whatever they give variables above the formula's
+-- a word target without a pin has its class in some register at the end
+abbrev pub IsFreeReached : LaunchGraph → List Launch → SetClass → Type 0
+IsFreeReached g ls s = s.pin ≡ None → IsTrue (is_memory_name s.name) ⊎ IsInSomeRegister g ls s.class
+
+-- launches keep the first four rules of a schedule, and the fifth for targets without a pin: of rows, destinations,
+-- slots, operands, cycles and targets, and not those of memory, the branch and the pool
+pub record KeepsCycleRules (g : LaunchGraph) (table : Table) (k : ℕ) (ls : List Launch) : Type 0 where
+  pub rows : All (CanLaunch g table) ls
+  pub destinations : All (CanGo g) ls
+  pub apart : AllPairs (λ l m. ¬ Collide l m) ls
+  pub operands : All (CanRead g table ls) ls
+  pub in_time : All (EndsBy g table k) ls
+  pub targets : All (IsFreeReached g ls) g.sets
+
+-- a launch of these went to the set in a cycle below this one
+abbrev pub WasOverwritten : List Launch → Overwritten → Type 0
+WasOverwritten ls v = Any (λ l. IsTrue (goes_to v.set l) × (l.cycle < v.cycle)) ls
+
+-- at most one launch goes to each pinned set, and what was overwritten is known to be so
+pub record ArePinsKept (g : LaunchGraph) (k : ℕ) (ls : List Launch) (known : List Overwritten) : Type 0 where
+  pub few : (j r : ℕ) → pin_of g (Set j) ≡ Some r → count_by (goes_to j) ls ≤ 1
+  pub over : (v : Overwritten) → IsTrue (is_overwriting g v.set) → v.cycle ≤ k → WasOverwritten ls v
+      → Contains known v
+
+-- some values satisfy the formula, and show exactly these launches and what they overwrite, whatever they give variables
+-- above the formula's
 pub record AreShown (g : LaunchGraph) (table : Table) (k : ℕ) (e : Listed) (ls : List Launch) : Type 0 where
   pub values : ℕ → Bool
   pub satisfy : (w : ℕ → Bool) → Extends (cycle_formula g table k e).vars values w
       → Satisfies w (cycle_formula g table k e).clauses
   pub show : (w : ℕ → Bool) → Extends (cycle_formula g table k e).vars values w
       → (l : Launch) → Contains (shown w (launch_vars g table k e)) l ↔ Contains ls l
+  pub overwrite : (w : ℕ → Bool) → Extends (cycle_formula g table k e).vars values w
+      → (v : Overwritten) → Contains (shown w (overwritten_vars g table k e)) v
+      ↔ (Contains (all_overwritten g k) v × WasOverwritten ls v)

@@ -2,10 +2,10 @@ pub mod Shapes
 pub mod Variables
 pub mod Families
 pub mod CycleFormula
-pub mod Narrow
 pub mod Counts
 pub mod Plans
 pub mod Facts
+pub mod Lacking
 pub mod Coming
 pub mod Wanting
 pub mod Scoped
@@ -13,3 +13,4 @@ pub mod Encodings
 pub mod CycleRules
 pub mod Steps
 pub mod Faults
+pub mod Narrow

@@ -1,13 +1,12 @@
--- The narrow encoding: variables only for launches that can start by their cycle and whose word is wanted, and only for
--- wanted classes. Its clauses are those of the wide one over the variables that are there.
--- Source: this project.
-use Rattle.std.specs.Prelude.{◌≡◌, ℕ, ◌+◌, ◌<◌, ◌≤◌, length, Bool, Some, IsTrue, Contains, Decides, ◌⊎◌, slice_get}
+-- The narrow encoding, and that with pins: variables only for launches that can start by their cycle and whose word is
+-- wanted, by where they go, and only for wanted classes. Source: this project.
+use Rattle.std.specs.Prelude.{◌≡◌, ℕ, ◌+◌, ◌≤◌, Bool, Some, IsTrue, Contains, Decides, ◌⊎◌, slice_get}
 use Rattle.std.specs.List.{filter}
 use Rattle.word_ops.specs.declared.sorts.Op.TheVariants.{Store, Put}
 use Rattle.machine_table.specs.Tables.{use_of}
-use Rattle.graph_meaning.specs.Graphs.{is_memory_name}
+use Rattle.graph_meaning.specs.Graphs.{is_memory_name, IsPin}
 use Rattle.schedule_meaning.specs.Launches.{instr_at, launches, gives_word, is_store, is_branch, class_at}
-use Rattle.schedule_meaning.specs.Launches.{operands_at, IsFree, IsClassOfInput}
+use Rattle.schedule_meaning.specs.Launches.{operands_at, HasInput, IsFree, IsClassOfInput}
 use Rattle.schedule_meaning.specs.declared.schedules.Operand.{Operand}
 use Rattle.machine_table.specs.declared.tables.Table.{Table}
 use Rattle.machine_table.specs.declared.tables.Use.{Use}
@@ -16,44 +15,50 @@ use Rattle.graph_meaning.specs.declared.graphs.LaunchGraph.{LaunchGraph}
 use Rattle.graph_meaning.specs.declared.graphs.LaunchRow.{LaunchRow}
 use Rattle.graph_meaning.specs.declared.graphs.SetClass.{SetClass}
 use Rattle.schedule_meaning.specs.declared.schedules.Launch.{Launch}
-use Rattle.cycle_encoding.specs.Variables.{all_launches, all_seen, made_classes}
+use Rattle.cycle_encoding.specs.Variables.{all_seen}
+use Rattle.cycle_encoding.specs.Variables.{all_launches, made_classes}
 use Rattle.cycle_encoding.specs.CycleFormula.{Listed}
 
--- a word operand of the row's number that is neither free nor of an input's class
-pub record Needs (g : LaunchGraph) (row : ℕ) (o : Operand) : Type 0 where
+-- an input of the class has a register that is no pin
+abbrev pub IsSafe : LaunchGraph → ℕ → Type 0
+IsSafe g class = HasInput g class (λ r. ¬ IsPin g r)
+
+-- a word operand of the row's number that is neither free nor of a class which is there without a launch
+pub record Lacks (g : LaunchGraph) (IsThere : ℕ → Type 0) (row : ℕ) (o : Operand) : Type 0 where
   pub operand : Contains (operands_at g row) o
   pub free : ¬ IsFree g o
-  pub input : ¬ IsClassOfInput g o.class
+  pub there : ¬ IsThere o.class
 
--- the least set of classes with those of word targets, of what the branch and each store need, and of what each row of
--- a wanted class needs that can be launched and gives a word
+-- the least set of classes with those of word targets, of what the branch and each store lack, and of what each row or
+-- copy of a wanted class lacks that can be launched; a safe class is wanted by a pinned target alone
 pub data Wanted (g : LaunchGraph) : ℕ → Type 0 where
-  target : (s : SetClass) → Contains g.sets s → ¬ IsTrue (is_memory_name s.name) → ¬ IsClassOfInput g s.class
+  target : (s : SetClass) → Contains g.sets s → ¬ IsTrue (is_memory_name s.name) → ¬ IsSafe g s.class
       → Wanted g s.class
-  guard : (row : ℕ) (o : Operand) (i : InstrKind) → instr_at g row ≡ Some i → IsTrue (is_branch i) → Needs g row o
-      → Wanted g o.class
+  pinned : (s : SetClass) (r : ℕ) → Contains g.sets s → s.pin ≡ Some r → Wanted g s.class
+  guard : (row : ℕ) (o : Operand) (i : InstrKind) → instr_at g row ≡ Some i → IsTrue (is_branch i)
+      → Lacks g (IsSafe g) row o → Wanted g o.class
   store : (row : ℕ) (r : LaunchRow) (o : Operand) → slice_get g.rows row ≡ Some r → (r.op ≡ Store) ⊎ (r.op ≡ Put)
-      → Needs g row o → Wanted g o.class
-  operand : (row : ℕ) (o : Operand) (i : InstrKind) → row < length g.rows → instr_at g row ≡ Some i
-      → IsTrue (gives_word i) → Wanted g (class_at g row) → Needs g row o → Wanted g o.class
+      → Lacks g (IsSafe g) row o → Wanted g o.class
+  operand : (row : ℕ) (o : Operand) (i : InstrKind) → instr_at g row ≡ Some i → IsTrue (gives_word i)
+      → Wanted g (class_at g row) → Lacks g (IsSafe g) row o → Wanted g o.class
 
--- some row of the class can start so early that its word is ready by t in its own cluster
+-- some row or copy of the class can start so early that its word is ready by t in its own cluster
 pub data HasCome (g : LaunchGraph) (table : Table) : ℕ → ℕ → Type 0 where
-  come : (row start t : ℕ) (i : InstrKind) (u : Use) → row < length g.rows → instr_at g row ≡ Some i
-      → IsTrue (gives_word i) → use_of table i ≡ Some u → start + u.latency ≤ t
-      → ((o : Operand) → Needs g row o → HasCome g table o.class start)
+  come : (row start t : ℕ) (i : InstrKind) (u : Use) → instr_at g row ≡ Some i → IsTrue (gives_word i)
+      → use_of table i ≡ Some u → start + u.latency ≤ t
+      → ((o : Operand) → Lacks g (IsClassOfInput g) row o → HasCome g table o.class start)
       → HasCome g table (class_at g row) t
 
--- each operand that the row needs has come by t
+-- each operand that the row lacks has come by t
 abbrev pub CanStart : LaunchGraph → Table → ℕ → ℕ → Type 0
-CanStart g table row t = (o : Operand) → Needs g row o → HasCome g table o.class t
+CanStart g table row t = (o : Operand) → Lacks g (IsClassOfInput g) row o → HasCome g table o.class t
 
 -- the launch has a variable
 pub record HasVariable (g : LaunchGraph) (table : Table) (l : Launch) : Type 0 where
   pub start : CanStart g table l.row l.cycle
   pub wanted : IsTrue (launches g is_store l) ⊎ IsTrue (launches g is_branch l) ⊎ Wanted g (class_at g l.row)
 
--- the lists of the narrow encoding, in the order of the wide one
+-- the lists of the two encodings, in the order of all launches and of all made classes
 pub record IsNarrow (g : LaunchGraph) (table : Table) (k : ℕ) (e : Listed) : Type 0 where
   pub keep : Launch → Bool
   pub keeps : (l : Launch) → Contains (all_launches g table k) l → Decides (keep l) (HasVariable g table l)

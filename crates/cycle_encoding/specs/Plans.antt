@@ -6,18 +6,27 @@ use Rattle.machine_table.specs.declared.tables.Table.{Table}
 use Rattle.graph_meaning.specs.declared.graphs.LaunchGraph.{LaunchGraph}
 use Rattle.schedule_meaning.specs.declared.schedules.Launch.{Launch}
 use Rattle.cycle_encoding.specs.Variables.{all_launches}
+use Rattle.cycle_encoding.specs.CycleFormula.{wide, before_overwritten}
 use Rattle.cycle_encoding.specs.declared.encodings.Encoding.{Encoding}
 use Rattle.cycle_encoding.specs.declared.encodings.Encoding.TheVariants.{Wide}
 
--- in which encoding and for how many cycles a formula is, and the launches of its first variables, in order
+-- in which encoding and for how many cycles a formula is, the launches of its first variables, in order, and how many
+-- variables come before those of what is overwritten
 pub record Plan : Type 0 where
   pub encoding : Encoding
   pub cycles : ℕ
   pub launches : List Launch
+  pub overwritten : ℕ
 
 -- what is kept beside each formula of the wide encoding
 abbrev pub plan_of : LaunchGraph → Table → ℕ → Plan
-plan_of g table k = record { encoding = Wide; cycles = k; launches = all_launches g table k }
+plan_of g table k =
+    record {
+      encoding = Wide;
+      cycles = k;
+      launches = all_launches g table k;
+      overwritten = before_overwritten g table k (wide g table k);
+    }
 
 -- one of the two counts passes its limit
 abbrev pub IsTooLarge : Formula → Type 0

@@ -1,10 +1,10 @@
--- The scope of the narrow encoding, by tables of what has come and what is wanted.
+-- The scope of the encodings that leave launches out, by tables of what has come and what is wanted.
 -- Source: this project.
 use Rattle.std.specs.Prelude.{ℕ, ◌||◌, Bool, List, Option, None, if◌then◌else◌}
 use Rattle.schedule_meaning.specs.Launches.{is_store, is_branch, class_at}
 use Rattle.graph_meaning.specs.declared.graphs.LaunchGraph.{LaunchGraph}
 use Rattle.cycle_encoding.specs.Counts.{row_is}
-use Rattle.cycle_encoding.specs.Coming.{last_come, needs_of}
+use Rattle.cycle_encoding.specs.Coming.{last_come, start_needs}
 use Rattle.cycle_encoding.specs.Wanting.{is_marked_class}
 
 -- the row is a store, the branch, or of a wanted class
@@ -14,4 +14,4 @@ is_spoken_of g marks row =
 
 -- the cycle from which launches of the row have variables, if any have
 abbrev pub first_cycle : LaunchGraph → List (Option ℕ) → List Bool → ℕ → Option ℕ
-first_cycle g come marks row = if is_spoken_of g marks row then last_come come (needs_of g row) else None
+first_cycle g come marks row = if is_spoken_of g marks row then last_come come (start_needs g row) else None

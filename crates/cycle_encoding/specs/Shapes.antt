@@ -20,6 +20,10 @@ negative n = record { var = n; positive = false }
 abbrev pub vars_of : {X : Type 0} → (X → Bool) → List (ℕ × X) → List Lit
 vars_of test ps = map (λ p. positive p.0) (filter (λ p. test p.1) ps)
 
+-- the same variables, negated
+abbrev pub negated : {X : Type 0} → (X → Bool) → List (ℕ × X) → List Lit
+negated test ps = map (λ p. negative p.0) (filter (λ p. test p.1) ps)
+
 -- the things whose variables are true
 abbrev pub shown : {X : Type 0} → (ℕ → Bool) → List (ℕ × X) → List X
 shown v ps = map (λ p. p.1) (filter (λ p. v p.0) ps)

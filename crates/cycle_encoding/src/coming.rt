@@ -1,14 +1,15 @@
-// By which cycle each class has come: the word of some row of it is ready in its own cluster.
-ghost use Rattle.std.specs.Prelude.{◌≡◌, ◌+◌, ◌<◌, ◌≤◌, ◌^◌, ℕ, None, length, map, IfOk};
+// By which cycle each class has come: the word of some row or copy of it is ready in its own cluster.
+ghost use Rattle.std.specs.Prelude.{◌≡◌, ◌+◌, ◌≤◌, ℕ, None, length, map, IfOk};
 ghost use Rattle.std.specs.List.{range_with_len};
 ghost use Rattle.graph_meaning.specs.WellFormed.{IsLaunchGraph, next_class};
 ghost use Rattle.machine_table.specs.Tables.{IsTable};
 ghost use Rattle.cycle_encoding.specs.Coming as coming;
-ghost use Rattle.cycle_encoding.specs.Coming.{are_come, come_by, is_come, needs_of, ComesAreFound, AreSound};
+ghost use Rattle.cycle_encoding.specs.Coming.{are_come, come_by, is_come, start_needs, ComesAreFound, AreSound};
 ghost use Rattle.cycle_encoding.specs.Coming.{IsExactUpTo, IsPassed, StillCome};
+ghost use Rattle.cycle_encoding.specs.Variables.{row_numbers};
 
+use crate::Facts;
 use crate::facts::next_class;
-use crate::{Facts, made_operands};
 use items::{Items, NoMemory};
 use machine_table::{InstrKind, Table};
 use schedule_meaning::class_at;
@@ -16,21 +17,6 @@ use std::alloc::Global;
 
 /// The last cycle that is asked of.
 const LAST: u32 = 24;
-
-/// For each row's number the classes that a launch of it needs from other launches.
-#[tactic(auto, using(crate::proofs::Tables::table_more))]
-pub fn needs(alloc: Global, facts: &Facts) -> Result<Vec<Items<u32>>, NoMemory>
-    requires rows { length facts.now.rows < 2 ^ 30 }
-    ensures { IfOk result (λ needs. needs.items
-        ≡ map (needs_of facts.now) (range_with_len 0 (length facts.now.rows + 1))) }
-{
-    let mut needs = Vec::new(alloc);
-    let rows = facts.graph().rows.len() as u32;
-    for row in 0..rows + 1 {
-        needs.push(Items::from(made_operands(alloc, facts, row)?))?;
-    }
-    Ok(needs)
-}
 
 /// After how many cycles the row gives its word, if it gives one and the table names its instruction.
 fn word_latency(facts: &Facts, table: &Table, row: u32) -> Option<u32>
@@ -91,8 +77,8 @@ fn pass_row(
     row: u32,
     cycle: u32,
 )
-    requires inside { row < length facts.now.rows }
-    requires needs { needs.now ≡ needs_of facts.now row }
+    requires graph { IsLaunchGraph facts.now }
+    requires needs { needs.now ≡ start_needs facts.now row }
     requires cycle { cycle ≤ 24 }
     requires table { IsTable table.now }
     requires long { length come.old.items ≡ next_class facts.now.rows }
@@ -112,7 +98,7 @@ fn pass_row(
     }
 }
 
-/// Finds what comes of all rows that can start at the cycle.
+/// Finds what comes of all rows and copies that can start at the cycle.
 fn pass_rows(
     come: &mut Vec<Option<u32>>,
     facts: &Facts,
@@ -120,10 +106,10 @@ fn pass_rows(
     needs: &[Items<u32>],
     cycle: u32,
 )
-    requires needs { needs.now ≡ map (needs_of facts.now) (range_with_len 0 (length facts.now.rows + 1)) }
+    requires needs { needs.now ≡ map (start_needs facts.now) (row_numbers facts.now) }
     requires cycle { cycle ≤ 24 }
     requires table { IsTable table.now }
-    requires rows { length facts.now.rows < 2 ^ 30 }
+    requires graph { IsLaunchGraph facts.now }
     requires long { length come.old.items ≡ next_class facts.now.rows }
     requires sound { AreSound facts.now table.now come.old.items }
     requires found { ComesAreFound facts.now table.now come.old.items cycle }
@@ -132,8 +118,7 @@ fn pass_rows(
     ensures still { StillCome come.old.items come.new.items }
     ensures passed { (row : ℕ) → IsPassed facts.now table.now come.new.items cycle row }
 {
-    let rows = facts.graph().rows.len() as u32;
-    for row in 0..rows {
+    for row in 0..facts.row_numbers() {
         pass_row(
             come,
             facts,
@@ -164,7 +149,7 @@ pub fn come_cycles(
     table: &Table,
     needs: &[Items<u32>],
 ) -> Result<Vec<Option<u32>>, NoMemory>
-    requires needs { needs.now ≡ map (needs_of facts.now) (range_with_len 0 (length facts.now.rows + 1)) }
+    requires needs { needs.now ≡ map (start_needs facts.now) (row_numbers facts.now) }
     requires table { IsTable table.now }
     requires graph { IsLaunchGraph facts.now }
     ensures { IfOk result (λ come. IsExactUpTo facts.now table.now come.items 24) }

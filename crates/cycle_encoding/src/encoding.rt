@@ -1,26 +1,31 @@
 // The formula of cycles, slots and values.
-ghost use Rattle.std.specs.Prelude.{◌≡◌, ◌+◌, ◌<◌, ◌≤◌, ◌^◌, length, IfOk, IfErr, OnOk};
-ghost use Rattle.cnf_core.specs.Formula.{Formula};
+ghost use Rattle.std.specs.Prelude.{◌≡◌, ◌+◌, ◌<◌, ◌≤◌, ◌^◌, [], length, IfOk, IfErr, OnOk};
 ghost use Rattle.graph_meaning.specs.WellFormed.{IsLaunchGraph};
 ghost use Rattle.machine_table.specs.Tables.{IsTable};
-ghost use Rattle.cycle_encoding.specs.CycleFormula.{cycle_formula, first_cycle_in, listed_in, wide, Listed as ListedOf};
+ghost use Rattle.cycle_encoding.specs.CycleFormula.{first_cycle_in, wants_in, Listed as ListedOf};
 ghost use Rattle.cycle_encoding.specs.Encodings.{AreListed};
-ghost use Rattle.cycle_encoding.specs.Variables.{launches_from};
 ghost use Rattle.cycle_encoding.specs.Faults.{EncodeFaultIs};
+ghost use Rattle.cycle_encoding.specs.CycleFormula.{listed_in};
+ghost use Rattle.cycle_encoding.specs.CycleFormula.{wide, before_counters, before_overwritten};
+ghost use Rattle.cycle_encoding.specs.CycleFormula.{cycle_formula};
+ghost use Rattle.cycle_encoding.specs.Variables.{launches_from};
 ghost use Rattle.cycle_encoding.specs.Plans.{IsTooLarge, plan_of};
+ghost use Rattle.cycle_encoding.specs.Steps.{AreOverwrittenVars, AreSeenVars};
 
-use crate::counts::cycle_sizes;
+use crate::by_destination::launches_from;
 use crate::families::{add_operands, add_seen, add_targets};
-use crate::launches::launches_from;
 use crate::laws::{cycle_counts_are_found, each_encoding_has_one_list};
+use crate::overwriting::{OverwrittenVars, overwritten_vars};
 use crate::plans::{EncodeFault, Encoded, VarPlan};
-use crate::seen::seen_vars;
+use crate::seen::{SeenVars, seen_vars};
+use crate::sizes::cycle_sizes;
 use crate::slots::add_slots;
 use crate::{Encoding, Facts, Scope};
 use cnf_core::{Cnf, counters_count};
 use graph_meaning::LaunchGraph;
 use items::{Items, NoMemory};
 use machine_table::Table;
+use schedule_meaning::Launch;
 use std::alloc::Global;
 
 /// The clauses of slots, latencies and values in k cycles. Its counts are found before any clause is built; where one
@@ -34,10 +39,13 @@ pub fn encode(
     requires cycles { k ≤ 24 }
     requires table { IsTable table.now }
     requires graph { IsLaunchGraph graph.now }
-    ensures formula { IfOk result (λ e. e.cnf ≡ cycle_formula graph.now table.now k (wide graph.now table.now k)) }
+    ensures formula { IfOk result (λ e. e.cnf
+        ≡ cycle_formula graph.now table.now k (wide graph.now table.now k)) }
     ensures plan { IfOk result (λ e. e.plan ≡ plan_of graph.now table.now k) }
-    ensures size { IfErr result (EncodeFaultIs (cycle_formula graph.now table.now k (wide graph.now table.now k))) }
-    ensures within { OnOk result (¬ IsTooLarge (cycle_formula graph.now table.now k (wide graph.now table.now k))) }
+    ensures size { IfErr result (EncodeFaultIs
+        (cycle_formula graph.now table.now k (wide graph.now table.now k))) }
+    ensures within { OnOk result
+        (¬ IsTooLarge (cycle_formula graph.now table.now k (wide graph.now table.now k))) }
 {
     encode_as(alloc, Encoding::Wide, graph, table, k)
 }
@@ -56,8 +64,12 @@ pub fn encode_as(
     ensures listed { OnOk result ((l : ListedOf) × AreListed encoding graph.now table.now k l) }
     ensures formula { IfOk result (λ e. (l : ListedOf) → AreListed encoding graph.now table.now k l
         → e.cnf ≡ cycle_formula graph.now table.now k l) }
-    ensures plan { IfOk result (λ e. (l : ListedOf) → AreListed encoding graph.now table.now k l
-        → e.plan ≡ record { encoding = encoding; cycles = k; launches = l.launches }) }
+    ensures plan { IfOk result (λ e. (l : ListedOf) → AreListed encoding graph.now table.now k l → e.plan ≡ record {
+      encoding = encoding;
+      cycles = k;
+      launches = l.launches;
+      overwritten = before_overwritten graph.now table.now k l;
+    }) }
     ensures size { IfErr result (λ fault. (l : ListedOf) → AreListed encoding graph.now table.now k l
         → EncodeFaultIs (cycle_formula graph.now table.now k l) fault) }
     ensures within { OnOk result ((l : ListedOf) → AreListed encoding graph.now table.now k l
@@ -67,8 +79,7 @@ pub fn encode_as(
     each_encoding_has_one_list();
     let facts = Facts::new(alloc, graph)?;
     let scope = Scope::of(alloc, encoding, &facts, table)?;
-    let sizes = cycle_sizes(alloc, &facts, table, &scope, k)?;
-    sizes.within_limits()?;
+    cycle_sizes(&facts, table, &scope, k).within_limits()?;
     Ok(build_cycles(alloc, &facts, table, &scope, k)?)
 }
 
@@ -93,38 +104,69 @@ pub fn build_cycles(
     requires cycles { k ≤ 24 }
     requires table { IsTable table.now }
     requires graph { IsLaunchGraph facts.now }
-    requires vars { (cycle_formula facts.now table.now k (listed_in facts.now table.now k scope.now)).vars ≤ 262144 }
-    requires clauses { length (cycle_formula facts.now table.now k (listed_in facts.now table.now k scope.now)).clauses
-        ≤ 2000000 }
+    requires vars { (cycle_formula facts.now table.now k (listed_in facts.now table.now k scope.now)).vars
+        ≤ 262144 }
+    requires clauses { length (cycle_formula facts.now table.now k
+        (listed_in facts.now table.now k scope.now)).clauses ≤ 2000000 }
     ensures formula { IfOk result (λ e. e.cnf
         ≡ cycle_formula facts.now table.now k (listed_in facts.now table.now k scope.now)) }
     ensures plan { IfOk result (λ e. e.plan ≡ record {
       encoding = scope.now.encoding;
       cycles = k;
       launches = launches_from facts.now table.now k (first_cycle_in scope.now);
+      overwritten = before_overwritten facts.now table.now k (listed_in facts.now table.now k scope.now);
     }) }
 {
-    counters_count();
     let launches = launches_from(alloc, facts, table, scope, k)?;
-    let seen = seen_vars(
-        alloc,
-        facts,
-        table,
-        scope,
-        k,
-        launches.as_slice().len() as u32,
-    )?;
+    let count = launches.as_slice().len() as u32;
+    let seen = seen_vars(alloc, facts, table, scope, k, count)?;
+    let before = count + seen.seen.as_slice().len() as u32;
+    let over = overwritten_vars(alloc, facts, k, before)?;
     let mut cnf = Cnf::new(alloc);
-    add_vars(
-        &mut cnf,
-        launches.as_slice().len() as u32 + seen.seen.as_slice().len() as u32,
-    );
-    add_targets(alloc, &mut cnf, facts, &launches)?;
-    add_operands(alloc, &mut cnf, facts, table, scope, &launches, &seen)?;
-    add_seen(alloc, &mut cnf, facts, table, &launches, &seen)?;
-    add_slots(alloc, &mut cnf, &launches, table.slots.len() as u32, k)?;
+    add_vars(&mut cnf, before + over.count());
+    add_families(
+        alloc, &mut cnf, facts, table, scope, k, &launches, &seen, &over,
+    )?;
     Ok(Encoded {
         cnf,
-        plan: VarPlan::new(scope.encoding(), k, Items::from(launches)),
+        plan: VarPlan::new(scope.encoding(), k, Items::from(launches), before),
     })
+}
+
+/// Adds the clauses over the variables of launches, of what is seen and of what is overwritten.
+fn add_families(
+    alloc: Global,
+    cnf: &mut Cnf,
+    facts: &Facts,
+    table: &Table,
+    scope: &Scope,
+    k: u32,
+    launches: &[Launch],
+    seen: &SeenVars,
+    over: &OverwrittenVars,
+) -> Result<(), NoMemory>
+    requires table { IsTable table.now }
+    requires graph { IsLaunchGraph facts.now }
+    requires first { seen.now.first ≡ length launches.now }
+    requires next { over.now.first ≡ length launches.now + length seen.now.seen.items }
+    requires cycles { over.now.cycles ≡ k }
+    requires seen { AreSeenVars facts.now (wants_in scope.now) table.now seen.now.cycles seen.now.first
+        seen.now.seen.items seen.now.starts.items }
+    requires over { AreOverwrittenVars facts.now over.now.cycles over.now.first over.now.sets.items }
+    requires empty { cnf.old ≡ record {
+      vars = before_counters facts.now table.now k (record { launches = launches.now; seen = seen.now.seen.items });
+      clauses = [];
+    } }
+    requires vars { (cycle_formula facts.now table.now k
+        (record { launches = launches.now; seen = seen.now.seen.items })).vars ≤ 262144 }
+    requires clauses { length (cycle_formula facts.now table.now k
+        (record { launches = launches.now; seen = seen.now.seen.items })).clauses ≤ 2000000 }
+    ensures { OnOk result (cnf.new ≡ cycle_formula facts.now table.now k
+        (record { launches = launches.now; seen = seen.now.seen.items })) }
+{
+    counters_count();
+    add_targets(alloc, cnf, facts, launches, over)?;
+    add_operands(alloc, cnf, facts, table, scope, launches, seen, over)?;
+    add_seen(alloc, cnf, facts, table, launches, seen)?;
+    add_slots(alloc, cnf, launches, table.slots.len() as u32, k)
 }

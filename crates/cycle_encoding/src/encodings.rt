@@ -7,4 +7,7 @@ pub enum Encoding {
     Wide,
     /// Launches whose operands can have come by their cycle and whose word is wanted, and wanted classes.
     Narrow,
+    /// The same, with each launch by where it goes, and the copies of sets as rows. Where no set has a pin it has the
+    /// list of the narrow one.
+    Pinned,
 }

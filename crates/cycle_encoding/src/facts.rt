@@ -1,23 +1,27 @@
 // What a graph says of its classes and rows, in tables.
-ghost use Rattle.std.specs.Prelude.{◌≡◌, ◌<◌, ◌^◌, ◌&&◌, IfOk, length};
+ghost use Rattle.std.specs.Prelude.{◌≡◌, ◌==◌, ◌+◌, ◌<◌, ◌≤◌, ◌^◌, ◌&&◌, ◌++◌, ◌∷◌, [], false, IfOk, OnOk, is_some};
+ghost use Rattle.std.specs.Prelude.{if◌then◌else◌, length};
+ghost use Rattle.std.specs.Option.{option_map_or};
 ghost use Rattle.word_ops.specs.Meanings as meanings;
 ghost use Rattle.graph_meaning.specs.Graphs as graphs;
 ghost use Rattle.graph_meaning.specs.WellFormed as wellformed;
 ghost use Rattle.graph_meaning.specs.WellFormed.{IsLaunchGraph};
 ghost use Rattle.schedule_meaning.specs.Launches as launches;
+ghost use Rattle.schedule_meaning.specs.declared.schedules.To.TheVariants.{Set as SetTo};
 ghost use Rattle.cycle_encoding.specs.Counts.{row_is};
 ghost use Rattle.schedule_meaning.specs.Readers.{operand_of};
-ghost use Rattle.cycle_encoding.specs.Facts.{IsTableOf, is_made_class};
+ghost use Rattle.cycle_encoding.specs.Facts.{IsTableOf};
 ghost use Rattle.cycle_encoding.specs.Wanting.{is_wanted_target};
 ghost use Rattle.cycle_encoding.specs.Families as families;
-ghost use Rattle.cycle_encoding.specs.Variables as variables;
+ghost use Rattle.cycle_encoding.specs.Facts as pinned_facts;
+ghost use Rattle.cycle_encoding.specs.Variables as pinned;
 
 use crate::marks::{give_constant, mark, unmarked, without_constants};
 use graph_meaning::{LaunchGraph, SetClass, graphs_are_consistent};
 use items::NoMemory;
 use machine_table::{InstrKind, Table};
-use schedule_meaning::{Launch, class_at, cluster_of, instr_at};
-use std::alloc::Global;
+use schedule_meaning::{Launch, To, class_at, cluster_of, instr_at, pin_of};
+use std::alloc::{AllocError, Global};
 use std::marker::Model;
 use word_ops::{Op, Sort};
 
@@ -28,6 +32,8 @@ pub struct Facts<'a> {
     constants: Vec<Option<u64>>,
     words: Vec<bool>,
     inputs: Vec<bool>,
+    safe: Vec<bool>,
+    pins: Vec<u32>,
     instrs: Vec<Option<InstrKind>>,
 }
 
@@ -39,7 +45,8 @@ impl<'a> Model for Facts<'a> {
 
     ghost view = { λ a. a.graph.now };
 
-    ghost invariant = { λ a. AreFacts a.graph.now a.constants.items a.words.items a.inputs.items a.instrs.items };
+    ghost invariant = { λ a. AreFacts a.graph.now a.constants.items a.words.items a.inputs.items a.safe.items
+        a.pins.items a.instrs.items };
 }
 
 impl<'a> Facts<'a> {
@@ -53,6 +60,8 @@ impl<'a> Facts<'a> {
             constants: constants(alloc, graph, classes)?,
             words: words(alloc, graph, classes)?,
             inputs: inputs(alloc, graph, classes)?,
+            safe: safe(alloc, graph, classes)?,
+            pins: pins(alloc, graph)?,
             instrs: instrs(alloc, graph)?,
         })
     }
@@ -119,8 +128,9 @@ impl<'a> Facts<'a> {
         }
     }
 
-    fn is_input(&self, class: u32) -> bool
-        ensures { result ≡ variables.is_input self.now class }
+    /// Whether the class is an input's.
+    pub fn is_input(&self, class: u32) -> bool
+        ensures { result ≡ pinned.is_input self.now class }
     {
         match self.inputs.get(class as usize) {
             Some(is) => *is,
@@ -130,7 +140,7 @@ impl<'a> Facts<'a> {
 
     /// Whether some row of the class gives a word.
     pub fn is_word_class(&self, class: u32) -> bool
-        ensures { result ≡ variables.is_word_class self.now class }
+        ensures { result ≡ pinned.is_word_class self.now class }
     {
         match self.words.get(class as usize) {
             Some(is) => *is,
@@ -148,7 +158,7 @@ impl<'a> Facts<'a> {
     }
 
     fn is_byte(&self, class: u32) -> bool
-        ensures { result ≡ variables.is_byte self.now class }
+        ensures { result ≡ pinned.is_byte self.now class }
     {
         match self.constant_of(class) {
             Some(constant) => constant <= 255,
@@ -156,32 +166,69 @@ impl<'a> Facts<'a> {
         }
     }
 
-    /// Whether launches alone make the class: it is a word's, no input's and not the zero class.
-    pub fn is_made_class(&self, class: u32) -> bool
-        ensures { result ≡ is_made_class self.now class }
+    /// Whether an operand needs no register: it is of the zero class, or a literal.
+    pub fn is_free(&self, class: u32, second: bool) -> bool
+        ensures { result ≡ families.is_free self.now (operand_of class second) }
     {
-        self.is_word_class(class) && !self.is_input(class) && !self.is_zero(class)
+        self.is_zero(class) || (second && self.is_byte(class))
     }
 
-    /// Whether an operand has to be made by a launch.
-    pub fn is_made(&self, class: u32, second: bool) -> bool
+    /// Whether an input of the class has a register that is no pin, so that nothing writes it.
+    pub fn is_safe(&self, class: u32) -> bool
+        ensures { result ≡ pinned.is_safe self.now class }
+    {
+        match self.safe.get(class as usize) {
+            Some(is) => *is,
+            None => is_safe(self.graph, class),
+        }
+    }
+
+    /// The numbers of the sets that have pins, in order: no more than there are registers.
+    pub fn pins(&self) -> &[u32]
+        ensures value { result.now ≡ pinned.pinned_sets self.now }
+        ensures few { length result.now ≤ 31 }
+    {
+        self.pins.as_slice()
+    }
+
+    /// How many numbers of rows there are: those of rows, of the branch, and of a copy for each set.
+    pub fn row_numbers(&self) -> u32
+        requires { length self.now.rows < 2 ^ 30 }
+        ensures value { result ≡ length self.now.rows + 1 + length self.now.sets }
+        ensures few { result < 2 ^ 31 }
+    {
+        self.graph.rows.len() as u32 + 1 + self.graph.sets.len() as u32
+    }
+
+    /// Whether launches have to make the class: it is a word's, not safe and not the zero class.
+    pub fn is_unsafe_class(&self, class: u32) -> bool
+        ensures { result ≡ pinned_facts.is_unsafe_class self.now class }
+    {
+        self.is_word_class(class) && !self.is_safe(class) && !self.is_zero(class)
+    }
+
+    /// Whether an operand has to be made by a launch, or read before an input's register is overwritten.
+    pub fn is_needed(&self, class: u32, second: bool) -> bool
         ensures { result ≡ families.is_made self.now (operand_of class second) }
     {
-        !(self.is_zero(class) || (second && self.is_byte(class))) && !self.is_input(class)
+        !self.is_free(class, second) && !self.is_safe(class)
     }
 
-    /// Whether a target is a word and no input's.
+    /// The same of a target without a pin.
+    pub fn is_needed_target(&self, set: &SetClass) -> bool
+        ensures { result ≡ families.is_made_target self.now set.now }
+    {
+        !set.is_memory()
+            && set.pin.is_none()
+            && !self.is_safe(set.class)
+            && !self.is_zero(set.class)
+    }
+
+    /// Whether a target's class is wanted for itself: it is a word that isn't safe, or it has a pin.
     pub fn is_wanted_target(&self, set: &SetClass) -> bool
         ensures { result ≡ is_wanted_target self.now set.now }
     {
-        !set.is_memory() && !self.is_input(set.class)
-    }
-
-    /// Whether a target has to be made by a launch.
-    pub fn is_made_target(&self, set: &SetClass) -> bool
-        ensures { result ≡ families.is_made_target self.now set.now }
-    {
-        !set.is_memory() && !self.is_input(set.class) && !self.is_zero(set.class)
+        (!set.is_memory() && !self.is_safe(set.class)) || set.pin.is_some()
     }
 }
 
@@ -223,7 +270,7 @@ fn constant_in(op: Op) -> Option<u64>
 
 /// Whether an operator gives a word.
 fn gives_word(op: Op) -> bool
-    ensures { result ≡ variables.is_word (meanings.sort_of op) }
+    ensures { result ≡ pinned.is_word (meanings.sort_of op) }
 {
     match op.sort() {
         Sort::Word => true,
@@ -232,7 +279,7 @@ fn gives_word(op: Op) -> bool
 }
 
 fn words(alloc: Global, graph: &LaunchGraph, classes: u32) -> Result<Vec<bool>, NoMemory>
-    ensures { IfOk result (λ table. IsTableOf (variables.is_word_class graph.now) table.items) }
+    ensures { IfOk result (λ table. IsTableOf (pinned.is_word_class graph.now) table.items) }
 {
     let mut table = unmarked(alloc, classes)?;
     for row in graph.rows.as_slice() {
@@ -242,7 +289,7 @@ fn words(alloc: Global, graph: &LaunchGraph, classes: u32) -> Result<Vec<bool>, 
 }
 
 fn inputs(alloc: Global, graph: &LaunchGraph, classes: u32) -> Result<Vec<bool>, NoMemory>
-    ensures { IfOk result (λ table. IsTableOf (variables.is_input graph.now) table.items) }
+    ensures { IfOk result (λ table. IsTableOf (pinned.is_input graph.now) table.items) }
 {
     let mut table = unmarked(alloc, classes)?;
     for input in graph.inputs.as_slice() {
@@ -265,7 +312,7 @@ fn instrs(alloc: Global, graph: &LaunchGraph) -> Result<Vec<Option<InstrKind>>, 
 }
 
 fn is_input(graph: &LaunchGraph, class: u32) -> bool
-    ensures { result ≡ variables.is_input graph.now class }
+    ensures { result ≡ pinned.is_input graph.now class }
 {
     graph
         .inputs
@@ -275,11 +322,82 @@ fn is_input(graph: &LaunchGraph, class: u32) -> bool
 }
 
 fn is_word_class(graph: &LaunchGraph, class: u32) -> bool
-    ensures { result ≡ variables.is_word_class graph.now class }
+    ensures { result ≡ pinned.is_word_class graph.now class }
 {
     graph
         .rows
         .as_slice()
         .iter()
         .any(|row| row.class == class && row.op.sort() == Sort::Word)
+}
+
+/// Whether the set has the pin.
+fn has_pin(set: &SetClass, register: u8) -> bool
+    ensures { result ≡ option_map_or (λ q. q == register) set.now.pin false }
+{
+    match set.pin {
+        Some(pin) => pin == register,
+        None => false,
+    }
+}
+
+/// Whether some set is pinned to the register.
+fn is_pin(graph: &LaunchGraph, register: u8) -> bool
+    ensures { result ≡ pinned.is_pin graph.now register }
+{
+    graph
+        .sets
+        .as_slice()
+        .iter()
+        .any(|set| has_pin(set, register))
+}
+
+fn is_safe(graph: &LaunchGraph, class: u32) -> bool
+    ensures { result ≡ pinned.is_safe graph.now class }
+{
+    graph
+        .inputs
+        .as_slice()
+        .iter()
+        .any(|input| input.class == class && !is_pin(graph, input.reg))
+}
+
+fn safe(alloc: Global, graph: &LaunchGraph, classes: u32) -> Result<Vec<bool>, NoMemory>
+    ensures { IfOk result (λ table. IsTableOf (pinned.is_safe graph.now) table.items) }
+{
+    let mut table = unmarked(alloc, classes)?;
+    for input in graph.inputs.as_slice() {
+        let passes = !is_pin(graph, input.reg);
+        mark(&mut table, input.class, passes);
+    }
+    Ok(table)
+}
+
+/// The numbers of the sets that have pins. A graph whose sets can't be numbered with its rows is refused as one for
+/// which there is no memory.
+fn pins(alloc: Global, graph: &LaunchGraph) -> Result<Vec<u32>, NoMemory>
+    requires { IsLaunchGraph graph.now }
+    ensures are { IfOk result (λ pins. pins.items ≡ pinned.pinned_sets graph.now) }
+    ensures few { IfOk result (λ pins. length pins.items ≤ 31) }
+    ensures sets { OnOk result (length graph.now.sets < 2 ^ 30) }
+{
+    if graph.sets.len() >= 1 << 30 {
+        return Err(AllocError);
+    }
+    let mut pins = Vec::new(alloc);
+    for set in 0..graph.sets.len() as u32 {
+        push_pinned(&mut pins, graph, set)?;
+    }
+    Ok(pins)
+}
+
+/// Adds the number of a set, if the set has a pin.
+fn push_pinned(pins: &mut Vec<u32>, graph: &LaunchGraph, set: u32) -> Result<(), NoMemory>
+    ensures { OnOk result (pins.new.items ≡ pins.old.items
+        ++ (if is_some (launches.pin_of graph.now (SetTo set)) then set ∷ [] else [])) }
+{
+    if pin_of(graph, To::Set(set)).is_some() {
+        pins.push(set)?;
+    }
+    Ok(())
 }

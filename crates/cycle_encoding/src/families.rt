@@ -9,15 +9,19 @@ ghost use Rattle.schedule_meaning.specs.Launches.{gives};
 ghost use Rattle.machine_table.specs.Tables as tables;
 ghost use Rattle.cycle_encoding.specs.CycleFormula.{wants_in};
 ghost use Rattle.cycle_encoding.specs.Facts.{IsTableOf};
-ghost use Rattle.cycle_encoding.specs.Families.{is_made, is_seen, makes, operand_clauses, seen_clauses, target_clauses};
-ghost use Rattle.cycle_encoding.specs.Shapes.{negative, numbered, positive, vars_of};
-ghost use Rattle.cycle_encoding.specs.Steps.{AreSeenVars, given_in, target_groups, is_ready, of_thing, put_at};
-ghost use Rattle.cycle_encoding.specs.Steps.{sights, with_clauses};
+ghost use Rattle.cycle_encoding.specs.Families.{makes, seen_clauses};
+ghost use Rattle.cycle_encoding.specs.Families.{is_lost, operand_clauses, target_clauses};
+ghost use Rattle.cycle_encoding.specs.Variables.{all_overwritten};
+ghost use Rattle.cycle_encoding.specs.Shapes.{negated, negative, numbered, positive, vars_of};
+ghost use Rattle.cycle_encoding.specs.Steps.{AreOverwrittenVars, AreSeenVars, given_in, target_groups, is_ready};
+ghost use Rattle.cycle_encoding.specs.Steps.{of_thing, put_at, sights, with_clauses};
 
 use crate::buckets::{empty_lists, put_into};
 use crate::facts::next_class;
+use crate::needed::needed_operands;
+use crate::overwriting::{OverwrittenVars, push_lost, reads_until};
 use crate::seen::{Seen, SeenVars, seen_var};
-use crate::{Facts, Scope, made_operands};
+use crate::{Facts, Scope};
 use cnf_core::{Cnf, Lit};
 use graph_meaning::SetClass;
 use items::{Items, NoMemory};
@@ -58,21 +62,25 @@ fn push_giving(
     Ok(())
 }
 
-/// Adds a clause for each target that has to be made.
+/// Adds a clause for each target without a pin that has to be made.
 pub fn add_targets(
     alloc: Global,
     cnf: &mut Cnf,
     facts: &Facts,
     launches: &[Launch],
+    over: &OverwrittenVars,
 ) -> Result<(), NoMemory>
-    requires exist { length launches.now ≤ cnf.old.vars }
+    requires launches { length launches.now ≤ cnf.old.vars }
+    requires over { AreOverwrittenVars facts.now over.now.cycles over.now.first over.now.sets.items }
+    requires exist { over.now.first + length (all_overwritten facts.now over.now.cycles) ≤ cnf.old.vars }
     requires few { cnf.old.vars < 2 ^ 29 }
-    requires room { length cnf.old.clauses + length (target_clauses facts.now (numbered 0 launches.now)) < 2 ^ 30 }
-    ensures { OnOk result
-        (cnf.new ≡ with_clauses cnf.old (target_clauses facts.now (numbered 0 launches.now))) }
+    requires room { length cnf.old.clauses + length (target_clauses facts.now over.now.cycles (numbered 0 launches.now)
+        (numbered over.now.first (all_overwritten facts.now over.now.cycles))) < 2 ^ 30 }
+    ensures { OnOk result (cnf.new ≡ with_clauses cnf.old (target_clauses facts.now over.now.cycles
+        (numbered 0 launches.now) (numbered over.now.first (all_overwritten facts.now over.now.cycles)))) }
 {
     for set in facts.graph().sets.as_slice() {
-        add_target(alloc, cnf, facts, launches, set)?;
+        add_target(alloc, cnf, facts, launches, over, set)?;
     }
     Ok(())
 }
@@ -82,20 +90,25 @@ fn add_target(
     cnf: &mut Cnf,
     facts: &Facts,
     launches: &[Launch],
+    over: &OverwrittenVars,
     set: &SetClass,
 ) -> Result<(), NoMemory>
-    requires exist { length launches.now ≤ cnf.old.vars }
+    requires launches { length launches.now ≤ cnf.old.vars }
+    requires over { AreOverwrittenVars facts.now over.now.cycles over.now.first over.now.sets.items }
+    requires exist { over.now.first + length (all_overwritten facts.now over.now.cycles) ≤ cnf.old.vars }
     requires few { cnf.old.vars < 2 ^ 29 }
-    requires room { length cnf.old.clauses
-        + length (target_groups facts.now (numbered 0 launches.now) (set.now ∷ [])) < 2 ^ 30 }
-    ensures { OnOk result
-        (cnf.new ≡ with_clauses cnf.old (target_groups facts.now (numbered 0 launches.now) (set.now ∷ []))) }
+    requires room { length cnf.old.clauses + length (target_groups facts.now over.now.cycles (numbered 0 launches.now)
+        (numbered over.now.first (all_overwritten facts.now over.now.cycles)) (set.now ∷ [])) < 2 ^ 30 }
+    ensures { OnOk result (cnf.new ≡ with_clauses cnf.old (target_groups facts.now over.now.cycles
+        (numbered 0 launches.now) (numbered over.now.first (all_overwritten facts.now over.now.cycles))
+        (set.now ∷ []))) }
 {
-    if !facts.is_made_target(set) {
+    if !facts.is_needed_target(set) {
         return Ok(());
     }
     let given = giving(alloc, facts, launches, set.class)?;
-    let clause = variables(alloc, &given)?;
+    let mut clause = variables(alloc, &given)?;
+    push_lost(&mut clause, facts, over, set.class, u64::from(over.cycles))?;
     cnf.add(&clause)
 }
 
@@ -113,7 +126,7 @@ pub fn variables(alloc: Global, given: &[(u32, Launch)]) -> Result<Vec<Lit>, NoM
     Ok(lits)
 }
 
-/// Adds a clause for each launch and each operand that has to be made.
+/// Adds a clause for each launch and each operand that it needs.
 pub fn add_operands(
     alloc: Global,
     cnf: &mut Cnf,
@@ -122,54 +135,106 @@ pub fn add_operands(
     scope: &Scope,
     launches: &[Launch],
     seen: &SeenVars,
+    over: &OverwrittenVars,
 ) -> Result<(), NoMemory>
     requires first { length launches.now ≡ seen.now.first }
-    requires exist { seen.now.first + length seen.now.seen.items ≤ cnf.old.vars }
+    requires next { seen.now.first + length seen.now.seen.items ≡ over.now.first }
+    requires exist { over.now.first + length (all_overwritten facts.now over.now.cycles) ≤ cnf.old.vars }
     requires few { cnf.old.vars < 2 ^ 29 }
     requires seen { AreSeenVars facts.now (wants_in scope.now) table.now seen.now.cycles seen.now.first
         seen.now.seen.items seen.now.starts.items }
+    requires over { AreOverwrittenVars facts.now over.now.cycles over.now.first over.now.sets.items }
     requires room { length cnf.old.clauses
         + length (operand_clauses facts.now table.now (numbered 0 launches.now)
-        (numbered seen.now.first seen.now.seen.items)) < 2 ^ 30 }
-    ensures { OnOk result (cnf.new ≡ with_clauses cnf.old
-        (operand_clauses facts.now table.now (numbered 0 launches.now) (numbered seen.now.first seen.now.seen.items))) }
+        (numbered seen.now.first seen.now.seen.items)
+        (numbered over.now.first (all_overwritten facts.now over.now.cycles))) < 2 ^ 30 }
+    ensures { OnOk result (cnf.new ≡ with_clauses cnf.old (operand_clauses facts.now table.now (numbered 0 launches.now)
+        (numbered seen.now.first seen.now.seen.items)
+        (numbered over.now.first (all_overwritten facts.now over.now.cycles)))) }
 {
     for (index, launch) in launches.iter().enumerate() {
-        let made = made_operands(alloc, facts, launch.row)?;
+        let needed = needed_operands(alloc, facts, *launch)?;
         let var = index as u32 + 1;
-        add_sights(cnf, facts, table, scope, &made, seen, var, *launch)?;
+        add_sights(
+            alloc, cnf, facts, table, scope, &needed, seen, over, var, *launch,
+        )?;
     }
     Ok(())
 }
 
-/// Adds a clause for each class: where the launch is made it sees the class.
+/// Adds a clause for each class: where the launch is made it sees the class, or some input's register of it isn't
+/// overwritten yet.
 fn add_sights(
+    alloc: Global,
     cnf: &mut Cnf,
     facts: &Facts,
     table: &Table,
     scope: &Scope,
-    made: &[u32],
+    needed: &[u32],
     seen: &SeenVars,
+    over: &OverwrittenVars,
     var: u32,
     launch: Launch,
 ) -> Result<(), NoMemory>
     requires var { 1 ≤ var }
     requires within { var ≤ seen.now.first }
-    requires exist { seen.now.first + length seen.now.seen.items ≤ cnf.old.vars }
+    requires next { seen.now.first + length seen.now.seen.items ≡ over.now.first }
+    requires exist { over.now.first + length (all_overwritten facts.now over.now.cycles) ≤ cnf.old.vars }
     requires few { cnf.old.vars < 2 ^ 29 }
     requires seen { AreSeenVars facts.now (wants_in scope.now) table.now seen.now.cycles seen.now.first
         seen.now.seen.items seen.now.starts.items }
-    requires room { length cnf.old.clauses + length made.now < 2 ^ 30 }
+    requires over { AreOverwrittenVars facts.now over.now.cycles over.now.first over.now.sets.items }
+    requires room { length cnf.old.clauses + length needed.now < 2 ^ 30 }
     ensures { OnOk result (cnf.new ≡ with_clauses cnf.old (of_thing var
-        (sights (tables.cluster_of table.now launch.slot) launch.cycle
-        (numbered seen.now.first seen.now.seen.items) made.now))) }
+        (sights facts.now (tables.cluster_of table.now launch.slot) launch.cycle (launches.reads_until facts.now launch)
+        (numbered seen.now.first seen.now.seen.items)
+        (numbered over.now.first (all_overwritten facts.now over.now.cycles)) needed.now))) }
 {
     let cluster = cluster_of(table, launch.slot);
-    for class in made {
+    let until = reads_until(facts, launch);
+    for class in needed {
         let sight = seen_var(seen, facts, table, scope, *class, cluster, launch.cycle);
-        add_implied(cnf, var, sight)?;
+        let clause = sight_or_lost(alloc, facts, over, var, sight, *class, until)?;
+        cnf.add(&clause)?;
     }
     Ok(())
+}
+
+/// The clause that a variable implies a literal, if there is one, or that some input's register of the class isn't
+/// overwritten below the cycle.
+fn sight_or_lost(
+    alloc: Global,
+    facts: &Facts,
+    over: &OverwrittenVars,
+    var: u32,
+    sight: Option<Lit>,
+    class: u32,
+    until: u64,
+) -> Result<Vec<Lit>, NoMemory>
+    requires over { AreOverwrittenVars facts.now over.now.cycles over.now.first over.now.sets.items }
+    ensures { IfOk result (λ clause. clause.items ≡ negative var ∷ (option_to_list sight
+        ++ negated (is_lost facts.now class until)
+        (numbered over.now.first (all_overwritten facts.now over.now.cycles)))) }
+{
+    let mut clause = implied_literal(alloc, var, sight)?;
+    push_lost(&mut clause, facts, over, class, until)?;
+    Ok(clause)
+}
+
+/// The clause that a variable implies a literal, or that it is false where there is none.
+fn implied_literal(alloc: Global, var: u32, lit: Option<Lit>) -> Result<Vec<Lit>, NoMemory>
+    ensures { IfOk result (λ clause. clause.items ≡ negative var ∷ option_to_list lit) }
+{
+    let mut clause = Vec::new(alloc);
+    clause.push(Lit {
+        var,
+        positive: false,
+    })?;
+    match lit {
+        Some(lit) => clause.push(lit)?,
+        None => {}
+    }
+    Ok(clause)
 }
 
 /// Adds the clause that a variable implies a literal, or that it is false where there is none.

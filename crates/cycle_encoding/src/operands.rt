@@ -1,40 +1,99 @@
-// The word operands of a row that launches have to make.
-ghost use Rattle.std.specs.Prelude.{◌≡◌, ◌∷◌, [], ◌++◌, IfOk, OnOk, slice_get};
+// What the launches of a row need from other launches.
+ghost use Rattle.std.specs.Prelude.{◌≡◌, ◌∷◌, [], ◌++◌, ◌<◌, ◌^◌, length, map, IfOk, OnOk, slice_get};
 ghost use Rattle.schedule_meaning.specs.Launches as launches;
-ghost use Rattle.cycle_encoding.specs.Facts.{made_among, one_or_none};
+ghost use Rattle.cycle_encoding.specs.Facts.{one_or_none};
+ghost use Rattle.cycle_encoding.specs.Lacking as lacking;
+ghost use Rattle.cycle_encoding.specs.Lacking.{lacked_among, needs_of};
+ghost use Rattle.cycle_encoding.specs.Variables.{row_numbers};
 
 use crate::Facts;
-use items::NoMemory;
+use items::{Items, NoMemory};
 use schedule_meaning::{Operand, operand_at, operand_count};
 use std::alloc::Global;
 
-/// The classes of a row's word operands that have to be made by launches, in order; the branch has the guard's class.
-pub fn made_operands(alloc: Global, facts: &Facts, row: u32) -> Result<Vec<u32>, NoMemory>
-    ensures { IfOk result (λ made. made.items ≡ made_among facts.now (launches.operands_at facts.now row)) }
-{
-    let mut made = Vec::new(alloc);
-    for at in 0..operand_count(facts.graph(), row) {
-        push_at(&mut made, facts, row, at)?;
-    }
-    Ok(made)
+/// Which classes are there without a launch.
+#[derive(Clone, Copy, PartialEq, Eq, Debug)]
+pub enum There {
+    /// Those of inputs, which are there at entry.
+    AtEntry,
+    /// Those of inputs whose registers no launch writes.
+    Always,
 }
 
-/// Adds the class of the operand at a place, if there is one that has to be made.
-fn push_at(made: &mut Vec<u32>, facts: &Facts, row: u32, at: usize) -> Result<(), NoMemory>
-    ensures { OnOk result (made.new.items ≡ made.old.items
-        ++ made_among facts.now (one_or_none (slice_get (launches.operands_at facts.now row) at))) }
+/// For each row's number the classes that a launch of it needs from other launches.
+#[tactic(auto, using(crate::proofs::Tables::table_more))]
+pub fn needs(alloc: Global, facts: &Facts, there: There) -> Result<Vec<Items<u32>>, NoMemory>
+    requires rows { length facts.now.rows < 2 ^ 30 }
+    ensures { IfOk result (λ needs. needs.items ≡ map (needs_of there facts.now) (row_numbers facts.now)) }
+{
+    let mut needs = Vec::new(alloc);
+    for row in 0..facts.row_numbers() {
+        needs.push(Items::from(lacked_operands(alloc, facts, there, row)?))?;
+    }
+    Ok(needs)
+}
+
+/// The classes of a row's word operands that a launch of it needs from other launches, in order; the branch has the
+/// guard's class, and a copy that of its set.
+fn lacked_operands(
+    alloc: Global,
+    facts: &Facts,
+    there: There,
+    row: u32,
+) -> Result<Vec<u32>, NoMemory>
+    ensures { IfOk result (λ lacked. lacked.items ≡ needs_of there facts.now row) }
+{
+    let mut lacked = Vec::new(alloc);
+    for at in 0..operand_count(facts.graph(), row) {
+        push_lacked_at(&mut lacked, facts, there, row, at)?;
+    }
+    Ok(lacked)
+}
+
+/// Adds the class of the operand at a place, if there is one that is needed.
+fn push_lacked_at(
+    lacked: &mut Vec<u32>,
+    facts: &Facts,
+    there: There,
+    row: u32,
+    at: usize,
+) -> Result<(), NoMemory>
+    ensures { OnOk result (lacked.new.items ≡ lacked.old.items
+        ++ lacked_among there facts.now (one_or_none (slice_get (launches.operands_at facts.now row) at))) }
 {
     match operand_at(facts.graph(), row, at) {
-        Some(operand) => push_made(made, facts, operand),
+        Some(operand) => push_lacked(lacked, facts, there, operand),
         None => Ok(()),
     }
 }
 
-fn push_made(made: &mut Vec<u32>, facts: &Facts, operand: Operand) -> Result<(), NoMemory>
-    ensures { OnOk result (made.new.items ≡ made.old.items ++ made_among facts.now (operand ∷ [])) }
+fn push_lacked(
+    lacked: &mut Vec<u32>,
+    facts: &Facts,
+    there: There,
+    operand: Operand,
+) -> Result<(), NoMemory>
+    ensures { OnOk result (lacked.new.items ≡ lacked.old.items ++ lacked_among there facts.now (operand ∷ [])) }
 {
-    if facts.is_made(operand.class, operand.second) {
-        made.push(operand.class)?;
+    if is_lacked(facts, there, operand) {
+        lacked.push(operand.class)?;
     }
     Ok(())
+}
+
+/// Whether a launch needs the operand from another launch.
+fn is_lacked(facts: &Facts, there: There, operand: Operand) -> bool
+    ensures { result ≡ lacking.is_lacked there facts.now operand }
+{
+    !facts.is_free(operand.class, operand.second) && !is_there(facts, there, operand.class)
+}
+
+/// Whether the class is there without a launch.
+fn is_there(facts: &Facts, there: There, class: u32) -> bool
+    ensures { result ≡ lacking.is_there there facts.now class }
+{
+    match there {
+        There::AtEntry => facts.is_input(class),
+        There::Always => facts.is_safe(class),
+    }
 }

@@ -8,12 +8,14 @@ use schedule_meaning::Launch;
 use std::marker::Model;
 use thiserror::Error;
 
-/// In which encoding and for how many cycles a formula is, and the launches of its first variables, in order.
+/// In which encoding and for how many cycles a formula is, the launches of its first variables, in order, and how many
+/// variables come before those of what is overwritten.
 #[derive(Drop)]
 pub struct VarPlan {
     encoding: Encoding,
     cycles: u32,
     launches: Items<Launch>,
+    overwritten: u32,
 }
 
 impl Model for VarPlan {
@@ -21,17 +23,29 @@ impl Model for VarPlan {
 
     ghost Value = { Plan };
 
-    ghost view = { λ a. record { encoding = a.encoding; cycles = a.cycles; launches = a.launches } };
+    ghost view = { λ a. record {
+      encoding = a.encoding;
+      cycles = a.cycles;
+      launches = a.launches;
+      overwritten = a.overwritten;
+    } };
 }
 
 impl VarPlan {
-    pub fn new(encoding: Encoding, cycles: u32, launches: Items<Launch>) -> VarPlan
-        ensures { result ≡ record { encoding = encoding; cycles = cycles; launches = launches } }
+    pub fn new(
+        encoding: Encoding,
+        cycles: u32,
+        launches: Items<Launch>,
+        overwritten: u32,
+    ) -> VarPlan
+        ensures { result
+            ≡ record { encoding = encoding; cycles = cycles; launches = launches; overwritten = overwritten } }
     {
         VarPlan {
             encoding,
             cycles,
             launches,
+            overwritten,
         }
     }
 
@@ -52,6 +66,14 @@ impl VarPlan {
         ensures { result.now ≡ self.now.launches }
     {
         self.launches.as_slice()
+    }
+
+    /// How many variables come before those of what is overwritten. These stand by set, those alone that are pinned to
+    /// an input's register, then by cycle, from 0 to the number of cycles.
+    pub fn overwritten(&self) -> u32
+        ensures { result ≡ self.now.overwritten }
+    {
+        self.overwritten
     }
 }
 

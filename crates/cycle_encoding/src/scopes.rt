@@ -1,16 +1,16 @@
 // From which cycle on launches of a row have variables, and of which classes it is said where they are seen.
-ghost use Rattle.std.specs.Prelude.{◌≡◌, ◌+◌, ◌<◌, ◌^◌, length, map, IfOk};
-ghost use Rattle.std.specs.List.{range_with_len};
+ghost use Rattle.std.specs.Prelude.{◌≡◌, ◌<◌, ◌^◌, length, map, IfOk};
 ghost use Rattle.graph_meaning.specs.WellFormed.{IsLaunchGraph};
 ghost use Rattle.machine_table.specs.Tables.{IsTable};
 ghost use Rattle.cycle_encoding.specs.Coming as coming;
-ghost use Rattle.cycle_encoding.specs.Coming.{needs_of};
+ghost use Rattle.cycle_encoding.specs.Coming.{start_needs};
 ghost use Rattle.cycle_encoding.specs.Encodings.{IsScope};
-ghost use Rattle.cycle_encoding.specs.declared.encodings.Encoding.TheVariants.{Narrow as NarrowOne};
+ghost use Rattle.cycle_encoding.specs.Variables.{row_numbers};
 ghost use Rattle.cycle_encoding.specs.Scoped as scoped;
 ghost use Rattle.cycle_encoding.specs.CycleFormula.{first_cycle_in, wants_in, wide_scope};
 
-use crate::coming::{come_cycles, needs};
+use crate::coming::come_cycles;
+use crate::operands::{There, needs};
 use crate::wanting::wanted;
 use crate::{Encoding, Facts};
 use items::{Items, NoMemory};
@@ -47,18 +47,25 @@ impl Scope {
         }
     }
 
-    /// Launches that can start by their cycle and whose word is wanted, and wanted classes.
-    pub fn narrow(alloc: Global, facts: &Facts, table: &Table) -> Result<Scope, NoMemory>
+    /// Launches that can start by their cycle and whose word is wanted, and wanted classes; the wide encoding looks at
+    /// none of these tables.
+    pub fn narrow(
+        alloc: Global,
+        encoding: Encoding,
+        facts: &Facts,
+        table: &Table,
+    ) -> Result<Scope, NoMemory>
         requires table { IsTable table.now }
         requires graph { IsLaunchGraph facts.now }
-        ensures { IfOk result (IsScope NarrowOne facts.now table.now) }
+        ensures { IfOk result (IsScope encoding facts.now table.now) }
     {
-        let needs = needs(alloc, facts)?;
-        let come = come_cycles(alloc, facts, table, &needs)?;
-        let wants = wanted(alloc, facts, &needs)?;
-        let firsts = first_cycles(alloc, facts, &needs, &come, &wants)?;
+        let lasting = needs(alloc, facts, There::Always)?;
+        let wants = wanted(alloc, facts, &lasting)?;
+        let entering = needs(alloc, facts, There::AtEntry)?;
+        let come = come_cycles(alloc, facts, table, &entering)?;
+        let firsts = first_cycles(alloc, facts, &entering, &come, &wants)?;
         Ok(Scope {
-            encoding: Encoding::Narrow,
+            encoding,
             firsts,
             wants,
         })
@@ -77,7 +84,7 @@ impl Scope {
     {
         match encoding {
             Encoding::Wide => Ok(Scope::wide(alloc)),
-            Encoding::Narrow => Scope::narrow(alloc, facts, table),
+            Encoding::Narrow | Encoding::Pinned => Scope::narrow(alloc, encoding, facts, table),
         }
     }
 
@@ -94,7 +101,7 @@ impl Scope {
     {
         match self.encoding {
             Encoding::Wide => Some(0),
-            Encoding::Narrow => match self.firsts.get(row as usize) {
+            Encoding::Narrow | Encoding::Pinned => match self.firsts.get(row as usize) {
                 Some(first) => *first,
                 None => None,
             },
@@ -107,7 +114,7 @@ impl Scope {
     {
         match self.encoding {
             Encoding::Wide => true,
-            Encoding::Narrow => match self.wants.get(class as usize) {
+            Encoding::Narrow | Encoding::Pinned => match self.wants.get(class as usize) {
                 Some(wants) => *wants,
                 None => false,
             },
@@ -125,13 +132,12 @@ fn first_cycles(
     marks: &[bool],
 ) -> Result<Vec<Option<u32>>, NoMemory>
     requires rows { length facts.now.rows < 2 ^ 30 }
-    requires needs { needs.now ≡ map (needs_of facts.now) (range_with_len 0 (length facts.now.rows + 1)) }
+    requires needs { needs.now ≡ map (start_needs facts.now) (row_numbers facts.now) }
     ensures { IfOk result (λ firsts. firsts.items
-        ≡ map (scoped.first_cycle facts.now come.now marks.now) (range_with_len 0 (length facts.now.rows + 1))) }
+        ≡ map (scoped.first_cycle facts.now come.now marks.now) (row_numbers facts.now)) }
 {
     let mut firsts = Vec::new(alloc);
-    let rows = facts.graph().rows.len() as u32;
-    for row in 0..rows + 1 {
+    for row in 0..facts.row_numbers() {
         let first = first_cycle(facts, needs[row as usize].as_slice(), come, marks, row);
         firsts.push(first)?;
     }
@@ -145,7 +151,7 @@ fn first_cycle(
     marks: &[bool],
     row: u32,
 ) -> Option<u32>
-    requires needs { needs.now ≡ needs_of facts.now row }
+    requires needs { needs.now ≡ start_needs facts.now row }
     ensures { result ≡ scoped.first_cycle facts.now come.now marks.now row }
 {
     if is_spoken_of(facts, marks, row) {

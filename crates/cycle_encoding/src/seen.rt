@@ -4,7 +4,7 @@ ghost use Rattle.std.specs.Prelude.{option_to_list};
 ghost use Rattle.graph_meaning.specs.WellFormed.{IsLaunchGraph};
 ghost use Rattle.cycle_encoding.specs.CycleFormula.{wants_in};
 ghost use Rattle.cycle_encoding.specs.Steps as steps;
-ghost use Rattle.cycle_encoding.specs.Facts.{is_shown_class};
+ghost use Rattle.cycle_encoding.specs.Facts.{is_unsafe_shown};
 ghost use Rattle.cycle_encoding.specs.Families.{is_seen};
 ghost use Rattle.cycle_encoding.specs.Shapes.{numbered, vars_of};
 ghost use Rattle.cycle_encoding.specs.Steps.{AreSeenVars, cluster_seen, clusters_before, clusters_seen};
@@ -73,11 +73,11 @@ pub fn seen_vars(
     })
 }
 
-/// Whether the scope wants the class and launches alone make it.
+/// Whether the scope wants the class and launches have to make it.
 pub fn is_shown(facts: &Facts, scope: &Scope, class: u32) -> bool
-    ensures { result ≡ is_shown_class facts.now (wants_in scope.now) class }
+    ensures { result ≡ is_unsafe_shown facts.now (wants_in scope.now) class }
 {
-    scope.wants(class) && facts.is_made_class(class)
+    scope.wants(class) && facts.is_unsafe_class(class)
 }
 
 /// What is seen of a class, if it is shown.
@@ -90,7 +90,7 @@ fn push_class(
     class: u32,
 ) -> Result<(), NoMemory>
     ensures { OnOk result (seen.new.items ≡ seen.old.items
-        ++ (if is_shown_class facts.now (wants_in scope.now) class then clusters_seen table.now k 4 class else [])) }
+        ++ (if is_unsafe_shown facts.now (wants_in scope.now) class then clusters_seen table.now k 4 class else [])) }
 {
     if is_shown(facts, scope, class) {
         push_clusters(seen, table, k, class)

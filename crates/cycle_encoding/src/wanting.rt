@@ -1,19 +1,19 @@
-// Which classes are wanted: those of targets, what stores and the branch need, and what rows of wanted classes need.
-ghost use Rattle.std.specs.Prelude.{◌≡◌, ◌↔◌, ◌∷◌, [], ℕ, ◌+◌, ◌<◌, ◌^◌, Contains, IsTrue, if◌then◌else◌, length};
+// Which classes are wanted: those of targets, what stores and the branch need, and what rows and copies of wanted
+// classes need.
+ghost use Rattle.std.specs.Prelude.{◌≡◌, ◌↔◌, ◌∷◌, [], ℕ, ◌<◌, ◌^◌, Contains, IsTrue, if◌then◌else◌, length};
 ghost use Rattle.std.specs.Prelude.{map, IfOk, OnOk};
 ghost use Rattle.std.specs.List.{range_with_len};
 ghost use Rattle.graph_meaning.specs.WellFormed as wellformed;
 ghost use Rattle.graph_meaning.specs.WellFormed.{IsLaunchGraph};
 ghost use Rattle.graph_meaning.specs.declared.graphs.SetClass.{SetClass as SetClassOf};
 ghost use Rattle.schedule_meaning.specs.Launches as launches;
-ghost use Rattle.cycle_encoding.specs.Coming.{needs_of};
 ghost use Rattle.cycle_encoding.specs.Counts.{row_is};
-ghost use Rattle.cycle_encoding.specs.Facts.{IsTableOf};
 ghost use Rattle.cycle_encoding.specs.Narrow.{Wanted};
+ghost use Rattle.cycle_encoding.specs.Variables.{row_numbers};
 ghost use Rattle.cycle_encoding.specs.Steps.{put_at};
 ghost use Rattle.cycle_encoding.specs.Wanting as wanting;
 ghost use Rattle.cycle_encoding.specs.Wanting.{giving_rows, is_marked_class, is_wanted_target, AreWantedMarks};
-ghost use Rattle.cycle_encoding.specs.Wanting.{AreAllMarked, IsFollowed, IsLonger, StillMarked};
+ghost use Rattle.cycle_encoding.specs.Wanting.{AreAllMarked, IsFollowed, IsLonger, StillMarked, wanted_needs};
 
 use crate::Facts;
 use crate::facts::next_class;
@@ -72,7 +72,7 @@ fn want_all(
     Ok(())
 }
 
-/// Wants the class of a target that is a word and no input's.
+/// Wants the class of a target that is a word and isn't safe, or has a pin.
 fn want_target(
     marks: &mut Vec<bool>,
     order: &mut Vec<u32>,
@@ -93,7 +93,7 @@ fn want_target(
     want(marks, order, facts, set.class)
 }
 
-/// Wants each target that is a word and no input's.
+/// Wants the class of each such target.
 fn want_targets(marks: &mut Vec<bool>, order: &mut Vec<u32>, facts: &Facts) -> Result<(), NoMemory>
     requires marks { AreWantedMarks facts.now marks.old.items order.old.items }
     ensures size { length marks.new.items ≡ length marks.old.items }
@@ -134,13 +134,13 @@ fn want_root(
     needs: &[u32],
     row: u32,
 ) -> Result<(), NoMemory>
-    requires needs { needs.now ≡ needs_of facts.now row }
+    requires needs { needs.now ≡ wanted_needs facts.now row }
     requires marks { AreWantedMarks facts.now marks.old.items order.old.items }
     ensures size { length marks.new.items ≡ length marks.old.items }
     ensures marks { OnOk result (AreWantedMarks facts.now marks.new.items order.new.items) }
     ensures still { StillMarked marks.old.items marks.new.items }
     ensures has { OnOk result (IsTrue (wanting.is_root facts.now row)
-        → AreAllMarked marks.new.items (needs_of facts.now row)) }
+        → AreAllMarked marks.new.items (wanted_needs facts.now row)) }
 {
     if !is_root(facts, row) {
         return Ok(());
@@ -156,30 +156,28 @@ fn want_roots(
     needs: &[Items<u32>],
 ) -> Result<(), NoMemory>
     requires rows { length facts.now.rows < 2 ^ 30 }
-    requires needs { needs.now ≡ map (needs_of facts.now) (range_with_len 0 (length facts.now.rows + 1)) }
+    requires needs { needs.now ≡ map (wanted_needs facts.now) (row_numbers facts.now) }
     requires marks { AreWantedMarks facts.now marks.old.items order.old.items }
     ensures size { length marks.new.items ≡ length marks.old.items }
     ensures marks { OnOk result (AreWantedMarks facts.now marks.new.items order.new.items) }
     ensures still { StillMarked marks.old.items marks.new.items }
-    ensures has { OnOk result ((row : ℕ) → row < length facts.now.rows + 1 → IsTrue (wanting.is_root facts.now row)
-        → AreAllMarked marks.new.items (needs_of facts.now row)) }
+    ensures has { OnOk result ((row : ℕ) → Contains (row_numbers facts.now) row → IsTrue (wanting.is_root facts.now row)
+        → AreAllMarked marks.new.items (wanted_needs facts.now row)) }
 {
-    let rows = facts.graph().rows.len() as u32;
-    for row in 0..rows + 1 {
+    for row in 0..facts.row_numbers() {
         want_root(marks, order, facts, needs[row as usize].as_slice(), row)?;
     }
     Ok(())
 }
 
-/// For each class the rows that give its word.
+/// For each class the rows and copies that give its word.
 fn rows_by_class(alloc: Global, facts: &Facts) -> Result<Vec<Items<u32>>, NoMemory>
     requires graph { IsLaunchGraph facts.now }
     ensures { IfOk result (λ lists. lists.items
         ≡ map (giving_rows facts.now) (range_with_len 0 (wellformed.next_class facts.now.rows))) }
 {
     let mut lists = empty_row_lists(alloc, next_class(facts.graph()))?;
-    let rows = facts.graph().rows.len() as u32;
-    for row in 0..rows {
+    for row in 0..facts.row_numbers() {
         put_giving(&mut lists, facts, row)?;
     }
     Ok(lists)
@@ -218,7 +216,7 @@ fn put_row(lists: &mut Vec<Items<u32>>, class: u32, row: u32) -> Result<(), NoMe
     Ok(())
 }
 
-/// Wants what the rows of a wanted class need.
+/// Wants what the rows and copies of a wanted class need.
 fn follow(
     marks: &mut Vec<bool>,
     order: &mut Vec<u32>,
@@ -227,7 +225,7 @@ fn follow(
     class: u32,
     rows: &[u32],
 ) -> Result<(), NoMemory>
-    requires needs { needs.now ≡ map (needs_of facts.now) (range_with_len 0 (length facts.now.rows + 1)) }
+    requires needs { needs.now ≡ map (wanted_needs facts.now) (row_numbers facts.now) }
     requires rows { rows.now ≡ giving_rows facts.now class }
     requires wanted { Wanted facts.now class }
     requires marks { AreWantedMarks facts.now marks.old.items order.old.items }
@@ -243,8 +241,8 @@ fn follow(
     Ok(())
 }
 
-/// Goes on until what the rows of each listed class need is marked. A class is listed once, so there are no more turns
-/// than classes.
+/// Goes on until what the rows and copies of each listed class need is marked. A class is listed once, so there are no
+/// more turns than classes.
 fn close(
     marks: &mut Vec<bool>,
     order: &mut Vec<u32>,
@@ -253,7 +251,7 @@ fn close(
     rows: &[Items<u32>],
     classes: u32,
 ) -> Result<(), NoMemory>
-    requires needs { needs.now ≡ map (needs_of facts.now) (range_with_len 0 (length facts.now.rows + 1)) }
+    requires needs { needs.now ≡ map (wanted_needs facts.now) (row_numbers facts.now) }
     requires rows { rows.now ≡ map (giving_rows facts.now) (range_with_len 0 classes) }
     requires size { length marks.old.items ≡ classes }
     requires marks { AreWantedMarks facts.now marks.old.items order.old.items }
@@ -277,7 +275,7 @@ fn close(
 /// Which classes are wanted. It costs each row and each of its operands a few steps.
 pub fn wanted(alloc: Global, facts: &Facts, needs: &[Items<u32>]) -> Result<Vec<bool>, NoMemory>
     requires graph { IsLaunchGraph facts.now }
-    requires needs { needs.now ≡ map (needs_of facts.now) (range_with_len 0 (length facts.now.rows + 1)) }
+    requires needs { needs.now ≡ map (wanted_needs facts.now) (row_numbers facts.now) }
     ensures { IfOk result (λ marks. (class : ℕ) → IsTrue (is_marked_class marks.items class)
         ↔ (Wanted facts.now class × (class < wellformed.next_class facts.now.rows))) }
 {

@@ -43,12 +43,12 @@ lits_exist test first n xs lits e le = subst (λ (ls : List Lit). All (IsLitOf n
 
 -- ---- clauses of each number of a range
 
-module _ (f : ℕ → List (List Lit)) where
+module _ {X : Type 0} (f : ℕ → List X) where
   pub flat-part : (t k : ℕ) → t < k → length (flat_map f (range_with_len 0 t)) + length (f t) ≤ length (flat_map f (range_with_len 0 k))
   flat-part t zero lt = absurd (omega arith)
   flat-part t (suc k) lt =
       let s : suc k ≡ k + 1 = omega arith in
-      let e = ap (λ m. length (flat_map f (range_with_len 0 m))) s ∙ ap (λ (c : List (List Lit)). length c) (flat_more f k) ∙ length-append (flat_map f (range_with_len 0 k)) (f k) in
+      let e = ap (λ m. length (flat_map f (range_with_len 0 m))) s ∙ ap (λ (c : List X). length c) (flat_more f k) ∙ length-append (flat_map f (range_with_len 0 k)) (f k) in
       elim (cases_eq t k) [
         | inl h ↦ (let a : length (flat_map f (range_with_len 0 t)) ≡ length (flat_map f (range_with_len 0 k)) = ap (λ m. length (flat_map f (range_with_len 0 m))) h in let b : length (f t) ≡ length (f k) = ap (λ m. length (f m)) h in omega (arith, e, a, b))
         | inr ne ↦ (let r = flat-part t k (omega arith) in omega (arith, e, r))

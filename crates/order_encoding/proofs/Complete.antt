@@ -1,33 +1,30 @@
--- What the families say holds of the launches of a schedule that fits without pins, with what its launches make held
--- and taken.
-use Rattle.std.proofs.Common.{◌≡◌, ℕ, suc, ◌+◌, ◌<◌, ◌≤◌, Bool, true, false, not, cond, List, [], ◌∷◌, length, get_or, refl, sym, ap, ◌∙◌, subst, arith, inl, inr, ◌⊎◌, Option, Some, None}
+-- What the families say holds of launches that keep memory and the branch in order, with what they make held.
+use Rattle.std.proofs.Common.{◌≡◌, ℕ, suc, ◌+◌, ◌<◌, ◌≤◌, Bool, true, false, not, List, [], ◌∷◌, length, get_or, refl, sym, ap, ◌∙◌, subst, arith, inl, inr, ◌⊎◌, Option, Some, None}
 use Rattle.std.specs.Prelude.{◌||◌, ◌&&◌, ◌==◌, ◌↔◌, nat_le, is_some, IsTrue, Contains, IfSome}
 use Rattle.std.specs.List.{All, AllPairs, filter, list_any, count_by, range_with_len}
 use Rattle.std.proofs.lemmas.Bool.{false≢true, cases_Bool, eqb-true, eqb-false, eq-eqb, le-leb, and_parts, and_from, or_cases, or_left, or_right, not-true}
-use Rattle.std.proofs.lemmas.List.Sums.{sum_by-le-sum_by}
 use Rattle.std.proofs.lemmas.List.Elements.{All-contains, Contains-get_or}
-use Rattle.graph_meaning.specs.Graphs.{memory_target, HasNoPins}
+use Rattle.graph_meaning.specs.Graphs.{memory_target}
 use Rattle.graph_meaning.specs.WellFormed.{IsLaunchGraph, next_class}
-use Rattle.schedule_meaning.specs.Launches.{launches, gives_word, is_store, is_load, is_branch, is_held, class_at}
+use Rattle.schedule_meaning.specs.Launches.{launches, is_store, is_load, is_branch, is_held, class_at}
 use Rattle.schedule_meaning.specs.Launches.{memory_class_at, memory_before}
-use Rattle.schedule_meaning.specs.Fits.{Collide, IsLatestStore, IsLeft}
-use Rattle.schedule_meaning.specs.Plain.{FitsWithoutPins}
+use Rattle.schedule_meaning.specs.Fits.{Collide, IsLatestStore, IsLeft, KeepsMemory, HasOneBranch}
+use Rattle.schedule_meaning.specs.Plain.{WaitsPlain}
 use Rattle.machine_table.specs.declared.tables.Table.{Table}
 use Rattle.graph_meaning.specs.declared.graphs.LaunchGraph.{LaunchGraph}
 use Rattle.graph_meaning.specs.declared.graphs.Guard.{Guard}
 use Rattle.schedule_meaning.specs.declared.schedules.Launch.{Launch}
 use Rattle.cycle_encoding.specs.Shapes.{when}
 use Rattle.cycle_encoding.specs.Variables.{classes_of}
-use Rattle.cycle_encoding.specs.CycleRules.{HasPlace, KeepsCycleRules}
-use Rattle.order_encoding.specs.OrderVariables.{memory_classes, is_memory_class, all_held, all_taken, Held, Taken}
-use Rattle.cycle_encoding.specs.Families.{any}
-use Rattle.order_encoding.specs.OrderFamilies.{is_held_at, stores_at, uses_memory, branches_by, waits, is_taken_at}
+use Rattle.cycle_encoding.specs.CycleRules.{HasPlace}
+use Rattle.order_encoding.specs.OrderVariables.{memory_classes, is_memory_class, all_held, Held}
+use Rattle.order_encoding.specs.OrderFamilies.{is_held_at, stores_at, uses_memory, branches_by, waits}
 use Rattle.cycle_encoding.proofs.Tests.{some_of, some_in, two_at}
-use Rattle.cycle_encoding.proofs.Counting.{count-one, count-none, count-by-places}
+use Rattle.cycle_encoding.proofs.Counting.{count-one, count-none}
 use Rattle.cycle_encoding.proofs.Members.{NoTwice, twice, filter-in, filter-out, filter-once, range-in, range-out, All-from_members, few-among}
-use Rattle.order_encoding.proofs.Says.{SaysMemory, SaysGuard, SaysRegisters}
+use Rattle.order_encoding.proofs.Says.{SaysMemory, SaysGuard}
 use Rattle.order_encoding.proofs.MemoryRows.{store-launch, read-launch, memory-sort, target-class}
-use Rattle.order_encoding.proofs.Listing.{held-in, held-out, held-once, taken-in, taken-once}
+use Rattle.order_encoding.proofs.Listing.{held-in, held-out, held-once}
 
 -- the launches of a list, each once and in its place
 pub record SameLaunches (table : Table) (k : ℕ) (ls S : List Launch) : Type 0 where
@@ -47,9 +44,15 @@ apart-once (l ∷ ls) h =
       apart-once ls (λ i j d lt len. h (suc i) (suc j) d (omega arith) (omega (arith, size))),
     )
 
--- what is shown of launches, and keeps the rules of cycles, slots and values, is each of them once
-pub shown-same : (g : LaunchGraph) (table : Table) (k : ℕ) (ls S : List Launch) → ((l : Launch) → Contains S l ↔ Contains ls l) → KeepsCycleRules g table k S → All (HasPlace table k) S → SameLaunches table k ls S
-shown-same g table k ls S members rules places = record { members = members; once = apart-once S rules.apart; places = places }
+-- what is shown of launches, of which no two collide, is each of them once
+pub shown-same : (table : Table) (k : ℕ) (ls S : List Launch) → ((l : Launch) → Contains S l ↔ Contains ls l) → AllPairs (λ l m. ¬ Collide l m) S → All (HasPlace table k) S → SameLaunches table k ls S
+shown-same table k ls S members apart places = record { members = members; once = apart-once S apart; places = places }
+
+-- launches keep memory and the branch in order
+pub record KeepsOrder (g : LaunchGraph) (ls : List Launch) : Type 0 where
+  pub memory : KeepsMemory g ls
+  pub one_branch : HasOneBranch g ls
+  pub after_branch : All (WaitsPlain g ls) ls
 
 -- ---- the things that a schedule makes true
 
@@ -63,12 +66,6 @@ module _ (g : LaunchGraph) (table : Table) (k : ℕ) (ls : List Launch) where
   abbrev pub come_now : ℕ → Bool
   come_now t = list_any (branches_by g t) ls
 
-  abbrev takes : Taken → Launch → Bool
-  takes u l = launches g gives_word l && is_taken_at l.slot l.cycle u
-
-  abbrev pub taken_now : Taken → Bool
-  taken_now u = list_any (takes u) ls
-
   abbrev pub held : List Held
   held = filter held_now (all_held g k)
 
@@ -78,23 +75,20 @@ module _ (g : LaunchGraph) (table : Table) (k : ℕ) (ls : List Launch) where
   abbrev pub come : List ℕ
   come = filter come_now (when (is_some g.guard) (range_with_len 0 k))
 
-  abbrev pub taken : List Taken
-  taken = filter taken_now (all_taken table k)
-
-  module _ (S : List Launch) (same : SameLaunches table k ls S) (is_graph : IsLaunchGraph g) (fit : FitsWithoutPins g table k ls) where
+  module _ (S : List Launch) (same : SameLaunches table k ls S) (is_graph : IsLaunchGraph g) (fit : KeepsOrder g ls) where
     -- ---- the same launches
 
-    launched-out : (l : Launch) → Contains S l → Contains ls l
+    pub launched-out : (l : Launch) → Contains S l → Contains ls l
     launched-out l h = (same.members l).0 h
 
-    launched-in : (l : Launch) → Contains ls l → Contains S l
+    pub launched-in : (l : Launch) → Contains ls l → Contains S l
     launched-in l h = (same.members l).1 h
 
-    place : (l : Launch) → Contains S l → HasPlace table k l
+    pub place : (l : Launch) → Contains S l → HasPlace table k l
     place l h = All-contains (HasPlace table k) S l same.places h
 
     -- a test that some launch passes
-    pass : (test : Launch → Bool) → list_any test ls ≡ true → list_any test S ≡ true
+    pub pass : (test : Launch → Bool) → list_any test ls ≡ true → list_any test S ≡ true
     pass test h = (let l = some_of test ls h in some_in test S l.0 (launched-in l.0 l.1) l.2)
 
     -- ---- stores
@@ -187,8 +181,8 @@ module _ (g : LaunchGraph) (table : Table) (k : ℕ) (ls : List Launch) where
                 or_right (list_any (λ c. c == t) stored) (list_any (is_held_at m.class (t + 1)) held) (held_one m.class (t + 1) (held-out g table k m f'.0).0 (omega arith) (left_on t m.class lt f now)))
           ]
 
-      pub memories : HasNoPins g → SaysMemory g table k S held stored
-      memories plain = record {
+      pub memories : SaysMemory g table k S held stored
+      memories = record {
         entry = held_one g.entry 0 (memory_in g.entry (memory-sort g g.entry is_graph.entry)) (omega arith) at_first;
         others = All-from_members (λ m. ((m.cycle == 0) && not (m.class == g.entry)) ≡ true → ⊥) held (λ m h t.
             let p = and_parts (m.cycle == 0) (not (m.class == g.entry)) t in
@@ -201,11 +195,11 @@ module _ (g : LaunchGraph) (table : Table) (k : ℕ) (ls : List Launch) where
             let from = launched-out l h in
             let early : l.cycle < k = (place l h).1 in
             let is : IsLeft g ls l.cycle (memory_class_at g l.row) = All-contains (λ l. IsTrue (launches g is_load l) ⊎ IsTrue (launches g is_store l) → IsLeft g ls l.cycle (memory_class_at g l.row)) ls l fit.memory.each from (elim (or_cases (launches g is_load l) (launches g is_store l) u) [ inl a ↦ inl a | inr b ↦ inr b ]) in
-            held_one (memory_class_at g l.row) l.cycle (memory_in (memory_class_at g l.row) (read-launch g plain is_graph l u)) (omega arith) is);
+            held_one (memory_class_at g l.row) l.cycle (memory_in (memory_class_at g l.row) (read-launch g is_graph l u)) (omega arith) is);
         leaves = All-from_members (λ l. launches g is_store l ≡ true → (list_any (is_held_at (class_at g l.row) (l.cycle + 1)) held ≡ true) × (list_any (λ t. t == l.cycle) stored ≡ true)) S (λ l h s.
             let from = launched-out l h in
             let early : l.cycle < k = (place l h).1 in (
-              held_one (class_at g l.row) (l.cycle + 1) (memory_in (class_at g l.row) (store-launch g plain l s)) (omega arith) (after_store l from s),
+              held_one (class_at g l.row) (l.cycle + 1) (memory_in (class_at g l.row) (store-launch g l s)) (omega arith) (after_store l from s),
               in_stored l.cycle early (some_in (stores_at g l.cycle) ls l from (and_from (launches g is_store l) (l.cycle == l.cycle) s (eq-eqb l.cycle l.cycle refl))),
             ));
         stored = All-from_members (λ t. All (λ c. (c == t) ≡ true → list_any (stores_at g t) S ≡ true) stored) (range_with_len 0 k) (λ t ht. All-from_members (λ c. (c == t) ≡ true → list_any (stores_at g t) S ≡ true) stored (λ c hc e.
@@ -236,7 +230,7 @@ module _ (g : LaunchGraph) (table : Table) (k : ℕ) (ls : List Launch) where
     guard_one None n h e = absurd (false≢true e)
     guard_one (Some x) n h e = h
 
-    a_branch : is_some g.guard ≡ true → list_any (launches g is_branch) ls ≡ true
+    pub a_branch : is_some g.guard ≡ true → list_any (launches g is_branch) ls ≡ true
     a_branch e =
         elim (cases_Bool (list_any (launches g is_branch) ls)) [
           | inl t ↦ t
@@ -253,7 +247,7 @@ module _ (g : LaunchGraph) (table : Table) (k : ℕ) (ls : List Launch) where
         let two = two_at (launches g is_branch) ls i j d lt len p q in
         absurd (omega arith))
 
-    when_is : (b : Bool) (xs : List ℕ) → b ≡ true → when b xs ≡ xs
+    pub when_is : (b : Bool) (xs : List ℕ) → b ≡ true → when b xs ≡ xs
     when_is true xs e = refl
     when_is false xs e = absurd (false≢true e)
 
@@ -271,41 +265,3 @@ module _ (g : LaunchGraph) (table : Table) (k : ℕ) (ls : List Launch) where
           (eq-eqb l.cycle l.cycle refl));
       come = λ e. All-from_members (λ t. list_any (branches_by g t) S ≡ true) come (λ t h. pass (branches_by g t) (filter-out come_now (when (is_some g.guard) (range_with_len 0 k)) t h).1);
     }
-
-    -- ---- registers
-
-    pub registers : SaysRegisters g table k S taken
-    registers =
-        All-from_members (λ l. launches g gives_word l ≡ true → list_any (is_taken_at l.slot l.cycle) taken ≡ true) S (λ l h w.
-        let ok = place l h in
-        let at : is_taken_at l.slot l.cycle (record { slot = l.slot; cycle = l.cycle }) ≡ true = and_from (l.slot == l.slot) (l.cycle == l.cycle) (eq-eqb l.slot l.slot refl) (eq-eqb l.cycle l.cycle refl) in
-        some_in (is_taken_at l.slot l.cycle) taken (record { slot = l.slot; cycle = l.cycle })
-        (filter-in taken_now (all_taken table k) (record { slot = l.slot; cycle = l.cycle }) (taken-in g table k l.slot l.cycle ok.0 ok.1)
-        (some_in (takes (record { slot = l.slot; cycle = l.cycle })) ls l (launched-out l h) (and_from (launches g gives_word l) (is_taken_at l.slot l.cycle (record { slot = l.slot; cycle = l.cycle })) w at))) at)
-
-    by_launch : (l : Launch) → count_by (λ u. any u && takes u l) taken ≤ cond {A = ℕ} (launches g gives_word l) 1 0
-    by_launch l =
-        elim (cases_Bool (launches g gives_word l)) [
-          | inl w ↦
-              (let z : cond {A = ℕ} (launches g gives_word l) 1 0 ≡ 1 = ap (λ b. cond {A = ℕ} b 1 0) w in
-              let few = count-one (λ u. any u && takes u l) taken (λ i j d lt len p q.
-              let a = get_or taken i d in
-              let b = get_or taken j d in
-              let pa = and_parts (a.slot == l.slot) (a.cycle == l.cycle) (and_parts (launches g gives_word l) (is_taken_at l.slot l.cycle a) p).1 in
-              let pb = and_parts (b.slot == l.slot) (b.cycle == l.cycle) (and_parts (launches g gives_word l) (is_taken_at l.slot l.cycle b) q).1 in
-              let es : a.slot ≡ b.slot = eqb-true a.slot l.slot pa.0 ∙ sym (eqb-true b.slot l.slot pb.0) in
-              let ec : a.cycle ≡ b.cycle = eqb-true a.cycle l.cycle pa.1 ∙ sym (eqb-true b.cycle l.cycle pb.1) in
-              let ab : a ≡ b = (let x : a ≡ record { slot = b.slot; cycle = a.cycle } = ap (λ s. record { slot = s; cycle = a.cycle }) es in let y : record { slot = b.slot; cycle = a.cycle } ≡ b = ap (λ t. record { slot = b.slot; cycle = t }) ec in x ∙ y) in
-              twice taken (filter-once taken_now (all_taken table k) (taken-once g table k)) i j d lt len ab) in
-              omega arith)
-          | inr f ↦
-              (let z = count-none (λ u. any u && takes u l) taken (λ i d lt p. false≢true (sym f ∙ (and_parts (launches g gives_word l) (is_taken_at l.slot l.cycle (get_or taken i d)) p).0)) in
-              omega arith)
-        ]
-
-    pub pool-few : count_by any taken ≤ length g.pool
-    pool-few =
-        let a = count-by-places any (λ (l : Launch) (u : Taken). takes u l) ls taken (All-from_members (λ u. any u ≡ true → list_any (λ l. takes u l) ls ≡ true) taken (λ u h e. (filter-out taken_now (all_taken table k) u h).1)) in
-        let b = sum_by-le-sum_by (λ l. count_by (λ u. any u && takes u l) taken) (λ l. cond {A = ℕ} (launches g gives_word l) 1 0) ls by_launch in
-        let c : count_by (launches g gives_word) ls ≤ length g.pool = fit.pool in
-        omega arith

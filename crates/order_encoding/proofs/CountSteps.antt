@@ -1,10 +1,9 @@
--- Counts of memory, of a guard's branch and of registers, row by row.
+-- What a row adds to the counts of memory, and the classes of memories.
 use Rattle.std.proofs.Common.{◌≡◌, ℕ, ◌+◌, ◌-◌, ◌*◌, Bool, true, false, not, cond, List, ◌∷◌, [], length, Option, Some, None, refl, sym, ap, ◌∙◌, arith}
 use Rattle.std.specs.Prelude.{◌&&◌, ◌||◌, ◌==◌, nat_le, nat_lt, option_map, option_and_then}
 use Rattle.std.specs.Option.{option_map_or}
-use Rattle.std.specs.List.{count_by, sum_by, filter, list_any, range_with_len}
+use Rattle.std.specs.List.{count_by, filter, list_any, range_with_len}
 use Rattle.std.proofs.lemmas.List.Sums.{sum_by-cons, length-filter}
-use Rattle.cnf_core.specs.Counter.{at_most_vars, at_most_size}
 use Rattle.machine_table.specs.Tables.{use_of, latency_of}
 use Rattle.machine_table.specs.declared.tables.Table.{Table}
 use Rattle.machine_table.specs.declared.tables.Use.{Use}
@@ -14,11 +13,11 @@ use Rattle.graph_meaning.specs.declared.graphs.LaunchGraph.{LaunchGraph}
 use Rattle.schedule_meaning.specs.Launches.{instr_at, is_store, is_load}
 use Rattle.cycle_encoding.specs.Variables.{slots_of}
 use Rattle.cycle_encoding.specs.Facts.{may_use}
-use Rattle.cycle_encoding.specs.Counts.{can_begin, one_if, row_is, row_use, row_count, sum_launches}
+use Rattle.cycle_encoding.specs.Counts.{can_begin, one_if, row_is, row_use, row_count}
 use Rattle.cycle_encoding.specs.CycleFormula.{Scope, first_cycle_in}
 pub use Rattle.cycle_encoding.proofs.Tallies.{sum_more, count_more}
 use Rattle.order_encoding.specs.OrderVariables.{is_memory_class, memory_classes}
-use Rattle.order_encoding.specs.OrderCounts.{row_stores, row_uses, held_count, memory_vars, memory_size, store_count}
+use Rattle.order_encoding.specs.OrderCounts.{row_stores, row_uses}
 
 -- the stores of a row in a cycle
 module _ (g : LaunchGraph) (table : Table) (k : ℕ) (s : Scope) (cycle row : ℕ) where
@@ -126,17 +125,3 @@ count_kept a b (x ∷ xs) =
 
 pub others_are : (g : LaunchGraph) → count_by (λ c. not (c == g.entry)) (memory_classes g) ≡ count_by (λ c. is_memory_class g c && not (c == g.entry)) (range_with_len 0 (next_class g.rows))
 others_are g = count_kept (is_memory_class g) (λ c. not (c == g.entry)) (range_with_len 0 (next_class g.rows))
-
--- the counts of memory
-module _ (g : LaunchGraph) (table : Table) (k : ℕ) (sc : Scope) where
-  pub memory_vars_are : (h s : ℕ) → h ≡ held_count g table k sc → s ≡ sum_by (λ t. at_most_vars 1 (store_count g table k sc t)) (range_with_len 0 k) → h * (k + 1) + k + ((k + 1) * at_most_vars 1 h + s) ≡ memory_vars g table k sc
-  memory_vars_are h s eh es =
-      ap (λ m. m * (k + 1) + k + ((k + 1) * at_most_vars 1 m + s)) eh
-      ∙ ap (λ m. held_count g table k sc * (k + 1) + k + ((k + 1) * at_most_vars 1 (held_count g table k sc) + m)) es
-
-  pub memory_size_is : (h o u s : ℕ) → h ≡ held_count g table k sc → o ≡ count_by (λ c. not (c == g.entry)) (memory_classes g) → u ≡ sum_launches g table k sc (row_uses g) → s ≡ sum_by (λ t. at_most_size 1 (store_count g table k sc t)) (range_with_len 0 k) → (1 + o) + u + k * (1 + h) + ((k + 1) * at_most_size 1 h + s) + 1 ≡ memory_size g table k sc
-  memory_size_is h o u s eh eo eu es =
-      ap (λ m. (1 + m) + u + k * (1 + h) + ((k + 1) * at_most_size 1 h + s) + 1) eo
-      ∙ ap (λ m. (1 + count_by (λ c. not (c == g.entry)) (memory_classes g)) + m + k * (1 + h) + ((k + 1) * at_most_size 1 h + s) + 1) eu
-      ∙ ap (λ m. (1 + count_by (λ c. not (c == g.entry)) (memory_classes g)) + sum_launches g table k sc (row_uses g) + k * (1 + m) + ((k + 1) * at_most_size 1 m + s) + 1) eh
-      ∙ ap (λ m. (1 + count_by (λ c. not (c == g.entry)) (memory_classes g)) + sum_launches g table k sc (row_uses g) + k * (1 + held_count g table k sc) + ((k + 1) * at_most_size 1 (held_count g table k sc) + m) + 1) es

@@ -1,4 +1,5 @@
--- The formulas that come of the steps of memory, of a guard's branch and of registers, and the room that each step takes.
+-- The formulas that come of the steps of memory, of a guard's branch, of registers and of pins, and the room that each step
+-- takes.
 use Rattle.std.proofs.Common.{◌≡◌, ℕ, ◌+◌, ◌<◌, ◌≤◌, ◌^◌, Bool, true, false, not, List, ◌∷◌, ◌++◌, [], length, refl, sym, ap, ◌∙◌, arith, length-append, append_assoc}
 use Rattle.std.specs.Prelude.{is_some}
 use Rattle.cnf_core.specs.declared.literal.Lit.{Lit}
@@ -14,10 +15,11 @@ use Rattle.graph_meaning.specs.declared.graphs.LaunchGraph.{LaunchGraph}
 use Rattle.schedule_meaning.specs.Launches.{launches, is_branch}
 use Rattle.schedule_meaning.specs.declared.schedules.Launch.{Launch}
 use Rattle.order_encoding.specs.OrderVariables.{Held, all_held, all_taken}
-use Rattle.order_encoding.specs.OrderFamilies.{branches_by, register_clauses, entry_clauses, memory_clauses, kept_clauses, held_groups, store_groups, last_clauses, comes_after}
-use Rattle.order_encoding.specs.WholeFormula.{with_memory, formula_with_guard, formula_with_pool}
+use Rattle.order_encoding.specs.OrderFamilies.{branches_by, entry_clauses, memory_clauses, kept_clauses, held_groups, store_groups, last_clauses, comes_after}
+use Rattle.order_encoding.specs.WholeFormula.{with_memory, formula_with_guard, formula_with_registers}
 use Rattle.cycle_encoding.specs.Shapes.{numbered, vars_of, implied, when, counters, counters_vars, counters_size}
 use Rattle.cycle_encoding.specs.Steps.{with_clauses, with_counters}
+use Rattle.order_encoding.specs.PinFamilies.{pool_clauses}
 use Rattle.cycle_encoding.proofs.Adding.{added}
 use Rattle.cycle_encoding.proofs.Rows.{formula, counted, one_counter, both-counters, counters-size, size-append, vars-append}
 
@@ -305,12 +307,80 @@ module _ (g : LaunchGraph) (k : ℕ) (xs : List (ℕ × Launch)) (f : Formula) (
   abbrev pub with_registers : ℕ → ℕ → Formula
   with_registers first n = record {
     vars = n + counters_vars (length g.pool) (vars_of any (numbered first (all_taken table k)) ∷ []);
-    clauses = f.clauses ++ (register_clauses g xs (numbered first (all_taken table k))
+    clauses = f.clauses ++ (pool_clauses g xs (numbered first (all_taken table k))
         ++ counters n (length g.pool) (vars_of any (numbered first (all_taken table k)) ∷ []));
   }
 
-  pub pool-by-numbers : (first n : ℕ) → first ≡ f.vars → n ≡ f.vars + length (all_taken table k) → with_registers first n ≡ formula_with_pool g k xs f table
+  pub pool-by-numbers : (first n : ℕ) → first ≡ f.vars → n ≡ f.vars + length (all_taken table k) → with_registers first n ≡ formula_with_registers g k xs f table
   pool-by-numbers first n ef en = ap (λ x. with_registers x n) ef ∙ ap (with_registers f.vars) en
 
 pub has_guard : (g h : LaunchGraph) (none : Bool) → h ≡ g → is_some h.guard ≡ not none → none ≡ false → is_some g.guard ≡ true
 has_guard g h none e s n = ap (λ (x : LaunchGraph). is_some x.guard) (sym e) ∙ s ∙ ap not n
+
+pub no_guard : (g h : LaunchGraph) (none : Bool) → h ≡ g → is_some h.guard ≡ not none → none ≡ true → is_some g.guard ≡ false
+no_guard g h none e s n = ap (λ (x : LaunchGraph). is_some x.guard) (sym e) ∙ s ∙ ap not n
+
+-- pins: two families, counters between them, and a last family
+module _ (O P T G : List (List Lit)) (f f1 f2 f3 : Formula) where
+  abbrev pub pins-all : List (List Lit)
+  pins-all = O ++ counters f.vars 1 G ++ P ++ T
+
+  module _ (size : (old p : ℕ) (lits : List Lit) → length (at_most_clauses old p lits) ≡ at_most_size p (length lits)) (few : length (f.clauses ++ pins-all) ≤ 2000000) where
+    pins-total : length f.clauses + length O + counters_size 1 G + length P + length T ≤ 2000000
+    pins-total =
+        let a = length-append f.clauses pins-all in
+        let b = length-append (O ++ counters f.vars 1 G ++ P) T in
+        let c = length-append (O ++ counters f.vars 1 G) P in
+        let d = length-append O (counters f.vars 1 G) in
+        let s = counters-size 1 size f.vars G in
+        omega arith
+
+    pub pins-room1 : length f.clauses + length O < 2 ^ 30
+    pins-room1 = (let a = pins-total in omega arith)
+
+    module _ (e1 : f1 ≡ with_clauses f O) where
+      pins-size1 : length f1.clauses ≡ length f.clauses + length O
+      pins-size1 = ap (λ (f : Formula). length f.clauses) e1 ∙ length-append f.clauses O
+
+      pub pins-room2 : length f1.clauses + counters_size 1 G < 2 ^ 30
+      pins-room2 = (let a = pins-total in let b = pins-size1 in omega arith)
+
+      module _ (e2 : f2 ≡ with_counters f1 G) where
+        pins-size2 : length f2.clauses ≡ length f.clauses + length O + counters_size 1 G
+        pins-size2 =
+            let a = ap (λ (f : Formula). length f.clauses) e2 ∙ length-append f1.clauses (counters f1.vars 1 G) in
+            let b = pins-size1 in
+            let c = counters-size 1 size f1.vars G in
+            omega arith
+
+        pub pins-room3 : length f2.clauses + length P < 2 ^ 30
+        pins-room3 = (let a = pins-total in let b = pins-size2 in omega arith)
+
+        pub pins-room4 : f3 ≡ with_clauses f2 P → length f3.clauses + length T < 2 ^ 30
+        pins-room4 e3 =
+            let a = pins-total in
+            let b = pins-size2 in
+            let c = ap (λ (f : Formula). length f.clauses) e3 ∙ length-append f2.clauses P in
+            omega arith
+
+  module _ (e1 : f1 ≡ with_clauses f O) where
+    pub pins-vars1 : f1.vars ≡ f.vars
+    pins-vars1 = ap (λ (f : Formula). f.vars) e1
+
+    module _ (e2 : f2 ≡ with_counters f1 G) where
+      pub pins-vars2 : f2.vars ≡ f.vars + counters_vars 1 G
+      pins-vars2 = ap (λ (f : Formula). f.vars) e2 ∙ ap (λ n. n + counters_vars 1 G) pins-vars1
+
+      module _ (e3 : f3 ≡ with_clauses f2 P) where
+        pub pins-vars3 : f3.vars ≡ f.vars + counters_vars 1 G
+        pins-vars3 = ap (λ (f : Formula). f.vars) e3 ∙ pins-vars2
+
+        pub pins-end : (let end : Formula = record { vars = f.vars + counters_vars 1 G; clauses = f.clauses ++ pins-all } in with_clauses f3 T ≡ end)
+        pins-end =
+            ap (λ (h : Formula). with_clauses h T) e3
+            ∙ ap (λ (h : Formula). with_clauses (with_clauses h P) T) e2
+            ∙ ap (λ (h : Formula). with_clauses (with_clauses (with_counters h G) P) T) e1
+            ∙ formula (f.vars + counters_vars 1 G) (f.vars + counters_vars 1 G) ((((f.clauses ++ O) ++ counters f.vars 1 G) ++ P) ++ T) (f.clauses ++ pins-all) refl
+            (ap (λ (cs : List (List Lit)). (cs ++ P) ++ T) (append_assoc f.clauses O (counters f.vars 1 G))
+            ∙ ap (λ (cs : List (List Lit)). cs ++ T) (append_assoc f.clauses (O ++ counters f.vars 1 G) P)
+            ∙ append_assoc f.clauses (O ++ counters f.vars 1 G ++ P) T)

@@ -10,10 +10,13 @@ use Rattle.cnf_core.specs.declared.literal.Lit.{Lit}
 use Rattle.cycle_encoding.specs.Shapes.{numbered, positive, negative, vars_of, implied}
 use Rattle.cycle_encoding.specs.Steps.{of_thing}
 use Rattle.cycle_encoding.proofs.Tables.{table_more}
-use Rattle.cycle_encoding.proofs.FamilySteps.{length-of}
+use Rattle.cycle_encoding.proofs.Launched.{size-map}
 use Rattle.cycle_encoding.proofs.Rows.{range_more}
 use Rattle.cycle_encoding.proofs.Walk.{numbered-append, vars-append}
 use Rattle.cycle_encoding.proofs.Places.{no-item, at-item}
+
+pub length-of : (var : ℕ) (cs : List (List Lit)) → length (of_thing var cs) ≡ length cs
+length-of var cs = size-map (λ (c : List Lit). negative var ∷ c) cs
 
 -- clauses that things imply, of which those of one number alone may have any
 module _ {X : Type 0} (F : X → List (List Lit)) where

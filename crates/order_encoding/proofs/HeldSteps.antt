@@ -12,11 +12,10 @@ use Rattle.schedule_meaning.specs.declared.schedules.Launch.{Launch}
 use Rattle.cycle_encoding.specs.Shapes.{numbered, positive, negative, vars_of, implied, when}
 use Rattle.cycle_encoding.specs.Steps.{of_thing, with_clauses}
 use Rattle.cycle_encoding.proofs.Adding.{added, size-with}
-use Rattle.cycle_encoding.proofs.FamilySteps.{length-of}
 use Rattle.order_encoding.specs.OrderVariables.{Held, all_held}
 use Rattle.order_encoding.specs.OrderFamilies.{is_held_at, stores_at, not_at_entry, stored, stays}
 use Rattle.order_encoding.specs.OrderSteps.{AreHeldVars, held_at, class_held, classes_held}
-use Rattle.order_encoding.proofs.Grid.{cycle_is, cycle_clause, implied-append}
+use Rattle.order_encoding.proofs.Grid.{length-of, cycle_is, cycle_clause, implied-append}
 use Rattle.order_encoding.proofs.HeldPlaces.{held-classes, place-more, cycle-vars, cycle-clauses}
 
 -- a part of the classes holds no more than all of them

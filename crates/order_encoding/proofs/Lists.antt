@@ -2,9 +2,10 @@
 use Rattle.std.proofs.Common.{◌≡◌, ◌≤◌, ℕ, sym, subst}
 use Rattle.graph_meaning.specs.declared.graphs.LaunchGraph.{LaunchGraph}
 use Rattle.machine_table.specs.declared.tables.Table.{Table}
-use Rattle.cycle_encoding.specs.CycleFormula.{Listed, Scope, listed_in}
+use Rattle.cycle_encoding.specs.CycleFormula.{Listed, Scope}
 use Rattle.cycle_encoding.specs.Encodings.{AreListed, IsScope}
 use Rattle.cycle_encoding.specs.declared.encodings.Encoding.{Encoding}
+use Rattle.cycle_encoding.specs.CycleFormula.{listed_in}
 
 -- an encoding gives a graph and a table one list in so many cycles
 abbrev pub OneList : Type 0

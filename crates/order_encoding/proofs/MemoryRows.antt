@@ -9,7 +9,7 @@ use Rattle.word_ops.specs.Meanings.{sort_of, operand_sort, takes_memory, arity_o
 use Rattle.word_ops.specs.declared.sorts.Op.{Op}
 use Rattle.word_ops.specs.declared.sorts.Op.TheVariants.{Select, Store, Load, Put}
 use Rattle.word_ops.specs.declared.sorts.Sort.TheVariants as sort
-use Rattle.graph_meaning.specs.Graphs.{memory_target, is_memory_name, HasNoPins}
+use Rattle.graph_meaning.specs.Graphs.{memory_target, is_memory_name}
 use Rattle.graph_meaning.specs.WellFormed.{ClassHasSort, IsLaunchGraph, next_class}
 use Rattle.schedule_meaning.specs.Launches.{launches, is_store, class_at, memory_class_at}
 use Rattle.graph_meaning.specs.declared.graphs.LaunchGraph.{LaunchGraph}
@@ -21,7 +21,8 @@ use Rattle.order_encoding.specs.OrderVariables.{is_memory_class}
 use Rattle.order_encoding.specs.OrderFamilies.{uses_memory}
 use Rattle.cycle_encoding.proofs.Tests.{some_in}
 use Rattle.cycle_encoding.proofs.Members.{find-out}
-use Rattle.cycle_encoding.proofs.RowFacts.{got, class-below, at_row, store-sort, memory-taken}
+use Rattle.cycle_encoding.proofs.RowFacts.{got, class-below, at_row}
+use Rattle.cycle_encoding.proofs.PinnedRows.{store-sort, memory-taken}
 
 module _ (g : LaunchGraph) where
   memory_class : (r : LaunchRow) → Contains g.rows r → sort_of r.op ≡ sort.Memory → (is_memory_class g r.class ≡ true) × (r.class < next_class g.rows)
@@ -33,9 +34,9 @@ module _ (g : LaunchGraph) where
   pub memory-sort : (c : ℕ) → ClassHasSort g sort.Memory c → (is_memory_class g c ≡ true) × (c < next_class g.rows)
   memory-sort c (k, r, lt, e, h) = subst (λ c. (is_memory_class g c ≡ true) × (c < next_class g.rows)) h.0 (memory_class r (k, lt, e) h.1)
 
-  pub store-launch : HasNoPins g → (l : Launch) → launches g is_store l ≡ true → (is_memory_class g (class_at g l.row) ≡ true) × (class_at g l.row < next_class g.rows)
-  store-launch plain l h =
-      let r = store-sort g plain l h in
+  pub store-launch : (l : Launch) → launches g is_store l ≡ true → (is_memory_class g (class_at g l.row) ≡ true) × (class_at g l.row < next_class g.rows)
+  store-launch l h =
+      let r = store-sort g l h in
       subst (λ c. (is_memory_class g c ≡ true) × (c < next_class g.rows)) (sym (at_row g l.row r.0 r.1)) (memory_class r.0 (got g.rows l.row r.0 r.1) r.2)
 
   takes_some : (op : Op) → takes_memory op ≡ true → 0 < arity_of_op op
@@ -46,9 +47,9 @@ module _ (g : LaunchGraph) where
   takes_some op h = absurd (false≢true h)
 
   -- what a load or store reads is a memory class
-  pub read-launch : HasNoPins g → IsLaunchGraph g → (l : Launch) → uses_memory g l ≡ true → (is_memory_class g (memory_class_at g l.row) ≡ true) × (memory_class_at g l.row < next_class g.rows)
-  read-launch plain well l h =
-      let r = memory-taken g plain l h in
+  pub read-launch : IsLaunchGraph g → (l : Launch) → uses_memory g l ≡ true → (is_memory_class g (memory_class_at g l.row) ≡ true) × (memory_class_at g l.row < next_class g.rows)
+  read-launch well l h =
+      let r = memory-taken g l h in
       let row = got g.rows l.row r.0 r.1 in
       let takes = r.2 in
       let size : length r.0.operands ≡ arity_of_op r.0.op = All-contains (λ r. length r.operands ≡ arity_of_op r.op) g.rows r.0 well.arities row in

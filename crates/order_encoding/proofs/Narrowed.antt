@@ -1,45 +1,31 @@
--- A schedule that fits without pins does so without launches that are no stores and no branch, where the others keep
--- the rules of cycles, slots and values.
+-- Launches that keep memory and the branch in order do so without launches that are no stores and no branch.
 use Rattle.std.proofs.Common.{◌≡◌, ℕ, ◌<◌, ◌≤◌, Bool, true, List, get_or, refl, sym, ap, ◌∙◌, arith, inl, inr, ◌⊎◌, Option, Some, None}
 use Rattle.std.specs.Prelude.{◌==◌, IsTrue, Contains, IfSome}
 use Rattle.std.specs.List.{All, AllPairs, filter, list_any, count_by}
 use Rattle.std.proofs.lemmas.Bool.{false≢true, cases_Bool, eqb-true, eq-eqb, and_parts, and_from}
 use Rattle.std.proofs.lemmas.List.Elements.{All-filter, All-contains, All-weaker, Contains-get_or}
 use Rattle.graph_meaning.specs.Graphs.{memory_target}
-use Rattle.schedule_meaning.specs.Launches.{launches, is_store, is_branch, gives_word, memory_class_at}
+use Rattle.schedule_meaning.specs.Launches.{launches, is_store, is_branch, memory_class_at}
 use Rattle.schedule_meaning.specs.Fits.{IsLeft, UsesMemory}
-use Rattle.schedule_meaning.specs.Plain.{WaitsPlain, FitsWithoutPins}
+use Rattle.schedule_meaning.specs.Plain.{WaitsPlain}
 use Rattle.machine_table.specs.declared.tables.Table.{Table}
 use Rattle.graph_meaning.specs.declared.graphs.LaunchGraph.{LaunchGraph}
 use Rattle.graph_meaning.specs.declared.graphs.Guard.{Guard}
-use Rattle.schedule_meaning.specs.declared.schedules.To.TheVariants.{Pool}
 use Rattle.schedule_meaning.specs.declared.schedules.Launch.{Launch}
-use Rattle.cycle_encoding.specs.CycleRules.{KeepsCycleRules}
 use Rattle.order_encoding.specs.OrderFamilies.{stores_at}
 use Rattle.cycle_encoding.proofs.Tests.{two_at, one_at, some_of, some_in}
 use Rattle.cycle_encoding.proofs.Counting.{count-one, count-none}
 use Rattle.cycle_encoding.proofs.Members.{filter-in, filter-out, All-from_members}
 use Rattle.cycle_encoding.proofs.MadeLists.{count_less}
+use Rattle.order_encoding.proofs.Complete.{KeepsOrder}
 
--- a schedule to the pool that fits without pins keeps the rules of cycles, slots and values
-pub rules_of : (g : LaunchGraph) (table : Table) (k : ℕ) (ls : List Launch) → FitsWithoutPins g table k ls → All (λ l. l.to ≡ Pool) ls → KeepsCycleRules g table k ls
-rules_of g table k ls fit pools = record {
-  rows = fit.rows;
-  to_pool = pools;
-  apart = fit.apart;
-  operands = fit.operands;
-  in_time = fit.in_time;
-  targets = fit.targets;
-}
-
-module _ (g : LaunchGraph) (table : Table) (k : ℕ) (ls : List Launch) (fit : FitsWithoutPins g table k ls) (below : All (λ l. l.cycle < k) ls) (keep : Launch → Bool)
-    (order : (l : Launch) → Contains ls l → IsTrue (launches g is_store l) ⊎ IsTrue (launches g is_branch l) → IsTrue (keep l))
-    (rules : KeepsCycleRules g table k (filter keep ls)) where
+module _ (g : LaunchGraph) (table : Table) (k : ℕ) (ls : List Launch) (fit : KeepsOrder g ls) (below : All (λ l. l.cycle < k) ls) (keep : Launch → Bool)
+    (stay : (l : Launch) → Contains ls l → IsTrue (launches g is_store l) ⊎ IsTrue (launches g is_branch l) → IsTrue (keep l)) where
   abbrev kept : List Launch
   kept = filter keep ls
 
   into : (l : Launch) → Contains ls l → IsTrue (launches g is_store l) ⊎ IsTrue (launches g is_branch l) → Contains kept l
-  into l h w = filter-in keep ls l h (order l h w)
+  into l h w = filter-in keep ls l h (stay l h w)
 
   back : (l : Launch) → Contains kept l → Contains ls l
   back l h = (filter-out keep ls l h).0
@@ -95,13 +81,8 @@ module _ (g : LaunchGraph) (table : Table) (k : ℕ) (ls : List Launch) (fit : F
       let least = one_at (launches g is_branch) kept at.0 b.0 at.1 (ap (launches g is_branch) is ∙ b.2) in
       omega arith
 
-  pub fits_kept : FitsWithoutPins g table k kept
-  fits_kept = record {
-    rows = rules.rows;
-    apart = rules.apart;
-    operands = rules.operands;
-    in_time = rules.in_time;
-    targets = rules.targets;
+  pub order_kept : KeepsOrder g kept
+  order_kept = record {
     memory = record {
       each = All-filter keep (λ l. UsesMemory g l → IsLeft g kept l.cycle (memory_class_at g l.row)) ls (All-weaker (λ l. UsesMemory g l → IsLeft g ls l.cycle (memory_class_at g l.row)) (λ l. UsesMemory g l → IsLeft g kept l.cycle (memory_class_at g l.row)) (λ l h u. left_kept l.cycle (memory_class_at g l.row) (h u)) ls fit.memory.each);
       single = single_kept;
@@ -109,5 +90,4 @@ module _ (g : LaunchGraph) (table : Table) (k : ℕ) (ls : List Launch) (fit : F
     };
     one_branch = one_in g.guard (count_by (launches g is_branch) ls) (count_by (launches g is_branch) kept) branch_kept fit.one_branch;
     after_branch = All-filter keep (WaitsPlain g kept) ls (All-weaker (WaitsPlain g ls) (WaitsPlain g kept) (λ l h w. All-filter keep (λ b. IsTrue (launches g is_branch b) → b.cycle ≤ l.cycle) ls (h w)) ls fit.after_branch);
-    pool = (let less = count_less keep (launches g gives_word) ls in let few = fit.pool in omega arith);
   }

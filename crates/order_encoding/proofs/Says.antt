@@ -1,4 +1,4 @@
--- What the families of memory, guards and registers say of the launches and the other things whose variables are true.
+-- What the families of memory and of a guard's branch say of the launches and the other things whose variables are true.
 use Rattle.std.proofs.Common.{◌≡◌, ℕ, ◌+◌, Bool, true, false, not, List, [], ◌∷◌, ◌++◌, get_or, sym, ap, ◌∙◌}
 use Rattle.std.specs.Prelude.{◌||◌, ◌&&◌, ◌==◌, is_some}
 use Rattle.std.specs.List.{All, list_any, range_with_len}
@@ -7,13 +7,13 @@ use Rattle.std.proofs.lemmas.List.Folds.{list_any-append}
 use Rattle.cnf_core.specs.declared.literal.Lit.{Lit}
 use Rattle.cnf_core.specs.Formula.{lit_true, clause_true, Satisfies}
 use Rattle.graph_meaning.specs.Graphs.{memory_target}
-use Rattle.schedule_meaning.specs.Launches.{launches, gives_word, is_store, is_branch, class_at, memory_class_at}
+use Rattle.schedule_meaning.specs.Launches.{launches, is_store, is_branch, class_at, memory_class_at}
 use Rattle.machine_table.specs.declared.tables.Table.{Table}
 use Rattle.graph_meaning.specs.declared.graphs.LaunchGraph.{LaunchGraph}
 use Rattle.schedule_meaning.specs.declared.schedules.Launch.{Launch}
 use Rattle.cycle_encoding.specs.Shapes.{vars_of, shown, implied, when}
-use Rattle.order_encoding.specs.OrderVariables.{Held, Taken}
-use Rattle.order_encoding.specs.OrderFamilies.{is_held_at, stores_at, uses_memory, branches_by, waits, is_taken_at, entry_clauses, memory_clauses, kept_clauses, last_clauses, branch_clauses, wait_clauses, come_clauses, register_clauses}
+use Rattle.order_encoding.specs.OrderVariables.{Held}
+use Rattle.order_encoding.specs.OrderFamilies.{is_held_at, stores_at, uses_memory, branches_by, waits, entry_clauses, memory_clauses, kept_clauses, last_clauses, branch_clauses, wait_clauses, come_clauses}
 use Rattle.cycle_encoding.proofs.Shown.{both, left, right, first, rest, one, when-out, when-in, any_of, implied-out, implied-in, flat-out, flat-in}
 use Rattle.cycle_encoding.proofs.ShownTests.{some-out, some-in}
 
@@ -33,9 +33,6 @@ module _ (g : LaunchGraph) (table : Table) (k : ℕ) where
     pub branch : is_some g.guard ≡ true → list_any (launches g is_branch) S ≡ true
     pub wait : is_some g.guard ≡ true → All (λ l. waits g l ≡ true → list_any (λ t. t == l.cycle) B ≡ true) S
     pub come : is_some g.guard ≡ true → All (λ t. list_any (branches_by g t) S ≡ true) B
-
-  abbrev pub SaysRegisters : List Launch → List Taken → Type 0
-  SaysRegisters S U = All (λ l. launches g gives_word l ≡ true → list_any (is_taken_at l.slot l.cycle) U ≡ true) S
 
 empty_clause : (v : ℕ → Bool) → Satisfies v ([] ∷ []) → ⊥
 empty_clause v h = (let f : false ≡ true = first v [] [] h in cc)
@@ -165,14 +162,3 @@ module _ (g : LaunchGraph) (table : Table) (k : ℕ) (v : ℕ → Bool) (xs : Li
 
     pub come-in : (is_some g.guard ≡ true → All (λ t. list_any (branches_by g t) (shown v xs) ≡ true) (shown v bs)) → Satisfies v (come_clauses g xs bs)
     come-in h = when-in v (is_some g.guard) (implied bs (λ t. vars_of (branches_by g t) xs ∷ [])) (λ e. implied-in v (λ t. vars_of (branches_by g t) xs ∷ []) bs (All-weaker (λ t. list_any (branches_by g t) (shown v xs) ≡ true) (λ t. Satisfies v (vars_of (branches_by g t) xs ∷ [])) (λ t p. one v (vars_of (branches_by g t) xs) (some-in v (branches_by g t) xs p)) (shown v bs) (h e)))
-
-  -- registers
-  module _ (us : List (ℕ × Taken)) where
-    abbrev taken : Launch → List (List Lit)
-    taken l = when (launches g gives_word l) (vars_of (is_taken_at l.slot l.cycle) us ∷ [])
-
-    pub registers-out : Satisfies v (register_clauses g xs us) → SaysRegisters g table k (shown v xs) (shown v us)
-    registers-out h = All-weaker (λ l. Satisfies v (taken l)) (λ l. launches g gives_word l ≡ true → list_any (is_taken_at l.slot l.cycle) (shown v us) ≡ true) (λ l p w. some-out v (is_taken_at l.slot l.cycle) us (first v (vars_of (is_taken_at l.slot l.cycle) us) [] (when-out v (launches g gives_word l) (vars_of (is_taken_at l.slot l.cycle) us ∷ []) p w))) (shown v xs) (implied-out v taken xs h)
-
-    pub registers-in : SaysRegisters g table k (shown v xs) (shown v us) → Satisfies v (register_clauses g xs us)
-    registers-in h = implied-in v taken xs (All-weaker (λ l. launches g gives_word l ≡ true → list_any (is_taken_at l.slot l.cycle) (shown v us) ≡ true) (λ l. Satisfies v (taken l)) (λ l p. when-in v (launches g gives_word l) (vars_of (is_taken_at l.slot l.cycle) us ∷ []) (λ w. one v (vars_of (is_taken_at l.slot l.cycle) us) (some-in v (is_taken_at l.slot l.cycle) us (p w)))) (shown v xs) h)

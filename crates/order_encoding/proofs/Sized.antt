@@ -1,31 +1,41 @@
--- The counts of memory, guard and registers, and of the whole.
+-- The counts of memory, guard, registers and pins, and of the whole, where sets may have pins.
 use Rattle.std.proofs.Common.{◌≡◌, ℕ, suc, ◌+◌, ◌*◌, ◌<◌, Bool, true, false, not, cond, List, [], ◌∷◌, ◌++◌, length, map, refl, sym, ap, ◌∙◌, arith, length-append}
 use Rattle.std.specs.Prelude.{◌&&◌, ◌||◌, ◌==◌, is_some, Contains}
-use Rattle.std.specs.List.{count_by, sum_by, range_with_len}
+use Rattle.std.specs.List.{flat_map, count_by, sum_by, range_with_len}
+use Rattle.std.proofs.lemmas.Bool.{eq-eqb}
 use Rattle.std.proofs.lemmas.List.Sums.{sum_by-cons, sum_by-append}
 use Rattle.std.proofs.lemmas.List.FromFn.{length-range_with_len}
 use Rattle.cnf_core.specs.declared.literal.Lit.{Lit}
 use Rattle.cnf_core.specs.Counter.{at_most_clauses, at_most_size, at_most_vars}
-use Rattle.schedule_meaning.specs.Launches.{launches, gives_word, is_load, is_store, is_branch, is_held, class_at, memory_class_at}
+use Rattle.schedule_meaning.specs.Launches.{launches, gives_word, is_load, is_store, is_branch, is_held, class_at, memory_class_at, instr_at, is_pool, is_set, goes_to, overwrites, takes_pool}
 use Rattle.machine_table.specs.declared.tables.Table.{Table}
+use Rattle.machine_table.specs.declared.tables.Use.{Use}
 use Rattle.graph_meaning.specs.declared.graphs.LaunchGraph.{LaunchGraph}
 use Rattle.schedule_meaning.specs.declared.schedules.Launch.{Launch}
-use Rattle.cycle_encoding.specs.Shapes.{vars_of, implied, when, counters, counters_vars}
-use Rattle.cycle_encoding.specs.Variables.{launches_from}
+use Rattle.schedule_meaning.specs.declared.schedules.To.{To}
+use Rattle.cycle_encoding.specs.Shapes.{numbered, vars_of, implied, when, counters, counters_vars}
+use Rattle.cycle_encoding.specs.Variables.{slots_of}
+use Rattle.cycle_encoding.specs.Variables.{use_launches, row_launches, launches_from, row_numbers, set_numbers, is_overwriting, overwriting_sets, all_overwritten, Overwritten, pinned_sets}
 use Rattle.order_encoding.specs.OrderVariables.{memory_classes, all_held, all_taken, Held, Taken}
-use Rattle.order_encoding.specs.OrderFamilies.{stores_at, uses_memory, waits, branches_by, is_held_at, is_taken_at, held_groups, store_groups, entry_clauses, memory_clauses, kept_clauses, last_clauses, branch_groups, register_clauses, register_groups}
+use Rattle.order_encoding.specs.OrderFamilies.{stores_at, uses_memory, waits, branches_by, is_held_at, is_taken_at, held_groups, store_groups, entry_clauses, memory_clauses, kept_clauses, last_clauses, branch_groups, register_groups}
 use Rattle.cycle_encoding.specs.Families.{any}
-use Rattle.cycle_encoding.specs.CycleFormula.{Listed, Scope, first_cycle_in, listed_in, launch_vars, after_cycles, cycle_part}
-use Rattle.order_encoding.specs.WholeFormula.{memory_formula, guard_formula, whole_formula}
-use Rattle.cycle_encoding.specs.Counts.{one_if, row_is, sum_launches, cycle_vars, cycle_size}
-use Rattle.order_encoding.specs.OrderCounts.{store_count, held_count, memory_vars, memory_size, branch_count, guard_vars, guard_size, taken_places, pool_vars, pool_size}
-use Rattle.order_encoding.proofs.WholeParts.{held_vars, before_stores, store_vars, before_held, memory_groups, after_memory, come_cycles, come_vars, before_branch, after_guard, taken_vars, before_pool, memory_part, guard_part, pool_part}
+use Rattle.cycle_encoding.specs.CycleFormula.{Listed, Scope, first_cycle_in, launch_vars}
+use Rattle.cycle_encoding.specs.CycleFormula.{overwritten_vars, before_overwritten, after_counters, cycle_part}
+use Rattle.cycle_encoding.specs.Counts.{row_destinations, sum_destined, cycle_vars, cycle_size}
+use Rattle.cycle_encoding.specs.CycleFormula.{listed_in}
+use Rattle.cycle_encoding.specs.Counts.{one_if, row_is, cycles_of, can_begin}
+use Rattle.order_encoding.specs.PinFamilies.{is_overwritten_at, unmet_sets, pool_clauses, overwrites_next, stays_overwritten, set_clauses, overwritten_clauses, pin_groups, pin_clauses, overwrites_after, late_clauses}
+use Rattle.order_encoding.specs.WholeFormula.{branch_vars, memory_formula, guard_formula, pool_formula, whole_formula}
+use Rattle.order_encoding.specs.OrderCounts.{row_stores, held_count, taken_places}
+use Rattle.order_encoding.specs.OrderCounts.{overwrites_at, destined_stores, memory_vars, memory_size, destined_branches, guard_vars, guard_size, registers_vars, registers_size, goes_count, late_count, pins_vars, pins_size}
+use Rattle.order_encoding.proofs.Parts.{held_vars, before_stores, store_vars, before_held, memory_groups, after_memory, come_cycles, come_vars, before_branch, after_guard, taken_vars, before_pool, memory_part, guard_part, pool_part, after_pool, pins_part}
 use Rattle.cycle_encoding.proofs.Counting.{sum-same, count-any}
-use Rattle.cycle_encoding.proofs.Members.{range-out}
+use Rattle.cycle_encoding.proofs.Members.{range-out, range-once, filter-once}
+use Rattle.cycle_encoding.proofs.Tests.{some_in}
 use Rattle.cycle_encoding.proofs.Rows.{counters-size}
-use Rattle.cycle_encoding.proofs.Totals.{sum-flat, sum-map, sum-const, size-ones, size-flat, size-vars, size-implied, count-first}
-use Rattle.order_encoding.proofs.Stored.{store-count}
-use Rattle.cycle_encoding.proofs.Launched.{same-in, size-map, sum-rows}
+use Rattle.cycle_encoding.proofs.Totals.{sum-flat, sum-map, sum-const, size-ones, size-flat, size-vars, size-implied, count-first, count-this}
+use Rattle.cycle_encoding.proofs.Launched.{same-in, size-map, both_one}
+use Rattle.cycle_encoding.proofs.PinnedTotals.{by_row, use_sum, times_instr, in_cycle, each_to, sum-destined}
 
 size-when : {A : Type 0} (b : Bool) (xs : List A) → length (when b xs) ≡ one_if b * length xs
 size-when true xs = omega arith
@@ -51,6 +61,27 @@ module _ (g : LaunchGraph) (table : Table) (k : ℕ) (sc : Scope) where
   abbrev e : Listed
   e = listed_in g table k sc
 
+  -- the stores of a cycle
+  use_store : (t row n : ℕ) (u : Use) (tos : List To) → count_by (stores_at g t) (use_launches table k row n tos u) ≡ length (slots_of table u) * one_if (row_is g is_store row && can_begin k n u t) * sum_by (λ (to : To). 1) tos
+  use_store t row n u tos =
+      let b = row_is g is_store row in
+      let c = length tos in
+      use_sum g table k sc row n tos u (λ l. one_if (stores_at g t l))
+      ∙ sum-same (λ (x : ℕ). sum_by (λ y. sum_by (λ (to : To). one_if (b && (y == t))) tos) (range_with_len n (cycles_of k n u))) (λ x. one_if (b && can_begin k n u t) * c) (slots_of table u)
+      (λ x. sum-same (λ y. sum_by (λ (to : To). one_if (b && (y == t))) tos) (λ y. one_if (b && (y == t)) * c) (range_with_len n (cycles_of k n u)) (λ y. each_to g table k sc (b && (y == t)) tos)
+      ∙ in_cycle g table k sc c b n u t ∙ ap (λ m. m * c) (both_one b (can_begin k n u t)))
+      ∙ sum-const (one_if (b && can_begin k n u t) * c) (slots_of table u)
+      ∙ (let m : (x y z : ℕ) → x * (y * z) ≡ x * y * z = λ x y z. omega arith in m (length (slots_of table u)) (one_if (b && can_begin k n u t)) c)
+      ∙ ap (λ m. length (slots_of table u) * one_if (b && can_begin k n u t) * m) (size-ones tos)
+
+  destined-stores : (t : ℕ) → count_by (stores_at g t) (launches_from g table k (first_cycle_in sc)) ≡ destined_stores g table k sc t
+  destined-stores t =
+      sum-flat (λ l. one_if (stores_at g t l)) (λ row. row_launches g table k (first_cycle_in sc row) row) (row_numbers g)
+      ∙ sum-same (λ row. count_by (stores_at g t) (row_launches g table k (first_cycle_in sc row) row)) (λ row. row_stores g table k sc t row * length (row_destinations g row)) (row_numbers g)
+      (λ row. by_row g table k sc row (λ l. one_if (stores_at g t l)) (λ n u tos. length (slots_of table u) * one_if (row_is g is_store row && can_begin k n u t) * sum_by (λ (to : To). 1) tos) (use_store t row)
+      ∙ times_instr g table k sc row (λ to. 1) (λ n u. length (slots_of table u) * one_if (row_is g is_store row && can_begin k n u t)) (first_cycle_in sc row) (instr_at g row)
+      ∙ ap (λ m. row_stores g table k sc t row * m) (sym (size-ones (row_destinations g row))))
+
   -- a sum over what is held, class by class and cycle by cycle
   held_sum : (F : Held → ℕ) → sum_by F (all_held g k) ≡ sum_by (λ c. sum_by (λ t. F (record { class = c; cycle = t })) (range_with_len 0 (k + 1))) (memory_classes g)
   held_sum F =
@@ -70,30 +101,30 @@ module _ (g : LaunchGraph) (table : Table) (k : ℕ) (sc : Scope) where
       ∙ sym (size-ones (memory_classes g))
 
   -- counters of what is held and of stores
-  groups : (h : ℕ → ℕ) → sum_by (λ (c : List Lit). h (length c)) (memory_groups g table k e) ≡ (k + 1) * h (held_count g table k sc) + sum_by (λ t. h (store_count g table k sc t)) (range_with_len 0 k)
+  groups : (h : ℕ → ℕ) → sum_by (λ (c : List Lit). h (length c)) (memory_groups g table k e) ≡ (k + 1) * h (held_count g table k sc) + sum_by (λ t. h (destined_stores g table k sc t)) (range_with_len 0 k)
   groups h =
       let ms = held_vars g table k e in
       let xs = launch_vars g table k e in
       let a : sum_by (λ (c : List Lit). h (length c)) (held_groups k ms) ≡ (k + 1) * h (held_count g table k sc) =
       sum-map (λ (c : List Lit). h (length c)) (λ t. vars_of (λ (m : Held). m.cycle == t) ms) (range_with_len 0 (k + 1))
-      ∙ same-in (λ t. h (length (vars_of (λ (m : Held). m.cycle == t) ms))) (λ t. h (held_count g table k sc)) (range_with_len 0 (k + 1)) (λ t ht. ap h (size-vars (λ (m : Held). m.cycle == t) (after_cycles g table k e) (all_held g k) ∙ held-cycle t (let b = (range-out 0 (k + 1) t ht).1 in omega arith)))
+      ∙ same-in (λ t. h (length (vars_of (λ (m : Held). m.cycle == t) ms))) (λ t. h (held_count g table k sc)) (range_with_len 0 (k + 1)) (λ t ht. ap h (size-vars (λ (m : Held). m.cycle == t) (after_counters g table k e) (all_held g k) ∙ held-cycle t (let b = (range-out 0 (k + 1) t ht).1 in omega arith)))
       ∙ sum-const (h (held_count g table k sc)) (range_with_len 0 (k + 1)) ∙ ap (λ n. n * h (held_count g table k sc)) (length-range_with_len 0 (k + 1)) in
-      let b : sum_by (λ (c : List Lit). h (length c)) (store_groups g k xs) ≡ sum_by (λ t. h (store_count g table k sc t)) (range_with_len 0 k) =
+      let b : sum_by (λ (c : List Lit). h (length c)) (store_groups g k xs) ≡ sum_by (λ t. h (destined_stores g table k sc t)) (range_with_len 0 k) =
       sum-map (λ (c : List Lit). h (length c)) (λ t. vars_of (stores_at g t) xs) (range_with_len 0 k)
-      ∙ sum-same (λ t. h (length (vars_of (stores_at g t) xs))) (λ t. h (store_count g table k sc t)) (range_with_len 0 k) (λ t. ap h (size-vars (stores_at g t) 0 (launches_from g table k (first_cycle_in sc)) ∙ store-count g table k sc t)) in
+      ∙ sum-same (λ t. h (length (vars_of (stores_at g t) xs))) (λ t. h (destined_stores g table k sc t)) (range_with_len 0 k) (λ t. ap h (size-vars (stores_at g t) 0 (launches_from g table k (first_cycle_in sc)) ∙ destined-stores t)) in
       sum_by-append (λ (c : List Lit). h (length c)) (held_groups k ms) (store_groups g k xs)
       ∙ ap (λ n. n + sum_by (λ (c : List Lit). h (length c)) (store_groups g k xs)) a
       ∙ ap (λ n. (k + 1) * h (held_count g table k sc) + n) b
 
   -- the counts of the formula of cycles, slots and values are given to these by its law
-  pub memory-vars : after_cycles g table k e ≡ cycle_vars g table k sc → after_memory g table k e ≡ cycle_vars g table k sc + memory_vars g table k sc
+  pub memory-vars : after_counters g table k e ≡ cycle_vars g table k sc → after_memory g table k e ≡ cycle_vars g table k sc + memory_vars g table k sc
   memory-vars cycles =
       let m = counters_vars 1 (memory_groups g table k e) in
       let h = length (all_held g k) in
       ap (λ n. n + h + k + m) cycles
       ∙ ap (λ n. cycle_vars g table k sc + n + k + m) held-size
       ∙ ap (λ n. cycle_vars g table k sc + held_count g table k sc * (k + 1) + k + n) (groups (at_most_vars 1))
-      ∙ (let s : (a b c d : ℕ) → a + b + c + d ≡ a + (b + c + d) = λ a b c d. omega arith in s (cycle_vars g table k sc) (held_count g table k sc * (k + 1)) k ((k + 1) * at_most_vars 1 (held_count g table k sc) + sum_by (λ t. at_most_vars 1 (store_count g table k sc t)) (range_with_len 0 k)))
+      ∙ (let s : (a b c d : ℕ) → a + b + c + d ≡ a + (b + c + d) = λ a b c d. omega arith in s (cycle_vars g table k sc) (held_count g table k sc * (k + 1)) k ((k + 1) * at_most_vars 1 (held_count g table k sc) + sum_by (λ t. at_most_vars 1 (destined_stores g table k sc t)) (range_with_len 0 k)))
 
   entry-size : length (entry_clauses g (held_vars g table k e)) ≡ 1 + count_by (λ c. not (c == g.entry)) (memory_classes g)
   entry-size =
@@ -103,11 +134,11 @@ module _ (g : LaunchGraph) (table : Table) (k : ℕ) (sc : Scope) where
       sum-same (λ t. length (when ((t == 0) && b c) ([] ∷ []))) (λ t. one_if (b c && (t == 0))) (range_with_len 0 (k + 1)) (λ t. size-one ((t == 0) && b c) [] ∙ ap one_if (and_swap (t == 0) (b c)))
       ∙ first_cycle k (b c) ∙ (let z : one_if (b c) * 1 ≡ one_if (b c) = omega arith in z) in
       let rest : length (implied (held_vars g table k e) wrong) ≡ count_by b (memory_classes g) =
-      size-implied wrong (after_cycles g table k e) (all_held g k) ∙ held_sum (λ m. length (wrong m))
+      size-implied wrong (after_counters g table k e) (all_held g k) ∙ held_sum (λ m. length (wrong m))
       ∙ sum-same (λ c. sum_by (λ t. length (when ((t == 0) && b c) ([] ∷ []))) (range_with_len 0 (k + 1))) (λ c. one_if (b c)) (memory_classes g) inner in
       ap suc rest ∙ (let s : (n : ℕ) → suc n ≡ 1 + n = λ n. omega arith in s (count_by b (memory_classes g)))
 
-  use-size : length (memory_clauses g (launch_vars g table k e) (held_vars g table k e) (store_vars g table k e)) ≡ sum_launches g table k sc (λ row. one_if (row_is g is_load row || row_is g is_store row) + one_if (row_is g is_store row) * 2)
+  use-size : length (memory_clauses g (launch_vars g table k e) (held_vars g table k e) (store_vars g table k e)) ≡ sum_destined g table k sc (λ row to. one_if (row_is g is_load row || row_is g is_store row) + one_if (row_is g is_store row) * 2)
   use-size =
       let ms = held_vars g table k e in
       let ws = store_vars g table k e in
@@ -116,7 +147,7 @@ module _ (g : LaunchGraph) (table : Table) (k : ℕ) (sc : Scope) where
       size-implied (λ l. when (uses_memory g l) (a l) ++ when (launches g is_store l) (b l)) 0 (launches_from g table k (first_cycle_in sc))
       ∙ sum-same (λ l. length (when (uses_memory g l) (a l) ++ when (launches g is_store l) (b l))) (λ (l : Launch). one_if (row_is g is_load l.row || row_is g is_store l.row) + one_if (row_is g is_store l.row) * 2) (launches_from g table k (first_cycle_in sc))
       (λ l. length-append (when (uses_memory g l) (a l)) (when (launches g is_store l) (b l)) ∙ ap (λ n. n + length (when (launches g is_store l) (b l))) (size-one (uses_memory g l) (vars_of (is_held_at (memory_class_at g l.row) l.cycle) ms)) ∙ ap (λ n. one_if (uses_memory g l) + n) (size-when (launches g is_store l) (b l)))
-      ∙ sum-rows g table k sc (λ row. one_if (row_is g is_load row || row_is g is_store row) + one_if (row_is g is_store row) * 2)
+      ∙ sum-destined g table k sc (λ row to. one_if (row_is g is_load row || row_is g is_store row) + one_if (row_is g is_store row) * 2)
 
   kept-size : length (kept_clauses g k (launch_vars g table k e) (held_vars g table k e) (store_vars g table k e)) ≡ k * (1 + held_count g table k sc)
   kept-size =
@@ -129,15 +160,15 @@ module _ (g : LaunchGraph) (table : Table) (k : ℕ) (sc : Scope) where
       let lt : t < k = (let r = (range-out 0 k t ht).1 in omega arith) in
       length-append (implied ws (a t)) (implied ms (b t))
       ∙ ap (λ n. n + length (implied ms (b t))) (size-implied (a t) (before_stores g table k e) (range_with_len 0 k) ∙ sum-same (λ c. length (a t c)) (λ c. one_if (c == t)) (range_with_len 0 k) (λ c. size-one (c == t) (vars_of (stores_at g t) xs)) ∙ count-first k t lt)
-      ∙ ap (λ n. 1 + n) (size-implied (b t) (after_cycles g table k e) (all_held g k) ∙ sum-same (λ m. length (b t m)) (λ (m : Held). one_if (m.cycle == t)) (all_held g k) (λ m. size-one (m.cycle == t) (vars_of (λ c. c == t) ws ++ vars_of (is_held_at m.class (t + 1)) ms)) ∙ held-cycle t (omega arith)) in
+      ∙ ap (λ n. 1 + n) (size-implied (b t) (after_counters g table k e) (all_held g k) ∙ sum-same (λ m. length (b t m)) (λ (m : Held). one_if (m.cycle == t)) (all_held g k) (λ m. size-one (m.cycle == t) (vars_of (λ c. c == t) ws ++ vars_of (is_held_at m.class (t + 1)) ms)) ∙ held-cycle t (omega arith)) in
       size-flat (λ t. implied ws (a t) ++ implied ms (b t)) (range_with_len 0 k)
       ∙ same-in (λ t. length (implied ws (a t) ++ implied ms (b t))) (λ t. 1 + held_count g table k sc) (range_with_len 0 k) each
       ∙ sum-const (1 + held_count g table k sc) (range_with_len 0 k) ∙ ap (λ n. n * (1 + held_count g table k sc)) (length-range_with_len 0 k)
 
   -- ---- the guard
 
-  branch-lits : length (vars_of (launches g is_branch) (launch_vars g table k e)) ≡ branch_count g table k sc
-  branch-lits = size-vars (launches g is_branch) 0 (launches_from g table k (first_cycle_in sc)) ∙ sum-rows g table k sc (λ row. one_if (row_is g is_branch row))
+  branch-lits : length (vars_of (launches g is_branch) (launch_vars g table k e)) ≡ destined_branches g table k sc
+  branch-lits = size-vars (launches g is_branch) 0 (launches_from g table k (first_cycle_in sc)) ∙ sum-destined g table k sc (λ row to. one_if (row_is g is_branch row))
 
   guard_vars_in : (b : Bool) (n : ℕ) (lits : List Lit) → length lits ≡ n → length (when b (range_with_len 0 k)) + counters_vars 1 (when b (lits ∷ [])) ≡ cond b (k + at_most_vars 1 n) 0
   guard_vars_in true n lits e =
@@ -145,13 +176,13 @@ module _ (g : LaunchGraph) (table : Table) (k : ℕ) (sc : Scope) where
       ∙ ap (λ m. k + m) (sum_by-cons (λ (c : List Lit). at_most_vars 1 (length c)) lits [] ∙ (let z : at_most_vars 1 (length lits) + 0 ≡ at_most_vars 1 (length lits) = omega arith in z) ∙ ap (at_most_vars 1) e)
   guard_vars_in false n lits e = refl
 
-  pub guard-vars : after_cycles g table k e ≡ cycle_vars g table k sc → after_guard g table k e ≡ cycle_vars g table k sc + memory_vars g table k sc + guard_vars g table k sc
+  pub guard-vars : after_counters g table k e ≡ cycle_vars g table k sc → after_guard g table k e ≡ cycle_vars g table k sc + memory_vars g table k sc + guard_vars g table k sc
   guard-vars cycles =
       let b = length (come_cycles g table k e) in
       let c = counters_vars 1 (branch_groups g (launch_vars g table k e)) in
       ap (λ n. n + b + c) (memory-vars cycles)
       ∙ (let s : (x y z : ℕ) → x + y + z ≡ x + (y + z) = λ x y z. omega arith in s (cycle_vars g table k sc + memory_vars g table k sc) b c)
-      ∙ ap (λ n. cycle_vars g table k sc + memory_vars g table k sc + n) (guard_vars_in (is_some g.guard) (branch_count g table k sc) (vars_of (launches g is_branch) (launch_vars g table k e)) branch-lits)
+      ∙ ap (λ n. cycle_vars g table k sc + memory_vars g table k sc + n) (guard_vars_in (is_some g.guard) (destined_branches g table k sc) (vars_of (launches g is_branch) (launch_vars g table k e)) branch-lits)
 
   -- ---- registers
 
@@ -164,8 +195,8 @@ module _ (g : LaunchGraph) (table : Table) (k : ℕ) (sc : Scope) where
   taken-lits : length (vars_of any (taken_vars g table k e)) ≡ taken_places g table k sc
   taken-lits = size-vars any (after_guard g table k e) (all_taken table k) ∙ count-any (all_taken table k) ∙ taken-size
 
-  pub whole-vars : after_cycles g table k e ≡ cycle_vars g table k sc → (whole_formula g table k e).vars ≡ cycle_vars g table k sc + memory_vars g table k sc + guard_vars g table k sc + pool_vars g table k sc
-  whole-vars cycles =
+  pub pool-vars : after_counters g table k e ≡ cycle_vars g table k sc → (pool_formula g table k e).vars ≡ cycle_vars g table k sc + memory_vars g table k sc + guard_vars g table k sc + registers_vars g table k sc
+  pool-vars cycles =
       let p = length g.pool in
       let c = counters_vars p (register_groups (taken_vars g table k e)) in
       ap (λ n. n + length (all_taken table k) + c) (guard-vars cycles)
@@ -182,7 +213,7 @@ module _ (g : LaunchGraph) (table : Table) (k : ℕ) (sc : Scope) where
         let c8 = counters (before_held g table k e) 1 (memory_groups g table k e) in
         let c10 = last_clauses g k (held_vars g table k e) in
         let n5 = 1 + count_by (λ c. not (c == g.entry)) (memory_classes g) in
-        let n6 = sum_launches g table k sc (λ row. one_if (row_is g is_load row || row_is g is_store row) + one_if (row_is g is_store row) * 2) in
+        let n6 = sum_destined g table k sc (λ row to. one_if (row_is g is_load row || row_is g is_store row) + one_if (row_is g is_store row) * 2) in
         let n7 = k * (1 + held_count g table k sc) in
         length-append (c5 ++ c6 ++ c7 ++ c8) c10
         ∙ ap (λ n. n + 1) (length-append (c5 ++ c6 ++ c7) c8 ∙ ap (λ n. n + length c8) (length-append (c5 ++ c6) c7 ∙ ap (λ n. n + length c7) (length-append c5 c6)))
@@ -208,23 +239,24 @@ module _ (g : LaunchGraph) (table : Table) (k : ℕ) (sc : Scope) where
         let xs = launch_vars g table k e in
         let bs = come_vars g table k e in
         let f : Launch → List (List Lit) = λ l. when (waits g l) (vars_of (λ t. t == l.cycle) bs ∷ []) in
-        let w = sum_launches g table k sc (λ row. one_if (row_is g is_store row || (row_is g is_load row && is_held g))) in
+        let w = sum_destined g table k sc (λ row to. one_if (row_is g is_store row || (row_is g is_load row && is_held g))) in
         let ew : length (implied xs f) ≡ w =
         size-implied f 0 (launches_from g table k (first_cycle_in sc)) ∙ sum-same (λ l. length (f l)) (λ (l : Launch). one_if (row_is g is_store l.row || (row_is g is_load l.row && is_held g))) (launches_from g table k (first_cycle_in sc)) (λ l. size-one (waits g l) (vars_of (λ t. t == l.cycle) bs))
-        ∙ sum-rows g table k sc (λ row. one_if (row_is g is_store row || (row_is g is_load row && is_held g))) in
+        ∙ sum-destined g table k sc (λ row to. one_if (row_is g is_store row || (row_is g is_load row && is_held g))) in
         let ec : length (implied bs (λ t. vars_of (branches_by g t) xs ∷ [])) ≡ cond (is_some g.guard) k 0 =
         size-implied (λ t. vars_of (branches_by g t) xs ∷ []) (after_memory g table k e) (come_cycles g table k e) ∙ sym (size-ones (come_cycles g table k e)) ∙ come_in (is_some g.guard) in
-        guard_in (is_some g.guard) (branch_count g table k sc) w (vars_of (launches g is_branch) xs) (before_branch g table k e) (implied xs f) (implied bs (λ t. vars_of (branches_by g t) xs ∷ [])) branch-lits ew ec
+        guard_in (is_some g.guard) (destined_branches g table k sc) w (vars_of (launches g is_branch) xs) (before_branch g table k e) (implied xs f) (implied bs (λ t. vars_of (branches_by g t) xs ∷ [])) branch-lits ew ec
 
-    pool-size : length (pool_part g table k e) ≡ pool_size g table k sc
+    pool-size : length (pool_part g table k e) ≡ registers_size g table k sc
     pool-size =
         let xs = launch_vars g table k e in
         let us = taken_vars g table k e in
         let p = length g.pool in
-        let f : Launch → List (List Lit) = λ l. when (launches g gives_word l) (vars_of (is_taken_at l.slot l.cycle) us ∷ []) in
-        length-append (register_clauses g xs us) (counters (before_pool g table k e) p (register_groups us))
-        ∙ ap (λ n. n + length (counters (before_pool g table k e) p (register_groups us))) (size-implied f 0 (launches_from g table k (first_cycle_in sc)) ∙ sum-same (λ l. length (f l)) (λ (l : Launch). one_if (row_is g gives_word l.row)) (launches_from g table k (first_cycle_in sc)) (λ l. size-one (launches g gives_word l) (vars_of (is_taken_at l.slot l.cycle) us)) ∙ sum-rows g table k sc (λ row. one_if (row_is g gives_word row)))
-        ∙ ap (λ n. sum_launches g table k sc (λ row. one_if (row_is g gives_word row)) + n) (counters-size p size (before_pool g table k e) (register_groups us) ∙ sum_by-cons (λ (c : List Lit). at_most_size p (length c)) (vars_of any us) [] ∙ (let z : at_most_size p (length (vars_of any us)) + 0 ≡ at_most_size p (length (vars_of any us)) = omega arith in z) ∙ ap (at_most_size p) taken-lits)
+        let n = sum_destined g table k sc (λ row to. one_if (is_pool to && row_is g gives_word row)) in
+        let f : Launch → List (List Lit) = λ l. when (takes_pool g l) (vars_of (is_taken_at l.slot l.cycle) us ∷ []) in
+        length-append (pool_clauses g xs us) (counters (before_pool g table k e) p (register_groups us))
+        ∙ ap (λ n. n + length (counters (before_pool g table k e) p (register_groups us))) (size-implied f 0 (launches_from g table k (first_cycle_in sc)) ∙ sum-same (λ l. length (f l)) (λ (l : Launch). one_if (is_pool l.to && row_is g gives_word l.row)) (launches_from g table k (first_cycle_in sc)) (λ l. size-one (takes_pool g l) (vars_of (is_taken_at l.slot l.cycle) us)) ∙ sum-destined g table k sc (λ row to. one_if (is_pool to && row_is g gives_word row)))
+        ∙ ap (λ m. n + m) (counters-size p size (before_pool g table k e) (register_groups us) ∙ sum_by-cons (λ (c : List Lit). at_most_size p (length c)) (vars_of any us) [] ∙ (let z : at_most_size p (length (vars_of any us)) + 0 ≡ at_most_size p (length (vars_of any us)) = omega arith in z) ∙ ap (at_most_size p) taken-lits)
 
     pub with-memory-size : length (cycle_part g table k e) ≡ cycle_size g table k sc → length (memory_formula g table k e).clauses ≡ cycle_size g table k sc + memory_size g table k sc
     with-memory-size cycles =
@@ -237,8 +269,8 @@ module _ (g : LaunchGraph) (table : Table) (k : ℕ) (sc : Scope) where
         let c = guard_part g table k e in
         length-append (cycle_part g table k e ++ memory_part g table k e) c ∙ ap (λ n. n + length c) (with-memory-size cycles) ∙ ap (λ n. cycle_size g table k sc + memory_size g table k sc + n) guard-size
 
-    pub whole-size : length (cycle_part g table k e) ≡ cycle_size g table k sc → length (whole_formula g table k e).clauses ≡ cycle_size g table k sc + memory_size g table k sc + guard_size g table k sc + pool_size g table k sc
-    whole-size cycles =
+    pub with-pool-size : length (cycle_part g table k e) ≡ cycle_size g table k sc → length (pool_formula g table k e).clauses ≡ cycle_size g table k sc + memory_size g table k sc + guard_size g table k sc + registers_size g table k sc
+    with-pool-size cycles =
         let a = cycle_part g table k e in
         let b = memory_part g table k e in
         let c = guard_part g table k e in
@@ -249,3 +281,104 @@ module _ (g : LaunchGraph) (table : Table) (k : ℕ) (sc : Scope) where
         ∙ ap (λ n. cycle_size g table k sc + n + length c + length d) memory-size
         ∙ ap (λ n. cycle_size g table k sc + memory_size g table k sc + n + length d) guard-size
         ∙ ap (λ n. cycle_size g table k sc + memory_size g table k sc + guard_size g table k sc + n) pool-size
+
+-- ---- pins
+
+module _ (g : LaunchGraph) (table : Table) (k : ℕ) (sc : Scope) where
+  -- what is overwritten of a set in a cycle has one variable
+  over_sum : (F : Overwritten → ℕ) → sum_by F (all_overwritten g k) ≡ sum_by (λ j. sum_by (λ t. F (record { set = j; cycle = t })) (range_with_len 0 (k + 1))) (overwriting_sets g)
+  over_sum F =
+      sum-flat F (λ j. map (λ t. record { set = j; cycle = t }) (range_with_len 0 (k + 1))) (overwriting_sets g)
+      ∙ sum-same (λ j. sum_by F (map (λ t. record { set = j; cycle = t }) (range_with_len 0 (k + 1)))) (λ j. sum_by (λ t. F (record { set = j; cycle = t })) (range_with_len 0 (k + 1))) (overwriting_sets g) (λ j. sum-map F (λ t. record { set = j; cycle = t }) (range_with_len 0 (k + 1)))
+
+  -- one of the first cycles, where the test holds
+  cycle_if : (t : ℕ) → t < k + 1 → (b : Bool) → sum_by (λ y. one_if (b && (y == t))) (range_with_len 0 (k + 1)) ≡ one_if b
+  cycle_if t lt true = count-first (k + 1) t lt
+  cycle_if t lt false = sum-const 0 (range_with_len 0 (k + 1)) ∙ (let z : length (range_with_len 0 (k + 1)) * 0 ≡ 0 = omega arith in z)
+
+  over-once : (j t : ℕ) → Contains (overwriting_sets g) j → t < k + 1 → count_by (is_overwritten_at j t) (all_overwritten g k) ≡ 1
+  over-once j t c lt =
+      over_sum (λ v. one_if (is_overwritten_at j t v))
+      ∙ sum-same (λ i. sum_by (λ y. one_if ((i == j) && (y == t))) (range_with_len 0 (k + 1))) (λ i. one_if (i == j)) (overwriting_sets g) (λ i. cycle_if t lt (i == j))
+      ∙ count-this (overwriting_sets g) j (filter-once (is_overwriting g) (set_numbers g) (range-once 0 (length g.sets)))
+      ∙ ap one_if (some_in (λ i. i == j) (overwriting_sets g) j c (eq-eqb j j refl))
+
+  goes-count : (j : ℕ) → count_by (goes_to j) (launches_from g table k (first_cycle_in sc)) ≡ goes_count g table k sc j
+  goes-count j = sum-destined g table k sc (λ row to. one_if (is_set j to))
+
+  abbrev xs : List (ℕ × Launch)
+  xs = launch_vars g table k (listed_in g table k sc)
+
+  -- what goes to the pinned sets
+  pin-groups : (h : ℕ → ℕ) → sum_by (λ (c : List Lit). h (length c)) (pin_groups g xs) ≡ sum_by (λ j. h (goes_count g table k sc j)) (pinned_sets g)
+  pin-groups h =
+      sum-map (λ (c : List Lit). h (length c)) (λ j. vars_of (goes_to j) xs) (pinned_sets g)
+      ∙ sum-same (λ j. h (length (vars_of (goes_to j) xs))) (λ j. h (goes_count g table k sc j)) (pinned_sets g) (λ j. ap h (size-vars (goes_to j) 0 (launches_from g table k (first_cycle_in sc)) ∙ goes-count j))
+
+  set-size : (n : ℕ) (j : ℕ) → Contains (overwriting_sets g) j → length (set_clauses k xs (numbered n (all_overwritten g k)) j) ≡ goes_count g table k sc j + k
+  set-size n j c =
+      let vs = numbered n (all_overwritten g k) in
+      let a = implied xs (overwrites_next vs j) in
+      let f : ℕ → Overwritten → List (List Lit) = stays_overwritten vs j in
+      let b = flat_map (λ t. implied vs (f t)) (range_with_len 0 k) in
+      let la : length a ≡ goes_count g table k sc j =
+      size-implied (overwrites_next vs j) 0 (launches_from g table k (first_cycle_in sc))
+      ∙ sum-same (λ l. length (overwrites_next vs j l)) (λ l. one_if (goes_to j l)) (launches_from g table k (first_cycle_in sc)) (λ l. size-one (goes_to j l) (vars_of (is_overwritten_at j (l.cycle + 1)) vs))
+      ∙ goes-count j in
+      let lb : length b ≡ k =
+      size-flat (λ t. implied vs (f t)) (range_with_len 0 k)
+      ∙ same-in (λ t. length (implied vs (f t))) (λ t. 1) (range_with_len 0 k) (λ t ht.
+      let lt : t < k = (let r = (range-out 0 k t ht).1 in omega arith) in
+      size-implied (f t) n (all_overwritten g k)
+      ∙ sum-same (λ v. length (f t v)) (λ v. one_if (is_overwritten_at j t v)) (all_overwritten g k) (λ v. size-one (is_overwritten_at j t v) (vars_of (is_overwritten_at j (t + 1)) vs))
+      ∙ over-once j t c (omega arith))
+      ∙ sym (size-ones (range_with_len 0 k)) ∙ length-range_with_len 0 k in
+      length-append a b ∙ ap (λ m. m + length b) la ∙ ap (λ m. goes_count g table k sc j + m) lb
+
+  over-size : (n : ℕ) → length (overwritten_clauses g k xs (numbered n (all_overwritten g k))) ≡ sum_by (λ j. goes_count g table k sc j + k) (overwriting_sets g)
+  over-size n =
+      let vs = numbered n (all_overwritten g k) in
+      size-flat (set_clauses k xs vs) (overwriting_sets g)
+      ∙ same-in (λ j. length (set_clauses k xs vs j)) (λ j. goes_count g table k sc j + k) (overwriting_sets g) (set-size n)
+
+  late_in : (b : Bool) (cs : List (List Lit)) → length cs ≡ late_count g table k sc → length (when b cs) ≡ cond b (late_count g table k sc) 0
+  late_in true cs h = h
+  late_in false cs h = refl
+
+  late-size : (bs : List (ℕ × ℕ)) → length (late_clauses g xs bs) ≡ cond (is_some g.guard) (late_count g table k sc) 0
+  late-size bs =
+      late_in (is_some g.guard) (implied xs (overwrites_after g bs))
+      (size-implied (overwrites_after g bs) 0 (launches_from g table k (first_cycle_in sc))
+      ∙ sum-same (λ l. length (overwrites_after g bs l)) (λ (l : Launch). one_if (overwrites_at g l.to)) (launches_from g table k (first_cycle_in sc)) (λ l. size-one (overwrites g l) (vars_of (λ t. t == l.cycle) bs))
+      ∙ sum-destined g table k sc (λ row to. one_if (overwrites_at g to)))
+
+  pub all-vars : after_counters g table k (listed_in g table k sc) ≡ cycle_vars g table k sc → (whole_formula g table k (listed_in g table k sc)).vars ≡ cycle_vars g table k sc + memory_vars g table k sc + guard_vars g table k sc + registers_vars g table k sc + pins_vars g table k sc
+  all-vars cycles =
+      ap (λ n. n + counters_vars 1 (pin_groups g xs)) (pool-vars g table k sc cycles)
+      ∙ ap (λ n. cycle_vars g table k sc + memory_vars g table k sc + guard_vars g table k sc + registers_vars g table k sc + n) (pin-groups (at_most_vars 1))
+
+  module _ (size : (old p : ℕ) (lits : List Lit) → length (at_most_clauses old p lits) ≡ at_most_size p (length lits)) where
+    pins-size : length (pins_part g table k (listed_in g table k sc)) ≡ pins_size g table k sc
+    pins-size =
+        let e = listed_in g table k sc in
+        let c1 = overwritten_clauses g k xs (overwritten_vars g table k e) in
+        let c2 = counters (after_pool g table k e) 1 (pin_groups g xs) in
+        let c3 = pin_clauses g xs in
+        let c4 = late_clauses g xs (branch_vars g table k e) in
+        let n1 = sum_by (λ j. goes_count g table k sc j + k) (overwriting_sets g) in
+        let n2 = sum_by (λ j. at_most_size 1 (goes_count g table k sc j)) (pinned_sets g) in
+        let n3 = length (unmet_sets g) in
+        length-append (c1 ++ c2 ++ c3) c4
+        ∙ ap (λ n. n + length c4) (length-append (c1 ++ c2) c3 ∙ ap (λ n. n + length c3) (length-append c1 c2))
+        ∙ ap (λ n. n + length c2 + length c3 + length c4) (over-size (before_overwritten g table k e))
+        ∙ ap (λ n. n1 + n + length c3 + length c4) (counters-size 1 size (after_pool g table k e) (pin_groups g xs) ∙ pin-groups (at_most_size 1))
+        ∙ ap (λ n. n1 + n2 + n + length c4) (size-map (λ j. vars_of (goes_to j) xs) (unmet_sets g))
+        ∙ ap (λ n. n1 + n2 + n3 + n) (late-size (branch_vars g table k e))
+
+    pub all-size : length (cycle_part g table k (listed_in g table k sc)) ≡ cycle_size g table k sc → length (whole_formula g table k (listed_in g table k sc)).clauses ≡ cycle_size g table k sc + memory_size g table k sc + guard_size g table k sc + registers_size g table k sc + pins_size g table k sc
+    all-size cycles =
+        let e = listed_in g table k sc in
+        let p = pins_part g table k e in
+        length-append (pool_formula g table k e).clauses p
+        ∙ ap (λ n. n + length p) (with-pool-size g table k sc size cycles)
+        ∙ ap (λ n. cycle_size g table k sc + memory_size g table k sc + guard_size g table k sc + registers_size g table k sc + n) pins-size

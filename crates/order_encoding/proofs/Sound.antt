@@ -1,28 +1,23 @@
--- Launches that keep the rules of cycles, slots and values, and of which the families hold, make a schedule that fits
--- without pins.
-use Rattle.std.proofs.Common.{◌≡◌, ℕ, suc, zero, ◌+◌, ◌<◌, ◌≤◌, Bool, true, false, List, length, get_or, refl, sym, ap, ◌∙◌, subst, arith, inl, inr, ◌⊎◌, Option, Some, None}
+-- Launches of which the families hold keep memory and the branch in order.
+use Rattle.std.proofs.Common.{◌≡◌, ℕ, suc, zero, ◌+◌, ◌<◌, ◌≤◌, true, false, List, length, get_or, refl, sym, ap, ◌∙◌, subst, arith, inl, inr, ◌⊎◌, Option, Some, None}
 use Rattle.std.specs.Prelude.{◌||◌, ◌&&◌, ◌==◌, nat_le, is_some, IsTrue, Contains, IfSome}
-use Rattle.std.specs.List.{All, AllPairs, list_any, count_by}
+use Rattle.std.specs.List.{All, list_any, count_by}
 use Rattle.std.proofs.lemmas.Bool.{false≢true, cases_Bool, eqb-true, eqb-false, leb-true, eq-eqb, and_parts, and_from, or_left, or_right}
-use Rattle.std.proofs.lemmas.List.Sums.{sum_by-le}
 use Rattle.std.proofs.lemmas.List.Elements.{All-contains, Contains-get_or}
 use Rattle.graph_meaning.specs.Graphs.{memory_target}
-use Rattle.schedule_meaning.specs.Launches.{launches, gives_word, is_store, is_load, is_branch, is_held, class_at}
+use Rattle.schedule_meaning.specs.Launches.{launches, is_store, is_load, is_branch, is_held, class_at}
 use Rattle.schedule_meaning.specs.Launches.{memory_class_at}
-use Rattle.schedule_meaning.specs.Fits.{Collide, IsLatestStore, IsLeft, UsesMemory, KeepsMemory, HasOneBranch}
-use Rattle.schedule_meaning.specs.Plain.{WaitsPlain, FitsWithoutPins}
+use Rattle.schedule_meaning.specs.Fits.{IsLatestStore, IsLeft, UsesMemory, KeepsMemory, HasOneBranch}
+use Rattle.schedule_meaning.specs.Plain.{WaitsPlain}
 use Rattle.machine_table.specs.declared.tables.Table.{Table}
 use Rattle.graph_meaning.specs.declared.graphs.LaunchGraph.{LaunchGraph}
 use Rattle.graph_meaning.specs.declared.graphs.Guard.{Guard}
 use Rattle.schedule_meaning.specs.declared.schedules.Launch.{Launch}
-use Rattle.cycle_encoding.specs.CycleRules.{KeepsCycleRules}
-use Rattle.order_encoding.specs.OrderVariables.{Held, Taken}
-use Rattle.cycle_encoding.specs.Families.{any}
-use Rattle.order_encoding.specs.OrderFamilies.{is_held_at, stores_at, uses_memory, branches_by, waits, is_taken_at}
+use Rattle.order_encoding.specs.OrderVariables.{Held}
+use Rattle.order_encoding.specs.OrderFamilies.{is_held_at, stores_at, uses_memory, branches_by, waits}
 use Rattle.cycle_encoding.proofs.Tests.{one_at, two_at, same_at, some_of, guarded}
-use Rattle.cycle_encoding.proofs.Counting.{count-one, count-any, count-by-places}
 use Rattle.cycle_encoding.proofs.MadeLists.{at_range}
-use Rattle.order_encoding.proofs.Says.{SaysMemory, SaysGuard, SaysRegisters}
+use Rattle.order_encoding.proofs.Says.{SaysMemory, SaysGuard}
 
 module _ (g : LaunchGraph) (table : Table) (k : ℕ) (S : List Launch) (below : All (λ l. l.cycle < k) S) where
   -- ---- memory
@@ -197,39 +192,3 @@ module _ (g : LaunchGraph) (table : Table) (k : ℕ) (S : List Launch) (below : 
         let le : c.0.cycle ≤ t.0 = leb-true c.0.cycle t.0 p.1 in
         let cycles : b.cycle ≡ c.0.cycle = ap (λ (l : Launch). l.cycle) same in
         omega arith
-
-  -- ---- registers
-
-  module _ (U : List Taken) (says : SaysRegisters g table k S U) (few : count_by any U ≤ length g.pool)
-      (alone : AllPairs (λ l m. ¬ Collide l m) S) where
-    abbrev takes : Taken → Launch → Bool
-    takes u l = is_taken_at l.slot l.cycle u
-
-    one_each : (u : Taken) → count_by (λ l. launches g gives_word l && takes u l) S ≤ 1
-    one_each u =
-        count-one (λ l. launches g gives_word l && takes u l) S (λ i j d lt len p q.
-        let a = get_or S i d in
-        let b = get_or S j d in
-        let pa = and_parts (u.slot == a.slot) (u.cycle == a.cycle) (and_parts (launches g gives_word a) (takes u a) p).1 in
-        let pb = and_parts (u.slot == b.slot) (u.cycle == b.cycle) (and_parts (launches g gives_word b) (takes u b) q).1 in
-        alone i j d lt len (sym (eqb-true u.cycle a.cycle pa.1) ∙ eqb-true u.cycle b.cycle pb.1, sym (eqb-true u.slot a.slot pa.0) ∙ eqb-true u.slot b.slot pb.0))
-
-    pub in_pool : count_by (launches g gives_word) S ≤ length g.pool
-    in_pool =
-        let a = count-by-places (launches g gives_word) takes U S says in
-        let b = sum_by-le (λ u. count_by (λ l. launches g gives_word l && takes u l) S) 1 U (λ i d lt. one_each (get_or U i d)) in
-        let c = count-any U in
-        omega arith
-
-  pub fits_where : KeepsCycleRules g table k S → KeepsMemory g S → HasOneBranch g S → All (WaitsPlain g S) S → count_by (launches g gives_word) S ≤ length g.pool → FitsWithoutPins g table k S
-  fits_where rules memory branch after pool = record {
-    rows = rules.rows;
-    apart = rules.apart;
-    operands = rules.operands;
-    in_time = rules.in_time;
-    targets = rules.targets;
-    memory = memory;
-    one_branch = branch;
-    after_branch = after;
-    pool = pool;
-  }

@@ -4,3 +4,5 @@ pub mod WholeFormula
 pub mod OrderSteps
 pub mod OrderCounts
 pub mod Worked
+pub mod PinnedWorked
+pub mod PinFamilies

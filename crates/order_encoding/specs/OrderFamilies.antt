@@ -4,7 +4,7 @@ use Rattle.std.specs.Prelude.{ℕ, ◌+◌, ◌==◌, ◌&&◌, ◌||◌, nat_le
 use Rattle.std.specs.List.{flat_map, range_with_len}
 use Rattle.cnf_core.specs.declared.literal.Lit.{Lit}
 use Rattle.graph_meaning.specs.Graphs.{memory_target}
-use Rattle.schedule_meaning.specs.Launches.{launches, gives_word, is_load, is_store, is_branch, class_at}
+use Rattle.schedule_meaning.specs.Launches.{launches, is_load, is_store, is_branch, class_at}
 use Rattle.schedule_meaning.specs.Launches.{memory_class_at, is_held}
 use Rattle.graph_meaning.specs.declared.graphs.LaunchGraph.{LaunchGraph}
 use Rattle.schedule_meaning.specs.declared.schedules.Launch.{Launch}
@@ -108,14 +108,6 @@ abbrev pub come_clauses : LaunchGraph → List (ℕ × Launch) → List (ℕ × 
 come_clauses g xs bs = when (is_some g.guard) (implied bs (λ t. vars_of (branches_by g t) xs ∷ []))
 
 -- ---- registers: us are the slots and cycles whose launches take one
-
--- what gives a word takes a register
-abbrev pub takes : LaunchGraph → List (ℕ × Taken) → Launch → List (List Lit)
-takes g us l = when (launches g gives_word l) (vars_of (is_taken_at l.slot l.cycle) us ∷ [])
-
--- 15: each launch that gives a word takes one
-abbrev pub register_clauses : LaunchGraph → List (ℕ × Launch) → List (ℕ × Taken) → List (List Lit)
-register_clauses g xs us = implied xs (λ l. takes g us l)
 
 -- 16: at most as many registers are taken as the pool has
 abbrev pub register_groups : List (ℕ × Taken) → List (List Lit)

@@ -1,14 +1,23 @@
 -- What the steps of the encoder of memory, guards and registers look up.
 -- Source: this project.
-use Rattle.std.specs.Prelude.{◌≡◌, ℕ, ◌+◌, length, Bool, List, map, Option, None, Some, if◌then◌else◌}
+use Rattle.std.specs.Prelude.{◌≡◌, ℕ, ◌+◌, length, Bool, List, map, Option, None, Some, if◌then◌else◌, ◌*◌, ◌==◌, not}
+use Rattle.std.specs.Prelude.{[], ◌∷◌, ◌++◌}
 use Rattle.std.specs.List.{flat_map, filter, range_with_len}
 use Rattle.machine_table.specs.declared.tables.InstrKind.{InstrKind}
 use Rattle.graph_meaning.specs.WellFormed.{next_class}
 use Rattle.graph_meaning.specs.declared.graphs.LaunchGraph.{LaunchGraph}
-use Rattle.schedule_meaning.specs.Launches.{launches}
+use Rattle.schedule_meaning.specs.Launches.{launches, goes_to}
 use Rattle.schedule_meaning.specs.declared.schedules.Launch.{Launch}
-use Rattle.cycle_encoding.specs.Shapes.{numbered}
+use Rattle.cycle_encoding.specs.Shapes.{numbered, implied, negative, positive, vars_of, when}
 use Rattle.order_encoding.specs.OrderVariables.{Held, is_memory_class, memory_classes}
+use Rattle.cnf_core.specs.declared.literal.Lit.{Lit}
+use Rattle.cnf_core.specs.Counter.{at_most_size}
+use Rattle.machine_table.specs.declared.tables.Table.{Table}
+use Rattle.cycle_encoding.specs.Counts.{one_if}
+use Rattle.cycle_encoding.specs.CycleFormula.{Scope}
+use Rattle.cycle_encoding.specs.Variables.{is_overwriting, Overwritten}
+use Rattle.order_encoding.specs.PinFamilies.{has_own_input}
+use Rattle.order_encoding.specs.OrderCounts.{goes_count}
 
 -- ---- launches of a kind
 
@@ -40,3 +49,32 @@ held_before g n class =
 pub record AreHeldVars (g : LaunchGraph) (k : ℕ) (classes : List ℕ) (starts : List (Option ℕ)) : Type 0 where
   pub classes_are : classes ≡ memory_classes g
   pub starts_are : starts ≡ map (held_before g (k + 1)) (range_with_len 0 (next_class g.rows))
+
+-- ---- clauses: the variables of the set's cycles from 0 to k are those after `before`
+
+-- what is overwritten of a set
+abbrev pub set_overwritten : ℕ → ℕ → List Overwritten
+set_overwritten k j = map (λ t. record { set = j; cycle = t }) (range_with_len 0 (k + 1))
+
+-- a launch to the set overwrites its register from the next cycle on
+abbrev pub next_in_set : ℕ → ℕ → ℕ → Launch → List (List Lit)
+next_in_set k before j l =
+    when (goes_to j l) (vars_of (λ t. t == l.cycle + 1) (numbered before (range_with_len 0 (k + 1))) ∷ [])
+
+-- what is overwritten below a cycle is so below the next
+abbrev pub stays_in_set : ℕ → ℕ → List Lit
+stays_in_set before t = negative (before + t + 1) ∷ positive (before + t + 2) ∷ []
+
+-- both
+abbrev pub clauses_in_set : ℕ → List (ℕ × Launch) → ℕ → ℕ → List (List Lit)
+clauses_in_set k xs before j =
+    implied xs (next_in_set k before j) ++ map (stays_in_set before) (range_with_len 0 k)
+
+-- ---- counts
+
+-- its counter; what it overwrites, if that is an input's register; and that some launch goes to it, where one has to
+abbrev pub set_size : LaunchGraph → Table → ℕ → Scope → ℕ → ℕ
+set_size g table k s j =
+    at_most_size 1 (goes_count g table k s j)
+    + one_if (is_overwriting g j) * (goes_count g table k s j + k)
+    + one_if (not (has_own_input g j))

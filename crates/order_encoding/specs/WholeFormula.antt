@@ -10,11 +10,15 @@ use Rattle.schedule_meaning.specs.declared.schedules.Launch.{Launch}
 use Rattle.cycle_encoding.specs.Shapes.{numbered, counters, counters_vars, when}
 use Rattle.cycle_encoding.specs.Encodings.{AreListed}
 use Rattle.cycle_encoding.specs.declared.encodings.Encoding.{Encoding}
-use Rattle.cycle_encoding.specs.CycleFormula.{Listed, Scope, listed_in, launch_vars, cycle_formula}
+use Rattle.cycle_encoding.specs.CycleFormula.{Listed, Scope, launch_vars}
+use Rattle.cycle_encoding.specs.Variables.{Overwritten}
+use Rattle.cycle_encoding.specs.CycleFormula.{overwritten_vars, cycle_formula}
+use Rattle.cycle_encoding.specs.CycleFormula.{listed_in}
 use Rattle.order_encoding.specs.OrderVariables.{all_held, all_taken, Held, Taken}
 use Rattle.order_encoding.specs.OrderFamilies.{entry_clauses, memory_clauses, kept_clauses, held_groups}
 use Rattle.order_encoding.specs.OrderFamilies.{store_groups, last_clauses, branch_clauses, branch_groups}
-use Rattle.order_encoding.specs.OrderFamilies.{wait_clauses, come_clauses, register_clauses, register_groups}
+use Rattle.order_encoding.specs.OrderFamilies.{wait_clauses, come_clauses, register_groups}
+use Rattle.order_encoding.specs.PinFamilies.{pool_clauses, overwritten_clauses, pin_groups, pin_clauses, late_clauses}
 
 -- ---- a formula f with a part more: xs are the launches with their variables, and each kind of new variables begins
 -- after the last one before it
@@ -80,15 +84,28 @@ module _ (g : LaunchGraph) (k : ℕ) (xs : List (ℕ × Launch)) (f : Formula) w
     abbrev pub before_new_pool : ℕ
     before_new_pool = f.vars + length (all_taken table k)
 
-    abbrev pub added_pool : List (List Lit)
-    added_pool =
-        register_clauses g xs new_taken ++ counters before_new_pool (length g.pool) (register_groups new_taken)
+    abbrev pub added_registers : List (List Lit)
+    added_registers =
+        pool_clauses g xs new_taken ++ counters before_new_pool (length g.pool) (register_groups new_taken)
 
-    abbrev pub formula_with_pool : Formula
-    formula_with_pool = record {
+    abbrev pub formula_with_registers : Formula
+    formula_with_registers = record {
       vars = before_new_pool + counters_vars (length g.pool) (register_groups new_taken);
-      clauses = f.clauses ++ added_pool;
+      clauses = f.clauses ++ added_registers;
     }
+
+  -- pins: vs is what is overwritten, bs the cycles by which the branch was launched, with variables that stand before
+
+  module _ (vs : List (ℕ × Overwritten)) (bs : List (ℕ × ℕ)) where
+    abbrev pub added_pins : List (List Lit)
+    added_pins =
+        overwritten_clauses g k xs vs
+        ++ counters f.vars 1 (pin_groups g xs)
+        ++ pin_clauses g xs
+        ++ late_clauses g xs bs
+
+    abbrev pub formula_with_pins : Formula
+    formula_with_pins = record { vars = f.vars + counters_vars 1 (pin_groups g xs); clauses = f.clauses ++ added_pins }
 
 -- ---- the formulas of the calls, one after another
 
@@ -99,8 +116,16 @@ module _ (g : LaunchGraph) (table : Table) (k : ℕ) (e : Listed) where
   abbrev pub guard_formula : Formula
   guard_formula = formula_with_guard g k (launch_vars g table k e) memory_formula
 
+  abbrev pub pool_formula : Formula
+  pool_formula = formula_with_registers g k (launch_vars g table k e) guard_formula table
+
+  -- the cycles by which the branch was launched have the first variables behind those of memory
+  abbrev pub branch_vars : List (ℕ × ℕ)
+  branch_vars = new_come g k (launch_vars g table k e) memory_formula
+
   abbrev pub whole_formula : Formula
-  whole_formula = formula_with_pool g k (launch_vars g table k e) guard_formula table
+  whole_formula =
+      formula_with_pins g k (launch_vars g table k e) pool_formula (overwritten_vars g table k e) branch_vars
 
 -- these are the clauses for k cycles over the lists of the encoding
 pub record IsFormulaOf (e : Encoding) (g : LaunchGraph) (table : Table) (k : ℕ) (f : Formula) : Type 0 where

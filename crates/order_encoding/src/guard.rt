@@ -4,20 +4,21 @@ ghost use Rattle.std.specs.List.{filter, range_with_len};
 ghost use Rattle.graph_meaning.specs.WellFormed.{IsLaunchGraph};
 ghost use Rattle.machine_table.specs.Tables.{IsTable};
 ghost use Rattle.schedule_meaning.specs.Launches as specs;
-ghost use Rattle.cycle_encoding.specs.CycleFormula.{listed_in};
 ghost use Rattle.cycle_encoding.specs.Encodings.{OnLists};
 ghost use Rattle.cycle_encoding.specs.Faults.{EncodeFaultIs};
 ghost use Rattle.cycle_encoding.specs.Plans.{IsTooLarge};
 ghost use Rattle.cycle_encoding.specs.Shapes.{positive, implied, numbered, vars_of};
 ghost use Rattle.cycle_encoding.specs.Steps.{of_thing, with_clauses};
+ghost use Rattle.cycle_encoding.specs.CycleFormula.{listed_in};
 ghost use Rattle.order_encoding.specs.OrderFamilies.{branches_by, comes_after};
 ghost use Rattle.order_encoding.specs.OrderSteps.{launched_in};
 ghost use Rattle.order_encoding.specs.WholeFormula.{formula_with_guard, guard_formula, memory_formula};
 
-use crate::counts::{grown, guard_sizes};
+use crate::counts::grown;
 use crate::cycles::cycle_var;
 use crate::kinds::{branches, push_var_if, waits};
 use crate::laws::parts_are_counted;
+use crate::sizes::guard_sizes;
 use cnf_core::{Cnf, Lit, at_most_one, counters_count};
 use cycle_encoding::{
     EncodeFault, Encoded, Facts, Scope, add_implied, add_vars, each_encoding_has_one_list,
@@ -188,7 +189,8 @@ fn add_guard_in(
     requires graph { IsLaunchGraph facts.now }
     requires formula { encoded.cnf ≡ memory_formula facts.now table.now encoded.plan.cycles
         (listed_in facts.now table.now encoded.plan.cycles scope.now) }
-    requires launches { encoded.plan.launches ≡ (listed_in facts.now table.now encoded.plan.cycles scope.now).launches }
+    requires launches { encoded.plan.launches
+        ≡ (listed_in facts.now table.now encoded.plan.cycles scope.now).launches }
     ensures formula { IfOk result (λ e. e.cnf ≡ guard_formula facts.now table.now encoded.plan.cycles
         (listed_in facts.now table.now encoded.plan.cycles scope.now)) }
     ensures plan { IfOk result (λ e. e.plan ≡ encoded.plan) }

@@ -1,4 +1,4 @@
-// Which instructions rows have, and the launches of a kind.
+// Which instructions rows have, where launches go, and the launches of a kind.
 ghost use Rattle.std.specs.Prelude.{◌≡◌, ◌<◌, ◌^◌, [], ◌∷◌, ◌++◌, if◌then◌else◌, length, IfOk, OnOk};
 ghost use Rattle.schedule_meaning.specs.Launches as specs;
 ghost use Rattle.cycle_encoding.specs.Counts.{row_is};
@@ -10,7 +10,7 @@ use cnf_core::Lit;
 use cycle_encoding::Facts;
 use items::NoMemory;
 use machine_table::InstrKind;
-use schedule_meaning::{Launch, is_held};
+use schedule_meaning::{Launch, To, is_held};
 use std::alloc::Global;
 
 /// Whether the row's instruction is a load.
@@ -48,6 +48,26 @@ pub fn waits(facts: &Facts, row: u32) -> bool
     ensures { result ≡ counts.row_waits facts.now row }
 {
     is_store(facts, row) || is_load(facts, row) && is_held(facts.graph())
+}
+
+/// Whether the launch takes a register of the pool: it goes there and gives a word.
+pub fn takes_pool(facts: &Facts, launch: Launch) -> bool
+    ensures { result ≡ specs.takes_pool facts.now launch }
+{
+    match launch.to {
+        To::Pool => facts.gives_word(launch.row),
+        To::Set(_) => false,
+    }
+}
+
+/// Whether the launch goes to the set of this number.
+pub fn goes_to(launch: Launch, set: u32) -> bool
+    ensures { result ≡ specs.goes_to set launch }
+{
+    match launch.to {
+        To::Pool => false,
+        To::Set(number) => number == set,
+    }
 }
 
 /// The stores, with their variables.

@@ -5,25 +5,27 @@ ghost use Rattle.cnf_core.specs.Formula.{IsLitOf};
 ghost use Rattle.graph_meaning.specs.WellFormed.{IsLaunchGraph};
 ghost use Rattle.machine_table.specs.Tables.{IsTable};
 ghost use Rattle.schedule_meaning.specs.Launches as specs;
-ghost use Rattle.cycle_encoding.specs.CycleFormula.{cycle_formula, listed_in};
 ghost use Rattle.cycle_encoding.specs.Encodings.{OnLists};
 ghost use Rattle.cycle_encoding.specs.Faults.{EncodeFaultIs};
 ghost use Rattle.cycle_encoding.specs.Plans.{IsTooLarge};
 ghost use Rattle.cycle_encoding.specs.Shapes.{negative, positive, implied, numbered, counters_vars, counters_size};
 ghost use Rattle.cycle_encoding.specs.Steps.{of_thing, with_clauses, with_counters};
+ghost use Rattle.cycle_encoding.specs.CycleFormula.{cycle_formula};
+ghost use Rattle.cycle_encoding.specs.CycleFormula.{listed_in};
 ghost use Rattle.order_encoding.specs.OrderVariables.{all_held};
 ghost use Rattle.order_encoding.specs.OrderFamilies.{kept_clauses, memory_clauses, store_groups, leaves, uses_held};
 ghost use Rattle.order_encoding.specs.OrderFamilies.{stays, stored};
 ghost use Rattle.order_encoding.specs.OrderSteps.{AreHeldVars, held_at, launched_in};
 ghost use Rattle.order_encoding.specs.WholeFormula.{with_memory, memory_formula};
 
-use crate::counts::{grown, memory_sizes};
+use crate::counts::grown;
 use crate::cycles::cycle_var;
 use crate::held::{
     HeldVars, add_entry, add_held_counters, add_last, held_after, held_var, held_vars,
 };
 use crate::kinds::{is_load, is_store, push_var_if, stores};
 use crate::laws::parts_are_counted;
+use crate::sizes::memory_sizes;
 use cnf_core::{Cnf, Lit, at_most_one, counters_count};
 use cycle_encoding::{
     EncodeFault, Encoded, Facts, Scope, add_implied, add_vars, cycle_counts_are_found,
@@ -395,7 +397,8 @@ fn add_memory_in(
     requires graph { IsLaunchGraph facts.now }
     requires formula { encoded.cnf ≡ cycle_formula facts.now table.now encoded.plan.cycles
         (listed_in facts.now table.now encoded.plan.cycles scope.now) }
-    requires launches { encoded.plan.launches ≡ (listed_in facts.now table.now encoded.plan.cycles scope.now).launches }
+    requires launches { encoded.plan.launches
+        ≡ (listed_in facts.now table.now encoded.plan.cycles scope.now).launches }
     ensures formula { IfOk result (λ e. e.cnf ≡ memory_formula facts.now table.now encoded.plan.cycles
         (listed_in facts.now table.now encoded.plan.cycles scope.now)) }
     ensures plan { IfOk result (λ e. e.plan ≡ encoded.plan) }

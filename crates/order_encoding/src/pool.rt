@@ -1,20 +1,23 @@
-// Registers: launches that give words take no more registers than the pool has.
+// Registers: launches to the pool that give words take no more registers than it has.
 ghost use Rattle.std.specs.Prelude.{◌≡◌, ◌+◌, ◌<◌, ◌≤◌, ◌^◌, List, length, IfOk, IfErr, OnOk, option_to_list};
 ghost use Rattle.graph_meaning.specs.WellFormed.{IsLaunchGraph};
 ghost use Rattle.machine_table.specs.Tables.{IsTable};
-ghost use Rattle.cycle_encoding.specs.CycleFormula.{listed_in};
 ghost use Rattle.cycle_encoding.specs.Families.{any};
 ghost use Rattle.cycle_encoding.specs.Encodings.{OnLists};
 ghost use Rattle.cycle_encoding.specs.Faults.{EncodeFaultIs};
 ghost use Rattle.cycle_encoding.specs.Plans.{IsTooLarge};
 ghost use Rattle.cycle_encoding.specs.Shapes.{numbered, vars_of};
 ghost use Rattle.cycle_encoding.specs.Steps.{of_thing, with_clauses};
+ghost use Rattle.cycle_encoding.specs.CycleFormula.{listed_in};
 ghost use Rattle.order_encoding.specs.OrderVariables.{all_taken, Taken};
-ghost use Rattle.order_encoding.specs.OrderFamilies.{is_taken_at, register_clauses, takes};
-ghost use Rattle.order_encoding.specs.WholeFormula.{formula_with_pool, guard_formula, whole_formula};
+ghost use Rattle.order_encoding.specs.OrderFamilies.{is_taken_at};
+ghost use Rattle.order_encoding.specs.WholeFormula.{formula_with_registers, guard_formula, pool_formula};
+ghost use Rattle.order_encoding.specs.PinFamilies.{pool_clauses, takes_register};
 
-use crate::counts::{grown, pool_sizes, registers};
+use crate::counts::{grown, registers};
+use crate::kinds::takes_pool;
 use crate::laws::parts_are_counted;
+use crate::sizes::pool_sizes;
 use cnf_core::{Cnf, Lit, at_most, counters_count};
 use cycle_encoding::{
     EncodeFault, Encoded, Facts, Scope, add_implied, add_vars, each_encoding_has_one_list,
@@ -42,7 +45,7 @@ fn taken_var(table: &Table, k: u32, first: u32, slot: u32, cycle: u32) -> Option
     })
 }
 
-/// Adds for each launch that gives a word the clause that it takes a register.
+/// Adds for each launch to the pool that gives a word the clause that it takes a register.
 fn add_takes(
     cnf: &mut Cnf,
     facts: &Facts,
@@ -55,10 +58,10 @@ fn add_takes(
     requires exist { first + length (all_taken table.now k) ≤ cnf.old.vars }
     requires few { cnf.old.vars < 2 ^ 29 }
     requires room { length cnf.old.clauses
-        + length (register_clauses facts.now (numbered 0 launches.now) (numbered first (all_taken table.now k)))
+        + length (pool_clauses facts.now (numbered 0 launches.now) (numbered first (all_taken table.now k)))
         < 2 ^ 30 }
     ensures { OnOk result (cnf.new ≡ with_clauses cnf.old
-        (register_clauses facts.now (numbered 0 launches.now) (numbered first (all_taken table.now k)))) }
+        (pool_clauses facts.now (numbered 0 launches.now) (numbered first (all_taken table.now k)))) }
 {
     for (index, launch) in launches.iter().enumerate() {
         add_take(cnf, facts, table, first, k, index as u32 + 1, *launch)?;
@@ -66,7 +69,7 @@ fn add_takes(
     Ok(())
 }
 
-/// Adds the clause of one launch, if it gives a word.
+/// Adds the clause of one launch, if it goes to the pool and gives a word.
 fn add_take(
     cnf: &mut Cnf,
     facts: &Facts,
@@ -80,12 +83,12 @@ fn add_take(
     requires launches { var ≤ first }
     requires exist { first + length (all_taken table.now k) ≤ cnf.old.vars }
     requires few { cnf.old.vars < 2 ^ 29 }
-    requires room { length cnf.old.clauses + length (takes facts.now (numbered first (all_taken table.now k)) launch)
-        < 2 ^ 30 }
+    requires room { length cnf.old.clauses
+        + length (takes_register facts.now (numbered first (all_taken table.now k)) launch) < 2 ^ 30 }
     ensures { OnOk result (cnf.new ≡ with_clauses cnf.old
-        (of_thing var (takes facts.now (numbered first (all_taken table.now k)) launch))) }
+        (of_thing var (takes_register facts.now (numbered first (all_taken table.now k)) launch))) }
 {
-    if facts.gives_word(launch.row) {
+    if takes_pool(facts, launch) {
         add_implied(
             cnf,
             var,
@@ -124,10 +127,10 @@ pub fn extend_by_pool(
     requires cycles { k ≤ 24 }
     requires table { IsTable table.now }
     requires exist { length launches.now ≤ cnf.old.vars }
-    requires vars { (formula_with_pool facts.now k (numbered 0 launches.now) cnf.old table.now).vars ≤ 262144 }
-    requires clauses { length (formula_with_pool facts.now k (numbered 0 launches.now) cnf.old table.now).clauses
+    requires vars { (formula_with_registers facts.now k (numbered 0 launches.now) cnf.old table.now).vars ≤ 262144 }
+    requires clauses { length (formula_with_registers facts.now k (numbered 0 launches.now) cnf.old table.now).clauses
         ≤ 2000000 }
-    ensures { OnOk result (cnf.new ≡ formula_with_pool facts.now k (numbered 0 launches.now) cnf.old table.now) }
+    ensures { OnOk result (cnf.new ≡ formula_with_registers facts.now k (numbered 0 launches.now) cnf.old table.now) }
 {
     counters_count();
     let first = cnf.vars();
@@ -154,12 +157,12 @@ pub fn add_pool(
     requires plan { OnLists encoded.plan.encoding graph.now table.now encoded.plan.cycles
         (λ l. encoded.plan.launches ≡ l.launches) }
     ensures formula { IfOk result (λ e. OnLists encoded.plan.encoding graph.now table.now encoded.plan.cycles
-        (λ l. e.cnf ≡ whole_formula graph.now table.now encoded.plan.cycles l)) }
+        (λ l. e.cnf ≡ pool_formula graph.now table.now encoded.plan.cycles l)) }
     ensures plan { IfOk result (λ e. e.plan ≡ encoded.plan) }
     ensures size { IfErr result (λ fault. OnLists encoded.plan.encoding graph.now table.now encoded.plan.cycles
-        (λ l. EncodeFaultIs (whole_formula graph.now table.now encoded.plan.cycles l) fault)) }
+        (λ l. EncodeFaultIs (pool_formula graph.now table.now encoded.plan.cycles l) fault)) }
     ensures within { OnOk result (OnLists encoded.plan.encoding graph.now table.now encoded.plan.cycles
-        (λ l. ¬ IsTooLarge (whole_formula graph.now table.now encoded.plan.cycles l))) }
+        (λ l. ¬ IsTooLarge (pool_formula graph.now table.now encoded.plan.cycles l))) }
 {
     each_encoding_has_one_list();
     let facts = Facts::new(alloc, graph)?;
@@ -180,13 +183,14 @@ fn add_pool_in(
     requires graph { IsLaunchGraph facts.now }
     requires formula { encoded.cnf ≡ guard_formula facts.now table.now encoded.plan.cycles
         (listed_in facts.now table.now encoded.plan.cycles scope.now) }
-    requires launches { encoded.plan.launches ≡ (listed_in facts.now table.now encoded.plan.cycles scope.now).launches }
-    ensures formula { IfOk result (λ e. e.cnf ≡ whole_formula facts.now table.now encoded.plan.cycles
+    requires launches { encoded.plan.launches
+        ≡ (listed_in facts.now table.now encoded.plan.cycles scope.now).launches }
+    ensures formula { IfOk result (λ e. e.cnf ≡ pool_formula facts.now table.now encoded.plan.cycles
         (listed_in facts.now table.now encoded.plan.cycles scope.now)) }
     ensures plan { IfOk result (λ e. e.plan ≡ encoded.plan) }
-    ensures size { IfErr result (EncodeFaultIs (whole_formula facts.now table.now encoded.plan.cycles
+    ensures size { IfErr result (EncodeFaultIs (pool_formula facts.now table.now encoded.plan.cycles
         (listed_in facts.now table.now encoded.plan.cycles scope.now))) }
-    ensures within { OnOk result (¬ IsTooLarge (whole_formula facts.now table.now encoded.plan.cycles
+    ensures within { OnOk result (¬ IsTooLarge (pool_formula facts.now table.now encoded.plan.cycles
         (listed_in facts.now table.now encoded.plan.cycles scope.now))) }
 {
     parts_are_counted();

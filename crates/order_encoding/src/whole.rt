@@ -1,23 +1,28 @@
 // The whole formula of a schedule.
 ghost use Rattle.std.specs.Prelude.{◌≡◌, ◌↔◌, ◌≤◌, ◌<◌, ◌^◌, ℕ, Bool, List, Contains, length, IfOk, IfErr, OnOk};
+ghost use Rattle.std.specs.List.{filter};
 ghost use Rattle.cnf_core.specs.Formula.{Satisfies};
-ghost use Rattle.graph_meaning.specs.Graphs.{HasNoPins};
 ghost use Rattle.graph_meaning.specs.WellFormed.{IsLaunchGraph};
 ghost use Rattle.machine_table.specs.Tables.{IsTable};
 ghost use Rattle.schedule_meaning.specs.Fits.{Fits};
 ghost use Rattle.schedule_meaning.specs.declared.schedules.Launch.{Launch as LaunchOf};
-ghost use Rattle.cycle_encoding.specs.CycleFormula.{listed_in, wide, Listed as ListedOf};
+ghost use Rattle.cycle_encoding.specs.CycleFormula.{Listed as ListedOf};
 ghost use Rattle.cycle_encoding.specs.Encodings.{AreListed};
 ghost use Rattle.cycle_encoding.specs.Faults.{EncodeFaultIs};
+ghost use Rattle.cycle_encoding.specs.CycleFormula.{listed_in};
+ghost use Rattle.cycle_encoding.specs.CycleFormula.{wide, before_overwritten};
 ghost use Rattle.cycle_encoding.specs.Plans.{IsTooLarge, plan_of};
 ghost use Rattle.cycle_encoding.specs.Shapes.{numbered, shown};
 ghost use Rattle.order_encoding.specs.WholeFormula.{formula_in, whole_formula};
 
-use crate::counts::{both, guard_sizes, memory_sizes, pool_sizes};
+use crate::counts::both;
 use crate::guard::extend_by_guard;
-use crate::laws::{clauses_say_fits, counts_are_found, each_encoding_says_fits};
+use crate::laws::{counts_are_found, each_encoding_says_fits};
 use crate::memory::extend_by_memory;
+use crate::pin_counts::pins_sizes;
+use crate::pins::extend_by_pins;
 use crate::pool::extend_by_pool;
+use crate::sizes::{guard_sizes, memory_sizes, pool_sizes};
 use cycle_encoding::{
     EncodeFault, Encoded, Encoding, Facts, Scope, Sizes, build_cycles, cycle_sizes,
     each_encoding_has_one_list,
@@ -44,10 +49,11 @@ pub fn count_in(
         ≡ length (formula_in scope.now facts.now table.now k).clauses) }
 {
     counts_are_found();
-    let cycle = cycle_sizes(alloc, facts, table, scope, k)?;
+    let cycle = cycle_sizes(facts, table, scope, k);
     let with_memory = both(cycle, memory_sizes(facts, table, scope, k));
-    let formula_with_guard = both(with_memory, guard_sizes(facts, table, scope, k));
-    Ok(both(formula_with_guard, pool_sizes(facts, table, scope, k)))
+    let with_guard = both(with_memory, guard_sizes(facts, table, scope, k));
+    let with_pool = both(with_guard, pool_sizes(facts, table, scope, k));
+    Ok(both(with_pool, pins_sizes(facts, table, scope, k)))
 }
 
 /// The whole formula over what a scope gives variables. Facts and scope are made once for a graph and a table, and
@@ -68,6 +74,7 @@ pub fn full_in(
       encoding = scope.now.encoding;
       cycles = k;
       launches = (listed_in facts.now table.now k scope.now).launches;
+      overwritten = before_overwritten facts.now table.now k (listed_in facts.now table.now k scope.now);
     }) }
     ensures size { IfErr result (EncodeFaultIs (formula_in scope.now facts.now table.now k)) }
     ensures within { OnOk result (¬ IsTooLarge (formula_in scope.now facts.now table.now k)) }
@@ -78,9 +85,9 @@ pub fn full_in(
     Ok(build_whole(alloc, facts, table, scope, k)?)
 }
 
-/// The whole formula of schedules in k cycles: cycles, slots and values, memory, the branch of a guard, and registers.
-/// Where no set of the graph has a pin, values satisfy its clauses exactly where the launches that they show fit. Its
-/// counts are found before any clause is built; where one passes its limit they are the answer.
+/// The whole formula of schedules in k cycles: cycles, slots and values, memory, the branch of a guard, registers, and
+/// pins. Values satisfy its clauses exactly where the launches that they show fit. Its counts are found before any
+/// clause is built; where one passes its limit they are the answer.
 pub fn full(
     alloc: Global,
     graph: &LaunchGraph,
@@ -90,21 +97,23 @@ pub fn full(
     requires cycles { k ≤ 24 }
     requires table { IsTable table.now }
     requires graph { IsLaunchGraph graph.now }
-    ensures formula { IfOk result (λ e. e.cnf ≡ whole_formula graph.now table.now k (wide graph.now table.now k)) }
+    ensures formula { IfOk result (λ e. e.cnf
+        ≡ whole_formula graph.now table.now k (wide graph.now table.now k)) }
     ensures plan { IfOk result (λ e. e.plan ≡ plan_of graph.now table.now k) }
-    ensures size { IfErr result (EncodeFaultIs (whole_formula graph.now table.now k (wide graph.now table.now k))) }
-    ensures within { OnOk result (¬ IsTooLarge (whole_formula graph.now table.now k (wide graph.now table.now k))) }
+    ensures size { IfErr result (EncodeFaultIs
+        (whole_formula graph.now table.now k (wide graph.now table.now k))) }
+    ensures within { OnOk result
+        (¬ IsTooLarge (whole_formula graph.now table.now k (wide graph.now table.now k))) }
     ensures vars { IfOk result (λ e. length e.plan.launches ≤ e.cnf.vars) }
 
-    // Where no set has a pin, what the values of variables show fits where they satisfy the clauses, and each schedule
-    // that fits is shown.
-    ensures shown { IfOk result (λ e. HasNoPins graph.now → (v : ℕ → Bool) → Satisfies v e.cnf.clauses
+    // What the values of variables show fits where they satisfy the clauses, and each schedule that fits is shown.
+    ensures shown { IfOk result (λ e. (v : ℕ → Bool) → Satisfies v e.cnf.clauses
         → Fits graph.now table.now k (shown v (numbered 0 e.plan.launches))) }
-    ensures each { IfOk result (λ e. HasNoPins graph.now → (ls : List LaunchOf) → Fits graph.now table.now k ls
+    ensures each { IfOk result (λ e. (ls : List LaunchOf) → Fits graph.now table.now k ls
         → (v : ℕ → Bool) × Satisfies v e.cnf.clauses
         × ((l : LaunchOf) → Contains (shown v (numbered 0 e.plan.launches)) l ↔ Contains ls l)) }
 {
-    clauses_say_fits();
+    each_encoding_says_fits();
     full_as(alloc, Encoding::Wide, graph, table, k)
 }
 
@@ -122,20 +131,24 @@ pub fn full_as(
     ensures listed { OnOk result ((l : ListedOf) × AreListed encoding graph.now table.now k l) }
     ensures formula { IfOk result (λ e. (l : ListedOf) → AreListed encoding graph.now table.now k l
         → e.cnf ≡ whole_formula graph.now table.now k l) }
-    ensures plan { IfOk result (λ e. (l : ListedOf) → AreListed encoding graph.now table.now k l
-        → e.plan ≡ record { encoding = encoding; cycles = k; launches = l.launches }) }
+    ensures plan { IfOk result (λ e. (l : ListedOf) → AreListed encoding graph.now table.now k l → e.plan ≡ record {
+      encoding = encoding;
+      cycles = k;
+      launches = l.launches;
+      overwritten = before_overwritten graph.now table.now k l;
+    }) }
     ensures size { IfErr result (λ fault. (l : ListedOf) → AreListed encoding graph.now table.now k l
         → EncodeFaultIs (whole_formula graph.now table.now k l) fault) }
     ensures within { OnOk result ((l : ListedOf) → AreListed encoding graph.now table.now k l
         → ¬ IsTooLarge (whole_formula graph.now table.now k l)) }
     ensures vars { IfOk result (λ e. length e.plan.launches ≤ e.cnf.vars) }
 
-    // Where no set has a pin, what the values of variables show fits where they satisfy the clauses, and each schedule
-    // that fits has a part that fits and is shown.
-    ensures shown { IfOk result (λ e. HasNoPins graph.now → (v : ℕ → Bool) → Satisfies v e.cnf.clauses
+    // What the values of variables show fits where they satisfy the clauses, and each schedule that fits has a part
+    // that fits and is shown.
+    ensures shown { IfOk result (λ e. (v : ℕ → Bool) → Satisfies v e.cnf.clauses
         → Fits graph.now table.now k (shown v (numbered 0 e.plan.launches))) }
-    ensures some { IfOk result (λ e. HasNoPins graph.now → (ls : List LaunchOf) → Fits graph.now table.now k ls
-        → (ms : List LaunchOf) × Fits graph.now table.now k ms × ((l : LaunchOf) → Contains ms l → Contains ls l)
+    ensures some { IfOk result (λ e. (ls : List LaunchOf) → Fits graph.now table.now k ls
+        → (ms : List LaunchOf) × Fits graph.now table.now k ms × ((keep : LaunchOf → Bool) × (ms ≡ filter keep ls))
         × ((v : ℕ → Bool) × Satisfies v e.cnf.clauses
         × ((l : LaunchOf) → Contains (shown v (numbered 0 e.plan.launches)) l ↔ Contains ms l))) }
 {
@@ -163,13 +176,25 @@ fn build_whole(
       encoding = scope.now.encoding;
       cycles = k;
       launches = (listed_in facts.now table.now k scope.now).launches;
+      overwritten = before_overwritten facts.now table.now k (listed_in facts.now table.now k scope.now);
     }) }
 {
     let encoded = build_cycles(alloc, facts, table, scope, k)?;
     let mut cnf = encoded.cnf;
     let plan = encoded.plan;
-    extend_by_memory(alloc, &mut cnf, facts, plan.launches(), k)?;
-    extend_by_guard(alloc, &mut cnf, facts, plan.launches(), k)?;
-    extend_by_pool(alloc, &mut cnf, facts, table, plan.launches(), k)?;
+    let launches = plan.launches();
+    extend_by_memory(alloc, &mut cnf, facts, launches, k)?;
+    let branches = cnf.vars();
+    extend_by_guard(alloc, &mut cnf, facts, launches, k)?;
+    extend_by_pool(alloc, &mut cnf, facts, table, launches, k)?;
+    extend_by_pins(
+        alloc,
+        &mut cnf,
+        facts,
+        launches,
+        k,
+        plan.overwritten(),
+        branches,
+    )?;
     Ok(Encoded { cnf, plan })
 }

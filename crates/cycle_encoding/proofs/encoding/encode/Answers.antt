@@ -1,5 +1,5 @@
 use Rattle.std.proofs.Common.{refl}
-use Rattle.cycle_encoding.specs.CycleFormula.{cycle_formula, wide}
+use Rattle.cycle_encoding.specs.CycleFormula.{wide, cycle_formula}
 use Rattle.cycle_encoding.specs.Faults.{EncodeFaultIs}
 use Rattle.cycle_encoding.proofs.Built.{if_ok, if_err, on_ok_more}
 use Rattle.cycle_encoding.proofs.encoding.encode.Goals as goal

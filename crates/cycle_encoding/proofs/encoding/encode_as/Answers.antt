@@ -2,9 +2,11 @@ use Rattle.std.proofs.Common.{◌≡◌, ◌∙◌, ap, sym, subst, arith, ℕ, 
 use Rattle.std.proofs.lemmas.Result.{err_from_is_err_and}
 use Rattle.graph_meaning.specs.declared.graphs.LaunchGraph.{LaunchGraph}
 use Rattle.machine_table.specs.declared.tables.Table.{Table}
-use Rattle.cycle_encoding.specs.CycleFormula.{Listed, Scope, cycle_formula, first_cycle_in, listed_in}
-use Rattle.cycle_encoding.specs.Variables.{launches_from}
+use Rattle.cycle_encoding.specs.CycleFormula.{Listed, Scope, first_cycle_in}
 use Rattle.cycle_encoding.specs.Counts.{cycle_vars, cycle_size}
+use Rattle.cycle_encoding.specs.CycleFormula.{listed_in}
+use Rattle.cycle_encoding.specs.CycleFormula.{before_overwritten, cycle_formula}
+use Rattle.cycle_encoding.specs.Variables.{launches_from}
 use Rattle.cycle_encoding.specs.Encodings.{AreListed}
 use Rattle.cycle_encoding.specs.Plans.{Plan, IsTooLarge}
 use Rattle.cycle_encoding.specs.declared.encodings.Encoding.{Encoding}
@@ -21,8 +23,8 @@ returns-in_err-within_limits-clause-size c =
     let k = c.args.k in
     let s = c.in_ok-scope.scope in
     let own = own-list c.args.encoding g c.in_ok-facts.facts table k s c.in_ok-facts.ensures (c.in_ok-scope.ensures.lists k c.requires.cycles) in
-    let vars = c.in_ok-sizes.ensures.vars ∙ ap (λ (x : LaunchGraph). cycle_vars x table k s) c.in_ok-facts.ensures ∙ sym (c.cycle_counts_are_found.ensures.vars g table k s) in
-    let clauses = c.in_ok-sizes.ensures.clauses ∙ ap (λ (x : LaunchGraph). cycle_size x table k s) c.in_ok-facts.ensures ∙ sym (c.cycle_counts_are_found.ensures.clauses g table k s) in
+    let vars = c.cycle_sizes.ensures.vars ∙ ap (λ (x : LaunchGraph). cycle_vars x table k s) c.in_ok-facts.ensures ∙ sym (c.cycle_counts_are_found.ensures.vars g table k s) in
+    let clauses = c.cycle_sizes.ensures.clauses ∙ ap (λ (x : LaunchGraph). cycle_size x table k s) c.in_ok-facts.ensures ∙ sym (c.cycle_counts_are_found.ensures.clauses g table k s) in
     let p = err_from_is_err_and c.from_residual-in_err-within_limits.result c.from_residual-in_err-within_limits.ensures.1 in
     rw (p.1, p.2)
     (λ l a.
@@ -32,12 +34,12 @@ returns-in_err-within_limits-clause-size c =
 
 pub build_cycles-requires-clause-vars : goal.build_cycles-requires-clause-vars
 build_cycles-requires-clause-vars c =
-    let vars = c.in_ok-sizes.ensures.vars ∙ sym (c.cycle_counts_are_found.ensures.vars c.in_ok-facts.facts c.args.table.now c.args.k c.in_ok-scope.scope) in
+    let vars = c.cycle_sizes.ensures.vars ∙ sym (c.cycle_counts_are_found.ensures.vars c.in_ok-facts.facts c.args.table.now c.args.k c.in_ok-scope.scope) in
     omega (arith, vars, c.in_ok-within_limits.ensures.few_vars)
 
 pub build_cycles-requires-clause-clauses : goal.build_cycles-requires-clause-clauses
 build_cycles-requires-clause-clauses c =
-    let clauses = c.in_ok-sizes.ensures.clauses ∙ sym (c.cycle_counts_are_found.ensures.clauses c.in_ok-facts.facts c.args.table.now c.args.k c.in_ok-scope.scope) in
+    let clauses = c.cycle_sizes.ensures.clauses ∙ sym (c.cycle_counts_are_found.ensures.clauses c.in_ok-facts.facts c.args.table.now c.args.k c.in_ok-scope.scope) in
     omega (arith, clauses, c.in_ok-within_limits.ensures.few_clauses)
 
 pub returns-clause-listed : goal.returns-clause-listed
@@ -70,9 +72,9 @@ returns-clause-plan c =
     let own = own-list c.args.encoding g c.in_ok-facts.facts table k s c.in_ok-facts.ensures (c.in_ok-scope.ensures.lists k c.requires.cycles) in
     λ l a.
     c.in_ok-build_cycles.ensures.plan
-    ∙ ap {A = LaunchGraph} {B = Plan} (λ x. record { encoding = s.encoding; cycles = k; launches = launches_from x table k (first_cycle_in s) }) c.in_ok-facts.ensures
-    ∙ ap {A = Encoding} {B = Plan} (λ e. record { encoding = e; cycles = k; launches = launches_from g table k (first_cycle_in s) }) c.in_ok-scope.ensures.encoding
-    ∙ ap {A = Listed} {B = Plan} (λ x. record { encoding = c.args.encoding; cycles = k; launches = x.launches }) (sym (c.each_encoding_has_one_list.ensures c.args.encoding g table k l (listed_in g table k s) a own))
+    ∙ ap {A = LaunchGraph} {B = Plan} (λ x. record { encoding = s.encoding; cycles = k; launches = launches_from x table k (first_cycle_in s); overwritten = before_overwritten x table k (listed_in x table k s) }) c.in_ok-facts.ensures
+    ∙ ap {A = Encoding} {B = Plan} (λ e. record { encoding = e; cycles = k; launches = launches_from g table k (first_cycle_in s); overwritten = before_overwritten g table k (listed_in g table k s) }) c.in_ok-scope.ensures.encoding
+    ∙ ap {A = Listed} {B = Plan} (λ x. record { encoding = c.args.encoding; cycles = k; launches = x.launches; overwritten = before_overwritten g table k x }) (sym (c.each_encoding_has_one_list.ensures c.args.encoding g table k l (listed_in g table k s) a own))
 
 pub returns-clause-within : goal.returns-clause-within
 returns-clause-within c =
@@ -81,7 +83,7 @@ returns-clause-within c =
     let k = c.args.k in
     let s = c.in_ok-scope.scope in
     let own = own-list c.args.encoding g c.in_ok-facts.facts table k s c.in_ok-facts.ensures (c.in_ok-scope.ensures.lists k c.requires.cycles) in
-    let vars = c.in_ok-sizes.ensures.vars ∙ ap (λ (x : LaunchGraph). cycle_vars x table k s) c.in_ok-facts.ensures ∙ sym (c.cycle_counts_are_found.ensures.vars g table k s) in
-    let clauses = c.in_ok-sizes.ensures.clauses ∙ ap (λ (x : LaunchGraph). cycle_size x table k s) c.in_ok-facts.ensures ∙ sym (c.cycle_counts_are_found.ensures.clauses g table k s) in
+    let vars = c.cycle_sizes.ensures.vars ∙ ap (λ (x : LaunchGraph). cycle_vars x table k s) c.in_ok-facts.ensures ∙ sym (c.cycle_counts_are_found.ensures.vars g table k s) in
+    let clauses = c.cycle_sizes.ensures.clauses ∙ ap (λ (x : LaunchGraph). cycle_size x table k s) c.in_ok-facts.ensures ∙ sym (c.cycle_counts_are_found.ensures.clauses g table k s) in
     λ l a. subst (λ x. IsTooLarge (cycle_formula g table k x) → ⊥) (sym (c.each_encoding_has_one_list.ensures c.args.encoding g table k l (listed_in g table k s) a own))
     (c.in_ok-within_limits.ensures.within (cycle_formula g table k (listed_in g table k s)) vars clauses)

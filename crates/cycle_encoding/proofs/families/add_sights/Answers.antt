@@ -1,23 +1,40 @@
-use Rattle.std.proofs.Common.{sym, subst, take, arith, List}
-use Rattle.std.specs.Prelude.{All, option_to_list}
+use Rattle.std.proofs.Common.{◌∙◌, ◌∷◌, ◌++◌, ℕ, ap, take, arith, List}
+use Rattle.std.specs.Prelude.{option_to_list, slice_index}
 use Rattle.cnf_core.specs.declared.literal.Lit.{Lit}
-use Rattle.cnf_core.specs.Formula.{IsLitOf}
 use Rattle.machine_table.specs.Tables.{cluster_of}
-use Rattle.cycle_encoding.specs.Shapes.{numbered}
+use Rattle.schedule_meaning.specs.Launches.{reads_until}
 use Rattle.cycle_encoding.specs.Families.{is_seen}
+use Rattle.cycle_encoding.specs.Families.{is_lost}
+use Rattle.cycle_encoding.specs.Variables.{all_overwritten}
+use Rattle.cycle_encoding.specs.Shapes.{numbered, negative, negated, vars_of}
 use Rattle.cycle_encoding.specs.Steps.{of_thing, sights}
-use Rattle.cycle_encoding.proofs.Blocks.{vars-over}
 use Rattle.cycle_encoding.proofs.Adding.{vars-with}
-use Rattle.cycle_encoding.proofs.FamilySteps.{sight_step}
+use Rattle.cycle_encoding.proofs.FamilySteps.{sight_exist, sight_step}
 use Rattle.cycle_encoding.proofs.families.add_sights.Goals as goal
 
-pub add_implied-requires-clause-lit : goal.add_implied-requires-clause-lit
-add_implied-requires-clause-lit c =
+pub add-requires-clause-exist : goal.add-requires-clause-exist
+add-requires-clause-exist c =
+    let g = c.args.facts.now in
     let seen = c.args.seen.now in
-    let same = vars-with c.args.cnf.now c.loop-class.cnf (of_thing c.args.var (sights (cluster_of c.args.table.now c.args.launch.slot) c.args.launch.cycle (numbered seen.first seen.seen.items) (take c.loop-class.class-index c.args.made.now))) c.loop-class.invariant in
-    subst (λ (ys : List Lit). All (IsLitOf c.loop-class.cnf.vars) ys) (sym c.seen_var-sight.ensures) (vars-over (is_seen _ c.cluster_of-cluster.result c.args.launch.cycle) seen.first c.loop-class.cnf.vars seen.seen.items (let e = c.requires.exist in omega arith))
+    let over = c.args.over.now in
+    let same = vars-with c.args.cnf.now c.loop-class.cnf (of_thing c.args.var (sights g (cluster_of c.args.table.now c.args.launch.slot) c.args.launch.cycle (reads_until g c.args.launch) (numbered seen.first seen.seen.items) (numbered over.first (all_overwritten g over.cycles)) (take c.loop-class.class-index c.args.needed.now))) c.loop-class.invariant in
+    let next = c.requires.next in
+    let within = c.requires.within in
+    let exist = c.requires.exist in
+    let above = c.requires.var in
+    sight_exist g c.loop-class.cnf.vars c.args.var _ c.reads_until-until.result (option_to_list c.seen_var-sight.result) c.deref.result.now _ seen.seen.items seen.first over.first over.cycles (record { above = omega arith; within = omega arith }) c.seen_var-sight.ensures (c.deref.ensures.value ∙ c.in_ok-clause.ensures) (omega arith) (omega arith)
 
 pub loop-class-preserved : goal.loop-class-preserved
 loop-class-preserved c =
+    let g = c.args.facts.now in
+    let l = c.args.launch in
     let seen = c.args.seen.now in
-    sight_step (cluster_of c.args.table.now c.args.launch.slot) c.cluster_of-cluster.result c.args.launch.cycle c.args.var (numbered seen.first seen.seen.items) c.args.made.now c.loop-class.class-index _ c.args.cnf.now c.loop-class.cnf c.add_implied.new.cnf (option_to_list c.seen_var-sight.result) c.cluster_of-cluster.ensures c.loop-class-test.true c.seen_var-sight.ensures c.loop-class.invariant c.in_ok-add_implied.ensures
+    let over = c.args.over.now in
+    let ds = numbered seen.first seen.seen.items in
+    let vs = numbered over.first (all_overwritten g over.cycles) in
+    let class = slice_index c.args.needed.now c.loop-class.class-index in
+    let clause = c.deref.ensures.value ∙ c.in_ok-clause.ensures
+    ∙ ap (λ (ls : List Lit). negative c.args.var ∷ (ls ++ negated (is_lost g class c.reads_until-until.result) vs)) c.seen_var-sight.ensures
+    ∙ ap (λ (n : ℕ). negative c.args.var ∷ (vars_of (is_seen class n l.cycle) ds ++ negated (is_lost g class c.reads_until-until.result) vs)) c.cluster_of-cluster.ensures
+    ∙ ap (λ (n : ℕ). negative c.args.var ∷ (vars_of (is_seen class (cluster_of c.args.table.now l.slot) l.cycle) ds ++ negated (is_lost g class n) vs)) c.reads_until-until.ensures in
+    sight_step g (cluster_of c.args.table.now l.slot) l.cycle (reads_until g l) ds vs c.args.var c.args.needed.now c.loop-class.class-index _ c.args.cnf.now c.loop-class.cnf c.add.new.self c.deref.result.now c.loop-class-test.true clause c.loop-class.invariant c.in_ok-add.ensures.ok

@@ -3,7 +3,7 @@ use Rattle.std.specs.List.{range_with_len}
 use Rattle.std.specs.Prelude.{List, length}
 use Rattle.cycle_encoding.specs.CycleFormula.{wants_in}
 use Rattle.cycle_encoding.specs.Variables.{Seen}
-use Rattle.cycle_encoding.specs.Facts.{is_shown_class}
+use Rattle.cycle_encoding.specs.Facts.{is_unsafe_shown}
 use Rattle.cycle_encoding.specs.Steps.{clusters_seen, seen_before}
 use Rattle.cycle_encoding.proofs.Tables.{table_more}
 use Rattle.cycle_encoding.proofs.Listed.{kept_more}
@@ -18,6 +18,6 @@ loop-class-preserved c =
     let seen = c.loop-class.invariant.seen in
     let size = ap (λ (xs : List Seen). length xs) (c.as_slice.ensures.value ∙ seen) in
     record {
-      seen = c.in_ok-push_class.ensures ∙ ap (λ (ys : List Seen). ys ++ cond (is_shown_class g wants i) (f i) []) seen ∙ sym (kept_more f (is_shown_class g wants) i (is_shown_class g wants i) refl);
+      seen = c.in_ok-push_class.ensures ∙ ap (λ (ys : List Seen). ys ++ cond (is_unsafe_shown g wants i) (f i) []) seen ∙ sym (kept_more f (is_unsafe_shown g wants) i (is_unsafe_shown g wants i) refl);
       starts = c.in_ok-push.ensures.items ∙ ap (λ ys. ys ++ length c.as_slice.result.now ∷ []) c.loop-class.invariant.starts ∙ ap (λ n. map (seen_before g wants c.args.table.now c.args.k) (range_with_len 0 i) ++ n ∷ []) size ∙ sym (table_more (seen_before g wants c.args.table.now c.args.k) i);
     }

@@ -3,8 +3,8 @@ use Rattle.std.specs.Prelude.{Contains}
 use Rattle.std.proofs.lemmas.List.{take_all}
 use Rattle.std.proofs.lemmas.List.Elements.{Contains-get_or}
 use Rattle.std.proofs.lemmas.List.FromFn.{length-map-range_with_len, get_or-map-range_with_len}
-use Rattle.cycle_encoding.specs.Coming.{needs_of}
-use Rattle.cycle_encoding.specs.Wanting.{giving_rows, AreAllMarked}
+use Rattle.cycle_encoding.specs.Wanting.{giving_rows, AreAllMarked, wanted_needs}
+use Rattle.cycle_encoding.proofs.Members.{range-out}
 use Rattle.cycle_encoding.proofs.WantSteps.{giving-out, follow-wanted, longer-both, more-rows}
 use Rattle.cycle_encoding.proofs.wanting.follow.Goals as goal
 
@@ -14,8 +14,8 @@ bounds-needs-row c =
     let i = c.loop-row.row-index in
     let row = get_or c.args.rows.now i 0 in
     let member : Contains (giving_rows g c.args.class) row = subst (λ (xs : List ℕ). Contains xs row) c.requires.rows (Contains-get_or c.args.rows.now i 0 c.loop-row-test.true) in
-    let low = (giving-out g c.args.class row member).0 in
-    let size = ap (λ (xs : List (List ℕ)). length xs) c.requires.needs ∙ length-map-range_with_len (needs_of g) 0 (length g.rows + 1) in
+    let low = (range-out 0 (length g.rows + 1 + length g.sets) row (giving-out g c.args.class row member).0).1 in
+    let size = ap (λ (xs : List (List ℕ)). length xs) c.requires.needs ∙ length-map-range_with_len (wanted_needs g) 0 (length g.rows + 1 + length g.sets) in
     omega arith
 
 pub want_all-requires-clause-wanted : goal.want_all-requires-clause-wanted
@@ -24,11 +24,11 @@ want_all-requires-clause-wanted c =
     let i = c.loop-row.row-index in
     let row = get_or c.args.rows.now i 0 in
     let member : Contains (giving_rows g c.args.class) row = subst (λ (xs : List ℕ). Contains xs row) c.requires.rows (Contains-get_or c.args.rows.now i 0 c.loop-row-test.true) in
-    let low = (giving-out g c.args.class row member).0 in
+    let low = (range-out 0 (length g.rows + 1 + length g.sets) row (giving-out g c.args.class row member).0).1 in
     let e =
     c.as_slice.ensures ∙ c.index-needs-row.is
     ∙ ap (λ (xs : List (List ℕ)). get_or xs row c.index-needs-row.result) c.requires.needs
-    ∙ get_or-map-range_with_len (needs_of g) 0 (length g.rows + 1) row row c.index-needs-row.result (omega arith) (omega arith) in
+    ∙ get_or-map-range_with_len (wanted_needs g) 0 (length g.rows + 1 + length g.sets) row row c.index-needs-row.result (omega arith) (omega arith) in
     λ class h. follow-wanted g c.args.class row class c.requires.wanted member (subst (λ (cs : List ℕ). Contains cs class) e h)
 
 pub loop-row-preserved : goal.loop-row-preserved
@@ -37,11 +37,11 @@ loop-row-preserved c =
     let i = c.loop-row.row-index in
     let row = get_or c.args.rows.now i 0 in
     let member : Contains (giving_rows g c.args.class) row = subst (λ (xs : List ℕ). Contains xs row) c.requires.rows (Contains-get_or c.args.rows.now i 0 c.loop-row-test.true) in
-    let low = (giving-out g c.args.class row member).0 in
+    let low = (range-out 0 (length g.rows + 1 + length g.sets) row (giving-out g c.args.class row member).0).1 in
     let e =
     c.as_slice.ensures ∙ c.index-needs-row.is
     ∙ ap (λ (xs : List (List ℕ)). get_or xs row c.index-needs-row.result) c.requires.needs
-    ∙ get_or-map-range_with_len (needs_of g) 0 (length g.rows + 1) row row c.index-needs-row.result (omega arith) (omega arith) in
+    ∙ get_or-map-range_with_len (wanted_needs g) 0 (length g.rows + 1 + length g.sets) row row c.index-needs-row.result (omega arith) (omega arith) in
     let v = c.loop-row.invariant in
     let n = c.in_ok-want_all.ensures in
     record {

@@ -1,7 +1,6 @@
 use Rattle.std.proofs.Common.{ℕ, ◌≡◌, length, take}
 use Rattle.std.specs.Prelude.{Contains}
-use Rattle.cycle_encoding.specs.Coming.{needs_of}
-use Rattle.cycle_encoding.specs.Wanting.{AreWantedMarks, AreAllMarked, IsLonger, StillMarked}
+use Rattle.cycle_encoding.specs.Wanting.{AreWantedMarks, AreAllMarked, IsLonger, StillMarked, wanted_needs}
 use Rattle.cycle_encoding.proofs.wanting.follow.Given as goal
 
 abbrev pub invariant-loop-row : goal.invariant-loop-row
@@ -10,5 +9,5 @@ invariant-loop-row l = record {
   marks : AreWantedMarks l.facts l.marks.items l.order.items;
   longer : IsLonger l.initial.order.items l.order.items;
   still : StillMarked l.initial.marks.items l.marks.items;
-  has : (row : ℕ) → Contains (take l.row-index l.rows) row → AreAllMarked l.marks.items (needs_of l.facts row);
+  has : (row : ℕ) → Contains (take l.row-index l.rows) row → AreAllMarked l.marks.items (wanted_needs l.facts row);
 }

@@ -1,7 +1,6 @@
 use Rattle.std.proofs.Common.{ℕ, ◌≡◌, ◌<◌, length}
 use Rattle.std.specs.Prelude.{IsTrue}
-use Rattle.cycle_encoding.specs.Coming.{needs_of}
-use Rattle.cycle_encoding.specs.Wanting.{is_root, AreWantedMarks, AreAllMarked, StillMarked}
+use Rattle.cycle_encoding.specs.Wanting.{is_root, AreWantedMarks, AreAllMarked, StillMarked, wanted_needs}
 use Rattle.cycle_encoding.proofs.wanting.want_roots.Given as goal
 
 abbrev pub invariant-loop-row : goal.invariant-loop-row
@@ -9,5 +8,5 @@ invariant-loop-row l = record {
   size : length l.marks.items ≡ length l.initial.marks.items;
   marks : AreWantedMarks l.facts l.marks.items l.order.items;
   still : StillMarked l.initial.marks.items l.marks.items;
-  has : (row : ℕ) → row < l.row → IsTrue (is_root l.facts row) → AreAllMarked l.marks.items (needs_of l.facts row);
+  has : (row : ℕ) → row < l.row → IsTrue (is_root l.facts row) → AreAllMarked l.marks.items (wanted_needs l.facts row);
 }

@@ -2,7 +2,7 @@ use Rattle.std.proofs.Common.{◌∙◌, ap, Bool, List, length, ◌∷◌, []}
 use Rattle.std.proofs.lemmas.List.FromFn.{length-map-range_with_len}
 use Rattle.graph_meaning.specs.WellFormed.{next_class}
 use Rattle.graph_meaning.specs.declared.graphs.LaunchGraph.{LaunchGraph}
-use Rattle.cycle_encoding.specs.Coming.{needs_of}
+use Rattle.cycle_encoding.specs.Wanting.{wanted_needs}
 use Rattle.cycle_encoding.proofs.WantSteps.{none-marked, kept-marks, marks-exact}
 use Rattle.cycle_encoding.proofs.wanting.wanted.Goals as goal
 
@@ -27,7 +27,7 @@ returns c =
     three.size ∙ two.size ∙ one.size
     ∙ ap (λ (xs : List Bool). length xs) c.in_ok-marks.ensures ∙ length-map-range_with_len _ 0 c.next_class-classes.result
     ∙ c.next_class-classes.ensures ∙ ap (λ (g : LaunchGraph). next_class g.rows) c.graph.ensures in
-    marks-exact g m c.close.new.order.items size three.marks
+    marks-exact g c.requires.graph m c.close.new.order.items size three.marks
     (λ s h t. kept-marks b m (s.class ∷ []) three.still three.size (kept-marks a b (s.class ∷ []) two.still two.size (one.has s h t)))
-    (λ row lt t. kept-marks b m (needs_of g row) three.still three.size (two.has row lt t))
+    (λ row lt t. kept-marks b m (wanted_needs g row) three.still three.size (two.has row lt t))
     three.followed

@@ -2,12 +2,12 @@ use Rattle.std.proofs.Common.{◌∙◌, ◌+◌, ◌≤◌, sym, ap, subst}
 use Rattle.std.specs.Prelude.{length}
 use Rattle.std.proofs.lemmas.Result.{err_from_is_err_and}
 use Rattle.cnf_core.specs.Formula.{Formula}
-use Rattle.cycle_encoding.specs.CycleFormula.{listed_in}
-use Rattle.cycle_encoding.specs.Counts.{cycle_size, cycle_vars}
-use Rattle.order_encoding.specs.OrderCounts.{guard_size, guard_vars, memory_size, memory_vars}
 use Rattle.order_encoding.specs.WholeFormula.{guard_formula, memory_formula}
 use Rattle.order_encoding.proofs.Limits.{grown_count, guard_now}
 use Rattle.order_encoding.proofs.guard.add_guard_in.Goals as goal
+use Rattle.cycle_encoding.specs.Counts.{cycle_size, cycle_vars}
+use Rattle.cycle_encoding.specs.CycleFormula.{listed_in}
+use Rattle.order_encoding.specs.OrderCounts.{guard_size, guard_vars, memory_size, memory_vars}
 
 pub returns-in_err-within_limits-clause-size : goal.returns-in_err-within_limits-clause-size
 returns-in_err-within_limits-clause-size c =

@@ -1,10 +1,11 @@
 use Rattle.std.proofs.Common.{◌≡◌}
 use Rattle.graph_meaning.specs.declared.graphs.LaunchGraph.{LaunchGraph}
-use Rattle.cycle_encoding.specs.CycleFormula.{Listed, cycle_formula}
+use Rattle.cycle_encoding.specs.CycleFormula.{Listed}
 use Rattle.cycle_encoding.specs.Faults.{EncodeFaultIs}
 use Rattle.cycle_encoding.specs.Plans.{IsTooLarge}
 use Rattle.cycle_encoding.proofs.Built.{if_ok, if_err, on_ok_more}
 use Rattle.order_encoding.specs.WholeFormula.{memory_formula}
+use Rattle.cycle_encoding.specs.CycleFormula.{cycle_formula}
 use Rattle.order_encoding.proofs.Lists.{as_listed, named, of_listed}
 use Rattle.order_encoding.proofs.memory.add_memory.Goals as goal
 

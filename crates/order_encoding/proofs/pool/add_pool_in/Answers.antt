@@ -2,12 +2,12 @@ use Rattle.std.proofs.Common.{◌∙◌, ◌+◌, ◌≤◌, sym, ap, subst}
 use Rattle.std.specs.Prelude.{length}
 use Rattle.std.proofs.lemmas.Result.{err_from_is_err_and}
 use Rattle.cnf_core.specs.Formula.{Formula}
-use Rattle.cycle_encoding.specs.CycleFormula.{listed_in}
-use Rattle.cycle_encoding.specs.Counts.{cycle_size, cycle_vars}
-use Rattle.order_encoding.specs.OrderCounts.{guard_size, guard_vars, memory_size, memory_vars, pool_size, pool_vars}
-use Rattle.order_encoding.specs.WholeFormula.{guard_formula, whole_formula}
+use Rattle.order_encoding.specs.WholeFormula.{guard_formula, pool_formula}
 use Rattle.order_encoding.proofs.Limits.{grown_count, pool_now}
 use Rattle.order_encoding.proofs.pool.add_pool_in.Goals as goal
+use Rattle.cycle_encoding.specs.Counts.{cycle_size, cycle_vars}
+use Rattle.cycle_encoding.specs.CycleFormula.{listed_in}
+use Rattle.order_encoding.specs.OrderCounts.{guard_size, guard_vars, memory_size, memory_vars, registers_size, registers_vars}
 
 pub returns-in_err-within_limits-clause-size : goal.returns-in_err-within_limits-clause-size
 returns-in_err-within_limits-clause-size c =
@@ -15,11 +15,11 @@ returns-in_err-within_limits-clause-size c =
     let table = c.args.table.now in
     let k = c.args.encoded.plan.cycles in
     let s = c.args.scope.now in
-    let w = whole_formula g table k (listed_in g table k s) in
+    let w = pool_formula g table k (listed_in g table k s) in
     let old = guard_formula g table k (listed_in g table k s) in
     let f = c.args.encoded.cnf in
-    let vars = grown_count (λ (x : Formula). x.vars) (λ n. pool_vars g table n s) c.cycles.result k f old w (cycle_vars g table k s + memory_vars g table k s + guard_vars g table k s) c.grown-sizes.result.vars c.cycles.ensures c.requires.formula (c.parts_are_counted.ensures.guard_vars g table k s) (c.parts_are_counted.ensures.whole_vars g table k s) (c.grown-sizes.ensures.vars ∙ ap (λ n. f.vars + n) c.pool_sizes.ensures.vars) in
-    let clauses = grown_count (λ (x : Formula). length x.clauses) (λ n. pool_size g table n s) c.cycles.result k f old w (cycle_size g table k s + memory_size g table k s + guard_size g table k s) c.grown-sizes.result.clauses c.cycles.ensures c.requires.formula (c.parts_are_counted.ensures.guard_clauses g table k s) (c.parts_are_counted.ensures.whole_clauses g table k s) (c.grown-sizes.ensures.clauses ∙ ap (λ n. length f.clauses + n) c.pool_sizes.ensures.clauses) in
+    let vars = grown_count (λ (x : Formula). x.vars) (λ n. registers_vars g table n s) c.cycles.result k f old w (cycle_vars g table k s + memory_vars g table k s + guard_vars g table k s) c.grown-sizes.result.vars c.cycles.ensures c.requires.formula (c.parts_are_counted.ensures.guard_vars g table k s) (c.parts_are_counted.ensures.pool_vars g table k s) (c.grown-sizes.ensures.vars ∙ ap (λ n. f.vars + n) c.pool_sizes.ensures.vars) in
+    let clauses = grown_count (λ (x : Formula). length x.clauses) (λ n. registers_size g table n s) c.cycles.result k f old w (cycle_size g table k s + memory_size g table k s + guard_size g table k s) c.grown-sizes.result.clauses c.cycles.ensures c.requires.formula (c.parts_are_counted.ensures.guard_clauses g table k s) (c.parts_are_counted.ensures.pool_clauses g table k s) (c.grown-sizes.ensures.clauses ∙ ap (λ n. length f.clauses + n) c.pool_sizes.ensures.clauses) in
     let p = err_from_is_err_and c.from_residual.result c.from_residual.ensures.1 in
     rw (p.1, p.2) (c.in_err-within_limits.ensures.size w vars clauses)
 
@@ -29,10 +29,10 @@ extend_by_pool-requires-clause-vars c =
     let table = c.args.table.now in
     let k = c.args.encoded.plan.cycles in
     let s = c.args.scope.now in
-    let w = whole_formula g table k (listed_in g table k s) in
+    let w = pool_formula g table k (listed_in g table k s) in
     let old = guard_formula g table k (listed_in g table k s) in
     let f = c.args.encoded.cnf in
-    let vars = grown_count (λ (x : Formula). x.vars) (λ n. pool_vars g table n s) c.cycles.result k f old w (cycle_vars g table k s + memory_vars g table k s + guard_vars g table k s) c.grown-sizes.result.vars c.cycles.ensures c.requires.formula (c.parts_are_counted.ensures.guard_vars g table k s) (c.parts_are_counted.ensures.whole_vars g table k s) (c.grown-sizes.ensures.vars ∙ ap (λ n. f.vars + n) c.pool_sizes.ensures.vars) in
+    let vars = grown_count (λ (x : Formula). x.vars) (λ n. registers_vars g table n s) c.cycles.result k f old w (cycle_vars g table k s + memory_vars g table k s + guard_vars g table k s) c.grown-sizes.result.vars c.cycles.ensures c.requires.formula (c.parts_are_counted.ensures.guard_vars g table k s) (c.parts_are_counted.ensures.pool_vars g table k s) (c.grown-sizes.ensures.vars ∙ ap (λ n. f.vars + n) c.pool_sizes.ensures.vars) in
     let is = pool_now g table k c.cycles-2.result c.cycles-2.ensures s c.launches.result.now f (c.launches.ensures ∙ c.requires.launches) c.requires.formula in
     subst (λ (x : Formula). x.vars ≤ 262144) (sym is) (subst (λ n. n ≤ 262144) vars c.in_ok-within_limits.ensures.few_vars)
 
@@ -42,10 +42,10 @@ extend_by_pool-requires-clause-clauses c =
     let table = c.args.table.now in
     let k = c.args.encoded.plan.cycles in
     let s = c.args.scope.now in
-    let w = whole_formula g table k (listed_in g table k s) in
+    let w = pool_formula g table k (listed_in g table k s) in
     let old = guard_formula g table k (listed_in g table k s) in
     let f = c.args.encoded.cnf in
-    let clauses = grown_count (λ (x : Formula). length x.clauses) (λ n. pool_size g table n s) c.cycles.result k f old w (cycle_size g table k s + memory_size g table k s + guard_size g table k s) c.grown-sizes.result.clauses c.cycles.ensures c.requires.formula (c.parts_are_counted.ensures.guard_clauses g table k s) (c.parts_are_counted.ensures.whole_clauses g table k s) (c.grown-sizes.ensures.clauses ∙ ap (λ n. length f.clauses + n) c.pool_sizes.ensures.clauses) in
+    let clauses = grown_count (λ (x : Formula). length x.clauses) (λ n. registers_size g table n s) c.cycles.result k f old w (cycle_size g table k s + memory_size g table k s + guard_size g table k s) c.grown-sizes.result.clauses c.cycles.ensures c.requires.formula (c.parts_are_counted.ensures.guard_clauses g table k s) (c.parts_are_counted.ensures.pool_clauses g table k s) (c.grown-sizes.ensures.clauses ∙ ap (λ n. length f.clauses + n) c.pool_sizes.ensures.clauses) in
     let is = pool_now g table k c.cycles-2.result c.cycles-2.ensures s c.launches.result.now f (c.launches.ensures ∙ c.requires.launches) c.requires.formula in
     subst (λ (x : Formula). length x.clauses ≤ 2000000) (sym is) (subst (λ n. n ≤ 2000000) clauses c.in_ok-within_limits.ensures.few_clauses)
 
@@ -55,11 +55,11 @@ returns-clause-within c =
     let table = c.args.table.now in
     let k = c.args.encoded.plan.cycles in
     let s = c.args.scope.now in
-    let w = whole_formula g table k (listed_in g table k s) in
+    let w = pool_formula g table k (listed_in g table k s) in
     let old = guard_formula g table k (listed_in g table k s) in
     let f = c.args.encoded.cnf in
-    let vars = grown_count (λ (x : Formula). x.vars) (λ n. pool_vars g table n s) c.cycles.result k f old w (cycle_vars g table k s + memory_vars g table k s + guard_vars g table k s) c.grown-sizes.result.vars c.cycles.ensures c.requires.formula (c.parts_are_counted.ensures.guard_vars g table k s) (c.parts_are_counted.ensures.whole_vars g table k s) (c.grown-sizes.ensures.vars ∙ ap (λ n. f.vars + n) c.pool_sizes.ensures.vars) in
-    let clauses = grown_count (λ (x : Formula). length x.clauses) (λ n. pool_size g table n s) c.cycles.result k f old w (cycle_size g table k s + memory_size g table k s + guard_size g table k s) c.grown-sizes.result.clauses c.cycles.ensures c.requires.formula (c.parts_are_counted.ensures.guard_clauses g table k s) (c.parts_are_counted.ensures.whole_clauses g table k s) (c.grown-sizes.ensures.clauses ∙ ap (λ n. length f.clauses + n) c.pool_sizes.ensures.clauses) in
+    let vars = grown_count (λ (x : Formula). x.vars) (λ n. registers_vars g table n s) c.cycles.result k f old w (cycle_vars g table k s + memory_vars g table k s + guard_vars g table k s) c.grown-sizes.result.vars c.cycles.ensures c.requires.formula (c.parts_are_counted.ensures.guard_vars g table k s) (c.parts_are_counted.ensures.pool_vars g table k s) (c.grown-sizes.ensures.vars ∙ ap (λ n. f.vars + n) c.pool_sizes.ensures.vars) in
+    let clauses = grown_count (λ (x : Formula). length x.clauses) (λ n. registers_size g table n s) c.cycles.result k f old w (cycle_size g table k s + memory_size g table k s + guard_size g table k s) c.grown-sizes.result.clauses c.cycles.ensures c.requires.formula (c.parts_are_counted.ensures.guard_clauses g table k s) (c.parts_are_counted.ensures.pool_clauses g table k s) (c.grown-sizes.ensures.clauses ∙ ap (λ n. length f.clauses + n) c.pool_sizes.ensures.clauses) in
     c.in_ok-within_limits.ensures.within w vars clauses
 
 pub returns-clause-formula : goal.returns-clause-formula

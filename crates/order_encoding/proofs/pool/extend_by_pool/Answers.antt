@@ -10,8 +10,8 @@ use Rattle.cycle_encoding.proofs.Blocks.{vars-over}
 use Rattle.cycle_encoding.proofs.Counting.{count-any}
 use Rattle.cycle_encoding.proofs.Totals.{size-vars}
 use Rattle.order_encoding.specs.OrderVariables.{all_taken}
-use Rattle.order_encoding.specs.OrderFamilies.{register_clauses}
-use Rattle.order_encoding.specs.WholeFormula.{formula_with_pool}
+use Rattle.order_encoding.specs.PinFamilies.{pool_clauses}
+use Rattle.order_encoding.specs.WholeFormula.{formula_with_registers}
 use Rattle.order_encoding.proofs.AddSteps.{then_same}
 use Rattle.order_encoding.proofs.TakenPlaces.{taken-count}
 use Rattle.order_encoding.proofs.Extended.{pool-room1, pool-room2, pool-vars2, pool-limit, pool-ends, pool-by-numbers, the_formula}
@@ -30,7 +30,7 @@ add_takes-requires-clause-exist c =
     let count = length table.slots * k in
     let n = f.vars + length taken in
     let us = numbered first taken in
-    let T = register_clauses g xs us in
+    let T = pool_clauses g xs us in
     let lits = vars_of any us in
     let many : length taken ≡ c.len.result * k = taken-count table k ∙ ap (λ m. m * k) (sym c.len.ensures) in
     let are = c.in_ok-lits.ensures taken many in
@@ -63,7 +63,7 @@ add_takes-requires-clause-room c =
     let count = length table.slots * k in
     let n = f.vars + length taken in
     let us = numbered first taken in
-    let T = register_clauses g xs us in
+    let T = pool_clauses g xs us in
     let lits = vars_of any us in
     let many : length taken ≡ c.len.result * k = taken-count table k ∙ ap (λ m. m * k) (sym c.len.ensures) in
     let are = c.in_ok-lits.ensures taken many in
@@ -94,7 +94,7 @@ at_most-requires-clause-exist c =
     let count = length table.slots * k in
     let n = f.vars + length taken in
     let us = numbered first taken in
-    let T = register_clauses g xs us in
+    let T = pool_clauses g xs us in
     let lits = vars_of any us in
     let many : length taken ≡ c.len.result * k = taken-count table k ∙ ap (λ m. m * k) (sym c.len.ensures) in
     let are = c.in_ok-lits.ensures taken many in
@@ -129,7 +129,7 @@ at_most-requires-clause-short c =
     let count = length table.slots * k in
     let n = f.vars + length taken in
     let us = numbered first taken in
-    let T = register_clauses g xs us in
+    let T = pool_clauses g xs us in
     let lits = vars_of any us in
     let many : length taken ≡ c.len.result * k = taken-count table k ∙ ap (λ m. m * k) (sym c.len.ensures) in
     let are = c.in_ok-lits.ensures taken many in
@@ -161,7 +161,7 @@ at_most-requires-clause-vars c =
     let count = length table.slots * k in
     let n = f.vars + length taken in
     let us = numbered first taken in
-    let T = register_clauses g xs us in
+    let T = pool_clauses g xs us in
     let lits = vars_of any us in
     let many : length taken ≡ c.len.result * k = taken-count table k ∙ ap (λ m. m * k) (sym c.len.ensures) in
     let are = c.in_ok-lits.ensures taken many in
@@ -196,7 +196,7 @@ at_most-requires-clause-room c =
     let count = length table.slots * k in
     let n = f.vars + length taken in
     let us = numbered first taken in
-    let T = register_clauses g xs us in
+    let T = pool_clauses g xs us in
     let lits = vars_of any us in
     let many : length taken ≡ c.len.result * k = taken-count table k ∙ ap (λ m. m * k) (sym c.len.ensures) in
     let are = c.in_ok-lits.ensures taken many in
@@ -231,7 +231,7 @@ returns c =
     let count = length table.slots * k in
     let n = f.vars + length taken in
     let us = numbered first taken in
-    let T = register_clauses g xs us in
+    let T = pool_clauses g xs us in
     let lits = vars_of any us in
     let many : length taken ≡ c.len.result * k = taken-count table k ∙ ap (λ m. m * k) (sym c.len.ensures) in
     let are = c.in_ok-lits.ensures taken many in
@@ -250,4 +250,4 @@ returns c =
     let f2 = c.add_takes.new.cnf in
     let e2 = c.in_ok-add_takes.ensures in
     let counted = λ (l : List Lit). the_formula (f2.vars + at_most_vars q (length l)) (f2.clauses ++ at_most_clauses f2.vars q l) in
-    then_same c.at_most.result c.at_most.new.cnf (counted c.deref.result.now) (formula_with_pool g k xs f table) (ap (λ (l : List Lit). counted l) (c.deref.ensures.value ∙ are) ∙ pool-ends lits T p q n f f1 f2 e1 sv sc e2 ∙ is) c.at_most.ensures.exact
+    then_same c.at_most.result c.at_most.new.cnf (counted c.deref.result.now) (formula_with_registers g k xs f table) (ap (λ (l : List Lit). counted l) (c.deref.ensures.value ∙ are) ∙ pool-ends lits T p q n f f1 f2 e1 sv sc e2 ∙ is) c.at_most.ensures.exact

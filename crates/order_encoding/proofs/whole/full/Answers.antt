@@ -1,8 +1,8 @@
 use Rattle.std.proofs.Common.{refl}
-use Rattle.cycle_encoding.specs.CycleFormula.{wide}
 use Rattle.cycle_encoding.specs.Faults.{EncodeFaultIs}
 use Rattle.cycle_encoding.proofs.Built.{if_ok, if_ok_both, if_err, on_ok_more}
 use Rattle.order_encoding.specs.WholeFormula.{whole_formula}
+use Rattle.cycle_encoding.specs.CycleFormula.{wide}
 use Rattle.order_encoding.proofs.Composed.{has_each}
 use Rattle.order_encoding.proofs.whole.full.Goals as goal
 
@@ -24,4 +24,4 @@ returns-clause-each c =
     let table = c.args.table.now in
     let k = c.args.k in
     let w = wide g table k in
-    if_ok_both _ _ _ c.full_as.result (λ e formula plan plain ls fit. has_each g table k e.cnf e.plan (formula w refl) (plan w refl) ls (c.clauses_say_fits.ensures.each g table k ls c.requires.table c.requires.graph plain fit)) c.full_as.ensures.formula c.full_as.ensures.plan
+    if_ok_both _ _ _ c.full_as.result (λ e formula plan ls fit. has_each g table k e.cnf e.plan (formula w refl) (plan w refl) ls (c.each_encoding_says_fits.ensures.each g table k ls c.requires.table c.requires.graph fit)) c.full_as.ensures.formula c.full_as.ensures.plan

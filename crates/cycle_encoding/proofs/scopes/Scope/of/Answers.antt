@@ -1,7 +1,8 @@
 use Rattle.std.proofs.Common.{◌≡◌, ap, sym, subst}
 use Rattle.graph_meaning.specs.declared.graphs.LaunchGraph.{LaunchGraph}
 use Rattle.machine_table.specs.declared.tables.Table.{Table}
-use Rattle.cycle_encoding.specs.CycleFormula.{Scope, wide_scope, listed_in}
+use Rattle.cycle_encoding.specs.CycleFormula.{Scope, wide_scope}
+use Rattle.cycle_encoding.specs.CycleFormula.{listed_in}
 use Rattle.cycle_encoding.specs.Encodings.{IsScope}
 use Rattle.cycle_encoding.specs.declared.encodings.Encoding.TheVariants.{Wide}
 use Rattle.cycle_encoding.proofs.scopes.Scope.of.Goals as goal

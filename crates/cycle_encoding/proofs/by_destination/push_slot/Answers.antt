@@ -1,0 +1,12 @@
+use Rattle.std.proofs.Common.{◌+◌}
+use Rattle.cycle_encoding.specs.Facts.{cycle_launches, destined_slot}
+use Rattle.cycle_encoding.proofs.Tables.{grown}
+use Rattle.cycle_encoding.proofs.Destined.{cycle_more}
+use Rattle.cycle_encoding.proofs.by_destination.push_slot.Goals as goal
+
+pub loop-step-preserved : goal.loop-step-preserved
+loop-step-preserved c =
+    let tos = c.args.tos.now in
+    let first = c.args.first in
+    let n = c.loop-step.step in
+    grown c.args.launches.now.items c.loop-step.launches.items c.push_cycle.new.launches.items (cycle_launches c.args.row c.args.slot tos (first + n)) (destined_slot c.args.row first n tos c.args.slot) (destined_slot c.args.row first (n + 1) tos c.args.slot) c.loop-step.invariant c.in_ok-push_cycle.ensures (cycle_more c.args.row c.args.slot first n tos)

@@ -1,7 +1,0 @@
-use Rattle.std.proofs.Common.{◌≡◌, ◌≤◌, ◌*◌}
-use Rattle.std.specs.List.{sum_by, range_with_len}
-use Rattle.cycle_encoding.specs.Counts.{row_count}
-use Rattle.cycle_encoding.proofs.counts.launch_count.Given as goal
-
-abbrev pub invariant-loop-row : goal.invariant-loop-row
-invariant-loop-row l = record { is : l.count ≡ sum_by (λ row. row_count l.facts l.table l.k l.scope row * 1) (range_with_len 0 l.row); small : l.count ≤ l.row * 200 }

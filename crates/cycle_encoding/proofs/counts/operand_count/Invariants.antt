@@ -1,9 +1,0 @@
-use Rattle.std.proofs.Common.{◌≡◌, ◌≤◌, ◌*◌}
-use Rattle.std.specs.List.{count_by, sum_by, range_with_len}
-use Rattle.schedule_meaning.specs.Launches.{operands_at}
-use Rattle.cycle_encoding.specs.Families.{is_made}
-use Rattle.cycle_encoding.specs.Counts.{row_count}
-use Rattle.cycle_encoding.proofs.counts.operand_count.Given as goal
-
-abbrev pub invariant-loop-row : goal.invariant-loop-row
-invariant-loop-row l = record { is : l.count ≡ sum_by (λ row. row_count l.facts l.table l.k l.scope row * count_by (is_made l.facts) (operands_at l.facts row)) (range_with_len 0 l.row); small : l.count ≤ l.row * 800 }

@@ -1,8 +1,0 @@
-use Rattle.std.proofs.Common.{◌≡◌, ◌≤◌, ◌*◌, ◌^◌}
-use Rattle.std.specs.List.{sum_by, range_with_len}
-use Rattle.cnf_core.specs.Counter.{at_most_vars, at_most_size}
-use Rattle.cycle_encoding.specs.Counts.{at_count}
-use Rattle.cycle_encoding.proofs.counts.place_sizes.Given as goal
-
-abbrev pub invariant-loop-slot : goal.invariant-loop-slot
-invariant-loop-slot l = record { vars : l.vars ≡ sum_by (λ s. sum_by (λ t. at_most_vars 1 (at_count l.facts l.table l.k l.scope s t)) (range_with_len 0 l.k)) (range_with_len 0 l.slot); clauses : l.clauses ≡ sum_by (λ s. sum_by (λ t. at_most_size 1 (at_count l.facts l.table l.k l.scope s t)) (range_with_len 0 l.k)) (range_with_len 0 l.slot); few_vars : l.vars ≤ l.slot * 2 ^ 36; few_clauses : l.clauses ≤ l.slot * 2 ^ 38 }

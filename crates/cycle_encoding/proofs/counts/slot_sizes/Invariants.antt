@@ -1,8 +1,0 @@
-use Rattle.std.proofs.Common.{◌≡◌, ◌≤◌, ◌*◌, ◌^◌}
-use Rattle.std.specs.List.{sum_by, range_with_len}
-use Rattle.cnf_core.specs.Counter.{at_most_vars, at_most_size}
-use Rattle.cycle_encoding.specs.Counts.{at_count}
-use Rattle.cycle_encoding.proofs.counts.slot_sizes.Given as goal
-
-abbrev pub invariant-loop-cycle : goal.invariant-loop-cycle
-invariant-loop-cycle l = record { vars : l.vars ≡ sum_by (λ t. at_most_vars 1 (at_count l.facts l.table l.k l.scope l.slot t)) (range_with_len 0 l.cycle); clauses : l.clauses ≡ sum_by (λ t. at_most_size 1 (at_count l.facts l.table l.k l.scope l.slot t)) (range_with_len 0 l.cycle); few_vars : l.vars ≤ l.cycle * 2 ^ 31; few_clauses : l.clauses ≤ l.cycle * (3 * 2 ^ 31) }

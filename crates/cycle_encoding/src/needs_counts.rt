@@ -1,0 +1,157 @@
+// How many clauses say that launches see their operands where sets may have pins.
+ghost use Rattle.std.specs.Prelude.{◌≡◌, ◌*◌, ◌<◌, ◌≤◌, ◌^◌, false, slice_get};
+ghost use Rattle.std.specs.Option.{option_map_or};
+ghost use Rattle.std.specs.List.{count_by, sum_by};
+ghost use Rattle.graph_meaning.specs.WellFormed.{IsLaunchGraph};
+ghost use Rattle.machine_table.specs.Tables.{IsTable};
+ghost use Rattle.schedule_meaning.specs.Launches.{operands_at, pin_of};
+ghost use Rattle.schedule_meaning.specs.Readers.{operand_of};
+ghost use Rattle.schedule_meaning.specs.declared.schedules.To.TheVariants.{Set as SetTo};
+ghost use Rattle.cycle_encoding.specs.Counts as counts;
+ghost use Rattle.cycle_encoding.specs.Families as families;
+ghost use Rattle.cycle_encoding.specs.Variables as variables;
+
+use crate::counts::row_count;
+use crate::reaching::{gives_word, takes};
+use crate::{Facts, Scope};
+use machine_table::{InstrKind, Table};
+use schedule_meaning::{To, class_at, operand_at, operand_count, pin_of};
+
+/// Whether some input of the class has the register.
+fn is_input_at(facts: &Facts, class: u32, register: u8) -> bool
+    ensures { result ≡ families.is_input_at facts.now class register }
+{
+    facts
+        .graph()
+        .inputs
+        .as_slice()
+        .iter()
+        .any(|input| input.class == class && input.reg == register)
+}
+
+/// Whether a launch with this destination itself writes the register of an input of the class.
+pub fn reads_own(facts: &Facts, to: To, class: u32) -> bool
+    ensures { result ≡ option_map_or (families.is_input_at facts.now class) (pin_of facts.now to) false }
+{
+    match pin_of(facts.graph(), to) {
+        Some(pin) => is_input_at(facts, class, pin),
+        None => false,
+    }
+}
+
+/// Whether the set is pinned to the register of an input of the class.
+pub fn takes_input(facts: &Facts, class: u32, set: u32) -> bool
+    ensures { result ≡ families.takes_input facts.now class set }
+{
+    reads_own(facts, To::Set(set), class)
+}
+
+/// Whether a launch with this destination needs a clause for an operand.
+pub fn needs_clause(facts: &Facts, to: To, class: u32, second: bool) -> bool
+    ensures { result ≡ counts.needs_clause facts.now to (operand_of class second) }
+{
+    facts.is_needed(class, second) && !reads_own(facts, to, class)
+}
+
+/// Whether the operand at a place needs a clause, as a number.
+fn need_at(facts: &Facts, to: To, row: u32, at: usize) -> u64
+    ensures value { result ≡ option_map_or (λ o. counts.one_if (counts.needs_clause facts.now to o))
+        (slice_get (operands_at facts.now row) at) 0 }
+    ensures few { result ≤ 1 }
+{
+    match operand_at(facts.graph(), row, at) {
+        Some(operand) => u64::from(needs_clause(facts, to, operand.class, operand.second)),
+        None => 0,
+    }
+}
+
+/// How many operands of a row need a clause for launches with this destination.
+fn needed_count(facts: &Facts, to: To, row: u32) -> u64
+    requires graph { IsLaunchGraph facts.now }
+    ensures value { result ≡ count_by (counts.needs_clause facts.now to) (operands_at facts.now row) }
+    ensures few { result ≤ 4 }
+{
+    let mut count = 0;
+    for at in 0..operand_count(facts.graph(), row) {
+        count += need_at(facts, to, row, at);
+    }
+    count
+}
+
+/// The same for those of the pinned set, if it takes a word of the class from the instruction.
+fn set_need(facts: &Facts, instr: InstrKind, class: u32, row: u32, set: u32) -> u64
+    requires graph { IsLaunchGraph facts.now }
+    ensures value { result ≡ counts.one_if (variables.takes facts.now instr class set)
+        * count_by (counts.needs_clause facts.now (SetTo set)) (operands_at facts.now row) }
+    ensures few { result ≤ 4 }
+{
+    if takes(facts, instr, class, set) {
+        needed_count(facts, To::Set(set), row)
+    } else {
+        0
+    }
+}
+
+/// The same for those of all pinned sets.
+fn set_needs(facts: &Facts, instr: InstrKind, class: u32, row: u32) -> u64
+    requires graph { IsLaunchGraph facts.now }
+    ensures value { result ≡ sum_by (λ j. counts.one_if (variables.takes facts.now instr class j)
+        * count_by (counts.needs_clause facts.now (SetTo j)) (operands_at facts.now row))
+        (variables.pinned_sets facts.now) }
+    ensures few { result ≤ 124 }
+{
+    let mut count = 0;
+    for set in facts.pins() {
+        count += set_need(facts, instr, class, row, *set);
+    }
+    count
+}
+
+/// How many operands of a row need a clause, for all its destinations.
+#[tactic(auto, using(crate::proofs::RowPlaces::sum_all, crate::proofs::RowPlaces::sum_pool, crate::proofs::RowPlaces::sum_none))]
+fn row_needs(facts: &Facts, row: u32) -> u64
+    requires graph { IsLaunchGraph facts.now }
+    ensures value { result
+        ≡ sum_by (λ to. count_by (counts.needs_clause facts.now to) (operands_at facts.now row))
+        (counts.row_destinations facts.now row) }
+    ensures few { result ≤ 128 }
+{
+    let Some(instr) = facts.instr_at(row) else {
+        return 0;
+    };
+    let own = needed_count(facts, To::Pool, row);
+    if !gives_word(instr) {
+        return own;
+    }
+    own + set_needs(facts, instr, class_at(facts.graph(), row), row)
+}
+
+/// How many clauses say that the launches of a row see their operands.
+fn row_clauses(facts: &Facts, table: &Table, scope: &Scope, k: u32, row: u32) -> u64
+    requires graph { IsLaunchGraph facts.now }
+    requires table { IsTable table.now }
+    requires cycles { k ≤ 24 }
+    ensures value { result ≡ counts.row_count facts.now table.now k scope.now row
+        * sum_by (λ to. count_by (counts.needs_clause facts.now to) (operands_at facts.now row))
+        (counts.row_destinations facts.now row) }
+    ensures few { result ≤ 25600 }
+{
+    row_count(facts, table, scope, k, row) * row_needs(facts, row)
+}
+
+/// How many clauses say that launches see their operands.
+#[tactic(auto, using(crate::proofs::Tallies::sum_more))]
+pub fn needs_count(facts: &Facts, table: &Table, scope: &Scope, k: u32) -> u64
+    requires graph { IsLaunchGraph facts.now }
+    requires table { IsTable table.now }
+    requires cycles { k ≤ 24 }
+    ensures value { result ≡ counts.sum_destined facts.now table.now k scope.now
+        (λ row to. count_by (counts.needs_clause facts.now to) (operands_at facts.now row)) }
+    ensures few { result < 2 ^ 46 }
+{
+    let mut count = 0;
+    for row in 0..facts.row_numbers() {
+        count += row_clauses(facts, table, scope, k, row);
+    }
+    count
+}

@@ -1,0 +1,180 @@
+// Where launches of a row may go.
+ghost use Rattle.std.specs.Prelude.{◌≡◌, ◌+◌, ◌≤◌, ◌++◌, ◌*◌, ◌&&◌, false, length, map, IfOk, OnOk};
+ghost use Rattle.std.specs.Option.{option_map_or};
+ghost use Rattle.graph_meaning.specs.Graphs.{is_input_register};
+ghost use Rattle.std.specs.List.{count_by, filter, sum_by};
+ghost use Rattle.schedule_meaning.specs.Launches as launches;
+ghost use Rattle.schedule_meaning.specs.declared.schedules.To.TheVariants.{Set as SetTo};
+ghost use Rattle.cycle_encoding.specs.Counts.{one_if, row_is};
+ghost use Rattle.cycle_encoding.specs.Counts.{row_destinations};
+ghost use Rattle.cycle_encoding.specs.Facts as pinned;
+ghost use Rattle.cycle_encoding.specs.Variables as variables;
+
+use crate::Facts;
+use crate::sizes::is_overwriting;
+use items::NoMemory;
+use machine_table::InstrKind;
+use schedule_meaning::{To, class_at};
+use std::alloc::Global;
+
+/// Whether the instruction is a load.
+fn is_load(instr: InstrKind) -> bool
+    ensures { result ≡ launches.is_load instr }
+{
+    match instr {
+        InstrKind::LdqU => true,
+        _ => false,
+    }
+}
+
+/// Whether the instruction gives a word.
+pub fn gives_word(instr: InstrKind) -> bool
+    ensures { result ≡ launches.gives_word instr }
+{
+    match instr {
+        InstrKind::StqU | InstrKind::Beq => false,
+        _ => true,
+    }
+}
+
+/// Whether a word of the instruction may go to a set with this pin, if it has one: none of a load where the pin is an
+/// input's register.
+fn takes_pin(facts: &Facts, instr: InstrKind, pin: Option<u8>) -> bool
+    ensures { result ≡ pinned.takes_pin facts.now instr pin }
+{
+    match pin {
+        Some(pin) => !(is_load(instr) && facts.graph().is_input_register(pin)),
+        None => false,
+    }
+}
+
+/// Whether the set of this number is pinned and takes a word of the class from the instruction.
+pub fn takes(facts: &Facts, instr: InstrKind, class: u32, number: u32) -> bool
+    ensures { result ≡ variables.takes facts.now instr class number }
+{
+    match facts.graph().sets.as_slice().get(number as usize) {
+        Some(set) => set.class == class && takes_pin(facts, instr, set.pin),
+        None => false,
+    }
+}
+
+/// Where launches of a row's number may go: to the pool, and where the row gives a word, to each pinned set that takes
+/// it, in order.
+pub fn destinations(alloc: Global, facts: &Facts, row: u32) -> Result<Vec<To>, NoMemory>
+    ensures value { IfOk result (λ tos. tos.items ≡ row_destinations facts.now row) }
+    ensures few { IfOk result (λ tos. length tos.items ≤ 32) }
+{
+    let mut tos = Vec::new(alloc);
+    let Some(instr) = facts.instr_at(row) else {
+        return Ok(tos);
+    };
+    tos.push(To::Pool)?;
+    if gives_word(instr) {
+        push_sets(&mut tos, facts, instr, class_at(facts.graph(), row))?;
+    }
+    Ok(tos)
+}
+
+/// The pinned sets that take a word of the class from the instruction.
+fn push_sets(tos: &mut Vec<To>, facts: &Facts, instr: InstrKind, class: u32) -> Result<(), NoMemory>
+    ensures value { OnOk result (tos.new.items ≡ tos.old.items
+        ++ map SetTo (filter (variables.takes facts.now instr class) (variables.set_numbers facts.now))) }
+    ensures few { OnOk result (length tos.new.items ≤ length tos.old.items + 31) }
+{
+    for set in facts.pins() {
+        if takes(facts, instr, class, *set) {
+            tos.push(To::Set(*set))?;
+        }
+    }
+    Ok(())
+}
+
+/// How many destinations launches of a row have; in the time of one look at each pin.
+#[tactic(auto, using(crate::proofs::RowPlaces::count_is, crate::proofs::RowPlaces::count_one, crate::proofs::RowPlaces::count_none))]
+pub fn destination_count(facts: &Facts, row: u32) -> u64
+    ensures value { result ≡ length (row_destinations facts.now row) }
+    ensures few { result ≤ 32 }
+{
+    let Some(instr) = facts.instr_at(row) else {
+        return 0;
+    };
+    if !gives_word(instr) {
+        return 1;
+    }
+    1 + taker_count(facts, instr, class_at(facts.graph(), row))
+}
+
+/// How many pinned sets take a word of the class from the instruction.
+fn taker_count(facts: &Facts, instr: InstrKind, class: u32) -> u64
+    ensures value { result ≡ count_by (variables.takes facts.now instr class) (variables.pinned_sets facts.now) }
+    ensures few { result ≤ 31 }
+{
+    let mut count = 0;
+    for set in facts.pins() {
+        count += u64::from(takes(facts, instr, class, *set));
+    }
+    count
+}
+
+/// How many destinations of a row are the set of this number: one, if the row gives a word that the set takes.
+#[tactic(auto, using(crate::proofs::Going::goes_is, crate::proofs::Going::goes_not, crate::proofs::Going::goes_none))]
+pub fn goes(facts: &Facts, row: u32, set: u32) -> u64
+    ensures value { result ≡ sum_by (λ to. one_if (launches.is_set set to)) (row_destinations facts.now row) }
+    ensures few { result ≤ 1 }
+{
+    let Some(instr) = facts.instr_at(row) else {
+        return 0;
+    };
+    if !gives_word(instr) {
+        return 0;
+    }
+    u64::from(takes(facts, instr, class_at(facts.graph(), row), set))
+}
+
+/// How many destinations of a row are the pool: one, and counted where the row gives a word.
+#[tactic(auto, using(crate::proofs::Going::pool_all))]
+pub fn takes_register(facts: &Facts, row: u32) -> u64
+    ensures value { result ≡ sum_by (λ to. one_if (launches.is_pool to && row_is facts.now launches.gives_word row))
+        (row_destinations facts.now row) }
+    ensures few { result ≤ 1 }
+{
+    if facts.gives_word(row) { 1 } else { 0 }
+}
+
+/// Whether the pinned set takes a word of the class from the instruction and its pin is an input's register, as a number.
+fn set_late(facts: &Facts, instr: InstrKind, class: u32, set: u32) -> u64
+    ensures value { result ≡ one_if (variables.takes facts.now instr class set)
+        * one_if (variables.is_overwriting facts.now set) }
+    ensures few { result ≤ 1 }
+{
+    u64::from(takes(facts, instr, class, set) && is_overwriting(facts, set))
+}
+
+/// How many pinned sets are such.
+fn sets_late(facts: &Facts, instr: InstrKind, class: u32) -> u64
+    ensures value { result ≡ sum_by (λ j. one_if (variables.takes facts.now instr class j)
+        * one_if (variables.is_overwriting facts.now j)) (variables.pinned_sets facts.now) }
+    ensures few { result ≤ 31 }
+{
+    let mut count = 0;
+    for set in facts.pins() {
+        count += set_late(facts, instr, class, *set);
+    }
+    count
+}
+
+/// How many destinations of a row overwrite an input's register.
+pub fn late(facts: &Facts, row: u32) -> u64
+    ensures value { result
+        ≡ sum_by (λ to. one_if (option_map_or (is_input_register facts.now) (launches.pin_of facts.now to) false))
+        (row_destinations facts.now row) }
+    ensures few { result ≤ 31 }
+{
+    let Some(instr) = facts.instr_at(row) else {
+        return 0;
+    };
+    if !gives_word(instr) {
+        return 0;
+    }
+    sets_late(facts, instr, class_at(facts.graph(), row))
+}

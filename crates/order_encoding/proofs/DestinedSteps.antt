@@ -1,0 +1,46 @@
+-- Sums over destinations and over pinned sets.
+use Rattle.std.proofs.Common.{◌≡◌, ℕ, ◌+◌, ◌*◌, not, cond, List, [], ◌∷◌, length, refl, sym, ap, ◌∙◌, arith}
+use Rattle.std.specs.Prelude.{is_some}
+use Rattle.std.specs.List.{sum_by}
+use Rattle.std.proofs.lemmas.List.Sums.{sum_by-cons, length-filter}
+use Rattle.cnf_core.specs.Counter.{at_most_size}
+use Rattle.machine_table.specs.declared.tables.Table.{Table}
+use Rattle.graph_meaning.specs.declared.graphs.LaunchGraph.{LaunchGraph}
+use Rattle.schedule_meaning.specs.declared.schedules.To.{To}
+use Rattle.cycle_encoding.specs.Counts.{one_if}
+use Rattle.cycle_encoding.specs.CycleFormula.{Scope}
+use Rattle.cycle_encoding.specs.Variables.{pinned_sets, overwriting_sets, is_overwriting}
+use Rattle.cycle_encoding.specs.Counts.{row_destinations}
+use Rattle.order_encoding.specs.PinFamilies.{has_own_input, unmet_sets}
+use Rattle.order_encoding.specs.OrderCounts.{goes_count, late_count, pins_size}
+use Rattle.order_encoding.specs.OrderSteps.{set_size}
+use Rattle.cycle_encoding.proofs.Totals.{sum-const}
+use Rattle.cycle_encoding.proofs.RowPlaces.{sum_kept}
+use Rattle.cycle_encoding.proofs.DestinedTotals.{overwriting_pins}
+
+-- the same for each destination of a row
+pub sum_same : (g : LaunchGraph) (row c : ℕ) → sum_by (λ (to : To). c) (row_destinations g row) ≡ length (row_destinations g row) * c
+sum_same g row c = sum-const c (row_destinations g row)
+
+sum_three : (a b c : ℕ → ℕ) (xs : List ℕ) → sum_by (λ x. a x + b x + c x) xs ≡ sum_by a xs + sum_by b xs + sum_by c xs
+sum_three a b c [] = refl
+sum_three a b c (x ∷ xs) =
+    let s = sum_by-cons (λ x. a x + b x + c x) x xs in
+    let p = sum_by-cons a x xs in
+    let q = sum_by-cons b x xs in
+    let r = sum_by-cons c x xs in
+    let t = sum_three a b c xs in
+    omega arith
+
+-- the clauses of pins, set by set
+pub sizes_are : (g : LaunchGraph) (table : Table) (k : ℕ) (s : Scope) → sum_by (set_size g table k s) (pinned_sets g) + cond (is_some g.guard) (late_count g table k s) 0 ≡ pins_size g table k s
+sizes_are g table k s =
+    let goes = goes_count g table k s in
+    let a : ℕ → ℕ = λ j. at_most_size 1 (goes j) in
+    let b : ℕ → ℕ = λ j. one_if (is_overwriting g j) * (goes j + k) in
+    let c : ℕ → ℕ = λ j. one_if (not (has_own_input g j)) in
+    let all = sum_three a b c (pinned_sets g) in
+    let over : sum_by b (pinned_sets g) ≡ sum_by (λ j. goes j + k) (overwriting_sets g) =
+    sym (sum_kept (is_overwriting g) (λ j. goes j + k) (pinned_sets g)) ∙ ap (sum_by (λ j. goes j + k)) (overwriting_pins g) in
+    let unmet : sum_by c (pinned_sets g) ≡ length (unmet_sets g) = sym (length-filter (λ j. not (has_own_input g j)) (pinned_sets g)) in
+    omega arith

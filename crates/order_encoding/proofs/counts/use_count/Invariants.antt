@@ -1,8 +1,0 @@
-use Rattle.std.proofs.Common.{◌≡◌, ◌≤◌, ◌*◌}
-use Rattle.std.specs.List.{sum_by, range_with_len}
-use Rattle.cycle_encoding.specs.Counts.{row_count}
-use Rattle.order_encoding.specs.OrderCounts.{row_uses}
-use Rattle.order_encoding.proofs.counts.use_count.Given as goal
-
-abbrev pub invariant-loop-row : goal.invariant-loop-row
-invariant-loop-row l = record { is : l.count ≡ sum_by (λ row. row_count l.facts l.table l.k l.scope row * row_uses l.facts row) (range_with_len 0 l.row); small : l.count ≤ l.row * 600 }

@@ -1,0 +1,14 @@
+use Rattle.std.proofs.Common.{◌≡◌, ◌+◌, length}
+use Rattle.std.specs.List.{filter, flat_map, range_with_len}
+use Rattle.cycle_encoding.specs.Shapes.{numbered}
+use Rattle.cycle_encoding.specs.Steps.{with_clauses}
+use Rattle.cycle_encoding.specs.Variables.{is_overwriting, all_overwritten}
+use Rattle.order_encoding.specs.PinFamilies.{set_clauses}
+use Rattle.order_encoding.specs.OrderSteps.{set_overwritten}
+use Rattle.order_encoding.proofs.pins.add_overwritten.Given as goal
+
+abbrev pub invariant-loop-set : goal.invariant-loop-set
+invariant-loop-set l = record {
+  before : l.before ≡ l.first + length (flat_map (set_overwritten l.k) (filter (is_overwriting l.facts) (range_with_len 0 l.set)));
+  cnf : l.cnf ≡ with_clauses l.initial.cnf (flat_map (set_clauses l.k (numbered 0 l.launches) (numbered l.first (all_overwritten l.facts l.k))) (filter (is_overwriting l.facts) (range_with_len 0 l.set)));
+}
