@@ -1,9 +1,10 @@
 -- What holds of a claim whose tests all hold.
-use Rattle.std.proofs.Common.{◌≡◌, ◌≢◌, ℕ, ◌-◌, ◌<◌, ◌≤◌, ◌^◌, List, length, Option, Some, None, Result, Ok, Err, refl, sym, ap, subst, ◌∙◌, arith}
+use Rattle.std.proofs.Common.{◌≡◌, ◌≢◌, ℕ, ◌-◌, ◌<◌, ◌≤◌, ◌^◌, List, length, Option, Some, None, Result, Ok, Err, refl, sym, subst, ◌∙◌, arith}
 use Rattle.std.specs.Prelude.{IfOk, IfSome, IfNone, MatchOption}
 use Rattle.cnf_core.specs.Formula.{Formula}
 use Rattle.cnf_core.specs.declared.line.Lines.{Lines}
-use Rattle.cycle_encoding.specs.CycleFormula.{Scope, listed_in}
+use Rattle.cycle_encoding.specs.CycleFormula.{Scope}
+use Rattle.cycle_encoding.specs.CycleFormula.{listed_in}
 use Rattle.cycle_encoding.specs.Encodings.{IsScope}
 use Rattle.cycle_encoding.specs.declared.encodings.Encoding.{Encoding}
 use Rattle.graph_meaning.specs.declared.graphs.LaunchGraph.{LaunchGraph}
@@ -56,9 +57,9 @@ module _ (table : Table) (g : LaunchGraph) where
   true_claim f (SpentSize k vars clauses) world fits does size lemmas none = (none, size)
 
 -- a goal without a graph has no world
-pub seen_where : (e : Encoding) (table : Table) (c : Claimed) → IsClaimed c → c.graph ≡ None → IsVerdict e table c Seen
-seen_where e table c (no_world is graph refute) none = seen is refl
-seen_where e table c (worked world graph formed unpinned fits refute) none = absurd (let e = sym graph ∙ none in cc)
+pub seen_where : (e : Encoding) (table : Table) (version : ℕ) (c : Claimed) → IsClaimed version c → c.graph ≡ None → IsVerdict e table c Seen
+seen_where e table version c (no_world is graph refute) none = seen is refl
+seen_where e table version c (worked world graph formed unpinned fits refute) none = absurd (let e = sym graph ∙ none in cc)
 
 -- the clauses over what a scope gives variables are those of its encoding
 pub formulas_in : (e : Encoding) (g : LaunchGraph) (table : Table) (s : Scope) → IsScope e g table s

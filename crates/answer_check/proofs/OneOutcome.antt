@@ -180,10 +180,10 @@ module _ (table : Table) (g : LaunchGraph)
 -- ---- verdicts
 
 -- what has a graph has a world
-worldless : (c : Claimed) (g : LaunchGraph) (class a b : ℕ) → IsClaimed c → c.claim ≡ NoWorld class a b
+worldless : (version : ℕ) (c : Claimed) (g : LaunchGraph) (class a b : ℕ) → IsClaimed version c → c.claim ≡ NoWorld class a b
     → c.graph ≡ Some g → ⊥
-worldless c g class a b (no_world is graph refute) claim some = absurd (let e = sym graph ∙ some in cc)
-worldless c g class a b (worked world graph formed unpinned fits refute) claim some = world class a b claim
+worldless version c g class a b (no_world is graph refute) claim some = absurd (let e = sym graph ∙ some in cc)
+worldless version c g class a b (worked world graph formed unpinned fits refute) claim some = world class a b claim
 
 -- ---- two functions that give the same clauses for as many cycles as may be asked for
 
@@ -290,24 +290,24 @@ one_formula one e g table a b of too k few =
     p.is ∙ ap (whole_formula g table k) (one e g table k p.lists q.lists p.listed q.listed) ∙ sym q.is
 
 -- a goal with a graph has a claim that fits
-fits_where : (c : Claimed) (g : LaunchGraph) → IsClaimed c → c.graph ≡ Some g → FitsClaim c.claim
-fits_where c g (no_world is none refute) some = absurd (let e = sym none ∙ some in cc)
-fits_where c g (worked world graph formed unpinned fits refute) some = fits
+fits_where : (version : ℕ) (c : Claimed) (g : LaunchGraph) → IsClaimed version c → c.graph ≡ Some g → FitsClaim c.claim
+fits_where version c g (no_world is none refute) some = absurd (let e = sym none ∙ some in cc)
+fits_where version c g (worked world graph formed unpinned fits refute) some = fits
 
-pub one_verdict_only : OneList → (e : Encoding) (table : Table) (c : Claimed)
+pub one_verdict_only : OneList → (e : Encoding) (table : Table) (version : ℕ) (c : Claimed)
     → ((g : LaunchGraph) (k : ℕ) (ls : List Launch) (i j r s : ℕ) → IsFirstBroken g table k ls i r
     → IsFirstBroken g table k ls j s → (i ≡ j) × (r ≡ s))
     → ((g : LaunchGraph) (k : ℕ) (ls : List Launch) (i r : ℕ) → Fits g table k ls → IsFirstBroken g table k ls i r → ⊥)
-    → IsClaimed c → (v w : Verdict) → IsVerdict e table c v → IsVerdict e table c w → v ≡ w
-one_verdict_only one e table c once apart is v w (seen claim p) (seen also d) = p ∙ sym d
-one_verdict_only one e table c once apart is v w (seen {class} {a} {b} claim p) (tested {g} {clauses_for = f} graph of h) =
-    absurd (worldless c g class a b is claim graph)
-one_verdict_only one e table c once apart is v w (tested {g} {clauses_for = f} graph of h) (seen {class} {a} {b} claim p) =
-    absurd (worldless c g class a b is claim graph)
-one_verdict_only one e table c once apart is v w (tested {g} {clauses_for = f} graph of h) (tested {g = k} {clauses_for = m} too with_other o) =
+    → IsClaimed version c → (v w : Verdict) → IsVerdict e table c v → IsVerdict e table c w → v ≡ w
+one_verdict_only one e table version c once apart is v w (seen claim p) (seen also d) = p ∙ sym d
+one_verdict_only one e table version c once apart is v w (seen {class} {a} {b} claim p) (tested {g} {clauses_for = f} graph of h) =
+    absurd (worldless version c g class a b is claim graph)
+one_verdict_only one e table version c once apart is v w (tested {g} {clauses_for = f} graph of h) (seen {class} {a} {b} claim p) =
+    absurd (worldless version c g class a b is claim graph)
+one_verdict_only one e table version c once apart is v w (tested {g} {clauses_for = f} graph of h) (tested {g = k} {clauses_for = m} too with_other o) =
     let s : Some k ≡ Some g = sym too ∙ graph in
     let same : k ≡ g = cc in
     let there = subst (λ (x : LaunchGraph). AreFormulas e x table m) same with_other in
     one_outcome table g (once g) (apart g) f c v w h
-    (outcome_as table g m f (one_formula one e g table m f there of) c w (fits_where c g is graph)
+    (outcome_as table g m f (one_formula one e g table m f there of) c w (fits_where version c g is graph)
     (subst (λ (x : LaunchGraph). IsOutcome table x m c w) same o))

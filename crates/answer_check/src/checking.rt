@@ -7,7 +7,6 @@ ghost use Rattle.answer_texts.specs.AnswerLines as format;
 ghost use Rattle.answer_texts.specs.WellFormed.{FitsClaim, HasRefutation, IsClaimed};
 ghost use Rattle.answer_texts.specs.declared.answers.Claim.TheVariants.{NoWorld};
 ghost use Rattle.cycle_encoding.specs.Encodings.{IsScope};
-ghost use Rattle.graph_meaning.specs.Graphs.{HasNoPins};
 ghost use Rattle.graph_meaning.specs.WellFormed.{IsLaunchGraph};
 ghost use Rattle.machine_table.specs.Tables.{IsTable};
 ghost use Rattle.order_encoding.specs.WholeFormula.{formula_in};
@@ -35,7 +34,6 @@ fn check_claim(
 ) -> Result<Verdict, NoMemory>
     requires table { IsTable table.now }
     requires graph { IsLaunchGraph graph.now }
-    requires unpinned { HasNoPins graph.now }
     requires facts { facts.now ≡ graph.now }
     requires scope { IsScope scope.now.encoding facts.now table.now scope.now }
     requires claim { FitsClaim goal.now.claim }
@@ -88,7 +86,7 @@ pub fn check_goal(
     goal: &Claimed,
 ) -> Result<Verdict, NoMemory>
     requires table { IsTable table.now }
-    requires goal { IsClaimed goal.now }
+    requires goal { (version : ℕ) × IsClaimed version goal.now }
     ensures verdict { IfOk result (IsVerdict encoding table.now goal.now) }
     ensures sound { IfOk result (λ v. v ≡ Holds → IsSound encoding table.now goal.now) }
 {

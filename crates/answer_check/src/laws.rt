@@ -15,8 +15,8 @@ use schedule_meaning::schedules_fit_or_break;
 
 /// A claimed goal has one verdict at most.
 pub fn one_verdict()
-    ensures { (e : EncodingOf) (table : TableOf) (c : ClaimedOf) (v w : VerdictOf) → IsClaimed c
-        → IsVerdict e table c v → IsVerdict e table c w → v ≡ w }
+    ensures { (e : EncodingOf) (table : TableOf) (version : ℕ) (c : ClaimedOf) (v w : VerdictOf)
+        → IsClaimed version c → IsVerdict e table c v → IsVerdict e table c w → v ≡ w }
 {
     schedules_fit_or_break();
     each_encoding_has_one_list();

@@ -7,7 +7,6 @@ ghost use Rattle.cnf_core.specs.Formula.{Satisfies};
 ghost use Rattle.cnf_core.specs.Refutation.{AreLemmas, IsEmptyOnlyLast, IsFilled, IsFirstRefusal, Refutes};
 ghost use Rattle.cycle_encoding.specs.Encodings.{IsScope};
 ghost use Rattle.cycle_encoding.specs.Plans.{IsTooLarge};
-ghost use Rattle.graph_meaning.specs.Graphs.{HasNoPins};
 ghost use Rattle.graph_meaning.specs.WellFormed.{IsLaunchGraph};
 ghost use Rattle.machine_table.specs.Tables.{IsTable};
 ghost use Rattle.order_encoding.specs.WholeFormula.{formula_in};
@@ -35,7 +34,6 @@ fn clauses(
     requires cycles { k ≤ 24 }
     requires table { IsTable table.now }
     requires graph { IsLaunchGraph facts.now }
-    requires unpinned { HasNoPins facts.now }
     requires scope { IsScope scope.now.encoding facts.now table.now scope.now }
     requires within { ¬ IsTooLarge (formula_in scope.now facts.now table.now k) }
     ensures formula { IfOk result (λ cnf. cnf ≡ formula_in scope.now facts.now table.now k) }
@@ -62,7 +60,6 @@ fn refused_line(
     requires cycles { k ≤ 24 }
     requires table { IsTable table.now }
     requires graph { IsLaunchGraph facts.now }
-    requires unpinned { HasNoPins facts.now }
     requires scope { IsScope scope.now.encoding facts.now table.now scope.now }
     requires within { ¬ IsTooLarge (formula_in scope.now facts.now table.now k) }
     requires few { length lines.now.lines < 2 ^ 29 }
@@ -94,7 +91,6 @@ fn refused_filled(
     requires cycles { k ≤ 24 }
     requires table { IsTable table.now }
     requires graph { IsLaunchGraph facts.now }
-    requires unpinned { HasNoPins facts.now }
     requires scope { IsScope scope.now.encoding facts.now table.now scope.now }
     requires within { ¬ IsTooLarge (formula_in scope.now facts.now table.now k) }
     requires few { length lines.now.lines < 2 ^ 29 }
@@ -121,7 +117,6 @@ pub(crate) fn refused_below(
     requires claim { FitsClaim goal.now.claim }
     requires table { IsTable table.now }
     requires graph { IsLaunchGraph facts.now }
-    requires unpinned { HasNoPins facts.now }
     requires scope { IsScope scope.now.encoding facts.now table.now scope.now }
     requires within { IsWithinBelow (formula_in scope.now facts.now table.now) goal.now }
     requires few { IfSome goal.now.refute (λ l. length l.lines < 2 ^ 29) }
@@ -156,7 +151,6 @@ pub(crate) fn refused_lemma(
     requires claim { FitsClaim claim.now }
     requires table { IsTable table.now }
     requires graph { IsLaunchGraph facts.now }
-    requires unpinned { HasNoPins facts.now }
     requires scope { IsScope scope.now.encoding facts.now table.now scope.now }
     requires size { HasRightSize (formula_in scope.now facts.now table.now) claim.now }
     ensures { IfOk result (λ found. MatchOption found (HasLemmas (formula_in scope.now facts.now table.now) claim.now)

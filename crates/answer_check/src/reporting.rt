@@ -73,10 +73,10 @@ pub fn put_verdict(text: &mut Vec<u8>, goal: &Claimed, verdict: Verdict) -> Resu
 pub fn encoding_named(number: u8) -> Encoding
     ensures { result ≡ encoding_named number }
 {
-    if number == 2 {
-        Encoding::Narrow
-    } else {
-        Encoding::Wide
+    match number {
+        3 => Encoding::Pinned,
+        2 => Encoding::Narrow,
+        _ => Encoding::Wide,
     }
 }
 

@@ -1,8 +1,10 @@
+pub mod Destinations
 pub mod HexDigits
 pub mod HexInstrTexts
 pub mod HexInstrWords
 pub mod HexWordLines
 pub mod InstrTexts
+pub mod LaunchLines
 pub mod PartsBelow
 pub mod PartsBetween
 pub mod PartsClaims

@@ -1,5 +1,7 @@
 -- A claim and the lines that are to show it are read in one way.
 use Rattle.std.proofs.Common.{ℕ, zero, suc, List, codes, None, Some}
+use Rattle.graph_meaning.specs.Graphs.{HaveOwnPins}
+use Rattle.graph_meaning.specs.declared.graphs.LaunchGraph.{LaunchGraph}
 use Rattle.machine_table.specs.Tables.{IsTable}
 use Rattle.machine_table.specs.declared.tables.Table.{Table}
 use Rattle.text_core.specs.Lines.{Line}
@@ -26,10 +28,10 @@ module _ (lines : List Line) (one : WordsAreOneLine) where
   below_once (suc j) =
       leads_once _ _ _ _ (lines_behind_once (codes "refute") j) (λ from middle read is. says_once (Some read))
 
-  module _ (table : Table) (is_table : IsTable table) where
-    schedule_once : (k : ℕ) → IsOneReading (SchedulePart lines table k) (ScheduleFault lines table k)
+  module _ (table : Table) (is_table : IsTable table) (g : LaunchGraph) (own : HaveOwnPins g.sets) where
+    schedule_once : (k : ℕ) → IsOneReading (SchedulePart lines table g k) (ScheduleFault lines table g k)
     schedule_once k =
-        leads_once _ _ _ _ (lines_once _ (launch_words table) (AreLaunches table) (launches_kind table is_table) lines)
+        leads_once _ _ _ _ (lines_once _ (launch_words table g) (AreLaunches table g) (launches_kind table g is_table own) lines)
         (λ from middle launches is.
         leads_once _ _ _ _ (lines_once _ word_words AreCodes codes_kind lines)
         (λ start end words also.
@@ -39,7 +41,7 @@ module _ (lines : List Line) (one : WordsAreOneLine) where
         (λ low high refute read.
         says_once (claims.Scheduled k (record { launches = launches }) words places, refute)))))
 
-    rest_once : (first : ClaimLine) → IsOneReading (ClaimRest lines table first) (ClaimRestFault lines table first)
+    rest_once : (first : ClaimLine) → IsOneReading (ClaimRest lines table g first) (ClaimRestFault lines table g first)
     rest_once (lines_of.Scheduled k) = schedule_once k
     rest_once (lines_of.Missing k) =
         leads_once _ _ _ _ (lines_behind_once (codes "refute") k)
@@ -53,6 +55,6 @@ module _ (lines : List Line) (one : WordsAreOneLine) where
         leads_once _ _ _ _ (below_once k)
         (λ from middle refute is. says_once (claims.SpentSize k vars clauses, refute))
 
-    pub claim_once : IsOneReading (ClaimPart lines table) (ClaimFault lines table)
+    pub claim_once : IsOneReading (ClaimPart lines table g) (ClaimFault lines table g)
     claim_once =
         leads_once _ _ _ _ (line_once IsClaimLine lines claim_line_once) (λ from middle first is. rest_once first)

@@ -1,12 +1,12 @@
 -- Each kind of line says one value at most.
-use Rattle.std.proofs.Common.{◌≡◌, ◌≢◌, ℕ, ◌<◌, ◌^◌, List, [], get_or, refl, sym, ap, ◌∙◌, arith, decimal}
+use Rattle.std.proofs.Common.{◌≡◌, ◌≢◌, ℕ, ◌<◌, ◌≤◌, ◌^◌, List, [], get_or, inl, inr, refl, sym, ap, ◌∙◌, arith, decimal}
 use Rattle.std.proofs.lemmas.Fmt.{decimal_injective}
 use Rattle.machine_table.specs.declared.tables.Slot.{Slot}
 use Rattle.saturation.specs.declared.rounds.Stop.{Stop}
 use Rattle.saturation.specs.declared.rounds.Stop.TheVariants.{Quiet, Rounds, Full}
 use Rattle.text_core.specs.LineTexts.{Words}
-use Rattle.answer_texts.specs.AnswerLines.{encoding_words, stop_name, rounds_words, noworld_words, scheduled_words, none_words, conflicts_words, size_words, counted_words, cross_words, goal_words, built_in_words, own_words}
-use Rattle.answer_texts.specs.AnswerParts.{IsVersion, IsEncoding, IsTableLine, IsCross, IsCount, IsClaimOf, IsClaimLine, IsGoalName, IsEnd, IsBodyLine}
+use Rattle.answer_texts.specs.AnswerLines.{version_words, encoding_words, stop_name, rounds_words, noworld_words, scheduled_words, none_words, conflicts_words, size_words, counted_words, cross_words, goal_words, built_in_words, own_words}
+use Rattle.answer_texts.specs.AnswerParts.{GoTogether, IsVersion, IsEncoding, IsTableLine, IsCross, IsCount, IsClaimOf, IsClaimLine, IsGoalName, IsEnd, IsBodyLine}
 use Rattle.answer_texts.specs.declared.parts.BodyLine.{BodyLine}
 use Rattle.answer_texts.specs.declared.parts.BodyLine.TheVariants as bodies
 use Rattle.answer_texts.specs.declared.parts.ClaimLine.{ClaimLine}
@@ -23,12 +23,19 @@ number_same k m n ws vs lt less e a b = decimal_injective m n lt less (sym a ∙
 -- ---- single lines
 
 pub version_once : (words : Words) (x y : ℕ) → IsVersion words x → IsVersion words y → x ≡ y
-version_once words x y a b = a.known ∙ sym b.known
-
-pub encoding_once : (words : Words) (x y : ℕ) → IsEncoding words x → IsEncoding words y → x ≡ y
-encoding_once words x y a b =
+version_once words x y a b =
     let low = a.known.1 in
     let less = b.known.1 in
+    number_same 1 x y (version_words x) (version_words y) (omega (arith, low)) (omega (arith, less)) (sym a.is ∙ b.is) refl refl
+
+pub encoding_low : (version encoding : ℕ) → GoTogether version encoding → encoding ≤ 3
+encoding_low version encoding (inl is) = (let low = is.2 in omega (arith, low))
+encoding_low version encoding (inr is) = (let three = is.1 in omega (arith, three))
+
+pub encoding_once : (version : ℕ) (words : Words) (x y : ℕ) → IsEncoding version words x → IsEncoding version words y → x ≡ y
+encoding_once version words x y a b =
+    let low = encoding_low version x a.known in
+    let less = encoding_low version y b.known in
     number_same 1 x y (encoding_words x) (encoding_words y) (omega (arith, low)) (omega (arith, less)) (sym a.is ∙ b.is) refl refl
 
 pub table_line_once : (words : Words) (x y : TableLine) → IsTableLine words x → IsTableLine words y → x ≡ y

@@ -1,9 +1,11 @@
 -- Lines of one kind behind each other: slots, instructions, launches, words, places.
-use Rattle.std.proofs.Common.{◌≡◌, ◌≢◌, ℕ, ◌<◌, ◌≤◌, ◌^◌, List, [], ◌∷◌, ◌++◌, length, map, get_or, refl, sym, ap, ◌∙◌, arith, codes, decimal, Option, Some, length-append}
+use Rattle.std.proofs.Common.{◌≡◌, ◌≢◌, ℕ, ◌<◌, ◌≤◌, ◌^◌, List, [], ◌∷◌, ◌++◌, length, drop, map, get_or, refl, sym, ap, ◌∙◌, arith, codes, decimal, Option, Some, length-append}
 use Rattle.std.specs.Prelude.{All, AllPairs, IsTrue, is_some}
 use Rattle.std.specs.Option.{option_map_or}
 use Rattle.std.proofs.lemmas.Option.{slice_get-get_or, same_Some}
 use Rattle.alpha_encode.specs.Decoded.{decoded}
+use Rattle.graph_meaning.specs.Graphs.{HaveOwnPins}
+use Rattle.graph_meaning.specs.declared.graphs.LaunchGraph.{LaunchGraph}
 use Rattle.machine_table.specs.InstrOrder.{instr_name, instr_named, kind_number}
 use Rattle.machine_table.specs.Tables.{IsTable, IsUse}
 use Rattle.machine_table.specs.declared.tables.InstrKind.{InstrKind}
@@ -13,9 +15,11 @@ use Rattle.machine_table.specs.declared.tables.Use.{Use}
 use Rattle.register_assign.specs.declared.listings.Where.{Where}
 use Rattle.schedule_meaning.specs.declared.schedules.To.{To}
 use Rattle.schedule_meaning.specs.declared.schedules.Launch.{Launch}
+use Rattle.text_core.specs.LineTexts.{Words}
 use Rattle.text_core.specs.Names.{IsName}
 use Rattle.answer_texts.specs.AnswerLines.{name_among, slot_words, inst_words, launch_words, word_words, where_words}
 use Rattle.answer_texts.specs.AnswerParts.{AreNamedSlots, table_of, AreTableUses, IsLaunch, AreLaunches, AreCodes, AreWherePlaces}
+use Rattle.answer_texts.proofs.Destinations.{one_destination}
 use Rattle.answer_texts.proofs.PartsLines.{IsKindOfLine}
 use Rattle.answer_texts.proofs.PartsKinds.{number_same}
 use Rattle.answer_texts.proofs.PartsSame.{rest_same, word_same, all_front, pairs_front, each_once, hex_once}
@@ -128,30 +132,31 @@ uses_kind found slots cross = record {
 launch_of : ℕ → ℕ → ℕ → To → Launch
 launch_of cycle slot row to = record { cycle = cycle; slot = slot; row = row; to = to }
 
-one_launch : (table : Table) → IsTable table → (l m : Launch) → IsLaunch table l → IsLaunch table m
-    → launch_words table l ≡ launch_words table m → l ≡ m
+pub one_launch : (table : Table) (g : LaunchGraph) → IsTable table → HaveOwnPins g.sets → (l m : Launch) → IsLaunch table g l
+    → IsLaunch table g m → launch_words table g l ≡ launch_words table g m → l ≡ m
 unfolding launch_of
-one_launch table is l m a b e =
+one_launch table g is own l m a b e =
     let early = a.0 in
     let soon = b.0 in
     let low = a.2 in
     let less = b.2 in
     ap (λ n. launch_of n l.slot l.row l.to)
-    (number_same 1 l.cycle m.cycle (launch_words table l) (launch_words table m) (omega (arith, early)) (omega (arith, soon))
+    (number_same 1 l.cycle m.cycle (launch_words table g l) (launch_words table g m) (omega (arith, early)) (omega (arith, soon))
     e refl refl)
     ∙ ap (λ n. launch_of m.cycle n l.row l.to)
-    (one_name table.slots l.slot m.slot is.names a.1 b.1 (word_same 2 (launch_words table l) (launch_words table m) e))
+    (one_name table.slots l.slot m.slot is.names a.1 b.1 (word_same 2 (launch_words table g l) (launch_words table g m) e))
     ∙ ap (λ n. launch_of m.cycle m.slot n l.to)
-    (number_same 3 l.row m.row (launch_words table l) (launch_words table m) (omega (arith, low)) (omega (arith, less))
+    (number_same 3 l.row m.row (launch_words table g l) (launch_words table g m) (omega (arith, low)) (omega (arith, less))
     e refl refl)
-    ∙ ap (launch_of m.cycle m.slot m.row) (a.4 ∙ sym b.4)
+    ∙ ap (launch_of m.cycle m.slot m.row)
+    (one_destination g own l.to m.to a.4 b.4 (ap (λ (ws : Words). drop 4 ws) e))
 
-pub launches_kind : (table : Table) → IsTable table
-    → IsKindOfLine (codes "launch") (launch_words table) (AreLaunches table)
-launches_kind table is = record {
+pub launches_kind : (table : Table) (g : LaunchGraph) → IsTable table → HaveOwnPins g.sets
+    → IsKindOfLine (codes "launch") (launch_words table g) (AreLaunches table g)
+launches_kind table g is own = record {
   begins = λ l. refl;
-  front = all_front (IsLaunch table);
-  one = each_once (launch_words table) (IsLaunch table) (one_launch table is);
+  front = all_front (IsLaunch table g);
+  one = each_once (launch_words table g) (IsLaunch table g) (one_launch table g is own);
 }
 
 -- ---- words

@@ -5,6 +5,7 @@ use Rattle.std.proofs.lemmas.Bool.{false≢true}
 use Rattle.std.proofs.lemmas.List.{length-map}
 use Rattle.std.proofs.lemmas.List.Elements.{All-nil, All-push, All-head, All-tail}
 use Rattle.cnf_core.specs.declared.line.Lines.{Lines}
+use Rattle.graph_meaning.specs.declared.graphs.LaunchGraph.{LaunchGraph}
 use Rattle.machine_table.specs.Tables.{IsTable, ev6}
 use Rattle.machine_table.specs.declared.tables.Table.{Table}
 use Rattle.text_core.specs.Lines.{Line, HasLines, line_length, text_length}
@@ -76,10 +77,10 @@ module _ (lines : List Line) (few : length lines < 2 ^ 29) where
       subst (HasRefutation (suc j)) (sym a.second.is)
       (refuted (few_read (codes "refute") j from a.middle a.said a.first) (omega arith))
 
-  module _ (table : Table) where
-    rest_shown : (first : ClaimLine) (words : Words) (from next : ℕ) (c : Claim × Option Lines) → IsClaimLine words first
-        → ClaimRest lines table first from next c → IsShown c
-    rest_shown (lines_of.Scheduled k) words from next c is b =
+  module _ (version : ℕ) (table : Table) where
+    rest_shown : (g : LaunchGraph) (first : ClaimLine) (words : Words) (from next : ℕ) (c : Claim × Option Lines)
+        → IsClaimLine words first → ClaimRest lines table g first from next c → IsShown c
+    rest_shown g (lines_of.Scheduled k) words from next c is b =
         subst IsShown (sym b.second.second.second.second.is)
         (record {
           worked_out = λ class m n e. cc;
@@ -87,21 +88,21 @@ module _ (lines : List Line) (few : length lines < 2 ^ 29) where
           refutation = below_refuted k b.second.second.middle b.second.second.second.middle b.second.second.second.said
               b.second.second.second.first;
         })
-    rest_shown (lines_of.Missing k) words from next c is b =
+    rest_shown g (lines_of.Missing k) words from next c is b =
         subst IsShown (sym b.second.is)
         (record {
           worked_out = λ class m n e. cc;
           fits = is.low;
           refutation = refuted (few_read (codes "refute") k from b.middle b.said b.first) (omega arith);
         })
-    rest_shown (lines_of.Conflicts k) words from next c is b =
+    rest_shown g (lines_of.Conflicts k) words from next c is b =
         subst IsShown (sym b.second.second.is)
         (record {
           worked_out = λ class m n e. cc;
           fits = (is.low, few_read (codes "lemmas") k b.middle b.second.middle b.second.said b.second.first);
           refutation = below_refuted k from b.middle b.said b.first;
         })
-    rest_shown (lines_of.Size k vars clauses) words from next c is b =
+    rest_shown g (lines_of.Size k vars clauses) words from next c is b =
         subst IsShown (sym b.second.is)
         (record {
           worked_out = λ class m n e. cc;
@@ -109,29 +110,31 @@ module _ (lines : List Line) (few : length lines < 2 ^ 29) where
           refutation = below_refuted k from b.middle b.said b.first;
         })
 
-    claim_shown : (from next : ℕ) (c : Claim × Option Lines) → ClaimPart lines table from next c → IsShown c
-    claim_shown from next c a = rest_shown a.said _ a.middle next c a.first.is a.second
+    claim_shown : (g : LaunchGraph) (from next : ℕ) (c : Claim × Option Lines) → ClaimPart lines table g from next c
+        → IsShown c
+    claim_shown g from next c a = rest_shown g a.said _ a.middle next c a.first.is a.second
 
     rest_claimed : (name : List ℕ) (first : BodyLine) (from next : ℕ) (body : Body)
-        → BodyRest lines table first from next body → IsClaimed (claimed_of name body)
+        → BodyRest lines version table first from next body → IsClaimed version (claimed_of name body)
     rest_claimed name (bodies.NoWorld class m n) from next body b =
-        subst (λ (x : Body). IsClaimed (claimed_of name x)) (sym b.is) (no_world refl refl refl)
+        subst (λ (x : Body). IsClaimed version (claimed_of name x)) (sym b.is) (no_world refl refl refl)
     rest_claimed name (bodies.Rounds rounds stop) from next body b =
-        let shown = claim_shown b.middle b.second.middle b.second.said b.second.first in
-        subst (λ (x : Body). IsClaimed (claimed_of name x)) (sym b.second.second.is)
-        (worked shown.worked_out refl b.first.well_formed (unpinned_at lines _ _ _ b.first) shown.fits shown.refutation)
+        let shown = claim_shown b.said b.middle b.second.middle b.second.said b.second.first in
+        subst (λ (x : Body). IsClaimed version (claimed_of name x)) (sym b.second.second.is)
+        (worked shown.worked_out refl b.first.well_formed (unpinned_at lines version from b.middle b.said b.first) shown.fits
+        shown.refutation)
 
-    goal_claimed : (from next : ℕ) (c : Claimed) → GoalPart lines table from next c → IsClaimed c
+    goal_claimed : (from next : ℕ) (c : Claimed) → GoalPart lines version table from next c → IsClaimed version c
     goal_claimed from next c a =
         let body = a.second in
-        subst IsClaimed (sym body.second.second.is)
+        subst (IsClaimed version) (sym body.second.second.is)
         (rest_claimed a.said body.first.said body.first.middle body.middle body.said body.first.second)
 
-    goals_claimed : (from : ℕ) {next : ℕ} {goals : List Claimed} → AreGoals lines table from next goals
-        → All IsClaimed goals
-    goals_claimed from no_goals = All-nil IsClaimed
+    goals_claimed : (from : ℕ) {next : ℕ} {goals : List Claimed} → AreGoals lines version table from next goals
+        → All (IsClaimed version) goals
+    goals_claimed from no_goals = All-nil (IsClaimed version)
     goals_claimed from (more {middle = m} {next = n} {goals = gs} {goal = g} are fewer is) =
-        All-push IsClaimed gs g (goals_claimed from are) (goal_claimed m n g is)
+        All-push (IsClaimed version) gs g (goals_claimed from are) (goal_claimed m n g is)
 
 -- ---- answers
 
@@ -148,9 +151,10 @@ answer_well_formed built lines few from next answer a =
     let goals = a.second.second.second in
     subst IsAnswer (sym goals.second.is)
     (record {
+      encoding = a.second.first.is.known;
       table = part_is_table lines built a.second.middle a.second.second.middle a.second.second.said table;
       built_in = built_in_same lines table.said table.middle a.second.second.middle a.second.second.said table.second;
-      goals = goals_claimed lines few a.second.second.said.0 a.second.second.middle goals.first.are;
+      goals = goals_claimed lines few a.said a.second.second.said.0 a.second.second.middle goals.first.are;
     })
 
 pub read_well_formed : IsTable ev6 → ((text : List ℕ) (lines : List Line) → HasLines text lines → length text ≡ text_length lines)

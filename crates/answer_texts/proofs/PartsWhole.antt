@@ -1,10 +1,9 @@
 -- An answer is read in one way.
 use Rattle.std.proofs.Common.{◌≡◌, ℕ, List, length, subst}
-use Rattle.launch_graph.specs.LineFaults.{IsFirstGraphFault}
 use Rattle.machine_table.specs.Tables.{IsTable, ev6}
 use Rattle.text_core.specs.Lines.{Line, HasLines, IsFirstLineFault}
 use Rattle.text_core.specs.declared.faults.Kind.{Kind}
-use Rattle.answer_texts.specs.AnswerParts.{IsVersion, IsEncoding, GraphPart, answer_of, AnswerPart, AnswerPartFault}
+use Rattle.answer_texts.specs.AnswerParts.{IsVersion, IsEncoding, GraphPart, GraphFault, answer_of, AnswerPart, AnswerPartFault}
 use Rattle.answer_texts.specs.ReadAnswers.{ReadsAnswer, IsAnswerFault, of_lines, of_answer}
 use Rattle.answer_texts.specs.declared.answers.AnswerText.{AnswerText}
 use Rattle.answer_texts.proofs.PartsCounted.{WordsAreOneLine}
@@ -24,19 +23,20 @@ pub record Laws : Type 0 where
   pub one_line : WordsAreOneLine
   pub names : NamesAreOne
   pub built_in : IsTable ev6
-  pub graphs : (lines : List Line) → IsOneReading (GraphPart lines) (IsFirstGraphFault lines)
+  pub graphs : (version : ℕ) (lines : List Line) → IsOneReading (GraphPart lines version) (GraphFault lines version)
 
 module _ (laws : Laws) where
   answer_once : (lines : List Line) → IsOneReading (AnswerPart lines) (AnswerPartFault lines)
   answer_once lines =
       leads_once _ _ _ _ (line_once IsVersion lines version_once)
       (λ from middle version is.
-      leads_once _ _ _ _ (line_once IsEncoding lines encoding_once)
+      leads_once _ _ _ _ (line_once (IsEncoding version) lines (encoding_once version))
       (λ start end encoding also.
       leads_once _ _ _ _ (table_once lines laws.names)
       (λ first last table has.
       leads_once _ _ _ _
-      (goals_once lines laws.one_line table.0 (part_is_table lines laws.built_in first last table has) (laws.graphs lines))
+      (goals_once lines laws.one_line version table.0 (part_is_table lines laws.built_in first last table has)
+      (laws.graphs version lines))
       (λ low high goals are. says_once (answer_of version encoding table goals)))))
 
   pub one_value : (text : List ℕ) (answer other : AnswerText) → ReadsAnswer text answer → ReadsAnswer text other

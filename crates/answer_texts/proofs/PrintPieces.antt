@@ -1,5 +1,5 @@
 -- Lines that are printed one after another.
-use Rattle.std.proofs.Common.{◌≡◌, ℕ, ◌+◌, ◌<◌, List, [], ◌∷◌, ◌++◌, length, take, get_or, map, refl, sym, ap, ◌∙◌, append_assoc, append-nil, codes, decimal, Bool, Some}
+use Rattle.std.proofs.Common.{◌≡◌, ℕ, ◌+◌, ◌<◌, List, [], ◌∷◌, ◌++◌, length, take, get_or, map, refl, sym, ap, ◌∙◌, append_assoc, append-nil, codes, decimal, Bool, Option, Some}
 use Rattle.std.specs.Prelude.{option_copied}
 use Rattle.std.specs.List.{flat_map}
 use Rattle.std.proofs.lemmas.List.{take_more}
@@ -8,7 +8,7 @@ use Rattle.std.proofs.lemmas.Grind.{flat_map-append}
 use Rattle.alpha_encode.specs.Decoded.{decoded}
 use Rattle.alpha_encode.specs.Texts.{text_of}
 use Rattle.alpha_encode.specs.declared.instructions.Instr.{Instr}
-use Rattle.launch_graph.specs.GraphLines.{graph_lines, said}
+use Rattle.launch_graph.specs.GraphLines.{graph_lines, pin_words, said}
 use Rattle.launch_graph.specs.LineParts.{words_behind}
 use Rattle.machine_table.specs.InstrOrder.{instr_name}
 use Rattle.machine_table.specs.declared.tables.Slot.{Slot}
@@ -18,12 +18,14 @@ use Rattle.text_core.specs.LineTexts.{Words, line_text, lines_text}
 use Rattle.register_assign.specs.declared.listings.Where.{Where}
 use Rattle.saturation.specs.declared.rounds.Stop.{Stop}
 use Rattle.graph_meaning.specs.declared.graphs.LaunchGraph.{LaunchGraph}
+use Rattle.schedule_meaning.specs.Launches.{pin_of}
+use Rattle.schedule_meaning.specs.declared.schedules.Launch.{Launch}
 use Rattle.schedule_meaning.specs.declared.schedules.Schedule.{Schedule}
 use Rattle.answer_texts.specs.declared.answers.Claim.TheVariants.{Scheduled}
 use Rattle.answer_texts.specs.declared.answers.Claimed.{Claimed}
 use Rattle.answer_texts.specs.declared.lent.ClaimedRef.{ClaimedRef}
 use Rattle.answer_texts.specs.Lent.{lent_claim, lent_claimed}
-use Rattle.answer_texts.specs.AnswerLines.{name_among, slot_words, cross_words, inst_words, own_words, own_lines, hex_text, text_words, word_words, rounds_words, goal_words, end_words, graph_part, claim_part, refute_part, lemmas_part, refuted_cycles, goal_lines, version_words, encoding_words, head_lines, table_lines, scheduled_words, launch_words, where_words}
+use Rattle.answer_texts.specs.AnswerLines.{name_among, slot_words, cross_words, inst_words, own_words, own_lines, hex_text, text_words, word_words, rounds_words, goal_words, end_words, graph_part, claim_part, refute_part, lemmas_part, refuted_cycles, goal_lines, version_words, encoding_words, head_lines, table_lines, scheduled_words, slot_name, launch_words, launches_part, where_words}
 use Rattle.answer_texts.proofs.InstrTexts.{instr_text}
 
 -- ---- items in a row
@@ -132,6 +134,27 @@ inst_text slots u start t1 t2 t3 t4 t5 e1 e2 e3 e4 e5 =
     ∙ ap (λ t. t1 ++ t) (sym (one name (decimal u.latency ∷ names))) in
     line_of (codes "inst") (name ∷ decimal u.latency ∷ names) start t1 t4 t5 e1 s2 e5
 
+pub launch_text : (table : Table) (g : LaunchGraph) (l : Launch) (start t1 t2 t3 t4 t5 t6 : List ℕ)
+    → t1 ≡ start ++ codes "launch" → t2 ≡ t1 ++ (codes " " ++ decimal l.cycle)
+    → t3 ≡ t2 ++ (codes " " ++ slot_name table l.slot) → t4 ≡ t3 ++ (codes " " ++ decimal l.row)
+    → t5 ≡ t4 ++ words_behind (pin_words (pin_of g l.to)) → t6 ≡ t5 ++ codes "\n"
+    → t6 ≡ start ++ line_text (launch_words table g l)
+launch_text table g l start t1 t2 t3 t4 t5 t6 e1 e2 e3 e4 e5 e6 =
+    let pin : Words = pin_words (pin_of g l.to) in
+    let name : List ℕ = slot_name table l.slot in
+    let one : (a : List ℕ) (ws : Words) → words_behind (a ∷ ws) ≡ (codes " " ++ a) ++ words_behind ws =
+    λ a ws. flat_map-cons (λ (v : List ℕ). codes " " ++ v) a ws in
+    let s4 : t5 ≡ t3 ++ words_behind (decimal l.row ∷ pin) =
+    two_pieces t3 (codes " " ++ decimal l.row) (words_behind pin) t4 t5 e4 e5
+    ∙ ap (λ t. t3 ++ t) (sym (one (decimal l.row) pin)) in
+    let s3 : t5 ≡ t2 ++ words_behind (name ∷ decimal l.row ∷ pin) =
+    two_pieces t2 (codes " " ++ name) (words_behind (decimal l.row ∷ pin)) t3 t5 e3 s4
+    ∙ ap (λ t. t2 ++ t) (sym (one name (decimal l.row ∷ pin))) in
+    let s2 : t5 ≡ t1 ++ words_behind (decimal l.cycle ∷ name ∷ decimal l.row ∷ pin) =
+    two_pieces t1 (codes " " ++ decimal l.cycle) (words_behind (name ∷ decimal l.row ∷ pin)) t2 t5 e2 s3
+    ∙ ap (λ t. t1 ++ t) (sym (one (decimal l.cycle) (name ∷ decimal l.row ∷ pin))) in
+    line_of (codes "launch") (decimal l.cycle ∷ name ∷ decimal l.row ∷ pin) start t1 t5 t6 e1 s2 e6
+
 pub own_text : (table : Table) (start t1 t2 t3 t4 : List ℕ)
     → t1 ≡ start ++ line_text own_words → t2 ≡ t1 ++ lines_text (map slot_words table.slots)
     → t3 ≡ t2 ++ line_text (cross_words table.cross) → t4 ≡ t3 ++ lines_text (map (inst_words table.slots) table.uses)
@@ -149,17 +172,17 @@ own_text table start t1 t2 t3 t4 e1 e2 e3 e4 =
 goal_pieces : (table : Table) (c : Claimed) (start t1 t2 t3 t4 t5 t6 : List ℕ)
     → t1 ≡ start ++ line_text (goal_words c.name)
     → t2 ≡ t1 ++ lines_text (graph_part c.rounds c.stop c.graph)
-    → t3 ≡ t2 ++ lines_text (claim_part table c.claim)
+    → t3 ≡ t2 ++ lines_text (claim_part table c.graph c.claim)
     → t4 ≡ t3 ++ lines_text (refute_part (refuted_cycles c.claim) c.refute)
     → t5 ≡ t4 ++ lines_text (lemmas_part c.claim) → t6 ≡ t5 ++ codes "end\n"
     → t6 ≡ start ++ lines_text (goal_lines table c)
 goal_pieces table c start t1 t2 t3 t4 t5 t6 e1 e2 e3 e4 e5 e6 =
     let last : List Words = lemmas_part c.claim ++ (end_words ∷ []) in
     let refuted : List Words = refute_part (refuted_cycles c.claim) c.refute ++ last in
-    let claim : List Words = claim_part table c.claim ++ refuted in
+    let claim : List Words = claim_part table c.graph c.claim ++ refuted in
     line_first (goal_words c.name) (graph_part c.rounds c.stop c.graph ++ claim) start t1 t6 e1
     (then_lines (graph_part c.rounds c.stop c.graph) claim t1 t2 t6 e2
-    (then_lines (claim_part table c.claim) refuted t2 t3 t6 e3
+    (then_lines (claim_part table c.graph c.claim) refuted t2 t3 t6 e3
     (then_lines (refute_part (refuted_cycles c.claim) c.refute) last t3 t4 t6 e4
     (then_lines (lemmas_part c.claim) (end_words ∷ []) t4 t5 t6 e5 e6))))
 
@@ -167,7 +190,7 @@ goal_pieces table c start t1 t2 t3 t4 t5 t6 e1 e2 e3 e4 e5 e6 =
 pub goal_text : (table : Table) (c : ClaimedRef) (start t1 t2 t3 t4 t5 t6 : List ℕ)
     → t1 ≡ start ++ line_text (goal_words c.name.now)
     → t2 ≡ t1 ++ lines_text (graph_part c.rounds c.stop (option_copied c.graph))
-    → t3 ≡ t2 ++ lines_text (claim_part table (lent_claim c.claim))
+    → t3 ≡ t2 ++ lines_text (claim_part table (option_copied c.graph) (lent_claim c.claim))
     → t4 ≡ t3 ++ lines_text (refute_part (refuted_cycles (lent_claim c.claim)) (option_copied c.refute))
     → t5 ≡ t4 ++ lines_text (lemmas_part (lent_claim c.claim)) → t6 ≡ t5 ++ codes "end\n"
     → t6 ≡ start ++ lines_text (goal_lines table (lent_claimed c))
@@ -189,16 +212,16 @@ pub graph_text : (rounds : ℕ) (stop : Stop) (g : LaunchGraph) (start t1 t2 : L
 graph_text rounds stop g start t1 t2 e1 e2 = line_first (rounds_words rounds stop) (graph_lines (said g)) start t1 t2 e1 e2
 
 -- a schedule is its line, its launches, its words and its places
-pub schedule_text : (table : Table) (k : ℕ) (schedule : Schedule) (words : List ℕ) (places : List Where)
+pub schedule_text : (table : Table) (graph : Option LaunchGraph) (k : ℕ) (schedule : Schedule) (words : List ℕ) (places : List Where)
     (start t1 t2 t3 t4 : List ℕ)
     → t1 ≡ start ++ line_text (scheduled_words k)
-    → t2 ≡ t1 ++ lines_text (map (launch_words table) schedule.launches)
+    → t2 ≡ t1 ++ lines_text (launches_part table graph schedule.launches)
     → t3 ≡ t2 ++ lines_text (map word_words words) → t4 ≡ t3 ++ lines_text (map where_words places)
-    → t4 ≡ start ++ lines_text (claim_part table (Scheduled k schedule words places))
-schedule_text table k schedule words places start t1 t2 t3 t4 e1 e2 e3 e4 =
+    → t4 ≡ start ++ lines_text (claim_part table graph (Scheduled k schedule words places))
+schedule_text table graph k schedule words places start t1 t2 t3 t4 e1 e2 e3 e4 =
     let last : List Words = map word_words words ++ map where_words places in
-    line_first (scheduled_words k) (map (launch_words table) schedule.launches ++ last) start t1 t4 e1
-    (then_lines (map (launch_words table) schedule.launches) last t1 t2 t4 e2
+    line_first (scheduled_words k) (launches_part table graph schedule.launches ++ last) start t1 t4 e1
+    (then_lines (launches_part table graph schedule.launches) last t1 t2 t4 e2
     (then_lines (map word_words words) (map where_words places) t2 t3 t4 e3 e4))
 
 -- the text of the next goal, after those of the goals so far

@@ -6,7 +6,6 @@ use Rattle.std.proofs.lemmas.List.{length-map, length_push}
 use Rattle.std.proofs.lemmas.List.Elements.{All-nil, All-cons, All-append}
 use Rattle.cnf_core.specs.declared.line.Lines.{Lines}
 use Rattle.launch_graph.specs.GraphLines.{said_row}
-use Rattle.launch_graph.specs.GraphTexts.{IsGraphAt}
 use Rattle.graph_meaning.specs.declared.graphs.LaunchGraph.{LaunchGraph}
 use Rattle.machine_table.specs.Tables.{IsTable, ev6, slot_of}
 use Rattle.machine_table.specs.declared.tables.Slot.{Slot}
@@ -15,7 +14,7 @@ use Rattle.text_core.specs.Lines.{Line}
 use Rattle.text_core.specs.Names.{IsName}
 use Rattle.answer_texts.proofs.UnpinnedGraphs.{unpinned_at}
 use Rattle.answer_texts.specs.AnswerLines.{refuted_below}
-use Rattle.answer_texts.specs.AnswerParts.{CountedPart, BelowPart, IsClaimLine, ClaimRest, ClaimPart, IsBodyLine, BodyRest, claimed_of, GoalPart, AreGoals, no_goals, more, OwnPart, TableRest, AnswerPart}
+use Rattle.answer_texts.specs.AnswerParts.{CountedPart, BelowPart, GraphPart, IsClaimLine, ClaimRest, ClaimPart, IsBodyLine, BodyRest, claimed_of, GoalPart, AreGoals, no_goals, more, OwnPart, TableRest, AnswerPart}
 use Rattle.answer_texts.specs.LineParts.{IsOneLine}
 use Rattle.answer_texts.specs.Printable.{AreReadable, IsGraphClaim, AreLinesBelow, IsPrintableGoal, no_world, worked, IsPrintable}
 use Rattle.answer_texts.specs.declared.answers.AnswerText.{AnswerText}
@@ -65,69 +64,70 @@ module _ (lines : List Line) where
 
   -- ---- claims
 
-  module _ (table : Table) where
+  module _ (version : ℕ) (table : Table) where
     -- a claim fits the graph, and the lines beside it are there where it needs them
-    abbrev pub IsFine : Claim × Option Lines → Type 0
-    IsFine c = IsGraphClaim table c.0 × AreLinesBelow (refuted_below c.0) c.1
+    abbrev pub IsFine : LaunchGraph → Claim × Option Lines → Type 0
+    IsFine g c = IsGraphClaim table g c.0 × AreLinesBelow (refuted_below c.0) c.1
 
-    rest_back : (first : ClaimLine) (from middle next : ℕ) (c : Claim × Option Lines)
-        → IsOneLine IsClaimLine lines from middle first → ClaimRest lines table first middle next c → IsFine c
-    rest_back (lines_of.Scheduled k) from middle next c a h =
-        subst IsFine (sym h.second.second.second.second.is) (
+    rest_back : (g : LaunchGraph) (first : ClaimLine) (from middle next : ℕ) (c : Claim × Option Lines)
+        → IsOneLine IsClaimLine lines from middle first → ClaimRest lines table g first middle next c → IsFine g c
+    rest_back g (lines_of.Scheduled k) from middle next c a h =
+        subst (IsFine g) (sym h.second.second.second.second.is) (
           (a.is.low, h.first.so_far.fit, h.second.first.so_far.fit, h.second.second.first.so_far.fit),
           below_back k h.second.second.middle h.second.second.second.middle h.second.second.second.said
               h.second.second.second.first,
         )
-    rest_back (lines_of.Missing k) from middle next c a h =
-        subst IsFine (sym h.second.is) (
+    rest_back g (lines_of.Missing k) from middle next c a h =
+        subst (IsFine g) (sym h.second.is) (
           a.is.low,
           subst (λ n. AreLinesBelow n (Some h.said)) (sym (add-one k))
               (counted_back (codes "refute") k middle h.middle h.said h.first),
         )
-    rest_back (lines_of.Conflicts k) from middle next c a h =
-        subst IsFine (sym h.second.second.is) (
+    rest_back g (lines_of.Conflicts k) from middle next c a h =
+        subst (IsFine g) (sym h.second.second.is) (
           (a.is.low, counted_back (codes "lemmas") k h.middle h.second.middle h.second.said h.second.first),
           below_back k middle h.middle h.said h.first,
         )
-    rest_back (lines_of.Size k vars clauses) from middle next c a h =
-        subst IsFine (sym h.second.is)
+    rest_back g (lines_of.Size k vars clauses) from middle next c a h =
+        subst (IsFine g) (sym h.second.is)
         ((a.is.0.low, a.is.1, a.is.2), below_back k middle h.middle h.said h.first)
 
-    claim_back : (from next : ℕ) (c : Claim × Option Lines) → ClaimPart lines table from next c → IsFine c
-    claim_back from next c h = rest_back h.said from h.middle next c h.first h.second
+    claim_back : (g : LaunchGraph) (from next : ℕ) (c : Claim × Option Lines) → ClaimPart lines table g from next c → IsFine g c
+    claim_back g from next c h = rest_back g h.said from h.middle next c h.first h.second
 
     -- ---- goals
 
-    few_rows : (from next : ℕ) (g : LaunchGraph) → IsGraphAt lines from next g → length g.rows ≤ 1000000
+    few_rows : (from next : ℕ) (g : LaunchGraph) → GraphPart lines version from next g → length g.rows ≤ 1000000
     few_rows from next g h =
         let few = h.are.few in
         let same : length (map said_row g.rows) ≡ length g.rows = length-map g.rows said_row in
         omega (arith, few, same)
 
     body_back : (name : List ℕ) → IsName name → (first : BodyLine) (from middle next : ℕ) (body : Body)
-        → IsOneLine IsBodyLine lines from middle first → BodyRest lines table first middle next body
-        → IsPrintableGoal table (claimed_of name body)
+        → IsOneLine IsBodyLine lines from middle first → BodyRest lines version table first middle next body
+        → IsPrintableGoal version table (claimed_of name body)
     body_back name named (bodies.NoWorld class m n) from middle next body a h =
-        subst (λ b. IsPrintableGoal table (claimed_of name b)) (sym h.is) (no_world named a.is.0 a.is.1 a.is.2)
+        subst (λ b. IsPrintableGoal version table (claimed_of name b)) (sym h.is) (no_world named a.is.0 a.is.1 a.is.2)
     body_back name named (bodies.Rounds rounds stop) from middle next body a h =
-        let fine = claim_back h.middle h.second.middle h.second.said h.second.first in
-        subst (λ b. IsPrintableGoal table (claimed_of name b)) (sym h.second.second.is)
-        (worked named h.first.well_formed (unpinned_at lines _ _ _ h.first) (few_rows middle h.middle h.said h.first) a.is.0 fine.0 fine.1)
+        let fine = claim_back h.said h.middle h.second.middle h.second.said h.second.first in
+        subst (λ b. IsPrintableGoal version table (claimed_of name b)) (sym h.second.second.is)
+        (worked named h.first.well_formed (unpinned_at lines version middle h.middle h.said h.first)
+        (few_rows middle h.middle h.said h.first) a.is.0 fine.0 fine.1)
 
-    goal_back : (from next : ℕ) (c : Claimed) → GoalPart lines table from next c → IsPrintableGoal table c
+    goal_back : (from next : ℕ) (c : Claimed) → GoalPart lines version table from next c → IsPrintableGoal version table c
     goal_back from next c h =
-        subst (IsPrintableGoal table) (sym h.second.second.second.is)
+        subst (IsPrintableGoal version table) (sym h.second.second.second.is)
         (body_back h.said h.first.is.named h.second.first.said h.middle h.second.first.middle h.second.middle h.second.said
         h.second.first.first h.second.first.second)
 
-    goals_back : (from : ℕ) {next : ℕ} {goals : List Claimed} → AreGoals lines table from next goals
-        → (length goals ≤ 64) × All (IsPrintableGoal table) goals
-    goals_back from no_goals = (omega arith, All-nil (IsPrintableGoal table))
+    goals_back : (from : ℕ) {next : ℕ} {goals : List Claimed} → AreGoals lines version table from next goals
+        → (length goals ≤ 64) × All (IsPrintableGoal version table) goals
+    goals_back from no_goals = (omega arith, All-nil (IsPrintableGoal version table))
     goals_back from (more {middle = m} {next = n} {goals = gs} {goal = g} are few is) =
         let count = length_push gs g in (
           omega (arith, count, few),
-          All-append (IsPrintableGoal table) gs (g ∷ []) (goals_back from are).1
-              (All-cons (IsPrintableGoal table) g [] (goal_back m n g is) (All-nil (IsPrintableGoal table))),
+          All-append (IsPrintableGoal version table) gs (g ∷ []) (goals_back from are).1
+              (All-cons (IsPrintableGoal version table) g [] (goal_back m n g is) (All-nil (IsPrintableGoal version table))),
         )
 
     some_goals : (goals : List Claimed) → goals ≢ [] → 1 ≤ length goals
@@ -158,14 +158,13 @@ module _ (lines : List Line) where
       let named = table_rest_back part.said part.middle h.second.second.middle table part.second in
       let goals = h.second.second.second.first in
       let said = h.second.second.second.said in
-      let fine = goals_back table.0 h.second.second.middle goals.are in
+      let fine = goals_back h.said table.0 h.second.second.middle goals.are in
       subst IsPrintable (sym h.second.second.second.second.is)
       (record {
-        version = h.first.is.known;
         encoding = h.second.first.is.known;
         table = part_is_table lines built h.second.middle h.second.second.middle table part;
         names = named.0;
         built_in = named.1;
-        few = (some_goals table.0 said goals.some, fine.0);
+        few = (some_goals h.said table.0 said goals.some, fine.0);
         goals = fine.1;
       })

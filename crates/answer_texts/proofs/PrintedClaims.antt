@@ -4,6 +4,7 @@ use Rattle.std.specs.Prelude.{All}
 use Rattle.std.proofs.lemmas.List.{map-append, length-map, length-take-le, take-append-drop}
 use Rattle.cnf_core.specs.declared.line.Line.{Line as Row}
 use Rattle.cnf_core.specs.declared.line.Lines.{Lines}
+use Rattle.graph_meaning.specs.declared.graphs.LaunchGraph.{LaunchGraph}
 use Rattle.launch_graph.specs.GraphTexts.{EndsGraph}
 use Rattle.machine_table.specs.declared.tables.Table.{Table}
 use Rattle.refutation_check.specs.LineWords.{IsReadableLine, AreLinesAt, line_words}
@@ -42,22 +43,22 @@ refute_begins_not first cycles None behind never also = also
 refute_begins_not first cycles (Some read) behind never also = never
 
 -- no graph goes on with the first line of a claim
-pub claim_ends_graph : (table : Table) (claim : Claim) (behind : List Words) → IsGraphClaim table claim
-    → EndsGraph (claim_part table claim ++ behind)
-claim_ends_graph table (claims.NoWorld class a b) behind h = absurd h
-claim_ends_graph table (claims.Scheduled k schedule words places) behind h = (
+pub claim_ends_graph : (table : Table) (g : LaunchGraph) (claim : Claim) (behind : List Words) → IsGraphClaim table g claim
+    → EndsGraph (claim_part table (Some g) claim ++ behind)
+claim_ends_graph table g (claims.NoWorld class a b) behind h = absurd h
+claim_ends_graph table g (claims.Scheduled k schedule words places) behind h = (
   λ e. apart 0 115 103 (codes "scheduled") (codes "guard") refl refl (λ n. omega (arith, n)) e,
   λ e. apart 1 99 101 (codes "scheduled") (codes "set") refl refl (λ n. omega (arith, n)) e,
 )
-claim_ends_graph table (claims.Missing k) behind h = (
+claim_ends_graph table g (claims.Missing k) behind h = (
   λ e. apart 0 110 103 (codes "none") (codes "guard") refl refl (λ n. omega (arith, n)) e,
   λ e. apart 0 110 115 (codes "none") (codes "set") refl refl (λ n. omega (arith, n)) e,
 )
-claim_ends_graph table (claims.SpentConflicts k lemmas) behind h = (
+claim_ends_graph table g (claims.SpentConflicts k lemmas) behind h = (
   λ e. apart 0 115 103 (codes "spent") (codes "guard") refl refl (λ n. omega (arith, n)) e,
   λ e. apart 1 112 101 (codes "spent") (codes "set") refl refl (λ n. omega (arith, n)) e,
 )
-claim_ends_graph table (claims.SpentSize k vars clauses) behind h = (
+claim_ends_graph table g (claims.SpentSize k vars clauses) behind h = (
   λ e. apart 0 115 103 (codes "spent") (codes "guard") refl refl (λ n. omega (arith, n)) e,
   λ e. apart 1 112 101 (codes "spent") (codes "set") refl refl (λ n. omega (arith, n)) e,
 )
@@ -111,16 +112,16 @@ module _ (lines : List Line) (among : LinesAreAmong) where
 
   -- ---- claims
 
-  module _ (table : Table) (more : List Words) where
+  module _ (table : Table) (g : LaunchGraph) (more : List Words) where
     abbrev tail : List Words
     tail = end_words ∷ more
 
     schedule_stands : (k : ℕ) (launches : List Launch) (words : List ℕ) (places : List Where) (refute : Option Lines) (from : ℕ)
-        → AreLaunches table launches → AreCodes words → AreWherePlaces places → AreLinesBelow k refute
+        → AreLaunches table g launches → AreCodes words → AreWherePlaces places → AreLinesBelow k refute
         → IsRest lines from
-        (map (launch_words table) launches
+        (map (launch_words table g) launches
         ++ (map word_words words ++ (map where_words places ++ (refute_part (k - 1) refute ++ tail))))
-        → StandsBefore lines tail (SchedulePart lines table k) from
+        → StandsBefore lines tail (SchedulePart lines table g k) from
         (claims.Scheduled k (record { launches = launches }) words places, refute)
     schedule_stands k launches words places refute from are codes_are places_are below a =
         let t : List Words = refute_part (k - 1) refute ++ tail in
@@ -145,7 +146,7 @@ module _ (lines : List Line) (among : LinesAreAmong) where
         (apart 0 114 108 (codes "refute") (codes "launch") refl refl (λ n. omega (arith, n)))
         (apart 0 101 108 (codes "end") (codes "launch") refl refl (λ n. omega (arith, n))))) in
         leads_stands lines _ _ q tail from launches _
-        (lines_stand lines _ (launch_words table) (AreLaunches table) q from launches are never_launch a)
+        (lines_stand lines _ (launch_words table g) (AreLaunches table g) q from launches are never_launch a)
         (λ low first.
         leads_stands lines _ _ r tail low words _
         (lines_stand lines _ word_words AreCodes r low words codes_are never_word first)
@@ -159,7 +160,7 @@ module _ (lines : List Line) (among : LinesAreAmong) where
 
     missing_stands : (k : ℕ) (refute : Option Lines) (from : ℕ) → AreLinesBelow (suc k) refute
         → IsRest lines from (refute_part (k + 1 - 1) refute ++ tail)
-        → StandsBefore lines tail (ClaimRest lines table (lines_of.Missing k)) from (claims.Missing k, refute)
+        → StandsBefore lines tail (ClaimRest lines table g (lines_of.Missing k)) from (claims.Missing k, refute)
     missing_stands k None from below a = absurd below
     missing_stands k (Some read) from below a =
         let less : k + 1 - 1 ≡ k = omega arith in
@@ -168,13 +169,14 @@ module _ (lines : List Line) (among : LinesAreAmong) where
         (subst (λ n. IsRest lines from (refute_lines n read.lines ++ tail)) less a))
         (λ middle rest. says_stands lines tail middle (claims.Missing k, Some read) rest)
 
-    pub claim_stands : (claim : Claim) (refute : Option Lines) (from : ℕ) → IsGraphClaim table claim
+    pub claim_stands : (claim : Claim) (refute : Option Lines) (from : ℕ) → IsGraphClaim table g claim
         → AreLinesBelow (refuted_below claim) refute
-        → IsRest lines from (claim_part table claim ++ (refute_part (refuted_cycles claim) refute ++ (lemmas_part claim ++ tail)))
-        → StandsBefore lines tail (ClaimPart lines table) from (claim, refute)
+        → IsRest lines from
+        (claim_part table (Some g) claim ++ (refute_part (refuted_cycles claim) refute ++ (lemmas_part claim ++ tail)))
+        → StandsBefore lines tail (ClaimPart lines table g) from (claim, refute)
     claim_stands (claims.NoWorld class m n) refute from h below a = absurd h
     claim_stands (claims.Scheduled k schedule words places) refute from h below a =
-        let p : List Words = map (launch_words table) schedule.launches in
+        let p : List Words = map (launch_words table g) schedule.launches in
         let q : List Words = map word_words words in
         let r : List Words = map where_words places in
         let t : List Words = refute_part (k - 1) refute ++ tail in

@@ -1,5 +1,5 @@
 -- Lines that begin with what goals print say them.
-use Rattle.std.proofs.Common.{◌≡◌, ℕ, ◌+◌, ◌<◌, ◌≤◌, ◌^◌, List, [], ◌∷◌, ◌++◌, length, refl, sym, ap, subst, ◌∙◌, arith, append_assoc, append-nil, Option, Some}
+use Rattle.std.proofs.Common.{◌≡◌, ℕ, ◌+◌, ◌<◌, ◌≤◌, ◌^◌, List, [], ◌∷◌, ◌++◌, length, inl, inr, refl, sym, ap, subst, ◌∙◌, arith, append_assoc, append-nil, Option, Some}
 use Rattle.std.specs.Prelude.{All}
 use Rattle.std.specs.List.{flat_map}
 use Rattle.std.proofs.lemmas.List.Concat.{flat_map-cons}
@@ -7,7 +7,7 @@ use Rattle.std.proofs.lemmas.List.{length_push}
 use Rattle.std.proofs.lemmas.List.Elements.{All-head, All-tail}
 use Rattle.cnf_core.specs.declared.line.Lines.{Lines}
 use Rattle.launch_graph.specs.GraphLines.{graph_lines, said}
-use Rattle.launch_graph.specs.GraphTexts.{EndsGraph, IsGraphAt}
+use Rattle.launch_graph.specs.GraphTexts.{EndsGraph, IsGraphOf}
 use Rattle.launch_graph.specs.LineFormats.{words_between, words_from}
 use Rattle.graph_meaning.specs.Graphs.{HasNoPins}
 use Rattle.graph_meaning.specs.WellFormed.{IsLaunchGraph}
@@ -18,7 +18,7 @@ use Rattle.text_core.specs.Lines.{Line}
 use Rattle.text_core.specs.LineTexts.{Words}
 use Rattle.text_core.specs.Names.{IsName}
 use Rattle.answer_texts.specs.AnswerLines.{rounds_words, noworld_words, goal_words, end_words, claim_part, refuted_below, refuted_cycles, refute_part, lemmas_part, goal_lines}
-use Rattle.answer_texts.specs.AnswerParts.{IsGoalName, IsEnd, IsBodyLine, GraphPart, no_world_body, BodyPart, claimed_of, GoalPart, AreGoals, no_goals, more}
+use Rattle.answer_texts.specs.AnswerParts.{GoTogether, IsGoalName, IsEnd, IsBodyLine, GraphPart, no_world_body, BodyPart, claimed_of, GoalPart, AreGoals, no_goals, more}
 use Rattle.answer_texts.specs.Printable.{IsGraphClaim, AreLinesBelow, IsPrintableGoal, no_world, worked}
 use Rattle.answer_texts.specs.declared.answers.Claim.{Claim}
 use Rattle.answer_texts.specs.declared.answers.Claimed.{Claimed}
@@ -28,11 +28,33 @@ use Rattle.answer_texts.proofs.PrintedRest.{IsRest, all_ahead}
 use Rattle.answer_texts.proofs.PrintedParts.{StandsBefore, says_stands, line_stands, leads_stands}
 use Rattle.answer_texts.proofs.PrintedClaims.{LinesAreAmong, claim_ends_graph, claim_stands}
 
--- lines that begin with what a graph prints, and go on with nothing that a graph has, have the graph
-abbrev pub PrintedAreGraphs : Type 0
-PrintedAreGraphs = (lines : List Line) (from next : ℕ) (g : LaunchGraph) → IsLaunchGraph g → HasNoPins g → length g.rows ≤ 1000000
+-- lines that begin with what a graph of the version prints, and go on with nothing that a graph has, have the graph
+abbrev pub PrintedAreGraphs : ℕ → Type 0
+PrintedAreGraphs version =
+    (lines : List Line) (from next : ℕ) (g : LaunchGraph) → IsLaunchGraph g → (version ≡ 1 → HasNoPins g)
+    → length g.rows ≤ 1000000 → from ≤ next → next ≤ length lines → words_between lines from next ≡ graph_lines (said g)
+    → EndsGraph (words_from lines next) → IsGraphOf version lines from next g
+
+-- so it is of those without pins in version 1, and of all in version 2
+abbrev pub PlainAreGraphs : Type 0
+PlainAreGraphs =
+    (lines : List Line) (from next : ℕ) (g : LaunchGraph) → IsLaunchGraph g → HasNoPins g → length g.rows ≤ 1000000
     → from ≤ next → next ≤ length lines → words_between lines from next ≡ graph_lines (said g)
-    → EndsGraph (words_from lines next) → IsGraphAt lines from next g
+    → EndsGraph (words_from lines next) → IsGraphOf 1 lines from next g
+
+abbrev pub PinnedAreGraphs : Type 0
+PinnedAreGraphs =
+    (lines : List Line) (from next : ℕ) (g : LaunchGraph) → IsLaunchGraph g → length g.rows ≤ 1000000
+    → from ≤ next → next ≤ length lines → words_between lines from next ≡ graph_lines (said g)
+    → EndsGraph (words_from lines next) → IsGraphOf 2 lines from next g
+
+pub printed_are_graphs : PlainAreGraphs → PinnedAreGraphs → (version encoding : ℕ) → GoTogether version encoding
+    → PrintedAreGraphs version
+printed_are_graphs first second version encoding (inl pair) lines from next g is plain few order within words ends =
+    subst (λ v. IsGraphOf v lines from next g) (sym pair.0)
+    (first lines from next g is (plain pair.0) few order within words ends)
+printed_are_graphs first second version encoding (inr pair) lines from next g is plain few order within words ends =
+    subst (λ v. IsGraphOf v lines from next g) (sym pair.0) (second lines from next g is few order within words ends)
 
 join_behind : (g c r l e b : List Words) → (g ++ (c ++ (r ++ (l ++ e)))) ++ b ≡ g ++ (c ++ (r ++ (l ++ (e ++ b))))
 join_behind g c r l e b =
@@ -40,10 +62,11 @@ join_behind g c r l e b =
     ∙ ap (λ x. g ++ x) (append_assoc c (r ++ (l ++ e)) b
     ∙ ap (λ x. c ++ x) (append_assoc r (l ++ e) b ∙ ap (λ x. r ++ x) (append_assoc l e b)))
 
-module _ (lines : List Line) (among : LinesAreAmong) (graphs : PrintedAreGraphs) (table : Table) where
-  graph_stands : (behind : List Words) (from : ℕ) (g : LaunchGraph) → IsLaunchGraph g → HasNoPins g → length g.rows ≤ 1000000
+module _ (lines : List Line) (among : LinesAreAmong) (version : ℕ) (graphs : PrintedAreGraphs version) (table : Table) where
+  graph_stands : (behind : List Words) (from : ℕ) (g : LaunchGraph) → IsLaunchGraph g → (version ≡ 1 → HasNoPins g)
+      → length g.rows ≤ 1000000
       → EndsGraph behind → IsRest lines from (graph_lines (said g) ++ behind)
-      → StandsBefore lines behind (GraphPart lines) from g
+      → StandsBefore lines behind (GraphPart lines version) from g
   graph_stands behind from g is plain few ends a =
       let h = all_ahead lines from (graph_lines (said g)) behind a in
       let next : ℕ = from + length (graph_lines (said g)) in
@@ -57,9 +80,9 @@ module _ (lines : List Line) (among : LinesAreAmong) (graphs : PrintedAreGraphs)
 
   goal_of : (name : List ℕ) (body : Body) (words : List Words) (behind : List Words) (from : ℕ) → IsName name
       → ((middle : ℕ) → IsRest lines middle (words ++ (end_words ∷ behind))
-      → StandsBefore lines (end_words ∷ behind) (BodyPart lines table) middle body)
+      → StandsBefore lines (end_words ∷ behind) (BodyPart lines version table) middle body)
       → IsRest lines from (goal_words name ∷ (words ++ (end_words ∷ behind)))
-      → StandsBefore lines behind (GoalPart lines table) from (claimed_of name body)
+      → StandsBefore lines behind (GoalPart lines version table) from (claimed_of name body)
   goal_of name body words behind from named stands a =
       leads_stands lines _ _ (words ++ (end_words ∷ behind)) behind from name (claimed_of name body)
       (line_stands lines IsGoalName (words ++ (end_words ∷ behind)) from (goal_words name) name
@@ -72,30 +95,30 @@ module _ (lines : List Line) (among : LinesAreAmong) (graphs : PrintedAreGraphs)
       (λ end last. says_stands lines behind end (claimed_of name body) last)))
 
   worked_of : (rounds : ℕ) (stop : Stop) (g : LaunchGraph) (claim : Claim) (refute : Option Lines) (behind : List Words)
-      (from : ℕ) → IsLaunchGraph g → HasNoPins g → length g.rows ≤ 1000000 → rounds < 2 ^ 31 → IsGraphClaim table claim
-      → AreLinesBelow (refuted_below claim) refute
+      (from : ℕ) → IsLaunchGraph g → (version ≡ 1 → HasNoPins g) → length g.rows ≤ 1000000 → rounds < 2 ^ 31
+      → IsGraphClaim table g claim → AreLinesBelow (refuted_below claim) refute
       → IsRest lines from (rounds_words rounds stop ∷ (graph_lines (said g)
-      ++ (claim_part table claim ++ (refute_part (refuted_cycles claim) refute ++ (lemmas_part claim ++ (end_words ∷ behind))))))
-      → StandsBefore lines (end_words ∷ behind) (BodyPart lines table) from
+      ++ (claim_part table (Some g) claim ++ (refute_part (refuted_cycles claim) refute ++ (lemmas_part claim ++ (end_words ∷ behind))))))
+      → StandsBefore lines (end_words ∷ behind) (BodyPart lines version table) from
       (record { graph = Some g; rounds = rounds; stop = stop; claim = claim; refute = refute })
   worked_of rounds stop g claim refute behind from is plain few low fine below a =
       let body : Body = record { graph = Some g; rounds = rounds; stop = stop; claim = claim; refute = refute } in
       let tail : List Words = end_words ∷ behind in
       let s : List Words = refute_part (refuted_cycles claim) refute ++ (lemmas_part claim ++ tail) in
-      let t : List Words = claim_part table claim ++ s in
+      let t : List Words = claim_part table (Some g) claim ++ s in
       leads_stands lines _ _ (graph_lines (said g) ++ t) tail from (bodies.Rounds rounds stop) body
       (line_stands lines IsBodyLine (graph_lines (said g) ++ t) from (rounds_words rounds stop) (bodies.Rounds rounds stop)
       (low, refl) a)
       (λ middle rest.
       leads_stands lines _ _ t tail middle g body
-      (graph_stands t middle g is plain few (claim_ends_graph table claim s fine) rest)
+      (graph_stands t middle g is plain few (claim_ends_graph table g claim s fine) rest)
       (λ high also.
       leads_stands lines _ _ tail tail high (claim, refute) body
-      (claim_stands lines among table behind claim refute high fine below also)
+      (claim_stands lines among table g behind claim refute high fine below also)
       (λ end last. says_stands lines tail end body last)))
 
-  goal_stands : (c : Claimed) (behind : List Words) (from : ℕ) → IsPrintableGoal table c
-      → IsRest lines from (goal_lines table c ++ behind) → StandsBefore lines behind (GoalPart lines table) from c
+  goal_stands : (c : Claimed) (behind : List Words) (from : ℕ) → IsPrintableGoal version table c
+      → IsRest lines from (goal_lines table c ++ behind) → StandsBefore lines behind (GoalPart lines version table) from c
   goal_stands c behind from (no_world {name = name} {class = class} {a = m} {b = n} named below first second) a =
       let body : Body = no_world_body class m n in
       goal_of name body (noworld_words class m n ∷ []) behind from named
@@ -110,7 +133,7 @@ module _ (lines : List Line) (among : LinesAreAmong) (graphs : PrintedAreGraphs)
       below) a =
       let body : Body = record { graph = Some g; rounds = rounds; stop = stop; claim = claim; refute = refute } in
       let graph : List Words = rounds_words rounds stop ∷ graph_lines (said g) in
-      let cl : List Words = claim_part table claim in
+      let cl : List Words = claim_part table (Some g) claim in
       let r : List Words = refute_part (refuted_cycles claim) refute in
       let l : List Words = lemmas_part claim in
       let whole : (graph ++ (cl ++ (r ++ l))) ++ (end_words ∷ behind) ≡ graph ++ (cl ++ (r ++ (l ++ (end_words ∷ behind)))) =
@@ -126,22 +149,22 @@ module _ (lines : List Line) (among : LinesAreAmong) (graphs : PrintedAreGraphs)
 
   pub record GoalsStand (from : ℕ) (goals : List Claimed) : Type 0 where
     pub next : ℕ
-    pub are : AreGoals lines table from next goals
+    pub are : AreGoals lines version table from next goals
     pub rest : IsRest lines next []
 
-  goals_behind : (from middle : ℕ) (before goals : List Claimed) → AreGoals lines table from middle before
-      → length before + length goals ≤ 64 → All (IsPrintableGoal table) goals
+  goals_behind : (from middle : ℕ) (before goals : List Claimed) → AreGoals lines version table from middle before
+      → length before + length goals ≤ 64 → All (IsPrintableGoal version table) goals
       → IsRest lines middle (flat_map (goal_lines table) goals) → GoalsStand from (before ++ goals)
   goals_behind from middle before [] are few fine a =
       subst (GoalsStand from) (sym (append-nil before)) (record { next = middle; are = are; rest = a })
   goals_behind from middle before (c ∷ goals) are few fine a =
-      let one = goal_stands c (flat_map (goal_lines table) goals) middle (All-head (IsPrintableGoal table) c goals fine)
+      let one = goal_stands c (flat_map (goal_lines table) goals) middle (All-head (IsPrintableGoal version table) c goals fine)
       (subst (IsRest lines middle) (flat_map-cons (goal_lines table) c goals) a) in
       let count = length_push before c in
       subst (GoalsStand from) (append_assoc before (c ∷ []) goals)
       (goals_behind from one.next (before ++ c ∷ []) goals (more are (omega (arith, few)) one.is) (omega (arith, few, count))
-      (All-tail (IsPrintableGoal table) c goals fine) one.rest)
+      (All-tail (IsPrintableGoal version table) c goals fine) one.rest)
 
-  pub goals_stand : (from : ℕ) (goals : List Claimed) → length goals ≤ 64 → All (IsPrintableGoal table) goals
+  pub goals_stand : (from : ℕ) (goals : List Claimed) → length goals ≤ 64 → All (IsPrintableGoal version table) goals
       → IsRest lines from (flat_map (goal_lines table) goals) → GoalsStand from goals
   goals_stand from goals few fine a = goals_behind from from [] goals no_goals (omega (arith, few)) fine a

@@ -1,6 +1,6 @@
 -- What an answer prints is lines of words.
-use Rattle.std.proofs.Common.{◌≡◌, ℕ, zero, suc, ◌+◌, ◌-◌, ◌<◌, ◌≤◌, ◌^◌, Bool, true, false, List, [], ◌∷◌, ◌++◌, length, map, get_or, refl, sym, ap, subst, arith, codes, decimal, Option, None, Some}
-use Rattle.std.specs.Prelude.{All, IsTrue, is_some}
+use Rattle.std.proofs.Common.{◌≡◌, ℕ, zero, suc, ◌+◌, ◌-◌, ◌<◌, ◌≤◌, ◌^◌, Bool, true, false, List, [], ◌∷◌, ◌++◌, length, map, get_or, inl, inr, refl, sym, ap, subst, arith, codes, decimal, Option, None, Some}
+use Rattle.std.specs.Prelude.{All, IsSomeAnd, IsTrue, is_some}
 use Rattle.std.specs.List.{flat_map}
 use Rattle.std.specs.Option.{option_map_or}
 use Rattle.std.proofs.lemmas.Bool.{false≢true}
@@ -12,7 +12,7 @@ use Rattle.alpha_encode.specs.Formats.{IsWellFormed, encoded}
 use Rattle.alpha_encode.specs.declared.instructions.Instr.{Instr}
 use Rattle.cnf_core.specs.declared.line.Line.{Line as Row}
 use Rattle.cnf_core.specs.declared.line.Lines.{Lines}
-use Rattle.launch_graph.specs.GraphLines.{graph_lines, said}
+use Rattle.launch_graph.specs.GraphLines.{graph_lines, pin_words, said}
 use Rattle.graph_meaning.specs.WellFormed.{IsLaunchGraph}
 use Rattle.graph_meaning.specs.declared.graphs.LaunchGraph.{LaunchGraph}
 use Rattle.machine_table.specs.InstrOrder.{instr_name}
@@ -25,12 +25,15 @@ use Rattle.refutation_check.specs.LineWords.{IsReadableLine, line_words}
 use Rattle.register_assign.specs.declared.listings.Where.{Where}
 use Rattle.saturation.specs.declared.rounds.Stop.{Stop}
 use Rattle.saturation.specs.declared.rounds.Stop.TheVariants.{Quiet, Rounds, Full}
+use Rattle.schedule_meaning.specs.Launches.{pin_of}
+use Rattle.schedule_meaning.specs.declared.schedules.To.{To}
+use Rattle.schedule_meaning.specs.declared.schedules.To.TheVariants.{Pool, Set}
 use Rattle.schedule_meaning.specs.declared.schedules.Launch.{Launch}
 use Rattle.text_core.specs.LineTexts.{Words, CanBeLine, line_text, lines_text, placed_lines, words_of_lines}
 use Rattle.text_core.specs.Lines.{Line, AreLines, IsLineWord}
 use Rattle.text_core.specs.Names.{IsName}
 use Rattle.answer_texts.specs.AnswerLines.{slot_words, name_among, inst_words, table_lines, launch_words, word_words, where_words, counted_words, stop_name, goal_words, end_words, claim_part, refuted_below, refute_part, lemmas_part, goal_lines, answer_lines}
-use Rattle.answer_texts.specs.AnswerParts.{IsLaunch, IsCode, IsPlace}
+use Rattle.answer_texts.specs.AnswerParts.{GoTogether, IsDestination, IsLaunch, IsCode, IsPlace}
 use Rattle.answer_texts.specs.Printable.{AreReadable, IsGraphClaim, AreLinesBelow, IsPrintableGoal, no_world, worked, IsPrintable}
 use Rattle.answer_texts.specs.declared.answers.AnswerText.{AnswerText}
 use Rattle.answer_texts.specs.declared.answers.Claim.{Claim}
@@ -111,6 +114,13 @@ name_there : (slots : List Slot) (k : ℕ) → k < length slots → name_among s
 name_there slots k lt =
     ap (λ (o : Option Slot). option_map_or (λ (s : Slot). s.name) o []) (slice_get-get_or slots k any_slot lt)
 
+-- a version and an encoding that go together are words of 64 bits
+pair_low : (version encoding : ℕ) → GoTogether version encoding → (version < 2 ^ 64) × (encoding < 2 ^ 64)
+pair_low version encoding (inl is) =
+    ((let one = is.0 in omega (arith, one)), (let two = is.2 in omega (arith, two)))
+pair_low version encoding (inr is) =
+    ((let two = is.0 in omega (arith, two)), (let three = is.1 in omega (arith, three)))
+
 module _ (laws : WordLaws) where
   -- a word, and a number
   number_line : (a : List ℕ) (k : ℕ) → IsLineWord a → k < 2 ^ 64 → CanBeLine (a ∷ decimal k ∷ [])
@@ -160,12 +170,21 @@ module _ (laws : WordLaws) where
 
     -- ---- a schedule
 
-    launch_line : (l : Launch) → IsLaunch table l → CanBeLine (launch_words table l)
-    launch_line l is =
+    pin_word : (o : Option ℕ) → IsSomeAnd o (λ r. r < 31) → AreWords (pin_words o)
+    pin_word None low = no_words
+    pin_word (Some r) low = a_word (laws.number r (omega (arith, low))) no_words
+
+    destination_word : (g : LaunchGraph) (to : To) → IsDestination g to → AreWords (pin_words (pin_of g to))
+    destination_word g Pool at = no_words
+    destination_word g (Set j) at = pin_word (pin_of g (Set j)) at.1
+
+    launch_line : (g : LaunchGraph) (l : Launch) → IsLaunch table g l → CanBeLine (launch_words table g l)
+    launch_line g l is =
         can_be
         (a_word (record { some = λ e. cc; printed = refl })
         (a_word (let low = is.0 in laws.number l.cycle (omega (arith, low)))
-        (a_word (slot_word l.slot is.1) (a_word (let low = is.2 in laws.number l.row (omega (arith, low))) no_words))))
+        (a_word (slot_word l.slot is.1)
+        (a_word (let low = is.2 in laws.number l.row (omega (arith, low))) (destination_word g l.to is.4)))))
 
   code_by : (word : ℕ) (o : Option Instr) → decoded word ≡ o → word < 2 ^ 32 → IsTrue (is_some o)
       → CanBeLine (word_words word)
@@ -205,24 +224,24 @@ module _ (laws : WordLaws) where
   -- ---- claims
 
   module _ (table : Table) (named : All (λ (s : Slot). IsName s.name) table.slots) where
-    claim_can : (claim : Claim) → IsGraphClaim table claim → CanBeLines (claim_part table claim)
-    claim_can (claims.NoWorld class a b) h = absurd h
-    claim_can (claims.Scheduled k schedule words places) h =
+    claim_can : (g : LaunchGraph) (claim : Claim) → IsGraphClaim table g claim → CanBeLines (claim_part table (Some g) claim)
+    claim_can g (claims.NoWorld class a b) h = absurd h
+    claim_can g (claims.Scheduled k schedule words places) h =
         a_line
         (number_line (codes "scheduled") k (record { some = λ e. cc; printed = refl }) (let low = h.0 in omega (arith, low)))
         (and_lines _
-        (lines_of (launch_words table) (IsLaunch table) (launch_line table named) schedule.launches h.1)
+        (lines_of (launch_words table g) (IsLaunch table g) (launch_line table named g) schedule.launches h.1)
         (and_lines _ (lines_of word_words IsCode code_line words h.2) (lines_of where_words IsPlace place_line places h.3)))
-    claim_can (claims.Missing k) h =
+    claim_can g (claims.Missing k) h =
         a_line (number_line (codes "none") k (record { some = λ e. cc; printed = refl }) (omega (arith, h))) no_lines
-    claim_can (claims.SpentConflicts k lemmas) h =
+    claim_can g (claims.SpentConflicts k lemmas) h =
         a_line
         (can_be
         (a_word (record { some = λ e. cc; printed = refl })
         (a_word (record { some = λ e. cc; printed = refl })
         (a_word (let low = h.0 in laws.number k (omega (arith, low))) no_words))))
         no_lines
-    claim_can (claims.SpentSize k vars clauses) h =
+    claim_can g (claims.SpentSize k vars clauses) h =
         a_line
         (can_be
         (a_word (record { some = λ e. cc; printed = refl })
@@ -231,20 +250,20 @@ module _ (laws : WordLaws) where
         (a_word (laws.number vars h.1) (a_word (laws.number clauses h.2) no_words))))))
         no_lines
 
-    claim_low : (claim : Claim) → IsGraphClaim table claim → refuted_below claim ≤ 25
-    claim_low (claims.NoWorld class a b) h = absurd h
-    claim_low (claims.Scheduled k schedule words places) h = (let low = h.0 in omega (arith, low))
-    claim_low (claims.Missing k) h = omega (arith, h)
-    claim_low (claims.SpentConflicts k lemmas) h = (let low = h.0 in omega (arith, low))
-    claim_low (claims.SpentSize k vars clauses) h = (let low = h.0 in omega (arith, low))
+    claim_low : (g : LaunchGraph) (claim : Claim) → IsGraphClaim table g claim → refuted_below claim ≤ 25
+    claim_low g (claims.NoWorld class a b) h = absurd h
+    claim_low g (claims.Scheduled k schedule words places) h = (let low = h.0 in omega (arith, low))
+    claim_low g (claims.Missing k) h = omega (arith, h)
+    claim_low g (claims.SpentConflicts k lemmas) h = (let low = h.0 in omega (arith, low))
+    claim_low g (claims.SpentSize k vars clauses) h = (let low = h.0 in omega (arith, low))
 
-    lemmas_can : (claim : Claim) → IsGraphClaim table claim → CanBeLines (lemmas_part claim)
-    lemmas_can (claims.NoWorld class a b) h = absurd h
-    lemmas_can (claims.Scheduled k schedule words places) h = no_lines
-    lemmas_can (claims.Missing k) h = no_lines
-    lemmas_can (claims.SpentConflicts k lemmas) h =
+    lemmas_can : (g : LaunchGraph) (claim : Claim) → IsGraphClaim table g claim → CanBeLines (lemmas_part claim)
+    lemmas_can g (claims.NoWorld class a b) h = absurd h
+    lemmas_can g (claims.Scheduled k schedule words places) h = no_lines
+    lemmas_can g (claims.Missing k) h = no_lines
+    lemmas_can g (claims.SpentConflicts k lemmas) h =
         counted_can (codes "lemmas") k lemmas (record { some = λ e. cc; printed = refl }) h.0 h.1
-    lemmas_can (claims.SpentSize k vars clauses) h = no_lines
+    lemmas_can g (claims.SpentSize k vars clauses) h = no_lines
 
     -- ---- goals
 
@@ -255,8 +274,8 @@ module _ (laws : WordLaws) where
     end_line : CanBeLine end_words
     end_line = can_be (a_word (record { some = λ e. cc; printed = refl }) no_words)
 
-    goal_can : (c : Claimed) → IsPrintableGoal table c → CanBeLines (goal_lines table c)
-    goal_can c (no_world {name = name} {class = class} {a = m} {b = n} is low first second) =
+    goal_can : (version : ℕ) (c : Claimed) → IsPrintableGoal version table c → CanBeLines (goal_lines table c)
+    goal_can version c (no_world {name = name} {class = class} {a = m} {b = n} is low first second) =
         a_line (name_line name is)
         (a_line
         (can_be
@@ -264,7 +283,7 @@ module _ (laws : WordLaws) where
         (a_word (laws.number class (omega (arith, low)))
         (a_word (laws.number m first) (a_word (laws.number n second) no_words)))))
         (a_line end_line no_lines))
-    goal_can c
+    goal_can version c
         (worked {name = name} {g = g} {rounds = rounds} {stop = stop} {claim = claim} {refute = refute} named is plain few low fine
         below) =
         a_line (name_line name named)
@@ -275,24 +294,24 @@ module _ (laws : WordLaws) where
         (a_word (laws.number rounds (omega (arith, low)))
         (a_word (record { some = λ e. cc; printed = refl }) (a_word (stop_word stop) no_words)))))
         (lines_from_all (graph_lines (said g)) (laws.graph g is)))
-        (and_lines _ (claim_can claim fine)
-        (and_lines _ (below_can (refuted_below claim) refute (claim_low claim fine) below)
-        (and_lines _ (lemmas_can claim fine) (a_line end_line no_lines)))))
+        (and_lines _ (claim_can g claim fine)
+        (and_lines _ (below_can (refuted_below claim) refute (claim_low g claim fine) below)
+        (and_lines _ (lemmas_can g claim fine) (a_line end_line no_lines)))))
 
-    goals_can : (goals : List Claimed) → All (IsPrintableGoal table) goals → CanBeLines (flat_map (goal_lines table) goals)
-    goals_can [] fine = no_lines
-    goals_can (c ∷ goals) fine =
+    goals_can : (version : ℕ) (goals : List Claimed) → All (IsPrintableGoal version table) goals
+        → CanBeLines (flat_map (goal_lines table) goals)
+    goals_can version [] fine = no_lines
+    goals_can version (c ∷ goals) fine =
         subst CanBeLines (sym (flat_map-cons (goal_lines table) c goals))
-        (and_lines _ (goal_can c (All-head (IsPrintableGoal table) c goals fine))
-        (goals_can goals (All-tail (IsPrintableGoal table) c goals fine)))
+        (and_lines _ (goal_can version c (All-head (IsPrintableGoal version table) c goals fine))
+        (goals_can version goals (All-tail (IsPrintableGoal version table) c goals fine)))
 
   -- ---- answers
 
   pub answer_can : (a : AnswerText) → IsPrintable a → All CanBeLine (answer_lines a)
   answer_can a is =
-      let version : a.version < 2 ^ 64 = (let one = is.version in omega (arith, one)) in
-      let encoding : a.encoding < 2 ^ 64 = (let two = is.encoding.1 in omega (arith, two)) in
+      let pair = pair_low a.version a.encoding is.encoding in
       each_line
-      (a_line (number_line (codes "denali") a.version (record { some = λ e. cc; printed = refl }) version)
-      (a_line (number_line (codes "encoding") a.encoding (record { some = λ e. cc; printed = refl }) encoding)
-      (and_lines _ (table_can a.table is.names a.builtin is.table) (goals_can a.table is.names a.goals is.goals))))
+      (a_line (number_line (codes "denali") a.version (record { some = λ e. cc; printed = refl }) pair.0)
+      (a_line (number_line (codes "encoding") a.encoding (record { some = λ e. cc; printed = refl }) pair.1)
+      (and_lines _ (table_can a.table is.names a.builtin is.table) (goals_can a.table is.names a.version a.goals is.goals))))

@@ -1,5 +1,5 @@
 -- Lines that are what an answer prints say it.
-use Rattle.std.proofs.Common.{◌≡◌, ◌≢◌, ℕ, ◌≤◌, Bool, true, false, List, [], ◌∷◌, ◌++◌, length, map, refl, sym, ap, subst, arith, append_assoc, codes}
+use Rattle.std.proofs.Common.{◌≡◌, ◌≢◌, ℕ, ◌≤◌, Bool, true, false, List, [], ◌∷◌, ◌++◌, length, map, inl, inr, refl, sym, ap, subst, arith, append_assoc, codes}
 use Rattle.std.specs.Prelude.{All, IsTrue}
 use Rattle.std.specs.List.{flat_map}
 use Rattle.std.proofs.lemmas.List.Concat.{flat_map-cons}
@@ -10,7 +10,7 @@ use Rattle.text_core.specs.Lines.{Line}
 use Rattle.text_core.specs.LineTexts.{Words, words_of_lines}
 use Rattle.text_core.specs.Names.{IsName}
 use Rattle.answer_texts.specs.AnswerLines.{version_words, encoding_words, built_in_words, own_words, slot_words, cross_words, inst_words, table_lines, goal_lines, answer_lines}
-use Rattle.answer_texts.specs.AnswerParts.{IsVersion, IsEncoding, IsTableLine, AreNamedSlots, IsCross, AreTableUses, OwnPart, TablePart, AnswerPart}
+use Rattle.answer_texts.specs.AnswerParts.{GoTogether, IsVersion, IsEncoding, IsTableLine, AreNamedSlots, IsCross, AreTableUses, OwnPart, TablePart, AnswerPart}
 use Rattle.answer_texts.specs.Printable.{IsPrintable}
 use Rattle.answer_texts.specs.declared.answers.AnswerText.{AnswerText}
 use Rattle.answer_texts.specs.declared.answers.Claimed.{Claimed}
@@ -26,6 +26,11 @@ goals_begin_not table [] = tt
 goals_begin_not table (c ∷ goals) =
     subst (BeginsNot (codes "inst")) (sym (flat_map-cons (goal_lines table) c goals))
     (apart 0 103 105 (codes "goal") (codes "inst") refl refl (λ n. omega (arith, n)))
+
+-- the version that goes with some encoding
+version_low : (version encoding : ℕ) → GoTogether version encoding → (1 ≤ version) × (version ≤ 2)
+version_low version encoding (inl is) = (let one = is.0 in (omega (arith, one), omega (arith, one)))
+version_low version encoding (inr is) = (let two = is.0 in (omega (arith, two), omega (arith, two)))
 
 module _ (lines : List Line) where
   -- ---- the table
@@ -78,23 +83,23 @@ module _ (lines : List Line) where
   some_goals : (goals : List Claimed) → 1 ≤ length goals → goals ≢ []
   some_goals goals some e = (let none : length goals ≡ 0 = ap length e in omega (arith, some, none))
 
-  pub answer_stands : LinesAreAmong → PrintedAreGraphs → (a : AnswerText) → IsPrintable a
+  pub answer_stands : LinesAreAmong → (a : AnswerText) → PrintedAreGraphs a.version → IsPrintable a
       → words_of_lines lines ≡ answer_lines a → AnswerPart lines 0 (length lines) a
-  answer_stands among graphs a is words =
+  answer_stands among a graphs is words =
       let goals : List Words = flat_map (goal_lines a.table) a.goals in
       let tables : List Words = table_lines a.table a.builtin ++ goals in
       let whole = leads_stands lines _ _ (encoding_words a.encoding ∷ tables) [] 0 a.version a
       (line_stands lines IsVersion (encoding_words a.encoding ∷ tables) 0 (version_words a.version) a.version
-      (record { known = is.version; is = refl }) (record { within = omega arith; are = words }))
+      (record { known = version_low a.version a.encoding is.encoding; is = refl }) (record { within = omega arith; are = words }))
       (λ first one.
       leads_stands lines _ _ tables [] first a.encoding a
-      (line_stands lines IsEncoding tables first (encoding_words a.encoding) a.encoding
+      (line_stands lines (IsEncoding a.version) tables first (encoding_words a.encoding) a.encoding
       (record { known = is.encoding; is = refl }) one)
       (λ second two.
       leads_stands lines _ _ goals [] second (a.table, a.builtin) a
       (table_stands a.table a.builtin goals second is.table is.names is.built_in (goals_begin_not a.table a.goals) two)
       (λ third three.
-      (let last = goals_stand lines among graphs a.table third a.goals is.few.1 is.goals three in
+      (let last = goals_stand lines among a.version graphs a.table third a.goals is.few.1 is.goals three in
       leads_stands lines _ _ [] [] third a.goals a
       (record {
         next = last.next;

@@ -3,12 +3,13 @@ use Rattle.std.proofs.Common.{◌≡◌, ℕ, List, Option, None, Some, refl, ar
 use Rattle.graph_meaning.specs.Graphs.{HasNoPins}
 use Rattle.graph_meaning.specs.declared.graphs.LaunchGraph.{LaunchGraph}
 use Rattle.launch_graph.specs.GraphLines.{PinFits}
-use Rattle.launch_graph.specs.GraphTexts.{IsGraphAt}
+use Rattle.launch_graph.specs.GraphTexts.{IsGraphOf}
 use Rattle.text_core.specs.Lines.{Line}
 
-no_pin : (pin : Option ℕ) → PinFits 1 pin → pin ≡ None
-no_pin None fits = refl
-no_pin (Some r) fits = absurd (let no = fits.0 in omega (arith, no))
+no_pin : (version : ℕ) (pin : Option ℕ) → version ≡ 1 → PinFits version pin → pin ≡ None
+no_pin version None first fits = refl
+no_pin version (Some r) first fits = absurd (let second = fits.0 in omega (arith, first, second))
 
-pub unpinned_at : (lines : List Line) (from next : ℕ) (g : LaunchGraph) → IsGraphAt lines from next g → HasNoPins g
-unpinned_at lines from next g at = λ k d lt. no_pin _ (at.are.sets k d lt).2
+pub unpinned_at : (lines : List Line) (version from next : ℕ) (g : LaunchGraph) → IsGraphOf version lines from next g
+    → version ≡ 1 → HasNoPins g
+unpinned_at lines version from next g at first = λ k d lt. no_pin version _ first (at.are.sets k d lt).2

@@ -11,7 +11,7 @@ use Rattle.alpha_encode.specs.declared.instructions.Instr.{Instr}
 use Rattle.alpha_encode.specs.declared.instructions.Instr.TheVariants.{Operate, Lda, Ldah, LdqU, StqU, Beq}
 use Rattle.cnf_core.specs.declared.line.Line.{Line}
 use Rattle.cnf_core.specs.declared.line.Lines.{Lines}
-use Rattle.launch_graph.specs.GraphLines.{graph_lines, said}
+use Rattle.launch_graph.specs.GraphLines.{graph_lines, pin_words, said}
 use Rattle.graph_meaning.specs.declared.graphs.LaunchGraph.{LaunchGraph}
 use Rattle.machine_table.specs.InstrOrder.{instr_name}
 use Rattle.machine_table.specs.declared.tables.Slot.{Slot}
@@ -21,6 +21,7 @@ use Rattle.refutation_check.specs.LineWords.{line_words}
 use Rattle.register_assign.specs.declared.listings.Where.{Where}
 use Rattle.saturation.specs.declared.rounds.Stop.{Stop}
 use Rattle.saturation.specs.declared.rounds.Stop.TheVariants.{Quiet, Rounds, Full}
+use Rattle.schedule_meaning.specs.Launches.{pin_of}
 use Rattle.schedule_meaning.specs.declared.schedules.Launch.{Launch}
 use Rattle.text_core.specs.LineTexts.{Words, lines_text}
 use Rattle.word_ops.specs.Names.{name_of}
@@ -72,8 +73,15 @@ table_lines table builtin = if builtin then built_in_words ∷ [] else own_lines
 
 -- ---- the schedule and its words
 
-abbrev pub launch_words : Table → Launch → Words
-launch_words table l = codes "launch" ∷ decimal l.cycle ∷ slot_name table l.slot ∷ decimal l.row ∷ []
+-- a launch, and behind its row the pin of the set that it goes to, where it goes to one
+abbrev pub launch_words : Table → LaunchGraph → Launch → Words
+launch_words table g l =
+    codes "launch" ∷ decimal l.cycle ∷ slot_name table l.slot ∷ decimal l.row ∷ pin_words (pin_of g l.to)
+
+-- the launches of a schedule of the graph; where there is no graph, there are no rows to launch
+abbrev pub launches_part : Table → Option LaunchGraph → List Launch → List Words
+launches_part table None launches = []
+launches_part table (Some g) launches = map (launch_words table g) launches
 
 abbrev pub hex_digit : ℕ → ℕ
 hex_digit n = if nat_lt n 10 then 48 + n else 55 + n
@@ -170,14 +178,15 @@ abbrev pub graph_part : ℕ → Stop → Option LaunchGraph → List Words
 graph_part rounds stop None = []
 graph_part rounds stop (Some g) = rounds_words rounds stop ∷ graph_lines (said g)
 
-abbrev pub claim_part : Table → Claim → List Words
-claim_part table (NoWorld class a b) = noworld_words class a b ∷ []
-claim_part table (Scheduled k schedule words places) =
+-- a claim on the graph
+abbrev pub claim_part : Table → Option LaunchGraph → Claim → List Words
+claim_part table graph (NoWorld class a b) = noworld_words class a b ∷ []
+claim_part table graph (Scheduled k schedule words places) =
     scheduled_words k
-    ∷ (map (launch_words table) schedule.launches ++ (map word_words words ++ map where_words places))
-claim_part table (Missing k) = none_words k ∷ []
-claim_part table (SpentConflicts k lemmas) = conflicts_words k ∷ []
-claim_part table (SpentSize k vars clauses) = size_words k vars clauses ∷ []
+    ∷ (launches_part table graph schedule.launches ++ (map word_words words ++ map where_words places))
+claim_part table graph (Missing k) = none_words k ∷ []
+claim_part table graph (SpentConflicts k lemmas) = conflicts_words k ∷ []
+claim_part table graph (SpentSize k vars clauses) = size_words k vars clauses ∷ []
 
 -- the number of cycles below which, as a claim says, no schedule fits
 abbrev pub refuted_below : Claim → ℕ
@@ -203,7 +212,7 @@ abbrev pub goal_lines : Table → Claimed → List Words
 goal_lines table c =
     goal_words c.name
     ∷ (graph_part c.rounds c.stop c.graph
-    ++ (claim_part table c.claim
+    ++ (claim_part table c.graph c.claim
     ++ (refute_part (refuted_cycles c.claim) c.refute ++ (lemmas_part c.claim ++ (end_words ∷ [])))))
 
 -- ---- the answer to a text

@@ -1,10 +1,10 @@
 -- The grammar of answers, part by part: which lines say which value, and the first fault of lines that don't.
 -- Source: this project.
-use Rattle.std.specs.Prelude.{ℕ, zero, suc, ◌≡◌, ◌≢◌, ◌⊎◌, ◌+◌, ◌<◌, ◌≤◌, ◌^◌, Bool, true, false, List, [], ◌∷◌, ◌++◌, length, codes, Option, None, Some, is_some, IsTrue, All, AllPairs}
+use Rattle.std.specs.Prelude.{⊤, ℕ, zero, suc, ◌≡◌, ◌≢◌, ◌⊎◌, ◌+◌, ◌<◌, ◌≤◌, ◌^◌, Bool, true, false, List, [], ◌∷◌, ◌++◌, length, codes, Option, None, Some, is_some, IsSomeAnd, IsTrue, All, AllPairs}
 use Rattle.alpha_encode.specs.Decoded.{decoded}
 use Rattle.cnf_core.specs.declared.line.Lines.{Lines}
-use Rattle.launch_graph.specs.GraphTexts.{IsGraphAt}
-use Rattle.launch_graph.specs.LineFaults.{IsFirstGraphFault}
+use Rattle.launch_graph.specs.GraphTexts.{IsGraphOf}
+use Rattle.launch_graph.specs.LineFaults.{IsFirstFaultOf}
 use Rattle.graph_meaning.specs.declared.graphs.LaunchGraph.{LaunchGraph}
 use Rattle.machine_table.specs.Tables.{IsTable, ev6}
 use Rattle.machine_table.specs.declared.tables.Slot.{Slot}
@@ -13,7 +13,9 @@ use Rattle.machine_table.specs.declared.tables.Use.{Use}
 use Rattle.refutation_check.specs.LineWords.{AreLinesAt, IsFirstBadLine}
 use Rattle.register_assign.specs.declared.listings.Where.{Where}
 use Rattle.saturation.specs.declared.rounds.Stop.TheVariants.{Quiet}
-use Rattle.schedule_meaning.specs.declared.schedules.To.TheVariants.{Pool}
+use Rattle.schedule_meaning.specs.Launches.{pin_of}
+use Rattle.schedule_meaning.specs.declared.schedules.To.{To}
+use Rattle.schedule_meaning.specs.declared.schedules.To.TheVariants.{Pool, Set}
 use Rattle.schedule_meaning.specs.declared.schedules.Launch.{Launch}
 use Rattle.text_core.specs.Lines.{Line}
 use Rattle.text_core.specs.LineTexts.{Words}
@@ -36,11 +38,15 @@ use Rattle.answer_texts.specs.declared.parts.TableLine.TheVariants as tables
 -- ---- the head
 
 pub record IsVersion (words : Words) (version : ℕ) : Type 0 where
-  pub known : version ≡ 1
+  pub known : (1 ≤ version) × (version ≤ 2)
   pub is : words ≡ version_words version
 
-pub record IsEncoding (words : Words) (encoding : ℕ) : Type 0 where
-  pub known : (1 ≤ encoding) × (encoding ≤ 2)
+-- version 1 is that of the two encodings without pins, and version 2 that of the one with pins
+abbrev pub GoTogether : ℕ → ℕ → Type 0
+GoTogether version encoding = ((version ≡ 1) × (1 ≤ encoding) × (encoding ≤ 2)) ⊎ ((version ≡ 2) × (encoding ≡ 3))
+
+pub record IsEncoding (version : ℕ) (words : Words) (encoding : ℕ) : Type 0 where
+  pub known : GoTogether version encoding
   pub is : words ≡ encoding_words encoding
 
 -- ---- the table
@@ -158,13 +164,18 @@ IsClaimLine words (lines_of.Conflicts k) = IsClaimOf words (conflicts_words k) k
 IsClaimLine words (lines_of.Size k vars clauses) =
     IsClaimOf words (size_words k vars clauses) k × (vars < 2 ^ 64) × (clauses < 2 ^ 64)
 
--- a launch in a slot of the table, all numbers of which are below 2 ^ 31
-abbrev pub IsLaunch : Table → Launch → Type 0
-IsLaunch table l =
-    (l.cycle < 2 ^ 31) × (l.slot < length table.slots) × (l.row < 2 ^ 31) × (l.slot < 2 ^ 31) × (l.to ≡ Pool)
+-- the pool, or a set of the graph that is pinned to a register
+abbrev pub IsDestination : LaunchGraph → To → Type 0
+IsDestination g Pool = ⊤
+IsDestination g (Set j) = (j < 2 ^ 31) × IsSomeAnd (pin_of g (Set j)) (λ r. r < 31)
 
-abbrev pub AreLaunches : Table → List Launch → Type 0
-AreLaunches table launches = All (IsLaunch table) launches
+-- a launch in a slot of the table, all numbers of which are below 2 ^ 31
+abbrev pub IsLaunch : Table → LaunchGraph → Launch → Type 0
+IsLaunch table g l =
+    (l.cycle < 2 ^ 31) × (l.slot < length table.slots) × (l.row < 2 ^ 31) × (l.slot < 2 ^ 31) × IsDestination g l.to
+
+abbrev pub AreLaunches : Table → LaunchGraph → List Launch → Type 0
+AreLaunches table g launches = All (IsLaunch table g) launches
 
 -- a word of the machine
 abbrev pub IsCode : ℕ → Type 0
@@ -180,11 +191,11 @@ IsPlace w = IsName w.name × (w.reg < 32)
 abbrev pub AreWherePlaces : List Where → Type 0
 AreWherePlaces places = All IsPlace places
 
-abbrev pub LaunchesPart : List Line → Table → ℕ → ℕ → List Launch → Type 0
-LaunchesPart lines table = AreLinesOf (codes "launch") (launch_words table) (AreLaunches table) lines
+abbrev pub LaunchesPart : List Line → Table → LaunchGraph → ℕ → ℕ → List Launch → Type 0
+LaunchesPart lines table g = AreLinesOf (codes "launch") (launch_words table g) (AreLaunches table g) lines
 
-abbrev pub LaunchesFault : List Line → Table → ℕ → ℕ → Kind → Type 0
-LaunchesFault lines table = HasBadLine (codes "launch") (launch_words table) (AreLaunches table) lines
+abbrev pub LaunchesFault : List Line → Table → LaunchGraph → ℕ → ℕ → Kind → Type 0
+LaunchesFault lines table g = HasBadLine (codes "launch") (launch_words table g) (AreLaunches table g) lines
 
 abbrev pub CodesPart : List Line → ℕ → ℕ → List ℕ → Type 0
 CodesPart lines = AreLinesOf (codes "word") word_words AreCodes lines
@@ -198,49 +209,50 @@ PlacesPart lines = AreLinesOf (codes "where") where_words AreWherePlaces lines
 abbrev pub PlacesFault : List Line → ℕ → ℕ → Kind → Type 0
 PlacesFault lines = HasBadLine (codes "where") where_words AreWherePlaces lines
 
--- a schedule: launches, words, places, and the lines for one cycle less
-abbrev pub SchedulePart : List Line → Table → ℕ → ℕ → ℕ → Claim × Option Lines → Type 0
-SchedulePart lines table k =
-    Leads (LaunchesPart lines table) (λ launches.
+-- a schedule of the graph: launches, words, places, and the lines for one cycle less
+abbrev pub SchedulePart : List Line → Table → LaunchGraph → ℕ → ℕ → ℕ → Claim × Option Lines → Type 0
+SchedulePart lines table g k =
+    Leads (LaunchesPart lines table g) (λ launches.
     Leads (CodesPart lines) (λ words.
     Leads (PlacesPart lines) (λ places.
     Leads (BelowPart lines k) (λ refute.
     Says (claims.Scheduled k (record { launches = launches }) words places, refute)))))
 
-abbrev pub ScheduleFault : List Line → Table → ℕ → ℕ → ℕ → Kind → Type 0
-ScheduleFault lines table k =
-    LeadsFault (LaunchesPart lines table) (LaunchesFault lines table) (λ launches.
+abbrev pub ScheduleFault : List Line → Table → LaunchGraph → ℕ → ℕ → ℕ → Kind → Type 0
+ScheduleFault lines table g k =
+    LeadsFault (LaunchesPart lines table g) (LaunchesFault lines table g) (λ launches.
     LeadsFault (CodesPart lines) (CodesFault lines) (λ words.
     LeadsFault (PlacesPart lines) (PlacesFault lines) (λ places.
     LeadsFault (BelowPart lines k) (BelowFault lines k) (λ refute. NoFault))))
 
 -- what stands behind the first line of a claim
-abbrev pub ClaimRest : List Line → Table → ClaimLine → ℕ → ℕ → Claim × Option Lines → Type 0
-ClaimRest lines table (lines_of.Scheduled k) = SchedulePart lines table k
-ClaimRest lines table (lines_of.Missing k) =
+abbrev pub ClaimRest : List Line → Table → LaunchGraph → ClaimLine → ℕ → ℕ → Claim × Option Lines → Type 0
+ClaimRest lines table g (lines_of.Scheduled k) = SchedulePart lines table g k
+ClaimRest lines table g (lines_of.Missing k) =
     Leads (CountedPart lines (codes "refute") k) (λ read. Says (claims.Missing k, Some read))
-ClaimRest lines table (lines_of.Conflicts k) =
+ClaimRest lines table g (lines_of.Conflicts k) =
     Leads (BelowPart lines k) (λ refute.
     Leads (CountedPart lines (codes "lemmas") k) (λ lemmas. Says (claims.SpentConflicts k lemmas, refute)))
-ClaimRest lines table (lines_of.Size k vars clauses) =
+ClaimRest lines table g (lines_of.Size k vars clauses) =
     Leads (BelowPart lines k) (λ refute. Says (claims.SpentSize k vars clauses, refute))
 
-abbrev pub ClaimRestFault : List Line → Table → ClaimLine → ℕ → ℕ → Kind → Type 0
-ClaimRestFault lines table (lines_of.Scheduled k) = ScheduleFault lines table k
-ClaimRestFault lines table (lines_of.Missing k) =
+abbrev pub ClaimRestFault : List Line → Table → LaunchGraph → ClaimLine → ℕ → ℕ → Kind → Type 0
+ClaimRestFault lines table g (lines_of.Scheduled k) = ScheduleFault lines table g k
+ClaimRestFault lines table g (lines_of.Missing k) =
     LeadsFault (CountedPart lines (codes "refute") k) (CountedFault lines (codes "refute") k) (λ read. NoFault)
-ClaimRestFault lines table (lines_of.Conflicts k) =
+ClaimRestFault lines table g (lines_of.Conflicts k) =
     LeadsFault (BelowPart lines k) (BelowFault lines k) (λ refute.
     LeadsFault (CountedPart lines (codes "lemmas") k) (CountedFault lines (codes "lemmas") k) (λ lemmas. NoFault))
-ClaimRestFault lines table (lines_of.Size k vars clauses) =
+ClaimRestFault lines table g (lines_of.Size k vars clauses) =
     LeadsFault (BelowPart lines k) (BelowFault lines k) (λ refute. NoFault)
 
-abbrev pub ClaimPart : List Line → Table → ℕ → ℕ → Claim × Option Lines → Type 0
-ClaimPart lines table = Leads (IsOneLine IsClaimLine lines) (ClaimRest lines table)
+-- a claim on the graph
+abbrev pub ClaimPart : List Line → Table → LaunchGraph → ℕ → ℕ → Claim × Option Lines → Type 0
+ClaimPart lines table g = Leads (IsOneLine IsClaimLine lines) (ClaimRest lines table g)
 
-abbrev pub ClaimFault : List Line → Table → ℕ → ℕ → Kind → Type 0
-ClaimFault lines table =
-    LeadsFault (IsOneLine IsClaimLine lines) (IsNoLine IsClaimLine lines) (ClaimRestFault lines table)
+abbrev pub ClaimFault : List Line → Table → LaunchGraph → ℕ → ℕ → Kind → Type 0
+ClaimFault lines table g =
+    LeadsFault (IsOneLine IsClaimLine lines) (IsNoLine IsClaimLine lines) (ClaimRestFault lines table g)
 
 -- ---- goals
 
@@ -257,33 +269,37 @@ IsBodyLine words (bodies.NoWorld class a b) =
     (class < 2 ^ 31) × (a < 2 ^ 64) × (b < 2 ^ 64) × (words ≡ noworld_words class a b)
 IsBodyLine words (bodies.Rounds rounds stop) = (rounds < 2 ^ 31) × (words ≡ rounds_words rounds stop)
 
-abbrev pub GraphPart : List Line → ℕ → ℕ → LaunchGraph → Type 0
-GraphPart lines from next g = IsGraphAt lines from next g
+-- a graph of the version: in version 1 no set has a pin
+abbrev pub GraphPart : List Line → ℕ → ℕ → ℕ → LaunchGraph → Type 0
+GraphPart lines version from next g = IsGraphOf version lines from next g
+
+abbrev pub GraphFault : List Line → ℕ → ℕ → ℕ → Kind → Type 0
+GraphFault lines version from place kind = IsFirstFaultOf version lines from place kind
 
 abbrev pub no_world_body : ℕ → ℕ → ℕ → Body
 no_world_body class a b =
     record { graph = None; rounds = 0; stop = Quiet; claim = claims.NoWorld class a b; refute = None }
 
 -- what stands behind that line
-abbrev pub BodyRest : List Line → Table → BodyLine → ℕ → ℕ → Body → Type 0
-BodyRest lines table (bodies.NoWorld class a b) = Says (no_world_body class a b)
-BodyRest lines table (bodies.Rounds rounds stop) =
-    Leads (GraphPart lines) (λ g.
-    Leads (ClaimPart lines table) (λ c.
+abbrev pub BodyRest : List Line → ℕ → Table → BodyLine → ℕ → ℕ → Body → Type 0
+BodyRest lines version table (bodies.NoWorld class a b) = Says (no_world_body class a b)
+BodyRest lines version table (bodies.Rounds rounds stop) =
+    Leads (GraphPart lines version) (λ g.
+    Leads (ClaimPart lines table g) (λ c.
     Says (record { graph = Some g; rounds = rounds; stop = stop; claim = c.0; refute = c.1 })))
 
-abbrev pub BodyRestFault : List Line → Table → BodyLine → ℕ → ℕ → Kind → Type 0
-BodyRestFault lines table (bodies.NoWorld class a b) = NoFault
-BodyRestFault lines table (bodies.Rounds rounds stop) =
-    LeadsFault (GraphPart lines) (IsFirstGraphFault lines) (λ g.
-    LeadsFault (ClaimPart lines table) (ClaimFault lines table) (λ c. NoFault))
+abbrev pub BodyRestFault : List Line → ℕ → Table → BodyLine → ℕ → ℕ → Kind → Type 0
+BodyRestFault lines version table (bodies.NoWorld class a b) = NoFault
+BodyRestFault lines version table (bodies.Rounds rounds stop) =
+    LeadsFault (GraphPart lines version) (GraphFault lines version) (λ g.
+    LeadsFault (ClaimPart lines table g) (ClaimFault lines table g) (λ c. NoFault))
 
-abbrev pub BodyPart : List Line → Table → ℕ → ℕ → Body → Type 0
-BodyPart lines table = Leads (IsOneLine IsBodyLine lines) (BodyRest lines table)
+abbrev pub BodyPart : List Line → ℕ → Table → ℕ → ℕ → Body → Type 0
+BodyPart lines version table = Leads (IsOneLine IsBodyLine lines) (BodyRest lines version table)
 
-abbrev pub BodyFault : List Line → Table → ℕ → ℕ → Kind → Type 0
-BodyFault lines table =
-    LeadsFault (IsOneLine IsBodyLine lines) (IsNoLine IsBodyLine lines) (BodyRestFault lines table)
+abbrev pub BodyFault : List Line → ℕ → Table → ℕ → ℕ → Kind → Type 0
+BodyFault lines version table =
+    LeadsFault (IsOneLine IsBodyLine lines) (IsNoLine IsBodyLine lines) (BodyRestFault lines version table)
 
 abbrev pub claimed_of : List ℕ → Body → Claimed
 claimed_of name body = record {
@@ -296,36 +312,36 @@ claimed_of name body = record {
 }
 
 -- a goal: its name, what is said of it, and `end`
-abbrev pub GoalPart : List Line → Table → ℕ → ℕ → Claimed → Type 0
-GoalPart lines table =
+abbrev pub GoalPart : List Line → ℕ → Table → ℕ → ℕ → Claimed → Type 0
+GoalPart lines version table =
     Leads (IsOneLine IsGoalName lines) (λ name.
-    Leads (BodyPart lines table) (λ body.
+    Leads (BodyPart lines version table) (λ body.
     Leads (IsOneLine IsEnd lines) (λ nothing. Says (claimed_of name body))))
 
-abbrev pub GoalFault : List Line → Table → ℕ → ℕ → Kind → Type 0
-GoalFault lines table =
+abbrev pub GoalFault : List Line → ℕ → Table → ℕ → ℕ → Kind → Type 0
+GoalFault lines version table =
     LeadsFault (IsOneLine IsGoalName lines) (IsNoLine IsGoalName lines) (λ name.
-    LeadsFault (BodyPart lines table) (BodyFault lines table) (λ body.
+    LeadsFault (BodyPart lines version table) (BodyFault lines version table) (λ body.
     LeadsFault (IsOneLine IsEnd lines) (IsNoLine IsEnd lines) (λ nothing. NoFault)))
 
 -- goals one behind another, at most 64 of them
-pub data AreGoals (lines : List Line) (table : Table) (from : ℕ) : ℕ → List Claimed → Type 0 where
-  no_goals : AreGoals lines table from from []
-  more : {middle next : ℕ} {goals : List Claimed} {goal : Claimed} → AreGoals lines table from middle goals
-      → length goals < 64 → GoalPart lines table middle next goal → AreGoals lines table from next (goals ++ goal ∷ [])
+pub data AreGoals (lines : List Line) (version : ℕ) (table : Table) (from : ℕ) : ℕ → List Claimed → Type 0 where
+  no_goals : AreGoals lines version table from from []
+  more : {middle next : ℕ} {goals : List Claimed} {goal : Claimed} → AreGoals lines version table from middle goals
+      → length goals < 64 → GoalPart lines version table middle next goal → AreGoals lines version table from next (goals ++ goal ∷ [])
 
 -- at least one goal, up to the end of the text
-pub record GoalsPart (lines : List Line) (table : Table) (from next : ℕ) (goals : List Claimed) : Type 0 where
-  pub are : AreGoals lines table from next goals
+pub record GoalsPart (lines : List Line) (version : ℕ) (table : Table) (from next : ℕ) (goals : List Claimed) : Type 0 where
+  pub are : AreGoals lines version table from next goals
   pub some : goals ≢ []
   pub whole : next ≡ length lines
 
-pub data GoalsFault (lines : List Line) (table : Table) (from place : ℕ) (kind : Kind) : Type 0 where
-  in_goal : {at : ℕ} {goals : List Claimed} → AreGoals lines table from at goals → length goals < 64
-      → (at < length lines) ⊎ (goals ≡ []) → GoalFault lines table at place kind
-      → GoalsFault lines table from place kind
-  too_many : {at : ℕ} {goals : List Claimed} → AreGoals lines table from at goals → length goals ≡ 64
-      → at < length lines → IsBadOrMissingLine lines at place kind → GoalsFault lines table from place kind
+pub data GoalsFault (lines : List Line) (version : ℕ) (table : Table) (from place : ℕ) (kind : Kind) : Type 0 where
+  in_goal : {at : ℕ} {goals : List Claimed} → AreGoals lines version table from at goals → length goals < 64
+      → (at < length lines) ⊎ (goals ≡ []) → GoalFault lines version table at place kind
+      → GoalsFault lines version table from place kind
+  too_many : {at : ℕ} {goals : List Claimed} → AreGoals lines version table from at goals → length goals ≡ 64
+      → at < length lines → IsBadOrMissingLine lines at place kind → GoalsFault lines version table from place kind
 
 -- ---- answers
 
@@ -336,13 +352,13 @@ answer_of version encoding table goals =
 abbrev pub AnswerPart : List Line → ℕ → ℕ → AnswerText → Type 0
 AnswerPart lines =
     Leads (IsOneLine IsVersion lines) (λ version.
-    Leads (IsOneLine IsEncoding lines) (λ encoding.
+    Leads (IsOneLine (IsEncoding version) lines) (λ encoding.
     Leads (TablePart lines) (λ table.
-    Leads (GoalsPart lines table.0) (λ goals. Says (answer_of version encoding table goals)))))
+    Leads (GoalsPart lines version table.0) (λ goals. Says (answer_of version encoding table goals)))))
 
 abbrev pub AnswerPartFault : List Line → ℕ → ℕ → Kind → Type 0
 AnswerPartFault lines =
     LeadsFault (IsOneLine IsVersion lines) (IsNoLine IsVersion lines) (λ version.
-    LeadsFault (IsOneLine IsEncoding lines) (IsNoLine IsEncoding lines) (λ encoding.
+    LeadsFault (IsOneLine (IsEncoding version) lines) (IsNoLine (IsEncoding version) lines) (λ encoding.
     LeadsFault (TablePart lines) (TableFault lines) (λ table.
-    LeadsFault (GoalsPart lines table.0) (GoalsFault lines table.0) (λ goals. NoFault))))
+    LeadsFault (GoalsPart lines version table.0) (GoalsFault lines version table.0) (λ goals. NoFault))))

@@ -11,7 +11,7 @@ use Rattle.refutation_check.specs.LineWords.{IsReadableLine}
 use Rattle.saturation.specs.declared.rounds.Stop.{Stop}
 use Rattle.text_core.specs.Names.{IsName}
 use Rattle.answer_texts.specs.AnswerLines.{refuted_below}
-use Rattle.answer_texts.specs.AnswerParts.{AreLaunches, AreCodes, AreWherePlaces, no_world_body, claimed_of}
+use Rattle.answer_texts.specs.AnswerParts.{AreLaunches, AreCodes, AreWherePlaces, GoTogether, no_world_body, claimed_of}
 use Rattle.answer_texts.specs.declared.answers.AnswerText.{AnswerText}
 use Rattle.answer_texts.specs.declared.answers.Claim.{Claim}
 use Rattle.answer_texts.specs.declared.answers.Claim.TheVariants.{NoWorld, Scheduled, Missing, SpentConflicts, SpentSize}
@@ -22,35 +22,34 @@ pub record AreReadable (lines : Lines) : Type 0 where
   pub few : length lines.lines < 2 ^ 31
   pub each : All IsReadableLine lines.lines
 
--- a claim on the graph of a goal; up to 24 cycles are spoken of
-abbrev pub IsGraphClaim : Table → Claim → Type 0
-IsGraphClaim table (NoWorld class a b) = ⊥
-IsGraphClaim table (Scheduled k schedule words places) =
-    (k ≤ 24) × AreLaunches table schedule.launches × AreCodes words × AreWherePlaces places
-IsGraphClaim table (Missing k) = k ≤ 24
-IsGraphClaim table (SpentConflicts k lemmas) = (k ≤ 24) × AreReadable lemmas
-IsGraphClaim table (SpentSize k vars clauses) = (k ≤ 24) × (vars < 2 ^ 64) × (clauses < 2 ^ 64)
+-- a claim on this graph of a goal; up to 24 cycles are spoken of
+abbrev pub IsGraphClaim : Table → LaunchGraph → Claim → Type 0
+IsGraphClaim table g (NoWorld class a b) = ⊥
+IsGraphClaim table g (Scheduled k schedule words places) =
+    (k ≤ 24) × AreLaunches table g schedule.launches × AreCodes words × AreWherePlaces places
+IsGraphClaim table g (Missing k) = k ≤ 24
+IsGraphClaim table g (SpentConflicts k lemmas) = (k ≤ 24) × AreReadable lemmas
+IsGraphClaim table g (SpentSize k vars clauses) = (k ≤ 24) × (vars < 2 ^ 64) × (clauses < 2 ^ 64)
 
 -- lines where fewer cycles than a number are to be refuted, and none where there are none
 abbrev pub AreLinesBelow : ℕ → Option Lines → Type 0
 AreLinesBelow zero refute = refute ≡ None
 AreLinesBelow (suc k) refute = IsSomeAnd refute AreReadable
 
--- a goal without a world, and one with a graph, a claim on it and the lines that the claim needs
-pub data IsPrintableGoal (table : Table) : Claimed → Type 0 where
+-- in this version, a goal without a world, and one with a graph, a claim on it and the lines that the claim needs
+pub data IsPrintableGoal (version : ℕ) (table : Table) : Claimed → Type 0 where
   no_world : {name : List ℕ} {class a b : ℕ} → IsName name → class < 2 ^ 31 → a < 2 ^ 64 → b < 2 ^ 64
-      → IsPrintableGoal table (claimed_of name (no_world_body class a b))
+      → IsPrintableGoal version table (claimed_of name (no_world_body class a b))
   worked : {name : List ℕ} {g : LaunchGraph} {rounds : ℕ} {stop : Stop} {claim : Claim} {refute : Option Lines}
-      → IsName name → IsLaunchGraph g → HasNoPins g → length g.rows ≤ 1000000 → rounds < 2 ^ 31
-      → IsGraphClaim table claim → AreLinesBelow (refuted_below claim) refute
-      → IsPrintableGoal table
+      → IsName name → IsLaunchGraph g → (version ≡ 1 → HasNoPins g) → length g.rows ≤ 1000000 → rounds < 2 ^ 31
+      → IsGraphClaim table g claim → AreLinesBelow (refuted_below claim) refute
+      → IsPrintableGoal version table
       (record { name = name; graph = Some g; rounds = rounds; stop = stop; claim = claim; refute = refute })
 
 pub record IsPrintable (a : AnswerText) : Type 0 where
-  pub version : a.version ≡ 1
-  pub encoding : (1 ≤ a.encoding) × (a.encoding ≤ 2)
+  pub encoding : GoTogether a.version a.encoding
   pub table : IsTable a.table
   pub names : All (λ s. IsName s.name) a.table.slots
   pub built_in : IsTrue a.builtin → a.table ≡ ev6
   pub few : (1 ≤ length a.goals) × (length a.goals ≤ 64)
-  pub goals : All (IsPrintableGoal a.table) a.goals
+  pub goals : All (IsPrintableGoal a.version a.table) a.goals

@@ -6,6 +6,7 @@ use Rattle.graph_meaning.specs.WellFormed.{IsLaunchGraph}
 use Rattle.graph_meaning.specs.declared.graphs.LaunchGraph.{LaunchGraph}
 use Rattle.machine_table.specs.Tables.{IsTable, ev6}
 use Rattle.answer_texts.specs.AnswerLines.{refuted_below}
+use Rattle.answer_texts.specs.AnswerParts.{GoTogether}
 use Rattle.answer_texts.specs.declared.answers.AnswerText.{AnswerText}
 use Rattle.answer_texts.specs.declared.answers.Claim.{Claim}
 use Rattle.answer_texts.specs.declared.answers.Claim.TheVariants.{NoWorld, Scheduled, Missing, SpentConflicts, SpentSize}
@@ -24,14 +25,16 @@ pub data HasRefutation : ℕ → Option Lines → Type 0 where
   nothing_less : HasRefutation 0 None
   refuted : {k : ℕ} {lines : Lines} → length lines.lines < 2 ^ 29 → 0 < k → HasRefutation k (Some lines)
 
--- a goal without a world has no graph and no lines, each other one has a well-formed graph without pins and the lines
--- that it needs
-pub data IsClaimed (c : Claimed) : Type 0 where
-  no_world : {class a b : ℕ} → c.claim ≡ NoWorld class a b → c.graph ≡ None → c.refute ≡ None → IsClaimed c
+-- In a text of this version, a goal without a world has no graph and no lines; each other one has a well-formed graph,
+-- in version 1 without pins, and the lines that it needs.
+pub data IsClaimed (version : ℕ) (c : Claimed) : Type 0 where
+  no_world : {class a b : ℕ} → c.claim ≡ NoWorld class a b → c.graph ≡ None → c.refute ≡ None → IsClaimed version c
   worked : {g : LaunchGraph} → ((class a b : ℕ) → c.claim ≢ NoWorld class a b) → c.graph ≡ Some g → IsLaunchGraph g
-      → HasNoPins g → FitsClaim c.claim → HasRefutation (refuted_below c.claim) c.refute → IsClaimed c
+      → (version ≡ 1 → HasNoPins g) → FitsClaim c.claim → HasRefutation (refuted_below c.claim) c.refute
+      → IsClaimed version c
 
 pub record IsAnswer (a : AnswerText) : Type 0 where
+  pub encoding : GoTogether a.version a.encoding
   pub table : IsTable a.table
   pub built_in : IsTrue a.builtin → a.table ≡ ev6
-  pub goals : All IsClaimed a.goals
+  pub goals : All (IsClaimed a.version) a.goals

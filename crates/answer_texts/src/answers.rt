@@ -54,7 +54,8 @@ pub struct Claimed {
     pub refute: Option<Lines>,
 }
 
-/// What the text of an answer says.
+/// What the text of an answer says. In version 1 the encoding of the clauses is 1 or 2; in version 2 it is 3, and targets
+/// may have pins.
 #[derive(Drop)]
 pub struct AnswerText {
     pub version: u8,

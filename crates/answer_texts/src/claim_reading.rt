@@ -9,6 +9,7 @@ use crate::line_reading::{bad_line, claim_line, count_line};
 use crate::parts::ClaimLine;
 use crate::schedule_reading::{read_codes, read_launches, read_places};
 use cnf_core::Lines;
+use graph_meaning::LaunchGraph;
 use machine_table::Table;
 use schedule_meaning::Schedule;
 use std::alloc::Global;
@@ -81,19 +82,20 @@ fn read_below(
     Ok((Some(lines), next))
 }
 
-/// A schedule in `k` cycles, from its first launch on.
+/// A schedule of the graph in `k` cycles, from its first launch on.
 fn read_schedule(
     alloc: Global,
     text: &TextLines<'_>,
     table: &Table,
+    graph: &LaunchGraph,
     from: u32,
     k: u32,
 ) -> Result<(Claim, Option<Lines>, u32), TextFault>
     requires { from ≤ length text.now }
-    ensures ok { IfOk result (λ p. SchedulePart text.now table.now k from p.2 (p.0, p.1)) }
-    ensures fault { IfErr result (IsFaultBy (ScheduleFault text.now table.now k from)) }
+    ensures ok { IfOk result (λ p. SchedulePart text.now table.now graph.now k from p.2 (p.0, p.1)) }
+    ensures fault { IfErr result (IsFaultBy (ScheduleFault text.now table.now graph.now k from)) }
 {
-    let (launches, behind_launches) = read_launches(alloc, text, table, from)?;
+    let (launches, behind_launches) = read_launches(alloc, text, table, graph, from)?;
     let (words, behind_words) = read_codes(alloc, text, behind_launches)?;
     let (places, behind_places) = read_places(alloc, text, behind_words)?;
     let (refute, next) = read_below(alloc, text, behind_places, k)?;
@@ -111,15 +113,16 @@ fn read_rest(
     alloc: Global,
     text: &TextLines<'_>,
     table: &Table,
+    graph: &LaunchGraph,
     from: u32,
     first: ClaimLine,
 ) -> Result<(Claim, Option<Lines>, u32), TextFault>
     requires { from ≤ length text.now }
-    ensures ok { IfOk result (λ p. ClaimRest text.now table.now first from p.2 (p.0, p.1)) }
-    ensures fault { IfErr result (IsFaultBy (ClaimRestFault text.now table.now first from)) }
+    ensures ok { IfOk result (λ p. ClaimRest text.now table.now graph.now first from p.2 (p.0, p.1)) }
+    ensures fault { IfErr result (IsFaultBy (ClaimRestFault text.now table.now graph.now first from)) }
 {
     match first {
-        ClaimLine::Scheduled { k } => read_schedule(alloc, text, table, from, k),
+        ClaimLine::Scheduled { k } => read_schedule(alloc, text, table, graph, from, k),
         ClaimLine::Missing { k } => {
             let (lines, next) = read_counted(alloc, text, from, b"refute", k)?;
             Ok((Claim::Missing { k }, Some(lines), next))
@@ -152,17 +155,19 @@ fn read_claim_line(text: &TextLines<'_>, from: u32) -> Result<ClaimLine, TextFau
     }
 }
 
-/// The claim from a line on with the lines that are to refute the clauses for fewer cycles, and the line behind them.
+/// The claim on the graph from a line on with the lines that are to refute the clauses for fewer cycles, and the line
+/// behind them.
 pub(crate) fn read_claim(
     alloc: Global,
     text: &TextLines<'_>,
     table: &Table,
+    graph: &LaunchGraph,
     from: u32,
 ) -> Result<(Claim, Option<Lines>, u32), TextFault>
     requires { from ≤ length text.now }
-    ensures ok { IfOk result (λ p. ClaimPart text.now table.now from p.2 (p.0, p.1)) }
-    ensures fault { IfErr result (IsFaultBy (ClaimFault text.now table.now from)) }
+    ensures ok { IfOk result (λ p. ClaimPart text.now table.now graph.now from p.2 (p.0, p.1)) }
+    ensures fault { IfErr result (IsFaultBy (ClaimFault text.now table.now graph.now from)) }
 {
     let first = read_claim_line(text, from)?;
-    read_rest(alloc, text, table, from + 1, first)
+    read_rest(alloc, text, table, graph, from + 1, first)
 }

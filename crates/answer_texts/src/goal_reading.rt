@@ -53,13 +53,14 @@ fn read_body_line(text: &TextLines<'_>, from: u32) -> Result<BodyLine, TextFault
 fn read_body_rest(
     alloc: Global,
     text: &TextLines<'_>,
+    version: u8,
     table: &Table,
     from: u32,
     first: BodyLine,
 ) -> Result<(Body, u32), TextFault>
     requires { from ≤ length text.now }
-    ensures ok { IfOk result (λ p. BodyRest text.now table.now first from p.1 p.0) }
-    ensures fault { IfErr result (IsFaultBy (BodyRestFault text.now table.now first from)) }
+    ensures ok { IfOk result (λ p. BodyRest text.now version table.now first from p.1 p.0) }
+    ensures fault { IfErr result (IsFaultBy (BodyRestFault text.now version table.now first from)) }
 {
     match first {
         BodyLine::NoWorld { class, a, b } => Ok((
@@ -73,8 +74,8 @@ fn read_body_rest(
             from,
         )),
         BodyLine::Rounds { rounds, stop } => {
-            let (graph, middle) = launch_graph::read(alloc, text, from)?;
-            let (claim, refute, next) = read_claim(alloc, text, table, middle)?;
+            let (graph, middle) = launch_graph::read_as(alloc, version, text, from)?;
+            let (claim, refute, next) = read_claim(alloc, text, table, &graph, middle)?;
             Ok((
                 Body {
                     graph: Some(graph),
@@ -89,19 +90,20 @@ fn read_body_rest(
     }
 }
 
-/// What is said of a goal, from the line behind its name on, and the line behind it.
+/// What is said of a goal in a text of the version, from the line behind its name on, and the line behind it.
 fn read_body(
     alloc: Global,
     text: &TextLines<'_>,
+    version: u8,
     table: &Table,
     from: u32,
 ) -> Result<(Body, u32), TextFault>
     requires { from ≤ length text.now }
-    ensures ok { IfOk result (λ p. BodyPart text.now table.now from p.1 p.0) }
-    ensures fault { IfErr result (IsFaultBy (BodyFault text.now table.now from)) }
+    ensures ok { IfOk result (λ p. BodyPart text.now version table.now from p.1 p.0) }
+    ensures fault { IfErr result (IsFaultBy (BodyFault text.now version table.now from)) }
 {
     let first = read_body_line(text, from)?;
-    read_body_rest(alloc, text, table, from + 1, first)
+    read_body_rest(alloc, text, version, table, from + 1, first)
 }
 
 /// The end of a goal.
@@ -117,19 +119,20 @@ fn read_end(text: &TextLines<'_>, from: u32) -> Result<(), TextFault>
     Ok(())
 }
 
-/// The goal that begins at a line, and the line behind it.
+/// The goal that begins at a line in a text of the version, and the line behind it.
 fn read_goal(
     alloc: Global,
     text: &TextLines<'_>,
+    version: u8,
     table: &Table,
     from: u32,
 ) -> Result<(Claimed, u32), TextFault>
     requires { from ≤ length text.now }
-    ensures ok { IfOk result (λ p. GoalPart text.now table.now from p.1 p.0) }
-    ensures fault { IfErr result (IsFaultBy (GoalFault text.now table.now from)) }
+    ensures ok { IfOk result (λ p. GoalPart text.now version table.now from p.1 p.0) }
+    ensures fault { IfErr result (IsFaultBy (GoalFault text.now version table.now from)) }
 {
     let name = read_name(alloc, text, from)?;
-    let (body, middle) = read_body(alloc, text, table, from + 1)?;
+    let (body, middle) = read_body(alloc, text, version, table, from + 1)?;
     read_end(text, middle)?;
     Ok((
         Claimed {
@@ -144,21 +147,22 @@ fn read_goal(
     ))
 }
 
-/// The goals from a line on up to the end of the text. There is at least one.
+/// The goals from a line on up to the end of a text of the version. There is at least one.
 pub(crate) fn read_goals(
     alloc: Global,
     text: &TextLines<'_>,
+    version: u8,
     table: &Table,
     from: u32,
 ) -> Result<Items<Claimed>, TextFault>
     requires { from ≤ length text.now }
-    ensures ok { IfOk result (GoalsPart text.now table.now from (length text.now)) }
-    ensures fault { IfErr result (IsFaultBy (GoalsFault text.now table.now from)) }
+    ensures ok { IfOk result (GoalsPart text.now version table.now from (length text.now)) }
+    ensures fault { IfErr result (IsFaultBy (GoalsFault text.now version table.now from)) }
 {
     let mut goals = Items::new(alloc);
     let mut line = from;
     for done in 0..MOST_GOALS {
-        let (goal, next) = read_goal(alloc, text, table, line)?;
+        let (goal, next) = read_goal(alloc, text, version, table, line)?;
         goals.push(goal)?;
         line = next;
         if line == text.count() {

@@ -23,7 +23,7 @@ mod word_lines;
 
 pub use answers::{AnswerText, Claim, Claimed};
 pub use laws::{
-    one_answer, printed_answers_are_read, read_answers_are_well_formed,
+    launches_have_own_lines, one_answer, printed_answers_are_read, read_answers_are_well_formed,
     read_answers_print_their_text, word_lines_can_be_lines,
 };
 pub use lent::{ClaimRef, ClaimedRef};

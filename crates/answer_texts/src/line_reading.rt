@@ -6,7 +6,7 @@ ghost use Rattle.text_core.specs.Lines.{line_at};
 ghost use Rattle.text_core.specs.LineTexts.{SaysNone};
 ghost use Rattle.saturation.specs.declared.rounds.Stop.{Stop as StopOf};
 ghost use Rattle.answer_texts.specs.AnswerLines.{end_words, stop_name};
-ghost use Rattle.answer_texts.specs.AnswerParts.{IsBodyLine, IsClaimLine, IsCount, IsCross, IsEncoding, IsGoalName, IsTableLine, IsVersion};
+ghost use Rattle.answer_texts.specs.AnswerParts.{GoTogether, IsBodyLine, IsClaimLine, IsCount, IsCross, IsEncoding, IsGoalName, IsTableLine, IsVersion};
 ghost use Rattle.answer_texts.specs.LineParts.{IsBadOrMissingLine};
 ghost use Rattle.answer_texts.specs.declared.parts.BodyLine.TheVariants as bodies;
 ghost use Rattle.answer_texts.specs.declared.parts.ClaimLine.TheVariants as lines_of;
@@ -20,11 +20,11 @@ use text_core::{
     Fault, Kind, Name, TextFault, TextLines, begins_with, decimal, has_form, is_name, same,
 };
 
-/// The only version so far.
-const VERSION: u64 = 1;
+/// The numbers of versions are 1 up to below this one.
+const VERSIONS: u64 = 3;
 
 /// The numbers of encodings are 1 up to below this one.
-const ENCODINGS: u64 = 3;
+const ENCODINGS: u64 = 4;
 
 /// The most cycles that a claim may speak of.
 const MOST_CYCLES: u64 = 24;
@@ -61,24 +61,39 @@ pub(crate) fn version_line(text: &TextLines<'_>, line: u32) -> Option<u8>
     if !has_form(text, line, b"denali", 2) {
         return None;
     }
-    let version = decimal(text.word(line, 1))?;
-    if version == VERSION { Some(1) } else { None }
+    let version = below(text.word(line, 1), VERSIONS)?;
+    if version == 0 {
+        None
+    } else {
+        Some(version as u8)
+    }
 }
 
-/// The encoding of the clauses.
-pub(crate) fn encoding_line(text: &TextLines<'_>, line: u32) -> Option<u8>
+/// Whether a text of the version may name the encoding.
+fn go_together(version: u8, encoding: u64) -> bool
+    ensures { IsTrue result ↔ GoTogether version encoding }
+{
+    match version {
+        1 => encoding == 1 || encoding == 2,
+        2 => encoding == 3,
+        _ => false,
+    }
+}
+
+/// The encoding of the clauses in a text of the version.
+pub(crate) fn encoding_line(text: &TextLines<'_>, line: u32, version: u8) -> Option<u8>
     requires { line < length text.now }
-    ensures { MatchOption result (SaysNone IsEncoding (line_at text.now line).words)
-        (IsEncoding (line_at text.now line).words) }
+    ensures { MatchOption result (SaysNone (IsEncoding version) (line_at text.now line).words)
+        (IsEncoding version (line_at text.now line).words) }
 {
     if !has_form(text, line, b"encoding", 2) {
         return None;
     }
     let encoding = below(text.word(line, 1), ENCODINGS)?;
-    if encoding == 0 {
-        None
-    } else {
+    if go_together(version, encoding) {
         Some(encoding as u8)
+    } else {
+        None
     }
 }
 

@@ -75,17 +75,18 @@ fn put_schedule(
     alloc: Global,
     text: &mut Vec<u8>,
     table: &Table,
+    graph: Option<&LaunchGraph>,
     k: u32,
     schedule: &Schedule,
     words: &Items<u32>,
     places: &Items<Where>,
 ) -> Result<(), NoMemory>
     ensures { OnOk result (text.new.items
-        ≡ text.old.items ++ lines_text (format.claim_part table.now
+        ≡ text.old.items ++ lines_text (format.claim_part table.now (option_copied graph.entry)
         (Claim.Scheduled k schedule.now words.now places.now))) }
 {
     put_numbered(text, b"scheduled", u64::from(k))?;
-    put_launches(text, table, schedule.launches.as_slice())?;
+    put_launches(text, table, graph, schedule.launches.as_slice())?;
     put_codes(alloc, text, words.as_slice())?;
     put_wheres(text, places.as_slice())
 }
@@ -124,10 +125,11 @@ fn put_claim(
     alloc: Global,
     text: &mut Vec<u8>,
     table: &Table,
+    graph: Option<&LaunchGraph>,
     claim: &ClaimRef,
 ) -> Result<(), NoMemory>
-    ensures { OnOk result (text.new.items
-        ≡ text.old.items ++ lines_text (format.claim_part table.now (lent_claim claim.now))) }
+    ensures { OnOk result (text.new.items ≡ text.old.items
+        ++ lines_text (format.claim_part table.now (option_copied graph.entry) (lent_claim claim.now))) }
 {
     match claim {
         ClaimRef::NoWorld { class, a, b } => put_noworld(text, *class, *a, *b),
@@ -136,7 +138,7 @@ fn put_claim(
             schedule,
             words,
             places,
-        } => put_schedule(alloc, text, table, *k, schedule, words, places),
+        } => put_schedule(alloc, text, table, graph, *k, schedule, words, places),
         ClaimRef::Missing { k } => put_numbered(text, b"none", u64::from(*k)),
         ClaimRef::SpentConflicts { k, lemmas: _ } => put_conflicts(text, *k),
         ClaimRef::SpentSize { k, vars, clauses } => put_size(text, *k, *vars, *clauses),
@@ -180,7 +182,7 @@ pub fn put_goal(
 {
     put_pair(text, b"goal", goal.name.bytes())?;
     put_matched(text, goal.rounds, goal.stop, goal.graph)?;
-    put_claim(alloc, text, table, &goal.claim)?;
+    put_claim(alloc, text, table, goal.graph, &goal.claim)?;
     put_refutation(alloc, text, goal.claim.refuted_cycles(), goal.refute)?;
     put_lemmas(alloc, text, &goal.claim)?;
     put(text, b"end\n")

@@ -31,16 +31,16 @@ fn read_version(text: &TextLines<'_>, from: u32) -> Result<u8, TextFault>
     }
 }
 
-/// The encoding that the line tells.
-fn read_encoding(text: &TextLines<'_>, from: u32) -> Result<u8, TextFault>
+/// The encoding that the line tells in a text of the version.
+fn read_encoding(text: &TextLines<'_>, from: u32, version: u8) -> Result<u8, TextFault>
     requires { from ≤ length text.now }
-    ensures ok { IfOk result (IsOneLine IsEncoding text.now from (from + 1)) }
-    ensures fault { IfErr result (IsFaultBy (IsNoLine IsEncoding text.now from)) }
+    ensures ok { IfOk result (IsOneLine (IsEncoding version) text.now from (from + 1)) }
+    ensures fault { IfErr result (IsFaultBy (IsNoLine (IsEncoding version) text.now from)) }
 {
     if from == text.count() {
         return Err(bad_line(text, from));
     }
-    match encoding_line(text, from) {
+    match encoding_line(text, from, version) {
         Some(encoding) => Ok(encoding),
         None => Err(bad_line(text, from)),
     }
@@ -52,9 +52,9 @@ fn answer_in(alloc: Global, text: &TextLines<'_>) -> Result<AnswerText, TextFaul
     ensures fault { IfErr result (IsFaultBy (AnswerPartFault text.now 0)) }
 {
     let version = read_version(text, 0)?;
-    let encoding = read_encoding(text, 1)?;
+    let encoding = read_encoding(text, 1, version)?;
     let (table, builtin, middle) = read_table(alloc, text, 2)?;
-    let goals = read_goals(alloc, text, &table, middle)?;
+    let goals = read_goals(alloc, text, version, &table, middle)?;
     Ok(AnswerText {
         version,
         encoding,
@@ -74,8 +74,9 @@ fn answer(alloc: Global, text: &[u8]) -> Result<AnswerText, TextFault>
     answer_in(alloc, &text)
 }
 
-/// Reads the text of an answer. A fault is the text's first: BadByte, BadLine, BadRow or BadClass. The cost is linear
-/// in the length of the text, beside the cost of reading its graphs.
+/// Reads the text of an answer in version 1 or 2. In version 2 targets may have pins, and a launch may go to one of
+/// them. A fault is the text's first: BadByte, BadLine, BadRow or BadClass. The cost is linear in the length of the text,
+/// beside the cost of reading its graphs, and for each launch to a pin that of looking at the targets of its goal.
 pub fn read_answer(alloc: Global, text: &[u8]) -> Result<AnswerText, TextFault>
     requires { length text.now < 2 ^ 29 }
 

@@ -1,16 +1,18 @@
 // The lines of a schedule: its launches, its words, and the places of the targets.
-ghost use Rattle.std.specs.Prelude.{◌≡◌, ◌++◌, OnOk, IfSome, map};
+ghost use Rattle.std.specs.Prelude.{◌≡◌, ◌++◌, OnOk, IfSome, map, option_copied};
 ghost use Rattle.alpha_encode.specs.Formats.{IsWellFormed};
+ghost use Rattle.launch_graph.specs.GraphLines.{pin_words};
 ghost use Rattle.launch_graph.specs.LineParts.{words_behind};
 ghost use Rattle.text_core.specs.LineTexts.{line_text, lines_text};
 ghost use Rattle.answer_texts.specs.AnswerLines as format;
 
 use crate::hexadecimal::put_hex;
 use alpha_encode::{Instr, decode};
+use graph_meaning::LaunchGraph;
 use items::NoMemory;
 use machine_table::{Slot, Table};
 use register_assign::Where;
-use schedule_meaning::Launch;
+use schedule_meaning::{Launch, pin_of};
 use std::alloc::Global;
 use text_core::{put, put_number, put_word};
 
@@ -24,29 +26,64 @@ pub(crate) fn name_among(slots: &[Slot], slot: u32) -> &[u8]
     }
 }
 
-fn put_launch(text: &mut Vec<u8>, table: &Table, launch: Launch) -> Result<(), NoMemory>
-    ensures { OnOk result (text.new.items ≡ text.old.items ++ line_text (format.launch_words table.now launch)) }
+/// The pin that a launch goes to with a space before it, and nothing where it goes to the pool.
+fn put_destination(text: &mut Vec<u8>, pin: Option<u8>) -> Result<(), NoMemory>
+    ensures { OnOk result (text.new.items ≡ text.old.items ++ words_behind (pin_words pin)) }
+{
+    if let Some(register) = pin {
+        put_number(text, u64::from(register))?;
+    }
+    Ok(())
+}
+
+#[tactic(auto, using(crate::proofs::PrintPieces::launch_text))]
+fn put_launch(
+    text: &mut Vec<u8>,
+    table: &Table,
+    graph: &LaunchGraph,
+    launch: Launch,
+) -> Result<(), NoMemory>
+    ensures { OnOk result
+        (text.new.items ≡ text.old.items ++ line_text (format.launch_words table.now graph.now launch)) }
 {
     put(text, b"launch")?;
     put_number(text, u64::from(launch.cycle))?;
     put_word(text, name_among(table.slots.as_slice(), launch.slot))?;
     put_number(text, u64::from(launch.row))?;
+    put_destination(text, pin_of(graph, launch.to))?;
     put(text, b"\n")
 }
 
 #[tactic(auto, using(crate::proofs::PrintPieces::line_more))]
-pub(crate) fn put_launches(
+fn put_launches_on(
     text: &mut Vec<u8>,
     table: &Table,
+    graph: &LaunchGraph,
     launches: &[Launch],
 ) -> Result<(), NoMemory>
     ensures { OnOk result
-        (text.new.items ≡ text.old.items ++ lines_text (map (format.launch_words table.now) launches.now)) }
+        (text.new.items ≡ text.old.items ++ lines_text (map (format.launch_words table.now graph.now) launches.now)) }
 {
     for launch in launches {
-        put_launch(text, table, *launch)?;
+        put_launch(text, table, graph, *launch)?;
     }
     Ok(())
+}
+
+/// The launches of a schedule of the graph, and nothing where there is no graph.
+pub(crate) fn put_launches(
+    text: &mut Vec<u8>,
+    table: &Table,
+    graph: Option<&LaunchGraph>,
+    launches: &[Launch],
+) -> Result<(), NoMemory>
+    ensures { OnOk result (text.new.items
+        ≡ text.old.items ++ lines_text (format.launches_part table.now (option_copied graph.entry) launches.now)) }
+{
+    match graph {
+        Some(graph) => put_launches_on(text, table, graph, launches),
+        None => Ok(()),
+    }
 }
 
 /// The text of an instruction with a space before it, and nothing for a word that is none.

@@ -1,15 +1,21 @@
 // The lines of a schedule: its launches, its words, and the places of the targets.
-ghost use Rattle.std.specs.Prelude.{◌≡◌, ◌≤◌, ◌<◌, ◌∷◌, ◌^◌, ℕ, [], length, IfOk, IfErr, IfNone, IfSome, MatchOption};
+ghost use Rattle.std.specs.Prelude.{◌≡◌, ◌≤◌, ◌<◌, ◌∷◌, ◌^◌, ◌↔◌, ℕ, [], length, All, IfOk, IfErr, IfNone, IfSome, IsTrue, MatchOption, Some, drop, option_and_then, slice_get, take};
 ghost use Rattle.text_core.specs.Faults.{IsFaultBy};
 ghost use Rattle.text_core.specs.Lines.{line_at};
+ghost use Rattle.graph_meaning.specs.declared.graphs.SetClass.{SetClass as SetOf};
+ghost use Rattle.launch_graph.specs.GraphLines.{pin_words};
 ghost use Rattle.register_assign.specs.declared.listings.Where.{Where as WhereOf};
+ghost use Rattle.schedule_meaning.specs.Launches.{pin_of};
 ghost use Rattle.schedule_meaning.specs.declared.schedules.Launch.{Launch as LaunchOf};
+ghost use Rattle.schedule_meaning.specs.declared.schedules.To.{To as ToOf};
+ghost use Rattle.schedule_meaning.specs.declared.schedules.To.TheVariants.{Set as SetTo};
 ghost use Rattle.answer_texts.specs.AnswerLines.{launch_words, name_among, where_words};
-ghost use Rattle.answer_texts.specs.AnswerParts.{AreLaunches, AreWherePlaces, CodesFault, CodesPart, LaunchesFault, LaunchesPart, PlacesFault, PlacesPart};
+ghost use Rattle.answer_texts.specs.AnswerParts.{AreLaunches, AreWherePlaces, CodesFault, CodesPart, IsDestination, LaunchesFault, LaunchesPart, PlacesFault, PlacesPart};
 
 use crate::line_reading::{LIMIT, bad_line, below};
 use crate::table_reading::slot_named;
 use crate::word_lines::word_line;
+use graph_meaning::{LaunchGraph, SetClass};
 use items::{Items, NoMemory};
 use machine_table::{Slot, Table};
 use register_assign::Where;
@@ -26,44 +32,105 @@ fn slot_number(slots: &[Slot], name: &[u8]) -> Option<u32>
     if at < LIMIT { Some(at as u32) } else { None }
 }
 
-/// The launch of a line. It goes to the pool.
-fn launch_line(text: &TextLines<'_>, line: u32, table: &Table) -> Option<Launch>
+/// Whether a set is pinned to the register.
+fn is_pinned(set: &SetClass, register: u8) -> bool
+    ensures { IsTrue result ↔ (set.now.pin ≡ Some register) }
+{
+    match set.pin {
+        Some(pin) => pin == register,
+        None => false,
+    }
+}
+
+/// The place of the first set that is pinned to the register.
+fn set_pinned(sets: &[SetClass], register: u8) -> Option<usize>
+    ensures some { IfSome result (λ at. (at < length sets.now)
+        × (option_and_then (λ (s : SetOf). s.pin) (slice_get sets.now at) ≡ Some register)) }
+    ensures first { IfSome result (λ at. All (λ (s : SetOf). s.pin ≡ Some register → ⊥) (take at sets.now)) }
+    ensures none { IfNone result (All (λ (s : SetOf). s.pin ≡ Some register → ⊥) sets.now) }
+{
+    sets.iter().position(|set| is_pinned(set, register))
+}
+
+/// The number of the first set that is pinned to the register, where it is below the limit of numbers.
+fn set_number(graph: &LaunchGraph, register: u8) -> Option<u32>
+    ensures some { IfSome result (λ at. (at < 2 ^ 31) × (pin_of graph.now (SetTo at) ≡ Some register)) }
+    ensures none { IfNone result ((at : ℕ) → at < 2 ^ 31 → pin_of graph.now (SetTo at) ≡ Some register → ⊥) }
+{
+    let at = set_pinned(graph.sets.as_slice(), register)? as u64;
+    if at < LIMIT { Some(at as u32) } else { None }
+}
+
+/// Where the launch of a line goes: to the pool where the line ends behind the row, and else to the set that is pinned
+/// to the register behind it.
+fn destination(text: &TextLines<'_>, line: u32, graph: &LaunchGraph) -> Option<To>
+    requires line { line < length text.now }
+    requires long { 4 ≤ length (line_at text.now line).words }
+    ensures { MatchOption result
+        ((to : ToOf) → drop 4 (line_at text.now line).words ≡ pin_words (pin_of graph.now to)
+        → IsDestination graph.now to → ⊥)
+        (λ to. (drop 4 (line_at text.now line).words ≡ pin_words (pin_of graph.now to)) × IsDestination graph.now to) }
+{
+    if text.words(line) == 4 {
+        return Some(To::Pool);
+    }
+    if text.words(line) != 5 {
+        return None;
+    }
+    let register = below(text.word(line, 4), 31)?;
+    match set_number(graph, register as u8) {
+        Some(set) => Some(To::Set(set)),
+        None => None,
+    }
+}
+
+/// The launch of a line. Where it tells a register, that is the pin of a set of the graph, and the launch goes there.
+fn launch_line(
+    text: &TextLines<'_>,
+    line: u32,
+    table: &Table,
+    graph: &LaunchGraph,
+) -> Option<Launch>
     requires { line < length text.now }
     ensures { MatchOption result
-        ((l : LaunchOf) → (line_at text.now line).words ≡ launch_words table.now l → AreLaunches table.now (l ∷ []) → ⊥)
-        (λ l. ((line_at text.now line).words ≡ launch_words table.now l) × AreLaunches table.now (l ∷ [])) }
+        ((l : LaunchOf) → (line_at text.now line).words ≡ launch_words table.now graph.now l
+        → AreLaunches table.now graph.now (l ∷ []) → ⊥)
+        (λ l. ((line_at text.now line).words ≡ launch_words table.now graph.now l)
+        × AreLaunches table.now graph.now (l ∷ [])) }
 {
-    if !has_form(text, line, b"launch", 4) {
+    if text.words(line) < 4 || !begins_with(text, line, b"launch") {
         return None;
     }
     let cycle = below(text.word(line, 1), LIMIT)?;
     let slot = slot_number(table.slots.as_slice(), text.word(line, 2))?;
     let row = below(text.word(line, 3), LIMIT)?;
+    let to = destination(text, line, graph)?;
     Some(Launch {
         cycle: cycle as u32,
         slot,
         row: row as u32,
-        to: To::Pool,
+        to,
     })
 }
 
-/// The launches from a line on, and the line behind them.
+/// The launches of the graph from a line on, and the line behind them.
 pub(crate) fn read_launches(
     alloc: Global,
     text: &TextLines<'_>,
     table: &Table,
+    graph: &LaunchGraph,
     from: u32,
 ) -> Result<(Items<Launch>, u32), TextFault>
     requires { from ≤ length text.now }
-    ensures ok { IfOk result (λ p. LaunchesPart text.now table.now from p.1 p.0) }
-    ensures fault { IfErr result (IsFaultBy (LaunchesFault text.now table.now from)) }
+    ensures ok { IfOk result (λ p. LaunchesPart text.now table.now graph.now from p.1 p.0) }
+    ensures fault { IfErr result (IsFaultBy (LaunchesFault text.now table.now graph.now from)) }
 {
     let mut launches = Items::new(alloc);
     for line in from..text.count() {
         if !begins_with(text, line, b"launch") {
             return Ok((launches, line));
         }
-        match launch_line(text, line, table) {
+        match launch_line(text, line, table, graph) {
             Some(launch) => launches.push(launch)?,
             None => return Err(bad_line(text, line)),
         }

@@ -12,7 +12,7 @@ use Rattle.denali_run.specs.declared.statuses.Status.{Status}
 use Rattle.denali_run.specs.declared.statuses.Status.TheVariants.{Done, Missing, Usage, ReadFault, Spent, Memory, SourceFault, SinkFault, NoWorld}
 use Rattle.denali_cli.specs.declared.decide.Stop.{Stop}
 use Rattle.denali_cli.specs.Commands.{Command}
-use Rattle.denali_cli.specs.Replies.{IsFaultFor, IsNotYetFor, IsWithinLimit, Reply, Reports, fault_line, faulty, limit_of, not_yet, not_yet_line, too_long, too_long_line}
+use Rattle.denali_cli.specs.Replies.{IsFaultFor, IsWithinLimit, Reply, Reports, fault_line, faulty, limit_of, too_long, too_long_line}
 use Rattle.denali_cli.specs.Outcomes.{Decides, IsReported, IsWhole, ReadsWithin}
 use Rattle.denali_cli.proofs.Exact.{reports_report}
 
@@ -35,12 +35,6 @@ pub reply_of_fault : (command : Command) (text : List ℕ) (result : Result Repo
     → IfOk result (IsReply command text)
 reply_of_fault command text (Ok r) fault within is first = faulty fault.place fault.kind within first is.0 is.1
 reply_of_fault command text (Err e) fault within is first = tt
-
-pub reply_not_yet : (command : Command) (text : List ℕ) (result : Result Report Stop) → IsWithinLimit command text
-    → IfOk result (λ (r : Report). (r.bytes.items ≡ not_yet_line) × (r.status ≡ ReadFault)) → IsNotYetFor command text
-    → IfOk result (IsReply command text)
-reply_not_yet command text (Ok r) within is isnt = not_yet within isnt is.0 is.1
-reply_not_yet command text (Err e) within is isnt = tt
 
 one_limit : {m n : ℕ} → Some m ≡ Some n → m ≡ n
 one_limit e = cc

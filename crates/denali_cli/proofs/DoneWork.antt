@@ -5,7 +5,7 @@ use Rattle.std.specs.Io.KnownBytes.{Appends}
 use Rattle.denali_run.specs.declared.statuses.Status.{Status}
 use Rattle.denali_run.specs.declared.statuses.Status.TheVariants.{ReadFault}
 use Rattle.denali_cli.specs.Commands.{Command}
-use Rattle.denali_cli.specs.Replies.{limit_of, Reply, too_long, faulty, not_yet, answered}
+use Rattle.denali_cli.specs.Replies.{limit_of, Reply, too_long, faulty, answered}
 use Rattle.denali_cli.specs.Outcomes.{Decides, IsReported, ReadsWithin, Works}
 
 no_fault : (status : Status) → status ≡ ReadFault → IsReported status → ⊥
@@ -17,8 +17,6 @@ reply_done : (command : Command) (l l' w w' : Option (List ℕ)) (text out : Lis
 reply_done command l l' w w' text out status read wrote reported (too_long limit has long line is) =
     absurd (no_fault status is reported)
 reply_done command l l' w w' text out status read wrote reported (faulty place kind within first line is) =
-    absurd (no_fault status is reported)
-reply_done command l l' w w' text out status read wrote reported (not_yet within isnt line is) =
     absurd (no_fault status is reported)
 reply_done command l l' w w' text out status read wrote reported (answered within a) = record {
   text = text;

@@ -3,7 +3,6 @@ use Rattle.std.proofs.Common.{◌≡◌, ℕ, ◌<◌, ◌≤◌, ◌^◌, ◌�
 use Rattle.answer_texts.specs.ReadAnswers.{IsAnswerFault, ReadsAnswer}
 use Rattle.answer_texts.specs.declared.answers.AnswerText.{AnswerText}
 use Rattle.goal_reader.specs.Grammar.{IsFirstTextFault, Reads}
-use Rattle.goal_meaning.specs.Unpinned.{AreUnpinned}
 use Rattle.goal_meaning.specs.Views.{InputTree}
 use Rattle.run_texts.specs.RunFaults.{IsRunFault, ReadsRun}
 use Rattle.run_texts.specs.declared.texts.RunText.{RunText}
@@ -17,8 +16,8 @@ use Rattle.denali_run.specs.declared.statuses.Status.{Status}
 use Rattle.denali_run.specs.declared.statuses.Status.TheVariants.{Done, Missing, ReadFault}
 use Rattle.refute_trim.specs.TrimmedAnswers.{IsTrimReport, rejected, trimmed}
 use Rattle.denali_cli.specs.Outcomes.{IsReported}
-use Rattle.denali_cli.specs.Replies.{IsFaultFor, IsNotYetFor, IsPastLimit, IsReadFor, IsWithinLimit, Reply, Reports, answered}
-use Rattle.denali_cli.specs.Replies.{fault_line, faulty, limit_of, not_yet, not_yet_line, too_long, too_long_line}
+use Rattle.denali_cli.specs.Replies.{IsFaultFor, IsPastLimit, IsReadFor, IsWithinLimit, Reply, Reports, answered}
+use Rattle.denali_cli.specs.Replies.{fault_line, faulty, limit_of, too_long, too_long_line}
 use Rattle.code_check.specs.CodeGrammar.{CheckedTree, IsFirstCodesFault, ReadsCodes}
 use Rattle.denali_cli.specs.Commands.{Command, Solve, Check, Trim, Verify, Run, Gen}
 use Rattle.denali_cli.specs.VerifiedTexts.{told_status}
@@ -76,7 +75,7 @@ reports_report (Gen size) text written status a = line_reports size a.answered w
 -- what was reported on has a reading
 reports_read : (command : Command) (text written : List ℕ) (status : Status) → Reports command text written status
     → IsReadFor command text
-reports_read (Solve s) text written status a = (a.input, a.reads, a.unpinned)
+reports_read (Solve s) text written status a = (a.input, a.reads)
 reports_read Check text written status a = (a.answer, a.reads)
 reports_read Trim text written status a = (a.answer, a.reads)
 reports_read (Verify rounds nodes) text written status a = (a.told.checked, a.told.reads)
@@ -99,7 +98,6 @@ one_limit e = cc
 pub record Laws : Type 0 where
   pub goals_apart : (text : List ℕ) (input : InputTree) (place : ℕ) (kind : Kind) → Reads text input
       → IsFirstTextFault text place kind → ⊥
-  pub goals_same : (text : List ℕ) (input other : InputTree) → Reads text input → Reads text other → input ≡ other
   pub goals_once : (text : List ℕ) (place other : ℕ) (kind another : Kind) → IsFirstTextFault text place kind
       → IsFirstTextFault text other another → (place ≡ other) × (kind ≡ another)
   pub answers_apart : (text : List ℕ) (answer : AnswerText) (place : ℕ) (kind : Kind) → ReadsAnswer text answer
@@ -139,25 +137,6 @@ module _ (laws : Laws) where
   once Run text place other kind another f g = laws.programs_once text place other kind another f g
   once (Gen size) text place other kind another f g = absurd f
 
-  -- a text that isn't solved yet has a reading, and so no fault, and none that is worked on
-  yet_no_fault : (command : Command) (text : List ℕ) (place : ℕ) (kind : Kind) → IsNotYetFor command text
-      → IsFaultFor command text place kind → ⊥
-  yet_no_fault (Solve s) text place kind isnt first = laws.goals_apart text isnt.0 place kind isnt.1 first
-  yet_no_fault Check text place kind isnt first = isnt
-  yet_no_fault Trim text place kind isnt first = isnt
-  yet_no_fault (Verify rounds nodes) text place kind isnt first = isnt
-  yet_no_fault Run text place kind isnt first = isnt
-  yet_no_fault (Gen size) text place kind isnt first = isnt
-
-  yet_not_read : (command : Command) (text : List ℕ) → IsNotYetFor command text → IsReadFor command text → ⊥
-  yet_not_read (Solve s) text isnt read =
-      isnt.2 (subst AreUnpinned (laws.goals_same text read.0 isnt.0 read.1 isnt.1) read.2)
-  yet_not_read Check text isnt read = isnt
-  yet_not_read Trim text isnt read = isnt
-  yet_not_read (Verify rounds nodes) text isnt read = isnt
-  yet_not_read Run text isnt read = isnt
-  yet_not_read (Gen size) text isnt read = isnt
-
   module _ (command : Command) (text written : List ℕ) (status : Status) where
     abbrev HasFault : Type 0
     HasFault = (place : ℕ) × (kind : Kind) × IsFaultFor command text place kind
@@ -165,17 +144,13 @@ module _ (laws : Laws) where
     abbrev IsRead : Type 0
     IsRead = IsWithinLimit command text × IsReadFor command text
 
-    no_answer : Reports command text written status → IsWithinLimit command text
-        → (IsPastLimit command text ⊎ (HasFault ⊎ IsNotYetFor command text)) → ⊥
+    no_answer : Reports command text written status → IsWithinLimit command text → (IsPastLimit command text ⊎ HasFault) → ⊥
     no_answer a within (inl past) = past_and_within command text past within
-    no_answer a within (inr (inl f)) = apart command text f.0 f.1 within (reports_read command text written status a) f.2
-    no_answer a within (inr (inr isnt)) = yet_not_read command text isnt (reports_read command text written status a)
+    no_answer a within (inr f) = apart command text f.0 f.1 within (reports_read command text written status a) f.2
 
-    pub fault : Reply command text written status
-        → (status ≡ ReadFault) ↔ (IsPastLimit command text ⊎ (HasFault ⊎ IsNotYetFor command text))
+    pub fault : Reply command text written status → (status ≡ ReadFault) ↔ (IsPastLimit command text ⊎ HasFault)
     fault (too_long limit has long line is) = (λ e. inl (limit, has, long), λ h. is)
-    fault (faulty place kind within first line is) = (λ e. inr (inl (place, kind, first)), λ h. is)
-    fault (not_yet within isnt line is) = (λ e. inr (inr isnt), λ h. is)
+    fault (faulty place kind within first line is) = (λ e. inr (place, kind, first), λ h. is)
     fault (answered within a) = (
       λ e. absurd (fault_is_none status e (reports_report command text written status a)),
       λ h. absurd (no_answer a within h),
@@ -190,10 +165,6 @@ module _ (laws : Laws) where
       λ r. absurd (fault_is_none status is r),
       λ h. absurd (apart command text place kind within h.1 first),
     )
-    reported (not_yet within isnt line is) = (
-      λ r. absurd (fault_is_none status is r),
-      λ h. absurd (yet_not_read command text isnt h.1),
-    )
     reported (answered within a) = (
       λ r. (within, reports_read command text written status a),
       λ h. reports_report command text written status a,
@@ -202,7 +173,6 @@ module _ (laws : Laws) where
     pub either : Reply command text written status → IsReported status ⊎ (status ≡ ReadFault)
     either (too_long limit has long line is) = inr is
     either (faulty place kind within first line is) = inr is
-    either (not_yet within isnt line is) = inr is
     either (answered within a) = inl (reports_report command text written status a)
 
     pub line_where_past : Reply command text written status → (limit : ℕ) → limit_of command ≡ Some limit
@@ -210,8 +180,6 @@ module _ (laws : Laws) where
     line_where_past (too_long other has long line is) limit asked past =
         line ∙ ap too_long_line (one_limit (sym has ∙ asked))
     line_where_past (faulty place kind within first line is) limit asked past =
-        absurd (past_and_within command text (limit, asked, past) within)
-    line_where_past (not_yet within isnt line is) limit asked past =
         absurd (past_and_within command text (limit, asked, past) within)
     line_where_past (answered within a) limit asked past =
         absurd (past_and_within command text (limit, asked, past) within)
@@ -223,7 +191,6 @@ module _ (laws : Laws) where
     line_of_fault (faulty other another _ found line is) place kind within first =
         let same = once command text other place another kind found first in
         line ∙ ap (λ n. fault_line n another) same.0 ∙ ap (fault_line place) same.1
-    line_of_fault (not_yet _ isnt line is) place kind within first = absurd (yet_no_fault command text place kind isnt first)
     line_of_fault (answered _ a) place kind within first =
         absurd (apart command text place kind within (reports_read command text written status a) first)
 
@@ -232,15 +199,4 @@ module _ (laws : Laws) where
     answers (too_long limit has long line e) within read =
         absurd (past_and_within command text (limit, has, long) within)
     answers (faulty place kind _ first line e) within read = absurd (apart command text place kind within read first)
-    answers (not_yet _ isnt line e) within read = absurd (yet_not_read command text isnt read)
     answers (answered _ a) within read = a
-
-    pub line_not_yet : Reply command text written status → IsWithinLimit command text → IsNotYetFor command text
-        → written ≡ not_yet_line
-    line_not_yet (too_long limit has long line is) within isnt =
-        absurd (past_and_within command text (limit, has, long) within)
-    line_not_yet (faulty place kind _ first line is) within isnt =
-        absurd (yet_no_fault command text place kind isnt first)
-    line_not_yet (not_yet _ also line is) within isnt = line
-    line_not_yet (answered _ a) within isnt =
-        absurd (yet_not_read command text isnt (reports_read command text written status a))

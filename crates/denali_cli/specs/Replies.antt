@@ -4,18 +4,17 @@ use Rattle.std.specs.Prelude.{◌≡◌, ℕ, ◌<◌, ◌≤◌, List, ◌++◌
 use Rattle.answer_texts.specs.ReadAnswers.{IsAnswerFault, ReadsAnswer}
 use Rattle.answer_texts.specs.declared.answers.AnswerText.{AnswerText}
 use Rattle.goal_reader.specs.Grammar.{IsFirstTextFault, Reads}
-use Rattle.goal_meaning.specs.Unpinned.{AreUnpinned}
 use Rattle.goal_meaning.specs.Views.{InputTree}
 use Rattle.run_texts.specs.RunFaults.{IsRunFault, ReadsRun}
 use Rattle.run_texts.specs.declared.texts.RunText.{RunText}
 use Rattle.text_core.specs.Faults.{fault_text}
 use Rattle.text_core.specs.declared.faults.Kind.{Kind}
 use Rattle.denali_run.specs.GeneratedAnswers.{AnswersGenerated}
-use Rattle.denali_run.specs.TextAnswers.{Answers, IsNotYet}
+use Rattle.denali_run.specs.TextAnswers.{Answers}
 use Rattle.denali_run.specs.TextChecks.{ChecksText}
 use Rattle.denali_run.specs.TextRuns.{RunsText}
 use Rattle.denali_run.specs.declared.reports.TextError.{TextError}
-use Rattle.denali_run.specs.declared.reports.TextError.TheVariants.{Read, NotYet, Memory}
+use Rattle.denali_run.specs.declared.reports.TextError.TheVariants.{Read, Memory}
 use Rattle.denali_run.specs.declared.statuses.Status.{Status}
 use Rattle.denali_run.specs.declared.statuses.Status.TheVariants.{ReadFault}
 use Rattle.refute_trim.specs.TrimmedAnswers.{TrimsText}
@@ -47,18 +46,14 @@ too_long_line limit = codes "fault " ++ decimal limit ++ codes " TooLong\n"
 abbrev pub fault_line : ℕ → Kind → List ℕ
 fault_line place kind = fault_text (record { place = place; kind = kind }) ++ codes "\n"
 
--- the line for a text that can be read, but isn't solved yet
-abbrev pub not_yet_line : List ℕ
-not_yet_line = codes "fault 0 NotYet\n"
-
 abbrev pub usage_line : List ℕ
 usage_line = codes "usage\n"
 
 -- ---- each command's texts; a command that doesn't read has the empty one, which is no fault
 
--- the text has a reading that the command works on
+-- the text has a reading for the command
 abbrev pub IsReadFor : Command → List ℕ → Type 0
-IsReadFor (Solve s) text = (input : InputTree) × Reads text input × AreUnpinned input
+IsReadFor (Solve s) text = (input : InputTree) × Reads text input
 IsReadFor Check text = (answer : AnswerText) × ReadsAnswer text answer
 IsReadFor Trim text = (answer : AnswerText) × ReadsAnswer text answer
 IsReadFor (Verify rounds nodes) text = (checked : CheckedTree) × ReadsCodes text checked
@@ -74,11 +69,6 @@ IsFaultFor (Verify rounds nodes) text place kind = IsFirstCodesFault text place 
 IsFaultFor Run text place kind = IsRunFault text place kind
 IsFaultFor (Gen size) text place kind = ⊥
 
--- the text has a reading that the command doesn't work on yet
-abbrev pub IsNotYetFor : Command → List ℕ → Type 0
-IsNotYetFor (Solve s) text = IsNotYet text
-IsNotYetFor _ text = ⊥
-
 -- the command's report on a text, and its status
 abbrev pub Reports : Command → List ℕ → List ℕ → Status → Type 0
 Reports (Solve s) text bytes status = Answers s text bytes status
@@ -91,7 +81,6 @@ Reports (Gen size) text bytes status = AnswersGenerated size bytes status
 -- why a command has no report on a text
 abbrev pub ErrorIs : Command → List ℕ → TextError → Type 0
 ErrorIs command text (Read fault) = IsFaultFor command text fault.place fault.kind
-ErrorIs command text NotYet = IsNotYetFor command text
 ErrorIs command text Memory = Unit {0}
 
 -- The bytes that answer a command and the bytes read, and the status: one row for each kind of text.
@@ -100,6 +89,4 @@ pub data Reply (command : Command) (text written : List ℕ) (status : Status) :
       → written ≡ too_long_line limit → status ≡ ReadFault → Reply command text written status
   faulty : (place : ℕ) (kind : Kind) → IsWithinLimit command text → IsFaultFor command text place kind
       → written ≡ fault_line place kind → status ≡ ReadFault → Reply command text written status
-  not_yet : IsWithinLimit command text → IsNotYetFor command text
-      → written ≡ not_yet_line → status ≡ ReadFault → Reply command text written status
   answered : IsWithinLimit command text → Reports command text written status → Reply command text written status

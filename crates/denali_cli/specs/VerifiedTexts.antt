@@ -3,7 +3,7 @@ use Rattle.std.specs.Prelude.{◌≡◌, ℕ, Bool, List, if◌then◌else◌}
 use Rattle.code_check.specs.CodeGrammar.{IsFirstCodesFault}
 use Rattle.code_check.specs.Replies.{IsTold}
 use Rattle.denali_run.specs.declared.reports.TextError.{TextError}
-use Rattle.denali_run.specs.declared.reports.TextError.TheVariants.{Read, NotYet, Memory}
+use Rattle.denali_run.specs.declared.reports.TextError.TheVariants.{Read, Memory}
 use Rattle.denali_run.specs.declared.statuses.Status.{Status}
 use Rattle.denali_run.specs.declared.statuses.Status.TheVariants.{Done, Missing, NoWorld}
 
@@ -22,5 +22,4 @@ pub record VerifiesText (rounds nodes : ℕ) (text bytes : List ℕ) (status : S
 -- why codes can't be verified
 abbrev pub VerifyErrorIs : List ℕ → TextError → Type 0
 VerifyErrorIs text (Read fault) = IsFirstCodesFault text fault.place fault.kind
-VerifyErrorIs text NotYet = ⊥
 VerifyErrorIs text Memory = Unit {0}

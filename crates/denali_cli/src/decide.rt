@@ -4,7 +4,7 @@ ghost use Rattle.outside_io.specs.Causes.{IsCounted};
 ghost use Rattle.denali_cli.specs.Commands.{Command as Asked, HasValuesInRange};
 ghost use Rattle.denali_cli.specs.Said.{asked_by};
 ghost use Rattle.denali_cli.specs.Replies as replies;
-ghost use Rattle.denali_cli.specs.Replies.{ErrorIs, IsWithinLimit, Reply, Reports, fault_line, not_yet_line, too_long_line};
+ghost use Rattle.denali_cli.specs.Replies.{ErrorIs, IsWithinLimit, Reply, Reports, fault_line, too_long_line};
 ghost use Rattle.denali_cli.specs.VerifiedTexts.{VerifiesText, VerifyErrorIs, told_status};
 ghost use Rattle.denali_cli.specs.declared.decide.Stop.TheVariants as stops;
 ghost use Rattle.denali_cli.specs.Outcomes.{Decides, IsReader, IsUnread, IsWhole, Takes};
@@ -143,8 +143,7 @@ fn report_on(alloc: Global, command: Command, text: &[u8]) -> Result<Report, Tex
     }
 }
 
-/// The command's report on a text within its limit, or the line of the text's first fault, or that of a text that isn't
-/// solved yet.
+/// The command's report on a text within its limit, or the line of the text's first fault.
 fn answer(alloc: Global, command: Command, text: &[u8]) -> Result<Report, Stop>
     requires command { HasValuesInRange command }
     requires few { length text.now ≤ 268435456 }
@@ -157,7 +156,6 @@ fn answer(alloc: Global, command: Command, text: &[u8]) -> Result<Report, Stop>
     match report_on(alloc, command, text) {
         Ok(report) => Ok(report),
         Err(TextError::Read(fault)) => faulty(alloc, fault),
-        Err(TextError::NotYet) => report(alloc, b"fault 0 NotYet\n", Status::ReadFault),
         Err(TextError::Memory) => Err(Stop::Memory),
     }
 }

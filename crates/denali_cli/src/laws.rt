@@ -5,22 +5,20 @@ ghost use Rattle.denali_run.specs.declared.statuses.Status.{Status as Ending};
 ghost use Rattle.denali_run.specs.declared.statuses.Status.TheVariants.{ReadFault};
 ghost use Rattle.denali_cli.specs.Commands.{Command as Asked};
 ghost use Rattle.denali_cli.specs.Outcomes.{IsReported};
-ghost use Rattle.denali_cli.specs.Replies.{IsFaultFor, IsNotYetFor, IsPastLimit, IsReadFor, IsWithinLimit, Reply, Reports, fault_line, limit_of, not_yet_line, too_long_line};
+ghost use Rattle.denali_cli.specs.Replies.{IsFaultFor, IsPastLimit, IsReadFor, IsWithinLimit, Reply, Reports, fault_line, limit_of, too_long_line};
 
 use answer_texts::one_answer;
 use code_check::codes_have_one_reading;
 use goal_reader::{texts_have_one_first_fault, texts_have_one_reading};
 use run_texts::one_program;
 
-/// Every reply is a fault or a report. It is a fault exactly where the text is longer than the limit, has a fault or
-/// isn't solved yet, and a report exactly where the text is within the limit and the command works on it. A text that is
-/// too long, a text with a fault, one that isn't solved yet and one that is worked on each have the one reply that is
-/// defined for them.
+/// Every reply is a fault or a report. It is a fault exactly where the text is longer than the limit or has a fault, and a
+/// report exactly where the text is within the limit and has a reading. A text that is too long, a text with a fault and
+/// one with a reading each have the one reply that is defined for them.
 pub fn replies_are_exact()
     ensures fault { (command : Asked) (text written : List ℕ) (status : Ending) → Reply command text written status
         → (status ≡ ReadFault)
-        ↔ (IsPastLimit command text ⊎ (((place : ℕ) × (kind : Kind) × IsFaultFor command text place kind)
-        ⊎ IsNotYetFor command text)) }
+        ↔ (IsPastLimit command text ⊎ ((place : ℕ) × (kind : Kind) × IsFaultFor command text place kind)) }
     ensures reported { (command : Asked) (text written : List ℕ) (status : Ending)
         → Reply command text written status
         → IsReported status ↔ (IsWithinLimit command text × IsReadFor command text) }
@@ -31,8 +29,6 @@ pub fn replies_are_exact()
     ensures faulty { (command : Asked) (text written : List ℕ) (status : Ending) → Reply command text written status
         → (place : ℕ) (kind : Kind) → IsWithinLimit command text → IsFaultFor command text place kind
         → written ≡ fault_line place kind }
-    ensures not_yet { (command : Asked) (text written : List ℕ) (status : Ending) → Reply command text written status
-        → IsWithinLimit command text → IsNotYetFor command text → written ≡ not_yet_line }
     ensures answered { (command : Asked) (text written : List ℕ) (status : Ending)
         → Reply command text written status → IsWithinLimit command text → IsReadFor command text
         → Reports command text written status }

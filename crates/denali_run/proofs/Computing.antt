@@ -1,33 +1,37 @@
 -- The words of a schedule that fits compute the goal for which the graph stands.
-use Rattle.std.proofs.Common.{◌≡◌, ℕ, ◌∙◌, List, get_or, [], ◌∷◌, Option, Some, None, Bool, true, false, not, filter, find, map, length, slice_index, refl, sym, ap, subst, All, IsTrue, cond}
-use Rattle.std.specs.Prelude.{IsSomeAnd, IfSome}
+use Rattle.std.proofs.Common.{◌≡◌, ℕ, ◌∙◌, List, get_or, [], ◌∷◌, Option, Some, None, Bool, true, false, not, filter, find, map, length, slice_index, inl, inr, refl, sym, ap, subst, All, IsTrue, cond}
+use Rattle.std.specs.Prelude.{Any, Contains, IsSomeAnd, IfSome, unwrap_or}
 use Rattle.std.specs.List.{AllZip}
 use Rattle.std.specs.Option.{option_map_or}
 use Rattle.std.proofs.lemmas.Bool.{false≢true}
 use Rattle.std.proofs.lemmas.Bool.Decides.{Decides-eqb}
 use Rattle.std.proofs.lemmas.List.Elements.{All-nil, All-cons, All-head, All-tail}
-use Rattle.std.proofs.lemmas.Option.{none-some}
 use Rattle.word_ops.specs.Worlds.{World, IsWorld, Value, word, memory}
 use Rattle.word_ops.specs.declared.sorts.Op.{Op}
 use Rattle.word_terms.specs.Tree.{Tree}
 use Rattle.alpha_encode.specs.declared.instructions.Instr.{Instr}
 use Rattle.alpha_machine.specs.Runs.{trace}
+use Rattle.alpha_machine.specs.States.{MachineState}
 use Rattle.goal_meaning.specs.Holds.{HoldsFor, goal_value}
 use Rattle.goal_meaning.specs.Outcomes.{NewValue, exit, fall, is_left, is_memory, is_zero, new_memory, new_value, new_words}
 use Rattle.goal_meaning.specs.Views.{GoalTree, InputTree, TargetTree}
 use Rattle.goal_meaning.specs.declared.goals.InputReg.{InputReg}
 use Rattle.goal_meaning.specs.declared.goals.DeclaredOp.{DeclaredOp}
-use Rattle.graph_meaning.specs.Graphs.{HasNoPins, IsPin, is_memory_name}
+use Rattle.graph_meaning.proofs.Lists.{any_cases, any_here, any_there, any_nil}
+use Rattle.graph_meaning.specs.Graphs.{is_memory_name}
 use Rattle.graph_meaning.specs.declared.graphs.LaunchGraph.{LaunchGraph}
 use Rattle.graph_meaning.specs.declared.graphs.Guard.{Guard}
 use Rattle.graph_meaning.specs.declared.graphs.SetClass.{SetClass}
 use Rattle.graph_meaning.specs.declared.graphs.InputClass.{InputClass}
+use Rattle.machine_table.specs.declared.tables.Table.{Table}
+use Rattle.register_assign.specs.Listings.{IsListing, target_place, target_register, word_targets}
 use Rattle.register_assign.specs.Obeys.{loads}
-use Rattle.register_assign.specs.Outcomes.{DoesAsGraphSays, Falls, Exits, entry_state, instrs_of}
+use Rattle.register_assign.specs.Outcomes.{DoesAsGraphSays, Falls, Exits, KeepsOthers, entry_state, instrs_of}
 use Rattle.register_assign.specs.declared.listings.Item.{Item}
 use Rattle.register_assign.specs.declared.listings.Where.{Where}
+use Rattle.schedule_meaning.specs.declared.schedules.Launch.{Launch}
 use Rattle.saturation.specs.StandsFor.{StandsFor, HasValues, IsGuardOf, IsInputClass, IsSetClass, HasGuardValue, HasSetValue, has_select}
-use Rattle.denali_run.specs.GoalOutcomes.{Computes, EndsWith, DoesAsSaid, LeavesByBranch}
+use Rattle.denali_run.specs.GoalOutcomes.{Computes, EndsWith, DoesAsSaid, IsPinOf, KeepsOtherRegisters, LeavesByBranch}
 
 -- ---- the guard
 
@@ -126,6 +130,63 @@ module _ (declared : List DeclaredOp) (g : LaunchGraph) (world : World) (value :
       (one_memory (is_memory s) c s (find memory_set cs) (find is_memory ss) entry m valued.0
       (memory_found entry m e cs ss named.1 valued.1))
 
+-- ---- pins
+
+-- pinned sets are pinned targets
+pin_of_target : (declared : List DeclaredOp) (g : LaunchGraph) (r : ℕ) (cs : List SetClass) (ss : List TargetTree)
+    → AllZip (IsSetClass declared g) cs ss → Any (λ (c : SetClass). c.pin ≡ Some r) cs
+    → Any (λ (s : TargetTree). s.pin ≡ Some r) ss
+pin_of_target declared g r [] ss z pin = absurd (any_nil (λ (c : SetClass). c.pin ≡ Some r) pin)
+pin_of_target declared g r (c ∷ cs) [] z pin = absurd z
+pin_of_target declared g r (c ∷ cs) (s ∷ ss) z pin =
+    elim (any_cases (λ (c : SetClass). c.pin ≡ Some r) c cs pin) [
+      | inl here ↦ any_here (λ (s : TargetTree). s.pin ≡ Some r) s ss (sym z.0.pin ∙ here)
+      | inr more ↦ any_there (λ (s : TargetTree). s.pin ≡ Some r) s ss (pin_of_target declared g r cs ss z.1 more)
+    ]
+
+module _ (declared : List DeclaredOp) (g : LaunchGraph) (world : World) (value : ℕ → Value) (at : ℕ → Value) (table : Table)
+    (ordered : List Launch) where
+  -- a pinned set's register has its value
+  abbrev HasOwnClass : SetClass → Type 0
+  HasOwnClass c = (r : ℕ) → c.pin ≡ Some r → at r ≡ value c.class
+
+  abbrev HasOwn : TargetTree → NewValue → Type 0
+  HasOwn s v = (r : ℕ) → s.pin ≡ Some r → at r ≡ v.value
+
+  abbrev place : SetClass → Where
+  place c = record { name = c.name; reg = target_place g table ordered c }
+
+  own_classes : (cs : List SetClass) → AllZip (InClass declared g world value at) (map place cs) cs → All HasOwnClass cs
+  own_classes [] z = All-nil HasOwnClass
+  own_classes (c ∷ cs) z =
+      All-cons HasOwnClass c cs
+      (λ r e. subst (λ (o : Option ℕ). at (unwrap_or o (target_register g table ordered c.class)) ≡ value c.class) e z.0.1)
+      (own_classes cs z.1)
+
+  one_own : (b : Bool) (c : SetClass) (s : TargetTree) (cs : List SetClass) (ss : List TargetTree) → c.pin ≡ s.pin
+      → HasSetValue declared world value c s
+      → (All HasOwnClass cs → AllZip HasOwn ss (map (new declared g world value at) ss))
+      → All HasOwnClass (cond b (c ∷ cs) cs)
+      → AllZip HasOwn (cond b (s ∷ ss) ss) (map (new declared g world value at) (cond b (s ∷ ss) ss))
+  one_own false c s cs ss pinned valued more h = more h
+  one_own true c s cs ss pinned valued more h = (
+    λ r e. All-head HasOwnClass c cs h r (pinned ∙ e) ∙ valued,
+    more (All-tail HasOwnClass c cs h),
+  )
+
+  pub own_targets : (cs : List SetClass) (ss : List TargetTree) → AllZip (IsSetClass declared g) cs ss
+      → AllZip (HasSetValue declared world value) cs ss → All HasOwnClass (filter (word_set declared g world value at) cs)
+      → AllZip HasOwn (filter (word_target declared g world value at) ss)
+      (map (new declared g world value at) (filter (word_target declared g world value at) ss))
+  own_targets [] [] named valued h = tt
+  own_targets [] (s ∷ ss) named valued h = absurd named
+  own_targets (c ∷ cs) [] named valued h = absurd named
+  own_targets (c ∷ cs) (s ∷ ss) named valued h =
+      let sets : List SetClass = filter (word_set declared g world value at) cs in
+      one_own (word_target declared g world value at s) c s sets (filter (word_target declared g world value at) ss)
+      named.0.pin valued.0 (own_targets cs ss named.1 valued.1)
+      (subst (λ (n : List ℕ). All HasOwnClass (cond (not (is_memory_name n)) (c ∷ sets) sets)) named.0.name h)
+
 -- ---- inputs
 
 inputs_kept : (declared : List DeclaredOp) (g : LaunchGraph) (R : ℕ → Type 0) (cs : List InputClass) (is : List InputReg)
@@ -139,10 +200,12 @@ inputs_kept declared g R (c ∷ cs) (i ∷ is) z h =
 
 -- ---- both ends
 
-module _ (input : InputTree) (goal : GoalTree) (g : LaunchGraph) (stands : StandsFor input goal g) (plain : HasNoPins g)
-    (items : List Item) (words : List ℕ) (wheres : List Where) (right : DoesAsGraphSays g items words wheres) where
-  no_pin : (r : ℕ) → ¬ IsPin g r
-  no_pin r pin = none-some r (sym (plain pin.0 pin.1 pin.2) ∙ ap (λ (s : SetClass). s.pin) pin.3 ∙ pin.4)
+module _ (input : InputTree) (goal : GoalTree) (g : LaunchGraph) (stands : StandsFor input goal g)
+    (table : Table) (ls : List Launch) (items : List Item) (words : List ℕ) (wheres : List Where)
+    (listing : IsListing g table ls items wheres) (right : DoesAsGraphSays g items words wheres) where
+  others_kept : (s : MachineState) (world : World) → KeepsOthers g world s → KeepsOtherRegisters goal world s
+  others_kept s world kept = λ r free none. kept r (subst (λ (pool : List ℕ). ¬ Contains pool r) (sym stands.of.pool) free)
+      (λ pin. none (pin_of_target input.ops g r g.sets goal.sets stands.of.sets pin))
 
   ends_with : (world : World) (value : ℕ → Value) → HasValues input.ops goal g world value
       → Falls g world value words wheres
@@ -152,11 +215,20 @@ module _ (input : InputTree) (goal : GoalTree) (g : LaunchGraph) (stands : Stand
     runs = f.runs;
     targets = all_targets input.ops g world value (λ r. word (slice_index f.state.registers r)) g.sets goal.sets
         stands.of.sets has.sets wheres f.targets;
+    pins = own_targets input.ops g world value (λ r. word (slice_index f.state.registers r)) table listing.ordered g.sets
+        goal.sets stands.of.sets has.sets
+        (own_classes input.ops g world value (λ r. word (slice_index f.state.registers r)) table listing.ordered (word_targets g)
+        (subst (λ (ps : List Where). AllZip (InClass input.ops g world value (λ r. word (slice_index f.state.registers r))) ps
+        (word_targets g)) listing.wheres_are f.targets));
     memory_is = f.memory_is
         ∙ memory_found input.ops g world value (λ r. word (slice_index f.state.registers r)) g.entry
         (memory world.memory_at_entry) has.rows.entry g.sets goal.sets stands.of.sets has.sets;
-    inputs = inputs_kept input.ops g (λ r. slice_index f.state.registers r ≡ slice_index world.registers r) g.inputs
-        goal.inputs stands.of.inputs (λ k d lt. f.inputs k d lt (no_pin (get_or g.inputs k d).reg));
+    inputs = inputs_kept input.ops g
+        (λ r. ¬ IsPinOf goal r → slice_index f.state.registers r ≡ slice_index world.registers r) g.inputs goal.inputs
+        stands.of.inputs
+        (λ k d lt none. f.inputs k d lt
+        (λ pin. none (pin_of_target input.ops g (get_or g.inputs k d).reg g.sets goal.sets stands.of.sets pin)));
+    others = others_kept f.state world f.others;
   }
 
   leaves_by : (world : World) → Exits g world items words → LeavesByBranch goal world items words
@@ -166,6 +238,7 @@ module _ (input : InputTree) (goal : GoalTree) (g : LaunchGraph) (stands : Stand
     memory_is = e.memory_is;
     inputs = inputs_kept input.ops g (λ r. slice_index e.state.registers r ≡ slice_index world.registers r) g.inputs
         goal.inputs stands.of.inputs e.inputs;
+    others = others_kept e.state world e.others;
     no_load = held input.ops g world (λ n. word 0)
         (All (λ (i : Instr). ¬ IsTrue (loads i)) (trace (length items) (instrs_of items) (entry_state world)))
         g.guard goal.guard stands.of.guard e.no_load;

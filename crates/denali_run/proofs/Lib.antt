@@ -20,4 +20,3 @@ pub mod SameRefutations
 pub mod SmallTexts
 pub mod TargetPlaces
 pub mod WorkedGoals
-pub mod UnpinnedGraphs

@@ -1,10 +1,9 @@
 -- Right results make an answer that can be printed so that its text says it.
-use Rattle.std.proofs.Common.{◌≡◌, ℕ, suc, ◌+◌, ◌<◌, ◌≤◌, List, [], ◌∷◌, length, refl, ap, subst, arith, Option, Some}
+use Rattle.std.proofs.Common.{◌≡◌, ℕ, suc, ◌+◌, ◌≤◌, List, [], ◌∷◌, length, inr, refl, ap, subst, arith, Option, Some}
 use Rattle.std.specs.Prelude.{All}
 use Rattle.std.specs.List.{AllZip}
-use Rattle.std.proofs.lemmas.List.Elements.{All-cons, All-head, All-tail, All-weaker}
+use Rattle.std.proofs.lemmas.List.Elements.{All-cons, All-head, All-tail}
 use Rattle.answer_texts.specs.AnswerLines.{refuted_below}
-use Rattle.answer_texts.specs.AnswerParts.{AreLaunches, IsLaunch}
 use Rattle.answer_texts.specs.Printable.{AreLinesBelow, IsGraphClaim, IsPrintable, IsPrintableGoal, no_world, worked}
 use Rattle.answer_texts.specs.declared.answers.Claim.{Claim}
 use Rattle.answer_texts.specs.declared.answers.Claim.TheVariants as claims
@@ -15,17 +14,16 @@ use Rattle.goal_meaning.specs.WellFormed.{IsGoal, IsInput}
 use Rattle.graph_meaning.specs.declared.graphs.LaunchGraph.{LaunchGraph}
 use Rattle.register_assign.specs.Outcomes.{instrs_of}
 use Rattle.saturation.specs.AtStart.{most_rows_at_start}
-use Rattle.schedule_meaning.specs.declared.schedules.Launch.{Launch}
 use Rattle.text_core.specs.Names.{IsName}
 use Rattle.denali_run.specs.ClaimedResults.{StartsWithinFormat, answer_to, claimed, claimed_on, goals_claimed}
 use Rattle.denali_run.specs.MatchedGoals.{IsMatched, IsSettings}
 use Rattle.denali_run.specs.Right.{AreRefutedBelow, Right, nothing_less, one_less}
 use Rattle.denali_run.specs.declared.results.Answered.{Answered}
 use Rattle.denali_run.specs.declared.results.Answered.TheVariants.{Scheduled, Nowhere, SpentConflicts, SpentSize, NoWorld}
-use Rattle.cycle_encoding.specs.declared.encodings.Encoding.TheVariants.{Narrow}
+use Rattle.cycle_encoding.specs.declared.encodings.Encoding.TheVariants.{Pinned}
 use Rattle.denali_run.specs.declared.results.Matched.{Matched}
 use Rattle.denali_run.specs.declared.settings.Settings.{Settings}
-use Rattle.denali_run.proofs.SameLaunches.{IsPlaced, SlotsAreThere, are_placed}
+use Rattle.denali_run.proofs.SameLaunches.{SlotsAreThere, are_placed, few_sets, few_targets}
 use Rattle.denali_run.proofs.SameRefutations.{AcceptedAreReadable, readable}
 use Rattle.denali_run.proofs.TargetPlaces.{are_codes, are_places}
 
@@ -39,12 +37,6 @@ as_many (goal ∷ goals) (r ∷ rs) P z = ap suc (as_many goals rs P z.1)
 module _ (slots : SlotsAreThere) (accepted : AcceptedAreReadable) (input : InputTree)
     (s : Settings) (is : IsInput input) (set : IsSettings s) where
   -- ---- parts of a claim
-
-  launches_are : (ls : List Launch) → All (IsPlaced input.table) ls → AreLaunches input.table ls
-  launches_are ls placed =
-      All-weaker (IsPlaced input.table) (IsLaunch input.table)
-      (λ l at. (at.0, at.1, at.2, (let lt : l.slot < length input.table.slots = at.1 in let few = is.table.slots.1 in omega (arith, lt, few)), at.3))
-      ls placed
 
   below : (f : ℕ → Formula) (g : LaunchGraph) (k : ℕ) (lines : Option Lines)
       → AreRefutedBelow f g input.table s.conflicts k lines
@@ -62,22 +54,22 @@ module _ (slots : SlotsAreThere) (accepted : AcceptedAreReadable) (input : Input
 
   -- ---- goals
 
-  module _ (goal : GoalTree) (named : IsName goal.name) (small : most_rows_at_start goal ≤ 1000000) where
+  module _ (goal : GoalTree) (named : IsName goal.name) (targets : length goal.sets ≤ 16) (small : most_rows_at_start goal ≤ 1000000) where
     on_graph : (m : Matched) (claim : Claim) (lines : Option Lines) → IsMatched input goal s m
-        → IsGraphClaim input.table claim → AreLinesBelow (refuted_below claim) lines
-        → IsPrintableGoal input.table (claimed_on goal.name m claim lines)
+        → IsGraphClaim input.table m.graph claim → AreLinesBelow (refuted_below claim) lines
+        → IsPrintableGoal 2 input.table (claimed_on goal.name m claim lines)
     on_graph m claim lines matched on are =
-        worked named matched.graph matched.unpinned
+        worked named matched.graph (λ first. (let h : ◌≡◌ {A = ℕ} 2 1 = first in absurd (omega (arith, h))))
         (let few = matched.few in let most = set.nodes.1 in omega (arith, few, most, small))
         (let reached = matched.reached.0 in let most = set.rounds in omega (arith, reached, most)) on are
 
-    printable : (r : Answered) → Right Narrow input goal s r → IsPrintableGoal input.table (claimed goal.name r)
+    printable : (r : Answered) → Right Pinned input goal s r → IsPrintableGoal 2 input.table (claimed goal.name r)
     printable (Scheduled f) right =
         let low : f.k ≤ 24 = cycles_low f.k right.1 in
         on_graph f.matched (claims.Scheduled f.k f.schedule f.words f.listing.wheres) f.refutation right.0 (
           low,
-          launches_are f.schedule.launches
-              (are_placed slots f.matched.graph input.table is.table right.0.graph.few right.0.unpinned f.k f.schedule.launches low right.2.fits),
+          are_placed f.matched.graph right.0.graph (few_sets input goal f.matched.graph right.0.stands targets) slots input.table
+              is.table f.k f.schedule.launches low right.2.fits,
           are_codes (instrs_of f.listing.items) f.words right.2.low right.2.words,
           are_places f.matched.graph right.0.graph input.table f.schedule.launches f.listing.items
               f.listing.wheres right.2.listing.is,
@@ -104,28 +96,28 @@ module _ (slots : SlotsAreThere) (accepted : AcceptedAreReadable) (input : Input
 
   all_printable : (goals : List GoalTree) (results : List Answered) → All (IsGoal input.ops) goals
       → All (λ (goal : GoalTree). most_rows_at_start goal ≤ 1000000) goals
-      → AllZip (λ goal answered. Right Narrow input goal s answered) goals results
-      → All (IsPrintableGoal input.table) (goals_claimed goals results)
+      → AllZip (λ goal answered. Right Pinned input goal s answered) goals results
+      → All (IsPrintableGoal 2 input.table) (goals_claimed goals results)
   all_printable [] [] each small right = λ i d lt. absurd (omega (arith, lt))
   all_printable [] (r ∷ rs) each small right = absurd right
   all_printable (goal ∷ goals) [] each small right = absurd right
   all_printable (goal ∷ goals) (r ∷ rs) each small right =
-      All-cons (IsPrintableGoal input.table) (claimed goal.name r) (goals_claimed goals rs)
+      All-cons (IsPrintableGoal 2 input.table) (claimed goal.name r) (goals_claimed goals rs)
       (printable goal (All-head (IsGoal input.ops) goal goals each).named.own
+      (few_targets input goal (All-head (IsGoal input.ops) goal goals each))
       (All-head (λ (goal : GoalTree). most_rows_at_start goal ≤ 1000000) goal goals small) r right.0)
       (all_printable goals rs (All-tail (IsGoal input.ops) goal goals each)
       (All-tail (λ (goal : GoalTree). most_rows_at_start goal ≤ 1000000) goal goals small) right.1)
 
   pub answers_can_be_printed : (results : List Answered) → StartsWithinFormat input
-      → AllZip (λ goal answered. Right Narrow input goal s answered) input.goals results
-      → IsPrintable (answer_to Narrow input results)
+      → AllZip (λ goal answered. Right Pinned input goal s answered) input.goals results
+      → IsPrintable (answer_to Pinned input results)
   answers_can_be_printed results small right =
-      let many = as_many input.goals results (λ goal answered. Right Narrow input goal s answered) right in
+      let many = as_many input.goals results (λ goal answered. Right Pinned input goal s answered) right in
       let some = is.some_goal in
       let few = is.few.2 in
       record {
-        version = refl;
-        encoding = (let least : 1 ≤ 2 = omega arith in let most : 2 ≤ 2 = omega arith in (least, most));
+        encoding = inr (refl, refl);
         table = is.table;
         names = is.slots;
         built_in = is.builtin;

@@ -1,6 +1,6 @@
 -- The lines of right results can be lines.
 use Rattle.std.proofs.Common.{◌≡◌, ℕ, ◌+◌, ◌-◌, ◌<◌, ◌≤◌, ◌^◌, List, [], ◌∷◌, length, map, get_or, refl, sym, subst, arith, codes, decimal, Option, Some, None}
-use Rattle.std.specs.Prelude.{All}
+use Rattle.std.specs.Prelude.{All, IsSomeAnd}
 use Rattle.std.specs.List.{AllZip}
 use Rattle.std.proofs.lemmas.List.Elements.{All-head, All-tail}
 use Rattle.alpha_encode.specs.Decoded.{decoded}
@@ -10,7 +10,7 @@ use Rattle.cnf_core.specs.declared.line.Line.{Line}
 use Rattle.cnf_core.specs.declared.line.Lines.{Lines}
 use Rattle.goal_meaning.specs.Views.{GoalTree, InputTree}
 use Rattle.goal_meaning.specs.WellFormed.{IsGoal, IsInput}
-use Rattle.launch_graph.specs.GraphLines.{graph_lines, said}
+use Rattle.launch_graph.specs.GraphLines.{graph_lines, pin_words, said}
 use Rattle.graph_meaning.specs.WellFormed.{IsLaunchGraph}
 use Rattle.graph_meaning.specs.declared.graphs.LaunchGraph.{LaunchGraph}
 use Rattle.machine_table.specs.declared.tables.Slot.{Slot}
@@ -22,11 +22,14 @@ use Rattle.register_assign.specs.declared.listings.Item.{Item}
 use Rattle.register_assign.specs.declared.listings.Where.{Where}
 use Rattle.saturation.specs.declared.rounds.Stop.{Stop}
 use Rattle.saturation.specs.declared.rounds.Stop.TheVariants.{Quiet, Rounds, Full}
+use Rattle.schedule_meaning.specs.Launches.{pin_of}
 use Rattle.schedule_meaning.specs.declared.schedules.Launch.{Launch}
+use Rattle.schedule_meaning.specs.declared.schedules.To.{To}
+use Rattle.schedule_meaning.specs.declared.schedules.To.TheVariants.{Pool, Set}
 use Rattle.text_core.specs.LineTexts.{CanBeLine}
 use Rattle.text_core.specs.Lines.{IsLineWord}
 use Rattle.text_core.specs.Names.{IsName}
-use Rattle.answer_texts.specs.AnswerParts.{IsPlace}
+use Rattle.answer_texts.specs.AnswerParts.{IsDestination, IsLaunch, IsPlace}
 use Rattle.answer_texts.specs.AnswerLines.{launch_words, refute_lines, stop_name, where_words, word_words}
 use Rattle.denali_run.proofs.ResultLines.{answered_lines, below_lines, goal_lines, goals_lines, matched_lines}
 use Rattle.denali_run.specs.MatchedGoals.{IsMatched, IsSettings}
@@ -36,10 +39,10 @@ use Rattle.denali_run.specs.declared.results.Answered.TheVariants.{Scheduled, No
 use Rattle.cycle_encoding.specs.declared.encodings.Encoding.{Encoding}
 use Rattle.denali_run.specs.declared.results.Matched.{Matched}
 use Rattle.denali_run.specs.declared.settings.Settings.{Settings}
-use Rattle.denali_run.proofs.LineWords.{no_words, a_word, can_be, CanBeLines, no_lines, a_line, lines_from, lines_of, and_lines}
+use Rattle.denali_run.proofs.LineWords.{AreWords, no_words, a_word, can_be, CanBeLines, no_lines, a_line, lines_from, lines_of, and_lines}
 use Rattle.denali_run.proofs.LinesApart.{words_placed}
 use Rattle.denali_run.proofs.ReadBackLaws.{Laws}
-use Rattle.denali_run.proofs.SameLaunches.{IsPlaced, name_at, any_slot, are_placed}
+use Rattle.denali_run.proofs.SameLaunches.{name_at, any_slot, are_placed, few_sets, few_targets}
 use Rattle.denali_run.proofs.SameParts.{head_same, rest_same}
 use Rattle.denali_run.proofs.SameRefutations.{readable}
 use Rattle.denali_run.proofs.TargetPlaces.{are_places}
@@ -62,16 +65,24 @@ module _ (laws : Laws) where
 
   -- ---- launches and words
 
-  launch_line : (table : Table) → All (λ (s : Slot). IsName s.name) table.slots → (l : Launch) → IsPlaced table l
-      → CanBeLine (launch_words table l)
-  launch_line table named l at =
+  pin_word : (o : Option ℕ) → IsSomeAnd o (λ r. r < 31) → AreWords (pin_words o)
+  pin_word None low = no_words
+  pin_word (Some r) low = a_word (laws.number r (omega (arith, low))) no_words
+
+  destination_word : (g : LaunchGraph) (to : To) → IsDestination g to → AreWords (pin_words (pin_of g to))
+  destination_word g Pool at = no_words
+  destination_word g (Set j) at = pin_word (pin_of g (Set j)) at.1
+
+  launch_line : (table : Table) → All (λ (s : Slot). IsName s.name) table.slots → (g : LaunchGraph) (l : Launch)
+      → IsLaunch table g l → CanBeLine (launch_words table g l)
+  launch_line table named g l at =
       can_be
       (a_word (record { some = λ e. cc; printed = refl })
       (a_word (let low = at.0 in laws.number l.cycle (omega (arith, low)))
       (a_word
       (subst IsLineWord (sym (name_at table.slots l.slot any_slot at.1))
       (laws.name (get_or table.slots l.slot any_slot).name (named l.slot any_slot at.1)))
-      (a_word (let low = at.2 in laws.number l.row (omega (arith, low))) no_words))))
+      (a_word (let low = at.2 in laws.number l.row (omega (arith, low))) (destination_word g l.to at.4)))))
 
   word_lines : (instrs : List Instr) (words : List ℕ) → All (λ word. word < 2 ^ 32) words → map decoded words ≡ map Some instrs
       → CanBeLines (map word_words words)
@@ -155,28 +166,29 @@ module _ (laws : Laws) where
     front : (goal : GoalTree) (m : Matched) → IsMatched input goal s m → CanBeLines (matched_lines m)
     front goal m matched = matched_can m matched.graph (rounds_low goal m matched)
 
-    answered_can : (goal : GoalTree) (r : Answered) → Right e input goal s r → CanBeLines (answered_lines input.table r)
-    answered_can goal (Scheduled f) right =
+    answered_can : (goal : GoalTree) → length goal.sets ≤ 16 → (r : Answered) → Right e input goal s r → CanBeLines (answered_lines input.table r)
+    answered_can goal small (Scheduled f) right =
         let low : f.k ≤ 24 = cycles_low f.k right.1 in
         and_lines _ (front goal f.matched right.0)
         (a_line (number_line (codes "scheduled") f.k (record { some = λ e. cc; printed = refl }) low)
         (and_lines _
-        (lines_of (launch_words input.table) (IsPlaced input.table) (launch_line input.table is.slots) f.schedule.launches
-        (are_placed laws.slots f.matched.graph input.table is.table right.0.graph.few right.0.unpinned f.k f.schedule.launches low
-        right.2.fits))
+        (lines_of (launch_words input.table f.matched.graph) (IsLaunch input.table f.matched.graph)
+        (launch_line input.table is.slots f.matched.graph) f.schedule.launches
+        (are_placed f.matched.graph right.0.graph (few_sets input goal f.matched.graph right.0.stands small) laws.slots
+        input.table is.table f.k f.schedule.launches low right.2.fits))
         (and_lines _ (word_lines (instrs_of f.listing.items) f.words right.2.low right.2.words)
         (and_lines _
         (where_lines f.matched.graph right.0.graph input.table f.schedule.launches f.listing.items f.listing.wheres
         right.2.listing.is)
         (below_can right.3.clauses_for f.matched.graph input.table s.conflicts f.k f.refutation low set.conflicts.1
         right.3.holds.1.refuted)))))
-    answered_can goal (Nowhere m) right =
+    answered_can goal small (Nowhere m) right =
         let low : m.k ≤ 24 = cycles_low m.k (let same = right.1 in omega (arith, same)) in
         and_lines _ (front goal m.matched right.0)
         (a_line (number_line (codes "none") m.k (record { some = λ e. cc; printed = refl }) low)
         (refuted_can right.2.clauses_for m.matched.graph input.table s.conflicts m.k (m.k + 1) m.refutation refl low
         set.conflicts.1 right.2.holds.refuted))
-    answered_can goal (SpentConflicts t) right =
+    answered_can goal small (SpentConflicts t) right =
         let low : t.k ≤ 24 = cycles_low t.k right.1 in
         and_lines _ (front goal t.matched right.0)
         (a_line
@@ -189,7 +201,7 @@ module _ (laws : Laws) where
         (block_lines (codes "lemmas") t.k t.lemmas.lines (record { some = λ e. cc; printed = refl }) (omega (arith, low))
         (readable laws.accepted (right.2.clauses_for t.k) t.lemmas.lines right.2.holds.0
         right.2.holds.1.accepted (let count = right.2.holds.1.count in let most = set.conflicts.1 in omega (arith, count, most))))))
-    answered_can goal (SpentSize l) right =
+    answered_can goal small (SpentSize l) right =
         let low : l.k ≤ 24 = cycles_low l.k right.1 in
         and_lines _ (front goal l.matched right.0)
         (a_line
@@ -200,7 +212,7 @@ module _ (laws : Laws) where
         (a_word (laws.number l.vars right.2) (a_word (laws.number l.clauses right.3) no_words))))))
         (below_can right.4.clauses_for l.matched.graph input.table s.conflicts l.k l.refutation low set.conflicts.1
         right.4.holds.1.refuted))
-    answered_can goal (NoWorld class a b) right =
+    answered_can goal small (NoWorld class a b) right =
         a_line
         (can_be
         (a_word (record { some = λ e. cc; printed = refl })
@@ -208,11 +220,11 @@ module _ (laws : Laws) where
         (a_word (laws.number a right.2) (a_word (laws.number b right.3) no_words)))))
         no_lines
 
-    goal_can : (goal : GoalTree) (r : Answered) → IsName goal.name → Right e input goal s r
+    goal_can : (goal : GoalTree) → length goal.sets ≤ 16 → (r : Answered) → IsName goal.name → Right e input goal s r
         → CanBeLines (goal_lines input.table goal.name r)
-    goal_can goal r named right =
+    goal_can goal small r named right =
         a_line (can_be (a_word (record { some = λ e. cc; printed = refl }) (a_word (laws.name goal.name named) no_words)))
-        (and_lines _ (answered_can goal r right)
+        (and_lines _ (answered_can goal small r right)
         (a_line (can_be (a_word (record { some = λ e. cc; printed = refl }) no_words)) no_lines))
 
     -- the lines of all goals
@@ -224,5 +236,6 @@ module _ (laws : Laws) where
     goals_can (goal ∷ goals) [] each right = absurd right
     goals_can (goal ∷ goals) (r ∷ rs) each right =
         and_lines _
-        (goal_can goal r (All-head (IsGoal input.ops) goal goals each).named.own right.0)
+        (goal_can goal (few_targets input goal (All-head (IsGoal input.ops) goal goals each)) r
+        (All-head (IsGoal input.ops) goal goals each).named.own right.0)
         (goals_can goals rs (All-tail (IsGoal input.ops) goal goals each) right.1)

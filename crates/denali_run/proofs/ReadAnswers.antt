@@ -27,7 +27,7 @@ results_once laws e s input results others is set right also same =
     let head : List Words = whole_head e input in
     let lines : List Words = goals_lines input.table input.goals results in
     let more : List Words = goals_lines input.table input.goals others in
-    goals_once laws e input s is set input.goals results others right also
+    goals_once laws e input s is set input.goals results others is.goals right also
     (lines_once laws.printed_lines laws.one_text lines more
     (each_line (goals_can laws e input s is set input.goals results is.goals right))
     (each_line (goals_can laws e input s is set input.goals others is.goals also))

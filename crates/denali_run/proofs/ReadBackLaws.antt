@@ -16,7 +16,7 @@ use Rattle.answer_texts.specs.AnswerLines.{word_words}
 use Rattle.denali_run.proofs.LineWords.{NumbersAreWords}
 use Rattle.denali_run.proofs.LinesApart.{PrintedAreLines, LinesAreOne}
 use Rattle.denali_run.proofs.SameGraphs.{GraphsAreOne}
-use Rattle.denali_run.proofs.SameLaunches.{SlotsAreThere}
+use Rattle.denali_run.proofs.SameLaunches.{LaunchLinesAreOne, SlotsAreThere}
 use Rattle.denali_run.proofs.SameRefutations.{AcceptedAreReadable, WordsAreOneLine}
 
 pub record Laws : Type 0 where
@@ -32,6 +32,7 @@ pub record Laws : Type 0 where
   pub graph_words : (g : LaunchGraph) → IsLaunchGraph g → All CanBeLine (graph_lines (said g))
   pub graphs : GraphsAreOne
   pub slots : SlotsAreThere
+  pub launches : LaunchLinesAreOne
   pub accepted : AcceptedAreReadable
   pub one_line : WordsAreOneLine
   pub refutation_lines : (place : ℕ) (lines : List Row) → All IsReadableLine lines

@@ -9,7 +9,7 @@ use Rattle.goal_meaning.specs.Views.{GoalTree, InputTree}
 use Rattle.launch_graph.specs.GraphLines.{graph_lines, said}
 use Rattle.machine_table.specs.declared.tables.Table.{Table}
 use Rattle.text_core.specs.LineTexts.{Words}
-use Rattle.denali_run.specs.ClaimedResults.{answer_to, claimed, encoding_number, goals_claimed}
+use Rattle.denali_run.specs.ClaimedResults.{answer_to, claimed, encoding_number, goals_claimed, version_of}
 use Rattle.denali_run.specs.declared.results.Answered.{Answered}
 use Rattle.denali_run.specs.declared.results.Answered.TheVariants.{Scheduled, Nowhere, SpentConflicts, SpentSize, NoWorld}
 use Rattle.cycle_encoding.specs.declared.encodings.Encoding.{Encoding}
@@ -28,7 +28,7 @@ abbrev pub answered_lines : Table → Answered → List Words
 answered_lines table (Scheduled f) =
     matched_lines f.matched
     ++ (scheduled_words f.k
-    ∷ (map (launch_words table) f.schedule.launches
+    ∷ (map (launch_words table f.matched.graph) f.schedule.launches
     ++ (map word_words f.words ++ (map where_words f.listing.wheres ++ below_lines f.k f.refutation))))
 answered_lines table (Nowhere m) = matched_lines m.matched ++ (none_words m.k ∷ refute_lines m.k m.refutation.lines)
 answered_lines table (SpentConflicts t) =
@@ -60,7 +60,7 @@ pub same_goal : (table : Table) (name : List ℕ) (r : Answered)
     → goal_lines table name r ≡ format.goal_lines table (claimed name r)
 same_goal table name (Scheduled f) =
     ap (λ b. goal_words name ∷ ((matched_lines f.matched ++ (scheduled_words f.k
-    ∷ (map (launch_words table) f.schedule.launches
+    ∷ (map (launch_words table f.matched.graph) f.schedule.launches
     ++ (map word_words f.words ++ (map where_words f.listing.wheres ++ b))))) ++ (end_words ∷ [])))
     (same_below f.k f.refutation)
     ∙ simp append_assoc
@@ -91,7 +91,7 @@ same_goals table (goal ∷ goals) (r ∷ rs) =
     ∙ sym (flat_map-cons (format.goal_lines table) (claimed goal.name r) (goals_claimed goals rs))
 
 abbrev pub whole_head : Encoding → InputTree → List Words
-whole_head e input = head_lines 1 (encoding_number e) input.table input.builtin
+whole_head e input = head_lines (version_of e) (encoding_number e) input.table input.builtin
 
 pub same_answer : (e : Encoding) (input : InputTree) (results : List Answered)
     → whole_head e input ++ goals_lines input.table input.goals results ≡ answer_lines (answer_to e input results)

@@ -33,7 +33,7 @@ kind_of (NoWorld class a b) = noworld_words class a b
 -- what stands behind that line, and lines behind the result
 abbrev pub behind : Table → Answered → List Words → List Words
 behind table (Scheduled f) end =
-    map (launch_words table) f.schedule.launches
+    map (launch_words table f.matched.graph) f.schedule.launches
     ++ (map word_words f.words ++ (map where_words f.listing.wheres ++ (below_lines f.k f.refutation ++ end)))
 behind table (Nowhere m) end = refute_lines m.k m.refutation.lines ++ end
 behind table (SpentConflicts t) end = below_lines t.k t.refutation ++ (lemmas_lines t.k t.lemmas.lines ++ end)

@@ -10,7 +10,8 @@ use Rattle.cnf_core.specs.Outcome.{IsSpent}
 use Rattle.cnf_core.specs.Refutation.{Refutes, HaveNoSolution}
 use Rattle.cnf_core.specs.declared.line.Line.{Line}
 use Rattle.cnf_core.specs.declared.line.Lines.{Lines}
-use Rattle.cycle_encoding.specs.CycleFormula.{Scope, listed_in}
+use Rattle.cycle_encoding.specs.CycleFormula.{Scope}
+use Rattle.cycle_encoding.specs.CycleFormula.{listed_in}
 use Rattle.cycle_encoding.specs.Encodings.{IsScope}
 use Rattle.cycle_encoding.specs.Faults.{EncodeFaultIs}
 use Rattle.cycle_encoding.specs.Plans.{IsTooLarge, PassesLimit}
@@ -18,7 +19,6 @@ use Rattle.cycle_encoding.specs.declared.encodings.Encoding.{Encoding}
 use Rattle.cycle_encoding.specs.declared.plans.EncodeFault.{EncodeFault}
 use Rattle.cycle_encoding.specs.declared.plans.EncodeFault.TheVariants.{Size, Memory}
 use Rattle.goal_meaning.specs.Views.{GoalTree, InputTree}
-use Rattle.graph_meaning.specs.Graphs.{HasNoPins}
 use Rattle.graph_meaning.specs.declared.graphs.LaunchGraph.{LaunchGraph}
 use Rattle.machine_table.specs.declared.tables.Table.{Table}
 use Rattle.order_encoding.specs.WholeFormula.{AreFormulas, formula_in}
@@ -31,7 +31,7 @@ use Rattle.denali_run.specs.MatchedGoals.{IsMatched}
 use Rattle.denali_run.specs.Right.{NoneFits, IsTooFew, nothing_less, one_less, IsLeast, IsScheduled, Right}
 use Rattle.denali_run.specs.Trials.{IsTrial, IsLargeBy, IsTrialsEnd, IsTrialsEndIn}
 use Rattle.denali_run.proofs.Computing.{computes}
-use Rattle.cycle_encoding.specs.declared.encodings.Encoding.TheVariants.{Narrow}
+use Rattle.cycle_encoding.specs.declared.encodings.Encoding.TheVariants.{Pinned}
 use Rattle.denali_run.specs.declared.results.Answered.TheVariants.{Scheduled, Nowhere, SpentConflicts, SpentSize}
 use Rattle.denali_run.specs.declared.results.Found.{Found}
 use Rattle.denali_run.specs.declared.results.Large.{Large}
@@ -77,15 +77,15 @@ module _ (input : InputTree) (goal : GoalTree) (s : Settings) where
       → IsTheListing f.matched.graph input.table f.schedule.launches f.listing.items f.listing.wheres
       → AreWordsOf f.listing.items f.words → All (λ word. word < 2 ^ 32) f.words
       → KeepsWord f.matched.graph input.table f.k f.listing.items f.listing.wheres
-      → StandsFor input goal f.matched.graph → HasNoPins f.matched.graph → IsScheduled input goal f
-  scheduled f fits listing words low keeps stands plain = record {
+      → StandsFor input goal f.matched.graph → IsScheduled input goal f
+  scheduled f fits listing words low keeps stands = record {
     fits = fits;
     listing = listing;
     words = words;
     low = low;
     obeys = keeps.obeys stands.of.proper;
-    computes = computes input goal f.matched.graph stands plain f.listing.items f.words f.listing.wheres
-        (keeps.right stands.of.proper f.words words);
+    computes = computes input goal f.matched.graph stands input.table f.schedule.launches f.listing.items f.words
+        f.listing.wheres listing.is (keeps.right stands.of.proper f.words words);
   }
 
   -- what holds of the table that was taken holds of the input's
@@ -93,52 +93,51 @@ module _ (input : InputTree) (goal : GoalTree) (s : Settings) where
   at_table table P is h = subst P (sym is) h
 
   pub found_right : (table : Table) (f : Found) (clauses_for : ℕ → Formula) → input.table ≡ table
-      → IsMatched input goal s f.matched → f.k ≤ s.cycles → AreFormulas Narrow f.matched.graph table clauses_for
+      → IsMatched input goal s f.matched → f.k ≤ s.cycles → AreFormulas Pinned f.matched.graph table clauses_for
       → (¬ IsTooLarge (clauses_for f.k)) × Fits f.matched.graph table f.k f.schedule.launches
       → IsTheListing f.matched.graph table f.schedule.launches f.listing.items f.listing.wheres
       → AreWordsOf f.listing.items f.words → All (λ word. word < 2 ^ 32) f.words
       → KeepsWord f.matched.graph table f.k f.listing.items f.listing.wheres
-      → IsLeast clauses_for f.matched.graph table s.conflicts f.k f.refutation → Right Narrow input goal s (Scheduled f)
+      → IsLeast clauses_for f.matched.graph table s.conflicts f.k f.refutation → Right Pinned input goal s (Scheduled f)
   found_right table f clauses_for is matched few formulas trial listing words low keeps least =
       let at : (P : Table → Type 0) → P table → P input.table = λ P h. at_table table P is h in (
         matched,
         few,
         scheduled f (at (λ t. Fits f.matched.graph t f.k f.schedule.launches) trial.1)
             (at (λ t. IsTheListing f.matched.graph t f.schedule.launches f.listing.items f.listing.wheres) listing) words low
-            (at (λ t. KeepsWord f.matched.graph t f.k f.listing.items f.listing.wheres) keeps) matched.stands
-            matched.unpinned,
+            (at (λ t. KeepsWord f.matched.graph t f.k f.listing.items f.listing.wheres) keeps) matched.stands,
         record {
           clauses_for = clauses_for;
-          formulas = at (λ t. AreFormulas Narrow f.matched.graph t clauses_for) formulas;
+          formulas = at (λ t. AreFormulas Pinned f.matched.graph t clauses_for) formulas;
           holds = (trial.0, at (λ t. IsLeast clauses_for f.matched.graph t s.conflicts f.k f.refutation) least);
         },
       )
 
   pub missing_right : (table : Table) (m : Missing) (clauses_for : ℕ → Formula) → input.table ≡ table
-      → IsMatched input goal s m.matched → m.k ≡ s.cycles → AreFormulas Narrow m.matched.graph table clauses_for
+      → IsMatched input goal s m.matched → m.k ≡ s.cycles → AreFormulas Pinned m.matched.graph table clauses_for
       → IsLeast clauses_for m.matched.graph table s.conflicts (m.k + 1) (Some m.refutation)
-      → Right Narrow input goal s (Nowhere m)
+      → Right Pinned input goal s (Nowhere m)
   missing_right table m clauses_for is matched last formulas least = (
     matched,
     last,
     record {
       clauses_for = clauses_for;
-      formulas = at_table table (λ t. AreFormulas Narrow m.matched.graph t clauses_for) is formulas;
+      formulas = at_table table (λ t. AreFormulas Pinned m.matched.graph t clauses_for) is formulas;
       holds = at_table table (λ t. IsLeast clauses_for m.matched.graph t s.conflicts (m.k + 1) (Some m.refutation)) is least;
     },
   )
 
   pub spent_right : (table : Table) (t : Tried) (clauses_for : ℕ → Formula) → input.table ≡ table
-      → IsMatched input goal s t.matched → t.k ≤ s.cycles → AreFormulas Narrow t.matched.graph table clauses_for
+      → IsMatched input goal s t.matched → t.k ≤ s.cycles → AreFormulas Pinned t.matched.graph table clauses_for
       → (¬ IsTooLarge (clauses_for t.k)) × IsSpent (clauses_for t.k) s.conflicts t.lemmas.lines
       → IsLeast clauses_for t.matched.graph table s.conflicts t.k t.refutation
-      → Right Narrow input goal s (SpentConflicts t)
+      → Right Pinned input goal s (SpentConflicts t)
   spent_right table t clauses_for is matched few formulas trial least = (
     matched,
     few,
     record {
       clauses_for = clauses_for;
-      formulas = at_table table (λ x. AreFormulas Narrow t.matched.graph x clauses_for) is formulas;
+      formulas = at_table table (λ x. AreFormulas Pinned t.matched.graph x clauses_for) is formulas;
       holds = (
         trial.0,
         trial.1,
@@ -148,10 +147,10 @@ module _ (input : InputTree) (goal : GoalTree) (s : Settings) where
   )
 
   pub large_right : (table : Table) (l : Large) (clauses_for : ℕ → Formula) → input.table ≡ table
-      → IsMatched input goal s l.matched → l.k ≤ s.cycles → AreFormulas Narrow l.matched.graph table clauses_for
+      → IsMatched input goal s l.matched → l.k ≤ s.cycles → AreFormulas Pinned l.matched.graph table clauses_for
       → PassesLimit (clauses_for l.k) l.vars l.clauses × IsWord l.vars × IsWord l.clauses
       → IsLeast clauses_for l.matched.graph table s.conflicts l.k l.refutation
-      → Right Narrow input goal s (SpentSize l)
+      → Right Pinned input goal s (SpentSize l)
   large_right table l clauses_for is matched few formulas trial least = (
     matched,
     few,
@@ -159,7 +158,7 @@ module _ (input : InputTree) (goal : GoalTree) (s : Settings) where
     trial.2,
     record {
       clauses_for = clauses_for;
-      formulas = at_table table (λ x. AreFormulas Narrow l.matched.graph x clauses_for) is formulas;
+      formulas = at_table table (λ x. AreFormulas Pinned l.matched.graph x clauses_for) is formulas;
       holds = (
         trial.0,
         at_table table (λ x. IsLeast clauses_for l.matched.graph x s.conflicts l.k l.refutation) is least,

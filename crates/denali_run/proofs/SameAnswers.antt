@@ -1,5 +1,5 @@
 -- Right results whose lines are equal.
-use Rattle.std.proofs.Common.{◌≡◌, ℕ, ◌+◌, ◌<◌, ◌≤◌, ◌^◌, List, [], ◌∷◌, ◌++◌, map, refl, sym, ap, subst, ◌∙◌, append_assoc, arith, codes, decimal, Some}
+use Rattle.std.proofs.Common.{◌≡◌, ℕ, ◌+◌, ◌<◌, ◌≤◌, ◌^◌, List, [], ◌∷◌, ◌++◌, length, map, refl, sym, ap, subst, ◌∙◌, append_assoc, arith, codes, decimal, Some}
 use Rattle.std.specs.Prelude.{All}
 use Rattle.std.specs.List.{AllZip}
 use Rattle.std.proofs.lemmas.List.Elements.{All-head, All-tail}
@@ -7,13 +7,14 @@ use Rattle.alpha_encode.specs.Decoded.{decoded}
 use Rattle.alpha_encode.specs.declared.instructions.Instr.{Instr}
 use Rattle.cnf_core.specs.declared.line.Lines.{Lines}
 use Rattle.goal_meaning.specs.Views.{GoalTree, InputTree}
-use Rattle.goal_meaning.specs.WellFormed.{IsInput}
+use Rattle.goal_meaning.specs.WellFormed.{IsGoal, IsInput}
 use Rattle.launch_graph.specs.GraphLines.{graph_lines, said}
 use Rattle.machine_table.specs.declared.tables.Table.{Table}
 use Rattle.register_assign.specs.Listings.{IsListing}
 use Rattle.register_assign.specs.Outcomes.{AreWordsOf, instrs_of}
 use Rattle.text_core.specs.LineTexts.{Words}
-use Rattle.answer_texts.specs.AnswerLines.{conflicts_words, end_words, goal_words, lemmas_lines, none_words, noworld_words, refute_lines, rounds_words, scheduled_words, size_words, where_words, word_words}
+use Rattle.answer_texts.specs.AnswerLines.{conflicts_words, end_words, goal_words, launch_words, lemmas_lines, none_words, noworld_words, refute_lines, rounds_words, scheduled_words, size_words, where_words, word_words}
+use Rattle.answer_texts.specs.AnswerParts.{IsLaunch}
 use Rattle.denali_run.proofs.ResultLines.{answered_lines, below_lines, goals_lines, matched_lines}
 use Rattle.denali_run.specs.MatchedGoals.{IsMatched, IsSettings}
 use Rattle.denali_run.specs.Right.{AreRefutedBelow, Right}
@@ -30,7 +31,7 @@ use Rattle.denali_run.proofs.PrintedAnswers.{cycles_low, rounds_low}
 use Rattle.denali_run.proofs.ReadBackLaws.{Laws}
 use Rattle.denali_run.proofs.ResultParts.{behind, cycles_same, kind_of, no_launch, no_target, number_same, same_found, same_large, same_missing, same_tried}
 use Rattle.denali_run.proofs.SameGraphs.{matched_once}
-use Rattle.denali_run.proofs.SameLaunches.{BeginsNoLaunch, are_placed, launches_once}
+use Rattle.denali_run.proofs.SameLaunches.{BeginsNoLaunch, are_placed, few_sets, few_targets, launches_once}
 use Rattle.denali_run.proofs.SameParts.{begin_same, byte_same, head_same, rest_same, cons_same, append_same}
 use Rattle.denali_run.proofs.SameRefutations.{below_once, block_once, one_less_than, readable, same_lines}
 
@@ -57,7 +58,7 @@ module _ (laws : Laws) where
       (rest_same (decoded w) (Some i) (map decoded ws) (map Some instrs) is)
       (rest_same (decoded v) (Some i) (map decoded vs) (map Some instrs) are))
 
-  module _ (e : Encoding) (input : InputTree) (s : Settings) (is : IsInput input) (set : IsSettings s) (goal : GoalTree) where
+  module _ (e : Encoding) (input : InputTree) (s : Settings) (is : IsInput input) (set : IsSettings s) (goal : GoalTree) (small : length goal.sets ≤ 16) where
     abbrev table : Table
     table = input.table
 
@@ -129,12 +130,18 @@ module _ (laws : Laws) where
         let low : f.k ≤ 24 = cycles_low laws e input s is set f.k p.1 in
         let less : g.k ≤ 24 = cycles_low laws e input s is set g.k o.1 in
         let level : f.k ≡ g.k = cycles_same (codes "scheduled") f.k g.k [] [] low less kind in
-        let launches = launches_once table is.table f.schedule.launches g.schedule.launches
+        let few = few_sets input goal f.matched.graph p.0.stands small in
+        let more = few_sets input goal g.matched.graph o.0.stands small in
+        let launches = launches_once laws.launches table f.matched.graph is.table p.0.graph f.schedule.launches g.schedule.launches
         (map word_words f.words ++ (map where_words f.listing.wheres ++ (below_lines f.k f.refutation ++ x)))
         (map word_words g.words ++ (map where_words g.listing.wheres ++ (below_lines g.k g.refutation ++ y)))
-        (are_placed laws.slots f.matched.graph table is.table p.0.graph.few p.0.unpinned f.k f.schedule.launches low p.2.fits)
-        (are_placed laws.slots g.matched.graph table is.table o.0.graph.few o.0.unpinned g.k g.schedule.launches less o.2.fits)
-        (no_launch f x apart) (no_launch g y alone) rest in
+        (are_placed f.matched.graph p.0.graph few laws.slots table is.table f.k f.schedule.launches low p.2.fits)
+        (subst (λ (m : Matched). All (IsLaunch table m.graph) g.schedule.launches) (sym same)
+        (are_placed g.matched.graph o.0.graph more laws.slots table is.table g.k g.schedule.launches less o.2.fits))
+        (no_launch f x apart) (no_launch g y alone)
+        (subst (λ (m : Matched). behind table (Scheduled f) x
+        ≡ map (launch_words table m.graph) g.schedule.launches
+        ++ (map word_words g.words ++ (map where_words g.listing.wheres ++ (below_lines g.k g.refutation ++ y)))) (sym same) rest) in
         let listed : IsListing f.matched.graph table f.schedule.launches g.listing.items g.listing.wheres =
         subst (λ m. IsListing m.graph table f.schedule.launches g.listing.items g.listing.wheres) (sym same)
         (subst (λ ls. IsListing g.matched.graph table ls g.listing.items g.listing.wheres) (sym launches.0)
@@ -332,26 +339,27 @@ module _ (laws : Laws) where
     end_no_launch lines =
         λ e. (let h : ◌≡◌ {A = ℕ} 101 108 = byte_same 0 (codes "end") (codes "launch") e in omega (arith, h))
 
-    pub goals_once : (goals : List GoalTree) (results others : List Answered)
+    pub goals_once : (goals : List GoalTree) (results others : List Answered) → All (IsGoal input.ops) goals
         → AllZip (λ goal answered. Right e input goal s answered) goals results
         → AllZip (λ goal answered. Right e input goal s answered) goals others
         → goals_lines input.table goals results ≡ goals_lines input.table goals others → results ≡ others
-    goals_once [] [] [] right also same = refl
-    goals_once [] [] (q ∷ qs) right also same = absurd also
-    goals_once [] (r ∷ rs) others right also same = absurd right
-    goals_once (goal ∷ goals) [] others right also same = absurd right
-    goals_once (goal ∷ goals) (r ∷ rs) [] right also same = absurd also
-    goals_once (goal ∷ goals) (r ∷ rs) (q ∷ qs) right also same =
+    goals_once [] [] [] each right also same = refl
+    goals_once [] [] (q ∷ qs) each right also same = absurd also
+    goals_once [] (r ∷ rs) others each right also same = absurd right
+    goals_once (goal ∷ goals) [] others each right also same = absurd right
+    goals_once (goal ∷ goals) (r ∷ rs) [] each right also same = absurd also
+    goals_once (goal ∷ goals) (r ∷ rs) (q ∷ qs) each right also same =
         let x : List Words = goals_lines input.table goals rs in
         let y : List Words = goals_lines input.table goals qs in
         let one : List Words = answered_lines input.table r in
         let two : List Words = answered_lines input.table q in
         let lines = cons_same (goal_words goal.name) (goal_words goal.name) ((one ++ (end_words ∷ [])) ++ x)
         ((two ++ (end_words ∷ [])) ++ y) same in
-        let both = answered_once e input s is set goal r q (end_words ∷ x) (end_words ∷ y) right.0 also.0
+        let both = answered_once e input s is set goal
+        (few_targets input goal (All-head (IsGoal input.ops) goal goals each)) r q (end_words ∷ x) (end_words ∷ y) right.0 also.0
         (end_no_launch x) (end_no_launch y)
         (sym (append_assoc one (end_words ∷ []) x) ∙ lines.1 ∙ append_assoc two (end_words ∷ []) y) in
         ap (λ z. z ∷ rs) both.0
         ∙ ap (λ zs. q ∷ zs)
-        (goals_once goals rs qs right.1 also.1
+        (goals_once goals rs qs (All-tail (IsGoal input.ops) goal goals each) right.1 also.1
         (cons_same end_words end_words x y both.1).1)

@@ -1,36 +1,54 @@
 -- The launches of a schedule that fits, read back.
-use Rattle.std.proofs.Common.{◌≡◌, ◌≢◌, ℕ, ◌<◌, ◌≤◌, ◌^◌, ◌==◌, cond, Bool, true, false, List, [], ◌∷◌, ◌++◌, length, map, get_or, refl, sym, ap, subst, ◌∙◌, arith, codes, decimal, Option, Some, None}
-use Rattle.std.specs.Prelude.{⊤, All, IsSomeAnd, Decides, slice_get, option_map, option_and_then}
+use Rattle.std.proofs.Common.{◌≡◌, ◌≢◌, ℕ, ◌+◌, ◌-◌, ◌<◌, ◌≤◌, ◌^◌, ◌==◌, suc, cond, Bool, true, false, List, [], ◌∷◌, ◌++◌, inl, inr, length, map, get_or, refl, sym, ap, subst, ◌∙◌, arith, codes, Option, Some, None}
+use Rattle.std.specs.Prelude.{⊤, All, IfSome, IsSomeAnd, Decides, nat_lt, slice_get, option_map, option_and_then}
+use Rattle.std.specs.List.{AllZip}
 use Rattle.std.specs.Option.{option_map_or}
+use Rattle.std.proofs.lemmas.Bool.{cases_lt}
 use Rattle.std.proofs.lemmas.Bool.Decides.{Decides-eqb}
-use Rattle.std.proofs.lemmas.Fmt.{decimal_injective}
 use Rattle.std.proofs.lemmas.List.Elements.{All-head, All-tail}
-use Rattle.std.proofs.lemmas.Option.{slice_get-get_or, slice_get_past}
-use Rattle.graph_meaning.specs.Graphs.{HasNoPins}
+use Rattle.std.proofs.lemmas.Option.{get_or_from_slice_get, none-some, slice_get-get_or, slice_get_past, slice_get_within}
+use Rattle.goal_meaning.specs.Views.{GoalTree, InputTree}
+use Rattle.goal_meaning.specs.WellFormed.{IsGoal}
+use Rattle.graph_meaning.specs.WellFormed.{IsLaunchGraph}
 use Rattle.graph_meaning.specs.declared.graphs.Guard.{Guard}
 use Rattle.graph_meaning.specs.declared.graphs.LaunchGraph.{LaunchGraph}
 use Rattle.graph_meaning.specs.declared.graphs.LaunchRow.{LaunchRow}
+use Rattle.graph_meaning.specs.declared.graphs.SetClass.{SetClass}
 use Rattle.machine_table.specs.Tables.{IsTable, MayUse}
 use Rattle.machine_table.specs.declared.tables.InstrKind.{InstrKind}
 use Rattle.machine_table.specs.declared.tables.InstrKind.TheVariants.{Beq}
 use Rattle.machine_table.specs.declared.tables.Slot.{Slot}
 use Rattle.machine_table.specs.declared.tables.Table.{Table}
-use Rattle.schedule_meaning.specs.Fits.{Fits, CanLaunch, EndsBy}
-use Rattle.schedule_meaning.specs.Launches.{instr_at, op_instr}
-use Rattle.schedule_meaning.specs.Plain.{plain_instr_at}
+use Rattle.saturation.specs.StandsFor.{IsSetClass, StandsFor}
+use Rattle.schedule_meaning.specs.Fits.{Fits, CanGo, CanGoTo, CanGoToPin, CanLaunch, EndsBy}
+use Rattle.schedule_meaning.specs.Launches.{copied_at, instr_at, op_instr, pinned_class}
 use Rattle.schedule_meaning.specs.declared.schedules.To.{To}
-use Rattle.schedule_meaning.specs.declared.schedules.To.TheVariants.{Pool}
+use Rattle.schedule_meaning.specs.declared.schedules.To.TheVariants.{Pool, Set}
 use Rattle.schedule_meaning.specs.declared.schedules.Launch.{Launch}
-use Rattle.schedule_meaning.proofs.Unpinned.{plain_rows, plain_where_fits}
+use Rattle.schedule_meaning.proofs.Copies.{plain_kind}
 use Rattle.text_core.specs.LineTexts.{Words}
-use Rattle.answer_texts.specs.AnswerLines.{launch_words, slot_name}
-use Rattle.denali_run.proofs.SameParts.{head_same, rest_same, cons_same}
+use Rattle.answer_texts.specs.AnswerLines.{launch_words}
+use Rattle.answer_texts.specs.AnswerParts.{IsDestination, IsLaunch}
+use Rattle.denali_run.proofs.SameParts.{cons_same}
+
+-- ---- the sets of a goal's graph
+
+-- a goal has few sets
+pub few_targets : (input : InputTree) (goal : GoalTree) → IsGoal input.ops goal → length goal.sets ≤ 16
+few_targets input goal is = is.rules.few.2
+
+as_long : {X Y : Type 0} (P : X → Y → Type 0) (xs : List X) (ys : List Y) → AllZip P xs ys → length xs ≡ length ys
+as_long P [] [] z = refl
+as_long P [] (y ∷ ys) z = absurd z
+as_long P (x ∷ xs) [] z = absurd z
+as_long P (x ∷ xs) (y ∷ ys) z = ap suc (as_long P xs ys z.1)
+
+-- and so has its graph
+pub few_sets : (input : InputTree) (goal : GoalTree) (g : LaunchGraph) → StandsFor input goal g → length goal.sets ≤ 16
+    → length g.sets ≤ 16
+few_sets input goal g stands few = subst (λ n. n ≤ 16) (sym (as_long (IsSetClass input.ops g) g.sets goal.sets stands.of.sets)) few
 
 -- ---- where launches are
-
--- in a cycle that can be printed, in a slot of the table, of a row that can be printed, and to the pool
-abbrev pub IsPlaced : Table → Launch → Type 0
-IsPlaced table l = (l.cycle < 2 ^ 31) × (l.slot < length table.slots) × (l.row < 2 ^ 31) × (l.to ≡ Pool)
 
 -- a slot that an instruction may use is one of the table's
 abbrev pub SlotsAreThere : Type 0
@@ -49,29 +67,80 @@ past_row g row i false d lt e =
     (sym (ap (λ (o : Option LaunchRow). option_and_then (λ (r : LaunchRow). op_instr g r.op r.operands) o)
     (slice_get_past g.rows row (omega (arith, lt)))) ∙ e)
 
-row_low : (g : LaunchGraph) → HasNoPins g → (row : ℕ) (i : InstrKind) → instr_at g row ≡ Some i → row ≤ length g.rows
-row_low g plain row i e =
-    let at : plain_instr_at g row ≡ Some i = sym (plain_rows g plain row).0 ∙ e in
+copied_by : (g : LaunchGraph) (place class : ℕ) (b : Bool) → cond b (pinned_class (slice_get g.sets place)) None ≡ Some class
+    → place < length g.sets
+copied_by g place class false e = absurd (none-some class e)
+copied_by g place class true e =
+    elim (cases_lt place (length g.sets)) [
+      | inl lt ↦ lt
+      | inr past ↦ absurd (none-some class (sym (ap pinned_class (slice_get_past g.sets place past)) ∙ e))
+    ]
+
+row_by : (g : LaunchGraph) (row : ℕ) (i : InstrKind) (o : Option ℕ) → copied_at g row ≡ o → instr_at g row ≡ Some i
+    → row ≤ length g.rows + length g.sets
+row_by g row i None e is =
+    let at = sym (plain_kind g row e) ∙ is in
     let no : ¬ (length g.rows < row) = λ lt. past_row g row i (row == length g.rows) (Decides-eqb row (length g.rows)) lt at in
     omega (arith, no)
+row_by g row i (Some class) e is =
+    let lt : row - (length g.rows + 1) < length g.sets =
+    copied_by g (row - (length g.rows + 1)) class (nat_lt (length g.rows) row) e in
+    omega (arith, lt)
 
-module _ (there : SlotsAreThere) (g : LaunchGraph) (table : Table) (is : IsTable table) (few : length g.rows < 2 ^ 30) (plain : HasNoPins g) where
-  by_instr : (l : Launch) (o : Option InstrKind) → instr_at g l.row ≡ o → IsSomeAnd o (λ i. MayUse table i l.slot)
-      → (l.slot < length table.slots) × (l.row < 2 ^ 31)
-  by_instr l None e may = absurd may
-  by_instr l (Some i) e may =
-      (there table i l.slot is may, (let low : l.row ≤ length g.rows = row_low g plain l.row i e in omega (arith, low, few)))
+-- a row that can be launched is one of the graph's, the branch, or a copy
+row_low : (g : LaunchGraph) (row : ℕ) (i : InstrKind) → instr_at g row ≡ Some i → row ≤ length g.rows + length g.sets
+row_low g row i is = row_by g row i (copied_at g row) refl is
 
-  placed : (k : ℕ) → k ≤ 24 → (l : Launch) → CanLaunch g table l → EndsBy g table k l → l.to ≡ Pool → IsPlaced table l
-  placed k small l can ends pool =
-      let at = by_instr l (instr_at g l.row) refl can in
-      ((let by = ends in omega (arith, by, small)), at.0, at.1, pool)
+module _ (g : LaunchGraph) (formed : IsLaunchGraph g) (few : length g.sets ≤ 16) where
+  low_pin : (j : ℕ) (s : SetClass) (r : ℕ) → slice_get g.sets j ≡ Some s → s.pin ≡ Some r → r < 31
+  low_pin j s r at is =
+      subst (λ (o : Option ℕ). IfSome o (λ r. r < 31)) is
+      (subst (λ (t : SetClass). IfSome t.pin (λ r. r < 31)) (get_or_from_slice_get g.sets j s s at)
+      (formed.pins j s (slice_get_within g.sets j s at)))
 
-  -- those of a schedule that fits
-  pub are_placed : (k : ℕ) (ls : List Launch) → k ≤ 24 → Fits g table k ls → All (IsPlaced table) ls
-  are_placed k ls small fits =
-      let pools : All (λ l. l.to ≡ Pool) ls = (plain_where_fits g plain table k ls fits).1 in
-      λ i d lt. placed k small (get_or ls i d) (fits.rows i d lt) (fits.in_time i d lt) (pools i d lt)
+  by_pin : (l : Launch) (j : ℕ) (s : SetClass) → slice_get g.sets j ≡ Some s → (o : Option ℕ) → s.pin ≡ o
+      → IsSomeAnd o (CanGoToPin g l s) → IsDestination g (Set j)
+  by_pin l j s at None is can = absurd can
+  by_pin l j s at (Some r) is can = (
+    (let lt = slice_get_within g.sets j s at in omega (arith, lt, few)),
+    subst (λ (o : Option ℕ). IsSomeAnd o (λ r. r < 31))
+        (sym (ap (λ (o : Option SetClass). option_and_then (λ (s : SetClass). s.pin) o) at ∙ is)) (low_pin j s r at is),
+  )
+
+  by_set : (l : Launch) (j : ℕ) (o : Option SetClass) → slice_get g.sets j ≡ o
+      → IsSomeAnd o (λ (s : SetClass). IsSomeAnd s.pin (CanGoToPin g l s)) → IsDestination g (Set j)
+  by_set l j None at can = absurd can
+  by_set l j (Some s) at can = by_pin l j s at s.pin refl can
+
+  destination : (l : Launch) (to : To) → CanGoTo g l to → IsDestination g to
+  destination l Pool can = tt
+  destination l (Set j) can = by_set l j (slice_get g.sets j) refl can
+
+  module _ (there : SlotsAreThere) (table : Table) (is : IsTable table) where
+    by_instr : (l : Launch) (o : Option InstrKind) → instr_at g l.row ≡ o → IsSomeAnd o (λ i. MayUse table i l.slot)
+        → (l.slot < length table.slots) × (l.row < 2 ^ 31)
+    by_instr l None e may = absurd may
+    by_instr l (Some i) e may = (
+      there table i l.slot is may,
+      (let low : l.row ≤ length g.rows + length g.sets = row_low g l.row i e in
+          let rows : length g.rows < 2 ^ 30 = formed.few in
+          omega (arith, low, rows, few)),
+    )
+
+    placed : (k : ℕ) → k ≤ 24 → (l : Launch) → CanLaunch g table l → CanGo g l → EndsBy g table k l → IsLaunch table g l
+    placed k small l can goes ends =
+        let at = by_instr l (instr_at g l.row) refl can in (
+          (let by = ends in omega (arith, by, small)),
+          at.0,
+          at.1,
+          (let lt : l.slot < length table.slots = at.0 in let most = is.slots.1 in omega (arith, lt, most)),
+          destination l l.to goes,
+        )
+
+    -- those of a schedule that fits
+    pub are_placed : (k : ℕ) (ls : List Launch) → k ≤ 24 → Fits g table k ls → All (IsLaunch table g) ls
+    are_placed k ls small fits =
+        λ i d lt. placed k small (get_or ls i d) (fits.rows i d lt) (fits.destinations i d lt) (fits.in_time i d lt)
 
 -- ---- their lines
 
@@ -83,42 +152,10 @@ name_at slots k d lt = ap (λ (o : Option Slot). option_map_or (λ (s : Slot). s
 pub any_slot : Slot
 any_slot = record { name = []; cluster = 0 }
 
--- the names of slots differ
-pub one_slot : (table : Table) (s t : ℕ) → IsTable table → s < length table.slots → t < length table.slots
-    → slot_name table s ≡ slot_name table t → s ≡ t
-one_slot table s t is lt less e =
-    let slots : List Slot = table.slots in
-    let names : (get_or slots s any_slot).name ≡ (get_or slots t any_slot).name =
-    sym (name_at slots s any_slot lt) ∙ e ∙ name_at slots t any_slot less in
-    let before : ¬ (s < t) = λ b. is.names s t any_slot b less names in
-    let behind : ¬ (t < s) = λ b. is.names t s any_slot b lt (sym names) in
-    omega (arith, before, behind)
-
-launch_of : ℕ → ℕ → ℕ → To → Launch
-launch_of cycle slot row to = record { cycle = cycle; slot = slot; row = row; to = to }
-
-one_launch : (table : Table) → IsTable table → (l m : Launch) → IsPlaced table l → IsPlaced table m
-    → launch_words table l ≡ launch_words table m → l ≡ m
-unfolding launch_of
-one_launch table is l m a b e =
-    let early : l.cycle < 2 ^ 31 = a.0 in
-    let soon : m.cycle < 2 ^ 31 = b.0 in
-    let low : l.row < 2 ^ 31 = a.2 in
-    let less : m.row < 2 ^ 31 = b.2 in
-    let name : List ℕ = slot_name table l.slot in
-    let other : List ℕ = slot_name table m.slot in
-    let all = rest_same (codes "launch") (codes "launch") (decimal l.cycle ∷ name ∷ decimal l.row ∷ [])
-    (decimal m.cycle ∷ other ∷ decimal m.row ∷ []) e in
-    let behind = rest_same (decimal l.cycle) (decimal m.cycle) (name ∷ decimal l.row ∷ []) (other ∷ decimal m.row ∷ []) all in
-    let last = rest_same name other (decimal l.row ∷ []) (decimal m.row ∷ []) behind in
-    ap (λ n. launch_of n l.slot l.row l.to)
-    (decimal_injective l.cycle m.cycle (omega arith) (omega arith)
-    (head_same (decimal l.cycle) (decimal m.cycle) (name ∷ decimal l.row ∷ []) (other ∷ decimal m.row ∷ []) all))
-    ∙ ap (λ n. launch_of m.cycle n l.row l.to)
-    (one_slot table l.slot m.slot is a.1 b.1 (head_same name other (decimal l.row ∷ []) (decimal m.row ∷ []) behind))
-    ∙ ap (λ n. launch_of m.cycle m.slot n l.to)
-    (decimal_injective l.row m.row (omega arith) (omega arith) (head_same (decimal l.row) (decimal m.row) [] [] last))
-    ∙ ap (launch_of m.cycle m.slot m.row) (a.3 ∙ sym b.3)
+-- launches that are printed alike are equal
+abbrev pub LaunchLinesAreOne : Type 0
+LaunchLinesAreOne = (table : Table) (g : LaunchGraph) (l m : Launch) → IsTable table → IsLaunchGraph g → IsLaunch table g l
+    → IsLaunch table g m → launch_words table g l ≡ launch_words table g m → l ≡ m
 
 -- the first of the lines is no launch
 abbrev pub BeginsNoLaunch : List Words → Type 0
@@ -126,25 +163,23 @@ BeginsNoLaunch [] = ⊤
 BeginsNoLaunch ([] ∷ lines) = ⊤
 BeginsNoLaunch ((word ∷ words) ∷ lines) = word ≢ codes "launch"
 
-no_launch_behind : (table : Table) (l : Launch) (lines rest : List Words) → BeginsNoLaunch rest
-    → launch_words table l ∷ lines ≡ rest → ⊥
-no_launch_behind table l lines rest h e = (subst BeginsNoLaunch (sym e) h) refl
+module _ (one : LaunchLinesAreOne) (table : Table) (g : LaunchGraph) (is : IsTable table) (formed : IsLaunchGraph g) where
+  no_launch_behind : (l : Launch) (lines rest : List Words) → BeginsNoLaunch rest → launch_words table g l ∷ lines ≡ rest → ⊥
+  no_launch_behind l lines rest h e = (subst BeginsNoLaunch (sym e) h) refl
 
-pub launches_once : (table : Table) → IsTable table → (xs ys : List Launch) (r q : List Words)
-    → All (IsPlaced table) xs → All (IsPlaced table) ys → BeginsNoLaunch r → BeginsNoLaunch q
-    → map (launch_words table) xs ++ r ≡ map (launch_words table) ys ++ q → (xs ≡ ys) × (r ≡ q)
-launches_once table is [] [] r q a b f g e = (refl, e)
-launches_once table is [] (y ∷ ys) r q a b f g e =
-    absurd (no_launch_behind table y (map (launch_words table) ys ++ q) r f (sym e))
-launches_once table is (x ∷ xs) [] r q a b f g e =
-    absurd (no_launch_behind table x (map (launch_words table) xs ++ r) q g e)
-launches_once table is (x ∷ xs) (y ∷ ys) r q a b f g e =
-    let both = cons_same (launch_words table x) (launch_words table y) (map (launch_words table) xs ++ r)
-    (map (launch_words table) ys ++ q) e in
-    let more = launches_once table is xs ys r q (All-tail (IsPlaced table) x xs a) (All-tail (IsPlaced table) y ys b) f g
-    both.1 in (
-      ap (λ l. l ∷ xs)
-          (one_launch table is x y (All-head (IsPlaced table) x xs a) (All-head (IsPlaced table) y ys b) both.0)
-          ∙ ap (λ ls. y ∷ ls) more.0,
-      more.1,
-    )
+  pub launches_once : (xs ys : List Launch) (r q : List Words) → All (IsLaunch table g) xs → All (IsLaunch table g) ys
+      → BeginsNoLaunch r → BeginsNoLaunch q → map (launch_words table g) xs ++ r ≡ map (launch_words table g) ys ++ q
+      → (xs ≡ ys) × (r ≡ q)
+  launches_once [] [] r q a b f h e = (refl, e)
+  launches_once [] (y ∷ ys) r q a b f h e =
+      absurd (no_launch_behind y (map (launch_words table g) ys ++ q) r f (sym e))
+  launches_once (x ∷ xs) [] r q a b f h e = absurd (no_launch_behind x (map (launch_words table g) xs ++ r) q h e)
+  launches_once (x ∷ xs) (y ∷ ys) r q a b f h e =
+      let both = cons_same (launch_words table g x) (launch_words table g y) (map (launch_words table g) xs ++ r)
+      (map (launch_words table g) ys ++ q) e in
+      let more = launches_once xs ys r q (All-tail (IsLaunch table g) x xs a) (All-tail (IsLaunch table g) y ys b) f h both.1 in (
+        ap (λ l. l ∷ xs)
+            (one table g x y is formed (All-head (IsLaunch table g) x xs a) (All-head (IsLaunch table g) y ys b) both.0)
+            ∙ ap (λ ls. y ∷ ls) more.0,
+        more.1,
+      )

@@ -12,7 +12,7 @@ use Rattle.saturation.specs.declared.rounds.Stop.TheVariants.{Quiet}
 use Rattle.denali_run.specs.declared.results.Answered.{Answered}
 use Rattle.denali_run.specs.declared.results.Answered.TheVariants.{Scheduled, Nowhere, SpentConflicts, SpentSize, NoWorld}
 use Rattle.cycle_encoding.specs.declared.encodings.Encoding.{Encoding}
-use Rattle.cycle_encoding.specs.declared.encodings.Encoding.TheVariants.{Wide, Narrow}
+use Rattle.cycle_encoding.specs.declared.encodings.Encoding.TheVariants.{Wide, Narrow, Pinned}
 use Rattle.denali_run.specs.declared.results.Matched.{Matched}
 
 -- a claim with the graph that it is about, and the lines that refute fewer cycles
@@ -34,6 +34,13 @@ claimed name (NoWorld class a b) =
 abbrev pub encoding_number : Encoding → ℕ
 encoding_number Wide = 1
 encoding_number Narrow = 2
+encoding_number Pinned = 3
+
+-- the version of the answers that name it: in version 2 targets may have pins
+abbrev pub version_of : Encoding → ℕ
+version_of Wide = 1
+version_of Narrow = 1
+version_of Pinned = 2
 
 -- each goal with its result
 abbrev pub goals_claimed : List GoalTree → List Answered → List Claimed
@@ -43,7 +50,7 @@ goals_claimed _ _ = []
 -- what the answer to an input with these results says
 abbrev pub answer_to : Encoding → InputTree → List Answered → AnswerText
 answer_to e input results = record {
-  version = 1;
+  version = version_of e;
   encoding = encoding_number e;
   table = input.table;
   builtin = input.builtin;

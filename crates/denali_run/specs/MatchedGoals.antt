@@ -2,7 +2,6 @@
 -- this project's.
 use Rattle.std.specs.Prelude.{ℕ, ◌≤◌, length, max}
 use Rattle.goal_meaning.specs.Views.{GoalTree, InputTree}
-use Rattle.graph_meaning.specs.Graphs.{HasNoPins}
 use Rattle.graph_meaning.specs.WellFormed.{IsLaunchGraph}
 use Rattle.graph_meaning.specs.declared.graphs.LaunchGraph.{LaunchGraph}
 use Rattle.saturation.specs.AtStart.{most_rows_at_start}
@@ -37,11 +36,9 @@ ReachesRound input goal s j =
 
 -- The graph stands for the goal. Its rounds are as many as are asked for, or the first after which no match is unmet or
 -- another round might pass the limit on rows; it has every equality that they derive and no other, and no two different
--- constants are equal in it. It has no more rows than the goal itself gives, or than were asked for. No set of it is
--- pinned, since a text with a pinned target isn't solved yet.
+-- constants are equal in it. It has no more rows than the goal itself gives, or than were asked for.
 pub record IsMatched (input : InputTree) (goal : GoalTree) (s : Settings) (m : Matched) : Type 0 where
   pub graph : IsLaunchGraph m.graph
-  pub unpinned : HasNoPins m.graph
   pub stands : StandsFor input goal m.graph
   pub grown : IsGrownFor input goal m.graph m.rounds
   pub reached : ReachesRound input goal s m.rounds

@@ -2,19 +2,18 @@
 use Rattle.std.specs.Prelude.{◌≡◌, ℕ, ◌≤◌, ◌^◌, List, length, fold, nat_lt, if◌then◌else◌}
 use Rattle.answer_texts.specs.ReadAnswers.{ReadsAnswer}
 use Rattle.goal_reader.specs.Grammar.{IsFirstTextFault, Reads}
-use Rattle.goal_meaning.specs.Unpinned.{AreUnpinned}
 use Rattle.goal_meaning.specs.Views.{InputTree}
 use Rattle.denali_run.specs.ClaimedResults.{answer_to, answer_text}
 use Rattle.denali_run.specs.Right.{AreRightResults}
 use Rattle.denali_run.specs.Statuses.{status_code}
 use Rattle.denali_run.specs.declared.results.Answered.{Answered}
 use Rattle.denali_run.specs.declared.results.Answered.TheVariants.{Scheduled, Nowhere, SpentConflicts, SpentSize, NoWorld}
-use Rattle.cycle_encoding.specs.declared.encodings.Encoding.TheVariants.{Narrow}
+use Rattle.cycle_encoding.specs.declared.encodings.Encoding.TheVariants.{Pinned}
 use Rattle.denali_run.specs.declared.settings.Settings.{Settings}
 use Rattle.denali_run.specs.declared.statuses.Status.{Status}
 use Rattle.denali_run.specs.declared.statuses.Status.TheVariants as status
 use Rattle.denali_run.specs.declared.reports.TextError.{TextError}
-use Rattle.denali_run.specs.declared.reports.TextError.TheVariants.{Read, NotYet, Memory}
+use Rattle.denali_run.specs.declared.reports.TextError.TheVariants.{Read, Memory}
 
 -- the status that a result asks for
 abbrev pub status_of : Answered → Status
@@ -32,25 +31,19 @@ greater one other = if nat_lt (status_code one) (status_code other) then other e
 abbrev pub greatest_status : List Answered → Status
 greatest_status results = fold (λ s r. greater s (status_of r)) status.Done results
 
--- The text reads as an input of which no target is pinned, each of its goals has a result that is right, the bytes are the lines of these results,
+-- The text reads as an input, each of its goals has a result that is right, the bytes are the lines of these results,
 -- and the status is the one with the greatest code that they ask for. Of a text of at most 2^20 bytes, as many as the
 -- program reads, the bytes are read as the answer that the results make.
 pub record Answers (s : Settings) (text bytes : List ℕ) (status : Status) : Type 0 where
   pub input : InputTree
   pub reads : Reads text input
-  pub unpinned : AreUnpinned input
   pub results : List Answered
-  pub right : AreRightResults Narrow input s results
-  pub bytes_are : bytes ≡ answer_text Narrow input results
-  pub read_back : length text ≤ 2 ^ 20 → ReadsAnswer bytes (answer_to Narrow input results)
+  pub right : AreRightResults Pinned input s results
+  pub bytes_are : bytes ≡ answer_text Pinned input results
+  pub read_back : length text ≤ 2 ^ 20 → ReadsAnswer bytes (answer_to Pinned input results)
   pub status_is : status ≡ greatest_status results
-
--- the text reads as an input of which some target is pinned
-abbrev pub IsNotYet : List ℕ → Type 0
-IsNotYet text = (input : InputTree) × Reads text input × ¬ AreUnpinned input
 
 -- why a text has no answer
 abbrev pub TextErrorIs : List ℕ → TextError → Type 0
 TextErrorIs text (Read fault) = IsFirstTextFault text fault.place fault.kind
-TextErrorIs text NotYet = IsNotYet text
 TextErrorIs text Memory = Unit {0}

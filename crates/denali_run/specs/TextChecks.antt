@@ -4,7 +4,7 @@ use Rattle.answer_check.specs.Reports.{IsCheckReport}
 use Rattle.answer_texts.specs.ReadAnswers.{IsAnswerFault, ReadsAnswer}
 use Rattle.answer_texts.specs.declared.answers.AnswerText.{AnswerText}
 use Rattle.denali_run.specs.declared.reports.TextError.{TextError}
-use Rattle.denali_run.specs.declared.reports.TextError.TheVariants.{Read, NotYet, Memory}
+use Rattle.denali_run.specs.declared.reports.TextError.TheVariants.{Read, Memory}
 use Rattle.denali_run.specs.declared.statuses.Status.{Status}
 use Rattle.denali_run.specs.declared.statuses.Status.TheVariants.{Done, Missing}
 
@@ -20,5 +20,4 @@ pub record ChecksText (text bytes : List ℕ) (status : Status) : Type 0 where
 -- why an answer can't be checked
 abbrev pub CheckErrorIs : List ℕ → TextError → Type 0
 CheckErrorIs text (Read fault) = IsAnswerFault text fault.place fault.kind
-CheckErrorIs text NotYet = ⊥
 CheckErrorIs text Memory = Unit {0}

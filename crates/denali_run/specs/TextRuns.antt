@@ -6,7 +6,7 @@ use Rattle.run_texts.specs.declared.texts.RunText.{RunText}
 use Rattle.denali_run.specs.declared.statuses.Status.{Status}
 use Rattle.denali_run.specs.declared.statuses.Status.TheVariants.{Done}
 use Rattle.denali_run.specs.declared.reports.TextError.{TextError}
-use Rattle.denali_run.specs.declared.reports.TextError.TheVariants.{Read, NotYet, Memory}
+use Rattle.denali_run.specs.declared.reports.TextError.TheVariants.{Read, Memory}
 
 -- The text reads as a program, and the bytes are the report of how its words end that are run with what it gives.
 pub record RunsText (text bytes : List ℕ) (status : Status) : Type 0 where
@@ -18,5 +18,4 @@ pub record RunsText (text bytes : List ℕ) (status : Status) : Type 0 where
 -- why a text has no report
 abbrev pub RunErrorIs : List ℕ → TextError → Type 0
 RunErrorIs text (Read fault) = IsRunFault text fault.place fault.kind
-RunErrorIs text NotYet = ⊥
 RunErrorIs text Memory = Unit {0}

@@ -4,7 +4,7 @@ ghost use Rattle.goal_meaning.specs.Views.{input_view};
 ghost use Rattle.answer_texts.specs.Lent.{lent_claim, lent_claimed};
 ghost use Rattle.denali_run.specs.ClaimedResults as format;
 ghost use Rattle.denali_run.specs.TextAnswers as texts;
-ghost use Rattle.cycle_encoding.specs.declared.encodings.Encoding.TheVariants.{Narrow};
+ghost use Rattle.cycle_encoding.specs.declared.encodings.Encoding.TheVariants.{Pinned};
 
 use crate::reports::Report;
 use crate::results::{Answered, Found, Large, Matched, Missing, Tried};
@@ -18,9 +18,9 @@ use std::alloc::Global;
 use text_core::Name;
 
 /// The version of the text, and the number of the encoding that it names.
-const VERSION: u8 = 1;
+const VERSION: u8 = 2;
 
-const NARROW: u8 = 2;
+const PINNED: u8 = 3;
 
 /// A claim with the graph that it is about, and the lines that refute fewer cycles.
 fn claimed_on<'a>(
@@ -109,10 +109,10 @@ fn claimed<'a>(name: &'a Name, answered: &'a Answered) -> ClaimedRef<'a>
 /// The bytes of the answer to an input with these results.
 fn print(alloc: Global, input: &Input, results: &[Answered]) -> Result<Vec<u8>, NoMemory>
     requires { length results.now ≡ length input.now.goals }
-    ensures { IfOk result (λ text. text.items ≡ format.answer_text Narrow (input_view input.now) results.now) }
+    ensures { IfOk result (λ text. text.items ≡ format.answer_text Pinned (input_view input.now) results.now) }
 {
     let mut text = Vec::new(alloc);
-    put_head(&mut text, VERSION, NARROW, &input.table, input.builtin)?;
+    put_head(&mut text, VERSION, PINNED, &input.table, input.builtin)?;
     let goals = input.goals.as_slice();
     for (at, answered) in results.iter().enumerate() {
         let goal = claimed(&goals[at].name, answered);
@@ -125,7 +125,7 @@ fn print(alloc: Global, input: &Input, results: &[Answered]) -> Result<Vec<u8>, 
 pub fn answer_text(alloc: Global, input: &Input, results: &[Answered]) -> Result<Report, NoMemory>
     requires { length results.now ≡ length input.now.goals }
     ensures bytes { IfOk result (λ report. report.bytes.items
-        ≡ format.answer_text Narrow (input_view input.now) results.now) }
+        ≡ format.answer_text Pinned (input_view input.now) results.now) }
     ensures status { IfOk result (λ report. report.status ≡ texts.greatest_status results.now) }
 {
     Ok(Report {

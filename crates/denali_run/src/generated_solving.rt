@@ -5,7 +5,7 @@ ghost use Rattle.denali_run.specs.GeneratedAnswers as lines;
 ghost use Rattle.denali_run.specs.GeneratedAnswers.{AnswersGenerated, IsGeneratedLine};
 ghost use Rattle.denali_run.specs.MatchedGoals.{IsSettings};
 ghost use Rattle.denali_run.specs.Right.{Right};
-ghost use Rattle.cycle_encoding.specs.declared.encodings.Encoding.TheVariants.{Narrow};
+ghost use Rattle.cycle_encoding.specs.declared.encodings.Encoding.TheVariants.{Pinned};
 
 use crate::reports::Report;
 use crate::results::{Answered, Found};
@@ -13,8 +13,8 @@ use crate::settings::{Pick, Settings};
 use crate::statuses::Status;
 use crate::text_solving::solve_input;
 use generated_goals::{
-    generated, generated_goals_are_unpinned, generated_goals_can_be_scheduled,
-    generated_goals_have_a_world, generated_inputs_are_well_formed,
+    generated, generated_goals_can_be_scheduled, generated_goals_have_a_world,
+    generated_inputs_are_well_formed,
 };
 use items::NoMemory;
 use std::alloc::Global;
@@ -86,7 +86,7 @@ fn report_scheduled(alloc: Global, size: u32, found: &Found) -> Result<Report, N
 /// other two results don't come.
 fn report_generated(alloc: Global, size: u32, answered: &Answered) -> Result<Report, NoMemory>
     requires few { size ≤ 20 }
-    requires right { Right Narrow (generated_input size) (generated_goal size) lines.generated_settings answered.now }
+    requires right { Right Pinned (generated_input size) (generated_goal size) lines.generated_settings answered.now }
     ensures { IfOk result (λ r. IsGeneratedLine size answered.now r.bytes.items r.status) }
 {
     generated_goals_have_a_world();
@@ -106,7 +106,6 @@ pub fn gen_text(alloc: Global, size: u32) -> Result<Report, NoMemory>
     ensures answered { IfOk result (λ report. AnswersGenerated size report.bytes.items report.status) }
 {
     generated_inputs_are_well_formed();
-    generated_goals_are_unpinned();
     let settings = generated_settings();
     let input = generated(alloc, size)?;
     let results = solve_input(alloc, &input, &settings)?;

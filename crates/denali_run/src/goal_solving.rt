@@ -1,13 +1,12 @@
 // The work on one goal: its graph, rounds of matching, and then cycles in rising order until they are enough.
 ghost use Rattle.std.specs.Prelude.{◌≡◌, ◌<◌, length, IfOk, Some, slice_get};
-ghost use Rattle.goal_meaning.specs.Unpinned.{AreUnpinned};
 ghost use Rattle.goal_meaning.specs.Views.{GoalTree, InputTree, input_view};
 ghost use Rattle.goal_meaning.specs.WellFormed.{IsInput};
 ghost use Rattle.saturation.specs.GoalTerms.{rules_of};
 ghost use Rattle.denali_run.specs.MatchedGoals.{IsSettings};
 ghost use Rattle.denali_run.specs.Right.{Right};
 ghost use Rattle.denali_run.specs.Trials.{IsNoWorldAtStart, IsNoWorldInRounds};
-ghost use Rattle.cycle_encoding.specs.declared.encodings.Encoding.TheVariants.{Narrow};
+ghost use Rattle.cycle_encoding.specs.declared.encodings.Encoding.TheVariants.{Pinned};
 
 use crate::results::{Answered, Matched};
 use crate::searching::search;
@@ -50,11 +49,10 @@ pub fn solve_goal<F: Rule>(
     picker: &Picker<F>,
 ) -> Result<Answered, NoMemory>
     requires input { IsInput (input_view input.now) }
-    requires unpinned { AreUnpinned (input_view input.now) }
     requires at { at < length input.now.goals }
     requires settings { IsSettings settings.now }
     ensures right { IfOk result (λ answered. (goal : GoalTree) → slice_get (input_view input.now).goals at ≡ Some goal
-        → Right Narrow (input_view input.now) goal settings.now answered) }
+        → Right Pinned (input_view input.now) goal settings.now answered) }
 {
     let rules = rules(alloc, input)?;
     solve_by_rules(alloc, input, &rules, at, settings, picker)
@@ -70,12 +68,11 @@ pub(crate) fn solve_by_rules<F: Rule>(
     picker: &Picker<F>,
 ) -> Result<Answered, NoMemory>
     requires input { IsInput (input_view input.now) }
-    requires unpinned { AreUnpinned (input_view input.now) }
     requires rules { rules.now.program ≡ rules_of (input_view input.now) }
     requires at { at < length input.now.goals }
     requires settings { IsSettings settings.now }
     ensures right { IfOk result (λ answered. (goal : GoalTree) → slice_get (input_view input.now).goals at ≡ Some goal
-        → Right Narrow (input_view input.now) goal settings.now answered) }
+        → Right Pinned (input_view input.now) goal settings.now answered) }
 {
     grown_graphs_are_one();
     axioms_make_rules_true();

@@ -8,11 +8,11 @@ ghost use Rattle.denali_run.specs.MatchedGoals.{IsSettings};
 ghost use Rattle.denali_run.specs.Right.{AreRightResults};
 ghost use Rattle.denali_run.specs.declared.results.Answered.{Answered as AnsweredOf};
 ghost use Rattle.cycle_encoding.specs.declared.encodings.Encoding.{Encoding as EncodingOf};
-ghost use Rattle.cycle_encoding.specs.declared.encodings.Encoding.TheVariants.{Narrow};
+ghost use Rattle.cycle_encoding.specs.declared.encodings.Encoding.TheVariants.{Pinned};
 ghost use Rattle.denali_run.specs.declared.settings.Settings.{Settings as SettingsOf};
 
 use alpha_encode::words_and_instructions;
-use answer_texts::{printed_answers_are_read, word_lines_can_be_lines};
+use answer_texts::{launches_have_own_lines, printed_answers_are_read, word_lines_can_be_lines};
 use launch_graph::{one_graph, printed_graphs_are_lines};
 use machine_table::tables_keep_limits;
 use refutation_check::printed_lines_are_read_back;
@@ -35,6 +35,7 @@ pub fn one_text_has_one_answer()
     one_splitting();
     printed_lines_are_lines();
     word_lines_can_be_lines();
+    launches_have_own_lines();
 }
 
 /// The text of right results of an input is read back as the answer that they make, if the first graph of each goal has
@@ -42,8 +43,8 @@ pub fn one_text_has_one_answer()
 pub fn right_answers_are_read()
     ensures { (s : SettingsOf) (input : InputTree) (results : List AnsweredOf)
         → IsInput input → IsSettings s → StartsWithinFormat input
-        → AreRightResults Narrow input s results
-        → ReadsAnswer (answer_text Narrow input results) (answer_to Narrow input results) }
+        → AreRightResults Pinned input s results
+        → ReadsAnswer (answer_text Pinned input results) (answer_to Pinned input results) }
 {
     printed_answers_are_read();
     tables_keep_limits();

@@ -19,9 +19,6 @@ pub struct Report {
 pub enum TextError {
     #[error("the text has a fault")]
     Read(Fault),
-    /// A target is pinned to a register.
-    #[error("pinned targets aren't solved yet")]
-    NotYet,
     #[error("out of memory")]
     Memory,
 }

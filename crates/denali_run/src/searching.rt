@@ -2,14 +2,13 @@
 ghost use Rattle.std.specs.Prelude.{◌≡◌, ◌≤◌, IfOk};
 ghost use Rattle.cycle_encoding.specs.Encodings.{IsScope};
 ghost use Rattle.goal_meaning.specs.Views.{GoalTree, InputTree};
-ghost use Rattle.graph_meaning.specs.Graphs.{HasNoPins};
 ghost use Rattle.graph_meaning.specs.WellFormed.{IsLaunchGraph};
 ghost use Rattle.machine_table.specs.Tables.{IsTable};
 ghost use Rattle.order_encoding.specs.WholeFormula.{formula_in};
 ghost use Rattle.denali_run.specs.MatchedGoals.{IsMatched, IsSettings};
 ghost use Rattle.denali_run.specs.Right.{Right};
 ghost use Rattle.denali_run.specs.Trials.{IsLargeBy, IsTrialsEnd, IsTrialsEndIn, IsTrial};
-ghost use Rattle.cycle_encoding.specs.declared.encodings.Encoding.TheVariants.{Narrow};
+ghost use Rattle.cycle_encoding.specs.declared.encodings.Encoding.TheVariants.{Pinned};
 
 use crate::results::{Answered, Found, Large, Matched, Missing, Tried};
 use crate::settings::Settings;
@@ -59,9 +58,8 @@ pub(crate) fn try_cycles<F: Rule>(
     requires cycles { k ≤ 24 }
     requires table { IsTable table.now }
     requires graph { IsLaunchGraph graph.now }
-    requires unpinned { HasNoPins graph.now }
     requires facts { facts.now ≡ graph.now }
-    requires scope { IsScope Narrow facts.now table.now scope.now }
+    requires scope { IsScope Pinned facts.now table.now scope.now }
     requires conflicts { (1 ≤ conflicts) × (conflicts ≤ 1000000) }
     ensures { IfOk result (IsTrial (formula_in scope.now facts.now table.now) graph.now table.now k conflicts) }
 {
@@ -120,11 +118,10 @@ fn reach<F: Rule>(
     requires table { IsTable table.now }
     requires settings { IsSettings settings.now }
     requires graph { IsLaunchGraph graph.now }
-    requires unpinned { HasNoPins graph.now }
-    ensures { IfOk result (IsTrialsEndIn Narrow graph.now table.now settings.now) }
+    ensures { IfOk result (IsTrialsEndIn Pinned graph.now table.now settings.now) }
 {
     let facts = Facts::new(alloc, graph)?;
-    let scope = Scope::of(alloc, Encoding::Narrow, &facts, table)?;
+    let scope = Scope::of(alloc, Encoding::Pinned, &facts, table)?;
     reach_in(alloc, graph, &facts, table, &scope, settings, picker)
 }
 
@@ -141,9 +138,8 @@ fn reach_in<F: Rule>(
     requires table { IsTable table.now }
     requires settings { IsSettings settings.now }
     requires graph { IsLaunchGraph graph.now }
-    requires unpinned { HasNoPins graph.now }
     requires facts { facts.now ≡ graph.now }
-    requires scope { IsScope Narrow facts.now table.now scope.now }
+    requires scope { IsScope Pinned facts.now table.now scope.now }
     ensures { IfOk result (IsTrialsEnd (formula_in scope.now facts.now table.now) graph.now table.now settings.now) }
 {
     let mut k = 0;
@@ -206,9 +202,8 @@ pub(crate) fn search<F: Rule>(
     requires table { IsTable table.now }
     requires settings { IsSettings settings.now }
     requires graph { IsLaunchGraph matched.graph }
-    requires unpinned { HasNoPins matched.graph }
     ensures { IfOk result (λ answered. (input : InputTree) (goal : GoalTree) → input.table ≡ table.now
-        → IsMatched input goal settings.now matched → Right Narrow input goal settings.now answered) }
+        → IsMatched input goal settings.now matched → Right Pinned input goal settings.now answered) }
 {
     let reached = reach(alloc, &matched.graph, table, settings, picker)?;
     match reached {

@@ -1,14 +1,13 @@
 // The work of `solve`, from the bytes of a text of goals to those of its answer.
-ghost use Rattle.std.specs.Prelude.{◌≡◌, ◌↔◌, ◌+◌, ◌<◌, ◌^◌, All, IfOk, IfErr, IsTrue, None, length};
+ghost use Rattle.std.specs.Prelude.{◌≡◌, ◌+◌, ◌<◌, ◌^◌, IfOk, IfErr, length};
 ghost use Rattle.pick_rule.specs.Busiest.{IsBusiest};
-ghost use Rattle.goal_meaning.specs.Unpinned.{AreUnpinned};
 ghost use Rattle.goal_meaning.specs.Views.{input_view};
 ghost use Rattle.goal_meaning.specs.WellFormed.{IsInput};
 ghost use Rattle.denali_run.specs.MatchedGoals.{IsSettings};
 ghost use Rattle.denali_run.specs.Right.{AreRightResults};
 ghost use Rattle.denali_run.specs.TextAnswers as texts;
 ghost use Rattle.denali_run.specs.TextAnswers.{Answers, TextErrorIs};
-ghost use Rattle.cycle_encoding.specs.declared.encodings.Encoding.TheVariants.{Narrow};
+ghost use Rattle.cycle_encoding.specs.declared.encodings.Encoding.TheVariants.{Pinned};
 
 use crate::claiming::answer_text;
 use crate::goal_solving::solve_by_rules;
@@ -16,9 +15,7 @@ use crate::laws::right_answers_are_read;
 use crate::reports::{Report, TextError};
 use crate::results::Answered;
 use crate::settings::{Pick, Settings};
-use goal_reader::{
-    Goal, Input, Set, read, read_inputs_are_well_formed, read_inputs_have_few_operators,
-};
+use goal_reader::{Input, read, read_inputs_are_well_formed, read_inputs_have_few_operators};
 use items::NoMemory;
 use pick_rule::{Picker, Rule, busiest_place, first_place, last_place};
 use saturation::rules;
@@ -33,9 +30,8 @@ fn solve_goals<F: Rule>(
     picker: &Picker<F>,
 ) -> Result<Vec<Answered>, NoMemory>
     requires input { IsInput (input_view input.now) }
-    requires unpinned { AreUnpinned (input_view input.now) }
     requires settings { IsSettings settings.now }
-    ensures right { IfOk result (λ results. AreRightResults Narrow (input_view input.now)
+    ensures right { IfOk result (λ results. AreRightResults Pinned (input_view input.now)
         settings.now results.items) }
 {
     let rules = rules(alloc, input)?;
@@ -54,10 +50,9 @@ fn solve_by<F: Rule + Drop>(
     rule: F,
 ) -> Result<Vec<Answered>, NoMemory>
     requires input { IsInput (input_view input.now) }
-    requires unpinned { AreUnpinned (input_view input.now) }
     requires settings { IsSettings settings.now }
     requires rule { F.answers_places rule }
-    ensures right { IfOk result (λ results. AreRightResults Narrow (input_view input.now)
+    ensures right { IfOk result (λ results. AreRightResults Pinned (input_view input.now)
         settings.now results.items) }
 {
     let picker = Picker::new(rule);
@@ -66,9 +61,8 @@ fn solve_by<F: Rule + Drop>(
 
 fn solve_first(alloc: Global, input: &Input, settings: &Settings) -> Result<Vec<Answered>, NoMemory>
     requires input { IsInput (input_view input.now) }
-    requires unpinned { AreUnpinned (input_view input.now) }
     requires settings { IsSettings settings.now }
-    ensures right { IfOk result (λ results. AreRightResults Narrow (input_view input.now)
+    ensures right { IfOk result (λ results. AreRightResults Pinned (input_view input.now)
         settings.now results.items) }
 {
     solve_by(
@@ -83,9 +77,8 @@ fn solve_first(alloc: Global, input: &Input, settings: &Settings) -> Result<Vec<
 
 fn solve_last(alloc: Global, input: &Input, settings: &Settings) -> Result<Vec<Answered>, NoMemory>
     requires input { IsInput (input_view input.now) }
-    requires unpinned { AreUnpinned (input_view input.now) }
     requires settings { IsSettings settings.now }
-    ensures right { IfOk result (λ results. AreRightResults Narrow (input_view input.now)
+    ensures right { IfOk result (λ results. AreRightResults Pinned (input_view input.now)
         settings.now results.items) }
 {
     solve_by(
@@ -105,9 +98,8 @@ fn solve_busiest(
     settings: &Settings,
 ) -> Result<Vec<Answered>, NoMemory>
     requires input { IsInput (input_view input.now) }
-    requires unpinned { AreUnpinned (input_view input.now) }
     requires settings { IsSettings settings.now }
-    ensures right { IfOk result (λ results. AreRightResults Narrow (input_view input.now)
+    ensures right { IfOk result (λ results. AreRightResults Pinned (input_view input.now)
         settings.now results.items) }
 {
     solve_by(
@@ -128,9 +120,8 @@ pub(crate) fn solve_input(
     settings: &Settings,
 ) -> Result<Vec<Answered>, NoMemory>
     requires input { IsInput (input_view input.now) }
-    requires unpinned { AreUnpinned (input_view input.now) }
     requires settings { IsSettings settings.now }
-    ensures right { IfOk result (λ results. AreRightResults Narrow (input_view input.now)
+    ensures right { IfOk result (λ results. AreRightResults Pinned (input_view input.now)
         settings.now results.items) }
 {
     match settings.pick {
@@ -140,21 +131,7 @@ pub(crate) fn solve_input(
     }
 }
 
-/// Whether none of these targets is pinned.
-fn have_no_pins(sets: &[Set]) -> bool
-    ensures { IsTrue result ↔ All (λ set. set.pin ≡ None) sets.now }
-{
-    sets.iter().all(|set| set.pin.is_none())
-}
-
-/// Whether no target of these goals is pinned.
-fn are_unpinned(goals: &[Goal]) -> bool
-    ensures { IsTrue result ↔ All (λ goal. All (λ set. set.pin ≡ None) goal.sets) goals.now }
-{
-    goals.iter().all(|goal| have_no_pins(goal.sets.as_slice()))
-}
-
-/// The answer to a text of goals: the result of each goal, in their order. A text with a pinned target isn't solved yet.
+/// The answer to a text of goals: the result of each goal, in their order.
 pub fn solve_text(alloc: Global, text: &[u8], settings: &Settings) -> Result<Report, TextError>
     requires few { length text.now < 2 ^ 29 }
     requires settings { IsSettings settings.now }
@@ -169,9 +146,6 @@ pub fn solve_text(alloc: Global, text: &[u8], settings: &Settings) -> Result<Rep
         Err(TextFault::Fault(fault)) => return Err(TextError::Read(fault)),
         Err(TextFault::Memory) => return Err(TextError::Memory),
     };
-    if !are_unpinned(input.goals.as_slice()) {
-        return Err(TextError::NotYet);
-    }
     let results = solve_input(alloc, &input, settings)?;
     Ok(answer_text(alloc, &input, &results)?)
 }

@@ -9,7 +9,8 @@ use Rattle.answer_texts.specs.declared.answers.Claimed.{Claimed}
 use Rattle.cnf_core.specs.Formula.{Formula}
 use Rattle.cnf_core.specs.Refutation.{IsEmptyOnlyLast, IsFirstRefusal, Refutes}
 use Rattle.cnf_core.specs.declared.line.Lines.{Lines}
-use Rattle.cycle_encoding.specs.CycleFormula.{Scope, listed_in}
+use Rattle.cycle_encoding.specs.CycleFormula.{Scope}
+use Rattle.cycle_encoding.specs.CycleFormula.{listed_in}
 use Rattle.cycle_encoding.specs.Encodings.{IsScope}
 use Rattle.cycle_encoding.specs.Faults.{EncodeFaultIs}
 use Rattle.cycle_encoding.specs.Plans.{IsTooLarge}
@@ -28,9 +29,9 @@ use Rattle.refute_trim.specs.declared.goals.Outcome.TheVariants.{Kept, Rejected}
 
 -- ---- what a claim keeps
 
-pub no_graph_no_lines : (e : Encoding) (table : Table) (c : Claimed) → IsClaimed c → c.graph ≡ None → AreTrimmedLines e table c None
-no_graph_no_lines e table c (no_world claim graph none) is = no_lines none
-no_graph_no_lines e table c (worked {g} others graph good unpinned fits lines) is = absurd (none-some g (sym is ∙ graph))
+pub no_graph_no_lines : (e : Encoding) (table : Table) (version : ℕ) (c : Claimed) → IsClaimed version c → c.graph ≡ None → AreTrimmedLines e table c None
+no_graph_no_lines e table version c (no_world claim graph none) is = no_lines none
+no_graph_no_lines e table version c (worked {g} others graph good unpinned fits lines) is = absurd (none-some g (sym is ∙ graph))
 
 few_of : {k : ℕ} {refute : Option Lines} (lines : Lines) → HasRefutation k refute → refute ≡ Some lines → length lines.lines < 2 ^ 29
 few_of lines nothing_less e = absurd (none-some lines e)
@@ -41,9 +42,9 @@ pub record IsWorked (c : Claimed) (g : LaunchGraph) : Type 0 where
   pub fits : FitsClaim c.claim
   pub few : (lines : Lines) → c.refute ≡ Some lines → length lines.lines < 2 ^ 29
 
-pub worked_goal : (c : Claimed) (g : LaunchGraph) → IsClaimed c → c.graph ≡ Some g → IsWorked c g
-worked_goal c g (no_world claim none lines) e = absurd (none-some g (sym none ∙ e))
-worked_goal c g (worked {g = this} others graph good unpinned fits lines) e = record {
+pub worked_goal : (version : ℕ) (c : Claimed) (g : LaunchGraph) → IsClaimed version c → c.graph ≡ Some g → IsWorked c g
+worked_goal version c g (no_world claim none lines) e = absurd (none-some g (sym none ∙ e))
+worked_goal version c g (worked {g = this} others graph good unpinned fits lines) e = record {
   graph = subst IsLaunchGraph (same_Some this g (sym graph ∙ e)) good;
   fits = fits;
   few = λ these refute. few_of these lines refute;

@@ -78,7 +78,8 @@ below_new : (k : ℕ) (refute : Option Lines) (lines new : Lines) → refute ≡
 below_new zero refute lines new is f below = absurd (none-some lines (sym below ∙ is))
 below_new (suc k) refute lines new is f below = f (subst (λ (o : Option Lines). IsSomeAnd o AreReadable) is below)
 
-printable_goal : {e : Encoding} {table : Table} {c : Claimed} {refute : Option Lines} → IsPrintableGoal table c → AreTrimmedLines e table c refute → IsPrintableGoal table (record c { refute = refute })
+printable_goal : {e : Encoding} {version : ℕ} {table : Table} {c : Claimed} {refute : Option Lines} → IsPrintableGoal version table c → AreTrimmedLines e table c refute
+    → IsPrintableGoal version table (record c { refute = refute })
 printable_goal (no_world name class a b) (no_lines none) = no_world name class a b
 printable_goal (no_world name class a b) (needed {lines} to within right t) = absurd (none-some lines to.refute)
 printable_goal (worked {claim} name good unpinned rows rounds claimed below) (no_lines none) =
@@ -87,15 +88,16 @@ printable_goal (worked {claim} {refute} name good unpinned rows rounds claimed b
     worked name good unpinned rows rounds claimed
     (below_new (refuted_below claim) refute lines new to.refute (readable f lines new right.accepted t) below)
 
-printable_goals : (e : Encoding) (table : Table) (cs ds : List Claimed) → AllZip (IsTrimmedGoal e table) cs ds → All (IsPrintableGoal table) cs → All (IsPrintableGoal table) ds
-printable_goals e table [] [] z all = all
-printable_goals e table [] (d ∷ ds) z all = absurd z
-printable_goals e table (c ∷ cs) [] z all = absurd z
-printable_goals e table (c ∷ cs) (d ∷ ds) z all =
+printable_goals : (e : Encoding) (version : ℕ) (table : Table) (cs ds : List Claimed) → AllZip (IsTrimmedGoal e table) cs ds → All (IsPrintableGoal version table) cs
+    → All (IsPrintableGoal version table) ds
+printable_goals e version table [] [] z all = all
+printable_goals e version table [] (d ∷ ds) z all = absurd z
+printable_goals e version table (c ∷ cs) [] z all = absurd z
+printable_goals e version table (c ∷ cs) (d ∷ ds) z all =
     let goal = z.0 in
-    All-cons (IsPrintableGoal table) d ds
-    (subst (IsPrintableGoal table) (sym goal.is) (printable_goal (All-head (IsPrintableGoal table) c cs all) goal.trimmed))
-    (printable_goals e table cs ds z.1 (All-tail (IsPrintableGoal table) c cs all))
+    All-cons (IsPrintableGoal version table) d ds
+    (subst (IsPrintableGoal version table) (sym goal.is) (printable_goal (All-head (IsPrintableGoal version table) c cs all) goal.trimmed))
+    (printable_goals e version table cs ds z.1 (All-tail (IsPrintableGoal version table) c cs all))
 
 as_many : (P : Claimed → Claimed → Type 0) (cs ds : List Claimed) → AllZip P cs ds → length cs ≡ length ds
 as_many P [] [] z = refl
@@ -112,13 +114,12 @@ printable_trimmed a new p t =
     let some = p.few.0 in
     let most = p.few.1 in
     subst IsPrintable (sym t.is) (record {
-      version = p.version;
       encoding = p.encoding;
       table = p.table;
       names = p.names;
       built_in = p.built_in;
       few = (omega (arith, many, some), omega (arith, many, most));
-      goals = printable_goals e a.table a.goals t.goals t.each p.goals;
+      goals = printable_goals e a.version a.table a.goals t.goals t.each p.goals;
     })
 
 module _ (read : (answer : AnswerText) → IsPrintable answer → ReadsAnswer (answer_bytes answer) answer) (printable : (text : List ℕ) (answer : AnswerText) → ReadsAnswer text answer → IsPrintable answer) where

@@ -22,7 +22,7 @@ left (no_lines none) = subst (λ o. IsTrimmedTo o None) (sym none) no_refutation
 left (needed {new} to within right t) = subst (λ o. IsTrimmedTo o (Some new)) (sym to.refute) (needed_lines t)
 
 abbrev front_of : Table → Claimed → List Words
-front_of table c = goal_words c.name ∷ (graph_part c.rounds c.stop c.graph ++ claim_part table c.claim)
+front_of table c = goal_words c.name ∷ (graph_part c.rounds c.stop c.graph ++ claim_part table c.graph c.claim)
 
 abbrev back_of : Claimed → List Words
 back_of c = lemmas_part c.claim ++ (end_words ∷ [])
@@ -40,7 +40,7 @@ parts_of table c refute = record {
 lines_with : (table : Table) (c : Claimed) (refute : Option Lines) → goal_lines table (record c { refute = refute }) ≡ front_of table c ++ (refute_part (refuted_cycles c.claim) refute ++ back_of c)
 lines_with table c refute =
     ap (λ (t : List Words). goal_words c.name ∷ t)
-    (sym (append_assoc (graph_part c.rounds c.stop c.graph) (claim_part table c.claim) (refute_part (refuted_cycles c.claim) refute ++ back_of c)))
+    (sym (append_assoc (graph_part c.rounds c.stop c.graph) (claim_part table c.graph c.claim) (refute_part (refuted_cycles c.claim) refute ++ back_of c)))
 
 record AreSplit (table : Table) (goals others : List Claimed) : Type 0 where
   parts : List GoalParts

@@ -14,7 +14,7 @@ use Rattle.cnf_core.specs.declared.line.Lines.{Lines}
 use Rattle.cycle_encoding.specs.Plans.{IsTooLarge, PassesLimit}
 use Rattle.cycle_encoding.specs.declared.encodings.Encoding.{Encoding}
 use Rattle.denali_run.specs.declared.reports.TextError.{TextError}
-use Rattle.denali_run.specs.declared.reports.TextError.TheVariants.{Read, NotYet, Memory}
+use Rattle.denali_run.specs.declared.reports.TextError.TheVariants.{Read, Memory}
 use Rattle.denali_run.specs.declared.statuses.Status.{Status}
 use Rattle.denali_run.specs.declared.statuses.Status.TheVariants.{Done, Missing}
 use Rattle.graph_meaning.specs.declared.graphs.LaunchGraph.{LaunchGraph}
@@ -80,5 +80,4 @@ pub record TrimsText (text bytes : List ℕ) (status : Status) : Type 0 where
 -- why an answer can't be trimmed
 abbrev pub TrimErrorIs : List ℕ → TextError → Type 0
 TrimErrorIs text (Read fault) = IsAnswerFault text fault.place fault.kind
-TrimErrorIs text NotYet = ⊥
 TrimErrorIs text Memory = Unit {0}

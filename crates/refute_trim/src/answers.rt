@@ -1,5 +1,5 @@
 // The refutations of an answer, trimmed.
-ghost use Rattle.std.specs.Prelude.{◌≡◌, ◌<◌, ◌^◌, ◌++◌, length, IfOk, IfErr, OnOk, MatchOption, option_copied};
+ghost use Rattle.std.specs.Prelude.{ℕ, ◌≡◌, ◌<◌, ◌^◌, ◌++◌, length, IfOk, IfErr, OnOk, MatchOption, option_copied};
 ghost use Rattle.answer_check.specs.Reports.{verdict_words};
 ghost use Rattle.answer_texts.specs.AnswerLines.{goal_lines};
 ghost use Rattle.answer_texts.specs.WellFormed.{IsAnswer, IsClaimed};
@@ -50,7 +50,7 @@ fn put_trimmed(
     goal: &Claimed,
 ) -> Result<Option<Verdict>, NoMemory>
     requires table { IsTable table.now }
-    requires goal { IsClaimed goal.now }
+    requires goal { (version : ℕ) × IsClaimed version goal.now }
     ensures { IfOk result (λ found. MatchOption found
         (IsPutTrimmed encoding table.now goal.now text.old.items text.new.items)
         (λ verdict. IsRejectedGoal encoding table.now goal.now verdict)) }

@@ -1,5 +1,5 @@
 // The refutation of one goal, trimmed.
-ghost use Rattle.std.specs.Prelude.{◌≡◌, ◌≤◌, ◌<◌, ◌^◌, length, IfOk, IfErr, Some};
+ghost use Rattle.std.specs.Prelude.{◌≡◌, ◌≤◌, ◌<◌, ◌^◌, ℕ, length, IfOk, IfErr, Some};
 ghost use Rattle.answer_texts.specs.AnswerLines as format;
 ghost use Rattle.answer_texts.specs.WellFormed.{FitsClaim, IsClaimed};
 ghost use Rattle.answer_texts.specs.declared.answers.Claimed.{Claimed as ClaimedOf};
@@ -123,7 +123,7 @@ pub(crate) fn trim_goal(
     goal: &Claimed,
 ) -> Result<Outcome, NoMemory>
     requires table { IsTable table.now }
-    requires goal { IsClaimed goal.now }
+    requires goal { (version : ℕ) × IsClaimed version goal.now }
     ensures { IfOk result (IsOutcomeFor encoding table.now goal.now) }
 {
     let Some(graph) = &goal.graph else {

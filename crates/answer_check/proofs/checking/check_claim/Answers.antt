@@ -1,8 +1,7 @@
-use Rattle.std.proofs.Common.{◌≡◌, ◌-◌, ◌<◌, ◌^◌, ℕ, List, length, Option, subst, sym}
+use Rattle.std.proofs.Common.{List, subst, sym}
 use Rattle.std.specs.Prelude.{IfSome}
 use Rattle.answer_texts.specs.AnswerLines.{refuted_below, refuted_cycles}
 use Rattle.cnf_core.specs.declared.line.Lines.{Lines}
-use Rattle.graph_meaning.specs.Graphs.{HasNoPins}
 use Rattle.graph_meaning.specs.WellFormed.{IsLaunchGraph}
 use Rattle.graph_meaning.specs.declared.graphs.LaunchGraph.{LaunchGraph}
 use Rattle.order_encoding.specs.WholeFormula.{formula_in}
@@ -16,12 +15,6 @@ wrong_size-requires-clause-graph c = subst IsLaunchGraph (sym c.requires.facts) 
 
 pub refused_below-requires-clause-graph : goal.refused_below-requires-clause-graph
 refused_below-requires-clause-graph c = subst IsLaunchGraph (sym c.requires.facts) c.requires.graph
-
-pub refused_below-requires-clause-unpinned : goal.refused_below-requires-clause-unpinned
-refused_below-requires-clause-unpinned c = subst HasNoPins (sym c.requires.facts) c.requires.unpinned
-
-pub refused_lemma-requires-clause-unpinned : goal.refused_lemma-requires-clause-unpinned
-refused_lemma-requires-clause-unpinned c = subst HasNoPins (sym c.requires.facts) c.requires.unpinned
 
 pub refused_lemma-requires-clause-graph : goal.refused_lemma-requires-clause-graph
 refused_lemma-requires-clause-graph c = subst IsLaunchGraph (sym c.requires.facts) c.requires.graph

@@ -2,7 +2,8 @@ use Rattle.answer_check.proofs.Claims.{own_scope, seen_where, sound_where, teste
 use Rattle.answer_check.proofs.checking.check_goal.Goals as goal
 
 pub returns-in-None-clause-verdict : goal.returns-in-None-clause-verdict
-returns-in-None-clause-verdict c = seen_where c.args.encoding c.args.table.now c.args.goal.now c.requires.goal c.in-None.is
+returns-in-None-clause-verdict c =
+    seen_where c.args.encoding c.args.table.now c.requires.goal.0 c.args.goal.now c.requires.goal.1 c.in-None.is
 
 pub check_claim-requires-clause-scope : goal.check_claim-requires-clause-scope
 check_claim-requires-clause-scope c =

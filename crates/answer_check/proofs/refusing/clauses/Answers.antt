@@ -1,4 +1,4 @@
-use Rattle.std.proofs.Common.{◌≡◌, subst, sym}
+use Rattle.std.proofs.Common.{subst, sym}
 use Rattle.cnf_core.specs.Formula.{Formula, Satisfies}
 use Rattle.cycle_encoding.specs.CycleFormula.{listed_in}
 use Rattle.answer_check.proofs.refusing.clauses.Goals as goal
@@ -10,5 +10,5 @@ returns-in-Ok-clause-each c = λ ls fit.
     let k = c.args.k in
     let s = c.args.scope.now in
     let v = c.each_encoding_says_fits.ensures.some s.encoding g table k (listed_in g table k s) ls c.requires.table
-    c.requires.graph c.requires.unpinned (c.requires.scope.lists k c.requires.cycles) fit in
+    c.requires.graph (c.requires.scope.lists k c.requires.cycles) fit in
     (v.3.0, subst (λ (f : Formula). Satisfies v.3.0 f.clauses) (sym c.in-Ok.ensures.formula) v.3.1)

@@ -11,10 +11,13 @@ pub check_goal-requires-clause-goal : goal.check_goal-requires-clause-goal
 check_goal-requires-clause-goal c =
     let at = c.loop-goal.goal-index in
     let item = c.goal-item.result in
-    subst IsClaimed
-    (sym (subst (λ (gs : List Claimed). item ≡ get_or gs at item) c.as_slice-goal-items.ensures c.goal-item.is))
-    (c.requires.goals at item
-    (subst (λ (gs : List Claimed). at < length gs) c.as_slice-goal-items.ensures c.loop-goal-test.true))
+    let version = c.args.answer.now.version in (
+      version,
+      subst (IsClaimed version)
+          (sym (subst (λ (gs : List Claimed). item ≡ get_or gs at item) c.as_slice-goal-items.ensures c.goal-item.is))
+          (c.requires.goals at item
+          (subst (λ (gs : List Claimed). at < length gs) c.as_slice-goal-items.ensures c.loop-goal-test.true)),
+    )
 
 pub loop-goal-preserved : goal.loop-goal-preserved
 loop-goal-preserved c =

@@ -13,7 +13,7 @@ returns-in_err-body-clause-fault c =
 
 pub read_end-requires : goal.read_end-requires
 read_end-requires c =
-    (has_body c.args.text.now c.args.table.now (c.args.from + 1) c.in_ok-body.middle c.in_ok-body.body
+    (has_body c.args.text.now c.args.version c.args.table.now (c.args.from + 1) c.in_ok-body.middle c.in_ok-body.body
     c.in_ok-body.ensures.ok).within
 
 pub returns-in_err-read_end-clause-fault : goal.returns-in_err-read_end-clause-fault

@@ -10,10 +10,11 @@ returns c =
       one_line = c.printed_lines_are_read_back.ensures.one;
       names = c.instructions_have_names.ensures.found;
       built_in = c.tables_keep_limits.ensures.built_in;
-      graphs = λ lines. record {
-        once = λ from next other g h a b. c.one_graph.ensures.graph lines from next other g h a b;
-        apart = λ from next place g kind a f. c.one_graph.ensures.apart lines from next place g kind a f;
-        first = c.one_graph.ensures.first lines;
+      graphs = λ version lines. record {
+        once = λ from next other g h a b. c.one_graph_of_each_version.ensures.graph version lines from next other g h a b;
+        apart = λ from next place g kind a f.
+            c.one_graph_of_each_version.ensures.apart version lines from next place g kind a f;
+        first = c.one_graph_of_each_version.ensures.first version lines;
       };
     } in
     record { answer = one_value laws; apart = no_fault laws; first = one_fault laws }

@@ -18,7 +18,7 @@ returns c =
     } in
     record {
       read = reads_printed c.printed_lines_are_lines.ensures.lines c.printed_lines_are_read_back.ensures.among
-          c.one_graph.ensures.printed laws;
+          c.one_graph.ensures.printed c.one_graph_of_each_version.ensures.printed laws;
       printable = λ text answer h.
           answer_back h.lines c.tables_keep_limits.ensures.built_in (length h.lines) answer h.says;
     }

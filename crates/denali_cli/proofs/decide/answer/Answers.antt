@@ -1,6 +1,6 @@
 use Rattle.std.proofs.Common.{subst}
 use Rattle.denali_cli.specs.Replies.{ErrorIs}
-use Rattle.denali_cli.proofs.Decided.{reply_not_yet, reply_of_fault, reports_other, reports_whole}
+use Rattle.denali_cli.proofs.Decided.{reply_of_fault, reports_other, reports_whole}
 use Rattle.denali_cli.proofs.decide.answer.Goals as goal
 
 pub returns-in-Ok-clause-whole : goal.returns-in-Ok-clause-whole
@@ -18,8 +18,3 @@ returns-in-Err-Read-clause-reply c =
     reply_of_fault c.args.command c.args.text.now c.faulty.result c.in-Err-Read.fault c.requires.within
     c.faulty.ensures.ok
     (subst (ErrorIs c.args.command c.args.text.now) c.in-Err-Read.field-0-is c.in-Err-Read.ensures.error)
-
-pub returns-in-Err-NotYet-clause-reply : goal.returns-in-Err-NotYet-clause-reply
-returns-in-Err-NotYet-clause-reply c =
-    reply_not_yet c.args.command c.args.text.now c.report.result c.requires.within c.report.ensures.ok
-    (subst (ErrorIs c.args.command c.args.text.now) c.in-Err-NotYet.field-0-is c.in-Err-NotYet.ensures.error)

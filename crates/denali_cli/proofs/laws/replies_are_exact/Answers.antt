@@ -1,12 +1,11 @@
 -- By the rows.
-use Rattle.denali_cli.proofs.Exact.{Laws, fault, reported, either, line_where_past, line_of_fault, line_not_yet, answers}
+use Rattle.denali_cli.proofs.Exact.{Laws, fault, reported, either, line_where_past, line_of_fault, answers}
 use Rattle.denali_cli.proofs.laws.replies_are_exact.Goals as goal
 
 pub returns : goal.returns
 returns c =
     let laws : Laws = record {
       goals_apart = c.texts_have_one_reading.ensures.apart;
-      goals_same = c.texts_have_one_reading.ensures.once;
       goals_once = c.texts_have_one_first_fault.ensures;
       answers_apart = c.one_answer.ensures.apart;
       answers_once = c.one_answer.ensures.first;
@@ -21,6 +20,5 @@ returns c =
       either = either laws;
       too_long = line_where_past laws;
       faulty = line_of_fault laws;
-      not_yet = line_not_yet laws;
       answered = answers laws;
     }

@@ -1,12 +1,6 @@
-use Rattle.std.proofs.Common.{subst, sym}
-use Rattle.goal_meaning.specs.Unpinned.{AreUnpinned}
 use Rattle.goal_meaning.specs.Views.{input_view}
 use Rattle.denali_run.proofs.GeneratedResults.{line_answers, one_right}
 use Rattle.denali_run.proofs.generated_solving.gen_text.Goals as goal
-
-pub solve_input-requires-clause-unpinned : goal.solve_input-requires-clause-unpinned
-solve_input-requires-clause-unpinned c =
-    subst AreUnpinned (sym c.in_ok-input.ensures) (c.generated_goals_are_unpinned.ensures c.args.size)
 
 pub returns : goal.returns
 returns c = record {

@@ -11,7 +11,6 @@ use Rattle.saturation.specs.GraphStands.{GraphStands}
 use Rattle.saturation.specs.Rounds.{IsHopeless, IsSaturated, KeepsStanding, SaturateFaultIs}
 use Rattle.denali_run.specs.declared.results.Matched.{Matched}
 use Rattle.saturation.specs.StandsFor.{StandsFor}
-use Rattle.denali_run.proofs.UnpinnedGraphs.{graph_unpinned}
 use Rattle.denali_run.proofs.WorkedGoals.{RulesAreTrue, few_rows, for_the_goal, found_of, grown_after, is_one, launched_few, matched_is, rounds_refused, start_refused, there}
 use Rattle.denali_run.proofs.goal_solving.solve_by_rules.Goals as goal
 
@@ -86,25 +85,6 @@ to_launch-requires g c =
           (c.in-Ok.ensures.grown (rules_of input)));
     }
 
-pub search-requires-clause-unpinned : goal.search-requires-clause-unpinned
-search-requires-clause-unpinned g c =
-    let input = input_view c.args.input.now in
-    let goals = c.args.input.now.goals in
-    let goal = c.index-as_slice-at.result in
-    let at_rules : (F : List Rewrite → Type 0) → F c.args.rules.now.program
-    → F (rules_of (input_view c.args.input.now)) = λ F h. subst F c.requires.rules h in
-    let stands_after : GraphStands (declared_name c.args.input.now.ops) (rules_of (input_view c.args.input.now))
-    (assumed_pairs (goal_view c.index-as_slice-at.result)) (kept_terms (goal_view c.index-as_slice-at.result))
-    c.in-Ok-saturate.saturated.graph =
-    at_rules (λ rs. KeepsStanding rs c.in-Ok.graph c.in-Ok-saturate.saturated.graph) c.in-Ok-saturate.ensures.stands
-    (declared_name c.args.input.now.ops) (assumed_pairs (goal_view goal)) (kept_terms (goal_view goal))
-    (c.in-Ok.ensures.stands (declared_name c.args.input.now.ops) (rules_of input)) in
-    graph_unpinned input (goal_view goal) c.in_ok-graph.graph
-    (c.launched_graphs_stand.ensures.stand input (goal_view goal) c.in-Ok-saturate.saturated.graph c.in_ok-graph.graph
-    c.requires.input c.in_ok-graph.ensures.launched stands_after)
-    (is_one goals c.as_slice.result.now c.args.at goal c.as_slice.ensures c.requires.at c.index-as_slice-at.is)
-    c.requires.unpinned
-
 pub returns : goal.returns
 returns g c =
     let input = input_view c.args.input.now in
@@ -139,9 +119,6 @@ returns g c =
           (matched_is input (goal_view goal) s rules_true c.in-Ok.graph (c.in-Ok.ensures.grown (rules_of input))
           (c.in-Ok.ensures.stands (declared_name c.args.input.now.ops) (rules_of input)) sat.graph m saturated
           c.in-Ok-saturate.ensures.rounds c.in_ok-graph.ensures.launched.well_formed
-          (graph_unpinned input (goal_view goal) c.in_ok-graph.graph stands_for
-          (is_one goals c.as_slice.result.now c.args.at goal c.as_slice.ensures c.requires.at c.index-as_slice-at.is)
-          c.requires.unpinned)
           stands_for
           (launched_few (length c.in-Ok.graph.rows) (most_rows_at_start (goal_view goal)) s.nodes sat.graph.rows
           c.in_ok-graph.graph.rows (row_in c.args.input.now.ops c.in_ok-graph.ensures.launched.class_in)

@@ -15,6 +15,7 @@ returns c = λ e s input results others is set right also same.
       graph_words = c.printed_graphs_are_lines.ensures.words;
       graphs = c.one_graph.ensures.alike;
       slots = c.tables_keep_limits.ensures.slot;
+      launches = c.launches_have_own_lines.ensures;
       accepted = c.printed_lines_are_read_back.ensures.accepted;
       one_line = c.printed_lines_are_read_back.ensures.one;
       refutation_lines = c.printed_lines_are_read_back.ensures.lines;

@@ -1,6 +1,6 @@
 use Rattle.std.proofs.Common.{◌<◌, ◌^◌, arith, subst, sym}
 use Rattle.std.specs.Prelude.{All}
-use Rattle.cycle_encoding.specs.declared.encodings.Encoding.TheVariants.{Narrow}
+use Rattle.cycle_encoding.specs.declared.encodings.Encoding.TheVariants.{Pinned}
 use Rattle.register_assign.specs.Outcomes.{AreWordsOf}
 use Rattle.denali_run.specs.Trials.{IsTrialsEndIn}
 use Rattle.denali_run.proofs.RisingCycles.{found_right, large_right, missing_right, spent_right}
@@ -8,19 +8,19 @@ use Rattle.denali_run.proofs.searching.search.Goals as goal
 
 pub assign-requires-clause-fits : goal.assign-requires-clause-fits
 assign-requires-clause-fits g c =
-    (subst (IsTrialsEndIn Narrow c.args.matched.graph c.args.table.now c.args.settings.now) c.in-Fitting.is
+    (subst (IsTrialsEndIn Pinned c.args.matched.graph c.args.table.now c.args.settings.now) c.in-Fitting.is
     c.in_ok-reached.ensures).holds.2
 
 pub assign-requires-clause-few : goal.assign-requires-clause-few
 assign-requires-clause-few g c =
-    (let low = (subst (IsTrialsEndIn Narrow c.args.matched.graph c.args.table.now c.args.settings.now) c.in-Fitting.is
+    (let low = (subst (IsTrialsEndIn Pinned c.args.matched.graph c.args.table.now c.args.settings.now) c.in-Fitting.is
     c.in_ok-reached.ensures).holds.0 in
     let most = c.requires.settings.cycles in
     omega (arith, low, most))
 
 pub returns-in_ok-words-in-Fitting : goal.returns-in_ok-words-in-Fitting
 returns-in_ok-words-in-Fitting g c = λ input goal is matched.
-    let by = subst (IsTrialsEndIn Narrow c.args.matched.graph c.args.table.now c.args.settings.now) c.in-Fitting.is
+    let by = subst (IsTrialsEndIn Pinned c.args.matched.graph c.args.table.now c.args.settings.now) c.in-Fitting.is
     c.in_ok-reached.ensures in
     found_right input goal c.args.settings.now c.args.table.now
     (record {
@@ -39,7 +39,7 @@ returns-in_ok-words-in-Fitting g c = λ input goal is matched.
 
 pub returns-in-Missing : goal.returns-in-Missing
 returns-in-Missing g c = λ input goal is matched.
-    let by = subst (IsTrialsEndIn Narrow c.args.matched.graph c.args.table.now c.args.settings.now) c.in-Missing.is
+    let by = subst (IsTrialsEndIn Pinned c.args.matched.graph c.args.table.now c.args.settings.now) c.in-Missing.is
     c.in_ok-reached.ensures in
     missing_right input goal c.args.settings.now c.args.table.now
     (record { matched = c.args.matched; k = c.in-Missing.k; refutation = c.in-Missing.refutation }) by.clauses_for is
@@ -47,7 +47,7 @@ returns-in-Missing g c = λ input goal is matched.
 
 pub returns-in-Spent : goal.returns-in-Spent
 returns-in-Spent g c = λ input goal is matched.
-    let by = subst (IsTrialsEndIn Narrow c.args.matched.graph c.args.table.now c.args.settings.now) c.in-Spent.is
+    let by = subst (IsTrialsEndIn Pinned c.args.matched.graph c.args.table.now c.args.settings.now) c.in-Spent.is
     c.in_ok-reached.ensures in
     spent_right input goal c.args.settings.now c.args.table.now
     (record {
@@ -60,7 +60,7 @@ returns-in-Spent g c = λ input goal is matched.
 
 pub returns-in-Large : goal.returns-in-Large
 returns-in-Large g c = λ input goal is matched.
-    let by = subst (IsTrialsEndIn Narrow c.args.matched.graph c.args.table.now c.args.settings.now) c.in-Large.is
+    let by = subst (IsTrialsEndIn Pinned c.args.matched.graph c.args.table.now c.args.settings.now) c.in-Large.is
     c.in_ok-reached.ensures in
     large_right input goal c.args.settings.now c.args.table.now
     (record {

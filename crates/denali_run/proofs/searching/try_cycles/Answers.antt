@@ -3,14 +3,13 @@ use Rattle.std.specs.Prelude.{IsPermutation}
 use Rattle.cnf_core.specs.Formula.{Formula, Satisfies, assigned}
 use Rattle.cnf_core.specs.Outcome.{IsSolved, IsRefuted as IsRefutedFormula}
 use Rattle.sat_core.specs.Verdicts.{IfSat, IfRefuted}
-use Rattle.graph_meaning.specs.Graphs.{HasNoPins}
 use Rattle.graph_meaning.specs.WellFormed.{IsLaunchGraph}
 use Rattle.graph_meaning.specs.declared.graphs.LaunchGraph.{LaunchGraph}
 use Rattle.schedule_meaning.specs.Fits.{Fits}
 use Rattle.cycle_encoding.specs.CycleFormula.{listed_in}
 use Rattle.cycle_encoding.specs.Plans.{Plan}
 use Rattle.cycle_encoding.specs.Shapes.{shown, numbered}
-use Rattle.cycle_encoding.specs.declared.encodings.Encoding.TheVariants.{Narrow}
+use Rattle.cycle_encoding.specs.declared.encodings.Encoding.TheVariants.{Pinned}
 use Rattle.order_encoding.specs.WholeFormula.{formula_in}
 use Rattle.denali_run.specs.Right.{IsTooFew}
 use Rattle.denali_run.proofs.RisingCycles.{all_large, refuted_of}
@@ -43,8 +42,8 @@ returns-in-Sat g c =
       c.in-Ok.ensures.within,
       subst (λ (x : LaunchGraph). Fits x table k c.in_ok-schedule-in-Sat.schedule.launches) c.requires.facts
           (c.fits_in_any_order.ensures graph table k _ _ here
-          (c.each_encoding_says_fits.ensures.shown Narrow graph table k l (assigned c.in-Sat.values) c.requires.table
-          (subst HasNoPins (sym c.requires.facts) c.requires.unpinned)
+          (c.each_encoding_says_fits.ensures.shown Pinned graph table k l (assigned c.in-Sat.values) c.requires.table
+          (subst IsLaunchGraph (sym c.requires.facts) c.requires.graph)
           (c.requires.scope.lists k c.requires.cycles)
           (subst (λ (f : Formula). Satisfies (assigned c.in-Sat.values) f.clauses) c.in-Ok.ensures.formula solved.satisfied))),
     )
@@ -64,7 +63,7 @@ returns-in-Refuted g c =
     c.in-Refuted.lines.lines refuted.few c.in-Ok.ensures.formula c.in-Ok.ensures.within refuted.refutes
     (c.refutations_leave_no_solution.ensures c.in-Ok.encoded.cnf c.in-Refuted.lines.lines refuted.refutes)
     (λ ls fit.
-    let v = c.each_encoding_says_fits.ensures.some Narrow graph table k l ls c.requires.table
+    let v = c.each_encoding_says_fits.ensures.some Pinned graph table k l ls c.requires.table
     (subst IsLaunchGraph (sym c.requires.facts) c.requires.graph)
-    (subst HasNoPins (sym c.requires.facts) c.requires.unpinned) (c.requires.scope.lists k c.requires.cycles) fit in
+    (c.requires.scope.lists k c.requires.cycles) fit in
     (v.3.0, subst (λ (f : Formula). Satisfies v.3.0 f.clauses) (sym c.in-Ok.ensures.formula) v.3.1)))

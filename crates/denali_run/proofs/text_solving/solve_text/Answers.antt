@@ -1,24 +1,21 @@
-use Rattle.std.proofs.Common.{◌≡◌, ◌∙◌, All, ap, length, List, map, subst, sym}
-use Rattle.std.proofs.lemmas.Bool.{false≢true}
+use Rattle.std.proofs.Common.{◌≡◌, ◌∙◌, ap, length, List, map, subst, sym}
 use Rattle.std.proofs.lemmas.List.{length-map}
 use Rattle.answer_texts.specs.ReadAnswers.{ReadsAnswer}
-use Rattle.goal_meaning.specs.Unpinned.{AreUnpinned}
 use Rattle.goal_meaning.specs.Views.{goal_view, input_view}
 use Rattle.goal_meaning.specs.WellFormed.{IsInput}
 use Rattle.denali_run.specs.ClaimedResults.{answer_text, answer_to}
 use Rattle.denali_run.specs.TextAnswers.{greatest_status}
 use Rattle.denali_run.specs.declared.results.Answered.{Answered}
 use Rattle.denali_run.specs.Right.{Right}
-use Rattle.cycle_encoding.specs.declared.encodings.Encoding.TheVariants.{Narrow}
+use Rattle.cycle_encoding.specs.declared.encodings.Encoding.TheVariants.{Pinned}
 use Rattle.denali_run.proofs.AnsweredGoals.{as_many}
 use Rattle.denali_run.proofs.SmallTexts.{starts_small}
-use Rattle.denali_run.proofs.UnpinnedGraphs.{HasPlainSets, plain_goals, unpinned_goals}
 use Rattle.denali_run.proofs.text_solving.solve_text.Goals as goal
 
 pub answer_text-requires : goal.answer_text-requires
 answer_text-requires c =
     subst (λ (rs : List Answered). length rs ≡ length c.in-Ok.input.goals) (sym c.deref.ensures.value)
-    (as_many (λ goal answered. Right Narrow (input_view c.in-Ok.input) goal c.args.settings.now answered)
+    (as_many (λ goal answered. Right Pinned (input_view c.in-Ok.input) goal c.args.settings.now answered)
     (map goal_view c.in-Ok.input.goals) c.in_ok-results.results.items c.in_ok-results.ensures.right
     ∙ length-map c.in-Ok.input.goals goal_view)
 
@@ -29,37 +26,20 @@ returns-clause-answered c =
     let results = c.in_ok-results.results.items in
     let is : IsInput (input_view c.in-Ok.input) =
     c.read_inputs_are_well_formed.ensures text input c.requires.few c.in-Ok.ensures.input in
-    let unpinned : AreUnpinned (input_view c.in-Ok.input) =
-    unpinned_goals c.in-Ok.input.goals
-    (subst (All HasPlainSets) c.as_slice.ensures (c.are_unpinned.ensures.0 c.if-not-are_unpinned.false)) in
     let bytes : c.in_ok-answer_text.field-0.bytes.items
-    ≡ answer_text Narrow (input_view c.in-Ok.input) c.in_ok-results.results.items =
+    ≡ answer_text Pinned (input_view c.in-Ok.input) c.in_ok-results.results.items =
     c.in_ok-answer_text.ensures.bytes
-    ∙ ap (answer_text Narrow (input_view c.in-Ok.input)) c.deref.ensures.value in
+    ∙ ap (answer_text Pinned (input_view c.in-Ok.input)) c.deref.ensures.value in
     record {
       input = input;
       reads = c.in-Ok.ensures.input;
-      unpinned = unpinned;
       results = results;
       right = c.in_ok-results.ensures.right;
       bytes_are = bytes;
       read_back = λ short.
-          subst (λ bytes. ReadsAnswer bytes (answer_to Narrow input results)) (sym bytes)
+          subst (λ bytes. ReadsAnswer bytes (answer_to Pinned input results)) (sym bytes)
           (c.right_answers_are_read.ensures c.args.settings.now input results is c.requires.settings
           (starts_small text input is (c.read_inputs_have_few_operators.ensures text input c.in-Ok.ensures.input) short)
           c.in_ok-results.ensures.right);
       status_is = c.in_ok-answer_text.ensures.status ∙ ap greatest_status c.deref.ensures.value;
     }
-
-pub solve_input-requires-clause-unpinned : goal.solve_input-requires-clause-unpinned
-solve_input-requires-clause-unpinned c =
-    unpinned_goals c.in-Ok.input.goals
-    (subst (All HasPlainSets) c.as_slice.ensures (c.are_unpinned.ensures.0 c.if-not-are_unpinned.false))
-
-pub returns-then-not-are_unpinned-clause-error : goal.returns-then-not-are_unpinned-clause-error
-returns-then-not-are_unpinned-clause-error c = (
-  input_view c.in-Ok.input,
-  c.in-Ok.ensures.input,
-  λ unpinned. false≢true (sym c.if-not-are_unpinned.true
-      ∙ c.are_unpinned.ensures.1 (subst (All HasPlainSets) (sym c.as_slice.ensures) (plain_goals c.in-Ok.input.goals unpinned))),
-)

@@ -15,10 +15,13 @@ pub put_trimmed-requires-clause-goal : goal.put_trimmed-requires-clause-goal
 put_trimmed-requires-clause-goal c =
     let at = c.loop-goal.goal-index in
     let item = c.goal-item.result in
-    subst IsClaimed
-    (sym (subst (λ (gs : List Claimed). item ≡ get_or gs at item) c.as_slice-goal-items.ensures c.goal-item.is))
-    (c.requires.goals at item
-    (subst (λ (gs : List Claimed). at < length gs) c.as_slice-goal-items.ensures c.loop-goal-test.true))
+    let version = c.args.answer.now.version in (
+      version,
+      subst (IsClaimed version)
+          (sym (subst (λ (gs : List Claimed). item ≡ get_or gs at item) c.as_slice-goal-items.ensures c.goal-item.is))
+          (c.requires.goals at item
+          (subst (λ (gs : List Claimed). at < length gs) c.as_slice-goal-items.ensures c.loop-goal-test.true)),
+    )
 
 pub loop-goal-init : goal.loop-goal-init
 loop-goal-init c =
