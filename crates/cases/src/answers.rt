@@ -23,8 +23,6 @@ fn reported(alloc: Global, report: Result<Report, TextError>) -> Result<Vec<u8>,
             Ok(bytes)
         }
         Err(TextError::Read(fault)) => fault_line(alloc, fault),
-        // Only texts of goals are answered so.
-        Err(TextError::NotYet) => Err(Trouble::Unread),
         Err(TextError::Memory) => Err(Trouble::Memory),
     }
 }

@@ -40,8 +40,6 @@ pub(crate) fn programs(alloc: Global, input: &[u8]) -> Result<Vec<u8>, Trouble>
     match run_text(alloc, input) {
         Ok(report) => Ok(report.bytes),
         Err(TextError::Read(fault)) => fault_line(alloc, fault),
-        // Only texts of goals are answered so.
-        Err(TextError::NotYet) => Err(Trouble::Unread),
         Err(TextError::Memory) => Err(Trouble::Memory),
     }
 }

@@ -12,7 +12,7 @@ use cycle_encoding::{EncodeFault, Encoded, Encoding, encode, encode_as};
 use graph_meaning::LaunchGraph;
 use items::Items;
 use machine_table::Table;
-use order_encoding::{add_guard, add_memory, add_pool, full, full_as};
+use order_encoding::{add_guard, add_memory, add_pins, add_pool, full, full_as};
 use register_assign::{Listing, assign, words_of};
 use schedule_meaning::{Broken, Launch, Schedule, To};
 use std::alloc::Global;
@@ -195,6 +195,7 @@ fn sum_of(cnf: &Cnf) -> u64 {
 /// The whole formula, part by part.
 fn by_parts(
     alloc: Global,
+    encoding: Encoding,
     graph: &LaunchGraph,
     table: &Table,
     k: u32,
@@ -203,10 +204,11 @@ fn by_parts(
     requires graph { IsLaunchGraph graph.now }
     requires table { IsTable table.now }
 {
-    let cycles = encode(alloc, graph, table, k)?;
+    let cycles = encode_as(alloc, encoding, graph, table, k)?;
     let memory = add_memory(alloc, cycles, graph, table)?;
     let guard = add_guard(alloc, memory, graph, table)?;
-    add_pool(alloc, guard, graph, table)
+    let pool = add_pool(alloc, guard, graph, table)?;
+    add_pins(alloc, pool, graph, table)
 }
 
 /// A line of a formula's variables, its clauses and its sum.
@@ -226,30 +228,62 @@ fn put_formula(report: &mut Vec<u8>, formula: Result<Encoded, EncodeFault>) -> R
     }
 }
 
-/// Input: a machine form, which may be left out, a graph's lines, and a line `cycles K`. Answers with the first
-/// families alone, all of them at once, and all of them part by part.
-pub(crate) fn formulas(alloc: Global, input: &[u8]) -> Result<Vec<u8>, Trouble> {
+/// The table, the graph and the number of cycles of a machine form, which may be left out, a graph's lines, and a line
+/// `cycles K`.
+fn asked(alloc: Global, input: &[u8]) -> Result<(LaunchGraph, Table, u32), Trouble>
+    ensures graph { IfOk result (λ asked. IsLaunchGraph asked.0) }
+    ensures table { IfOk result (λ asked. IsTable asked.1) }
+    ensures cycles { IfOk result (λ asked. asked.2 ≤ 24) }
+{
     let (table, rest) = table_in(alloc, input)?;
     let (graph, rest) = split_before(rest, b"cycles ");
     let graph = graph_in(alloc, graph)?;
     let (cycles, _) = cycles_in(rest)?;
+    Ok((graph, table, cycles))
+}
+
+/// Input: a machine form, which may be left out, a graph's lines, and a line `cycles K`. Answers with the first
+/// families alone, all of them at once, and all of them part by part.
+pub(crate) fn formulas(alloc: Global, input: &[u8]) -> Result<Vec<u8>, Trouble> {
+    let (graph, table, cycles) = asked(alloc, input)?;
     let mut report = Vec::new(alloc);
     put_formula(&mut report, encode(alloc, &graph, &table, cycles))?;
     put_formula(&mut report, full(alloc, &graph, &table, cycles))?;
-    put_formula(&mut report, by_parts(alloc, &graph, &table, cycles))?;
+    let parts = by_parts(alloc, Encoding::Wide, &graph, &table, cycles);
+    put_formula(&mut report, parts)?;
+    Ok(report)
+}
+
+/// The first families of an encoding, and all of them.
+fn formulas_as(
+    alloc: Global,
+    encoding: Encoding,
+    graph: &LaunchGraph,
+    table: &Table,
+    k: u32,
+) -> Result<Vec<u8>, Trouble>
+    requires cycles { k ≤ 24 }
+    requires graph { IsLaunchGraph graph.now }
+    requires table { IsTable table.now }
+{
+    let mut report = Vec::new(alloc);
+    put_formula(&mut report, encode_as(alloc, encoding, graph, table, k))?;
+    put_formula(&mut report, full_as(alloc, encoding, graph, table, k))?;
     Ok(report)
 }
 
 /// Input as for `formulas`. Answers with the first families of the narrow encoding, and with all of them.
 pub(crate) fn narrow_formulas(alloc: Global, input: &[u8]) -> Result<Vec<u8>, Trouble> {
-    let (table, rest) = table_in(alloc, input)?;
-    let (graph, rest) = split_before(rest, b"cycles ");
-    let graph = graph_in(alloc, graph)?;
-    let (cycles, _) = cycles_in(rest)?;
-    let mut report = Vec::new(alloc);
-    let first = encode_as(alloc, Encoding::Narrow, &graph, &table, cycles);
-    put_formula(&mut report, first)?;
-    let whole = full_as(alloc, Encoding::Narrow, &graph, &table, cycles);
-    put_formula(&mut report, whole)?;
+    let (graph, table, cycles) = asked(alloc, input)?;
+    formulas_as(alloc, Encoding::Narrow, &graph, &table, cycles)
+}
+
+/// Input as for `formulas`. Answers with the first families of the encoding with pins, all of them at once, and all of
+/// them part by part.
+pub(crate) fn pinned_formulas(alloc: Global, input: &[u8]) -> Result<Vec<u8>, Trouble> {
+    let (graph, table, cycles) = asked(alloc, input)?;
+    let mut report = formulas_as(alloc, Encoding::Pinned, &graph, &table, cycles)?;
+    let parts = by_parts(alloc, Encoding::Pinned, &graph, &table, cycles);
+    put_formula(&mut report, parts)?;
     Ok(report)
 }

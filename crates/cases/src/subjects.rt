@@ -32,6 +32,7 @@ pub(crate) enum Subject {
     Listings,
     Formulas,
     NarrowFormulas,
+    PinnedFormulas,
     Counters,
     LineTexts,
     Refutations,
@@ -50,7 +51,7 @@ pub(crate) enum Subject {
 }
 
 /// The name of each subject.
-const NAMES: [(&str, Subject); 38] = [
+const NAMES: [(&str, Subject); 39] = [
     ("decimals", Subject::Decimals),
     ("tokens", Subject::Tokens),
     ("trees", Subject::Trees),
@@ -74,6 +75,7 @@ const NAMES: [(&str, Subject); 38] = [
     ("listings", Subject::Listings),
     ("formulas", Subject::Formulas),
     ("narrow-formulas", Subject::NarrowFormulas),
+    ("pinned-formulas", Subject::PinnedFormulas),
     ("counters", Subject::Counters),
     ("line-texts", Subject::LineTexts),
     ("refutations", Subject::Refutations),
@@ -135,6 +137,7 @@ pub(crate) fn answer(alloc: Global, subject: Subject, input: &[u8]) -> Result<Ve
         Subject::Listings => schedules::listings(alloc, input),
         Subject::Formulas => schedules::formulas(alloc, input),
         Subject::NarrowFormulas => schedules::narrow_formulas(alloc, input),
+        Subject::PinnedFormulas => schedules::pinned_formulas(alloc, input),
         Subject::Counters => clauses::counters(alloc, input),
         Subject::LineTexts => clauses::line_texts(alloc, input),
         Subject::Refutations => clauses::refutations(alloc, input),
