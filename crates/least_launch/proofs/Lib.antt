@@ -1,0 +1,6 @@
+mod Built
+mod Counted
+mod CountsOf
+mod Launched
+mod Searched
+mod Within

@@ -1,0 +1,12 @@
+use Rattle.std.proofs.Common.{◌≤◌, length}
+use Rattle.schedule_meaning.specs.Fits.{Fits}
+use Rattle.least_launch.proofs.searching.lessen.Given as goal
+
+abbrev pub invariant-loop-alloc : goal.invariant-loop-alloc
+invariant-loop-alloc g l = record {
+  fits : Fits l.facts l.table l.k l.schedule.launches;
+  no_more : length l.schedule.launches ≤ length l.fn.given.launches;
+}
+
+abbrev pub decreases-loop-alloc : goal.decreases-loop-alloc
+decreases-loop-alloc g l = length l.schedule.launches

@@ -1,0 +1,3 @@
+pub mod FewerLaunches
+pub mod Fewest
+pub mod Steps

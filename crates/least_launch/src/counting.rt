@@ -1,0 +1,105 @@
+// The counts of the clauses of schedules with few launches, found before any clause is built.
+ghost use Rattle.std.specs.Prelude.{◌≡◌, ◌*◌, ◌≤◌, ◌<◌, ◌^◌, length, IfOk};
+ghost use Rattle.std.specs.List.{sum_by};
+ghost use Rattle.cnf_core.specs.Counter as counter;
+ghost use Rattle.cycle_encoding.specs.Counts as counts;
+ghost use Rattle.cycle_encoding.specs.CycleFormula as formula;
+ghost use Rattle.graph_meaning.specs.WellFormed.{IsLaunchGraph};
+ghost use Rattle.machine_table.specs.Tables.{IsTable};
+ghost use Rattle.least_launch.specs.FewerLaunches.{fewer_in};
+
+use cnf_core::counters_count;
+use cycle_encoding::{Facts, Scope, Sizes, destination_count, row_count};
+use items::NoMemory;
+use machine_table::Table;
+use order_encoding::count_in;
+use std::alloc::{AllocError, Global};
+
+/// How many variables a counter up to `n` takes.
+fn counter_vars(n: u32, literals: u64) -> u64
+    requires low { n ≤ 192 }
+    requires few { literals < 2 ^ 45 }
+    ensures value { result ≡ counter.at_most_vars n literals }
+    ensures small { result < 2 ^ 53 }
+{
+    if literals <= u64::from(n) {
+        0
+    } else {
+        (literals - 1) * u64::from(n)
+    }
+}
+
+/// How many clauses a counter up to `n` has.
+fn counter_size(n: u32, literals: u64) -> u64
+    requires low { n ≤ 192 }
+    requires few { literals < 2 ^ 45 }
+    ensures value { result ≡ counter.at_most_size n literals }
+    ensures small { result < 2 ^ 55 }
+{
+    if literals <= u64::from(n) {
+        return 0;
+    }
+    if n == 0 {
+        return literals;
+    }
+    let width = u64::from(n);
+    let last = literals - 1;
+    last + (last - 1) * width + (last - 1) * (width - 1) + last
+}
+
+/// How many launches of a row have variables, by where they go.
+fn row_launches(facts: &Facts, table: &Table, scope: &Scope, k: u32, row: u32) -> u64
+    requires table { IsTable table.now }
+    requires cycles { k ≤ 24 }
+    ensures value { result ≡ counts.row_count facts.now table.now k scope.now row
+        * sum_by (λ to. 1) (counts.row_destinations facts.now row) }
+    ensures few { result ≤ 6400 }
+{
+    row_count(facts, table, scope, k, row) * destination_count(facts, row)
+}
+
+/// How many launches have variables.
+fn launch_count(facts: &Facts, table: &Table, scope: &Scope, k: u32) -> u64
+    requires table { IsTable table.now }
+    requires cycles { k ≤ 24 }
+    requires graph { IsLaunchGraph facts.now }
+    ensures value { result ≡ length (formula.listed_in facts.now table.now k scope.now).launches }
+    ensures few { result < 2 ^ 45 }
+{
+    let mut count = 0;
+    for row in 0..facts.row_numbers() {
+        count += row_launches(facts, table, scope, k, row);
+    }
+    count
+}
+
+/// The two counts of the clauses of schedules with at most `n` launches, over what a scope gives variables; no clause is
+/// built. It goes over the graph's rows a few times for each cycle. Counts that 64 bits don't hold are those of a graph
+/// that no memory holds.
+pub(crate) fn count_fewer(
+    alloc: Global,
+    facts: &Facts,
+    table: &Table,
+    scope: &Scope,
+    k: u32,
+    n: u32,
+) -> Result<Sizes, NoMemory>
+    requires cycles { k ≤ 24 }
+    requires launches { n ≤ 192 }
+    requires table { IsTable table.now }
+    requires graph { IsLaunchGraph facts.now }
+    ensures vars { IfOk result (λ sizes. sizes.vars ≡ (fewer_in scope.now facts.now table.now k n).vars) }
+    ensures clauses { IfOk result (λ sizes. sizes.clauses
+        ≡ length (fewer_in scope.now facts.now table.now k n).clauses) }
+{
+    counters_count();
+    let sizes = count_in(alloc, facts, table, scope, k)?;
+    let launches = launch_count(facts, table, scope, k);
+    let Some(vars) = sizes.vars.checked_add(counter_vars(n, launches)) else {
+        return Err(AllocError);
+    };
+    let Some(clauses) = sizes.clauses.checked_add(counter_size(n, launches)) else {
+        return Err(AllocError);
+    };
+    Ok(Sizes { vars, clauses })
+}
