@@ -1,9 +1,12 @@
 // Rounds of matching over goals, and goals that are made from a number.
-ghost use Rattle.std.specs.Prelude.{◌<◌, ◌≤◌, ◌^◌, length};
+ghost use Rattle.std.specs.Prelude.{◌<◌, ◌≤◌, ◌^◌, Contains, length};
+ghost use Rattle.goal_meaning.specs.Views.{goal_view, input_view};
+ghost use Rattle.goal_meaning.specs.WellFormed.{IsInput};
 
 use crate::reading::{Words, split_line};
 use crate::reports::{Trouble, faulty, put, put_number, put_numbers};
-use goal_reader::{Input, read, read_inputs_are_well_formed};
+use goal_reader::{Goal, Input, read, read_inputs_are_well_formed};
+use graph_meaning::LaunchGraph;
 use items::NoMemory;
 use launch_graph::print;
 use saturation::{
@@ -108,22 +111,29 @@ pub(crate) fn rounds(alloc: Global, input: &[u8]) -> Result<Vec<u8>, Trouble> {
     told(alloc, grown(alloc, text, rounds, nodes))
 }
 
+/// The graph of a goal after no round.
+fn first_graph(alloc: Global, input: &Input, goal: &Goal) -> Result<LaunchGraph, Refused>
+    requires input { IsInput (input_view input.now) }
+    requires goal { Contains (input_view input.now).goals (goal_view goal.now) }
+{
+    grown_graphs_can_be_launched();
+    let program = rules(alloc, input)?;
+    let graph = start(alloc, goal)?;
+    let grown = saturate(alloc, graph, &program, 0, 512)?;
+    Ok(to_launch(alloc, &grown, goal, input)?)
+}
+
 /// The lines of the first goal's graph after no round.
 fn launch(alloc: Global, text: &[u8]) -> Result<Vec<u8>, Refused>
     requires text { length text.now < 2 ^ 29 }
 {
     read_inputs_are_well_formed();
-    grown_graphs_can_be_launched();
     let input = read(alloc, text)?;
-    let program = rules(alloc, &input)?;
     let Some(goal) = input.goals.as_slice().first() else {
         return Err(Refused::Memory);
     };
-    let graph = start(alloc, goal)?;
-    let grown = saturate(alloc, graph, &program, 0, 512)?;
-    let launched = to_launch(alloc, &grown, goal, &input)?;
-    let lines = print(alloc, &launched)?;
-    Ok(lines)
+    let launched = first_graph(alloc, &input, goal)?;
+    Ok(print(alloc, &launched)?)
 }
 
 /// The lines of the graph of a text's first goal after no round.
