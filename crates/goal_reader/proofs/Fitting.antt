@@ -107,14 +107,14 @@ digits_words : (bs : List ℕ) → AllDigits 10 bs → list_all is_word_byte bs 
 digits_words [] h = refl
 digits_words (b ∷ bs) h = ap₂ (λ x y. x && y) (digit_word b h.0) (digits_words bs h.1)
 
-register_fits : (n r : ℕ) → r < 31 → Fits n (register_plain r)
+pub register_fits : (n r : ℕ) → r < 31 → Fits n (register_plain r)
 register_fits n r low = (register_text (digits_words (decimal r) (decimal_is_IsNumeral r (omega (arith, low))).0.1), omega arith)
 
 registers_fit : (n : ℕ) (rs : List ℕ) → All (λ r. r < 31) rs → FitAll n (map register_plain rs)
 registers_fit n [] low = fit_none n
 registers_fit n (r ∷ rs) low = fit_more n (register_plain r) (map register_plain rs) (register_fits n r (All-head (λ x. x < 31) r rs low)) (registers_fit n rs (All-tail (λ x. x < 31) r rs low))
 
-pool_fits : (n : ℕ) (rs : List ℕ) → All (λ r. r < 31) rs → Fits (1 + n) (pool_plain rs)
+pub pool_fits : (n : ℕ) (rs : List ℕ) → All (λ r. r < 31) rs → Fits (1 + n) (pool_plain rs)
 pool_fits n rs low = listed_fits n (codes "pool") (map register_plain rs) (record { begins = refl; each = refl }) (registers_fit n rs low)
 
 pin_fits : (n : ℕ) (ps : List Form) (o : Option ℕ) → WritesPin ps o → FitAll n (pin_plains o)

@@ -142,7 +142,7 @@ module _ (declared : List DeclaredOp) (goal : GoalTree) where
     operator_is = λ bytes op e. of_operator declared (IsOfGoal declared goal.inputs) (λ w t. t) tt tt (λ index arity is. is) bytes op e;
   }
 
-  term_keeps : {sort : Sort} {f : Form} {t : Tree Op} → Writes scope_of sort f t → CanPrint (plain_of f) → IsGoalTerm declared goal sort t
+  pub term_keeps : {sort : Sort} {f : Form} {t : Tree Op} → Writes scope_of sort f t → CanPrint (plain_of f) → IsGoalTerm declared goal sort t
   term_keeps w p = record { sorted = is_sorted scope_of [] goal_variables w p; operators = each_operator scope_of (IsOfGoal declared goal.inputs) goal_means w }
 
   assume_keeps : (f : Form) (a : TwoTrees) → WritesAssume scope_of f a → Fits 63 (plain_of f) → IsAssume declared goal a

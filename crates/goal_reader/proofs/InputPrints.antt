@@ -44,12 +44,12 @@ ev6_named =
 module _ (tables : (table : Table) → IsTable table → All HasName table.slots
     → (trees : SexpTrees) × TextHasTrees (table_text table) trees × (plains_of (forms_of (table_text table) trees) ≡ more (table_plain table) none))
     (prints : (text : List ℕ) (all : SexpTrees) → TextHasTrees text all → CanPrintAll (plains_of (forms_of text all)) × (most_levels (plains_of (forms_of text all)) ≤ 64)) where
-  table_fits : (table : Table) → IsTable table → All HasName table.slots → FitAll 64 (table_plain table ∷ [])
+  pub table_fits : (table : Table) → IsTable table → All HasName table.slots → FitAll 64 (table_plain table ∷ [])
   table_fits table is named =
       let read = tables table is named in
       subst (λ ps. CanPrintAll ps × (most_levels ps ≤ 64)) read.2 (prints (table_text table) read.0 read.1)
 
-  machine_fits : (fs : List Form) (t : Table) (b : Bool) → WritesMachine fs t b → FitAll 64 (map plain_of fs) → FitAll 64 (if b then [] else table_plain t ∷ []) × All HasName t.slots
+  pub machine_fits : (fs : List Form) (t : Table) (b : Bool) → WritesMachine fs t b → FitAll 64 (map plain_of fs) → FitAll 64 (if b then [] else table_plain t ∷ []) × All HasName t.slots
   machine_fits _ _ _ built_in all = (fit_none 64, ev6_named)
   machine_fits _ _ _ (own {form = f} {table = t} w) all =
       let parts = parts_fit 63 (codes "machine") (w.slots_form ∷ w.cross_form ∷ w.ops_forms) f w.is (fit_head 64 (plain_of f) [] all) in

@@ -137,7 +137,7 @@ register_free before form clear =
     let known = register_known_by before form (register_in form) refl clear in
     (known.0, known.1, register_fresh before form known.0 known.1 clear, below form known.0 known.1)
 
-pool_free : (before : List ℕ) (form : Form) → rank goal_keywords form ≡ Some 1 → IsClear (a_list (roles.pool before)) form → AreDifferent before → AreDifferent (before ++ registers_in (parts_of form))
+pub pool_free : (before : List ℕ) (form : Form) → rank goal_keywords form ≡ Some 1 → IsClear (a_list (roles.pool before)) form → AreDifferent before → AreDifferent (before ++ registers_in (parts_of form))
 pool_free before form e clear d =
     let k = keyworded 1 form e in
     let whole = list k.place (more (atom k.head (name (codes "pool"))) k.rest) in

@@ -1,47 +1,48 @@
-mod Names
+pub mod Names
 mod Trees
-mod Owns
-mod Heads
+pub mod Owns
+pub mod Heads
 mod Atoms
 mod Apart
 mod Operands
-mod Fixed
-mod NewNames
+pub mod Fixed
+pub mod NewNames
 mod Ranks
 mod OneTerm
 mod PoolSteps
 mod Sorts
 mod Admitting
-mod GoalSteps
-mod ItemForms
+pub mod GoalSteps
+pub mod ItemForms
 mod TargetForms
-mod WrittenItems
+pub mod WrittenItems
 mod TextFirst
 mod Arities
 mod LeftSides
-mod Different
-mod Keeping
+pub mod Different
+pub mod Keeping
 mod Finish
 mod Growing
 mod VariableSteps
 mod AxiomForms
 mod TextForms
 mod TextSteps
-mod TextEnd
+pub mod TextEnd
 mod Grouped
-mod ReadParts
-mod Walks
-mod GoalClear
+pub mod ReadParts
+pub mod Walks
+pub mod GoalClear
 mod AxiomClear
 mod TextRead
-mod Printed
-mod Moved
-mod PrintedNames
-mod PrintedForms
-mod PrintedTexts
-mod FormsPrint
-mod Fitting
-mod InputPrints
+pub mod Printed
+pub mod Moved
+pub mod PrintedNames
+pub mod PrintedForms
+pub mod PrintedTexts
+pub mod FormsPrint
+pub mod Fitting
+pub mod InputPrints
 mod WellSorted
-mod WrittenSizes
+pub mod WrittenSizes
 mod InputKeeps
+mod TermTexts

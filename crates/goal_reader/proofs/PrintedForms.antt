@@ -61,7 +61,7 @@ number_again r small =
           ap number_of_register shown ∙ number_of_two (r / 10) (r % 10) (omega arith) (omega arith) (omega arith) (omega (arith, whole, small)) ∙ ap Some whole)
     ]
 
-register_form : (g : Form) (r : ℕ) → r < 31 → plain_of g ≡ register_plain r → IsRegister r g
+pub register_form : (g : Form) (r : ℕ) → r < 31 → plain_of g ≡ register_plain r → IsRegister r g
 register_form (forms.atom p a) r l e = let same : a ≡ register (36 ∷ decimal r) = cc in record { place = p; bytes = 36 ∷ decimal r; is = ap (forms.atom p) same; number = number_again r l }
 register_form (forms.list p ps) r l e = cc
 
@@ -94,14 +94,14 @@ inputs_again gs (i ∷ is) rest low e =
     subst (λ fs. Each WritesInput fs (i ∷ is)) (sym m.2)
     (more_of (input_again m.0 i (all_head (λ r. r < 31) i.reg (input_registers is ++ rest) low) m.3) (inputs_again m.1 is rest (all_tail (λ r. r < 31) i.reg (input_registers is ++ rest) low) m.4))
 
-registers_again : (gs : List Form) (rs : List ℕ) → All (λ r. r < 31) rs → map plain_of gs ≡ map register_plain rs → Each (λ f r. IsRegister r f) gs rs
+pub registers_again : (gs : List Form) (rs : List ℕ) → All (λ r. r < 31) rs → map plain_of gs ≡ map register_plain rs → Each (λ f r. IsRegister r f) gs rs
 registers_again gs [] low e = subst (λ fs. Each (λ f r. IsRegister r f) fs []) (sym (no_more_form gs e)) grammar.none
 registers_again gs (r ∷ rs) low e =
     let m = one_more_form gs (register_plain r) (map register_plain rs) e in
     subst (λ fs. Each (λ f r. IsRegister r f) fs (r ∷ rs)) (sym m.2)
     (more_of (register_form m.0 r (all_head (λ r. r < 31) r rs low) m.3) (registers_again m.1 rs (all_tail (λ r. r < 31) r rs low) m.4))
 
-all_behind : (xs ys : List ℕ) → All (λ r. r < 31) (xs ++ ys) → All (λ r. r < 31) ys
+pub all_behind : (xs ys : List ℕ) → All (λ r. r < 31) (xs ++ ys) → All (λ r. r < 31) ys
 all_behind [] ys h = h
 all_behind (x ∷ xs) ys h = all_behind xs ys (all_tail (λ r. r < 31) x (xs ++ ys) h)
 

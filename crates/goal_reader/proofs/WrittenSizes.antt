@@ -30,7 +30,7 @@ abbrev mutual
 
 -- ---- signs and bytes
 mutual
-  signs_within : (low high : ℕ) (f : Form) → Stands low high f → low + signs f ≤ high
+  pub signs_within : (low high : ℕ) (f : Form) → Stands low high f → low + signs f ≤ high
   signs_within low high (atom place a) s = let a = s.0 in let b = s.1 in omega (arith, a, b)
   signs_within low high (list place parts) s = let a = s.0 in let b = all_within (place + 1) high parts s.1 in omega (arith, a, b)
 
@@ -71,7 +71,7 @@ each_few W size step _ _ (more_of {form = f} {forms = fs} {y = y} {ys = ys} one 
 
 module _ (scope : Scope) where
   mutual
-    few_operators : {sort : Sort} {f : Form} {t : Tree Op} → Writes scope sort f t → 5 * operators_in t ≤ 4 * signs f + 1
+    pub few_operators : {sort : Sort} {f : Form} {t : Tree Op} → Writes scope sort f t → 5 * operators_in t ≤ 4 * signs f + 1
     few_operators (memory l) = omega arith
     few_operators (input l) = omega arith
     few_operators (variable l) = omega arith

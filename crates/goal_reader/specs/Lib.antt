@@ -9,3 +9,4 @@ pub mod Drafts
 pub mod TextFaults
 pub mod TextDrafts
 pub mod Printing
+pub mod GoalTerms

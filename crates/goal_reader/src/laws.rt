@@ -1,14 +1,26 @@
 // What holds of all texts of goals. The calls do nothing: their clauses are laws.
-ghost use Rattle.std.specs.Prelude.{◌≡◌, ◌<◌, ◌≤◌, ◌*◌, ◌^◌, ℕ, List, Some, false, slice_get, length};
+ghost use Rattle.std.specs.Prelude.{◌≡◌, ◌≢◌, ◌<◌, ◌≤◌, ◌+◌, ◌*◌, ◌^◌, ℕ, List, [], AllPairs, Option, Some, false, slice_get, length};
 ghost use Rattle.std.specs.List.{list_any};
-ghost use Rattle.forms.specs.Forms.{Form, forms_of, forms_list};
+ghost use Rattle.forms.specs.Forms.{Form, Stands, forms_of, forms_list};
+ghost use Rattle.forms.specs.Printing.{plain_of};
 ghost use Rattle.goal_reader.specs.Grammar.{IsFirstTextFault, Reads};
+ghost use Rattle.goal_meaning.specs.InputForms.{naming, term_plain};
 ghost use Rattle.goal_meaning.specs.Names.{IsNamedInput};
 ghost use Rattle.goal_reader.specs.Printing.{input_text};
-ghost use Rattle.goal_reader.specs.Roles.{IsTextFault, is_of_rank, text_keywords};
+ghost use Rattle.goal_reader.specs.GoalTerms.{AreInputs, IsReadTerm, IsTextOfTerm, term_scope, term_text};
+ghost use Rattle.goal_reader.specs.Roles.{IsFaultAs, IsTextFault, WritesTerm, is_of_rank, term, text_keywords};
+ghost use Rattle.goal_reader.specs.Terms.{Writes};
+ghost use Rattle.goal_reader.specs.declared.scopes.Scope.{Scope};
+ghost use Rattle.goal_meaning.specs.declared.goals.InputReg.{InputReg};
+ghost use Rattle.word_ops.specs.declared.sorts.Op.{Op};
+ghost use Rattle.word_ops.specs.declared.sorts.Sort.{Sort};
+ghost use Rattle.word_terms.specs.Keys.{op_signature};
+ghost use Rattle.word_terms.specs.OperatorsIn.{EachOperator, operators_in};
+ghost use Rattle.word_terms.specs.Sorting.{HasSort};
+ghost use Rattle.word_terms.specs.Tree.{Tree};
 ghost use Rattle.goal_reader.specs.TextFaults.{IsFormFault, role_at, AreClear};
 ghost use Rattle.goal_meaning.specs.Views.{InputTree};
-ghost use Rattle.goal_meaning.specs.WellFormed.{IsInput, operators_of_input};
+ghost use Rattle.goal_meaning.specs.WellFormed.{IsInput, IsOfGoal, input_registers, operators_of_input};
 ghost use Rattle.text_core.specs.Faults.{IsFirst};
 ghost use Rattle.text_core.specs.Places.{ArePlaced};
 ghost use Rattle.text_core.specs.Trees.{SexpTrees};
@@ -79,4 +91,38 @@ pub fn read_inputs_are_well_formed()
     tables_keep_limits();
     printed_tables_are_read();
     read_inputs_have_few_operators();
+}
+
+/// A form writes at most one term, and a form that writes one has no fault.
+pub fn terms_have_one_reading()
+    ensures once { (scope : Scope) (wanted : Option Sort) (form : Form) (t u : Tree Op)
+        → WritesTerm scope wanted form t → WritesTerm scope wanted form u → t ≡ u }
+    ensures clear { (scope : Scope) (wanted : Option Sort) (form : Form) (t : Tree Op) (place : ℕ) (kind : Kind)
+        → WritesTerm scope wanted form t → IsFaultAs (term scope wanted) form place kind → ⊥ }
+{}
+
+/// A term that was read over inputs has its sort and no operators but the built-in ones and these inputs. Its form is
+/// that of its canonical text, and takes five bytes at least for each four operators.
+pub fn read_terms_are_well_sorted()
+    ensures sorted { (inputs : List InputReg) (sort : Sort) (t : Tree Op) → IsReadTerm inputs sort t
+        → HasSort op_signature [] sort t }
+    ensures operators { (inputs : List InputReg) (sort : Sort) (t : Tree Op) → IsReadTerm inputs sort t
+        → EachOperator (IsOfGoal [] inputs) t }
+    ensures printed { (inputs : List InputReg) (sort : Sort) (form : Form) (t : Tree Op)
+        → AllPairs (λ a b. a ≢ b) (input_registers inputs) → Writes (term_scope inputs) sort form t
+        → plain_of form ≡ term_plain (naming [] inputs []) t }
+    ensures few { (inputs : List InputReg) (sort : Sort) (form : Form) (t : Tree Op) (low high : ℕ)
+        → Writes (term_scope inputs) sort form t → Stands low high form
+        → 4 * low + 5 * operators_in t ≤ 4 * high + 1 }
+{
+    one_lexing();
+}
+
+/// The canonical text of a term that was read over inputs has that term alone.
+pub fn printed_terms_are_read()
+    ensures { (inputs : List InputReg) (sort : Sort) (t : Tree Op) → AreInputs inputs → IsReadTerm inputs sort t
+        → IsTextOfTerm (term_text inputs t) inputs sort t }
+{
+    one_lexing();
+    printed_lines_are_read();
 }

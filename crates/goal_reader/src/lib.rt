@@ -2,14 +2,17 @@
 //!
 //! A text is read in passes: its bytes, its parentheses, and then its forms, each in the role that its keyword and the
 //! forms before it give. A machine form is read by `machine_table`. `term`, `axiom` and `goal` read one form each.
-//! `print` gives the canonical text of an input, which is read as that input again. `goal_meaning` says what inputs and
-//! goals mean; its types and laws are exported again here.
+//! `print` gives the canonical text of an input, which is read as that input again. `read_term` and `print_term` do so for
+//! a term by itself. `goal_meaning` says what inputs and goals mean; its types and laws are exported again here.
+//!
+//! The readers and printers of single parts, as `own_name`, `pool` and `put_term`, are for crates whose texts have them too.
 #![tactic(auto)]
 
 mod assumes;
 mod axioms;
 mod declarations;
 mod drafts;
+mod goal_terms;
 mod guards;
 mod inputs;
 mod keywords;
@@ -30,14 +33,17 @@ pub use goal_meaning::{
     Assume, Axiom, DeclaredOp, Goal, Input, InputReg, Set, axioms_hold_for_all_goals,
     goals_have_outcomes,
 };
-pub use inputs::register_number;
+pub use goal_terms::{print_term, read_term};
+pub use inputs::{fresh_register, own_name, register_number};
 pub use keywords::head;
 pub use laws::{
-    printed_inputs_are_read, read_inputs_are_well_formed, read_inputs_have_few_operators,
+    printed_inputs_are_read, printed_terms_are_read, read_inputs_are_well_formed,
+    read_inputs_have_few_operators, read_terms_are_well_sorted, terms_have_one_reading,
     texts_have_one_first_fault, texts_have_one_reading, the_first_form_decides,
 };
-pub use printing::print;
-pub use reading::read;
+pub use pools::pool;
+pub use printing::{print, put_pool, put_register, put_term};
+pub use reading::{read, table_or_built_in};
 pub use scopes::{Leaf, Named, Scope};
 pub use terms::term;
-pub use whole::goal;
+pub use whole::{goal, pool_or_default};

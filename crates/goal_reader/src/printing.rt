@@ -96,7 +96,8 @@ fn put_variable(text: &mut Vec<u8>, variables: &[Name], at: u32) -> Result<(), N
     Ok(())
 }
 
-fn put_term(
+/// A term, where declared operators, inputs and variables have these names.
+pub fn put_term(
     text: &mut Vec<u8>,
     term: &Term<Op>,
     declared: &[DeclaredOp],
@@ -124,7 +125,8 @@ fn put_term(
     }
 }
 
-fn put_register(text: &mut Vec<u8>, register: u8) -> Result<(), NoMemory>
+/// A register with its dollar sign.
+pub fn put_register(text: &mut Vec<u8>, register: u8) -> Result<(), NoMemory>
     ensures { OnOk result (text.new.items ≡ text.old.items ++ plain_text (register_plain register)) }
 {
     text.extend_from_slice(b"$")?;
@@ -166,7 +168,8 @@ fn put_registers(text: &mut Vec<u8>, pool: &[u8]) -> Result<(), NoMemory>
     Ok(())
 }
 
-fn put_pool(text: &mut Vec<u8>, pool: &[u8]) -> Result<(), NoMemory>
+/// `( pool {REGISTER} )`.
+pub fn put_pool(text: &mut Vec<u8>, pool: &[u8]) -> Result<(), NoMemory>
     ensures { OnOk result (text.new.items ≡ text.old.items ++ plain_text (pool_plain pool.now)) }
 {
     text.extend_from_slice(b"(pool")?;

@@ -46,7 +46,7 @@ fn read_forms(alloc: Global, forms: &[Sexp], text: &[u8]) -> Result<TextDraft, T
 }
 
 /// The table that was read and `false`, or else the table `ev6` and `true`.
-fn table_or_built_in(alloc: Global, table: Option<Table>) -> Result<(Table, bool), NoMemory>
+pub fn table_or_built_in(alloc: Global, table: Option<Table>) -> Result<(Table, bool), NoMemory>
     ensures table { IfOk result (λ kept. kept.0 ≡ unwrap_or table built_in) }
     ensures builtin { IfOk result (λ kept. kept.1 ≡ is_none table) }
 {

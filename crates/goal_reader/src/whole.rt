@@ -178,7 +178,7 @@ fn default_pool(alloc: Global, inputs: &[InputReg], targets: &[Set]) -> Result<I
 }
 
 /// The pool that was read, or else the default one.
-fn pool_or_default(
+pub fn pool_or_default(
     alloc: Global,
     pool: Option<Items<u8>>,
     inputs: &[InputReg],
