@@ -29,3 +29,4 @@ pub use laws::{
 pub use lent::{ClaimRef, ClaimedRef};
 pub use printing::{print_answer, put_goal, put_head};
 pub use reading::read_answer;
+pub use schedule_printing::put_codes;

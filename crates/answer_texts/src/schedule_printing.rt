@@ -109,8 +109,9 @@ fn put_code(alloc: Global, text: &mut Vec<u8>, word: u32) -> Result<(), NoMemory
     put(text, b"\n")
 }
 
+/// Appends the lines of words, each its number and the text of the instruction that it is.
 #[tactic(auto, using(crate::proofs::PrintPieces::line_more))]
-pub(crate) fn put_codes(alloc: Global, text: &mut Vec<u8>, words: &[u32]) -> Result<(), NoMemory>
+pub fn put_codes(alloc: Global, text: &mut Vec<u8>, words: &[u32]) -> Result<(), NoMemory>
     ensures { OnOk result (text.new.items ≡ text.old.items ++ lines_text (map format.word_words words.now)) }
 {
     for word in words {

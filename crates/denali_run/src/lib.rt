@@ -28,4 +28,4 @@ pub use settings::{Pick, Settings};
 pub use statuses::Status;
 pub use text_checking::check_text;
 pub use text_running::run_text;
-pub use text_solving::solve_text;
+pub use text_solving::{solve_input, solve_text};

@@ -114,7 +114,7 @@ fn solve_busiest(
 }
 
 /// Each goal's result, in the goals' order, where the settings say how decisions are picked.
-pub(crate) fn solve_input(
+pub fn solve_input(
     alloc: Global,
     input: &Input,
     settings: &Settings,

@@ -13,7 +13,7 @@ mod wording;
 mod worked;
 
 pub use assigning::assign;
-pub use laws::words_may_move;
+pub use laws::{listings_have_words, words_may_move};
 pub use listings::{Item, Listing, Where};
 pub use worded::words_of;
 pub use worked::worked_listing;
