@@ -14,7 +14,7 @@ use Rattle.machine_table.specs.declared.tables.Table.{Table}
 use Rattle.order_encoding.specs.WholeFormula.{whole_formula}
 use Rattle.schedule_meaning.specs.Fits.{Collide}
 use Rattle.schedule_meaning.specs.declared.schedules.Launch.{Launch}
-use Rattle.least_launch.specs.FewerLaunches.{fewer_formula, lits_of}
+use Rattle.least_launch.specs.FewerLaunches.{fewer_formula, launch_literals}
 use Rattle.least_launch.proofs.Within.{within}
 
 -- one launch is in one slot and cycle
@@ -36,32 +36,38 @@ module _ (exact : AreExact) (g : LaunchGraph) (table : Table) (k n : ℕ) (l : L
   pub launches_first : 0 + length l.launches ≤ before.vars
   launches_first = omega arith
 
-  pub lits_over : All (IsLitOf before.vars) (lits_of l.launches)
+  pub lits_over : All (IsLitOf before.vars) (launch_literals l.launches)
   lits_over = vars-over any 0 before.vars l.launches launches_first
 
   -- as many literals are true as launches are shown
-  true_are : (v : ℕ → Bool) → count_true v (lits_of l.launches) ≡ length (shown v xs)
+  true_are : (v : ℕ → Bool) → count_true v (launch_literals l.launches) ≡ length (shown v xs)
   true_are v = count_of v any xs ∙ count-any (shown v xs)
 
   pub few_shown : (v : ℕ → Bool) → Satisfies v (fewer_formula g table k l n).clauses → length (shown v xs) ≤ n
   few_shown v h =
-      let say = (exact before.vars n (lits_of l.launches) lits_over).0 v in
-      let few = say.0 (v, extends-refl before.vars v, right v before.clauses (at_most_clauses before.vars n (lits_of l.launches)) h) in
+      let say = (exact before.vars n (launch_literals l.launches) lits_over).0 v in
+      let few = say.0 (
+        v,
+        extends-refl before.vars v,
+        right v before.clauses
+            (at_most_clauses before.vars n (launch_literals l.launches)) h,
+      ) in
       let same = true_are v in
       omega (arith, few, same)
 
   pub before_holds : (v : ℕ → Bool) → Satisfies v (fewer_formula g table k l n).clauses → Satisfies v before.clauses
-  before_holds v h = left v before.clauses (at_most_clauses before.vars n (lits_of l.launches)) h
+  before_holds v h = left v before.clauses (at_most_clauses before.vars n (launch_literals l.launches)) h
 
   -- values that show few launches and satisfy the clauses before the counter go on to such as satisfy all
-  pub counted : AreOver before.vars before.clauses → (v : ℕ → Bool) → Satisfies v before.clauses → length (shown v xs) ≤ n
+  pub counted : AreOver before.vars before.clauses → (v : ℕ → Bool) → Satisfies v before.clauses
+      → length (shown v xs) ≤ n
       → (w : ℕ → Bool) × Satisfies w (fewer_formula g table k l n).clauses × (shown w xs ≡ shown v xs)
   counted over v h few =
-      let say = (exact before.vars n (lits_of l.launches) lits_over).0 v in
+      let say = (exact before.vars n (launch_literals l.launches) lits_over).0 v in
       let same = true_are v in
       let w = say.1 (omega (arith, few, same)) in (
         w.0,
-        both w.0 before.clauses (at_most_clauses before.vars n (lits_of l.launches))
+        both w.0 before.clauses (at_most_clauses before.vars n (launch_literals l.launches))
             (stays before.vars v w.0 before.clauses w.1 over h) w.2,
         shown-extends v w.0 0 before.vars l.launches launches_first w.1,
       )

@@ -15,7 +15,7 @@ use Rattle.graph_meaning.specs.declared.graphs.LaunchGraph.{LaunchGraph}
 use Rattle.machine_table.specs.declared.tables.Table.{Table}
 use Rattle.schedule_meaning.specs.declared.schedules.Launch.{Launch}
 use Rattle.schedule_meaning.specs.declared.schedules.To.{To}
-use Rattle.least_launch.specs.FewerLaunches.{lits_of, with_at_most}
+use Rattle.least_launch.specs.FewerLaunches.{launch_literals, with_at_most}
 use Rattle.least_launch.proofs.Launched.{count_is}
 
 module _ (g : LaunchGraph) (table : Table) (k : ℕ) (s : Scope) where
@@ -25,7 +25,8 @@ module _ (g : LaunchGraph) (table : Table) (k : ℕ) (s : Scope) where
 
   pub row_is : (row count destinations : ℕ) → count ≡ row_count g table k s row
       → destinations ≡ length (row_destinations g row) → count * destinations ≡ row_size row
-  row_is row count destinations c d = ap (λ n. count * n) (d ∙ sym (sum_ones g row)) ∙ ap (λ n. n * sum_by (λ (to : To). 1) (row_destinations g row)) c
+  row_is row count destinations c d =
+      ap (λ n. count * n) (d ∙ sym (sum_ones g row)) ∙ ap (λ n. n * sum_by (λ (to : To). 1) (row_destinations g row)) c
 
   -- over all rows
   pub rows_are : (n : ℕ) → n ≡ length g.rows + 1 + length g.sets → sum_by row_size (range_with_len 0 n)
@@ -39,7 +40,7 @@ told_sum P (Some m) n sum is h = (let e : m ≡ n = cc in sym e ∙ h.1)
 
 -- with a counter over as many literals as there are launches
 pub vars_with : (n count a b total : ℕ) (launches : List Launch) (f : Formula) → a ≡ f.vars → count ≡ length launches
-    → b ≡ at_most_vars n count → total ≡ a + b → total ≡ (with_at_most n (lits_of launches) f).vars
+    → b ≡ at_most_vars n count → total ≡ a + b → total ≡ (with_at_most n (launch_literals launches) f).vars
 vars_with n count a b total launches f ea ec eb et =
     et ∙ ap (λ m. m + b) ea ∙ ap (λ m. f.vars + m) (eb ∙ ap (at_most_vars n) (ec ∙ sym (count_is launches)))
 
@@ -48,8 +49,9 @@ SizesAre = (old p : ℕ) (lits : List Lit) → length (at_most_clauses old p lit
 
 pub clauses_with : SizesAre → (n count a b total : ℕ) (launches : List Launch) (f : Formula) → a ≡ length f.clauses
     → count ≡ length launches → b ≡ at_most_size n count → total ≡ a + b
-    → total ≡ length (with_at_most n (lits_of launches) f).clauses
+    → total ≡ length (with_at_most n (launch_literals launches) f).clauses
 clauses_with size n count a b total launches f ea ec eb et =
     et ∙ ap (λ m. m + b) ea
-    ∙ ap (λ m. length f.clauses + m) (eb ∙ ap (at_most_size n) (ec ∙ sym (count_is launches)) ∙ sym (size f.vars n (lits_of launches)))
-    ∙ sym (length-append f.clauses (at_most_clauses f.vars n (lits_of launches)))
+    ∙ ap (λ m. length f.clauses + m)
+    (eb ∙ ap (at_most_size n) (ec ∙ sym (count_is launches)) ∙ sym (size f.vars n (launch_literals launches)))
+    ∙ sym (length-append f.clauses (at_most_clauses f.vars n (launch_literals launches)))

@@ -24,13 +24,14 @@ use Rattle.schedule_meaning.specs.Fits.{Fits}
 use Rattle.schedule_meaning.specs.declared.schedules.Launch.{Launch}
 use Rattle.least_launch.specs.FewerLaunches.{IsFewerOf, fewer_in}
 use Rattle.least_launch.specs.Fewest.{IsProof, NoneHasFewer, OfOneFewer}
-use Rattle.least_launch.specs.Steps.{IsLargeBy, IsStep}
+use Rattle.least_launch.specs.Steps.{IsLargeStep, IsStep}
 use Rattle.least_launch.specs.declared.results.Proof.{Proof}
 use Rattle.least_launch.specs.declared.results.Proof.TheVariants as proofs
 use Rattle.least_launch.specs.declared.searching.Step.{Step}
 use Rattle.least_launch.specs.declared.searching.Step.TheVariants as steps
 
-module _ (g : LaunchGraph) (table : Table) (k n conflicts : ℕ) (s : Scope) (scope : IsScope Pinned g table s) (few : k ≤ 24) where
+module _ (g : LaunchGraph) (table : Table) (k n conflicts : ℕ) (s : Scope) (scope : IsScope Pinned g table s)
+    (few : k ≤ 24) where
   -- the clauses over what the scope gives variables are those for one launch fewer than n + 1
   abbrev clauses_for : Formula
   clauses_for = fewer_in s g table k n
@@ -44,29 +45,35 @@ module _ (g : LaunchGraph) (table : Table) (k n conflicts : ℕ) (s : Scope) (sc
     holds = holds;
   }
 
-  pub large_step : (fault : EncodeFault) (step : Step) → EncodeFaultIs (fewer_in s g table k n) fault → IsLargeBy fault step
+  pub large_step : (fault : EncodeFault) (step : Step) → EncodeFaultIs (fewer_in s g table k n) fault
+      → IsLargeStep fault step
       → IsStep g table k conflicts n step
   large_step (encode.Size v c) (steps.Ended (proofs.Size vars clauses)) is by =
-      of_one_fewer (λ f. PassesLimit f vars clauses × IsWord vars × IsWord clauses) ((is.0, by.0 ∙ is.1, by.1 ∙ is.2), by.2, by.3)
+      of_one_fewer (λ f. PassesLimit f vars clauses × IsWord vars × IsWord clauses)
+      ((is.0, by.0 ∙ is.1, by.1 ∙ is.2), by.2, by.3)
   large_step (encode.Size v c) (steps.Ended proofs.None) is by = absurd by
   large_step (encode.Size v c) (steps.Ended (proofs.Refuted lines)) is by = absurd by
   large_step (encode.Size v c) (steps.Ended (proofs.Spent lines)) is by = absurd by
   large_step (encode.Size v c) (steps.Fewer schedule) is by = absurd by
   large_step encode.Memory step is by = absurd by
 
-  pub large_steps : {E : Type 0} (fault : EncodeFault) (r : Result Step E) → EncodeFaultIs (fewer_in s g table k n) fault
-      → IfOk r (IsLargeBy fault) → IfOk r (IsStep g table k conflicts n)
+  pub large_steps : {E : Type 0} (fault : EncodeFault) (r : Result Step E)
+      → EncodeFaultIs (fewer_in s g table k n) fault
+      → IfOk r (IsLargeStep fault) → IfOk r (IsStep g table k conflicts n)
   large_steps fault (Ok step) is by = large_step fault step is by
   large_steps fault (Err e) is by = tt
 
   -- no schedule with at most n launches fits where the clauses have no solution
   pub none_fewer : (f : Formula) → f ≡ fewer_in s g table k n → HaveNoSolution f.clauses
-      → ((ls : List Launch) → Fits g table k ls → length ls ≤ n → (v : ℕ → Bool) × Satisfies v (fewer_in s g table k n).clauses)
+      → ((ls : List Launch) → Fits g table k ls → length ls ≤ n
+      → (v : ℕ → Bool) × Satisfies v (fewer_in s g table k n).clauses)
       → NoneHasFewer g table k (n + 1)
   none_fewer f is none each ls fits =
       elim (cases_lt n (length ls)) [
         | inl more ↦ omega (arith, more)
-        | inr few ↦ absurd (let v = each ls fits few in none v.0 (subst (λ (x : Formula). Satisfies v.0 x.clauses) (sym is) v.1))
+        | inr few ↦
+            absurd (let v = each ls fits few in none v.0
+            (subst (λ (x : Formula). Satisfies v.0 x.clauses) (sym is) v.1))
       ]
 
   pub refuted_step : (f : Formula) (lines : Lines) → f ≡ fewer_in s g table k n → ¬ IsTooLarge (fewer_in s g table k n)

@@ -40,8 +40,10 @@ module _ {X : Type 0} where
       let s = split x all (among x (here x some)) in
       let differs : (y : X) → Contains some y → ¬ (x ≡ y) =
       λ y h. All-contains (λ y. ¬ (x ≡ y)) some y (λ i d lt. apart 0 (suc i) d (omega arith) (omega (arith, lt))) h in
-      let rest = within some (s.front ++ s.back) (λ i j d lt len. apart (suc i) (suc j) d (omega (arith, lt)) (omega (arith, len)))
-      (λ y h. other x y s.front s.back (differs y h) (subst (λ zs. Contains zs y) s.whole (among y (later x y some h)))) in
+      let rest = within some (s.front ++ s.back)
+      (λ i j d lt len. apart (suc i) (suc j) d (omega (arith, lt)) (omega (arith, len)))
+      (λ y h. other x y s.front s.back (differs y h)
+      (subst (λ zs. Contains zs y) s.whole (among y (later x y some h)))) in
       let whole = ap length s.whole in
       let with_it = length-append s.front (x ∷ s.back) in
       let without = length-append s.front s.back in

@@ -23,12 +23,12 @@ with_at_most n lits f = record {
 }
 
 -- the variables of launches, which are the first ones, in the order of their numbers
-abbrev pub lits_of : List Launch → List Lit
-lits_of launches = vars_of any (numbered 0 launches)
+abbrev pub launch_literals : List Launch → List Lit
+launch_literals launches = vars_of any (numbered 0 launches)
 
 -- the clauses of schedules, and behind them that at most n launches are made
 abbrev pub fewer_formula : LaunchGraph → Table → ℕ → Listed → ℕ → Formula
-fewer_formula g table k l n = with_at_most n (lits_of l.launches) (whole_formula g table k l)
+fewer_formula g table k l n = with_at_most n (launch_literals l.launches) (whole_formula g table k l)
 
 -- these are the clauses of schedules with at most n launches in k cycles, over the lists of the encoding with pins
 pub record IsFewerOf (g : LaunchGraph) (table : Table) (k n : ℕ) (f : Formula) : Type 0 where

@@ -40,7 +40,8 @@ module _ (g : LaunchGraph) (table : Table) (k : ℕ) where
   IsProof conflicts count (proofs.Size vars clauses) =
       OfOneFewer count (λ f. PassesLimit f vars clauses × IsWord vars × IsWord clauses)
 
-  -- The schedule fits and has at most as many launches as the given one; this is its listing, and what stands beside it.
+  -- The schedule fits and has at most as many launches as the given one; this is its listing, and what stands beside
+  -- it.
   pub record IsFewest (conflicts : ℕ) (given : List Launch) (least : Least) : Type 0 where
     pub fits : Fits g table k least.schedule.launches
     pub no_more : length least.schedule.launches ≤ length given

@@ -1,3 +1,10 @@
 pub mod FewerLaunches
 pub mod Fewest
+pub mod LeastAnswers
+pub mod LeastChecks
+pub mod SolvedGoals
 pub mod Steps
+pub mod TailLines
+pub mod TailParts
+pub mod TailVerdicts
+pub mod TailedAnswers

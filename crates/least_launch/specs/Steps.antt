@@ -21,14 +21,14 @@ IsStep g table k conflicts n (steps.Fewer schedule) =
 IsStep g table k conflicts n (steps.Ended proof) = IsProof g table k conflicts (n + 1) proof
 
 -- where the steps ended: a schedule with at most as many launches as the given one, and what stands beside it
-pub record IsEnd (g : LaunchGraph) (table : Table) (k conflicts : ℕ) (given : List Launch) (schedule : Schedule)
+pub record IsStepsEnd (g : LaunchGraph) (table : Table) (k conflicts : ℕ) (given : List Launch) (schedule : Schedule)
     (proof : Proof) : Type 0 where
   pub fits : Fits g table k schedule.launches
   pub no_more : length schedule.launches ≤ length given
   pub proof_is : IsProof g table k conflicts (length schedule.launches) proof
 
 -- the counts of a step are those that a fault has, and are words
-abbrev pub IsLargeBy : EncodeFault → Step → Type 0
-IsLargeBy (encode.Size v c) (steps.Ended (proofs.Size vars clauses)) =
+abbrev pub IsLargeStep : EncodeFault → Step → Type 0
+IsLargeStep (encode.Size v c) (steps.Ended (proofs.Size vars clauses)) =
     (vars ≡ v) × (clauses ≡ c) × IsWord vars × IsWord clauses
-IsLargeBy _ _ = ⊥
+IsLargeStep _ _ = ⊥

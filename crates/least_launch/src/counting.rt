@@ -73,9 +73,9 @@ fn launch_count(facts: &Facts, table: &Table, scope: &Scope, k: u32) -> u64
     count
 }
 
-/// The two counts of the clauses of schedules with at most `n` launches, over what a scope gives variables; no clause is
-/// built. It goes over the graph's rows a few times for each cycle. Counts that 64 bits don't hold are those of a graph
-/// that no memory holds.
+/// The two counts of the clauses of schedules with at most `n` launches, over what a scope gives variables; no clause
+/// is built. It goes over the graph's rows a few times for each cycle. Counts that 64 bits don't hold are those of a
+/// graph that no memory holds.
 pub(crate) fn count_fewer(
     alloc: Global,
     facts: &Facts,

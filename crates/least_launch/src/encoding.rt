@@ -14,7 +14,7 @@ ghost use Rattle.machine_table.specs.Tables.{IsTable};
 ghost use Rattle.order_encoding.specs.WholeFormula.{formula_in};
 ghost use Rattle.schedule_meaning.specs.Fits.{Fits};
 ghost use Rattle.schedule_meaning.specs.declared.schedules.Launch.{Launch as LaunchOf};
-ghost use Rattle.least_launch.specs.FewerLaunches.{fewer_formula, fewer_in, lits_of, with_at_most};
+ghost use Rattle.least_launch.specs.FewerLaunches.{fewer_formula, fewer_in, launch_literals, with_at_most};
 
 use crate::counting::count_fewer;
 use crate::laws::fewer_clauses_say_fits;
@@ -30,7 +30,7 @@ use std::alloc::Global;
 /// The variables of launches, which are the first ones.
 fn launch_lits(alloc: Global, launches: &[Launch]) -> Result<Vec<Lit>, NoMemory>
     requires { length launches.now < 2 ^ 29 }
-    ensures { IfOk result (λ lits. lits.items ≡ lits_of launches.now) }
+    ensures { IfOk result (λ lits. lits.items ≡ launch_literals launches.now) }
 {
     let mut lits = Vec::new(alloc);
     for place in 0..launches.len() {
@@ -45,8 +45,8 @@ fn launch_lits(alloc: Global, launches: &[Launch]) -> Result<Vec<Lit>, NoMemory>
 /// Adds that at most `n` of the launches are made.
 fn add_counter(alloc: Global, cnf: &mut Cnf, launches: &[Launch], n: u32) -> Result<(), NoMemory>
     requires exist { length launches.now ≤ cnf.old.vars }
-    requires within { ¬ IsTooLarge (with_at_most n (lits_of launches.now) cnf.old) }
-    ensures counted { OnOk result (cnf.new ≡ with_at_most n (lits_of launches.now) cnf.old) }
+    requires within { ¬ IsTooLarge (with_at_most n (launch_literals launches.now) cnf.old) }
+    ensures counted { OnOk result (cnf.new ≡ with_at_most n (launch_literals launches.now) cnf.old) }
     ensures over { AreOver cnf.old.vars cnf.old.clauses }
 {
     counters_count();
@@ -55,8 +55,8 @@ fn add_counter(alloc: Global, cnf: &mut Cnf, launches: &[Launch], n: u32) -> Res
     at_most(cnf, &lits, n)
 }
 
-/// The clauses of schedules with at most `n` launches over what a scope gives variables. Its counts are found before any
-/// clause is built; where one passes its limit they are the answer.
+/// The clauses of schedules with at most `n` launches over what a scope gives variables. Its counts are found before
+/// any clause is built; where one passes its limit they are the answer.
 pub(crate) fn build_fewer(
     alloc: Global,
     facts: &Facts,
@@ -93,9 +93,9 @@ pub(crate) fn build_fewer(
     Ok(Encoded { cnf, plan })
 }
 
-/// The clauses of schedules with at most `n` launches in k cycles: those of the encoding with pins, and behind them that
-/// at most `n` of the launches' variables are true. Its counts are found before any clause is built; where one passes its
-/// limit they are the answer.
+/// The clauses of schedules with at most `n` launches in k cycles: those of the encoding with pins, and behind them
+/// that at most `n` of the launches' variables are true. Its counts are found before any clause is built; where one
+/// passes its limit they are the answer.
 pub fn fewer(
     alloc: Global,
     graph: &LaunchGraph,

@@ -1,10 +1,19 @@
 // What the clauses of schedules with few launches say. The calls do nothing: their clauses are laws.
-ghost use Rattle.std.specs.Prelude.{◌++◌, ◌^◌, ◌≤◌, ℕ, Bool, List, Option, Contains, length};
+ghost use Rattle.std.specs.Prelude.{◌≡◌, ◌++◌, ◌^◌, ◌≤◌, ℕ, Bool, List, Option, Contains, length};
+ghost use Rattle.std.specs.List.{AllZip};
+ghost use Rattle.answer_texts.specs.declared.answers.AnswerText.{AnswerText as Answer};
 ghost use Rattle.cnf_core.specs.Formula.{AreOver, Satisfies};
 ghost use Rattle.cycle_encoding.specs.CycleFormula.{launch_vars, Listed as ListedOf};
 ghost use Rattle.cycle_encoding.specs.Encodings.{AreListed};
 ghost use Rattle.cycle_encoding.specs.Shapes.{shown};
 ghost use Rattle.cycle_encoding.specs.declared.encodings.Encoding.TheVariants.{Pinned};
+ghost use Rattle.denali_run.specs.ClaimedResults.{answer_text, answer_to};
+ghost use Rattle.denali_run.specs.MatchedGoals.{IsSettings};
+ghost use Rattle.denali_run.specs.Right.{AreRightResults};
+ghost use Rattle.denali_run.specs.declared.results.Answered.{Answered as AnsweredOf};
+ghost use Rattle.denali_run.specs.declared.settings.Settings.{Settings as SettingsOf};
+ghost use Rattle.goal_meaning.specs.Views.{InputTree};
+ghost use Rattle.goal_reader.specs.Grammar.{Reads};
 ghost use Rattle.graph_meaning.specs.WellFormed.{IsLaunchGraph};
 ghost use Rattle.graph_meaning.specs.declared.graphs.LaunchGraph.{LaunchGraph as Graph};
 ghost use Rattle.machine_table.specs.Tables.{IsTable};
@@ -12,14 +21,26 @@ ghost use Rattle.machine_table.specs.declared.tables.Table.{Table as TableOf};
 ghost use Rattle.order_encoding.specs.WholeFormula.{whole_formula};
 ghost use Rattle.schedule_meaning.specs.Fits.{Fits};
 ghost use Rattle.schedule_meaning.specs.declared.schedules.Launch.{Launch as LaunchOf};
+ghost use Rattle.text_core.specs.LineTexts.{lines_text};
+ghost use Rattle.text_core.specs.declared.faults.Kind.{Kind};
 ghost use Rattle.least_launch.specs.FewerLaunches.{fewer_formula};
+ghost use Rattle.least_launch.specs.LeastAnswers.{IsTailOf};
+ghost use Rattle.least_launch.specs.TailLines.{tail_lines};
+ghost use Rattle.least_launch.specs.TailedAnswers.{IsTailedFault, ReadsTailed};
+ghost use Rattle.least_launch.specs.declared.tails.Tail.{Tail as TailOf};
 
+use answer_texts::one_answer;
 use cnf_core::counters_count;
+use denali_run::right_answers_are_read;
+use goal_reader::{read_inputs_are_well_formed, read_inputs_have_few_operators};
 use order_encoding::each_encoding_says_fits;
+use refutation_check::printed_lines_are_read_back;
+use schedule_meaning::fitting_schedules_are_small;
+use text_core::{one_splitting, printed_lines_are_lines};
 
 /// Values that satisfy the clauses of schedules with at most n launches show a schedule that fits and has at most n.
-/// Where the clauses before the counter are over the variables before it, as they are in each formula that is built, and
-/// some schedule with at most n launches fits, some values satisfy them, which show launches of that schedule.
+/// Where the clauses before the counter are over the variables before it, as they are in each formula that is built,
+/// and some schedule with at most n launches fits, some values satisfy them, which show launches of that schedule.
 pub fn fewer_clauses_say_fits()
     ensures shown { (g : Graph) (table : TableOf) (k n : ℕ) (l : ListedOf) (v : ℕ → Bool) → IsTable table
         → IsLaunchGraph g → AreListed Pinned g table k l → Satisfies v (fewer_formula g table k l n).clauses
@@ -34,4 +55,35 @@ pub fn fewer_clauses_say_fits()
 {
     counters_count();
     each_encoding_says_fits();
+}
+
+/// Right results of an input, with what is said of their schedules, are read back from their text, if the text of the
+/// input has at most 2^20 bytes.
+pub fn tailed_answers_are_read()
+    ensures { (s : SettingsOf) (text : List ℕ) (input : InputTree) (results : List AnsweredOf)
+        (said : List (Option TailOf)) → Reads text input → length text ≤ 2 ^ 20 → IsSettings s
+        → AreRightResults Pinned input s results → AllZip (IsTailOf input.table s.conflicts) results said
+        → ReadsTailed (answer_text Pinned input results ++ lines_text (tail_lines said))
+        (answer_to Pinned input results) said }
+{
+    read_inputs_are_well_formed();
+    read_inputs_have_few_operators();
+    right_answers_are_read();
+    printed_lines_are_lines();
+    printed_lines_are_read_back();
+    fitting_schedules_are_small();
+}
+
+/// A text is at most one answer with lines behind it, and a text that is one has no fault. There is at most one first fault.
+pub fn one_tailed_answer()
+    ensures once { (text : List ℕ) (answer other : Answer) (said others : List (Option TailOf))
+        → ReadsTailed text answer said → ReadsTailed text other others → (answer ≡ other) × (said ≡ others) }
+    ensures apart { (text : List ℕ) (answer : Answer) (said : List (Option TailOf)) (place : ℕ) (kind : Kind)
+        → ReadsTailed text answer said → IsTailedFault text place kind → ⊥ }
+    ensures first { (text : List ℕ) (place other : ℕ) (kind another : Kind)
+        → IsTailedFault text place kind → IsTailedFault text other another → (place ≡ other) × (kind ≡ another) }
+{
+    one_splitting();
+    one_answer();
+    printed_lines_are_read_back();
 }

@@ -7,7 +7,7 @@ ghost use Rattle.machine_table.specs.Tables.{IsTable};
 ghost use Rattle.register_assign.specs.Assigned.{HaveWords, KeepsWord};
 ghost use Rattle.schedule_meaning.specs.Fits.{Fits};
 ghost use Rattle.least_launch.specs.Fewest.{IsFewest};
-ghost use Rattle.least_launch.specs.Steps.{IsEnd, IsLargeBy, IsStep};
+ghost use Rattle.least_launch.specs.Steps.{IsStepsEnd, IsLargeStep, IsStep};
 
 use crate::encoding::build_fewer;
 use crate::laws::fewer_clauses_say_fits;
@@ -33,7 +33,7 @@ pub(crate) enum Step {
 
 /// Clauses that are too large end the steps, unlike running out of memory.
 fn too_large(fault: EncodeFault) -> Result<Step, NoMemory>
-    ensures { IfOk result (IsLargeBy fault) }
+    ensures { IfOk result (IsLargeStep fault) }
 {
     match fault {
         EncodeFault::Size { vars, clauses } => Ok(Step::Ended(Proof::Size { vars, clauses })),
@@ -41,8 +41,8 @@ fn too_large(fault: EncodeFault) -> Result<Step, NoMemory>
     }
 }
 
-/// A score for each variable of a formula: 1 for those of a schedule's launches, and 0 for every other. It looks at each
-/// launch of the schedule for each launch that has a variable.
+/// A score for each variable of a formula: 1 for those of a schedule's launches, and 0 for every other. It looks at
+/// each launch of the schedule for each launch that has a variable.
 fn scores_of(alloc: Global, encoded: &Encoded, schedule: &Schedule) -> Result<Vec<u64>, NoMemory>
     requires { length encoded.now.plan.launches ≤ encoded.now.cnf.vars }
     ensures { IfOk result (λ scores. length scores.items ≡ encoded.now.cnf.vars) }
@@ -111,7 +111,7 @@ fn lessen<F: Rule>(
     requires scope { IsScope Pinned facts.now table.now scope.now }
     requires fits { Fits facts.now table.now k given.launches }
     requires conflicts { (1 ≤ conflicts) × (conflicts ≤ 1000000) }
-    ensures { IfOk result (λ end. IsEnd facts.now table.now k conflicts given.launches end.0 end.1) }
+    ensures { IfOk result (λ end. IsStepsEnd facts.now table.now k conflicts given.launches end.0 end.1) }
 {
     fitting_schedules_are_small();
     let mut schedule = given;
@@ -138,8 +138,8 @@ fn lessen<F: Rule>(
 }
 
 /// Looks for schedules that fit in as many cycles as the given one with fewer launches, one after another, until the
-/// clauses for one launch fewer are refuted or too large, or the budget of conflicts for them is spent. Each search starts
-/// from the schedule in hand: its launches have the score 1 for the picker at first, and all other variables 0.
+/// clauses for one launch fewer are refuted or too large, or the budget of conflicts for them is spent. Each search
+/// starts from the schedule in hand: its launches have the score 1 for the picker at first, and all other variables 0.
 pub fn least<F: Rule>(
     alloc: Global,
     graph: &LaunchGraph,

@@ -3,5 +3,6 @@ use Rattle.least_launch.proofs.counting.row_launches.Goals as goal
 
 pub returns-clause-value : goal.returns-clause-value
 returns-clause-value c =
-    row_is c.args.facts.now c.args.table.now c.args.k c.args.scope.now c.args.row c.row_count.result c.destination_count.result
+    row_is c.args.facts.now c.args.table.now c.args.k c.args.scope.now c.args.row c.row_count.result
+    c.destination_count.result
     c.row_count.ensures.value c.destination_count.ensures.value

@@ -20,7 +20,8 @@ at_most-requires-clause-vars c =
 
 pub at_most-requires-clause-room : goal.at_most-requires-clause-room
 at_most-requires-clause-room c =
-    clauses_room c.args.n c.args.launches.now c.args.cnf.now c.requires.exist c.counters_count.ensures.size c.deref.result.now
+    clauses_room c.args.n c.args.launches.now c.args.cnf.now c.requires.exist c.counters_count.ensures.size
+    c.deref.result.now
     (c.deref.ensures.value ∙ c.in_ok-lits.ensures) c.requires.within
 
 pub returns-clause-counted : goal.returns-clause-counted

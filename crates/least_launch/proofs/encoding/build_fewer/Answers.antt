@@ -4,14 +4,15 @@ use Rattle.cnf_core.specs.Formula.{AreOver, Formula}
 use Rattle.cycle_encoding.specs.CycleFormula.{listed_in}
 use Rattle.cycle_encoding.specs.Plans.{IsTooLarge, Plan}
 use Rattle.order_encoding.specs.WholeFormula.{formula_in}
-use Rattle.least_launch.specs.FewerLaunches.{fewer_in, lits_of}
+use Rattle.least_launch.specs.FewerLaunches.{fewer_in, launch_literals}
 use Rattle.least_launch.proofs.Built.{fault_of_part, part_within, with_same}
 use Rattle.least_launch.proofs.encoding.build_fewer.Goals as goal
 
 pub returns-in_err-within_limits-clause-size : goal.returns-in_err-within_limits-clause-size
 returns-in_err-within_limits-clause-size c =
     let w = fewer_in c.args.scope.now c.args.facts.now c.args.table.now c.args.k c.args.n in
-    let p = err_from_is_err_and c.from_residual-in_err-within_limits.result c.from_residual-in_err-within_limits.ensures.1 in
+    let p = err_from_is_err_and c.from_residual-in_err-within_limits.result
+    c.from_residual-in_err-within_limits.ensures.1 in
     rw (p.1, p.2) (c.in_err-within_limits.ensures.size w c.in_ok-sizes.ensures.vars c.in_ok-sizes.ensures.clauses)
 
 pub returns-in_err-encoded-clause-size : goal.returns-in_err-encoded-clause-size
@@ -22,7 +23,7 @@ returns-in_err-encoded-clause-size c =
     let within = c.in_ok-within_limits.ensures.within whole c.in_ok-sizes.ensures.vars c.in_ok-sizes.ensures.clauses in
     let p = err_from_is_err_and c.from_residual-in_err-encoded.result c.from_residual-in_err-encoded.ensures.1 in
     rw (p.1, p.2)
-    (fault_of_part part whole _ (part_within c.args.n (lits_of launches) part within)
+    (fault_of_part part whole _ (part_within c.args.n (launch_literals launches) part within)
     c.in_err-encoded.ensures.size)
 
 pub add_counter-requires-clause-within : goal.add_counter-requires-clause-within

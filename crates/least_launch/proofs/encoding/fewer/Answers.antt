@@ -17,33 +17,57 @@ use Rattle.least_launch.proofs.encoding.fewer.Goals as goal
 
 pub returns-clause-listed : goal.returns-clause-listed
 returns-clause-listed c =
-    on_ok c.build_fewer.result _
-    (listed_in c.args.graph.now c.args.table.now c.args.k c.in_ok-scope.scope, own_list c.each_encoding_has_one_list.ensures Pinned c.args.graph.now c.in_ok-facts.facts c.args.table.now c.args.k c.in_ok-scope.scope c.in_ok-facts.ensures c.in_ok-scope.ensures c.requires.cycles)
+    on_ok c.build_fewer.result _ (
+      listed_in c.args.graph.now c.args.table.now c.args.k c.in_ok-scope.scope,
+      own_list
+          c.each_encoding_has_one_list.ensures Pinned c.args.graph.now c.in_ok-facts.facts c.args.table.now c.args.k
+          c.in_ok-scope.scope c.in_ok-facts.ensures c.in_ok-scope.ensures c.requires.cycles,
+    )
 
 pub returns-clause-formula : goal.returns-clause-formula
 returns-clause-formula c =
     if_ok _ _ c.build_fewer.result
-    (λ r is. as_listed c.each_encoding_has_one_list.ensures Pinned c.args.graph.now c.in_ok-facts.facts c.args.table.now c.args.k c.in_ok-scope.scope c.in_ok-facts.ensures c.in_ok-scope.ensures c.requires.cycles
-    (λ (x : LaunchGraph) (l : Listed). r.cnf ≡ fewer_formula x c.args.table.now c.args.k l c.args.n) is) c.build_fewer.ensures.formula
+    (λ r is. as_listed c.each_encoding_has_one_list.ensures Pinned c.args.graph.now c.in_ok-facts.facts c.args.table.now
+    c.args.k c.in_ok-scope.scope c.in_ok-facts.ensures c.in_ok-scope.ensures c.requires.cycles
+    (λ (x : LaunchGraph) (l : Listed). r.cnf ≡ fewer_formula x c.args.table.now c.args.k l c.args.n) is)
+    c.build_fewer.ensures.formula
 
 pub returns-clause-plan : goal.returns-clause-plan
 returns-clause-plan c =
     if_ok _ _ c.build_fewer.result
-    (λ r is. as_listed c.each_encoding_has_one_list.ensures Pinned c.args.graph.now c.in_ok-facts.facts c.args.table.now c.args.k c.in_ok-scope.scope c.in_ok-facts.ensures c.in_ok-scope.ensures c.requires.cycles
-    (λ (x : LaunchGraph) (l : Listed). r.plan ≡ record { encoding = Pinned; cycles = c.args.k; launches = l.launches; overwritten = before_overwritten x c.args.table.now c.args.k l })
-    (is ∙ ap {A = Encoding} {B = Plan} (λ e. record { encoding = e; cycles = c.args.k; launches = (listed_in c.in_ok-facts.facts c.args.table.now c.args.k c.in_ok-scope.scope).launches; overwritten = before_overwritten c.in_ok-facts.facts c.args.table.now c.args.k (listed_in c.in_ok-facts.facts c.args.table.now c.args.k c.in_ok-scope.scope) }) c.in_ok-scope.ensures.encoding)) c.build_fewer.ensures.plan
+    (λ r is. as_listed c.each_encoding_has_one_list.ensures Pinned c.args.graph.now c.in_ok-facts.facts c.args.table.now
+    c.args.k c.in_ok-scope.scope c.in_ok-facts.ensures c.in_ok-scope.ensures c.requires.cycles
+    (λ (x : LaunchGraph) (l : Listed). r.plan ≡ record {
+      encoding = Pinned;
+      cycles = c.args.k;
+      launches = l.launches;
+      overwritten = before_overwritten x c.args.table.now c.args.k l;
+    })
+    (is ∙ ap {A = Encoding} {B = Plan}
+    (λ e. record {
+      encoding = e;
+      cycles = c.args.k;
+      launches = (listed_in c.in_ok-facts.facts c.args.table.now c.args.k c.in_ok-scope.scope).launches;
+      overwritten = before_overwritten c.in_ok-facts.facts c.args.table.now c.args.k
+          (listed_in c.in_ok-facts.facts c.args.table.now c.args.k c.in_ok-scope.scope);
+    }) c.in_ok-scope.ensures.encoding))
+    c.build_fewer.ensures.plan
 
 pub returns-clause-size : goal.returns-clause-size
 returns-clause-size c =
     if_err _ _ c.build_fewer.result
-    (λ r is. as_listed c.each_encoding_has_one_list.ensures Pinned c.args.graph.now c.in_ok-facts.facts c.args.table.now c.args.k c.in_ok-scope.scope c.in_ok-facts.ensures c.in_ok-scope.ensures c.requires.cycles
-    (λ (x : LaunchGraph) (l : Listed). EncodeFaultIs (fewer_formula x c.args.table.now c.args.k l c.args.n) r) is) c.build_fewer.ensures.size
+    (λ r is. as_listed c.each_encoding_has_one_list.ensures Pinned c.args.graph.now c.in_ok-facts.facts c.args.table.now
+    c.args.k c.in_ok-scope.scope c.in_ok-facts.ensures c.in_ok-scope.ensures c.requires.cycles
+    (λ (x : LaunchGraph) (l : Listed). EncodeFaultIs (fewer_formula x c.args.table.now c.args.k l c.args.n) r) is)
+    c.build_fewer.ensures.size
 
 pub returns-clause-within : goal.returns-clause-within
 returns-clause-within c =
     on_ok_more _ _ c.build_fewer.result
-    (λ is. as_listed c.each_encoding_has_one_list.ensures Pinned c.args.graph.now c.in_ok-facts.facts c.args.table.now c.args.k c.in_ok-scope.scope c.in_ok-facts.ensures c.in_ok-scope.ensures c.requires.cycles
-    (λ (x : LaunchGraph) (l : Listed). IsTooLarge (fewer_formula x c.args.table.now c.args.k l c.args.n) → ⊥) is) c.build_fewer.ensures.within
+    (λ is. as_listed c.each_encoding_has_one_list.ensures Pinned c.args.graph.now c.in_ok-facts.facts c.args.table.now
+    c.args.k c.in_ok-scope.scope c.in_ok-facts.ensures c.in_ok-scope.ensures c.requires.cycles
+    (λ (x : LaunchGraph) (l : Listed). IsTooLarge (fewer_formula x c.args.table.now c.args.k l c.args.n)
+    → ⊥) is) c.build_fewer.ensures.within
 
 pub returns-clause-shown : goal.returns-clause-shown
 returns-clause-shown c =
@@ -52,11 +76,14 @@ returns-clause-shown c =
     let k = c.args.k in
     let s = c.in_ok-scope.scope in
     let l = listed_in g table k s in
-    let own = own_list c.each_encoding_has_one_list.ensures Pinned g c.in_ok-facts.facts table k s c.in_ok-facts.ensures c.in_ok-scope.ensures c.requires.cycles in
+    let own = own_list c.each_encoding_has_one_list.ensures Pinned g c.in_ok-facts.facts table k s c.in_ok-facts.ensures
+    c.in_ok-scope.ensures c.requires.cycles in
     if_ok_both _ _ _ c.build_fewer.result
     (λ r formula plan. shows_few g table k c.args.n l r.cnf r.plan.launches
-    (formula ∙ ap (λ (x : LaunchGraph). fewer_formula x table k (listed_in x table k c.in_ok-scope.scope) c.args.n) c.in_ok-facts.ensures)
-    (ap (λ (p : Plan). p.launches) plan ∙ ap (λ (x : LaunchGraph). (listed_in x table k c.in_ok-scope.scope).launches) c.in_ok-facts.ensures)
+    (formula ∙ ap (λ (x : LaunchGraph). fewer_formula x table k (listed_in x table k c.in_ok-scope.scope) c.args.n)
+    c.in_ok-facts.ensures)
+    (ap (λ (p : Plan). p.launches) plan ∙ ap (λ (x : LaunchGraph). (listed_in x table k c.in_ok-scope.scope).launches)
+    c.in_ok-facts.ensures)
     (λ v h. c.fewer_clauses_say_fits.ensures.shown g table k c.args.n l v c.requires.table c.requires.graph own h))
     c.build_fewer.ensures.formula c.build_fewer.ensures.plan
 
@@ -67,14 +94,19 @@ returns-clause-some c =
     let k = c.args.k in
     let s = c.in_ok-scope.scope in
     let l = listed_in g table k s in
-    let own = own_list c.each_encoding_has_one_list.ensures Pinned g c.in_ok-facts.facts table k s c.in_ok-facts.ensures c.in_ok-scope.ensures c.requires.cycles in
+    let own = own_list c.each_encoding_has_one_list.ensures Pinned g c.in_ok-facts.facts table k s c.in_ok-facts.ensures
+    c.in_ok-scope.ensures c.requires.cycles in
     if_ok_on _ _ _ c.build_fewer.result
     (λ r formula over ls fits few.
-    let is_over = subst (λ (x : LaunchGraph). AreOver (whole_formula x table k (listed_in x table k c.in_ok-scope.scope)).vars (whole_formula x table k (listed_in x table k c.in_ok-scope.scope)).clauses) c.in_ok-facts.ensures over in
-    let v = c.fewer_clauses_say_fits.ensures.some g table k c.args.n l ls c.requires.table c.requires.graph own is_over fits few in (
+    let is_over = subst (λ (x : LaunchGraph). AreOver
+    (whole_formula x table k (listed_in x table k c.in_ok-scope.scope)).vars
+    (whole_formula x table k (listed_in x table k c.in_ok-scope.scope)).clauses) c.in_ok-facts.ensures over in
+    let v = c.fewer_clauses_say_fits.ensures.some g table k c.args.n l ls c.requires.table c.requires.graph own is_over
+    fits few in (
       v.0,
       some_few g table k c.args.n l r.cnf l.launches
-          (formula ∙ ap (λ (x : LaunchGraph). fewer_formula x table k (listed_in x table k c.in_ok-scope.scope) c.args.n) c.in_ok-facts.ensures)
+          (formula ∙ ap (λ (x : LaunchGraph). fewer_formula x table k (listed_in x table k c.in_ok-scope.scope)
+          c.args.n) c.in_ok-facts.ensures)
           refl v.0 v.1,
     ))
     c.build_fewer.ensures.formula c.build_fewer.ensures.over

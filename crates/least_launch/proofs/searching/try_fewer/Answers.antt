@@ -26,12 +26,15 @@ returns-in-Sat g c =
     c.in_ok-fewer-in-Sat.fewer.launches =
     subst (λ xs. IsPermutation (shown (assigned xs) (numbered 0 c.in-Ok.encoded.plan.launches))
     c.in_ok-fewer-in-Sat.fewer.launches) c.as_slice.ensures c.in_ok-fewer-in-Sat.ensures.same in
-    let here : IsPermutation (shown (assigned c.in-Sat.values) (numbered 0 l.launches)) c.in_ok-fewer-in-Sat.fewer.launches =
+    let here : IsPermutation (shown (assigned c.in-Sat.values) (numbered 0 l.launches))
+    c.in_ok-fewer-in-Sat.fewer.launches =
     subst (λ (p : Plan). IsPermutation (shown (assigned c.in-Sat.values) (numbered 0 p.launches))
     c.in_ok-fewer-in-Sat.fewer.launches) c.in-Ok.ensures.plan same in
-    let shows = c.fewer_clauses_say_fits.ensures.shown graph table k c.args.n l (assigned c.in-Sat.values) c.requires.table
+    let shows = c.fewer_clauses_say_fits.ensures.shown graph table k c.args.n l (assigned c.in-Sat.values)
+    c.requires.table
     c.requires.graph (c.requires.scope.lists k c.requires.cycles)
-    (subst (λ (f : Formula). Satisfies (assigned c.in-Sat.values) f.clauses) c.in-Ok.ensures.formula solved.satisfied) in
+    (subst (λ (f : Formula). Satisfies (assigned c.in-Sat.values) f.clauses) c.in-Ok.ensures.formula
+    solved.satisfied) in
     fewer_step graph table k c.args.n _ _ here
     (λ ls ms p fit. c.fits_in_any_order.ensures graph table k ls ms p fit) shows.0 shows.1
 
@@ -47,7 +50,8 @@ returns-in-Refuted g c =
     let refuted : IsRefutedFormula c.in-Ok.encoded.cnf c.args.conflicts c.in-Refuted.lines.lines =
     subst (λ v. IfRefuted v (IsRefutedFormula c.in-Ok.encoded.cnf c.args.conflicts)) c.in-Refuted.is
     c.in_ok-values.ensures.refuted in
-    refuted_step graph table k n c.args.conflicts s c.requires.scope c.requires.cycles f c.in-Refuted.lines c.in-Ok.ensures.formula
+    refuted_step graph table k n c.args.conflicts s c.requires.scope c.requires.cycles f c.in-Refuted.lines
+    c.in-Ok.ensures.formula
     c.in-Ok.ensures.within refuted.few refuted.refutes
     (none_fewer graph table k n c.args.conflicts s c.requires.scope c.requires.cycles f c.in-Ok.ensures.formula
     (c.refutations_leave_no_solution.ensures f c.in-Refuted.lines.lines refuted.refutes)
@@ -59,6 +63,7 @@ returns-in-Refuted g c =
 pub returns : goal.returns
 returns g c =
     let spent : IsSpentFormula c.in-Ok.encoded.cnf c.args.conflicts c.in-Spent.lines.lines =
-    subst (λ v. IfSpent v (IsSpentFormula c.in-Ok.encoded.cnf c.args.conflicts)) c.in-Spent.is c.in_ok-values.ensures.spent in
+    subst (λ v. IfSpent v (IsSpentFormula c.in-Ok.encoded.cnf c.args.conflicts)) c.in-Spent.is
+    c.in_ok-values.ensures.spent in
     spent_step c.args.facts.now c.args.table.now c.args.k c.args.n c.args.conflicts c.args.scope.now c.requires.scope
     c.requires.cycles c.in-Ok.encoded.cnf c.in-Spent.lines c.in-Ok.ensures.formula c.in-Ok.ensures.within spent

@@ -1,0 +1,90 @@
+// The bytes of an answer with lines behind it, and its status.
+ghost use Rattle.std.specs.Prelude.{◌≡◌, ◌++◌, ◌||◌, IfOk, length, if◌then◌else◌};
+ghost use Rattle.cycle_encoding.specs.declared.encodings.Encoding.TheVariants.{Pinned};
+ghost use Rattle.denali_run.specs.ClaimedResults.{answer_text};
+ghost use Rattle.denali_run.specs.TextAnswers as texts;
+ghost use Rattle.denali_run.specs.declared.statuses.Status.TheVariants.{Spent};
+ghost use Rattle.goal_meaning.specs.Views.{input_view};
+ghost use Rattle.text_core.specs.LineTexts.{lines_text};
+ghost use Rattle.least_launch.specs.LeastAnswers as format;
+ghost use Rattle.least_launch.specs.TailLines.{tail_lines};
+
+use crate::tail_printing::put_tails;
+use crate::tails::Tail;
+use denali_run::{Answered, Report, Status, answer_text};
+use goal_meaning::Input;
+use items::NoMemory;
+use std::alloc::Global;
+
+/// Whether it isn't known that the schedule has the fewest launches.
+fn is_most(tail: &Option<Tail>) -> bool
+    ensures { result ≡ format.is_most_of tail.now }
+{
+    match tail {
+        Some(Tail::Spent { .. }) => true,
+        Some(Tail::Size { .. }) => true,
+        Some(Tail::Least { .. }) => false,
+        None => false,
+    }
+}
+
+/// Whether this is so already, or isn't known of this schedule.
+fn either(some: bool, tail: &Option<Tail>) -> bool
+    ensures { result ≡ (some || format.is_most_of tail.now) }
+{
+    some || is_most(tail)
+}
+
+#[tactic(auto, using(crate::proofs::Most::some_more))]
+fn some_is_most(said: &[Option<Tail>]) -> bool
+    ensures { result ≡ format.some_is_most said.now }
+{
+    let mut some = false;
+    for tail in said {
+        some = either(some, tail);
+    }
+    some
+}
+
+/// The one of two statuses that has the greater code.
+fn greater(one: Status, other: Status) -> Status
+    ensures { result ≡ texts.greater one other }
+{
+    if one.code() < other.code() {
+        other
+    } else {
+        one
+    }
+}
+
+/// The status that the results ask for, and at least that of a spent budget where one is.
+fn with_spent(status: Status, spent: bool) -> Status
+    ensures { result ≡ (if spent then texts.greater status Spent else status) }
+{
+    if spent {
+        greater(status, Status::Spent)
+    } else {
+        status
+    }
+}
+
+/// The answer to an input, of which each goal has a result, with what is said of their schedules behind it.
+pub(crate) fn report_least(
+    alloc: Global,
+    input: &Input,
+    results: &[Answered],
+    said: &[Option<Tail>],
+) -> Result<Report, NoMemory>
+    requires { length results.now ≡ length input.now.goals }
+    ensures bytes { IfOk result (λ report. report.bytes.items
+        ≡ answer_text Pinned (input_view input.now) results.now ++ lines_text (tail_lines said.now)) }
+    ensures status { IfOk result (λ report. report.status ≡ format.least_status results.now said.now) }
+{
+    let answer = answer_text(alloc, input, results)?;
+    let mut bytes = answer.bytes;
+    put_tails(alloc, &mut bytes, said)?;
+    Ok(Report {
+        bytes,
+        status: with_spent(answer.status, some_is_most(said)),
+    })
+}
