@@ -1,0 +1,3 @@
+mod ClauseLines
+mod Clauses
+mod OneFormula
