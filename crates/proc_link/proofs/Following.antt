@@ -1,0 +1,153 @@
+-- Words that decode as the linked instructions follow the block machine.
+use Rattle.std.proofs.Common.{◌≡◌, ℕ, zero, suc, ◌+◌, ◌*◌, ◌/◌, ◌^◌, ◌<◌, ◌≤◌, List, [], ◌∷◌, ◌++◌, map, length, get_or, refl, sym, ◌∙◌, ap, arith, Option, Some, None}
+use Rattle.std.specs.Prelude.{All, Contains, bytes_eq, find, slice_index}
+use Rattle.std.specs.List.{AllZip}
+use Rattle.std.specs.Option.{option_map_or}
+use Rattle.std.proofs.lemmas.Bool.{false≢true}
+use Rattle.std.proofs.lemmas.List.{length-map}
+use Rattle.std.proofs.lemmas.List.Elements.{All-nil, All-cons, All-contains, All-head, All-tail, Contains-get_or}
+use Rattle.std.proofs.lemmas.Slice.Eq.{bytes_eq-Decides}
+use Rattle.std.proofs.lemmas.Slice.Zip.{AllZip-long}
+use Rattle.word_ops.specs.declared.operators.WordOp.{WordOp}
+use Rattle.word_ops.specs.Memory.{Memory, IsMemory, put_word}
+use Rattle.word_ops.specs.Operators.{value_of}
+use Rattle.word_ops.specs.Words.{IsWord}
+use Rattle.alpha_encode.specs.Decoded.{decoded}
+use Rattle.alpha_encode.specs.declared.instructions.Instr.{Instr}
+use Rattle.alpha_machine.specs.States.{MachineState, IsState}
+use Rattle.alpha_machine.specs.Runs.{stepped, after}
+use Rattle.goal_meaning.specs.declared.goals.InputReg.{InputReg}
+use Rattle.proc_goal.specs.Views.{BlockTree, ProcTree}
+use Rattle.proc_goal.specs.WellFormed.{IsProc, IsBlock, IsThere}
+use Rattle.proc_goal.specs.declared.procs.Target.{Target}
+use Rattle.proc_goal.specs.declared.procs.Target.TheVariants.{Block, Done}
+use Rattle.register_assign.specs.Outcomes.{instrs_of}
+use Rattle.register_assign.specs.declared.listings.Listing.{Listing}
+use Rattle.proc_link.specs.Blocks.{BlockState, block_step, block_steps}
+use Rattle.proc_link.specs.Follows.{AreListings, ComesTo, FollowBlocks, IsListingOfBlock, Shows, address_of, begun}
+use Rattle.proc_link.specs.Linked.{all_instrs, linked, place_of, starts_of, words_before}
+use Rattle.proc_link.proofs.Does.{Does, does, one_by_name}
+use Rattle.proc_link.proofs.Finding.{find_none, find_some}
+use Rattle.proc_link.proofs.Placing.{length_linked, start_at}
+use Rattle.proc_link.proofs.Steps.{AreDone, LeadsOn, ShowsAt, all_steps, next_target, one_step}
+
+front_all : {X Y : Type 0} (P : Y → Type 0) (f : X → Y) (xs : List X) (more : List Y) → All P (map f xs ++ more) → All (λ x. P (f x)) xs
+front_all P f [] more h = All-nil (λ x. P (f x))
+front_all P f (x ∷ xs) more h =
+    All-cons (λ x. P (f x)) x xs (All-head P (f x) (map f xs ++ more) h) (front_all P f xs more (All-tail P (f x) (map f xs ++ more) h))
+
+none_before : (ls : List (List Instr)) → words_before ls 0 ≡ 0
+none_before [] = refl
+none_before (l ∷ ls) = refl
+
+module _ (p : ProcTree) (is_proc : IsProc p) where
+  each_does : (bs : List BlockTree) (ls : List Listing) → All (IsBlock p.vars (length p.blocks)) bs → AllZip (IsListingOfBlock p) bs ls
+      → AllZip (Does p.vars) bs (all_instrs ls)
+  each_does [] [] blocks h = tt
+  each_does [] (l ∷ ls) blocks h = absurd h
+  each_does (b ∷ bs) [] blocks h = absurd h
+  each_does (b ∷ bs) (l ∷ ls) blocks h = (
+    does p is_proc b (All-head (IsBlock p.vars (length p.blocks)) b bs blocks) l h.0,
+    each_does bs ls (All-tail (IsBlock p.vars (length p.blocks)) b bs blocks) h.1,
+  )
+
+  pub are_done : (ls : List Listing) → AreListings p ls → AreDone p (all_instrs ls)
+  are_done ls are = record {
+    few = is_proc.rules.blocks.1;
+    low = front_all (λ r. r < 31) (λ (v : InputReg). v.reg) p.vars p.pool is_proc.rules.low;
+    blocks_are = is_proc.blocks;
+    listings_are = each_does p.blocks ls is_proc.blocks are;
+  }
+
+  module _ (ls : List Listing) (are : AreListings p ls) where
+    abbrev all : List (List Instr)
+    all = all_instrs ls
+
+    as_many : length p.blocks ≡ length all
+    as_many = sym (AllZip-long (IsListingOfBlock p) p.blocks ls are) ∙ sym (length-map ls (λ (l : Listing). instrs_of l.items))
+
+    -- ---- where it begins
+
+    begins : (m : MachineState) → IsState m → m.pc ≡ 0 → ShowsAt p all (begun p m) m
+    begins m is pc = record {
+      state = is;
+      pc = (let none = none_before all in omega (arith, none, pc));
+      words_are = λ v has. by v has (find (λ (u : InputReg). bytes_eq u.name v.name) p.vars) refl;
+      memory_is = refl;
+    }
+      where
+        by : (v : InputReg) → Contains p.vars v → (o : Option InputReg) → find (λ (u : InputReg). bytes_eq u.name v.name) p.vars ≡ o
+            → slice_index m.registers v.reg ≡ option_map_or (λ (u : InputReg). slice_index m.registers u.reg) o 0
+        by v has None e =
+            absurd (false≢true (sym (find_none (λ (u : InputReg). bytes_eq u.name v.name) p.vars v e has) ∙ (bytes_eq-Decides v.name v.name).1 refl))
+        by v has (Some u) e =
+            let found = find_some (λ (u : InputReg). bytes_eq u.name v.name) p.vars u e in
+            ap (λ (x : InputReg). slice_index m.registers x.reg) (sym (one_by_name p is_proc u v found.1 has ((bytes_eq-Decides u.name v.name).0 found.0)))
+
+    -- ---- addresses
+
+    module _ (words : List ℕ) (decode : map decoded words ≡ map Some (linked p.blocks all)) where
+      count : length words ≡ length (linked p.blocks all)
+      count = sym (length-map words decoded) ∙ ap length decode ∙ length-map (linked p.blocks all) Some
+
+      address_is : (t : Target) → IsThere (length p.blocks) t → 4 * place_of all t ≡ address_of (starts_of all) (4 * length words) t
+      address_is (Block i) there =
+          let many = as_many in
+          let start = start_at 0 all i (omega (arith, many, there)) in
+          omega (arith, start)
+      address_is Done there =
+          let same = count in
+          let whole = length_linked (place_of all) 0 p.blocks all as_many in
+          omega (arith, same, whole)
+
+      shown : (s : BlockState) (m : MachineState) → IsThere (length p.blocks) s.at → ShowsAt p all s m → Shows p (starts_of all) (4 * length words) s m
+      shown s m there h = record {
+        state = h.state;
+        pc = h.pc ∙ address_is s.at there;
+        words = λ k d lt. h.words_are (get_or p.vars k d) (Contains-get_or p.vars k d lt);
+        memory = h.memory_is;
+      }
+
+      shown_at : (s : BlockState) (m : MachineState) → IsThere (length p.blocks) s.at → Shows p (starts_of all) (4 * length words) s m → ShowsAt p all s m
+      shown_at s m there h = record {
+        state = h.state;
+        pc = h.pc ∙ sym (address_is s.at there);
+        words_are = λ v has. All-contains (λ (v : InputReg). slice_index m.registers v.reg ≡ s.words v.name) p.vars v h.words has;
+        memory_is = h.memory;
+      }
+
+      module _ (last : (n : ℕ) (instrs : List Instr) (s : MachineState) → after (suc n) instrs s ≡ stepped instrs (after n instrs s))
+          (sums : (m n : ℕ) (instrs : List Instr) (s : MachineState) → after (m + n) instrs s ≡ after n instrs (after m instrs s))
+          (stays : (n : ℕ) (instrs : List Instr) (s : MachineState) → length instrs ≤ s.pc / 4 → after n instrs s ≡ s)
+          (is_word : (op : WordOp) (vs : List ℕ) → All IsWord vs → IsWord (value_of op vs))
+          (is_memory : (m : Memory) (place v : ℕ) → IsMemory m → place < 2 ^ 61 → IsWord v → IsMemory (put_word m place v)) where
+        steps_there : (n : ℕ) (s : BlockState) → IsThere (length p.blocks) s.at → IsThere (length p.blocks) (block_steps n p s).at
+        steps_there zero s there = there
+        steps_there (suc n) s there =
+            steps_there n (block_step p s) (next_target last sums stays is_word is_memory p all (are_done ls are) s s.at refl there)
+
+        one : (s : BlockState) (m : MachineState) → IsThere (length p.blocks) s.at → Shows p (starts_of all) (4 * length words) s m
+            → ComesTo p (starts_of all) (4 * length words) (linked p.blocks all) m 193 (block_step p s)
+        one s m there h =
+            let run : LeadsOn p all m 193 (block_step p s) = one_step last sums stays is_word is_memory p all (are_done ls are) s m there (shown_at s m there h) in
+            record {
+              steps = run.steps;
+              few = run.few;
+              shows = shown (block_step p s) (after run.steps (linked p.blocks all) m) (steps_there 1 s there) run.shows;
+            }
+
+        pub follows : FollowBlocks p words (starts_of all)
+        follows = record {
+          instrs = linked p.blocks all;
+          decode = decode;
+          step = one;
+          follow = λ n m is pc.
+              let first : IsThere (length p.blocks) (Block 0) = is_proc.rules.blocks.0 in
+              let run : LeadsOn p all m (193 * n) (block_steps n p (begun p m)) =
+              all_steps last sums stays is_word is_memory p all (are_done ls are) n (begun p m) m first (begins m is pc) in
+              record {
+                steps = run.steps;
+                few = run.few;
+                shows = shown (block_steps n p (begun p m)) (after run.steps (linked p.blocks all) m) (steps_there n (begun p m) first) run.shows;
+              };
+        }

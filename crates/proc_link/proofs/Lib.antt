@@ -1,0 +1,16 @@
+mod Appending
+mod Behind
+mod Does
+mod Finding
+mod Fitting
+mod Following
+mod Gathered
+mod Keeping
+mod Laying
+mod LinkedBlocks
+mod Placing
+mod PrintedLinks
+mod Relocating
+mod ResultListings
+mod Steps
+mod Values
