@@ -1,5 +1,5 @@
 -- The rows of the replies exclude one another.
-use Rattle.std.proofs.Common.{◌≡◌, ℕ, ◌<◌, ◌≤◌, ◌^◌, ◌⊎◌, ◌↔◌, Bool, true, false, List, [], ◌∷◌, length, Some, fold, refl, sym, ap, subst, ◌∙◌, inl, inr, arith, nat_lt, cond}
+use Rattle.std.proofs.Common.{◌≡◌, ℕ, ◌<◌, ◌≤◌, ◌^◌, ◌⊎◌, ◌↔◌, Bool, true, false, List, [], ◌∷◌, length, Option, Some, fold, refl, sym, ap, subst, ◌∙◌, inl, inr, arith, nat_lt, cond}
 use Rattle.answer_texts.specs.ReadAnswers.{IsAnswerFault, ReadsAnswer}
 use Rattle.answer_texts.specs.declared.answers.AnswerText.{AnswerText}
 use Rattle.goal_reader.specs.Grammar.{IsFirstTextFault, Reads}
@@ -9,17 +9,22 @@ use Rattle.run_texts.specs.declared.texts.RunText.{RunText}
 use Rattle.text_core.specs.declared.faults.Kind.{Kind}
 use Rattle.denali_run.specs.Statuses.{status_code}
 use Rattle.denali_run.specs.GeneratedAnswers.{IsGeneratedLine}
-use Rattle.denali_run.specs.TextAnswers.{greater, status_of}
+use Rattle.denali_run.specs.TextAnswers.{greater, greatest_status, status_of}
 use Rattle.denali_run.specs.declared.results.Answered.{Answered}
 use Rattle.denali_run.specs.declared.results.Answered.TheVariants.{Scheduled, Nowhere, SpentConflicts, SpentSize, NoWorld}
 use Rattle.denali_run.specs.declared.statuses.Status.{Status}
-use Rattle.denali_run.specs.declared.statuses.Status.TheVariants.{Done, Missing, ReadFault}
+use Rattle.denali_run.specs.declared.statuses.Status.TheVariants.{Done, Missing, ReadFault, Spent}
+use Rattle.least_launch.specs.LeastAnswers.{some_is_most}
+use Rattle.least_launch.specs.TailedAnswers.{IsTailedFault, ReadsTailed}
+use Rattle.least_launch.specs.declared.tails.Tail.{Tail}
+use Rattle.proc_goal.specs.ProcGrammar.{IsFirstProcFault, ReadsProc}
+use Rattle.proc_goal.specs.Views.{ProcTree}
 use Rattle.refute_trim.specs.TrimmedAnswers.{IsTrimReport, rejected, trimmed}
 use Rattle.denali_cli.specs.Outcomes.{IsReported}
 use Rattle.denali_cli.specs.Replies.{IsFaultFor, IsPastLimit, IsReadFor, IsWithinLimit, Reply, Reports, answered}
 use Rattle.denali_cli.specs.Replies.{fault_line, faulty, limit_of, too_long, too_long_line}
 use Rattle.code_check.specs.CodeGrammar.{CheckedTree, IsFirstCodesFault, ReadsCodes}
-use Rattle.denali_cli.specs.Commands.{Command, Solve, Check, Trim, Verify, Run, Gen}
+use Rattle.denali_cli.specs.Commands.{Command, Solve, SolveLeast, Proc, Check, CheckLeast, Trim, Verify, Run, Gen}
 use Rattle.denali_cli.specs.VerifiedTexts.{told_status}
 
 -- ---- the status of results
@@ -40,6 +45,11 @@ all_report s [] h = h
 all_report s (r ∷ rs) h =
     all_report (greater s (status_of r)) rs
     (one_reports (nat_lt (status_code s) (status_code (status_of r))) s (status_of r) h (result_reports r))
+
+-- the status of results of which something is said
+least_reports : (some : Bool) (s : Status) → IsReported s → IsReported (cond some (greater s Spent) s)
+least_reports true s h = one_reports (nat_lt (status_code s) (status_code Spent)) s Spent h tt
+least_reports false s h = h
 
 -- the status of the line of a generated goal
 line_reports : (size : ℕ) (r : Answered) (bytes : List ℕ) (status : Status) → IsGeneratedLine size r bytes status → IsReported status
@@ -65,7 +75,14 @@ told_reports false false = tt
 pub reports_report : (command : Command) (text written : List ℕ) (status : Status) → Reports command text written status
     → IsReported status
 reports_report (Solve s) text written status a = subst IsReported (sym a.status_is) (all_report Done a.results tt)
+reports_report (SolveLeast s) text written status a =
+    subst IsReported (sym a.status_is)
+    (least_reports (some_is_most a.said) (greatest_status a.results) (all_report Done a.results tt))
+reports_report (Proc s) text written status a =
+    subst IsReported (sym a.answers.status_is) (all_report Done a.answers.results tt)
 reports_report Check text written status a = subst IsReported (sym a.status_is) (one_reports a.rejected Done Missing tt tt)
+reports_report CheckLeast text written status a =
+    subst IsReported (sym a.status_is) (one_reports a.rejected Done Missing tt tt)
 reports_report Trim text written status a = trim_reports a.answer written a.report
 reports_report (Verify rounds nodes) text written status a =
     subst IsReported (sym a.status_is) (told_reports a.unknown a.no_world)
@@ -76,7 +93,10 @@ reports_report (Gen size) text written status a = line_reports size a.answered w
 reports_read : (command : Command) (text written : List ℕ) (status : Status) → Reports command text written status
     → IsReadFor command text
 reports_read (Solve s) text written status a = (a.input, a.reads)
+reports_read (SolveLeast s) text written status a = (a.input, a.reads)
+reports_read (Proc s) text written status a = (a.proc, a.reads)
 reports_read Check text written status a = (a.answer, a.reads)
+reports_read CheckLeast text written status a = (a.answer, a.said, a.reads)
 reports_read Trim text written status a = (a.answer, a.reads)
 reports_read (Verify rounds nodes) text written status a = (a.told.checked, a.told.reads)
 reports_read Run text written status a = (a.program, a.reads)
@@ -108,6 +128,14 @@ pub record Laws : Type 0 where
       → ReadsCodes text checked → IsFirstCodesFault text place kind → ⊥
   pub codes_once : (text : List ℕ) (place other : ℕ) (kind another : Kind) → IsFirstCodesFault text place kind
       → IsFirstCodesFault text other another → (place ≡ other) × (kind ≡ another)
+  pub tails_apart : (text : List ℕ) (answer : AnswerText) (said : List (Option Tail)) (place : ℕ) (kind : Kind)
+      → ReadsTailed text answer said → IsTailedFault text place kind → ⊥
+  pub tails_once : (text : List ℕ) (place other : ℕ) (kind another : Kind) → IsTailedFault text place kind
+      → IsTailedFault text other another → (place ≡ other) × (kind ≡ another)
+  pub procs_apart : (text : List ℕ) (proc : ProcTree) (place : ℕ) (kind : Kind) → ReadsProc text proc
+      → IsFirstProcFault text place kind → ⊥
+  pub procs_once : (text : List ℕ) (place other : ℕ) (kind another : Kind) → IsFirstProcFault text place kind
+      → IsFirstProcFault text other another → (place ≡ other) × (kind ≡ another)
   pub programs_apart : (text : List ℕ) (run : RunText) (place : ℕ) (kind : Kind) → ReadsRun text run
       → IsRunFault text place kind → ⊥
   pub programs_once : (text : List ℕ) (place other : ℕ) (kind another : Kind) → IsRunFault text place kind
@@ -120,7 +148,11 @@ module _ (laws : Laws) where
   apart : (command : Command) (text : List ℕ) (place : ℕ) (kind : Kind) → IsWithinLimit command text
       → IsReadFor command text → IsFaultFor command text place kind → ⊥
   apart (Solve s) text place kind within read first = laws.goals_apart text read.0 place kind read.1 first
+  apart (SolveLeast s) text place kind within read first = laws.goals_apart text read.0 place kind read.1 first
+  apart (Proc s) text place kind within read first = laws.procs_apart text read.0 place kind read.1 first
   apart Check text place kind within read first = laws.answers_apart text read.0 place kind read.1 first
+  apart CheckLeast text place kind within read first =
+      laws.tails_apart text read.0 read.1 place kind read.2 first
   apart Trim text place kind within read first = laws.answers_apart text read.0 place kind read.1 first
   apart (Verify rounds nodes) text place kind within read first =
       laws.codes_apart text read.0 place kind (few_bytes text (within 1048576 refl)) read.1 first
@@ -131,7 +163,10 @@ module _ (laws : Laws) where
       → IsFaultFor command text place kind → IsFaultFor command text other another
       → (place ≡ other) × (kind ≡ another)
   once (Solve s) text place other kind another f g = laws.goals_once text place other kind another f g
+  once (SolveLeast s) text place other kind another f g = laws.goals_once text place other kind another f g
+  once (Proc s) text place other kind another f g = laws.procs_once text place other kind another f g
   once Check text place other kind another f g = laws.answers_once text place other kind another f g
+  once CheckLeast text place other kind another f g = laws.tails_once text place other kind another f g
   once Trim text place other kind another f g = laws.answers_once text place other kind another f g
   once (Verify rounds nodes) text place other kind another f g = laws.codes_once text place other kind another f g
   once Run text place other kind another f g = laws.programs_once text place other kind another f g

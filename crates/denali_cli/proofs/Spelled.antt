@@ -1,7 +1,8 @@
 -- What clap's clauses say of the program's words.
-use Rattle.std.proofs.Common.{◌≡◌, ◌||◌, Bool, true, false, cond, List, [], ◌∷◌, None, Some, refl, sym, ap, subst, ◌∙◌, inl, inr}
+use Rattle.std.proofs.Common.{◌≡◌, ◌||◌, Bool, true, false, cond, List, [], ◌∷◌, None, Some, codes, refl, sym, ap, subst, ◌∙◌, inl, inr}
 use Rattle.std.specs.Borrow.{Bor}
-use Rattle.std.specs.Option.{option_map, option_and_then}
+use Rattle.std.specs.Option.{option_map, option_map_or, option_and_then}
+use Rattle.std.specs.Str.{bytes_eq}
 use Rattle.std.specs.declared.option.Option.{Option}
 use Rattle.clap.specs.Words.{App, HasKind, HasMatchesOf, IsAmong, Kinds, Row, Text, fault_of, first_of, first_value, is_simple, is_simple_and_free, kind_of, rows_of, subcommand_of, subcommand_rows_of}
 use Rattle.clap.specs.declared.error.Error.{Error}
@@ -12,7 +13,7 @@ use Rattle.clap.specs.declared.parser.matches.Found.{Found}
 use Rattle.clap.proofs.WalkLemmas.{first_value-rows}
 use Rattle.clap.proofs.OnLiterals.{clap_on_literals}
 use Rattle.denali_cli.specs.Commands.{Command}
-use Rattle.denali_cli.specs.Spellings.{command_in, value_given, is_taken, matched, program, spelled_command}
+use Rattle.denali_cli.specs.Spellings.{command_in, has_least, value_given, is_taken, matched, program, spelled_command}
 
 -- ---- the program as clap has it
 
@@ -68,3 +69,23 @@ module _ {A : Type 0} (read : Text → Option A) (found : Found) (name : Text) (
   present word some value is =
       ap (option_map (λ v. Some v)) is
       ∙ ap (value_given read) (ap (option_map (λ s. s.now)) (sym some) ∙ has ∙ first_value-rows found name)
+
+-- ---- the flag
+
+is_true : Text → Bool
+is_true text = bytes_eq text (codes "true")
+
+module _ (found : Found) (text : Option (Bor Text))
+    (has : option_map (λ s. s.now) text ≡ first_value found (codes "least")) where
+  read_flag : option_map_or is_true (option_map (λ s. s.now) text) false ≡ has_least (rows_of found)
+  unfolding is_true
+  read_flag = ap (λ o. option_map_or is_true o false) (has ∙ first_value-rows found (codes "least"))
+
+  pub flag_present : (word : Bor Text) → text ≡ Some word → bytes_eq word.now (codes "true") ≡ has_least (rows_of found)
+  unfolding is_true
+  flag_present word some =
+      ap (λ o. option_map_or is_true (option_map (λ s. s.now) o) false) (sym some) ∙ read_flag
+
+  pub flag_absent : text ≡ None → false ≡ has_least (rows_of found)
+  flag_absent none =
+      ap (λ o. option_map_or is_true (option_map (λ (s : Bor Text). s.now) o) false) (sym none) ∙ read_flag

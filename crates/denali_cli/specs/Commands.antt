@@ -2,12 +2,15 @@
 use Rattle.std.specs.Prelude.{◌≤◌}
 use Rattle.denali_run.specs.MatchedGoals.{IsSettings}
 pub use Rattle.denali_cli.specs.declared.commands.Command.{Command}
-pub use Rattle.denali_cli.specs.declared.commands.Command.TheVariants.{Solve, Check, Trim, Verify, Run, Gen}
+pub use Rattle.denali_cli.specs.declared.commands.Command.TheVariants.{Solve, SolveLeast, Proc, Check, CheckLeast, Trim, Verify, Run, Gen}
 
 -- its numbers are within their limits
 abbrev pub HasValuesInRange : Command → Type 0
 HasValuesInRange (Solve s) = IsSettings s
+HasValuesInRange (SolveLeast s) = IsSettings s
+HasValuesInRange (Proc s) = IsSettings s
 HasValuesInRange Check = Unit {0}
+HasValuesInRange CheckLeast = Unit {0}
 HasValuesInRange Trim = Unit {0}
 HasValuesInRange (Verify rounds nodes) = (rounds ≤ 16) × ((1 ≤ nodes) × (nodes ≤ 4096))
 HasValuesInRange Run = Unit {0}

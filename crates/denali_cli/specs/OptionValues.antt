@@ -1,5 +1,5 @@
 -- What options take for values, and what stands where they aren't set. Source: this project.
-use Rattle.std.specs.Prelude.{ℕ, Bool, List, None, Some, is_none, codes, decimal, nat_lt, not, ◌≤◌, ◌&&◌, if◌then◌else◌, unwrap_or, IfSome}
+use Rattle.std.specs.Prelude.{ℕ, Bool, false, List, None, Some, is_none, codes, decimal, nat_lt, not, ◌≤◌, ◌&&◌, if◌then◌else◌, unwrap_or, IfSome}
 use Rattle.std.specs.Str.Parse.{digits_value}
 use Rattle.std.specs.declared.option.Option.{Option}
 use Rattle.std.specs.Str.{bytes_eq}
@@ -45,7 +45,7 @@ default_size = 10
 -- ---- the options of `solve`
 
 abbrev pub no_options : Options
-no_options = record { rounds = None; nodes = None; cycles = None; conflicts = None; pick = None }
+no_options = record { rounds = None; nodes = None; cycles = None; conflicts = None; pick = None; least = false }
 
 -- the numbers that are set are within their ranges
 pub record AreInRange (o : Options) : Type 0 where
@@ -56,7 +56,7 @@ pub record AreInRange (o : Options) : Type 0 where
 
 -- no other option is set than those of rounds
 abbrev pub has_rounds_alone : Options → Bool
-has_rounds_alone o = is_none o.cycles && (is_none o.conflicts && is_none o.pick)
+has_rounds_alone o = is_none o.cycles && (is_none o.conflicts && (is_none o.pick && not o.least))
 
 abbrev pub default_rounds : ℕ
 default_rounds = 4

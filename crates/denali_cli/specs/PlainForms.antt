@@ -1,10 +1,10 @@
 -- Words in plain form: a command, and then pairs of an option and its value, in any order, each option at most once and
--- each value one of its own. Source: this project.
-use Rattle.std.specs.Prelude.{List, ℕ, [], ◌∷◌, None, Some, codes, unwrap_or, if◌then◌else◌}
+-- each value one of its own, and the flag at most once among them. Source: this project.
+use Rattle.std.specs.Prelude.{List, ℕ, Bool, true, [], ◌∷◌, None, Some, codes, unwrap_or, if◌then◌else◌}
 use Rattle.std.specs.Option.{option_and_then, option_map}
 use Rattle.std.specs.declared.option.Option.{Option}
 use Rattle.std.specs.Str.{bytes_eq}
-use Rattle.denali_cli.specs.Commands.{Command, Solve, Check, Trim, Verify, Run, Gen}
+use Rattle.denali_cli.specs.Commands.{Command, Solve, SolveLeast, Proc, Check, CheckLeast, Trim, Verify, Run, Gen}
 use Rattle.denali_cli.specs.declared.options.Options.{Options}
 use Rattle.denali_cli.specs.OptionValues.{rounds_value, nodes_value, cycles_value, conflicts_value, pick_value, no_options, settings_of, has_rounds_alone, default_rounds, default_nodes, size_value, default_size}
 
@@ -32,11 +32,35 @@ abbrev pub and_then : Option Options → (Options → Option Options) → Option
 and_then None next = None
 and_then (Some o) next = next o
 
+-- the flag, which has no value
+abbrev pub is_flag : List ℕ → Bool
+is_flag name = bytes_eq name (codes "--least")
+
+-- the options with the flag set, which wasn't set before
+abbrev pub set_flag : Options → Option Options
+set_flag o = if o.least then None else Some (record o { least = true })
+
 -- the options with those set that the words have
 abbrev pub set_options : Options → List (List ℕ) → Option Options
 set_options o [] = Some o
-set_options o (name ∷ []) = None
-set_options o (name ∷ value ∷ words) = and_then (set_option o name value) (λ p. set_options p words)
+set_options o (name ∷ []) = if is_flag name then set_flag o else None
+set_options o (name ∷ value ∷ words) =
+    if is_flag name then and_then (set_flag o) (λ p. set_options p (value ∷ words))
+    else and_then (set_option o name value) (λ p. set_options p words)
+
+-- the command of `solve` with these options
+abbrev pub solve_of : Options → Command
+solve_of o = if o.least then SolveLeast (settings_of o) else Solve (settings_of o)
+
+-- the command of `proc` with these options, which are those of `solve` without the flag
+abbrev pub proc_of : Options → Option Command
+proc_of o = if o.least then None else Some (Proc (settings_of o))
+
+-- the command of `check` with these words behind it: none, or the flag
+abbrev pub check_of : List (List ℕ) → Option Command
+check_of [] = Some Check
+check_of (name ∷ []) = if is_flag name then Some CheckLeast else None
+check_of (name ∷ word ∷ words) = None
 
 -- a command without options
 abbrev pub alone : Command → List (List ℕ) → Option Command
@@ -60,9 +84,11 @@ abbrev pub plain_command : List (List ℕ) → Option Command
 plain_command [] = None
 plain_command (name ∷ words) =
     if bytes_eq name (codes "solve")
-    then option_map (λ o. Solve (settings_of o)) (set_options no_options words)
+    then option_map solve_of (set_options no_options words)
+    else if bytes_eq name (codes "proc")
+    then option_and_then proc_of (set_options no_options words)
     else if bytes_eq name (codes "check")
-    then alone Check words
+    then check_of words
     else if bytes_eq name (codes "trim")
     then alone Trim words
     else if bytes_eq name (codes "verify")

@@ -17,15 +17,25 @@ use Rattle.denali_run.specs.declared.reports.TextError.{TextError}
 use Rattle.denali_run.specs.declared.reports.TextError.TheVariants.{Read, Memory}
 use Rattle.denali_run.specs.declared.statuses.Status.{Status}
 use Rattle.denali_run.specs.declared.statuses.Status.TheVariants.{ReadFault}
+use Rattle.least_launch.specs.LeastAnswers.{AnswersLeast}
+use Rattle.least_launch.specs.LeastChecks.{ChecksLeast}
+use Rattle.least_launch.specs.TailedAnswers.{IsTailedFault, ReadsTailed}
+use Rattle.least_launch.specs.declared.tails.Tail.{Tail}
+use Rattle.proc_goal.specs.ProcGrammar.{IsFirstProcFault, ReadsProc}
+use Rattle.proc_goal.specs.Views.{ProcTree}
+use Rattle.proc_link.specs.ProcAnswers.{AnswersProc}
 use Rattle.refute_trim.specs.TrimmedAnswers.{TrimsText}
 use Rattle.code_check.specs.CodeGrammar.{CheckedTree, IsFirstCodesFault, ReadsCodes}
-use Rattle.denali_cli.specs.Commands.{Command, Solve, Check, Trim, Verify, Run, Gen}
+use Rattle.denali_cli.specs.Commands.{Command, Solve, SolveLeast, Proc, Check, CheckLeast, Trim, Verify, Run, Gen}
 use Rattle.denali_cli.specs.VerifiedTexts.{VerifiesText}
 
 -- how many bytes a command reads at most, if it reads; an answer may be long
 abbrev pub limit_of : Command → Option ℕ
 limit_of (Solve s) = Some 1048576
+limit_of (SolveLeast s) = Some 1048576
+limit_of (Proc s) = Some 1048576
 limit_of Check = Some 268435456
+limit_of CheckLeast = Some 268435456
 limit_of Trim = Some 268435456
 limit_of (Verify rounds nodes) = Some 1048576
 limit_of Run = Some 1048576
@@ -54,7 +64,10 @@ usage_line = codes "usage\n"
 -- the text has a reading for the command
 abbrev pub IsReadFor : Command → List ℕ → Type 0
 IsReadFor (Solve s) text = (input : InputTree) × Reads text input
+IsReadFor (SolveLeast s) text = (input : InputTree) × Reads text input
+IsReadFor (Proc s) text = (proc : ProcTree) × ReadsProc text proc
 IsReadFor Check text = (answer : AnswerText) × ReadsAnswer text answer
+IsReadFor CheckLeast text = (answer : AnswerText) × (said : List (Option Tail)) × ReadsTailed text answer said
 IsReadFor Trim text = (answer : AnswerText) × ReadsAnswer text answer
 IsReadFor (Verify rounds nodes) text = (checked : CheckedTree) × ReadsCodes text checked
 IsReadFor Run text = (program : RunText) × ReadsRun text program
@@ -63,7 +76,10 @@ IsReadFor (Gen size) text = Unit {0}
 -- the text's first fault for the command
 abbrev pub IsFaultFor : Command → List ℕ → ℕ → Kind → Type 0
 IsFaultFor (Solve s) text place kind = IsFirstTextFault text place kind
+IsFaultFor (SolveLeast s) text place kind = IsFirstTextFault text place kind
+IsFaultFor (Proc s) text place kind = IsFirstProcFault text place kind
 IsFaultFor Check text place kind = IsAnswerFault text place kind
+IsFaultFor CheckLeast text place kind = IsTailedFault text place kind
 IsFaultFor Trim text place kind = IsAnswerFault text place kind
 IsFaultFor (Verify rounds nodes) text place kind = IsFirstCodesFault text place kind
 IsFaultFor Run text place kind = IsRunFault text place kind
@@ -72,7 +88,10 @@ IsFaultFor (Gen size) text place kind = ⊥
 -- the command's report on a text, and its status
 abbrev pub Reports : Command → List ℕ → List ℕ → Status → Type 0
 Reports (Solve s) text bytes status = Answers s text bytes status
+Reports (SolveLeast s) text bytes status = AnswersLeast s text bytes status
+Reports (Proc s) text bytes status = AnswersProc s text bytes status
 Reports Check text bytes status = ChecksText text bytes status
+Reports CheckLeast text bytes status = ChecksLeast text bytes status
 Reports Trim text bytes status = TrimsText text bytes status
 Reports (Verify rounds nodes) text bytes status = VerifiesText rounds nodes text bytes status
 Reports Run text bytes status = RunsText text bytes status

@@ -2,13 +2,14 @@
 -- matches that clap defines for such a command. Source: this project, over clap's own definitions of which words a
 -- command takes and what it matches.
 use Rattle.std.specs.Prelude.{Bool, true, false, List, [], ◌∷◌, None, Some, codes, if◌then◌else◌}
-use Rattle.std.specs.Option.{option_map, option_and_then, unwrap_or}
+use Rattle.std.specs.Option.{option_map, option_map_or, option_and_then, unwrap_or}
 use Rattle.std.specs.declared.option.Option.{Option}
 use Rattle.std.specs.Str.{bytes_eq}
 use Rattle.clap.specs.Words.{App, Kinds, Row, Rule, Text, fault_of, first_of, new_app, new_rule, subcommand_of, with_rule, with_subcommand}
-use Rattle.clap.specs.declared.builder.action.ArgAction.TheVariants.{Set}
-use Rattle.denali_cli.specs.Commands.{Command, Solve, Check, Trim, Verify, Run, Gen}
+use Rattle.clap.specs.declared.builder.action.ArgAction.TheVariants.{Set, SetTrue}
+use Rattle.denali_cli.specs.Commands.{Command, Proc, Check, CheckLeast, Trim, Verify, Run, Gen}
 use Rattle.denali_cli.specs.declared.options.Options.{Options}
+use Rattle.denali_cli.specs.PlainForms.{solve_of}
 use Rattle.denali_cli.specs.OptionValues.{rounds_value, nodes_value, cycles_value, conflicts_value, pick_value, settings_of, default_rounds, default_nodes, size_value, default_size}
 
 -- ---- the program
@@ -21,9 +22,20 @@ abbrev pub with_options : App → List Text → App
 with_options a [] = a
 with_options a (name ∷ names) = with_options (with_rule a (option_rule name)) names
 
-abbrev pub solve_app : App
-solve_app = with_options (new_app (codes "solve"))
+-- `--least`, without a value
+abbrev pub least_rule : Rule
+least_rule = record (new_rule (codes "least")) { long = Some (codes "least"); action = Some SetTrue }
+
+-- the options with a value of a command that solves goals
+abbrev pub solving_app : Text → App
+solving_app name = with_options (new_app name)
     (codes "rounds" ∷ codes "nodes" ∷ codes "cycles" ∷ codes "conflicts" ∷ codes "pick" ∷ [])
+
+abbrev pub solve_app : App
+solve_app = with_rule (solving_app (codes "solve")) least_rule
+
+abbrev pub check_app : App
+check_app = with_rule (new_app (codes "check")) least_rule
 
 abbrev pub verify_app : App
 verify_app = with_options (new_app (codes "verify")) (codes "rounds" ∷ codes "nodes" ∷ [])
@@ -41,7 +53,7 @@ with_commands a (command ∷ commands) = with_commands (with_subcommand a comman
 
 abbrev pub program : App
 program = with_commands (of_words (new_app (codes "denali")))
-    (solve_app ∷ new_app (codes "check") ∷ new_app (codes "trim") ∷ verify_app ∷ new_app (codes "run") ∷ gen_app ∷ [])
+    (solve_app ∷ solving_app (codes "proc") ∷ check_app ∷ new_app (codes "trim") ∷ verify_app ∷ new_app (codes "run") ∷ gen_app ∷ [])
 
 -- clap finds no fault
 abbrev pub is_taken : Kinds → Bool
@@ -59,13 +71,24 @@ abbrev pub value_given : {A : Type 0} → (Text → Option A) → Option Text �
 value_given read None = Some None
 value_given read (Some text) = option_map (λ value. Some value) (read text)
 
+-- the flag is given
+abbrev pub has_least : List Row → Bool
+has_least rows = option_map_or (λ text. bytes_eq text (codes "true")) (first_of (codes "least") rows) false
+
 abbrev pub options_in : List Row → Option Options
 options_in rows =
     option_and_then (λ rounds.
     option_and_then (λ nodes.
     option_and_then (λ cycles.
     option_and_then (λ conflicts.
-    option_map (λ pick. record { rounds = rounds; nodes = nodes; cycles = cycles; conflicts = conflicts; pick = pick })
+    option_map (λ pick. record {
+      rounds = rounds;
+      nodes = nodes;
+      cycles = cycles;
+      conflicts = conflicts;
+      pick = pick;
+      least = has_least rows;
+    })
     (value_given pick_value (first_of (codes "pick") rows)))
     (value_given conflicts_value (first_of (codes "conflicts") rows)))
     (value_given cycles_value (first_of (codes "cycles") rows)))
@@ -73,7 +96,13 @@ options_in rows =
     (value_given rounds_value (first_of (codes "rounds") rows))
 
 abbrev pub solve_in : List Row → Option Command
-solve_in rows = option_map (λ o. Solve (settings_of o)) (options_in rows)
+solve_in rows = option_map solve_of (options_in rows)
+
+abbrev pub proc_in : List Row → Option Command
+proc_in rows = option_map (λ o. Proc (settings_of o)) (options_in rows)
+
+abbrev pub check_in : List Row → Command
+check_in rows = if has_least rows then CheckLeast else Check
 
 abbrev pub verify_in : List Row → Option Command
 verify_in rows =
@@ -90,7 +119,8 @@ gen_in rows =
 abbrev pub command_in : Text × List Row → Option Command
 command_in m =
     if bytes_eq m.0 (codes "solve") then solve_in m.1
-    else if bytes_eq m.0 (codes "check") then Some Check
+    else if bytes_eq m.0 (codes "proc") then proc_in m.1
+    else if bytes_eq m.0 (codes "check") then Some (check_in m.1)
     else if bytes_eq m.0 (codes "trim") then Some Trim
     else if bytes_eq m.0 (codes "verify") then verify_in m.1
     else if bytes_eq m.0 (codes "run") then Some Run

@@ -6,8 +6,14 @@ use denali_run::Settings;
 pub(crate) enum Command {
     /// Answers a text of goals.
     Solve(Settings),
+    /// Answers a text of goals with schedules of the fewest launches.
+    SolveLeast(Settings),
+    /// Answers a text of a proc, and links its blocks.
+    Proc(Settings),
     /// Tests what an answer claims.
     Check,
+    /// Tests what an answer claims, and what is said behind it of the numbers of launches.
+    CheckLeast,
     /// Trims the refutations of an answer.
     Trim,
     /// Checks codes against their goals, in so many rounds and up to so many rows.

@@ -15,7 +15,9 @@ use code_check::{Told, verify_text};
 use denali_run::{Report, Status, TextError, check_text, gen_text, run_text, solve_text};
 use items::NoMemory;
 use itoa::Buffer;
+use least_launch::{check_least_text, solve_least_text};
 use outside_io::{ReadAllFault, Source, read_all};
+use proc_link::proc_text;
 use refute_trim::trim_text;
 use std::alloc::Global;
 use text_core::{Fault, TextFault};
@@ -86,8 +88,8 @@ fn limit_of(command: Command) -> Option<u32>
     ensures small { IfSome result (λ limit. limit ≤ 268435456) }
 {
     match command {
-        Command::Solve(_) => Some(LIMIT),
-        Command::Check | Command::Trim => Some(ANSWER_LIMIT),
+        Command::Solve(_) | Command::SolveLeast(_) | Command::Proc(_) => Some(LIMIT),
+        Command::Check | Command::CheckLeast | Command::Trim => Some(ANSWER_LIMIT),
         Command::Verify { .. } | Command::Run => Some(LIMIT),
         Command::Gen(_) => None,
     }
@@ -135,7 +137,10 @@ fn report_on(alloc: Global, command: Command, text: &[u8]) -> Result<Report, Tex
 {
     match command {
         Command::Solve(settings) => solve_text(alloc, text, &settings),
+        Command::SolveLeast(settings) => solve_least_text(alloc, text, &settings),
+        Command::Proc(settings) => proc_text(alloc, text, &settings),
         Command::Check => check_text(alloc, text),
+        Command::CheckLeast => check_least_text(alloc, text),
         Command::Trim => trim_text(alloc, text),
         Command::Verify { rounds, nodes } => verified(alloc, text, rounds, nodes),
         Command::Run => run_text(alloc, text),

@@ -10,6 +10,8 @@ ghost use Rattle.denali_cli.specs.Replies.{IsFaultFor, IsPastLimit, IsReadFor, I
 use answer_texts::one_answer;
 use code_check::codes_have_one_reading;
 use goal_reader::{texts_have_one_first_fault, texts_have_one_reading};
+use least_launch::one_tailed_answer;
+use proc_goal::procs_have_one_reading;
 use run_texts::one_program;
 
 /// Every reply is a fault or a report. It is a fault exactly where the text is longer than the limit or has a fault, and a
@@ -37,5 +39,7 @@ pub fn replies_are_exact()
     texts_have_one_first_fault();
     one_answer();
     codes_have_one_reading();
+    one_tailed_answer();
+    procs_have_one_reading();
     one_program();
 }

@@ -1,9 +1,11 @@
 // Options, and their values.
 ghost use Rattle.std.specs.Prelude.{◌≡◌, ◌≤◌, ◌<◌, ◌^◌, IfSome, IfNone, map};
 ghost use Rattle.denali_run.specs.MatchedGoals.{IsSettings};
+ghost use Rattle.denali_cli.specs.Commands.{HasValuesInRange};
 ghost use Rattle.denali_cli.specs.OptionValues as values;
 ghost use Rattle.denali_cli.specs.PlainForms as plain;
 
+use crate::commands::Command;
 use denali_run::{Pick, Settings};
 use text_core::decimal;
 
@@ -34,6 +36,7 @@ pub(crate) struct Options {
     pub(crate) cycles: Option<u32>,
     pub(crate) conflicts: Option<u32>,
     pub(crate) pick: Option<Pick>,
+    pub(crate) least: bool,
 }
 
 /// The number that a word is, within two bounds.
@@ -98,7 +101,28 @@ fn with_option(options: Options, name: &str, value: &str) -> Option<Options>
     Some(options)
 }
 
-/// The options that the words set: pairs of an option and its value, each option once.
+/// Whether the word is the flag.
+pub(crate) fn is_flag(name: &str) -> bool
+    ensures { result ≡ plain.is_flag name.now }
+{
+    name == "--least"
+}
+
+/// The options with the flag set, which wasn't set before.
+fn with_flag(options: Options) -> Option<Options>
+    requires { values.AreInRange options }
+    ensures value { result ≡ plain.set_flag options }
+    ensures within { IfSome result values.AreInRange }
+{
+    if options.least {
+        return None;
+    }
+    let mut options = options;
+    options.least = true;
+    Some(options)
+}
+
+/// The options that the words set: the flag, and pairs of an option and its value, each once.
 pub(crate) fn options_of(words: &[&str]) -> Option<Options>
     ensures value { result ≡ plain.set_options values.no_options (map (λ word. word.now) words.now) }
     ensures within { IfSome result values.AreInRange }
@@ -106,13 +130,18 @@ pub(crate) fn options_of(words: &[&str]) -> Option<Options>
     let mut options = no_options();
     let mut at = 0;
     while at < words.len() {
-        if at + 1 == words.len() {
-            return None;
-        }
         let name = words[at];
-        let value = words[at + 1];
-        options = with_option(options, name, value)?;
-        at += 2;
+        if is_flag(name) {
+            options = with_flag(options)?;
+            at += 1;
+        } else {
+            if at + 1 == words.len() {
+                return None;
+            }
+            let value = words[at + 1];
+            options = with_option(options, name, value)?;
+            at += 2;
+        }
     }
     Some(options)
 }
@@ -140,6 +169,7 @@ fn no_options() -> Options
         cycles: None,
         conflicts: None,
         pick: None,
+        least: false,
     }
 }
 
@@ -155,5 +185,19 @@ pub(crate) fn settings_of(options: Options) -> Settings
         cycles: options.cycles.unwrap_or(8),
         conflicts: options.conflicts.unwrap_or(20000),
         pick: options.pick.unwrap_or(Pick::First),
+    }
+}
+
+/// The command of `solve` with these options.
+pub(crate) fn solve_of(options: Options) -> Command
+    requires { values.AreInRange options }
+    ensures value { result ≡ plain.solve_of options }
+    ensures within { HasValuesInRange result }
+{
+    let settings = settings_of(options);
+    if options.least {
+        Command::SolveLeast(settings)
+    } else {
+        Command::Solve(settings)
     }
 }

@@ -10,7 +10,7 @@ ghost use Rattle.denali_cli.specs.Spellings as spec;
 use crate::commands::Command;
 use crate::options::{
     DEFAULT_NODES, DEFAULT_ROUNDS, DEFAULT_SIZE, MOST_CONFLICTS, MOST_CYCLES, MOST_NODES,
-    MOST_ROUNDS, MOST_SIZE, Options, pick_of, settings_of, value_in,
+    MOST_ROUNDS, MOST_SIZE, Options, pick_of, settings_of, solve_of, value_in,
 };
 use clap::error::ErrorKind;
 use clap::{Arg, ArgAction, ArgMatches, Command as Parser};
@@ -30,17 +30,46 @@ fn with_argument<'a>(
     command.arg(Arg::new(alloc, name).long(name).action(ArgAction::Set))
 }
 
+/// The command with the flag, `--least`.
+fn with_flag<'a>(alloc: Global, command: Parser<'a>) -> Result<Parser<'a>, NoMemory>
+    ensures rule { IfOk result (λ c. app_of c ≡ with_rule (app_of command.entry) spec.least_rule) }
+    ensures local { IfOk result (λ c. (fields_of c).has_globals ≡ (fields_of command.entry).has_globals) }
+{
+    command.arg(
+        Arg::new(alloc, "least")
+            .long("least")
+            .action(ArgAction::SetTrue),
+    )
+}
+
+/// A command that solves goals, with its options that have a value.
+fn solving_parser<'a>(alloc: Global, name: &'a str) -> Result<Parser<'a>, NoMemory>
+    ensures app { IfOk result (λ c. app_of c ≡ spec.solving_app name.entry.now) }
+    ensures local { IfOk result (λ c. (fields_of c).has_globals ≡ false) }
+{
+    let parser = Parser::new(alloc, name);
+    let parser = with_argument(alloc, parser, "rounds")?;
+    let parser = with_argument(alloc, parser, "nodes")?;
+    let parser = with_argument(alloc, parser, "cycles")?;
+    let parser = with_argument(alloc, parser, "conflicts")?;
+    with_argument(alloc, parser, "pick")
+}
+
 /// `solve` with its options.
 fn solve_parser<'a>(alloc: Global) -> Result<Parser<'a>, NoMemory>
     ensures app { IfOk result (λ c. app_of c ≡ spec.solve_app) }
     ensures local { IfOk result (λ c. (fields_of c).has_globals ≡ false) }
 {
-    let solve = Parser::new(alloc, "solve");
-    let solve = with_argument(alloc, solve, "rounds")?;
-    let solve = with_argument(alloc, solve, "nodes")?;
-    let solve = with_argument(alloc, solve, "cycles")?;
-    let solve = with_argument(alloc, solve, "conflicts")?;
-    with_argument(alloc, solve, "pick")
+    let solve = solving_parser(alloc, "solve")?;
+    with_flag(alloc, solve)
+}
+
+/// `check` with its flag.
+fn check_parser<'a>(alloc: Global) -> Result<Parser<'a>, NoMemory>
+    ensures app { IfOk result (λ c. app_of c ≡ spec.check_app) }
+    ensures local { IfOk result (λ c. (fields_of c).has_globals ≡ false) }
+{
+    with_flag(alloc, Parser::new(alloc, "check"))
 }
 
 /// `verify` with its options.
@@ -60,18 +89,31 @@ fn gen_parser<'a>(alloc: Global) -> Result<Parser<'a>, NoMemory>
     with_argument(alloc, Parser::new(alloc, "gen"), "size")
 }
 
-/// The program with the commands on goals and answers, for words without its name.
-fn first_commands<'a>(alloc: Global) -> Result<Parser<'a>, NoMemory>
+/// The program with the commands on goals, for words without its name.
+fn solving_commands<'a>(alloc: Global) -> Result<Parser<'a>, NoMemory>
     ensures { IfOk result (λ c. app_of c
         ≡ spec.with_commands (spec.of_words (new_app (codes "denali")))
-        (spec.solve_app ∷ new_app (codes "check") ∷ new_app (codes "trim") ∷ [])) }
+        (spec.solve_app ∷ spec.solving_app (codes "proc") ∷ [])) }
 {
     let solve = solve_parser(alloc)?;
+    let proc = solving_parser(alloc, "proc")?;
     Parser::new(alloc, "denali")
         .no_binary_name(true)
         .subcommand_required(true)
         .subcommand(solve)?
-        .subcommand(Parser::new(alloc, "check"))?
+        .subcommand(proc)
+}
+
+/// The program with the commands on goals and answers.
+fn first_commands<'a>(alloc: Global) -> Result<Parser<'a>, NoMemory>
+    ensures { IfOk result (λ c. app_of c
+        ≡ spec.with_commands (spec.of_words (new_app (codes "denali")))
+        (spec.solve_app ∷ spec.solving_app (codes "proc") ∷ spec.check_app ∷ new_app (codes "trim") ∷ [])) }
+{
+    let first = solving_commands(alloc)?;
+    let check = check_parser(alloc)?;
+    first
+        .subcommand(check)?
         .subcommand(Parser::new(alloc, "trim"))
 }
 
@@ -111,6 +153,16 @@ fn pick_given(matches: &ArgMatches<'_>, name: &str) -> Option<Option<Pick>>
     Some(Some(pick))
 }
 
+/// Whether the flag is given.
+fn has_least(matches: &ArgMatches<'_>) -> bool
+    ensures { result ≡ spec.has_least (rows_of (found_of matches.now)) }
+{
+    match matches.get_str("least") {
+        Some(word) => word == "true",
+        None => false,
+    }
+}
+
 /// The options of `solve` that are given.
 fn options_in(matches: &ArgMatches<'_>) -> Option<Options>
     ensures value { result ≡ spec.options_in (rows_of (found_of matches.now)) }
@@ -121,12 +173,14 @@ fn options_in(matches: &ArgMatches<'_>) -> Option<Options>
     let cycles = number_given(matches, "cycles", 0, MOST_CYCLES)?;
     let conflicts = number_given(matches, "conflicts", 1, MOST_CONFLICTS)?;
     let pick = pick_given(matches, "pick")?;
+    let least = has_least(matches);
     Some(Options {
         rounds,
         nodes,
         cycles,
         conflicts,
         pick,
+        least,
     })
 }
 
@@ -136,7 +190,28 @@ fn solve_in(matches: &ArgMatches<'_>) -> Option<Command>
     ensures within { IfSome result HasValuesInRange }
 {
     let options = options_in(matches)?;
-    Some(Command::Solve(settings_of(options)))
+    Some(solve_of(options))
+}
+
+/// The command of `proc` with the options that are given.
+fn proc_in(matches: &ArgMatches<'_>) -> Option<Command>
+    ensures value { result ≡ spec.proc_in (rows_of (found_of matches.now)) }
+    ensures within { IfSome result HasValuesInRange }
+{
+    let options = options_in(matches)?;
+    Some(Command::Proc(settings_of(options)))
+}
+
+/// The command of `check` with the flag, or without it.
+fn check_in(matches: &ArgMatches<'_>) -> Command
+    ensures value { result ≡ spec.check_in (rows_of (found_of matches.now)) }
+    ensures within { HasValuesInRange result }
+{
+    if has_least(matches) {
+        Command::CheckLeast
+    } else {
+        Command::Check
+    }
 }
 
 /// The command of `verify` with the options that are given.
@@ -169,8 +244,10 @@ fn command_in(matches: &ArgMatches<'_>) -> Option<Command>
     let (name, matches) = matches.subcommand()?;
     if name == "solve" {
         solve_in(matches)
+    } else if name == "proc" {
+        proc_in(matches)
     } else if name == "check" {
-        Some(Command::Check)
+        Some(check_in(matches))
     } else if name == "trim" {
         Some(Command::Trim)
     } else if name == "verify" {

@@ -8,7 +8,9 @@ ghost use Rattle.denali_cli.specs.PlainForms.{plain_command};
 ghost use Rattle.denali_cli.specs.Said.{asked_by};
 
 use crate::commands::Command;
-use crate::options::{DEFAULT_NODES, DEFAULT_ROUNDS, Options, options_of, settings_of, size_in};
+use crate::options::{
+    DEFAULT_NODES, DEFAULT_ROUNDS, Options, is_flag, options_of, settings_of, size_in, solve_of,
+};
 use crate::spelling::spelled;
 use items::NoMemory;
 use std::alloc::Global;
@@ -26,13 +28,40 @@ fn alone(command: Command, words: &[&str]) -> Option<Command>
     }
 }
 
+/// The command of `proc` with these options, which are those of `solve` without the flag.
+fn proc_of(options: Options) -> Option<Command>
+    requires { AreInRange options }
+    ensures value { result ≡ plain.proc_of options }
+    ensures within { IfSome result HasValuesInRange }
+{
+    if options.least {
+        return None;
+    }
+    Some(Command::Proc(settings_of(options)))
+}
+
+/// The command of `check` with these words behind it: none, or the flag.
+fn check_of(words: &[&str]) -> Option<Command>
+    ensures value { result ≡ plain.check_of (map (λ word. word.now) words.now) }
+    ensures within { IfSome result HasValuesInRange }
+{
+    match words {
+        [] => Some(Command::Check),
+        [name] if is_flag(name) => Some(Command::CheckLeast),
+        _ => None,
+    }
+}
+
 /// The command of `verify` with these options, which are those of rounds.
 fn verify_of(options: Options) -> Option<Command>
     requires { AreInRange options }
     ensures value { result ≡ plain.verify_of options }
     ensures within { IfSome result HasValuesInRange }
 {
-    if options.cycles.is_some() || options.conflicts.is_some() || options.pick.is_some() {
+    if options.cycles.is_some() || options.conflicts.is_some() {
+        return None;
+    }
+    if options.pick.is_some() || options.least {
         return None;
     }
     Some(Command::Verify {
@@ -49,9 +78,12 @@ fn in_plain_form(words: &[&str]) -> Option<Command>
     let (name, words) = words.split_first()?;
     if *name == "solve" {
         let options = options_of(words)?;
-        Some(Command::Solve(settings_of(options)))
+        Some(solve_of(options))
+    } else if *name == "proc" {
+        let options = options_of(words)?;
+        proc_of(options)
     } else if *name == "check" {
-        alone(Command::Check, words)
+        check_of(words)
     } else if *name == "trim" {
         alone(Command::Trim, words)
     } else if *name == "verify" {

@@ -1,7 +1,7 @@
 // What some words ask for, by the definitions.
 ghost use Rattle.std.specs.Prelude.{◌≡◌, [], ◌∷◌, None, Some, codes};
 ghost use Rattle.denali_run.specs.declared.settings.Pick.TheVariants.{Last, Busy};
-ghost use Rattle.denali_cli.specs.Commands.{Solve, Check, Trim, Verify, Run, Gen};
+ghost use Rattle.denali_cli.specs.Commands.{Solve, SolveLeast, Proc, Check, CheckLeast, Trim, Verify, Run, Gen};
 ghost use Rattle.denali_cli.specs.OptionValues.{no_options, settings_of};
 ghost use Rattle.denali_cli.specs.Said.{command_of};
 ghost use Rattle.denali_cli.specs.Spellings.{spelled_command};
@@ -23,7 +23,24 @@ pub fn worked_words()
     ensures plain { spelled_command (codes "solve" ∷ codes "--nodes" ∷ codes "7" ∷ codes "--rounds" ∷ codes "0" ∷ [])
         ≡ command_of (codes "solve" ∷ codes "--nodes" ∷ codes "7" ∷ codes "--rounds" ∷ codes "0" ∷ []) }
     ensures bare { spelled_command (codes "solve" ∷ []) ≡ command_of (codes "solve" ∷ []) }
+    ensures links { command_of (codes "proc" ∷ codes "--cycles" ∷ codes "9" ∷ [])
+        ≡ Some (Proc (settings_of (record no_options { cycles = Some 9 }))) }
+    ensures joined_cycles { command_of (codes "proc" ∷ codes "--cycles=9" ∷ [])
+        ≡ Some (Proc (settings_of (record no_options { cycles = Some 9 }))) }
+    ensures no_flag_of_procs { command_of (codes "proc" ∷ codes "--least" ∷ []) ≡ None }
     ensures checks { command_of (codes "check" ∷ []) ≡ Some Check }
+    ensures checks_least { command_of (codes "check" ∷ codes "--least" ∷ []) ≡ Some CheckLeast }
+    ensures checks_least_once { command_of (codes "check" ∷ codes "--least" ∷ codes "--least" ∷ []) ≡ None }
+    ensures solves_least { command_of (codes "solve" ∷ codes "--least" ∷ []) ≡ Some (SolveLeast (settings_of no_options)) }
+    ensures flag_among_pairs { command_of (codes "solve" ∷ codes "--nodes" ∷ codes "7" ∷ codes "--least" ∷ codes "--rounds" ∷ codes "3" ∷ [])
+        ≡ Some (SolveLeast (settings_of (record no_options { rounds = Some 3; nodes = Some 7 }))) }
+    ensures flag_in_another_spelling { command_of (codes "solve" ∷ codes "--least" ∷ codes "--rounds=3" ∷ [])
+        ≡ Some (SolveLeast (settings_of (record no_options { rounds = Some 3 }))) }
+    ensures plain_flag { spelled_command (codes "solve" ∷ codes "--rounds" ∷ codes "3" ∷ codes "--least" ∷ [])
+        ≡ command_of (codes "solve" ∷ codes "--rounds" ∷ codes "3" ∷ codes "--least" ∷ []) }
+    ensures flag_twice { command_of (codes "solve" ∷ codes "--least" ∷ codes "--least" ∷ []) ≡ None }
+    ensures flag_with_value { command_of (codes "solve" ∷ codes "--least=true" ∷ []) ≡ None }
+    ensures no_flag_of_codes { command_of (codes "verify" ∷ codes "--least" ∷ []) ≡ None }
     ensures no_option_of_checks { command_of (codes "check" ∷ codes "--cycles=3" ∷ []) ≡ None }
     ensures trims { command_of (codes "trim" ∷ []) ≡ Some Trim }
     ensures no_option_of_trims { command_of (codes "trim" ∷ codes "--cycles=3" ∷ []) ≡ None }

@@ -11,6 +11,10 @@ returns c =
       answers_once = c.one_answer.ensures.first;
       codes_apart = c.codes_have_one_reading.ensures.apart;
       codes_once = c.codes_have_one_reading.ensures.first;
+      tails_apart = c.one_tailed_answer.ensures.apart;
+      tails_once = c.one_tailed_answer.ensures.first;
+      procs_apart = c.procs_have_one_reading.ensures.apart;
+      procs_once = c.procs_have_one_reading.ensures.first;
       programs_apart = c.one_program.ensures.apart;
       programs_once = c.one_program.ensures.first;
     } in

@@ -22,4 +22,4 @@ returns-in_err-pick-clause-value c =
 
 pub returns-clause-value : goal.returns-clause-value
 returns-clause-value c =
-    rw (← c.in_ok-rounds.ensures.value, ← c.in_ok-nodes.ensures.value, ← c.in_ok-cycles.ensures.value, ← c.in_ok-conflicts.ensures.value, ← c.in_ok-pick.ensures) refl
+    rw (← c.in_ok-rounds.ensures.value, ← c.in_ok-nodes.ensures.value, ← c.in_ok-cycles.ensures.value, ← c.in_ok-conflicts.ensures.value, ← c.in_ok-pick.ensures, ← c.has_least-least.ensures) refl

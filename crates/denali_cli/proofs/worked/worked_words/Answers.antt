@@ -3,7 +3,7 @@ use Rattle.std.proofs.Common.{◌≡◌, [], ◌∷◌, None, Some, codes, refl}
 use Rattle.std.specs.Fmt.{digits}
 use Rattle.clap.proofs.OnLiterals.{clap_on_literals}
 use Rattle.denali_run.specs.declared.settings.Pick.TheVariants.{Last, Busy}
-use Rattle.denali_cli.specs.Commands.{Solve, Check, Trim, Verify, Run, Gen}
+use Rattle.denali_cli.specs.Commands.{Solve, SolveLeast, Proc, Check, CheckLeast, Trim, Verify, Run, Gen}
 use Rattle.denali_cli.specs.OptionValues.{no_options, settings_of}
 use Rattle.denali_cli.specs.Said.{command_of}
 use Rattle.denali_cli.specs.Spellings.{matched, spelled_command}
@@ -47,9 +47,62 @@ bare : spelled_command (codes "solve" ∷ []) ≡ command_of (codes "solve" ∷ 
 unfolding clap_on_literals matched digits
 bare = refl
 
+links : command_of (codes "proc" ∷ codes "--cycles" ∷ codes "9" ∷ [])
+    ≡ Some (Proc (settings_of (record no_options { cycles = Some 9 })))
+unfolding clap_on_literals matched digits
+links = refl
+
+joined_cycles : command_of (codes "proc" ∷ codes "--cycles=9" ∷ [])
+    ≡ Some (Proc (settings_of (record no_options { cycles = Some 9 })))
+unfolding clap_on_literals matched digits
+joined_cycles = refl
+
+no_flag_of_procs : command_of (codes "proc" ∷ codes "--least" ∷ []) ≡ None
+unfolding clap_on_literals matched digits
+no_flag_of_procs = refl
+
 checks : command_of (codes "check" ∷ []) ≡ Some Check
 unfolding clap_on_literals matched digits
 checks = refl
+
+checks_least : command_of (codes "check" ∷ codes "--least" ∷ []) ≡ Some CheckLeast
+unfolding clap_on_literals matched digits
+checks_least = refl
+
+checks_least_once : command_of (codes "check" ∷ codes "--least" ∷ codes "--least" ∷ []) ≡ None
+unfolding clap_on_literals matched digits
+checks_least_once = refl
+
+solves_least : command_of (codes "solve" ∷ codes "--least" ∷ []) ≡ Some (SolveLeast (settings_of no_options))
+unfolding clap_on_literals matched digits
+solves_least = refl
+
+flag_among_pairs : command_of (codes "solve" ∷ codes "--nodes" ∷ codes "7" ∷ codes "--least" ∷ codes "--rounds" ∷ codes "3" ∷ [])
+    ≡ Some (SolveLeast (settings_of (record no_options { rounds = Some 3; nodes = Some 7 })))
+unfolding clap_on_literals matched digits
+flag_among_pairs = refl
+
+flag_in_another_spelling : command_of (codes "solve" ∷ codes "--least" ∷ codes "--rounds=3" ∷ [])
+    ≡ Some (SolveLeast (settings_of (record no_options { rounds = Some 3 })))
+unfolding clap_on_literals matched digits
+flag_in_another_spelling = refl
+
+plain_flag : spelled_command (codes "solve" ∷ codes "--rounds" ∷ codes "3" ∷ codes "--least" ∷ [])
+    ≡ command_of (codes "solve" ∷ codes "--rounds" ∷ codes "3" ∷ codes "--least" ∷ [])
+unfolding clap_on_literals matched digits
+plain_flag = refl
+
+flag_twice : command_of (codes "solve" ∷ codes "--least" ∷ codes "--least" ∷ []) ≡ None
+unfolding clap_on_literals matched digits
+flag_twice = refl
+
+flag_with_value : command_of (codes "solve" ∷ codes "--least=true" ∷ []) ≡ None
+unfolding clap_on_literals matched digits
+flag_with_value = refl
+
+no_flag_of_codes : command_of (codes "verify" ∷ codes "--least" ∷ []) ≡ None
+unfolding clap_on_literals matched digits
+no_flag_of_codes = refl
 
 no_option_of_checks : command_of (codes "check" ∷ codes "--cycles=3" ∷ []) ≡ None
 unfolding clap_on_literals matched digits
@@ -190,7 +243,19 @@ returns c = record {
   dashes = dashes;
   plain = plain;
   bare = bare;
+  links = links;
+  joined_cycles = joined_cycles;
+  no_flag_of_procs = no_flag_of_procs;
   checks = checks;
+  checks_least = checks_least;
+  checks_least_once = checks_least_once;
+  solves_least = solves_least;
+  flag_among_pairs = flag_among_pairs;
+  flag_in_another_spelling = flag_in_another_spelling;
+  plain_flag = plain_flag;
+  flag_twice = flag_twice;
+  flag_with_value = flag_with_value;
+  no_flag_of_codes = no_flag_of_codes;
   no_option_of_checks = no_option_of_checks;
   trims = trims;
   no_option_of_trims = no_option_of_trims;
