@@ -8,6 +8,7 @@ use alpha_machine::{End, State, run};
 use answer_texts::{AnswerText, Claim, Claimed, read_answer};
 use denali_run::{Report, Status, TextError, check_text};
 use items::Items;
+use least_launch::check_least_text;
 use outside_io::{FailingSink, FailingSource};
 use refute_trim::trim_text;
 use register_assign::Where;
@@ -32,6 +33,13 @@ pub(crate) fn verdicts(alloc: Global, input: &[u8]) -> Result<Vec<u8>, Trouble>
     requires { length input.now ≤ 2 ^ 24 }
 {
     reported(alloc, check_text(alloc, input))
+}
+
+/// The lines of the verdicts on an answer with lines behind it and the status, or the fault of the text.
+pub(crate) fn least_verdicts(alloc: Global, input: &[u8]) -> Result<Vec<u8>, Trouble>
+    requires { length input.now ≤ 2 ^ 24 }
+{
+    reported(alloc, check_least_text(alloc, input))
 }
 
 /// The answer with its refutations trimmed, or the line of the first rejected goal, and the status; or the fault of the
@@ -173,6 +181,19 @@ pub(crate) fn written_by(alloc: Global, command: &[u8], text: &[u8]) -> Result<V
     Ok(replied(alloc, call)?.0)
 }
 
+/// Input: a call of `solve --least`. Answers with the status, and with what `check --least` writes of the answer, so that
+/// a case doesn't depend on the solver's choice.
+pub(crate) fn least_solved(alloc: Global, input: &[u8]) -> Result<Vec<u8>, Trouble> {
+    let (written, status) = replied(alloc, call_of(alloc, input)?)?;
+    let mut report = Vec::new(alloc);
+    put_numbers(&mut report, b"status", &[u64::from(status.code())])?;
+    let mut check = plain_call(alloc);
+    take_line(alloc, &mut check, b"words check --least")?;
+    put(&mut check.text, &written)?;
+    put(&mut report, &replied(alloc, check)?.0)?;
+    Ok(report)
+}
+
 /// The words of a scheduled goal, and the places of its targets.
 fn scheduled(goal: &Claimed) -> Option<(&Items<u32>, &Items<Where>)> {
     match &goal.claim {
@@ -182,7 +203,7 @@ fn scheduled(goal: &Claimed) -> Option<(&Items<u32>, &Items<Where>)> {
 }
 
 /// The state that a line's pairs `reg N WORD` and `mem ADDRESS WORD` give.
-fn state_of(alloc: Global, words: &mut Words<'_>) -> Result<State, Trouble>
+pub(crate) fn state_of(alloc: Global, words: &mut Words<'_>) -> Result<State, Trouble>
     ensures { IfOk result (λ state. state.pc ≡ 0) }
 {
     let mut regs = [0; 32];

@@ -152,20 +152,21 @@ pub(crate) fn run_file(alloc: Global, text: &[u8]) -> Result<Result<u64, Failure
     Ok(Ok(count))
 }
 
-/// One case, whose input are goals and whose wanted answer is that of `solve` without options.
-pub(crate) fn run_goals(
+/// One case, whose wanted answer is that of a command without options.
+pub(crate) fn run_example(
     alloc: Global,
     name: &[u8],
-    goals: Vec<u8>,
+    command: &[u8],
+    input: Vec<u8>,
     wanted: Vec<u8>,
 ) -> Result<Result<u64, Failure>, Trouble> {
-    let came = written_by(alloc, b"solve", &goals)?;
+    let came = written_by(alloc, command, &input)?;
     if came.as_slice() == wanted.as_slice() {
         return Ok(Ok(1));
     }
     Ok(Err(Failure {
         name: Vec::from_slice(alloc, name)?,
-        input: goals,
+        input,
         wanted,
         came,
     }))

@@ -1,8 +1,8 @@
 //! Runs the cases of the files that its words name, and tells for each file how many passed.
 //!
 //! A file begins with a line `subject NAME`, which says what its cases ask; `subjects.rt` lists the subjects. A file
-//! NAME.goal is one case: `solve` without options answers its goals as the file NAME.answer says. The first case that
-//! doesn't pass is printed whole, with what was wanted and what came, and the status is 1.
+//! NAME.goal is one case, and so is NAME.proc: `solve` or `proc` without options answers it as the file NAME.answer
+//! says. The first case that doesn't pass is printed whole, with what was wanted and what came, and the status is 1.
 //!
 //! With the words `answer SUBJECT FILE` it prints what the subject answers to the bytes of a file, to be timed.
 #![tactic(auto)]
@@ -17,6 +17,7 @@ mod failing;
 mod machine;
 mod plain_building;
 mod plain_scripts;
+mod procs;
 mod reading;
 mod reports;
 mod rounds;
@@ -111,12 +112,16 @@ fn passes(rt: &HostRuntime, name: &str, said: &mut Vec<u8>) -> Result<bool, Trou
 fn outcome(rt: &HostRuntime, name: &str) -> Result<Result<u64, Failure>, Trouble> {
     let alloc = rt.alloc();
     let file = contents(rt, name).ok_or(Trouble::Unread)?;
-    let Some(stem) = name.strip_suffix(".goal") else {
+    let (stem, command) = if let Some(stem) = name.strip_suffix(".goal") {
+        (stem, b"solve".as_slice())
+    } else if let Some(stem) = name.strip_suffix(".proc") {
+        (stem, b"proc".as_slice())
+    } else {
         return case_files::run_file(alloc, &file);
     };
     let beside = format!(in alloc; "{stem}.answer")?;
     let wanted = contents(rt, beside.as_str()).ok_or(Trouble::Unread)?;
-    case_files::run_goals(alloc, name.as_bytes(), file, wanted)
+    case_files::run_example(alloc, name.as_bytes(), command, file, wanted)
 }
 
 /// Prints a case that didn't pass.

@@ -1,7 +1,7 @@
 // What cases ask: the subjects by their names.
 use crate::reports::Trouble;
 use crate::{
-    answers, clauses, codes, equalities, failing, machine, plain_scripts, rounds, schedules,
+    answers, clauses, codes, equalities, failing, machine, plain_scripts, procs, rounds, schedules,
     scripts, streams, texts, tokens, worlds,
 };
 use std::alloc::Global;
@@ -47,11 +47,15 @@ pub(crate) enum Subject {
     Commands,
     Failing,
     Solved,
+    LeastSolved,
+    LeastVerdicts,
+    Procs,
+    Linked,
     Verify,
 }
 
 /// The name of each subject.
-const NAMES: [(&str, Subject); 39] = [
+const NAMES: [(&str, Subject); 43] = [
     ("decimals", Subject::Decimals),
     ("tokens", Subject::Tokens),
     ("trees", Subject::Trees),
@@ -90,6 +94,10 @@ const NAMES: [(&str, Subject); 39] = [
     ("commands", Subject::Commands),
     ("failing", Subject::Failing),
     ("solved", Subject::Solved),
+    ("least-solved", Subject::LeastSolved),
+    ("least-verdicts", Subject::LeastVerdicts),
+    ("procs", Subject::Procs),
+    ("linked", Subject::Linked),
     ("verify", Subject::Verify),
 ];
 
@@ -152,6 +160,10 @@ pub(crate) fn answer(alloc: Global, subject: Subject, input: &[u8]) -> Result<Ve
         Subject::Commands => answers::commands(alloc, input),
         Subject::Failing => failing::failing(alloc, input),
         Subject::Solved => answers::solved(alloc, input),
+        Subject::LeastSolved => answers::least_solved(alloc, input),
+        Subject::LeastVerdicts => answers::least_verdicts(alloc, input),
+        Subject::Procs => procs::procs(alloc, input),
+        Subject::Linked => procs::linked(alloc, input),
         Subject::Verify => codes::verify(alloc, input),
     }
 }
