@@ -19,7 +19,7 @@ use Rattle.goal_reader.proofs.Keeping.{each_length}
 use Rattle.goal_reader.proofs.Walks.{Walk, group_walk, name_new, walk_at}
 use Rattle.goal_reader.proofs.WrittenItems.{each_more}
 use Rattle.proc_goal.specs.ProcGrammar.{WritesBlock, WritesSet, WritesWhen, guarded, unguarded}
-use Rattle.proc_goal.specs.ProcReading.{AreClearTo, AreSets, EndsBefore, IsClearProc, IsEnd, IsGuardFront, IsGuardRead, absent, there}
+use Rattle.proc_goal.specs.ProcReading.{AreClearTo, AreSets, EndsBefore, IsClearProc, IsGuardFront, IsGuardRead, IsLastItem, absent, there}
 use Rattle.proc_goal.specs.ProcRoles.{ProcRole, a_block, has_list, lists_of, step_role}
 use Rattle.proc_goal.specs.Views.{BlockTree, WhenTree}
 use Rattle.proc_goal.proofs.BlockForms.{IsFront, block_clear, count_of, front_is, items_clear}
@@ -123,7 +123,7 @@ module _ (term_clear : (scope : Scope) (wanted : Option Sort) (form : Form) (t :
     sets_read : AreSets vars (drop n items) b.sets
     sets_read = subst (λ fs. AreSets vars fs b.sets) (sym drop_is) are_sets
 
-    end_read : IsEnd names (drop (length b.sets) (drop n items)) b.go
+    end_read : IsLastItem names (drop (length b.sets) (drop n items)) b.go
     end_read = record {
       form = w.last;
       alone = ap (drop (length b.sets)) drop_is ∙ ap (λ m. drop m behind) count ∙ dropped_all w.sets (w.last ∷ []);

@@ -17,7 +17,7 @@ use Rattle.goal_reader.specs.Roles.{fresh_name, IsFaultAs, items_of_goal}
 use Rattle.goal_reader.proofs.ItemForms.{is_name}
 use Rattle.goal_reader.proofs.NewNames.{fresh_name_clear}
 use Rattle.proc_goal.specs.ProcGrammar.{WritesBlock, WritesGo, WritesSet, WritesWhen, unguarded}
-use Rattle.proc_goal.specs.ProcReading.{AreClearTo, AreSets, EndsBefore, IsClearProc, IsEnd, IsEndFront, IsFirstAmong, IsFirstAs, IsGuardFault, IsGuardFront, IsGuardRead, absent, there}
+use Rattle.proc_goal.specs.ProcReading.{AreClearTo, AreSets, EndsBefore, IsClearProc, IsEndFront, IsFirstAmong, IsFirstAs, IsGuardFault, IsGuardFront, IsGuardRead, IsLastItem, absent, there}
 use Rattle.proc_goal.specs.ProcRoles.{ProcRole, of_goal, a_block, a_guard, a_go, no_go, has_list, lists_of, step_role}
 use Rattle.proc_goal.specs.Views.{BlockTree, WhenTree}
 use Rattle.proc_goal.specs.declared.procs.Target.{Target}
@@ -181,7 +181,7 @@ module _ (vars : List InputReg) (names : List (List ℕ)) (items : List Form) (n
   end_first place kind one =
       subst (λ fs. IsFirstAmong (step_role vars names) fs place kind) (sym items_parted) (first_behind (step_role vars names) front rest place kind front_read one)
 
-  module _ (go : Target) (e : IsEnd names rest go) where
+  module _ (go : Target) (e : IsLastItem names rest go) where
     pub items_written : items ≡ whens ++ (sets ++ e.form ∷ [])
     items_written = items_parted ∙ append_assoc whens sets rest ∙ ap (λ fs. whens ++ (sets ++ fs)) e.alone
 
@@ -237,7 +237,7 @@ module _ (vars : List InputReg) (names before : List (List ℕ)) (form : Form) w
           (let l = length-drop 2 (parts_of form) in omega (arith, l)) clear
 
 pub block_writes : (vars : List InputReg) (names : List (List ℕ)) (form first : Form) (b : BlockTree) → has_head (codes "block") form ≡ true → slice_get (parts_of form) 1 ≡ Some first → name_in first ≡ Some b.name
-    → (n : ℕ) (f : IsFront vars names (items_of_goal form) n b.when) (s : AreSets vars (drop n (items_of_goal form)) b.sets) (e : IsEnd names (drop (length b.sets) (drop n (items_of_goal form))) b.go) → WritesBlock vars names form b
+    → (n : ℕ) (f : IsFront vars names (items_of_goal form) n b.when) (s : AreSets vars (drop n (items_of_goal form)) b.sets) (e : IsLastItem names (drop (length b.sets) (drop n (items_of_goal form))) b.go) → WritesBlock vars names form b
 block_writes vars names form first b h g named n f s e =
     let parts : drop 1 (parts_of form) ≡ first ∷ (take n (items_of_goal form) ++ (take (length b.sets) (drop n (items_of_goal form)) ++ e.form ∷ [])) =
     name_and_rest (parts_of form) first g ∙ ap (λ fs. first ∷ fs) (items_written vars names (items_of_goal form) n b.when f b.sets s b.go e) in

@@ -22,7 +22,7 @@ use Rattle.goal_reader.proofs.Keeping.{longer_by}
 use Rattle.goal_reader.proofs.WrittenItems.{each_more}
 use Rattle.proc_goal.specs.ProcGrammar.{WritesBlock}
 use Rattle.proc_goal.specs.ProcReading.{AreClearTo, HaveOwnNames, IsClearProc, IsFirstAmong, IsFirstAs, IsProcFront}
-use Rattle.proc_goal.specs.ProcRoles.{ProcRole, a_block, not_there, ends_variables, item_role}
+use Rattle.proc_goal.specs.ProcRoles.{ProcRole, a_block, not_there, ends_variables, proc_item_role}
 use Rattle.proc_goal.specs.Views.{BlockTree, names_of_blocks}
 use Rattle.proc_goal.proofs.Items.{as_late, block_begins, block_here, block_past, each_begins, ends_block, AllBegin}
 use Rattle.proc_goal.proofs.Leaves.{past_first, wrong_first}
@@ -56,12 +56,12 @@ module _ (vars : List InputReg) (names : List (List ℕ)) (items : List Form) (i
   pub block_item_more : (b : BlockTree) → WritesBlock vars names form b → Each (WritesBlock vars names) (take (i + 1) items) (bs ++ b ∷ [])
   block_item_more b w = subst (λ fs. Each (WritesBlock vars names) fs (bs ++ b ∷ [])) (sym (got_more items i form g)) (each_more (WritesBlock vars names) (take i items) bs form b each w)
 
-  module _ (front : List Form) (is : IsProcFront vars front items) (clear : AreClearTo (after front (item_role names)) items i) where
+  module _ (front : List Form) (is : IsProcFront vars front items) (clear : AreClearTo (after front (proc_item_role names)) items i) where
     abbrev R : List Form → Form → ProcRole
-    R = after front (item_role names)
+    R = after front (proc_item_role names)
 
     -- behind blocks nothing else stands
-    other_role : has_head (codes "block") form ≡ false → item_role names (front ++ take i items) form ≡ not_there
+    other_role : has_head (codes "block") form ≡ false → proc_item_role names (front ++ take i items) form ≡ not_there
     other_role h = by_count i refl
       where
         some_ends : (fs : List Form) → AllBegin (codes "block") fs → 0 < length fs → list_any ends_variables fs ≡ true
@@ -72,9 +72,9 @@ module _ (vars : List InputReg) (names : List (List ℕ)) (items : List Form) (i
         or_any true = refl
         or_any false = refl
 
-        by_count : (n : ℕ) → n ≡ i → item_role names (front ++ take i items) form ≡ not_there
+        by_count : (n : ℕ) → n ≡ i → proc_item_role names (front ++ take i items) form ≡ not_there
         by_count zero e =
-            ap (λ m. item_role names (front ++ take m items) form) (sym e) ∙ ap (λ fs. item_role names fs form) (append-nil front)
+            ap (λ m. proc_item_role names (front ++ take m items) form) (sym e) ∙ ap (λ fs. proc_item_role names fs form) (append-nil front)
             ∙ is.next form (ap (slice_get items) e ∙ g) h names
         by_count (suc n) e =
             as_late names (front ++ take i items) form
@@ -101,7 +101,7 @@ module _ (vars : List InputReg) (names : List (List ℕ)) (items : List Form) (i
         first = subst (λ (r : ProcRole). IsFirstAs r form (place_of form) LimitPassed) (sym (block_past vars names front items is (take i items) bs each form h (omega (arith, counted, l)))) (past_first form low high s);
       }
 
-      role_is : i < 64 → item_role names (front ++ take i items) form ≡ a_block vars names (names_of_blocks bs)
+      role_is : i < 64 → proc_item_role names (front ++ take i items) form ≡ a_block vars names (names_of_blocks bs)
       role_is l = block_here vars names front items is (take i items) bs each form h (omega (arith, counted, l))
 
       pub block_first : (place : ℕ) (kind : Kind) → i < 64 → IsFirstAs (a_block vars names (names_of_blocks bs)) form place kind → IsFirstAmong R items place kind

@@ -5,7 +5,7 @@ use Rattle.goal_meaning.specs.InputForms.{goal_plain, guard_plains, input_plain,
 use Rattle.goal_meaning.specs.Views.{TargetTree}
 use Rattle.goal_meaning.specs.declared.goals.InputReg.{InputReg}
 use Rattle.proc_goal.specs.Goals.{goal_of_block, input_of_proc, sets_or_memory}
-use Rattle.proc_goal.specs.ProcForms.{block_plain, go_plain, naming_over, proc_plain, proc_plains, set_plain, table_plains, variable_plain, when_plains}
+use Rattle.proc_goal.specs.ProcForms.{block_plain, go_plain, naming_over, proc_plain, proc_plains, set_plain, table_plains, var_plain, when_plains}
 use Rattle.proc_goal.specs.Views.{BlockTree, ProcTree, WhenTree, names_of_blocks}
 
 abbrev Deep : ℕ → List Plain → Type 0
@@ -50,7 +50,7 @@ module _ (p : ProcTree) where
   abbrev names : List (List ℕ)
   names = names_of_blocks p.blocks
 
-  goal_deep : Deep 63 (map variable_plain p.vars) → levels (pool_plain p.pool) ≤ 63 → (b : BlockTree) → levels (block_plain p.vars names b) ≤ 63 → levels (goal_plain [] (goal_of_block p b)) ≤ 64
+  goal_deep : Deep 63 (map var_plain p.vars) → levels (pool_plain p.pool) ≤ 63 → (b : BlockTree) → levels (block_plain p.vars names b) ≤ 63 → levels (goal_plain [] (goal_of_block p b)) ≤ 64
   goal_deep vars pool b h =
       let whens = when_plains p.vars names b.when in
       let sets = map (set_plain p.vars) b.sets ++ go_plain names b.go ∷ [] in
@@ -60,19 +60,19 @@ module _ (p : ProcTree) where
       let guard = guard_deep 62 p.vars names b.when (deep_front 62 whens sets items) in
       let each = sets_deep 61 p.vars b.sets (deep_front 62 (map (set_plain p.vars) b.sets) (go_plain names b.go ∷ []) (deep_back 62 whens sets items)) in
       let last : Deep 62 (guards ++ targets) = deep_both 62 guards targets guard each in
-      let ins = each_deep 63 63 variable_plain input_plain (λ i l. l) p.vars vars in
+      let ins = each_deep 63 63 var_plain input_plain (λ i l. l) p.vars vars in
       let all = deep_both 63 (map input_plain p.vars) (pool_plain p.pool ∷ (guards ++ targets)) ins (omega (arith, pool, last)) in
       omega (arith, all)
 
   goals_deep : Deep 64 (proc_plain p ∷ []) → Deep 64 (map (goal_plain []) (map (goal_of_block p) p.blocks))
   goals_deep h =
-      let vars = map variable_plain p.vars in
+      let vars = map var_plain p.vars in
       let blocks = map (block_plain p.vars names) p.blocks in
       let items : Deep 63 (vars ++ (pool_plain p.pool ∷ blocks)) = omega (arith, h) in
       let behind = deep_back 63 vars (pool_plain p.pool ∷ blocks) items in
       goals_of (deep_front 63 vars (pool_plain p.pool ∷ blocks) items) (omega (arith, behind)) p.blocks (omega (arith, behind))
     where
-      goals_of : Deep 63 (map variable_plain p.vars) → levels (pool_plain p.pool) ≤ 63 → (bs : List BlockTree) → Deep 63 (map (block_plain p.vars names) bs) → Deep 64 (map (goal_plain []) (map (goal_of_block p) bs))
+      goals_of : Deep 63 (map var_plain p.vars) → levels (pool_plain p.pool) ≤ 63 → (bs : List BlockTree) → Deep 63 (map (block_plain p.vars names) bs) → Deep 64 (map (goal_plain []) (map (goal_of_block p) bs))
       goals_of vars pool [] l = omega arith
       goals_of vars pool (b ∷ bs) l =
           let one = goal_deep vars pool b (omega (arith, l)) in

@@ -18,7 +18,7 @@ use Rattle.machine_table.specs.Roles.{has_head}
 use Rattle.machine_table.proofs.Parts.{headed}
 use Rattle.proc_goal.specs.ProcGrammar.{WritesVariable, WritesSet, WritesBlock}
 use Rattle.proc_goal.specs.ProcReading.{IsProcFront, IsGuardFront}
-use Rattle.proc_goal.specs.ProcRoles.{ProcRole, of_goal, a_block, a_guard, a_set, a_go, not_there, up_to, lists_of, has_list, variables_in, ends_variables, variable_role, pool_role, block_role, item_role, set_role, step_role}
+use Rattle.proc_goal.specs.ProcRoles.{ProcRole, of_goal, a_block, a_guard, a_set, a_go, not_there, role_up_to, lists_of, has_list, proc_variables_in, ends_variables, variable_role, pool_role, block_role, proc_item_role, set_role, step_role}
 use Rattle.proc_goal.specs.Views.{BlockTree, names_of_blocks}
 
 -- ---- first words
@@ -85,7 +85,7 @@ variable_told f v w =
     ∙ ap (λ o. o >>= (λ nm. register_of w.second >>= (λ reg. Some (record { name = nm; reg = reg })))) (ap name_in w.named.is)
     ∙ ap (λ o. o >>= (λ reg. Some (record { name = v.name; reg = reg }))) (register_told w.second v.reg w.placed)
 
-pub variables_told : (fs : List Form) (vs : List InputReg) → Each WritesVariable fs vs → variables_in fs ≡ vs
+pub variables_told : (fs : List Form) (vs : List InputReg) → Each WritesVariable fs vs → proc_variables_in fs ≡ vs
 variables_told fs vs e =
     ap (filter_map input_in) (lists_all (codes "var") fs (each_begins WritesVariable (codes "var") variable_begins fs vs e))
     ∙ told_all WritesVariable input_in (λ v. v) variable_told fs vs e ∙ map_same vs
@@ -109,10 +109,10 @@ few n most one other l = ap (λ b. if b then one else other) (let t : nat_lt n m
 many : (n most : ℕ) (one other : ProcRole) → most ≤ n → (if nat_lt n most then one else other) ≡ other
 many n most one other l = ap (λ b. if b then one else other) (let t : nat_lt n most ≡ false = grind (arith, nat_tests, l) in t)
 
-pub within_limit : (most : ℕ) (before : List Form) (role : ProcRole) → length before < most → up_to most before role ≡ role
+pub within_limit : (most : ℕ) (before : List Form) (role : ProcRole) → length before < most → role_up_to most before role ≡ role
 within_limit most before role l = few (length before) most role (of_goal past) l
 
-pub past_limit : (most : ℕ) (before : List Form) (role : ProcRole) → most ≤ length before → up_to most before role ≡ of_goal past
+pub past_limit : (most : ℕ) (before : List Form) (role : ProcRole) → most ≤ length before → role_up_to most before role ≡ of_goal past
 past_limit most before role l = many (length before) most role (of_goal past) l
 
 -- ---- items of a proc
@@ -135,33 +135,33 @@ module _ (names : List (List ℕ)) (before : List Form) (form : Form) where
   abbrev choose : Bool → Bool → Bool → ProcRole
   choose a b c = if a then variable_role before else if b then pool_role before else if c then block_role names before else not_there
 
-  pub as_variable : has_head (codes "var") form ≡ true → item_role names before form ≡ variable_role before
+  pub as_variable : has_head (codes "var") form ≡ true → proc_item_role names before form ≡ variable_role before
   as_variable h = ap (λ a. choose a (has_head (codes "pool") form) (has_head (codes "block") form)) h
 
-  pub as_pool : has_head (codes "pool") form ≡ true → item_role names before form ≡ pool_role before
+  pub as_pool : has_head (codes "pool") form ≡ true → proc_item_role names before form ≡ pool_role before
   as_pool h =
       ap (λ a. choose a (has_head (codes "pool") form) (has_head (codes "block") form)) (other_head (codes "pool") (codes "var") form h refl)
       ∙ ap (λ b. choose false b (has_head (codes "block") form)) h
 
-  pub as_block : has_head (codes "block") form ≡ true → item_role names before form ≡ block_role names before
+  pub as_block : has_head (codes "block") form ≡ true → proc_item_role names before form ≡ block_role names before
   as_block h =
       ap (λ a. choose a (has_head (codes "pool") form) (has_head (codes "block") form)) (other_head (codes "block") (codes "var") form h refl)
       ∙ ap (λ b. choose false b (has_head (codes "block") form)) (other_head (codes "block") (codes "pool") form h refl)
       ∙ ap (choose false false) h
 
   -- neither a variable nor a pool nor a block
-  pub as_nothing : has_head (codes "var") form ≡ false → has_head (codes "pool") form ≡ false → has_head (codes "block") form ≡ false → item_role names before form ≡ not_there
+  pub as_nothing : has_head (codes "var") form ≡ false → has_head (codes "pool") form ≡ false → has_head (codes "block") form ≡ false → proc_item_role names before form ≡ not_there
   as_nothing a b c =
       ap (λ x. choose x (has_head (codes "pool") form) (has_head (codes "block") form)) a ∙ ap (λ x. choose false x (has_head (codes "block") form)) b ∙ ap (choose false false) c
 
   too_late : list_any ends_variables before ≡ true → (variable_role before ≡ not_there) × (pool_role before ≡ not_there)
   too_late e = (
-    ap (λ b. if b then not_there else up_to 16 (lists_of (codes "var") before) (of_goal (a_list (input [] (variables_in before))))) e,
-    ap (λ b. if b then not_there else of_goal (a_list (pool (input_registers (variables_in before))))) e,
+    ap (λ b. if b then not_there else role_up_to 16 (lists_of (codes "var") before) (of_goal (a_list (input [] (proc_variables_in before))))) e,
+    ap (λ b. if b then not_there else of_goal (a_list (pool (input_registers (proc_variables_in before))))) e,
   )
 
   -- behind a pool or a block nothing but blocks
-  pub as_late : list_any ends_variables before ≡ true → has_head (codes "block") form ≡ false → item_role names before form ≡ not_there
+  pub as_late : list_any ends_variables before ≡ true → has_head (codes "block") form ≡ false → proc_item_role names before form ≡ not_there
   as_late e c =
       let late = too_late e in
       ap (λ x. choose (has_head (codes "var") form) (has_head (codes "pool") form) x) c
@@ -182,22 +182,22 @@ module _ (names : List (List ℕ)) (fs : List Form) (vs : List InputReg) (each :
   no_end : list_any ends_variables fs ≡ false
   no_end = ends_none (codes "var") fs begin refl refl
 
-  variable_open : variable_role fs ≡ up_to 16 fs (of_goal (a_list (input [] vs)))
+  variable_open : variable_role fs ≡ role_up_to 16 fs (of_goal (a_list (input [] vs)))
   variable_open =
-      ap (λ b. if b then not_there else up_to 16 (lists_of (codes "var") fs) (of_goal (a_list (input [] (variables_in fs))))) no_end
-      ∙ ap (λ xs. up_to 16 xs (of_goal (a_list (input [] (variables_in fs))))) (lists_all (codes "var") fs begin)
-      ∙ ap (λ ws. up_to 16 fs (of_goal (a_list (input [] ws)))) (variables_told fs vs each)
+      ap (λ b. if b then not_there else role_up_to 16 (lists_of (codes "var") fs) (of_goal (a_list (input [] (proc_variables_in fs))))) no_end
+      ∙ ap (λ xs. role_up_to 16 xs (of_goal (a_list (input [] (proc_variables_in fs))))) (lists_all (codes "var") fs begin)
+      ∙ ap (λ ws. role_up_to 16 fs (of_goal (a_list (input [] ws)))) (variables_told fs vs each)
 
-  pub variable_here : has_head (codes "var") form ≡ true → length fs < 16 → item_role names fs form ≡ of_goal (a_list (input [] vs))
+  pub variable_here : has_head (codes "var") form ≡ true → length fs < 16 → proc_item_role names fs form ≡ of_goal (a_list (input [] vs))
   variable_here h l = as_variable names fs form h ∙ variable_open ∙ within_limit 16 fs (of_goal (a_list (input [] vs))) l
 
-  pub variable_past : has_head (codes "var") form ≡ true → 16 ≤ length fs → item_role names fs form ≡ of_goal past
+  pub variable_past : has_head (codes "var") form ≡ true → 16 ≤ length fs → proc_item_role names fs form ≡ of_goal past
   variable_past h l = as_variable names fs form h ∙ variable_open ∙ past_limit 16 fs (of_goal (a_list (input [] vs))) l
 
-  pub pool_here : has_head (codes "pool") form ≡ true → item_role names fs form ≡ of_goal (a_list (pool (input_registers vs)))
+  pub pool_here : has_head (codes "pool") form ≡ true → proc_item_role names fs form ≡ of_goal (a_list (pool (input_registers vs)))
   pool_here h =
       as_pool names fs form h
-      ∙ ap (λ b. if b then not_there else of_goal (a_list (pool (input_registers (variables_in fs))))) no_end
+      ∙ ap (λ b. if b then not_there else of_goal (a_list (pool (input_registers (proc_variables_in fs))))) no_end
       ∙ ap (λ ws. of_goal (a_list (pool (input_registers ws)))) (variables_told fs vs each)
 
   pub no_blocks : lists_of (codes "block") fs ≡ []
@@ -208,7 +208,7 @@ module _ (vars : List InputReg) (names : List (List ℕ)) (front items : List Fo
   begin_blocks : AllBegin (codes "block") fs
   begin_blocks = each_begins (WritesBlock vars names) (codes "block") (block_begins vars names) fs bs each
 
-  variables_are : variables_in (front ++ fs) ≡ vars
+  variables_are : proc_variables_in (front ++ fs) ≡ vars
   variables_are =
       ap (filter_map input_in) (lists_both (codes "var") front fs ∙ ap (λ xs. lists_of (codes "var") front ++ xs) (lists_none (codes "block") (codes "var") fs begin_blocks refl) ∙ append-nil (lists_of (codes "var") front))
       ∙ is.variables
@@ -216,16 +216,16 @@ module _ (vars : List InputReg) (names : List (List ℕ)) (front items : List Fo
   blocks_are : lists_of (codes "block") (front ++ fs) ≡ fs
   blocks_are = lists_both (codes "block") front fs ∙ ap (λ xs. xs ++ lists_of (codes "block") fs) is.no_block ∙ lists_all (codes "block") fs begin_blocks
 
-  block_open : block_role names (front ++ fs) ≡ up_to 64 fs (a_block vars names (names_of_blocks bs))
+  block_open : block_role names (front ++ fs) ≡ role_up_to 64 fs (a_block vars names (names_of_blocks bs))
   block_open =
-      ap (λ xs. up_to 64 xs (a_block (variables_in (front ++ fs)) names (names_given xs))) blocks_are
-      ∙ ap (λ vs. up_to 64 fs (a_block vs names (names_given fs))) variables_are
-      ∙ ap (λ ns. up_to 64 fs (a_block vars names ns)) (told_all (WritesBlock vars names) second_name (λ (b : BlockTree). b.name) (block_told vars names) fs bs each)
+      ap (λ xs. role_up_to 64 xs (a_block (proc_variables_in (front ++ fs)) names (names_given xs))) blocks_are
+      ∙ ap (λ vs. role_up_to 64 fs (a_block vs names (names_given fs))) variables_are
+      ∙ ap (λ ns. role_up_to 64 fs (a_block vars names ns)) (told_all (WritesBlock vars names) second_name (λ (b : BlockTree). b.name) (block_told vars names) fs bs each)
 
-  pub block_here : has_head (codes "block") form ≡ true → length fs < 64 → item_role names (front ++ fs) form ≡ a_block vars names (names_of_blocks bs)
+  pub block_here : has_head (codes "block") form ≡ true → length fs < 64 → proc_item_role names (front ++ fs) form ≡ a_block vars names (names_of_blocks bs)
   block_here h l = as_block names (front ++ fs) form h ∙ block_open ∙ within_limit 64 fs (a_block vars names (names_of_blocks bs)) l
 
-  pub block_past : has_head (codes "block") form ≡ true → 64 ≤ length fs → item_role names (front ++ fs) form ≡ of_goal past
+  pub block_past : has_head (codes "block") form ≡ true → 64 ≤ length fs → proc_item_role names (front ++ fs) form ≡ of_goal past
   block_past h l = as_block names (front ++ fs) form h ∙ block_open ∙ past_limit 64 fs (a_block vars names (names_of_blocks bs)) l
 
 -- ---- items of a block
@@ -248,11 +248,11 @@ module _ (vars : List InputReg) (front : List Form) (is : IsGuardFront front) (f
   sets_are : lists_of (codes "set") (front ++ fs) ≡ fs
   sets_are = lists_both (codes "set") front fs ∙ ap (λ xs. xs ++ lists_of (codes "set") fs) is.no_set ∙ lists_all (codes "set") fs begin_sets
 
-  set_open : set_role vars (front ++ fs) ≡ up_to 16 fs (a_set vars (map (λ (t : TargetTree). t.name) ts))
+  set_open : set_role vars (front ++ fs) ≡ role_up_to 16 fs (a_set vars (map (λ (t : TargetTree). t.name) ts))
   set_open =
-      ap (λ b. if b then not_there else up_to 16 (lists_of (codes "set") (front ++ fs)) (a_set vars (names_given (lists_of (codes "set") (front ++ fs))))) no_go_yet
-      ∙ ap (λ xs. up_to 16 xs (a_set vars (names_given xs))) sets_are
-      ∙ ap (λ ns. up_to 16 fs (a_set vars ns)) (told_all (WritesSet vars) second_name (λ (t : TargetTree). t.name) (set_told vars) fs ts each)
+      ap (λ b. if b then not_there else role_up_to 16 (lists_of (codes "set") (front ++ fs)) (a_set vars (names_given (lists_of (codes "set") (front ++ fs))))) no_go_yet
+      ∙ ap (λ xs. role_up_to 16 xs (a_set vars (names_given xs))) sets_are
+      ∙ ap (λ ns. role_up_to 16 fs (a_set vars ns)) (told_all (WritesSet vars) second_name (λ (t : TargetTree). t.name) (set_told vars) fs ts each)
 
   module _ (names : List (List ℕ)) (form : Form) (h : has_head (codes "set") form ≡ true) where
     pub set_here : length fs < 16 → step_role vars names (front ++ fs) form ≡ a_set vars (map (λ (t : TargetTree). t.name) ts)

@@ -22,7 +22,7 @@ use Rattle.goal_reader.specs.Roles.{term, IsFaultAs, target_sort, second_name}
 use Rattle.goal_reader.specs.Terms.{Writes}
 use Rattle.goal_reader.proofs.ItemForms.{is_name}
 use Rattle.goal_reader.proofs.NewNames.{target_sort_told, target_told}
-use Rattle.proc_goal.specs.ProcGrammar.{WritesSet, WritesWhen, WritesGo, WritesTarget, guarded}
+use Rattle.proc_goal.specs.ProcGrammar.{WritesSet, WritesWhen, WritesGo, WritesProcTarget, guarded}
 use Rattle.proc_goal.specs.ProcReading.{IsClearProc, IsFirstAs, IsNameToSet}
 use Rattle.proc_goal.specs.ProcRoles.{ProcRole, of_goal, a_guard, a_set, a_go, a_target, set_name, not_there, names_to_set, short_guard, short_set, short_go, proc_part_role}
 use Rattle.proc_goal.specs.Views.{WhenTree}
@@ -173,7 +173,7 @@ module _ (vars : List InputReg) (names : List (List ℕ)) (form : Form) where
         guard_clear most = all_clear one_guard form 3 (guard_own enough) most guard_read
 
 pub guard_writes : (vars : List InputReg) (names : List (List ℕ)) (form first second : Form) (w : WhenTree) → has_head (codes "when") form ≡ true → slice_get (parts_of form) 1 ≡ Some first → slice_get (parts_of form) 2 ≡ Some second
-    → length (parts_of form) ≤ 3 → Writes (term_scope vars) sorts.Word first w.guard → WritesTarget names second w.other → WritesWhen vars names (form ∷ []) (Some w)
+    → length (parts_of form) ≤ 3 → Writes (term_scope vars) sorts.Word first w.guard → WritesProcTarget names second w.other → WritesWhen vars names (form ∷ []) (Some w)
 guard_writes vars names form first second w h g g2 most value target =
     guarded first second (subst (λ ps. IsListOf (codes "when") ps form) (two_behind (parts_of form) first second g g2 most) (headed (codes "when") form h)) value target
 
@@ -203,7 +203,7 @@ module _ (names : List (List ℕ)) (form : Form) where
       pub go_clear : length (parts_of form) ≤ 2 → IsClearProc (a_go names) form
       go_clear most = all_clear (a_go names) form 2 (go_own enough) most go_read
 
-pub go_writes : (names : List (List ℕ)) (form first : Form) (t : Target) → has_head (codes "go") form ≡ true → slice_get (parts_of form) 1 ≡ Some first → length (parts_of form) ≤ 2 → WritesTarget names first t → WritesGo names form t
+pub go_writes : (names : List (List ℕ)) (form first : Form) (t : Target) → has_head (codes "go") form ≡ true → slice_get (parts_of form) 1 ≡ Some first → length (parts_of form) ≤ 2 → WritesProcTarget names first t → WritesGo names form t
 go_writes names form first t h g most target = record {
   first = first;
   is = subst (λ ps. IsListOf (codes "go") ps form) (one_behind (parts_of form) first g most) (headed (codes "go") form h);

@@ -8,7 +8,7 @@ use Rattle.goal_meaning.specs.Views.{target_view}
 use Rattle.goal_meaning.specs.declared.goals.InputReg.{InputReg}
 use Rattle.goal_meaning.specs.declared.goals.Set.{Set}
 use Rattle.goal_reader.proofs.Printed.{lines_both, map_twice, others_both}
-use Rattle.proc_goal.specs.ProcForms.{block_plain, go_plain, proc_plain, proc_text, set_plain, table_plains, variable_plain, when_plains}
+use Rattle.proc_goal.specs.ProcForms.{block_plain, go_plain, proc_plain, proc_text, set_plain, table_plains, var_plain, when_plains}
 use Rattle.proc_goal.specs.Views.{BlockTree, block_view, names_of_blocks, proc_view, when_view}
 use Rattle.proc_goal.specs.declared.procs.Block.{Block}
 use Rattle.proc_goal.specs.declared.procs.Proc.{Proc}
@@ -50,11 +50,11 @@ block_items vars names b =
 
 -- what stands in a proc behind its name
 pub proc_items : (vars : List InputReg) (names : List (List ℕ)) (pool : List ℕ) (blocks : List Block)
-    → others_of (plains_from (map variable_plain vars ++ (pool_plain pool ∷ map (block_plain vars names) (map block_view blocks))))
-    ≡ others_of (plains_from (map variable_plain vars)) ++ ((32 ∷ plain_text (pool_plain pool)) ++ others_of (plains_from (map (λ (b : Block). block_plain vars names (block_view b)) blocks)))
+    → others_of (plains_from (map var_plain vars ++ (pool_plain pool ∷ map (block_plain vars names) (map block_view blocks))))
+    ≡ others_of (plains_from (map var_plain vars)) ++ ((32 ∷ plain_text (pool_plain pool)) ++ others_of (plains_from (map (λ (b : Block). block_plain vars names (block_view b)) blocks)))
 proc_items vars names pool blocks =
-    others_both (map variable_plain vars) (pool_plain pool ∷ map (block_plain vars names) (map block_view blocks))
-    ∙ ap (λ l. others_of (plains_from (map variable_plain vars)) ++ ((32 ∷ plain_text (pool_plain pool)) ++ others_of (plains_from l))) (map_twice (block_plain vars names) block_view blocks)
+    others_both (map var_plain vars) (pool_plain pool ∷ map (block_plain vars names) (map block_view blocks))
+    ∙ ap (λ l. others_of (plains_from (map var_plain vars)) ++ ((32 ∷ plain_text (pool_plain pool)) ++ others_of (plains_from l))) (map_twice (block_plain vars names) block_view blocks)
 
 -- the lines of a proc
 pub proc_lines : (p : Proc) → proc_text (proc_view p) ≡ lines_of (plains_from (table_plains (proc_view p))) ++ (plain_text (proc_plain (proc_view p)) ++ 10 ∷ [])

@@ -31,9 +31,9 @@ use Rattle.goal_reader.proofs.PrintedForms.{pairs_front}
 use Rattle.goal_reader.proofs.ReadParts.{register_told}
 use Rattle.goal_reader.proofs.Walks.{Walk, group_walk, name_new, register_new, walk_at}
 use Rattle.goal_reader.proofs.WrittenItems.{each_more}
-use Rattle.proc_goal.specs.ProcGrammar.{WritesBlock, WritesProc, WritesText, WritesVariable}
+use Rattle.proc_goal.specs.ProcGrammar.{WritesBlock, WritesProc, WritesProcText, WritesVariable}
 use Rattle.proc_goal.specs.ProcReading.{AreBlocks, AreClearTo, AreLeading, EndsBefore, IsClearProc, IsPoolRead, IsProcFront, absent, there}
-use Rattle.proc_goal.specs.ProcRoles.{ProcRole, of_goal, of_table, a_block, a_proc, block_names_in, has_list, has_variable, ends_variables, item_role, lists_of, top_role, IsProcTextFault}
+use Rattle.proc_goal.specs.ProcRoles.{ProcRole, of_goal, of_table, a_block, a_proc, block_names_in, has_list, has_leading_variable, ends_variables, proc_item_role, lists_of, proc_text_role, IsProcTextFault}
 use Rattle.proc_goal.specs.Views.{BlockTree, ProcTree, names_of_blocks}
 use Rattle.proc_goal.proofs.BlockClear.{got_behind, listed, written_block_clear}
 use Rattle.proc_goal.proofs.Embedded.{goal_clear, table_clear}
@@ -80,7 +80,7 @@ module _ (term_clear : (scope : Scope) (wanted : Option Sort) (form : Form) (t :
 
     -- ---- the variables
     abbrev VariableClear : List (List ℕ) → List Form → Form → Type 0
-    VariableClear ns before f = IsClearProc (item_role ns before f) f
+    VariableClear ns before f = IsClearProc (proc_item_role ns before f) f
 
     variable_step : (ns : List (List ℕ)) (before : List Form) (done rest : List InputReg) (f : Form) (v : InputReg) → p.vars ≡ done ++ v ∷ rest → Each WritesVariable before done → WritesVariable f v
         → VariableClear ns before f × Each WritesVariable (before ++ f ∷ []) (done ++ v ∷ [])
@@ -96,7 +96,7 @@ module _ (term_clear : (scope : Scope) (wanted : Option Sort) (form : Form) (t :
           each_more WritesVariable before done f v each one,
         )
 
-    variables_clear : (ns : List (List ℕ)) (n : ℕ) → AreClearTo (item_role ns) w.vars n
+    variables_clear : (ns : List (List ℕ)) (n : ℕ) → AreClearTo (proc_item_role ns) w.vars n
     variables_clear ns n k f l g = walk_at (VariableClear ns) [] w.vars (group_walk (VariableClear ns) WritesVariable (Each WritesVariable) p.vars (variable_step ns) [] [] w.vars p.vars w.variables refl grammar.none).0 k f g
 
     count : length p.vars ≡ length w.vars
@@ -118,7 +118,7 @@ module _ (term_clear : (scope : Scope) (wanted : Option Sort) (form : Form) (t :
     leading = record {
       within = (let total = length-append w.vars behind in let c = count in omega (arith, total, c));
       each = subst (λ m. Each WritesVariable (take m (w.vars ++ behind)) p.vars) (sym count) (subst (λ fs. Each WritesVariable fs p.vars) (sym (took_all w.vars behind)) w.variables);
-      clear = λ ns. front_clear (item_role ns) w.vars behind (length p.vars) (let c = count in omega (arith, c)) (variables_clear ns (length p.vars));
+      clear = λ ns. front_clear (proc_item_role ns) w.vars behind (length p.vars) (let c = count in omega (arith, c)) (variables_clear ns (length p.vars));
       keep = record {
         names = w.rules.variable_names;
         own = w.rules.own_names;
@@ -156,7 +156,7 @@ module _ (term_clear : (scope : Scope) (wanted : Option Sort) (form : Form) (t :
 
     module _ (front : List Form) (is : IsProcFront p.vars front w.blocks) where
       abbrev BlockClear : List Form → Form → Type 0
-      BlockClear before f = IsClearProc (item_role names (front ++ before) f) f
+      BlockClear before f = IsClearProc (proc_item_role names (front ++ before) f) f
 
       block_step : (before : List Form) (done rest : List BlockTree) (f : Form) (b : BlockTree) → p.blocks ≡ done ++ b ∷ rest → Each (WritesBlock p.vars names) before done → WritesBlock p.vars names f b
           → BlockClear before f × Each (WritesBlock p.vars names) (before ++ f ∷ []) (done ++ b ∷ [])
@@ -173,7 +173,7 @@ module _ (term_clear : (scope : Scope) (wanted : Option Sort) (form : Form) (t :
             each_more (WritesBlock p.vars names) before done f b each one,
           )
 
-      blocks_clear : (n : ℕ) → AreClearTo (after front (item_role names)) w.blocks n
+      blocks_clear : (n : ℕ) → AreClearTo (after front (proc_item_role names)) w.blocks n
       blocks_clear n k f l g = walk_at BlockClear [] w.blocks (group_walk BlockClear (WritesBlock p.vars names) (Each (WritesBlock p.vars names)) p.blocks block_step [] [] w.blocks p.blocks each_block refl grammar.none).0 k f g
 
     are_blocks : AreBlocks p.vars names w.blocks p.blocks
@@ -193,7 +193,7 @@ module _ (term_clear : (scope : Scope) (wanted : Option Sort) (form : Form) (t :
     behind_is : behind_vars items p.vars read_items ≡ behind
     behind_is = ap (λ m. drop m items) count ∙ ap (drop (length w.vars)) items_are ∙ dropped_all w.vars behind
 
-    all_clear : AreClearTo (item_role names) items (length items)
+    all_clear : AreClearTo (proc_item_role names) items (length items)
     all_clear =
         let pool = pool_at w.pools p.pool w.pool refl in
         let read = subst (λ fs. IsPoolRead p.vars fs pool.registers) (sym behind_is) pool.read in
@@ -201,13 +201,13 @@ module _ (term_clear : (scope : Scope) (wanted : Option Sort) (form : Form) (t :
         items_clear items p.vars read_items (number_of pool.registers) pool.registers (pool_front_is items p.vars read_items pool.registers read) names p.blocks
         (subst (λ fs. AreBlocks p.vars names fs p.blocks) (sym rest) are_blocks)
 
-    some_variable : has_variable items ≡ true
-    some_variable = ap has_variable items_are ∙ by_first w.vars p.vars w.variables w.rules.variables.0
+    some_variable : has_leading_variable items ≡ true
+    some_variable = ap has_leading_variable items_are ∙ by_first w.vars p.vars w.variables w.rules.variables.0
       where
-        by_first : (fs : List Form) (vs : List InputReg) → Each WritesVariable fs vs → 0 < length vs → has_variable (fs ++ behind) ≡ true
+        by_first : (fs : List Form) (vs : List InputReg) → Each WritesVariable fs vs → 0 < length vs → has_leading_variable (fs ++ behind) ≡ true
         by_first fs [] e l = absurd (omega (arith, l))
         by_first [] (v ∷ vs) e l = elim e [ ]
-        by_first (f ∷ fs) (v ∷ vs) (more_of one others) l = ap (λ t. if t then true else if ends_variables f then false else has_variable (fs ++ behind)) (variable_begins f v one)
+        by_first (f ∷ fs) (v ∷ vs) (more_of one others) l = ap (λ t. if t then true else if ends_variables f then false else has_leading_variable (fs ++ behind)) (variable_begins f v one)
 
     some_block : has_list (codes "block") items ≡ true
     some_block =
@@ -226,15 +226,15 @@ module _ (term_clear : (scope : Scope) (wanted : Option Sort) (form : Form) (t :
     proc_begins form p w = keyword_told (codes "proc") _ form w.is
 
     module _ (last : Form) (p : ProcTree) (w : WritesProc last p) where
-      last_clear : (fs : List Form) → has_list (codes "proc") fs ≡ false → IsClearProc (top_role fs last) last
+      last_clear : (fs : List Form) → has_list (codes "proc") fs ≡ false → IsClearProc (proc_text_role fs last) last
       last_clear fs e = subst (λ (r : ProcRole). IsClearProc r last) (sym (top_proc fs last (proc_begins last p w) e)) (written_proc_clear last p w)
 
-      forms_clear : (fs : List Form) (t : Table) (b : Bool) → WritesMachine fs t b → AreClearTo top_role (fs ++ last ∷ []) (length (fs ++ last ∷ []))
-      forms_clear _ _ _ built_in = one_more_clear top_role (last ∷ []) 0 last refl (last_clear [] refl) (none_clear top_role (last ∷ []))
+      forms_clear : (fs : List Form) (t : Table) (b : Bool) → WritesMachine fs t b → AreClearTo proc_text_role (fs ++ last ∷ []) (length (fs ++ last ∷ []))
+      forms_clear _ _ _ built_in = one_more_clear proc_text_role (last ∷ []) 0 last refl (last_clear [] refl) (none_clear proc_text_role (last ∷ []))
       forms_clear _ _ _ (own {form = f} {table = t} m) =
           let h = keyword_told (codes "machine") _ f m.is in
-          one_more_clear top_role (f ∷ last ∷ []) 1 last refl (last_clear (f ∷ []) (ap (λ b. b || false) (other_head (codes "machine") (codes "proc") f h refl)))
-          (one_more_clear top_role (f ∷ last ∷ []) 0 f refl (subst (λ (r : ProcRole). IsClearProc r f) (sym (top_machine [] f h refl)) (table_clear machine f (machine_clear f t m))) (none_clear top_role (f ∷ last ∷ [])))
+          one_more_clear proc_text_role (f ∷ last ∷ []) 1 last refl (last_clear (f ∷ []) (ap (λ b. b || false) (other_head (codes "machine") (codes "proc") f h refl)))
+          (one_more_clear proc_text_role (f ∷ last ∷ []) 0 f refl (subst (λ (r : ProcRole). IsClearProc r f) (sym (top_machine [] f h refl)) (table_clear machine f (machine_clear f t m))) (none_clear proc_text_role (f ∷ last ∷ [])))
 
       proc_there : (fs : List Form) → has_list (codes "proc") (fs ++ last ∷ []) ≡ true
       proc_there fs = has_both (codes "proc") fs (last ∷ []) ∙ ap (λ b. has_list (codes "proc") fs || (b || false)) (proc_begins last p w) ∙ or_any (has_list (codes "proc") fs)
@@ -243,7 +243,7 @@ module _ (term_clear : (scope : Scope) (wanted : Option Sort) (form : Form) (t :
           or_any true = refl
           or_any false = refl
 
-    pub written_text_clear : (size : ℕ) (fs : List Form) (p : ProcTree) → WritesText fs p → (place : ℕ) (kind : Kind) → IsProcTextFault size fs place kind → ⊥
+    pub written_text_clear : (size : ℕ) (fs : List Form) (p : ProcTree) → WritesProcText fs p → (place : ℕ) (kind : Kind) → IsProcTextFault size fs place kind → ⊥
     written_text_clear size fs p w place kind fault =
         text_clear size (w.machines ++ w.last ∷ []) (forms_clear w.last p w.proc w.machines p.table p.builtin w.machine) (proc_there w.last p w.proc w.machines) place kind
         (subst (λ gs. IsProcTextFault size gs place kind) w.are fault)

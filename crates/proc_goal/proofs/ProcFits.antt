@@ -13,9 +13,9 @@ use Rattle.goal_meaning.specs.Views.{TargetTree}
 use Rattle.goal_meaning.specs.WellFormed.{sort_of_target}
 use Rattle.goal_meaning.specs.declared.goals.InputReg.{InputReg}
 use Rattle.goal_reader.proofs.Fitting.{FitAll, pool_fits, register_fits}
-use Rattle.proc_goal.specs.ProcForms.{block_plain, go_plain, proc_plain, proc_plains, set_plain, table_plains, target_name, variable_plain, when_plains}
+use Rattle.proc_goal.specs.ProcForms.{block_plain, go_plain, proc_plain, proc_plains, proc_target_name, set_plain, table_plains, var_plain, when_plains}
 use Rattle.proc_goal.specs.Views.{BlockTree, ProcTree, WhenTree}
-use Rattle.proc_goal.specs.WellFormed.{IsBlock, IsGuard, IsProc, IsSet, IsThere}
+use Rattle.proc_goal.specs.WellFormed.{IsGuard, IsProc, IsProcBlock, IsProcTarget, IsSet}
 use Rattle.proc_goal.specs.declared.procs.Target.{Target}
 use Rattle.proc_goal.specs.declared.procs.Target.TheVariants as targets
 use Rattle.proc_goal.proofs.ProcGoals.{name_of_set}
@@ -37,12 +37,12 @@ each_prints p P step (y ∷ ys) all = (step y (All-head P y ys all), each_prints
 abbrev IsPrintable : InputReg → Type 0
 IsPrintable i = IsName i.name × (i.reg < 31)
 
-variable_prints : (i : InputReg) → IsPrintable i → CanPrint (variable_plain i)
+variable_prints : (i : InputReg) → IsPrintable i → CanPrint (var_plain i)
 variable_prints i h = (record { begins = refl; each = refl }, (h.0, ((register_fits 0 i.reg h.1).0, tt)))
 
 -- ---- blocks
 module _ (vars : List InputReg) (named_vars : AreNamedVariables vars) (names : List (List ℕ)) (named : All IsName names) where
-  target_named : (t : Target) → IsThere (length names) t → IsName (target_name names t)
+  target_named : (t : Target) → IsProcTarget (length names) t → IsName (proc_target_name names t)
   target_named targets.Done there = record { begins = refl; each = refl }
   target_named (targets.Block at) there = All-get_or IsName names at [] there named
 
@@ -54,10 +54,10 @@ module _ (vars : List InputReg) (named_vars : AreNamedVariables vars) (names : L
   set_prints t h =
       (record { begins = refl; each = refl }, (name_of_set vars named_vars.named t.name t.pin h.pinned, (term_printable vars named_vars (sort_of_target t.name) t.value h.value, tt)))
 
-  go_prints : (t : Target) → IsThere (length names) t → CanPrint (go_plain names t)
+  go_prints : (t : Target) → IsProcTarget (length names) t → CanPrint (go_plain names t)
   go_prints t there = (record { begins = refl; each = refl }, (target_named t there, tt))
 
-  block_prints : (b : BlockTree) → IsBlock vars (length names) b → CanPrint (block_plain vars names b)
+  block_prints : (b : BlockTree) → IsProcBlock vars (length names) b → CanPrint (block_plain vars names b)
   block_prints b h =
       let sets = map (set_plain vars) b.sets in (
         record { begins = refl; each = refl },
@@ -73,11 +73,11 @@ module _ (table_prints : (table : Table) → IsTable table → All (λ (s : Slot
   proc_prints : CanPrint (proc_plain p)
   proc_prints =
       let named = All-map IsName (λ (b : BlockTree). b.name) p.blocks (λ k d l. (is.blocks k d l).named) in
-      let vars = each_prints variable_plain IsPrintable variable_prints p.vars (λ k d l. (is.variables k d l, low_vars p is k d l)) in
-      let blocks = each_prints (block_plain p.vars (names_are p is)) (IsBlock p.vars (length (names_are p is))) (block_prints p.vars (variables_are p is) (names_are p is) named) p.blocks (blocks_are p is) in
+      let vars = each_prints var_plain IsPrintable variable_prints p.vars (λ k d l. (is.variables k d l, low_vars p is k d l)) in
+      let blocks = each_prints (block_plain p.vars (names_are p is)) (IsProcBlock p.vars (length (names_are p is))) (block_prints p.vars (variables_are p is) (names_are p is) named) p.blocks (blocks_are p is) in
       let pool = (pool_fits 1 p.pool (low_pool p is)).0 in (
         record { begins = refl; each = refl },
-        (is.named, both_print (map variable_plain p.vars) _ vars (pool, blocks)),
+        (is.named, both_print (map var_plain p.vars) _ vars (pool, blocks)),
       )
 
   tables_print : (b : Bool) → CanPrintEach (if b then [] else table_plain p.table ∷ [])

@@ -27,7 +27,7 @@ use Rattle.proc_goal.specs.Goals.{goal_of_block, input_of_proc, memory_kept, set
 use Rattle.proc_goal.specs.Views.{BlockTree, ProcTree, WhenTree, block_view, proc_view}
 use Rattle.proc_goal.specs.declared.procs.Block.{Block}
 use Rattle.proc_goal.specs.declared.procs.Proc.{Proc}
-use Rattle.proc_goal.specs.WellFormed.{IsBlock, IsGuard, IsPinned, IsProc, IsTermOver, memory, variable, operators_of_block, operators_of_sets}
+use Rattle.proc_goal.specs.WellFormed.{IsProcBlock, IsGuard, IsPinned, IsProc, IsTermOver, memory, variable, operators_of_block, operators_of_sets}
 use Rattle.proc_goal.proofs.GoalLevels.{goals_nested}
 
 -- ---- lists
@@ -184,7 +184,7 @@ module _ (p : ProcTree) where
 
 -- ---- one goal
 module _ (p : ProcTree) (is : IsProc p) where
-  module _ (b : BlockTree) (block : IsBlock p.vars (length p.blocks) b) where
+  module _ (b : BlockTree) (block : IsProcBlock p.vars (length p.blocks) b) where
     abbrev goal : GoalTree
     goal = goal_of_block p b
 

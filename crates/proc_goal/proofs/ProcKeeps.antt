@@ -36,18 +36,18 @@ use Rattle.goal_reader.proofs.Heads.{list_from}
 use Rattle.goal_reader.proofs.InputPrints.{machine_fits}
 use Rattle.goal_reader.proofs.Moved.{plains_map}
 use Rattle.goal_reader.proofs.PrintedForms.{all_behind, pairs_front}
-use Rattle.proc_goal.specs.ProcForms.{block_plain, go_plain, proc_plain, proc_plains, set_plain, table_plains, target_plain, variable_plain, when_plains}
-use Rattle.proc_goal.specs.ProcGrammar.{WritesBlock, WritesGo, WritesProc, WritesSet, WritesTarget, WritesText, WritesVariable, WritesWhen, block, done, guarded, unguarded}
+use Rattle.proc_goal.specs.ProcForms.{block_plain, go_plain, proc_plain, proc_plains, proc_target_plain, set_plain, table_plains, var_plain, when_plains}
+use Rattle.proc_goal.specs.ProcGrammar.{WritesBlock, WritesGo, WritesProc, WritesProcTarget, WritesProcText, WritesSet, WritesVariable, WritesWhen, block, done, guarded, unguarded}
 use Rattle.proc_goal.specs.Views.{BlockTree, ProcTree, WhenTree, names_of_blocks}
-use Rattle.proc_goal.specs.WellFormed.{IsBlock, IsGuard, IsProc, IsSet, IsTermOver, IsThere, operators_of_proc}
+use Rattle.proc_goal.specs.WellFormed.{IsGuard, IsProc, IsProcBlock, IsProcTarget, IsSet, IsTermOver, operators_of_proc}
 use Rattle.proc_goal.specs.declared.procs.Target.{Target}
 
 -- ---- targets
-there : (names : List (List ℕ)) (count : ℕ) → length names ≡ count → (form : Form) (t : Target) → WritesTarget names form t → IsThere count t
+there : (names : List (List ℕ)) (count : ℕ) → length names ≡ count → (form : Form) (t : Target) → WritesProcTarget names form t → IsProcTarget count t
 there names count e form _ (done is) = tt
 there names count e form _ (block {at = at} {name = n} g is) = (let l = slice_get_within names at n g in omega (arith, l, e))
 
-target_told : (names : List (List ℕ)) (form : Form) (t : Target) → WritesTarget names form t → plain_of form ≡ target_plain names t
+target_told : (names : List (List ℕ)) (form : Form) (t : Target) → WritesProcTarget names form t → plain_of form ≡ proc_target_plain names t
 target_told names form _ (done is) = name_told (codes "done") form is
 target_told names form _ (block {at = at} {name = n} g is) =
     let e : slice_index_or names at [] ≡ n = get_or_from_slice_get names at n [] g in
@@ -64,7 +64,7 @@ each_told W p step _ _ (more_of {form = f} {forms = fs} {y = y} {ys = ys} w othe
 abbrev HasName : InputReg → Type 0
 HasName i = IsName i.name
 
-variable_fits : (n : ℕ) (f : Form) (v : InputReg) → WritesVariable f v → Fits (1 + n) (plain_of f) → Fits (1 + n) (variable_plain v) × HasName v
+variable_fits : (n : ℕ) (f : Form) (v : InputReg) → WritesVariable f v → Fits (1 + n) (plain_of f) → Fits (1 + n) (var_plain v) × HasName v
 variable_fits n f v w fits =
     let parts = parts_fit n (codes "var") (w.first ∷ w.second ∷ []) f w.is fits in
     let named = subst (Fits n) (name_told v.name w.first w.named) (fit_head n (plain_of w.first) (plain_of w.second ∷ []) parts) in
@@ -153,7 +153,7 @@ module _ (sorted : (inputs : List InputReg) (sort : Sort) (t : Tree Op) → IsRe
         other = there names count e second w.other target;
       }
 
-      block_keeps : (f : Form) (b : BlockTree) → WritesBlock vars names f b → IsWithin f all → Fits 63 (plain_of f) → IsBlock vars count b
+      block_keeps : (f : Form) (b : BlockTree) → WritesBlock vars names f b → IsWithin f all → Fits 63 (plain_of f) → IsProcBlock vars count b
       block_keeps f b w inside fits =
           let behind = w.whens ++ (w.sets ++ w.last ∷ []) in
           let parts = parts_fit 62 (codes "block") (w.name_form ∷ behind) f w.is fits in
@@ -182,19 +182,19 @@ module _ (sorted : (inputs : List InputReg) (sort : Sort) (t : Tree Op) → IsRe
         let parts = parts_fit 63 (codes "proc") (w.name_form ∷ behind) f w.is fits in
         let items = fit_tail 63 (plain_of w.name_form) (map plain_of behind) parts in
         let named = subst (Fits 63) (name_told p.name w.name_form w.named) (fit_head 63 (plain_of w.name_form) (map plain_of behind) parts) in
-        let vars = each_fits 63 WritesVariable variable_plain HasName (variable_fits 62) w.vars p.vars w.variables (front_fits 63 w.vars (w.pools ++ w.blocks) items) in
+        let vars = each_fits 63 WritesVariable var_plain HasName (variable_fits 62) w.vars p.vars w.variables (front_fits 63 w.vars (w.pools ++ w.blocks) items) in
         let apart = pairs_front (input_registers p.vars) p.pool w.rules.registers in
         let block_forms = back_fits 63 w.pools w.blocks (back_fits 63 w.vars (w.pools ++ w.blocks) items) in
         let blocks = subst (FitAll 63) (each_told (WritesBlock p.vars names) (block_plain p.vars names) (block_told p.vars apart names) w.blocks p.blocks w.each_block) block_forms in
         let pool = pool_fits 62 p.pool (all_behind (input_registers p.vars) p.pool w.rules.low) in (
-          listed_fits 63 (codes "proc") (atom (name p.name) ∷ (map variable_plain p.vars ++ (pool_plain p.pool ∷ map (block_plain p.vars names) p.blocks))) (record { begins = refl; each = refl })
-              (fit_more 63 (atom (name p.name)) (map variable_plain p.vars ++ (pool_plain p.pool ∷ map (block_plain p.vars names) p.blocks)) named
-              (fit_both 63 (map variable_plain p.vars) (pool_plain p.pool ∷ map (block_plain p.vars names) p.blocks) vars.0 (fit_more 63 (pool_plain p.pool) (map (block_plain p.vars names) p.blocks) pool blocks))),
+          listed_fits 63 (codes "proc") (atom (name p.name) ∷ (map var_plain p.vars ++ (pool_plain p.pool ∷ map (block_plain p.vars names) p.blocks))) (record { begins = refl; each = refl })
+              (fit_more 63 (atom (name p.name)) (map var_plain p.vars ++ (pool_plain p.pool ∷ map (block_plain p.vars names) p.blocks)) named
+              (fit_both 63 (map var_plain p.vars) (pool_plain p.pool ∷ map (block_plain p.vars names) p.blocks) vars.0 (fit_more 63 (pool_plain p.pool) (map (block_plain p.vars names) p.blocks) pool blocks))),
           named.0,
           vars.1,
         )
 
-    pub text_keeps : (text : List ℕ) (trees : SexpTrees) → TextHasTrees text trees → (p : ProcTree) → WritesText (forms_list (forms_of text trees)) p → operators_of_proc p < 2 ^ 29 → IsProc p
+    pub text_keeps : (text : List ℕ) (trees : SexpTrees) → TextHasTrees text trees → (p : ProcTree) → WritesProcText (forms_list (forms_of text trees)) p → operators_of_proc p < 2 ^ 29 → IsProc p
     text_keeps text trees has p w few =
         let all = forms_list (forms_of text trees) in
         let names = names_of_blocks p.blocks in
@@ -221,7 +221,7 @@ module _ (sorted : (inputs : List InputReg) (sort : Sort) (t : Tree Op) → IsRe
           named = proc.1;
           variables = proc.2;
           rules = w.proc.rules;
-          blocks = each_keeps all 63 (WritesBlock p.vars names) (IsBlock p.vars (length p.blocks)) (block_keeps text trees has p.vars apart names (length p.blocks) (length-map p.blocks (λ (b : BlockTree). b.name)))
+          blocks = each_keeps all 63 (WritesBlock p.vars names) (IsProcBlock p.vars (length p.blocks)) (block_keeps text trees has p.vars apart names (length p.blocks) (length-map p.blocks (λ (b : BlockTree). b.name)))
               w.proc.blocks p.blocks w.proc.each_block blocks fits;
           few_operators = few;
           nested = (fit_both 64 (table_plains p) (proc_plain p ∷ []) tabled.0 (fit_more 64 (proc_plain p) [] proc.0 (fit_none 64))).1;

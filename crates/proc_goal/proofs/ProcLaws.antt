@@ -17,7 +17,7 @@ use Rattle.word_ops.specs.declared.sorts.Sort.{Sort}
 use Rattle.word_terms.specs.Tree.{Tree}
 use Rattle.goal_reader.specs.Roles.{IsFaultAs, WritesTerm, term}
 use Rattle.goal_reader.specs.declared.scopes.Scope.{Scope}
-use Rattle.proc_goal.specs.ProcGrammar.{IsFirstProcFault, ReadsProc, WritesText, in_forms, in_passes}
+use Rattle.proc_goal.specs.ProcGrammar.{IsFirstProcFault, ReadsProc, WritesProcText, in_forms, in_passes}
 use Rattle.proc_goal.specs.ProcRoles.{IsProcTextFault}
 use Rattle.proc_goal.specs.Views.{ProcTree}
 use Rattle.proc_goal.proofs.ProcClear.{written_text_clear}
@@ -56,7 +56,7 @@ module _ (text : List ℕ) where
         → ((form : Form) (table other : Table) → WritesTable form table → WritesTable form other → table ≡ other) → (p q : ProcTree) → ReadsProc text p → ReadsProc text q → p ≡ q
     reads_once term_once table_once p q a b =
         let same = one_forest a.trees b.trees a.has b.has in
-        text_once term_once table_once (forms_list (forms_of text b.trees)) p q (subst (λ (ts : SexpTrees). WritesText (forms_list (forms_of text ts)) p) same a.written) b.written
+        text_once term_once table_once (forms_list (forms_of text b.trees)) p q (subst (λ (ts : SexpTrees). WritesProcText (forms_list (forms_of text ts)) p) same a.written) b.written
 
     pub reads_apart : ((scope : Scope) (wanted : Option Sort) (form : Form) (t : Tree Op) (place : ℕ) (kind : Kind) → WritesTerm scope wanted form t → IsFaultAs (term scope wanted) form place kind → ⊥)
         → ((form : Form) (table : Table) → WritesTable form table → IsClearTableForm machine form) → (p : ProcTree) (place : ℕ) (kind : Kind) → ReadsProc text p → IsFirstProcFault text place kind → ⊥

@@ -27,7 +27,7 @@ use Rattle.word_ops.specs.declared.sorts.Sort.TheVariants as sorts
 use Rattle.word_terms.specs.Tree.{Tree}
 use Rattle.goal_reader.proofs.Different.{pairs_map}
 use Rattle.goal_reader.proofs.ReadParts.{each_once, listed_parts, name_once, one_same, register_told, same_some, two_same}
-use Rattle.proc_goal.specs.ProcGrammar.{WritesBlock, WritesGo, WritesProc, WritesSet, WritesTarget, WritesText, WritesVariable, WritesWhen, block, done, guarded, unguarded}
+use Rattle.proc_goal.specs.ProcGrammar.{WritesBlock, WritesGo, WritesProc, WritesProcTarget, WritesProcText, WritesSet, WritesVariable, WritesWhen, block, done, guarded, unguarded}
 use Rattle.proc_goal.specs.ProcRoles.{has_list, lists_of}
 use Rattle.proc_goal.specs.Views.{BlockTree, ProcTree, WhenTree, names_of_blocks}
 use Rattle.proc_goal.specs.WellFormed.{IsPinned, memory, variable}
@@ -160,7 +160,7 @@ module _ (names : List (List ℕ)) (are : AreNames names) where
   no_block_done : (at : ℕ) (n : List ℕ) → slice_get names at ≡ Some n → n ≡ codes "done" → ⊥
   no_block_done at n g e = are.not_done at n (slice_get_within names at n g) (get_or_from_slice_get names at n n g ∙ e)
 
-  target_once : (f : Form) (t u : Target) → WritesTarget names f t → WritesTarget names f u → t ≡ u
+  target_once : (f : Form) (t u : Target) → WritesProcTarget names f t → WritesProcTarget names f u → t ≡ u
   target_once f _ _ (done a) (done b) = refl
   target_once f _ _ (done a) (block {at = at} {name = n} g b) = absurd (no_block_done at n g (name_once f n (codes "done") b a))
   target_once f _ _ (block {at = at} {name = n} g a) (done b) = absurd (no_block_done at n g (name_once f n (codes "done") a b))
@@ -232,13 +232,13 @@ module _ (term_once : (scope : Scope) (wanted : Option Sort) (form : Form) (t u 
         one_there _ (guarded {w = v} third fourth has other leads) =
             let parts = two_same (codes "when") first second third fourth f is has in
             let guard = one_term (subst (λ (g : Form). Writes (term_scope vars) sorts.Word g w.guard) parts.0 value) other in
-            let to = target_once names own_names fourth w.other v.other (subst (λ (g : Form). WritesTarget names g w.other) parts.1 target) leads in
+            let to = target_once names own_names fourth w.other v.other (subst (λ (g : Form). WritesProcTarget names g w.other) parts.1 target) leads in
             ap Some (ap₂ (λ g t. record { guard = g; other = t }) guard to)
 
     go_once : (f : Form) (t u : Target) → WritesGo names f t → WritesGo names f u → t ≡ u
     go_once f t u a b =
         let part = one_same (codes "go") a.first b.first f a.is b.is in
-        target_once names own_names b.first t u (subst (λ (g : Form). WritesTarget names g t) part a.target) b.target
+        target_once names own_names b.first t u (subst (λ (g : Form). WritesProcTarget names g t) part a.target) b.target
 
     pub block_once : (f : Form) (b c : BlockTree) → WritesBlock vars names f b → WritesBlock vars names f c → b ≡ c
     block_once f b c v w =
@@ -301,7 +301,7 @@ module _ (term_once : (scope : Scope) (wanted : Option Sort) (form : Form) (t u 
     parts_same _ _ a b _ _ _ _ (own w) built_in e = cc
     parts_same _ _ a b _ _ _ _ (own {form = f} w) (own {form = g} v) e = (let same : f ≡ g = cc in ap (λ x. x ∷ []) same, cc)
 
-    pub text_once : (fs : List Form) (p q : ProcTree) → WritesText fs p → WritesText fs q → p ≡ q
+    pub text_once : (fs : List Form) (p q : ProcTree) → WritesProcText fs p → WritesProcText fs q → p ≡ q
     text_once fs p q v w =
         let parts = parts_same v.machines w.machines v.last w.last p.table q.table p.builtin q.builtin v.machine w.machine (sym v.are ∙ w.are) in
         let machine = machine_once w.machines p.table q.table p.builtin q.builtin (subst (λ xs. WritesMachine xs p.table p.builtin) parts.0 v.machine) w.machine in

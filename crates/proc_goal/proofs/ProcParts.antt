@@ -22,7 +22,7 @@ use Rattle.goal_reader.proofs.Keeping.{each_length}
 use Rattle.goal_reader.proofs.NewNames.{fresh_name_clear}
 use Rattle.proc_goal.specs.ProcGrammar.{WritesBlock, WritesProc, WritesVariable}
 use Rattle.proc_goal.specs.ProcReading.{AreBlocks, AreClearTo, AreLeading, EndsBefore, IsClearProc, IsFirstAmong, IsFirstAs, IsPoolFault, IsPoolRead, IsProcFront, absent, there}
-use Rattle.proc_goal.specs.ProcRoles.{ProcRole, of_goal, a_proc, not_there, no_block, no_variable, block_names_in, ends_variables, has_list, has_variable, item_role, lists_of, variables_in}
+use Rattle.proc_goal.specs.ProcRoles.{ProcRole, of_goal, a_proc, not_there, no_block, no_variable, block_names_in, ends_variables, has_list, has_leading_variable, proc_item_role, lists_of, proc_variables_in}
 use Rattle.proc_goal.specs.Views.{BlockTree, ProcTree, names_of_blocks}
 use Rattle.proc_goal.specs.WellFormed.{KeepsProcRules}
 use Rattle.proc_goal.proofs.BlockForms.{name_and_rest, parted}
@@ -61,18 +61,18 @@ module _ (items : List Form) (vars : List InputReg) (v : AreLeading items vars) 
   var_next : (form : Form) → slice_get behind_vars 0 ≡ Some form → has_head (codes "var") form ≡ false
   var_next form g = v.ends form (sym (first_dropped (length vars) items) ∙ g)
 
-  vars_clear : (names : List (List ℕ)) → AreClearTo (item_role names) (var_forms ++ behind_vars) (length var_forms)
+  vars_clear : (names : List (List ℕ)) → AreClearTo (proc_item_role names) (var_forms ++ behind_vars) (length var_forms)
   vars_clear names =
-      subst (λ fs. AreClearTo (item_role names) fs (length var_forms)) (sym (parted (length vars) items))
-      (subst (λ m. AreClearTo (item_role names) items m) (sym length_vars) (v.clear names))
+      subst (λ fs. AreClearTo (proc_item_role names) fs (length var_forms)) (sym (parted (length vars) items))
+      (subst (λ m. AreClearTo (proc_item_role names) items m) (sym length_vars) (v.clear names))
 
-  pool_role : (names : List (List ℕ)) (form : Form) → has_head (codes "pool") form ≡ true → item_role names (var_forms ++ []) form ≡ of_goal (a_list (pool (input_registers vars)))
-  pool_role names form h = ap (λ fs. item_role names fs form) (append-nil var_forms) ∙ pool_here names var_forms vars v.each form h
+  pool_role : (names : List (List ℕ)) (form : Form) → has_head (codes "pool") form ≡ true → proc_item_role names (var_forms ++ []) form ≡ of_goal (a_list (pool (input_registers vars)))
+  pool_role names form h = ap (λ fs. proc_item_role names fs form) (append-nil var_forms) ∙ pool_here names var_forms vars v.each form h
 
-  pub pool_fault_first : (names : List (List ℕ)) (place : ℕ) (kind : Kind) → IsPoolFault vars behind_vars place kind → IsFirstAmong (item_role names) items place kind
+  pub pool_fault_first : (names : List (List ℕ)) (place : ℕ) (kind : Kind) → IsPoolFault vars behind_vars place kind → IsFirstAmong (proc_item_role names) items place kind
   pool_fault_first names place kind f =
-      subst (λ fs. IsFirstAmong (item_role names) fs place kind) (parted (length vars) items)
-      (first_behind (item_role names) var_forms behind_vars place kind (vars_clear names) (record {
+      subst (λ fs. IsFirstAmong (proc_item_role names) fs place kind) (parted (length vars) items)
+      (first_behind (proc_item_role names) var_forms behind_vars place kind (vars_clear names) (record {
         at = 0;
         form = f.form;
         there = f.there;
@@ -85,7 +85,7 @@ module _ (items : List Form) (vars : List InputReg) (v : AreLeading items vars) 
     pub within : m ≤ length behind_vars
     pub read : IsPoolRead vars behind_vars given
     pub front : IsProcFront vars (var_forms ++ take m behind_vars) (drop m behind_vars)
-    pub clear : (names : List (List ℕ)) → AreClearTo (after var_forms (item_role names)) behind_vars m
+    pub clear : (names : List (List ℕ)) → AreClearTo (after var_forms (proc_item_role names)) behind_vars m
     pub no_block : has_list (codes "block") (take m behind_vars) ≡ false
 
   no_pool_front : EndsBefore (codes "pool") behind_vars 0 → IsProcFront vars (var_forms ++ []) behind_vars
@@ -127,7 +127,7 @@ module _ (items : List Form) (vars : List InputReg) (v : AreLeading items vars) 
         within = t.1;
         read = there form g h is clear;
         front = subst (λ fs. IsProcFront vars (var_forms ++ fs) (drop 1 behind_vars)) (sym t.0) (pool_front form h (drop 1 behind_vars));
-        clear = λ names. one_more_clear (after var_forms (item_role names)) behind_vars 0 form g
+        clear = λ names. one_more_clear (after var_forms (proc_item_role names)) behind_vars 0 form g
             (subst (λ (r : ProcRole). IsClearProc r form) (sym (pool_role names form h)) (goal_clear (a_list (pool (input_registers vars))) form clear)) (λ k other l e. absurd (omega (arith, l)));
         no_block = ap (has_list (codes "block")) t.0 ∙ ap (λ b. b || false) (other_head (codes "pool") (codes "block") form h refl);
       }
@@ -142,25 +142,25 @@ module _ (items : List Form) (vars : List InputReg) (v : AreLeading items vars) 
     pub items_parted : items ≡ front ++ rest
     items_parted = sym (append_assoc var_forms (take m behind_vars) rest ∙ ap (λ fs. var_forms ++ fs) (parted m behind_vars) ∙ parted (length vars) items)
 
-    front_clear : (names : List (List ℕ)) → AreClearTo (item_role names) (front ++ rest) (length front)
+    front_clear : (names : List (List ℕ)) → AreClearTo (proc_item_role names) (front ++ rest) (length front)
     front_clear names =
         let total = length-append var_forms (take m behind_vars) in
         let taken = length-take-le m behind_vars f.within in
         let same : length var_forms + m ≡ length front = omega (arith, total, taken) in
-        subst (λ n. AreClearTo (item_role names) (front ++ rest) n) same
-        (subst (λ fs. AreClearTo (item_role names) fs (length var_forms + m)) (parted (length vars) items ∙ items_parted)
-        (both_clear (item_role names) var_forms behind_vars m (vars_clear names) (f.clear names)))
+        subst (λ n. AreClearTo (proc_item_role names) (front ++ rest) n) same
+        (subst (λ fs. AreClearTo (proc_item_role names) fs (length var_forms + m)) (parted (length vars) items ∙ items_parted)
+        (both_clear (proc_item_role names) var_forms behind_vars m (vars_clear names) (f.clear names)))
 
-    pub blocks_fault_first : (names : List (List ℕ)) (place : ℕ) (kind : Kind) → IsFirstAmong (after front (item_role names)) rest place kind → IsFirstAmong (item_role names) items place kind
+    pub blocks_fault_first : (names : List (List ℕ)) (place : ℕ) (kind : Kind) → IsFirstAmong (after front (proc_item_role names)) rest place kind → IsFirstAmong (proc_item_role names) items place kind
     blocks_fault_first names place kind one =
-        subst (λ fs. IsFirstAmong (item_role names) fs place kind) (sym items_parted) (first_behind (item_role names) front rest place kind (front_clear names) one)
+        subst (λ fs. IsFirstAmong (proc_item_role names) fs place kind) (sym items_parted) (first_behind (proc_item_role names) front rest place kind (front_clear names) one)
 
     module _ (names : List (List ℕ)) (bs : List BlockTree) (b : AreBlocks vars names rest bs) where
-      pub items_clear : AreClearTo (item_role names) items (length items)
+      pub items_clear : AreClearTo (proc_item_role names) items (length items)
       items_clear =
-          let all = both_clear (item_role names) front rest (length rest) (front_clear names) (b.clear front f.front) in
+          let all = both_clear (proc_item_role names) front rest (length rest) (front_clear names) (b.clear front f.front) in
           let count : length front + length rest ≡ length items = (let total = length-append front rest in let is = ap length items_parted in omega (arith, total, is)) in
-          subst (λ n. AreClearTo (item_role names) items n) count (subst (λ fs. AreClearTo (item_role names) fs (length front + length rest)) (sym items_parted) all)
+          subst (λ n. AreClearTo (proc_item_role names) items n) count (subst (λ fs. AreClearTo (proc_item_role names) fs (length front + length rest)) (sym items_parted) all)
 
       -- the names of the blocks are those that were found before
       pub names_are : block_names_in items ≡ names_of_blocks bs
@@ -186,15 +186,15 @@ module _ (items : List Form) (vars : List InputReg) (v : AreLeading items vars) 
           by_rest (f ∷ fs) (x ∷ xs) w t = omega arith
 
 -- ---- a variable is there
-no_variable_at : (x : Form) (xs : List Form) → has_head (codes "var") x ≡ false → ends_variables x ≡ true → has_variable (x ∷ xs) ≡ false
-no_variable_at x xs h e = ap (λ t. if t then true else if ends_variables x then false else has_variable xs) h ∙ ap (λ t. if t then false else has_variable xs) e
+no_variable_at : (x : Form) (xs : List Form) → has_head (codes "var") x ≡ false → ends_variables x ≡ true → has_leading_variable (x ∷ xs) ≡ false
+no_variable_at x xs h e = ap (λ t. if t then true else if ends_variables x then false else has_leading_variable xs) h ∙ ap (λ t. if t then false else has_leading_variable xs) e
 
-none_first : (vars : List InputReg) (fs : List Form) (given : Option (List ℕ)) → EndsBefore (codes "var") fs 0 → IsPoolRead vars fs given → AllBegin (codes "block") (drop (number_of given) fs) → has_variable fs ≡ false
+none_first : (vars : List InputReg) (fs : List Form) (given : Option (List ℕ)) → EndsBefore (codes "var") fs 0 → IsPoolRead vars fs given → AllBegin (codes "block") (drop (number_of given) fs) → has_leading_variable fs ≡ false
 none_first vars [] given ends p b = refl
 none_first vars (x ∷ xs) None ends (absent e) b = no_variable_at x xs (ends x refl) (ends_block x b.0)
 none_first vars (x ∷ xs) (Some rs) ends (there form g h is clear) b = (let same : x ≡ form = cc in no_variable_at x xs (ends x refl) (ends_pool x (ap (has_head (codes "pool")) same ∙ h)))
 
-pub some_variable : (items : List Form) (vars : List InputReg) (given : Option (List ℕ)) → has_variable items ≡ true → AreLeading items vars → IsPoolRead vars (drop (length vars) items) given
+pub some_variable : (items : List Form) (vars : List InputReg) (given : Option (List ℕ)) → has_leading_variable items ≡ true → AreLeading items vars → IsPoolRead vars (drop (length vars) items) given
     → AllBegin (codes "block") (drop (number_of given) (drop (length vars) items)) → 0 < length vars
 some_variable items [] given h v p b = absurd (true_false h (none_first [] items given v.ends p b))
 some_variable items (i ∷ is) given h v p b = omega arith

@@ -14,7 +14,7 @@ use Rattle.goal_meaning.specs.WellFormed.{operators_of_target, sort_of_target, s
 use Rattle.goal_meaning.specs.declared.goals.InputReg.{InputReg}
 use Rattle.goal_reader.specs.GoalTerms.{term_scope}
 use Rattle.goal_reader.specs.Terms.{Writes}
-use Rattle.proc_goal.specs.ProcGrammar.{WritesBlock, WritesProc, WritesSet, WritesText, WritesWhen, guarded, unguarded}
+use Rattle.proc_goal.specs.ProcGrammar.{WritesBlock, WritesProc, WritesProcText, WritesSet, WritesWhen, guarded, unguarded}
 use Rattle.proc_goal.specs.Views.{BlockTree, ProcTree, WhenTree, names_of_blocks}
 use Rattle.proc_goal.specs.WellFormed.{operators_of_block, operators_of_proc, operators_of_sets}
 
@@ -108,7 +108,7 @@ module _ (term_few : (inputs : List InputReg) (sort : Sort) (form : Form) (t : T
       let blocks = each_few (WritesBlock p.vars names) operators_of_block (block_few p.vars names) w.blocks p.blocks pools.0 high w.each_block pools.2 in
       omega (arith, from, name, before, between, blocks)
 
-  pub text_few : (fs : List Form) (p : ProcTree) (size : ℕ) → WritesText fs p → Stand 0 size (forms_from fs) → 5 * operators_of_proc p ≤ 4 * size
+  pub text_few : (fs : List Form) (p : ProcTree) (size : ℕ) → WritesProcText fs p → Stand 0 size (forms_from fs) → 5 * operators_of_proc p ≤ 4 * size
   text_few fs p size w s =
       let both = stand_both 0 size w.machines (w.last ∷ []) (subst (λ gs. Stand 0 size (forms_from gs)) w.are s) in
       let before = stand_within 0 both.0 (forms_from w.machines) both.1 in

@@ -20,7 +20,7 @@ use Rattle.goal_reader.proofs.Heads.{list_from}
 use Rattle.goal_reader.proofs.Names.{not_true}
 use Rattle.goal_reader.proofs.NewNames.{fresh_name_clear}
 use Rattle.proc_goal.specs.ProcReading.{AreClearTo, EndsBefore, IsClearProc, IsFirstAmong, IsFirstAs, IsTableRead, IsTableRefused, absent, there}
-use Rattle.proc_goal.specs.ProcRoles.{ProcRole, of_goal, of_table, a_proc, not_there, no_variable, no_block, no_proc, in_form, has_list, has_variable, block_names_in, item_role, top_role, IsOwnProcFault, IsProcFaultAs, IsProcTextFault, proc_part_role}
+use Rattle.proc_goal.specs.ProcRoles.{ProcRole, of_goal, of_table, a_proc, not_there, no_variable, no_block, no_proc, in_form, has_list, has_leading_variable, block_names_in, proc_item_role, proc_text_role, IsOwnProcFault, IsProcFaultAs, IsProcTextFault, proc_part_role}
 use Rattle.proc_goal.proofs.Embedded.{goal_clear, goal_first, table_clear, table_first}
 use Rattle.proc_goal.proofs.Items.{has_both, other_head}
 use Rattle.proc_goal.proofs.Leaves.{HasNone, ClearParts, clear_next, clear_silent, clear_zero, form_first, part_first, true_false, wrong_first}
@@ -28,22 +28,22 @@ use Rattle.proc_goal.proofs.Sequences.{item_first, none_clear, one_more_clear, w
 
 -- ---- a proc
 module _ (form : Form) where
-  proc_own : has_variable (items_of_goal form) ≡ true → has_list (codes "block") (items_of_goal form) ≡ true → HasNone a_proc form
+  proc_own : has_leading_variable (items_of_goal form) ≡ true → has_list (codes "block") (items_of_goal form) ≡ true → HasNone a_proc form
   proc_own v b k (no_variable h) = true_false v h
   proc_own v b k (no_block h) = true_false b h
 
   -- a variable or a block is missing
-  pub lacking_first : (low high : ℕ) → Stands low high form → (has_variable (items_of_goal form) && has_list (codes "block") (items_of_goal form)) ≡ false → IsFirstAs a_proc form (place_of form) BadForm
-  lacking_first low high h e = by_test (has_variable (items_of_goal form)) refl e
+  pub lacking_first : (low high : ℕ) → Stands low high form → (has_leading_variable (items_of_goal form) && has_list (codes "block") (items_of_goal form)) ≡ false → IsFirstAs a_proc form (place_of form) BadForm
+  lacking_first low high h e = by_test (has_leading_variable (items_of_goal form)) refl e
     where
-      by_test : (b : Bool) → has_variable (items_of_goal form) ≡ b → (b && has_list (codes "block") (items_of_goal form)) ≡ false → IsFirstAs a_proc form (place_of form) BadForm
+      by_test : (b : Bool) → has_leading_variable (items_of_goal form) ≡ b → (b && has_list (codes "block") (items_of_goal form)) ≡ false → IsFirstAs a_proc form (place_of form) BadForm
       by_test true v f = form_first a_proc form low high h (no_block f)
       by_test false v f = form_first a_proc form low high h (no_variable v)
 
   keyword_clear : ClearParts a_proc form 1
   keyword_clear = clear_silent a_proc form 0 refl (clear_zero a_proc form)
 
-  module _ (v : has_variable (items_of_goal form) ≡ true) (b : has_list (codes "block") (items_of_goal form) ≡ true) (first : Form) (g : slice_get (parts_of form) 1 ≡ Some first) where
+  module _ (v : has_leading_variable (items_of_goal form) ≡ true) (b : has_list (codes "block") (items_of_goal form) ≡ true) (first : Form) (g : slice_get (parts_of form) 1 ≡ Some first) where
     pub proc_name_first : (low high place : ℕ) (kind : Kind) → Stands low high form → IsFirst (IsFaultAs (fresh_name []) first) place kind → IsFirstAs a_proc form place kind
     proc_name_first low high place kind h one =
         part_first a_proc form low high 1 first (of_goal (fresh_name [])) place kind h (proc_own v b) g refl keyword_clear (goal_first (fresh_name []) first place kind one)
@@ -53,7 +53,7 @@ module _ (form : Form) where
       name_read = clear_next a_proc form 1 first (of_goal (fresh_name [])) g refl (goal_clear (fresh_name []) first (fresh_name_clear [] first bytes n refl)) keyword_clear
 
       abbrev R : List Form → Form → ProcRole
-      R = item_role (block_names_in (items_of_goal form))
+      R = proc_item_role (block_names_in (items_of_goal form))
 
       pub proc_item_first : (low high place : ℕ) (kind : Kind) → Stands low high form → IsFirstAmong R (items_of_goal form) place kind → IsFirstAs a_proc form place kind
       proc_item_first low high place kind h one = item_first a_proc form R (λ at. refl) (proc_own v b) name_read low high place kind h one
@@ -66,12 +66,12 @@ module _ (before : List Form) (form : Form) where
   abbrev choose : Bool → Bool → Bool → Bool → ProcRole
   choose a b c d = if a && b then of_table machine else if c && not d then a_proc else not_there
 
-  pub top_machine : has_head (codes "machine") form ≡ true → length before ≡ 0 → top_role before form ≡ of_table machine
+  pub top_machine : has_head (codes "machine") form ≡ true → length before ≡ 0 → proc_text_role before form ≡ of_table machine
   top_machine h e =
       ap (λ x. choose x (length before == 0) (has_head (codes "proc") form) (has_list (codes "proc") before)) h
       ∙ ap (λ x. choose true x (has_head (codes "proc") form) (has_list (codes "proc") before)) ((Decides-eqb (length before) 0).1 e)
 
-  pub top_proc : has_head (codes "proc") form ≡ true → has_list (codes "proc") before ≡ false → top_role before form ≡ a_proc
+  pub top_proc : has_head (codes "proc") form ≡ true → has_list (codes "proc") before ≡ false → proc_text_role before form ≡ a_proc
   top_proc h e =
       ap (λ x. choose x (length before == 0) (has_head (codes "proc") form) (has_list (codes "proc") before)) (other_head (codes "proc") (codes "machine") form h refl)
       ∙ ap (λ x. choose false (length before == 0) x (has_list (codes "proc") before)) h ∙ ap (choose false (length before == 0) true) e
@@ -84,7 +84,7 @@ module _ (before : List Form) (form : Form) where
       by_head true e = not_true (length before == 0) (λ t. n e ((Decides-eqb (length before) 0).0 t))
       by_head false e = refl
 
-  pub top_other : (has_head (codes "machine") form ≡ true → length before ≡ 0 → ⊥) → has_head (codes "proc") form ≡ false → top_role before form ≡ not_there
+  pub top_other : (has_head (codes "machine") form ≡ true → length before ≡ 0 → ⊥) → has_head (codes "proc") form ≡ false → proc_text_role before form ≡ not_there
   top_other n e =
       ap (λ x. if x then of_table machine else if has_head (codes "proc") form && not (has_list (codes "proc") before) then a_proc else not_there) (no_machine n)
       ∙ ap (λ x. if x && not (has_list (codes "proc") before) then a_proc else not_there) e
@@ -94,7 +94,7 @@ module _ (before : List Form) (form : Form) where
   and_false false = refl
 
   -- behind a proc nothing stands
-  pub top_late : has_list (codes "proc") before ≡ true → top_role before form ≡ not_there
+  pub top_late : has_list (codes "proc") before ≡ true → proc_text_role before form ≡ not_there
   top_late e =
       ap (λ x. if x then of_table machine else if has_head (codes "proc") form && not (has_list (codes "proc") before) then a_proc else not_there) (no_machine (λ h z. some_there before e z))
       ∙ ap (λ x. if has_head (codes "proc") form && not x then a_proc else not_there) e ∙ ap (λ x. if x then a_proc else not_there) (and_false (has_head (codes "proc") form))
@@ -105,7 +105,7 @@ module _ (before : List Form) (form : Form) where
 
 -- ---- which fault of a text is the first
 module _ (size : ℕ) (forms : List Form) where
-  pub text_clear : AreClearTo top_role forms (length forms) → has_list (codes "proc") forms ≡ true → (place : ℕ) (kind : Kind) → IsProcTextFault size forms place kind → ⊥
+  pub text_clear : AreClearTo proc_text_role forms (length forms) → has_list (codes "proc") forms ≡ true → (place : ℕ) (kind : Kind) → IsProcTextFault size forms place kind → ⊥
   text_clear clear some place kind (no_proc e p) = true_false some e
   text_clear clear some place kind (in_form at form g fault) = clear at form (slice_get_within forms at form g) g place kind fault
 
@@ -113,7 +113,7 @@ module _ (size : ℕ) (forms : List Form) where
     listed : (j : ℕ) (f : Form) → slice_get forms j ≡ Some f → slice_get (forms_list (forms_from forms)) j ≡ Some f
     listed j f e = ap (λ (fs : List Form). slice_get fs j) (list_from forms) ∙ e
 
-    pub text_form_first : (at : ℕ) (form : Form) (place : ℕ) (kind : Kind) → slice_get forms at ≡ Some form → AreClearTo top_role forms at → IsFirstAs (top_role (take at forms) form) form place kind → IsFirst (IsProcTextFault size forms) place kind
+    pub text_form_first : (at : ℕ) (form : Form) (place : ℕ) (kind : Kind) → slice_get forms at ≡ Some form → AreClearTo proc_text_role forms at → IsFirstAs (proc_text_role (take at forms) form) form place kind → IsFirst (IsProcTextFault size forms) place kind
     text_form_first at form place kind g clear first = record { found = in_form at form g first.found; earliest = earliest }
       where
         span : Span 0 size (forms_list (forms_from forms)) at form
@@ -130,8 +130,8 @@ module _ (size : ℕ) (forms : List Form) where
               | inl same ↦
                   (let form_is : other ≡ form = same_Some other form (sym got ∙ ap (slice_get forms) (sym same) ∙ g) in
                   first.earliest other_place other_kind
-                  (subst (λ (f : Form). IsProcFaultAs (top_role (take at forms) f) f other_place other_kind) form_is
-                  (subst (λ n. IsProcFaultAs (top_role (take n forms) other) other other_place other_kind) (sym same) fault)))
+                  (subst (λ (f : Form). IsProcFaultAs (proc_text_role (take at forms) f) f other_place other_kind) form_is
+                  (subst (λ n. IsProcFaultAs (proc_text_role (take n forms) other) other other_place other_kind) (sym same) fault)))
               | inr (inl before) ↦
                   (let later = span.later j other before (listed j other got) in
                   let there_is = within IsOwnProcFault proc_part_role fault later.0 later.1 later.4 in
@@ -140,7 +140,7 @@ module _ (size : ℕ) (forms : List Form) where
             ]
 
     -- a text without a proc
-    pub no_proc_first : has_list (codes "proc") forms ≡ false → AreClearTo top_role forms (length forms) → IsFirst (IsProcTextFault size forms) size BadForm
+    pub no_proc_first : has_list (codes "proc") forms ≡ false → AreClearTo proc_text_role forms (length forms) → IsFirst (IsProcTextFault size forms) size BadForm
     no_proc_first e clear = record { found = no_proc e refl; earliest = earliest }
       where
         earliest : (place : ℕ) (kind : Kind) → IsProcTextFault size forms place kind → IsNotBehind size BadForm place kind
@@ -160,7 +160,7 @@ module _ (forms : List Form) where
   pub record IsTableFront (n : ℕ) : Type 0 where
     pub few : n ≤ 1
     pub within : n ≤ length forms
-    pub clear : AreClearTo top_role forms n
+    pub clear : AreClearTo proc_text_role forms n
     pub no_proc : has_list (codes "proc") (take n forms) ≡ false
     pub plain : n ≡ 0 → EndsBefore (codes "machine") forms 0
 
@@ -168,7 +168,7 @@ module _ (forms : List Form) where
   table_front None (absent ends) = record {
     few = omega arith;
     within = omega arith;
-    clear = none_clear top_role forms;
+    clear = none_clear proc_text_role forms;
     no_proc = refl;
     plain = λ e. ends;
   }
@@ -177,14 +177,14 @@ module _ (forms : List Form) where
       record {
         few = omega arith;
         within = taken.1;
-        clear = one_more_clear top_role forms 0 form g (subst (λ (r : ProcRole). IsClearProc r form) (sym (top_machine [] form h refl)) (table_clear machine form clear)) (none_clear top_role forms);
+        clear = one_more_clear proc_text_role forms 0 form g (subst (λ (r : ProcRole). IsClearProc r form) (sym (top_machine [] form h refl)) (table_clear machine form clear)) (none_clear proc_text_role forms);
         no_proc = ap (has_list (codes "proc")) taken.0 ∙ ap (λ b. b || false) (other_head (codes "machine") (codes "proc") form h refl);
         plain = λ e. absurd (omega (arith, e));
       }
 
   pub table_refused_first : (size : ℕ) → Stand 0 size (forms_from forms) → (place : ℕ) (kind : Kind) → IsTableRefused forms place kind → IsFirst (IsProcTextFault size forms) place kind
   table_refused_first size h place kind f =
-      text_form_first size forms h 0 f.form place kind f.there (none_clear top_role forms)
+      text_form_first size forms h 0 f.form place kind f.there (none_clear proc_text_role forms)
       (subst (λ (r : ProcRole). IsFirstAs r f.form place kind) (sym (top_machine [] f.form f.head refl)) (table_first machine f.form place kind f.first))
 
   module _ (n : ℕ) (t : IsTableFront n) (size : ℕ) (h : Stand 0 size (forms_from forms)) where
@@ -209,15 +209,15 @@ module _ (forms : List Form) where
           (subst (λ (r : ProcRole). IsFirstAs r form (place_of form) BadForm) (sym (top_other (take n forms) form bare e)) (wrong_first form low high s))
 
       module _ (p : has_head (codes "proc") form ≡ true) where
-        role_is : top_role (take n forms) form ≡ a_proc
+        role_is : proc_text_role (take n forms) form ≡ a_proc
         role_is = top_proc (take n forms) form p t.no_proc
 
         pub proc_first : (place : ℕ) (kind : Kind) → IsFirstAs a_proc form place kind → IsFirst (IsProcTextFault size forms) place kind
         proc_first place kind one = text_form_first size forms h n form place kind g t.clear (subst (λ (r : ProcRole). IsFirstAs r form place kind) (sym role_is) one)
 
         module _ (clear : IsClearProc a_proc form) where
-          proc_read : AreClearTo top_role forms (n + 1)
-          proc_read = one_more_clear top_role forms n form g (subst (λ (r : ProcRole). IsClearProc r form) (sym role_is) clear) t.clear
+          proc_read : AreClearTo proc_text_role forms (n + 1)
+          proc_read = one_more_clear proc_text_role forms n form g (subst (λ (r : ProcRole). IsClearProc r form) (sym role_is) clear) t.clear
 
           proc_before : has_list (codes "proc") (take (n + 1) forms) ≡ true
           proc_before =

@@ -18,7 +18,7 @@ use Rattle.goal_reader.proofs.ItemForms.{is_name, pool_writes}
 use Rattle.goal_reader.proofs.Keeping.{pool_free}
 use Rattle.proc_goal.specs.ProcGrammar.{WritesBlock, WritesProc}
 use Rattle.proc_goal.specs.ProcReading.{AreBlocks, AreLeading, IsPoolRead, absent, there}
-use Rattle.proc_goal.specs.ProcRoles.{block_names_in, has_list, has_variable}
+use Rattle.proc_goal.specs.ProcRoles.{block_names_in, has_leading_variable, has_list}
 use Rattle.proc_goal.specs.Views.{BlockTree, ProcTree, names_of_blocks}
 use Rattle.proc_goal.specs.WellFormed.{KeepsProcRules}
 use Rattle.proc_goal.proofs.BlockForms.{name_and_rest, parted}
@@ -47,7 +47,7 @@ pool_differs vars fs (Some rs) d (there form g h is clear) =
     subst (λ xs. AreDifferent (input_registers vars ++ xs)) (sym is) (pool_free (input_registers vars) form (pool_rank form h) clear d)
 
 module _ (form first : Form) (p : ProcTree) (head : has_head (codes "proc") form ≡ true) (g : slice_get (parts_of form) 1 ≡ Some first) (named : name_in first ≡ Some p.name)
-    (variable_there : has_variable (items_of_goal form) ≡ true) (block_there : has_list (codes "block") (items_of_goal form) ≡ true) (v : AreLeading (items_of_goal form) p.vars)
+    (variable_there : has_leading_variable (items_of_goal form) ≡ true) (block_there : has_list (codes "block") (items_of_goal form) ≡ true) (v : AreLeading (items_of_goal form) p.vars)
     (registers : Option (List ℕ)) (pool : IsPoolRead p.vars (drop (length p.vars) (items_of_goal form)) registers) (kept : p.pool ≡ pool_kept (input_registers p.vars) registers)
     (b : AreBlocks p.vars (block_names_in (items_of_goal form)) (drop (number_of registers) (drop (length p.vars) (items_of_goal form))) p.blocks) where
   abbrev items : List Form

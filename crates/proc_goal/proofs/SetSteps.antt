@@ -18,7 +18,7 @@ use Rattle.goal_reader.proofs.Names.{not_true}
 use Rattle.goal_reader.proofs.WrittenItems.{each_more}
 use Rattle.proc_goal.specs.ProcGrammar.{WritesSet}
 use Rattle.proc_goal.specs.ProcReading.{AreClearTo, IsClearProc, IsEndFront, IsFirstAmong, IsFirstAs, IsGuardFront}
-use Rattle.proc_goal.specs.ProcRoles.{ProcRole, a_guard, a_set, a_go, not_there, has_list, lists_of, set_role, step_role, up_to}
+use Rattle.proc_goal.specs.ProcRoles.{ProcRole, a_guard, a_set, a_go, not_there, has_list, lists_of, set_role, step_role, role_up_to}
 use Rattle.proc_goal.proofs.Items.{has_both, other_head, set_here, set_past}
 use Rattle.proc_goal.proofs.Leaves.{past_first, wrong_first}
 use Rattle.proc_goal.proofs.Sequences.{after, none_clear, one_more_clear}
@@ -92,7 +92,7 @@ module _ (vars : List InputReg) (names : List (List ℕ)) (before : List Form) (
   pub as_behind : has_list (codes "go") before ≡ true → step_role vars names before form ≡ not_there
   as_behind e =
       ap (λ (r : ProcRole). if has_head (codes "when") form then (if length before == 0 then a_guard vars names else not_there) else if has_head (codes "set") form then r else if has_head (codes "go") form then (if has_list (codes "go") before then not_there else a_go names) else not_there)
-      (ap (λ b. if b then not_there else up_to 16 (lists_of (codes "set") before) (a_set vars (names_given (lists_of (codes "set") before)))) e)
+      (ap (λ b. if b then not_there else role_up_to 16 (lists_of (codes "set") before) (a_set vars (names_given (lists_of (codes "set") before)))) e)
       ∙ ap (λ b. if has_head (codes "when") form then (if length before == 0 then a_guard vars names else not_there) else if has_head (codes "set") form then not_there else if has_head (codes "go") form then (if b then not_there else a_go names) else not_there) e
       ∙ ap (λ b. if has_head (codes "when") form then (if b then a_guard vars names else not_there) else if has_head (codes "set") form then not_there else if has_head (codes "go") form then not_there else not_there) (some_before before e)
       ∙ all_same (has_head (codes "when") form) (has_head (codes "set") form) (has_head (codes "go") form)

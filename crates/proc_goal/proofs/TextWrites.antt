@@ -6,7 +6,7 @@ use Rattle.forms.specs.Forms.{Form}
 use Rattle.machine_table.specs.Tables.{ev6}
 use Rattle.machine_table.specs.declared.tables.Table.{Table}
 use Rattle.goal_reader.specs.Grammar.{WritesMachine, built_in, own}
-use Rattle.proc_goal.specs.ProcGrammar.{WritesProc, WritesText}
+use Rattle.proc_goal.specs.ProcGrammar.{WritesProc, WritesProcText}
 use Rattle.proc_goal.specs.ProcReading.{IsTableRead, absent, there}
 use Rattle.proc_goal.specs.Views.{ProcTree}
 use Rattle.proc_goal.proofs.BlockForms.{parted}
@@ -28,7 +28,7 @@ machine_written forms (Some table) (there form g h writes clear) t b e f =
     subst (λ fs. WritesMachine fs t b) (sym (first_taken forms form g)) (subst (λ x. WritesMachine (form ∷ []) x b) (sym e) (subst (λ x. WritesMachine (form ∷ []) table x) (sym f) (own writes)))
 
 pub text_writes : (forms : List Form) (given : Option Table) → IsTableRead forms given → (form : Form) → slice_get forms (number_of_tables given) ≡ Some form → length forms ≤ number_of_tables given + 1 → (p : ProcTree) → p.table ≡ unwrap_or given ev6 → p.builtin ≡ is_none given
-    → WritesProc form p → WritesText forms p
+    → WritesProc form p → WritesProcText forms p
 text_writes forms given read form g most p table builtin w =
     let n = number_of_tables given in
     let rest : drop n forms ≡ form ∷ [] = alone (drop n forms) form (first_dropped n forms ∙ g) (let l = length-drop n forms in omega (arith, l, most)) in

@@ -29,7 +29,7 @@ use Rattle.goal_reader.proofs.ReadParts.{register_told}
 use Rattle.goal_reader.proofs.WrittenItems.{each_more}
 use Rattle.proc_goal.specs.ProcGrammar.{WritesVariable}
 use Rattle.proc_goal.specs.ProcReading.{AreClearTo, AreVariables, IsClearProc, IsFirstAmong, IsFirstAs}
-use Rattle.proc_goal.specs.ProcRoles.{ProcRole, of_goal, item_role}
+use Rattle.proc_goal.specs.ProcRoles.{ProcRole, of_goal, proc_item_role}
 use Rattle.proc_goal.proofs.Embedded.{goal_clear, goal_first}
 use Rattle.proc_goal.proofs.Items.{variable_here, variable_past}
 use Rattle.proc_goal.proofs.Leaves.{past_first}
@@ -88,10 +88,10 @@ module _ (vars : List InputReg) (form : Form) (v : InputReg) (w : WritesVariable
 
 -- ---- the front of the items
 module _ (items : List Form) (i : ℕ) (form : Form) (g : slice_get items i ≡ Some form) (vars : List InputReg) (each : Each WritesVariable (take i items) vars) (h : has_head (codes "var") form ≡ true) (counted : length (take i items) ≡ i) where
-  as_role : (names : List (List ℕ)) → i < 16 → item_role names (take i items) form ≡ of_goal (a_list (input [] vars))
+  as_role : (names : List (List ℕ)) → i < 16 → proc_item_role names (take i items) form ≡ of_goal (a_list (input [] vars))
   as_role names l = variable_here names (take i items) vars each form h (omega (arith, counted, l))
 
-  pub variable_first : (names : List (List ℕ)) (place : ℕ) (kind : Kind) → i < 16 → AreClearTo (item_role names) items i → IsFirst (IsFaultAs (a_list (input [] vars)) form) place kind → IsFirstAmong (item_role names) items place kind
+  pub variable_first : (names : List (List ℕ)) (place : ℕ) (kind : Kind) → i < 16 → AreClearTo (proc_item_role names) items i → IsFirst (IsFaultAs (a_list (input [] vars)) form) place kind → IsFirstAmong (proc_item_role names) items place kind
   variable_first names place kind l clear first = record {
     at = i;
     form = form;
@@ -100,7 +100,7 @@ module _ (items : List Form) (i : ℕ) (form : Form) (g : slice_get items i ≡ 
     first = subst (λ (r : ProcRole). IsFirstAs r form place kind) (sym (as_role names l)) (goal_first (a_list (input [] vars)) form place kind first);
   }
 
-  pub beyond_first : (names : List (List ℕ)) (low high : ℕ) → Stands low high form → 16 ≤ i → AreClearTo (item_role names) items i → IsFirstAmong (item_role names) items (place_of form) LimitPassed
+  pub beyond_first : (names : List (List ℕ)) (low high : ℕ) → Stands low high form → 16 ≤ i → AreClearTo (proc_item_role names) items i → IsFirstAmong (proc_item_role names) items (place_of form) LimitPassed
   beyond_first names low high s l clear = record {
     at = i;
     form = form;
@@ -109,9 +109,9 @@ module _ (items : List Form) (i : ℕ) (form : Form) (g : slice_get items i ≡ 
     first = subst (λ (r : ProcRole). IsFirstAs r form (place_of form) LimitPassed) (sym (variable_past names (take i items) vars each form h (omega (arith, counted, l)))) (past_first form low high s);
   }
 
-  pub variable_clear : (names : List (List ℕ)) → i < 16 → AreClearTo (item_role names) items i → IsClear (a_list (input [] vars)) form → AreClearTo (item_role names) items (i + 1)
+  pub variable_clear : (names : List (List ℕ)) → i < 16 → AreClearTo (proc_item_role names) items i → IsClear (a_list (input [] vars)) form → AreClearTo (proc_item_role names) items (i + 1)
   variable_clear names l clear is =
-      one_more_clear (item_role names) items i form g (subst (λ (r : ProcRole). IsClearProc r form) (sym (as_role names l)) (goal_clear (a_list (input [] vars)) form is)) clear
+      one_more_clear (proc_item_role names) items i form g (subst (λ (r : ProcRole). IsClearProc r form) (sym (as_role names l)) (goal_clear (a_list (input [] vars)) form is)) clear
 
   pub variable_more : (v : InputReg) → WritesVariable form v → Each WritesVariable (take (i + 1) items) (vars ++ v ∷ [])
   variable_more v w = subst (λ fs. Each WritesVariable fs (vars ++ v ∷ [])) (sym (got_more items i form g)) (each_more WritesVariable (take i items) vars form v each w)

@@ -25,7 +25,7 @@ use Rattle.goal_reader.specs.declared.scopes.Scope.{Scope}
 use Rattle.goal_reader.proofs.NewNames.{own_name_clear, fresh_register_clear, input_only}
 use Rattle.goal_reader.proofs.ReadParts.{register_told}
 use Rattle.goal_reader.proofs.Walks.{parts_clear, no_role, as_role}
-use Rattle.proc_goal.specs.ProcGrammar.{WritesVariable, WritesTarget, WritesWhen, WritesSet, WritesGo, block, done, guarded}
+use Rattle.proc_goal.specs.ProcGrammar.{WritesVariable, WritesProcTarget, WritesWhen, WritesSet, WritesGo, block, done, guarded}
 use Rattle.proc_goal.specs.ProcReading.{IsClearProc}
 use Rattle.proc_goal.specs.ProcRoles.{a_guard, a_set, a_go, a_target}
 use Rattle.proc_goal.specs.Views.{WhenTree}
@@ -60,7 +60,7 @@ written_variable_clear vars form v w own fresh free =
     )
 
 -- ---- a target
-pub written_target_clear : (names : List (List ℕ)) (form : Form) (t : Target) → WritesTarget names form t → IsClearProc (a_target names) form
+pub written_target_clear : (names : List (List ℕ)) (form : Form) (t : Target) → WritesProcTarget names form t → IsClearProc (a_target names) form
 written_target_clear names form _ (done is) =
     target_clear names form (codes "done") (ap name_in is.is) (ap (λ b. b || is_among names (codes "done")) ((bytes_eq-Decides (codes "done") (codes "done")).1 refl))
 written_target_clear names form _ (block {at = at} {name = name} g is) =

@@ -21,10 +21,10 @@ use Rattle.goal_reader.proofs.FormsPrint.{all_back}
 use Rattle.goal_reader.proofs.Moved.{listed_form, name_form, no_more_form, one_more_form, split_forms}
 use Rattle.goal_reader.proofs.PrintedForms.{register_form, registers_again}
 use Rattle.goal_reader.proofs.PrintedTexts.{table_again}
-use Rattle.proc_goal.specs.ProcForms.{block_plain, go_plain, naming_over, proc_plain, proc_plains, set_plain, table_plains, target_plain, variable_plain, when_plains}
-use Rattle.proc_goal.specs.ProcGrammar.{WritesBlock, WritesGo, WritesProc, WritesSet, WritesTarget, WritesText, WritesVariable, WritesWhen, block, done, guarded, unguarded}
+use Rattle.proc_goal.specs.ProcForms.{block_plain, go_plain, naming_over, proc_plain, proc_plains, proc_target_plain, set_plain, table_plains, var_plain, when_plains}
+use Rattle.proc_goal.specs.ProcGrammar.{WritesBlock, WritesGo, WritesProc, WritesProcTarget, WritesProcText, WritesSet, WritesVariable, WritesWhen, block, done, guarded, unguarded}
 use Rattle.proc_goal.specs.Views.{BlockTree, ProcTree, WhenTree, names_of_blocks}
-use Rattle.proc_goal.specs.WellFormed.{IsBlock, IsGuard, IsProc, IsSet, IsThere}
+use Rattle.proc_goal.specs.WellFormed.{IsGuard, IsProc, IsProcBlock, IsProcTarget, IsSet}
 use Rattle.proc_goal.specs.declared.procs.Target.{Target}
 use Rattle.proc_goal.specs.declared.procs.Target.TheVariants as targets
 use Rattle.proc_goal.proofs.WrittenTerms.{AreNamedVariables, term_written}
@@ -60,7 +60,7 @@ two_listed word p q g parts is e =
     }
 
 -- ---- variables
-variable_again : (g : Form) (i : InputReg) → i.reg < 31 → plain_of g ≡ variable_plain i → WritesVariable g i
+variable_again : (g : Form) (i : InputReg) → i.reg < 31 → plain_of g ≡ var_plain i → WritesVariable g i
 variable_again g i low e =
     let l = listed_form (codes "var") (atom (name i.name) ∷ register_plain i.reg ∷ []) g e in
     let t = two_listed (codes "var") (atom (name i.name)) (register_plain i.reg) g l.0 l.1 l.2 in
@@ -75,14 +75,14 @@ low_registers (i ∷ vars) rest h =
 
 -- ---- targets
 module _ (names : List (List ℕ)) where
-  target_again : (t : Target) → IsThere (length names) t → (g : Form) → plain_of g ≡ target_plain names t → WritesTarget names g t
+  target_again : (t : Target) → IsProcTarget (length names) t → (g : Form) → plain_of g ≡ proc_target_plain names t → WritesProcTarget names g t
   target_again targets.Done there g e = done (named_again (codes "done") g e)
   target_again (targets.Block at) there g e = block (slice_get-get_or names at [] there) (named_again (get_or names at []) g e)
 
-  go_again : (t : Target) → IsThere (length names) t → (g : Form) → plain_of g ≡ go_plain names t → WritesGo names g t
+  go_again : (t : Target) → IsProcTarget (length names) t → (g : Form) → plain_of g ≡ go_plain names t → WritesGo names g t
   go_again t there g e =
-      let l = listed_form (codes "go") (target_plain names t ∷ []) g e in
-      let m = one_more_form l.0 (target_plain names t) [] l.2 in
+      let l = listed_form (codes "go") (proc_target_plain names t ∷ []) g e in
+      let m = one_more_form l.0 (proc_target_plain names t) [] l.2 in
       record {
         first = m.0;
         is = subst (λ ps. IsListOf (codes "go") ps g) (m.2 ∙ ap (λ x. m.0 ∷ x) (no_more_form m.1 m.4)) l.1;
@@ -95,8 +95,8 @@ module _ (names : List (List ℕ)) where
     when_again None h gs e = subst (λ fs. WritesWhen vars names fs None) (sym (no_more_form gs e)) unguarded
     when_again (Some w) h gs e =
         let m = one_more_form gs _ [] e in
-        let l = listed_form (codes "when") (term_plain (naming_over vars) w.guard ∷ target_plain names w.other ∷ []) m.0 m.3 in
-        let t = two_listed (codes "when") (term_plain (naming_over vars) w.guard) (target_plain names w.other) m.0 l.0 l.1 l.2 in
+        let l = listed_form (codes "when") (term_plain (naming_over vars) w.guard ∷ proc_target_plain names w.other ∷ []) m.0 m.3 in
+        let t = two_listed (codes "when") (term_plain (naming_over vars) w.guard) (proc_target_plain names w.other) m.0 l.0 l.1 l.2 in
         subst (λ fs. WritesWhen vars names fs (Some w)) (sym (m.2 ∙ ap (λ x. m.0 ∷ x) (no_more_form m.1 m.4)))
         (guarded t.first t.second t.is (term_written vars are sorts.Word w.guard h.guard t.first t.one) (target_again w.other h.other t.second t.other))
 
@@ -114,7 +114,7 @@ module _ (names : List (List ℕ)) where
           value = term_written vars are (sort_of_target t.name) t.value h.value two.second two.other;
         }
 
-    block_again : (g : Form) (b : BlockTree) → IsBlock vars (length names) b → plain_of g ≡ block_plain vars names b → WritesBlock vars names g b
+    block_again : (g : Form) (b : BlockTree) → IsProcBlock vars (length names) b → plain_of g ≡ block_plain vars names b → WritesBlock vars names g b
     block_again g b h e =
         let whens = when_plains vars names b.when in
         let sets = map (set_plain vars) b.sets in
@@ -145,8 +145,8 @@ module _ (p : ProcTree) (is : IsProc p) where
   variables_are = record { differ = is.rules.variable_names; own = is.rules.own_names; named = is.variables }
 
   -- as many names as blocks
-  pub blocks_are : All (IsBlock p.vars (length names_are)) p.blocks
-  blocks_are = subst (λ n. All (IsBlock p.vars n) p.blocks) (sym (length-map p.blocks (λ (b : BlockTree). b.name))) is.blocks
+  pub blocks_are : All (IsProcBlock p.vars (length names_are)) p.blocks
+  blocks_are = subst (λ n. All (IsProcBlock p.vars n) p.blocks) (sym (length-map p.blocks (λ (b : BlockTree). b.name))) is.blocks
 
   pub low_pool : All (λ r. r < 31) p.pool
   low_pool = all_back (λ r. r < 31) (input_registers p.vars) p.pool is.rules.low
@@ -156,7 +156,7 @@ module _ (p : ProcTree) (is : IsProc p) where
 
   proc_again : (g : Form) → plain_of g ≡ proc_plain p → WritesProc g p
   proc_again g e =
-      let vars = map variable_plain p.vars in
+      let vars = map var_plain p.vars in
       let blocks = map (block_plain p.vars names_are) p.blocks in
       let l = listed_form (codes "proc") (atom (name p.name) ∷ (vars ++ (pool_plain p.pool ∷ blocks))) g e in
       let m = one_more_form l.0 (atom (name p.name)) (vars ++ (pool_plain p.pool ∷ blocks)) l.2 in
@@ -171,9 +171,9 @@ module _ (p : ProcTree) (is : IsProc p) where
         blocks = n.1;
         is = subst (λ ps. IsListOf (codes "proc") ps g) parts l.1;
         named = named_again p.name m.0 m.3;
-        variables = each_again WritesVariable variable_plain (λ (i : InputReg). i.reg < 31) variable_again s.0 p.vars low_vars s.3;
+        variables = each_again WritesVariable var_plain (λ (i : InputReg). i.reg < 31) variable_again s.0 p.vars low_vars s.3;
         pool = given q.0 q.1 (registers_again q.0 p.pool low_pool q.2);
-        each_block = each_again (WritesBlock p.vars names_are) (block_plain p.vars names_are) (IsBlock p.vars (length names_are)) (block_again names_are p.vars variables_are) n.1 p.blocks blocks_are n.4;
+        each_block = each_again (WritesBlock p.vars names_are) (block_plain p.vars names_are) (IsProcBlock p.vars (length names_are)) (block_again names_are p.vars variables_are) n.1 p.blocks blocks_are n.4;
         rules = is.rules;
       }
 
@@ -184,7 +184,7 @@ module _ (p : ProcTree) (is : IsProc p) where
       let m = one_more_form gs (table_plain p.table) [] e in
       subst (λ (fs : List Form). WritesMachine fs p.table false) (sym (m.2 ∙ ap (λ x. m.0 ∷ x) (no_more_form m.1 m.4))) (own (table_again p.table m.0 is.table m.3))
 
-  pub text_written : (gs : List Form) → map plain_of gs ≡ proc_plains p → WritesText gs p
+  pub text_written : (gs : List Form) → map plain_of gs ≡ proc_plains p → WritesProcText gs p
   text_written gs e =
       let s = split_forms gs (table_plains p) (proc_plain p ∷ []) e in
       let n = one_more_form s.1 (proc_plain p) [] s.4 in

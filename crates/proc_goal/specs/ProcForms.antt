@@ -16,27 +16,27 @@ use Rattle.proc_goal.specs.declared.procs.Target.TheVariants.{Block, Done}
 abbrev pub naming_over : List InputReg → Naming
 naming_over vars = naming [] vars []
 
-abbrev pub target_name : List (List ℕ) → Target → List ℕ
-target_name names (Block at) = slice_index_or names at []
-target_name names Done = codes "done"
+abbrev pub proc_target_name : List (List ℕ) → Target → List ℕ
+proc_target_name names (Block at) = slice_index_or names at []
+proc_target_name names Done = codes "done"
 
-abbrev pub target_plain : List (List ℕ) → Target → Plain
-target_plain names t = atom (name (target_name names t))
+abbrev pub proc_target_plain : List (List ℕ) → Target → Plain
+proc_target_plain names t = atom (name (proc_target_name names t))
 
-abbrev pub variable_plain : InputReg → Plain
-variable_plain i = keyword_list (codes "var") (atom (name i.name) ∷ register_plain i.reg ∷ [])
+abbrev pub var_plain : InputReg → Plain
+var_plain i = keyword_list (codes "var") (atom (name i.name) ∷ register_plain i.reg ∷ [])
 
 abbrev pub when_plains : List InputReg → List (List ℕ) → Option WhenTree → List Plain
 when_plains vars names None = []
 when_plains vars names (Some w) =
-    keyword_list (codes "when") (term_plain (naming_over vars) w.guard ∷ target_plain names w.other ∷ []) ∷ []
+    keyword_list (codes "when") (term_plain (naming_over vars) w.guard ∷ proc_target_plain names w.other ∷ []) ∷ []
 
 -- the pin is the variable's register, and isn't written
 abbrev pub set_plain : List InputReg → TargetTree → Plain
 set_plain vars t = keyword_list (codes "set") (atom (name t.name) ∷ term_plain (naming_over vars) t.value ∷ [])
 
 abbrev pub go_plain : List (List ℕ) → Target → Plain
-go_plain names t = keyword_list (codes "go") (target_plain names t ∷ [])
+go_plain names t = keyword_list (codes "go") (proc_target_plain names t ∷ [])
 
 abbrev pub block_plain : List InputReg → List (List ℕ) → BlockTree → Plain
 block_plain vars names b =
@@ -48,7 +48,7 @@ abbrev pub proc_plain : ProcTree → Plain
 proc_plain p =
     keyword_list (codes "proc")
     (atom (name p.name)
-    ∷ (map variable_plain p.vars ++ (pool_plain p.pool ∷ map (block_plain p.vars (names_of_blocks p.blocks)) p.blocks)))
+    ∷ (map var_plain p.vars ++ (pool_plain p.pool ∷ map (block_plain p.vars (names_of_blocks p.blocks)) p.blocks)))
 
 abbrev pub table_plains : ProcTree → List Plain
 table_plains p = if p.builtin then [] else table_plain p.table ∷ []

@@ -29,17 +29,17 @@ pub record WritesVariable (form : Form) (var : InputReg) : Type 0 where
   pub placed : IsRegister var.reg second
 
 -- the name of a block, or done
-pub data WritesTarget (names : List (List ℕ)) (form : Form) : Target → Type 0 where
-  done : IsNameOf (codes "done") form → WritesTarget names form Done
+pub data WritesProcTarget (names : List (List ℕ)) (form : Form) : Target → Type 0 where
+  done : IsNameOf (codes "done") form → WritesProcTarget names form Done
   block : {at : ℕ} {name : List ℕ} → slice_get names at ≡ Some name → IsNameOf name form
-      → WritesTarget names form (Block at)
+      → WritesProcTarget names form (Block at)
 
 -- [( when term TARGET )], the term a word
 pub data WritesWhen (vars : List InputReg) (names : List (List ℕ)) : List Form → Option WhenTree → Type 0 where
   unguarded : WritesWhen vars names [] None
   guarded : {form : Form} {w : WhenTree} (first second : Form)
       → IsListOf (codes "when") (first ∷ second ∷ []) form → Writes (term_scope vars) sorts.Word first w.guard
-      → WritesTarget names second w.other → WritesWhen vars names (form ∷ []) (Some w)
+      → WritesProcTarget names second w.other → WritesWhen vars names (form ∷ []) (Some w)
 
 -- ( set NAME term ), for M, which takes a memory, or for a variable, which takes a word and is pinned to its register
 pub record WritesSet (vars : List InputReg) (form : Form) (t : TargetTree) : Type 0 where
@@ -54,7 +54,7 @@ pub record WritesSet (vars : List InputReg) (form : Form) (t : TargetTree) : Typ
 pub record WritesGo (names : List (List ℕ)) (form : Form) (go : Target) : Type 0 where
   pub first : Form
   pub is : IsListOf (codes "go") (first ∷ []) form
-  pub target : WritesTarget names first go
+  pub target : WritesProcTarget names first go
 
 -- ( block NAME [when] {set} go )
 pub record WritesBlock (vars : List InputReg) (names : List (List ℕ)) (form : Form) (b : BlockTree) : Type 0 where
@@ -82,7 +82,7 @@ pub record WritesProc (form : Form) (p : ProcTree) : Type 0 where
   pub rules : KeepsProcRules p
 
 -- [machine] proc
-pub record WritesText (forms : List Form) (p : ProcTree) : Type 0 where
+pub record WritesProcText (forms : List Form) (p : ProcTree) : Type 0 where
   pub machines : List Form
   pub last : Form
   pub are : forms ≡ machines ++ last ∷ []
@@ -93,7 +93,7 @@ pub record WritesText (forms : List Form) (p : ProcTree) : Type 0 where
 pub record ReadsProc (text : List ℕ) (p : ProcTree) : Type 0 where
   pub trees : SexpTrees
   pub has : TextHasTrees text trees
-  pub written : WritesText (forms_list (forms_of text trees)) p
+  pub written : WritesProcText (forms_list (forms_of text trees)) p
 
 -- The first fault of a text: of its bytes, else of its parentheses, else of its forms.
 pub data IsFirstProcFault (text : List ℕ) : ℕ → Kind → Type 0 where

@@ -16,7 +16,7 @@ use Rattle.goal_reader.specs.Drafts.{AreDifferent}
 use Rattle.goal_reader.specs.Reading.{IsClear}
 use Rattle.goal_reader.specs.Roles.{IsFaultAs, a_list, pool, registers_in}
 use Rattle.proc_goal.specs.ProcGrammar.{WritesVariable, WritesWhen, WritesSet, WritesGo, WritesBlock}
-use Rattle.proc_goal.specs.ProcRoles.{ProcRole, a_guard, a_go, not_there, IsProcFaultAs, item_role, step_role, lists_of, has_list, variables_in}
+use Rattle.proc_goal.specs.ProcRoles.{ProcRole, a_guard, a_go, not_there, IsProcFaultAs, proc_item_role, step_role, lists_of, has_list, proc_variables_in}
 use Rattle.proc_goal.specs.Views.{WhenTree, BlockTree}
 use Rattle.proc_goal.specs.WellFormed.{IsPinned}
 use Rattle.proc_goal.specs.declared.procs.Target.{Target}
@@ -57,7 +57,7 @@ pub record AreVariables (vars : List InputReg) : Type 0 where
 pub record AreLeading (items : List Form) (vars : List InputReg) : Type 0 where
   pub within : length vars ≤ length items
   pub each : Each WritesVariable (take (length vars) items) vars
-  pub clear : (names : List (List ℕ)) → AreClearTo (item_role names) items (length vars)
+  pub clear : (names : List (List ℕ)) → AreClearTo (proc_item_role names) items (length vars)
   pub keep : AreVariables vars
   pub few : length vars ≤ 16
   pub ends : EndsBefore (codes "var") items (length vars)
@@ -105,7 +105,7 @@ pub record IsEndFront (front items : List Form) : Type 0 where
       → (vars : List InputReg) (names : List (List ℕ)) → step_role vars names front form ≡ not_there
 
 -- the last item of a block
-pub record IsEnd (names : List (List ℕ)) (items : List Form) (go : Target) : Type 0 where
+pub record IsLastItem (names : List (List ℕ)) (items : List Form) (go : Target) : Type 0 where
   pub form : Form
   pub alone : items ≡ form ∷ []
   pub head : has_head (codes "go") form ≡ true
@@ -127,10 +127,10 @@ pub record IsPoolFault (vars : List InputReg) (items : List Form) (place : ℕ) 
 
 -- these variables stand at the front, and no block; where the next item is no block, nothing else may stand there either
 pub record IsProcFront (vars : List InputReg) (front items : List Form) : Type 0 where
-  pub variables : variables_in front ≡ vars
+  pub variables : proc_variables_in front ≡ vars
   pub no_block : lists_of (codes "block") front ≡ []
   pub next : (form : Form) → slice_get items 0 ≡ Some form → has_head (codes "block") form ≡ false
-      → (names : List (List ℕ)) → item_role names front form ≡ not_there
+      → (names : List (List ℕ)) → proc_item_role names front form ≡ not_there
 
 -- blocks with names of their own, the sets of each of which differ
 pub record HaveOwnNames (blocks : List BlockTree) : Type 0 where
@@ -145,7 +145,7 @@ pub record AreBlocks (vars : List InputReg) (names : List (List ℕ)) (items : L
     : Type 0 where
   pub each : Each (WritesBlock vars names) items blocks
   pub clear : (front : List Form) → IsProcFront vars front items
-      → AreClearTo (λ before form. item_role names (front ++ before) form) items (length items)
+      → AreClearTo (λ before form. proc_item_role names (front ++ before) form) items (length items)
   pub own : HaveOwnNames blocks
 
 -- the table of a text, where its first form is a machine form

@@ -24,8 +24,8 @@ lists_of word forms = filter (has_head word) forms
 abbrev pub has_list : List ℕ → List Form → Bool
 has_list word forms = list_any (has_head word) forms
 
-abbrev pub variables_in : List Form → List InputReg
-variables_in items = filter_map input_in (lists_of (codes "var") items)
+abbrev pub proc_variables_in : List Form → List InputReg
+proc_variables_in items = filter_map input_in (lists_of (codes "var") items)
 
 -- the names of the blocks; a block past the limit isn't examined, and has none
 abbrev pub block_names_in : List Form → List (List ℕ)
@@ -36,10 +36,10 @@ abbrev pub ends_variables : Form → Bool
 ends_variables item = has_head (codes "pool") item || has_head (codes "block") item
 
 -- a variable stands where it may
-abbrev pub has_variable : List Form → Bool
-has_variable [] = false
-has_variable (item ∷ items) =
-    if has_head (codes "var") item then true else if ends_variables item then false else has_variable items
+abbrev pub has_leading_variable : List Form → Bool
+has_leading_variable [] = false
+has_leading_variable (item ∷ items) =
+    if has_head (codes "var") item then true else if ends_variables item then false else has_leading_variable items
 
 -- ---- roles
 
@@ -70,7 +70,7 @@ pub data IsOwnProcFault : ProcRole → Form → Kind → Type 0 where
   table_fault : {role : TableRole} {form : Form} {kind : Kind}
       → IsOwnTableFault role form kind → IsOwnProcFault (of_table role) form kind
   -- a missing part is a fault of its list
-  no_variable : {form : Form} → has_variable (items_of_goal form) ≡ false → IsOwnProcFault a_proc form BadForm
+  no_variable : {form : Form} → has_leading_variable (items_of_goal form) ≡ false → IsOwnProcFault a_proc form BadForm
   no_block : {form : Form} → has_list (codes "block") (items_of_goal form) ≡ false → IsOwnProcFault a_proc form BadForm
   no_go : {vars : List InputReg} {names before : List (List ℕ)} {form : Form}
       → has_list (codes "go") (items_of_goal form) ≡ false → IsOwnProcFault (a_block vars names before) form BadForm
@@ -99,27 +99,27 @@ abbrev pub not_there : ProcRole
 not_there = of_goal wrong
 
 -- as many of these as are allowed, and one more is past the limit
-abbrev pub up_to : ℕ → List Form → ProcRole → ProcRole
-up_to most before role = if nat_lt (length before) most then role else of_goal past
+abbrev pub role_up_to : ℕ → List Form → ProcRole → ProcRole
+role_up_to most before role = if nat_lt (length before) most then role else of_goal past
 
 abbrev pub variable_role : List Form → ProcRole
 variable_role before =
     if list_any ends_variables before then not_there
-    else up_to 16 (lists_of (codes "var") before) (of_goal (a_list (input [] (variables_in before))))
+    else role_up_to 16 (lists_of (codes "var") before) (of_goal (a_list (input [] (proc_variables_in before))))
 
 abbrev pub pool_role : List Form → ProcRole
 pool_role before =
     if list_any ends_variables before then not_there
-    else of_goal (a_list (pool (input_registers (variables_in before))))
+    else of_goal (a_list (pool (input_registers (proc_variables_in before))))
 
 abbrev pub block_role : List (List ℕ) → List Form → ProcRole
 block_role names before =
-    up_to 64 (lists_of (codes "block") before)
-    (a_block (variables_in before) names (names_given (lists_of (codes "block") before)))
+    role_up_to 64 (lists_of (codes "block") before)
+    (a_block (proc_variables_in before) names (names_given (lists_of (codes "block") before)))
 
 -- an item of a proc behind others, among blocks of these names
-abbrev pub item_role : List (List ℕ) → List Form → Form → ProcRole
-item_role names before form =
+abbrev pub proc_item_role : List (List ℕ) → List Form → Form → ProcRole
+proc_item_role names before form =
     if has_head (codes "var") form then variable_role before
     else if has_head (codes "pool") form then pool_role before
     else if has_head (codes "block") form then block_role names before else not_there
@@ -127,7 +127,7 @@ item_role names before form =
 abbrev pub set_role : List InputReg → List Form → ProcRole
 set_role vars before =
     if has_list (codes "go") before then not_there
-    else up_to 16 (lists_of (codes "set") before) (a_set vars (names_given (lists_of (codes "set") before)))
+    else role_up_to 16 (lists_of (codes "set") before) (a_set vars (names_given (lists_of (codes "set") before)))
 
 -- an item of a block behind others
 abbrev pub step_role : List InputReg → List (List ℕ) → List Form → Form → ProcRole
@@ -146,7 +146,7 @@ abbrev pub proc_part : Form → ℕ → Option ProcRole
 proc_part form zero = None
 proc_part form (suc zero) = Some (of_goal (fresh_name []))
 proc_part form (suc (suc at)) =
-    option_map (item_role (block_names_in (items_of_goal form)) (take at (items_of_goal form)))
+    option_map (proc_item_role (block_names_in (items_of_goal form)) (take at (items_of_goal form)))
     (slice_get (items_of_goal form) at)
 
 -- a block's name is neither done nor that of a block before
@@ -174,8 +174,8 @@ IsProcFaultAs role form = IsFault IsOwnProcFault proc_part_role role form
 -- ---- a text
 
 -- a form behind others: a machine form at the front, and then a proc, and nothing else
-abbrev pub top_role : List Form → Form → ProcRole
-top_role before form =
+abbrev pub proc_text_role : List Form → Form → ProcRole
+proc_text_role before form =
     if has_head (codes "machine") form && (length before == 0) then of_table machine
     else if has_head (codes "proc") form && not (has_list (codes "proc") before) then a_proc
     else not_there
@@ -185,4 +185,4 @@ pub data IsProcTextFault (size : ℕ) (forms : List Form) : ℕ → Kind → Typ
   no_proc : {place : ℕ} → has_list (codes "proc") forms ≡ false → place ≡ size
       → IsProcTextFault size forms place BadForm
   in_form : {place : ℕ} {kind : Kind} (at : ℕ) (form : Form) → slice_get forms at ≡ Some form
-      → IsProcFaultAs (top_role (take at forms) form) form place kind → IsProcTextFault size forms place kind
+      → IsProcFaultAs (proc_text_role (take at forms) form) form place kind → IsProcTextFault size forms place kind

@@ -35,9 +35,9 @@ pub record KeepsProcRules (p : ProcTree) : Type 0 where
   pub few_sets : All (λ (b : BlockTree). length b.sets ≤ 16) p.blocks
 
 -- a block that is there, of so many, or done
-abbrev pub IsThere : ℕ → Target → Type 0
-IsThere count (Block at) = at < count
-IsThere count Done = Unit {0}
+abbrev pub IsProcTarget : ℕ → Target → Type 0
+IsProcTarget count (Block at) = at < count
+IsProcTarget count Done = Unit {0}
 
 -- what is set: the memory, which has no pin, or a variable, whose register is the pin
 pub data IsPinned (vars : List InputReg) : List ℕ → Option ℕ → Type 0 where
@@ -52,18 +52,18 @@ pub record IsTermOver (vars : List InputReg) (sort : Sort) (t : Tree Op) : Type 
 
 pub record IsGuard (vars : List InputReg) (count : ℕ) (w : WhenTree) : Type 0 where
   pub guard : IsTermOver vars sorts.Word w.guard
-  pub other : IsThere count w.other
+  pub other : IsProcTarget count w.other
 
 pub record IsSet (vars : List InputReg) (t : TargetTree) : Type 0 where
   pub pinned : IsPinned vars t.name t.pin
   pub value : IsTermOver vars (sort_of_target t.name) t.value
 
 -- a block over these variables, one of so many
-pub record IsBlock (vars : List InputReg) (count : ℕ) (b : BlockTree) : Type 0 where
+pub record IsProcBlock (vars : List InputReg) (count : ℕ) (b : BlockTree) : Type 0 where
   pub named : IsName b.name
   pub when : IfSome b.when (IsGuard vars count)
   pub sets : All (IsSet vars) b.sets
-  pub go : IsThere count b.go
+  pub go : IsProcTarget count b.go
 
 -- how many operators stand in the terms of a block; one without sets counts as one that sets the memory to itself
 abbrev pub operators_of_sets : List TargetTree → ℕ
@@ -84,7 +84,7 @@ pub record IsProc (p : ProcTree) : Type 0 where
   pub named : IsName p.name
   pub variables : All (λ (i : InputReg). IsName i.name) p.vars
   pub rules : KeepsProcRules p
-  pub blocks : All (IsBlock p.vars (length p.blocks)) p.blocks
+  pub blocks : All (IsProcBlock p.vars (length p.blocks)) p.blocks
   pub few_operators : operators_of_proc p < 2 ^ 29
   -- so many lists stand inside one another in its canonical text
   pub nested : most_levels (plains_from (proc_plains p)) ≤ 64

@@ -11,7 +11,7 @@ ghost use Rattle.goal_reader.specs.Roles.{IsFaultAs};
 ghost use Rattle.proc_goal.specs.ProcGrammar.{WritesBlock};
 ghost use Rattle.proc_goal.specs.ProcReading.{AreBlocks, IsClearProc, IsFirstAmong, IsFirstAs, IsProcFront};
 ghost use Rattle.proc_goal.specs.ProcRoles as roles;
-ghost use Rattle.proc_goal.specs.ProcRoles.{item_role};
+ghost use Rattle.proc_goal.specs.ProcRoles.{proc_item_role};
 ghost use Rattle.proc_goal.specs.Views.{block_view, names_of_blocks};
 
 use crate::heads::{behind, has_head, has_list};
@@ -124,7 +124,7 @@ pub(crate) fn blocks(
         (map block_view blocks)) }
     ensures fault { IfErr result (λ fault. (front : List Form)
         → IsProcFront vars.now front (sexp_forms text.now items.now)
-        → IsFaultBy (IsFirstAmong (λ before form. item_role names.now (front ++ before) form)
+        → IsFaultBy (IsFirstAmong (λ before form. proc_item_role names.now (front ++ before) form)
         (sexp_forms text.now items.now)) fault) }
 {
     sexps_are_forms();

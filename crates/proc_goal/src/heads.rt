@@ -42,9 +42,9 @@ fn ends_variables(form: &Sexp, text: &[u8]) -> bool
 }
 
 /// Whether a variable stands before the pool and the blocks.
-pub(crate) fn has_variable(items: &[Sexp], text: &[u8]) -> bool
+pub(crate) fn has_leading_variable(items: &[Sexp], text: &[u8]) -> bool
     requires of { All (IsSexpOf text.now) items.now }
-    ensures { result ≡ roles.has_variable (sexp_forms text.now items.now) }
+    ensures { result ≡ roles.has_leading_variable (sexp_forms text.now items.now) }
 {
     for item in items {
         if has_head(item, text, b"var") {

@@ -2,7 +2,7 @@
 ghost use Rattle.std.specs.Prelude.{◌≡◌, ◌++◌, [], OnOk, IfOk, map, option_map, slice_index_or};
 ghost use Rattle.forms.specs.Printing.{lines_of, others_of, plain_text, plains_from};
 ghost use Rattle.goal_meaning.specs.Views.{target_view};
-ghost use Rattle.proc_goal.specs.ProcForms.{block_plain, go_plain, proc_plain, proc_text, set_plain, table_plains, target_name, variable_plain, when_plains};
+ghost use Rattle.proc_goal.specs.ProcForms.{block_plain, go_plain, proc_plain, proc_target_name, proc_text, set_plain, table_plains, var_plain, when_plains};
 ghost use Rattle.proc_goal.specs.Views.{block_view, names_of_blocks, proc_view, when_view};
 ghost use Rattle.proc_goal.specs.WellFormed.{IsProc};
 
@@ -25,7 +25,7 @@ fn put_block_name(text: &mut Vec<u8>, blocks: &[Block], at: u32) -> Result<(), N
 
 fn put_target(text: &mut Vec<u8>, blocks: &[Block], target: Target) -> Result<(), NoMemory>
     ensures { OnOk result (text.new.items ≡ text.old.items
-        ++ target_name (names_of_blocks (map block_view blocks.now)) target) }
+        ++ proc_target_name (names_of_blocks (map block_view blocks.now)) target) }
 {
     match target {
         Target::Block(at) => put_block_name(text, blocks, at)?,
@@ -35,7 +35,7 @@ fn put_target(text: &mut Vec<u8>, blocks: &[Block], target: Target) -> Result<()
 }
 
 fn put_variable(text: &mut Vec<u8>, var: &InputReg) -> Result<(), NoMemory>
-    ensures { OnOk result (text.new.items ≡ text.old.items ++ plain_text (variable_plain var.now)) }
+    ensures { OnOk result (text.new.items ≡ text.old.items ++ plain_text (var_plain var.now)) }
 {
     text.extend_from_slice(b"(var ")?;
     text.extend_from_slice(var.name.bytes())?;
@@ -48,7 +48,7 @@ fn put_variable(text: &mut Vec<u8>, var: &InputReg) -> Result<(), NoMemory>
 /// Each variable with a space before it.
 #[tactic(auto, using(goal_reader::proofs::Printed::each_more, goal_reader::proofs::Printed::others_each))]
 fn put_variables(text: &mut Vec<u8>, vars: &[InputReg]) -> Result<(), NoMemory>
-    ensures { OnOk result (text.new.items ≡ text.old.items ++ others_of (plains_from (map variable_plain vars.now))) }
+    ensures { OnOk result (text.new.items ≡ text.old.items ++ others_of (plains_from (map var_plain vars.now))) }
 {
     for var in vars {
         text.extend_from_slice(b" ")?;

@@ -5,7 +5,7 @@ ghost use Rattle.forms.specs.Reading.{IsSexpOf};
 ghost use Rattle.machine_table.specs.Roles as table_roles;
 ghost use Rattle.goal_reader.specs.Roles as goal_roles;
 ghost use Rattle.goal_reader.specs.Roles.{IsFaultAs};
-ghost use Rattle.proc_goal.specs.ProcGrammar.{IsFirstProcFault, ReadsProc, WritesProc, WritesText};
+ghost use Rattle.proc_goal.specs.ProcGrammar.{IsFirstProcFault, ReadsProc, WritesProc, WritesProcText};
 ghost use Rattle.proc_goal.specs.ProcReading.{IsClearProc, IsFirstAs, IsPoolFault, IsPoolRead, IsTableRead, IsTableRefused};
 ghost use Rattle.proc_goal.specs.ProcRoles as roles;
 ghost use Rattle.proc_goal.specs.ProcRoles.{IsProcTextFault};
@@ -15,7 +15,7 @@ ghost use Rattle.text_core.specs.Faults.{GivesUnlessMemory, IsFaultBy, IsFirst, 
 ghost use Rattle.text_core.specs.declared.faults.Kind.{Kind as FaultKind};
 
 use crate::blocks::blocks;
-use crate::heads::{behind, has_head, has_list, has_variable};
+use crate::heads::{behind, has_head, has_leading_variable, has_list};
 use crate::laws::{procs_have_one_reading, read_procs_are_well_formed};
 use crate::procs::Proc;
 use crate::targets::block_names;
@@ -66,10 +66,10 @@ fn any_name<'a>(form: &Sexp, text: &'a [u8]) -> Result<&'a [u8], TextFault>
 /// Whether items have all that a proc must have: a variable where it may stand, and a block.
 fn is_whole(items: &[Sexp], text: &[u8]) -> bool
     requires of { All (IsSexpOf text.now) items.now }
-    ensures { result ≡ (roles.has_variable (sexp_forms text.now items.now)
+    ensures { result ≡ (roles.has_leading_variable (sexp_forms text.now items.now)
         && roles.has_list (codes "block") (sexp_forms text.now items.now)) }
 {
-    let variable = has_variable(items, text);
+    let variable = has_leading_variable(items, text);
     let block = has_list(items, text, b"block");
     variable && block
 }
@@ -138,7 +138,7 @@ fn read_forms(alloc: Global, forms: &[Sexp], text: &[u8]) -> Result<Proc, TextFa
     requires of { All (IsSexpOf text.now) forms.now }
     requires stand { Stand 0 (length text.now) (forms_from (sexp_forms text.now forms.now)) }
     requires small { length text.now < 2 ^ 29 }
-    ensures written { IfOk result (λ p. WritesText (sexp_forms text.now forms.now) (proc_view p)) }
+    ensures written { IfOk result (λ p. WritesProcText (sexp_forms text.now forms.now) (proc_view p)) }
     ensures clear { IfOk result (λ _. (place : ℕ) (kind : FaultKind)
         → IsProcTextFault (length text.now) (sexp_forms text.now forms.now) place kind → ⊥) }
     ensures fault { IfErr result (IsFaultBy (IsFirst (IsProcTextFault (length text.now)

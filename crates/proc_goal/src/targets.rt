@@ -7,8 +7,8 @@ ghost use Rattle.goal_meaning.specs.declared.goals.InputReg.{InputReg as InputRe
 ghost use Rattle.forms.specs.Reading.{IsSexpOf};
 ghost use Rattle.goal_reader.specs.Roles.{second_name};
 ghost use Rattle.machine_table.specs.Roles as table_roles;
-ghost use Rattle.proc_goal.specs.ProcGrammar.{WritesGo, WritesTarget};
-ghost use Rattle.proc_goal.specs.ProcReading.{IsClearProc, IsEnd, IsEndFront, IsFirstAmong, IsFirstAs};
+ghost use Rattle.proc_goal.specs.ProcGrammar.{WritesGo, WritesProcTarget};
+ghost use Rattle.proc_goal.specs.ProcReading.{IsClearProc, IsEndFront, IsFirstAmong, IsFirstAs, IsLastItem};
 ghost use Rattle.proc_goal.specs.ProcRoles as roles;
 ghost use Rattle.proc_goal.specs.ProcRoles.{block_names_in, step_role};
 
@@ -86,7 +86,7 @@ pub(crate) fn is_done(name: &[u8]) -> bool
 pub(crate) fn target(form: &Sexp, text: &[u8], names: &[Name]) -> Result<Target, TextFault>
     requires of { IsSexpOf text.now form.now }
     requires few { length names.now ≤ 64 }
-    ensures target { IfOk result (WritesTarget names.now (sexp_form text.now form.now)) }
+    ensures target { IfOk result (WritesProcTarget names.now (sexp_form text.now form.now)) }
     ensures clear { IfOk result (λ _. IsClearProc (roles.a_target names.now) (sexp_form text.now form.now)) }
     ensures fault { IfErr result (IsFaultBy (IsFirstAs (roles.a_target names.now) (sexp_form text.now form.now))) }
 {
@@ -131,7 +131,7 @@ pub(crate) fn end(items: &[Sexp], text: &[u8], names: &[Name]) -> Result<Target,
     requires of { All (IsSexpOf text.now) items.now }
     requires there { 0 < length items.now }
     requires few { length names.now ≤ 64 }
-    ensures end { IfOk result (IsEnd names.now (sexp_forms text.now items.now)) }
+    ensures end { IfOk result (IsLastItem names.now (sexp_forms text.now items.now)) }
     ensures fault { IfErr result (λ fault. (vars : List InputRegOf) (front : List Form)
         → IsEndFront front (sexp_forms text.now items.now)
         → IsFaultBy (IsFirstAmong (λ before form. step_role vars names.now (front ++ before) form)

@@ -9,7 +9,7 @@ ghost use Rattle.goal_reader.specs.Roles as goal_roles;
 ghost use Rattle.goal_reader.specs.Roles.{IsFaultAs, input_in};
 ghost use Rattle.proc_goal.specs.ProcGrammar.{WritesVariable};
 ghost use Rattle.proc_goal.specs.ProcReading.{AreLeading, IsFirstAmong};
-ghost use Rattle.proc_goal.specs.ProcRoles.{item_role};
+ghost use Rattle.proc_goal.specs.ProcRoles.{proc_item_role};
 
 use crate::heads::has_head;
 use forms::{at, parts, place, sexps_are_forms};
@@ -59,7 +59,7 @@ pub(crate) fn variables(
     requires of { All (IsSexpOf text.now) items.now }
     ensures variables { IfOk result (AreLeading (sexp_forms text.now items.now)) }
     ensures fault { IfErr result (λ fault. (names : List (List ℕ))
-        → IsFaultBy (IsFirstAmong (item_role names) (sexp_forms text.now items.now)) fault) }
+        → IsFaultBy (IsFirstAmong (proc_item_role names) (sexp_forms text.now items.now)) fault) }
 {
     sexps_are_forms();
     let mut vars = Items::new(alloc);

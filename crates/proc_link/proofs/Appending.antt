@@ -9,16 +9,16 @@ use Rattle.register_assign.specs.Moved.{led}
 use Rattle.register_assign.specs.Outcomes.{instrs_of}
 use Rattle.register_assign.specs.declared.listings.Item.{Item}
 use Rattle.register_assign.specs.declared.listings.Listing.{Listing}
-use Rattle.proc_link.specs.Linked.{all_instrs, block_instrs, displacement, led_from, linked_from, starts_from, words_before}
+use Rattle.proc_link.specs.Linked.{all_instrs, block_instrs, displacement_between, led_from, linked_from, starts_from, words_before}
 
 -- ---- instructions of a listing
 
-led_after : (from to : ℕ) (xs : List Instr) (x : Instr) → led_from from to (xs ++ x ∷ []) ≡ led_from from to xs ++ led (displacement (from + length xs) to) x ∷ []
-led_after from to [] x = (let e : from ≡ from + 0 = omega arith in ap (λ n. led (displacement n to) x ∷ []) e)
+led_after : (from to : ℕ) (xs : List Instr) (x : Instr) → led_from from to (xs ++ x ∷ []) ≡ led_from from to xs ++ led (displacement_between (from + length xs) to) x ∷ []
+led_after from to [] x = (let e : from ≡ from + 0 = omega arith in ap (λ n. led (displacement_between n to) x ∷ []) e)
 led_after from to (y ∷ xs) x =
     let e : from + 1 + length xs ≡ from + length (y ∷ xs) = omega arith in
-    ap (λ is. led (displacement from to) y ∷ is) (led_after (from + 1) to xs x)
-    ∙ ap (λ n. led (displacement from to) y ∷ (led_from (from + 1) to xs ++ led (displacement n to) x ∷ [])) e
+    ap (λ is. led (displacement_between from to) y ∷ is) (led_after (from + 1) to xs x)
+    ∙ ap (λ n. led (displacement_between from to) y ∷ (led_from (from + 1) to xs ++ led (displacement_between n to) x ∷ [])) e
 
 module _ (items : List Item) (from to at : ℕ) (d : Item) (inside : at < length items) where
   instrs_more : instrs_of (take (at + 1) items) ≡ instrs_of (take at items) ++ (get_or items at d).instr ∷ []
@@ -27,19 +27,19 @@ module _ (items : List Item) (from to at : ℕ) (d : Item) (inside : at < length
   count : length (instrs_of (take at items)) ≡ at
   count = length-map (take at items) (λ (a : Item). a.instr) ∙ length-take-le at items (omega (arith, inside))
 
-  led_one : led_from from to (instrs_of (take (at + 1) items)) ≡ led_from from to (instrs_of (take at items)) ++ led (displacement (from + at) to) (get_or items at d).instr ∷ []
+  led_one : led_from from to (instrs_of (take (at + 1) items)) ≡ led_from from to (instrs_of (take at items)) ++ led (displacement_between (from + at) to) (get_or items at d).instr ∷ []
   led_one =
       ap (led_from from to) instrs_more ∙ led_after from to (instrs_of (take at items)) (get_or items at d).instr
-      ∙ ap (λ n. led_from from to (instrs_of (take at items)) ++ led (displacement (from + n) to) (get_or items at d).instr ∷ []) count
+      ∙ ap (λ n. led_from from to (instrs_of (take at items)) ++ led (displacement_between (from + n) to) (get_or items at d).instr ∷ []) count
 
   pub led_more : (start words : List ℕ) (w : ℕ) → words ≡ start ++ map encoded (led_from from to (instrs_of (take at items)))
-      → w ≡ encoded (led (displacement (from + at) to) (get_or items at d).instr)
+      → w ≡ encoded (led (displacement_between (from + at) to) (get_or items at d).instr)
       → words ++ w ∷ [] ≡ start ++ map encoded (led_from from to (instrs_of (take (at + 1) items)))
   led_more start words w h e =
       ap (λ ws. ws ++ w ∷ []) h
       ∙ append_assoc start (map encoded (led_from from to (instrs_of (take at items)))) (w ∷ [])
       ∙ ap (λ v. start ++ (map encoded (led_from from to (instrs_of (take at items))) ++ v ∷ [])) e
-      ∙ ap (λ ws. start ++ ws) (sym (map-append encoded (led_from from to (instrs_of (take at items))) (led (displacement (from + at) to) (get_or items at d).instr ∷ [])))
+      ∙ ap (λ ws. start ++ ws) (sym (map-append encoded (led_from from to (instrs_of (take at items))) (led (displacement_between (from + at) to) (get_or items at d).instr ∷ [])))
       ∙ ap (λ is. start ++ map encoded is) (sym led_one)
 
 pub led_all : (items : List Item) (from to at : ℕ) (start words : List ℕ) → length items ≤ at → words ≡ start ++ map encoded (led_from from to (instrs_of (take at items)))

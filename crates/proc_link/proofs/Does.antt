@@ -3,7 +3,7 @@ use Rattle.std.proofs.Common.{◌≡◌, ◌≢◌, ℕ, zero, suc, ◌+◌, ◌
 use Rattle.std.specs.Prelude.{All, Contains, IsSomeAnd, bytes_eq, codes, find, is_some, option_map, slice_get, slice_index, if◌then◌else◌}
 use Rattle.std.specs.Option.{option_map_or}
 use Rattle.std.proofs.lemmas.Bool.{or_parts, false≢true}
-use Rattle.std.proofs.lemmas.List.{length-map}
+use Rattle.std.proofs.lemmas.List.{get_or-map, length-map}
 use Rattle.std.proofs.lemmas.List.Elements.{All-nil, All-contains, All-map}
 use Rattle.std.proofs.lemmas.Option.{same_Some, none-some}
 use Rattle.std.proofs.lemmas.Slice.Eq.{bytes_eq-Decides}
@@ -19,15 +19,16 @@ use Rattle.goal_meaning.specs.Holds.{HoldsOfAll, IsMet, goal_value}
 use Rattle.goal_meaning.specs.Names.{built_in_named, is_reserved}
 use Rattle.goal_meaning.specs.Outcomes.{exit, fall, is_left, is_memory, is_zero, new_memory, new_value, new_words}
 use Rattle.goal_meaning.specs.Views.{GoalTree, TargetTree}
+use Rattle.goal_meaning.specs.WellFormed.{input_registers}
 use Rattle.goal_meaning.specs.declared.goals.InputReg.{InputReg}
 use Rattle.proc_goal.specs.Goals.{goal_of_block, sets_or_memory}
 use Rattle.proc_goal.specs.Views.{WhenTree, BlockTree, ProcTree}
-use Rattle.proc_goal.specs.WellFormed.{IsProc, IsBlock, IsSet, IsPinned, memory as pinned_memory, variable as pinned_variable}
+use Rattle.proc_goal.specs.WellFormed.{IsProc, IsProcBlock, IsSet, IsPinned, memory as pinned_memory, variable as pinned_variable}
 use Rattle.register_assign.specs.Outcomes.{entry_state, instrs_of}
 use Rattle.register_assign.specs.declared.listings.Item.{Item}
 use Rattle.register_assign.specs.declared.listings.Listing.{Listing}
 use Rattle.proc_link.specs.Blocks.{sets_name}
-use Rattle.proc_link.specs.Follows.{IsListingOfBlock}
+use Rattle.proc_link.specs.Follows.{IsListingOfBlock, KeepsOutsideRegisters}
 use Rattle.proc_link.proofs.Finding.{find_some, find_none, front_apart, kept_item, one_item}
 use Rattle.proc_link.proofs.Relocating.{BranchesLeave}
 
@@ -39,32 +40,38 @@ left_in w b = option_map_or (λ (k : WhenTree). is_zero (goal_value [] w k.guard
 abbrev pub set_value : World → Option TargetTree → Value → Value
 set_value w o old = option_map_or (λ (t : TargetTree). goal_value [] w t.value) o old
 
+-- the instructions keep the registers outside of the pool and the variables
+abbrev pub KeepsOutside : ProcTree → List Instr → World → Type 0
+KeepsOutside p is w = KeepsOutsideRegisters p (entry_state w) (after (length is) is (entry_state w))
+
 -- the instructions fall through with each variable's new word in its register, the others as at entry, and the new memory
-pub record FallsThrough (vars : List InputReg) (b : BlockTree) (is : List Instr) (w : World) : Type 0 where
+pub record FallsThrough (p : ProcTree) (b : BlockTree) (is : List Instr) (w : World) : Type 0 where
   pub ends : (after (length is) is (entry_state w)).pc ≡ 4 * length is
   pub words_are :
-      (v : InputReg) → Contains vars v
+      (v : InputReg) → Contains p.vars v
       → word (slice_index (after (length is) is (entry_state w)).registers v.reg)
       ≡ set_value w (find (sets_name v.name) b.sets) (word (slice_index w.registers v.reg))
   pub memory_is :
       memory (after (length is) is (entry_state w)).memory
       ≡ set_value w (find (sets_name (codes "M")) b.sets) (memory w.memory_at_entry)
+  pub others : KeepsOutside p is w
 
 -- they leave by a branch, with variables and memory as at entry
-pub record LeavesBy (vars : List InputReg) (is : List Instr) (w : World) : Type 0 where
+pub record LeavesBy (p : ProcTree) (is : List Instr) (w : World) : Type 0 where
   pub ends : (after (length is) is (entry_state w)).pc ≡ 4 * length is + 4
   pub words_are :
-      (v : InputReg) → Contains vars v
+      (v : InputReg) → Contains p.vars v
       → slice_index (after (length is) is (entry_state w)).registers v.reg ≡ slice_index w.registers v.reg
   pub memory_is : (after (length is) is (entry_state w)).memory ≡ w.memory_at_entry
+  pub others : KeepsOutside p is w
 
 -- they do in every world what the block says; their branches lead to one word behind the last
-pub record Does (vars : List InputReg) (b : BlockTree) (is : List Instr) : Type 0 where
+pub record Does (p : ProcTree) (b : BlockTree) (is : List Instr) : Type 0 where
   pub well_formed : All IsWellFormed is
   pub few : length is ≤ 192
   pub stand : BranchesLeave is
-  pub falls : (w : World) → IsWorld w → left_in w b ≡ false → FallsThrough vars b is w
-  pub leaves : (w : World) → IsWorld w → left_in w b ≡ true → LeavesBy vars is w
+  pub falls : (w : World) → IsWorld w → left_in w b ≡ false → FallsThrough p b is w
+  pub leaves : (w : World) → IsWorld w → left_in w b ≡ true → LeavesBy p is w
 
 -- ---- words and their instructions
 
@@ -96,6 +103,11 @@ pin_of_word : (vars : List InputReg) (name : List ℕ) (o : Option ℕ) → IsPi
 pin_of_word vars name o (pinned_memory e) other = absurd (other e)
 pin_of_word vars name o (pinned_variable {register = register} has) other = (register, refl, has)
 
+register_in : (vars : List InputReg) (v : InputReg) → Contains vars v → Contains (input_registers vars) v.reg
+register_in vars v (k, inside, at) =
+    let long = length-map vars (λ (u : InputReg). u.reg) in
+    (k, omega (arith, long, inside), get_or-map (λ (u : InputReg). u.reg) vars k v v.reg inside ∙ ap (λ (u : InputReg). u.reg) at)
+
 module _ (p : ProcTree) (is_proc : IsProc p) where
   abbrev vars : List InputReg
   vars = p.vars
@@ -115,7 +127,7 @@ module _ (p : ProcTree) (is_proc : IsProc p) where
       let no = (or_parts (is_some (built_in_named v.name)) (bytes_eq v.name (codes "M")) own).1 in
       false≢true (sym no ∙ (bytes_eq-Decides v.name (codes "M")).1 e)
 
-  module _ (b : BlockTree) (block : IsBlock p.vars (length p.blocks) b) where
+  module _ (b : BlockTree) (block : IsProcBlock p.vars (length p.blocks) b) where
     -- the set of a variable is pinned to its register
     own_pin : (v : InputReg) → Contains vars v → (t : TargetTree) → Contains b.sets t → t.name ≡ v.name → t.pin ≡ Some v.reg
     own_pin v has t among named =
@@ -146,6 +158,13 @@ module _ (p : ProcTree) (is_proc : IsProc p) where
         let among = pin_in_sets b.sets t v.reg (k, inside, at) pin in
         let named = pinned_name v has t among pin in
         false≢true (sym (find_none (sets_name v.name) b.sets t none among) ∙ (bytes_eq-Decides t.name v.name).1 named)
+
+    -- nor is a register that is no variable's
+    no_pin_outside : (r : ℕ) → ¬ Contains (input_registers vars) r → ¬ IsPinOf (goal_of_block p b) r
+    no_pin_outside r outside (k, t, inside, at, pin) =
+        let among = pin_in_sets b.sets t r (k, inside, at) pin in
+        let set : IsSet vars t = All-contains (IsSet vars) b.sets t block.sets among in
+        outside (register_in vars (record { name = t.name; reg = r }) (pinned_in vars t.name t.pin set.pinned r pin))
 
     kept_memory : (w : World) (sets : List TargetTree) → new_memory [] w (sets_or_memory sets) ≡ set_value w (find (sets_name (codes "M")) sets) (memory w.memory_at_entry)
     kept_memory w [] = refl
@@ -198,16 +217,17 @@ module _ (p : ProcTree) (is_proc : IsProc p) where
             word_target : (t : TargetTree) → t.name ≢ codes "M" → not (is_memory t) ≡ true
             word_target t other = not_by (is_memory t) (λ m. other ((bytes_eq-Decides t.name (codes "M")).0 m))
 
-        falls_through : FallsThrough vars b is w
+        falls_through : FallsThrough p b is w
         falls_through =
             let end = reached w _ at_end f.runs in
             record {
               ends = ap (λ m. m.pc) end ∙ f.runs.ends ∙ ap (λ n. 4 * n) count;
               words_are = λ v has. ap (λ m. word (slice_index m.registers v.reg)) end ∙ word_by v has (find (sets_name v.name) b.sets) refl;
               memory_is = ap (λ m. memory m.memory) end ∙ f.memory_is ∙ kept_memory w b.sets;
+              others = λ r no_pool outside. ap (λ m. slice_index m.registers r) end ∙ f.others r no_pool (no_pin_outside r outside);
             }
 
-      leaves_by : (w : World) → LeavesByBranch goal w l.items h.words → LeavesBy vars is w
+      leaves_by : (w : World) → LeavesByBranch goal w l.items h.words → LeavesBy p is w
       leaves_by w k =
           let end = reached w _ k.state k.runs in
           record {
@@ -216,6 +236,7 @@ module _ (p : ProcTree) (is_proc : IsProc p) where
                 ap (λ m. slice_index m.registers v.reg) end
                 ∙ All-contains (λ (i : InputReg). slice_index k.state.registers i.reg ≡ slice_index w.registers i.reg) vars v k.inputs has;
             memory_is = ap (λ m. m.memory) end ∙ k.memory_is;
+            others = λ r no_pool outside. ap (λ m. slice_index m.registers r) end ∙ k.others r no_pool (no_pin_outside r outside);
           }
 
       stands : BranchesLeave is
@@ -224,7 +245,7 @@ module _ (p : ProcTree) (is_proc : IsProc p) where
           let may = subst (λ (o : Option Instr). IsSomeAnd o (IsAllowedAt (length h.words) k)) at.2 (h.may_run h.words h.are_words k at.0 at.1) in
           subst (λ n. IsAllowedAt n k i) count may
 
-      pub does : Does vars b is
+      pub does : Does p b is
       does = record {
         well_formed = All-map IsWellFormed (λ (a : Item). a.instr) l.items h.have_words;
         few = subst (λ n. n ≤ 192) (sym (length-map l.items (λ (a : Item). a.instr))) h.few;

@@ -18,14 +18,14 @@ use Rattle.alpha_machine.specs.States.{MachineState, IsState}
 use Rattle.alpha_machine.specs.Runs.{stepped, after}
 use Rattle.goal_meaning.specs.declared.goals.InputReg.{InputReg}
 use Rattle.proc_goal.specs.Views.{BlockTree, ProcTree}
-use Rattle.proc_goal.specs.WellFormed.{IsProc, IsBlock, IsThere}
+use Rattle.proc_goal.specs.WellFormed.{IsProc, IsProcBlock, IsProcTarget}
 use Rattle.proc_goal.specs.declared.procs.Target.{Target}
 use Rattle.proc_goal.specs.declared.procs.Target.TheVariants.{Block, Done}
 use Rattle.register_assign.specs.Outcomes.{instrs_of}
 use Rattle.register_assign.specs.declared.listings.Listing.{Listing}
 use Rattle.proc_link.specs.Blocks.{BlockState, block_step, block_steps}
-use Rattle.proc_link.specs.Follows.{AreListings, ComesTo, FollowBlocks, IsListingOfBlock, Shows, address_of, begun}
-use Rattle.proc_link.specs.Linked.{all_instrs, linked, place_of, starts_of, words_before}
+use Rattle.proc_link.specs.Follows.{AreListings, ComesTo, FollowBlocks, IsListingOfBlock, ShowsBlockState, address_of, begun}
+use Rattle.proc_link.specs.Linked.{all_instrs, linked, place_of_target, starts_of, words_before}
 use Rattle.proc_link.proofs.Does.{Does, does, one_by_name}
 use Rattle.proc_link.proofs.Finding.{find_none, find_some}
 use Rattle.proc_link.proofs.Placing.{length_linked, start_at}
@@ -41,14 +41,14 @@ none_before [] = refl
 none_before (l ∷ ls) = refl
 
 module _ (p : ProcTree) (is_proc : IsProc p) where
-  each_does : (bs : List BlockTree) (ls : List Listing) → All (IsBlock p.vars (length p.blocks)) bs → AllZip (IsListingOfBlock p) bs ls
-      → AllZip (Does p.vars) bs (all_instrs ls)
+  each_does : (bs : List BlockTree) (ls : List Listing) → All (IsProcBlock p.vars (length p.blocks)) bs → AllZip (IsListingOfBlock p) bs ls
+      → AllZip (Does p) bs (all_instrs ls)
   each_does [] [] blocks h = tt
   each_does [] (l ∷ ls) blocks h = absurd h
   each_does (b ∷ bs) [] blocks h = absurd h
   each_does (b ∷ bs) (l ∷ ls) blocks h = (
-    does p is_proc b (All-head (IsBlock p.vars (length p.blocks)) b bs blocks) l h.0,
-    each_does bs ls (All-tail (IsBlock p.vars (length p.blocks)) b bs blocks) h.1,
+    does p is_proc b (All-head (IsProcBlock p.vars (length p.blocks)) b bs blocks) l h.0,
+    each_does bs ls (All-tail (IsProcBlock p.vars (length p.blocks)) b bs blocks) h.1,
   )
 
   pub are_done : (ls : List Listing) → AreListings p ls → AreDone p (all_instrs ls)
@@ -90,30 +90,30 @@ module _ (p : ProcTree) (is_proc : IsProc p) where
       count : length words ≡ length (linked p.blocks all)
       count = sym (length-map words decoded) ∙ ap length decode ∙ length-map (linked p.blocks all) Some
 
-      address_is : (t : Target) → IsThere (length p.blocks) t → 4 * place_of all t ≡ address_of (starts_of all) (4 * length words) t
+      address_is : (t : Target) → IsProcTarget (length p.blocks) t → 4 * place_of_target all t ≡ address_of (starts_of all) (4 * length words) t
       address_is (Block i) there =
           let many = as_many in
           let start = start_at 0 all i (omega (arith, many, there)) in
           omega (arith, start)
       address_is Done there =
           let same = count in
-          let whole = length_linked (place_of all) 0 p.blocks all as_many in
+          let whole = length_linked (place_of_target all) 0 p.blocks all as_many in
           omega (arith, same, whole)
 
-      shown : (s : BlockState) (m : MachineState) → IsThere (length p.blocks) s.at → ShowsAt p all s m → Shows p (starts_of all) (4 * length words) s m
+      shown : (s : BlockState) (m : MachineState) → IsProcTarget (length p.blocks) s.at → ShowsAt p all s m → ShowsBlockState p (starts_of all) (4 * length words) s m
       shown s m there h = record {
         state = h.state;
         pc = h.pc ∙ address_is s.at there;
         words = λ k d lt. h.words_are (get_or p.vars k d) (Contains-get_or p.vars k d lt);
-        memory = h.memory_is;
+        memory_is = h.memory_is;
       }
 
-      shown_at : (s : BlockState) (m : MachineState) → IsThere (length p.blocks) s.at → Shows p (starts_of all) (4 * length words) s m → ShowsAt p all s m
+      shown_at : (s : BlockState) (m : MachineState) → IsProcTarget (length p.blocks) s.at → ShowsBlockState p (starts_of all) (4 * length words) s m → ShowsAt p all s m
       shown_at s m there h = record {
         state = h.state;
         pc = h.pc ∙ sym (address_is s.at there);
         words_are = λ v has. All-contains (λ (v : InputReg). slice_index m.registers v.reg ≡ s.words v.name) p.vars v h.words has;
-        memory_is = h.memory;
+        memory_is = h.memory_is;
       }
 
       module _ (last : (n : ℕ) (instrs : List Instr) (s : MachineState) → after (suc n) instrs s ≡ stepped instrs (after n instrs s))
@@ -121,12 +121,12 @@ module _ (p : ProcTree) (is_proc : IsProc p) where
           (stays : (n : ℕ) (instrs : List Instr) (s : MachineState) → length instrs ≤ s.pc / 4 → after n instrs s ≡ s)
           (is_word : (op : WordOp) (vs : List ℕ) → All IsWord vs → IsWord (value_of op vs))
           (is_memory : (m : Memory) (place v : ℕ) → IsMemory m → place < 2 ^ 61 → IsWord v → IsMemory (put_word m place v)) where
-        steps_there : (n : ℕ) (s : BlockState) → IsThere (length p.blocks) s.at → IsThere (length p.blocks) (block_steps n p s).at
+        steps_there : (n : ℕ) (s : BlockState) → IsProcTarget (length p.blocks) s.at → IsProcTarget (length p.blocks) (block_steps n p s).at
         steps_there zero s there = there
         steps_there (suc n) s there =
             steps_there n (block_step p s) (next_target last sums stays is_word is_memory p all (are_done ls are) s s.at refl there)
 
-        one : (s : BlockState) (m : MachineState) → IsThere (length p.blocks) s.at → Shows p (starts_of all) (4 * length words) s m
+        one : (s : BlockState) (m : MachineState) → IsProcTarget (length p.blocks) s.at → ShowsBlockState p (starts_of all) (4 * length words) s m
             → ComesTo p (starts_of all) (4 * length words) (linked p.blocks all) m 193 (block_step p s)
         one s m there h =
             let run : LeadsOn p all m 193 (block_step p s) = one_step last sums stays is_word is_memory p all (are_done ls are) s m there (shown_at s m there h) in
@@ -134,6 +134,7 @@ module _ (p : ProcTree) (is_proc : IsProc p) where
               steps = run.steps;
               few = run.few;
               shows = shown (block_step p s) (after run.steps (linked p.blocks all) m) (steps_there 1 s there) run.shows;
+              others = run.others;
             }
 
         pub follows : FollowBlocks p words (starts_of all)
@@ -142,12 +143,13 @@ module _ (p : ProcTree) (is_proc : IsProc p) where
           decode = decode;
           step = one;
           follow = λ n m is pc.
-              let first : IsThere (length p.blocks) (Block 0) = is_proc.rules.blocks.0 in
+              let first : IsProcTarget (length p.blocks) (Block 0) = is_proc.rules.blocks.0 in
               let run : LeadsOn p all m (193 * n) (block_steps n p (begun p m)) =
               all_steps last sums stays is_word is_memory p all (are_done ls are) n (begun p m) m first (begins m is pc) in
               record {
                 steps = run.steps;
                 few = run.few;
                 shows = shown (block_steps n p (begun p m)) (after run.steps (linked p.blocks all) m) (steps_there n (begun p m) first) run.shows;
+                others = run.others;
               };
         }

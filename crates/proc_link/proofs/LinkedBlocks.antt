@@ -10,7 +10,7 @@ use Rattle.alpha_encode.specs.Formats.{IsWellFormed, encoded}
 use Rattle.alpha_encode.specs.declared.instructions.Instr.{Instr}
 use Rattle.alpha_encode.specs.declared.instructions.Instr.TheVariants.{Beq}
 use Rattle.proc_goal.specs.Views.{BlockTree, ProcTree, block_view}
-use Rattle.proc_goal.specs.WellFormed.{IsBlock, IsProc, IsThere}
+use Rattle.proc_goal.specs.WellFormed.{IsProc, IsProcBlock, IsProcTarget}
 use Rattle.proc_goal.specs.declared.procs.Block.{Block}
 use Rattle.proc_goal.specs.declared.procs.Target.{Target}
 use Rattle.proc_goal.specs.declared.procs.Target.TheVariants as targets
@@ -20,8 +20,8 @@ use Rattle.register_assign.specs.declared.listings.Item.{Item}
 use Rattle.register_assign.specs.declared.listings.Listing.{Listing}
 use Rattle.proc_link.specs.Blocks.{other_of}
 use Rattle.proc_link.specs.Follows.{AreListings, IsListingOfBlock}
-use Rattle.proc_link.specs.Linked.{all_instrs, block_instrs, displacement, led_from, linked_from, place_of, starts_from, words_before}
-use Rattle.proc_link.specs.Placed.{ArePlaces, CanBeLinked, LeadsInside, place_in}
+use Rattle.proc_link.specs.Linked.{all_instrs, block_instrs, displacement_between, led_from, linked_from, place_of_target, starts_from, words_before}
+use Rattle.proc_link.specs.Placed.{AreListingPlaces, CanBeLinked, LeadsInside, place_by_starts}
 use Rattle.proc_link.specs.declared.places.Places.{Places}
 use Rattle.proc_link.proofs.Appending.{all_more, before_take, linked_after}
 use Rattle.proc_link.proofs.Placing.{few_before, start_at}
@@ -53,18 +53,18 @@ module _ (blocks : List BlockTree) (ls : List Listing) (can : CanBeLinked blocks
       let few = can.few in
       omega (arith, low, same, few)
 
-  pub place_low : (t : Target) → place_of all t ≤ 12352
+  pub place_low : (t : Target) → place_of_target all t ≤ 12352
   place_low (targets.Block i) = before_low i
   place_low targets.Done = before_low (length all)
 
-  module _ (places : Places) (are : ArePlaces all places) where
+  module _ (places : Places) (are : AreListingPlaces all places) where
     pub starts_long : length places.starts ≡ length blocks
     starts_long = ap length are.starts ∙ length_starts 0 all ∙ many
 
-    pub there : (t : Target) → IsThere (length blocks) t → IsThere (length places.starts) t
-    there t h = subst (λ n. IsThere n t) (sym starts_long) h
+    pub there : (t : Target) → IsProcTarget (length blocks) t → IsProcTarget (length places.starts) t
+    there t h = subst (λ n. IsProcTarget n t) (sym starts_long) h
 
-    pub placed : (t : Target) → IsThere (length blocks) t → place_in places.starts places.end t ≡ place_of all t
+    pub placed : (t : Target) → IsProcTarget (length blocks) t → place_by_starts places.starts places.end t ≡ place_of_target all t
     placed (targets.Block i) h =
         let same = many in
         let start = start_at 0 all i (omega (arith, same, h)) in
@@ -85,15 +85,15 @@ module _ (blocks : List Block) (ls : List Listing) (can : CanBeLinked (map block
   pub in_listings : at < length ls
   in_listings = (let same = length-map blocks block_view in let many = can.count in omega (arith, same, many, inside))
 
-  pub place_now : (places : Places) → ArePlaces (all_instrs ls) places → (from : ℕ) → from ≡ place_in places.starts places.end (targets.Block at)
+  pub place_now : (places : Places) → AreListingPlaces (all_instrs ls) places → (from : ℕ) → from ≡ place_by_starts places.starts places.end (targets.Block at)
       → from ≡ words_before (all_instrs ls) at
   place_now places are from is = is ∙ placed (map block_view blocks) ls can places are (targets.Block at) in_views
 
-  pub place_then : (places : Places) → ArePlaces (all_instrs ls) places → (t : Target) → IsThere (length (map block_view blocks)) t → (to : ℕ)
-      → to ≡ place_in places.starts places.end t → to ≡ place_of (all_instrs ls) t
+  pub place_then : (places : Places) → AreListingPlaces (all_instrs ls) places → (t : Target) → IsProcTarget (length (map block_view blocks)) t → (to : ℕ)
+      → to ≡ place_by_starts places.starts places.end t → to ≡ place_of_target (all_instrs ls) t
   place_then places are t h to is = is ∙ placed (map block_view blocks) ls can places are t h
 
-  pub place_small : (t : Target) → (to : ℕ) → to ≡ place_of (all_instrs ls) t → to ≤ 12352
+  pub place_small : (t : Target) → (to : ℕ) → to ≡ place_of_target (all_instrs ls) t → to ≤ 12352
   place_small t to is = subst (λ n. n ≤ 12352) (sym is) (place_low (map block_view blocks) ls can t)
 
   pub short_at : (l : Listing) → l ≡ get_or ls at l → length l.items ≤ 192
@@ -139,13 +139,13 @@ module _ (place : Target → ℕ) (blocks : List Block) (ls : List Listing) (at 
 
   pub blocks_more : (start words : List ℕ) (from to go : ℕ) → words ≡ start ++ map encoded (linked_from place 0 (views at) (all_instrs (take at ls)))
       → from ≡ words_before (all_instrs ls) at → to ≡ place (other_of (block_view this)) → go ≡ place (block_view this).go
-      → words ++ map encoded (led_from from to (instrs_of listing.items) ++ Beq 31 (displacement (from + length listing.items) go) ∷ [])
+      → words ++ map encoded (led_from from to (instrs_of listing.items) ++ Beq 31 (displacement_between (from + length listing.items) go) ∷ [])
       ≡ start ++ map encoded (linked_from place 0 (views (at + 1)) (all_instrs (take (at + 1) ls)))
   blocks_more start words from to go h from_is to_is go_is =
       let long = length-map listing.items (λ (a : Item). a.instr) in
-      let same : led_from from to (instrs_of listing.items) ++ Beq 31 (displacement (from + length listing.items) go) ∷ []
+      let same : led_from from to (instrs_of listing.items) ++ Beq 31 (displacement_between (from + length listing.items) go) ∷ []
       ≡ block_instrs place (words_before (all_instrs ls) at) (block_view this) (instrs_of listing.items)
-      = λ j. led_from (from_is j) (to_is j) (instrs_of listing.items) ++ Beq 31 (displacement (from_is j + sym long j) (go_is j)) ∷ [] in
+      = λ j. led_from (from_is j) (to_is j) (instrs_of listing.items) ++ Beq 31 (displacement_between (from_is j + sym long j) (go_is j)) ∷ [] in
       let so_far = linked_from place 0 (views at) (all_instrs (take at ls)) in
       let one = block_instrs place (words_before (all_instrs ls) at) (block_view this) (instrs_of listing.items) in
       (λ j. h j ++ map encoded (same j))
@@ -165,7 +165,7 @@ pub can_be_linked : (p : ProcTree) (ls : List Listing) → IsProc p → AreListi
 can_be_linked p ls is_proc are = record {
   few = is_proc.rules.blocks.1;
   count = AllZip-long (IsListingOfBlock p) p.blocks ls are;
-  inside = All-weaker (IsBlock p.vars (length p.blocks)) (LeadsInside (length p.blocks))
+  inside = All-weaker (IsProcBlock p.vars (length p.blocks)) (LeadsInside (length p.blocks))
       (λ b block. (other_there p.vars (length p.blocks) b block, block.go)) p.blocks is_proc.blocks;
   have_words = each (λ (l : Listing). HaveWords l.items) (λ b l h. h.have_words) p.blocks ls are;
   short = each (λ (l : Listing). length l.items ≤ 192) (λ b l h. h.few) p.blocks ls are;

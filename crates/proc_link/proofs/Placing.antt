@@ -10,7 +10,7 @@ use Rattle.proc_goal.specs.Views.{BlockTree}
 use Rattle.proc_goal.specs.declared.procs.Target.{Target}
 use Rattle.register_assign.specs.Moved.{led}
 use Rattle.proc_link.specs.Blocks.{other_of}
-use Rattle.proc_link.specs.Linked.{words_before, place_of, displacement, led_from, block_instrs, linked_from, linked, starts_from}
+use Rattle.proc_link.specs.Linked.{words_before, place_of_target, displacement_between, led_from, block_instrs, linked_from, linked, starts_from}
 use Rattle.proc_link.proofs.Relocating.{StandsAt}
 
 -- ---- reads of lists behind one another
@@ -29,17 +29,17 @@ length_led : (from to : ℕ) (is : List Instr) → length (led_from from to is) 
 length_led from to [] = refl
 length_led from to (i ∷ is) = ap suc (length_led (from + 1) to is)
 
-read_led : (from to : ℕ) (is : List Instr) (k m : ℕ) (i : Instr) → m ≡ from + k → slice_get is k ≡ Some i → slice_get (led_from from to is) k ≡ Some (led (displacement m to) i)
+read_led : (from to : ℕ) (is : List Instr) (k m : ℕ) (i : Instr) → m ≡ from + k → slice_get is k ≡ Some i → slice_get (led_from from to is) k ≡ Some (led (displacement_between m to) i)
 read_led from to [] k m i e h = absurd (none-some i h)
 read_led from to (j ∷ is) zero m i e h =
     let at : from ≡ m = omega (arith, e) in
-    ap (λ x. Some (led (displacement from to) x)) (same_Some j i h) ∙ ap (λ p. Some (led (displacement p to) i)) at
+    ap (λ x. Some (led (displacement_between from to) x)) (same_Some j i h) ∙ ap (λ p. Some (led (displacement_between p to) i)) at
 read_led from to (j ∷ is) (suc k) m i e h = read_led (from + 1) to is k m i (omega (arith, e)) h
 
 length_block : (place : Target → ℕ) (from : ℕ) (b : BlockTree) (is : List Instr) → length (block_instrs place from b is) ≡ length is + 1
 length_block place from b is =
     let e = length_led from (place (other_of b)) is in
-    length-append (led_from from (place (other_of b)) is) (Beq 31 (displacement (from + length is) (place b.go)) ∷ []) ∙ ap (λ n. n + 1) e
+    length-append (led_from from (place (other_of b)) is) (Beq 31 (displacement_between (from + length is) (place b.go)) ∷ []) ∙ ap (λ n. n + 1) e
 
 module _ (place : Target → ℕ) where
   -- what a block has at a place of its own, the whole list has that much further
@@ -64,20 +64,20 @@ module _ (place : Target → ℕ) where
 module _ (blocks : List BlockTree) (listings : List (List Instr)) (i : ℕ) (b : BlockTree) (is : List Instr)
     (there : slice_get blocks i ≡ Some b) (listed : slice_get listings i ≡ Some is) where
   abbrev place : Target → ℕ
-  place t = place_of listings t
+  place t = place_of_target listings t
 
   abbrev from : ℕ
   from = words_before listings i
 
   pub stands : StandsAt (linked blocks listings) from (place (other_of b)) is
   stands k j h =
-      block_at place 0 blocks listings i b is (from + k) from k (led (displacement (from + k) (place (other_of b))) j) there listed (omega arith) refl
-      (read_left (led_from from (place (other_of b)) is) (Beq 31 (displacement (from + length is) (place b.go)) ∷ []) k (led (displacement (from + k) (place (other_of b))) j)
+      block_at place 0 blocks listings i b is (from + k) from k (led (displacement_between (from + k) (place (other_of b))) j) there listed (omega arith) refl
+      (read_left (led_from from (place (other_of b)) is) (Beq 31 (displacement_between (from + length is) (place b.go)) ∷ []) k (led (displacement_between (from + k) (place (other_of b))) j)
       (read_led from (place (other_of b)) is k (from + k) j refl h))
 
-  pub closes : slice_get (linked blocks listings) (from + length is) ≡ Some (Beq 31 (displacement (from + length is) (place b.go)))
+  pub closes : slice_get (linked blocks listings) (from + length is) ≡ Some (Beq 31 (displacement_between (from + length is) (place b.go)))
   closes =
-      let last : Instr = Beq 31 (displacement (from + length is) (place b.go)) in
+      let last : Instr = Beq 31 (displacement_between (from + length is) (place b.go)) in
       block_at place 0 blocks listings i b is (from + length is) from (length is) last there listed (omega arith) refl
       (read_right (led_from from (place (other_of b)) is) (last ∷ []) (length is) 0 last
       (let e = length_led from (place (other_of b)) is in omega (arith, e)) refl)

@@ -11,7 +11,7 @@ use Rattle.alpha_machine.specs.States.{MachineState}
 use Rattle.alpha_machine.specs.Steps.{step, next_pc, address}
 use Rattle.alpha_machine.specs.Runs.{stepped, after, IsAllowedAt}
 use Rattle.register_assign.specs.Moved.{led}
-use Rattle.proc_link.specs.Linked.{displacement}
+use Rattle.proc_link.specs.Linked.{displacement_between}
 
 -- each branch leads to one word behind the last
 abbrev pub BranchesLeave : List Instr → Type 0
@@ -20,7 +20,7 @@ BranchesLeave is = (at : ℕ) (i : Instr) → slice_get is at ≡ Some i → IsA
 -- the list stands in the words from a place on, with its branches to another place
 abbrev pub StandsAt : List Instr → ℕ → ℕ → List Instr → Type 0
 StandsAt words from to is =
-    (k : ℕ) (i : Instr) → slice_get is k ≡ Some i → slice_get words (from + k) ≡ Some (led (displacement (from + k) to) i)
+    (k : ℕ) (i : Instr) → slice_get is k ≡ Some i → slice_get words (from + k) ≡ Some (led (displacement_between (from + k) to) i)
 
 -- the state with its pc so many words further
 abbrev pub moved : ℕ → MachineState → MachineState
@@ -33,7 +33,7 @@ pub record LeadsTo (words : List Instr) (s : MachineState) (most to : ℕ) (left
   pub state : after steps words s ≡ record { registers = left.registers; memory = left.memory; pc = 4 * to }
 
 -- a branch from place p leads to place t
-pub branch_leads : (p t : ℕ) → p < 2 ^ 29 → t < 2 ^ 29 → address (4 * p + 4) 4 (displacement p t) ≡ 4 * t
+pub branch_leads : (p t : ℕ) → p < 2 ^ 29 → t < 2 ^ 29 → address (4 * p + 4) 4 (displacement_between p t) ≡ 4 * t
 branch_leads p t lp lt = grind (arith, nat_tests, ints)
 
 -- ---- what an instruction does with the pc
@@ -80,14 +80,14 @@ module _ (d at to k : ℕ) (s : MachineState) (pc : s.pc ≡ 4 * k) (few : k < 2
   next_moved : next_pc (s.pc + 4 * d) ≡ next_pc s.pc + 4 * d
   next_moved = omega (arith, pc, few, low)
 
-  one_moved : (i : Instr) → GoesOn i s → step (led (displacement at to) i) (moved d s) ≡ moved d (step i s)
+  one_moved : (i : Instr) → GoesOn i s → step (led (displacement_between at to) i) (moved d s) ≡ moved d (step i s)
   one_moved (Operate op ra second rc) on = ap (λ p. record { registers = (step (Operate op ra second rc) s).registers; memory = s.memory; pc = p }) next_moved
   one_moved (Lda ra rb disp) on = ap (λ p. record { registers = (step (Lda ra rb disp) s).registers; memory = s.memory; pc = p }) next_moved
   one_moved (Ldah ra rb disp) on = ap (λ p. record { registers = (step (Ldah ra rb disp) s).registers; memory = s.memory; pc = p }) next_moved
   one_moved (LdqU ra rb disp) on = ap (λ p. record { registers = (step (LdqU ra rb disp) s).registers; memory = s.memory; pc = p }) next_moved
   one_moved (StqU ra rb disp) on = ap (λ p. record { registers = s.registers; memory = (step (StqU ra rb disp) s).memory; pc = p }) next_moved
   one_moved (Beq ra disp) on =
-      passes ra (displacement at to) (moved d s) on
+      passes ra (displacement_between at to) (moved d s) on
       ∙ ap (λ p. record { registers = s.registers; memory = s.memory; pc = p }) next_moved
       ∙ sym (ap (moved d) (passes ra disp s on))
 
@@ -125,7 +125,7 @@ module _ (last : (n : ℕ) (instrs : List Instr) (s : MachineState) → after (s
       let place : (alone k).pc / 4 ≡ k = omega (arith, pc) in
       last k is start ∙ ap (λ o. option_map_or (λ j. step j (alone k)) o (alone k)) (ap (slice_get is) place ∙ e)
 
-  stepped_there : (k : ℕ) (i : Instr) → IsStraight k → slice_get is k ≡ Some i → there (suc k) ≡ step (led (displacement (from + k) to) i) (moved from (alone k))
+  stepped_there : (k : ℕ) (i : Instr) → IsStraight k → slice_get is k ≡ Some i → there (suc k) ≡ step (led (displacement_between (from + k) to) i) (moved from (alone k))
   stepped_there k i h e =
       let p = h.pc in
       let place : ((alone k).pc + 4 * from) / 4 ≡ from + k = omega (arith, p) in
@@ -192,9 +192,9 @@ module _ (last : (n : ℕ) (instrs : List Instr) (s : MachineState) → after (s
         let w = within in
         let at_place : next_pc ((alone gone.at).pc + 4 * from) ≡ 4 * (from + gone.at) + 4 = omega (arith, p, w, few, low) in
         stepped_there gone.at (Beq gone.register gone.disp) gone.straight gone.is_branch
-        ∙ leaves gone.register (displacement (from + gone.at) to) (moved from (alone gone.at)) gone.zero_word
+        ∙ leaves gone.register (displacement_between (from + gone.at) to) (moved from (alone gone.at)) gone.zero_word
         ∙ ap (λ p. record { registers = (alone gone.at).registers; memory = (alone gone.at).memory; pc = p })
-        (ap (λ x. address x 4 (displacement (from + gone.at) to)) at_place ∙ branch_leads (from + gone.at) to (omega (arith, w, few, low)) low_to)
+        (ap (λ x. address x 4 (displacement_between (from + gone.at) to)) at_place ∙ branch_leads (from + gone.at) to (omega (arith, w, few, low)) low_to)
 
   -- where the listing alone falls through, so it does there
   pub falls_there : (alone (length is)).pc ≡ 4 * length is → there (length is) ≡ moved from (alone (length is))

@@ -21,12 +21,13 @@ use Rattle.goal_meaning.specs.Outcomes.{is_zero}
 use Rattle.goal_meaning.specs.Views.{TargetTree}
 use Rattle.goal_meaning.specs.declared.goals.InputReg.{InputReg}
 use Rattle.proc_goal.specs.Views.{WhenTree, BlockTree, ProcTree}
-use Rattle.proc_goal.specs.WellFormed.{IsBlock, IsGuard, IsSet, IsThere}
+use Rattle.proc_goal.specs.WellFormed.{IsGuard, IsProcBlock, IsProcTarget, IsSet}
 use Rattle.proc_goal.specs.declared.procs.Target.{Target}
 use Rattle.proc_goal.specs.declared.procs.Target.TheVariants.{Block, Done}
 use Rattle.register_assign.specs.Outcomes.{entry_state}
-use Rattle.proc_link.specs.Blocks.{BlockState, block_step, block_steps, is_left, new_memory, new_word, other_of, sets_name, step_from, through, through_at, value_now}
-use Rattle.proc_link.specs.Linked.{words_before, place_of, displacement, linked}
+use Rattle.proc_link.specs.Blocks.{BlockState, block_step, block_steps, guard_is_zero, new_state_memory, new_word, other_of, sets_name, step_from, through, through_at, value_now}
+use Rattle.proc_link.specs.Follows.{KeepsOutsideRegisters}
+use Rattle.proc_link.specs.Linked.{words_before, place_of_target, displacement_between, linked}
 use Rattle.proc_link.proofs.Does.{Does, left_in}
 use Rattle.proc_link.proofs.Finding.{found_is}
 use Rattle.proc_link.proofs.Keeping.{all_keep}
@@ -38,13 +39,13 @@ use Rattle.proc_link.proofs.Values.{value_same}
 pub record AreDone (p : ProcTree) (listings : List (List Instr)) : Type 0 where
   pub few : length p.blocks ≤ 64
   pub low : All (λ (v : InputReg). v.reg < 31) p.vars
-  pub blocks_are : All (IsBlock p.vars (length p.blocks)) p.blocks
-  pub listings_are : AllZip (Does p.vars) p.blocks listings
+  pub blocks_are : All (IsProcBlock p.vars (length p.blocks)) p.blocks
+  pub listings_are : AllZip (Does p) p.blocks listings
 
 -- the machine stands at the first word of the block, and has the variables and the memory
 pub record ShowsAt (p : ProcTree) (listings : List (List Instr)) (s : BlockState) (m : MachineState) : Type 0 where
   pub state : IsState m
-  pub pc : m.pc ≡ 4 * place_of listings s.at
+  pub pc : m.pc ≡ 4 * place_of_target listings s.at
   pub words_are : (v : InputReg) → Contains p.vars v → slice_index m.registers v.reg ≡ s.words v.name
   pub memory_is : m.memory ≡ s.memory
 
@@ -52,29 +53,30 @@ pub record LeadsOn (p : ProcTree) (listings : List (List Instr)) (m : MachineSta
   pub steps : ℕ
   pub few : steps ≤ most
   pub shows : ShowsAt p listings s (after steps (linked p.blocks listings) m)
+  pub others : KeepsOutsideRegisters p m (after steps (linked p.blocks listings) m)
 
-pub few_of : (vars : List InputReg) (bs : List BlockTree) (ls : List (List Instr)) → AllZip (Does vars) bs ls → All (λ (l : List Instr). length l ≤ 192) ls
-few_of vars [] [] h = All-nil (λ (l : List Instr). length l ≤ 192)
-few_of vars [] (l ∷ ls) h = absurd h
-few_of vars (b ∷ bs) [] h = absurd h
-few_of vars (b ∷ bs) (l ∷ ls) h = All-cons (λ (l : List Instr). length l ≤ 192) l ls h.0.few (few_of vars bs ls h.1)
+pub few_of : (p : ProcTree) (bs : List BlockTree) (ls : List (List Instr)) → AllZip (Does p) bs ls → All (λ (l : List Instr). length l ≤ 192) ls
+few_of p [] [] h = All-nil (λ (l : List Instr). length l ≤ 192)
+few_of p [] (l ∷ ls) h = absurd h
+few_of p (b ∷ bs) [] h = absurd h
+few_of p (b ∷ bs) (l ∷ ls) h = All-cons (λ (l : List Instr). length l ≤ 192) l ls h.0.few (few_of p bs ls h.1)
 
-record Listed (vars : List InputReg) (listings : List (List Instr)) (i : ℕ) (b : BlockTree) : Type 0 where
+record Listed (p : ProcTree) (listings : List (List Instr)) (i : ℕ) (b : BlockTree) : Type 0 where
   pub instrs : List Instr
   pub there : slice_get listings i ≡ Some instrs
-  pub listing : Does vars b instrs
+  pub listing : Does p b instrs
 
-listed_at : (vars : List InputReg) (blocks : List BlockTree) (listings : List (List Instr)) → AllZip (Does vars) blocks listings → (i : ℕ) (b : BlockTree) → slice_get blocks i ≡ Some b → Listed vars listings i b
-listed_at vars blocks listings h i b e = by (slice_get listings i) refl (subst (λ (o : Option BlockTree). MatchOption o (Unit {0}) (λ x. IsSomeAnd (slice_get listings i) (Does vars x))) e (AllZip-left (Does vars) blocks listings h i))
+listed_at : (p : ProcTree) (blocks : List BlockTree) (listings : List (List Instr)) → AllZip (Does p) blocks listings → (i : ℕ) (b : BlockTree) → slice_get blocks i ≡ Some b → Listed p listings i b
+listed_at p blocks listings h i b e = by (slice_get listings i) refl (subst (λ (o : Option BlockTree). MatchOption o (Unit {0}) (λ x. IsSomeAnd (slice_get listings i) (Does p x))) e (AllZip-left (Does p) blocks listings h i))
   where
-    by : (o : Option (List Instr)) → slice_get listings i ≡ o → IsSomeAnd o (Does vars b) → Listed vars listings i b
+    by : (o : Option (List Instr)) → slice_get listings i ≡ o → IsSomeAnd o (Does p b) → Listed p listings i b
     by None f k = absurd k
     by (Some is) f k = record { instrs = is; there = f; listing = k }
 
-pub other_there : (vars : List InputReg) (count : ℕ) (b : BlockTree) → IsBlock vars count b → IsThere count (other_of b)
+pub other_there : (vars : List InputReg) (count : ℕ) (b : BlockTree) → IsProcBlock vars count b → IsProcTarget count (other_of b)
 other_there vars count b fact = by b.when fact.when
   where
-    by : (o : Option WhenTree) → IfSome o (IsGuard vars count) → IsThere count (option_map_or (λ (w : WhenTree). w.other) o b.go)
+    by : (o : Option WhenTree) → IfSome o (IsGuard vars count) → IsProcTarget count (option_map_or (λ (w : WhenTree). w.other) o b.go)
     by None h = fact.go
     by (Some w) h = h.other
 
@@ -95,20 +97,20 @@ module _ (last : (n : ℕ) (instrs : List Instr) (s : MachineState) → after (s
 
   before_low : (i : ℕ) → words_before listings i ≤ 12352
   before_low i =
-      let e = few_before listings i (few_of vars blocks listings are.listings_are) in
-      let long = AllZip-long (Does vars) blocks listings are.listings_are in
+      let e = few_before listings i (few_of p blocks listings are.listings_are) in
+      let long = AllZip-long (Does p) blocks listings are.listings_are in
       let few = are.few in
       omega (arith, e, long, few)
 
-  place_low : (t : Target) → place_of listings t ≤ 12352
+  place_low : (t : Target) → place_of_target listings t ≤ 12352
   place_low (Block i) = before_low i
   place_low Done = before_low (length listings)
 
-  block_is : (i : ℕ) (b : BlockTree) → slice_get blocks i ≡ Some b → IsBlock vars (length blocks) b
-  block_is i b e = subst (IsBlock vars (length blocks)) (get_or_from_slice_get blocks i b b e) (are.blocks_are i b (slice_get_within blocks i b e))
+  block_is : (i : ℕ) (b : BlockTree) → slice_get blocks i ≡ Some b → IsProcBlock vars (length blocks) b
+  block_is i b e = subst (IsProcBlock vars (length blocks)) (get_or_from_slice_get blocks i b b e) (are.blocks_are i b (slice_get_within blocks i b e))
 
   module _ (s : BlockState) (i : ℕ) (at : s.at ≡ Block i) (b : BlockTree) (there : slice_get blocks i ≡ Some b)
-      (is : List Instr) (listed : slice_get listings i ≡ Some is) (listing : Does vars b is)
+      (is : List Instr) (listed : slice_get listings i ≡ Some is) (listing : Does p b is)
       (m : MachineState) (shows : ShowsAt p listings s m) where
     abbrev w : World
     w = record { registers = m.registers; memory_at_entry = m.memory; declared = λ name vs. 0 }
@@ -126,7 +128,7 @@ module _ (last : (n : ℕ) (instrs : List Instr) (s : MachineState) → after (s
     from = words_before listings i
 
     abbrev other : ℕ
-    other = place_of listings (other_of b)
+    other = place_of_target listings (other_of b)
 
     abbrev count : ℕ
     count = length is
@@ -137,7 +139,7 @@ module _ (last : (n : ℕ) (instrs : List Instr) (s : MachineState) → after (s
     begins : m ≡ moved from (entry_state w)
     begins =
         let p = shows.pc in
-        let e : m.pc ≡ 0 + 4 * from = p ∙ ap (λ t. 4 * place_of listings t) at ∙ omega arith in
+        let e : m.pc ≡ 0 + 4 * from = p ∙ ap (λ t. 4 * place_of_target listings t) at ∙ omega arith in
         λ j. record { registers = m.registers; memory = m.memory; pc = e j }
 
     final_state : IsState final
@@ -152,7 +154,7 @@ module _ (last : (n : ℕ) (instrs : List Instr) (s : MachineState) → after (s
     from_low : from ≤ 12352
     from_low = before_low i
 
-    block_fact : IsBlock vars (length blocks) b
+    block_fact : IsProcBlock vars (length blocks) b
     block_fact = block_is i b there
 
     -- ---- values
@@ -160,7 +162,7 @@ module _ (last : (n : ℕ) (instrs : List Instr) (s : MachineState) → after (s
     val : (t : TargetTree) → IsSet vars t → goal_value [] w t.value ≡ value_now vars s t.value
     val t h = sym (value_same vars are.low s w shows.words_are shows.memory_is t.value h.value.operators)
 
-    left_same : left_in w b ≡ is_left vars b s
+    left_same : left_in w b ≡ guard_is_zero vars b s
     left_same = by b.when block_fact.when
       where
         by : (o : Option WhenTree) → IfSome o (IsGuard vars (length blocks)) → option_map_or (λ (k : WhenTree). is_zero (goal_value [] w k.guard)) o false ≡ option_map_or (λ (k : WhenTree). is_zero (value_now vars s k.guard)) o false
@@ -182,7 +184,7 @@ module _ (last : (n : ℕ) (instrs : List Instr) (s : MachineState) → after (s
 
     -- the state behind a block's words
     abbrev behind : Target → MachineState
-    behind t = record { registers = final.registers; memory = final.memory; pc = 4 * place_of listings t }
+    behind t = record { registers = final.registers; memory = final.memory; pc = 4 * place_of_target listings t }
 
     behind_state : (t : Target) → IsState (behind t)
     behind_state t =
@@ -202,24 +204,24 @@ module _ (last : (n : ℕ) (instrs : List Instr) (s : MachineState) → after (s
         let to_low = place_low b.go in
         let place : (final.pc + 4 * from) / 4 ≡ from + count = omega (arith, pc) in
         let at_place : next_pc (final.pc + 4 * from) ≡ 4 * (from + count) + 4 = omega (arith, pc, few, low) in
-        let disp = displacement (from + count) (place_of listings b.go) in
+        let disp = displacement_between (from + count) (place_of_target listings b.go) in
         last count words m ∙ ap (stepped words) reached
         ∙ ap (λ o. option_map_or (λ j. step j (moved from final)) o (moved from final)) (ap (slice_get words) place ∙ closes blocks listings i b is there listed)
         ∙ leaves 31 disp (moved from final) final_state.zero_register
         ∙ ap (λ p. record { registers = final.registers; memory = final.memory; pc = p })
-        (ap (λ x. address x 4 disp) at_place ∙ branch_leads (from + count) (place_of listings b.go) (omega (arith, few, low)) (omega (arith, to_low)))
+        (ap (λ x. address x 4 disp) at_place ∙ branch_leads (from + count) (place_of_target listings b.go) (omega (arith, few, low)) (omega (arith, to_low)))
 
     -- the block machine's state behind the block, on each way
     abbrev left : BlockState
     left = record { words = s.words; memory = s.memory; at = other_of b }
 
     abbrev fallen : BlockState
-    fallen = record { words = new_word vars b s; memory = new_memory vars b s; at = b.go }
+    fallen = record { words = new_word vars b s; memory = new_state_memory vars b s; at = b.go }
 
-    through_is : (k : Bool) → is_left vars b s ≡ k → through vars b s ≡ (if k then left else fallen)
+    through_is : (k : Bool) → guard_is_zero vars b s ≡ k → through vars b s ≡ (if k then left else fallen)
     through_is k h = ap (λ k. if k then left else fallen) h
 
-    fall_case : is_left vars b s ≡ false → LeadsOn p listings m 193 (through vars b s)
+    fall_case : guard_is_zero vars b s ≡ false → LeadsOn p listings m 193 (through vars b s)
     fall_case h =
         let few = listing.few in
         let low = from_low in
@@ -244,9 +246,10 @@ module _ (last : (n : ℕ) (instrs : List Instr) (s : MachineState) → after (s
                 ap as_memory f.memory_is
                 ∙ pick_memory (find (sets_name (codes "M")) b.sets) w.memory_at_entry s.memory (found_is (IsSet vars) (sets_name (codes "M")) b.sets block_fact.sets) shows.memory_is;
           });
+          others = λ r no_pool outside. ap (λ m. slice_index m.registers r) e ∙ f.others r no_pool outside;
         })
 
-    exit_case : is_left vars b s ≡ true → LeadsOn p listings m 193 (through vars b s)
+    exit_case : guard_is_zero vars b s ≡ true → LeadsOn p listings m 193 (through vars b s)
     exit_case h =
         let few = listing.few in
         let low = from_low in
@@ -266,47 +269,48 @@ module _ (last : (n : ℕ) (instrs : List Instr) (s : MachineState) → after (s
             words_are = λ v has. f.words_are v has ∙ shows.words_are v has;
             memory_is = f.memory_is ∙ shows.memory_is;
           });
+          others = λ r no_pool outside. ap (λ m. slice_index m.registers r) e ∙ f.others r no_pool outside;
         })
 
-    by_guard : (left : Bool) → is_left vars b s ≡ left → LeadsOn p listings m 193 (through vars b s)
+    by_guard : (left : Bool) → guard_is_zero vars b s ≡ left → LeadsOn p listings m 193 (through vars b s)
     by_guard true h = exit_case h
     by_guard false h = fall_case h
 
     pub one_block : LeadsOn p listings m 193 (block_step p s)
-    one_block = subst (LeadsOn p listings m 193) (sym stepped_block) (by_guard (is_left vars b s) refl)
+    one_block = subst (LeadsOn p listings m 193) (sym stepped_block) (by_guard (guard_is_zero vars b s) refl)
 
-  by_target : (s : BlockState) (m : MachineState) (t : Target) → s.at ≡ t → IsThere (length blocks) t → ShowsAt p listings s m → LeadsOn p listings m 193 (block_step p s)
+  by_target : (s : BlockState) (m : MachineState) (t : Target) → s.at ≡ t → IsProcTarget (length blocks) t → ShowsAt p listings s m → LeadsOn p listings m 193 (block_step p s)
   by_target s m Done e is shows =
-      subst (LeadsOn p listings m 193) (sym (ap (λ t. step_from p t s) e)) (record { steps = 0; few = omega arith; shows = shows })
+      subst (LeadsOn p listings m 193) (sym (ap (λ t. step_from p t s) e)) (record { steps = 0; few = omega arith; shows = shows; others = λ r no_pool outside. refl })
   by_target s m (Block i) e is shows = elim ((slice_get_cases blocks i).1) [
-    | inl a ↦ (let l = listed_at vars blocks listings are.listings_are i a.0 a.2 in one_block s i e a.0 a.2 l.instrs l.there l.listing m shows)
+    | inl a ↦ (let l = listed_at p blocks listings are.listings_are i a.0 a.2 in one_block s i e a.0 a.2 l.instrs l.there l.listing m shows)
     | inr out ↦ absurd (let o = out.0 in omega (arith, o, is))
   ]
 
-  pub one_step : (s : BlockState) (m : MachineState) → IsThere (length blocks) s.at → ShowsAt p listings s m → LeadsOn p listings m 193 (block_step p s)
+  pub one_step : (s : BlockState) (m : MachineState) → IsProcTarget (length blocks) s.at → ShowsAt p listings s m → LeadsOn p listings m 193 (block_step p s)
   one_step s m is shows = by_target s m s.at refl is shows
 
   -- ---- all steps
 
   abbrev after_block : BlockTree → BlockState → Bool → BlockState
-  after_block b s left = if left then record { words = s.words; memory = s.memory; at = other_of b } else record { words = new_word vars b s; memory = new_memory vars b s; at = b.go }
+  after_block b s left = if left then record { words = s.words; memory = s.memory; at = other_of b } else record { words = new_word vars b s; memory = new_state_memory vars b s; at = b.go }
 
-  target_by : (b : BlockTree) (s : BlockState) → IsBlock vars (length blocks) b → (left : Bool) → IsThere (length blocks) (after_block b s left).at
+  target_by : (b : BlockTree) (s : BlockState) → IsProcBlock vars (length blocks) b → (left : Bool) → IsProcTarget (length blocks) (after_block b s left).at
   target_by b s fact true = other_there vars (length blocks) b fact
   target_by b s fact false = fact.go
 
-  through_target : (b : BlockTree) (s : BlockState) → IsBlock vars (length blocks) b → IsThere (length blocks) (through vars b s).at
-  through_target b s fact = target_by b s fact (is_left vars b s)
+  through_target : (b : BlockTree) (s : BlockState) → IsProcBlock vars (length blocks) b → IsProcTarget (length blocks) (through vars b s).at
+  through_target b s fact = target_by b s fact (guard_is_zero vars b s)
 
-  pub next_target : (s : BlockState) (t : Target) → s.at ≡ t → IsThere (length blocks) t → IsThere (length blocks) (step_from p t s).at
-  next_target s Done e is = subst (IsThere (length blocks)) (sym e) is
+  pub next_target : (s : BlockState) (t : Target) → s.at ≡ t → IsProcTarget (length blocks) t → IsProcTarget (length blocks) (step_from p t s).at
+  next_target s Done e is = subst (IsProcTarget (length blocks)) (sym e) is
   next_target s (Block i) e is = elim ((slice_get_cases blocks i).1) [
-    | inl a ↦ subst (λ (o : Option BlockTree). IsThere (length blocks) (through_at vars o s).at) (sym a.2) (through_target a.0 s (block_is i a.0 a.2))
+    | inl a ↦ subst (λ (o : Option BlockTree). IsProcTarget (length blocks) (through_at vars o s).at) (sym a.2) (through_target a.0 s (block_is i a.0 a.2))
     | inr out ↦ absurd (let o = out.0 in omega (arith, o, is))
   ]
 
-  pub all_steps : (n : ℕ) (s : BlockState) (m : MachineState) → IsThere (length blocks) s.at → ShowsAt p listings s m → LeadsOn p listings m (193 * n) (block_steps n p s)
-  all_steps zero s m is shows = record { steps = 0; few = omega arith; shows = shows }
+  pub all_steps : (n : ℕ) (s : BlockState) (m : MachineState) → IsProcTarget (length blocks) s.at → ShowsAt p listings s m → LeadsOn p listings m (193 * n) (block_steps n p s)
+  all_steps zero s m is shows = record { steps = 0; few = omega arith; shows = shows; others = λ r no_pool outside. refl }
   all_steps (suc n) s m is shows =
       let one = one_step s m is shows in
       let rest = all_steps n (block_step p s) (after one.steps words m) (next_target s s.at refl is) one.shows in
@@ -316,4 +320,6 @@ module _ (last : (n : ℕ) (instrs : List Instr) (s : MachineState) → after (s
         steps = one.steps + rest.steps;
         few = omega (arith, few, few_rest);
         shows = subst (ShowsAt p listings (block_steps n p (block_step p s))) (sym (sums one.steps rest.steps words m)) rest.shows;
+        others = λ r no_pool outside.
+            ap (λ m. slice_index m.registers r) (sums one.steps rest.steps words m) ∙ rest.others r no_pool outside ∙ one.others r no_pool outside;
       }

@@ -46,14 +46,14 @@ abbrev pub new_word : List InputReg → BlockTree → BlockState → List ℕ �
 new_word vars b s name =
     option_map_or (λ (t : TargetTree). as_word (value_now vars s t.value)) (find (sets_name name) b.sets) (s.words name)
 
-abbrev pub new_memory : List InputReg → BlockTree → BlockState → Memory
-new_memory vars b s =
+abbrev pub new_state_memory : List InputReg → BlockTree → BlockState → Memory
+new_state_memory vars b s =
     option_map_or (λ (t : TargetTree). as_memory (value_now vars s t.value)) (find (sets_name (codes "M")) b.sets)
     s.memory
 
 -- there is a guard, and its value is 0
-abbrev pub is_left : List InputReg → BlockTree → BlockState → Bool
-is_left vars b s = option_map_or (λ (w : WhenTree). is_zero (value_now vars s w.guard)) b.when false
+abbrev pub guard_is_zero : List InputReg → BlockTree → BlockState → Bool
+guard_is_zero vars b s = option_map_or (λ (w : WhenTree). is_zero (value_now vars s w.guard)) b.when false
 
 -- where a block leads to when its guard is 0; one without a guard never does
 abbrev pub other_of : BlockTree → Target
@@ -62,8 +62,8 @@ other_of b = option_map_or (λ (w : WhenTree). w.other) b.when b.go
 -- one block: to `other` with all else as it was, or all sets at once and to `go`
 abbrev pub through : List InputReg → BlockTree → BlockState → BlockState
 through vars b s =
-    if is_left vars b s then record { words = s.words; memory = s.memory; at = other_of b }
-    else record { words = new_word vars b s; memory = new_memory vars b s; at = b.go }
+    if guard_is_zero vars b s then record { words = s.words; memory = s.memory; at = other_of b }
+    else record { words = new_word vars b s; memory = new_state_memory vars b s; at = b.go }
 
 abbrev pub through_at : List InputReg → Option BlockTree → BlockState → BlockState
 through_at vars None s = s

@@ -1,6 +1,6 @@
 -- What listings of blocks do, and when words that are run follow the block machine.
 -- Source: this project, over Denali (PLDI 2002).
-use Rattle.std.specs.Prelude.{◌≡◌, ℕ, ◌*◌, ◌≤◌, List, length, map, slice_index, bytes_eq, find, Some, All}
+use Rattle.std.specs.Prelude.{◌≡◌, ℕ, ◌*◌, ◌≤◌, List, length, map, slice_index, bytes_eq, find, Some, All, Contains}
 use Rattle.std.specs.List.{AllZip}
 use Rattle.std.specs.Option.{option_map_or}
 use Rattle.alpha_encode.specs.Decoded.{decoded}
@@ -8,10 +8,11 @@ use Rattle.alpha_encode.specs.declared.instructions.Instr.{Instr}
 use Rattle.alpha_machine.specs.States.{MachineState, IsState}
 use Rattle.alpha_machine.specs.Runs.{after}
 use Rattle.denali_run.specs.GoalOutcomes.{Computes}
+use Rattle.goal_meaning.specs.WellFormed.{input_registers}
 use Rattle.goal_meaning.specs.declared.goals.InputReg.{InputReg}
 use Rattle.proc_goal.specs.Goals.{goal_of_block, input_of_proc}
 use Rattle.proc_goal.specs.Views.{BlockTree, ProcTree}
-use Rattle.proc_goal.specs.WellFormed.{IsThere}
+use Rattle.proc_goal.specs.WellFormed.{IsProcTarget}
 use Rattle.proc_goal.specs.declared.procs.Target.{Target}
 use Rattle.proc_goal.specs.declared.procs.Target.TheVariants.{Block, Done}
 use Rattle.register_assign.specs.Assigned.{HaveWords, MayRun}
@@ -39,18 +40,25 @@ address_of starts end Done = end
 
 -- the machine stands at the first word of the block that comes next, or at the end; each variable's register has its
 -- word, and the memory is the same
-pub record Shows (p : ProcTree) (starts : List ℕ) (end : ℕ) (s : BlockState) (m : MachineState) : Type 0 where
+pub record ShowsBlockState (p : ProcTree) (starts : List ℕ) (end : ℕ) (s : BlockState) (m : MachineState) : Type 0 where
   pub state : IsState m
   pub pc : m.pc ≡ address_of starts end s.at
   pub words : All (λ (v : InputReg). slice_index m.registers v.reg ≡ s.words v.name) p.vars
-  pub memory : m.memory ≡ s.memory
+  pub memory_is : m.memory ≡ s.memory
 
--- some number of steps, at most so many, leads to a state that shows this one
+-- each register that is neither in the proc's pool nor a variable's has the word in the new state that it had in the old
+abbrev pub KeepsOutsideRegisters : ProcTree → MachineState → MachineState → Type 0
+KeepsOutsideRegisters p old new =
+    (r : ℕ) → ¬ Contains p.pool r → ¬ Contains (input_registers p.vars) r
+    → slice_index new.registers r ≡ slice_index old.registers r
+
+-- some number of steps, at most so many, leads to a state that shows this one, and all other registers have their words
 pub record ComesTo (p : ProcTree) (starts : List ℕ) (end : ℕ) (instrs : List Instr) (m : MachineState) (most : ℕ)
     (s : BlockState) : Type 0 where
   pub steps : ℕ
   pub few : steps ≤ most
-  pub shows : Shows p starts end s (after steps instrs m)
+  pub shows : ShowsBlockState p starts end s (after steps instrs m)
+  pub others : KeepsOutsideRegisters p m (after steps instrs m)
 
 -- where the block machine begins: at the first block, each variable with the word of its register
 abbrev pub begun : ProcTree → MachineState → BlockState
@@ -63,7 +71,8 @@ begun p m = record {
 
 -- From any registers and memory with pc 0, and for each n, the words come in at most 193 n steps to where the block
 -- machine is after n steps: variables, memory, and the block or the end. And from wherever they show a state of the block
--- machine they come in at most 193 steps to the next.
+-- machine they come in at most 193 steps to the next. Registers outside of the pool and the variables keep their words on
+-- both ways.
 pub record FollowBlocks (p : ProcTree) (words starts : List ℕ) : Type 0 where
   pub instrs : List Instr
   pub decode : map decoded words ≡ map Some instrs
@@ -71,5 +80,6 @@ pub record FollowBlocks (p : ProcTree) (words starts : List ℕ) : Type 0 where
       (n : ℕ) (m : MachineState) → IsState m → m.pc ≡ 0
       → ComesTo p starts (4 * length words) instrs m (193 * n) (block_steps n p (begun p m))
   pub step :
-      (s : BlockState) (m : MachineState) → IsThere (length p.blocks) s.at → Shows p starts (4 * length words) s m
+      (s : BlockState) (m : MachineState) → IsProcTarget (length p.blocks) s.at
+      → ShowsBlockState p starts (4 * length words) s m
       → ComesTo p starts (4 * length words) instrs m 193 (block_step p s)

@@ -18,24 +18,24 @@ words_before (l ∷ ls) zero = 0
 words_before (l ∷ ls) (suc i) = length l + 1 + words_before ls i
 
 -- the place of a block's first word; the end is behind the last word
-abbrev pub place_of : List (List Instr) → Target → ℕ
-place_of listings (Block i) = words_before listings i
-place_of listings Done = words_before listings (length listings)
+abbrev pub place_of_target : List (List Instr) → Target → ℕ
+place_of_target listings (Block i) = words_before listings i
+place_of_target listings Done = words_before listings (length listings)
 
 -- the displacement of a branch at place `from` to place `to`: it counts from the word after the branch
-abbrev pub displacement : ℕ → ℕ → ℤ
-displacement from to = pos to -ℤ pos (from + 1)
+abbrev pub displacement_between : ℕ → ℕ → ℤ
+displacement_between from to = pos to -ℤ pos (from + 1)
 
 -- the instructions from a place on, with branches to another place
 abbrev pub led_from : ℕ → ℕ → List Instr → List Instr
 led_from from to [] = []
-led_from from to (i ∷ is) = led (displacement from to) i ∷ led_from (from + 1) to is
+led_from from to (i ∷ is) = led (displacement_between from to) i ∷ led_from (from + 1) to is
 
 -- the words of one block, of which the first stands at place `from`: its listing, with its branch to `other`, and a
 -- branch to `go` that is always taken
 abbrev pub block_instrs : (Target → ℕ) → ℕ → BlockTree → List Instr → List Instr
 block_instrs place from b is =
-    led_from from (place (other_of b)) is ++ Beq 31 (displacement (from + length is) (place b.go)) ∷ []
+    led_from from (place (other_of b)) is ++ Beq 31 (displacement_between (from + length is) (place b.go)) ∷ []
 
 abbrev pub linked_from : (Target → ℕ) → ℕ → List BlockTree → List (List Instr) → List Instr
 linked_from place from (b ∷ bs) (is ∷ ls) =
@@ -44,7 +44,7 @@ linked_from place from _ _ = []
 
 -- all blocks, the first from place 0 on
 abbrev pub linked : List BlockTree → List (List Instr) → List Instr
-linked blocks listings = linked_from (place_of listings) 0 blocks listings
+linked blocks listings = linked_from (place_of_target listings) 0 blocks listings
 
 -- the address of each block's first word, in bytes
 abbrev pub starts_from : ℕ → List (List Instr) → List ℕ

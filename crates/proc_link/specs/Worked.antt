@@ -40,8 +40,8 @@ step_block = record { name = codes "a"; when = None; sets = pinned (codes "p") 1
 abbrev pub step_listing : List Instr
 step_listing = Operate ops.Addq 16 (Literal 1) 16 ∷ []
 
-abbrev pub proc_of : List InputReg → BlockTree → ProcTree
-proc_of vars block = record {
+abbrev pub worked_proc : List InputReg → BlockTree → ProcTree
+worked_proc vars block = record {
   table = ev6;
   builtin = true;
   name = codes "work";
@@ -68,7 +68,7 @@ copy_block = record {
 }
 
 abbrev pub copy_proc : ProcTree
-copy_proc = proc_of (variable (codes "p") 16 ∷ variable (codes "q") 17 ∷ variable (codes "r") 18 ∷ []) copy_block
+copy_proc = worked_proc (variable (codes "p") 16 ∷ variable (codes "q") 17 ∷ variable (codes "r") 18 ∷ []) copy_block
 
 abbrev pub copy_listing : List Instr
 copy_listing =
@@ -90,7 +90,7 @@ with_registers p q r memory = record {
 -- (block swap (set p q) (set q p) (go done))
 abbrev pub exchange_proc : ProcTree
 exchange_proc =
-    proc_of (variable (codes "p") 16 ∷ variable (codes "q") 17 ∷ [])
+    worked_proc (variable (codes "p") 16 ∷ variable (codes "q") 17 ∷ [])
     (record {
       name = codes "swap";
       when = None;

@@ -11,7 +11,7 @@ use alpha_machine::steps_add_up;
 use word_ops::{meanings_are_in_range, memories_hold_words};
 
 /// Words that are the linked instructions do what the blocks say: n steps of the block machine are at most 193 n steps of
-/// the words.
+/// the words, which leave all registers alone but the variables' and those of the pool.
 pub fn linked_words_follow_the_blocks()
     ensures { (p : ProcTree) (listings : List ListingOf) (words : List ℕ) → IsProc p → AreListings p listings
         → map decoded words ≡ map Some (linked p.blocks (all_instrs listings))

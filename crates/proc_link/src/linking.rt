@@ -9,7 +9,7 @@ ghost use Rattle.proc_link.specs.Blocks as blocks;
 ghost use Rattle.proc_link.specs.Follows.{AreListings, FollowBlocks};
 ghost use Rattle.proc_link.specs.Linked as format;
 ghost use Rattle.proc_link.specs.Linked.{all_instrs, led_from, linked, starts_of};
-ghost use Rattle.proc_link.specs.Placed.{ArePlaces, CanBeLinked};
+ghost use Rattle.proc_link.specs.Placed.{AreListingPlaces, CanBeLinked};
 ghost use Rattle.register_assign.specs.Assigned.{HaveWords};
 ghost use Rattle.register_assign.specs.Moved as moved;
 ghost use Rattle.register_assign.specs.Outcomes.{instrs_of};
@@ -27,7 +27,7 @@ use std::alloc::Global;
 fn displacement(from: u32, to: u32) -> i32
     requires from { from < 2 ^ 20 }
     requires to { to < 2 ^ 20 }
-    ensures { result ≡ format.displacement from to }
+    ensures { result ≡ format.displacement_between from to }
 {
     to as i32 - (from as i32 + 1)
 }
@@ -36,7 +36,7 @@ fn displacement(from: u32, to: u32) -> i32
 fn led(instr: Instr, from: u32, to: u32) -> Instr
     requires from { from < 2 ^ 20 }
     requires to { to < 2 ^ 20 }
-    ensures { result ≡ moved.led (format.displacement from to) instr }
+    ensures { result ≡ moved.led (format.displacement_between from to) instr }
 {
     match instr {
         Instr::Beq { ra, .. } => Instr::Beq {
@@ -62,7 +62,7 @@ fn led_word(instr: Instr, from: u32, to: u32) -> u32
     requires word { IsWellFormed instr }
     requires from { from < 2 ^ 20 }
     requires to { to < 2 ^ 20 }
-    ensures { result ≡ encoded (moved.led (format.displacement from to) instr) }
+    ensures { result ≡ encoded (moved.led (format.displacement_between from to) instr) }
 {
     encode(led(instr, from, to))
 }
@@ -94,7 +94,7 @@ fn put_block(
     requires other { other < 2 ^ 20 }
     requires go { go < 2 ^ 20 }
     ensures { OnOk result (words.new.items ≡ words.old.items ++ map encoded (led_from from other (instrs_of items.now)
-        ++ instructions.Beq 31 (format.displacement (from + length items.now) go) ∷ [])) }
+        ++ instructions.Beq 31 (format.displacement_between (from + length items.now) go) ∷ [])) }
 {
     put_listing(words, from, other, items)?;
     let at = from + items.len() as u32;
@@ -111,7 +111,7 @@ fn put_blocks(
     places: &Places,
 ) -> Result<(), NoMemory>
     requires can { CanBeLinked (map block_view blocks.now) listings.now }
-    requires places { ArePlaces (all_instrs listings.now) places.now }
+    requires places { AreListingPlaces (all_instrs listings.now) places.now }
     ensures { OnOk result (words.new.items ≡ words.old.items
         ++ map encoded (linked (map block_view blocks.now) (all_instrs listings.now))) }
 {
@@ -135,7 +135,8 @@ pub fn link(alloc: Global, proc: &Proc, listings: &[Listing]) -> Result<Linked, 
         ≡ map Some (linked (proc_view proc.now).blocks (all_instrs listings.now))) }
     ensures starts { IfOk result (λ l. l.starts ≡ starts_of (all_instrs listings.now)) }
 
-    // From any registers and memory, n steps of the block machine are at most 193 n steps of the words.
+    // From any registers and memory, n steps of the block machine are at most 193 n steps of the words, which leave all
+    // registers alone but the variables' and those of the pool.
     ensures follow { IfOk result (λ l. FollowBlocks (proc_view proc.now) l.words l.starts) }
 {
     words_and_instructions();

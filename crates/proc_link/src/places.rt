@@ -1,8 +1,8 @@
 // Where the blocks' words stand.
 ghost use Rattle.std.specs.Prelude.{◌≡◌, ◌+◌, ◌*◌, ◌<◌, ◌≤◌, ◌^◌, All, IfOk, length};
-ghost use Rattle.proc_goal.specs.WellFormed.{IsThere};
+ghost use Rattle.proc_goal.specs.WellFormed.{IsProcTarget};
 ghost use Rattle.proc_link.specs.Linked as format;
-ghost use Rattle.proc_link.specs.Placed.{ArePlaces, place_in};
+ghost use Rattle.proc_link.specs.Placed.{AreListingPlaces, place_by_starts};
 ghost use Rattle.register_assign.specs.declared.listings.Listing.{Listing as ListingOf};
 
 use items::{Items, NoMemory};
@@ -21,7 +21,7 @@ pub(crate) struct Places {
 pub(crate) fn lay_out(alloc: Global, listings: &[Listing]) -> Result<Places, NoMemory>
     requires few { length listings.now ≤ 64 }
     requires short { All (λ (l : ListingOf). length l.items ≤ 192) listings.now }
-    ensures { IfOk result (ArePlaces (format.all_instrs listings.now)) }
+    ensures { IfOk result (AreListingPlaces (format.all_instrs listings.now)) }
 {
     let mut starts = Items::new(alloc);
     let mut end = 0;
@@ -34,8 +34,8 @@ pub(crate) fn lay_out(alloc: Global, listings: &[Listing]) -> Result<Places, NoM
 
 /// The place of a block's first word among the words, or that behind the last word.
 pub(crate) fn place(places: &Places, target: Target) -> u32
-    requires { IsThere (length places.now.starts) target }
-    ensures { result ≡ place_in places.now.starts places.now.end target }
+    requires { IsProcTarget (length places.now.starts) target }
+    ensures { result ≡ place_by_starts places.now.starts places.now.end target }
 {
     match target {
         Target::Block(at) => places.starts.as_slice()[at as usize] / 4,

@@ -9,7 +9,7 @@ use Rattle.goal_meaning.specs.Views.{target_view}
 use Rattle.goal_reader.specs.Roles as goal_roles
 use Rattle.goal_reader.specs.Roles.{IsFaultAs, items_of_goal}
 use Rattle.goal_reader.proofs.NewNames.{nth_part, count_form}
-use Rattle.proc_goal.specs.ProcReading.{AreSets, IsEnd, IsEndFront, IsFirstAmong, IsGuardFault, IsGuardRead}
+use Rattle.proc_goal.specs.ProcReading.{AreSets, IsEndFront, IsFirstAmong, IsGuardFault, IsGuardRead, IsLastItem}
 use Rattle.proc_goal.specs.ProcRoles as roles
 use Rattle.proc_goal.specs.ProcRoles.{IsProcFaultAs, has_list, step_role}
 use Rattle.proc_goal.specs.Views.{block_view, names_of_blocks, when_view}
@@ -290,7 +290,7 @@ returns-clause-block c =
     let rest = c.behind.result.now in
     let rest_is : sexp_forms text rest ≡ drop (length ts) (drop n items) = forms_dropped text c.len.result zs rest c.behind.ensures ∙ ap₂ drop counted steps_are in
     let go = c.in_ok-go.go in
-    let end_read = subst (λ fs. IsEnd names fs go) rest_is c.in_ok-go.ensures.end in
+    let end_read = subst (λ fs. IsLastItem names fs go) rest_is c.in_ok-go.ensures.end in
     let b = block_view (record { name = c.in_ok-name.name; when = c.in_ok-when.when; sets = c.in_ok-sets.sets; go = go }) in
     block_writes vars names form first b c.requires.head g1 (named ∙ ap Some (sym c.in_ok-name.ensures)) n f sets_read end_read
 
@@ -328,5 +328,5 @@ returns-clause-clear c =
     let rest = c.behind.result.now in
     let rest_is : sexp_forms text rest ≡ drop (length ts) (drop n items) = forms_dropped text c.len.result zs rest c.behind.ensures ∙ ap₂ drop counted steps_are in
     let go = c.in_ok-go.go in
-    let end_read = subst (λ fs. IsEnd names fs go) rest_is c.in_ok-go.ensures.end in
+    let end_read = subst (λ fs. IsLastItem names fs go) rest_is c.in_ok-go.ensures.end in
     block_clear vars names before form go_there first g1 bytes named fresh (items_clear vars names items n when f ts sets_read go end_read)

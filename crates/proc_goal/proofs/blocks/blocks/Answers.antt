@@ -20,7 +20,7 @@ use Rattle.goal_meaning.specs.Views.{TargetTree, target_view}
 use Rattle.proc_goal.specs.ProcGrammar.{WritesBlock}
 use Rattle.proc_goal.specs.ProcReading.{AreClearTo, HaveOwnNames, IsClearProc, IsFirstAmong, IsFirstAs}
 use Rattle.proc_goal.specs.ProcRoles as roles
-use Rattle.proc_goal.specs.ProcRoles.{IsProcFaultAs, item_role}
+use Rattle.proc_goal.specs.ProcRoles.{IsProcFaultAs, proc_item_role}
 use Rattle.proc_goal.specs.Views.{BlockTree, block_view, names_of_blocks}
 use Rattle.proc_goal.specs.declared.procs.Block.{Block}
 use Rattle.text_core.specs.Names.{is_among}
@@ -38,7 +38,7 @@ loop-index-init c =
       count = ap length empty;
       within = omega arith;
       each = subst (λ bs. Each (WritesBlock vars names) [] (map block_view bs)) (sym empty) grammar.none;
-      clear = λ front is. none_clear (after front (item_role names)) items;
+      clear = λ front is. none_clear (after front (proc_item_role names)) items;
       own = subst (λ bs. HaveOwnNames (map block_view bs)) (sym empty) no_blocks;
     }
 
@@ -59,7 +59,7 @@ returns-then-not-has_head-clause-fault c = λ front is.
     let of = c.sexps_are_forms.ensures.stands text c.index-items-index.result (part_of text c.args.items.now i c.index-items-index.result c.requires.of c.loop-index-test.true c.index-items-index.is) in
     let vars = c.args.vars.now in
     let names = c.args.names.now in
-    let R = after front (item_role names) in
+    let R = after front (proc_item_role names) in
     let one = other_first vars names items i form g (map block_view c.loop-index.blocks) inv.each counted front is (inv.clear front is) of.0 of.1 of.2 (sym c.has_head.ensures ∙ c.if-not-has_head.true) in
     subst (λ f. IsFaultBy (IsFirstAmong R items) f) (sym c.at.ensures) (subst (λ p. IsFirstAmong R items p BadForm) (sym (c.place.ensures text)) one)
 
@@ -77,7 +77,7 @@ returns-then-index-ge64-clause-fault c = λ front is.
     let of = c.sexps_are_forms.ensures.stands text c.index-items-index.result (part_of text c.args.items.now i c.index-items-index.result c.requires.of c.loop-index-test.true c.index-items-index.is) in
     let vars = c.args.vars.now in
     let names = c.args.names.now in
-    let R = after front (item_role names) in
+    let R = after front (proc_item_role names) in
     let one = beyond_first vars names items i form g (map block_view c.loop-index.blocks) inv.each counted front is (inv.clear front is) (sym c.has_head.ensures ∙ c.if-not-has_head.false) of.0 of.1 of.2 c.if-index-ge64.true in
     subst (λ f. IsFaultBy (IsFirstAmong R items) f) (sym c.at-then-index-ge64.ensures) (subst (λ p. IsFirstAmong R items p LimitPassed) (sym (c.place-then-index-ge64.ensures text)) one)
 
@@ -98,7 +98,7 @@ returns-in_err-one-clause-fault c =
     let l = c.if-index-ge64.false in
     let bs = map block_view c.loop-index.blocks in
     rw (p.1, p.2)
-    (λ front is. (told_as (IsFirst (IsProcFaultAs (roles.a_block vars names (names_of_blocks bs)) form)) (IsFirstAmong (after front (item_role names)) items)
+    (λ front is. (told_as (IsFirst (IsProcFaultAs (roles.a_block vars names (names_of_blocks bs)) form)) (IsFirstAmong (after front (proc_item_role names)) items)
     (λ place kind one. block_first vars names items i form g bs inv.each counted front is (inv.clear front is) (sym c.has_head.ensures ∙ c.if-not-has_head.false) place kind (omega (arith, l)) one)
     c.in_err-one.field-0.0 (subst (λ xs. IsFaultBy (IsFirst (IsProcFaultAs (roles.a_block vars names (names_of_blocks (map block_view xs))) form)) c.in_err-one.field-0.0) c.as_slice.ensures c.in_err-one.ensures.fault)))
 
@@ -153,6 +153,6 @@ returns-clause-blocks c =
     let same : i ≡ length items = omega (arith, total, above, in_all) in
     record {
       each = subst (λ fs. Each (WritesBlock vars names) fs (map block_view blocks)) (take_all i items (omega (arith, same))) inv.each;
-      clear = λ front is. subst (λ m. AreClearTo (after front (item_role names)) items m) same (inv.clear front is);
+      clear = λ front is. subst (λ m. AreClearTo (after front (proc_item_role names)) items m) same (inv.clear front is);
       own = inv.own;
     }

@@ -3,7 +3,7 @@ use Rattle.forms.specs.Forms.{Form, sexp_forms}
 use Rattle.machine_table.specs.Grammar.{Each}
 use Rattle.proc_goal.specs.ProcGrammar.{WritesBlock}
 use Rattle.proc_goal.specs.ProcReading.{AreClearTo, HaveOwnNames, IsProcFront}
-use Rattle.proc_goal.specs.ProcRoles.{item_role}
+use Rattle.proc_goal.specs.ProcRoles.{proc_item_role}
 use Rattle.proc_goal.specs.Views.{block_view}
 use Rattle.proc_goal.proofs.blocks.blocks.Given as goal
 
@@ -13,6 +13,6 @@ invariant-loop-index l = record {
   within : l.index ≤ length l.items;
   each : Each (WritesBlock l.vars l.names) (take l.index (sexp_forms l.text l.items)) (map block_view l.blocks);
   clear : (front : List Form) → IsProcFront l.vars front (sexp_forms l.text l.items)
-      → AreClearTo (λ before form. item_role l.names (front ++ before) form) (sexp_forms l.text l.items) l.index;
+      → AreClearTo (λ before form. proc_item_role l.names (front ++ before) form) (sexp_forms l.text l.items) l.index;
   own : HaveOwnNames (map block_view l.blocks);
 }

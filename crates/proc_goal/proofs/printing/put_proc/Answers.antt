@@ -2,7 +2,7 @@ use Rattle.std.proofs.Common.{◌++◌, List, [], ◌∷◌, ap, ◌∙◌, map,
 use Rattle.forms.specs.Printing.{others_of, plain_text, plains_from}
 use Rattle.goal_meaning.specs.InputForms.{pool_plain}
 use Rattle.goal_meaning.specs.declared.goals.InputReg.{InputReg}
-use Rattle.proc_goal.specs.ProcForms.{block_plain, variable_plain}
+use Rattle.proc_goal.specs.ProcForms.{block_plain, var_plain}
 use Rattle.proc_goal.specs.Views.{block_view, names_of_blocks}
 use Rattle.proc_goal.specs.declared.procs.Block.{Block}
 use Rattle.proc_goal.proofs.PrintedProcs.{behind, list_printed, proc_items}
@@ -11,7 +11,7 @@ use Rattle.proc_goal.proofs.printing.put_proc.Goals as goal
 pub returns : goal.returns
 returns c =
     let p = c.args.proc.now in
-    let vars : List InputReg → List _ = λ vs. others_of (plains_from (map variable_plain vs)) in
+    let vars : List InputReg → List _ = λ vs. others_of (plains_from (map var_plain vs)) in
     let blocks : List InputReg → List Block → List _ = λ vs bs. others_of (plains_from (map (λ (b : Block). block_plain vs (names_of_blocks (map block_view bs)) (block_view b)) bs)) in
     let pool = plain_text (pool_plain p.pool) in
     list_printed c.args.text.now.items c.extend_from_slice.new.self.items c.extend_from_slice-2.new.self.items c.put_variables.new.text.items c.put_pool.new.text.items c.put_blocks.new.text.items c.extend_from_slice-4.new.self.items

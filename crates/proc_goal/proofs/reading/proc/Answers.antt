@@ -14,7 +14,7 @@ use Rattle.goal_reader.specs.Roles.{IsFaultAs, items_of_goal}
 use Rattle.goal_reader.proofs.NewNames.{nth_part, count_form}
 use Rattle.proc_goal.specs.ProcReading.{AreBlocks, AreLeading, IsFirstAmong, IsPoolFault, IsPoolRead, IsProcFront}
 use Rattle.proc_goal.specs.ProcRoles as roles
-use Rattle.proc_goal.specs.ProcRoles.{IsProcFaultAs, block_names_in, has_list, has_variable, item_role}
+use Rattle.proc_goal.specs.ProcRoles.{IsProcFaultAs, block_names_in, has_leading_variable, has_list, proc_item_role}
 use Rattle.proc_goal.specs.Views.{block_view, proc_view}
 use Rattle.proc_goal.proofs.ProcParts.{behind_vars, blocks_fault_first, items_clear, number_of, pool_fault_first, pool_front_is}
 use Rattle.proc_goal.proofs.ProcTexts.{lacking_first, proc_clear, proc_item_first, proc_name_first}
@@ -32,7 +32,7 @@ returns-then-parts-lt3-clause-fault c =
     let is = c.in-Some.ensures.parts text in
     let count = count_form text form (place_of form) parts is in
     told (IsProcFaultAs roles.a_proc form) c.at.result c.place.result (place_of form) _ c.at.ensures (c.place.ensures text)
-    (lacking_first form s.0 s.1 s.2 (ap (λ fs. has_variable fs && has_list (codes "block") fs) (drop_of_length-le (parts_of form) {i = 2} (let l = c.if-parts-lt3.true in omega (arith, count, l)))))
+    (lacking_first form s.0 s.1 s.2 (ap (λ fs. has_leading_variable fs && has_list (codes "block") fs) (drop_of_length-le (parts_of form) {i = 2} (let l = c.if-parts-lt3.true in omega (arith, count, l)))))
 
 pub is_whole-requires : goal.is_whole-requires
 is_whole-requires c =
@@ -59,7 +59,7 @@ returns-then-not-is_whole-clause-fault c =
     let items_is = items_behind text form (place_of form) parts ys is c.behind-items.ensures in
     let all = sexps_dropped text 2 parts ys c.behind-items.ensures (c.in-Some.ensures.of text c.requires.of) in
     told (IsProcFaultAs roles.a_proc form) c.at-then-not-is_whole.result c.place-then-not-is_whole.result (place_of form) _ c.at-then-not-is_whole.ensures (c.place-then-not-is_whole.ensures text)
-    (lacking_first form s.0 s.1 s.2 (ap (λ fs. has_variable fs && has_list (codes "block") fs) items_is ∙ (sym c.is_whole.ensures ∙ c.if-not-is_whole.true)))
+    (lacking_first form s.0 s.1 s.2 (ap (λ fs. has_leading_variable fs && has_list (codes "block") fs) items_is ∙ (sym c.is_whole.ensures ∙ c.if-not-is_whole.true)))
 
 pub returns-in_err-bytes-clause-fault : goal.returns-in_err-bytes-clause-fault
 returns-in_err-bytes-clause-fault c =
@@ -73,8 +73,8 @@ returns-in_err-bytes-clause-fault c =
     let items = items_of_goal form in
     let items_is = items_behind text form (place_of form) parts ys is c.behind-items.ensures in
     let all = sexps_dropped text 2 parts ys c.behind-items.ensures (c.in-Some.ensures.of text c.requires.of) in
-    let both : (has_variable items && has_list (codes "block") items) ≡ true = ap (λ fs. has_variable fs && has_list (codes "block") fs) items_is ∙ (sym c.is_whole.ensures ∙ c.if-not-is_whole.false) in
-    let there = and_parts (has_variable items) (has_list (codes "block") items) both in
+    let both : (has_leading_variable items && has_list (codes "block") items) ≡ true = ap (λ fs. has_leading_variable fs && has_list (codes "block") fs) items_is ∙ (sym c.is_whole.ensures ∙ c.if-not-is_whole.false) in
+    let there = and_parts (has_leading_variable items) (has_list (codes "block") items) both in
     let first = sexp_form text c.index-parts-1.result in
     let g1 = nth_part text form (place_of form) parts 1 c.index-parts-1.result is (let f = c.if-parts-lt3.false in omega (arith, f)) c.index-parts-1.is in
     rw (p.1, p.2)
@@ -119,8 +119,8 @@ returns-in_err-vars-clause-fault c =
     let items = items_of_goal form in
     let items_is = items_behind text form (place_of form) parts ys is c.behind-items.ensures in
     let all = sexps_dropped text 2 parts ys c.behind-items.ensures (c.in-Some.ensures.of text c.requires.of) in
-    let both : (has_variable items && has_list (codes "block") items) ≡ true = ap (λ fs. has_variable fs && has_list (codes "block") fs) items_is ∙ (sym c.is_whole.ensures ∙ c.if-not-is_whole.false) in
-    let there = and_parts (has_variable items) (has_list (codes "block") items) both in
+    let both : (has_leading_variable items && has_list (codes "block") items) ≡ true = ap (λ fs. has_leading_variable fs && has_list (codes "block") fs) items_is ∙ (sym c.is_whole.ensures ∙ c.if-not-is_whole.false) in
+    let there = and_parts (has_leading_variable items) (has_list (codes "block") items) both in
     let first = sexp_form text c.index-parts-1.result in
     let g1 = nth_part text form (place_of form) parts 1 c.index-parts-1.result is (let f = c.if-parts-lt3.false in omega (arith, f)) c.index-parts-1.is in
     let bytes = c.in_ok-bytes.bytes.now in
@@ -128,8 +128,8 @@ returns-in_err-vars-clause-fault c =
     let names = block_names_in items in
     let fault = c.in_err-vars.ensures.fault names in
     rw (p.1, p.2)
-    (told_as (IsFirstAmong (item_role names) (sexp_forms text ys)) (IsFirst (IsProcFaultAs roles.a_proc form))
-    (λ k kind one. proc_item_first form there.0 there.1 first g1 bytes named s.0 s.1 k kind s.2 (subst (λ fs. IsFirstAmong (item_role names) fs k kind) (sym items_is) one)) c.in_err-vars.field-0.0 fault)
+    (told_as (IsFirstAmong (proc_item_role names) (sexp_forms text ys)) (IsFirst (IsProcFaultAs roles.a_proc form))
+    (λ k kind one. proc_item_first form there.0 there.1 first g1 bytes named s.0 s.1 k kind s.2 (subst (λ fs. IsFirstAmong (proc_item_role names) fs k kind) (sym items_is) one)) c.in_err-vars.field-0.0 fault)
 
 pub first_pool-requires : goal.first_pool-requires
 first_pool-requires c =
@@ -156,8 +156,8 @@ returns-in_err-given-clause-fault c =
     let items = items_of_goal form in
     let items_is = items_behind text form (place_of form) parts ys is c.behind-items.ensures in
     let all = sexps_dropped text 2 parts ys c.behind-items.ensures (c.in-Some.ensures.of text c.requires.of) in
-    let both : (has_variable items && has_list (codes "block") items) ≡ true = ap (λ fs. has_variable fs && has_list (codes "block") fs) items_is ∙ (sym c.is_whole.ensures ∙ c.if-not-is_whole.false) in
-    let there = and_parts (has_variable items) (has_list (codes "block") items) both in
+    let both : (has_leading_variable items && has_list (codes "block") items) ≡ true = ap (λ fs. has_leading_variable fs && has_list (codes "block") fs) items_is ∙ (sym c.is_whole.ensures ∙ c.if-not-is_whole.false) in
+    let there = and_parts (has_leading_variable items) (has_list (codes "block") items) both in
     let first = sexp_form text c.index-parts-1.result in
     let g1 = nth_part text form (place_of form) parts 1 c.index-parts-1.result is (let f = c.if-parts-lt3.false in omega (arith, f)) c.index-parts-1.is in
     let bytes = c.in_ok-bytes.bytes.now in
@@ -229,8 +229,8 @@ returns-in_err-blocks-clause-fault c =
     let items = items_of_goal form in
     let items_is = items_behind text form (place_of form) parts ys is c.behind-items.ensures in
     let all = sexps_dropped text 2 parts ys c.behind-items.ensures (c.in-Some.ensures.of text c.requires.of) in
-    let both : (has_variable items && has_list (codes "block") items) ≡ true = ap (λ fs. has_variable fs && has_list (codes "block") fs) items_is ∙ (sym c.is_whole.ensures ∙ c.if-not-is_whole.false) in
-    let there = and_parts (has_variable items) (has_list (codes "block") items) both in
+    let both : (has_leading_variable items && has_list (codes "block") items) ≡ true = ap (λ fs. has_leading_variable fs && has_list (codes "block") fs) items_is ∙ (sym c.is_whole.ensures ∙ c.if-not-is_whole.false) in
+    let there = and_parts (has_leading_variable items) (has_list (codes "block") items) both in
     let first = sexp_form text c.index-parts-1.result in
     let g1 = nth_part text form (place_of form) parts 1 c.index-parts-1.result is (let f = c.if-parts-lt3.false in omega (arith, f)) c.index-parts-1.is in
     let bytes = c.in_ok-bytes.bytes.now in
@@ -252,10 +252,10 @@ returns-in_err-blocks-clause-fault c =
     let found : c.as_slice-3.result.now ≡ names = c.as_slice-3.ensures ∙ c.in_ok-names.ensures.names ∙ ap block_names_in (sym items_is) in
     let front = take (length vars) items ++ take m (behind_vars items vars v) in
     let is_front = subst (λ (vs : List InputReg). IsProcFront vs front (sexp_forms text us)) (sym c.as_slice-2.ensures) (subst (IsProcFront vars front) (sym rest_is) f.front) in
-    let fault = subst (λ ns. IsFaultBy (IsFirstAmong (after front (item_role ns)) (sexp_forms text us)) c.in_err-blocks.field-0.0) found (c.in_err-blocks.ensures.fault front is_front) in
+    let fault = subst (λ ns. IsFaultBy (IsFirstAmong (after front (proc_item_role ns)) (sexp_forms text us)) c.in_err-blocks.field-0.0) found (c.in_err-blocks.ensures.fault front is_front) in
     rw (p.1, p.2)
-    (told_as (IsFirstAmong (after front (item_role names)) (sexp_forms text us)) (IsFirst (IsProcFaultAs roles.a_proc form))
-    (λ k kind one. proc_item_first form there.0 there.1 first g1 bytes named s.0 s.1 k kind s.2 (blocks_fault_first items vars v m given f names k kind (subst (λ fs. IsFirstAmong (after front (item_role names)) fs k kind) rest_is one))) c.in_err-blocks.field-0.0 fault)
+    (told_as (IsFirstAmong (after front (proc_item_role names)) (sexp_forms text us)) (IsFirst (IsProcFaultAs roles.a_proc form))
+    (λ k kind one. proc_item_first form there.0 there.1 first g1 bytes named s.0 s.1 k kind s.2 (blocks_fault_first items vars v m given f names k kind (subst (λ fs. IsFirstAmong (after front (proc_item_role names)) fs k kind) rest_is one))) c.in_err-blocks.field-0.0 fault)
 
 pub returns-clause-proc : goal.returns-clause-proc
 returns-clause-proc c =
@@ -268,8 +268,8 @@ returns-clause-proc c =
     let items = items_of_goal form in
     let items_is = items_behind text form (place_of form) parts ys is c.behind-items.ensures in
     let all = sexps_dropped text 2 parts ys c.behind-items.ensures (c.in-Some.ensures.of text c.requires.of) in
-    let both : (has_variable items && has_list (codes "block") items) ≡ true = ap (λ fs. has_variable fs && has_list (codes "block") fs) items_is ∙ (sym c.is_whole.ensures ∙ c.if-not-is_whole.false) in
-    let there = and_parts (has_variable items) (has_list (codes "block") items) both in
+    let both : (has_leading_variable items && has_list (codes "block") items) ≡ true = ap (λ fs. has_leading_variable fs && has_list (codes "block") fs) items_is ∙ (sym c.is_whole.ensures ∙ c.if-not-is_whole.false) in
+    let there = and_parts (has_leading_variable items) (has_list (codes "block") items) both in
     let first = sexp_form text c.index-parts-1.result in
     let g1 = nth_part text form (place_of form) parts 1 c.index-parts-1.result is (let f = c.if-parts-lt3.false in omega (arith, f)) c.index-parts-1.is in
     let bytes = c.in_ok-bytes.bytes.now in
@@ -307,8 +307,8 @@ returns-clause-clear c =
     let items = items_of_goal form in
     let items_is = items_behind text form (place_of form) parts ys is c.behind-items.ensures in
     let all = sexps_dropped text 2 parts ys c.behind-items.ensures (c.in-Some.ensures.of text c.requires.of) in
-    let both : (has_variable items && has_list (codes "block") items) ≡ true = ap (λ fs. has_variable fs && has_list (codes "block") fs) items_is ∙ (sym c.is_whole.ensures ∙ c.if-not-is_whole.false) in
-    let there = and_parts (has_variable items) (has_list (codes "block") items) both in
+    let both : (has_leading_variable items && has_list (codes "block") items) ≡ true = ap (λ fs. has_leading_variable fs && has_list (codes "block") fs) items_is ∙ (sym c.is_whole.ensures ∙ c.if-not-is_whole.false) in
+    let there = and_parts (has_leading_variable items) (has_list (codes "block") items) both in
     let first = sexp_form text c.index-parts-1.result in
     let g1 = nth_part text form (place_of form) parts 1 c.index-parts-1.result is (let f = c.if-parts-lt3.false in omega (arith, f)) c.index-parts-1.is in
     let bytes = c.in_ok-bytes.bytes.now in

@@ -8,7 +8,7 @@ use Rattle.forms.specs.Forms.{Form, Forms, Stand, forms_of, forms_from, forms_li
 use Rattle.forms.specs.Reading.{IsFirstReadFault, IsSexpOf}
 use Rattle.forms.proofs.Told.{told_as}
 use Rattle.goal_reader.proofs.TextEnd.{forms_map, forms_are}
-use Rattle.proc_goal.specs.ProcGrammar.{IsFirstProcFault, ReadsProc, WritesText, in_passes, in_forms}
+use Rattle.proc_goal.specs.ProcGrammar.{IsFirstProcFault, ReadsProc, WritesProcText, in_passes, in_forms}
 use Rattle.proc_goal.specs.ProcRoles.{IsProcTextFault}
 use Rattle.proc_goal.specs.Views.{proc_view}
 use Rattle.proc_goal.specs.declared.procs.Proc.{Proc}
@@ -38,8 +38,8 @@ returns-clause-proc c =
     let text = c.args.bytes.now in
     let sexps = c.in_ok-forms.forms.items in
     let same : sexp_forms text c.deref.result.now ≡ forms_list (forms_of text (sexp_trees sexps)) = ap (sexp_forms text) c.deref.ensures.value ∙ sym (forms_are text sexps) in
-    ok_as (λ (p : Proc). WritesText (sexp_forms text c.deref.result.now) (proc_view p)) (λ (p : Proc). ReadsProc text (proc_view p))
-    (λ p w. record { trees = sexp_trees sexps; has = c.in_ok-forms.ensures.trees; written = subst (λ (fs : List Form). WritesText fs (proc_view p)) same w }) c.read_forms.result c.read_forms.ensures.written
+    ok_as (λ (p : Proc). WritesProcText (sexp_forms text c.deref.result.now) (proc_view p)) (λ (p : Proc). ReadsProc text (proc_view p))
+    (λ p w. record { trees = sexp_trees sexps; has = c.in_ok-forms.ensures.trees; written = subst (λ (fs : List Form). WritesProcText fs (proc_view p)) same w }) c.read_forms.result c.read_forms.ensures.written
 
 pub returns-clause-clear : goal.returns-clause-clear
 returns-clause-clear c =

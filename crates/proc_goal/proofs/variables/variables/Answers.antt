@@ -17,7 +17,7 @@ use Rattle.machine_table.specs.Roles.{has_head}
 use Rattle.goal_reader.specs.Roles.{IsFaultAs, a_list, input}
 use Rattle.proc_goal.specs.ProcGrammar.{WritesVariable}
 use Rattle.proc_goal.specs.ProcReading.{AreClearTo, AreLeading, AreVariables, IsFirstAmong}
-use Rattle.proc_goal.specs.ProcRoles.{item_role}
+use Rattle.proc_goal.specs.ProcRoles.{proc_item_role}
 use Rattle.proc_goal.proofs.Sequences.{none_clear}
 use Rattle.proc_goal.proofs.VariableSteps.{beyond_first, more_variables, no_variables, variable_clear, variable_first, variable_more}
 use Rattle.proc_goal.proofs.variables.variables.Goals as goal
@@ -31,7 +31,7 @@ loop-index-init c =
       few = omega arith;
       within = omega arith;
       each = subst (λ vs. Each WritesVariable [] vs) (sym empty) grammar.none;
-      clear = λ names. none_clear (item_role names) items;
+      clear = λ names. none_clear (proc_item_role names) items;
       keep = subst AreVariables (sym empty) no_variables;
     }
 
@@ -54,7 +54,7 @@ returns-then-not-has_head-clause-variables c =
     record {
       within = omega (arith, count, total, below);
       each = subst (λ n. Each WritesVariable (take n items) vars) (sym count) inv.each;
-      clear = λ names. subst (λ n. AreClearTo (item_role names) items n) (sym count) (inv.clear names);
+      clear = λ names. subst (λ n. AreClearTo (proc_item_role names) items n) (sym count) (inv.clear names);
       keep = inv.keep;
       few = omega (arith, count, few);
       ends = λ f got. subst (λ (x : Form). has_head (codes "var") x ≡ false) (same_Some form f (sym g ∙ ap (slice_get items) (sym count) ∙ got)) (sym c.has_head.ensures ∙ c.if-not-has_head.true);
@@ -73,7 +73,7 @@ returns-then-index-ge16-clause-fault c = λ names.
     let counted : length (take i items) ≡ i = length-take-le i items (omega (arith, total, below)) in
     let of = c.sexps_are_forms.ensures.stands text c.index-items-index.result (part_of text c.args.items.now i c.index-items-index.result c.requires.of c.loop-index-test.true c.index-items-index.is) in
     let one = beyond_first items i form g c.loop-index.vars inv.each (sym c.has_head.ensures ∙ c.if-not-has_head.false) counted names of.0 of.1 of.2 c.if-index-ge16.true (inv.clear names) in
-    subst (λ f. IsFaultBy (IsFirstAmong (item_role names) items) f) (sym c.at.ensures) (subst (λ p. IsFirstAmong (item_role names) items p LimitPassed) (sym (c.place.ensures text)) one)
+    subst (λ f. IsFaultBy (IsFirstAmong (proc_item_role names) items) f) (sym c.at.ensures) (subst (λ p. IsFirstAmong (proc_item_role names) items p LimitPassed) (sym (c.place.ensures text)) one)
 
 pub returns-in_err-one-clause-fault : goal.returns-in_err-one-clause-fault
 returns-in_err-one-clause-fault c =
@@ -89,7 +89,7 @@ returns-in_err-one-clause-fault c =
     let counted : length (take i items) ≡ i = length-take-le i items (omega (arith, total, below)) in
     let l = c.if-index-ge16.false in
     rw (p.1, p.2)
-    (λ names. (told_as (IsFirst (IsFaultAs (a_list (input [] c.loop-index.vars)) form)) (IsFirstAmong (item_role names) items)
+    (λ names. (told_as (IsFirst (IsFaultAs (a_list (input [] c.loop-index.vars)) form)) (IsFirstAmong (proc_item_role names) items)
     (λ place kind one. variable_first items i form g c.loop-index.vars inv.each (sym c.has_head.ensures ∙ c.if-not-has_head.false) counted names place kind (omega (arith, l)) (inv.clear names) one)
     c.in_err-one.field-0.0 (subst (λ vs. IsFaultBy (IsFirst (IsFaultAs (a_list (input [] vs)) form)) c.in_err-one.field-0.0) c.as_slice.ensures c.in_err-one.ensures.fault)))
 
@@ -136,7 +136,7 @@ returns-clause-variables c =
     record {
       within = omega (arith, count, total, above, inv.within);
       each = subst (λ n. Each WritesVariable (take n items) vars) (sym count) inv.each;
-      clear = λ names. subst (λ n. AreClearTo (item_role names) items n) (sym count) (inv.clear names);
+      clear = λ names. subst (λ n. AreClearTo (proc_item_role names) items n) (sym count) (inv.clear names);
       keep = inv.keep;
       few = omega (arith, count, few);
       ends = λ f got. absurd (omega (arith, count, total, above, got_within items (length vars) f got));
