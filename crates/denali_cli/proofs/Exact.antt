@@ -19,12 +19,16 @@ use Rattle.least_launch.specs.TailedAnswers.{IsTailedFault, ReadsTailed}
 use Rattle.least_launch.specs.declared.tails.Tail.{Tail}
 use Rattle.proc_goal.specs.ProcGrammar.{IsFirstProcFault, ReadsProc}
 use Rattle.proc_goal.specs.Views.{ProcTree}
+use Rattle.answer_texts.specs.declared.answers.Claimed.{Claimed}
+use Rattle.clause_texts.specs.GoalClauses.{AreClausesAt, AreClausesOf, given, no_goal, of_goal, too_large, without_graph}
+use Rattle.cycle_encoding.specs.declared.encodings.Encoding.{Encoding}
+use Rattle.machine_table.specs.declared.tables.Table.{Table}
 use Rattle.refute_trim.specs.TrimmedAnswers.{IsTrimReport, rejected, trimmed}
 use Rattle.denali_cli.specs.Outcomes.{IsReported}
 use Rattle.denali_cli.specs.Replies.{IsFaultFor, IsPastLimit, IsReadFor, IsWithinLimit, Reply, Reports, answered}
 use Rattle.denali_cli.specs.Replies.{fault_line, faulty, limit_of, too_long, too_long_line}
 use Rattle.code_check.specs.CodeGrammar.{CheckedTree, IsFirstCodesFault, ReadsCodes}
-use Rattle.denali_cli.specs.Commands.{Command, Solve, SolveLeast, Proc, Check, CheckLeast, Trim, Verify, Run, Gen}
+use Rattle.denali_cli.specs.Commands.{Command, Solve, SolveLeast, Proc, Check, CheckLeast, Trim, Verify, Run, Gen, Cnf}
 use Rattle.denali_cli.specs.VerifiedTexts.{told_status}
 
 -- ---- the status of results
@@ -64,6 +68,18 @@ trim_reports : (a : AnswerText) (bytes : List ℕ) {status : Status} → IsTrimR
 trim_reports a bytes (trimmed whole is) = tt
 trim_reports a bytes (rejected at goals each there bad is) = tt
 
+-- the status of clauses
+clauses_of_report : {e : Encoding} {table : Table} {c : Claimed} {k : ℕ} {bytes : List ℕ} {status : Status}
+    → AreClausesOf e table c k bytes status → IsReported status
+clauses_of_report (given graph formula within is done) = subst IsReported (sym done) tt
+clauses_of_report (too_large graph formula passes is missing) = subst IsReported (sym missing) tt
+clauses_of_report (without_graph none is missing) = subst IsReported (sym missing) tt
+
+clauses_report : {a : AnswerText} {at k : ℕ} {bytes : List ℕ} {status : Status} → AreClausesAt a at k bytes status
+    → IsReported status
+clauses_report (of_goal there are) = clauses_of_report are
+clauses_report (no_goal past is missing) = subst IsReported (sym missing) tt
+
 -- the status of codes
 told_reports : (unknown no_world : Bool) → IsReported (told_status unknown no_world)
 told_reports true true = tt
@@ -88,6 +104,7 @@ reports_report (Verify rounds nodes) text written status a =
     subst IsReported (sym a.status_is) (told_reports a.unknown a.no_world)
 reports_report Run text written status a = subst IsReported (sym a.done) tt
 reports_report (Gen size) text written status a = line_reports size a.answered written status a.line
+reports_report (Cnf goal cycles) text written status a = clauses_report a.clauses
 
 -- what was reported on has a reading
 reports_read : (command : Command) (text written : List ℕ) (status : Status) → Reports command text written status
@@ -101,6 +118,7 @@ reports_read Trim text written status a = (a.answer, a.reads)
 reports_read (Verify rounds nodes) text written status a = (a.told.checked, a.told.reads)
 reports_read Run text written status a = (a.program, a.reads)
 reports_read (Gen size) text written status a = tt
+reports_read (Cnf goal cycles) text written status a = (a.answer, a.reads)
 
 fault_is_none : (status : Status) → status ≡ ReadFault → IsReported status → ⊥
 fault_is_none status is reported = subst IsReported is reported
@@ -158,6 +176,7 @@ module _ (laws : Laws) where
       laws.codes_apart text read.0 place kind (few_bytes text (within 1048576 refl)) read.1 first
   apart Run text place kind within read first = laws.programs_apart text read.0 place kind read.1 first
   apart (Gen size) text place kind within read first = absurd first
+  apart (Cnf goal cycles) text place kind within read first = laws.answers_apart text read.0 place kind read.1 first
 
   once : (command : Command) (text : List ℕ) (place other : ℕ) (kind another : Kind)
       → IsFaultFor command text place kind → IsFaultFor command text other another
@@ -171,6 +190,7 @@ module _ (laws : Laws) where
   once (Verify rounds nodes) text place other kind another f g = laws.codes_once text place other kind another f g
   once Run text place other kind another f g = laws.programs_once text place other kind another f g
   once (Gen size) text place other kind another f g = absurd f
+  once (Cnf goal cycles) text place other kind another f g = laws.answers_once text place other kind another f g
 
   module _ (command : Command) (text written : List ℕ) (status : Status) where
     abbrev HasFault : Type 0

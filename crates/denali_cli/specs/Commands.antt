@@ -2,7 +2,7 @@
 use Rattle.std.specs.Prelude.{◌≤◌}
 use Rattle.denali_run.specs.MatchedGoals.{IsSettings}
 pub use Rattle.denali_cli.specs.declared.commands.Command.{Command}
-pub use Rattle.denali_cli.specs.declared.commands.Command.TheVariants.{Solve, SolveLeast, Proc, Check, CheckLeast, Trim, Verify, Run, Gen}
+pub use Rattle.denali_cli.specs.declared.commands.Command.TheVariants.{Solve, SolveLeast, Proc, Check, CheckLeast, Trim, Verify, Run, Gen, Cnf}
 
 -- its numbers are within their limits
 abbrev pub HasValuesInRange : Command → Type 0
@@ -15,3 +15,4 @@ HasValuesInRange Trim = Unit {0}
 HasValuesInRange (Verify rounds nodes) = (rounds ≤ 16) × ((1 ≤ nodes) × (nodes ≤ 4096))
 HasValuesInRange Run = Unit {0}
 HasValuesInRange (Gen size) = (1 ≤ size) × (size ≤ 20)
+HasValuesInRange (Cnf goal cycles) = ((1 ≤ goal) × (goal ≤ 64)) × (cycles ≤ 24)

@@ -42,6 +42,16 @@ size_value = number_within 1 20
 abbrev pub default_size : ℕ
 default_size = 10
 
+-- the number of a goal in an answer
+abbrev pub goal_number_value : List ℕ → Option ℕ
+goal_number_value = number_within 1 64
+
+abbrev pub default_goal : ℕ
+default_goal = 1
+
+abbrev pub default_cycles : ℕ
+default_cycles = 8
+
 -- ---- the options of `solve`
 
 abbrev pub no_options : Options
@@ -69,7 +79,7 @@ abbrev pub settings_of : Options → Settings
 settings_of o = record {
   rounds = unwrap_or o.rounds default_rounds;
   nodes = unwrap_or o.nodes default_nodes;
-  cycles = unwrap_or o.cycles 8;
+  cycles = unwrap_or o.cycles default_cycles;
   conflicts = unwrap_or o.conflicts 20000;
   pick = unwrap_or o.pick First;
 }

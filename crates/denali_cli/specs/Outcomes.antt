@@ -73,7 +73,7 @@ IsReported _ = ⊥
 -- The input is within the command's limit, and the command's report on it was written: for `solve` the lines of right
 -- results of its goals, for `check` the lines of the verdicts on an answer, for `trim` the answer with its refutations
 -- trimmed or the line of a rejected goal, for `verify` the lines of codes, for `run` how its program ends, for `gen` the
--- line of a right result of its goal.
+-- line of a right result of its goal, for `cnf` the clauses of a goal in an answer.
 pub record Works (command : Command) (left left' written written' : Option (List ℕ)) (status : Status) : Type 0 where
   pub text : List ℕ
   pub bytes : List ℕ

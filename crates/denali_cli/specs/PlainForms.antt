@@ -4,9 +4,9 @@ use Rattle.std.specs.Prelude.{List, ℕ, Bool, true, [], ◌∷◌, None, Some, 
 use Rattle.std.specs.Option.{option_and_then, option_map}
 use Rattle.std.specs.declared.option.Option.{Option}
 use Rattle.std.specs.Str.{bytes_eq}
-use Rattle.denali_cli.specs.Commands.{Command, Solve, SolveLeast, Proc, Check, CheckLeast, Trim, Verify, Run, Gen}
+use Rattle.denali_cli.specs.Commands.{Command, Solve, SolveLeast, Proc, Check, CheckLeast, Trim, Verify, Run, Gen, Cnf}
 use Rattle.denali_cli.specs.declared.options.Options.{Options}
-use Rattle.denali_cli.specs.OptionValues.{rounds_value, nodes_value, cycles_value, conflicts_value, pick_value, no_options, settings_of, has_rounds_alone, default_rounds, default_nodes, size_value, default_size}
+use Rattle.denali_cli.specs.OptionValues.{rounds_value, nodes_value, cycles_value, conflicts_value, pick_value, no_options, settings_of, has_rounds_alone, default_rounds, default_nodes, size_value, default_size, goal_number_value, default_goal, default_cycles}
 
 -- the value for an option that wasn't set before
 abbrev pub once : {A : Type 0} → Option A → Option A → Option A
@@ -74,6 +74,44 @@ size_in (name ∷ []) = None
 size_in (name ∷ value ∷ []) = if bytes_eq name (codes "--size") then size_value value else None
 size_in (name ∷ value ∷ word ∷ words) = None
 
+-- the command of `cnf` with what is set of its two options
+abbrev pub cnf_of : Option ℕ → Option ℕ → Command
+cnf_of goal cycles = Cnf (unwrap_or goal default_goal) (unwrap_or cycles default_cycles)
+
+-- the command of `cnf` with one of its options
+abbrev pub cnf_with_one : List ℕ → List ℕ → Option Command
+cnf_with_one name value =
+    if bytes_eq name (codes "--goal") then option_map (λ goal. cnf_of (Some goal) None) (goal_number_value value)
+    else if bytes_eq name (codes "--cycles") then option_map (λ cycles. cnf_of None (Some cycles)) (cycles_value value)
+    else None
+
+-- with both, which have these values
+abbrev pub cnf_with_both : List ℕ → List ℕ → Option Command
+cnf_with_both goal cycles =
+    option_and_then (λ number. option_map (λ k. cnf_of (Some number) (Some k)) (cycles_value cycles)) (goal_number_value goal)
+
+-- with two options
+abbrev pub cnf_with_two : List ℕ → List ℕ → List ℕ → List ℕ → Option Command
+cnf_with_two name value other more =
+    if bytes_eq name (codes "--goal")
+    then (if bytes_eq other (codes "--cycles") then cnf_with_both value more else None)
+    else if bytes_eq name (codes "--cycles")
+    then (if bytes_eq other (codes "--goal") then cnf_with_both more value else None)
+    else None
+
+-- with an option, its value, and these words behind them
+abbrev pub cnf_with_more : List ℕ → List ℕ → List (List ℕ) → Option Command
+cnf_with_more name value [] = cnf_with_one name value
+cnf_with_more name value (other ∷ []) = None
+cnf_with_more name value (other ∷ more ∷ []) = cnf_with_two name value other more
+cnf_with_more name value (other ∷ more ∷ word ∷ words) = None
+
+-- the command of `cnf` with these words behind it
+abbrev pub plain_cnf : List (List ℕ) → Option Command
+plain_cnf [] = Some (cnf_of None None)
+plain_cnf (name ∷ []) = None
+plain_cnf (name ∷ value ∷ words) = cnf_with_more name value words
+
 -- the command of `verify` with these options, which are those of rounds
 abbrev pub verify_of : Options → Option Command
 verify_of o =
@@ -97,4 +135,6 @@ plain_command (name ∷ words) =
     then alone Run words
     else if bytes_eq name (codes "gen")
     then option_map (λ size. Gen size) (size_in words)
+    else if bytes_eq name (codes "cnf")
+    then plain_cnf words
     else None

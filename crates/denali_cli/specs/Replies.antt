@@ -1,6 +1,6 @@
 -- What a command and the bytes read are answered by.
 -- Source: this project.
-use Rattle.std.specs.Prelude.{◌≡◌, ℕ, ◌<◌, ◌≤◌, List, ◌++◌, length, Option, None, Some, codes, decimal}
+use Rattle.std.specs.Prelude.{◌≡◌, ℕ, ◌-◌, ◌<◌, ◌≤◌, List, ◌++◌, length, Option, None, Some, codes, decimal}
 use Rattle.answer_texts.specs.ReadAnswers.{IsAnswerFault, ReadsAnswer}
 use Rattle.answer_texts.specs.declared.answers.AnswerText.{AnswerText}
 use Rattle.goal_reader.specs.Grammar.{IsFirstTextFault, Reads}
@@ -24,9 +24,10 @@ use Rattle.least_launch.specs.declared.tails.Tail.{Tail}
 use Rattle.proc_goal.specs.ProcGrammar.{IsFirstProcFault, ReadsProc}
 use Rattle.proc_goal.specs.Views.{ProcTree}
 use Rattle.proc_link.specs.ProcAnswers.{AnswersProc}
+use Rattle.clause_texts.specs.GoalClauses.{GivesClauses}
 use Rattle.refute_trim.specs.TrimmedAnswers.{TrimsText}
 use Rattle.code_check.specs.CodeGrammar.{CheckedTree, IsFirstCodesFault, ReadsCodes}
-use Rattle.denali_cli.specs.Commands.{Command, Solve, SolveLeast, Proc, Check, CheckLeast, Trim, Verify, Run, Gen}
+use Rattle.denali_cli.specs.Commands.{Command, Solve, SolveLeast, Proc, Check, CheckLeast, Trim, Verify, Run, Gen, Cnf}
 use Rattle.denali_cli.specs.VerifiedTexts.{VerifiesText}
 
 -- how many bytes a command reads at most, if it reads; an answer may be long
@@ -40,6 +41,7 @@ limit_of Trim = Some 268435456
 limit_of (Verify rounds nodes) = Some 1048576
 limit_of Run = Some 1048576
 limit_of (Gen size) = None
+limit_of (Cnf goal cycles) = Some 268435456
 
 -- the text is longer than the command reads
 abbrev pub IsPastLimit : Command → List ℕ → Type 0
@@ -72,6 +74,7 @@ IsReadFor Trim text = (answer : AnswerText) × ReadsAnswer text answer
 IsReadFor (Verify rounds nodes) text = (checked : CheckedTree) × ReadsCodes text checked
 IsReadFor Run text = (program : RunText) × ReadsRun text program
 IsReadFor (Gen size) text = Unit {0}
+IsReadFor (Cnf goal cycles) text = (answer : AnswerText) × ReadsAnswer text answer
 
 -- the text's first fault for the command
 abbrev pub IsFaultFor : Command → List ℕ → ℕ → Kind → Type 0
@@ -84,6 +87,7 @@ IsFaultFor Trim text place kind = IsAnswerFault text place kind
 IsFaultFor (Verify rounds nodes) text place kind = IsFirstCodesFault text place kind
 IsFaultFor Run text place kind = IsRunFault text place kind
 IsFaultFor (Gen size) text place kind = ⊥
+IsFaultFor (Cnf goal cycles) text place kind = IsAnswerFault text place kind
 
 -- the command's report on a text, and its status
 abbrev pub Reports : Command → List ℕ → List ℕ → Status → Type 0
@@ -96,6 +100,7 @@ Reports Trim text bytes status = TrimsText text bytes status
 Reports (Verify rounds nodes) text bytes status = VerifiesText rounds nodes text bytes status
 Reports Run text bytes status = RunsText text bytes status
 Reports (Gen size) text bytes status = AnswersGenerated size bytes status
+Reports (Cnf goal cycles) text bytes status = GivesClauses (goal - 1) cycles text bytes status
 
 -- why a command has no report on a text
 abbrev pub ErrorIs : Command → List ℕ → TextError → Type 0

@@ -7,10 +7,10 @@ use Rattle.std.specs.declared.option.Option.{Option}
 use Rattle.std.specs.Str.{bytes_eq}
 use Rattle.clap.specs.Words.{App, Kinds, Row, Rule, Text, fault_of, first_of, new_app, new_rule, subcommand_of, with_rule, with_subcommand}
 use Rattle.clap.specs.declared.builder.action.ArgAction.TheVariants.{Set, SetTrue}
-use Rattle.denali_cli.specs.Commands.{Command, Proc, Check, CheckLeast, Trim, Verify, Run, Gen}
+use Rattle.denali_cli.specs.Commands.{Command, Proc, Check, CheckLeast, Trim, Verify, Run, Gen, Cnf}
 use Rattle.denali_cli.specs.declared.options.Options.{Options}
-use Rattle.denali_cli.specs.PlainForms.{solve_of}
-use Rattle.denali_cli.specs.OptionValues.{rounds_value, nodes_value, cycles_value, conflicts_value, pick_value, settings_of, default_rounds, default_nodes, size_value, default_size}
+use Rattle.denali_cli.specs.PlainForms.{cnf_of, solve_of}
+use Rattle.denali_cli.specs.OptionValues.{rounds_value, nodes_value, cycles_value, conflicts_value, pick_value, settings_of, default_rounds, default_nodes, size_value, default_size, goal_number_value}
 
 -- ---- the program
 
@@ -43,6 +43,9 @@ verify_app = with_options (new_app (codes "verify")) (codes "rounds" ∷ codes "
 abbrev pub gen_app : App
 gen_app = with_options (new_app (codes "gen")) (codes "size" ∷ [])
 
+abbrev pub cnf_app : App
+cnf_app = with_options (new_app (codes "cnf")) (codes "goal" ∷ codes "cycles" ∷ [])
+
 -- the words are those after the program's name, and one of them is to name a subcommand
 abbrev pub of_words : App → App
 of_words a = record a { top = record a.top { no_binary_name = true; subcommand_required = true } }
@@ -53,7 +56,7 @@ with_commands a (command ∷ commands) = with_commands (with_subcommand a comman
 
 abbrev pub program : App
 program = with_commands (of_words (new_app (codes "denali")))
-    (solve_app ∷ solving_app (codes "proc") ∷ check_app ∷ new_app (codes "trim") ∷ verify_app ∷ new_app (codes "run") ∷ gen_app ∷ [])
+    (solve_app ∷ solving_app (codes "proc") ∷ check_app ∷ new_app (codes "trim") ∷ verify_app ∷ new_app (codes "run") ∷ gen_app ∷ cnf_app ∷ [])
 
 -- clap finds no fault
 abbrev pub is_taken : Kinds → Bool
@@ -115,6 +118,13 @@ abbrev pub gen_in : List Row → Option Command
 gen_in rows =
     option_map (λ size. Gen (unwrap_or size default_size)) (value_given size_value (first_of (codes "size") rows))
 
+abbrev pub cnf_in : List Row → Option Command
+cnf_in rows =
+    option_and_then (λ goal.
+    option_map (λ cycles. cnf_of goal cycles)
+    (value_given cycles_value (first_of (codes "cycles") rows)))
+    (value_given goal_number_value (first_of (codes "goal") rows))
+
 -- the command of a subcommand with these matches
 abbrev pub command_in : Text × List Row → Option Command
 command_in m =
@@ -125,6 +135,7 @@ command_in m =
     else if bytes_eq m.0 (codes "verify") then verify_in m.1
     else if bytes_eq m.0 (codes "run") then Some Run
     else if bytes_eq m.0 (codes "gen") then gen_in m.1
+    else if bytes_eq m.0 (codes "cnf") then cnf_in m.1
     else None
 
 -- the command that the words ask for as clap reads them

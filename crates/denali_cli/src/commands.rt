@@ -22,4 +22,6 @@ pub(crate) enum Command {
     Run,
     /// Solves the goal that is made from a number of operators.
     Gen(u32),
+    /// Writes the clauses for so many cycles of the goal of a number in an answer, counted from 1.
+    Cnf { goal: u32, cycles: u32 },
 }

@@ -11,6 +11,7 @@ ghost use Rattle.denali_cli.specs.Outcomes.{Decides, IsReader, IsUnread, IsWhole
 
 use crate::commands::Command;
 use crate::words::asked;
+use clause_texts::clauses_text;
 use code_check::{Told, verify_text};
 use denali_run::{Report, Status, TextError, check_text, gen_text, run_text, solve_text};
 use items::NoMemory;
@@ -92,6 +93,7 @@ fn limit_of(command: Command) -> Option<u32>
         Command::Check | Command::CheckLeast | Command::Trim => Some(ANSWER_LIMIT),
         Command::Verify { .. } | Command::Run => Some(LIMIT),
         Command::Gen(_) => None,
+        Command::Cnf { .. } => Some(ANSWER_LIMIT),
     }
 }
 
@@ -145,6 +147,7 @@ fn report_on(alloc: Global, command: Command, text: &[u8]) -> Result<Report, Tex
         Command::Verify { rounds, nodes } => verified(alloc, text, rounds, nodes),
         Command::Run => run_text(alloc, text),
         Command::Gen(size) => Ok(gen_text(alloc, size)?),
+        Command::Cnf { goal, cycles } => clauses_text(alloc, text, goal - 1, cycles),
     }
 }
 

@@ -12,4 +12,4 @@ mod worked;
 
 pub use laws::replies_are_exact;
 pub use top::run;
-pub use worked::worked_words;
+pub use worked::{refused_words, worked_words};

@@ -20,6 +20,8 @@ pub(crate) const MOST_CONFLICTS: u32 = 1_000_000;
 
 pub(crate) const MOST_SIZE: u32 = 20;
 
+pub(crate) const MOST_GOALS: u32 = 64;
+
 /// How many rounds are done at most, and up to how many rows, where no option says so.
 pub(crate) const DEFAULT_ROUNDS: u32 = 4;
 
@@ -27,6 +29,11 @@ pub(crate) const DEFAULT_NODES: u32 = 512;
 
 /// How many operators a generated goal has where no option says so.
 pub(crate) const DEFAULT_SIZE: u32 = 10;
+
+/// Which goal of an answer, and how many cycles, where no option says so.
+const DEFAULT_GOAL: u32 = 1;
+
+const DEFAULT_CYCLES: u32 = 8;
 
 /// The options that words have set.
 #[derive(Clone, Copy, Debug, PartialEq, Eq)]
@@ -182,7 +189,7 @@ pub(crate) fn settings_of(options: Options) -> Settings
     Settings {
         rounds: options.rounds.unwrap_or(DEFAULT_ROUNDS),
         nodes: options.nodes.unwrap_or(DEFAULT_NODES),
-        cycles: options.cycles.unwrap_or(8),
+        cycles: options.cycles.unwrap_or(DEFAULT_CYCLES),
         conflicts: options.conflicts.unwrap_or(20000),
         pick: options.pick.unwrap_or(Pick::First),
     }
@@ -199,5 +206,18 @@ pub(crate) fn solve_of(options: Options) -> Command
         Command::SolveLeast(settings)
     } else {
         Command::Solve(settings)
+    }
+}
+
+/// The command of `cnf` with what is set of its two options.
+pub(crate) fn cnf_of(goal: Option<u32>, cycles: Option<u32>) -> Command
+    requires goal { IfSome goal (λ n. (1 ≤ n) × (n ≤ 64)) }
+    requires cycles { IfSome cycles (λ n. n ≤ 24) }
+    ensures value { result ≡ plain.cnf_of goal cycles }
+    ensures within { HasValuesInRange result }
+{
+    Command::Cnf {
+        goal: goal.unwrap_or(DEFAULT_GOAL),
+        cycles: cycles.unwrap_or(DEFAULT_CYCLES),
     }
 }

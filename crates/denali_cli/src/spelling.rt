@@ -9,8 +9,8 @@ ghost use Rattle.denali_cli.specs.Spellings as spec;
 
 use crate::commands::Command;
 use crate::options::{
-    DEFAULT_NODES, DEFAULT_ROUNDS, DEFAULT_SIZE, MOST_CONFLICTS, MOST_CYCLES, MOST_NODES,
-    MOST_ROUNDS, MOST_SIZE, Options, pick_of, settings_of, solve_of, value_in,
+    DEFAULT_NODES, DEFAULT_ROUNDS, DEFAULT_SIZE, MOST_CONFLICTS, MOST_CYCLES, MOST_GOALS,
+    MOST_NODES, MOST_ROUNDS, MOST_SIZE, Options, cnf_of, pick_of, settings_of, solve_of, value_in,
 };
 use clap::error::ErrorKind;
 use clap::{Arg, ArgAction, ArgMatches, Command as Parser};
@@ -104,6 +104,15 @@ fn solving_commands<'a>(alloc: Global) -> Result<Parser<'a>, NoMemory>
         .subcommand(proc)
 }
 
+/// `cnf` with its options.
+fn cnf_parser<'a>(alloc: Global) -> Result<Parser<'a>, NoMemory>
+    ensures app { IfOk result (λ c. app_of c ≡ spec.cnf_app) }
+    ensures local { IfOk result (λ c. (fields_of c).has_globals ≡ false) }
+{
+    let parser = with_argument(alloc, Parser::new(alloc, "cnf"), "goal")?;
+    with_argument(alloc, parser, "cycles")
+}
+
 /// The program with the commands on goals and answers.
 fn first_commands<'a>(alloc: Global) -> Result<Parser<'a>, NoMemory>
     ensures { IfOk result (λ c. app_of c
@@ -117,17 +126,28 @@ fn first_commands<'a>(alloc: Global) -> Result<Parser<'a>, NoMemory>
         .subcommand(Parser::new(alloc, "trim"))
 }
 
+/// The program with the commands on goals, answers and codes.
+fn checking_commands<'a>(alloc: Global) -> Result<Parser<'a>, NoMemory>
+    ensures { IfOk result (λ c. app_of c
+        ≡ spec.with_commands (spec.of_words (new_app (codes "denali")))
+        (spec.solve_app ∷ spec.solving_app (codes "proc") ∷ spec.check_app ∷ new_app (codes "trim") ∷ spec.verify_app
+        ∷ new_app (codes "run") ∷ [])) }
+{
+    let first = first_commands(alloc)?;
+    let verifier = verify_parser(alloc)?;
+    first
+        .subcommand(verifier)?
+        .subcommand(Parser::new(alloc, "run"))
+}
+
 /// The program with all its commands.
 fn program<'a>(alloc: Global) -> Result<Parser<'a>, NoMemory>
     ensures { IfOk result (λ c. app_of c ≡ spec.program) }
 {
-    let first = first_commands(alloc)?;
-    let verifier = verify_parser(alloc)?;
+    let first = checking_commands(alloc)?;
     let generator = gen_parser(alloc)?;
-    first
-        .subcommand(verifier)?
-        .subcommand(Parser::new(alloc, "run"))?
-        .subcommand(generator)
+    let clauses = cnf_parser(alloc)?;
+    first.subcommand(generator)?.subcommand(clauses)
 }
 
 /// The number that an option is given, within two bounds.
@@ -236,6 +256,16 @@ fn gen_in(matches: &ArgMatches<'_>) -> Option<Command>
     Some(Command::Gen(size.unwrap_or(DEFAULT_SIZE)))
 }
 
+/// The command of `cnf` with the options that are given.
+fn cnf_in(matches: &ArgMatches<'_>) -> Option<Command>
+    ensures value { result ≡ spec.cnf_in (rows_of (found_of matches.now)) }
+    ensures within { IfSome result HasValuesInRange }
+{
+    let goal = number_given(matches, "goal", 1, MOST_GOALS)?;
+    let cycles = number_given(matches, "cycles", 0, MOST_CYCLES)?;
+    Some(cnf_of(goal, cycles))
+}
+
 /// The command that the matches name.
 fn command_in(matches: &ArgMatches<'_>) -> Option<Command>
     ensures value { result ≡ option_and_then spec.command_in (subcommand_rows_of matches.now) }
@@ -256,6 +286,8 @@ fn command_in(matches: &ArgMatches<'_>) -> Option<Command>
         Some(Command::Run)
     } else if name == "gen" {
         gen_in(matches)
+    } else if name == "cnf" {
+        cnf_in(matches)
     } else {
         None
     }

@@ -37,7 +37,8 @@ pub fn run<S: Source, T: Sink>(
     // For `verify` the input reads as goals and codes for them, and the report is a line for each code: `yes` only where
     // the code does what its goal says in each world in which the axioms and assumptions hold. For `run` the input reads
     // as a program, and the report is how it ends. For `gen` the report is the line of a right result of the goal that is
-    // made from the size.
+    // made from the size. For `cnf` the input reads as an answer, and the report is the clauses of one of its goals for so
+    // many cycles, those that `check` builds, or a line that says why there are none.
     ensures right { (command : Asked) → asked_by words.now ≡ Some command → IsReported result → Works command
         (S.left source.old) (S.left source.new) (T.written sink.old) (T.written sink.new) result }
 

@@ -9,7 +9,8 @@ ghost use Rattle.denali_cli.specs.Said.{asked_by};
 
 use crate::commands::Command;
 use crate::options::{
-    DEFAULT_NODES, DEFAULT_ROUNDS, Options, is_flag, options_of, settings_of, size_in, solve_of,
+    DEFAULT_NODES, DEFAULT_ROUNDS, MOST_CYCLES, MOST_GOALS, Options, cnf_of, is_flag, options_of,
+    settings_of, size_in, solve_of, value_in,
 };
 use crate::spelling::spelled;
 use items::NoMemory;
@@ -50,6 +51,76 @@ fn check_of(words: &[&str]) -> Option<Command>
         [name] if is_flag(name) => Some(Command::CheckLeast),
         _ => None,
     }
+}
+
+/// The command of `cnf` with one of its options.
+fn cnf_with_one(name: &str, value: &str) -> Option<Command>
+    ensures value { result ≡ plain.cnf_with_one name.now value.now }
+    ensures within { IfSome result HasValuesInRange }
+{
+    if name == "--goal" {
+        let goal = value_in(1, MOST_GOALS, value)?;
+        Some(cnf_of(Some(goal), None))
+    } else if name == "--cycles" {
+        let cycles = value_in(0, MOST_CYCLES, value)?;
+        Some(cnf_of(None, Some(cycles)))
+    } else {
+        None
+    }
+}
+
+/// The command of `cnf` with both options, which have these values.
+fn cnf_with_both(goal: &str, cycles: &str) -> Option<Command>
+    ensures value { result ≡ plain.cnf_with_both goal.now cycles.now }
+    ensures within { IfSome result HasValuesInRange }
+{
+    let goal = value_in(1, MOST_GOALS, goal)?;
+    let cycles = value_in(0, MOST_CYCLES, cycles)?;
+    Some(cnf_of(Some(goal), Some(cycles)))
+}
+
+/// The command of `cnf` with two options.
+fn cnf_with_two(name: &str, value: &str, other: &str, more: &str) -> Option<Command>
+    ensures value { result ≡ plain.cnf_with_two name.now value.now other.now more.now }
+    ensures within { IfSome result HasValuesInRange }
+{
+    if name == "--goal" {
+        if other != "--cycles" {
+            return None;
+        }
+        cnf_with_both(value, more)
+    } else if name == "--cycles" {
+        if other != "--goal" {
+            return None;
+        }
+        cnf_with_both(more, value)
+    } else {
+        None
+    }
+}
+
+/// The command of `cnf` with an option, its value, and these words behind them.
+fn cnf_with_more(name: &str, value: &str, words: &[&str]) -> Option<Command>
+    ensures value { result ≡ plain.cnf_with_more name.now value.now (map (λ word. word.now) words.now) }
+    ensures within { IfSome result HasValuesInRange }
+{
+    match words {
+        [] => cnf_with_one(name, value),
+        [other, more] => cnf_with_two(name, value, other, more),
+        _ => None,
+    }
+}
+
+/// The command of `cnf` with these words behind it.
+fn cnf_in(words: &[&str]) -> Option<Command>
+    ensures value { result ≡ plain.plain_cnf (map (λ word. word.now) words.now) }
+    ensures within { IfSome result HasValuesInRange }
+{
+    let Some((name, words)) = words.split_first() else {
+        return Some(cnf_of(None, None));
+    };
+    let (value, words) = words.split_first()?;
+    cnf_with_more(name, value, words)
 }
 
 /// The command of `verify` with these options, which are those of rounds.
@@ -94,6 +165,8 @@ fn in_plain_form(words: &[&str]) -> Option<Command>
     } else if *name == "gen" {
         let size = size_in(words)?;
         Some(Command::Gen(size))
+    } else if *name == "cnf" {
+        cnf_in(words)
     } else {
         None
     }

@@ -1,13 +1,12 @@
 // What some words ask for, by the definitions.
 ghost use Rattle.std.specs.Prelude.{◌≡◌, [], ◌∷◌, None, Some, codes};
 ghost use Rattle.denali_run.specs.declared.settings.Pick.TheVariants.{Last, Busy};
-ghost use Rattle.denali_cli.specs.Commands.{Solve, SolveLeast, Proc, Check, CheckLeast, Trim, Verify, Run, Gen};
+ghost use Rattle.denali_cli.specs.Commands.{Solve, SolveLeast, Proc, Check, CheckLeast, Trim, Verify, Run, Gen, Cnf};
 ghost use Rattle.denali_cli.specs.OptionValues.{no_options, settings_of};
 ghost use Rattle.denali_cli.specs.Said.{command_of};
 ghost use Rattle.denali_cli.specs.Spellings.{spelled_command};
 
-/// Other spellings mean what clap makes of them, and plain forms mean the same to clap; requests for help, and words
-/// that clap refuses, ask for nothing.
+/// Other spellings mean what clap makes of them, and plain forms mean the same to clap.
 pub fn worked_words()
     ensures joined { command_of (codes "solve" ∷ codes "--rounds=3" ∷ codes "--pick=first" ∷ [])
         ≡ Some (Solve (settings_of (record no_options { rounds = Some 3 }))) }
@@ -15,7 +14,6 @@ pub fn worked_words()
         ≡ Some (Solve (settings_of (record no_options { pick = Some Last }))) }
     ensures picks_busiest { command_of (codes "solve" ∷ codes "--pick=busy" ∷ [])
         ≡ Some (Solve (settings_of (record no_options { pick = Some Busy }))) }
-    ensures picks_nothing_else { command_of (codes "solve" ∷ codes "--pick" ∷ codes "middle" ∷ []) ≡ None }
     ensures mixed { command_of (codes "solve" ∷ codes "--cycles=0" ∷ codes "--nodes" ∷ codes "7" ∷ [])
         ≡ Some (Solve (settings_of (record no_options { nodes = Some 7; cycles = Some 0 }))) }
     ensures dashes { command_of (codes "solve" ∷ codes "--conflicts" ∷ codes "5" ∷ codes "--" ∷ [])
@@ -27,10 +25,8 @@ pub fn worked_words()
         ≡ Some (Proc (settings_of (record no_options { cycles = Some 9 }))) }
     ensures joined_cycles { command_of (codes "proc" ∷ codes "--cycles=9" ∷ [])
         ≡ Some (Proc (settings_of (record no_options { cycles = Some 9 }))) }
-    ensures no_flag_of_procs { command_of (codes "proc" ∷ codes "--least" ∷ []) ≡ None }
     ensures checks { command_of (codes "check" ∷ []) ≡ Some Check }
     ensures checks_least { command_of (codes "check" ∷ codes "--least" ∷ []) ≡ Some CheckLeast }
-    ensures checks_least_once { command_of (codes "check" ∷ codes "--least" ∷ codes "--least" ∷ []) ≡ None }
     ensures solves_least { command_of (codes "solve" ∷ codes "--least" ∷ []) ≡ Some (SolveLeast (settings_of no_options)) }
     ensures flag_among_pairs { command_of (codes "solve" ∷ codes "--nodes" ∷ codes "7" ∷ codes "--least" ∷ codes "--rounds" ∷ codes "3" ∷ [])
         ≡ Some (SolveLeast (settings_of (record no_options { rounds = Some 3; nodes = Some 7 }))) }
@@ -38,23 +34,39 @@ pub fn worked_words()
         ≡ Some (SolveLeast (settings_of (record no_options { rounds = Some 3 }))) }
     ensures plain_flag { spelled_command (codes "solve" ∷ codes "--rounds" ∷ codes "3" ∷ codes "--least" ∷ [])
         ≡ command_of (codes "solve" ∷ codes "--rounds" ∷ codes "3" ∷ codes "--least" ∷ []) }
-    ensures flag_twice { command_of (codes "solve" ∷ codes "--least" ∷ codes "--least" ∷ []) ≡ None }
-    ensures flag_with_value { command_of (codes "solve" ∷ codes "--least=true" ∷ []) ≡ None }
-    ensures no_flag_of_codes { command_of (codes "verify" ∷ codes "--least" ∷ []) ≡ None }
-    ensures no_option_of_checks { command_of (codes "check" ∷ codes "--cycles=3" ∷ []) ≡ None }
     ensures trims { command_of (codes "trim" ∷ []) ≡ Some Trim }
-    ensures no_option_of_trims { command_of (codes "trim" ∷ codes "--cycles=3" ∷ []) ≡ None }
     ensures verifies { command_of (codes "verify" ∷ []) ≡ Some (Verify 4 512) }
     ensures joined_rounds { command_of (codes "verify" ∷ codes "--rounds=3" ∷ []) ≡ Some (Verify 3 512) }
     ensures rounds_and_rows { command_of (codes "verify" ∷ codes "--nodes" ∷ codes "7" ∷ codes "--rounds" ∷ codes "0" ∷ [])
         ≡ Some (Verify 0 7) }
-    ensures no_cycles_of_codes { command_of (codes "verify" ∷ codes "--cycles" ∷ codes "3" ∷ []) ≡ None }
     ensures runs { command_of (codes "run" ∷ []) ≡ Some Run }
     ensures runs_behind_dashes { command_of (codes "run" ∷ codes "--" ∷ []) ≡ Some Run }
-    ensures no_option_of_runs { command_of (codes "run" ∷ codes "--rounds" ∷ codes "3" ∷ []) ≡ None }
     ensures generates { command_of (codes "gen" ∷ []) ≡ Some (Gen 10) }
     ensures generates_size { command_of (codes "gen" ∷ codes "--size" ∷ codes "3" ∷ []) ≡ Some (Gen 3) }
     ensures joined_size { command_of (codes "gen" ∷ codes "--size=3" ∷ []) ≡ Some (Gen 3) }
+    ensures clauses { command_of (codes "cnf" ∷ []) ≡ Some (Cnf 1 8) }
+    ensures clauses_of_goal { command_of (codes "cnf" ∷ codes "--goal" ∷ codes "2" ∷ []) ≡ Some (Cnf 2 8) }
+    ensures clauses_for_cycles { command_of (codes "cnf" ∷ codes "--cycles" ∷ codes "0" ∷ []) ≡ Some (Cnf 1 0) }
+    ensures clauses_of_both { command_of (codes "cnf" ∷ codes "--cycles" ∷ codes "4" ∷ codes "--goal" ∷ codes "2" ∷ [])
+        ≡ Some (Cnf 2 4) }
+    ensures joined_clauses { command_of (codes "cnf" ∷ codes "--goal=2" ∷ codes "--cycles" ∷ codes "4" ∷ [])
+        ≡ Some (Cnf 2 4) }
+{}
+
+/// Requests for help, words that clap refuses, and values out of range ask for nothing.
+pub fn refused_words()
+    ensures picks_nothing_else { command_of (codes "solve" ∷ codes "--pick" ∷ codes "middle" ∷ []) ≡ None }
+    ensures no_flag_of_procs { command_of (codes "proc" ∷ codes "--least" ∷ []) ≡ None }
+    ensures checks_least_once { command_of (codes "check" ∷ codes "--least" ∷ codes "--least" ∷ []) ≡ None }
+    ensures flag_twice { command_of (codes "solve" ∷ codes "--least" ∷ codes "--least" ∷ []) ≡ None }
+    ensures flag_with_value { command_of (codes "solve" ∷ codes "--least=true" ∷ []) ≡ None }
+    ensures no_flag_of_codes { command_of (codes "verify" ∷ codes "--least" ∷ []) ≡ None }
+    ensures no_option_of_checks { command_of (codes "check" ∷ codes "--cycles=3" ∷ []) ≡ None }
+    ensures no_option_of_trims { command_of (codes "trim" ∷ codes "--cycles=3" ∷ []) ≡ None }
+    ensures no_cycles_of_codes { command_of (codes "verify" ∷ codes "--cycles" ∷ codes "3" ∷ []) ≡ None }
+    ensures no_option_of_runs { command_of (codes "run" ∷ codes "--rounds" ∷ codes "3" ∷ []) ≡ None }
+    ensures no_goal_0 { command_of (codes "cnf" ∷ codes "--goal" ∷ codes "0" ∷ []) ≡ None }
+    ensures goal_twice { command_of (codes "cnf" ∷ codes "--goal" ∷ codes "1" ∷ codes "--goal" ∷ codes "1" ∷ []) ≡ None }
     ensures no_options_of_solve { command_of (codes "gen" ∷ codes "--rounds" ∷ codes "3" ∷ []) ≡ None }
     ensures size_below { command_of (codes "gen" ∷ codes "--size" ∷ codes "0" ∷ []) ≡ None }
     ensures size_above { command_of (codes "gen" ∷ codes "--size=21" ∷ []) ≡ None }
