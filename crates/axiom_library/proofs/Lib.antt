@@ -1,0 +1,12 @@
+pub mod Readings
+pub mod Multiples
+pub mod Extended
+pub mod Rounded
+pub mod Compared
+pub mod Masks
+pub mod Carried
+pub mod ByteBits
+pub mod ByteRows
+pub mod Truth
+pub mod Plain
+pub mod WellFormed
