@@ -1,0 +1,4 @@
+pub mod Asked
+pub mod LibraryText
+pub mod Names
+pub mod Outcomes
