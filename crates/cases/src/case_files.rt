@@ -12,6 +12,7 @@
 // too, whose wanted answer has one line. In a case `\` and two hexadecimal digits stand for a byte. Empty lines between
 // cases, and lines there that begin with `#`, say nothing.
 use crate::answers::written_by;
+use crate::library::family_text;
 use crate::reading::{split_before, split_line};
 use crate::reports::Trouble;
 use crate::subjects::{Subject, answer};
@@ -152,15 +153,14 @@ pub(crate) fn run_file(alloc: Global, text: &[u8]) -> Result<Result<u64, Failure
     Ok(Ok(count))
 }
 
-/// One case, whose wanted answer is that of a command without options.
-pub(crate) fn run_example(
+/// One case: whether what came is what was wanted.
+fn compared(
     alloc: Global,
     name: &[u8],
-    command: &[u8],
     input: Vec<u8>,
     wanted: Vec<u8>,
+    came: Vec<u8>,
 ) -> Result<Result<u64, Failure>, Trouble> {
-    let came = written_by(alloc, command, &input)?;
     if came.as_slice() == wanted.as_slice() {
         return Ok(Ok(1));
     }
@@ -170,4 +170,28 @@ pub(crate) fn run_example(
         wanted,
         came,
     }))
+}
+
+/// One case, whose wanted answer is that of a command without options.
+pub(crate) fn run_example(
+    alloc: Global,
+    name: &[u8],
+    command: &[u8],
+    input: Vec<u8>,
+    wanted: Vec<u8>,
+) -> Result<Result<u64, Failure>, Trouble> {
+    let came = written_by(alloc, command, &input)?;
+    compared(alloc, name, input, wanted, came)
+}
+
+/// One case, whose wanted answer is the text of a family.
+pub(crate) fn run_family(
+    alloc: Global,
+    name: &[u8],
+    family: &str,
+    wanted: Vec<u8>,
+) -> Result<Result<u64, Failure>, Trouble> {
+    let came = family_text(alloc, family)?;
+    let input = Vec::from_slice(alloc, family.as_bytes())?;
+    compared(alloc, name, input, wanted, came)
 }

@@ -2,7 +2,8 @@
 //!
 //! A file begins with a line `subject NAME`, which says what its cases ask; `subjects.rt` lists the subjects. A file
 //! NAME.goal is one case, and so is NAME.proc: `solve` or `proc` without options answers it as the file NAME.answer
-//! says. The first case that doesn't pass is printed whole, with what was wanted and what came, and the status is 1.
+//! says. A file FAMILY.axioms is one case too: it is what the family's name writes. The first case that doesn't pass is
+//! printed whole, with what was wanted and what came, and the status is 1.
 //!
 //! With the words `answer SUBJECT FILE` it prints what the subject answers to the bytes of a file, to be timed.
 #![tactic(auto)]
@@ -14,6 +15,7 @@ mod clauses;
 mod codes;
 mod equalities;
 mod failing;
+mod library;
 mod machine;
 mod plain_building;
 mod plain_scripts;
@@ -112,6 +114,10 @@ fn passes(rt: &HostRuntime, name: &str, said: &mut Vec<u8>) -> Result<bool, Trou
 fn outcome(rt: &HostRuntime, name: &str) -> Result<Result<u64, Failure>, Trouble> {
     let alloc = rt.alloc();
     let file = contents(rt, name).ok_or(Trouble::Unread)?;
+    if let Some(stem) = name.strip_suffix(".axioms") {
+        let family = last_part(stem);
+        return case_files::run_family(alloc, name.as_bytes(), family, file);
+    }
     let (stem, command) = if let Some(stem) = name.strip_suffix(".goal") {
         (stem, b"solve".as_slice())
     } else if let Some(stem) = name.strip_suffix(".proc") {
@@ -122,6 +128,14 @@ fn outcome(rt: &HostRuntime, name: &str) -> Result<Result<u64, Failure>, Trouble
     let beside = format!(in alloc; "{stem}.answer")?;
     let wanted = contents(rt, beside.as_str()).ok_or(Trouble::Unread)?;
     case_files::run_example(alloc, name.as_bytes(), command, file, wanted)
+}
+
+/// What stands behind the last `/`, if there is one.
+fn last_part(path: &str) -> &str {
+    match path.rsplit_once('/') {
+        Some((_, last)) => last,
+        None => path,
+    }
 }
 
 /// Prints a case that didn't pass.
