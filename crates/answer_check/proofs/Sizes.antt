@@ -1,6 +1,6 @@
 -- The counts of the clauses that a claim speaks of.
-use Rattle.std.proofs.Common.{◌≡◌, ℕ, length, Option, Some, None, Result, Ok, Err, sym, subst, IsTrue, refl}
-use Rattle.std.specs.Prelude.{IfOk, MatchOption, is_some}
+use Rattle.std.proofs.Common.{◌≡◌, ℕ, length, Option, Some, None, sym, subst, IsTrue, refl}
+use Rattle.std.specs.Prelude.{MatchOption, is_some}
 use Rattle.cnf_core.specs.Formula.{Formula}
 use Rattle.cnf_core.specs.declared.line.Lines.{Lines}
 use Rattle.cycle_encoding.specs.Plans.{IsTooLarge, PassesLimit}
@@ -24,18 +24,13 @@ module _ (clauses_for : ℕ → Formula) where
       (λ (s : Sizes). IsTrue (is_some c.refute)
       × PassesLimit (clauses_for (refuted_cycles c.claim)) s.vars s.clauses)
 
-  large : (c : Claimed) (k : ℕ) (lines : Lines) → k ≡ refuted_cycles c.claim → c.refute ≡ Some lines
+  pub large_below_is : (c : Claimed) (k : ℕ) (lines : Lines) → k ≡ refuted_cycles c.claim → c.refute ≡ Some lines
       → (found : Option Sizes) → Large k found → LargeBelow c found
-  large c k lines of is None h = λ there. subst (λ n. ¬ IsTooLarge (clauses_for n)) of h
-  large c k lines of is (Some s) h = (
+  large_below_is c k lines of is None h = λ there. subst (λ n. ¬ IsTooLarge (clauses_for n)) of h
+  large_below_is c k lines of is (Some s) h = (
     subst (λ (r : Option Lines). IsTrue (is_some r)) (sym is) refl,
     subst (λ n. PassesLimit (clauses_for n) s.vars s.clauses) of h,
   )
-
-  pub large_below_is : {E : Type 0} (c : Claimed) (k : ℕ) (lines : Lines) → k ≡ refuted_cycles c.claim
-      → c.refute ≡ Some lines → (r : Result (Option Sizes) E) → IfOk r (Large k) → IfOk r (LargeBelow c)
-  large_below_is c k lines of is (Ok found) h = large c k lines of is found h
-  large_below_is c k lines of is (Err e) h = tt
 
   abbrev pub WrongSize : Claim → Option Sizes → Type 0
   WrongSize claim found =
@@ -48,13 +43,11 @@ module _ (clauses_for : ℕ → Formula) where
   of_lemmas k lemmas None h = h
   of_lemmas k lemmas (Some s) h = ((λ not. not h.0), h.1, h.2)
 
-  pub lemmas_size : {E : Type 0} (claim : Claim) (k : ℕ) (lemmas : Lines) → claim ≡ SpentConflicts k lemmas
-      → (r : Result (Option Sizes) E) → IfOk r (Large k) → IfOk r (WrongSize claim)
-  lemmas_size claim k lemmas is (Ok found) h =
+  pub lemmas_size : (claim : Claim) (k : ℕ) (lemmas : Lines) → claim ≡ SpentConflicts k lemmas
+      → (found : Option Sizes) → Large k found → WrongSize claim found
+  lemmas_size claim k lemmas is found h =
       subst (λ (x : Claim). WrongSize x found) (sym is) (of_lemmas k lemmas found h)
-  lemmas_size claim k lemmas is (Err e) h = tt
 
-  pub printed_size : {E : Type 0} (claim : Claim) (k vars clauses : ℕ) → claim ≡ SpentSize k vars clauses
-      → (r : Result (Option Sizes) E) → IfOk r (WrongSize (SpentSize k vars clauses)) → IfOk r (WrongSize claim)
-  printed_size claim k vars clauses is (Ok found) h = subst (λ (x : Claim). WrongSize x found) (sym is) h
-  printed_size claim k vars clauses is (Err e) h = tt
+  pub printed_size : (claim : Claim) (k vars clauses : ℕ) → claim ≡ SpentSize k vars clauses
+      → (found : Option Sizes) → WrongSize (SpentSize k vars clauses) found → WrongSize claim found
+  printed_size claim k vars clauses is found h = subst (λ (x : Claim). WrongSize x found) (sym is) h

@@ -53,7 +53,7 @@ fn check_claim(
     if !is_listed(alloc, graph, table, &goal.claim)? {
         return Ok(Verdict::Listing);
     }
-    if let Some(sizes) = wrong_size(alloc, facts, table, scope, goal)? {
+    if let Some(sizes) = wrong_size(facts, table, scope, goal) {
         return Ok(Verdict::Size {
             vars: sizes.vars,
             clauses: sizes.clauses,

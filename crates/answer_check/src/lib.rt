@@ -3,6 +3,10 @@
 //! Nothing that was read is trusted: the clauses are built from the printed graph and table alone, and they are counted
 //! before any is built. The tests come in this order: the schedule fits; the words and places are those of its listing;
 //! sizes; the refutation; lemmas.
+//!
+//! Proved: `check_goal` gives the verdict on a claim (`verdict`), and where all tests hold the claim is true of the
+//! printed graph (`sound`); a claim has one verdict (`one_verdict`), and lines have one first refusal at most
+//! (`one_first_refusal`). `check_answer` gives the lines of all verdicts, and whether some claim is rejected.
 #![tactic(auto)]
 
 mod checking;

@@ -3,8 +3,8 @@ use Rattle.std.specs.Prelude.{◌≡◌, ℕ, List, None, Some, codes}
 use Rattle.std.specs.declared.option.Option.{Option}
 use Rattle.std.specs.Io.KnownBytes.{Appends}
 use Rattle.axiom_library.specs.declared.families.Family.{Family}
-use Rattle.denali_run.specs.declared.statuses.Status.{Status}
-use Rattle.denali_run.specs.declared.statuses.Status.TheVariants.{Done, Usage, Memory, SinkFault}
+use Rattle.reports.specs.declared.statuses.Status.{Status}
+use Rattle.reports.specs.declared.statuses.Status.TheVariants.{Done, Usage, Memory, SinkFault}
 use Rattle.axiom_texts.specs.LibraryText.{library_text}
 
 -- what is to be written for the families that the words ask for

@@ -1,5 +1,5 @@
 // The top call.
-ghost use Rattle.std.specs.Prelude.{◌≡◌, None, IfOk, IfErr};
+ghost use Rattle.std.specs.Prelude.{◌≡◌, None, IfOk};
 ghost use Rattle.std.specs.Io.KnownBytes.{Keeps};
 ghost use Rattle.outside_io.specs.Causes.{IsCounted};
 ghost use Rattle.outside_io.specs.Putting.{AppendsFront};
@@ -8,9 +8,9 @@ ghost use Rattle.axiom_texts.specs.Outcomes.{IsEndStatus, EndsWritten, WritesRep
 
 use crate::asked::asked;
 use crate::texts::library_text;
-use denali_run::{Report, Status};
 use items::NoMemory;
 use outside_io::{Sink, SinkFault, write_all};
+use reports::{Report, Status};
 use std::alloc::Global;
 
 /// What is to be written, and the status with which all of it is.

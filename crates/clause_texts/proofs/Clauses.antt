@@ -1,40 +1,27 @@
--- The clauses of a scope that is the encoding's are the encoding's clauses.
+-- The line of clauses that are too many, and the goals of an answer.
 use Rattle.std.proofs.Common.{◌≡◌, ◌≤◌, ◌<◌, ℕ, List, Some, length, get_or, refl, sym, subst}
 use Rattle.std.specs.Prelude.{IfOk, All, slice_get}
 use Rattle.std.proofs.lemmas.Option.{slice_get_read}
 use Rattle.std.specs.declared.result.Result.{Result}
 use Rattle.std.specs.declared.result.Result.TheVariants.{Ok, Err}
+use Rattle.answer_check.specs.Reports.{verdict_words}
+use Rattle.answer_check.specs.declared.verdicts.Verdict.TheVariants.{Size}
 use Rattle.answer_texts.specs.WellFormed.{IsClaimed}
 use Rattle.answer_texts.specs.declared.answers.Claimed.{Claimed}
-use Rattle.cycle_encoding.specs.CycleFormula.{Scope, listed_in}
-use Rattle.cycle_encoding.specs.Encodings.{IsScope}
-use Rattle.cycle_encoding.specs.Faults.{EncodeFaultIs}
 use Rattle.cycle_encoding.specs.declared.encodings.Encoding.{Encoding}
-use Rattle.cycle_encoding.specs.declared.plans.EncodeFault.{EncodeFault}
-use Rattle.cycle_encoding.specs.declared.plans.EncodeFault.TheVariants.{Size, Memory}
-use Rattle.denali_run.specs.declared.reports.Report.{Report}
-use Rattle.denali_run.specs.declared.statuses.Status.TheVariants.{Missing}
+use Rattle.cycle_encoding.specs.declared.plans.EncodeFault.TheVariants as faults
+use Rattle.reports.specs.declared.reports.Report.{Report}
+use Rattle.reports.specs.declared.statuses.Status.TheVariants.{Missing}
 use Rattle.graph_meaning.specs.declared.graphs.LaunchGraph.{LaunchGraph}
 use Rattle.machine_table.specs.declared.tables.Table.{Table}
-use Rattle.order_encoding.specs.WholeFormula.{IsFormulaOf, formula_in}
+use Rattle.order_encoding.specs.WholeFormula.{IsSizeFault}
 use Rattle.text_core.specs.LineTexts.{line_text}
-use Rattle.clause_texts.specs.GoalClauses.{AreClausesOf, HasNoClauses, too_large, too_large_words}
-
-pub formula_of : (e : Encoding) (g : LaunchGraph) (table : Table) (s : Scope) → IsScope e g table s → (k : ℕ) → k ≤ 24
-    → IsFormulaOf e g table k (formula_in s g table k)
-formula_of e g table s is k few = record { lists = listed_in g table k s; listed = is.lists k few; is = refl }
-
-pub no_clauses : (e : Encoding) (x g : LaunchGraph) (table : Table) (s : Scope) (k : ℕ) → x ≡ g → IsScope e x table s
-    → k ≤ 24 → (fault : EncodeFault) → EncodeFaultIs (formula_in s x table k) fault → HasNoClauses e g table k fault
-no_clauses e x g table s k same is few (Size vars clauses) h =
-    subst (λ y. HasNoClauses e y table k (Size vars clauses)) same
-    (formula_in s x table k, formula_of e x table s is k few, h)
-no_clauses e x g table s k same is few Memory h = tt
+use Rattle.clause_texts.specs.GoalClauses.{AreClausesOf, too_large}
 
 -- the line of clauses that are too many
 pub large : {E : Type 0} (e : Encoding) (table : Table) (c : Claimed) (k : ℕ) (g : LaunchGraph) (vars clauses : ℕ)
-    (result : Result Report E) → c.graph ≡ Some g → HasNoClauses e g table k (Size vars clauses)
-    → IfOk result (λ (r : Report). r.bytes.items ≡ line_text (too_large_words c.name vars clauses))
+    (result : Result Report E) → c.graph ≡ Some g → IsSizeFault e g table k (faults.Size vars clauses)
+    → IfOk result (λ (r : Report). r.bytes.items ≡ line_text (verdict_words c (Size vars clauses)))
     → IfOk result (λ (r : Report). r.status ≡ Missing)
     → IfOk result (λ (r : Report). AreClausesOf e table c k r.bytes.items r.status)
 large e table c k g vars clauses (Ok r) graph h is missing = too_large graph h.1 h.2 is missing

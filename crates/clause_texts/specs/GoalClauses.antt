@@ -1,16 +1,15 @@
 -- What is written of the clauses of a goal in an answer. Source: this project.
-use Rattle.std.specs.Prelude.{◌≡◌, ◌≤◌, ℕ, List, [], ◌∷◌, length, codes, decimal, slice_get, None, Some}
-use Rattle.answer_check.specs.Reports.{encoding_named}
+use Rattle.std.specs.Prelude.{◌≡◌, ◌≤◌, ℕ, List, [], ◌∷◌, length, codes, slice_get, None, Some}
+use Rattle.answer_check.specs.Reports.{encoding_named, verdict_words}
+use Rattle.answer_check.specs.declared.verdicts.Verdict.TheVariants.{Size}
 use Rattle.answer_texts.specs.ReadAnswers.{ReadsAnswer}
 use Rattle.answer_texts.specs.declared.answers.AnswerText.{AnswerText}
 use Rattle.answer_texts.specs.declared.answers.Claimed.{Claimed}
 use Rattle.cnf_core.specs.Formula.{Formula}
 use Rattle.cycle_encoding.specs.Plans.{IsTooLarge, PassesLimit}
 use Rattle.cycle_encoding.specs.declared.encodings.Encoding.{Encoding}
-use Rattle.cycle_encoding.specs.declared.plans.EncodeFault.{EncodeFault}
-use Rattle.cycle_encoding.specs.declared.plans.EncodeFault.TheVariants.{Size, Memory}
-use Rattle.denali_run.specs.declared.statuses.Status.{Status}
-use Rattle.denali_run.specs.declared.statuses.Status.TheVariants.{Done, Missing}
+use Rattle.reports.specs.declared.statuses.Status.{Status}
+use Rattle.reports.specs.declared.statuses.Status.TheVariants.{Done, Missing}
 use Rattle.graph_meaning.specs.declared.graphs.LaunchGraph.{LaunchGraph}
 use Rattle.machine_table.specs.declared.tables.Table.{Table}
 use Rattle.order_encoding.specs.WholeFormula.{IsFormulaOf}
@@ -21,18 +20,9 @@ use Rattle.clause_texts.specs.Dimacs.{dimacs_text}
 abbrev pub no_world_words : List ℕ → Words
 no_world_words name = codes "no" ∷ name ∷ codes "noworld" ∷ []
 
--- of a goal whose clauses would be too many
-abbrev pub too_large_words : List ℕ → ℕ → ℕ → Words
-too_large_words name vars clauses = codes "no" ∷ name ∷ codes "size" ∷ decimal vars ∷ decimal clauses ∷ []
-
 -- where there is no goal of the number
 abbrev pub no_goal_words : Words
 no_goal_words = codes "no" ∷ codes "goal" ∷ []
-
--- why there are no clauses: their counts, one of which passes its limit, or want of memory
-abbrev pub HasNoClauses : Encoding → LaunchGraph → Table → ℕ → EncodeFault → Type 0
-HasNoClauses e g table k (Size vars clauses) = (f : Formula) × IsFormulaOf e g table k f × PassesLimit f vars clauses
-HasNoClauses e g table k Memory = Unit {0}
 
 -- What is written of a goal's clauses for k cycles: those that are built where the goal's claims are tested, or why there
 -- are none.
@@ -41,7 +31,7 @@ pub data AreClausesOf (e : Encoding) (table : Table) (c : Claimed) (k : ℕ) (by
   given : {g : LaunchGraph} {f : Formula} → c.graph ≡ Some g → IsFormulaOf e g table k f → ¬ IsTooLarge f
       → bytes ≡ dimacs_text f → status ≡ Done → AreClausesOf e table c k bytes status
   too_large : {g : LaunchGraph} {f : Formula} {vars clauses : ℕ} → c.graph ≡ Some g → IsFormulaOf e g table k f
-      → PassesLimit f vars clauses → bytes ≡ line_text (too_large_words c.name vars clauses) → status ≡ Missing
+      → PassesLimit f vars clauses → bytes ≡ line_text (verdict_words c (Size vars clauses)) → status ≡ Missing
       → AreClausesOf e table c k bytes status
   without_graph : c.graph ≡ None → bytes ≡ line_text (no_world_words c.name) → status ≡ Missing
       → AreClausesOf e table c k bytes status

@@ -1,48 +1,25 @@
 // The clauses of a goal, from the bytes of an answer.
 ghost use Rattle.std.specs.Prelude.{◌≡◌, ℕ, ◌≤◌, ◌<◌, ◌^◌, length, IfOk, IfErr};
-ghost use Rattle.answer_check.specs.Reports.{encoding_named as encoding_of};
+ghost use Rattle.answer_check.specs.Reports.{verdict_words};
+ghost use Rattle.answer_check.specs.declared.verdicts.Verdict.TheVariants.{Size};
 ghost use Rattle.answer_texts.specs.WellFormed.{IsAnswer, IsClaimed};
-ghost use Rattle.graph_meaning.specs.WellFormed.{IsLaunchGraph};
 ghost use Rattle.machine_table.specs.Tables.{IsTable};
-ghost use Rattle.order_encoding.specs.WholeFormula.{IsFormulaOf};
-ghost use Rattle.cycle_encoding.specs.Plans.{IsTooLarge};
-ghost use Rattle.denali_run.specs.TextChecks.{CheckErrorIs};
-ghost use Rattle.denali_run.specs.declared.statuses.Status.TheVariants as statuses;
+ghost use Rattle.answer_texts.specs.ReadAnswers.{IsAnswerFault};
+ghost use Rattle.reports.specs.Errors.{IsErrorBy};
+ghost use Rattle.reports.specs.declared.statuses.Status.TheVariants as statuses;
 ghost use Rattle.text_core.specs.LineTexts.{line_text};
-ghost use Rattle.clause_texts.specs.GoalClauses.{AreClausesAt, AreClausesOf, GivesClauses, HasNoClauses, no_goal_words, no_world_words, too_large_words};
+ghost use Rattle.clause_texts.specs.GoalClauses.{AreClausesAt, AreClausesOf, GivesClauses, no_goal_words, no_world_words};
 
 use crate::printing::dimacs;
-use answer_check::encoding_named;
+use answer_check::{Verdict, encoding_named, put_verdict};
 use answer_texts::{AnswerText, Claimed, read_answer, read_answers_are_well_formed};
-use cnf_core::Cnf;
-use cycle_encoding::{EncodeFault, Encoding, Facts, Scope};
-use denali_run::{Report, Status, TextError};
-use graph_meaning::LaunchGraph;
+use cycle_encoding::{EncodeFault, Encoding};
 use items::NoMemory;
 use machine_table::Table;
-use order_encoding::full_in;
+use order_encoding::full_as;
+use reports::{Report, Status, TextError};
 use std::alloc::{AllocError, Global};
-use text_core::{Name, TextFault, put, put_number, put_word};
-
-/// The clauses for k cycles.
-fn clauses(
-    alloc: Global,
-    encoding: Encoding,
-    graph: &LaunchGraph,
-    table: &Table,
-    k: u32,
-) -> Result<Cnf, EncodeFault>
-    requires cycles { k ≤ 24 }
-    requires table { IsTable table.now }
-    requires graph { IsLaunchGraph graph.now }
-    ensures formula { IfOk result (λ cnf. IsFormulaOf encoding graph.now table.now k cnf × (¬ IsTooLarge cnf)) }
-    ensures size { IfErr result (HasNoClauses encoding graph.now table.now k) }
-{
-    let facts = Facts::new(alloc, graph)?;
-    let scope = Scope::of(alloc, encoding, &facts, table)?;
-    let encoded = full_in(alloc, &facts, table, &scope, k)?;
-    Ok(encoded.cnf)
-}
+use text_core::{Name, put, put_word};
 
 /// `no goal`.
 fn no_goal(alloc: Global) -> Result<Report, NoMemory>
@@ -69,17 +46,13 @@ fn no_world(alloc: Global, name: &Name) -> Result<Report, NoMemory>
     })
 }
 
-/// `no NAME size VARS CLAUSES`.
-fn too_large(alloc: Global, name: &Name, vars: u64, clauses: u64) -> Result<Report, NoMemory>
-    ensures bytes { IfOk result (λ r. r.bytes.items ≡ line_text (too_large_words name.now vars clauses)) }
+/// The line of a goal whose clauses would be too many, as where its claim is tested.
+fn too_large(alloc: Global, goal: &Claimed, vars: u64, clauses: u64) -> Result<Report, NoMemory>
+    ensures bytes { IfOk result (λ r. r.bytes.items ≡ line_text (verdict_words goal.now (Size vars clauses))) }
     ensures status { IfOk result (λ r. r.status ≡ statuses.Missing) }
 {
-    let mut line = Vec::from_slice(alloc, b"no")?;
-    put_word(&mut line, name.bytes())?;
-    put_word(&mut line, b"size")?;
-    put_number(&mut line, vars)?;
-    put_number(&mut line, clauses)?;
-    put(&mut line, b"\n")?;
+    let mut line = Vec::new(alloc);
+    put_verdict(&mut line, goal, Verdict::Size { vars, clauses })?;
     Ok(Report {
         bytes: line,
         status: Status::Missing,
@@ -102,12 +75,12 @@ fn clauses_of(
     let Some(graph) = &goal.graph else {
         return no_world(alloc, &goal.name);
     };
-    match clauses(alloc, encoding, graph, table, k) {
-        Ok(cnf) => Ok(Report {
-            bytes: dimacs(alloc, &cnf)?,
+    match full_as(alloc, encoding, graph, table, k) {
+        Ok(encoded) => Ok(Report {
+            bytes: dimacs(alloc, &encoded.cnf)?,
             status: Status::Done,
         }),
-        Err(EncodeFault::Size { vars, clauses }) => too_large(alloc, &goal.name, vars, clauses),
+        Err(EncodeFault::Size { vars, clauses }) => too_large(alloc, goal, vars, clauses),
         Err(EncodeFault::Memory) => Err(AllocError),
     }
 }
@@ -131,13 +104,9 @@ pub fn clauses_text(alloc: Global, text: &[u8], at: u32, k: u32) -> Result<Repor
     requires few { length text.now < 2 ^ 29 }
     requires cycles { k ≤ 24 }
     ensures clauses { IfOk result (λ r. GivesClauses at k text.now r.bytes.items r.status) }
-    ensures error { IfErr result (CheckErrorIs text.now) }
+    ensures error { IfErr result (IsErrorBy (IsAnswerFault text.now)) }
 {
     read_answers_are_well_formed();
-    let answer = match read_answer(alloc, text) {
-        Ok(answer) => answer,
-        Err(TextFault::Fault(fault)) => return Err(TextError::Read(fault)),
-        Err(TextFault::Memory) => return Err(TextError::Memory),
-    };
+    let answer = read_answer(alloc, text)?;
     Ok(clauses_at(alloc, &answer, at, k)?)
 }

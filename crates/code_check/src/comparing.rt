@@ -32,6 +32,7 @@ fn find_term(alloc: Global, graph: &Egraph<Op>, term: &Term<Op>) -> Result<Optio
     requires below { AreBelow 0 (tree_of term.now) }
     ensures { IfOk result (FindsClass graph.now (tree_of term.now)) }
 {
+    // A graph keeps its invariant, which is known here once one of its methods was called.
     let _made = graph.made();
     class_of_pattern(alloc, graph, term, &[])
 }

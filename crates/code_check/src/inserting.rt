@@ -1,12 +1,11 @@
 // The terms of words, inserted into the graph of a goal's start. A class is kept for each register that was written, so a
 // word costs few rows however large its term is.
-ghost use Rattle.std.specs.Prelude.{◌≡◌, ℕ, ◌+◌, ◌<◌, ◌≤◌, ◌^◌, ◌∷◌, [], length, map, set, List, ◌*◌, Some, IfOk, OnOk, IsSome};
-ghost use Rattle.word_ops.specs.Meanings.{arity_of_op, operand_sort, sort_of};
+ghost use Rattle.std.specs.Prelude.{◌≡◌, ℕ, ◌+◌, ◌<◌, ◌≤◌, ◌^◌, [], length, map, set, List, ◌*◌, Some, IfOk, OnOk, IsSome};
+ghost use Rattle.word_ops.specs.Meanings.{arity_of_op, operand_sort};
 ghost use Rattle.word_ops.specs.declared.sorts.Sort.TheVariants as sorts;
 ghost use Rattle.word_terms.specs.Keys.{op_signature};
-ghost use Rattle.egraph.specs.Graph.{IsGraph};
-ghost use Rattle.egraph.specs.Sorts.{AreOfSorts, IsOfSort, KeepsSorts};
-ghost use Rattle.saturation.specs.Trace.{AreInserted, IsPut};
+ghost use Rattle.egraph.specs.Sorts.{AreOfSorts};
+ghost use Rattle.saturation.specs.Trace.{AreInserted};
 ghost use Rattle.alpha_encode.specs.Codes.{code_of};
 ghost use Rattle.alpha_encode.specs.Decoded.{decoded};
 ghost use Rattle.alpha_encode.specs.declared.instructions.Instr.{Instr as Instruction};
@@ -29,6 +28,7 @@ fn insert_row(graph: &mut Egraph<Op>, op: Op, operands: &[u32]) -> Result<u32, N
     requires few { length graph.old.current < 2 ^ 31 }
     ensures row { IfOk result (λ c. IsRowInserted graph.old op operands.now c graph.new) }
 {
+    // A graph keeps its invariant, which is known here once one of its methods was called.
     let _rows = graph.rows();
     classes_have_one_sort::<Op>();
     graph.insert(op, operands)
@@ -190,7 +190,7 @@ fn store_class(
     insert_row(graph, Op::Store, &[memory, address, value])
 }
 
-/// A register was written. Register 31 isn't.
+/// The class of what the register holds from now on.
 fn write_register(classes: &mut [Option<u32>], register: u8, class: u32)
     requires register { register < 32 }
     requires count { length classes.old ≡ 32 }

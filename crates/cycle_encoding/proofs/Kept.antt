@@ -27,7 +27,7 @@ use Rattle.cycle_encoding.specs.Families.{is_at, is_free}
 use Rattle.cycle_encoding.specs.CycleFormula.{Listed}
 use Rattle.cycle_encoding.specs.Variables.{all_launches, made_classes, is_safe}
 use Rattle.cycle_encoding.specs.Families.{is_made}
-use Rattle.cycle_encoding.specs.Narrow.{IsSafe, Lacks, Wanted, HasCome, come, CanStart, HasVariable, IsNarrow}
+use Rattle.cycle_encoding.specs.Narrow.{IsSafe, Lacks, Wanted, HasCome, come, CanStart, HasVariable, IsPinnedList}
 use Rattle.cycle_encoding.specs.Narrow.Wanted.{target, pinned, guard, store, operand}
 use Rattle.cycle_encoding.specs.CycleRules.{KeepsCycleRules, IsFreeReached}
 use Rattle.cycle_encoding.proofs.Tests.{two_at, any_from, free-is, free-from}
@@ -201,7 +201,7 @@ module _ (g : LaunchGraph) (table : Table) (k : ℕ) (is_table : IsTable table) 
       targets = All-from_members (IsFreeReached g kept) g.sets (λ s h. reach_kept s h (All-contains (IsFreeReached g ls) g.sets s rules.targets h));
     }
 
-    pub serve_seen : IsLaunchGraph g → (e : Listed) (n : IsNarrow g table k e) → (l m : Launch) (o : Operand) → Contains kept l → Contains (operands_at g l.row) o → is_made g o ≡ true → Contains kept m → Gives g o.class m → Contains e.seen (record { class = o.class; cluster = cluster_of table l.slot; cycle = l.cycle })
+    pub serve_seen : IsLaunchGraph g → (e : Listed) (n : IsPinnedList g table k e) → (l m : Launch) (o : Operand) → Contains kept l → Contains (operands_at g l.row) o → is_made g o ≡ true → Contains kept m → Gives g o.class m → Contains e.seen (record { class = o.class; cluster = cluster_of table l.slot; cycle = l.cycle })
     serve_seen well e n l m o hl ho t hm gave =
         let b = back l hl in
         let ok = listed-one g table k is_table l (member l b.0) in
@@ -213,7 +213,7 @@ module _ (g : LaunchGraph) (table : Table) (k : ℕ) (is_table : IsTable table) 
         (seen-in g table k (filter n.want (made_classes g)) o.class (cluster_of table l.slot) l.cycle (filter-in n.want (made_classes g) o.class made ((n.wants o.class made).1 wanted)) (cluster-in g table k is_table l.slot ok.slot) ok.early)
 
 -- the lists of the pinned encoding serve what is kept
-pub kept-serve : (g : LaunchGraph) (table : Table) (k : ℕ) (is_table : IsTable table) (well : IsLaunchGraph g) (ls : List Launch) (rules : KeepsCycleRules g table k ls) (e : Listed) (n : IsNarrow g table k e) → ServesPins g table k e (filter n.keep ls)
+pub kept-serve : (g : LaunchGraph) (table : Table) (k : ℕ) (is_table : IsTable table) (well : IsLaunchGraph g) (ls : List Launch) (rules : KeepsCycleRules g table k ls) (e : Listed) (n : IsPinnedList g table k e) → ServesPins g table k e (filter n.keep ls)
 kept-serve g table k is_table well ls rules e n = record {
   listed = pinned-listed g table k is_table e n;
   once = subst (λ (ls : List Launch). NoTwice ls) (sym n.launches_are) (filter-once n.keep (all_launches g table k) (launches-once g table k));

@@ -24,7 +24,7 @@ use Rattle.cycle_encoding.specs.Variables.{slots_of}
 use Rattle.cycle_encoding.specs.CycleFormula.{Listed}
 use Rattle.cycle_encoding.specs.CycleRules.{HasPlace}
 use Rattle.cycle_encoding.specs.Variables.{takes, destinations, set_numbers, use_launches, row_launches, row_numbers, all_launches, is_overwriting, overwriting_sets, all_overwritten, Overwritten}
-use Rattle.cycle_encoding.specs.Narrow.{IsNarrow}
+use Rattle.cycle_encoding.specs.Narrow.{IsPinnedList}
 use Rattle.cycle_encoding.specs.CycleRules.{KeepsCycleRules}
 use Rattle.cycle_encoding.proofs.Tests.{some_of, some_in}
 use Rattle.cycle_encoding.proofs.Members.{NoTwice, here, later, either, filter-in, filter-out, find-out, map-in, map-out, flat-in, flat-out, range-in, range-out, filter-once, map-once, flat-once, range-once, All-from_members, nothing}
@@ -251,7 +251,7 @@ module _ (g : LaunchGraph) (table : Table) (k : ℕ) where
         place l (All-contains (CanLaunch g table) ls l rules.rows h) (All-contains (EndsBy g table k) ls l rules.in_time h))
 
     -- the launches of the pinned encoding
-    pub pinned-listed : (e : Listed) → IsNarrow g table k e → All (IsListed g table k) e.launches
+    pub pinned-listed : (e : Listed) → IsPinnedList g table k e → All (IsListed g table k) e.launches
     pinned-listed e n = subst (λ (ls : List Launch). All (IsListed g table k) ls) (sym n.launches_are) (All-filter n.keep (IsListed g table k) (all_launches g table k) listed-all)
 
   -- ---- what is overwritten

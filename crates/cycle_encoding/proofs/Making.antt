@@ -28,10 +28,10 @@ module _ (g : LaunchGraph) (table : Table) (k : ℕ) (e : Listed) where
   launches-first : 0 + length e.launches ≤ length e.launches
   launches-first = omega arith
 
-  launches-seen : 0 + length e.launches ≤ before_overwritten g table k e
+  launches-seen : 0 + length e.launches ≤ before_overwritten e
   launches-seen = omega arith
 
-  seen-itself : length e.launches + length e.seen ≤ before_overwritten g table k e
+  seen-itself : length e.launches + length e.seen ≤ before_overwritten e
   seen-itself = omega arith
 
   launches-slots : 0 + length e.launches ≤ before_counters g table k e
@@ -46,10 +46,10 @@ module _ (g : LaunchGraph) (table : Table) (k : ℕ) (e : Listed) where
   seen-last : length e.launches + length e.seen ≤ after_counters g table k e
   seen-last = omega arith
 
-  over-slots : before_overwritten g table k e + length (all_overwritten g k) ≤ before_counters g table k e
+  over-slots : before_overwritten e + length (all_overwritten g k) ≤ before_counters g table k e
   over-slots = omega arith
 
-  over-last : before_overwritten g table k e + length (all_overwritten g k) ≤ after_counters g table k e
+  over-last : before_overwritten e + length (all_overwritten g k) ≤ after_counters g table k e
   over-last = omega arith
 
   slots-itself : before_counters g table k e ≤ before_counters g table k e
@@ -61,32 +61,32 @@ flips m v w e x l = ap not (e x l)
 -- values for launches, for what is seen and for what is overwritten, and the counters that they satisfy
 record Made (g : LaunchGraph) (table : Table) (k : ℕ) (ls : List Launch) (e : Listed) : Type 0 where
   values : ℕ → Bool
-  launched_is : shown values (launch_vars g table k e) ≡ launched g table k ls e
-  seen_is : shown values (seen_vars g table k e) ≡ seen g table k ls e
+  launched_is : shown values (launch_vars e) ≡ launched g table k ls e
+  seen_is : shown values (seen_vars e) ≡ seen g table k ls e
   over_is : shown values (overwritten_vars g table k e) ≡ over g table k ls e
   not_over_is : hidden values (overwritten_vars g table k e) ≡ not_over g table k ls e
-  slots : Satisfies values (counters (before_counters g table k e) 1 (slot_groups table k (launch_vars g table k e)))
+  slots : Satisfies values (counters (before_counters g table k e) 1 (slot_groups table k (launch_vars e)))
 
 module _ (exact : AreExact) (g : LaunchGraph) (table : Table) (k : ℕ) (e : Listed) (ls : List Launch) (serves : ServesPins g table k e ls) (rules : KeepsCycleRules g table k ls) where
   made : Made g table k ls e
   made =
       let n1 = length e.launches in
-      let m2 = before_overwritten g table k e in
+      let m2 = before_overwritten e in
       let n2 = before_counters g table k e in
       let v1 : ℕ → Bool = chosen (among ls) 0 e.launches (λ x. false) in
-      let s1 : shown v1 (launch_vars g table k e) ≡ launched g table k ls e = chosen-shown (among ls) 0 e.launches (λ x. false) in
+      let s1 : shown v1 (launch_vars e) ≡ launched g table k ls e = chosen-shown (among ls) 0 e.launches (λ x. false) in
       let v2 : ℕ → Bool = chosen (seen_now g table k ls e) n1 e.seen v1 in
-      let s2 : shown v2 (seen_vars g table k e) ≡ seen g table k ls e = chosen-shown (seen_now g table k ls e) n1 e.seen v1 in
+      let s2 : shown v2 (seen_vars e) ≡ seen g table k ls e = chosen-shown (seen_now g table k ls e) n1 e.seen v1 in
       let x12 : Extends n1 v1 v2 = chosen-extends (seen_now g table k ls e) n1 e.seen v1 in
       let u2 : ℕ → Bool = chosen (over_now g table k ls e) m2 (all_overwritten g k) v2 in
       let x2u : Extends m2 v2 u2 = chosen-extends (over_now g table k ls e) m2 (all_overwritten g k) v2 in
       let o2 : shown u2 (overwritten_vars g table k e) ≡ over g table k ls e = chosen-shown (over_now g table k ls e) m2 (all_overwritten g k) v2 in
       let h2 : hidden u2 (overwritten_vars g table k e) ≡ not_over g table k ls e = chosen-hidden (over_now g table k ls e) m2 (all_overwritten g k) v2 in
-      let su : shown u2 (seen_vars g table k e) ≡ seen g table k ls e = shown-extends v2 u2 n1 m2 e.seen (seen-itself g table k e) x2u ∙ s2 in
-      let b2 : shown v2 (launch_vars g table k e) ≡ launched g table k ls e = shown-extends v1 v2 0 n1 e.launches (launches-first g table k e) x12 ∙ s1 in
-      let a2 : shown u2 (launch_vars g table k e) ≡ launched g table k ls e = shown-extends v2 u2 0 m2 e.launches (launches-seen g table k e) x2u ∙ b2 in
+      let su : shown u2 (seen_vars e) ≡ seen g table k ls e = shown-extends v2 u2 n1 m2 e.seen (seen-itself g table k e) x2u ∙ s2 in
+      let b2 : shown v2 (launch_vars e) ≡ launched g table k ls e = shown-extends v1 v2 0 n1 e.launches (launches-first g table k e) x12 ∙ s1 in
+      let a2 : shown u2 (launch_vars e) ≡ launched g table k ls e = shown-extends v2 u2 0 m2 e.launches (launches-seen g table k e) x2u ∙ b2 in
       let c4 = counted-few g table k e u2 (λ s t. subst (λ S. count_by (is_at s t) S ≤ 1) (sym a2) (slots-few g table k ls e serves rules s t)) in
-      let h3 : HasExtension n2 u2 (counters n2 1 (slot_groups table k (launch_vars g table k e))) = counters-in exact 1 n2 n2 u2 (slot_groups table k (launch_vars g table k e)) (slots-itself g table k e) (counted-before g table k e) c4 in
+      let h3 : HasExtension n2 u2 (counters n2 1 (slot_groups table k (launch_vars e))) = counters-in exact 1 n2 n2 u2 (slot_groups table k (launch_vars e)) (slots-itself g table k e) (counted-before g table k e) c4 in
       let v3 : ℕ → Bool = h3.0 in
       let x23 : Extends n2 u2 v3 = h3.1 in
       record {
@@ -100,22 +100,22 @@ module _ (exact : AreExact) (g : LaunchGraph) (table : Table) (k : ℕ) (e : Lis
 
   -- the same of all values that are these up to the last variable
   module _ (m : Made g table k ls e) (w : ℕ → Bool) (x : Extends (after_counters g table k e) m.values w) where
-    launched-still : shown w (launch_vars g table k e) ≡ launched g table k ls e
+    launched-still : shown w (launch_vars e) ≡ launched g table k ls e
     launched-still = shown-extends m.values w 0 (after_counters g table k e) e.launches (launches-last g table k e) x ∙ m.launched_is
 
-    seen-still : shown w (seen_vars g table k e) ≡ seen g table k ls e
+    seen-still : shown w (seen_vars e) ≡ seen g table k ls e
     seen-still = shown-extends m.values w (length e.launches) (after_counters g table k e) e.seen (seen-last g table k e) x ∙ m.seen_is
 
     over-still : shown w (overwritten_vars g table k e) ≡ over g table k ls e
-    over-still = shown-extends m.values w (before_overwritten g table k e) (after_counters g table k e) (all_overwritten g k) (over-last g table k e) x ∙ m.over_is
+    over-still = shown-extends m.values w (before_overwritten e) (after_counters g table k e) (all_overwritten g k) (over-last g table k e) x ∙ m.over_is
 
     not_over-still : hidden w (overwritten_vars g table k e) ≡ not_over g table k ls e
-    not_over-still = shown-extends (flip m.values) (flip w) (before_overwritten g table k e) (after_counters g table k e) (all_overwritten g k) (over-last g table k e) (flips (after_counters g table k e) m.values w x) ∙ m.not_over_is
+    not_over-still = shown-extends (flip m.values) (flip w) (before_overwritten e) (after_counters g table k e) (all_overwritten g k) (over-last g table k e) (flips (after_counters g table k e) m.values w x) ∙ m.not_over_is
 
     satisfied : Satisfies w (cycle_part g table k e)
     satisfied =
-        let xs = launch_vars g table k e in
-        let ds = seen_vars g table k e in
+        let xs = launch_vars e in
+        let ds = seen_vars e in
         let vs = overwritten_vars g table k e in
         let n2 = before_counters g table k e in
         let groups = slot_groups table k xs in
@@ -127,7 +127,7 @@ module _ (exact : AreExact) (g : LaunchGraph) (table : Table) (k : ℕ) (e : Lis
         let p4 : Satisfies w c4 = stays (after_counters g table k e) m.values w c4 x (counters-over exact 1 n2 n2 groups (slots-itself g table k e) (counted-before g table k e)) m.slots in
         both w (c1 ++ c2 ++ c3) c4 (both w (c1 ++ c2) c3 (both w c1 c2 (targets-in g table k w xs vs says.targets) (operands-in g table k w xs vs ds says.operands)) (seen-in g table k w xs ds says.seen)) p4
 
-    show-same : (l : Launch) → Contains (shown w (launch_vars g table k e)) l ↔ Contains ls l
+    show-same : (l : Launch) → Contains (shown w (launch_vars e)) l ↔ Contains ls l
     show-same l = (
       (λ h. launched-out g table k ls e serves rules l (subst (λ S. Contains S l) launched-still h)),
       (λ h. subst (λ S. Contains S l) (sym launched-still) (launched-in g table k ls e serves rules l h)),

@@ -9,7 +9,7 @@ use Rattle.schedule_meaning.specs.declared.schedules.Launch.{Launch}
 use Rattle.cycle_encoding.specs.Variables.{Seen, all_seen}
 use Rattle.cycle_encoding.specs.Variables.{all_launches, made_classes}
 use Rattle.cycle_encoding.specs.CycleFormula.{Listed}
-use Rattle.cycle_encoding.specs.Narrow.{HasVariable, Wanted, IsNarrow}
+use Rattle.cycle_encoding.specs.Narrow.{HasVariable, Wanted, IsPinnedList}
 use Rattle.cycle_encoding.specs.Encodings.{AreListed}
 use Rattle.cycle_encoding.specs.declared.encodings.Encoding.{Encoding}
 use Rattle.cycle_encoding.specs.declared.encodings.Encoding.TheVariants.{Wide, Narrow, Pinned}
@@ -34,7 +34,7 @@ listed_by a b c d p q =
     let y : n ≡ m = ap {A = List Seen} {B = Listed} (λ ds. record { launches = b; seen = ds }) q in
     x ∙ y
 
-pinned-one : (g : LaunchGraph) (table : Table) (k : ℕ) (l m : Listed) → IsNarrow g table k l → IsNarrow g table k m → l ≡ m
+pinned-one : (g : LaunchGraph) (table : Table) (k : ℕ) (l m : Listed) → IsPinnedList g table k l → IsPinnedList g table k m → l ≡ m
 pinned-one g table k l m a b =
     listed_by l.launches m.launches l.seen m.seen
     (a.launches_are ∙ filter_same a.keep b.keep (all_launches g table k) (λ x h. decided (a.keep x) (b.keep x) (HasVariable g table x) (a.keeps x h) (b.keeps x h)) ∙ sym b.launches_are)

@@ -160,9 +160,9 @@ module _ (g : LaunchGraph) (table : Table) (k : ℕ) (s : Scope) where
 
   -- ---- counters over slots and cycles
 
-  places : (h : ℕ → ℕ) → sum_by (λ (c : List Lit). h (length c)) (slot_groups table k (launch_vars g table k (listed_in g table k s))) ≡ sum_places g table k s (λ x t. h (destined_at g table k s x t))
+  places : (h : ℕ → ℕ) → sum_by (λ (c : List Lit). h (length c)) (slot_groups table k (launch_vars (listed_in g table k s))) ≡ sum_places g table k s (λ x t. h (destined_at g table k s x t))
   places h =
-      let xs = launch_vars g table k (listed_in g table k s) in
+      let xs = launch_vars (listed_in g table k s) in
       sum-flat (λ (c : List Lit). h (length c)) (λ x. slot_row x k xs) (range_with_len 0 (length table.slots))
       ∙ same-in (λ x. sum_by (λ (c : List Lit). h (length c)) (slot_row x k xs)) (λ x. sum_by (λ t. h (destined_at g table k s x t)) (range_with_len 0 k)) (range_with_len 0 (length table.slots)) (λ x hs.
       let lt : x < length table.slots = (let b = (range-out 0 (length table.slots) x hs).1 in omega arith) in
@@ -184,8 +184,8 @@ module _ (g : LaunchGraph) (table : Table) (k : ℕ) (s : Scope) where
     pub pinned-cycle-size : length (cycle_part g table k (listed_in g table k s)) ≡ cycle_size g table k s
     pinned-cycle-size =
         let e = listed_in g table k s in
-        let xs = launch_vars g table k e in
-        let ds = seen_vars g table k e in
+        let xs = launch_vars e in
+        let ds = seen_vars e in
         let vs = overwritten_vars g table k e in
         let c1 = target_clauses g k xs vs in
         let c2 = operand_clauses g table xs ds vs in

@@ -29,7 +29,7 @@ use Rattle.cycle_encoding.proofs.Sound.{apart, keep_pinned_rules}
 
 module _ (g : LaunchGraph) (table : Table) (k : ℕ) (e : Listed) where
   abbrev xs : List (ℕ × Launch)
-  xs = launch_vars g table k e
+  xs = launch_vars e
 
   -- the literals of each slot and cycle are of launches' variables
   slots-over : AreOver (length e.launches) (slot_groups table k xs)
@@ -56,19 +56,19 @@ module _ (g : LaunchGraph) (table : Table) (k : ℕ) (e : Listed) where
 
   -- no thing is known to be overwritten and not
   clash : (v : ℕ → Bool) (o : Overwritten) → Contains (shown v (overwritten_vars g table k e)) o → Contains (hidden v (overwritten_vars g table k e)) o → ⊥
-  clash v = one-side v (before_overwritten g table k e) (all_overwritten g k) (over-once g table k)
+  clash v = one-side v (before_overwritten e) (all_overwritten g k) (over-once g table k)
 
   -- satisfied values show launches of which no two collide
   pub pinned_shown_apart : AreExact → All (IsListed g table k) e.launches → (v : ℕ → Bool) → Satisfies v (cycle_part g table k e) → AllPairs (λ l m. ¬ Collide l m) (shown v xs)
   pinned_shown_apart exact listed v h =
-      let before = target_clauses g k xs (overwritten_vars g table k e) ++ operand_clauses g table xs (seen_vars g table k e) (overwritten_vars g table k e) ++ seen_clauses g table xs (seen_vars g table k e) in
+      let before = target_clauses g k xs (overwritten_vars g table k e) ++ operand_clauses g table xs (seen_vars e) (overwritten_vars g table k e) ++ seen_clauses g table xs (seen_vars e) in
       let c4 = counters (before_counters g table k e) 1 (slot_groups table k xs) in
       let few = slots-few v (counters-out exact 1 (before_counters g table k e) (before_counters g table k e) v (slot_groups table k xs) (omega arith) counted-before (right v before c4 h)) in
       apart g table k (shown v xs) (all_shown v (IsListed g table k) 0 e.launches listed) few
 
   pub pinned_shown_keep : AreExact → IsLaunchGraph g → All (IsListed g table k) e.launches → (v : ℕ → Bool) → Satisfies v (cycle_part g table k e) → ArePinsKept g k (shown v xs) (shown v (overwritten_vars g table k e)) → KeepsCycleRules g table k (shown v xs)
   pinned_shown_keep exact graph listed v h pins =
-      let ds = seen_vars g table k e in
+      let ds = seen_vars e in
       let vs = overwritten_vars g table k e in
       let c1 = target_clauses g k xs vs in
       let c2 = operand_clauses g table xs ds vs in

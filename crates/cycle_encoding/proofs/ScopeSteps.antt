@@ -28,7 +28,7 @@ use Rattle.cycle_encoding.specs.Encodings.{IsScope}
 use Rattle.cycle_encoding.specs.declared.encodings.Encoding.{Encoding}
 use Rattle.cycle_encoding.specs.declared.encodings.Encoding.TheVariants.{Wide, Narrow, Pinned}
 use Rattle.cycle_encoding.specs.declared.operands.There.TheVariants.{AtEntry}
-use Rattle.cycle_encoding.specs.Narrow.{Wanted, CanStart, HasVariable, IsNarrow}
+use Rattle.cycle_encoding.specs.Narrow.{Wanted, CanStart, HasVariable, IsPinnedList}
 use Rattle.cycle_encoding.specs.Coming.{start_needs, is_come, are_come, last_come, last_come_from, IsExactUpTo}
 use Rattle.cycle_encoding.specs.Wanting.{is_marked_class}
 use Rattle.cycle_encoding.specs.Scoped.{is_spoken_of, first_cycle}
@@ -290,7 +290,7 @@ module _ (g : LaunchGraph) (table : Table) (well : IsLaunchGraph g) (is_table : 
             (λ w. wants-is c ∙ (wanted c).1 (w, (omega arith))),
           )
 
-      tabled-lists : IsNarrow g table k (listed_in g table k s)
+      tabled-lists : IsPinnedList g table k (listed_in g table k s)
       unfolding keep
       tabled-lists = record {
         keep = keep;

@@ -47,13 +47,16 @@ wants_in s class = wants_by s.encoding s.wants class
 abbrev pub wide_scope : Scope
 wide_scope = record { encoding = Wide; firsts = []; wants = [] }
 
-module _ (g : LaunchGraph) (table : Table) (k : ℕ) (e : Listed) where
-  -- the launches come first, then what is seen
+module _ (e : Listed) where
+  -- the launches come first, then what is seen, then what is overwritten
   abbrev pub launch_vars : List (ℕ × Launch)
   launch_vars = numbered 0 e.launches
 
   abbrev pub seen_vars : List (ℕ × Seen)
   seen_vars = numbered (length e.launches) e.seen
+
+  abbrev pub before_overwritten : ℕ
+  before_overwritten = length e.launches + length e.seen
 
 -- every launch that ends by k, and every class that launches have to make
 abbrev pub wide : LaunchGraph → Table → ℕ → Listed
@@ -68,28 +71,25 @@ listed_in g table k s =
     }
 
 module _ (g : LaunchGraph) (table : Table) (k : ℕ) (e : Listed) where
-  -- ---- the variables: those of what is overwritten come behind those of what is seen
-
-  abbrev pub before_overwritten : ℕ
-  before_overwritten = length e.launches + length e.seen
+  -- ---- the variables
 
   abbrev pub overwritten_vars : List (ℕ × Overwritten)
-  overwritten_vars = numbered before_overwritten (all_overwritten g k)
+  overwritten_vars = numbered (before_overwritten e) (all_overwritten g k)
 
   abbrev pub before_counters : ℕ
-  before_counters = before_overwritten + length (all_overwritten g k)
+  before_counters = before_overwritten e + length (all_overwritten g k)
 
   abbrev pub after_counters : ℕ
-  after_counters = before_counters + counters_vars 1 (slot_groups table k (launch_vars g table k e))
+  after_counters = before_counters + counters_vars 1 (slot_groups table k (launch_vars e))
 
   -- ---- the clauses
 
   abbrev pub cycle_part : List (List Lit)
   cycle_part =
-      target_clauses g k (launch_vars g table k e) overwritten_vars
-      ++ operand_clauses g table (launch_vars g table k e) (seen_vars g table k e) overwritten_vars
-      ++ seen_clauses g table (launch_vars g table k e) (seen_vars g table k e)
-      ++ counters before_counters 1 (slot_groups table k (launch_vars g table k e))
+      target_clauses g k (launch_vars e) overwritten_vars
+      ++ operand_clauses g table (launch_vars e) (seen_vars e) overwritten_vars
+      ++ seen_clauses g table (launch_vars e) (seen_vars e)
+      ++ counters before_counters 1 (slot_groups table k (launch_vars e))
 
   abbrev pub cycle_formula : Formula
   cycle_formula = record { vars = after_counters; clauses = cycle_part }

@@ -52,7 +52,7 @@ pub record AreShown (g : LaunchGraph) (table : Table) (k : ℕ) (e : Listed) (ls
   pub satisfy : (w : ℕ → Bool) → Extends (cycle_formula g table k e).vars values w
       → Satisfies w (cycle_formula g table k e).clauses
   pub show : (w : ℕ → Bool) → Extends (cycle_formula g table k e).vars values w
-      → (l : Launch) → Contains (shown w (launch_vars g table k e)) l ↔ Contains ls l
+      → (l : Launch) → Contains (shown w (launch_vars e)) l ↔ Contains ls l
   pub overwrite : (w : ℕ → Bool) → Extends (cycle_formula g table k e).vars values w
       → (v : Overwritten) → Contains (shown w (overwritten_vars g table k e)) v
       ↔ (Contains (all_overwritten g k) v × WasOverwritten ls v)

@@ -59,7 +59,7 @@ pub record HasVariable (g : LaunchGraph) (table : Table) (l : Launch) : Type 0 w
   pub wanted : IsTrue (launches g is_store l) ⊎ IsTrue (launches g is_branch l) ⊎ Wanted g (class_at g l.row)
 
 -- the lists of the two encodings, in the order of all launches and of all made classes
-pub record IsNarrow (g : LaunchGraph) (table : Table) (k : ℕ) (e : Listed) : Type 0 where
+pub record IsPinnedList (g : LaunchGraph) (table : Table) (k : ℕ) (e : Listed) : Type 0 where
   pub keep : Launch → Bool
   pub keeps : (l : Launch) → Contains (all_launches g table k) l → Decides (keep l) (HasVariable g table l)
   pub launches_are : e.launches ≡ filter keep (all_launches g table k)

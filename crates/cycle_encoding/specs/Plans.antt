@@ -25,7 +25,7 @@ plan_of g table k =
       encoding = Wide;
       cycles = k;
       launches = all_launches g table k;
-      overwritten = before_overwritten g table k (wide g table k);
+      overwritten = before_overwritten (wide g table k);
     }
 
 -- one of the two counts passes its limit

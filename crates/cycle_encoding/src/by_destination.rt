@@ -2,7 +2,7 @@
 ghost use Rattle.std.specs.Prelude.{◌≡◌, ◌+◌, ◌<◌, ◌≤◌, ◌^◌, ◌++◌, IfOk, OnOk, length};
 ghost use Rattle.machine_table.specs.Tables.{IsTable};
 ghost use Rattle.cycle_encoding.specs.CycleFormula.{first_cycle_in};
-ghost use Rattle.cycle_encoding.specs.Facts as pinned;
+ghost use Rattle.cycle_encoding.specs.Facts as specs;
 ghost use Rattle.cycle_encoding.specs.Variables.{launches_from, row_launches};
 
 use crate::launches::{cycles, may_use};
@@ -85,7 +85,7 @@ fn push_slots(
     requires table { IsTable table.now }
     requires few { first + cycles < 2 ^ 32 }
     ensures { OnOk result (launches.new.items ≡ launches.old.items
-        ++ pinned.destined_slots table.now instr row first cycles tos.now (length table.now.slots)) }
+        ++ specs.destined_slots table.now instr row first cycles tos.now (length table.now.slots)) }
 {
     for slot in 0..table.slots.len() as u32 {
         if may_use(table, instr, slot) {
@@ -106,7 +106,7 @@ fn push_slot(
 ) -> Result<(), NoMemory>
     requires { first + cycles < 2 ^ 32 }
     ensures { OnOk result (launches.new.items
-        ≡ launches.old.items ++ pinned.destined_slot row first cycles tos.now slot) }
+        ≡ launches.old.items ++ specs.destined_slot row first cycles tos.now slot) }
 {
     for step in 0..cycles {
         push_cycle(launches, row, slot, first + step, tos)?;
@@ -123,7 +123,7 @@ fn push_cycle(
     tos: &[To],
 ) -> Result<(), NoMemory>
     ensures { OnOk result (launches.new.items
-        ≡ launches.old.items ++ pinned.cycle_launches row slot tos.now cycle) }
+        ≡ launches.old.items ++ specs.cycle_launches row slot tos.now cycle) }
 {
     for to in tos {
         launches.push(Launch {

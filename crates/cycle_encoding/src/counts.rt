@@ -1,5 +1,5 @@
 // How many launches a row has, whatever their destinations; and what counts may be.
-ghost use Rattle.std.specs.Prelude.{◌≡◌, ◌+◌, ◌*◌, ◌<◌, ◌≤◌, ◌^◌, ◌||◌, nat_lt, length, IfErr, OnOk};
+ghost use Rattle.std.specs.Prelude.{◌≡◌, ◌+◌, ◌*◌, ◌<◌, ◌≤◌, ◌^◌, ◌||◌, ◌↔◌, ◌⊎◌, nat_lt, length, IfErr, IsTrue, OnOk};
 ghost use Rattle.std.specs.List.{count_by, range_with_len};
 ghost use Rattle.cnf_core.specs.Counter as counter;
 ghost use Rattle.cnf_core.specs.Formula.{Formula};
@@ -125,7 +125,8 @@ pub struct Sizes {
 impl Sizes {
     /// Whether one of the counts passes its limit.
     pub fn pass_limit(self) -> bool
-        ensures { result ≡ (nat_lt 262144 self.vars || nat_lt 2000000 self.clauses) }
+        ensures value { result ≡ (nat_lt 262144 self.vars || nat_lt 2000000 self.clauses) }
+        ensures exact { IsTrue result ↔ ((262144 < self.vars) ⊎ (2000000 < self.clauses)) }
     {
         self.vars > MOST_VARS || self.clauses > MOST_CLAUSES
     }

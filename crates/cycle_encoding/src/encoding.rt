@@ -4,7 +4,7 @@ ghost use Rattle.graph_meaning.specs.WellFormed.{IsLaunchGraph};
 ghost use Rattle.machine_table.specs.Tables.{IsTable};
 ghost use Rattle.cycle_encoding.specs.CycleFormula.{first_cycle_in, wants_in, Listed as ListedOf};
 ghost use Rattle.cycle_encoding.specs.Encodings.{AreListed};
-ghost use Rattle.cycle_encoding.specs.Faults.{EncodeFaultIs};
+ghost use Rattle.cycle_encoding.specs.Faults.{EncodeFaultIs, IsRefusalOf};
 ghost use Rattle.cycle_encoding.specs.CycleFormula.{listed_in};
 ghost use Rattle.cycle_encoding.specs.CycleFormula.{wide, before_counters, before_overwritten};
 ghost use Rattle.cycle_encoding.specs.CycleFormula.{cycle_formula};
@@ -68,10 +68,12 @@ pub fn encode_as(
       encoding = encoding;
       cycles = k;
       launches = l.launches;
-      overwritten = before_overwritten graph.now table.now k l;
+      overwritten = before_overwritten l;
     }) }
     ensures size { IfErr result (λ fault. (l : ListedOf) → AreListed encoding graph.now table.now k l
         → EncodeFaultIs (cycle_formula graph.now table.now k l) fault) }
+    ensures refused { IfErr result
+        (IsRefusalOf encoding graph.now table.now k (cycle_formula graph.now table.now k)) }
     ensures within { OnOk result ((l : ListedOf) → AreListed encoding graph.now table.now k l
         → ¬ IsTooLarge (cycle_formula graph.now table.now k l)) }
 {
@@ -114,7 +116,7 @@ pub fn build_cycles(
       encoding = scope.now.encoding;
       cycles = k;
       launches = launches_from facts.now table.now k (first_cycle_in scope.now);
-      overwritten = before_overwritten facts.now table.now k (listed_in facts.now table.now k scope.now);
+      overwritten = before_overwritten (listed_in facts.now table.now k scope.now);
     }) }
 {
     let launches = launches_from(alloc, facts, table, scope, k)?;

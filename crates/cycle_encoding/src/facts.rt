@@ -8,19 +8,18 @@ ghost use Rattle.graph_meaning.specs.WellFormed as wellformed;
 ghost use Rattle.graph_meaning.specs.WellFormed.{IsLaunchGraph};
 ghost use Rattle.schedule_meaning.specs.Launches as launches;
 ghost use Rattle.schedule_meaning.specs.declared.schedules.To.TheVariants.{Set as SetTo};
-ghost use Rattle.cycle_encoding.specs.Counts.{row_is};
 ghost use Rattle.schedule_meaning.specs.Readers.{operand_of};
 ghost use Rattle.cycle_encoding.specs.Facts.{IsTableOf};
 ghost use Rattle.cycle_encoding.specs.Wanting.{is_wanted_target};
 ghost use Rattle.cycle_encoding.specs.Families as families;
-ghost use Rattle.cycle_encoding.specs.Facts as pinned_facts;
-ghost use Rattle.cycle_encoding.specs.Variables as pinned;
+ghost use Rattle.cycle_encoding.specs.Facts as specs;
+ghost use Rattle.cycle_encoding.specs.Variables as variables;
 
 use crate::marks::{give_constant, mark, unmarked, without_constants};
 use graph_meaning::{LaunchGraph, SetClass, graphs_are_consistent};
 use items::NoMemory;
-use machine_table::{InstrKind, Table};
-use schedule_meaning::{Launch, To, class_at, cluster_of, instr_at, pin_of};
+use machine_table::InstrKind;
+use schedule_meaning::{To, instr_at, pin_of};
 use std::alloc::{AllocError, Global};
 use std::marker::Model;
 use word_ops::{Op, Sort};
@@ -82,43 +81,6 @@ impl<'a> Facts<'a> {
         }
     }
 
-    /// Whether launches of the row give a word: all but stores and branches do.
-    pub fn gives_word(&self, row: u32) -> bool
-        ensures { result ≡ row_is self.now launches.gives_word row }
-    {
-        match self.instr_at(row) {
-            Some(InstrKind::StqU | InstrKind::Beq) | None => false,
-            Some(_) => true,
-        }
-    }
-
-    /// Whether the launch is of a row of the class and gives its word.
-    pub fn gives(&self, class: u32, launch: Launch) -> bool
-        ensures { result ≡ launches.gives self.now class launch }
-    {
-        self.gives_word(launch.row) && class_at(self.graph, launch.row) == class
-    }
-
-    /// The cycle from which the launch's word is seen in a cluster.
-    pub fn ready_in(&self, table: &Table, cluster: u8, launch: Launch) -> u64
-        ensures { result ≡ launches.ready_in self.now table.now cluster launch }
-    {
-        let instr = match self.instr_at(launch.row) {
-            Some(instr) => instr,
-            None => InstrKind::Beq,
-        };
-        let latency = match table.latency(instr) {
-            Some(latency) => u64::from(latency),
-            None => 0,
-        };
-        let cross = if cluster_of(table, launch.slot) == cluster {
-            0
-        } else {
-            u64::from(table.cross())
-        };
-        u64::from(launch.cycle) + latency + cross
-    }
-
     fn constant_of(&self, class: u32) -> Option<u64>
         ensures { result ≡ graphs.constant_of self.now class }
     {
@@ -130,7 +92,7 @@ impl<'a> Facts<'a> {
 
     /// Whether the class is an input's.
     pub fn is_input(&self, class: u32) -> bool
-        ensures { result ≡ pinned.is_input self.now class }
+        ensures { result ≡ variables.is_input self.now class }
     {
         match self.inputs.get(class as usize) {
             Some(is) => *is,
@@ -140,7 +102,7 @@ impl<'a> Facts<'a> {
 
     /// Whether some row of the class gives a word.
     pub fn is_word_class(&self, class: u32) -> bool
-        ensures { result ≡ pinned.is_word_class self.now class }
+        ensures { result ≡ variables.is_word_class self.now class }
     {
         match self.words.get(class as usize) {
             Some(is) => *is,
@@ -158,7 +120,7 @@ impl<'a> Facts<'a> {
     }
 
     fn is_byte(&self, class: u32) -> bool
-        ensures { result ≡ pinned.is_byte self.now class }
+        ensures { result ≡ variables.is_byte self.now class }
     {
         match self.constant_of(class) {
             Some(constant) => constant <= 255,
@@ -175,7 +137,7 @@ impl<'a> Facts<'a> {
 
     /// Whether an input of the class has a register that is no pin, so that nothing writes it.
     pub fn is_safe(&self, class: u32) -> bool
-        ensures { result ≡ pinned.is_safe self.now class }
+        ensures { result ≡ variables.is_safe self.now class }
     {
         match self.safe.get(class as usize) {
             Some(is) => *is,
@@ -185,7 +147,7 @@ impl<'a> Facts<'a> {
 
     /// The numbers of the sets that have pins, in order: no more than there are registers.
     pub fn pins(&self) -> &[u32]
-        ensures value { result.now ≡ pinned.pinned_sets self.now }
+        ensures value { result.now ≡ variables.pinned_sets self.now }
         ensures few { length result.now ≤ 31 }
     {
         self.pins.as_slice()
@@ -202,7 +164,7 @@ impl<'a> Facts<'a> {
 
     /// Whether launches have to make the class: it is a word's, not safe and not the zero class.
     pub fn is_unsafe_class(&self, class: u32) -> bool
-        ensures { result ≡ pinned_facts.is_unsafe_class self.now class }
+        ensures { result ≡ specs.is_unsafe_class self.now class }
     {
         self.is_word_class(class) && !self.is_safe(class) && !self.is_zero(class)
     }
@@ -270,7 +232,7 @@ fn constant_in(op: Op) -> Option<u64>
 
 /// Whether an operator gives a word.
 fn gives_word(op: Op) -> bool
-    ensures { result ≡ pinned.is_word (meanings.sort_of op) }
+    ensures { result ≡ variables.is_word (meanings.sort_of op) }
 {
     match op.sort() {
         Sort::Word => true,
@@ -279,7 +241,7 @@ fn gives_word(op: Op) -> bool
 }
 
 fn words(alloc: Global, graph: &LaunchGraph, classes: u32) -> Result<Vec<bool>, NoMemory>
-    ensures { IfOk result (λ table. IsTableOf (pinned.is_word_class graph.now) table.items) }
+    ensures { IfOk result (λ table. IsTableOf (variables.is_word_class graph.now) table.items) }
 {
     let mut table = unmarked(alloc, classes)?;
     for row in graph.rows.as_slice() {
@@ -289,7 +251,7 @@ fn words(alloc: Global, graph: &LaunchGraph, classes: u32) -> Result<Vec<bool>, 
 }
 
 fn inputs(alloc: Global, graph: &LaunchGraph, classes: u32) -> Result<Vec<bool>, NoMemory>
-    ensures { IfOk result (λ table. IsTableOf (pinned.is_input graph.now) table.items) }
+    ensures { IfOk result (λ table. IsTableOf (variables.is_input graph.now) table.items) }
 {
     let mut table = unmarked(alloc, classes)?;
     for input in graph.inputs.as_slice() {
@@ -312,7 +274,7 @@ fn instrs(alloc: Global, graph: &LaunchGraph) -> Result<Vec<Option<InstrKind>>, 
 }
 
 fn is_input(graph: &LaunchGraph, class: u32) -> bool
-    ensures { result ≡ pinned.is_input graph.now class }
+    ensures { result ≡ variables.is_input graph.now class }
 {
     graph
         .inputs
@@ -322,7 +284,7 @@ fn is_input(graph: &LaunchGraph, class: u32) -> bool
 }
 
 fn is_word_class(graph: &LaunchGraph, class: u32) -> bool
-    ensures { result ≡ pinned.is_word_class graph.now class }
+    ensures { result ≡ variables.is_word_class graph.now class }
 {
     graph
         .rows
@@ -343,7 +305,7 @@ fn has_pin(set: &SetClass, register: u8) -> bool
 
 /// Whether some set is pinned to the register.
 fn is_pin(graph: &LaunchGraph, register: u8) -> bool
-    ensures { result ≡ pinned.is_pin graph.now register }
+    ensures { result ≡ variables.is_pin graph.now register }
 {
     graph
         .sets
@@ -353,7 +315,7 @@ fn is_pin(graph: &LaunchGraph, register: u8) -> bool
 }
 
 fn is_safe(graph: &LaunchGraph, class: u32) -> bool
-    ensures { result ≡ pinned.is_safe graph.now class }
+    ensures { result ≡ variables.is_safe graph.now class }
 {
     graph
         .inputs
@@ -363,7 +325,7 @@ fn is_safe(graph: &LaunchGraph, class: u32) -> bool
 }
 
 fn safe(alloc: Global, graph: &LaunchGraph, classes: u32) -> Result<Vec<bool>, NoMemory>
-    ensures { IfOk result (λ table. IsTableOf (pinned.is_safe graph.now) table.items) }
+    ensures { IfOk result (λ table. IsTableOf (variables.is_safe graph.now) table.items) }
 {
     let mut table = unmarked(alloc, classes)?;
     for input in graph.inputs.as_slice() {
@@ -377,7 +339,7 @@ fn safe(alloc: Global, graph: &LaunchGraph, classes: u32) -> Result<Vec<bool>, N
 /// which there is no memory.
 fn pins(alloc: Global, graph: &LaunchGraph) -> Result<Vec<u32>, NoMemory>
     requires { IsLaunchGraph graph.now }
-    ensures are { IfOk result (λ pins. pins.items ≡ pinned.pinned_sets graph.now) }
+    ensures are { IfOk result (λ pins. pins.items ≡ variables.pinned_sets graph.now) }
     ensures few { IfOk result (λ pins. length pins.items ≤ 31) }
     ensures sets { OnOk result (length graph.now.sets < 2 ^ 30) }
 {

@@ -26,7 +26,7 @@ use cnf_core::{Cnf, Lit};
 use graph_meaning::SetClass;
 use items::{Items, NoMemory};
 use machine_table::Table;
-use schedule_meaning::{Launch, class_at, cluster_of};
+use schedule_meaning::{Launch, class_at, cluster_of, gives, gives_word, ready_in};
 use std::alloc::Global;
 
 /// The launches that give a class, with their variables.
@@ -56,7 +56,7 @@ fn push_giving(
     ensures { OnOk result (given.new.items
         ≡ given.old.items ++ (if gives facts.now class launch then (var, launch) ∷ [] else [])) }
 {
-    if facts.gives(class, launch) {
+    if gives(facts.graph(), class, launch, facts.instr_at(launch.row)) {
         given.push((var, launch))?;
     }
     Ok(())
@@ -343,7 +343,7 @@ fn put_maker(
     ensures { OnOk result (makers.new.items ≡ (if launches.launches facts.now launches.gives_word launch
         then put_at makers.old.items (launches.class_at facts.now launch.row) (var, launch) else makers.old.items)) }
 {
-    if facts.gives_word(launch.row) {
+    if gives_word(facts.instr_at(launch.row)) {
         put_into(makers, class_at(facts.graph(), launch.row), var, launch)?;
     }
     Ok(())
@@ -426,7 +426,9 @@ fn push_ready(
     ensures { OnOk result (clause.new.items
         ≡ clause.old.items ++ (if is_ready facts.now table.now thing launch then positive maker ∷ [] else [])) }
 {
-    if facts.ready_in(table, thing.cluster, launch) <= u64::from(thing.cycle) {
+    if ready_in(table, thing.cluster, launch, facts.instr_at(launch.row))
+        <= u64::from(thing.cycle)
+    {
         clause.push(Lit {
             var: maker,
             positive: true,

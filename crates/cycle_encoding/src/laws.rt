@@ -15,7 +15,7 @@ ghost use Rattle.cycle_encoding.specs.CycleFormula.{launch_vars};
 ghost use Rattle.cycle_encoding.specs.CycleFormula.{Listed as ListedOf, Scope as ScopeOf};
 ghost use Rattle.cycle_encoding.specs.CycleRules.{HasPlace};
 ghost use Rattle.cycle_encoding.specs.CycleFormula.{wide, overwritten_vars, cycle_formula};
-ghost use Rattle.cycle_encoding.specs.Narrow.{IsNarrow};
+ghost use Rattle.cycle_encoding.specs.Narrow.{IsPinnedList};
 ghost use Rattle.cycle_encoding.specs.CycleRules.{AreShown, ArePinsKept, KeepsCycleRules};
 ghost use Rattle.cycle_encoding.specs.Encodings.{AreListed};
 ghost use Rattle.cycle_encoding.specs.declared.encodings.Encoding.{Encoding as EncodingOf};
@@ -29,17 +29,17 @@ use cnf_core::counters_count;
 /// variables. What is left is what some values show that satisfy the clauses, with what it overwrites.
 pub fn parts_keep_rules()
     ensures rules { (g : Graph) (table : TableOf) (k : ℕ) (l : ListedOf) (ls : List LaunchOf) → IsTable table
-        → IsLaunchGraph g → (n : IsNarrow g table k l) → KeepsCycleRules g table k ls
+        → IsLaunchGraph g → (n : IsPinnedList g table k l) → KeepsCycleRules g table k ls
         → KeepsCycleRules g table k (filter n.keep ls) }
     ensures kept { (g : Graph) (table : TableOf) (k : ℕ) (l : ListedOf) (ls : List LaunchOf) → IsTable table
-        → IsLaunchGraph g → (n : IsNarrow g table k l) → KeepsCycleRules g table k ls → (x : LaunchOf)
+        → IsLaunchGraph g → (n : IsPinnedList g table k l) → KeepsCycleRules g table k ls → (x : LaunchOf)
         → Contains ls x → IsTrue (launches g is_store x) ⊎ IsTrue (launches g is_branch x) ⊎ ¬ (x.to ≡ Pool)
         → IsTrue (n.keep x) }
     ensures listed { (g : Graph) (table : TableOf) (k : ℕ) (l : ListedOf) (ls : List LaunchOf) → IsTable table
-        → IsLaunchGraph g → (n : IsNarrow g table k l) → KeepsCycleRules g table k ls
+        → IsLaunchGraph g → (n : IsPinnedList g table k l) → KeepsCycleRules g table k ls
         → (x : LaunchOf) → Contains (filter n.keep ls) x → Contains l.launches x }
     ensures shown { (g : Graph) (table : TableOf) (k : ℕ) (l : ListedOf) (ls : List LaunchOf) → IsTable table
-        → IsLaunchGraph g → (n : IsNarrow g table k l) → KeepsCycleRules g table k ls
+        → IsLaunchGraph g → (n : IsPinnedList g table k l) → KeepsCycleRules g table k ls
         → AreShown g table k l (filter n.keep ls) }
 {
     counters_count();
@@ -51,20 +51,20 @@ pub fn parts_keep_rules()
 /// that keep them are in slots of the table and in the k cycles.
 pub fn cycle_clauses_say_rules()
     ensures shown { (g : Graph) (table : TableOf) (k : ℕ) (l : ListedOf) (v : ℕ → Bool) → IsTable table → IsLaunchGraph g
-        → IsNarrow g table k l → Satisfies v (cycle_formula g table k l).clauses
-        → ArePinsKept g k (shown v (launch_vars g table k l)) (shown v (overwritten_vars g table k l))
-        → KeepsCycleRules g table k (shown v (launch_vars g table k l)) }
+        → IsPinnedList g table k l → Satisfies v (cycle_formula g table k l).clauses
+        → ArePinsKept g k (shown v (launch_vars l)) (shown v (overwritten_vars g table k l))
+        → KeepsCycleRules g table k (shown v (launch_vars l)) }
     ensures apart { (g : Graph) (table : TableOf) (k : ℕ) (l : ListedOf) (v : ℕ → Bool) → IsTable table → IsLaunchGraph g
-        → IsNarrow g table k l → Satisfies v (cycle_formula g table k l).clauses
-        → AllPairs (λ x y. ¬ Collide x y) (shown v (launch_vars g table k l)) }
+        → IsPinnedList g table k l → Satisfies v (cycle_formula g table k l).clauses
+        → AllPairs (λ x y. ¬ Collide x y) (shown v (launch_vars l)) }
     ensures all_apart { (g : Graph) (table : TableOf) (k : ℕ) (v : ℕ → Bool) → IsTable table → IsLaunchGraph g
         → Satisfies v (cycle_formula g table k (wide g table k)).clauses
-        → AllPairs (λ x y. ¬ Collide x y) (shown v (launch_vars g table k (wide g table k))) }
+        → AllPairs (λ x y. ¬ Collide x y) (shown v (launch_vars (wide g table k))) }
     ensures all { (g : Graph) (table : TableOf) (k : ℕ) (v : ℕ → Bool) → IsTable table → IsLaunchGraph g
         → Satisfies v (cycle_formula g table k (wide g table k)).clauses
-        → ArePinsKept g k (shown v (launch_vars g table k (wide g table k)))
+        → ArePinsKept g k (shown v (launch_vars (wide g table k)))
         (shown v (overwritten_vars g table k (wide g table k)))
-        → KeepsCycleRules g table k (shown v (launch_vars g table k (wide g table k))) }
+        → KeepsCycleRules g table k (shown v (launch_vars (wide g table k))) }
     ensures each { (g : Graph) (table : TableOf) (k : ℕ) (ls : List LaunchOf) → IsTable table → IsLaunchGraph g
         → KeepsCycleRules g table k ls → AreShown g table k (wide g table k) ls }
     ensures places { (g : Graph) (table : TableOf) (k : ℕ) (ls : List LaunchOf) → IsTable table

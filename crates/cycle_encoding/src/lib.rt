@@ -1,6 +1,15 @@
 //! The clauses of cycles, slots and values: which launches may be made, what they read and when it is there.
 //!
 //! The first variables of a formula are those of the launches; a plan tells which is which.
+//!
+//! Proved: `encode_as` builds exactly these clauses (`formula`, `plan`), or gives their counts where one passes its
+//! limit, exactly there (`size`, `within`), before any list is built. There are three encodings, by one body: the
+//! wide one has a variable for each launch that ends in time; the narrow one and that with pins speak only of
+//! wanted classes and of launches whose operands can have come. `come_cycles` finds exactly which classes have come
+//! by each cycle up to 24, `wanted` which are wanted. What the values of these clauses show keeps the first four
+//! rules of a schedule, and the fifth for targets without a pin; each list of launches that keeps these has a part
+//! that does and is shown (`cycle_clauses_say_rules`, `parts_keep_rules`). An encoding gives a graph and a table
+//! one list at most (`each_encoding_has_one_list`).
 #![tactic(auto)]
 
 mod buckets;
@@ -27,22 +36,17 @@ mod sizes;
 mod slots;
 mod wanting;
 
-pub use by_destination::launches_from;
-pub use coming::come_cycles;
 pub use counts::{Sizes, one_size, one_vars, row_count, slot_count};
 pub use encoding::{add_vars, build_cycles, encode, encode_as};
 pub use encodings::Encoding;
 pub use facts::{Facts, next_class};
 pub use families::{add_implied, variables};
-pub use launches::{can_begin, cycles, may_use};
+pub use launches::can_begin;
 pub use laws::{
     cycle_clauses_say_rules, cycle_counts_are_found, each_encoding_has_one_list, parts_keep_rules,
 };
-pub use needs_counts::{reads_own, takes_input};
-pub use operands::{There, needs};
+pub use needs_counts::takes_input;
 pub use plans::{EncodeFault, Encoded, VarPlan, launch_of};
-pub use reaching::{destination_count, destinations, goes, late, takes_register};
+pub use reaching::{destination_count, goes, late, takes_register};
 pub use scopes::Scope;
-pub use seen::{Seen, has_cluster};
-pub use sizes::{cycle_sizes, is_overwriting, overwriting_count};
-pub use wanting::wanted;
+pub use sizes::{cycle_sizes, is_overwriting};

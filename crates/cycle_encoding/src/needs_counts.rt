@@ -12,10 +12,10 @@ ghost use Rattle.cycle_encoding.specs.Families as families;
 ghost use Rattle.cycle_encoding.specs.Variables as variables;
 
 use crate::counts::row_count;
-use crate::reaching::{gives_word, takes};
+use crate::reaching::takes;
 use crate::{Facts, Scope};
 use machine_table::{InstrKind, Table};
-use schedule_meaning::{To, class_at, operand_at, operand_count, pin_of};
+use schedule_meaning::{To, class_at, gives_word, operand_at, operand_count, pin_of};
 
 /// Whether some input of the class has the register.
 fn is_input_at(facts: &Facts, class: u32, register: u8) -> bool
@@ -120,7 +120,7 @@ fn row_needs(facts: &Facts, row: u32) -> u64
         return 0;
     };
     let own = needed_count(facts, To::Pool, row);
-    if !gives_word(instr) {
+    if !gives_word(Some(instr)) {
         return own;
     }
     own + set_needs(facts, instr, class_at(facts.graph(), row), row)

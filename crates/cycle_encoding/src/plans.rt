@@ -104,7 +104,8 @@ impl From<NoMemory> for EncodeFault {
     }
 }
 
-/// The launch that a variable means, if it means one; in constant time.
+/// The launch that a variable means, if it means one; in constant time. For callers that look at single variables: what
+/// reads whole assignments goes over the plan's launches.
 pub fn launch_of(plan: &VarPlan, var: u32) -> Option<Launch>
     ensures value { result ≡ (if var == 0 then None else slice_get plan.now.launches (var - 1)) }
 {

@@ -7,43 +7,23 @@ ghost use Rattle.schedule_meaning.specs.Launches as launches;
 ghost use Rattle.schedule_meaning.specs.declared.schedules.To.TheVariants.{Set as SetTo};
 ghost use Rattle.cycle_encoding.specs.Counts.{one_if, row_is};
 ghost use Rattle.cycle_encoding.specs.Counts.{row_destinations};
-ghost use Rattle.cycle_encoding.specs.Facts as pinned;
+ghost use Rattle.cycle_encoding.specs.Facts as specs;
 ghost use Rattle.cycle_encoding.specs.Variables as variables;
 
 use crate::Facts;
 use crate::sizes::is_overwriting;
 use items::NoMemory;
 use machine_table::InstrKind;
-use schedule_meaning::{To, class_at};
+use schedule_meaning::{To, class_at, gives_word, is_load};
 use std::alloc::Global;
-
-/// Whether the instruction is a load.
-fn is_load(instr: InstrKind) -> bool
-    ensures { result ≡ launches.is_load instr }
-{
-    match instr {
-        InstrKind::LdqU => true,
-        _ => false,
-    }
-}
-
-/// Whether the instruction gives a word.
-pub fn gives_word(instr: InstrKind) -> bool
-    ensures { result ≡ launches.gives_word instr }
-{
-    match instr {
-        InstrKind::StqU | InstrKind::Beq => false,
-        _ => true,
-    }
-}
 
 /// Whether a word of the instruction may go to a set with this pin, if it has one: none of a load where the pin is an
 /// input's register.
 fn takes_pin(facts: &Facts, instr: InstrKind, pin: Option<u8>) -> bool
-    ensures { result ≡ pinned.takes_pin facts.now instr pin }
+    ensures { result ≡ specs.takes_pin facts.now instr pin }
 {
     match pin {
-        Some(pin) => !(is_load(instr) && facts.graph().is_input_register(pin)),
+        Some(pin) => !(is_load(Some(instr)) && facts.graph().is_input_register(pin)),
         None => false,
     }
 }
@@ -69,7 +49,7 @@ pub fn destinations(alloc: Global, facts: &Facts, row: u32) -> Result<Vec<To>, N
         return Ok(tos);
     };
     tos.push(To::Pool)?;
-    if gives_word(instr) {
+    if gives_word(Some(instr)) {
         push_sets(&mut tos, facts, instr, class_at(facts.graph(), row))?;
     }
     Ok(tos)
@@ -98,7 +78,7 @@ pub fn destination_count(facts: &Facts, row: u32) -> u64
     let Some(instr) = facts.instr_at(row) else {
         return 0;
     };
-    if !gives_word(instr) {
+    if !gives_word(Some(instr)) {
         return 1;
     }
     1 + taker_count(facts, instr, class_at(facts.graph(), row))
@@ -125,7 +105,7 @@ pub fn goes(facts: &Facts, row: u32, set: u32) -> u64
     let Some(instr) = facts.instr_at(row) else {
         return 0;
     };
-    if !gives_word(instr) {
+    if !gives_word(Some(instr)) {
         return 0;
     }
     u64::from(takes(facts, instr, class_at(facts.graph(), row), set))
@@ -138,7 +118,11 @@ pub fn takes_register(facts: &Facts, row: u32) -> u64
         (row_destinations facts.now row) }
     ensures few { result ≤ 1 }
 {
-    if facts.gives_word(row) { 1 } else { 0 }
+    if gives_word(facts.instr_at(row)) {
+        1
+    } else {
+        0
+    }
 }
 
 /// Whether the pinned set takes a word of the class from the instruction and its pin is an input's register, as a number.
@@ -173,7 +157,7 @@ pub fn late(facts: &Facts, row: u32) -> u64
     let Some(instr) = facts.instr_at(row) else {
         return 0;
     };
-    if !gives_word(instr) {
+    if !gives_word(Some(instr)) {
         return 0;
     }
     sets_late(facts, instr, class_at(facts.graph(), row))

@@ -5,7 +5,7 @@ ghost use Rattle.graph_meaning.specs.WellFormed as wellformed;
 ghost use Rattle.graph_meaning.specs.WellFormed.{IsLaunchGraph};
 ghost use Rattle.machine_table.specs.Tables.{IsTable};
 ghost use Rattle.cycle_encoding.specs.CycleFormula.{wants_in};
-ghost use Rattle.cycle_encoding.specs.Counts as pinned;
+ghost use Rattle.cycle_encoding.specs.Counts as counts;
 ghost use Rattle.cycle_encoding.specs.Facts.{is_unsafe_shown};
 ghost use Rattle.cycle_encoding.specs.Families.{is_made_target};
 ghost use Rattle.cycle_encoding.specs.Variables.{is_overwriting, pinned_sets};
@@ -73,8 +73,8 @@ pub fn cycle_sizes(facts: &Facts, table: &Table, scope: &Scope, k: u32) -> Sizes
     requires graph { IsLaunchGraph facts.now }
     requires table { IsTable table.now }
     requires cycles { k ≤ 24 }
-    ensures vars { result.vars ≡ pinned.cycle_vars facts.now table.now k scope.now }
-    ensures clauses { result.clauses ≡ pinned.cycle_size facts.now table.now k scope.now }
+    ensures vars { result.vars ≡ counts.cycle_vars facts.now table.now k scope.now }
+    ensures clauses { result.clauses ≡ counts.cycle_size facts.now table.now k scope.now }
     ensures few_vars { result.vars < 2 ^ 50 }
     ensures few_clauses { result.clauses < 2 ^ 63 }
 {

@@ -21,7 +21,7 @@ use crate::marks::unmarked;
 use graph_meaning::{LaunchGraph, SetClass};
 use items::{Items, NoMemory};
 use machine_table::InstrKind;
-use schedule_meaning::class_at;
+use schedule_meaning::{class_at, gives_word};
 use std::alloc::Global;
 use word_ops::Op;
 
@@ -188,7 +188,7 @@ fn put_giving(lists: &mut Vec<Items<u32>>, facts: &Facts, row: u32) -> Result<()
     ensures { OnOk result (lists.new.items ≡ (if row_is facts.now launches.gives_word row
         then put_at lists.old.items (launches.class_at facts.now row) row else lists.old.items)) }
 {
-    if facts.gives_word(row) {
+    if gives_word(facts.instr_at(row)) {
         put_row(lists, class_at(facts.graph(), row), row)?;
     }
     Ok(())

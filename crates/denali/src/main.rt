@@ -2,9 +2,9 @@
 #![tactic(auto)]
 
 use denali_cli::run;
-use denali_run::Status;
 use items::NoMemory;
 use outside_io::{StdSink, StdSource};
+use reports::Status;
 use std::env::Args;
 use std::process::ExitCode;
 use std::{env, io};

@@ -2,9 +2,9 @@
 #![tactic(auto)]
 
 use axiom_texts::run;
-use denali_run::Status;
 use items::NoMemory;
 use outside_io::StdSink;
+use reports::Status;
 use std::env::Args;
 use std::process::ExitCode;
 use std::{env, io};

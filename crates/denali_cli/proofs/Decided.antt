@@ -7,9 +7,9 @@ use Rattle.std.specs.declared.result.Result.TheVariants.{Ok, Err}
 use Rattle.outside_io.specs.Taking.{IsRead, TakesUpTo}
 use Rattle.outside_io.specs.declared.reading.ReadAllFault.TheVariants.{TooLong}
 use Rattle.text_core.specs.declared.faults.Fault.{Fault}
-use Rattle.denali_run.specs.declared.reports.Report.{Report}
-use Rattle.denali_run.specs.declared.statuses.Status.{Status}
-use Rattle.denali_run.specs.declared.statuses.Status.TheVariants.{Done, Missing, Usage, ReadFault, Spent, Memory, SourceFault, SinkFault, NoWorld}
+use Rattle.reports.specs.declared.reports.Report.{Report}
+use Rattle.reports.specs.declared.statuses.Status.{Status}
+use Rattle.reports.specs.declared.statuses.Status.TheVariants.{Done, Missing, Usage, ReadFault, Spent, Memory, SourceFault, SinkFault, NoWorld}
 use Rattle.denali_cli.specs.declared.decide.Stop.{Stop}
 use Rattle.denali_cli.specs.Commands.{Command}
 use Rattle.denali_cli.specs.Replies.{IsFaultFor, IsWithinLimit, Reply, Reports, fault_line, faulty, limit_of, too_long, too_long_line}

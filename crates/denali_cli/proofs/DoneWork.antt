@@ -2,8 +2,8 @@
 use Rattle.std.proofs.Common.{◌≡◌, ℕ, List, None, Some, subst}
 use Rattle.std.specs.declared.option.Option.{Option}
 use Rattle.std.specs.Io.KnownBytes.{Appends}
-use Rattle.denali_run.specs.declared.statuses.Status.{Status}
-use Rattle.denali_run.specs.declared.statuses.Status.TheVariants.{ReadFault}
+use Rattle.reports.specs.declared.statuses.Status.{Status}
+use Rattle.reports.specs.declared.statuses.Status.TheVariants.{ReadFault}
 use Rattle.denali_cli.specs.Commands.{Command}
 use Rattle.denali_cli.specs.Replies.{limit_of, Reply, too_long, faulty, answered}
 use Rattle.denali_cli.specs.Outcomes.{Decides, IsReported, ReadsWithin, Works}

@@ -1,5 +1,7 @@
 -- The rows of the replies exclude one another.
-use Rattle.std.proofs.Common.{◌≡◌, ℕ, ◌<◌, ◌≤◌, ◌^◌, ◌⊎◌, ◌↔◌, Bool, true, false, List, [], ◌∷◌, length, Option, Some, fold, refl, sym, ap, subst, ◌∙◌, inl, inr, arith, nat_lt, cond}
+use Rattle.std.proofs.Common.{◌≡◌, ℕ, ◌<◌, ◌≤◌, ◌^◌, ◌⊎◌, ◌↔◌, Bool, true, false, List, [], ◌∷◌, length, Option, None, Some, fold, refl, sym, ap, subst, ◌∙◌, inl, inr, arith, nat_lt, cond}
+use Rattle.std.specs.Prelude.{IfSome, IsSomeAnd}
+use Rattle.std.specs.Option.{option_map}
 use Rattle.answer_texts.specs.ReadAnswers.{IsAnswerFault, ReadsAnswer}
 use Rattle.answer_texts.specs.declared.answers.AnswerText.{AnswerText}
 use Rattle.goal_reader.specs.Grammar.{IsFirstTextFault, Reads}
@@ -7,13 +9,13 @@ use Rattle.goal_meaning.specs.Views.{InputTree}
 use Rattle.run_texts.specs.RunFaults.{IsRunFault, ReadsRun}
 use Rattle.run_texts.specs.declared.texts.RunText.{RunText}
 use Rattle.text_core.specs.declared.faults.Kind.{Kind}
-use Rattle.denali_run.specs.Statuses.{status_code}
+use Rattle.reports.specs.Statuses.{greater, status_code}
 use Rattle.denali_run.specs.GeneratedAnswers.{IsGeneratedLine}
-use Rattle.denali_run.specs.TextAnswers.{greater, greatest_status, status_of}
+use Rattle.denali_run.specs.TextAnswers.{greatest_status, status_of}
 use Rattle.denali_run.specs.declared.results.Answered.{Answered}
 use Rattle.denali_run.specs.declared.results.Answered.TheVariants.{Scheduled, Nowhere, SpentConflicts, SpentSize, NoWorld}
-use Rattle.denali_run.specs.declared.statuses.Status.{Status}
-use Rattle.denali_run.specs.declared.statuses.Status.TheVariants.{Done, Missing, ReadFault, Spent}
+use Rattle.reports.specs.declared.statuses.Status.{Status}
+use Rattle.reports.specs.declared.statuses.Status.TheVariants.{Done, Missing, ReadFault, Spent}
 use Rattle.least_launch.specs.LeastAnswers.{some_is_most}
 use Rattle.least_launch.specs.TailedAnswers.{IsTailedFault, ReadsTailed}
 use Rattle.least_launch.specs.declared.tails.Tail.{Tail}
@@ -29,6 +31,8 @@ use Rattle.denali_cli.specs.Replies.{IsFaultFor, IsPastLimit, IsReadFor, IsWithi
 use Rattle.denali_cli.specs.Replies.{fault_line, faulty, limit_of, too_long, too_long_line}
 use Rattle.code_check.specs.CodeGrammar.{CheckedTree, IsFirstCodesFault, ReadsCodes}
 use Rattle.denali_cli.specs.Commands.{Command, Solve, SolveLeast, Proc, Check, CheckLeast, Trim, Verify, Run, Gen, Cnf}
+use Rattle.denali_cli.specs.Formats.{Format, IsFaultAs, IsReadAs, format_of, limit}
+use Rattle.denali_cli.specs.declared.commands.Format.TheVariants as formats
 use Rattle.denali_cli.specs.VerifiedTexts.{told_status}
 
 -- ---- the status of results
@@ -163,34 +167,47 @@ module _ (laws : Laws) where
   few_bytes : (text : List ℕ) → length text ≤ 1048576 → length text < 2 ^ 29
   few_bytes text le = omega (arith, le)
 
+  apart_as : (format : Format) (text : List ℕ) (place : ℕ) (kind : Kind) → length text ≤ limit format
+      → IsReadAs format text → IsFaultAs format text place kind → ⊥
+  apart_as formats.Goals text place kind short read first = laws.goals_apart text read.0 place kind read.1 first
+  apart_as formats.Proc text place kind short read first = laws.procs_apart text read.0 place kind read.1 first
+  apart_as formats.Answer text place kind short read first = laws.answers_apart text read.0 place kind read.1 first
+  apart_as formats.TailedAnswer text place kind short read first =
+      laws.tails_apart text read.0 read.1 place kind read.2 first
+  apart_as formats.Codes text place kind short read first =
+      laws.codes_apart text read.0 place kind (few_bytes text short) read.1 first
+  apart_as formats.Program text place kind short read first = laws.programs_apart text read.0 place kind read.1 first
+
+  apart_in : (o : Option Format) (text : List ℕ) (place : ℕ) (kind : Kind)
+      → ((most : ℕ) → option_map limit o ≡ Some most → length text ≤ most)
+      → IfSome o (λ format. IsReadAs format text) → IsSomeAnd o (λ format. IsFaultAs format text place kind) → ⊥
+  apart_in None text place kind within read first = absurd first
+  apart_in (Some format) text place kind within read first =
+      apart_as format text place kind (within (limit format) refl) read first
+
   apart : (command : Command) (text : List ℕ) (place : ℕ) (kind : Kind) → IsWithinLimit command text
       → IsReadFor command text → IsFaultFor command text place kind → ⊥
-  apart (Solve s) text place kind within read first = laws.goals_apart text read.0 place kind read.1 first
-  apart (SolveLeast s) text place kind within read first = laws.goals_apart text read.0 place kind read.1 first
-  apart (Proc s) text place kind within read first = laws.procs_apart text read.0 place kind read.1 first
-  apart Check text place kind within read first = laws.answers_apart text read.0 place kind read.1 first
-  apart CheckLeast text place kind within read first =
-      laws.tails_apart text read.0 read.1 place kind read.2 first
-  apart Trim text place kind within read first = laws.answers_apart text read.0 place kind read.1 first
-  apart (Verify rounds nodes) text place kind within read first =
-      laws.codes_apart text read.0 place kind (few_bytes text (within 1048576 refl)) read.1 first
-  apart Run text place kind within read first = laws.programs_apart text read.0 place kind read.1 first
-  apart (Gen size) text place kind within read first = absurd first
-  apart (Cnf goal cycles) text place kind within read first = laws.answers_apart text read.0 place kind read.1 first
+  apart command text place kind within read first = apart_in (format_of command) text place kind within read first
+
+  once_as : (format : Format) (text : List ℕ) (place other : ℕ) (kind another : Kind)
+      → IsFaultAs format text place kind → IsFaultAs format text other another → (place ≡ other) × (kind ≡ another)
+  once_as formats.Goals text place other kind another f g = laws.goals_once text place other kind another f g
+  once_as formats.Proc text place other kind another f g = laws.procs_once text place other kind another f g
+  once_as formats.Answer text place other kind another f g = laws.answers_once text place other kind another f g
+  once_as formats.TailedAnswer text place other kind another f g = laws.tails_once text place other kind another f g
+  once_as formats.Codes text place other kind another f g = laws.codes_once text place other kind another f g
+  once_as formats.Program text place other kind another f g = laws.programs_once text place other kind another f g
+
+  once_in : (o : Option Format) (text : List ℕ) (place other : ℕ) (kind another : Kind)
+      → IsSomeAnd o (λ format. IsFaultAs format text place kind)
+      → IsSomeAnd o (λ format. IsFaultAs format text other another) → (place ≡ other) × (kind ≡ another)
+  once_in None text place other kind another f g = absurd f
+  once_in (Some format) text place other kind another f g = once_as format text place other kind another f g
 
   once : (command : Command) (text : List ℕ) (place other : ℕ) (kind another : Kind)
       → IsFaultFor command text place kind → IsFaultFor command text other another
       → (place ≡ other) × (kind ≡ another)
-  once (Solve s) text place other kind another f g = laws.goals_once text place other kind another f g
-  once (SolveLeast s) text place other kind another f g = laws.goals_once text place other kind another f g
-  once (Proc s) text place other kind another f g = laws.procs_once text place other kind another f g
-  once Check text place other kind another f g = laws.answers_once text place other kind another f g
-  once CheckLeast text place other kind another f g = laws.tails_once text place other kind another f g
-  once Trim text place other kind another f g = laws.answers_once text place other kind another f g
-  once (Verify rounds nodes) text place other kind another f g = laws.codes_once text place other kind another f g
-  once Run text place other kind another f g = laws.programs_once text place other kind another f g
-  once (Gen size) text place other kind another f g = absurd f
-  once (Cnf goal cycles) text place other kind another f g = laws.answers_once text place other kind another f g
+  once command text place other kind another f g = once_in (format_of command) text place other kind another f g
 
   module _ (command : Command) (text written : List ℕ) (status : Status) where
     abbrev HasFault : Type 0

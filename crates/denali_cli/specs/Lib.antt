@@ -1,4 +1,5 @@
 pub mod Commands
+pub mod Formats
 pub mod OptionValues
 pub mod Outcomes
 pub mod PlainForms

@@ -5,8 +5,8 @@ use Rattle.std.specs.declared.option.Option.{Option}
 use Rattle.std.specs.Io.KnownBytes.{Keeps, Appends}
 use Rattle.outside_io.specs.Putting.{AppendsFront}
 use Rattle.outside_io.specs.Taking.{IsRead, TakesWithin}
-use Rattle.denali_run.specs.declared.statuses.Status.{Status}
-use Rattle.denali_run.specs.declared.statuses.Status.TheVariants.{Done, Missing, Spent, NoWorld, Usage, Memory, SourceFault, SinkFault}
+use Rattle.reports.specs.declared.statuses.Status.{Status}
+use Rattle.reports.specs.declared.statuses.Status.TheVariants.{Done, Missing, Spent, NoWorld, Usage, Memory, SourceFault, SinkFault}
 use Rattle.denali_cli.specs.Commands.{Command}
 use Rattle.denali_cli.specs.Replies.{limit_of, IsWithinLimit, usage_line, Reply, Reports}
 
@@ -71,9 +71,11 @@ IsReported NoWorld = Unit {0}
 IsReported _ = ⊥
 
 -- The input is within the command's limit, and the command's report on it was written: for `solve` the lines of right
--- results of its goals, for `check` the lines of the verdicts on an answer, for `trim` the answer with its refutations
--- trimmed or the line of a rejected goal, for `verify` the lines of codes, for `run` how its program ends, for `gen` the
--- line of a right result of its goal, for `cnf` the clauses of a goal in an answer.
+-- results of its goals, and with the flag what is said of their launches; for `proc` the results of its blocks and their
+-- linked words; for `check` the lines of the verdicts on an answer, and with the flag on what is said behind it; for
+-- `trim` the answer with its refutations trimmed or the line of a rejected goal; for `verify` the lines of codes; for
+-- `run` how its program ends; for `gen` the line of a right result of its goal; for `cnf` the clauses of a goal in an
+-- answer.
 pub record Works (command : Command) (left left' written written' : Option (List ℕ)) (status : Status) : Type 0 where
   pub text : List ℕ
   pub bytes : List ℕ

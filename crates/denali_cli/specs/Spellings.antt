@@ -7,7 +7,7 @@ use Rattle.std.specs.declared.option.Option.{Option}
 use Rattle.std.specs.Str.{bytes_eq}
 use Rattle.clap.specs.Words.{App, Kinds, Row, Rule, Text, fault_of, first_of, new_app, new_rule, subcommand_of, with_rule, with_subcommand}
 use Rattle.clap.specs.declared.builder.action.ArgAction.TheVariants.{Set, SetTrue}
-use Rattle.denali_cli.specs.Commands.{Command, Proc, Check, CheckLeast, Trim, Verify, Run, Gen, Cnf}
+use Rattle.denali_cli.specs.Commands.{Command, Proc, Check, CheckLeast, Trim, Verify, Run, Gen}
 use Rattle.denali_cli.specs.declared.options.Options.{Options}
 use Rattle.denali_cli.specs.PlainForms.{cnf_of, solve_of}
 use Rattle.denali_cli.specs.OptionValues.{rounds_value, nodes_value, cycles_value, conflicts_value, pick_value, settings_of, default_rounds, default_nodes, size_value, default_size, goal_number_value}

@@ -1,11 +1,8 @@
 -- What is written of a text of codes, and with which status. Source: this project.
 use Rattle.std.specs.Prelude.{◌≡◌, ℕ, Bool, List, if◌then◌else◌}
-use Rattle.code_check.specs.CodeGrammar.{IsFirstCodesFault}
 use Rattle.code_check.specs.Replies.{IsTold}
-use Rattle.denali_run.specs.declared.reports.TextError.{TextError}
-use Rattle.denali_run.specs.declared.reports.TextError.TheVariants.{Read, Memory}
-use Rattle.denali_run.specs.declared.statuses.Status.{Status}
-use Rattle.denali_run.specs.declared.statuses.Status.TheVariants.{Done, Missing, NoWorld}
+use Rattle.reports.specs.declared.statuses.Status.{Status}
+use Rattle.reports.specs.declared.statuses.Status.TheVariants.{Done, Missing, NoWorld}
 
 -- the status where some code isn't known to be its goal, or some goal holds in no world
 abbrev pub told_status : Bool → Bool → Status
@@ -18,8 +15,3 @@ pub record VerifiesText (rounds nodes : ℕ) (text bytes : List ℕ) (status : S
   pub no_world : Bool
   pub told : IsTold text rounds nodes bytes unknown no_world
   pub status_is : status ≡ told_status unknown no_world
-
--- why codes can't be verified
-abbrev pub VerifyErrorIs : List ℕ → TextError → Type 0
-VerifyErrorIs text (Read fault) = IsFirstCodesFault text fault.place fault.kind
-VerifyErrorIs text Memory = Unit {0}

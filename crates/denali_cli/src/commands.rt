@@ -1,4 +1,7 @@
-// What the program can do.
+// What the program can do, and what it reads for that.
+ghost use Rattle.std.specs.Prelude.{◌≡◌, ◌≤◌};
+ghost use Rattle.denali_cli.specs.Formats as specs;
+
 use denali_run::Settings;
 
 /// What words ask for.
@@ -24,4 +27,47 @@ pub(crate) enum Command {
     Gen(u32),
     /// Writes the clauses for so many cycles of the goal of a number in an answer, counted from 1.
     Cnf { goal: u32, cycles: u32 },
+}
+
+/// What a text is that a command reads.
+#[derive(Clone, Copy)]
+pub(crate) enum Format {
+    Goals,
+    Proc,
+    Answer,
+    /// An answer, and behind it what is said of the numbers of launches.
+    TailedAnswer,
+    /// Goals and codes for them.
+    Codes,
+    Program,
+}
+
+impl Command {
+    /// The format of the text that it reads, if it reads.
+    pub(crate) fn format(self) -> Option<Format>
+        ensures { result ≡ specs.format_of self }
+    {
+        match self {
+            Command::Solve(_) | Command::SolveLeast(_) => Some(Format::Goals),
+            Command::Proc(_) => Some(Format::Proc),
+            Command::Check | Command::Trim | Command::Cnf { .. } => Some(Format::Answer),
+            Command::CheckLeast => Some(Format::TailedAnswer),
+            Command::Verify { .. } => Some(Format::Codes),
+            Command::Run => Some(Format::Program),
+            Command::Gen(_) => None,
+        }
+    }
+}
+
+impl Format {
+    /// The most bytes of a text that is read. An answer may be long.
+    pub(crate) fn limit(self) -> u32
+        ensures value { result ≡ specs.limit self }
+        ensures small { result ≤ 268435456 }
+    {
+        match self {
+            Format::Goals | Format::Proc | Format::Codes | Format::Program => 1048576,
+            Format::Answer | Format::TailedAnswer => 268435456,
+        }
+    }
 }

@@ -1,11 +1,13 @@
 // What is to be written, before any of it is.
-ghost use Rattle.std.specs.Prelude.{◌≡◌, ◌≢◌, ◌≤◌, ◌++◌, None, Some, IfOk, OnOk, decimal, length, IsErrOf, IfErr, IfSome};
+ghost use Rattle.std.specs.Prelude.{◌≡◌, ◌≢◌, ◌≤◌, None, Some, IfOk, OnOk, length, IsErrOf, IfErr, IfSome};
+ghost use Rattle.code_check.specs.CodeGrammar.{IsFirstCodesFault};
 ghost use Rattle.outside_io.specs.Causes.{IsCounted};
+ghost use Rattle.reports.specs.Errors.{IsErrorBy};
 ghost use Rattle.denali_cli.specs.Commands.{Command as Asked, HasValuesInRange};
 ghost use Rattle.denali_cli.specs.Said.{asked_by};
 ghost use Rattle.denali_cli.specs.Replies as replies;
-ghost use Rattle.denali_cli.specs.Replies.{ErrorIs, IsWithinLimit, Reply, Reports, fault_line, too_long_line};
-ghost use Rattle.denali_cli.specs.VerifiedTexts.{VerifiesText, VerifyErrorIs, told_status};
+ghost use Rattle.denali_cli.specs.Replies.{IsFaultFor, IsWithinLimit, Reply, Reports, fault_line, too_long_line};
+ghost use Rattle.denali_cli.specs.VerifiedTexts.{VerifiesText, told_status};
 ghost use Rattle.denali_cli.specs.declared.decide.Stop.TheVariants as stops;
 ghost use Rattle.denali_cli.specs.Outcomes.{Decides, IsReader, IsUnread, IsWhole, Takes};
 
@@ -13,21 +15,16 @@ use crate::commands::Command;
 use crate::words::asked;
 use clause_texts::clauses_text;
 use code_check::{Told, verify_text};
-use denali_run::{Report, Status, TextError, check_text, gen_text, run_text, solve_text};
+use denali_run::{check_text, gen_text, run_text, solve_text};
 use items::NoMemory;
 use itoa::Buffer;
 use least_launch::{check_least_text, solve_least_text};
 use outside_io::{ReadAllFault, Source, read_all};
 use proc_link::proc_text;
 use refute_trim::trim_text;
+use reports::{Report, Status, TextError};
 use std::alloc::Global;
-use text_core::{Fault, TextFault};
-
-/// The most bytes of a text of goals, of codes or of a program.
-const LIMIT: u32 = 1048576;
-
-/// The most bytes of an answer that is to be checked or trimmed.
-const ANSWER_LIMIT: u32 = 268435456;
+use text_core::Fault;
 
 /// `fault LIMIT TooLong`, for an input of more bytes.
 fn too_long(alloc: Global, limit: u32) -> Result<Report, Stop>
@@ -88,12 +85,9 @@ fn limit_of(command: Command) -> Option<u32>
     ensures limit { result ≡ replies.limit_of command }
     ensures small { IfSome result (λ limit. limit ≤ 268435456) }
 {
-    match command {
-        Command::Solve(_) | Command::SolveLeast(_) | Command::Proc(_) => Some(LIMIT),
-        Command::Check | Command::CheckLeast | Command::Trim => Some(ANSWER_LIMIT),
-        Command::Verify { .. } | Command::Run => Some(LIMIT),
-        Command::Gen(_) => None,
-        Command::Cnf { .. } => Some(ANSWER_LIMIT),
+    match command.format() {
+        Some(format) => Some(format.limit()),
+        None => None,
     }
 }
 
@@ -121,13 +115,9 @@ fn verified(alloc: Global, text: &[u8], rounds: u32, nodes: u32) -> Result<Repor
     requires rounds { rounds ≤ 16 }
     requires nodes { (1 ≤ nodes) × (nodes ≤ 4096) }
     ensures told { IfOk result (λ r. VerifiesText rounds nodes text.now r.bytes.items r.status) }
-    ensures error { IfErr result (VerifyErrorIs text.now) }
+    ensures error { IfErr result (IsErrorBy (IsFirstCodesFault text.now)) }
 {
-    match verify_text(alloc, text, rounds, nodes) {
-        Ok(answer) => Ok(told(answer)),
-        Err(TextFault::Fault(fault)) => Err(TextError::Read(fault)),
-        Err(TextFault::Memory) => Err(TextError::Memory),
-    }
+    Ok(told(verify_text(alloc, text, rounds, nodes)?))
 }
 
 /// The command's report on a text.
@@ -135,7 +125,7 @@ fn report_on(alloc: Global, command: Command, text: &[u8]) -> Result<Report, Tex
     requires command { HasValuesInRange command }
     requires few { length text.now ≤ 268435456 }
     ensures reports { IfOk result (λ r. Reports command text.now r.bytes.items r.status) }
-    ensures error { IfErr result (ErrorIs command text.now) }
+    ensures error { IfErr result (IsErrorBy (IsFaultFor command text.now)) }
 {
     match command {
         Command::Solve(settings) => solve_text(alloc, text, &settings),

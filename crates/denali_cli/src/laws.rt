@@ -1,8 +1,8 @@
 // What the replies are, said of each status and of each text.
 ghost use Rattle.std.specs.Prelude.{◌≡◌, ◌<◌, ◌⊎◌, ◌↔◌, ℕ, List, length, Some};
 ghost use Rattle.text_core.specs.declared.faults.Kind.{Kind};
-ghost use Rattle.denali_run.specs.declared.statuses.Status.{Status as Ending};
-ghost use Rattle.denali_run.specs.declared.statuses.Status.TheVariants.{ReadFault};
+ghost use Rattle.reports.specs.declared.statuses.Status.{Status as Ending};
+ghost use Rattle.reports.specs.declared.statuses.Status.TheVariants.{ReadFault};
 ghost use Rattle.denali_cli.specs.Commands.{Command as Asked};
 ghost use Rattle.denali_cli.specs.Outcomes.{IsReported};
 ghost use Rattle.denali_cli.specs.Replies.{IsFaultFor, IsPastLimit, IsReadFor, IsWithinLimit, Reply, Reports, fault_line, limit_of, too_long_line};

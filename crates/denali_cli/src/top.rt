@@ -8,8 +8,8 @@ ghost use Rattle.denali_cli.specs.Outcomes.{IsReader, IsReported, IsUnread, IsWh
 ghost use Rattle.denali_cli.specs.Replies.{limit_of};
 
 use crate::decide::{Stop, decide};
-use denali_run::Status;
 use outside_io::{Sink, SinkFault, Source, write_all};
+use reports::Status;
 use std::alloc::Global;
 
 /// Does what the words ask for. All that is to be written is known before any of it is written.
@@ -31,14 +31,18 @@ pub fn run<S: Source, T: Sink>(
     // registers and memory, within the printed cycles of the table's slots and latencies; the printed graph holds every
     // equality that the printed rounds derive, and no schedule of it fits in fewer cycles, as the printed lines show
     // for one cycle less. Where none is found, lines show that none fits in the most cycles that were asked for. For
-    // `check` the input reads as an answer, whoever wrote it, and the report is a line for each of its goals: `ok` only
-    // where what it claims of the printed graph is true. For `trim` the input reads as an answer too, and the report is
-    // that answer with its refutations trimmed, or the line of the first goal whose refutation is too large or refused.
+    // `solve --least` the same holds, and what is said behind the answer of each schedule's number of launches is true.
+    // For `proc` the input reads as a proc, and the report is the results of the goals of its blocks, and their words in
+    // one list that goes with the blocks for any number of steps.
+    // For `check` the input reads as an answer, whoever wrote it, and the report is a line for each of its goals: `ok` only
+    // where what it claims of the printed graph is true; with `--least` also what is said behind it. For `trim` the input
+    // reads as an answer too, and the report is that answer with its refutations trimmed, or the line of the first goal
+    // whose refutation is too large or refused. For `cnf` it does so, and the report is the clauses of one of its goals for
+    // so many cycles, those that `check` builds, or a line that says why there are none.
     // For `verify` the input reads as goals and codes for them, and the report is a line for each code: `yes` only where
     // the code does what its goal says in each world in which the axioms and assumptions hold. For `run` the input reads
     // as a program, and the report is how it ends. For `gen` the report is the line of a right result of the goal that is
-    // made from the size. For `cnf` the input reads as an answer, and the report is the clauses of one of its goals for so
-    // many cycles, those that `check` builds, or a line that says why there are none.
+    // made from the size.
     ensures right { (command : Asked) → asked_by words.now ≡ Some command → IsReported result → Works command
         (S.left source.old) (S.left source.new) (T.written sink.old) (T.written sink.new) result }
 

@@ -9,7 +9,7 @@ use Rattle.goal_meaning.specs.Views.{InputTree}
 use Rattle.generated_goals.specs.Generated.{generated_goal, generated_input}
 use Rattle.denali_run.specs.GeneratedAnswers.{AnswersGenerated, IsGeneratedLine, generated_settings}
 use Rattle.denali_run.specs.Right.{Right}
-use Rattle.denali_run.specs.declared.reports.Report.{Report}
+use Rattle.reports.specs.declared.reports.Report.{Report}
 use Rattle.denali_run.specs.declared.results.Answered.{Answered}
 use Rattle.denali_run.specs.declared.results.Answered.TheVariants.{NoWorld}
 use Rattle.cycle_encoding.specs.declared.encodings.Encoding.TheVariants.{Pinned}

@@ -1,10 +1,11 @@
 -- The status with the greatest code, result by result.
 use Rattle.std.proofs.Common.{◌≡◌, ℕ, ◌+◌, ◌<◌, List, [], ◌∷◌, ◌++◌, length, take, get_or, fold, refl, sym, ap, ◌∙◌}
 use Rattle.std.proofs.lemmas.List.{take_more}
-use Rattle.denali_run.specs.TextAnswers.{greater, greatest_status, status_of}
+use Rattle.denali_run.specs.TextAnswers.{greatest_status, status_of}
+use Rattle.reports.specs.Statuses.{greater}
 use Rattle.denali_run.specs.declared.results.Answered.{Answered}
-use Rattle.denali_run.specs.declared.statuses.Status.{Status}
-use Rattle.denali_run.specs.declared.statuses.Status.TheVariants.{Done}
+use Rattle.reports.specs.declared.statuses.Status.{Status}
+use Rattle.reports.specs.declared.statuses.Status.TheVariants.{Done}
 
 fold_append : {A B : Type 0} (f : A → B → A) (a : A) (xs : List B) (x : B) → fold f a (xs ++ x ∷ []) ≡ f (fold f a xs) x
 fold_append f a [] x = refl

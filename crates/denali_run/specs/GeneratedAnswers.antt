@@ -8,8 +8,8 @@ use Rattle.denali_run.specs.declared.results.Answered.TheVariants.{Scheduled, No
 use Rattle.cycle_encoding.specs.declared.encodings.Encoding.TheVariants.{Pinned}
 use Rattle.denali_run.specs.declared.settings.Pick.TheVariants.{First}
 use Rattle.denali_run.specs.declared.settings.Settings.{Settings}
-use Rattle.denali_run.specs.declared.statuses.Status.{Status}
-use Rattle.denali_run.specs.declared.statuses.Status.TheVariants as status
+use Rattle.reports.specs.declared.statuses.Status.{Status}
+use Rattle.reports.specs.declared.statuses.Status.TheVariants as status
 
 -- what the work on each generated goal may take: no round of matching, so the graph has the goal's own terms alone
 abbrev pub generated_settings : Settings

@@ -2,8 +2,8 @@ pub mod ClaimedResults
 pub mod GeneratedAnswers
 pub mod GoalOutcomes
 pub mod MatchedGoals
+pub mod Picks
 pub mod Right
-pub mod Statuses
 pub mod TextAnswers
 pub mod TextChecks
 pub mod TextRuns

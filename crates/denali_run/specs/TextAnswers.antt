@@ -1,19 +1,17 @@
 -- Which bytes and which status answer a text of goals. Source: this project.
-use Rattle.std.specs.Prelude.{◌≡◌, ℕ, ◌≤◌, ◌^◌, List, length, fold, nat_lt, if◌then◌else◌}
+use Rattle.std.specs.Prelude.{◌≡◌, ℕ, ◌≤◌, ◌^◌, List, length, fold}
 use Rattle.answer_texts.specs.ReadAnswers.{ReadsAnswer}
-use Rattle.goal_reader.specs.Grammar.{IsFirstTextFault, Reads}
+use Rattle.goal_reader.specs.Grammar.{Reads}
 use Rattle.goal_meaning.specs.Views.{InputTree}
 use Rattle.denali_run.specs.ClaimedResults.{answer_to, answer_text}
 use Rattle.denali_run.specs.Right.{AreRightResults}
-use Rattle.denali_run.specs.Statuses.{status_code}
+use Rattle.reports.specs.Statuses.{greater}
 use Rattle.denali_run.specs.declared.results.Answered.{Answered}
 use Rattle.denali_run.specs.declared.results.Answered.TheVariants.{Scheduled, Nowhere, SpentConflicts, SpentSize, NoWorld}
 use Rattle.cycle_encoding.specs.declared.encodings.Encoding.TheVariants.{Pinned}
 use Rattle.denali_run.specs.declared.settings.Settings.{Settings}
-use Rattle.denali_run.specs.declared.statuses.Status.{Status}
-use Rattle.denali_run.specs.declared.statuses.Status.TheVariants as status
-use Rattle.denali_run.specs.declared.reports.TextError.{TextError}
-use Rattle.denali_run.specs.declared.reports.TextError.TheVariants.{Read, Memory}
+use Rattle.reports.specs.declared.statuses.Status.{Status}
+use Rattle.reports.specs.declared.statuses.Status.TheVariants as status
 
 -- the status that a result asks for
 abbrev pub status_of : Answered → Status
@@ -22,10 +20,6 @@ status_of (Nowhere m) = status.Missing
 status_of (SpentConflicts t) = status.Spent
 status_of (SpentSize l) = status.Spent
 status_of (NoWorld class a b) = status.NoWorld
-
--- of two statuses the one with the greater code
-abbrev pub greater : Status → Status → Status
-greater one other = if nat_lt (status_code one) (status_code other) then other else one
 
 -- the status with the greatest code that the results ask for
 abbrev pub greatest_status : List Answered → Status
@@ -42,8 +36,3 @@ pub record Answers (s : Settings) (text bytes : List ℕ) (status : Status) : Ty
   pub bytes_are : bytes ≡ answer_text Pinned input results
   pub read_back : length text ≤ 2 ^ 20 → ReadsAnswer bytes (answer_to Pinned input results)
   pub status_is : status ≡ greatest_status results
-
--- why a text has no answer
-abbrev pub TextErrorIs : List ℕ → TextError → Type 0
-TextErrorIs text (Read fault) = IsFirstTextFault text fault.place fault.kind
-TextErrorIs text Memory = Unit {0}

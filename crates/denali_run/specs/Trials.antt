@@ -1,9 +1,10 @@
 -- What the clauses for a number of cycles come to, where trials of rising numbers end, and which refusals are passed
 -- on. Source: this project.
-use Rattle.std.specs.Prelude.{◌≡◌, ◌+◌, ◌≤◌, ℕ, Some}
+use Rattle.std.specs.Prelude.{◌≡◌, ◌≤◌, ℕ}
 use Rattle.word_ops.specs.Words.{IsWord}
 use Rattle.cnf_core.specs.Formula.{Formula}
 use Rattle.cnf_core.specs.Outcome.{IsSpent}
+use Rattle.cnf_core.specs.declared.line.Lines.{Lines}
 use Rattle.cycle_encoding.specs.Plans.{IsTooLarge, PassesLimit}
 use Rattle.cycle_encoding.specs.declared.encodings.Encoding.{Encoding}
 use Rattle.cycle_encoding.specs.declared.plans.EncodeFault.{EncodeFault}
@@ -19,7 +20,6 @@ use Rattle.denali_run.specs.Right.{ByClauses, IsLeast, IsTooFew}
 use Rattle.denali_run.specs.declared.results.Answered.{Answered}
 use Rattle.denali_run.specs.declared.results.Answered.TheVariants.{NoWorld}
 use Rattle.denali_run.specs.declared.searching.Reached.{Reached}
-use Rattle.denali_run.specs.declared.searching.Reached.TheVariants as reached
 use Rattle.denali_run.specs.declared.searching.Trial.{Trial}
 use Rattle.denali_run.specs.declared.searching.Trial.TheVariants.{Fitting, Refuted, Spent, Large}
 use Rattle.denali_run.specs.declared.settings.Settings.{Settings}
@@ -34,26 +34,13 @@ IsTrial clauses_for g table k conflicts (Spent lines) =
 IsTrial clauses_for g table k conflicts (Large vars clauses) =
     PassesLimit (clauses_for k) vars clauses × IsWord vars × IsWord clauses
 
--- where numbers of cycles in rising order ended, by the clauses for each of them
-abbrev pub IsTrialsEnd : (ℕ → Formula) → LaunchGraph → Table → Settings → Reached → Type 0
-IsTrialsEnd clauses_for g table s (reached.Fitting k refutation schedule) =
-    (k ≤ s.cycles)
-    × (¬ IsTooLarge (clauses_for k))
-    × Fits g table k schedule.launches
-    × IsLeast clauses_for g table s.conflicts k refutation
-IsTrialsEnd clauses_for g table s (reached.Missing k refutation) =
-    (k ≡ s.cycles) × IsLeast clauses_for g table s.conflicts (k + 1) (Some refutation)
-IsTrialsEnd clauses_for g table s (reached.Spent k refutation lemmas) =
-    (k ≤ s.cycles)
-    × (¬ IsTooLarge (clauses_for k))
-    × IsSpent (clauses_for k) s.conflicts lemmas.lines
-    × IsLeast clauses_for g table s.conflicts k refutation
-IsTrialsEnd clauses_for g table s (reached.Large k refutation vars clauses) =
-    (k ≤ s.cycles)
-    × PassesLimit (clauses_for k) vars clauses
-    × IsWord vars
-    × IsWord clauses
-    × IsLeast clauses_for g table s.conflicts k refutation
+-- Where numbers of cycles in rising order ended, by the clauses for each of them: each below was refuted, and the last
+-- wasn't, unless no more were asked for.
+pub record IsTrialsEnd (clauses_for : ℕ → Formula) (g : LaunchGraph) (table : Table) (s : Settings) (r : Reached) : Type 0 where
+  pub low : r.k ≤ s.cycles
+  pub trial : IsTrial clauses_for g table r.k s.conflicts r.trial
+  pub least : IsLeast clauses_for g table s.conflicts r.k r.below
+  pub last : (lines : Lines) → r.trial ≡ Refuted lines → r.k ≡ s.cycles
 
 -- the same by the clauses of an encoding
 abbrev pub IsTrialsEndIn : Encoding → LaunchGraph → Table → Settings → Reached → Type 0

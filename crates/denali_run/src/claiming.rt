@@ -6,13 +6,13 @@ ghost use Rattle.denali_run.specs.ClaimedResults as format;
 ghost use Rattle.denali_run.specs.TextAnswers as texts;
 ghost use Rattle.cycle_encoding.specs.declared.encodings.Encoding.TheVariants.{Pinned};
 
-use crate::reports::Report;
 use crate::results::{Answered, Found, Large, Matched, Missing, Tried};
 use crate::statuses::greatest_status;
 use answer_texts::{ClaimRef, ClaimedRef, put_goal, put_head};
 use cnf_core::Lines;
 use goal_meaning::Input;
 use items::NoMemory;
+use reports::Report;
 use saturation::Stop;
 use std::alloc::Global;
 use text_core::Name;

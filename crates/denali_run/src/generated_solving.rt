@@ -7,16 +7,15 @@ ghost use Rattle.denali_run.specs.MatchedGoals.{IsSettings};
 ghost use Rattle.denali_run.specs.Right.{Right};
 ghost use Rattle.cycle_encoding.specs.declared.encodings.Encoding.TheVariants.{Pinned};
 
-use crate::reports::Report;
 use crate::results::{Answered, Found};
 use crate::settings::{Pick, Settings};
-use crate::statuses::Status;
 use crate::text_solving::solve_input;
 use generated_goals::{
     generated, generated_goals_can_be_scheduled, generated_goals_have_a_world,
     generated_inputs_are_well_formed,
 };
 use items::NoMemory;
+use reports::{Report, Status};
 use std::alloc::Global;
 use text_core::{put, put_number, put_word};
 

@@ -80,30 +80,13 @@ pub(crate) fn try_cycles<F: Rule>(
     }
 }
 
-/// Where the trial of numbers of cycles in rising order ended: at the first that is enough, at the last that was asked
-/// for, or where a budget was spent. The refutation is that for one cycle less, but in `Missing` that for `k` itself.
+/// Where the trial of numbers of cycles in rising order ended: at the first that is enough or spent a budget, or at the
+/// last that was asked for. `below` refutes the clauses for one cycle less, where `k` isn't 0.
 #[derive(Drop)]
-pub(crate) enum Reached {
-    Fitting {
-        k: u32,
-        refutation: Option<Lines>,
-        schedule: Schedule,
-    },
-    Missing {
-        k: u32,
-        refutation: Lines,
-    },
-    Spent {
-        k: u32,
-        refutation: Option<Lines>,
-        lemmas: Lines,
-    },
-    Large {
-        k: u32,
-        refutation: Option<Lines>,
-        vars: u64,
-        clauses: u64,
-    },
+pub(crate) struct Reached {
+    pub(crate) k: u32,
+    pub(crate) below: Option<Lines>,
+    pub(crate) trial: Trial,
 }
 
 /// Tries numbers of cycles in rising order. What the graph and the table say, and what has variables, is found once for
@@ -143,9 +126,9 @@ fn reach_in<F: Rule>(
     ensures { IfOk result (IsTrialsEnd (formula_in scope.now facts.now table.now) graph.now table.now settings.now) }
 {
     let mut k = 0;
-    let mut refutation = None;
+    let mut below = None;
     loop {
-        match try_cycles(
+        let trial = try_cycles(
             alloc,
             graph,
             facts,
@@ -154,38 +137,18 @@ fn reach_in<F: Rule>(
             k,
             settings.conflicts,
             picker,
-        )? {
-            Trial::Fitting(schedule) => {
-                return Ok(Reached::Fitting {
-                    k,
-                    refutation,
-                    schedule,
-                });
-            }
+        )?;
+        match trial {
             Trial::Refuted(lines) => {
                 if k == settings.cycles {
-                    return Ok(Reached::Missing {
-                        k,
-                        refutation: lines,
-                    });
+                    let trial = Trial::Refuted(lines);
+                    return Ok(Reached { k, below, trial });
                 }
-                refutation = Some(lines);
+                below = Some(lines);
                 k += 1;
             }
-            Trial::Spent(lemmas) => {
-                return Ok(Reached::Spent {
-                    k,
-                    refutation,
-                    lemmas,
-                });
-            }
-            Trial::Large { vars, clauses } => {
-                return Ok(Reached::Large {
-                    k,
-                    refutation,
-                    vars,
-                    clauses,
-                });
+            Trial::Fitting(_) | Trial::Spent(_) | Trial::Large { .. } => {
+                return Ok(Reached { k, below, trial });
             }
         }
     }
@@ -206,12 +169,11 @@ pub(crate) fn search<F: Rule>(
         → IsMatched input goal settings.now matched → Right Pinned input goal settings.now answered) }
 {
     let reached = reach(alloc, &matched.graph, table, settings, picker)?;
-    match reached {
-        Reached::Fitting {
-            k,
-            refutation,
-            schedule,
-        } => {
+    let k = reached.k;
+    let refutation = reached.below;
+    let trial = reached.trial;
+    match trial {
+        Trial::Fitting(schedule) => {
             let listing = assign(alloc, &matched.graph, table, k, &schedule)?;
             let words = words_of(alloc, listing.items.as_slice())?;
             Ok(Answered::Scheduled(Found {
@@ -223,27 +185,18 @@ pub(crate) fn search<F: Rule>(
                 refutation,
             }))
         }
-        Reached::Missing { k, refutation } => Ok(Answered::Nowhere(Missing {
+        Trial::Refuted(refutation) => Ok(Answered::Nowhere(Missing {
             matched,
             k,
             refutation,
         })),
-        Reached::Spent {
-            k,
-            refutation,
-            lemmas,
-        } => Ok(Answered::SpentConflicts(Tried {
+        Trial::Spent(lemmas) => Ok(Answered::SpentConflicts(Tried {
             matched,
             k,
             refutation,
             lemmas,
         })),
-        Reached::Large {
-            k,
-            refutation,
-            vars,
-            clauses,
-        } => Ok(Answered::SpentSize(Large {
+        Trial::Large { vars, clauses } => Ok(Answered::SpentSize(Large {
             matched,
             k,
             refutation,

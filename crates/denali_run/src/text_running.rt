@@ -1,25 +1,21 @@
 // The work of `run`, from the bytes of a program's text to those of its report.
 ghost use Rattle.std.specs.Prelude.{◌<◌, ◌^◌, IfOk, IfErr, length};
-ghost use Rattle.denali_run.specs.TextRuns.{RunErrorIs, RunsText};
+ghost use Rattle.reports.specs.Errors.{IsErrorBy};
+ghost use Rattle.run_texts.specs.RunFaults.{IsRunFault};
+ghost use Rattle.denali_run.specs.TextRuns.{RunsText};
 
-use crate::reports::{Report, TextError};
-use crate::statuses::Status;
+use reports::{Report, Status, TextError};
 use run_texts::{read, report};
 use std::alloc::Global;
-use text_core::TextFault;
 
 /// Runs the program of a text from its first word, with the words that the text puts into registers and memory, and
 /// reports how it ends, and which registers and places of memory then don't hold 0.
 pub fn run_text(alloc: Global, text: &[u8]) -> Result<Report, TextError>
     requires few { length text.now < 2 ^ 29 }
     ensures ran { IfOk result (λ report. RunsText text.now report.bytes.items report.status) }
-    ensures error { IfErr result (RunErrorIs text.now) }
+    ensures error { IfErr result (IsErrorBy (IsRunFault text.now)) }
 {
-    let program = match read(alloc, text) {
-        Ok(program) => program,
-        Err(TextFault::Fault(fault)) => return Err(TextError::Read(fault)),
-        Err(TextFault::Memory) => return Err(TextError::Memory),
-    };
+    let program = read(alloc, text)?;
     Ok(Report {
         bytes: report(alloc, &program)?,
         status: Status::Done,

@@ -3,7 +3,6 @@ pub mod Merging
 pub mod MergeSteps
 pub mod Inserting
 pub mod KeptValues
-pub mod RowSearch
 pub mod Sorts
 pub mod SameKeys
 pub mod Places

@@ -91,10 +91,3 @@ each_of_map f xs ys e k l =
 
 pub length_of_map : (f : ℕ → ℕ) (xs ys : List ℕ) → map f xs ≡ map f ys → length xs ≡ length ys
 length_of_map f xs ys e = omega (arith, length-map xs f, length-map ys f, ap length e)
-
--- the row that a loop over rows is at
-pub row_at : {O : Type 0} (rows : List (Row O)) (i : ℕ) (x : Row O) → i < length rows → x ≡ get_or rows i x → (d : Row O) → get_or rows i d ≡ x
-row_at rows i x l is d = get_or_default rows i d x l ∙ sym is
-
-pub contains_row : {O : Type 0} (rows : List (Row O)) (i : ℕ) (x : Row O) → i < length rows → x ≡ get_or rows i x → Contains rows x
-contains_row rows i x l is = (i, l, sym is)

@@ -1,14 +1,11 @@
 -- What the merge's code does, step by step, over plain lists.
-use Rattle.std.proofs.Common.{◌≡◌, ℕ, ◌<◌, ◌^◌, List, map, length, get_or, remove, refl, sym, ap, ◌∙◌, subst, subst₂, inl, inr, arith}
-use Rattle.std.proofs.lemmas.List.{length-map, get_or-map}
-use Rattle.std.proofs.lemmas.List.Elements.{Contains-get_or}
+use Rattle.std.proofs.Common.{◌≡◌, ℕ, ◌<◌, ◌^◌, List, map, length, get_or, refl, sym, ap, ◌∙◌, subst, inl, inr, arith}
 use Rattle.word_terms.specs.Signature.{Signature}
-use Rattle.egraph.specs.declared.rows.Row.{Row}
 use Rattle.egraph.specs.Graph.{Graph, IsGraph, HasOneConstantEach}
 use Rattle.egraph.specs.Joined.{Joined, kept, pair, symmetric, transitive, relabel, IsMerged, Clash}
-use Rattle.egraph.specs.Steps.{moved, AgreesAt, HasTwoConstants}
-use Rattle.egraph.proofs.Lists.{some_at, moved_cases, moved_to, at_map}
-use Rattle.egraph.proofs.Merging.{IsMerging, MayJoin, joined_up, step, start, agreeing_may_join, drop_twin, has_made, has_present, row_made, current_has, joined_made}
+use Rattle.egraph.specs.Steps.{moved, HasTwoConstants}
+use Rattle.egraph.proofs.Lists.{moved_cases, at_map}
+use Rattle.egraph.proofs.Merging.{IsMerging, MayJoin, step, start, has_made, has_present, row_made, current_has, joined_made}
 
 pub moved_from : (from to : ℕ) → moved from to from ≡ to
 moved_from from to = elim (moved_cases from to from) [ inl h ↦ h.1 | inr h ↦ absurd (h.0 refl) ]
@@ -28,50 +25,6 @@ module _ {O : Type 0} (s : Signature O) (old : Graph O) (is : IsGraph s old) (a 
         to_present = pb;
         forced = transitive (kept (get_or old.current a 0) a ma la pa) (transitive pair (kept b (get_or old.current b 0) lb mb (sym pb)));
       }
-
-  -- the classes of a and b are one after the first step
-  pub pair_after_first : (current : List ℕ) → a < length old.current → b < length old.current →
-      current ≡ map (moved (get_or old.current a 0) (get_or old.current b 0)) old.current →
-      get_or current a 0 ≡ get_or current b 0
-  pair_after_first current la lb e =
-      let f = moved (get_or old.current a 0) (get_or old.current b 0) in
-      ap (λ xs. get_or xs a 0) e ∙ at_map f old.current a la ∙ moved_from (get_or old.current a 0) (get_or old.current b 0)
-      ∙ sym (ap (λ xs. get_or xs b 0) e ∙ at_map f old.current b lb ∙ moved_to (get_or old.current a 0) (get_or old.current b 0))
-
-  pub first_step : (rows : List (Row O)) (current : List ℕ) → a < length old.current → b < length old.current →
-      rows ≡ map (relabel (moved (get_or old.current a 0) (get_or old.current b 0))) old.rows →
-      current ≡ map (moved (get_or old.current a 0) (get_or old.current b 0)) old.current →
-      IsMerging old a b (record { rows = rows; current = current })
-  first_step rows current la lb er ec =
-      let m = step s old is a b old (start s old is a b) (get_or old.current a 0) (get_or old.current b 0) (first_may_join la lb) in
-      subst₂ (λ rs cs. IsMerging old a b (record { rows = rs; current = cs })) (sym er) (sym ec) m
-
-  pub next_step : (rows rows' rows'' : List (Row O)) (current current' : List ℕ) (i j from to : ℕ) →
-      IsMerging old a b (record { rows = rows; current = current }) →
-      i < j → j < length rows → AgreesAt rows i j →
-      ((d : Row O) → (get_or rows j d).class ≡ from) →
-      ((d : Row O) → (get_or rows i d).class ≡ to) →
-      rows' ≡ map (relabel (moved from to)) rows →
-      current' ≡ map (moved from to) current →
-      rows'' ≡ remove rows' j →
-      IsMerging old a b (record { rows = rows''; current = current' })
-  next_step rows rows' rows'' current current' i j from to m lt lj agree cj ci er ec ed =
-      let g : Graph O = record { rows = rows; current = current } in
-      let d = (some_at rows j lj).0 in
-      let li : i < length rows = omega arith in
-      let may' = agreeing_may_join s old is a b g m (get_or rows i d) (get_or rows j d) (Contains-get_or rows i d li) (Contains-get_or rows j d lj) (agree d) in
-      let may : MayJoin s old is a b g m from to = subst₂ (λ x y. MayJoin s old is a b g m x y) (cj d) (ci d) may' in
-      let stepped = step s old is a b g m from to may in
-      let f = relabel (moved from to) in
-      let twins : (e : Row O) → get_or (map f rows) i e ≡ get_or (map f rows) j e =
-      λ e.
-      let r = get_or rows i e in
-      let t = get_or rows j e in
-      let h = agree e in
-      let cls : moved from to r.class ≡ moved from to t.class = ap (moved from to) (ci e) ∙ moved_to from to ∙ sym (moved_from from to) ∙ ap (moved from to) (sym (cj e)) in
-      get_or-map f rows i e e li ∙ (λ k. record { op = h.op k; operands = map (moved from to) (h.operands k); class = cls k }) ∙ sym (get_or-map f rows j e e lj) in
-      let dropped = drop_twin s old is a b (joined_up from to g) stepped i j lt (omega (arith, lj, length-map rows f)) twins in
-      subst₂ (λ rs cs. IsMerging old a b (record { rows = rs; current = cs })) (sym (ed ∙ ap (λ rs. remove rs j) er)) (sym ec) dropped
 
   -- two constants of one class are a clash of the merge
   pub clash_from : (new : Graph O) (m : IsMerging old a b new) (class x y : ℕ) → HasTwoConstants s new.rows class x y → Clash s old a b class x y

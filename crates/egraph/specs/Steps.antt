@@ -1,16 +1,12 @@
 -- What the steps of a merge do. No public clause rests on these.
-use Rattle.std.specs.Prelude.{◌≢◌, ℕ, List, slice_index_or, ◌==◌, if◌then◌else◌}
+use Rattle.std.specs.Prelude.{◌≢◌, ℕ, List, ◌==◌, if◌then◌else◌}
 use Rattle.word_terms.specs.Signature.{Signature}
 use Rattle.egraph.specs.declared.rows.Row.{Row}
-use Rattle.egraph.specs.Graph.{Agree, HasConstant}
+use Rattle.egraph.specs.Graph.{HasConstant}
 
 -- the class, or `to` in place of `from`
 abbrev pub moved : ℕ → ℕ → ℕ → ℕ
 moved from to class = if class == from then to else class
-
--- the rows at two places agree
-abbrev pub AgreesAt : {O : Type 0} → List (Row O) → ℕ → ℕ → Type 0
-AgreesAt {O} rows i j = (d : Row O) → Agree (slice_index_or rows i d) (slice_index_or rows j d)
 
 -- the class has two different constants
 pub record HasTwoConstants {O : Type 0} (s : Signature O) (rows : List (Row O)) (class x y : ℕ) : Type 0 where

@@ -83,7 +83,7 @@ if_ok_on P Q R (Err x) f h k = tt
 module _ (g : LaunchGraph) (table : Table) (k n : ℕ) (l : Listed) (f : Formula) (launches : List Launch)
     (ef : f ≡ fewer_formula g table k l n) (el : launches ≡ l.launches) where
   pub shows_few : ((v : ℕ → Bool) → Satisfies v (fewer_formula g table k l n).clauses
-      → Fits g table k (shown v (launch_vars g table k l)) × (length (shown v (launch_vars g table k l)) ≤ n))
+      → Fits g table k (shown v (launch_vars l)) × (length (shown v (launch_vars l)) ≤ n))
       → (v : ℕ → Bool) → Satisfies v f.clauses
       → Fits g table k (shown v (numbered 0 launches)) × (length (shown v (numbered 0 launches)) ≤ n)
   shows_few says v h =

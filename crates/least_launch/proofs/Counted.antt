@@ -31,7 +31,7 @@ module _ (exact : AreExact) (g : LaunchGraph) (table : Table) (k n : ℕ) (l : L
   before = whole_formula g table k l
 
   abbrev xs : List (ℕ × Launch)
-  xs = launch_vars g table k l
+  xs = launch_vars l
 
   pub launches_first : 0 + length l.launches ≤ before.vars
   launches_first = omega arith

@@ -1,6 +1,5 @@
 -- How many launches have variables, and the counts of a formula with a counter behind it.
-use Rattle.std.proofs.Common.{◌≡◌, ℕ, ◌+◌, ◌*◌, List, length, sym, ap, ◌∙◌, length-append, Option, Some, None}
-use Rattle.std.specs.Prelude.{SomeIff}
+use Rattle.std.proofs.Common.{◌≡◌, ℕ, ◌+◌, ◌*◌, List, length, sym, ap, ◌∙◌, length-append}
 use Rattle.std.specs.List.{range_with_len, sum_by}
 use Rattle.cnf_core.specs.Counter.{at_most_clauses, at_most_size, at_most_vars}
 use Rattle.cnf_core.specs.Formula.{Formula}
@@ -32,11 +31,6 @@ module _ (g : LaunchGraph) (table : Table) (k : ℕ) (s : Scope) where
   pub rows_are : (n : ℕ) → n ≡ length g.rows + 1 + length g.sets → sum_by row_size (range_with_len 0 n)
       ≡ length (listed_in g table k s).launches
   rows_are n all = ap (λ m. sum_by row_size (range_with_len 0 m)) all ∙ sym (destined-count g table k s)
-
--- a sum that is told where it fits is this sum
-pub told_sum : (P : Type 0) (o : Option ℕ) (n sum : ℕ) → o ≡ Some n → SomeIff o P sum → n ≡ sum
-told_sum P None n sum is h = absurd (cc)
-told_sum P (Some m) n sum is h = (let e : m ≡ n = cc in sym e ∙ h.1)
 
 -- with a counter over as many literals as there are launches
 pub vars_with : (n count a b total : ℕ) (launches : List Launch) (f : Formula) → a ≡ f.vars → count ≡ length launches

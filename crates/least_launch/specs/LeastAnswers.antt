@@ -5,13 +5,14 @@ use Rattle.std.specs.List.{AllZip, list_any}
 use Rattle.cycle_encoding.specs.declared.encodings.Encoding.TheVariants.{Pinned}
 use Rattle.denali_run.specs.ClaimedResults.{answer_text, answer_to}
 use Rattle.denali_run.specs.Right.{AreRightResults}
-use Rattle.denali_run.specs.TextAnswers.{greater, greatest_status}
+use Rattle.denali_run.specs.TextAnswers.{greatest_status}
+use Rattle.reports.specs.Statuses.{greater}
 use Rattle.denali_run.specs.declared.results.Answered.{Answered}
 use Rattle.denali_run.specs.declared.results.Answered.TheVariants.{Scheduled}
 use Rattle.denali_run.specs.declared.results.Found.{Found}
 use Rattle.denali_run.specs.declared.settings.Settings.{Settings}
-use Rattle.denali_run.specs.declared.statuses.Status.{Status}
-use Rattle.denali_run.specs.declared.statuses.Status.TheVariants as status
+use Rattle.reports.specs.declared.statuses.Status.{Status}
+use Rattle.reports.specs.declared.statuses.Status.TheVariants as status
 use Rattle.goal_meaning.specs.Views.{InputTree}
 use Rattle.goal_reader.specs.Grammar.{Reads}
 use Rattle.machine_table.specs.declared.tables.Table.{Table}

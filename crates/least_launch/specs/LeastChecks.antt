@@ -5,14 +5,12 @@ use Rattle.answer_check.specs.Reports.{claim_words, encoding_named, is_rejection
 use Rattle.answer_texts.specs.declared.answers.AnswerText.{AnswerText}
 use Rattle.answer_texts.specs.declared.answers.Claimed.{Claimed}
 use Rattle.cycle_encoding.specs.declared.encodings.Encoding.{Encoding}
-use Rattle.denali_run.specs.declared.reports.TextError.{TextError}
-use Rattle.denali_run.specs.declared.reports.TextError.TheVariants.{Read, Memory}
-use Rattle.denali_run.specs.declared.statuses.Status.{Status}
-use Rattle.denali_run.specs.declared.statuses.Status.TheVariants.{Done, Missing}
+use Rattle.reports.specs.declared.statuses.Status.{Status}
+use Rattle.reports.specs.declared.statuses.Status.TheVariants.{Done, Missing}
 use Rattle.machine_table.specs.declared.tables.Table.{Table}
 use Rattle.text_core.specs.LineTexts.{Words, lines_text}
 use Rattle.least_launch.specs.TailVerdicts.{IsTailVerdict, IsTrueVerdict}
-use Rattle.least_launch.specs.TailedAnswers.{IsTailedFault, ReadsTailed}
+use Rattle.least_launch.specs.TailedAnswers.{ReadsTailed}
 use Rattle.least_launch.specs.declared.tails.Tail.{Tail}
 use Rattle.least_launch.specs.declared.verdicts.TailVerdict.{TailVerdict}
 use Rattle.least_launch.specs.declared.verdicts.TailVerdict.TheVariants.{Plain, Count, Size, Fewer, Least, Most}
@@ -76,8 +74,3 @@ pub record ChecksLeast (text bytes : List ℕ) (status : Status) : Type 0 where
   pub rejected : Bool
   pub report : IsTailReport answer said bytes rejected
   pub status_is : status ≡ (if rejected then Missing else Done)
-
--- why a text can't be checked
-abbrev pub TailErrorIs : List ℕ → TextError → Type 0
-TailErrorIs text (Read fault) = IsTailedFault text fault.place fault.kind
-TailErrorIs text Memory = Unit {0}

@@ -1,13 +1,14 @@
 // The line of each goal of an answer with lines behind it, and the report on the whole.
-ghost use Rattle.std.specs.Prelude.{◌≡◌, ◌++◌, ◌∷◌, ◌<◌, ◌^◌, ℕ, [], All, IfOk, IfErr, IfSome, OnOk, codes, decimal, length, map};
-ghost use Rattle.std.specs.List.{AllZip};
+ghost use Rattle.std.specs.Prelude.{◌≡◌, ◌++◌, ◌∷◌, ◌<◌, ◌^◌, ℕ, [], All, IfOk, IfErr, OnOk, codes, decimal, length, map};
 ghost use Rattle.answer_check.specs.Reports.{claim_words};
 ghost use Rattle.answer_texts.specs.WellFormed.{IsAnswer, IsClaimed};
 ghost use Rattle.launch_graph.specs.LineParts.{words_behind};
 ghost use Rattle.machine_table.specs.Tables.{IsTable};
 ghost use Rattle.text_core.specs.LineTexts.{line_text};
-ghost use Rattle.least_launch.specs.LeastChecks.{ChecksLeast, IsTailReport, IsTailReportOn, TailErrorIs, known_words, tail_verdict_words};
+ghost use Rattle.least_launch.specs.LeastChecks.{ChecksLeast, IsTailReport, IsTailReportOn, known_words, tail_verdict_words};
 ghost use Rattle.least_launch.specs.TailVerdicts.{HaveTheirTails};
+ghost use Rattle.least_launch.specs.TailedAnswers.{IsTailedFault};
+ghost use Rattle.reports.specs.Errors.{IsErrorBy};
 
 use crate::checking::check_said;
 use crate::tail_reading::read_tailed;
@@ -16,11 +17,11 @@ use crate::verdicts::TailVerdict;
 use answer_check::{Checked, encoding_named, put_verdict};
 use answer_texts::{Claim, Claimed, read_answers_are_well_formed};
 use cycle_encoding::Encoding;
-use denali_run::{Report, Status, TextError};
 use items::NoMemory;
 use machine_table::Table;
+use reports::{Report, Status, TextError};
 use std::alloc::Global;
-use text_core::{TextFault, put, put_number, put_word};
+use text_core::{put, put_number, put_word};
 
 /// `no`, a goal's name, what is wrong, and numbers.
 fn put_wrong(
@@ -145,14 +146,10 @@ fn check_tailed(alloc: Global, tailed: &Tailed) -> Result<Checked, NoMemory>
 pub fn check_least_text(alloc: Global, text: &[u8]) -> Result<Report, TextError>
     requires few { length text.now < 2 ^ 29 }
     ensures checked { IfOk result (λ report. ChecksLeast text.now report.bytes.items report.status) }
-    ensures error { IfErr result (TailErrorIs text.now) }
+    ensures error { IfErr result (IsErrorBy (IsTailedFault text.now)) }
 {
     read_answers_are_well_formed();
-    let tailed = match read_tailed(alloc, text) {
-        Ok(tailed) => tailed,
-        Err(TextFault::Fault(fault)) => return Err(TextError::Read(fault)),
-        Err(TextFault::Memory) => return Err(TextError::Memory),
-    };
+    let tailed = read_tailed(alloc, text)?;
     let checked = check_tailed(alloc, &tailed)?;
     let status = if checked.rejected {
         Status::Missing

@@ -1,5 +1,5 @@
 // The tests of what is said of one schedule behind an answer.
-ghost use Rattle.std.specs.Prelude.{◌≡◌, ◌↔◌, ◌+◌, ◌<◌, ◌≤◌, ◌^◌, ℕ, length, IfOk, IfNone, IfSome, IsTrue, MatchOption, Some, option_copied, is_some};
+ghost use Rattle.std.specs.Prelude.{◌≡◌, ◌↔◌, ◌+◌, ◌<◌, ◌≤◌, ℕ, length, IfOk, IfNone, IfSome, IsTrue, MatchOption, Some, is_some};
 ghost use Rattle.answer_check.specs.Soundness.{IsSound};
 ghost use Rattle.answer_check.specs.Verdicts.{IsVerdict};
 ghost use Rattle.answer_check.specs.declared.verdicts.Verdict.TheVariants.{Holds};
@@ -12,10 +12,7 @@ ghost use Rattle.cycle_encoding.specs.declared.encodings.Encoding.{Encoding as E
 ghost use Rattle.cycle_encoding.specs.declared.encodings.Encoding.TheVariants.{Pinned};
 ghost use Rattle.graph_meaning.specs.WellFormed.{IsLaunchGraph};
 ghost use Rattle.machine_table.specs.Tables.{IsTable};
-ghost use Rattle.schedule_meaning.specs.Fits.{Fits};
-ghost use Rattle.schedule_meaning.specs.declared.schedules.Launch.{Launch as LaunchOf};
 ghost use Rattle.least_launch.specs.FewerLaunches.{fewer_in};
-ghost use Rattle.least_launch.specs.Fewest.{NoneHasFewer};
 ghost use Rattle.least_launch.specs.LeastChecks.{IsTailJudged};
 ghost use Rattle.least_launch.specs.TailVerdicts as specs;
 ghost use Rattle.least_launch.specs.TailVerdicts.{FitsAsClaimed, HasFewLines, HasRefusedLine, HasTrueLines, HasTrueSize, HoldsOf, IsByClauses, ClaimsSchedule, IsTailOutcome, SaysTrue, TellsNoneFewer};
@@ -101,29 +98,28 @@ fn are_right(sizes: Sizes, tail: &Tail) -> bool
 
 /// The true counts of the clauses for at most `n` launches, if they are wrong for what is said.
 fn wrong_size(
-    alloc: Global,
     facts: &Facts,
     table: &Table,
     scope: &Scope,
     k: u32,
     n: u32,
     tail: &Tail,
-) -> Result<Option<Sizes>, NoMemory>
+) -> Option<Sizes>
     requires cycles { k ≤ 24 }
     requires launches { n ≤ 192 }
     requires table { IsTable table.now }
     requires graph { IsLaunchGraph facts.now }
-    ensures { IfOk result (λ found. MatchOption found
+    ensures { MatchOption result
         (HasTrueSize (fewer_in scope.now facts.now table.now k n) tail.now)
         (λ s. (¬ HasTrueSize (fewer_in scope.now facts.now table.now k n) tail.now)
         × (s.vars ≡ (fewer_in scope.now facts.now table.now k n).vars)
-        × (s.clauses ≡ length (fewer_in scope.now facts.now table.now k n).clauses))) }
+        × (s.clauses ≡ length (fewer_in scope.now facts.now table.now k n).clauses)) }
 {
-    let sizes = count_fewer(alloc, facts, table, scope, k, n)?;
+    let sizes = count_fewer(facts, table, scope, k, n);
     if are_right(sizes, tail) {
-        Ok(None)
+        None
     } else {
-        Ok(Some(sizes))
+        Some(sizes)
     }
 }
 
@@ -176,7 +172,7 @@ fn check_clauses(
     ensures outcome { IfOk result (λ v. IsByClauses tail.now v (fewer_in scope.now facts.now table.now k n)) }
     ensures sound { IfOk result (SaysTrue facts.now table.now k) }
 {
-    if let Some(sizes) = wrong_size(alloc, facts, table, scope, k, n, tail)? {
+    if let Some(sizes) = wrong_size(facts, table, scope, k, n, tail) {
         return Ok(TailVerdict::Size {
             vars: sizes.vars,
             clauses: sizes.clauses,

@@ -1,5 +1,5 @@
 // The counts of the clauses of schedules with few launches, found before any clause is built.
-ghost use Rattle.std.specs.Prelude.{◌≡◌, ◌*◌, ◌≤◌, ◌<◌, ◌^◌, length, IfOk};
+ghost use Rattle.std.specs.Prelude.{◌≡◌, ◌*◌, ◌≤◌, ◌<◌, ◌^◌, length};
 ghost use Rattle.std.specs.List.{sum_by};
 ghost use Rattle.cnf_core.specs.Counter as counter;
 ghost use Rattle.cycle_encoding.specs.Counts as counts;
@@ -10,10 +10,8 @@ ghost use Rattle.least_launch.specs.FewerLaunches.{fewer_in};
 
 use cnf_core::counters_count;
 use cycle_encoding::{Facts, Scope, Sizes, destination_count, row_count};
-use items::NoMemory;
 use machine_table::Table;
 use order_encoding::count_in;
-use std::alloc::{AllocError, Global};
 
 /// How many variables a counter up to `n` takes.
 fn counter_vars(n: u32, literals: u64) -> u64
@@ -74,32 +72,20 @@ fn launch_count(facts: &Facts, table: &Table, scope: &Scope, k: u32) -> u64
 }
 
 /// The two counts of the clauses of schedules with at most `n` launches, over what a scope gives variables; no clause
-/// is built. It goes over the graph's rows a few times for each cycle. Counts that 64 bits don't hold are those of a
-/// graph that no memory holds.
-pub(crate) fn count_fewer(
-    alloc: Global,
-    facts: &Facts,
-    table: &Table,
-    scope: &Scope,
-    k: u32,
-    n: u32,
-) -> Result<Sizes, NoMemory>
+/// is built. It goes over the graph's rows a few times for each cycle.
+pub(crate) fn count_fewer(facts: &Facts, table: &Table, scope: &Scope, k: u32, n: u32) -> Sizes
     requires cycles { k ≤ 24 }
     requires launches { n ≤ 192 }
     requires table { IsTable table.now }
     requires graph { IsLaunchGraph facts.now }
-    ensures vars { IfOk result (λ sizes. sizes.vars ≡ (fewer_in scope.now facts.now table.now k n).vars) }
-    ensures clauses { IfOk result (λ sizes. sizes.clauses
-        ≡ length (fewer_in scope.now facts.now table.now k n).clauses) }
+    ensures vars { result.vars ≡ (fewer_in scope.now facts.now table.now k n).vars }
+    ensures clauses { result.clauses ≡ length (fewer_in scope.now facts.now table.now k n).clauses }
 {
     counters_count();
-    let sizes = count_in(alloc, facts, table, scope, k)?;
+    let sizes = count_in(facts, table, scope, k);
     let launches = launch_count(facts, table, scope, k);
-    let Some(vars) = sizes.vars.checked_add(counter_vars(n, launches)) else {
-        return Err(AllocError);
-    };
-    let Some(clauses) = sizes.clauses.checked_add(counter_size(n, launches)) else {
-        return Err(AllocError);
-    };
-    Ok(Sizes { vars, clauses })
+    Sizes {
+        vars: sizes.vars + counter_vars(n, launches),
+        clauses: sizes.clauses + counter_size(n, launches),
+    }
 }

@@ -2,7 +2,7 @@
 ghost use Rattle.std.specs.Prelude.{◌≡◌, ◌+◌, ◌<◌, ◌≤◌, ◌^◌, ℕ, Bool, List, length, IfOk, IfErr, OnOk};
 ghost use Rattle.cnf_core.specs.Formula.{AreOver, Satisfies};
 ghost use Rattle.cycle_encoding.specs.CycleFormula.{Listed as ListedOf};
-ghost use Rattle.cycle_encoding.specs.Encodings.{AreListed, IsScope};
+ghost use Rattle.cycle_encoding.specs.Encodings.{AreListed};
 ghost use Rattle.cycle_encoding.specs.Faults.{EncodeFaultIs};
 ghost use Rattle.cycle_encoding.specs.CycleFormula.{listed_in};
 ghost use Rattle.cycle_encoding.specs.CycleFormula.{before_overwritten};
@@ -50,6 +50,7 @@ fn add_counter(alloc: Global, cnf: &mut Cnf, launches: &[Launch], n: u32) -> Res
     ensures over { AreOver cnf.old.vars cnf.old.clauses }
 {
     counters_count();
+    // A formula keeps its invariant, which is known here once one of its methods was called.
     let _vars = cnf.vars();
     let lits = launch_lits(alloc, launches)?;
     at_most(cnf, &lits, n)
@@ -74,7 +75,7 @@ pub(crate) fn build_fewer(
       encoding = scope.now.encoding;
       cycles = k;
       launches = (listed_in facts.now table.now k scope.now).launches;
-      overwritten = before_overwritten facts.now table.now k (listed_in facts.now table.now k scope.now);
+      overwritten = before_overwritten (listed_in facts.now table.now k scope.now);
     }) }
     ensures size { IfErr result (EncodeFaultIs (fewer_in scope.now facts.now table.now k n)) }
     ensures within { OnOk result (¬ IsTooLarge (fewer_in scope.now facts.now table.now k n)) }
@@ -84,7 +85,7 @@ pub(crate) fn build_fewer(
     ensures over { OnOk result (AreOver (formula_in scope.now facts.now table.now k).vars
         (formula_in scope.now facts.now table.now k).clauses) }
 {
-    let sizes = count_fewer(alloc, facts, table, scope, k, n)?;
+    let sizes = count_fewer(facts, table, scope, k, n);
     sizes.within_limits()?;
     let encoded = full_in(alloc, facts, table, scope, k)?;
     let mut cnf = encoded.cnf;
@@ -114,7 +115,7 @@ pub fn fewer(
       encoding = Pinned;
       cycles = k;
       launches = l.launches;
-      overwritten = before_overwritten graph.now table.now k l;
+      overwritten = before_overwritten l;
     }) }
     ensures size { IfErr result (λ fault. (l : ListedOf) → AreListed Pinned graph.now table.now k l
         → EncodeFaultIs (fewer_formula graph.now table.now k l n) fault) }

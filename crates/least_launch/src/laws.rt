@@ -44,14 +44,14 @@ use text_core::{one_splitting, printed_lines_are_lines};
 pub fn fewer_clauses_say_fits()
     ensures shown { (g : Graph) (table : TableOf) (k n : ℕ) (l : ListedOf) (v : ℕ → Bool) → IsTable table
         → IsLaunchGraph g → AreListed Pinned g table k l → Satisfies v (fewer_formula g table k l n).clauses
-        → Fits g table k (shown v (launch_vars g table k l))
-        × (length (shown v (launch_vars g table k l)) ≤ n) }
+        → Fits g table k (shown v (launch_vars l))
+        × (length (shown v (launch_vars l)) ≤ n) }
     ensures some { (g : Graph) (table : TableOf) (k n : ℕ) (l : ListedOf) (ls : List LaunchOf) → IsTable table
         → IsLaunchGraph g → AreListed Pinned g table k l
         → AreOver (whole_formula g table k l).vars (whole_formula g table k l).clauses
         → Fits g table k ls → length ls ≤ n
         → (v : ℕ → Bool) × Satisfies v (fewer_formula g table k l n).clauses
-        × ((x : LaunchOf) → Contains (shown v (launch_vars g table k l)) x → Contains ls x) }
+        × ((x : LaunchOf) → Contains (shown v (launch_vars l)) x → Contains ls x) }
 {
     counters_count();
     each_encoding_says_fits();

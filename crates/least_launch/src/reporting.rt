@@ -2,8 +2,8 @@
 ghost use Rattle.std.specs.Prelude.{◌≡◌, ◌++◌, ◌||◌, IfOk, length, if◌then◌else◌};
 ghost use Rattle.cycle_encoding.specs.declared.encodings.Encoding.TheVariants.{Pinned};
 ghost use Rattle.denali_run.specs.ClaimedResults.{answer_text};
-ghost use Rattle.denali_run.specs.TextAnswers as texts;
-ghost use Rattle.denali_run.specs.declared.statuses.Status.TheVariants.{Spent};
+ghost use Rattle.reports.specs.Statuses.{greater};
+ghost use Rattle.reports.specs.declared.statuses.Status.TheVariants.{Spent};
 ghost use Rattle.goal_meaning.specs.Views.{input_view};
 ghost use Rattle.text_core.specs.LineTexts.{lines_text};
 ghost use Rattle.least_launch.specs.LeastAnswers as format;
@@ -11,9 +11,10 @@ ghost use Rattle.least_launch.specs.TailLines.{tail_lines};
 
 use crate::tail_printing::put_tails;
 use crate::tails::Tail;
-use denali_run::{Answered, Report, Status, answer_text};
+use denali_run::{Answered, answer_text};
 use goal_meaning::Input;
 use items::NoMemory;
+use reports::{Report, Status};
 use std::alloc::Global;
 
 /// Whether it isn't known that the schedule has the fewest launches.
@@ -46,23 +47,12 @@ fn some_is_most(said: &[Option<Tail>]) -> bool
     some
 }
 
-/// The one of two statuses that has the greater code.
-fn greater(one: Status, other: Status) -> Status
-    ensures { result ≡ texts.greater one other }
-{
-    if one.code() < other.code() {
-        other
-    } else {
-        one
-    }
-}
-
 /// The status that the results ask for, and at least that of a spent budget where one is.
 fn with_spent(status: Status, spent: bool) -> Status
-    ensures { result ≡ (if spent then texts.greater status Spent else status) }
+    ensures { result ≡ (if spent then greater status Spent else status) }
 {
     if spent {
-        greater(status, Status::Spent)
+        status.or_greater(Status::Spent)
     } else {
         status
     }

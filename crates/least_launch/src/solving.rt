@@ -1,13 +1,14 @@
 // The work of `solve --least`, from the bytes of a text of goals to those of its answer.
-ghost use Rattle.std.specs.Prelude.{◌≡◌, ◌+◌, ◌<◌, ◌≤◌, ◌^◌, IfOk, IfErr, Some, length, slice_get};
+ghost use Rattle.std.specs.Prelude.{◌≡◌, ◌<◌, ◌≤◌, ◌^◌, IfOk, IfErr, Some, length, slice_get};
 ghost use Rattle.std.specs.List.{AllZip};
-ghost use Rattle.pick_rule.specs.Busiest.{IsBusiest};
 ghost use Rattle.cycle_encoding.specs.declared.encodings.Encoding.TheVariants.{Pinned};
 ghost use Rattle.denali_run.specs.MatchedGoals.{IsSettings};
+ghost use Rattle.denali_run.specs.Picks.{PicksPlace};
 ghost use Rattle.denali_run.specs.Right.{AreRightResults, Right};
-ghost use Rattle.denali_run.specs.TextAnswers.{TextErrorIs};
+ghost use Rattle.reports.specs.Errors.{IsErrorBy};
 ghost use Rattle.goal_meaning.specs.Views.{GoalTree, input_view};
 ghost use Rattle.goal_meaning.specs.WellFormed.{IsInput};
+ghost use Rattle.goal_reader.specs.Grammar.{IsFirstTextFault};
 ghost use Rattle.machine_table.specs.Tables.{IsTable};
 ghost use Rattle.least_launch.specs.LeastAnswers as format;
 ghost use Rattle.least_launch.specs.LeastAnswers.{AnswersLeast, IsTailOf};
@@ -19,15 +20,15 @@ use crate::results::Proof;
 use crate::searching::least;
 use crate::tails::Tail;
 use cnf_core::Lines;
-use denali_run::{Answered, Found, Pick, Report, Settings, TextError, solve_goal};
+use denali_run::{Answered, Found, Settings, solve_goal};
 use goal_reader::{Input, read, read_inputs_are_well_formed};
 use items::{Items, NoMemory};
 use machine_table::Table;
-use pick_rule::{Picker, Rule, busiest_place, first_place, last_place};
+use pick_rule::{Picker, Rule};
 use register_assign::words_of;
+use reports::{Report, TextError};
 use schedule_meaning::fitting_schedules_are_small;
 use std::alloc::Global;
-use text_core::TextFault;
 
 /// What is said of a schedule with so many launches by what stands beside it.
 fn said_by(alloc: Global, launches: u32, proof: Proof) -> Tail
@@ -177,59 +178,6 @@ fn solve_by<F: Rule + Drop>(
     solve_goals(alloc, input, settings, &picker)
 }
 
-fn solve_first(alloc: Global, input: &Input, settings: &Settings) -> Result<Solved, NoMemory>
-    requires input { IsInput (input_view input.now) }
-    requires settings { IsSettings settings.now }
-    ensures right { IfOk result (λ s. AreRightResults Pinned (input_view input.now) settings.now s.results.items) }
-    ensures said { IfOk result (λ s. AllZip (IsTailOf input.now.table settings.now.conflicts)
-        s.results.items s.said.items) }
-{
-    solve_by(
-        alloc,
-        input,
-        settings,
-        |scores: &[u64]|
-            ensures { result ≡ 0 }
-        { first_place(scores) },
-    )
-}
-
-fn solve_last(alloc: Global, input: &Input, settings: &Settings) -> Result<Solved, NoMemory>
-    requires input { IsInput (input_view input.now) }
-    requires settings { IsSettings settings.now }
-    ensures right { IfOk result (λ s. AreRightResults Pinned (input_view input.now) settings.now s.results.items) }
-    ensures said { IfOk result (λ s. AllZip (IsTailOf input.now.table settings.now.conflicts)
-        s.results.items s.said.items) }
-{
-    solve_by(
-        alloc,
-        input,
-        settings,
-        |scores: &[u64]|
-            requires { 0 < length scores.now }
-            ensures { result + 1 ≡ length scores.now }
-        { last_place(scores) },
-    )
-}
-
-fn solve_busiest(alloc: Global, input: &Input, settings: &Settings) -> Result<Solved, NoMemory>
-    requires input { IsInput (input_view input.now) }
-    requires settings { IsSettings settings.now }
-    ensures right { IfOk result (λ s. AreRightResults Pinned (input_view input.now) settings.now s.results.items) }
-    ensures said { IfOk result (λ s. AllZip (IsTailOf input.now.table settings.now.conflicts)
-        s.results.items s.said.items) }
-{
-    solve_by(
-        alloc,
-        input,
-        settings,
-        |scores: &[u64]|
-            requires { 0 < length scores.now }
-            ensures { IsBusiest scores.now (length scores.now) result }
-        { busiest_place(scores) },
-    )
-}
-
 /// Each goal's result with the fewest launches, where the settings say how decisions are picked.
 fn solve_input(alloc: Global, input: &Input, settings: &Settings) -> Result<Solved, NoMemory>
     requires input { IsInput (input_view input.now) }
@@ -238,11 +186,17 @@ fn solve_input(alloc: Global, input: &Input, settings: &Settings) -> Result<Solv
     ensures said { IfOk result (λ s. AllZip (IsTailOf input.now.table settings.now.conflicts)
         s.results.items s.said.items) }
 {
-    match settings.pick {
-        Pick::First => solve_first(alloc, input, settings),
-        Pick::Last => solve_last(alloc, input, settings),
-        Pick::Busy => solve_busiest(alloc, input, settings),
-    }
+    let pick = settings.pick;
+    solve_by(
+        alloc,
+        input,
+        settings,
+        move |scores: &[u64]|
+            requires { 0 < length scores.now }
+            ensures within { result < length scores.now }
+            ensures picked { PicksPlace pick scores.now result }
+        { pick.place(scores) },
+    )
 }
 
 /// The answer to a text of goals as `solve` gives it, with schedules of the fewest launches; and behind it, of each of
@@ -255,15 +209,11 @@ pub fn solve_least_text(
     requires few { length text.now < 2 ^ 29 }
     requires settings { IsSettings settings.now }
     ensures answered { IfOk result (λ report. AnswersLeast settings.now text.now report.bytes.items report.status) }
-    ensures error { IfErr result (TextErrorIs text.now) }
+    ensures error { IfErr result (IsErrorBy (IsFirstTextFault text.now)) }
 {
     read_inputs_are_well_formed();
     tailed_answers_are_read();
-    let input = match read(alloc, text) {
-        Ok(input) => input,
-        Err(TextFault::Fault(fault)) => return Err(TextError::Read(fault)),
-        Err(TextFault::Memory) => return Err(TextError::Memory),
-    };
+    let input = read(alloc, text)?;
     let solved = solve_input(alloc, &input, settings)?;
     Ok(report_least(alloc, &input, &solved.results, &solved.said)?)
 }

@@ -12,7 +12,7 @@ use Rattle.cycle_encoding.specs.Shapes.{shown, numbered, when}
 use Rattle.cycle_encoding.specs.CycleFormula.{Listed, launch_vars}
 use Rattle.cycle_encoding.specs.CycleFormula.{wide, before_overwritten, cycle_formula, cycle_part}
 use Rattle.cycle_encoding.specs.Variables.{all_overwritten}
-use Rattle.cycle_encoding.specs.Narrow.{IsNarrow}
+use Rattle.cycle_encoding.specs.Narrow.{IsPinnedList}
 use Rattle.cycle_encoding.specs.Encodings.{AreListed}
 use Rattle.cycle_encoding.specs.declared.encodings.Encoding.{Encoding}
 use Rattle.cycle_encoding.specs.declared.encodings.Encoding.TheVariants.{Wide, Narrow, Pinned}
@@ -54,7 +54,7 @@ module _ (g : LaunchGraph) (table : Table) (k : ℕ) (e : Listed) where
   q = pins_part g table k e
 
   -- the variables of what is overwritten and of the branch's cycles stand before those of the whole
-  pub over_within : before_overwritten g table k e + length (all_overwritten g k) ≤ (memory_formula g table k e).vars
+  pub over_within : before_overwritten e + length (all_overwritten g k) ≤ (memory_formula g table k e).vars
   over_within = omega arith
 
   pub come_within : (memory_formula g table k e).vars + length (when (is_some g.guard) (range_with_len 0 k)) ≤ (pool_formula g table k e).vars
@@ -83,20 +83,20 @@ module _ (g : LaunchGraph) (table : Table) (k : ℕ) (e : Listed) where
 -- ---- each encoding
 
 abbrev Shown : LaunchGraph → Table → ℕ → Listed → Type 0
-Shown g table k l = (v : ℕ → Bool) → Satisfies v (whole_formula g table k l).clauses → Fits g table k (shown v (launch_vars g table k l))
+Shown g table k l = (v : ℕ → Bool) → Satisfies v (whole_formula g table k l).clauses → Fits g table k (shown v (launch_vars l))
 
 abbrev Some_of : LaunchGraph → Table → ℕ → Listed → List Launch → Type 0
 Some_of g table k l ls =
     (ms : List Launch) × Fits g table k ms × ((keep : Launch → Bool) × (ms ≡ filter keep ls))
     × ((v : ℕ → Bool) × Satisfies v (whole_formula g table k l).clauses
-    × ((x : Launch) → Contains (shown v (launch_vars g table k l)) x ↔ Contains ms x))
+    × ((x : Launch) → Contains (shown v (launch_vars l)) x ↔ Contains ms x))
 
 abbrev Each_of : LaunchGraph → Table → ℕ → Listed → List Launch → Type 0
 Each_of g table k l ls =
     (v : ℕ → Bool) × Satisfies v (whole_formula g table k l).clauses
-    × ((x : Launch) → Contains (shown v (launch_vars g table k l)) x ↔ Contains ls x)
+    × ((x : Launch) → Contains (shown v (launch_vars l)) x ↔ Contains ls x)
 
-pub shown-as : (e : Encoding) (g : LaunchGraph) (table : Table) (k : ℕ) (l : Listed) → Shown g table k (wide g table k) → (IsNarrow g table k l → Shown g table k l) → AreListed e g table k l → Shown g table k l
+pub shown-as : (e : Encoding) (g : LaunchGraph) (table : Table) (k : ℕ) (l : Listed) → Shown g table k (wide g table k) → (IsPinnedList g table k l → Shown g table k l) → AreListed e g table k l → Shown g table k l
 shown-as Wide g table k l w n a = subst (Shown g table k) (sym a) w
 shown-as Narrow g table k l w n a = n a
 shown-as Pinned g table k l w n a = n a
@@ -105,7 +105,7 @@ filter-every : (ls : List Launch) → filter (λ x. true) ls ≡ ls
 filter-every [] = refl
 filter-every (l ∷ ls) = ap (λ xs. l ∷ xs) (filter-every ls)
 
-pub some-as : (e : Encoding) (g : LaunchGraph) (table : Table) (k : ℕ) (l : Listed) (ls : List Launch) → Fits g table k ls → Each_of g table k (wide g table k) ls → (IsNarrow g table k l → Some_of g table k l ls) → AreListed e g table k l → Some_of g table k l ls
+pub some-as : (e : Encoding) (g : LaunchGraph) (table : Table) (k : ℕ) (l : Listed) (ls : List Launch) → Fits g table k ls → Each_of g table k (wide g table k) ls → (IsPinnedList g table k l → Some_of g table k l ls) → AreListed e g table k l → Some_of g table k l ls
 some-as Wide g table k l ls f w n a = (ls, f, ((λ x. true), sym (filter-every ls)), subst (λ m. Each_of g table k m ls) (sym a) w)
 some-as Narrow g table k l ls f w n a = n a
 some-as Pinned g table k l ls f w n a = n a

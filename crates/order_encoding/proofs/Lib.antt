@@ -27,3 +27,4 @@ pub mod OrderNarrowed
 pub mod Sized
 pub mod DestinedSteps
 pub mod PinSteps
+pub mod PartSteps

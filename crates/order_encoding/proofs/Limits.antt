@@ -46,7 +46,7 @@ module _ (g : LaunchGraph) (table : Table) (k : ℕ) (e : Listed) (ls : List Lau
       ∙ ap (λ (x : Formula). formula_with_registers g k (numbered 0 e.launches) x table) ef
 
   -- pins, by the variables before what is overwritten and before the branch's cycles
-  module _ (over branches : ℕ) (eo : over ≡ before_overwritten g table k e) (eb : branches ≡ (memory_formula g table k e).vars) where
+  module _ (over branches : ℕ) (eo : over ≡ before_overwritten e) (eb : branches ≡ (memory_formula g table k e).vars) where
     abbrev cycles_of_branch : List ℕ
     cycles_of_branch = when (is_some g.guard) (range_with_len 0 k)
 
@@ -58,51 +58,4 @@ module _ (g : LaunchGraph) (table : Table) (k : ℕ) (e : Listed) (ls : List Lau
         ap (λ (x : List Launch). by x f over branches) els
         ∙ ap (λ (x : Formula). by e.launches x over branches) ef
         ∙ ap (λ o. by e.launches (pool_formula g table k e) o branches) eo
-        ∙ ap (λ b. by e.launches (pool_formula g table k e) (before_overwritten g table k e) b) eb
-
--- ---- one call after another
-
--- a count of a formula to which a part is added, as that of the formula which is meant
-pub grown_count : (count : Formula → ℕ) (part : ℕ → ℕ) (j k : ℕ) (f old new : Formula) (a v : ℕ) → j ≡ k → f ≡ old → count old ≡ a → count new ≡ a + part k → v ≡ count f + part j → v ≡ count new
-grown_count count part j k f old new a v ej ef before after ev =
-    ev ∙ ap (λ n. count f + part n) ej ∙ ap (λ (x : Formula). count x + part k) ef ∙ ap (λ n. n + part k) before ∙ sym after
-
-module _ (g : LaunchGraph) (table : Table) (k j : ℕ) (ej : j ≡ k) (s : Scope) where
-  abbrev cycles : Formula
-  cycles = cycle_formula g table k (listed_in g table k s)
-
-  abbrev memories : Formula
-  memories = memory_formula g table k (listed_in g table k s)
-
-  abbrev guards : Formula
-  guards = guard_formula g table k (listed_in g table k s)
-
-  abbrev pools : Formula
-  pools = pool_formula g table k (listed_in g table k s)
-
-  -- the formulas
-  module _ (ls : List Launch) (f : Formula) (els : ls ≡ (listed_in g table k s).launches) where
-    abbrev all : List Launch
-    all = (listed_in g table k s).launches
-
-    pub memory_now : f ≡ cycles → with_memory g j (numbered 0 ls) f ≡ memories
-    memory_now ef =
-        ap (λ x. with_memory g x (numbered 0 ls) f) ej
-        ∙ ap (λ (x : List Launch). with_memory g k (numbered 0 x) f) els ∙ ap (with_memory g k (numbered 0 all)) ef
-
-    pub guard_now : f ≡ memories → formula_with_guard g j (numbered 0 ls) f ≡ guards
-    guard_now ef =
-        ap (λ x. formula_with_guard g x (numbered 0 ls) f) ej
-        ∙ ap (λ (x : List Launch). formula_with_guard g k (numbered 0 x) f) els ∙ ap (formula_with_guard g k (numbered 0 all)) ef
-
-    pub pool_now : f ≡ guards → formula_with_registers g j (numbered 0 ls) f table ≡ pools
-    pool_now ef =
-        ap (λ x. formula_with_registers g x (numbered 0 ls) f table) ej
-        ∙ ap (λ (x : List Launch). formula_with_registers g k (numbered 0 x) f table) els ∙ ap (λ (x : Formula). formula_with_registers g k (numbered 0 all) x table) ef
-
-    module _ (over branches : ℕ) (eo : over ≡ before_overwritten g table k (listed_in g table k s)) (eb : branches ≡ memories.vars) where
-      abbrev by_cycles : ℕ → List Launch → Formula → ℕ → ℕ → Formula
-      by_cycles n xs h o b = formula_with_pins g n (numbered 0 xs) h (numbered o (all_overwritten g n)) (numbered b (when (is_some g.guard) (range_with_len 0 n)))
-
-      pub pins_now : f ≡ pools → by_cycles j ls f over branches ≡ whole_formula g table k (listed_in g table k s)
-      pins_now ef = ap (λ n. by_cycles n ls f over branches) ej ∙ pins_is g table k (listed_in g table k s) ls els f over branches eo eb ef
+        ∙ ap (λ b. by e.launches (pool_formula g table k e) (before_overwritten e) b) eb

@@ -44,7 +44,7 @@ when-all false P c h = All-nil P
 
 module _ (g : LaunchGraph) (table : Table) (k : ℕ) (e : Listed) (v : ℕ → Bool) where
   abbrev xs : List (ℕ × Launch)
-  xs = launch_vars g table k e
+  xs = launch_vars e
 
   memory-count : ((t : ℕ) → count_by (λ (m : Held). m.cycle == t) (shown v (held_vars g table k e)) ≤ 1) → ((t : ℕ) → count_by (stores_at g t) (shown v xs) ≤ 1) → All (λ c. count_true v c ≤ 1) (memory_groups g table k e)
   memory-count p q =
@@ -110,24 +110,24 @@ module _ (g : LaunchGraph) (table : Table) (k : ℕ) (e : Listed) where
 record Made (g : LaunchGraph) (table : Table) (k : ℕ) (ls : List Launch) (e : Listed) (v : ℕ → Bool) : Type 0 where
   values : ℕ → Bool
   extends : Extends (after_counters g table k e) v values
-  launched_is : shown values (launch_vars g table k e) ≡ shown v (launch_vars g table k e)
+  launched_is : shown values (launch_vars e) ≡ shown v (launch_vars e)
   held_is : shown values (held_vars g table k e) ≡ held g table k ls
   stored_is : shown values (store_vars g table k e) ≡ stored g table k ls
   come_is : shown values (come_vars g table k e) ≡ come g table k ls
   taken_is : shown values (taken_vars g table k e) ≡ pool_taken g table k ls
   memory : Satisfies values (counters (before_held g table k e) 1 (memory_groups g table k e))
-  branch : Satisfies values (counters (before_branch g table k e) 1 (branch_groups g (launch_vars g table k e)))
+  branch : Satisfies values (counters (before_branch g table k e) 1 (branch_groups g (launch_vars e)))
   pool : Satisfies values (counters (before_pool g table k e) (length g.pool) (register_groups (taken_vars g table k e)))
-  pins_few : Satisfies values (counters (after_pool g table k e) 1 (pin_groups g (launch_vars g table k e)))
+  pins_few : Satisfies values (counters (after_pool g table k e) 1 (pin_groups g (launch_vars e)))
 
 module _ (exact : AreExact) (g : LaunchGraph) (table : Table) (k : ℕ) (e : Listed) (is_graph : IsLaunchGraph g) (ls : List Launch) (fit : Fits g table k ls)
     (left : (t : ℕ) → IsLeft g ls t (memory_before g ls t)) (once : (t a b : ℕ) → IsLeft g ls t a → IsLeft g ls t b → a ≡ b)
-    (v3 : ℕ → Bool) (same : SameLaunches table k ls (shown v3 (launch_vars g table k e))) where
+    (v3 : ℕ → Bool) (same : SameLaunches table k ls (shown v3 (launch_vars e))) where
   order : KeepsOrder g ls
   order = order_of g table k ls fit
 
   abbrev S : List Launch
-  S = shown v3 (launch_vars g table k e)
+  S = shown v3 (launch_vars e)
 
   -- one block, or one row of counters, after another
   made : Made g table k ls e v3
@@ -146,7 +146,7 @@ module _ (exact : AreExact) (g : LaunchGraph) (table : Table) (k : ℕ) (e : Lis
       let s5 : shown v5 (store_vars g table k e) ≡ stored g table k ls = chosen-shown (stored_now g table k ls) n4 (range_with_len 0 k) v4 in
       let x45 : Extends n4 v4 v5 = chosen-extends (stored_now g table k ls) n4 (range_with_len 0 k) v4 in
       let x35 : Extends n3 v3 v5 = extends-trans n3 n4 v3 v4 v5 (up4 g table k e) x34 x45 in
-      let a5 : shown v5 (launch_vars g table k e) ≡ S = shown-extends v3 v5 0 n3 e.launches (launches-last g table k e) x35 in
+      let a5 : shown v5 (launch_vars e) ≡ S = shown-extends v3 v5 0 n3 e.launches (launches-last g table k e) x35 in
       let m5 : shown v5 (held_vars g table k e) ≡ held g table k ls = shown-at v4 v5 n3 n4 (all_held g k) (held g table k ls) s4 (itself n4) x45 in
       let c8 = memory-count g table k e v5 (λ t. subst (λ (M : List Held). count_by (λ (m : Held). m.cycle == t) M ≤ 1) (sym m5) (held-few g table k ls S same is_graph order left once t)) (λ t. subst (λ S. count_by (stores_at g t) S ≤ 1) (sym a5) (stores-few g table k ls S same is_graph order t)) in
       let h6 : HasExtension n5 v5 (counters n5 1 (memory_groups g table k e)) = counters-in exact 1 n5 n5 v5 (memory_groups g table k e) (itself n5) (pinned-memory-over g table k e) c8 in
@@ -156,9 +156,9 @@ module _ (exact : AreExact) (g : LaunchGraph) (table : Table) (k : ℕ) (e : Lis
       let s7 : shown v7 (come_vars g table k e) ≡ come g table k ls = chosen-shown (come_now g table k ls) n7 (come_cycles g table k e) v6 in
       let x67 : Extends n7 v6 v7 = chosen-extends (come_now g table k ls) n7 (come_cycles g table k e) v6 in
       let x57 : Extends n5 v5 v7 = extends-trans n5 n7 v5 v6 v7 (up7 g table k e) x56 x67 in
-      let a7 : shown v7 (launch_vars g table k e) ≡ S = shown-at v5 v7 0 n5 e.launches S a5 (launches-held g table k e) x57 in
+      let a7 : shown v7 (launch_vars e) ≡ S = shown-at v5 v7 0 n5 e.launches S a5 (launches-held g table k e) x57 in
       let c12 = branch-count g table k e v7 (λ y. subst (λ S. count_by (launches g is_branch) S ≤ 1) (sym a7) (branch-few g table k ls S same is_graph order y)) in
-      let h8 : HasExtension n8 v7 (counters n8 1 (branch_groups g (launch_vars g table k e))) = counters-in exact 1 n8 n8 v7 (branch_groups g (launch_vars g table k e)) (itself n8) (pinned-branch-over g table k e) c12 in
+      let h8 : HasExtension n8 v7 (counters n8 1 (branch_groups g (launch_vars e))) = counters-in exact 1 n8 n8 v7 (branch_groups g (launch_vars e)) (itself n8) (pinned-branch-over g table k e) c12 in
       let v8 : ℕ → Bool = h8.0 in
       let x78 : Extends n8 v7 v8 = h8.1 in
       let v9 : ℕ → Bool = chosen (pool_taken_now g table k ls) n9 (all_taken table k) v8 in
@@ -171,9 +171,9 @@ module _ (exact : AreExact) (g : LaunchGraph) (table : Table) (k : ℕ) (e : Lis
       let n11 = after_pool g table k e in
       let x79 : Extends n8 v7 v9 = extends-trans n8 n9 v7 v8 v9 (up9 g table k e) x78 x89 in
       let x710 : Extends n8 v7 v10 = extends-trans n8 n10 v7 v9 v10 (through n8 n9 n10 (up9 g table k e) (up10 g table k e)) x79 x910 in
-      let a10 : shown v10 (launch_vars g table k e) ≡ S = shown-at v7 v10 0 n8 e.launches S a7 (launches-branch g table k e) x710 in
+      let a10 : shown v10 (launch_vars e) ≡ S = shown-at v7 v10 0 n8 e.launches S a7 (launches-branch g table k e) x710 in
       let c18 = pins-count g table k e v10 (λ j hj. subst (λ S. count_by (goes_to j) S ≤ 1) (sym a10) (pins-few g table k ls S same is_graph fit j hj)) in
-      let h11 : HasExtension n11 v10 (counters n11 1 (pin_groups g (launch_vars g table k e))) = counters-in exact 1 n11 n11 v10 (pin_groups g (launch_vars g table k e)) (itself n11) (pins-over g table k e) c18 in
+      let h11 : HasExtension n11 v10 (counters n11 1 (pin_groups g (launch_vars e))) = counters-in exact 1 n11 n11 v10 (pin_groups g (launch_vars e)) (itself n11) (pins-over g table k e) c18 in
       let w : ℕ → Bool = h11.0 in
       let x10w : Extends n11 v10 w = h11.1 in
       let x9w : Extends n10 v9 w = extends-trans n10 n11 v9 v10 w (up11 g table k e) x910 x10w in
@@ -192,7 +192,7 @@ module _ (exact : AreExact) (g : LaunchGraph) (table : Table) (k : ℕ) (e : Lis
         come_is = shown-at v7 w n7 n8 (come_cycles g table k e) (come g table k ls) s7 (itself n8) x7w;
         taken_is = shown-at v9 w n9 n10 (all_taken table k) (pool_taken g table k ls) s9 (itself n10) x9w;
         memory = stays n7 v6 w (counters n5 1 (memory_groups g table k e)) x6w (counters-over exact 1 n5 n5 (memory_groups g table k e) (itself n5) (pinned-memory-over g table k e)) h6.2;
-        branch = stays n9 v8 w (counters n8 1 (branch_groups g (launch_vars g table k e))) x8w (counters-over exact 1 n8 n8 (branch_groups g (launch_vars g table k e)) (itself n8) (pinned-branch-over g table k e)) h8.2;
+        branch = stays n9 v8 w (counters n8 1 (branch_groups g (launch_vars e))) x8w (counters-over exact 1 n8 n8 (branch_groups g (launch_vars e)) (itself n8) (pinned-branch-over g table k e)) h8.2;
         pool = stays n11 v10 w (counters n10 (length g.pool) (register_groups (taken_vars g table k e))) x10w (counters-over exact (length g.pool) n10 n10 (register_groups (taken_vars g table k e)) (itself n10) (pinned-pool-over g table k e)) h10.2;
         pins_few = h11.2;
       }
@@ -201,7 +201,7 @@ module _ (exact : AreExact) (g : LaunchGraph) (table : Table) (k : ℕ) (e : Lis
   satisfied : (m : Made g table k ls e v3) → Satisfies m.values (cycle_formula g table k e).clauses → ((o : Overwritten) → Contains (shown m.values (overwritten_vars g table k e)) o ↔ (Contains (all_overwritten g k) o × WasOverwritten ls o)) → Satisfies m.values (whole_formula g table k e).clauses
   satisfied m p1 over =
       let v = m.values in
-      let xs = launch_vars g table k e in
+      let xs = launch_vars e in
       let ms = held_vars g table k e in
       let ws = store_vars g table k e in
       let bs = come_vars g table k e in
@@ -239,16 +239,16 @@ module _ (exact : AreExact) (g : LaunchGraph) (table : Table) (k : ℕ) (e : Lis
 abbrev pub SayApart : LaunchGraph → Table → ℕ → Listed → Type 0
 SayApart g table k e =
     (v : ℕ → Bool) → Satisfies v (cycle_formula g table k e).clauses
-    → AllPairs (λ l m. ¬ Collide l m) (shown v (launch_vars g table k e))
+    → AllPairs (λ l m. ¬ Collide l m) (shown v (launch_vars e))
 
 -- what is shown in the formula of cycles, slots and values is shown in the whole one, where it fits
 pub complete_with_pins : AreExact → (g : LaunchGraph) (table : Table) (k : ℕ) (e : Listed) → IsLaunchGraph g → (ls : List Launch) → Fits g table k ls → ((t : ℕ) → IsLeft g ls t (memory_before g ls t)) → ((t a b : ℕ) → IsLeft g ls t a → IsLeft g ls t b → a ≡ b)
     → SayApart g table k e → All (HasPlace table k) ls → AreShown g table k e ls
-    → (v : ℕ → Bool) × Satisfies v (whole_formula g table k e).clauses × ((l : Launch) → Contains (shown v (launch_vars g table k e)) l ↔ Contains ls l)
+    → (v : ℕ → Bool) × Satisfies v (whole_formula g table k e).clauses × ((l : Launch) → Contains (shown v (launch_vars e)) l ↔ Contains ls l)
 complete_with_pins exact g table k e is_graph ls fit left once apart places here =
     let v = here.values in
     let alike : Extends (after_counters g table k e) v v = λ x le. refl in
-    let S : List Launch = shown v (launch_vars g table k e) in
+    let S : List Launch = shown v (launch_vars e) in
     let members = here.show v alike in
     let placed : All (HasPlace table k) S = All-from_members (HasPlace table k) S (λ l h. All-contains (HasPlace table k) ls l places ((members l).0 h)) in
     let same = shown-same table k ls S members (apart v (here.satisfy v alike)) placed in

@@ -44,15 +44,15 @@ when-over false P cs h = All-nil P
 abbrev pub SayPinnedRules : LaunchGraph → Table → ℕ → Listed → Type 0
 SayPinnedRules g table k e =
     (v : ℕ → Bool) → Satisfies v (cycle_formula g table k e).clauses
-    → ArePinsKept g k (shown v (launch_vars g table k e)) (shown v (overwritten_vars g table k e))
-    → KeepsCycleRules g table k (shown v (launch_vars g table k e))
+    → ArePinsKept g k (shown v (launch_vars e)) (shown v (overwritten_vars g table k e))
+    → KeepsCycleRules g table k (shown v (launch_vars e))
 
 abbrev pub HavePinnedPlaces : LaunchGraph → Table → ℕ → Type 0
 HavePinnedPlaces g table k = (ls : List Launch) → KeepsCycleRules g table k ls → All (HasPlace table k) ls
 
 module _ (g : LaunchGraph) (table : Table) (k : ℕ) (e : Listed) where
   abbrev xs : List (ℕ × Launch)
-  xs = launch_vars g table k e
+  xs = launch_vars e
 
   -- the literals of each group are of variables before it
   pub pinned-memory-over : AreOver (before_held g table k e) (memory_groups g table k e)

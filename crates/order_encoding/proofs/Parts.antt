@@ -12,7 +12,7 @@ use Rattle.order_encoding.specs.WholeFormula.{new_held, before_new_stores, new_s
 
 module _ (g : LaunchGraph) (table : Table) (k : ℕ) (e : Listed) where
   abbrev xs : List (ℕ × Launch)
-  xs = launch_vars g table k e
+  xs = launch_vars e
 
   -- ---- memory
 

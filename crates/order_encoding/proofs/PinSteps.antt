@@ -23,7 +23,8 @@ use Rattle.cycle_encoding.proofs.Rows.{counted, one_counter, both-counters, coun
 use Rattle.cycle_encoding.proofs.Tables.{table_more}
 use Rattle.cycle_encoding.proofs.Totals.{size-flat, sum-map}
 use Rattle.order_encoding.specs.PinFamilies.{is_overwritten_at, overwrites_next, stays_overwritten, set_clauses, overwrites_after, late_clauses}
-use Rattle.order_encoding.specs.OrderSteps.{set_overwritten, next_in_set, stays_in_set, clauses_in_set}
+use Rattle.cycle_encoding.specs.Steps.{set_overwritten}
+use Rattle.order_encoding.specs.OrderSteps.{next_in_set, stays_in_set, clauses_in_set}
 use Rattle.order_encoding.proofs.AddSteps.{flat-part}
 use Rattle.order_encoding.proofs.Grid.{cycle_is}
 

@@ -88,33 +88,33 @@ module _ (g : LaunchGraph) (table : Table) (k : ℕ) (sc : Scope) where
       sum-flat F (λ c. map (λ t. record { class = c; cycle = t }) (range_with_len 0 (k + 1))) (memory_classes g)
       ∙ sum-same (λ c. sum_by F (map (λ t. record { class = c; cycle = t }) (range_with_len 0 (k + 1)))) (λ c. sum_by (λ t. F (record { class = c; cycle = t })) (range_with_len 0 (k + 1))) (memory_classes g) (λ c. sum-map F (λ t. record { class = c; cycle = t }) (range_with_len 0 (k + 1)))
 
-  held-size : length (all_held g k) ≡ held_count g table k sc * (k + 1)
+  held-size : length (all_held g k) ≡ held_count g * (k + 1)
   held-size =
       size-ones (all_held g k) ∙ held_sum (λ m. 1)
       ∙ sum-same (λ (c : ℕ). sum_by (λ (t : ℕ). 1) (range_with_len 0 (k + 1))) (λ c. k + 1) (memory_classes g) (λ c. sym (size-ones (range_with_len 0 (k + 1))) ∙ length-range_with_len 0 (k + 1))
       ∙ sum-const (k + 1) (memory_classes g)
 
-  held-cycle : (t : ℕ) → t < k + 1 → count_by (λ (m : Held). m.cycle == t) (all_held g k) ≡ held_count g table k sc
+  held-cycle : (t : ℕ) → t < k + 1 → count_by (λ (m : Held). m.cycle == t) (all_held g k) ≡ held_count g
   held-cycle t lt =
       held_sum (λ m. one_if (m.cycle == t))
       ∙ sum-same (λ (c : ℕ). sum_by (λ y. one_if (y == t)) (range_with_len 0 (k + 1))) (λ c. 1) (memory_classes g) (λ c. count-first (k + 1) t lt)
       ∙ sym (size-ones (memory_classes g))
 
   -- counters of what is held and of stores
-  groups : (h : ℕ → ℕ) → sum_by (λ (c : List Lit). h (length c)) (memory_groups g table k e) ≡ (k + 1) * h (held_count g table k sc) + sum_by (λ t. h (destined_stores g table k sc t)) (range_with_len 0 k)
+  groups : (h : ℕ → ℕ) → sum_by (λ (c : List Lit). h (length c)) (memory_groups g table k e) ≡ (k + 1) * h (held_count g) + sum_by (λ t. h (destined_stores g table k sc t)) (range_with_len 0 k)
   groups h =
       let ms = held_vars g table k e in
-      let xs = launch_vars g table k e in
-      let a : sum_by (λ (c : List Lit). h (length c)) (held_groups k ms) ≡ (k + 1) * h (held_count g table k sc) =
+      let xs = launch_vars e in
+      let a : sum_by (λ (c : List Lit). h (length c)) (held_groups k ms) ≡ (k + 1) * h (held_count g) =
       sum-map (λ (c : List Lit). h (length c)) (λ t. vars_of (λ (m : Held). m.cycle == t) ms) (range_with_len 0 (k + 1))
-      ∙ same-in (λ t. h (length (vars_of (λ (m : Held). m.cycle == t) ms))) (λ t. h (held_count g table k sc)) (range_with_len 0 (k + 1)) (λ t ht. ap h (size-vars (λ (m : Held). m.cycle == t) (after_counters g table k e) (all_held g k) ∙ held-cycle t (let b = (range-out 0 (k + 1) t ht).1 in omega arith)))
-      ∙ sum-const (h (held_count g table k sc)) (range_with_len 0 (k + 1)) ∙ ap (λ n. n * h (held_count g table k sc)) (length-range_with_len 0 (k + 1)) in
+      ∙ same-in (λ t. h (length (vars_of (λ (m : Held). m.cycle == t) ms))) (λ t. h (held_count g)) (range_with_len 0 (k + 1)) (λ t ht. ap h (size-vars (λ (m : Held). m.cycle == t) (after_counters g table k e) (all_held g k) ∙ held-cycle t (let b = (range-out 0 (k + 1) t ht).1 in omega arith)))
+      ∙ sum-const (h (held_count g)) (range_with_len 0 (k + 1)) ∙ ap (λ n. n * h (held_count g)) (length-range_with_len 0 (k + 1)) in
       let b : sum_by (λ (c : List Lit). h (length c)) (store_groups g k xs) ≡ sum_by (λ t. h (destined_stores g table k sc t)) (range_with_len 0 k) =
       sum-map (λ (c : List Lit). h (length c)) (λ t. vars_of (stores_at g t) xs) (range_with_len 0 k)
       ∙ sum-same (λ t. h (length (vars_of (stores_at g t) xs))) (λ t. h (destined_stores g table k sc t)) (range_with_len 0 k) (λ t. ap h (size-vars (stores_at g t) 0 (launches_from g table k (first_cycle_in sc)) ∙ destined-stores t)) in
       sum_by-append (λ (c : List Lit). h (length c)) (held_groups k ms) (store_groups g k xs)
       ∙ ap (λ n. n + sum_by (λ (c : List Lit). h (length c)) (store_groups g k xs)) a
-      ∙ ap (λ n. (k + 1) * h (held_count g table k sc) + n) b
+      ∙ ap (λ n. (k + 1) * h (held_count g) + n) b
 
   -- the counts of the formula of cycles, slots and values are given to these by its law
   pub memory-vars : after_counters g table k e ≡ cycle_vars g table k sc → after_memory g table k e ≡ cycle_vars g table k sc + memory_vars g table k sc
@@ -123,8 +123,8 @@ module _ (g : LaunchGraph) (table : Table) (k : ℕ) (sc : Scope) where
       let h = length (all_held g k) in
       ap (λ n. n + h + k + m) cycles
       ∙ ap (λ n. cycle_vars g table k sc + n + k + m) held-size
-      ∙ ap (λ n. cycle_vars g table k sc + held_count g table k sc * (k + 1) + k + n) (groups (at_most_vars 1))
-      ∙ (let s : (a b c d : ℕ) → a + b + c + d ≡ a + (b + c + d) = λ a b c d. omega arith in s (cycle_vars g table k sc) (held_count g table k sc * (k + 1)) k ((k + 1) * at_most_vars 1 (held_count g table k sc) + sum_by (λ t. at_most_vars 1 (destined_stores g table k sc t)) (range_with_len 0 k)))
+      ∙ ap (λ n. cycle_vars g table k sc + held_count g * (k + 1) + k + n) (groups (at_most_vars 1))
+      ∙ (let s : (a b c d : ℕ) → a + b + c + d ≡ a + (b + c + d) = λ a b c d. omega arith in s (cycle_vars g table k sc) (held_count g * (k + 1)) k ((k + 1) * at_most_vars 1 (held_count g) + sum_by (λ t. at_most_vars 1 (destined_stores g table k sc t)) (range_with_len 0 k)))
 
   entry-size : length (entry_clauses g (held_vars g table k e)) ≡ 1 + count_by (λ c. not (c == g.entry)) (memory_classes g)
   entry-size =
@@ -138,7 +138,7 @@ module _ (g : LaunchGraph) (table : Table) (k : ℕ) (sc : Scope) where
       ∙ sum-same (λ c. sum_by (λ t. length (when ((t == 0) && b c) ([] ∷ []))) (range_with_len 0 (k + 1))) (λ c. one_if (b c)) (memory_classes g) inner in
       ap suc rest ∙ (let s : (n : ℕ) → suc n ≡ 1 + n = λ n. omega arith in s (count_by b (memory_classes g)))
 
-  use-size : length (memory_clauses g (launch_vars g table k e) (held_vars g table k e) (store_vars g table k e)) ≡ sum_destined g table k sc (λ row to. one_if (row_is g is_load row || row_is g is_store row) + one_if (row_is g is_store row) * 2)
+  use-size : length (memory_clauses g (launch_vars e) (held_vars g table k e) (store_vars g table k e)) ≡ sum_destined g table k sc (λ row to. one_if (row_is g is_load row || row_is g is_store row) + one_if (row_is g is_store row) * 2)
   use-size =
       let ms = held_vars g table k e in
       let ws = store_vars g table k e in
@@ -149,25 +149,25 @@ module _ (g : LaunchGraph) (table : Table) (k : ℕ) (sc : Scope) where
       (λ l. length-append (when (uses_memory g l) (a l)) (when (launches g is_store l) (b l)) ∙ ap (λ n. n + length (when (launches g is_store l) (b l))) (size-one (uses_memory g l) (vars_of (is_held_at (memory_class_at g l.row) l.cycle) ms)) ∙ ap (λ n. one_if (uses_memory g l) + n) (size-when (launches g is_store l) (b l)))
       ∙ sum-destined g table k sc (λ row to. one_if (row_is g is_load row || row_is g is_store row) + one_if (row_is g is_store row) * 2)
 
-  kept-size : length (kept_clauses g k (launch_vars g table k e) (held_vars g table k e) (store_vars g table k e)) ≡ k * (1 + held_count g table k sc)
+  kept-size : length (kept_clauses g k (launch_vars e) (held_vars g table k e) (store_vars g table k e)) ≡ k * (1 + held_count g)
   kept-size =
-      let xs = launch_vars g table k e in
+      let xs = launch_vars e in
       let ms = held_vars g table k e in
       let ws = store_vars g table k e in
       let a : ℕ → ℕ → List (List Lit) = λ t c. when (c == t) (vars_of (stores_at g t) xs ∷ []) in
       let b : ℕ → Held → List (List Lit) = λ t m. when (m.cycle == t) ((vars_of (λ c. c == t) ws ++ vars_of (is_held_at m.class (t + 1)) ms) ∷ []) in
-      let each : (t : ℕ) → Contains (range_with_len 0 k) t → length (implied ws (a t) ++ implied ms (b t)) ≡ 1 + held_count g table k sc = λ t ht.
+      let each : (t : ℕ) → Contains (range_with_len 0 k) t → length (implied ws (a t) ++ implied ms (b t)) ≡ 1 + held_count g = λ t ht.
       let lt : t < k = (let r = (range-out 0 k t ht).1 in omega arith) in
       length-append (implied ws (a t)) (implied ms (b t))
       ∙ ap (λ n. n + length (implied ms (b t))) (size-implied (a t) (before_stores g table k e) (range_with_len 0 k) ∙ sum-same (λ c. length (a t c)) (λ c. one_if (c == t)) (range_with_len 0 k) (λ c. size-one (c == t) (vars_of (stores_at g t) xs)) ∙ count-first k t lt)
       ∙ ap (λ n. 1 + n) (size-implied (b t) (after_counters g table k e) (all_held g k) ∙ sum-same (λ m. length (b t m)) (λ (m : Held). one_if (m.cycle == t)) (all_held g k) (λ m. size-one (m.cycle == t) (vars_of (λ c. c == t) ws ++ vars_of (is_held_at m.class (t + 1)) ms)) ∙ held-cycle t (omega arith)) in
       size-flat (λ t. implied ws (a t) ++ implied ms (b t)) (range_with_len 0 k)
-      ∙ same-in (λ t. length (implied ws (a t) ++ implied ms (b t))) (λ t. 1 + held_count g table k sc) (range_with_len 0 k) each
-      ∙ sum-const (1 + held_count g table k sc) (range_with_len 0 k) ∙ ap (λ n. n * (1 + held_count g table k sc)) (length-range_with_len 0 k)
+      ∙ same-in (λ t. length (implied ws (a t) ++ implied ms (b t))) (λ t. 1 + held_count g) (range_with_len 0 k) each
+      ∙ sum-const (1 + held_count g) (range_with_len 0 k) ∙ ap (λ n. n * (1 + held_count g)) (length-range_with_len 0 k)
 
   -- ---- the guard
 
-  branch-lits : length (vars_of (launches g is_branch) (launch_vars g table k e)) ≡ destined_branches g table k sc
+  branch-lits : length (vars_of (launches g is_branch) (launch_vars e)) ≡ destined_branches g table k sc
   branch-lits = size-vars (launches g is_branch) 0 (launches_from g table k (first_cycle_in sc)) ∙ sum-destined g table k sc (λ row to. one_if (row_is g is_branch row))
 
   guard_vars_in : (b : Bool) (n : ℕ) (lits : List Lit) → length lits ≡ n → length (when b (range_with_len 0 k)) + counters_vars 1 (when b (lits ∷ [])) ≡ cond b (k + at_most_vars 1 n) 0
@@ -179,20 +179,20 @@ module _ (g : LaunchGraph) (table : Table) (k : ℕ) (sc : Scope) where
   pub guard-vars : after_counters g table k e ≡ cycle_vars g table k sc → after_guard g table k e ≡ cycle_vars g table k sc + memory_vars g table k sc + guard_vars g table k sc
   guard-vars cycles =
       let b = length (come_cycles g table k e) in
-      let c = counters_vars 1 (branch_groups g (launch_vars g table k e)) in
+      let c = counters_vars 1 (branch_groups g (launch_vars e)) in
       ap (λ n. n + b + c) (memory-vars cycles)
       ∙ (let s : (x y z : ℕ) → x + y + z ≡ x + (y + z) = λ x y z. omega arith in s (cycle_vars g table k sc + memory_vars g table k sc) b c)
-      ∙ ap (λ n. cycle_vars g table k sc + memory_vars g table k sc + n) (guard_vars_in (is_some g.guard) (destined_branches g table k sc) (vars_of (launches g is_branch) (launch_vars g table k e)) branch-lits)
+      ∙ ap (λ n. cycle_vars g table k sc + memory_vars g table k sc + n) (guard_vars_in (is_some g.guard) (destined_branches g table k sc) (vars_of (launches g is_branch) (launch_vars e)) branch-lits)
 
   -- ---- registers
 
-  taken-size : length (all_taken table k) ≡ taken_places g table k sc
+  taken-size : length (all_taken table k) ≡ taken_places table k
   taken-size =
       size-flat (λ s. map {B = Taken} (λ t. record { slot = s; cycle = t }) (range_with_len 0 k)) (range_with_len 0 (length table.slots))
       ∙ sum-same (λ s. length (map {B = Taken} (λ t. record { slot = s; cycle = t }) (range_with_len 0 k))) (λ s. k) (range_with_len 0 (length table.slots)) (λ s. size-map {A = Taken} (λ t. record { slot = s; cycle = t }) (range_with_len 0 k) ∙ length-range_with_len 0 k)
       ∙ sum-const k (range_with_len 0 (length table.slots)) ∙ ap (λ n. n * k) (length-range_with_len 0 (length table.slots))
 
-  taken-lits : length (vars_of any (taken_vars g table k e)) ≡ taken_places g table k sc
+  taken-lits : length (vars_of any (taken_vars g table k e)) ≡ taken_places table k
   taken-lits = size-vars any (after_guard g table k e) (all_taken table k) ∙ count-any (all_taken table k) ∙ taken-size
 
   pub pool-vars : after_counters g table k e ≡ cycle_vars g table k sc → (pool_formula g table k e).vars ≡ cycle_vars g table k sc + memory_vars g table k sc + guard_vars g table k sc + registers_vars g table k sc
@@ -201,20 +201,20 @@ module _ (g : LaunchGraph) (table : Table) (k : ℕ) (sc : Scope) where
       let c = counters_vars p (register_groups (taken_vars g table k e)) in
       ap (λ n. n + length (all_taken table k) + c) (guard-vars cycles)
       ∙ ap (λ n. cycle_vars g table k sc + memory_vars g table k sc + guard_vars g table k sc + n + c) taken-size
-      ∙ ap (λ n. cycle_vars g table k sc + memory_vars g table k sc + guard_vars g table k sc + taken_places g table k sc + n) (sum_by-cons (λ (c : List Lit). at_most_vars p (length c)) (vars_of any (taken_vars g table k e)) [] ∙ (let z : at_most_vars p (length (vars_of any (taken_vars g table k e))) + 0 ≡ at_most_vars p (length (vars_of any (taken_vars g table k e))) = omega arith in z) ∙ ap (at_most_vars p) taken-lits)
-      ∙ (let s : (x y z : ℕ) → x + y + z ≡ x + (y + z) = λ x y z. omega arith in s (cycle_vars g table k sc + memory_vars g table k sc + guard_vars g table k sc) (taken_places g table k sc) (at_most_vars p (taken_places g table k sc)))
+      ∙ ap (λ n. cycle_vars g table k sc + memory_vars g table k sc + guard_vars g table k sc + taken_places table k + n) (sum_by-cons (λ (c : List Lit). at_most_vars p (length c)) (vars_of any (taken_vars g table k e)) [] ∙ (let z : at_most_vars p (length (vars_of any (taken_vars g table k e))) + 0 ≡ at_most_vars p (length (vars_of any (taken_vars g table k e))) = omega arith in z) ∙ ap (at_most_vars p) taken-lits)
+      ∙ (let s : (x y z : ℕ) → x + y + z ≡ x + (y + z) = λ x y z. omega arith in s (cycle_vars g table k sc + memory_vars g table k sc + guard_vars g table k sc) (taken_places table k) (at_most_vars p (taken_places table k)))
 
   module _ (size : (old p : ℕ) (lits : List Lit) → length (at_most_clauses old p lits) ≡ at_most_size p (length lits)) where
     memory-size : length (memory_part g table k e) ≡ memory_size g table k sc
     memory-size =
         let c5 = entry_clauses g (held_vars g table k e) in
-        let c6 = memory_clauses g (launch_vars g table k e) (held_vars g table k e) (store_vars g table k e) in
-        let c7 = kept_clauses g k (launch_vars g table k e) (held_vars g table k e) (store_vars g table k e) in
+        let c6 = memory_clauses g (launch_vars e) (held_vars g table k e) (store_vars g table k e) in
+        let c7 = kept_clauses g k (launch_vars e) (held_vars g table k e) (store_vars g table k e) in
         let c8 = counters (before_held g table k e) 1 (memory_groups g table k e) in
         let c10 = last_clauses g k (held_vars g table k e) in
         let n5 = 1 + count_by (λ c. not (c == g.entry)) (memory_classes g) in
         let n6 = sum_destined g table k sc (λ row to. one_if (row_is g is_load row || row_is g is_store row) + one_if (row_is g is_store row) * 2) in
-        let n7 = k * (1 + held_count g table k sc) in
+        let n7 = k * (1 + held_count g) in
         length-append (c5 ++ c6 ++ c7 ++ c8) c10
         ∙ ap (λ n. n + 1) (length-append (c5 ++ c6 ++ c7) c8 ∙ ap (λ n. n + length c8) (length-append (c5 ++ c6) c7 ∙ ap (λ n. n + length c7) (length-append c5 c6)))
         ∙ ap (λ n. n + length c6 + length c7 + length c8 + 1) entry-size
@@ -236,7 +236,7 @@ module _ (g : LaunchGraph) (table : Table) (k : ℕ) (sc : Scope) where
 
     guard-size : length (guard_part g table k e) ≡ guard_size g table k sc
     guard-size =
-        let xs = launch_vars g table k e in
+        let xs = launch_vars e in
         let bs = come_vars g table k e in
         let f : Launch → List (List Lit) = λ l. when (waits g l) (vars_of (λ t. t == l.cycle) bs ∷ []) in
         let w = sum_destined g table k sc (λ row to. one_if (row_is g is_store row || (row_is g is_load row && is_held g))) in
@@ -249,7 +249,7 @@ module _ (g : LaunchGraph) (table : Table) (k : ℕ) (sc : Scope) where
 
     pool-size : length (pool_part g table k e) ≡ registers_size g table k sc
     pool-size =
-        let xs = launch_vars g table k e in
+        let xs = launch_vars e in
         let us = taken_vars g table k e in
         let p = length g.pool in
         let n = sum_destined g table k sc (λ row to. one_if (is_pool to && row_is g gives_word row)) in
@@ -307,7 +307,7 @@ module _ (g : LaunchGraph) (table : Table) (k : ℕ) (sc : Scope) where
   goes-count j = sum-destined g table k sc (λ row to. one_if (is_set j to))
 
   abbrev xs : List (ℕ × Launch)
-  xs = launch_vars g table k (listed_in g table k sc)
+  xs = launch_vars (listed_in g table k sc)
 
   -- what goes to the pinned sets
   pin-groups : (h : ℕ → ℕ) → sum_by (λ (c : List Lit). h (length c)) (pin_groups g xs) ≡ sum_by (λ j. h (goes_count g table k sc j)) (pinned_sets g)
@@ -370,7 +370,7 @@ module _ (g : LaunchGraph) (table : Table) (k : ℕ) (sc : Scope) where
         let n3 = length (unmet_sets g) in
         length-append (c1 ++ c2 ++ c3) c4
         ∙ ap (λ n. n + length c4) (length-append (c1 ++ c2) c3 ∙ ap (λ n. n + length c3) (length-append c1 c2))
-        ∙ ap (λ n. n + length c2 + length c3 + length c4) (over-size (before_overwritten g table k e))
+        ∙ ap (λ n. n + length c2 + length c3 + length c4) (over-size (before_overwritten e))
         ∙ ap (λ n. n1 + n + length c3 + length c4) (counters-size 1 size (after_pool g table k e) (pin_groups g xs) ∙ pin-groups (at_most_size 1))
         ∙ ap (λ n. n1 + n2 + n + length c4) (size-map (λ j. vars_of (goes_to j) xs) (unmet_sets g))
         ∙ ap (λ n. n1 + n2 + n3 + n) (late-size (branch_vars g table k e))

@@ -9,6 +9,8 @@ use Rattle.graph_meaning.specs.declared.graphs.LaunchGraph.{LaunchGraph}
 use Rattle.cycle_encoding.specs.Variables.{slots_of}
 use Rattle.cycle_encoding.specs.Counts.{one_if, row_is, row_use, can_begin}
 use Rattle.cycle_encoding.specs.CycleFormula.{Scope, first_cycle_in}
+use Rattle.order_encoding.specs.declared.adding.Part.{Part}
+use Rattle.order_encoding.specs.declared.adding.Part.TheVariants.{Memory, Guard, Pool, Pins}
 use Rattle.order_encoding.specs.OrderVariables.{memory_classes}
 use Rattle.std.specs.List.{count_by, sum_by, range_with_len}
 use Rattle.cnf_core.specs.Counter.{at_most_size, at_most_vars}
@@ -39,13 +41,12 @@ row_waits g row = row_is g is_store row || (row_is g is_load row && is_held g)
 
 -- ---- of all rows
 
-module _ (g : LaunchGraph) (table : Table) (k : ℕ) (s : Scope) where
-  abbrev pub held_count : ℕ
-  held_count = length (memory_classes g)
+abbrev pub held_count : LaunchGraph → ℕ
+held_count g = length (memory_classes g)
 
-  -- how many slots and cycles there are in which a launch may take a register
-  abbrev pub taken_places : ℕ
-  taken_places = length table.slots * k
+-- how many slots and cycles there are in which a launch may take a register
+abbrev pub taken_places : Table → ℕ → ℕ
+taken_places table k = length table.slots * k
 
 -- a launch with this destination overwrites an input's register
 abbrev pub overwrites_at : LaunchGraph → To → Bool
@@ -61,16 +62,16 @@ module _ (g : LaunchGraph) (table : Table) (k : ℕ) (s : Scope) where
 
   abbrev pub memory_vars : ℕ
   memory_vars =
-      held_count g table k s * (k + 1) + k
-      + ((k + 1) * at_most_vars 1 (held_count g table k s)
+      held_count g * (k + 1) + k
+      + ((k + 1) * at_most_vars 1 (held_count g)
       + sum_by (λ t. at_most_vars 1 (destined_stores t)) (range_with_len 0 k))
 
   abbrev pub memory_size : ℕ
   memory_size =
       (1 + count_by (λ c. not (c == g.entry)) (memory_classes g))
       + sum_destined g table k s (λ row to. row_uses g row)
-      + k * (1 + held_count g table k s)
-      + ((k + 1) * at_most_size 1 (held_count g table k s)
+      + k * (1 + held_count g)
+      + ((k + 1) * at_most_size 1 (held_count g)
       + sum_by (λ t. at_most_size 1 (destined_stores t)) (range_with_len 0 k))
       + 1
 
@@ -92,12 +93,12 @@ module _ (g : LaunchGraph) (table : Table) (k : ℕ) (s : Scope) where
   -- ---- registers
 
   abbrev pub registers_vars : ℕ
-  registers_vars = taken_places g table k s + at_most_vars (length g.pool) (taken_places g table k s)
+  registers_vars = taken_places table k + at_most_vars (length g.pool) (taken_places table k)
 
   abbrev pub registers_size : ℕ
   registers_size =
       sum_destined g table k s (λ row to. one_if (is_pool to && row_is g gives_word row))
-      + at_most_size (length g.pool) (taken_places g table k s)
+      + at_most_size (length g.pool) (taken_places table k)
 
   -- ---- pins
 
@@ -117,3 +118,17 @@ module _ (g : LaunchGraph) (table : Table) (k : ℕ) (s : Scope) where
       + sum_by (λ j. at_most_size 1 (goes_count j)) (pinned_sets g)
       + length (unmet_sets g)
       + (if is_some g.guard then late_count else 0)
+
+-- ---- the counts of each part
+
+abbrev pub part_vars : Part → LaunchGraph → Table → ℕ → Scope → ℕ
+part_vars Memory = memory_vars
+part_vars Guard = guard_vars
+part_vars Pool = registers_vars
+part_vars Pins = pins_vars
+
+abbrev pub part_size : Part → LaunchGraph → Table → ℕ → Scope → ℕ
+part_size Memory = memory_size
+part_size Guard = guard_size
+part_size Pool = registers_size
+part_size Pins = pins_size

@@ -52,10 +52,6 @@ pub record AreHeldVars (g : LaunchGraph) (k : ℕ) (classes : List ℕ) (starts 
 
 -- ---- clauses: the variables of the set's cycles from 0 to k are those after `before`
 
--- what is overwritten of a set
-abbrev pub set_overwritten : ℕ → ℕ → List Overwritten
-set_overwritten k j = map (λ t. record { set = j; cycle = t }) (range_with_len 0 (k + 1))
-
 -- a launch to the set overwrites its register from the next cycle on
 abbrev pub next_in_set : ℕ → ℕ → ℕ → Launch → List (List Lit)
 next_in_set k before j l =

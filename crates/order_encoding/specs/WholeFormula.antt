@@ -10,10 +10,15 @@ use Rattle.schedule_meaning.specs.declared.schedules.Launch.{Launch}
 use Rattle.cycle_encoding.specs.Shapes.{numbered, counters, counters_vars, when}
 use Rattle.cycle_encoding.specs.Encodings.{AreListed}
 use Rattle.cycle_encoding.specs.declared.encodings.Encoding.{Encoding}
-use Rattle.cycle_encoding.specs.CycleFormula.{Listed, Scope, launch_vars}
+use Rattle.cycle_encoding.specs.CycleFormula.{Listed, Scope, launch_vars, before_overwritten}
 use Rattle.cycle_encoding.specs.Variables.{Overwritten}
+use Rattle.cycle_encoding.specs.Plans.{PassesLimit}
+use Rattle.cycle_encoding.specs.declared.plans.EncodeFault.{EncodeFault}
+use Rattle.cycle_encoding.specs.declared.plans.EncodeFault.TheVariants as faults
 use Rattle.cycle_encoding.specs.CycleFormula.{overwritten_vars, cycle_formula}
 use Rattle.cycle_encoding.specs.CycleFormula.{listed_in}
+use Rattle.order_encoding.specs.declared.adding.Part.{Part}
+use Rattle.order_encoding.specs.declared.adding.Part.TheVariants.{Memory, Guard, Pool, Pins}
 use Rattle.order_encoding.specs.OrderVariables.{all_held, all_taken, Held, Taken}
 use Rattle.order_encoding.specs.OrderFamilies.{entry_clauses, memory_clauses, kept_clauses, held_groups}
 use Rattle.order_encoding.specs.OrderFamilies.{store_groups, last_clauses, branch_clauses, branch_groups}
@@ -111,27 +116,55 @@ module _ (g : LaunchGraph) (k : ℕ) (xs : List (ℕ × Launch)) (f : Formula) w
 
 module _ (g : LaunchGraph) (table : Table) (k : ℕ) (e : Listed) where
   abbrev pub memory_formula : Formula
-  memory_formula = with_memory g k (launch_vars g table k e) (cycle_formula g table k e)
+  memory_formula = with_memory g k (launch_vars e) (cycle_formula g table k e)
 
   abbrev pub guard_formula : Formula
-  guard_formula = formula_with_guard g k (launch_vars g table k e) memory_formula
+  guard_formula = formula_with_guard g k (launch_vars e) memory_formula
 
   abbrev pub pool_formula : Formula
-  pool_formula = formula_with_registers g k (launch_vars g table k e) guard_formula table
+  pool_formula = formula_with_registers g k (launch_vars e) guard_formula table
 
   -- the cycles by which the branch was launched have the first variables behind those of memory
   abbrev pub branch_vars : List (ℕ × ℕ)
-  branch_vars = new_come g k (launch_vars g table k e) memory_formula
+  branch_vars = new_come g k (launch_vars e) memory_formula
 
   abbrev pub whole_formula : Formula
   whole_formula =
-      formula_with_pins g k (launch_vars g table k e) pool_formula (overwritten_vars g table k e) branch_vars
+      formula_with_pins g k (launch_vars e) pool_formula (overwritten_vars g table k e) branch_vars
+
+-- ---- the parts behind that of cycles, slots and values
+
+-- the formula of the parts before this one
+abbrev pub before_part : Part → LaunchGraph → Table → ℕ → Listed → Formula
+before_part Memory = cycle_formula
+before_part Guard = memory_formula
+before_part Pool = guard_formula
+before_part Pins = pool_formula
+
+-- and with this one
+abbrev pub with_part : Part → LaunchGraph → Table → ℕ → Listed → Formula
+with_part Memory = memory_formula
+with_part Guard = guard_formula
+with_part Pool = pool_formula
+with_part Pins = whole_formula
+
+-- pins speak of what is overwritten: this many variables come before those of it
+abbrev pub KnowsOverwritten : Part → ℕ → Listed → Type 0
+KnowsOverwritten Pins before l = before ≡ before_overwritten l
+KnowsOverwritten _ before l = Unit {0}
+
+-- ---- what an encoding gives
 
 -- these are the clauses for k cycles over the lists of the encoding
 pub record IsFormulaOf (e : Encoding) (g : LaunchGraph) (table : Table) (k : ℕ) (f : Formula) : Type 0 where
   pub lists : Listed
   pub listed : AreListed e g table k lists
   pub is : f ≡ whole_formula g table k lists
+
+-- a size has the counts of the clauses for k cycles, one of which passes its limit; want of memory says nothing
+abbrev pub IsSizeFault : Encoding → LaunchGraph → Table → ℕ → EncodeFault → Type 0
+IsSizeFault e g table k (faults.Size vars clauses) = (f : Formula) × IsFormulaOf e g table k f × PassesLimit f vars clauses
+IsSizeFault e g table k faults.Memory = Unit {0}
 
 -- for each number of cycles that may be asked for these are the encoding's clauses
 abbrev pub AreFormulas : Encoding → LaunchGraph → Table → (ℕ → Formula) → Type 0

@@ -1,5 +1,5 @@
 // Counts and their sums, and what a row adds to the counts of memory and of a guard's branch.
-ghost use Rattle.std.specs.Prelude.{◌≡◌, ◌+◌, ◌*◌, ◌<◌, ◌≤◌, ◌^◌, ◌==◌, ◌||◌, nat_lt, not, ℕ, List, length};
+ghost use Rattle.std.specs.Prelude.{◌≡◌, ◌+◌, ◌*◌, ◌<◌, ◌≤◌, ◌^◌, ◌==◌, not, ℕ, List, length};
 ghost use Rattle.std.specs.List.{count_by};
 ghost use Rattle.cnf_core.specs.Counter as counter;
 ghost use Rattle.cnf_core.specs.declared.literal.Lit.{Lit as LitOf};
@@ -12,18 +12,11 @@ ghost use Rattle.order_encoding.specs.OrderCounts.{row_uses};
 ghost use Rattle.order_encoding.specs.OrderVariables.{memory_classes};
 
 use crate::held::is_memory_class;
-use crate::kinds::{is_load, is_store};
 use cnf_core::Cnf;
 use cycle_encoding::{Facts, Scope, Sizes, can_begin, next_class, row_count, slot_count};
 use graph_meaning::LaunchGraph;
 use machine_table::Table;
-
-/// Whether one of the counts passes its limit.
-pub fn pass_limit(sizes: Sizes) -> bool
-    ensures { result ≡ (nat_lt 262144 sizes.vars || nat_lt 2000000 sizes.clauses) }
-{
-    sizes.pass_limit()
-}
+use schedule_meaning::{is_load, is_store};
 
 /// The counts of a formula to which a part is added.
 pub fn grown(cnf: &Cnf, part: Sizes) -> Sizes
@@ -71,7 +64,7 @@ pub fn row_stores(facts: &Facts, table: &Table, scope: &Scope, k: u32, cycle: u3
     ensures value { result ≡ counts.row_stores facts.now table.now k scope.now cycle row }
     ensures few { result ≤ 8 }
 {
-    if !is_store(facts, row) {
+    if !is_store(facts.instr_at(row)) {
         return 0;
     }
     let Some(instr) = facts.instr_at(row) else {
@@ -127,9 +120,9 @@ pub fn row_use_count(facts: &Facts, table: &Table, scope: &Scope, k: u32, row: u
     ensures value { result ≡ cycle_counts.row_count facts.now table.now k scope.now row * row_uses facts.now row }
     ensures few { result ≤ 600 }
 {
-    if is_store(facts, row) {
+    if is_store(facts.instr_at(row)) {
         row_count(facts, table, scope, k, row) * 3
-    } else if is_load(facts, row) {
+    } else if is_load(facts.instr_at(row)) {
         row_count(facts, table, scope, k, row)
     } else {
         0

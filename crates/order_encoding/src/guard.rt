@@ -1,32 +1,18 @@
 // The branch of a guard: it is launched once, and what waits for it comes no earlier.
-ghost use Rattle.std.specs.Prelude.{◌≡◌, ◌+◌, ◌<◌, ◌≤◌, ◌^◌, ◌++◌, nat_le, ◌∷◌, [], length, map, IfOk, IfErr, OnOk};
+ghost use Rattle.std.specs.Prelude.{◌≡◌, ◌+◌, ◌<◌, ◌≤◌, ◌^◌, ◌++◌, nat_le, ◌∷◌, [], length, map, OnOk};
 ghost use Rattle.std.specs.List.{filter, range_with_len};
-ghost use Rattle.graph_meaning.specs.WellFormed.{IsLaunchGraph};
-ghost use Rattle.machine_table.specs.Tables.{IsTable};
 ghost use Rattle.schedule_meaning.specs.Launches as specs;
-ghost use Rattle.cycle_encoding.specs.Encodings.{OnLists};
-ghost use Rattle.cycle_encoding.specs.Faults.{EncodeFaultIs};
-ghost use Rattle.cycle_encoding.specs.Plans.{IsTooLarge};
 ghost use Rattle.cycle_encoding.specs.Shapes.{positive, implied, numbered, vars_of};
 ghost use Rattle.cycle_encoding.specs.Steps.{of_thing, with_clauses};
-ghost use Rattle.cycle_encoding.specs.CycleFormula.{listed_in};
 ghost use Rattle.order_encoding.specs.OrderFamilies.{branches_by, comes_after};
 ghost use Rattle.order_encoding.specs.OrderSteps.{launched_in};
-ghost use Rattle.order_encoding.specs.WholeFormula.{formula_with_guard, guard_formula, memory_formula};
+ghost use Rattle.order_encoding.specs.WholeFormula.{formula_with_guard};
 
-use crate::counts::grown;
 use crate::cycles::cycle_var;
 use crate::kinds::{branches, push_var_if, waits};
-use crate::laws::parts_are_counted;
-use crate::sizes::guard_sizes;
 use cnf_core::{Cnf, Lit, at_most_one, counters_count};
-use cycle_encoding::{
-    EncodeFault, Encoded, Facts, Scope, add_implied, add_vars, each_encoding_has_one_list,
-    variables,
-};
-use graph_meaning::LaunchGraph;
+use cycle_encoding::{Facts, add_implied, add_vars, variables};
 use items::NoMemory;
-use machine_table::Table;
 use schedule_meaning::Launch;
 use std::alloc::Global;
 
@@ -146,64 +132,4 @@ pub fn extend_by_guard(
     at_most_one(cnf, &lits)?;
     add_waits(cnf, facts, launches, first, k)?;
     add_comes(alloc, cnf, facts, launches, &found, first, k)
-}
-
-/// Adds the clauses of a guard's branch to those of `add_memory`. The counts are found before any clause is built.
-pub fn add_guard(
-    alloc: Global,
-    encoded: Encoded,
-    graph: &LaunchGraph,
-    table: &Table,
-) -> Result<Encoded, EncodeFault>
-    requires cycles { encoded.plan.cycles ≤ 24 }
-    requires table { IsTable table.now }
-    requires graph { IsLaunchGraph graph.now }
-    requires formula { OnLists encoded.plan.encoding graph.now table.now encoded.plan.cycles
-        (λ l. encoded.cnf ≡ memory_formula graph.now table.now encoded.plan.cycles l) }
-    requires plan { OnLists encoded.plan.encoding graph.now table.now encoded.plan.cycles
-        (λ l. encoded.plan.launches ≡ l.launches) }
-    ensures formula { IfOk result (λ e. OnLists encoded.plan.encoding graph.now table.now encoded.plan.cycles
-        (λ l. e.cnf ≡ guard_formula graph.now table.now encoded.plan.cycles l)) }
-    ensures plan { IfOk result (λ e. e.plan ≡ encoded.plan) }
-    ensures size { IfErr result (λ fault. OnLists encoded.plan.encoding graph.now table.now encoded.plan.cycles
-        (λ l. EncodeFaultIs (guard_formula graph.now table.now encoded.plan.cycles l) fault)) }
-    ensures within { OnOk result (OnLists encoded.plan.encoding graph.now table.now encoded.plan.cycles
-        (λ l. ¬ IsTooLarge (guard_formula graph.now table.now encoded.plan.cycles l))) }
-{
-    each_encoding_has_one_list();
-    let facts = Facts::new(alloc, graph)?;
-    let scope = Scope::of(alloc, encoded.plan.encoding(), &facts, table)?;
-    add_guard_in(alloc, encoded, &facts, table, &scope)
-}
-
-/// The same over what a scope gives variables.
-fn add_guard_in(
-    alloc: Global,
-    encoded: Encoded,
-    facts: &Facts,
-    table: &Table,
-    scope: &Scope,
-) -> Result<Encoded, EncodeFault>
-    requires cycles { encoded.plan.cycles ≤ 24 }
-    requires table { IsTable table.now }
-    requires graph { IsLaunchGraph facts.now }
-    requires formula { encoded.cnf ≡ memory_formula facts.now table.now encoded.plan.cycles
-        (listed_in facts.now table.now encoded.plan.cycles scope.now) }
-    requires launches { encoded.plan.launches
-        ≡ (listed_in facts.now table.now encoded.plan.cycles scope.now).launches }
-    ensures formula { IfOk result (λ e. e.cnf ≡ guard_formula facts.now table.now encoded.plan.cycles
-        (listed_in facts.now table.now encoded.plan.cycles scope.now)) }
-    ensures plan { IfOk result (λ e. e.plan ≡ encoded.plan) }
-    ensures size { IfErr result (EncodeFaultIs (guard_formula facts.now table.now encoded.plan.cycles
-        (listed_in facts.now table.now encoded.plan.cycles scope.now))) }
-    ensures within { OnOk result (¬ IsTooLarge (guard_formula facts.now table.now encoded.plan.cycles
-        (listed_in facts.now table.now encoded.plan.cycles scope.now))) }
-{
-    parts_are_counted();
-    let mut cnf = encoded.cnf;
-    let plan = encoded.plan;
-    let sizes = grown(&cnf, guard_sizes(facts, table, scope, plan.cycles()));
-    sizes.within_limits()?;
-    extend_by_guard(alloc, &mut cnf, facts, plan.launches(), plan.cycles())?;
-    Ok(Encoded { cnf, plan })
 }

@@ -1,7 +1,6 @@
-// Which instructions rows have, where launches go, and the launches of a kind.
+// Which launches wait for the branch, which go to a set, and the launches of a kind.
 ghost use Rattle.std.specs.Prelude.{◌≡◌, ◌<◌, ◌^◌, [], ◌∷◌, ◌++◌, if◌then◌else◌, length, IfOk, OnOk};
 ghost use Rattle.schedule_meaning.specs.Launches as specs;
-ghost use Rattle.cycle_encoding.specs.Counts.{row_is};
 ghost use Rattle.cycle_encoding.specs.Shapes.{positive};
 ghost use Rattle.order_encoding.specs.OrderCounts as counts;
 ghost use Rattle.order_encoding.specs.OrderSteps.{launched_in};
@@ -9,55 +8,15 @@ ghost use Rattle.order_encoding.specs.OrderSteps.{launched_in};
 use cnf_core::Lit;
 use cycle_encoding::Facts;
 use items::NoMemory;
-use machine_table::InstrKind;
-use schedule_meaning::{Launch, To, is_held};
+use schedule_meaning::{Launch, To, is_branch, is_held, is_load, is_store};
 use std::alloc::Global;
-
-/// Whether the row's instruction is a load.
-pub fn is_load(facts: &Facts, row: u32) -> bool
-    ensures { result ≡ row_is facts.now specs.is_load row }
-{
-    match facts.instr_at(row) {
-        Some(InstrKind::LdqU) => true,
-        _ => false,
-    }
-}
-
-/// Whether the row's instruction is a store.
-pub fn is_store(facts: &Facts, row: u32) -> bool
-    ensures { result ≡ row_is facts.now specs.is_store row }
-{
-    match facts.instr_at(row) {
-        Some(InstrKind::StqU) => true,
-        _ => false,
-    }
-}
-
-/// Whether the row's number is that of a guard's branch.
-pub fn is_branch(facts: &Facts, row: u32) -> bool
-    ensures { result ≡ row_is facts.now specs.is_branch row }
-{
-    match facts.instr_at(row) {
-        Some(InstrKind::Beq) => true,
-        _ => false,
-    }
-}
 
 /// Whether a launch of the row may come in no earlier cycle than the branch.
 pub fn waits(facts: &Facts, row: u32) -> bool
     ensures { result ≡ counts.row_waits facts.now row }
 {
-    is_store(facts, row) || is_load(facts, row) && is_held(facts.graph())
-}
-
-/// Whether the launch takes a register of the pool: it goes there and gives a word.
-pub fn takes_pool(facts: &Facts, launch: Launch) -> bool
-    ensures { result ≡ specs.takes_pool facts.now launch }
-{
-    match launch.to {
-        To::Pool => facts.gives_word(launch.row),
-        To::Set(_) => false,
-    }
+    let instr = facts.instr_at(row);
+    is_store(instr) || is_load(instr) && is_held(facts.graph())
 }
 
 /// Whether the launch goes to the set of this number.
@@ -81,7 +40,7 @@ pub fn stores(
 {
     let mut found = Vec::new(alloc);
     for (index, launch) in launches.iter().enumerate() {
-        let passes = is_store(facts, launch.row);
+        let passes = is_store(facts.instr_at(launch.row));
         push_if(&mut found, passes, index as u32 + 1, *launch)?;
     }
     Ok(found)
@@ -98,7 +57,7 @@ pub fn branches(
 {
     let mut found = Vec::new(alloc);
     for (index, launch) in launches.iter().enumerate() {
-        let passes = is_branch(facts, launch.row);
+        let passes = is_branch(facts.instr_at(launch.row));
         push_if(&mut found, passes, index as u32 + 1, *launch)?;
     }
     Ok(found)

@@ -13,15 +13,16 @@ ghost use Rattle.cycle_encoding.specs.Shapes.{shown};
 ghost use Rattle.cycle_encoding.specs.CycleFormula.{launch_vars, Listed as ListedOf, Scope as ScopeOf};
 ghost use Rattle.cycle_encoding.specs.Encodings.{AreListed};
 ghost use Rattle.cycle_encoding.specs.CycleFormula.{wide};
-ghost use Rattle.cycle_encoding.specs.Narrow.{IsNarrow};
+ghost use Rattle.cycle_encoding.specs.Narrow.{IsPinnedList};
 ghost use Rattle.cycle_encoding.specs.Counts.{cycle_vars, cycle_size};
 ghost use Rattle.cycle_encoding.specs.CycleFormula.{listed_in};
 ghost use Rattle.cycle_encoding.specs.declared.encodings.Encoding.{Encoding as EncodingOf};
 ghost use Rattle.order_encoding.specs.OrderCounts.{memory_vars, memory_size, guard_vars};
 ghost use Rattle.order_encoding.specs.OrderCounts.{guard_size, registers_vars, registers_size};
 ghost use Rattle.order_encoding.specs.OrderCounts.{pins_vars, pins_size};
-ghost use Rattle.order_encoding.specs.WholeFormula.{memory_formula, guard_formula, pool_formula};
-ghost use Rattle.order_encoding.specs.WholeFormula.{whole_formula};
+ghost use Rattle.order_encoding.specs.OrderCounts.{part_size, part_vars};
+ghost use Rattle.order_encoding.specs.WholeFormula.{before_part, memory_formula, whole_formula, with_part};
+ghost use Rattle.order_encoding.specs.declared.adding.Part.{Part as PartOf};
 ghost use Rattle.order_encoding.specs.Worked.{one_sum_clauses, one_sum_graph, sum_clauses};
 ghost use Rattle.order_encoding.specs.PinnedWorked.{step_scope, step_clauses, two_copiers, exchange_scope};
 ghost use Rattle.order_encoding.specs.PinnedWorked.{exchange_clauses, pinned_copy_graph, copy_scope};
@@ -34,9 +35,9 @@ use schedule_meaning::memories_are_left;
 /// variables.
 pub fn launches_without_variables_may_go()
     ensures fits { (g : Graph) (table : TableOf) (k : ℕ) (e : ListedOf) (ls : List LaunchOf) → IsTable table
-        → IsLaunchGraph g → (n : IsNarrow g table k e) → Fits g table k ls → Fits g table k (filter n.keep ls) }
+        → IsLaunchGraph g → (n : IsPinnedList g table k e) → Fits g table k ls → Fits g table k (filter n.keep ls) }
     ensures listed { (g : Graph) (table : TableOf) (k : ℕ) (e : ListedOf) (ls : List LaunchOf) → IsTable table
-        → IsLaunchGraph g → (n : IsNarrow g table k e) → Fits g table k ls
+        → IsLaunchGraph g → (n : IsPinnedList g table k e) → Fits g table k ls
         → (l : LaunchOf) → Contains (filter n.keep ls) l → Contains e.launches l }
 {
     cycle_clauses_say_rules();
@@ -48,20 +49,20 @@ pub fn launches_without_variables_may_go()
 /// fits, with useless and repeated launches, is shown itself.
 pub fn clauses_say_fits()
     ensures shown { (g : Graph) (table : TableOf) (k : ℕ) (e : ListedOf) (v : ℕ → Bool) → IsTable table
-        → IsLaunchGraph g → IsNarrow g table k e → Satisfies v (whole_formula g table k e).clauses
-        → Fits g table k (shown v (launch_vars g table k e)) }
+        → IsLaunchGraph g → IsPinnedList g table k e → Satisfies v (whole_formula g table k e).clauses
+        → Fits g table k (shown v (launch_vars e)) }
     ensures some { (g : Graph) (table : TableOf) (k : ℕ) (e : ListedOf) (ls : List LaunchOf) → IsTable table
-        → IsLaunchGraph g → IsNarrow g table k e → Fits g table k ls
+        → IsLaunchGraph g → IsPinnedList g table k e → Fits g table k ls
         → (ms : List LaunchOf) × Fits g table k ms × ((keep : LaunchOf → Bool) × (ms ≡ filter keep ls))
         × ((v : ℕ → Bool) × Satisfies v (whole_formula g table k e).clauses
-        × ((l : LaunchOf) → Contains (shown v (launch_vars g table k e)) l ↔ Contains ms l)) }
+        × ((l : LaunchOf) → Contains (shown v (launch_vars e)) l ↔ Contains ms l)) }
     ensures all { (g : Graph) (table : TableOf) (k : ℕ) (v : ℕ → Bool) → IsTable table → IsLaunchGraph g
         → Satisfies v (whole_formula g table k (wide g table k)).clauses
-        → Fits g table k (shown v (launch_vars g table k (wide g table k))) }
+        → Fits g table k (shown v (launch_vars (wide g table k))) }
     ensures each { (g : Graph) (table : TableOf) (k : ℕ) (ls : List LaunchOf) → IsTable table → IsLaunchGraph g
         → Fits g table k ls
         → (v : ℕ → Bool) × Satisfies v (whole_formula g table k (wide g table k)).clauses
-        × ((l : LaunchOf) → Contains (shown v (launch_vars g table k (wide g table k))) l ↔ Contains ls l) }
+        × ((l : LaunchOf) → Contains (shown v (launch_vars (wide g table k))) l ↔ Contains ls l) }
 {
     counters_count();
     memories_are_left();
@@ -76,16 +77,16 @@ pub fn clauses_say_fits()
 pub fn each_encoding_says_fits()
     ensures shown { (e : EncodingOf) (g : Graph) (table : TableOf) (k : ℕ) (l : ListedOf) (v : ℕ → Bool) → IsTable table
         → IsLaunchGraph g → AreListed e g table k l → Satisfies v (whole_formula g table k l).clauses
-        → Fits g table k (shown v (launch_vars g table k l)) }
+        → Fits g table k (shown v (launch_vars l)) }
     ensures some { (e : EncodingOf) (g : Graph) (table : TableOf) (k : ℕ) (l : ListedOf) (ls : List LaunchOf)
         → IsTable table → IsLaunchGraph g → AreListed e g table k l → Fits g table k ls
         → (ms : List LaunchOf) × Fits g table k ms × ((keep : LaunchOf → Bool) × (ms ≡ filter keep ls))
         × ((v : ℕ → Bool) × Satisfies v (whole_formula g table k l).clauses
-        × ((x : LaunchOf) → Contains (shown v (launch_vars g table k l)) x ↔ Contains ms x)) }
+        × ((x : LaunchOf) → Contains (shown v (launch_vars l)) x ↔ Contains ms x)) }
     ensures each { (g : Graph) (table : TableOf) (k : ℕ) (ls : List LaunchOf) → IsTable table → IsLaunchGraph g
         → Fits g table k ls
         → (v : ℕ → Bool) × Satisfies v (whole_formula g table k (wide g table k)).clauses
-        × ((l : LaunchOf) → Contains (shown v (launch_vars g table k (wide g table k))) l ↔ Contains ls l) }
+        × ((l : LaunchOf) → Contains (shown v (launch_vars (wide g table k))) l ↔ Contains ls l) }
 {
     clauses_say_fits();
 }
@@ -105,37 +106,18 @@ pub fn counts_are_found()
     cycle_counts_are_found();
 }
 
-/// The counts of the formula with memory; of the one with memory and a guard's branch; of the one with registers too;
-/// and of the whole, as they are found row by row.
+/// Each part adds its counts, as they are found row by row, to those of the formula of the parts before it. The first
+/// sum is said too, since the variables of the branch's cycles come behind those of memory.
 pub fn parts_are_counted()
     ensures memory_vars { (g : Graph) (table : TableOf) (k : ℕ) (s : ScopeOf)
         → (memory_formula g table k (listed_in g table k s)).vars
         ≡ cycle_vars g table k s + memory_vars g table k s }
-    ensures memory_clauses { (g : Graph) (table : TableOf) (k : ℕ) (s : ScopeOf)
-        → length (memory_formula g table k (listed_in g table k s)).clauses
-        ≡ cycle_size g table k s + memory_size g table k s }
-    ensures guard_vars { (g : Graph) (table : TableOf) (k : ℕ) (s : ScopeOf)
-        → (guard_formula g table k (listed_in g table k s)).vars
-        ≡ cycle_vars g table k s + memory_vars g table k s + guard_vars g table k s }
-    ensures guard_clauses { (g : Graph) (table : TableOf) (k : ℕ) (s : ScopeOf)
-        → length (guard_formula g table k (listed_in g table k s)).clauses
-        ≡ cycle_size g table k s + memory_size g table k s + guard_size g table k s }
-    ensures pool_vars { (g : Graph) (table : TableOf) (k : ℕ) (s : ScopeOf)
-        → (pool_formula g table k (listed_in g table k s)).vars
-        ≡ cycle_vars g table k s + memory_vars g table k s + guard_vars g table k s
-        + registers_vars g table k s }
-    ensures pool_clauses { (g : Graph) (table : TableOf) (k : ℕ) (s : ScopeOf)
-        → length (pool_formula g table k (listed_in g table k s)).clauses
-        ≡ cycle_size g table k s + memory_size g table k s + guard_size g table k s
-        + registers_size g table k s }
-    ensures whole_vars { (g : Graph) (table : TableOf) (k : ℕ) (s : ScopeOf)
-        → (whole_formula g table k (listed_in g table k s)).vars
-        ≡ cycle_vars g table k s + memory_vars g table k s + guard_vars g table k s
-        + registers_vars g table k s + pins_vars g table k s }
-    ensures whole_clauses { (g : Graph) (table : TableOf) (k : ℕ) (s : ScopeOf)
-        → length (whole_formula g table k (listed_in g table k s)).clauses
-        ≡ cycle_size g table k s + memory_size g table k s + guard_size g table k s
-        + registers_size g table k s + pins_size g table k s }
+    ensures vars { (p : PartOf) (g : Graph) (table : TableOf) (k : ℕ) (s : ScopeOf)
+        → (with_part p g table k (listed_in g table k s)).vars
+        ≡ (before_part p g table k (listed_in g table k s)).vars + part_vars p g table k s }
+    ensures clauses { (p : PartOf) (g : Graph) (table : TableOf) (k : ℕ) (s : ScopeOf)
+        → length (with_part p g table k (listed_in g table k s)).clauses
+        ≡ length (before_part p g table k (listed_in g table k s)).clauses + part_size p g table k s }
 {
     counters_count();
     cycle_counts_are_found();

@@ -3,8 +3,16 @@
 //!
 //! `count_in` counts the whole formula, and builds none of it; `full` and `full_in` give it at once; `add_memory`,
 //! `add_guard`, `add_pool` and `add_pins` add its parts one after another to the formula of cycles, slots and values.
+//!
+//! Proved: values that satisfy all clauses show a schedule that fits, and each schedule that fits has a part that
+//! fits and is what some values show, in each encoding (`each_encoding_says_fits`, `clauses_say_fits`), since
+//! launches without variables may go (`launches_without_variables_may_go`); in the wide encoding each schedule that
+//! fits is shown itself. Each call builds exactly its clauses, or gives the counts exactly where one passes its
+//! limit. The counts are found row by row, without memory (`counts_are_found`). `worked_formulas` and
+//! `worked_pinned_formulas` have the clauses of small goals and the counts of a copy loop.
 #![tactic(auto)]
 
+mod adding;
 mod counts;
 mod cycles;
 mod guard;
@@ -18,13 +26,9 @@ mod pool;
 mod sizes;
 mod whole;
 
-pub use counts::pass_limit;
-pub use guard::add_guard;
+pub use adding::{add_guard, add_memory, add_pins, add_pool};
 pub use laws::{
     clauses_say_fits, counts_are_found, each_encoding_says_fits, launches_without_variables_may_go,
-    parts_are_counted, worked_formulas, worked_pinned_formulas,
+    worked_formulas, worked_pinned_formulas,
 };
-pub use memory::add_memory;
-pub use pins::add_pins;
-pub use pool::add_pool;
 pub use whole::{count_in, full, full_as, full_in};

@@ -1,40 +1,26 @@
 // Memory in order: which memory is held in each cycle, what loads and stores do to it.
-ghost use Rattle.std.specs.Prelude.{◌≡◌, ◌+◌, ◌<◌, ◌≤◌, ◌==◌, ◌^◌, ◌++◌, length, map, IfOk, IfErr, OnOk};
+ghost use Rattle.std.specs.Prelude.{◌≡◌, ◌+◌, ◌<◌, ◌≤◌, ◌==◌, ◌^◌, ◌++◌, length, map, OnOk};
 ghost use Rattle.std.specs.List.{filter, range_with_len};
 ghost use Rattle.cnf_core.specs.Formula.{IsLitOf};
 ghost use Rattle.graph_meaning.specs.WellFormed.{IsLaunchGraph};
-ghost use Rattle.machine_table.specs.Tables.{IsTable};
 ghost use Rattle.schedule_meaning.specs.Launches as specs;
-ghost use Rattle.cycle_encoding.specs.Encodings.{OnLists};
-ghost use Rattle.cycle_encoding.specs.Faults.{EncodeFaultIs};
-ghost use Rattle.cycle_encoding.specs.Plans.{IsTooLarge};
 ghost use Rattle.cycle_encoding.specs.Shapes.{negative, positive, implied, numbered, counters_vars, counters_size};
 ghost use Rattle.cycle_encoding.specs.Steps.{of_thing, with_clauses, with_counters};
-ghost use Rattle.cycle_encoding.specs.CycleFormula.{cycle_formula};
-ghost use Rattle.cycle_encoding.specs.CycleFormula.{listed_in};
 ghost use Rattle.order_encoding.specs.OrderVariables.{all_held};
 ghost use Rattle.order_encoding.specs.OrderFamilies.{kept_clauses, memory_clauses, store_groups, leaves, uses_held};
 ghost use Rattle.order_encoding.specs.OrderFamilies.{stays, stored};
 ghost use Rattle.order_encoding.specs.OrderSteps.{AreHeldVars, held_at, launched_in};
-ghost use Rattle.order_encoding.specs.WholeFormula.{with_memory, memory_formula};
+ghost use Rattle.order_encoding.specs.WholeFormula.{with_memory};
 
-use crate::counts::grown;
 use crate::cycles::cycle_var;
 use crate::held::{
     HeldVars, add_entry, add_held_counters, add_last, held_after, held_var, held_vars,
 };
-use crate::kinds::{is_load, is_store, push_var_if, stores};
-use crate::laws::parts_are_counted;
-use crate::sizes::memory_sizes;
+use crate::kinds::{push_var_if, stores};
 use cnf_core::{Cnf, Lit, at_most_one, counters_count};
-use cycle_encoding::{
-    EncodeFault, Encoded, Facts, Scope, add_implied, add_vars, cycle_counts_are_found,
-    each_encoding_has_one_list,
-};
-use graph_meaning::LaunchGraph;
+use cycle_encoding::{Facts, add_implied, add_vars};
 use items::NoMemory;
-use machine_table::Table;
-use schedule_meaning::{Launch, class_at, memory_class_at};
+use schedule_meaning::{Launch, class_at, is_load, is_store, memory_class_at};
 use std::alloc::Global;
 
 /// Adds for each load and store the clauses that it uses the memory that is held, and that a store leaves its own.
@@ -110,7 +96,7 @@ fn add_read(
     ensures { OnOk result (cnf.new ≡ with_clauses cnf.old (of_thing var
         (uses_held facts.now (numbered held.now.first (all_held facts.now held.now.cycles)) launch))) }
 {
-    if is_load(facts, launch.row) || is_store(facts, launch.row) {
+    if is_load(facts.instr_at(launch.row)) || is_store(facts.instr_at(launch.row)) {
         let class = memory_class_at(facts.graph(), launch.row);
         add_implied(cnf, var, held_var(held, facts, class, launch.cycle))
     } else {
@@ -140,7 +126,7 @@ fn add_left(
         (leaves facts.now (numbered held.now.first (all_held facts.now held.now.cycles))
         (numbered stores (range_with_len 0 held.now.cycles)) launch))) }
 {
-    if !is_store(facts, launch.row) {
+    if !is_store(facts.instr_at(launch.row)) {
         return Ok(());
     }
     let class = class_at(facts.graph(), launch.row);
@@ -354,65 +340,4 @@ fn add_memory_vars(cnf: &mut Cnf, facts: &Facts, held: &HeldVars) -> u32
     let before_stores = cnf.vars();
     add_vars(cnf, held.cycles);
     before_stores
-}
-
-/// Adds the clauses of memory to those of `encode`. The counts are found before any clause is built.
-pub fn add_memory(
-    alloc: Global,
-    encoded: Encoded,
-    graph: &LaunchGraph,
-    table: &Table,
-) -> Result<Encoded, EncodeFault>
-    requires cycles { encoded.plan.cycles ≤ 24 }
-    requires table { IsTable table.now }
-    requires graph { IsLaunchGraph graph.now }
-    requires formula { OnLists encoded.plan.encoding graph.now table.now encoded.plan.cycles
-        (λ l. encoded.cnf ≡ cycle_formula graph.now table.now encoded.plan.cycles l) }
-    requires plan { OnLists encoded.plan.encoding graph.now table.now encoded.plan.cycles
-        (λ l. encoded.plan.launches ≡ l.launches) }
-    ensures formula { IfOk result (λ e. OnLists encoded.plan.encoding graph.now table.now encoded.plan.cycles
-        (λ l. e.cnf ≡ memory_formula graph.now table.now encoded.plan.cycles l)) }
-    ensures plan { IfOk result (λ e. e.plan ≡ encoded.plan) }
-    ensures size { IfErr result (λ fault. OnLists encoded.plan.encoding graph.now table.now encoded.plan.cycles
-        (λ l. EncodeFaultIs (memory_formula graph.now table.now encoded.plan.cycles l) fault)) }
-    ensures within { OnOk result (OnLists encoded.plan.encoding graph.now table.now encoded.plan.cycles
-        (λ l. ¬ IsTooLarge (memory_formula graph.now table.now encoded.plan.cycles l))) }
-{
-    each_encoding_has_one_list();
-    let facts = Facts::new(alloc, graph)?;
-    let scope = Scope::of(alloc, encoded.plan.encoding(), &facts, table)?;
-    add_memory_in(alloc, encoded, &facts, table, &scope)
-}
-
-/// The same over what a scope gives variables.
-fn add_memory_in(
-    alloc: Global,
-    encoded: Encoded,
-    facts: &Facts,
-    table: &Table,
-    scope: &Scope,
-) -> Result<Encoded, EncodeFault>
-    requires cycles { encoded.plan.cycles ≤ 24 }
-    requires table { IsTable table.now }
-    requires graph { IsLaunchGraph facts.now }
-    requires formula { encoded.cnf ≡ cycle_formula facts.now table.now encoded.plan.cycles
-        (listed_in facts.now table.now encoded.plan.cycles scope.now) }
-    requires launches { encoded.plan.launches
-        ≡ (listed_in facts.now table.now encoded.plan.cycles scope.now).launches }
-    ensures formula { IfOk result (λ e. e.cnf ≡ memory_formula facts.now table.now encoded.plan.cycles
-        (listed_in facts.now table.now encoded.plan.cycles scope.now)) }
-    ensures plan { IfOk result (λ e. e.plan ≡ encoded.plan) }
-    ensures size { IfErr result (EncodeFaultIs (memory_formula facts.now table.now encoded.plan.cycles
-        (listed_in facts.now table.now encoded.plan.cycles scope.now))) }
-    ensures within { OnOk result (¬ IsTooLarge (memory_formula facts.now table.now encoded.plan.cycles
-        (listed_in facts.now table.now encoded.plan.cycles scope.now))) }
-{
-    cycle_counts_are_found();
-    parts_are_counted();
-    let mut cnf = encoded.cnf;
-    let plan = encoded.plan;
-    let sizes = grown(&cnf, memory_sizes(facts, table, scope, plan.cycles()));
-    sizes.within_limits()?;
-    extend_by_memory(alloc, &mut cnf, facts, plan.launches(), plan.cycles())?;
-    Ok(Encoded { cnf, plan })
 }

@@ -8,8 +8,8 @@ ghost use Rattle.cycle_encoding.specs.Counts as cycle_counts;
 ghost use Rattle.cycle_encoding.specs.Counts.{one_if};
 ghost use Rattle.cycle_encoding.specs.Counts.{row_destinations};
 ghost use Rattle.cycle_encoding.specs.Variables as variables;
-ghost use Rattle.order_encoding.specs.PinFamilies as order;
-ghost use Rattle.order_encoding.specs.OrderCounts as pinned;
+ghost use Rattle.order_encoding.specs.PinFamilies as families;
+ghost use Rattle.order_encoding.specs.OrderCounts as counts;
 ghost use Rattle.order_encoding.specs.OrderSteps.{set_size};
 
 use cycle_encoding::{
@@ -34,7 +34,7 @@ fn goes_count(facts: &Facts, table: &Table, scope: &Scope, k: u32, set: u32) -> 
     requires table { IsTable table.now }
     requires cycles { k ≤ 24 }
     requires rows { length facts.now.rows < 2 ^ 30 }
-    ensures value { result ≡ pinned.goes_count facts.now table.now k scope.now set }
+    ensures value { result ≡ counts.goes_count facts.now table.now k scope.now set }
     ensures few { result < 2 ^ 40 }
 {
     let mut count = 0;
@@ -49,7 +49,7 @@ fn row_late(facts: &Facts, table: &Table, scope: &Scope, k: u32, row: u32) -> u6
     requires table { IsTable table.now }
     requires cycles { k ≤ 24 }
     ensures value { result ≡ cycle_counts.row_count facts.now table.now k scope.now row
-        * sum_by (λ to. one_if (pinned.overwrites_at facts.now to)) (row_destinations facts.now row) }
+        * sum_by (λ to. one_if (counts.overwrites_at facts.now to)) (row_destinations facts.now row) }
     ensures few { result ≤ 6200 }
 {
     row_count(facts, table, scope, k, row) * late(facts, row)
@@ -61,7 +61,7 @@ fn late_count(facts: &Facts, table: &Table, scope: &Scope, k: u32) -> u64
     requires table { IsTable table.now }
     requires cycles { k ≤ 24 }
     requires rows { length facts.now.rows < 2 ^ 30 }
-    ensures value { result ≡ pinned.late_count facts.now table.now k scope.now }
+    ensures value { result ≡ counts.late_count facts.now table.now k scope.now }
     ensures few { result < 2 ^ 45 }
 {
     let mut count = 0;
@@ -76,7 +76,7 @@ fn set_sizes(facts: &Facts, table: &Table, scope: &Scope, k: u32, set: u32) -> S
     requires table { IsTable table.now }
     requires cycles { k ≤ 24 }
     requires rows { length facts.now.rows < 2 ^ 30 }
-    ensures vars { result.vars ≡ counter.at_most_vars 1 (pinned.goes_count facts.now table.now k scope.now set) }
+    ensures vars { result.vars ≡ counter.at_most_vars 1 (counts.goes_count facts.now table.now k scope.now set) }
     ensures clauses { result.clauses ≡ set_size facts.now table.now k scope.now set }
     ensures few_vars { result.vars < 2 ^ 40 }
     ensures few_clauses { result.clauses < 2 ^ 43 }
@@ -97,7 +97,7 @@ fn set_sizes(facts: &Facts, table: &Table, scope: &Scope, k: u32, set: u32) -> S
 
 /// Whether an input of the set's class has its pin, so that no launch need go to it.
 pub fn has_own_input(facts: &Facts, set: u32) -> bool
-    ensures { result ≡ order.has_own_input facts.now set }
+    ensures { result ≡ families.has_own_input facts.now set }
 {
     match facts.graph().sets.as_slice().get(set as usize) {
         Some(found) => takes_input(facts, found.class, set),
@@ -110,7 +110,7 @@ fn sets_sizes(facts: &Facts, table: &Table, scope: &Scope, k: u32) -> Sizes
     requires table { IsTable table.now }
     requires cycles { k ≤ 24 }
     requires rows { length facts.now.rows < 2 ^ 30 }
-    ensures vars { result.vars ≡ pinned.pins_vars facts.now table.now k scope.now }
+    ensures vars { result.vars ≡ counts.pins_vars facts.now table.now k scope.now }
     ensures clauses { result.clauses
         ≡ sum_by (set_size facts.now table.now k scope.now) (variables.pinned_sets facts.now) }
     ensures few_vars { result.vars < 2 ^ 45 }
@@ -132,8 +132,8 @@ pub fn pins_sizes(facts: &Facts, table: &Table, scope: &Scope, k: u32) -> Sizes
     requires table { IsTable table.now }
     requires cycles { k ≤ 24 }
     requires rows { length facts.now.rows < 2 ^ 30 }
-    ensures vars { result.vars ≡ pinned.pins_vars facts.now table.now k scope.now }
-    ensures clauses { result.clauses ≡ pinned.pins_size facts.now table.now k scope.now }
+    ensures vars { result.vars ≡ counts.pins_vars facts.now table.now k scope.now }
+    ensures clauses { result.clauses ≡ counts.pins_size facts.now table.now k scope.now }
     ensures few_vars { result.vars < 2 ^ 50 }
     ensures few_clauses { result.clauses < 2 ^ 50 }
 {

@@ -1,39 +1,23 @@
 // Pins: what launches to pinned sets overwrite, that as many go there as have to, and that they wait for the branch.
 ghost use Rattle.std.specs.Prelude.{◌≡◌, ◌+◌, ◌<◌, ◌≤◌, ◌==◌, ◌^◌, ◌∷◌, [], not, length, map, is_some, option_to_list};
-ghost use Rattle.std.specs.Prelude.{IfOk, IfErr, OnOk};
+ghost use Rattle.std.specs.Prelude.{IfOk, OnOk};
 ghost use Rattle.std.specs.List.{range_with_len};
-ghost use Rattle.graph_meaning.specs.WellFormed.{IsLaunchGraph};
-ghost use Rattle.machine_table.specs.Tables.{IsTable};
 ghost use Rattle.schedule_meaning.specs.Launches as specs;
-ghost use Rattle.cycle_encoding.specs.Encodings.{OnLists};
-ghost use Rattle.cycle_encoding.specs.Faults.{EncodeFaultIs};
-ghost use Rattle.cycle_encoding.specs.CycleFormula.{listed_in};
-ghost use Rattle.cycle_encoding.specs.CycleFormula.{before_overwritten};
 ghost use Rattle.cycle_encoding.specs.Variables.{all_overwritten};
-ghost use Rattle.cycle_encoding.specs.Plans.{IsTooLarge};
 ghost use Rattle.cycle_encoding.specs.Shapes.{implied, numbered, vars_of, when, counters_vars, counters_size};
 ghost use Rattle.cycle_encoding.specs.Steps.{of_thing, with_clauses, with_counters};
-ghost use Rattle.order_encoding.specs.PinFamilies as order;
+ghost use Rattle.order_encoding.specs.PinFamilies as families;
 ghost use Rattle.order_encoding.specs.PinFamilies.{late_clauses, overwritten_clauses, overwrites_after};
 ghost use Rattle.order_encoding.specs.PinFamilies.{pin_clauses, pin_groups};
 ghost use Rattle.order_encoding.specs.OrderSteps.{next_in_set, clauses_in_set, stays_in_set};
-ghost use Rattle.order_encoding.specs.WholeFormula.{formula_with_pins, whole_formula, memory_formula};
-ghost use Rattle.order_encoding.specs.WholeFormula.{pool_formula};
+ghost use Rattle.order_encoding.specs.WholeFormula.{formula_with_pins};
 
-use crate::counts::grown;
 use crate::cycles::cycle_var;
 use crate::kinds::{goes_to, push_var_if};
-use crate::laws::parts_are_counted;
-use crate::pin_counts::{has_own_input, pins_sizes};
-use crate::sizes::memory_sizes;
+use crate::pin_counts::has_own_input;
 use cnf_core::{Cnf, Lit, at_most_one, counters_count};
-use cycle_encoding::{
-    EncodeFault, Encoded, Facts, Scope, add_implied, cycle_sizes, each_encoding_has_one_list,
-    is_overwriting,
-};
-use graph_meaning::LaunchGraph;
+use cycle_encoding::{Facts, add_implied, is_overwriting};
 use items::NoMemory;
-use machine_table::Table;
 use schedule_meaning::{Launch, overwrites};
 use std::alloc::Global;
 
@@ -238,9 +222,9 @@ fn add_reached_set(
 ) -> Result<(), NoMemory>
     requires exist { length launches.now ≤ cnf.old.vars }
     requires few { cnf.old.vars < 2 ^ 29 }
-    requires room { length cnf.old.clauses + length (when (not (order.has_own_input facts.now set))
+    requires room { length cnf.old.clauses + length (when (not (families.has_own_input facts.now set))
         (vars_of (specs.goes_to set) (numbered 0 launches.now) ∷ [])) < 2 ^ 30 }
-    ensures { OnOk result (cnf.new ≡ with_clauses cnf.old (when (not (order.has_own_input facts.now set))
+    ensures { OnOk result (cnf.new ≡ with_clauses cnf.old (when (not (families.has_own_input facts.now set))
         (vars_of (specs.goes_to set) (numbered 0 launches.now) ∷ []))) }
 {
     if has_own_input(facts, set) {
@@ -356,94 +340,4 @@ pub fn extend_by_pins(
     add_pin_counters(alloc, cnf, facts, launches)?;
     add_reached(alloc, cnf, facts, launches)?;
     add_late_of_guard(cnf, facts, launches, branches, k)
-}
-
-/// How many variables come before those of the cycles by which the branch has come; no clause is built.
-fn before_branch(facts: &Facts, table: &Table, scope: &Scope, k: u32) -> u32
-    requires cycles { k ≤ 24 }
-    requires table { IsTable table.now }
-    requires graph { IsLaunchGraph facts.now }
-    requires few { (memory_formula facts.now table.now k (listed_in facts.now table.now k scope.now)).vars
-        ≤ 262144 }
-    ensures { result
-        ≡ (memory_formula facts.now table.now k (listed_in facts.now table.now k scope.now)).vars }
-{
-    parts_are_counted();
-    let cycle = cycle_sizes(facts, table, scope, k);
-    let memory = memory_sizes(facts, table, scope, k);
-    (cycle.vars + memory.vars) as u32
-}
-
-/// Adds the clauses of pins to those of `add_pool`. The counts are found before any clause is built.
-pub fn add_pins(
-    alloc: Global,
-    encoded: Encoded,
-    graph: &LaunchGraph,
-    table: &Table,
-) -> Result<Encoded, EncodeFault>
-    requires cycles { encoded.plan.cycles ≤ 24 }
-    requires table { IsTable table.now }
-    requires graph { IsLaunchGraph graph.now }
-    requires formula { OnLists encoded.plan.encoding graph.now table.now encoded.plan.cycles
-        (λ l. encoded.cnf ≡ pool_formula graph.now table.now encoded.plan.cycles l) }
-    requires plan { OnLists encoded.plan.encoding graph.now table.now encoded.plan.cycles
-        (λ l. encoded.plan.launches ≡ l.launches) }
-    requires overwritten { OnLists encoded.plan.encoding graph.now table.now encoded.plan.cycles
-        (λ l. encoded.plan.overwritten ≡ before_overwritten graph.now table.now encoded.plan.cycles l) }
-    ensures formula { IfOk result (λ e. OnLists encoded.plan.encoding graph.now table.now encoded.plan.cycles
-        (λ l. e.cnf ≡ whole_formula graph.now table.now encoded.plan.cycles l)) }
-    ensures plan { IfOk result (λ e. e.plan ≡ encoded.plan) }
-    ensures size { IfErr result (λ fault. OnLists encoded.plan.encoding graph.now table.now encoded.plan.cycles
-        (λ l. EncodeFaultIs (whole_formula graph.now table.now encoded.plan.cycles l) fault)) }
-    ensures within { OnOk result (OnLists encoded.plan.encoding graph.now table.now encoded.plan.cycles
-        (λ l. ¬ IsTooLarge (whole_formula graph.now table.now encoded.plan.cycles l))) }
-{
-    each_encoding_has_one_list();
-    let facts = Facts::new(alloc, graph)?;
-    let scope = Scope::of(alloc, encoded.plan.encoding(), &facts, table)?;
-    add_pins_in(alloc, encoded, &facts, table, &scope)
-}
-
-/// The same over what a scope gives variables.
-fn add_pins_in(
-    alloc: Global,
-    encoded: Encoded,
-    facts: &Facts,
-    table: &Table,
-    scope: &Scope,
-) -> Result<Encoded, EncodeFault>
-    requires cycles { encoded.plan.cycles ≤ 24 }
-    requires table { IsTable table.now }
-    requires graph { IsLaunchGraph facts.now }
-    requires formula { encoded.cnf ≡ pool_formula facts.now table.now encoded.plan.cycles
-        (listed_in facts.now table.now encoded.plan.cycles scope.now) }
-    requires launches { encoded.plan.launches
-        ≡ (listed_in facts.now table.now encoded.plan.cycles scope.now).launches }
-    requires overwritten { encoded.plan.overwritten ≡ before_overwritten facts.now table.now encoded.plan.cycles
-        (listed_in facts.now table.now encoded.plan.cycles scope.now) }
-    ensures formula { IfOk result (λ e. e.cnf ≡ whole_formula facts.now table.now encoded.plan.cycles
-        (listed_in facts.now table.now encoded.plan.cycles scope.now)) }
-    ensures plan { IfOk result (λ e. e.plan ≡ encoded.plan) }
-    ensures size { IfErr result (EncodeFaultIs (whole_formula facts.now table.now encoded.plan.cycles
-        (listed_in facts.now table.now encoded.plan.cycles scope.now))) }
-    ensures within { OnOk result (¬ IsTooLarge (whole_formula facts.now table.now encoded.plan.cycles
-        (listed_in facts.now table.now encoded.plan.cycles scope.now))) }
-{
-    parts_are_counted();
-    let mut cnf = encoded.cnf;
-    let plan = encoded.plan;
-    let k = plan.cycles();
-    let sizes = grown(&cnf, pins_sizes(facts, table, scope, k));
-    sizes.within_limits()?;
-    let branches = before_branch(facts, table, scope, k);
-    extend_by_pins(
-        alloc,
-        &mut cnf,
-        facts,
-        plan.launches(),
-        k,
-        plan.overwritten(),
-        branches,
-    )?;
-    Ok(Encoded { cnf, plan })
 }

@@ -1,31 +1,20 @@
 // Registers: launches to the pool that give words take no more registers than it has.
-ghost use Rattle.std.specs.Prelude.{◌≡◌, ◌+◌, ◌<◌, ◌≤◌, ◌^◌, List, length, IfOk, IfErr, OnOk, option_to_list};
-ghost use Rattle.graph_meaning.specs.WellFormed.{IsLaunchGraph};
+ghost use Rattle.std.specs.Prelude.{◌≡◌, ◌+◌, ◌<◌, ◌≤◌, ◌^◌, List, length, IfOk, OnOk, option_to_list};
 ghost use Rattle.machine_table.specs.Tables.{IsTable};
 ghost use Rattle.cycle_encoding.specs.Families.{any};
-ghost use Rattle.cycle_encoding.specs.Encodings.{OnLists};
-ghost use Rattle.cycle_encoding.specs.Faults.{EncodeFaultIs};
-ghost use Rattle.cycle_encoding.specs.Plans.{IsTooLarge};
 ghost use Rattle.cycle_encoding.specs.Shapes.{numbered, vars_of};
 ghost use Rattle.cycle_encoding.specs.Steps.{of_thing, with_clauses};
-ghost use Rattle.cycle_encoding.specs.CycleFormula.{listed_in};
 ghost use Rattle.order_encoding.specs.OrderVariables.{all_taken, Taken};
 ghost use Rattle.order_encoding.specs.OrderFamilies.{is_taken_at};
-ghost use Rattle.order_encoding.specs.WholeFormula.{formula_with_registers, guard_formula, pool_formula};
+ghost use Rattle.order_encoding.specs.WholeFormula.{formula_with_registers};
 ghost use Rattle.order_encoding.specs.PinFamilies.{pool_clauses, takes_register};
 
-use crate::counts::{grown, registers};
-use crate::kinds::takes_pool;
-use crate::laws::parts_are_counted;
-use crate::sizes::pool_sizes;
+use crate::counts::registers;
 use cnf_core::{Cnf, Lit, at_most, counters_count};
-use cycle_encoding::{
-    EncodeFault, Encoded, Facts, Scope, add_implied, add_vars, each_encoding_has_one_list,
-};
-use graph_meaning::LaunchGraph;
+use cycle_encoding::{Facts, add_implied, add_vars};
 use items::NoMemory;
 use machine_table::Table;
-use schedule_meaning::Launch;
+use schedule_meaning::{Launch, takes_pool};
 use std::alloc::Global;
 
 /// The variable of a slot and cycle whose launch takes a register, if it has one; `first` is the variable before those.
@@ -88,7 +77,7 @@ fn add_take(
     ensures { OnOk result (cnf.new ≡ with_clauses cnf.old
         (of_thing var (takes_register facts.now (numbered first (all_taken table.now k)) launch))) }
 {
-    if takes_pool(facts, launch) {
+    if takes_pool(launch, facts.instr_at(launch.row)) {
         add_implied(
             cnf,
             var,
@@ -140,71 +129,4 @@ pub fn extend_by_pool(
     add_vars(cnf, count);
     add_takes(cnf, facts, table, launches, first, k)?;
     at_most(cnf, &lits, most)
-}
-
-/// Adds the clauses of registers to those of `add_guard`. The counts are found before any clause is built.
-pub fn add_pool(
-    alloc: Global,
-    encoded: Encoded,
-    graph: &LaunchGraph,
-    table: &Table,
-) -> Result<Encoded, EncodeFault>
-    requires cycles { encoded.plan.cycles ≤ 24 }
-    requires table { IsTable table.now }
-    requires graph { IsLaunchGraph graph.now }
-    requires formula { OnLists encoded.plan.encoding graph.now table.now encoded.plan.cycles
-        (λ l. encoded.cnf ≡ guard_formula graph.now table.now encoded.plan.cycles l) }
-    requires plan { OnLists encoded.plan.encoding graph.now table.now encoded.plan.cycles
-        (λ l. encoded.plan.launches ≡ l.launches) }
-    ensures formula { IfOk result (λ e. OnLists encoded.plan.encoding graph.now table.now encoded.plan.cycles
-        (λ l. e.cnf ≡ pool_formula graph.now table.now encoded.plan.cycles l)) }
-    ensures plan { IfOk result (λ e. e.plan ≡ encoded.plan) }
-    ensures size { IfErr result (λ fault. OnLists encoded.plan.encoding graph.now table.now encoded.plan.cycles
-        (λ l. EncodeFaultIs (pool_formula graph.now table.now encoded.plan.cycles l) fault)) }
-    ensures within { OnOk result (OnLists encoded.plan.encoding graph.now table.now encoded.plan.cycles
-        (λ l. ¬ IsTooLarge (pool_formula graph.now table.now encoded.plan.cycles l))) }
-{
-    each_encoding_has_one_list();
-    let facts = Facts::new(alloc, graph)?;
-    let scope = Scope::of(alloc, encoded.plan.encoding(), &facts, table)?;
-    add_pool_in(alloc, encoded, &facts, table, &scope)
-}
-
-/// The same over what a scope gives variables.
-fn add_pool_in(
-    alloc: Global,
-    encoded: Encoded,
-    facts: &Facts,
-    table: &Table,
-    scope: &Scope,
-) -> Result<Encoded, EncodeFault>
-    requires cycles { encoded.plan.cycles ≤ 24 }
-    requires table { IsTable table.now }
-    requires graph { IsLaunchGraph facts.now }
-    requires formula { encoded.cnf ≡ guard_formula facts.now table.now encoded.plan.cycles
-        (listed_in facts.now table.now encoded.plan.cycles scope.now) }
-    requires launches { encoded.plan.launches
-        ≡ (listed_in facts.now table.now encoded.plan.cycles scope.now).launches }
-    ensures formula { IfOk result (λ e. e.cnf ≡ pool_formula facts.now table.now encoded.plan.cycles
-        (listed_in facts.now table.now encoded.plan.cycles scope.now)) }
-    ensures plan { IfOk result (λ e. e.plan ≡ encoded.plan) }
-    ensures size { IfErr result (EncodeFaultIs (pool_formula facts.now table.now encoded.plan.cycles
-        (listed_in facts.now table.now encoded.plan.cycles scope.now))) }
-    ensures within { OnOk result (¬ IsTooLarge (pool_formula facts.now table.now encoded.plan.cycles
-        (listed_in facts.now table.now encoded.plan.cycles scope.now))) }
-{
-    parts_are_counted();
-    let mut cnf = encoded.cnf;
-    let plan = encoded.plan;
-    let sizes = grown(&cnf, pool_sizes(facts, table, scope, plan.cycles()));
-    sizes.within_limits()?;
-    extend_by_pool(
-        alloc,
-        &mut cnf,
-        facts,
-        table,
-        plan.launches(),
-        plan.cycles(),
-    )?;
-    Ok(Encoded { cnf, plan })
 }

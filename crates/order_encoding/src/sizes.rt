@@ -14,12 +14,13 @@ ghost use Rattle.order_encoding.specs.OrderCounts.{row_uses, row_waits};
 use crate::counts::{
     count_if, memory_count, other_count, registers, row_stores, row_use_count, times,
 };
-use crate::kinds::{is_branch, waits};
+use crate::kinds::waits;
 use cnf_core::{at_most_size, at_most_vars};
 use cycle_encoding::{
     Facts, Scope, Sizes, destination_count, one_size, one_vars, row_count, takes_register,
 };
 use machine_table::Table;
+use schedule_meaning::is_branch;
 
 /// How many stores of a row may be launched in a cycle, by where they go.
 fn destined_stores(facts: &Facts, table: &Table, scope: &Scope, k: u32, cycle: u32, row: u32) -> u64
@@ -146,7 +147,7 @@ fn branch_count(facts: &Facts, table: &Table, scope: &Scope, k: u32) -> u64
 {
     let mut count = 0;
     for row in 0..facts.row_numbers() {
-        count += destined_if(facts, table, scope, k, row, is_branch(facts, row));
+        count += destined_if(facts, table, scope, k, row, is_branch(facts.instr_at(row)));
     }
     count
 }

@@ -1,5 +1,5 @@
 // The whole formula of a schedule.
-ghost use Rattle.std.specs.Prelude.{◌≡◌, ◌↔◌, ◌≤◌, ◌<◌, ◌^◌, ℕ, Bool, List, Contains, length, IfOk, IfErr, OnOk};
+ghost use Rattle.std.specs.Prelude.{◌≡◌, ◌↔◌, ◌≤◌, ◌+◌, ◌<◌, ◌^◌, ℕ, Bool, List, Contains, length, IfOk, IfErr, OnOk};
 ghost use Rattle.std.specs.List.{filter};
 ghost use Rattle.cnf_core.specs.Formula.{Satisfies};
 ghost use Rattle.graph_meaning.specs.WellFormed.{IsLaunchGraph};
@@ -13,15 +13,12 @@ ghost use Rattle.cycle_encoding.specs.CycleFormula.{listed_in};
 ghost use Rattle.cycle_encoding.specs.CycleFormula.{wide, before_overwritten};
 ghost use Rattle.cycle_encoding.specs.Plans.{IsTooLarge, plan_of};
 ghost use Rattle.cycle_encoding.specs.Shapes.{numbered, shown};
-ghost use Rattle.order_encoding.specs.WholeFormula.{formula_in, whole_formula};
+ghost use Rattle.order_encoding.specs.WholeFormula.{IsFormulaOf, IsSizeFault, formula_in, whole_formula};
 
+use crate::adding::{Part, extend};
 use crate::counts::both;
-use crate::guard::extend_by_guard;
 use crate::laws::{counts_are_found, each_encoding_says_fits};
-use crate::memory::extend_by_memory;
 use crate::pin_counts::pins_sizes;
-use crate::pins::extend_by_pins;
-use crate::pool::extend_by_pool;
 use crate::sizes::{guard_sizes, memory_sizes, pool_sizes};
 use cycle_encoding::{
     EncodeFault, Encoded, Encoding, Facts, Scope, Sizes, build_cycles, cycle_sizes,
@@ -34,26 +31,20 @@ use std::alloc::Global;
 
 /// The two counts of the whole formula over what a scope gives variables; no clause is built. It goes over the graph's
 /// rows a few times for each cycle.
-pub fn count_in(
-    alloc: Global,
-    facts: &Facts,
-    table: &Table,
-    scope: &Scope,
-    k: u32,
-) -> Result<Sizes, NoMemory>
+pub fn count_in(facts: &Facts, table: &Table, scope: &Scope, k: u32) -> Sizes
     requires cycles { k ≤ 24 }
     requires table { IsTable table.now }
     requires graph { IsLaunchGraph facts.now }
-    ensures vars { IfOk result (λ sizes. sizes.vars ≡ (formula_in scope.now facts.now table.now k).vars) }
-    ensures clauses { IfOk result (λ sizes. sizes.clauses
-        ≡ length (formula_in scope.now facts.now table.now k).clauses) }
+    ensures vars { result.vars ≡ (formula_in scope.now facts.now table.now k).vars }
+    ensures clauses { result.clauses ≡ length (formula_in scope.now facts.now table.now k).clauses }
+    ensures few { (result.vars < 2 ^ 62) × (result.clauses < 2 ^ 63 + 2 ^ 62) }
 {
     counts_are_found();
     let cycle = cycle_sizes(facts, table, scope, k);
     let with_memory = both(cycle, memory_sizes(facts, table, scope, k));
     let with_guard = both(with_memory, guard_sizes(facts, table, scope, k));
     let with_pool = both(with_guard, pool_sizes(facts, table, scope, k));
-    Ok(both(with_pool, pins_sizes(facts, table, scope, k)))
+    both(with_pool, pins_sizes(facts, table, scope, k))
 }
 
 /// The whole formula over what a scope gives variables. Facts and scope are made once for a graph and a table, and
@@ -74,13 +65,13 @@ pub fn full_in(
       encoding = scope.now.encoding;
       cycles = k;
       launches = (listed_in facts.now table.now k scope.now).launches;
-      overwritten = before_overwritten facts.now table.now k (listed_in facts.now table.now k scope.now);
+      overwritten = before_overwritten (listed_in facts.now table.now k scope.now);
     }) }
     ensures size { IfErr result (EncodeFaultIs (formula_in scope.now facts.now table.now k)) }
     ensures within { OnOk result (¬ IsTooLarge (formula_in scope.now facts.now table.now k)) }
     ensures vars { IfOk result (λ e. length e.plan.launches ≤ e.cnf.vars) }
 {
-    let sizes = count_in(alloc, facts, table, scope, k)?;
+    let sizes = count_in(facts, table, scope, k);
     sizes.within_limits()?;
     Ok(build_whole(alloc, facts, table, scope, k)?)
 }
@@ -128,14 +119,16 @@ pub fn full_as(
     requires cycles { k ≤ 24 }
     requires table { IsTable table.now }
     requires graph { IsLaunchGraph graph.now }
-    ensures listed { OnOk result ((l : ListedOf) × AreListed encoding graph.now table.now k l) }
+    ensures is { IfOk result (λ e. IsFormulaOf encoding graph.now table.now k e.cnf) }
+    ensures small { IfOk result (λ e. ¬ IsTooLarge e.cnf) }
+    ensures refused { IfErr result (IsSizeFault encoding graph.now table.now k) }
     ensures formula { IfOk result (λ e. (l : ListedOf) → AreListed encoding graph.now table.now k l
         → e.cnf ≡ whole_formula graph.now table.now k l) }
     ensures plan { IfOk result (λ e. (l : ListedOf) → AreListed encoding graph.now table.now k l → e.plan ≡ record {
       encoding = encoding;
       cycles = k;
       launches = l.launches;
-      overwritten = before_overwritten graph.now table.now k l;
+      overwritten = before_overwritten l;
     }) }
     ensures size { IfErr result (λ fault. (l : ListedOf) → AreListed encoding graph.now table.now k l
         → EncodeFaultIs (whole_formula graph.now table.now k l) fault) }
@@ -176,25 +169,57 @@ fn build_whole(
       encoding = scope.now.encoding;
       cycles = k;
       launches = (listed_in facts.now table.now k scope.now).launches;
-      overwritten = before_overwritten facts.now table.now k (listed_in facts.now table.now k scope.now);
+      overwritten = before_overwritten (listed_in facts.now table.now k scope.now);
     }) }
 {
     let encoded = build_cycles(alloc, facts, table, scope, k)?;
     let mut cnf = encoded.cnf;
     let plan = encoded.plan;
     let launches = plan.launches();
-    extend_by_memory(alloc, &mut cnf, facts, launches, k)?;
-    let branches = cnf.vars();
-    extend_by_guard(alloc, &mut cnf, facts, launches, k)?;
-    extend_by_pool(alloc, &mut cnf, facts, table, launches, k)?;
-    extend_by_pins(
+    let over = plan.overwritten();
+    extend(
         alloc,
+        Part::Memory,
         &mut cnf,
         facts,
-        launches,
+        table,
+        scope,
         k,
-        plan.overwritten(),
-        branches,
+        launches,
+        over,
+    )?;
+    extend(
+        alloc,
+        Part::Guard,
+        &mut cnf,
+        facts,
+        table,
+        scope,
+        k,
+        launches,
+        over,
+    )?;
+    extend(
+        alloc,
+        Part::Pool,
+        &mut cnf,
+        facts,
+        table,
+        scope,
+        k,
+        launches,
+        over,
+    )?;
+    extend(
+        alloc,
+        Part::Pins,
+        &mut cnf,
+        facts,
+        table,
+        scope,
+        k,
+        launches,
+        over,
     )?;
     Ok(Encoded { cnf, plan })
 }

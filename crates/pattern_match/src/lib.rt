@@ -1,5 +1,13 @@
 //! E-matching: every substitution of classes under which the left side is in the graph; `unmet` keeps those whose right
 //! side isn't yet in its class.
+//!
+//! Proved: `matches` lists every list of classes for a rule's variables under which the graph has the left side,
+//! each once and no other (`exact`); `unmet` those under which the right side has no class or another one; `need`
+//! is their number times the operators of the right side, up to 2 ^ 64 - 1. The `calc_` calls are the same for the
+//! computed rules, and `folds` lists the rows that are an unmet match of folding, in order, with the constant
+//! (`exact`). `class_of_pattern` gives the class of a term over given classes, or none exactly where it has none. A
+//! term has one class at most (`terms_have_one_class`), and a match's classes are of the sorts of the rule's
+//! variables (`matches_have_sorts`).
 #![tactic(auto)]
 
 mod computed;

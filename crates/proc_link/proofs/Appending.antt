@@ -5,11 +5,10 @@ use Rattle.alpha_encode.specs.Formats.{encoded}
 use Rattle.alpha_encode.specs.declared.instructions.Instr.{Instr}
 use Rattle.proc_goal.specs.Views.{BlockTree}
 use Rattle.proc_goal.specs.declared.procs.Target.{Target}
-use Rattle.register_assign.specs.Moved.{led}
 use Rattle.register_assign.specs.Outcomes.{instrs_of}
 use Rattle.register_assign.specs.declared.listings.Item.{Item}
 use Rattle.register_assign.specs.declared.listings.Listing.{Listing}
-use Rattle.proc_link.specs.Linked.{all_instrs, block_instrs, displacement_between, led_from, linked_from, starts_from, words_before}
+use Rattle.proc_link.specs.Linked.{all_instrs, block_instrs, displacement_between, led, led_from, linked_from, starts_from, words_before}
 
 -- ---- instructions of a listing
 

@@ -12,9 +12,8 @@ use Rattle.alpha_encode.specs.declared.instructions.Instr.TheVariants.{Operate, 
 use Rattle.proc_goal.specs.Views.{BlockTree, ProcTree}
 use Rattle.proc_goal.specs.declared.procs.Target.{Target}
 use Rattle.proc_goal.specs.declared.procs.Target.TheVariants.{Block, Done}
-use Rattle.register_assign.specs.Moved.{led}
 use Rattle.proc_link.specs.Blocks.{other_of}
-use Rattle.proc_link.specs.Linked.{words_before, place_of_target, displacement_between, led_from, block_instrs, linked_from, linked}
+use Rattle.proc_link.specs.Linked.{block_instrs, displacement_between, led, led_from, linked, linked_from, place_of_target, words_before}
 use Rattle.proc_link.proofs.Does.{Does}
 use Rattle.proc_link.proofs.Placing.{few_before}
 use Rattle.proc_link.proofs.Steps.{AreDone, few_of}

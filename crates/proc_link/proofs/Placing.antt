@@ -8,9 +8,8 @@ use Rattle.alpha_encode.specs.declared.instructions.Instr.{Instr}
 use Rattle.alpha_encode.specs.declared.instructions.Instr.TheVariants.{Beq}
 use Rattle.proc_goal.specs.Views.{BlockTree}
 use Rattle.proc_goal.specs.declared.procs.Target.{Target}
-use Rattle.register_assign.specs.Moved.{led}
 use Rattle.proc_link.specs.Blocks.{other_of}
-use Rattle.proc_link.specs.Linked.{words_before, place_of_target, displacement_between, led_from, block_instrs, linked_from, linked, starts_from}
+use Rattle.proc_link.specs.Linked.{block_instrs, displacement_between, led, led_from, linked, linked_from, place_of_target, starts_from, words_before}
 use Rattle.proc_link.proofs.Relocating.{StandsAt}
 
 -- ---- reads of lists behind one another

@@ -10,8 +10,7 @@ use Rattle.alpha_encode.specs.declared.instructions.Instr.TheVariants.{Operate, 
 use Rattle.alpha_machine.specs.States.{MachineState}
 use Rattle.alpha_machine.specs.Steps.{step, next_pc, address}
 use Rattle.alpha_machine.specs.Runs.{stepped, after, IsAllowedAt}
-use Rattle.register_assign.specs.Moved.{led}
-use Rattle.proc_link.specs.Linked.{displacement_between}
+use Rattle.proc_link.specs.Linked.{displacement_between, led}
 
 -- each branch leads to one word behind the last
 abbrev pub BranchesLeave : List Instr → Type 0

@@ -11,14 +11,14 @@ use Rattle.word_ops.specs.Worlds.{World, IsWorld}
 use Rattle.cycle_encoding.specs.declared.encodings.Encoding.TheVariants.{Pinned}
 use Rattle.denali_run.specs.MatchedGoals.{IsSettings}
 use Rattle.denali_run.specs.Right.{AreRightResults, Right}
-use Rattle.denali_run.specs.Statuses.{status_code}
-use Rattle.denali_run.specs.TextAnswers.{greater, greatest_status, status_of}
+use Rattle.reports.specs.Statuses.{greater, status_code}
+use Rattle.denali_run.specs.TextAnswers.{greatest_status, status_of}
 use Rattle.denali_run.specs.declared.results.Answered.{Answered}
 use Rattle.denali_run.specs.declared.results.Answered.TheVariants as answers
 use Rattle.denali_run.specs.declared.results.Found.{Found}
 use Rattle.denali_run.specs.declared.settings.Settings.{Settings}
-use Rattle.denali_run.specs.declared.statuses.Status.{Status}
-use Rattle.denali_run.specs.declared.statuses.Status.TheVariants as status
+use Rattle.reports.specs.declared.statuses.Status.{Status}
+use Rattle.reports.specs.declared.statuses.Status.TheVariants as status
 use Rattle.goal_meaning.specs.Holds.{HoldsOfAll, IsMet}
 use Rattle.goal_meaning.specs.Views.{GoalTree}
 use Rattle.graph_meaning.specs.WellFormed.{IsLaunchGraph}

@@ -6,7 +6,6 @@ use Rattle.alpha_encode.specs.declared.instructions.Instr.TheVariants.{Beq}
 use Rattle.proc_goal.specs.Views.{BlockTree}
 use Rattle.proc_goal.specs.declared.procs.Target.{Target}
 use Rattle.proc_goal.specs.declared.procs.Target.TheVariants.{Block, Done}
-use Rattle.register_assign.specs.Moved.{led}
 use Rattle.register_assign.specs.Outcomes.{instrs_of}
 use Rattle.register_assign.specs.declared.listings.Listing.{Listing}
 use Rattle.proc_link.specs.Blocks.{other_of}
@@ -25,6 +24,11 @@ place_of_target listings Done = words_before listings (length listings)
 -- the displacement of a branch at place `from` to place `to`: it counts from the word after the branch
 abbrev pub displacement_between : ℕ → ℕ → ℤ
 displacement_between from to = pos to -ℤ pos (from + 1)
+
+-- a branch that leads elsewhere
+abbrev pub led : ℤ → Instr → Instr
+led disp (Beq ra d) = Beq ra disp
+led disp i = i
 
 -- the instructions from a place on, with branches to another place
 abbrev pub led_from : ℕ → ℕ → List Instr → List Instr

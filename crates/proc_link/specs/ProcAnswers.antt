@@ -7,15 +7,13 @@ use Rattle.cycle_encoding.specs.declared.encodings.Encoding.TheVariants.{Pinned}
 use Rattle.denali_run.specs.ClaimedResults.{StartsWithinFormat, answer_text, answer_to}
 use Rattle.denali_run.specs.Right.{AreRightResults}
 use Rattle.denali_run.specs.TextAnswers.{greatest_status}
-use Rattle.denali_run.specs.declared.reports.TextError.{TextError}
-use Rattle.denali_run.specs.declared.reports.TextError.TheVariants.{Read, Memory}
 use Rattle.denali_run.specs.declared.results.Answered.{Answered}
 use Rattle.denali_run.specs.declared.results.Answered.TheVariants.{Scheduled}
 use Rattle.denali_run.specs.declared.settings.Settings.{Settings}
-use Rattle.denali_run.specs.declared.statuses.Status.{Status}
-use Rattle.denali_run.specs.declared.statuses.Status.TheVariants as status
+use Rattle.reports.specs.declared.statuses.Status.{Status}
+use Rattle.reports.specs.declared.statuses.Status.TheVariants as status
 use Rattle.proc_goal.specs.Goals.{input_of_proc}
-use Rattle.proc_goal.specs.ProcGrammar.{IsFirstProcFault, ReadsProc}
+use Rattle.proc_goal.specs.ProcGrammar.{ReadsProc}
 use Rattle.proc_goal.specs.Views.{ProcTree}
 use Rattle.register_assign.specs.declared.listings.Listing.{Listing}
 use Rattle.text_core.specs.LineTexts.{Words, lines_text}
@@ -69,8 +67,3 @@ pub record AnswersProc (s : Settings) (text bytes : List ℕ) (ending : Status) 
   pub proc : ProcTree
   pub reads : ReadsProc text proc
   pub answers : AnswersBlocks s proc bytes ending
-
--- why a text has no answer
-abbrev pub ProcErrorIs : List ℕ → TextError → Type 0
-ProcErrorIs text (Read fault) = IsFirstProcFault text fault.place fault.kind
-ProcErrorIs text Memory = Unit {0}

@@ -1,4 +1,15 @@
 //! Blocks and loops over variables that stay in their registers: the blocks' words, linked into one list.
+//!
+//! Proved: `link` gives exactly the words of the blocks' listings one after another, each with its own branch led
+//! to where its block goes when the guard is 0, and with one branch more to where it goes else (`words`, `decode`),
+//! and the address of each block's first word (`starts`). From any registers and memory with pc 0, and for each n,
+//! these words come in at most 193 n steps to where the block machine is after n steps, and leave each register
+//! alone that is neither in the pool nor a variable's (`follow`, `linked_words_follow_the_blocks`). A listing is
+//! asked only to compute its block's goal and to be words that may be run. `proc_text` answers a text by the
+//! results of its blocks' goals, and exactly where each is scheduled by the linked words after them (`answered`),
+//! or gives its first fault (`error`); that the lines of the results are read back has the premise that each
+//! block's first graph has no more rows than the format. That a loop ends isn't promised. `worked_links` and
+//! `worked_steps` have two procs.
 #![tactic(auto)]
 
 mod laws;

@@ -11,7 +11,6 @@ ghost use Rattle.proc_link.specs.Linked as format;
 ghost use Rattle.proc_link.specs.Linked.{all_instrs, led_from, linked, starts_of};
 ghost use Rattle.proc_link.specs.Placed.{AreListingPlaces, CanBeLinked};
 ghost use Rattle.register_assign.specs.Assigned.{HaveWords};
-ghost use Rattle.register_assign.specs.Moved as moved;
 ghost use Rattle.register_assign.specs.Outcomes.{instrs_of};
 
 use crate::laws::linked_words_follow_the_blocks;
@@ -36,7 +35,7 @@ fn displacement(from: u32, to: u32) -> i32
 fn led(instr: Instr, from: u32, to: u32) -> Instr
     requires from { from < 2 ^ 20 }
     requires to { to < 2 ^ 20 }
-    ensures { result ≡ moved.led (format.displacement_between from to) instr }
+    ensures { result ≡ format.led (format.displacement_between from to) instr }
 {
     match instr {
         Instr::Beq { ra, .. } => Instr::Beq {
@@ -62,7 +61,7 @@ fn led_word(instr: Instr, from: u32, to: u32) -> u32
     requires word { IsWellFormed instr }
     requires from { from < 2 ^ 20 }
     requires to { to < 2 ^ 20 }
-    ensures { result ≡ encoded (moved.led (format.displacement_between from to) instr) }
+    ensures { result ≡ encoded (format.led (format.displacement_between from to) instr) }
 {
     encode(led(instr, from, to))
 }

@@ -1,27 +1,27 @@
 // The work of `proc`, from the bytes of a text of a proc to those of its answer.
-ghost use Rattle.std.specs.Prelude.{◌≡◌, ◌<◌, ◌^◌, IfErr, IfOk, OnOk, length};
+ghost use Rattle.std.specs.Prelude.{◌<◌, ◌^◌, IfErr, IfOk, OnOk, length};
 ghost use Rattle.cycle_encoding.specs.declared.encodings.Encoding.TheVariants.{Pinned};
 ghost use Rattle.denali_run.specs.MatchedGoals.{IsSettings};
 ghost use Rattle.denali_run.specs.Right.{AreRightResults};
 ghost use Rattle.denali_run.specs.declared.settings.Settings.{Settings as SettingsOf};
 ghost use Rattle.proc_goal.specs.Goals.{input_of_proc};
+ghost use Rattle.proc_goal.specs.ProcGrammar.{IsFirstProcFault};
+ghost use Rattle.reports.specs.Errors.{IsErrorBy};
 ghost use Rattle.proc_goal.specs.Views.{proc_view};
 ghost use Rattle.proc_goal.specs.WellFormed.{IsProc};
 ghost use Rattle.proc_link.specs.Appended.{AppendsBehind, AppendsLinked};
 ghost use Rattle.proc_link.specs.Follows.{AreListings};
-ghost use Rattle.proc_link.specs.ProcAnswers.{AnswersBlocks, AnswersProc, ProcErrorIs};
+ghost use Rattle.proc_link.specs.ProcAnswers.{AnswersBlocks, AnswersProc};
 
 use crate::line_printing::put_linked;
 use crate::linking::link;
 use crate::listings::all_listings;
-use denali_run::{
-    Answered, Report, Settings, TextError, answer_text, right_answers_are_read, solve_input,
-};
+use denali_run::{Answered, Settings, answer_text, right_answers_are_read, solve_input};
 use items::NoMemory;
 use proc_goal::{Proc, input_of, read};
 use register_assign::{Listing, listings_have_words};
+use reports::{Report, TextError};
 use std::alloc::Global;
-use text_core::TextFault;
 
 /// Appends the lines of the linked words.
 fn put_blocks(
@@ -81,12 +81,8 @@ pub fn proc_text(alloc: Global, text: &[u8], settings: &Settings) -> Result<Repo
     requires few { length text.now < 2 ^ 29 }
     requires settings { IsSettings settings.now }
     ensures answered { IfOk result (λ report. AnswersProc settings.now text.now report.bytes.items report.status) }
-    ensures error { IfErr result (ProcErrorIs text.now) }
+    ensures error { IfErr result (IsErrorBy (IsFirstProcFault text.now)) }
 {
-    let proc = match read(alloc, text) {
-        Ok(proc) => proc,
-        Err(TextFault::Fault(fault)) => return Err(TextError::Read(fault)),
-        Err(TextFault::Memory) => return Err(TextError::Memory),
-    };
+    let proc = read(alloc, text)?;
     Ok(solve_proc(alloc, &proc, settings)?)
 }

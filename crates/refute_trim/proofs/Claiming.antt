@@ -1,6 +1,6 @@
 -- The lines of a claimed goal, and what trying to trim them comes to.
-use Rattle.std.proofs.Common.{◌≡◌, ℕ, ◌<◌, ◌≤◌, ◌^◌, length, refl, sym, ◌∙◌, subst}
-use Rattle.std.specs.Prelude.{Option, None, Some, MatchOption, Result, Ok, Err, IfOk, OnOk}
+use Rattle.std.proofs.Common.{◌≡◌, ℕ, ◌<◌, ◌≤◌, ◌^◌, length, sym, ◌∙◌, subst}
+use Rattle.std.specs.Prelude.{Option, None, Some, MatchOption, Result, Ok, Err, IfOk}
 use Rattle.std.proofs.lemmas.Option.{same_Some, none-some}
 use Rattle.answer_check.specs.declared.verdicts.Verdict.TheVariants as verdict
 use Rattle.answer_texts.specs.AnswerLines.{refuted_cycles}
@@ -9,19 +9,15 @@ use Rattle.answer_texts.specs.declared.answers.Claimed.{Claimed}
 use Rattle.cnf_core.specs.Formula.{Formula}
 use Rattle.cnf_core.specs.Refutation.{IsEmptyOnlyLast, IsFirstRefusal, Refutes}
 use Rattle.cnf_core.specs.declared.line.Lines.{Lines}
-use Rattle.cycle_encoding.specs.CycleFormula.{Scope}
-use Rattle.cycle_encoding.specs.CycleFormula.{listed_in}
-use Rattle.cycle_encoding.specs.Encodings.{IsScope}
-use Rattle.cycle_encoding.specs.Faults.{EncodeFaultIs}
 use Rattle.cycle_encoding.specs.Plans.{IsTooLarge}
 use Rattle.cycle_encoding.specs.declared.encodings.Encoding.{Encoding}
 use Rattle.cycle_encoding.specs.declared.plans.EncodeFault.{EncodeFault}
-use Rattle.cycle_encoding.specs.declared.plans.EncodeFault.TheVariants.{Size, Memory}
+use Rattle.cycle_encoding.specs.declared.plans.EncodeFault.TheVariants.{Size}
 use Rattle.graph_meaning.specs.WellFormed.{IsLaunchGraph}
 use Rattle.graph_meaning.specs.declared.graphs.LaunchGraph.{LaunchGraph}
 use Rattle.machine_table.specs.declared.tables.Table.{Table}
-use Rattle.order_encoding.specs.WholeFormula.{IsFormulaOf, formula_in}
-use Rattle.refute_trim.specs.Outcomes.{IsOutcomeFor, IsSizeFault, TellsSizeOf}
+use Rattle.order_encoding.specs.WholeFormula.{IsFormulaOf, IsSizeFault}
+use Rattle.refute_trim.specs.Outcomes.{IsOutcomeFor, TellsSizeOf}
 use Rattle.refute_trim.specs.Trimmed.{AreTrimmed}
 use Rattle.refute_trim.specs.TrimmedAnswers.{AreToRefute, AreTrimmedLines, no_lines, needed, too_large, refused}
 use Rattle.refute_trim.specs.declared.goals.Outcome.{Outcome}
@@ -50,22 +46,9 @@ worked_goal version c g (worked {g = this} others graph good unpinned fits lines
   few = λ these refute. few_of these lines refute;
 }
 
--- ---- the clauses over a scope
-
-pub own_formula : (e : Encoding) (facts g : LaunchGraph) (table : Table) (s : Scope) (k : ℕ) → facts ≡ g → IsScope e facts table s → k ≤ 24 → IsFormulaOf e g table k (formula_in s facts table k)
-own_formula e facts g table s k same scope low =
-    subst (λ x. IsFormulaOf e x table k (formula_in s facts table k)) same
-    (record { lists = listed_in facts table k s; listed = scope.lists k low; is = refl })
-
-pub size_fault : (e : Encoding) (g : LaunchGraph) (table : Table) (k : ℕ) (f : Formula) (fault : EncodeFault) → IsFormulaOf e g table k f → EncodeFaultIs f fault → IsSizeFault e g table k fault
-size_fault e g table k f (Size vars clauses) formula passes = (f, formula, passes)
-size_fault e g table k f Memory formula passes = tt
+-- ---- results
 
 -- what holds of a result that is given, by two promises
-pub if_given : {A E : Type 0} (W : Type 0) (P Q : A → Type 0) (r : Result A E) → ((a : A) → W → P a → Q a) → OnOk r W → IfOk r P → IfOk r Q
-if_given W P Q (Ok a) f w p = f a w p
-if_given W P Q (Err x) f w p = tt
-
 pub if_both : {A E : Type 0} (P Q R : A → Type 0) (r : Result A E) → ((a : A) → P a → Q a → R a) → IfOk r P → IfOk r Q → IfOk r R
 if_both P Q R (Ok a) f p q = f a p q
 if_both P Q R (Err x) f p q = tt

@@ -16,8 +16,8 @@ use Rattle.cnf_core.specs.Refutation.{AreAccepted}
 use Rattle.cnf_core.specs.declared.line.Line.{Line}
 use Rattle.cnf_core.specs.declared.line.Lines.{Lines}
 use Rattle.cycle_encoding.specs.declared.encodings.Encoding.{Encoding}
-use Rattle.denali_run.specs.declared.statuses.Status.{Status}
-use Rattle.denali_run.specs.declared.statuses.Status.TheVariants.{Done}
+use Rattle.reports.specs.declared.statuses.Status.{Status}
+use Rattle.reports.specs.declared.statuses.Status.TheVariants.{Done}
 use Rattle.machine_table.specs.declared.tables.Table.{Table}
 use Rattle.refutation_check.specs.LineWords.{IsId, IsIdLiteral, IsReadableLine}
 use Rattle.refute_trim.specs.Trimmed.{AreTrimmed, new_number}

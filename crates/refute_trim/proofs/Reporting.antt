@@ -11,7 +11,7 @@ use Rattle.answer_check.specs.declared.verdicts.Verdict.{Verdict}
 use Rattle.answer_texts.specs.AnswerLines.{goal_lines, head_lines}
 use Rattle.answer_texts.specs.declared.answers.AnswerText.{AnswerText}
 use Rattle.answer_texts.specs.declared.answers.Claimed.{Claimed}
-use Rattle.denali_run.specs.declared.statuses.Status.TheVariants.{Done, Missing}
+use Rattle.reports.specs.declared.statuses.Status.TheVariants.{Done, Missing}
 use Rattle.machine_table.specs.declared.tables.Table.{Table}
 use Rattle.text_core.specs.LineTexts.{line_text, lines_text}
 use Rattle.refute_trim.specs.Outcomes.{IsPutTrimmed}

@@ -10,8 +10,8 @@ use Rattle.answer_texts.specs.declared.answers.AnswerText.{AnswerText}
 use Rattle.answer_texts.specs.declared.answers.Claimed.{Claimed}
 use Rattle.cnf_core.specs.declared.line.Lines.{Lines}
 use Rattle.cycle_encoding.specs.declared.encodings.Encoding.{Encoding}
-use Rattle.denali_run.specs.declared.statuses.Status.{Status}
-use Rattle.denali_run.specs.declared.statuses.Status.TheVariants.{Done}
+use Rattle.reports.specs.declared.statuses.Status.{Status}
+use Rattle.reports.specs.declared.statuses.Status.TheVariants.{Done}
 use Rattle.machine_table.specs.declared.tables.Table.{Table}
 use Rattle.refute_trim.specs.Trimmed.{AllButLastAreHints}
 use Rattle.refute_trim.specs.TrimmedAnswers.{AreTrimmedLines, IsTrimReport, IsTrimmedAnswer, IsTrimmedGoal, TrimsText, needed, no_lines, rejected, trimmed}

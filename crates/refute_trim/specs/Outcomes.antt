@@ -9,24 +9,16 @@ use Rattle.answer_texts.specs.declared.answers.Claimed.{Claimed}
 use Rattle.cnf_core.specs.Formula.{Formula}
 use Rattle.cnf_core.specs.Refutation.{IsEmptyOnlyLast, IsFirstRefusal, Refutes}
 use Rattle.cnf_core.specs.declared.line.Lines.{Lines}
-use Rattle.cycle_encoding.specs.Plans.{PassesLimit}
 use Rattle.cycle_encoding.specs.declared.encodings.Encoding.{Encoding}
 use Rattle.cycle_encoding.specs.declared.plans.EncodeFault.{EncodeFault}
-use Rattle.cycle_encoding.specs.declared.plans.EncodeFault.TheVariants.{Size, Memory}
-use Rattle.graph_meaning.specs.declared.graphs.LaunchGraph.{LaunchGraph}
+use Rattle.cycle_encoding.specs.declared.plans.EncodeFault.TheVariants.{Size}
 use Rattle.machine_table.specs.declared.tables.Table.{Table}
-use Rattle.order_encoding.specs.WholeFormula.{IsFormulaOf}
 use Rattle.refutation_check.specs.declared.lines.Rejected.{Rejected as Refused}
 use Rattle.text_core.specs.LineTexts.{lines_text}
 use Rattle.refute_trim.specs.Trimmed.{AreTrimmed}
 use Rattle.refute_trim.specs.TrimmedAnswers.{AreTrimmedLines, IsRejectedGoal}
 use Rattle.refute_trim.specs.declared.goals.Outcome.{Outcome}
 use Rattle.refute_trim.specs.declared.goals.Outcome.TheVariants.{Kept, Rejected}
-
--- the clauses for k cycles have these counts, one of which passes its limit; want of memory says nothing
-abbrev pub IsSizeFault : Encoding → LaunchGraph → Table → ℕ → EncodeFault → Type 0
-IsSizeFault e g table k (Size vars clauses) = (f : Formula) × IsFormulaOf e g table k f × PassesLimit f vars clauses
-IsSizeFault e g table k Memory = Unit {0}
 
 -- the counts of a fault are those of the verdict
 abbrev pub TellsSizeOf : EncodeFault → Outcome → Type 0

@@ -5,7 +5,7 @@ use Rattle.answer_check.specs.Reports.{encoding_named, verdict_words}
 use Rattle.answer_check.specs.declared.verdicts.Verdict.{Verdict}
 use Rattle.answer_check.specs.declared.verdicts.Verdict.TheVariants.{Size, Refutation}
 use Rattle.answer_texts.specs.AnswerLines.{answer_bytes, refuted_cycles}
-use Rattle.answer_texts.specs.ReadAnswers.{IsAnswerFault, ReadsAnswer}
+use Rattle.answer_texts.specs.ReadAnswers.{ReadsAnswer}
 use Rattle.answer_texts.specs.declared.answers.AnswerText.{AnswerText}
 use Rattle.answer_texts.specs.declared.answers.Claimed.{Claimed}
 use Rattle.cnf_core.specs.Formula.{Formula}
@@ -13,10 +13,8 @@ use Rattle.cnf_core.specs.Refutation.{IsEmptyOnlyLast, IsFirstRefusal, Refutes}
 use Rattle.cnf_core.specs.declared.line.Lines.{Lines}
 use Rattle.cycle_encoding.specs.Plans.{IsTooLarge, PassesLimit}
 use Rattle.cycle_encoding.specs.declared.encodings.Encoding.{Encoding}
-use Rattle.denali_run.specs.declared.reports.TextError.{TextError}
-use Rattle.denali_run.specs.declared.reports.TextError.TheVariants.{Read, Memory}
-use Rattle.denali_run.specs.declared.statuses.Status.{Status}
-use Rattle.denali_run.specs.declared.statuses.Status.TheVariants.{Done, Missing}
+use Rattle.reports.specs.declared.statuses.Status.{Status}
+use Rattle.reports.specs.declared.statuses.Status.TheVariants.{Done, Missing}
 use Rattle.graph_meaning.specs.declared.graphs.LaunchGraph.{LaunchGraph}
 use Rattle.machine_table.specs.declared.tables.Table.{Table}
 use Rattle.order_encoding.specs.WholeFormula.{IsFormulaOf}
@@ -76,8 +74,3 @@ pub record TrimsText (text bytes : List ℕ) (status : Status) : Type 0 where
   pub reads : ReadsAnswer text answer
   pub text_is : text ≡ answer_bytes answer
   pub report : IsTrimReport answer bytes status
-
--- why an answer can't be trimmed
-abbrev pub TrimErrorIs : List ℕ → TextError → Type 0
-TrimErrorIs text (Read fault) = IsAnswerFault text fault.place fault.kind
-TrimErrorIs text Memory = Unit {0}

@@ -3,8 +3,8 @@ ghost use Rattle.std.specs.Prelude.{◌≡◌, ℕ, List, false};
 ghost use Rattle.answer_check.specs.Reports.{IsCheckReport};
 ghost use Rattle.answer_texts.specs.ReadAnswers.{ReadsAnswer};
 ghost use Rattle.answer_texts.specs.declared.answers.AnswerText.{AnswerText as Answer};
-ghost use Rattle.denali_run.specs.declared.statuses.Status.{Status as Ending};
-ghost use Rattle.denali_run.specs.declared.statuses.Status.TheVariants.{Done};
+ghost use Rattle.reports.specs.declared.statuses.Status.{Status as Ending};
+ghost use Rattle.reports.specs.declared.statuses.Status.TheVariants.{Done};
 ghost use Rattle.refute_trim.specs.OtherLines.{DifferInRefutations};
 ghost use Rattle.refute_trim.specs.TrimmedAnswers.{IsTrimmedAnswer, TrimsText};
 

@@ -2,12 +2,14 @@
 ghost use Rattle.std.specs.Prelude.{ℕ, ◌≡◌, ◌<◌, ◌^◌, ◌++◌, length, IfOk, IfErr, OnOk, MatchOption, option_copied};
 ghost use Rattle.answer_check.specs.Reports.{verdict_words};
 ghost use Rattle.answer_texts.specs.AnswerLines.{goal_lines};
+ghost use Rattle.answer_texts.specs.ReadAnswers.{IsAnswerFault};
 ghost use Rattle.answer_texts.specs.WellFormed.{IsAnswer, IsClaimed};
-ghost use Rattle.denali_run.specs.declared.statuses.Status.TheVariants.{Missing};
+ghost use Rattle.reports.specs.Errors.{IsErrorBy};
+ghost use Rattle.reports.specs.declared.statuses.Status.TheVariants.{Missing};
 ghost use Rattle.machine_table.specs.Tables.{IsTable};
 ghost use Rattle.text_core.specs.LineTexts.{line_text, lines_text};
 ghost use Rattle.refute_trim.specs.Outcomes.{IsPutTrimmed};
-ghost use Rattle.refute_trim.specs.TrimmedAnswers.{IsRejectedGoal, IsTrimReport, TrimErrorIs, TrimsText};
+ghost use Rattle.refute_trim.specs.TrimmedAnswers.{IsRejectedGoal, IsTrimReport, TrimsText};
 
 use crate::goals::{Outcome, trim_goal};
 use answer_check::{Verdict, encoding_named, put_verdict};
@@ -17,11 +19,10 @@ use answer_texts::{
 };
 use cnf_core::Lines;
 use cycle_encoding::Encoding;
-use denali_run::{Report, Status, TextError};
 use items::NoMemory;
 use machine_table::Table;
+use reports::{Report, Status, TextError};
 use std::alloc::Global;
-use text_core::TextFault;
 
 /// Appends the lines of a goal, with these in place of its refutation.
 fn put_with(
@@ -109,14 +110,10 @@ fn trim_answer(alloc: Global, answer: &AnswerText) -> Result<Report, NoMemory>
 pub fn trim_text(alloc: Global, text: &[u8]) -> Result<Report, TextError>
     requires few { length text.now < 2 ^ 29 }
     ensures trimmed { IfOk result (λ report. TrimsText text.now report.bytes.items report.status) }
-    ensures error { IfErr result (TrimErrorIs text.now) }
+    ensures error { IfErr result (IsErrorBy (IsAnswerFault text.now)) }
 {
     read_answers_are_well_formed();
     read_answers_print_their_text();
-    let answer = match read_answer(alloc, text) {
-        Ok(answer) => answer,
-        Err(TextFault::Fault(fault)) => return Err(TextError::Read(fault)),
-        Err(TextFault::Memory) => return Err(TextError::Memory),
-    };
+    let answer = read_answer(alloc, text)?;
     Ok(trim_answer(alloc, &answer)?)
 }

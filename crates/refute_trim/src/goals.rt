@@ -1,23 +1,21 @@
 // The refutation of one goal, trimmed.
-ghost use Rattle.std.specs.Prelude.{◌≡◌, ◌≤◌, ◌<◌, ◌^◌, ℕ, length, IfOk, IfErr, Some};
+ghost use Rattle.std.specs.Prelude.{◌≡◌, ◌≤◌, ◌<◌, ◌^◌, ℕ, length, IfOk, Some};
 ghost use Rattle.answer_texts.specs.AnswerLines as format;
 ghost use Rattle.answer_texts.specs.WellFormed.{FitsClaim, IsClaimed};
 ghost use Rattle.answer_texts.specs.declared.answers.Claimed.{Claimed as ClaimedOf};
-ghost use Rattle.cycle_encoding.specs.Plans.{IsTooLarge};
 ghost use Rattle.graph_meaning.specs.WellFormed.{IsLaunchGraph};
 ghost use Rattle.machine_table.specs.Tables.{IsTable};
-ghost use Rattle.order_encoding.specs.WholeFormula.{IsFormulaOf};
-ghost use Rattle.refute_trim.specs.Outcomes.{IsCheckedTrim, IsOutcomeFor, IsSizeFault, TellsSizeOf};
+ghost use Rattle.refute_trim.specs.Outcomes.{IsCheckedTrim, IsOutcomeFor, TellsSizeOf};
 
 use crate::trim;
 use answer_check::Verdict;
 use answer_texts::{Claim, Claimed};
 use cnf_core::{Cnf, Lines};
-use cycle_encoding::{EncodeFault, Encoded, Encoding, Facts, Scope};
+use cycle_encoding::{EncodeFault, Encoding};
 use graph_meaning::LaunchGraph;
 use items::NoMemory;
 use machine_table::Table;
-use order_encoding::full_in;
+use order_encoding::full_as;
 use refutation_check::{Marks, Rejected, check};
 use std::alloc::{AllocError, Global};
 
@@ -35,26 +33,6 @@ fn refuted_cycles(claim: &Claim) -> u32
     ensures few { result ≤ 24 }
 {
     claim.as_ref().refuted_cycles()
-}
-
-/// The clauses for k cycles, from a printed graph and table; or their counts, if one passes its limit.
-fn clauses_for(
-    alloc: Global,
-    encoding: Encoding,
-    table: &Table,
-    graph: &LaunchGraph,
-    k: u32,
-) -> Result<Encoded, EncodeFault>
-    requires cycles { k ≤ 24 }
-    requires table { IsTable table.now }
-    requires graph { IsLaunchGraph graph.now }
-    ensures formula { IfOk result (λ e. IsFormulaOf encoding graph.now table.now k e.cnf) }
-    ensures within { IfOk result (λ e. ¬ IsTooLarge e.cnf) }
-    ensures size { IfErr result (IsSizeFault encoding graph.now table.now k) }
-{
-    let facts = Facts::new(alloc, graph)?;
-    let scope = Scope::of(alloc, encoding, &facts, table)?;
-    full_in(alloc, &facts, table, &scope, k)
 }
 
 /// Clauses that are too large are an outcome for the goal, unlike running out of memory.
@@ -101,7 +79,7 @@ fn trim_lines(
     ensures { IfOk result (λ outcome. (c : ClaimedOf) → c.graph ≡ Some graph.now → c.refute ≡ Some lines.now
         → format.refuted_cycles c.claim ≡ k → IsOutcomeFor encoding table.now c outcome) }
 {
-    let encoded = match clauses_for(alloc, encoding, table, graph, k) {
+    let encoded = match full_as(alloc, encoding, graph, table, k) {
         Ok(encoded) => encoded,
         Err(fault) => return too_large(fault),
     };

@@ -9,7 +9,6 @@ mod First
 mod Groups
 mod Intact
 mod Listed
-mod Moved
 mod Obeyed
 mod Obeying
 mod OfListings

@@ -3,4 +3,3 @@ pub mod Obeys
 pub mod Outcomes
 pub mod Places
 pub mod Assigned
-pub mod Moved

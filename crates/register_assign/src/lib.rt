@@ -1,7 +1,15 @@
 //! From a fitting schedule to instructions: word order, the register of each launch, and the places of the targets.
 //!
-//! The instructions keep to the machine's table, and their words do what the launch graph says. They write the registers
-//! of the pool and the pins alone, and do the same where they stand further on in a text.
+//! The instructions keep to the machine's table, and their words do what the launch graph says. They write the
+//! registers of the pool and the pins alone.
+//!
+//! Proved: `assign` gives the instructions and places of a schedule that fits, and no others are its listing
+//! (`listing`); each instruction has a word (`words`), and the words may be run (`run`). On a proper graph the
+//! instructions keep to the table; in every world where the graph is true the words run to their end with each
+//! target's value in its place, the memory's new value, and all registers except those of the pool and the pins as
+//! at entry; or, where the guard is 0, leave by the branch with memory and all these registers as at entry, and
+//! without a load that waits for the guard (`keeps`). Out of memory is its one refusal. `worked_listing` has the
+//! words of small schedules.
 #![tactic(auto)]
 
 mod assigning;
@@ -13,7 +21,7 @@ mod wording;
 mod worked;
 
 pub use assigning::assign;
-pub use laws::{listings_have_words, words_may_move};
+pub use laws::listings_have_words;
 pub use listings::{Item, Listing, Where};
 pub use worded::words_of;
 pub use worked::worked_listing;

@@ -77,18 +77,18 @@ module _ (axioms : List Rewrite) (g : Graph Op) (asked : List Asked) (are : AreA
   quiet none s there places u = let k = are.all s places there u in let b = k.1 in omega (arith, none, b.1)
 
   -- why what is asked ends the rounds
-  pub end_fits : (need rows nodes : ℕ) (last : Bool) (stop : Stop) → need ≡ min (operators_asked asked) (2 ^ 64 - 1) → rows ≡ length g.rows → StopFits (length asked) need rows last nodes stop → StepFits axioms g last nodes (End stop)
-  end_fits need rows nodes last Quiet n r h = quiet h
-  end_fits need rows nodes last Rounds n r h = (unmet h.0, h.1)
-  end_fits need rows nodes last Full n r h = (unmet h.0, h.1, record { need = operators_asked asked; is = are.needs; passed = let p = h.2 in omega (arith, n, r, p) })
+  pub end_fits : (need rows nodes : ℕ) (last : Bool) (stop : Stop) → need ≡ min (operators_asked asked) (2 ^ 64 - 1) → rows ≡ length g.rows → last ≡ false → StopFits (length asked) need rows nodes stop → StepFits axioms g last nodes (End stop)
+  end_fits need rows nodes last Quiet n r more h = quiet h
+  end_fits need rows nodes last Rounds n r more h = absurd h
+  end_fits need rows nodes last Full n r more h = (unmet h.0, more, record { need = operators_asked asked; is = are.needs; passed = let p = h.1 in omega (arith, n, r, p) })
 
 -- rounds go on with what is asked
-pub goes_on_with : (axioms : List Rewrite) (g : Graph Op) (last : Bool) (asked : List Asked) (need rows nodes count : ℕ) → AreAsked g (schemes axioms) asked → count ≡ length asked → need ≡ min (operators_asked asked) (2 ^ 64 - 1) → rows ≡ length g.rows → nodes ≤ 4096 → All IsRule axioms → (count ≢ 0) × (last ≡ false) × (rows + need ≤ nodes) → CallsForRound axioms g last nodes asked
-goes_on_with axioms g last asked need rows nodes count are c n r few rules h = record {
+pub goes_on_with : (axioms : List Rewrite) (g : Graph Op) (last : Bool) (asked : List Asked) (need rows nodes count : ℕ) → AreAsked g (schemes axioms) asked → count ≡ length asked → need ≡ min (operators_asked asked) (2 ^ 64 - 1) → rows ≡ length g.rows → nodes ≤ 4096 → All IsRule axioms → last ≡ false → (count ≢ 0) × (rows + need ≤ nodes) → CallsForRound axioms g last nodes asked
+goes_on_with axioms g last asked need rows nodes count are c n r few rules more h = record {
   are = are;
   some = λ e. h.0 (c ∙ e);
-  more = h.1;
-  within = let w = h.2 in omega (arith, n, r, few, w);
+  more = more;
+  within = let w = h.1 in omega (arith, n, r, few, w);
   rules = rules;
 }
 

@@ -1,5 +1,5 @@
 -- What a round asks for, and the rules that it comes from. From this project.
-use Rattle.std.specs.Prelude.{◌≡◌, ◌≢◌, ℕ, ◌+◌, ◌<◌, ◌⊎◌, Bool, true, false, List, [], ◌∷◌, ◌++◌, map, length, unwrap_or, All, Contains}
+use Rattle.std.specs.Prelude.{◌≡◌, ◌≢◌, ℕ, ◌+◌, ◌<◌, ◌⊎◌, List, [], ◌∷◌, ◌++◌, map, length, unwrap_or, All, Contains}
 use Rattle.std.specs.List.{AllZip}
 use Rattle.word_ops.specs.Operators.{operators}
 use Rattle.word_ops.specs.declared.sorts.Op.{Op}
@@ -43,11 +43,11 @@ pub record AreAsked (g : Graph Op) (ss : List Scheme) (asked : List Asked) : Typ
       ((a : Asked) × Contains asked a × IsAskedOf g s places a)
   pub needs : AreNeeds g ss (operators_asked asked)
 
--- why the numbers end the rounds
-abbrev pub StopFits : ℕ → ℕ → ℕ → Bool → ℕ → Stop → Type 0
-StopFits asked need rows last nodes Quiet = asked ≡ 0
-StopFits asked need rows last nodes Rounds = (asked ≢ 0) × (last ≡ true)
-StopFits asked need rows last nodes Full = (asked ≢ 0) × (last ≡ false) × (nodes < rows + need)
+-- why the numbers end the rounds before another that was asked for
+abbrev pub StopFits : ℕ → ℕ → ℕ → ℕ → Stop → Type 0
+StopFits asked need rows nodes Quiet = asked ≡ 0
+StopFits asked need rows nodes Rounds = ⊥
+StopFits asked need rows nodes Full = (asked ≢ 0) × (nodes < rows + need)
 
 -- the unmet matches of the schemes need more than this
 pub record NeedMoreThan (g : Graph Op) (ss : List Scheme) (most : ℕ) : Type 0 where

@@ -1,5 +1,16 @@
 //! Rounds of matching over an E-graph, from the first graph of a goal to the launch graph made from the last one: each
 //! equality that the rules give in these rounds is in it, and no other.
+//!
+//! Proved: from a graph that has exactly the equalities of a start, `saturate` gives one that has exactly those
+//! that can be derived in its number of rounds; no smaller number ends, and why it ends is reported exactly
+//! (`saturated`, `rounds_end_once`). What stands in a world stays so (`stands`). It refuses exactly where two
+//! different constants are equal after a number of rounds that is reached (`fault`), and then the rules hold in no
+//! world (`hopeless`). `start` gives a goal's graph before any round (`grown`, `stands`, `few_rows`). `to_launch`
+//! gives the launch graph (`launched`): the same equalities (`grown`), ended for the same cause (`stops`), with
+//! values that are those of the goal's terms in each world in which axioms and assumptions hold
+//! (`launched_graphs_stand`). Two graphs after one number of rounds differ in order and numbers alone
+//! (`grown_graphs_are_one`); terms inserted before any round are the goal's as much as the others
+//! (`more_terms_may_be_inserted`).
 #![tactic(auto)]
 
 mod applying;

@@ -1,36 +1,13 @@
-// What all unmet matches need: the operators of their right sides, which are the most rows that a round adds.
+// What unmet matches need: the operators of their right sides, which are the most rows that a round adds.
 ghost use Rattle.std.specs.Prelude.{◌≡◌, ◌+◌, ◌-◌, ◌*◌, ◌^◌, min, length, IfOk};
-ghost use Rattle.axiom_base.specs.Equations as rows;
 ghost use Rattle.axiom_base.specs.Schemes.{calc_kinds};
 ghost use Rattle.saturation.specs.Trace.{operators_asked};
-ghost use Rattle.saturation.specs.Asking.{asked_of_all, asked_of_each, kind_asked, rule_asked};
+ghost use Rattle.saturation.specs.Asking.{asked_of_each, kind_asked, rule_asked};
 
-use crate::searching::Unmet;
 use axiom_base::{CALC_KINDS, Rule, calc_right};
 use items::{Items, NoMemory};
 use pattern_match::{Match, operators};
 use std::alloc::Global;
-
-/// The number of operators of all that the matches ask for, or 2 ^ 64 - 1 if that is less. No right side is built for
-/// it.
-pub(crate) fn need_of(
-    alloc: Global,
-    equations: &[Rule],
-    program: &[Rule],
-    unmet: &Unmet,
-) -> Result<u64, NoMemory>
-    requires equations { equations.now ≡ rows.equations }
-    requires by_equation { length unmet.now.equations.items ≡ length equations.now }
-    requires by_rule { length unmet.now.program.items ≡ length program.now }
-    requires by_kind { length unmet.now.kinds.items ≡ length calc_kinds }
-    ensures { IfOk result (λ need.
-        need ≡ min (operators_asked (asked_of_all program.now unmet.now)) (2 ^ 64 - 1)) }
-{
-    let of_equations = with_rules(0, equations, &unmet.equations);
-    let of_rules = with_rules(of_equations, program, &unmet.program);
-    let of_kinds = with_kinds(alloc, of_rules, &unmet.kinds)?;
-    Ok(of_kinds.saturating_add(unmet.folds.len() as u64))
-}
 
 /// The number `before` and what the matches of these rules need.
 pub(crate) fn with_rules(before: u64, rules: &[Rule], found: &[Items<Match>]) -> u64

@@ -115,6 +115,7 @@ fn grow(
     let mut graph = graph;
     let mut done = 0;
     loop {
+        // A graph keeps its invariant, which is known here once one of its methods was called.
         let _made = graph.made();
         match decide(alloc, &graph, equations, program, done == rounds, nodes)? {
             Step::End(stop) => {

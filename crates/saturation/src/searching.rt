@@ -1,5 +1,5 @@
 // The search for unmet matches before a round.
-ghost use Rattle.std.specs.Prelude.{◌≡◌, ◌<◌, ◌*◌, ◌^◌, ℕ, map, All, IfOk, MatchOption};
+ghost use Rattle.std.specs.Prelude.{◌≡◌, ◌<◌, ◌*◌, ◌-◌, ◌^◌, ℕ, map, min, All, IfOk, MatchOption};
 ghost use Rattle.std.specs.List.{AllZip};
 ghost use Rattle.word_terms.specs.Keys.{op_signature};
 ghost use Rattle.axiom_base.specs.Equations as rows;
@@ -7,8 +7,9 @@ ghost use Rattle.axiom_base.specs.Rewrites.{IsRule};
 ghost use Rattle.axiom_base.specs.Schemes.{plain, calc_kinds};
 ghost use Rattle.egraph.specs.Graph.{IsGraph};
 ghost use Rattle.pattern_match.specs.ByOperator.{AreTables};
-ghost use Rattle.saturation.specs.Asking.{AreFound, AreUnmetOf, AreUnmetOfKind, NeedMoreThan, RuleNeedsMore};
+ghost use Rattle.saturation.specs.Asking.{AreFound, AreUnmetOf, AreUnmetOfKind, NeedMoreThan, RuleNeedsMore, asked_of_all};
 ghost use Rattle.saturation.specs.Steps.{IsOver};
+ghost use Rattle.saturation.specs.Trace.{operators_asked};
 
 use crate::needing::{with_kinds, with_matches, with_rules};
 use axiom_base::{CALC_KINDS, Rule, schemes_are_true};
@@ -28,6 +29,8 @@ pub struct Unmet {
     pub program: Vec<Items<Match>>,
     pub kinds: Vec<Items<Match>>,
     pub folds: Items<Fold>,
+    /// The operators of the right sides of all of them, or 2 ^ 64 - 1 if that is less.
+    pub need: u64,
 }
 
 /// The unmet matches of all rules, the program's own among them, or `None` where the rows, with what the matches need,
@@ -44,7 +47,8 @@ pub(crate) fn search(
     requires equations { equations.now ≡ rows.equations }
     ensures found { IfOk result (λ found. MatchOption found
         (IsOver program.now graph.now nodes)
-        (λ unmet. AreFound graph.now program.now unmet × All IsRule program.now)) }
+        (λ unmet. AreFound graph.now program.now unmet × All IsRule program.now
+        × (unmet.need ≡ min (operators_asked (asked_of_all program.now unmet)) (2 ^ 64 - 1)))) }
 {
     schemes_are_true();
     operators_are_listed();
@@ -65,11 +69,13 @@ pub(crate) fn search(
     let Some(by_rule) = search_rules(alloc, graph, &tables, program, left)? else {
         return Ok(None);
     };
+    let need = with_rules(so_far, program, &by_rule);
     Ok(Some(Unmet {
         equations: by_equation,
         program: by_rule,
         kinds,
         folds,
+        need,
     }))
 }
 
@@ -115,6 +121,7 @@ fn search_rule(
         (AreUnmetOf graph.now rule.now)) }
     ensures rule { IsRule rule.now }
 {
+    // A rule keeps its invariant, which is known here once one of its methods was called.
     let _variables = rule.variables();
     let most = most_within(room, operators(rule.right()));
     let found = find_unmet(alloc, graph, tables, rule, most)?;

@@ -1,5 +1,5 @@
 // Whether rounds end with a graph, and what the next one asks for where they go on.
-ghost use Rattle.std.specs.Prelude.{◌≡◌, ◌≢◌, ◌≤◌, ◌+◌, false, MatchOption, IfOk};
+ghost use Rattle.std.specs.Prelude.{◌≡◌, ◌≢◌, ◌≤◌, ◌+◌, MatchOption, IfOk};
 ghost use Rattle.word_terms.specs.Keys.{op_signature};
 ghost use Rattle.axiom_base.specs.Equations as rows;
 ghost use Rattle.egraph.specs.Graph.{IsGraph};
@@ -8,7 +8,6 @@ ghost use Rattle.saturation.specs.Steps.{StepFits};
 
 use crate::asking::ask;
 use crate::instance::Instance;
-use crate::needing::need_of;
 use crate::quiet::is_quiet;
 use crate::rounds::Stop;
 use crate::searching::search;
@@ -55,23 +54,21 @@ pub(crate) fn decide(
     let Some(unmet) = search(alloc, graph, equations, program, nodes)? else {
         return Ok(Step::End(Stop::Full));
     };
-    let need = need_of(alloc, equations, program, &unmet)?;
     let asked = ask(alloc, equations, program, &unmet)?;
-    match stop_of(asked.len(), need, graph.rows(), last, nodes) {
+    match stop_of(asked.len(), unmet.need, graph.rows(), nodes) {
         Some(stop) => Ok(Step::End(stop)),
         None => Ok(Step::Round(asked)),
     }
 }
 
-fn stop_of(asked: usize, need: u64, rows: u32, last: bool, nodes: u32) -> Option<Stop>
+/// Why the rounds end before another that was asked for, if they do.
+fn stop_of(asked: usize, need: u64, rows: u32, nodes: u32) -> Option<Stop>
     ensures { MatchOption result
-        ((asked ≢ 0) × (last ≡ false) × (rows + need ≤ nodes))
-        (λ stop. StopFits asked need rows last nodes stop) }
+        ((asked ≢ 0) × (rows + need ≤ nodes))
+        (λ stop. StopFits asked need rows nodes stop) }
 {
     if asked == 0 {
         Some(Stop::Quiet)
-    } else if last {
-        Some(Stop::Rounds)
     } else if need > u64::from(nodes) || u64::from(rows) + need > u64::from(nodes) {
         Some(Stop::Full)
     } else {

@@ -5,7 +5,7 @@ ghost use Rattle.schedule_meaning.specs.Launches as launches;
 ghost use Rattle.schedule_meaning.specs.Fits as rules;
 ghost use Rattle.schedule_meaning.specs.declared.schedules.To.TheVariants.{Set as SetTo};
 
-use crate::lookups::{gives, is_load};
+use crate::lookups::{gives, instr_at, is_load};
 use crate::schedules::{Launch, To};
 use graph_meaning::{LaunchGraph, SetClass};
 
@@ -14,13 +14,13 @@ fn loads_over(graph: &LaunchGraph, launch: Launch, register: u8) -> bool
     ensures { result
         ≡ (launches.launches graph.now launches.is_load launch && graphs.is_input_register graph.now register) }
 {
-    is_load(graph, launch) && graph.is_input_register(register)
+    is_load(instr_at(graph, launch.row)) && graph.is_input_register(register)
 }
 
 fn can_go_to_pin(graph: &LaunchGraph, launch: Launch, set: &SetClass, pin: u8) -> bool
     ensures { IsTrue result ↔ rules.CanGoToPin graph.now launch set.now pin }
 {
-    if !gives(graph, set.class, launch) {
+    if !gives(graph, set.class, launch, instr_at(graph, launch.row)) {
         return false;
     }
     !loads_over(graph, launch, pin)

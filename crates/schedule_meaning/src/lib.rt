@@ -4,6 +4,14 @@
 //! A launch reads operands that were launched early enough, and memory as earlier stores left it. Its word goes to a
 //! register of the pool, or to that of a pinned set, which may be an input's. Word order, in which the instructions of
 //! a schedule stand, is told here too.
+//!
+//! Proved: `fits` says of any list of launches, graph and table whether it fits in k cycles (`fits`, `not`), or the
+//! least of the nine rules that it breaks and the first launch that breaks it (`broken`); it takes no memory. A
+//! schedule fits or breaks one rule first, never both, and what fits in k cycles fits in more
+//! (`schedules_fit_or_break`) and in any order of its launches (`fits_in_any_order`). What fits has at most eight
+//! launches a cycle, all below k (`fitting_schedules_are_small`); which memory the stores of earlier cycles leave
+//! is one class (`memories_are_left`). On a graph without pins the rules are those without pins
+//! (`pins_may_be_absent`). The look-ups are exact; `worked_schedules` has a list that breaks each rule first.
 #![tactic(auto)]
 
 mod destinations;

@@ -1,6 +1,8 @@
 // What a graph and a table say of a row and of a launch.
-ghost use Rattle.std.specs.Prelude.{◌≡◌, slice_index, slice_get};
+ghost use Rattle.std.specs.Prelude.{◌≡◌, ◌==◌, ◌&&◌, false, slice_index, slice_get, unwrap_or};
+ghost use Rattle.std.specs.Option.{option_map_or};
 ghost use Rattle.machine_table.specs.Tables as tables;
+ghost use Rattle.machine_table.specs.declared.tables.InstrKind.TheVariants.{Beq};
 ghost use Rattle.schedule_meaning.specs.Groups.{group_number};
 ghost use Rattle.schedule_meaning.specs.Launches as launches;
 
@@ -115,49 +117,64 @@ pub fn memory_class_at(graph: &LaunchGraph, row: u32) -> u32
     }
 }
 
-/// Whether the launch gives a word: all but stores and branches do.
-pub fn gives_word(graph: &LaunchGraph, launch: Launch) -> bool
-    ensures { result ≡ launches.launches graph.now launches.gives_word launch }
+// ---- what an instruction does, if a row has one
+
+/// Whether launches give a word: all but stores and branches do.
+pub fn gives_word(instr: Option<InstrKind>) -> bool
+    ensures { result ≡ option_map_or launches.gives_word instr false }
 {
-    match instr_at(graph, launch.row) {
+    match instr {
         Some(InstrKind::StqU | InstrKind::Beq) | None => false,
         Some(_) => true,
     }
 }
 
-/// Whether the launch is of a row of the class and gives its word.
-pub fn gives(graph: &LaunchGraph, class: u32, launch: Launch) -> bool
-    ensures { result ≡ launches.gives graph.now class launch }
+pub fn is_load(instr: Option<InstrKind>) -> bool
+    ensures { result ≡ option_map_or launches.is_load instr false }
 {
-    gives_word(graph, launch) && class_at(graph, launch.row) == class
-}
-
-pub fn is_load(graph: &LaunchGraph, launch: Launch) -> bool
-    ensures { result ≡ launches.launches graph.now launches.is_load launch }
-{
-    match instr_at(graph, launch.row) {
+    match instr {
         Some(InstrKind::LdqU) => true,
         _ => false,
     }
 }
 
-pub fn is_store(graph: &LaunchGraph, launch: Launch) -> bool
-    ensures { result ≡ launches.launches graph.now launches.is_store launch }
+pub fn is_store(instr: Option<InstrKind>) -> bool
+    ensures { result ≡ option_map_or launches.is_store instr false }
 {
-    match instr_at(graph, launch.row) {
+    match instr {
         Some(InstrKind::StqU) => true,
         _ => false,
     }
 }
 
-pub fn is_branch(graph: &LaunchGraph, launch: Launch) -> bool
-    ensures { result ≡ launches.launches graph.now launches.is_branch launch }
+pub fn is_branch(instr: Option<InstrKind>) -> bool
+    ensures { result ≡ option_map_or launches.is_branch instr false }
 {
-    match instr_at(graph, launch.row) {
+    match instr {
         Some(InstrKind::Beq) => true,
         _ => false,
     }
 }
+
+/// Whether a launch of the instruction is of a row of the class and gives its word.
+pub fn gives(graph: &LaunchGraph, class: u32, launch: Launch, instr: Option<InstrKind>) -> bool
+    ensures { result
+        ≡ (option_map_or launches.gives_word instr false && (launches.class_at graph.now launch.row == class)) }
+{
+    gives_word(instr) && class_at(graph, launch.row) == class
+}
+
+/// Whether a launch of the instruction takes a register of the pool: it goes there and gives a word.
+pub fn takes_pool(launch: Launch, instr: Option<InstrKind>) -> bool
+    ensures { result ≡ (launches.is_pool launch.to && option_map_or launches.gives_word instr false) }
+{
+    match launch.to {
+        To::Pool => gives_word(instr),
+        To::Set(_) => false,
+    }
+}
+
+// ---- guards and pins
 
 /// Whether loads wait for the guard's branch.
 pub fn is_held(graph: &LaunchGraph) -> bool
@@ -202,16 +219,6 @@ pub fn overwrites(graph: &LaunchGraph, launch: Launch) -> bool
     }
 }
 
-/// Whether the launch takes a register of the pool.
-pub fn takes_pool(graph: &LaunchGraph, launch: Launch) -> bool
-    ensures { result ≡ launches.takes_pool graph.now launch }
-{
-    match launch.to {
-        To::Pool => gives_word(graph, launch),
-        To::Set(_) => false,
-    }
-}
-
 /// The part of its cycle in which the launch's word stands.
 pub fn group_of(graph: &LaunchGraph, launch: Launch) -> Group
     ensures { group_number result ≡ launches.group_of graph.now launch }
@@ -243,29 +250,23 @@ pub fn cluster_of(table: &Table, slot: u32) -> u8
     }
 }
 
-/// The cycle from which a value that the instruction makes in the slot is seen in a cluster.
-fn ready(table: &Table, cycle: u32, slot: u32, instr: InstrKind, cluster: u8) -> u64
-    ensures { result ≡ tables.ready table.now cycle slot instr cluster }
+/// The cycle from which the word of a launch of the instruction is seen in a cluster. Where there is none it counts as
+/// a branch.
+pub fn ready_in(table: &Table, cluster: u8, launch: Launch, instr: Option<InstrKind>) -> u64
+    ensures { result ≡ tables.ready table.now launch.cycle launch.slot (unwrap_or instr Beq) cluster }
 {
+    let instr = match instr {
+        Some(instr) => instr,
+        None => InstrKind::Beq,
+    };
     let latency = match table.latency(instr) {
         Some(latency) => u64::from(latency),
         None => 0,
     };
-    let cross = if cluster_of(table, slot) == cluster {
+    let cross = if cluster_of(table, launch.slot) == cluster {
         0
     } else {
         u64::from(table.cross())
     };
-    u64::from(cycle) + latency + cross
-}
-
-/// The cycle from which the launch's word is seen in a cluster.
-pub fn ready_in(graph: &LaunchGraph, table: &Table, cluster: u8, launch: Launch) -> u64
-    ensures { result ≡ launches.ready_in graph.now table.now cluster launch }
-{
-    let instr = match instr_at(graph, launch.row) {
-        Some(instr) => instr,
-        None => InstrKind::Beq,
-    };
-    ready(table, launch.cycle, launch.slot, instr, cluster)
+    u64::from(launch.cycle) + latency + cross
 }

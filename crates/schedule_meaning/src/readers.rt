@@ -3,7 +3,7 @@ ghost use Rattle.std.specs.Prelude.{◌≡◌, ◌==◌, ◌&&◌, ◌≤◌, �
 ghost use Rattle.schedule_meaning.specs.Launches as launches;
 ghost use Rattle.schedule_meaning.specs.Readers.{IsIntact, passes, touches, is_intact, input_where};
 
-use crate::lookups::{cluster_of, gives, overwrites, ready_in, takes_pool, writes_pin};
+use crate::lookups::{cluster_of, gives, instr_at, overwrites, ready_in, takes_pool, writes_pin};
 use crate::schedules::Launch;
 use graph_meaning::{InputClass, LaunchGraph};
 use machine_table::Table;
@@ -15,7 +15,7 @@ pub fn taken_before(graph: &LaunchGraph, list: &[Launch], place: usize) -> usize
 {
     let mut count = 0;
     for before in 0..place {
-        if takes_pool(graph, list[before]) {
+        if takes_pool(list[before], instr_at(graph, list[before].row)) {
             count += 1;
         }
     }
@@ -117,8 +117,12 @@ fn passes(graph: &LaunchGraph, table: &Table, reader: Option<Launch>, launch: La
 {
     match reader {
         Some(reader) => {
-            ready_in(graph, table, cluster_of(table, reader.slot), launch)
-                <= u64::from(reader.cycle)
+            ready_in(
+                table,
+                cluster_of(table, reader.slot),
+                launch,
+                instr_at(graph, launch.row),
+            ) <= u64::from(reader.cycle)
         }
         None => true,
     }
@@ -134,7 +138,7 @@ pub fn may_take(
 ) -> bool
     ensures { result ≡ (launches.gives graph.now class launch && passes graph.now table.now reader launch) }
 {
-    gives(graph, class, launch) && passes(graph, table, reader, launch)
+    gives(graph, class, launch, instr_at(graph, launch.row)) && passes(graph, table, reader, launch)
 }
 
 /// Some launch of the list gives the class's word, and it is ready for the reader.

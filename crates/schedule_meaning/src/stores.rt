@@ -6,7 +6,7 @@ ghost use Rattle.schedule_meaning.specs.Fits as rules;
 ghost use Rattle.schedule_meaning.specs.Readers.{is_store_below, later_of};
 ghost use Rattle.schedule_meaning.specs.Broken.{NoEarlier, KeepsMemoryAt};
 
-use crate::lookups::{class_at, is_load, is_store, memory_class_at};
+use crate::lookups::{class_at, instr_at, is_load, is_store, memory_class_at};
 use crate::schedules::Launch;
 use graph_meaning::LaunchGraph;
 
@@ -14,8 +14,8 @@ fn is_store_below(graph: &LaunchGraph, cycle: Option<u32>, launch: Launch) -> bo
     ensures { result ≡ is_store_below graph.now cycle launch }
 {
     match cycle {
-        Some(cycle) => is_store(graph, launch) && launch.cycle < cycle,
-        None => is_store(graph, launch),
+        Some(cycle) => is_store(instr_at(graph, launch.row)) && launch.cycle < cycle,
+        None => is_store(instr_at(graph, launch.row)),
     }
 }
 
@@ -68,7 +68,7 @@ fn memory_after(graph: &LaunchGraph, list: &[Launch]) -> u32
 fn uses_memory(graph: &LaunchGraph, launch: Launch) -> bool
     ensures { IsTrue result ↔ rules.UsesMemory graph.now launch }
 {
-    is_load(graph, launch) || is_store(graph, launch)
+    is_load(instr_at(graph, launch.row)) || is_store(instr_at(graph, launch.row))
 }
 
 fn reads_memory(graph: &LaunchGraph, list: &[Launch], launch: Launch) -> bool
@@ -82,7 +82,7 @@ fn reads_memory(graph: &LaunchGraph, list: &[Launch], launch: Launch) -> bool
 fn is_store_at(graph: &LaunchGraph, launch: Launch, cycle: u32) -> bool
     ensures { IsTrue result ↔ (IsTrue (launches.launches graph.now launches.is_store launch) × (launch.cycle ≡ cycle)) }
 {
-    is_store(graph, launch) && launch.cycle == cycle
+    is_store(instr_at(graph, launch.row)) && launch.cycle == cycle
 }
 
 fn no_store_before(graph: &LaunchGraph, list: &[Launch], at: usize, cycle: u32) -> bool
@@ -105,7 +105,7 @@ pub(crate) fn keeps_memory(graph: &LaunchGraph, list: &[Launch], at: usize, laun
     if !reads_memory(graph, list, launch) {
         return false;
     }
-    !is_store(graph, launch) || no_store_before(graph, list, at, launch.cycle)
+    !is_store(instr_at(graph, launch.row)) || no_store_before(graph, list, at, launch.cycle)
 }
 
 pub(crate) fn memory_is_left(graph: &LaunchGraph, list: &[Launch]) -> bool

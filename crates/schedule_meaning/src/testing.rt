@@ -57,7 +57,7 @@ fn no_later(graph: &LaunchGraph, other: Launch, launch: Launch) -> bool
     ensures { IsTrue result
         ↔ (IsTrue (launches.launches graph.now launches.is_branch other) → other.cycle ≤ launch.cycle) }
 {
-    !is_branch(graph, other) || other.cycle <= launch.cycle
+    !is_branch(instr_at(graph, other.row)) || other.cycle <= launch.cycle
 }
 
 /// No branch of the list launches after the launch.
@@ -80,8 +80,8 @@ fn must_wait(graph: &LaunchGraph, launch: Launch) -> bool
         ⊎ (IsTrue (launches.launches graph.now launches.is_load launch) × IsTrue (launches.is_held graph.now))
         ⊎ IsTrue (launches.overwrites graph.now launch)) }
 {
-    is_store(graph, launch)
-        || ((is_load(graph, launch) && is_held(graph)) || overwrites(graph, launch))
+    is_store(instr_at(graph, launch.row))
+        || ((is_load(instr_at(graph, launch.row)) && is_held(graph)) || overwrites(graph, launch))
 }
 
 pub(crate) fn waits(graph: &LaunchGraph, list: &[Launch], launch: Launch) -> bool
@@ -96,7 +96,7 @@ fn branches(graph: &LaunchGraph, list: &[Launch]) -> usize
 {
     let mut count = 0;
     for launch in list {
-        if is_branch(graph, *launch) {
+        if is_branch(instr_at(graph, launch.row)) {
             count += 1;
         }
     }

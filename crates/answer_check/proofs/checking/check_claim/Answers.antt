@@ -31,10 +31,10 @@ returns-clause-sound c =
     let none = subst
     (λ (x : LaunchGraph). IfSome c.args.goal.now.refute
     (λ (l : Lines). (ls : List Launch) → Fits x table (refuted_cycles claim) ls → ⊥))
-    c.requires.facts (if_none c.in_ok-rejected.field-0 c.in_default-3.is c.in_ok-rejected.ensures.none_fits) in
+    c.requires.facts (if_none c.in_ok-rejected.field-0 c.in_default-2.is c.in_ok-rejected.ensures.none_fits) in
     λ holds. true_claim table g (formula_in c.args.scope.now c.args.facts.now table) claim c.requires.world
     c.in_default.ensures.fits (c.in_ok-is_listed.ensures.does c.if-not-branch.false)
-    (where_none _ c.in_ok-sizes.field-0 c.in_default-2.is c.in_ok-sizes.ensures).1
-    (where_none _ c.in_ok-rejected-2.field-0 c.in_default-4.is c.in_ok-rejected-2.ensures)
+    c.in_default-wrong_size.ensures.1
+    (where_none _ c.in_ok-rejected-2.field-0 c.in_default-3.is c.in_ok-rejected-2.ensures)
     (none_below table g (λ k m ls le fit. c.schedules_fit_or_break.ensures.longer g table k m ls le fit)
     (refuted_below claim) c.args.goal.now.refute c.requires.refute none)

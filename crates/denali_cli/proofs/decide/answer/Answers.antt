@@ -1,5 +1,6 @@
 use Rattle.std.proofs.Common.{subst}
-use Rattle.denali_cli.specs.Replies.{ErrorIs}
+use Rattle.reports.specs.Errors.{IsErrorBy}
+use Rattle.denali_cli.specs.Replies.{IsFaultFor}
 use Rattle.denali_cli.proofs.Decided.{reply_of_fault, reports_other, reports_whole}
 use Rattle.denali_cli.proofs.decide.answer.Goals as goal
 
@@ -17,4 +18,4 @@ pub returns-in-Err-Read-clause-reply : goal.returns-in-Err-Read-clause-reply
 returns-in-Err-Read-clause-reply c =
     reply_of_fault c.args.command c.args.text.now c.faulty.result c.in-Err-Read.fault c.requires.within
     c.faulty.ensures.ok
-    (subst (ErrorIs c.args.command c.args.text.now) c.in-Err-Read.field-0-is c.in-Err-Read.ensures.error)
+    (subst (IsErrorBy (IsFaultFor c.args.command c.args.text.now)) c.in-Err-Read.field-0-is c.in-Err-Read.ensures.error)

@@ -3,7 +3,7 @@ use Rattle.least_launch.proofs.checking.pass_as_said.Goals as goal
 
 pub returns-then-not-pass_limit : goal.returns-then-not-pass_limit
 returns-then-not-pass_limit c = λ f ev ec.
-    none_passes c.args.sizes f ev ec c.pass_limit.result c.args.vars c.args.clauses c.pass_limit.ensures
+    none_passes c.args.sizes f ev ec c.pass_limit.result c.args.vars c.args.clauses c.pass_limit.ensures.value
     c.if-not-pass_limit.true
 
 pub returns-then-sizes-vars : goal.returns-then-sizes-vars
@@ -15,5 +15,5 @@ returns-then-sizes-clauses c = λ f ev ec.
 
 pub returns : goal.returns
 returns c = λ f ev ec.
-    same_counts c.args.sizes f ev ec c.pass_limit.result c.args.vars c.args.clauses c.pass_limit.ensures
+    same_counts c.args.sizes f ev ec c.pass_limit.result c.args.vars c.args.clauses c.pass_limit.ensures.value
     c.if-not-pass_limit.false c.if-sizes-vars.false c.if-sizes-clauses.false

@@ -41,14 +41,14 @@ returns-clause-plan c =
       encoding = Pinned;
       cycles = c.args.k;
       launches = l.launches;
-      overwritten = before_overwritten x c.args.table.now c.args.k l;
+      overwritten = before_overwritten l;
     })
     (is ∙ ap {A = Encoding} {B = Plan}
     (λ e. record {
       encoding = e;
       cycles = c.args.k;
       launches = (listed_in c.in_ok-facts.facts c.args.table.now c.args.k c.in_ok-scope.scope).launches;
-      overwritten = before_overwritten c.in_ok-facts.facts c.args.table.now c.args.k
+      overwritten = before_overwritten
           (listed_in c.in_ok-facts.facts c.args.table.now c.args.k c.in_ok-scope.scope);
     }) c.in_ok-scope.ensures.encoding))
     c.build_fewer.ensures.plan

@@ -22,11 +22,11 @@ returns c =
       some = λ g table k n l ls is_table is_graph listed over fits few.
           let some = says.some Pinned g table k l ls is_table is_graph listed fits in
           let v = some.3.0 in
-          let xs = launch_vars g table k l in
-          let among : (x : Launch) → Contains (shown some.3.0 (launch_vars g table k l)) x → Contains ls x =
+          let xs = launch_vars l in
+          let among : (x : Launch) → Contains (shown some.3.0 (launch_vars l)) x → Contains ls x =
           λ x h. (filter-out some.2.0 ls x
           (subst (λ (ys : List Launch). Contains ys x) some.2.1 ((some.3.2 x).0 h))).0 in
-          let at_most : length (shown some.3.0 (launch_vars g table k l)) ≤ n =
+          let at_most : length (shown some.3.0 (launch_vars l)) ≤ n =
           (let w = few_launches (shown v xs) ls
           (says.shown Pinned g table k l v is_table is_graph listed some.3.1).apart among in omega (arith, w, few)) in
           let w = counted exact g table k n l over v some.3.1 at_most in

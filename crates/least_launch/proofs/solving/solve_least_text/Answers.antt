@@ -15,29 +15,29 @@ use Rattle.least_launch.proofs.solving.solve_least_text.Goals as goal
 
 pub report_least-requires : goal.report_least-requires
 report_least-requires c =
-    subst (λ (rs : List Answered). length rs ≡ length c.in-Ok.input.goals) (sym c.deref.ensures.value)
-    (as_many (λ goal answered. Right Pinned (input_view c.in-Ok.input) goal c.args.settings.now answered)
-    (map goal_view c.in-Ok.input.goals) c.in_ok-solved.solved.results.items c.in_ok-solved.ensures.right
-    ∙ length-map c.in-Ok.input.goals goal_view)
+    subst (λ (rs : List Answered). length rs ≡ length c.in_ok-input.input.goals) (sym c.deref.ensures.value)
+    (as_many (λ goal answered. Right Pinned (input_view c.in_ok-input.input) goal c.args.settings.now answered)
+    (map goal_view c.in_ok-input.input.goals) c.in_ok-solved.solved.results.items c.in_ok-solved.ensures.right
+    ∙ length-map c.in_ok-input.input.goals goal_view)
 
 pub returns-clause-answered : goal.returns-clause-answered
 returns-clause-answered c =
     let text = c.args.text.now in
-    let input = input_view c.in-Ok.input in
+    let input = input_view c.in_ok-input.input in
     let results = c.in_ok-solved.solved.results.items in
     let said = c.in_ok-solved.solved.said.items in
     let bytes : c.in_ok-report_least.field-0.bytes.items
-    ≡ answer_text Pinned (input_view c.in-Ok.input) c.in_ok-solved.solved.results.items
+    ≡ answer_text Pinned (input_view c.in_ok-input.input) c.in_ok-solved.solved.results.items
     ++ lines_text (tail_lines c.in_ok-solved.solved.said.items) =
     c.in_ok-report_least.ensures.bytes
-    ∙ ap (λ (rs : List Answered). answer_text Pinned (input_view c.in-Ok.input) rs ++ lines_text
+    ∙ ap (λ (rs : List Answered). answer_text Pinned (input_view c.in_ok-input.input) rs ++ lines_text
     (tail_lines c.deref-2.result.now))
     c.deref.ensures.value
-    ∙ ap (λ (ts : List (Option Tail)). answer_text Pinned (input_view c.in-Ok.input) c.in_ok-solved.solved.results.items
+    ∙ ap (λ (ts : List (Option Tail)). answer_text Pinned (input_view c.in_ok-input.input) c.in_ok-solved.solved.results.items
     ++ lines_text (tail_lines ts)) c.deref-2.ensures.value in
     record {
       input = input;
-      reads = c.in-Ok.ensures.input;
+      reads = c.in_ok-input.ensures.input;
       results = results;
       right = c.in_ok-solved.ensures.right;
       said = said;
@@ -45,7 +45,7 @@ returns-clause-answered c =
       bytes_are = bytes;
       read_back = λ short.
           subst (λ (bs : List ℕ). ReadsTailed bs (answer_to Pinned input results) said) (sym bytes)
-          (c.tailed_answers_are_read.ensures c.args.settings.now text input results said c.in-Ok.ensures.input short
+          (c.tailed_answers_are_read.ensures c.args.settings.now text input results said c.in_ok-input.ensures.input short
           c.requires.settings c.in_ok-solved.ensures.right c.in_ok-solved.ensures.said);
       status_is = c.in_ok-report_least.ensures.status
           ∙ ap (λ (rs : List Answered). least_status rs c.deref-2.result.now) c.deref.ensures.value

@@ -9,7 +9,8 @@ use Rattle.cycle_encoding.specs.Variables.{is_overwriting, all_overwritten, Over
 use Rattle.cycle_encoding.proofs.Adding.{added, size-with, vars-with}
 use Rattle.cycle_encoding.proofs.Listed.{kept_more}
 use Rattle.order_encoding.specs.PinFamilies.{set_clauses}
-use Rattle.order_encoding.specs.OrderSteps.{set_overwritten, clauses_in_set}
+use Rattle.cycle_encoding.specs.Steps.{set_overwritten}
+use Rattle.order_encoding.specs.OrderSteps.{clauses_in_set}
 use Rattle.order_encoding.proofs.PinSteps.{set-clauses, place-within, kept-part, place-more}
 use Rattle.order_encoding.proofs.pins.add_overwritten.Goals as goal
 use Rattle.order_encoding.proofs.pins.add_overwritten.Goals.{then-is_overwriting+in_ok-add_set, else-is_overwriting}

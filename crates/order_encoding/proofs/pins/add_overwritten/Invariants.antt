@@ -4,7 +4,7 @@ use Rattle.cycle_encoding.specs.Shapes.{numbered}
 use Rattle.cycle_encoding.specs.Steps.{with_clauses}
 use Rattle.cycle_encoding.specs.Variables.{is_overwriting, all_overwritten}
 use Rattle.order_encoding.specs.PinFamilies.{set_clauses}
-use Rattle.order_encoding.specs.OrderSteps.{set_overwritten}
+use Rattle.cycle_encoding.specs.Steps.{set_overwritten}
 use Rattle.order_encoding.proofs.pins.add_overwritten.Given as goal
 
 abbrev pub invariant-loop-set : goal.invariant-loop-set

@@ -6,7 +6,7 @@ use Rattle.denali_run.specs.ClaimedResults.{answer_text}
 use Rattle.denali_run.specs.Right.{AreRightResults, Right}
 use Rattle.denali_run.specs.TextAnswers.{greatest_status}
 use Rattle.denali_run.specs.declared.results.Answered.{Answered}
-use Rattle.denali_run.specs.declared.statuses.Status.TheVariants as status
+use Rattle.reports.specs.declared.statuses.Status.TheVariants as status
 use Rattle.goal_meaning.specs.Views.{InputTree, goal_view, input_view}
 use Rattle.goal_meaning.specs.WellFormed.{IsInput}
 use Rattle.proc_goal.specs.Goals.{input_of_proc}

@@ -5,7 +5,7 @@ use Rattle.answer_texts.specs.WellFormed.{IsClaimed}
 use Rattle.answer_texts.specs.declared.answers.Claimed.{Claimed}
 use Rattle.text_core.specs.LineTexts.{line_text, lines_text}
 use Rattle.refute_trim.specs.Outcomes.{IsPutTrimmed}
-use Rattle.denali_run.specs.declared.statuses.Status.TheVariants.{Missing}
+use Rattle.reports.specs.declared.statuses.Status.TheVariants.{Missing}
 use Rattle.refute_trim.specs.TrimmedAnswers.{IsRejectedGoal, IsTrimReport}
 use Rattle.refute_trim.proofs.Claiming.{if_both, where_none, where_some}
 use Rattle.refute_trim.proofs.Reporting.{rejected_at, trimmed_all, trimmed_more, trimmed_none}

@@ -4,9 +4,10 @@ use Rattle.std.proofs.lemmas.Option.{MatchOption-at_some, MatchOption-at_none}
 use Rattle.axiom_base.specs.Equations as rows
 use Rattle.axiom_base.specs.Schemes.{plain, computed, calc_kinds}
 use Rattle.pattern_match.specs.Matches.{AreNeeds}
-use Rattle.saturation.specs.Asking.{AreUnmetOf, AreUnmetOfKind, NeedMoreThan, asked_of_each, rule_asked, kind_asked}
+use Rattle.saturation.specs.Asking.{AreUnmetOf, AreUnmetOfKind, NeedMoreThan, asked_of_each, fold_asked, rule_asked, kind_asked}
 use Rattle.saturation.specs.Trace.{operators_asked}
 use Rattle.saturation.proofs.Needed.{over_by_kinds, over_by_equations, over_by_program}
+use Rattle.saturation.proofs.NeedSteps.{all_operators, folds_operators}
 use Rattle.saturation.proofs.Searched.{rules_are_asked, kinds_are_asked, zip_length}
 use Rattle.saturation.proofs.searching.search.Goals as goal
 use Rattle.saturation.proofs.searching.search.Goals.{After-saturating_sub-room}
@@ -58,11 +59,28 @@ returns-in_default-2 c =
     let more = subst (NeedMoreThan g (map plain c.args.program.now)) c.saturating_sub-left.ensures none in
     record { found = over_by_program g c.requires.graph c.args.program.now _ _ c.args.nodes c.saturating_sub-room.result c.in_ok-before.before (kinds_need a) c.in_ok-folds.ensures.need (before_is a) (room_is a) (operators_asked E) c.with_rules-so_far.result needs (omega (arith, so_far)) more }
 
+pub with_rules-need-requires : goal.with_rules-need-requires
+with_rules-need-requires c =
+    let some = MatchOption-at_some _ _ c.in-Some-2.by_rule c.in-Some-2.is c.in_ok-by_rule.ensures.found in
+    ap length c.deref-3.ensures.value ∙ zip_length (AreUnmetOf c.args.graph.now) c.args.program.now c.in-Some-2.by_rule.items some.0
+
 pub returns : goal.returns
 returns c =
     let g = c.args.graph.now in
+    let axioms = c.args.program.now in
     let by_equation = MatchOption-at_some _ _ c.in-Some.by_equation c.in-Some.is c.in_ok-by_equation.ensures.found in
     let by_rule = MatchOption-at_some _ _ c.in-Some-2.by_rule c.in-Some-2.is c.in_ok-by_rule.ensures.found in
+    let E = asked_of_each rule_asked rows.equations c.in-Some.by_equation.items in
+    let P = asked_of_each rule_asked axioms c.in-Some-2.by_rule.items in
+    let K = asked_of_each kind_asked calc_kinds c.in_ok-kinds.kinds.items in
+    let before = c.in_ok-before.ensures ∙ ap (λ fs. min (c.len.result + operators_asked (asked_of_each kind_asked calc_kinds fs)) (2 ^ 64 - 1)) c.deref.ensures.value in
+    let so_far : c.with_rules-so_far.result ≡ min (c.in_ok-before.before + operators_asked E) (2 ^ 64 - 1) =
+    c.with_rules-so_far.ensures ∙ ap (λ fs. min (c.in_ok-before.before + operators_asked (asked_of_each rule_asked c.args.equations.now fs)) (2 ^ 64 - 1)) c.deref-2.ensures.value
+    ∙ ap (λ rs. min (c.in_ok-before.before + operators_asked (asked_of_each rule_asked rs c.in-Some.by_equation.items)) (2 ^ 64 - 1)) c.requires.equations in
+    let need : c.with_rules-need.result ≡ min (c.with_rules-so_far.result + operators_asked P) (2 ^ 64 - 1) =
+    c.with_rules-need.ensures ∙ ap (λ fs. min (c.with_rules-so_far.result + operators_asked (asked_of_each rule_asked axioms fs)) (2 ^ 64 - 1)) c.deref-3.ensures.value in
+    let all = all_operators E P K (map fold_asked c.in_ok-folds.folds) in
+    let folds = folds_operators c.in_ok-folds.folds in
     record {
       found = (
         record {
@@ -73,5 +91,6 @@ returns c =
           folds_need = c.in_ok-folds.ensures.need;
         },
         by_rule.1,
+        omega (arith, before, so_far, need, all, folds, c.len.ensures),
       );
     }

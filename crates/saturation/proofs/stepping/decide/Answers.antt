@@ -4,7 +4,7 @@ use Rattle.std.proofs.lemmas.Option.{MatchOption-at_some, MatchOption-at_none}
 use Rattle.axiom_base.specs.Equations as rows
 use Rattle.axiom_base.specs.Rewrites.{IsRule}
 use Rattle.axiom_base.specs.Schemes.{calc_kinds, schemes}
-use Rattle.saturation.specs.Asking.{AreAsked, AreFound, AreUnmetOf, AreUnmetOfKind, StopFits}
+use Rattle.saturation.specs.Asking.{AreAsked, AreFound, AreUnmetOf, AreUnmetOfKind, StopFits, asked_of_all}
 use Rattle.saturation.specs.Trace.{operators_asked}
 use Rattle.saturation.specs.Instances.{asked_of}
 use Rattle.saturation.proofs.LoopSteps.{end_fits, goes_on_with}
@@ -14,16 +14,8 @@ use Rattle.saturation.proofs.stepping.decide.Goals.{After-len, In-Some}
 
 -- what the search found
 found_is : (c : In-Some) → AreFound c.args.graph.now c.args.program.now c.in-Some.unmet × All IsRule c.args.program.now
+    × (c.in-Some.unmet.need ≡ min (operators_asked (asked_of_all c.args.program.now c.in-Some.unmet)) (2 ^ 64 - 1))
 found_is c = MatchOption-at_some _ _ c.in-Some.unmet c.in-Some.is c.in_ok-unmet.ensures.found
-
-pub need_of-requires-clause-by_equation : goal.need_of-requires-clause-by_equation
-need_of-requires-clause-by_equation c = zip_length (AreUnmetOf c.args.graph.now) rows.equations c.in-Some.unmet.equations.items (found_is (goal.at.need_of-requires-clause-by_equation c).In-Some).0.equations ∙ sym (ap length c.requires.equations)
-
-pub need_of-requires-clause-by_rule : goal.need_of-requires-clause-by_rule
-need_of-requires-clause-by_rule c = zip_length (AreUnmetOf c.args.graph.now) c.args.program.now c.in-Some.unmet.program.items (found_is (goal.at.need_of-requires-clause-by_rule c).In-Some).0.program
-
-pub need_of-requires-clause-by_kind : goal.need_of-requires-clause-by_kind
-need_of-requires-clause-by_kind c = zip_length (AreUnmetOfKind c.args.graph.now) calc_kinds c.in-Some.unmet.kinds.items (found_is (goal.at.need_of-requires-clause-by_kind c).In-Some).0.kinds
 
 pub ask-requires-clause-by_equation : goal.ask-requires-clause-by_equation
 ask-requires-clause-by_equation c = zip_length (AreUnmetOf c.args.graph.now) rows.equations c.in-Some.unmet.equations.items (found_is (goal.at.ask-requires-clause-by_equation c).In-Some).0.equations ∙ sym (ap length c.requires.equations)
@@ -43,8 +35,8 @@ are_asked c =
 count_is : (c : After-len) → c.len.result ≡ length (map asked_of c.in_ok-asked.asked.items)
 count_is c = c.len.ensures ∙ c.in_ok-asked.asked.ok.0 ∙ sym (length-map c.in_ok-asked.asked.items asked_of)
 
-need_is : (c : After-len) → c.in_ok-need.need ≡ min (operators_asked (map asked_of c.in_ok-asked.asked.items)) (2 ^ 64 - 1)
-need_is c = c.in_ok-need.ensures ∙ ap (λ xs. min (operators_asked xs) (2 ^ 64 - 1)) (sym c.in_ok-asked.ensures.asked)
+need_is : (c : After-len) → c.in-Some.unmet.need ≡ min (operators_asked (map asked_of c.in_ok-asked.asked.items)) (2 ^ 64 - 1)
+need_is c = (MatchOption-at_some _ _ c.in-Some.unmet c.in-Some.is c.in_ok-unmet.ensures.found).2 ∙ ap (λ xs. min (operators_asked xs) (2 ^ 64 - 1)) (sym c.in_ok-asked.ensures.asked)
 
 pub returns-in_default : goal.returns-in_default
 returns-in_default c =
@@ -63,10 +55,10 @@ pub returns-in-Some-stop_of : goal.returns-in-Some-stop_of
 returns-in-Some-stop_of c =
     let k = (goal.at.returns-in-Some-stop_of c).After-len in
     let fits = MatchOption-at_some _ _ c.in-Some-stop_of.stop c.in-Some-stop_of.is c.stop_of.ensures in
-    record { step = end_fits c.args.program.now c.args.graph.now (map asked_of c.in_ok-asked.asked.items) (are_asked k) c.in_ok-need.need c.rows.result c.args.nodes c.args.last c.in-Some-stop_of.stop (need_is k) c.rows.ensures.value (subst (λ n. StopFits n c.in_ok-need.need c.rows.result c.args.last c.args.nodes c.in-Some-stop_of.stop) (count_is k) fits) }
+    record { step = end_fits c.args.program.now c.args.graph.now (map asked_of c.in_ok-asked.asked.items) (are_asked k) c.in-Some.unmet.need c.rows.result c.args.nodes c.args.last c.in-Some-stop_of.stop (need_is k) c.rows.ensures.value c.if-last.false (subst (λ n. StopFits n c.in-Some.unmet.need c.rows.result c.args.nodes c.in-Some-stop_of.stop) (count_is k) fits) }
 
 pub returns : goal.returns
 returns c =
     let k = (goal.at.returns c).After-len in
     let none = MatchOption-at_none _ _ c.in-None.is c.stop_of.ensures in
-    record { step = goes_on_with c.args.program.now c.args.graph.now c.args.last (map asked_of c.in_ok-asked.asked.items) c.in_ok-need.need c.rows.result c.args.nodes c.len.result (are_asked k) (count_is k) (need_is k) c.rows.ensures.value c.requires.nodes (found_is (goal.at.returns c).In-Some).1 none }
+    record { step = goes_on_with c.args.program.now c.args.graph.now c.args.last (map asked_of c.in_ok-asked.asked.items) c.in-Some.unmet.need c.rows.result c.args.nodes c.len.result (are_asked k) (count_is k) (need_is k) c.rows.ensures.value c.requires.nodes (found_is (goal.at.returns c).In-Some).1 c.if-last.false none }

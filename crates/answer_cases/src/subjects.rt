@@ -1,0 +1,80 @@
+// What these cases ask: the subjects by their names.
+use crate::{calls, codes, examples, failing, fewer, linked, solved, texts, trimming};
+use case_files::{Trouble, Whole};
+use std::alloc::Global;
+
+/// What the cases of a file ask.
+#[derive(Clone, Copy, Debug, PartialEq, Eq)]
+pub(crate) enum Subject {
+    Answers,
+    Verdicts,
+    LeastVerdicts,
+    Trims,
+    TrimmedLines,
+    Fewer,
+    Commands,
+    Failing,
+    Solved,
+    LeastSolved,
+    Linked,
+    Verify,
+    Goal,
+    Proc,
+    Family,
+}
+
+/// The name of each subject.
+const NAMES: [(&str, Subject); 12] = [
+    ("answers", Subject::Answers),
+    ("verdicts", Subject::Verdicts),
+    ("least-verdicts", Subject::LeastVerdicts),
+    ("trims", Subject::Trims),
+    ("trimmed-lines", Subject::TrimmedLines),
+    ("fewer", Subject::Fewer),
+    ("commands", Subject::Commands),
+    ("failing", Subject::Failing),
+    ("solved", Subject::Solved),
+    ("least-solved", Subject::LeastSolved),
+    ("linked", Subject::Linked),
+    ("verify", Subject::Verify),
+];
+
+impl case_files::Subject for Subject {
+    fn named(name: &[u8]) -> Option<Subject> {
+        for (known, subject) in &NAMES {
+            if known.as_bytes() == name {
+                return Some(*subject);
+            }
+        }
+        None
+    }
+
+    fn answer(self, alloc: Global, input: &[u8]) -> Result<Vec<u8>, Trouble> {
+        match self {
+            Subject::Answers => texts::answers(alloc, input),
+            Subject::Verdicts => texts::verdicts(alloc, input),
+            Subject::LeastVerdicts => texts::least_verdicts(alloc, input),
+            Subject::Trims => texts::trims(alloc, input),
+            Subject::TrimmedLines => trimming::trimmed_lines(alloc, input),
+            Subject::Fewer => fewer::fewer(alloc, input),
+            Subject::Commands => calls::commands(alloc, input),
+            Subject::Failing => failing::failing(alloc, input),
+            Subject::Solved => solved::solved(alloc, input),
+            Subject::LeastSolved => solved::least_solved(alloc, input),
+            Subject::Linked => linked::linked(alloc, input),
+            Subject::Verify => codes::verified(alloc, input),
+            Subject::Goal => examples::goal(alloc, input),
+            Subject::Proc => examples::proc(alloc, input),
+            Subject::Family => examples::family(alloc, input),
+        }
+    }
+
+    fn whole_file(ending: &str) -> Option<Whole<Subject>> {
+        match ending {
+            "goal" => Some(Whole::Input(Subject::Goal)),
+            "proc" => Some(Whole::Input(Subject::Proc)),
+            "axioms" => Some(Whole::Wanted(Subject::Family)),
+            _ => None,
+        }
+    }
+}

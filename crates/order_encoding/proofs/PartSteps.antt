@@ -1,0 +1,79 @@
+-- What one part adds to the formula of the parts before it.
+use Rattle.std.proofs.Common.{◌≡◌, ◌+◌, ◌≤◌, ◌∙◌, ℕ, length, sym, ap, subst}
+use Rattle.cnf_core.specs.Formula.{Formula}
+use Rattle.machine_table.specs.declared.tables.Table.{Table}
+use Rattle.graph_meaning.specs.declared.graphs.LaunchGraph.{LaunchGraph}
+use Rattle.cycle_encoding.specs.CycleFormula.{Listed, Scope, cycle_formula, listed_in}
+use Rattle.cycle_encoding.specs.Plans.{IsTooLarge}
+use Rattle.order_encoding.specs.OrderCounts.{guard_size, guard_vars, memory_size, memory_vars, part_size, part_vars, pins_size, pins_vars, registers_size, registers_vars}
+use Rattle.order_encoding.specs.WholeFormula.{before_part, guard_formula, memory_formula, pool_formula, whole_formula, with_part}
+use Rattle.order_encoding.specs.declared.adding.Part.{Part}
+use Rattle.order_encoding.specs.declared.adding.Part.TheVariants.{Memory, Guard, Pool, Pins}
+use Rattle.order_encoding.proofs.Limits.{within_clauses, within_vars}
+
+-- ---- counts
+
+module _ (g : LaunchGraph) (table : Table) (k : ℕ) (s : Scope) where
+  abbrev vars_of : (LaunchGraph → Table → ℕ → Listed → Formula) → ℕ
+  vars_of formula = (formula g table k (listed_in g table k s)).vars
+
+  abbrev size_of : (LaunchGraph → Table → ℕ → Listed → Formula) → ℕ
+  size_of formula = length (formula g table k (listed_in g table k s)).clauses
+
+  -- by the counts of the formulas one after another, from that of cycles on
+  module _ (c : ℕ) where
+    pub vars_added : vars_of cycle_formula ≡ c → vars_of memory_formula ≡ c + memory_vars g table k s
+        → vars_of guard_formula ≡ c + memory_vars g table k s + guard_vars g table k s
+        → vars_of pool_formula ≡ c + memory_vars g table k s + guard_vars g table k s + registers_vars g table k s
+        → vars_of whole_formula
+        ≡ c + memory_vars g table k s + guard_vars g table k s + registers_vars g table k s + pins_vars g table k s
+        → (p : Part) → vars_of (with_part p) ≡ vars_of (before_part p) + part_vars p g table k s
+    vars_added e m d r w Memory = m ∙ ap (λ n. n + memory_vars g table k s) (sym e)
+    vars_added e m d r w Guard = d ∙ ap (λ n. n + guard_vars g table k s) (sym m)
+    vars_added e m d r w Pool = r ∙ ap (λ n. n + registers_vars g table k s) (sym d)
+    vars_added e m d r w Pins = w ∙ ap (λ n. n + pins_vars g table k s) (sym r)
+
+    pub size_added : size_of cycle_formula ≡ c → size_of memory_formula ≡ c + memory_size g table k s
+        → size_of guard_formula ≡ c + memory_size g table k s + guard_size g table k s
+        → size_of pool_formula ≡ c + memory_size g table k s + guard_size g table k s + registers_size g table k s
+        → size_of whole_formula
+        ≡ c + memory_size g table k s + guard_size g table k s + registers_size g table k s + pins_size g table k s
+        → (p : Part) → size_of (with_part p) ≡ size_of (before_part p) + part_size p g table k s
+    size_added e m d r w Memory = m ∙ ap (λ n. n + memory_size g table k s) (sym e)
+    size_added e m d r w Guard = d ∙ ap (λ n. n + guard_size g table k s) (sym m)
+    size_added e m d r w Pool = r ∙ ap (λ n. n + registers_size g table k s) (sym d)
+    size_added e m d r w Pins = w ∙ ap (λ n. n + pins_size g table k s) (sym r)
+
+-- ---- one part by its name
+
+module _ (p q : Part) (same : p ≡ q) (g : LaunchGraph) (table : Table) (k : ℕ) (s : Scope) where
+  abbrev before : Part → Formula
+  before x = before_part x g table k (listed_in g table k s)
+
+  abbrev after : Part → Formula
+  after x = with_part x g table k (listed_in g table k s)
+
+  pub before_named : (f : Formula) → f ≡ before p → f ≡ before q
+  before_named f e = subst (λ x. f ≡ before x) same e
+
+  pub vars_named : (IsTooLarge (after p) → ⊥) → (after q).vars ≤ 262144
+  vars_named h = within_vars (after q) (subst (λ x. IsTooLarge (after x) → ⊥) same h)
+
+  pub clauses_named : (IsTooLarge (after p) → ⊥) → length (after q).clauses ≤ 2000000
+  clauses_named h = within_clauses (after q) (subst (λ x. IsTooLarge (after x) → ⊥) same h)
+
+  pub after_named : (f : Formula) → f ≡ after q → f ≡ after p
+  after_named f e = subst (λ x. f ≡ after x) (sym same) e
+
+-- ---- what a part with its counts comes to, in as many cycles under another name
+
+module _ (p : Part) (g : LaunchGraph) (table : Table) (j k : ℕ) (s : Scope) (same : j ≡ k) where
+  abbrev now : ℕ → Formula
+  now n = with_part p g table n (listed_in g table n s)
+
+  abbrev was : ℕ → Formula
+  was n = before_part p g table n (listed_in g table n s)
+
+  module _ (count : Formula → ℕ) (part : ℕ → ℕ) (f : Formula) (v : ℕ) where
+    pub counted : f ≡ was k → count (now k) ≡ count (was k) + part k → v ≡ count f + part j → v ≡ count (now k)
+    counted ef sum ev = ev ∙ ap (λ n. count f + part n) same ∙ ap (λ (x : Formula). count x + part k) ef ∙ sym sum

@@ -1,0 +1,254 @@
+use Rattle.std.proofs.Common.{◌≡◌, ◌∙◌, ◌+◌, ◌≤◌, List, ap, sym, subst, arith}
+use Rattle.std.specs.Prelude.{length, is_some}
+use Rattle.std.specs.List.{range_with_len}
+use Rattle.cnf_core.specs.Formula.{Formula}
+use Rattle.schedule_meaning.specs.declared.schedules.Launch.{Launch}
+use Rattle.cycle_encoding.specs.CycleFormula.{before_overwritten, cycle_formula, listed_in}
+use Rattle.cycle_encoding.specs.Plans.{IsTooLarge}
+use Rattle.cycle_encoding.specs.Shapes.{when}
+use Rattle.cycle_encoding.specs.Variables.{all_overwritten}
+use Rattle.cycle_encoding.proofs.Built.{on_ok_more}
+use Rattle.order_encoding.specs.WholeFormula.{KnowsOverwritten, guard_formula, memory_formula, pool_formula, whole_formula, with_part}
+use Rattle.order_encoding.specs.declared.adding.Part.TheVariants.{Memory, Guard, Pool, Pins}
+use Rattle.order_encoding.proofs.Composed.{come_within, memory_less, over_within}
+use Rattle.order_encoding.proofs.Limits.{guard_is, memory_is, pins_is, pool_is, within_vars}
+use Rattle.order_encoding.proofs.PartSteps.{after_named, before_named, clauses_named, vars_named}
+use Rattle.order_encoding.proofs.adding.extend.Goals as goal
+
+pub extend_by_memory-requires-clause-exist : goal.extend_by_memory-requires-clause-exist
+extend_by_memory-requires-clause-exist c =
+    let g = c.args.facts.now in
+    let table = c.args.table.now in
+    let k = c.args.k in
+    let s = c.args.scope.now in
+    let e = listed_in g table k s in
+    let f = c.args.cnf.now in
+    let before = before_named c.args.part Memory c.in-Memory.is g table k s f c.requires.formula in
+    let long = ap (λ (ls : List Launch). length ls) c.requires.launches in
+    let many : f.vars ≡ (cycle_formula g table k e).vars = ap (λ (x : Formula). x.vars) before in
+    omega arith
+
+pub extend_by_memory-requires-clause-vars : goal.extend_by_memory-requires-clause-vars
+extend_by_memory-requires-clause-vars c =
+    let g = c.args.facts.now in
+    let table = c.args.table.now in
+    let k = c.args.k in
+    let s = c.args.scope.now in
+    let e = listed_in g table k s in
+    let f = c.args.cnf.now in
+    let before = before_named c.args.part Memory c.in-Memory.is g table k s f c.requires.formula in
+    let is = memory_is g table k e c.args.launches.now c.requires.launches f before in
+    subst (λ (x : Formula). x.vars ≤ 262144) (sym is) (vars_named c.args.part Memory c.in-Memory.is g table k s c.requires.within)
+
+pub extend_by_memory-requires-clause-clauses : goal.extend_by_memory-requires-clause-clauses
+extend_by_memory-requires-clause-clauses c =
+    let g = c.args.facts.now in
+    let table = c.args.table.now in
+    let k = c.args.k in
+    let s = c.args.scope.now in
+    let e = listed_in g table k s in
+    let f = c.args.cnf.now in
+    let before = before_named c.args.part Memory c.in-Memory.is g table k s f c.requires.formula in
+    let is = memory_is g table k e c.args.launches.now c.requires.launches f before in
+    subst (λ (x : Formula). length x.clauses ≤ 2000000) (sym is) (clauses_named c.args.part Memory c.in-Memory.is g table k s c.requires.within)
+
+pub returns-in-Memory : goal.returns-in-Memory
+returns-in-Memory c =
+    let g = c.args.facts.now in
+    let table = c.args.table.now in
+    let k = c.args.k in
+    let s = c.args.scope.now in
+    let e = listed_in g table k s in
+    let f = c.args.cnf.now in
+    let before = before_named c.args.part Memory c.in-Memory.is g table k s f c.requires.formula in
+    let is = memory_is g table k e c.args.launches.now c.requires.launches f before in
+    on_ok_more _ _ c.extend_by_memory.result (λ new. after_named c.args.part Memory c.in-Memory.is g table k s c.extend_by_memory.new.cnf (new ∙ is)) c.extend_by_memory.ensures
+
+pub extend_by_guard-requires-clause-exist : goal.extend_by_guard-requires-clause-exist
+extend_by_guard-requires-clause-exist c =
+    let g = c.args.facts.now in
+    let table = c.args.table.now in
+    let k = c.args.k in
+    let s = c.args.scope.now in
+    let e = listed_in g table k s in
+    let f = c.args.cnf.now in
+    let before = before_named c.args.part Guard c.in-Guard.is g table k s f c.requires.formula in
+    let long = ap (λ (ls : List Launch). length ls) c.requires.launches in
+    let many : f.vars ≡ (memory_formula g table k e).vars = ap (λ (x : Formula). x.vars) before in
+    omega arith
+
+pub extend_by_guard-requires-clause-vars : goal.extend_by_guard-requires-clause-vars
+extend_by_guard-requires-clause-vars c =
+    let g = c.args.facts.now in
+    let table = c.args.table.now in
+    let k = c.args.k in
+    let s = c.args.scope.now in
+    let e = listed_in g table k s in
+    let f = c.args.cnf.now in
+    let before = before_named c.args.part Guard c.in-Guard.is g table k s f c.requires.formula in
+    let is = guard_is g table k e c.args.launches.now c.requires.launches f before in
+    subst (λ (x : Formula). x.vars ≤ 262144) (sym is) (vars_named c.args.part Guard c.in-Guard.is g table k s c.requires.within)
+
+pub extend_by_guard-requires-clause-clauses : goal.extend_by_guard-requires-clause-clauses
+extend_by_guard-requires-clause-clauses c =
+    let g = c.args.facts.now in
+    let table = c.args.table.now in
+    let k = c.args.k in
+    let s = c.args.scope.now in
+    let e = listed_in g table k s in
+    let f = c.args.cnf.now in
+    let before = before_named c.args.part Guard c.in-Guard.is g table k s f c.requires.formula in
+    let is = guard_is g table k e c.args.launches.now c.requires.launches f before in
+    subst (λ (x : Formula). length x.clauses ≤ 2000000) (sym is) (clauses_named c.args.part Guard c.in-Guard.is g table k s c.requires.within)
+
+pub returns-in-Guard : goal.returns-in-Guard
+returns-in-Guard c =
+    let g = c.args.facts.now in
+    let table = c.args.table.now in
+    let k = c.args.k in
+    let s = c.args.scope.now in
+    let e = listed_in g table k s in
+    let f = c.args.cnf.now in
+    let before = before_named c.args.part Guard c.in-Guard.is g table k s f c.requires.formula in
+    let is = guard_is g table k e c.args.launches.now c.requires.launches f before in
+    on_ok_more _ _ c.extend_by_guard.result (λ new. after_named c.args.part Guard c.in-Guard.is g table k s c.extend_by_guard.new.cnf (new ∙ is)) c.extend_by_guard.ensures
+
+pub extend_by_pool-requires-clause-exist : goal.extend_by_pool-requires-clause-exist
+extend_by_pool-requires-clause-exist c =
+    let g = c.args.facts.now in
+    let table = c.args.table.now in
+    let k = c.args.k in
+    let s = c.args.scope.now in
+    let e = listed_in g table k s in
+    let f = c.args.cnf.now in
+    let before = before_named c.args.part Pool c.in-Pool.is g table k s f c.requires.formula in
+    let long = ap (λ (ls : List Launch). length ls) c.requires.launches in
+    let many : f.vars ≡ (guard_formula g table k e).vars = ap (λ (x : Formula). x.vars) before in
+    omega arith
+
+pub extend_by_pool-requires-clause-vars : goal.extend_by_pool-requires-clause-vars
+extend_by_pool-requires-clause-vars c =
+    let g = c.args.facts.now in
+    let table = c.args.table.now in
+    let k = c.args.k in
+    let s = c.args.scope.now in
+    let e = listed_in g table k s in
+    let f = c.args.cnf.now in
+    let before = before_named c.args.part Pool c.in-Pool.is g table k s f c.requires.formula in
+    let is = pool_is g table k e c.args.launches.now c.requires.launches f before in
+    subst (λ (x : Formula). x.vars ≤ 262144) (sym is) (vars_named c.args.part Pool c.in-Pool.is g table k s c.requires.within)
+
+pub extend_by_pool-requires-clause-clauses : goal.extend_by_pool-requires-clause-clauses
+extend_by_pool-requires-clause-clauses c =
+    let g = c.args.facts.now in
+    let table = c.args.table.now in
+    let k = c.args.k in
+    let s = c.args.scope.now in
+    let e = listed_in g table k s in
+    let f = c.args.cnf.now in
+    let before = before_named c.args.part Pool c.in-Pool.is g table k s f c.requires.formula in
+    let is = pool_is g table k e c.args.launches.now c.requires.launches f before in
+    subst (λ (x : Formula). length x.clauses ≤ 2000000) (sym is) (clauses_named c.args.part Pool c.in-Pool.is g table k s c.requires.within)
+
+pub returns-in-Pool : goal.returns-in-Pool
+returns-in-Pool c =
+    let g = c.args.facts.now in
+    let table = c.args.table.now in
+    let k = c.args.k in
+    let s = c.args.scope.now in
+    let e = listed_in g table k s in
+    let f = c.args.cnf.now in
+    let before = before_named c.args.part Pool c.in-Pool.is g table k s f c.requires.formula in
+    let is = pool_is g table k e c.args.launches.now c.requires.launches f before in
+    on_ok_more _ _ c.extend_by_pool.result (λ new. after_named c.args.part Pool c.in-Pool.is g table k s c.extend_by_pool.new.cnf (new ∙ is)) c.extend_by_pool.ensures
+
+pub before_branch-branches-requires-clause-few : goal.before_branch-branches-requires-clause-few
+before_branch-branches-requires-clause-few c =
+    let e = listed_in c.args.facts.now c.args.table.now c.args.k c.args.scope.now in
+    let within = subst (λ p. IsTooLarge (with_part p c.args.facts.now c.args.table.now c.args.k e) → ⊥) c.in-Pins.is c.requires.within in
+    within_vars (memory_formula c.args.facts.now c.args.table.now c.args.k e) (λ t. within (memory_less c.args.facts.now c.args.table.now c.args.k e t))
+
+pub extend_by_pins-requires-clause-launches : goal.extend_by_pins-requires-clause-launches
+extend_by_pins-requires-clause-launches c =
+    let g = c.args.facts.now in
+    let table = c.args.table.now in
+    let k = c.args.k in
+    let s = c.args.scope.now in
+    let e = listed_in g table k s in
+    let f = c.args.cnf.now in
+    let before = before_named c.args.part Pins c.in-Pins.is g table k s f c.requires.formula in
+    let over : c.args.overwritten ≡ before_overwritten e = subst (λ p. KnowsOverwritten p c.args.overwritten e) c.in-Pins.is c.requires.overwritten in
+    let branches = c.before_branch-branches.ensures in
+    let long = ap (λ (ls : List Launch). length ls) c.requires.launches in
+    omega arith
+
+pub extend_by_pins-requires-clause-exist : goal.extend_by_pins-requires-clause-exist
+extend_by_pins-requires-clause-exist c =
+    let g = c.args.facts.now in
+    let table = c.args.table.now in
+    let k = c.args.k in
+    let s = c.args.scope.now in
+    let e = listed_in g table k s in
+    let f = c.args.cnf.now in
+    let before = before_named c.args.part Pins c.in-Pins.is g table k s f c.requires.formula in
+    let over : c.args.overwritten ≡ before_overwritten e = subst (λ p. KnowsOverwritten p c.args.overwritten e) c.in-Pins.is c.requires.overwritten in
+    let branches = c.before_branch-branches.ensures in
+    let within = over_within g table k e in
+    omega arith
+
+pub extend_by_pins-requires-clause-branches : goal.extend_by_pins-requires-clause-branches
+extend_by_pins-requires-clause-branches c =
+    let g = c.args.facts.now in
+    let table = c.args.table.now in
+    let k = c.args.k in
+    let s = c.args.scope.now in
+    let e = listed_in g table k s in
+    let f = c.args.cnf.now in
+    let before = before_named c.args.part Pins c.in-Pins.is g table k s f c.requires.formula in
+    let over : c.args.overwritten ≡ before_overwritten e = subst (λ p. KnowsOverwritten p c.args.overwritten e) c.in-Pins.is c.requires.overwritten in
+    let branches = c.before_branch-branches.ensures in
+    let within = come_within g table k e in
+    let many : f.vars ≡ (pool_formula g table k e).vars = ap (λ (x : Formula). x.vars) before in
+    omega arith
+
+pub extend_by_pins-requires-clause-vars : goal.extend_by_pins-requires-clause-vars
+extend_by_pins-requires-clause-vars c =
+    let g = c.args.facts.now in
+    let table = c.args.table.now in
+    let k = c.args.k in
+    let s = c.args.scope.now in
+    let e = listed_in g table k s in
+    let f = c.args.cnf.now in
+    let before = before_named c.args.part Pins c.in-Pins.is g table k s f c.requires.formula in
+    let over : c.args.overwritten ≡ before_overwritten e = subst (λ p. KnowsOverwritten p c.args.overwritten e) c.in-Pins.is c.requires.overwritten in
+    let branches = c.before_branch-branches.ensures in
+    let is = pins_is g table k e c.args.launches.now c.requires.launches f c.args.overwritten c.before_branch-branches.result over branches before in
+    subst (λ (x : Formula). x.vars ≤ 262144) (sym is) (vars_named c.args.part Pins c.in-Pins.is g table k s c.requires.within)
+
+pub extend_by_pins-requires-clause-clauses : goal.extend_by_pins-requires-clause-clauses
+extend_by_pins-requires-clause-clauses c =
+    let g = c.args.facts.now in
+    let table = c.args.table.now in
+    let k = c.args.k in
+    let s = c.args.scope.now in
+    let e = listed_in g table k s in
+    let f = c.args.cnf.now in
+    let before = before_named c.args.part Pins c.in-Pins.is g table k s f c.requires.formula in
+    let over : c.args.overwritten ≡ before_overwritten e = subst (λ p. KnowsOverwritten p c.args.overwritten e) c.in-Pins.is c.requires.overwritten in
+    let branches = c.before_branch-branches.ensures in
+    let is = pins_is g table k e c.args.launches.now c.requires.launches f c.args.overwritten c.before_branch-branches.result over branches before in
+    subst (λ (x : Formula). length x.clauses ≤ 2000000) (sym is) (clauses_named c.args.part Pins c.in-Pins.is g table k s c.requires.within)
+
+pub returns-in-Pins : goal.returns-in-Pins
+returns-in-Pins c =
+    let g = c.args.facts.now in
+    let table = c.args.table.now in
+    let k = c.args.k in
+    let s = c.args.scope.now in
+    let e = listed_in g table k s in
+    let f = c.args.cnf.now in
+    let before = before_named c.args.part Pins c.in-Pins.is g table k s f c.requires.formula in
+    let over : c.args.overwritten ≡ before_overwritten e = subst (λ p. KnowsOverwritten p c.args.overwritten e) c.in-Pins.is c.requires.overwritten in
+    let branches = c.before_branch-branches.ensures in
+    let is = pins_is g table k e c.args.launches.now c.requires.launches f c.args.overwritten c.before_branch-branches.result over branches before in
+    on_ok_more _ _ c.extend_by_pins.result (λ new. after_named c.args.part Pins c.in-Pins.is g table k s c.extend_by_pins.new.cnf (new ∙ is)) c.extend_by_pins.ensures

@@ -1,0 +1,170 @@
+// Rounds of matching over goals, and goals that are made from a number.
+ghost use Rattle.std.specs.Prelude.{◌<◌, ◌≤◌, ◌^◌, Contains, length};
+ghost use Rattle.goal_meaning.specs.Views.{goal_view, input_view};
+ghost use Rattle.goal_meaning.specs.WellFormed.{IsInput};
+
+use case_files::{Trouble, Words, faulty, put, put_number, put_numbers, split_line};
+use goal_reader::{Goal, Input, read, read_inputs_are_well_formed};
+use graph_meaning::LaunchGraph;
+use items::NoMemory;
+use launch_graph::print;
+use saturation::{
+    SaturateFault, Saturated, StartFault, Stop, grown_graphs_can_be_launched, rules, saturate,
+    start, to_launch,
+};
+use std::alloc::Global;
+use text_core::TextFault;
+
+/// Why a text gives no graph.
+#[derive(Clone, Copy, Debug, PartialEq, Eq)]
+enum Refused {
+    Text(TextFault),
+    Clash(u64, u64),
+    Memory,
+}
+
+impl From<TextFault> for Refused {
+    fn from(fault: TextFault) -> Refused {
+        Refused::Text(fault)
+    }
+}
+
+impl From<NoMemory> for Refused {
+    fn from(_: NoMemory) -> Refused {
+        Refused::Memory
+    }
+}
+
+impl From<StartFault> for Refused {
+    fn from(fault: StartFault) -> Refused {
+        match fault {
+            StartFault::NoWorld { a, b, .. } => Refused::Clash(a, b),
+            StartFault::Memory => Refused::Memory,
+        }
+    }
+}
+
+impl From<SaturateFault> for Refused {
+    fn from(fault: SaturateFault) -> Refused {
+        match fault {
+            SaturateFault::NoWorld { a, b, .. } => Refused::Clash(a, b),
+            SaturateFault::Memory => Refused::Memory,
+        }
+    }
+}
+
+/// A goal of an input after rounds.
+fn grown_goal(
+    alloc: Global,
+    input: &Input,
+    goal: &Goal,
+    rounds: u32,
+    nodes: u32,
+) -> Result<Saturated, Refused>
+    requires input { IsInput (input_view input.now) }
+    requires goal { Contains (input_view input.now).goals (goal_view goal.now) }
+    requires rounds { rounds ≤ 16 }
+    requires nodes { nodes ≤ 4096 }
+{
+    let program = rules(alloc, input)?;
+    let graph = start(alloc, goal)?;
+    Ok(saturate(alloc, graph, &program, rounds, nodes)?)
+}
+
+/// The first goal of the text after rounds.
+fn grown(alloc: Global, text: &[u8], rounds: u32, nodes: u32) -> Result<Saturated, Refused>
+    requires text { length text.now < 2 ^ 29 }
+    requires rounds { rounds ≤ 16 }
+    requires nodes { nodes ≤ 4096 }
+{
+    read_inputs_are_well_formed();
+    let input = read(alloc, text)?;
+    let Some(goal) = input.goals.as_slice().first() else {
+        return Err(Refused::Memory);
+    };
+    grown_goal(alloc, &input, goal, rounds, nodes)
+}
+
+/// A line for a graph after rounds: its rows, the rounds, and why they ended.
+fn put_grown(report: &mut Vec<u8>, grown: &Saturated) -> Result<(), Trouble> {
+    let stop = match grown.stop {
+        Stop::Quiet => b" quiet\n".as_slice(),
+        Stop::Rounds => b" rounds\n".as_slice(),
+        Stop::Full => b" full\n".as_slice(),
+    };
+    put(report, b"rows")?;
+    put_number(report, u64::from(grown.graph.rows()))?;
+    put(report, b" rounds")?;
+    put_number(report, u64::from(grown.rounds))?;
+    put(report, stop)
+}
+
+/// What rounds came to.
+fn told(alloc: Global, grown: Result<Saturated, Refused>) -> Result<Vec<u8>, Trouble> {
+    let mut report = Vec::new(alloc);
+    match grown {
+        Ok(grown) => put_grown(&mut report, &grown)?,
+        Err(Refused::Clash(a, b)) => {
+            put_numbers(&mut report, b"clash", &[a.min(b), a.max(b)])?;
+        }
+        Err(Refused::Text(fault)) => return faulty(alloc, fault),
+        Err(Refused::Memory) => return Err(Trouble::Memory),
+    }
+    Ok(report)
+}
+
+/// Input: a line `ROUNDS NODES` and a text. Answers with the rows, rounds and stop of its first goal's graph after at
+/// most ROUNDS rounds and with the limit NODES on rows, or with the two constants that met.
+pub(crate) fn rounds(alloc: Global, input: &[u8]) -> Result<Vec<u8>, Trouble>
+    requires { length input.now ≤ 2 ^ 24 }
+{
+    let (head, text) = split_line(input);
+    let mut words = Words { rest: head };
+    let (rounds, nodes) = (words.small()?, words.small()?);
+    if rounds > 16 || nodes > 4096 {
+        return Err(Trouble::Unread);
+    }
+    told(alloc, grown(alloc, text, rounds, nodes))
+}
+
+/// The graph of a goal after no round.
+fn first_graph(alloc: Global, input: &Input, goal: &Goal) -> Result<LaunchGraph, Refused>
+    requires input { IsInput (input_view input.now) }
+    requires goal { Contains (input_view input.now).goals (goal_view goal.now) }
+{
+    grown_graphs_can_be_launched();
+    let program = rules(alloc, input)?;
+    let graph = start(alloc, goal)?;
+    let grown = saturate(alloc, graph, &program, 0, 512)?;
+    Ok(to_launch(alloc, &grown, goal, input)?)
+}
+
+/// The lines of the first goal's graph after no round.
+fn launch(alloc: Global, text: &[u8]) -> Result<Vec<u8>, Refused>
+    requires text { length text.now < 2 ^ 29 }
+{
+    read_inputs_are_well_formed();
+    let input = read(alloc, text)?;
+    let Some(goal) = input.goals.as_slice().first() else {
+        return Err(Refused::Memory);
+    };
+    let launched = first_graph(alloc, &input, goal)?;
+    Ok(print(alloc, &launched)?)
+}
+
+/// The lines of the graph of a text's first goal after no round.
+pub(crate) fn launched(alloc: Global, input: &[u8]) -> Result<Vec<u8>, Trouble>
+    requires { length input.now ≤ 2 ^ 24 }
+{
+    launch(alloc, input).ok().ok_or(Trouble::Unread)
+}
+
+/// The text of the goal of so many operators.
+pub(crate) fn generated(alloc: Global, input: &[u8]) -> Result<Vec<u8>, Trouble> {
+    let size = Words { rest: input }.small()?;
+    if size < 1 || 20 < size {
+        return Err(Trouble::Unread);
+    }
+    let made: Input = generated_goals::generated(alloc, size)?;
+    Ok(goal_reader::print(alloc, &made)?)
+}

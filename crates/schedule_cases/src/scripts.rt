@@ -1,0 +1,300 @@
+// E-graphs that are made by a script, and what matches in them.
+ghost use Rattle.std.specs.Prelude.{◌<◌, length};
+
+use crate::building::{join, put_row};
+use crate::equalities::kind_of;
+use axiom_base::{Rule, equations};
+use case_files::{Lines, Trouble, Words, put, put_line, put_numbers};
+use egraph::{Egraph, MergeFault};
+use pattern_match::{Match, calc_matches, calc_need, calc_unmet, folds, matches, need, unmet};
+use std::alloc::Global;
+use word_ops::{Arity, Op, op_of};
+
+/// A script's graph, what it has said, and whether inserts say nothing.
+#[derive(Drop)]
+struct Script {
+    graph: Egraph<Op>,
+    report: Vec<u8>,
+    is_silent: bool,
+}
+
+/// The first of the classes that are one with a class.
+fn first_of(graph: &Egraph<Op>, class: u32) -> u64 {
+    if class >= graph.made() {
+        return u64::MAX;
+    }
+    for other in 0..graph.made() {
+        if graph.now(other) == graph.now(class) {
+            return u64::from(other);
+        }
+    }
+    u64::from(class)
+}
+
+/// The operator that a word names for so many operands. `input`, `const` and `use` have a number behind them.
+pub(crate) fn operator(name: &[u8], words: &mut Words<'_>) -> Result<Option<Op>, Trouble> {
+    if name == b"memory".as_slice() {
+        Ok(Some(Op::Entry))
+    } else if name == b"input".as_slice() {
+        Ok(Some(Op::Input((words.small()? % 31) as u8)))
+    } else if name == b"const".as_slice() {
+        Ok(Some(Op::Constant(words.number()?)))
+    } else if name == b"select".as_slice() {
+        Ok(Some(Op::Select))
+    } else if name == b"store".as_slice() {
+        Ok(Some(Op::Store))
+    } else if name == b"load".as_slice() {
+        Ok(Some(Op::Load))
+    } else if name == b"put".as_slice() {
+        Ok(Some(Op::Put))
+    } else {
+        Ok(op_of(name).map(Op::Word))
+    }
+}
+
+/// The declared operator of a number, with as many operands as the line has.
+pub(crate) fn declared(index: u32, operands: usize) -> Result<Op, Trouble> {
+    let arity = match operands {
+        1 => Arity::One,
+        2 => Arity::Two,
+        3 => Arity::Three,
+        4 => Arity::Four,
+        _ => return Err(Trouble::Unread),
+    };
+    Ok(Op::Declared {
+        index: (index % 16) as u8,
+        arity,
+    })
+}
+
+/// The classes that are left on a line.
+pub(crate) fn classes(alloc: Global, words: &mut Words<'_>) -> Result<Vec<u32>, Trouble> {
+    let mut classes = Vec::new(alloc);
+    for _ in 0..4 {
+        if words.rest.is_empty() {
+            break;
+        }
+        classes.push(words.small()?)?;
+    }
+    Ok(classes)
+}
+
+/// Lines in the order of their bytes.
+fn put_sorted(report: &mut Vec<u8>, mut lines: Vec<Vec<u8>>) -> Result<(), Trouble> {
+    lines.sort()?;
+    for line in &lines {
+        put(report, line)?;
+    }
+    Ok(())
+}
+
+/// A line for each match: the first of the classes that are one with each of its classes.
+fn put_matches(
+    alloc: Global,
+    graph: &Egraph<Op>,
+    report: &mut Vec<u8>,
+    found: &[Match],
+) -> Result<(), Trouble> {
+    let mut lines = Vec::new(alloc);
+    for one in found {
+        let mut numbers = Vec::new(alloc);
+        for class in one.classes.as_slice() {
+            numbers.push(first_of(graph, *class))?;
+        }
+        let mut line = Vec::new(alloc);
+        put_numbers(&mut line, b"match", &numbers)?;
+        lines.push(line)?;
+    }
+    put_sorted(report, lines)
+}
+
+/// A line for each fold, by the first of the classes that are one with its class.
+fn put_folds(alloc: Global, script: &mut Script) -> Result<(), Trouble> {
+    let mut lines = Vec::new(alloc);
+    for fold in folds(alloc, &script.graph)?.as_slice() {
+        let mut line = Vec::new(alloc);
+        let class = first_of(&script.graph, fold.class);
+        put_numbers(&mut line, b"fold", &[class, fold.value])?;
+        lines.push(line)?;
+    }
+    put_sorted(&mut script.report, lines)
+}
+
+/// The number of rows.
+fn put_rows(graph: &Egraph<Op>, report: &mut Vec<u8>) -> Result<(), Trouble> {
+    put_numbers(report, b"rows", &[u64::from(graph.rows())])
+}
+
+/// The number of rows, and a line for each class ever made: the first that is one with it, and its constant.
+fn put_classes(graph: &Egraph<Op>, report: &mut Vec<u8>) -> Result<(), Trouble> {
+    put_rows(graph, report)?;
+    for class in 0..graph.made() {
+        let first = first_of(graph, class);
+        match graph.constant_of(class) {
+            Some(word) => put_numbers(report, b"class", &[first, word])?,
+            None => put_numbers(report, b"class", &[first])?,
+        }
+    }
+    Ok(())
+}
+
+/// What an equation matches, where `C` doesn't stand before the number, or else a computed rule.
+fn put_found(
+    alloc: Global,
+    rules: &[Rule],
+    script: &mut Script,
+    verb: &[u8],
+    rule: &[u8],
+) -> Result<(), Trouble> {
+    if let Some(number) = rule.strip_prefix(b"C") {
+        let kind = kind_of(Words { rest: number }.small()?)?;
+        if verb == b"need".as_slice() {
+            let need = calc_need(alloc, &script.graph, kind)?;
+            return put_numbers(&mut script.report, b"need", &[need]);
+        }
+        let found = if verb == b"unmet".as_slice() {
+            calc_unmet(alloc, &script.graph, kind)?
+        } else {
+            calc_matches(alloc, &script.graph, kind)?
+        };
+        return put_matches(alloc, &script.graph, &mut script.report, found.as_slice());
+    }
+    let number = Words { rest: rule }.small()?;
+    let at = number.wrapping_sub(1) as usize;
+    let rule = rules.get(at).ok_or(Trouble::Unread)?;
+    if verb == b"need".as_slice() {
+        let need = need(alloc, &script.graph, rule)?;
+        return put_numbers(&mut script.report, b"need", &[need]);
+    }
+    let found = if verb == b"unmet".as_slice() {
+        unmet(alloc, &script.graph, rule)?
+    } else {
+        matches(alloc, &script.graph, rule)?
+    };
+    put_matches(alloc, &script.graph, &mut script.report, found.as_slice())
+}
+
+/// Inserts the row of a line, and says its class, but in a silent script.
+fn insert(
+    alloc: Global,
+    script: &mut Script,
+    name: &[u8],
+    words: &mut Words<'_>,
+) -> Result<(), Trouble> {
+    let class = if name == b"use".as_slice() {
+        let index = words.small()?;
+        let operands = classes(alloc, words)?;
+        let op = declared(index, operands.len())?;
+        put_row(&mut script.graph, op, &operands)?
+    } else {
+        let op = operator(name, words)?.ok_or(Trouble::Unread)?;
+        let operands = classes(alloc, words)?;
+        put_row(&mut script.graph, op, &operands)?
+    };
+    if script.is_silent {
+        return Ok(());
+    }
+    let first = first_of(&script.graph, class);
+    put_numbers(&mut script.report, b"is", &[first])
+}
+
+/// Does what a line asks, but for a merge.
+fn ask(alloc: Global, rules: &[Rule], script: &mut Script, line: &[u8]) -> Result<(), Trouble> {
+    let mut words = Words { rest: line };
+    let verb = words.word()?;
+    if verb == b"folds".as_slice() {
+        put_folds(alloc, script)
+    } else if verb == b"classes".as_slice() {
+        put_classes(&script.graph, &mut script.report)
+    } else if verb == b"rows".as_slice() {
+        put_rows(&script.graph, &mut script.report)
+    } else if verb == b"silent".as_slice() {
+        script.is_silent = true;
+        Ok(())
+    } else if verb == b"matches".as_slice()
+        || verb == b"unmet".as_slice()
+        || verb == b"need".as_slice()
+    {
+        let rule = words.word()?;
+        put_found(alloc, rules, script, verb, rule)
+    } else {
+        insert(alloc, script, verb, &mut words)
+    }
+}
+
+/// The two classes of a merge.
+pub(crate) fn pair(line: &[u8]) -> Result<(u32, u32), Trouble> {
+    let mut words = Words { rest: line };
+    Ok((words.small()?, words.small()?))
+}
+
+/// The script after a merge, or what it said where two constants met.
+fn merged(script: Script, a: u32, b: u32) -> Result<Result<Script, Vec<u8>>, Trouble> {
+    let Script {
+        graph,
+        mut report,
+        is_silent,
+    } = script;
+    match join(graph, a, b)? {
+        Ok(graph) => Ok(Ok(Script {
+            graph,
+            report,
+            is_silent,
+        })),
+        Err(MergeFault::NoWorld { a, b, .. }) => {
+            put_numbers(&mut report, b"clash", &[a.min(b), a.max(b)])?;
+            Ok(Err(report))
+        }
+        Err(MergeFault::Memory) => Err(Trouble::Memory),
+    }
+}
+
+/// The script after a line, or what it said where two constants met.
+fn done(
+    alloc: Global,
+    rules: &[Rule],
+    mut script: Script,
+    line: &[u8],
+) -> Result<Result<Script, Vec<u8>>, Trouble> {
+    match line.strip_prefix(b"merge ") {
+        Some(classes) => match pair(classes) {
+            Ok((a, b)) => merged(script, a, b),
+            Err(trouble) => Err(trouble),
+        },
+        None => match ask(alloc, rules, &mut script, line) {
+            Ok(()) => Ok(Ok(script)),
+            Err(trouble) => Err(trouble),
+        },
+    }
+}
+
+/// What the lines say.
+fn done_all(alloc: Global, rules: &[Rule], input: &[u8]) -> Result<Vec<u8>, Trouble> {
+    let mut script = Script {
+        graph: Egraph::new(alloc),
+        report: Vec::new(alloc),
+        is_silent: false,
+    };
+    let mut lines = Lines { rest: input };
+    for _ in 0..input.len() {
+        let Some(line) = lines.next() else {
+            break;
+        };
+        match done(alloc, rules, script, line)? {
+            Ok(next) => script = next,
+            Err(report) => return Ok(report),
+        }
+    }
+    let Script { report, .. } = script;
+    Ok(report)
+}
+
+/// Input: lines that make an E-graph and ask of it. `OP CLASS..` inserts a row, as in the lines of a graph, and says
+/// the class; `merge A B` joins two classes, and where two constants meet it says so and ends; `matches R`, `unmet R`
+/// and `need R` ask of an equation by its number, or of a computed rule by `C` and its number; `folds` and `classes`
+/// list these, and `rows` counts rows. A class is named by the first of the classes that are one with it. Behind a line
+/// `silent` inserts say nothing.
+pub(crate) fn scripts(alloc: Global, input: &[u8]) -> Result<Vec<u8>, Trouble> {
+    let rules = equations(alloc)?;
+    done_all(alloc, rules.as_slice(), input)
+}

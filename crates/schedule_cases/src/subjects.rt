@@ -1,0 +1,81 @@
+// What these cases ask: the subjects by their names.
+use crate::{clauses, equalities, formulas, rounds, schedules, scripts, searches};
+use case_files::{Trouble, Whole};
+use std::alloc::Global;
+
+/// What the cases of a file ask.
+#[derive(Clone, Copy, Debug, PartialEq, Eq)]
+pub(crate) enum Subject {
+    Equations,
+    Computed,
+    Constants,
+    Scripts,
+    Rounds,
+    Launched,
+    Generated,
+    Fits,
+    Listings,
+    Formulas,
+    NarrowFormulas,
+    PinnedFormulas,
+    Counters,
+    LineTexts,
+    Refutations,
+    Searches,
+}
+
+/// The name of each subject.
+const NAMES: [(&str, Subject); 16] = [
+    ("equations", Subject::Equations),
+    ("computed", Subject::Computed),
+    ("constants", Subject::Constants),
+    ("scripts", Subject::Scripts),
+    ("rounds", Subject::Rounds),
+    ("launched", Subject::Launched),
+    ("generated", Subject::Generated),
+    ("fits", Subject::Fits),
+    ("listings", Subject::Listings),
+    ("formulas", Subject::Formulas),
+    ("narrow-formulas", Subject::NarrowFormulas),
+    ("pinned-formulas", Subject::PinnedFormulas),
+    ("counters", Subject::Counters),
+    ("line-texts", Subject::LineTexts),
+    ("refutations", Subject::Refutations),
+    ("searches", Subject::Searches),
+];
+
+impl case_files::Subject for Subject {
+    fn named(name: &[u8]) -> Option<Subject> {
+        for (known, subject) in &NAMES {
+            if known.as_bytes() == name {
+                return Some(*subject);
+            }
+        }
+        None
+    }
+
+    fn answer(self, alloc: Global, input: &[u8]) -> Result<Vec<u8>, Trouble> {
+        match self {
+            Subject::Equations => equalities::equations(alloc, input),
+            Subject::Computed => equalities::computed(alloc, input),
+            Subject::Constants => equalities::constants(alloc, input),
+            Subject::Scripts => scripts::scripts(alloc, input),
+            Subject::Rounds => rounds::rounds(alloc, input),
+            Subject::Launched => rounds::launched(alloc, input),
+            Subject::Generated => rounds::generated(alloc, input),
+            Subject::Fits => schedules::fits(alloc, input),
+            Subject::Listings => schedules::listings(alloc, input),
+            Subject::Formulas => formulas::formulas(alloc, input),
+            Subject::NarrowFormulas => formulas::narrow_formulas(alloc, input),
+            Subject::PinnedFormulas => formulas::pinned_formulas(alloc, input),
+            Subject::Counters => clauses::counters(alloc, input),
+            Subject::LineTexts => clauses::line_texts(alloc, input),
+            Subject::Refutations => clauses::refutations(alloc, input),
+            Subject::Searches => searches::searches(alloc, input),
+        }
+    }
+
+    fn whole_file(_ending: &str) -> Option<Whole<Subject>> {
+        None
+    }
+}
