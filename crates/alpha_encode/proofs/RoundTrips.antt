@@ -3,13 +3,14 @@ use Rattle.std.proofs.Common.{◌≡◌, ℕ, ◌/◌, ◌%◌, ◌^◌, ◌<◌
 use Rattle.std.proofs.lemmas.Bool.{false≢true}
 use Rattle.std.proofs.lemmas.Bool.Decides.{nat_tests}
 use Rattle.std.specs.Option.{option_map, option_and_then, option_map_or}
-use Rattle.word_ops.specs.declared.operators.WordOp.{WordOp}
-use Rattle.word_ops.specs.Operators.{operators}
+use Rattle.word_ops.specs.declared.operates.Operate.{Operate as OperateOf}
+use Rattle.word_ops.specs.declared.sorts.Access.TheVariants.{Quad}
+use Rattle.word_ops.specs.Operates.{operates, code_of, has_code}
 use Rattle.alpha_encode.specs.declared.instructions.Second.{Second}
 use Rattle.alpha_encode.specs.declared.instructions.Second.TheVariants.{Reg, Literal}
 use Rattle.alpha_encode.specs.declared.instructions.Instr.{Instr}
-use Rattle.alpha_encode.specs.declared.instructions.Instr.TheVariants.{Operate, Lda, Ldah, LdqU, StqU, Beq}
-use Rattle.alpha_encode.specs.Codes.{code_of, has_code, operate_of, is_unary}
+use Rattle.alpha_encode.specs.declared.instructions.Instr.TheVariants.{Operate, Lda, Ldah, Load, Store, Beq}
+use Rattle.alpha_encode.specs.Codes.{operate_of, is_unary}
 use Rattle.alpha_encode.specs.Formats.{IsWellFormed, IsSecond, operate_word, second_bits, encoded}
 use Rattle.alpha_encode.specs.Decoded.{field, opcode, ra, rb, displacement, branch_displacement, second, allows_ra, operate_with, operate, decoded}
 use Rattle.alpha_encode.proofs.CodeSearch.{IsOperateCode, code_in_range, find-own_code}
@@ -49,17 +50,17 @@ second_bits-lt : (s : Second) → IsSecond s → second_bits s < 2 ^ 9
 second_bits-lt (Reg b) h = omega arith
 second_bits-lt (Literal n) h = omega arith
 
-allowed : (op : WordOp) (r : ℕ) → (IsTrue (is_unary op) → r ≡ 31) → allows_ra op r ≡ true
+allowed : (op : OperateOf) (r : ℕ) → (IsTrue (is_unary op) → r ≡ 31) → allows_ra op r ≡ true
 allowed op r h = at (is_unary op) h
   where
     at : (b : Bool) → (IsTrue b → r ≡ 31) → cond b (r == 31) true ≡ true
     at true h = let e = h refl in grind (arith, nat_tests)
     at false h = refl
 
-abbrev built : WordOp → Bool → ℕ → ℕ → Option Second → Option Instr
+abbrev built : OperateOf → Bool → ℕ → ℕ → Option Second → Option Instr
 built op b r c s = if b then option_map (λ second. Operate op r second c) s else None
 
-operate_back : (op : WordOp) (code : ℕ × ℕ) (r : ℕ) (s : Second) (c : ℕ) → IsOperateCode code → find (has_code code.0 code.1) operators ≡ Some op →
+operate_back : (op : OperateOf) (code : ℕ × ℕ) (r : ℕ) (s : Second) (c : ℕ) → IsOperateCode code → find (has_code code.0 code.1) operates ≡ Some op →
     r < 32 → IsSecond s → c < 32 → (IsTrue (is_unary op) → r ≡ 31) → decoded (operate_word code r (second_bits s) c) ≡ Some (Operate op r s c)
 operate_back op code r s c ranges own hr hs hc unary =
     let word : ℕ = operate_word code r (second_bits s) c in
@@ -70,19 +71,13 @@ operate_back op code r s c ranges own hr hs hc unary =
     ∙ ap (λ b. built op b r (field word 0 5) (second word)) (allowed op r unary)
     ∙ ap₂ (λ n o. built op true r n o) e.rc_is (second_back word code.0 r code.1 c s hs e)
 
-operate_case : (op : WordOp) (code : Option (ℕ × ℕ)) (r : ℕ) (s : Second) (c : ℕ) → IsSome code → MatchOption code (Unit {0}) IsOperateCode →
-    MatchOption code (Unit {0}) (λ code. find (has_code code.0 code.1) operators ≡ Some op) → r < 32 → IsSecond s → c < 32 → (IsTrue (is_unary op) → r ≡ 31) →
-    decoded (option_map_or (λ code. operate_word code r (second_bits s) c) code 0) ≡ Some (Operate op r s c)
-operate_case op None r s c is ranges own hr hs hc unary = absurd (false≢true is)
-operate_case op (Some code) r s c is ranges own hr hs hc unary = operate_back op code r s c ranges own hr hs hc unary
-
 -- an instruction's word has that instruction
 pub decoded_encoded : (i : Instr) → IsWellFormed i → decoded (encoded i) ≡ Some i
-decoded_encoded (Operate op ra second rc) h = operate_case op (code_of op) ra second rc h.0 (code_in_range op) (find-own_code op) h.1 h.2 h.3 h.4
+decoded_encoded (Operate op ra second rc) h = operate_back op (code_of op) ra second rc (code_in_range op) (find-own_code op) h.0 h.1 h.2 h.3
 decoded_encoded (Lda ra rb disp) h = search rules
 decoded_encoded (Ldah ra rb disp) h = search rules
-decoded_encoded (LdqU ra rb disp) h = search rules
-decoded_encoded (StqU ra rb disp) h = search rules
+decoded_encoded (Load Quad ra rb disp) h = search rules
+decoded_encoded (Store Quad ra rb disp) h = search rules
 decoded_encoded (Beq ra (pos n)) h = grind (arith, nat_tests)
 decoded_encoded (Beq ra (negsuc n)) h = grind (arith, nat_tests)
 
@@ -100,10 +95,10 @@ lda_sound word h e = search rules
 ldah_sound : (word : ℕ) → word < 2 ^ 32 → (opcode word == 0x09) ≡ true → IsSound word (Some (Ldah (ra word) (rb word) (displacement word)))
 ldah_sound word h e = search rules
 
-ldq_u_sound : (word : ℕ) → word < 2 ^ 32 → (opcode word == 0x0B) ≡ true → IsSound word (Some (LdqU (ra word) (rb word) (displacement word)))
+ldq_u_sound : (word : ℕ) → word < 2 ^ 32 → (opcode word == 0x0B) ≡ true → IsSound word (Some (Load Quad (ra word) (rb word) (displacement word)))
 ldq_u_sound word h e = search rules
 
-stq_u_sound : (word : ℕ) → word < 2 ^ 32 → (opcode word == 0x0F) ≡ true → IsSound word (Some (StqU (ra word) (rb word) (displacement word)))
+stq_u_sound : (word : ℕ) → word < 2 ^ 32 → (opcode word == 0x0F) ≡ true → IsSound word (Some (Store Quad (ra word) (rb word) (displacement word)))
 stq_u_sound word h e = search rules
 
 beq_sound : (word : ℕ) → word < 2 ^ 32 → (opcode word == 0x39) ≡ true → IsSound word (Some (Beq (ra word) (branch_displacement word)))
@@ -134,7 +129,7 @@ some_is a b e = cc
 none_some : {X : Type 0} (a : X) → None ≡ Some a → ⊥
 none_some a e = cc
 
-found_true : (p : WordOp → Bool) (ops : List WordOp) (op : WordOp) → find p ops ≡ Some op → p op ≡ true
+found_true : (p : OperateOf → Bool) (ops : List OperateOf) (op : OperateOf) → find p ops ≡ Some op → p op ≡ true
 found_true p [] op e = absurd (none_some op e)
 found_true p (first ∷ rest) op e = at (p first) refl e (found_true p rest op)
   where
@@ -142,26 +137,25 @@ found_true p (first ∷ rest) op e = at (p first) refl e (found_true p rest op)
     at true t e later = subst (λ x. p x ≡ true) (some_is first op e) t
     at false t e later = later e
 
-code_found : (o f : ℕ) (code : Option (ℕ × ℕ)) → option_map_or (λ c. c.0 == o && c.1 == f) code false ≡ true → code ≡ Some (o, f)
-code_found o f None e = absurd (false≢true e)
-code_found o f (Some (p, q)) e =
-    let first : p ≡ o = grind (arith, nat_tests, e) in
-    let last : q ≡ f = grind (arith, nat_tests, e) in
-    ap₂ (λ x y. Some (x, y)) first last
+code_found : (o f : ℕ) (op : OperateOf) → has_code o f op ≡ true → code_of op ≡ (o, f)
+code_found o f op e =
+    let first : (code_of op).0 ≡ o = grind (arith, nat_tests, e) in
+    let last : (code_of op).1 ≡ f = grind (arith, nat_tests, e) in
+    ap₂ (λ x y. (x, y)) first last
 
 only_31 : (unary : Bool) (r : ℕ) → cond unary (r == 31) true ≡ true → unary ≡ true → r ≡ 31
 only_31 true r e u = grind (arith, nat_tests, e)
 only_31 false r e u = absurd (false≢true u)
 
-operate_of_sound : (op : WordOp) (word : ℕ) → word < 2 ^ 32 → code_of op ≡ Some (opcode word, field word 5 7) → allows_ra op (ra word) ≡ true →
+operate_of_sound : (op : OperateOf) (word : ℕ) → word < 2 ^ 32 → code_of op ≡ (opcode word, field word 5 7) → allows_ra op (ra word) ≡ true →
     (s : Second) → IsSecond s × (second_bits s ≡ field word 12 9) → IsSound word (Some (Operate op (ra word) s (field word 0 5)))
 operate_of_sound op word h code allows s f = (
-  (subst (λ (c : Option (ℕ × ℕ)). IsSome c) (sym code) refl, omega arith, f.0, omega arith, only_31 (is_unary op) (ra word) allows),
-  ap (λ (c : Option (ℕ × ℕ)). option_map_or (λ code. operate_word code (ra word) (second_bits s) (field word 0 5)) c 0) code
+  (omega arith, f.0, omega arith, only_31 (is_unary op) (ra word) allows),
+  ap (λ c. operate_word c (ra word) (second_bits s) (field word 0 5)) code
       ∙ operate_word_of_fields word (opcode word, field word 5 7) (second_bits s) h refl refl f.1,
 )
 
-operate_with_sound : (word : ℕ) → word < 2 ^ 32 → (op : WordOp) → code_of op ≡ Some (opcode word, field word 5 7) → IsSound word (operate_with word op)
+operate_with_sound : (word : ℕ) → word < 2 ^ 32 → (op : OperateOf) → code_of op ≡ (opcode word, field word 5 7) → IsSound word (operate_with word op)
 operate_with_sound word h op code =
     choose (IsSound word) _ _ _ (λ e. with_second (second word) (second_sound word) e) (λ _. tt)
   where
@@ -172,9 +166,9 @@ operate_with_sound word h op code =
 operate_sound : (word : ℕ) → word < 2 ^ 32 → IsSound word (operate word)
 operate_sound word h = at (operate_of (opcode word) (field word 5 7)) refl
   where
-    at : (found : Option WordOp) → operate_of (opcode word) (field word 5 7) ≡ found → IsSound word (option_and_then (operate_with word) found)
+    at : (found : Option OperateOf) → operate_of (opcode word) (field word 5 7) ≡ found → IsSound word (option_and_then (operate_with word) found)
     at None e = tt
-    at (Some op) e = operate_with_sound word h op (code_found (opcode word) (field word 5 7) (code_of op) (found_true (has_code (opcode word) (field word 5 7)) operators op e))
+    at (Some op) e = operate_with_sound word h op (code_found (opcode word) (field word 5 7) op (found_true (has_code (opcode word) (field word 5 7)) operates op e))
 
 pub sound : (word : ℕ) → word < 2 ^ 32 → IsSound word (decoded word)
 sound word h =

@@ -3,12 +3,13 @@
 -- isn't in the table, bits 15..13 that aren't zero beside a register, and a Ra other than 31 in sextb and sextw.
 use Rattle.std.specs.Prelude.{ℕ, ℤ, pos, negsuc, suc, ◌-◌, ◌/◌, ◌%◌, ◌^◌, ◌==◌, nat_lt, Bool, true, if◌then◌else◌, Option, Some, None}
 use Rattle.std.specs.Option.{option_map, option_and_then}
-use Rattle.word_ops.specs.declared.operators.WordOp.{WordOp}
+use Rattle.word_ops.specs.declared.operates.Operate.{Operate as OperateOf}
+use Rattle.word_ops.specs.declared.sorts.Access.TheVariants.{Quad}
 use Rattle.alpha_encode.specs.declared.instructions.Second.{Second}
 use Rattle.alpha_encode.specs.declared.instructions.Second.TheVariants.{Reg, Literal}
 use Rattle.alpha_encode.specs.declared.instructions.Instr.{Instr}
-use Rattle.alpha_encode.specs.declared.instructions.Instr.TheVariants.{Operate, Lda, Ldah, LdqU, StqU, Beq}
-use Rattle.alpha_encode.specs.Codes.{lda_opcode, ldah_opcode, ldq_u_opcode, stq_u_opcode, beq_opcode, operate_of, is_unary}
+use Rattle.alpha_encode.specs.declared.instructions.Instr.TheVariants.{Operate, Lda, Ldah, Load, Store, Beq}
+use Rattle.alpha_encode.specs.Codes.{lda_opcode, ldah_opcode, load_opcode, store_opcode, beq_opcode, operate_of, is_unary}
 
 -- the field of some width whose lowest bit is `low`
 abbrev pub field : ℕ → ℕ → ℕ → ℕ
@@ -39,10 +40,10 @@ second word =
     (if field word 13 3 == 0 then Some (Reg (rb word)) else None)
 
 -- whether register ra may stand in an operate: in one of one operand only 31
-abbrev pub allows_ra : WordOp → ℕ → Bool
+abbrev pub allows_ra : OperateOf → ℕ → Bool
 allows_ra op ra = if is_unary op then ra == 31 else true
 
-abbrev pub operate_with : ℕ → WordOp → Option Instr
+abbrev pub operate_with : ℕ → OperateOf → Option Instr
 operate_with word op =
     if allows_ra op (ra word) then option_map (λ second. Operate op (ra word) second (field word 0 5))
     (second word) else None
@@ -54,7 +55,7 @@ abbrev pub decoded : ℕ → Option Instr
 decoded word =
     if opcode word == lda_opcode then Some (Lda (ra word) (rb word) (displacement word)) else
     (if opcode word == ldah_opcode then Some (Ldah (ra word) (rb word) (displacement word)) else
-    (if opcode word == ldq_u_opcode then Some (LdqU (ra word) (rb word) (displacement word)) else
-    (if opcode word == stq_u_opcode then Some (StqU (ra word) (rb word) (displacement word)) else
+    (if opcode word == load_opcode Quad then Some (Load Quad (ra word) (rb word) (displacement word)) else
+    (if opcode word == store_opcode Quad then Some (Store Quad (ra word) (rb word) (displacement word)) else
     (if opcode word == beq_opcode then Some (Beq (ra word) (branch_displacement word)) else
     operate word))))

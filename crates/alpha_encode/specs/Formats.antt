@@ -1,13 +1,13 @@
 -- The instruction formats: which instructions there are, and the word of each. From the Alpha Architecture Handbook,
 -- version 4, the memory, branch and operate formats.
-use Rattle.std.specs.Prelude.{◌≡◌, ℕ, ◌+◌, ◌-◌, ◌*◌, ◌^◌, ◌<◌, ℤ, pos, negsuc, suc, IsSome, IsTrue, FitsSigned}
-use Rattle.std.specs.Option.{option_map_or}
+use Rattle.std.specs.Prelude.{◌≡◌, ℕ, ◌+◌, ◌-◌, ◌*◌, ◌^◌, ◌<◌, ℤ, pos, negsuc, suc, IsTrue, FitsSigned}
 use Rattle.std.specs.Int.{w16}
+use Rattle.word_ops.specs.Operates.{code_of}
 use Rattle.alpha_encode.specs.declared.instructions.Second.{Second}
 use Rattle.alpha_encode.specs.declared.instructions.Second.TheVariants.{Reg, Literal}
 use Rattle.alpha_encode.specs.declared.instructions.Instr.{Instr}
-use Rattle.alpha_encode.specs.declared.instructions.Instr.TheVariants.{Operate, Lda, Ldah, LdqU, StqU, Beq}
-use Rattle.alpha_encode.specs.Codes.{lda_opcode, ldah_opcode, ldq_u_opcode, stq_u_opcode, beq_opcode, code_of, is_unary}
+use Rattle.alpha_encode.specs.declared.instructions.Instr.TheVariants.{Operate, Lda, Ldah, Load, Store, Beq}
+use Rattle.alpha_encode.specs.Codes.{lda_opcode, ldah_opcode, load_opcode, store_opcode, beq_opcode, is_unary}
 
 -- the number fits in k bits of two's complement
 abbrev pub FitsBits : ℕ → ℤ → Type 0
@@ -18,15 +18,15 @@ abbrev pub IsSecond : Second → Type 0
 IsSecond (Reg rb) = rb < 32
 IsSecond (Literal n) = n < 2 ^ 8
 
--- an instruction that has a word: its operator is an operate, registers, literal and displacement are in range, and
--- sextb and sextw have register 31 in the place that they don't read
+-- an instruction that has a word: registers, literal and displacement are in range, and sextb and sextw have register 31
+-- in the place that they don't read
 abbrev pub IsWellFormed : Instr → Type 0
 IsWellFormed (Operate op ra second rc) =
-    IsSome (code_of op) × (ra < 32) × IsSecond second × (rc < 32) × (IsTrue (is_unary op) → ra ≡ 31)
+    (ra < 32) × IsSecond second × (rc < 32) × (IsTrue (is_unary op) → ra ≡ 31)
 IsWellFormed (Lda ra rb disp) = (ra < 32) × (rb < 32) × FitsSigned w16 disp
 IsWellFormed (Ldah ra rb disp) = (ra < 32) × (rb < 32) × FitsSigned w16 disp
-IsWellFormed (LdqU ra rb disp) = (ra < 32) × (rb < 32) × FitsSigned w16 disp
-IsWellFormed (StqU ra rb disp) = (ra < 32) × (rb < 32) × FitsSigned w16 disp
+IsWellFormed (Load access ra rb disp) = (ra < 32) × (rb < 32) × FitsSigned w16 disp
+IsWellFormed (Store access ra rb disp) = (ra < 32) × (rb < 32) × FitsSigned w16 disp
 IsWellFormed (Beq ra disp) = (ra < 32) × FitsBits 21 disp
 
 -- the k bits of a number in two's complement
@@ -53,9 +53,9 @@ branch_word opcode ra disp = opcode * 2 ^ 26 + ra * 2 ^ 21 + bits_of 21 disp
 
 -- the word of an instruction
 abbrev pub encoded : Instr → ℕ
-encoded (Operate op ra second rc) = option_map_or (λ code. operate_word code ra (second_bits second) rc) (code_of op) 0
+encoded (Operate op ra second rc) = operate_word (code_of op) ra (second_bits second) rc
 encoded (Lda ra rb disp) = memory_word lda_opcode ra rb disp
 encoded (Ldah ra rb disp) = memory_word ldah_opcode ra rb disp
-encoded (LdqU ra rb disp) = memory_word ldq_u_opcode ra rb disp
-encoded (StqU ra rb disp) = memory_word stq_u_opcode ra rb disp
+encoded (Load access ra rb disp) = memory_word (load_opcode access) ra rb disp
+encoded (Store access ra rb disp) = memory_word (store_opcode access) ra rb disp
 encoded (Beq ra disp) = branch_word beq_opcode ra disp

@@ -4,9 +4,9 @@ ghost use Rattle.alpha_encode.specs.Formats.{IsWellFormed, encoded};
 ghost use Rattle.alpha_encode.specs.Decoded as decoding;
 ghost use Rattle.alpha_encode.specs.declared.instructions.Instr.{Instr as Instruction};
 
-use crate::codes::{BEQ, LDA, LDAH, LDQ_U, STQ_U, find_operate};
+use crate::codes::{BEQ, LDA, LDAH, LDQ_U, STQ_U};
 use crate::instructions::{Instr, Second};
-use word_ops::{OPERATORS, WordOp, arity};
+use word_ops::{Access, Operate};
 
 /// The instruction of a word, or `None` where no instruction has that word.
 pub fn decode(word: u32) -> Option<Instr>
@@ -20,8 +20,18 @@ pub fn decode(word: u32) -> Option<Instr>
     match field(word, 26, 6) {
         LDA => Some(Instr::Lda { ra, rb, disp }),
         LDAH => Some(Instr::Ldah { ra, rb, disp }),
-        LDQ_U => Some(Instr::LdqU { ra, rb, disp }),
-        STQ_U => Some(Instr::StqU { ra, rb, disp }),
+        LDQ_U => Some(Instr::Load {
+            access: Access::Quad,
+            ra,
+            rb,
+            disp,
+        }),
+        STQ_U => Some(Instr::Store {
+            access: Access::Quad,
+            ra,
+            rb,
+            disp,
+        }),
         BEQ => Some(Instr::Beq {
             ra,
             disp: branch_displacement(word),
@@ -34,7 +44,7 @@ fn operate(word: u32, opcode: u32) -> Option<Instr>
     requires { opcode ≡ decoding.opcode word }
     ensures { result ≡ decoding.operate word }
 {
-    let op = find_operate(opcode, field(word, 5, 7), &OPERATORS)?;
+    let op = Operate::of_code(opcode, field(word, 5, 7))?;
     let ra = register(word, 21);
     if !allows_ra(op, ra) {
         return None;
@@ -45,10 +55,10 @@ fn operate(word: u32, opcode: u32) -> Option<Instr>
 }
 
 // An operate of one operand doesn't read Ra, which must then be 31.
-fn allows_ra(op: WordOp, ra: u8) -> bool
+fn allows_ra(op: Operate, ra: u8) -> bool
     ensures { result ≡ decoding.allows_ra op ra }
 {
-    arity(op) != 1 || ra == 31
+    op.arity() != 1 || ra == 31
 }
 
 fn second(word: u32) -> Option<Second>

@@ -1,13 +1,12 @@
 // From an instruction to its word.
-ghost use Rattle.std.specs.Prelude.{◌≡◌, ◌<◌, ◌^◌, IsSome};
-ghost use Rattle.std.specs.Option.{option_map_or};
-ghost use Rattle.alpha_encode.specs.Codes.{code_of};
+ghost use Rattle.std.specs.Prelude.{◌≡◌, ◌<◌, ◌^◌};
+ghost use Rattle.word_ops.specs.Operates.{code_of};
 ghost use Rattle.alpha_encode.specs.Formats.{IsWellFormed, IsSecond, FitsBits, encoded, operate_word, second_bits, memory_word, branch_word};
 ghost use Rattle.alpha_encode.specs.Decoded.{decoded};
 
-use crate::codes::{BEQ, LDA, LDAH, LDQ_U, STQ_U, code};
+use crate::codes::{BEQ, LDA, LDAH, load_opcode, store_opcode};
 use crate::instructions::{Instr, Second};
-use word_ops::WordOp;
+use word_ops::Operate;
 
 /// The instruction's word.
 pub fn encode(instr: Instr) -> u32
@@ -19,30 +18,34 @@ pub fn encode(instr: Instr) -> u32
         Instr::Operate { op, ra, second, rc } => operate(op, ra, second, rc),
         Instr::Lda { ra, rb, disp } => memory(LDA, ra, rb, disp),
         Instr::Ldah { ra, rb, disp } => memory(LDAH, ra, rb, disp),
-        Instr::LdqU { ra, rb, disp } => memory(LDQ_U, ra, rb, disp),
-        Instr::StqU { ra, rb, disp } => memory(STQ_U, ra, rb, disp),
+        Instr::Load {
+            access,
+            ra,
+            rb,
+            disp,
+        } => memory(load_opcode(access), ra, rb, disp),
+        Instr::Store {
+            access,
+            ra,
+            rb,
+            disp,
+        } => memory(store_opcode(access), ra, rb, disp),
         Instr::Beq { ra, disp } => branch(BEQ, ra, disp),
     }
 }
 
-fn operate(op: WordOp, ra: u8, second: Second, rc: u8) -> u32
-    requires operate { IsSome (code_of op) }
+fn operate(op: Operate, ra: u8, second: Second, rc: u8) -> u32
     requires ra_below { ra < 32 }
     requires second_fits { IsSecond second }
     requires rc_below { rc < 32 }
-    ensures { result ≡ option_map_or (λ code. operate_word code ra (second_bits second) rc) (code_of op) 0 }
+    ensures { result ≡ operate_word (code_of op) ra (second_bits second) rc }
 {
-    match code(op) {
-        Some((opcode, function)) => {
-            (opcode << 26)
-                + (u32::from(ra) << 21)
-                + (second_operand(second) << 12)
-                + (function << 5)
-                + u32::from(rc)
-        }
-        // Not reached: the operator has a code.
-        None => 0,
-    }
+    let (opcode, function) = op.code();
+    (opcode << 26)
+        + (u32::from(ra) << 21)
+        + (second_operand(second) << 12)
+        + (function << 5)
+        + u32::from(rc)
 }
 
 // Bits 20 to 12.

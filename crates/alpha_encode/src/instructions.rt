@@ -1,5 +1,5 @@
 // The instructions.
-use word_ops::WordOp;
+use word_ops::{Access, Operate};
 
 /// The second operand of an operate.
 #[derive(Clone, Copy, PartialEq, Eq, Debug)]
@@ -8,12 +8,12 @@ pub enum Second {
     Literal(u8),
 }
 
-/// An instruction. `ra`, `rb` and `rc` are register numbers. A displacement is in bytes for `Lda`, `LdqU` and `StqU`,
-/// in units of 65536 bytes for `Ldah`, and for `Beq` in words from the word after it.
+/// An instruction. `ra`, `rb` and `rc` are register numbers. A displacement is in bytes for `Lda`, loads and stores, in
+/// units of 65536 bytes for `Ldah`, and for `Beq` in words from the word after it.
 #[derive(Clone, Copy, PartialEq, Eq, Debug)]
 pub enum Instr {
     Operate {
-        op: WordOp,
+        op: Operate,
         ra: u8,
         second: Second,
         rc: u8,
@@ -28,12 +28,14 @@ pub enum Instr {
         rb: u8,
         disp: i16,
     },
-    LdqU {
+    Load {
+        access: Access,
         ra: u8,
         rb: u8,
         disp: i16,
     },
-    StqU {
+    Store {
+        access: Access,
         ra: u8,
         rb: u8,
         disp: i16,

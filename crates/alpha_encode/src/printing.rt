@@ -7,7 +7,7 @@ use crate::instructions::{Instr, Second};
 use items::NoMemory;
 use itoa::Buffer;
 use std::alloc::Global;
-use word_ops::{WordOp, arity, op_name};
+use word_ops::{Access, Operate};
 
 /// The instruction as an assembler writes it, with register numbers and decimal displacements: `lda $1, 300($31)`.
 pub fn text(alloc: Global, instr: Instr) -> Result<Vec<u8>, NoMemory>
@@ -18,8 +18,18 @@ pub fn text(alloc: Global, instr: Instr) -> Result<Vec<u8>, NoMemory>
         Instr::Operate { op, ra, second, rc } => push_operate(&mut text, op, ra, second, rc)?,
         Instr::Lda { ra, rb, disp } => push_memory(&mut text, b"lda ", ra, rb, disp)?,
         Instr::Ldah { ra, rb, disp } => push_memory(&mut text, b"ldah ", ra, rb, disp)?,
-        Instr::LdqU { ra, rb, disp } => push_memory(&mut text, b"ldq_u ", ra, rb, disp)?,
-        Instr::StqU { ra, rb, disp } => push_memory(&mut text, b"stq_u ", ra, rb, disp)?,
+        Instr::Load {
+            access: Access::Quad,
+            ra,
+            rb,
+            disp,
+        } => push_memory(&mut text, b"ldq_u ", ra, rb, disp)?,
+        Instr::Store {
+            access: Access::Quad,
+            ra,
+            rb,
+            disp,
+        } => push_memory(&mut text, b"stq_u ", ra, rb, disp)?,
         Instr::Beq { ra, disp } => push_branch(&mut text, ra, disp)?,
     }
     Ok(text)
@@ -27,16 +37,16 @@ pub fn text(alloc: Global, instr: Instr) -> Result<Vec<u8>, NoMemory>
 
 fn push_operate(
     text: &mut Vec<u8>,
-    op: WordOp,
+    op: Operate,
     ra: u8,
     second: Second,
     rc: u8,
 ) -> Result<(), NoMemory>
     ensures { OnOk result (text.new.items ≡ text.old.items ++ texts.operate_text op ra second rc) }
 {
-    text.extend_from_slice(op_name(op))?;
+    text.extend_from_slice(op.name())?;
     text.extend_from_slice(b" ")?;
-    if arity(op) != 1 {
+    if op.arity() != 1 {
         push_register(text, ra)?;
         text.extend_from_slice(b", ")?;
     }

@@ -4,14 +4,14 @@ use Rattle.std.proofs.lemmas.List.{length-map}
 use Rattle.std.proofs.lemmas.Option.{slice_get_past}
 use Rattle.std.specs.Prelude.{slice_get, slice_index, unwrap_or, IsSomeAnd}
 use Rattle.std.specs.Option.{option_map_or}
-use Rattle.word_ops.specs.declared.operators.WordOp.TheVariants as ops
+use Rattle.word_ops.specs.declared.operates.Operate.TheVariants as ops
 use Rattle.alpha_encode.specs.Decoded.{decoded}
 use Rattle.alpha_machine.specs.States.{MachineState}
 use Rattle.alpha_machine.specs.Steps.{step, next_pc, address, TakesMemory}
 use Rattle.alpha_machine.specs.Runs.{stepped, after, AllMayStand, IsAllowedAt}
 use Rattle.alpha_encode.specs.declared.instructions.Second.TheVariants.{Reg}
 use Rattle.alpha_encode.specs.declared.instructions.Instr.{Instr}
-use Rattle.alpha_encode.specs.declared.instructions.Instr.TheVariants.{Operate, Lda, Ldah, LdqU, StqU, Beq}
+use Rattle.alpha_encode.specs.declared.instructions.Instr.TheVariants.{Operate, Lda, Ldah, Load, Store, Beq}
 use Rattle.alpha_machine.specs.Refusals.{IsStepRefused, IsBeforeStore}
 use Rattle.alpha_machine.specs.declared.stepping.StepFault.{StepFault}
 use Rattle.alpha_machine.specs.declared.stepping.StepFault.TheVariants as step_faults
@@ -70,8 +70,8 @@ pc_on : (count at : ℕ) (i : Instr) (s : MachineState) → IsAllowedAt count at
 pc_on count at (Operate op ra second rc) s allowed pc within few on = omega (arith, pc)
 pc_on count at (Lda ra rb disp) s allowed pc within few on = omega (arith, pc)
 pc_on count at (Ldah ra rb disp) s allowed pc within few on = omega (arith, pc)
-pc_on count at (LdqU ra rb disp) s allowed pc within few on = omega (arith, pc)
-pc_on count at (StqU ra rb disp) s allowed pc within few on = omega (arith, pc)
+pc_on count at (Load access ra rb disp) s allowed pc within few on = omega (arith, pc)
+pc_on count at (Store access ra rb disp) s allowed pc within few on = omega (arith, pc)
 pc_on count at (Beq ra disp) s allowed pc within few on = by_test (slice_index s.registers ra == 0) on
   where
     taken : ℕ
@@ -88,8 +88,8 @@ pc_out : (count at : ℕ) (i : Instr) (s : MachineState) → IsAllowedAt count a
 pc_out count at (Operate op ra second rc) s allowed pc within few out = omega (arith, pc, out)
 pc_out count at (Lda ra rb disp) s allowed pc within few out = omega (arith, pc, out)
 pc_out count at (Ldah ra rb disp) s allowed pc within few out = omega (arith, pc, out)
-pc_out count at (LdqU ra rb disp) s allowed pc within few out = omega (arith, pc, out)
-pc_out count at (StqU ra rb disp) s allowed pc within few out = omega (arith, pc, out)
+pc_out count at (Load access ra rb disp) s allowed pc within few out = omega (arith, pc, out)
+pc_out count at (Store access ra rb disp) s allowed pc within few out = omega (arith, pc, out)
 pc_out count at (Beq ra disp) s allowed pc within few out = by_test (slice_index s.registers ra == 0) out
   where
     taken : ℕ

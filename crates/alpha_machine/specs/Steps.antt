@@ -1,17 +1,18 @@
 -- What one instruction does.
 -- Source: Alpha Architecture Handbook, version 4, "Instruction Descriptions": the integer operates, LDA, LDAH, LDQ_U,
 -- STQ_U and BEQ.
-use Rattle.std.specs.Prelude.{ℕ, ℤ, ◌+◌, ◌*◌, ◌/◌, ◌%◌, ◌^◌, List, slice_index, set, ◌==◌, if◌then◌else◌, ◌≢◌}
+use Rattle.std.specs.Prelude.{ℕ, ℤ, ◌+◌, ◌*◌, ◌%◌, ◌^◌, List, slice_index, set, ◌==◌, if◌then◌else◌, ◌≢◌}
 use Rattle.std.specs.Int.{cast_unsigned, w64}
-use Rattle.word_ops.specs.Memory.{word_at, put_word}
+use Rattle.word_ops.specs.Memory.{loaded, stored}
 use Rattle.word_ops.specs.Operators.{value_at}
-use Rattle.word_ops.specs.declared.operators.WordOp.{WordOp}
+use Rattle.word_ops.specs.declared.operates.Operate.{Operate as OperateOf}
+use Rattle.word_ops.specs.declared.operators.WordOp.TheVariants as words
 pub use Rattle.alpha_encode.specs.Codes.{is_unary}
 use Rattle.alpha_machine.specs.States.{MachineState}
 use Rattle.alpha_encode.specs.declared.instructions.Second.{Second}
 use Rattle.alpha_encode.specs.declared.instructions.Second.TheVariants.{Reg, Literal}
 use Rattle.alpha_encode.specs.declared.instructions.Instr.{Instr}
-use Rattle.alpha_encode.specs.declared.instructions.Instr.TheVariants.{Operate, Lda, Ldah, LdqU, StqU, Beq}
+use Rattle.alpha_encode.specs.declared.instructions.Instr.TheVariants.{Operate, Lda, Ldah, Load, Store, Beq}
 
 -- a write to register 31 is ignored
 abbrev pub written : List ℕ → ℕ → ℕ → List ℕ
@@ -22,8 +23,9 @@ second_value (Reg r) registers = slice_index registers r
 second_value (Literal n) registers = n
 
 -- an operate of one operand takes it from its second place
-abbrev pub operate_value : WordOp → ℕ → ℕ → ℕ
-operate_value op a b = if is_unary op then value_at op b 0 0 else value_at op a b 0
+abbrev pub operate_value : OperateOf → ℕ → ℕ → ℕ
+operate_value op a b =
+    if is_unary op then value_at (words.Operate op) b 0 0 else value_at (words.Operate op) a b 0
 
 -- base + scale * displacement, modulo 2 ^ 64
 abbrev pub address : ℕ → ℕ → ℤ → ℕ
@@ -42,10 +44,11 @@ step (Operate op ra second rc) s =
     with_register s rc (operate_value op (slice_index s.registers ra) (second_value second s.registers))
 step (Lda ra rb disp) s = with_register s ra (address (slice_index s.registers rb) 1 disp)
 step (Ldah ra rb disp) s = with_register s ra (address (slice_index s.registers rb) 65536 disp)
-step (LdqU ra rb disp) s = with_register s ra (word_at s.memory (address (slice_index s.registers rb) 1 disp / 8))
-step (StqU ra rb disp) s = record {
+step (Load access ra rb disp) s =
+    with_register s ra (loaded access s.memory (address (slice_index s.registers rb) 1 disp))
+step (Store access ra rb disp) s = record {
   registers = s.registers;
-  memory = put_word s.memory (address (slice_index s.registers rb) 1 disp / 8) (slice_index s.registers ra);
+  memory = stored access s.memory (address (slice_index s.registers rb) 1 disp) (slice_index s.registers ra);
   pc = next_pc s.pc;
 }
 step (Beq ra disp) s = record {
@@ -56,5 +59,5 @@ step (Beq ra disp) s = record {
 
 -- the instruction stores a word that isn't 0; no other takes memory of the host
 abbrev pub TakesMemory : Instr → MachineState → Type 0
-TakesMemory (StqU ra rb disp) s = slice_index s.registers ra ≢ 0
+TakesMemory (Store access ra rb disp) s = slice_index s.registers ra ≢ 0
 TakesMemory _ s = ⊥

@@ -1,6 +1,5 @@
 // The state of the machine, and what each kind of instruction does to it.
-ghost use Rattle.std.specs.Prelude.{◌≡◌, ◌<◌, slice_index, All, OnOk, OnErr, IsSome};
-ghost use Rattle.alpha_encode.specs.Codes.{code_of};
+ghost use Rattle.std.specs.Prelude.{◌≡◌, ◌<◌, slice_index, All, OnOk, OnErr};
 ghost use Rattle.alpha_encode.specs.Formats.{IsWellFormed, IsSecond};
 ghost use Rattle.alpha_encode.specs.declared.instructions.Instr.TheVariants as instructions;
 ghost use Rattle.word_ops.specs.Words.{IsWord};
@@ -11,7 +10,7 @@ use crate::values::{address, operate_value};
 use alpha_encode::{Instr, Second};
 use items::NoMemory;
 use std::marker::Model;
-use word_ops::{Mem, WordOp};
+use word_ops::{Access, Mem, Operate};
 
 /// 32 registers, of which register 31 is always 0, a memory, and the address of the next word, the pc.
 #[derive(Drop)]
@@ -81,15 +80,24 @@ impl State {
             Instr::Operate { op, ra, second, rc } => self.operate(op, ra, second, rc),
             Instr::Lda { ra, rb, disp } => self.load_address(ra, rb, disp),
             Instr::Ldah { ra, rb, disp } => self.load_address_high(ra, rb, disp),
-            Instr::LdqU { ra, rb, disp } => self.load(ra, rb, disp),
-            Instr::StqU { ra, rb, disp } => return self.store(ra, rb, disp),
+            Instr::Load {
+                access,
+                ra,
+                rb,
+                disp,
+            } => self.load(access, ra, rb, disp),
+            Instr::Store {
+                access,
+                ra,
+                rb,
+                disp,
+            } => return self.store(access, ra, rb, disp),
             Instr::Beq { ra, disp } => self.branch(ra, disp),
         }
         Ok(())
     }
 
-    fn operate(&mut self, op: WordOp, ra: u8, second: Second, rc: u8)
-        requires op { IsSome (code_of op) }
+    fn operate(&mut self, op: Operate, ra: u8, second: Second, rc: u8)
         requires ra { ra < 32 }
         requires second { IsSecond second }
         requires rc { rc < 32 }
@@ -118,25 +126,31 @@ impl State {
         self.write(ra, value);
     }
 
-    fn load(&mut self, ra: u8, rb: u8, disp: i16)
+    #[tactic(auto, unfolding(word_ops::specs::Memory::loaded, word_ops::specs::Memory::select))]
+    fn load(&mut self, access: Access, ra: u8, rb: u8, disp: i16)
         requires ra { ra < 32 }
         requires rb { rb < 32 }
-        ensures { self.new ≡ steps.step (instructions.LdqU ra rb disp) self.old }
+        ensures { self.new ≡ steps.step (instructions.Load access ra rb disp) self.old }
     {
-        let place = address(self.register(rb), 1, i64::from(disp)) / 8;
-        let value = self.memory.get(place);
+        let address = address(self.register(rb), 1, i64::from(disp));
+        let value = match access {
+            Access::Quad => self.memory.get(address / 8),
+        };
         self.write(ra, value);
     }
 
-    fn store(&mut self, ra: u8, rb: u8, disp: i16) -> Result<(), NoMemory>
+    #[tactic(auto, unfolding(word_ops::specs::Memory::stored, word_ops::specs::Memory::store))]
+    fn store(&mut self, access: Access, ra: u8, rb: u8, disp: i16) -> Result<(), NoMemory>
         requires ra { ra < 32 }
         requires rb { rb < 32 }
-        ensures ok { OnOk result (self.new ≡ steps.step (instructions.StqU ra rb disp) self.old) }
-        ensures err { OnErr result ((self.new ≡ self.old) × steps.TakesMemory (instructions.StqU ra rb disp) self.old) }
+        ensures ok { OnOk result (self.new ≡ steps.step (instructions.Store access ra rb disp) self.old) }
+        ensures err { OnErr result ((self.new ≡ self.old) × steps.TakesMemory (instructions.Store access ra rb disp) self.old) }
     {
         let address = address(self.register(rb), 1, i64::from(disp));
         let value = self.register(ra);
-        self.memory.set(address / 8, value)?;
+        match access {
+            Access::Quad => self.memory.set(address / 8, value)?,
+        }
         self.pc = self.next_pc();
         Ok(())
     }

@@ -1,19 +1,17 @@
 // What operates and addresses come to.
-ghost use Rattle.std.specs.Prelude.{◌≡◌, IsSome};
-ghost use Rattle.alpha_encode.specs.Codes.{code_of};
+ghost use Rattle.std.specs.Prelude.{◌≡◌};
 ghost use Rattle.alpha_machine.specs.Steps as steps;
 
-use word_ops::{WordOp, apply, arity};
+use word_ops::{Operate, WordOp, apply};
 
 /// The value of an operate. One of a single operand has that operand as its second.
-pub(crate) fn operate_value(op: WordOp, first: u64, second: u64) -> u64
-    requires { IsSome (code_of op) }
+pub(crate) fn operate_value(op: Operate, first: u64, second: u64) -> u64
     ensures { result ≡ steps.operate_value op first second }
 {
-    if arity(op) == 1 {
-        apply(op, &[second])
+    if op.arity() == 1 {
+        apply(WordOp::Operate(op), &[second])
     } else {
-        apply(op, &[first, second])
+        apply(WordOp::Operate(op), &[first, second])
     }
 }
 

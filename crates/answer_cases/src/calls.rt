@@ -48,35 +48,30 @@ fn add_words(alloc: Global, call: &mut Call, words: Words<'_>) -> Result<(), Tro
     Ok(())
 }
 
-/// So many bytes of one value behind the text.
-fn fill(call: &mut Call, words: &mut Words<'_>) -> Result<(), Trouble> {
-    let (count, byte) = (words.small()?, words.small()?);
-    for _ in 0..count {
-        call.text.push((byte % 256) as u8)?;
-    }
-    Ok(())
-}
-
 /// Takes a line of a call's head.
 fn take_line(alloc: Global, call: &mut Call, line: &[u8]) -> Result<(), Trouble> {
     if let Some(word) = line.strip_prefix(b"word ") {
         return add_word(alloc, call, word);
     }
     let mut words = Words { rest: line };
-    let verb = words.word()?;
-    if verb == b"words".as_slice() {
-        add_words(alloc, call, words)?;
-    } else if verb == b"source".as_slice() {
-        call.source_step = words.small()? as usize;
-        call.source_fails = words.numbers(alloc)?;
-    } else if verb == b"sink".as_slice() {
-        call.room = words.small()? as usize;
-        call.sink_step = words.small()? as usize;
-        call.sink_fails = words.numbers(alloc)?;
-    } else if verb == b"fill".as_slice() {
-        fill(call, &mut words)?;
-    } else {
-        return Err(Trouble::Unread);
+    match words.word()? {
+        b"words" => add_words(alloc, call, words)?,
+        b"source" => {
+            call.source_step = words.small()? as usize;
+            call.source_fails = words.numbers(alloc)?;
+        }
+        b"sink" => {
+            call.room = words.small()? as usize;
+            call.sink_step = words.small()? as usize;
+            call.sink_fails = words.numbers(alloc)?;
+        }
+        b"fill" => {
+            let (count, byte) = (words.small()?, words.small()?);
+            for _ in 0..count {
+                call.text.push((byte % 256) as u8)?;
+            }
+        }
+        _ => return Err(Trouble::Unread),
     }
     Ok(())
 }

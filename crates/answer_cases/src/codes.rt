@@ -5,37 +5,12 @@ ghost use Rattle.goal_meaning.specs.Views.{input_view};
 ghost use Rattle.goal_meaning.specs.WellFormed.{IsInput};
 
 use case_files::{Trouble, Words, faulty, put, put_line, put_number, put_numbers, split_line};
-use code_check::{Checked, Code, Part, Told, Verified, read, verify, verify_text};
-use goal_meaning::{Goal, Input};
-use saturation::Stop;
+use code_check::{Checked, Part, Verified, read, verify, verify_text};
+use goal_meaning::Goal;
+use graph_meaning::Stop;
 use std::alloc::Global;
 
-/// 8 where some goal holds in no world, else 1 where some code isn't known to be its goal, else 0.
-fn status(told: &Told) -> u64 {
-    if told.noworld {
-        return 8;
-    }
-    u64::from(told.unknown)
-}
-
-/// What is compared of a code and its goal, as the last words of a line.
-fn put_part(report: &mut Vec<u8>, goal: &Goal, part: Part) -> Result<(), Trouble> {
-    match part {
-        Part::Guard => put(report, b"guard\n"),
-        Part::Exit => put(report, b"exit\n"),
-        Part::Memory => put(report, b"memory\n"),
-        Part::Set(set) => {
-            let set = goal
-                .sets
-                .as_slice()
-                .get(set as usize)
-                .ok_or(Trouble::Unread)?;
-            put_line(report, &[b"set", set.name.bytes()])
-        }
-    }
-}
-
-/// The line of a code that isn't known to be its goal.
+/// The line of a code that isn't known to be its goal. Its last words say what is compared of the two.
 fn put_unknown(
     report: &mut Vec<u8>,
     goal: &Goal,
@@ -53,7 +28,16 @@ fn put_unknown(
     put(report, b" rounds")?;
     put_number(report, u64::from(rounds))?;
     put(report, stop)?;
-    put_part(report, goal, part)
+    match part {
+        Part::Guard => put(report, b"guard\n"),
+        Part::Exit => put(report, b"exit\n"),
+        Part::Memory => put(report, b"memory\n"),
+        Part::Set(set) => {
+            let sets = goal.sets.as_slice();
+            let set = sets.get(set as usize).ok_or(Trouble::Unread)?;
+            put_line(report, &[b"set", set.name.bytes()])
+        }
+    }
 }
 
 /// The line of a code.
@@ -68,29 +52,6 @@ fn put_verified(report: &mut Vec<u8>, goal: &Goal, verified: Verified) -> Result
     }
 }
 
-/// The line of a code that is checked by itself.
-fn put_code(
-    alloc: Global,
-    report: &mut Vec<u8>,
-    input: &Input,
-    code: &Code,
-    rounds: u32,
-    nodes: u32,
-) -> Result<(), Trouble>
-    requires input { IsInput (input_view input.now) }
-    requires code { IsCodeOf (input_view input.now) code.now }
-    requires rounds { rounds ≤ 16 }
-    requires nodes { (1 ≤ nodes) × (nodes ≤ 4096) }
-{
-    let verified = verify(alloc, input, code, rounds, nodes)?;
-    let goal = input
-        .goals
-        .as_slice()
-        .get(code.goal as usize)
-        .ok_or(Trouble::Unread)?;
-    put_verified(report, goal, verified)
-}
-
 /// The lines of codes that are checked one by one.
 fn one_by_one(alloc: Global, checked: &Checked, rounds: u32, nodes: u32) -> Result<Vec<u8>, Trouble>
     requires input { IsInput (input_view checked.now.input) }
@@ -100,26 +61,18 @@ fn one_by_one(alloc: Global, checked: &Checked, rounds: u32, nodes: u32) -> Resu
 {
     let mut report = Vec::new(alloc);
     for code in checked.codes.as_slice() {
-        put_code(alloc, &mut report, &checked.input, code, rounds, nodes)?;
+        let verified = verify(alloc, &checked.input, code, rounds, nodes)?;
+        let goals = checked.input.goals.as_slice();
+        let goal = goals.get(code.goal as usize).ok_or(Trouble::Unread)?;
+        put_verified(&mut report, goal, verified)?;
     }
-    Ok(report)
-}
-
-/// The lines of all codes and the status that they ask for, behind a line `differs` where the codes one by one have
-/// other lines.
-fn told(alloc: Global, told: Told, one_by_one: &[u8]) -> Result<Vec<u8>, Trouble> {
-    let mut report = Vec::new(alloc);
-    if told.bytes.as_slice() != one_by_one {
-        put(&mut report, b"differs\n")?;
-    }
-    put(&mut report, told.bytes.as_slice())?;
-    put_numbers(&mut report, b"status", &[status(&told)])?;
     Ok(report)
 }
 
 /// Input: a line `ROUNDS NODES`, and a text of goals and codes. Answers with a line for each code, checked with at most
-/// ROUNDS rounds and with the limit NODES on rows, and a line `status N`; or with the text's first fault. The codes are
-/// checked all at once and one by one.
+/// ROUNDS rounds and with the limit NODES on rows, and a line `status N`: 8 where some goal holds in no world, else 1
+/// where some code isn't known to be its goal, else 0; or with the text's first fault. The codes are checked all at once
+/// and one by one, and a line `differs` comes first where these have other lines.
 pub(crate) fn verified(alloc: Global, input: &[u8]) -> Result<Vec<u8>, Trouble>
     requires { length input.now ≤ 2 ^ 24 }
 {
@@ -134,8 +87,20 @@ pub(crate) fn verified(alloc: Global, input: &[u8]) -> Result<Vec<u8>, Trouble>
         Err(fault) => return faulty(alloc, fault),
     };
     let lines = one_by_one(alloc, &checked, rounds, nodes)?;
-    match verify_text(alloc, text, rounds, nodes) {
-        Ok(answer) => told(alloc, answer, &lines),
-        Err(fault) => faulty(alloc, fault),
+    let told = match verify_text(alloc, text, rounds, nodes) {
+        Ok(told) => told,
+        Err(fault) => return faulty(alloc, fault),
+    };
+    let mut report = Vec::new(alloc);
+    if told.bytes.as_slice() != lines.as_slice() {
+        put(&mut report, b"differs\n")?;
     }
+    put(&mut report, told.bytes.as_slice())?;
+    let status = if told.noworld {
+        8
+    } else {
+        u64::from(told.unknown)
+    };
+    put_numbers(&mut report, b"status", &[status])?;
+    Ok(report)
 }

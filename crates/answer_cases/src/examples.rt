@@ -1,21 +1,10 @@
-// Files that are a case each: goals and procs with their answers, and the texts of families of axioms.
-use crate::calls::written_by;
+// Files that are a case each: the texts of families of axioms.
 use case_files::Trouble;
 use outside_io::MemSink;
 use std::alloc::Global;
 
 /// How many bytes a family's text has at most.
 const ROOM: usize = 1 << 16;
-
-/// What `solve` without options writes of goals.
-pub(crate) fn goal(alloc: Global, input: &[u8]) -> Result<Vec<u8>, Trouble> {
-    written_by(alloc, b"solve", input)
-}
-
-/// What `proc` without options writes of a proc.
-pub(crate) fn proc(alloc: Global, input: &[u8]) -> Result<Vec<u8>, Trouble> {
-    written_by(alloc, b"proc", input)
-}
 
 /// What the name of a family of axioms writes.
 pub(crate) fn family(alloc: Global, input: &[u8]) -> Result<Vec<u8>, Trouble> {

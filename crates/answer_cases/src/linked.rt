@@ -5,22 +5,6 @@ use alpha_machine::{State, step};
 use case_files::{Lines, Trouble, Words, hexadecimal, put, put_number, split_before, split_line};
 use std::alloc::Global;
 
-/// The words of the lines `word HEX ..`.
-fn words_in(alloc: Global, text: &[u8]) -> Result<Vec<u32>, Trouble> {
-    let mut words = Vec::new(alloc);
-    let mut lines = Lines { rest: text };
-    for _ in 0..text.len() {
-        let Some(line) = lines.next() else {
-            break;
-        };
-        if let Some(rest) = line.strip_prefix(b"word ") {
-            let digits = Words { rest }.word()?;
-            words.push(hexadecimal(digits).ok_or(Trouble::Unread)?)?;
-        }
-    }
-    Ok(words)
-}
-
 /// The most steps of a run.
 const MOST_STEPS: u32 = 100_000;
 
@@ -37,8 +21,16 @@ fn ends(words: &[u32], state: &mut State) -> Result<bool, Trouble> {
     Ok(false)
 }
 
-/// The words in the registers that a line's pairs `reg N WORD` name, and each address that doesn't hold 0.
-fn put_state(report: &mut Vec<u8>, asked: &[u8], state: &State) -> Result<(), Trouble> {
+/// Whether a run of the words from the state of a line `run reg N WORD.. mem ADDRESS WORD..` comes to their end, and
+/// the state then: the words in the registers of the line, and each address that doesn't hold 0.
+fn put_run(alloc: Global, report: &mut Vec<u8>, words: &[u32], line: &[u8]) -> Result<(), Trouble> {
+    let asked = line.strip_prefix(b"run ").ok_or(Trouble::Unread)?;
+    let mut state = state_of(alloc, &mut Words { rest: asked })?;
+    if ends(words, &mut state)? {
+        put(report, b"end")?;
+    } else {
+        put(report, b"going")?;
+    }
     let mut words = Words { rest: asked };
     for _ in 0..asked.len() {
         let Some(kind) = words.next() else {
@@ -56,19 +48,6 @@ fn put_state(report: &mut Vec<u8>, asked: &[u8], state: &State) -> Result<(), Tr
     put_memory(report, state.memory())
 }
 
-/// Whether a run of the words from the state of a line `run reg N WORD.. mem ADDRESS WORD..` comes to their end, and
-/// the state then.
-fn put_run(alloc: Global, report: &mut Vec<u8>, words: &[u32], line: &[u8]) -> Result<(), Trouble> {
-    let asked = line.strip_prefix(b"run ").ok_or(Trouble::Unread)?;
-    let mut state = state_of(alloc, &mut Words { rest: asked })?;
-    if ends(words, &mut state)? {
-        put(report, b"end")?;
-    } else {
-        put(report, b"going")?;
-    }
-    put_state(report, asked, &state)
-}
-
 /// Input: lines `run reg N WORD.. mem ADDRESS WORD..`, a line `of`, and a call of `proc`. Answers with the status, what
 /// `check` writes of the answer in front of the linked words, and for each run of these the state at its end.
 pub(crate) fn linked(alloc: Global, input: &[u8]) -> Result<Vec<u8>, Trouble> {
@@ -76,7 +55,17 @@ pub(crate) fn linked(alloc: Global, input: &[u8]) -> Result<Vec<u8>, Trouble> {
     let (written, status) = replied(alloc, call_of(alloc, split_line(rest).1)?)?;
     let (answer, rest) = split_before(&written, b"linked ");
     let mut report = status_and_check(alloc, status, b"check", answer)?;
-    let words = words_in(alloc, rest)?;
+    let mut words = Vec::new(alloc);
+    let mut lines = Lines { rest };
+    for _ in 0..rest.len() {
+        let Some(line) = lines.next() else {
+            break;
+        };
+        if let Some(rest) = line.strip_prefix(b"word ") {
+            let digits = Words { rest }.word()?;
+            words.push(hexadecimal(digits).ok_or(Trouble::Unread)?)?;
+        }
+    }
     let mut lines = Lines { rest: asked };
     for _ in 0..asked.len() {
         let Some(line) = lines.next() else {

@@ -1,13 +1,9 @@
 // What is solved: whether `check` accepts it, and what its words do.
-ghost use Rattle.std.specs.Prelude.{◌≡◌, ◌<◌, ◌^◌, length};
-
 use crate::calls::{call_of, replied, status_and_check};
 use crate::states::{put_memory, state_of};
-use alpha_machine::{End, State, run};
-use answer_texts::{AnswerText, Claim, Claimed, read_answer};
+use alpha_machine::{End, run};
+use answer_texts::{Claim, Claimed, read_answer};
 use case_files::{Lines, Trouble, Words, put, put_number, put_numbers, split_before, split_line};
-use items::Items;
-use register_assign::Where;
 use std::alloc::Global;
 
 /// Input: a call of `solve --least`. Answers with the status, and with what `check --least` writes of the answer, so
@@ -17,64 +13,40 @@ pub(crate) fn least_solved(alloc: Global, input: &[u8]) -> Result<Vec<u8>, Troub
     status_and_check(alloc, status, b"check --least", &written)
 }
 
-/// The words of a scheduled goal, and the places of its targets.
-fn scheduled(goal: &Claimed) -> Option<(&Items<u32>, &Items<Where>)> {
-    match &goal.claim {
-        Claim::Scheduled { words, places, .. } => Some((words, places)),
-        _ => None,
-    }
-}
-
-/// Each target with the word in its place.
-fn put_places(report: &mut Vec<u8>, places: &[Where], state: &State) -> Result<(), Trouble> {
-    for place in places {
-        put(report, b" ")?;
-        put(report, place.name.bytes())?;
-        put_number(report, state.register(place.reg % 32))?;
-    }
-    Ok(())
-}
-
-/// How a run of words ends: the end, behind the last word each target with the word in its place, and each address that
-/// doesn't hold 0.
-fn put_end(
-    report: &mut Vec<u8>,
-    code: &[u32],
-    places: &[Where],
-    state: State,
-) -> Result<(), Trouble>
-    requires few { length code.now < 2 ^ 29 }
-    requires start { state.pc ≡ 0 }
-{
-    let mut state = state;
-    match run(code, &mut state) {
-        Ok(End::Fall) => {
-            put(report, b"fall")?;
-            put_places(report, places, &state)?;
-        }
-        Ok(End::Exit) => put(report, b"exit")?,
-        Err(_) => return Err(Trouble::Unread),
-    }
-    put_memory(report, state.memory())
-}
-
-/// How a run of a goal's words ends.
+/// How a run of a goal's words ends: the end, behind the last word each target with the word in its place, and each
+/// address that doesn't hold 0.
 fn put_run(
     alloc: Global,
     report: &mut Vec<u8>,
     goal: &Claimed,
     words: &mut Words<'_>,
 ) -> Result<(), Trouble> {
-    match scheduled(goal) {
-        Some((code, places)) => {
-            let state = state_of(alloc, words)?;
-            if code.len() > 1 << 20 {
-                return Err(Trouble::Unread);
-            }
-            put_end(report, code.as_slice(), places.as_slice(), state)
-        }
-        None => put(report, b"not scheduled\n"),
+    let claim = &goal.claim;
+    let Claim::Scheduled {
+        words: code,
+        places,
+        ..
+    } = claim
+    else {
+        return put(report, b"not scheduled\n");
+    };
+    let mut state = state_of(alloc, words)?;
+    if code.len() > 1 << 20 {
+        return Err(Trouble::Unread);
     }
+    match run(code.as_slice(), &mut state) {
+        Ok(End::Fall) => {
+            put(report, b"fall")?;
+            for place in places.as_slice() {
+                put(report, b" ")?;
+                put(report, place.name.bytes())?;
+                put_number(report, state.register(place.reg % 32))?;
+            }
+        }
+        Ok(End::Exit) => put(report, b"exit")?,
+        Err(_) => return Err(Trouble::Unread),
+    }
+    put_memory(report, state.memory())
 }
 
 /// How many of the answer's instruction words are of these names: a name is a word in hexadecimal digits, or an
@@ -101,57 +73,9 @@ fn count_words(answer: &[u8], names: &[u8]) -> u64 {
     count
 }
 
-/// Answers a line that asks of an answer: `run GOAL reg N WORD mem ADDRESS WORD..` runs the words of a goal, by its
+/// Answers the lines that ask of an answer: `run GOAL reg N WORD mem ADDRESS WORD..` runs the words of a goal, by its
 /// number from 0; `count NAME..` counts words.
 fn put_asked(
-    alloc: Global,
-    report: &mut Vec<u8>,
-    bytes: &[u8],
-    answer: &AnswerText,
-    line: &[u8],
-) -> Result<(), Trouble> {
-    let mut words = Words { rest: line };
-    let verb = words.word()?;
-    if verb == b"run".as_slice() {
-        let at = words.small()? as usize;
-        let goal = answer.goals.as_slice().get(at).ok_or(Trouble::Unread)?;
-        put_run(alloc, report, goal, &mut words)
-    } else {
-        put_numbers(report, b"count", &[count_words(bytes, words.rest)])
-    }
-}
-
-/// Whether the same call writes the same bytes where its source gives at most so many a call.
-fn is_same_in_pieces(
-    alloc: Global,
-    call: &[u8],
-    step: usize,
-    written: &[u8],
-) -> Result<bool, Trouble> {
-    let mut again = call_of(alloc, call)?;
-    again.source_step = step;
-    Ok(replied(alloc, again)?.0.as_slice() == written)
-}
-
-/// A line that says whether the same call writes the same bytes where its source gives so many a call, as a line's word
-/// tells.
-fn put_pieces(
-    alloc: Global,
-    report: &mut Vec<u8>,
-    call: &[u8],
-    word: &[u8],
-    written: &[u8],
-) -> Result<(), Trouble> {
-    let step = Words { rest: word }.small()? as usize;
-    if is_same_in_pieces(alloc, call, step, written)? {
-        put(report, b"same\n")
-    } else {
-        put(report, b"differs\n")
-    }
-}
-
-/// Answers the lines that ask of an answer.
-fn put_all_asked(
     alloc: Global,
     report: &mut Vec<u8>,
     written: &[u8],
@@ -168,7 +92,14 @@ fn put_all_asked(
         let Some(line) = lines.next() else {
             break;
         };
-        put_asked(alloc, report, written, &answer, line)?;
+        let mut words = Words { rest: line };
+        if words.word()? == b"run".as_slice() {
+            let at = words.small()? as usize;
+            let goal = answer.goals.as_slice().get(at).ok_or(Trouble::Unread)?;
+            put_run(alloc, report, goal, &mut words)?;
+        } else {
+            put_numbers(report, b"count", &[count_words(written, words.rest)])?;
+        }
     }
     Ok(())
 }
@@ -182,12 +113,18 @@ pub(crate) fn solved(alloc: Global, input: &[u8]) -> Result<Vec<u8>, Trouble> {
     let (written, status) = replied(alloc, call_of(alloc, call)?)?;
     let mut report = status_and_check(alloc, status, b"check", &written)?;
     let (first, behind) = split_line(asked);
-    match first.strip_prefix(b"pieces ") {
-        Some(word) => {
-            put_pieces(alloc, &mut report, call, word, &written)?;
-            put_all_asked(alloc, &mut report, &written, behind)?;
-        }
-        None => put_all_asked(alloc, &mut report, &written, asked)?,
+    let Some(word) = first.strip_prefix(b"pieces ") else {
+        put_asked(alloc, &mut report, &written, asked)?;
+        return Ok(report);
+    };
+    let step = Words { rest: word }.small()? as usize;
+    let mut again = call_of(alloc, call)?;
+    again.source_step = step;
+    if replied(alloc, again)?.0.as_slice() == written.as_slice() {
+        put(&mut report, b"same\n")?;
+    } else {
+        put(&mut report, b"differs\n")?;
     }
+    put_asked(alloc, &mut report, &written, behind)?;
     Ok(report)
 }

@@ -1,14 +1,21 @@
 // What these cases ask: the subjects by their names.
 use crate::{calls, codes, examples, failing, fewer, linked, solved, texts, trimming};
 use case_files::{Trouble, Whole};
+use denali_run::check_text;
+use least_launch::check_least_text;
+use refute_trim::trim_text;
 use std::alloc::Global;
 
 /// What the cases of a file ask.
 #[derive(Clone, Copy, Debug, PartialEq, Eq)]
 pub(crate) enum Subject {
     Answers,
+    /// The lines of the verdicts on an answer and the status, or the fault of the text.
     Verdicts,
+    /// The same of an answer with lines behind it.
     LeastVerdicts,
+    /// The answer with its refutations trimmed, or the line of the first rejected goal, and the status; or the fault of
+    /// the text.
     Trims,
     TrimmedLines,
     Fewer,
@@ -18,7 +25,9 @@ pub(crate) enum Subject {
     LeastSolved,
     Linked,
     Verify,
+    /// What `solve` without options writes of goals.
     Goal,
+    /// What `proc` without options writes of a proc.
     Proc,
     Family,
 }
@@ -52,9 +61,9 @@ impl case_files::Subject for Subject {
     fn answer(self, alloc: Global, input: &[u8]) -> Result<Vec<u8>, Trouble> {
         match self {
             Subject::Answers => texts::answers(alloc, input),
-            Subject::Verdicts => texts::verdicts(alloc, input),
-            Subject::LeastVerdicts => texts::least_verdicts(alloc, input),
-            Subject::Trims => texts::trims(alloc, input),
+            Subject::Verdicts => texts::reported(alloc, check_text(alloc, input)),
+            Subject::LeastVerdicts => texts::reported(alloc, check_least_text(alloc, input)),
+            Subject::Trims => texts::reported(alloc, trim_text(alloc, input)),
             Subject::TrimmedLines => trimming::trimmed_lines(alloc, input),
             Subject::Fewer => fewer::fewer(alloc, input),
             Subject::Commands => calls::commands(alloc, input),
@@ -63,8 +72,8 @@ impl case_files::Subject for Subject {
             Subject::LeastSolved => solved::least_solved(alloc, input),
             Subject::Linked => linked::linked(alloc, input),
             Subject::Verify => codes::verified(alloc, input),
-            Subject::Goal => examples::goal(alloc, input),
-            Subject::Proc => examples::proc(alloc, input),
+            Subject::Goal => calls::written_by(alloc, b"solve", input),
+            Subject::Proc => calls::written_by(alloc, b"proc", input),
             Subject::Family => examples::family(alloc, input),
         }
     }

@@ -1,36 +1,9 @@
 // Refutations that are trimmed.
-ghost use Rattle.cnf_core.specs.Refutation.{Refutes};
-ghost use Rattle.std.specs.Prelude.{◌<◌, ◌^◌, length};
-
 use case_files::{Trouble, split_before, split_line};
 use case_inputs::{formula, lines_in, put_check};
-use cnf_core::{Cnf, Lines};
 use refutation_check::{Marks, check, print};
 use refute_trim::trim;
 use std::alloc::Global;
-
-/// The lines that are needed of those that refute a formula.
-fn needed(alloc: Global, cnf: &Cnf, lines: &Lines) -> Result<Vec<u8>, Trouble>
-    requires { Refutes cnf.now lines.now.lines }
-{
-    let trimmed = trim(alloc, cnf, lines)?;
-    Ok(print(alloc, &trimmed)?)
-}
-
-/// The lines that are needed, where these refute the formula, and else the first that is refused.
-fn judged(alloc: Global, cnf: &Cnf, lines: &Lines) -> Result<Vec<u8>, Trouble>
-    requires { length lines.now.lines < 2 ^ 29 }
-{
-    let mut marks = Marks::new(alloc, cnf.vars())?;
-    match check(cnf, lines, &mut marks) {
-        Ok(()) => needed(alloc, cnf, lines),
-        Err(rejected) => {
-            let mut report = Vec::new(alloc);
-            put_check(&mut report, b"refutation", Err(rejected))?;
-            Ok(report)
-        }
-    }
-}
 
 /// Input: a formula, a line `lines` and lines. Answers with the lines that are needed, where these refute the formula,
 /// and else with the first that is refused.
@@ -38,5 +11,13 @@ pub(crate) fn trimmed_lines(alloc: Global, input: &[u8]) -> Result<Vec<u8>, Trou
     let (front, rest) = split_before(input, b"lines\n");
     let cnf = formula(alloc, front)?;
     let lines = lines_in(alloc, split_line(rest).1)?;
-    judged(alloc, &cnf, &lines)
+    let mut marks = Marks::new(alloc, cnf.vars())?;
+    match check(&cnf, &lines, &mut marks) {
+        Ok(()) => Ok(print(alloc, &trim(alloc, &cnf, &lines)?)?),
+        Err(rejected) => {
+            let mut report = Vec::new(alloc);
+            put_check(&mut report, b"refutation", Err(rejected))?;
+            Ok(report)
+        }
+    }
 }

@@ -13,7 +13,7 @@ use Rattle.alpha_encode.specs.Decoded.{decoded}
 use Rattle.alpha_encode.specs.Formats.{FitsBits, IsSecond, IsWellFormed, encoded}
 use Rattle.alpha_encode.specs.Texts.{register, second_text}
 use Rattle.alpha_encode.specs.declared.instructions.Instr.{Instr}
-use Rattle.alpha_encode.specs.declared.instructions.Instr.TheVariants.{Operate, Lda, Ldah, LdqU, StqU, Beq}
+use Rattle.alpha_encode.specs.declared.instructions.Instr.TheVariants.{Operate, Lda, Ldah, Load, Store, Beq}
 use Rattle.alpha_encode.specs.declared.instructions.Second.{Second}
 use Rattle.alpha_encode.specs.declared.instructions.Second.TheVariants.{Reg, Literal}
 use Rattle.text_core.specs.LineTexts.{Words, CanBeLine}
@@ -21,6 +21,11 @@ use Rattle.text_core.specs.Lines.{IsLineWord, is_printed}
 use Rattle.word_ops.specs.Names.{name_of}
 use Rattle.word_ops.specs.Operators.{operators}
 use Rattle.word_ops.specs.declared.operators.WordOp.{WordOp}
+use Rattle.word_ops.specs.declared.operators.WordOp.TheVariants as operators_of
+use Rattle.word_ops.specs.declared.sorts.Access.{Access}
+use Rattle.word_ops.specs.declared.sorts.Access.TheVariants.{Quad}
+use Rattle.machine_table.specs.InstrOrder.{instr_name}
+use Rattle.machine_table.specs.declared.tables.InstrKind.TheVariants as kinds
 use Rattle.answer_texts.specs.AnswerLines.{hex_digits, hex_text, before_comma, memory_words, instr_words, text_words, word_words}
 
 data AreWords : Words → Type 0 where
@@ -68,6 +73,13 @@ OperatorsAreListed = (op : WordOp) → Contains operators op
 
 operator_word : OperatorsAreListed → (op : WordOp) → IsLineWord (name_of op)
 operator_word listed op = All-contains (λ o. IsLineWord (name_of o)) operators op (named_by operators refl) (listed op)
+
+-- the mnemonics of loads and stores
+load_word : (access : Access) → IsLineWord (instr_name (kinds.Load access))
+load_word Quad = record { some = λ e. cc; printed = refl }
+
+store_word : (access : Access) → IsLineWord (instr_name (kinds.Store access))
+store_word Quad = record { some = λ e. cc; printed = refl }
 
 -- ---- hexadecimal digits
 
@@ -141,21 +153,21 @@ module _ (number : NumbersAreWords) (listed : OperatorsAreListed) where
 
   instr_line_words : (i : Instr) → IsWellFormed i → AreWords (instr_words i)
   instr_line_words (Operate op ra second rc) is =
-      a_word (operator_word listed op)
-      (operate_words (is_unary op) ra ((second_text second ++ codes ",") ∷ register rc ∷ []) is.1
-      (a_word (joined (second_text second) (codes ",") (second_word second is.2) comma)
-      (a_word (register_word rc is.3) no_words)))
+      a_word (operator_word listed (operators_of.Operate op))
+      (operate_words (is_unary op) ra ((second_text second ++ codes ",") ∷ register rc ∷ []) is.0
+      (a_word (joined (second_text second) (codes ",") (second_word second is.1) comma)
+      (a_word (register_word rc is.2) no_words)))
   instr_line_words (Lda ra rb disp) is =
       disp_words (codes "lda") ra rb disp (record { some = λ e. cc; printed = refl }) is.0 is.1
       (signed_word disp (of_sixteen disp is.2))
   instr_line_words (Ldah ra rb disp) is =
       disp_words (codes "ldah") ra rb disp (record { some = λ e. cc; printed = refl }) is.0 is.1
       (signed_word disp (of_sixteen disp is.2))
-  instr_line_words (LdqU ra rb disp) is =
-      disp_words (codes "ldq_u") ra rb disp (record { some = λ e. cc; printed = refl }) is.0 is.1
+  instr_line_words (Load access ra rb disp) is =
+      disp_words (instr_name (kinds.Load access)) ra rb disp (load_word access) is.0 is.1
       (signed_word disp (of_sixteen disp is.2))
-  instr_line_words (StqU ra rb disp) is =
-      disp_words (codes "stq_u") ra rb disp (record { some = λ e. cc; printed = refl }) is.0 is.1
+  instr_line_words (Store access ra rb disp) is =
+      disp_words (instr_name (kinds.Store access)) ra rb disp (store_word access) is.0 is.1
       (signed_word disp (of_sixteen disp is.2))
   instr_line_words (Beq ra disp) is =
       a_word (record { some = λ e. cc; printed = refl })

@@ -4,10 +4,11 @@ use Rattle.std.specs.Fmt.{signed_decimal}
 use Rattle.alpha_encode.specs.Codes.{is_unary}
 use Rattle.alpha_encode.specs.Texts.{register, second_text, text_of, memory_text}
 use Rattle.alpha_encode.specs.declared.instructions.Instr.{Instr}
-use Rattle.alpha_encode.specs.declared.instructions.Instr.TheVariants.{Operate, Lda, Ldah, LdqU, StqU, Beq}
+use Rattle.alpha_encode.specs.declared.instructions.Instr.TheVariants.{Operate, Lda, Ldah, Load, Store, Beq}
 use Rattle.launch_graph.specs.LineParts.{words_behind}
-use Rattle.word_ops.specs.Names.{name_of}
-use Rattle.word_ops.specs.declared.operators.WordOp.{WordOp}
+use Rattle.word_ops.specs.Operates.{row_of}
+use Rattle.word_ops.specs.declared.operates.Operate.{Operate as OperateOf}
+use Rattle.word_ops.specs.declared.sorts.Access.TheVariants.{Quad}
 use Rattle.answer_texts.specs.AnswerLines.{before_comma, memory_words, instr_words}
 
 -- pieces that were put together from the left
@@ -31,19 +32,19 @@ last_word : (w last : List ℕ) → (w ++ codes ",") ++ (codes " " ++ (last ++ [
 last_word w last = comma w (last ++ []) ∙ ap (λ t. w ++ (codes ", " ++ t)) (append-nil last)
 
 -- the text with a space before it is the words with a space before each
-operate_behind : (op : WordOp) (ra : ℕ) (second : List ℕ) (rc : ℕ) (b : Bool)
-    → words_behind (name_of op ∷ (cond b [] (before_comma ra ∷ []) ++ ((second ++ codes ",") ∷ register rc ∷ [])))
-    ≡ codes " " ++ (name_of op ++ codes " " ++ cond b [] (register ra ++ codes ", ") ++ second ++ codes ", " ++ register rc)
+operate_behind : (op : OperateOf) (ra : ℕ) (second : List ℕ) (rc : ℕ) (b : Bool)
+    → words_behind ((row_of op).name ∷ (cond b [] (before_comma ra ∷ []) ++ ((second ++ codes ",") ∷ register rc ∷ [])))
+    ≡ codes " " ++ ((row_of op).name ++ codes " " ++ cond b [] (register ra ++ codes ", ") ++ second ++ codes ", " ++ register rc)
 operate_behind op ra second rc true =
-    ap (λ t. codes " " ++ (name_of op ++ (codes " " ++ t))) (last_word second (register rc))
-    ∙ sym (ap (λ t. codes " " ++ t) (six (name_of op) (codes " ") [] second (codes ", ") (register rc)))
+    ap (λ t. codes " " ++ ((row_of op).name ++ (codes " " ++ t))) (last_word second (register rc))
+    ∙ sym (ap (λ t. codes " " ++ t) (six (row_of op).name (codes " ") [] second (codes ", ") (register rc)))
 operate_behind op ra second rc false =
-    ap (λ t. codes " " ++ (name_of op ++ (codes " " ++ t)))
+    ap (λ t. codes " " ++ ((row_of op).name ++ (codes " " ++ t)))
     (comma (register ra) ((second ++ codes ",") ++ (codes " " ++ (register rc ++ [])))
     ∙ ap (λ t. register ra ++ (codes ", " ++ t)) (last_word second (register rc))
     ∙ sym (append_assoc (register ra) (codes ", ") (second ++ (codes ", " ++ register rc))))
     ∙ sym (ap (λ t. codes " " ++ t)
-    (six (name_of op) (codes " ") (register ra ++ codes ", ") second (codes ", ") (register rc)))
+    (six (row_of op).name (codes " ") (register ra ++ codes ", ") second (codes ", ") (register rc)))
 
 disp_behind : (name first : List ℕ) (ra rb : ℕ) (disp : ℤ) → first ≡ name ++ codes " "
     → words_behind (memory_words name ra rb disp) ≡ codes " " ++ memory_text first ra rb disp
@@ -62,8 +63,8 @@ pub instr_text : (i : Instr) → words_behind (instr_words i) ≡ codes " " ++ t
 instr_text (Operate op ra second rc) = operate_behind op ra (second_text second) rc (is_unary op)
 instr_text (Lda ra rb disp) = disp_behind (codes "lda") (codes "lda ") ra rb disp refl
 instr_text (Ldah ra rb disp) = disp_behind (codes "ldah") (codes "ldah ") ra rb disp refl
-instr_text (LdqU ra rb disp) = disp_behind (codes "ldq_u") (codes "ldq_u ") ra rb disp refl
-instr_text (StqU ra rb disp) = disp_behind (codes "stq_u") (codes "stq_u ") ra rb disp refl
+instr_text (Load Quad ra rb disp) = disp_behind (codes "ldq_u") (codes "ldq_u ") ra rb disp refl
+instr_text (Store Quad ra rb disp) = disp_behind (codes "stq_u") (codes "stq_u ") ra rb disp refl
 instr_text (Beq ra disp) =
     ap (λ t. codes " " ++ (codes "beq " ++ t)) (last_word (register ra) (signed_decimal disp))
     ∙ sym (ap (λ t. codes " " ++ t) (four (codes "beq ") (register ra) (codes ", ") (signed_decimal disp)))

@@ -2,8 +2,8 @@
 use Rattle.std.proofs.Common.{◌≡◌, ◌≢◌, ℕ, ◌<◌, ◌≤◌, ◌^◌, List, [], get_or, inl, inr, refl, sym, ap, ◌∙◌, arith, decimal}
 use Rattle.std.proofs.lemmas.Fmt.{decimal_injective}
 use Rattle.machine_table.specs.declared.tables.Slot.{Slot}
-use Rattle.saturation.specs.declared.rounds.Stop.{Stop}
-use Rattle.saturation.specs.declared.rounds.Stop.TheVariants.{Quiet, Rounds, Full}
+use Rattle.graph_meaning.specs.declared.stops.Stop.{Stop}
+use Rattle.graph_meaning.specs.declared.stops.Stop.TheVariants.{Quiet, Rounds, Full}
 use Rattle.text_core.specs.LineTexts.{Words}
 use Rattle.answer_texts.specs.AnswerLines.{version_words, encoding_words, stop_name, rounds_words, noworld_words, scheduled_words, none_words, conflicts_words, size_words, counted_words, cross_words, goal_words, built_in_words, own_words}
 use Rattle.answer_texts.specs.AnswerParts.{GoTogether, IsVersion, IsEncoding, IsTableLine, IsCross, IsCount, IsClaimOf, IsClaimLine, IsGoalName, IsEnd, IsBodyLine}

@@ -16,7 +16,7 @@ use Rattle.machine_table.specs.declared.tables.Table.{Table}
 use Rattle.machine_table.specs.declared.tables.Use.{Use}
 use Rattle.text_core.specs.LineTexts.{Words, line_text, lines_text}
 use Rattle.register_assign.specs.declared.listings.Where.{Where}
-use Rattle.saturation.specs.declared.rounds.Stop.{Stop}
+use Rattle.graph_meaning.specs.declared.stops.Stop.{Stop}
 use Rattle.graph_meaning.specs.declared.graphs.LaunchGraph.{LaunchGraph}
 use Rattle.schedule_meaning.specs.Launches.{pin_of}
 use Rattle.schedule_meaning.specs.declared.schedules.Launch.{Launch}

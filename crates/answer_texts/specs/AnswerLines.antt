@@ -8,7 +8,7 @@ use Rattle.alpha_encode.specs.Codes.{is_unary}
 use Rattle.alpha_encode.specs.Decoded.{decoded}
 use Rattle.alpha_encode.specs.Texts.{register, second_text}
 use Rattle.alpha_encode.specs.declared.instructions.Instr.{Instr}
-use Rattle.alpha_encode.specs.declared.instructions.Instr.TheVariants.{Operate, Lda, Ldah, LdqU, StqU, Beq}
+use Rattle.alpha_encode.specs.declared.instructions.Instr.TheVariants.{Operate, Lda, Ldah, Load, Store, Beq}
 use Rattle.cnf_core.specs.declared.line.Line.{Line}
 use Rattle.cnf_core.specs.declared.line.Lines.{Lines}
 use Rattle.launch_graph.specs.GraphLines.{graph_lines, pin_words, said}
@@ -19,13 +19,14 @@ use Rattle.machine_table.specs.declared.tables.Table.{Table}
 use Rattle.machine_table.specs.declared.tables.Use.{Use}
 use Rattle.refutation_check.specs.LineWords.{line_words}
 use Rattle.register_assign.specs.declared.listings.Where.{Where}
-use Rattle.saturation.specs.declared.rounds.Stop.{Stop}
-use Rattle.saturation.specs.declared.rounds.Stop.TheVariants.{Quiet, Rounds, Full}
+use Rattle.graph_meaning.specs.declared.stops.Stop.{Stop}
+use Rattle.graph_meaning.specs.declared.stops.Stop.TheVariants.{Quiet, Rounds, Full}
 use Rattle.schedule_meaning.specs.Launches.{pin_of}
 use Rattle.schedule_meaning.specs.declared.schedules.Launch.{Launch}
 use Rattle.text_core.specs.LineTexts.{Words, lines_text}
-use Rattle.word_ops.specs.Names.{name_of}
-use Rattle.word_ops.specs.declared.operators.WordOp.{WordOp}
+use Rattle.word_ops.specs.Operates.{row_of}
+use Rattle.word_ops.specs.declared.operates.Operate.{Operate as OperateOf}
+use Rattle.machine_table.specs.declared.tables.InstrKind.TheVariants as kinds
 use Rattle.answer_texts.specs.declared.answers.AnswerText.{AnswerText}
 use Rattle.answer_texts.specs.declared.answers.Claim.{Claim}
 use Rattle.answer_texts.specs.declared.answers.Claim.TheVariants.{NoWorld, Scheduled, Missing, SpentConflicts, SpentSize}
@@ -100,7 +101,7 @@ abbrev pub before_comma : ℕ → List ℕ
 before_comma r = register r ++ codes ","
 
 -- an operate of one operand is printed without a first operand
-abbrev pub first_operand_words : WordOp → ℕ → Words
+abbrev pub first_operand_words : OperateOf → ℕ → Words
 first_operand_words op ra = if is_unary op then [] else before_comma ra ∷ []
 
 abbrev pub memory_words : List ℕ → ℕ → ℕ → ℤ → Words
@@ -110,11 +111,11 @@ memory_words name ra rb disp =
 -- the words of an instruction's text
 abbrev pub instr_words : Instr → Words
 instr_words (Operate op ra second rc) =
-    name_of op ∷ (first_operand_words op ra ++ ((second_text second ++ codes ",") ∷ register rc ∷ []))
+    (row_of op).name ∷ (first_operand_words op ra ++ ((second_text second ++ codes ",") ∷ register rc ∷ []))
 instr_words (Lda ra rb disp) = memory_words (codes "lda") ra rb disp
 instr_words (Ldah ra rb disp) = memory_words (codes "ldah") ra rb disp
-instr_words (LdqU ra rb disp) = memory_words (codes "ldq_u") ra rb disp
-instr_words (StqU ra rb disp) = memory_words (codes "stq_u") ra rb disp
+instr_words (Load access ra rb disp) = memory_words (instr_name (kinds.Load access)) ra rb disp
+instr_words (Store access ra rb disp) = memory_words (instr_name (kinds.Store access)) ra rb disp
 instr_words (Beq ra disp) = codes "beq" ∷ before_comma ra ∷ signed_decimal disp ∷ []
 
 -- the words of the instruction that a word is, and none for a word that is none

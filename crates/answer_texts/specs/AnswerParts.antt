@@ -12,7 +12,7 @@ use Rattle.machine_table.specs.declared.tables.Table.{Table}
 use Rattle.machine_table.specs.declared.tables.Use.{Use}
 use Rattle.refutation_check.specs.LineWords.{AreLinesAt, IsFirstBadLine}
 use Rattle.register_assign.specs.declared.listings.Where.{Where}
-use Rattle.saturation.specs.declared.rounds.Stop.TheVariants.{Quiet}
+use Rattle.graph_meaning.specs.declared.stops.Stop.TheVariants.{Quiet}
 use Rattle.schedule_meaning.specs.Launches.{pin_of}
 use Rattle.schedule_meaning.specs.declared.schedules.To.{To}
 use Rattle.schedule_meaning.specs.declared.schedules.To.TheVariants.{Pool, Set}

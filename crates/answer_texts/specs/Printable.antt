@@ -8,7 +8,7 @@ use Rattle.graph_meaning.specs.declared.graphs.LaunchGraph.{LaunchGraph}
 use Rattle.machine_table.specs.Tables.{IsTable, ev6}
 use Rattle.machine_table.specs.declared.tables.Table.{Table}
 use Rattle.refutation_check.specs.LineWords.{IsReadableLine}
-use Rattle.saturation.specs.declared.rounds.Stop.{Stop}
+use Rattle.graph_meaning.specs.declared.stops.Stop.{Stop}
 use Rattle.text_core.specs.Names.{IsName}
 use Rattle.answer_texts.specs.AnswerLines.{refuted_below}
 use Rattle.answer_texts.specs.AnswerParts.{AreLaunches, AreCodes, AreWherePlaces, GoTogether, no_world_body, claimed_of}

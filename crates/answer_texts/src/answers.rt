@@ -1,10 +1,9 @@
 // What the text of an answer says: of each goal its graph, what is claimed of it, and the lines that are to show it.
 use cnf_core::Lines;
-use graph_meaning::LaunchGraph;
+use graph_meaning::{LaunchGraph, Stop};
 use items::Items;
 use machine_table::Table;
 use register_assign::Where;
-use saturation::Stop;
 use schedule_meaning::Schedule;
 use text_core::Name;
 

@@ -6,13 +6,13 @@ ghost use Rattle.answer_texts.specs.LineParts.{IsOneLine, IsNoLine};
 
 use crate::answers::{Claim, Claimed};
 use crate::claim_reading::read_claim;
-use crate::line_reading::{bad_line, body_line, goal_line, is_end};
+use crate::line_reading::{bad_line, body_line, goal_line};
 use crate::parts::{Body, BodyLine};
+use graph_meaning::Stop;
 use items::Items;
 use machine_table::Table;
-use saturation::Stop;
 use std::alloc::Global;
-use text_core::{Name, TextFault, TextLines};
+use text_core::{Name, TextFault, TextLines, has_form};
 
 /// The most goals of an answer.
 const MOST_GOALS: usize = 64;
@@ -113,7 +113,7 @@ fn read_end(text: &TextLines<'_>, from: u32) -> Result<(), TextFault>
     ensures fault { IfErr result (IsFaultBy (IsNoLine IsEnd text.now from)) }
     ensures few { OnOk result (length text.now < 2 ^ 29) }
 {
-    if from == text.count() || !is_end(text, from) {
+    if from == text.count() || !has_form(text, from, b"end", 1) {
         return Err(bad_line(text, from));
     }
     Ok(())

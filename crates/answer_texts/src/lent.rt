@@ -5,10 +5,9 @@ ghost use Rattle.answer_texts.specs.Lent.{lent_claim, lent_claimed};
 
 use crate::answers::{Claim, Claimed};
 use cnf_core::Lines;
-use graph_meaning::LaunchGraph;
+use graph_meaning::{LaunchGraph, Stop};
 use items::Items;
 use register_assign::Where;
-use saturation::Stop;
 use schedule_meaning::Schedule;
 use text_core::Name;
 

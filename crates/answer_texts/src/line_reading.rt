@@ -4,7 +4,7 @@ ghost use Rattle.std.specs.Prelude as std;
 ghost use Rattle.text_core.specs.Faults.{IsFaultBy};
 ghost use Rattle.text_core.specs.Lines.{line_at};
 ghost use Rattle.text_core.specs.LineTexts.{SaysNone};
-ghost use Rattle.saturation.specs.declared.rounds.Stop.{Stop as StopOf};
+ghost use Rattle.graph_meaning.specs.declared.stops.Stop.{Stop as StopOf};
 ghost use Rattle.answer_texts.specs.AnswerLines.{end_words, stop_name};
 ghost use Rattle.answer_texts.specs.AnswerParts.{GoTogether, IsBodyLine, IsClaimLine, IsCount, IsCross, IsEncoding, IsGoalName, IsTableLine, IsVersion};
 ghost use Rattle.answer_texts.specs.LineParts.{IsBadOrMissingLine};
@@ -12,9 +12,9 @@ ghost use Rattle.answer_texts.specs.declared.parts.BodyLine.TheVariants as bodie
 ghost use Rattle.answer_texts.specs.declared.parts.ClaimLine.TheVariants as lines_of;
 
 use crate::parts::{BodyLine, ClaimLine, TableLine};
+use graph_meaning::Stop;
 use items::NoMemory;
 use machine_table::Slot;
-use saturation::Stop;
 use std::alloc::Global;
 use text_core::{
     Fault, Kind, Name, TextFault, TextLines, begins_with, decimal, has_form, is_name, same,
@@ -164,33 +164,22 @@ fn stop_of(word: &[u8]) -> Option<Stop>
     }
 }
 
-/// The two constants of a goal without a world.
-fn no_world_line(text: &TextLines<'_>, line: u32) -> Option<BodyLine>
+/// The line behind a goal's name.
+pub(crate) fn body_line(text: &TextLines<'_>, line: u32) -> Option<BodyLine>
     requires { line < length text.now }
-    ensures { MatchOption result
-        ((class a b : ℕ) → IsBodyLine (line_at text.now line).words (bodies.NoWorld class a b) → ⊥)
+    ensures { MatchOption result (SaysNone IsBodyLine (line_at text.now line).words)
         (IsBodyLine (line_at text.now line).words) }
 {
-    if !has_form(text, line, b"noworld", 4) {
-        return None;
+    if has_form(text, line, b"noworld", 4) {
+        let class = below(text.word(line, 1), LIMIT)?;
+        let a = decimal(text.word(line, 2))?;
+        let b = decimal(text.word(line, 3))?;
+        return Some(BodyLine::NoWorld {
+            class: class as u32,
+            a,
+            b,
+        });
     }
-    let class = below(text.word(line, 1), LIMIT)?;
-    let a = decimal(text.word(line, 2))?;
-    let b = decimal(text.word(line, 3))?;
-    Some(BodyLine::NoWorld {
-        class: class as u32,
-        a,
-        b,
-    })
-}
-
-/// How many rounds there were, and why they ended.
-fn rounds_line(text: &TextLines<'_>, line: u32) -> Option<BodyLine>
-    requires { line < length text.now }
-    ensures { MatchOption result
-        ((rounds : ℕ) (stop : StopOf) → IsBodyLine (line_at text.now line).words (bodies.Rounds rounds stop) → ⊥)
-        (IsBodyLine (line_at text.now line).words) }
-{
     if !has_form(text, line, b"rounds", 4) || !same(text.word(line, 2), b"stop") {
         return None;
     }
@@ -200,19 +189,6 @@ fn rounds_line(text: &TextLines<'_>, line: u32) -> Option<BodyLine>
         rounds: rounds as u32,
         stop,
     })
-}
-
-/// The line behind a goal's name.
-pub(crate) fn body_line(text: &TextLines<'_>, line: u32) -> Option<BodyLine>
-    requires { line < length text.now }
-    ensures { MatchOption result (SaysNone IsBodyLine (line_at text.now line).words)
-        (IsBodyLine (line_at text.now line).words) }
-{
-    if begins_with(text, line, b"noworld") {
-        no_world_line(text, line)
-    } else {
-        rounds_line(text, line)
-    }
 }
 
 /// A number of cycles that a claim may speak of.
@@ -281,12 +257,4 @@ pub(crate) fn count_line(text: &TextLines<'_>, line: u32, first: &[u8], k: u32) 
     }
     let count = below(text.word(line, 2), LIMIT)?;
     Some(count as u32)
-}
-
-/// Whether a goal ends.
-pub(crate) fn is_end(text: &TextLines<'_>, line: u32) -> bool
-    requires { line < length text.now }
-    ensures { IsTrue result ↔ ((line_at text.now line).words ≡ end_words) }
-{
-    has_form(text, line, b"end", 1)
 }

@@ -1,8 +1,7 @@
 // What a single line of an answer says, where it decides what may stand behind it.
 use crate::answers::Claim;
 use cnf_core::Lines;
-use graph_meaning::LaunchGraph;
-use saturation::Stop;
+use graph_meaning::{LaunchGraph, Stop};
 
 /// The first line of a table.
 #[derive(Clone, Copy)]

@@ -11,11 +11,11 @@ use crate::line_printing::{put_lines, put_pair};
 use crate::schedule_printing::{put_codes, put_launches, put_wheres};
 use crate::table_printing::put_table;
 use cnf_core::Lines;
+use graph_meaning::Stop;
 use items::{Items, NoMemory};
 use launch_graph::{LaunchGraph, put_graph};
 use machine_table::Table;
 use register_assign::Where;
-use saturation::Stop;
 use schedule_meaning::Schedule;
 use std::alloc::Global;
 use text_core::{put, put_number, put_numbered, put_word};
@@ -30,31 +30,8 @@ fn stop_name(stop: Stop) -> &'static [u8]
     }
 }
 
-fn put_rounds(text: &mut Vec<u8>, rounds: u32, stop: Stop) -> Result<(), NoMemory>
-    ensures { OnOk result (text.new.items ≡ text.old.items ++ line_text (format.rounds_words rounds stop)) }
-{
-    put(text, b"rounds")?;
-    put_number(text, u64::from(rounds))?;
-    put_word(text, b"stop")?;
-    put_word(text, stop_name(stop))?;
-    put(text, b"\n")
-}
-
-#[tactic(auto, using(crate::proofs::PrintPieces::graph_text))]
-fn put_worked(
-    text: &mut Vec<u8>,
-    rounds: u32,
-    stop: Stop,
-    graph: &LaunchGraph,
-) -> Result<(), NoMemory>
-    ensures { OnOk result (text.new.items
-        ≡ text.old.items ++ lines_text (format.graph_part rounds stop (Some graph.now))) }
-{
-    put_rounds(text, rounds, stop)?;
-    put_graph(text, graph)
-}
-
 /// The rounds, why they ended, and the graph, where there is one.
+#[tactic(auto, using(crate::proofs::PrintPieces::graph_text))]
 fn put_matched(
     text: &mut Vec<u8>,
     rounds: u32,
@@ -64,40 +41,15 @@ fn put_matched(
     ensures { OnOk result (text.new.items
         ≡ text.old.items ++ lines_text (format.graph_part rounds stop (option_copied graph.entry))) }
 {
-    match graph {
-        Some(graph) => put_worked(text, rounds, stop, graph),
-        None => Ok(()),
+    if let Some(graph) = graph {
+        put(text, b"rounds")?;
+        put_number(text, u64::from(rounds))?;
+        put_word(text, b"stop")?;
+        put_word(text, stop_name(stop))?;
+        put(text, b"\n")?;
+        put_graph(text, graph)?;
     }
-}
-
-#[tactic(auto, using(crate::proofs::PrintPieces::schedule_text))]
-fn put_schedule(
-    alloc: Global,
-    text: &mut Vec<u8>,
-    table: &Table,
-    graph: Option<&LaunchGraph>,
-    k: u32,
-    schedule: &Schedule,
-    words: &Items<u32>,
-    places: &Items<Where>,
-) -> Result<(), NoMemory>
-    ensures { OnOk result (text.new.items
-        ≡ text.old.items ++ lines_text (format.claim_part table.now (option_copied graph.entry)
-        (Claim.Scheduled k schedule.now words.now places.now))) }
-{
-    put_numbered(text, b"scheduled", u64::from(k))?;
-    put_launches(text, table, graph, schedule.launches.as_slice())?;
-    put_codes(alloc, text, words.as_slice())?;
-    put_wheres(text, places.as_slice())
-}
-
-fn put_conflicts(text: &mut Vec<u8>, k: u32) -> Result<(), NoMemory>
-    ensures { OnOk result (text.new.items ≡ text.old.items ++ line_text (format.conflicts_words k)) }
-{
-    put(text, b"spent")?;
-    put_word(text, b"conflicts")?;
-    put_number(text, u64::from(k))?;
-    put(text, b"\n")
+    Ok(())
 }
 
 fn put_size(text: &mut Vec<u8>, k: u32, vars: u64, clauses: u64) -> Result<(), NoMemory>
@@ -111,16 +63,7 @@ fn put_size(text: &mut Vec<u8>, k: u32, vars: u64, clauses: u64) -> Result<(), N
     put(text, b"\n")
 }
 
-fn put_noworld(text: &mut Vec<u8>, class: u32, a: u64, b: u64) -> Result<(), NoMemory>
-    ensures { OnOk result (text.new.items ≡ text.old.items ++ line_text (format.noworld_words class a b)) }
-{
-    put(text, b"noworld")?;
-    put_number(text, u64::from(class))?;
-    put_number(text, a)?;
-    put_number(text, b)?;
-    put(text, b"\n")
-}
-
+#[tactic(auto, using(crate::proofs::PrintPieces::schedule_text))]
 fn put_claim(
     alloc: Global,
     text: &mut Vec<u8>,
@@ -132,15 +75,31 @@ fn put_claim(
         ++ lines_text (format.claim_part table.now (option_copied graph.entry) (lent_claim claim.now))) }
 {
     match claim {
-        ClaimRef::NoWorld { class, a, b } => put_noworld(text, *class, *a, *b),
+        ClaimRef::NoWorld { class, a, b } => {
+            put(text, b"noworld")?;
+            put_number(text, u64::from(*class))?;
+            put_number(text, *a)?;
+            put_number(text, *b)?;
+            put(text, b"\n")
+        }
         ClaimRef::Scheduled {
             k,
             schedule,
             words,
             places,
-        } => put_schedule(alloc, text, table, graph, *k, schedule, words, places),
+        } => {
+            put_numbered(text, b"scheduled", u64::from(*k))?;
+            put_launches(text, table, graph, schedule.launches.as_slice())?;
+            put_codes(alloc, text, words.as_slice())?;
+            put_wheres(text, places.as_slice())
+        }
         ClaimRef::Missing { k } => put_numbered(text, b"none", u64::from(*k)),
-        ClaimRef::SpentConflicts { k, lemmas: _ } => put_conflicts(text, *k),
+        ClaimRef::SpentConflicts { k, lemmas: _ } => {
+            put(text, b"spent")?;
+            put_word(text, b"conflicts")?;
+            put_number(text, u64::from(*k))?;
+            put(text, b"\n")
+        }
         ClaimRef::SpentSize { k, vars, clauses } => put_size(text, *k, *vars, *clauses),
     }
 }

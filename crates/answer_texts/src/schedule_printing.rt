@@ -26,16 +26,6 @@ pub(crate) fn name_among(slots: &[Slot], slot: u32) -> &[u8]
     }
 }
 
-/// The pin that a launch goes to with a space before it, and nothing where it goes to the pool.
-fn put_destination(text: &mut Vec<u8>, pin: Option<u8>) -> Result<(), NoMemory>
-    ensures { OnOk result (text.new.items ≡ text.old.items ++ words_behind (pin_words pin)) }
-{
-    if let Some(register) = pin {
-        put_number(text, u64::from(register))?;
-    }
-    Ok(())
-}
-
 #[tactic(auto, using(crate::proofs::PrintPieces::launch_text))]
 fn put_launch(
     text: &mut Vec<u8>,
@@ -50,27 +40,14 @@ fn put_launch(
     put_number(text, u64::from(launch.cycle))?;
     put_word(text, name_among(table.slots.as_slice(), launch.slot))?;
     put_number(text, u64::from(launch.row))?;
-    put_destination(text, pin_of(graph, launch.to))?;
+    if let Some(register) = pin_of(graph, launch.to) {
+        put_number(text, u64::from(register))?;
+    }
     put(text, b"\n")
 }
 
-#[tactic(auto, using(crate::proofs::PrintPieces::line_more))]
-fn put_launches_on(
-    text: &mut Vec<u8>,
-    table: &Table,
-    graph: &LaunchGraph,
-    launches: &[Launch],
-) -> Result<(), NoMemory>
-    ensures { OnOk result
-        (text.new.items ≡ text.old.items ++ lines_text (map (format.launch_words table.now graph.now) launches.now)) }
-{
-    for launch in launches {
-        put_launch(text, table, graph, *launch)?;
-    }
-    Ok(())
-}
-
 /// The launches of a schedule of the graph, and nothing where there is no graph.
+#[tactic(auto, using(crate::proofs::PrintPieces::line_more))]
 pub(crate) fn put_launches(
     text: &mut Vec<u8>,
     table: &Table,
@@ -80,10 +57,12 @@ pub(crate) fn put_launches(
     ensures { OnOk result (text.new.items
         ≡ text.old.items ++ lines_text (format.launches_part table.now (option_copied graph.entry) launches.now)) }
 {
-    match graph {
-        Some(graph) => put_launches_on(text, table, graph, launches),
-        None => Ok(()),
+    if let Some(graph) = graph {
+        for launch in launches {
+            put_launch(text, table, graph, *launch)?;
+        }
     }
+    Ok(())
 }
 
 /// The text of an instruction with a space before it, and nothing for a word that is none.
@@ -120,21 +99,15 @@ pub fn put_codes(alloc: Global, text: &mut Vec<u8>, words: &[u32]) -> Result<(),
     Ok(())
 }
 
-fn put_where(text: &mut Vec<u8>, place: &Where) -> Result<(), NoMemory>
-    ensures { OnOk result (text.new.items ≡ text.old.items ++ line_text (format.where_words place.now)) }
-{
-    put(text, b"where")?;
-    put_word(text, place.name.bytes())?;
-    put_number(text, u64::from(place.reg))?;
-    put(text, b"\n")
-}
-
 #[tactic(auto, using(crate::proofs::PrintPieces::line_more))]
 pub(crate) fn put_wheres(text: &mut Vec<u8>, wheres: &[Where]) -> Result<(), NoMemory>
     ensures { OnOk result (text.new.items ≡ text.old.items ++ lines_text (map format.where_words wheres.now)) }
 {
     for place in wheres {
-        put_where(text, place)?;
+        put(text, b"where")?;
+        put_word(text, place.name.bytes())?;
+        put_number(text, u64::from(place.reg))?;
+        put(text, b"\n")?;
     }
     Ok(())
 }

@@ -32,32 +32,13 @@ fn slot_number(slots: &[Slot], name: &[u8]) -> Option<u32>
     if at < LIMIT { Some(at as u32) } else { None }
 }
 
-/// Whether a set is pinned to the register.
-fn is_pinned(set: &SetClass, register: u8) -> bool
-    ensures { IsTrue result ↔ (set.now.pin ≡ Some register) }
-{
-    match set.pin {
-        Some(pin) => pin == register,
-        None => false,
-    }
-}
-
-/// The place of the first set that is pinned to the register.
-fn set_pinned(sets: &[SetClass], register: u8) -> Option<usize>
-    ensures some { IfSome result (λ at. (at < length sets.now)
-        × (option_and_then (λ (s : SetOf). s.pin) (slice_get sets.now at) ≡ Some register)) }
-    ensures first { IfSome result (λ at. All (λ (s : SetOf). s.pin ≡ Some register → ⊥) (take at sets.now)) }
-    ensures none { IfNone result (All (λ (s : SetOf). s.pin ≡ Some register → ⊥) sets.now) }
-{
-    sets.iter().position(|set| is_pinned(set, register))
-}
-
 /// The number of the first set that is pinned to the register, where it is below the limit of numbers.
 fn set_number(graph: &LaunchGraph, register: u8) -> Option<u32>
     ensures some { IfSome result (λ at. (at < 2 ^ 31) × (pin_of graph.now (SetTo at) ≡ Some register)) }
     ensures none { IfNone result ((at : ℕ) → at < 2 ^ 31 → pin_of graph.now (SetTo at) ≡ Some register → ⊥) }
 {
-    let at = set_pinned(graph.sets.as_slice(), register)? as u64;
+    let sets = graph.sets.as_slice();
+    let at = sets.iter().position(|set| set.pin == Some(register))? as u64;
     if at < LIMIT { Some(at as u32) } else { None }
 }
 

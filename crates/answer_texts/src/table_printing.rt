@@ -10,21 +10,15 @@ use items::NoMemory;
 use machine_table::{Slot, Table, Use, instr_name};
 use text_core::{put, put_number, put_numbered, put_word};
 
-fn put_slot(text: &mut Vec<u8>, slot: &Slot) -> Result<(), NoMemory>
-    ensures { OnOk result (text.new.items ≡ text.old.items ++ line_text (format.slot_words slot.now)) }
-{
-    put(text, b"slot")?;
-    put_word(text, slot.name.bytes())?;
-    put_number(text, u64::from(slot.cluster))?;
-    put(text, b"\n")
-}
-
 #[tactic(auto, using(crate::proofs::PrintPieces::line_more))]
 fn put_slots(text: &mut Vec<u8>, slots: &[Slot]) -> Result<(), NoMemory>
     ensures { OnOk result (text.new.items ≡ text.old.items ++ lines_text (map format.slot_words slots.now)) }
 {
     for slot in slots {
-        put_slot(text, slot)?;
+        put(text, b"slot")?;
+        put_word(text, slot.name.bytes())?;
+        put_number(text, u64::from(slot.cluster))?;
+        put(text, b"\n")?;
     }
     Ok(())
 }
@@ -65,20 +59,13 @@ fn put_insts(text: &mut Vec<u8>, slots: &[Slot], uses: &[Use]) -> Result<(), NoM
 
 /// The table of the Alpha 21264 is told by its name, one of the text's own by its slots, its delay between clusters and
 /// its instructions.
+#[tactic(auto, using(crate::proofs::PrintPieces::own_text))]
 pub(crate) fn put_table(text: &mut Vec<u8>, table: &Table, builtin: bool) -> Result<(), NoMemory>
     ensures { OnOk result (text.new.items ≡ text.old.items ++ lines_text (format.table_lines table.now builtin)) }
 {
     if builtin {
-        put_pair(text, b"table", b"ev6")
-    } else {
-        put_own(text, table)
+        return put_pair(text, b"table", b"ev6");
     }
-}
-
-#[tactic(auto, using(crate::proofs::PrintPieces::own_text))]
-fn put_own(text: &mut Vec<u8>, table: &Table) -> Result<(), NoMemory>
-    ensures { OnOk result (text.new.items ≡ text.old.items ++ lines_text (format.own_lines table.now)) }
-{
     put_pair(text, b"table", b"own")?;
     put_slots(text, table.slots.as_slice())?;
     put_numbered(text, b"cross", u64::from(table.cross))?;

@@ -9,8 +9,9 @@ use Rattle.std.proofs.lemmas.Nat.{mod_below}
 use Rattle.std.proofs.lemmas.Nat.Bits.{same_from_bits_below}
 use Rattle.word_ops.specs.Words.{IsWord}
 use Rattle.word_ops.specs.declared.operators.WordOp.{WordOp}
-use Rattle.word_ops.specs.declared.operators.WordOp.TheVariants.{Sra}
-use Rattle.word_ops.specs.Operators.{value_at, value_of}
+use Rattle.word_ops.specs.declared.operators.WordOp.TheVariants.{Operate}
+use Rattle.word_ops.specs.declared.operates.Operate.TheVariants.{Sra}
+use Rattle.word_ops.specs.Operators.{operate_value, value_at, value_of}
 use Rattle.word_ops.specs.Values.{sll, sra, sextb, sextw, sign_extended, selectb, ext_low}
 
 pub selectb_is_extbl : (x y : ℕ) → selectb x y ≡ ext_low 1 x y
@@ -30,8 +31,8 @@ unfolding sll
 sll_in_range a b = mod_below (a * 2 ^ (b % 64)) (2 ^ 64) (omega arith)
 
 sra_in_range : ((op : WordOp) (vs : List ℕ) → All IsWord vs → IsWord (value_of op vs)) → (a b : ℕ) → IsWord a → IsWord b → IsWord (sra a b)
-unfolding value_at
-sra_in_range in_range a b ha hb = in_range Sra (a ∷ b ∷ []) (All-cons IsWord a (b ∷ []) ha (All-cons IsWord b [] hb (All-nil IsWord)))
+unfolding value_at operate_value
+sra_in_range in_range a b ha hb = in_range (Operate Sra) (a ∷ b ∷ []) (All-cons IsWord a (b ∷ []) ha (All-cons IsWord b [] hb (All-nil IsWord)))
 
 module _
     (shifted_left : (a b i : ℕ) → i < 64 → b % 64 ≤ i → bit_at (sll a b) i ≡ bit_at a (i - b % 64))

@@ -6,8 +6,8 @@ use Rattle.std.proofs.lemmas.Bool.{cases_lt}
 use Rattle.std.proofs.Math.Pow.{pow-lt}
 use Rattle.word_ops.specs.Words.{IsWord}
 use Rattle.word_ops.specs.Values.{addq, mulq, and, lda, byte_mask}
-use Rattle.word_ops.specs.Memory.{Memory, word_at, put_word, select, store}
-use Rattle.word_ops.specs.Operators.{value_at}
+use Rattle.word_ops.specs.Memory.{Memory, word_at, put_word, select, store, loaded, stored}
+use Rattle.word_ops.specs.Operators.{operate_value, value_at}
 use Rattle.word_ops.specs.Meanings.{as_word, as_memory}
 use Rattle.word_ops.specs.Worlds.{World, Value, word}
 use Rattle.axiom_base.specs.declared.kinds.Calc.{Calc}
@@ -46,7 +46,7 @@ module _
     (others : (m : Memory) (place v other : ℕ) → other ≢ place → word_at (put_word m place v) other ≡ word_at m other)
   where
     pub calc_is_true : (kind : Calc) (cs : List ℕ) (e : ℕ) → IsCalc kind cs e → IsTrueIn world names (calc_rewrite kind cs e)
-    unfolding value_at
+    unfolding value_at operate_value loaded stored
     calc_is_true C1 cs e is = λ vs f. ap word
         (ap (addq (as_word (value_at_number vs 0))) (first_is C1 cs e is vs f)
         ∙ law.addq_is_lda _ _ (first_word C1 cs e is) is.condition.0 ∙ ap (lda (as_word (value_at_number vs 0))) (sym is.condition.2))

@@ -5,18 +5,19 @@ use Rattle.std.proofs.lemmas.Bool.{cases_lt}
 use Rattle.std.proofs.lemmas.Bool.Decides.{nat_tests}
 use Rattle.word_ops.specs.Words.{IsWord}
 use Rattle.word_ops.specs.Values.{subq, sextw, sign_extended}
-use Rattle.word_ops.specs.Operators.{value_of, value_at}
-use Rattle.word_ops.specs.declared.operators.WordOp.TheVariants.{Subq, Sextw}
+use Rattle.word_ops.specs.Operators.{operate_value, value_of, value_at}
+use Rattle.word_ops.specs.declared.operators.WordOp.TheVariants.{Operate}
+use Rattle.word_ops.specs.declared.operates.Operate.TheVariants.{Subq, Sextw}
 use Rattle.axiom_base.specs.declared.kinds.Calc.{Calc}
 use Rattle.axiom_base.specs.declared.kinds.Calc.TheVariants.{C2, C5, C9, C12}
 use Rattle.axiom_base.specs.Conditions.{IsDisplacement, IsFar, IsByteMask, Condition, IsCalc, constants_of}
 
-pub low_bits : (c : ℕ) → value_of Sextw (c ∷ []) ≡ sign_extended 16 c
-unfolding value_at sextw
+pub low_bits : (c : ℕ) → value_of (Operate Sextw) (c ∷ []) ≡ sign_extended 16 c
+unfolding value_at operate_value sextw
 low_bits c = refl
 
-pub difference_is : (a b : ℕ) → value_of Subq (a ∷ b ∷ []) ≡ subq a b
-unfolding value_at
+pub difference_is : (a b : ℕ) → value_of (Operate Subq) (a ∷ b ∷ []) ≡ subq a b
+unfolding value_at operate_value
 difference_is a b = refl
 
 rest_is_not_0 : (c : ℕ) → IsWord c → (IsDisplacement c → ⊥) → subq c (sign_extended 16 c) ≡ 0 → ⊥
@@ -48,7 +49,7 @@ pub masks_given : (cs : List ℕ) (r : Option ℕ) → length cs ≡ 1 → All I
 masks_given cs r count words given h = calc_exact C9 cs r count words given h
 
 pub far_given : (cs : List ℕ) (r : Option ℕ) (difference : ℕ) → length cs ≡ 2 → All IsWord cs → IfSome r IsWord →
-    difference ≡ value_of Subq (get_or cs 1 0 ∷ get_or cs 0 0 ∷ []) →
+    difference ≡ value_of (Operate Subq) (get_or cs 1 0 ∷ get_or cs 0 0 ∷ []) →
     MatchOption r (IsFar difference → ⊥) (λ e. IsFar difference × (e ≡ get_or cs 1 0)) →
     MatchOption r ((e : ℕ) → IsCalc C12 cs e → ⊥) (IsCalc C12 cs)
 far_given cs None difference count words given is h = λ e k. h (subst IsFar (sym (is ∙ difference_is (get_or cs 1 0) (get_or cs 0 0))) k.condition.0)

@@ -5,8 +5,8 @@ use Rattle.std.specs.Int.{bit_at}
 use Rattle.word_ops.specs.Words.{IsWord}
 use Rattle.word_ops.specs.Values.{sll, sra, sign_extended, storeb, bis, msk_low, ins_low}
 use Rattle.word_ops.specs.declared.operators.WordOp.{WordOp}
-use Rattle.word_ops.specs.Memory.{Memory, word_at, put_word}
-use Rattle.word_ops.specs.Operators.{value_at, value_of}
+use Rattle.word_ops.specs.Memory.{Memory, word_at, put_word, loaded, stored, load, put}
+use Rattle.word_ops.specs.Operators.{operate_value, value_at, value_of}
 use Rattle.word_ops.specs.Worlds.{word, memory, World}
 use Rattle.axiom_base.specs.Rewrites.{IsTrueIn}
 use Rattle.axiom_base.specs.Equations.{additions, differences, multiplications, shifts, scaled_sums, ands, ors, exclusive_ors, inversions, comparisons, bytes, memories, equations}
@@ -20,7 +20,7 @@ use Rattle.axiom_base.proofs.Storage as storage
 
 module _ (world : World) (names : ℕ → List ℕ) where
   pub additions_are_true : Each (IsTrueIn world names) additions
-  unfolding value_at
+  unfolding value_at operate_value
   additions_are_true =
       (λ vs f. ap word (arithmetic.addq_is_commutative _ _))
       ▸ (λ vs f. ap word (arithmetic.addq_is_associative _ _ _))
@@ -28,7 +28,7 @@ module _ (world : World) (names : ℕ → List ℕ) where
       ▸ done
 
   pub differences_are_true : Each (IsTrueIn world names) differences
-  unfolding value_at
+  unfolding value_at operate_value
   differences_are_true =
       (λ vs f. ap word (arithmetic.subq_is_addq_of_neg _ _))
       ▸ (λ vs f. ap word (arithmetic.addq_of_neg_is_subq _ _))
@@ -39,7 +39,7 @@ module _ (world : World) (names : ℕ → List ℕ) where
       ▸ done
 
   pub multiplications_are_true : Each (IsTrueIn world names) multiplications
-  unfolding value_at
+  unfolding value_at operate_value
   multiplications_are_true =
       (λ vs f. ap word (arithmetic.mulq_is_commutative _ _))
       ▸ (λ vs f. ap word (arithmetic.mulq_is_associative _ _ _))
@@ -49,7 +49,7 @@ module _ (world : World) (names : ℕ → List ℕ) where
       ▸ done
 
   pub shifts_are_true : Each (IsTrueIn world names) shifts
-  unfolding value_at
+  unfolding value_at operate_value
   shifts_are_true =
       (λ vs f. ap word (shift.addq_of_itself_is_sll _))
       ▸ (λ vs f. ap word (shift.sll_by_1_is_addq _))
@@ -58,7 +58,7 @@ module _ (world : World) (names : ℕ → List ℕ) where
       ▸ done
 
   pub scaled_sums_are_true : Each (IsTrueIn world names) scaled_sums
-  unfolding value_at
+  unfolding value_at operate_value
   scaled_sums_are_true =
       (λ vs f. ap word (shift.addq_of_sll_is_s4addq _ _))
       ▸ (λ vs f. ap word (shift.addq_of_sll_is_s8addq _ _))
@@ -67,7 +67,7 @@ module _ (world : World) (names : ℕ → List ℕ) where
       ▸ done
 
   pub ands_are_true : Each (IsTrueIn world names) ands
-  unfolding value_at
+  unfolding value_at operate_value
   ands_are_true =
       (λ vs f. ap word (logic.and_is_commutative _ _))
       ▸ (λ vs f. ap word (logic.and_is_associative _ _ _))
@@ -76,7 +76,7 @@ module _ (world : World) (names : ℕ → List ℕ) where
       ▸ done
 
   pub ors_are_true : Each (IsTrueIn world names) ors
-  unfolding value_at
+  unfolding value_at operate_value
   ors_are_true =
       (λ vs f. ap word (logic.bis_is_commutative _ _))
       ▸ (λ vs f. ap word (logic.bis_is_associative _ _ _))
@@ -85,7 +85,7 @@ module _ (world : World) (names : ℕ → List ℕ) where
       ▸ done
 
   pub exclusive_ors_are_true : Each (IsTrueIn world names) exclusive_ors
-  unfolding value_at
+  unfolding value_at operate_value
   exclusive_ors_are_true =
       (λ vs f. ap word (logic.xor_is_commutative _ _))
       ▸ (λ vs f. ap word (logic.xor_is_associative _ _ _))
@@ -94,7 +94,7 @@ module _ (world : World) (names : ℕ → List ℕ) where
       ▸ done
 
   pub inversions_are_true : Each (IsTrueIn world names) inversions
-  unfolding value_at
+  unfolding value_at operate_value
   inversions_are_true =
       (λ vs f. ap word (logic.not_is_ornot_from_0 _))
       ▸ (λ vs f. ap word (logic.not_of_not _ (x_in_range f refl)) ∙ x_is_word f refl)
@@ -104,7 +104,7 @@ module _ (world : World) (names : ℕ → List ℕ) where
       ▸ done
 
   pub comparisons_are_true : Each (IsTrueIn world names) comparisons
-  unfolding value_at
+  unfolding value_at operate_value
   comparisons_are_true =
       (λ vs f. ap word (logic.cmpeq_is_commutative _ _))
       ▸ done
@@ -121,7 +121,7 @@ module _
     (again : (m : Memory) (place v w : ℕ) → put_word (put_word m place v) place w ≡ put_word m place w)
   where
     bytes_are_true : Each (IsTrueIn world names) bytes
-    unfolding value_at
+    unfolding value_at operate_value
     bytes_are_true =
         (λ vs f. ap word (byte.selectb_is_extbl _ _))
         ▸ (λ vs f. ap word (stored_byte _ _ _))
@@ -130,7 +130,7 @@ module _
         ▸ done
 
     memories_are_true : Each (IsTrueIn world names) memories
-    unfolding value_at
+    unfolding value_at loaded stored load put
     memories_are_true =
         (λ vs f. ap word (storage.select_of_store reads _ _ _) ∙ v_is_word f refl)
         ▸ (λ vs f. ap memory (storage.store_of_store again _ _ _ _))

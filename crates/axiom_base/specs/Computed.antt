@@ -4,14 +4,15 @@
 use Rattle.std.specs.Prelude.{ℕ, ◌+◌, List, [], ◌∷◌}
 use Rattle.word_ops.specs.Operators.{value_of}
 use Rattle.word_ops.specs.declared.operators.WordOp.{WordOp}
-use Rattle.word_ops.specs.declared.operators.WordOp.TheVariants.{Addq, Subq, Mulq, And, Sll, Zapnot, Lda, Ldah}
+use Rattle.word_ops.specs.declared.operates.Operate.TheVariants.{Addq, Subq, Mulq, And, Sll, Zapnot}
+use Rattle.word_ops.specs.declared.operators.WordOp.TheVariants.{Lda, Ldah}
 use Rattle.word_ops.specs.declared.sorts.Op.{Op}
 use Rattle.word_ops.specs.declared.sorts.Op.TheVariants.{Word}
 use Rattle.word_ops.specs.declared.sorts.Sort.{Sort}
 use Rattle.word_ops.specs.declared.sorts.Sort.TheVariants as sorts
 use Rattle.word_terms.specs.Tree.{Tree, Trees, variable, application, none, more}
 use Rattle.axiom_base.specs.Rewrites.{Rewrite}
-use Rattle.axiom_base.specs.Equations.{w2, constant, select_of, store_of}
+use Rattle.word_terms.specs.Building.{w2, o2, constant, select_of, store_of}
 use Rattle.axiom_base.specs.declared.kinds.Calc.{Calc}
 use Rattle.axiom_base.specs.declared.kinds.Calc.TheVariants.{C1, C2, C3, C4, C5, C6, C7, C8, C9, C10, C11, C12}
 
@@ -43,21 +44,21 @@ first_constant C12 = 3
 first_constant _ = 1
 
 abbrev pub calc_left : Calc → Tree Op
-calc_left C1 = w2 Addq (variable 0) (variable 1)
-calc_left C2 = w2 Addq (variable 0) (variable 1)
+calc_left C1 = o2 Addq (variable 0) (variable 1)
+calc_left C2 = o2 Addq (variable 0) (variable 1)
 calc_left C3 = variable 0
 calc_left C4 = variable 0
 calc_left C5 = variable 0
-calc_left C6 = w2 Mulq (variable 0) (variable 1)
-calc_left C7 = w2 Mulq (variable 0) (variable 1)
-calc_left C8 = w2 Mulq (variable 0) (variable 1)
-calc_left C9 = w2 And (variable 0) (variable 1)
-calc_left C10 = select_of (store_of (variable 0) (variable 1) (variable 2)) (w2 Addq (variable 1) (variable 3))
-calc_left C11 = select_of (store_of (variable 0) (w2 Addq (variable 1) (variable 3)) (variable 2)) (variable 1)
+calc_left C6 = o2 Mulq (variable 0) (variable 1)
+calc_left C7 = o2 Mulq (variable 0) (variable 1)
+calc_left C8 = o2 Mulq (variable 0) (variable 1)
+calc_left C9 = o2 And (variable 0) (variable 1)
+calc_left C10 = select_of (store_of (variable 0) (variable 1) (variable 2)) (o2 Addq (variable 1) (variable 3))
+calc_left C11 = select_of (store_of (variable 0) (o2 Addq (variable 1) (variable 3)) (variable 2)) (variable 1)
 calc_left C12 =
     select_of
-    (store_of (variable 0) (w2 Addq (variable 1) (variable 3)) (variable 2))
-    (w2 Addq (variable 1) (variable 4))
+    (store_of (variable 0) (o2 Addq (variable 1) (variable 3)) (variable 2))
+    (o2 Addq (variable 1) (variable 4))
 
 abbrev pub calc_right : Calc → ℕ → Tree Op
 calc_right C1 e = w2 Lda (variable 0) (constant e)
@@ -65,13 +66,13 @@ calc_right C2 e = w2 Ldah (variable 0) (constant e)
 calc_right C3 e = w2 Lda (constant 0) (constant e)
 calc_right C4 e = w2 Ldah (constant 0) (constant e)
 calc_right C5 e = w2 Lda (constant e) (variable 0)
-calc_right C6 e = w2 Sll (variable 0) (constant e)
-calc_right C7 e = w2 Subq (w2 Sll (variable 0) (constant e)) (variable 0)
-calc_right C8 e = w2 Addq (w2 Sll (variable 0) (constant e)) (variable 0)
-calc_right C9 e = w2 Zapnot (variable 0) (constant e)
-calc_right C10 e = select_of (variable 0) (w2 Addq (variable 1) (variable 3))
+calc_right C6 e = o2 Sll (variable 0) (constant e)
+calc_right C7 e = o2 Subq (o2 Sll (variable 0) (constant e)) (variable 0)
+calc_right C8 e = o2 Addq (o2 Sll (variable 0) (constant e)) (variable 0)
+calc_right C9 e = o2 Zapnot (variable 0) (constant e)
+calc_right C10 e = select_of (variable 0) (o2 Addq (variable 1) (variable 3))
 calc_right C11 e = select_of (variable 0) (variable 1)
-calc_right C12 e = select_of (variable 0) (w2 Addq (variable 1) (variable 4))
+calc_right C12 e = select_of (variable 0) (o2 Addq (variable 1) (variable 4))
 
 -- the rule at the constants cs, which give e
 abbrev pub calc_rewrite : Calc → List ℕ → ℕ → Rewrite

@@ -1,6 +1,6 @@
 -- The rules of a saturation as one list of schemes. A scheme stands for one rewrite rule, or for a family of them that
 -- differ in constants. From Denali (PLDI 2002), its axioms; the choice of families is this project's.
-use Rattle.std.specs.Prelude.{◌≡◌, ℕ, ◌+◌, List, [], ◌∷◌, ◌++◌, map, length, All, Contains}
+use Rattle.std.specs.Prelude.{◌≡◌, ℕ, List, [], ◌∷◌, ◌++◌, map, length, All, Contains}
 use Rattle.word_ops.specs.Words.{IsWord}
 use Rattle.word_ops.specs.Operators.{arity_of, operators}
 use Rattle.word_ops.specs.declared.operators.WordOp.{WordOp}

@@ -10,7 +10,7 @@ ghost use Rattle.axiom_base.specs.declared.kinds.Calc.TheVariants.{C1, C2, C5, C
 
 use crate::computed_laws::computed_rules_are_true;
 use crate::kinds::Calc;
-use word_ops::{WordOp, apply};
+use word_ops::{Operate, WordOp, apply};
 
 /// The constant that the rule's constants give, or `None` where they don't meet its condition.
 pub fn calc(kind: Calc, values: &[u64]) -> Option<u64>
@@ -37,7 +37,10 @@ fn given(kind: Calc, values: &[u64]) -> Option<u64>
         Calc::C8 => exponent(c.checked_sub(1)?, 1),
         Calc::C9 => full_bytes(c),
         Calc::C10 | Calc::C11 => far(c, c),
-        Calc::C12 => far(apply(WordOp::Subq, &[values[1], c]), values[1]),
+        Calc::C12 => far(
+            apply(WordOp::Operate(Operate::Subq), &[values[1], c]),
+            values[1],
+        ),
     }
 }
 
@@ -45,12 +48,6 @@ fn is_displacement(c: u64) -> bool
     ensures { IsTrue result ↔ rules.IsDisplacement c }
 {
     c < 1 << 15 || c > u64::MAX - (1 << 15)
-}
-
-fn is_far(c: u64) -> bool
-    ensures { IsTrue result ↔ rules.IsFar c }
-{
-    8 <= c && c <= u64::MAX - 7
 }
 
 fn displacement(c: u64) -> Option<u64>
@@ -88,8 +85,8 @@ fn high_part(c: u64) -> Option<u64>
     if is_displacement(c) || c % 65536 == 0 {
         return None;
     }
-    let low = apply(WordOp::Sextw, &[c]);
-    let e = apply(WordOp::Subq, &[c, low]);
+    let low = apply(WordOp::Operate(Operate::Sextw), &[c]);
+    let e = apply(WordOp::Operate(Operate::Subq), &[c, low]);
     match high_displacement(e) {
         Some(_) => Some(e),
         None => None,
@@ -129,5 +126,9 @@ fn full_bytes(c: u64) -> Option<u64>
 fn far(difference: u64, e: u64) -> Option<u64>
     ensures { MatchOption result (rules.IsFar difference → ⊥) (λ found. rules.IsFar difference × (found ≡ e)) }
 {
-    if is_far(difference) { Some(e) } else { None }
+    if 8 <= difference && difference <= u64::MAX - 7 {
+        Some(e)
+    } else {
+        None
+    }
 }

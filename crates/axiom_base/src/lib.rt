@@ -1,8 +1,15 @@
 //! Rewrite rules over terms: 48 equations between operators, 12 kinds of rules whose constants are computed, and
 //! folding, each of them true for all words and memories.
+//!
+//! Proved: `equations` gives the 48 rows of the table, in order, each true in every world for all words and memories,
+//! and each a rule (`equations_are_true`). A `Rule` has an application on its left, well-formed sides of one sort,
+//! variables numbered from 0 without a gap, and none on its right that its left lacks; `Rule::new` makes one exactly
+//! where two terms keep this. Of the computed rules `calc` gives the constant of the right side exactly where those of
+//! the left meet the condition (`exact`), and both sides then have one value (`true_rule`). Laws: computed rules and
+//! folds are true at all their constants and well formed (`computed_rules_are_true`, `folds_are_true`), and so is each
+//! rule of a saturation, if the program's axioms are true (`schemes_are_true`).
 #![tactic(auto)]
 
-mod building;
 mod calc_sides;
 mod computed_laws;
 mod conditions;

@@ -1,25 +1,26 @@
 // The equations of bytes in words and of words in memories.
 ghost use Rattle.std.specs.Prelude.{◌≡◌, IfOk};
-ghost use Rattle.axiom_base.specs.Equations as trees;
-ghost use Rattle.axiom_base.specs.Equations.{w2, w3, words_3, memory_2, memory_3};
-ghost use Rattle.word_ops.specs.declared.operators.WordOp.TheVariants.{Storeb, Bis, Mskbl, Insbl, Lda};
+ghost use Rattle.word_terms.specs.Building as trees;
+ghost use Rattle.word_terms.specs.Building.{w2, w3, o2};
+ghost use Rattle.axiom_base.specs.Equations.{words_3, memory_2, memory_3};
+ghost use Rattle.word_ops.specs.declared.operates.Operate.TheVariants.{Bis, Mskbl, Insbl};
+ghost use Rattle.word_ops.specs.declared.operators.WordOp.TheVariants.{Storeb, Lda};
 
-use crate::building::{load, put, select, store, three, two};
 use crate::rule::Rule;
 use items::NoMemory;
 use std::alloc::Global;
-use word_ops::{Sort, WordOp};
-use word_terms::variable;
+use word_ops::{Operate, Sort, WordOp};
+use word_terms::{load, operate_2, put, select, store, three, two, variable};
 
 /// A byte put into a word: the word without that byte, joined with the byte in its place.
 pub(crate) fn stored_byte(alloc: Global) -> Result<Rule, NoMemory>
     ensures { IfOk result (λ rule. rule ≡
-        words_3 (λ x y z. (w3 Storeb x y z, w2 Bis (w2 Mskbl x y) (w2 Insbl z y)))) }
+        words_3 (λ x y z. (w3 Storeb x y z, o2 Bis (o2 Mskbl x y) (o2 Insbl z y)))) }
 {
     let left = three(alloc, WordOp::Storeb, variable(0), variable(1), variable(2))?;
-    let masked = two(alloc, WordOp::Mskbl, variable(0), variable(1))?;
-    let inserted = two(alloc, WordOp::Insbl, variable(2), variable(1))?;
-    let right = two(alloc, WordOp::Bis, masked, inserted)?;
+    let masked = operate_2(alloc, Operate::Mskbl, variable(0), variable(1))?;
+    let inserted = operate_2(alloc, Operate::Insbl, variable(2), variable(1))?;
+    let right = operate_2(alloc, Operate::Bis, masked, inserted)?;
     Rule::over(alloc, &[Sort::Word, Sort::Word, Sort::Word], left, right)
 }
 

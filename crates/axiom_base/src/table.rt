@@ -6,13 +6,16 @@ ghost use Rattle.axiom_base.specs.Equations as rows;
 
 use crate::rule::Rule;
 use crate::shapes::{
-    absorbing, associative, by_inverse, cancelling, commutative, doubled, from_zero, idempotent,
-    involutive, neutral, of_inverse, renamed, scaled, shifted_by_one, sign_extended,
+    absorbing, associative, by_inverse, cancelling, commutative, from_zero, idempotent, involutive,
+    neutral, of_inverse, scaled, sign_extended,
 };
 use crate::stores::{read_back, read_displaced, stored_again, stored_byte, stored_displaced};
 use items::{Items, NoMemory};
 use std::alloc::Global;
-use word_ops::{WordOp, meanings_are_in_range, memories_hold_words, words_have_bits};
+use word_ops::{
+    Operate, Sort, WordOp, meanings_are_in_range, memories_hold_words, words_have_bits,
+};
+use word_terms::{constant, operate_2, two, variable};
 
 /// The 48 equations, in the order of the table. Where the left side stands, the right side equals it.
 pub fn equations(alloc: Global) -> Result<Items<Rule>, NoMemory>
@@ -50,9 +53,9 @@ fn additions(alloc: Global) -> Result<Vec<Rule>, NoMemory>
     ensures { IfOk result (λ rules. rules.items ≡ rows.additions) }
 {
     let mut rules = Vec::new(alloc);
-    rules.push(commutative(alloc, WordOp::Addq)?)?;
-    rules.push(associative(alloc, WordOp::Addq)?)?;
-    rules.push(neutral(alloc, WordOp::Addq, 0)?)?;
+    rules.push(commutative(alloc, Operate::Addq)?)?;
+    rules.push(associative(alloc, Operate::Addq)?)?;
+    rules.push(neutral(alloc, Operate::Addq, 0)?)?;
     Ok(rules)
 }
 
@@ -60,11 +63,11 @@ fn differences(alloc: Global) -> Result<Vec<Rule>, NoMemory>
     ensures { IfOk result (λ rules. rules.items ≡ rows.differences) }
 {
     let mut rules = Vec::new(alloc);
-    rules.push(by_inverse(alloc, WordOp::Subq, WordOp::Addq, WordOp::Neg)?)?;
-    rules.push(of_inverse(alloc, WordOp::Addq, WordOp::Neg, WordOp::Subq)?)?;
-    rules.push(from_zero(alloc, WordOp::Neg, WordOp::Subq)?)?;
-    rules.push(cancelling(alloc, WordOp::Subq)?)?;
-    rules.push(neutral(alloc, WordOp::Subq, 0)?)?;
+    rules.push(by_inverse(alloc, Operate::Subq, Operate::Addq, WordOp::Neg)?)?;
+    rules.push(of_inverse(alloc, Operate::Addq, WordOp::Neg, Operate::Subq)?)?;
+    rules.push(from_zero(alloc, WordOp::Neg, Operate::Subq)?)?;
+    rules.push(cancelling(alloc, Operate::Subq)?)?;
+    rules.push(neutral(alloc, Operate::Subq, 0)?)?;
     rules.push(involutive(alloc, WordOp::Neg)?)?;
     Ok(rules)
 }
@@ -73,11 +76,11 @@ fn multiplications(alloc: Global) -> Result<Vec<Rule>, NoMemory>
     ensures { IfOk result (λ rules. rules.items ≡ rows.multiplications) }
 {
     let mut rules = Vec::new(alloc);
-    rules.push(commutative(alloc, WordOp::Mulq)?)?;
-    rules.push(associative(alloc, WordOp::Mulq)?)?;
-    rules.push(neutral(alloc, WordOp::Mulq, 1)?)?;
-    rules.push(absorbing(alloc, WordOp::Mulq, 0)?)?;
-    rules.push(commutative(alloc, WordOp::Umulh)?)?;
+    rules.push(commutative(alloc, Operate::Mulq)?)?;
+    rules.push(associative(alloc, Operate::Mulq)?)?;
+    rules.push(neutral(alloc, Operate::Mulq, 1)?)?;
+    rules.push(absorbing(alloc, Operate::Mulq, 0)?)?;
+    rules.push(commutative(alloc, Operate::Umulh)?)?;
     Ok(rules)
 }
 
@@ -85,10 +88,14 @@ fn shifts(alloc: Global) -> Result<Vec<Rule>, NoMemory>
     ensures { IfOk result (λ rules. rules.items ≡ rows.shifts) }
 {
     let mut rules = Vec::new(alloc);
-    rules.push(doubled(alloc)?)?;
-    rules.push(shifted_by_one(alloc)?)?;
-    rules.push(neutral(alloc, WordOp::Sll, 0)?)?;
-    rules.push(neutral(alloc, WordOp::Srl, 0)?)?;
+    let sum = operate_2(alloc, Operate::Addq, variable(0), variable(0))?;
+    let shifted = operate_2(alloc, Operate::Sll, variable(0), constant(alloc, 1))?;
+    rules.push(Rule::over(alloc, &[Sort::Word], sum, shifted)?)?;
+    let shifted = operate_2(alloc, Operate::Sll, variable(0), constant(alloc, 1))?;
+    let sum = operate_2(alloc, Operate::Addq, variable(0), variable(0))?;
+    rules.push(Rule::over(alloc, &[Sort::Word], shifted, sum)?)?;
+    rules.push(neutral(alloc, Operate::Sll, 0)?)?;
+    rules.push(neutral(alloc, Operate::Srl, 0)?)?;
     Ok(rules)
 }
 
@@ -96,10 +103,10 @@ fn scaled_sums(alloc: Global) -> Result<Vec<Rule>, NoMemory>
     ensures { IfOk result (λ rules. rules.items ≡ rows.scaled_sums) }
 {
     let mut rules = Vec::new(alloc);
-    rules.push(scaled(alloc, WordOp::Addq, 2, WordOp::S4addq)?)?;
-    rules.push(scaled(alloc, WordOp::Addq, 3, WordOp::S8addq)?)?;
-    rules.push(scaled(alloc, WordOp::Subq, 2, WordOp::S4subq)?)?;
-    rules.push(scaled(alloc, WordOp::Subq, 3, WordOp::S8subq)?)?;
+    rules.push(scaled(alloc, Operate::Addq, 2, Operate::S4addq)?)?;
+    rules.push(scaled(alloc, Operate::Addq, 3, Operate::S8addq)?)?;
+    rules.push(scaled(alloc, Operate::Subq, 2, Operate::S4subq)?)?;
+    rules.push(scaled(alloc, Operate::Subq, 3, Operate::S8subq)?)?;
     Ok(rules)
 }
 
@@ -107,10 +114,10 @@ fn ands(alloc: Global) -> Result<Vec<Rule>, NoMemory>
     ensures { IfOk result (λ rules. rules.items ≡ rows.ands) }
 {
     let mut rules = Vec::new(alloc);
-    rules.push(commutative(alloc, WordOp::And)?)?;
-    rules.push(associative(alloc, WordOp::And)?)?;
-    rules.push(idempotent(alloc, WordOp::And)?)?;
-    rules.push(absorbing(alloc, WordOp::And, 0)?)?;
+    rules.push(commutative(alloc, Operate::And)?)?;
+    rules.push(associative(alloc, Operate::And)?)?;
+    rules.push(idempotent(alloc, Operate::And)?)?;
+    rules.push(absorbing(alloc, Operate::And, 0)?)?;
     Ok(rules)
 }
 
@@ -118,10 +125,10 @@ fn ors(alloc: Global) -> Result<Vec<Rule>, NoMemory>
     ensures { IfOk result (λ rules. rules.items ≡ rows.ors) }
 {
     let mut rules = Vec::new(alloc);
-    rules.push(commutative(alloc, WordOp::Bis)?)?;
-    rules.push(associative(alloc, WordOp::Bis)?)?;
-    rules.push(idempotent(alloc, WordOp::Bis)?)?;
-    rules.push(neutral(alloc, WordOp::Bis, 0)?)?;
+    rules.push(commutative(alloc, Operate::Bis)?)?;
+    rules.push(associative(alloc, Operate::Bis)?)?;
+    rules.push(idempotent(alloc, Operate::Bis)?)?;
+    rules.push(neutral(alloc, Operate::Bis, 0)?)?;
     Ok(rules)
 }
 
@@ -129,10 +136,10 @@ fn exclusive_ors(alloc: Global) -> Result<Vec<Rule>, NoMemory>
     ensures { IfOk result (λ rules. rules.items ≡ rows.exclusive_ors) }
 {
     let mut rules = Vec::new(alloc);
-    rules.push(commutative(alloc, WordOp::Xor)?)?;
-    rules.push(associative(alloc, WordOp::Xor)?)?;
-    rules.push(cancelling(alloc, WordOp::Xor)?)?;
-    rules.push(neutral(alloc, WordOp::Xor, 0)?)?;
+    rules.push(commutative(alloc, Operate::Xor)?)?;
+    rules.push(associative(alloc, Operate::Xor)?)?;
+    rules.push(cancelling(alloc, Operate::Xor)?)?;
+    rules.push(neutral(alloc, Operate::Xor, 0)?)?;
     Ok(rules)
 }
 
@@ -140,11 +147,11 @@ fn inversions(alloc: Global) -> Result<Vec<Rule>, NoMemory>
     ensures { IfOk result (λ rules. rules.items ≡ rows.inversions) }
 {
     let mut rules = Vec::new(alloc);
-    rules.push(from_zero(alloc, WordOp::Not, WordOp::Ornot)?)?;
+    rules.push(from_zero(alloc, WordOp::Not, Operate::Ornot)?)?;
     rules.push(involutive(alloc, WordOp::Not)?)?;
-    rules.push(of_inverse(alloc, WordOp::And, WordOp::Not, WordOp::Bic)?)?;
-    rules.push(of_inverse(alloc, WordOp::Bis, WordOp::Not, WordOp::Ornot)?)?;
-    rules.push(of_inverse(alloc, WordOp::Xor, WordOp::Not, WordOp::Eqv)?)?;
+    rules.push(of_inverse(alloc, Operate::And, WordOp::Not, Operate::Bic)?)?;
+    rules.push(of_inverse(alloc, Operate::Bis, WordOp::Not, Operate::Ornot)?)?;
+    rules.push(of_inverse(alloc, Operate::Xor, WordOp::Not, Operate::Eqv)?)?;
     Ok(rules)
 }
 
@@ -152,7 +159,7 @@ fn comparisons(alloc: Global) -> Result<Vec<Rule>, NoMemory>
     ensures { IfOk result (λ rules. rules.items ≡ rows.comparisons) }
 {
     let mut rules = Vec::new(alloc);
-    rules.push(commutative(alloc, WordOp::Cmpeq)?)?;
+    rules.push(commutative(alloc, Operate::Cmpeq)?)?;
     Ok(rules)
 }
 
@@ -160,10 +167,12 @@ fn bytes(alloc: Global) -> Result<Vec<Rule>, NoMemory>
     ensures { IfOk result (λ rules. rules.items ≡ rows.bytes) }
 {
     let mut rules = Vec::new(alloc);
-    rules.push(renamed(alloc, WordOp::Selectb, WordOp::Extbl)?)?;
+    let selected = two(alloc, WordOp::Selectb, variable(0), variable(1))?;
+    let extracted = operate_2(alloc, Operate::Extbl, variable(0), variable(1))?;
+    rules.push(Rule::over(alloc, &[Sort::Word, Sort::Word], selected, extracted)?)?;
     rules.push(stored_byte(alloc)?)?;
-    rules.push(sign_extended(alloc, 56, WordOp::Sextb)?)?;
-    rules.push(sign_extended(alloc, 48, WordOp::Sextw)?)?;
+    rules.push(sign_extended(alloc, 56, Operate::Sextb)?)?;
+    rules.push(sign_extended(alloc, 48, Operate::Sextw)?)?;
     Ok(rules)
 }
 

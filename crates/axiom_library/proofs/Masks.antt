@@ -1,5 +1,5 @@
 -- Comparisons as masks, and words chosen by a mask.
-use Rattle.std.proofs.Common.{◌≡◌, ℕ, zero, suc, Bool, true, false, not as negated, ◌+◌, ◌-◌, ◌%◌, ◌<◌, min, sym, ap, ◌∙◌, arith}
+use Rattle.std.proofs.Common.{◌≡◌, ℕ, zero, suc, Bool, true, false, not as negated, ◌+◌, ◌%◌, ◌<◌, min, sym, ap, ◌∙◌, arith}
 use Rattle.std.specs.Prelude.{nat_lt, nat_le}
 use Rattle.std.specs.Int.{bit_at, cast_signed, w64}
 use Rattle.std.proofs.lemmas.Nat.{xor_lt}

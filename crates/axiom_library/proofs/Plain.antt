@@ -13,7 +13,7 @@ use Rattle.machine_table.proofs.Decide.{Dec, dec_by, dec_not, dec_pairs, holds, 
 use Rattle.word_ops.specs.Meanings.{takes_memory}
 use Rattle.word_ops.specs.Operators.{arity_of}
 use Rattle.word_ops.specs.declared.sorts.Op.{Op}
-use Rattle.word_ops.specs.declared.sorts.Op.TheVariants.{Entry, Input, Constant, Word, Select, Store, Load, Put, Declared}
+use Rattle.word_ops.specs.declared.sorts.Op.TheVariants.{Constant, Word}
 use Rattle.word_ops.specs.declared.sorts.Sort.TheVariants as sorts
 use Rattle.word_terms.specs.Keys.{op_signature}
 use Rattle.word_terms.specs.OperatorsIn.{operators_in, EachOperator, EachOperatorOfAll}
@@ -30,13 +30,7 @@ use Rattle.axiom_library.specs.Families.{IsApart}
 abbrev pub is_plain_operator : Op → ℕ → Bool
 is_plain_operator (Constant c) count = nat_lt c (2 ^ 64) && count == 0
 is_plain_operator (Word op) count = is_written op && count == arity_of op
-is_plain_operator Entry count = false
-is_plain_operator (Input register) count = false
-is_plain_operator Select count = false
-is_plain_operator Store count = false
-is_plain_operator Load count = false
-is_plain_operator Put count = false
-is_plain_operator (Declared index arity) count = false
+is_plain_operator _ count = false
 
 abbrev mutual
   pub is_plain : ℕ → Tree Op → Bool
@@ -66,13 +60,7 @@ mutual
       let parts = and_parts _ _ e in
       let own = and_parts _ _ parts.0 in
       (refl, tt, same_from_test (tree_count ts) (arity_of op) own.1, all_sorted k (Word op) refl 0 ts parts.1)
-  sorted k (application Entry ts) e = absurd (false≢true e)
-  sorted k (application (Input register) ts) e = absurd (false≢true e)
-  sorted k (application Select ts) e = absurd (false≢true e)
-  sorted k (application Store ts) e = absurd (false≢true e)
-  sorted k (application Load ts) e = absurd (false≢true e)
-  sorted k (application Put ts) e = absurd (false≢true e)
-  sorted k (application (Declared index arity) ts) e = absurd (false≢true e)
+  sorted k (application _ ts) e = absurd (false≢true e)
 
   all_sorted :
       (k : ℕ) (op : Op) →
@@ -96,13 +84,7 @@ module _ (declared : List DeclaredOp) where
         let parts = and_parts _ _ e in
         let own = and_parts _ _ parts.0 in
         (own.0, all_written k ts parts.1)
-    written k (application Entry ts) e = absurd (false≢true e)
-    written k (application (Input register) ts) e = absurd (false≢true e)
-    written k (application Select ts) e = absurd (false≢true e)
-    written k (application Store ts) e = absurd (false≢true e)
-    written k (application Load ts) e = absurd (false≢true e)
-    written k (application Put ts) e = absurd (false≢true e)
-    written k (application (Declared index arity) ts) e = absurd (false≢true e)
+    written k (application _ ts) e = absurd (false≢true e)
 
     all_written : (k : ℕ) (ts : Trees Op) → are_plain k ts ≡ true → EachOperatorOfAll (IsOfAxiom declared) ts
     all_written k none e = tt
@@ -157,26 +139,12 @@ each_occurs (suc k) n t l e =
 abbrev pub is_operation : Tree Op → Bool
 is_operation (variable n) = false
 is_operation (application (Word op) ts) = true
-is_operation (application (Constant c) ts) = false
-is_operation (application Entry ts) = false
-is_operation (application (Input register) ts) = false
-is_operation (application Select ts) = false
-is_operation (application Store ts) = false
-is_operation (application Load ts) = false
-is_operation (application Put ts) = false
-is_operation (application (Declared index arity) ts) = false
+is_operation (application _ ts) = false
 
 applied : (t : Tree Op) → is_operation t ≡ true → IsApplication t × IsOperation t
 applied (variable n) e = absurd (false≢true e)
 applied (application (Word op) ts) e = (tt, refl)
-applied (application (Constant c) ts) e = absurd (false≢true e)
-applied (application Entry ts) e = absurd (false≢true e)
-applied (application (Input register) ts) e = absurd (false≢true e)
-applied (application Select ts) e = absurd (false≢true e)
-applied (application Store ts) e = absurd (false≢true e)
-applied (application Load ts) e = absurd (false≢true e)
-applied (application Put ts) e = absurd (false≢true e)
-applied (application (Declared index arity) ts) e = absurd (false≢true e)
+applied (application _ ts) e = absurd (false≢true e)
 
 abbrev pub sides_fit : AxiomTree → Bool
 sides_fit a =

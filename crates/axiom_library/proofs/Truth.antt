@@ -1,13 +1,13 @@
 -- Each axiom of the library is true, row by row: the law of its operators, read at the variables' values.
 use Rattle.std.proofs.Common.{List, refl, ap}
 use Rattle.std.specs.Prelude.{All}
-use Rattle.word_ops.specs.Operators.{value_at}
-use Rattle.word_ops.specs.declared.operators.WordOp.TheVariants.{Addq, Cmpeq, Cmple, Cmplt, Cmpule, Cmpult, S4addq, S4subq, S8addq, Sextb, Sextw, Srl, Subq, Xor}
+use Rattle.word_ops.specs.Operators.{operate_value, value_at}
+use Rattle.word_ops.specs.declared.operates.Operate.TheVariants.{Addq, Cmpeq, Cmple, Cmplt, Cmpule, Cmpult, S4addq, S4subq, S8addq, Sextb, Sextw, Srl, Subq, Xor}
 use Rattle.word_ops.specs.Worlds.{word, World}
 use Rattle.goal_meaning.specs.Holds.{HoldsOfAll}
 use Rattle.goal_meaning.specs.declared.goals.DeclaredOp.{DeclaredOp}
 use Rattle.axiom_base.proofs.Rows.{Each, done, ◌▸◌, All-Each, joined}
-use Rattle.axiom_library.specs.Families.{byte_moves, small_products, large_products, sums, halves, extension_forms, rounding, negated_comparisons, equalities, minima, carries, axioms_of}
+use Rattle.axiom_library.specs.Families.{byte_moves, small_products, large_products, sums, halves, extensions, rounding, negations, equalities, minima, carries, axioms_of}
 use Rattle.axiom_library.specs.Families.{packing, swapping_4, swapping_8, spreading}
 use Rattle.axiom_library.specs.Families.{in_steps, in_steps_to_0, by_100, by_four_ones, by_eight_ones, by_eighth, by_halves}
 use Rattle.axiom_library.specs.Families.{zero_extension, long_extension, by_sign, round_down, less_remainder, round_up}
@@ -27,7 +27,7 @@ use Rattle.axiom_library.proofs.Carried as carried
 
 module _ (declared : List DeclaredOp) (world : World) where
   bytes_are_true : Each (HoldsOfAll declared world) byte_moves
-  unfolding value_at
+  unfolding value_at operate_value
   bytes_are_true =
       of_abcd declared world packing refl (λ a b c d h i j k. ap word (byte_rows.packing a b c d h i j k))
       ▸ of_x declared world swapping_4 refl (λ x h. ap word (byte_rows.swapping_4 x h))
@@ -36,7 +36,7 @@ module _ (declared : List DeclaredOp) (world : World) where
       ▸ done
 
   small_products_are_true : Each (HoldsOfAll declared world) small_products
-  unfolding value_at
+  unfolding value_at operate_value
   small_products_are_true =
       of_x declared world (in_steps 6 Addq S4addq) refl (λ x h. ap word (sum.by_6 x))
       ▸ of_x declared world (in_steps 10 Addq S8addq) refl (λ x h. ap word (sum.by_10 x))
@@ -50,7 +50,7 @@ module _ (declared : List DeclaredOp) (world : World) where
       ▸ done
 
   large_products_are_true : Each (HoldsOfAll declared world) large_products
-  unfolding value_at
+  unfolding value_at operate_value
   large_products_are_true =
       of_x declared world by_100 refl (λ x h. ap word (sum.by_100 x h))
       ▸ of_x declared world by_four_ones refl (λ x h. ap word (sum.by_four_ones x))
@@ -58,15 +58,15 @@ module _ (declared : List DeclaredOp) (world : World) where
       ▸ done
 
   sums_are_true : Each (HoldsOfAll declared world) sums
-  unfolding value_at
+  unfolding value_at operate_value
   sums_are_true = of_xy declared world by_eighth refl (λ x y h k. ap word (sum.by_eighth x y)) ▸ done
 
   halves_are_true : Each (HoldsOfAll declared world) halves
-  unfolding value_at
+  unfolding value_at operate_value
   halves_are_true = of_xy declared world by_halves refl (λ x y h k. ap word (sum.by_halves x y k)) ▸ done
 
-  extensions_are_true : Each (HoldsOfAll declared world) extension_forms
-  unfolding value_at
+  extensions_are_true : Each (HoldsOfAll declared world) extensions
+  unfolding value_at operate_value
   extensions_are_true =
       of_xy declared world zero_extension refl (λ x y h k. ap word (extended.srl_of_sll x y h))
       ▸ of_x declared world long_extension refl (λ x h. ap word (extended.sra_of_sll_is_addl x h))
@@ -75,7 +75,7 @@ module _ (declared : List DeclaredOp) (world : World) where
       ▸ done
 
   rounding_is_true : Each (HoldsOfAll declared world) rounding
-  unfolding value_at
+  unfolding value_at operate_value
   rounding_is_true =
       of_xy declared world round_down refl (λ x y h k. ap word (rounded.sll_of_srl x y h))
       ▸ of_xy declared world less_remainder refl (λ x y h k. ap word (rounded.less_its_bits x y h k))
@@ -84,8 +84,8 @@ module _ (declared : List DeclaredOp) (world : World) where
       ▸ of_x declared world (round_up 15) refl (λ x h. ap word (rounded.up_to_16 x h))
       ▸ done
 
-  negations_are_true : Each (HoldsOfAll declared world) negated_comparisons
-  unfolding value_at
+  negations_are_true : Each (HoldsOfAll declared world) negations
+  unfolding value_at operate_value
   negations_are_true =
       of_xy declared world (opposite Cmpult Cmpule) refl (λ x y h k. ap word (compared.cmpult_opposite x y))
       ▸ of_xy declared world (opposite Cmpule Cmpult) refl (λ x y h k. ap word (compared.cmpule_opposite x y))
@@ -98,7 +98,7 @@ module _ (declared : List DeclaredOp) (world : World) where
       ▸ done
 
   equalities_are_true : Each (HoldsOfAll declared world) equalities
-  unfolding value_at
+  unfolding value_at operate_value
   equalities_are_true =
       of_xy declared world (no_difference Subq) refl (λ x y h k. ap word (compared.no_subq x y h k))
       ▸ of_xy declared world (no_difference Xor) refl (λ x y h k. ap word (compared.no_xor x y))
@@ -107,7 +107,7 @@ module _ (declared : List DeclaredOp) (world : World) where
       ▸ done
 
   minima_are_true : Each (HoldsOfAll declared world) minima
-  unfolding value_at
+  unfolding value_at operate_value
   minima_are_true =
       of_x declared world negative_mask refl (λ x h. ap word (masks.negative_mask x h))
       ▸ of_x declared world negative_mask_less_1 refl (λ x h. ap word (masks.negative_mask_less_1 x h))
@@ -118,7 +118,7 @@ module _ (declared : List DeclaredOp) (world : World) where
       ▸ done
 
   carries_are_true : Each (HoldsOfAll declared world) carries
-  unfolding value_at
+  unfolding value_at operate_value
   carries_are_true =
       of_xy declared world carry_by_other refl (λ x y h k. ap word (carried.by_other x y h k))
       ▸ of_xy declared world carry_by_not refl (λ x y h k. ap word (carried.by_not x y h k))

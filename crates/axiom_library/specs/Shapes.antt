@@ -1,11 +1,12 @@
 -- Axioms as trees, by how many variables they have, and terms that several of them share. Source: this project; what an
 -- axiom is comes from Denali (PLDI 2002).
 use Rattle.std.specs.Prelude.{ℕ, ◌+◌, List, [], ◌∷◌, map, codes}
-use Rattle.word_ops.specs.declared.operators.WordOp.{WordOp}
-use Rattle.word_ops.specs.declared.operators.WordOp.TheVariants.{And, Bis, Insbl, Inswl, Selectb, Sll, Srl, Storeb, Zapnot}
+use Rattle.word_ops.specs.declared.operates.Operate.{Operate}
+use Rattle.word_ops.specs.declared.operates.Operate.TheVariants.{And, Bis, Insbl, Inswl, Sll, Srl, Zapnot}
+use Rattle.word_ops.specs.declared.operators.WordOp.TheVariants.{Selectb, Storeb}
 use Rattle.word_ops.specs.declared.sorts.Op.{Op}
 use Rattle.word_terms.specs.Tree.{Tree, variable}
-use Rattle.axiom_base.specs.Equations.{w2, w3, constant}
+use Rattle.word_terms.specs.Building.{w2, w3, o2, constant}
 use Rattle.goal_meaning.specs.Views.{AxiomTree}
 
 -- ---- axioms
@@ -49,15 +50,15 @@ over_abcd sides = record {
 -- ---- terms
 
 -- t and t shifted to the left, joined by the operator
-abbrev pub repeated : WordOp → ℕ → Tree Op → Tree Op
-repeated op distance t = w2 op t (w2 Sll t (constant distance))
+abbrev pub repeated : Operate → ℕ → Tree Op → Tree Op
+repeated op distance t = o2 op t (o2 Sll t (constant distance))
 
 -- t shifted to the right, of which the bytes of the first mask are kept, and t shifted to the left, with the second
 abbrev pub swapped : ℕ → ℕ → ℕ → Tree Op → Tree Op
 swapped distance right left t =
-    w2 Bis
-    (w2 Zapnot (w2 Srl t (constant distance)) (constant right))
-    (w2 Zapnot (w2 Sll t (constant distance)) (constant left))
+    o2 Bis
+    (o2 Zapnot (o2 Srl t (constant distance)) (constant right))
+    (o2 Zapnot (o2 Sll t (constant distance)) (constant left))
 
 -- t with the low bytes of a, b, c and d put in, from byte `at` on
 abbrev pub four_stored : Tree Op → ℕ → Tree Op → Tree Op → Tree Op → Tree Op → Tree Op
@@ -72,7 +73,7 @@ byte_of t n = w2 Selectb t (constant n)
 
 -- the low byte of t in both low bytes, and in each of the low four
 abbrev pub twice : Tree Op → Tree Op
-twice t = w2 Bis (w2 And t (constant 255)) (w2 Insbl t (constant 1))
+twice t = o2 Bis (o2 And t (constant 255)) (o2 Insbl t (constant 1))
 
 abbrev pub four_times : Tree Op → Tree Op
-four_times t = w2 Bis (twice t) (w2 Inswl (twice t) (constant 2))
+four_times t = o2 Bis (twice t) (o2 Inswl (twice t) (constant 2))

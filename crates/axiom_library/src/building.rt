@@ -1,63 +1,33 @@
-// Terms, built operand by operand.
+// Terms that several axioms share.
 ghost use Rattle.std.specs.Prelude.{◌≡◌, IfOk};
 ghost use Rattle.word_terms.specs.View.{tree_of};
-ghost use Rattle.axiom_base.specs.Equations as trees;
+ghost use Rattle.word_terms.specs.Building as trees;
 ghost use Rattle.axiom_library.specs.Shapes as shapes;
 ghost use Rattle.word_ops.specs.declared.operators.WordOp.TheVariants.{Storeb};
 
 use items::NoMemory;
 use std::alloc::Global;
-use word_ops::{Op, WordOp};
-use word_terms::{Term, application};
-
-pub(crate) fn constant(alloc: Global, word: u64) -> Term<Op>
-    ensures { tree_of result ≡ trees.constant word }
-{
-    application(Op::Constant(word), Vec::new(alloc))
-}
-
-pub(crate) fn one(alloc: Global, op: WordOp, a: Term<Op>) -> Result<Term<Op>, NoMemory>
-    ensures { IfOk result (λ t. tree_of t ≡ trees.w1 op (tree_of a)) }
-{
-    Ok(application(Op::Word(op), vec![in alloc; a]?))
-}
-
-pub(crate) fn two(alloc: Global, op: WordOp, a: Term<Op>, b: Term<Op>) -> Result<Term<Op>, NoMemory>
-    ensures { IfOk result (λ t. tree_of t ≡ trees.w2 op (tree_of a) (tree_of b)) }
-{
-    Ok(application(Op::Word(op), vec![in alloc; a, b]?))
-}
-
-pub(crate) fn three(
-    alloc: Global,
-    op: WordOp,
-    a: Term<Op>,
-    b: Term<Op>,
-    c: Term<Op>,
-) -> Result<Term<Op>, NoMemory>
-    ensures { IfOk result (λ t. tree_of t ≡ trees.w3 op (tree_of a) (tree_of b) (tree_of c)) }
-{
-    Ok(application(Op::Word(op), vec![in alloc; a, b, c]?))
-}
+use word_ops::{Op, Operate, WordOp};
+use word_terms::{Term, constant, operate_2, three};
 
 /// With a constant as second operand.
-pub(crate) fn by(alloc: Global, op: WordOp, a: Term<Op>, word: u64) -> Result<Term<Op>, NoMemory>
-    ensures { IfOk result (λ t. tree_of t ≡ trees.w2 op (tree_of a) (trees.constant word)) }
+pub(crate) fn by(alloc: Global, op: Operate, a: Term<Op>, word: u64) -> Result<Term<Op>, NoMemory>
+    ensures { IfOk result (λ t. tree_of t ≡ trees.o2 op (tree_of a) (trees.constant word)) }
 {
-    two(alloc, op, a, constant(alloc, word))
+    operate_2(alloc, op, a, constant(alloc, word))
 }
 
 /// The term and the term shifted to the left, joined by the operator.
 pub(crate) fn repeated(
     alloc: Global,
-    op: WordOp,
+    op: Operate,
     distance: u64,
     t: &Term<Op>,
 ) -> Result<Term<Op>, NoMemory>
     ensures { IfOk result (λ r. tree_of r ≡ shapes.repeated op distance (tree_of t.now)) }
 {
-    let shifted = by(alloc, WordOp::Sll, t.copy(alloc)?, distance)?;
-    two(alloc, op, t.copy(alloc)?, shifted)
+    let shifted = by(alloc, Operate::Sll, t.copy(alloc)?, distance)?;
+    operate_2(alloc, op, t.copy(alloc)?, shifted)
 }
 
 /// The term shifted to the right, with the bytes of the first mask, and to the left, with those of the second.
@@ -70,11 +40,11 @@ pub(crate) fn swapped(
 ) -> Result<Term<Op>, NoMemory>
     ensures { IfOk result (λ r. tree_of r ≡ shapes.swapped distance right left (tree_of t.now)) }
 {
-    let down = by(alloc, WordOp::Srl, t.copy(alloc)?, distance)?;
-    let up = by(alloc, WordOp::Sll, t.copy(alloc)?, distance)?;
-    let low = by(alloc, WordOp::Zapnot, down, right)?;
-    let high = by(alloc, WordOp::Zapnot, up, left)?;
-    two(alloc, WordOp::Bis, low, high)
+    let down = by(alloc, Operate::Srl, t.copy(alloc)?, distance)?;
+    let up = by(alloc, Operate::Sll, t.copy(alloc)?, distance)?;
+    let low = by(alloc, Operate::Zapnot, down, right)?;
+    let high = by(alloc, Operate::Zapnot, up, left)?;
+    operate_2(alloc, Operate::Bis, low, high)
 }
 
 /// The term with the low byte of another put in at a place.

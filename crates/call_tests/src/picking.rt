@@ -51,15 +51,10 @@ fn higher_end(scores: &[u64]) -> usize
     if scores[last] > scores[0] { last } else { 0 }
 }
 
-/// What the three rules pick.
-fn all_picked(scores: &[u64]) -> [Option<usize>; 3] {
-    [first(scores), last(scores), picked(higher_end, scores)]
-}
-
 #[test]
 fn stored_rules_answer(rt: HostRuntime) {
     for (scores, wanted) in &LISTS {
-        let picked = all_picked(scores);
-        assert_eq!(rt; picked.as_slice(), wanted.as_slice());
+        let all = [first(scores), last(scores), picked(higher_end, scores)];
+        assert_eq!(rt; all.as_slice(), wanted.as_slice());
     }
 }

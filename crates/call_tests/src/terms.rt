@@ -5,7 +5,7 @@ ghost use Rattle.word_terms.specs.View.{tree_of};
 
 use items::NoMemory;
 use std::alloc::Global;
-use word_ops::{Op, WordOp};
+use word_ops::{Access, Op, Operate, WordOp};
 use word_terms::{Operator, SmallOp, Term, same, subst};
 
 fn leaf<O: Operator>(alloc: Global, op: O) -> Term<O> {
@@ -49,7 +49,7 @@ fn puts_in<O: Operator>(alloc: Global, op: O, first: O, second: O) -> Result<boo
 fn subst_puts_a_term_in_each_place_of_its_variable(rt: HostRuntime) {
     let words = puts_in(
         rt.alloc(),
-        Op::Word(WordOp::Addq),
+        Op::Word(WordOp::Operate(Operate::Addq)),
         Op::Input(16),
         Op::Input(17),
     );
@@ -88,7 +88,12 @@ fn a_copy_is_the_same_term(rt: HostRuntime) {
         Op::Constant(u64::MAX),
     ];
     assert_eq!(rt;
-        copies(rt.alloc(), Op::Word(WordOp::Subq), &leaves).ok(),
+        copies(
+            rt.alloc(),
+            Op::Word(WordOp::Operate(Operate::Subq)),
+            &leaves
+        )
+        .ok(),
         Some(true)
     );
     let leaves = [SmallOp::Number(0), SmallOp::Leaf(0), SmallOp::Entry];
@@ -105,7 +110,9 @@ fn terms_that_differ_are_not_the_same(rt: HostRuntime) {
     assert!(rt;
         !same(
             &leaf(alloc, Op::Select),
-            &of_two(alloc, Op::Select, Term::Var(0), Term::Var(1)).expect(&rt, "memory")
+            &of_two(alloc, Op::Select(Access::Quad), Term::Var(0), Term::Var(1)).expect(
+                &rt, "memory"
+            )
         )
     );
 }

@@ -14,19 +14,7 @@ pub(crate) struct Failure {
     pub(crate) came: Vec<u8>,
 }
 
-/// What the subject answers; where it has no answer, a line that says why.
-fn came<S: Subject>(alloc: Global, subject: S, input: &[u8]) -> Result<Vec<u8>, Trouble> {
-    if input.len() > 1 << 24 {
-        return Ok(Vec::from_slice(alloc, b"the input is too long\n")?);
-    }
-    match subject.answer(alloc, input) {
-        Ok(report) => Ok(report),
-        Err(Trouble::Unread) => Ok(Vec::from_slice(alloc, b"the input can't be read\n")?),
-        Err(Trouble::Memory) => Ok(Vec::from_slice(alloc, b"out of memory\n")?),
-    }
-}
-
-/// The case, if it doesn't pass.
+/// The case, if it doesn't pass. Where the subject has no answer, a line that says why is compared.
 pub(crate) fn failing<S: Subject>(
     alloc: Global,
     subject: S,
@@ -34,7 +22,15 @@ pub(crate) fn failing<S: Subject>(
     input: Vec<u8>,
     wanted: Vec<u8>,
 ) -> Result<Option<Failure>, Trouble> {
-    let came = came(alloc, subject, &input)?;
+    let came = if input.len() > 1 << 24 {
+        Vec::from_slice(alloc, b"the input is too long\n")?
+    } else {
+        match subject.answer(alloc, &input) {
+            Ok(report) => report,
+            Err(Trouble::Unread) => Vec::from_slice(alloc, b"the input can't be read\n")?,
+            Err(Trouble::Memory) => Vec::from_slice(alloc, b"out of memory\n")?,
+        }
+    };
     if came.as_slice() == wanted.as_slice() {
         return Ok(None);
     }
@@ -47,35 +43,27 @@ pub(crate) fn failing<S: Subject>(
     }))
 }
 
-/// The written case, if it doesn't pass.
-fn written_failing<S: Subject>(
+/// How many cases of a file pass, or the first that doesn't.
+pub(crate) fn run_file<S: Subject>(
     alloc: Global,
-    subject: S,
-    case: Written<'_>,
-) -> Result<Option<Failure>, Trouble> {
-    let input = unescaped(alloc, case.input)?;
-    let mut wanted = unescaped(alloc, case.wanted)?;
-    if case.is_line {
-        wanted.push(b'\n')?;
-    }
-    failing(alloc, subject, case.name, input, wanted)
-}
-
-/// How many of the cases in the rest of a file pass, or the first that doesn't.
-fn run_cases<S: Subject>(
-    alloc: Global,
-    subject: S,
     text: &[u8],
 ) -> Result<Result<u64, Failure>, Trouble> {
-    let mut rest = text;
+    let (head, mut rest) = split_line(text);
+    let name = head.strip_prefix(b"subject ").ok_or(Trouble::Unread)?;
+    let subject = S::named(name).ok_or(Trouble::Unread)?;
     let mut count = 0u64;
-    for _ in 0..text.len() {
+    for _ in 0..rest.len() {
         if rest.is_empty() {
             break;
         }
         let (case, behind) = next_case(rest)?;
         if let Some(case) = case {
-            if let Some(failure) = written_failing(alloc, subject, case)? {
+            let input = unescaped(alloc, case.input)?;
+            let mut wanted = unescaped(alloc, case.wanted)?;
+            if case.is_line {
+                wanted.push(b'\n')?;
+            }
+            if let Some(failure) = failing(alloc, subject, case.name, input, wanted)? {
                 return Ok(Err(failure));
             }
             count = count.wrapping_add(1);
@@ -83,29 +71,4 @@ fn run_cases<S: Subject>(
         rest = behind;
     }
     Ok(Ok(count))
-}
-
-/// How many cases of a file pass, or the first that doesn't.
-pub(crate) fn run_file<S: Subject>(
-    alloc: Global,
-    text: &[u8],
-) -> Result<Result<u64, Failure>, Trouble> {
-    let (head, rest) = split_line(text);
-    let name = head.strip_prefix(b"subject ").ok_or(Trouble::Unread)?;
-    let subject = S::named(name).ok_or(Trouble::Unread)?;
-    run_cases(alloc, subject, rest)
-}
-
-/// One case: how many pass, or the one that doesn't.
-pub(crate) fn run_one<S: Subject>(
-    alloc: Global,
-    subject: S,
-    name: &[u8],
-    input: Vec<u8>,
-    wanted: Vec<u8>,
-) -> Result<Result<u64, Failure>, Trouble> {
-    match failing(alloc, subject, name, input, wanted)? {
-        Some(failure) => Ok(Err(failure)),
-        None => Ok(Ok(1)),
-    }
 }

@@ -14,5 +14,5 @@ mod subjects;
 
 pub use programs::run;
 pub use reading::{Lines, Words, hexadecimal, split_before, split_line};
-pub use reports::{Trouble, fault_line, faulty, put, put_line, put_number, put_numbers};
+pub use reports::{Trouble, faulty, put, put_line, put_number, put_numbers};
 pub use subjects::{Subject, Whole};

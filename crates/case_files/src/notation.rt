@@ -30,12 +30,6 @@ fn without_feed(text: &[u8]) -> &[u8] {
     text.strip_suffix(b"\n").unwrap_or(text)
 }
 
-/// The parts of a line that has ` => ` in it.
-fn arrow_parts(line: &[u8]) -> Option<(&[u8], &[u8])> {
-    let at = line.windows(4).position(|part| part == b" => ".as_slice())?;
-    Some((line.get(..at)?, line.get(at + 4..)?))
-}
-
 /// What one line begins: a case and what stands behind it, or nothing.
 pub(crate) fn next_case<'a>(text: &'a [u8]) -> Result<(Option<Written<'a>>, &'a [u8]), Trouble> {
     let (line, rest) = split_line(text);
@@ -53,7 +47,11 @@ pub(crate) fn next_case<'a>(text: &'a [u8]) -> Result<(Option<Written<'a>>, &'a 
     if line.is_empty() || line.starts_with(b"#") {
         return Ok((None, rest));
     }
-    let (input, wanted) = arrow_parts(line).ok_or(Trouble::Unread)?;
+    let arrow = line.windows(4).position(|part| part == b" => ".as_slice());
+    let at = arrow.ok_or(Trouble::Unread)?;
+    let (Some(input), Some(wanted)) = (line.get(..at), line.get(at + 4..)) else {
+        return Err(Trouble::Unread);
+    };
     let written = Written {
         name: input,
         input,
@@ -61,11 +59,6 @@ pub(crate) fn next_case<'a>(text: &'a [u8]) -> Result<(Option<Written<'a>>, &'a 
         is_line: true,
     };
     Ok((Some(written), rest))
-}
-
-/// The byte that the first two digits of a text mean.
-fn escaped_byte(text: &[u8]) -> Option<u8> {
-    u8::try_from(hexadecimal(text.get(..2)?)?).ok()
 }
 
 /// A text in which each `\` with two digits is the byte that they mean.
@@ -76,7 +69,9 @@ pub(crate) fn unescaped(alloc: Global, text: &[u8]) -> Result<Vec<u8>, Trouble> 
         if skipped > 0 {
             skipped -= 1;
         } else if text[at] == b'\\' {
-            bytes.push(escaped_byte(&text[at + 1..]).ok_or(Trouble::Unread)?)?;
+            let digits = text[at + 1..].get(..2).ok_or(Trouble::Unread)?;
+            let byte = hexadecimal(digits).ok_or(Trouble::Unread)?;
+            bytes.push((byte % 256) as u8)?;
             skipped = 2;
         } else {
             bytes.push(text[at])?;

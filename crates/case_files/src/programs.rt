@@ -1,5 +1,5 @@
 // A program of cases: the words of its command line, files, and what it prints.
-use crate::comparing::{Failure, run_file, run_one};
+use crate::comparing::{Failure, failing, run_file};
 use crate::reports::{Trouble, put, put_line, put_numbers};
 use crate::subjects::{Subject, Whole};
 use outside_io::{StdSink, StdSource, read_all, write_all};
@@ -25,7 +25,11 @@ fn all_pass<S: Subject>(rt: &HostRuntime, said: &mut Vec<u8>) -> Result<bool, Tr
         return Ok(false);
     };
     let words: Vec<String> = args.skip(1).collect(rt.alloc())?;
-    if let Some(subject) = asked_subject::<S>(&words) {
+    let asked = match words.as_slice() {
+        [verb, name, ..] if verb.as_str() == "answer" => S::named(name.as_bytes()),
+        _ => None,
+    };
+    if let Some(subject) = asked {
         return put_answer(rt, subject, &words, said);
     }
     let mut passed = true;
@@ -33,14 +37,6 @@ fn all_pass<S: Subject>(rt: &HostRuntime, said: &mut Vec<u8>) -> Result<bool, Tr
         passed = passes::<S>(rt, name.as_str(), said)? && passed;
     }
     Ok(passed)
-}
-
-/// The subject that the words ask for one answer, if they do.
-fn asked_subject<S: Subject>(words: &[String]) -> Option<S> {
-    if words.first()?.as_str() != "answer" {
-        return None;
-    }
-    S::named(words.get(1)?.as_bytes())
 }
 
 /// Whether the file that is the third word could be read. What the subject answers to its bytes is printed.
@@ -61,7 +57,7 @@ fn put_answer<S: Subject>(
     Ok(true)
 }
 
-/// Whether the cases of a file pass.
+/// Whether the cases of a file pass. A case that doesn't is printed.
 fn passes<S: Subject>(rt: &HostRuntime, name: &str, said: &mut Vec<u8>) -> Result<bool, Trouble> {
     match outcome::<S>(rt, name) {
         Ok(Ok(count)) => {
@@ -69,7 +65,15 @@ fn passes<S: Subject>(rt: &HostRuntime, name: &str, said: &mut Vec<u8>) -> Resul
             Ok(true)
         }
         Ok(Err(failure)) => {
-            tell(said, name.as_bytes(), &failure)?;
+            put_line(said, &[name.as_bytes(), b"doesn't pass:", &failure.name])?;
+            for (head, text) in [
+                (b"input:".as_slice(), &failure.input),
+                (b"wanted:".as_slice(), &failure.wanted),
+                (b"came:".as_slice(), &failure.came),
+            ] {
+                put_line(said, &[head])?;
+                put_line(said, &[text.as_slice()])?;
+            }
             Ok(false)
         }
         Err(Trouble::Unread) => {
@@ -85,40 +89,25 @@ fn outcome<S: Subject>(rt: &HostRuntime, name: &str) -> Result<Result<u64, Failu
     let alloc = rt.alloc();
     let file = contents(rt, name).ok_or(Trouble::Unread)?;
     let (stem, ending) = name.rsplit_once('.').unwrap_or((name, ""));
-    match S::whole_file(ending) {
+    let (subject, input, wanted) = match S::whole_file(ending) {
         Some(Whole::Input(subject)) => {
             let beside = format!(in alloc; "{stem}.answer")?;
             let wanted = contents(rt, beside.as_str()).ok_or(Trouble::Unread)?;
-            run_one(alloc, subject, name.as_bytes(), file, wanted)
+            (subject, file, wanted)
         }
         Some(Whole::Wanted(subject)) => {
-            let input = Vec::from_slice(alloc, last_part(stem).as_bytes())?;
-            run_one(alloc, subject, name.as_bytes(), input, file)
+            let last = match stem.rsplit_once('/') {
+                Some((_, last)) => last,
+                None => stem,
+            };
+            (subject, Vec::from_slice(alloc, last.as_bytes())?, file)
         }
-        None => run_file::<S>(alloc, &file),
+        None => return run_file::<S>(alloc, &file),
+    };
+    match failing(alloc, subject, name.as_bytes(), input, wanted)? {
+        Some(failure) => Ok(Err(failure)),
+        None => Ok(Ok(1)),
     }
-}
-
-/// What stands behind the last `/`, if there is one.
-fn last_part(path: &str) -> &str {
-    match path.rsplit_once('/') {
-        Some((_, last)) => last,
-        None => path,
-    }
-}
-
-/// Prints a case that didn't pass.
-fn tell(said: &mut Vec<u8>, file: &[u8], failure: &Failure) -> Result<(), Trouble> {
-    put_line(said, &[file, b"doesn't pass:", &failure.name])?;
-    for (head, text) in [
-        (b"input:".as_slice(), &failure.input),
-        (b"wanted:".as_slice(), &failure.wanted),
-        (b"came:".as_slice(), &failure.came),
-    ] {
-        put_line(said, &[head])?;
-        put_line(said, &[text.as_slice()])?;
-    }
-    Ok(())
 }
 
 /// The bytes of a file, which are at most `LIMIT`.

@@ -16,20 +16,13 @@ pub fn split_line(text: &[u8]) -> (&[u8], &[u8])
     }
 }
 
-/// Whether a line begins at this place with this front.
-fn begins_line(text: &[u8], at: usize, front: &[u8]) -> bool
-    requires { at < length text.now }
-{
-    (at == 0 || text[at - 1] == b'\n') && text[at..].starts_with(front)
-}
-
 /// The text before the first line with this front, and from it on.
 pub fn split_before<'a>(text: &'a [u8], front: &[u8]) -> (&'a [u8], &'a [u8])
     ensures before { length result.0.now ≤ length text.now }
     ensures rest { length result.1.now ≤ length text.now }
 {
     for at in 0..text.len() {
-        if begins_line(text, at, front) {
+        if (at == 0 || text[at - 1] == b'\n') && text[at..].starts_with(front) {
             return (&text[..at], &text[at..]);
         }
     }

@@ -2,7 +2,7 @@
 use items::NoMemory;
 use itoa::Buffer;
 use std::alloc::{AllocFailed, Global};
-use text_core::{Fault, TextFault};
+use text_core::TextFault;
 
 /// Why a case has no answer: no memory, or an input that isn't in the notation of its subject.
 #[derive(Clone, Copy, Debug, PartialEq, Eq, Drop)]
@@ -56,17 +56,14 @@ pub fn put_numbers(report: &mut Vec<u8>, word: &[u8], numbers: &[u64]) -> Result
     put(report, b"\n")
 }
 
-/// The line of a fault.
-pub fn fault_line(alloc: Global, fault: Fault) -> Result<Vec<u8>, Trouble> {
-    let mut line = fault.print(alloc)?;
-    put(&mut line, b"\n")?;
-    Ok(line)
-}
-
 /// The line of a text's fault.
 pub fn faulty(alloc: Global, fault: TextFault) -> Result<Vec<u8>, Trouble> {
     match fault {
-        TextFault::Fault(fault) => fault_line(alloc, fault),
+        TextFault::Fault(fault) => {
+            let mut line = fault.print(alloc)?;
+            put(&mut line, b"\n")?;
+            Ok(line)
+        }
         TextFault::Memory => Err(Trouble::Memory),
     }
 }

@@ -14,7 +14,9 @@ pub trait Subject: Copy {
         requires { length input.now ≤ 2 ^ 24 };
 
     /// What a file whose name ends like this is, if it is one case.
-    fn whole_file(ending: &str) -> Option<Whole<Self>>;
+    fn whole_file(_ending: &str) -> Option<Whole<Self>> {
+        None
+    }
 }
 
 /// A file that is one case.

@@ -2,32 +2,23 @@
 use case_files::{Lines, Trouble, Words, split_line};
 use cnf_core::{Cnf, Lit};
 use std::alloc::Global;
-use text_core::decimal;
 
-/// The literal of a number, which has `-` before it for a negated one.
-fn literal(word: &[u8]) -> Result<Lit, Trouble> {
-    let (digits, positive) = match word.strip_prefix(b"-") {
-        Some(digits) => (digits, false),
-        None => (word, true),
-    };
-    match u32::try_from(decimal(digits).ok_or(Trouble::Unread)?) {
-        Ok(var) => Ok(Lit { var, positive }),
-        Err(_) => Err(Trouble::Unread),
-    }
-}
-
-/// The literals that are left on a line, up to a 0.
+/// The literals that are left on a line, up to a 0. A number has `-` before it for a negated literal.
 pub fn literals(alloc: Global, words: &mut Words<'_>) -> Result<Vec<Lit>, Trouble> {
     let mut lits = Vec::new(alloc);
     for _ in 0..words.rest.len() {
         let Some(word) = words.next() else {
             break;
         };
-        let lit = literal(word)?;
-        if lit.var == 0 {
+        let (digits, positive) = match word.strip_prefix(b"-") {
+            Some(digits) => (digits, false),
+            None => (word, true),
+        };
+        let var = Words { rest: digits }.small()?;
+        if var == 0 {
             break;
         }
-        lits.push(lit)?;
+        lits.push(Lit { var, positive })?;
     }
     Ok(lits)
 }

@@ -1,40 +1,23 @@
 // What is said of a formula that was built: its counts, and a sum in which each literal counts.
 use case_files::{Trouble, put_numbers};
-use cnf_core::{Cnf, Lit};
+use cnf_core::Cnf;
 use cycle_encoding::{EncodeFault, Encoded};
 
-/// A sum with one more number behind it, in which the order counts.
-fn with_number(sum: u64, number: u64) -> u64 {
-    sum.wrapping_mul(1000003).wrapping_add(number)
-}
+/// What a sum is multiplied with before a number is added, so that the order of the numbers counts.
+const FACTOR: u64 = 1000003;
 
-/// A literal as a number: twice its variable, and one more where it is positive.
-fn code_of(lit: Lit) -> u64 {
-    u64::from(lit.var) * 2 + u64::from(lit.positive)
-}
-
-/// A sum with the literals of a clause behind it, and the clause's end.
-fn with_clause(sum: u64, lits: &[Lit]) -> u64 {
-    let mut sum = sum;
-    for lit in lits {
-        sum = with_number(sum, code_of(*lit));
-    }
-    with_number(sum, 1)
-}
-
-/// A sum in which each literal and each end of a clause counts, and their order.
+/// A sum in which each literal and each end of a clause counts, and their order. A literal counts as twice its variable,
+/// and one more where it is positive.
 fn sum_of(cnf: &Cnf) -> u64 {
-    let mut sum: u64 = 0;
+    let mut sum = 0u64;
     for index in 0..cnf.clauses() {
-        sum = with_clause(sum, cnf.clause(index + 1));
+        for lit in cnf.clause(index + 1) {
+            let code = u64::from(lit.var) * 2 + u64::from(lit.positive);
+            sum = sum.wrapping_mul(FACTOR).wrapping_add(code);
+        }
+        sum = sum.wrapping_mul(FACTOR).wrapping_add(1);
     }
     sum
-}
-
-/// A line of a formula's variables, its clauses and its sum.
-fn put_counts(report: &mut Vec<u8>, cnf: &Cnf) -> Result<(), Trouble> {
-    let counts = [u64::from(cnf.vars()), u64::from(cnf.clauses()), sum_of(cnf)];
-    put_numbers(report, b"formula", &counts)
 }
 
 /// A line for a formula: its variables, its clauses and its sum; or the counts with which it was refused.
@@ -43,7 +26,11 @@ pub fn put_formula(
     formula: Result<Encoded, EncodeFault>,
 ) -> Result<(), Trouble> {
     match formula {
-        Ok(encoded) => put_counts(report, &encoded.cnf),
+        Ok(encoded) => {
+            let cnf = &encoded.cnf;
+            let counts = [u64::from(cnf.vars()), u64::from(cnf.clauses()), sum_of(cnf)];
+            put_numbers(report, b"formula", &counts)
+        }
         Err(EncodeFault::Size { vars, clauses }) => {
             put_numbers(report, b"size", &[vars, clauses])
         }

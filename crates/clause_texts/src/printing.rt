@@ -37,22 +37,16 @@ fn put_clause(text: &mut Vec<u8>, lits: &[Lit]) -> Result<(), NoMemory>
     put(text, b"0\n")
 }
 
-fn put_problem(text: &mut Vec<u8>, cnf: &Cnf) -> Result<(), NoMemory>
-    ensures { OnOk result (text.new.items ≡ text.old.items ++ line_text (problem_words cnf.now)) }
-{
-    put(text, b"p cnf")?;
-    put_number(text, u64::from(cnf.vars()))?;
-    put_number(text, u64::from(cnf.clauses()))?;
-    put(text, b"\n")
-}
-
 /// The formula in the DIMACS format, a clause a line, in their order: clause 1 stands in the line behind the first. The
 /// cost is linear in the number of literals.
 pub fn dimacs(alloc: Global, cnf: &Cnf) -> Result<Vec<u8>, NoMemory>
     ensures { IfOk result (λ text. text.items ≡ dimacs_text cnf.now) }
 {
     let mut text = Vec::new(alloc);
-    put_problem(&mut text, cnf)?;
+    put(&mut text, b"p cnf")?;
+    put_number(&mut text, u64::from(cnf.vars()))?;
+    put_number(&mut text, u64::from(cnf.clauses()))?;
+    put(&mut text, b"\n")?;
     for index in 0..cnf.clauses() {
         put_clause(&mut text, cnf.clause(index + 1))?;
     }

@@ -21,7 +21,7 @@ use Rattle.saturation.specs.declared.faults.SaturateFault.{SaturateFault}
 use Rattle.saturation.specs.declared.faults.SaturateFault.TheVariants as round_faults
 use Rattle.saturation.specs.declared.faults.StartFault.{StartFault}
 use Rattle.saturation.specs.declared.faults.StartFault.TheVariants as start_faults
-use Rattle.saturation.specs.declared.rounds.Stop.{Stop}
+use Rattle.graph_meaning.specs.declared.stops.Stop.{Stop}
 use Rattle.code_check.specs.Answers.{IsAnswerOf, IsGoalBelow, IsNoWorldAtStart, IsNoWorldInRounds}
 use Rattle.code_check.specs.Outcomes.{DoesGoal}
 use Rattle.code_check.specs.Same.{IsFirstDifferent, Same}

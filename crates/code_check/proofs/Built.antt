@@ -16,7 +16,7 @@ use Rattle.word_ops.specs.declared.sorts.Sort.{Sort}
 use Rattle.word_ops.specs.declared.sorts.Sort.TheVariants as sorts
 use Rattle.word_terms.specs.Keys.{op_signature}
 use Rattle.word_terms.specs.Tree.{Tree, application, none, more}
-use Rattle.axiom_base.specs.Equations.{constant}
+use Rattle.word_terms.specs.Building.{constant}
 use Rattle.egraph.specs.Graph.{Graph, IsGraph, IsInserted}
 use Rattle.egraph.specs.Sorts.{AreOfSorts, IsOfSort, KeepsSorts}
 use Rattle.egraph.specs.Values.{ExtendsValues}

@@ -13,7 +13,7 @@ use Rattle.word_ops.specs.declared.sorts.Op.TheVariants.{Constant, Input}
 use Rattle.word_terms.specs.Keys.{op_signature}
 use Rattle.word_terms.specs.Tree.{AreBelow, Tree, application, none}
 use Rattle.word_terms.specs.View.{tree_of}
-use Rattle.axiom_base.specs.Equations.{constant}
+use Rattle.word_terms.specs.Building.{constant}
 use Rattle.egraph.specs.Graph.{Graph, IsGraph, Agree, HasRow, LacksRow, read_through}
 use Rattle.pattern_match.specs.Classes.{IsClass, at_row, no_classes}
 use Rattle.goal_meaning.specs.Outcomes.{is_memory}

@@ -11,7 +11,7 @@ use Rattle.saturation.specs.Derives.{Derives}
 use Rattle.saturation.specs.GoalTerms.{assumed_pairs, entry_term, input_term, rules_of}
 use Rattle.saturation.specs.Grown.{Halts, IsGrown, NotBefore}
 use Rattle.saturation.specs.Rounds.{StopIs}
-use Rattle.saturation.specs.declared.rounds.Stop.{Stop}
+use Rattle.graph_meaning.specs.declared.stops.Stop.{Stop}
 use Rattle.code_check.specs.Same.{HaveSameClass, IsAsAtEntry, IsFirstDifferent, IsSameGuard, IsSamePart, Same, compared_parts, memory_target_term, terms_at_end}
 use Rattle.code_check.specs.Terms.{TermState, terms_after}
 use Rattle.code_check.specs.Verified.{AreOneAnswer, HasNoWorld, IsCompared, IsVerified, compared_terms}

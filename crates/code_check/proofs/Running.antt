@@ -9,7 +9,7 @@ use Rattle.word_ops.specs.Worlds.{World}
 use Rattle.alpha_encode.specs.Decoded.{decoded}
 use Rattle.alpha_encode.specs.Formats.{IsWellFormed}
 use Rattle.alpha_encode.specs.declared.instructions.Instr.{Instr}
-use Rattle.alpha_encode.specs.declared.instructions.Instr.TheVariants.{Operate, Lda, Ldah, LdqU, StqU, Beq}
+use Rattle.alpha_encode.specs.declared.instructions.Instr.TheVariants.{Operate, Lda, Ldah, Load, Store, Beq}
 use Rattle.alpha_machine.specs.States.{MachineState}
 use Rattle.alpha_machine.specs.Steps.{step, next_pc, address}
 use Rattle.alpha_machine.specs.Runs.{Runs, stepped, after, IsAllowedAt}
@@ -42,8 +42,8 @@ pub pc_on : (i : Instr) (s : MachineState) (k : ℕ) → GoesOn i s → s.pc ≡
 pc_on (Operate op ra second rc) s k on pc few = omega (arith, pc, few)
 pc_on (Lda ra rb disp) s k on pc few = omega (arith, pc, few)
 pc_on (Ldah ra rb disp) s k on pc few = omega (arith, pc, few)
-pc_on (LdqU ra rb disp) s k on pc few = omega (arith, pc, few)
-pc_on (StqU ra rb disp) s k on pc few = omega (arith, pc, few)
+pc_on (Load access ra rb disp) s k on pc few = omega (arith, pc, few)
+pc_on (Store access ra rb disp) s k on pc few = omega (arith, pc, few)
 pc_on (Beq ra disp) s k on pc few = elim (eqb_tells (slice_index s.registers ra) 0) [
   | inl t ↦ absurd (on t.1)
   | inr t ↦ ap (λ b. if b then address (next_pc s.pc) 4 disp else next_pc s.pc) t.0 ∙ omega (arith, pc, few)
@@ -112,8 +112,8 @@ module _ (last : (n : ℕ) (instrs : List Instr) (s : MachineState) → after (s
   goes_on k (Operate op ra second rc) there none = tt
   goes_on k (Lda ra rb disp) there none = tt
   goes_on k (Ldah ra rb disp) there none = tt
-  goes_on k (LdqU ra rb disp) there none = tt
-  goes_on k (StqU ra rb disp) there none = tt
+  goes_on k (Load access ra rb disp) there none = tt
+  goes_on k (Store access ra rb disp) there none = tt
 
   pub reached : (k : ℕ) → k ≤ length is → NoneTaken k → IsAt k (state_at k)
   reached zero le none = record { values = first; pc = omega arith }

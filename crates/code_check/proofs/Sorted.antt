@@ -5,6 +5,9 @@ use Rattle.std.specs.Int.{w16}
 use Rattle.std.proofs.lemmas.Bool.Decides.{nat_tests}
 use Rattle.std.proofs.lemmas.Int.{ints}
 use Rattle.std.proofs.lemmas.List.Elements.{All-nil, All-cons, All-head, All-tail, All-append}
+use Rattle.word_ops.specs.declared.operates.Operate.{Operate as OperateOf}
+use Rattle.word_ops.specs.declared.operates.Operate.TheVariants as operates
+use Rattle.word_ops.specs.declared.sorts.Access.{Access}
 use Rattle.word_ops.specs.declared.operators.WordOp.{WordOp}
 use Rattle.word_ops.specs.declared.operators.WordOp.TheVariants as ops
 use Rattle.word_ops.specs.declared.sorts.Op.{Op}
@@ -15,13 +18,14 @@ use Rattle.word_ops.specs.Words.{IsWord}
 use Rattle.word_terms.specs.Keys.{op_signature}
 use Rattle.word_terms.specs.Sorting.{HasSort}
 use Rattle.word_terms.specs.Tree.{Tree}
-use Rattle.axiom_base.specs.Equations.{constant, w1, w2, select_of, store_of}
-use Rattle.alpha_encode.specs.Codes.{code_of, is_unary}
+use Rattle.word_terms.specs.Building.{constant, w1, w2, o1, o2, read_of, written_of}
+use Rattle.word_ops.specs.Operates.{row_of}
+use Rattle.alpha_encode.specs.Codes.{is_unary}
 use Rattle.alpha_encode.specs.Formats.{IsWellFormed, IsSecond}
 use Rattle.alpha_encode.specs.declared.instructions.Second.{Second}
 use Rattle.alpha_encode.specs.declared.instructions.Second.TheVariants.{Reg, Literal}
 use Rattle.alpha_encode.specs.declared.instructions.Instr.{Instr}
-use Rattle.alpha_encode.specs.declared.instructions.Instr.TheVariants.{Operate, Lda, Ldah, LdqU, StqU, Beq}
+use Rattle.alpha_encode.specs.declared.instructions.Instr.TheVariants.{Operate, Lda, Ldah, Load, Store, Beq}
 use Rattle.saturation.specs.AtStart.{IsSorted}
 use Rattle.saturation.specs.GoalTerms.{input_term}
 use Rattle.code_check.specs.Terms.{TermState, terms_at_entry, term_step, terms_written, terms_written_from, unless_zero_register, second_term, operate_term, address_term, sign_extended}
@@ -30,16 +34,10 @@ abbrev IsOf : Sort → Tree Op → Type 0
 IsOf sort t = HasSort op_signature [] sort t
 
 -- an operate has one operand or two
-operate_arity : (op : WordOp) → IsSome (code_of op) → ((is_unary op ≡ true) × (arity_of op ≡ 1)) ⊎ ((is_unary op ≡ false) × (arity_of op ≡ 2))
-operate_arity ops.Sextb h = inl (refl, refl)
-operate_arity ops.Sextw h = inl (refl, refl)
-operate_arity ops.Neg h = absurd (let e : false ≡ true = h in cc)
-operate_arity ops.Not h = absurd (let e : false ≡ true = h in cc)
-operate_arity ops.Selectb h = absurd (let e : false ≡ true = h in cc)
-operate_arity ops.Storeb h = absurd (let e : false ≡ true = h in cc)
-operate_arity ops.Lda h = absurd (let e : false ≡ true = h in cc)
-operate_arity ops.Ldah h = absurd (let e : false ≡ true = h in cc)
-operate_arity _ h = inr (refl, refl)
+operate_arity : (op : OperateOf) → ((is_unary op ≡ true) × ((row_of op).arity ≡ 1)) ⊎ ((is_unary op ≡ false) × ((row_of op).arity ≡ 2))
+operate_arity operates.Sextb = inl (refl, refl)
+operate_arity operates.Sextw = inl (refl, refl)
+operate_arity _ = inr (refl, refl)
 
 constant_is : (n : ℕ) → IsWord n → IsOf sorts.Word (constant n)
 constant_is n is = (refl, is, refl, tt)
@@ -53,10 +51,10 @@ w2_is op t u two a b = (refl, tt, sym two, (a, (b, tt)))
 w1_is : (op : WordOp) (t : Tree Op) → arity_of op ≡ 1 → IsOf sorts.Word t → IsOf sorts.Word (w1 op t)
 w1_is op t one a = (refl, tt, sym one, (a, tt))
 
-operate_is : (op : WordOp) (t u : Tree Op) → IsSome (code_of op) → IsOf sorts.Word t → IsOf sorts.Word u → IsOf sorts.Word (operate_term op t u)
-operate_is op t u has a b = elim (operate_arity op has) [
-  | inl k ↦ subst (IsOf sorts.Word) (sym (ap (λ c. if c then w1 op u else w2 op t u) k.0)) (w1_is op u k.1 b)
-  | inr k ↦ subst (IsOf sorts.Word) (sym (ap (λ c. if c then w1 op u else w2 op t u) k.0)) (w2_is op t u k.1 a b)
+operate_is : (op : OperateOf) (t u : Tree Op) → IsOf sorts.Word t → IsOf sorts.Word u → IsOf sorts.Word (operate_term op t u)
+operate_is op t u a b = elim (operate_arity op) [
+  | inl k ↦ subst (IsOf sorts.Word) (sym (ap (λ c. if c then o1 op u else o2 op t u) k.0)) (w1_is (ops.Operate op) u k.1 b)
+  | inr k ↦ subst (IsOf sorts.Word) (sym (ap (λ c. if c then o1 op u else o2 op t u) k.0)) (w2_is (ops.Operate op) t u k.1 a b)
 ]
 
 address_is : (t : Tree Op) (disp : ℤ) → FitsSigned w16 disp → IsOf sorts.Word t → IsOf sorts.Word (address_term t disp)
@@ -99,33 +97,33 @@ module _ (ts : TermState) (h : AreSortedTerms ts) where
   second_is (Literal n) is = constant_is n (omega (arith, is))
 
   -- the term that an instruction gives
-  operate_given : (op : WordOp) (ra : ℕ) (second : Second) → IsSome (code_of op) → IsSecond second → IsOf sorts.Word (operate_term op (ts.registers ra) (second_term second ts.registers))
-  operate_given op ra second has is = operate_is op (ts.registers ra) (second_term second ts.registers) has (h.registers ra) (second_is second is)
+  operate_given : (op : OperateOf) (ra : ℕ) (second : Second) → IsSecond second → IsOf sorts.Word (operate_term op (ts.registers ra) (second_term second ts.registers))
+  operate_given op ra second is = operate_is op (ts.registers ra) (second_term second ts.registers) (h.registers ra) (second_is second is)
 
   lda_given : (op : WordOp) (rb : ℕ) (disp : ℤ) → arity_of op ≡ 2 → FitsSigned w16 disp → IsOf sorts.Word (w2 op (ts.registers rb) (constant (sign_extended disp)))
   lda_given op rb disp two fits = w2_is op (ts.registers rb) (constant (sign_extended disp)) two (h.registers rb) (constant_is (sign_extended disp) (extended_word disp fits))
 
-  load_given : (rb : ℕ) (disp : ℤ) → FitsSigned w16 disp → IsOf sorts.Word (select_of ts.memory (address_term (ts.registers rb) disp))
-  load_given rb disp fits = (refl, tt, refl, (h.memory_is, (address_is (ts.registers rb) disp fits (h.registers rb), tt)))
+  load_given : (access : Access) (rb : ℕ) (disp : ℤ) → FitsSigned w16 disp → IsOf sorts.Word (read_of access ts.memory (address_term (ts.registers rb) disp))
+  load_given access rb disp fits = (refl, tt, refl, (h.memory_is, (address_is (ts.registers rb) disp fits (h.registers rb), tt)))
 
-  store_given : (ra rb : ℕ) (disp : ℤ) → FitsSigned w16 disp → IsOf sorts.Memory (store_of ts.memory (address_term (ts.registers rb) disp) (ts.registers ra))
-  store_given ra rb disp fits = (refl, tt, refl, (h.memory_is, (address_is (ts.registers rb) disp fits (h.registers rb), (h.registers ra, tt))))
+  store_given : (access : Access) (ra rb : ℕ) (disp : ℤ) → FitsSigned w16 disp → IsOf sorts.Memory (written_of access ts.memory (address_term (ts.registers rb) disp) (ts.registers ra))
+  store_given access ra rb disp fits = (refl, tt, refl, (h.memory_is, (address_is (ts.registers rb) disp fits (h.registers rb), (h.registers ra, tt))))
 
   next_sorted : (i : Instr) → IsWellFormed i → AreSortedTerms (term_step i ts)
-  next_sorted (Operate op ra second rc) wf = with_sorted rc (operate_term op (ts.registers ra) (second_term second ts.registers)) (operate_given op ra second wf.0 wf.2)
+  next_sorted (Operate op ra second rc) wf = with_sorted rc (operate_term op (ts.registers ra) (second_term second ts.registers)) (operate_given op ra second wf.1)
   next_sorted (Lda ra rb disp) wf = with_sorted ra (w2 ops.Lda (ts.registers rb) (constant (sign_extended disp))) (lda_given ops.Lda rb disp refl wf.2)
   next_sorted (Ldah ra rb disp) wf = with_sorted ra (w2 ops.Ldah (ts.registers rb) (constant (sign_extended disp))) (lda_given ops.Ldah rb disp refl wf.2)
-  next_sorted (LdqU ra rb disp) wf = with_sorted ra (select_of ts.memory (address_term (ts.registers rb) disp)) (load_given rb disp wf.2)
-  next_sorted (StqU ra rb disp) wf = record { registers = h.registers; memory_is = store_given ra rb disp wf.2 }
+  next_sorted (Load access ra rb disp) wf = with_sorted ra (read_of access ts.memory (address_term (ts.registers rb) disp)) (load_given access rb disp wf.2)
+  next_sorted (Store access ra rb disp) wf = record { registers = h.registers; memory_is = store_given access ra rb disp wf.2 }
   next_sorted (Beq ra disp) wf = record { registers = h.registers; memory_is = h.memory_is }
 
   given_sorted : (i : Instr) → IsWellFormed i → All IsSorted (terms_written i ts)
-  given_sorted (Operate op ra second rc) wf = one_given rc (operate_term op (ts.registers ra) (second_term second ts.registers)) sorts.Word (operate_given op ra second wf.0 wf.2)
+  given_sorted (Operate op ra second rc) wf = one_given rc (operate_term op (ts.registers ra) (second_term second ts.registers)) sorts.Word (operate_given op ra second wf.1)
   given_sorted (Lda ra rb disp) wf = one_given ra (w2 ops.Lda (ts.registers rb) (constant (sign_extended disp))) sorts.Word (lda_given ops.Lda rb disp refl wf.2)
   given_sorted (Ldah ra rb disp) wf = one_given ra (w2 ops.Ldah (ts.registers rb) (constant (sign_extended disp))) sorts.Word (lda_given ops.Ldah rb disp refl wf.2)
-  given_sorted (LdqU ra rb disp) wf = one_given ra (select_of ts.memory (address_term (ts.registers rb) disp)) sorts.Word (load_given rb disp wf.2)
-  given_sorted (StqU ra rb disp) wf =
-      All-cons IsSorted (store_of ts.memory (address_term (ts.registers rb) disp) (ts.registers ra)) [] (record { sort = sorts.Memory; is = store_given ra rb disp wf.2 }) (All-nil IsSorted)
+  given_sorted (Load access ra rb disp) wf = one_given ra (read_of access ts.memory (address_term (ts.registers rb) disp)) sorts.Word (load_given access rb disp wf.2)
+  given_sorted (Store access ra rb disp) wf =
+      All-cons IsSorted (written_of access ts.memory (address_term (ts.registers rb) disp) (ts.registers ra)) [] (record { sort = sorts.Memory; is = store_given access ra rb disp wf.2 }) (All-nil IsSorted)
   given_sorted (Beq ra disp) wf = All-nil IsSorted
 
 all_sorted : (is : List Instr) (ts : TermState) → All IsWellFormed is → AreSortedTerms ts → All IsSorted (terms_written_from is ts)

@@ -1,9 +1,7 @@
 -- One instruction: the terms after it have the values that it leaves.
 use Rattle.std.proofs.Common.{◌≡◌, ℕ, ℤ, ◌+◌, ◌*◌, ◌/◌, ◌%◌, ◌^◌, ◌<◌, List, [], ◌∷◌, refl, sym, ◌∙◌, ap, subst, inl, inr, arith, Bool, true, false, ◌==◌, set, Option, Some, None}
 use Rattle.std.specs.Prelude.{All, FitsSigned, slice_index, if◌then◌else◌}
-use Rattle.std.specs.FinMap.{get}
 use Rattle.std.specs.Int.{cast_signed, cast_unsigned, w16, w64}
-use Rattle.std.specs.Option.{unwrap_or}
 use Rattle.std.proofs.lemmas.Bool.Decides.{eqb_tells, nat_tests}
 use Rattle.std.proofs.lemmas.Int.{ints}
 use Rattle.std.proofs.lemmas.List.{get_or-set_same, get_or-set_other, length-set}
@@ -11,21 +9,23 @@ use Rattle.std.proofs.lemmas.List.Elements.{All-nil, All-cons, All-head, All-tai
 use Rattle.word_ops.specs.declared.operators.WordOp.{WordOp}
 use Rattle.word_ops.specs.declared.operators.WordOp.TheVariants as ops
 use Rattle.word_ops.specs.declared.sorts.Op.{Op}
-use Rattle.word_ops.specs.Memory.{Memory, IsMemory, word_at, put_word, select, store}
+use Rattle.word_ops.specs.Memory.{Memory, IsMemory, loaded, stored}
+use Rattle.word_ops.specs.declared.operates.Operate.{Operate as OperateOf}
+use Rattle.word_ops.specs.declared.sorts.Access.{Access}
 use Rattle.word_ops.specs.Operators.{value_at, value_of}
 use Rattle.word_ops.specs.Values.{lda, ldah}
 use Rattle.word_ops.specs.Words.{IsWord}
 use Rattle.word_ops.specs.Worlds.{World, IsWorld, Value, word, memory}
 use Rattle.word_ops.specs.Meanings.{as_word, as_memory}
 use Rattle.word_terms.specs.Tree.{Tree}
-use Rattle.axiom_base.specs.Equations.{constant, w1, w2, select_of}
+use Rattle.word_terms.specs.Building.{constant, o1, o2, w2, read_of}
 use Rattle.axiom_base.specs.Rewrites.{value_in}
 use Rattle.alpha_encode.specs.Codes.{is_unary}
 use Rattle.alpha_encode.specs.Formats.{IsWellFormed, IsSecond}
 use Rattle.alpha_encode.specs.declared.instructions.Second.{Second}
 use Rattle.alpha_encode.specs.declared.instructions.Second.TheVariants.{Reg, Literal}
 use Rattle.alpha_encode.specs.declared.instructions.Instr.{Instr}
-use Rattle.alpha_encode.specs.declared.instructions.Instr.TheVariants.{Operate, Lda, Ldah, LdqU, StqU, Beq}
+use Rattle.alpha_encode.specs.declared.instructions.Instr.TheVariants.{Operate, Lda, Ldah, Load, Store, Beq}
 use Rattle.alpha_machine.specs.States.{MachineState}
 use Rattle.alpha_machine.specs.Steps.{step, second_value, operate_value, address, with_register, next_pc}
 use Rattle.saturation.specs.GoalTerms.{input_term}
@@ -41,31 +41,16 @@ ldah_value : (a b c : ℕ) → value_at ops.Ldah a b c ≡ ldah a b
 unfolding value_at
 ldah_value a b c = refl
 
-select_is : (m : Memory) (a : ℕ) → select m a ≡ word_at m (a / 8)
-unfolding select
-select_is m a = refl
-
-store_is : (m : Memory) (a v : ℕ) → store m a v ≡ put_word m (a / 8) v
-unfolding store
-store_is m a v = refl
-
 -- a displacement of 16 bits is the low bits of its word
 low_bits : (disp : ℤ) → FitsSigned w16 disp → cast_signed w16 (cast_unsigned w64 disp % 2 ^ 16) ≡ disp
 low_bits disp fits = grind (arith, nat_tests, ints)
-
-held_word : (m : Memory) (place : ℕ) → IsMemory m → IsWord (word_at m place)
-unfolding word_at
-held_word m place is = by (get m place) refl
-  where
-    by : (o : Option ℕ) → get m place ≡ o → IsWord (unwrap_or o 0)
-    by None e = omega arith
-    by (Some v) e = let k = is.words place v e in k.1
 
 module _ (w : World) (names : ℕ → List ℕ)
     (low : (x k : ℕ) → address x 1 (cast_signed w16 (k % 2 ^ 16)) ≡ lda x k)
     (high : (x k : ℕ) → address x 65536 (cast_signed w16 (k % 2 ^ 16)) ≡ ldah x k)
     (is_word : (op : WordOp) (vs : List ℕ) → All IsWord vs → IsWord (value_of op vs))
-    (is_memory : (m : Memory) (place v : ℕ) → IsMemory m → place < 2 ^ 61 → IsWord v → IsMemory (put_word m place v)) where
+    (is_loaded : (access : Access) (m : Memory) (a : ℕ) → IsMemory m → IsWord (loaded access m a))
+    (is_stored : (access : Access) (m : Memory) (a v : ℕ) → IsMemory m → IsWord a → IsWord v → IsMemory (stored access m a v)) where
   abbrev V : Tree Op → Value
   V t = value_in w names [] t
 
@@ -116,19 +101,19 @@ module _ (w : World) (names : ℕ → List ℕ)
     second_is (Reg r) is = h.registers r is
     second_is (Literal n) is = refl
 
-    operate_word : (op : WordOp) (a b : ℕ) → IsWord a → IsWord b → IsWord (operate_value op a b)
+    operate_word : (op : OperateOf) (a b : ℕ) → IsWord a → IsWord b → IsWord (operate_value op a b)
     operate_word op a b is_a is_b = by (is_unary op)
       where
-        by : (u : Bool) → IsWord (if u then value_at op b 0 0 else value_at op a b 0)
-        by true = is_word op (b ∷ []) (All-cons IsWord b [] is_b (All-nil IsWord))
-        by false = is_word op (a ∷ b ∷ []) (All-cons IsWord a (b ∷ []) is_a (All-cons IsWord b [] is_b (All-nil IsWord)))
+        by : (u : Bool) → IsWord (if u then value_at (ops.Operate op) b 0 0 else value_at (ops.Operate op) a b 0)
+        by true = is_word (ops.Operate op) (b ∷ []) (All-cons IsWord b [] is_b (All-nil IsWord))
+        by false = is_word (ops.Operate op) (a ∷ b ∷ []) (All-cons IsWord a (b ∷ []) is_a (All-cons IsWord b [] is_b (All-nil IsWord)))
 
-    operate_is : (op : WordOp) (t u : Tree Op) (a b : ℕ) → V t ≡ word a → V u ≡ word b → V (operate_term op t u) ≡ word (operate_value op a b)
+    operate_is : (op : OperateOf) (t u : Tree Op) (a b : ℕ) → V t ≡ word a → V u ≡ word b → V (operate_term op t u) ≡ word (operate_value op a b)
     operate_is op t u a b e f = by (is_unary op)
       where
-        by : (k : Bool) → V (if k then w1 op u else w2 op t u) ≡ word (if k then value_at op b 0 0 else value_at op a b 0)
-        by true = ap (λ x. word (value_at op (as_word x) 0 0)) f
-        by false = ap (λ x. word (value_at op (as_word x) (as_word (V u)) 0)) e ∙ ap (λ x. word (value_at op a (as_word x) 0)) f
+        by : (k : Bool) → V (if k then o1 op u else o2 op t u) ≡ word (if k then value_at (ops.Operate op) b 0 0 else value_at (ops.Operate op) a b 0)
+        by true = ap (λ x. word (value_at (ops.Operate op) (as_word x) 0 0)) f
+        by false = ap (λ x. word (value_at (ops.Operate op) (as_word x) (as_word (V u)) 0)) e ∙ ap (λ x. word (value_at (ops.Operate op) a (as_word x) 0)) f
 
     lda_is : (x : ℕ) (disp : ℤ) → FitsSigned w16 disp → lda x (sign_extended disp) ≡ address x 1 disp
     lda_is x disp fits = sym (low x (sign_extended disp)) ∙ ap (address x 1) (low_bits disp fits)
@@ -152,9 +137,6 @@ module _ (w : World) (names : ℕ → List ℕ)
       | inr k ↦ ap (λ b. V (if b then t else w2 ops.Lda t (constant (sign_extended disp)))) k.0 ∙ lda_term_is t x disp fits e
     ]
 
-    place_low : (x : ℕ) (disp : ℤ) → address x 1 disp / 8 < 2 ^ 61
-    place_low x disp = omega arith
-
     word_address : (x scale : ℕ) (disp : ℤ) → IsWord (address x scale disp)
     word_address x scale disp = omega arith
 
@@ -163,9 +145,9 @@ module _ (w : World) (names : ℕ → List ℕ)
     one_step (Operate op ra second rc) wf =
         let a = slice_index s.registers ra in
         let b = second_value second s.registers in
-        wrote rc (operate_value op a b) (operate_term op (ts.registers ra) (second_term second ts.registers)) wf.3
-        (operate_word op a b (h.words ra wf.1) (second_word second wf.2))
-        (operate_is op (ts.registers ra) (second_term second ts.registers) a b (h.registers ra wf.1) (second_is second wf.2))
+        wrote rc (operate_value op a b) (operate_term op (ts.registers ra) (second_term second ts.registers)) wf.2
+        (operate_word op a b (h.words ra wf.0) (second_word second wf.1))
+        (operate_is op (ts.registers ra) (second_term second ts.registers) a b (h.registers ra wf.0) (second_is second wf.1))
     one_step (Lda ra rb disp) wf =
         let x = slice_index s.registers rb in
         wrote ra (address x 1 disp) (w2 ops.Lda (ts.registers rb) (constant (sign_extended disp))) wf.0 (word_address x 1 disp)
@@ -174,14 +156,14 @@ module _ (w : World) (names : ℕ → List ℕ)
         let x = slice_index s.registers rb in
         wrote ra (address x 65536 disp) (w2 ops.Ldah (ts.registers rb) (constant (sign_extended disp))) wf.0 (word_address x 65536 disp)
         (ldah_term_is (ts.registers rb) x disp wf.2 (h.registers rb wf.1))
-    one_step (LdqU ra rb disp) wf =
+    one_step (Load access ra rb disp) wf =
         let x = slice_index s.registers rb in
         let a = address x 1 disp in
         let e : V (address_term (ts.registers rb) disp) ≡ word a = address_is (ts.registers rb) x disp wf.2 (h.words rb wf.1) (h.registers rb wf.1) in
-        wrote ra (word_at s.memory (a / 8)) (select_of ts.memory (address_term (ts.registers rb) disp)) wf.0 (held_word s.memory (a / 8) h.is_memory)
-        (ap (λ m. word (select (as_memory m) (as_word (V (address_term (ts.registers rb) disp))))) h.memory_is
-        ∙ ap (λ y. word (select s.memory (as_word y))) e ∙ ap word (select_is s.memory a))
-    one_step (StqU ra rb disp) wf =
+        wrote ra (loaded access s.memory a) (read_of access ts.memory (address_term (ts.registers rb) disp)) wf.0 (is_loaded access s.memory a h.is_memory)
+        (ap (λ m. word (loaded access (as_memory m) (as_word (V (address_term (ts.registers rb) disp))))) h.memory_is
+        ∙ ap (λ y. word (loaded access s.memory (as_word y))) e)
+    one_step (Store access ra rb disp) wf =
         let x = slice_index s.registers rb in
         let a = address x 1 disp in
         let v = slice_index s.registers ra in
@@ -191,12 +173,11 @@ module _ (w : World) (names : ℕ → List ℕ)
           count = h.count;
           words = h.words;
           registers = h.registers;
-          is_memory = is_memory s.memory (a / 8) v h.is_memory (place_low x disp) (h.words ra wf.0);
+          is_memory = is_stored access s.memory a v h.is_memory (word_address x 1 disp) (h.words ra wf.0);
           memory_is =
-              ap (λ m. memory (store (as_memory m) (as_word (V t)) (as_word (V (ts.registers ra))))) h.memory_is
-              ∙ ap (λ y. memory (store s.memory (as_word y) (as_word (V (ts.registers ra))))) e
-              ∙ ap (λ y. memory (store s.memory a (as_word y))) (h.registers ra wf.0)
-              ∙ ap memory (store_is s.memory a v);
+              ap (λ m. memory (stored access (as_memory m) (as_word (V t)) (as_word (V (ts.registers ra))))) h.memory_is
+              ∙ ap (λ y. memory (stored access s.memory (as_word y) (as_word (V (ts.registers ra))))) e
+              ∙ ap (λ y. memory (stored access s.memory a (as_word y))) (h.registers ra wf.0);
         }
     one_step (Beq ra disp) wf = record { count = h.count; words = h.words; registers = h.registers; is_memory = h.is_memory; memory_is = h.memory_is }
 

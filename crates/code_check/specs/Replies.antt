@@ -6,8 +6,8 @@ use Rattle.text_core.specs.LineTexts.{Words, lines_text}
 use Rattle.alpha_encode.specs.Decoded.{decoded}
 use Rattle.alpha_encode.specs.declared.instructions.Instr.{Instr}
 use Rattle.goal_meaning.specs.Views.{GoalTree, InputTree, TargetTree}
-use Rattle.saturation.specs.declared.rounds.Stop.{Stop}
-use Rattle.saturation.specs.declared.rounds.Stop.TheVariants.{Quiet, Rounds, Full}
+use Rattle.graph_meaning.specs.declared.stops.Stop.{Stop}
+use Rattle.graph_meaning.specs.declared.stops.Stop.TheVariants.{Quiet, Rounds, Full}
 use Rattle.code_check.specs.CodeGrammar.{CheckedTree, ReadsCodes}
 use Rattle.code_check.specs.Verified.{IsVerified}
 use Rattle.code_check.specs.declared.codes.Code.{Code}

@@ -3,11 +3,11 @@
 -- instruction writes.
 use Rattle.std.specs.Prelude.{ℕ, ℤ, List, [], ◌∷◌, ◌++◌, take, ◌==◌, if◌then◌else◌}
 use Rattle.std.specs.Int.{cast_unsigned, w64}
-use Rattle.word_ops.specs.declared.operators.WordOp.{WordOp}
+use Rattle.word_ops.specs.declared.operates.Operate.{Operate as OperateOf}
 use Rattle.word_ops.specs.declared.operators.WordOp.TheVariants.{Lda, Ldah}
 use Rattle.word_ops.specs.declared.sorts.Op.{Op}
 use Rattle.word_terms.specs.Tree.{Tree}
-use Rattle.axiom_base.specs.Equations.{constant, w1, w2, select_of, store_of}
+use Rattle.word_terms.specs.Building.{constant, o1, o2, w2, read_of, written_of}
 use Rattle.alpha_encode.specs.Codes.{is_unary}
 use Rattle.alpha_encode.specs.declared.instructions.Second.{Second}
 use Rattle.alpha_encode.specs.declared.instructions.Second.TheVariants.{Reg, Literal}
@@ -37,8 +37,8 @@ second_term (Reg r) registers = registers r
 second_term (Literal n) registers = constant n
 
 -- an operate of one operand takes it from its second place
-abbrev pub operate_term : WordOp → Tree Op → Tree Op → Tree Op
-operate_term op a b = if is_unary op then w1 op b else w2 op a b
+abbrev pub operate_term : OperateOf → Tree Op → Tree Op → Tree Op
+operate_term op a b = if is_unary op then o1 op b else o2 op a b
 
 -- a displacement with its sign extended to a word
 abbrev pub sign_extended : ℤ → ℕ
@@ -57,11 +57,11 @@ term_step (instrs.Operate op ra second rc) s =
     with_term s rc (operate_term op (s.registers ra) (second_term second s.registers))
 term_step (instrs.Lda ra rb disp) s = with_term s ra (w2 Lda (s.registers rb) (constant (sign_extended disp)))
 term_step (instrs.Ldah ra rb disp) s = with_term s ra (w2 Ldah (s.registers rb) (constant (sign_extended disp)))
-term_step (instrs.LdqU ra rb disp) s =
-    with_term s ra (select_of s.memory (address_term (s.registers rb) disp))
-term_step (instrs.StqU ra rb disp) s = record {
+term_step (instrs.Load access ra rb disp) s =
+    with_term s ra (read_of access s.memory (address_term (s.registers rb) disp))
+term_step (instrs.Store access ra rb disp) s = record {
   registers = s.registers;
-  memory = store_of s.memory (address_term (s.registers rb) disp) (s.registers ra);
+  memory = written_of access s.memory (address_term (s.registers rb) disp) (s.registers ra);
 }
 term_step (instrs.Beq ra disp) s = s
 
@@ -87,10 +87,10 @@ terms_written (instrs.Lda ra rb disp) s =
     unless_zero_register ra (w2 Lda (s.registers rb) (constant (sign_extended disp)))
 terms_written (instrs.Ldah ra rb disp) s =
     unless_zero_register ra (w2 Ldah (s.registers rb) (constant (sign_extended disp)))
-terms_written (instrs.LdqU ra rb disp) s =
-    unless_zero_register ra (select_of s.memory (address_term (s.registers rb) disp))
-terms_written (instrs.StqU ra rb disp) s =
-    store_of s.memory (address_term (s.registers rb) disp) (s.registers ra) ∷ []
+terms_written (instrs.Load access ra rb disp) s =
+    unless_zero_register ra (read_of access s.memory (address_term (s.registers rb) disp))
+terms_written (instrs.Store access ra rb disp) s =
+    written_of access s.memory (address_term (s.registers rb) disp) (s.registers ra) ∷ []
 terms_written (instrs.Beq ra disp) s = []
 
 abbrev pub terms_written_from : List Instr → TermState → List (Tree Op)

@@ -14,7 +14,7 @@ use Rattle.saturation.specs.Derives.{IsClash}
 use Rattle.saturation.specs.GoalTerms.{present_terms, assumed_pairs, rules_of}
 use Rattle.saturation.specs.Grown.{IsGrown, NotBefore}
 use Rattle.saturation.specs.Rounds.{StopIs}
-use Rattle.saturation.specs.declared.rounds.Stop.{Stop}
+use Rattle.graph_meaning.specs.declared.stops.Stop.{Stop}
 use Rattle.code_check.specs.Outcomes.{DoesGoal}
 use Rattle.code_check.specs.Same.{Same, IsFirstDifferent}
 use Rattle.code_check.specs.Terms.{written_terms}

@@ -1,7 +1,7 @@
 // Codes and what is said of them.
 use goal_meaning::Input;
+use graph_meaning::Stop;
 use items::Items;
-use saturation::Stop;
 
 /// The register in which a code leaves a target, the one of this number among the goal's.
 #[derive(Clone, Copy, PartialEq, Eq, Debug)]

@@ -1,17 +1,16 @@
 // The terms of words, inserted into the graph of a goal's start. A class is kept for each register that was written, so a
 // word costs few rows however large its term is.
-ghost use Rattle.std.specs.Prelude.{◌≡◌, ℕ, ◌+◌, ◌<◌, ◌≤◌, ◌^◌, [], length, map, set, List, ◌*◌, Some, IfOk, OnOk, IsSome};
+ghost use Rattle.std.specs.Prelude.{◌≡◌, ℕ, ◌+◌, ◌<◌, ◌≤◌, ◌^◌, [], length, map, set, List, ◌*◌, Some, IfOk, OnOk};
 ghost use Rattle.word_ops.specs.Meanings.{arity_of_op, operand_sort};
 ghost use Rattle.word_ops.specs.declared.sorts.Sort.TheVariants as sorts;
 ghost use Rattle.word_terms.specs.Keys.{op_signature};
 ghost use Rattle.egraph.specs.Sorts.{AreOfSorts};
 ghost use Rattle.saturation.specs.Trace.{AreInserted};
-ghost use Rattle.alpha_encode.specs.Codes.{code_of};
 ghost use Rattle.alpha_encode.specs.Decoded.{decoded};
 ghost use Rattle.alpha_encode.specs.declared.instructions.Instr.{Instr as Instruction};
 ghost use Rattle.alpha_encode.specs.Formats.{IsSecond, IsWellFormed};
 ghost use Rattle.code_check.specs.Terms.{TermState, address_at, operate_term, second_term, terms_from, terms_written_from};
-ghost use Rattle.axiom_base.specs.Equations.{constant, select_of, store_of, w2};
+ghost use Rattle.word_terms.specs.Building.{constant, read_of, written_of, w2};
 ghost use Rattle.word_ops.specs.Operators.{arity_of};
 ghost use Rattle.code_check.specs.Classes.{IsTermInserted, IsRowInserted, AreClassesOfSome, InsertsWritten, AreClassesOf};
 
@@ -19,7 +18,7 @@ use alpha_encode::{Instr, Second, decode};
 use egraph::{Egraph, classes_have_one_sort};
 use items::NoMemory;
 use saturation::more_terms_may_be_inserted;
-use word_ops::{Op, WordOp, arity};
+use word_ops::{Access, Op, Operate, WordOp};
 
 /// The class of the row with this operator and these operands.
 fn insert_row(graph: &mut Egraph<Op>, op: Op, operands: &[u32]) -> Result<u32, NoMemory>
@@ -78,11 +77,10 @@ fn second_class(
 fn operate_class(
     graph: &mut Egraph<Op>,
     classes: &[Option<u32>],
-    op: WordOp,
+    op: Operate,
     ra: u8,
     second: Second,
 ) -> Result<u32, NoMemory>
-    requires op { IsSome (code_of op) }
     requires ra { ra < 32 }
     requires second { IsSecond second }
     requires count { length classes.now ≡ 32 }
@@ -93,13 +91,14 @@ fn operate_class(
     ensures few { OnOk result (length graph.new.current ≤ length graph.old.current + 3) }
 {
     more_terms_may_be_inserted();
-    if arity(op) == 1 {
+    let row = Op::Word(WordOp::Operate(op));
+    if op.arity() == 1 {
         let operand = second_class(graph, classes, second)?;
-        return insert_row(graph, Op::Word(op), &[operand]);
+        return insert_row(graph, row, &[operand]);
     }
     let first = register_class(graph, classes, ra)?;
     let operand = second_class(graph, classes, second)?;
-    insert_row(graph, Op::Word(op), &[first, operand])
+    insert_row(graph, row, &[first, operand])
 }
 
 /// The class of an operator on a register's term and a displacement's word, which is a constant.
@@ -149,6 +148,7 @@ fn address_class(
 fn load_class(
     graph: &mut Egraph<Op>,
     classes: &[Option<u32>],
+    access: Access,
     memory: u32,
     rb: u8,
     n: u64,
@@ -158,18 +158,19 @@ fn load_class(
     requires terms { AreClassesOfSome graph.old classes.now memory }
     requires few { length graph.old.current + 4 ≤ 2 ^ 31 }
     ensures built { IfOk result (λ c. (ts : TermState) → AreClassesOf graph.old classes.now memory ts →
-        IsTermInserted graph.old sorts.Word (select_of ts.memory (address_at (ts.registers rb) n)) c graph.new) }
+        IsTermInserted graph.old sorts.Word (read_of access ts.memory (address_at (ts.registers rb) n)) c graph.new) }
     ensures few { OnOk result (length graph.new.current ≤ length graph.old.current + 4) }
 {
     more_terms_may_be_inserted();
     let address = address_class(graph, classes, rb, n)?;
-    insert_row(graph, Op::Select, &[memory, address])
+    insert_row(graph, Op::Select(access), &[memory, address])
 }
 
 /// The class of the memory after a store.
 fn store_class(
     graph: &mut Egraph<Op>,
     classes: &[Option<u32>],
+    access: Access,
     memory: u32,
     ra: u8,
     rb: u8,
@@ -181,13 +182,13 @@ fn store_class(
     requires terms { AreClassesOfSome graph.old classes.now memory }
     requires few { length graph.old.current + 5 ≤ 2 ^ 31 }
     ensures built { IfOk result (λ c. (ts : TermState) → AreClassesOf graph.old classes.now memory ts →
-        IsTermInserted graph.old sorts.Memory (store_of ts.memory (address_at (ts.registers rb) n) (ts.registers ra)) c graph.new) }
+        IsTermInserted graph.old sorts.Memory (written_of access ts.memory (address_at (ts.registers rb) n) (ts.registers ra)) c graph.new) }
     ensures few { OnOk result (length graph.new.current ≤ length graph.old.current + 5) }
 {
     more_terms_may_be_inserted();
     let address = address_class(graph, classes, rb, n)?;
     let value = register_class(graph, classes, ra)?;
-    insert_row(graph, Op::Store, &[memory, address, value])
+    insert_row(graph, Op::Store(access), &[memory, address, value])
 }
 
 /// The class of what the register holds from now on.
@@ -235,16 +236,26 @@ fn insert_instr(
                 write_register(classes, ra, class);
             }
         }
-        Instr::LdqU { ra, rb, disp } => {
+        Instr::Load {
+            access,
+            ra,
+            rb,
+            disp,
+        } => {
             if ra != 31 {
                 let n = i64::from(disp).cast_unsigned();
-                let class = load_class(graph, classes, *memory, rb, n)?;
+                let class = load_class(graph, classes, access, *memory, rb, n)?;
                 write_register(classes, ra, class);
             }
         }
-        Instr::StqU { ra, rb, disp } => {
+        Instr::Store {
+            access,
+            ra,
+            rb,
+            disp,
+        } => {
             let n = i64::from(disp).cast_unsigned();
-            *memory = store_class(graph, classes, *memory, ra, rb, n)?;
+            *memory = store_class(graph, classes, access, *memory, ra, rb, n)?;
         }
         Instr::Beq { .. } => {}
     }

@@ -18,7 +18,7 @@ ghost use Rattle.saturation.specs.Rounds.{IsHopeless, IsImpossible, IsSaturated,
 ghost use Rattle.saturation.specs.Trace.{AreInserted};
 ghost use Rattle.saturation.specs.declared.faults.SaturateFault.TheVariants.{NoWorld as round_no_world};
 ghost use Rattle.saturation.specs.declared.faults.StartFault.TheVariants.{NoWorld as start_no_world};
-ghost use Rattle.saturation.specs.declared.rounds.Stop.{Stop as StopCause};
+ghost use Rattle.graph_meaning.specs.declared.stops.Stop.{Stop as StopCause};
 ghost use Rattle.code_check.specs.CodeGrammar.{CheckedTree, IsFirstCodesFault, ReadsCodes};
 ghost use Rattle.code_check.specs.Codes.{FitsGoal};
 ghost use Rattle.code_check.specs.Outcomes.{entry_state, DoesGoal, IsCode};

@@ -16,8 +16,9 @@ use crate::codes::{Code, Part, Verified};
 use crate::reading::read;
 use crate::verifying::verify_by_rules;
 use goal_meaning::{Goal, Input};
+use graph_meaning::Stop;
 use items::{Items, NoMemory};
-use saturation::{Rules, Stop, rules};
+use saturation::{Rules, rules};
 use std::alloc::Global;
 use text_core::{TextFault, put, put_number, put_word};
 

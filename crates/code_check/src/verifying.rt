@@ -21,10 +21,11 @@ use crate::comparing::{first_different_target, is_same_guard, is_same_leaving, i
 use crate::laws::{compared_graphs_decide, same_code_does_the_goal};
 use egraph::{Egraph, rows_name_present_classes};
 use goal_meaning::{Goal, Input};
+use graph_meaning::Stop;
 use items::NoMemory;
 use pattern_match::terms_have_one_class;
 use saturation::{
-    Rules, SaturateFault, StartFault, Stop, more_terms_may_be_inserted, rules, saturate, start,
+    Rules, SaturateFault, StartFault, more_terms_may_be_inserted, rules, saturate, start,
 };
 use std::alloc::{AllocError, Global};
 use word_ops::Op;

@@ -5,6 +5,7 @@ use Rattle.std.specs.Option.{option_map_or}
 use Rattle.std.proofs.lemmas.Bool.{leb-true}
 use Rattle.word_ops.specs.Meanings.{arity_of_op}
 use Rattle.word_ops.specs.declared.operators.WordOp.{WordOp}
+use Rattle.word_ops.specs.declared.operates.Operate.TheVariants as operates
 use Rattle.word_ops.specs.declared.operators.WordOp.TheVariants as ops
 use Rattle.word_ops.specs.declared.sorts.Op.{Op}
 use Rattle.word_ops.specs.declared.sorts.Op.TheVariants.{Word, Select, Store, Load, Put}
@@ -19,7 +20,8 @@ use Rattle.cycle_encoding.proofs.OperandLists.{operate_size}
 use Rattle.cycle_encoding.proofs.Tables.{got_is}
 
 arity_few : (op : WordOp) → nat_le (arity_of_op (Word op)) 4 ≡ true
-arity_few ops.Neg = refl
+arity_few (ops.Operate operates.Addl) = refl
+arity_few (ops.Operate _) = refl
 arity_few _ = refl
 
 word_few : (b : Bool) (operands : List ℕ) → length operands ≤ 4 → length (cond b (operate_operands operands) (plain (get_or operands 0 0) ∷ [])) ≤ 4
@@ -28,10 +30,10 @@ word_few false operands le = (let s : length (plain (get_or operands 0 0) ∷ []
 
 op_few : (op : Op) (operands : List ℕ) → length operands ≡ arity_of_op op → length (op_operands op operands) ≤ 4
 op_few (Word op) operands e = word_few (is_some (operate_kind op)) operands (let a = leb-true (arity_of_op (Word op)) 4 (arity_few op) in omega arith)
-op_few Select operands e = omega arith
-op_few Load operands e = omega arith
-op_few Store operands e = omega arith
-op_few Put operands e = omega arith
+op_few (Select access) operands e = omega arith
+op_few (Load access) operands e = omega arith
+op_few (Store access) operands e = omega arith
+op_few (Put access) operands e = omega arith
 op_few op operands e = omega arith
 
 module _ (g : LaunchGraph) (well : IsLaunchGraph g) where

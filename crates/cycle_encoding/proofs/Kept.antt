@@ -15,7 +15,7 @@ use Rattle.schedule_meaning.specs.Fits.{CanLaunch, CanGo, Collide, CanRead, Ends
 use Rattle.machine_table.specs.declared.tables.Table.{Table}
 use Rattle.machine_table.specs.declared.tables.Use.{Use}
 use Rattle.machine_table.specs.declared.tables.InstrKind.{InstrKind}
-use Rattle.machine_table.specs.declared.tables.InstrKind.TheVariants.{Beq, StqU}
+use Rattle.machine_table.specs.declared.tables.InstrKind.TheVariants.{Beq, Store}
 use Rattle.graph_meaning.specs.declared.graphs.LaunchGraph.{LaunchGraph}
 use Rattle.graph_meaning.specs.declared.graphs.SetClass.{SetClass}
 use Rattle.schedule_meaning.specs.declared.schedules.Operand.{Operand}
@@ -104,7 +104,7 @@ module _ (g : LaunchGraph) (table : Table) (k : ℕ) (is_table : IsTable table) 
         absurd (omega arith)
 
     three_kinds : (i : InstrKind) → (gives_word i ≡ true) ⊎ (is_store i ≡ true) ⊎ (is_branch i ≡ true)
-    three_kinds StqU = inr (inl refl)
+    three_kinds (Store access) = inr (inl refl)
     three_kinds Beq = inr (inr refl)
     three_kinds i = inl refl
 

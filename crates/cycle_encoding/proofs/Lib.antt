@@ -20,8 +20,10 @@ pub mod Adding
 pub mod Before
 pub mod FamilySteps
 pub mod Tallies
+pub mod RowSums
 pub mod Arities
 pub mod Built
+pub mod Choices
 pub mod Sorted
 pub mod Marking
 pub mod MadeLists

@@ -1,5 +1,5 @@
 -- What the instruction of a launch says of its row, or of the set of which it launches a copy.
-use Rattle.std.proofs.Common.{◌≡◌, ℕ, ◌+◌, ◌-◌, ◌<◌, Bool, true, false, cond, length, refl, sym, ap, ◌∙◌, subst, arith, inl, inr, ◌⊎◌, Option, Some, None}
+use Rattle.std.proofs.Common.{◌≡◌, ℕ, ◌+◌, ◌-◌, ◌<◌, Bool, true, false, cond, length, refl, sym, ap, ◌∙◌, subst, arith, inl, inr, Option, Some, None}
 use Rattle.std.specs.Prelude.{◌||◌, ◌==◌, is_some, nat_lt, Contains, option_and_then, option_map, slice_get}
 use Rattle.std.specs.Option.{option_map_or}
 use Rattle.std.proofs.lemmas.Bool.{false≢true, cases_Bool, cases_lt, eqb-true}
@@ -7,13 +7,13 @@ use Rattle.std.proofs.lemmas.Bool.Decides.{Decides-ltb}
 use Rattle.std.proofs.lemmas.Option.{get_or_from_slice_get}
 use Rattle.std.proofs.lemmas.List.Elements.{All-contains}
 use Rattle.word_ops.specs.Meanings.{sort_of, takes_memory}
-use Rattle.word_ops.specs.declared.sorts.Op.TheVariants.{Store, Put}
 use Rattle.word_ops.specs.declared.sorts.Sort.TheVariants as sort
 use Rattle.graph_meaning.specs.Graphs.{is_memory_name}
 use Rattle.graph_meaning.specs.WellFormed.{ClassHasSort, IsLaunchGraph, next_class}
 use Rattle.schedule_meaning.specs.Launches.{instr_at, launches, gives_word, is_store, is_load, op_instr, class_at, copied_at, pinned_class}
 use Rattle.machine_table.specs.declared.tables.InstrKind.{InstrKind}
-use Rattle.machine_table.specs.declared.tables.InstrKind.TheVariants.{Bis, Beq}
+use Rattle.word_ops.specs.declared.operates.Operate.TheVariants.{Bis}
+use Rattle.machine_table.specs.declared.tables.InstrKind.TheVariants.{Operate, Beq}
 use Rattle.graph_meaning.specs.declared.graphs.LaunchGraph.{LaunchGraph}
 use Rattle.graph_meaning.specs.declared.graphs.LaunchRow.{LaunchRow}
 use Rattle.graph_meaning.specs.declared.graphs.SetClass.{SetClass}
@@ -22,6 +22,7 @@ use Rattle.schedule_meaning.specs.declared.schedules.Launch.{Launch}
 use Rattle.schedule_meaning.proofs.Rules.{in_list}
 use Rattle.schedule_meaning.proofs.Copies.{copy_class, plain_kind}
 use Rattle.cycle_encoding.specs.Variables.{is_word_class}
+use Rattle.cycle_encoding.specs.Narrow.{is_store_op}
 use Rattle.cycle_encoding.proofs.RowFacts.{none_some, some_is, got, past, test-some, then-some, store-op, op_fits, word_class, at_row}
 
 module _ (g : LaunchGraph) where
@@ -32,13 +33,13 @@ module _ (g : LaunchGraph) where
   Row : (InstrKind → Bool) → ℕ → Type 0
   Row test row = (r : LaunchRow) × (i : InstrKind) × (slice_get g.rows row ≡ Some r) × (op_instr g r.op r.operands ≡ Some i) × (test i ≡ true)
 
-  row_in : (test : InstrKind → Bool) → test Beq ≡ false → test Bis ≡ false → (row : ℕ) (b : Bool) (c : Option ℕ) (i : InstrKind) → cond b (option_map (λ _. Beq) g.guard) (option_map_or (λ class. Some Bis) c (option_and_then (λ r. op_instr g r.op r.operands) (slice_get g.rows row))) ≡ Some i → test i ≡ true → Row test row
+  row_in : (test : InstrKind → Bool) → test Beq ≡ false → test (Operate Bis) ≡ false → (row : ℕ) (b : Bool) (c : Option ℕ) (i : InstrKind) → cond b (option_map (λ _. Beq) g.guard) (option_map_or (λ class. Some (Operate Bis)) c (option_and_then (λ r. op_instr g r.op r.operands) (slice_get g.rows row))) ≡ Some i → test i ≡ true → Row test row
   unfolding Row
   row_in test f n row true c i h t = absurd (false≢true (sym f ∙ ap test (guard_instr g.guard i h) ∙ t))
-  row_in test f n row false (Some class) i h t = absurd (false≢true (sym n ∙ ap test (some_is Bis i h) ∙ t))
+  row_in test f n row false (Some class) i h t = absurd (false≢true (sym n ∙ ap test (some_is (Operate Bis) i h) ∙ t))
   row_in test f n row false None i h t = (let r = then-some (slice_get g.rows row) (λ r. op_instr g r.op r.operands) i h in (r.0, i, r.1, r.2, t))
 
-  row_of : (test : InstrKind → Bool) → test Beq ≡ false → test Bis ≡ false → (l : Launch) → launches g test l ≡ true → Row test l.row
+  row_of : (test : InstrKind → Bool) → test Beq ≡ false → test (Operate Bis) ≡ false → (l : Launch) → launches g test l ≡ true → Row test l.row
   row_of test f n l h = (let i = test-some (instr_at g l.row) test h in row_in test f n l.row (l.row == length g.rows) (copied_at g l.row) i.0 i.1 i.2)
 
   plain_in : (test : InstrKind → Bool) → test Beq ≡ false → (row : ℕ) (b : Bool) (i : InstrKind) → cond b (option_map (λ _. Beq) g.guard) (option_and_then (λ r. op_instr g r.op r.operands) (slice_get g.rows row)) ≡ Some i → test i ≡ true → Row test row
@@ -88,7 +89,7 @@ module _ (g : LaunchGraph) where
   pub within : (row : ℕ) (i : InstrKind) → instr_at g row ≡ Some i → row < length g.rows + 1 + length g.sets
   within row i h = within_by row i (copied_at g row) refl h
 
-  pub store-row : (l : Launch) → launches g is_store l ≡ true → (r : LaunchRow) × (slice_get g.rows l.row ≡ Some r) × ((r.op ≡ Store) ⊎ (r.op ≡ Put))
+  pub store-row : (l : Launch) → launches g is_store l ≡ true → (r : LaunchRow) × (slice_get g.rows l.row ≡ Some r) × (is_store_op r.op ≡ true)
   unfolding Row
   store-row l h = (let r = row_of is_store refl refl l h in (r.0, r.2, store-op g r.0.op r.0.operands r.1 r.3 r.4))
 

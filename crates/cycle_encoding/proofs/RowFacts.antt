@@ -1,12 +1,14 @@
 -- What the instruction of a launch says of its row: which row it is, its class, and the sorts of what it gives and takes.
-use Rattle.std.proofs.Common.{◌≡◌, ℕ, suc, zero, ◌+◌, ◌<◌, ◌≤◌, Bool, true, false, cond, List, [], ◌∷◌, length, get_or, refl, sym, ap, ◌∙◌, subst, arith, inl, inr, ◌⊎◌, Option, Some, None, max}
+use Rattle.std.proofs.Common.{◌≡◌, ℕ, suc, zero, ◌+◌, ◌<◌, ◌≤◌, Bool, true, false, cond, List, [], ◌∷◌, length, get_or, refl, sym, ap, ◌∙◌, subst, arith, inl, inr, Option, Some, None, max}
 use Rattle.std.specs.Prelude.{◌||◌, ◌&&◌, ◌==◌, is_some, Contains, option_and_then, option_map, slice_get, IsSomeAnd}
 use Rattle.std.specs.Option.{option_map_or}
 use Rattle.std.specs.List.{fold}
 use Rattle.std.proofs.lemmas.Bool.{false≢true, cases_lt, eqb-true, eq-eqb, and_from, or_cases}
 use Rattle.word_ops.specs.Meanings.{sort_of, takes_memory}
+use Rattle.word_ops.specs.declared.sorts.Access.{Access}
 use Rattle.word_ops.specs.declared.operators.WordOp.{WordOp}
 use Rattle.word_ops.specs.declared.operators.WordOp.TheVariants as ops
+use Rattle.cycle_encoding.specs.Narrow.{is_store_op}
 use Rattle.word_ops.specs.declared.sorts.Op.{Op}
 use Rattle.word_ops.specs.declared.sorts.Op.TheVariants.{Word, Select, Store, Load, Put}
 use Rattle.word_ops.specs.declared.sorts.Sort.TheVariants as sort
@@ -16,7 +18,7 @@ use Rattle.graph_meaning.specs.WellFormed.{next_class}
 use Rattle.schedule_meaning.specs.Launches.{instr_at, launches, gives_word, is_store, is_load, word_op_instr, op_instr}
 use Rattle.schedule_meaning.specs.Launches.{class_at}
 use Rattle.machine_table.specs.declared.tables.InstrKind.{InstrKind}
-use Rattle.machine_table.specs.declared.tables.InstrKind.TheVariants.{Lda, Ldah, LdqU, StqU, Beq}
+use Rattle.machine_table.specs.declared.tables.InstrKind.TheVariants as kinds
 use Rattle.graph_meaning.specs.declared.graphs.LaunchGraph.{LaunchGraph}
 use Rattle.graph_meaning.specs.declared.graphs.LaunchRow.{LaunchRow}
 use Rattle.graph_meaning.specs.declared.graphs.Guard.{Guard}
@@ -86,59 +88,59 @@ module _ (g : LaunchGraph) where
     memory = λ h. absurd (elim (or_cases (is_load j) (is_store j) h) [ inl a ↦ false≢true (sym l ∙ a) | inr b ↦ false≢true (sym s ∙ b) ]);
   }
 
-  load_kind : (op : Op) → sort_of op ≡ sort.Word → takes_memory op ≡ true → HasSorts op LdqU
-  load_kind op w m = record { word = λ h. w; store = λ h. absurd (false≢true h); memory = λ h. m }
+  load_kind : (op : Op) (access : Access) → sort_of op ≡ sort.Word → takes_memory op ≡ true → HasSorts op (kinds.Load access)
+  load_kind op access w m = record { word = λ h. w; store = λ h. absurd (false≢true h); memory = λ h. m }
 
-  store_kind : (op : Op) → sort_of op ≡ sort.Memory → takes_memory op ≡ true → HasSorts op StqU
-  store_kind op w m = record { word = λ h. absurd (false≢true h); store = λ h. w; memory = λ h. m }
+  store_kind : (op : Op) (access : Access) → sort_of op ≡ sort.Memory → takes_memory op ≡ true → HasSorts op (kinds.Store access)
+  store_kind op access w m = record { word = λ h. absurd (false≢true h); store = λ h. w; memory = λ h. m }
 
   word_fits : (op : WordOp) (operands : List ℕ) (i : InstrKind) → word_op_instr g op operands ≡ Some i → HasSorts (Word op) i
-  word_fits ops.Lda operands i h = subst (λ i. HasSorts (Word ops.Lda) i) (cond_some (is_some (constant_of g (get_or operands 1 0))) Lda i h) (word_kind ops.Lda Lda refl refl)
-  word_fits ops.Ldah operands i h = subst (λ i. HasSorts (Word ops.Ldah) i) (cond_some (is_some (constant_of g (get_or operands 1 0))) Ldah i h) (word_kind ops.Ldah Ldah refl refl)
+  word_fits ops.Lda operands i h = subst (λ i. HasSorts (Word ops.Lda) i) (cond_some (is_some (constant_of g (get_or operands 1 0))) kinds.Lda i h) (word_kind ops.Lda kinds.Lda refl refl)
+  word_fits ops.Ldah operands i h = subst (λ i. HasSorts (Word ops.Ldah) i) (cond_some (is_some (constant_of g (get_or operands 1 0))) kinds.Ldah i h) (word_kind ops.Ldah kinds.Ldah refl refl)
   word_fits op operands i h =
       word_kind op i (ap (λ q. option_map_or is_store q false) (sym h) ∙ stores_none op) (ap (λ q. option_map_or is_load q false) (sym h) ∙ loads_none op)
 
   pub op_fits : (op : Op) (operands : List ℕ) (i : InstrKind) → op_instr g op operands ≡ Some i → HasSorts op i
   op_fits (Word op) operands i h = word_fits op operands i h
-  op_fits Select operands i h = subst (λ i. HasSorts Select i) (some_is LdqU i h) (load_kind Select refl refl)
-  op_fits Store operands i h = subst (λ i. HasSorts Store i) (some_is StqU i h) (store_kind Store refl refl)
-  op_fits Load operands i h = subst (λ i. HasSorts Load i) (cond_some (is_some (constant_of g (get_or operands 2 0))) LdqU i h) (load_kind Load refl refl)
-  op_fits Put operands i h = subst (λ i. HasSorts Put i) (cond_some (is_some (constant_of g (get_or operands 2 0))) StqU i h) (store_kind Put refl refl)
+  op_fits (Select access) operands i h = subst (λ i. HasSorts (Select access) i) (some_is (kinds.Load access) i h) (load_kind (Select access) access refl refl)
+  op_fits (Store access) operands i h = subst (λ i. HasSorts (Store access) i) (some_is (kinds.Store access) i h) (store_kind (Store access) access refl refl)
+  op_fits (Load access) operands i h = subst (λ i. HasSorts (Load access) i) (cond_some (is_some (constant_of g (get_or operands 2 0))) (kinds.Load access) i h) (load_kind (Load access) access refl refl)
+  op_fits (Put access) operands i h = subst (λ i. HasSorts (Put access) i) (cond_some (is_some (constant_of g (get_or operands 2 0))) (kinds.Store access) i h) (store_kind (Put access) access refl refl)
   op_fits op operands i h = absurd (none_some i h)
 
   word_memory : sort.Word ≡ sort.Memory → ⊥
   word_memory h = cc
 
   -- a store's operator
-  pub store-op : (op : Op) (operands : List ℕ) (i : InstrKind) → op_instr g op operands ≡ Some i → is_store i ≡ true → (op ≡ Store) ⊎ (op ≡ Put)
-  store-op Store operands i h s = inl refl
-  store-op Put operands i h s = inr refl
+  pub store-op : (op : Op) (operands : List ℕ) (i : InstrKind) → op_instr g op operands ≡ Some i → is_store i ≡ true → is_store_op op ≡ true
+  store-op (Store access) operands i h s = refl
+  store-op (Put access) operands i h s = refl
   store-op (Word op) operands i h s = absurd (word_memory ((op_fits (Word op) operands i h).store s))
-  store-op Select operands i h s = absurd (word_memory ((op_fits Select operands i h).store s))
-  store-op Load operands i h s = absurd (word_memory ((op_fits Load operands i h).store s))
+  store-op (Select access) operands i h s = absurd (word_memory ((op_fits (Select access) operands i h).store s))
+  store-op (Load access) operands i h s = absurd (word_memory ((op_fits (Load access) operands i h).store s))
   store-op op operands i h s = absurd (none_some i h)
 
   -- ---- the row of a launch
 
-  guard_instr : (o : Option Guard) (i : InstrKind) → option_map (λ _. Beq) o ≡ Some i → Beq ≡ i
+  guard_instr : (o : Option Guard) (i : InstrKind) → option_map (λ _. kinds.Beq) o ≡ Some i → kinds.Beq ≡ i
   guard_instr None i h = absurd (none_some i h)
-  guard_instr (Some x) i h = some_is Beq i h
+  guard_instr (Some x) i h = some_is kinds.Beq i h
 
   Row : (InstrKind → Bool) → ℕ → Type 0
   Row test row = (r : LaunchRow) × (i : InstrKind) × (slice_get g.rows row ≡ Some r) × (op_instr g r.op r.operands ≡ Some i) × (test i ≡ true)
 
-  row_in : (test : InstrKind → Bool) → test Beq ≡ false → (row : ℕ) (b : Bool) (i : InstrKind) → cond b (option_map (λ _. Beq) g.guard) (option_and_then (λ r. op_instr g r.op r.operands) (slice_get g.rows row)) ≡ Some i → test i ≡ true → Row test row
+  row_in : (test : InstrKind → Bool) → test kinds.Beq ≡ false → (row : ℕ) (b : Bool) (i : InstrKind) → cond b (option_map (λ _. kinds.Beq) g.guard) (option_and_then (λ r. op_instr g r.op r.operands) (slice_get g.rows row)) ≡ Some i → test i ≡ true → Row test row
   unfolding Row
   row_in test f row true i h t = absurd (false≢true (sym f ∙ ap test (guard_instr g.guard i h) ∙ t))
   row_in test f row false i h t = (let r = then-some (slice_get g.rows row) (λ r. op_instr g r.op r.operands) i h in (r.0, i, r.1, r.2, t))
 
   -- where no set has a pin, no row's number is a copy's
-  row_of : HasNoPins g → (test : InstrKind → Bool) → test Beq ≡ false → (l : Launch) → launches g test l ≡ true → Row test l.row
+  row_of : HasNoPins g → (test : InstrKind → Bool) → test kinds.Beq ≡ false → (l : Launch) → launches g test l ≡ true → Row test l.row
   row_of plain test f l h =
       let i = test-some (instr_at g l.row) test h in
       row_in test f l.row (l.row == length g.rows) i.0 (sym (plain_rows g plain l.row).0 ∙ i.1) i.2
 
-  row_within : (row : ℕ) (b : Bool) → (row == length g.rows) ≡ b → (i : InstrKind) → cond b (option_map (λ _. Beq) g.guard) (option_and_then (λ r. op_instr g r.op r.operands) (slice_get g.rows row)) ≡ Some i → row < length g.rows + 1
+  row_within : (row : ℕ) (b : Bool) → (row == length g.rows) ≡ b → (i : InstrKind) → cond b (option_map (λ _. kinds.Beq) g.guard) (option_and_then (λ r. op_instr g r.op r.operands) (slice_get g.rows row)) ≡ Some i → row < length g.rows + 1
   row_within row true e i h = (let same = eqb-true row (length g.rows) e in omega arith)
   row_within row false e i h =
       let r = then-some (slice_get g.rows row) (λ r. op_instr g r.op r.operands) i h in
@@ -150,7 +152,7 @@ module _ (g : LaunchGraph) where
   pub within : HasNoPins g → (row : ℕ) (i : InstrKind) → instr_at g row ≡ Some i → row < length g.rows + 1
   within plain row i h = row_within row (row == length g.rows) refl i (sym (plain_rows g plain row).0 ∙ h)
 
-  pub store-row : HasNoPins g → (l : Launch) → launches g is_store l ≡ true → (r : LaunchRow) × (slice_get g.rows l.row ≡ Some r) × ((r.op ≡ Store) ⊎ (r.op ≡ Put))
+  pub store-row : HasNoPins g → (l : Launch) → launches g is_store l ≡ true → (r : LaunchRow) × (slice_get g.rows l.row ≡ Some r) × (is_store_op r.op ≡ true)
   unfolding Row
   store-row plain l h = (let r = row_of plain is_store refl l h in (r.0, r.2, store-op r.0.op r.0.operands r.1 r.3 r.4))
 

@@ -11,7 +11,7 @@ use Rattle.machine_table.specs.Tables.{IsTable, MayUse, use_of}
 use Rattle.machine_table.specs.declared.tables.Table.{Table}
 use Rattle.machine_table.specs.declared.tables.Use.{Use}
 use Rattle.machine_table.specs.declared.tables.InstrKind.{InstrKind}
-use Rattle.machine_table.specs.declared.tables.InstrKind.TheVariants.{StqU, Beq}
+use Rattle.machine_table.specs.declared.tables.InstrKind.TheVariants.{Store, Beq}
 use Rattle.graph_meaning.specs.WellFormed.{IsLaunchGraph, next_class}
 use Rattle.graph_meaning.specs.Graphs.{is_zero_class}
 use Rattle.graph_meaning.specs.declared.graphs.LaunchGraph.{LaunchGraph}
@@ -210,7 +210,7 @@ shown-kept g wants = filter_both wants (λ c. is_word_class g c && (not (is_safe
 -- ---- which launches have variables
 
 three_kinds : (i : InstrKind) → (gives_word i ≡ true) ⊎ (is_store i ≡ true) ⊎ (is_branch i ≡ true)
-three_kinds StqU = inr (inl refl)
+three_kinds (Store access) = inr (inl refl)
 three_kinds Beq = inr (inr refl)
 three_kinds i = inl refl
 

@@ -19,7 +19,8 @@ use Rattle.schedule_meaning.specs.Launches.{op_instr, class_at, IsZero, IsByteCo
 use Rattle.schedule_meaning.specs.Launches.{gives}
 use Rattle.schedule_meaning.specs.declared.schedules.Operand.{Operand}
 use Rattle.machine_table.specs.declared.tables.InstrKind.{InstrKind}
-use Rattle.machine_table.specs.declared.tables.InstrKind.TheVariants.{Bis, Lda, Ldah, LdqU, StqU, Beq}
+use Rattle.word_ops.specs.declared.operates.Operate.TheVariants.{Bis}
+use Rattle.machine_table.specs.declared.tables.InstrKind.TheVariants as kinds
 use Rattle.graph_meaning.specs.declared.graphs.LaunchGraph.{LaunchGraph}
 use Rattle.graph_meaning.specs.declared.graphs.LaunchRow.{LaunchRow}
 use Rattle.graph_meaning.specs.declared.graphs.Guard.{Guard}
@@ -136,59 +137,59 @@ module _ (g : LaunchGraph) where
 
 -- ---- only a guard has a branch
 
-no_instr : None ≡ Some Beq → ⊥
+no_instr : None ≡ Some kinds.Beq → ⊥
 no_instr h = cc
 
 no_branch : (op : WordOp) → option_map_or is_branch (operate_kind op) false ≡ false
 no_branch ops.Neg = refl
 no_branch _ = refl
 
-not_operate : (op : WordOp) → operate_kind op ≡ Some Beq → ⊥
+not_operate : (op : WordOp) → operate_kind op ≡ Some kinds.Beq → ⊥
 not_operate op h = false≢true (sym (no_branch op) ∙ ap (λ i. option_map_or is_branch i false) h)
 
 module _ (g : LaunchGraph) where
-  displaced_not : (i : InstrKind) (b : Bool) → (Some i ≡ Some Beq → ⊥) → cond b (Some i) None ≡ Some Beq → ⊥
+  displaced_not : (i : InstrKind) (b : Bool) → (Some i ≡ Some kinds.Beq → ⊥) → cond b (Some i) None ≡ Some kinds.Beq → ⊥
   displaced_not i true n h = n h
   displaced_not i false n h = no_instr h
 
-  word_not : (op : WordOp) (operands : List ℕ) → word_op_instr g op operands ≡ Some Beq → ⊥
-  word_not ops.Lda operands h = displaced_not Lda (is_some (constant_of g (get_or operands 1 0))) (λ e. cc) h
-  word_not ops.Ldah operands h = displaced_not Ldah (is_some (constant_of g (get_or operands 1 0))) (λ e. cc) h
+  word_not : (op : WordOp) (operands : List ℕ) → word_op_instr g op operands ≡ Some kinds.Beq → ⊥
+  word_not ops.Lda operands h = displaced_not kinds.Lda (is_some (constant_of g (get_or operands 1 0))) (λ e. cc) h
+  word_not ops.Ldah operands h = displaced_not kinds.Ldah (is_some (constant_of g (get_or operands 1 0))) (λ e. cc) h
   word_not op operands h = not_operate op h
 
-  op_not : (op : Op) (operands : List ℕ) → op_instr g op operands ≡ Some Beq → ⊥
+  op_not : (op : Op) (operands : List ℕ) → op_instr g op operands ≡ Some kinds.Beq → ⊥
   op_not (Word op) operands h = word_not op operands h
-  op_not Select operands h = cc
-  op_not Store operands h = cc
-  op_not Load operands h = displaced_not LdqU (is_some (constant_of g (get_or operands 2 0))) (λ e. cc) h
-  op_not Put operands h = displaced_not StqU (is_some (constant_of g (get_or operands 2 0))) (λ e. cc) h
+  op_not (Select access) operands h = cc
+  op_not (Store access) operands h = cc
+  op_not (Load access) operands h = displaced_not (kinds.Load access) (is_some (constant_of g (get_or operands 2 0))) (λ e. cc) h
+  op_not (Put access) operands h = displaced_not (kinds.Store access) (is_some (constant_of g (get_or operands 2 0))) (λ e. cc) h
   op_not op operands h = no_instr h
 
-  row_not : (o : Option LaunchRow) → option_and_then (λ r. op_instr g r.op r.operands) o ≡ Some Beq → ⊥
+  row_not : (o : Option LaunchRow) → option_and_then (λ r. op_instr g r.op r.operands) o ≡ Some kinds.Beq → ⊥
   row_not None h = no_instr h
   row_not (Some r) h = op_not r.op r.operands h
 
-  guard_in : (o : Option Guard) → option_map (λ _. Beq) o ≡ Some Beq → is_some o ≡ true
+  guard_in : (o : Option Guard) → option_map (λ _. kinds.Beq) o ≡ Some kinds.Beq → is_some o ≡ true
   guard_in None h = absurd (no_instr h)
   guard_in (Some x) h = refl
 
-  no_copy : Some Bis ≡ Some Beq → ⊥
+  no_copy : Some (kinds.Operate Bis) ≡ Some kinds.Beq → ⊥
   no_copy h = cc
 
   -- the branch is that of the guard, one number behind the last row
-  branch_in : (row : ℕ) (b : Bool) → (row == length g.rows) ≡ b → (o : Option ℕ) → cond b (option_map (λ _. Beq) g.guard) (option_map_or (λ class. Some Bis) o (option_and_then (λ r. op_instr g r.op r.operands) (slice_get g.rows row))) ≡ Some Beq → (is_some g.guard ≡ true) × (row ≡ length g.rows)
+  branch_in : (row : ℕ) (b : Bool) → (row == length g.rows) ≡ b → (o : Option ℕ) → cond b (option_map (λ _. kinds.Beq) g.guard) (option_map_or (λ class. Some (kinds.Operate Bis)) o (option_and_then (λ r. op_instr g r.op r.operands) (slice_get g.rows row))) ≡ Some kinds.Beq → (is_some g.guard ≡ true) × (row ≡ length g.rows)
   branch_in row true e o h = (guard_in g.guard h, eqb-true row (length g.rows) e)
   branch_in row false e None h = absurd (row_not (slice_get g.rows row) h)
   branch_in row false e (Some class) h = absurd (no_copy h)
 
-  branch_at : (row : ℕ) → instr_at g row ≡ Some Beq → (is_some g.guard ≡ true) × (row ≡ length g.rows)
+  branch_at : (row : ℕ) → instr_at g row ≡ Some kinds.Beq → (is_some g.guard ≡ true) × (row ≡ length g.rows)
   branch_at row h = branch_in row (row == length g.rows) refl (copied_at g row) h
 
-  beq_is : (i : InstrKind) → is_branch i ≡ true → i ≡ Beq
-  beq_is Beq h = refl
+  beq_is : (i : InstrKind) → is_branch i ≡ true → i ≡ kinds.Beq
+  beq_is kinds.Beq h = refl
   beq_is i h = absurd (false≢true h)
 
-  branch_instr : (o : Option InstrKind) → option_map_or is_branch o false ≡ true → o ≡ Some Beq
+  branch_instr : (o : Option InstrKind) → option_map_or is_branch o false ≡ true → o ≡ Some kinds.Beq
   branch_instr None h = absurd (false≢true h)
   branch_instr (Some i) h = ap Some (beq_is i h)
 

@@ -1,5 +1,5 @@
 -- Marks of wanted classes, one more at a time.
-use Rattle.std.proofs.Common.{◌≡◌, ℕ, zero, suc, ◌+◌, ◌<◌, ◌≤◌, Bool, true, false, cond, List, [], ◌∷◌, ◌++◌, length, map, take, set, get_or, refl, sym, ap, ◌∙◌, subst, arith, inl, inr, ◌⊎◌, Option, Some, None, append_assoc}
+use Rattle.std.proofs.Common.{◌≡◌, ℕ, zero, suc, ◌+◌, ◌<◌, ◌≤◌, Bool, true, false, cond, List, [], ◌∷◌, ◌++◌, length, map, take, set, get_or, refl, sym, ap, ◌∙◌, subst, arith, inl, inr, Option, Some, None, append_assoc}
 use Rattle.std.specs.Prelude.{◌&&◌, ◌==◌, ◌↔◌, not, Contains, is_some, slice_get}
 use Rattle.std.specs.Option.{option_map_or}
 use Rattle.std.specs.List.{count_by, filter, range_with_len}
@@ -16,14 +16,12 @@ use Rattle.graph_meaning.specs.declared.graphs.SetClass.{SetClass}
 use Rattle.machine_table.specs.Tables.{ev6}
 use Rattle.machine_table.specs.declared.tables.InstrKind.{InstrKind}
 use Rattle.schedule_meaning.specs.Launches.{instr_at, gives_word, is_branch, class_at}
-use Rattle.word_ops.specs.declared.sorts.Op.{Op}
-use Rattle.word_ops.specs.declared.sorts.Op.TheVariants.{Store, Put}
 use Rattle.cycle_encoding.specs.Variables.{is_safe, row_numbers}
 use Rattle.cycle_encoding.specs.Counts.{row_is}
-use Rattle.cycle_encoding.specs.Narrow.{Wanted}
+use Rattle.cycle_encoding.specs.Narrow.{Wanted, is_store_op}
 use Rattle.cycle_encoding.specs.Narrow.Wanted.{target, pinned, guard, store, operand}
 use Rattle.cycle_encoding.specs.declared.operands.There.TheVariants.{Always}
-use Rattle.cycle_encoding.specs.Wanting.{is_marked_class, is_wanted_target, is_store_op, is_store_row, is_root, giving_rows, AreWantedMarks, AreAllMarked, IsFollowed, IsLonger, StillMarked, wanted_needs}
+use Rattle.cycle_encoding.specs.Wanting.{is_marked_class, is_wanted_target, is_store_row, is_root, giving_rows, AreWantedMarks, AreAllMarked, IsFollowed, IsLonger, StillMarked, wanted_needs}
 use Rattle.cycle_encoding.proofs.Members.{here, nothing, filter-in, filter-out, range-in}
 use Rattle.cycle_encoding.proofs.PinnedTests.{safe-is, safe-from}
 use Rattle.cycle_encoding.proofs.PinnedRows.{within}
@@ -133,14 +131,9 @@ more-targets g old new i d s lt e still size before now x h t =
 
 -- ---- stores and the branch
 
-is_store_is : (op : Op) → is_store_op op ≡ true → (op ≡ Store) ⊎ (op ≡ Put)
-is_store_is Store h = inl refl
-is_store_is Put h = inr refl
-is_store_is op h = absurd (false≢true h)
-
-store_in : (g : LaunchGraph) (o : Option LaunchRow) → option_map_or (λ r. is_store_op r.op) o false ≡ true → (r : LaunchRow) × (o ≡ Some r) × ((r.op ≡ Store) ⊎ (r.op ≡ Put))
+store_in : (g : LaunchGraph) (o : Option LaunchRow) → option_map_or (λ r. is_store_op r.op) o false ≡ true → (r : LaunchRow) × (o ≡ Some r) × (is_store_op r.op ≡ true)
 store_in g None h = absurd (false≢true h)
-store_in g (Some r) h = (r, refl, is_store_is r.op h)
+store_in g (Some r) h = (r, refl, h)
 
 branch_in : (o : Option InstrKind) → option_map_or is_branch o false ≡ true → (i : InstrKind) × (o ≡ Some i) × (is_branch i ≡ true)
 branch_in None h = absurd (false≢true h)
@@ -215,10 +208,6 @@ few-listed g marks order m = (let c = m.count in let l = count_by-le-length (λ 
 
 -- ---- exactly the wanted classes are marked
 
-store_op_in : (r : LaunchRow) → (r.op ≡ Store) ⊎ (r.op ≡ Put) → is_store_op r.op ≡ true
-store_op_in r (inl e) = ap is_store_op e
-store_op_in r (inr e) = ap is_store_op e
-
 -- each number of a row that can be launched is one of all
 pub number-in : (g : LaunchGraph) (row : ℕ) (i : InstrKind) → instr_at g row ≡ Some i → Contains (row_numbers g) row
 number-in g row i e = range-in 0 (length g.rows + 1 + length g.sets) row (omega arith) (let w = within g row i e in omega arith)
@@ -238,7 +227,7 @@ module _ (g : LaunchGraph) (well : IsLaunchGraph g) (marks : List Bool) (order :
       let is : row_is g is_branch row ≡ true = ap (λ (o : Option InstrKind). option_map_or is_branch o false) e ∙ b in
       roots row (number-in g row i e) (or_left (row_is g is_branch row) (is_store_row g row) is) o.class (need-in Always g row o need) lt
   all-marked _ (store row r o e op need) lt =
-      let is : is_store_row g row ≡ true = ap (λ (o : Option LaunchRow). option_map_or (λ r. is_store_op r.op) o false) e ∙ store_op_in r op in
+      let is : is_store_row g row ≡ true = ap (λ (o : Option LaunchRow). option_map_or (λ r. is_store_op r.op) o false) e ∙ op in
       roots row (range-in 0 (length g.rows + 1 + length g.sets) row (omega arith) (let w = slice_get_within g.rows row r e in omega arith)) (or_right (row_is g is_branch row) (is_store_row g row) is) o.class (need-in Always g row o need) lt
   all-marked _ (operand row o i e w inner need) lt =
       let bound = low-class g ev6 well row i e w in

@@ -10,12 +10,12 @@ use Rattle.machine_table.specs.declared.tables.Table.{Table}
 use Rattle.machine_table.specs.declared.tables.Use.{Use}
 use Rattle.machine_table.specs.declared.tables.InstrKind.{InstrKind}
 use Rattle.graph_meaning.specs.declared.graphs.LaunchGraph.{LaunchGraph}
-use Rattle.cycle_encoding.specs.Variables.{slots_of, clusters_of, all_seen}
-use Rattle.cycle_encoding.specs.CycleFormula.{Scope, first_cycle_in, Listed, wants_in}
+use Rattle.cycle_encoding.specs.Variables.{slots_of, clusters_of}
+use Rattle.cycle_encoding.specs.CycleFormula.{Scope, first_cycle_in, wants_in}
 use Rattle.cnf_core.specs.Counter.{at_most_size, at_most_vars}
 use Rattle.schedule_meaning.specs.declared.schedules.Operand.{Operand}
 use Rattle.schedule_meaning.specs.declared.schedules.To.{To}
-use Rattle.cycle_encoding.specs.Variables.{destinations, launches_from, row_numbers, shown_classes}
+use Rattle.cycle_encoding.specs.Variables.{destinations, row_numbers, shown_classes}
 use Rattle.cycle_encoding.specs.Variables.{overwriting_sets}
 use Rattle.cycle_encoding.specs.Families.{is_made, is_made_target, is_input_at}
 

@@ -1,7 +1,8 @@
 -- The narrow encoding, and that with pins: variables only for launches that can start by their cycle and whose word is
 -- wanted, by where they go, and only for wanted classes. Source: this project.
-use Rattle.std.specs.Prelude.{◌≡◌, ℕ, ◌+◌, ◌≤◌, Bool, Some, IsTrue, Contains, Decides, ◌⊎◌, slice_get}
+use Rattle.std.specs.Prelude.{◌≡◌, ℕ, ◌+◌, ◌≤◌, Bool, true, false, Some, IsTrue, Contains, Decides, ◌⊎◌, slice_get}
 use Rattle.std.specs.List.{filter}
+use Rattle.word_ops.specs.declared.sorts.Op.{Op}
 use Rattle.word_ops.specs.declared.sorts.Op.TheVariants.{Store, Put}
 use Rattle.machine_table.specs.Tables.{use_of}
 use Rattle.graph_meaning.specs.Graphs.{is_memory_name, IsPin}
@@ -18,6 +19,12 @@ use Rattle.schedule_meaning.specs.declared.schedules.Launch.{Launch}
 use Rattle.cycle_encoding.specs.Variables.{all_seen}
 use Rattle.cycle_encoding.specs.Variables.{all_launches, made_classes}
 use Rattle.cycle_encoding.specs.CycleFormula.{Listed}
+
+-- the operators whose rows are stores
+abbrev pub is_store_op : Op → Bool
+is_store_op (Store access) = true
+is_store_op (Put access) = true
+is_store_op op = false
 
 -- an input of the class has a register that is no pin
 abbrev pub IsSafe : LaunchGraph → ℕ → Type 0
@@ -37,7 +44,7 @@ pub data Wanted (g : LaunchGraph) : ℕ → Type 0 where
   pinned : (s : SetClass) (r : ℕ) → Contains g.sets s → s.pin ≡ Some r → Wanted g s.class
   guard : (row : ℕ) (o : Operand) (i : InstrKind) → instr_at g row ≡ Some i → IsTrue (is_branch i)
       → Lacks g (IsSafe g) row o → Wanted g o.class
-  store : (row : ℕ) (r : LaunchRow) (o : Operand) → slice_get g.rows row ≡ Some r → (r.op ≡ Store) ⊎ (r.op ≡ Put)
+  store : (row : ℕ) (r : LaunchRow) (o : Operand) → slice_get g.rows row ≡ Some r → IsTrue (is_store_op r.op)
       → Lacks g (IsSafe g) row o → Wanted g o.class
   operand : (row : ℕ) (o : Operand) (i : InstrKind) → instr_at g row ≡ Some i → IsTrue (gives_word i)
       → Wanted g (class_at g row) → Lacks g (IsSafe g) row o → Wanted g o.class

@@ -1,18 +1,16 @@
 -- How wanted classes are found: each is marked once, and listed in the order in which it was.
 -- Source: this project.
-use Rattle.std.specs.Prelude.{◌≡◌, ℕ, ◌<◌, ◌&&◌, ◌||◌, ◌==◌, not, Bool, true, false, List, ◌++◌, length, Contains}
+use Rattle.std.specs.Prelude.{◌≡◌, ℕ, ◌<◌, ◌&&◌, ◌||◌, ◌==◌, not, Bool, false, List, ◌++◌, length, Contains}
 use Rattle.std.specs.Prelude.{IsTrue, is_some, slice_get, slice_index_or}
 use Rattle.std.specs.Option.{option_map_or}
 use Rattle.std.specs.List.{count_by, filter}
-use Rattle.word_ops.specs.declared.sorts.Op.{Op}
-use Rattle.word_ops.specs.declared.sorts.Op.TheVariants.{Store, Put}
 use Rattle.graph_meaning.specs.Graphs.{is_memory_name}
 use Rattle.schedule_meaning.specs.Launches.{gives_word, is_branch, class_at}
 use Rattle.graph_meaning.specs.declared.graphs.LaunchGraph.{LaunchGraph}
 use Rattle.graph_meaning.specs.declared.graphs.SetClass.{SetClass}
 use Rattle.cycle_encoding.specs.Counts.{row_is}
 use Rattle.cycle_encoding.specs.Variables.{is_safe, row_numbers}
-use Rattle.cycle_encoding.specs.Narrow.{Wanted}
+use Rattle.cycle_encoding.specs.Narrow.{Wanted, is_store_op}
 use Rattle.cycle_encoding.specs.Lacking.{needs_of}
 use Rattle.cycle_encoding.specs.declared.operands.There.TheVariants.{Always}
 
@@ -26,11 +24,6 @@ is_marked_class marks class = slice_index_or marks class false
 -- a target whose class is wanted for itself: a word that isn't safe, or one with a pin
 abbrev pub is_wanted_target : LaunchGraph → SetClass → Bool
 is_wanted_target g s = (not (is_memory_name s.name) && not (is_safe g s.class)) || is_some s.pin
-
-abbrev pub is_store_op : Op → Bool
-is_store_op Store = true
-is_store_op Put = true
-is_store_op op = false
 
 abbrev pub is_store_row : LaunchGraph → ℕ → Bool
 is_store_row g row = option_map_or (λ r. is_store_op r.op) (slice_get g.rows row) false

@@ -1,15 +1,14 @@
-// Launches sorted into lists, in one pass over all of them.
+// Launches and rows sorted into lists, in one pass over all of them.
 ghost use Rattle.std.specs.Prelude.{◌≡◌, [], map, IfOk, OnOk};
 ghost use Rattle.std.specs.List.{range_with_len};
 ghost use Rattle.cycle_encoding.specs.Steps.{put_at};
 
 use items::{Items, NoMemory};
-use schedule_meaning::Launch;
 use std::alloc::Global;
 
 /// So many empty lists.
 #[tactic(auto, using(crate::proofs::Tables::table_more))]
-pub fn empty_lists(alloc: Global, count: u32) -> Result<Vec<Items<(u32, Launch)>>, NoMemory>
+pub fn empty_lists<T: Drop>(alloc: Global, count: u32) -> Result<Vec<Items<T>>, NoMemory>
     ensures { IfOk result (λ lists. lists.items ≡ map (λ _. []) (range_with_len 0 count)) }
 {
     let mut lists = Vec::new(alloc);
@@ -19,17 +18,12 @@ pub fn empty_lists(alloc: Global, count: u32) -> Result<Vec<Items<(u32, Launch)>
     Ok(lists)
 }
 
-/// Puts a launch with its variable at the end of the list of a number, if there is one.
-pub fn put_into(
-    lists: &mut Vec<Items<(u32, Launch)>>,
-    number: u32,
-    var: u32,
-    launch: Launch,
-) -> Result<(), NoMemory>
-    ensures { OnOk result (lists.new.items ≡ put_at lists.old.items number (var, launch)) }
+/// Puts one thing more at the end of the list of a number, if there is one.
+pub fn put_into<T: Copy>(lists: &mut Vec<Items<T>>, number: u32, item: T) -> Result<(), NoMemory>
+    ensures { OnOk result (lists.new.items ≡ put_at lists.old.items number item) }
 {
     if let Some(list) = lists.get_mut(number as usize) {
-        list.push((var, launch))?;
+        list.push(item)?;
     }
     Ok(())
 }

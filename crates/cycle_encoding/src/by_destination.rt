@@ -61,35 +61,10 @@ fn push_row(
         return Ok(());
     };
     let tos = destinations(alloc, facts, row)?;
-    push_slots(
-        launches,
-        table,
-        instr,
-        row,
-        first,
-        cycles(k, latency, first),
-        &tos,
-    )
-}
-
-/// The launches of a row in each slot that its instruction may use, in so many cycles from a first one.
-fn push_slots(
-    launches: &mut Vec<Launch>,
-    table: &Table,
-    instr: InstrKind,
-    row: u32,
-    first: u32,
-    cycles: u32,
-    tos: &[To],
-) -> Result<(), NoMemory>
-    requires table { IsTable table.now }
-    requires few { first + cycles < 2 ^ 32 }
-    ensures { OnOk result (launches.new.items ≡ launches.old.items
-        ++ specs.destined_slots table.now instr row first cycles tos.now (length table.now.slots)) }
-{
+    let cycles = cycles(k, latency, first);
     for slot in 0..table.slots.len() as u32 {
         if may_use(table, instr, slot) {
-            push_slot(launches, row, slot, first, cycles, tos)?;
+            push_slot(launches, row, slot, first, cycles, &tos)?;
         }
     }
     Ok(())

@@ -10,6 +10,7 @@ ghost use Rattle.cycle_encoding.specs.Variables.{row_numbers};
 
 use crate::Facts;
 use crate::facts::next_class;
+use crate::marks::filled;
 use items::{Items, NoMemory};
 use machine_table::{InstrKind, Table};
 use schedule_meaning::class_at;
@@ -23,7 +24,7 @@ fn word_latency(facts: &Facts, table: &Table, row: u32) -> Option<u32>
     ensures { result ≡ coming.word_latency facts.now table.now row }
 {
     match facts.instr_at(row) {
-        Some(InstrKind::StqU | InstrKind::Beq) | None => None,
+        Some(InstrKind::Store(_) | InstrKind::Beq) | None => None,
         Some(instr) => table.latency(instr),
     }
 }
@@ -50,21 +51,15 @@ fn have_come(come: &[Option<u32>], cycle: u32, classes: &[u32]) -> bool
     true
 }
 
-fn earlier(first: Option<u32>, cycle: u32) -> u32
-    ensures { result ≡ coming.earlier first cycle }
-{
-    match first {
-        Some(first) => { if first < cycle { first } else { cycle } }
-        None => cycle,
-    }
-}
-
 /// The class has come by a cycle too, if the table has it.
 fn put_come(come: &mut Vec<Option<u32>>, class: u32, cycle: u32)
     ensures { come.new.items ≡ come_by come.old.items class cycle }
 {
     if let Some(first) = come.get_mut(class as usize) {
-        *first = Some(earlier(*first, cycle));
+        match *first {
+            Some(first) if first < cycle => {}
+            _ => *first = Some(cycle),
+        }
     }
 }
 
@@ -130,18 +125,6 @@ fn pass_rows(
     }
 }
 
-/// A table in which no class has come.
-#[tactic(auto, using(crate::proofs::Tables::table_more))]
-fn none_come(alloc: Global, classes: u32) -> Result<Vec<Option<u32>>, NoMemory>
-    ensures { IfOk result (λ come. come.items ≡ map (λ _. None) (range_with_len 0 classes)) }
-{
-    let mut come = Vec::new(alloc);
-    for _made in 0..classes {
-        come.push(None)?;
-    }
-    Ok(come)
-}
-
 /// For each class the first cycle by which it has come, where that is one up to 24 or soon behind it.
 pub fn come_cycles(
     alloc: Global,
@@ -154,7 +137,7 @@ pub fn come_cycles(
     requires graph { IsLaunchGraph facts.now }
     ensures { IfOk result (λ come. IsExactUpTo facts.now table.now come.items 24) }
 {
-    let mut come = none_come(alloc, next_class(facts.graph()))?;
+    let mut come = filled(alloc, None, next_class(facts.graph()))?;
     for cycle in 0..LAST + 1 {
         pass_rows(&mut come, facts, table, needs, cycle);
     }

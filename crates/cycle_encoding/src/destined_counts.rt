@@ -10,18 +10,6 @@ use crate::reaching::destination_count;
 use crate::{Facts, Scope};
 use machine_table::Table;
 
-/// How many launches a row has, by where they go.
-#[tactic(auto, using(crate::proofs::RowPlaces::sum_ones))]
-fn destined_count(facts: &Facts, table: &Table, scope: &Scope, k: u32, row: u32) -> u64
-    requires table { IsTable table.now }
-    requires cycles { k ≤ 24 }
-    ensures value { result ≡ counts.row_count facts.now table.now k scope.now row
-        * sum_by (λ to. 1) (counts.row_destinations facts.now row) }
-    ensures few { result ≤ 6400 }
-{
-    row_count(facts, table, scope, k, row) * destination_count(facts, row)
-}
-
 /// How many launches there are.
 #[tactic(auto, using(crate::proofs::Tallies::sum_more))]
 pub fn launch_count(facts: &Facts, table: &Table, scope: &Scope, k: u32) -> u64
@@ -33,31 +21,9 @@ pub fn launch_count(facts: &Facts, table: &Table, scope: &Scope, k: u32) -> u64
 {
     let mut count = 0;
     for row in 0..facts.row_numbers() {
-        count += destined_count(facts, table, scope, k, row);
+        count += row_count(facts, table, scope, k, row) * destination_count(facts, row);
     }
     count
-}
-
-/// How many launches of a row are in a slot and cycle.
-fn row_at(
-    facts: &Facts,
-    table: &Table,
-    scope: &Scope,
-    k: u32,
-    slot: u32,
-    cycle: u32,
-    row: u32,
-) -> u64
-    requires cycles { k ≤ 24 }
-    ensures value { result ≡ counts.one_if (counts.row_has facts.now table.now k scope.now slot cycle row)
-        * length (counts.row_destinations facts.now row) }
-    ensures few { result ≤ 32 }
-{
-    if row_has(facts, table, scope, k, slot, cycle, row) {
-        destination_count(facts, row)
-    } else {
-        0
-    }
 }
 
 /// How many launches there are in a slot and cycle.
@@ -70,7 +36,9 @@ fn destined_at(facts: &Facts, table: &Table, scope: &Scope, k: u32, slot: u32, c
 {
     let mut count = 0;
     for row in 0..facts.row_numbers() {
-        count += row_at(facts, table, scope, k, slot, cycle, row);
+        if row_has(facts, table, scope, k, slot, cycle, row) {
+            count += destination_count(facts, row);
+        }
     }
     count
 }

@@ -15,7 +15,7 @@ ghost use Rattle.cycle_encoding.specs.Families as families;
 ghost use Rattle.cycle_encoding.specs.Facts as specs;
 ghost use Rattle.cycle_encoding.specs.Variables as variables;
 
-use crate::marks::{give_constant, mark, unmarked, without_constants};
+use crate::marks::{filled, give_constant, mark};
 use graph_meaning::{LaunchGraph, SetClass, graphs_are_consistent};
 use items::NoMemory;
 use machine_table::InstrKind;
@@ -96,7 +96,12 @@ impl<'a> Facts<'a> {
     {
         match self.inputs.get(class as usize) {
             Some(is) => *is,
-            None => is_input(self.graph, class),
+            None => self
+                .graph
+                .inputs
+                .as_slice()
+                .iter()
+                .any(|input| input.class == class),
         }
     }
 
@@ -106,11 +111,16 @@ impl<'a> Facts<'a> {
     {
         match self.words.get(class as usize) {
             Some(is) => *is,
-            None => is_word_class(self.graph, class),
+            None => self
+                .graph
+                .rows
+                .as_slice()
+                .iter()
+                .any(|row| row.class == class && row.op.sort() == Sort::Word),
         }
     }
 
-    fn is_zero(&self, class: u32) -> bool
+    pub fn is_zero(&self, class: u32) -> bool
         ensures { result ≡ graphs.is_zero_class self.now class }
     {
         match self.constant_of(class) {
@@ -119,20 +129,14 @@ impl<'a> Facts<'a> {
         }
     }
 
-    fn is_byte(&self, class: u32) -> bool
-        ensures { result ≡ variables.is_byte self.now class }
-    {
-        match self.constant_of(class) {
-            Some(constant) => constant <= 255,
-            None => false,
-        }
-    }
-
     /// Whether an operand needs no register: it is of the zero class, or a literal.
     pub fn is_free(&self, class: u32, second: bool) -> bool
         ensures { result ≡ families.is_free self.now (operand_of class second) }
     {
-        self.is_zero(class) || (second && self.is_byte(class))
+        match self.constant_of(class) {
+            Some(constant) => constant == 0 || (second && constant <= 255),
+            None => false,
+        }
     }
 
     /// Whether an input of the class has a register that is no pin, so that nothing writes it.
@@ -160,20 +164,6 @@ impl<'a> Facts<'a> {
         ensures few { result < 2 ^ 31 }
     {
         self.graph.rows.len() as u32 + 1 + self.graph.sets.len() as u32
-    }
-
-    /// Whether launches have to make the class: it is a word's, not safe and not the zero class.
-    pub fn is_unsafe_class(&self, class: u32) -> bool
-        ensures { result ≡ specs.is_unsafe_class self.now class }
-    {
-        self.is_word_class(class) && !self.is_safe(class) && !self.is_zero(class)
-    }
-
-    /// Whether an operand has to be made by a launch, or read before an input's register is overwritten.
-    pub fn is_needed(&self, class: u32, second: bool) -> bool
-        ensures { result ≡ families.is_made self.now (operand_of class second) }
-    {
-        !self.is_free(class, second) && !self.is_safe(class)
     }
 
     /// The same of a target without a pin.
@@ -213,7 +203,7 @@ pub fn next_class(graph: &LaunchGraph) -> u32
 fn constants(alloc: Global, graph: &LaunchGraph, classes: u32) -> Result<Vec<Option<u64>>, NoMemory>
     ensures { IfOk result (λ table. IsTableOf (graphs.constant_of graph.now) table.items) }
 {
-    let mut table = without_constants(alloc, classes)?;
+    let mut table = filled(alloc, None, classes)?;
     for row in graph.rows.as_slice() {
         give_constant(&mut table, row.class, constant_in(row.op));
     }
@@ -243,7 +233,7 @@ fn gives_word(op: Op) -> bool
 fn words(alloc: Global, graph: &LaunchGraph, classes: u32) -> Result<Vec<bool>, NoMemory>
     ensures { IfOk result (λ table. IsTableOf (variables.is_word_class graph.now) table.items) }
 {
-    let mut table = unmarked(alloc, classes)?;
+    let mut table = filled(alloc, false, classes)?;
     for row in graph.rows.as_slice() {
         mark(&mut table, row.class, gives_word(row.op));
     }
@@ -253,7 +243,7 @@ fn words(alloc: Global, graph: &LaunchGraph, classes: u32) -> Result<Vec<bool>, 
 fn inputs(alloc: Global, graph: &LaunchGraph, classes: u32) -> Result<Vec<bool>, NoMemory>
     ensures { IfOk result (λ table. IsTableOf (variables.is_input graph.now) table.items) }
 {
-    let mut table = unmarked(alloc, classes)?;
+    let mut table = filled(alloc, false, classes)?;
     for input in graph.inputs.as_slice() {
         mark(&mut table, input.class, true);
     }
@@ -273,45 +263,14 @@ fn instrs(alloc: Global, graph: &LaunchGraph) -> Result<Vec<Option<InstrKind>>, 
     Ok(table)
 }
 
-fn is_input(graph: &LaunchGraph, class: u32) -> bool
-    ensures { result ≡ variables.is_input graph.now class }
-{
-    graph
-        .inputs
-        .as_slice()
-        .iter()
-        .any(|input| input.class == class)
-}
-
-fn is_word_class(graph: &LaunchGraph, class: u32) -> bool
-    ensures { result ≡ variables.is_word_class graph.now class }
-{
-    graph
-        .rows
-        .as_slice()
-        .iter()
-        .any(|row| row.class == class && row.op.sort() == Sort::Word)
-}
-
-/// Whether the set has the pin.
-fn has_pin(set: &SetClass, register: u8) -> bool
-    ensures { result ≡ option_map_or (λ q. q == register) set.now.pin false }
-{
-    match set.pin {
-        Some(pin) => pin == register,
-        None => false,
-    }
-}
-
 /// Whether some set is pinned to the register.
 fn is_pin(graph: &LaunchGraph, register: u8) -> bool
     ensures { result ≡ variables.is_pin graph.now register }
 {
-    graph
-        .sets
-        .as_slice()
-        .iter()
-        .any(|set| has_pin(set, register))
+    graph.sets.as_slice().iter().any(|set| match set.pin {
+        Some(pin) => pin == register,
+        None => false,
+    })
 }
 
 fn is_safe(graph: &LaunchGraph, class: u32) -> bool
@@ -327,7 +286,7 @@ fn is_safe(graph: &LaunchGraph, class: u32) -> bool
 fn safe(alloc: Global, graph: &LaunchGraph, classes: u32) -> Result<Vec<bool>, NoMemory>
     ensures { IfOk result (λ table. IsTableOf (variables.is_safe graph.now) table.items) }
 {
-    let mut table = unmarked(alloc, classes)?;
+    let mut table = filled(alloc, false, classes)?;
     for input in graph.inputs.as_slice() {
         let passes = !is_pin(graph, input.reg);
         mark(&mut table, input.class, passes);
@@ -348,18 +307,9 @@ fn pins(alloc: Global, graph: &LaunchGraph) -> Result<Vec<u32>, NoMemory>
     }
     let mut pins = Vec::new(alloc);
     for set in 0..graph.sets.len() as u32 {
-        push_pinned(&mut pins, graph, set)?;
+        if pin_of(graph, To::Set(set)).is_some() {
+            pins.push(set)?;
+        }
     }
     Ok(pins)
-}
-
-/// Adds the number of a set, if the set has a pin.
-fn push_pinned(pins: &mut Vec<u32>, graph: &LaunchGraph, set: u32) -> Result<(), NoMemory>
-    ensures { OnOk result (pins.new.items ≡ pins.old.items
-        ++ (if is_some (launches.pin_of graph.now (SetTo set)) then set ∷ [] else [])) }
-{
-    if pin_of(graph, To::Set(set)).is_some() {
-        pins.push(set)?;
-    }
-    Ok(())
 }

@@ -311,7 +311,10 @@ fn add_thing(
             var,
             thing,
         ),
-        None => add_rare_sight(alloc, cnf, facts, table, launches, var, thing),
+        None => {
+            let given = giving(alloc, facts, launches, thing.class)?;
+            add_sight(alloc, cnf, facts, table, launches, &given, var, thing)
+        }
     }
 }
 
@@ -344,29 +347,9 @@ fn put_maker(
         then put_at makers.old.items (launches.class_at facts.now launch.row) (var, launch) else makers.old.items)) }
 {
     if gives_word(facts.instr_at(launch.row)) {
-        put_into(makers, class_at(facts.graph(), launch.row), var, launch)?;
+        put_into(makers, class_at(facts.graph(), launch.row), (var, launch))?;
     }
     Ok(())
-}
-
-fn add_rare_sight(
-    alloc: Global,
-    cnf: &mut Cnf,
-    facts: &Facts,
-    table: &Table,
-    launches: &[Launch],
-    var: u32,
-    thing: Seen,
-) -> Result<(), NoMemory>
-    requires var { IsLitOf cnf.old.vars (negative var) }
-    requires exist { length launches.now ≤ cnf.old.vars }
-    requires few { cnf.old.vars < 2 ^ 29 }
-    requires room { length cnf.old.clauses < 2 ^ 30 }
-    ensures { OnOk result (cnf.new ≡ with_clauses cnf.old
-        ((negative var ∷ vars_of (makes facts.now table.now thing) (numbered 0 launches.now)) ∷ [])) }
-{
-    let given = giving(alloc, facts, launches, thing.class)?;
-    add_sight(alloc, cnf, facts, table, launches, &given, var, thing)
 }
 
 /// Adds the clause that what is seen was made by one of the launches that give it.
@@ -391,7 +374,7 @@ fn add_sight(
     cnf.add(&clause)
 }
 
-/// The clause that what is seen was made by one of these launches.
+/// The clause that what is seen was made by one of these launches, that is ready where it is seen.
 fn sight_clause(
     alloc: Global,
     facts: &Facts,
@@ -409,30 +392,14 @@ fn sight_clause(
         positive: false,
     })?;
     for (maker, launch) in given {
-        push_ready(&mut clause, facts, table, thing, *maker, *launch)?;
+        if ready_in(table, thing.cluster, *launch, facts.instr_at(launch.row))
+            <= u64::from(thing.cycle)
+        {
+            clause.push(Lit {
+                var: *maker,
+                positive: true,
+            })?;
+        }
     }
     Ok(clause)
-}
-
-/// The launch's variable, if the launch is ready where the thing is seen.
-fn push_ready(
-    clause: &mut Vec<Lit>,
-    facts: &Facts,
-    table: &Table,
-    thing: Seen,
-    maker: u32,
-    launch: Launch,
-) -> Result<(), NoMemory>
-    ensures { OnOk result (clause.new.items
-        ≡ clause.old.items ++ (if is_ready facts.now table.now thing launch then positive maker ∷ [] else [])) }
-{
-    if ready_in(table, thing.cluster, launch, facts.instr_at(launch.row))
-        <= u64::from(thing.cycle)
-    {
-        clause.push(Lit {
-            var: maker,
-            positive: true,
-        })?;
-    }
-    Ok(())
 }

@@ -6,16 +6,16 @@ ghost use Rattle.cycle_encoding.specs.Facts as specs;
 use items::NoMemory;
 use std::alloc::Global;
 
-/// A table in which no class is marked.
+/// A table with the same for each class.
 #[tactic(auto, using(crate::proofs::Tables::table_more))]
-pub fn unmarked(alloc: Global, classes: u32) -> Result<Vec<bool>, NoMemory>
-    ensures { IfOk result (λ marks. marks.items ≡ map (λ _. false) (range_with_len 0 classes)) }
+pub fn filled<T: Copy>(alloc: Global, value: T, classes: u32) -> Result<Vec<T>, NoMemory>
+    ensures { IfOk result (λ table. table.items ≡ map (λ _. value) (range_with_len 0 classes)) }
 {
-    let mut marks = Vec::new(alloc);
+    let mut table = Vec::new(alloc);
     for _made in 0..classes {
-        marks.push(false)?;
+        table.push(value)?;
     }
-    Ok(marks)
+    Ok(table)
 }
 
 /// Marks a class that passes, if the table has it.
@@ -27,18 +27,6 @@ pub fn mark(marks: &mut Vec<bool>, class: u32, passes: bool)
             *mark = true;
         }
     }
-}
-
-/// A table in which no class has a constant.
-#[tactic(auto, using(crate::proofs::Tables::table_more))]
-pub fn without_constants(alloc: Global, classes: u32) -> Result<Vec<Option<u64>>, NoMemory>
-    ensures { IfOk result (λ constants. constants.items ≡ map (λ _. None) (range_with_len 0 classes)) }
-{
-    let mut constants = Vec::new(alloc);
-    for _made in 0..classes {
-        constants.push(None)?;
-    }
-    Ok(constants)
 }
 
 /// Gives a class a constant, if the table has the class and it has none.

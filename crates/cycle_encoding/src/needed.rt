@@ -28,21 +28,9 @@ fn push_at(needed: &mut Vec<u32>, facts: &Facts, launch: Launch, at: usize) -> R
     ensures { OnOk result (needed.new.items ≡ needed.old.items
         ++ needed_among facts.now launch (one_or_none (slice_get (launches.operands_at facts.now launch.row) at))) }
 {
-    match operand_at(facts.graph(), launch.row, at) {
-        Some(operand) => push_needed(needed, facts, launch, operand),
-        None => Ok(()),
-    }
-}
-
-fn push_needed(
-    needed: &mut Vec<u32>,
-    facts: &Facts,
-    launch: Launch,
-    operand: Operand,
-) -> Result<(), NoMemory>
-    ensures { OnOk result (needed.new.items ≡ needed.old.items
-        ++ needed_among facts.now launch (operand ∷ [])) }
-{
+    let Some(operand) = operand_at(facts.graph(), launch.row, at) else {
+        return Ok(());
+    };
     if needs_clause(facts, launch.to, operand.class, operand.second) {
         needed.push(operand.class)?;
     }

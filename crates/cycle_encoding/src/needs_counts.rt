@@ -46,11 +46,12 @@ pub fn takes_input(facts: &Facts, class: u32, set: u32) -> bool
     reads_own(facts, To::Set(set), class)
 }
 
-/// Whether a launch with this destination needs a clause for an operand.
+/// Whether a launch with this destination needs a clause for an operand: it has to be made by a launch, or read before an
+/// input's register is overwritten.
 pub fn needs_clause(facts: &Facts, to: To, class: u32, second: bool) -> bool
     ensures { result ≡ counts.needs_clause facts.now to (operand_of class second) }
 {
-    facts.is_needed(class, second) && !reads_own(facts, to, class)
+    !facts.is_free(class, second) && !facts.is_safe(class) && !reads_own(facts, to, class)
 }
 
 /// Whether the operand at a place needs a clause, as a number.
@@ -78,20 +79,6 @@ fn needed_count(facts: &Facts, to: To, row: u32) -> u64
     count
 }
 
-/// The same for those of the pinned set, if it takes a word of the class from the instruction.
-fn set_need(facts: &Facts, instr: InstrKind, class: u32, row: u32, set: u32) -> u64
-    requires graph { IsLaunchGraph facts.now }
-    ensures value { result ≡ counts.one_if (variables.takes facts.now instr class set)
-        * count_by (counts.needs_clause facts.now (SetTo set)) (operands_at facts.now row) }
-    ensures few { result ≤ 4 }
-{
-    if takes(facts, instr, class, set) {
-        needed_count(facts, To::Set(set), row)
-    } else {
-        0
-    }
-}
-
 /// The same for those of all pinned sets.
 fn set_needs(facts: &Facts, instr: InstrKind, class: u32, row: u32) -> u64
     requires graph { IsLaunchGraph facts.now }
@@ -102,7 +89,9 @@ fn set_needs(facts: &Facts, instr: InstrKind, class: u32, row: u32) -> u64
 {
     let mut count = 0;
     for set in facts.pins() {
-        count += set_need(facts, instr, class, row, *set);
+        if takes(facts, instr, class, *set) {
+            count += needed_count(facts, To::Set(*set), row);
+        }
     }
     count
 }
@@ -126,19 +115,6 @@ fn row_needs(facts: &Facts, row: u32) -> u64
     own + set_needs(facts, instr, class_at(facts.graph(), row), row)
 }
 
-/// How many clauses say that the launches of a row see their operands.
-fn row_clauses(facts: &Facts, table: &Table, scope: &Scope, k: u32, row: u32) -> u64
-    requires graph { IsLaunchGraph facts.now }
-    requires table { IsTable table.now }
-    requires cycles { k ≤ 24 }
-    ensures value { result ≡ counts.row_count facts.now table.now k scope.now row
-        * sum_by (λ to. count_by (counts.needs_clause facts.now to) (operands_at facts.now row))
-        (counts.row_destinations facts.now row) }
-    ensures few { result ≤ 25600 }
-{
-    row_count(facts, table, scope, k, row) * row_needs(facts, row)
-}
-
 /// How many clauses say that launches see their operands.
 #[tactic(auto, using(crate::proofs::Tallies::sum_more))]
 pub fn needs_count(facts: &Facts, table: &Table, scope: &Scope, k: u32) -> u64
@@ -151,7 +127,7 @@ pub fn needs_count(facts: &Facts, table: &Table, scope: &Scope, k: u32) -> u64
 {
     let mut count = 0;
     for row in 0..facts.row_numbers() {
-        count += row_clauses(facts, table, scope, k, row);
+        count += row_count(facts, table, scope, k, row) * row_needs(facts, row);
     }
     count
 }

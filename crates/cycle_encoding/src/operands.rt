@@ -61,31 +61,13 @@ fn push_lacked_at(
     ensures { OnOk result (lacked.new.items ≡ lacked.old.items
         ++ lacked_among there facts.now (one_or_none (slice_get (launches.operands_at facts.now row) at))) }
 {
-    match operand_at(facts.graph(), row, at) {
-        Some(operand) => push_lacked(lacked, facts, there, operand),
-        None => Ok(()),
-    }
-}
-
-fn push_lacked(
-    lacked: &mut Vec<u32>,
-    facts: &Facts,
-    there: There,
-    operand: Operand,
-) -> Result<(), NoMemory>
-    ensures { OnOk result (lacked.new.items ≡ lacked.old.items ++ lacked_among there facts.now (operand ∷ [])) }
-{
-    if is_lacked(facts, there, operand) {
+    let Some(operand) = operand_at(facts.graph(), row, at) else {
+        return Ok(());
+    };
+    if !facts.is_free(operand.class, operand.second) && !is_there(facts, there, operand.class) {
         lacked.push(operand.class)?;
     }
     Ok(())
-}
-
-/// Whether a launch needs the operand from another launch.
-fn is_lacked(facts: &Facts, there: There, operand: Operand) -> bool
-    ensures { result ≡ lacking.is_lacked there facts.now operand }
-{
-    !facts.is_free(operand.class, operand.second) && !is_there(facts, there, operand.class)
 }
 
 /// Whether the class is there without a launch.

@@ -37,7 +37,9 @@ pub fn overwritten_vars(
 {
     let mut sets = Vec::new(alloc);
     for set in facts.pins() {
-        push_overwriting(&mut sets, facts, *set)?;
+        if is_overwriting(facts, *set) {
+            sets.push(*set)?;
+        }
     }
     Ok(OverwrittenVars {
         first,
@@ -56,17 +58,6 @@ impl OverwrittenVars {
     {
         self.sets.as_slice().len() as u32 * (self.cycles + 1)
     }
-}
-
-/// The set, if it is pinned to an input's register.
-fn push_overwriting(sets: &mut Vec<u32>, facts: &Facts, set: u32) -> Result<(), NoMemory>
-    ensures { OnOk result (sets.new.items
-        ≡ sets.old.items ++ (if is_over facts.now set then set ∷ [] else [])) }
-{
-    if is_overwriting(facts, set) {
-        sets.push(set)?;
-    }
-    Ok(())
 }
 
 /// The first cycle in which others may write what the launch reads.

@@ -17,23 +17,19 @@ use machine_table::InstrKind;
 use schedule_meaning::{To, class_at, gives_word, is_load};
 use std::alloc::Global;
 
-/// Whether a word of the instruction may go to a set with this pin, if it has one: none of a load where the pin is an
-/// input's register.
-fn takes_pin(facts: &Facts, instr: InstrKind, pin: Option<u8>) -> bool
-    ensures { result ≡ specs.takes_pin facts.now instr pin }
-{
-    match pin {
-        Some(pin) => !(is_load(Some(instr)) && facts.graph().is_input_register(pin)),
-        None => false,
-    }
-}
-
-/// Whether the set of this number is pinned and takes a word of the class from the instruction.
+/// Whether the set of this number is pinned and takes a word of the class from the instruction: none of a load where the
+/// pin is an input's register.
 pub fn takes(facts: &Facts, instr: InstrKind, class: u32, number: u32) -> bool
     ensures { result ≡ variables.takes facts.now instr class number }
 {
     match facts.graph().sets.as_slice().get(number as usize) {
-        Some(set) => set.class == class && takes_pin(facts, instr, set.pin),
+        Some(set) => match set.pin {
+            Some(pin) => {
+                set.class == class
+                    && !(is_load(Some(instr)) && facts.graph().is_input_register(pin))
+            }
+            None => false,
+        },
         None => false,
     }
 }
@@ -49,24 +45,16 @@ pub fn destinations(alloc: Global, facts: &Facts, row: u32) -> Result<Vec<To>, N
         return Ok(tos);
     };
     tos.push(To::Pool)?;
-    if gives_word(Some(instr)) {
-        push_sets(&mut tos, facts, instr, class_at(facts.graph(), row))?;
+    if !gives_word(Some(instr)) {
+        return Ok(tos);
     }
-    Ok(tos)
-}
-
-/// The pinned sets that take a word of the class from the instruction.
-fn push_sets(tos: &mut Vec<To>, facts: &Facts, instr: InstrKind, class: u32) -> Result<(), NoMemory>
-    ensures value { OnOk result (tos.new.items ≡ tos.old.items
-        ++ map SetTo (filter (variables.takes facts.now instr class) (variables.set_numbers facts.now))) }
-    ensures few { OnOk result (length tos.new.items ≤ length tos.old.items + 31) }
-{
+    let class = class_at(facts.graph(), row);
     for set in facts.pins() {
         if takes(facts, instr, class, *set) {
             tos.push(To::Set(*set))?;
         }
     }
-    Ok(())
+    Ok(tos)
 }
 
 /// How many destinations launches of a row have; in the time of one look at each pin.
@@ -81,15 +69,8 @@ pub fn destination_count(facts: &Facts, row: u32) -> u64
     if !gives_word(Some(instr)) {
         return 1;
     }
-    1 + taker_count(facts, instr, class_at(facts.graph(), row))
-}
-
-/// How many pinned sets take a word of the class from the instruction.
-fn taker_count(facts: &Facts, instr: InstrKind, class: u32) -> u64
-    ensures value { result ≡ count_by (variables.takes facts.now instr class) (variables.pinned_sets facts.now) }
-    ensures few { result ≤ 31 }
-{
-    let mut count = 0;
+    let class = class_at(facts.graph(), row);
+    let mut count = 1;
     for set in facts.pins() {
         count += u64::from(takes(facts, instr, class, *set));
     }
@@ -125,28 +106,6 @@ pub fn takes_register(facts: &Facts, row: u32) -> u64
     }
 }
 
-/// Whether the pinned set takes a word of the class from the instruction and its pin is an input's register, as a number.
-fn set_late(facts: &Facts, instr: InstrKind, class: u32, set: u32) -> u64
-    ensures value { result ≡ one_if (variables.takes facts.now instr class set)
-        * one_if (variables.is_overwriting facts.now set) }
-    ensures few { result ≤ 1 }
-{
-    u64::from(takes(facts, instr, class, set) && is_overwriting(facts, set))
-}
-
-/// How many pinned sets are such.
-fn sets_late(facts: &Facts, instr: InstrKind, class: u32) -> u64
-    ensures value { result ≡ sum_by (λ j. one_if (variables.takes facts.now instr class j)
-        * one_if (variables.is_overwriting facts.now j)) (variables.pinned_sets facts.now) }
-    ensures few { result ≤ 31 }
-{
-    let mut count = 0;
-    for set in facts.pins() {
-        count += set_late(facts, instr, class, *set);
-    }
-    count
-}
-
 /// How many destinations of a row overwrite an input's register.
 pub fn late(facts: &Facts, row: u32) -> u64
     ensures value { result
@@ -160,5 +119,10 @@ pub fn late(facts: &Facts, row: u32) -> u64
     if !gives_word(Some(instr)) {
         return 0;
     }
-    sets_late(facts, instr, class_at(facts.graph(), row))
+    let class = class_at(facts.graph(), row);
+    let mut count = 0;
+    for set in facts.pins() {
+        count += u64::from(takes(facts, instr, class, *set) && is_overwriting(facts, *set));
+    }
+    count
 }

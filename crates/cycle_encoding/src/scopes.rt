@@ -37,7 +37,7 @@ impl Model for Scope {
 
 impl Scope {
     /// Every launch, and every class that launches make.
-    pub fn wide(alloc: Global) -> Scope
+    fn wide(alloc: Global) -> Scope
         ensures { result ≡ wide_scope }
     {
         Scope {
@@ -47,31 +47,9 @@ impl Scope {
         }
     }
 
-    /// Launches that can start by their cycle and whose word is wanted, and wanted classes; the wide encoding looks at
-    /// none of these tables.
-    pub fn narrow(
-        alloc: Global,
-        encoding: Encoding,
-        facts: &Facts,
-        table: &Table,
-    ) -> Result<Scope, NoMemory>
-        requires table { IsTable table.now }
-        requires graph { IsLaunchGraph facts.now }
-        ensures { IfOk result (IsScope encoding facts.now table.now) }
-    {
-        let lasting = needs(alloc, facts, There::Always)?;
-        let wants = wanted(alloc, facts, &lasting)?;
-        let entering = needs(alloc, facts, There::AtEntry)?;
-        let come = come_cycles(alloc, facts, table, &entering)?;
-        let firsts = first_cycles(alloc, facts, &entering, &come, &wants)?;
-        Ok(Scope {
-            encoding,
-            firsts,
-            wants,
-        })
-    }
-
-    /// What has variables in the encoding: once for a graph and a table, for any number of cycles.
+    /// What has variables in the encoding: once for a graph and a table, for any number of cycles. The wide one has
+    /// every launch and class, and looks at none of these tables; the others have launches that can start by their
+    /// cycle and whose word is wanted, and wanted classes.
     pub fn of(
         alloc: Global,
         encoding: Encoding,
@@ -82,10 +60,19 @@ impl Scope {
         requires graph { IsLaunchGraph facts.now }
         ensures { IfOk result (IsScope encoding facts.now table.now) }
     {
-        match encoding {
-            Encoding::Wide => Ok(Scope::wide(alloc)),
-            Encoding::Narrow | Encoding::Pinned => Scope::narrow(alloc, encoding, facts, table),
+        if let Encoding::Wide = encoding {
+            return Ok(Scope::wide(alloc));
         }
+        let lasting = needs(alloc, facts, There::Always)?;
+        let wants = wanted(alloc, facts, &lasting)?;
+        let entering = needs(alloc, facts, There::AtEntry)?;
+        let come = come_cycles(alloc, facts, table, &entering)?;
+        let firsts = first_cycles(alloc, facts, &entering, &come, &wants)?;
+        Ok(Scope {
+            encoding,
+            firsts,
+            wants,
+        })
     }
 
     /// The encoding.
@@ -166,7 +153,7 @@ fn is_spoken_of(facts: &Facts, marks: &[bool], row: u32) -> bool
     ensures { result ≡ scoped.is_spoken_of facts.now marks.now row }
 {
     match facts.instr_at(row) {
-        Some(InstrKind::StqU | InstrKind::Beq) => true,
+        Some(InstrKind::Store(_) | InstrKind::Beq) => true,
         _ => match marks.get(class_at(facts.graph(), row) as usize) {
             Some(marked) => *marked,
             None => false,

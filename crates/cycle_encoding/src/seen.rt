@@ -73,11 +73,14 @@ pub fn seen_vars(
     })
 }
 
-/// Whether the scope wants the class and launches have to make it.
+/// Whether the scope wants the class and launches have to make it: it is a word's, not safe and not the zero class.
 pub fn is_shown(facts: &Facts, scope: &Scope, class: u32) -> bool
     ensures { result ≡ is_unsafe_shown facts.now (wants_in scope.now) class }
 {
-    scope.wants(class) && facts.is_unsafe_class(class)
+    scope.wants(class)
+        && facts.is_word_class(class)
+        && !facts.is_safe(class)
+        && !facts.is_zero(class)
 }
 
 /// What is seen of a class, if it is shown.
@@ -92,35 +95,28 @@ fn push_class(
     ensures { OnOk result (seen.new.items ≡ seen.old.items
         ++ (if is_unsafe_shown facts.now (wants_in scope.now) class then clusters_seen table.now k 4 class else [])) }
 {
-    if is_shown(facts, scope, class) {
-        push_clusters(seen, table, k, class)
-    } else {
-        Ok(())
+    if !is_shown(facts, scope, class) {
+        return Ok(());
     }
-}
-
-/// How many things are seen of a class in a cluster.
-#[tactic(auto, using(crate::proofs::Before::cluster_size, crate::proofs::Before::no_cluster_size))]
-fn seen_in_cluster(table: &Table, k: u32, _class: u32, cluster: u8) -> usize
-    ensures value { result
-        ≡ length (if steps.has_cluster table.now cluster then cluster_seen k _class cluster else []) }
-    ensures few { result < 2 ^ 32 }
-{
-    if has_cluster(table, cluster) {
-        k as usize
-    } else {
-        0
+    for cluster in 0..4u8 {
+        if has_cluster(table, cluster) {
+            push_cluster(seen, k, class, cluster)?;
+        }
     }
+    Ok(())
 }
 
 /// How many things are seen of a class in clusters with smaller numbers.
-fn seen_in_clusters(table: &Table, k: u32, class: u32, cluster: u8) -> usize
+#[tactic(auto, using(crate::proofs::Before::cluster_size, crate::proofs::Before::no_cluster_size))]
+fn seen_in_clusters(table: &Table, k: u32, _class: u32, cluster: u8) -> usize
     requires few { cluster ≤ 4 }
-    ensures { result ≡ clusters_before table.now k class cluster }
+    ensures { result ≡ clusters_before table.now k _class cluster }
 {
     let mut before = 0;
     for other in 0..cluster {
-        before += seen_in_cluster(table, k, class, other);
+        if has_cluster(table, other) {
+            before += k as usize;
+        }
     }
     before
 }
@@ -164,18 +160,6 @@ pub fn seen_var(
         var: vars.first + place as u32 + 1,
         positive: true,
     })
-}
-
-/// What is seen of a class.
-fn push_clusters(seen: &mut Vec<Seen>, table: &Table, k: u32, class: u32) -> Result<(), NoMemory>
-    ensures { OnOk result (seen.new.items ≡ seen.old.items ++ clusters_seen table.now k 4 class) }
-{
-    for cluster in 0..4u8 {
-        if has_cluster(table, cluster) {
-            push_cluster(seen, k, class, cluster)?;
-        }
-    }
-    Ok(())
 }
 
 /// What is seen of a class in a cluster.

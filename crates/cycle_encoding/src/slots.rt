@@ -90,7 +90,7 @@ fn put_in_slot(
         then put_at lists.old.items launch.cycle (var, launch) else lists.old.items)) }
 {
     if launch.slot == slot {
-        put_into(lists, launch.cycle, var, launch)?;
+        put_into(lists, launch.cycle, (var, launch))?;
     }
     Ok(())
 }

@@ -16,8 +16,9 @@ ghost use Rattle.cycle_encoding.specs.Wanting.{giving_rows, is_marked_class, is_
 ghost use Rattle.cycle_encoding.specs.Wanting.{AreAllMarked, IsFollowed, IsLonger, StillMarked, wanted_needs};
 
 use crate::Facts;
+use crate::buckets::{empty_lists, put_into};
 use crate::facts::next_class;
-use crate::marks::unmarked;
+use crate::marks::filled;
 use graph_meaning::{LaunchGraph, SetClass};
 use items::{Items, NoMemory};
 use machine_table::InstrKind;
@@ -113,16 +114,10 @@ fn is_root(facts: &Facts, row: u32) -> bool
 {
     match facts.instr_at(row) {
         Some(InstrKind::Beq) => true,
-        _ => is_store_row(facts.graph(), row),
-    }
-}
-
-fn is_store_row(graph: &LaunchGraph, row: u32) -> bool
-    ensures { result ≡ wanting.is_store_row graph.now row }
-{
-    match graph.rows.as_slice().get(row as usize) {
-        Some(found) => matches!(found.op, Op::Store | Op::Put),
-        None => false,
+        _ => match facts.graph().rows.as_slice().get(row as usize) {
+            Some(found) => matches!(found.op, Op::Store(_) | Op::Put(_)),
+            None => false,
+        },
     }
 }
 
@@ -176,44 +171,13 @@ fn rows_by_class(alloc: Global, facts: &Facts) -> Result<Vec<Items<u32>>, NoMemo
     ensures { IfOk result (λ lists. lists.items
         ≡ map (giving_rows facts.now) (range_with_len 0 (wellformed.next_class facts.now.rows))) }
 {
-    let mut lists = empty_row_lists(alloc, next_class(facts.graph()))?;
+    let mut lists = empty_lists(alloc, next_class(facts.graph()))?;
     for row in 0..facts.row_numbers() {
-        put_giving(&mut lists, facts, row)?;
+        if gives_word(facts.instr_at(row)) {
+            put_into(&mut lists, class_at(facts.graph(), row), row)?;
+        }
     }
     Ok(lists)
-}
-
-/// Puts a row at the end of the list of its class, if it gives a word.
-fn put_giving(lists: &mut Vec<Items<u32>>, facts: &Facts, row: u32) -> Result<(), NoMemory>
-    ensures { OnOk result (lists.new.items ≡ (if row_is facts.now launches.gives_word row
-        then put_at lists.old.items (launches.class_at facts.now row) row else lists.old.items)) }
-{
-    if gives_word(facts.instr_at(row)) {
-        put_row(lists, class_at(facts.graph(), row), row)?;
-    }
-    Ok(())
-}
-
-/// So many empty lists.
-#[tactic(auto, using(crate::proofs::Tables::table_more))]
-fn empty_row_lists(alloc: Global, count: u32) -> Result<Vec<Items<u32>>, NoMemory>
-    ensures { IfOk result (λ lists. lists.items ≡ map (λ _. []) (range_with_len 0 count)) }
-{
-    let mut lists = Vec::new(alloc);
-    for _made in 0..count {
-        lists.push(Items::new(alloc))?;
-    }
-    Ok(lists)
-}
-
-/// Puts a row at the end of the list of a class, if there is one.
-fn put_row(lists: &mut Vec<Items<u32>>, class: u32, row: u32) -> Result<(), NoMemory>
-    ensures { OnOk result (lists.new.items ≡ put_at lists.old.items class row) }
-{
-    if let Some(list) = lists.get_mut(class as usize) {
-        list.push(row)?;
-    }
-    Ok(())
 }
 
 /// Wants what the rows and copies of a wanted class need.
@@ -280,7 +244,7 @@ pub fn wanted(alloc: Global, facts: &Facts, needs: &[Items<u32>]) -> Result<Vec<
         ↔ (Wanted facts.now class × (class < wellformed.next_class facts.now.rows))) }
 {
     let classes = next_class(facts.graph());
-    let mut marks = unmarked(alloc, classes)?;
+    let mut marks = filled(alloc, false, classes)?;
     let mut order = Vec::new(alloc);
     want_targets(&mut marks, &mut order, facts)?;
     want_roots(&mut marks, &mut order, facts, needs)?;

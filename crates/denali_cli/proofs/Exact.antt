@@ -31,7 +31,7 @@ use Rattle.denali_cli.specs.Replies.{IsFaultFor, IsPastLimit, IsReadFor, IsWithi
 use Rattle.denali_cli.specs.Replies.{fault_line, faulty, limit_of, too_long, too_long_line}
 use Rattle.code_check.specs.CodeGrammar.{CheckedTree, IsFirstCodesFault, ReadsCodes}
 use Rattle.denali_cli.specs.Commands.{Command, Solve, SolveLeast, Proc, Check, CheckLeast, Trim, Verify, Run, Gen, Cnf}
-use Rattle.denali_cli.specs.Formats.{Format, IsFaultAs, IsReadAs, format_of, limit}
+use Rattle.denali_cli.specs.Formats.{Format, IsFormatFault, IsReadAs, format_of, limit}
 use Rattle.denali_cli.specs.declared.commands.Format.TheVariants as formats
 use Rattle.denali_cli.specs.VerifiedTexts.{told_status}
 
@@ -168,7 +168,7 @@ module _ (laws : Laws) where
   few_bytes text le = omega (arith, le)
 
   apart_as : (format : Format) (text : List ℕ) (place : ℕ) (kind : Kind) → length text ≤ limit format
-      → IsReadAs format text → IsFaultAs format text place kind → ⊥
+      → IsReadAs format text → IsFormatFault format text place kind → ⊥
   apart_as formats.Goals text place kind short read first = laws.goals_apart text read.0 place kind read.1 first
   apart_as formats.Proc text place kind short read first = laws.procs_apart text read.0 place kind read.1 first
   apart_as formats.Answer text place kind short read first = laws.answers_apart text read.0 place kind read.1 first
@@ -180,7 +180,7 @@ module _ (laws : Laws) where
 
   apart_in : (o : Option Format) (text : List ℕ) (place : ℕ) (kind : Kind)
       → ((most : ℕ) → option_map limit o ≡ Some most → length text ≤ most)
-      → IfSome o (λ format. IsReadAs format text) → IsSomeAnd o (λ format. IsFaultAs format text place kind) → ⊥
+      → IfSome o (λ format. IsReadAs format text) → IsSomeAnd o (λ format. IsFormatFault format text place kind) → ⊥
   apart_in None text place kind within read first = absurd first
   apart_in (Some format) text place kind within read first =
       apart_as format text place kind (within (limit format) refl) read first
@@ -190,7 +190,7 @@ module _ (laws : Laws) where
   apart command text place kind within read first = apart_in (format_of command) text place kind within read first
 
   once_as : (format : Format) (text : List ℕ) (place other : ℕ) (kind another : Kind)
-      → IsFaultAs format text place kind → IsFaultAs format text other another → (place ≡ other) × (kind ≡ another)
+      → IsFormatFault format text place kind → IsFormatFault format text other another → (place ≡ other) × (kind ≡ another)
   once_as formats.Goals text place other kind another f g = laws.goals_once text place other kind another f g
   once_as formats.Proc text place other kind another f g = laws.procs_once text place other kind another f g
   once_as formats.Answer text place other kind another f g = laws.answers_once text place other kind another f g
@@ -199,8 +199,8 @@ module _ (laws : Laws) where
   once_as formats.Program text place other kind another f g = laws.programs_once text place other kind another f g
 
   once_in : (o : Option Format) (text : List ℕ) (place other : ℕ) (kind another : Kind)
-      → IsSomeAnd o (λ format. IsFaultAs format text place kind)
-      → IsSomeAnd o (λ format. IsFaultAs format text other another) → (place ≡ other) × (kind ≡ another)
+      → IsSomeAnd o (λ format. IsFormatFault format text place kind)
+      → IsSomeAnd o (λ format. IsFormatFault format text other another) → (place ≡ other) × (kind ≡ another)
   once_in None text place other kind another f g = absurd f
   once_in (Some format) text place other kind another f g = once_as format text place other kind another f g
 

@@ -49,10 +49,10 @@ IsReadAs formats.Codes text = (checked : CheckedTree) × ReadsCodes text checked
 IsReadAs formats.Program text = (program : RunText) × ReadsRun text program
 
 -- the text's first fault in the format
-abbrev pub IsFaultAs : Format → List ℕ → ℕ → Kind → Type 0
-IsFaultAs formats.Goals text place kind = IsFirstTextFault text place kind
-IsFaultAs formats.Proc text place kind = IsFirstProcFault text place kind
-IsFaultAs formats.Answer text place kind = IsAnswerFault text place kind
-IsFaultAs formats.TailedAnswer text place kind = IsTailedFault text place kind
-IsFaultAs formats.Codes text place kind = IsFirstCodesFault text place kind
-IsFaultAs formats.Program text place kind = IsRunFault text place kind
+abbrev pub IsFormatFault : Format → List ℕ → ℕ → Kind → Type 0
+IsFormatFault formats.Goals text place kind = IsFirstTextFault text place kind
+IsFormatFault formats.Proc text place kind = IsFirstProcFault text place kind
+IsFormatFault formats.Answer text place kind = IsAnswerFault text place kind
+IsFormatFault formats.TailedAnswer text place kind = IsTailedFault text place kind
+IsFormatFault formats.Codes text place kind = IsFirstCodesFault text place kind
+IsFormatFault formats.Program text place kind = IsRunFault text place kind

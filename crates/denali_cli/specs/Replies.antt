@@ -16,7 +16,7 @@ use Rattle.proc_link.specs.ProcAnswers.{AnswersProc}
 use Rattle.clause_texts.specs.GoalClauses.{GivesClauses}
 use Rattle.refute_trim.specs.TrimmedAnswers.{TrimsText}
 use Rattle.denali_cli.specs.Commands.{Command, Solve, SolveLeast, Proc, Check, CheckLeast, Trim, Verify, Run, Gen, Cnf}
-use Rattle.denali_cli.specs.Formats.{IsFaultAs, IsReadAs, format_of, limit}
+use Rattle.denali_cli.specs.Formats.{IsFormatFault, IsReadAs, format_of, limit}
 use Rattle.denali_cli.specs.VerifiedTexts.{VerifiesText}
 
 -- how many bytes a command reads at most, if it reads
@@ -49,7 +49,7 @@ IsReadFor command text = IfSome (format_of command) (λ format. IsReadAs format 
 
 -- the text's first fault for the command
 abbrev pub IsFaultFor : Command → List ℕ → ℕ → Kind → Type 0
-IsFaultFor command text place kind = IsSomeAnd (format_of command) (λ format. IsFaultAs format text place kind)
+IsFaultFor command text place kind = IsSomeAnd (format_of command) (λ format. IsFormatFault format text place kind)
 
 -- the command's report on a text, and its status
 abbrev pub Reports : Command → List ℕ → List ℕ → Status → Type 0

@@ -109,17 +109,6 @@ fn told(told: Told) -> Report
     }
 }
 
-/// The lines of a text's codes, or why it has none.
-fn verified(alloc: Global, text: &[u8], rounds: u32, nodes: u32) -> Result<Report, TextError>
-    requires few { length text.now ≤ 268435456 }
-    requires rounds { rounds ≤ 16 }
-    requires nodes { (1 ≤ nodes) × (nodes ≤ 4096) }
-    ensures told { IfOk result (λ r. VerifiesText rounds nodes text.now r.bytes.items r.status) }
-    ensures error { IfErr result (IsErrorBy (IsFirstCodesFault text.now)) }
-{
-    Ok(told(verify_text(alloc, text, rounds, nodes)?))
-}
-
 /// The command's report on a text.
 fn report_on(alloc: Global, command: Command, text: &[u8]) -> Result<Report, TextError>
     requires command { HasValuesInRange command }
@@ -134,7 +123,7 @@ fn report_on(alloc: Global, command: Command, text: &[u8]) -> Result<Report, Tex
         Command::Check => check_text(alloc, text),
         Command::CheckLeast => check_least_text(alloc, text),
         Command::Trim => trim_text(alloc, text),
-        Command::Verify { rounds, nodes } => verified(alloc, text, rounds, nodes),
+        Command::Verify { rounds, nodes } => Ok(told(verify_text(alloc, text, rounds, nodes)?)),
         Command::Run => run_text(alloc, text),
         Command::Gen(size) => Ok(gen_text(alloc, size)?),
         Command::Cnf { goal, cycles } => clauses_text(alloc, text, goal - 1, cycles),

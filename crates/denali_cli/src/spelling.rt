@@ -55,23 +55,6 @@ fn solving_parser<'a>(alloc: Global, name: &'a str) -> Result<Parser<'a>, NoMemo
     with_argument(alloc, parser, "pick")
 }
 
-/// `solve` with its options.
-fn solve_parser<'a>(alloc: Global) -> Result<Parser<'a>, NoMemory>
-    ensures app { IfOk result (λ c. app_of c ≡ spec.solve_app) }
-    ensures local { IfOk result (λ c. (fields_of c).has_globals ≡ false) }
-{
-    let solve = solving_parser(alloc, "solve")?;
-    with_flag(alloc, solve)
-}
-
-/// `check` with its flag.
-fn check_parser<'a>(alloc: Global) -> Result<Parser<'a>, NoMemory>
-    ensures app { IfOk result (λ c. app_of c ≡ spec.check_app) }
-    ensures local { IfOk result (λ c. (fields_of c).has_globals ≡ false) }
-{
-    with_flag(alloc, Parser::new(alloc, "check"))
-}
-
 /// `verify` with its options.
 fn verify_parser<'a>(alloc: Global) -> Result<Parser<'a>, NoMemory>
     ensures app { IfOk result (λ c. app_of c ≡ spec.verify_app) }
@@ -81,21 +64,13 @@ fn verify_parser<'a>(alloc: Global) -> Result<Parser<'a>, NoMemory>
     with_argument(alloc, verify, "nodes")
 }
 
-/// `gen` with its option.
-fn gen_parser<'a>(alloc: Global) -> Result<Parser<'a>, NoMemory>
-    ensures app { IfOk result (λ c. app_of c ≡ spec.gen_app) }
-    ensures local { IfOk result (λ c. (fields_of c).has_globals ≡ false) }
-{
-    with_argument(alloc, Parser::new(alloc, "gen"), "size")
-}
-
 /// The program with the commands on goals, for words without its name.
 fn solving_commands<'a>(alloc: Global) -> Result<Parser<'a>, NoMemory>
     ensures { IfOk result (λ c. app_of c
         ≡ spec.with_commands (spec.of_words (new_app (codes "denali")))
         (spec.solve_app ∷ spec.solving_app (codes "proc") ∷ [])) }
 {
-    let solve = solve_parser(alloc)?;
+    let solve = with_flag(alloc, solving_parser(alloc, "solve")?)?;
     let proc = solving_parser(alloc, "proc")?;
     Parser::new(alloc, "denali")
         .no_binary_name(true)
@@ -120,7 +95,7 @@ fn first_commands<'a>(alloc: Global) -> Result<Parser<'a>, NoMemory>
         (spec.solve_app ∷ spec.solving_app (codes "proc") ∷ spec.check_app ∷ new_app (codes "trim") ∷ [])) }
 {
     let first = solving_commands(alloc)?;
-    let check = check_parser(alloc)?;
+    let check = with_flag(alloc, Parser::new(alloc, "check"))?;
     first
         .subcommand(check)?
         .subcommand(Parser::new(alloc, "trim"))
@@ -145,7 +120,7 @@ fn program<'a>(alloc: Global) -> Result<Parser<'a>, NoMemory>
     ensures { IfOk result (λ c. app_of c ≡ spec.program) }
 {
     let first = checking_commands(alloc)?;
-    let generator = gen_parser(alloc)?;
+    let generator = with_argument(alloc, Parser::new(alloc, "gen"), "size")?;
     let clauses = cnf_parser(alloc)?;
     first.subcommand(generator)?.subcommand(clauses)
 }

@@ -5,8 +5,8 @@ use Rattle.launch_graph.specs.GraphLines.{graph_lines, said}
 use Rattle.launch_graph.specs.GraphTexts.{EndsGraph}
 use Rattle.graph_meaning.specs.WellFormed.{IsLaunchGraph}
 use Rattle.graph_meaning.specs.declared.graphs.LaunchGraph.{LaunchGraph}
-use Rattle.saturation.specs.declared.rounds.Stop.{Stop}
-use Rattle.saturation.specs.declared.rounds.Stop.TheVariants.{Quiet, Rounds, Full}
+use Rattle.graph_meaning.specs.declared.stops.Stop.{Stop}
+use Rattle.graph_meaning.specs.declared.stops.Stop.TheVariants.{Quiet, Rounds, Full}
 use Rattle.text_core.specs.LineTexts.{Words}
 use Rattle.answer_texts.specs.AnswerLines.{rounds_words, stop_name}
 use Rattle.denali_run.proofs.ResultLines.{matched_lines}

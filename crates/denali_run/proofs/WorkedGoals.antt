@@ -10,7 +10,7 @@ use Rattle.axiom_base.specs.Rewrites.{Rewrite}
 use Rattle.egraph.specs.Graph.{Graph}
 use Rattle.egraph.specs.declared.rows.Row.{Row}
 use Rattle.machine_table.specs.declared.tables.Table.{Table}
-use Rattle.saturation.specs.declared.rounds.Stop.{Stop}
+use Rattle.graph_meaning.specs.declared.stops.Stop.{Stop}
 use Rattle.goal_meaning.specs.Holds.{HoldsFor}
 use Rattle.goal_meaning.specs.Names.{declared_name}
 use Rattle.goal_meaning.specs.Views.{GoalTree, InputTree, goal_view}

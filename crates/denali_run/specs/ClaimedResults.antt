@@ -8,7 +8,7 @@ use Rattle.answer_texts.specs.declared.answers.Claimed.{Claimed}
 use Rattle.cnf_core.specs.declared.line.Lines.{Lines}
 use Rattle.goal_meaning.specs.Views.{GoalTree, InputTree}
 use Rattle.saturation.specs.AtStart.{most_rows_at_start}
-use Rattle.saturation.specs.declared.rounds.Stop.TheVariants.{Quiet}
+use Rattle.graph_meaning.specs.declared.stops.Stop.TheVariants.{Quiet}
 use Rattle.denali_run.specs.declared.results.Answered.{Answered}
 use Rattle.denali_run.specs.declared.results.Answered.TheVariants.{Scheduled, Nowhere, SpentConflicts, SpentSize, NoWorld}
 use Rattle.cycle_encoding.specs.declared.encodings.Encoding.{Encoding}

@@ -11,9 +11,9 @@ use crate::statuses::greatest_status;
 use answer_texts::{ClaimRef, ClaimedRef, put_goal, put_head};
 use cnf_core::Lines;
 use goal_meaning::Input;
+use graph_meaning::Stop;
 use items::NoMemory;
 use reports::Report;
-use saturation::Stop;
 use std::alloc::Global;
 use text_core::Name;
 

@@ -1,9 +1,8 @@
 // What a goal is answered by.
 use cnf_core::Lines;
-use graph_meaning::LaunchGraph;
+use graph_meaning::{LaunchGraph, Stop};
 use items::Items;
 use register_assign::Listing;
-use saturation::Stop;
 use schedule_meaning::Schedule;
 
 /// The graph of a goal after its rounds of matching, how many there were, and why they ended.

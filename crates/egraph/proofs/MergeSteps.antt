@@ -5,7 +5,7 @@ use Rattle.egraph.specs.Graph.{Graph, IsGraph, HasOneConstantEach}
 use Rattle.egraph.specs.Joined.{Joined, kept, pair, symmetric, transitive, relabel, IsMerged, Clash}
 use Rattle.egraph.specs.Steps.{moved, HasTwoConstants}
 use Rattle.egraph.proofs.Lists.{moved_cases, at_map}
-use Rattle.egraph.proofs.Merging.{IsMerging, MayJoin, step, start, has_made, has_present, row_made, current_has, joined_made}
+use Rattle.egraph.proofs.Merging.{IsMerging, MayJoin, start, has_made, has_present, row_made, current_has, joined_made}
 
 pub moved_from : (from to : ℕ) → moved from to from ≡ to
 moved_from from to = elim (moved_cases from to from) [ inl h ↦ h.1 | inr h ↦ absurd (h.0 refl) ]

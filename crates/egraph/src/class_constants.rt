@@ -5,17 +5,6 @@ ghost use Rattle.std.specs.Prelude.{◌≡◌, ◌≢◌, ◌<◌, ℕ, length, 
 
 use items::NoMemory;
 
-/// Puts classes without a constant at the end until there is one at this place.
-fn cover_constants(constants: &mut Vec<Option<u64>>, at: usize) -> Result<(), NoMemory>
-    ensures same { (class : ℕ) → constant_at constants.new.items class ≡ constant_at constants.old.items class }
-    ensures there { OnOk result (at < length constants.new.items) }
-{
-    while constants.len() <= at {
-        constants.push(None)?;
-    }
-    Ok(())
-}
-
 /// The constant of a class.
 pub fn constant_of(constants: &[Option<u64>], class: u32) -> Option<u64>
     ensures { result ≡ constant_at constants.now class }
@@ -38,7 +27,9 @@ pub fn put_constant(
     ensures err { OnErr result ((other : ℕ) →
         constant_at constants.new.items other ≡ constant_at constants.old.items other) }
 {
-    cover_constants(constants, class as usize)?;
+    while constants.len() <= class as usize {
+        constants.push(None)?;
+    }
     constants[class as usize] = constant;
     Ok(())
 }

@@ -14,7 +14,7 @@ use crate::faults::MergeFault;
 use crate::growing::add_row;
 use crate::joining::join_classes;
 use crate::row_index::{RowIndex, find_class};
-use crate::rows::{Row, has_word_constant, read_all};
+use crate::rows::{Row, read_all};
 use crate::tables::Tables;
 use crate::twins::next_twins;
 use items::NoMemory;
@@ -148,7 +148,8 @@ impl<O: Operator> Egraph<O> {
         if let Some(class) = found {
             return Ok(class);
         }
-        has_word_constant(op);
+        // a constant is a word by its type, which a row must say of its operator
+        let _constant = op.constant();
         let present = read_all(self.alloc, &self.tables.current, operands)?;
         let class = self.tables.current.len() as u32;
         self.order.reserve(1)?;
@@ -218,19 +219,8 @@ fn without_dropped<O: Operator>(
     if !dropped {
         return Ok(order);
     }
-    keep_held(alloc, rows, &order)
-}
-
-/// The keys that have a row.
-fn keep_held<O: Operator>(
-    alloc: Global,
-    rows: &Slab<Row<O>>,
-    order: &[usize],
-) -> Result<Vec<usize>, NoMemory>
-    ensures { IfOk result (λ kept. kept.items ≡ filter (λ place. is_some (get rows.now place)) order.now) }
-{
     let mut kept = Vec::new(alloc);
-    for place in order {
+    for place in order.iter() {
         if rows.contains(*place) {
             kept.push(*place)?;
         }

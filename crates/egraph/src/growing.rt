@@ -15,18 +15,6 @@ use crate::tables::Tables;
 use items::{Items, NoMemory};
 use word_terms::Operator;
 
-/// Puts the key of a row beside each of its operands.
-fn note_uses(uses: &mut Lists, operands: &[u32], place: usize) -> Result<(), NoMemory>
-    ensures grows { Grows uses.old uses.new }
-    ensures noted { OnOk result ((class : ℕ) → Contains operands.now class →
-        Contains (listed_at uses.new class) place) }
-{
-    for class in operands {
-        uses.add(*class, place)?;
-    }
-    Ok(())
-}
-
 /// Puts the key of a row beside its class and each of its operands, and the class among those that are in it.
 fn note_row(
     own: &mut Lists,
@@ -44,7 +32,9 @@ fn note_row(
         Contains (listed_at uses.new used) place) }
     ensures member_noted { OnOk result (Contains (listed_at members.new class) class) }
 {
-    note_uses(uses, operands, place)?;
+    for used in operands {
+        uses.add(*used, place)?;
+    }
     own.add(class, place)?;
     members.add(class, class as usize)
 }

@@ -6,7 +6,6 @@ ghost use Rattle.egraph.specs.Steps.{moved};
 ghost use Rattle.egraph.specs.Tables.{EachBecomes, IsTracked, FitLists, TwoConstants, JoinedUp};
 
 use crate::class_constants::{find_two_constants, move_constant};
-use crate::class_lists::Lists;
 use crate::faults::MergeFault;
 use crate::moving::{move_classes, move_members, move_uses, still_of, still_using};
 use crate::tables::Tables;
@@ -60,15 +59,6 @@ fn join<O: Operator>(
     Ok(())
 }
 
-/// The two classes with the one that fewer rows name first, or the second one where as many rows name both.
-fn lighter_first(own: &Lists, uses: &Lists, x: u32, y: u32) -> (u32, u32)
-    ensures { (result ≡ (x, y)) ⊎ (result ≡ (y, x)) }
-{
-    let of_x = own.count(x).saturating_add(uses.count(x));
-    let of_y = own.count(y).saturating_add(uses.count(y));
-    if of_x < of_y { (x, y) } else { (y, x) }
-}
-
 /// Joins two classes. The one that fewer rows name is renamed, or the second one where as many rows name both.
 pub(crate) fn join_classes<O: Operator>(
     alloc: Global,
@@ -94,6 +84,11 @@ pub(crate) fn join_classes<O: Operator>(
     if x == y {
         return Ok(());
     }
-    let (from, to) = lighter_first(&tables.own, &tables.uses, x, y);
-    join(alloc, tables, waiting, from, to)
+    let of_x = tables.own.count(x).saturating_add(tables.uses.count(x));
+    let of_y = tables.own.count(y).saturating_add(tables.uses.count(y));
+    if of_x < of_y {
+        join(alloc, tables, waiting, x, y)
+    } else {
+        join(alloc, tables, waiting, y, x)
+    }
 }

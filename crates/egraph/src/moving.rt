@@ -160,24 +160,15 @@ pub(crate) fn move_uses<O: Operator>(
 }
 
 /// Puts one class that is in `from` into `to`.
-fn move_member(current: &mut [u32], member: usize, from: u32, to: u32)
-    ensures len { length current.new ≡ length current.old }
-    ensures moved { member < length current.old →
-        slice_index current.new member ≡ moved from to (slice_index current.old member) }
-    ensures others { (other : ℕ) → other ≢ member → slice_index current.new other ≡ slice_index current.old other }
+fn move_member(current: &mut Vec<u32>, member: usize, from: u32, to: u32)
+    ensures len { length current.new.items ≡ length current.old.items }
+    ensures moved { member < length current.old.items →
+        slice_index current.new.items member ≡ moved from to (slice_index current.old.items member) }
+    ensures others { (other : ℕ) → other ≢ member →
+        slice_index current.new.items other ≡ slice_index current.old.items other }
 {
     if member < current.len() {
         current[member] = moved_class(current[member], from, to);
-    }
-}
-
-/// Puts the classes that are in `from` into `to`; the list has all these classes.
-fn move_listed(current: &mut [u32], members: &[usize], from: u32, to: u32)
-    requires listed { ListsMembersOf current.old from members.now }
-    ensures { current.new ≡ map (moved from to) current.old }
-{
-    for member in members {
-        move_member(current, *member, from, to);
     }
 }
 
@@ -186,5 +177,7 @@ pub(crate) fn move_members(current: &mut Vec<u32>, members: &[usize], from: u32,
     requires listed { ListsMembersOf current.old.items from members.now }
     ensures { current.new.items ≡ map (moved from to) current.old.items }
 {
-    move_listed(current, members, from, to);
+    for member in members {
+        move_member(current, *member, from, to);
+    }
 }

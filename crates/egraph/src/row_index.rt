@@ -7,13 +7,13 @@ ghost use Rattle.egraph.specs.declared.row_index.RowKey.{RowKey as Key};
 ghost use Rattle.egraph.specs.Keys.{key_of_row, indexed_place};
 ghost use Rattle.egraph.specs.Tables.{IsIndexed};
 
-use crate::rows::{Row, is_row};
+use crate::rows::{Row, reads_as};
 use indexmap::IndexMap;
 use items::NoMemory;
 use slab::Slab;
 use std::alloc::Global;
 use std::marker::Model;
-use word_terms::Operator;
+use word_terms::{Operator, same_operator};
 
 /// The key of an operator, and its operands, at most four, filled up with 0.
 #[derive(Clone, Copy, PartialEq, Eq, Hash, Debug)]
@@ -113,21 +113,6 @@ fn present_at(current: &[u32], operands: &[u32], at: usize) -> u32
     }
 }
 
-fn present_key<O: Operator>(current: &[u32], op: O, operands: &[u32]) -> RowKey
-    requires { AreMade current.now operands.now }
-    ensures { result ≡ key_of_row O.signature op (map (slice_index current.now) operands.now) }
-{
-    let (kind, number) = op.key();
-    RowKey {
-        kind,
-        number,
-        first: present_at(current, operands, 0),
-        second: present_at(current, operands, 1),
-        third: present_at(current, operands, 2),
-        fourth: present_at(current, operands, 3),
-    }
-}
-
 /// The class of the row with this operator and these operands, read through `current`.
 pub(crate) fn find_class<O: Operator>(
     rows: &Slab<Row<O>>,
@@ -145,9 +130,17 @@ pub(crate) fn find_class<O: Operator>(
         × (get rows.now place
         ≡ Some (record { op = op; operands = map (slice_index current.now) operands.now; class = class }))) }
 {
-    let place = index.find(present_key(current, op, operands))?;
+    let (kind, number) = op.key();
+    let place = index.find(RowKey {
+        kind,
+        number,
+        first: present_at(current, operands, 0),
+        second: present_at(current, operands, 1),
+        third: present_at(current, operands, 2),
+        fourth: present_at(current, operands, 3),
+    })?;
     let row = rows.get(place)?;
-    if is_row(row, current, op, operands) {
+    if same_operator(row.op, op) && reads_as(row.operands.as_slice(), operands, current) {
         Some(row.class)
     } else {
         None

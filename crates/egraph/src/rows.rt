@@ -16,15 +16,6 @@ pub struct Row<O> {
     pub class: u32,
 }
 
-impl<O: Operator> Row<O> {
-    /// Whether the rows are of one operator and the same operands.
-    pub(crate) fn agrees(&self, other: &Row<O>) -> bool
-        ensures { IsTrue result ↔ Agree self.now other.now }
-    {
-        same_operator(self.op, other.op) && self.operands.as_slice() == other.operands.as_slice()
-    }
-}
-
 /// The classes that these are in at present.
 pub(crate) fn read_all(
     alloc: Global,
@@ -42,7 +33,7 @@ pub(crate) fn read_all(
 }
 
 /// Whether `present` are the classes that `classes` are in.
-fn reads_as(present: &[u32], classes: &[u32], current: &[u32]) -> bool
+pub(crate) fn reads_as(present: &[u32], classes: &[u32], current: &[u32]) -> bool
     requires { AreMade current.now classes.now }
     ensures { IsTrue result ↔ (present.now ≡ map (slice_index current.now) classes.now) }
 {
@@ -55,15 +46,6 @@ fn reads_as(present: &[u32], classes: &[u32], current: &[u32]) -> bool
         }
     }
     true
-}
-
-/// Whether the row is of this operator and these operands, read through `current`.
-pub(crate) fn is_row<O: Operator>(row: &Row<O>, current: &[u32], op: O, operands: &[u32]) -> bool
-    requires { AreMade current.now operands.now }
-    ensures { IsTrue result ↔ Agree row.now
-        (record { op = op; operands = map (slice_index current.now) operands.now; class = row.now.class }) }
-{
-    same_operator(row.op, op) && reads_as(row.operands.as_slice(), operands, current)
 }
 
 pub(crate) fn moved_class(class: u32, from: u32, to: u32) -> u32
@@ -79,11 +61,4 @@ pub(crate) fn move_all(classes: &mut [u32], from: u32, to: u32)
     for class in classes.iter_mut() {
         *class = moved_class(*class, from, to);
     }
-}
-
-/// Does nothing. A constant is a word by its type.
-pub(crate) fn has_word_constant<O: Operator>(op: O)
-    ensures { HasWordConstant O.signature op }
-{
-    let _constant = op.constant();
 }

@@ -10,7 +10,7 @@ use crate::row_index::{RowIndex, RowKey, row_key};
 use crate::rows::Row;
 use items::NoMemory;
 use slab::Slab;
-use word_terms::Operator;
+use word_terms::{Operator, same_operator};
 
 /// The key of another row that agrees with the row under `place`, which has this key in the index.
 fn find_twin<O: Operator>(
@@ -27,7 +27,10 @@ fn find_twin<O: Operator>(
 {
     let first = index.find(key)?;
     let other = rows.get(first)?;
-    if first != place && other.agrees(row) {
+    if first == place || !same_operator(other.op, row.op) {
+        return None;
+    }
+    if other.operands.as_slice() == row.operands.as_slice() {
         Some(first)
     } else {
         None

@@ -5,7 +5,10 @@ use Rattle.std.proofs.lemmas.List.Elements.{All-nil, All-cons, All-weaker}
 use Rattle.graph_meaning.proofs.Lists.{any_here, any_there}
 use Rattle.machine_table.proofs.Decide.{pairs_nil, pairs_cons}
 use Rattle.machine_table.specs.Tables.{cluster_of, ev6}
+use Rattle.word_ops.specs.declared.operates.Operate.{Operate as OperateOf}
+use Rattle.word_ops.specs.declared.operators.WordOp.TheVariants as words
 use Rattle.machine_table.specs.declared.tables.InstrKind.{InstrKind}
+use Rattle.machine_table.specs.declared.tables.InstrKind.TheVariants.{Operate}
 use Rattle.word_ops.specs.declared.sorts.Op.{Op}
 use Rattle.word_ops.specs.declared.sorts.Op.TheVariants.{Word}
 use Rattle.word_terms.specs.Tree.{Tree}
@@ -20,12 +23,12 @@ use Rattle.schedule_meaning.specs.declared.schedules.To.TheVariants.{Pool}
 use Rattle.schedule_meaning.specs.declared.schedules.Launch.{Launch}
 use Rattle.generated_goals.specs.Generated.{chain, number_at, picked}
 use Rattle.generated_goals.proofs.GraphRows.{IsApplied, applied_row, row_of, row_class, row_instr, row_reads}
-use Rattle.generated_goals.proofs.Plain.{IsPlain, IsPlainOp, picked_is_plain}
+use Rattle.generated_goals.proofs.Plain.{IsPlain, picked_is_plain}
 
 -- a launch in the first slot before a cycle, to the pool
 pub record IsStep (g : LaunchGraph) (n : ℕ) (l : Launch) : Type 0 where
-  pub kind : InstrKind
-  pub is : instr_at g l.row ≡ Some kind
+  pub kind : OperateOf
+  pub is : instr_at g l.row ≡ Some (Operate kind)
   pub plain : IsPlain kind
   pub slot : l.slot ≡ 0
   pub to : l.to ≡ Pool
@@ -68,8 +71,8 @@ readable_at : (g : LaunchGraph) (ls : List Launch) (class cycle cluster m c : �
 readable_at g ls class cycle cluster m c e f h = rw (e, f) h
 
 -- the launch of a row of an operator, whose first operand can be read at its cycle and whose second is an input's
-module _ (g : LaunchGraph) (n first second class : ℕ) (ls : List Launch) (l : Launch) (kind : InstrKind)
-    (cycle : l.cycle ≡ n) (slot : l.slot ≡ 0) (to : l.to ≡ Pool) (is : instr_at g l.row ≡ Some kind) (able : IsPlain kind)
+module _ (g : LaunchGraph) (n first second class : ℕ) (ls : List Launch) (l : Launch) (kind : OperateOf)
+    (cycle : l.cycle ≡ n) (slot : l.slot ≡ 0) (to : l.to ≡ Pool) (is : instr_at g l.row ≡ Some (Operate kind)) (able : IsPlain kind)
     (reads : operands_at g l.row ≡ plain first ∷ record { class = second; second = true } ∷ [])
     (gives : class_at g l.row ≡ class)
     (input : IsClassOfInput g second) (before : IsChain g n first ls) where
@@ -102,7 +105,7 @@ module _ (g : LaunchGraph) (n first second class : ℕ) (ls : List Launch) (l : 
     operands = All-cons (CanReadPlain g ev6 (l ∷ ls)) l ls new_reads
         (All-weaker (CanReadPlain g ev6 ls) (CanReadPlain g ev6 (l ∷ ls)) (more_read g l ls) ls before.operands);
     count = ap suc before.count;
-    readable = inr (any_here (λ m. Gives g class m × (ready_in g ev6 0 m ≤ suc n)) l ls ((launches_by g gives_word l kind true is able.word, gives), is_ready));
+    readable = inr (any_here (λ m. Gives g class m × (ready_in g ev6 0 m ≤ suc n)) l ls ((launches_by g gives_word l (Operate kind) true is refl, gives), is_ready));
   }
 
 -- ---- all of them
@@ -125,23 +128,23 @@ module _ (g : LaunchGraph) (a_is : (c : ℕ) → HasClassIn [] g (input_term 9) 
     };
   }
 
-  next_launch : (n number : ℕ) (t : Tree Op) (c : ℕ) (p : IsPlainOp (picked number)) (r : IsApplied (graph_view [] g) (Word (picked number)) t (input_term 10) c) → HasChain g n r.first → HasChain g (suc n) c
+  next_launch : (n number : ℕ) (t : Tree Op) (c : ℕ) (p : IsPlain (picked number)) (r : IsApplied (graph_view [] g) (Word (words.Operate (picked number))) t (input_term 10) c) → HasChain g n r.first → HasChain g (suc n) c
   next_launch n number t c p r before =
-      let row = row_of g [] (Word (picked number)) (r.first ∷ r.second ∷ []) c refl r.row in
+      let row = row_of g [] (Word (words.Operate (picked number))) (r.first ∷ r.second ∷ []) c refl r.row in
       let l : Launch = record { cycle = n; slot = 0; row = row.number; to = Pool } in
-      let instr : instr_at g row.number ≡ Some p.kind =
-      row_instr g row.number row.row row.there ∙ (rw (row.op_is, row.operands_are) (p.instr g (r.first ∷ r.second ∷ []))) in
+      let instr : instr_at g row.number ≡ Some (Operate (picked number)) =
+      row_instr g row.number row.row row.there ∙ (rw row.op_is refl) in
       let reads : operands_at g row.number ≡ plain r.first ∷ record { class = r.second; second = true } ∷ [] =
-      row_reads g row.number row.row row.there ∙ (rw (row.op_is, row.operands_are) (p.reads (r.first ∷ r.second ∷ []))) in
+      row_reads g row.number row.row row.there ∙ (rw (row.op_is, row.operands_are) refl) in
       let gives : class_at g row.number ≡ c = row_class g row.number row.row row.there ∙ row.class_is in
       record {
         list = l ∷ before.list;
-        fits = one_more g n r.first r.second c before.list l p.kind refl refl refl instr p.plain reads gives (b_is r.second r.of_second) before.fits;
+        fits = one_more g n r.first r.second c before.list l (picked number) refl refl refl instr p reads gives (b_is r.second r.of_second) before.fits;
       }
 
   pub launched : (size n : ℕ) (c : ℕ) → HasClassIn [] g (chain size n) c → HasChain g n c
   launched size zero c h = no_launches c (a_is c h)
   launched size (suc n) c h =
       let number = number_at size (suc n) in
-      let r = applied_row (graph_view [] g) (Word (picked number)) (chain size n) (input_term 10) c h in
+      let r = applied_row (graph_view [] g) (Word (words.Operate (picked number))) (chain size n) (input_term 10) c h in
       next_launch n number (chain size n) c (picked_is_plain number) r (launched size n r.first r.of_first)

@@ -21,6 +21,7 @@ use Rattle.schedule_meaning.specs.Launches.{Gives, IsClassOfInput, gives_word, i
 use Rattle.schedule_meaning.specs.Plain.{FitsWithoutPins, IsPlainReached, WaitsPlain}
 use Rattle.schedule_meaning.specs.declared.schedules.To.TheVariants.{Pool}
 use Rattle.schedule_meaning.specs.declared.schedules.Launch.{Launch}
+use Rattle.machine_table.specs.declared.tables.InstrKind.TheVariants.{Operate}
 use Rattle.generated_goals.specs.Generated.{generated_goal, generated_input, named_input}
 use Rattle.schedule_meaning.proofs.Unpinned.{fits_where_plain}
 use Rattle.generated_goals.proofs.GraphRows.{leaf_row, one_class, row_of}
@@ -54,10 +55,10 @@ module _ (g : LaunchGraph) (graph : IsLaunchGraph g) where
 
 module _ (g : LaunchGraph) (n : ℕ) where
   no_load : (l : Launch) → IsStep g n l → ¬ IsTrue (launches g is_load l)
-  no_load l s h = false≢true (sym (launches_by g is_load l s.kind false s.is s.plain.load) ∙ h)
+  no_load l s h = false≢true (sym (launches_by g is_load l (Operate s.kind) false s.is refl) ∙ h)
 
   no_store : (l : Launch) → IsStep g n l → ¬ IsTrue (launches g is_store l)
-  no_store l s h = false≢true (sym (launches_by g is_store l s.kind false s.is s.plain.store) ∙ h)
+  no_store l s h = false≢true (sym (launches_by g is_store l (Operate s.kind) false s.is refl) ∙ h)
 
   no_memory : (l : Launch) → IsStep g n l → ¬ UsesMemory g l
   no_memory l s (inl h) = no_load l s h

@@ -22,6 +22,7 @@ use Rattle.goal_meaning.specs.Views.{GoalTree, TargetTree}
 use Rattle.goal_meaning.specs.WellFormed.{IsAssume, IsAxiom, IsGoal, IsInput, IsOfGoal, IsTarget, operators_of_goal}
 use Rattle.goal_meaning.specs.declared.goals.InputReg.{InputReg}
 use Rattle.goal_meaning.specs.declared.goals.DeclaredOp.{DeclaredOp}
+use Rattle.word_ops.specs.declared.operators.WordOp.TheVariants.{Operate}
 use Rattle.generated_goals.specs.Generated.{chain, generated_goal, generated_input, named_input, number_at, picked, registers}
 use Rattle.generated_goals.proofs.Plain.{each_picked}
 
@@ -30,11 +31,11 @@ inputs = named_input (codes "a") 9 ∷ named_input (codes "b") 10 ∷ []
 
 -- ---- the term
 
-takes_two : (n : ℕ) → 2 ≡ arity_of (picked n)
-takes_two n = each_picked (λ op. 2 ≡ arity_of op) refl refl refl refl refl n
+takes_two : (n : ℕ) → 2 ≡ arity_of (Operate (picked n))
+takes_two n = each_picked (λ op. 2 ≡ arity_of (Operate op)) refl refl refl refl refl n
 
-written : (n : ℕ) → is_written (picked n) ≡ true
-written n = each_picked (λ op. is_written op ≡ true) refl refl refl refl refl n
+written : (n : ℕ) → is_written (Operate (picked n)) ≡ true
+written n = each_picked (λ op. is_written (Operate op) ≡ true) refl refl refl refl refl n
 
 sorted : (size n : ℕ) → HasSort op_signature [] sorts.Word (chain size n)
 sorted size zero = (refl, tt, refl, tt)

@@ -1,8 +1,9 @@
--- Goals that are made from a number: a chain of operators over two inputs, each picked by a sequence of numbers that
+-- Goals that are made from a number: a chain of operates over two inputs, each picked by a sequence of numbers that
 -- begins with the chain's length. Source: this project; the sequence is a linear congruential one.
 use Rattle.std.specs.Prelude.{ℕ, zero, suc, ◌+◌, ◌*◌, ◌%◌, ◌==◌, true, if◌then◌else◌, List, [], ◌∷◌, None, codes}
-use Rattle.word_ops.specs.declared.operators.WordOp.{WordOp}
-use Rattle.word_ops.specs.declared.operators.WordOp.TheVariants.{Addq, Subq, Xor, Bis, S4addq}
+use Rattle.word_ops.specs.declared.operates.Operate.{Operate as OperateOf}
+use Rattle.word_ops.specs.declared.operates.Operate.TheVariants.{Addq, Subq, Xor, Bis, S4addq}
+use Rattle.word_ops.specs.declared.operators.WordOp.TheVariants.{Operate}
 use Rattle.word_ops.specs.declared.sorts.Op.{Op}
 use Rattle.word_ops.specs.declared.sorts.Op.TheVariants.{Word}
 use Rattle.word_terms.specs.Tree.{Tree, application, none, more}
@@ -12,7 +13,7 @@ use Rattle.goal_meaning.specs.Views.{GoalTree, InputTree}
 use Rattle.goal_meaning.specs.declared.goals.InputReg.{InputReg}
 use Rattle.saturation.specs.GoalTerms.{input_term}
 
--- ---- the operators
+-- ---- the operates
 
 abbrev pub next_number : ℕ → ℕ
 next_number n = (13 * n + 7) % 256
@@ -22,7 +23,7 @@ abbrev pub number_at : ℕ → ℕ → ℕ
 number_at size zero = size
 number_at size (suc i) = next_number (number_at size i)
 
-abbrev pub picked : ℕ → WordOp
+abbrev pub picked : ℕ → OperateOf
 picked n =
     if n % 5 == 0 then Addq
     else if n % 5 == 1 then Subq
@@ -37,10 +38,10 @@ abbrev pub registers : List ℕ
 registers = 9 ∷ 10 ∷ []
 
 -- ( OP term b )
-abbrev pub applied : WordOp → Tree Op → Tree Op
-applied op t = application (Word op) (more t (more (input_term 10) none))
+abbrev pub applied : OperateOf → Tree Op → Tree Op
+applied op t = application (Word (Operate op)) (more t (more (input_term 10) none))
 
--- `a` with so many operators applied
+-- `a` with so many operates applied
 abbrev pub chain : ℕ → ℕ → Tree Op
 chain size zero = input_term 9
 chain size (suc i) = applied (picked (number_at size (suc i))) (chain size i)

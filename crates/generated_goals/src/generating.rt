@@ -11,7 +11,7 @@ use items::{Items, NoMemory};
 use machine_table::ev6;
 use std::alloc::Global;
 use text_core::Name;
-use word_ops::{Op, WordOp};
+use word_ops::{Op, Operate, WordOp};
 use word_terms::{Term, application};
 
 /// The register of the input `a`.
@@ -28,16 +28,16 @@ fn next_number(number: u32) -> u32
     (13 * number + 7) % 256
 }
 
-/// The operator that a number picks.
-fn picked(number: u32) -> WordOp
+/// The operate that a number picks.
+fn picked(number: u32) -> Operate
     ensures { result ≡ specs.picked number }
 {
     match number % 5 {
-        0 => WordOp::Addq,
-        1 => WordOp::Subq,
-        2 => WordOp::Xor,
-        3 => WordOp::Bis,
-        _ => WordOp::S4addq,
+        0 => Operate::Addq,
+        1 => Operate::Subq,
+        2 => Operate::Xor,
+        3 => Operate::Bis,
+        _ => Operate::S4addq,
     }
 }
 
@@ -49,14 +49,14 @@ fn input(alloc: Global, register: u8) -> Term<Op>
 }
 
 /// `( OP term b )`
-fn applied(alloc: Global, op: WordOp, term: Term<Op>) -> Result<Term<Op>, NoMemory>
+fn applied(alloc: Global, op: Operate, term: Term<Op>) -> Result<Term<Op>, NoMemory>
     ensures { IfOk result (λ t. tree_of t ≡ specs.applied op (tree_of term)) }
 {
     let operands = vec![in alloc; term, input(alloc, B)]?;
-    Ok(application(Op::Word(op), operands))
+    Ok(application(Op::Word(WordOp::Operate(op)), operands))
 }
 
-/// `a` with `size` operators applied.
+/// `a` with `size` operates applied.
 fn chain(alloc: Global, size: u32) -> Result<Term<Op>, NoMemory>
     requires { size < 256 }
     ensures { IfOk result (λ t. tree_of t ≡ specs.chain size size) }
@@ -120,7 +120,7 @@ fn goal(alloc: Global, size: u32) -> Result<Goal, NoMemory>
     })
 }
 
-/// The input with one goal, which sets `x` to a chain of `size` operators, 1 to 20.
+/// The input with one goal, which sets `x` to a chain of `size` operates, 1 to 20.
 pub fn generated(alloc: Global, size: u32) -> Result<Input, NoMemory>
     requires { (1 ≤ size) × (size ≤ 20) }
     ensures { IfOk result (λ input. input_view input ≡ specs.generated_input size) }

@@ -4,6 +4,7 @@ use Rattle.std.specs.Prelude.{ℕ, Bool, true, false, ◌||◌, if◌then◌else
 use Rattle.text_core.specs.Names.{IsName}
 use Rattle.word_ops.specs.Operators.{operators}
 use Rattle.word_ops.specs.Names.{name_of}
+use Rattle.word_ops.specs.declared.sorts.Access.TheVariants.{Quad}
 use Rattle.word_ops.specs.declared.operators.WordOp.{WordOp}
 use Rattle.word_ops.specs.declared.operators.WordOp.TheVariants as words
 use Rattle.word_ops.specs.declared.sorts.Op.{Op}
@@ -30,7 +31,9 @@ as_written op = if is_written op then Some (Word op) else None
 
 abbrev pub memory_operator_named : List ℕ → Option Op
 memory_operator_named name =
-    if bytes_eq name (codes "select") then Some Select else if bytes_eq name (codes "store") then Some Store else None
+    if bytes_eq name (codes "select") then Some (Select Quad)
+    else if bytes_eq name (codes "store") then Some (Store Quad)
+    else None
 
 abbrev pub written_or_memory : Option WordOp → List ℕ → Option Op
 written_or_memory (Some op) name = as_written op

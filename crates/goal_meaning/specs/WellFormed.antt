@@ -39,8 +39,8 @@ pub record IsDeclared (declared : List DeclaredOp) (index : ℕ) (arity : Arity)
 -- what a text can write: lda, ldah, load and put are made by rules alone, and a declared operator is declared
 abbrev pub CanBeWritten : List DeclaredOp → Op → Type 0
 CanBeWritten declared (Word op) = is_written op ≡ true
-CanBeWritten declared Load = ⊥
-CanBeWritten declared Put = ⊥
+CanBeWritten declared (Load access) = ⊥
+CanBeWritten declared (Put access) = ⊥
 CanBeWritten declared (Declared index arity) = IsDeclared declared index arity
 CanBeWritten declared _ = Unit {0}
 

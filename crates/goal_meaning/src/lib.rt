@@ -2,6 +2,9 @@
 //! axioms and assumptions hold in a world, and what a goal's outcome in it is.
 //!
 //! `goal_reader` reads inputs from texts and prints them.
+//!
+//! These meanings are definitions, with laws on them: axioms hold for all goals of an input alike
+//! (`axioms_hold_for_all_goals`), and each goal has an outcome in a world (`goals_have_outcomes`).
 #![tactic(auto)]
 
 mod goals;

@@ -4,6 +4,7 @@ use Rattle.std.proofs.Math.Seq.{drop-cons}
 use Rattle.std.proofs.lemmas.Slice.Eq.{bytes_eq-Decides}
 use Rattle.word_ops.specs.Operators.{operators}
 use Rattle.word_ops.specs.Names.{name_of}
+use Rattle.word_ops.specs.declared.operates.Operate.TheVariants as operates
 use Rattle.word_ops.specs.declared.operators.WordOp.{WordOp}
 use Rattle.word_ops.specs.declared.operators.WordOp.TheVariants as words
 use Rattle.word_ops.specs.declared.sorts.Op.TheVariants.{Declared}
@@ -25,67 +26,9 @@ declared_here ops i op name l e =
     ∙ ap (λ n. if bytes_eq op.name name then Some (Declared i op.arity) else declared_named (i + 1) (drop n ops) name) (sym (add-one i))
 
 find_own : (op : WordOp) → find (λ other. bytes_eq (name_of other) (name_of op)) operators ≡ Some op
-find_own words.Addl = refl
-find_own words.S4addl = refl
-find_own words.Subl = refl
-find_own words.S4subl = refl
-find_own words.Cmpbge = refl
-find_own words.S8addl = refl
-find_own words.S8subl = refl
-find_own words.Cmpult = refl
-find_own words.Addq = refl
-find_own words.S4addq = refl
-find_own words.Subq = refl
-find_own words.S4subq = refl
-find_own words.Cmpeq = refl
-find_own words.S8addq = refl
-find_own words.S8subq = refl
-find_own words.Cmpule = refl
-find_own words.Cmplt = refl
-find_own words.Cmple = refl
-find_own words.And = refl
-find_own words.Bic = refl
-find_own words.Bis = refl
-find_own words.Ornot = refl
-find_own words.Xor = refl
-find_own words.Eqv = refl
-find_own words.Mskbl = refl
-find_own words.Extbl = refl
-find_own words.Insbl = refl
-find_own words.Mskwl = refl
-find_own words.Extwl = refl
-find_own words.Inswl = refl
-find_own words.Mskll = refl
-find_own words.Extll = refl
-find_own words.Insll = refl
-find_own words.Zap = refl
-find_own words.Zapnot = refl
-find_own words.Mskql = refl
-find_own words.Srl = refl
-find_own words.Extql = refl
-find_own words.Sll = refl
-find_own words.Insql = refl
-find_own words.Sra = refl
-find_own words.Mskwh = refl
-find_own words.Inswh = refl
-find_own words.Extwh = refl
-find_own words.Msklh = refl
-find_own words.Inslh = refl
-find_own words.Extlh = refl
-find_own words.Mskqh = refl
-find_own words.Insqh = refl
-find_own words.Extqh = refl
-find_own words.Mull = refl
-find_own words.Mulq = refl
-find_own words.Umulh = refl
-find_own words.Sextb = refl
-find_own words.Sextw = refl
-find_own words.Neg = refl
-find_own words.Not = refl
-find_own words.Selectb = refl
-find_own words.Storeb = refl
-find_own words.Lda = refl
-find_own words.Ldah = refl
+find_own (words.Operate operates.Addl) = refl
+find_own (words.Operate _) = refl
+find_own _ = refl
 
 pub not_true : (b : Bool) → (b ≡ true → ⊥) → b ≡ false
 not_true true n = absurd (n refl)

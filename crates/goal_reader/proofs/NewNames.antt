@@ -83,6 +83,14 @@ module _ (given : List ℕ) (form : Form) where
     pub given_first : (r : ℕ) → register_of form ≡ Some r → has_register given r ≡ true → IsFirst (IsFaultAs (fresh_register given) form) (place_of form) Twice
     given_first r e g = first_own IsOwn part_role (fresh_register given) form low high Twice h (register_given e g) (given_least r e)
 
+pub or_first : (p q : Bool) → p ≡ true → p || q ≡ true
+or_first true q e = refl
+or_first false q e = cc
+
+pub or_last : (p q : Bool) → q ≡ true → p || q ≡ true
+or_last true q e = refl
+or_last false q e = e
+
 pub among_both : (xs ys : List (List ℕ)) (name : List ℕ) → is_among (xs ++ ys) name ≡ (is_among xs name || is_among ys name)
 among_both xs ys name = list_any-append (λ other. bytes_eq other name) xs ys
 

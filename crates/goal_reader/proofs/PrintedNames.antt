@@ -5,6 +5,7 @@ use Rattle.std.proofs.lemmas.Bool.Decides.{Decides-eqb}
 use Rattle.std.proofs.lemmas.Slice.Eq.{bytes_eq-Decides}
 use Rattle.word_ops.specs.Names.{name_of}
 use Rattle.word_ops.specs.Operators.{operators}
+use Rattle.word_ops.specs.declared.sorts.Access.TheVariants.{Quad}
 use Rattle.word_ops.specs.declared.operators.WordOp.{WordOp}
 use Rattle.word_ops.specs.declared.sorts.Op.{Op}
 use Rattle.word_ops.specs.declared.sorts.Op.TheVariants as ops
@@ -47,9 +48,9 @@ written_as : (declared : List DeclaredOp) (n : List ℕ) (w : WordOp) (op : Op) 
 written_as declared n w op true e f = let same : ops.Word w ≡ op = cc in subst (IsNamedAs declared n) same (sym e, λ inputs. refl)
 written_as declared n w op false e f = cc
 
-memory_as : (declared : List DeclaredOp) (n : List ℕ) (op : Op) (a b : Bool) → bytes_eq n (codes "select") ≡ a → bytes_eq n (codes "store") ≡ b → (if a then Some ops.Select else if b then Some ops.Store else None) ≡ Some op → IsNamedAs declared n op
-memory_as declared n op true b s t e = let same : ops.Select ≡ op = cc in subst (IsNamedAs declared n) same ((bytes_eq-Decides n (codes "select")).0 s, λ inputs. refl)
-memory_as declared n op false true s t e = let same : ops.Store ≡ op = cc in subst (IsNamedAs declared n) same ((bytes_eq-Decides n (codes "store")).0 t, λ inputs. refl)
+memory_as : (declared : List DeclaredOp) (n : List ℕ) (op : Op) (a b : Bool) → bytes_eq n (codes "select") ≡ a → bytes_eq n (codes "store") ≡ b → (if a then Some (ops.Select Quad) else if b then Some (ops.Store Quad) else None) ≡ Some op → IsNamedAs declared n op
+memory_as declared n op true b s t e = let same : (ops.Select Quad) ≡ op = cc in subst (IsNamedAs declared n) same ((bytes_eq-Decides n (codes "select")).0 s, λ inputs. refl)
+memory_as declared n op false true s t e = let same : (ops.Store Quad) ≡ op = cc in subst (IsNamedAs declared n) same ((bytes_eq-Decides n (codes "store")).0 t, λ inputs. refl)
 memory_as declared n op false false s t e = cc
 
 abbrev name_after : ℕ → List DeclaredOp → ℕ → List ℕ

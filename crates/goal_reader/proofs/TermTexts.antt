@@ -1,7 +1,7 @@
 -- The canonical text of a term by itself.
-use Rattle.std.proofs.Common.{◌≡◌, ◌≢◌, ℕ, zero, suc, ◌+◌, ◌*◌, ◌≤◌, None, Some, List, [], ◌∷◌, map, refl, sym, ap, ◌∙◌, subst, arith, slice_get}
+use Rattle.std.proofs.Common.{◌≡◌, ◌≢◌, ℕ, zero, suc, ◌+◌, ◌*◌, ◌≤◌, None, Some, List, [], ◌∷◌, map, sym, ap, ◌∙◌, subst, arith, slice_get}
 use Rattle.std.specs.Prelude.{AllPairs}
-use Rattle.forms.specs.Forms.{Form, Forms, Stands, atom, list, none, more, parts_of, forms_list, forms_of}
+use Rattle.forms.specs.Forms.{Form, Stands, atom, list, more, parts_of, forms_list, forms_of}
 use Rattle.forms.specs.Printing.{CanPrintAll, most_levels, plain_of, plains_of, plains_from}
 use Rattle.forms.specs.Printing as printing
 use Rattle.forms.specs.Reading.{TextHasTrees}

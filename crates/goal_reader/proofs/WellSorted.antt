@@ -3,6 +3,7 @@ use Rattle.std.proofs.Common.{◌≡◌, ℕ, suc, ◌+◌, ◌<◌, if◌then�
 use Rattle.std.specs.Prelude.{IfSome}
 use Rattle.word_ops.specs.Meanings.{constant_in}
 use Rattle.word_ops.specs.Words.{IsWord}
+use Rattle.word_ops.specs.declared.sorts.Access.TheVariants.{Quad}
 use Rattle.word_ops.specs.declared.operators.WordOp.{WordOp}
 use Rattle.word_ops.specs.declared.sorts.Arity.{Arity}
 use Rattle.word_ops.specs.declared.sorts.Op.{Op}
@@ -42,7 +43,7 @@ declared_there at (o ∷ os) n op e = by_test (bytes_eq o.name n) e (declared_th
         (suc later.0, later.1, later.2 ∙ ap (λ m. ops.Declared m later.1.arity) (let z : later.0 + (at + 1) ≡ suc later.0 + at = omega arith in z), omega (arith, low), later.4)
 
 -- what holds of each operator that a name can mean holds of that of the name
-module _ (declared : List DeclaredOp) (Q : Op → Type 0) (words : (w : WordOp) → is_written w ≡ true → Q (ops.Word w)) (selects : Q ops.Select) (stores : Q ops.Store)
+module _ (declared : List DeclaredOp) (Q : Op → Type 0) (words : (w : WordOp) → is_written w ≡ true → Q (ops.Word w)) (selects : Q (ops.Select Quad)) (stores : Q (ops.Store Quad))
     (others : (index : ℕ) (arity : Arity) → IsDeclared declared index arity → Q (ops.Declared index arity)) where
   of_declared : (n : List ℕ) (op : Op) → declared_named 0 declared n ≡ Some op → Q op
   of_declared n op e =
@@ -51,9 +52,9 @@ module _ (declared : List DeclaredOp) (Q : Op → Type 0) (words : (w : WordOp) 
       let is : IsDeclared declared d.0 d.1.arity = record { below = d.3; operator = d.1; found = d.4; takes = refl } in
       subst Q (sym (d.2 ∙ ap (λ m. ops.Declared m d.1.arity) index)) (others d.0 d.1.arity is)
 
-  of_memory : (op : Op) (a b : Bool) → (if a then Some ops.Select else if b then Some ops.Store else None) ≡ Some op → Q op
-  of_memory op true b e = let same : ops.Select ≡ op = cc in subst Q same selects
-  of_memory op false true e = let same : ops.Store ≡ op = cc in subst Q same stores
+  of_memory : (op : Op) (a b : Bool) → (if a then Some (ops.Select Quad) else if b then Some (ops.Store Quad) else None) ≡ Some op → Q op
+  of_memory op true b e = let same : (ops.Select Quad) ≡ op = cc in subst Q same selects
+  of_memory op false true e = let same : (ops.Store Quad) ≡ op = cc in subst Q same stores
   of_memory op false false e = cc
 
   pub of_operator : (n : List ℕ) (op : Op) → operator_named declared n ≡ Some op → Q op

@@ -17,15 +17,6 @@ use text_core::{Kind, Sexp, TextFault};
 use word_ops::{Op, Sort};
 use word_terms::Term;
 
-fn term_sort(term: &Term<Op>) -> Sort
-    ensures { result ≡ tree_sort (tree_of term.now) }
-{
-    match term {
-        Term::Var(_) => Sort::Word,
-        Term::App(op, _) => op.sort(),
-    }
-}
-
 /// Reads `( assume term term )`.
 pub fn assume(alloc: Global, form: &Sexp, text: &[u8], scope: &Scope) -> Result<Assume, TextFault>
     requires of { IsSexpOf text.now form.now }
@@ -46,7 +37,10 @@ pub fn assume(alloc: Global, form: &Sexp, text: &[u8], scope: &Scope) -> Result<
         return Err(at(place(form), Kind::BadForm));
     }
     let left = term(alloc, &parts[1], text, scope, None)?;
-    let sort = term_sort(&left);
+    let sort = match &left {
+        Term::Var(_) => Sort::Word,
+        Term::App(op, _) => op.sort(),
+    };
     let right = term(alloc, &parts[2], text, scope, Some(sort))?;
     if parts.len() > 3 {
         return Err(at(place(&parts[3]), Kind::BadForm));

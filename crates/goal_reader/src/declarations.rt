@@ -33,30 +33,10 @@ fn operator_name<'a>(
     let Some(bytes) = name(form, text) else {
         return Err(at(place(form), Kind::BadForm));
     };
-    if is_used_operator(bytes, declared) {
+    if is_reserved(bytes) || is_declared(declared, bytes) {
         return Err(at(place(form), Kind::Twice));
     }
     Ok(bytes)
-}
-
-fn is_used_operator(name: &[u8], declared: &[DeclaredOp]) -> bool
-    ensures { result ≡ (goal_names.is_reserved name.now || is_among (names_of_declared declared.now) name.now) }
-{
-    let reserved = is_reserved(name);
-    let declared = is_declared(declared, name);
-    reserved || declared
-}
-
-fn arity_of(count: u64) -> Option<Arity>
-    ensures { result ≡ arity_named count }
-{
-    match count {
-        1 => Some(Arity::One),
-        2 => Some(Arity::Two),
-        3 => Some(Arity::Three),
-        4 => Some(Arity::Four),
-        _ => None,
-    }
 }
 
 // The number of operands of a declared operator.
@@ -70,13 +50,14 @@ fn arity(form: &Sexp, text: &[u8]) -> Result<Arity, TextFault>
     let Some(count) = number(form) else {
         return Err(at(place(form), Kind::BadForm));
     };
-    if count == 0 {
-        return Err(at(place(form), Kind::BadForm));
+    match count {
+        0 => Err(at(place(form), Kind::BadForm)),
+        1 => Ok(Arity::One),
+        2 => Ok(Arity::Two),
+        3 => Ok(Arity::Three),
+        4 => Ok(Arity::Four),
+        _ => Err(at(place(form), Kind::LimitPassed)),
     }
-    if let Some(arity) = arity_of(count) {
-        return Ok(arity);
-    }
-    Err(at(place(form), Kind::LimitPassed))
 }
 
 /// Reads `( op NAME NUMBER )`, given the declarations before it.

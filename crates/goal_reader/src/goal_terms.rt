@@ -24,21 +24,14 @@ use text_core::{Name, Sexp, TextFault};
 use word_ops::{Op, Sort};
 use word_terms::Term;
 
-fn memory_leaf(alloc: Global) -> Result<Items<Leaf>, NoMemory>
-    ensures { IfOk result (λ leaves. leaves ≡ (term_scope []).leaves) }
+/// What names mean in a term over these inputs.
+fn scope_of(alloc: Global, inputs: &[InputReg]) -> Result<Scope, NoMemory>
+    ensures { IfOk result (λ scope. scope ≡ term_scope inputs.now) }
 {
     let mut leaves = Items::new(alloc);
     let name = Name::new(alloc, b"M")?;
     let named = Named::Memory;
     leaves.push(Leaf { name, named })?;
-    Ok(leaves)
-}
-
-/// What names mean in a term over these inputs.
-fn scope_of(alloc: Global, inputs: &[InputReg]) -> Result<Scope, NoMemory>
-    ensures { IfOk result (λ scope. scope ≡ term_scope inputs.now) }
-{
-    let mut leaves = memory_leaf(alloc)?;
     for input in inputs {
         let name = input.name.copy()?;
         let named = Named::Input(input.reg);

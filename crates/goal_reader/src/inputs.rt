@@ -83,16 +83,6 @@ pub fn is_reserved(name: &[u8]) -> bool
     built_in(name).is_some() || name == b"M".as_slice()
 }
 
-fn is_used(name: &[u8], declared: &[DeclaredOp], inputs: &[InputReg]) -> bool
-    ensures { result ≡ (goal_names.is_reserved name.now || is_among (names_of_declared declared.now
-        ++ names_of_inputs inputs.now) name.now) }
-{
-    let reserved = is_reserved(name);
-    let declared = is_declared(declared, name);
-    let input = is_input(inputs, name);
-    reserved || declared || input
-}
-
 /// A name that no operator, no input and not the memory has.
 pub fn own_name<'a>(
     form: &Sexp,
@@ -110,7 +100,7 @@ pub fn own_name<'a>(
     let Some(bytes) = name(form, text) else {
         return Err(at(place(form), Kind::BadForm));
     };
-    if is_used(bytes, declared, inputs) {
+    if is_reserved(bytes) || is_declared(declared, bytes) || is_input(inputs, bytes) {
         return Err(at(place(form), Kind::Twice));
     }
     Ok(bytes)

@@ -102,16 +102,6 @@ impl ItemKeyword {
             ItemKeyword::Pool | ItemKeyword::When => Kind::BadForm,
         }
     }
-
-    /// Whether it is that of a target.
-    pub fn is_set(self) -> bool
-        ensures { result ≡ (item_rank self == 4) }
-    {
-        match self {
-            ItemKeyword::Set => true,
-            ItemKeyword::In | ItemKeyword::Pool | ItemKeyword::Assume | ItemKeyword::When => false,
-        }
-    }
 }
 
 /// The keyword of an item.

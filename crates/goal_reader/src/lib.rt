@@ -6,6 +6,14 @@
 //! a term by itself. `goal_meaning` says what inputs and goals mean; its types and laws are exported again here.
 //!
 //! The readers and printers of single parts, as `own_name`, `pool` and `put_term`, are for crates whose texts have them too.
+//!
+//! Proved: what `read` reads is in the grammar and keeps its rules (`input`), and what is in the grammar is read as the
+//! one input that it writes (`read`); a fault is the first one, of the bytes, else of the parentheses, else of the
+//! forms (`fault`), and a text with one is answered so (`refused`). A text has one reading, and then no fault
+//! (`texts_have_one_reading`), and one first fault at most (`texts_have_one_first_fault`, `the_first_form_decides`). A
+//! printed input is read back as itself (`printed_inputs_are_read`). What is read is well formed
+//! (`read_inputs_are_well_formed`) and has at most four operators for each five bytes of its text
+//! (`read_inputs_have_few_operators`). `term`, `goal` and `axiom` are exact in the same way.
 #![tactic(auto)]
 
 mod assumes;

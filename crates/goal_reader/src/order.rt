@@ -39,23 +39,11 @@ impl Order {
         if at < self.last {
             return Admission::OutOfOrder;
         }
-        if most <= self.count_of(at) {
+        let count = if at == self.last { self.count } else { 0 };
+        if most <= count {
             return Admission::Beyond;
         }
         Admission::Admitted
-    }
-
-    // How many lists there are of a keyword that is the last one or a later one.
-    fn count_of(&self, at: usize) -> usize
-        requires later { self.now.last ≤ at }
-        ensures last { at ≡ self.now.last → result ≡ self.now.count }
-        ensures counted { (keywords : List (List ℕ)) (before : List Form) → IsOrderOf keywords before self.now
-            → result ≡ length (of_rank keywords at before) }
-    {
-        if at == self.last {
-            return self.count;
-        }
-        0
     }
 
     /// The order after one more list, which is admitted.

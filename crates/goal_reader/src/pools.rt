@@ -26,14 +26,6 @@ pub fn is_in_pool(pool: &[u8], register: u8) -> bool
     false
 }
 
-fn is_taken(inputs: &[InputReg], pool: &[u8], register: u8) -> bool
-    ensures { result ≡ has_register (input_registers inputs.now ++ pool.now) register }
-{
-    let given = is_given(inputs, register);
-    let pool = is_in_pool(pool, register);
-    given || pool
-}
-
 // A register that no input and no earlier place of the pool has.
 fn pool_register(
     form: &Sexp,
@@ -49,7 +41,7 @@ fn pool_register(
 {
     sexps_are_forms();
     let number = register_read(form, text)?;
-    if is_taken(inputs, pool, number) {
+    if is_given(inputs, number) || is_in_pool(pool, number) {
         return Err(at(place(form), Kind::Twice));
     }
     Ok(number)

@@ -16,7 +16,7 @@ use items::NoMemory;
 use itoa::Buffer;
 use std::alloc::Global;
 use text_core::Name;
-use word_ops::{Op, op_name};
+use word_ops::{Access, Op, op_name};
 use word_terms::Term;
 
 fn put_number(text: &mut Vec<u8>, number: u64) -> Result<(), NoMemory>
@@ -40,24 +40,18 @@ fn put_input_name(text: &mut Vec<u8>, inputs: &[InputReg], register: u8) -> Resu
     Ok(())
 }
 
-/// The name of the declared operator with this number; nothing where there is none.
-fn put_declared(text: &mut Vec<u8>, declared: &[DeclaredOp], at: u8) -> Result<(), NoMemory>
-    ensures { OnOk result (text.new.items ≡ text.old.items ++ declared_name declared.now at) }
-{
-    if let Some(operator) = declared.get(at as usize) {
-        text.extend_from_slice(operator.name.bytes())?;
-    }
-    Ok(())
-}
-
 fn put_operator(text: &mut Vec<u8>, declared: &[DeclaredOp], op: Op) -> Result<(), NoMemory>
     ensures { OnOk result (text.new.items ≡ text.old.items ++ operator_name declared.now op) }
 {
     match op {
         Op::Word(word) => text.extend_from_slice(op_name(word))?,
-        Op::Select => text.extend_from_slice(b"select")?,
-        Op::Store => text.extend_from_slice(b"store")?,
-        Op::Declared { index, .. } => put_declared(text, declared, index)?,
+        Op::Select(Access::Quad) => text.extend_from_slice(b"select")?,
+        Op::Store(Access::Quad) => text.extend_from_slice(b"store")?,
+        Op::Declared { index, .. } => {
+            if let Some(operator) = declared.get(index as usize) {
+                text.extend_from_slice(operator.name.bytes())?;
+            }
+        }
         _ => {}
     }
     Ok(())
@@ -86,16 +80,6 @@ fn put_leaf(text: &mut Vec<u8>, inputs: &[InputReg], op: Op) -> Result<(), NoMem
     Ok(())
 }
 
-/// The name of the variable with this number; nothing where there is none.
-fn put_variable(text: &mut Vec<u8>, variables: &[Name], at: u32) -> Result<(), NoMemory>
-    ensures { OnOk result (text.new.items ≡ text.old.items ++ slice_index_or variables.now at []) }
-{
-    if let Some(name) = variables.get(at as usize) {
-        text.extend_from_slice(name.bytes())?;
-    }
-    Ok(())
-}
-
 /// A term, where declared operators, inputs and variables have these names.
 pub fn put_term(
     text: &mut Vec<u8>,
@@ -108,7 +92,12 @@ pub fn put_term(
         ++ plain_text (term_plain (naming declared.now inputs.now variables.now) (tree_of term.now))) }
 {
     match term {
-        Term::Var(at) => put_variable(text, variables, *at),
+        Term::Var(at) => {
+            if let Some(name) = variables.get(*at as usize) {
+                text.extend_from_slice(name.bytes())?;
+            }
+            Ok(())
+        }
         Term::App(op, operands) => {
             if is_leaf(*op) {
                 return put_leaf(text, inputs, *op);
@@ -133,64 +122,31 @@ pub fn put_register(text: &mut Vec<u8>, register: u8) -> Result<(), NoMemory>
     put_number(text, u64::from(register))
 }
 
-fn put_input(text: &mut Vec<u8>, input: &InputReg) -> Result<(), NoMemory>
-    ensures { OnOk result (text.new.items ≡ text.old.items ++ plain_text (input_plain input.now)) }
-{
-    text.extend_from_slice(b"(in ")?;
-    text.extend_from_slice(input.name.bytes())?;
-    text.extend_from_slice(b" ")?;
-    put_register(text, input.reg)?;
-    text.extend_from_slice(b")")?;
-    Ok(())
-}
-
 /// Each input with a space before it.
 #[tactic(auto, using(crate::proofs::Printed::each_more, crate::proofs::Printed::others_each))]
 fn put_inputs(text: &mut Vec<u8>, inputs: &[InputReg]) -> Result<(), NoMemory>
     ensures { OnOk result (text.new.items ≡ text.old.items ++ others_of (plains_from (map input_plain inputs.now))) }
 {
     for input in inputs {
+        text.extend_from_slice(b" (in ")?;
+        text.extend_from_slice(input.name.bytes())?;
         text.extend_from_slice(b" ")?;
-        put_input(text, input)?;
-    }
-    Ok(())
-}
-
-/// Each register with a space before it.
-#[tactic(auto, using(crate::proofs::Printed::each_more, crate::proofs::Printed::others_each))]
-fn put_registers(text: &mut Vec<u8>, pool: &[u8]) -> Result<(), NoMemory>
-    ensures { OnOk result (text.new.items ≡ text.old.items ++ others_of (plains_from (map register_plain pool.now))) }
-{
-    for register in pool {
-        text.extend_from_slice(b" ")?;
-        put_register(text, *register)?;
+        put_register(text, input.reg)?;
+        text.extend_from_slice(b")")?;
     }
     Ok(())
 }
 
 /// `( pool {REGISTER} )`.
+#[tactic(auto, using(crate::proofs::Printed::each_more, crate::proofs::Printed::others_each))]
 pub fn put_pool(text: &mut Vec<u8>, pool: &[u8]) -> Result<(), NoMemory>
     ensures { OnOk result (text.new.items ≡ text.old.items ++ plain_text (pool_plain pool.now)) }
 {
     text.extend_from_slice(b"(pool")?;
-    put_registers(text, pool)?;
-    text.extend_from_slice(b")")?;
-    Ok(())
-}
-
-fn put_assume(
-    text: &mut Vec<u8>,
-    assume: &Assume,
-    declared: &[DeclaredOp],
-    inputs: &[InputReg],
-) -> Result<(), NoMemory>
-    ensures { OnOk result (text.new.items ≡ text.old.items
-        ++ plain_text (assume_plain (naming declared.now inputs.now []) (assume_view assume.now))) }
-{
-    text.extend_from_slice(b"(assume ")?;
-    put_term(text, &assume.left, declared, inputs, &[])?;
-    text.extend_from_slice(b" ")?;
-    put_term(text, &assume.right, declared, inputs, &[])?;
+    for register in pool {
+        text.extend_from_slice(b" ")?;
+        put_register(text, *register)?;
+    }
     text.extend_from_slice(b")")?;
     Ok(())
 }
@@ -207,8 +163,11 @@ fn put_assumes(
         (map (λ a. assume_plain (naming declared.now inputs.now []) (assume_view a)) assumes.now))) }
 {
     for assume in assumes {
+        text.extend_from_slice(b" (assume ")?;
+        put_term(text, &assume.left, declared, inputs, &[])?;
         text.extend_from_slice(b" ")?;
-        put_assume(text, assume, declared, inputs)?;
+        put_term(text, &assume.right, declared, inputs, &[])?;
+        text.extend_from_slice(b")")?;
     }
     Ok(())
 }
@@ -231,17 +190,6 @@ fn put_guard(
     Ok(())
 }
 
-/// The pin with a space before it, if there is one.
-fn put_pin(text: &mut Vec<u8>, pin: Option<u8>) -> Result<(), NoMemory>
-    ensures { OnOk result (text.new.items ≡ text.old.items ++ others_of (plains_from (pin_plains pin))) }
-{
-    if let Some(register) = pin {
-        text.extend_from_slice(b" ")?;
-        put_register(text, register)?;
-    }
-    Ok(())
-}
-
 fn put_target(
     text: &mut Vec<u8>,
     target: &Set,
@@ -253,7 +201,10 @@ fn put_target(
 {
     text.extend_from_slice(b"(set ")?;
     text.extend_from_slice(target.name.bytes())?;
-    put_pin(text, target.pin)?;
+    if let Some(register) = target.pin {
+        text.extend_from_slice(b" ")?;
+        put_register(text, register)?;
+    }
     text.extend_from_slice(b" ")?;
     put_term(text, &target.value, declared, inputs, &[])?;
     text.extend_from_slice(b")")?;
@@ -291,17 +242,6 @@ fn put_goal(text: &mut Vec<u8>, goal: &Goal, declared: &[DeclaredOp]) -> Result<
     put_assumes(text, goal.assumes.as_slice(), declared, inputs)?;
     put_guard(text, &goal.guard, declared, inputs)?;
     put_targets(text, goal.sets.as_slice(), declared, inputs)?;
-    text.extend_from_slice(b")")?;
-    Ok(())
-}
-
-fn put_declaration(text: &mut Vec<u8>, operator: &DeclaredOp) -> Result<(), NoMemory>
-    ensures { OnOk result (text.new.items ≡ text.old.items ++ plain_text (declaration_plain operator.now)) }
-{
-    text.extend_from_slice(b"(op ")?;
-    text.extend_from_slice(operator.name.bytes())?;
-    text.extend_from_slice(b" ")?;
-    put_number(text, operator.arity.count() as u64)?;
     text.extend_from_slice(b")")?;
     Ok(())
 }
@@ -351,8 +291,11 @@ fn put_declarations(text: &mut Vec<u8>, operators: &[DeclaredOp]) -> Result<(), 
         ++ lines_of (plains_from (map declaration_plain operators.now))) }
 {
     for operator in operators {
-        put_declaration(text, operator)?;
-        text.extend_from_slice(b"\n")?;
+        text.extend_from_slice(b"(op ")?;
+        text.extend_from_slice(operator.name.bytes())?;
+        text.extend_from_slice(b" ")?;
+        put_number(text, operator.arity.count() as u64)?;
+        text.extend_from_slice(b")\n")?;
     }
     Ok(())
 }
@@ -383,22 +326,16 @@ fn put_goals(text: &mut Vec<u8>, goals: &[Goal], declared: &[DeclaredOp]) -> Res
     Ok(())
 }
 
-/// The line of the machine form, if the text had one.
-fn machine_line(alloc: Global, input: &Input) -> Result<Vec<u8>, NoMemory>
-    ensures { IfOk result (λ text. text.items ≡ lines_of (plains_from (machine_plains (input_view input.now)))) }
-{
-    if input.builtin {
-        return Ok(Vec::new(alloc));
-    }
-    machine_table::print(alloc, &input.table)
-}
-
 /// The canonical text of an input: a line for each form.
 pub fn print(alloc: Global, input: &Input) -> Result<Vec<u8>, NoMemory>
     ensures { IfOk result (λ text. text.items ≡ input_text (input_view input.now)) }
 {
     let declared = input.ops.as_slice();
-    let mut text = machine_line(alloc, input)?;
+    let mut text = if input.builtin {
+        Vec::new(alloc)
+    } else {
+        machine_table::print(alloc, &input.table)?
+    };
     put_declarations(&mut text, declared)?;
     put_axioms(&mut text, input.axioms.as_slice(), declared)?;
     put_goals(&mut text, input.goals.as_slice(), declared)?;

@@ -50,16 +50,10 @@ fn target_name<'a>(form: &Sexp, text: &'a [u8], targets: &[Set]) -> Result<&'a [
     Ok(bytes)
 }
 
-fn is_memory(name: &[u8]) -> bool
-    ensures { result ≡ bytes_eq name.now (codes "M") }
-{
-    name == b"M".as_slice()
-}
-
 fn sort_wanted(name: &[u8]) -> Sort
     ensures { result ≡ sort_of_target name.now }
 {
-    if is_memory(name) {
+    if name == b"M".as_slice() {
         return Sort::Memory;
     }
     Sort::Word
@@ -78,14 +72,6 @@ pub fn is_pin(targets: &[Set], register: u8) -> bool
     false
 }
 
-fn is_taken(pool: &[u8], targets: &[Set], register: u8) -> bool
-    ensures { result ≡ has_register (pool.now ++ pins_of_targets targets.now) register }
-{
-    let in_pool = is_in_pool(pool, register);
-    let pinned = is_pin(targets, register);
-    in_pool || pinned
-}
-
 // The register to which the target of this name is pinned, which neither the pool nor an earlier target has.
 fn target_pin(
     form: &Sexp,
@@ -102,11 +88,11 @@ fn target_pin(
         (Some name.now)) (sexp_form text.now form.now)))) }
 {
     sexps_are_forms();
-    if is_memory(name) {
+    if name == b"M".as_slice() {
         return Err(at(place(form), Kind::BadForm));
     }
     let number = register_read(form, text)?;
-    if is_taken(pool, targets, number) {
+    if is_in_pool(pool, number) || is_pin(targets, number) {
         return Err(at(place(form), Kind::Twice));
     }
     Ok(number)

@@ -28,12 +28,6 @@ fn fits(wanted: Option<Sort>, sort: Sort) -> bool
     }
 }
 
-fn constant(alloc: Global, op: Op) -> Term<Op>
-    ensures { tree_of result ≡ tree.application op tree.none }
-{
-    Term::App(op, Vec::new(alloc))
-}
-
 // A term that is an atom.
 fn atom(
     alloc: Global,
@@ -53,7 +47,7 @@ fn atom(
         if !fits(wanted, Sort::Word) {
             return Err(at(place(form), Kind::WrongSort));
         }
-        return Ok(constant(alloc, Op::Constant(value)));
+        return Ok(Term::App(Op::Constant(value), Vec::new(alloc)));
     }
     let Some(bytes) = name(form, text) else {
         return Err(at(place(form), Kind::BadForm));
@@ -65,8 +59,8 @@ fn atom(
         return Err(at(place(form), Kind::WrongSort));
     }
     match named {
-        Named::Memory => Ok(constant(alloc, Op::Entry)),
-        Named::Input(register) => Ok(constant(alloc, Op::Input(register))),
+        Named::Memory => Ok(Term::App(Op::Entry, Vec::new(alloc))),
+        Named::Input(register) => Ok(Term::App(Op::Input(register), Vec::new(alloc))),
         Named::Variable(n) => Ok(Term::Var(n)),
         Named::Lacking => Err(at(place(form), Kind::BadAxiom)),
     }

@@ -30,16 +30,6 @@ fn is_variable(names: &[Name], name: &[u8]) -> bool
     false
 }
 
-fn is_used(name: &[u8], declared: &[DeclaredOp], names: &[Name]) -> bool
-    ensures { result
-        ≡ (goal_names.is_reserved name.now || is_among (names_of_declared declared.now ++ names.now) name.now) }
-{
-    let reserved = is_reserved(name);
-    let declared = is_declared(declared, name);
-    let variable = is_variable(names, name);
-    reserved || declared || variable
-}
-
 /// A name that no operator, no earlier variable and not the memory has.
 fn variable_name<'a>(
     form: &Sexp,
@@ -57,7 +47,7 @@ fn variable_name<'a>(
     let Some(bytes) = name(form, text) else {
         return Err(at(place(form), Kind::BadForm));
     };
-    if is_used(bytes, declared, names) {
+    if is_reserved(bytes) || is_declared(declared, bytes) || is_variable(names, bytes) {
         return Err(at(place(form), Kind::Twice));
     }
     Ok(bytes)
@@ -142,17 +132,6 @@ pub fn left_scope(
     Ok(Scope { declared, leaves })
 }
 
-/// What a variable means on the right side of an axiom.
-fn right_meaning(name: &[u8], number: u32, left: &Sexp, text: &[u8]) -> Named
-    requires of { IsSexpOf text.now left.now }
-    ensures { result ≡ meaning_right (sexp_form text.now left.now) name.now number }
-{
-    if mentions(left, text, name) {
-        return Named::Variable(number);
-    }
-    Named::Lacking
-}
-
 /// What names mean on the right side of an axiom: a variable that the left side lacks has a meaning of its own.
 pub fn right_scope(
     alloc: Global,
@@ -167,7 +146,11 @@ pub fn right_scope(
 {
     let mut leaves = Items::new(alloc);
     for index in 0..names.len() {
-        let named = right_meaning(names[index].bytes(), index as u32, left, text);
+        let named = if mentions(left, text, names[index].bytes()) {
+            Named::Variable(index as u32)
+        } else {
+            Named::Lacking
+        };
         let name = names[index].copy()?;
         leaves.push(Leaf { name, named })?;
     }

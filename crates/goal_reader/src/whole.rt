@@ -18,7 +18,7 @@ ghost use Rattle.goal_meaning.specs.Views.{GoalTree, goal_view};
 
 use crate::drafts::{Draft, item};
 use crate::inputs::is_given;
-use crate::keywords::{admitted_item, item_keyword};
+use crate::keywords::{ItemKeyword, admitted_item, item_keyword};
 use crate::order::Order;
 use crate::scopes::{Leaf, Named, Scope};
 use crate::targets::is_pin;
@@ -57,23 +57,13 @@ fn goal_name<'a>(form: &Sexp, text: &'a [u8], goals: &[Goal]) -> Result<&'a [u8]
     Ok(bytes)
 }
 
-fn is_set(form: &Sexp, text: &[u8]) -> bool
-    requires of { IsSexpOf text.now form.now }
-    ensures { result ≡ is_of_rank goal_keywords 4 (sexp_form text.now form.now) }
-{
-    match item_keyword(form, text) {
-        Some(keyword) => keyword.is_set(),
-        None => false,
-    }
-}
-
 // Whether some item is a `set`.
 fn has_target(items: &[Sexp], text: &[u8]) -> bool
     requires of { All (IsSexpOf text.now) items.now }
     ensures { result ≡ list_any (is_of_rank goal_keywords 4) (sexp_forms text.now items.now) }
 {
     for item in items {
-        if is_set(item, text) {
+        if let Some(ItemKeyword::Set) = item_keyword(item, text) {
             return true;
         }
     }
@@ -143,14 +133,6 @@ fn items(
     Ok((name, draft))
 }
 
-fn is_taken(inputs: &[InputReg], targets: &[Set], register: u8) -> bool
-    ensures { result ≡ has_register (input_registers inputs.now ++ pins_of_targets targets.now) register }
-{
-    let given = is_given(inputs, register);
-    let pinned = is_pin(targets, register);
-    given || pinned
-}
-
 /// Those of the registers that are neither an input's nor a pin.
 fn not_taken(
     alloc: Global,
@@ -163,18 +145,11 @@ fn not_taken(
 {
     let mut pool = Items::new(alloc);
     for register in among {
-        if !is_taken(inputs, targets, *register) {
+        if !is_given(inputs, *register) && !is_pin(targets, *register) {
             pool.push(*register)?;
         }
     }
     Ok(pool)
-}
-
-fn default_pool(alloc: Global, inputs: &[InputReg], targets: &[Set]) -> Result<Items<u8>, NoMemory>
-    ensures { IfOk result (λ pool. pool ≡ default_registers (input_registers inputs.now
-        ++ pins_of_targets targets.now)) }
-{
-    not_taken(alloc, inputs, targets, &FREE_REGISTERS)
 }
 
 /// The pool that was read, or else the default one.
@@ -188,7 +163,7 @@ pub fn pool_or_default(
 {
     match pool {
         Some(pool) => Ok(pool),
-        None => default_pool(alloc, inputs, targets),
+        None => not_taken(alloc, inputs, targets, &FREE_REGISTERS),
     }
 }
 

@@ -97,10 +97,10 @@ constant_is_word (op.Constant m) n e = refl
 constant_is_word op.Entry n e = cc
 constant_is_word (op.Input r) n e = refl
 constant_is_word (op.Word o) n e = refl
-constant_is_word op.Select n e = refl
-constant_is_word op.Store n e = cc
-constant_is_word op.Load n e = refl
-constant_is_word op.Put n e = cc
+constant_is_word (op.Select access) n e = refl
+constant_is_word (op.Store access) n e = cc
+constant_is_word (op.Load access) n e = refl
+constant_is_word (op.Put access) n e = cc
 constant_is_word (op.Declared i a) n e = refl
 
 module _ (g : LaunchGraph) (is : IsLaunchGraph g) where

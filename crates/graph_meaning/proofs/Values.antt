@@ -20,10 +20,10 @@ constant_means w name (Constant m) vs n e = ap word (same_Some m n e)
 constant_means w name Entry vs n e = cc
 constant_means w name (Input r) vs n e = cc
 constant_means w name (Word o) vs n e = cc
-constant_means w name Select vs n e = cc
-constant_means w name Store vs n e = cc
-constant_means w name Load vs n e = cc
-constant_means w name Put vs n e = cc
+constant_means w name (Select access) vs n e = cc
+constant_means w name (Store access) vs n e = cc
+constant_means w name (Load access) vs n e = cc
+constant_means w name (Put access) vs n e = cc
 constant_means w name (Declared i a) vs n e = cc
 
 module _ (g : LaunchGraph) (w : World) (value : ℕ → Value) (true_here : IsTrueUnder g w value) where

@@ -2,12 +2,19 @@
 //! formed, and when it is true in a world.
 //!
 //! A graph is a list of rows, each an operator over classes that is itself in a class. The layers above choose from it
-//! what to launch. `launch_graph` prints and reads one.
+//! what to launch. `launch_graph` prints and reads one. `Stop` says why the rounds of matching that made one ended.
+//!
+//! Proved: the look-ups are exact. In a well-formed graph a class has one sort and at most one constant, and its number
+//! is below the number of rows (`graphs_are_consistent`); where the graph is true, a class has the value of its
+//! constant and of its input, and one of its sort (`classes_have_values`); the registers of a proper graph are apart
+//! (`registers_are_apart`).
 #![tactic(auto)]
 
 mod graphs;
 mod laws;
 mod lookups;
+mod stops;
 
 pub use graphs::{Guard, InputClass, LaunchGraph, LaunchRow, SetClass};
 pub use laws::{classes_have_values, graphs_are_consistent, registers_are_apart};
+pub use stops::Stop;

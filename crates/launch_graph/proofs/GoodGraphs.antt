@@ -30,10 +30,10 @@ said_plain Entry p name e = (let h : Entry ≡ p = cc in h, refl)
 said_plain (Input r) p name e = (let h : Input r ≡ p = cc in h, refl)
 said_plain (Constant n) p name e = (let h : Constant n ≡ p = cc in h, refl)
 said_plain (Word v) p name e = (let h : Word v ≡ p = cc in h, refl)
-said_plain Select p name e = (let h : Select ≡ p = cc in h, refl)
-said_plain Store p name e = (let h : Store ≡ p = cc in h, refl)
-said_plain Load p name e = (let h : Load ≡ p = cc in h, refl)
-said_plain Put p name e = (let h : Put ≡ p = cc in h, refl)
+said_plain (Select access) p name e = (let h : Select access ≡ p = cc in h, refl)
+said_plain (Store access) p name e = (let h : Store access ≡ p = cc in h, refl)
+said_plain (Load access) p name e = (let h : Load access ≡ p = cc in h, refl)
+said_plain (Put access) p name e = (let h : Put access ≡ p = cc in h, refl)
 said_plain (Declared i a) p name e = cc
 
 pub record SaysUse (o : Op) (name other : List ℕ) : Type 0 where
@@ -47,10 +47,10 @@ said_use Entry name other e = cc
 said_use (Input r) name other e = cc
 said_use (Constant n) name other e = cc
 said_use (Word v) name other e = cc
-said_use Select name other e = cc
-said_use Store name other e = cc
-said_use Load name other e = cc
-said_use Put name other e = cc
+said_use (Select access) name other e = cc
+said_use (Store access) name other e = cc
+said_use (Load access) name other e = cc
+said_use (Put access) name other e = cc
 said_use (Declared i a) name other e = record { index = i; arity = a; is = refl; named = (let h : name ≡ other = cc in h) }
 
 pub said_unknown : (o : Op) (name word : List ℕ) → said_op o name ≡ Unknown word → ⊥
@@ -58,10 +58,10 @@ said_unknown Entry name word e = cc
 said_unknown (Input r) name word e = cc
 said_unknown (Constant n) name word e = cc
 said_unknown (Word v) name word e = cc
-said_unknown Select name word e = cc
-said_unknown Store name word e = cc
-said_unknown Load name word e = cc
-said_unknown Put name word e = cc
+said_unknown (Select access) name word e = cc
+said_unknown (Store access) name word e = cc
+said_unknown (Load access) name word e = cc
+said_unknown (Put access) name word e = cc
 said_unknown (Declared i a) name word e = cc
 
 pub said_given : (o : Op) (name : List ℕ) → sort_given (said_op o name) ≡ sort_of o
@@ -69,10 +69,10 @@ said_given Entry name = refl
 said_given (Input r) name = refl
 said_given (Constant n) name = refl
 said_given (Word v) name = refl
-said_given Select name = refl
-said_given Store name = refl
-said_given Load name = refl
-said_given Put name = refl
+said_given (Select access) name = refl
+said_given (Store access) name = refl
+said_given (Load access) name = refl
+said_given (Put access) name = refl
 said_given (Declared i a) name = refl
 
 pub said_taken : (o : Op) (name : List ℕ) (at : ℕ) → sort_taken (said_op o name) at ≡ operand_sort o at
@@ -80,10 +80,10 @@ said_taken Entry name at = refl
 said_taken (Input r) name at = refl
 said_taken (Constant n) name at = refl
 said_taken (Word v) name at = refl
-said_taken Select name at = refl
-said_taken Store name at = refl
-said_taken Load name at = refl
-said_taken Put name at = refl
+said_taken (Select access) name at = refl
+said_taken (Store access) name at = refl
+said_taken (Load access) name at = refl
+said_taken (Put access) name at = refl
 said_taken (Declared i a) name at = refl
 
 pub said_constant : (o : Op) (name : List ℕ) → line_constant (said_op o name) ≡ constant_in o
@@ -91,10 +91,10 @@ said_constant Entry name = refl
 said_constant (Input r) name = refl
 said_constant (Constant n) name = refl
 said_constant (Word v) name = refl
-said_constant Select name = refl
-said_constant Store name = refl
-said_constant Load name = refl
-said_constant Put name = refl
+said_constant (Select access) name = refl
+said_constant (Store access) name = refl
+said_constant (Load access) name = refl
+said_constant (Put access) name = refl
 said_constant (Declared i a) name = refl
 
 -- one operator is said so, or two declared ones of one name
@@ -110,10 +110,10 @@ same_said o Entry n m e = same_plain (said_plain o Entry n e).0
 same_said o (Input r) n m e = same_plain (said_plain o (Input r) n e).0
 same_said o (Constant k) n m e = same_plain (said_plain o (Constant k) n e).0
 same_said o (Word v) n m e = same_plain (said_plain o (Word v) n e).0
-same_said o Select n m e = same_plain (said_plain o Select n e).0
-same_said o Store n m e = same_plain (said_plain o Store n e).0
-same_said o Load n m e = same_plain (said_plain o Load n e).0
-same_said o Put n m e = same_plain (said_plain o Put n e).0
+same_said o (Select access) n m e = same_plain (said_plain o (Select access) n e).0
+same_said o (Store access) n m e = same_plain (said_plain o (Store access) n e).0
+same_said o (Load access) n m e = same_plain (said_plain o (Load access) n e).0
+same_said o (Put access) n m e = same_plain (said_plain o (Put access) n e).0
 
 -- ---- lists of what is said
 
@@ -330,10 +330,10 @@ module _ (g : LaunchGraph) (is : IsLaunchGraph g) where
         by_op (Input r) e = kept (ap declared_index e)
         by_op (Constant n) e = kept (ap declared_index e)
         by_op (Word v) e = kept (ap declared_index e)
-        by_op Select e = kept (ap declared_index e)
-        by_op Store e = kept (ap declared_index e)
-        by_op Load e = kept (ap declared_index e)
-        by_op Put e = kept (ap declared_index e)
+        by_op (Select access) e = kept (ap declared_index e)
+        by_op (Store access) e = kept (ap declared_index e)
+        by_op (Load access) e = kept (ap declared_index e)
+        by_op (Put access) e = kept (ap declared_index e)
 
   pub names_are : (k : ℕ) → k ≤ length g.rows → NamesAre g.rows k (names_upto g.rows k)
   names_are zero le =

@@ -1,5 +1,7 @@
 -- The operator of a row's line, read from its words.
-use Rattle.std.proofs.Common.{◌≡◌, ◌≢◌, ℕ, ◌<◌, List, [], ◌∷◌, ◌++◌, length, drop, get_or, refl, sym, ap, ◌∙◌, subst, arith, decimal, codes}
+use Rattle.std.proofs.Common.{◌≡◌, ◌≢◌, ℕ, ◌<◌, List, [], ◌∷◌, ◌++◌, length, drop, get_or, refl, sym, ap, ◌∙◌, subst, arith, decimal, codes, Bool, true, false, ◌&&◌, cond, Some, find, bytes_eq}
+use Rattle.std.proofs.lemmas.Option.{same_Some}
+use Rattle.std.proofs.lemmas.Slice.Eq.{bytes_eq-Decides}
 use Rattle.std.proofs.lemmas.Fmt.{decimal_injective}
 use Rattle.std.proofs.Math.Seq.{drop-cons}
 use Rattle.std.proofs.lemmas.List.{length-drop}
@@ -38,10 +40,10 @@ alone Entry op e = alone_by Entry op (plain_same op Entry e) refl tt
 alone (Input r) op e = cc
 alone (Constant n) op e = cc
 alone (Word w) op e = alone_by (Word w) op (plain_same op (Word w) e) refl tt
-alone Select op e = alone_by Select op (plain_same op Select e) refl tt
-alone Store op e = alone_by Store op (plain_same op Store e) refl tt
-alone Load op e = alone_by Load op (plain_same op Load e) refl tt
-alone Put op e = alone_by Put op (plain_same op Put e) refl tt
+alone (Select access) op e = alone_by (Select access) op (plain_same op (Select access) e) refl tt
+alone (Store access) op e = alone_by (Store access) op (plain_same op (Store access) e) refl tt
+alone (Load access) op e = alone_by (Load access) op (plain_same op (Load access) e) refl tt
+alone (Put access) op e = alone_by (Put access) op (plain_same op (Put access) e) refl tt
 alone (Declared i a) op e = cc
 
 first_same : (x y : List ℕ) (xs ys : Words) → x ∷ xs ≡ y ∷ ys → x ≡ y
@@ -78,6 +80,35 @@ plain_op row w d op few read head tells =
       only = λ other rest fine e. alone_only w (drop 2 row) op n.0 n.1 a tells other rest fine (sym next ∙ e);
     }
 
+abbrev stands_alone : Op → Bool
+stands_alone (Input r) = false
+stands_alone (Constant n) = false
+stands_alone (Declared i a) = false
+stands_alone o = true
+
+plain_head : (o : Op) → stands_alone o ≡ true → heads.Plain o ≡ head_of o
+plain_head (Input r) e = cc
+plain_head (Constant n) e = cc
+plain_head (Declared i a) e = cc
+plain_head _ e = refl
+
+-- each operator of a list stands alone
+abbrev all_alone : List Op → Bool
+all_alone [] = true
+all_alone (o ∷ others) = stands_alone o && all_alone others
+
+both : (a b : Bool) → a && b ≡ true → (a ≡ true) × (b ≡ true)
+both true b h = (refl, h)
+both false b h = cc
+
+pub found_alone : (word : List ℕ) (among : List Op) (op : Op) → all_alone among ≡ true → find (λ o. bytes_eq (op_word o) word) among ≡ Some op → IsHead word (heads.Plain op)
+found_alone word [] op are e = cc
+found_alone word (one ∷ rest) op are e = at (bytes_eq (op_word one) word) refl e (found_alone word rest op (both _ _ are).1)
+  where
+    at : (b : Bool) → bytes_eq (op_word one) word ≡ b → cond b (Some one) (find (λ o. bytes_eq (op_word o) word) rest) ≡ Some op → (find (λ o. bytes_eq (op_word o) word) rest ≡ Some op → IsHead word (heads.Plain op)) → IsHead word (heads.Plain op)
+    at true same e later = subst (λ o. IsHead word (heads.Plain o)) (same_Some one op e) (named one (sym ((bytes_eq-Decides (op_word one) word).0 same)) (plain_head one (both _ _ are).0))
+    at false other e later = later e
+
 -- ---- a word that no operator has
 
 unknown_not_head : (o : Op) → heads.Unknown ≡ head_of o → ⊥
@@ -85,10 +116,10 @@ unknown_not_head Entry e = cc
 unknown_not_head (Input r) e = cc
 unknown_not_head (Constant n) e = cc
 unknown_not_head (Word w) e = cc
-unknown_not_head Select e = cc
-unknown_not_head Store e = cc
-unknown_not_head Load e = cc
-unknown_not_head Put e = cc
+unknown_not_head (Select access) e = cc
+unknown_not_head (Store access) e = cc
+unknown_not_head (Load access) e = cc
+unknown_not_head (Put access) e = cc
 unknown_not_head (Declared i a) e = cc
 
 unknown_only : (w : List ℕ) (ws : Words) → ((o : Op) → w ≢ op_word o) → (other : LineOp) (rest : Words) → IsLineOp other → w ∷ ws ≡ line_op_words other ++ rest → (other ≡ Unknown w) × (rest ≡ ws)
@@ -122,10 +153,10 @@ keyword_of Entry a e = cc
 keyword_of (Input r) a e = ap argument_keyword (sym (takes_same a arguments.Register e))
 keyword_of (Constant n) a e = ap argument_keyword (sym (takes_same a arguments.Constant e))
 keyword_of (Word w) a e = cc
-keyword_of Select a e = cc
-keyword_of Store a e = cc
-keyword_of Load a e = cc
-keyword_of Put a e = cc
+keyword_of (Select access) a e = cc
+keyword_of (Store access) a e = cc
+keyword_of (Load access) a e = cc
+keyword_of (Put access) a e = cc
 keyword_of (Declared i b) a e = ap argument_keyword (sym (takes_same a arguments.Name e))
 
 pub takes_word : (w : List ℕ) (a : Argument) → IsHead w (heads.Takes a) → (o : Op) × (w ≡ op_word o) × (w ≡ argument_keyword a)
@@ -149,10 +180,10 @@ argued w ws a o is tells (Plain (Constant n)) rest fine e =
 argued w ws a o is tells (Plain (Declared i b)) rest fine e = absurd fine
 argued w ws a o is tells (Plain Entry) rest fine e = (let h = tells Entry (first_same w (op_word Entry) ws rest e) in cc)
 argued w ws a o is tells (Plain (Word v)) rest fine e = (let h = tells (Word v) (first_same w (op_word (Word v)) ws rest e) in cc)
-argued w ws a o is tells (Plain Select) rest fine e = (let h = tells Select (first_same w (op_word Select) ws rest e) in cc)
-argued w ws a o is tells (Plain Store) rest fine e = (let h = tells Store (first_same w (op_word Store) ws rest e) in cc)
-argued w ws a o is tells (Plain Load) rest fine e = (let h = tells Load (first_same w (op_word Load) ws rest e) in cc)
-argued w ws a o is tells (Plain Put) rest fine e = (let h = tells Put (first_same w (op_word Put) ws rest e) in cc)
+argued w ws a o is tells (Plain (Select access)) rest fine e = (let h = tells (Select access) (first_same w (op_word (Select access)) ws rest e) in cc)
+argued w ws a o is tells (Plain (Store access)) rest fine e = (let h = tells (Store access) (first_same w (op_word (Store access)) ws rest e) in cc)
+argued w ws a o is tells (Plain (Load access)) rest fine e = (let h = tells (Load access) (first_same w (op_word (Load access)) ws rest e) in cc)
+argued w ws a o is tells (Plain (Put access)) rest fine e = (let h = tells (Put access) (first_same w (op_word (Put access)) ws rest e) in cc)
 argued w ws a o is tells (Use n) rest fine e =
     argued_by a arguments.Name _ n ws rest (takes_same _ _ (tells (Declared 0 One) (first_same w (codes "use") ws (n ∷ rest) e))) (rest_same w (codes "use") ws (n ∷ rest) e) (name fine)
 argued w ws a o is tells (Unknown u) rest fine e = absurd (fine o (sym (first_same w u ws rest e) ∙ is))

@@ -6,7 +6,9 @@ use Rattle.std.proofs.lemmas.Option.{slice_get-get_or}
 use Rattle.word_ops.specs.Names.{name_of}
 use Rattle.word_ops.specs.Meanings.{constant_in}
 use Rattle.word_ops.specs.declared.operators.WordOp.{WordOp}
-use Rattle.word_ops.specs.declared.operators.WordOp.TheVariants as words
+use Rattle.word_ops.specs.declared.operates.Operate.TheVariants.{Addl}
+use Rattle.word_ops.specs.declared.operators.WordOp.TheVariants.{Operate}
+use Rattle.word_ops.specs.declared.sorts.Access.TheVariants.{Quad}
 use Rattle.word_ops.specs.declared.sorts.Op.{Op}
 use Rattle.word_ops.specs.declared.sorts.Op.TheVariants as op
 use Rattle.word_ops.specs.declared.sorts.Sort.{Sort}
@@ -28,67 +30,9 @@ use Rattle.graph_meaning.proofs.Classes.{class_below, rows_low}
 use Rattle.launch_graph.proofs.Printed.{map_count}
 
 pub operator_word : (op : WordOp) → IsLineWord (name_of op)
-operator_word words.Addl = record { some = λ e. cc; printed = refl }
-operator_word words.S4addl = record { some = λ e. cc; printed = refl }
-operator_word words.Subl = record { some = λ e. cc; printed = refl }
-operator_word words.S4subl = record { some = λ e. cc; printed = refl }
-operator_word words.Cmpbge = record { some = λ e. cc; printed = refl }
-operator_word words.S8addl = record { some = λ e. cc; printed = refl }
-operator_word words.S8subl = record { some = λ e. cc; printed = refl }
-operator_word words.Cmpult = record { some = λ e. cc; printed = refl }
-operator_word words.Addq = record { some = λ e. cc; printed = refl }
-operator_word words.S4addq = record { some = λ e. cc; printed = refl }
-operator_word words.Subq = record { some = λ e. cc; printed = refl }
-operator_word words.S4subq = record { some = λ e. cc; printed = refl }
-operator_word words.Cmpeq = record { some = λ e. cc; printed = refl }
-operator_word words.S8addq = record { some = λ e. cc; printed = refl }
-operator_word words.S8subq = record { some = λ e. cc; printed = refl }
-operator_word words.Cmpule = record { some = λ e. cc; printed = refl }
-operator_word words.Cmplt = record { some = λ e. cc; printed = refl }
-operator_word words.Cmple = record { some = λ e. cc; printed = refl }
-operator_word words.And = record { some = λ e. cc; printed = refl }
-operator_word words.Bic = record { some = λ e. cc; printed = refl }
-operator_word words.Bis = record { some = λ e. cc; printed = refl }
-operator_word words.Ornot = record { some = λ e. cc; printed = refl }
-operator_word words.Xor = record { some = λ e. cc; printed = refl }
-operator_word words.Eqv = record { some = λ e. cc; printed = refl }
-operator_word words.Mskbl = record { some = λ e. cc; printed = refl }
-operator_word words.Extbl = record { some = λ e. cc; printed = refl }
-operator_word words.Insbl = record { some = λ e. cc; printed = refl }
-operator_word words.Mskwl = record { some = λ e. cc; printed = refl }
-operator_word words.Extwl = record { some = λ e. cc; printed = refl }
-operator_word words.Inswl = record { some = λ e. cc; printed = refl }
-operator_word words.Mskll = record { some = λ e. cc; printed = refl }
-operator_word words.Extll = record { some = λ e. cc; printed = refl }
-operator_word words.Insll = record { some = λ e. cc; printed = refl }
-operator_word words.Zap = record { some = λ e. cc; printed = refl }
-operator_word words.Zapnot = record { some = λ e. cc; printed = refl }
-operator_word words.Mskql = record { some = λ e. cc; printed = refl }
-operator_word words.Srl = record { some = λ e. cc; printed = refl }
-operator_word words.Extql = record { some = λ e. cc; printed = refl }
-operator_word words.Sll = record { some = λ e. cc; printed = refl }
-operator_word words.Insql = record { some = λ e. cc; printed = refl }
-operator_word words.Sra = record { some = λ e. cc; printed = refl }
-operator_word words.Mskwh = record { some = λ e. cc; printed = refl }
-operator_word words.Inswh = record { some = λ e. cc; printed = refl }
-operator_word words.Extwh = record { some = λ e. cc; printed = refl }
-operator_word words.Msklh = record { some = λ e. cc; printed = refl }
-operator_word words.Inslh = record { some = λ e. cc; printed = refl }
-operator_word words.Extlh = record { some = λ e. cc; printed = refl }
-operator_word words.Mskqh = record { some = λ e. cc; printed = refl }
-operator_word words.Insqh = record { some = λ e. cc; printed = refl }
-operator_word words.Extqh = record { some = λ e. cc; printed = refl }
-operator_word words.Mull = record { some = λ e. cc; printed = refl }
-operator_word words.Mulq = record { some = λ e. cc; printed = refl }
-operator_word words.Umulh = record { some = λ e. cc; printed = refl }
-operator_word words.Sextb = record { some = λ e. cc; printed = refl }
-operator_word words.Sextw = record { some = λ e. cc; printed = refl }
-operator_word words.Neg = record { some = λ e. cc; printed = refl }
-operator_word words.Not = record { some = λ e. cc; printed = refl }
-operator_word words.Selectb = record { some = λ e. cc; printed = refl }
-operator_word words.Storeb = record { some = λ e. cc; printed = refl }
-operator_word words.Lda = record { some = λ e. cc; printed = refl }
-operator_word words.Ldah = record { some = λ e. cc; printed = refl }
+operator_word (Operate Addl) = record { some = λ e. cc; printed = refl }
+operator_word (Operate _) = record { some = λ e. cc; printed = refl }
+operator_word _ = record { some = λ e. cc; printed = refl }
 
 op_row : (o : Op) (name : List ℕ) → ((n : ℕ) → register_of_input o ≡ Some n → n < 31) → ((n : ℕ) → constant_in o ≡ Some n → n < 2 ^ 64)
     → (IsTrue (is_some (declared_index o)) → IsName name) → IsLineOp (said_op o name)
@@ -96,10 +40,10 @@ op_row op.Entry name low small named = tt
 op_row (op.Input r) name low small named = low r refl
 op_row (op.Constant n) name low small named = small n refl
 op_row (op.Word o) name low small named = tt
-op_row op.Select name low small named = tt
-op_row op.Store name low small named = tt
-op_row op.Load name low small named = tt
-op_row op.Put name low small named = tt
+op_row (op.Select access) name low small named = tt
+op_row (op.Store access) name low small named = tt
+op_row (op.Load access) name low small named = tt
+op_row (op.Put access) name low small named = tt
 op_row (op.Declared i a) name low small named = named refl
 
 -- in version 1 no set has a pin
@@ -218,10 +162,10 @@ module _ (g : LaunchGraph) (is : IsLaunchGraph g) where
     op_line (op.Input r) bytes h = two_words (codes "input") (decimal r) (record { some = λ e. cc; printed = refl }) (number r (omega arith))
     op_line (op.Constant n) bytes h = two_words (codes "const") (decimal n) (record { some = λ e. cc; printed = refl }) (number n h)
     op_line (op.Word o) bytes h = one_word (name_of o) (operator_word o)
-    op_line op.Select bytes h = one_word (codes "select") (record { some = λ e. cc; printed = refl })
-    op_line op.Store bytes h = one_word (codes "store") (record { some = λ e. cc; printed = refl })
-    op_line op.Load bytes h = one_word (codes "load") (record { some = λ e. cc; printed = refl })
-    op_line op.Put bytes h = one_word (codes "put") (record { some = λ e. cc; printed = refl })
+    op_line (op.Select Quad) bytes h = one_word (codes "select") (record { some = λ e. cc; printed = refl })
+    op_line (op.Store Quad) bytes h = one_word (codes "store") (record { some = λ e. cc; printed = refl })
+    op_line (op.Load Quad) bytes h = one_word (codes "load") (record { some = λ e. cc; printed = refl })
+    op_line (op.Put Quad) bytes h = one_word (codes "put") (record { some = λ e. cc; printed = refl })
     op_line (op.Declared i a) bytes h = two_words (codes "use") bytes (record { some = λ e. cc; printed = refl }) (name bytes h)
 
     row_line : (r : LaunchRow) → SaysRow r → CanBeLine (row_words (said_row r))

@@ -72,10 +72,10 @@ tells_said Entry name n e = ap (λ k. 0 == k) e
 tells_said (Input r) name n e = ap (λ k. 0 == k) e
 tells_said (Constant c) name n e = ap (λ k. 0 == k) e
 tells_said (Word v) name n e = ap (λ k. arity_of_op (Word v) == k) e ∙ number_itself (arity_of_op (Word v))
-tells_said Select name n e = ap (λ k. 2 == k) e
-tells_said Store name n e = ap (λ k. 3 == k) e
-tells_said Load name n e = ap (λ k. 3 == k) e
-tells_said Put name n e = ap (λ k. 4 == k) e
+tells_said (Select access) name n e = ap (λ k. 2 == k) e
+tells_said (Store access) name n e = ap (λ k. 3 == k) e
+tells_said (Load access) name n e = ap (λ k. 3 == k) e
+tells_said (Put access) name n e = ap (λ k. 4 == k) e
 tells_said (Declared i a) name n e = refl
 
 -- where each row tells a sort, a class that has a row has one
@@ -104,10 +104,10 @@ same_said_op Entry n m (inl e) = refl
 same_said_op (Input r) n m (inl e) = refl
 same_said_op (Constant c) n m (inl e) = refl
 same_said_op (Word v) n m (inl e) = refl
-same_said_op Select n m (inl e) = refl
-same_said_op Store n m (inl e) = refl
-same_said_op Load n m (inl e) = refl
-same_said_op Put n m (inl e) = refl
+same_said_op (Select access) n m (inl e) = refl
+same_said_op (Store access) n m (inl e) = refl
+same_said_op (Load access) n m (inl e) = refl
+same_said_op (Put access) n m (inl e) = refl
 same_said_op (Declared i a) n m (inl e) = cc
 
 index_or : (o : Op) → (declared_index o ≡ None) ⊎ ((k : ℕ) × (declared_index o ≡ Some k))
@@ -115,10 +115,10 @@ index_or Entry = inl refl
 index_or (Input r) = inl refl
 index_or (Constant c) = inl refl
 index_or (Word v) = inl refl
-index_or Select = inl refl
-index_or Store = inl refl
-index_or Load = inl refl
-index_or Put = inl refl
+index_or (Select access) = inl refl
+index_or (Store access) = inl refl
+index_or (Load access) = inl refl
+index_or (Put access) = inl refl
 index_or (Declared i a) = inr (i, refl)
 
 fits_word : (o : Op) (name : List ℕ) (m : ℕ) → IsLineOp (said_op o name) → constant_in o ≡ Some m → IsWord m
@@ -126,10 +126,10 @@ fits_word (Constant c) name m f e = subst IsWord (same_Some c m e) f
 fits_word Entry name m f e = absurd (none-some m e)
 fits_word (Input r) name m f e = absurd (none-some m e)
 fits_word (Word v) name m f e = absurd (none-some m e)
-fits_word Select name m f e = absurd (none-some m e)
-fits_word Store name m f e = absurd (none-some m e)
-fits_word Load name m f e = absurd (none-some m e)
-fits_word Put name m f e = absurd (none-some m e)
+fits_word (Select access) name m f e = absurd (none-some m e)
+fits_word (Store access) name m f e = absurd (none-some m e)
+fits_word (Load access) name m f e = absurd (none-some m e)
+fits_word (Put access) name m f e = absurd (none-some m e)
 fits_word (Declared i a) name m f e = absurd (none-some m e)
 
 fits_register : (o : Op) (name : List ℕ) (m : ℕ) → IsLineOp (said_op o name) → register_of_input o ≡ Some m → m < 31
@@ -137,10 +137,10 @@ fits_register (Input r) name m f e = subst (λ k. k < 31) (same_Some r m e) f
 fits_register Entry name m f e = absurd (none-some m e)
 fits_register (Constant c) name m f e = absurd (none-some m e)
 fits_register (Word v) name m f e = absurd (none-some m e)
-fits_register Select name m f e = absurd (none-some m e)
-fits_register Store name m f e = absurd (none-some m e)
-fits_register Load name m f e = absurd (none-some m e)
-fits_register Put name m f e = absurd (none-some m e)
+fits_register (Select access) name m f e = absurd (none-some m e)
+fits_register (Store access) name m f e = absurd (none-some m e)
+fits_register (Load access) name m f e = absurd (none-some m e)
+fits_register (Put access) name m f e = absurd (none-some m e)
 fits_register (Declared i a) name m f e = absurd (none-some m e)
 
 fits_name : (o : Op) (name : List ℕ) → IsLineOp (said_op o name) → IsTrue (is_some (declared_index o)) → IsName name
@@ -149,10 +149,10 @@ fits_name Entry name f h = absurd (false≢true h)
 fits_name (Input r) name f h = absurd (false≢true h)
 fits_name (Constant c) name f h = absurd (false≢true h)
 fits_name (Word v) name f h = absurd (false≢true h)
-fits_name Select name f h = absurd (false≢true h)
-fits_name Store name f h = absurd (false≢true h)
-fits_name Load name f h = absurd (false≢true h)
-fits_name Put name f h = absurd (false≢true h)
+fits_name (Select access) name f h = absurd (false≢true h)
+fits_name (Store access) name f h = absurd (false≢true h)
+fits_name (Load access) name f h = absurd (false≢true h)
+fits_name (Put access) name f h = absurd (false≢true h)
 
 module _ (g : LaunchGraph) (used : List UsedName) (keys : List RowKey) (h : AreNumbered (map said_row g.rows) used keys g.rows)
     (fit : All RowFits (map said_row g.rows))

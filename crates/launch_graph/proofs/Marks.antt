@@ -1,9 +1,10 @@
 -- Marks of classes, row by row.
 use Rattle.std.proofs.Common.{◌≡◌, ◌≢◌, ℕ, ◌+◌, ◌-◌, ◌<◌, ◌≤◌, ◌==◌, ◌&&◌, Bool, true, false, if◌then◌else◌, Option, Some, None, List, [], ◌∷◌, ◌++◌, length, take, drop, get_or, refl, sym, ap, ◌∙◌, subst, arith, inl, inr, set, not}
+use Rattle.std.specs.Prelude.{replicate}
 use Rattle.std.proofs.lemmas.Bool.{cases_eq}
 use Rattle.std.proofs.lemmas.List.Quantifiers.{Any-push}
 use Rattle.std.proofs.lemmas.Bool.Decides.{nat_tests}
-use Rattle.std.proofs.lemmas.List.{get_or-set_same, get_or-set_other, length-set, take_more, get_or-drop, length-drop, length_push, get_or_push, get_or_append_left}
+use Rattle.std.proofs.lemmas.List.{get_or-set_same, get_or-set_other, length-set, take_more, get_or-drop, length-drop, length_push, get_or_push, get_or_append_left, length-replicate, get_or-replicate}
 use Rattle.text_core.specs.Lines.{Line, line_at}
 use Rattle.word_ops.specs.declared.sorts.Sort.{Sort}
 use Rattle.launch_graph.specs.declared.row_lines.RowLine.{RowLine}
@@ -178,19 +179,12 @@ not_marked marks rows one count high h = record {
 none_has : (class : ℕ) → HasRowOfClass [] class → ⊥
 none_has class (k, r, less, at, is) = absurd (omega (arith, less))
 
-pub no_mark : AreMarks 0 [] []
-no_mark = record { size = refl; each = λ class less. absurd (omega arith) }
-
-pub one_absent : (marks : List Mark) (count : ℕ) → AreMarks count [] marks → AreMarks (count + 1) [] (marks ++ Absent ∷ [])
-one_absent marks count h =
-    let size = h.size in
-    record {
-      size = length_push marks Absent ∙ ap (λ n. n + 1) size;
-      each = λ class less. elim (cases_eq class count) [
-        | inl same ↦ subst (IsMark [] class) (sym (get_or_push marks Absent Absent class (sym (same ∙ sym size)))) (absent (none_has class) refl)
-        | inr apart ↦ subst (IsMark [] class) (sym (get_or_append_left marks (Absent ∷ []) Absent class (omega arith))) (h.each class (omega arith))
-      ];
-    }
+pub all_absent : (count : ℕ) (marks : List Mark) → marks ≡ replicate count Absent → AreMarks count [] marks
+all_absent count marks is =
+    subst (AreMarks count []) (sym is) (record {
+      size = length-replicate count Absent;
+      each = λ class less. subst (IsMark [] class) (sym (get_or-replicate count class Absent Absent less)) (absent (none_has class) refl);
+    })
 
 -- ---- lines
 

@@ -55,10 +55,10 @@ module _ (before : List RowLine) (used : List UsedName) (keys : List RowKey) (bu
   not_declared (Input r) f = refl
   not_declared (Constant c) f = refl
   not_declared (Word v) f = refl
-  not_declared Select f = refl
-  not_declared Store f = refl
-  not_declared Load f = refl
-  not_declared Put f = refl
+  not_declared (Select access) f = refl
+  not_declared (Store access) f = refl
+  not_declared (Load access) f = refl
+  not_declared (Put access) f = refl
   not_declared (Declared i a) f = absurd f
 
   pub plain_said : (p : Op) → IsLineOp (Plain p) → said_op p [] ≡ Plain p
@@ -66,10 +66,10 @@ module _ (before : List RowLine) (used : List UsedName) (keys : List RowKey) (bu
   plain_said (Input r) f = refl
   plain_said (Constant c) f = refl
   plain_said (Word v) f = refl
-  plain_said Select f = refl
-  plain_said Store f = refl
-  plain_said Load f = refl
-  plain_said Put f = refl
+  plain_said (Select access) f = refl
+  plain_said (Store access) f = refl
+  plain_said (Load access) f = refl
+  plain_said (Put access) f = refl
   plain_said (Declared i a) f = absurd f
 
   op_said : IsNumberedOp used more row.op (length row.operands) op → said_op op (line_op_name row.op) ≡ row.op

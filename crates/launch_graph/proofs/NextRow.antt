@@ -2,13 +2,11 @@
 use Rattle.std.proofs.Common.{◌≡◌, ◌≢◌, ℕ, zero, suc, ◌+◌, ◌-◌, ◌<◌, ◌≤◌, List, [], ◌∷◌, ◌++◌, length, get_or, sym, ap, subst, ◌∙◌, arith, inl, Some}
 use Rattle.std.specs.Prelude.{Contains, slice_get}
 use Rattle.std.proofs.lemmas.List.{length_push}
-use Rattle.std.proofs.lemmas.Option.{slice_get-get_or, same_Some, none-some, get_or_from_slice_get, slice_get_within}
+use Rattle.std.proofs.lemmas.Option.{slice_get-get_or, same_Some, get_or_from_slice_get, slice_get_within}
 use Rattle.word_ops.specs.Names.{name_of}
-use Rattle.word_ops.specs.Operators.{number_of}
 use Rattle.word_ops.specs.Meanings.{arity_of_op}
 use Rattle.word_ops.specs.declared.operators.WordOp.{WordOp}
 use Rattle.word_ops.specs.declared.sorts.Op.{Op}
-use Rattle.word_ops.specs.declared.sorts.Op.TheVariants.{Declared}
 use Rattle.text_core.specs.Lines.{Line, line_at, BeginsAt}
 use Rattle.text_core.specs.LineTexts.{Words}
 use Rattle.text_core.specs.declared.faults.Kind.TheVariants.{BadLine, BadRow, BadClass}
@@ -35,7 +33,7 @@ use Rattle.launch_graph.proofs.MadeGraphs.{same_said_op}
 use Rattle.launch_graph.proofs.MoreNumbered.{numbered_more, not_declared, plain_said}
 use Rattle.launch_graph.proofs.NumberedRows.{bad_of, good_of, counted, arity_then}
 use Rattle.launch_graph.proofs.Printed.{map_count}
-use Rattle.launch_graph.proofs.SameKeys.{same_kind, SameKind, one_op, one_number, same_four}
+use Rattle.launch_graph.proofs.SameKeys.{same_op, same_four}
 
 rows_not_over : (n : ℕ) → rows n ≢ over
 rows_not_over n e = cc
@@ -45,7 +43,7 @@ only_rows : {version : ℕ} (n : ℕ) (words : Words) (t : Stage) → 0 < n → 
 only_rows zero words t some never (entry class low is) = omega arith
 only_rows (suc n) words t some never (row r is) = never r is
 
-module _ {version : ℕ} (names : (o p : WordOp) → name_of o ≡ name_of p → o ≡ p) (numbers : (o p : WordOp) → number_of o ≡ number_of p → o ≡ p)
+module _ {version : ℕ} (names : (o p : WordOp) → name_of o ≡ name_of p → o ≡ p)
     (lines : List Line) (from : ℕ) (all before : List RowLine) (marks : List Mark) (at : ℕ) (so : RowsSoFar)
     (a : AreRowsTo version lines from all before marks at so) (more : length before < length marks) (lt : at < length lines)
     (place : ℕ) (placed : BeginsAt lines at place) where
@@ -87,40 +85,21 @@ module _ {version : ℕ} (names : (o p : WordOp) → name_of o ≡ name_of p →
                 ∙ ap said_row (get_or_from_slice_get so.rows k r any_launch there),
           )
 
-      -- an earlier row of the same kind is of the same operator, and says so
-      op_by : (k : ℕ) (r : LaunchRow) → slice_get so.rows k ≡ Some r → SameKind numbers r.op op → IsNumberedOp so.used used one.op (length one.operands) op
-          → (r.op ≡ op) × (said_op r.op r.name ≡ one.op)
-      op_by k r there (one_op e) (plain f c m) = (
-        e,
-        ap (λ o. said_op o r.name) e
-            ∙ same_said_op op r.name [] (inl (not_declared before so.used so.index so.rows a.numbered one is.op used op n op (subst IsLineOp f is.op)))
-            ∙ plain_said before so.used so.index so.rows a.numbered one is.op used op n op (subst IsLineOp f is.op) ∙ sym f,
-      )
-      op_by k r there (one_number i x y e f) (plain g c m) =
-          absurd (none-some i (sym (not_declared before so.used so.index so.rows a.numbered one is.op used op n op (subst IsLineOp g is.op)) ∙ ap declared_index f))
-      op_by k r there (one_op e) (again {name = name} {at = slot} {one = u} f low in_used named c o m) =
+      -- an earlier row of the same operator says so
+      op_by : (k : ℕ) (r : LaunchRow) → slice_get so.rows k ≡ Some r → r.op ≡ op → IsNumberedOp so.used used one.op (length one.operands) op
+          → said_op r.op r.name ≡ one.op
+      op_by k r there e (plain f c m) =
+          ap (λ o. said_op o r.name) e
+          ∙ same_said_op op r.name [] (inl (not_declared before so.used so.index so.rows a.numbered one is.op used op n op (subst IsLineOp f is.op)))
+          ∙ plain_said before so.used so.index so.rows a.numbered one is.op used op n op (subst IsLineOp f is.op) ∙ sym f
+      op_by k r there e (again {name = name} {at = slot} {one = u} f low in_used named c o m) =
           let d = a.numbered.declared_are k slot r there (ap declared_index (e ∙ o)) in
           let same : d.one ≡ u = same_Some d.one u (sym d.there ∙ in_used) in
-          (e, ap (λ p. said_op p r.name) (e ∙ o) ∙ ap Use (d.name_is ∙ ap (λ (v : UsedName). v.name) same ∙ named) ∙ sym f)
-      op_by k r there (one_number i x y e g) (again {name = name} {at = slot} {one = u} f low in_used named c o m) =
-          let number : i ≡ slot = same_Some i slot (sym (ap declared_index g) ∙ ap declared_index o) in
-          let d = a.numbered.declared_are k i r there (ap declared_index e) in
-          let same : d.one ≡ u = same_Some d.one u (sym d.there ∙ ap (slice_get so.used) number ∙ in_used) in (
-            d.op_is ∙ ap (λ j. Declared j d.one.arity) number ∙ ap (λ (v : UsedName). Declared slot v.arity) same ∙ sym o,
-            ap (λ p. said_op p r.name) d.op_is ∙ ap Use (d.name_is ∙ ap (λ (v : UsedName). v.name) same ∙ named) ∙ sym f,
-          )
-      op_by k r there (one_op e) (anew f unused few named c o m) =
+          ap (λ p. said_op p r.name) (e ∙ o) ∙ ap Use (d.name_is ∙ ap (λ (v : UsedName). v.name) same ∙ named) ∙ sym f
+      op_by k r there e (anew f unused few named c o m) =
           let d = a.numbered.declared_are k (length so.used) r there (ap declared_index (e ∙ o)) in
           let low : length so.used < length so.used = slice_get_within so.used (length so.used) d.one d.there in
           absurd (omega arith)
-      op_by k r there (one_number i x y e g) (anew f unused few named c o m) =
-          let number : i ≡ length so.used = same_Some i (length so.used) (sym (ap declared_index g) ∙ ap declared_index o) in
-          let d = a.numbered.declared_are k i r there (ap declared_index e) in
-          let low : i < length so.used = slice_get_within so.used i d.one d.there in
-          absurd (omega arith)
-
-      arity_four : (p : Op) → arity_of_op p ≤ 4 → arity_of_op p ≤ 4
-      arity_four p h = h
 
       repeated_by : Contains so.index (row_key op one.operands) → length one.operands ≤ 4 → IsBadRow before one
       repeated_by has few =
@@ -132,11 +111,11 @@ module _ {version : ℕ} (names : (o p : WordOp) → name_of o ≡ name_of p →
           let same : row_key r.op r.operands ≡ key =
           sym (map_get (λ (x : LaunchRow). row_key x.op x.operands) has.0 so.rows key any_launch (omega arith))
           ∙ ap (λ ks. get_or ks has.0 key) (sym a.numbered.keys_are) ∙ has.2 in
-          let both = op_by has.0 r there (same_kind numbers r.op op (ap (λ (k : RowKey). k.kind) same) (ap (λ (k : RowKey). k.number) same)) n in
+          let one_op : r.op ≡ op = same_op r.op op (ap (λ (k : RowKey). k.kind) same) (ap (λ (k : RowKey). k.number) same) in
           let counts : length r.operands ≡ length one.operands =
-          a.numbered.arities has.0 any_launch (omega arith) ∙ ap arity_of_op both.0
+          a.numbered.arities has.0 any_launch (omega arith) ∙ ap arity_of_op one_op
           ∙ sym (arity_then before so.used so.index so.rows a.numbered used one.op op (length one.operands) n) in
-          repeated (contains_said has.0 r there) both.1
+          repeated (contains_said has.0 r there) (op_by has.0 r there one_op n)
           (same_four r.operands one.operands counts (omega arith) (ap (λ (k : RowKey). k.first) same) (ap (λ (k : RowKey). k.second) same)
           (ap (λ (k : RowKey). k.third) same) (ap (λ (k : RowKey). k.fourth) same))
 

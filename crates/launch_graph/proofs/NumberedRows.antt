@@ -96,10 +96,10 @@ module _ (before : List RowLine) (used : List UsedName) (keys : List RowKey) (bu
       by_op (Input q) is = absurd (let f : Plain (Input q) ≡ Use name = ap (λ o. said_op o r.name) (sym is) ∙ e in cc)
       by_op (Constant q) is = absurd (let f : Plain (Constant q) ≡ Use name = ap (λ o. said_op o r.name) (sym is) ∙ e in cc)
       by_op (Word q) is = absurd (let f : Plain (Word q) ≡ Use name = ap (λ o. said_op o r.name) (sym is) ∙ e in cc)
-      by_op Select is = absurd (let f : Plain Select ≡ Use name = ap (λ o. said_op o r.name) (sym is) ∙ e in cc)
-      by_op Store is = absurd (let f : Plain Store ≡ Use name = ap (λ o. said_op o r.name) (sym is) ∙ e in cc)
-      by_op Load is = absurd (let f : Plain Load ≡ Use name = ap (λ o. said_op o r.name) (sym is) ∙ e in cc)
-      by_op Put is = absurd (let f : Plain Put ≡ Use name = ap (λ o. said_op o r.name) (sym is) ∙ e in cc)
+      by_op (Select access) is = absurd (let f : Plain (Select access) ≡ Use name = ap (λ o. said_op o r.name) (sym is) ∙ e in cc)
+      by_op (Store access) is = absurd (let f : Plain (Store access) ≡ Use name = ap (λ o. said_op o r.name) (sym is) ∙ e in cc)
+      by_op (Load access) is = absurd (let f : Plain (Load access) ≡ Use name = ap (λ o. said_op o r.name) (sym is) ∙ e in cc)
+      by_op (Put access) is = absurd (let f : Plain (Put access) ≡ Use name = ap (λ o. said_op o r.name) (sym is) ∙ e in cc)
 
   -- a row that has no number is bad
   pub bad_of : (row : RowLine) → HasNoNumber used row.op (length row.operands) → IsBadRow before row
@@ -171,10 +171,10 @@ module _ (before : List RowLine) (used : List UsedName) (keys : List RowKey) (bu
       plain_of (Input q) e = cc
       plain_of (Constant q) e = cc
       plain_of (Word q) e = cc
-      plain_of Select e = cc
-      plain_of Store e = cc
-      plain_of Load e = cc
-      plain_of Put e = cc
+      plain_of (Select access) e = cc
+      plain_of (Store access) e = cc
+      plain_of (Load access) e = cc
+      plain_of (Put access) e = cc
   same_op more line op count (again {name = name} {at = at} {one = one} e lt there named c o m) k r at_k said =
       let u = use_built r k name at_k (said ∙ e) in
       let number : u.0 ≡ at = h.distinct u.0 at u.1 one u.2 there (u.3 ∙ sym named) in

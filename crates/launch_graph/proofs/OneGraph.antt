@@ -163,10 +163,10 @@ declared_or Entry = inl refl
 declared_or (Input r) = inl refl
 declared_or (Constant n) = inl refl
 declared_or (Word v) = inl refl
-declared_or Select = inl refl
-declared_or Store = inl refl
-declared_or Load = inl refl
-declared_or Put = inl refl
+declared_or (Select access) = inl refl
+declared_or (Store access) = inl refl
+declared_or (Load access) = inl refl
+declared_or (Put access) = inl refl
 declared_or (Declared i a) = inr (i, a, refl)
 
 same_lists : {X : Type 0} (xs ys : List X) (d : X) → length xs ≡ length ys → ((k : ℕ) → k < length xs → get_or xs k d ≡ get_or ys k d) → xs ≡ ys

@@ -1,11 +1,14 @@
 -- The words of a line are one row.
-use Rattle.std.proofs.Common.{◌≡◌, ℕ, ◌<◌, ◌^◌, List, [], ◌∷◌, ◌++◌, map, refl, sym, ap, ◌∙◌, arith, decimal, codes}
-use Rattle.std.specs.Prelude.{bytes_eq, if◌then◌else◌, All}
+use Rattle.std.proofs.Common.{◌≡◌, ℕ, ◌<◌, ◌^◌, List, [], ◌∷◌, ◌++◌, map, refl, sym, ap, ◌∙◌, arith, decimal, codes, find}
+use Rattle.std.specs.Prelude.{bytes_eq, All}
+use Rattle.std.specs.Option.{unwrap_or}
 use Rattle.std.proofs.lemmas.List.Elements.{All-head, All-tail}
 use Rattle.std.proofs.lemmas.Fmt.{decimal_injective}
 use Rattle.word_ops.specs.Names.{name_of}
 use Rattle.word_ops.specs.declared.operators.WordOp.{WordOp}
-use Rattle.word_ops.specs.declared.operators.WordOp.TheVariants as words
+use Rattle.word_ops.specs.declared.operates.Operate.TheVariants.{Addl}
+use Rattle.word_ops.specs.declared.operators.WordOp.TheVariants.{Operate, Neg}
+use Rattle.word_ops.specs.declared.sorts.Access.TheVariants.{Quad}
 use Rattle.word_ops.specs.declared.sorts.Arity.TheVariants.{One}
 use Rattle.word_ops.specs.declared.sorts.Op.{Op}
 use Rattle.word_ops.specs.declared.sorts.Op.TheVariants.{Entry, Input, Constant, Word, Select, Store, Load, Put, Declared}
@@ -36,106 +39,35 @@ same_row : (a b : RowLine) → a.class ≡ b.class → a.op ≡ b.op → a.opera
 unfolding row_of
 same_row a b e f g = ap (λ x. row_of x a.op a.operands) e ∙ ap (λ (x : LineOp). row_of b.class x a.operands) f ∙ ap (λ (x : List ℕ). row_of b.class b.op x) g
 
--- a number for each word of an operator that isn't on words alone
-abbrev word_mark : List ℕ → ℕ
-word_mark w =
-    if bytes_eq w (codes "memory") then 1
-    else if bytes_eq w (codes "input") then 2
-    else if bytes_eq w (codes "const") then 3
-    else if bytes_eq w (codes "select") then 4
-    else if bytes_eq w (codes "store") then 5
-    else if bytes_eq w (codes "load") then 6
-    else if bytes_eq w (codes "put") then 7
-    else if bytes_eq w (codes "use") then 8
-    else 0
+-- the operator without its argument, and one operator on words for each other
+abbrev bare : Op → Op
+bare (Input r) = Input 0
+bare (Constant n) = Constant 0
+bare (Word v) = Word Neg
+bare (Declared i a) = Declared 0 One
+bare o = o
 
-abbrev op_mark : Op → ℕ
-op_mark Entry = 1
-op_mark (Input r) = 2
-op_mark (Constant n) = 3
-op_mark (Word v) = 0
-op_mark Select = 4
-op_mark Store = 5
-op_mark Load = 6
-op_mark Put = 7
-op_mark (Declared i a) = 8
+-- an operator for each word that isn't the name of an operator on words
+listed : List Op
+listed =
+    Entry ∷ Input 0 ∷ Constant 0 ∷ Select Quad ∷ Store Quad ∷ Load Quad ∷ Put Quad ∷ Declared 0 One ∷ []
 
-name_mark : (op : WordOp) → word_mark (name_of op) ≡ 0
-name_mark words.Addl = refl
-name_mark words.S4addl = refl
-name_mark words.Subl = refl
-name_mark words.S4subl = refl
-name_mark words.Cmpbge = refl
-name_mark words.S8addl = refl
-name_mark words.S8subl = refl
-name_mark words.Cmpult = refl
-name_mark words.Addq = refl
-name_mark words.S4addq = refl
-name_mark words.Subq = refl
-name_mark words.S4subq = refl
-name_mark words.Cmpeq = refl
-name_mark words.S8addq = refl
-name_mark words.S8subq = refl
-name_mark words.Cmpule = refl
-name_mark words.Cmplt = refl
-name_mark words.Cmple = refl
-name_mark words.And = refl
-name_mark words.Bic = refl
-name_mark words.Bis = refl
-name_mark words.Ornot = refl
-name_mark words.Xor = refl
-name_mark words.Eqv = refl
-name_mark words.Mskbl = refl
-name_mark words.Extbl = refl
-name_mark words.Insbl = refl
-name_mark words.Mskwl = refl
-name_mark words.Extwl = refl
-name_mark words.Inswl = refl
-name_mark words.Mskll = refl
-name_mark words.Extll = refl
-name_mark words.Insll = refl
-name_mark words.Zap = refl
-name_mark words.Zapnot = refl
-name_mark words.Mskql = refl
-name_mark words.Srl = refl
-name_mark words.Extql = refl
-name_mark words.Sll = refl
-name_mark words.Insql = refl
-name_mark words.Sra = refl
-name_mark words.Mskwh = refl
-name_mark words.Inswh = refl
-name_mark words.Extwh = refl
-name_mark words.Msklh = refl
-name_mark words.Inslh = refl
-name_mark words.Extlh = refl
-name_mark words.Mskqh = refl
-name_mark words.Insqh = refl
-name_mark words.Extqh = refl
-name_mark words.Mull = refl
-name_mark words.Mulq = refl
-name_mark words.Umulh = refl
-name_mark words.Sextb = refl
-name_mark words.Sextw = refl
-name_mark words.Neg = refl
-name_mark words.Not = refl
-name_mark words.Selectb = refl
-name_mark words.Storeb = refl
-name_mark words.Lda = refl
-name_mark words.Ldah = refl
+named : List ℕ → Op
+named word = unwrap_or (find (λ o. bytes_eq (op_word o) word) listed) (Word Neg)
 
-mark_is : (op : Op) → word_mark (op_word op) ≡ op_mark op
-mark_is Entry = refl
-mark_is (Input r) = refl
-mark_is (Constant n) = refl
-mark_is (Word v) = name_mark v
-mark_is Select = refl
-mark_is Store = refl
-mark_is Load = refl
-mark_is Put = refl
-mark_is (Declared i a) = refl
+named_back : (o : Op) → named (op_word o) ≡ bare o
+unfolding listed named
+named_back (Word (Operate Addl)) = refl
+named_back (Word (Operate _)) = refl
+named_back (Word _) = refl
+named_back (Select Quad) = refl
+named_back (Store Quad) = refl
+named_back (Load Quad) = refl
+named_back (Put Quad) = refl
+named_back _ = refl
 
-same_mark : (o p : Op) → op_word o ≡ op_word p → op_mark o ≡ op_mark p
-same_mark o p e = sym (mark_is o) ∙ ap word_mark e ∙ mark_is p
+same_bare : (o p : Op) → op_word o ≡ op_word p → bare o ≡ bare p
+same_bare o p e = sym (named_back o) ∙ ap named e ∙ named_back p
 
 first_same : (x y : List ℕ) (xs ys : Words) → x ∷ xs ≡ y ∷ ys → x ≡ y
 first_same x y xs ys e = cc
@@ -144,114 +76,37 @@ rest_same : (x y : List ℕ) (xs ys : Words) → x ∷ xs ≡ y ∷ ys → xs �
 rest_same x y xs ys e = cc
 
 module _ (names : (o p : WordOp) → name_of o ≡ name_of p → o ≡ p) where
-  same_plain : (o p : Op) (xs ys : Words) → IsLineOp (Plain o) → IsLineOp (Plain p) → op_mark o ≡ op_mark p
+  same_plain : (o p : Op) (xs ys : Words) → IsLineOp (Plain o) → IsLineOp (Plain p) → bare o ≡ bare p
       → op_word o ∷ (argument_words o ++ xs) ≡ op_word p ∷ (argument_words p ++ ys) → (Plain o ≡ Plain p) × (xs ≡ ys)
-  same_plain Entry Entry xs ys f g m e = (refl, rest_same (op_word Entry) (op_word Entry) xs ys e)
-  same_plain Entry (Input q) xs ys f g m e = absurd (omega (arith, m))
-  same_plain Entry (Constant m') xs ys f g m e = absurd (omega (arith, m))
-  same_plain Entry (Word u) xs ys f g m e = absurd (omega (arith, m))
-  same_plain Entry Select xs ys f g m e = absurd (omega (arith, m))
-  same_plain Entry Store xs ys f g m e = absurd (omega (arith, m))
-  same_plain Entry Load xs ys f g m e = absurd (omega (arith, m))
-  same_plain Entry Put xs ys f g m e = absurd (omega (arith, m))
-  same_plain Entry (Declared j b) xs ys f g m e = absurd g
-  same_plain (Input r) Entry xs ys f g m e = absurd (omega (arith, m))
-  same_plain (Input r) (Input q) xs ys f g m e =
+  same_plain (Declared i a) p xs ys f g b e = absurd f
+  same_plain o (Declared j b) xs ys f g b' e = absurd g
+  same_plain (Input r) (Input q) xs ys f g b e =
       let behind = rest_same (codes "input") (codes "input") (decimal r ∷ xs) (decimal q ∷ ys) e in
       (ap (λ k. Plain (Input k)) (decimal_injective r q (omega arith) (omega arith) (first_same (decimal r) (decimal q) xs ys behind)), rest_same (decimal r) (decimal q) xs ys behind)
-  same_plain (Input r) (Constant m') xs ys f g m e = absurd (omega (arith, m))
-  same_plain (Input r) (Word u) xs ys f g m e = absurd (omega (arith, m))
-  same_plain (Input r) Select xs ys f g m e = absurd (omega (arith, m))
-  same_plain (Input r) Store xs ys f g m e = absurd (omega (arith, m))
-  same_plain (Input r) Load xs ys f g m e = absurd (omega (arith, m))
-  same_plain (Input r) Put xs ys f g m e = absurd (omega (arith, m))
-  same_plain (Input r) (Declared j b) xs ys f g m e = absurd g
-  same_plain (Constant n) Entry xs ys f g m e = absurd (omega (arith, m))
-  same_plain (Constant n) (Input q) xs ys f g m e = absurd (omega (arith, m))
-  same_plain (Constant n) (Constant m') xs ys f g m e =
-      let behind = rest_same (codes "const") (codes "const") (decimal n ∷ xs) (decimal m' ∷ ys) e in
-      (ap (λ k. Plain (Constant k)) (decimal_injective n m' f g (first_same (decimal n) (decimal m') xs ys behind)), rest_same (decimal n) (decimal m') xs ys behind)
-  same_plain (Constant n) (Word u) xs ys f g m e = absurd (omega (arith, m))
-  same_plain (Constant n) Select xs ys f g m e = absurd (omega (arith, m))
-  same_plain (Constant n) Store xs ys f g m e = absurd (omega (arith, m))
-  same_plain (Constant n) Load xs ys f g m e = absurd (omega (arith, m))
-  same_plain (Constant n) Put xs ys f g m e = absurd (omega (arith, m))
-  same_plain (Constant n) (Declared j b) xs ys f g m e = absurd g
-  same_plain (Word v) Entry xs ys f g m e = absurd (omega (arith, m))
-  same_plain (Word v) (Input q) xs ys f g m e = absurd (omega (arith, m))
-  same_plain (Word v) (Constant m') xs ys f g m e = absurd (omega (arith, m))
-  same_plain (Word v) (Word u) xs ys f g m e =
+  same_plain (Constant n) (Constant m) xs ys f g b e =
+      let behind = rest_same (codes "const") (codes "const") (decimal n ∷ xs) (decimal m ∷ ys) e in
+      (ap (λ k. Plain (Constant k)) (decimal_injective n m f g (first_same (decimal n) (decimal m) xs ys behind)), rest_same (decimal n) (decimal m) xs ys behind)
+  same_plain (Word v) (Word u) xs ys f g b e =
       (ap (λ k. Plain (Word k)) (names v u (first_same (name_of v) (name_of u) xs ys e)), rest_same (name_of v) (name_of u) xs ys e)
-  same_plain (Word v) Select xs ys f g m e = absurd (omega (arith, m))
-  same_plain (Word v) Store xs ys f g m e = absurd (omega (arith, m))
-  same_plain (Word v) Load xs ys f g m e = absurd (omega (arith, m))
-  same_plain (Word v) Put xs ys f g m e = absurd (omega (arith, m))
-  same_plain (Word v) (Declared j b) xs ys f g m e = absurd g
-  same_plain Select Entry xs ys f g m e = absurd (omega (arith, m))
-  same_plain Select (Input q) xs ys f g m e = absurd (omega (arith, m))
-  same_plain Select (Constant m') xs ys f g m e = absurd (omega (arith, m))
-  same_plain Select (Word u) xs ys f g m e = absurd (omega (arith, m))
-  same_plain Select Select xs ys f g m e = (refl, rest_same (op_word Select) (op_word Select) xs ys e)
-  same_plain Select Store xs ys f g m e = absurd (omega (arith, m))
-  same_plain Select Load xs ys f g m e = absurd (omega (arith, m))
-  same_plain Select Put xs ys f g m e = absurd (omega (arith, m))
-  same_plain Select (Declared j b) xs ys f g m e = absurd g
-  same_plain Store Entry xs ys f g m e = absurd (omega (arith, m))
-  same_plain Store (Input q) xs ys f g m e = absurd (omega (arith, m))
-  same_plain Store (Constant m') xs ys f g m e = absurd (omega (arith, m))
-  same_plain Store (Word u) xs ys f g m e = absurd (omega (arith, m))
-  same_plain Store Select xs ys f g m e = absurd (omega (arith, m))
-  same_plain Store Store xs ys f g m e = (refl, rest_same (op_word Store) (op_word Store) xs ys e)
-  same_plain Store Load xs ys f g m e = absurd (omega (arith, m))
-  same_plain Store Put xs ys f g m e = absurd (omega (arith, m))
-  same_plain Store (Declared j b) xs ys f g m e = absurd g
-  same_plain Load Entry xs ys f g m e = absurd (omega (arith, m))
-  same_plain Load (Input q) xs ys f g m e = absurd (omega (arith, m))
-  same_plain Load (Constant m') xs ys f g m e = absurd (omega (arith, m))
-  same_plain Load (Word u) xs ys f g m e = absurd (omega (arith, m))
-  same_plain Load Select xs ys f g m e = absurd (omega (arith, m))
-  same_plain Load Store xs ys f g m e = absurd (omega (arith, m))
-  same_plain Load Load xs ys f g m e = (refl, rest_same (op_word Load) (op_word Load) xs ys e)
-  same_plain Load Put xs ys f g m e = absurd (omega (arith, m))
-  same_plain Load (Declared j b) xs ys f g m e = absurd g
-  same_plain Put Entry xs ys f g m e = absurd (omega (arith, m))
-  same_plain Put (Input q) xs ys f g m e = absurd (omega (arith, m))
-  same_plain Put (Constant m') xs ys f g m e = absurd (omega (arith, m))
-  same_plain Put (Word u) xs ys f g m e = absurd (omega (arith, m))
-  same_plain Put Select xs ys f g m e = absurd (omega (arith, m))
-  same_plain Put Store xs ys f g m e = absurd (omega (arith, m))
-  same_plain Put Load xs ys f g m e = absurd (omega (arith, m))
-  same_plain Put Put xs ys f g m e = (refl, rest_same (op_word Put) (op_word Put) xs ys e)
-  same_plain Put (Declared j b) xs ys f g m e = absurd g
-  same_plain (Declared i a) Entry xs ys f g m e = absurd f
-  same_plain (Declared i a) (Input q) xs ys f g m e = absurd f
-  same_plain (Declared i a) (Constant m') xs ys f g m e = absurd f
-  same_plain (Declared i a) (Word u) xs ys f g m e = absurd f
-  same_plain (Declared i a) Select xs ys f g m e = absurd f
-  same_plain (Declared i a) Store xs ys f g m e = absurd f
-  same_plain (Declared i a) Load xs ys f g m e = absurd f
-  same_plain (Declared i a) Put xs ys f g m e = absurd f
-  same_plain (Declared i a) (Declared j b) xs ys f g m e = absurd f
+  same_plain Entry Entry xs ys f g b e = (refl, rest_same (op_word Entry) (op_word Entry) xs ys e)
+  same_plain (Select a) (Select c) xs ys f g b e = (ap Plain b, rest_same (op_word (Select a)) (op_word (Select c)) xs ys e)
+  same_plain (Store a) (Store c) xs ys f g b e = (ap Plain b, rest_same (op_word (Store a)) (op_word (Store c)) xs ys e)
+  same_plain (Load a) (Load c) xs ys f g b e = (ap Plain b, rest_same (op_word (Load a)) (op_word (Load c)) xs ys e)
+  same_plain (Put a) (Put c) xs ys f g b e = (ap Plain b, rest_same (op_word (Put a)) (op_word (Put c)) xs ys e)
+  same_plain _ _ xs ys f g b e = cc
 
-  use_apart : (o : Op) (name : List ℕ) (xs ys : Words) → IsLineOp (Plain o) → op_mark o ≡ 8 → ⊥
-  use_apart Entry name xs ys f m = omega (arith, m)
-  use_apart (Input r) name xs ys f m = omega (arith, m)
-  use_apart (Constant n) name xs ys f m = omega (arith, m)
-  use_apart (Word v) name xs ys f m = omega (arith, m)
-  use_apart Select name xs ys f m = omega (arith, m)
-  use_apart Store name xs ys f m = omega (arith, m)
-  use_apart Load name xs ys f m = omega (arith, m)
-  use_apart Put name xs ys f m = omega (arith, m)
-  use_apart (Declared i a) name xs ys f m = f
+  use_apart : (o : Op) → IsLineOp (Plain o) → bare o ≡ Declared 0 One → ⊥
+  use_apart (Declared i a) f b = f
+  use_apart _ f b = cc
 
   pub same_ops : (a b : LineOp) (xs ys : Words) → IsLineOp a → IsLineOp b → line_op_words a ++ xs ≡ line_op_words b ++ ys → (a ≡ b) × (xs ≡ ys)
   same_ops (Plain o) (Plain p) xs ys f g e =
-      same_plain o p xs ys f g (same_mark o p (first_same (op_word o) (op_word p) (argument_words o ++ xs) (argument_words p ++ ys) e)) e
+      same_plain o p xs ys f g (same_bare o p (first_same (op_word o) (op_word p) (argument_words o ++ xs) (argument_words p ++ ys) e)) e
   same_ops (Plain o) (Use name) xs ys f g e =
-      absurd (use_apart o name xs ys f (same_mark o (Declared 0 One) (first_same (op_word o) (codes "use") (argument_words o ++ xs) (name ∷ ys) e)))
+      absurd (use_apart o f (same_bare o (Declared 0 One) (first_same (op_word o) (codes "use") (argument_words o ++ xs) (name ∷ ys) e)))
   same_ops (Plain o) (Unknown w) xs ys f g e = absurd (g o (sym (first_same (op_word o) w (argument_words o ++ xs) ys e)))
   same_ops (Use name) (Plain p) xs ys f g e =
-      absurd (use_apart p name xs ys g (sym (same_mark (Declared 0 One) p (first_same (codes "use") (op_word p) (name ∷ xs) (argument_words p ++ ys) e))))
+      absurd (use_apart p g (sym (same_bare (Declared 0 One) p (first_same (codes "use") (op_word p) (name ∷ xs) (argument_words p ++ ys) e))))
   same_ops (Use name) (Use other) xs ys f g e =
       let behind = rest_same (codes "use") (codes "use") (name ∷ xs) (other ∷ ys) e in
       (ap Use (first_same name other xs ys behind), rest_same name other xs ys behind)

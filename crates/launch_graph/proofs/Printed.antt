@@ -1,7 +1,7 @@
 -- Lines that are printed one after another.
-use Rattle.std.proofs.Common.{◌≡◌, ℕ, suc, ◌+◌, ◌<◌, List, [], ◌∷◌, ◌++◌, length, take, get_or, map, refl, sym, ap, ◌∙◌, append_assoc, append-nil, codes, decimal}
+use Rattle.std.proofs.Common.{◌≡◌, ℕ, suc, ◌+◌, ◌<◌, ◌≤◌, List, [], ◌∷◌, ◌++◌, length, take, get_or, map, refl, sym, ap, ◌∙◌, append_assoc, append-nil, codes, decimal}
 use Rattle.std.specs.List.{flat_map}
-use Rattle.std.proofs.lemmas.List.{take_more}
+use Rattle.std.proofs.lemmas.List.{take_more, take_all}
 use Rattle.std.proofs.lemmas.List.Concat.{flat_map-cons}
 use Rattle.std.proofs.lemmas.Grind.{flat_map-append}
 use Rattle.text_core.specs.LineTexts.{Words, line_text, lines_text}
@@ -58,28 +58,32 @@ words_numbers (n ∷ ns) =
 two_pieces : (start a b t1 t2 : List ℕ) → t1 ≡ start ++ a → t2 ≡ t1 ++ b → t2 ≡ start ++ (a ++ b)
 two_pieces start a b t1 t2 e1 e2 = e2 ∙ ap (λ t. t ++ b) e1 ∙ append_assoc start a b
 
-pub row_text : (row : LaunchRow) (start t1 t2 t3 t4 : List ℕ) → t1 ≡ start ++ decimal row.class
+whole : (start ns : List ℕ) (i : ℕ) → length ns ≤ i
+    → start ++ flat_map (λ n. codes " " ++ decimal n) (take i ns) ≡ start ++ flat_map (λ n. codes " " ++ decimal n) ns
+whole start ns i all = ap (λ ms. start ++ flat_map (λ n. codes " " ++ decimal n) ms) (take_all i ns all)
+
+pub row_text : (row : LaunchRow) (i : ℕ) (start t1 t2 t3 t4 : List ℕ) → length row.operands ≤ i → t1 ≡ start ++ decimal row.class
     → t2 ≡ t1 ++ words_behind (line_op_words (said_op row.op row.name))
-    → t3 ≡ t2 ++ flat_map (λ n. codes " " ++ decimal n) row.operands → t4 ≡ t3 ++ codes "\n"
+    → t3 ≡ t2 ++ flat_map (λ n. codes " " ++ decimal n) (take i row.operands) → t4 ≡ t3 ++ codes "\n"
     → t4 ≡ start ++ line_text (row_words (said_row row))
-row_text row start t1 t2 t3 t4 e1 e2 e3 e4 =
+row_text row i start t1 t2 t3 t4 all e1 e2 e3 e4 =
     let op : Words = line_op_words (said_op row.op row.name) in
     let numbers : List ℕ = flat_map (λ n. codes " " ++ decimal n) row.operands in
     let behind : words_behind (op ++ map decimal row.operands) ≡ words_behind op ++ numbers =
     flat_map-append (λ (u : List ℕ). codes " " ++ u) op (map decimal row.operands)
     ∙ ap (λ t. words_behind op ++ t) (words_numbers row.operands) in
     two_pieces start (decimal row.class) (words_behind op ++ (numbers ++ codes "\n")) t1 t4 e1
-    (two_pieces t1 (words_behind op) (numbers ++ codes "\n") t2 t4 e2 (two_pieces t2 numbers (codes "\n") t3 t4 e3 e4))
+    (two_pieces t1 (words_behind op) (numbers ++ codes "\n") t2 t4 e2 (two_pieces t2 numbers (codes "\n") t3 t4 (e3 ∙ whole t2 row.operands i all) e4))
     ∙ ap (λ t. start ++ (decimal row.class ++ t))
     (sym (ap (λ t. t ++ codes "\n") behind ∙ append_assoc (words_behind op) numbers (codes "\n")))
     ∙ ap (λ t. start ++ t) (sym (line_words (decimal row.class) (op ++ map decimal row.operands)))
 
-pub pool_text : (pool start t1 t2 t3 : List ℕ) → t1 ≡ start ++ codes "pool"
-    → t2 ≡ t1 ++ flat_map (λ n. codes " " ++ decimal n) pool → t3 ≡ t2 ++ codes "\n"
+pub pool_text : (i : ℕ) (pool start t1 t2 t3 : List ℕ) → length pool ≤ i → t1 ≡ start ++ codes "pool"
+    → t2 ≡ t1 ++ flat_map (λ n. codes " " ++ decimal n) (take i pool) → t3 ≡ t2 ++ codes "\n"
     → t3 ≡ start ++ line_text (pool_words pool)
-pool_text pool start t1 t2 t3 e1 e2 e3 =
+pool_text i pool start t1 t2 t3 all e1 e2 e3 =
     let numbers : List ℕ = flat_map (λ n. codes " " ++ decimal n) pool in
-    two_pieces start (codes "pool") (numbers ++ codes "\n") t1 t3 e1 (two_pieces t1 numbers (codes "\n") t2 t3 e2 e3)
+    two_pieces start (codes "pool") (numbers ++ codes "\n") t1 t3 e1 (two_pieces t1 numbers (codes "\n") t2 t3 (e2 ∙ whole t1 pool i all) e3)
     ∙ ap (λ t. start ++ (codes "pool" ++ (t ++ codes "\n"))) (sym (words_numbers pool))
     ∙ ap (λ t. start ++ t) (sym (line_words (codes "pool") (map decimal pool)))
 

@@ -4,12 +4,13 @@ use Rattle.std.proofs.lemmas.Bool.{cases_eq}
 use Rattle.std.proofs.lemmas.List.{get_or-set_same, get_or-set_other, length-set}
 use Rattle.std.proofs.lemmas.List.Sums.{fold_push}
 use Rattle.std.proofs.lemmas.List.Elements.{Contains-push, Contains-push_cases, Contains-append_left}
+use Rattle.std.specs.Option.{option_or}
 use Rattle.launch_graph.proofs.Marks.{has_left, has_last, has_back}
 use Rattle.std.specs.Prelude.{Contains}
 use Rattle.launch_graph.specs.declared.row_lines.RowLine.{RowLine}
 use Rattle.launch_graph.specs.RowFaults.{IsWrongClass, IsBadClass, operand, own, second_constant, not_next, sort_given, line_constant}
 use Rattle.launch_graph.specs.ClassMarks.{HasWrongOperand}
-use Rattle.launch_graph.specs.SeenRows.{IsSeen, either_of}
+use Rattle.launch_graph.specs.SeenRows.{IsSeen}
 
 abbrev pub Differ : Option ℕ → Option ℕ → Type 0
 Differ one two = (m : ℕ) × (n : ℕ) × (one ≡ Some m) × (two ≡ Some n) × (m ≢ n)
@@ -37,14 +38,14 @@ module _ (count : ℕ) (all before : List RowLine) (next : ℕ) (constants : Lis
 
 -- ---- one more row
 
-either_in : (one two : Option ℕ) (m : ℕ) → either_of one two ≡ Some m → (one ≡ Some m) ⊎ (two ≡ Some m)
+either_in : (one two : Option ℕ) (m : ℕ) → option_or one two ≡ Some m → (one ≡ Some m) ⊎ (two ≡ Some m)
 either_in (Some n) two m e = inl e
 either_in None two m e = inr e
 
-either_first : (one two : Option ℕ) (m : ℕ) → one ≡ Some m → either_of one two ≡ Some m
-either_first one two m e = ap (λ (o : Option ℕ). either_of o two) e
+either_first : (one two : Option ℕ) (m : ℕ) → one ≡ Some m → option_or one two ≡ Some m
+either_first one two m e = ap (λ (o : Option ℕ). option_or o two) e
 
-either_second : (one two : Option ℕ) (m : ℕ) → ((a b : ℕ) → two ≡ Some a → one ≡ Some b → a ≡ b) → two ≡ Some m → either_of one two ≡ Some m
+either_second : (one two : Option ℕ) (m : ℕ) → ((a b : ℕ) → two ≡ Some a → one ≡ Some b → a ≡ b) → two ≡ Some m → option_or one two ≡ Some m
 either_second (Some n) two m agree e = ap Some (sym (agree m n e refl))
 either_second None two m agree e = e
 
@@ -53,7 +54,7 @@ Contains-left xs y x h = Contains-append_left xs (y ∷ []) x h
 
 pub seen_more : (count : ℕ) (before : List RowLine) (next : ℕ) (constants : List (Option ℕ)) (row : RowLine) (v : Option ℕ) → row.class < count → row.class ≤ next
     → ((m n : ℕ) → get_or constants row.class None ≡ Some m → line_constant row.op ≡ Some n → m ≡ n)
-    → v ≡ either_of (line_constant row.op) (get_or constants row.class None) → IsSeen count before next constants → IsSeen count (before ++ row ∷ []) (max next (row.class + 1)) (set constants row.class v)
+    → v ≡ option_or (line_constant row.op) (get_or constants row.class None) → IsSeen count before next constants → IsSeen count (before ++ row ∷ []) (max next (row.class + 1)) (set constants row.class v)
 seen_more count before next constants row v low near agree is seen =
     let size = seen.size in
     let here : get_or (set constants row.class v) row.class None ≡ v = get_or-set_same constants row.class v None (omega arith) in

@@ -1,5 +1,5 @@
 -- The rows of a block and the lines behind them are a graph.
-use Rattle.std.proofs.Common.{◌≡◌, ◌⊎◌, ℕ, ◌+◌, ◌-◌, ◌<◌, ◌≤◌, ◌^◌, List, [], ◌∷◌, ◌++◌, length, map, take, drop, get_or, refl, sym, ap, subst, ◌∙◌, arith, inl, inr, Option, Some, None}
+use Rattle.std.proofs.Common.{◌≡◌, ◌⊎◌, ℕ, min, ◌+◌, ◌-◌, ◌<◌, ◌≤◌, ◌^◌, List, [], ◌∷◌, ◌++◌, length, map, take, drop, get_or, refl, sym, ap, subst, ◌∙◌, arith, inl, inr, Option, Some, None}
 use Rattle.std.specs.Prelude.{All, IfSome}
 use Rattle.std.proofs.lemmas.List.{take_all, length-drop}
 use Rattle.std.proofs.lemmas.List.Elements.{All-nil, All-cons}
@@ -42,6 +42,11 @@ use Rattle.launch_graph.proofs.RowsStart.{rows_end}
 same_take : {X : Type 0} (xs : List X) (n k : ℕ) → (n ≡ k) ⊎ ((n ≡ length xs) × (length xs ≤ k)) → take n xs ≡ take k xs
 same_take xs n k (inl e) = ap (λ m. take m xs) e
 same_take xs n k (inr e) = take_all n xs (omega (arith, e.0)) ∙ sym (take_all k xs e.1)
+
+pub block_ends : (lines : List Line) (from count taken : ℕ) → from < length lines → taken ≡ min count (length lines - (from + 1))
+    → IsBlockEnd lines (from + 1) count (from + 1 + taken)
+block_ends lines from count taken low is =
+    record { order = omega arith; within = grind (arith, is); is = grind (arith, is) }
 
 block_lines : (lines : List Line) (first count end : ℕ) → IsBlockEnd lines first count end
     → take (end - first) (drop first lines) ≡ take count (drop first lines)

@@ -1,10 +1,10 @@
 -- Rows of a graph with their declared operators numbered, in the order of their first rows. Source: this project.
 use Rattle.std.specs.Prelude.{ℕ, ◌≡◌, ◌≢◌, ◌⊎◌, ◌<◌, ◌≤◌, List, [], ◌∷◌, ◌++◌, length, map, take, Some, All, slice_get, slice_index_or, IsTrue, is_some}
-use Rattle.word_ops.specs.Operators.{number_of}
 use Rattle.word_ops.specs.Meanings.{arity_of_op, count_of}
 use Rattle.word_ops.specs.declared.sorts.Arity.{Arity}
 use Rattle.word_ops.specs.declared.sorts.Op.{Op}
-use Rattle.word_ops.specs.declared.sorts.Op.TheVariants.{Entry, Input, Constant, Word, Select, Store, Load, Put, Declared}
+use Rattle.word_ops.specs.declared.sorts.Op.TheVariants.{Declared}
+use Rattle.word_terms.specs.Keys.{key_of}
 use Rattle.graph_meaning.specs.declared.graphs.LaunchRow.{LaunchRow}
 use Rattle.launch_graph.specs.declared.index.RowKey.{RowKey}
 use Rattle.launch_graph.specs.declared.numbering.UsedName.{UsedName}
@@ -44,24 +44,6 @@ pub data HasNoNumber (used : List UsedName) (line : LineOp) (count : ℕ) : Type
 
 -- ---- keys of rows
 
-abbrev pub op_kind : Op → ℕ
-op_kind Entry = 0
-op_kind (Input register) = 1
-op_kind (Constant n) = 2
-op_kind (Word op) = 3
-op_kind Select = 4
-op_kind Store = 5
-op_kind Load = 6
-op_kind Put = 7
-op_kind (Declared index arity) = 8
-
-abbrev pub op_number : Op → ℕ
-op_number (Input register) = register
-op_number (Constant n) = n
-op_number (Word op) = number_of op
-op_number (Declared index arity) = index
-op_number _ = 0
-
 -- no class has this number
 abbrev pub operand_or_none : List ℕ → ℕ → ℕ
 operand_or_none operands at = slice_index_or operands at 4294967295
@@ -69,8 +51,8 @@ operand_or_none operands at = slice_index_or operands at 4294967295
 abbrev pub row_key : Op → List ℕ → RowKey
 row_key op operands =
     record {
-      kind = op_kind op;
-      number = op_number op;
+      kind = (key_of op).0;
+      number = (key_of op).1;
       first = operand_or_none operands 0;
       second = operand_or_none operands 1;
       third = operand_or_none operands 2;

@@ -12,8 +12,3 @@ pub record IsSeen (count : ℕ) (before : List RowLine) (next : ℕ) (constants 
       → (other : RowLine) × Contains before other × (other.class ≡ class) × (line_constant other.op ≡ Some m)
   pub only : (other : RowLine) (m : ℕ) → Contains before other → other.class < count → line_constant other.op ≡ Some m
       → get_or constants other.class None ≡ Some m
-
--- the first that is there
-abbrev pub either_of : Option ℕ → Option ℕ → Option ℕ
-either_of (Some m) two = Some m
-either_of None two = two

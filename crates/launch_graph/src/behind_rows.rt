@@ -143,39 +143,19 @@ fn behind_guard(guard: &Option<Guard>, line: u32) -> u32
     }
 }
 
-/// The sort of a target's class.
-fn target_sort(set: &SetClass) -> Sort
-    ensures { result ≡ set_sort set.now.name }
-{
-    if set.is_memory() {
-        Sort::Memory
-    } else {
-        Sort::Word
-    }
-}
-
-/// Whether a target is pinned to the register.
-fn is_pin(sets: &[SetClass], register: u8) -> bool
-    ensures { result ≡ has_pin (pins_among sets.now) register }
-{
-    for set in sets {
-        if let Some(pin) = set.pin {
-            if pin == register {
-                return true;
-            }
-        }
-    }
-    false
-}
-
 /// Whether the target's pin is that of an earlier one.
 fn repeats_pin(sets: &[SetClass], set: &SetClass) -> bool
     ensures { result ≡ option_map_or (has_pin (pins_among sets.now)) set.now.pin false }
 {
-    match set.pin {
-        Some(register) => is_pin(sets, register),
-        None => false,
+    let Some(register) = set.pin else {
+        return false;
+    };
+    for earlier in sets {
+        if earlier.pin == Some(register) {
+            return true;
+        }
     }
+    false
 }
 
 /// The target of a line behind these, if it is one's.
@@ -206,7 +186,12 @@ fn read_set(
     if repeats_pin(sets, &set) {
         return Err(line_fault(text, line, Kind::BadLine));
     }
-    if is_wrong(marks, target_sort(&set), set.class) {
+    let wanted = if set.is_memory() {
+        Sort::Memory
+    } else {
+        Sort::Word
+    };
+    if is_wrong(marks, wanted, set.class) {
         return Err(line_fault(text, line, Kind::BadClass));
     }
     Ok(Some(set))

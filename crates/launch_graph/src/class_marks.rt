@@ -21,31 +21,17 @@ pub enum Mark {
     Sorted(Sort),
 }
 
-/// The sort that an operator over so many operands tells of its class.
-fn told_sort(op: &LineOp, count: usize) -> Option<Sort>
-    ensures { result ≡ (if tells_sort op.now count then Some (sort_given op.now) else None) }
+/// The mark of a class once one more row of it is seen, with this operator over so many operands.
+fn mark_after(mark: Mark, op: &LineOp, count: usize) -> Mark
+    ensures { result ≡ next_mark mark (if tells_sort op.now count then Some (sort_given op.now) else None) }
 {
-    match op {
-        LineOp::Plain(op) => {
-            if op.arity() == count {
-                Some(op.sort())
-            } else {
-                None
-            }
-        }
-        LineOp::Use(_) => Some(Sort::Word),
-        LineOp::Unknown(_) => None,
+    if let Mark::Sorted(sort) = mark {
+        return Mark::Sorted(sort);
     }
-}
-
-/// The mark of a class once more rows of it are seen.
-fn mark_after(mark: Mark, told: Option<Sort>) -> Mark
-    ensures { result ≡ next_mark mark told }
-{
-    match (mark, told) {
-        (Mark::Sorted(sort), _) => Mark::Sorted(sort),
-        (_, Some(sort)) => Mark::Sorted(sort),
-        (_, None) => Mark::Unsorted,
+    match op {
+        LineOp::Plain(op) if op.arity() == count => Mark::Sorted(op.sort()),
+        LineOp::Use(_) => Mark::Sorted(Sort::Word),
+        _ => Mark::Unsorted,
     }
 }
 
@@ -57,19 +43,8 @@ fn mark_row(marks: &mut [Mark], row: &RowLine)
 {
     let class = row.class as usize;
     if class < marks.len() {
-        marks[class] = mark_after(marks[class], told_sort(&row.op, row.operands.len()));
+        marks[class] = mark_after(marks[class], &row.op, row.operands.len());
     }
-}
-
-/// So many classes of which nothing is known.
-fn no_marks(alloc: Global, count: u32) -> Result<Vec<Mark>, NoMemory>
-    ensures { IfOk result (λ marks. AreMarks count [] marks.items) }
-{
-    let mut marks = Vec::new(alloc);
-    for _ in 0..count {
-        marks.push(Mark::Absent)?;
-    }
-    Ok(marks)
 }
 
 /// Marks the class of a line, where it has the form of a row.
@@ -104,7 +79,7 @@ pub(crate) fn class_marks(
     requires end { end ≤ length text.now }
     ensures { IfOk result (λ marks. HasMarks (take (end - first) (drop first text.now)) count marks.items) }
 {
-    let mut marks = no_marks(alloc, count)?;
+    let mut marks = vec![in alloc; Mark::Absent; count as usize]?;
     for line in first..end {
         mark_line(alloc, text, line, &mut marks)?;
     }
@@ -151,7 +126,8 @@ fn taken_sort(op: &LineOp, at: usize) -> Sort
     ensures { result ≡ sort_taken op.now at }
 {
     match op {
-        LineOp::Plain(Op::Select | Op::Store | Op::Load | Op::Put) if at == 0 => Sort::Memory,
+        LineOp::Plain(Op::Select(_) | Op::Store(_) | Op::Load(_) | Op::Put(_)) if at == 0 =>
+            Sort::Memory,
         _ => Sort::Word,
     }
 }

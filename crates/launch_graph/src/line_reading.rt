@@ -1,7 +1,6 @@
 // The lines of a graph that are no rows, each by itself.
-ghost use Rattle.std.specs.Prelude.{◌≡◌, ◌≢◌, ◌<◌, length, codes, IfOk, MatchOption};
+ghost use Rattle.std.specs.Prelude.{◌<◌, length, IfOk, MatchOption};
 ghost use Rattle.text_core.specs.Lines.{line_at};
-ghost use Rattle.launch_graph.specs.GraphLines.{held_word};
 ghost use Rattle.text_core.specs.LineTexts.{SaysNone};
 ghost use Rattle.launch_graph.specs.LineReading.{IsHeaderLine, IsEntryLine, IsInputLine, IsPoolLine, IsGuardLine, IsPinnedSet, IsPlainSet, IsSetLine};
 
@@ -91,20 +90,6 @@ pub(crate) fn pool_line(
     Ok(Some(pool))
 }
 
-/// Whether loads wait for the branch, by the last word of a guard's line.
-fn is_held(word: &[u8]) -> Option<bool>
-    ensures { MatchOption result ((word.now ≢ codes "held") × (word.now ≢ codes "free"))
-        (λ held. word.now ≡ held_word held) }
-{
-    if same(word, b"held") {
-        Some(true)
-    } else if same(word, b"free") {
-        Some(false)
-    } else {
-        None
-    }
-}
-
 /// The guard of a line.
 pub(crate) fn guard_line(text: &TextLines<'_>, line: u32) -> Option<Guard>
     requires { line < length text.now }
@@ -117,10 +102,14 @@ pub(crate) fn guard_line(text: &TextLines<'_>, line: u32) -> Option<Guard>
     let Some(class) = below(text.word(line, 1), 1 << 31) else {
         return None;
     };
-    let Some(held) = is_held(text.word(line, 2)) else {
-        return None;
-    };
-    Some(Guard { class, held })
+    let word = text.word(line, 2);
+    if same(word, b"held") {
+        Some(Guard { class, held: true })
+    } else if same(word, b"free") {
+        Some(Guard { class, held: false })
+    } else {
+        None
+    }
 }
 
 /// The target of a line that tells no pin.

@@ -9,6 +9,7 @@ use crate::row_lines::LineOp;
 use items::{Items, NoMemory};
 use text_core::Name;
 use word_ops::{Arity, Op};
+use word_terms::Operator;
 
 /// How many different declared operators a graph may use.
 const MOST_NAMES: usize = 16;
@@ -101,41 +102,14 @@ fn operand_or_none(operands: &[u32], at: usize) -> u32
     }
 }
 
-fn op_kind(op: Op) -> u8
-    ensures { result ≡ numbering.op_kind op }
-{
-    match op {
-        Op::Entry => 0,
-        Op::Input(_) => 1,
-        Op::Constant(_) => 2,
-        Op::Word(_) => 3,
-        Op::Select => 4,
-        Op::Store => 5,
-        Op::Load => 6,
-        Op::Put => 7,
-        Op::Declared { .. } => 8,
-    }
-}
-
-fn op_number(op: Op) -> u64
-    ensures { result ≡ numbering.op_number op }
-{
-    match op {
-        Op::Input(register) => u64::from(register),
-        Op::Constant(number) => number,
-        Op::Word(op) => op as u64,
-        Op::Declared { index, .. } => u64::from(index),
-        _ => 0,
-    }
-}
-
 /// What a row applies.
 pub(crate) fn row_key(op: Op, operands: &[u32]) -> RowKey
     ensures { result ≡ numbering.row_key op operands.now }
 {
+    let (kind, number) = op.key();
     RowKey {
-        kind: op_kind(op),
-        number: op_number(op),
+        kind,
+        number,
         first: operand_or_none(operands, 0),
         second: operand_or_none(operands, 1),
         third: operand_or_none(operands, 2),

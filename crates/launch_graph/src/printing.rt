@@ -1,76 +1,44 @@
 // Printing the lines of a graph, a line a function.
 ghost use Rattle.std.specs.Prelude.{◌≡◌, ◌++◌, IfOk, OnOk, map, codes, decimal};
-ghost use Rattle.std.specs.List.{flat_map};
 ghost use Rattle.text_core.specs.LineTexts.{line_text, lines_text};
 ghost use Rattle.launch_graph.specs.GraphLines as format;
 ghost use Rattle.launch_graph.specs.LineParts.{words_behind};
 ghost use Rattle.launch_graph.specs.RowLines.{line_op_words, row_words};
 
+use crate::row_lines::op_word;
 use graph_meaning::{Guard, InputClass, LaunchGraph, LaunchRow, SetClass};
 use items::NoMemory;
 use itoa::Buffer;
 use std::alloc::Global;
 use text_core::{put, put_number, put_numbered, put_word};
-use word_ops::{Op, op_name};
-
-/// Each class with a space before it.
-#[tactic(auto, using(crate::proofs::Printed::each_more))]
-fn put_classes(text: &mut Vec<u8>, classes: &[u32]) -> Result<(), NoMemory>
-    ensures { OnOk result (text.new.items ≡ text.old.items ++ flat_map (λ n. codes " " ++ decimal n) classes.now) }
-{
-    for class in classes {
-        put_number(text, u64::from(*class))?;
-    }
-    Ok(())
-}
-
-/// Each register with a space before it.
-#[tactic(auto, using(crate::proofs::Printed::each_more))]
-fn put_registers(text: &mut Vec<u8>, registers: &[u8]) -> Result<(), NoMemory>
-    ensures { OnOk result (text.new.items ≡ text.old.items ++ flat_map (λ n. codes " " ++ decimal n) registers.now) }
-{
-    for register in registers {
-        put_number(text, u64::from(*register))?;
-    }
-    Ok(())
-}
+use word_ops::Op;
 
 /// The words of an operator, each with a space before it.
 fn put_op(text: &mut Vec<u8>, op: Op, name: &[u8]) -> Result<(), NoMemory>
     ensures { OnOk result
         (text.new.items ≡ text.old.items ++ words_behind (line_op_words (format.said_op op name.now))) }
 {
+    put_word(text, op_word(op))?;
     match op {
-        Op::Entry => put_word(text, b"memory"),
-        Op::Input(register) => {
-            put_word(text, b"input")?;
-            put_number(text, u64::from(register))
-        }
-        Op::Constant(word) => {
-            put_word(text, b"const")?;
-            put_number(text, word)
-        }
-        Op::Word(op) => put_word(text, op_name(op)),
-        Op::Select => put_word(text, b"select"),
-        Op::Store => put_word(text, b"store"),
-        Op::Load => put_word(text, b"load"),
-        Op::Put => put_word(text, b"put"),
-        Op::Declared { .. } => {
-            put_word(text, b"use")?;
-            put_word(text, name)
-        }
+        Op::Input(register) => put_number(text, u64::from(register)),
+        Op::Constant(word) => put_number(text, word),
+        Op::Declared { .. } => put_word(text, name),
+        _ => Ok(()),
     }
 }
 
-#[tactic(auto, using(crate::proofs::Printed::row_text))]
+#[tactic(auto, using(crate::proofs::Printed::each_more, crate::proofs::Printed::row_text))]
 fn put_row(text: &mut Vec<u8>, row: &LaunchRow) -> Result<(), NoMemory>
     ensures { OnOk result (text.new.items ≡ text.old.items ++ line_text (row_words (format.said_row row.now))) }
 {
     let mut buffer = Buffer::new();
     put(text, buffer.format(row.class).as_bytes())?;
     put_op(text, row.op, row.name.bytes())?;
-    put_classes(text, row.operands.as_slice())?;
-    put(text, b"\n")
+    for class in row.operands.as_slice() {
+        put_number(text, u64::from(*class))?;
+    }
+    put(text, b"\n")?;
+    Ok(())
 }
 
 #[tactic(auto, using(crate::proofs::Printed::line_more))]
@@ -104,19 +72,16 @@ fn put_inputs(text: &mut Vec<u8>, inputs: &[InputClass]) -> Result<(), NoMemory>
     Ok(())
 }
 
-#[tactic(auto, using(crate::proofs::Printed::pool_text))]
+#[tactic(auto, using(crate::proofs::Printed::each_more, crate::proofs::Printed::pool_text))]
 fn put_pool(text: &mut Vec<u8>, pool: &[u8]) -> Result<(), NoMemory>
     ensures { OnOk result (text.new.items ≡ text.old.items ++ line_text (format.pool_words pool.now)) }
 {
     put(text, b"pool")?;
-    put_registers(text, pool)?;
-    put(text, b"\n")
-}
-
-fn held_word(held: bool) -> &'static [u8]
-    ensures { result.now ≡ format.held_word held }
-{
-    if held { b"held" } else { b"free" }
+    for register in pool {
+        put_number(text, u64::from(*register))?;
+    }
+    put(text, b"\n")?;
+    Ok(())
 }
 
 fn put_guard(text: &mut Vec<u8>, guard: Option<Guard>) -> Result<(), NoMemory>
@@ -127,17 +92,9 @@ fn put_guard(text: &mut Vec<u8>, guard: Option<Guard>) -> Result<(), NoMemory>
     };
     put(text, b"guard")?;
     put_number(text, u64::from(guard.class))?;
-    put_word(text, held_word(guard.held))?;
+    let held: &[u8] = if guard.held { b"held" } else { b"free" };
+    put_word(text, held)?;
     put(text, b"\n")
-}
-
-fn put_pin(text: &mut Vec<u8>, pin: Option<u8>) -> Result<(), NoMemory>
-    ensures { OnOk result (text.new.items ≡ text.old.items ++ words_behind (format.pin_words pin)) }
-{
-    match pin {
-        Some(register) => put_number(text, u64::from(register)),
-        None => Ok(()),
-    }
 }
 
 #[tactic(auto, using(crate::proofs::Printed::set_text))]
@@ -147,7 +104,9 @@ fn put_set(text: &mut Vec<u8>, set: &SetClass) -> Result<(), NoMemory>
     put(text, b"set")?;
     put_word(text, set.name.bytes())?;
     put_number(text, u64::from(set.class))?;
-    put_pin(text, set.pin)?;
+    if let Some(register) = set.pin {
+        put_number(text, u64::from(register))?;
+    }
     put(text, b"\n")
 }
 

@@ -5,7 +5,7 @@ ghost use Rattle.text_core.specs.declared.faults.Kind.{Kind as KindOf};
 ghost use Rattle.text_core.specs.declared.faults.TextFault.TheVariants as faults;
 ghost use Rattle.launch_graph.specs.GraphTexts.{IsGraphAt, IsGraphOf};
 ghost use Rattle.launch_graph.specs.LineFaults.{IsFirstFaultOf, IsFirstGraphFault};
-ghost use Rattle.launch_graph.specs.Readings.{IsHeaderAt, IsBlockEnd};
+ghost use Rattle.launch_graph.specs.Readings.{IsHeaderAt};
 ghost use Rattle.graph_meaning.specs.declared.graphs.LaunchGraph.{LaunchGraph as Graph};
 
 use crate::behind_rows::read_behind;
@@ -34,19 +34,6 @@ fn read_header(text: &TextLines<'_>, from: u32) -> Result<u32, TextFault>
     }
 }
 
-/// The line behind `count` lines from `first` on, or the end of the text.
-fn block_end(text: &TextLines<'_>, first: u32, count: u32) -> u32
-    requires { first ≤ length text.now }
-    ensures { IsBlockEnd text.now first count result }
-{
-    let end = text.count();
-    if end - first < count {
-        end
-    } else {
-        first + count
-    }
-}
-
 /// The graph from a line on, and the line behind it.
 fn graph_at(
     alloc: Global,
@@ -61,7 +48,7 @@ fn graph_at(
     operators_are_listed();
     let count = read_header(text, from)?;
     let first = from + 1;
-    let end = block_end(text, first, count);
+    let end = first + count.min(text.count() - first);
     let marks = class_marks(alloc, text, first, end, count)?;
     let so_far = read_rows(alloc, text, first, &marks)?;
     let (behind, next) = read_behind(alloc, version, text, &marks, first + count)?;

@@ -1,5 +1,5 @@
 // The words of a line as those of a row.
-ghost use Rattle.std.specs.Prelude.{◌≡◌, ◌<◌, ◌≤◌, ◌^◌, ℕ, List, length, drop, decimal as decimal_of, IfOk, IfSome, IfNone, MatchOption};
+ghost use Rattle.std.specs.Prelude.{◌≡◌, ◌<◌, ◌≤◌, ◌^◌, ℕ, List, length, drop, decimal as decimal_of, IfOk, IfSome, IfNone, MatchOption, find, bytes_eq};
 ghost use Rattle.word_ops.specs.declared.sorts.Op.{Op as Operator};
 ghost use Rattle.text_core.specs.Lines.{line_at};
 ghost use Rattle.launch_graph.specs.RowLines.{IsRowLine, op_word};
@@ -7,11 +7,11 @@ ghost use Rattle.launch_graph.specs.RowReading.{IsHead, head_of, IsOpBefore, Has
 ghost use Rattle.launch_graph.specs.declared.row_lines.LineOp.{LineOp as OpOfLine};
 ghost use Rattle.launch_graph.specs.declared.row_lines.RowLine.{RowLine as Row};
 
-use crate::row_lines::{LineOp, RowLine};
+use crate::row_lines::{self, LineOp, RowLine};
 use items::{Items, NoMemory};
 use std::alloc::Global;
 use text_core::{Name, TextLines, decimal, is_name, same};
-use word_ops::{Op, op_of};
+use word_ops::{Access, Op, op_of};
 
 /// What a word tells that stands in the place of an operator: an operator without an argument, one with an argument, or
 /// none.
@@ -30,6 +30,15 @@ pub enum Argument {
     Name,
 }
 
+/// The operators that take no argument on a line, beside those on words.
+const ALONE: [Op; 5] = [
+    Op::Entry,
+    Op::Select(Access::Quad),
+    Op::Store(Access::Quad),
+    Op::Load(Access::Quad),
+    Op::Put(Access::Quad),
+];
+
 /// The number that a word is, below a limit.
 pub(crate) fn below(word: &[u8], limit: u32) -> Option<u32>
     ensures some { IfSome result (λ n. (word.now ≡ decimal_of n) × (n < limit)) }
@@ -43,31 +52,29 @@ pub(crate) fn below(word: &[u8], limit: u32) -> Option<u32>
     }
 }
 
+/// The first of these operators that the word names.
+fn alone(among: &[Op], word: &[u8]) -> Option<Op>
+    ensures { result ≡ find (λ op. bytes_eq (op_word op) word.now) among.now }
+{
+    among
+        .iter()
+        .copied()
+        .find(|op| row_lines::op_word(*op) == word)
+}
+
 /// What a word tells as the word of an operator.
 fn op_head(word: &[u8]) -> Head
     ensures is { IsHead word.now result }
     ensures each { (op : Operator) → word.now ≡ op_word op → result ≡ head_of op }
 {
-    if same(word, b"memory") {
-        return Head::Plain(Op::Entry);
+    if let Some(op) = alone(&ALONE, word) {
+        return Head::Plain(op);
     }
     if same(word, b"input") {
         return Head::Takes(Argument::Register);
     }
     if same(word, b"const") {
         return Head::Takes(Argument::Constant);
-    }
-    if same(word, b"select") {
-        return Head::Plain(Op::Select);
-    }
-    if same(word, b"store") {
-        return Head::Plain(Op::Store);
-    }
-    if same(word, b"load") {
-        return Head::Plain(Op::Load);
-    }
-    if same(word, b"put") {
-        return Head::Plain(Op::Put);
     }
     if same(word, b"use") {
         return Head::Takes(Argument::Name);

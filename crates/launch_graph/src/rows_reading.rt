@@ -40,21 +40,6 @@ fn name_of_op(alloc: Global, op: LineOp) -> Result<Name, NoMemory>
     }
 }
 
-/// The row of a line with the operator that it applies.
-fn launch_row(alloc: Global, row: RowLine, op: Op) -> Result<LaunchRow, NoMemory>
-    ensures class { IfOk result (λ made. made.class ≡ row.class) }
-    ensures op { IfOk result (λ made. made.op ≡ op) }
-    ensures name { IfOk result (λ made. made.name ≡ line_op_name row.op) }
-    ensures operands { IfOk result (λ made. made.operands ≡ row.operands) }
-{
-    Ok(LaunchRow {
-        class: row.class,
-        op,
-        name: name_of_op(alloc, row.op)?,
-        operands: row.operands,
-    })
-}
-
 /// Reads the row of a line behind the rows so far.
 pub(crate) fn next_row(
     alloc: Global,
@@ -92,7 +77,12 @@ pub(crate) fn next_row(
         return Err(line_fault(text, line, Kind::BadClass));
     }
     so_far.next = see_row(so_far.next, &mut so_far.constants, &row);
-    so_far.rows.push(launch_row(alloc, row, op)?)?;
+    so_far.rows.push(LaunchRow {
+        class: row.class,
+        op,
+        name: name_of_op(alloc, row.op)?,
+        operands: row.operands,
+    })?;
     Ok(())
 }
 

@@ -2,7 +2,7 @@
 ghost use Rattle.std.specs.Prelude.{◌≡◌, ◌≢◌, ◌<◌, ◌≤◌, ◌^◌, ◌++◌, ◌∷◌, [], ◌↔◌, List, length, get_or, IsTrue, Some, None, ℕ, false};
 ghost use Rattle.launch_graph.specs.RowFaults.{IsBadClass, line_constant};
 ghost use Rattle.launch_graph.specs.ClassMarks.{AreMarks};
-ghost use Rattle.launch_graph.specs.SeenRows.{IsSeen, either_of};
+ghost use Rattle.launch_graph.specs.SeenRows.{IsSeen};
 ghost use Rattle.launch_graph.specs.declared.row_lines.RowLine.{RowLine as Row};
 
 use crate::class_marks::{Mark, given_sort, has_wrong_operand, is_wrong};
@@ -70,16 +70,6 @@ pub(crate) fn see_row(next: u32, constants: &mut [Option<u64>], row: &RowLine) -
         → IsSeen (length constants.old) (before ++ row.now ∷ []) result constants.new }
 {
     let class = row.class as usize;
-    constants[class] = either(constant(&row.op), constants[class]);
+    constants[class] = constant(&row.op).or(constants[class]);
     next.max(row.class + 1)
-}
-
-/// The first that is there.
-fn either(one: Option<u64>, two: Option<u64>) -> Option<u64>
-    ensures { result ≡ either_of one two }
-{
-    match one {
-        Some(_) => one,
-        None => two,
-    }
 }

@@ -29,20 +29,13 @@ fn is_most(tail: &Option<Tail>) -> bool
     }
 }
 
-/// Whether this is so already, or isn't known of this schedule.
-fn either(some: bool, tail: &Option<Tail>) -> bool
-    ensures { result ≡ (some || format.is_most_of tail.now) }
-{
-    some || is_most(tail)
-}
-
 #[tactic(auto, using(crate::proofs::Most::some_more))]
 fn some_is_most(said: &[Option<Tail>]) -> bool
     ensures { result ≡ format.some_is_most said.now }
 {
     let mut some = false;
     for tail in said {
-        some = either(some, tail);
+        some = some || is_most(tail);
     }
     some
 }

@@ -9,40 +9,7 @@ use items::NoMemory;
 use std::alloc::Global;
 use text_core::{put, put_number, put_word};
 
-/// `least LAUNCHES COUNT`
-fn put_least_line(text: &mut Vec<u8>, launches: u32, count: usize) -> Result<(), NoMemory>
-    ensures { OnOk result (text.new.items ≡ text.old.items ++ line_text (format.least_words launches count)) }
-{
-    put(text, b"least")?;
-    put_number(text, u64::from(launches))?;
-    put_number(text, count as u64)?;
-    put(text, b"\n")
-}
-
-/// `most LAUNCHES spent COUNT`
-fn put_spent_line(text: &mut Vec<u8>, launches: u32, count: usize) -> Result<(), NoMemory>
-    ensures { OnOk result (text.new.items ≡ text.old.items ++ line_text (format.spent_words launches count)) }
-{
-    put(text, b"most")?;
-    put_number(text, u64::from(launches))?;
-    put_word(text, b"spent")?;
-    put_number(text, count as u64)?;
-    put(text, b"\n")
-}
-
-/// `most LAUNCHES size VARS CLAUSES`
-fn put_size_line(text: &mut Vec<u8>, launches: u32, vars: u64, clauses: u64) -> Result<(), NoMemory>
-    ensures { OnOk result (text.new.items ≡ text.old.items ++ line_text (format.large_words launches vars clauses)) }
-{
-    put(text, b"most")?;
-    put_number(text, u64::from(launches))?;
-    put_word(text, b"size")?;
-    put_number(text, vars)?;
-    put_number(text, clauses)?;
-    put(text, b"\n")
-}
-
-/// The lines that show that no schedule has fewer launches.
+/// `least LAUNCHES COUNT`, and the lines that show that no schedule has fewer launches.
 #[tactic(auto, using(crate::proofs::Pieced::line_first))]
 fn put_least(
     alloc: Global,
@@ -53,11 +20,14 @@ fn put_least(
     ensures { OnOk result (text.new.items
         ≡ text.old.items ++ lines_text (format.one_tail_lines (Tail.Least launches lines.now))) }
 {
-    put_least_line(text, launches, lines.lines.len())?;
+    put(text, b"least")?;
+    put_number(text, u64::from(launches))?;
+    put_number(text, lines.lines.len() as u64)?;
+    put(text, b"\n")?;
     put(text, &refutation_check::print(alloc, lines)?)
 }
 
-/// The lemmas that were found for fewer launches.
+/// `most LAUNCHES spent COUNT`, and the lemmas that were found for fewer launches.
 #[tactic(auto, using(crate::proofs::Pieced::line_first))]
 fn put_spent(
     alloc: Global,
@@ -68,7 +38,11 @@ fn put_spent(
     ensures { OnOk result (text.new.items
         ≡ text.old.items ++ lines_text (format.one_tail_lines (Tail.Spent launches lines.now))) }
 {
-    put_spent_line(text, launches, lines.lines.len())?;
+    put(text, b"most")?;
+    put_number(text, u64::from(launches))?;
+    put_word(text, b"spent")?;
+    put_number(text, lines.lines.len() as u64)?;
+    put(text, b"\n")?;
     put(text, &refutation_check::print(alloc, lines)?)
 }
 
@@ -83,7 +57,14 @@ fn put_tail(alloc: Global, text: &mut Vec<u8>, tail: &Tail) -> Result<(), NoMemo
             launches,
             vars,
             clauses,
-        } => put_size_line(text, *launches, *vars, *clauses),
+        } => {
+            put(text, b"most")?;
+            put_number(text, u64::from(*launches))?;
+            put_word(text, b"size")?;
+            put_number(text, *vars)?;
+            put_number(text, *clauses)?;
+            put(text, b"\n")
+        }
     }
 }
 

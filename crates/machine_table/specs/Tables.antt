@@ -2,6 +2,11 @@
 -- Reference Manual, "Instruction Issue Rules", for the four integer pipes in two clusters with a delay between them;
 -- which instructions go where and how long they take in `ev6` is this project's profile.
 use Rattle.std.specs.Prelude.{ℕ, ◌+◌, ◌<◌, ◌≤◌, ◌≢◌, List, [], ◌∷◌, ◌++◌, map, length, slice_index, Option, find, ◌==◌, option_map, unwrap_or, IsSomeAnd, Contains, All, AllPairs, if◌then◌else◌, codes}
+use Rattle.word_ops.specs.declared.operates.Operate.{Operate}
+use Rattle.word_ops.specs.declared.operates.Pipes.{Pipes}
+use Rattle.word_ops.specs.declared.operates.Pipes.TheVariants.{Any, Shifters, Multiplier}
+use Rattle.word_ops.specs.declared.sorts.Access.TheVariants.{Quad}
+use Rattle.word_ops.specs.Operates.{operates, row_of}
 use Rattle.machine_table.specs.InstrOrder.{kind_number}
 use Rattle.machine_table.specs.declared.tables.InstrKind.{InstrKind}
 use Rattle.machine_table.specs.declared.tables.InstrKind.TheVariants as kinds
@@ -54,41 +59,30 @@ slot_of name cluster = record { name = name; cluster = cluster }
 abbrev pub uses_of : ℕ → List ℕ → List InstrKind → List Use
 uses_of latency slots instrs = map (λ instr. record { instr = instr; latency = latency; slots = slots }) instrs
 
--- the operates of opcodes 10 and 11, in hexadecimal
-abbrev pub plain_operates : List InstrKind
-plain_operates =
-    kinds.Addl ∷ kinds.S4addl ∷ kinds.Subl ∷ kinds.S4subl ∷ kinds.Cmpbge ∷ kinds.S8addl ∷ kinds.S8subl
-    ∷ kinds.Cmpult ∷ kinds.Addq ∷ kinds.S4addq ∷ kinds.Subq ∷ kinds.S4subq ∷ kinds.Cmpeq ∷ kinds.S8addq
-    ∷ kinds.S8subq ∷ kinds.Cmpule ∷ kinds.Cmplt ∷ kinds.Cmple ∷ kinds.And ∷ kinds.Bic ∷ kinds.Bis ∷ kinds.Ornot
-    ∷ kinds.Xor ∷ kinds.Eqv ∷ []
+-- the upper slots are 0 and 1, the lower ones 2 and 3; slot 1 alone multiplies
+abbrev pub slots_in : Pipes → List ℕ
+slots_in Any = 0 ∷ 1 ∷ 2 ∷ 3 ∷ []
+slots_in Shifters = 0 ∷ 1 ∷ []
+slots_in Multiplier = 1 ∷ []
 
--- those of opcode 12
-abbrev pub byte_operates : List InstrKind
-byte_operates =
-    kinds.Mskbl ∷ kinds.Extbl ∷ kinds.Insbl ∷ kinds.Mskwl ∷ kinds.Extwl ∷ kinds.Inswl ∷ kinds.Mskll ∷ kinds.Extll
-    ∷ kinds.Insll ∷ kinds.Zap ∷ kinds.Zapnot ∷ kinds.Mskql ∷ kinds.Srl ∷ kinds.Extql ∷ kinds.Sll ∷ kinds.Insql
-    ∷ kinds.Sra ∷ kinds.Mskwh ∷ kinds.Inswh ∷ kinds.Extwh ∷ kinds.Msklh ∷ kinds.Inslh ∷ kinds.Extlh ∷ kinds.Mskqh
-    ∷ kinds.Insqh ∷ kinds.Extqh ∷ []
+abbrev pub latency_in : Pipes → ℕ
+latency_in Multiplier = 7
+latency_in _ = 1
 
--- those of opcode 13
-abbrev pub products : List InstrKind
-products = kinds.Mull ∷ kinds.Mulq ∷ kinds.Umulh ∷ []
+abbrev pub operate_use : Operate → Use
+operate_use operate = record {
+  instr = kinds.Operate operate;
+  latency = latency_in (row_of operate).pipes;
+  slots = slots_in (row_of operate).pipes;
+}
 
--- those of opcode 1C
-abbrev pub extensions : List InstrKind
-extensions = kinds.Sextb ∷ kinds.Sextw ∷ []
-
--- U0, U1, L0, L1: the upper slots are 0 and 1, the lower ones 2 and 3
 unfoldable pub ev6 : Table
 ev6 = record {
   slots = slot_of (codes "U0") 0 ∷ slot_of (codes "U1") 1 ∷ slot_of (codes "L0") 0 ∷ slot_of (codes "L1") 1 ∷ [];
   cross = 1;
-  uses = uses_of 1 (0 ∷ 1 ∷ 2 ∷ 3 ∷ []) plain_operates
-      ++ uses_of 1 (0 ∷ 1 ∷ []) byte_operates
-      ++ uses_of 7 (1 ∷ []) products
-      ++ uses_of 1 (0 ∷ 1 ∷ []) extensions
+  uses = map operate_use operates
       ++ uses_of 1 (0 ∷ 1 ∷ 2 ∷ 3 ∷ []) (kinds.Lda ∷ kinds.Ldah ∷ [])
-      ++ uses_of 3 (2 ∷ 3 ∷ []) (kinds.LdqU ∷ [])
-      ++ uses_of 1 (2 ∷ 3 ∷ []) (kinds.StqU ∷ [])
+      ++ uses_of 3 (2 ∷ 3 ∷ []) (kinds.Load Quad ∷ [])
+      ++ uses_of 1 (2 ∷ 3 ∷ []) (kinds.Store Quad ∷ [])
       ++ uses_of 1 (0 ∷ 1 ∷ []) (kinds.Beq ∷ []);
 }

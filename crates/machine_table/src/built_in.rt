@@ -1,5 +1,5 @@
 // The table of the Alpha 21264's integer pipes.
-ghost use Rattle.std.specs.Prelude.{◌≡◌, ◌++◌, OnOk, IfOk};
+ghost use Rattle.std.specs.Prelude.{◌≡◌, ◌++◌, OnOk, IfOk, map};
 ghost use Rattle.machine_table.specs.Tables as specs;
 ghost use Rattle.machine_table.specs.Tables.{slot_of, uses_of};
 
@@ -7,69 +7,42 @@ use crate::tables::{InstrKind, Slot, Table, Use};
 use items::{Items, NoMemory};
 use std::alloc::Global;
 use text_core::Name;
+use word_ops::{Access, OPERATES, OperateRow, Pipes};
 
-fn plain_operates() -> [InstrKind; 24]
-    ensures { result ≡ specs.plain_operates }
+// Where the pipes are on this machine, and how long they take.
+fn slots_in(pipes: Pipes) -> &'static [u32]
+    ensures { result.now ≡ specs.slots_in pipes }
 {
-    [
-        InstrKind::Addl,
-        InstrKind::S4addl,
-        InstrKind::Subl,
-        InstrKind::S4subl,
-        InstrKind::Cmpbge,
-        InstrKind::S8addl,
-        InstrKind::S8subl,
-        InstrKind::Cmpult,
-        InstrKind::Addq,
-        InstrKind::S4addq,
-        InstrKind::Subq,
-        InstrKind::S4subq,
-        InstrKind::Cmpeq,
-        InstrKind::S8addq,
-        InstrKind::S8subq,
-        InstrKind::Cmpule,
-        InstrKind::Cmplt,
-        InstrKind::Cmple,
-        InstrKind::And,
-        InstrKind::Bic,
-        InstrKind::Bis,
-        InstrKind::Ornot,
-        InstrKind::Xor,
-        InstrKind::Eqv,
-    ]
+    match pipes {
+        Pipes::Any => &[0, 1, 2, 3],
+        Pipes::Shifters => &[0, 1],
+        Pipes::Multiplier => &[1],
+    }
 }
 
-fn byte_operates() -> [InstrKind; 26]
-    ensures { result ≡ specs.byte_operates }
+fn latency_in(pipes: Pipes) -> u32
+    ensures { result ≡ specs.latency_in pipes }
 {
-    [
-        InstrKind::Mskbl,
-        InstrKind::Extbl,
-        InstrKind::Insbl,
-        InstrKind::Mskwl,
-        InstrKind::Extwl,
-        InstrKind::Inswl,
-        InstrKind::Mskll,
-        InstrKind::Extll,
-        InstrKind::Insll,
-        InstrKind::Zap,
-        InstrKind::Zapnot,
-        InstrKind::Mskql,
-        InstrKind::Srl,
-        InstrKind::Extql,
-        InstrKind::Sll,
-        InstrKind::Insql,
-        InstrKind::Sra,
-        InstrKind::Mskwh,
-        InstrKind::Inswh,
-        InstrKind::Extwh,
-        InstrKind::Msklh,
-        InstrKind::Inslh,
-        InstrKind::Extlh,
-        InstrKind::Mskqh,
-        InstrKind::Insqh,
-        InstrKind::Extqh,
-    ]
+    match pipes {
+        Pipes::Multiplier => 7,
+        Pipes::Any | Pipes::Shifters => 1,
+    }
+}
+
+/// The operates' uses, in the order of the operates.
+fn operate_uses(alloc: Global, rows: &[OperateRow]) -> Result<Items<Use>, NoMemory>
+    ensures { IfOk result (λ uses. uses ≡ map (λ row. specs.operate_use row.operate) rows.now) }
+{
+    let mut uses = Items::new(alloc);
+    for row in rows {
+        let pipes = row.operate.pipes();
+        uses.push(Use {
+            instr: InstrKind::Operate(row.operate),
+            latency: latency_in(pipes),
+            slots: Items::from_slice(alloc, slots_in(pipes))?,
+        })?;
+    }
+    Ok(uses)
 }
 
 /// Adds uses of one latency and the same slots.
@@ -118,26 +91,31 @@ fn pipes(alloc: Global) -> Result<Items<Slot>, NoMemory>
 fn uses(alloc: Global) -> Result<Items<Use>, NoMemory>
     ensures { IfOk result (λ uses. uses ≡ specs.ev6.uses) }
 {
-    let any = [0, 1, 2, 3];
-    let upper = [0, 1];
+    let upper = slots_in(Pipes::Shifters);
     let lower = [2, 3];
-    let products = [InstrKind::Mull, InstrKind::Mulq, InstrKind::Umulh];
-    let extensions = [InstrKind::Sextb, InstrKind::Sextw];
-    let mut uses = Items::new(alloc);
-    add(alloc, &mut uses, 1, &any, &plain_operates())?;
-    add(alloc, &mut uses, 1, &upper, &byte_operates())?;
-    add(alloc, &mut uses, 7, &[1], &products)?;
-    add(alloc, &mut uses, 1, &upper, &extensions)?;
+    let mut uses = operate_uses(alloc, &OPERATES)?;
     add(
         alloc,
         &mut uses,
         1,
-        &any,
+        slots_in(Pipes::Any),
         &[InstrKind::Lda, InstrKind::Ldah],
     )?;
-    add(alloc, &mut uses, 3, &lower, &[InstrKind::LdqU])?;
-    add(alloc, &mut uses, 1, &lower, &[InstrKind::StqU])?;
-    add(alloc, &mut uses, 1, &upper, &[InstrKind::Beq])?;
+    add(
+        alloc,
+        &mut uses,
+        3,
+        &lower,
+        &[InstrKind::Load(Access::Quad)],
+    )?;
+    add(
+        alloc,
+        &mut uses,
+        1,
+        &lower,
+        &[InstrKind::Store(Access::Quad)],
+    )?;
+    add(alloc, &mut uses, 1, upper, &[InstrKind::Beq])?;
     Ok(uses)
 }
 

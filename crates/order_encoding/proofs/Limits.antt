@@ -1,5 +1,5 @@
 -- The counts and the formulas of the calls, and what a limit that is not passed says.
-use Rattle.std.proofs.Common.{◌≡◌, ℕ, ◌+◌, ◌≤◌, List, length, sym, ap, ◌∙◌, inl, inr}
+use Rattle.std.proofs.Common.{◌≡◌, ℕ, ◌≤◌, List, length, ap, ◌∙◌, inl, inr}
 use Rattle.std.specs.Prelude.{is_some}
 use Rattle.std.specs.List.{range_with_len}
 use Rattle.std.proofs.lemmas.Bool.{cases_lt}
@@ -8,10 +8,9 @@ use Rattle.machine_table.specs.declared.tables.Table.{Table}
 use Rattle.graph_meaning.specs.declared.graphs.LaunchGraph.{LaunchGraph}
 use Rattle.schedule_meaning.specs.declared.schedules.Launch.{Launch}
 use Rattle.cycle_encoding.specs.Shapes.{numbered, when}
-use Rattle.cycle_encoding.specs.CycleFormula.{Listed, Scope}
+use Rattle.cycle_encoding.specs.CycleFormula.{Listed}
 use Rattle.cycle_encoding.specs.Plans.{IsTooLarge}
 use Rattle.order_encoding.specs.WholeFormula.{with_memory, formula_with_guard, formula_with_registers, memory_formula, guard_formula, pool_formula, formula_with_pins, whole_formula}
-use Rattle.cycle_encoding.specs.CycleFormula.{listed_in}
 use Rattle.cycle_encoding.specs.CycleFormula.{cycle_formula, before_overwritten}
 use Rattle.cycle_encoding.specs.Variables.{all_overwritten}
 

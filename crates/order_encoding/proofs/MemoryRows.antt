@@ -40,10 +40,10 @@ module _ (g : LaunchGraph) where
       subst (λ c. (is_memory_class g c ≡ true) × (c < next_class g.rows)) (sym (at_row g l.row r.0 r.1)) (memory_class r.0 (got g.rows l.row r.0 r.1) r.2)
 
   takes_some : (op : Op) → takes_memory op ≡ true → 0 < arity_of_op op
-  takes_some Select h = omega arith
-  takes_some Store h = omega arith
-  takes_some Load h = omega arith
-  takes_some Put h = omega arith
+  takes_some (Select access) h = omega arith
+  takes_some (Store access) h = omega arith
+  takes_some (Load access) h = omega arith
+  takes_some (Put access) h = omega arith
   takes_some op h = absurd (false≢true h)
 
   -- what a load or store reads is a memory class

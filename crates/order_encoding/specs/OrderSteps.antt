@@ -15,7 +15,7 @@ use Rattle.cnf_core.specs.Counter.{at_most_size}
 use Rattle.machine_table.specs.declared.tables.Table.{Table}
 use Rattle.cycle_encoding.specs.Counts.{one_if}
 use Rattle.cycle_encoding.specs.CycleFormula.{Scope}
-use Rattle.cycle_encoding.specs.Variables.{is_overwriting, Overwritten}
+use Rattle.cycle_encoding.specs.Variables.{is_overwriting}
 use Rattle.order_encoding.specs.PinFamilies.{has_own_input}
 use Rattle.order_encoding.specs.OrderCounts.{goes_count}
 

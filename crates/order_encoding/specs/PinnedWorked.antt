@@ -3,6 +3,7 @@
 use Rattle.std.specs.Prelude.{List, [], ◌∷◌, None, Some, true, false, codes}
 use Rattle.cnf_core.specs.declared.literal.Lit.{Lit}
 use Rattle.machine_table.specs.Tables.{slot_of, uses_of}
+use Rattle.word_ops.specs.declared.operates.Operate.TheVariants as operates
 use Rattle.machine_table.specs.declared.tables.InstrKind.TheVariants as kinds
 use Rattle.machine_table.specs.declared.tables.Table.{Table}
 use Rattle.graph_meaning.specs.declared.graphs.LaunchGraph.{LaunchGraph}
@@ -33,7 +34,7 @@ abbrev pub two_copiers : Table
 two_copiers = record {
   slots = slot_of (codes "A") 0 ∷ slot_of (codes "B") 1 ∷ [];
   cross = 1;
-  uses = uses_of 1 (0 ∷ 1 ∷ []) (kinds.Bis ∷ []);
+  uses = uses_of 1 (0 ∷ 1 ∷ []) (kinds.Operate operates.Bis ∷ []);
 }
 
 -- (set p $16 q) (set q $17 p), with p in $16 and q in $17: both copies may be launched at once

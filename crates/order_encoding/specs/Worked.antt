@@ -2,6 +2,7 @@
 -- Source: this project.
 use Rattle.std.specs.Prelude.{List, [], ◌∷◌, None, codes}
 use Rattle.cnf_core.specs.declared.literal.Lit.{Lit}
+use Rattle.word_ops.specs.declared.operates.Operate.TheVariants as operates
 use Rattle.word_ops.specs.declared.operators.WordOp.TheVariants as ops
 use Rattle.word_ops.specs.declared.sorts.Op.TheVariants as op
 use Rattle.graph_meaning.specs.Graphs.{plain_row}
@@ -27,7 +28,7 @@ sum_clauses =
 abbrev pub one_sum_graph : LaunchGraph
 one_sum_graph = record {
   rows = plain_row 0 op.Entry [] ∷ plain_row 1 (op.Input 16) [] ∷ plain_row 2 (op.Input 17) []
-      ∷ plain_row 3 (op.Word ops.Addq) (1 ∷ 2 ∷ []) ∷ [];
+      ∷ plain_row 3 (op.Word (ops.Operate operates.Addq)) (1 ∷ 2 ∷ []) ∷ [];
   entry = 0;
   inputs = input_class (codes "a") 16 1 ∷ input_class (codes "b") 17 2 ∷ [];
   pool = 1 ∷ [];

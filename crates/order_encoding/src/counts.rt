@@ -129,22 +129,6 @@ pub fn row_use_count(facts: &Facts, table: &Table, scope: &Scope, k: u32, row: u
     }
 }
 
-// ---- the branch of a guard
-
-/// How many launches of a row there are, if it passes.
-pub fn count_if(facts: &Facts, table: &Table, scope: &Scope, k: u32, row: u32, passes: bool) -> u64
-    requires table { IsTable table.now }
-    requires cycles { k ≤ 24 }
-    ensures value { result ≡ cycle_counts.row_count facts.now table.now k scope.now row * one_if passes }
-    ensures few { result ≤ 200 }
-{
-    if passes {
-        row_count(facts, table, scope, k, row)
-    } else {
-        0
-    }
-}
-
 // ---- registers
 
 /// Up to how many of so many things a counter over the registers of the pool counts: as many as the pool has, or all.

@@ -79,25 +79,7 @@ pub fn held_var(held: &HeldVars, facts: &Facts, class: u32, cycle: u32) -> Optio
     if class as usize >= starts.len() {
         return None;
     }
-    var_from(held, facts, class, cycle, starts[class as usize])
-}
-
-/// The variable of a class that is held in a cycle, by how many are held of smaller classes.
-fn var_from(
-    held: &HeldVars,
-    facts: &Facts,
-    class: u32,
-    cycle: u32,
-    start: Option<usize>,
-) -> Option<Lit>
-    requires start { start ≡ held_before facts.now (held.now.cycles + 1) class }
-    requires class { class < wellformed.next_class facts.now.rows }
-    requires cycle { cycle ≤ held.now.cycles }
-    requires few { held.now.first + length (all_held facts.now held.now.cycles) < 2 ^ 29 }
-    ensures { option_to_list result ≡ vars_of (is_held_at class cycle)
-        (numbered held.now.first (all_held facts.now held.now.cycles)) }
-{
-    match start {
+    match starts[class as usize] {
         Some(start) => Some(Lit {
             var: held.first + start as u32 + cycle + 1,
             positive: true,

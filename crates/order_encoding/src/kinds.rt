@@ -40,8 +40,9 @@ pub fn stores(
 {
     let mut found = Vec::new(alloc);
     for (index, launch) in launches.iter().enumerate() {
-        let passes = is_store(facts.instr_at(launch.row));
-        push_if(&mut found, passes, index as u32 + 1, *launch)?;
+        if is_store(facts.instr_at(launch.row)) {
+            found.push((index as u32 + 1, *launch))?;
+        }
     }
     Ok(found)
 }
@@ -57,24 +58,11 @@ pub fn branches(
 {
     let mut found = Vec::new(alloc);
     for (index, launch) in launches.iter().enumerate() {
-        let passes = is_branch(facts.instr_at(launch.row));
-        push_if(&mut found, passes, index as u32 + 1, *launch)?;
+        if is_branch(facts.instr_at(launch.row)) {
+            found.push((index as u32 + 1, *launch))?;
+        }
     }
     Ok(found)
-}
-
-fn push_if(
-    found: &mut Vec<(u32, Launch)>,
-    passes: bool,
-    var: u32,
-    launch: Launch,
-) -> Result<(), NoMemory>
-    ensures { OnOk result (found.new.items ≡ found.old.items ++ (if passes then (var, launch) ∷ [] else [])) }
-{
-    if passes {
-        found.push((var, launch))?;
-    }
-    Ok(())
 }
 
 /// Puts the variable at the end, if it passes.

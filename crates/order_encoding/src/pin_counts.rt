@@ -17,17 +17,6 @@ use cycle_encoding::{
 };
 use machine_table::Table;
 
-/// How many launches of a row go to a set.
-fn row_goes(facts: &Facts, table: &Table, scope: &Scope, k: u32, set: u32, row: u32) -> u64
-    requires table { IsTable table.now }
-    requires cycles { k ≤ 24 }
-    ensures value { result ≡ cycle_counts.row_count facts.now table.now k scope.now row
-        * sum_by (λ to. one_if (launches.is_set set to)) (row_destinations facts.now row) }
-    ensures few { result ≤ 200 }
-{
-    row_count(facts, table, scope, k, row) * goes(facts, row, set)
-}
-
 /// How many launches go to a set.
 #[tactic(auto, using(crate::proofs::CountSteps::sum_more))]
 fn goes_count(facts: &Facts, table: &Table, scope: &Scope, k: u32, set: u32) -> u64
@@ -39,20 +28,9 @@ fn goes_count(facts: &Facts, table: &Table, scope: &Scope, k: u32, set: u32) -> 
 {
     let mut count = 0;
     for row in 0..facts.row_numbers() {
-        count += row_goes(facts, table, scope, k, set, row);
+        count += row_count(facts, table, scope, k, row) * goes(facts, row, set);
     }
     count
-}
-
-/// How many launches of a row overwrite.
-fn row_late(facts: &Facts, table: &Table, scope: &Scope, k: u32, row: u32) -> u64
-    requires table { IsTable table.now }
-    requires cycles { k ≤ 24 }
-    ensures value { result ≡ cycle_counts.row_count facts.now table.now k scope.now row
-        * sum_by (λ to. one_if (counts.overwrites_at facts.now to)) (row_destinations facts.now row) }
-    ensures few { result ≤ 6200 }
-{
-    row_count(facts, table, scope, k, row) * late(facts, row)
 }
 
 /// How many launches overwrite.
@@ -66,7 +44,7 @@ fn late_count(facts: &Facts, table: &Table, scope: &Scope, k: u32) -> u64
 {
     let mut count = 0;
     for row in 0..facts.row_numbers() {
-        count += row_late(facts, table, scope, k, row);
+        count += row_count(facts, table, scope, k, row) * late(facts, row);
     }
     count
 }

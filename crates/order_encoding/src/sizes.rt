@@ -11,9 +11,7 @@ ghost use Rattle.cycle_encoding.specs.Counts.{row_destinations, sum_destined};
 ghost use Rattle.order_encoding.specs.OrderCounts as counts;
 ghost use Rattle.order_encoding.specs.OrderCounts.{row_uses, row_waits};
 
-use crate::counts::{
-    count_if, memory_count, other_count, registers, row_stores, row_use_count, times,
-};
+use crate::counts::{memory_count, other_count, registers, row_stores, row_use_count, times};
 use crate::kinds::waits;
 use cnf_core::{at_most_size, at_most_vars};
 use cycle_encoding::{
@@ -21,17 +19,6 @@ use cycle_encoding::{
 };
 use machine_table::Table;
 use schedule_meaning::is_branch;
-
-/// How many stores of a row may be launched in a cycle, by where they go.
-fn destined_stores(facts: &Facts, table: &Table, scope: &Scope, k: u32, cycle: u32, row: u32) -> u64
-    requires table { IsTable table.now }
-    requires cycles { k ≤ 24 }
-    ensures value { result ≡ counts.row_stores facts.now table.now k scope.now cycle row
-        * length (row_destinations facts.now row) }
-    ensures few { result ≤ 256 }
-{
-    row_stores(facts, table, scope, k, cycle, row) * destination_count(facts, row)
-}
 
 /// How many stores may be launched in a cycle.
 #[tactic(auto, using(crate::proofs::CountSteps::sum_more))]
@@ -44,7 +31,7 @@ fn store_count(facts: &Facts, table: &Table, scope: &Scope, k: u32, cycle: u32) 
 {
     let mut count = 0;
     for row in 0..facts.row_numbers() {
-        count += destined_stores(facts, table, scope, k, cycle, row);
+        count += row_stores(facts, table, scope, k, cycle, row) * destination_count(facts, row);
     }
     count
 }
@@ -133,7 +120,11 @@ fn destined_if(facts: &Facts, table: &Table, scope: &Scope, k: u32, row: u32, pa
         * sum_by (λ to. one_if passes) (row_destinations facts.now row) }
     ensures few { result ≤ 6400 }
 {
-    count_if(facts, table, scope, k, row, passes) * destination_count(facts, row)
+    if passes {
+        row_count(facts, table, scope, k, row) * destination_count(facts, row)
+    } else {
+        0
+    }
 }
 
 /// How many launches of the branch there are.
@@ -194,18 +185,6 @@ pub fn guard_sizes(facts: &Facts, table: &Table, scope: &Scope, k: u32) -> Sizes
 
 // ---- registers
 
-/// How many launches of a row take a register of the pool.
-fn row_registers(facts: &Facts, table: &Table, scope: &Scope, k: u32, row: u32) -> u64
-    requires table { IsTable table.now }
-    requires cycles { k ≤ 24 }
-    ensures value { result ≡ cycle_counts.row_count facts.now table.now k scope.now row
-        * sum_by (λ to. one_if (launches.is_pool to && row_is facts.now launches.gives_word row))
-        (row_destinations facts.now row) }
-    ensures few { result ≤ 200 }
-{
-    row_count(facts, table, scope, k, row) * takes_register(facts, row)
-}
-
 /// How many launches take a register of the pool.
 #[tactic(auto, using(crate::proofs::CountSteps::sum_more))]
 fn register_count(facts: &Facts, table: &Table, scope: &Scope, k: u32) -> u64
@@ -218,7 +197,7 @@ fn register_count(facts: &Facts, table: &Table, scope: &Scope, k: u32) -> u64
 {
     let mut count = 0;
     for row in 0..facts.row_numbers() {
-        count += row_registers(facts, table, scope, k, row);
+        count += row_count(facts, table, scope, k, row) * takes_register(facts, row);
     }
     count
 }

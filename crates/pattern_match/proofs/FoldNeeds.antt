@@ -6,7 +6,8 @@ use Rattle.std.proofs.lemmas.List.Kept.{AllPairs-cons}
 use Rattle.std.proofs.lemmas.Bool.Decides.{nat_tests}
 use Rattle.word_ops.specs.Operators.{operators, number_of, at_its_number, value_of}
 use Rattle.word_ops.specs.declared.operators.WordOp.{WordOp}
-use Rattle.word_ops.specs.declared.operators.WordOp.TheVariants.{Addl}
+use Rattle.word_ops.specs.declared.operates.Operate.TheVariants.{Addl}
+use Rattle.word_ops.specs.declared.operators.WordOp.TheVariants.{Operate}
 use Rattle.word_ops.specs.declared.sorts.Op.{Op}
 use Rattle.word_ops.specs.declared.sorts.Op.TheVariants.{Word}
 use Rattle.axiom_base.specs.Schemes.{folding, IsOf}
@@ -28,7 +29,8 @@ times op (o ∷ os) = cond (same_number op o) (suc (times op os)) (times op os)
 
 listed_once : (op : WordOp) → times op operators ≡ 1
 unfolding same_number times
-listed_once Addl = refl
+listed_once (Operate Addl) = refl
+listed_once (Operate _) = refl
 listed_once _ = refl
 
 -- equal numbers are of one operator

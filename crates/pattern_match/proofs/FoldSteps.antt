@@ -1,8 +1,7 @@
 -- Matches of folding, row by row. Which variables stand for constants is what `axiom_base` promises, given here as an
 -- argument.
-use Rattle.std.proofs.Common.{◌≡◌, ℕ, suc, ◌+◌, ◌<◌, List, [], ◌∷◌, length, get_or, drop, refl, sym, ap, ◌∙◌, subst, arith, drop-cons, IfSome, IsTrue, nat_eq, eq-eqb}
-use Rattle.std.specs.Prelude.{All, Contains, ◌↔◌}
-use Rattle.std.proofs.lemmas.Bool.Decides.{nat_tests}
+use Rattle.std.proofs.Common.{◌≡◌, ℕ, suc, ◌+◌, ◌<◌, List, [], ◌∷◌, length, get_or, drop, refl, sym, ap, ◌∙◌, subst, arith, drop-cons, IfSome}
+use Rattle.std.specs.Prelude.{All, Contains}
 use Rattle.std.proofs.lemmas.List.Elements.{All-nil, All-cons, All-contains}
 use Rattle.word_ops.specs.Words.{IsWord}
 use Rattle.word_ops.specs.Operators.{arity_of, value_of}
@@ -12,7 +11,7 @@ use Rattle.word_ops.specs.declared.sorts.Op.{Op}
 use Rattle.word_ops.specs.declared.sorts.Op.TheVariants.{Word, Constant}
 use Rattle.word_terms.specs.Keys.{op_signature}
 use Rattle.word_terms.specs.Signature.{HasWordConstant}
-use Rattle.axiom_base.specs.Equations.{constant}
+use Rattle.word_terms.specs.Building.{constant}
 use Rattle.axiom_base.specs.Computed.{fold_rewrite, variables_from}
 use Rattle.axiom_base.specs.Schemes.{folding, folded}
 use Rattle.egraph.specs.declared.rows.Row.{Row}
@@ -47,11 +46,9 @@ module _ (g : Graph Op) (is : IsGraph op_signature g) where
   constants_are_words (c ∷ cs) [] h = absurd h
   constants_are_words (c ∷ cs) (w ∷ ws) h = All-cons IsWord w ws (constant_is_word c w h.0) (constants_are_words cs ws h.1)
 
-  pub constant_test : (v class found : ℕ) → HasRow g.rows (Constant v) [] found → IsTrue (nat_eq found class) ↔ HasRow g.rows (Constant v) [] class
-  constant_test v class found h = (
-    λ t. (let e : found ≡ class = grind (arith, nat_tests, t) in subst (HasRow g.rows (Constant v) []) e h),
-    λ k. (let e = one_class g is.distinct [] (at_row no_classes h) (at_row no_classes k) in eq-eqb found class e),
-  )
+  -- a constant has one class
+  pub one_row : {v class other : ℕ} → HasRow g.rows (Constant v) [] class → HasRow g.rows (Constant v) [] other → class ≡ other
+  one_row h k = one_class g is.distinct [] (at_row no_classes h) (at_row no_classes k)
 
   module _ (numbers : AreNumbered) where
     -- the constants of a match of folding

@@ -1,7 +1,7 @@
 -- From what the walk finds to lists of classes.
-use Rattle.std.proofs.Common.{◌≡◌, ℕ, zero, suc, ◌<◌, ◌+◌, false, List, [], ◌∷◌, ◌++◌, map, length, take, get_or, Option, Some, None, All, Contains, refl, sym, ap, ◌∙◌, subst, subst₂, inl, inr, ◌⊎◌, arith}
+use Rattle.std.proofs.Common.{◌≡◌, ℕ, zero, suc, ◌<◌, ◌+◌, false, List, [], ◌∷◌, ◌++◌, map, length, replicate, take, get_or, Option, Some, None, All, Contains, refl, sym, ap, ◌∙◌, subst, subst₂, inl, inr, ◌⊎◌, arith}
 use Rattle.std.specs.Prelude.{unwrap_or}
-use Rattle.std.proofs.lemmas.List.{get_or-map, length-map, get_or_default, get_or_past, length-append, take_more, map-append, append_assoc, same_lists}
+use Rattle.std.proofs.lemmas.List.{get_or-map, length-map, length-replicate, get_or_default, get_or_past, take_more, map-append, append_assoc, same_lists}
 use Rattle.std.proofs.lemmas.List.Elements.{All-append, All-get_or, All-contains, Contains-get_or, Contains-append_left, Contains-append_right}
 use Rattle.std.proofs.lemmas.Bool.{cases_lt}
 use Rattle.std.proofs.lemmas.Option.{slice_get-get_or}
@@ -22,20 +22,13 @@ use Rattle.pattern_match.proofs.Walking.{one_class, one_classes, count_of_classe
 
 -- ---- nothing known
 
-pub unknown_none : IsUnknown 0 []
-unknown_none = record { length_is = refl; each = λ v. refl }
+known_in_none : (n v : ℕ) → known_class (replicate n None) v ≡ None
+known_in_none zero v = refl
+known_in_none (suc n) zero = refl
+known_in_none (suc n) (suc v) = known_in_none n v
 
-known_push : (b : Binding) → ((v : ℕ) → known_class b v ≡ None) → (v : ℕ) → known_class (b ++ None ∷ []) v ≡ None
-known_push [] h zero = refl
-known_push [] h (suc v) = refl
-known_push (x ∷ b) h zero = h 0
-known_push (x ∷ b) h (suc v) = known_push b (λ w. h (suc w)) v
-
-pub unknown_more : (n : ℕ) (b : Binding) → IsUnknown n b → IsUnknown (n + 1) (b ++ None ∷ [])
-unknown_more n b h = record {
-  length_is = let l : length (b ++ None ∷ []) ≡ length b + 1 = length-append b (None ∷ []) in omega (arith, l, h.length_is);
-  each = known_push b h.each;
-}
+pub unknown_all : (n : ℕ) → IsUnknown n (replicate n None)
+unknown_all n = record { length_is = length-replicate n None; each = known_in_none n }
 
 unknown_agrees : (n : ℕ) (b : Binding) (cs : List ℕ) → IsUnknown n b → length cs ≡ n → Agrees b cs
 unknown_agrees n b cs h l = record { count = l ∙ sym h.length_is; each = λ v x k. let e : None ≡ Some x = sym (h.each v) ∙ k in absurd (cc) }

@@ -7,7 +7,7 @@ use Rattle.word_ops.specs.declared.sorts.Op.{Op}
 use Rattle.word_ops.specs.declared.sorts.Op.TheVariants.{Word}
 use Rattle.word_terms.specs.Keys.{op_signature}
 use Rattle.axiom_base.specs.Rewrites.{Rewrite}
-use Rattle.axiom_base.specs.Equations.{constant}
+use Rattle.word_terms.specs.Building.{constant}
 use Rattle.axiom_base.specs.Schemes.{Scheme, computed, folding, IsOf, weight}
 use Rattle.axiom_base.specs.Conditions.{IsCalc, constants_of}
 use Rattle.axiom_base.specs.Computed.{first_constant, calc_right}

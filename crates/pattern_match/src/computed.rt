@@ -30,24 +30,10 @@ use word_ops::Op;
 pub fn calc_matches(alloc: Global, graph: &Egraph<Op>, kind: Calc) -> Result<Items<Match>, NoMemory>
     ensures exact { IfOk result (λ found. Lists (IsMatchOf graph.now (computed kind)) (map classes_in found)) }
 {
-    let tables = RowTables::new(alloc, graph)?;
-    find_calc_matches(alloc, graph, &tables, kind)
-}
-
-// The same, found with tables of the graph's rows.
-fn find_calc_matches(
-    alloc: Global,
-    graph: &Egraph<Op>,
-    tables: &RowTables,
-    kind: Calc,
-) -> Result<Items<Match>, NoMemory>
-    requires graph { IsGraph op_signature graph.now }
-    requires tables { AreTables graph.now tables.now }
-    ensures exact { IfOk result (λ found. Lists (IsMatchOf graph.now (computed kind)) (map classes_in found)) }
-{
     computed_rules_are_true();
     constants_are_numbered();
-    let matched = calc_substitutions(alloc, graph, tables, kind)?;
+    let tables = RowTables::new(alloc, graph)?;
+    let matched = calc_substitutions(alloc, graph, &tables, kind)?;
     let mut found = Vec::new(alloc);
     for one in &matched {
         let given = calc_given(alloc, graph, kind, one.classes.as_slice())?;
@@ -120,9 +106,9 @@ pub fn calc_need(alloc: Global, graph: &Egraph<Op>, kind: Calc) -> Result<u64, N
     Ok((found.len() as u64).saturating_mul(operators(&right)))
 }
 
-/// The constant e that the constants of the classes of c and d give, or `None` where one of these classes has no
-/// constant or they don't meet the condition.
-pub fn calc_given(
+// The constant e that the constants of the classes of c and d give, or `None` where one of these classes has no
+// constant or they don't meet the condition.
+fn calc_given(
     alloc: Global,
     graph: &Egraph<Op>,
     kind: Calc,

@@ -52,20 +52,8 @@ fn folded(alloc: Global, graph: &Egraph<Op>, row: &Row<Op>) -> Result<Option<u64
         return Ok(None);
     };
     let value = apply(op, &words);
-    if is_constant(graph, row.class, value) {
-        Ok(None)
-    } else {
-        Ok(Some(value))
-    }
-}
-
-// Whether the class has this constant.
-fn is_constant(graph: &Egraph<Op>, class: u32, word: u64) -> bool
-    requires { IsGraph op_signature graph.now }
-    ensures { IsTrue result ↔ HasRow graph.now.rows (Constant word) [] class }
-{
-    match graph.class_of(Op::Constant(word), &[]) {
-        Some(found) => found == class,
-        None => false,
+    match graph.class_of(Op::Constant(value), &[]) {
+        Some(class) if class == row.class => Ok(None),
+        _ => Ok(Some(value)),
     }
 }

@@ -21,10 +21,10 @@ mod row_lists;
 mod searching;
 mod walk;
 
-pub use computed::{calc_given, calc_matches, calc_need, calc_unmet, find_calc_unmet};
+pub use computed::{calc_matches, calc_need, calc_unmet, find_calc_unmet};
 pub use folding::folds;
 pub use found::{Fold, Match};
 pub use laws::{matches_have_sorts, terms_have_one_class};
 pub use plain::{find_unmet, matches, need, operators, unmet};
 pub use reading::class_of_pattern;
-pub use row_lists::{ListKey, RowLists, RowTables};
+pub use row_lists::RowTables;

@@ -61,22 +61,6 @@ fn list_key_of(op: Op, class: u32) -> ListKey
     }
 }
 
-fn key_part(by_class: bool, class: u32) -> u32
-    ensures { result ≡ part_of by_class class }
-{
-    if by_class { class } else { 0 }
-}
-
-fn no_places(alloc: Global, count: u32) -> Result<Vec<Option<u32>>, NoMemory>
-    ensures { IfOk result (λ places. length places.items ≡ count) }
-{
-    let mut places = Vec::new(alloc);
-    for _at in 0..count {
-        places.push(None)?;
-    }
-    Ok(places)
-}
-
 impl RowLists {
     /// The lists of all rows. Each row costs one look-up.
     fn new(alloc: Global, graph: &Egraph<Op>, by_class: bool) -> Result<RowLists, NoMemory>
@@ -86,12 +70,13 @@ impl RowLists {
         let mut at = graph.rows();
         let mut lists = RowLists {
             firsts: IndexMap::new(alloc),
-            nexts: no_places(alloc, at)?,
+            nexts: vec![in alloc; None; at as usize]?,
         };
         while at > 0 {
             at -= 1;
             let row = graph.row(at);
-            lists.put_first(at, row.op, key_part(by_class, row.class))?;
+            let class = if by_class { row.class } else { 0 };
+            lists.put_first(at, row.op, class)?;
         }
         Ok(lists)
     }

@@ -99,19 +99,8 @@ fn among_rows(
 fn start(alloc: Global, count: usize) -> Result<Vec<Items<Option<u32>>>, NoMemory>
     ensures { IfOk result (λ list. (b : Binding) × IsUnknown count b × (list.items ≡ b ∷ [])) }
 {
-    let mut list = Vec::new(alloc);
-    list.push(unknown(alloc, count)?)?;
-    Ok(list)
-}
-
-fn unknown(alloc: Global, count: usize) -> Result<Items<Option<u32>>, NoMemory>
-    ensures { IfOk result (IsUnknown count) }
-{
-    let mut bound = Items::new(alloc);
-    for _at in 0..count {
-        bound.push(None)?;
-    }
-    Ok(bound)
+    let unknown = Items::from(vec![in alloc; None; count]?);
+    Ok(vec![in alloc; unknown]?)
 }
 
 // The matches of this class, one for each item, of which all variables are known.
@@ -124,23 +113,13 @@ fn add_matches(
     ensures { OnOk result (out.new.items ≡ out.old.items ++ map (substitution_match class) bounds.now) }
 {
     for bound in bounds {
-        let classes = substitution_of(alloc, bound.as_slice())?;
+        let known = bound.as_slice().iter();
+        let classes: Vec<u32> = known.map(|class| class.unwrap_or(0)).collect(alloc)?;
         out.push(Match {
-            classes,
+            classes: Items::from(classes),
             class,
             given: None,
         })?;
     }
     Ok(())
-}
-
-// The classes, where all are known.
-fn substitution_of(alloc: Global, bound: &[Option<u32>]) -> Result<Items<u32>, NoMemory>
-    ensures { IfOk result (λ classes. classes ≡ substitution bound.now) }
-{
-    let mut classes = Items::new(alloc);
-    for known in bound {
-        classes.push(known.unwrap_or(0))?;
-    }
-    Ok(classes)
 }

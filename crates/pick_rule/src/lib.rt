@@ -1,4 +1,8 @@
 //! A stored rule that picks a place of a list of scores, as a solver picks its next decision.
+//!
+//! Proved: a stored rule picks a place below the length, on every list that isn't empty; the struct itself keeps this.
+//! The first place, the last one and the first with the greatest score have exact contracts (`first_place`,
+//! `last_place`, `busiest_place`).
 #![tactic(auto)]
 
 ghost use Rattle.std.specs.Prelude.{◌≡◌, ◌<◌, ℕ, List, length};

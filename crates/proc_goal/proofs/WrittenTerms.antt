@@ -11,8 +11,10 @@ use Rattle.forms.specs.Printing.{CanPrint, CanPrintAll, atom, list, more, plain_
 use Rattle.text_core.specs.Names.{IsName}
 use Rattle.word_ops.specs.Meanings.{arity_of_op, operand_sort, sort_of}
 use Rattle.word_ops.specs.Names.{name_of}
+use Rattle.word_ops.specs.declared.sorts.Access.TheVariants.{Quad}
 use Rattle.word_ops.specs.declared.operators.WordOp.{WordOp}
-use Rattle.word_ops.specs.declared.operators.WordOp.TheVariants.{Addl}
+use Rattle.word_ops.specs.declared.operates.Operate.TheVariants.{Addl}
+use Rattle.word_ops.specs.declared.operators.WordOp.TheVariants.{Operate}
 use Rattle.word_ops.specs.declared.sorts.Op.{Op}
 use Rattle.word_ops.specs.declared.sorts.Op.TheVariants as ops
 use Rattle.word_ops.specs.declared.sorts.Sort.{Sort}
@@ -39,12 +41,14 @@ use Rattle.proc_goal.specs.WellFormed.{IsTermOver}
 
 -- ---- operators
 name_printable : (op : WordOp) → IsName (name_of op)
-name_printable Addl = record { begins = refl; each = refl }
+name_printable (Operate Addl) = record { begins = refl; each = refl }
+name_printable (Operate _) = record { begins = refl; each = refl }
 name_printable _ = record { begins = refl; each = refl }
 
 word_back : (op : WordOp) → word_named (name_of op) ≡ Some op
 unfolding word_named
-word_back Addl = refl
+word_back (Operate Addl) = refl
+word_back (Operate _) = refl
 word_back _ = refl
 
 select_is_no_word : word_named (codes "select") ≡ None
@@ -59,10 +63,10 @@ word_operator_back : (op : WordOp) → is_written op ≡ true → operator_named
 word_operator_back op w =
     ap (λ o. option_or (written_or_memory o (name_of op)) None) (word_back op) ∙ ap (λ b. option_or (if b then Some (ops.Word op) else None) None) w
 
-select_back : operator_named [] (operator_name [] ops.Select) ≡ Some ops.Select
+select_back : operator_named [] (operator_name [] (ops.Select Quad)) ≡ Some (ops.Select Quad)
 select_back = ap (λ o. option_or (written_or_memory o (codes "select")) None) select_is_no_word
 
-store_back : operator_named [] (operator_name [] ops.Store) ≡ Some ops.Store
+store_back : operator_named [] (operator_name [] (ops.Store Quad)) ≡ Some (ops.Store Quad)
 store_back = ap (λ o. option_or (written_or_memory o (codes "store")) None) store_is_no_word
 
 -- ---- variables
@@ -185,12 +189,12 @@ module _ (vars : List InputReg) (are : AreNamedVariables vars) where
     term_of_sort (tree.application (ops.Word w) ts) sort h o g e =
         subst (λ (s : Sort). Writes (term_scope vars) s g (tree.application (ops.Word w) ts)) h.0
         (application_written (ops.Word w) ts g (word_operator_back w o.0) h.2 e (λ fs d. operands_written (ops.Word w) 0 ts h.3 o.1 fs d))
-    term_of_sort (tree.application ops.Select ts) sort h o g e =
-        subst (λ (s : Sort). Writes (term_scope vars) s g (tree.application ops.Select ts)) h.0 (application_written ops.Select ts g select_back h.2 e (λ fs d. operands_written ops.Select 0 ts h.3 o.1 fs d))
-    term_of_sort (tree.application ops.Store ts) sort h o g e =
-        subst (λ (s : Sort). Writes (term_scope vars) s g (tree.application ops.Store ts)) h.0 (application_written ops.Store ts g store_back h.2 e (λ fs d. operands_written ops.Store 0 ts h.3 o.1 fs d))
-    term_of_sort (tree.application ops.Load ts) sort h o g e = absurd o.0
-    term_of_sort (tree.application ops.Put ts) sort h o g e = absurd o.0
+    term_of_sort (tree.application (ops.Select Quad) ts) sort h o g e =
+        subst (λ (s : Sort). Writes (term_scope vars) s g (tree.application (ops.Select Quad) ts)) h.0 (application_written (ops.Select Quad) ts g select_back h.2 e (λ fs d. operands_written (ops.Select Quad) 0 ts h.3 o.1 fs d))
+    term_of_sort (tree.application (ops.Store Quad) ts) sort h o g e =
+        subst (λ (s : Sort). Writes (term_scope vars) s g (tree.application (ops.Store Quad) ts)) h.0 (application_written (ops.Store Quad) ts g store_back h.2 e (λ fs d. operands_written (ops.Store Quad) 0 ts h.3 o.1 fs d))
+    term_of_sort (tree.application (ops.Load access) ts) sort h o g e = absurd o.0
+    term_of_sort (tree.application (ops.Put access) ts) sort h o g e = absurd o.0
     term_of_sort (tree.application (ops.Declared index arity) ts) sort h o g e = absurd (let low = o.0.below in omega (arith, low))
 
     operands_written : (op : Op) (at : ℕ) (ts : Trees Op) → HaveSorts op_signature [] op at ts → AreOver ts → (fs : Forms) → plains_of fs ≡ terms_plain (naming_over vars) ts → WritesEach (term_scope vars) op at fs ts
@@ -219,10 +223,10 @@ module _ (vars : List InputReg) (are : AreNamedVariables vars) where
     printable (tree.application (ops.Input r) ts) sort h o = input_printable r o.0
     printable (tree.application (ops.Constant k) ts) sort h o = h.1
     printable (tree.application (ops.Word w) ts) sort h o = (name_printable w, all_printable (ops.Word w) 0 ts h.3 o.1)
-    printable (tree.application ops.Select ts) sort h o = (record { begins = refl; each = refl }, all_printable ops.Select 0 ts h.3 o.1)
-    printable (tree.application ops.Store ts) sort h o = (record { begins = refl; each = refl }, all_printable ops.Store 0 ts h.3 o.1)
-    printable (tree.application ops.Load ts) sort h o = absurd o.0
-    printable (tree.application ops.Put ts) sort h o = absurd o.0
+    printable (tree.application (ops.Select Quad) ts) sort h o = (record { begins = refl; each = refl }, all_printable (ops.Select Quad) 0 ts h.3 o.1)
+    printable (tree.application (ops.Store Quad) ts) sort h o = (record { begins = refl; each = refl }, all_printable (ops.Store Quad) 0 ts h.3 o.1)
+    printable (tree.application (ops.Load access) ts) sort h o = absurd o.0
+    printable (tree.application (ops.Put access) ts) sort h o = absurd o.0
     printable (tree.application (ops.Declared index arity) ts) sort h o = absurd (let low = o.0.below in omega (arith, low))
 
     all_printable : (op : Op) (at : ℕ) (ts : Trees Op) → HaveSorts op_signature [] op at ts → AreOver ts → CanPrintAll (terms_plain (naming_over vars) ts)

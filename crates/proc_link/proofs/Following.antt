@@ -9,7 +9,8 @@ use Rattle.std.proofs.lemmas.List.Elements.{All-nil, All-cons, All-contains, All
 use Rattle.std.proofs.lemmas.Slice.Eq.{bytes_eq-Decides}
 use Rattle.std.proofs.lemmas.Slice.Zip.{AllZip-long}
 use Rattle.word_ops.specs.declared.operators.WordOp.{WordOp}
-use Rattle.word_ops.specs.Memory.{Memory, IsMemory, put_word}
+use Rattle.word_ops.specs.Memory.{Memory, IsMemory, loaded, stored}
+use Rattle.word_ops.specs.declared.sorts.Access.{Access}
 use Rattle.word_ops.specs.Operators.{value_of}
 use Rattle.word_ops.specs.Words.{IsWord}
 use Rattle.alpha_encode.specs.Decoded.{decoded}
@@ -120,16 +121,17 @@ module _ (p : ProcTree) (is_proc : IsProc p) where
           (sums : (m n : ℕ) (instrs : List Instr) (s : MachineState) → after (m + n) instrs s ≡ after n instrs (after m instrs s))
           (stays : (n : ℕ) (instrs : List Instr) (s : MachineState) → length instrs ≤ s.pc / 4 → after n instrs s ≡ s)
           (is_word : (op : WordOp) (vs : List ℕ) → All IsWord vs → IsWord (value_of op vs))
-          (is_memory : (m : Memory) (place v : ℕ) → IsMemory m → place < 2 ^ 61 → IsWord v → IsMemory (put_word m place v)) where
+          (is_loaded : (access : Access) (m : Memory) (a : ℕ) → IsMemory m → IsWord (loaded access m a))
+          (is_stored : (access : Access) (m : Memory) (a v : ℕ) → IsMemory m → IsWord a → IsWord v → IsMemory (stored access m a v)) where
         steps_there : (n : ℕ) (s : BlockState) → IsProcTarget (length p.blocks) s.at → IsProcTarget (length p.blocks) (block_steps n p s).at
         steps_there zero s there = there
         steps_there (suc n) s there =
-            steps_there n (block_step p s) (next_target last sums stays is_word is_memory p all (are_done ls are) s s.at refl there)
+            steps_there n (block_step p s) (next_target last sums stays is_word is_loaded is_stored p all (are_done ls are) s s.at refl there)
 
         one : (s : BlockState) (m : MachineState) → IsProcTarget (length p.blocks) s.at → ShowsBlockState p (starts_of all) (4 * length words) s m
             → ComesTo p (starts_of all) (4 * length words) (linked p.blocks all) m 193 (block_step p s)
         one s m there h =
-            let run : LeadsOn p all m 193 (block_step p s) = one_step last sums stays is_word is_memory p all (are_done ls are) s m there (shown_at s m there h) in
+            let run : LeadsOn p all m 193 (block_step p s) = one_step last sums stays is_word is_loaded is_stored p all (are_done ls are) s m there (shown_at s m there h) in
             record {
               steps = run.steps;
               few = run.few;
@@ -145,7 +147,7 @@ module _ (p : ProcTree) (is_proc : IsProc p) where
           follow = λ n m is pc.
               let first : IsProcTarget (length p.blocks) (Block 0) = is_proc.rules.blocks.0 in
               let run : LeadsOn p all m (193 * n) (block_steps n p (begun p m)) =
-              all_steps last sums stays is_word is_memory p all (are_done ls are) n (begun p m) m first (begins m is pc) in
+              all_steps last sums stays is_word is_loaded is_stored p all (are_done ls are) n (begun p m) m first (begins m is pc) in
               record {
                 steps = run.steps;
                 few = run.few;

@@ -1,14 +1,16 @@
 -- Instructions keep a state a state.
 use Rattle.std.proofs.Common.{◌≡◌, ℕ, ℤ, zero, suc, ◌/◌, ◌^◌, ◌<◌, List, [], ◌∷◌, refl, sym, ◌∙◌, ap, subst, inl, inr, arith, Bool, true, false, ◌==◌, set, Option, Some, None}
 use Rattle.std.specs.Prelude.{All, slice_get, slice_index, if◌then◌else◌}
-use Rattle.std.specs.FinMap.{get}
-use Rattle.std.specs.Option.{option_map_or, unwrap_or}
+use Rattle.std.specs.Option.{option_map_or}
 use Rattle.std.proofs.lemmas.Bool.Decides.{eqb_tells}
 use Rattle.std.proofs.lemmas.List.{get_or-set_other, length-set}
 use Rattle.std.proofs.lemmas.List.Elements.{All-nil, All-cons, All-set, All-get_or}
 use Rattle.std.proofs.lemmas.Option.{slice_get_within, get_or_from_slice_get}
 use Rattle.word_ops.specs.declared.operators.WordOp.{WordOp}
-use Rattle.word_ops.specs.Memory.{Memory, IsMemory, word_at, put_word}
+use Rattle.word_ops.specs.Memory.{Memory, IsMemory, loaded, stored}
+use Rattle.word_ops.specs.declared.operates.Operate.{Operate as OperateOf}
+use Rattle.word_ops.specs.declared.operators.WordOp.TheVariants as words
+use Rattle.word_ops.specs.declared.sorts.Access.{Access}
 use Rattle.word_ops.specs.Operators.{value_at, value_of}
 use Rattle.word_ops.specs.Words.{IsWord}
 use Rattle.alpha_encode.specs.Codes.{is_unary}
@@ -16,24 +18,17 @@ use Rattle.alpha_encode.specs.Formats.{IsWellFormed, IsSecond}
 use Rattle.alpha_encode.specs.declared.instructions.Second.{Second}
 use Rattle.alpha_encode.specs.declared.instructions.Second.TheVariants.{Reg, Literal}
 use Rattle.alpha_encode.specs.declared.instructions.Instr.{Instr}
-use Rattle.alpha_encode.specs.declared.instructions.Instr.TheVariants.{Operate, Lda, Ldah, LdqU, StqU, Beq}
+use Rattle.alpha_encode.specs.declared.instructions.Instr.TheVariants.{Operate, Lda, Ldah, Load, Store, Beq}
 use Rattle.alpha_machine.specs.States.{MachineState, IsState}
 use Rattle.alpha_machine.specs.Steps.{step, second_value, operate_value, address, with_register, next_pc}
 use Rattle.alpha_machine.specs.Runs.{stepped, after}
-
-held_word : (m : Memory) (place : ℕ) → IsMemory m → IsWord (word_at m place)
-unfolding word_at
-held_word m place is = by (get m place) refl
-  where
-    by : (o : Option ℕ) → get m place ≡ o → IsWord (unwrap_or o 0)
-    by None e = omega arith
-    by (Some v) e = let k = is.words place v e in k.1
 
 pub well_formed_at : (is : List Instr) (k : ℕ) (i : Instr) → All IsWellFormed is → slice_get is k ≡ Some i → IsWellFormed i
 well_formed_at is k i wf there = subst IsWellFormed (get_or_from_slice_get is k i i there) (wf k i (slice_get_within is k i there))
 
 module _ (is_word : (op : WordOp) (vs : List ℕ) → All IsWord vs → IsWord (value_of op vs))
-    (is_memory : (m : Memory) (place v : ℕ) → IsMemory m → place < 2 ^ 61 → IsWord v → IsMemory (put_word m place v)) where
+    (is_loaded : (access : Access) (m : Memory) (a : ℕ) → IsMemory m → IsWord (loaded access m a))
+    (is_stored : (access : Access) (m : Memory) (a v : ℕ) → IsMemory m → IsWord a → IsWord v → IsMemory (stored access m a v)) where
   module _ (s : MachineState) (h : IsState s) where
     read_word : (r : ℕ) → r < 32 → IsWord (slice_index s.registers r)
     read_word r below = All-get_or IsWord s.registers r 0 (let c = h.registers in omega arith) h.words
@@ -64,12 +59,12 @@ module _ (is_word : (op : WordOp) (vs : List ℕ) → All IsWord vs → IsWord (
     second_word (Reg r) is = read_word r is
     second_word (Literal n) is = omega (arith, is)
 
-    operate_word : (op : WordOp) (a b : ℕ) → IsWord a → IsWord b → IsWord (operate_value op a b)
+    operate_word : (op : OperateOf) (a b : ℕ) → IsWord a → IsWord b → IsWord (operate_value op a b)
     operate_word op a b is_a is_b = by (is_unary op)
       where
-        by : (u : Bool) → IsWord (if u then value_at op b 0 0 else value_at op a b 0)
-        by true = is_word op (b ∷ []) (All-cons IsWord b [] is_b (All-nil IsWord))
-        by false = is_word op (a ∷ b ∷ []) (All-cons IsWord a (b ∷ []) is_a (All-cons IsWord b [] is_b (All-nil IsWord)))
+        by : (u : Bool) → IsWord (if u then value_at (words.Operate op) b 0 0 else value_at (words.Operate op) a b 0)
+        by true = is_word (words.Operate op) (b ∷ []) (All-cons IsWord b [] is_b (All-nil IsWord))
+        by false = is_word (words.Operate op) (a ∷ b ∷ []) (All-cons IsWord a (b ∷ []) is_a (All-cons IsWord b [] is_b (All-nil IsWord)))
 
     branched : (b : Bool) (a : ℕ) → IsWord a → IsWord (if b then a else next_pc s.pc)
     branched true a is = is
@@ -78,19 +73,19 @@ module _ (is_word : (op : WordOp) (vs : List ℕ) → All IsWord vs → IsWord (
     pub keeps : (i : Instr) → IsWellFormed i → IsState (step i s)
     keeps (Operate op ra second rc) wf =
         wrote rc (operate_value op (slice_index s.registers ra) (second_value second s.registers))
-        (operate_word op (slice_index s.registers ra) (second_value second s.registers) (read_word ra wf.1) (second_word second wf.2))
+        (operate_word op (slice_index s.registers ra) (second_value second s.registers) (read_word ra wf.0) (second_word second wf.1))
     keeps (Lda ra rb disp) wf = wrote ra (address (slice_index s.registers rb) 1 disp) (address_word (slice_index s.registers rb) 1 disp)
     keeps (Ldah ra rb disp) wf = wrote ra (address (slice_index s.registers rb) 65536 disp) (address_word (slice_index s.registers rb) 65536 disp)
-    keeps (LdqU ra rb disp) wf =
-        let place = address (slice_index s.registers rb) 1 disp / 8 in
-        wrote ra (word_at s.memory place) (held_word s.memory place h.memory)
-    keeps (StqU ra rb disp) wf =
-        let low : address (slice_index s.registers rb) 1 disp / 8 < 2 ^ 61 = omega arith in
+    keeps (Load access ra rb disp) wf =
+        let a = address (slice_index s.registers rb) 1 disp in
+        wrote ra (loaded access s.memory a) (is_loaded access s.memory a h.memory)
+    keeps (Store access ra rb disp) wf =
+        let a = address (slice_index s.registers rb) 1 disp in
         record {
           registers = h.registers;
           words = h.words;
           zero_register = h.zero_register;
-          memory = is_memory s.memory (address (slice_index s.registers rb) 1 disp / 8) (slice_index s.registers ra) h.memory low (read_word ra wf.0);
+          memory = is_stored access s.memory a (slice_index s.registers ra) h.memory (address_word (slice_index s.registers rb) 1 disp) (read_word ra wf.0);
           pc = next_word s.pc;
         }
     keeps (Beq ra disp) wf = record {

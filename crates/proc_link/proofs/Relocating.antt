@@ -6,7 +6,7 @@ use Rattle.std.proofs.lemmas.Bool.Decides.{eqb_tells, nat_tests}
 use Rattle.std.proofs.lemmas.Int.{ints}
 use Rattle.std.proofs.lemmas.Option.{slice_get_cases, slice_get_within}
 use Rattle.alpha_encode.specs.declared.instructions.Instr.{Instr}
-use Rattle.alpha_encode.specs.declared.instructions.Instr.TheVariants.{Operate, Lda, Ldah, LdqU, StqU, Beq}
+use Rattle.alpha_encode.specs.declared.instructions.Instr.TheVariants.{Operate, Lda, Ldah, Load, Store, Beq}
 use Rattle.alpha_machine.specs.States.{MachineState}
 use Rattle.alpha_machine.specs.Steps.{step, next_pc, address}
 use Rattle.alpha_machine.specs.Runs.{stepped, after, IsAllowedAt}
@@ -49,8 +49,8 @@ decide : (i : Instr) (s : MachineState) → GoesOn i s ⊎ IsTaken i s
 decide (Operate op ra second rc) s = inl tt
 decide (Lda ra rb disp) s = inl tt
 decide (Ldah ra rb disp) s = inl tt
-decide (LdqU ra rb disp) s = inl tt
-decide (StqU ra rb disp) s = inl tt
+decide (Load access ra rb disp) s = inl tt
+decide (Store access ra rb disp) s = inl tt
 decide (Beq ra disp) s = elim (eqb_tells (slice_index s.registers ra) 0) [ inl t ↦ inr t.1 | inr t ↦ inl t.1 ]
 
 -- a branch that isn't taken, and one that is
@@ -70,8 +70,8 @@ goes_pc : (i : Instr) (s : MachineState) (k : ℕ) → GoesOn i s → s.pc ≡ 4
 goes_pc (Operate op ra second rc) s k on pc few = omega (arith, pc, few)
 goes_pc (Lda ra rb disp) s k on pc few = omega (arith, pc, few)
 goes_pc (Ldah ra rb disp) s k on pc few = omega (arith, pc, few)
-goes_pc (LdqU ra rb disp) s k on pc few = omega (arith, pc, few)
-goes_pc (StqU ra rb disp) s k on pc few = omega (arith, pc, few)
+goes_pc (Load access ra rb disp) s k on pc few = omega (arith, pc, few)
+goes_pc (Store access ra rb disp) s k on pc few = omega (arith, pc, few)
 goes_pc (Beq ra disp) s k on pc few = ap (λ m. m.pc) (passes ra disp s on) ∙ omega (arith, pc, few)
 
 -- one instruction that goes on does the same where it is moved
@@ -83,8 +83,8 @@ module _ (d at to k : ℕ) (s : MachineState) (pc : s.pc ≡ 4 * k) (few : k < 2
   one_moved (Operate op ra second rc) on = ap (λ p. record { registers = (step (Operate op ra second rc) s).registers; memory = s.memory; pc = p }) next_moved
   one_moved (Lda ra rb disp) on = ap (λ p. record { registers = (step (Lda ra rb disp) s).registers; memory = s.memory; pc = p }) next_moved
   one_moved (Ldah ra rb disp) on = ap (λ p. record { registers = (step (Ldah ra rb disp) s).registers; memory = s.memory; pc = p }) next_moved
-  one_moved (LdqU ra rb disp) on = ap (λ p. record { registers = (step (LdqU ra rb disp) s).registers; memory = s.memory; pc = p }) next_moved
-  one_moved (StqU ra rb disp) on = ap (λ p. record { registers = s.registers; memory = (step (StqU ra rb disp) s).memory; pc = p }) next_moved
+  one_moved (Load access ra rb disp) on = ap (λ p. record { registers = (step (Load access ra rb disp) s).registers; memory = s.memory; pc = p }) next_moved
+  one_moved (Store access ra rb disp) on = ap (λ p. record { registers = s.registers; memory = (step (Store access ra rb disp) s).memory; pc = p }) next_moved
   one_moved (Beq ra disp) on =
       passes ra (displacement_between at to) (moved d s) on
       ∙ ap (λ p. record { registers = s.registers; memory = s.memory; pc = p }) next_moved
@@ -145,8 +145,8 @@ module _ (last : (n : ℕ) (instrs : List Instr) (s : MachineState) → after (s
   one_gone k (Operate op ra second rc) e h z = absurd z
   one_gone k (Lda ra rb disp) e h z = absurd z
   one_gone k (Ldah ra rb disp) e h z = absurd z
-  one_gone k (LdqU ra rb disp) e h z = absurd z
-  one_gone k (StqU ra rb disp) e h z = absurd z
+  one_gone k (Load access ra rb disp) e h z = absurd z
+  one_gone k (Store access ra rb disp) e h z = absurd z
 
   run_cases : (k : ℕ) → k ≤ length is → IsStraight k ⊎ IsGone k
   run_cases zero le =

@@ -7,7 +7,8 @@ use Rattle.std.proofs.lemmas.List.Elements.{All-nil, All-cons}
 use Rattle.std.proofs.lemmas.Option.{slice_get_cases, slice_get_within, get_or_from_slice_get}
 use Rattle.std.proofs.lemmas.Slice.Zip.{AllZip-long, AllZip-left}
 use Rattle.word_ops.specs.declared.operators.WordOp.{WordOp}
-use Rattle.word_ops.specs.Memory.{Memory, IsMemory, put_word}
+use Rattle.word_ops.specs.Memory.{Memory, IsMemory, loaded, stored}
+use Rattle.word_ops.specs.declared.sorts.Access.{Access}
 use Rattle.word_ops.specs.Meanings.{as_word, as_memory}
 use Rattle.word_ops.specs.Operators.{value_of}
 use Rattle.word_ops.specs.Words.{IsWord}
@@ -84,7 +85,8 @@ module _ (last : (n : ℕ) (instrs : List Instr) (s : MachineState) → after (s
     (sums : (m n : ℕ) (instrs : List Instr) (s : MachineState) → after (m + n) instrs s ≡ after n instrs (after m instrs s))
     (stays : (n : ℕ) (instrs : List Instr) (s : MachineState) → length instrs ≤ s.pc / 4 → after n instrs s ≡ s)
     (is_word : (op : WordOp) (vs : List ℕ) → All IsWord vs → IsWord (value_of op vs))
-    (is_memory : (m : Memory) (place v : ℕ) → IsMemory m → place < 2 ^ 61 → IsWord v → IsMemory (put_word m place v))
+    (is_loaded : (access : Access) (m : Memory) (a : ℕ) → IsMemory m → IsWord (loaded access m a))
+    (is_stored : (access : Access) (m : Memory) (a v : ℕ) → IsMemory m → IsWord a → IsWord v → IsMemory (stored access m a v))
     (p : ProcTree) (listings : List (List Instr)) (are : AreDone p listings) where
   abbrev vars : List InputReg
   vars = p.vars
@@ -143,7 +145,7 @@ module _ (last : (n : ℕ) (instrs : List Instr) (s : MachineState) → after (s
         λ j. record { registers = m.registers; memory = m.memory; pc = e j }
 
     final_state : IsState final
-    final_state = all_keep is_word is_memory count is (entry_state w) listing.well_formed (record {
+    final_state = all_keep is_word is_loaded is_stored count is (entry_state w) listing.well_formed (record {
       registers = shows.state.registers;
       words = shows.state.words;
       zero_register = shows.state.zero_register;

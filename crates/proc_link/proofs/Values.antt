@@ -58,10 +58,10 @@ module _ (vars : List InputReg) (low : All (λ (v : InputReg). v.reg < 31) vars)
       ap word (read_world r (omega (arith, below, e)) ∙ found_word r v)
   op_same names (Constant c) h vs = refl
   op_same names (Word op) h vs = refl
-  op_same names Select h vs = refl
-  op_same names Store h vs = refl
-  op_same names Load h vs = refl
-  op_same names Put h vs = refl
+  op_same names (Select access) h vs = refl
+  op_same names (Store access) h vs = refl
+  op_same names (Load access) h vs = refl
+  op_same names (Put access) h vs = refl
   op_same names (Declared index arity) h vs = absurd (let b = h.below in omega (arith, b))
 
   module _ (names : ℕ → List ℕ) (words : ℕ → Value) where

@@ -3,13 +3,15 @@
 use Rattle.std.specs.Prelude.{ℕ, pos, List, [], ◌∷◌, None, Some, true, codes}
 use Rattle.std.specs.FinMap.{empty}
 use Rattle.word_ops.specs.Memory.{Memory, put_word}
+use Rattle.word_ops.specs.declared.sorts.Access.TheVariants.{Quad}
+use Rattle.word_ops.specs.declared.operates.Operate.TheVariants as operates
 use Rattle.word_ops.specs.declared.operators.WordOp.{WordOp}
 use Rattle.word_ops.specs.declared.operators.WordOp.TheVariants as ops
 use Rattle.word_ops.specs.declared.sorts.Op.{Op}
 use Rattle.word_ops.specs.declared.sorts.Op.TheVariants as op
 use Rattle.word_terms.specs.Tree.{Tree, application, operands_of}
 use Rattle.alpha_encode.specs.declared.instructions.Instr.{Instr}
-use Rattle.alpha_encode.specs.declared.instructions.Instr.TheVariants.{Operate, LdqU, StqU, Beq}
+use Rattle.alpha_encode.specs.declared.instructions.Instr.TheVariants.{Operate, Load, Store, Beq}
 use Rattle.alpha_encode.specs.declared.instructions.Second.TheVariants.{Reg, Literal}
 use Rattle.alpha_machine.specs.States.{MachineState}
 use Rattle.goal_meaning.specs.Views.{TargetTree}
@@ -28,7 +30,7 @@ abbrev pub of_two : WordOp → Tree Op → Tree Op → Tree Op
 of_two o t u = application (op.Word o) (operands_of (t ∷ u ∷ []))
 
 abbrev pub plus : Tree Op → ℕ → Tree Op
-plus t n = of_two ops.Addq t (application (op.Constant n) (operands_of []))
+plus t n = of_two (ops.Operate operates.Addq) t (application (op.Constant n) (operands_of []))
 
 abbrev pub pinned : List ℕ → ℕ → Tree Op → TargetTree
 pinned name reg t = record { name = name; value = t; pin = Some reg }
@@ -38,7 +40,7 @@ abbrev pub step_block : BlockTree
 step_block = record { name = codes "a"; when = None; sets = pinned (codes "p") 16 (plus (in_register 16) 1) ∷ []; go = Done }
 
 abbrev pub step_listing : List Instr
-step_listing = Operate ops.Addq 16 (Literal 1) 16 ∷ []
+step_listing = Operate operates.Addq 16 (Literal 1) 16 ∷ []
 
 abbrev pub worked_proc : List InputReg → BlockTree → ProcTree
 worked_proc vars block = record {
@@ -55,12 +57,12 @@ worked_proc vars block = record {
 abbrev pub copy_block : BlockTree
 copy_block = record {
   name = codes "top";
-  when = Some (record { guard = of_two ops.Cmpult (in_register 16) (in_register 18); other = Done });
+  when = Some (record { guard = of_two (ops.Operate operates.Cmpult) (in_register 16) (in_register 18); other = Done });
   sets = record {
     name = codes "M";
-    value = application op.Store
+    value = application (op.Store Quad)
         (operands_of (application op.Entry (operands_of []) ∷ in_register 17
-        ∷ application op.Select (operands_of (application op.Entry (operands_of []) ∷ in_register 16 ∷ [])) ∷ []));
+        ∷ application (op.Select Quad) (operands_of (application op.Entry (operands_of []) ∷ in_register 16 ∷ [])) ∷ []));
     pin = None;
   }
       ∷ pinned (codes "p") 16 (plus (in_register 16) 8) ∷ pinned (codes "q") 17 (plus (in_register 17) 8) ∷ [];
@@ -72,8 +74,8 @@ copy_proc = worked_proc (variable (codes "p") 16 ∷ variable (codes "q") 17 ∷
 
 abbrev pub copy_listing : List Instr
 copy_listing =
-    Operate ops.Cmpult 16 (Reg 18) 0 ∷ Beq 0 (pos 5) ∷ LdqU 1 16 (pos 0) ∷ Operate ops.Addq 16 (Literal 8) 16
-    ∷ StqU 1 17 (pos 0) ∷ Operate ops.Addq 17 (Literal 8) 17 ∷ []
+    Operate operates.Cmpult 16 (Reg 18) 0 ∷ Beq 0 (pos 5) ∷ Load Quad 1 16 (pos 0)
+    ∷ Operate operates.Addq 16 (Literal 8) 16 ∷ Store Quad 1 17 (pos 0) ∷ Operate operates.Addq 17 (Literal 8) 17 ∷ []
 
 -- p, q and r are 64, 128 and 80, and the memory has 9 at 64 and 5 at 72
 abbrev pub copy_memory : Memory

@@ -1,5 +1,9 @@
 //! Checks the lines of a refutation, hint by hint. Whoever has lines accepted here needs no trust in the solver that
 //! wrote them.
+//!
+//! Proved: `check` accepts exactly the lines that refute the formula, and then no assignment satisfies it; else it
+//! gives the first refused line and its least reason. `check_lemmas` is the same for lemmas. Lines are printed exactly,
+//! and read back wherever they stand in a text; accepted lines can be read back (`printed_lines_are_read_back`).
 #![tactic(auto)]
 
 mod hints;

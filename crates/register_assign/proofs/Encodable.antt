@@ -7,17 +7,19 @@ use Rattle.std.proofs.lemmas.Bool.{false≢true}
 use Rattle.std.proofs.lemmas.Bool.Decides.{nat_tests, leb_tells, eqb_tells}
 use Rattle.std.proofs.lemmas.Int.{ints}
 use Rattle.std.proofs.lemmas.Option.{same_Some, none-some}
+use Rattle.word_ops.specs.declared.operates.Operate.{Operate as OperateOf}
+use Rattle.word_ops.specs.declared.operates.Operate.TheVariants as operates
 use Rattle.word_ops.specs.declared.operators.WordOp.{WordOp}
 use Rattle.word_ops.specs.declared.operators.WordOp.TheVariants as ops
 use Rattle.word_ops.specs.declared.sorts.Op.{Op}
 use Rattle.word_ops.specs.declared.sorts.Op.TheVariants as op
 use Rattle.word_ops.specs.Operators.{arity_of}
 use Rattle.word_ops.specs.Meanings.{arity_of_op}
-use Rattle.alpha_encode.specs.Codes.{code_of, is_unary}
+use Rattle.word_ops.specs.Operates.{row_of}
+use Rattle.alpha_encode.specs.Codes.{is_unary}
 use Rattle.alpha_encode.specs.Formats.{IsWellFormed, IsSecond}
 use Rattle.alpha_encode.specs.declared.instructions.Second.TheVariants.{Reg, Literal}
 use Rattle.alpha_encode.specs.declared.instructions.Instr.TheVariants as instrs
-use Rattle.machine_table.specs.InstrOrder.{operate_kind}
 use Rattle.machine_table.specs.Tables.{MayUse}
 use Rattle.graph_meaning.specs.Graphs.{constant_of, is_zero_class}
 use Rattle.graph_meaning.specs.WellFormed.{IsLaunchGraph}
@@ -42,25 +44,10 @@ use Rattle.schedule_meaning.proofs.Copies.{row_no_copy, plain_kind}
 fits_16 : (c : ℕ) → FitsSigned w16 (cast_signed w16 (c % 2 ^ 16))
 fits_16 c = grind (arith, nat_tests, ints)
 
-has_code : (o : WordOp) → is_some (operate_kind o) ≡ true → IsSome (code_of o)
-has_code ops.Neg h = absurd (false≢true h)
-has_code ops.Not h = absurd (false≢true h)
-has_code ops.Selectb h = absurd (false≢true h)
-has_code ops.Storeb h = absurd (false≢true h)
-has_code ops.Lda h = absurd (false≢true h)
-has_code ops.Ldah h = absurd (false≢true h)
-has_code _ h = refl
-
-arities : (o : WordOp) → is_some (operate_kind o) ≡ true → (is_unary o ≡ true → arity_of o ≡ 1) × (is_unary o ≡ false → arity_of o ≡ 2)
-arities ops.Sextb h = ((λ e. refl), (λ e. absurd (false≢true (sym e))))
-arities ops.Sextw h = ((λ e. refl), (λ e. absurd (false≢true (sym e))))
-arities ops.Neg h = absurd (false≢true h)
-arities ops.Not h = absurd (false≢true h)
-arities ops.Selectb h = absurd (false≢true h)
-arities ops.Storeb h = absurd (false≢true h)
-arities ops.Lda h = absurd (false≢true h)
-arities ops.Ldah h = absurd (false≢true h)
-arities _ h = ((λ e. absurd (false≢true e)), (λ e. refl))
+arities : (o : OperateOf) → (is_unary o ≡ true → (row_of o).arity ≡ 1) × (is_unary o ≡ false → (row_of o).arity ≡ 2)
+arities operates.Sextb = ((λ e. refl), (λ e. absurd (false≢true (sym e))))
+arities operates.Sextw = ((λ e. refl), (λ e. absurd (false≢true (sym e))))
+arities _ = ((λ e. absurd (false≢true e)), (λ e. refl))
 
 index_low : (xs : List ℕ) (i : ℕ) → All (λ r. r < 31) xs → slice_index xs i < 32
 index_low [] i h = omega arith
@@ -128,33 +115,30 @@ module _ (g : LaunchGraph) (graph : IsLaunchGraph g) (table : Table) (ordered : 
     disp_fits : (class : ℕ) → FitsSigned w16 (displacement_of g class)
     disp_fits class = fits_16 (unwrap_or (constant_of g class) 0)
 
-    operate_fits : (o : WordOp) (xs : List ℕ) → is_some (operate_kind o) ≡ true → length xs ≡ arity_of o → IsWellFormed (operate_instr g table ordered n l o xs)
-    operate_fits o [] h e = (has_code o h, omega arith, omega arith, own_low n, λ u. refl)
-    operate_fits o (x ∷ []) h e = (has_code o h, omega arith, second_low x, own_low n, λ u. refl)
-    operate_fits o (x ∷ y ∷ ys) h e =
-        (has_code o h, reads_low x, second_low y, own_low n, λ u. absurd (let one = (arities o h).0 u in more (length ys) (arity_of o) e one))
+    operate_fits : (o : OperateOf) (xs : List ℕ) → length xs ≡ (row_of o).arity → IsWellFormed (operate_instr g table ordered n l o xs)
+    operate_fits o [] e = (omega arith, omega arith, own_low n, λ u. refl)
+    operate_fits o (x ∷ []) e = (omega arith, second_low x, own_low n, λ u. refl)
+    operate_fits o (x ∷ y ∷ ys) e =
+        (reads_low x, second_low y, own_low n, λ u. absurd (let one = (arities o).0 u in more (length ys) (row_of o).arity e one))
       where
         more : (n a : ℕ) → suc (suc n) ≡ a → a ≡ 1 → ⊥
         more n a h k = omega arith
 
-    operate_by : (o : WordOp) (xs : List ℕ) → length xs ≡ arity_of o → (P : InstrKind → Type 0) (q : Option InstrKind) → operate_kind o ≡ q → IsSomeAnd q P → IsWellFormed (operate_instr g table ordered n l o xs)
-    operate_by o xs e P (Some i) t h = operate_fits o xs (ap is_some t) e
-    operate_by o xs e P None t h = absurd h
-
     word_fits : (o : WordOp) (xs : List ℕ) (P : InstrKind → Type 0) → length xs ≡ arity_of o → IsSomeAnd (launch_instr g o xs) P → IsWellFormed (word_instr g table ordered n l o xs)
     word_fits ops.Lda xs P e h = (own_low n, reads_low (slice_index xs 0), disp_fits (slice_index xs 1))
     word_fits ops.Ldah xs P e h = (own_low n, reads_low (slice_index xs 0), disp_fits (slice_index xs 1))
-    word_fits o xs P e h = operate_by o xs e P (operate_kind o) refl h
+    word_fits (ops.Operate o) xs P e h = operate_fits o xs e
+    word_fits _ xs P e h = absurd h
 
     no_disp : FitsSigned w16 (pos 0)
     no_disp = grind (arith, nat_tests, ints)
 
     row_fits : (o : Op) (xs : List ℕ) (P : InstrKind → Type 0) → length xs ≡ arity_of_op o → IsSomeAnd (op_instr g o xs) P → IsWellFormed (row_instr g table ordered n l o xs)
     row_fits (op.Word o) xs P e h = word_fits o xs P e h
-    row_fits op.Select xs P e h = (own_low n, reads_low (slice_index xs 1), no_disp)
-    row_fits op.Load xs P e h = (own_low n, reads_low (slice_index xs 1), disp_fits (slice_index xs 2))
-    row_fits op.Store xs P e h = (reads_low (slice_index xs 2), reads_low (slice_index xs 1), no_disp)
-    row_fits op.Put xs P e h = (reads_low (slice_index xs 3), reads_low (slice_index xs 1), disp_fits (slice_index xs 2))
+    row_fits (op.Select access) xs P e h = (own_low n, reads_low (slice_index xs 1), no_disp)
+    row_fits (op.Load access) xs P e h = (own_low n, reads_low (slice_index xs 1), disp_fits (slice_index xs 2))
+    row_fits (op.Store access) xs P e h = (reads_low (slice_index xs 2), reads_low (slice_index xs 1), no_disp)
+    row_fits (op.Put access) xs P e h = (reads_low (slice_index xs 3), reads_low (slice_index xs 1), disp_fits (slice_index xs 2))
     row_fits op.Entry xs P e h = absurd h
     row_fits (op.Input r) xs P e h = absurd h
     row_fits (op.Constant c) xs P e h = absurd h
@@ -167,7 +151,7 @@ module _ (g : LaunchGraph) (graph : IsLaunchGraph g) (table : Table) (ordered : 
         (subst (λ (q : Option InstrKind). IsSomeAnd q (λ i. MayUse table i l.slot)) (row_kind g l r e) h)
 
     instr_copied : length ordered < 2 ^ 20 → CanLaunch g table l → (c : Option ℕ) → copied_at g l.row ≡ c → IsWellFormed (option_map_or (copy_instr g table ordered n l) c (option_map_or (λ r. row_instr g table ordered n l r.op r.operands) (slice_get g.rows l.row) (instrs.Beq (reg g table ordered n l (branch_class g table ordered n l)) (pos (length ordered - n)))))
-    instr_copied few h (Some class) e = (has_code ops.Bis refl, omega arith, second_low class, own_low n, λ u. refl)
+    instr_copied few h (Some class) e = (omega arith, second_low class, own_low n, λ u. refl)
     instr_copied few h None e = instr_by few h (slice_get g.rows l.row) refl
 
     -- the word of a launch that can be made

@@ -43,7 +43,6 @@ use Rattle.register_assign.proofs.Groups.{earlier_cycle, store_group, held_group
 use Rattle.register_assign.proofs.Stores.{at_take}
 use Rattle.register_assign.proofs.Branch.{branch_tests, other_step, left_by}
 use Rattle.register_assign.proofs.Obeying.{kind_at}
-use Rattle.register_assign.proofs.Operates.{branches_none}
 use Rattle.register_assign.proofs.Whole.{after_more, word_at_place, reached_after, reached_first}
 use Rattle.register_assign.proofs.Falling.{words_count, items_count}
 
@@ -88,14 +87,14 @@ module _ (g : LaunchGraph) where
   no_branch_word : (o : WordOp) (xs : List ℕ) → option_map_or is_branch (word_op_instr g o xs) false ≡ false
   no_branch_word ops.Lda xs = not_branch_if (is_some (constant_of g (slice_index xs 1))) kinds.Lda refl
   no_branch_word ops.Ldah xs = not_branch_if (is_some (constant_of g (slice_index xs 1))) kinds.Ldah refl
-  no_branch_word o xs = branches_none o
+  no_branch_word _ xs = refl
 
   no_branch_op : (o : Op) (xs : List ℕ) → option_map_or is_branch (op_instr g o xs) false ≡ false
   no_branch_op (op.Word o) xs = no_branch_word o xs
-  no_branch_op op.Select xs = refl
-  no_branch_op op.Store xs = refl
-  no_branch_op op.Load xs = not_branch_if (is_some (constant_of g (slice_index xs 2))) kinds.LdqU refl
-  no_branch_op op.Put xs = not_branch_if (is_some (constant_of g (slice_index xs 2))) kinds.StqU refl
+  no_branch_op (op.Select access) xs = refl
+  no_branch_op (op.Store access) xs = refl
+  no_branch_op (op.Load access) xs = not_branch_if (is_some (constant_of g (slice_index xs 2))) (kinds.Load access) refl
+  no_branch_op (op.Put access) xs = not_branch_if (is_some (constant_of g (slice_index xs 2))) (kinds.Store access) refl
   no_branch_op op.Entry xs = refl
   no_branch_op (op.Input r) xs = refl
   no_branch_op (op.Constant c) xs = refl

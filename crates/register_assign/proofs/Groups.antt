@@ -14,19 +14,19 @@ use Rattle.schedule_meaning.proofs.Pins.{idle_not_over, load_not_over}
 
 store_kind : (held : Bool) (o : Option InstrKind) → option_map_or is_store o false ≡ true → kind_group held o ≡ 3
 store_kind held None h = absurd (false≢true h)
-store_kind held (Some kinds.StqU) h = refl
+store_kind held (Some (kinds.Store access)) h = refl
 store_kind held (Some _) h = absurd (false≢true h)
 
 load_kind : (held : Bool) (o : Option InstrKind) → option_map_or is_load o false ≡ true → kind_group held o < 3
 load_kind held None h = absurd (false≢true h)
-load_kind true (Some kinds.LdqU) h = omega arith
-load_kind false (Some kinds.LdqU) h = omega arith
+load_kind true (Some (kinds.Load access)) h = omega arith
+load_kind false (Some (kinds.Load access)) h = omega arith
 load_kind held (Some _) h = absurd (false≢true h)
 
 held_kind : (held : Bool) (o : Option InstrKind) → held ≡ true → option_map_or is_load o false ≡ true → kind_group held o ≡ 2
 held_kind held None t h = absurd (false≢true h)
-held_kind true (Some kinds.LdqU) t h = refl
-held_kind false (Some kinds.LdqU) t h = absurd (false≢true t)
+held_kind true (Some (kinds.Load access)) t h = refl
+held_kind false (Some (kinds.Load access)) t h = absurd (false≢true t)
 held_kind held (Some _) t h = absurd (false≢true h)
 
 branch_kind : (held : Bool) (o : Option InstrKind) → option_map_or is_branch o false ≡ true → kind_group held o ≡ 1
@@ -36,7 +36,7 @@ branch_kind held (Some _) h = absurd (false≢true h)
 
 store_idle : (o : Option InstrKind) → option_map_or is_store o false ≡ true → option_map_or gives_word o false ≡ false
 store_idle None h = absurd (false≢true h)
-store_idle (Some kinds.StqU) h = refl
+store_idle (Some (kinds.Store access)) h = refl
 store_idle (Some _) h = absurd (false≢true h)
 
 branch_idle : (o : Option InstrKind) → option_map_or is_branch o false ≡ true → option_map_or gives_word o false ≡ false
@@ -50,9 +50,9 @@ held_low false = omega arith
 
 kind_low : (held : Bool) (o : Option InstrKind) → kind_group held o ≤ 3
 kind_low held None = omega arith
-kind_low held (Some kinds.LdqU) = held_low held
+kind_low held (Some (kinds.Load access)) = held_low held
 kind_low held (Some kinds.Beq) = omega arith
-kind_low held (Some kinds.StqU) = omega arith
+kind_low held (Some (kinds.Store access)) = omega arith
 kind_low held (Some _) = omega arith
 
 module _ (g : LaunchGraph) (l : Launch) where

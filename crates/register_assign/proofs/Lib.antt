@@ -14,7 +14,6 @@ mod Obeying
 mod OfListings
 mod Once
 mod Operands
-mod Operates
 mod Proper
 mod Reached
 mod Reading

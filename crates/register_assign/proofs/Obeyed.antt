@@ -104,7 +104,7 @@ module _ (g : LaunchGraph) (table : Table) (ordered : List Launch) where
     can : (n : ℕ) (l : Launch) → slice_get ordered n ≡ Some l → CanLaunch g table l
     can n l e = at_each (CanLaunch g table) ordered fits.rows n l e
 
-    kind : (n : ℕ) (l : Launch) → slice_get ordered n ≡ Some l → instr_at g l.row ≡ kind_of (instr_of g table ordered n l)
+    kind : (n : ℕ) (l : Launch) → slice_get ordered n ≡ Some l → instr_at g l.row ≡ Some (kind_of (instr_of g table ordered n l))
     kind n l e = kind_at g table ordered n l (can n l e)
 
     abbrev takes_of : Option InstrKind → ℕ
@@ -133,7 +133,7 @@ module _ (g : LaunchGraph) (table : Table) (ordered : List Launch) where
     stores_at : (n : ℕ) (l : Launch) → slice_get ordered n ≡ Some l → IsTrue (stores (instr_of g table ordered n l)) → IsTrue (launches g is_store l)
     stores_at n l e h = subst (λ o. IsTrue (option_map_or is_store o false)) (sym (kind n l e)) h
 
-    gives_at : (n : ℕ) (l : Launch) → slice_get ordered n ≡ Some l → IsTrue (option_map_or gives_word (kind_of (instr_of g table ordered n l)) false) → IsTrue (launches g gives_word l)
+    gives_at : (n : ℕ) (l : Launch) → slice_get ordered n ≡ Some l → IsTrue (gives_word (kind_of (instr_of g table ordered n l))) → IsTrue (launches g gives_word l)
     gives_at n l e h = subst (λ o. IsTrue (option_map_or gives_word o false)) (sym (kind n l e)) h
 
     one_of_three : (a b : ℕ) → (a < b) ⊎ (b < a) ⊎ (a ≡ b)
@@ -176,14 +176,14 @@ module _ (g : LaunchGraph) (table : Table) (ordered : List Launch) where
         elim (at_pair (StandsBefore g) ordered order i j l m lt el em) [ inl h ↦ (let c : l.cycle < m.cycle = h in omega arith) | inr h ↦ (let c : l.cycle ≡ m.cycle = h.0 in omega arith) ]
 
     positive : (n : ℕ) (l : Launch) → slice_get ordered n ≡ Some l → 1 ≤ latency_in table (instr_of g table ordered n l)
-    positive n l e = takes_some l.slot (kind_of (instr_of g table ordered n l)) (subst (λ o. IsSomeAnd o (λ i. MayUse table i l.slot)) (kind n l e) (can n l e))
+    positive n l e = takes_some l.slot (Some (kind_of (instr_of g table ordered n l))) (subst (λ o. IsSomeAnd o (λ i. MayUse table i l.slot)) (kind n l e) (can n l e))
 
     pub obeys : Obeys table k (items_of g table ordered)
     obeys = record {
       rising = pair_items (λ a b. a.cycle ≤ b.cycle) (λ i j l m lt el em. before i j l m lt el em);
       below = all_items (λ a. a.cycle < k) (λ n l e. let p = positive n l e in let q = ends n l e in omega arith);
       in_time = all_items (λ a. a.cycle + latency_in table a.instr ≤ k) (λ n l e. ends n l e);
-      slots = all_items (λ a. IsSomeAnd (kind_of a.instr) (λ kind. MayUse table kind a.slot)) (λ n l e. subst (λ o. IsSomeAnd o (λ i. MayUse table i l.slot)) (kind n l e) (can n l e));
+      slots = all_items (λ a. MayUse table (kind_of a.instr) a.slot) (λ n l e. subst (λ o. IsSomeAnd o (λ i. MayUse table i l.slot)) (kind n l e) (can n l e));
       apart = pair_items (λ a b. ¬ ((a.cycle ≡ b.cycle) × (a.slot ≡ b.slot))) (λ i j l m lt el em. at_pair (λ x y. ¬ Collide x y) ordered fits.apart i j l m lt el em);
       operands = λ n a e. let f = item_at n a e in subst (λ x. HasOperands table (items_of g table ordered) n x) f.2 (operands_at n f.0 f.1);
       one_store = pair_items (λ a b. IsTrue (stores a.instr) → IsTrue (stores b.instr) → ¬ (a.cycle ≡ b.cycle)) (λ i j l m lt el em sl sm. at_pair (λ x y. IsTrue (launches g is_store x) → IsTrue (launches g is_store y) → ¬ (x.cycle ≡ y.cycle)) ordered fits.memory.single i j l m lt el em (stores_at i l el sl) (stores_at j m em sm));

@@ -5,10 +5,12 @@ use Rattle.std.specs.Option.{option_map_or, option_and_then}
 use Rattle.std.proofs.lemmas.Bool.{false≢true}
 use Rattle.std.proofs.lemmas.Bool.Decides.{eqb_tells}
 use Rattle.std.proofs.lemmas.Option.{same_Some, none-some}
+use Rattle.word_ops.specs.declared.sorts.Access.TheVariants.{Quad}
+use Rattle.word_ops.specs.declared.operates.Operate.{Operate as OperateOf}
+use Rattle.word_ops.specs.declared.operates.Operate.TheVariants as operates
 use Rattle.word_ops.specs.declared.operators.WordOp.{WordOp}
 use Rattle.word_ops.specs.declared.operators.WordOp.TheVariants.{Lda, Ldah}
 use Rattle.word_ops.specs.declared.operators.WordOp.TheVariants as ops
-use Rattle.machine_table.specs.InstrOrder.{operate_kind}
 use Rattle.graph_meaning.specs.Graphs.{constant_of}
 use Rattle.machine_table.specs.Tables.{MayUse}
 use Rattle.schedule_meaning.specs.Launches.{instr_at, copied_at, op_instr, word_op_instr as launch_instr, gives_word}
@@ -30,7 +32,6 @@ use Rattle.graph_meaning.specs.declared.graphs.LaunchGraph.{LaunchGraph}
 use Rattle.machine_table.specs.declared.tables.Table.{Table}
 use Rattle.schedule_meaning.specs.declared.schedules.Launch.{Launch}
 use Rattle.schedule_meaning.proofs.Rules.{in_list}
-use Rattle.register_assign.proofs.Operates.{operate_gives}
 use Rattle.schedule_meaning.proofs.Copies.{copy_kind, plain_kind}
 
 some_if : (b : Bool) (k i : InstrKind) → (if b then Some k else None) ≡ Some i → k ≡ i
@@ -38,22 +39,23 @@ some_if true k i e = same_Some k i e
 some_if false k i e = absurd (none-some i e)
 
 module _ (g : LaunchGraph) (table : Table) (ordered : List Launch) (n : ℕ) (l : Launch) where
-  kind_of_operate : (o : WordOp) (xs : List ℕ) → kind_of (operate_instr g table ordered n l o xs) ≡ operate_kind o
+  kind_of_operate : (o : OperateOf) (xs : List ℕ) → kind_of (operate_instr g table ordered n l o xs) ≡ kinds.Operate o
   kind_of_operate o [] = refl
   kind_of_operate o (x ∷ []) = refl
   kind_of_operate o (x ∷ y ∷ ys) = refl
 
-  word_kind : (o : WordOp) (xs : List ℕ) (i : InstrKind) → launch_instr g o xs ≡ Some i → kind_of (word_instr g table ordered n l o xs) ≡ Some i
-  word_kind Lda xs i e = ap Some (some_if (is_some (constant_of g (slice_index xs 1))) kinds.Lda i e)
-  word_kind Ldah xs i e = ap Some (some_if (is_some (constant_of g (slice_index xs 1))) kinds.Ldah i e)
-  word_kind o xs i e = kind_of_operate o xs ∙ e
+  word_kind : (o : WordOp) (xs : List ℕ) (i : InstrKind) → launch_instr g o xs ≡ Some i → kind_of (word_instr g table ordered n l o xs) ≡ i
+  word_kind Lda xs i e = some_if (is_some (constant_of g (slice_index xs 1))) kinds.Lda i e
+  word_kind Ldah xs i e = some_if (is_some (constant_of g (slice_index xs 1))) kinds.Ldah i e
+  word_kind (ops.Operate o) xs i e = kind_of_operate o xs ∙ same_Some (kinds.Operate o) i e
+  word_kind _ xs i e = absurd (none-some i e)
 
-  row_kind : (o : Op) (xs : List ℕ) (i : InstrKind) → op_instr g o xs ≡ Some i → kind_of (row_instr g table ordered n l o xs) ≡ Some i
+  row_kind : (o : Op) (xs : List ℕ) (i : InstrKind) → op_instr g o xs ≡ Some i → kind_of (row_instr g table ordered n l o xs) ≡ i
   row_kind (op.Word o) xs i e = word_kind o xs i e
-  row_kind op.Select xs i e = e
-  row_kind op.Store xs i e = e
-  row_kind op.Load xs i e = ap Some (some_if (is_some (constant_of g (slice_index xs 2))) kinds.LdqU i e)
-  row_kind op.Put xs i e = ap Some (some_if (is_some (constant_of g (slice_index xs 2))) kinds.StqU i e)
+  row_kind (op.Select access) xs i e = same_Some (kinds.Load access) i e
+  row_kind (op.Store access) xs i e = same_Some (kinds.Store access) i e
+  row_kind (op.Load access) xs i e = some_if (is_some (constant_of g (slice_index xs 2))) (kinds.Load access) i e
+  row_kind (op.Put access) xs i e = some_if (is_some (constant_of g (slice_index xs 2))) (kinds.Store access) i e
   row_kind op.Entry xs i e = absurd (none-some i e)
   row_kind (op.Input r) xs i e = absurd (none-some i e)
   row_kind (op.Constant c) xs i e = absurd (none-some i e)
@@ -65,11 +67,11 @@ module _ (g : LaunchGraph) (table : Table) (ordered : List Launch) (n : ℕ) (l 
   abbrev kind_by : Bool → Option LaunchRow → Option Guard → Option InstrKind
   kind_by b o guard = if b then option_map (λ _. kinds.Beq) guard else option_and_then (λ r. op_instr g r.op r.operands) o
 
-  kind_found : (r : LaunchRow) (o : Option InstrKind) → op_instr g r.op r.operands ≡ o → (P : InstrKind → Type 0) → IsSomeAnd o P → o ≡ kind_of (of_row (Some r))
+  kind_found : (r : LaunchRow) (o : Option InstrKind) → op_instr g r.op r.operands ≡ o → (P : InstrKind → Type 0) → IsSomeAnd o P → o ≡ Some (kind_of (of_row (Some r)))
   kind_found r None e P h = absurd h
-  kind_found r (Some i) e P h = sym (row_kind r.op r.operands i e)
+  kind_found r (Some i) e P h = ap Some (sym (row_kind r.op r.operands i e))
 
-  kind_cases : (b : Bool) → (l.row == length g.rows) ≡ b → (o : Option LaunchRow) → slice_get g.rows l.row ≡ o → (guard : Option Guard) → (P : InstrKind → Type 0) → IsSomeAnd (kind_by b o guard) P → kind_by b o guard ≡ kind_of (of_row o)
+  kind_cases : (b : Bool) → (l.row == length g.rows) ≡ b → (o : Option LaunchRow) → slice_get g.rows l.row ≡ o → (guard : Option Guard) → (P : InstrKind → Type 0) → IsSomeAnd (kind_by b o guard) P → kind_by b o guard ≡ Some (kind_of (of_row o))
   kind_cases true t (Some r) e guard P h =
       let lt : l.row < length g.rows = in_list g.rows l.row r e in
       elim (eqb_tells l.row (length g.rows)) [ inl u ↦ (let same : l.row ≡ length g.rows = u.1 in absurd (omega arith)) | inr u ↦ absurd (false≢true (sym u.0 ∙ t)) ]
@@ -85,37 +87,35 @@ module _ (g : LaunchGraph) (table : Table) (ordered : List Launch) (n : ℕ) (l 
   plain_can : copied_at g l.row ≡ None → CanLaunch g table l → IsSomeAnd (kind_by (l.row == length g.rows) (slice_get g.rows l.row) g.guard) (λ i. MayUse table i l.slot)
   plain_can e h = subst (λ (o : Option InstrKind). IsSomeAnd o (λ i. MayUse table i l.slot)) (plain_kind g l.row e) h
 
-  kind_copied : CanLaunch g table l → (c : Option ℕ) → copied_at g l.row ≡ c → instr_at g l.row ≡ kind_of (of_copy c)
+  kind_copied : CanLaunch g table l → (c : Option ℕ) → copied_at g l.row ≡ c → instr_at g l.row ≡ Some (kind_of (of_copy c))
   kind_copied h (Some class) e = copy_kind g l.row class e
   kind_copied h None e = plain_kind g l.row e ∙ kind_cases (l.row == length g.rows) refl (slice_get g.rows l.row) refl g.guard (λ i. MayUse table i l.slot) (plain_can e h)
 
-  pub kind_at : CanLaunch g table l → instr_at g l.row ≡ kind_of (instr_of g table ordered n l)
+  pub kind_at : CanLaunch g table l → instr_at g l.row ≡ Some (kind_of (instr_of g table ordered n l))
   kind_at h = kind_copied h (copied_at g l.row) refl
 
   -- ---- what a word writes
 
   abbrev OwnWord : Instr → Type 0
-  OwnWord i = (r : ℕ) → writes i ≡ Some r → IsTrue (option_map_or gives_word (kind_of i) false) × (r ≡ register_at g ordered n)
+  OwnWord i = (r : ℕ) → writes i ≡ Some r → IsTrue (gives_word (kind_of i)) × (r ≡ register_at g ordered n)
 
-  given : (o : WordOp) (i : InstrKind) → operate_kind o ≡ Some i → option_map_or gives_word (operate_kind o) false ≡ true
-  given o i h = ap (λ q. option_map_or gives_word q false) h ∙ operate_gives o i h
-
-  operate_writes : (o : WordOp) (xs : List ℕ) (i : InstrKind) → operate_kind o ≡ Some i → OwnWord (operate_instr g table ordered n l o xs)
-  operate_writes o [] i h r e = (given o i h, sym (same_Some (register_at g ordered n) r e))
-  operate_writes o (x ∷ []) i h r e = (given o i h, sym (same_Some (register_at g ordered n) r e))
-  operate_writes o (x ∷ y ∷ ys) i h r e = (given o i h, sym (same_Some (register_at g ordered n) r e))
+  operate_writes : (o : OperateOf) (xs : List ℕ) → OwnWord (operate_instr g table ordered n l o xs)
+  operate_writes o [] r e = (refl, sym (same_Some (register_at g ordered n) r e))
+  operate_writes o (x ∷ []) r e = (refl, sym (same_Some (register_at g ordered n) r e))
+  operate_writes o (x ∷ y ∷ ys) r e = (refl, sym (same_Some (register_at g ordered n) r e))
 
   word_writes : (o : WordOp) (xs : List ℕ) (i : InstrKind) → launch_instr g o xs ≡ Some i → OwnWord (word_instr g table ordered n l o xs)
   word_writes Lda xs i h r e = (refl, sym (same_Some (register_at g ordered n) r e))
   word_writes Ldah xs i h r e = (refl, sym (same_Some (register_at g ordered n) r e))
-  word_writes o xs i h r e = operate_writes o xs i h r e
+  word_writes (ops.Operate o) xs i h r e = operate_writes o xs r e
+  word_writes _ xs i h r e = absurd (none-some i h)
 
   row_writes : (o : Op) (xs : List ℕ) (i : InstrKind) → op_instr g o xs ≡ Some i → OwnWord (row_instr g table ordered n l o xs)
   row_writes (op.Word o) xs i h r e = word_writes o xs i h r e
-  row_writes op.Select xs i h r e = (refl, sym (same_Some (register_at g ordered n) r e))
-  row_writes op.Load xs i h r e = (refl, sym (same_Some (register_at g ordered n) r e))
-  row_writes op.Store xs i h r e = absurd (none-some r e)
-  row_writes op.Put xs i h r e = absurd (none-some r e)
+  row_writes (op.Select access) xs i h r e = (refl, sym (same_Some (register_at g ordered n) r e))
+  row_writes (op.Load access) xs i h r e = (refl, sym (same_Some (register_at g ordered n) r e))
+  row_writes (op.Store access) xs i h r e = absurd (none-some r e)
+  row_writes (op.Put access) xs i h r e = absurd (none-some r e)
   row_writes op.Entry xs i h r e = absurd (none-some i h)
   row_writes (op.Input q) xs i h r e = absurd (none-some i h)
   row_writes (op.Constant c) xs i h r e = absurd (none-some i h)
@@ -133,7 +133,7 @@ module _ (g : LaunchGraph) (table : Table) (ordered : List Launch) (n : ℕ) (l 
   writes_cases b t None e guard P h = λ r w. absurd (none-some r w)
 
   writes_copied : CanLaunch g table l → (c : Option ℕ) → copied_at g l.row ≡ c → OwnWord (of_copy c)
-  writes_copied h (Some class) e = operate_writes ops.Bis (class ∷ []) kinds.Bis refl
+  writes_copied h (Some class) e = operate_writes operates.Bis (class ∷ [])
   writes_copied h None e = writes_cases (l.row == length g.rows) refl (slice_get g.rows l.row) refl g.guard (λ i. MayUse table i l.slot) (plain_can e h)
 
   -- a word writes the launch's own register, and only where it gives a word
@@ -170,7 +170,7 @@ module _ (g : LaunchGraph) (table : Table) (ordered : List Launch) (n : ℕ) (l 
   both_chosen : (b : Bool) (r : ℕ) (xs : List ℕ) → IsChosen r → All IsChosen xs → All IsChosen (if b then xs else r ∷ xs)
   both_chosen b r xs h k = either b xs (r ∷ xs) k (All-cons IsChosen r xs h k)
 
-  operate_reads : (o : WordOp) (xs : List ℕ) → All IsChosen (reads (operate_instr g table ordered n l o xs))
+  operate_reads : (o : OperateOf) (xs : List ℕ) → All IsChosen (reads (operate_instr g table ordered n l o xs))
   operate_reads o [] = both_chosen (is_unary o) 31 (31 ∷ []) (inl refl) (All-cons IsChosen 31 [] (inl refl) (All-nil IsChosen))
   operate_reads o (x ∷ []) = both_chosen (is_unary o) 31 (second_reads_of (literal_or (constant_of g x) (Reg (register_for g table ordered l x)))) (inl refl) (second_chosen (constant_of g x) x)
   operate_reads o (x ∷ y ∷ ys) = both_chosen (is_unary o) (register_for g table ordered l x) (second_reads_of (literal_or (constant_of g y) (Reg (register_for g table ordered l y)))) (chosen x) (second_chosen (constant_of g y) y)
@@ -178,14 +178,15 @@ module _ (g : LaunchGraph) (table : Table) (ordered : List Launch) (n : ℕ) (l 
   word_reads : (o : WordOp) (xs : List ℕ) → All IsChosen (reads (word_instr g table ordered n l o xs))
   word_reads Lda xs = one_chosen (slice_index xs 0)
   word_reads Ldah xs = one_chosen (slice_index xs 0)
-  word_reads o xs = operate_reads o xs
+  word_reads (ops.Operate o) xs = operate_reads o xs
+  word_reads _ xs = All-cons IsChosen 31 (31 ∷ []) (inl refl) (All-cons IsChosen 31 [] (inl refl) (All-nil IsChosen))
 
   row_reads : (o : Op) (xs : List ℕ) → All IsChosen (reads (row_instr g table ordered n l o xs))
   row_reads (op.Word o) xs = word_reads o xs
-  row_reads op.Select xs = one_chosen (slice_index xs 1)
-  row_reads op.Load xs = one_chosen (slice_index xs 1)
-  row_reads op.Store xs = two_chosen (slice_index xs 2) (slice_index xs 1)
-  row_reads op.Put xs = two_chosen (slice_index xs 3) (slice_index xs 1)
+  row_reads (op.Select access) xs = one_chosen (slice_index xs 1)
+  row_reads (op.Load access) xs = one_chosen (slice_index xs 1)
+  row_reads (op.Store access) xs = two_chosen (slice_index xs 2) (slice_index xs 1)
+  row_reads (op.Put access) xs = two_chosen (slice_index xs 3) (slice_index xs 1)
   row_reads op.Entry xs = All-cons IsChosen 31 (31 ∷ []) (inl refl) (All-cons IsChosen 31 [] (inl refl) (All-nil IsChosen))
   row_reads (op.Input q) xs = All-cons IsChosen 31 (31 ∷ []) (inl refl) (All-cons IsChosen 31 [] (inl refl) (All-nil IsChosen))
   row_reads (op.Constant c) xs = All-cons IsChosen 31 (31 ∷ []) (inl refl) (All-cons IsChosen 31 [] (inl refl) (All-nil IsChosen))
@@ -196,7 +197,7 @@ module _ (g : LaunchGraph) (table : Table) (ordered : List Launch) (n : ℕ) (l 
   reads_by (Some q) = row_reads q.op q.operands
 
   reads_copied : (c : Option ℕ) → All IsChosen (reads (of_copy c))
-  reads_copied (Some class) = operate_reads ops.Bis (class ∷ [])
+  reads_copied (Some class) = operate_reads operates.Bis (class ∷ [])
   reads_copied None = reads_by (slice_get g.rows l.row)
 
   pub reads_chosen : All IsChosen (reads (instr_of g table ordered n l))

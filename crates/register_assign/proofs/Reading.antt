@@ -46,10 +46,10 @@ module _ (w : World) (value : ℕ → Value) where
   constant_row name Entry vs n e = cc
   constant_row name (Input r) vs n e = cc
   constant_row name (Word o) vs n e = cc
-  constant_row name Select vs n e = cc
-  constant_row name Store vs n e = cc
-  constant_row name Load vs n e = cc
-  constant_row name Put vs n e = cc
+  constant_row name (Select access) vs n e = cc
+  constant_row name (Store access) vs n e = cc
+  constant_row name (Load access) vs n e = cc
+  constant_row name (Put access) vs n e = cc
   constant_row name (Declared i a) vs n e = cc
 
   constant_step : (r : LaunchRow) (rs : List LaunchRow) (class n : ℕ) → RowIsTrue r → (constant_among rs class ≡ Some n → value class ≡ word n) → (b : Bool) → (b ≡ true → r.class ≡ class) → (o : Option ℕ) → constant_in r.op ≡ o → cond b (option_or o (constant_among rs class)) (constant_among rs class) ≡ Some n → value class ≡ word n

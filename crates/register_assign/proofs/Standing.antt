@@ -3,6 +3,7 @@ use Rattle.std.proofs.Common.{◌≡◌, ℕ, zero, suc, ◌-◌, ◌<◌, ◌�
 use Rattle.std.specs.Prelude.{slice_get, IsSomeAnd}
 use Rattle.std.specs.Option.{option_map_or}
 use Rattle.std.proofs.lemmas.Option.{same_Some, none-some, slice_get_cases}
+use Rattle.word_ops.specs.declared.operates.Operate.{Operate as OperateOf}
 use Rattle.word_ops.specs.declared.operators.WordOp.{WordOp}
 use Rattle.word_ops.specs.declared.operators.WordOp.TheVariants as ops
 use Rattle.word_ops.specs.declared.sorts.Op.{Op}
@@ -28,7 +29,7 @@ at_map f (y ∷ ys) zero x e = ap (λ z. Some (f z)) (same_Some y x e)
 at_map f (y ∷ ys) (suc i) x e = at_map f ys i x e
 
 module _ (g : LaunchGraph) (table : Table) (ordered : List Launch) (n : ℕ) (l : Launch) (count : ℕ) (total : count ≡ length ordered) where
-  operate_stands : (o : WordOp) (xs : List ℕ) → IsAllowedAt count n (operate_instr g table ordered n l o xs)
+  operate_stands : (o : OperateOf) (xs : List ℕ) → IsAllowedAt count n (operate_instr g table ordered n l o xs)
   operate_stands o [] = tt
   operate_stands o (x ∷ []) = tt
   operate_stands o (x ∷ y ∷ ys) = tt
@@ -36,14 +37,15 @@ module _ (g : LaunchGraph) (table : Table) (ordered : List Launch) (n : ℕ) (l 
   word_stands : (o : WordOp) (xs : List ℕ) → IsAllowedAt count n (word_instr g table ordered n l o xs)
   word_stands ops.Lda xs = tt
   word_stands ops.Ldah xs = tt
-  word_stands o xs = operate_stands o xs
+  word_stands (ops.Operate o) xs = operate_stands o xs
+  word_stands _ xs = tt
 
   row_stands : (o : Op) (xs : List ℕ) → IsAllowedAt count n (row_instr g table ordered n l o xs)
   row_stands (op.Word o) xs = word_stands o xs
-  row_stands op.Select xs = tt
-  row_stands op.Store xs = tt
-  row_stands op.Load xs = tt
-  row_stands op.Put xs = tt
+  row_stands (op.Select access) xs = tt
+  row_stands (op.Store access) xs = tt
+  row_stands (op.Load access) xs = tt
+  row_stands (op.Put access) xs = tt
   row_stands op.Entry xs = tt
   row_stands (op.Input r) xs = tt
   row_stands (op.Constant c) xs = tt

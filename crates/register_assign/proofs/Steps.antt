@@ -6,18 +6,21 @@ use Rattle.std.specs.Int.Bits.{or_zero_l}
 use Rattle.std.proofs.lemmas.Bool.{false≢true}
 use Rattle.std.proofs.lemmas.List.Elements.{All-head, All-tail, All-contains}
 use Rattle.std.proofs.lemmas.Option.{same_Some, none-some}
+use Rattle.word_ops.specs.declared.sorts.Access.{Access}
+use Rattle.word_ops.specs.declared.operates.Operate.{Operate as OperateOf}
+use Rattle.word_ops.specs.declared.operates.Operate.TheVariants as operates
 use Rattle.word_ops.specs.declared.operators.WordOp.{WordOp}
 use Rattle.word_ops.specs.declared.operators.WordOp.TheVariants as ops
 use Rattle.word_ops.specs.declared.sorts.Op.{Op}
 use Rattle.word_ops.specs.declared.sorts.Op.TheVariants as op
-use Rattle.word_ops.specs.Operators.{value_at, arity_of}
+use Rattle.word_ops.specs.Operates.{row_of}
+use Rattle.word_ops.specs.Operators.{value_at, operate_value as operate_gives}
 use Rattle.word_ops.specs.Values.{lda, ldah, bis}
-use Rattle.word_ops.specs.Memory.{Memory, word_at, put_word, select, store, load, put}
+use Rattle.word_ops.specs.Memory.{Memory, loaded, stored, load, put}
 use Rattle.word_ops.specs.Worlds.{World, Value, word, memory}
 use Rattle.word_ops.specs.Meanings.{as_word, as_memory, arity_of_op}
 use Rattle.alpha_machine.specs.States.{MachineState}
 use Rattle.alpha_machine.specs.Steps.{step, second_value, is_unary, operate_value, address, with_register, next_pc}
-use Rattle.machine_table.specs.InstrOrder.{operate_kind}
 use Rattle.machine_table.specs.Tables.{MayUse}
 use Rattle.graph_meaning.specs.Graphs.{row_meaning}
 use Rattle.schedule_meaning.specs.Launches.{launches, gives_word, is_store, is_load, instr_at, op_instr, word_op_instr as launch_instr, class_at, memory_after, IsFree, IsReadable, plain, op_operands, operate_operands, word_op_operands, copy_operands, copied_at}
@@ -31,7 +34,6 @@ use Rattle.machine_table.specs.declared.tables.Table.{Table}
 use Rattle.machine_table.specs.declared.tables.InstrKind.{InstrKind}
 use Rattle.machine_table.specs.declared.tables.InstrKind.TheVariants as kinds
 use Rattle.schedule_meaning.specs.declared.schedules.Launch.{Launch}
-use Rattle.register_assign.proofs.Operates.{operate_gives, operate_stores}
 use Rattle.register_assign.proofs.Reached.{HasReached}
 use Rattle.register_assign.proofs.Scene.{IsScene, can_read, row_with, kind_is, instr_is, value_is, arity_is, operand_value, can_is, reads_is, memory_class_is, place_few}
 use Rattle.register_assign.proofs.Operands.{displaced_constant, plain_reads, second_reads, address_reads, base_reads, high_base_reads}
@@ -51,32 +53,18 @@ ldah_value : (a b c : ℕ) → value_at ops.Ldah a b c ≡ ldah a b
 unfolding value_at
 ldah_value a b c = refl
 
-select_is : (m : Memory) (a : ℕ) → word_at m (a / 8) ≡ select m a
-unfolding select
-select_is m a = refl
+load_is : (access : Access) (m : Memory) (x k : ℕ) → loaded access m (lda x k) ≡ load access m x k
+unfolding load
+load_is access m x k = refl
 
-store_is : (m : Memory) (a v : ℕ) → put_word m (a / 8) v ≡ store m a v
-unfolding store
-store_is m a v = refl
+put_is : (access : Access) (m : Memory) (x k v : ℕ) → stored access m (lda x k) v ≡ put access m x k v
+unfolding put
+put_is access m x k v = refl
 
-load_is : (m : Memory) (x k : ℕ) → word_at m (lda x k / 8) ≡ load m x k
-unfolding load select
-load_is m x k = refl
-
-put_is : (m : Memory) (x k v : ℕ) → put_word m (lda x k / 8) v ≡ put m x k v
-unfolding put store
-put_is m x k v = refl
-
-operate_arity : (o : WordOp) (i : InstrKind) → operate_kind o ≡ Some i → ((is_unary o ≡ true) × (arity_of o ≡ 1)) ⊎ ((is_unary o ≡ false) × (arity_of o ≡ 2))
-operate_arity ops.Sextb i h = inl (refl, refl)
-operate_arity ops.Sextw i h = inl (refl, refl)
-operate_arity ops.Neg i h = absurd (none-some i h)
-operate_arity ops.Not i h = absurd (none-some i h)
-operate_arity ops.Selectb i h = absurd (none-some i h)
-operate_arity ops.Storeb i h = absurd (none-some i h)
-operate_arity ops.Lda i h = absurd (none-some i h)
-operate_arity ops.Ldah i h = absurd (none-some i h)
-operate_arity _ i h = inr (refl, refl)
+operate_arity : (o : OperateOf) → ((is_unary o ≡ true) × ((row_of o).arity ≡ 1)) ⊎ ((is_unary o ≡ false) × ((row_of o).arity ≡ 2))
+operate_arity operates.Sextb = inl (refl, refl)
+operate_arity operates.Sextw = inl (refl, refl)
+operate_arity _ = inr (refl, refl)
 
 abbrev as_second_operand : ℕ → Operand
 as_second_operand y = record { class = y; second = true }
@@ -100,18 +88,13 @@ four_of : (xs : List ℕ) → length xs ≡ 4 → (x : ℕ) × (y : ℕ) × (z :
 four_of [] h = absurd (omega arith)
 four_of (x ∷ xs) h = let t = three_of xs (omega arith) in (x, t.0, t.1, t.2, ap (λ ys. x ∷ ys) t.3)
 
-bis_value : (v : ℕ) → value_at ops.Bis 0 v 0 ≡ v
-unfolding value_at bis
+bis_value : (v : ℕ) → value_at (ops.Operate operates.Bis) 0 v 0 ≡ v
+unfolding value_at operate_gives bis
 bis_value v = or_zero_l v
 
 module _ (g : LaunchGraph) (table : Table) (k : ℕ) (ordered : List Launch) (w : World) (value : ℕ → Value)
     (scene : IsScene g table k ordered w value)
     (n : ℕ) (l : Launch) (s : MachineState) (reached : HasReached g w value ordered n s) (here : slice_get ordered n ≡ Some l) where
-  operate_word_is : (o : WordOp) (xs : List ℕ) (i : InstrKind) → operate_kind o ≡ Some i → word_instr g table ordered n l o xs ≡ operate_instr g table ordered n l o xs
-  operate_word_is ops.Lda xs i h = absurd (none-some i h)
-  operate_word_is ops.Ldah xs i h = absurd (none-some i h)
-  operate_word_is _ xs i h = refl
-
   abbrev Usable : Operand → Type 0
   Usable p = IsFree g p ⊎ IsReadable g table ordered l p.class
 
@@ -144,8 +127,8 @@ module _ (g : LaunchGraph) (table : Table) (k : ℕ) (ordered : List Launch) (w 
         ];
       }
 
-  stored : (m : Memory) → IsTrue (launches g is_store l) → launches g gives_word l ≡ false → memory m ≡ value (class_at g l.row) → Next (record { registers = s.registers; memory = m; pc = next_pc s.pc })
-  stored m is_one gives is =
+  stores : (m : Memory) → IsTrue (launches g is_store l) → launches g gives_word l ≡ false → memory m ≡ value (class_at g l.row) → Next (record { registers = s.registers; memory = m; pc = next_pc s.pc })
+  stores m is_one gives is =
       no_word m gives
       (is ∙ sym (ap (λ ls. value (memory_after g ls)) taken
       ∙ ap (λ o. value (option_map_or (λ m. class_at g m.row) o g.entry)) (latest_push_last (launches g is_store) (take n ordered) l is_one (all_stores_before g ordered scene.order scene.fits.memory scene.fits.destinations n l here (inr is_one)))))
@@ -210,98 +193,88 @@ module _ (g : LaunchGraph) (table : Table) (k : ℕ) (ordered : List Launch) (w 
 
   -- ---- loads
 
-  module _ (class m a : ℕ) (name : List ℕ) (row : slice_get g.rows l.row ≡ Some (row_with class op.Select name (m ∷ a ∷ []))) where
+  module _ (access : Access) (class m a : ℕ) (name : List ℕ) (row : slice_get g.rows l.row ≡ Some (row_with class (op.Select access) name (m ∷ a ∷ []))) where
     select_step : Next (step now s)
     select_step =
-        let test : (f : InstrKind → Bool) → launches g f l ≡ f kinds.LdqU = λ f. does class op.Select name (m ∷ a ∷ []) row f (f kinds.LdqU) refl in
-        subst (λ i. Next (step i s)) (sym (instr class op.Select name (m ∷ a ∷ []) row))
-        (given (word_at s.memory (address (slice_index s.registers (register_for g table ordered l a)) 1 (pos 0) / 8)) (test gives_word) (test is_store)
-        (ap (λ b. word (word_at s.memory (b / 8))) (address_reads g table k ordered w value scene n l s reached here a (All-head Usable (plain a) [] (reads class op.Select name (m ∷ a ∷ []) row)) (operand_value g table k ordered w value scene n l here class op.Select name (m ∷ a ∷ []) row 1 (omega arith)))
-        ∙ ap word (select_is s.memory (as_word (value a)))
-        ∙ ap (λ v. word (select (as_memory v) (as_word (value a)))) (sym (found class op.Select name (m ∷ a ∷ []) row (inl (test is_load))))
-        ∙ sym (meant class op.Select name (m ∷ a ∷ []) row)))
+        let test : (f : InstrKind → Bool) → launches g f l ≡ f (kinds.Load access) = λ f. does class (op.Select access) name (m ∷ a ∷ []) row f (f (kinds.Load access)) refl in
+        subst (λ i. Next (step i s)) (sym (instr class (op.Select access) name (m ∷ a ∷ []) row))
+        (given (loaded access s.memory (address (slice_index s.registers (register_for g table ordered l a)) 1 (pos 0))) (test gives_word) (test is_store)
+        (ap (λ b. word (loaded access s.memory b)) (address_reads g table k ordered w value scene n l s reached here a (All-head Usable (plain a) [] (reads class (op.Select access) name (m ∷ a ∷ []) row)) (operand_value g table k ordered w value scene n l here class (op.Select access) name (m ∷ a ∷ []) row 1 (omega arith)))
+        ∙ ap (λ v. word (loaded access (as_memory v) (as_word (value a)))) (sym (found class (op.Select access) name (m ∷ a ∷ []) row (inl (test is_load))))
+        ∙ sym (meant class (op.Select access) name (m ∷ a ∷ []) row)))
 
-  module _ (class m x d : ℕ) (name : List ℕ) (row : slice_get g.rows l.row ≡ Some (row_with class op.Load name (m ∷ x ∷ d ∷ []))) where
+  module _ (access : Access) (class m x d : ℕ) (name : List ℕ) (row : slice_get g.rows l.row ≡ Some (row_with class (op.Load access) name (m ∷ x ∷ d ∷ []))) where
     load_step : Next (step now s)
     load_step =
-        let c = displaced_constant g d kinds.LdqU (λ i. MayUse table i l.slot) (can class op.Load name (m ∷ x ∷ d ∷ []) row) in
-        let test : (f : InstrKind → Bool) → launches g f l ≡ f kinds.LdqU = λ f. does class op.Load name (m ∷ x ∷ d ∷ []) row f (f kinds.LdqU) (ap (λ q. option_map_or f (if is_some q then Some kinds.LdqU else None) false) c.1) in
-        subst (λ i. Next (step i s)) (sym (instr class op.Load name (m ∷ x ∷ d ∷ []) row))
-        (given (word_at s.memory (address (slice_index s.registers (register_for g table ordered l x)) 1 (displacement_of g d) / 8)) (test gives_word) (test is_store)
-        (ap (λ b. word (word_at s.memory (b / 8))) (base_reads g table k ordered w value scene n l s reached here x d c.0 (All-head Usable (plain x) [] (reads class op.Load name (m ∷ x ∷ d ∷ []) row)) c.1)
-        ∙ ap word (load_is s.memory (as_word (value x)) (as_word (value d)))
-        ∙ ap (λ v. word (load (as_memory v) (as_word (value x)) (as_word (value d)))) (sym (found class op.Load name (m ∷ x ∷ d ∷ []) row (inl (test is_load))))
-        ∙ sym (meant class op.Load name (m ∷ x ∷ d ∷ []) row)))
+        let c = displaced_constant g d (kinds.Load access) (λ i. MayUse table i l.slot) (can class (op.Load access) name (m ∷ x ∷ d ∷ []) row) in
+        let test : (f : InstrKind → Bool) → launches g f l ≡ f (kinds.Load access) = λ f. does class (op.Load access) name (m ∷ x ∷ d ∷ []) row f (f (kinds.Load access)) (ap (λ q. option_map_or f (if is_some q then Some (kinds.Load access) else None) false) c.1) in
+        subst (λ i. Next (step i s)) (sym (instr class (op.Load access) name (m ∷ x ∷ d ∷ []) row))
+        (given (loaded access s.memory (address (slice_index s.registers (register_for g table ordered l x)) 1 (displacement_of g d))) (test gives_word) (test is_store)
+        (ap (λ b. word (loaded access s.memory b)) (base_reads g table k ordered w value scene n l s reached here x d c.0 (All-head Usable (plain x) [] (reads class (op.Load access) name (m ∷ x ∷ d ∷ []) row)) c.1)
+        ∙ ap word (load_is access s.memory (as_word (value x)) (as_word (value d)))
+        ∙ ap (λ v. word (load access (as_memory v) (as_word (value x)) (as_word (value d)))) (sym (found class (op.Load access) name (m ∷ x ∷ d ∷ []) row (inl (test is_load))))
+        ∙ sym (meant class (op.Load access) name (m ∷ x ∷ d ∷ []) row)))
 
   -- ---- stores
 
-  module _ (class m a v : ℕ) (name : List ℕ) (row : slice_get g.rows l.row ≡ Some (row_with class op.Store name (m ∷ a ∷ v ∷ []))) where
+  module _ (access : Access) (class m a v : ℕ) (name : List ℕ) (row : slice_get g.rows l.row ≡ Some (row_with class (op.Store access) name (m ∷ a ∷ v ∷ []))) where
     store_step : Next (step now s)
     store_step =
-        let test : (f : InstrKind → Bool) → launches g f l ≡ f kinds.StqU = λ f. does class op.Store name (m ∷ a ∷ v ∷ []) row f (f kinds.StqU) refl in
-        let both = reads class op.Store name (m ∷ a ∷ v ∷ []) row in
-        subst (λ i. Next (step i s)) (sym (instr class op.Store name (m ∷ a ∷ v ∷ []) row))
-        (stored (put_word s.memory (address (slice_index s.registers (register_for g table ordered l a)) 1 (pos 0) / 8) (slice_index s.registers (register_for g table ordered l v))) (test is_store) (test gives_word)
-        (ap (λ b. memory (put_word s.memory (b / 8) (slice_index s.registers (register_for g table ordered l v)))) (address_reads g table k ordered w value scene n l s reached here a (All-head Usable (plain a) (plain v ∷ []) both) (operand_value g table k ordered w value scene n l here class op.Store name (m ∷ a ∷ v ∷ []) row 1 (omega arith)))
-        ∙ ap memory (store_is s.memory (as_word (value a)) (slice_index s.registers (register_for g table ordered l v)))
-        ∙ ap (λ u. memory (store s.memory (as_word (value a)) (as_word u))) (plain_reads g table k ordered w value scene n l s reached here v (All-head Usable (plain v) [] (All-tail Usable (plain a) (plain v ∷ []) both)))
-        ∙ ap (λ u. memory (store (as_memory u) (as_word (value a)) (as_word (value v)))) (sym (found class op.Store name (m ∷ a ∷ v ∷ []) row (inr (test is_store))))
-        ∙ sym (meant class op.Store name (m ∷ a ∷ v ∷ []) row)))
+        let test : (f : InstrKind → Bool) → launches g f l ≡ f (kinds.Store access) = λ f. does class (op.Store access) name (m ∷ a ∷ v ∷ []) row f (f (kinds.Store access)) refl in
+        let both = reads class (op.Store access) name (m ∷ a ∷ v ∷ []) row in
+        subst (λ i. Next (step i s)) (sym (instr class (op.Store access) name (m ∷ a ∷ v ∷ []) row))
+        (stores (stored access s.memory (address (slice_index s.registers (register_for g table ordered l a)) 1 (pos 0)) (slice_index s.registers (register_for g table ordered l v))) (test is_store) (test gives_word)
+        (ap (λ b. memory (stored access s.memory b (slice_index s.registers (register_for g table ordered l v)))) (address_reads g table k ordered w value scene n l s reached here a (All-head Usable (plain a) (plain v ∷ []) both) (operand_value g table k ordered w value scene n l here class (op.Store access) name (m ∷ a ∷ v ∷ []) row 1 (omega arith)))
+        ∙ ap (λ u. memory (stored access s.memory (as_word (value a)) (as_word u))) (plain_reads g table k ordered w value scene n l s reached here v (All-head Usable (plain v) [] (All-tail Usable (plain a) (plain v ∷ []) both)))
+        ∙ ap (λ u. memory (stored access (as_memory u) (as_word (value a)) (as_word (value v)))) (sym (found class (op.Store access) name (m ∷ a ∷ v ∷ []) row (inr (test is_store))))
+        ∙ sym (meant class (op.Store access) name (m ∷ a ∷ v ∷ []) row)))
 
-  module _ (class m x d v : ℕ) (name : List ℕ) (row : slice_get g.rows l.row ≡ Some (row_with class op.Put name (m ∷ x ∷ d ∷ v ∷ []))) where
+  module _ (access : Access) (class m x d v : ℕ) (name : List ℕ) (row : slice_get g.rows l.row ≡ Some (row_with class (op.Put access) name (m ∷ x ∷ d ∷ v ∷ []))) where
     put_step : Next (step now s)
     put_step =
-        let c = displaced_constant g d kinds.StqU (λ i. MayUse table i l.slot) (can class op.Put name (m ∷ x ∷ d ∷ v ∷ []) row) in
-        let test : (f : InstrKind → Bool) → launches g f l ≡ f kinds.StqU = λ f. does class op.Put name (m ∷ x ∷ d ∷ v ∷ []) row f (f kinds.StqU) (ap (λ q. option_map_or f (if is_some q then Some kinds.StqU else None) false) c.1) in
-        let both = reads class op.Put name (m ∷ x ∷ d ∷ v ∷ []) row in
-        subst (λ i. Next (step i s)) (sym (instr class op.Put name (m ∷ x ∷ d ∷ v ∷ []) row))
-        (stored (put_word s.memory (address (slice_index s.registers (register_for g table ordered l x)) 1 (displacement_of g d) / 8) (slice_index s.registers (register_for g table ordered l v))) (test is_store) (test gives_word)
-        (ap (λ b. memory (put_word s.memory (b / 8) (slice_index s.registers (register_for g table ordered l v)))) (base_reads g table k ordered w value scene n l s reached here x d c.0 (All-head Usable (plain x) (plain v ∷ []) both) c.1)
-        ∙ ap memory (put_is s.memory (as_word (value x)) (as_word (value d)) (slice_index s.registers (register_for g table ordered l v)))
-        ∙ ap (λ u. memory (put s.memory (as_word (value x)) (as_word (value d)) (as_word u))) (plain_reads g table k ordered w value scene n l s reached here v (All-head Usable (plain v) [] (All-tail Usable (plain x) (plain v ∷ []) both)))
-        ∙ ap (λ u. memory (put (as_memory u) (as_word (value x)) (as_word (value d)) (as_word (value v)))) (sym (found class op.Put name (m ∷ x ∷ d ∷ v ∷ []) row (inr (test is_store))))
-        ∙ sym (meant class op.Put name (m ∷ x ∷ d ∷ v ∷ []) row)))
+        let c = displaced_constant g d (kinds.Store access) (λ i. MayUse table i l.slot) (can class (op.Put access) name (m ∷ x ∷ d ∷ v ∷ []) row) in
+        let test : (f : InstrKind → Bool) → launches g f l ≡ f (kinds.Store access) = λ f. does class (op.Put access) name (m ∷ x ∷ d ∷ v ∷ []) row f (f (kinds.Store access)) (ap (λ q. option_map_or f (if is_some q then Some (kinds.Store access) else None) false) c.1) in
+        let both = reads class (op.Put access) name (m ∷ x ∷ d ∷ v ∷ []) row in
+        subst (λ i. Next (step i s)) (sym (instr class (op.Put access) name (m ∷ x ∷ d ∷ v ∷ []) row))
+        (stores (stored access s.memory (address (slice_index s.registers (register_for g table ordered l x)) 1 (displacement_of g d)) (slice_index s.registers (register_for g table ordered l v))) (test is_store) (test gives_word)
+        (ap (λ b. memory (stored access s.memory b (slice_index s.registers (register_for g table ordered l v)))) (base_reads g table k ordered w value scene n l s reached here x d c.0 (All-head Usable (plain x) (plain v ∷ []) both) c.1)
+        ∙ ap memory (put_is access s.memory (as_word (value x)) (as_word (value d)) (slice_index s.registers (register_for g table ordered l v)))
+        ∙ ap (λ u. memory (put access s.memory (as_word (value x)) (as_word (value d)) (as_word u))) (plain_reads g table k ordered w value scene n l s reached here v (All-head Usable (plain v) [] (All-tail Usable (plain x) (plain v ∷ []) both)))
+        ∙ ap (λ u. memory (put access (as_memory u) (as_word (value x)) (as_word (value d)) (as_word (value v)))) (sym (found class (op.Put access) name (m ∷ x ∷ d ∷ v ∷ []) row (inr (test is_store))))
+        ∙ sym (meant class (op.Put access) name (m ∷ x ∷ d ∷ v ∷ []) row)))
 
   -- ---- operates
 
-  module _ (o : WordOp) (i : InstrKind) (is_op : operate_kind o ≡ Some i) where
-    kind_of_operate : (q : WordOp) (xs : List ℕ) → operate_kind q ≡ Some i → launch_instr g q xs ≡ Some i
-    kind_of_operate ops.Lda xs h = absurd (none-some i h)
-    kind_of_operate ops.Ldah xs h = absurd (none-some i h)
-    kind_of_operate _ xs h = h
-
-    operate_tests : (class : ℕ) (name xs : List ℕ) → slice_get g.rows l.row ≡ Some (row_with class (op.Word o) name xs) → (f : InstrKind → Bool) → launches g f l ≡ f i
+  module _ (o : OperateOf) where
+    operate_tests : (class : ℕ) (name xs : List ℕ) → slice_get g.rows l.row ≡ Some (row_with class (op.Word (ops.Operate o)) name xs) → (f : InstrKind → Bool) → launches g f l ≡ f (kinds.Operate o)
     operate_tests class name xs row f =
-        does class (op.Word o) name xs row f (f i) (ap (λ q. option_map_or f q false) (kind_of_operate o xs is_op))
+        does class (op.Word (ops.Operate o)) name xs row f (f (kinds.Operate o)) refl
 
-    operands_of : (xs : List ℕ) → word_op_operands o xs ≡ operate_operands xs
-    operands_of xs = ap (λ q. if is_some q then operate_operands xs else plain (slice_index xs 0) ∷ []) is_op
-
-    module _ (class x : ℕ) (name : List ℕ) (row : slice_get g.rows l.row ≡ Some (row_with class (op.Word o) name (x ∷ []))) (unary : is_unary o ≡ true) where
+    module _ (class x : ℕ) (name : List ℕ) (row : slice_get g.rows l.row ≡ Some (row_with class (op.Word (ops.Operate o)) name (x ∷ []))) (unary : is_unary o ≡ true) where
       one_step : Next (step now s)
       one_step =
-          let test : (f : InstrKind → Bool) → launches g f l ≡ f i = operate_tests class name (x ∷ []) row in
-          let usable : All Usable (operate_operands (x ∷ [])) = subst (All Usable) (operands_of (x ∷ [])) (reads class (op.Word o) name (x ∷ []) row) in
+          let test : (f : InstrKind → Bool) → launches g f l ≡ f (kinds.Operate o) = operate_tests class name (x ∷ []) row in
+          let usable : All Usable (operate_operands (x ∷ [])) = reads class (op.Word (ops.Operate o)) name (x ∷ []) row in
           let second : ℕ = second_value (second_for g table ordered l x) s.registers in
-          subst (λ i. Next (step i s)) (sym (instr class (op.Word o) name (x ∷ []) row ∙ operate_word_is o (x ∷ []) i is_op))
-          (given (operate_value o (slice_index s.registers 31) second) (test gives_word ∙ operate_gives o i is_op) (test is_store ∙ operate_stores o i is_op)
-          (ap (λ b. word (if b then value_at o second 0 0 else value_at o (slice_index s.registers 31) second 0)) unary
-          ∙ ap (λ v. word (value_at o (as_word v) 0 0)) (second_reads g table k ordered w value scene n l s reached here x (All-head Usable (as_second_operand x) [] usable))
-          ∙ sym (meant class (op.Word o) name (x ∷ []) row)))
+          subst (λ i. Next (step i s)) (sym (instr class (op.Word (ops.Operate o)) name (x ∷ []) row))
+          (given (operate_value o (slice_index s.registers 31) second) (test gives_word) (test is_store)
+          (ap (λ b. word (if b then value_at (ops.Operate o) second 0 0 else value_at (ops.Operate o) (slice_index s.registers 31) second 0)) unary
+          ∙ ap (λ v. word (value_at (ops.Operate o) (as_word v) 0 0)) (second_reads g table k ordered w value scene n l s reached here x (All-head Usable (as_second_operand x) [] usable))
+          ∙ sym (meant class (op.Word (ops.Operate o)) name (x ∷ []) row)))
 
-    module _ (class x y : ℕ) (name : List ℕ) (row : slice_get g.rows l.row ≡ Some (row_with class (op.Word o) name (x ∷ y ∷ []))) (binary : is_unary o ≡ false) where
+    module _ (class x y : ℕ) (name : List ℕ) (row : slice_get g.rows l.row ≡ Some (row_with class (op.Word (ops.Operate o)) name (x ∷ y ∷ []))) (binary : is_unary o ≡ false) where
       two_step : Next (step now s)
       two_step =
-          let test : (f : InstrKind → Bool) → launches g f l ≡ f i = operate_tests class name (x ∷ y ∷ []) row in
-          let usable : All Usable (operate_operands (x ∷ y ∷ [])) = subst (All Usable) (operands_of (x ∷ y ∷ [])) (reads class (op.Word o) name (x ∷ y ∷ []) row) in
+          let test : (f : InstrKind → Bool) → launches g f l ≡ f (kinds.Operate o) = operate_tests class name (x ∷ y ∷ []) row in
+          let usable : All Usable (operate_operands (x ∷ y ∷ [])) = reads class (op.Word (ops.Operate o)) name (x ∷ y ∷ []) row in
           let first : ℕ = slice_index s.registers (register_for g table ordered l x) in
           let second : ℕ = second_value (second_for g table ordered l y) s.registers in
-          subst (λ i. Next (step i s)) (sym (instr class (op.Word o) name (x ∷ y ∷ []) row ∙ operate_word_is o (x ∷ y ∷ []) i is_op))
-          (given (operate_value o first second) (test gives_word ∙ operate_gives o i is_op) (test is_store ∙ operate_stores o i is_op)
-          (ap (λ b. word (if b then value_at o second 0 0 else value_at o first second 0)) binary
-          ∙ ap (λ v. word (value_at o (as_word v) second 0)) (plain_reads g table k ordered w value scene n l s reached here x (All-head Usable (plain x) (as_second_operand y ∷ []) usable))
-          ∙ ap (λ v. word (value_at o (as_word (value x)) (as_word v) 0)) (second_reads g table k ordered w value scene n l s reached here y (All-head Usable (as_second_operand y) [] (All-tail Usable (plain x) (as_second_operand y ∷ []) usable)))
-          ∙ sym (meant class (op.Word o) name (x ∷ y ∷ []) row)))
+          subst (λ i. Next (step i s)) (sym (instr class (op.Word (ops.Operate o)) name (x ∷ y ∷ []) row))
+          (given (operate_value o first second) (test gives_word) (test is_store)
+          (ap (λ b. word (if b then value_at (ops.Operate o) second 0 0 else value_at (ops.Operate o) first second 0)) binary
+          ∙ ap (λ v. word (value_at (ops.Operate o) (as_word v) second 0)) (plain_reads g table k ordered w value scene n l s reached here x (All-head Usable (plain x) (as_second_operand y ∷ []) usable))
+          ∙ ap (λ v. word (value_at (ops.Operate o) (as_word (value x)) (as_word v) 0)) (second_reads g table k ordered w value scene n l s reached here y (All-head Usable (as_second_operand y) [] (All-tail Usable (plain x) (as_second_operand y ∷ []) usable)))
+          ∙ sym (meant class (op.Word (ops.Operate o)) name (x ∷ y ∷ []) row)))
 
   -- ---- each row that can be launched
 
@@ -315,28 +288,25 @@ module _ (g : LaunchGraph) (table : Table) (k : ℕ) (ordered : List Launch) (w 
     arity : (o : Op) → Row o xs → length xs ≡ arity_of_op o
     arity o row = arity_is g table k ordered w value scene n l here class o name xs row
 
-    operate_step : (o : WordOp) (i : InstrKind) → operate_kind o ≡ Some i → Row (op.Word o) xs → Next (step now s)
-    operate_step o i is_op row =
-        elim (operate_arity o i is_op) [
-          | inl u ↦ (let t = one_of xs (arity (op.Word o) row ∙ u.1) in one_step o i is_op class t.0 name (as_list (op.Word o) (t.0 ∷ []) t.1 row) u.0)
-          | inr b ↦ (let t = two_of xs (arity (op.Word o) row ∙ b.1) in two_step o i is_op class t.0 t.1 name (as_list (op.Word o) (t.0 ∷ t.1 ∷ []) t.2 row) b.0)
+    operate_step : (o : OperateOf) → Row (op.Word (ops.Operate o)) xs → Next (step now s)
+    operate_step o row =
+        elim (operate_arity o) [
+          | inl u ↦ (let t = one_of xs (arity (op.Word (ops.Operate o)) row ∙ u.1) in one_step o class t.0 name (as_list (op.Word (ops.Operate o)) (t.0 ∷ []) t.1 row) u.0)
+          | inr b ↦ (let t = two_of xs (arity (op.Word (ops.Operate o)) row ∙ b.1) in two_step o class t.0 t.1 name (as_list (op.Word (ops.Operate o)) (t.0 ∷ t.1 ∷ []) t.2 row) b.0)
         ]
-
-    operate_by : (o : WordOp) → Row (op.Word o) xs → (q : Option InstrKind) → operate_kind o ≡ q → IsSomeAnd q (λ i. MayUse table i l.slot) → Next (step now s)
-    operate_by o row (Some i) e h = operate_step o i e row
-    operate_by o row None e h = absurd h
 
     word_step : (o : WordOp) → Row (op.Word o) xs → IsSomeAnd (launch_instr g o xs) (λ i. MayUse table i l.slot) → Next (step now s)
     word_step ops.Lda row h = (let t = two_of xs (arity (op.Word ops.Lda) row) in lda_step class t.0 t.1 name (as_list (op.Word ops.Lda) (t.0 ∷ t.1 ∷ []) t.2 row))
     word_step ops.Ldah row h = (let t = two_of xs (arity (op.Word ops.Ldah) row) in ldah_step class t.0 t.1 name (as_list (op.Word ops.Ldah) (t.0 ∷ t.1 ∷ []) t.2 row))
-    word_step o row h = operate_by o row (operate_kind o) refl h
+    word_step (ops.Operate o) row h = operate_step o row
+    word_step _ row h = absurd h
 
     by_op : (o : Op) → Row o xs → IsSomeAnd (op_instr g o xs) (λ i. MayUse table i l.slot) → Next (step now s)
     by_op (op.Word o) row h = word_step o row h
-    by_op op.Select row h = (let t = two_of xs (arity op.Select row) in select_step class t.0 t.1 name (as_list op.Select (t.0 ∷ t.1 ∷ []) t.2 row))
-    by_op op.Store row h = (let t = three_of xs (arity op.Store row) in store_step class t.0 t.1 t.2 name (as_list op.Store (t.0 ∷ t.1 ∷ t.2 ∷ []) t.3 row))
-    by_op op.Load row h = (let t = three_of xs (arity op.Load row) in load_step class t.0 t.1 t.2 name (as_list op.Load (t.0 ∷ t.1 ∷ t.2 ∷ []) t.3 row))
-    by_op op.Put row h = (let t = four_of xs (arity op.Put row) in put_step class t.0 t.1 t.2 t.3 name (as_list op.Put (t.0 ∷ t.1 ∷ t.2 ∷ t.3 ∷ []) t.4 row))
+    by_op (op.Select access) row h = (let t = two_of xs (arity (op.Select access) row) in select_step access class t.0 t.1 name (as_list (op.Select access) (t.0 ∷ t.1 ∷ []) t.2 row))
+    by_op (op.Store access) row h = (let t = three_of xs (arity (op.Store access) row) in store_step access class t.0 t.1 t.2 name (as_list (op.Store access) (t.0 ∷ t.1 ∷ t.2 ∷ []) t.3 row))
+    by_op (op.Load access) row h = (let t = three_of xs (arity (op.Load access) row) in load_step access class t.0 t.1 t.2 name (as_list (op.Load access) (t.0 ∷ t.1 ∷ t.2 ∷ []) t.3 row))
+    by_op (op.Put access) row h = (let t = four_of xs (arity (op.Put access) row) in put_step access class t.0 t.1 t.2 t.3 name (as_list (op.Put access) (t.0 ∷ t.1 ∷ t.2 ∷ t.3 ∷ []) t.4 row))
     by_op op.Entry row h = absurd h
     by_op (op.Input r) row h = absurd h
     by_op (op.Constant c) row h = absurd h
@@ -364,11 +334,11 @@ module _ (g : LaunchGraph) (table : Table) (k : ℕ) (ordered : List Launch) (w 
     -- a copy gives the value of its class
     pub copy_step : Next (step now s)
     copy_step =
-        let test : (f : InstrKind → Bool) → launches g f l ≡ f kinds.Bis = λ f. ap (λ q. option_map_or f q false) (copy_kind g l.row class copied) in
+        let test : (f : InstrKind → Bool) → launches g f l ≡ f (kinds.Operate operates.Bis) = λ f. ap (λ q. option_map_or f q false) (copy_kind g l.row class copied) in
         let second : ℕ = second_value (second_for g table ordered l class) s.registers in
         subst (λ i. Next (step i s)) (sym copy_is)
-        (given (operate_value ops.Bis (slice_index s.registers 31) second) (test gives_word) (test is_store)
-        (ap (λ a. word (value_at ops.Bis a second 0)) zero_read
+        (given (operate_value operates.Bis (slice_index s.registers 31) second) (test gives_word) (test is_store)
+        (ap (λ a. word (value_at (ops.Operate operates.Bis) a second 0)) zero_read
         ∙ ap word (bis_value second)
         ∙ second_reads g table k ordered w value scene n l s reached here class (All-head Usable (as_second_operand class) [] copy_usable)
         ∙ ap value (sym (copy_class g l.row class copied))))

@@ -4,6 +4,8 @@
 use Rattle.std.specs.Prelude.{◌≡◌, ℕ, ℤ, pos, ◌+◌, ◌-◌, ◌%◌, ◌^◌, List, [], ◌∷◌, map, length, Option, Some, None, ◌&&◌, nat_le, Bool, not, unwrap_or, position, count_by, filter, take, slice_index, slice_get, option_and_then, if◌then◌else◌}
 use Rattle.std.specs.Option.{option_map_or}
 use Rattle.std.specs.Int.{cast_signed, w16}
+use Rattle.word_ops.specs.declared.operates.Operate.{Operate as OperateOf}
+use Rattle.word_ops.specs.declared.operates.Operate.TheVariants as operates
 use Rattle.word_ops.specs.declared.operators.WordOp.{WordOp}
 use Rattle.word_ops.specs.declared.operators.WordOp.TheVariants as ops
 use Rattle.graph_meaning.specs.Graphs.{constant_of, is_zero_class, is_memory_name}
@@ -12,7 +14,7 @@ use Rattle.schedule_meaning.specs.Readers.{passes, is_intact, input_where}
 use Rattle.alpha_encode.specs.declared.instructions.Second.{Second}
 use Rattle.alpha_encode.specs.declared.instructions.Second.TheVariants.{Reg, Literal}
 use Rattle.alpha_encode.specs.declared.instructions.Instr.{Instr}
-use Rattle.alpha_encode.specs.declared.instructions.Instr.TheVariants.{Operate, Lda, Ldah, LdqU, StqU, Beq}
+use Rattle.alpha_encode.specs.declared.instructions.Instr.TheVariants.{Operate, Lda, Ldah, Load, Store, Beq}
 use Rattle.word_ops.specs.declared.sorts.Op.{Op}
 use Rattle.word_ops.specs.declared.sorts.Op.TheVariants as op
 use Rattle.register_assign.specs.declared.listings.Item.{Item}
@@ -73,28 +75,35 @@ module _ (g : LaunchGraph) (table : Table) (ordered : List Launch) (i : ℕ) (l 
   abbrev pub own : ℕ
   own = register_at g ordered i
 
-  abbrev pub operate_instr : WordOp → List ℕ → Instr
+  abbrev pub operate_instr : OperateOf → List ℕ → Instr
   operate_instr op [] = Operate op 31 (Reg 31) own
   operate_instr op (x ∷ []) = Operate op 31 (second_for g table ordered l x) own
   operate_instr op (x ∷ y ∷ ys) = Operate op (reg x) (second_for g table ordered l y) own
 
+  -- what stands for a row that can't be launched
+  abbrev pub no_instr : Instr
+  no_instr = Operate operates.Bis 31 (Reg 31) 31
+
   abbrev pub word_instr : WordOp → List ℕ → Instr
   word_instr ops.Lda operands = Lda own (reg (slice_index operands 0)) (displacement_of g (slice_index operands 1))
   word_instr ops.Ldah operands = Ldah own (reg (slice_index operands 0)) (displacement_of g (slice_index operands 1))
-  word_instr op operands = operate_instr op operands
+  word_instr (ops.Operate op) operands = operate_instr op operands
+  word_instr _ operands = no_instr
 
   abbrev pub row_instr : Op → List ℕ → Instr
   row_instr (op.Word o) operands = word_instr o operands
-  row_instr op.Select operands = LdqU own (reg (slice_index operands 1)) (pos 0)
-  row_instr op.Load operands = LdqU own (reg (slice_index operands 1)) (displacement_of g (slice_index operands 2))
-  row_instr op.Store operands = StqU (reg (slice_index operands 2)) (reg (slice_index operands 1)) (pos 0)
-  row_instr op.Put operands =
-      StqU (reg (slice_index operands 3)) (reg (slice_index operands 1)) (displacement_of g (slice_index operands 2))
-  row_instr _ operands = Operate ops.Bis 31 (Reg 31) 31
+  row_instr (op.Select access) operands = Load access own (reg (slice_index operands 1)) (pos 0)
+  row_instr (op.Load access) operands =
+      Load access own (reg (slice_index operands 1)) (displacement_of g (slice_index operands 2))
+  row_instr (op.Store access) operands = Store access (reg (slice_index operands 2)) (reg (slice_index operands 1)) (pos 0)
+  row_instr (op.Put access) operands =
+      Store access (reg (slice_index operands 3)) (reg (slice_index operands 1))
+      (displacement_of g (slice_index operands 2))
+  row_instr _ operands = no_instr
 
   -- a class's word is copied by a bis
   abbrev pub copy_instr : ℕ → Instr
-  copy_instr class = Operate ops.Bis 31 (second_for g table ordered l class) own
+  copy_instr class = Operate operates.Bis 31 (second_for g table ordered l class) own
 
   abbrev pub branch_class : ℕ
   branch_class = option_map_or (λ guard. guard.class) g.guard 0

@@ -1,34 +1,32 @@
 -- When instructions with cycles and slots keep to a table in k cycles.
 -- Source: this project, over the pipes and clusters of the Alpha 21264 Hardware Reference Manual.
-use Rattle.std.specs.Prelude.{◌≡◌, ℕ, ◌+◌, ◌<◌, ◌≤◌, List, [], ◌∷◌, Option, Some, None, unwrap_or, All, AllPairs, IsTrue, IsSomeAnd, Bool, false, slice_get, if◌then◌else◌, Contains}
-use Rattle.std.specs.Option.{option_map_or}
+use Rattle.std.specs.Prelude.{◌≡◌, ℕ, ◌+◌, ◌<◌, ◌≤◌, List, [], ◌∷◌, Option, Some, None, unwrap_or, All, AllPairs, IsTrue, Bool, false, slice_get, if◌then◌else◌, Contains}
 use Rattle.machine_table.specs.Tables.{MayUse, latency_of, cluster_of, ready}
 use Rattle.schedule_meaning.specs.Launches.{is_load, is_store}
 use Rattle.alpha_encode.specs.Codes.{is_unary}
-use Rattle.machine_table.specs.InstrOrder.{operate_kind}
 use Rattle.machine_table.specs.declared.tables.InstrKind.{InstrKind}
 use Rattle.machine_table.specs.declared.tables.InstrKind.TheVariants as kinds
 use Rattle.alpha_encode.specs.declared.instructions.Second.{Second}
 use Rattle.alpha_encode.specs.declared.instructions.Second.TheVariants.{Reg, Literal}
 use Rattle.alpha_encode.specs.declared.instructions.Instr.{Instr}
-use Rattle.alpha_encode.specs.declared.instructions.Instr.TheVariants.{Operate, Lda, Ldah, LdqU, StqU, Beq}
+use Rattle.alpha_encode.specs.declared.instructions.Instr.TheVariants.{Operate, Lda, Ldah, Load, Store, Beq}
 use Rattle.register_assign.specs.declared.listings.Item.{Item}
 use Rattle.machine_table.specs.declared.tables.Table.{Table}
 
--- what the instruction is on a table; none where its operator is no operate, and then it has no word
-abbrev pub kind_of : Instr → Option InstrKind
-kind_of (Operate op ra second rc) = operate_kind op
-kind_of (Lda ra rb disp) = Some kinds.Lda
-kind_of (Ldah ra rb disp) = Some kinds.Ldah
-kind_of (LdqU ra rb disp) = Some kinds.LdqU
-kind_of (StqU ra rb disp) = Some kinds.StqU
-kind_of (Beq ra disp) = Some kinds.Beq
+-- what the instruction is on a table
+abbrev pub kind_of : Instr → InstrKind
+kind_of (Operate op ra second rc) = kinds.Operate op
+kind_of (Lda ra rb disp) = kinds.Lda
+kind_of (Ldah ra rb disp) = kinds.Ldah
+kind_of (Load access ra rb disp) = kinds.Load access
+kind_of (Store access ra rb disp) = kinds.Store access
+kind_of (Beq ra disp) = kinds.Beq
 
 abbrev pub loads : Instr → Bool
-loads i = option_map_or is_load (kind_of i) false
+loads i = is_load (kind_of i)
 
 abbrev pub stores : Instr → Bool
-stores i = option_map_or is_store (kind_of i) false
+stores i = is_store (kind_of i)
 
 abbrev pub second_reads : Second → List ℕ
 second_reads (Reg r) = r ∷ []
@@ -39,8 +37,8 @@ abbrev pub reads : Instr → List ℕ
 reads (Operate op ra second rc) = if is_unary op then second_reads second else ra ∷ second_reads second
 reads (Lda ra rb disp) = rb ∷ []
 reads (Ldah ra rb disp) = rb ∷ []
-reads (LdqU ra rb disp) = rb ∷ []
-reads (StqU ra rb disp) = ra ∷ rb ∷ []
+reads (Load access ra rb disp) = rb ∷ []
+reads (Store access ra rb disp) = ra ∷ rb ∷ []
 reads (Beq ra disp) = ra ∷ []
 
 -- the register that it writes
@@ -48,16 +46,15 @@ abbrev pub writes : Instr → Option ℕ
 writes (Operate op ra second rc) = Some rc
 writes (Lda ra rb disp) = Some ra
 writes (Ldah ra rb disp) = Some ra
-writes (LdqU ra rb disp) = Some ra
+writes (Load access ra rb disp) = Some ra
 writes _ = None
 
 abbrev pub latency_in : Table → Instr → ℕ
-latency_in table i = option_map_or (λ kind. unwrap_or (latency_of table kind) 0) (kind_of i) 0
+latency_in table i = unwrap_or (latency_of table (kind_of i)) 0
 
 -- the cycle from which what the item writes is seen in a cluster
 abbrev pub ready_from : Table → Item → ℕ → ℕ
-ready_from table item cluster =
-    option_map_or (λ kind. ready table item.cycle item.slot kind cluster) (kind_of item.instr) 0
+ready_from table item cluster = ready table item.cycle item.slot (kind_of item.instr) cluster
 
 -- of the items before place i, m is the last that writes the register
 pub record IsLastWriter (items : List Item) (i r : ℕ) (m : Item) : Type 0 where
@@ -77,7 +74,7 @@ pub record Obeys (table : Table) (k : ℕ) (items : List Item) : Type 0 where
   pub rising : AllPairs (λ a b. a.cycle ≤ b.cycle) items
   pub below : All (λ a. a.cycle < k) items
   pub in_time : All (λ a. a.cycle + latency_in table a.instr ≤ k) items
-  pub slots : All (λ a. IsSomeAnd (kind_of a.instr) (λ kind. MayUse table kind a.slot)) items
+  pub slots : All (λ a. MayUse table (kind_of a.instr) a.slot) items
   pub apart : AllPairs (λ a b. ¬ ((a.cycle ≡ b.cycle) × (a.slot ≡ b.slot))) items
   pub operands : (i : ℕ) (item : Item) → slice_get items i ≡ Some item → HasOperands table items i item
   pub one_store : AllPairs (λ a b. IsTrue (stores a.instr) → IsTrue (stores b.instr) → ¬ (a.cycle ≡ b.cycle)) items

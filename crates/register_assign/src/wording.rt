@@ -11,7 +11,15 @@ use graph_meaning::{LaunchGraph, SetClass};
 use items::{Items, NoMemory};
 use schedule_meaning::{Launch, copied_at, operand_class};
 use std::alloc::Global;
-use word_ops::{Op, WordOp};
+use word_ops::{Op, Operate, WordOp};
+
+// What stands for a row that can't be launched.
+const NO_INSTR: Instr = Instr::Operate {
+    op: Operate::Bis,
+    ra: 31,
+    second: Second::Reg(31),
+    rc: 31,
+};
 
 /// The low 16 bits of the class's constant, with sign.
 fn displacement(graph: &LaunchGraph, class: u32) -> i16
@@ -56,7 +64,7 @@ impl<'a> Ordered<'a> {
         self.register_by(Some(launch), operand_class(operands, at))
     }
 
-    fn operate_instr(&self, place: usize, launch: Launch, op: WordOp, operands: &[u32]) -> Instr
+    fn operate_instr(&self, place: usize, launch: Launch, op: Operate, operands: &[u32]) -> Instr
         requires { place ≤ length self.now.launches.now }
         ensures { result ≡ listings.operate_instr self.now.graph.now self.now.table.now self.now.launches.now
             place launch op operands.now }
@@ -102,7 +110,8 @@ impl<'a> Ordered<'a> {
                 rb: self.reg_at(place, launch, operands, 0),
                 disp: displacement_at(self.graph, operands, 1),
             },
-            op => self.operate_instr(place, launch, op, operands),
+            WordOp::Operate(op) => self.operate_instr(place, launch, op, operands),
+            _ => NO_INSTR,
         }
     }
 
@@ -113,32 +122,31 @@ impl<'a> Ordered<'a> {
     {
         match op {
             Op::Word(op) => self.word_instr(place, launch, op, operands),
-            Op::Select => Instr::LdqU {
+            Op::Select(access) => Instr::Load {
+                access,
                 ra: self.register_at(place),
                 rb: self.reg_at(place, launch, operands, 1),
                 disp: 0,
             },
-            Op::Load => Instr::LdqU {
+            Op::Load(access) => Instr::Load {
+                access,
                 ra: self.register_at(place),
                 rb: self.reg_at(place, launch, operands, 1),
                 disp: displacement_at(self.graph, operands, 2),
             },
-            Op::Store => Instr::StqU {
+            Op::Store(access) => Instr::Store {
+                access,
                 ra: self.reg_at(place, launch, operands, 2),
                 rb: self.reg_at(place, launch, operands, 1),
                 disp: 0,
             },
-            Op::Put => Instr::StqU {
+            Op::Put(access) => Instr::Store {
+                access,
                 ra: self.reg_at(place, launch, operands, 3),
                 rb: self.reg_at(place, launch, operands, 1),
                 disp: displacement_at(self.graph, operands, 2),
             },
-            _ => Instr::Operate {
-                op: WordOp::Bis,
-                ra: 31,
-                second: Second::Reg(31),
-                rc: 31,
-            },
+            _ => NO_INSTR,
         }
     }
 
@@ -164,7 +172,7 @@ impl<'a> Ordered<'a> {
             place launch class }
     {
         Instr::Operate {
-            op: WordOp::Bis,
+            op: Operate::Bis,
             ra: 31,
             second: self.second_for(launch, class),
             rc: self.register_at(place),

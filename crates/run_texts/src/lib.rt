@@ -2,6 +2,12 @@
 //!
 //! A text has the program's words, then the words that registers hold at first, then those that places of memory hold.
 //! The report says how the program ends, and lists the registers and places that don't hold 0 then.
+//!
+//! Proved: `read` gives exactly the program that a text says, within the limits, and only one that can be run
+//! (`program`, `runnable`, `read`), or its first fault (`fault`, `refused`), never both (`one_program`). A program
+//! starts with what its text gives and 0 elsewhere (`programs_start_as_given`). `report` prints exactly the end,
+//! registers and places of the state to which the machine's steps lead from there; a program has one report
+//! (`one_report`).
 #![tactic(auto)]
 
 mod laws;

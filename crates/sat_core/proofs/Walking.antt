@@ -1,5 +1,5 @@
 -- The walk back along the trail: a step that isn't needed, that is kept, that is resolved.
-use Rattle.std.proofs.Common.{◌≡◌, ◌≢◌, ℕ, ◌+◌, ◌-◌, ◌<◌, ◌≤◌, ◌⊎◌, Bool, true, false, not, List, [], ◌∷◌, ◌++◌, length, take, set, get_or, refl, sym, ap, ◌∙◌, subst, arith, inl, inr, Some, None}
+use Rattle.std.proofs.Common.{◌≡◌, ◌≢◌, ℕ, ◌+◌, ◌-◌, ◌<◌, ◌≤◌, ◌⊎◌, Bool, true, false, not, List, [], ◌∷◌, ◌++◌, length, take, set, get_or, refl, sym, ap, ◌∙◌, subst, arith, inl, inr, Option, Some, None}
 use Rattle.std.specs.Prelude.{is_none, nat_le, ◌&&◌}
 use Rattle.std.specs.List.{All}
 use Rattle.std.proofs.lemmas.Bool.{cases_Bool, cases_eq, cases_lt, cond-true, cond-false, false≢true}
@@ -289,6 +289,40 @@ stays-more clauses n steps i d backjump backjump' lits lits' more b h is-b is fe
     and-right : (p q : Bool) → p ≡ true → (p && q) ≡ false → q ≡ false
     and-right true q e f = f
     and-right false q e f = absurd (false≢true e)
+
+-- **what the walk keeps doesn't turn on where the backjump leads**
+pub walked-moved : (clauses : List (List Lit)) (n : ℕ) (steps : List Step) (i backjump : ℕ) (a : Analysis) → IsWalked clauses n steps i a → IsWalked clauses n steps i (record a { backjump = backjump })
+walked-moved clauses n steps i backjump a h =
+    record {
+      size = h.size;
+      room = h.room;
+      clear = h.clear;
+      below = h.below;
+      reached = h.reached;
+      count = h.count;
+      exist = h.exist;
+      free = h.free;
+      differ = h.differ;
+      names = h.names;
+      many = h.many;
+      one = h.one;
+      root = h.root;
+    }
+
+-- **and it leads to a decision or to the end**
+pub back-more : (steps : List Step) (i count backjump : ℕ) (d : Step) → d ≡ get_or steps i d → IsDecisionOrEnd steps backjump → IsDecisionOrEnd steps (backjump_after d count i backjump)
+back-more steps i count backjump d is before =
+    let test = is_none d.reason && nat_le count 1 in
+    elim (cases_Bool test) [
+      | inl aims ↦
+          subst (IsDecisionOrEnd steps) (sym (cond-true test i backjump aims))
+          (λ e few. sym (ap (λ (x : Step). x.reason) (is ∙ get_or_default steps i d e few)) ∙ none-of d.reason (nat_le count 1) aims)
+      | inr stays ↦ subst (IsDecisionOrEnd steps) (sym (cond-false test i backjump stays)) before
+    ]
+  where
+    none-of : (o : Option ℕ) (q : Bool) → (is_none o && q) ≡ true → o ≡ None
+    none-of None q e = refl
+    none-of (Some id) q e = absurd (false≢true e)
 
 -- nothing is marked where nothing is from the index on, and nothing before it
 all-clear : (i lowest : ℕ) (seen : List Bool) → i ≤ lowest → AreUnmarked i seen → AreUnmarkedBelow lowest seen → (k : ℕ) → is_marked seen k ≡ false

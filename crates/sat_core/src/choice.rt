@@ -47,7 +47,7 @@ fn later_of(trail: &Trail, lit: Lit, but: Option<Lit>, best: Option<Lit>) -> Opt
     ensures later { (clauses : List (List Literal)) → IsTrailState clauses (var_count trail.now) trail.now
         → IsLaterOf trail.now.steps.items lit but best result }
 {
-    if is_at(but, lit) {
+    if but == Some(lit) {
         return best;
     }
     match best {
@@ -59,15 +59,5 @@ fn later_of(trail: &Trail, lit: Lit, but: Option<Lit>, best: Option<Lit>) -> Opt
                 best
             }
         }
-    }
-}
-
-/// Whether it is this literal that is passed over.
-fn is_at(but: Option<Lit>, lit: Lit) -> bool
-    ensures { IsTrue result ↔ (but ≡ Some lit) }
-{
-    match but {
-        None => false,
-        Some(other) => other == lit,
     }
 }

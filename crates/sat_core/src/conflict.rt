@@ -97,7 +97,8 @@ fn analyze(
     let mut index = count;
     while analysis.lowest < index {
         index -= 1;
-        analysis.visit(clauses, trail, index, first)?;
+        analysis.resolve_or_keep(clauses, trail, index, first)?;
+        analysis.set_backjump(trail.steps[index], index);
     }
     analysis.end(first);
     Ok(analysis)
@@ -140,7 +141,11 @@ fn mark_clause(clause: &[Lit], indices: &[usize], last: usize, seen: &mut [bool]
 {
     let mut added = 0;
     for lit in clause {
-        added += mark(seen, indices[(lit.var - 1) as usize], last);
+        let index = indices[(lit.var - 1) as usize];
+        if last <= index && !seen[index] {
+            added += 1;
+        }
+        seen[index] = true;
     }
     added
 }
@@ -160,21 +165,6 @@ fn lowest_index(clause: &[Lit], indices: &[usize], most: usize) -> usize
     lowest
 }
 
-/// Marks a step: 1 where it is of the last level and wasn't marked before.
-fn mark(seen: &mut [bool], index: usize, last: usize) -> usize
-    requires within { index < length seen.old }
-    ensures marks { seen.new ≡ slice_set seen.old index true }
-    ensures count { last_level_count last seen.new ≡ last_level_count last seen.old + result }
-    ensures few { result ≤ 1 }
-{
-    let was = seen[index];
-    seen[index] = true;
-    if was || index < last {
-        return 0;
-    }
-    1
-}
-
 /// Takes the mark of a step: 1 where it is of the last level.
 fn unmark(seen: &mut [bool], index: usize, last: usize) -> usize
     requires within { index < length seen.old }
@@ -190,37 +180,6 @@ fn unmark(seen: &mut [bool], index: usize, last: usize) -> usize
 }
 
 impl Analysis {
-    /// Visits one step more.
-    fn visit(
-        &mut self,
-        clauses: &Clauses,
-        trail: &Trail,
-        index: usize,
-        first: usize,
-    ) -> Result<(), NoMemory>
-        requires few { length clauses.now < 2 ^ 31 }
-        requires exist { AreOver (var_count trail.now) clauses.now }
-        requires state { IsTrailState clauses.now (var_count trail.now) trail.now }
-        requires first { IsDecisionOrEnd trail.now.steps.items first }
-        requires last { IsLastDecision trail.now.steps.items self.old.last }
-        requires within { index < length trail.now.steps.items }
-        requires walked { IsWalked clauses.now (var_count trail.now) trail.now.steps.items (index + 1) self.old }
-        ensures last { OnOk result (self.new.last ≡ self.old.last) }
-        ensures walked { OnOk result (IsWalked clauses.now (var_count trail.now) trail.now.steps.items index self.new) }
-        ensures leads { OnOk result ((conflict : List Literal)
-            → LeadsBy clauses.now trail.now.steps.items (index + 1) self.old conflict
-            → LeadsBy clauses.now trail.now.steps.items index self.new conflict) }
-        ensures stays { OnOk result (IsBackjump trail.now.steps.items
-            (index + 1) self.old.backjump self.old.lits.items
-            → IsBackjump trail.now.steps.items index self.new.backjump self.new.lits.items) }
-        ensures back { OnOk result (IsDecisionOrEnd trail.now.steps.items self.old.backjump
-            → IsDecisionOrEnd trail.now.steps.items self.new.backjump) }
-    {
-        self.resolve_or_keep(clauses, trail, index, first)?;
-        self.set_backjump(trail.steps[index], index);
-        Ok(())
-    }
-
     /// Resolves or keeps the step where it is needed.
     fn resolve_or_keep(
         &mut self,

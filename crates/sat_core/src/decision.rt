@@ -24,17 +24,6 @@ pub(crate) struct Scores {
 }
 
 impl Scores {
-    /// The given scores, that of variable x at the place x - 1.
-    pub(crate) fn new(alloc: Global, given: &[u64]) -> Result<Scores, NoMemory>
-        ensures { IfOk result (λ scores. scores.counts.items ≡ given.now) }
-    {
-        Ok(Scores {
-            counts: given.to_vec(alloc)?,
-            free: Vec::new(alloc),
-            free_scores: Vec::new(alloc),
-        })
-    }
-
     /// Counts one lemma more. A score that is at the end of its type stays.
     pub(crate) fn add(&mut self, lemma: &[Lit])
         requires exist { All (IsLitOf (length self.old.counts.items)) lemma.now }
@@ -59,7 +48,7 @@ fn list_free(free: &mut Vec<u32>, values: &[Value]) -> Result<(), NoMemory>
 {
     free.clear();
     for index in 0..values.len() {
-        if values[index].is_unassigned() {
+        if values[index].as_option().is_none() {
             free.push(index as u32 + 1)?;
         }
     }

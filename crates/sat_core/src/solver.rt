@@ -69,7 +69,12 @@ pub fn solve_from<F: Rule>(
 {
     let mut trail = Trail::new(alloc, cnf.vars())?;
     let mut watches = Watches::new(alloc, cnf.vars())?;
-    let mut tally = Scores::new(alloc, scores)?;
+    let counts = scores.to_vec(alloc)?;
+    let mut tally = Scores {
+        counts,
+        free: Vec::new(alloc),
+        free_scores: Vec::new(alloc),
+    };
     let mut seen = vec![in alloc; false; cnf.vars() as usize]?;
     let mut clauses = clauses_of(alloc, cnf)?;
     let mut lines = Items::new(alloc);
@@ -78,7 +83,7 @@ pub fn solve_from<F: Rule>(
             None => return Ok(Verdict::Sat(all_values(alloc, trail.values.as_slice())?)),
             Some(id) => {
                 let line = learn(alloc, &clauses, &mut trail, &mut seen, id)?;
-                watches.take_back(trail.steps.len());
+                watches.head = watches.head.min(trail.steps.len());
                 let refuted = line.lits.is_empty();
                 clauses.push(line.lits.as_slice())?;
                 tally.add(line.lits.as_slice());

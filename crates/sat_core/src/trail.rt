@@ -36,15 +36,6 @@ impl Value {
         self as u8 == 1 + positive as u8
     }
 
-    pub(crate) fn is_unassigned(self) -> bool
-        ensures { result ≡ is_unassigned self }
-    {
-        match self {
-            Value::Unassigned => true,
-            _ => false,
-        }
-    }
-
     pub(crate) fn as_option(self) -> Option<bool>
         ensures { result ≡ truth_value self }
     {
@@ -174,7 +165,9 @@ impl Trail {
         let index = (step.lit.var - 1) as usize;
         self.values[index] = Value::of(step.lit.positive);
         self.indices[index] = place;
-        add_decision(&mut self.decisions, step, place)?;
+        if step.reason.is_none() {
+            self.decisions.push(place)?;
+        }
         Ok(())
     }
 
@@ -188,28 +181,10 @@ impl Trail {
         while self.steps.len() > count {
             if let Some(step) = self.steps.pop() {
                 self.values[(step.lit.var - 1) as usize] = Value::Unassigned;
-                remove_decision(&mut self.decisions, step);
+                if step.reason.is_none() {
+                    self.decisions.pop();
+                }
             }
         }
-    }
-}
-
-/// Adds the trail index of a step where it is a decision.
-fn add_decision(decisions: &mut Vec<usize>, step: Step, index: usize) -> Result<(), NoMemory>
-    ensures { OnOk result (decisions.new.items ≡ decisions.old.items ++ with_decision step.reason index []) }
-{
-    if step.reason.is_none() {
-        decisions.push(index)?;
-    }
-    Ok(())
-}
-
-/// Removes the trail index of the last step where it is a decision.
-fn remove_decision(decisions: &mut Vec<usize>, step: Step)
-    ensures { (front : List Taken) → decisions.old.items ≡ decision_indices (front ++ step ∷ [])
-        → decisions.new.items ≡ decision_indices front }
-{
-    if step.reason.is_none() {
-        decisions.pop();
     }
 }

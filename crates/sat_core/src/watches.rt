@@ -40,14 +40,6 @@ impl Model for WatchList {
 }
 
 impl WatchList {
-    pub(crate) fn new(alloc: Global) -> WatchList
-        ensures { result ≡ [] }
-    {
-        WatchList {
-            watchers: Vec::new(alloc),
-        }
-    }
-
     pub(crate) fn len(&self) -> usize
         ensures { result ≡ length self.now }
     {
@@ -59,21 +51,6 @@ impl WatchList {
         ensures { result ≡ slice_index_or self.now place no_watcher }
     {
         self.watchers[place]
-    }
-
-    pub(crate) fn push(&mut self, watcher: Watcher) -> Result<(), NoMemory>
-        ensures { OnOk result (self.new ≡ self.old ++ watcher ∷ []) }
-    {
-        self.watchers.push(watcher)?;
-        Ok(())
-    }
-
-    /// Gives the watcher at a place another blocker.
-    pub(crate) fn renew(&mut self, place: usize, blocker: Lit)
-        requires { place < length self.old }
-        ensures { self.new ≡ slice_set self.old place (watcher_with self.old place blocker) }
-    {
-        self.watchers[place].blocker = blocker;
     }
 
     /// Takes the watcher at a place out; the last one goes there.
@@ -109,20 +86,15 @@ impl Watches {
     {
         let mut lists = Vec::new(alloc);
         for _ in 0..2 * vars as usize {
-            lists.push(WatchList::new(alloc))?;
+            lists.push(WatchList {
+                watchers: Vec::new(alloc),
+            })?;
         }
         Ok(Watches {
             lists,
             pairs: Vec::new(alloc),
             head: 0,
         })
-    }
-
-    /// The trail was taken back to this many steps.
-    pub(crate) fn take_back(&mut self, count: usize)
-        ensures { self.new ≡ record self.old { head = min self.old.head count } }
-    {
-        self.head = self.head.min(count);
     }
 
     /// Puts a watcher at the end of a list.
@@ -132,7 +104,8 @@ impl Watches {
         ensures pairs { OnOk result (self.new.pairs ≡ self.old.pairs) }
         ensures head { OnOk result (self.new.head ≡ self.old.head) }
     {
-        self.lists[list].push(watcher)
+        self.lists[list].watchers.push(watcher)?;
+        Ok(())
     }
 
     /// Gives the watcher at a place of a list another blocker.
@@ -143,7 +116,7 @@ impl Watches {
         ensures pairs { self.new.pairs ≡ self.old.pairs }
         ensures head { self.new.head ≡ self.old.head }
     {
-        self.lists[list].renew(place, blocker);
+        self.lists[list].watchers[place].blocker = blocker;
     }
 
     /// Adds a clause, the next one, with its watched literals.

@@ -16,8 +16,8 @@ use Rattle.saturation.specs.Alike.{AreOfOneTerm, AreAlike}
 use Rattle.saturation.specs.Derives.{Pair}
 use Rattle.saturation.specs.Grown.{IsGrown, IsQuiet, Halts, GoesOnGrowing, NotBefore}
 use Rattle.saturation.specs.Rounds.{StopIs}
-use Rattle.saturation.specs.declared.rounds.Stop.{Stop}
-use Rattle.saturation.specs.declared.rounds.Stop.TheVariants.{Quiet, Rounds, Full}
+use Rattle.graph_meaning.specs.declared.stops.Stop.{Stop}
+use Rattle.graph_meaning.specs.declared.stops.Stop.TheVariants.{Quiet, Rounds, Full}
 use Rattle.saturation.proofs.Alike.{alike}
 use Rattle.saturation.proofs.AskSteps.{here_in, later_in}
 use Rattle.saturation.proofs.FiniteLists.{no_longer}

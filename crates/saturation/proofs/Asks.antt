@@ -5,7 +5,7 @@ use Rattle.word_terms.specs.Keys.{op_signature}
 use Rattle.word_terms.specs.Tree.{Tree, substituted}
 use Rattle.word_terms.specs.Sorting.{HasSort}
 use Rattle.axiom_base.specs.Rewrites.{Rewrite}
-use Rattle.axiom_base.specs.Equations.{constant}
+use Rattle.word_terms.specs.Building.{constant}
 use Rattle.axiom_base.specs.Schemes.{IsRuleOf, schemes}
 use Rattle.egraph.specs.Graph.{Graph, IsGraph}
 use Rattle.pattern_match.specs.Classes.{IsClass, at_row, no_classes}

@@ -137,10 +137,10 @@ module _ (declared : List DeclaredOp) where
   known_common (Input r) e = absurd (cc)
   known_common (Constant c) e = tt
   known_common (Word op) e = tt
-  known_common Select e = tt
-  known_common Store e = tt
-  known_common Load e = tt
-  known_common Put e = tt
+  known_common (Select access) e = tt
+  known_common (Store access) e = tt
+  known_common (Load access) e = tt
+  known_common (Put access) e = tt
   known_common (Declared i a) e = absurd (cc)
 
   abbrev pub HasKnown : Tree Op → Type 0
@@ -162,10 +162,10 @@ module _ (declared : List DeclaredOp) where
   goal_known inputs low (Input r) k = All-contains (λ r. r < 31) (input_registers inputs) r low k
   goal_known inputs low (Constant c) k = tt
   goal_known inputs low (Word op) k = tt
-  goal_known inputs low Select k = tt
-  goal_known inputs low Store k = tt
-  goal_known inputs low Load k = tt
-  goal_known inputs low Put k = tt
+  goal_known inputs low (Select access) k = tt
+  goal_known inputs low (Store access) k = tt
+  goal_known inputs low (Load access) k = tt
+  goal_known inputs low (Put access) k = tt
   goal_known inputs low (Declared i a) k = k
 
   axiom_known : (op : Op) → IsOfAxiom declared op → IsKnown declared op
@@ -173,10 +173,10 @@ module _ (declared : List DeclaredOp) where
   axiom_known (Input r) k = absurd k
   axiom_known (Constant c) k = tt
   axiom_known (Word op) k = tt
-  axiom_known Select k = tt
-  axiom_known Store k = tt
-  axiom_known Load k = tt
-  axiom_known Put k = tt
+  axiom_known (Select access) k = tt
+  axiom_known (Store access) k = tt
+  axiom_known (Load access) k = tt
+  axiom_known (Put access) k = tt
   axiom_known (Declared i a) k = k
 
   -- ---- rules

@@ -34,10 +34,10 @@ same_meaning declared world op.Entry name vs h = refl
 same_meaning declared world (op.Input r) name vs h = refl
 same_meaning declared world (op.Constant c) name vs h = refl
 same_meaning declared world (op.Word o) name vs h = refl
-same_meaning declared world op.Select name vs h = refl
-same_meaning declared world op.Store name vs h = refl
-same_meaning declared world op.Load name vs h = refl
-same_meaning declared world op.Put name vs h = refl
+same_meaning declared world (op.Select access) name vs h = refl
+same_meaning declared world (op.Store access) name vs h = refl
+same_meaning declared world (op.Load access) name vs h = refl
+same_meaning declared world (op.Put access) name vs h = refl
 same_meaning declared world (op.Declared index arity) name vs h = ap (λ n. word (world.declared n (map as_word vs))) (h index arity refl)
 
 same_sort : (declared : List DeclaredOp) (o : Op) (name : List ℕ) → sort_of (numbered_op declared o name) ≡ sort_of o
@@ -45,10 +45,10 @@ same_sort declared op.Entry name = refl
 same_sort declared (op.Input r) name = refl
 same_sort declared (op.Constant c) name = refl
 same_sort declared (op.Word o) name = refl
-same_sort declared op.Select name = refl
-same_sort declared op.Store name = refl
-same_sort declared op.Load name = refl
-same_sort declared op.Put name = refl
+same_sort declared (op.Select access) name = refl
+same_sort declared (op.Store access) name = refl
+same_sort declared (op.Load access) name = refl
+same_sort declared (op.Put access) name = refl
 same_sort declared (op.Declared index arity) name = refl
 
 module _ (declared : List DeclaredOp) (goal : GoalTree) (graph : Graph Op) (g : LaunchGraph) (launched : IsLaunched declared goal graph g) (world : World) (values : ℕ → Value) (true_in : IsTrueGraph world (declared_name declared) values graph) where

@@ -10,6 +10,7 @@ use Rattle.std.proofs.lemmas.Slice.Eq.{bytes_eq-Decides}
 use Rattle.text_core.specs.Names.{IsName}
 use Rattle.word_ops.specs.Words.{IsWord}
 use Rattle.word_ops.specs.Meanings.{arity_of_op, sort_of, operand_sort, constant_in}
+use Rattle.word_ops.specs.declared.sorts.Access.TheVariants.{Quad}
 use Rattle.word_ops.specs.declared.sorts.Arity.{Arity}
 use Rattle.word_ops.specs.declared.sorts.Sort.{Sort}
 use Rattle.word_ops.specs.declared.sorts.Op.{Op}
@@ -42,10 +43,10 @@ module _ (declared : List DeclaredOp) (used : List ℕ) where
   each_op P other one (Input r) = other (Input r) refl refl
   each_op P other one (Constant c) = other (Constant c) refl refl
   each_op P other one (Word op) = other (Word op) refl refl
-  each_op P other one Select = other Select refl refl
-  each_op P other one Store = other Store refl refl
-  each_op P other one Load = other Load refl refl
-  each_op P other one Put = other Put refl refl
+  each_op P other one (Select access) = other (Select access) refl refl
+  each_op P other one (Store access) = other (Store access) refl refl
+  each_op P other one (Load access) = other (Load access) refl refl
+  each_op P other one (Put access) = other (Put access) refl refl
   each_op P other one (Declared i a) = one i a
 
   pub same_arity : (op : Op) → arity_of_op (launched_op used op) ≡ arity_of_op op
@@ -86,10 +87,10 @@ module _ (declared : List DeclaredOp) (used : List ℕ) where
   back_other (Input r) e = refl
   back_other (Constant c) e = refl
   back_other (Word op) e = refl
-  back_other Select e = refl
-  back_other Store e = refl
-  back_other Load e = refl
-  back_other Put e = refl
+  back_other (Select access) e = refl
+  back_other (Store access) e = refl
+  back_other (Load access) e = refl
+  back_other (Put access) e = refl
   back_other (Declared i a) e = absurd (cc)
 
   abbrev IsUsed : Op → Type 0
@@ -107,10 +108,10 @@ known_input declared Entry n k e = absurd (cc)
 known_input declared (Input r) n k e = let f : r ≡ n = cc in omega (arith, k, f)
 known_input declared (Constant c) n k e = absurd (cc)
 known_input declared (Word op) n k e = absurd (cc)
-known_input declared Select n k e = absurd (cc)
-known_input declared Store n k e = absurd (cc)
-known_input declared Load n k e = absurd (cc)
-known_input declared Put n k e = absurd (cc)
+known_input declared (Select access) n k e = absurd (cc)
+known_input declared (Store access) n k e = absurd (cc)
+known_input declared (Load access) n k e = absurd (cc)
+known_input declared (Put access) n k e = absurd (cc)
 known_input declared (Declared i a) n k e = absurd (cc)
 
 no_index : {o : Option ℕ} → o ≡ None → IsTrue (is_some o) → ⊥
@@ -121,10 +122,10 @@ declared_is Entry n e = absurd (cc)
 declared_is (Input r) n e = absurd (cc)
 declared_is (Constant c) n e = absurd (cc)
 declared_is (Word op) n e = absurd (cc)
-declared_is Select n e = absurd (cc)
-declared_is Store n e = absurd (cc)
-declared_is Load n e = absurd (cc)
-declared_is Put n e = absurd (cc)
+declared_is (Select access) n e = absurd (cc)
+declared_is (Store access) n e = absurd (cc)
+declared_is (Load access) n e = absurd (cc)
+declared_is (Put access) n e = absurd (cc)
 declared_is (Declared i a) n e = let k : i ≡ n = cc in (a, ap (λ m. Declared m a) k)
 
 one_arity : (declared : List DeclaredOp) (i : ℕ) (a b : Arity) → IsDeclared declared i a → IsDeclared declared i b → a ≡ b
@@ -168,10 +169,10 @@ module _ (declared : List DeclaredOp) (differ : AllPairs (λ (d e : DeclaredOp).
   op_is used (Input r) k = refl
   op_is used (Constant c) k = refl
   op_is used (Word op) k = refl
-  op_is used Select k = refl
-  op_is used Store k = refl
-  op_is used Load k = refl
-  op_is used Put k = refl
+  op_is used (Select access) k = refl
+  op_is used (Store access) k = refl
+  op_is used (Load access) k = refl
+  op_is used (Put access) k = refl
   op_is used (Declared i a) k = ap (λ n. Declared n a) (number_is i k.below)
 
 -- ---- rows

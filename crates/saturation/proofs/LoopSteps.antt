@@ -20,8 +20,8 @@ use Rattle.saturation.specs.Asking.{AreAsked, StopFits}
 use Rattle.saturation.specs.Steps.{CallsForRound, StepFits}
 use Rattle.saturation.specs.declared.stepping.Step.TheVariants.{End}
 use Rattle.saturation.specs.Rounds.{IsAfter, IsImpossible, SaturateFaultIs, IsHopeless, KeepsClasses, KeepsStanding, StopIs}
-use Rattle.saturation.specs.declared.rounds.Stop.{Stop}
-use Rattle.saturation.specs.declared.rounds.Stop.TheVariants.{Quiet, Rounds, Full}
+use Rattle.graph_meaning.specs.declared.stops.Stop.{Stop}
+use Rattle.graph_meaning.specs.declared.stops.Stop.TheVariants.{Quiet, Rounds, Full}
 use Rattle.pattern_match.specs.Classes.{IsClass}
 use Rattle.saturation.proofs.Asks.{Asks}
 use Rattle.saturation.proofs.Classes.{class_has}

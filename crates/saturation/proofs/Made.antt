@@ -7,7 +7,7 @@ use Rattle.word_terms.specs.Keys.{op_signature}
 use Rattle.word_terms.specs.Laws.{op_constant_is_own, op_constant_takes_none}
 use Rattle.word_terms.specs.Tree.{Tree, substituted}
 use Rattle.axiom_base.specs.Rewrites.{Rewrite}
-use Rattle.axiom_base.specs.Equations.{constant}
+use Rattle.word_terms.specs.Building.{constant}
 use Rattle.egraph.specs.declared.rows.Row.{Row}
 use Rattle.egraph.specs.Graph.{Graph, IsGraph, HasConstant}
 use Rattle.egraph.specs.Joined as closure

@@ -8,7 +8,7 @@ use Rattle.word_ops.specs.declared.sorts.Op.{Op}
 use Rattle.word_terms.specs.OperatorsIn.{operators_in}
 use Rattle.word_terms.specs.Keys.{op_signature}
 use Rattle.axiom_base.specs.Equations as rows
-use Rattle.axiom_base.specs.Equations.{constant}
+use Rattle.word_terms.specs.Building.{constant}
 use Rattle.axiom_base.specs.Rewrites.{Rewrite}
 use Rattle.axiom_base.specs.Schemes.{Scheme, plain, computed, folding, calc_kinds, schemes, weight, itself}
 use Rattle.egraph.specs.Graph.{Graph, IsGraph, HasClass, HasConstant}

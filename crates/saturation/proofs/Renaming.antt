@@ -17,8 +17,8 @@ use Rattle.saturation.specs.Derives.{Pair}
 use Rattle.saturation.specs.Grown.{IsGrown, IsQuiet}
 use Rattle.saturation.specs.Renamed.{IsRenamed}
 use Rattle.saturation.specs.Rounds.{StopIs}
-use Rattle.saturation.specs.declared.rounds.Stop.{Stop}
-use Rattle.saturation.specs.declared.rounds.Stop.TheVariants.{Quiet, Rounds, Full}
+use Rattle.graph_meaning.specs.declared.stops.Stop.{Stop}
+use Rattle.graph_meaning.specs.declared.stops.Stop.TheVariants.{Quiet, Rounds, Full}
 use Rattle.saturation.proofs.Mapped.{contains_map, contains_map_back, some_at}
 
 abbrev row_of : Op → List ℕ → ℕ → Row Op

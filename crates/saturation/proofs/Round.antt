@@ -7,7 +7,7 @@ use Rattle.word_ops.specs.declared.sorts.Op.TheVariants.{Constant}
 use Rattle.word_terms.specs.Keys.{op_signature}
 use Rattle.word_terms.specs.Tree.{Tree, Trees, variable, application, none, more, put_in, substituted, each_substituted, AreBelow}
 use Rattle.axiom_base.specs.Rewrites.{Rewrite, IsUsable}
-use Rattle.axiom_base.specs.Equations.{constant}
+use Rattle.word_terms.specs.Building.{constant}
 use Rattle.word_terms.specs.Sorting.{Occurs, OccursInOne}
 use Rattle.egraph.specs.Graph.{Graph, Agree, HasClass, HasConstant, IsGraph}
 use Rattle.pattern_match.specs.Classes.{IsClass, AreClasses, at_row, no_classes, classes, HaveOneClass}

@@ -5,7 +5,7 @@ use Rattle.word_ops.specs.declared.sorts.Op.{Op}
 use Rattle.word_terms.specs.Keys.{op_signature}
 use Rattle.word_terms.specs.Tree.{Tree, Trees, variable, application, none, more, substituted, each_substituted}
 use Rattle.axiom_base.specs.Rewrites.{Rewrite}
-use Rattle.axiom_base.specs.Equations.{constant}
+use Rattle.word_terms.specs.Building.{constant}
 use Rattle.egraph.specs.Graph.{Graph, IsGraph}
 use Rattle.pattern_match.specs.Classes.{IsClass, at_variable, at_row}
 use Rattle.saturation.specs.Trace.{Asked, IsBuilt, AreInserted, none_inserted, one_inserted, IsAssumeMade, AreAssumed, none_assumed, one_assumed, AreRefused, refused_here, refused_after}

@@ -16,10 +16,10 @@ no_index Entry h = refl
 no_index (Input r) h = refl
 no_index (Constant c) h = refl
 no_index (Word op) h = refl
-no_index Select h = refl
-no_index Store h = refl
-no_index Load h = refl
-no_index Put h = refl
+no_index (Select access) h = refl
+no_index (Store access) h = refl
+no_index (Load access) h = refl
+no_index (Put access) h = refl
 no_index (Declared i a) h = absurd (h i a refl)
 
 module _ (rows : List (Row Op)) (i : ℕ) (r : Row Op) (lt : i < length rows) (is : get_or rows i r ≡ r) where

@@ -4,7 +4,7 @@ use Rattle.std.specs.List.{AllZip}
 use Rattle.word_ops.specs.Operators.{operators}
 use Rattle.word_ops.specs.declared.sorts.Op.{Op}
 use Rattle.axiom_base.specs.Rewrites.{Rewrite}
-use Rattle.axiom_base.specs.Equations.{constant}
+use Rattle.word_terms.specs.Building.{constant}
 use Rattle.axiom_base.specs.Equations as rows
 use Rattle.axiom_base.specs.Computed.{calc_right}
 use Rattle.axiom_base.specs.declared.kinds.Calc.{Calc}
@@ -17,8 +17,8 @@ use Rattle.pattern_match.specs.declared.found.Match.{Match}
 use Rattle.pattern_match.specs.declared.found.Fold.{Fold}
 use Rattle.saturation.specs.Trace.{Asked, operators_asked}
 use Rattle.saturation.specs.declared.searching.Unmet.{Unmet}
-use Rattle.saturation.specs.declared.rounds.Stop.{Stop}
-use Rattle.saturation.specs.declared.rounds.Stop.TheVariants.{Quiet, Rounds, Full}
+use Rattle.graph_meaning.specs.declared.stops.Stop.{Stop}
+use Rattle.graph_meaning.specs.declared.stops.Stop.TheVariants.{Quiet, Rounds, Full}
 
 -- the rule's right side over the classes of a match, or over none where it is a constant
 pub record AsksFor (r : Rewrite) (places : List ℕ) (a : Asked) : Type 0 where

@@ -4,7 +4,7 @@ use Rattle.std.specs.Prelude.{◌≢◌, ℕ, ◌+◌, List, Contains}
 use Rattle.word_ops.specs.declared.sorts.Op.{Op}
 use Rattle.word_terms.specs.Tree.{Tree, Trees, application, none, more, put_in, substituted}
 use Rattle.axiom_base.specs.Rewrites.{Rewrite}
-use Rattle.axiom_base.specs.Equations.{constant}
+use Rattle.word_terms.specs.Building.{constant}
 use Rattle.axiom_base.specs.Schemes.{IsRuleOf}
 
 -- two terms

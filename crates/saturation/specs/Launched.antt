@@ -23,7 +23,7 @@ use Rattle.saturation.specs.GoalTerms.{kept_terms}
 use Rattle.saturation.specs.Grown.{IsGrown}
 use Rattle.saturation.specs.Rounds.{StopIs}
 use Rattle.saturation.specs.StandsFor.{IsGraphOf, declared_number, row_view, graph_view}
-use Rattle.saturation.specs.declared.rounds.Stop.{Stop}
+use Rattle.graph_meaning.specs.declared.stops.Stop.{Stop}
 
 -- the input of a register, a declared operator of the list, or any other operator
 abbrev pub IsKnown : List DeclaredOp → Op → Type 0

@@ -11,8 +11,8 @@ use Rattle.pattern_match.specs.Classes.{IsClass}
 use Rattle.saturation.specs.Derives.{IsClash, Pair}
 use Rattle.saturation.specs.Grown.{IsGrown, IsQuiet, IsFull, NotBefore}
 use Rattle.saturation.specs.GraphStands.{GraphStands, RulesHold}
-use Rattle.saturation.specs.declared.rounds.Stop.{Stop}
-use Rattle.saturation.specs.declared.rounds.Stop.TheVariants.{Quiet, Rounds, Full}
+use Rattle.graph_meaning.specs.declared.stops.Stop.{Stop}
+use Rattle.graph_meaning.specs.declared.stops.Stop.TheVariants.{Quiet, Rounds, Full}
 use Rattle.saturation.specs.declared.faults.SaturateFault.{SaturateFault}
 use Rattle.saturation.specs.declared.faults.SaturateFault.TheVariants.{NoWorld, Memory}
 

@@ -49,7 +49,7 @@ HasClassIn declared g t class = IsClass (graph_view declared g) [] t class
 -- ---- the graph of a goal
 
 abbrev pub is_select : Op → Bool
-is_select Select = true
+is_select (Select access) = true
 is_select _ = false
 
 -- whether the term reads a memory

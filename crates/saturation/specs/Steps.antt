@@ -10,7 +10,7 @@ use Rattle.saturation.specs.Instances.{asked_of}
 use Rattle.saturation.specs.Trace.{Asked, operators_asked}
 use Rattle.saturation.specs.declared.stepping.Step.{Step}
 use Rattle.saturation.specs.declared.stepping.Step.TheVariants.{End, Round}
-use Rattle.saturation.specs.declared.rounds.Stop.TheVariants.{Quiet, Rounds, Full}
+use Rattle.graph_meaning.specs.declared.stops.Stop.TheVariants.{Quiet, Rounds, Full}
 
 -- some match is unmet, and with what they need the rows pass the limit
 abbrev pub IsOver : List Rewrite → Graph Op → ℕ → Type 0

@@ -214,7 +214,7 @@ fn reads_memory(term: &Term<Op>) -> bool
     match term {
         Term::Var(_) => false,
         Term::App(op, operands) => {
-            if *op == Op::Select {
+            if matches!(op, Op::Select(_)) {
                 return true;
             }
             for operand in operands {

@@ -9,7 +9,7 @@ ghost use Rattle.saturation.specs.Alike.{AreAlike};
 ghost use Rattle.saturation.specs.Derives.{Pair, IsClash};
 ghost use Rattle.saturation.specs.Grown.{Halts, IsGrown, NotBefore};
 ghost use Rattle.saturation.specs.Rounds.{StopIs};
-ghost use Rattle.saturation.specs.declared.rounds.Stop.{Stop as Reason};
+ghost use Rattle.graph_meaning.specs.declared.stops.Stop.{Stop as Reason};
 
 use axiom_base::schemes_are_true;
 

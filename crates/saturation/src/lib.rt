@@ -39,4 +39,4 @@ pub use launch_laws::{grown_graphs_can_be_launched, launched_graphs_stand};
 pub use launching::to_launch;
 pub use laws::{grown_graphs_are_one, rounds_end_once};
 pub use more_terms::more_terms_may_be_inserted;
-pub use rounds::{Rules, Saturated, Stop, saturate};
+pub use rounds::{Rules, Saturated, saturate};

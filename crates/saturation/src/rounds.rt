@@ -8,6 +8,7 @@ use crate::faults::SaturateFault;
 use crate::stepping::{Step, decide};
 use axiom_base::{Rule, computed_rules_are_true, constants_are_numbered, schemes_are_true};
 use egraph::{Egraph, MergeFault};
+use graph_meaning::Stop;
 use items::{Items, NoMemory};
 use std::alloc::Global;
 use std::marker::Model;
@@ -33,17 +34,6 @@ impl Model for Rules {
     ghost view = { λ r. record { program = r.program } };
 
     ghost invariant = { λ r. r.equations ≡ rows.equations };
-}
-
-/// Why rounds end.
-#[derive(Clone, Copy, PartialEq, Eq, Debug)]
-pub enum Stop {
-    /// No match is unmet.
-    Quiet,
-    /// The rounds asked for are done.
-    Rounds,
-    /// Another round might pass the limit on rows.
-    Full,
 }
 
 /// A graph after rounds of matching.

@@ -1,9 +1,9 @@
 // Counters, and refutations of formulas.
-ghost use Rattle.std.specs.Prelude.{◌<◌, ◌≤◌, ◌^◌, length};
+ghost use Rattle.std.specs.Prelude.{◌≤◌, ◌^◌, length};
 
 use case_files::{Trouble, Words, faulty, put, put_numbers, split_before, split_line};
 use case_inputs::{formula, lines_in, literals, over, put_check};
-use cnf_core::{Cnf, Lines, Lit, at_most, at_most_size, at_most_vars};
+use cnf_core::{Cnf, at_most, at_most_size, at_most_vars};
 use refutation_check::{Marks, check, check_lemmas, print, read};
 use std::alloc::Global;
 
@@ -23,9 +23,13 @@ fn put_formula(report: &mut Vec<u8>, cnf: &Cnf) -> Result<(), Trouble> {
     Ok(())
 }
 
-/// The clauses that say that at most so many of the literals are true, and how many variables and clauses were foretold.
-fn counted(alloc: Global, cnf: Cnf, lits: &[Lit], bound: u32) -> Result<Vec<u8>, Trouble> {
-    let mut cnf = cnf;
+/// Input: a line `VARS BOUND LITERAL..`, with literals of the variables 1 to VARS. Answers with the clauses that say
+/// that at most BOUND of the literals are true, and how many variables and clauses were foretold.
+pub(crate) fn counters(alloc: Global, input: &[u8]) -> Result<Vec<u8>, Trouble> {
+    let mut words = Words { rest: input };
+    let mut cnf = over(alloc, words.small()?)?;
+    let bound = words.small()?;
+    let lits = literals(alloc, &mut words)?;
     if lits.len() > 1000 || bound > 1000 || cnf.vars() > 1000 || cnf.clauses() > 0 {
         return Err(Trouble::Unread);
     }
@@ -33,24 +37,14 @@ fn counted(alloc: Global, cnf: Cnf, lits: &[Lit], bound: u32) -> Result<Vec<u8>,
         at_most_vars(bound, lits.len()),
         at_most_size(bound, lits.len()),
     ];
-    if foretold[0] > 1 << 24 || foretold[1] > 1 << 24 || !cnf.has(lits) {
+    if foretold[0] > 1 << 24 || foretold[1] > 1 << 24 || !cnf.has(&lits) {
         return Err(Trouble::Unread);
     }
-    at_most(&mut cnf, lits, bound)?;
+    at_most(&mut cnf, &lits, bound)?;
     let mut report = Vec::new(alloc);
     put_numbers(&mut report, b"foretold", &foretold)?;
     put_formula(&mut report, &cnf)?;
     Ok(report)
-}
-
-/// Input: a line `VARS BOUND LITERAL..`, with literals of the variables 1 to VARS. Answers with the clauses that say
-/// that at most BOUND of the literals are true, and how many variables and clauses were foretold.
-pub(crate) fn counters(alloc: Global, input: &[u8]) -> Result<Vec<u8>, Trouble> {
-    let mut words = Words { rest: input };
-    let cnf = over(alloc, words.small()?)?;
-    let bound = words.small()?;
-    let lits = literals(alloc, &mut words)?;
-    counted(alloc, cnf, &lits, bound)
 }
 
 /// Input: a line `from N count M` and a text. Answers with the M lines of a refutation that begin at line N, printed
@@ -74,22 +68,19 @@ pub(crate) fn line_texts(alloc: Global, input: &[u8]) -> Result<Vec<u8>, Trouble
     }
 }
 
-/// Whether the lines refute the formula, and whether they are lemmas of it.
-fn judged(alloc: Global, cnf: &Cnf, lines: &Lines) -> Result<Vec<u8>, Trouble>
-    requires { length lines.now.lines < 2 ^ 29 }
-{
-    let mut marks = Marks::new(alloc, cnf.vars())?;
-    let mut report = Vec::new(alloc);
-    put_check(&mut report, b"refutation", check(cnf, lines, &mut marks))?;
-    put_check(&mut report, b"lemmas", check_lemmas(cnf, lines, &mut marks))?;
-    Ok(report)
-}
-
 /// Input: a formula, a line `lines` and lines. Answers whether these refute the formula, and whether they are lemmas of
 /// it.
 pub(crate) fn refutations(alloc: Global, input: &[u8]) -> Result<Vec<u8>, Trouble> {
     let (front, rest) = split_before(input, b"lines\n");
     let cnf = formula(alloc, front)?;
     let lines = lines_in(alloc, split_line(rest).1)?;
-    judged(alloc, &cnf, &lines)
+    let mut marks = Marks::new(alloc, cnf.vars())?;
+    let mut report = Vec::new(alloc);
+    put_check(&mut report, b"refutation", check(&cnf, &lines, &mut marks))?;
+    put_check(
+        &mut report,
+        b"lemmas",
+        check_lemmas(&cnf, &lines, &mut marks),
+    )?;
+    Ok(report)
 }

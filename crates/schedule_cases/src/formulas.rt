@@ -45,47 +45,25 @@ pub(crate) fn formulas(alloc: Global, input: &[u8]) -> Result<Vec<u8>, Trouble>
     Ok(report)
 }
 
-/// The first families of an encoding, and all of them.
-fn formulas_as(
+/// Input as for `formulas`. Answers with the first families of an encoding and with all of them at once, and for the
+/// encoding with pins also with all of them part by part.
+pub(crate) fn formulas_as(
     alloc: Global,
     encoding: Encoding,
-    graph: &LaunchGraph,
-    table: &Table,
-    k: u32,
+    input: &[u8],
 ) -> Result<Vec<u8>, Trouble>
-    requires cycles { k ≤ 24 }
-    requires graph { IsLaunchGraph graph.now }
-    requires table { IsTable table.now }
-{
-    let mut report = Vec::new(alloc);
-    put_formula(&mut report, encode_as(alloc, encoding, graph, table, k))?;
-    put_formula(&mut report, full_as(alloc, encoding, graph, table, k))?;
-    Ok(report)
-}
-
-/// Input as for `formulas`. Answers with the first families of the narrow encoding, and with all of them.
-pub(crate) fn narrow_formulas(alloc: Global, input: &[u8]) -> Result<Vec<u8>, Trouble>
-    requires { length input.now ≤ 2 ^ 24 }
-{
-    let asked = question_in(alloc, input)?.0;
-    formulas_as(
-        alloc,
-        Encoding::Narrow,
-        &asked.graph,
-        &asked.table,
-        asked.cycles,
-    )
-}
-
-/// Input as for `formulas`. Answers with the first families of the encoding with pins, all of them at once, and all of
-/// them part by part.
-pub(crate) fn pinned_formulas(alloc: Global, input: &[u8]) -> Result<Vec<u8>, Trouble>
     requires { length input.now ≤ 2 ^ 24 }
 {
     let asked = question_in(alloc, input)?.0;
     let (graph, table, cycles) = (&asked.graph, &asked.table, asked.cycles);
-    let mut report = formulas_as(alloc, Encoding::Pinned, graph, table, cycles)?;
-    let parts = by_parts(alloc, Encoding::Pinned, graph, table, cycles);
-    put_formula(&mut report, parts)?;
+    let mut report = Vec::new(alloc);
+    put_formula(
+        &mut report,
+        encode_as(alloc, encoding, graph, table, cycles),
+    )?;
+    put_formula(&mut report, full_as(alloc, encoding, graph, table, cycles))?;
+    if encoding == Encoding::Pinned {
+        put_formula(&mut report, by_parts(alloc, encoding, graph, table, cycles))?;
+    }
     Ok(report)
 }

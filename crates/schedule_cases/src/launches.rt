@@ -6,15 +6,8 @@ use items::Items;
 use schedule_meaning::{Launch, Schedule, To};
 use std::alloc::Global;
 
-/// Where a launch goes: to the set whose number is left on its line, or else to the pool.
-fn destination(words: &mut Words<'_>) -> Result<To, Trouble> {
-    if words.rest.is_empty() {
-        return Ok(To::Pool);
-    }
-    Ok(To::Set(words.small()?))
-}
-
 /// The launches of lines `launch CYCLE SLOT ROW` and `launch CYCLE SLOT ROW SET`, slots and sets by their numbers.
+/// A launch without a set goes to the pool.
 pub(crate) fn schedule_in(alloc: Global, text: &[u8]) -> Result<Schedule, Trouble>
     ensures { IfOk result (λ schedule. length schedule.launches < 2 ^ 29) }
 {
@@ -30,7 +23,11 @@ pub(crate) fn schedule_in(alloc: Global, text: &[u8]) -> Result<Schedule, Troubl
             cycle: words.small()?,
             slot: words.small()?,
             row: words.small()?,
-            to: destination(&mut words)?,
+            to: if words.rest.is_empty() {
+                To::Pool
+            } else {
+                To::Set(words.small()?)
+            },
         })?;
     }
     if launches.len() > 1 << 24 {

@@ -5,12 +5,12 @@ ghost use Rattle.goal_meaning.specs.WellFormed.{IsInput};
 
 use case_files::{Trouble, Words, faulty, put, put_number, put_numbers, split_line};
 use goal_reader::{Goal, Input, read, read_inputs_are_well_formed};
-use graph_meaning::LaunchGraph;
+use graph_meaning::{LaunchGraph, Stop};
 use items::NoMemory;
 use launch_graph::print;
 use saturation::{
-    SaturateFault, Saturated, StartFault, Stop, grown_graphs_can_be_launched, rules, saturate,
-    start, to_launch,
+    SaturateFault, Saturated, StartFault, grown_graphs_can_be_launched, rules, saturate, start,
+    to_launch,
 };
 use std::alloc::Global;
 use text_core::TextFault;
@@ -85,34 +85,6 @@ fn grown(alloc: Global, text: &[u8], rounds: u32, nodes: u32) -> Result<Saturate
     grown_goal(alloc, &input, goal, rounds, nodes)
 }
 
-/// A line for a graph after rounds: its rows, the rounds, and why they ended.
-fn put_grown(report: &mut Vec<u8>, grown: &Saturated) -> Result<(), Trouble> {
-    let stop = match grown.stop {
-        Stop::Quiet => b" quiet\n".as_slice(),
-        Stop::Rounds => b" rounds\n".as_slice(),
-        Stop::Full => b" full\n".as_slice(),
-    };
-    put(report, b"rows")?;
-    put_number(report, u64::from(grown.graph.rows()))?;
-    put(report, b" rounds")?;
-    put_number(report, u64::from(grown.rounds))?;
-    put(report, stop)
-}
-
-/// What rounds came to.
-fn told(alloc: Global, grown: Result<Saturated, Refused>) -> Result<Vec<u8>, Trouble> {
-    let mut report = Vec::new(alloc);
-    match grown {
-        Ok(grown) => put_grown(&mut report, &grown)?,
-        Err(Refused::Clash(a, b)) => {
-            put_numbers(&mut report, b"clash", &[a.min(b), a.max(b)])?;
-        }
-        Err(Refused::Text(fault)) => return faulty(alloc, fault),
-        Err(Refused::Memory) => return Err(Trouble::Memory),
-    }
-    Ok(report)
-}
-
 /// Input: a line `ROUNDS NODES` and a text. Answers with the rows, rounds and stop of its first goal's graph after at
 /// most ROUNDS rounds and with the limit NODES on rows, or with the two constants that met.
 pub(crate) fn rounds(alloc: Global, input: &[u8]) -> Result<Vec<u8>, Trouble>
@@ -124,7 +96,27 @@ pub(crate) fn rounds(alloc: Global, input: &[u8]) -> Result<Vec<u8>, Trouble>
     if rounds > 16 || nodes > 4096 {
         return Err(Trouble::Unread);
     }
-    told(alloc, grown(alloc, text, rounds, nodes))
+    let mut report = Vec::new(alloc);
+    match grown(alloc, text, rounds, nodes) {
+        Ok(grown) => {
+            put(&mut report, b"rows")?;
+            put_number(&mut report, u64::from(grown.graph.rows()))?;
+            put(&mut report, b" rounds")?;
+            put_number(&mut report, u64::from(grown.rounds))?;
+            let stop = match grown.stop {
+                Stop::Quiet => b" quiet\n".as_slice(),
+                Stop::Rounds => b" rounds\n".as_slice(),
+                Stop::Full => b" full\n".as_slice(),
+            };
+            put(&mut report, stop)?;
+        }
+        Err(Refused::Clash(a, b)) => {
+            put_numbers(&mut report, b"clash", &[a.min(b), a.max(b)])?;
+        }
+        Err(Refused::Text(fault)) => return faulty(alloc, fault),
+        Err(Refused::Memory) => return Err(Trouble::Memory),
+    }
+    Ok(report)
 }
 
 /// The graph of a goal after no round.

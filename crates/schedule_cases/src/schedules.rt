@@ -2,13 +2,12 @@
 ghost use Rattle.std.specs.Prelude.{◌≤◌, ◌^◌, length};
 ghost use Rattle.graph_meaning.specs.WellFormed.{IsLaunchGraph};
 ghost use Rattle.machine_table.specs.Tables.{IsTable};
-ghost use Rattle.register_assign.specs.Assigned.{HaveWords};
 ghost use Rattle.schedule_meaning.specs.Fits.{Fits};
 
 use crate::launches::schedule_in;
 use case_files::{Trouble, put, put_line, put_number, put_numbers};
 use case_inputs::{Question, question_in};
-use register_assign::{Item, Listing, Where, assign, words_of};
+use register_assign::{assign, words_of};
 use schedule_meaning::{Broken, Schedule};
 use std::alloc::Global;
 
@@ -35,39 +34,8 @@ pub(crate) fn fits(alloc: Global, input: &[u8]) -> Result<Vec<u8>, Trouble>
     Ok(report)
 }
 
-/// A line of an item: cycle, slot, word and text.
-fn put_item(alloc: Global, report: &mut Vec<u8>, item: &Item, word: u32) -> Result<(), Trouble> {
-    put(report, b"item")?;
-    put_number(report, u64::from(item.cycle))?;
-    put_number(report, u64::from(item.slot))?;
-    let digits = format!(in alloc; " {word:08X} ")?;
-    put(report, digits.as_bytes())?;
-    let text = alpha_encode::text(alloc, item.instr)?;
-    put_line(report, &[&text])
-}
-
-/// A line of a target: its name and its register.
-fn put_place(report: &mut Vec<u8>, place: &Where) -> Result<(), Trouble> {
-    put(report, b"where ")?;
-    put_numbers(report, place.name.bytes(), &[u64::from(place.reg)])
-}
-
-/// A line for each item of a listing, and for each target.
-fn listed(alloc: Global, listing: &Listing) -> Result<Vec<u8>, Trouble>
-    requires { HaveWords listing.now.items }
-{
-    let mut report = Vec::new(alloc);
-    let words = words_of(alloc, listing.items.as_slice())?;
-    for (item, word) in listing.items.as_slice().iter().zip(&words) {
-        put_item(alloc, &mut report, item, *word)?;
-    }
-    for place in listing.wheres.as_slice() {
-        put_place(&mut report, place)?;
-    }
-    Ok(report)
-}
-
-/// The listing of launches that fit.
+/// The listing of launches that fit: a line for each item with its cycle, slot, word and text, and a line for each
+/// target with its name and its register.
 fn listing_of(alloc: Global, asked: &Question, schedule: &Schedule) -> Result<Vec<u8>, Trouble>
     requires graph { IsLaunchGraph asked.now.graph }
     requires table { IsTable asked.now.table }
@@ -75,7 +43,21 @@ fn listing_of(alloc: Global, asked: &Question, schedule: &Schedule) -> Result<Ve
     requires fits { Fits asked.now.graph asked.now.table asked.now.cycles schedule.now.launches }
 {
     let listing = assign(alloc, &asked.graph, &asked.table, asked.cycles, schedule)?;
-    listed(alloc, &listing)
+    let words = words_of(alloc, listing.items.as_slice())?;
+    let mut report = Vec::new(alloc);
+    for (item, word) in listing.items.as_slice().iter().zip(&words) {
+        put(&mut report, b"item")?;
+        put_number(&mut report, u64::from(item.cycle))?;
+        put_number(&mut report, u64::from(item.slot))?;
+        let digits = format!(in alloc; " {word:08X} ")?;
+        put(&mut report, digits.as_bytes())?;
+        put_line(&mut report, &[&alpha_encode::text(alloc, item.instr)?])?;
+    }
+    for place in listing.wheres.as_slice() {
+        put(&mut report, b"where ")?;
+        put_numbers(&mut report, place.name.bytes(), &[u64::from(place.reg)])?;
+    }
+    Ok(report)
 }
 
 /// Input as for `fits`. Answers with the listing of the launches, or what they break.

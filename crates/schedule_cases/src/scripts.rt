@@ -8,7 +8,7 @@ use case_files::{Lines, Trouble, Words, put, put_line, put_numbers};
 use egraph::{Egraph, MergeFault};
 use pattern_match::{Match, calc_matches, calc_need, calc_unmet, folds, matches, need, unmet};
 use std::alloc::Global;
-use word_ops::{Arity, Op, op_of};
+use word_ops::{Access, Arity, Op, op_of};
 
 /// A script's graph, what it has said, and whether inserts say nothing.
 #[derive(Drop)]
@@ -31,44 +31,22 @@ fn first_of(graph: &Egraph<Op>, class: u32) -> u64 {
     u64::from(class)
 }
 
-/// The operator that a word names for so many operands. `input`, `const` and `use` have a number behind them.
-pub(crate) fn operator(name: &[u8], words: &mut Words<'_>) -> Result<Option<Op>, Trouble> {
-    if name == b"memory".as_slice() {
-        Ok(Some(Op::Entry))
-    } else if name == b"input".as_slice() {
-        Ok(Some(Op::Input((words.small()? % 31) as u8)))
-    } else if name == b"const".as_slice() {
-        Ok(Some(Op::Constant(words.number()?)))
-    } else if name == b"select".as_slice() {
-        Ok(Some(Op::Select))
-    } else if name == b"store".as_slice() {
-        Ok(Some(Op::Store))
-    } else if name == b"load".as_slice() {
-        Ok(Some(Op::Load))
-    } else if name == b"put".as_slice() {
-        Ok(Some(Op::Put))
-    } else {
-        Ok(op_of(name).map(Op::Word))
-    }
-}
-
-/// The declared operator of a number, with as many operands as the line has.
-pub(crate) fn declared(index: u32, operands: usize) -> Result<Op, Trouble> {
-    let arity = match operands {
-        1 => Arity::One,
-        2 => Arity::Two,
-        3 => Arity::Three,
-        4 => Arity::Four,
-        _ => return Err(Trouble::Unread),
-    };
-    Ok(Op::Declared {
-        index: (index % 16) as u8,
-        arity,
+/// The operator that a word names. `input` and `const` have a number behind them.
+fn operator(name: &[u8], words: &mut Words<'_>) -> Result<Op, Trouble> {
+    Ok(match name {
+        b"memory" => Op::Entry,
+        b"input" => Op::Input((words.small()? % 31) as u8),
+        b"const" => Op::Constant(words.number()?),
+        b"select" => Op::Select(Access::Quad),
+        b"store" => Op::Store(Access::Quad),
+        b"load" => Op::Load(Access::Quad),
+        b"put" => Op::Put(Access::Quad),
+        _ => Op::Word(op_of(name).ok_or(Trouble::Unread)?),
     })
 }
 
 /// The classes that are left on a line.
-pub(crate) fn classes(alloc: Global, words: &mut Words<'_>) -> Result<Vec<u32>, Trouble> {
+fn classes(alloc: Global, words: &mut Words<'_>) -> Result<Vec<u32>, Trouble> {
     let mut classes = Vec::new(alloc);
     for _ in 0..4 {
         if words.rest.is_empty() {
@@ -120,14 +98,9 @@ fn put_folds(alloc: Global, script: &mut Script) -> Result<(), Trouble> {
     put_sorted(&mut script.report, lines)
 }
 
-/// The number of rows.
-fn put_rows(graph: &Egraph<Op>, report: &mut Vec<u8>) -> Result<(), Trouble> {
-    put_numbers(report, b"rows", &[u64::from(graph.rows())])
-}
-
 /// The number of rows, and a line for each class ever made: the first that is one with it, and its constant.
 fn put_classes(graph: &Egraph<Op>, report: &mut Vec<u8>) -> Result<(), Trouble> {
-    put_rows(graph, report)?;
+    put_numbers(report, b"rows", &[u64::from(graph.rows())])?;
     for class in 0..graph.made() {
         let first = first_of(graph, class);
         match graph.constant_of(class) {
@@ -174,7 +147,8 @@ fn put_found(
     put_matches(alloc, &script.graph, &mut script.report, found.as_slice())
 }
 
-/// Inserts the row of a line, and says its class, but in a silent script.
+/// Inserts the row of a line, and says its class, but in a silent script. `use` has the number of a declared operator
+/// behind it, which takes as many operands as the line has.
 fn insert(
     alloc: Global,
     script: &mut Script,
@@ -184,10 +158,17 @@ fn insert(
     let class = if name == b"use".as_slice() {
         let index = words.small()?;
         let operands = classes(alloc, words)?;
-        let op = declared(index, operands.len())?;
-        put_row(&mut script.graph, op, &operands)?
+        let arity = match operands.len() {
+            1 => Arity::One,
+            2 => Arity::Two,
+            3 => Arity::Three,
+            4 => Arity::Four,
+            _ => return Err(Trouble::Unread),
+        };
+        let index = (index % 16) as u8;
+        put_row(&mut script.graph, Op::Declared { index, arity }, &operands)?
     } else {
-        let op = operator(name, words)?.ok_or(Trouble::Unread)?;
+        let op = operator(name, words)?;
         let operands = classes(alloc, words)?;
         put_row(&mut script.graph, op, &operands)?
     };
@@ -202,34 +183,29 @@ fn insert(
 fn ask(alloc: Global, rules: &[Rule], script: &mut Script, line: &[u8]) -> Result<(), Trouble> {
     let mut words = Words { rest: line };
     let verb = words.word()?;
-    if verb == b"folds".as_slice() {
-        put_folds(alloc, script)
-    } else if verb == b"classes".as_slice() {
-        put_classes(&script.graph, &mut script.report)
-    } else if verb == b"rows".as_slice() {
-        put_rows(&script.graph, &mut script.report)
-    } else if verb == b"silent".as_slice() {
-        script.is_silent = true;
-        Ok(())
-    } else if verb == b"matches".as_slice()
-        || verb == b"unmet".as_slice()
-        || verb == b"need".as_slice()
-    {
-        let rule = words.word()?;
-        put_found(alloc, rules, script, verb, rule)
-    } else {
-        insert(alloc, script, verb, &mut words)
+    match verb {
+        b"folds" => put_folds(alloc, script),
+        b"classes" => put_classes(&script.graph, &mut script.report),
+        b"rows" => {
+            let rows = u64::from(script.graph.rows());
+            put_numbers(&mut script.report, b"rows", &[rows])
+        }
+        b"silent" => {
+            script.is_silent = true;
+            Ok(())
+        }
+        b"matches" | b"unmet" | b"need" => {
+            let rule = words.word()?;
+            put_found(alloc, rules, script, verb, rule)
+        }
+        _ => insert(alloc, script, verb, &mut words),
     }
 }
 
-/// The two classes of a merge.
-pub(crate) fn pair(line: &[u8]) -> Result<(u32, u32), Trouble> {
-    let mut words = Words { rest: line };
-    Ok((words.small()?, words.small()?))
-}
-
-/// The script after a merge, or what it said where two constants met.
-fn merged(script: Script, a: u32, b: u32) -> Result<Result<Script, Vec<u8>>, Trouble> {
+/// The script after a merge of the two classes of a line, or what it said where two constants met.
+fn merged(script: Script, classes: &[u8]) -> Result<Result<Script, Vec<u8>>, Trouble> {
+    let mut words = Words { rest: classes };
+    let (a, b) = (words.small()?, words.small()?);
     let Script {
         graph,
         mut report,
@@ -249,27 +225,13 @@ fn merged(script: Script, a: u32, b: u32) -> Result<Result<Script, Vec<u8>>, Tro
     }
 }
 
-/// The script after a line, or what it said where two constants met.
-fn done(
-    alloc: Global,
-    rules: &[Rule],
-    mut script: Script,
-    line: &[u8],
-) -> Result<Result<Script, Vec<u8>>, Trouble> {
-    match line.strip_prefix(b"merge ") {
-        Some(classes) => match pair(classes) {
-            Ok((a, b)) => merged(script, a, b),
-            Err(trouble) => Err(trouble),
-        },
-        None => match ask(alloc, rules, &mut script, line) {
-            Ok(()) => Ok(Ok(script)),
-            Err(trouble) => Err(trouble),
-        },
-    }
-}
-
-/// What the lines say.
-fn done_all(alloc: Global, rules: &[Rule], input: &[u8]) -> Result<Vec<u8>, Trouble> {
+/// Input: lines that make an E-graph and ask of it. `OP CLASS..` inserts a row, as in the lines of a graph, and says
+/// the class; `merge A B` joins two classes, and where two constants meet it says so and ends; `matches R`, `unmet R`
+/// and `need R` ask of an equation by its number, or of a computed rule by `C` and its number; `folds` and `classes`
+/// list these, and `rows` counts rows. A class is named by the first of the classes that are one with it. Behind a line
+/// `silent` inserts say nothing.
+pub(crate) fn scripts(alloc: Global, input: &[u8]) -> Result<Vec<u8>, Trouble> {
+    let rules = equations(alloc)?;
     let mut script = Script {
         graph: Egraph::new(alloc),
         report: Vec::new(alloc),
@@ -280,21 +242,14 @@ fn done_all(alloc: Global, rules: &[Rule], input: &[u8]) -> Result<Vec<u8>, Trou
         let Some(line) = lines.next() else {
             break;
         };
-        match done(alloc, rules, script, line)? {
-            Ok(next) => script = next,
-            Err(report) => return Ok(report),
+        match line.strip_prefix(b"merge ") {
+            Some(classes) => match merged(script, classes)? {
+                Ok(next) => script = next,
+                Err(report) => return Ok(report),
+            },
+            None => ask(alloc, rules.as_slice(), &mut script, line)?,
         }
     }
     let Script { report, .. } = script;
     Ok(report)
-}
-
-/// Input: lines that make an E-graph and ask of it. `OP CLASS..` inserts a row, as in the lines of a graph, and says
-/// the class; `merge A B` joins two classes, and where two constants meet it says so and ends; `matches R`, `unmet R`
-/// and `need R` ask of an equation by its number, or of a computed rule by `C` and its number; `folds` and `classes`
-/// list these, and `rows` counts rows. A class is named by the first of the classes that are one with it. Behind a line
-/// `silent` inserts say nothing.
-pub(crate) fn scripts(alloc: Global, input: &[u8]) -> Result<Vec<u8>, Trouble> {
-    let rules = equations(alloc)?;
-    done_all(alloc, rules.as_slice(), input)
 }

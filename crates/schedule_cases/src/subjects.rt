@@ -1,6 +1,7 @@
 // What these cases ask: the subjects by their names.
 use crate::{clauses, equalities, formulas, rounds, schedules, scripts, searches};
-use case_files::{Trouble, Whole};
+use case_files::Trouble;
+use cycle_encoding::Encoding;
 use std::alloc::Global;
 
 /// What the cases of a file ask.
@@ -66,16 +67,12 @@ impl case_files::Subject for Subject {
             Subject::Fits => schedules::fits(alloc, input),
             Subject::Listings => schedules::listings(alloc, input),
             Subject::Formulas => formulas::formulas(alloc, input),
-            Subject::NarrowFormulas => formulas::narrow_formulas(alloc, input),
-            Subject::PinnedFormulas => formulas::pinned_formulas(alloc, input),
+            Subject::NarrowFormulas => formulas::formulas_as(alloc, Encoding::Narrow, input),
+            Subject::PinnedFormulas => formulas::formulas_as(alloc, Encoding::Pinned, input),
             Subject::Counters => clauses::counters(alloc, input),
             Subject::LineTexts => clauses::line_texts(alloc, input),
             Subject::Refutations => clauses::refutations(alloc, input),
             Subject::Searches => searches::searches(alloc, input),
         }
-    }
-
-    fn whole_file(_ending: &str) -> Option<Whole<Subject>> {
-        None
     }
 }

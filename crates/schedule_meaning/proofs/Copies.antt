@@ -5,7 +5,8 @@ use Rattle.std.specs.Option.{option_map_or, option_and_then}
 use Rattle.std.proofs.lemmas.Bool.Decides.{eqb_tells, Decides-ltb}
 use Rattle.std.proofs.lemmas.Option.{none-some}
 use Rattle.schedule_meaning.specs.Launches.{instr_at, op_instr, class_at, operands_at, copied_at, copy_operands, pinned_class, guard_operands, row_operands}
-use Rattle.machine_table.specs.declared.tables.InstrKind.TheVariants.{Beq, Bis}
+use Rattle.word_ops.specs.declared.operates.Operate.TheVariants.{Bis}
+use Rattle.machine_table.specs.declared.tables.InstrKind.TheVariants.{Operate, Beq}
 use Rattle.graph_meaning.specs.declared.graphs.LaunchRow.{LaunchRow}
 use Rattle.graph_meaning.specs.declared.graphs.LaunchGraph.{LaunchGraph}
 use Rattle.schedule_meaning.proofs.Rules.{in_list}
@@ -39,10 +40,10 @@ module _ (g : LaunchGraph) (row : ℕ) where
     no_branch : (row == length g.rows) ≡ false
     no_branch = not_equal row (length g.rows) high
 
-    pub copy_kind : instr_at g row ≡ Some Bis
+    pub copy_kind : instr_at g row ≡ Some (Operate Bis)
     copy_kind =
-        ap (λ b. if b then option_map (λ _. Beq) g.guard else option_map_or (λ class. Some Bis) (copied_at g row) (option_and_then (λ r. op_instr g r.op r.operands) (slice_get g.rows row))) no_branch
-        ∙ ap (λ o. option_map_or (λ class. Some Bis) o (option_and_then (λ r. op_instr g r.op r.operands) (slice_get g.rows row))) copied
+        ap (λ b. if b then option_map (λ _. Beq) g.guard else option_map_or (λ class. Some (Operate Bis)) (copied_at g row) (option_and_then (λ r. op_instr g r.op r.operands) (slice_get g.rows row))) no_branch
+        ∙ ap (λ o. option_map_or (λ class. Some (Operate Bis)) o (option_and_then (λ r. op_instr g r.op r.operands) (slice_get g.rows row))) copied
 
     pub copy_class : class_at g row ≡ class
     copy_class = ap (λ o. unwrap_or o (option_map_or (λ r. r.class) (slice_get g.rows row) 0)) copied
@@ -54,7 +55,7 @@ module _ (g : LaunchGraph) (row : ℕ) where
 
   module _ (copied : copied_at g row ≡ None) where
     pub plain_kind : instr_at g row ≡ (if row == length g.rows then option_map (λ _. Beq) g.guard else option_and_then (λ r. op_instr g r.op r.operands) (slice_get g.rows row))
-    plain_kind = ap (λ o. if row == length g.rows then option_map (λ _. Beq) g.guard else option_map_or (λ class. Some Bis) o (option_and_then (λ r. op_instr g r.op r.operands) (slice_get g.rows row))) copied
+    plain_kind = ap (λ o. if row == length g.rows then option_map (λ _. Beq) g.guard else option_map_or (λ class. Some (Operate Bis)) o (option_and_then (λ r. op_instr g r.op r.operands) (slice_get g.rows row))) copied
 
     pub plain_class : class_at g row ≡ option_map_or (λ r. r.class) (slice_get g.rows row) 0
     plain_class = ap (λ o. unwrap_or o (option_map_or (λ r. r.class) (slice_get g.rows row) 0)) copied

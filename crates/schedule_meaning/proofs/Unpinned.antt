@@ -9,7 +9,8 @@ use Rattle.std.proofs.lemmas.List.Elements.{All-head, All-tail, All-weaker}
 use Rattle.graph_meaning.specs.Graphs.{HasNoPins, is_input_register}
 use Rattle.machine_table.specs.Tables.{cluster_of}
 use Rattle.machine_table.specs.declared.tables.Table.{Table}
-use Rattle.machine_table.specs.declared.tables.InstrKind.TheVariants.{Bis, Beq}
+use Rattle.word_ops.specs.declared.operates.Operate.TheVariants.{Bis}
+use Rattle.machine_table.specs.declared.tables.InstrKind.TheVariants.{Operate, Beq}
 use Rattle.graph_meaning.specs.declared.graphs.SetClass.{SetClass}
 use Rattle.graph_meaning.specs.declared.graphs.LaunchGraph.{LaunchGraph}
 use Rattle.schedule_meaning.specs.Launches.{launches, gives_word, is_held, takes_pool, is_pool, pin_of, writes_pin, overwrites, spoils, collides, reads_until, pinned_class, copied_at, instr_at, class_at, operands_at, copy_operands, op_instr, guard_operands, row_operands, kind_group, group_of, IsFree, IsReadable}
@@ -64,7 +65,7 @@ module _ (g : LaunchGraph) (no_pins : HasNoPins g) where
 
   pub plain_rows : (row : ℕ) → (instr_at g row ≡ plain_instr_at g row) × (class_at g row ≡ plain_class_at g row) × (operands_at g row ≡ plain_operands_at g row)
   plain_rows row = (
-    ap (λ o. if row == length g.rows then option_map (λ _. Beq) g.guard else option_map_or (λ class. Some Bis) o (option_and_then (λ r. op_instr g r.op r.operands) (slice_get g.rows row))) (no_copy row),
+    ap (λ o. if row == length g.rows then option_map (λ _. Beq) g.guard else option_map_or (λ class. Some (Operate Bis)) o (option_and_then (λ r. op_instr g r.op r.operands) (slice_get g.rows row))) (no_copy row),
     ap (λ o. unwrap_or o (option_map_or (λ r. r.class) (slice_get g.rows row) 0)) (no_copy row),
     ap (λ o. if row == length g.rows then guard_operands g.guard else option_map_or copy_operands o (row_operands (slice_get g.rows row))) (no_copy row),
   )

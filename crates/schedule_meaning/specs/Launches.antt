@@ -8,7 +8,8 @@ use Rattle.graph_meaning.specs.Graphs.{constant_of, is_input_register}
 use Rattle.word_ops.specs.declared.operators.WordOp.{WordOp}
 use Rattle.word_ops.specs.declared.operators.WordOp.TheVariants as ops
 use Rattle.machine_table.specs.declared.tables.InstrKind.{InstrKind}
-use Rattle.machine_table.specs.declared.tables.InstrKind.TheVariants.{Bis, Lda, Ldah, LdqU, StqU, Beq}
+use Rattle.word_ops.specs.declared.operates.Operate.TheVariants.{Bis}
+use Rattle.machine_table.specs.declared.tables.InstrKind.TheVariants as kinds
 use Rattle.word_ops.specs.declared.sorts.Op.{Op}
 use Rattle.word_ops.specs.declared.sorts.Op.TheVariants.{Word, Select, Store, Load, Put}
 use Rattle.graph_meaning.specs.declared.graphs.Guard.{Guard}
@@ -28,17 +29,17 @@ abbrev pub displaced : LaunchGraph → InstrKind → ℕ → Option InstrKind
 displaced g instr class = if is_some (constant_of g class) then Some instr else None
 
 abbrev pub word_op_instr : LaunchGraph → WordOp → List ℕ → Option InstrKind
-word_op_instr g ops.Lda operands = displaced g Lda (slice_index operands 1)
-word_op_instr g ops.Ldah operands = displaced g Ldah (slice_index operands 1)
+word_op_instr g ops.Lda operands = displaced g kinds.Lda (slice_index operands 1)
+word_op_instr g ops.Ldah operands = displaced g kinds.Ldah (slice_index operands 1)
 word_op_instr g op operands = operate_kind op
 
 -- the instruction of a row that can be launched
 abbrev pub op_instr : LaunchGraph → Op → List ℕ → Option InstrKind
 op_instr g (Word op) operands = word_op_instr g op operands
-op_instr g Select operands = Some LdqU
-op_instr g Store operands = Some StqU
-op_instr g Load operands = displaced g LdqU (slice_index operands 2)
-op_instr g Put operands = displaced g StqU (slice_index operands 2)
+op_instr g (Select access) operands = Some (kinds.Load access)
+op_instr g (Store access) operands = Some (kinds.Store access)
+op_instr g (Load access) operands = displaced g (kinds.Load access) (slice_index operands 2)
+op_instr g (Put access) operands = displaced g (kinds.Store access) (slice_index operands 2)
 op_instr g _ operands = None
 
 -- the class of a set that has a pin
@@ -56,25 +57,25 @@ copied_at g row =
 abbrev pub instr_at : LaunchGraph → ℕ → Option InstrKind
 instr_at g row =
     if row == length g.rows
-    then option_map (λ _. Beq) g.guard
-    else option_map_or (λ class. Some Bis) (copied_at g row)
+    then option_map (λ _. kinds.Beq) g.guard
+    else option_map_or (λ class. Some (kinds.Operate Bis)) (copied_at g row)
     (option_and_then (λ r. op_instr g r.op r.operands) (slice_get g.rows row))
 
 abbrev pub gives_word : InstrKind → Bool
-gives_word StqU = false
-gives_word Beq = false
+gives_word (kinds.Store access) = false
+gives_word kinds.Beq = false
 gives_word _ = true
 
 abbrev pub is_load : InstrKind → Bool
-is_load LdqU = true
+is_load (kinds.Load access) = true
 is_load _ = false
 
 abbrev pub is_store : InstrKind → Bool
-is_store StqU = true
+is_store (kinds.Store access) = true
 is_store _ = false
 
 abbrev pub is_branch : InstrKind → Bool
-is_branch Beq = true
+is_branch kinds.Beq = true
 is_branch _ = false
 
 -- the launch's instruction passes the test
@@ -137,10 +138,10 @@ word_op_operands op operands =
 
 abbrev pub op_operands : Op → List ℕ → List Operand
 op_operands (Word op) operands = word_op_operands op operands
-op_operands Select operands = plain (slice_index operands 1) ∷ []
-op_operands Load operands = plain (slice_index operands 1) ∷ []
-op_operands Store operands = plain (slice_index operands 1) ∷ plain (slice_index operands 2) ∷ []
-op_operands Put operands = plain (slice_index operands 1) ∷ plain (slice_index operands 3) ∷ []
+op_operands (Select access) operands = plain (slice_index operands 1) ∷ []
+op_operands (Load access) operands = plain (slice_index operands 1) ∷ []
+op_operands (Store access) operands = plain (slice_index operands 1) ∷ plain (slice_index operands 2) ∷ []
+op_operands (Put access) operands = plain (slice_index operands 1) ∷ plain (slice_index operands 3) ∷ []
 op_operands _ operands = []
 
 abbrev pub row_operands : Option LaunchRow → List Operand
@@ -186,7 +187,7 @@ gives g class l = launches g gives_word l && (class_at g l.row == class)
 
 -- the cycle from which the launch's word is seen in a cluster
 abbrev pub ready_in : LaunchGraph → Table → ℕ → Launch → ℕ
-ready_in g table cluster l = ready table l.cycle l.slot (unwrap_or (instr_at g l.row) Beq) cluster
+ready_in g table cluster l = ready table l.cycle l.slot (unwrap_or (instr_at g l.row) kinds.Beq) cluster
 
 -- some input is of the class
 abbrev pub IsClassOfInput : LaunchGraph → ℕ → Type 0
@@ -247,9 +248,9 @@ memory_after g ls = option_map_or (λ l. class_at g l.row) (latest (launches g i
 -- ---- word order
 
 abbrev pub kind_group : Bool → Option InstrKind → ℕ
-kind_group held (Some LdqU) = if held then 2 else 0
-kind_group held (Some Beq) = 1
-kind_group held (Some StqU) = 3
+kind_group held (Some (kinds.Load access)) = if held then 2 else 0
+kind_group held (Some kinds.Beq) = 1
+kind_group held (Some (kinds.Store access)) = 3
 kind_group held _ = 0
 
 abbrev pub is_held : LaunchGraph → Bool

@@ -1,6 +1,8 @@
 -- Worked graphs, tables and schedules.
 -- Source: this project.
 use Rattle.std.specs.Prelude.{ℕ, List, [], ◌∷◌, ◌++◌, None, Some, Bool, true, false, codes}
+use Rattle.word_ops.specs.declared.sorts.Access.TheVariants.{Quad}
+use Rattle.word_ops.specs.declared.operates.Operate.TheVariants as operates
 use Rattle.word_ops.specs.declared.operators.WordOp.TheVariants as ops
 use Rattle.word_ops.specs.declared.sorts.Op.TheVariants as op
 use Rattle.graph_meaning.specs.Graphs.{plain_row}
@@ -40,13 +42,15 @@ abbrev pub two_slots : Table
 two_slots = record {
   slots = slot_of (codes "A") 0 ∷ slot_of (codes "B") 1 ∷ [];
   cross = 1;
-  uses = uses_of 1 (0 ∷ []) (kinds.Addq ∷ []) ++ uses_of 1 (1 ∷ []) (kinds.Xor ∷ []);
+  uses = uses_of 1 (0 ∷ []) (kinds.Operate operates.Addq ∷ [])
+      ++ uses_of 1 (1 ∷ []) (kinds.Operate operates.Xor ∷ []);
 }
 
 abbrev pub sum_graph : LaunchGraph
 sum_graph = record {
   rows = plain_row 0 op.Entry [] ∷ plain_row 1 (op.Input 16) [] ∷ plain_row 2 (op.Input 17) []
-      ∷ plain_row 3 (op.Word ops.Addq) (1 ∷ 2 ∷ []) ∷ plain_row 4 (op.Word ops.Xor) (3 ∷ 1 ∷ []) ∷ [];
+      ∷ plain_row 3 (op.Word (ops.Operate operates.Addq)) (1 ∷ 2 ∷ [])
+      ∷ plain_row 4 (op.Word (ops.Operate operates.Xor)) (3 ∷ 1 ∷ []) ∷ [];
   entry = 0;
   inputs = input_class (codes "a") 16 1 ∷ input_class (codes "b") 17 2 ∷ [];
   pool = low_pool ++ 18 ∷ high_pool;
@@ -61,12 +65,12 @@ copy_graph_with held pool = record {
       ∷ plain_row 1 (op.Input 16) []
       ∷ plain_row 2 (op.Input 17) []
       ∷ plain_row 3 (op.Input 18) []
-      ∷ plain_row 4 (op.Word ops.Cmpult) (1 ∷ 3 ∷ [])
-      ∷ plain_row 5 op.Select (0 ∷ 1 ∷ [])
-      ∷ plain_row 6 op.Store (0 ∷ 2 ∷ 5 ∷ [])
+      ∷ plain_row 4 (op.Word (ops.Operate operates.Cmpult)) (1 ∷ 3 ∷ [])
+      ∷ plain_row 5 (op.Select Quad) (0 ∷ 1 ∷ [])
+      ∷ plain_row 6 (op.Store Quad) (0 ∷ 2 ∷ 5 ∷ [])
       ∷ plain_row 7 (op.Constant 8) []
-      ∷ plain_row 8 (op.Word ops.Addq) (1 ∷ 7 ∷ [])
-      ∷ plain_row 9 (op.Word ops.Addq) (2 ∷ 7 ∷ [])
+      ∷ plain_row 8 (op.Word (ops.Operate operates.Addq)) (1 ∷ 7 ∷ [])
+      ∷ plain_row 9 (op.Word (ops.Operate operates.Addq)) (2 ∷ 7 ∷ [])
       ∷ [];
   entry = 0;
   inputs = input_class (codes "p") 16 1 ∷ input_class (codes "q") 17 2 ∷ input_class (codes "r") 18 3 ∷ [];
@@ -124,7 +128,7 @@ copy_stored_above = copy_operates ++ at_slot 1 0 10 ∷ at_slot 1 2 5 ∷ at_slo
 abbrev pub step_graph : LaunchGraph
 step_graph = record {
   rows = plain_row 0 op.Entry [] ∷ plain_row 1 (op.Input 16) [] ∷ plain_row 2 (op.Constant 8) []
-      ∷ plain_row 3 (op.Word ops.Addq) (1 ∷ 2 ∷ []) ∷ [];
+      ∷ plain_row 3 (op.Word (ops.Operate operates.Addq)) (1 ∷ 2 ∷ []) ∷ [];
   entry = 0;
   inputs = input_class (codes "p") 16 1 ∷ [];
   pool = low_pool ++ high_pool;

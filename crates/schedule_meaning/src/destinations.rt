@@ -26,23 +26,17 @@ fn can_go_to_pin(graph: &LaunchGraph, launch: Launch, set: &SetClass, pin: u8) -
     !loads_over(graph, launch, pin)
 }
 
-fn can_go_to(graph: &LaunchGraph, launch: Launch, number: u32) -> bool
-    ensures { IsTrue result ↔ rules.CanGoTo graph.now launch (SetTo number) }
-{
-    match graph.sets.as_slice().get(number as usize) {
-        Some(set) => match set.pin {
-            Some(pin) => can_go_to_pin(graph, launch, set, pin),
-            None => false,
-        },
-        None => false,
-    }
-}
-
 pub(crate) fn can_go(graph: &LaunchGraph, launch: Launch) -> bool
     ensures { IsTrue result ↔ rules.CanGo graph.now launch }
 {
     match launch.to {
         To::Pool => true,
-        To::Set(number) => can_go_to(graph, launch, number),
+        To::Set(number) => match graph.sets.as_slice().get(number as usize) {
+            Some(set) => match set.pin {
+                Some(pin) => can_go_to_pin(graph, launch, set, pin),
+                None => false,
+            },
+            None => false,
+        },
     }
 }

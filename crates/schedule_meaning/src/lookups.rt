@@ -9,7 +9,7 @@ ghost use Rattle.schedule_meaning.specs.Launches as launches;
 use crate::schedules::{Group, Launch, To};
 use graph_meaning::LaunchGraph;
 use machine_table::{InstrKind, Table, operate_kind};
-use word_ops::{Op, WordOp};
+use word_ops::{Op, Operate, WordOp};
 
 /// The class of an operand by its place; 0 where there is none.
 pub fn operand_class(operands: &[u32], at: usize) -> u32
@@ -30,25 +30,18 @@ fn displaced(graph: &LaunchGraph, instr: InstrKind, class: u32) -> Option<InstrK
     }
 }
 
-fn word_op_instr(graph: &LaunchGraph, op: WordOp, operands: &[u32]) -> Option<InstrKind>
-    ensures { result ≡ launches.word_op_instr graph.now op operands.now }
-{
-    match op {
-        WordOp::Lda => displaced(graph, InstrKind::Lda, operand_class(operands, 1)),
-        WordOp::Ldah => displaced(graph, InstrKind::Ldah, operand_class(operands, 1)),
-        op => operate_kind(op),
-    }
-}
-
+/// The instruction of a row's operator, if it has one.
 fn op_instr(graph: &LaunchGraph, op: Op, operands: &[u32]) -> Option<InstrKind>
     ensures { result ≡ launches.op_instr graph.now op operands.now }
 {
     match op {
-        Op::Word(op) => word_op_instr(graph, op, operands),
-        Op::Select => Some(InstrKind::LdqU),
-        Op::Store => Some(InstrKind::StqU),
-        Op::Load => displaced(graph, InstrKind::LdqU, operand_class(operands, 2)),
-        Op::Put => displaced(graph, InstrKind::StqU, operand_class(operands, 2)),
+        Op::Word(WordOp::Lda) => displaced(graph, InstrKind::Lda, operand_class(operands, 1)),
+        Op::Word(WordOp::Ldah) => displaced(graph, InstrKind::Ldah, operand_class(operands, 1)),
+        Op::Word(op) => operate_kind(op),
+        Op::Select(access) => Some(InstrKind::Load(access)),
+        Op::Store(access) => Some(InstrKind::Store(access)),
+        Op::Load(access) => displaced(graph, InstrKind::Load(access), operand_class(operands, 2)),
+        Op::Put(access) => displaced(graph, InstrKind::Store(access), operand_class(operands, 2)),
         _ => None,
     }
 }
@@ -86,7 +79,7 @@ pub fn instr_at(graph: &LaunchGraph, row: u32) -> Option<InstrKind>
         };
     }
     if copied_at(graph, row).is_some() {
-        return Some(InstrKind::Bis);
+        return Some(InstrKind::Operate(Operate::Bis));
     }
     match graph.rows.as_slice().get(row as usize) {
         Some(found) => op_instr(graph, found.op, found.operands.as_slice()),
@@ -124,7 +117,7 @@ pub fn gives_word(instr: Option<InstrKind>) -> bool
     ensures { result ≡ option_map_or launches.gives_word instr false }
 {
     match instr {
-        Some(InstrKind::StqU | InstrKind::Beq) | None => false,
+        Some(InstrKind::Store(_) | InstrKind::Beq) | None => false,
         Some(_) => true,
     }
 }
@@ -133,7 +126,7 @@ pub fn is_load(instr: Option<InstrKind>) -> bool
     ensures { result ≡ option_map_or launches.is_load instr false }
 {
     match instr {
-        Some(InstrKind::LdqU) => true,
+        Some(InstrKind::Load(_)) => true,
         _ => false,
     }
 }
@@ -142,7 +135,7 @@ pub fn is_store(instr: Option<InstrKind>) -> bool
     ensures { result ≡ option_map_or launches.is_store instr false }
 {
     match instr {
-        Some(InstrKind::StqU) => true,
+        Some(InstrKind::Store(_)) => true,
         _ => false,
     }
 }
@@ -227,7 +220,7 @@ pub fn group_of(graph: &LaunchGraph, launch: Launch) -> Group
         return Group::Overwriting;
     }
     match instr_at(graph, launch.row) {
-        Some(InstrKind::LdqU) => {
+        Some(InstrKind::Load(_)) => {
             if is_held(graph) {
                 Group::HeldLoad
             } else {
@@ -235,7 +228,7 @@ pub fn group_of(graph: &LaunchGraph, launch: Launch) -> Group
             }
         }
         Some(InstrKind::Beq) => Group::Branch,
-        Some(InstrKind::StqU) => Group::Store,
+        Some(InstrKind::Store(_)) => Group::Store,
         _ => Group::Free,
     }
 }

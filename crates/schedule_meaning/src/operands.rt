@@ -60,18 +60,6 @@ fn word_operand(op: WordOp, operands: &[u32], at: usize) -> Option<Operand>
     only_operand(operand_class(operands, 0), false, at)
 }
 
-fn op_operand(op: Op, operands: &[u32], at: usize) -> Option<Operand>
-    ensures { result ≡ slice_get (launches.op_operands op operands.now) at }
-{
-    match op {
-        Op::Word(op) => word_operand(op, operands, at),
-        Op::Select | Op::Load => only_operand(operand_class(operands, 1), false, at),
-        Op::Store => one_of_two(operand_class(operands, 1), operand_class(operands, 2), at),
-        Op::Put => one_of_two(operand_class(operands, 1), operand_class(operands, 3), at),
-        _ => None,
-    }
-}
-
 /// The word operand at a place of a row's number; the branch has the guard's class, and a copy that of its set.
 pub fn operand_at(graph: &LaunchGraph, row: u32, at: usize) -> Option<Operand>
     ensures { result ≡ slice_get (launches.operands_at graph.now row) at }
@@ -85,9 +73,16 @@ pub fn operand_at(graph: &LaunchGraph, row: u32, at: usize) -> Option<Operand>
     if let Some(class) = copied_at(graph, row) {
         return only_operand(class, true, at);
     }
-    match graph.rows.as_slice().get(row as usize) {
-        Some(found) => op_operand(found.op, found.operands.as_slice(), at),
-        None => None,
+    let Some(found) = graph.rows.as_slice().get(row as usize) else {
+        return None;
+    };
+    let operands = found.operands.as_slice();
+    match found.op {
+        Op::Word(op) => word_operand(op, operands, at),
+        Op::Select(_) | Op::Load(_) => only_operand(operand_class(operands, 1), false, at),
+        Op::Store(_) => one_of_two(operand_class(operands, 1), operand_class(operands, 2), at),
+        Op::Put(_) => one_of_two(operand_class(operands, 1), operand_class(operands, 3), at),
+        _ => None,
     }
 }
 
@@ -98,17 +93,6 @@ fn word_operand_count(op: WordOp, operands: &[u32]) -> usize
         return operands.len();
     }
     1
-}
-
-fn op_operand_count(op: Op, operands: &[u32]) -> usize
-    ensures { result ≡ length (launches.op_operands op operands.now) }
-{
-    match op {
-        Op::Word(op) => word_operand_count(op, operands),
-        Op::Select | Op::Load => 1,
-        Op::Store | Op::Put => 2,
-        _ => 0,
-    }
 }
 
 /// How many word operands a row's number has: two at most where the graph is well formed.
@@ -125,7 +109,12 @@ pub fn operand_count(graph: &LaunchGraph, row: u32) -> usize
         return 1;
     }
     match graph.rows.as_slice().get(row as usize) {
-        Some(found) => op_operand_count(found.op, found.operands.as_slice()),
+        Some(found) => match found.op {
+            Op::Word(op) => word_operand_count(op, found.operands.as_slice()),
+            Op::Select(_) | Op::Load(_) => 1,
+            Op::Store(_) | Op::Put(_) => 2,
+            _ => 0,
+        },
         None => 0,
     }
 }
@@ -136,20 +125,17 @@ pub(crate) fn is_zero_class(graph: &LaunchGraph, class: u32) -> bool
     graph.is_zero_class(class)
 }
 
-fn is_byte_constant(graph: &LaunchGraph, class: u32) -> bool
-    ensures { IsTrue result ↔ launches.IsByteConstant graph.now class }
-{
-    match graph.constant_of(class) {
-        Some(constant) => constant <= 255,
-        None => false,
-    }
-}
-
 /// The operand needs no register: the zero class, or a literal.
 fn is_free(graph: &LaunchGraph, wanted: Operand) -> bool
     ensures { IsTrue result ↔ launches.IsFree graph.now wanted }
 {
-    is_zero_class(graph, wanted.class) || (wanted.second && is_byte_constant(graph, wanted.class))
+    if is_zero_class(graph, wanted.class) {
+        return true;
+    }
+    match graph.constant_of(wanted.class) {
+        Some(constant) => wanted.second && constant <= 255,
+        None => false,
+    }
 }
 
 fn can_use(

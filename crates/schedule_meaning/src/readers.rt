@@ -22,12 +22,6 @@ pub fn taken_before(graph: &LaunchGraph, list: &[Launch], place: usize) -> usize
     count
 }
 
-fn collides(left: Launch, right: Launch) -> bool
-    ensures { result ≡ launches.collides left right }
-{
-    left.cycle == right.cycle && left.slot == right.slot
-}
-
 /// The first cycle in which others may write what the launch reads.
 fn reads_until(graph: &LaunchGraph, launch: Launch) -> u64
     ensures { result ≡ launches.reads_until graph.now launch }
@@ -39,19 +33,16 @@ fn reads_until(graph: &LaunchGraph, launch: Launch) -> u64
     }
 }
 
-/// Whether the other launch writes the register before the launch has read it.
-fn spoils(graph: &LaunchGraph, launch: Launch, register: u8, other: Launch) -> bool
-    ensures { result ≡ launches.spoils graph.now launch register other }
-{
-    writes_pin(graph, register, other)
-        && (!collides(launch, other) && u64::from(other.cycle) < reads_until(graph, launch))
-}
-
+/// Whether the other launch writes the register before the reader has read it; without a reader, at any time.
 fn touches(graph: &LaunchGraph, reader: Option<Launch>, register: u8, other: Launch) -> bool
     ensures { result ≡ touches graph.now reader register other }
 {
     match reader {
-        Some(reader) => spoils(graph, reader, register, other),
+        Some(reader) => {
+            writes_pin(graph, register, other)
+                && (!(reader.cycle == other.cycle && reader.slot == other.slot)
+                    && u64::from(other.cycle) < reads_until(graph, reader))
+        }
         None => writes_pin(graph, register, other),
     }
 }
@@ -111,23 +102,6 @@ pub(crate) fn has_input(
     input_for(graph, list, reader, class).is_some()
 }
 
-/// The launch's word is ready for the reader, or there is none.
-fn passes(graph: &LaunchGraph, table: &Table, reader: Option<Launch>, launch: Launch) -> bool
-    ensures { result ≡ passes graph.now table.now reader launch }
-{
-    match reader {
-        Some(reader) => {
-            ready_in(
-                table,
-                cluster_of(table, reader.slot),
-                launch,
-                instr_at(graph, launch.row),
-            ) <= u64::from(reader.cycle)
-        }
-        None => true,
-    }
-}
-
 /// Whether the launch gives the class's word, and it is ready for the reader; without a reader it needn't be.
 pub fn may_take(
     graph: &LaunchGraph,
@@ -138,7 +112,15 @@ pub fn may_take(
 ) -> bool
     ensures { result ≡ (launches.gives graph.now class launch && passes graph.now table.now reader launch) }
 {
-    gives(graph, class, launch, instr_at(graph, launch.row)) && passes(graph, table, reader, launch)
+    let instr = instr_at(graph, launch.row);
+    match reader {
+        Some(reader) => {
+            gives(graph, class, launch, instr)
+                && ready_in(table, cluster_of(table, reader.slot), launch, instr)
+                    <= u64::from(reader.cycle)
+        }
+        None => gives(graph, class, launch, instr),
+    }
 }
 
 /// Some launch of the list gives the class's word, and it is ready for the reader.

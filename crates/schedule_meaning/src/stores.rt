@@ -47,42 +47,17 @@ fn latest_store(graph: &LaunchGraph, list: &[Launch], cycle: Option<u32>) -> Opt
     best
 }
 
-fn memory_before(graph: &LaunchGraph, list: &[Launch], cycle: u32) -> u32
-    ensures { result ≡ launches.memory_before graph.now list.now cycle }
-{
-    match latest_store(graph, list, Some(cycle)) {
-        Some(store) => class_at(graph, store.row),
-        None => graph.entry,
-    }
-}
-
-fn memory_after(graph: &LaunchGraph, list: &[Launch]) -> u32
-    ensures { result ≡ launches.memory_after graph.now list.now }
-{
-    match latest_store(graph, list, None) {
-        Some(store) => class_at(graph, store.row),
-        None => graph.entry,
-    }
-}
-
-fn uses_memory(graph: &LaunchGraph, launch: Launch) -> bool
-    ensures { IsTrue result ↔ rules.UsesMemory graph.now launch }
-{
-    is_load(instr_at(graph, launch.row)) || is_store(instr_at(graph, launch.row))
-}
-
 fn reads_memory(graph: &LaunchGraph, list: &[Launch], launch: Launch) -> bool
     ensures { IsTrue result ↔ (rules.UsesMemory graph.now launch
         → launches.memory_class_at graph.now launch.row ≡ launches.memory_before graph.now list.now launch.cycle) }
 {
-    !uses_memory(graph, launch)
-        || memory_class_at(graph, launch.row) == memory_before(graph, list, launch.cycle)
-}
-
-fn is_store_at(graph: &LaunchGraph, launch: Launch, cycle: u32) -> bool
-    ensures { IsTrue result ↔ (IsTrue (launches.launches graph.now launches.is_store launch) × (launch.cycle ≡ cycle)) }
-{
-    is_store(instr_at(graph, launch.row)) && launch.cycle == cycle
+    if !(is_load(instr_at(graph, launch.row)) || is_store(instr_at(graph, launch.row))) {
+        return true;
+    }
+    match latest_store(graph, list, Some(launch.cycle)) {
+        Some(store) => memory_class_at(graph, launch.row) == class_at(graph, store.row),
+        None => memory_class_at(graph, launch.row) == graph.entry,
+    }
 }
 
 fn no_store_before(graph: &LaunchGraph, list: &[Launch], at: usize, cycle: u32) -> bool
@@ -91,7 +66,7 @@ fn no_store_before(graph: &LaunchGraph, list: &[Launch], at: usize, cycle: u32) 
         ↔ NoEarlier list.now at (λ m. IsTrue (launches.launches graph.now launches.is_store m) × (m.cycle ≡ cycle)) }
 {
     for before in 0..at {
-        if is_store_at(graph, list[before], cycle) {
+        if is_store(instr_at(graph, list[before].row)) && list[before].cycle == cycle {
             return false;
         }
     }
@@ -111,5 +86,8 @@ pub(crate) fn keeps_memory(graph: &LaunchGraph, list: &[Launch], at: usize, laun
 pub(crate) fn memory_is_left(graph: &LaunchGraph, list: &[Launch]) -> bool
     ensures { IsTrue result ↔ (launches.memory_after graph.now list.now ≡ graphs.memory_target graph.now) }
 {
-    memory_after(graph, list) == graph.memory_target()
+    match latest_store(graph, list, None) {
+        Some(store) => class_at(graph, store.row) == graph.memory_target(),
+        None => graph.entry == graph.memory_target(),
+    }
 }

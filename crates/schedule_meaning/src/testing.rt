@@ -19,19 +19,13 @@ pub(crate) fn can_launch(graph: &LaunchGraph, table: &Table, launch: Launch) -> 
     }
 }
 
-fn collide(left: Launch, right: Launch) -> bool
-    ensures { IsTrue result ↔ rules.Collide left right }
-{
-    left.cycle == right.cycle && left.slot == right.slot
-}
-
 /// No launch before the place has the launch's slot and cycle.
 pub(crate) fn is_alone(launches: &[Launch], at: usize, launch: Launch) -> bool
     requires { at ≤ length launches.now }
     ensures { IsTrue result ↔ NoEarlier launches.now at (rules.Collide launch) }
 {
     for before in 0..at {
-        if collide(launch, launches[before]) {
+        if launch.cycle == launches[before].cycle && launch.slot == launches[before].slot {
             return false;
         }
     }
@@ -73,43 +67,28 @@ fn no_later_branch(graph: &LaunchGraph, list: &[Launch], launch: Launch) -> bool
     true
 }
 
-/// The launch is a store, a load that is held, or overwrites an input.
-fn must_wait(graph: &LaunchGraph, launch: Launch) -> bool
-    ensures { IsTrue result
-        ↔ (IsTrue (launches.launches graph.now launches.is_store launch)
-        ⊎ (IsTrue (launches.launches graph.now launches.is_load launch) × IsTrue (launches.is_held graph.now))
-        ⊎ IsTrue (launches.overwrites graph.now launch)) }
-{
-    is_store(instr_at(graph, launch.row))
-        || ((is_load(instr_at(graph, launch.row)) && is_held(graph)) || overwrites(graph, launch))
-}
-
+/// A store, a load that is held, or what overwrites an input comes behind each branch of the list.
 pub(crate) fn waits(graph: &LaunchGraph, list: &[Launch], launch: Launch) -> bool
     ensures { IsTrue result ↔ rules.Waits graph.now list.now launch }
 {
-    !must_wait(graph, launch) || no_later_branch(graph, list, launch)
-}
-
-/// How many launches of the list are branches.
-fn branches(graph: &LaunchGraph, list: &[Launch]) -> usize
-    ensures { result ≡ count_by (launches.launches graph.now launches.is_branch) list.now }
-{
-    let mut count = 0;
-    for launch in list {
-        if is_branch(instr_at(graph, launch.row)) {
-            count += 1;
-        }
-    }
-    count
+    !(is_store(instr_at(graph, launch.row))
+        || ((is_load(instr_at(graph, launch.row)) && is_held(graph)) || overwrites(graph, launch)))
+        || no_later_branch(graph, list, launch)
 }
 
 pub(crate) fn has_one_branch(graph: &LaunchGraph, list: &[Launch]) -> bool
     ensures { IsTrue result ↔ rules.HasOneBranch graph.now list.now }
 {
-    match graph.guard {
-        Some(_) => branches(graph, list) == 1,
-        None => true,
+    if graph.guard.is_none() {
+        return true;
     }
+    let mut count: usize = 0;
+    for launch in list {
+        if is_branch(instr_at(graph, launch.row)) {
+            count += 1;
+        }
+    }
+    count == 1
 }
 
 pub(crate) fn has_room(graph: &LaunchGraph, list: &[Launch]) -> bool

@@ -33,13 +33,8 @@ pub(crate) fn reads(alloc: Global, input: &[u8]) -> Result<Vec<u8>, Trouble> {
     let (head, text) = split_line(input);
     let Behaviour { most, step, fails } = behaviour_in(alloc, head)?;
     let mut source = FailingSource::new(text.to_vec(alloc)?, step, fails);
-    put_read(alloc, read_all(alloc, &mut source, most))
-}
-
-/// What was read, or the fault.
-fn put_read(alloc: Global, read: Result<Vec<u8>, ReadAllFault>) -> Result<Vec<u8>, Trouble> {
     let mut report = Vec::new(alloc);
-    match read {
+    match read_all(alloc, &mut source, most) {
         Ok(bytes) => {
             put_numbers(&mut report, b"read", &[bytes.len() as u64])?;
             put_line(&mut report, &[&bytes])?;
@@ -57,21 +52,11 @@ pub(crate) fn writes(alloc: Global, input: &[u8]) -> Result<Vec<u8>, Trouble> {
     let (head, text) = split_line(input);
     let Behaviour { most, step, fails } = behaviour_in(alloc, head)?;
     let mut sink = FailingSink::new(alloc, most as usize, step, fails)?;
-    let written = write_all(&mut sink, text);
-    put_written(alloc, written, sink.written())
-}
-
-/// Whether all was written, and what was.
-fn put_written(
-    alloc: Global,
-    written: Result<(), SinkFault>,
-    bytes: &[u8],
-) -> Result<Vec<u8>, Trouble> {
     let mut report = Vec::new(alloc);
-    match written {
+    match write_all(&mut sink, text) {
         Ok(()) => put(&mut report, b"written\n")?,
         Err(SinkFault) => put(&mut report, b"sink fault\n")?,
     }
-    put_line(&mut report, &[bytes])?;
+    put_line(&mut report, &[sink.written()])?;
     Ok(report)
 }

@@ -1,6 +1,6 @@
 // What these cases ask: the subjects by their names.
 use crate::{graphs, machine, procs, streams, tables, terms, texts, tokens, worlds};
-use case_files::{Trouble, Whole};
+use case_files::Trouble;
 use std::alloc::Global;
 
 /// What the cases of a file ask.
@@ -73,9 +73,5 @@ impl case_files::Subject for Subject {
             Subject::Reads => streams::reads(alloc, input),
             Subject::Writes => streams::writes(alloc, input),
         }
-    }
-
-    fn whole_file(_ending: &str) -> Option<Whole<Subject>> {
-        None
     }
 }

@@ -3,7 +3,7 @@ ghost use Rattle.std.specs.Prelude.{◌<◌, ◌≤◌, ◌^◌, length};
 
 use case_files::{Trouble, faulty, put, put_number, put_numbers};
 use std::alloc::Global;
-use text_core::{Sexp, TextLines, Token, TokenKind, decimal, lex, tree};
+use text_core::{Sexp, TokenKind, decimal, lex, tree};
 
 /// The number that a word is, or `none`.
 pub(crate) fn decimals(alloc: Global, input: &[u8]) -> Result<Vec<u8>, Trouble> {
@@ -15,38 +15,32 @@ pub(crate) fn decimals(alloc: Global, input: &[u8]) -> Result<Vec<u8>, Trouble> 
     Ok(report)
 }
 
-/// A line for a token: its kind, its place and its length, and a number's value.
-fn put_token(report: &mut Vec<u8>, token: &Token) -> Result<(), Trouble> {
-    let kind = match token.kind {
-        TokenKind::Opening => b"opening".as_slice(),
-        TokenKind::Closing => b"closing".as_slice(),
-        TokenKind::Name => b"name".as_slice(),
-        TokenKind::Register => b"register".as_slice(),
-        TokenKind::Number(_) => b"number".as_slice(),
-    };
-    put(report, kind)?;
-    put_number(report, u64::from(token.place))?;
-    put_number(report, u64::from(token.len))?;
-    if let TokenKind::Number(value) = token.kind {
-        put_number(report, value)?;
-    }
-    put(report, b"\n")
-}
-
-/// The tokens of a text, a line each, or its fault.
+/// The tokens of a text, or its fault. A token's line has its kind, its place and its length, and a number's value.
 pub(crate) fn tokens(alloc: Global, input: &[u8]) -> Result<Vec<u8>, Trouble>
     requires { length input.now ≤ 2 ^ 24 }
 {
-    match lex(alloc, input) {
-        Ok(tokens) => {
-            let mut report = Vec::new(alloc);
-            for token in &tokens {
-                put_token(&mut report, token)?;
-            }
-            Ok(report)
+    let tokens = match lex(alloc, input) {
+        Ok(tokens) => tokens,
+        Err(fault) => return faulty(alloc, fault),
+    };
+    let mut report = Vec::new(alloc);
+    for token in &tokens {
+        let kind = match token.kind {
+            TokenKind::Opening => b"opening".as_slice(),
+            TokenKind::Closing => b"closing".as_slice(),
+            TokenKind::Name => b"name".as_slice(),
+            TokenKind::Register => b"register".as_slice(),
+            TokenKind::Number(_) => b"number".as_slice(),
+        };
+        put(&mut report, kind)?;
+        put_number(&mut report, u64::from(token.place))?;
+        put_number(&mut report, u64::from(token.len))?;
+        if let TokenKind::Number(value) = token.kind {
+            put_number(&mut report, value)?;
         }
-        Err(fault) => faulty(alloc, fault),
+        put(&mut report, b"\n")?;
     }
+    Ok(report)
 }
 
 /// The places of atoms and of the parentheses of lists.
@@ -87,32 +81,25 @@ pub(crate) fn trees(alloc: Global, input: &[u8]) -> Result<Vec<u8>, Trouble>
     }
 }
 
-/// A line for each line of the text: its place, and its words between bars.
-fn put_lines(report: &mut Vec<u8>, text: &TextLines<'_>) -> Result<(), Trouble> {
-    for line in 0..text.count() {
-        put(report, b"line")?;
-        put_number(report, u64::from(text.place(line)))?;
-        for at in 0..text.words(line) {
-            put(report, b" |")?;
-            put(report, text.word(line, at))?;
-        }
-        put(report, b"\n")?;
-    }
-    Ok(())
-}
-
-/// The lines of a text and its end, or its fault.
+/// The lines of a text and its end, or its fault. For each line there are its place, and its words between bars.
 pub(crate) fn lines(alloc: Global, input: &[u8]) -> Result<Vec<u8>, Trouble>
     requires { length input.now ≤ 2 ^ 24 }
 {
-    match text_core::lines(alloc, input) {
-        Ok(text) => {
-            let mut report = Vec::new(alloc);
-            put_lines(&mut report, &text)?;
-            let end = u64::from(text.place(text.count()));
-            put_numbers(&mut report, b"end", &[end])?;
-            Ok(report)
+    let text = match text_core::lines(alloc, input) {
+        Ok(text) => text,
+        Err(fault) => return faulty(alloc, fault),
+    };
+    let mut report = Vec::new(alloc);
+    for line in 0..text.count() {
+        put(&mut report, b"line")?;
+        put_number(&mut report, u64::from(text.place(line)))?;
+        for at in 0..text.words(line) {
+            put(&mut report, b" |")?;
+            put(&mut report, text.word(line, at))?;
         }
-        Err(fault) => faulty(alloc, fault),
+        put(&mut report, b"\n")?;
     }
+    let end = u64::from(text.place(text.count()));
+    put_numbers(&mut report, b"end", &[end])?;
+    Ok(report)
 }

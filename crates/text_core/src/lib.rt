@@ -3,6 +3,13 @@
 //! A text of goals is read in passes: its bytes as tokens, the tokens as trees, and the trees as forms in the crates
 //! above. A pass runs where the one before found no fault, and gives its earliest fault. Answers and programs are
 //! read as lines of words.
+//!
+//! Proved, both ways, except for running out of memory: `lex` gives exactly the tokens of a text or its earliest fault,
+//! `tree` the trees of tokens, at most 64 deep, or the first misplaced parenthesis, `lines` the lines of a text or its
+//! first fault. No text has two readings (`one_lexing`, `one_parsing`, `one_splitting`); tokens and trees stand one
+//! after another within the text. Printed lines are read back as the same words wherever they stand, and each text of
+//! lines is what its words print (`printed_lines_are_lines`). `decimal` and `is_name` are exact both ways; a name token
+//! is a name; a fault prints as stated.
 #![tactic(auto)]
 
 mod faults;

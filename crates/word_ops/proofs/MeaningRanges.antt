@@ -3,7 +3,9 @@ use Rattle.std.proofs.Common.{◌≡◌, ℕ, ◌<◌, ◌^◌, List, length, ge
 use Rattle.std.proofs.lemmas.Bool.{cases_lt}
 use Rattle.std.proofs.lemmas.List.{get_or_past}
 use Rattle.word_ops.specs.Words.{IsWord}
-use Rattle.word_ops.specs.Memory.{Memory, IsMemory, select, store, load, put}
+use Rattle.word_ops.specs.Memory.{Memory, IsMemory, select, store, loaded, stored, load, put}
+use Rattle.word_ops.specs.declared.sorts.Access.{Access}
+use Rattle.word_ops.specs.declared.sorts.Access.TheVariants.{Quad}
 use Rattle.word_ops.specs.Worlds.{Value, word, memory, World, IsWorld, IsValue}
 use Rattle.word_ops.specs.Meanings.{meaning, sort_of, arity_of_op, operand_sort, AreOperands, IsInRange, as_word, as_memory, word_operand, memory_operand}
 use Rattle.word_ops.specs.declared.sorts.Sort.{Sort}
@@ -39,21 +41,29 @@ store-is : (m : Memory) (a v : ℕ) → IsMemory m → a < 2 ^ 64 → v < 2 ^ 64
 unfolding store
 store-is m a v h f g = IsMemory-put_word m _ v h (omega arith) g
 
-load-lt : (m : Memory) (x k : ℕ) → IsMemory m → IsWord (load m x k)
-unfolding load
-load-lt m x k h = select-lt m _ h
+pub loaded-lt : (access : Access) (m : Memory) (a : ℕ) → IsMemory m → IsWord (loaded access m a)
+unfolding loaded
+loaded-lt Quad m a h = select-lt m a h
 
-put-is : (m : Memory) (x k v : ℕ) → IsMemory m → v < 2 ^ 64 → IsMemory (put m x k v)
+pub stored-is : (access : Access) (m : Memory) (a v : ℕ) → IsMemory m → a < 2 ^ 64 → v < 2 ^ 64 → IsMemory (stored access m a v)
+unfolding stored
+stored-is Quad m a v h f g = store-is m a v h f g
+
+load-lt : (access : Access) (m : Memory) (x k : ℕ) → IsMemory m → IsWord (load access m x k)
+unfolding load
+load-lt access m x k h = loaded-lt access m _ h
+
+put-is : (access : Access) (m : Memory) (x k v : ℕ) → IsMemory m → v < 2 ^ 64 → IsMemory (put access m x k v)
 unfolding put
-put-is m x k v h g = store-is m _ v h (lda-lt x k) g
+put-is access m x k v h g = stored-is access m _ v h (lda-lt x k) g
 
 pub meaning_in_range : (world : World) (names : ℕ → List ℕ) (op : Op) (vs : List Value) → IsWorld world → IsInRange op → AreOperands op vs → IsValue (sort_of op) (meaning world names op vs)
 meaning_in_range world names Entry vs w r h = w.memory_is
 meaning_in_range world names (Input register) vs w r h = operand-lt world.registers register w.each
 meaning_in_range world names (Constant c) vs w r h = r
 meaning_in_range world names (Word op) vs w r h = value_at-lt op _ _ _ (word_operand-lt (Word op) vs h 0) (word_operand-lt (Word op) vs h 1) (word_operand-lt (Word op) vs h 2)
-meaning_in_range world names Select vs w r h = select-lt _ _ (memory_operand-is Select vs refl (omega arith) h)
-meaning_in_range world names Store vs w r h = store-is _ _ _ (memory_operand-is Store vs refl (omega arith) h) (word_operand-lt Store vs h 1) (word_operand-lt Store vs h 2)
-meaning_in_range world names Load vs w r h = load-lt _ _ _ (memory_operand-is Load vs refl (omega arith) h)
-meaning_in_range world names Put vs w r h = put-is _ _ _ _ (memory_operand-is Put vs refl (omega arith) h) (word_operand-lt Put vs h 3)
+meaning_in_range world names (Select access) vs w r h = loaded-lt access _ _ (memory_operand-is (Select access) vs refl (omega arith) h)
+meaning_in_range world names (Store access) vs w r h = stored-is access _ _ _ (memory_operand-is (Store access) vs refl (omega arith) h) (word_operand-lt (Store access) vs h 1) (word_operand-lt (Store access) vs h 2)
+meaning_in_range world names (Load access) vs w r h = load-lt access _ _ _ (memory_operand-is (Load access) vs refl (omega arith) h)
+meaning_in_range world names (Put access) vs w r h = put-is access _ _ _ _ (memory_operand-is (Put access) vs refl (omega arith) h) (word_operand-lt (Put access) vs h 3)
 meaning_in_range world names (Declared index arity) vs w r h = w.declared _ _

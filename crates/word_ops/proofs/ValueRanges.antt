@@ -5,10 +5,12 @@ use Rattle.std.proofs.lemmas.Bool.{cases_lt}
 use Rattle.std.proofs.lemmas.List.{get_or_past}
 use Rattle.std.proofs.lemmas.Nat.{pow_pos, and_le_l, or_lt, xor_lt, mod_below, shr_le}
 use Rattle.word_ops.specs.declared.operators.WordOp.{WordOp}
-use Rattle.word_ops.specs.declared.operators.WordOp.TheVariants.{Addl, S4addl, Subl, S4subl, Cmpbge, S8addl, S8subl, Cmpult, Addq, S4addq, Subq, S4subq, Cmpeq, S8addq, S8subq, Cmpule, Cmplt, Cmple, And, Bic, Bis, Ornot, Xor, Eqv, Mskbl, Extbl, Insbl, Mskwl, Extwl, Inswl, Mskll, Extll, Insll, Zap, Zapnot, Mskql, Srl, Extql, Sll, Insql, Sra, Mskwh, Inswh, Extwh, Msklh, Inslh, Extlh, Mskqh, Insqh, Extqh, Mull, Mulq, Umulh, Sextb, Sextw, Neg, Not, Selectb, Storeb, Lda, Ldah}
+use Rattle.word_ops.specs.declared.operates.Operate.{Operate as OperateOf}
+use Rattle.word_ops.specs.declared.operates.Operate.TheVariants.{Addl, S4addl, Subl, S4subl, Cmpbge, S8addl, S8subl, Cmpult, Addq, S4addq, Subq, S4subq, Cmpeq, S8addq, S8subq, Cmpule, Cmplt, Cmple, And, Bic, Bis, Ornot, Xor, Eqv, Mskbl, Extbl, Insbl, Mskwl, Extwl, Inswl, Mskll, Extll, Insll, Zap, Zapnot, Mskql, Srl, Extql, Sll, Insql, Sra, Mskwh, Inswh, Extwh, Msklh, Inslh, Extlh, Mskqh, Insqh, Extqh, Mull, Mulq, Umulh, Sextb, Sextw}
+use Rattle.word_ops.specs.declared.operators.WordOp.TheVariants.{Operate, Neg, Not, Selectb, Storeb, Lda, Ldah}
 use Rattle.word_ops.specs.Words.{IsWord}
 use Rattle.word_ops.specs.Values.{addq, subq, mulq, s4addq, s8addq, s4subq, s8subq, umulh, neg, sextb, sextw, lda, ldah, flag, cmpeq, cmplt, cmple, cmpult, cmpule, cmpbge, and, bic, ornot, xor, eqv, not, ext_low, ext_high, ins_high, msk_high, selectb}
-use Rattle.word_ops.specs.Operators.{value_at, value_of}
+use Rattle.word_ops.specs.Operators.{operate_value, value_at, value_of}
 use Rattle.word_ops.proofs.WordBits.{word_of-lt}
 use Rattle.word_ops.proofs.OperatorBits.{sign_extended-lt, sll-lt, srl-lt, sra-lt, zap-lt, zapnot-lt, storeb-lt}
 use Rattle.word_ops.proofs.StoredByte.{bis-lt, msk_low-lt, ins_low-lt}
@@ -144,63 +146,67 @@ msk_high-lt : (w a b : ℕ) → msk_high w a b < 2 ^ 64
 unfolding msk_high
 msk_high-lt w a b = zap-lt a _
 
+operate_value-lt : (operate : OperateOf) (a b : ℕ) → a < 2 ^ 64 → b < 2 ^ 64 → operate_value operate a b < 2 ^ 64
+unfolding operate_value
+operate_value-lt Addl a b f g = sign_extended-lt 32 (addq a b) (omega arith)
+operate_value-lt S4addl a b f g = sign_extended-lt 32 (s4addq a b) (omega arith)
+operate_value-lt Subl a b f g = sign_extended-lt 32 (subq a b) (omega arith)
+operate_value-lt S4subl a b f g = sign_extended-lt 32 (s4subq a b) (omega arith)
+operate_value-lt Cmpbge a b f g = cmpbge-lt a b
+operate_value-lt S8addl a b f g = sign_extended-lt 32 (s8addq a b) (omega arith)
+operate_value-lt S8subl a b f g = sign_extended-lt 32 (s8subq a b) (omega arith)
+operate_value-lt Cmpult a b f g = cmpult-lt a b
+operate_value-lt Addq a b f g = addq-lt a b
+operate_value-lt S4addq a b f g = s4addq-lt a b
+operate_value-lt Subq a b f g = subq-lt a b
+operate_value-lt S4subq a b f g = s4subq-lt a b
+operate_value-lt Cmpeq a b f g = cmpeq-lt a b
+operate_value-lt S8addq a b f g = s8addq-lt a b
+operate_value-lt S8subq a b f g = s8subq-lt a b
+operate_value-lt Cmpule a b f g = cmpule-lt a b
+operate_value-lt Cmplt a b f g = cmplt-lt a b
+operate_value-lt Cmple a b f g = cmple-lt a b
+operate_value-lt And a b f g = and-lt a b f
+operate_value-lt Bic a b f g = bic-lt a b f
+operate_value-lt Bis a b f g = bis-lt a b f g
+operate_value-lt Ornot a b f g = ornot-lt a b f g
+operate_value-lt Xor a b f g = xor-lt a b f g
+operate_value-lt Eqv a b f g = eqv-lt a b f g
+operate_value-lt Mskbl a b f g = msk_low-lt 1 a b
+operate_value-lt Extbl a b f g = ext_low-lt 1 a b f
+operate_value-lt Insbl a b f g = ins_low-lt 1 a b
+operate_value-lt Mskwl a b f g = msk_low-lt 2 a b
+operate_value-lt Extwl a b f g = ext_low-lt 2 a b f
+operate_value-lt Inswl a b f g = ins_low-lt 2 a b
+operate_value-lt Mskll a b f g = msk_low-lt 4 a b
+operate_value-lt Extll a b f g = ext_low-lt 4 a b f
+operate_value-lt Insll a b f g = ins_low-lt 4 a b
+operate_value-lt Zap a b f g = zap-lt a b
+operate_value-lt Zapnot a b f g = zapnot-lt a b
+operate_value-lt Mskql a b f g = msk_low-lt 8 a b
+operate_value-lt Srl a b f g = srl-lt a b f
+operate_value-lt Extql a b f g = ext_low-lt 8 a b f
+operate_value-lt Sll a b f g = sll-lt a b
+operate_value-lt Insql a b f g = ins_low-lt 8 a b
+operate_value-lt Sra a b f g = sra-lt a b
+operate_value-lt Mskwh a b f g = msk_high-lt 2 a b
+operate_value-lt Inswh a b f g = ins_high-lt 2 a b
+operate_value-lt Extwh a b f g = ext_high-lt 2 a b
+operate_value-lt Msklh a b f g = msk_high-lt 4 a b
+operate_value-lt Inslh a b f g = ins_high-lt 4 a b
+operate_value-lt Extlh a b f g = ext_high-lt 4 a b
+operate_value-lt Mskqh a b f g = msk_high-lt 8 a b
+operate_value-lt Insqh a b f g = ins_high-lt 8 a b
+operate_value-lt Extqh a b f g = ext_high-lt 8 a b
+operate_value-lt Mull a b f g = sign_extended-lt 32 (mulq a b) (omega arith)
+operate_value-lt Mulq a b f g = mulq-lt a b
+operate_value-lt Umulh a b f g = umulh-lt a b f g
+operate_value-lt Sextb a b f g = sextb-lt a
+operate_value-lt Sextw a b f g = sextw-lt a
+
 pub value_at-lt : (op : WordOp) (a b c : ℕ) → a < 2 ^ 64 → b < 2 ^ 64 → c < 2 ^ 64 → value_at op a b c < 2 ^ 64
 unfolding value_at
-value_at-lt Addl a b c f g h = sign_extended-lt 32 (addq a b) (omega arith)
-value_at-lt S4addl a b c f g h = sign_extended-lt 32 (s4addq a b) (omega arith)
-value_at-lt Subl a b c f g h = sign_extended-lt 32 (subq a b) (omega arith)
-value_at-lt S4subl a b c f g h = sign_extended-lt 32 (s4subq a b) (omega arith)
-value_at-lt Cmpbge a b c f g h = cmpbge-lt a b
-value_at-lt S8addl a b c f g h = sign_extended-lt 32 (s8addq a b) (omega arith)
-value_at-lt S8subl a b c f g h = sign_extended-lt 32 (s8subq a b) (omega arith)
-value_at-lt Cmpult a b c f g h = cmpult-lt a b
-value_at-lt Addq a b c f g h = addq-lt a b
-value_at-lt S4addq a b c f g h = s4addq-lt a b
-value_at-lt Subq a b c f g h = subq-lt a b
-value_at-lt S4subq a b c f g h = s4subq-lt a b
-value_at-lt Cmpeq a b c f g h = cmpeq-lt a b
-value_at-lt S8addq a b c f g h = s8addq-lt a b
-value_at-lt S8subq a b c f g h = s8subq-lt a b
-value_at-lt Cmpule a b c f g h = cmpule-lt a b
-value_at-lt Cmplt a b c f g h = cmplt-lt a b
-value_at-lt Cmple a b c f g h = cmple-lt a b
-value_at-lt And a b c f g h = and-lt a b f
-value_at-lt Bic a b c f g h = bic-lt a b f
-value_at-lt Bis a b c f g h = bis-lt a b f g
-value_at-lt Ornot a b c f g h = ornot-lt a b f g
-value_at-lt Xor a b c f g h = xor-lt a b f g
-value_at-lt Eqv a b c f g h = eqv-lt a b f g
-value_at-lt Mskbl a b c f g h = msk_low-lt 1 a b
-value_at-lt Extbl a b c f g h = ext_low-lt 1 a b f
-value_at-lt Insbl a b c f g h = ins_low-lt 1 a b
-value_at-lt Mskwl a b c f g h = msk_low-lt 2 a b
-value_at-lt Extwl a b c f g h = ext_low-lt 2 a b f
-value_at-lt Inswl a b c f g h = ins_low-lt 2 a b
-value_at-lt Mskll a b c f g h = msk_low-lt 4 a b
-value_at-lt Extll a b c f g h = ext_low-lt 4 a b f
-value_at-lt Insll a b c f g h = ins_low-lt 4 a b
-value_at-lt Zap a b c f g h = zap-lt a b
-value_at-lt Zapnot a b c f g h = zapnot-lt a b
-value_at-lt Mskql a b c f g h = msk_low-lt 8 a b
-value_at-lt Srl a b c f g h = srl-lt a b f
-value_at-lt Extql a b c f g h = ext_low-lt 8 a b f
-value_at-lt Sll a b c f g h = sll-lt a b
-value_at-lt Insql a b c f g h = ins_low-lt 8 a b
-value_at-lt Sra a b c f g h = sra-lt a b
-value_at-lt Mskwh a b c f g h = msk_high-lt 2 a b
-value_at-lt Inswh a b c f g h = ins_high-lt 2 a b
-value_at-lt Extwh a b c f g h = ext_high-lt 2 a b
-value_at-lt Msklh a b c f g h = msk_high-lt 4 a b
-value_at-lt Inslh a b c f g h = ins_high-lt 4 a b
-value_at-lt Extlh a b c f g h = ext_high-lt 4 a b
-value_at-lt Mskqh a b c f g h = msk_high-lt 8 a b
-value_at-lt Insqh a b c f g h = ins_high-lt 8 a b
-value_at-lt Extqh a b c f g h = ext_high-lt 8 a b
-value_at-lt Mull a b c f g h = sign_extended-lt 32 (mulq a b) (omega arith)
-value_at-lt Mulq a b c f g h = mulq-lt a b
-value_at-lt Umulh a b c f g h = umulh-lt a b f g
-value_at-lt Sextb a b c f g h = sextb-lt a
-value_at-lt Sextw a b c f g h = sextw-lt a
+value_at-lt (Operate operate) a b c f g h = operate_value-lt operate a b f g
 value_at-lt Neg a b c f g h = neg-lt a
 value_at-lt Not a b c f g h = not-lt a
 value_at-lt Selectb a b c f g h = selectb-lt a b

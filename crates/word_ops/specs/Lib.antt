@@ -1,6 +1,7 @@
 pub mod Words
 pub mod Bits
 pub mod Values
+pub mod Operates
 pub mod Operators
 pub mod Names
 pub mod Memory

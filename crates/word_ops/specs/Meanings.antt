@@ -4,7 +4,7 @@ use Rattle.std.specs.Prelude.{◌≡◌, ℕ, ◌<◌, ◌==◌, ◌&&◌, Bool,
 use Rattle.std.specs.FinMap.{empty}
 use Rattle.word_ops.specs.Words.{IsWord}
 use Rattle.word_ops.specs.Operators.{arity_of, value_at}
-use Rattle.word_ops.specs.Memory.{Memory, select, store, load, put}
+use Rattle.word_ops.specs.Memory.{Memory, loaded, stored, load, put}
 use Rattle.word_ops.specs.Worlds.{Value, word, memory, World, IsValue}
 use Rattle.word_ops.specs.declared.sorts.Arity.{Arity}
 use Rattle.word_ops.specs.declared.sorts.Arity.TheVariants.{One, Two, Three, Four}
@@ -25,24 +25,24 @@ arity_of_op Entry = 0
 arity_of_op (Input register) = 0
 arity_of_op (Constant c) = 0
 arity_of_op (Word op) = arity_of op
-arity_of_op Select = 2
-arity_of_op Store = 3
-arity_of_op Load = 3
-arity_of_op Put = 4
+arity_of_op (Select access) = 2
+arity_of_op (Store access) = 3
+arity_of_op (Load access) = 3
+arity_of_op (Put access) = 4
 arity_of_op (Declared index arity) = count_of arity
 
 abbrev pub sort_of : Op → Sort
 sort_of Entry = sorts.Memory
-sort_of Store = sorts.Memory
-sort_of Put = sorts.Memory
+sort_of (Store access) = sorts.Memory
+sort_of (Put access) = sorts.Memory
 sort_of _ = sorts.Word
 
 -- whether the first operand is a memory; every other one is a word
 abbrev pub takes_memory : Op → Bool
-takes_memory Select = true
-takes_memory Store = true
-takes_memory Load = true
-takes_memory Put = true
+takes_memory (Select access) = true
+takes_memory (Store access) = true
+takes_memory (Load access) = true
+takes_memory (Put access) = true
 takes_memory _ = false
 
 abbrev pub operand_sort : Op → ℕ → Sort
@@ -87,9 +87,9 @@ meaning world names Entry vs = memory world.memory_at_entry
 meaning world names (Input register) vs = word (slice_index world.registers register)
 meaning world names (Constant c) vs = word c
 meaning world names (Word op) vs = word (value_at op (word_operand vs 0) (word_operand vs 1) (word_operand vs 2))
-meaning world names Select vs = word (select (memory_operand vs) (word_operand vs 1))
-meaning world names Store vs = memory (store (memory_operand vs) (word_operand vs 1) (word_operand vs 2))
-meaning world names Load vs = word (load (memory_operand vs) (word_operand vs 1) (word_operand vs 2))
-meaning world names Put vs =
-    memory (put (memory_operand vs) (word_operand vs 1) (word_operand vs 2) (word_operand vs 3))
+meaning world names (Select access) vs = word (loaded access (memory_operand vs) (word_operand vs 1))
+meaning world names (Store access) vs = memory (stored access (memory_operand vs) (word_operand vs 1) (word_operand vs 2))
+meaning world names (Load access) vs = word (load access (memory_operand vs) (word_operand vs 1) (word_operand vs 2))
+meaning world names (Put access) vs =
+    memory (put access (memory_operand vs) (word_operand vs 1) (word_operand vs 2) (word_operand vs 3))
 meaning world names (Declared index arity) vs = word (world.declared (names index) (map as_word vs))

@@ -7,6 +7,8 @@ use Rattle.std.specs.FinMap.{FinMap, get, insert, remove}
 use Rattle.std.specs.Option.{unwrap_or}
 use Rattle.word_ops.specs.Words.{IsWord}
 use Rattle.word_ops.specs.Values.{lda}
+use Rattle.word_ops.specs.declared.sorts.Access.{Access}
+use Rattle.word_ops.specs.declared.sorts.Access.TheVariants.{Quad}
 
 abbrev pub Memory : Type 0
 Memory = FinMap nat_cmp ℕ
@@ -30,9 +32,17 @@ select m a = word_at m (a / 8)
 unfoldable pub store : Memory → ℕ → ℕ → Memory
 store m a v = put_word m (a / 8) v
 
--- with the address as a base and a displacement
-unfoldable pub load : Memory → ℕ → ℕ → ℕ
-load m x k = select m (lda x k)
+-- the word that an access reads at address a
+unfoldable pub loaded : Access → Memory → ℕ → ℕ
+loaded Quad m a = select m a
 
-unfoldable pub put : Memory → ℕ → ℕ → ℕ → Memory
-put m x k v = store m (lda x k) v
+-- the memory that it leaves where it writes v there
+unfoldable pub stored : Access → Memory → ℕ → ℕ → Memory
+stored Quad m a v = store m a v
+
+-- with the address as a base and a displacement
+unfoldable pub load : Access → Memory → ℕ → ℕ → ℕ
+load access m x k = loaded access m (lda x k)
+
+unfoldable pub put : Access → Memory → ℕ → ℕ → ℕ → Memory
+put access m x k v = stored access m (lda x k) v

@@ -5,10 +5,11 @@ ghost use Rattle.word_ops.specs.Words.{IsWord};
 ghost use Rattle.word_ops.specs.Values as value;
 ghost use Rattle.word_ops.specs.Operators.{operators, number_of, value_of};
 ghost use Rattle.word_ops.specs.Names.{name_of};
-ghost use Rattle.word_ops.specs.Memory.{Memory, IsMemory, word_at, put_word};
+ghost use Rattle.word_ops.specs.Memory.{Memory, IsMemory, loaded, stored, word_at, put_word};
 ghost use Rattle.word_ops.specs.Worlds.{Value, World, IsWorld, IsValue};
 ghost use Rattle.word_ops.specs.Meanings.{meaning, sort_of, AreOperands, IsInRange};
 ghost use Rattle.word_ops.specs.declared.operators.WordOp.{WordOp as Operator};
+ghost use Rattle.word_ops.specs.declared.sorts.Access.{Access as AccessOf};
 ghost use Rattle.word_ops.specs.declared.sorts.Op.{Op as TermOperator};
 
 /// Each operator is in the list of all of them, at its number and nowhere else, and has a name of its own.
@@ -26,8 +27,8 @@ pub fn meanings_are_in_range()
 {}
 
 /// After a write to a memory, the place holds the word, and every other place what it held before; of two writes to one
-/// place the second counts; and what is written is a memory again. Two memories are equal if each place holds the same
-/// word in both.
+/// place the second counts; and what is written is a memory again. What an access reads is a word, and where it writes
+/// one it leaves a memory. Two memories are equal if each place holds the same word in both.
 pub fn memories_hold_words()
     ensures put { (m : Memory) (place v : ℕ) → word_at (put_word m place v) place ≡ v }
     ensures others { (m : Memory) (place v other : ℕ) → other ≢ place →
@@ -36,6 +37,9 @@ pub fn memories_hold_words()
         put_word (put_word m place v) place w ≡ put_word m place w }
     ensures is_memory { (m : Memory) (place v : ℕ) → IsMemory m → place < 2 ^ 61 → IsWord v →
         IsMemory (put_word m place v) }
+    ensures loaded { (access : AccessOf) (m : Memory) (a : ℕ) → IsMemory m → IsWord (loaded access m a) }
+    ensures stored { (access : AccessOf) (m : Memory) (a v : ℕ) → IsMemory m → IsWord a → IsWord v
+        → IsMemory (stored access m a v) }
     ensures equal { (m n : Memory) → IsMemory m → IsMemory n →
         ((place : ℕ) → word_at m place ≡ word_at n place) → m ≡ n }
 {}

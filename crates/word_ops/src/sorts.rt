@@ -12,6 +12,13 @@ pub enum Sort {
     Memory,
 }
 
+/// How much of memory a load reads or a store writes.
+#[derive(Clone, Copy, PartialEq, Eq, Debug)]
+pub enum Access {
+    /// The aligned 64-bit word that holds the address.
+    Quad,
+}
+
 /// How many operands a declared operator takes.
 #[derive(Clone, Copy, PartialEq, Eq, Debug)]
 pub enum Arity {
@@ -31,13 +38,13 @@ pub enum Op {
     Constant(u64),
     Word(WordOp),
     /// The word at an address of a memory.
-    Select,
+    Select(Access),
     /// A memory with a word put at an address.
-    Store,
+    Store(Access),
     /// `Select` at a base and a displacement, as an instruction has them.
-    Load,
+    Load(Access),
     /// `Store` at a base and a displacement.
-    Put,
+    Put(Access),
     /// An operator that the input declares; `index` is its place in a list of names.
     Declared { index: u8, arity: Arity },
 }
@@ -81,9 +88,9 @@ impl Op {
         match self {
             Op::Entry | Op::Input(_) | Op::Constant(_) => 0,
             Op::Word(op) => arity(op),
-            Op::Select => 2,
-            Op::Store | Op::Load => 3,
-            Op::Put => 4,
+            Op::Select(_) => 2,
+            Op::Store(_) | Op::Load(_) => 3,
+            Op::Put(_) => 4,
             Op::Declared { arity, .. } => arity.count(),
         }
     }
@@ -93,7 +100,7 @@ impl Op {
         ensures { result ≡ meanings.sort_of self }
     {
         match self {
-            Op::Entry | Op::Store | Op::Put => Sort::Memory,
+            Op::Entry | Op::Store(_) | Op::Put(_) => Sort::Memory,
             _ => Sort::Word,
         }
     }
@@ -104,7 +111,7 @@ impl Op {
         ensures { result ≡ meanings.operand_sort self at }
     {
         match self {
-            Op::Select | Op::Store | Op::Load | Op::Put if at == 0 => Sort::Memory,
+            Op::Select(_) | Op::Store(_) | Op::Load(_) | Op::Put(_) if at == 0 => Sort::Memory,
             _ => Sort::Word,
         }
     }

@@ -5,7 +5,9 @@ use Rattle.word_ops.specs.Operators.{operators, at_its_number, arity_of}
 use Rattle.word_ops.specs.Meanings.{count_of, arity_of_op, sort_of, constant_in, meaning}
 use Rattle.word_ops.specs.Worlds.{World, word}
 use Rattle.word_ops.specs.declared.operators.WordOp.{WordOp}
-use Rattle.word_ops.specs.declared.operators.WordOp.TheVariants.{Addl, Storeb}
+use Rattle.word_ops.specs.declared.operators.WordOp.TheVariants.{Operate, Neg}
+use Rattle.word_ops.specs.declared.operates.Operate.TheVariants.{Addl}
+use Rattle.word_ops.specs.declared.sorts.Access.TheVariants.{Quad}
 use Rattle.word_ops.specs.declared.sorts.Sort.TheVariants as sorts
 use Rattle.word_ops.specs.declared.sorts.Arity.{Arity}
 use Rattle.word_ops.specs.declared.sorts.Arity.TheVariants.{One, Two, Three, Four}
@@ -17,7 +19,8 @@ use Rattle.word_terms.specs.declared.small.SmallOp.{SmallOp}
 use Rattle.word_terms.specs.declared.small.SmallOp.TheVariants as small
 
 word_takes_at_most_four : (op : WordOp) → arity_of op ≤ 4
-word_takes_at_most_four Storeb = omega arith
+word_takes_at_most_four (Operate Addl) = omega arith
+word_takes_at_most_four (Operate _) = omega arith
 word_takes_at_most_four _ = omega arith
 
 count-le : (arity : Arity) → count_of arity ≤ 4
@@ -40,16 +43,20 @@ op_of_key key =
     if key.0 == 0 then Entry
     else if key.0 == 1 then Input key.1
     else if key.0 == 2 then Constant key.1
-    else if key.0 == 3 then Word (unwrap_or (slice_get operators key.1) Addl)
-    else if key.0 == 4 then Select
-    else if key.0 == 5 then Store
-    else if key.0 == 6 then Load
-    else if key.0 == 7 then Put
+    else if key.0 == 3 then Word (unwrap_or (slice_get operators key.1) Neg)
+    else if key.0 == 4 then Select Quad
+    else if key.0 == 5 then Store Quad
+    else if key.0 == 6 then Load Quad
+    else if key.0 == 7 then Put Quad
     else Declared key.1 (arity_of_count (key.0 - 7))
 
 of_its_key : (op : Op) → op_of_key (key_of op) ≡ op
 unfolding op_of_key arity_of_count
-of_its_key (Word op) = ap (λ o. Word (unwrap_or o Addl)) (at_its_number op)
+of_its_key (Word op) = ap (λ o. Word (unwrap_or o Neg)) (at_its_number op)
+of_its_key (Select Quad) = refl
+of_its_key (Store Quad) = refl
+of_its_key (Load Quad) = refl
+of_its_key (Put Quad) = refl
 of_its_key (Declared index One) = refl
 of_its_key (Declared index Two) = refl
 of_its_key (Declared index Three) = refl

@@ -1,6 +1,7 @@
 pub mod Signature
 pub mod Tree
 pub mod View
+pub mod Building
 pub mod Keys
 pub mod Small
 pub mod Laws

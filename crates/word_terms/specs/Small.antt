@@ -1,7 +1,9 @@
 -- The small operator type: each of its operators is used as one of `Op` is, and gives what that gives.
 use Rattle.std.specs.Prelude.{ℕ}
 use Rattle.word_ops.specs.Meanings.{arity_of_op, sort_of, operand_sort, constant_in, meaning}
-use Rattle.word_ops.specs.declared.operators.WordOp.TheVariants.{Addq}
+use Rattle.word_ops.specs.declared.operates.Operate.TheVariants.{Addq}
+use Rattle.word_ops.specs.declared.operators.WordOp.TheVariants.{Operate}
+use Rattle.word_ops.specs.declared.sorts.Access.TheVariants.{Quad}
 use Rattle.word_ops.specs.declared.sorts.Op.{Op}
 use Rattle.word_ops.specs.declared.sorts.Op.TheVariants as ops
 use Rattle.word_terms.specs.Signature.{Signature, Meaning}
@@ -12,8 +14,8 @@ abbrev pub as_op : SmallOp → Op
 as_op (Number n) = ops.Constant n
 as_op (Leaf register) = ops.Input register
 as_op Entry = ops.Entry
-as_op Sum = ops.Word Addq
-as_op Look = ops.Select
+as_op Sum = ops.Word (Operate Addq)
+as_op Look = ops.Select Quad
 
 abbrev pub small_key : SmallOp → ℕ × ℕ
 small_key (Number n) = (0, n)

@@ -1,6 +1,6 @@
 // The operators of words and memories as an operator type.
 use crate::operator::Operator;
-use word_ops::{Op, Sort, meanings_are_in_range};
+use word_ops::{Op, Sort, meanings_are_in_range, number};
 
 impl Operator for Op {
     ghost use Rattle.word_ops.specs.Meanings as meanings;
@@ -47,11 +47,11 @@ impl Operator for Op {
             Op::Entry => (0, 0),
             Op::Input(register) => (1, u64::from(register)),
             Op::Constant(word) => (2, word),
-            Op::Word(op) => (3, op as u64),
-            Op::Select => (4, 0),
-            Op::Store => (5, 0),
-            Op::Load => (6, 0),
-            Op::Put => (7, 0),
+            Op::Word(op) => (3, u64::from(number(op))),
+            Op::Select(access) => (4, access as u64),
+            Op::Store(access) => (5, access as u64),
+            Op::Load(access) => (6, access as u64),
+            Op::Put(access) => (7, access as u64),
             Op::Declared { index, arity } => (7 + arity.count() as u8, u64::from(index)),
         }
     }

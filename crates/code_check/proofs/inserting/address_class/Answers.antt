@@ -4,7 +4,7 @@ use Rattle.std.proofs.lemmas.Bool.Decides.{eqb_tells}
 use Rattle.std.proofs.lemmas.Result.{IfOk-weaker}
 use Rattle.word_ops.specs.declared.operators.WordOp.TheVariants as ops
 use Rattle.word_ops.specs.declared.sorts.Sort.TheVariants as sorts
-use Rattle.axiom_base.specs.Equations.{constant, w2}
+use Rattle.word_terms.specs.Building.{constant, w2}
 use Rattle.code_check.specs.Terms.{TermState}
 use Rattle.code_check.specs.Classes.{IsTermInserted, AreClassesOf}
 use Rattle.code_check.proofs.inserting.address_class.Goals as goal

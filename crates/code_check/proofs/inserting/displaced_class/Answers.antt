@@ -2,7 +2,7 @@ use Rattle.std.proofs.Common.{◌∷◌, [], refl}
 use Rattle.std.proofs.lemmas.Result.{IfOk-weaker}
 use Rattle.word_ops.specs.declared.sorts.Op.TheVariants.{Word}
 use Rattle.word_ops.specs.declared.sorts.Sort.TheVariants as sorts
-use Rattle.axiom_base.specs.Equations.{constant}
+use Rattle.word_terms.specs.Building.{constant}
 use Rattle.code_check.specs.Classes.{IsRowInserted}
 use Rattle.code_check.proofs.Built.{literal_built, over_two, two_sorted}
 use Rattle.code_check.proofs.inserting.displaced_class.Goals as goal

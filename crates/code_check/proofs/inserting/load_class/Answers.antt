@@ -13,15 +13,15 @@ insert_row-requires-clause-sorts c =
     let ts = c.requires.terms.0 in
     let are = c.requires.terms.1 in
     let second = c.in_ok-address.ensures.built ts c.args.memory are in
-    two_sorted c.address_class.new.graph (operand_sort Select) c.args.memory c.in_ok-address.address (second.keeps c.args.memory sorts.Memory are.memory_is.of_sort) second.of_sort
+    two_sorted c.address_class.new.graph (operand_sort (Select c.args.access)) c.args.memory c.in_ok-address.address (second.keeps c.args.memory sorts.Memory are.memory_is.of_sort) second.of_sort
 
 pub returns-clause-built : goal.returns-clause-built
 returns-clause-built c =
     let old = c.args.graph.now in
     let late = c.address_class.new.graph in
     let new = c.insert_row.new.graph in
-    IfOk-weaker c.insert_row.result (λ k. IsRowInserted late Select (c.args.memory ∷ c.in_ok-address.address ∷ []) k new) _
+    IfOk-weaker c.insert_row.result (λ k. IsRowInserted late (Select c.args.access) (c.args.memory ∷ c.in_ok-address.address ∷ []) k new) _
     (λ k h ts are.
     let second = c.in_ok-address.ensures.built ts c.args.memory are in
-    over_two old old late new Select sorts.Memory sorts.Word sorts.Word ts.memory (address_at (ts.registers c.args.rb) c.args.n) c.args.memory c.in_ok-address.address k refl
+    over_two old old late new (Select c.args.access) sorts.Memory sorts.Word sorts.Word ts.memory (address_at (ts.registers c.args.rb) c.args.n) c.args.memory c.in_ok-address.address k refl
     (memory_built c.more_terms_may_be_inserted.ensures.there old c.args.classes.now c.args.memory ts are) second h) c.insert_row.ensures.row

@@ -1,4 +1,4 @@
-use Rattle.axiom_base.specs.Equations.{constant}
+use Rattle.word_terms.specs.Building.{constant}
 use Rattle.std.proofs.Common.{◌∙◌, [], ap, sym, subst}
 use Rattle.std.proofs.lemmas.Result.{IfOk-weaker}
 use Rattle.word_ops.specs.declared.sorts.Op.TheVariants.{Constant}

@@ -16,7 +16,7 @@ insert_row-requires-clause-sorts c =
     let are = c.requires.terms.1 in
     let second = c.in_ok-address.ensures.built ts c.args.memory are in
     let third = c.in_ok-value.ensures.built ts c.args.memory (are_later c.more_terms_may_be_inserted.ensures.others old mid c.args.classes.now c.args.memory ts sorts.Word (address_at (ts.registers c.args.rb) c.args.n) c.in_ok-address.address second are) in
-    three_sorted c.register_class.new.graph (operand_sort Store) c.args.memory c.in_ok-address.address c.in_ok-value.value
+    three_sorted c.register_class.new.graph (operand_sort (Store c.args.access)) c.args.memory c.in_ok-address.address c.in_ok-value.value
     (third.keeps c.args.memory sorts.Memory (second.keeps c.args.memory sorts.Memory are.memory_is.of_sort)) (third.keeps c.in_ok-address.address sorts.Word second.of_sort) third.of_sort
 
 pub returns-clause-built : goal.returns-clause-built
@@ -25,10 +25,10 @@ returns-clause-built c =
     let mid = c.address_class.new.graph in
     let late = c.register_class.new.graph in
     let new = c.insert_row.new.graph in
-    IfOk-weaker c.insert_row.result (λ k. IsRowInserted late Store (c.args.memory ∷ c.in_ok-address.address ∷ c.in_ok-value.value ∷ []) k new) _
+    IfOk-weaker c.insert_row.result (λ k. IsRowInserted late (Store c.args.access) (c.args.memory ∷ c.in_ok-address.address ∷ c.in_ok-value.value ∷ []) k new) _
     (λ k h ts are.
     let a = address_at (ts.registers c.args.rb) c.args.n in
     let second = c.in_ok-address.ensures.built ts c.args.memory are in
     let third = c.in_ok-value.ensures.built ts c.args.memory (are_later c.more_terms_may_be_inserted.ensures.others old mid c.args.classes.now c.args.memory ts sorts.Word a c.in_ok-address.address second are) in
-    over_three old old mid late new Store sorts.Memory sorts.Word sorts.Word sorts.Memory ts.memory a (ts.registers c.args.ra) c.args.memory c.in_ok-address.address c.in_ok-value.value k refl
+    over_three old old mid late new (Store c.args.access) sorts.Memory sorts.Word sorts.Word sorts.Memory ts.memory a (ts.registers c.args.ra) c.args.memory c.in_ok-address.address c.in_ok-value.value k refl
     (memory_built c.more_terms_may_be_inserted.ensures.there old c.args.classes.now c.args.memory ts are) second third h) c.insert_row.ensures.row

@@ -10,7 +10,7 @@ returns c = record {
       let v = stands.values world is_world (c.axioms_make_rules_true.ensures.true_rules input goal world is_input holds) in
       decided c.steps_add_up.ensures.last c.steps_add_up.ensures.sums c.steps_add_up.ensures.stays world input.ops
       (one_step world names c.displacements_are_low_bits.ensures.low c.displacements_are_low_bits.ensures.high
-      c.meanings_are_in_range.ensures.words c.memories_hold_words.ensures.is_memory)
+      c.meanings_are_in_range.ensures.words c.memories_hold_words.ensures.loaded c.memories_hold_words.ensures.stored)
       words instrs code few (first_values world names is_world) goal places
       (inputs_low goal.inputs goal.pool is_goal.rules.low) low graph v.0 v.1 same;
 }

@@ -7,5 +7,5 @@ pub returns : goal.returns
 returns c = record {
   values = λ world names instrs is wf.
       all_steps world names c.displacements_are_low_bits.ensures.low c.displacements_are_low_bits.ensures.high
-      c.meanings_are_in_range.ensures.words c.memories_hold_words.ensures.is_memory instrs terms_at_entry (entry_state world) wf (first_values world names is);
+      c.meanings_are_in_range.ensures.words c.memories_hold_words.ensures.loaded c.memories_hold_words.ensures.stored instrs terms_at_entry (entry_state world) wf (first_values world names is);
 }

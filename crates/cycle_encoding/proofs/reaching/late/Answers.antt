@@ -1,6 +1,7 @@
-use Rattle.std.proofs.Common.{◌≡◌, ◌+◌, ◌*◌, ◌∙◌, ℕ, false, sym, ap, arith}
+use Rattle.std.proofs.Common.{◌≡◌, ◌≤◌, ◌+◌, ◌*◌, ◌∙◌, ℕ, List, false, length, sym, ap, subst, arith}
 use Rattle.std.specs.Option.{option_map_or}
 use Rattle.std.specs.List.{sum_by}
+use Rattle.std.proofs.lemmas.List.{take_all}
 use Rattle.graph_meaning.specs.Graphs.{is_input_register}
 use Rattle.graph_meaning.specs.declared.graphs.LaunchGraph.{LaunchGraph}
 use Rattle.schedule_meaning.specs.Launches.{class_at, pin_of}
@@ -18,8 +19,12 @@ returns-clause-value c =
     let g = c.args.facts.now in
     let row = c.args.row in
     let i = c.in-Some.instr in
+    let class : c.class_at-class.result ≡ class_at g row = c.class_at-class.ensures ∙ ap (λ (g : LaunchGraph). class_at g row) c.graph.ensures in
+    let end : length (pinned_sets g) ≤ c.loop-set.set-index = subst (λ (js : List ℕ). length js ≤ c.loop-set.set-index) c.pins-set-items.ensures.value c.loop-set-test.false in
+    let all = take_all c.loop-set.set-index (pinned_sets g) end in
     let f : To → ℕ = λ to. one_if (option_map_or (is_input_register g) (pin_of g to) false) in
-    let class : c.class_at.result ≡ class_at g row = c.class_at.ensures ∙ ap (λ (g : LaunchGraph). class_at g row) c.graph.ensures in
-    c.sets_late.ensures.value ∙ ap (λ (n : ℕ). sum_by (λ j. one_if (takes g i n j) * one_if (is_overwriting g j)) (pinned_sets g)) class
+    c.loop-set.invariant.is
+    ∙ ap (λ (js : List ℕ). sum_by (λ j. one_if (takes g i c.class_at-class.result j) * one_if (is_overwriting g j)) js) all
+    ∙ ap (λ (n : ℕ). sum_by (λ j. one_if (takes g i n j) * one_if (is_overwriting g j)) (pinned_sets g)) class
     ∙ none_first (sum_by (λ j. one_if (takes g i (class_at g row) j) * one_if (is_overwriting g j)) (pinned_sets g))
     ∙ sym (sum_all g row f i (sym c.instr_at.ensures ∙ c.in-Some.is) (sym c.gives_word.ensures ∙ c.if-not-gives_word.false))

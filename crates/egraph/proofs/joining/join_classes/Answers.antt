@@ -1,4 +1,4 @@
-use Rattle.std.proofs.Common.{◌≡◌, ℕ, List, map, Option, Some, None, refl, sym, ap, ◌∙◌, inl, inr, subst₂}
+use Rattle.std.proofs.Common.{◌≡◌, ℕ, List, Option, Some, None, refl, sym, ◌∙◌, inl, inr}
 use Rattle.std.specs.Option.{option_map}
 use Rattle.std.specs.Result.{OnOk}
 use Rattle.std.specs.declared.result.Result.{Result}
@@ -7,7 +7,7 @@ use Rattle.slab.specs.Slab.{Slab, get}
 use Rattle.egraph.specs.declared.rows.Row.{Row}
 use Rattle.egraph.specs.Joined.{relabel}
 use Rattle.egraph.specs.Steps.{moved}
-use Rattle.egraph.specs.Tables.{JoinedUp, EachBecomes}
+use Rattle.egraph.specs.Tables.{JoinedUp}
 use Rattle.egraph.proofs.Lists.{moved_cases, map_at_same}
 use Rattle.egraph.proofs.joining.join_classes.Goals as goal
 
@@ -27,18 +27,14 @@ stays_joined {O} x y same rows current = record {
 pub returns-then-x-y-clause-joined : goal.returns-then-x-y-clause-joined
 returns-then-x-y-clause-joined g c = inl (stays_joined c.args.x c.args.y c.if-x-y.true c.args.tables.now.rows c.args.tables.now.current.items)
 
-joined_at : {O : Type 0} (x y : ℕ) {from to : ℕ} → from ≡ x → to ≡ y → (rows rows' : Slab (Row O)) (current current' : List ℕ) → EachBecomes (relabel (moved from to)) rows rows' → current' ≡ map (moved from to) current → JoinedUp x y rows rows' current current'
-joined_at x y ef et rows rows' current current' each e = subst₂ (λ f t. JoinedUp f t rows rows' current current') ef et (record { rows_become = each; current_is = e })
-
 on_both : {T E A B C : Type 0} (r : Result T E) → OnOk r A → OnOk r B → (A → B → C) → OnOk r C
 on_both (Ok t) a b f = f a b
 on_both (Err e) a b f = tt
 
-pub returns-clause-joined : goal.returns-clause-joined
-returns-clause-joined g c =
-    let t = c.args.tables.now in
-    let n = c.join.new.tables in
-    on_both c.join.result c.join.ensures.rows c.join.ensures.current (λ each current. elim c.lighter_first-from.ensures [
-      | inl e ↦ inl (joined_at c.args.x c.args.y (ap (λ p. p.0) e) (ap (λ p. p.1) e) t.rows n.rows t.current.items n.current.items each current)
-      | inr e ↦ inr (joined_at c.args.y c.args.x (ap (λ p. p.0) e) (ap (λ p. p.1) e) t.rows n.rows t.current.items n.current.items each current)
-    ])
+pub returns-then-of_x-of_y-clause-joined : goal.returns-then-of_x-of_y-clause-joined
+returns-then-of_x-of_y-clause-joined g c =
+    on_both c.join.result c.join.ensures.rows c.join.ensures.current (λ each current. inl (record { rows_become = each; current_is = current }))
+
+pub returns-else-of_x-of_y-clause-joined : goal.returns-else-of_x-of_y-clause-joined
+returns-else-of_x-of_y-clause-joined g c =
+    on_both c.join-else-of_x-of_y.result c.join-else-of_x-of_y.ensures.rows c.join-else-of_x-of_y.ensures.current (λ each current. inr (record { rows_become = each; current_is = current }))

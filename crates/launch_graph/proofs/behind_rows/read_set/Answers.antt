@@ -1,8 +1,9 @@
-use Rattle.std.proofs.Common.{◌∙◌, length, sym, subst, Option}
+use Rattle.std.proofs.Common.{◌∙◌, length, sym, ap, subst, Option, Bool, if◌then◌else◌}
 use Rattle.std.specs.Prelude.{MatchOption}
 use Rattle.std.proofs.lemmas.Bool.{false≢true}
 use Rattle.text_core.specs.Lines.{line_at}
 use Rattle.word_ops.specs.declared.sorts.Sort.{Sort}
+use Rattle.word_ops.specs.declared.sorts.Sort.TheVariants as sorts
 use Rattle.graph_meaning.specs.declared.graphs.SetClass.{SetClass}
 use Rattle.launch_graph.specs.BehindRows.{IsRight}
 use Rattle.text_core.specs.LineTexts.{SaysNone}
@@ -11,7 +12,11 @@ use Rattle.launch_graph.specs.RowFaults.{IsWrongClass}
 use Rattle.launch_graph.specs.GraphStages.{pins_among}
 use Rattle.launch_graph.proofs.BehindLines.{stuck, stuck_in, late_guard, repeated_set, wrong_set, wrong_set_class}
 use Rattle.launch_graph.proofs.SetLines.{new_pin}
+use Rattle.launch_graph.proofs.behind_rows.read_set.Goals.{then-is_memory, else-is_memory}
 use Rattle.launch_graph.proofs.behind_rows.read_set.Goals as goal
+
+abbrev sort_for : Bool → Sort
+sort_for memory = if memory then sorts.Memory else sorts.Word
 
 pub returns-then-begins_with-clause-fault : goal.returns-then-begins_with-clause-fault
 returns-then-begins_with-clause-fault c = λ stage takes.
@@ -39,7 +44,7 @@ returns-then-is_wrong-clause-fault c = λ stage takes.
     let s = c.in-Some.set in
     let is = subst (λ (o : Option SetClass). MatchOption o (SaysNone (IsSetLine c.args.version) words) (IsSetLine c.args.version words)) c.in-Some.is c.in_ok-set.ensures in
     wrong_set_class c.operators_are_listed.ensures.names c.args.text.now c.args.marks.now c.args.line c.requires c.args.version s c.line_fault-then-is_wrong.result stage takes
-    is (new_pin (pins_among c.args.sets.now) s.pin (sym c.repeats_pin.ensures ∙ c.if-repeats_pin.false)) (λ all m. subst (λ (sort : Sort). IsWrongClass (length c.args.marks.now) all sort s.class) c.target_sort.ensures ((c.is_wrong.ensures.wrong all m).0 c.if-is_wrong.true))
+    is (new_pin (pins_among c.args.sets.now) s.pin (sym c.repeats_pin.ensures ∙ c.if-repeats_pin.false)) (λ all m. subst (λ (sort : Sort). IsWrongClass (length c.args.marks.now) all sort s.class) (elim c.if-is_memory.branch [ then-is_memory w ↦ w.wanted-is ∙ ap sort_for (sym w.if-is_memory.true ∙ c.is_memory.ensures) | else-is_memory w ↦ w.wanted-is ∙ ap sort_for (sym w.if-is_memory.false ∙ c.is_memory.ensures) ]) ((c.is_wrong.ensures.wrong all m).0 c.if-is_wrong.true))
     c.line_fault-then-is_wrong.ensures)
 
 pub returns-clause-ok : goal.returns-clause-ok
@@ -49,6 +54,6 @@ returns-clause-ok c =
     record {
       is = subst (λ (o : Option SetClass). MatchOption o (SaysNone (IsSetLine c.args.version) words) (IsSetLine c.args.version words)) c.in-Some.is c.in_ok-set.ensures;
       pin = new_pin (pins_among c.args.sets.now) s.pin (sym c.repeats_pin.ensures ∙ c.if-repeats_pin.false);
-      right = subst (λ (sort : Sort). IsRight c.args.marks.now sort s.class) c.target_sort.ensures
+      right = subst (λ (sort : Sort). IsRight c.args.marks.now sort s.class) (elim c.if-is_memory.branch [ then-is_memory w ↦ w.wanted-is ∙ ap sort_for (sym w.if-is_memory.true ∙ c.is_memory.ensures) | else-is_memory w ↦ w.wanted-is ∙ ap sort_for (sym w.if-is_memory.false ∙ c.is_memory.ensures) ])
           (λ all m bad. false≢true (sym c.if-is_wrong.false ∙ (c.is_wrong.ensures.wrong all m).1 bad));
     }

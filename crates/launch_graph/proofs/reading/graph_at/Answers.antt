@@ -1,9 +1,9 @@
-use Rattle.std.proofs.Common.{◌+◌, ◌-◌, take, drop, sym, subst, ◌∙◌}
+use Rattle.std.proofs.Common.{◌+◌, ◌-◌, ◌<◌, min, length, take, drop, ap, sym, subst, ◌∙◌}
 use Rattle.std.proofs.lemmas.Result.{err_from_is_err_and}
 use Rattle.launch_graph.specs.BehindRows.{IsCleanBehindRows, IsReadBehind}
 use Rattle.launch_graph.specs.ClassMarks.{HasMarks}
 use Rattle.launch_graph.specs.GraphStages.{rows}
-use Rattle.launch_graph.proofs.WholeReading.{block, behind_within, behind_here, graph_here}
+use Rattle.launch_graph.proofs.WholeReading.{block, block_ends, behind_within, behind_here, graph_here}
 use Rattle.launch_graph.proofs.reading.graph_at.Goals as goal
 
 pub returns-in_err-count-clause-fault : goal.returns-in_err-count-clause-fault
@@ -17,18 +17,20 @@ returns-in_err-so_far-clause-fault c =
     let lines = c.args.text.now in
     let from = c.args.from in
     let count = c.in_ok-count.count in
-    let end = c.block_end-end.result in
+    let end = from + 1 + c.min.result in
+    let low : from < length lines = c.in_ok-count.ensures.header.within in
     let m = subst (HasMarks (take (end - (from + 1)) (drop (from + 1) lines)) count) (sym c.deref.ensures.value) c.in_ok-marks.ensures in
-    rw (p.1, p.2) (c.in_err-so_far.ensures.fault c.args.version from m.rows (block lines from count c.deref.result.now c.in_ok-count.ensures.header end c.block_end-end.ensures m))
+    rw (p.1, p.2) (c.in_err-so_far.ensures.fault c.args.version from m.rows (block lines from count c.deref.result.now c.in_ok-count.ensures.header end (block_ends lines from count c.min.result low (c.min.ensures ∙ ap (λ n. min count (n - (from + 1))) c.count.ensures.count)) m))
 
 pub read_behind-requires : goal.read_behind-requires
 read_behind-requires c =
     let lines = c.args.text.now in
     let from = c.args.from in
     let count = c.in_ok-count.count in
-    let end = c.block_end-end.result in
+    let end = from + 1 + c.min.result in
+    let low : from < length lines = c.in_ok-count.ensures.header.within in
     let m = subst (HasMarks (take (end - (from + 1)) (drop (from + 1) lines)) count) (sym c.deref.ensures.value) c.in_ok-marks.ensures in
-    behind_within c.operators_are_listed.ensures.names lines from count c.deref.result.now c.in_ok-count.ensures.header end c.block_end-end.ensures m
+    behind_within c.operators_are_listed.ensures.names lines from count c.deref.result.now c.in_ok-count.ensures.header end (block_ends lines from count c.min.result low (c.min.ensures ∙ ap (λ n. min count (n - (from + 1))) c.count.ensures.count)) m
     c.in_ok-so_far.so_far c.in_ok-so_far.ensures.ok c.args.version
 
 pub returns-in_err-behind-clause-fault : goal.returns-in_err-behind-clause-fault
@@ -37,12 +39,13 @@ returns-in_err-behind-clause-fault c =
     let lines = c.args.text.now in
     let from = c.args.from in
     let count = c.in_ok-count.count in
-    let end = c.block_end-end.result in
+    let end = from + 1 + c.min.result in
+    let low : from < length lines = c.in_ok-count.ensures.header.within in
     let m = subst (HasMarks (take (end - (from + 1)) (drop (from + 1) lines)) count) (sym c.deref.ensures.value) c.in_ok-marks.ensures in
     rw (p.1, p.2)
     (c.in_err-behind.ensures.fault from m.rows
     (subst (λ ms. IsCleanBehindRows c.args.version lines from m.rows ms (from + 1 + count) (rows 0)) (c.deref.ensures.value ∙ sym c.deref-2.ensures.value)
-    (behind_here c.operators_are_listed.ensures.names lines from count c.deref.result.now c.in_ok-count.ensures.header end c.block_end-end.ensures m
+    (behind_here c.operators_are_listed.ensures.names lines from count c.deref.result.now c.in_ok-count.ensures.header end (block_ends lines from count c.min.result low (c.min.ensures ∙ ap (λ n. min count (n - (from + 1))) c.count.ensures.count)) m
     c.in_ok-so_far.so_far c.in_ok-so_far.ensures.ok c.args.version)))
 
 pub returns-clause-graph : goal.returns-clause-graph
@@ -50,9 +53,10 @@ returns-clause-graph c =
     let lines = c.args.text.now in
     let from = c.args.from in
     let count = c.in_ok-count.count in
-    let end = c.block_end-end.result in
+    let end = from + 1 + c.min.result in
+    let low : from < length lines = c.in_ok-count.ensures.header.within in
     let m = subst (HasMarks (take (end - (from + 1)) (drop (from + 1) lines)) count) (sym c.deref.ensures.value) c.in_ok-marks.ensures in
-    graph_here c.operators_are_listed.ensures.names lines from count c.deref.result.now c.in_ok-count.ensures.header end c.block_end-end.ensures m
+    graph_here c.operators_are_listed.ensures.names lines from count c.deref.result.now c.in_ok-count.ensures.header end (block_ends lines from count c.min.result low (c.min.ensures ∙ ap (λ n. min count (n - (from + 1))) c.count.ensures.count)) m
     c.in_ok-so_far.so_far c.in_ok-so_far.ensures.ok c.args.version c.in_ok-behind.behind c.in_ok-behind.next
     (subst (λ ms. IsReadBehind c.args.version lines ms (from + 1 + count) c.in_ok-behind.next c.in_ok-behind.behind) (c.deref-2.ensures.value ∙ sym c.deref.ensures.value)
     c.in_ok-behind.ensures.ok)

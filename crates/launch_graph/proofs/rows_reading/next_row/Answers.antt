@@ -1,14 +1,12 @@
-use Rattle.std.proofs.Common.{◌≡◌, ℕ, List, [], ◌∷◌, ◌++◌, length, refl, sym, ap, subst, ◌∙◌, arith, Option, Some, Bool, true, false}
-use Rattle.std.specs.Prelude.{MatchOption, Contains, slice_get}
+use Rattle.std.proofs.Common.{◌≡◌, ℕ, List, [], ◌∷◌, ◌++◌, length, refl, sym, ap, subst, ◌∙◌, arith, Option, Bool, true, false}
+use Rattle.std.specs.Prelude.{MatchOption, Contains}
 use Rattle.std.proofs.lemmas.Bool.{false≢true}
-use Rattle.std.proofs.lemmas.Option.{same_Some}
 use Rattle.text_core.specs.Faults.{IsFaultBy}
 use Rattle.text_core.specs.Lines.{line_at}
-use Rattle.word_ops.specs.Operators.{number_of, operators}
-use Rattle.word_ops.specs.declared.operators.WordOp.{WordOp}
 use Rattle.word_ops.specs.declared.sorts.Op.{Op}
 use Rattle.std.specs.Vec.{with_items}
 use Rattle.std.proofs.lemmas.List.{with_items_is}
+use Rattle.graph_meaning.specs.declared.graphs.LaunchRow.{LaunchRow}
 use Rattle.launch_graph.specs.declared.row_lines.RowLine.{RowLine}
 use Rattle.launch_graph.specs.declared.rows_reading.RowsSoFar.{RowsSoFar}
 use Rattle.launch_graph.specs.LineFaults.{IsFirstFaultOf}
@@ -20,11 +18,6 @@ use Rattle.launch_graph.specs.SeenRows.{IsSeen}
 use Rattle.launch_graph.proofs.FewOperands.{few_more, count_is}
 use Rattle.launch_graph.proofs.NextRow.{no_row_first, no_number_first, not_fresh_first, class_first, row_read}
 use Rattle.launch_graph.proofs.rows_reading.next_row.Goals as goal
-
--- two operators of one number are one
-by_numbers : ((op : WordOp) (n : ℕ) → ((slice_get operators n ≡ Some op) → (n ≡ number_of op)) × ((n ≡ number_of op) → (slice_get operators n ≡ Some op)))
-    → (o p : WordOp) → number_of o ≡ number_of p → o ≡ p
-by_numbers law o p e = same_Some o p (sym ((law o (number_of o)).1 refl) ∙ (law p (number_of o)).1 e)
 
 false_not_true : (b : Bool) → b ≡ false → b ≡ true → {P : Type 0} → P
 false_not_true b e f = absurd (false≢true (sym e ∙ f))
@@ -39,7 +32,7 @@ returns-in_default-clause-fault c = λ version from all before a more.
     let none = subst (λ (o : Option RowLine). MatchOption o ((row : RowLine) → IsRowLine words row → ⊥) (IsOnlyRow words)) c.in_default.is c.in_ok-row.ensures in
     let f = c.line_fault.ensures in
     subst (IsFaultBy (IsFirstFaultOf version c.args.text.now from)) (sym f.is)
-    (no_row_first laws.names (by_numbers laws.numbers) c.args.text.now from all before c.args.marks.now c.args.line c.args.so_far.now a more c.requires.line f.place f.placed none))
+    (no_row_first laws.names c.args.text.now from all before c.args.marks.now c.args.line c.args.so_far.now a more c.requires.line f.place f.placed none))
 
 pub returns-in_default-2-clause-fault : goal.returns-in_default-2-clause-fault
 returns-in_default-2-clause-fault c = λ version from all before a more.
@@ -51,7 +44,7 @@ returns-in_default-2-clause-fault c = λ version from all before a more.
     let none = subst (λ (o : Option Op). MatchOption o (HasNoNumber used row.op c.len.result) (IsNumberedOp used c.numbered_op.new.used row.op c.len.result)) c.in_default-2.is c.in_ok-op.ensures in
     let f = c.line_fault-in_default-2.ensures in
     subst (IsFaultBy (IsFirstFaultOf version c.args.text.now from)) (sym f.is)
-    (no_number_first laws.names (by_numbers laws.numbers) c.args.text.now from all before c.args.marks.now c.args.line c.args.so_far.now a more c.requires.line f.place f.placed row is.is
+    (no_number_first laws.names c.args.text.now from all before c.args.marks.now c.args.line c.args.so_far.now a more c.requires.line f.place f.placed row is.is
     (subst (HasNoNumber used row.op) c.len.ensures none)))
 
 pub returns-then-not-fresh-clause-fault : goal.returns-then-not-fresh-clause-fault
@@ -70,7 +63,7 @@ returns-then-not-fresh-clause-fault c = λ version from all before a more.
     let there : Contains c.args.so_far.now.index (row_key op row.operands) =
     subst (Contains c.args.so_far.now.index) key (c.in_ok-fresh.ensures.there (not_true c.in_ok-fresh.fresh c.if-not-fresh.true)) in
     subst (IsFaultBy (IsFirstFaultOf version c.args.text.now from)) (sym f.is)
-    (not_fresh_first laws.names (by_numbers laws.numbers) c.args.text.now from all before c.args.marks.now c.args.line c.args.so_far.now a more c.requires.line f.place f.placed row is.is
+    (not_fresh_first laws.names c.args.text.now from all before c.args.marks.now c.args.line c.args.so_far.now a more c.requires.line f.place f.placed row is.is
     new op n there (count_is used new row.op (length row.operands) op n)))
 
 pub returns-then-bad-clause-fault : goal.returns-then-bad-clause-fault
@@ -92,7 +85,7 @@ returns-then-bad-clause-fault c = λ version from all before a more.
     (c.has_bad_class-bad.ensures.bad all before a.marks_are
     (subst (IsSeen (length c.args.marks.now) before c.args.so_far.now.next) (sym c.as_slice-2.ensures.value) a.seen)).0 c.if-bad.true in
     subst (IsFaultBy (IsFirstFaultOf version c.args.text.now from)) (sym f.is)
-    (class_first laws.names (by_numbers laws.numbers) c.args.text.now from all before c.args.marks.now c.args.line c.args.so_far.now a more c.requires.line f.place f.placed row is.is
+    (class_first laws.names c.args.text.now from all before c.args.marks.now c.args.line c.args.so_far.now a more c.requires.line f.place f.placed row is.is
     new op n fresh bad))
 
 pub returns-clause-few : goal.returns-clause-few
@@ -117,8 +110,8 @@ returns-clause-ok c = λ version from all before a more.
     let key = c.row_key.ensures ∙ ap (row_key op) c.as_slice.ensures in
     let fresh : Contains c.args.so_far.now.index (row_key op row.operands) → ⊥ =
     subst (λ k. Contains c.args.so_far.now.index k → ⊥) key (c.in_ok-fresh.ensures.fresh.0 c.if-not-fresh.false) in
-    let made = c.in_ok-launch_row.field-0 in
-    let m = c.in_ok-launch_row.ensures in
+    let name = c.in_ok-name_of_op.field-0 in
+    let made : LaunchRow = record { class = row.class; op = op; name = name; operands = row.operands } in
     let seen_before = subst (IsSeen (length c.args.marks.now) before c.args.so_far.now.next) (sym c.as_slice-2.ensures.value) a.seen in
     let right : IsBadClass (length c.args.marks.now) all before row → ⊥ =
     λ bad. false≢true (sym c.if-bad.false ∙ (c.has_bad_class-bad.ensures.bad all before a.marks_are seen_before).1 bad) in
@@ -139,10 +132,10 @@ returns-clause-ok c = λ version from all before a more.
       rows = c.push.new.self;
     } in (
       row,
-      row_read laws.names (by_numbers laws.numbers) c.args.text.now from all before c.args.marks.now c.args.line c.args.so_far.now a more c.requires.line
+      row_read laws.names c.args.text.now from all before c.args.marks.now c.args.line c.args.so_far.now a more c.requires.line
           (line_at c.args.text.now c.args.line).place
           (record { within = λ l. refl; past = λ e. absurd (let l = c.requires.line in omega (arith, l, e)) })
-          row is.is new op n fresh right made m.class m.op m.name m.operands so' refl
+          row is.is new op n fresh right made refl refl c.in_ok-name_of_op.ensures refl so' refl
           (c.in_ok-fresh.ensures.new c.if-not-fresh.false ∙ ap (λ x. c.args.so_far.now.index ++ x ∷ []) key) c.in_ok-push.ensures.ok
           (subst (IsSeen (length c.args.marks.now) (before ++ row ∷ []) c.see_row-so_far.result) (sym (with_items_is c.args.so_far.now.constants c.see_row-so_far.new.constants
           (c.see_row-so_far.ensures.size ∙ ap length k ∙ sym c.args.so_far.now.constants.ok.0))) seen),

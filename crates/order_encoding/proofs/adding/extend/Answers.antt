@@ -1,14 +1,11 @@
-use Rattle.std.proofs.Common.{◌≡◌, ◌∙◌, ◌+◌, ◌≤◌, List, ap, sym, subst, arith}
-use Rattle.std.specs.Prelude.{length, is_some}
-use Rattle.std.specs.List.{range_with_len}
+use Rattle.std.proofs.Common.{◌≡◌, ◌∙◌, ◌≤◌, List, ap, sym, subst, arith}
+use Rattle.std.specs.Prelude.{length}
 use Rattle.cnf_core.specs.Formula.{Formula}
 use Rattle.schedule_meaning.specs.declared.schedules.Launch.{Launch}
 use Rattle.cycle_encoding.specs.CycleFormula.{before_overwritten, cycle_formula, listed_in}
 use Rattle.cycle_encoding.specs.Plans.{IsTooLarge}
-use Rattle.cycle_encoding.specs.Shapes.{when}
-use Rattle.cycle_encoding.specs.Variables.{all_overwritten}
 use Rattle.cycle_encoding.proofs.Built.{on_ok_more}
-use Rattle.order_encoding.specs.WholeFormula.{KnowsOverwritten, guard_formula, memory_formula, pool_formula, whole_formula, with_part}
+use Rattle.order_encoding.specs.WholeFormula.{KnowsOverwritten, guard_formula, memory_formula, pool_formula, with_part}
 use Rattle.order_encoding.specs.declared.adding.Part.TheVariants.{Memory, Guard, Pool, Pins}
 use Rattle.order_encoding.proofs.Composed.{come_within, memory_less, over_within}
 use Rattle.order_encoding.proofs.Limits.{guard_is, memory_is, pins_is, pool_is, within_vars}

@@ -2,11 +2,21 @@ use Rattle.std.proofs.Common.{sym, ap, ◌∙◌, Option, false}
 use Rattle.std.specs.Option.{option_map_or}
 use Rattle.machine_table.specs.declared.tables.InstrKind.{InstrKind}
 use Rattle.schedule_meaning.specs.Launches.{is_store}
+use Rattle.cycle_encoding.proofs.Choices.{added, kept}
 use Rattle.order_encoding.proofs.Found.{found_step, found_none}
+use Rattle.order_encoding.proofs.kinds.stores.Goals.{then-is_store+in_ok-push, else-is_store}
 use Rattle.order_encoding.proofs.kinds.stores.Goals as goal
 
 pub loop-index-preserved : goal.loop-index-preserved
-loop-index-preserved c = found_step c.args.facts.now is_store c.args.launches.now c.loop-index.index _ c.is_store-passes.result c.loop-index.found.items c.push_if.new.found.items c.loop-index-test.true (c.is_store-passes.ensures ∙ ap (λ (i : Option InstrKind). option_map_or is_store i false) c.instr_at.ensures) c.loop-index.invariant c.in_ok-push_if.ensures
+loop-index-preserved c =
+    let b = c.is_store.result in
+    let mid = c.loop-index.found.items in
+    let now = c.if-is_store.found.items in
+    found_step c.args.facts.now is_store c.args.launches.now c.loop-index.index _ b mid now c.loop-index-test.true (c.is_store.ensures ∙ ap (λ (i : Option InstrKind). option_map_or is_store i false) c.instr_at.ensures) c.loop-index.invariant
+    (elim c.if-is_store.branch [
+      | then-is_store+in_ok-push w ↦ added b mid _ now w.if-is_store.true (ap (λ o. o.items) w.found-is ∙ w.in_ok-push.ensures.items)
+      | else-is_store w ↦ kept b mid _ now w.if-is_store.false (ap (λ o. o.items) w.found-is)
+    ])
 
 pub loop-index-init : goal.loop-index-init
 loop-index-init c = c.new-found.ensures.items ∙ sym (found_none c.args.facts.now is_store)

@@ -10,7 +10,6 @@ use Rattle.cnf_core.specs.Refutation.{HaveDifferentVars}
 use Rattle.cnf_core.specs.Values.{IsClosed}
 use Rattle.sat_core.specs.declared.trail.Step.{Step}
 use Rattle.sat_core.specs.declared.trail.Value.{Value}
-use Rattle.sat_core.specs.declared.watches.Watches.{Watches}
 use Rattle.sat_core.specs.Steps.{truth_value, assignment_of, var_count, IsTrailState}
 use Rattle.sat_core.specs.Walks.{AreNoMarks}
 use Rattle.sat_core.specs.Watches.{AreWatched, KeepWatches}
@@ -37,8 +36,8 @@ loop-made-init g c =
           (subst (λ (n : ℕ). AreWatched clauses n [] c.in_ok-watches.watches) (c.vars-2.ensures.value ∙ sym c.vars.ensures.value ∙ sym size) (c.in_ok-watches.ensures clauses)));
       scored =
           (let size = (c.in_ok-trail.ensures.state clauses).size in
-          subst (λ (ls : List Line). AreScores (var_count trail) c.args.scores.now ls c.in_ok-tally.tally.counts.items) (sym c.new-lines.ensures)
-          (scores-none (var_count trail) c.args.scores.now c.in_ok-tally.tally.counts.items c.in_ok-tally.ensures (c.requires.scores ∙ sym c.vars.ensures.value ∙ sym size)
+          subst (λ (ls : List Line). AreScores (var_count trail) c.args.scores.now ls c.in_ok-counts.counts.items) (sym c.new-lines.ensures)
+          (scores-none (var_count trail) c.args.scores.now c.in_ok-counts.counts.items (search rules) (c.requires.scores ∙ sym c.vars.ensures.value ∙ sym size)
           (λ k few. (c.type_inv.scores k).fits)));
       unmarked =
           (let size = (c.in_ok-trail.ensures.state clauses).size in
@@ -108,10 +107,10 @@ loop-made-preserved g c =
           let more = kept-more clauses (line.lits ∷ []) n steps old.lists.items old.pairs.items (min old.head (length steps)) cut in
           let size = c.in_ok-line-in-Some.ensures.size ∙ c.in_ok-advance.ensures.state.size in
           let m = var_count c.learn.new.trail in
-          subst (λ (x : Watches). AreWatched c.push.new.self m steps x) (sym c.take_back.ensures)
-          (subst (λ (k : ℕ). KeepWatches c.push.new.self m steps old.lists.items old.pairs.items (min old.head k)) (sym (c.len.ensures ∙ c.learn.new.trail.steps.ok.0))
+          subst (λ (k : ℕ). KeepWatches c.push.new.self m steps old.lists.items old.pairs.items k)
+          (sym (c.min.ensures ∙ ap (λ (k : ℕ). min old.head k) (c.len.ensures ∙ c.learn.new.trail.steps.ok.0)))
           (subst (λ (cs : List (List Lit)). KeepWatches cs m steps old.lists.items old.pairs.items (min old.head (length steps))) (sym is-clauses)
-          (subst (λ (k : ℕ). KeepWatches (clauses ++ line.lits ∷ []) k steps old.lists.items old.pairs.items (min old.head (length steps))) (sym size) more))));
+          (subst (λ (k : ℕ). KeepWatches (clauses ++ line.lits ∷ []) k steps old.lists.items old.pairs.items (min old.head (length steps))) (sym size) more)));
       scored =
           (let n = var_count c.loop-made.trail in
           let counts = c.advance.new.scores.counts.items in

@@ -1,4 +1,4 @@
-use Rattle.std.proofs.Common.{◌≡◌, [], ◌∷◌, ◌++◌, map, length, slice_index, All, Some, IsSome, refl, sym, subst, ap, ◌∙◌, inl, inr}
+use Rattle.std.proofs.Common.{rules, ◌≡◌, [], ◌∷◌, ◌++◌, map, length, slice_index, All, Some, IsSome, refl, sym, subst, ap, ◌∙◌, inl, inr}
 use Rattle.slab.specs.Slab.{get}
 use Rattle.word_ops.specs.Worlds.{Value}
 use Rattle.egraph.specs.declared.rows.Row.{Row}
@@ -77,7 +77,7 @@ stays : goal.returns-clause-graph
 stays g c =
     let s = g.O.Operator.signature in
     let is : IsGraph s c.args.self.now = subst (IsGraph s) c.self.view_is c.self.invariant.graph in
-    stays_graph s c.args.self.now is c.args.op c.args.operands.now c.requires.arity c.requires.made c.requires.sorts c.has_word_constant.ensures c.requires.few c.len-class.result _ (returns-clause-ok g c)
+    stays_graph s c.args.self.now is c.args.op c.args.operands.now c.requires.arity c.requires.made c.requires.sorts (search rules) c.requires.few c.len-class.result _ (returns-clause-ok g c)
 
 pub returns-clause-graph : goal.returns-clause-graph
 returns-clause-graph g c = stays g c

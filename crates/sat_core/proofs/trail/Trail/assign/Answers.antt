@@ -1,13 +1,23 @@
-use Rattle.std.proofs.Common.{◌-◌, ℕ, [], ◌++◌, ap, ◌∙◌, refl}
+use Rattle.std.proofs.Common.{◌-◌, ℕ, [], ◌∷◌, ◌++◌, length, ap, ◌∙◌, refl}
 use Rattle.std.specs.Prelude.{slice_set}
 use Rattle.sat_core.proofs.States.{steps-push}
-use Rattle.sat_core.specs.Steps.{var_count, with_decision}
+use Rattle.sat_core.proofs.Deciding.{push-with, stay-with}
+use Rattle.sat_core.specs.Steps.{var_count}
 use Rattle.sat_core.proofs.trail.Trail.assign.Goals as goal
 
-pub returns-clause-state : goal.returns-clause-state
-returns-clause-state c = λ clauses h right.
-    let steps = c.args.self.now.steps.items in
-    let size = c.len-place.ensures ∙ c.args.self.now.steps.ok.0 in
-    steps-push clauses (var_count c.args.self.now) steps _ c.args.self.now.values.items _ c.args.self.now.indices.items _ c.args.self.now.decisions.items _ c.args.step c.of.result c.of.ensures c.requires.exist
-    c.in_ok-push.ensures.items refl (ap (λ (n : ℕ). slice_set c.args.self.now.indices.items (c.args.step.lit.var - 1) n) size)
-    (c.in_ok-add_decision.ensures ∙ ap (λ (n : ℕ). c.args.self.now.decisions.items ++ with_decision c.args.step.reason n []) size) h right
+pub returns-in_ok-push-2-clause-state : goal.returns-in_ok-push-2-clause-state
+returns-in_ok-push-2-clause-state c = λ clauses h right.
+    let old = c.args.self.now in
+    let size = c.len-place.ensures ∙ old.steps.ok.0 in
+    steps-push clauses (var_count old) old.steps.items _ old.values.items _ old.indices.items _ old.decisions.items _ c.args.step c.of.result c.of.ensures c.requires.exist
+    c.in_ok-push.ensures.items refl (ap (λ (n : ℕ). slice_set old.indices.items (c.args.step.lit.var - 1) n) size)
+    (push-with c.args.step.reason c.is_none.result (length old.steps.items) old.decisions.items _ c.is_none.ensures c.if-is_none.true
+    (c.in_ok-push-2.ensures.items ∙ ap (λ (n : ℕ). old.decisions.items ++ n ∷ []) size)) h right
+
+pub returns-else-is_none-clause-state : goal.returns-else-is_none-clause-state
+returns-else-is_none-clause-state c = λ clauses h right.
+    let old = c.args.self.now in
+    let size = c.len-place.ensures ∙ old.steps.ok.0 in
+    steps-push clauses (var_count old) old.steps.items _ old.values.items _ old.indices.items _ old.decisions.items _ c.args.step c.of.result c.of.ensures c.requires.exist
+    c.in_ok-push.ensures.items refl (ap (λ (n : ℕ). slice_set old.indices.items (c.args.step.lit.var - 1) n) size)
+    (stay-with c.args.step.reason c.is_none.result (length old.steps.items) old.decisions.items c.is_none.ensures c.if-is_none.false) h right

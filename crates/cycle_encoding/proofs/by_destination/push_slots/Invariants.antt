@@ -1,6 +1,0 @@
-use Rattle.std.proofs.Common.{◌≡◌, ◌++◌}
-use Rattle.cycle_encoding.specs.Facts.{destined_slots}
-use Rattle.cycle_encoding.proofs.by_destination.push_slots.Given as goal
-
-abbrev pub invariant-loop-slot : goal.invariant-loop-slot
-invariant-loop-slot l = l.launches.items ≡ l.initial.launches.items ++ destined_slots l.table l.instr l.row l.first l.cycles l.tos l.slot

@@ -1,8 +1,0 @@
-use Rattle.std.proofs.Common.{◌≡◌, ◌≤◌, ◌+◌, ◌++◌, take, map, length}
-use Rattle.std.specs.List.{filter}
-use Rattle.schedule_meaning.specs.declared.schedules.To.TheVariants.{Set}
-use Rattle.cycle_encoding.specs.Variables.{takes, pinned_sets}
-use Rattle.cycle_encoding.proofs.reaching.push_sets.Given as goal
-
-abbrev pub invariant-loop-set : goal.invariant-loop-set
-invariant-loop-set l = record { are : l.tos.items ≡ l.initial.tos.items ++ map Set (filter (takes l.facts l.instr l.class) (take l.set-index (pinned_sets l.facts))); few : length l.tos.items ≤ length l.initial.tos.items + l.set-index }

@@ -1,6 +1,0 @@
-use Rattle.std.proofs.Common.{◌≡◌, ◌++◌}
-use Rattle.cycle_encoding.specs.Steps.{clusters_seen}
-use Rattle.cycle_encoding.proofs.seen.push_clusters.Given as goal
-
-abbrev pub invariant-loop-cluster : goal.invariant-loop-cluster
-invariant-loop-cluster l = l.seen.items ≡ l.initial.seen.items ++ clusters_seen l.table l.k l.cluster l.class

@@ -1,7 +1,0 @@
-use Rattle.std.proofs.Common.{◌≡◌, take}
-use Rattle.std.specs.Prelude.{count_by}
-use Rattle.schedule_meaning.specs.Launches.{launches, is_branch}
-use Rattle.schedule_meaning.proofs.testing.branches.Given as goal
-
-abbrev pub invariant-loop-launch : goal.invariant-loop-launch
-invariant-loop-launch l = l.count ≡ count_by (launches l.graph is_branch) (take l.launch-index l.list)
