@@ -109,7 +109,7 @@ fn terms_that_differ_are_not_the_same(rt: HostRuntime) {
     assert!(rt; !same(&one, &leaf(alloc, Op::Constant(1))));
     assert!(rt;
         !same(
-            &leaf(alloc, Op::Select),
+            &leaf(alloc, Op::Select(Access::Quad)),
             &of_two(alloc, Op::Select(Access::Quad), Term::Var(0), Term::Var(1)).expect(
                 &rt, "memory"
             )
