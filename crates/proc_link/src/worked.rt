@@ -28,7 +28,7 @@ pub fn worked_links()
 {}
 
 /// The loop copies two words in two steps of the block machine, and the third step leaves it.
-#[tactic(auto, unfolding(word_ops::specs::Operators::value_at, word_ops::specs::Values::addq, word_ops::specs::Values::cmpult))]
+#[tactic(auto, unfolding(word_ops::specs::Operators::value_at, word_ops::specs::Operators::operate_value, word_ops::specs::Values::addq, word_ops::specs::Values::cmpult))]
 pub fn worked_steps()
     ensures p { (block_steps 3 copy_proc (begun copy_proc (with_registers 64 128 80 copy_memory))).words (codes "p") ≡ 80 }
     ensures q { (block_steps 3 copy_proc (begun copy_proc (with_registers 64 128 80 copy_memory))).words (codes "q") ≡ 144 }
