@@ -29,11 +29,11 @@ memory_text name ra rb disp =
     name ++ register ra ++ codes ", " ++ signed_decimal disp ++ codes "(" ++ register rb ++ codes ")"
 
 -- the mnemonic of a load and of a store, and a space
-abbrev pub load_name : Access → List ℕ
-load_name Quad = codes "ldq_u "
+abbrev pub load_mnemonic : Access → List ℕ
+load_mnemonic Quad = codes "ldq_u "
 
-abbrev pub store_name : Access → List ℕ
-store_name Quad = codes "stq_u "
+abbrev pub store_mnemonic : Access → List ℕ
+store_mnemonic Quad = codes "stq_u "
 
 abbrev pub operate_text : OperateOf → ℕ → Second → ℕ → List ℕ
 operate_text op ra second rc =
@@ -46,6 +46,6 @@ abbrev pub text_of : Instr → List ℕ
 text_of (Operate op ra second rc) = operate_text op ra second rc
 text_of (Lda ra rb disp) = memory_text (codes "lda ") ra rb disp
 text_of (Ldah ra rb disp) = memory_text (codes "ldah ") ra rb disp
-text_of (Load access ra rb disp) = memory_text (load_name access) ra rb disp
-text_of (Store access ra rb disp) = memory_text (store_name access) ra rb disp
+text_of (Load access ra rb disp) = memory_text (load_mnemonic access) ra rb disp
+text_of (Store access ra rb disp) = memory_text (store_mnemonic access) ra rb disp
 text_of (Beq ra disp) = branch_text ra disp

@@ -23,8 +23,8 @@ second_value (Reg r) registers = slice_index registers r
 second_value (Literal n) registers = n
 
 -- an operate of one operand takes it from its second place
-abbrev pub operate_value : OperateOf → ℕ → ℕ → ℕ
-operate_value op a b =
+abbrev pub operate_result : OperateOf → ℕ → ℕ → ℕ
+operate_result op a b =
     if is_unary op then value_at (words.Operate op) b 0 0 else value_at (words.Operate op) a b 0
 
 -- base + scale * displacement, modulo 2 ^ 64
@@ -41,7 +41,7 @@ with_register s r v = record { registers = written s.registers r v; memory = s.m
 -- the state after one instruction
 abbrev pub step : Instr → MachineState → MachineState
 step (Operate op ra second rc) s =
-    with_register s rc (operate_value op (slice_index s.registers ra) (second_value second s.registers))
+    with_register s rc (operate_result op (slice_index s.registers ra) (second_value second s.registers))
 step (Lda ra rb disp) s = with_register s ra (address (slice_index s.registers rb) 1 disp)
 step (Ldah ra rb disp) s = with_register s ra (address (slice_index s.registers rb) 65536 disp)
 step (Load access ra rb disp) s =

@@ -6,7 +6,7 @@ ghost use Rattle.word_ops.specs.Words.{IsWord};
 ghost use Rattle.alpha_machine.specs.States.{IsState};
 ghost use Rattle.alpha_machine.specs.Steps as steps;
 
-use crate::values::{address, operate_value};
+use crate::values::{address, operate_result};
 use alpha_encode::{Instr, Second};
 use items::NoMemory;
 use std::marker::Model;
@@ -104,7 +104,7 @@ impl State {
         ensures { self.new ≡ steps.step (instructions.Operate op ra second rc) self.old }
     {
         let second = self.second(second);
-        let value = operate_value(op, self.register(ra), second);
+        let value = operate_result(op, self.register(ra), second);
         self.write(rc, value);
     }
 

@@ -5,8 +5,8 @@ ghost use Rattle.alpha_machine.specs.Steps as steps;
 use word_ops::{Operate, WordOp, apply};
 
 /// The value of an operate. One of a single operand has that operand as its second.
-pub(crate) fn operate_value(op: Operate, first: u64, second: u64) -> u64
-    ensures { result ≡ steps.operate_value op first second }
+pub(crate) fn operate_result(op: Operate, first: u64, second: u64) -> u64
+    ensures { result ≡ steps.operate_result op first second }
 {
     if op.arity() == 1 {
         apply(WordOp::Operate(op), &[second])

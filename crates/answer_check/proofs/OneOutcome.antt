@@ -1,6 +1,7 @@
 -- A claimed goal has one verdict at most.
 use Rattle.std.proofs.Common.{◌≡◌, ℕ, ◌<◌, ◌≤◌, List, Option, Some, None, length, refl, sym, ap, subst, ◌∙◌, arith}
 use Rattle.std.specs.Prelude.{IfSome, IsSomeAnd}
+use Rattle.schedule_meaning.specs.Limits.{most_cycles}
 use Rattle.cnf_core.specs.Formula.{Formula}
 use Rattle.cnf_core.specs.Refutation.{Refutes, AreLemmas, IsFirstRefusal, IsEmptyOnlyLast, IsFilled}
 use Rattle.cnf_core.specs.declared.line.Lines.{Lines}
@@ -187,14 +188,14 @@ worldless version c g class a b (worked world graph formed unpinned fits refute)
 
 -- ---- two functions that give the same clauses for as many cycles as may be asked for
 
-few_cycles : (claim : Claim) → FitsClaim claim → refuted_cycles claim ≤ 24
+few_cycles : (claim : Claim) → FitsClaim claim → refuted_cycles claim ≤ most_cycles
 few_cycles (NoWorld class x y) fits = omega arith
 few_cycles (Scheduled k schedule words places) fits = let few = fits.0 in omega (arith, few)
 few_cycles (Missing k) fits = omega (arith, fits)
 few_cycles (SpentConflicts k lemmas) fits = let few = fits.0 in omega (arith, few)
 few_cycles (SpentSize k vars clauses) fits = omega (arith, fits)
 
-module _ (a b : ℕ → Formula) (same : (k : ℕ) → k ≤ 24 → a k ≡ b k) where
+module _ (a b : ℕ → Formula) (same : (k : ℕ) → k ≤ most_cycles → a k ≡ b k) where
   within_as : (c : Claimed) → FitsClaim c.claim → IsWithinBelow a c → IsWithinBelow b c
   within_as c fits h =
       λ there. subst (λ (f : Formula). ¬ IsTooLarge f) (same (refuted_cycles c.claim) (few_cycles c.claim fits)) (h there)
@@ -213,7 +214,7 @@ module _ (a b : ℕ → Formula) (same : (k : ℕ) → k ≤ 24 → a k ≡ b k)
   own_as (Scheduled k schedule words places) fits wrong = absurd (wrong tt)
   own_as (Missing k) fits wrong = absurd (wrong tt)
 
-  lines_as : (k : ℕ) → k ≤ 24 → (o : Option Lines) → IfSome o (λ (l : Lines). Refutes (a k) l.lines)
+  lines_as : (k : ℕ) → k ≤ most_cycles → (o : Option Lines) → IfSome o (λ (l : Lines). Refutes (a k) l.lines)
       → IfSome o (λ (l : Lines). Refutes (b k) l.lines)
   lines_as k few None h = tt
   lines_as k few (Some l) h = subst (λ (f : Formula). Refutes f l.lines) (same k few) h
@@ -241,7 +242,7 @@ module _ (a b : ℕ → Formula) (same : (k : ℕ) → k ≤ 24 → a k ≡ b k)
   lemma_as (Scheduled n schedule words places) k line why fits h = h
   lemma_as (Missing n) k line why fits h = h
 
-wrong_as : (a b : ℕ → Formula) → ((k : ℕ) → k ≤ 24 → a k ≡ b k) → (c : Claimed) (v x : ℕ) → FitsClaim c.claim
+wrong_as : (a b : ℕ → Formula) → ((k : ℕ) → k ≤ most_cycles → a k ≡ b k) → (c : Claimed) (v x : ℕ) → FitsClaim c.claim
     → HasWrongSize a c v x → HasWrongSize b c v x
 wrong_as a b same c v x fits (below there p) =
     below there (subst (λ (f : Formula). PassesLimit f v x) (same (refuted_cycles c.claim) (few_cycles c.claim fits)) p)
@@ -251,7 +252,7 @@ wrong_as a b same c v x fits (own within wrong ev ec) =
     (λ right. wrong (size_as b a (λ k few. sym (same k few)) c.claim fits right))
     (ev ∙ ap (λ (f : Formula). f.vars) e) (ec ∙ ap (λ (f : Formula). length f.clauses) e)
 
-outcome_as : (table : Table) (g : LaunchGraph) (a b : ℕ → Formula) → ((k : ℕ) → k ≤ 24 → a k ≡ b k) → (c : Claimed)
+outcome_as : (table : Table) (g : LaunchGraph) (a b : ℕ → Formula) → ((k : ℕ) → k ≤ most_cycles → a k ≡ b k) → (c : Claimed)
     (v : Verdict) → FitsClaim c.claim → IsOutcome table g a c v → IsOutcome table g b c v
 outcome_as table g a b same c Seen fits h = h
 outcome_as table g a b same c (Broken i r) fits h = h
@@ -283,7 +284,7 @@ outcome_as table g a b same c Holds fits h = (
 
 -- the clauses of an encoding are one formula for each number of cycles
 one_formula : OneList → (e : Encoding) (g : LaunchGraph) (table : Table) (a b : ℕ → Formula) → AreFormulas e g table a
-    → AreFormulas e g table b → (k : ℕ) → k ≤ 24 → a k ≡ b k
+    → AreFormulas e g table b → (k : ℕ) → k ≤ most_cycles → a k ≡ b k
 one_formula one e g table a b of too k few =
     let p = of k few in
     let q = too k few in

@@ -1,5 +1,6 @@
 // The numbers of cycles that a claim speaks of, and the counts of their clauses, found before any clause is built.
 ghost use Rattle.std.specs.Prelude.{◌≡◌, ◌≤◌, length, IsTrue, is_some, MatchOption};
+ghost use Rattle.schedule_meaning.specs.Limits.{most_cycles};
 ghost use Rattle.answer_check.specs.Verdicts.{HasRightSize, HasWrongSize, IsWithinBelow};
 ghost use Rattle.answer_texts.specs.AnswerLines as format;
 ghost use Rattle.answer_texts.specs.WellFormed.{FitsClaim};
@@ -11,7 +12,7 @@ ghost use Rattle.order_encoding.specs.WholeFormula.{formula_in};
 use answer_texts::{Claim, Claimed};
 use cycle_encoding::{Facts, Scope, Sizes};
 use machine_table::Table;
-use order_encoding::count_in;
+use order_encoding::formula_size;
 
 /// The number of cycles below which, as the claim says, no schedule fits.
 pub(crate) fn refuted_below(claim: &Claim) -> u32
@@ -32,20 +33,20 @@ pub(crate) fn refuted_below(claim: &Claim) -> u32
 pub(crate) fn refuted_cycles(claim: &Claim) -> u32
     requires { FitsClaim claim.now }
     ensures value { result ≡ format.refuted_cycles claim.now }
-    ensures few { result ≤ 24 }
+    ensures few { result ≤ most_cycles }
 {
     claim.as_ref().refuted_cycles()
 }
 
 /// The counts of the clauses for k cycles, where one of them passes its limit.
 fn large_counts(facts: &Facts, table: &Table, scope: &Scope, k: u32) -> Option<Sizes>
-    requires cycles { k ≤ 24 }
+    requires cycles { k ≤ most_cycles }
     requires table { IsTable table.now }
     requires graph { IsLaunchGraph facts.now }
     ensures { MatchOption result (¬ IsTooLarge (formula_in scope.now facts.now table.now k))
         (λ s. PassesLimit (formula_in scope.now facts.now table.now k) s.vars s.clauses) }
 {
-    let sizes = count_in(facts, table, scope, k);
+    let sizes = formula_size(facts, table, scope, k);
     if sizes.pass_limit() {
         Some(sizes)
     } else {
@@ -61,7 +62,7 @@ fn untrue_counts(
     k: u32,
     printed: Sizes,
 ) -> Option<Sizes>
-    requires cycles { k ≤ 24 }
+    requires cycles { k ≤ most_cycles }
     requires table { IsTable table.now }
     requires graph { IsLaunchGraph facts.now }
     ensures { MatchOption result
@@ -70,7 +71,7 @@ fn untrue_counts(
         × (s.vars ≡ (formula_in scope.now facts.now table.now k).vars)
         × (s.clauses ≡ length (formula_in scope.now facts.now table.now k).clauses)) }
 {
-    let sizes = count_in(facts, table, scope, k);
+    let sizes = formula_size(facts, table, scope, k);
     if !sizes.pass_limit() {
         return Some(sizes);
     }

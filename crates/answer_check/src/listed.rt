@@ -1,5 +1,6 @@
 // The schedule of a claim, and its words and places, compared with those that are printed.
 ghost use Rattle.std.specs.Prelude.{◌≡◌, ◌↔◌, ◌≤◌, IfOk, IfErr, IsTrue, OnOk};
+ghost use Rattle.schedule_meaning.specs.Limits.{most_cycles};
 ghost use Rattle.answer_check.specs.Soundness.{DoesAsClaimed, DoesAsListed};
 ghost use Rattle.answer_check.specs.Verdicts.{HasListing, IsBroken, IsFitting, IsListed};
 ghost use Rattle.answer_texts.specs.WellFormed.{FitsClaim};
@@ -73,7 +74,7 @@ fn is_listing(
     requires graph { IsLaunchGraph graph.now }
     requires table { IsTable table.now }
     requires fits { Fits graph.now table.now k schedule.now.launches }
-    requires few { k ≤ 24 }
+    requires few { k ≤ most_cycles }
     ensures same { IfOk result
         (λ b. IsTrue b ↔ HasListing graph.now table.now schedule.now.launches words.now places.now) }
     ensures does { IfOk result

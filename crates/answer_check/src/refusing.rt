@@ -1,5 +1,6 @@
 // The lines of a refutation and of lemmas, tested against clauses that are built from the printed graph and table.
 ghost use Rattle.std.specs.Prelude.{◌≡◌, ◌≤◌, ◌<◌, ◌^◌, Bool, ℕ, List, length, IfOk, IfNone, IfSome, MatchOption, IsSomeAnd};
+ghost use Rattle.schedule_meaning.specs.Limits.{most_cycles};
 ghost use Rattle.answer_check.specs.Verdicts.{HasLemmas, HasRefusedLemma, HasRightSize, HasRefutingLines, IsRefusedBelow, IsWithinBelow};
 ghost use Rattle.answer_texts.specs.AnswerLines as format;
 ghost use Rattle.answer_texts.specs.WellFormed.{FitsClaim, HasRefutation};
@@ -19,7 +20,7 @@ use cnf_core::{Cnf, Lines};
 use cycle_encoding::{EncodeFault, Facts, Scope};
 use items::NoMemory;
 use machine_table::Table;
-use order_encoding::{each_encoding_says_fits, full_in};
+use order_encoding::{build_formula, each_encoding_says_fits};
 use refutation_check::{Marks, Rejected, check, check_lemmas};
 use std::alloc::{AllocError, Global};
 
@@ -31,7 +32,7 @@ fn clauses(
     scope: &Scope,
     k: u32,
 ) -> Result<Cnf, NoMemory>
-    requires cycles { k ≤ 24 }
+    requires cycles { k ≤ most_cycles }
     requires table { IsTable table.now }
     requires graph { IsLaunchGraph facts.now }
     requires scope { IsScope scope.now.encoding facts.now table.now scope.now }
@@ -41,7 +42,7 @@ fn clauses(
         → (v : ℕ → Bool) × Satisfies v cnf.clauses) }
 {
     each_encoding_says_fits();
-    match full_in(alloc, facts, table, scope, k) {
+    match build_formula(alloc, facts, table, scope, k) {
         Ok(encoded) => Ok(encoded.cnf),
         Err(EncodeFault::Memory) => Err(AllocError),
         Err(EncodeFault::Size { .. }) => unreachable!(),
@@ -57,7 +58,7 @@ fn refused_line(
     k: u32,
     lines: &Lines,
 ) -> Result<Option<Rejected>, NoMemory>
-    requires cycles { k ≤ 24 }
+    requires cycles { k ≤ most_cycles }
     requires table { IsTable table.now }
     requires graph { IsLaunchGraph facts.now }
     requires scope { IsScope scope.now.encoding facts.now table.now scope.now }
@@ -88,7 +89,7 @@ fn refused_filled(
     k: u32,
     lines: &Lines,
 ) -> Result<Option<Rejected>, NoMemory>
-    requires cycles { k ≤ 24 }
+    requires cycles { k ≤ most_cycles }
     requires table { IsTable table.now }
     requires graph { IsLaunchGraph facts.now }
     requires scope { IsScope scope.now.encoding facts.now table.now scope.now }

@@ -7,6 +7,7 @@ use Rattle.std.proofs.lemmas.Bool.{false≢true}
 use Rattle.std.proofs.lemmas.List.Concat.{flat_map-cons}
 use Rattle.std.proofs.lemmas.List.Elements.{All-nil, All-cons, All-head, All-tail, All-map, All-weaker}
 use Rattle.std.proofs.lemmas.Option.{slice_get-get_or}
+use Rattle.schedule_meaning.specs.Limits.{most_cycles}
 use Rattle.alpha_encode.specs.Decoded.{decoded}
 use Rattle.alpha_encode.specs.Formats.{IsWellFormed, encoded}
 use Rattle.alpha_encode.specs.declared.instructions.Instr.{Instr}
@@ -202,7 +203,7 @@ module _ (laws : WordLaws) where
 
   -- ---- refutations
 
-  counted_can : (a : List ℕ) (j : ℕ) (lines : Lines) → IsLineWord a → j ≤ 24 → AreReadable lines
+  counted_can : (a : List ℕ) (j : ℕ) (lines : Lines) → IsLineWord a → j ≤ most_cycles → AreReadable lines
       → CanBeLines (counted_words a j (length lines.lines) ∷ map line_words lines.lines)
   counted_can a j lines is low can =
       a_line

@@ -1,6 +1,8 @@
 -- The grammar of answers, part by part: which lines say which value, and the first fault of lines that don't.
 -- Source: this project.
 use Rattle.std.specs.Prelude.{⊤, ℕ, zero, suc, ◌≡◌, ◌≢◌, ◌⊎◌, ◌+◌, ◌<◌, ◌≤◌, ◌^◌, Bool, true, false, List, [], ◌∷◌, ◌++◌, length, codes, Option, None, Some, is_some, IsSomeAnd, IsTrue, All, AllPairs}
+use Rattle.text_core.specs.Limits.{most_goals}
+use Rattle.schedule_meaning.specs.Limits.{most_cycles}
 use Rattle.alpha_encode.specs.Decoded.{decoded}
 use Rattle.cnf_core.specs.declared.line.Lines.{Lines}
 use Rattle.launch_graph.specs.GraphTexts.{IsGraphOf}
@@ -152,9 +154,9 @@ BelowFault lines (suc j) =
 
 -- ---- claims
 
--- the first line of a claim; up to 24 cycles are spoken of
+-- the first line of a claim; up to `most_cycles` are spoken of
 pub record IsClaimOf (words expected : Words) (k : ℕ) : Type 0 where
-  pub low : k ≤ 24
+  pub low : k ≤ most_cycles
   pub is : words ≡ expected
 
 abbrev pub IsClaimLine : Words → ClaimLine → Type 0
@@ -328,7 +330,7 @@ GoalFault lines version table =
 pub data AreGoals (lines : List Line) (version : ℕ) (table : Table) (from : ℕ) : ℕ → List Claimed → Type 0 where
   no_goals : AreGoals lines version table from from []
   more : {middle next : ℕ} {goals : List Claimed} {goal : Claimed} → AreGoals lines version table from middle goals
-      → length goals < 64 → GoalPart lines version table middle next goal → AreGoals lines version table from next (goals ++ goal ∷ [])
+      → length goals < most_goals → GoalPart lines version table middle next goal → AreGoals lines version table from next (goals ++ goal ∷ [])
 
 -- at least one goal, up to the end of the text
 pub record GoalsPart (lines : List Line) (version : ℕ) (table : Table) (from next : ℕ) (goals : List Claimed) : Type 0 where
@@ -337,7 +339,7 @@ pub record GoalsPart (lines : List Line) (version : ℕ) (table : Table) (from n
   pub whole : next ≡ length lines
 
 pub data GoalsFault (lines : List Line) (version : ℕ) (table : Table) (from place : ℕ) (kind : Kind) : Type 0 where
-  in_goal : {at : ℕ} {goals : List Claimed} → AreGoals lines version table from at goals → length goals < 64
+  in_goal : {at : ℕ} {goals : List Claimed} → AreGoals lines version table from at goals → length goals < most_goals
       → (at < length lines) ⊎ (goals ≡ []) → GoalFault lines version table at place kind
       → GoalsFault lines version table from place kind
   too_many : {at : ℕ} {goals : List Claimed} → AreGoals lines version table from at goals → length goals ≡ 64

@@ -1,6 +1,8 @@
 -- Which answers can be printed so that the text says them: their numbers, names and lines are within the limits of the
 -- format, and what stands beside a claim fits it. Source: this project.
 use Rattle.std.specs.Prelude.{ℕ, zero, suc, ◌≡◌, ◌<◌, ◌≤◌, ◌^◌, List, length, Option, None, Some, All, IsSomeAnd, IsTrue}
+use Rattle.text_core.specs.Limits.{most_goals}
+use Rattle.schedule_meaning.specs.Limits.{most_cycles}
 use Rattle.cnf_core.specs.declared.line.Lines.{Lines}
 use Rattle.graph_meaning.specs.Graphs.{HasNoPins}
 use Rattle.graph_meaning.specs.WellFormed.{IsLaunchGraph}
@@ -22,14 +24,14 @@ pub record AreReadable (lines : Lines) : Type 0 where
   pub few : length lines.lines < 2 ^ 31
   pub each : All IsReadableLine lines.lines
 
--- a claim on this graph of a goal; up to 24 cycles are spoken of
+-- a claim on this graph of a goal; up to `most_cycles` are spoken of
 abbrev pub IsGraphClaim : Table → LaunchGraph → Claim → Type 0
 IsGraphClaim table g (NoWorld class a b) = ⊥
 IsGraphClaim table g (Scheduled k schedule words places) =
-    (k ≤ 24) × AreLaunches table g schedule.launches × AreCodes words × AreWherePlaces places
-IsGraphClaim table g (Missing k) = k ≤ 24
-IsGraphClaim table g (SpentConflicts k lemmas) = (k ≤ 24) × AreReadable lemmas
-IsGraphClaim table g (SpentSize k vars clauses) = (k ≤ 24) × (vars < 2 ^ 64) × (clauses < 2 ^ 64)
+    (k ≤ most_cycles) × AreLaunches table g schedule.launches × AreCodes words × AreWherePlaces places
+IsGraphClaim table g (Missing k) = k ≤ most_cycles
+IsGraphClaim table g (SpentConflicts k lemmas) = (k ≤ most_cycles) × AreReadable lemmas
+IsGraphClaim table g (SpentSize k vars clauses) = (k ≤ most_cycles) × (vars < 2 ^ 64) × (clauses < 2 ^ 64)
 
 -- lines where fewer cycles than a number are to be refuted, and none where there are none
 abbrev pub AreLinesBelow : ℕ → Option Lines → Type 0
@@ -51,5 +53,5 @@ pub record IsPrintable (a : AnswerText) : Type 0 where
   pub table : IsTable a.table
   pub names : All (λ s. IsName s.name) a.table.slots
   pub built_in : IsTrue a.builtin → a.table ≡ ev6
-  pub few : (1 ≤ length a.goals) × (length a.goals ≤ 64)
+  pub few : (1 ≤ length a.goals) × (length a.goals ≤ most_goals)
   pub goals : All (IsPrintableGoal a.version a.table) a.goals

@@ -1,5 +1,6 @@
 -- What holds of each answer that a text says, beside its lines. Source: this project.
 use Rattle.std.specs.Prelude.{ℕ, ◌≡◌, ◌≢◌, ◌<◌, ◌≤◌, ◌^◌, length, Option, None, Some, All, IsTrue}
+use Rattle.schedule_meaning.specs.Limits.{most_cycles}
 use Rattle.cnf_core.specs.declared.line.Lines.{Lines}
 use Rattle.graph_meaning.specs.Graphs.{HasNoPins}
 use Rattle.graph_meaning.specs.WellFormed.{IsLaunchGraph}
@@ -12,13 +13,13 @@ use Rattle.answer_texts.specs.declared.answers.Claim.{Claim}
 use Rattle.answer_texts.specs.declared.answers.Claim.TheVariants.{NoWorld, Scheduled, Missing, SpentConflicts, SpentSize}
 use Rattle.answer_texts.specs.declared.answers.Claimed.{Claimed}
 
--- up to 24 cycles are spoken of, and lists have fewer than 2 ^ 29 items
+-- up to `most_cycles` are spoken of, and lists have fewer than 2 ^ 29 items
 abbrev pub FitsClaim : Claim → Type 0
 FitsClaim (NoWorld class a b) = Unit {0}
-FitsClaim (Scheduled k schedule words places) = (k ≤ 24) × (length schedule.launches < 2 ^ 29)
-FitsClaim (Missing k) = k ≤ 24
-FitsClaim (SpentConflicts k lemmas) = (k ≤ 24) × (length lemmas.lines < 2 ^ 29)
-FitsClaim (SpentSize k vars clauses) = k ≤ 24
+FitsClaim (Scheduled k schedule words places) = (k ≤ most_cycles) × (length schedule.launches < 2 ^ 29)
+FitsClaim (Missing k) = k ≤ most_cycles
+FitsClaim (SpentConflicts k lemmas) = (k ≤ most_cycles) × (length lemmas.lines < 2 ^ 29)
+FitsClaim (SpentSize k vars clauses) = k ≤ most_cycles
 
 -- lines where fewer cycles than a number are to be refuted, and none where there are none
 pub data HasRefutation : ℕ → Option Lines → Type 0 where

@@ -12,10 +12,9 @@ use graph_meaning::Stop;
 use items::Items;
 use machine_table::Table;
 use std::alloc::Global;
-use text_core::{Name, TextFault, TextLines, has_form};
+use text_core::{MOST_GOALS, Name, TextFault, TextLines, has_form};
 
 /// The most goals of an answer.
-const MOST_GOALS: usize = 64;
 
 /// The name of the goal that begins at a line.
 fn read_name(alloc: Global, text: &TextLines<'_>, from: u32) -> Result<Name, TextFault>

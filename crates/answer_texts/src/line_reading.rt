@@ -1,6 +1,7 @@
 // The lines of an answer that begin as they do and have a fixed number of words, each by itself.
 ghost use Rattle.std.specs.Prelude.{◌≡◌, ◌<◌, ◌≤◌, ◌↔◌, ℕ, length, IfOk, IfSome, IfNone, IsTrue, MatchOption};
 ghost use Rattle.std.specs.Prelude as std;
+ghost use Rattle.schedule_meaning.specs.Limits.{most_cycles};
 ghost use Rattle.text_core.specs.Faults.{IsFaultBy};
 ghost use Rattle.text_core.specs.Lines.{line_at};
 ghost use Rattle.text_core.specs.LineTexts.{SaysNone};
@@ -15,6 +16,7 @@ use crate::parts::{BodyLine, ClaimLine, TableLine};
 use graph_meaning::Stop;
 use items::NoMemory;
 use machine_table::Slot;
+use schedule_meaning::MOST_CYCLES;
 use std::alloc::Global;
 use text_core::{
     Fault, Kind, Name, TextFault, TextLines, begins_with, decimal, has_form, is_name, same,
@@ -25,9 +27,6 @@ const VERSIONS: u64 = 3;
 
 /// The numbers of encodings are 1 up to below this one.
 const ENCODINGS: u64 = 4;
-
-/// The most cycles that a claim may speak of.
-const MOST_CYCLES: u64 = 24;
 
 /// Numbers on lines are below this one, except words of 64 bits.
 pub(crate) const LIMIT: u64 = 1 << 31;
@@ -193,10 +192,10 @@ pub(crate) fn body_line(text: &TextLines<'_>, line: u32) -> Option<BodyLine>
 
 /// A number of cycles that a claim may speak of.
 fn cycles(word: &[u8]) -> Option<u32>
-    ensures some { IfSome result (λ k. (word.now ≡ std.decimal k) × (k ≤ 24)) }
-    ensures none { IfNone result ((k : ℕ) → k ≤ 24 → word.now ≡ std.decimal k → ⊥) }
+    ensures some { IfSome result (λ k. (word.now ≡ std.decimal k) × (k ≤ most_cycles)) }
+    ensures none { IfNone result ((k : ℕ) → k ≤ most_cycles → word.now ≡ std.decimal k → ⊥) }
 {
-    let k = below(word, MOST_CYCLES + 1)?;
+    let k = below(word, u64::from(MOST_CYCLES) + 1)?;
     Some(k as u32)
 }
 

@@ -7,7 +7,7 @@ use Rattle.word_ops.specs.Worlds.{word, World}
 use Rattle.goal_meaning.specs.Holds.{HoldsOfAll}
 use Rattle.goal_meaning.specs.declared.goals.DeclaredOp.{DeclaredOp}
 use Rattle.axiom_base.proofs.Rows.{Each, done, ◌▸◌, All-Each, joined}
-use Rattle.axiom_library.specs.Families.{byte_moves, small_products, large_products, sums, halves, extensions, rounding, negations, equalities, minima, carries, axioms_of}
+use Rattle.axiom_library.specs.Families.{byte_moves, small_products, large_products, sums, halves, extensions, rounding, negated_comparisons, equalities, minima, carries, axioms_of}
 use Rattle.axiom_library.specs.Families.{packing, swapping_4, swapping_8, spreading}
 use Rattle.axiom_library.specs.Families.{in_steps, in_steps_to_0, by_100, by_four_ones, by_eight_ones, by_eighth, by_halves}
 use Rattle.axiom_library.specs.Families.{zero_extension, long_extension, by_sign, round_down, less_remainder, round_up}
@@ -84,7 +84,7 @@ module _ (declared : List DeclaredOp) (world : World) where
       ▸ of_x declared world (round_up 15) refl (λ x h. ap word (rounded.up_to_16 x h))
       ▸ done
 
-  negations_are_true : Each (HoldsOfAll declared world) negations
+  negations_are_true : Each (HoldsOfAll declared world) negated_comparisons
   unfolding value_at operate_value
   negations_are_true =
       of_xy declared world (opposite Cmpult Cmpule) refl (λ x y h k. ap word (compared.cmpult_opposite x y))

@@ -160,8 +160,8 @@ opposite op other = over_xy (λ x y. (o2 Cmpeq (o2 op x y) (constant 0), o2 othe
 abbrev pub changed : Operate → Operate → AxiomTree
 changed op other = over_xy (λ x y. (o2 Xor (o2 op x y) (constant 1), o2 other y x))
 
-abbrev pub negations : List AxiomTree
-negations =
+abbrev pub negated_comparisons : List AxiomTree
+negated_comparisons =
     opposite Cmpult Cmpule
     ∷ opposite Cmpule Cmpult
     ∷ opposite Cmplt Cmple
@@ -252,7 +252,7 @@ axioms_of families.Sums = sums
 axioms_of families.Halves = halves
 axioms_of families.Extensions = extensions
 axioms_of families.Rounding = rounding
-axioms_of families.Comparisons = negations ++ equalities
+axioms_of families.Comparisons = negated_comparisons ++ equalities
 axioms_of families.Minima = minima
 axioms_of families.Carries = carries
 

@@ -31,8 +31,8 @@ fn changed(alloc: Global, op: Operate, other: Operate) -> Result<Axiom, NoMemory
     over_xy(alloc, left, right)
 }
 
-fn negations(alloc: Global) -> Result<Vec<Axiom>, NoMemory>
-    ensures { IfOk result (λ axioms. map axiom_view axioms.items ≡ rows.negations) }
+fn negated_comparisons(alloc: Global) -> Result<Vec<Axiom>, NoMemory>
+    ensures { IfOk result (λ axioms. map axiom_view axioms.items ≡ rows.negated_comparisons) }
 {
     let mut axioms = Vec::new(alloc);
     axioms.push(opposite(alloc, Operate::Cmpult, Operate::Cmpule)?)?;
@@ -79,7 +79,7 @@ fn equalities(alloc: Global) -> Result<Vec<Axiom>, NoMemory>
 pub(crate) fn comparisons(alloc: Global) -> Result<Vec<Axiom>, NoMemory>
     ensures { IfOk result (λ axioms. map axiom_view axioms.items ≡ axioms_of families.Comparisons) }
 {
-    let mut axioms = negations(alloc)?;
+    let mut axioms = negated_comparisons(alloc)?;
     axioms.append(&mut equalities(alloc)?)?;
     Ok(axioms)
 }

@@ -1,5 +1,6 @@
 // What holds of the library. The calls do nothing: their clauses are laws.
 ghost use Rattle.std.specs.Prelude.{◌≤◌, List, [], length, All, Contains};
+ghost use Rattle.text_core.specs.Limits.{most_axioms};
 ghost use Rattle.goal_meaning.specs.Holds.{Holds, HoldsOfAll};
 ghost use Rattle.goal_meaning.specs.Views.{InputTree};
 ghost use Rattle.goal_meaning.specs.WellFormed.{IsAxiom};
@@ -22,6 +23,6 @@ pub fn library_axioms_are_well_formed()
     ensures each { (family : FamilyOf) (declared : List DeclaredOp)
         → All (λ a. IsApart declared a → IsAxiom declared a) (axioms_of family) }
     ensures alone { (family : FamilyOf) → All (IsAxiom []) (axioms_of family) }
-    ensures few { length library ≤ 64 }
+    ensures few { length library ≤ most_axioms }
     ensures whole { (family : FamilyOf) → Contains all_families family }
 {}

@@ -1,5 +1,6 @@
 // What is asked of schedules: a table, a graph, a number of cycles, and perhaps launches.
 ghost use Rattle.std.specs.Prelude.{◌≤◌, ◌^◌, length, IfOk};
+ghost use Rattle.schedule_meaning.specs.Limits.{most_cycles};
 ghost use Rattle.graph_meaning.specs.WellFormed.{IsLaunchGraph};
 ghost use Rattle.machine_table.specs.Tables.{IsTable};
 
@@ -7,6 +8,7 @@ use case_files::{Trouble, Words, split_before, split_line};
 use forms::trees;
 use graph_meaning::LaunchGraph;
 use machine_table::{Table, ev6, tables_keep_limits};
+use schedule_meaning::MOST_CYCLES;
 use std::alloc::Global;
 
 /// A table, a graph and a number of cycles, which schedules or formulas are asked for.
@@ -42,7 +44,7 @@ pub fn question_in(alloc: Global, input: &[u8]) -> Result<(Question, &[u8]), Tro
     requires { length input.now ≤ 2 ^ 24 }
     ensures graph { IfOk result (λ pair. IsLaunchGraph pair.0.graph) }
     ensures table { IfOk result (λ pair. IsTable pair.0.table) }
-    ensures cycles { IfOk result (λ pair. pair.0.cycles ≤ 24) }
+    ensures cycles { IfOk result (λ pair. pair.0.cycles ≤ most_cycles) }
 {
     let (table, rest) = table_in(alloc, input)?;
     let (lines, rest) = split_before(rest, b"cycles ");
@@ -53,7 +55,7 @@ pub fn question_in(alloc: Global, input: &[u8]) -> Result<(Question, &[u8]), Tro
     let (last, rest) = split_line(rest);
     let number = last.strip_prefix(b"cycles ").ok_or(Trouble::Unread)?;
     let cycles = Words { rest: number }.small()?;
-    if cycles > 24 {
+    if cycles > MOST_CYCLES {
         return Err(Trouble::Unread);
     }
     Ok((

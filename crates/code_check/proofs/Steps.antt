@@ -27,7 +27,7 @@ use Rattle.alpha_encode.specs.declared.instructions.Second.TheVariants.{Reg, Lit
 use Rattle.alpha_encode.specs.declared.instructions.Instr.{Instr}
 use Rattle.alpha_encode.specs.declared.instructions.Instr.TheVariants.{Operate, Lda, Ldah, Load, Store, Beq}
 use Rattle.alpha_machine.specs.States.{MachineState}
-use Rattle.alpha_machine.specs.Steps.{step, second_value, operate_value, address, with_register, next_pc}
+use Rattle.alpha_machine.specs.Steps.{step, second_value, operate_result, address, with_register, next_pc}
 use Rattle.saturation.specs.GoalTerms.{input_term}
 use Rattle.code_check.specs.Outcomes.{entry_state}
 use Rattle.code_check.specs.Terms.{TermState, terms_at_entry, term_step, terms_from, with_term, second_term, operate_term, address_term, sign_extended}
@@ -101,14 +101,14 @@ module _ (w : World) (names : ℕ → List ℕ)
     second_is (Reg r) is = h.registers r is
     second_is (Literal n) is = refl
 
-    operate_word : (op : OperateOf) (a b : ℕ) → IsWord a → IsWord b → IsWord (operate_value op a b)
+    operate_word : (op : OperateOf) (a b : ℕ) → IsWord a → IsWord b → IsWord (operate_result op a b)
     operate_word op a b is_a is_b = by (is_unary op)
       where
         by : (u : Bool) → IsWord (if u then value_at (ops.Operate op) b 0 0 else value_at (ops.Operate op) a b 0)
         by true = is_word (ops.Operate op) (b ∷ []) (All-cons IsWord b [] is_b (All-nil IsWord))
         by false = is_word (ops.Operate op) (a ∷ b ∷ []) (All-cons IsWord a (b ∷ []) is_a (All-cons IsWord b [] is_b (All-nil IsWord)))
 
-    operate_is : (op : OperateOf) (t u : Tree Op) (a b : ℕ) → V t ≡ word a → V u ≡ word b → V (operate_term op t u) ≡ word (operate_value op a b)
+    operate_is : (op : OperateOf) (t u : Tree Op) (a b : ℕ) → V t ≡ word a → V u ≡ word b → V (operate_term op t u) ≡ word (operate_result op a b)
     operate_is op t u a b e f = by (is_unary op)
       where
         by : (k : Bool) → V (if k then o1 op u else o2 op t u) ≡ word (if k then value_at (ops.Operate op) b 0 0 else value_at (ops.Operate op) a b 0)
@@ -145,7 +145,7 @@ module _ (w : World) (names : ℕ → List ℕ)
     one_step (Operate op ra second rc) wf =
         let a = slice_index s.registers ra in
         let b = second_value second s.registers in
-        wrote rc (operate_value op a b) (operate_term op (ts.registers ra) (second_term second ts.registers)) wf.2
+        wrote rc (operate_result op a b) (operate_term op (ts.registers ra) (second_term second ts.registers)) wf.2
         (operate_word op a b (h.words ra wf.0) (second_word second wf.1))
         (operate_is op (ts.registers ra) (second_term second ts.registers) a b (h.registers ra wf.0) (second_is second wf.1))
     one_step (Lda ra rb disp) wf =

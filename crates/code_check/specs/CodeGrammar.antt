@@ -1,6 +1,7 @@
 -- The grammar of codes: which forms write them, which texts they stand in, and the first fault of a text. Source: this
 -- project.
 use Rattle.std.specs.Prelude.{ℕ, ◌≡◌, ◌<◌, ◌≤◌, ◌^◌, false, All, List, [], ◌∷◌, take, length, codes, slice_get, Some}
+use Rattle.text_core.specs.Limits.{most_codes}
 use Rattle.text_core.specs.Faults.{IsFirst}
 use Rattle.text_core.specs.Trees.{SexpTrees}
 use Rattle.text_core.specs.declared.faults.Kind.{Kind}
@@ -66,7 +67,7 @@ pub record ReadsCodes (text : List ℕ) (checked : CheckedTree) : Type 0 where
   pub goals : Reads (goal_bytes text trees) checked.input
   pub each : Each (WritesCode checked.input.goals) (code_forms text trees) checked.codes
   pub some : 0 < length checked.codes
-  pub few : length checked.codes ≤ 64
+  pub few : length checked.codes ≤ most_codes
 
 -- The first fault of a text: of its bytes and parentheses, else of its goals, else of its codes.
 pub data IsFirstCodesFault (text : List ℕ) : ℕ → Kind → Type 0 where

@@ -1,5 +1,6 @@
 -- What the readers of the parts of a code promise; no public clause rests on these alone. Source: this project.
 use Rattle.std.specs.Prelude.{Bool, true, false, ℕ, ◌≡◌, ◌≢◌, ◌<◌, ◌≤◌, ◌^◌, List, All, AllPairs, length, take, slice_get, Option, Some}
+use Rattle.text_core.specs.Limits.{most_codes, most_code_words, most_goals, most_sets}
 use Rattle.text_core.specs.Faults.{IsFirst}
 use Rattle.text_core.specs.Names.{is_among}
 use Rattle.text_core.specs.declared.faults.Kind.{Kind}
@@ -42,7 +43,7 @@ pub record WritesWords (form : Form) (words : List ℕ) : Type 0 where
   pub low : All (λ n. n < 2 ^ 32) words
   pub instrs : List Instr
   pub is_code : IsCode words instrs
-  pub few : length words ≤ 4096
+  pub few : length words ≤ most_code_words
 
 -- the name of a target that is a word, the one of this number, which wasn't named before
 pub record IsFreshTarget (sets : List TargetTree) (before : List Form) (form : Form) (at : ℕ) : Type 0 where
@@ -72,8 +73,8 @@ pub record IsGoalNamed (goals : List GoalTree) (form : Form) (at : ℕ) : Type 0
 
 -- the goals are few, and so are the targets of each, whose names differ
 pub record AreGoals (goals : List GoalTree) : Type 0 where
-  pub few : length goals ≤ 64
-  pub few_sets : All (λ (g : GoalTree). length g.sets ≤ 16) goals
+  pub few : length goals ≤ most_goals
+  pub few_sets : All (λ (g : GoalTree). length g.sets ≤ most_sets) goals
   pub targets : All (λ (g : GoalTree). AllPairs (λ (s t : TargetTree). s.name ≢ t.name) g.sets) goals
 
 -- the bytes before the first code among the forms
@@ -85,7 +86,7 @@ pub record WritesForms (text : List ℕ) (forms : List Form) (checked : CheckedT
   pub goals : Reads (bytes_before text forms) checked.input
   pub each : Each (WritesCode checked.input.goals) (from_codes forms) checked.codes
   pub some : 0 < length checked.codes
-  pub few : length checked.codes ≤ 64
+  pub few : length checked.codes ≤ most_codes
 
 -- the first fault of the goals before the codes, or of the codes
 pub data IsFormsFault (text : List ℕ) (forms : List Form) : ℕ → Kind → Type 0 where

@@ -3,6 +3,7 @@
 use Rattle.std.specs.Prelude.{Bool, true, false, ℕ, zero, suc, ◌≡◌, ◌<◌, ◌^◌, ◌&&◌, not, nat_lt, nat_le, if◌then◌else◌, List, [], ◌∷◌, length, take, drop, get_or, slice_get, filter_map, find, codes, bytes_eq, is_some, Option, Some, None, option_map}
 use Rattle.std.specs.Option.{option_map_or}
 use Rattle.std.specs.List.{list_any}
+use Rattle.text_core.specs.Limits.{most_codes, most_code_words}
 use Rattle.text_core.specs.Names.{is_among}
 use Rattle.text_core.specs.declared.faults.Kind.{Kind}
 use Rattle.text_core.specs.declared.faults.Kind.TheVariants.{BadForm, UnknownName, Twice, BadRegister, LimitPassed, BadWord}
@@ -140,7 +141,7 @@ place_part sets given form (suc at) =
     Some (get_or (target_name sets given ∷ a_register (pin_named sets form) ∷ []) at wrong)
 
 abbrev pub word_part : Form → ℕ → CodeRole
-word_part form at = if nat_lt at 4096 then a_word (length (parts_of form)) (take at (parts_of form)) else past
+word_part form at = if nat_lt at most_code_words then a_word (length (parts_of form)) (take at (parts_of form)) else past
 
 abbrev pub code_part_role : CodeRole → Form → ℕ → Option CodeRole
 code_part_role (a_code goals) form at = code_part goals form at
@@ -168,7 +169,7 @@ first_place size (form ∷ forms) = place_of form
 
 -- a form behind so many, which are codes, or of which one has a fault that comes before
 abbrev pub top_role : List GoalTree → ℕ → Form → CodeRole
-top_role goals at form = if is_code form then (if nat_lt at 64 then a_code goals else past) else wrong
+top_role goals at form = if is_code form then (if nat_lt at most_codes then a_code goals else past) else wrong
 
 -- a fault of the codes: none, at the text's length, or one in a form
 pub data IsCodesFault (goals : List GoalTree) (size : ℕ) (forms : List Form) : ℕ → Kind → Type 0 where

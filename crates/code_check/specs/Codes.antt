@@ -2,6 +2,7 @@
 -- Source: this project.
 use Rattle.std.specs.Prelude.{◌≡◌, ◌≢◌, ℕ, ◌<◌, ◌≤◌, ◌==◌, Bool, false, not, List, All, AllPairs, Contains, length, slice_get, Option, Some}
 use Rattle.std.specs.Option.{option_map_or}
+use Rattle.text_core.specs.Limits.{most_code_words}
 use Rattle.alpha_encode.specs.declared.instructions.Instr.{Instr}
 use Rattle.goal_meaning.specs.Outcomes.{is_memory}
 use Rattle.goal_meaning.specs.Views.{GoalTree, InputTree, TargetTree}
@@ -35,7 +36,7 @@ pub record ArePlaces (sets : List TargetTree) (places : List At) : Type 0 where
 pub record FitsGoal (goal : GoalTree) (code : Code) : Type 0 where
   pub instrs : List Instr
   pub is_code : IsCode code.words instrs
-  pub few : length code.words ≤ 4096
+  pub few : length code.words ≤ most_code_words
   pub places : ArePlaces goal.sets code.places
 
 -- a code for one of the input's goals

@@ -1,5 +1,6 @@
 // Reading a text of goals and of codes for them.
 ghost use Rattle.std.specs.Prelude.{◌≡◌, ◌<◌, ◌≤◌, ◌^◌, ℕ, true, All, bytes_eq, drop, length, map, None, IfOk, IfErr, MatchOption};
+ghost use Rattle.text_core.specs.Limits.{most_codes};
 ghost use Rattle.text_core.specs.Faults.{GivesUnlessMemory, IsFaultBy, IsFirst, RefusesUnlessMemory};
 ghost use Rattle.text_core.specs.declared.faults.Kind.{Kind as FaultKind};
 ghost use Rattle.forms.specs.Forms.{Stand, forms_from, sexp_form, sexp_forms};
@@ -24,7 +25,7 @@ use goal_reader::{
 };
 use items::Items;
 use std::alloc::Global;
-use text_core::{Kind, Sexp, TextFault};
+use text_core::{Kind, MOST_CODES, Sexp, TextFault};
 
 fn is_code(form: &Sexp, text: &[u8]) -> bool
     requires of { IsSexpOf text.now form.now }
@@ -140,7 +141,7 @@ fn next_code(
     requires small { length text.now < 2 ^ 29 }
     requires goals { AreGoals (map goal_view goals.now) }
     ensures code { IfOk result (WritesCode (map goal_view goals.now) (sexp_form text.now form.now)) }
-    ensures few { IfOk result (λ _. index < 64) }
+    ensures few { IfOk result (λ _. index < most_codes) }
     ensures clear { IfOk result (λ _. IsClearCode (roles.top_role (map goal_view goals.now) index
         (sexp_form text.now form.now)) (sexp_form text.now form.now)) }
     ensures fault { IfErr result (IsFaultBy (IsFirstCodeFault (roles.top_role (map goal_view goals.now) index
@@ -150,7 +151,7 @@ fn next_code(
     if !is_code(form, text) {
         return Err(at(place(form), Kind::BadForm));
     }
-    if index >= 64 {
+    if index >= MOST_CODES {
         return Err(at(place(form), Kind::LimitPassed));
     }
     read_code(alloc, form, text, goals)
@@ -168,7 +169,7 @@ fn read_codes(
     requires small { length text.now < 2 ^ 29 }
     requires goals { AreGoals (map goal_view goals.now) }
     ensures codes { IfOk result (Each (WritesCode (map goal_view goals.now)) (sexp_forms text.now forms.now)) }
-    ensures few { IfOk result (λ codes. (0 < length codes) × (length codes ≤ 64)) }
+    ensures few { IfOk result (λ codes. (0 < length codes) × (length codes ≤ most_codes)) }
     ensures clear { IfOk result (λ _. (place : ℕ) (kind : FaultKind) → IsCodesFault (map goal_view goals.now)
         (length text.now) (sexp_forms text.now forms.now) place kind → ⊥) }
     ensures fault { IfErr result (IsFaultBy (IsFirst (IsCodesFault (map goal_view goals.now) (length text.now)

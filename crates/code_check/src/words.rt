@@ -14,7 +14,7 @@ use alpha_machine::may_stand;
 use forms::{at, number, parts, place, sexps_are_forms};
 use items::Items;
 use std::alloc::Global;
-use text_core::{Kind, Sexp, TextFault};
+use text_core::{Kind, MOST_CODE_WORDS, Sexp, TextFault};
 
 fn is_branch(word: u32) -> bool
     ensures { result ≡ is_branch_word word }
@@ -98,7 +98,7 @@ pub(crate) fn words(alloc: Global, form: &Sexp, text: &[u8]) -> Result<Items<u32
     let mut has_branch = false;
     for index in 0..parts.len() {
         let part = &parts[index];
-        if index >= 4096 {
+        if index >= MOST_CODE_WORDS {
             return Err(at(place(part), Kind::LimitPassed));
         }
         let word = next_word(part, text, index, parts.len(), has_branch)?;

@@ -1,5 +1,6 @@
 -- The families of one formula, by the variables that they are given, and the room that each takes.
 use Rattle.std.proofs.Common.{◌≡◌, ℕ, ◌+◌, ◌<◌, ◌≤◌, ◌^◌, List, ◌++◌, [], length, sym, ap, ◌∙◌, subst, arith, length-append}
+use Rattle.cycle_encoding.specs.Limits.{most_vars, most_clauses}
 use Rattle.cnf_core.specs.declared.literal.Lit.{Lit}
 use Rattle.cnf_core.specs.Formula.{Formula}
 use Rattle.machine_table.specs.declared.tables.Table.{Table}
@@ -59,7 +60,7 @@ module _ (g : LaunchGraph) (table : Table) (k : ℕ) (ls : List Launch) (ds : Li
     seen-are : seen_clauses g table xs (numbered first ds) ≡ S
     seen-are = ap (λ (m : ℕ). seen_clauses g table xs (numbered m ds)) ef
 
-    module _ (f0 : Formula) (e0 : f0 ≡ record { vars = n; clauses = [] }) (le : length (cycle_formula g table k list).clauses ≤ 2000000) where
+    module _ (f0 : Formula) (e0 : f0 ≡ record { vars = n; clauses = [] }) (le : length (cycle_formula g table k list).clauses ≤ most_clauses) where
       size0 : length f0.clauses ≡ 0
       size0 = ap (λ (f : Formula). length f.clauses) e0
 
@@ -111,7 +112,7 @@ module _ (g : LaunchGraph) (table : Table) (k : ℕ) (ls : List Launch) (ds : Li
               groups-are : slot_rows slots k xs ≡ groups
               groups-are = ap (λ (m : ℕ). slot_rows m k xs) es
 
-              pub slots-vars : (cycle_formula g table k list).vars ≤ 262144 → f3.vars + counters_vars 1 (slot_rows slots k xs) < 2 ^ 29
+              pub slots-vars : (cycle_formula g table k list).vars ≤ most_vars → f3.vars + counters_vars 1 (slot_rows slots k xs) < 2 ^ 29
               slots-vars few =
                   let a = vars3 in
                   let b = ap (λ (gs : List (List Lit)). counters_vars 1 gs) groups-are in

@@ -1,5 +1,6 @@
 -- The formula that the steps of the encoder build.
 use Rattle.std.proofs.Common.{◌≡◌, ℕ, ◌+◌, ◌<◌, ◌≤◌, ◌^◌, List, ◌++◌, [], length, refl, ap, ◌∙◌, arith, length-append}
+use Rattle.cycle_encoding.specs.Limits.{most_clauses}
 use Rattle.cnf_core.specs.declared.literal.Lit.{Lit}
 use Rattle.cnf_core.specs.Formula.{Formula}
 use Rattle.cycle_encoding.specs.Shapes.{counters, counters_vars, counters_size}
@@ -24,7 +25,7 @@ module _ (T O S : List (List Lit)) (groups : List (List Lit)) (n : ℕ) (f0 f1 f
       let c = length-append T O in
       omega arith
 
-  pub room_of_sights : length (T ++ O ++ S ++ counters n 1 groups) ≤ 2000000 → length f2.clauses + length S < 2 ^ 30
+  pub room_of_sights : length (T ++ O ++ S ++ counters n 1 groups) ≤ most_clauses → length f2.clauses + length S < 2 ^ 30
   room_of_sights le = (let a = size2 in let b = total (counters n 1 groups) in omega arith)
 
   module _ (e3 : f3 ≡ with_clauses f2 S) where
@@ -35,7 +36,7 @@ module _ (T O S : List (List Lit)) (groups : List (List Lit)) (n : ℕ) (f0 f1 f
     clauses3 =
         ap (λ (f : Formula). f.clauses) e3 ∙ ap (λ (f : Formula). f.clauses ++ S) e2 ∙ ap (λ (f : Formula). f.clauses ++ O ++ S) e1 ∙ ap (λ (f : Formula). f.clauses ++ T ++ O ++ S) e0
 
-    pub room_of_slots : length (counters n 1 groups) ≡ counters_size 1 groups → length (T ++ O ++ S ++ counters n 1 groups) ≤ 2000000 → length f3.clauses + counters_size 1 groups < 2 ^ 30
+    pub room_of_slots : length (counters n 1 groups) ≡ counters_size 1 groups → length (T ++ O ++ S ++ counters n 1 groups) ≤ most_clauses → length f3.clauses + counters_size 1 groups < 2 ^ 30
     room_of_slots size le =
         let a = ap (λ (cs : List (List Lit)). length cs) clauses3 in
         let b = length-append (T ++ O ++ S) (counters n 1 groups) in

@@ -7,6 +7,7 @@ use Rattle.std.proofs.lemmas.Bool.{false≢true, cases_Bool, cases_lt, le-leb, l
 use Rattle.std.proofs.lemmas.List.{append-nil, map-id}
 use Rattle.std.proofs.lemmas.List.Elements.{filter-append}
 use Rattle.std.proofs.lemmas.List.FromFn.{get_or-map-range_with_len, map-range_with_len_more}
+use Rattle.schedule_meaning.specs.Limits.{most_cycles}
 use Rattle.machine_table.specs.Tables.{IsTable, MayUse, use_of}
 use Rattle.machine_table.specs.declared.tables.Table.{Table}
 use Rattle.machine_table.specs.declared.tables.Use.{Use}
@@ -215,10 +216,10 @@ three_kinds Beq = inr (inr refl)
 three_kinds i = inl refl
 
 module _ (g : LaunchGraph) (table : Table) (well : IsLaunchGraph g) (is_table : IsTable table) (come : List (Option ℕ)) (marks : List Bool) (exact : IsExactUpTo g table come 24) (wanted : (class : ℕ) → (is_marked_class marks class ≡ true) ↔ (Wanted g class × (class < next_class g.rows))) where
-  start-out : (row t : ℕ) → t ≤ 24 → are_come come t (start_needs g row) ≡ true → CanStart g table row t
+  start-out : (row t : ℕ) → t ≤ most_cycles → are_come come t (start_needs g row) ≡ true → CanStart g table row t
   start-out row t le h o need = (exact t o.class le).0 (are-out g table come t (start_needs g row) h o.class (need-in AtEntry g row o need))
 
-  start-in : (row t : ℕ) → t ≤ 24 → CanStart g table row t → are_come come t (start_needs g row) ≡ true
+  start-in : (row t : ℕ) → t ≤ most_cycles → CanStart g table row t → are_come come t (start_needs g row) ≡ true
   start-in row t le start =
       are-in g table come t (start_needs g row) (λ c h.
       let o = need-out AtEntry g row c h in
@@ -246,20 +247,20 @@ module _ (g : LaunchGraph) (table : Table) (well : IsLaunchGraph g) (is_table : 
         | inr (inr t) ↦ or_right (row_is g is_store l.row) (row_is g is_branch l.row || is_marked_class marks (class_at g l.row)) (or_left (row_is g is_branch l.row) (is_marked_class marks (class_at g l.row)) (ap (λ (o : Option InstrKind). option_map_or is_branch o false) e ∙ t))
       ]
 
-  first-out : (l : Launch) (b : Bool) → is_spoken_of g marks l.row ≡ b → is_begun (cond b (last_come come (start_needs g l.row)) None) l.cycle ≡ true → l.cycle ≤ 24 → HasVariable g table l
+  first-out : (l : Launch) (b : Bool) → is_spoken_of g marks l.row ≡ b → is_begun (cond b (last_come come (start_needs g l.row)) None) l.cycle ≡ true → l.cycle ≤ most_cycles → HasVariable g table l
   first-out l true e h le = record {
     start = start-out l.row l.cycle le (sym (latest-begun come l.cycle (start_needs g l.row)) ∙ h);
     wanted = spoken-out l e;
   }
   first-out l false e h le = absurd (false≢true h)
 
-  first-in : (l : Launch) (i : InstrKind) → instr_at g l.row ≡ Some i → l.cycle ≤ 24 → HasVariable g table l → is_begun (first_cycle g come marks l.row) l.cycle ≡ true
+  first-in : (l : Launch) (i : InstrKind) → instr_at g l.row ≡ Some i → l.cycle ≤ most_cycles → HasVariable g table l → is_begun (first_cycle g come marks l.row) l.cycle ≡ true
   first-in l i e le v =
       ap (λ b. is_begun (cond b (last_come come (start_needs g l.row)) None) l.cycle) (spoken-in l i e v.wanted)
       ∙ latest-begun come l.cycle (start_needs g l.row) ∙ start-in l.row l.cycle le v.start
 
   module _ (s : Scope) (firsts : s.firsts ≡ map (first_cycle g come marks) (row_numbers g)) (wants : s.wants ≡ marks) where
-    module _ (by_firsts : (row : ℕ) → first_cycle_in s row ≡ slice_index_or s.firsts row None) (by_wants : (class : ℕ) → wants_in s class ≡ slice_index_or s.wants class false) (k : ℕ) (few : k ≤ 24) where
+    module _ (by_firsts : (row : ℕ) → first_cycle_in s row ≡ slice_index_or s.firsts row None) (by_wants : (class : ℕ) → wants_in s class ≡ slice_index_or s.wants class false) (k : ℕ) (few : k ≤ most_cycles) where
       first-is : (row : ℕ) → row < length g.rows + 1 + length g.sets → first_cycle_in s row ≡ first_cycle g come marks row
       first-is row lt =
           by_firsts row

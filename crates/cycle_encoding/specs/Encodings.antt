@@ -1,5 +1,6 @@
 -- The lists of each encoding. Source: this project.
 use Rattle.std.specs.Prelude.{◌≡◌, ◌≤◌, ℕ}
+use Rattle.schedule_meaning.specs.Limits.{most_cycles}
 use Rattle.machine_table.specs.declared.tables.Table.{Table}
 use Rattle.graph_meaning.specs.declared.graphs.LaunchGraph.{LaunchGraph}
 use Rattle.cycle_encoding.specs.CycleFormula.{Listed, Scope}
@@ -22,4 +23,4 @@ OnLists e g table k P = (l : Listed) → AreListed e g table k l → P l
 -- the scope gives the lists of the encoding, for as many cycles as may be asked for
 pub record IsScope (e : Encoding) (g : LaunchGraph) (table : Table) (s : Scope) : Type 0 where
   pub encoding : s.encoding ≡ e
-  pub lists : (k : ℕ) → k ≤ 24 → AreListed e g table k (listed_in g table k s)
+  pub lists : (k : ℕ) → k ≤ most_cycles → AreListed e g table k (listed_in g table k s)

@@ -1,6 +1,7 @@
 -- What the calls keep beside a formula, and when a formula is too large.
 -- Source: this project.
 use Rattle.std.specs.Prelude.{◌≡◌, ℕ, ◌<◌, List, length, ◌⊎◌}
+use Rattle.cycle_encoding.specs.Limits.{most_vars, most_clauses}
 use Rattle.cnf_core.specs.Formula.{Formula}
 use Rattle.machine_table.specs.declared.tables.Table.{Table}
 use Rattle.graph_meaning.specs.declared.graphs.LaunchGraph.{LaunchGraph}
@@ -30,7 +31,7 @@ plan_of g table k =
 
 -- one of the two counts passes its limit
 abbrev pub IsTooLarge : Formula → Type 0
-IsTooLarge f = (262144 < f.vars) ⊎ (2000000 < length f.clauses)
+IsTooLarge f = (most_vars < f.vars) ⊎ (most_clauses < length f.clauses)
 
 -- these are the formula's counts, and one of them passes its limit
 abbrev pub PassesLimit : Formula → ℕ → ℕ → Type 0

@@ -3,6 +3,7 @@
 use Rattle.std.specs.Prelude.{◌≡◌, ◌+◌, ◌<◌, ◌≤◌, ◌^◌, ◌==◌, nat_le, nat_lt, set, if◌then◌else◌, ℕ, length, Bool, List}
 use Rattle.std.specs.Prelude.{◌++◌, map, [], ◌∷◌}
 use Rattle.std.specs.List.{slice_index_or, list_any, flat_map, filter, range_with_len}
+use Rattle.schedule_meaning.specs.Limits.{most_cycles}
 use Rattle.cnf_core.specs.declared.literal.Lit.{Lit}
 use Rattle.cnf_core.specs.Formula.{Formula}
 use Rattle.machine_table.specs.declared.tables.Table.{Table}
@@ -74,7 +75,7 @@ set_overwritten k set = map (overwritten_at set) (range_with_len 0 (k + 1))
 -- the first variable is the one after `first`, and each that is overwritten has one
 pub record AreOverwrittenVars (g : LaunchGraph) (k first : ℕ) (sets : List ℕ) : Type 0 where
   pub sets_are : sets ≡ overwriting_sets g
-  pub cycles : k ≤ 24
+  pub cycles : k ≤ most_cycles
   pub few : first + length (all_overwritten g k) < 2 ^ 29
 
 -- the classes of the operands that the launch has to see, or to read before another launch overwrites them

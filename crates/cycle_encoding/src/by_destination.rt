@@ -1,5 +1,6 @@
 // The launches that have variables, by where they go.
 ghost use Rattle.std.specs.Prelude.{◌≡◌, ◌+◌, ◌<◌, ◌≤◌, ◌^◌, ◌++◌, IfOk, OnOk, length};
+ghost use Rattle.schedule_meaning.specs.Limits.{most_cycles};
 ghost use Rattle.machine_table.specs.Tables.{IsTable};
 ghost use Rattle.cycle_encoding.specs.CycleFormula.{first_cycle_in};
 ghost use Rattle.cycle_encoding.specs.Facts as specs;
@@ -23,7 +24,7 @@ pub fn launches_from(
     scope: &Scope,
     k: u32,
 ) -> Result<Vec<Launch>, NoMemory>
-    requires cycles { k ≤ 24 }
+    requires cycles { k ≤ most_cycles }
     requires table { IsTable table.now }
     requires rows { length facts.now.rows < 2 ^ 30 }
     ensures { IfOk result (λ launches. launches.items
@@ -47,7 +48,7 @@ fn push_row(
     k: u32,
     row: u32,
 ) -> Result<(), NoMemory>
-    requires cycles { k ≤ 24 }
+    requires cycles { k ≤ most_cycles }
     requires table { IsTable table.now }
     ensures { OnOk result (launches.new.items ≡ launches.old.items ++ row_launches facts.now table.now k first row) }
 {

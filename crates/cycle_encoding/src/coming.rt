@@ -1,6 +1,7 @@
 // By which cycle each class has come: the word of some row or copy of it is ready in its own cluster.
 ghost use Rattle.std.specs.Prelude.{◌≡◌, ◌+◌, ◌≤◌, ℕ, None, length, map, IfOk};
 ghost use Rattle.std.specs.List.{range_with_len};
+ghost use Rattle.schedule_meaning.specs.Limits.{most_cycles};
 ghost use Rattle.graph_meaning.specs.WellFormed.{IsLaunchGraph, next_class};
 ghost use Rattle.machine_table.specs.Tables.{IsTable};
 ghost use Rattle.cycle_encoding.specs.Coming as coming;
@@ -13,11 +14,10 @@ use crate::facts::next_class;
 use crate::marks::filled;
 use items::{Items, NoMemory};
 use machine_table::{InstrKind, Table};
-use schedule_meaning::class_at;
+use schedule_meaning::{MOST_CYCLES, class_at};
 use std::alloc::Global;
 
 /// The last cycle that is asked of.
-const LAST: u32 = 24;
 
 /// After how many cycles the row gives its word, if it gives one and the table names its instruction.
 fn word_latency(facts: &Facts, table: &Table, row: u32) -> Option<u32>
@@ -74,7 +74,7 @@ fn pass_row(
 )
     requires graph { IsLaunchGraph facts.now }
     requires needs { needs.now ≡ start_needs facts.now row }
-    requires cycle { cycle ≤ 24 }
+    requires cycle { cycle ≤ most_cycles }
     requires table { IsTable table.now }
     requires long { length come.old.items ≡ next_class facts.now.rows }
     requires sound { AreSound facts.now table.now come.old.items }
@@ -102,7 +102,7 @@ fn pass_rows(
     cycle: u32,
 )
     requires needs { needs.now ≡ map (start_needs facts.now) (row_numbers facts.now) }
-    requires cycle { cycle ≤ 24 }
+    requires cycle { cycle ≤ most_cycles }
     requires table { IsTable table.now }
     requires graph { IsLaunchGraph facts.now }
     requires long { length come.old.items ≡ next_class facts.now.rows }
@@ -126,7 +126,7 @@ fn pass_rows(
 }
 
 /// For each class the first cycle by which it has come, where that is one up to 24 or soon behind it.
-pub fn come_cycles(
+pub fn earliest_cycles(
     alloc: Global,
     facts: &Facts,
     table: &Table,
@@ -135,10 +135,10 @@ pub fn come_cycles(
     requires needs { needs.now ≡ map (start_needs facts.now) (row_numbers facts.now) }
     requires table { IsTable table.now }
     requires graph { IsLaunchGraph facts.now }
-    ensures { IfOk result (λ come. IsExactUpTo facts.now table.now come.items 24) }
+    ensures { IfOk result (λ come. IsExactUpTo facts.now table.now come.items most_cycles) }
 {
     let mut come = filled(alloc, None, next_class(facts.graph()))?;
-    for cycle in 0..LAST + 1 {
+    for cycle in 0..MOST_CYCLES + 1 {
         pass_rows(&mut come, facts, table, needs, cycle);
     }
     Ok(come)

@@ -1,6 +1,8 @@
 // How many launches a row has, whatever their destinations; and what counts may be.
 ghost use Rattle.std.specs.Prelude.{◌≡◌, ◌+◌, ◌*◌, ◌<◌, ◌≤◌, ◌^◌, ◌||◌, ◌↔◌, ◌⊎◌, nat_lt, length, IfErr, IsTrue, OnOk};
 ghost use Rattle.std.specs.List.{count_by, range_with_len};
+ghost use Rattle.cycle_encoding.specs.Limits.{most_vars, most_clauses};
+ghost use Rattle.schedule_meaning.specs.Limits.{most_cycles};
 ghost use Rattle.cnf_core.specs.Counter as counter;
 ghost use Rattle.cnf_core.specs.Formula.{Formula};
 ghost use Rattle.cycle_encoding.specs.Steps as steps;
@@ -39,7 +41,7 @@ pub fn slot_count(table: &Table, instr: InstrKind) -> u64
 #[tactic(auto, using(crate::proofs::Tallies::count_is, crate::proofs::Tallies::count_without_first, crate::proofs::Tallies::count_without_use, crate::proofs::Tallies::count_without_instr))]
 pub fn row_count(facts: &Facts, table: &Table, scope: &Scope, k: u32, row: u32) -> u64
     requires table { IsTable table.now }
-    requires cycles { k ≤ 24 }
+    requires cycles { k ≤ most_cycles }
     ensures value { result ≡ counts.row_count facts.now table.now k scope.now row }
     ensures few { result ≤ 200 }
 {
@@ -87,7 +89,7 @@ pub fn row_has(
     cycle: u32,
     row: u32,
 ) -> bool
-    requires cycles { k ≤ 24 }
+    requires cycles { k ≤ most_cycles }
     ensures { result ≡ counts.row_has facts.now table.now k scope.now slot cycle row }
 {
     let Some(instr) = facts.instr_at(row) else {
@@ -125,8 +127,8 @@ pub struct Sizes {
 impl Sizes {
     /// Whether one of the counts passes its limit.
     pub fn pass_limit(self) -> bool
-        ensures value { result ≡ (nat_lt 262144 self.vars || nat_lt 2000000 self.clauses) }
-        ensures exact { IsTrue result ↔ ((262144 < self.vars) ⊎ (2000000 < self.clauses)) }
+        ensures value { result ≡ (nat_lt most_vars self.vars || nat_lt most_clauses self.clauses) }
+        ensures exact { IsTrue result ↔ ((most_vars < self.vars) ⊎ (most_clauses < self.clauses)) }
     {
         self.vars > MOST_VARS || self.clauses > MOST_CLAUSES
     }
@@ -137,8 +139,8 @@ impl Sizes {
             → EncodeFaultIs f fault) }
         ensures within { OnOk result ((f : Formula) → self.vars ≡ f.vars → self.clauses ≡ length f.clauses
             → ¬ IsTooLarge f) }
-        ensures few_vars { OnOk result (self.vars ≤ 262144) }
-        ensures few_clauses { OnOk result (self.clauses ≤ 2000000) }
+        ensures few_vars { OnOk result (self.vars ≤ most_vars) }
+        ensures few_clauses { OnOk result (self.clauses ≤ most_clauses) }
     {
         if self.pass_limit() {
             return Err(EncodeFault::Size {

@@ -1,6 +1,7 @@
 // The counts of launches and of counters over slots and cycles, found row by row before any clause is.
 ghost use Rattle.std.specs.Prelude.{◌≡◌, ◌+◌, ◌*◌, ◌<◌, ◌≤◌, ◌^◌, length};
 ghost use Rattle.std.specs.List.{range_with_len, sum_by};
+ghost use Rattle.schedule_meaning.specs.Limits.{most_cycles};
 ghost use Rattle.cnf_core.specs.Counter as counter;
 ghost use Rattle.machine_table.specs.Tables.{IsTable};
 ghost use Rattle.cycle_encoding.specs.Counts as counts;
@@ -14,7 +15,7 @@ use machine_table::Table;
 #[tactic(auto, using(crate::proofs::Tallies::sum_more))]
 pub fn launch_count(facts: &Facts, table: &Table, scope: &Scope, k: u32) -> u64
     requires table { IsTable table.now }
-    requires cycles { k ≤ 24 }
+    requires cycles { k ≤ most_cycles }
     requires rows { length facts.now.rows < 2 ^ 30 }
     ensures value { result ≡ counts.sum_destined facts.now table.now k scope.now (λ row to. 1) }
     ensures few { result < 2 ^ 45 }
@@ -29,7 +30,7 @@ pub fn launch_count(facts: &Facts, table: &Table, scope: &Scope, k: u32) -> u64
 /// How many launches there are in a slot and cycle.
 #[tactic(auto, using(crate::proofs::Tallies::sum_more))]
 fn destined_at(facts: &Facts, table: &Table, scope: &Scope, k: u32, slot: u32, cycle: u32) -> u64
-    requires cycles { k ≤ 24 }
+    requires cycles { k ≤ most_cycles }
     requires rows { length facts.now.rows < 2 ^ 30 }
     ensures value { result ≡ counts.destined_at facts.now table.now k scope.now slot cycle }
     ensures few { result < 2 ^ 37 }
@@ -46,7 +47,7 @@ fn destined_at(facts: &Facts, table: &Table, scope: &Scope, k: u32, slot: u32, c
 /// The counts of the counters of a slot.
 #[tactic(auto, using(crate::proofs::Tallies::sum_more))]
 fn slot_sizes(facts: &Facts, table: &Table, scope: &Scope, k: u32, slot: u32) -> Sizes
-    requires cycles { k ≤ 24 }
+    requires cycles { k ≤ most_cycles }
     requires rows { length facts.now.rows < 2 ^ 30 }
     ensures vars { result.vars
         ≡ sum_by (λ t. counter.at_most_vars 1 (counts.destined_at facts.now table.now k scope.now slot t))
@@ -71,7 +72,7 @@ fn slot_sizes(facts: &Facts, table: &Table, scope: &Scope, k: u32, slot: u32) ->
 #[tactic(auto, using(crate::proofs::Tallies::sum_more))]
 pub fn place_sizes(facts: &Facts, table: &Table, scope: &Scope, k: u32) -> Sizes
     requires table { IsTable table.now }
-    requires cycles { k ≤ 24 }
+    requires cycles { k ≤ most_cycles }
     requires rows { length facts.now.rows < 2 ^ 30 }
     ensures vars { result.vars ≡ counts.sum_places facts.now table.now k scope.now
         (λ s t. counter.at_most_vars 1 (counts.destined_at facts.now table.now k scope.now s t)) }

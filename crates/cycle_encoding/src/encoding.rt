@@ -1,5 +1,7 @@
 // The formula of cycles, slots and values.
 ghost use Rattle.std.specs.Prelude.{◌≡◌, ◌+◌, ◌<◌, ◌≤◌, ◌^◌, [], length, IfOk, IfErr, OnOk};
+ghost use Rattle.cycle_encoding.specs.Limits.{most_vars, most_clauses};
+ghost use Rattle.schedule_meaning.specs.Limits.{most_cycles};
 ghost use Rattle.graph_meaning.specs.WellFormed.{IsLaunchGraph};
 ghost use Rattle.machine_table.specs.Tables.{IsTable};
 ghost use Rattle.cycle_encoding.specs.CycleFormula.{first_cycle_in, wants_in, Listed as ListedOf};
@@ -36,7 +38,7 @@ pub fn encode(
     table: &Table,
     k: u32,
 ) -> Result<Encoded, EncodeFault>
-    requires cycles { k ≤ 24 }
+    requires cycles { k ≤ most_cycles }
     requires table { IsTable table.now }
     requires graph { IsLaunchGraph graph.now }
     ensures formula { IfOk result (λ e. e.cnf
@@ -58,7 +60,7 @@ pub fn encode_as(
     table: &Table,
     k: u32,
 ) -> Result<Encoded, EncodeFault>
-    requires cycles { k ≤ 24 }
+    requires cycles { k ≤ most_cycles }
     requires table { IsTable table.now }
     requires graph { IsLaunchGraph graph.now }
     ensures listed { OnOk result ((l : ListedOf) × AreListed encoding graph.now table.now k l) }
@@ -103,13 +105,13 @@ pub fn build_cycles(
     scope: &Scope,
     k: u32,
 ) -> Result<Encoded, NoMemory>
-    requires cycles { k ≤ 24 }
+    requires cycles { k ≤ most_cycles }
     requires table { IsTable table.now }
     requires graph { IsLaunchGraph facts.now }
     requires vars { (cycle_formula facts.now table.now k (listed_in facts.now table.now k scope.now)).vars
-        ≤ 262144 }
+        ≤ most_vars }
     requires clauses { length (cycle_formula facts.now table.now k
-        (listed_in facts.now table.now k scope.now)).clauses ≤ 2000000 }
+        (listed_in facts.now table.now k scope.now)).clauses ≤ most_clauses }
     ensures formula { IfOk result (λ e. e.cnf
         ≡ cycle_formula facts.now table.now k (listed_in facts.now table.now k scope.now)) }
     ensures plan { IfOk result (λ e. e.plan ≡ record {
@@ -160,9 +162,9 @@ fn add_families(
       clauses = [];
     } }
     requires vars { (cycle_formula facts.now table.now k
-        (record { launches = launches.now; seen = seen.now.seen.items })).vars ≤ 262144 }
+        (record { launches = launches.now; seen = seen.now.seen.items })).vars ≤ most_vars }
     requires clauses { length (cycle_formula facts.now table.now k
-        (record { launches = launches.now; seen = seen.now.seen.items })).clauses ≤ 2000000 }
+        (record { launches = launches.now; seen = seen.now.seen.items })).clauses ≤ most_clauses }
     ensures { OnOk result (cnf.new ≡ cycle_formula facts.now table.now k
         (record { launches = launches.now; seen = seen.now.seen.items })) }
 {

@@ -1,12 +1,13 @@
 // In which slots and cycles an instruction may be launched.
 ghost use Rattle.std.specs.Prelude.{◌≡◌, ◌+◌, ◌-◌, ◌≤◌, ◌&&◌, nat_le, nat_lt};
+ghost use Rattle.schedule_meaning.specs.Limits.{most_cycles};
 ghost use Rattle.cycle_encoding.specs.Facts as facts;
 
 use machine_table::{InstrKind, Table};
 
 /// In how many cycles an instruction can begin, from a first one, that ends by k.
 pub fn cycles(k: u32, latency: u32, first: u32) -> u32
-    requires { k ≤ 24 }
+    requires { k ≤ most_cycles }
     ensures { result ≡ k + 1 - latency - first }
 {
     (k + 1).saturating_sub(latency).saturating_sub(first)
@@ -14,7 +15,7 @@ pub fn cycles(k: u32, latency: u32, first: u32) -> u32
 
 /// Whether an instruction can begin in a cycle, from a first one, if it has to end by k.
 pub fn can_begin(k: u32, latency: u32, first: u32, cycle: u32) -> bool
-    requires { k ≤ 24 }
+    requires { k ≤ most_cycles }
     ensures { result ≡ (nat_le first cycle && nat_lt cycle (k + 1 - latency)) }
 {
     first <= cycle && cycle < (k + 1).saturating_sub(latency)

@@ -2,6 +2,7 @@
 ghost use Rattle.std.specs.Prelude.{◌≡◌, ◌*◌, ◌<◌, ◌≤◌, ◌^◌, false, slice_get};
 ghost use Rattle.std.specs.Option.{option_map_or};
 ghost use Rattle.std.specs.List.{count_by, sum_by};
+ghost use Rattle.schedule_meaning.specs.Limits.{most_cycles};
 ghost use Rattle.graph_meaning.specs.WellFormed.{IsLaunchGraph};
 ghost use Rattle.machine_table.specs.Tables.{IsTable};
 ghost use Rattle.schedule_meaning.specs.Launches.{operands_at, pin_of};
@@ -120,7 +121,7 @@ fn row_needs(facts: &Facts, row: u32) -> u64
 pub fn needs_count(facts: &Facts, table: &Table, scope: &Scope, k: u32) -> u64
     requires graph { IsLaunchGraph facts.now }
     requires table { IsTable table.now }
-    requires cycles { k ≤ 24 }
+    requires cycles { k ≤ most_cycles }
     ensures value { result ≡ counts.sum_destined facts.now table.now k scope.now
         (λ row to. count_by (counts.needs_clause facts.now to) (operands_at facts.now row)) }
     ensures few { result < 2 ^ 46 }

@@ -1,5 +1,6 @@
 // What is overwritten: below which cycle a launch went to a set that is pinned to an input's register.
 ghost use Rattle.std.specs.Prelude.{◌≡◌, ◌+◌, ◌*◌, ◌<◌, ◌≤◌, ◌^◌, ◌∷◌, [], ◌++◌, if◌then◌else◌, length, IfOk, OnOk};
+ghost use Rattle.schedule_meaning.specs.Limits.{most_cycles};
 ghost use Rattle.schedule_meaning.specs.Launches as launches;
 ghost use Rattle.cycle_encoding.specs.Families.{is_lost};
 ghost use Rattle.cycle_encoding.specs.Variables.{all_overwritten, is_overwriting as is_over, overwriting_sets};
@@ -52,7 +53,7 @@ impl OverwrittenVars {
     /// How many variables they are.
     pub fn count(&self) -> u32
         requires sets { length self.now.sets.items ≤ 31 }
-        requires cycles { self.now.cycles ≤ 24 }
+        requires cycles { self.now.cycles ≤ most_cycles }
         ensures value { result ≡ length self.now.sets.items * (self.now.cycles + 1) }
         ensures few { result ≤ 775 }
     {

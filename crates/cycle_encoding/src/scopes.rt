@@ -9,7 +9,7 @@ ghost use Rattle.cycle_encoding.specs.Variables.{row_numbers};
 ghost use Rattle.cycle_encoding.specs.Scoped as scoped;
 ghost use Rattle.cycle_encoding.specs.CycleFormula.{first_cycle_in, wants_in, wide_scope};
 
-use crate::coming::come_cycles;
+use crate::coming::earliest_cycles;
 use crate::operands::{There, needs};
 use crate::wanting::wanted;
 use crate::{Encoding, Facts};
@@ -66,7 +66,7 @@ impl Scope {
         let lasting = needs(alloc, facts, There::Always)?;
         let wants = wanted(alloc, facts, &lasting)?;
         let entering = needs(alloc, facts, There::AtEntry)?;
-        let come = come_cycles(alloc, facts, table, &entering)?;
+        let come = earliest_cycles(alloc, facts, table, &entering)?;
         let firsts = first_cycles(alloc, facts, &entering, &come, &wants)?;
         Ok(Scope {
             encoding,

@@ -1,6 +1,7 @@
 // The counts of the formula of cycles, slots and values where sets may have pins.
 ghost use Rattle.std.specs.Prelude.{◌≡◌, ◌<◌, ◌≤◌, ◌^◌};
 ghost use Rattle.std.specs.List.{count_by, range_with_len};
+ghost use Rattle.schedule_meaning.specs.Limits.{most_cycles};
 ghost use Rattle.graph_meaning.specs.WellFormed as wellformed;
 ghost use Rattle.graph_meaning.specs.WellFormed.{IsLaunchGraph};
 ghost use Rattle.machine_table.specs.Tables.{IsTable};
@@ -72,7 +73,7 @@ pub fn overwriting_count(facts: &Facts) -> u64
 pub fn cycle_sizes(facts: &Facts, table: &Table, scope: &Scope, k: u32) -> Sizes
     requires graph { IsLaunchGraph facts.now }
     requires table { IsTable table.now }
-    requires cycles { k ≤ 24 }
+    requires cycles { k ≤ most_cycles }
     ensures vars { result.vars ≡ counts.cycle_vars facts.now table.now k scope.now }
     ensures clauses { result.clauses ≡ counts.cycle_size facts.now table.now k scope.now }
     ensures few_vars { result.vars < 2 ^ 50 }

@@ -22,7 +22,7 @@ use Rattle.least_launch.specs.declared.tails.Tail.{Tail}
 use Rattle.proc_goal.specs.ProcGrammar.{IsFirstProcFault, ReadsProc}
 use Rattle.proc_goal.specs.Views.{ProcTree}
 use Rattle.answer_texts.specs.declared.answers.Claimed.{Claimed}
-use Rattle.clause_texts.specs.GoalClauses.{AreClausesAt, AreClausesOf, given, no_goal, of_goal, too_large, without_graph}
+use Rattle.dimacs.specs.GoalClauses.{AreClausesAt, AreClausesOf, given, no_goal, of_goal, too_large, without_graph}
 use Rattle.cycle_encoding.specs.declared.encodings.Encoding.{Encoding}
 use Rattle.machine_table.specs.declared.tables.Table.{Table}
 use Rattle.refute_trim.specs.TrimmedAnswers.{IsTrimReport, rejected, trimmed}

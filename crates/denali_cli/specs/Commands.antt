@@ -1,5 +1,7 @@
 -- What the program can do. Source: this project.
 use Rattle.std.specs.Prelude.{◌≤◌}
+use Rattle.text_core.specs.Limits.{most_goals}
+use Rattle.schedule_meaning.specs.Limits.{most_cycles}
 use Rattle.denali_run.specs.MatchedGoals.{IsSettings}
 pub use Rattle.denali_cli.specs.declared.commands.Command.{Command}
 pub use Rattle.denali_cli.specs.declared.commands.Command.TheVariants.{Solve, SolveLeast, Proc, Check, CheckLeast, Trim, Verify, Run, Gen, Cnf}
@@ -15,4 +17,4 @@ HasValuesInRange Trim = Unit {0}
 HasValuesInRange (Verify rounds nodes) = (rounds ≤ 16) × ((1 ≤ nodes) × (nodes ≤ 4096))
 HasValuesInRange Run = Unit {0}
 HasValuesInRange (Gen size) = (1 ≤ size) × (size ≤ 20)
-HasValuesInRange (Cnf goal cycles) = ((1 ≤ goal) × (goal ≤ 64)) × (cycles ≤ 24)
+HasValuesInRange (Cnf goal cycles) = ((1 ≤ goal) × (goal ≤ most_goals)) × (cycles ≤ most_cycles)

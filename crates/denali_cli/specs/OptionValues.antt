@@ -3,6 +3,8 @@ use Rattle.std.specs.Prelude.{ℕ, Bool, false, List, None, Some, is_none, codes
 use Rattle.std.specs.Str.Parse.{digits_value}
 use Rattle.std.specs.declared.option.Option.{Option}
 use Rattle.std.specs.Str.{bytes_eq}
+use Rattle.text_core.specs.Limits.{most_goals}
+use Rattle.schedule_meaning.specs.Limits.{most_cycles}
 use Rattle.denali_run.specs.declared.settings.Pick.{Pick}
 use Rattle.denali_run.specs.declared.settings.Pick.TheVariants.{First, Last, Busy}
 use Rattle.denali_run.specs.declared.settings.Settings.{Settings}
@@ -23,7 +25,7 @@ abbrev pub nodes_value : List ℕ → Option ℕ
 nodes_value = number_within 1 4096
 
 abbrev pub cycles_value : List ℕ → Option ℕ
-cycles_value = number_within 0 24
+cycles_value = number_within 0 most_cycles
 
 abbrev pub conflicts_value : List ℕ → Option ℕ
 conflicts_value = number_within 1 1000000
@@ -44,7 +46,7 @@ default_size = 10
 
 -- the number of a goal in an answer
 abbrev pub goal_number_value : List ℕ → Option ℕ
-goal_number_value = number_within 1 64
+goal_number_value = number_within 1 most_goals
 
 abbrev pub default_goal : ℕ
 default_goal = 1
@@ -61,7 +63,7 @@ no_options = record { rounds = None; nodes = None; cycles = None; conflicts = No
 pub record AreInRange (o : Options) : Type 0 where
   pub rounds : IfSome o.rounds (λ n. n ≤ 16)
   pub nodes : IfSome o.nodes (λ n. (1 ≤ n) × (n ≤ 4096))
-  pub cycles : IfSome o.cycles (λ n. n ≤ 24)
+  pub cycles : IfSome o.cycles (λ n. n ≤ most_cycles)
   pub conflicts : IfSome o.conflicts (λ n. (1 ≤ n) × (n ≤ 1000000))
 
 -- no other option is set than those of rounds

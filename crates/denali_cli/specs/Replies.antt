@@ -13,7 +13,7 @@ use Rattle.reports.specs.declared.statuses.Status.TheVariants.{ReadFault}
 use Rattle.least_launch.specs.LeastAnswers.{AnswersLeast}
 use Rattle.least_launch.specs.LeastChecks.{ChecksLeast}
 use Rattle.proc_link.specs.ProcAnswers.{AnswersProc}
-use Rattle.clause_texts.specs.GoalClauses.{GivesClauses}
+use Rattle.dimacs.specs.GoalClauses.{GivesClauses}
 use Rattle.refute_trim.specs.TrimmedAnswers.{TrimsText}
 use Rattle.denali_cli.specs.Commands.{Command, Solve, SolveLeast, Proc, Check, CheckLeast, Trim, Verify, Run, Gen, Cnf}
 use Rattle.denali_cli.specs.Formats.{IsFormatFault, IsReadAs, format_of, limit}

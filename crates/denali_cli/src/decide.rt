@@ -13,9 +13,9 @@ ghost use Rattle.denali_cli.specs.Outcomes.{Decides, IsReader, IsUnread, IsWhole
 
 use crate::commands::Command;
 use crate::words::asked;
-use clause_texts::clauses_text;
 use code_check::{Told, verify_text};
 use denali_run::{check_text, gen_text, run_text, solve_text};
+use dimacs::clauses_text;
 use items::NoMemory;
 use itoa::Buffer;
 use least_launch::{check_least_text, solve_least_text};

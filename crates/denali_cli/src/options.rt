@@ -1,5 +1,7 @@
 // Options, and their values.
 ghost use Rattle.std.specs.Prelude.{◌≡◌, ◌≤◌, ◌<◌, ◌^◌, IfSome, IfNone, map};
+ghost use Rattle.text_core.specs.Limits.{most_goals};
+ghost use Rattle.schedule_meaning.specs.Limits.{most_cycles};
 ghost use Rattle.denali_run.specs.MatchedGoals.{IsSettings};
 ghost use Rattle.denali_cli.specs.Commands.{HasValuesInRange};
 ghost use Rattle.denali_cli.specs.OptionValues as values;
@@ -7,6 +9,7 @@ ghost use Rattle.denali_cli.specs.PlainForms as plain;
 
 use crate::commands::Command;
 use denali_run::{Pick, Settings};
+use schedule_meaning::MOST_CYCLES;
 use text_core::decimal;
 
 /// The greatest values of the options.
@@ -14,13 +17,11 @@ pub(crate) const MOST_ROUNDS: u32 = 16;
 
 pub(crate) const MOST_NODES: u32 = 4096;
 
-pub(crate) const MOST_CYCLES: u32 = 24;
-
 pub(crate) const MOST_CONFLICTS: u32 = 1_000_000;
 
 pub(crate) const MOST_SIZE: u32 = 20;
 
-pub(crate) const MOST_GOALS: u32 = 64;
+pub(crate) const MOST_GOALS: u32 = text_core::MOST_GOALS as u32;
 
 /// How many rounds are done at most, and up to how many rows, where no option says so.
 pub(crate) const DEFAULT_ROUNDS: u32 = 4;
@@ -211,8 +212,8 @@ pub(crate) fn solve_of(options: Options) -> Command
 
 /// The command of `cnf` with what is set of its two options.
 pub(crate) fn cnf_of(goal: Option<u32>, cycles: Option<u32>) -> Command
-    requires goal { IfSome goal (λ n. (1 ≤ n) × (n ≤ 64)) }
-    requires cycles { IfSome cycles (λ n. n ≤ 24) }
+    requires goal { IfSome goal (λ n. (1 ≤ n) × (n ≤ most_goals)) }
+    requires cycles { IfSome cycles (λ n. n ≤ most_cycles) }
     ensures value { result ≡ plain.cnf_of goal cycles }
     ensures within { HasValuesInRange result }
 {

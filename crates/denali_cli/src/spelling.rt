@@ -9,13 +9,14 @@ ghost use Rattle.denali_cli.specs.Spellings as spec;
 
 use crate::commands::Command;
 use crate::options::{
-    DEFAULT_NODES, DEFAULT_ROUNDS, DEFAULT_SIZE, MOST_CONFLICTS, MOST_CYCLES, MOST_GOALS,
-    MOST_NODES, MOST_ROUNDS, MOST_SIZE, Options, cnf_of, pick_of, settings_of, solve_of, value_in,
+    DEFAULT_NODES, DEFAULT_ROUNDS, DEFAULT_SIZE, MOST_CONFLICTS, MOST_GOALS, MOST_NODES,
+    MOST_ROUNDS, MOST_SIZE, Options, cnf_of, pick_of, settings_of, solve_of, value_in,
 };
 use clap::error::ErrorKind;
 use clap::{Arg, ArgAction, ArgMatches, Command as Parser};
 use denali_run::Pick;
 use items::NoMemory;
+use schedule_meaning::MOST_CYCLES;
 use std::alloc::{AllocError, Global};
 
 /// The command with one more option, `--name VALUE`.

@@ -9,11 +9,12 @@ ghost use Rattle.denali_cli.specs.Said.{asked_by};
 
 use crate::commands::Command;
 use crate::options::{
-    DEFAULT_NODES, DEFAULT_ROUNDS, MOST_CYCLES, MOST_GOALS, Options, cnf_of, is_flag, options_of,
-    settings_of, size_in, solve_of, value_in,
+    DEFAULT_NODES, DEFAULT_ROUNDS, MOST_GOALS, Options, cnf_of, is_flag, options_of, settings_of,
+    size_in, solve_of, value_in,
 };
 use crate::spelling::spelled;
 use items::NoMemory;
+use schedule_meaning::MOST_CYCLES;
 use std::alloc::Global;
 
 /// A command without options, where no word follows it.

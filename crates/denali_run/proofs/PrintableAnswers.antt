@@ -3,6 +3,7 @@ use Rattle.std.proofs.Common.{◌≡◌, ℕ, suc, ◌+◌, ◌≤◌, List, [],
 use Rattle.std.specs.Prelude.{All}
 use Rattle.std.specs.List.{AllZip}
 use Rattle.std.proofs.lemmas.List.Elements.{All-cons, All-head, All-tail}
+use Rattle.schedule_meaning.specs.Limits.{most_cycles}
 use Rattle.answer_texts.specs.AnswerLines.{refuted_below}
 use Rattle.answer_texts.specs.Printable.{AreLinesBelow, IsGraphClaim, IsPrintable, IsPrintableGoal, no_world, worked}
 use Rattle.answer_texts.specs.declared.answers.Claim.{Claim}
@@ -49,7 +50,7 @@ module _ (slots : SlotsAreThere) (accepted : AcceptedAreReadable) (input : Input
       (omega (arith, short, most)) in
       record { few = read.1; each = read.0 })
 
-  cycles_low : (k : ℕ) → k ≤ s.cycles → k ≤ 24
+  cycles_low : (k : ℕ) → k ≤ s.cycles → k ≤ most_cycles
   cycles_low k low = (let most = set.cycles in omega (arith, most, low))
 
   -- ---- goals
@@ -65,7 +66,7 @@ module _ (slots : SlotsAreThere) (accepted : AcceptedAreReadable) (input : Input
 
     printable : (r : Answered) → Right Pinned input goal s r → IsPrintableGoal 2 input.table (claimed goal.name r)
     printable (Scheduled f) right =
-        let low : f.k ≤ 24 = cycles_low f.k right.1 in
+        let low : f.k ≤ most_cycles = cycles_low f.k right.1 in
         on_graph f.matched (claims.Scheduled f.k f.schedule f.words f.listing.wheres) f.refutation right.0 (
           low,
           are_placed f.matched.graph right.0.graph (few_sets input goal f.matched.graph right.0.stands targets) slots input.table

@@ -3,6 +3,7 @@ use Rattle.std.proofs.Common.{◌≡◌, ℕ, ◌+◌, ◌-◌, ◌<◌, ◌≤�
 use Rattle.std.specs.Prelude.{All, IsSomeAnd}
 use Rattle.std.specs.List.{AllZip}
 use Rattle.std.proofs.lemmas.List.Elements.{All-head, All-tail}
+use Rattle.schedule_meaning.specs.Limits.{most_cycles}
 use Rattle.alpha_encode.specs.Decoded.{decoded}
 use Rattle.alpha_encode.specs.declared.instructions.Instr.{Instr}
 use Rattle.cnf_core.specs.Formula.{Formula}
@@ -120,7 +121,7 @@ module _ (laws : Laws) where
       readable laws.accepted (f j) lines refuted.none_fits.within refuted.refutes.accepted
       (let few : length lines ≤ conflicts = refuted.few in omega (arith, few, most))
 
-  below_can : (f : ℕ → Formula) (g : LaunchGraph) (table : Table) (conflicts k : ℕ) (lines : Option Lines) → k ≤ 24
+  below_can : (f : ℕ → Formula) (g : LaunchGraph) (table : Table) (conflicts k : ℕ) (lines : Option Lines) → k ≤ most_cycles
       → conflicts ≤ 1000000 → AreRefutedBelow f g table conflicts k lines → CanBeLines (below_lines k lines)
   below_can f g table conflicts k None low most are = no_lines
   below_can f g table conflicts k (Some lines) low most (one_less {k = j} refuted) =
@@ -128,7 +129,7 @@ module _ (laws : Laws) where
       (omega (arith, low)) (few_readable f g table conflicts j lines.lines most refuted)
 
   refuted_can : (f : ℕ → Formula) (g : LaunchGraph) (table : Table) (conflicts k after : ℕ) (lines : Lines)
-      → after ≡ k + 1 → k ≤ 24 → conflicts ≤ 1000000 → AreRefutedBelow f g table conflicts after (Some lines)
+      → after ≡ k + 1 → k ≤ most_cycles → conflicts ≤ 1000000 → AreRefutedBelow f g table conflicts after (Some lines)
       → CanBeLines (refute_lines k lines.lines)
   refuted_can f g table conflicts k after lines is low most (one_less {k = j} refuted) =
       block_lines (codes "refute") k lines.lines (record { some = λ e. cc; printed = refl }) (omega (arith, low))
@@ -152,7 +153,7 @@ module _ (laws : Laws) where
 
   -- ---- results
 
-  number_line : (a : List ℕ) (k : ℕ) → IsLineWord a → k ≤ 24 → CanBeLine (a ∷ decimal k ∷ [])
+  number_line : (a : List ℕ) (k : ℕ) → IsLineWord a → k ≤ most_cycles → CanBeLine (a ∷ decimal k ∷ [])
   number_line a k is low = can_be (a_word is (a_word (laws.number k (omega (arith, low))) no_words))
 
   module _ (e : Encoding) (input : InputTree) (s : Settings) (is : IsInput input) (set : IsSettings s) where
@@ -160,7 +161,7 @@ module _ (laws : Laws) where
     rounds_low goal m matched =
         (let few = set.rounds in let reached : m.rounds ≤ s.rounds = matched.reached.0 in omega (arith, few, reached))
 
-    pub cycles_low : (k : ℕ) → k ≤ s.cycles → k ≤ 24
+    pub cycles_low : (k : ℕ) → k ≤ s.cycles → k ≤ most_cycles
     cycles_low k low = (let most = set.cycles in omega (arith, most, low))
 
     front : (goal : GoalTree) (m : Matched) → IsMatched input goal s m → CanBeLines (matched_lines m)
@@ -168,7 +169,7 @@ module _ (laws : Laws) where
 
     answered_can : (goal : GoalTree) → length goal.sets ≤ 16 → (r : Answered) → Right e input goal s r → CanBeLines (answered_lines input.table r)
     answered_can goal small (Scheduled f) right =
-        let low : f.k ≤ 24 = cycles_low f.k right.1 in
+        let low : f.k ≤ most_cycles = cycles_low f.k right.1 in
         and_lines _ (front goal f.matched right.0)
         (a_line (number_line (codes "scheduled") f.k (record { some = λ e. cc; printed = refl }) low)
         (and_lines _
@@ -183,13 +184,13 @@ module _ (laws : Laws) where
         (below_can right.3.clauses_for f.matched.graph input.table s.conflicts f.k f.refutation low set.conflicts.1
         right.3.holds.1.refuted)))))
     answered_can goal small (Nowhere m) right =
-        let low : m.k ≤ 24 = cycles_low m.k (let same = right.1 in omega (arith, same)) in
+        let low : m.k ≤ most_cycles = cycles_low m.k (let same = right.1 in omega (arith, same)) in
         and_lines _ (front goal m.matched right.0)
         (a_line (number_line (codes "none") m.k (record { some = λ e. cc; printed = refl }) low)
         (refuted_can right.2.clauses_for m.matched.graph input.table s.conflicts m.k (m.k + 1) m.refutation refl low
         set.conflicts.1 right.2.holds.refuted))
     answered_can goal small (SpentConflicts t) right =
-        let low : t.k ≤ 24 = cycles_low t.k right.1 in
+        let low : t.k ≤ most_cycles = cycles_low t.k right.1 in
         and_lines _ (front goal t.matched right.0)
         (a_line
         (can_be
@@ -202,7 +203,7 @@ module _ (laws : Laws) where
         (readable laws.accepted (right.2.clauses_for t.k) t.lemmas.lines right.2.holds.0
         right.2.holds.1.accepted (let count = right.2.holds.1.count in let most = set.conflicts.1 in omega (arith, count, most))))))
     answered_can goal small (SpentSize l) right =
-        let low : l.k ≤ 24 = cycles_low l.k right.1 in
+        let low : l.k ≤ most_cycles = cycles_low l.k right.1 in
         and_lines _ (front goal l.matched right.0)
         (a_line
         (can_be

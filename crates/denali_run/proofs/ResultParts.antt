@@ -1,6 +1,7 @@
 -- The parts of results and their lines.
 use Rattle.std.proofs.Common.{◌≡◌, ℕ, ◌<◌, ◌≤◌, ◌^◌, List, [], ◌∷◌, ◌++◌, map, ap, ◌∙◌, arith, codes, decimal, Option, Some, None}
 use Rattle.std.proofs.lemmas.Fmt.{decimal_injective}
+use Rattle.schedule_meaning.specs.Limits.{most_cycles}
 use Rattle.cnf_core.specs.declared.line.Lines.{Lines}
 use Rattle.launch_graph.specs.GraphTexts.{IsNoTarget}
 use Rattle.machine_table.specs.declared.tables.Table.{Table}
@@ -122,7 +123,7 @@ same_large l m a b c d e =
 pub number_same : (a b : ℕ) (ws vs : Words) → a < 2 ^ 64 → b < 2 ^ 64 → decimal a ∷ ws ≡ decimal b ∷ vs → a ≡ b
 number_same a b ws vs low less e = decimal_injective a b low less (head_same (decimal a) (decimal b) ws vs e)
 
-pub cycles_same : (word : List ℕ) (k j : ℕ) (ws vs : Words) → k ≤ 24 → j ≤ 24
+pub cycles_same : (word : List ℕ) (k j : ℕ) (ws vs : Words) → k ≤ most_cycles → j ≤ most_cycles
     → word ∷ decimal k ∷ ws ≡ word ∷ decimal j ∷ vs → k ≡ j
 cycles_same word k j ws vs low less e =
     number_same k j ws vs (omega (arith, low)) (omega (arith, less))

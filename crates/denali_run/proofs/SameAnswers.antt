@@ -3,6 +3,7 @@ use Rattle.std.proofs.Common.{◌≡◌, ℕ, ◌+◌, ◌<◌, ◌≤◌, ◌^�
 use Rattle.std.specs.Prelude.{All}
 use Rattle.std.specs.List.{AllZip}
 use Rattle.std.proofs.lemmas.List.Elements.{All-head, All-tail}
+use Rattle.schedule_meaning.specs.Limits.{most_cycles}
 use Rattle.alpha_encode.specs.Decoded.{decoded}
 use Rattle.alpha_encode.specs.declared.instructions.Instr.{Instr}
 use Rattle.cnf_core.specs.declared.line.Lines.{Lines}
@@ -127,8 +128,8 @@ module _ (laws : Laws) where
         → f.matched ≡ g.matched → scheduled_words f.k ≡ scheduled_words g.k
         → behind table (Scheduled f) x ≡ behind table (Scheduled g) y → (Scheduled f ≡ Scheduled g) × (x ≡ y)
     found_once f g x y p o apart alone same kind rest =
-        let low : f.k ≤ 24 = cycles_low laws e input s is set f.k p.1 in
-        let less : g.k ≤ 24 = cycles_low laws e input s is set g.k o.1 in
+        let low : f.k ≤ most_cycles = cycles_low laws e input s is set f.k p.1 in
+        let less : g.k ≤ most_cycles = cycles_low laws e input s is set g.k o.1 in
         let level : f.k ≡ g.k = cycles_same (codes "scheduled") f.k g.k [] [] low less kind in
         let few = few_sets input goal f.matched.graph p.0.stands small in
         let more = few_sets input goal g.matched.graph o.0.stands small in
@@ -186,8 +187,8 @@ module _ (laws : Laws) where
         → behind table (SpentConflicts t) x ≡ behind table (SpentConflicts u) y
         → (SpentConflicts t ≡ SpentConflicts u) × (x ≡ y)
     conflicts_once t u x y p o same kind rest =
-        let low : t.k ≤ 24 = cycles_low laws e input s is set t.k p.1 in
-        let less : u.k ≤ 24 = cycles_low laws e input s is set u.k o.1 in
+        let low : t.k ≤ most_cycles = cycles_low laws e input s is set t.k p.1 in
+        let less : u.k ≤ most_cycles = cycles_low laws e input s is set u.k o.1 in
         let level : t.k ≡ u.k =
         cycles_same (codes "conflicts") t.k u.k [] [] low less
         (rest_same (codes "spent") (codes "spent") (codes "conflicts" ∷ decimal t.k ∷ [])
@@ -210,8 +211,8 @@ module _ (laws : Laws) where
         → size_words l.k l.vars l.clauses ≡ size_words m.k m.vars m.clauses
         → behind table (SpentSize l) x ≡ behind table (SpentSize m) y → (SpentSize l ≡ SpentSize m) × (x ≡ y)
     size_once l m x y p o same kind rest =
-        let low : l.k ≤ 24 = cycles_low laws e input s is set l.k p.1 in
-        let less : m.k ≤ 24 = cycles_low laws e input s is set m.k o.1 in
+        let low : l.k ≤ most_cycles = cycles_low laws e input s is set l.k p.1 in
+        let less : m.k ≤ most_cycles = cycles_low laws e input s is set m.k o.1 in
         let size = rest_same (codes "spent") (codes "spent")
         (codes "size" ∷ decimal l.k ∷ decimal l.vars ∷ decimal l.clauses ∷ [])
         (codes "size" ∷ decimal m.k ∷ decimal m.vars ∷ decimal m.clauses ∷ []) kind in

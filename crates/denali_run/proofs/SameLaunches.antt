@@ -7,6 +7,7 @@ use Rattle.std.proofs.lemmas.Bool.{cases_lt}
 use Rattle.std.proofs.lemmas.Bool.Decides.{Decides-eqb}
 use Rattle.std.proofs.lemmas.List.Elements.{All-head, All-tail}
 use Rattle.std.proofs.lemmas.Option.{get_or_from_slice_get, none-some, slice_get-get_or, slice_get_past, slice_get_within}
+use Rattle.schedule_meaning.specs.Limits.{most_cycles}
 use Rattle.goal_meaning.specs.Views.{GoalTree, InputTree}
 use Rattle.goal_meaning.specs.WellFormed.{IsGoal}
 use Rattle.graph_meaning.specs.WellFormed.{IsLaunchGraph}
@@ -127,7 +128,7 @@ module _ (g : LaunchGraph) (formed : IsLaunchGraph g) (few : length g.sets ≤ 1
           omega (arith, low, rows, few)),
     )
 
-    placed : (k : ℕ) → k ≤ 24 → (l : Launch) → CanLaunch g table l → CanGo g l → EndsBy g table k l → IsLaunch table g l
+    placed : (k : ℕ) → k ≤ most_cycles → (l : Launch) → CanLaunch g table l → CanGo g l → EndsBy g table k l → IsLaunch table g l
     placed k small l can goes ends =
         let at = by_instr l (instr_at g l.row) refl can in (
           (let by = ends in omega (arith, by, small)),
@@ -138,7 +139,7 @@ module _ (g : LaunchGraph) (formed : IsLaunchGraph g) (few : length g.sets ≤ 1
         )
 
     -- those of a schedule that fits
-    pub are_placed : (k : ℕ) (ls : List Launch) → k ≤ 24 → Fits g table k ls → All (IsLaunch table g) ls
+    pub are_placed : (k : ℕ) (ls : List Launch) → k ≤ most_cycles → Fits g table k ls → All (IsLaunch table g) ls
     are_placed k ls small fits =
         λ i d lt. placed k small (get_or ls i d) (fits.rows i d lt) (fits.destinations i d lt) (fits.in_time i d lt)
 

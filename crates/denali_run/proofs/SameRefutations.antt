@@ -2,6 +2,7 @@
 use Rattle.std.proofs.Common.{◌≡◌, ℕ, ◌+◌, ◌-◌, ◌<◌, ◌≤◌, ◌^◌, inl, inr, List, [], ◌∷◌, ◌++◌, length, map, refl, sym, ap, subst, ◌∙◌, arith, codes, decimal, Option, Some, None}
 use Rattle.std.specs.Prelude.{All}
 use Rattle.std.proofs.lemmas.Fmt.{decimal_injective}
+use Rattle.cycle_encoding.specs.Limits.{most_vars, most_clauses}
 use Rattle.cnf_core.specs.Formula.{Formula}
 use Rattle.cnf_core.specs.Refutation.{AreAccepted}
 use Rattle.cnf_core.specs.declared.line.Line.{Line}
@@ -31,8 +32,8 @@ WordsAreOneLine = (words : Words) (line other : Line) → IsLineOf words line �
 pub readable : AcceptedAreReadable → (f : Formula) (lines : List Line) → ¬ IsTooLarge f → AreAccepted f lines
     → length lines ≤ 1000000 → All IsReadableLine lines × (length lines < 2 ^ 31)
 readable accepted f lines within are few =
-    let many : ¬ (262144 < f.vars) = λ lt. within (inl lt) in
-    let long : ¬ (2000000 < length f.clauses) = λ lt. within (inr lt) in
+    let many : ¬ (most_vars < f.vars) = λ lt. within (inl lt) in
+    let long : ¬ (most_clauses < length f.clauses) = λ lt. within (inr lt) in
     (accepted f lines are (omega (arith, many)) (omega (arith, long, few)), omega (arith, few))
 
 one_line : WordsAreOneLine → (l m : Line) → IsReadableLine l → IsReadableLine m → line_words l ≡ line_words m → l ≡ m

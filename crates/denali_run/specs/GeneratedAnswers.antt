@@ -1,5 +1,6 @@
 -- Which line and which status answer the number of a generated goal. Source: this project.
 use Rattle.std.specs.Prelude.{ℕ, ◌≡◌, List, [], ◌∷◌, length, codes, decimal}
+use Rattle.schedule_meaning.specs.Limits.{most_cycles}
 use Rattle.text_core.specs.LineTexts.{line_text}
 use Rattle.generated_goals.specs.Generated.{generated_goal, generated_input}
 use Rattle.denali_run.specs.Right.{Right}
@@ -13,7 +14,7 @@ use Rattle.reports.specs.declared.statuses.Status.TheVariants as status
 
 -- what the work on each generated goal may take: no round of matching, so the graph has the goal's own terms alone
 abbrev pub generated_settings : Settings
-generated_settings = record { rounds = 0; nodes = 4096; cycles = 24; conflicts = 20000; pick = First }
+generated_settings = record { rounds = 0; nodes = 4096; cycles = most_cycles; conflicts = 20000; pick = First }
 
 -- the size, how many rows the graph has, and the fewest cycles
 abbrev pub scheduled_line : ℕ → ℕ → ℕ → List ℕ

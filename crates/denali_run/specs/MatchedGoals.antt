@@ -1,6 +1,7 @@
 -- The graph of a goal after its rounds of matching. From Denali (PLDI 2002), its matching phase; when rounds end is
 -- this project's.
 use Rattle.std.specs.Prelude.{ℕ, ◌≤◌, length, max}
+use Rattle.schedule_meaning.specs.Limits.{most_cycles}
 use Rattle.goal_meaning.specs.Views.{GoalTree, InputTree}
 use Rattle.graph_meaning.specs.WellFormed.{IsLaunchGraph}
 use Rattle.graph_meaning.specs.declared.graphs.LaunchGraph.{LaunchGraph}
@@ -17,7 +18,7 @@ use Rattle.denali_run.specs.declared.settings.Settings.{Settings}
 pub record IsSettings (s : Settings) : Type 0 where
   pub rounds : s.rounds ≤ 16
   pub nodes : (1 ≤ s.nodes) × (s.nodes ≤ 4096)
-  pub cycles : s.cycles ≤ 24
+  pub cycles : s.cycles ≤ most_cycles
   pub conflicts : (1 ≤ s.conflicts) × (s.conflicts ≤ 1000000)
 
 -- two terms have one class in the graph exactly where j rounds make them equal, and each class is that of a term

@@ -16,6 +16,7 @@ use generated_goals::{
 };
 use items::NoMemory;
 use reports::{Report, Status};
+use schedule_meaning::MOST_CYCLES;
 use std::alloc::Global;
 use text_core::{put, put_number, put_word};
 
@@ -27,7 +28,7 @@ fn generated_settings() -> Settings
     Settings {
         rounds: 0,
         nodes: 4096,
-        cycles: 24,
+        cycles: MOST_CYCLES,
         conflicts: 20000,
         pick: Pick::First,
     }

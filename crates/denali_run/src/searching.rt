@@ -1,5 +1,6 @@
 // Numbers of cycles in rising order, until they are enough.
 ghost use Rattle.std.specs.Prelude.{◌≡◌, ◌≤◌, IfOk};
+ghost use Rattle.schedule_meaning.specs.Limits.{most_cycles};
 ghost use Rattle.cycle_encoding.specs.Encodings.{IsScope};
 ghost use Rattle.goal_meaning.specs.Views.{GoalTree, InputTree};
 ghost use Rattle.graph_meaning.specs.WellFormed.{IsLaunchGraph};
@@ -17,7 +18,7 @@ use cycle_encoding::{EncodeFault, Encoding, Facts, Scope};
 use graph_meaning::LaunchGraph;
 use items::{Items, NoMemory};
 use machine_table::Table;
-use order_encoding::{each_encoding_says_fits, full_in};
+use order_encoding::{build_formula, each_encoding_says_fits};
 use pick_rule::{Picker, Rule};
 use register_assign::{assign, words_of};
 use sat_core::{Verdict, solve};
@@ -55,7 +56,7 @@ pub(crate) fn try_cycles<F: Rule>(
     conflicts: u32,
     picker: &Picker<F>,
 ) -> Result<Trial, NoMemory>
-    requires cycles { k ≤ 24 }
+    requires cycles { k ≤ most_cycles }
     requires table { IsTable table.now }
     requires graph { IsLaunchGraph graph.now }
     requires facts { facts.now ≡ graph.now }
@@ -66,7 +67,7 @@ pub(crate) fn try_cycles<F: Rule>(
     refutations_leave_no_solution();
     fits_in_any_order();
     each_encoding_says_fits();
-    let encoded = match full_in(alloc, facts, table, scope, k) {
+    let encoded = match build_formula(alloc, facts, table, scope, k) {
         Ok(encoded) => encoded,
         Err(fault) => return too_large(fault),
     };

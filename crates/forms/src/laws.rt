@@ -2,6 +2,7 @@
 ghost use Rattle.std.specs.Prelude.{◌≡◌, ◌+◌, ◌≤◌, ℕ, All, List, length};
 ghost use Rattle.std.specs.declared.alloc.Global.{Global as GlobalOf};
 ghost use Rattle.std.specs.declared.vec.Vec.{Vec as VecOf};
+ghost use Rattle.text_core.specs.Limits.{most_nesting};
 ghost use Rattle.forms.specs.Forms.{Stands, Stand, atom, list, atom_of, token_bytes, forms_from, forms_of, sexp_form, sexp_forms};
 ghost use Rattle.forms.specs.Printing.{Plains, CanPrintAll, most_levels, lines_of, plains_of};
 ghost use Rattle.forms.specs.Reading.{TextHasTrees, IsFirstReadFault, IsNamedToken, IsSexpOf};
@@ -54,7 +55,7 @@ pub fn one_reading()
 
 /// The lines of printed forms have trees, whose forms are those that were printed.
 pub fn printed_lines_are_read()
-    ensures { (printed : Plains) → CanPrintAll printed → most_levels printed ≤ 64
+    ensures { (printed : Plains) → CanPrintAll printed → most_levels printed ≤ most_nesting
         → (trees : SexpTrees) × TextHasTrees (lines_of printed) trees
         × (plains_of (forms_of (lines_of printed) trees) ≡ printed) }
 {}

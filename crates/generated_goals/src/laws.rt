@@ -3,7 +3,6 @@ ghost use Rattle.std.specs.Prelude.{ℕ, ◌≤◌, List};
 ghost use Rattle.word_ops.specs.Worlds.{IsWorld, World};
 ghost use Rattle.machine_table.specs.Tables.{ev6};
 ghost use Rattle.goal_meaning.specs.Holds.{HoldsFor};
-ghost use Rattle.goal_meaning.specs.Unpinned.{AreUnpinned};
 ghost use Rattle.goal_meaning.specs.WellFormed.{IsInput};
 ghost use Rattle.graph_meaning.specs.WellFormed.{IsLaunchGraph};
 ghost use Rattle.graph_meaning.specs.declared.graphs.LaunchGraph.{LaunchGraph};
@@ -20,11 +19,6 @@ pub fn generated_inputs_are_well_formed()
 {
     tables_keep_limits();
 }
-
-/// The target of a generated goal has no pin.
-pub fn generated_goals_are_unpinned()
-    ensures { (size : ℕ) → AreUnpinned (generated_input size) }
-{}
 
 /// A generated goal has no axiom and no assumption, so a world meets them.
 pub fn generated_goals_have_a_world()

@@ -14,7 +14,7 @@ mod worked;
 
 pub use generating::generated;
 pub use laws::{
-    generated_goals_are_unpinned, generated_goals_can_be_scheduled, generated_goals_have_a_world,
+    generated_goals_can_be_scheduled, generated_goals_have_a_world,
     generated_inputs_are_well_formed,
 };
 pub use worked::worked_chains;

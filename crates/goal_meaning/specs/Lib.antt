@@ -5,4 +5,3 @@ pub mod InputForms
 pub mod WellFormed
 pub mod Holds
 pub mod Outcomes
-pub mod Unpinned

@@ -1,6 +1,7 @@
 -- The names and registers of a goal, and the pool of a goal that gives none. Source: this project.
 use Rattle.std.specs.Prelude.{Bool, true, false, ℕ, ◌≡◌, ◌≢◌, ◌<◌, ◌≤◌, ◌==◌, not, List, [], ◌∷◌, ◌++◌, length, map, filter, filter_map, bytes_eq, codes, None, All, AllPairs}
 use Rattle.std.specs.List.{list_any, range_with_len}
+use Rattle.text_core.specs.Limits.{most_inputs, most_assumes, most_sets}
 use Rattle.text_core.specs.Names.{is_among}
 use Rattle.goal_meaning.specs.Names.{is_reserved, names_of_declared}
 use Rattle.goal_meaning.specs.Views.{TargetTree, GoalTree}
@@ -35,4 +36,4 @@ pub record KeepsRules (declared : List DeclaredOp) (goal : GoalTree) : Type 0 wh
   pub pins : AllPairs (λ a b. a ≢ b) (goal.pool ++ pins_of goal.sets)
   pub low_pins : All (λ r. r < 31) (pins_of goal.sets)
   pub memory_unpinned : All (λ (t : TargetTree). bytes_eq t.name (codes "M") ≡ true → t.pin ≡ None) goal.sets
-  pub few : (length goal.inputs ≤ 16) × (length goal.assumes ≤ 16) × (length goal.sets ≤ 16)
+  pub few : (length goal.inputs ≤ most_inputs) × (length goal.assumes ≤ most_assumes) × (length goal.sets ≤ most_sets)

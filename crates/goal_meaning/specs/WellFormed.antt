@@ -1,6 +1,7 @@
 -- Well-formed inputs: what holds of every input that was read. Source: this project.
 use Rattle.std.specs.Prelude.{true, false, ℕ, ◌≡◌, ◌≢◌, ◌+◌, ◌^◌, ◌<◌, ◌≤◌, if◌then◌else◌, List, [], ◌∷◌, length, map, replicate, slice_get, bytes_eq, codes, None, Some, IfSome, All, AllPairs, Contains}
 use Rattle.std.specs.Option.{option_map_or}
+use Rattle.text_core.specs.Limits.{most_nesting, most_declared, most_axioms, most_goals, most_variables}
 use Rattle.text_core.specs.Names.{IsName, is_among}
 use Rattle.word_ops.specs.Meanings.{constant_in}
 use Rattle.word_ops.specs.declared.sorts.Arity.{Arity}
@@ -73,7 +74,7 @@ IsOperation (application op ts) = constant_in op ≡ None
 -- variables of the right one.
 pub record IsAxiom (declared : List DeclaredOp) (a : AxiomTree) : Type 0 where
   pub named : All IsName a.variables
-  pub some : (0 < length a.variables) × (length a.variables ≤ 8)
+  pub some : (0 < length a.variables) × (length a.variables ≤ most_variables)
   pub differ : AllPairs (λ m n. m ≢ n) a.variables
   pub own : All (λ n. (is_reserved n ≡ false) × (is_among (names_of_declared declared) n ≡ false)) a.variables
   pub left : HasSort op_signature (axiom_sorts a) sorts.Word a.left
@@ -145,7 +146,7 @@ pub record IsInput (input : InputTree) : Type 0 where
   pub goals : All (IsGoal input.ops) input.goals
   pub goals_differ : AllPairs (λ (g h : GoalTree). g.name ≢ h.name) input.goals
   pub some_goal : 0 < length input.goals
-  pub few : (length input.ops ≤ 16) × (length input.axioms ≤ 64) × (length input.goals ≤ 64)
+  pub few : (length input.ops ≤ most_declared) × (length input.axioms ≤ most_axioms) × (length input.goals ≤ most_goals)
   pub few_operators : operators_of_input input < 2 ^ 29
   -- so many lists stand inside one another in its canonical text
-  pub nested : most_levels (plains_from (input_plains input)) ≤ 64
+  pub nested : most_levels (plains_from (input_plains input)) ≤ most_nesting

@@ -1,5 +1,6 @@
 -- A goal that is being read: what each item adds to it, and what the items before give. Source: this project.
 use Rattle.std.specs.Prelude.{All, AllPairs, true, false, bytes_eq, ◌≢◌, ◌<◌, ◌≤◌, ℕ, ◌≡◌, ◌-◌, List, [], ◌∷◌, ◌++◌, map, take, length, Option, Some, None}
+use Rattle.text_core.specs.Limits.{most_inputs, most_assumes, most_sets}
 use Rattle.word_ops.specs.declared.sorts.Sort.TheVariants as sorts
 use Rattle.word_ops.specs.declared.sorts.Op.{Op}
 use Rattle.word_terms.specs.View.{tree_of}
@@ -165,4 +166,4 @@ pub record KeepsSoFar (declared : List DeclaredOp) (d : Draft) : Type 0 where
   pub pins : AreDifferent (pool_read d.pool ++ pins_of_targets d.sets)
   pub unpinned : All (λ (t : Set). bytes_eq t.name (codes "M") ≡ true → t.pin ≡ None) d.sets
   pub targets : AllPairs (λ (s t : Set). s.name ≢ t.name) d.sets
-  pub few : (length d.inputs ≤ 16) × (length d.assumes ≤ 16) × (length d.sets ≤ 16)
+  pub few : (length d.inputs ≤ most_inputs) × (length d.assumes ≤ most_assumes) × (length d.sets ≤ most_sets)

@@ -1,6 +1,7 @@
 -- The grammar of goals, axioms and declarations: which forms write them. Source: this project; the notation follows
 -- Denali's guarded multi-assignment (PLDI 2002).
 use Rattle.std.specs.Prelude.{Bool, true, false, ℕ, ◌≡◌, ◌≢◌, ◌<◌, ◌≤◌, List, [], ◌∷◌, ◌++◌, length, map, codes, bytes_eq, Option, None, Some, All, AllPairs, if◌then◌else◌}
+use Rattle.text_core.specs.Limits.{most_declared, most_axioms, most_goals, most_variables}
 use Rattle.forms.specs.Forms.{Form, atom, list, forms_from, forms_list, forms_of, register, is_list}
 use Rattle.forms.specs.Reading.{TextHasTrees, IsFirstReadFault}
 use Rattle.text_core.specs.Names.{is_among}
@@ -120,7 +121,7 @@ pub record WritesAxiom (declared : List DeclaredOp) (form : Form) (axiom_is : Ax
   pub right_form : Form
   pub is : IsListOf (codes "axiom") (list place (forms_from names) ∷ left_form ∷ right_form ∷ []) form
   pub variables : Each (λ f n. IsNameOf n f) names axiom_is.variables
-  pub some : (0 < length axiom_is.variables) × (length axiom_is.variables ≤ 8)
+  pub some : (0 < length axiom_is.variables) × (length axiom_is.variables ≤ most_variables)
   pub differ : AllPairs (λ m n. m ≢ n) axiom_is.variables
   pub own : All (λ n. (is_reserved n ≡ false) × (is_among (names_of_declared declared) n ≡ false)) axiom_is.variables
   pub application : is_list left_form ≡ true
@@ -148,7 +149,7 @@ pub record WritesText (forms : List Form) (input : InputTree) : Type 0 where
   pub own_names : All (λ (a : DeclaredOp). is_reserved a.name ≡ false) input.ops
   pub goal_names : AllPairs (λ (g h : GoalTree). g.name ≢ h.name) input.goals
   pub some_goal : 0 < length input.goals
-  pub few : (length input.ops ≤ 16) × (length input.axioms ≤ 64) × (length input.goals ≤ 64)
+  pub few : (length input.ops ≤ most_declared) × (length input.axioms ≤ most_axioms) × (length input.goals ≤ most_goals)
 
 -- The text reads as this input.
 pub record Reads (text : List ℕ) (input : InputTree) : Type 0 where

@@ -2,6 +2,7 @@
 use Rattle.std.specs.Prelude.{Bool, true, false, ℕ, zero, suc, ◌≡◌, ◌≢◌, ◌+◌, ◌<◌, ◌||◌, ◌&&◌, ◌-◌, ◌*◌, ◌==◌, nat_lt, nat_le, if◌then◌else◌, List, [], ◌∷◌, ◌++◌, length, map, take, drop, get_or, slice_get, filter, filter_map, codes, bytes_eq, Option, Some, None, option_map, is_some}
 use Rattle.std.specs.Option.{option_map_or}
 use Rattle.std.specs.List.{flat_map, list_any}
+use Rattle.text_core.specs.Limits.{most_inputs, most_assumes, most_sets, most_declared, most_axioms, most_goals}
 use Rattle.word_ops.specs.Meanings.{arity_of_op, sort_of, operand_sort}
 use Rattle.word_ops.specs.declared.sorts.Sort.{Sort}
 use Rattle.word_ops.specs.declared.sorts.Sort.TheVariants as sorts
@@ -316,10 +317,10 @@ abbrev pub up_to : ℕ → Role → Bound
 up_to most beyond = record { most = most; beyond = beyond }
 
 abbrev pub goal_bounds : List Bound
-goal_bounds = up_to 16 past ∷ up_to 1 wrong ∷ up_to 16 past ∷ up_to 1 wrong ∷ up_to 16 past ∷ []
+goal_bounds = up_to most_inputs past ∷ up_to 1 wrong ∷ up_to most_assumes past ∷ up_to 1 wrong ∷ up_to most_sets past ∷ []
 
 abbrev pub text_bounds : List Bound
-text_bounds = up_to 1 wrong ∷ up_to 16 past ∷ up_to 64 past ∷ up_to 64 past ∷ []
+text_bounds = up_to 1 wrong ∷ up_to most_declared past ∷ up_to most_axioms past ∷ up_to most_goals past ∷ []
 
 abbrev pub bound_at : List Bound → ℕ → Bound
 bound_at bounds at = get_or bounds at (up_to 0 wrong)

@@ -1,5 +1,6 @@
 -- A text that is being read: what each form adds to it, and what the forms before give. Source: this project.
 use Rattle.std.specs.Prelude.{ℕ, ◌≡◌, ◌≢◌, ◌≤◌, false, List, [], ◌∷◌, ◌++◌, get_or, length, Option, Some, None, All, AllPairs}
+use Rattle.text_core.specs.Limits.{most_declared, most_axioms, most_goals}
 use Rattle.forms.specs.Forms.{Form}
 use Rattle.goal_reader.specs.Drafts.{names_of_goals}
 use Rattle.goal_reader.specs.Grammar.{WritesDeclaration, WritesAxiom, WritesGoal}
@@ -100,4 +101,4 @@ pub record KeepsText (d : TextDraft) : Type 0 where
   pub op_names : AllPairs (λ (a b : DeclaredOp). a.name ≢ b.name) d.declared
   pub own_names : All (λ (a : DeclaredOp). is_reserved a.name ≡ false) d.declared
   pub goal_names : AllPairs (λ (g h : Goal). g.name ≢ h.name) d.goals
-  pub few : (length d.declared ≤ 16) × (length d.axioms ≤ 64) × (length d.goals ≤ 64)
+  pub few : (length d.declared ≤ most_declared) × (length d.axioms ≤ most_axioms) × (length d.goals ≤ most_goals)

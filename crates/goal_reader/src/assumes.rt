@@ -1,5 +1,6 @@
 // Reading the assumptions of a goal.
 ghost use Rattle.std.specs.Prelude.{◌≡◌, ◌≤◌, length, IfOk, IfErr, Some, None, true};
+ghost use Rattle.text_core.specs.Limits.{most_declared};
 ghost use Rattle.word_terms.specs.View.{tree_of};
 ghost use Rattle.text_core.specs.Faults.{IsFirst, IsFaultBy};
 ghost use Rattle.forms.specs.Forms.{sexp_form};
@@ -20,7 +21,7 @@ use word_terms::Term;
 /// Reads `( assume term term )`.
 pub fn assume(alloc: Global, form: &Sexp, text: &[u8], scope: &Scope) -> Result<Assume, TextFault>
     requires of { IsSexpOf text.now form.now }
-    requires few { length scope.now.declared ≤ 16 }
+    requires few { length scope.now.declared ≤ most_declared }
     requires keyword { is_of_rank goal_keywords 2 (sexp_form text.now form.now) ≡ true }
     ensures left { IfOk result (λ a. WritesPart scope.now None (sexp_form text.now form.now) 1 (tree_of a.left)) }
     ensures right { IfOk result (λ a. WritesPart scope.now (Some (tree_sort (tree_of a.left)))

@@ -1,5 +1,6 @@
 // Reading axioms.
 ghost use Rattle.std.specs.Prelude.{◌≡◌, ◌≤◌, ℕ, length, List, IfOk, IfErr, Some, true};
+ghost use Rattle.text_core.specs.Limits.{most_declared};
 ghost use Rattle.word_ops.specs.declared.sorts.Sort.TheVariants as sorts;
 ghost use Rattle.word_terms.specs.View.{tree_of};
 ghost use Rattle.text_core.specs.Faults.{GivesUnlessMemory, IsFaultBy, IsFirst, RefusesUnlessMemory};
@@ -31,7 +32,7 @@ pub fn left_side(
     scope: &Scope,
 ) -> Result<Term<Op>, TextFault>
     requires of { IsSexpOf text.now form.now }
-    requires few { length scope.now.declared ≤ 16 }
+    requires few { length scope.now.declared ≤ most_declared }
     ensures term { IfOk result (λ t. WritesTerm scope.now (Some sorts.Word) (sexp_form text.now form.now) (tree_of t)) }
     ensures application { IfOk result (λ _. is_list (sexp_form text.now form.now) ≡ true) }
     ensures clear { IfOk result (λ _. IsClear (roles.left_side scope.now) (sexp_form text.now form.now)) }
@@ -52,7 +53,7 @@ fn read_axiom(
     declared: Items<DeclaredOp>,
 ) -> Result<(Axiom, Items<DeclaredOp>), TextFault>
     requires of { IsSexpOf text.now form.now }
-    requires few { length declared ≤ 16 }
+    requires few { length declared ≤ most_declared }
     requires keyword { rank text_keywords (sexp_form text.now form.now) ≡ Some 2 }
     ensures axiom { IfOk result (λ read. WritesAxiom declared (sexp_form text.now form.now) (axiom_view read.0)) }
     ensures declared { IfOk result (λ read. read.1 ≡ declared) }
@@ -94,7 +95,7 @@ pub fn axiom(
     declared: Items<DeclaredOp>,
 ) -> Result<(Axiom, Items<DeclaredOp>), TextFault>
     requires of { IsSexpOf text.now form.now }
-    requires few { length declared ≤ 16 }
+    requires few { length declared ≤ most_declared }
     requires keyword { rank text_keywords (sexp_form text.now form.now) ≡ Some 2 }
 
     // What is read is in the grammar, and what is in it is read.

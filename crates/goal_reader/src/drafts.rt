@@ -1,5 +1,6 @@
 // A goal that is being read, item by item.
 ghost use Rattle.std.specs.Prelude.{◌≡◌, ◌≤◌, ◌<◌, ℕ, List, length, IfOk, IfErr, Some, None, true, false};
+ghost use Rattle.text_core.specs.Limits.{most_declared};
 ghost use Rattle.text_core.specs.Faults.{IsFirst, IsFaultBy};
 ghost use Rattle.forms.specs.Forms.{sexp_form};
 ghost use Rattle.forms.specs.Reading.{IsSexpOf};
@@ -103,7 +104,7 @@ fn add_pool(alloc: Global, form: &Sexp, text: &[u8], draft: Draft) -> Result<Dra
 
 fn add_assume(alloc: Global, form: &Sexp, text: &[u8], draft: Draft) -> Result<Draft, TextFault>
     requires of { IsSexpOf text.now form.now }
-    requires few { length draft.scope.declared ≤ 16 }
+    requires few { length draft.scope.declared ≤ most_declared }
     requires keyword { is_of_rank goal_keywords 2 (sexp_form text.now form.now) ≡ true }
     ensures next { IfOk result (λ next. IsNext (sexp_form text.now form.now) draft 2 next) }
     ensures clear { IfOk result (λ _. IsClear (draft_role draft 2) (sexp_form text.now form.now)) }
@@ -131,7 +132,7 @@ fn add_assume(alloc: Global, form: &Sexp, text: &[u8], draft: Draft) -> Result<D
 
 fn add_guard(alloc: Global, form: &Sexp, text: &[u8], draft: Draft) -> Result<Draft, TextFault>
     requires of { IsSexpOf text.now form.now }
-    requires few { length draft.scope.declared ≤ 16 }
+    requires few { length draft.scope.declared ≤ most_declared }
     requires keyword { is_of_rank goal_keywords 3 (sexp_form text.now form.now) ≡ true }
     ensures next { IfOk result (λ next. IsNext (sexp_form text.now form.now) draft 3 next) }
     ensures clear { IfOk result (λ _. IsClear (draft_role draft 3) (sexp_form text.now form.now)) }
@@ -169,7 +170,7 @@ fn registers_of_pool(pool: &Option<Items<u8>>) -> &[u8]
 
 fn add_target(alloc: Global, form: &Sexp, text: &[u8], draft: Draft) -> Result<Draft, TextFault>
     requires of { IsSexpOf text.now form.now }
-    requires few { length draft.scope.declared ≤ 16 }
+    requires few { length draft.scope.declared ≤ most_declared }
     requires keyword { is_of_rank goal_keywords 4 (sexp_form text.now form.now) ≡ true }
     ensures next { IfOk result (λ next. IsNext (sexp_form text.now form.now) draft 4 next) }
     ensures clear { IfOk result (λ _. IsClear (draft_role draft 4) (sexp_form text.now form.now)) }
@@ -205,7 +206,7 @@ pub fn item(
     draft: Draft,
 ) -> Result<Draft, TextFault>
     requires of { IsSexpOf text.now form.now }
-    requires few { length draft.scope.declared ≤ 16 }
+    requires few { length draft.scope.declared ≤ most_declared }
     requires keyword { rank goal_keywords (sexp_form text.now form.now) ≡ Some (item_rank keyword) }
     ensures next { IfOk result (λ next. IsNext (sexp_form text.now form.now) draft (item_rank keyword) next) }
     ensures clear { IfOk result (λ _. IsClear (draft_role draft (item_rank keyword)) (sexp_form text.now form.now)) }

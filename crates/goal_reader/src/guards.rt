@@ -1,5 +1,6 @@
 // Reading the guard of a goal.
 ghost use Rattle.std.specs.Prelude.{◌≡◌, ◌≤◌, ◌+◌, length, IfOk, IfErr, Some, slice_get, true};
+ghost use Rattle.text_core.specs.Limits.{most_declared};
 ghost use Rattle.word_ops.specs.declared.sorts.Sort.TheVariants as sorts;
 ghost use Rattle.word_terms.specs.View.{tree_of};
 ghost use Rattle.text_core.specs.Faults.{IsFirst, IsFaultBy};
@@ -20,7 +21,7 @@ use word_terms::Term;
 /// Reads `( when term )`.
 pub fn guard(alloc: Global, form: &Sexp, text: &[u8], scope: &Scope) -> Result<Term<Op>, TextFault>
     requires of { IsSexpOf text.now form.now }
-    requires few { length scope.now.declared ≤ 16 }
+    requires few { length scope.now.declared ≤ most_declared }
     requires keyword { is_of_rank goal_keywords 3 (sexp_form text.now form.now) ≡ true }
     ensures term { IfOk result (λ t. WritesPart scope.now (Some sorts.Word) (sexp_form text.now form.now) 1
         (tree_of t)) }

@@ -11,7 +11,10 @@ ghost use Rattle.goal_reader.specs.declared.order.Admission.TheVariants as admis
 
 use crate::order::{Admission, Order};
 use forms::{at, name, parts, place, sexps_are_forms};
-use text_core::{Kind, Sexp, TextFault};
+use text_core::{
+    Kind, MOST_ASSUMES, MOST_AXIOMS, MOST_DECLARED, MOST_GOALS, MOST_INPUTS, MOST_SETS, Sexp,
+    TextFault,
+};
 
 /// The keywords of a goal's items, in the order in which the items stand.
 #[derive(Clone, Copy)]
@@ -88,7 +91,9 @@ impl ItemKeyword {
         ensures few { result ≤ 64 }
     {
         match self {
-            ItemKeyword::In | ItemKeyword::Assume | ItemKeyword::Set => 16,
+            ItemKeyword::In => MOST_INPUTS,
+            ItemKeyword::Assume => MOST_ASSUMES,
+            ItemKeyword::Set => MOST_SETS,
             ItemKeyword::Pool | ItemKeyword::When => 1,
         }
     }
@@ -184,8 +189,9 @@ impl FormKeyword {
     {
         match self {
             FormKeyword::Machine => 1,
-            FormKeyword::Op => 16,
-            FormKeyword::Axiom | FormKeyword::Goal => 64,
+            FormKeyword::Op => MOST_DECLARED,
+            FormKeyword::Axiom => MOST_AXIOMS,
+            FormKeyword::Goal => MOST_GOALS,
         }
     }
 

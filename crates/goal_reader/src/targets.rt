@@ -1,5 +1,6 @@
 // Reading the targets of a goal.
 ghost use Rattle.std.specs.Prelude.{◌≡◌, ◌≤◌, ◌++◌, length, All, IfOk, IfErr, Some, true, false, codes, bytes_eq};
+ghost use Rattle.text_core.specs.Limits.{most_declared};
 ghost use Rattle.word_terms.specs.View.{tree_of};
 ghost use Rattle.text_core.specs.Faults.{IsFirst, IsFaultBy};
 ghost use Rattle.forms.specs.Forms.{sexp_form, sexp_forms, list, forms_from, place_of, name_in};
@@ -114,7 +115,7 @@ fn unpinned(
         ≡ list (place_of (sexp_form text.now form.now)) (forms_from (sexp_forms text.now parts.now)) }
     requires enough { 3 ≤ length parts.now }
     requires unpinned { is_pinned (sexp_form text.now form.now) ≡ false }
-    requires few { length scope.now.declared ≤ 16 }
+    requires few { length scope.now.declared ≤ most_declared }
     ensures named { IfOk result (λ t. second_name (sexp_form text.now form.now) ≡ Some t.name) }
     ensures pin { IfOk result (λ t. pin_in (sexp_form text.now form.now) ≡ t.pin) }
     ensures value { IfOk result (λ t. WritesPart scope.now (Some (sort_of_target t.name))
@@ -151,7 +152,7 @@ fn pinned(
     requires listed { sexp_form text.now form.now
         ≡ list (place_of (sexp_form text.now form.now)) (forms_from (sexp_forms text.now parts.now)) }
     requires pinned { is_pinned (sexp_form text.now form.now) ≡ true }
-    requires few { length scope.now.declared ≤ 16 }
+    requires few { length scope.now.declared ≤ most_declared }
     ensures named { IfOk result (λ t. second_name (sexp_form text.now form.now) ≡ Some t.name) }
     ensures pin { IfOk result (λ t. pin_in (sexp_form text.now form.now) ≡ t.pin) }
     ensures value { IfOk result (λ t. WritesPart scope.now (Some (sort_of_target t.name))
@@ -187,7 +188,7 @@ pub fn target(
     targets: &[Set],
 ) -> Result<Set, TextFault>
     requires of { IsSexpOf text.now form.now }
-    requires few { length scope.now.declared ≤ 16 }
+    requires few { length scope.now.declared ≤ most_declared }
     requires keyword { is_of_rank goal_keywords 4 (sexp_form text.now form.now) ≡ true }
     ensures named { IfOk result (λ t. second_name (sexp_form text.now form.now) ≡ Some t.name) }
     ensures pin { IfOk result (λ t. pin_in (sexp_form text.now form.now) ≡ t.pin) }

@@ -1,5 +1,6 @@
 // Reading terms.
 ghost use Rattle.std.specs.Prelude.{◌≡◌, ◌≤◌, ◌↔◌, IsTrue, ℕ, length, IfOk, IfErr, Some};
+ghost use Rattle.text_core.specs.Limits.{most_declared};
 ghost use Rattle.word_terms.specs.Tree as tree;
 ghost use Rattle.text_core.specs.Faults.{IsFirst, IsFaultBy, GivesUnlessMemory, RefusesUnlessMemory};
 ghost use Rattle.text_core.specs.declared.faults.Kind.{Kind as FaultKind};
@@ -84,7 +85,7 @@ fn application(
 ) -> Result<Op, TextFault>
     requires of { IsSexpOf text.now form.now }
     requires list { is_list (sexp_form text.now form.now) ≡ true }
-    requires few { length scope.now.declared ≤ 16 }
+    requires few { length scope.now.declared ≤ most_declared }
     ensures op { IfOk result (λ op. IsApplicationForm scope.now wanted (sexp_form text.now form.now) op) }
     ensures fault { IfErr result (IsFaultBy (IsFirst (IsFaultAs (a_term scope.now wanted)
         (sexp_form text.now form.now)))) }
@@ -119,7 +120,7 @@ fn read_term(
     wanted: Option<Sort>,
 ) -> Result<Term<Op>, TextFault>
     requires of { IsSexpOf text.now form.now }
-    requires few { length scope.now.declared ≤ 16 }
+    requires few { length scope.now.declared ≤ most_declared }
     ensures term { IfOk result (λ t. WritesTerm scope.now wanted (sexp_form text.now form.now) (tree_of t)) }
     ensures fault { IfErr result (IsFaultBy (IsFirst (IsFaultAs (a_term scope.now wanted)
         (sexp_form text.now form.now)))) }
@@ -151,7 +152,7 @@ pub fn term(
     wanted: Option<Sort>,
 ) -> Result<Term<Op>, TextFault>
     requires of { IsSexpOf text.now form.now }
-    requires few { length scope.now.declared ≤ 16 }
+    requires few { length scope.now.declared ≤ most_declared }
 
     // What is read is in the grammar, and what is in it is read.
     ensures term { IfOk result (λ t. WritesTerm scope.now wanted (sexp_form text.now form.now) (tree_of t)) }

@@ -1,5 +1,6 @@
 // A text that is being read, form by form.
 ghost use Rattle.std.specs.Prelude.{◌≡◌, ◌≤◌, [], length, IfOk, IfErr, Some};
+ghost use Rattle.text_core.specs.Limits.{most_declared};
 ghost use Rattle.forms.specs.Forms.{sexp_form};
 ghost use Rattle.forms.specs.Reading.{IsSexpOf};
 ghost use Rattle.goal_reader.specs.Keywords.{form_rank};
@@ -102,7 +103,7 @@ fn add_axiom(
     draft: TextDraft,
 ) -> Result<TextDraft, TextFault>
     requires of { IsSexpOf text.now form.now }
-    requires few { length draft.declared ≤ 16 }
+    requires few { length draft.declared ≤ most_declared }
     requires keyword { rank text_keywords (sexp_form text.now form.now) ≡ Some 2 }
     ensures next { IfOk result (λ next. IsNextForm (sexp_form text.now form.now) draft 2 next) }
     ensures clear { IfOk result (λ _. IsClearForm (text_role draft 2) (sexp_form text.now form.now)) }
@@ -131,7 +132,7 @@ fn add_goal(
     draft: TextDraft,
 ) -> Result<TextDraft, TextFault>
     requires of { IsSexpOf text.now form.now }
-    requires few { length draft.declared ≤ 16 }
+    requires few { length draft.declared ≤ most_declared }
     requires keyword { rank text_keywords (sexp_form text.now form.now) ≡ Some 3 }
     ensures next { IfOk result (λ next. IsNextForm (sexp_form text.now form.now) draft 3 next) }
     ensures clear { IfOk result (λ _. IsClearForm (text_role draft 3) (sexp_form text.now form.now)) }
@@ -162,7 +163,7 @@ pub fn text_form(
     draft: TextDraft,
 ) -> Result<TextDraft, TextFault>
     requires of { IsSexpOf text.now form.now }
-    requires few { length draft.declared ≤ 16 }
+    requires few { length draft.declared ≤ most_declared }
     requires keyword { rank text_keywords (sexp_form text.now form.now) ≡ Some (form_rank keyword) }
     ensures next { IfOk result (λ next. IsNextForm (sexp_form text.now form.now) draft (form_rank keyword) next) }
     ensures clear { IfOk result (λ _. IsClearForm (text_role draft (form_rank keyword)) (sexp_form text.now form.now)) }

@@ -1,5 +1,6 @@
 // The variables of an axiom: their names, and what they mean on either side.
 ghost use Rattle.std.specs.Prelude.{◌≡◌, ◌≤◌, ◌<◌, ◌||◌, ◌++◌, IfOk, IfErr, false, true, length};
+ghost use Rattle.text_core.specs.Limits.{most_variables};
 ghost use Rattle.text_core.specs.Faults.{IsFirst, IsFaultBy};
 ghost use Rattle.forms.specs.Forms.{sexp_form, is_list, parts_of, names_in};
 ghost use Rattle.forms.specs.Reading.{IsSexpOf};
@@ -17,7 +18,7 @@ use forms::{at, name, parts, place, sexps_are_forms};
 use goal_meaning::DeclaredOp;
 use items::{Items, NoMemory};
 use std::alloc::Global;
-use text_core::{Kind, Name, Sexp, TextFault};
+use text_core::{Kind, MOST_VARIABLES, Name, Sexp, TextFault};
 
 fn is_variable(names: &[Name], name: &[u8]) -> bool
     ensures { result ≡ is_among names.now name.now }
@@ -63,7 +64,7 @@ pub fn variables(
     requires of { IsSexpOf text.now form.now }
     ensures names { IfOk result (λ names. names ≡ names_in (parts_of (sexp_form text.now form.now))) }
     ensures list { IfOk result (λ _. is_list (sexp_form text.now form.now) ≡ true) }
-    ensures few { IfOk result (λ names. length names ≤ 8) }
+    ensures few { IfOk result (λ names. length names ≤ most_variables) }
     ensures clear { IfOk result (λ _. IsClear (roles.a_list (roles.variables declared.now))
         (sexp_form text.now form.now)) }
     ensures fault { IfErr result (IsFaultBy (IsFirst (IsFaultAs (roles.a_list (roles.variables declared.now))
@@ -79,7 +80,7 @@ pub fn variables(
     let mut names = Items::new(alloc);
     for index in 0..parts.len() {
         let part = &parts[index];
-        if index >= 8 {
+        if index >= MOST_VARIABLES {
             return Err(at(place(part), Kind::LimitPassed));
         }
         let bytes = variable_name(part, text, declared, names.as_slice())?;
@@ -120,7 +121,7 @@ pub fn left_scope(
     declared: Items<DeclaredOp>,
     names: &[Name],
 ) -> Result<Scope, NoMemory>
-    requires few { length names.now ≤ 8 }
+    requires few { length names.now ≤ most_variables }
     ensures { IfOk result (λ scope. scope ≡ axiom_scope declared names.now) }
 {
     let mut leaves = Items::new(alloc);
@@ -140,7 +141,7 @@ pub fn right_scope(
     left: &Sexp,
     text: &[u8],
 ) -> Result<Scope, NoMemory>
-    requires few { length names.now ≤ 8 }
+    requires few { length names.now ≤ most_variables }
     requires of { IsSexpOf text.now left.now }
     ensures { IfOk result (λ scope. scope ≡ mentioned_scope declared names.now (sexp_form text.now left.now)) }
 {

@@ -1,6 +1,7 @@
 // Reading a goal.
 ghost use Rattle.std.specs.Prelude.{◌≡◌, ◌≤◌, ◌++◌, ℕ, [], filter, not, length, IfOk, IfErr, Some, false};
 ghost use Rattle.std.specs.List.{list_any};
+ghost use Rattle.text_core.specs.Limits.{most_declared};
 ghost use Rattle.text_core.specs.Faults.{GivesUnlessMemory, IsFaultBy, IsFirst, RefusesUnlessMemory};
 ghost use Rattle.text_core.specs.declared.faults.Kind.{Kind as FaultKind};
 ghost use Rattle.forms.specs.Forms.{sexp_form, sexp_forms, name_in};
@@ -99,7 +100,7 @@ fn items(
     goals: &[Goal],
 ) -> Result<(Name, Draft), TextFault>
     requires of { IsSexpOf text.now form.now }
-    requires few { length declared ≤ 16 }
+    requires few { length declared ≤ most_declared }
     ensures named { IfOk result (λ read. second_name (sexp_form text.now form.now) ≡ Some read.0) }
     ensures draft { IfOk result (λ read. IsDraft declared (items_of_goal (sexp_form text.now form.now)) read.1) }
     ensures written { IfOk result (λ read. IsWritten (items_of_goal (sexp_form text.now form.now)) read.1) }
@@ -175,7 +176,7 @@ fn read_goal(
     goals: &[Goal],
 ) -> Result<(Goal, Items<DeclaredOp>), TextFault>
     requires of { IsSexpOf text.now form.now }
-    requires few { length declared ≤ 16 }
+    requires few { length declared ≤ most_declared }
     requires keyword { rank text_keywords (sexp_form text.now form.now) ≡ Some 3 }
     ensures goal { IfOk result (λ read. WritesGoal declared (sexp_form text.now form.now) (goal_view read.0)) }
     ensures fresh { IfOk result (λ read. is_among (names_of_goals goals.now) read.0.name ≡ false) }
@@ -217,7 +218,7 @@ pub fn goal(
     goals: &[Goal],
 ) -> Result<(Goal, Items<DeclaredOp>), TextFault>
     requires of { IsSexpOf text.now form.now }
-    requires few { length declared ≤ 16 }
+    requires few { length declared ≤ most_declared }
     requires keyword { rank text_keywords (sexp_form text.now form.now) ≡ Some 3 }
 
     // What is read is in the grammar, and what is in it is read.

@@ -2,6 +2,8 @@
 use Rattle.std.proofs.Common.{◌≡◌, ◌≢◌, ℕ, ◌+◌, ◌-◌, ◌≤◌, Bool, true, false, not, length, refl, sym, subst, ◌∙◌, arith, Option, Some, None}
 use Rattle.std.specs.Prelude.{◌||◌, ◌↔◌, IfNone, IsTrue, MatchOption, nat_lt}
 use Rattle.std.proofs.lemmas.Bool.{false≢true}
+use Rattle.cycle_encoding.specs.Limits.{most_vars, most_clauses}
+use Rattle.schedule_meaning.specs.Limits.{most_cycles}
 use Rattle.cnf_core.specs.Formula.{Formula}
 use Rattle.cycle_encoding.specs.CycleFormula.{Scope}
 use Rattle.cycle_encoding.specs.Encodings.{IsScope}
@@ -21,7 +23,7 @@ use Rattle.least_launch.specs.declared.verdicts.TailVerdict.{TailVerdict}
 -- ---- counts
 
 abbrev passes : Sizes → Bool
-passes s = nat_lt 262144 s.vars || nat_lt 2000000 s.clauses
+passes s = nat_lt most_vars s.vars || nat_lt most_clauses s.clauses
 
 module _ (s : Sizes) (f : Formula) (ev : s.vars ≡ f.vars) (ec : s.clauses ≡ length f.clauses) where
   not_large : passes s ≡ false → ¬ IsTooLarge f
@@ -117,7 +119,7 @@ if_none (Some x) not h = absurd (not x refl)
 -- what is said of so many launches is decided by the clauses for one fewer, over what a scope of the graph gives
 -- variables
 pub by_clauses_for : (g facts : LaunchGraph) (table : Table) (k count : ℕ) (s : Scope) → IsScope Pinned g table s
-    → k ≤ 24
+    → k ≤ most_cycles
     → (tail : Tail) (v : TailVerdict) → count ≡ launches_of tail → 1 ≤ count → facts ≡ g
     → IsByClauses tail v (fewer_in s facts table k (count - 1)) → IsTailOutcome g table k count tail v
 by_clauses_for g facts table k count s scope few tail v same some is by =

@@ -2,6 +2,7 @@
 use Rattle.std.proofs.Common.{◌≡◌, ℕ, ◌≤◌, List, length, sym, subst, ◌∙◌, Option, Some, None, Result, Ok, Err}
 use Rattle.std.specs.Prelude.{IfOk, IsTrue, is_some}
 use Rattle.std.proofs.lemmas.Bool.{false≢true}
+use Rattle.schedule_meaning.specs.Limits.{most_cycles}
 use Rattle.answer_check.specs.Soundness.{IsSound, IsTrueClaim}
 use Rattle.answer_check.specs.Verdicts.{IsVerdict}
 use Rattle.answer_check.specs.declared.verdicts.Verdict.{Verdict}
@@ -92,7 +93,7 @@ graph_formed version c g (worked {g = h} world graph formed unpinned fits refute
     subst IsLaunchGraph (let e : Some h ≡ Some g = sym graph ∙ there in cc) formed
 
 pub few_cycles : (version : ℕ) (c : Claimed) (k : ℕ) (schedule : Schedule) (words : List ℕ) (places : List Where)
-    → IsClaimed version c → c.claim ≡ claims.Scheduled k schedule words places → k ≤ 24
+    → IsClaimed version c → c.claim ≡ claims.Scheduled k schedule words places → k ≤ most_cycles
 few_cycles version c k schedule words places (no_world is graph refute) there = absurd (let e = sym is ∙ there in cc)
 few_cycles version c k schedule words places (worked world graph formed unpinned fits refute) there =
     (subst FitsClaim there fits).0

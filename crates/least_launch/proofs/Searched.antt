@@ -5,6 +5,7 @@ use Rattle.std.proofs.lemmas.Bool.{cases_lt}
 use Rattle.std.specs.Prelude.{IfOk, IsPermutation}
 use Rattle.std.proofs.lemmas.List.Sorted.{length_permutation}
 use Rattle.std.proofs.Common.{inl, inr}
+use Rattle.schedule_meaning.specs.Limits.{most_cycles}
 use Rattle.word_ops.specs.Words.{IsWord}
 use Rattle.cnf_core.specs.Formula.{Formula, Satisfies}
 use Rattle.cnf_core.specs.Outcome.{IsSpent}
@@ -31,7 +32,7 @@ use Rattle.least_launch.specs.declared.searching.Step.{Step}
 use Rattle.least_launch.specs.declared.searching.Step.TheVariants as steps
 
 module _ (g : LaunchGraph) (table : Table) (k n conflicts : ℕ) (s : Scope) (scope : IsScope Pinned g table s)
-    (few : k ≤ 24) where
+    (few : k ≤ most_cycles) where
   -- the clauses over what the scope gives variables are those for one launch fewer than n + 1
   abbrev clauses_for : Formula
   clauses_for = fewer_in s g table k n

@@ -1,6 +1,7 @@
 -- What becomes of a goal's result where a schedule with the fewest launches is looked for; no public clause rests on it
 -- alone. Source: this project.
 use Rattle.std.specs.Prelude.{◌≡◌, ℕ, ◌<◌, ◌≤◌, ◌^◌, All, Option, Some, None}
+use Rattle.schedule_meaning.specs.Limits.{most_cycles}
 use Rattle.denali_run.specs.declared.results.Answered.{Answered}
 use Rattle.denali_run.specs.declared.results.Answered.TheVariants.{Scheduled}
 use Rattle.denali_run.specs.declared.results.Found.{Found}
@@ -15,7 +16,7 @@ use Rattle.least_launch.specs.declared.tails.Tail.{Tail}
 -- the result has a schedule that fits, in as many cycles as may be asked for
 pub record CanLessen (table : Table) (f : Found) : Type 0 where
   pub graph : IsLaunchGraph f.matched.graph
-  pub few : f.k ≤ 24
+  pub few : f.k ≤ most_cycles
   pub fits : Fits f.matched.graph table f.k f.schedule.launches
 
 -- The new result differs from the old one in its schedule, its listing and its words alone. They belong together, and

@@ -1,5 +1,6 @@
 // The tests of what is said of one schedule behind an answer.
 ghost use Rattle.std.specs.Prelude.{◌≡◌, ◌↔◌, ◌+◌, ◌<◌, ◌≤◌, ℕ, length, IfOk, IfNone, IfSome, IsTrue, MatchOption, Some, is_some};
+ghost use Rattle.schedule_meaning.specs.Limits.{most_cycles, most_launches};
 ghost use Rattle.answer_check.specs.Soundness.{IsSound};
 ghost use Rattle.answer_check.specs.Verdicts.{IsVerdict};
 ghost use Rattle.answer_check.specs.declared.verdicts.Verdict.TheVariants.{Holds};
@@ -105,8 +106,8 @@ fn wrong_size(
     n: u32,
     tail: &Tail,
 ) -> Option<Sizes>
-    requires cycles { k ≤ 24 }
-    requires launches { n ≤ 192 }
+    requires cycles { k ≤ most_cycles }
+    requires launches { n ≤ most_launches }
     requires table { IsTable table.now }
     requires graph { IsLaunchGraph facts.now }
     ensures { MatchOption result
@@ -133,8 +134,8 @@ fn refused(
     n: u32,
     tail: &Tail,
 ) -> Result<Option<Rejected>, NoMemory>
-    requires cycles { k ≤ 24 }
-    requires launches { n ≤ 192 }
+    requires cycles { k ≤ most_cycles }
+    requires launches { n ≤ most_launches }
     requires table { IsTable table.now }
     requires graph { IsLaunchGraph facts.now }
     requires scope { IsScope Pinned facts.now table.now scope.now }
@@ -162,8 +163,8 @@ fn check_clauses(
     n: u32,
     tail: &Tail,
 ) -> Result<TailVerdict, NoMemory>
-    requires cycles { k ≤ 24 }
-    requires launches { n ≤ 192 }
+    requires cycles { k ≤ most_cycles }
+    requires launches { n ≤ most_launches }
     requires table { IsTable table.now }
     requires graph { IsLaunchGraph facts.now }
     requires scope { IsScope Pinned facts.now table.now scope.now }
@@ -196,8 +197,8 @@ fn check_tail(
     count: u32,
     tail: &Tail,
 ) -> Result<TailVerdict, NoMemory>
-    requires cycles { k ≤ 24 }
-    requires count { count ≤ 192 }
+    requires cycles { k ≤ most_cycles }
+    requires count { count ≤ most_launches }
     requires table { IsTable table.now }
     requires graph { IsLaunchGraph graph.now }
     requires few { HasFewLines tail.now }

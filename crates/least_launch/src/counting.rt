@@ -1,6 +1,7 @@
 // The counts of the clauses of schedules with few launches, found before any clause is built.
 ghost use Rattle.std.specs.Prelude.{◌≡◌, ◌*◌, ◌≤◌, ◌<◌, ◌^◌, length};
 ghost use Rattle.std.specs.List.{sum_by};
+ghost use Rattle.schedule_meaning.specs.Limits.{most_cycles, most_launches};
 ghost use Rattle.cnf_core.specs.Counter as counter;
 ghost use Rattle.cycle_encoding.specs.Counts as counts;
 ghost use Rattle.cycle_encoding.specs.CycleFormula as formula;
@@ -11,11 +12,11 @@ ghost use Rattle.least_launch.specs.FewerLaunches.{fewer_in};
 use cnf_core::counters_count;
 use cycle_encoding::{Facts, Scope, Sizes, destination_count, row_count};
 use machine_table::Table;
-use order_encoding::count_in;
+use order_encoding::formula_size;
 
 /// How many variables a counter up to `n` takes.
 fn counter_vars(n: u32, literals: u64) -> u64
-    requires low { n ≤ 192 }
+    requires low { n ≤ most_launches }
     requires few { literals < 2 ^ 45 }
     ensures value { result ≡ counter.at_most_vars n literals }
     ensures small { result < 2 ^ 53 }
@@ -29,7 +30,7 @@ fn counter_vars(n: u32, literals: u64) -> u64
 
 /// How many clauses a counter up to `n` has.
 fn counter_size(n: u32, literals: u64) -> u64
-    requires low { n ≤ 192 }
+    requires low { n ≤ most_launches }
     requires few { literals < 2 ^ 45 }
     ensures value { result ≡ counter.at_most_size n literals }
     ensures small { result < 2 ^ 55 }
@@ -48,7 +49,7 @@ fn counter_size(n: u32, literals: u64) -> u64
 /// How many launches of a row have variables, by where they go.
 fn row_launches(facts: &Facts, table: &Table, scope: &Scope, k: u32, row: u32) -> u64
     requires table { IsTable table.now }
-    requires cycles { k ≤ 24 }
+    requires cycles { k ≤ most_cycles }
     ensures value { result ≡ counts.row_count facts.now table.now k scope.now row
         * sum_by (λ to. 1) (counts.row_destinations facts.now row) }
     ensures few { result ≤ 6400 }
@@ -59,7 +60,7 @@ fn row_launches(facts: &Facts, table: &Table, scope: &Scope, k: u32, row: u32) -
 /// How many launches have variables.
 fn launch_count(facts: &Facts, table: &Table, scope: &Scope, k: u32) -> u64
     requires table { IsTable table.now }
-    requires cycles { k ≤ 24 }
+    requires cycles { k ≤ most_cycles }
     requires graph { IsLaunchGraph facts.now }
     ensures value { result ≡ length (formula.listed_in facts.now table.now k scope.now).launches }
     ensures few { result < 2 ^ 45 }
@@ -74,15 +75,15 @@ fn launch_count(facts: &Facts, table: &Table, scope: &Scope, k: u32) -> u64
 /// The two counts of the clauses of schedules with at most `n` launches, over what a scope gives variables; no clause
 /// is built. It goes over the graph's rows a few times for each cycle.
 pub(crate) fn count_fewer(facts: &Facts, table: &Table, scope: &Scope, k: u32, n: u32) -> Sizes
-    requires cycles { k ≤ 24 }
-    requires launches { n ≤ 192 }
+    requires cycles { k ≤ most_cycles }
+    requires launches { n ≤ most_launches }
     requires table { IsTable table.now }
     requires graph { IsLaunchGraph facts.now }
     ensures vars { result.vars ≡ (fewer_in scope.now facts.now table.now k n).vars }
     ensures clauses { result.clauses ≡ length (fewer_in scope.now facts.now table.now k n).clauses }
 {
     counters_count();
-    let sizes = count_in(facts, table, scope, k);
+    let sizes = formula_size(facts, table, scope, k);
     let launches = launch_count(facts, table, scope, k);
     Sizes {
         vars: sizes.vars + counter_vars(n, launches),

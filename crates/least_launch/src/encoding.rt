@@ -1,5 +1,6 @@
 // The clauses of schedules with few launches.
 ghost use Rattle.std.specs.Prelude.{◌≡◌, ◌+◌, ◌<◌, ◌≤◌, ◌^◌, ℕ, Bool, List, length, IfOk, IfErr, OnOk};
+ghost use Rattle.schedule_meaning.specs.Limits.{most_cycles, most_launches};
 ghost use Rattle.cnf_core.specs.Formula.{AreOver, Satisfies};
 ghost use Rattle.cycle_encoding.specs.CycleFormula.{Listed as ListedOf};
 ghost use Rattle.cycle_encoding.specs.Encodings.{AreListed};
@@ -23,7 +24,7 @@ use cycle_encoding::{EncodeFault, Encoded, Encoding, Facts, Scope, each_encoding
 use graph_meaning::LaunchGraph;
 use items::NoMemory;
 use machine_table::Table;
-use order_encoding::full_in;
+use order_encoding::build_formula;
 use schedule_meaning::Launch;
 use std::alloc::Global;
 
@@ -66,8 +67,8 @@ pub(crate) fn build_fewer(
     k: u32,
     n: u32,
 ) -> Result<Encoded, EncodeFault>
-    requires cycles { k ≤ 24 }
-    requires launches { n ≤ 192 }
+    requires cycles { k ≤ most_cycles }
+    requires launches { n ≤ most_launches }
     requires table { IsTable table.now }
     requires graph { IsLaunchGraph facts.now }
     ensures formula { IfOk result (λ e. e.cnf ≡ fewer_in scope.now facts.now table.now k n) }
@@ -87,7 +88,7 @@ pub(crate) fn build_fewer(
 {
     let sizes = count_fewer(facts, table, scope, k, n);
     sizes.within_limits()?;
-    let encoded = full_in(alloc, facts, table, scope, k)?;
+    let encoded = build_formula(alloc, facts, table, scope, k)?;
     let mut cnf = encoded.cnf;
     let plan = encoded.plan;
     add_counter(alloc, &mut cnf, plan.launches(), n)?;
@@ -104,8 +105,8 @@ pub fn fewer(
     k: u32,
     n: u32,
 ) -> Result<Encoded, EncodeFault>
-    requires cycles { k ≤ 24 }
-    requires launches { n ≤ 192 }
+    requires cycles { k ≤ most_cycles }
+    requires launches { n ≤ most_launches }
     requires table { IsTable table.now }
     requires graph { IsLaunchGraph graph.now }
     ensures listed { OnOk result ((l : ListedOf) × AreListed Pinned graph.now table.now k l) }

@@ -1,6 +1,7 @@
 // The lines that are given for one launch fewer, tested against clauses that are built from the printed graph and
 // table.
 ghost use Rattle.std.specs.Prelude.{◌≡◌, ◌≤◌, ◌<◌, ◌^◌, ℕ, Bool, List, length, IfOk, IfNone, MatchOption};
+ghost use Rattle.schedule_meaning.specs.Limits.{most_cycles, most_launches};
 ghost use Rattle.cnf_core.specs.Formula.{Satisfies};
 ghost use Rattle.cnf_core.specs.Refutation.{AreLemmas, IsEmptyOnlyLast, IsFilled, IsFirstRefusal, Refutes};
 ghost use Rattle.cycle_encoding.specs.Encodings.{IsScope};
@@ -30,8 +31,8 @@ fn clauses(
     k: u32,
     n: u32,
 ) -> Result<Cnf, NoMemory>
-    requires cycles { k ≤ 24 }
-    requires launches { n ≤ 192 }
+    requires cycles { k ≤ most_cycles }
+    requires launches { n ≤ most_launches }
     requires table { IsTable table.now }
     requires graph { IsLaunchGraph facts.now }
     requires scope { IsScope Pinned facts.now table.now scope.now }
@@ -58,8 +59,8 @@ pub(crate) fn refused_line(
     n: u32,
     lines: &Lines,
 ) -> Result<Option<Rejected>, NoMemory>
-    requires cycles { k ≤ 24 }
-    requires launches { n ≤ 192 }
+    requires cycles { k ≤ most_cycles }
+    requires launches { n ≤ most_launches }
     requires table { IsTable table.now }
     requires graph { IsLaunchGraph facts.now }
     requires scope { IsScope Pinned facts.now table.now scope.now }
@@ -90,8 +91,8 @@ pub(crate) fn refused_lemma(
     n: u32,
     lines: &Lines,
 ) -> Result<Option<Rejected>, NoMemory>
-    requires cycles { k ≤ 24 }
-    requires launches { n ≤ 192 }
+    requires cycles { k ≤ most_cycles }
+    requires launches { n ≤ most_launches }
     requires table { IsTable table.now }
     requires graph { IsLaunchGraph facts.now }
     requires scope { IsScope Pinned facts.now table.now scope.now }

@@ -1,5 +1,6 @@
 // Schedules with fewer and fewer launches, until no fewer are found.
 ghost use Rattle.std.specs.Prelude.{◌≡◌, ◌+◌, ◌≤◌, IfOk, length};
+ghost use Rattle.schedule_meaning.specs.Limits.{most_cycles, most_launches};
 ghost use Rattle.cycle_encoding.specs.Encodings.{IsScope};
 ghost use Rattle.cycle_encoding.specs.declared.encodings.Encoding.TheVariants.{Pinned};
 ghost use Rattle.graph_meaning.specs.WellFormed.{IsLaunchGraph};
@@ -67,8 +68,8 @@ fn try_fewer<F: Rule>(
     conflicts: u32,
     picker: &Picker<F>,
 ) -> Result<Step, NoMemory>
-    requires cycles { k ≤ 24 }
-    requires launches { n ≤ 192 }
+    requires cycles { k ≤ most_cycles }
+    requires launches { n ≤ most_launches }
     requires table { IsTable table.now }
     requires graph { IsLaunchGraph facts.now }
     requires scope { IsScope Pinned facts.now table.now scope.now }
@@ -105,7 +106,7 @@ fn lessen<F: Rule>(
     conflicts: u32,
     picker: &Picker<F>,
 ) -> Result<(Schedule, Proof), NoMemory>
-    requires cycles { k ≤ 24 }
+    requires cycles { k ≤ most_cycles }
     requires table { IsTable table.now }
     requires graph { IsLaunchGraph facts.now }
     requires scope { IsScope Pinned facts.now table.now scope.now }
@@ -149,7 +150,7 @@ pub fn least<F: Rule>(
     conflicts: u32,
     picker: &Picker<F>,
 ) -> Result<Least, NoMemory>
-    requires cycles { k ≤ 24 }
+    requires cycles { k ≤ most_cycles }
     requires table { IsTable table.now }
     requires graph { IsLaunchGraph graph.now }
     requires fits { Fits graph.now table.now k schedule.launches }

@@ -4,12 +4,12 @@ use Rattle.std.specs.Prelude.{ℕ, List, [], ◌∷◌, ◌++◌, map, Option, S
 use Rattle.word_ops.specs.declared.operators.WordOp.{WordOp}
 use Rattle.word_ops.specs.declared.operators.WordOp.TheVariants as ops
 use Rattle.word_ops.specs.declared.sorts.Access.TheVariants.{Quad}
-use Rattle.word_ops.specs.Operates.{operates, place_of, row_of}
+use Rattle.word_ops.specs.Operates.{operates, operate_place, row_of}
 use Rattle.machine_table.specs.declared.tables.InstrKind.{InstrKind}
 use Rattle.machine_table.specs.declared.tables.InstrKind.TheVariants.{Operate, Lda, Ldah, Load, Store, Beq}
 
 abbrev pub kind_number : InstrKind → ℕ
-kind_number (Operate operate) = place_of operate
+kind_number (Operate operate) = operate_place operate
 kind_number Lda = 55
 kind_number Ldah = 56
 kind_number (Load Quad) = 57

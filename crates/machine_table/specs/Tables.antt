@@ -60,20 +60,20 @@ abbrev pub uses_of : ℕ → List ℕ → List InstrKind → List Use
 uses_of latency slots instrs = map (λ instr. record { instr = instr; latency = latency; slots = slots }) instrs
 
 -- the upper slots are 0 and 1, the lower ones 2 and 3; slot 1 alone multiplies
-abbrev pub slots_in : Pipes → List ℕ
-slots_in Any = 0 ∷ 1 ∷ 2 ∷ 3 ∷ []
-slots_in Shifters = 0 ∷ 1 ∷ []
-slots_in Multiplier = 1 ∷ []
+abbrev pub pipe_slots : Pipes → List ℕ
+pipe_slots Any = 0 ∷ 1 ∷ 2 ∷ 3 ∷ []
+pipe_slots Shifters = 0 ∷ 1 ∷ []
+pipe_slots Multiplier = 1 ∷ []
 
-abbrev pub latency_in : Pipes → ℕ
-latency_in Multiplier = 7
-latency_in _ = 1
+abbrev pub pipe_latency : Pipes → ℕ
+pipe_latency Multiplier = 7
+pipe_latency _ = 1
 
 abbrev pub operate_use : Operate → Use
 operate_use operate = record {
   instr = kinds.Operate operate;
-  latency = latency_in (row_of operate).pipes;
-  slots = slots_in (row_of operate).pipes;
+  latency = pipe_latency (row_of operate).pipes;
+  slots = pipe_slots (row_of operate).pipes;
 }
 
 unfoldable pub ev6 : Table

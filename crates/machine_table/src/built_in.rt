@@ -10,8 +10,8 @@ use text_core::Name;
 use word_ops::{Access, OPERATES, OperateRow, Pipes};
 
 // Where the pipes are on this machine, and how long they take.
-fn slots_in(pipes: Pipes) -> &'static [u32]
-    ensures { result.now ≡ specs.slots_in pipes }
+fn pipe_slots(pipes: Pipes) -> &'static [u32]
+    ensures { result.now ≡ specs.pipe_slots pipes }
 {
     match pipes {
         Pipes::Any => &[0, 1, 2, 3],
@@ -20,8 +20,8 @@ fn slots_in(pipes: Pipes) -> &'static [u32]
     }
 }
 
-fn latency_in(pipes: Pipes) -> u32
-    ensures { result ≡ specs.latency_in pipes }
+fn pipe_latency(pipes: Pipes) -> u32
+    ensures { result ≡ specs.pipe_latency pipes }
 {
     match pipes {
         Pipes::Multiplier => 7,
@@ -38,8 +38,8 @@ fn operate_uses(alloc: Global, rows: &[OperateRow]) -> Result<Items<Use>, NoMemo
         let pipes = row.operate.pipes();
         uses.push(Use {
             instr: InstrKind::Operate(row.operate),
-            latency: latency_in(pipes),
-            slots: Items::from_slice(alloc, slots_in(pipes))?,
+            latency: pipe_latency(pipes),
+            slots: Items::from_slice(alloc, pipe_slots(pipes))?,
         })?;
     }
     Ok(uses)
@@ -91,14 +91,14 @@ fn pipes(alloc: Global) -> Result<Items<Slot>, NoMemory>
 fn uses(alloc: Global) -> Result<Items<Use>, NoMemory>
     ensures { IfOk result (λ uses. uses ≡ specs.ev6.uses) }
 {
-    let upper = slots_in(Pipes::Shifters);
+    let upper = pipe_slots(Pipes::Shifters);
     let lower = [2, 3];
     let mut uses = operate_uses(alloc, &OPERATES)?;
     add(
         alloc,
         &mut uses,
         1,
-        slots_in(Pipes::Any),
+        pipe_slots(Pipes::Any),
         &[InstrKind::Lda, InstrKind::Ldah],
     )?;
     add(

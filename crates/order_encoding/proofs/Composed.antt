@@ -2,6 +2,7 @@
 use Rattle.std.proofs.Common.{◌≡◌, ℕ, ◌+◌, ◌<◌, ◌≤◌, ◌++◌, ◌⊎◌, inl, inr, length, Bool, true, List, [], ◌∷◌, refl, sym, ap, subst, arith, length-append}
 use Rattle.std.specs.Prelude.{Contains, ◌↔◌, is_some}
 use Rattle.std.specs.List.{filter, range_with_len}
+use Rattle.cycle_encoding.specs.Limits.{most_vars, most_clauses}
 use Rattle.cnf_core.specs.declared.literal.Lit.{Lit}
 use Rattle.cnf_core.specs.Formula.{Formula, Satisfies}
 use Rattle.machine_table.specs.declared.tables.Table.{Table}
@@ -32,7 +33,7 @@ module _ (g : LaunchGraph) (table : Table) (k : ℕ) where
       subst (λ (p : Plan). (l : Launch) → Contains (shown h.0 (numbered 0 p.launches)) l ↔ Contains ls l) (sym ep) h.2,
     )
 
-larger : (a b c d : ℕ) → a ≤ c → b ≤ d → (262144 < a) ⊎ (2000000 < b) → (262144 < c) ⊎ (2000000 < d)
+larger : (a b c d : ℕ) → a ≤ c → b ≤ d → (most_vars < a) ⊎ (most_clauses < b) → (most_vars < c) ⊎ (most_clauses < d)
 larger a b c d p q (inl h) = inl (omega arith)
 larger a b c d p q (inr h) = inr (omega arith)
 

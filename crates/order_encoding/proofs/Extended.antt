@@ -2,6 +2,7 @@
 -- takes.
 use Rattle.std.proofs.Common.{◌≡◌, ℕ, ◌+◌, ◌<◌, ◌≤◌, ◌^◌, Bool, true, false, not, List, ◌∷◌, ◌++◌, [], length, refl, sym, ap, ◌∙◌, arith, length-append, append_assoc}
 use Rattle.std.specs.Prelude.{is_some}
+use Rattle.cycle_encoding.specs.Limits.{most_vars, most_clauses}
 use Rattle.cnf_core.specs.declared.literal.Lit.{Lit}
 use Rattle.cnf_core.specs.Formula.{Formula}
 use Rattle.std.proofs.lemmas.List.{append-nil}
@@ -28,8 +29,8 @@ module _ (E M K L G1 G2 : List (List Lit)) (n : ℕ) (f f1 f2 f3 f4 f5 f6 : Form
   abbrev pub all : List (List Lit)
   all = E ++ M ++ K ++ counters n 1 (G1 ++ G2) ++ L
 
-  module _ (size : (old p : ℕ) (lits : List Lit) → length (at_most_clauses old p lits) ≡ at_most_size p (length lits)) (few : length (f.clauses ++ all) ≤ 2000000) where
-    total : length f.clauses + length E + length M + length K + counters_size 1 G1 + counters_size 1 G2 + length L ≤ 2000000
+  module _ (size : (old p : ℕ) (lits : List Lit) → length (at_most_clauses old p lits) ≡ at_most_size p (length lits)) (few : length (f.clauses ++ all) ≤ most_clauses) where
+    total : length f.clauses + length E + length M + length K + counters_size 1 G1 + counters_size 1 G2 + length L ≤ most_clauses
     total =
         let a = length-append f.clauses all in
         let b = length-append (E ++ M ++ K ++ counters n 1 (G1 ++ G2)) L in
@@ -93,10 +94,10 @@ module _ (E M K L G1 G2 : List (List Lit)) (n : ℕ) (f f1 f2 f3 f4 f5 f6 : Form
   pub vars4 : f2 ≡ with_clauses f1 E → f3 ≡ with_clauses f2 M → f4 ≡ with_clauses f3 K → f4.vars ≡ n
   vars4 e2 e3 e4 = ap (λ (f : Formula). f.vars) e4 ∙ ap (λ (f : Formula). f.vars) e3 ∙ ap (λ (f : Formula). f.vars) e2 ∙ ap (λ (f : Formula). f.vars) e1
 
-  pub limit4 : (v : ℕ) → v ≡ n → n + counters_vars 1 (G1 ++ G2) ≤ 262144 → v + counters_vars 1 G1 < 2 ^ 29
+  pub limit4 : (v : ℕ) → v ≡ n → n + counters_vars 1 (G1 ++ G2) ≤ most_vars → v + counters_vars 1 G1 < 2 ^ 29
   limit4 v e le = (let a = vars-append 1 G1 G2 in omega arith)
 
-  pub limit5 : (v : ℕ) → v ≡ n → f4.vars ≡ v → f5 ≡ with_counters f4 G1 → n + counters_vars 1 (G1 ++ G2) ≤ 262144 → f5.vars + counters_vars 1 G2 < 2 ^ 29
+  pub limit5 : (v : ℕ) → v ≡ n → f4.vars ≡ v → f5 ≡ with_counters f4 G1 → n + counters_vars 1 (G1 ++ G2) ≤ most_vars → f5.vars + counters_vars 1 G2 < 2 ^ 29
   limit5 v e ev e5 le = (let a = vars-append 1 G1 G2 in let b = ap (λ (f : Formula). f.vars) e5 in omega arith)
 
   module _ (e2 : f2 ≡ with_clauses f1 E) (e3 : f3 ≡ with_clauses f2 M) (e4 : f4 ≡ with_clauses f3 K) (e5 : f5 ≡ with_counters f4 G1) (e6 : f6 ≡ with_counters f5 G2) where
@@ -152,8 +153,8 @@ module _ (lits : List Lit) (W C : List (List Lit)) (n : ℕ) (f f1 f2 f3 f4 : Fo
   abbrev pub branch-all : List (List Lit)
   branch-all = (lits ∷ []) ++ counters n 1 (lits ∷ []) ++ W ++ C
 
-  module _ (size : (old p : ℕ) (lits : List Lit) → length (at_most_clauses old p lits) ≡ at_most_size p (length lits)) (few : length (f.clauses ++ branch-all) ≤ 2000000) where
-    branch-total : length f.clauses + 1 + at_most_size 1 (length lits) + length W + length C ≤ 2000000
+  module _ (size : (old p : ℕ) (lits : List Lit) → length (at_most_clauses old p lits) ≡ at_most_size p (length lits)) (few : length (f.clauses ++ branch-all) ≤ most_clauses) where
+    branch-total : length f.clauses + 1 + at_most_size 1 (length lits) + length W + length C ≤ most_clauses
     branch-total =
         let a = length-append f.clauses branch-all in
         let b = length-append ((lits ∷ []) ++ counters n 1 (lits ∷ []) ++ W) C in
@@ -198,7 +199,7 @@ module _ (lits : List Lit) (W C : List (List Lit)) (n : ℕ) (f f1 f2 f3 f4 : Fo
   pub branch-vars2 : f2 ≡ with_clauses f1 (lits ∷ []) → f2.vars ≡ n
   branch-vars2 e2 = ap (λ (f : Formula). f.vars) e2 ∙ ap (λ (f : Formula). f.vars) e1
 
-  pub branch-limit : f2 ≡ with_clauses f1 (lits ∷ []) → n + counters_vars 1 (lits ∷ []) ≤ 262144 → f2.vars + at_most_vars 1 (length lits) < 2 ^ 29
+  pub branch-limit : f2 ≡ with_clauses f1 (lits ∷ []) → n + counters_vars 1 (lits ∷ []) ≤ most_vars → f2.vars + at_most_vars 1 (length lits) < 2 ^ 29
   branch-limit e2 le =
       let a = branch-vars2 e2 in
       let b = sum_by-cons (λ (c : List Lit). at_most_vars 1 (length c)) lits [] in
@@ -258,8 +259,8 @@ module _ (g : LaunchGraph) (k : ℕ) (xs : List (ℕ × Launch)) (f : Formula) w
 
 -- registers: a family, and a counter up to the number of registers
 module _ (lits : List Lit) (T : List (List Lit)) (p q n : ℕ) (f f1 f2 : Formula) (e1 : f1 ≡ record f { vars = n }) (same_vars : at_most_vars q (length lits) ≡ at_most_vars p (length lits)) (same_clauses : (old : ℕ) → at_most_clauses old q lits ≡ at_most_clauses old p lits) where
-  module _ (size : (old p : ℕ) (lits : List Lit) → length (at_most_clauses old p lits) ≡ at_most_size p (length lits)) (few : length (f.clauses ++ (T ++ counters n p (lits ∷ []))) ≤ 2000000) where
-    pool-total : length f.clauses + length T + at_most_size p (length lits) ≤ 2000000
+  module _ (size : (old p : ℕ) (lits : List Lit) → length (at_most_clauses old p lits) ≡ at_most_size p (length lits)) (few : length (f.clauses ++ (T ++ counters n p (lits ∷ []))) ≤ most_clauses) where
+    pool-total : length f.clauses + length T + at_most_size p (length lits) ≤ most_clauses
     pool-total =
         let a = length-append f.clauses (T ++ counters n p (lits ∷ [])) in
         let b = length-append T (counters n p (lits ∷ [])) in
@@ -282,7 +283,7 @@ module _ (lits : List Lit) (T : List (List Lit)) (p q n : ℕ) (f f1 f2 : Formul
   pub pool-vars2 : f2 ≡ with_clauses f1 T → f2.vars ≡ n
   pool-vars2 e2 = ap (λ (f : Formula). f.vars) e2 ∙ ap (λ (f : Formula). f.vars) e1
 
-  pub pool-limit : f2 ≡ with_clauses f1 T → n + counters_vars p (lits ∷ []) ≤ 262144 → f2.vars + at_most_vars q (length lits) < 2 ^ 29
+  pub pool-limit : f2 ≡ with_clauses f1 T → n + counters_vars p (lits ∷ []) ≤ most_vars → f2.vars + at_most_vars q (length lits) < 2 ^ 29
   pool-limit e2 le =
       let a = pool-vars2 e2 in
       let b = sum_by-cons (λ (c : List Lit). at_most_vars p (length c)) lits [] in
@@ -325,8 +326,8 @@ module _ (O P T G : List (List Lit)) (f f1 f2 f3 : Formula) where
   abbrev pub pins-all : List (List Lit)
   pins-all = O ++ counters f.vars 1 G ++ P ++ T
 
-  module _ (size : (old p : ℕ) (lits : List Lit) → length (at_most_clauses old p lits) ≡ at_most_size p (length lits)) (few : length (f.clauses ++ pins-all) ≤ 2000000) where
-    pins-total : length f.clauses + length O + counters_size 1 G + length P + length T ≤ 2000000
+  module _ (size : (old p : ℕ) (lits : List Lit) → length (at_most_clauses old p lits) ≡ at_most_size p (length lits)) (few : length (f.clauses ++ pins-all) ≤ most_clauses) where
+    pins-total : length f.clauses + length O + counters_size 1 G + length P + length T ≤ most_clauses
     pins-total =
         let a = length-append f.clauses pins-all in
         let b = length-append (O ++ counters f.vars 1 G ++ P) T in

@@ -13,7 +13,7 @@ use Rattle.cycle_encoding.specs.Shapes.{numbered, positive, negative, vars_of, i
 use Rattle.cycle_encoding.specs.Steps.{of_thing, with_clauses}
 use Rattle.cycle_encoding.proofs.Adding.{added, size-with}
 use Rattle.order_encoding.specs.OrderVariables.{Held, all_held}
-use Rattle.order_encoding.specs.OrderFamilies.{is_held_at, stores_at, not_at_entry, stored, stays}
+use Rattle.order_encoding.specs.OrderFamilies.{is_held_at, stores_at, not_at_entry, store_clause, stays}
 use Rattle.order_encoding.specs.OrderSteps.{AreHeldVars, held_at, class_held, classes_held}
 use Rattle.order_encoding.proofs.Grid.{length-of, cycle_is, cycle_clause, implied-append}
 use Rattle.order_encoding.proofs.HeldPlaces.{held-classes, place-more, cycle-vars, cycle-clauses}
@@ -89,9 +89,9 @@ stay_is ms stores k t class var lits lt e =
     ∙ ap (λ (l : List Lit). (negative var ∷ (vs ++ l)) ∷ []) e
     ∙ ap (λ b. of_thing var (when b ((vs ++ vars_of (is_held_at class (t + 1)) ms) ∷ []))) (sym (eq-eqb t t refl))
 
-pub stored_is : (g : LaunchGraph) (xs : List (ℕ × Launch)) (stores k t : ℕ) (clause : List Lit) → t < k → clause ≡ negative (stores + t + 1) ∷ vars_of (stores_at g t) xs → clause ∷ [] ≡ implied (numbered stores (range_with_len 0 k)) (stored g xs t)
+pub stored_is : (g : LaunchGraph) (xs : List (ℕ × Launch)) (stores k t : ℕ) (clause : List Lit) → t < k → clause ≡ negative (stores + t + 1) ∷ vars_of (stores_at g t) xs → clause ∷ [] ≡ implied (numbered stores (range_with_len 0 k)) (store_clause g xs t)
 stored_is g xs stores k t clause lt e =
     let vs = vars_of (stores_at g t) xs in
     ap (λ (c : List Lit). c ∷ []) e
     ∙ ap (λ b. of_thing (stores + t + 1) (when b (vs ∷ []))) (sym (eq-eqb t t refl))
-    ∙ sym (cycle_clause (stored g xs t) stores k t (λ a ne. ap (λ b. when b (vs ∷ [])) (ne_eqb a t ne)) lt)
+    ∙ sym (cycle_clause (store_clause g xs t) stores k t (λ a ne. ap (λ b. when b (vs ∷ [])) (ne_eqb a t ne)) lt)

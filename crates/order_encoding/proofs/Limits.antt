@@ -3,6 +3,7 @@ use Rattle.std.proofs.Common.{◌≡◌, ℕ, ◌≤◌, List, length, ap, ◌�
 use Rattle.std.specs.Prelude.{is_some}
 use Rattle.std.specs.List.{range_with_len}
 use Rattle.std.proofs.lemmas.Bool.{cases_lt}
+use Rattle.cycle_encoding.specs.Limits.{most_vars, most_clauses}
 use Rattle.cnf_core.specs.Formula.{Formula}
 use Rattle.machine_table.specs.declared.tables.Table.{Table}
 use Rattle.graph_meaning.specs.declared.graphs.LaunchGraph.{LaunchGraph}
@@ -16,14 +17,14 @@ use Rattle.cycle_encoding.specs.Variables.{all_overwritten}
 
 -- ---- limits
 
-pub within_clauses : (f : Formula) → (IsTooLarge f → ⊥) → length f.clauses ≤ 2000000
+pub within_clauses : (f : Formula) → (IsTooLarge f → ⊥) → length f.clauses ≤ most_clauses
 within_clauses f h =
     elim (cases_lt 2000000 (length f.clauses)) [
       | inl lt ↦ absurd (h (inr lt))
       | inr le ↦ le
     ]
 
-pub within_vars : (f : Formula) → (IsTooLarge f → ⊥) → f.vars ≤ 262144
+pub within_vars : (f : Formula) → (IsTooLarge f → ⊥) → f.vars ≤ most_vars
 within_vars f h =
     elim (cases_lt 262144 f.vars) [
       | inl lt ↦ absurd (h (inl lt))

@@ -1,5 +1,6 @@
 -- What holds of a formula over what a scope gives variables holds over each list of its encoding.
 use Rattle.std.proofs.Common.{◌≡◌, ◌≤◌, ℕ, sym, subst}
+use Rattle.schedule_meaning.specs.Limits.{most_cycles}
 use Rattle.graph_meaning.specs.declared.graphs.LaunchGraph.{LaunchGraph}
 use Rattle.machine_table.specs.declared.tables.Table.{Table}
 use Rattle.cycle_encoding.specs.CycleFormula.{Listed, Scope}
@@ -18,7 +19,7 @@ pub named : (e f : Encoding) (g : LaunchGraph) (table : Table) (s : Scope) → f
 named e f g table s same is = subst (λ (x : Encoding). IsScope x g table s) same is
 
 module _ (one : OneList) (e : Encoding) (g h : LaunchGraph) (table : Table) (k : ℕ) (s : Scope) (eh : h ≡ g)
-    (is : IsScope e h table s) (few : k ≤ 24) where
+    (is : IsScope e h table s) (few : k ≤ most_cycles) where
   -- the scope's list is one of the encoding's
   pub own_list : AreListed e g table k (listed_in g table k s)
   own_list = subst (λ (x : LaunchGraph). AreListed e x table k (listed_in x table k s)) eh (is.lists k few)

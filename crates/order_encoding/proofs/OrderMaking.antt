@@ -24,7 +24,7 @@ use Rattle.order_encoding.specs.OrderVariables.{Held, Taken, all_held, all_taken
 use Rattle.order_encoding.specs.OrderFamilies.{stores_at, entry_clauses, memory_clauses, kept_clauses, held_groups, store_groups, last_clauses, branch_clauses, branch_groups, wait_clauses, come_clauses, register_groups}
 use Rattle.order_encoding.specs.PinFamilies.{pool_clauses, overwritten_clauses, pin_groups, pin_clauses, late_clauses}
 use Rattle.order_encoding.specs.WholeFormula.{whole_formula}
-use Rattle.order_encoding.proofs.Parts.{held_vars, before_stores, store_vars, before_held, memory_groups, after_memory, come_cycles, come_vars, before_branch, after_guard, taken_vars, before_pool, after_pool, memory_part, guard_part, pool_part, pins_part}
+use Rattle.order_encoding.proofs.Parts.{held_vars, before_stores, store_vars, before_held, memory_groups, after_memory, earliest_cycles, come_vars, before_branch, after_guard, taken_vars, before_pool, after_pool, memory_part, guard_part, pool_part, pins_part}
 use Rattle.cycle_encoding.proofs.Shown.{both}
 use Rattle.cycle_encoding.proofs.ShownTests.{few-in}
 use Rattle.cycle_encoding.proofs.Members.{All-from_members}
@@ -152,9 +152,9 @@ module _ (exact : AreExact) (g : LaunchGraph) (table : Table) (k : ℕ) (e : Lis
       let h6 : HasExtension n5 v5 (counters n5 1 (memory_groups g table k e)) = counters-in exact 1 n5 n5 v5 (memory_groups g table k e) (itself n5) (pinned-memory-over g table k e) c8 in
       let v6 : ℕ → Bool = h6.0 in
       let x56 : Extends n5 v5 v6 = h6.1 in
-      let v7 : ℕ → Bool = chosen (come_now g table k ls) n7 (come_cycles g table k e) v6 in
-      let s7 : shown v7 (come_vars g table k e) ≡ come g table k ls = chosen-shown (come_now g table k ls) n7 (come_cycles g table k e) v6 in
-      let x67 : Extends n7 v6 v7 = chosen-extends (come_now g table k ls) n7 (come_cycles g table k e) v6 in
+      let v7 : ℕ → Bool = chosen (come_now g table k ls) n7 (earliest_cycles g table k e) v6 in
+      let s7 : shown v7 (come_vars g table k e) ≡ come g table k ls = chosen-shown (come_now g table k ls) n7 (earliest_cycles g table k e) v6 in
+      let x67 : Extends n7 v6 v7 = chosen-extends (come_now g table k ls) n7 (earliest_cycles g table k e) v6 in
       let x57 : Extends n5 v5 v7 = extends-trans n5 n7 v5 v6 v7 (up7 g table k e) x56 x67 in
       let a7 : shown v7 (launch_vars e) ≡ S = shown-at v5 v7 0 n5 e.launches S a5 (launches-held g table k e) x57 in
       let c12 = branch-count g table k e v7 (λ y. subst (λ S. count_by (launches g is_branch) S ≤ 1) (sym a7) (branch-few g table k ls S same is_graph order y)) in
@@ -189,7 +189,7 @@ module _ (exact : AreExact) (g : LaunchGraph) (table : Table) (k : ℕ) (e : Lis
         launched_is = shown-extends v3 w 0 n3 e.launches (launches-last g table k e) x3w;
         held_is = shown-at v4 w n3 n4 (all_held g k) (held g table k ls) s4 (itself n4) x4w;
         stored_is = shown-at v5 w n4 n5 (range_with_len 0 k) (stored g table k ls) s5 (range-held g table k e) x5w;
-        come_is = shown-at v7 w n7 n8 (come_cycles g table k e) (come g table k ls) s7 (itself n8) x7w;
+        come_is = shown-at v7 w n7 n8 (earliest_cycles g table k e) (come g table k ls) s7 (itself n8) x7w;
         taken_is = shown-at v9 w n9 n10 (all_taken table k) (pool_taken g table k ls) s9 (itself n10) x9w;
         memory = stays n7 v6 w (counters n5 1 (memory_groups g table k e)) x6w (counters-over exact 1 n5 n5 (memory_groups g table k e) (itself n5) (pinned-memory-over g table k e)) h6.2;
         branch = stays n9 v8 w (counters n8 1 (branch_groups g (launch_vars e))) x8w (counters-over exact 1 n8 n8 (branch_groups g (launch_vars e)) (itself n8) (pinned-branch-over g table k e)) h8.2;

@@ -1,5 +1,6 @@
 -- What one part adds to the formula of the parts before it.
 use Rattle.std.proofs.Common.{◌≡◌, ◌+◌, ◌≤◌, ◌∙◌, ℕ, length, sym, ap, subst}
+use Rattle.cycle_encoding.specs.Limits.{most_vars, most_clauses}
 use Rattle.cnf_core.specs.Formula.{Formula}
 use Rattle.machine_table.specs.declared.tables.Table.{Table}
 use Rattle.graph_meaning.specs.declared.graphs.LaunchGraph.{LaunchGraph}
@@ -56,10 +57,10 @@ module _ (p q : Part) (same : p ≡ q) (g : LaunchGraph) (table : Table) (k : �
   pub before_named : (f : Formula) → f ≡ before p → f ≡ before q
   before_named f e = subst (λ x. f ≡ before x) same e
 
-  pub vars_named : (IsTooLarge (after p) → ⊥) → (after q).vars ≤ 262144
+  pub vars_named : (IsTooLarge (after p) → ⊥) → (after q).vars ≤ most_vars
   vars_named h = within_vars (after q) (subst (λ x. IsTooLarge (after x) → ⊥) same h)
 
-  pub clauses_named : (IsTooLarge (after p) → ⊥) → length (after q).clauses ≤ 2000000
+  pub clauses_named : (IsTooLarge (after p) → ⊥) → length (after q).clauses ≤ most_clauses
   clauses_named h = within_clauses (after q) (subst (λ x. IsTooLarge (after x) → ⊥) same h)
 
   pub after_named : (f : Formula) → f ≡ after q → f ≡ after p

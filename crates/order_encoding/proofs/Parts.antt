@@ -42,8 +42,8 @@ module _ (g : LaunchGraph) (table : Table) (k : ℕ) (e : Listed) where
 
   -- ---- the branch of a guard
 
-  abbrev pub come_cycles : List ℕ
-  come_cycles = new_come_cycles g k xs (memory_formula g table k e)
+  abbrev pub earliest_cycles : List ℕ
+  earliest_cycles = new_come_cycles g k xs (memory_formula g table k e)
 
   abbrev pub come_vars : List (ℕ × ℕ)
   come_vars = new_come g k xs (memory_formula g table k e)

@@ -28,7 +28,7 @@ use Rattle.order_encoding.specs.PinFamilies.{is_overwritten_at, unmet_sets, pool
 use Rattle.order_encoding.specs.WholeFormula.{branch_vars, memory_formula, guard_formula, pool_formula, whole_formula}
 use Rattle.order_encoding.specs.OrderCounts.{row_stores, held_count, taken_places}
 use Rattle.order_encoding.specs.OrderCounts.{overwrites_at, destined_stores, memory_vars, memory_size, destined_branches, guard_vars, guard_size, registers_vars, registers_size, goes_count, late_count, pins_vars, pins_size}
-use Rattle.order_encoding.proofs.Parts.{held_vars, before_stores, store_vars, before_held, memory_groups, after_memory, come_cycles, come_vars, before_branch, after_guard, taken_vars, before_pool, memory_part, guard_part, pool_part, after_pool, pins_part}
+use Rattle.order_encoding.proofs.Parts.{held_vars, before_stores, store_vars, before_held, memory_groups, after_memory, earliest_cycles, come_vars, before_branch, after_guard, taken_vars, before_pool, memory_part, guard_part, pool_part, after_pool, pins_part}
 use Rattle.cycle_encoding.proofs.Counting.{sum-same, count-any}
 use Rattle.cycle_encoding.proofs.Members.{range-out, range-once, filter-once}
 use Rattle.cycle_encoding.proofs.Tests.{some_in}
@@ -178,7 +178,7 @@ module _ (g : LaunchGraph) (table : Table) (k : ℕ) (sc : Scope) where
 
   pub guard-vars : after_counters g table k e ≡ cycle_vars g table k sc → after_guard g table k e ≡ cycle_vars g table k sc + memory_vars g table k sc + guard_vars g table k sc
   guard-vars cycles =
-      let b = length (come_cycles g table k e) in
+      let b = length (earliest_cycles g table k e) in
       let c = counters_vars 1 (branch_groups g (launch_vars e)) in
       ap (λ n. n + b + c) (memory-vars cycles)
       ∙ (let s : (x y z : ℕ) → x + y + z ≡ x + (y + z) = λ x y z. omega arith in s (cycle_vars g table k sc + memory_vars g table k sc) b c)
@@ -244,7 +244,7 @@ module _ (g : LaunchGraph) (table : Table) (k : ℕ) (sc : Scope) where
         size-implied f 0 (launches_from g table k (first_cycle_in sc)) ∙ sum-same (λ l. length (f l)) (λ (l : Launch). one_if (row_is g is_store l.row || (row_is g is_load l.row && is_held g))) (launches_from g table k (first_cycle_in sc)) (λ l. size-one (waits g l) (vars_of (λ t. t == l.cycle) bs))
         ∙ sum-destined g table k sc (λ row to. one_if (row_is g is_store row || (row_is g is_load row && is_held g))) in
         let ec : length (implied bs (λ t. vars_of (branches_by g t) xs ∷ [])) ≡ cond (is_some g.guard) k 0 =
-        size-implied (λ t. vars_of (branches_by g t) xs ∷ []) (after_memory g table k e) (come_cycles g table k e) ∙ sym (size-ones (come_cycles g table k e)) ∙ come_in (is_some g.guard) in
+        size-implied (λ t. vars_of (branches_by g t) xs ∷ []) (after_memory g table k e) (earliest_cycles g table k e) ∙ sym (size-ones (earliest_cycles g table k e)) ∙ come_in (is_some g.guard) in
         guard_in (is_some g.guard) (destined_branches g table k sc) w (vars_of (launches g is_branch) xs) (before_branch g table k e) (implied xs f) (implied bs (λ t. vars_of (branches_by g t) xs ∷ [])) branch-lits ew ec
 
     pool-size : length (pool_part g table k e) ≡ registers_size g table k sc

@@ -58,8 +58,8 @@ abbrev pub memory_clauses : LaunchGraph → List (ℕ × Launch) → List (ℕ �
 memory_clauses g xs ms ws = implied xs (λ l. uses_held g ms l ++ leaves g ms ws l)
 
 -- there is a store in a cycle where its variable says so
-abbrev pub stored : LaunchGraph → List (ℕ × Launch) → ℕ → ℕ → List (List Lit)
-stored g xs t c = when (c == t) (vars_of (stores_at g t) xs ∷ [])
+abbrev pub store_clause : LaunchGraph → List (ℕ × Launch) → ℕ → ℕ → List (List Lit)
+store_clause g xs t c = when (c == t) (vars_of (stores_at g t) xs ∷ [])
 
 -- what is held in a cycle is held in the next, or there is a store
 abbrev pub stays : List (ℕ × Held) → List (ℕ × ℕ) → ℕ → Held → List (List Lit)
@@ -67,7 +67,7 @@ stays ms ws t m = when (m.cycle == t) ((vars_of (λ c. c == t) ws ++ vars_of (is
 
 -- both of a cycle
 abbrev pub kept_at : LaunchGraph → List (ℕ × Launch) → List (ℕ × Held) → List (ℕ × ℕ) → ℕ → List (List Lit)
-kept_at g xs ms ws t = implied ws (stored g xs t) ++ implied ms (stays ms ws t)
+kept_at g xs ms ws t = implied ws (store_clause g xs t) ++ implied ms (stays ms ws t)
 
 -- 7: in each cycle there is a store, or what is held stays
 abbrev pub kept_clauses : LaunchGraph → ℕ → List (ℕ × Launch) → List (ℕ × Held) → List (ℕ × ℕ)

@@ -2,6 +2,7 @@
 -- Source: this project.
 use Rattle.std.specs.Prelude.{◌≡◌, ℕ, ◌+◌, ◌≤◌, List, ◌++◌, length, is_some}
 use Rattle.std.specs.List.{range_with_len}
+use Rattle.schedule_meaning.specs.Limits.{most_cycles}
 use Rattle.cnf_core.specs.declared.literal.Lit.{Lit}
 use Rattle.cnf_core.specs.Formula.{Formula}
 use Rattle.machine_table.specs.declared.tables.Table.{Table}
@@ -168,7 +169,7 @@ IsSizeFault e g table k faults.Memory = Unit {0}
 
 -- for each number of cycles that may be asked for these are the encoding's clauses
 abbrev pub AreFormulas : Encoding → LaunchGraph → Table → (ℕ → Formula) → Type 0
-AreFormulas e g table formulas = (k : ℕ) → k ≤ 24 → IsFormulaOf e g table k (formulas k)
+AreFormulas e g table formulas = (k : ℕ) → k ≤ most_cycles → IsFormulaOf e g table k (formulas k)
 
 -- the clauses for k cycles over what a scope gives variables
 abbrev pub formula_in : Scope → LaunchGraph → Table → ℕ → Formula

@@ -1,5 +1,7 @@
 // The parts of the whole formula behind that of cycles, slots and values, one after another.
 ghost use Rattle.std.specs.Prelude.{◌≡◌, ◌<◌, ◌≤◌, ◌^◌, IfOk, IfErr, OnOk};
+ghost use Rattle.cycle_encoding.specs.Limits.{most_vars};
+ghost use Rattle.schedule_meaning.specs.Limits.{most_cycles};
 ghost use Rattle.graph_meaning.specs.WellFormed.{IsLaunchGraph};
 ghost use Rattle.machine_table.specs.Tables.{IsTable};
 ghost use Rattle.cycle_encoding.specs.CycleFormula.{before_overwritten, cycle_formula, listed_in};
@@ -39,7 +41,7 @@ pub enum Part {
 
 /// How many variables and clauses a part has, over what a scope gives variables.
 fn part_sizes(part: Part, facts: &Facts, table: &Table, scope: &Scope, k: u32) -> Sizes
-    requires cycles { k ≤ 24 }
+    requires cycles { k ≤ most_cycles }
     requires table { IsTable table.now }
     requires graph { IsLaunchGraph facts.now }
     ensures vars { result.vars ≡ part_vars part facts.now table.now k scope.now }
@@ -57,11 +59,11 @@ fn part_sizes(part: Part, facts: &Facts, table: &Table, scope: &Scope, k: u32) -
 
 /// How many variables come before those of the cycles by which the branch has come; no clause is built.
 fn before_branch(facts: &Facts, table: &Table, scope: &Scope, k: u32) -> u32
-    requires cycles { k ≤ 24 }
+    requires cycles { k ≤ most_cycles }
     requires table { IsTable table.now }
     requires graph { IsLaunchGraph facts.now }
     requires few { (memory_formula facts.now table.now k (listed_in facts.now table.now k scope.now)).vars
-        ≤ 262144 }
+        ≤ most_vars }
     ensures { result
         ≡ (memory_formula facts.now table.now k (listed_in facts.now table.now k scope.now)).vars }
 {
@@ -84,7 +86,7 @@ pub fn extend(
     launches: &[Launch],
     overwritten: u32,
 ) -> Result<(), NoMemory>
-    requires cycles { k ≤ 24 }
+    requires cycles { k ≤ most_cycles }
     requires table { IsTable table.now }
     requires graph { IsLaunchGraph facts.now }
     requires formula { cnf.old ≡ before_part part facts.now table.now k (listed_in facts.now table.now k scope.now) }
@@ -112,7 +114,7 @@ pub fn add_memory(
     graph: &LaunchGraph,
     table: &Table,
 ) -> Result<Encoded, EncodeFault>
-    requires cycles { encoded.plan.cycles ≤ 24 }
+    requires cycles { encoded.plan.cycles ≤ most_cycles }
     requires table { IsTable table.now }
     requires graph { IsLaunchGraph graph.now }
     requires formula { OnLists encoded.plan.encoding graph.now table.now encoded.plan.cycles
@@ -137,7 +139,7 @@ pub fn add_guard(
     graph: &LaunchGraph,
     table: &Table,
 ) -> Result<Encoded, EncodeFault>
-    requires cycles { encoded.plan.cycles ≤ 24 }
+    requires cycles { encoded.plan.cycles ≤ most_cycles }
     requires table { IsTable table.now }
     requires graph { IsLaunchGraph graph.now }
     requires formula { OnLists encoded.plan.encoding graph.now table.now encoded.plan.cycles
@@ -162,7 +164,7 @@ pub fn add_pool(
     graph: &LaunchGraph,
     table: &Table,
 ) -> Result<Encoded, EncodeFault>
-    requires cycles { encoded.plan.cycles ≤ 24 }
+    requires cycles { encoded.plan.cycles ≤ most_cycles }
     requires table { IsTable table.now }
     requires graph { IsLaunchGraph graph.now }
     requires formula { OnLists encoded.plan.encoding graph.now table.now encoded.plan.cycles
@@ -187,7 +189,7 @@ pub fn add_pins(
     graph: &LaunchGraph,
     table: &Table,
 ) -> Result<Encoded, EncodeFault>
-    requires cycles { encoded.plan.cycles ≤ 24 }
+    requires cycles { encoded.plan.cycles ≤ most_cycles }
     requires table { IsTable table.now }
     requires graph { IsLaunchGraph graph.now }
     requires formula { OnLists encoded.plan.encoding graph.now table.now encoded.plan.cycles
@@ -215,7 +217,7 @@ fn add_part(
     graph: &LaunchGraph,
     table: &Table,
 ) -> Result<Encoded, EncodeFault>
-    requires cycles { encoded.plan.cycles ≤ 24 }
+    requires cycles { encoded.plan.cycles ≤ most_cycles }
     requires table { IsTable table.now }
     requires graph { IsLaunchGraph graph.now }
     requires formula { OnLists encoded.plan.encoding graph.now table.now encoded.plan.cycles
@@ -247,7 +249,7 @@ fn add_part_in(
     table: &Table,
     scope: &Scope,
 ) -> Result<Encoded, EncodeFault>
-    requires cycles { encoded.plan.cycles ≤ 24 }
+    requires cycles { encoded.plan.cycles ≤ most_cycles }
     requires table { IsTable table.now }
     requires graph { IsLaunchGraph facts.now }
     requires formula { encoded.cnf ≡ before_part part facts.now table.now encoded.plan.cycles

@@ -1,6 +1,7 @@
 // Counts and their sums, and what a row adds to the counts of memory and of a guard's branch.
 ghost use Rattle.std.specs.Prelude.{◌≡◌, ◌+◌, ◌*◌, ◌<◌, ◌≤◌, ◌^◌, ◌==◌, not, ℕ, List, length};
 ghost use Rattle.std.specs.List.{count_by};
+ghost use Rattle.schedule_meaning.specs.Limits.{most_cycles};
 ghost use Rattle.cnf_core.specs.Counter as counter;
 ghost use Rattle.cnf_core.specs.declared.literal.Lit.{Lit as LitOf};
 ghost use Rattle.graph_meaning.specs.WellFormed.{IsLaunchGraph};
@@ -60,7 +61,7 @@ pub fn times(factor: u32, count: u64) -> u64
 #[tactic(auto, using(crate::proofs::CountSteps::no_store, crate::proofs::CountSteps::stores_without_instr, crate::proofs::CountSteps::stores_without_use, crate::proofs::CountSteps::stores_without_first, crate::proofs::CountSteps::stores_in_time, crate::proofs::CountSteps::stores_too_late))]
 pub fn row_stores(facts: &Facts, table: &Table, scope: &Scope, k: u32, cycle: u32, row: u32) -> u64
     requires table { IsTable table.now }
-    requires cycles { k ≤ 24 }
+    requires cycles { k ≤ most_cycles }
     ensures value { result ≡ counts.row_stores facts.now table.now k scope.now cycle row }
     ensures few { result ≤ 8 }
 {
@@ -116,7 +117,7 @@ pub fn other_count(facts: &Facts) -> u64
 #[tactic(auto, using(crate::proofs::CountSteps::uses_of_store, crate::proofs::CountSteps::uses_of_load, crate::proofs::CountSteps::no_uses))]
 pub fn row_use_count(facts: &Facts, table: &Table, scope: &Scope, k: u32, row: u32) -> u64
     requires table { IsTable table.now }
-    requires cycles { k ≤ 24 }
+    requires cycles { k ≤ most_cycles }
     ensures value { result ≡ cycle_counts.row_count facts.now table.now k scope.now row * row_uses facts.now row }
     ensures few { result ≤ 600 }
 {

@@ -1,6 +1,7 @@
 // The branch of a guard: it is launched once, and what waits for it comes no earlier.
 ghost use Rattle.std.specs.Prelude.{◌≡◌, ◌+◌, ◌<◌, ◌≤◌, ◌^◌, ◌++◌, nat_le, ◌∷◌, [], length, map, OnOk};
 ghost use Rattle.std.specs.List.{filter, range_with_len};
+ghost use Rattle.cycle_encoding.specs.Limits.{most_vars, most_clauses};
 ghost use Rattle.schedule_meaning.specs.Launches as specs;
 ghost use Rattle.cycle_encoding.specs.Shapes.{positive, implied, numbered, vars_of};
 ghost use Rattle.cycle_encoding.specs.Steps.{of_thing, with_clauses};
@@ -116,8 +117,8 @@ pub fn extend_by_guard(
     k: u32,
 ) -> Result<(), NoMemory>
     requires exist { length launches.now ≤ cnf.old.vars }
-    requires vars { (formula_with_guard facts.now k (numbered 0 launches.now) cnf.old).vars ≤ 262144 }
-    requires clauses { length (formula_with_guard facts.now k (numbered 0 launches.now) cnf.old).clauses ≤ 2000000 }
+    requires vars { (formula_with_guard facts.now k (numbered 0 launches.now) cnf.old).vars ≤ most_vars }
+    requires clauses { length (formula_with_guard facts.now k (numbered 0 launches.now) cnf.old).clauses ≤ most_clauses }
     ensures { OnOk result (cnf.new ≡ formula_with_guard facts.now k (numbered 0 launches.now) cnf.old) }
 {
     if facts.graph().guard.is_none() {

@@ -1,5 +1,6 @@
 // The memory that is held in a cycle: its variables, and the clauses that say which it is at first and at last.
 ghost use Rattle.std.specs.Prelude.{◌≡◌, ◌==◌, ◌+◌, ◌<◌, ◌≤◌, ◌^◌, ◌∷◌, [], length, All, IfOk, OnOk, option_to_list};
+ghost use Rattle.schedule_meaning.specs.Limits.{most_cycles};
 ghost use Rattle.cnf_core.specs.Formula.{IsLitOf};
 ghost use Rattle.graph_meaning.specs.WellFormed.{IsLaunchGraph};
 ghost use Rattle.graph_meaning.specs.WellFormed as wellformed;
@@ -40,7 +41,7 @@ pub fn is_memory_class(facts: &Facts, class: u32) -> bool
 #[tactic(auto, using(crate::proofs::HeldPlaces::below_yes, crate::proofs::HeldPlaces::below_no, crate::proofs::HeldPlaces::classes_yes, crate::proofs::HeldPlaces::classes_no, crate::proofs::HeldPlaces::starts_yes, crate::proofs::HeldPlaces::starts_no))]
 pub fn held_vars(alloc: Global, facts: &Facts, k: u32, first: u32) -> Result<HeldVars, NoMemory>
     requires graph { IsLaunchGraph facts.now }
-    requires cycles { k ≤ 24 }
+    requires cycles { k ≤ most_cycles }
     ensures first { IfOk result (λ held. held.first ≡ first) }
     ensures cycles { IfOk result (λ held. held.cycles ≡ k) }
     ensures held { IfOk result (λ held. AreHeldVars facts.now k held.classes.items held.starts.items) }
@@ -180,7 +181,7 @@ pub fn add_held_counters(
     held: &HeldVars,
 ) -> Result<(), NoMemory>
     requires held { AreHeldVars facts.now held.now.cycles held.now.classes.items held.now.starts.items }
-    requires cycles { held.now.cycles ≤ 24 }
+    requires cycles { held.now.cycles ≤ most_cycles }
     requires exist { held.now.first + length (all_held facts.now held.now.cycles) ≤ cnf.old.vars }
     requires vars { cnf.old.vars + counters_vars 1 (held_groups held.now.cycles
         (numbered held.now.first (all_held facts.now held.now.cycles))) < 2 ^ 29 }
@@ -203,7 +204,7 @@ fn held_in(alloc: Global, facts: &Facts, held: &HeldVars, cycle: u32) -> Result<
     requires held { AreHeldVars facts.now held.now.cycles held.now.classes.items held.now.starts.items }
     requires few { held.now.first + length (all_held facts.now held.now.cycles) < 2 ^ 29 }
     requires cycle { cycle ≤ held.now.cycles }
-    requires cycles { held.now.cycles ≤ 24 }
+    requires cycles { held.now.cycles ≤ most_cycles }
     ensures { IfOk result (λ lits. lits.items
         ≡ vars_of (λ m. m.cycle == cycle) (numbered held.now.first (all_held facts.now held.now.cycles))) }
 {

@@ -1,8 +1,9 @@
 //! The clauses of a schedule: memory in order, a guard's branch, registers, pins; and the whole formula, which can be
 //! satisfied exactly where a schedule fits.
 //!
-//! `count_in` counts the whole formula, and builds none of it; `full` and `full_in` give it at once; `add_memory`,
-//! `add_guard`, `add_pool` and `add_pins` add its parts one after another to the formula of cycles, slots and values.
+//! `formula_size` counts the whole formula, and builds none of it; `full` and `build_formula` give it at once;
+//! `add_memory`, `add_guard`, `add_pool` and `add_pins` add its parts one after another to the formula of cycles, slots
+//! and values.
 //!
 //! Proved: values that satisfy all clauses show a schedule that fits, and each schedule that fits has a part that
 //! fits and is what some values show, in each encoding (`each_encoding_says_fits`, `clauses_say_fits`), since
@@ -29,6 +30,6 @@ mod whole;
 pub use adding::{add_guard, add_memory, add_pins, add_pool};
 pub use laws::{
     clauses_say_fits, counts_are_found, each_encoding_says_fits, launches_without_variables_may_go,
-    worked_formulas, worked_pinned_formulas,
+    parts_are_counted, worked_formulas, worked_pinned_formulas,
 };
-pub use whole::{count_in, full, full_as, full_in};
+pub use whole::{build_formula, formula_size, full, full_as};

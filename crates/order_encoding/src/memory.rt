@@ -1,6 +1,8 @@
 // Memory in order: which memory is held in each cycle, what loads and stores do to it.
 ghost use Rattle.std.specs.Prelude.{◌≡◌, ◌+◌, ◌<◌, ◌≤◌, ◌==◌, ◌^◌, ◌++◌, length, map, OnOk};
 ghost use Rattle.std.specs.List.{filter, range_with_len};
+ghost use Rattle.cycle_encoding.specs.Limits.{most_vars, most_clauses};
+ghost use Rattle.schedule_meaning.specs.Limits.{most_cycles};
 ghost use Rattle.cnf_core.specs.Formula.{IsLitOf};
 ghost use Rattle.graph_meaning.specs.WellFormed.{IsLaunchGraph};
 ghost use Rattle.schedule_meaning.specs.Launches as specs;
@@ -8,7 +10,7 @@ ghost use Rattle.cycle_encoding.specs.Shapes.{negative, positive, implied, numbe
 ghost use Rattle.cycle_encoding.specs.Steps.{of_thing, with_clauses, with_counters};
 ghost use Rattle.order_encoding.specs.OrderVariables.{all_held};
 ghost use Rattle.order_encoding.specs.OrderFamilies.{kept_clauses, memory_clauses, store_groups, leaves, uses_held};
-ghost use Rattle.order_encoding.specs.OrderFamilies.{stays, stored};
+ghost use Rattle.order_encoding.specs.OrderFamilies.{stays, store_clause};
 ghost use Rattle.order_encoding.specs.OrderSteps.{AreHeldVars, held_at, launched_in};
 ghost use Rattle.order_encoding.specs.WholeFormula.{with_memory};
 
@@ -184,7 +186,7 @@ fn add_stored(
     requires room { length cnf.old.clauses < 2 ^ 30 }
     ensures { OnOk result (cnf.new ≡ with_clauses cnf.old
         (implied (numbered stores (range_with_len 0 held.now.cycles))
-        (stored facts.now (numbered 0 launches.now) cycle))) }
+        (store_clause facts.now (numbered 0 launches.now) cycle))) }
 {
     let mut clause = Vec::new(alloc);
     clause.push(Lit {
@@ -306,10 +308,10 @@ pub fn extend_by_memory(
     k: u32,
 ) -> Result<(), NoMemory>
     requires graph { IsLaunchGraph facts.now }
-    requires cycles { k ≤ 24 }
+    requires cycles { k ≤ most_cycles }
     requires exist { length launches.now ≤ cnf.old.vars }
-    requires vars { (with_memory facts.now k (numbered 0 launches.now) cnf.old).vars ≤ 262144 }
-    requires clauses { length (with_memory facts.now k (numbered 0 launches.now) cnf.old).clauses ≤ 2000000 }
+    requires vars { (with_memory facts.now k (numbered 0 launches.now) cnf.old).vars ≤ most_vars }
+    requires clauses { length (with_memory facts.now k (numbered 0 launches.now) cnf.old).clauses ≤ most_clauses }
     ensures { OnOk result (cnf.new ≡ with_memory facts.now k (numbered 0 launches.now) cnf.old) }
 {
     counters_count();

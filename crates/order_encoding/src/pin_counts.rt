@@ -1,6 +1,7 @@
 // The counts of pins, found row by row before any clause is.
 ghost use Rattle.std.specs.Prelude.{◌≡◌, ◌+◌, ◌*◌, ◌<◌, ◌≤◌, ◌^◌, length};
 ghost use Rattle.std.specs.List.{sum_by};
+ghost use Rattle.schedule_meaning.specs.Limits.{most_cycles};
 ghost use Rattle.cnf_core.specs.Counter as counter;
 ghost use Rattle.machine_table.specs.Tables.{IsTable};
 ghost use Rattle.schedule_meaning.specs.Launches as launches;
@@ -21,7 +22,7 @@ use machine_table::Table;
 #[tactic(auto, using(crate::proofs::CountSteps::sum_more))]
 fn goes_count(facts: &Facts, table: &Table, scope: &Scope, k: u32, set: u32) -> u64
     requires table { IsTable table.now }
-    requires cycles { k ≤ 24 }
+    requires cycles { k ≤ most_cycles }
     requires rows { length facts.now.rows < 2 ^ 30 }
     ensures value { result ≡ counts.goes_count facts.now table.now k scope.now set }
     ensures few { result < 2 ^ 40 }
@@ -37,7 +38,7 @@ fn goes_count(facts: &Facts, table: &Table, scope: &Scope, k: u32, set: u32) -> 
 #[tactic(auto, using(crate::proofs::CountSteps::sum_more))]
 fn late_count(facts: &Facts, table: &Table, scope: &Scope, k: u32) -> u64
     requires table { IsTable table.now }
-    requires cycles { k ≤ 24 }
+    requires cycles { k ≤ most_cycles }
     requires rows { length facts.now.rows < 2 ^ 30 }
     ensures value { result ≡ counts.late_count facts.now table.now k scope.now }
     ensures few { result < 2 ^ 45 }
@@ -52,7 +53,7 @@ fn late_count(facts: &Facts, table: &Table, scope: &Scope, k: u32) -> u64
 /// The counts of one pinned set: its counter, the clauses of what it overwrites, and that a launch goes to it.
 fn set_sizes(facts: &Facts, table: &Table, scope: &Scope, k: u32, set: u32) -> Sizes
     requires table { IsTable table.now }
-    requires cycles { k ≤ 24 }
+    requires cycles { k ≤ most_cycles }
     requires rows { length facts.now.rows < 2 ^ 30 }
     ensures vars { result.vars ≡ counter.at_most_vars 1 (counts.goes_count facts.now table.now k scope.now set) }
     ensures clauses { result.clauses ≡ set_size facts.now table.now k scope.now set }
@@ -86,7 +87,7 @@ pub fn has_own_input(facts: &Facts, set: u32) -> bool
 /// The counts of all pinned sets.
 fn sets_sizes(facts: &Facts, table: &Table, scope: &Scope, k: u32) -> Sizes
     requires table { IsTable table.now }
-    requires cycles { k ≤ 24 }
+    requires cycles { k ≤ most_cycles }
     requires rows { length facts.now.rows < 2 ^ 30 }
     ensures vars { result.vars ≡ counts.pins_vars facts.now table.now k scope.now }
     ensures clauses { result.clauses
@@ -108,7 +109,7 @@ fn sets_sizes(facts: &Facts, table: &Table, scope: &Scope, k: u32) -> Sizes
 #[tactic(auto, using(crate::proofs::DestinedSteps::sizes_are))]
 pub fn pins_sizes(facts: &Facts, table: &Table, scope: &Scope, k: u32) -> Sizes
     requires table { IsTable table.now }
-    requires cycles { k ≤ 24 }
+    requires cycles { k ≤ most_cycles }
     requires rows { length facts.now.rows < 2 ^ 30 }
     ensures vars { result.vars ≡ counts.pins_vars facts.now table.now k scope.now }
     ensures clauses { result.clauses ≡ counts.pins_size facts.now table.now k scope.now }

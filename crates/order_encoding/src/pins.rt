@@ -2,6 +2,8 @@
 ghost use Rattle.std.specs.Prelude.{◌≡◌, ◌+◌, ◌<◌, ◌≤◌, ◌==◌, ◌^◌, ◌∷◌, [], not, length, map, is_some, option_to_list};
 ghost use Rattle.std.specs.Prelude.{IfOk, OnOk};
 ghost use Rattle.std.specs.List.{range_with_len};
+ghost use Rattle.cycle_encoding.specs.Limits.{most_vars, most_clauses};
+ghost use Rattle.schedule_meaning.specs.Limits.{most_cycles};
 ghost use Rattle.schedule_meaning.specs.Launches as specs;
 ghost use Rattle.cycle_encoding.specs.Variables.{all_overwritten};
 ghost use Rattle.cycle_encoding.specs.Shapes.{implied, numbered, vars_of, when, counters_vars, counters_size};
@@ -33,7 +35,7 @@ fn add_overwritten(
     k: u32,
 ) -> Result<(), NoMemory>
     requires rows { length facts.now.rows < 2 ^ 30 }
-    requires cycles { k ≤ 24 }
+    requires cycles { k ≤ most_cycles }
     requires launches { length launches.now ≤ first }
     requires exist { first + length (all_overwritten facts.now k) ≤ cnf.old.vars }
     requires few { cnf.old.vars < 2 ^ 29 }
@@ -68,7 +70,7 @@ fn add_set(
     before: u32,
     k: u32,
 ) -> Result<(), NoMemory>
-    requires cycles { k ≤ 24 }
+    requires cycles { k ≤ most_cycles }
     requires launches { length launches.now ≤ before }
     requires exist { before + (k + 1) ≤ cnf.old.vars }
     requires few { cnf.old.vars < 2 ^ 29 }
@@ -87,7 +89,7 @@ fn add_goes(
     before: u32,
     k: u32,
 ) -> Result<(), NoMemory>
-    requires cycles { k ≤ 24 }
+    requires cycles { k ≤ most_cycles }
     requires launches { length launches.now ≤ before }
     requires exist { before + (k + 1) ≤ cnf.old.vars }
     requires few { cnf.old.vars < 2 ^ 29 }
@@ -111,7 +113,7 @@ fn add_go(
     var: u32,
     launch: Launch,
 ) -> Result<(), NoMemory>
-    requires cycles { k ≤ 24 }
+    requires cycles { k ≤ most_cycles }
     requires var { 1 ≤ var }
     requires launches { var ≤ before }
     requires exist { before + (k + 1) ≤ cnf.old.vars }
@@ -129,7 +131,7 @@ fn add_go(
 /// The variable of the cycle after this one, if it is one of those from 0 to k; `before` is the variable before that of
 /// cycle 0.
 fn var_after(before: u32, k: u32, cycle: u32) -> Option<Lit>
-    requires cycles { k ≤ 24 }
+    requires cycles { k ≤ most_cycles }
     requires few { before + (k + 1) < 2 ^ 29 }
     ensures { option_to_list result
         ≡ vars_of (λ t. t == cycle + 1) (numbered before (range_with_len 0 (k + 1))) }
@@ -143,7 +145,7 @@ fn var_after(before: u32, k: u32, cycle: u32) -> Option<Lit>
 
 /// Adds for each cycle the clause that what is overwritten below it is so below the next.
 fn add_stays(cnf: &mut Cnf, before: u32, k: u32) -> Result<(), NoMemory>
-    requires cycles { k ≤ 24 }
+    requires cycles { k ≤ most_cycles }
     requires exist { before + (k + 1) ≤ cnf.old.vars }
     requires few { cnf.old.vars < 2 ^ 29 }
     requires room { length cnf.old.clauses + k < 2 ^ 30 }
@@ -321,16 +323,16 @@ pub fn extend_by_pins(
     branches: u32,
 ) -> Result<(), NoMemory>
     requires rows { length facts.now.rows < 2 ^ 30 }
-    requires cycles { k ≤ 24 }
+    requires cycles { k ≤ most_cycles }
     requires launches { length launches.now ≤ overwritten }
     requires exist { overwritten + length (all_overwritten facts.now k) ≤ branches }
     requires branches { branches + length (when (is_some facts.now.guard) (range_with_len 0 k)) ≤ cnf.old.vars }
     requires vars { (formula_with_pins facts.now k (numbered 0 launches.now) cnf.old
         (numbered overwritten (all_overwritten facts.now k))
-        (numbered branches (when (is_some facts.now.guard) (range_with_len 0 k)))).vars ≤ 262144 }
+        (numbered branches (when (is_some facts.now.guard) (range_with_len 0 k)))).vars ≤ most_vars }
     requires clauses { length (formula_with_pins facts.now k (numbered 0 launches.now) cnf.old
         (numbered overwritten (all_overwritten facts.now k))
-        (numbered branches (when (is_some facts.now.guard) (range_with_len 0 k)))).clauses ≤ 2000000 }
+        (numbered branches (when (is_some facts.now.guard) (range_with_len 0 k)))).clauses ≤ most_clauses }
     ensures { OnOk result (cnf.new ≡ formula_with_pins facts.now k (numbered 0 launches.now) cnf.old
         (numbered overwritten (all_overwritten facts.now k))
         (numbered branches (when (is_some facts.now.guard) (range_with_len 0 k)))) }

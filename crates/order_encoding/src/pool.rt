@@ -1,5 +1,7 @@
 // Registers: launches to the pool that give words take no more registers than it has.
 ghost use Rattle.std.specs.Prelude.{◌≡◌, ◌+◌, ◌<◌, ◌≤◌, ◌^◌, List, length, IfOk, OnOk, option_to_list};
+ghost use Rattle.cycle_encoding.specs.Limits.{most_vars, most_clauses};
+ghost use Rattle.schedule_meaning.specs.Limits.{most_cycles};
 ghost use Rattle.machine_table.specs.Tables.{IsTable};
 ghost use Rattle.cycle_encoding.specs.Families.{any};
 ghost use Rattle.cycle_encoding.specs.Shapes.{numbered, vars_of};
@@ -113,12 +115,12 @@ pub fn extend_by_pool(
     launches: &[Launch],
     k: u32,
 ) -> Result<(), NoMemory>
-    requires cycles { k ≤ 24 }
+    requires cycles { k ≤ most_cycles }
     requires table { IsTable table.now }
     requires exist { length launches.now ≤ cnf.old.vars }
-    requires vars { (formula_with_registers facts.now k (numbered 0 launches.now) cnf.old table.now).vars ≤ 262144 }
+    requires vars { (formula_with_registers facts.now k (numbered 0 launches.now) cnf.old table.now).vars ≤ most_vars }
     requires clauses { length (formula_with_registers facts.now k (numbered 0 launches.now) cnf.old table.now).clauses
-        ≤ 2000000 }
+        ≤ most_clauses }
     ensures { OnOk result (cnf.new ≡ formula_with_registers facts.now k (numbered 0 launches.now) cnf.old table.now) }
 {
     counters_count();

@@ -1,6 +1,7 @@
 // The counts of memory, of a guard's branch, and of registers, found row by row before any clause is.
 ghost use Rattle.std.specs.Prelude.{◌≡◌, ◌+◌, ◌*◌, ◌<◌, ◌≤◌, ◌^◌, ◌&&◌, length};
 ghost use Rattle.std.specs.List.{range_with_len, sum_by};
+ghost use Rattle.schedule_meaning.specs.Limits.{most_cycles};
 ghost use Rattle.cnf_core.specs.Counter as counter;
 ghost use Rattle.graph_meaning.specs.WellFormed.{IsLaunchGraph};
 ghost use Rattle.machine_table.specs.Tables.{IsTable};
@@ -24,7 +25,7 @@ use schedule_meaning::is_branch;
 #[tactic(auto, using(crate::proofs::CountSteps::sum_more))]
 fn store_count(facts: &Facts, table: &Table, scope: &Scope, k: u32, cycle: u32) -> u64
     requires table { IsTable table.now }
-    requires cycles { k ≤ 24 }
+    requires cycles { k ≤ most_cycles }
     requires rows { length facts.now.rows < 2 ^ 30 }
     ensures value { result ≡ counts.destined_stores facts.now table.now k scope.now cycle }
     ensures few { result < 2 ^ 39 }
@@ -40,7 +41,7 @@ fn store_count(facts: &Facts, table: &Table, scope: &Scope, k: u32, cycle: u32) 
 #[tactic(auto, using(crate::proofs::CountSteps::sum_more))]
 fn store_sizes(facts: &Facts, table: &Table, scope: &Scope, k: u32) -> Sizes
     requires table { IsTable table.now }
-    requires cycles { k ≤ 24 }
+    requires cycles { k ≤ most_cycles }
     requires rows { length facts.now.rows < 2 ^ 30 }
     ensures vars { result.vars
         ≡ sum_by (λ t. counter.at_most_vars 1 (counts.destined_stores facts.now table.now k scope.now t))
@@ -64,7 +65,7 @@ fn store_sizes(facts: &Facts, table: &Table, scope: &Scope, k: u32) -> Sizes
 /// How many clauses say which memory the launches of a row use, by where they go.
 fn row_use_clauses(facts: &Facts, table: &Table, scope: &Scope, k: u32, row: u32) -> u64
     requires table { IsTable table.now }
-    requires cycles { k ≤ 24 }
+    requires cycles { k ≤ most_cycles }
     ensures value { result ≡ cycle_counts.row_count facts.now table.now k scope.now row
         * sum_by (λ to. row_uses facts.now row) (row_destinations facts.now row) }
     ensures few { result ≤ 19200 }
@@ -76,7 +77,7 @@ fn row_use_clauses(facts: &Facts, table: &Table, scope: &Scope, k: u32, row: u32
 #[tactic(auto, using(crate::proofs::CountSteps::sum_more))]
 fn use_count(facts: &Facts, table: &Table, scope: &Scope, k: u32) -> u64
     requires table { IsTable table.now }
-    requires cycles { k ≤ 24 }
+    requires cycles { k ≤ most_cycles }
     requires rows { length facts.now.rows < 2 ^ 30 }
     ensures value { result ≡ sum_destined facts.now table.now k scope.now (λ row to. row_uses facts.now row) }
     ensures few { result < 2 ^ 46 }
@@ -92,7 +93,7 @@ fn use_count(facts: &Facts, table: &Table, scope: &Scope, k: u32) -> u64
 pub fn memory_sizes(facts: &Facts, table: &Table, scope: &Scope, k: u32) -> Sizes
     requires graph { IsLaunchGraph facts.now }
     requires table { IsTable table.now }
-    requires cycles { k ≤ 24 }
+    requires cycles { k ≤ most_cycles }
     ensures vars { result.vars ≡ counts.memory_vars facts.now table.now k scope.now }
     ensures clauses { result.clauses ≡ counts.memory_size facts.now table.now k scope.now }
     ensures few_vars { result.vars < 2 ^ 50 }
@@ -115,7 +116,7 @@ pub fn memory_sizes(facts: &Facts, table: &Table, scope: &Scope, k: u32) -> Size
 /// How many launches of a row there are, by where they go, if it passes.
 fn destined_if(facts: &Facts, table: &Table, scope: &Scope, k: u32, row: u32, passes: bool) -> u64
     requires table { IsTable table.now }
-    requires cycles { k ≤ 24 }
+    requires cycles { k ≤ most_cycles }
     ensures value { result ≡ cycle_counts.row_count facts.now table.now k scope.now row
         * sum_by (λ to. one_if passes) (row_destinations facts.now row) }
     ensures few { result ≤ 6400 }
@@ -131,7 +132,7 @@ fn destined_if(facts: &Facts, table: &Table, scope: &Scope, k: u32, row: u32, pa
 #[tactic(auto, using(crate::proofs::CountSteps::sum_more))]
 fn branch_count(facts: &Facts, table: &Table, scope: &Scope, k: u32) -> u64
     requires table { IsTable table.now }
-    requires cycles { k ≤ 24 }
+    requires cycles { k ≤ most_cycles }
     requires rows { length facts.now.rows < 2 ^ 30 }
     ensures value { result ≡ counts.destined_branches facts.now table.now k scope.now }
     ensures few { result < 2 ^ 45 }
@@ -147,7 +148,7 @@ fn branch_count(facts: &Facts, table: &Table, scope: &Scope, k: u32) -> u64
 #[tactic(auto, using(crate::proofs::CountSteps::sum_more))]
 fn wait_count(facts: &Facts, table: &Table, scope: &Scope, k: u32) -> u64
     requires table { IsTable table.now }
-    requires cycles { k ≤ 24 }
+    requires cycles { k ≤ most_cycles }
     requires rows { length facts.now.rows < 2 ^ 30 }
     ensures value { result
         ≡ sum_destined facts.now table.now k scope.now (λ row to. one_if (row_waits facts.now row)) }
@@ -163,7 +164,7 @@ fn wait_count(facts: &Facts, table: &Table, scope: &Scope, k: u32) -> u64
 /// The counts of a guard's branch.
 pub fn guard_sizes(facts: &Facts, table: &Table, scope: &Scope, k: u32) -> Sizes
     requires table { IsTable table.now }
-    requires cycles { k ≤ 24 }
+    requires cycles { k ≤ most_cycles }
     requires rows { length facts.now.rows < 2 ^ 30 }
     ensures vars { result.vars ≡ counts.guard_vars facts.now table.now k scope.now }
     ensures clauses { result.clauses ≡ counts.guard_size facts.now table.now k scope.now }
@@ -189,7 +190,7 @@ pub fn guard_sizes(facts: &Facts, table: &Table, scope: &Scope, k: u32) -> Sizes
 #[tactic(auto, using(crate::proofs::CountSteps::sum_more))]
 fn register_count(facts: &Facts, table: &Table, scope: &Scope, k: u32) -> u64
     requires table { IsTable table.now }
-    requires cycles { k ≤ 24 }
+    requires cycles { k ≤ most_cycles }
     requires rows { length facts.now.rows < 2 ^ 30 }
     ensures value { result ≡ sum_destined facts.now table.now k scope.now
         (λ row to. one_if (launches.is_pool to && row_is facts.now launches.gives_word row)) }
@@ -205,7 +206,7 @@ fn register_count(facts: &Facts, table: &Table, scope: &Scope, k: u32) -> u64
 /// The counts of registers.
 pub fn pool_sizes(facts: &Facts, table: &Table, scope: &Scope, k: u32) -> Sizes
     requires table { IsTable table.now }
-    requires cycles { k ≤ 24 }
+    requires cycles { k ≤ most_cycles }
     requires rows { length facts.now.rows < 2 ^ 30 }
     ensures vars { result.vars ≡ counts.registers_vars facts.now table.now k scope.now }
     ensures clauses { result.clauses ≡ counts.registers_size facts.now table.now k scope.now }

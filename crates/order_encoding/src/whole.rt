@@ -1,6 +1,7 @@
 // The whole formula of a schedule.
 ghost use Rattle.std.specs.Prelude.{◌≡◌, ◌↔◌, ◌≤◌, ◌+◌, ◌<◌, ◌^◌, ℕ, Bool, List, Contains, length, IfOk, IfErr, OnOk};
 ghost use Rattle.std.specs.List.{filter};
+ghost use Rattle.schedule_meaning.specs.Limits.{most_cycles};
 ghost use Rattle.cnf_core.specs.Formula.{Satisfies};
 ghost use Rattle.graph_meaning.specs.WellFormed.{IsLaunchGraph};
 ghost use Rattle.machine_table.specs.Tables.{IsTable};
@@ -31,8 +32,8 @@ use std::alloc::Global;
 
 /// The two counts of the whole formula over what a scope gives variables; no clause is built. It goes over the graph's
 /// rows a few times for each cycle.
-pub fn count_in(facts: &Facts, table: &Table, scope: &Scope, k: u32) -> Sizes
-    requires cycles { k ≤ 24 }
+pub fn formula_size(facts: &Facts, table: &Table, scope: &Scope, k: u32) -> Sizes
+    requires cycles { k ≤ most_cycles }
     requires table { IsTable table.now }
     requires graph { IsLaunchGraph facts.now }
     ensures vars { result.vars ≡ (formula_in scope.now facts.now table.now k).vars }
@@ -50,14 +51,14 @@ pub fn count_in(facts: &Facts, table: &Table, scope: &Scope, k: u32) -> Sizes
 /// The whole formula over what a scope gives variables. Facts and scope are made once for a graph and a table, and
 /// serve any number of cycles. The counts are found before any clause is built; where one passes its limit they are
 /// the answer.
-pub fn full_in(
+pub fn build_formula(
     alloc: Global,
     facts: &Facts,
     table: &Table,
     scope: &Scope,
     k: u32,
 ) -> Result<Encoded, EncodeFault>
-    requires cycles { k ≤ 24 }
+    requires cycles { k ≤ most_cycles }
     requires table { IsTable table.now }
     requires graph { IsLaunchGraph facts.now }
     ensures formula { IfOk result (λ e. e.cnf ≡ formula_in scope.now facts.now table.now k) }
@@ -71,7 +72,7 @@ pub fn full_in(
     ensures within { OnOk result (¬ IsTooLarge (formula_in scope.now facts.now table.now k)) }
     ensures vars { IfOk result (λ e. length e.plan.launches ≤ e.cnf.vars) }
 {
-    let sizes = count_in(facts, table, scope, k);
+    let sizes = formula_size(facts, table, scope, k);
     sizes.within_limits()?;
     Ok(build_whole(alloc, facts, table, scope, k)?)
 }
@@ -85,7 +86,7 @@ pub fn full(
     table: &Table,
     k: u32,
 ) -> Result<Encoded, EncodeFault>
-    requires cycles { k ≤ 24 }
+    requires cycles { k ≤ most_cycles }
     requires table { IsTable table.now }
     requires graph { IsLaunchGraph graph.now }
     ensures formula { IfOk result (λ e. e.cnf
@@ -116,7 +117,7 @@ pub fn full_as(
     table: &Table,
     k: u32,
 ) -> Result<Encoded, EncodeFault>
-    requires cycles { k ≤ 24 }
+    requires cycles { k ≤ most_cycles }
     requires table { IsTable table.now }
     requires graph { IsLaunchGraph graph.now }
     ensures is { IfOk result (λ e. IsFormulaOf encoding graph.now table.now k e.cnf) }
@@ -149,7 +150,7 @@ pub fn full_as(
     each_encoding_says_fits();
     let facts = Facts::new(alloc, graph)?;
     let scope = Scope::of(alloc, encoding, &facts, table)?;
-    full_in(alloc, &facts, table, &scope, k)
+    build_formula(alloc, &facts, table, &scope, k)
 }
 
 /// Builds the whole formula of a scope, whose counts are within the limits.
@@ -160,7 +161,7 @@ fn build_whole(
     scope: &Scope,
     k: u32,
 ) -> Result<Encoded, NoMemory>
-    requires cycles { k ≤ 24 }
+    requires cycles { k ≤ most_cycles }
     requires table { IsTable table.now }
     requires graph { IsLaunchGraph facts.now }
     requires within { ¬ IsTooLarge (formula_in scope.now facts.now table.now k) }

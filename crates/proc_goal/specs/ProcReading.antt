@@ -1,5 +1,6 @@
 -- What the readers of the parts of a proc promise; no public clause rests on these alone. Source: this project.
 use Rattle.std.specs.Prelude.{true, false, ℕ, ◌≡◌, ◌≢◌, ◌<◌, ◌≤◌, List, [], ◌∷◌, ◌++◌, All, AllPairs, length, take, slice_get, codes, Option, Some, None}
+use Rattle.text_core.specs.Limits.{most_blocks, most_sets, most_inputs}
 use Rattle.text_core.specs.Faults.{IsFirst}
 use Rattle.text_core.specs.Names.{is_among}
 use Rattle.text_core.specs.declared.faults.Kind.{Kind}
@@ -59,7 +60,7 @@ pub record AreLeading (items : List Form) (vars : List InputReg) : Type 0 where
   pub each : Each WritesVariable (take (length vars) items) vars
   pub clear : (names : List (List ℕ)) → AreClearTo (proc_item_role names) items (length vars)
   pub keep : AreVariables vars
-  pub few : length vars ≤ 16
+  pub few : length vars ≤ most_inputs
   pub ends : EndsBefore (codes "var") items (length vars)
 
 -- a name that can be set, and its pin
@@ -95,7 +96,7 @@ pub record AreSets (vars : List InputReg) (items : List Form) (sets : List Targe
   pub clear : (names : List (List ℕ)) (front : List Form) → IsGuardFront front
       → AreClearTo (λ before form. step_role vars names (front ++ before) form) items (length sets)
   pub differ : AllPairs (λ (s t : TargetTree). s.name ≢ t.name) sets
-  pub few : length sets ≤ 16
+  pub few : length sets ≤ most_sets
   pub ends : EndsBefore (codes "set") items (length sets)
 
 -- where the next item of a block is no go, nothing else may stand there either
@@ -137,8 +138,8 @@ pub record HaveOwnNames (blocks : List BlockTree) : Type 0 where
   pub differ : AllPairs (λ (a b : BlockTree). a.name ≢ b.name) blocks
   pub not_done : All (λ (b : BlockTree). b.name ≢ codes "done") blocks
   pub set_names : All (λ (b : BlockTree). AllPairs (λ (s t : TargetTree). s.name ≢ t.name) b.sets) blocks
-  pub few_sets : All (λ (b : BlockTree). length b.sets ≤ 16) blocks
-  pub few : length blocks ≤ 64
+  pub few_sets : All (λ (b : BlockTree). length b.sets ≤ most_sets) blocks
+  pub few : length blocks ≤ most_blocks
 
 -- the items of a proc behind the front
 pub record AreBlocks (vars : List InputReg) (names : List (List ℕ)) (items : List Form) (blocks : List BlockTree)

@@ -2,6 +2,7 @@
 -- project.
 use Rattle.std.specs.Prelude.{Bool, true, false, ℕ, zero, suc, ◌≡◌, ◌<◌, ◌||◌, ◌&&◌, ◌==◌, not, nat_lt, if◌then◌else◌, List, [], ◌∷◌, length, map, take, get_or, slice_get, filter, filter_map, codes, Option, Some, None, option_map}
 use Rattle.std.specs.List.{list_any}
+use Rattle.text_core.specs.Limits.{most_inputs, most_blocks, most_sets}
 use Rattle.text_core.specs.Names.{is_among}
 use Rattle.text_core.specs.declared.faults.Kind.{Kind}
 use Rattle.text_core.specs.declared.faults.Kind.TheVariants.{BadForm, UnknownName, Twice}
@@ -29,7 +30,7 @@ proc_variables_in items = filter_map input_in (lists_of (codes "var") items)
 
 -- the names of the blocks; a block past the limit isn't examined, and has none
 abbrev pub block_names_in : List Form → List (List ℕ)
-block_names_in items = names_given (take 64 (lists_of (codes "block") items))
+block_names_in items = names_given (take most_blocks (lists_of (codes "block") items))
 
 -- behind a pool or a block stands no variable
 abbrev pub ends_variables : Form → Bool
@@ -105,7 +106,7 @@ role_up_to most before role = if nat_lt (length before) most then role else of_g
 abbrev pub variable_role : List Form → ProcRole
 variable_role before =
     if list_any ends_variables before then not_there
-    else role_up_to 16 (lists_of (codes "var") before) (of_goal (a_list (input [] (proc_variables_in before))))
+    else role_up_to most_inputs (lists_of (codes "var") before) (of_goal (a_list (input [] (proc_variables_in before))))
 
 abbrev pub pool_role : List Form → ProcRole
 pool_role before =
@@ -114,7 +115,7 @@ pool_role before =
 
 abbrev pub block_role : List (List ℕ) → List Form → ProcRole
 block_role names before =
-    role_up_to 64 (lists_of (codes "block") before)
+    role_up_to most_blocks (lists_of (codes "block") before)
     (a_block (proc_variables_in before) names (names_given (lists_of (codes "block") before)))
 
 -- an item of a proc behind others, among blocks of these names
@@ -127,7 +128,7 @@ proc_item_role names before form =
 abbrev pub set_role : List InputReg → List Form → ProcRole
 set_role vars before =
     if has_list (codes "go") before then not_there
-    else role_up_to 16 (lists_of (codes "set") before) (a_set vars (names_given (lists_of (codes "set") before)))
+    else role_up_to most_sets (lists_of (codes "set") before) (a_set vars (names_given (lists_of (codes "set") before)))
 
 -- an item of a block behind others
 abbrev pub step_role : List InputReg → List (List ℕ) → List Form → Form → ProcRole

@@ -1,6 +1,7 @@
 -- Well-formed procs: what holds of every proc that was read. Source: this project.
 use Rattle.std.specs.Prelude.{true, false, ℕ, ◌≡◌, ◌≢◌, ◌+◌, ◌^◌, ◌<◌, ◌≤◌, List, [], ◌∷◌, ◌++◌, length, codes, Option, None, Some, IfSome, All, AllPairs, Contains}
 use Rattle.std.specs.Option.{option_map_or}
+use Rattle.text_core.specs.Limits.{most_nesting, most_blocks, most_sets, most_inputs}
 use Rattle.text_core.specs.Names.{IsName}
 use Rattle.word_ops.specs.declared.sorts.Op.{Op}
 use Rattle.word_ops.specs.declared.sorts.Sort.{Sort}
@@ -30,9 +31,9 @@ pub record KeepsProcRules (p : ProcTree) : Type 0 where
   pub block_names : AllPairs (λ (a b : BlockTree). a.name ≢ b.name) p.blocks
   pub not_done : All (λ (b : BlockTree). b.name ≢ codes "done") p.blocks
   pub set_names : All (λ (b : BlockTree). AllPairs (λ (s t : TargetTree). s.name ≢ t.name) b.sets) p.blocks
-  pub variables : (0 < length p.vars) × (length p.vars ≤ 16)
-  pub blocks : (0 < length p.blocks) × (length p.blocks ≤ 64)
-  pub few_sets : All (λ (b : BlockTree). length b.sets ≤ 16) p.blocks
+  pub variables : (0 < length p.vars) × (length p.vars ≤ most_inputs)
+  pub blocks : (0 < length p.blocks) × (length p.blocks ≤ most_blocks)
+  pub few_sets : All (λ (b : BlockTree). length b.sets ≤ most_sets) p.blocks
 
 -- a block that is there, of so many, or done
 abbrev pub IsProcTarget : ℕ → Target → Type 0
@@ -87,4 +88,4 @@ pub record IsProc (p : ProcTree) : Type 0 where
   pub blocks : All (IsProcBlock p.vars (length p.blocks)) p.blocks
   pub few_operators : operators_of_proc p < 2 ^ 29
   -- so many lists stand inside one another in its canonical text
-  pub nested : most_levels (plains_from (proc_plains p)) ≤ 64
+  pub nested : most_levels (plains_from (proc_plains p)) ≤ most_nesting

@@ -1,5 +1,6 @@
 // Reading the blocks of a proc.
 ghost use Rattle.std.specs.Prelude.{◌≡◌, ◌≢◌, ◌≤◌, ◌∷◌, ◌++◌, List, All, AllPairs, length, map, codes, true, false, Some, IfOk, IfErr};
+ghost use Rattle.text_core.specs.Limits.{most_blocks, most_sets};
 ghost use Rattle.text_core.specs.Faults.{IsFaultBy, IsFirst};
 ghost use Rattle.text_core.specs.Names.{is_among};
 ghost use Rattle.forms.specs.Forms.{Form, name_in, sexp_form, sexp_forms};
@@ -22,7 +23,7 @@ use forms::{at, name, parts, place, sexps_are_forms};
 use goal_meaning::InputReg;
 use items::Items;
 use std::alloc::Global;
-use text_core::{Kind, Name, Sexp, TextFault};
+use text_core::{Kind, MOST_BLOCKS, Name, Sexp, TextFault};
 
 fn is_block(blocks: &[Block], name: &[u8]) -> bool
     ensures { result ≡ is_among (names_of_blocks (map block_view blocks.now)) name.now }
@@ -74,12 +75,12 @@ fn block(
 ) -> Result<Block, TextFault>
     requires of { IsSexpOf text.now form.now }
     requires head { table_roles.has_head (codes "block") (sexp_form text.now form.now) ≡ true }
-    requires few { length names.now ≤ 64 }
+    requires few { length names.now ≤ most_blocks }
     ensures block { IfOk result (λ b. WritesBlock vars.now names.now (sexp_form text.now form.now) (block_view b)) }
     ensures fresh { IfOk result (λ b. is_among (codes "done" ∷ names_of_blocks (map block_view before.now)) b.name
         ≡ false) }
     ensures sets { IfOk result (λ b. AllPairs (λ (s t : TargetTree). s.name ≢ t.name) (map target_view b.sets)
-        × (length b.sets ≤ 16)) }
+        × (length b.sets ≤ most_sets)) }
     ensures clear { IfOk result (λ _. IsClearProc (roles.a_block vars.now names.now
         (names_of_blocks (map block_view before.now))) (sexp_form text.now form.now)) }
     ensures fault { IfErr result (IsFaultBy (IsFirstAs (roles.a_block vars.now names.now
@@ -119,7 +120,7 @@ pub(crate) fn blocks(
     names: &[Name],
 ) -> Result<Items<Block>, TextFault>
     requires of { All (IsSexpOf text.now) items.now }
-    requires few { length names.now ≤ 64 }
+    requires few { length names.now ≤ most_blocks }
     ensures blocks { IfOk result (λ blocks. AreBlocks vars.now names.now (sexp_forms text.now items.now)
         (map block_view blocks)) }
     ensures fault { IfErr result (λ fault. (front : List Form)
@@ -134,7 +135,7 @@ pub(crate) fn blocks(
         if !has_head(item, text, b"block") {
             return Err(at(place(item), Kind::BadForm));
         }
-        if index >= 64 {
+        if index >= MOST_BLOCKS {
             return Err(at(place(item), Kind::LimitPassed));
         }
         let one = block(alloc, item, text, vars, names, blocks.as_slice())?;

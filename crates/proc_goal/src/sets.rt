@@ -1,5 +1,6 @@
 // Reading the guard and the sets of a block.
 ghost use Rattle.std.specs.Prelude.{◌≡◌, ◌≤◌, ◌∷◌, ◌++◌, [], ℕ, List, All, length, map, option_map, codes, bytes_eq, true, false, Some, IfOk, IfErr, MatchOption};
+ghost use Rattle.text_core.specs.Limits.{most_blocks};
 ghost use Rattle.text_core.specs.Faults.{IsFaultBy};
 ghost use Rattle.text_core.specs.Names.{is_among};
 ghost use Rattle.forms.specs.Forms.{Form, name_in, sexp_form, sexp_forms};
@@ -23,7 +24,7 @@ use goal_meaning::{InputReg, Set};
 use goal_reader::{read_term, terms_have_one_reading};
 use items::Items;
 use std::alloc::Global;
-use text_core::{Kind, Name, Sexp, TextFault};
+use text_core::{Kind, MOST_SETS, Name, Sexp, TextFault};
 use word_ops::Sort;
 
 fn is_memory(name: &[u8]) -> bool
@@ -160,7 +161,7 @@ pub(crate) fn sets(
         if !has_head(item, text, b"set") {
             return Ok(sets);
         }
-        if index >= 16 {
+        if index >= MOST_SETS {
             return Err(at(place(item), Kind::LimitPassed));
         }
         let one = set(alloc, item, text, vars, sets.as_slice())?;
@@ -179,7 +180,7 @@ fn guard(
 ) -> Result<When, TextFault>
     requires of { IsSexpOf text.now form.now }
     requires head { table_roles.has_head (codes "when") (sexp_form text.now form.now) ≡ true }
-    requires few { length names.now ≤ 64 }
+    requires few { length names.now ≤ most_blocks }
     ensures when { IfOk result (λ w. WritesWhen vars.now names.now (sexp_form text.now form.now ∷ [])
         (Some (when_view w))) }
     ensures clear { IfOk result (λ _. IsClearProc (roles.a_guard vars.now names.now) (sexp_form text.now form.now)) }
@@ -211,7 +212,7 @@ pub(crate) fn first_guard(
     names: &[Name],
 ) -> Result<Option<When>, TextFault>
     requires of { All (IsSexpOf text.now) items.now }
-    requires few { length names.now ≤ 64 }
+    requires few { length names.now ≤ most_blocks }
     ensures guard { IfOk result (λ when. IsGuardRead vars.now names.now (sexp_forms text.now items.now)
         (option_map when_view when)) }
     ensures fault { IfErr result (IsFaultBy (IsGuardFault vars.now names.now (sexp_forms text.now items.now))) }

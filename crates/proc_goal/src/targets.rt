@@ -1,5 +1,6 @@
 // The names of blocks, and reading where a block leads to.
 ghost use Rattle.std.specs.Prelude.{◌≡◌, ◌≤◌, ◌<◌, ◌++◌, List, All, bytes_eq, length, codes, slice_get, false, true, Some, None, IfOk, IfErr, MatchOption};
+ghost use Rattle.text_core.specs.Limits.{most_blocks};
 ghost use Rattle.text_core.specs.Faults.{IsFaultBy};
 ghost use Rattle.text_core.specs.Names.{is_among};
 ghost use Rattle.forms.specs.Forms.{Form, sexp_form, sexp_forms};
@@ -17,7 +18,7 @@ use crate::procs::Target;
 use forms::{at, name, parts, place, sexps_are_forms};
 use items::{Items, NoMemory};
 use std::alloc::Global;
-use text_core::{Kind, Name, Sexp, TextFault};
+use text_core::{Kind, MOST_BLOCKS, Name, Sexp, TextFault};
 
 /// The name that is the second part of a list.
 fn second<'a>(form: &Sexp, text: &'a [u8]) -> Option<&'a [u8]>
@@ -43,13 +44,13 @@ pub(crate) fn block_names(
 ) -> Result<Items<Name>, NoMemory>
     requires of { All (IsSexpOf text.now) items.now }
     ensures names { IfOk result (λ names. names ≡ block_names_in (sexp_forms text.now items.now)) }
-    ensures few { IfOk result (λ names. length names ≤ 64) }
+    ensures few { IfOk result (λ names. length names ≤ most_blocks) }
 {
     let mut names = Items::new(alloc);
     let mut count: usize = 0;
     for item in items {
         if has_head(item, text, b"block") {
-            if count >= 64 {
+            if count >= MOST_BLOCKS {
                 return Ok(names);
             }
             count += 1;
@@ -63,7 +64,7 @@ pub(crate) fn block_names(
 
 /// The number of the block of this name.
 fn block_number(names: &[Name], bytes: &[u8]) -> Option<u32>
-    requires few { length names.now ≤ 64 }
+    requires few { length names.now ≤ most_blocks }
     ensures { MatchOption result (is_among names.now bytes.now ≡ false)
         (λ number. slice_get names.now number ≡ Some bytes.now) }
 {
@@ -85,7 +86,7 @@ pub(crate) fn is_done(name: &[u8]) -> bool
 /// Reads the name of one of these blocks, or `done`.
 pub(crate) fn target(form: &Sexp, text: &[u8], names: &[Name]) -> Result<Target, TextFault>
     requires of { IsSexpOf text.now form.now }
-    requires few { length names.now ≤ 64 }
+    requires few { length names.now ≤ most_blocks }
     ensures target { IfOk result (WritesProcTarget names.now (sexp_form text.now form.now)) }
     ensures clear { IfOk result (λ _. IsClearProc (roles.a_target names.now) (sexp_form text.now form.now)) }
     ensures fault { IfErr result (IsFaultBy (IsFirstAs (roles.a_target names.now) (sexp_form text.now form.now))) }
@@ -107,7 +108,7 @@ pub(crate) fn target(form: &Sexp, text: &[u8], names: &[Name]) -> Result<Target,
 fn go(form: &Sexp, text: &[u8], names: &[Name]) -> Result<Target, TextFault>
     requires of { IsSexpOf text.now form.now }
     requires head { table_roles.has_head (codes "go") (sexp_form text.now form.now) ≡ true }
-    requires few { length names.now ≤ 64 }
+    requires few { length names.now ≤ most_blocks }
     ensures go { IfOk result (WritesGo names.now (sexp_form text.now form.now)) }
     ensures clear { IfOk result (λ _. IsClearProc (roles.a_go names.now) (sexp_form text.now form.now)) }
     ensures fault { IfErr result (IsFaultBy (IsFirstAs (roles.a_go names.now) (sexp_form text.now form.now))) }
@@ -130,7 +131,7 @@ fn go(form: &Sexp, text: &[u8], names: &[Name]) -> Result<Target, TextFault>
 pub(crate) fn end(items: &[Sexp], text: &[u8], names: &[Name]) -> Result<Target, TextFault>
     requires of { All (IsSexpOf text.now) items.now }
     requires there { 0 < length items.now }
-    requires few { length names.now ≤ 64 }
+    requires few { length names.now ≤ most_blocks }
     ensures end { IfOk result (IsLastItem names.now (sexp_forms text.now items.now)) }
     ensures fault { IfErr result (λ fault. (vars : List InputRegOf) (front : List Form)
         → IsEndFront front (sexp_forms text.now items.now)

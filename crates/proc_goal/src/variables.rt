@@ -17,7 +17,7 @@ use goal_meaning::InputReg;
 use goal_reader::{fresh_register, own_name};
 use items::Items;
 use std::alloc::Global;
-use text_core::{Kind, Name, Sexp, TextFault};
+use text_core::{Kind, MOST_INPUTS, Name, Sexp, TextFault};
 
 /// Reads `( var NAME REGISTER )`, behind these variables.
 fn variable(
@@ -68,7 +68,7 @@ pub(crate) fn variables(
         if !has_head(item, text, b"var") {
             return Ok(vars);
         }
-        if index >= 16 {
+        if index >= MOST_INPUTS {
             return Err(at(place(item), Kind::LimitPassed));
         }
         let one = variable(alloc, item, text, vars.as_slice())?;

@@ -7,6 +7,7 @@ use Rattle.std.proofs.lemmas.List.{get_or-map, length-map}
 use Rattle.std.proofs.lemmas.List.Elements.{All-nil, All-contains, All-map}
 use Rattle.std.proofs.lemmas.Option.{same_Some, none-some}
 use Rattle.std.proofs.lemmas.Slice.Eq.{bytes_eq-Decides}
+use Rattle.schedule_meaning.specs.Limits.{most_launches}
 use Rattle.word_ops.specs.Worlds.{Value, World, IsWorld, word, memory}
 use Rattle.alpha_encode.specs.Decoded.{decoded}
 use Rattle.alpha_encode.specs.Formats.{IsWellFormed}
@@ -68,7 +69,7 @@ pub record LeavesBy (p : ProcTree) (is : List Instr) (w : World) : Type 0 where
 -- they do in every world what the block says; their branches lead to one word behind the last
 pub record Does (p : ProcTree) (b : BlockTree) (is : List Instr) : Type 0 where
   pub well_formed : All IsWellFormed is
-  pub few : length is ≤ 192
+  pub few : length is ≤ most_launches
   pub stand : BranchesLeave is
   pub falls : (w : World) → IsWorld w → left_in w b ≡ false → FallsThrough p b is w
   pub leaves : (w : World) → IsWorld w → left_in w b ≡ true → LeavesBy p is w
@@ -248,7 +249,7 @@ module _ (p : ProcTree) (is_proc : IsProc p) where
       pub does : Does p b is
       does = record {
         well_formed = All-map IsWellFormed (λ (a : Item). a.instr) l.items h.have_words;
-        few = subst (λ n. n ≤ 192) (sym (length-map l.items (λ (a : Item). a.instr))) h.few;
+        few = subst (λ n. n ≤ most_launches) (sym (length-map l.items (λ (a : Item). a.instr))) h.few;
         stand = stands;
         falls = λ w is_world e. falls_through w (said w is_world false e);
         leaves = λ w is_world e. leaves_by w (said w is_world true e);

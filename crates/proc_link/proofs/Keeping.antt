@@ -20,7 +20,7 @@ use Rattle.alpha_encode.specs.declared.instructions.Second.TheVariants.{Reg, Lit
 use Rattle.alpha_encode.specs.declared.instructions.Instr.{Instr}
 use Rattle.alpha_encode.specs.declared.instructions.Instr.TheVariants.{Operate, Lda, Ldah, Load, Store, Beq}
 use Rattle.alpha_machine.specs.States.{MachineState, IsState}
-use Rattle.alpha_machine.specs.Steps.{step, second_value, operate_value, address, with_register, next_pc}
+use Rattle.alpha_machine.specs.Steps.{step, second_value, operate_result, address, with_register, next_pc}
 use Rattle.alpha_machine.specs.Runs.{stepped, after}
 
 pub well_formed_at : (is : List Instr) (k : ℕ) (i : Instr) → All IsWellFormed is → slice_get is k ≡ Some i → IsWellFormed i
@@ -59,7 +59,7 @@ module _ (is_word : (op : WordOp) (vs : List ℕ) → All IsWord vs → IsWord (
     second_word (Reg r) is = read_word r is
     second_word (Literal n) is = omega (arith, is)
 
-    operate_word : (op : OperateOf) (a b : ℕ) → IsWord a → IsWord b → IsWord (operate_value op a b)
+    operate_word : (op : OperateOf) (a b : ℕ) → IsWord a → IsWord b → IsWord (operate_result op a b)
     operate_word op a b is_a is_b = by (is_unary op)
       where
         by : (u : Bool) → IsWord (if u then value_at (words.Operate op) b 0 0 else value_at (words.Operate op) a b 0)
@@ -72,7 +72,7 @@ module _ (is_word : (op : WordOp) (vs : List ℕ) → All IsWord vs → IsWord (
 
     pub keeps : (i : Instr) → IsWellFormed i → IsState (step i s)
     keeps (Operate op ra second rc) wf =
-        wrote rc (operate_value op (slice_index s.registers ra) (second_value second s.registers))
+        wrote rc (operate_result op (slice_index s.registers ra) (second_value second s.registers))
         (operate_word op (slice_index s.registers ra) (second_value second s.registers) (read_word ra wf.0) (second_word second wf.1))
     keeps (Lda ra rb disp) wf = wrote ra (address (slice_index s.registers rb) 1 disp) (address_word (slice_index s.registers rb) 1 disp)
     keeps (Ldah ra rb disp) wf = wrote ra (address (slice_index s.registers rb) 65536 disp) (address_word (slice_index s.registers rb) 65536 disp)

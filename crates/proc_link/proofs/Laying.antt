@@ -2,6 +2,7 @@
 use Rattle.std.proofs.Common.{◌≡◌, ℕ, ◌+◌, ◌*◌, ◌<◌, ◌≤◌, List, [], ◌∷◌, ◌++◌, length, take, get_or, refl, ◌∙◌, ap, arith}
 use Rattle.std.specs.Prelude.{All}
 use Rattle.std.proofs.lemmas.List.{take_all}
+use Rattle.schedule_meaning.specs.Limits.{most_launches}
 use Rattle.register_assign.specs.declared.listings.Listing.{Listing}
 use Rattle.proc_link.specs.Linked.{all_instrs, starts_from, starts_of, words_before}
 use Rattle.proc_link.proofs.Appending.{end_more, starts_more}
@@ -16,7 +17,7 @@ pub laid_none : (ls : List Listing) → AreLaidOut ls 0 [] 0
 laid_none ls = record { starts_are = refl; end_is = refl; few = omega arith }
 
 pub laid_more : (ls : List Listing) (at : ℕ) (d : Listing) (starts : List ℕ) (end start next : ℕ) → at < length ls
-    → All (λ (l : Listing). length l.items ≤ 192) ls → AreLaidOut ls at starts end → start ≡ 4 * end
+    → All (λ (l : Listing). length l.items ≤ most_launches) ls → AreLaidOut ls at starts end → start ≡ 4 * end
     → next ≡ end + (length (get_or ls at d).items + 1) → AreLaidOut ls (at + 1) (starts ++ start ∷ []) next
 laid_more ls at d starts end start next inside short h is after =
     let few = h.few in

@@ -5,6 +5,7 @@ use Rattle.std.specs.List.{AllZip}
 use Rattle.std.proofs.lemmas.List.{append_assoc, get_or-map, length-map, length-take-le, map-append, take_all, take_more}
 use Rattle.std.proofs.lemmas.List.Elements.{All-nil, All-cons, All-head, All-tail, All-map, All-weaker}
 use Rattle.std.proofs.lemmas.Slice.Zip.{AllZip-long}
+use Rattle.schedule_meaning.specs.Limits.{most_launches}
 use Rattle.alpha_encode.specs.Decoded.{decoded}
 use Rattle.alpha_encode.specs.Formats.{IsWellFormed, encoded}
 use Rattle.alpha_encode.specs.declared.instructions.Instr.{Instr}
@@ -40,11 +41,11 @@ module _ (blocks : List BlockTree) (ls : List Listing) (can : CanBeLinked blocks
   many : length all ≡ length blocks
   many = length-map ls (λ (l : Listing). instrs_of l.items) ∙ can.count
 
-  short : All (λ (is : List Instr). length is ≤ 192) all
+  short : All (λ (is : List Instr). length is ≤ most_launches) all
   short =
-      All-map (λ (is : List Instr). length is ≤ 192) (λ (l : Listing). instrs_of l.items) ls
-      (All-weaker (λ (l : Listing). length l.items ≤ 192) (λ (l : Listing). length (instrs_of l.items) ≤ 192)
-      (λ l low. subst (λ n. n ≤ 192) (sym (length-map l.items (λ (a : Item). a.instr))) low) ls can.short)
+      All-map (λ (is : List Instr). length is ≤ most_launches) (λ (l : Listing). instrs_of l.items) ls
+      (All-weaker (λ (l : Listing). length l.items ≤ most_launches) (λ (l : Listing). length (instrs_of l.items) ≤ most_launches)
+      (λ l low. subst (λ n. n ≤ most_launches) (sym (length-map l.items (λ (a : Item). a.instr))) low) ls can.short)
 
   before_low : (i : ℕ) → words_before all i ≤ 12352
   before_low i =
@@ -96,8 +97,8 @@ module _ (blocks : List Block) (ls : List Listing) (can : CanBeLinked (map block
   pub place_small : (t : Target) → (to : ℕ) → to ≡ place_of_target (all_instrs ls) t → to ≤ 12352
   place_small t to is = subst (λ n. n ≤ 12352) (sym is) (place_low (map block_view blocks) ls can t)
 
-  pub short_at : (l : Listing) → l ≡ get_or ls at l → length l.items ≤ 192
-  short_at l is = subst (λ (l : Listing). length l.items ≤ 192) (sym is) (can.short at l in_listings)
+  pub short_at : (l : Listing) → l ≡ get_or ls at l → length l.items ≤ most_launches
+  short_at l is = subst (λ (l : Listing). length l.items ≤ most_launches) (sym is) (can.short at l in_listings)
 
 -- ---- one block more
 
@@ -168,7 +169,7 @@ can_be_linked p ls is_proc are = record {
   inside = All-weaker (IsProcBlock p.vars (length p.blocks)) (LeadsInside (length p.blocks))
       (λ b block. (other_there p.vars (length p.blocks) b block, block.go)) p.blocks is_proc.blocks;
   have_words = each (λ (l : Listing). HaveWords l.items) (λ b l h. h.have_words) p.blocks ls are;
-  short = each (λ (l : Listing). length l.items ≤ 192) (λ b l h. h.few) p.blocks ls are;
+  short = each (λ (l : Listing). length l.items ≤ most_launches) (λ b l h. h.few) p.blocks ls are;
 }
   where
     each : (P : Listing → Type 0) → ((b : BlockTree) (l : Listing) → IsListingOfBlock p b l → P l) → (bs : List BlockTree) (ls : List Listing)

@@ -4,6 +4,7 @@ use Rattle.std.specs.Prelude.{All, slice_get, slice_index}
 use Rattle.std.proofs.lemmas.List.Elements.{All-head, All-tail}
 use Rattle.std.proofs.lemmas.List.{length-append}
 use Rattle.std.proofs.lemmas.Option.{same_Some, none-some}
+use Rattle.schedule_meaning.specs.Limits.{most_launches}
 use Rattle.alpha_encode.specs.declared.instructions.Instr.{Instr}
 use Rattle.alpha_encode.specs.declared.instructions.Instr.TheVariants.{Beq}
 use Rattle.proc_goal.specs.Views.{BlockTree}
@@ -82,12 +83,12 @@ module _ (blocks : List BlockTree) (listings : List (List Instr)) (i : ℕ) (b :
       (let e = length_led from (place (other_of b)) is in omega (arith, e)) refl)
 
 -- so few words are before a block
-pub few_before : (listings : List (List Instr)) (i : ℕ) → All (λ (l : List Instr). length l ≤ 192) listings → words_before listings i ≤ 193 * length listings
+pub few_before : (listings : List (List Instr)) (i : ℕ) → All (λ (l : List Instr). length l ≤ most_launches) listings → words_before listings i ≤ 193 * length listings
 few_before [] i h = omega arith
 few_before (l ∷ ls) zero h = omega arith
 few_before (l ∷ ls) (suc i) h =
-    let here = All-head (λ (l : List Instr). length l ≤ 192) l ls h in
-    let rest = few_before ls i (All-tail (λ (l : List Instr). length l ≤ 192) l ls h) in
+    let here = All-head (λ (l : List Instr). length l ≤ most_launches) l ls h in
+    let rest = few_before ls i (All-tail (λ (l : List Instr). length l ≤ most_launches) l ls h) in
     omega (arith, here, rest)
 
 -- ---- the length of the whole, and where each block starts

@@ -6,6 +6,7 @@ use Rattle.std.specs.Ordering.{nat_cmp}
 use Rattle.std.specs.List.{AllZip}
 use Rattle.std.proofs.lemmas.List.Elements.{All-nil, All-replicate}
 use Rattle.std.proofs.lemmas.Option.{same_Some, none-some}
+use Rattle.schedule_meaning.specs.Limits.{most_cycles, most_launches}
 use Rattle.word_ops.specs.Words.{IsWord}
 use Rattle.word_ops.specs.Worlds.{World, IsWorld}
 use Rattle.cycle_encoding.specs.declared.encodings.Encoding.TheVariants.{Pinned}
@@ -41,18 +42,18 @@ use Rattle.proc_link.specs.ProcAnswers.{listings_of, with_listing}
 abbrev pub OfEachListing : (List Item → Type 0) → Type 0
 OfEachListing P =
     (g : LaunchGraph) (table : Table) (k : ℕ) (ls : List Launch) (items : List Item) (wheres : List Where) → IsLaunchGraph g → IsTable table
-    → Fits g table k ls → k ≤ 24 → IsTheListing g table ls items wheres → P items
+    → Fits g table k ls → k ≤ most_cycles → IsTheListing g table ls items wheres → P items
 
 module _ (p : ProcTree) (is_proc : IsProc p) (s : Settings) (settings : IsSettings s) where
   abbrev IsRight : GoalTree → Answered → Type 0
   IsRight goal answered = Right Pinned (input_of_proc p) goal s answered
 
-  module _ (words : OfEachListing HaveWords) (run : OfEachListing MayRun) (few : OfEachListing (λ (items : List Item). length items ≤ 192)) where
+  module _ (words : OfEachListing HaveWords) (run : OfEachListing MayRun) (few : OfEachListing (λ (items : List Item). length items ≤ most_launches)) where
     one_listing : (b : BlockTree) (f : Found) → IsRight (goal_of_block p b) (answers.Scheduled f) → IsListingOfBlock p b f.listing
     one_listing b f h =
         let most = settings.cycles in
         let cycles = h.1 in
-        let low : f.k ≤ 24 = omega (arith, most, cycles) in
+        let low : f.k ≤ most_cycles = omega (arith, most, cycles) in
         record {
           words = f.words;
           are_words = h.2.words;

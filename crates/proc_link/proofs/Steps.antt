@@ -6,6 +6,7 @@ use Rattle.std.specs.Option.{option_map_or}
 use Rattle.std.proofs.lemmas.List.Elements.{All-nil, All-cons}
 use Rattle.std.proofs.lemmas.Option.{slice_get_cases, slice_get_within, get_or_from_slice_get}
 use Rattle.std.proofs.lemmas.Slice.Zip.{AllZip-long, AllZip-left}
+use Rattle.schedule_meaning.specs.Limits.{most_launches}
 use Rattle.word_ops.specs.declared.operators.WordOp.{WordOp}
 use Rattle.word_ops.specs.Memory.{Memory, IsMemory, loaded, stored}
 use Rattle.word_ops.specs.declared.sorts.Access.{Access}
@@ -56,11 +57,11 @@ pub record LeadsOn (p : ProcTree) (listings : List (List Instr)) (m : MachineSta
   pub shows : ShowsAt p listings s (after steps (linked p.blocks listings) m)
   pub others : KeepsOutsideRegisters p m (after steps (linked p.blocks listings) m)
 
-pub few_of : (p : ProcTree) (bs : List BlockTree) (ls : List (List Instr)) → AllZip (Does p) bs ls → All (λ (l : List Instr). length l ≤ 192) ls
-few_of p [] [] h = All-nil (λ (l : List Instr). length l ≤ 192)
+pub few_of : (p : ProcTree) (bs : List BlockTree) (ls : List (List Instr)) → AllZip (Does p) bs ls → All (λ (l : List Instr). length l ≤ most_launches) ls
+few_of p [] [] h = All-nil (λ (l : List Instr). length l ≤ most_launches)
 few_of p [] (l ∷ ls) h = absurd h
 few_of p (b ∷ bs) [] h = absurd h
-few_of p (b ∷ bs) (l ∷ ls) h = All-cons (λ (l : List Instr). length l ≤ 192) l ls h.0.few (few_of p bs ls h.1)
+few_of p (b ∷ bs) (l ∷ ls) h = All-cons (λ (l : List Instr). length l ≤ most_launches) l ls h.0.few (few_of p bs ls h.1)
 
 record Listed (p : ProcTree) (listings : List (List Instr)) (i : ℕ) (b : BlockTree) : Type 0 where
   pub instrs : List Instr

@@ -3,6 +3,7 @@
 use Rattle.std.specs.Prelude.{◌≡◌, ℕ, ◌*◌, ◌≤◌, List, length, map, slice_index, bytes_eq, find, Some, All, Contains}
 use Rattle.std.specs.List.{AllZip}
 use Rattle.std.specs.Option.{option_map_or}
+use Rattle.schedule_meaning.specs.Limits.{most_launches}
 use Rattle.alpha_encode.specs.Decoded.{decoded}
 use Rattle.alpha_encode.specs.declared.instructions.Instr.{Instr}
 use Rattle.alpha_machine.specs.States.{MachineState, IsState}
@@ -26,7 +27,7 @@ pub record IsListingOfBlock (p : ProcTree) (b : BlockTree) (l : Listing) : Type 
   pub are_words : AreWordsOf l.items words
   pub have_words : HaveWords l.items
   pub may_run : MayRun l.items
-  pub few : length l.items ≤ 192
+  pub few : length l.items ≤ most_launches
   pub computes : Computes (input_of_proc p) (goal_of_block p b) l.items words l.wheres
 
 -- one listing for each block, in order

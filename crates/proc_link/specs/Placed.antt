@@ -1,6 +1,8 @@
 -- Where the words of blocks stand, as the code keeps it, and what it needs so as to link them.
 -- Source: this project.
 use Rattle.std.specs.Prelude.{◌≡◌, ℕ, ◌/◌, ◌≤◌, List, length, slice_index, All}
+use Rattle.text_core.specs.Limits.{most_blocks}
+use Rattle.schedule_meaning.specs.Limits.{most_launches}
 use Rattle.alpha_encode.specs.declared.instructions.Instr.{Instr}
 use Rattle.proc_goal.specs.Views.{BlockTree}
 use Rattle.proc_goal.specs.WellFormed.{IsProcTarget}
@@ -28,8 +30,8 @@ LeadsInside count b = IsProcTarget count (other_of b) × IsProcTarget count b.go
 
 -- so few blocks, each with a short listing of instructions that have words
 pub record CanBeLinked (blocks : List BlockTree) (listings : List Listing) : Type 0 where
-  pub few : length blocks ≤ 64
+  pub few : length blocks ≤ most_blocks
   pub count : length listings ≡ length blocks
   pub inside : All (LeadsInside (length blocks)) blocks
   pub have_words : All (λ (l : Listing). HaveWords l.items) listings
-  pub short : All (λ (l : Listing). length l.items ≤ 192) listings
+  pub short : All (λ (l : Listing). length l.items ≤ most_launches) listings

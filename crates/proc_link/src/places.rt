@@ -1,5 +1,7 @@
 // Where the blocks' words stand.
 ghost use Rattle.std.specs.Prelude.{◌≡◌, ◌+◌, ◌*◌, ◌<◌, ◌≤◌, ◌^◌, All, IfOk, length};
+ghost use Rattle.text_core.specs.Limits.{most_blocks};
+ghost use Rattle.schedule_meaning.specs.Limits.{most_launches};
 ghost use Rattle.proc_goal.specs.WellFormed.{IsProcTarget};
 ghost use Rattle.proc_link.specs.Linked as format;
 ghost use Rattle.proc_link.specs.Placed.{AreListingPlaces, place_by_starts};
@@ -19,8 +21,8 @@ pub(crate) struct Places {
 
 /// Where the words of each listing begin, with a word more behind each.
 pub(crate) fn lay_out(alloc: Global, listings: &[Listing]) -> Result<Places, NoMemory>
-    requires few { length listings.now ≤ 64 }
-    requires short { All (λ (l : ListingOf). length l.items ≤ 192) listings.now }
+    requires few { length listings.now ≤ most_blocks }
+    requires short { All (λ (l : ListingOf). length l.items ≤ most_launches) listings.now }
     ensures { IfOk result (AreListingPlaces (format.all_instrs listings.now)) }
 {
     let mut starts = Items::new(alloc);

@@ -1,5 +1,6 @@
 // The refutation of one goal, trimmed.
 ghost use Rattle.std.specs.Prelude.{◌≡◌, ◌≤◌, ◌<◌, ◌^◌, ℕ, length, IfOk, Some};
+ghost use Rattle.schedule_meaning.specs.Limits.{most_cycles};
 ghost use Rattle.answer_texts.specs.AnswerLines as format;
 ghost use Rattle.answer_texts.specs.WellFormed.{FitsClaim, IsClaimed};
 ghost use Rattle.answer_texts.specs.declared.answers.Claimed.{Claimed as ClaimedOf};
@@ -30,7 +31,7 @@ pub(crate) enum Outcome {
 fn refuted_cycles(claim: &Claim) -> u32
     requires { FitsClaim claim.now }
     ensures value { result ≡ format.refuted_cycles claim.now }
-    ensures few { result ≤ 24 }
+    ensures few { result ≤ most_cycles }
 {
     claim.as_ref().refuted_cycles()
 }
@@ -72,7 +73,7 @@ fn trim_lines(
     k: u32,
     lines: &Lines,
 ) -> Result<Outcome, NoMemory>
-    requires cycles { k ≤ 24 }
+    requires cycles { k ≤ most_cycles }
     requires table { IsTable table.now }
     requires graph { IsLaunchGraph graph.now }
     requires few { length lines.now.lines < 2 ^ 29 }

@@ -1,5 +1,6 @@
 -- What the clauses of a listing come from.
 use Rattle.std.proofs.Common.{◌≡◌, ℕ, ◌^◌, ◌<◌, ◌≤◌, List, length, sym, subst, arith}
+use Rattle.schedule_meaning.specs.Limits.{most_cycles, most_launches}
 use Rattle.alpha_encode.specs.Formats.{IsWellFormed}
 use Rattle.machine_table.specs.Tables.{IsTable}
 use Rattle.graph_meaning.specs.WellFormed.{IsLaunchGraph}
@@ -24,11 +25,11 @@ use Rattle.register_assign.proofs.Right.{right_where_fits}
 use Rattle.register_assign.proofs.Standing.{words_stand}
 
 module _ (g : LaunchGraph) (table : Table) (k : ℕ) (ls ordered : List Launch) (graph : IsLaunchGraph g) (is_table : IsTable table)
-    (fits : Fits g table k ls) (low : k ≤ 24) (order : IsInWordOrder g ls ordered) where
+    (fits : Fits g table k ls) (low : k ≤ most_cycles) (order : IsInWordOrder g ls ordered) where
   fits_ordered : Fits g table k ordered
   fits_ordered = fits_permuted g table k ls ordered order.same fits
 
-  pub few : length ordered ≤ 192
+  pub few : length ordered ≤ most_launches
   few = let n = few_launches g table k ordered is_table fits_ordered in omega arith
 
   pub few_items : length ordered < 2 ^ 29

@@ -20,7 +20,7 @@ use Rattle.word_ops.specs.Memory.{Memory, loaded, stored, load, put}
 use Rattle.word_ops.specs.Worlds.{World, Value, word, memory}
 use Rattle.word_ops.specs.Meanings.{as_word, as_memory, arity_of_op}
 use Rattle.alpha_machine.specs.States.{MachineState}
-use Rattle.alpha_machine.specs.Steps.{step, second_value, is_unary, operate_value, address, with_register, next_pc}
+use Rattle.alpha_machine.specs.Steps.{step, second_value, is_unary, operate_result, address, with_register, next_pc}
 use Rattle.machine_table.specs.Tables.{MayUse}
 use Rattle.graph_meaning.specs.Graphs.{row_meaning}
 use Rattle.schedule_meaning.specs.Launches.{launches, gives_word, is_store, is_load, instr_at, op_instr, word_op_instr as launch_instr, class_at, memory_after, IsFree, IsReadable, plain, op_operands, operate_operands, word_op_operands, copy_operands, copied_at}
@@ -257,7 +257,7 @@ module _ (g : LaunchGraph) (table : Table) (k : ℕ) (ordered : List Launch) (w 
           let usable : All Usable (operate_operands (x ∷ [])) = reads class (op.Word (ops.Operate o)) name (x ∷ []) row in
           let second : ℕ = second_value (second_for g table ordered l x) s.registers in
           subst (λ i. Next (step i s)) (sym (instr class (op.Word (ops.Operate o)) name (x ∷ []) row))
-          (given (operate_value o (slice_index s.registers 31) second) (test gives_word) (test is_store)
+          (given (operate_result o (slice_index s.registers 31) second) (test gives_word) (test is_store)
           (ap (λ b. word (if b then value_at (ops.Operate o) second 0 0 else value_at (ops.Operate o) (slice_index s.registers 31) second 0)) unary
           ∙ ap (λ v. word (value_at (ops.Operate o) (as_word v) 0 0)) (second_reads g table k ordered w value scene n l s reached here x (All-head Usable (as_second_operand x) [] usable))
           ∙ sym (meant class (op.Word (ops.Operate o)) name (x ∷ []) row)))
@@ -270,7 +270,7 @@ module _ (g : LaunchGraph) (table : Table) (k : ℕ) (ordered : List Launch) (w 
           let first : ℕ = slice_index s.registers (register_for g table ordered l x) in
           let second : ℕ = second_value (second_for g table ordered l y) s.registers in
           subst (λ i. Next (step i s)) (sym (instr class (op.Word (ops.Operate o)) name (x ∷ y ∷ []) row))
-          (given (operate_value o first second) (test gives_word) (test is_store)
+          (given (operate_result o first second) (test gives_word) (test is_store)
           (ap (λ b. word (if b then value_at (ops.Operate o) second 0 0 else value_at (ops.Operate o) first second 0)) binary
           ∙ ap (λ v. word (value_at (ops.Operate o) (as_word v) second 0)) (plain_reads g table k ordered w value scene n l s reached here x (All-head Usable (plain x) (as_second_operand y ∷ []) usable))
           ∙ ap (λ v. word (value_at (ops.Operate o) (as_word (value x)) (as_word v) 0)) (second_reads g table k ordered w value scene n l s reached here y (All-head Usable (as_second_operand y) [] (All-tail Usable (plain x) (as_second_operand y ∷ []) usable)))
@@ -337,7 +337,7 @@ module _ (g : LaunchGraph) (table : Table) (k : ℕ) (ordered : List Launch) (w 
         let test : (f : InstrKind → Bool) → launches g f l ≡ f (kinds.Operate operates.Bis) = λ f. ap (λ q. option_map_or f q false) (copy_kind g l.row class copied) in
         let second : ℕ = second_value (second_for g table ordered l class) s.registers in
         subst (λ i. Next (step i s)) (sym copy_is)
-        (given (operate_value operates.Bis (slice_index s.registers 31) second) (test gives_word) (test is_store)
+        (given (operate_result operates.Bis (slice_index s.registers 31) second) (test gives_word) (test is_store)
         (ap (λ a. word (value_at (ops.Operate operates.Bis) a second 0)) zero_read
         ∙ ap word (bis_value second)
         ∙ second_reads g table k ordered w value scene n l s reached here class (All-head Usable (as_second_operand class) [] copy_usable)

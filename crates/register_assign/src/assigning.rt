@@ -1,5 +1,6 @@
 // From a schedule to its listing.
 ghost use Rattle.std.specs.Prelude.{◌≡◌, ◌≤◌, ◌<◌, ◌^◌, length, IfOk};
+ghost use Rattle.schedule_meaning.specs.Limits.{most_cycles};
 ghost use Rattle.machine_table.specs.Tables.{IsTable};
 ghost use Rattle.graph_meaning.specs.WellFormed.{IsLaunchGraph};
 ghost use Rattle.schedule_meaning.specs.Launches.{IsInWordOrder};
@@ -43,7 +44,7 @@ pub fn assign(
     requires graph { IsLaunchGraph graph.now }
     requires table { IsTable table.now }
     requires fits { Fits graph.now table.now k schedule.now.launches }
-    requires few { k ≤ 24 }
+    requires few { k ≤ most_cycles }
     ensures listing { IfOk result
         (λ l. IsTheListing graph.now table.now schedule.now.launches l.items l.wheres) }
     ensures words { IfOk result (λ l. HaveWords l.items) }

@@ -1,5 +1,6 @@
 // What is true of all listings. The call does nothing: its clauses are laws.
 ghost use Rattle.std.specs.Prelude.{◌≤◌, ℕ, List, length};
+ghost use Rattle.schedule_meaning.specs.Limits.{most_cycles, most_launches};
 ghost use Rattle.graph_meaning.specs.WellFormed.{IsLaunchGraph};
 ghost use Rattle.graph_meaning.specs.declared.graphs.LaunchGraph.{LaunchGraph as Graph};
 ghost use Rattle.machine_table.specs.Tables.{IsTable};
@@ -14,12 +15,12 @@ ghost use Rattle.schedule_meaning.specs.declared.schedules.Launch.{Launch as Lau
 /// of 24 cycles.
 pub fn listings_have_words()
     ensures words { (g : Graph) (table : TableOf) (k : ℕ) (ls : List LaunchOf) (items : List ItemOf)
-        (wheres : List WhereOf) → IsLaunchGraph g → IsTable table → Fits g table k ls → k ≤ 24
+        (wheres : List WhereOf) → IsLaunchGraph g → IsTable table → Fits g table k ls → k ≤ most_cycles
         → IsTheListing g table ls items wheres → HaveWords items }
     ensures run { (g : Graph) (table : TableOf) (k : ℕ) (ls : List LaunchOf) (items : List ItemOf)
-        (wheres : List WhereOf) → IsLaunchGraph g → IsTable table → Fits g table k ls → k ≤ 24
+        (wheres : List WhereOf) → IsLaunchGraph g → IsTable table → Fits g table k ls → k ≤ most_cycles
         → IsTheListing g table ls items wheres → MayRun items }
     ensures few { (g : Graph) (table : TableOf) (k : ℕ) (ls : List LaunchOf) (items : List ItemOf)
-        (wheres : List WhereOf) → IsLaunchGraph g → IsTable table → Fits g table k ls → k ≤ 24
-        → IsTheListing g table ls items wheres → length items ≤ 192 }
+        (wheres : List WhereOf) → IsLaunchGraph g → IsTable table → Fits g table k ls → k ≤ most_cycles
+        → IsTheListing g table ls items wheres → length items ≤ most_launches }
 {}

@@ -1,6 +1,7 @@
 -- What a text of a program is read as, and its first fault. Source: this project.
 use Rattle.std.specs.Prelude.{ℕ, ◌≡◌, ◌+◌, ◌<◌, ◌≤◌, Bool, false, bytes_eq, List, [], ◌∷◌, length, take, codes}
 use Rattle.std.specs.List.{prefix_len}
+use Rattle.text_core.specs.Limits.{most_words, most_places}
 use Rattle.text_core.specs.Lines.{Line, HasLines, IsFirstLineFault, line_at}
 use Rattle.text_core.specs.LineTexts.{Words, words_of_lines}
 use Rattle.text_core.specs.declared.faults.Kind.{Kind}
@@ -10,8 +11,8 @@ use Rattle.run_texts.specs.RunTexts.{IsRunText}
 
 -- at most 4,096 words and 4,096 places; of registers there are 31, and each comes once
 pub record IsWithinLimits (run : RunText) : Type 0 where
-  pub words : length run.words ≤ 4096
-  pub places : length run.places ≤ 4096
+  pub words : length run.words ≤ most_words
+  pub places : length run.places ≤ most_places
 
 abbrev pub begins_with_word : Words → Bool
 begins_with_word [] = false

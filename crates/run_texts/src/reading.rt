@@ -16,13 +16,8 @@ use crate::texts::{RegisterWord, RunText};
 use alpha_machine::may_stand;
 use items::Items;
 use std::alloc::Global;
-use text_core::{Fault, Kind, TextFault, TextLines, begins_with, lines};
+use text_core::{Fault, Kind, MOST_PLACES, MOST_WORDS, TextFault, TextLines, begins_with, lines};
 use word_ops::{Mem, memories_hold_words};
-
-/// The most words and the most places that a text may have.
-const MOST_WORDS: usize = 4096;
-
-const MOST_PLACES: usize = 4096;
 
 /// The fault of a line.
 fn line_fault(text: &TextLines<'_>, line: u32, kind: Kind) -> TextFault

@@ -55,11 +55,11 @@ pair-before pairs p k few = get_or_append_left pairs (p ∷ []) no_pair k few
 pair-last : (pairs : List Pair) (p : Pair) (k : ℕ) → length pairs ≡ k → pair_at (pairs ++ p ∷ []) k ≡ p
 pair-last pairs p k is = get_or_push pairs p no_pair k is
 
-added-with : (clauses : List (List Lit)) (n : ℕ) (steps : List Step) (lists lists' : List (List Watcher)) (pairs : List Pair) (head : ℕ) (p : Pair)
-    → KeepWatches clauses n steps lists pairs head → length pairs < length clauses → IsChosen steps (get_or clauses (length pairs) []) p
+added-with : (clauses : List (List Lit)) (n : ℕ) (steps : List Step) (lists lists' : List (List Watcher)) (pairs : List Pair) (qhead : ℕ) (p : Pair)
+    → KeepWatches clauses n steps lists pairs qhead → length pairs < length clauses → IsChosen steps (get_or clauses (length pairs) []) p
     → AreClosedBefore clauses steps → IsOpenClause (trail_values steps) (get_or clauses (length pairs) []) → IsListed clauses lists lists' pairs p
-    → KeepWatches clauses n steps lists' (pairs ++ p ∷ []) head
-added-with clauses n steps lists lists' pairs head p h more chosen before open' x =
+    → KeepWatches clauses n steps lists' (pairs ++ p ∷ []) qhead
+added-with clauses n steps lists lists' pairs qhead p h more chosen before open' x =
     let long = length_push pairs p in
     let pairs' = pairs ++ p ∷ [] in
     let size = x.size in
@@ -74,7 +74,7 @@ added-with clauses n steps lists lists' pairs head p h more chosen before open' 
       kept = λ k few. elim (cases_lt k (length pairs)) [
         | inl first ↦
             (let o = h.kept k first in
-            subst (λ (y : Pair). KeepsWatch steps lists' head k (get_or clauses k []) y) (sym (pair-before pairs p k first))
+            subst (λ (y : Pair). KeepsWatch steps lists' qhead k (get_or clauses k []) y) (sym (pair-before pairs p k first))
             (record {
               has_a = o.has_a;
               has_b = o.has_b;
@@ -85,8 +85,8 @@ added-with clauses n steps lists lists' pairs head p h more chosen before open' 
             }))
         | inr last ↦
             (let here : length pairs ≡ k = omega arith in
-            subst (λ (y : Pair). KeepsWatch steps lists' head k (get_or clauses k []) y) (sym (pair-last pairs p k here))
-            (subst (λ (j : ℕ). KeepsWatch steps lists' head j (get_or clauses j []) p) here
+            subst (λ (y : Pair). KeepsWatch steps lists' qhead k (get_or clauses k []) y) (sym (pair-last pairs p k here))
+            (subst (λ (j : ℕ). KeepsWatch steps lists' qhead j (get_or clauses j []) p) here
             (record {
               has_a = chosen.has_a;
               has_b = chosen.has_b;
@@ -96,7 +96,7 @@ added-with clauses n steps lists lists' pairs head p h more chosen before open' 
               visited =
                   (let now = chosen-quiet steps c p (length steps) (omega arith) chosen (subst (λ (ss : List Step). IsOpenClause (trail_values ss) c) (sym all) open') in
                   let now' = subst (λ (ss : List Step). NeedsNoVisit (trail_values ss) (trail_values ss) c p) all now in
-                  quiet-weaker (trail_values steps) (trail_values (take head steps)) (trail_values steps) (trail_values steps) c p (grows-whole steps head) (λ y b e. e) now');
+                  quiet-weaker (trail_values steps) (trail_values (take qhead steps)) (trail_values steps) (trail_values steps) c p (grows-whole steps qhead) (λ y b e. e) now');
             })))
       ];
     }
@@ -112,13 +112,13 @@ watcher-more clauses pairs p w r =
     }
 
 -- **a new clause gets its watched literals**
-pub kept-added : (clauses : List (List Lit)) (n : ℕ) (steps : List Step) (lists lists' : List (List Watcher)) (pairs : List Pair) (head : ℕ) (p : Pair)
-    → KeepWatches clauses n steps lists pairs head → length pairs < length clauses → IsChosen steps (get_or clauses (length pairs) []) p
+pub kept-added : (clauses : List (List Lit)) (n : ℕ) (steps : List Step) (lists lists' : List (List Watcher)) (pairs : List Pair) (qhead : ℕ) (p : Pair)
+    → KeepWatches clauses n steps lists pairs qhead → length pairs < length clauses → IsChosen steps (get_or clauses (length pairs) []) p
     → AreClosedBefore clauses steps → IsOpenClause (trail_values steps) (get_or clauses (length pairs) [])
     → list_of p.a < length lists → list_of p.b < length lists → (p.a ≡ p.b → lists' ≡ lists) → (p.a ≢ p.b → lists' ≡ with_pair lists (length pairs) p)
-    → KeepWatches clauses n steps lists' (pairs ++ p ∷ []) head
-kept-added clauses n steps lists lists' pairs head p h more chosen before open' in-a in-b one two =
-    added-with clauses n steps lists lists' pairs head p h more chosen before open'
+    → KeepWatches clauses n steps lists' (pairs ++ p ∷ []) qhead
+kept-added clauses n steps lists lists' pairs qhead p h more chosen before open' in-a in-b one two =
+    added-with clauses n steps lists lists' pairs qhead p h more chosen before open'
     (elim (lit-eq-cases p.a p.b) [
       | inl same ↦
           subst (λ (ls : List (List Watcher)). IsListed clauses lists ls pairs p) (sym (one same))

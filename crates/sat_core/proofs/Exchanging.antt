@@ -103,10 +103,10 @@ pub record IsExchange (clauses : List (List Lit)) (steps : List Step) (lists : L
   pub free : IsFalse (trail_values steps) p.b → ⊥
 
 -- of the old pair
-pub exists-at : (clauses : List (List Lit)) (n : ℕ) (steps : List Step) (lists : List (List Watcher)) (pairs : List Pair) (head : ℕ) (l : Lit) (place id : ℕ)
-    → KeepWatches clauses n steps lists pairs head → place < length (watchers lists (list_of l)) → (get_or (watchers lists (list_of l)) place no_watcher).clause ≡ id
+pub exists-at : (clauses : List (List Lit)) (n : ℕ) (steps : List Step) (lists : List (List Watcher)) (pairs : List Pair) (qhead : ℕ) (l : Lit) (place id : ℕ)
+    → KeepWatches clauses n steps lists pairs qhead → place < length (watchers lists (list_of l)) → (get_or (watchers lists (list_of l)) place no_watcher).clause ≡ id
     → (id < length pairs) × ((pair_at pairs id).a ≢ (pair_at pairs id).b)
-exists-at clauses n steps lists pairs head l place id h within is =
+exists-at clauses n steps lists pairs qhead l place id h within is =
     let r = h.right (list_of l) place no_watcher within in (
       subst (λ (k : ℕ). k < length pairs) is r.exists,
       subst (λ (k : ℕ). (pair_at pairs k).a ≢ (pair_at pairs k).b) is r.differ,
@@ -142,10 +142,10 @@ abbrev pub exchanged-lists : List (List Watcher) → Lit → List Watcher → �
 exchanged-lists lists l rest id p = with_watcher (set lists (list_of l) rest) (list_of p.b) (record { clause = id; blocker = p.a })
 
 -- **a clause watches another literal**
-pub kept-moved : (clauses : List (List Lit)) (n : ℕ) (steps : List Step) (lists : List (List Watcher)) (pairs : List Pair) (head : ℕ) (l : Lit) (place id : ℕ) (p : Pair) (rest : List Watcher)
-    → KeepWatches clauses n steps lists pairs head → IsExchange clauses steps lists pairs l place id p → IsRemoved (watchers lists (list_of l)) place rest
-    → KeepWatches clauses n steps (exchanged-lists lists l rest id p) (set pairs id p) head
-kept-moved clauses n steps lists pairs head l place id p rest h x r =
+pub kept-moved : (clauses : List (List Lit)) (n : ℕ) (steps : List Step) (lists : List (List Watcher)) (pairs : List Pair) (qhead : ℕ) (l : Lit) (place id : ℕ) (p : Pair) (rest : List Watcher)
+    → KeepWatches clauses n steps lists pairs qhead → IsExchange clauses steps lists pairs l place id p → IsRemoved (watchers lists (list_of l)) place rest
+    → KeepWatches clauses n steps (exchanged-lists lists l rest id p) (set pairs id p) qhead
+kept-moved clauses n steps lists pairs qhead l place id p rest h x r =
     let q = list_of l in
     let mid = set lists q rest in
     let size = length-set lists q rest in
@@ -156,7 +156,7 @@ kept-moved clauses n steps lists pairs head l place id p rest h x r =
     let o = pair_at pairs id in
     let size' = length-set mid (list_of p.b) (watchers mid (list_of p.b) ++ w ∷ []) in
     let many = length-set pairs id p in
-    let (exists, differ) = exists-at clauses n steps lists pairs head l place id h x.within x.is in
+    let (exists, differ) = exists-at clauses n steps lists pairs qhead l place id h x.within x.is in
     let old = h.kept id exists in
     let few-list = x.list in
     let few-b : list_of p.b < length mid = (let e = x.list_b in omega arith) in
@@ -188,8 +188,8 @@ kept-moved clauses n steps lists pairs head l place id p rest h x r =
       }) (λ j. all-removed P lists q place j rest x.list r (λ i. All-weaker (IsWatcher clauses pairs) P moved (watchers lists i) (h.right i)));
       kept = λ k few. elim (cases_eq id k) [
         | inl same ↦
-            subst (λ (j : ℕ). KeepsWatch steps lists' head j (get_or clauses j []) (pair_at pairs' j)) same
-            (subst (λ (y : Pair). KeepsWatch steps lists' head id c y) (sym now)
+            subst (λ (j : ℕ). KeepsWatch steps lists' qhead j (get_or clauses j []) (pair_at pairs' j)) same
+            (subst (λ (y : Pair). KeepsWatch steps lists' qhead id c y) (sym now)
             (record {
               has_a = stays-one (Contains c) o l p.a x.first old.has_a old.has_b;
               has_b = x.among;
@@ -198,11 +198,11 @@ kept-moved clauses n steps lists pairs head l place id p rest h x r =
                   (stays-one (λ m. StandsFrom 0 (watchers lists (list_of m)) id) o l p.a x.first (old.listed_a differ) (old.listed_b differ)));
               listed_b = λ ne. stands-new mid (list_of p.b) w few-b;
               decided = λ i d few' is. quiet-exchanged (trail_values (take i steps)) (trail_values (take i steps)) (trail_values steps) c o p l (grows-whole steps i) x.first x.differ x.free (old.decided i d few' is);
-              visited = quiet-exchanged (trail_values (take head steps)) (trail_values steps) (trail_values steps) c o p l (grows-whole steps head) x.first x.differ x.free old.visited;
+              visited = quiet-exchanged (trail_values (take qhead steps)) (trail_values steps) (trail_values steps) c o p l (grows-whole steps qhead) x.first x.differ x.free old.visited;
             }))
         | inr ne ↦
             (let k' = h.kept k (omega arith) in
-            subst (λ (y : Pair). KeepsWatch steps lists' head k (get_or clauses k []) y) (sym (pair-other pairs id k p ne))
+            subst (λ (y : Pair). KeepsWatch steps lists' qhead k (get_or clauses k []) y) (sym (pair-other pairs id k p ne))
             (record {
               has_a = k'.has_a;
               has_b = k'.has_b;
@@ -215,10 +215,10 @@ kept-moved clauses n steps lists pairs head l place id p rest h x r =
     }
 
 -- **and the list is as far as before, with one watcher fewer**
-pub passed-moved : (clauses : List (List Lit)) (n : ℕ) (steps : List Step) (lists : List (List Watcher)) (pairs : List Pair) (head : ℕ) (l : Lit) (place id : ℕ) (p : Pair) (rest : List Watcher)
-    → IsTrail clauses steps → IsFalsifiedAt steps head l → KeepWatches clauses n steps lists pairs head → IsExchange clauses steps lists pairs l place id p → IsRemoved (watchers lists (list_of l)) place rest
-    → ArePassedIn clauses steps lists pairs head (list_of l) place → ArePassedIn clauses steps (exchanged-lists lists l rest id p) (set pairs id p) head (list_of l) place
-passed-moved clauses n steps lists pairs head l place id p rest trail at h x r passed k few =
+pub passed-moved : (clauses : List (List Lit)) (n : ℕ) (steps : List Step) (lists : List (List Watcher)) (pairs : List Pair) (qhead : ℕ) (l : Lit) (place id : ℕ) (p : Pair) (rest : List Watcher)
+    → IsTrail clauses steps → IsFalsifiedAt steps qhead l → KeepWatches clauses n steps lists pairs qhead → IsExchange clauses steps lists pairs l place id p → IsRemoved (watchers lists (list_of l)) place rest
+    → ArePassedIn clauses steps lists pairs qhead (list_of l) place → ArePassedIn clauses steps (exchanged-lists lists l rest id p) (set pairs id p) qhead (list_of l) place
+passed-moved clauses n steps lists pairs qhead l place id p rest trail at h x r passed k few =
     let q = list_of l in
     let mid = set lists q rest in
     let size = length-set lists q rest in
@@ -227,26 +227,26 @@ passed-moved clauses n steps lists pairs head l place id p rest trail at h x r p
     let c = get_or clauses id [] in
     let o = pair_at pairs id in
     let many = length-set pairs id p in
-    let (exists, differ) = exists-at clauses n steps lists pairs head l place id h x.within x.is in
+    let (exists, differ) = exists-at clauses n steps lists pairs qhead l place id h x.within x.is in
     let old = h.kept id exists in
     let few-b : list_of p.b < length mid = (let e = x.list_b in omega arith) in
     elim (cases_eq id k) [
       | inl same ↦
-          inl (subst (λ (j : ℕ). NeedsNoVisit (trail_values (take (head + 1) steps)) (trail_values steps) (get_or clauses j []) (pair_at (set pairs id p) j)) same
-          (subst (λ (y : Pair). NeedsNoVisit (trail_values (take (head + 1) steps)) (trail_values steps) c y) (sym (pair-same pairs id p exists))
+          inl (subst (λ (j : ℕ). NeedsNoVisit (trail_values (take (qhead + 1) steps)) (trail_values steps) (get_or clauses j []) (pair_at (set pairs id p) j)) same
+          (subst (λ (y : Pair). NeedsNoVisit (trail_values (take (qhead + 1) steps)) (trail_values steps) c y) (sym (pair-same pairs id p exists))
           (elim old.visited [
             | inl one ↦ inl one
             | inr two ↦
                 (let (ne, a, b) = two in
-                let before : IsFalse (trail_values (take head steps)) p.a → ⊥ = stays-one (λ m. IsFalse (trail_values (take head steps)) m → ⊥) o l p.a x.first a b in
+                let before : IsFalse (trail_values (take qhead steps)) p.a → ⊥ = stays-one (λ m. IsFalse (trail_values (take qhead steps)) m → ⊥) o l p.a x.first a b in
                 inr (
                   (λ e. x.differ (sym e)),
-                  (λ f. stays-other o l p.a x.first differ (false-next clauses steps head p.a l trail at before f)),
-                  (λ f. x.free (grows-whole steps (head + 1) p.b.var (not p.b.positive) f)),
+                  (λ f. stays-other o l p.a x.first differ (false-next clauses steps qhead p.a l trail at before f)),
+                  (λ f. x.free (grows-whole steps (qhead + 1) p.b.var (not p.b.positive) f)),
                 ))
           ])))
       | inr ne ↦ elim (passed k (omega arith)) [
-        | inl quiet ↦ inl (subst (λ (y : Pair). NeedsNoVisit (trail_values (take (head + 1) steps)) (trail_values steps) (get_or clauses k []) y) (sym (pair-other pairs id k p ne)) quiet)
+        | inl quiet ↦ inl (subst (λ (y : Pair). NeedsNoVisit (trail_values (take (qhead + 1) steps)) (trail_values steps) (get_or clauses k []) y) (sym (pair-other pairs id k p ne)) quiet)
         | inr stands ↦ inr (stands-with mid (list_of p.b) q place k w few-b (stands-removed lists q place q place k rest x.list r (λ e. ne (sym x.is ∙ e)) (omega arith) stands))
       ]
     ]

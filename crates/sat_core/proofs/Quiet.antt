@@ -102,27 +102,27 @@ negated-value false true e = refl
 negated-value false false e = cc
 
 -- a literal that the step at the head makes false is the opposite of that step's
-pub false-next : (clauses : List (List Lit)) (steps : List Step) (head : ℕ) (l m : Lit) → IsTrail clauses steps → IsFalsifiedAt steps head m
-    → (IsFalse (trail_values (take head steps)) l → ⊥) → IsFalse (trail_values (take (head + 1) steps)) l → l ≡ m
-false-next clauses steps head l m trail h before now =
+pub false-next : (clauses : List (List Lit)) (steps : List Step) (qhead : ℕ) (l m : Lit) → IsTrail clauses steps → IsFalsifiedAt steps qhead m
+    → (IsFalse (trail_values (take qhead steps)) l → ⊥) → IsFalse (trail_values (take (qhead + 1) steps)) l → l ≡ m
+false-next clauses steps qhead l m trail h before now =
     let d : Step = record { lit = m; reason = None } in
-    let step = get_or steps head d in
+    let step = get_or steps qhead d in
     elim (cases_eq step.lit.var l.var) [
       | inr other ↦
-          (let e = ap (λ (xs : List Step). trail_values xs l.var) (take_more steps head d h.within) ∙ held-push-other (take head steps) step l.var other in
+          (let e = ap (λ (xs : List Step). trail_values xs l.var) (take_more steps qhead d h.within) ∙ held-push-other (take qhead steps) step l.var other in
           absurd (before (sym e ∙ now)))
       | inl same ↦
-          (let value = held-step clauses steps head d trail h.within in
-          let e : Some step.lit.positive ≡ Some (not l.positive) = sym value ∙ ap (trail_values (take (head + 1) steps)) same ∙ now in
+          (let value = held-step clauses steps qhead d trail h.within in
+          let e : Some step.lit.positive ≡ Some (not l.positive) = sym value ∙ ap (trail_values (take (qhead + 1) steps)) same ∙ now in
           lit-same l (negated step.lit) (sym same) (negated-value step.lit.positive l.positive e) ∙ h.is d)
     ]
 
 -- and it is false from then on
-pub false-at : (clauses : List (List Lit)) (steps : List Step) (head : ℕ) (m : Lit) → IsTrail clauses steps → IsFalsifiedAt steps head m → IsFalse (trail_values steps) m
-false-at clauses steps head m trail h =
+pub false-at : (clauses : List (List Lit)) (steps : List Step) (qhead : ℕ) (m : Lit) → IsTrail clauses steps → IsFalsifiedAt steps qhead m → IsFalse (trail_values steps) m
+false-at clauses steps qhead m trail h =
     let d : Step = record { lit = m; reason = None } in
-    let step = get_or steps head d in
-    let value = held-whole steps (head + 1) step.lit.var step.lit.positive (held-step clauses steps head d trail h.within) in
+    let step = get_or steps qhead d in
+    let value = held-whole steps (qhead + 1) step.lit.var step.lit.positive (held-step clauses steps qhead d trail h.within) in
     subst (IsFalse (trail_values steps)) (h.is d) (value ∙ ap (λ (b : Bool). Some b) (twice step.lit.positive))
   where
     twice : (b : Bool) → b ≡ not (not b)

@@ -37,10 +37,10 @@ stands-renewed lists list place i from id blocker few within (j, low, within', i
           (j, low, (omega arith), renewed-at xs place j blocker within ∙ ap (λ (ys : List Watcher). (get_or ys j no_watcher).clause) (sym there) ∙ is)))
     ]
 
-pub kept-renewed : (clauses : List (List Lit)) (n : ℕ) (steps : List Step) (lists : List (List Watcher)) (pairs : List Pair) (head list place : ℕ) (blocker : Lit)
+pub kept-renewed : (clauses : List (List Lit)) (n : ℕ) (steps : List Step) (lists : List (List Watcher)) (pairs : List Pair) (qhead list place : ℕ) (blocker : Lit)
     → list < length lists → place < length (watchers lists list) → Contains (get_or clauses (get_or (watchers lists list) place no_watcher).clause []) blocker
-    → KeepWatches clauses n steps lists pairs head → KeepWatches clauses n steps (with_blocker lists list place blocker) pairs head
-kept-renewed clauses n steps lists pairs head list place blocker few within among h =
+    → KeepWatches clauses n steps lists pairs qhead → KeepWatches clauses n steps (with_blocker lists list place blocker) pairs qhead
+kept-renewed clauses n steps lists pairs qhead list place blocker few within among h =
     let xs = watchers lists list in
     let w = watcher_with xs place blocker in
     let old = h.right list place no_watcher within in
@@ -66,9 +66,9 @@ kept-renewed clauses n steps lists pairs head list place blocker few within amon
           });
     }
 
-pub passed-renewed : (clauses : List (List Lit)) (steps : List Step) (lists : List (List Watcher)) (pairs : List Pair) (head list place from : ℕ) (blocker : Lit)
-    → list < length lists → place < length (watchers lists list) → ArePassedIn clauses steps lists pairs head list from → ArePassedIn clauses steps (with_blocker lists list place blocker) pairs head list from
-passed-renewed clauses steps lists pairs head list place from blocker few within h id few' =
+pub passed-renewed : (clauses : List (List Lit)) (steps : List Step) (lists : List (List Watcher)) (pairs : List Pair) (qhead list place from : ℕ) (blocker : Lit)
+    → list < length lists → place < length (watchers lists list) → ArePassedIn clauses steps lists pairs qhead list from → ArePassedIn clauses steps (with_blocker lists list place blocker) pairs qhead list from
+passed-renewed clauses steps lists pairs qhead list place from blocker few within h id few' =
     elim (h id few') [ inl quiet ↦ inl quiet | inr stands ↦ inr (stands-renewed lists list place list from id blocker few within stands) ]
 
 pub length-renewed : (lists : List (List Watcher)) (list place : ℕ) (blocker : Lit) → list < length lists → length (watchers (with_blocker lists list place blocker) list) ≡ length (watchers lists list)

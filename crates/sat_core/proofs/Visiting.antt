@@ -32,10 +32,10 @@ pub record IsVisit (clauses : List (List Lit)) (n : ℕ) (lists : List (List Wat
   pub list : list_of l < length lists
   pub within : place < length (watchers lists (list_of l))
 
-pub visit-start : (clauses : List (List Lit)) (n : ℕ) (steps : List Step) (lists : List (List Watcher)) (pairs : List Pair) (head : ℕ) (l : Lit) (place list : ℕ) (x : List Watcher) (w : Watcher)
-    → KeepWatches clauses n steps lists pairs head → AreOver n clauses → IsLitOf n l → place < length (watchers lists (list_of l))
+pub visit-start : (clauses : List (List Lit)) (n : ℕ) (steps : List Step) (lists : List (List Watcher)) (pairs : List Pair) (qhead : ℕ) (l : Lit) (place list : ℕ) (x : List Watcher) (w : Watcher)
+    → KeepWatches clauses n steps lists pairs qhead → AreOver n clauses → IsLitOf n l → place < length (watchers lists (list_of l))
     → list ≡ list_of l → x ≡ get_or lists list x → w ≡ get_or x place no_watcher → IsVisit clauses n lists pairs l place w
-visit-start clauses n steps lists pairs head l place list x w h over at within is-list is-x is-w =
+visit-start clauses n steps lists pairs qhead l place list x w h over at within is-list is-x is-w =
     let few = list-within n (length lists) l at h.count in
     let is-x' : x ≡ watchers lists (list_of l) = get_or_read lists list x (omega arith) is-x [] ∙ ap (watchers lists) is-list in
     let is = is-w ∙ ap (λ (xs : List Watcher). get_or xs place no_watcher) is-x' in
@@ -49,10 +49,10 @@ pub record IsOther (clauses : List (List Lit)) (n : ℕ) (pairs : List Pair) (l 
   pub among : Contains (get_or clauses id []) other
   pub exist : IsLitOf n other
 
-pub visit-other : (clauses : List (List Lit)) (n : ℕ) (steps : List Step) (lists : List (List Watcher)) (pairs : List Pair) (head : ℕ) (l : Lit) (place : ℕ) (w : Watcher) (p : Pair) (other : Lit)
-    → KeepWatches clauses n steps lists pairs head → IsVisit clauses n lists pairs l place w → p ≡ get_or pairs w.clause p
+pub visit-other : (clauses : List (List Lit)) (n : ℕ) (steps : List Step) (lists : List (List Watcher)) (pairs : List Pair) (qhead : ℕ) (l : Lit) (place : ℕ) (w : Watcher) (p : Pair) (other : Lit)
+    → KeepWatches clauses n steps lists pairs qhead → IsVisit clauses n lists pairs l place w → p ≡ get_or pairs w.clause p
     → ((p.a ≡ l) × (other ≡ p.b)) ⊎ ((p.a ≢ l) × (other ≡ p.a)) → IsOther clauses n pairs l w.clause other
-visit-other clauses n steps lists pairs head l place w p other h v is-p first =
+visit-other clauses n steps lists pairs qhead l place w p other h v is-p first =
     let is = get_or_read pairs w.clause p v.right.exists is-p no_pair in
     let first' = subst (λ (y : Pair). ((y.a ≡ l) × (other ≡ y.b)) ⊎ ((y.a ≢ l) × (other ≡ y.a))) is first in
     let o = h.kept w.clause v.right.exists in
@@ -60,12 +60,12 @@ visit-other clauses n steps lists pairs head l place w p other h v is-p first =
     record { first = first'; among = among; exist = All-contains (IsLitOf n) (get_or clauses w.clause []) other v.over among }
 
 -- **its clause is true**
-pub visit-true : (clauses : List (List Lit)) (n : ℕ) (steps : List Step) (values : List Value) (indices decisions : List ℕ) (lists : List (List Watcher)) (pairs : List Pair) (head : ℕ) (l : Lit) (place : ℕ) (w : Watcher) (m : Lit)
+pub visit-true : (clauses : List (List Lit)) (n : ℕ) (steps : List Step) (values : List Value) (indices decisions : List ℕ) (lists : List (List Watcher)) (pairs : List Pair) (qhead : ℕ) (l : Lit) (place : ℕ) (w : Watcher) (m : Lit)
     → AreSteps clauses n steps values indices decisions → IsVisit clauses n lists pairs l place w → Contains (get_or clauses w.clause []) m → IsHeld (assignment_of values) m
-    → ArePassedIn clauses steps lists pairs head (list_of l) place → ArePassedIn clauses steps lists pairs head (list_of l) (place + 1)
-visit-true clauses n steps values indices decisions lists pairs head l place w m s v among holds passed =
+    → ArePassedIn clauses steps lists pairs qhead (list_of l) place → ArePassedIn clauses steps lists pairs qhead (list_of l) (place + 1)
+visit-true clauses n steps values indices decisions lists pairs qhead l place w m s v among holds passed =
     let at = All-contains (IsLitOf n) (get_or clauses w.clause []) m v.over among in
-    passed-next clauses steps lists pairs head (list_of l) place
+    passed-next clauses steps lists pairs qhead (list_of l) place
     (subst (λ (x : Watcher). IsTrueClause (trail_values steps) (get_or clauses x.clause [])) v.is (m, among, s.shows m.var at.above at.within ∙ holds)) passed
 
 at-place : (clauses : List (List Lit)) (id : ℕ) → clause_at clauses (id + 1) ≡ get_or clauses id []
@@ -99,28 +99,28 @@ visit-unit s clauses id c m is few among all not-held not-false =
           });
     }
 
-pub visit-step : (clauses : List (List Lit)) (n : ℕ) (steps new : List Step) (lists : List (List Watcher)) (pairs : List Pair) (head : ℕ) (l : Lit) (place : ℕ) (w : Watcher) (m : Lit) (id : ℕ)
-    → head < length steps → new ≡ steps ++ record { lit = m; reason = Some id } ∷ [] → IsVisit clauses n lists pairs l place w → Contains (get_or clauses w.clause []) m
-    → IsRightStep clauses steps (record { lit = m; reason = Some id }) → KeepWatches clauses n steps lists pairs head → ArePassedIn clauses steps lists pairs head (list_of l) place
-    → KeepWatches clauses n new lists pairs head × ArePassedIn clauses new lists pairs head (list_of l) (place + 1)
-visit-step clauses n steps new lists pairs head l place w m id within is v among right h passed =
+pub visit-step : (clauses : List (List Lit)) (n : ℕ) (steps new : List Step) (lists : List (List Watcher)) (pairs : List Pair) (qhead : ℕ) (l : Lit) (place : ℕ) (w : Watcher) (m : Lit) (id : ℕ)
+    → qhead < length steps → new ≡ steps ++ record { lit = m; reason = Some id } ∷ [] → IsVisit clauses n lists pairs l place w → Contains (get_or clauses w.clause []) m
+    → IsRightStep clauses steps (record { lit = m; reason = Some id }) → KeepWatches clauses n steps lists pairs qhead → ArePassedIn clauses steps lists pairs qhead (list_of l) place
+    → KeepWatches clauses n new lists pairs qhead × ArePassedIn clauses new lists pairs qhead (list_of l) (place + 1)
+visit-step clauses n steps new lists pairs qhead l place w m id within is v among right h passed =
     let step : Step = record { lit = m; reason = Some id } in
-    subst (λ (ss : List Step). KeepWatches clauses n ss lists pairs head × ArePassedIn clauses ss lists pairs head (list_of l) (place + 1)) (sym is) (
-      kept-push clauses n steps lists pairs head step (λ none. absurd (some-id id none)) h,
-      passed-next clauses (steps ++ step ∷ []) lists pairs head (list_of l) place
+    subst (λ (ss : List Step). KeepWatches clauses n ss lists pairs qhead × ArePassedIn clauses ss lists pairs qhead (list_of l) (place + 1)) (sym is) (
+      kept-push clauses n steps lists pairs qhead step (λ none. absurd (some-id id none)) h,
+      passed-next clauses (steps ++ step ∷ []) lists pairs qhead (list_of l) place
           (subst (λ (x : Watcher). IsTrueClause (trail_values (steps ++ step ∷ [])) (get_or clauses x.clause [])) v.is (m, among, held-push-same steps step right.free))
-          (passed-push clauses steps lists pairs head (list_of l) place step within passed),
+          (passed-push clauses steps lists pairs qhead (list_of l) place step within passed),
     )
   where
     some-id : (id : ℕ) → Some id ≡ None → ⊥
     some-id id e = cc
 
 -- **its clause gets another watched literal**
-pub visit-exchange : (clauses : List (List Lit)) (n : ℕ) (steps : List Step) (values : List Value) (indices decisions : List ℕ) (lists : List (List Watcher)) (pairs : List Pair) (head : ℕ) (l : Lit) (place : ℕ) (w : Watcher) (other found : Lit) (saved : ℕ) (c : List Lit)
-    → AreSteps clauses n steps values indices decisions → KeepWatches clauses n steps lists pairs head → IsFalsifiedAt steps head l → IsLitOf n l → IsVisit clauses n lists pairs l place w → IsOther clauses n pairs l w.clause other
+pub visit-exchange : (clauses : List (List Lit)) (n : ℕ) (steps : List Step) (values : List Value) (indices decisions : List ℕ) (lists : List (List Watcher)) (pairs : List Pair) (qhead : ℕ) (l : Lit) (place : ℕ) (w : Watcher) (other found : Lit) (saved : ℕ) (c : List Lit)
+    → AreSteps clauses n steps values indices decisions → KeepWatches clauses n steps lists pairs qhead → IsFalsifiedAt steps qhead l → IsLitOf n l → IsVisit clauses n lists pairs l place w → IsOther clauses n pairs l w.clause other
     → c ≡ get_or clauses w.clause [] → Contains c found → (found ≢ other) → (IsFalse (assignment_of values) found → ⊥)
     → IsExchange clauses steps lists pairs l place w.clause (record { a = other; b = found; saved = saved })
-visit-exchange clauses n steps values indices decisions lists pairs head l place w other found saved c s h at exist v o is among differ free =
+visit-exchange clauses n steps values indices decisions lists pairs qhead l place w other found saved c s h at exist v o is among differ free =
     let among' = subst (λ (x : List Lit). Contains x found) is among in
     let at-b = All-contains (IsLitOf n) (get_or clauses w.clause []) found v.over among' in
     record {
@@ -131,7 +131,7 @@ visit-exchange clauses n steps values indices decisions lists pairs head l place
       list_b = list-within n (length lists) found at-b h.count;
       within = v.within;
       is = ap (λ (x : Watcher). x.clause) (sym v.is);
-      false' = false-at clauses steps head l s.trail at;
+      false' = false-at clauses steps qhead l s.trail at;
       first = o.first;
       among = among';
       differ = differ;
@@ -139,19 +139,19 @@ visit-exchange clauses n steps values indices decisions lists pairs head l place
     }
 
 -- **a new clause is attached**
-pub attached : (clauses : List (List Lit)) (n : ℕ) (steps : List Step) (values : List Value) (indices decisions : List ℕ) (lists lists' : List (List Watcher)) (pairs pairs' : List Pair) (head head' : ℕ) (c : List Lit) (p : Pair)
-    → AreSteps clauses n steps values indices decisions → AreOver n clauses → AreClosedBefore clauses steps → KeepWatches clauses n steps lists pairs head
+pub attached : (clauses : List (List Lit)) (n : ℕ) (steps : List Step) (values : List Value) (indices decisions : List ℕ) (lists lists' : List (List Watcher)) (pairs pairs' : List Pair) (qhead qhead' : ℕ) (c : List Lit) (p : Pair)
+    → AreSteps clauses n steps values indices decisions → AreOver n clauses → AreClosedBefore clauses steps → KeepWatches clauses n steps lists pairs qhead
     → length pairs < length clauses → IsOpenClause (assignment_of values) (get_or clauses (length pairs) []) → c ≡ get_or clauses (length pairs) [] → IsChosen steps c p
-    → (p.a ≡ p.b → lists' ≡ lists) → (p.a ≢ p.b → lists' ≡ with_pair lists (length pairs) p) → pairs' ≡ pairs ++ p ∷ [] → head' ≡ head
-    → KeepWatches clauses n steps lists' pairs' head'
-attached clauses n steps values indices decisions lists lists' pairs pairs' head head' c p s over before h more opens is chosen one two is-pairs is-head =
+    → (p.a ≡ p.b → lists' ≡ lists) → (p.a ≢ p.b → lists' ≡ with_pair lists (length pairs) p) → pairs' ≡ pairs ++ p ∷ [] → qhead' ≡ qhead
+    → KeepWatches clauses n steps lists' pairs' qhead'
+attached clauses n steps values indices decisions lists lists' pairs pairs' qhead qhead' c p s over before h more opens is chosen one two is-pairs is-head =
     let clause = get_or clauses (length pairs) [] in
     let chosen' = subst (λ (x : List Lit). IsChosen steps x p) is chosen in
     let exist = over (length pairs) [] more in
     let open' = open-agrees (assignment_of values) (trail_values steps) clause (agree clauses n steps values indices decisions clause s exist) opens in
-    subst (λ (ps : List Pair). KeepWatches clauses n steps lists' ps head') (sym is-pairs)
+    subst (λ (ps : List Pair). KeepWatches clauses n steps lists' ps qhead') (sym is-pairs)
     (subst (λ (k : ℕ). KeepWatches clauses n steps lists' (pairs ++ p ∷ []) k) (sym is-head)
-    (kept-added clauses n steps lists lists' pairs head p h more chosen' before open'
+    (kept-added clauses n steps lists lists' pairs qhead p h more chosen' before open'
     (list-within n (length lists) p.a (All-contains (IsLitOf n) clause p.a exist chosen'.has_a) h.count)
     (list-within n (length lists) p.b (All-contains (IsLitOf n) clause p.b exist chosen'.has_b) h.count) one two))
 
@@ -175,9 +175,9 @@ pub propagates-none : (steps : List Step) → Propagates steps steps
 propagates-none steps = ([], sym (append-nil steps), All-nil (λ (s : Step). s.reason ≢ None))
 
 -- the literal that is opposite to the step at the head
-pub falsified-by : (steps : List Step) (head : ℕ) (s : Step) (l : Lit) → head < length steps → s ≡ get_or steps head s → l ≡ negated s.lit → IsFalsifiedAt steps head l
-falsified-by steps head s l within at is =
-    record { within = within; is = λ d. ap (λ (x : Step). negated x.lit) (sym (get_or_read steps head s within at d)) ∙ sym is }
+pub falsified-by : (steps : List Step) (qhead : ℕ) (s : Step) (l : Lit) → qhead < length steps → s ≡ get_or steps qhead s → l ≡ negated s.lit → IsFalsifiedAt steps qhead l
+falsified-by steps qhead s l within at is =
+    record { within = within; is = λ d. ap (λ (x : Step). negated x.lit) (sym (get_or_read steps qhead s within at d)) ∙ sym is }
 
 -- the list that a read gives
 pub list-read : (lists : List (List Watcher)) (list : ℕ) (x : List Watcher) (l : Lit) → list < length lists → x ≡ get_or lists list x → list ≡ list_of l → x ≡ watchers lists (list_of l)

@@ -65,9 +65,9 @@ removed xs ys p few fewer last other =
     }
 
 -- **one step more**: by a clause, or a decision where all steps were visited
-pub kept-push : (clauses : List (List Lit)) (n : ℕ) (steps : List Step) (lists : List (List Watcher)) (pairs : List Pair) (head : ℕ) (step : Step)
-    → (step.reason ≡ None → head ≡ length steps) → KeepWatches clauses n steps lists pairs head → KeepWatches clauses n (steps ++ step ∷ []) lists pairs head
-kept-push clauses n steps lists pairs head step decides h =
+pub kept-push : (clauses : List (List Lit)) (n : ℕ) (steps : List Step) (lists : List (List Watcher)) (pairs : List Pair) (qhead : ℕ) (step : Step)
+    → (step.reason ≡ None → qhead ≡ length steps) → KeepWatches clauses n steps lists pairs qhead → KeepWatches clauses n (steps ++ step ∷ []) lists pairs qhead
+kept-push clauses n steps lists pairs qhead step decides h =
     let long = length_push steps step in
     let low = h.within in
     record {
@@ -92,37 +92,37 @@ kept-push clauses n steps lists pairs head step decides h =
                   (let here : length steps ≡ k = omega arith in
                   let all = decides (subst (λ (s : Step). s.reason ≡ None) (get_or_push steps step d k here) is) in
                   subst (λ (front : List Step). NeedsNoVisit (trail_values front) (trail_values front) c p) (sym (take_at steps (step ∷ []) k here))
-                  (subst (λ (front : List Step). NeedsNoVisit (trail_values front) (trail_values steps) c p) (take_all head steps (omega arith)) o.visited))
+                  (subst (λ (front : List Step). NeedsNoVisit (trail_values front) (trail_values steps) c p) (take_all qhead steps (omega arith)) o.visited))
             ];
-            visited = subst (λ (front : List Step). NeedsNoVisit (trail_values front) (trail_values (steps ++ step ∷ [])) c p) (sym (take-append-le head steps (step ∷ []) h.within))
-                (quiet-weaker (trail_values (take head steps)) (trail_values (take head steps)) (trail_values steps) (trail_values (steps ++ step ∷ [])) c p (λ x b e. e) (grows-push steps step) o.visited);
+            visited = subst (λ (front : List Step). NeedsNoVisit (trail_values front) (trail_values (steps ++ step ∷ [])) c p) (sym (take-append-le qhead steps (step ∷ []) h.within))
+                (quiet-weaker (trail_values (take qhead steps)) (trail_values (take qhead steps)) (trail_values steps) (trail_values (steps ++ step ∷ [])) c p (λ x b e. e) (grows-push steps step) o.visited);
           });
     }
 
-pub passed-push : (clauses : List (List Lit)) (steps : List Step) (lists : List (List Watcher)) (pairs : List Pair) (head list place : ℕ) (step : Step)
-    → head < length steps → ArePassedIn clauses steps lists pairs head list place → ArePassedIn clauses (steps ++ step ∷ []) lists pairs head list place
-passed-push clauses steps lists pairs head list place step within h id few =
+pub passed-push : (clauses : List (List Lit)) (steps : List Step) (lists : List (List Watcher)) (pairs : List Pair) (qhead list place : ℕ) (step : Step)
+    → qhead < length steps → ArePassedIn clauses steps lists pairs qhead list place → ArePassedIn clauses (steps ++ step ∷ []) lists pairs qhead list place
+passed-push clauses steps lists pairs qhead list place step within h id few =
     let c = get_or clauses id [] in
     let p = pair_at pairs id in
     elim (h id few) [
       | inr stands ↦ inr stands
       | inl quiet ↦
-          inl (subst (λ (front : List Step). NeedsNoVisit (trail_values front) (trail_values (steps ++ step ∷ [])) c p) (sym (take-append-le (head + 1) steps (step ∷ []) (omega arith)))
-          (quiet-weaker (trail_values (take (head + 1) steps)) (trail_values (take (head + 1) steps)) (trail_values steps) (trail_values (steps ++ step ∷ [])) c p (λ x b e. e) (grows-push steps step) quiet))
+          inl (subst (λ (front : List Step). NeedsNoVisit (trail_values front) (trail_values (steps ++ step ∷ [])) c p) (sym (take-append-le (qhead + 1) steps (step ∷ []) (omega arith)))
+          (quiet-weaker (trail_values (take (qhead + 1) steps)) (trail_values (take (qhead + 1) steps)) (trail_values steps) (trail_values (steps ++ step ∷ [])) c p (λ x b e. e) (grows-push steps step) quiet))
     ]
 
 -- steps by clauses
-pub kept-propagated : (clauses : List (List Lit)) (n : ℕ) (old new : List Step) (lists : List (List Watcher)) (pairs : List Pair) (head : ℕ)
-    → Propagates old new → KeepWatches clauses n old lists pairs head → KeepWatches clauses n new lists pairs head
-kept-propagated clauses n old new lists pairs head (added, is, forced) h =
-    subst (λ (ss : List Step). KeepWatches clauses n ss lists pairs head) (sym is) (over old added forced h)
+pub kept-propagated : (clauses : List (List Lit)) (n : ℕ) (old new : List Step) (lists : List (List Watcher)) (pairs : List Pair) (qhead : ℕ)
+    → Propagates old new → KeepWatches clauses n old lists pairs qhead → KeepWatches clauses n new lists pairs qhead
+kept-propagated clauses n old new lists pairs qhead (added, is, forced) h =
+    subst (λ (ss : List Step). KeepWatches clauses n ss lists pairs qhead) (sym is) (over old added forced h)
   where
-    over : (front ss : List Step) → All (λ (s : Step). s.reason ≢ None) ss → KeepWatches clauses n front lists pairs head → KeepWatches clauses n (front ++ ss) lists pairs head
-    over front [] forced' h' = subst (λ (xs : List Step). KeepWatches clauses n xs lists pairs head) (sym (append-nil front)) h'
+    over : (front ss : List Step) → All (λ (s : Step). s.reason ≢ None) ss → KeepWatches clauses n front lists pairs qhead → KeepWatches clauses n (front ++ ss) lists pairs qhead
+    over front [] forced' h' = subst (λ (xs : List Step). KeepWatches clauses n xs lists pairs qhead) (sym (append-nil front)) h'
     over front (s ∷ ss) forced' h' =
-        subst (λ (xs : List Step). KeepWatches clauses n xs lists pairs head) (append_assoc front (s ∷ []) ss)
+        subst (λ (xs : List Step). KeepWatches clauses n xs lists pairs qhead) (append_assoc front (s ∷ []) ss)
         (over (front ++ s ∷ []) ss (All-tail (λ (x : Step). x.reason ≢ None) s ss forced')
-        (kept-push clauses n front lists pairs head s (λ none. absurd (All-head (λ (x : Step). x.reason ≢ None) s ss forced' none)) h'))
+        (kept-push clauses n front lists pairs qhead s (λ none. absurd (All-head (λ (x : Step). x.reason ≢ None) s ss forced' none)) h'))
 
 pub propagates-trans : (a b c : List Step) → Propagates a b → Propagates b c → Propagates a c
 propagates-trans a b c (xs, is, forced) (ys, is', forced') = (
@@ -132,21 +132,21 @@ propagates-trans a b c (xs, is, forced) (ys, is', forced') = (
 )
 
 -- the literal that the step at the head made false stays that one
-pub falsified-later : (old new : List Step) (head : ℕ) (l : Lit) → Propagates old new → IsFalsifiedAt old head l → IsFalsifiedAt new head l
-falsified-later old new head l (added, is, forced) h =
-    subst (λ (ss : List Step). IsFalsifiedAt ss head l) (sym is)
+pub falsified-later : (old new : List Step) (qhead : ℕ) (l : Lit) → Propagates old new → IsFalsifiedAt old qhead l → IsFalsifiedAt new qhead l
+falsified-later old new qhead l (added, is, forced) h =
+    subst (λ (ss : List Step). IsFalsifiedAt ss qhead l) (sym is)
     (let within = h.within in
     record {
       within = omega (arith, length-append old added);
-      is = λ d. ap (λ (s : Step). negated s.lit) (get_or_append_left old added d head within) ∙ h.is d;
+      is = λ d. ap (λ (s : Step). negated s.lit) (get_or_append_left old added d qhead within) ∙ h.is d;
     })
 
 -- **steps taken back to a decision**
-pub kept-cut : (clauses : List (List Lit)) (n : ℕ) (steps new : List Step) (lists : List (List Watcher)) (pairs : List Pair) (head count : ℕ)
+pub kept-backtrack : (clauses : List (List Lit)) (n : ℕ) (steps new : List Step) (lists : List (List Watcher)) (pairs : List Pair) (qhead count : ℕ)
     → new ≡ take count steps → ((d : Step) → count < length steps → (get_or steps count d).reason ≡ None)
-    → KeepWatches clauses n steps lists pairs head → KeepWatches clauses n new lists pairs (min head (length new))
-kept-cut clauses n steps new lists pairs head count is decides h =
-    subst (λ (ss : List Step). KeepWatches clauses n ss lists pairs (min head (length ss))) (sym is)
+    → KeepWatches clauses n steps lists pairs qhead → KeepWatches clauses n new lists pairs (min qhead (length new))
+kept-backtrack clauses n steps new lists pairs qhead count is decides h =
+    subst (λ (ss : List Step). KeepWatches clauses n ss lists pairs (min qhead (length ss))) (sym is)
     (record {
       count = h.count;
       attached = h.attached;
@@ -168,25 +168,25 @@ kept-cut clauses n steps new lists pairs head count is decides h =
           });
     })
   where
-    looked' : (id : ℕ) → KeepsWatch steps lists head id (get_or clauses id []) (pair_at pairs id) → (count < length steps) ⊎ (length steps ≤ count)
-        → NeedsNoVisit (trail_values (take (min head (length (take count steps))) (take count steps))) (trail_values (take count steps)) (get_or clauses id []) (pair_at pairs id)
+    looked' : (id : ℕ) → KeepsWatch steps lists qhead id (get_or clauses id []) (pair_at pairs id) → (count < length steps) ⊎ (length steps ≤ count)
+        → NeedsNoVisit (trail_values (take (min qhead (length (take count steps))) (take count steps))) (trail_values (take count steps)) (get_or clauses id []) (pair_at pairs id)
     looked' id o (inl in') =
         let d : Step = record { lit = record { var = 0; positive = false }; reason = None } in
         let front = take count steps in
-        let m = min head (length front) in
+        let m = min qhead (length front) in
         quiet-weaker (trail_values front) (trail_values (take m front)) (trail_values front) (trail_values front) (get_or clauses id []) (pair_at pairs id) (grows-whole front m) (λ x b e. e)
         (o.decided count d in' (decides d in'))
     looked' id o (inr past) =
         let all = take_all count steps past in
         let low = h.within in
-        let m : min head (length steps) ≡ head = omega arith in
-        subst (λ (ss : List Step). NeedsNoVisit (trail_values (take (min head (length ss)) ss)) (trail_values ss) (get_or clauses id []) (pair_at pairs id)) (sym all)
+        let m : min qhead (length steps) ≡ qhead = omega arith in
+        subst (λ (ss : List Step). NeedsNoVisit (trail_values (take (min qhead (length ss)) ss)) (trail_values ss) (get_or clauses id []) (pair_at pairs id)) (sym all)
         (subst (λ (k : ℕ). NeedsNoVisit (trail_values (take k steps)) (trail_values steps) (get_or clauses id []) (pair_at pairs id)) (sym m) o.visited)
 
 -- **more clauses**
-pub kept-more : (clauses more : List (List Lit)) (n : ℕ) (steps : List Step) (lists : List (List Watcher)) (pairs : List Pair) (head : ℕ)
-    → KeepWatches clauses n steps lists pairs head → KeepWatches (clauses ++ more) n steps lists pairs head
-kept-more clauses more n steps lists pairs head h =
+pub kept-more : (clauses more : List (List Lit)) (n : ℕ) (steps : List Step) (lists : List (List Watcher)) (pairs : List Pair) (qhead : ℕ)
+    → KeepWatches clauses n steps lists pairs qhead → KeepWatches (clauses ++ more) n steps lists pairs qhead
+kept-more clauses more n steps lists pairs qhead h =
     let long = length-append clauses more in
     let few' = h.attached in
     record {
@@ -200,23 +200,23 @@ kept-more clauses more n steps lists pairs head h =
             has_blocker = subst (λ (c : List Lit). Contains c w.blocker) (sym (get_or_append_left clauses more [] w.clause (omega arith))) r.has_blocker;
             differ = r.differ;
           })) (watchers lists k) (h.right k);
-      kept = λ id few. subst (λ (c : List Lit). KeepsWatch steps lists head id c (pair_at pairs id)) (sym (get_or_append_left clauses more [] id (omega arith))) (h.kept id few);
+      kept = λ id few. subst (λ (c : List Lit). KeepsWatch steps lists qhead id c (pair_at pairs id)) (sym (get_or_append_left clauses more [] id (omega arith))) (h.kept id few);
     }
 
 -- **where all was visited the clauses are closed**
-pub kept-closed : (clauses : List (List Lit)) (n : ℕ) (steps : List Step) (lists : List (List Watcher)) (pairs : List Pair) (head : ℕ)
-    → KeepWatches clauses n steps lists pairs head → length pairs ≡ length clauses → head ≡ length steps → IsClosed (trail_values steps) clauses
-kept-closed clauses n steps lists pairs head h all end k d few =
+pub kept-closed : (clauses : List (List Lit)) (n : ℕ) (steps : List Step) (lists : List (List Watcher)) (pairs : List Pair) (qhead : ℕ)
+    → KeepWatches clauses n steps lists pairs qhead → length pairs ≡ length clauses → qhead ≡ length steps → IsClosed (trail_values steps) clauses
+kept-closed clauses n steps lists pairs qhead h all end k d few =
     let o = h.kept k (omega arith) in
     let c = get_or clauses k [] in
     let p = pair_at pairs k in
-    let quiet : NeedsNoVisit (trail_values steps) (trail_values steps) c p = subst (λ (front : List Step). NeedsNoVisit (trail_values front) (trail_values steps) c p) (take_all head steps (omega arith)) o.visited in
+    let quiet : NeedsNoVisit (trail_values steps) (trail_values steps) c p = subst (λ (front : List Step). NeedsNoVisit (trail_values front) (trail_values steps) c p) (take_all qhead steps (omega arith)) o.visited in
     subst (IsOpenClause (trail_values steps)) (get_or_default clauses k [] d few) (quiet-open (trail_values steps) c p o.has_a o.has_b quiet)
 
 -- **at the first place of a list**: only the clauses that watch the literal may not be quiet
-pub passed-start : (clauses : List (List Lit)) (n : ℕ) (steps : List Step) (lists : List (List Watcher)) (pairs : List Pair) (head : ℕ) (l : Lit)
-    → IsTrail clauses steps → IsFalsifiedAt steps head l → KeepWatches clauses n steps lists pairs head → ArePassedIn clauses steps lists pairs head (list_of l) 0
-passed-start clauses n steps lists pairs head l trail at h id few =
+pub passed-start : (clauses : List (List Lit)) (n : ℕ) (steps : List Step) (lists : List (List Watcher)) (pairs : List Pair) (qhead : ℕ) (l : Lit)
+    → IsTrail clauses steps → IsFalsifiedAt steps qhead l → KeepWatches clauses n steps lists pairs qhead → ArePassedIn clauses steps lists pairs qhead (list_of l) 0
+passed-start clauses n steps lists pairs qhead l trail at h id few =
     let o = h.kept id few in
     let c = get_or clauses id [] in
     let p = pair_at pairs id in
@@ -224,20 +224,20 @@ passed-start clauses n steps lists pairs head l trail at h id few =
       | inl one ↦ inl (inl one)
       | inr two ↦
           (let (differ, a, b) = two in
-          elim (false-cases (trail_values (take (head + 1) steps)) p.a) [
-            | inl false-a ↦ inr (subst (λ (m : Lit). StandsFrom 0 (watchers lists (list_of m)) id) (false-next clauses steps head p.a l trail at a false-a) (o.listed_a differ))
-            | inr not-a ↦ elim (false-cases (trail_values (take (head + 1) steps)) p.b) [
-              | inl false-b ↦ inr (subst (λ (m : Lit). StandsFrom 0 (watchers lists (list_of m)) id) (false-next clauses steps head p.b l trail at b false-b) (o.listed_b differ))
+          elim (false-cases (trail_values (take (qhead + 1) steps)) p.a) [
+            | inl false-a ↦ inr (subst (λ (m : Lit). StandsFrom 0 (watchers lists (list_of m)) id) (false-next clauses steps qhead p.a l trail at a false-a) (o.listed_a differ))
+            | inr not-a ↦ elim (false-cases (trail_values (take (qhead + 1) steps)) p.b) [
+              | inl false-b ↦ inr (subst (λ (m : Lit). StandsFrom 0 (watchers lists (list_of m)) id) (false-next clauses steps qhead p.b l trail at b false-b) (o.listed_b differ))
               | inr not-b ↦ inl (inr (differ, not-a, not-b))
             ]
           ])
     ]
 
 -- a place further, where the clause there is true
-pub passed-next : (clauses : List (List Lit)) (steps : List Step) (lists : List (List Watcher)) (pairs : List Pair) (head list place : ℕ)
+pub passed-next : (clauses : List (List Lit)) (steps : List Step) (lists : List (List Watcher)) (pairs : List Pair) (qhead list place : ℕ)
     → IsTrueClause (trail_values steps) (get_or clauses (get_or (watchers lists list) place no_watcher).clause [])
-    → ArePassedIn clauses steps lists pairs head list place → ArePassedIn clauses steps lists pairs head list (place + 1)
-passed-next clauses steps lists pairs head list place holds h id few =
+    → ArePassedIn clauses steps lists pairs qhead list place → ArePassedIn clauses steps lists pairs qhead list (place + 1)
+passed-next clauses steps lists pairs qhead list place holds h id few =
     elim (h id few) [
       | inl quiet ↦ inl quiet
       | inr stands ↦
@@ -251,10 +251,10 @@ passed-next clauses steps lists pairs head list place holds h id few =
     ]
 
 -- **past the last place of a list** the step at the head was visited
-pub kept-next : (clauses : List (List Lit)) (n : ℕ) (steps : List Step) (lists : List (List Watcher)) (pairs : List Pair) (head list place : ℕ)
-    → head < length steps → length (watchers lists list) ≤ place → ArePassedIn clauses steps lists pairs head list place → KeepWatches clauses n steps lists pairs head
-    → KeepWatches clauses n steps lists pairs (head + 1)
-kept-next clauses n steps lists pairs head list place within end passed h =
+pub kept-next : (clauses : List (List Lit)) (n : ℕ) (steps : List Step) (lists : List (List Watcher)) (pairs : List Pair) (qhead list place : ℕ)
+    → qhead < length steps → length (watchers lists list) ≤ place → ArePassedIn clauses steps lists pairs qhead list place → KeepWatches clauses n steps lists pairs qhead
+    → KeepWatches clauses n steps lists pairs (qhead + 1)
+kept-next clauses n steps lists pairs qhead list place within end passed h =
     record {
       count = h.count;
       attached = h.attached;

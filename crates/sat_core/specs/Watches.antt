@@ -69,7 +69,7 @@ pub record IsMoved (list place clause : ℕ) (pair : Pair) (old new : Watches) :
   pub lists : new.lists.items ≡ with_watcher (slice_set old.lists.items list rest) (list_of pair.b)
       (record { clause = clause; blocker = pair.a })
   pub pairs : new.pairs.items ≡ slice_set old.pairs.items clause pair
-  pub head : new.head ≡ old.head
+  pub qhead : new.qhead ≡ old.qhead
 
 -- what the lists hold of a new clause: nothing, or each of its two watched literals, blocked by the other
 abbrev pub with_pair : List (List Watcher) → ℕ → Pair → List (List Watcher)
@@ -82,7 +82,7 @@ pub record IsAdded (pair : Pair) (old new : Watches) : Type 0 where
   pub one : pair.a ≡ pair.b → new.lists.items ≡ old.lists.items
   pub two : pair.a ≢ pair.b → new.lists.items ≡ with_pair old.lists.items (length old.pairs.items) pair
   pub pairs : new.pairs.items ≡ old.pairs.items ++ pair ∷ []
-  pub head : new.head ≡ old.head
+  pub qhead : new.qhead ≡ old.qhead
 
 -- a watcher in a list: its clause was visited and has two watched literals, and the blocker is one of its literals
 pub record IsWatcher (clauses : List (List Lit)) (pairs : List Pair) (w : Watcher) : Type 0 where
@@ -101,7 +101,7 @@ NeedsNoVisit s t c p = IsTrueClause t c ⊎ ((p.a ≢ p.b) × (IsFalse s p.a →
 
 -- what is kept of a clause that was visited: it needed no visit before each decision, and now needs one only for the
 -- steps from head on
-pub record KeepsWatch (steps : List Step) (lists : List (List Watcher)) (head id : ℕ) (c : List Lit)
+pub record KeepsWatch (steps : List Step) (lists : List (List Watcher)) (qhead id : ℕ) (c : List Lit)
     (p : Pair) : Type 0 where
   pub has_a : Contains c p.a
   pub has_b : Contains c p.b
@@ -109,36 +109,36 @@ pub record KeepsWatch (steps : List Step) (lists : List (List Watcher)) (head id
   pub listed_b : p.a ≢ p.b → StandsFrom 0 (watchers lists (list_of p.b)) id
   pub decided : (k : ℕ) (d : Step) → k < length steps → (slice_index_or steps k d).reason ≡ None
       → NeedsNoVisit (trail_values (take k steps)) (trail_values (take k steps)) c p
-  pub visited : NeedsNoVisit (trail_values (take head steps)) (trail_values steps) c p
+  pub visited : NeedsNoVisit (trail_values (take qhead steps)) (trail_values steps) c p
 
 -- what the lists and pairs keep: steps taken back to a decision leave it, with the head not past the end
 pub record KeepWatches (clauses : List (List Lit)) (n : ℕ) (steps : List Step) (lists : List (List Watcher))
-    (pairs : List Pair) (head : ℕ) : Type 0 where
+    (pairs : List Pair) (qhead : ℕ) : Type 0 where
   pub count : length lists ≡ 2 * n
   pub attached : length pairs ≤ length clauses
-  pub within : head ≤ length steps
+  pub within : qhead ≤ length steps
   pub right : (k : ℕ) → All (IsWatcher clauses pairs) (watchers lists k)
   pub kept : (id : ℕ) → id < length pairs
-      → KeepsWatch steps lists head id (slice_index_or clauses id []) (pair_at pairs id)
+      → KeepsWatch steps lists qhead id (slice_index_or clauses id []) (pair_at pairs id)
 
 abbrev pub AreWatched : List (List Lit) → ℕ → List Step → Watches → Type 0
-AreWatched clauses n steps w = KeepWatches clauses n steps w.lists.items w.pairs.items w.head
+AreWatched clauses n steps w = KeepWatches clauses n steps w.lists.items w.pairs.items w.qhead
 
 -- each clause needs no visit, the step at the head included, or it is in the list from a place on
 abbrev pub ArePassedIn : List (List Lit) → List Step → List (List Watcher) → List Pair → ℕ → ℕ → ℕ → Type 0
-ArePassedIn clauses steps lists pairs head list place =
+ArePassedIn clauses steps lists pairs qhead list place =
     (id : ℕ) → id < length pairs
-    → NeedsNoVisit (trail_values (take (head + 1) steps)) (trail_values steps)
+    → NeedsNoVisit (trail_values (take (qhead + 1) steps)) (trail_values steps)
     (slice_index_or clauses id []) (pair_at pairs id)
     ⊎ StandsFrom place (watchers lists list) id
 
 abbrev pub ArePassed : List (List Lit) → List Step → Watches → Lit → ℕ → Type 0
-ArePassed clauses steps w l place = ArePassedIn clauses steps w.lists.items w.pairs.items w.head (list_of l) place
+ArePassed clauses steps w l place = ArePassedIn clauses steps w.lists.items w.pairs.items w.qhead (list_of l) place
 
 -- the step at the head made this literal false
-pub record IsFalsifiedAt (steps : List Step) (head : ℕ) (l : Lit) : Type 0 where
-  pub within : head < length steps
-  pub is : (d : Step) → negated (slice_index_or steps head d).lit ≡ l
+pub record IsFalsifiedAt (steps : List Step) (qhead : ℕ) (l : Lit) : Type 0 where
+  pub within : qhead < length steps
+  pub is : (d : Step) → negated (slice_index_or steps qhead d).lit ≡ l
 
 -- at this place the clause has a literal that isn't false, other than this one
 pub record IsReplacement (s : Partial) (c : List Lit) (other : Lit) (at : ℕ) : Type 0 where
@@ -174,7 +174,7 @@ VisitSays clauses steps s l place count w (Falsified id) = IsFalsified s clauses
 -- every clause and every step was visited
 pub record AreVisited (clauses : List (List Lit)) (steps : List Step) (w : Watches) : Type 0 where
   pub attached : length w.pairs.items ≡ length clauses
-  pub head : w.head ≡ length steps
+  pub qhead : w.qhead ≡ length steps
 
 -- where a literal becomes false: the number of steps before it, or all
 abbrev pub IsFalseFrom : List Step → Lit → ℕ → Type 0

@@ -35,7 +35,7 @@ struct Analysis {
     backjump: usize,
 }
 
-/// The line of a conflict, whose false clause has this id. If its lemma isn't empty, the trail is cut back to the first
+/// The line of a conflict, whose false clause has this id. If its lemma isn't empty, the trail goes back to the first
 /// decision before which the lemma is unit already. No mark is set before and after.
 pub(crate) fn learn(
     alloc: Global,
@@ -59,7 +59,7 @@ pub(crate) fn learn(
 {
     let marks = mem::replace(seen, Vec::new(alloc));
     let analysis = analyze(alloc, clauses, trail, marks, id)?;
-    trail.cut(analysis.backjump);
+    trail.backtrack(analysis.backjump);
     *seen = analysis.seen;
     let mut hints = analysis.hints;
     hints.reverse();
@@ -209,7 +209,7 @@ impl Analysis {
             return Ok(());
         }
         let step = trail.steps[index];
-        let spare = self.is_spare(clauses, trail, index, first);
+        let spare = self.is_redundant(clauses, trail, index, first);
         match self.resolvent(step, index, first, spare) {
             Some(id) => self.resolve(clauses, trail, id, index),
             None => self.keep(step.lit, index),
@@ -219,7 +219,7 @@ impl Analysis {
     /// Whether a step of an earlier level is implied by its reason, where the literals of the reason that aren't needed
     /// yet are implied by needed ones in turn: then the lemma follows without the step's literal too. The time grows
     /// with the sum of the lengths of the reasons of the reason's literals.
-    fn is_spare(&self, clauses: &Clauses, trail: &Trail, index: usize, first: usize) -> bool
+    fn is_redundant(&self, clauses: &Clauses, trail: &Trail, index: usize, first: usize) -> bool
         requires exist { AreOver (var_count trail.now) clauses.now }
         requires state { IsTrailState clauses.now (var_count trail.now) trail.now }
         requires within { index < length trail.now.steps.items }

@@ -47,7 +47,7 @@ pub(crate) fn propagate(
     if let Some(id) = attach_new(clauses, trail, watches)? {
         return Ok(Some(id));
     }
-    while watches.head < trail.steps.len() {
+    while watches.qhead < trail.steps.len() {
         if let Some(id) = visit_list(clauses, trail, watches)? {
             return Ok(Some(id));
         }
@@ -136,15 +136,15 @@ fn visit_list(
     requires exist { AreOver (var_count trail.old) clauses.now }
     requires state { IsTrailState clauses.now (var_count trail.old) trail.old }
     requires watched { AreWatched clauses.now (var_count trail.old) trail.old.steps.items watches.old }
-    requires head { watches.old.head < length trail.old.steps.items }
+    requires qhead { watches.old.qhead < length trail.old.steps.items }
     ensures state { OnOk result (IsTrailState clauses.now (var_count trail.old) trail.new) }
     ensures adds { OnOk result (Propagates trail.old.steps.items trail.new.steps.items) }
     ensures watched { OnOk result (AreWatched clauses.now (var_count trail.old) trail.new.steps.items watches.new) }
     ensures attached { OnOk result (length watches.new.pairs.items ≡ length watches.old.pairs.items) }
-    ensures done { IfOk result (λ o. MatchOption o (watches.new.head ≡ watches.old.head + 1)
+    ensures done { IfOk result (λ o. MatchOption o (watches.new.qhead ≡ watches.old.qhead + 1)
         (IsFalsified (assignment_of trail.new.values.items) clauses.now)) }
 {
-    let lit = trail.steps[watches.head].lit.negated();
+    let lit = trail.steps[watches.qhead].lit.negated();
     let list = list_place(lit);
     let mut place = 0;
     while place < watches.lists[list].len() {
@@ -154,7 +154,7 @@ fn visit_list(
             Visit::Falsified(id) => return Ok(Some(id)),
         }
     }
-    watches.head += 1;
+    watches.qhead += 1;
     Ok(None)
 }
 
@@ -170,7 +170,7 @@ fn visit_watcher(
     requires exist { AreOver (var_count trail.old) clauses.now }
     requires state { IsTrailState clauses.now (var_count trail.old) trail.old }
     requires watched { AreWatched clauses.now (var_count trail.old) trail.old.steps.items watches.old }
-    requires head { IsFalsifiedAt trail.old.steps.items watches.old.head lit }
+    requires qhead { IsFalsifiedAt trail.old.steps.items watches.old.qhead lit }
     requires lit { IsLitOf (var_count trail.old) lit }
     requires place { place < length (watchers watches.old.lists.items (list_of lit)) }
     requires passed { ArePassed clauses.now trail.old.steps.items watches.old lit place }
@@ -178,7 +178,7 @@ fn visit_watcher(
     ensures adds { OnOk result (Propagates trail.old.steps.items trail.new.steps.items) }
     ensures watched { OnOk result (AreWatched clauses.now (var_count trail.old) trail.new.steps.items watches.new) }
     ensures attached { OnOk result (length watches.new.pairs.items ≡ length watches.old.pairs.items) }
-    ensures head { OnOk result (watches.new.head ≡ watches.old.head) }
+    ensures qhead { OnOk result (watches.new.qhead ≡ watches.old.qhead) }
     ensures says { IfOk result (VisitSays clauses.now trail.new.steps.items (assignment_of trail.new.values.items)
         lit place (length (watchers watches.old.lists.items (list_of lit))) watches.new) }
 {

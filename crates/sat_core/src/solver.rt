@@ -79,11 +79,11 @@ pub fn solve_from<F: Rule>(
     let mut clauses = clauses_of(alloc, cnf)?;
     let mut lines = Items::new(alloc);
     for made in 0..conflicts {
-        match advance(&clauses, picker, &mut trail, &mut watches, &mut tally)? {
+        match search(&clauses, picker, &mut trail, &mut watches, &mut tally)? {
             None => return Ok(Verdict::Sat(all_values(alloc, trail.values.as_slice())?)),
             Some(id) => {
                 let line = learn(alloc, &clauses, &mut trail, &mut seen, id)?;
-                watches.head = watches.head.min(trail.steps.len());
+                watches.qhead = watches.qhead.min(trail.steps.len());
                 let refuted = line.lits.is_empty();
                 clauses.push(line.lits.as_slice())?;
                 tally.add(line.lits.as_slice());
@@ -111,7 +111,7 @@ fn clauses_of(alloc: Global, cnf: &Cnf) -> Result<Clauses, NoMemory>
 }
 
 /// Propagates and decides until a clause is false, whose id is the answer, or every variable has a value.
-fn advance<F: Rule>(
+fn search<F: Rule>(
     clauses: &Clauses,
     picker: &Picker<F>,
     trail: &mut Trail,

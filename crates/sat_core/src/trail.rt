@@ -172,7 +172,7 @@ impl Trail {
     }
 
     /// Takes all steps back but the first, as many as `count`.
-    pub(crate) fn cut(&mut self, count: usize)
+    pub(crate) fn backtrack(&mut self, count: usize)
         requires exist { All (λ s. IsLitOf (var_count self.old) s.lit) self.old.steps.items }
         ensures state { (clauses : List (List Literal)) → IsTrailState clauses (var_count self.old) self.old
             → IsTrailState clauses (var_count self.old) self.new }

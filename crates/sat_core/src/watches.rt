@@ -68,7 +68,7 @@ impl WatchList {
 pub(crate) struct Watches {
     pub(crate) lists: Vec<WatchList>,
     pub(crate) pairs: Vec<Pair>,
-    pub(crate) head: usize,
+    pub(crate) qhead: usize,
 }
 
 /// The place of a literal's list.
@@ -93,7 +93,7 @@ impl Watches {
         Ok(Watches {
             lists,
             pairs: Vec::new(alloc),
-            head: 0,
+            qhead: 0,
         })
     }
 
@@ -102,7 +102,7 @@ impl Watches {
         requires { list < length self.old.lists.items }
         ensures lists { OnOk result (self.new.lists.items ≡ with_watcher self.old.lists.items list watcher) }
         ensures pairs { OnOk result (self.new.pairs ≡ self.old.pairs) }
-        ensures head { OnOk result (self.new.head ≡ self.old.head) }
+        ensures qhead { OnOk result (self.new.qhead ≡ self.old.qhead) }
     {
         self.lists[list].watchers.push(watcher)?;
         Ok(())
@@ -114,7 +114,7 @@ impl Watches {
         requires place { place < length (watchers self.old.lists.items list) }
         ensures lists { self.new.lists.items ≡ with_blocker self.old.lists.items list place blocker }
         ensures pairs { self.new.pairs ≡ self.old.pairs }
-        ensures head { self.new.head ≡ self.old.head }
+        ensures qhead { self.new.qhead ≡ self.old.qhead }
     {
         self.lists[list].watchers[place].blocker = blocker;
     }

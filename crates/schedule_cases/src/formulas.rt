@@ -1,5 +1,6 @@
 // The formulas that ask for schedules.
 ghost use Rattle.std.specs.Prelude.{◌≤◌, ◌^◌, length};
+ghost use Rattle.schedule_meaning.specs.Limits.{most_cycles};
 ghost use Rattle.graph_meaning.specs.WellFormed.{IsLaunchGraph};
 ghost use Rattle.machine_table.specs.Tables.{IsTable};
 
@@ -19,7 +20,7 @@ fn by_parts(
     table: &Table,
     k: u32,
 ) -> Result<Encoded, EncodeFault>
-    requires cycles { k ≤ 24 }
+    requires cycles { k ≤ most_cycles }
     requires graph { IsLaunchGraph graph.now }
     requires table { IsTable table.now }
 {

@@ -1,5 +1,6 @@
 // Schedules: when they fit, and their listings.
 ghost use Rattle.std.specs.Prelude.{◌≤◌, ◌^◌, length};
+ghost use Rattle.schedule_meaning.specs.Limits.{most_cycles};
 ghost use Rattle.graph_meaning.specs.WellFormed.{IsLaunchGraph};
 ghost use Rattle.machine_table.specs.Tables.{IsTable};
 ghost use Rattle.schedule_meaning.specs.Fits.{Fits};
@@ -39,7 +40,7 @@ pub(crate) fn fits(alloc: Global, input: &[u8]) -> Result<Vec<u8>, Trouble>
 fn listing_of(alloc: Global, asked: &Question, schedule: &Schedule) -> Result<Vec<u8>, Trouble>
     requires graph { IsLaunchGraph asked.now.graph }
     requires table { IsTable asked.now.table }
-    requires cycles { asked.now.cycles ≤ 24 }
+    requires cycles { asked.now.cycles ≤ most_cycles }
     requires fits { Fits asked.now.graph asked.now.table asked.now.cycles schedule.now.launches }
 {
     let listing = assign(alloc, &asked.graph, &asked.table, asked.cycles, schedule)?;

@@ -37,5 +37,5 @@ pub use lookups::{
 };
 pub use operands::{operand_at, operand_count};
 pub use readers::{input_for, may_take, taken_before};
-pub use schedules::{Group, Launch, Operand, Schedule, To};
+pub use schedules::{Group, Launch, MOST_CYCLES, Operand, Schedule, To};
 pub use worked::worked_schedules;

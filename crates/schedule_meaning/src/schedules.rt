@@ -4,6 +4,9 @@ ghost use Rattle.schedule_meaning.specs.Groups.{group_number};
 
 use items::Items;
 
+/// The most cycles of a schedule that is asked for.
+pub const MOST_CYCLES: u32 = 24;
+
 /// Where the word of a launch goes: to a register of its own from the pool, or to the register to which the set of this
 /// number is pinned. The pool comes first.
 #[derive(Clone, Copy, PartialEq, Eq, PartialOrd, Ord, Debug)]

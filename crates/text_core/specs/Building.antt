@@ -1,5 +1,6 @@
 -- What has been read of a list of tokens. Source: this project.
 use Rattle.std.specs.Prelude.{ℕ, ◌≡◌, ◌+◌, ◌-◌, ◌≤◌, List, [], ◌∷◌, ◌++◌, ◌<◌, length, map, take, slice_get, Some}
+use Rattle.text_core.specs.Limits.{most_nesting}
 use Rattle.text_core.specs.declared.parser.OpenList.{OpenList}
 use Rattle.text_core.specs.declared.parser.Parser.{Parser}
 use Rattle.text_core.specs.declared.tokens.Token.{Token}
@@ -46,7 +47,7 @@ peak (token ∷ tokens) = peak_before token.kind (peak tokens)
 -- The parser has read the first tokens, and no more than 64 parentheses stood open.
 pub record IsParsedTo (tokens : List Token) (at : ℕ) (parser : Parser) : Type 0 where
   pub built : AreOpenLists (map frame_of parser.outer.items) (map sexp_tree parser.parts.items) (take at tokens)
-  pub nested : peak (take at tokens) ≤ 64
+  pub nested : peak (take at tokens) ≤ most_nesting
 
 -- how many parentheses stand open behind a token, of those before it
 abbrev pub depth_behind : TokenKind → ℕ → ℕ

@@ -1,5 +1,6 @@
 -- The faults of parentheses among tokens. Source: this project.
 use Rattle.std.specs.Prelude.{ℕ, suc, ◌≡◌, List, ◌∷◌, ◌++◌, length}
+use Rattle.text_core.specs.Limits.{most_nesting}
 use Rattle.text_core.specs.declared.faults.Kind.{Kind}
 use Rattle.text_core.specs.declared.faults.Kind.TheVariants.{Unclosed, Unopened, TooDeep}
 use Rattle.text_core.specs.declared.tokens.Token.{Token}
@@ -43,7 +44,7 @@ pub data IsMisplaced : List Token → Token → List Token → Kind → Type 0 w
   unopened : {before behind : List Token} {token : Token}
       → token.kind ≡ kinds.Closing → (HasOpening before → ⊥) → IsMisplaced before token behind Unopened
   too_deep : {before behind : List Token} {token : Token}
-      → token.kind ≡ kinds.Opening → IsInside 64 before → IsMisplaced before token behind TooDeep
+      → token.kind ≡ kinds.Opening → IsInside most_nesting before → IsMisplaced before token behind TooDeep
 
 -- the token of this index has a fault of this kind
 pub record IsTreeFault (tokens : List Token) (index : ℕ) (kind : Kind) : Type 0 where

@@ -1,5 +1,6 @@
 -- Trees, and which tokens spell them. Source: this project.
 use Rattle.std.specs.Prelude.{ℕ, ◌≡◌, ◌+◌, ◌≤◌, max, List, [], ◌∷◌, ◌++◌}
+use Rattle.text_core.specs.Limits.{most_nesting}
 use Rattle.text_core.specs.declared.tokens.Token.{Token}
 use Rattle.text_core.specs.declared.tokens.TokenKind.{TokenKind}
 use Rattle.text_core.specs.declared.tokens.TokenKind.TheVariants as kinds
@@ -49,4 +50,4 @@ abbrev mutual
 -- The tokens spell these trees, and no more than 64 lists stand inside one another.
 pub record HasTrees (tokens : List Token) (trees : SexpTrees) : Type 0 where
   pub spelled : SpellAll trees tokens
-  pub nested : most_depth trees ≤ 64
+  pub nested : most_depth trees ≤ most_nesting

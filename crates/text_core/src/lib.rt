@@ -15,6 +15,7 @@
 mod faults;
 mod laws;
 mod lexer;
+mod limits;
 mod line_forms;
 mod line_index;
 mod line_printing;
@@ -29,6 +30,10 @@ mod tokens;
 pub use faults::{Fault, Kind, TextFault};
 pub use laws::{one_lexing, one_parsing, one_splitting, printed_lines_are_lines, sexps_are_trees};
 pub use lexer::lex;
+pub use limits::{
+    MOST_ASSUMES, MOST_AXIOMS, MOST_BLOCKS, MOST_CODE_WORDS, MOST_CODES, MOST_DECLARED, MOST_GOALS,
+    MOST_INPUTS, MOST_NESTING, MOST_PLACES, MOST_SETS, MOST_VARIABLES, MOST_WORDS,
+};
 pub use line_forms::{begins_with, has_form, same};
 pub use line_index::TextLines;
 pub use line_printing::{put, put_number, put_numbered, put_word};

@@ -1,5 +1,6 @@
 // The second pass over a text of goals: its tokens as trees.
 ghost use Rattle.std.specs.Prelude.{◌≡◌, ◌+◌, ◌<◌, ◌≤◌, ◌^◌, ℕ, List, [], ◌∷◌, ◌++◌, OnOk, IfOk, IfErr, map, length, take};
+ghost use Rattle.text_core.specs.Limits.{most_nesting};
 ghost use Rattle.text_core.specs.Building.{IsOpeningAt, IsParsedTo, IsStillOpen, depth_behind, frame_of, peak};
 ghost use Rattle.text_core.specs.Faults.{IsFaultBy, GivesUnlessMemory, RefusesUnlessMemory};
 ghost use Rattle.text_core.specs.Nesting.{IsFirstTreeFault};
@@ -8,13 +9,13 @@ ghost use Rattle.text_core.specs.Trees as tree;
 ghost use Rattle.text_core.specs.Trees.{SexpTrees, HasTrees};
 ghost use Rattle.text_core.specs.declared.faults.Kind.{Kind};
 
+use crate::limits::MOST_NESTING;
 use crate::{Fault, Kind, Sexp, TextFault, Token, TokenKind};
 use items::NoMemory;
 use std::alloc::Global;
 use std::mem::replace;
 
 /// How many lists may stand inside one another.
-const MOST_DEPTH: usize = 64;
 
 /// A list that isn't closed yet: the place of its parenthesis, and the trees that stand before it at its level.
 #[derive(Drop)]
@@ -71,7 +72,7 @@ impl Parser {
         let token = tokens[at];
         match token.kind {
             TokenKind::Opening => {
-                if self.outer.len() == MOST_DEPTH {
+                if self.outer.len() == MOST_NESTING {
                     let fault = fault_inside(tokens, at, self.outer[0].place);
                     return Err(TextFault::Fault(fault));
                 }
@@ -111,11 +112,11 @@ fn fault_inside(tokens: &[Token], at: usize, outermost: u32) -> Fault
     requires small { length tokens.now < 2 ^ 29 }
     requires within { at < length tokens.now }
     requires opening { IsOpeningAt tokens.now at }
-    requires nested { peak (take at tokens.now) ≤ 64 }
-    requires inside { IsStillOpen tokens.now at outermost at MOST_DEPTH }
+    requires nested { peak (take at tokens.now) ≤ most_nesting }
+    requires inside { IsStillOpen tokens.now at outermost at MOST_NESTING }
     ensures { IsFirstTreeFault tokens.now result.place result.kind }
 {
-    let mut depth = MOST_DEPTH;
+    let mut depth = MOST_NESTING;
     for index in at..tokens.len() {
         depth = open_behind(tokens[index].kind, depth);
         if depth == 0 {

@@ -5,7 +5,7 @@ use Rattle.word_ops.specs.declared.operates.Operate.{Operate as OperateOf}
 use Rattle.word_ops.specs.declared.operates.Operate.TheVariants.{Addl, S4addl, Subl, S4subl, Cmpbge, S8addl, S8subl, Cmpult, Addq, S4addq, Subq, S4subq, Cmpeq, S8addq, S8subq, Cmpule, Cmplt, Cmple, And, Bic, Bis, Ornot, Xor, Eqv, Mskbl, Extbl, Insbl, Mskwl, Extwl, Inswl, Mskll, Extll, Insll, Zap, Zapnot, Mskql, Srl, Extql, Sll, Insql, Sra, Mskwh, Inswh, Extwh, Msklh, Inslh, Extlh, Mskqh, Insqh, Extqh, Mull, Mulq, Umulh, Sextb, Sextw}
 use Rattle.word_ops.specs.declared.operators.WordOp.{WordOp}
 use Rattle.word_ops.specs.declared.operators.WordOp.TheVariants.{Operate, Neg, Not, Selectb, Storeb, Lda, Ldah}
-use Rattle.word_ops.specs.Operates.{row_of, operates, place_of}
+use Rattle.word_ops.specs.Operates.{row_of, operates, operate_place}
 use Rattle.word_ops.specs.Values.{sign_extended, addq, subq, mulq, s4addq, s8addq, s4subq, s8subq, umulh, cmpeq, cmplt, cmple, cmpult, cmpule, cmpbge, and, bis, xor, bic, ornot, eqv, sll, srl, sra, zap, zapnot, sextb, sextw, ext_low, ext_high, ins_low, ins_high, msk_low, msk_high, neg, not, selectb, storeb, lda, ldah}
 
 -- the operators that are no operates
@@ -17,7 +17,7 @@ operators = map Operate operates ++ others
 
 -- the operator's number: its place in that list, from 0
 abbrev pub number_of : WordOp → ℕ
-number_of (Operate operate) = place_of operate
+number_of (Operate operate) = operate_place operate
 number_of Neg = 55
 number_of Not = 56
 number_of Selectb = 57

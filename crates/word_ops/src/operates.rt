@@ -1,6 +1,6 @@
 // The operates of the Alpha, in one table.
 ghost use Rattle.std.specs.Prelude.{◌≡◌, find, bytes_eq, map};
-ghost use Rattle.word_ops.specs.Operates.{row_of, operates, place_of, code_of, has_code};
+ghost use Rattle.word_ops.specs.Operates.{row_of, operates, operate_place, code_of, has_code};
 
 /// An instruction that computes a word from words, in the order of opcodes and function codes.
 #[derive(Clone, Copy, PartialEq, Eq, Debug)]
@@ -148,7 +148,7 @@ pub const OPERATES: [OperateRow; 55] = [
 impl Operate {
     /// The operate's place among the operates, from 0.
     pub fn place(self) -> u32
-        ensures { result ≡ place_of self }
+        ensures { result ≡ operate_place self }
     {
         self as u32
     }

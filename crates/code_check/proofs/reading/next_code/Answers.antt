@@ -16,11 +16,11 @@ returns-then-not-is_code-clause-fault c =
     told (IsCodeFaultAs (roles.top_role goals c.args.index form) form) c.at.result c.place.result (place_of form) _ c.at.ensures (c.place.ensures text)
     (wrong_first goals c.args.index form s.0 s.1 s.2 (sym c.is_code.ensures ∙ c.if-not-is_code.true))
 
-pub returns-then-index-ge64-clause-fault : goal.returns-then-index-ge64-clause-fault
-returns-then-index-ge64-clause-fault c =
+pub returns-then-index-ge-MOST_CODES-clause-fault : goal.returns-then-index-ge-MOST_CODES-clause-fault
+returns-then-index-ge-MOST_CODES-clause-fault c =
     let text = c.args.text.now in
     let form = sexp_form text c.args.form.now in
     let goals = map goal_view c.args.goals.now in
     let s = c.sexps_are_forms.ensures.stands text c.args.form.now c.requires.of in
-    told (IsCodeFaultAs (roles.top_role goals c.args.index form) form) c.at-then-index-ge64.result c.place-then-index-ge64.result (place_of form) _ c.at-then-index-ge64.ensures (c.place-then-index-ge64.ensures text)
-    (beyond_first goals c.args.index form s.0 s.1 s.2 (sym c.is_code.ensures ∙ c.if-not-is_code.false) c.if-index-ge64.true)
+    told (IsCodeFaultAs (roles.top_role goals c.args.index form) form) c.at-then-index-ge-MOST_CODES.result c.place-then-index-ge-MOST_CODES.result (place_of form) _ c.at-then-index-ge-MOST_CODES.ensures (c.place-then-index-ge-MOST_CODES.ensures text)
+    (beyond_first goals c.args.index form s.0 s.1 s.2 (sym c.is_code.ensures ∙ c.if-not-is_code.false) c.if-index-ge-MOST_CODES.true)

@@ -25,8 +25,8 @@ loop-index-init c =
     let form = sexp_form c.args.text.now c.args.form.now in
     subst (λ ws. AreReadTo form 0 ws false) (sym c.new-words.ensures.items) (first_words form)
 
-pub returns-then-index-ge4096-clause-fault : goal.returns-then-index-ge4096-clause-fault
-returns-then-index-ge4096-clause-fault c =
+pub returns-then-index-ge-MOST_CODE_WORDS-clause-fault : goal.returns-then-index-ge-MOST_CODE_WORDS-clause-fault
+returns-then-index-ge-MOST_CODE_WORDS-clause-fault c =
     let text = c.args.text.now in
     let form = sexp_form text c.args.form.now in
     let s = c.sexps_are_forms.ensures.stands text c.args.form.now c.requires.of in
@@ -36,8 +36,8 @@ returns-then-index-ge4096-clause-fault c =
     let g = nth_part text form (place_of form) parts i c.index-parts-index.result is c.loop-index-test.true c.index-parts-index.is in
     let part = sexp_form text c.index-parts-index.result in
     let of = c.sexps_are_forms.ensures.stands text c.index-parts-index.result (part_of text parts i c.index-parts-index.result (c.in-Some.ensures.of text c.requires.of) c.loop-index-test.true c.index-parts-index.is) in
-    told (IsCodeFaultAs roles.word_list form) c.at-then-index-ge4096.result c.place-then-index-ge4096.result (place_of part) _ c.at-then-index-ge4096.ensures (c.place-then-index-ge4096.ensures text)
-    (part_first roles.word_list form s.0 s.1 i part roles.past (place_of part) _ s.2 (words_own form (ap is_list is)) g (past_role form i c.if-index-ge4096.true) c.loop-index.invariant.clear
+    told (IsCodeFaultAs roles.word_list form) c.at-then-index-ge-MOST_CODE_WORDS.result c.place-then-index-ge-MOST_CODE_WORDS.result (place_of part) _ c.at-then-index-ge-MOST_CODE_WORDS.ensures (c.place-then-index-ge-MOST_CODE_WORDS.ensures text)
+    (part_first roles.word_list form s.0 s.1 i part roles.past (place_of part) _ s.2 (words_own form (ap is_list is)) g (past_role form i c.if-index-ge-MOST_CODE_WORDS.true) c.loop-index.invariant.clear
     (past_first part of.0 of.1 of.2))
 
 pub next_word-requires : goal.next_word-requires
@@ -62,7 +62,7 @@ returns-in_err-word-clause-fault c =
     let count = count_form text form (place_of form) parts is in
     let i = c.loop-index.index in
     let inv = c.loop-index.invariant in
-    let below : i < 4096 = (let l = c.if-index-ge4096.false in omega (arith, l)) in
+    let below : i < 4096 = (let l = c.if-index-ge-MOST_CODE_WORDS.false in omega (arith, l)) in
     let g = nth_part text form (place_of form) parts i c.index-parts-index.result is c.loop-index-test.true c.index-parts-index.is in
     let part = sexp_form text c.index-parts-index.result in
     let before = take i (parts_of form) in
@@ -81,7 +81,7 @@ loop-index-preserved c =
     let is = c.in-Some.ensures.parts text in
     let count = count_form text form (place_of form) parts is in
     let i = c.loop-index.index in
-    let below : i < 4096 = (let l = c.if-index-ge4096.false in omega (arith, l)) in
+    let below : i < 4096 = (let l = c.if-index-ge-MOST_CODE_WORDS.false in omega (arith, l)) in
     let g = nth_part text form (place_of form) parts i c.index-parts-index.result is c.loop-index-test.true c.index-parts-index.is in
     let part = sexp_form text c.index-parts-index.result in
     let w = c.in_ok-word.word in

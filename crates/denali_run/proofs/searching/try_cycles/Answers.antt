@@ -16,8 +16,8 @@ use Rattle.denali_run.proofs.RisingCycles.{all_large, refuted_of}
 use Rattle.denali_run.proofs.searching.try_cycles.Goals as goal
 
 -- the formula is that of the graph
-pub full_in-requires-clause-graph : goal.full_in-requires-clause-graph
-full_in-requires-clause-graph g c = subst IsLaunchGraph (sym c.requires.facts) c.requires.graph
+pub build_formula-requires-clause-graph : goal.build_formula-requires-clause-graph
+build_formula-requires-clause-graph g c = subst IsLaunchGraph (sym c.requires.facts) c.requires.graph
 
 pub returns-in-Err : goal.returns-in-Err
 returns-in-Err g c =

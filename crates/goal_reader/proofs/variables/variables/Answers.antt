@@ -33,8 +33,8 @@ returns-then-is_empty-clause-fault c =
     told (IsFaultAs (roles.a_list (roles.variables declared)) form) c.at-then-is_empty.result c.place-then-is_empty.result (place_of form) _ c.at-then-is_empty.ensures (c.place-then-is_empty.ensures text)
     (short_first declared form s.0 s.1 s.2 (omega (arith, count, empty)))
 
-pub returns-then-index-ge8-clause-fault : goal.returns-then-index-ge8-clause-fault
-returns-then-index-ge8-clause-fault c =
+pub returns-then-index-ge-MOST_VARIABLES-clause-fault : goal.returns-then-index-ge-MOST_VARIABLES-clause-fault
+returns-then-index-ge-MOST_VARIABLES-clause-fault c =
     let text = c.args.text.now in
     let form = sexp_form text c.args.form.now in
     let declared = c.args.declared.now in
@@ -48,8 +48,8 @@ returns-then-index-ge8-clause-fault c =
     let part = sexp_form text c.index-parts-index.result in
     let some : 1 ≤ length (parts_of form) = (let l = c.loop-index-test.true in omega (arith, count, l)) in
     let of = c.sexps_are_forms.ensures.stands text c.index-parts-index.result (part_of text parts i c.index-parts-index.result (c.in-Some.ensures.of text c.requires.of) c.loop-index-test.true c.index-parts-index.is) in
-    told (IsFaultAs (roles.a_list (roles.variables declared)) form) c.at-then-index-ge8.result c.place-then-index-ge8.result (place_of part) _ c.at-then-index-ge8.ensures (c.place-then-index-ge8.ensures text)
-    (ninth_first declared form s.0 s.1 s.2 i part of.0 of.1 of.2 some c.if-index-ge8.true g inv.clear)
+    told (IsFaultAs (roles.a_list (roles.variables declared)) form) c.at-then-index-ge-MOST_VARIABLES.result c.place-then-index-ge-MOST_VARIABLES.result (place_of part) _ c.at-then-index-ge-MOST_VARIABLES.ensures (c.place-then-index-ge-MOST_VARIABLES.ensures text)
+    (ninth_first declared form s.0 s.1 s.2 i part of.0 of.1 of.2 some c.if-index-ge-MOST_VARIABLES.true g inv.clear)
 
 pub returns-in_err-bytes-clause-fault : goal.returns-in_err-bytes-clause-fault
 returns-in_err-bytes-clause-fault c =
@@ -66,7 +66,7 @@ returns-in_err-bytes-clause-fault c =
     let g = nth_part text form (place_of form) parts i c.index-parts-index.result is c.loop-index-test.true c.index-parts-index.is in
     let part = sexp_form text c.index-parts-index.result in
     let some : 1 ≤ length (parts_of form) = (let l = c.loop-index-test.true in omega (arith, count, l)) in
-    let below : i < 8 = (let l = c.if-index-ge8.false in omega (arith, l)) in
+    let below : i < 8 = (let l = c.if-index-ge-MOST_VARIABLES.false in omega (arith, l)) in
     let names = c.as_slice.result.now in
     let read : names ≡ names_in (take i (parts_of form)) = c.as_slice.ensures ∙ inv.read in
     rw (p.1, p.2)
@@ -87,7 +87,7 @@ loop-index-preserved c =
     let g = nth_part text form (place_of form) parts i c.index-parts-index.result is c.loop-index-test.true c.index-parts-index.is in
     let part = sexp_form text c.index-parts-index.result in
     let some : 1 ≤ length (parts_of form) = (let l = c.loop-index-test.true in omega (arith, count, l)) in
-    let below : i < 8 = (let l = c.if-index-ge8.false in omega (arith, l)) in
+    let below : i < 8 = (let l = c.if-index-ge-MOST_VARIABLES.false in omega (arith, l)) in
     let names = c.as_slice.result.now in
     let read : names ≡ names_in (take i (parts_of form)) = c.as_slice.ensures ∙ inv.read in
     let own = c.in_ok-bytes.ensures.ok in

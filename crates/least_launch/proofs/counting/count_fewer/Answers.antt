@@ -10,8 +10,8 @@ returns-clause-vars c =
     let table = c.args.table.now in
     let k = c.args.k in
     let s = c.args.scope.now in
-    vars_with c.args.n c.launch_count-launches.result c.count_in-sizes.result.vars c.counter_vars.result _
-    (listed_in g table k s).launches (formula_in s g table k) c.count_in-sizes.ensures.vars
+    vars_with c.args.n c.launch_count-launches.result c.formula_size-sizes.result.vars c.counter_vars.result _
+    (listed_in g table k s).launches (formula_in s g table k) c.formula_size-sizes.ensures.vars
     c.launch_count-launches.ensures.value c.counter_vars.ensures.value refl
 
 pub returns-clause-clauses : goal.returns-clause-clauses
@@ -20,6 +20,6 @@ returns-clause-clauses c =
     let table = c.args.table.now in
     let k = c.args.k in
     let s = c.args.scope.now in
-    clauses_with c.counters_count.ensures.size c.args.n c.launch_count-launches.result c.count_in-sizes.result.clauses
+    clauses_with c.counters_count.ensures.size c.args.n c.launch_count-launches.result c.formula_size-sizes.result.clauses
     c.counter_size.result _ (listed_in g table k s).launches (formula_in s g table k)
-    c.count_in-sizes.ensures.clauses c.launch_count-launches.ensures.value c.counter_size.ensures.value refl
+    c.formula_size-sizes.ensures.clauses c.launch_count-launches.ensures.value c.counter_size.ensures.value refl

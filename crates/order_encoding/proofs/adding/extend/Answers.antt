@@ -1,5 +1,6 @@
 use Rattle.std.proofs.Common.{◌≡◌, ◌∙◌, ◌≤◌, List, ap, sym, subst, arith}
 use Rattle.std.specs.Prelude.{length}
+use Rattle.cycle_encoding.specs.Limits.{most_vars, most_clauses}
 use Rattle.cnf_core.specs.Formula.{Formula}
 use Rattle.schedule_meaning.specs.declared.schedules.Launch.{Launch}
 use Rattle.cycle_encoding.specs.CycleFormula.{before_overwritten, cycle_formula, listed_in}
@@ -35,7 +36,7 @@ extend_by_memory-requires-clause-vars c =
     let f = c.args.cnf.now in
     let before = before_named c.args.part Memory c.in-Memory.is g table k s f c.requires.formula in
     let is = memory_is g table k e c.args.launches.now c.requires.launches f before in
-    subst (λ (x : Formula). x.vars ≤ 262144) (sym is) (vars_named c.args.part Memory c.in-Memory.is g table k s c.requires.within)
+    subst (λ (x : Formula). x.vars ≤ most_vars) (sym is) (vars_named c.args.part Memory c.in-Memory.is g table k s c.requires.within)
 
 pub extend_by_memory-requires-clause-clauses : goal.extend_by_memory-requires-clause-clauses
 extend_by_memory-requires-clause-clauses c =
@@ -47,7 +48,7 @@ extend_by_memory-requires-clause-clauses c =
     let f = c.args.cnf.now in
     let before = before_named c.args.part Memory c.in-Memory.is g table k s f c.requires.formula in
     let is = memory_is g table k e c.args.launches.now c.requires.launches f before in
-    subst (λ (x : Formula). length x.clauses ≤ 2000000) (sym is) (clauses_named c.args.part Memory c.in-Memory.is g table k s c.requires.within)
+    subst (λ (x : Formula). length x.clauses ≤ most_clauses) (sym is) (clauses_named c.args.part Memory c.in-Memory.is g table k s c.requires.within)
 
 pub returns-in-Memory : goal.returns-in-Memory
 returns-in-Memory c =
@@ -84,7 +85,7 @@ extend_by_guard-requires-clause-vars c =
     let f = c.args.cnf.now in
     let before = before_named c.args.part Guard c.in-Guard.is g table k s f c.requires.formula in
     let is = guard_is g table k e c.args.launches.now c.requires.launches f before in
-    subst (λ (x : Formula). x.vars ≤ 262144) (sym is) (vars_named c.args.part Guard c.in-Guard.is g table k s c.requires.within)
+    subst (λ (x : Formula). x.vars ≤ most_vars) (sym is) (vars_named c.args.part Guard c.in-Guard.is g table k s c.requires.within)
 
 pub extend_by_guard-requires-clause-clauses : goal.extend_by_guard-requires-clause-clauses
 extend_by_guard-requires-clause-clauses c =
@@ -96,7 +97,7 @@ extend_by_guard-requires-clause-clauses c =
     let f = c.args.cnf.now in
     let before = before_named c.args.part Guard c.in-Guard.is g table k s f c.requires.formula in
     let is = guard_is g table k e c.args.launches.now c.requires.launches f before in
-    subst (λ (x : Formula). length x.clauses ≤ 2000000) (sym is) (clauses_named c.args.part Guard c.in-Guard.is g table k s c.requires.within)
+    subst (λ (x : Formula). length x.clauses ≤ most_clauses) (sym is) (clauses_named c.args.part Guard c.in-Guard.is g table k s c.requires.within)
 
 pub returns-in-Guard : goal.returns-in-Guard
 returns-in-Guard c =
@@ -133,7 +134,7 @@ extend_by_pool-requires-clause-vars c =
     let f = c.args.cnf.now in
     let before = before_named c.args.part Pool c.in-Pool.is g table k s f c.requires.formula in
     let is = pool_is g table k e c.args.launches.now c.requires.launches f before in
-    subst (λ (x : Formula). x.vars ≤ 262144) (sym is) (vars_named c.args.part Pool c.in-Pool.is g table k s c.requires.within)
+    subst (λ (x : Formula). x.vars ≤ most_vars) (sym is) (vars_named c.args.part Pool c.in-Pool.is g table k s c.requires.within)
 
 pub extend_by_pool-requires-clause-clauses : goal.extend_by_pool-requires-clause-clauses
 extend_by_pool-requires-clause-clauses c =
@@ -145,7 +146,7 @@ extend_by_pool-requires-clause-clauses c =
     let f = c.args.cnf.now in
     let before = before_named c.args.part Pool c.in-Pool.is g table k s f c.requires.formula in
     let is = pool_is g table k e c.args.launches.now c.requires.launches f before in
-    subst (λ (x : Formula). length x.clauses ≤ 2000000) (sym is) (clauses_named c.args.part Pool c.in-Pool.is g table k s c.requires.within)
+    subst (λ (x : Formula). length x.clauses ≤ most_clauses) (sym is) (clauses_named c.args.part Pool c.in-Pool.is g table k s c.requires.within)
 
 pub returns-in-Pool : goal.returns-in-Pool
 returns-in-Pool c =
@@ -220,7 +221,7 @@ extend_by_pins-requires-clause-vars c =
     let over : c.args.overwritten ≡ before_overwritten e = subst (λ p. KnowsOverwritten p c.args.overwritten e) c.in-Pins.is c.requires.overwritten in
     let branches = c.before_branch-branches.ensures in
     let is = pins_is g table k e c.args.launches.now c.requires.launches f c.args.overwritten c.before_branch-branches.result over branches before in
-    subst (λ (x : Formula). x.vars ≤ 262144) (sym is) (vars_named c.args.part Pins c.in-Pins.is g table k s c.requires.within)
+    subst (λ (x : Formula). x.vars ≤ most_vars) (sym is) (vars_named c.args.part Pins c.in-Pins.is g table k s c.requires.within)
 
 pub extend_by_pins-requires-clause-clauses : goal.extend_by_pins-requires-clause-clauses
 extend_by_pins-requires-clause-clauses c =
@@ -234,7 +235,7 @@ extend_by_pins-requires-clause-clauses c =
     let over : c.args.overwritten ≡ before_overwritten e = subst (λ p. KnowsOverwritten p c.args.overwritten e) c.in-Pins.is c.requires.overwritten in
     let branches = c.before_branch-branches.ensures in
     let is = pins_is g table k e c.args.launches.now c.requires.launches f c.args.overwritten c.before_branch-branches.result over branches before in
-    subst (λ (x : Formula). length x.clauses ≤ 2000000) (sym is) (clauses_named c.args.part Pins c.in-Pins.is g table k s c.requires.within)
+    subst (λ (x : Formula). length x.clauses ≤ most_clauses) (sym is) (clauses_named c.args.part Pins c.in-Pins.is g table k s c.requires.within)
 
 pub returns-in-Pins : goal.returns-in-Pins
 returns-in-Pins c =

@@ -1,7 +1,7 @@
 use Rattle.std.proofs.Common.{◌∙◌, ◌+◌, ◌∷◌, [], arith}
 use Rattle.std.specs.List.{range_with_len}
 use Rattle.cycle_encoding.specs.Shapes.{numbered, negative, implied, vars_of}
-use Rattle.order_encoding.specs.OrderFamilies.{stores_at, stored}
+use Rattle.order_encoding.specs.OrderFamilies.{stores_at, store_clause}
 use Rattle.order_encoding.proofs.AddSteps.{put_together, then_is}
 use Rattle.order_encoding.proofs.Found.{stores_are, implies_exist}
 use Rattle.order_encoding.proofs.HeldSteps.{stored_is}
@@ -26,4 +26,4 @@ returns c =
     let ls = c.args.launches.now in
     let var = c.args.stores + t + 1 in
     let is = put_together c.new-clause.result.items c.push.new.self.items c.push_stores.new.lits.items _ (vars_of (stores_at g t) (numbered 0 ls)) (negative var) c.new-clause.ensures.items c.in_ok-push.ensures.items c.in_ok-push_stores.ensures (stores_are g ls c.args.found.now t c.requires.found) in
-    then_is c.add.result c.args.cnf.now c.add.new.self (c.deref.result.now ∷ []) (implied (numbered c.args.stores (range_with_len 0 c.args.held.now.cycles)) (stored g (numbered 0 ls) t)) (stored_is g (numbered 0 ls) c.args.stores c.args.held.now.cycles t c.deref.result.now c.requires.cycle (c.deref.ensures.value ∙ is)) c.add.ensures.ok
+    then_is c.add.result c.args.cnf.now c.add.new.self (c.deref.result.now ∷ []) (implied (numbered c.args.stores (range_with_len 0 c.args.held.now.cycles)) (store_clause g (numbered 0 ls) t)) (stored_is g (numbered 0 ls) c.args.stores c.args.held.now.cycles t c.deref.result.now c.requires.cycle (c.deref.ensures.value ∙ is)) c.add.ensures.ok

@@ -1,5 +1,6 @@
 use Rattle.std.proofs.Common.{◌≡◌, ◌∙◌, ◌+◌, ◌*◌, ◌++◌, ◌≤◌, ℕ, List, refl, sym, ap, subst, arith}
 use Rattle.std.specs.Prelude.{length, All}
+use Rattle.cycle_encoding.specs.Limits.{most_vars, most_clauses}
 use Rattle.cnf_core.specs.declared.literal.Lit.{Lit}
 use Rattle.cnf_core.specs.Formula.{Formula, IsLitOf}
 use Rattle.cnf_core.specs.Counter.{at_most_vars, at_most_size, at_most_clauses}
@@ -41,8 +42,8 @@ add_takes-requires-clause-exist c =
     let sv = ap (λ m. at_most_vars q m) long ∙ c.registers-most.ensures.vars ∙ ap (λ x. at_most_vars x (c.len.result * k)) pool ∙ ap (at_most_vars p) (sym long) in
     let sc = λ (old : ℕ). c.registers-most.ensures.clauses old lits long ∙ ap (λ x. at_most_clauses old x lits) pool in
     let is = pool-by-numbers g k xs f table first n c.vars-first.ensures.value refl in
-    let few = subst (λ (h : Formula). length h.clauses ≤ 2000000) (sym is) c.requires.clauses in
-    let limit = subst (λ (h : Formula). h.vars ≤ 262144) (sym is) c.requires.vars in
+    let few = subst (λ (h : Formula). length h.clauses ≤ most_clauses) (sym is) c.requires.clauses in
+    let limit = subst (λ (h : Formula). h.vars ≤ most_vars) (sym is) c.requires.vars in
     let size = c.counters_count.ensures.size in
     let f1 = c.add_vars.new.cnf in
     let e1 = c.add_vars.ensures ∙ ap {A = ℕ} {B = Formula} (λ m. record { vars = f.vars + m; clauses = f.clauses }) (sym many) in
@@ -74,8 +75,8 @@ add_takes-requires-clause-room c =
     let sv = ap (λ m. at_most_vars q m) long ∙ c.registers-most.ensures.vars ∙ ap (λ x. at_most_vars x (c.len.result * k)) pool ∙ ap (at_most_vars p) (sym long) in
     let sc = λ (old : ℕ). c.registers-most.ensures.clauses old lits long ∙ ap (λ x. at_most_clauses old x lits) pool in
     let is = pool-by-numbers g k xs f table first n c.vars-first.ensures.value refl in
-    let few = subst (λ (h : Formula). length h.clauses ≤ 2000000) (sym is) c.requires.clauses in
-    let limit = subst (λ (h : Formula). h.vars ≤ 262144) (sym is) c.requires.vars in
+    let few = subst (λ (h : Formula). length h.clauses ≤ most_clauses) (sym is) c.requires.clauses in
+    let limit = subst (λ (h : Formula). h.vars ≤ most_vars) (sym is) c.requires.vars in
     let size = c.counters_count.ensures.size in
     let f1 = c.add_vars.new.cnf in
     let e1 = c.add_vars.ensures ∙ ap {A = ℕ} {B = Formula} (λ m. record { vars = f.vars + m; clauses = f.clauses }) (sym many) in
@@ -105,8 +106,8 @@ at_most-requires-clause-exist c =
     let sv = ap (λ m. at_most_vars q m) long ∙ c.registers-most.ensures.vars ∙ ap (λ x. at_most_vars x (c.len.result * k)) pool ∙ ap (at_most_vars p) (sym long) in
     let sc = λ (old : ℕ). c.registers-most.ensures.clauses old lits long ∙ ap (λ x. at_most_clauses old x lits) pool in
     let is = pool-by-numbers g k xs f table first n c.vars-first.ensures.value refl in
-    let few = subst (λ (h : Formula). length h.clauses ≤ 2000000) (sym is) c.requires.clauses in
-    let limit = subst (λ (h : Formula). h.vars ≤ 262144) (sym is) c.requires.vars in
+    let few = subst (λ (h : Formula). length h.clauses ≤ most_clauses) (sym is) c.requires.clauses in
+    let limit = subst (λ (h : Formula). h.vars ≤ most_vars) (sym is) c.requires.vars in
     let size = c.counters_count.ensures.size in
     let f1 = c.add_vars.new.cnf in
     let e1 = c.add_vars.ensures ∙ ap {A = ℕ} {B = Formula} (λ m. record { vars = f.vars + m; clauses = f.clauses }) (sym many) in
@@ -140,8 +141,8 @@ at_most-requires-clause-short c =
     let sv = ap (λ m. at_most_vars q m) long ∙ c.registers-most.ensures.vars ∙ ap (λ x. at_most_vars x (c.len.result * k)) pool ∙ ap (at_most_vars p) (sym long) in
     let sc = λ (old : ℕ). c.registers-most.ensures.clauses old lits long ∙ ap (λ x. at_most_clauses old x lits) pool in
     let is = pool-by-numbers g k xs f table first n c.vars-first.ensures.value refl in
-    let few = subst (λ (h : Formula). length h.clauses ≤ 2000000) (sym is) c.requires.clauses in
-    let limit = subst (λ (h : Formula). h.vars ≤ 262144) (sym is) c.requires.vars in
+    let few = subst (λ (h : Formula). length h.clauses ≤ most_clauses) (sym is) c.requires.clauses in
+    let limit = subst (λ (h : Formula). h.vars ≤ most_vars) (sym is) c.requires.vars in
     let size = c.counters_count.ensures.size in
     let f1 = c.add_vars.new.cnf in
     let e1 = c.add_vars.ensures ∙ ap {A = ℕ} {B = Formula} (λ m. record { vars = f.vars + m; clauses = f.clauses }) (sym many) in
@@ -172,8 +173,8 @@ at_most-requires-clause-vars c =
     let sv = ap (λ m. at_most_vars q m) long ∙ c.registers-most.ensures.vars ∙ ap (λ x. at_most_vars x (c.len.result * k)) pool ∙ ap (at_most_vars p) (sym long) in
     let sc = λ (old : ℕ). c.registers-most.ensures.clauses old lits long ∙ ap (λ x. at_most_clauses old x lits) pool in
     let is = pool-by-numbers g k xs f table first n c.vars-first.ensures.value refl in
-    let few = subst (λ (h : Formula). length h.clauses ≤ 2000000) (sym is) c.requires.clauses in
-    let limit = subst (λ (h : Formula). h.vars ≤ 262144) (sym is) c.requires.vars in
+    let few = subst (λ (h : Formula). length h.clauses ≤ most_clauses) (sym is) c.requires.clauses in
+    let limit = subst (λ (h : Formula). h.vars ≤ most_vars) (sym is) c.requires.vars in
     let size = c.counters_count.ensures.size in
     let f1 = c.add_vars.new.cnf in
     let e1 = c.add_vars.ensures ∙ ap {A = ℕ} {B = Formula} (λ m. record { vars = f.vars + m; clauses = f.clauses }) (sym many) in
@@ -207,8 +208,8 @@ at_most-requires-clause-room c =
     let sv = ap (λ m. at_most_vars q m) long ∙ c.registers-most.ensures.vars ∙ ap (λ x. at_most_vars x (c.len.result * k)) pool ∙ ap (at_most_vars p) (sym long) in
     let sc = λ (old : ℕ). c.registers-most.ensures.clauses old lits long ∙ ap (λ x. at_most_clauses old x lits) pool in
     let is = pool-by-numbers g k xs f table first n c.vars-first.ensures.value refl in
-    let few = subst (λ (h : Formula). length h.clauses ≤ 2000000) (sym is) c.requires.clauses in
-    let limit = subst (λ (h : Formula). h.vars ≤ 262144) (sym is) c.requires.vars in
+    let few = subst (λ (h : Formula). length h.clauses ≤ most_clauses) (sym is) c.requires.clauses in
+    let limit = subst (λ (h : Formula). h.vars ≤ most_vars) (sym is) c.requires.vars in
     let size = c.counters_count.ensures.size in
     let f1 = c.add_vars.new.cnf in
     let e1 = c.add_vars.ensures ∙ ap {A = ℕ} {B = Formula} (λ m. record { vars = f.vars + m; clauses = f.clauses }) (sym many) in
@@ -242,8 +243,8 @@ returns c =
     let sv = ap (λ m. at_most_vars q m) long ∙ c.registers-most.ensures.vars ∙ ap (λ x. at_most_vars x (c.len.result * k)) pool ∙ ap (at_most_vars p) (sym long) in
     let sc = λ (old : ℕ). c.registers-most.ensures.clauses old lits long ∙ ap (λ x. at_most_clauses old x lits) pool in
     let is = pool-by-numbers g k xs f table first n c.vars-first.ensures.value refl in
-    let few = subst (λ (h : Formula). length h.clauses ≤ 2000000) (sym is) c.requires.clauses in
-    let limit = subst (λ (h : Formula). h.vars ≤ 262144) (sym is) c.requires.vars in
+    let few = subst (λ (h : Formula). length h.clauses ≤ most_clauses) (sym is) c.requires.clauses in
+    let limit = subst (λ (h : Formula). h.vars ≤ most_vars) (sym is) c.requires.vars in
     let size = c.counters_count.ensures.size in
     let f1 = c.add_vars.new.cnf in
     let e1 = c.add_vars.ensures ∙ ap {A = ℕ} {B = Formula} (λ m. record { vars = f.vars + m; clauses = f.clauses }) (sym many) in

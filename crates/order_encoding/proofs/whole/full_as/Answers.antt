@@ -26,12 +26,12 @@ size-fault e g table k l Memory own is = tt
 pub returns-clause-is : goal.returns-clause-is
 returns-clause-is c =
     let s = c.in_ok-scope.scope in
-    if_ok _ _ c.full_in.result
+    if_ok _ _ c.build_formula.result
     (λ r is. record {
       lists = listed_in c.args.graph.now c.args.table.now c.args.k s;
       listed = (own_list c.each_encoding_has_one_list.ensures c.args.encoding c.args.graph.now c.in_ok-facts.facts c.args.table.now c.args.k c.in_ok-scope.scope c.in_ok-facts.ensures c.in_ok-scope.ensures c.requires.cycles);
       is = is ∙ ap (λ (x : LaunchGraph). whole_formula x c.args.table.now c.args.k (listed_in x c.args.table.now c.args.k s)) c.in_ok-facts.ensures;
-    }) c.full_in.ensures.formula
+    }) c.build_formula.ensures.formula
 
 given : {A E : Type 0} (W : Type 0) (P Q : A → Type 0) (r : Result A E) → ((a : A) → W → P a → Q a) → OnOk r W → IfOk r P → IfOk r Q
 given W P Q (Ok a) f w p = f a w p
@@ -39,39 +39,39 @@ given W P Q (Err x) f w p = tt
 
 pub returns-clause-small : goal.returns-clause-small
 returns-clause-small c =
-    given _ _ _ c.full_in.result (λ r within is. subst (λ (x : Formula). IsTooLarge x → ⊥) (sym is) within) c.full_in.ensures.within c.full_in.ensures.formula
+    given _ _ _ c.build_formula.result (λ r within is. subst (λ (x : Formula). IsTooLarge x → ⊥) (sym is) within) c.build_formula.ensures.within c.build_formula.ensures.formula
 
 pub returns-clause-refused : goal.returns-clause-refused
 returns-clause-refused c =
     let s = c.in_ok-scope.scope in
-    if_err _ _ c.full_in.result
+    if_err _ _ c.build_formula.result
     (λ r is. size-fault c.args.encoding c.args.graph.now c.args.table.now c.args.k (listed_in c.args.graph.now c.args.table.now c.args.k s) r (own_list c.each_encoding_has_one_list.ensures c.args.encoding c.args.graph.now c.in_ok-facts.facts c.args.table.now c.args.k c.in_ok-scope.scope c.in_ok-facts.ensures c.in_ok-scope.ensures c.requires.cycles)
-    (subst (λ (x : LaunchGraph). EncodeFaultIs (whole_formula x c.args.table.now c.args.k (listed_in x c.args.table.now c.args.k s)) r) c.in_ok-facts.ensures is)) c.full_in.ensures.size
+    (subst (λ (x : LaunchGraph). EncodeFaultIs (whole_formula x c.args.table.now c.args.k (listed_in x c.args.table.now c.args.k s)) r) c.in_ok-facts.ensures is)) c.build_formula.ensures.size
 
 pub returns-clause-formula : goal.returns-clause-formula
 returns-clause-formula c =
-    if_ok _ _ c.full_in.result
+    if_ok _ _ c.build_formula.result
     (λ r is. as_listed c.each_encoding_has_one_list.ensures c.args.encoding c.args.graph.now c.in_ok-facts.facts c.args.table.now c.args.k c.in_ok-scope.scope c.in_ok-facts.ensures c.in_ok-scope.ensures c.requires.cycles
-    (λ (x : LaunchGraph) (l : Listed). r.cnf ≡ whole_formula x c.args.table.now c.args.k l) is) c.full_in.ensures.formula
+    (λ (x : LaunchGraph) (l : Listed). r.cnf ≡ whole_formula x c.args.table.now c.args.k l) is) c.build_formula.ensures.formula
 
 pub returns-clause-plan : goal.returns-clause-plan
 returns-clause-plan c =
-    if_ok _ _ c.full_in.result
+    if_ok _ _ c.build_formula.result
     (λ r is. as_listed c.each_encoding_has_one_list.ensures c.args.encoding c.args.graph.now c.in_ok-facts.facts c.args.table.now c.args.k c.in_ok-scope.scope c.in_ok-facts.ensures c.in_ok-scope.ensures c.requires.cycles
     (λ (x : LaunchGraph) (l : Listed). r.plan ≡ record { encoding = c.args.encoding; cycles = c.args.k; launches = l.launches; overwritten = before_overwritten l })
-    (is ∙ ap {A = Encoding} {B = Plan} (λ e. record { encoding = e; cycles = c.args.k; launches = (listed_in c.in_ok-facts.facts c.args.table.now c.args.k c.in_ok-scope.scope).launches; overwritten = before_overwritten (listed_in c.in_ok-facts.facts c.args.table.now c.args.k c.in_ok-scope.scope) }) c.in_ok-scope.ensures.encoding)) c.full_in.ensures.plan
+    (is ∙ ap {A = Encoding} {B = Plan} (λ e. record { encoding = e; cycles = c.args.k; launches = (listed_in c.in_ok-facts.facts c.args.table.now c.args.k c.in_ok-scope.scope).launches; overwritten = before_overwritten (listed_in c.in_ok-facts.facts c.args.table.now c.args.k c.in_ok-scope.scope) }) c.in_ok-scope.ensures.encoding)) c.build_formula.ensures.plan
 
 pub returns-clause-size : goal.returns-clause-size
 returns-clause-size c =
-    if_err _ _ c.full_in.result
+    if_err _ _ c.build_formula.result
     (λ r is. as_listed c.each_encoding_has_one_list.ensures c.args.encoding c.args.graph.now c.in_ok-facts.facts c.args.table.now c.args.k c.in_ok-scope.scope c.in_ok-facts.ensures c.in_ok-scope.ensures c.requires.cycles
-    (λ (x : LaunchGraph) (l : Listed). EncodeFaultIs (whole_formula x c.args.table.now c.args.k l) r) is) c.full_in.ensures.size
+    (λ (x : LaunchGraph) (l : Listed). EncodeFaultIs (whole_formula x c.args.table.now c.args.k l) r) is) c.build_formula.ensures.size
 
 pub returns-clause-within : goal.returns-clause-within
 returns-clause-within c =
-    on_ok_more _ _ c.full_in.result
+    on_ok_more _ _ c.build_formula.result
     (λ is. as_listed c.each_encoding_has_one_list.ensures c.args.encoding c.args.graph.now c.in_ok-facts.facts c.args.table.now c.args.k c.in_ok-scope.scope c.in_ok-facts.ensures c.in_ok-scope.ensures c.requires.cycles
-    (λ (x : LaunchGraph) (l : Listed). IsTooLarge (whole_formula x c.args.table.now c.args.k l) → ⊥) is) c.full_in.ensures.within
+    (λ (x : LaunchGraph) (l : Listed). IsTooLarge (whole_formula x c.args.table.now c.args.k l) → ⊥) is) c.build_formula.ensures.within
 
 pub returns-clause-shown : goal.returns-clause-shown
 returns-clause-shown c =
@@ -80,12 +80,12 @@ returns-clause-shown c =
     let k = c.args.k in
     let l = listed_in g table k c.in_ok-scope.scope in
     let own = own_list c.each_encoding_has_one_list.ensures c.args.encoding c.args.graph.now c.in_ok-facts.facts c.args.table.now c.args.k c.in_ok-scope.scope c.in_ok-facts.ensures c.in_ok-scope.ensures c.requires.cycles in
-    if_ok_both _ _ _ c.full_in.result
+    if_ok_both _ _ _ c.build_formula.result
     (λ r formula plan. shows_in g table k l r.cnf r.plan.launches
     (formula ∙ ap (λ (x : LaunchGraph). whole_formula x table k (listed_in x table k c.in_ok-scope.scope)) c.in_ok-facts.ensures)
     (ap (λ (p : Plan). p.launches) plan ∙ ap (λ (x : LaunchGraph). (listed_in x table k c.in_ok-scope.scope).launches) c.in_ok-facts.ensures)
     (λ v h. c.each_encoding_says_fits.ensures.shown c.args.encoding g table k l v c.requires.table c.requires.graph own h))
-    c.full_in.ensures.formula c.full_in.ensures.plan
+    c.build_formula.ensures.formula c.build_formula.ensures.plan
 
 pub returns-clause-some : goal.returns-clause-some
 returns-clause-some c =
@@ -94,9 +94,9 @@ returns-clause-some c =
     let k = c.args.k in
     let l = listed_in g table k c.in_ok-scope.scope in
     let own = own_list c.each_encoding_has_one_list.ensures c.args.encoding c.args.graph.now c.in_ok-facts.facts c.args.table.now c.args.k c.in_ok-scope.scope c.in_ok-facts.ensures c.in_ok-scope.ensures c.requires.cycles in
-    if_ok_both _ _ _ c.full_in.result
+    if_ok_both _ _ _ c.build_formula.result
     (λ r formula plan. some_in g table k l r.cnf r.plan.launches
     (formula ∙ ap (λ (x : LaunchGraph). whole_formula x table k (listed_in x table k c.in_ok-scope.scope)) c.in_ok-facts.ensures)
     (ap (λ (p : Plan). p.launches) plan ∙ ap (λ (x : LaunchGraph). (listed_in x table k c.in_ok-scope.scope).launches) c.in_ok-facts.ensures)
     (λ ls fit. c.each_encoding_says_fits.ensures.some c.args.encoding g table k l ls c.requires.table c.requires.graph own fit))
-    c.full_in.ensures.formula c.full_in.ensures.plan
+    c.build_formula.ensures.formula c.build_formula.ensures.plan

@@ -63,8 +63,8 @@ returns-then-not-has_head-clause-fault c = λ front is.
     let one = other_first vars names items i form g (map block_view c.loop-index.blocks) inv.each counted front is (inv.clear front is) of.0 of.1 of.2 (sym c.has_head.ensures ∙ c.if-not-has_head.true) in
     subst (λ f. IsFaultBy (IsFirstAmong R items) f) (sym c.at.ensures) (subst (λ p. IsFirstAmong R items p BadForm) (sym (c.place.ensures text)) one)
 
-pub returns-then-index-ge64-clause-fault : goal.returns-then-index-ge64-clause-fault
-returns-then-index-ge64-clause-fault c = λ front is.
+pub returns-then-index-ge-MOST_BLOCKS-clause-fault : goal.returns-then-index-ge-MOST_BLOCKS-clause-fault
+returns-then-index-ge-MOST_BLOCKS-clause-fault c = λ front is.
     let text = c.args.text.now in
     let items = sexp_forms text c.args.items.now in
     let i = c.loop-index.index in
@@ -78,8 +78,8 @@ returns-then-index-ge64-clause-fault c = λ front is.
     let vars = c.args.vars.now in
     let names = c.args.names.now in
     let R = after front (proc_item_role names) in
-    let one = beyond_first vars names items i form g (map block_view c.loop-index.blocks) inv.each counted front is (inv.clear front is) (sym c.has_head.ensures ∙ c.if-not-has_head.false) of.0 of.1 of.2 c.if-index-ge64.true in
-    subst (λ f. IsFaultBy (IsFirstAmong R items) f) (sym c.at-then-index-ge64.ensures) (subst (λ p. IsFirstAmong R items p LimitPassed) (sym (c.place-then-index-ge64.ensures text)) one)
+    let one = beyond_first vars names items i form g (map block_view c.loop-index.blocks) inv.each counted front is (inv.clear front is) (sym c.has_head.ensures ∙ c.if-not-has_head.false) of.0 of.1 of.2 c.if-index-ge-MOST_BLOCKS.true in
+    subst (λ f. IsFaultBy (IsFirstAmong R items) f) (sym c.at-then-index-ge-MOST_BLOCKS.ensures) (subst (λ p. IsFirstAmong R items p LimitPassed) (sym (c.place-then-index-ge-MOST_BLOCKS.ensures text)) one)
 
 pub returns-in_err-one-clause-fault : goal.returns-in_err-one-clause-fault
 returns-in_err-one-clause-fault c =
@@ -95,7 +95,7 @@ returns-in_err-one-clause-fault c =
     let counted : length (take i items) ≡ i = length-take-le i items (omega (arith, total, below)) in
     let vars = c.args.vars.now in
     let names = c.args.names.now in
-    let l = c.if-index-ge64.false in
+    let l = c.if-index-ge-MOST_BLOCKS.false in
     let bs = map block_view c.loop-index.blocks in
     rw (p.1, p.2)
     (λ front is. (told_as (IsFirst (IsProcFaultAs (roles.a_block vars names (names_of_blocks bs)) form)) (IsFirstAmong (after front (proc_item_role names)) items)
@@ -117,7 +117,7 @@ loop-index-preserved c =
     let names = c.args.names.now in
     let blocks = c.loop-index.blocks in
     let bs = map block_view blocks in
-    let l = c.if-index-ge64.false in
+    let l = c.if-index-ge-MOST_BLOCKS.false in
     let one = c.in_ok-one.one in
     let clear = subst (λ xs. IsClearProc (roles.a_block vars names (names_of_blocks (map block_view xs))) form) c.as_slice.ensures c.in_ok-one.ensures.clear in
     let fresh = subst (λ xs. is_among (codes "done" ∷ names_of_blocks (map block_view xs)) one.name ≡ false) c.as_slice.ensures c.in_ok-one.ensures.fresh in

@@ -70,8 +70,8 @@ returns-then-not-has_head-clause-sets c =
       ends = λ f got. subst (λ (x : Form). has_head (codes "set") x ≡ false) (same_Some form f (sym g ∙ ap (slice_get items) (sym same) ∙ got)) (sym c.has_head.ensures ∙ c.if-not-has_head.true);
     }
 
-pub returns-then-index-ge16-clause-fault : goal.returns-then-index-ge16-clause-fault
-returns-then-index-ge16-clause-fault c = λ names front is.
+pub returns-then-index-ge-MOST_SETS-clause-fault : goal.returns-then-index-ge-MOST_SETS-clause-fault
+returns-then-index-ge-MOST_SETS-clause-fault c = λ names front is.
     let text = c.args.text.now in
     let items = sexp_forms text c.args.items.now in
     let i = c.loop-index.index in
@@ -84,7 +84,7 @@ returns-then-index-ge16-clause-fault c = λ names front is.
     let of = c.sexps_are_forms.ensures.stands text c.index-items-index.result (part_of text c.args.items.now i c.index-items-index.result c.requires.of c.loop-index-test.true c.index-items-index.is) in
     let vars = c.args.vars.now in
     let R = after front (step_role vars names) in
-    let one = set_beyond_first vars items i form g (map target_view c.loop-index.sets) inv.each (sym c.has_head.ensures ∙ c.if-not-has_head.false) counted names front is (inv.clear names front is) of.0 of.1 of.2 c.if-index-ge16.true in
+    let one = set_beyond_first vars items i form g (map target_view c.loop-index.sets) inv.each (sym c.has_head.ensures ∙ c.if-not-has_head.false) counted names front is (inv.clear names front is) of.0 of.1 of.2 c.if-index-ge-MOST_SETS.true in
     subst (λ f. IsFaultBy (IsFirstAmong R items) f) (sym c.at.ensures) (subst (λ p. IsFirstAmong R items p LimitPassed) (sym (c.place.ensures text)) one)
 
 pub returns-in_err-one-clause-fault : goal.returns-in_err-one-clause-fault
@@ -100,7 +100,7 @@ returns-in_err-one-clause-fault c =
     let below = c.loop-index-test.true in
     let counted : length (take i items) ≡ i = length-take-le i items (omega (arith, total, below)) in
     let vars = c.args.vars.now in
-    let l = c.if-index-ge16.false in
+    let l = c.if-index-ge-MOST_SETS.false in
     let ts = map target_view c.loop-index.sets in
     let given : names_of_targets c.as_slice.result.now ≡ map (λ (t : TargetTree). t.name) ts = ap names_of_targets c.as_slice.ensures ∙ sym (names_viewed c.loop-index.sets) in
     rw (p.1, p.2)
@@ -122,7 +122,7 @@ loop-index-preserved c =
     let vars = c.args.vars.now in
     let sets = c.loop-index.sets in
     let ts = map target_view sets in
-    let l = c.if-index-ge16.false in
+    let l = c.if-index-ge-MOST_SETS.false in
     let h = sym c.has_head.ensures ∙ c.if-not-has_head.false in
     let one = c.in_ok-one.one in
     let given : names_of_targets c.as_slice.result.now ≡ map (λ (t : TargetTree). t.name) ts = ap names_of_targets c.as_slice.ensures ∙ sym (names_viewed sets) in

@@ -5,15 +5,15 @@ use Rattle.goal_reader.specs.Roles.{names_given}
 use Rattle.goal_reader.proofs.TextEnd.{nth_form}
 use Rattle.proc_goal.proofs.NamesFound.{all_names, count_more, most_names, name_more, no_block_more, no_name_more}
 use Rattle.proc_goal.proofs.targets.block_names.Goals as goal
-use Rattle.proc_goal.proofs.targets.block_names.Goals.{then-has_head+else-count-ge64+in-Some+in_ok-new+in_ok-push, then-has_head+else-count-ge64+in_default, else-has_head}
+use Rattle.proc_goal.proofs.targets.block_names.Goals.{then-has_head+else-count-ge-MOST_BLOCKS+in-Some+in_ok-new+in_ok-push, then-has_head+else-count-ge-MOST_BLOCKS+in_default, else-has_head}
 
-pub returns-then-count-ge64-clause-names : goal.returns-then-count-ge64-clause-names
-returns-then-count-ge64-clause-names c =
+pub returns-then-count-ge-MOST_BLOCKS-clause-names : goal.returns-then-count-ge-MOST_BLOCKS-clause-names
+returns-then-count-ge-MOST_BLOCKS-clause-names c =
     let forms = sexp_forms c.args.text.now c.args.items.now in
     let inv = c.loop-item.invariant in
     let count = inv.count in
     let few = inv.few in
-    let many = c.if-count-ge64.true in
+    let many = c.if-count-ge-MOST_BLOCKS.true in
     inv.names ∙ sym (most_names forms c.loop-item.item-index (omega (arith, count, few, many)))
 
 pub loop-item-preserved : goal.loop-item-preserved
@@ -29,23 +29,23 @@ loop-item-preserved c =
     let few = inv.few in
     let fewer = inv.fewer in
     elim c.if-has_head.branch [
-      | then-has_head+else-count-ge64+in-Some+in_ok-new+in_ok-push w ↦ (
+      | then-has_head+else-count-ge-MOST_BLOCKS+in-Some+in_ok-new+in_ok-push w ↦ (
           let h = sym c.has_head.ensures ∙ w.if-has_head.true in
           let new = w.names-is ∙ w.in_ok-push.ensures.ok in
           let longer = ap length new ∙ length-append c.loop-item.names (w.in_ok-new.field-0 ∷ []) in
           let is = w.count-is in
-          let below = w.if-count-ge64.false in
+          let below = w.if-count-ge-MOST_BLOCKS.false in
           record {
             names = new ∙ ap₂ (λ ns n. ns ++ n ∷ []) names w.in_ok-new.ensures ∙ sym (name_more forms i form g h w.in-Some.bytes.now w.in-Some.ensures);
             count = is ∙ ap (λ n. n + 1) count ∙ sym (count_more forms i form g h);
             few = omega (arith, is, below);
             fewer = omega (arith, longer, is, fewer);
           })
-      | then-has_head+else-count-ge64+in_default w ↦ (
+      | then-has_head+else-count-ge-MOST_BLOCKS+in_default w ↦ (
           let h = sym c.has_head.ensures ∙ w.if-has_head.true in
           let same = ap length w.names-is in
           let is = w.count-is in
-          let below = w.if-count-ge64.false in
+          let below = w.if-count-ge-MOST_BLOCKS.false in
           record {
             names = w.names-is ∙ names ∙ sym (no_name_more forms i form g h w.in_default.ensures);
             count = is ∙ ap (λ n. n + 1) count ∙ sym (count_more forms i form g h);

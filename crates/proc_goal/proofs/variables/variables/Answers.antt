@@ -60,8 +60,8 @@ returns-then-not-has_head-clause-variables c =
       ends = λ f got. subst (λ (x : Form). has_head (codes "var") x ≡ false) (same_Some form f (sym g ∙ ap (slice_get items) (sym count) ∙ got)) (sym c.has_head.ensures ∙ c.if-not-has_head.true);
     }
 
-pub returns-then-index-ge16-clause-fault : goal.returns-then-index-ge16-clause-fault
-returns-then-index-ge16-clause-fault c = λ names.
+pub returns-then-index-ge-MOST_INPUTS-clause-fault : goal.returns-then-index-ge-MOST_INPUTS-clause-fault
+returns-then-index-ge-MOST_INPUTS-clause-fault c = λ names.
     let text = c.args.text.now in
     let items = sexp_forms text c.args.items.now in
     let i = c.loop-index.index in
@@ -72,7 +72,7 @@ returns-then-index-ge16-clause-fault c = λ names.
     let below = c.loop-index-test.true in
     let counted : length (take i items) ≡ i = length-take-le i items (omega (arith, total, below)) in
     let of = c.sexps_are_forms.ensures.stands text c.index-items-index.result (part_of text c.args.items.now i c.index-items-index.result c.requires.of c.loop-index-test.true c.index-items-index.is) in
-    let one = beyond_first items i form g c.loop-index.vars inv.each (sym c.has_head.ensures ∙ c.if-not-has_head.false) counted names of.0 of.1 of.2 c.if-index-ge16.true (inv.clear names) in
+    let one = beyond_first items i form g c.loop-index.vars inv.each (sym c.has_head.ensures ∙ c.if-not-has_head.false) counted names of.0 of.1 of.2 c.if-index-ge-MOST_INPUTS.true (inv.clear names) in
     subst (λ f. IsFaultBy (IsFirstAmong (proc_item_role names) items) f) (sym c.at.ensures) (subst (λ p. IsFirstAmong (proc_item_role names) items p LimitPassed) (sym (c.place.ensures text)) one)
 
 pub returns-in_err-one-clause-fault : goal.returns-in_err-one-clause-fault
@@ -87,7 +87,7 @@ returns-in_err-one-clause-fault c =
     let total = length-map c.args.items.now (sexp_form text) in
     let below = c.loop-index-test.true in
     let counted : length (take i items) ≡ i = length-take-le i items (omega (arith, total, below)) in
-    let l = c.if-index-ge16.false in
+    let l = c.if-index-ge-MOST_INPUTS.false in
     rw (p.1, p.2)
     (λ names. (told_as (IsFirst (IsFaultAs (a_list (input [] c.loop-index.vars)) form)) (IsFirstAmong (proc_item_role names) items)
     (λ place kind one. variable_first items i form g c.loop-index.vars inv.each (sym c.has_head.ensures ∙ c.if-not-has_head.false) counted names place kind (omega (arith, l)) (inv.clear names) one)
@@ -105,7 +105,7 @@ loop-index-preserved c =
     let below = c.loop-index-test.true in
     let counted : length (take i items) ≡ i = length-take-le i items (omega (arith, total, below)) in
     let vars = c.loop-index.vars in
-    let l = c.if-index-ge16.false in
+    let l = c.if-index-ge-MOST_INPUTS.false in
     let h = sym c.has_head.ensures ∙ c.if-not-has_head.false in
     let v = c.in_ok-one.one in
     let clear = subst (λ vs. IsClear (a_list (input [] vs)) form) c.as_slice.ensures c.in_ok-one.ensures.clear in

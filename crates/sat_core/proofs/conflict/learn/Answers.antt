@@ -16,16 +16,16 @@ returns-clause-shown c =
     (c.from-2.ensures ∙ c.in_ok-push.ensures.items ∙ ap (λ (hs : List ℕ). hs ++ c.args.id ∷ []) c.reverse.ensures.items)
 
 pub returns-clause-size : goal.returns-clause-size
-returns-clause-size c = (c.cut.ensures.state c.args.clauses.now c.requires.state).size
+returns-clause-size c = (c.backtrack.ensures.state c.args.clauses.now c.requires.state).size
 
 pub returns-clause-goes_on : goal.returns-clause-goes_on
 returns-clause-goes_on c = λ some.
     let e = c.in_ok-analysis.ensures in
-    line-goes_on c.args.clauses.now (var_count c.args.trail.now) c.args.trail.now c.cut.new.self c.in_ok-analysis.analysis c.from.result
-    c.requires.before e.last e.walked e.stays (c.cut.ensures.state c.args.clauses.now c.requires.state) c.cut.ensures.steps c.from.ensures some
+    line-goes_on c.args.clauses.now (var_count c.args.trail.now) c.args.trail.now c.backtrack.new.self c.in_ok-analysis.analysis c.from.result
+    c.requires.before e.last e.walked e.stays (c.backtrack.ensures.state c.args.clauses.now c.requires.state) c.backtrack.ensures.steps c.from.ensures some
 
 pub returns-clause-back : goal.returns-clause-back
-returns-clause-back c = record { count = c.in_ok-analysis.analysis.backjump; front = c.cut.ensures.steps; decides = c.in_ok-analysis.ensures.back }
+returns-clause-back c = record { count = c.in_ok-analysis.analysis.backjump; front = c.backtrack.ensures.steps; decides = c.in_ok-analysis.ensures.back }
 
 pub returns-clause-unmarked : goal.returns-clause-unmarked
 returns-clause-unmarked c = (let w = c.in_ok-analysis.ensures.walked in record { size = w.size; clear = w.clear })

@@ -60,5 +60,5 @@ returns-clause-watched c =
     let is : c.get.result.now ≡ get_or clauses (length w.pairs.items) [] =
     sym (get_or_from_slice_get clauses c.len.result c.get.result.now [] c.get.ensures) ∙ ap (λ (k : ℕ). get_or clauses k []) (c.len.ensures ∙ w.pairs.ok.0) in
     let e = c.in_ok-add.ensures in
-    attached clauses n t.steps.items t.values.items t.indices.items t.decisions.items w.lists.items w'.lists.items w.pairs.items w'.pairs.items w.head w'.head c.get.result.now p
-    c.requires.state c.requires.exist c.requires.before c.requires.watched c.requires.more c.requires.opens is (c.watched_pair-pair.ensures clauses c.requires.state) e.one e.two e.pairs e.head
+    attached clauses n t.steps.items t.values.items t.indices.items t.decisions.items w.lists.items w'.lists.items w.pairs.items w'.pairs.items w.qhead w'.qhead c.get.result.now p
+    c.requires.state c.requires.exist c.requires.before c.requires.watched c.requires.more c.requires.opens is (c.watched_pair-pair.ensures clauses c.requires.state) e.one e.two e.pairs e.qhead

@@ -8,7 +8,7 @@ use Rattle.sat_core.proofs.propagation.attach_new.Goals as goal
 pub returns-in-Some-clause-watched : goal.returns-in-Some-clause-watched
 returns-in-Some-clause-watched c =
     let w = c.loop-trail.watches in
-    kept-propagated c.args.clauses.now (var_count c.args.trail.now) c.loop-trail.trail.steps.items c.assert_unit.new.trail.steps.items w.lists.items w.pairs.items w.head c.in_ok-id.ensures.adds c.loop-trail.invariant.watched
+    kept-propagated c.args.clauses.now (var_count c.args.trail.now) c.loop-trail.trail.steps.items c.assert_unit.new.trail.steps.items w.lists.items w.pairs.items w.qhead c.in_ok-id.ensures.adds c.loop-trail.invariant.watched
 
 pub attach-requires-clause-before : goal.attach-requires-clause-before
 attach-requires-clause-before c = propagated-closed c.args.clauses.now c.loop-trail.trail.steps.items c.assert_unit.new.trail.steps.items c.loop-trail.invariant.before c.in_ok-id.ensures.adds
@@ -18,7 +18,7 @@ attach-requires-clause-watched c =
     let w = c.loop-trail.watches in
     let size = c.in_ok-id.ensures.state.size ∙ c.loop-trail.invariant.size in
     subst (λ (n : ℕ). AreWatched c.args.clauses.now n c.assert_unit.new.trail.steps.items w) (sym size)
-    (kept-propagated c.args.clauses.now (var_count c.args.trail.now) c.loop-trail.trail.steps.items c.assert_unit.new.trail.steps.items w.lists.items w.pairs.items w.head c.in_ok-id.ensures.adds c.loop-trail.invariant.watched)
+    (kept-propagated c.args.clauses.now (var_count c.args.trail.now) c.loop-trail.trail.steps.items c.assert_unit.new.trail.steps.items w.lists.items w.pairs.items w.qhead c.in_ok-id.ensures.adds c.loop-trail.invariant.watched)
 
 pub loop-trail-preserved : goal.loop-trail-preserved
 loop-trail-preserved c =

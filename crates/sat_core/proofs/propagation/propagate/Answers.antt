@@ -35,4 +35,4 @@ returns-clause-done c =
     let high = c.loop-watches-test.false in
     let count = c.len.ensures ∙ t.steps.ok.0 in
     closed-given clauses n t.steps.items t.values.items t.indices.items t.decisions.items h.state c.requires.exist
-    (kept-closed clauses n t.steps.items w.lists.items w.pairs.items w.head h.watched h.attached (omega arith))
+    (kept-closed clauses n t.steps.items w.lists.items w.pairs.items w.qhead h.watched h.attached (omega arith))

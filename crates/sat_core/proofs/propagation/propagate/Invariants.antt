@@ -13,4 +13,4 @@ invariant-loop-watches l = record {
 }
 
 abbrev pub decreases-loop-watches : goal.decreases-loop-watches
-decreases-loop-watches l = var_count l.trail - l.watches.head
+decreases-loop-watches l = var_count l.trail - l.watches.qhead

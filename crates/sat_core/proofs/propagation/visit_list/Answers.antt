@@ -12,16 +12,16 @@ loop-place-init c =
     let t = c.args.trail.now in
     let w = c.args.watches.now in
     let lit = c.negated-lit.result in
-    let at = falsified-by t.steps.items w.head c.index.result.now lit c.requires.head c.index.ensures c.negated-lit.ensures in
+    let at = falsified-by t.steps.items w.qhead c.index.result.now lit c.requires.qhead c.index.ensures c.negated-lit.ensures in
     record {
       state = c.requires.state;
       adds = propagates-none t.steps.items;
       size = refl;
       watched = c.requires.watched;
       attached = refl;
-      head = refl;
+      qhead = refl;
       at = at;
-      passed = passed-start c.args.clauses.now (var_count t) t.steps.items w.lists.items w.pairs.items w.head lit c.requires.state.trail at c.requires.watched;
+      passed = passed-start c.args.clauses.now (var_count t) t.steps.items w.lists.items w.pairs.items w.qhead lit c.requires.state.trail at c.requires.watched;
     }
 
 pub loop-place-preserved-in-Stays : goal.loop-place-preserved-in-Stays
@@ -42,8 +42,8 @@ loop-place-preserved-in-Stays c =
       size = e.state.size ∙ h.size;
       watched = subst (λ (n : ℕ). AreWatched clauses n new.steps.items w') h.size e.watched;
       attached = e.attached ∙ h.attached;
-      head = e.head ∙ h.head;
-      at = subst (λ (k : ℕ). IsFalsifiedAt new.steps.items k lit) (sym e.head) (falsified-later old.steps.items new.steps.items w.head lit e.adds h.at);
+      qhead = e.qhead ∙ h.qhead;
+      at = subst (λ (k : ℕ). IsFalsifiedAt new.steps.items k lit) (sym e.qhead) (falsified-later old.steps.items new.steps.items w.qhead lit e.adds h.at);
       passed = says.0;
     }
 
@@ -65,8 +65,8 @@ loop-place-preserved c =
       size = e.state.size ∙ h.size;
       watched = subst (λ (n : ℕ). AreWatched clauses n new.steps.items w') h.size e.watched;
       attached = e.attached ∙ h.attached;
-      head = e.head ∙ h.head;
-      at = subst (λ (k : ℕ). IsFalsifiedAt new.steps.items k lit) (sym e.head) (falsified-later old.steps.items new.steps.items w.head lit e.adds h.at);
+      qhead = e.qhead ∙ h.qhead;
+      at = subst (λ (k : ℕ). IsFalsifiedAt new.steps.items k lit) (sym e.qhead) (falsified-later old.steps.items new.steps.items w.qhead lit e.adds h.at);
       passed = says.0;
     }
 
@@ -81,9 +81,9 @@ returns-clause-watched c =
     let lit = c.negated-lit.result in
     let d : Step = record { lit = lit; reason = None } in
     let t = c.args.trail.now in
-    let head = c.args.watches.now.head in
-    let at = falsified-by t.steps.items head c.index.result.now lit c.requires.head c.index.ensures c.negated-lit.ensures in
-    let there = c.requires.state.exist head d c.requires.head in
+    let qhead = c.args.watches.now.qhead in
+    let at = falsified-by t.steps.items qhead c.index.result.now lit c.requires.qhead c.index.ensures c.negated-lit.ensures in
+    let there = c.requires.state.exist qhead d c.requires.qhead in
     let exist : IsLitOf (var_count t) lit = subst (IsLitOf (var_count t)) (at.is d) (record { above = there.above; within = there.within }) in
     let inside = list-within (var_count t) (length w.lists.items) lit exist h.watched.count in
     let place = c.list_place-list.ensures in
@@ -91,4 +91,4 @@ returns-clause-watched c =
     let is = list-read w.lists.items c.list_place-list.result c.index-in-loop-place.result.now lit few c.index-in-loop-place.ensures c.list_place-list.ensures in
     let size = ap length is in
     let end = c.loop-place-test.false in
-    kept-next c.args.clauses.now (var_count c.args.trail.now) c.loop-place.trail.steps.items w.lists.items w.pairs.items w.head (list_of lit) c.loop-place.place h.at.within (omega arith) h.passed h.watched
+    kept-next c.args.clauses.now (var_count c.args.trail.now) c.loop-place.trail.steps.items w.lists.items w.pairs.items w.qhead (list_of lit) c.loop-place.place h.at.within (omega arith) h.passed h.watched

@@ -10,8 +10,8 @@ invariant-loop-place l = record {
   size : var_count l.trail ≡ var_count l.initial.trail;
   watched : AreWatched l.clauses (var_count l.initial.trail) l.trail.steps.items l.watches;
   attached : length l.watches.pairs.items ≡ length l.initial.watches.pairs.items;
-  head : l.watches.head ≡ l.initial.watches.head;
-  at : IsFalsifiedAt l.trail.steps.items l.watches.head l.lit;
+  qhead : l.watches.qhead ≡ l.initial.watches.qhead;
+  at : IsFalsifiedAt l.trail.steps.items l.watches.qhead l.lit;
   passed : ArePassed l.clauses l.trail.steps.items l.watches l.lit l.place;
 }
 

@@ -25,8 +25,8 @@ returns-then-is_true-clause-says c =
     let place = c.args.place in
     let watcher = c.get-watcher.result in
     let steps = t.steps.items in
-    let v = visit-start clauses n steps w.lists.items w.pairs.items w.head l place c.list_place-list.result c.index.result.now watcher c.requires.watched c.requires.exist c.requires.lit c.requires.place c.list_place-list.ensures c.index.ensures c.get-watcher.ensures in
-    (visit-true clauses n steps t.values.items t.indices.items t.decisions.items w.lists.items w.pairs.items w.head l place watcher watcher.blocker c.requires.state v v.right.has_blocker (c.is_true.ensures.0 c.if-is_true.true) c.requires.passed, refl)
+    let v = visit-start clauses n steps w.lists.items w.pairs.items w.qhead l place c.list_place-list.result c.index.result.now watcher c.requires.watched c.requires.exist c.requires.lit c.requires.place c.list_place-list.ensures c.index.ensures c.get-watcher.ensures in
+    (visit-true clauses n steps t.values.items t.indices.items t.decisions.items w.lists.items w.pairs.items w.qhead l place watcher watcher.blocker c.requires.state v v.right.has_blocker (c.is_true.ensures.0 c.if-is_true.true) c.requires.passed, refl)
 
 pub returns-then-is_true-2-clause-says : goal.returns-then-is_true-2-clause-says
 returns-then-is_true-2-clause-says c =
@@ -38,17 +38,17 @@ returns-then-is_true-2-clause-says c =
     let place = c.args.place in
     let watcher = c.get-watcher.result in
     let steps = t.steps.items in
-    let v = visit-start clauses n steps w.lists.items w.pairs.items w.head l place c.list_place-list.result c.index.result.now watcher c.requires.watched c.requires.exist c.requires.lit c.requires.place c.list_place-list.ensures c.index.ensures c.get-watcher.ensures in
+    let v = visit-start clauses n steps w.lists.items w.pairs.items w.qhead l place c.list_place-list.result c.index.result.now watcher c.requires.watched c.requires.exist c.requires.lit c.requires.place c.list_place-list.ensures c.index.ensures c.get-watcher.ensures in
     let other = c.other_than-other.result in
-    let o = visit-other clauses n steps w.lists.items w.pairs.items w.head l place watcher c.index-old.result.now other c.requires.watched v c.index-old.ensures c.other_than-other.ensures in
+    let o = visit-other clauses n steps w.lists.items w.pairs.items w.qhead l place watcher c.index-old.result.now other c.requires.watched v c.index-old.ensures c.other_than-other.ensures in
     let w' = c.renew.new.self in
     let list = c.list_place-list.ensures in
     let lists : w'.lists.items ≡ with_blocker w.lists.items (list_of l) place other = c.renew.ensures.lists ∙ ap (λ (k : ℕ). with_blocker w.lists.items k place other) list in
-    let passed = visit-true clauses n steps t.values.items t.indices.items t.decisions.items w.lists.items w.pairs.items w.head l place watcher other c.requires.state v o.among (c.is_true-2.ensures.0 c.if-is_true-2.true) c.requires.passed in (
-      subst (λ (k : ℕ). ArePassedIn clauses steps w'.lists.items w'.pairs.items k (list_of l) (place + 1)) (sym c.renew.ensures.head)
-          (subst (λ (ls : List (List Watcher)). ArePassedIn clauses steps ls w'.pairs.items w.head (list_of l) (place + 1)) (sym lists)
-          (subst (λ (ps : Vec Pair Global). ArePassedIn clauses steps (with_blocker w.lists.items (list_of l) place other) ps.items w.head (list_of l) (place + 1)) (sym c.renew.ensures.pairs)
-          (passed-renewed clauses steps w.lists.items w.pairs.items w.head (list_of l) place (place + 1) other v.list v.within passed))),
+    let passed = visit-true clauses n steps t.values.items t.indices.items t.decisions.items w.lists.items w.pairs.items w.qhead l place watcher other c.requires.state v o.among (c.is_true-2.ensures.0 c.if-is_true-2.true) c.requires.passed in (
+      subst (λ (k : ℕ). ArePassedIn clauses steps w'.lists.items w'.pairs.items k (list_of l) (place + 1)) (sym c.renew.ensures.qhead)
+          (subst (λ (ls : List (List Watcher)). ArePassedIn clauses steps ls w'.pairs.items w.qhead (list_of l) (place + 1)) (sym lists)
+          (subst (λ (ps : Vec Pair Global). ArePassedIn clauses steps (with_blocker w.lists.items (list_of l) place other) ps.items w.qhead (list_of l) (place + 1)) (sym c.renew.ensures.pairs)
+          (passed-renewed clauses steps w.lists.items w.pairs.items w.qhead (list_of l) place (place + 1) other v.list v.within passed))),
       ap (λ (ls : List (List Watcher)). length (watchers ls (list_of l))) lists ∙ length-renewed w.lists.items (list_of l) place other v.list,
     )
 
@@ -62,16 +62,16 @@ returns-then-is_true-2-clause-watched c =
     let place = c.args.place in
     let watcher = c.get-watcher.result in
     let steps = t.steps.items in
-    let v = visit-start clauses n steps w.lists.items w.pairs.items w.head l place c.list_place-list.result c.index.result.now watcher c.requires.watched c.requires.exist c.requires.lit c.requires.place c.list_place-list.ensures c.index.ensures c.get-watcher.ensures in
+    let v = visit-start clauses n steps w.lists.items w.pairs.items w.qhead l place c.list_place-list.result c.index.result.now watcher c.requires.watched c.requires.exist c.requires.lit c.requires.place c.list_place-list.ensures c.index.ensures c.get-watcher.ensures in
     let other = c.other_than-other.result in
-    let o = visit-other clauses n steps w.lists.items w.pairs.items w.head l place watcher c.index-old.result.now other c.requires.watched v c.index-old.ensures c.other_than-other.ensures in
+    let o = visit-other clauses n steps w.lists.items w.pairs.items w.qhead l place watcher c.index-old.result.now other c.requires.watched v c.index-old.ensures c.other_than-other.ensures in
     let w' = c.renew.new.self in
     let lists : w'.lists.items ≡ with_blocker w.lists.items (list_of l) place other = c.renew.ensures.lists ∙ ap (λ (k : ℕ). with_blocker w.lists.items k place other) c.list_place-list.ensures in
     let among = subst (λ (x : Watcher). Contains (get_or clauses x.clause []) other) v.is o.among in
-    subst (λ (k : ℕ). KeepWatches clauses n steps w'.lists.items w'.pairs.items k) (sym c.renew.ensures.head)
-    (subst (λ (ls : List (List Watcher)). KeepWatches clauses n steps ls w'.pairs.items w.head) (sym lists)
-    (subst (λ (ps : Vec Pair Global). KeepWatches clauses n steps (with_blocker w.lists.items (list_of l) place other) ps.items w.head) (sym c.renew.ensures.pairs)
-    (kept-renewed clauses n steps w.lists.items w.pairs.items w.head (list_of l) place other v.list v.within among c.requires.watched)))
+    subst (λ (k : ℕ). KeepWatches clauses n steps w'.lists.items w'.pairs.items k) (sym c.renew.ensures.qhead)
+    (subst (λ (ls : List (List Watcher)). KeepWatches clauses n steps ls w'.pairs.items w.qhead) (sym lists)
+    (subst (λ (ps : Vec Pair Global). KeepWatches clauses n steps (with_blocker w.lists.items (list_of l) place other) ps.items w.qhead) (sym c.renew.ensures.pairs)
+    (kept-renewed clauses n steps w.lists.items w.pairs.items w.qhead (list_of l) place other v.list v.within among c.requires.watched)))
 
 pub replacement-requires : goal.replacement-requires
 replacement-requires c =
@@ -83,7 +83,7 @@ replacement-requires c =
     let place = c.args.place in
     let watcher = c.get-watcher.result in
     let steps = t.steps.items in
-    let v = visit-start clauses n steps w.lists.items w.pairs.items w.head l place c.list_place-list.result c.index.result.now watcher c.requires.watched c.requires.exist c.requires.lit c.requires.place c.list_place-list.ensures c.index.ensures c.get-watcher.ensures in
+    let v = visit-start clauses n steps w.lists.items w.pairs.items w.qhead l place c.list_place-list.result c.index.result.now watcher c.requires.watched c.requires.exist c.requires.lit c.requires.place c.list_place-list.ensures c.index.ensures c.get-watcher.ensures in
     let is : c.get-clause.result.now ≡ get_or clauses watcher.clause [] = sym (get_or_from_slice_get clauses watcher.clause c.get-clause.result.now [] c.get-clause.ensures) in
     record { exist = subst (All (IsLitOf n)) (sym is) v.over }
 
@@ -97,7 +97,7 @@ move_watch-requires-clause-above c =
     let place = c.args.place in
     let watcher = c.get-watcher.result in
     let steps = t.steps.items in
-    let v = visit-start clauses n steps w.lists.items w.pairs.items w.head l place c.list_place-list.result c.index.result.now watcher c.requires.watched c.requires.exist c.requires.lit c.requires.place c.list_place-list.ensures c.index.ensures c.get-watcher.ensures in
+    let v = visit-start clauses n steps w.lists.items w.pairs.items w.qhead l place c.list_place-list.result c.index.result.now watcher c.requires.watched c.requires.exist c.requires.lit c.requires.place c.list_place-list.ensures c.index.ensures c.get-watcher.ensures in
     let is : c.get-clause.result.now ≡ get_or clauses watcher.clause [] = sym (get_or_from_slice_get clauses watcher.clause c.get-clause.result.now [] c.get-clause.ensures) in
     let among = Contains-get_or c.get-clause.result.now c.in-Some.at no_literal (next-is c.in-Some.ensures).within in
     let at = All-contains (IsLitOf n) c.get-clause.result.now (get_or c.get-clause.result.now c.in-Some.at no_literal) (subst (All (IsLitOf n)) (sym is) v.over) among in
@@ -113,7 +113,7 @@ move_watch-requires-clause-new_list c =
     let place = c.args.place in
     let watcher = c.get-watcher.result in
     let steps = t.steps.items in
-    let v = visit-start clauses n steps w.lists.items w.pairs.items w.head l place c.list_place-list.result c.index.result.now watcher c.requires.watched c.requires.exist c.requires.lit c.requires.place c.list_place-list.ensures c.index.ensures c.get-watcher.ensures in
+    let v = visit-start clauses n steps w.lists.items w.pairs.items w.qhead l place c.list_place-list.result c.index.result.now watcher c.requires.watched c.requires.exist c.requires.lit c.requires.place c.list_place-list.ensures c.index.ensures c.get-watcher.ensures in
     let is : c.get-clause.result.now ≡ get_or clauses watcher.clause [] = sym (get_or_from_slice_get clauses watcher.clause c.get-clause.result.now [] c.get-clause.ensures) in
     let among = Contains-get_or c.get-clause.result.now c.in-Some.at no_literal (next-is c.in-Some.ensures).within in
     let at = All-contains (IsLitOf n) c.get-clause.result.now (get_or c.get-clause.result.now c.in-Some.at no_literal) (subst (All (IsLitOf n)) (sym is) v.over) among in
@@ -129,7 +129,7 @@ returns-then-is_false-clause-says c =
     let place = c.args.place in
     let watcher = c.get-watcher.result in
     let steps = t.steps.items in
-    let v = visit-start clauses n steps w.lists.items w.pairs.items w.head l place c.list_place-list.result c.index.result.now watcher c.requires.watched c.requires.exist c.requires.lit c.requires.place c.list_place-list.ensures c.index.ensures c.get-watcher.ensures in
+    let v = visit-start clauses n steps w.lists.items w.pairs.items w.qhead l place c.list_place-list.result c.index.result.now watcher c.requires.watched c.requires.exist c.requires.lit c.requires.place c.list_place-list.ensures c.index.ensures c.get-watcher.ensures in
     let is : c.get-clause.result.now ≡ get_or clauses watcher.clause [] = sym (get_or_from_slice_get clauses watcher.clause c.get-clause.result.now [] c.get-clause.ensures) in
     visit-falsified (assignment_of t.values.items) clauses watcher.clause c.get-clause.result.now c.other_than-other.result is v.exists c.in-None.ensures (c.is_false.ensures.0 c.if-is_false.true)
 
@@ -143,21 +143,21 @@ returns-in_ok-move_watch-in-Some-clause-watched c =
     let place = c.args.place in
     let watcher = c.get-watcher.result in
     let steps = t.steps.items in
-    let v = visit-start clauses n steps w.lists.items w.pairs.items w.head l place c.list_place-list.result c.index.result.now watcher c.requires.watched c.requires.exist c.requires.lit c.requires.place c.list_place-list.ensures c.index.ensures c.get-watcher.ensures in
+    let v = visit-start clauses n steps w.lists.items w.pairs.items w.qhead l place c.list_place-list.result c.index.result.now watcher c.requires.watched c.requires.exist c.requires.lit c.requires.place c.list_place-list.ensures c.index.ensures c.get-watcher.ensures in
     let other = c.other_than-other.result in
-    let o = visit-other clauses n steps w.lists.items w.pairs.items w.head l place watcher c.index-old.result.now other c.requires.watched v c.index-old.ensures c.other_than-other.ensures in
+    let o = visit-other clauses n steps w.lists.items w.pairs.items w.qhead l place watcher c.index-old.result.now other c.requires.watched v c.index-old.ensures c.other_than-other.ensures in
     let is : c.get-clause.result.now ≡ get_or clauses watcher.clause [] = sym (get_or_from_slice_get clauses watcher.clause c.get-clause.result.now [] c.get-clause.ensures) in
     let w' = c.move_watch.new.self in
     let pair : Pair = record { a = other; b = (get_or c.get-clause.result.now c.in-Some.at no_literal); saved = c.in-Some.at } in
     let e = c.in_ok-move_watch-in-Some.ensures in
     let removed = subst (λ (k : ℕ). IsRemoved (watchers w.lists.items k) place e.rest) c.list_place-list.ensures e.removed in
     let lists : w'.lists.items ≡ exchanged-lists w.lists.items l e.rest watcher.clause pair = e.lists ∙ ap (λ (k : ℕ). with_watcher (set w.lists.items k e.rest) (list_of pair.b) (record { clause = watcher.clause; blocker = other })) c.list_place-list.ensures in
-    let x = visit-exchange clauses n steps t.values.items t.indices.items t.decisions.items w.lists.items w.pairs.items w.head l place watcher other (get_or c.get-clause.result.now c.in-Some.at no_literal) c.in-Some.at c.get-clause.result.now
-    c.requires.state c.requires.watched c.requires.head c.requires.lit v o is (Contains-get_or c.get-clause.result.now c.in-Some.at no_literal (next-is c.in-Some.ensures).within) ((next-is c.in-Some.ensures).differ no_literal) ((next-is c.in-Some.ensures).free no_literal) in
-    subst (λ (k : ℕ). KeepWatches clauses n steps w'.lists.items w'.pairs.items k) (sym e.head)
-    (subst (λ (ls : List (List Watcher)). KeepWatches clauses n steps ls w'.pairs.items w.head) (sym lists)
-    (subst (λ (ps : List Pair). KeepWatches clauses n steps (exchanged-lists w.lists.items l e.rest watcher.clause pair) ps w.head) (sym e.pairs)
-    (kept-moved clauses n steps w.lists.items w.pairs.items w.head l place watcher.clause pair e.rest c.requires.watched x removed)))
+    let x = visit-exchange clauses n steps t.values.items t.indices.items t.decisions.items w.lists.items w.pairs.items w.qhead l place watcher other (get_or c.get-clause.result.now c.in-Some.at no_literal) c.in-Some.at c.get-clause.result.now
+    c.requires.state c.requires.watched c.requires.qhead c.requires.lit v o is (Contains-get_or c.get-clause.result.now c.in-Some.at no_literal (next-is c.in-Some.ensures).within) ((next-is c.in-Some.ensures).differ no_literal) ((next-is c.in-Some.ensures).free no_literal) in
+    subst (λ (k : ℕ). KeepWatches clauses n steps w'.lists.items w'.pairs.items k) (sym e.qhead)
+    (subst (λ (ls : List (List Watcher)). KeepWatches clauses n steps ls w'.pairs.items w.qhead) (sym lists)
+    (subst (λ (ps : List Pair). KeepWatches clauses n steps (exchanged-lists w.lists.items l e.rest watcher.clause pair) ps w.qhead) (sym e.pairs)
+    (kept-moved clauses n steps w.lists.items w.pairs.items w.qhead l place watcher.clause pair e.rest c.requires.watched x removed)))
 
 pub returns-in_ok-move_watch-in-Some-clause-says : goal.returns-in_ok-move_watch-in-Some-clause-says
 returns-in_ok-move_watch-in-Some-clause-says c =
@@ -169,21 +169,21 @@ returns-in_ok-move_watch-in-Some-clause-says c =
     let place = c.args.place in
     let watcher = c.get-watcher.result in
     let steps = t.steps.items in
-    let v = visit-start clauses n steps w.lists.items w.pairs.items w.head l place c.list_place-list.result c.index.result.now watcher c.requires.watched c.requires.exist c.requires.lit c.requires.place c.list_place-list.ensures c.index.ensures c.get-watcher.ensures in
+    let v = visit-start clauses n steps w.lists.items w.pairs.items w.qhead l place c.list_place-list.result c.index.result.now watcher c.requires.watched c.requires.exist c.requires.lit c.requires.place c.list_place-list.ensures c.index.ensures c.get-watcher.ensures in
     let other = c.other_than-other.result in
-    let o = visit-other clauses n steps w.lists.items w.pairs.items w.head l place watcher c.index-old.result.now other c.requires.watched v c.index-old.ensures c.other_than-other.ensures in
+    let o = visit-other clauses n steps w.lists.items w.pairs.items w.qhead l place watcher c.index-old.result.now other c.requires.watched v c.index-old.ensures c.other_than-other.ensures in
     let is : c.get-clause.result.now ≡ get_or clauses watcher.clause [] = sym (get_or_from_slice_get clauses watcher.clause c.get-clause.result.now [] c.get-clause.ensures) in
     let w' = c.move_watch.new.self in
     let pair : Pair = record { a = other; b = (get_or c.get-clause.result.now c.in-Some.at no_literal); saved = c.in-Some.at } in
     let e = c.in_ok-move_watch-in-Some.ensures in
     let removed = subst (λ (k : ℕ). IsRemoved (watchers w.lists.items k) place e.rest) c.list_place-list.ensures e.removed in
     let lists : w'.lists.items ≡ exchanged-lists w.lists.items l e.rest watcher.clause pair = e.lists ∙ ap (λ (k : ℕ). with_watcher (set w.lists.items k e.rest) (list_of pair.b) (record { clause = watcher.clause; blocker = other })) c.list_place-list.ensures in
-    let x = visit-exchange clauses n steps t.values.items t.indices.items t.decisions.items w.lists.items w.pairs.items w.head l place watcher other (get_or c.get-clause.result.now c.in-Some.at no_literal) c.in-Some.at c.get-clause.result.now
-    c.requires.state c.requires.watched c.requires.head c.requires.lit v o is (Contains-get_or c.get-clause.result.now c.in-Some.at no_literal (next-is c.in-Some.ensures).within) ((next-is c.in-Some.ensures).differ no_literal) ((next-is c.in-Some.ensures).free no_literal) in (
-      subst (λ (k : ℕ). ArePassedIn clauses steps w'.lists.items w'.pairs.items k (list_of l) place) (sym e.head)
-          (subst (λ (ls : List (List Watcher)). ArePassedIn clauses steps ls w'.pairs.items w.head (list_of l) place) (sym lists)
-          (subst (λ (ps : List Pair). ArePassedIn clauses steps (exchanged-lists w.lists.items l e.rest watcher.clause pair) ps w.head (list_of l) place) (sym e.pairs)
-          (passed-moved clauses n steps w.lists.items w.pairs.items w.head l place watcher.clause pair e.rest c.requires.state.trail c.requires.head c.requires.watched x removed c.requires.passed))),
+    let x = visit-exchange clauses n steps t.values.items t.indices.items t.decisions.items w.lists.items w.pairs.items w.qhead l place watcher other (get_or c.get-clause.result.now c.in-Some.at no_literal) c.in-Some.at c.get-clause.result.now
+    c.requires.state c.requires.watched c.requires.qhead c.requires.lit v o is (Contains-get_or c.get-clause.result.now c.in-Some.at no_literal (next-is c.in-Some.ensures).within) ((next-is c.in-Some.ensures).differ no_literal) ((next-is c.in-Some.ensures).free no_literal) in (
+      subst (λ (k : ℕ). ArePassedIn clauses steps w'.lists.items w'.pairs.items k (list_of l) place) (sym e.qhead)
+          (subst (λ (ls : List (List Watcher)). ArePassedIn clauses steps ls w'.pairs.items w.qhead (list_of l) place) (sym lists)
+          (subst (λ (ps : List Pair). ArePassedIn clauses steps (exchanged-lists w.lists.items l e.rest watcher.clause pair) ps w.qhead (list_of l) place) (sym e.pairs)
+          (passed-moved clauses n steps w.lists.items w.pairs.items w.qhead l place watcher.clause pair e.rest c.requires.state.trail c.requires.qhead c.requires.watched x removed c.requires.passed))),
       subst (λ (ls : List (List Watcher)). length (watchers ls (list_of l)) + 1 ≡ length (watchers w.lists.items (list_of l))) (sym lists)
           (fewer-moved clauses steps w.lists.items w.pairs.items l place watcher.clause pair e.rest x removed),
     )
@@ -198,9 +198,9 @@ returns-in_ok-assign-in-None-clause-state c =
     let place = c.args.place in
     let watcher = c.get-watcher.result in
     let steps = t.steps.items in
-    let v = visit-start clauses n steps w.lists.items w.pairs.items w.head l place c.list_place-list.result c.index.result.now watcher c.requires.watched c.requires.exist c.requires.lit c.requires.place c.list_place-list.ensures c.index.ensures c.get-watcher.ensures in
+    let v = visit-start clauses n steps w.lists.items w.pairs.items w.qhead l place c.list_place-list.result c.index.result.now watcher c.requires.watched c.requires.exist c.requires.lit c.requires.place c.list_place-list.ensures c.index.ensures c.get-watcher.ensures in
     let other = c.other_than-other.result in
-    let o = visit-other clauses n steps w.lists.items w.pairs.items w.head l place watcher c.index-old.result.now other c.requires.watched v c.index-old.ensures c.other_than-other.ensures in
+    let o = visit-other clauses n steps w.lists.items w.pairs.items w.qhead l place watcher c.index-old.result.now other c.requires.watched v c.index-old.ensures c.other_than-other.ensures in
     let is : c.get-clause.result.now ≡ get_or clauses watcher.clause [] = sym (get_or_from_slice_get clauses watcher.clause c.get-clause.result.now [] c.get-clause.ensures) in
     let r = visit-unit (assignment_of t.values.items) clauses watcher.clause c.get-clause.result.now other is v.exists o.among c.in-None.ensures (iff_false c.is_true-2.ensures c.if-is_true-2.false) (iff_false c.is_false.ensures c.if-is_false.false) in
     let right = reason-right clauses n steps t.values.items t.indices.items t.decisions.items other (watcher.clause + 1) c.requires.state c.requires.exist r in
@@ -216,13 +216,13 @@ returns-in_ok-assign-in-None-clause-watched c =
     let place = c.args.place in
     let watcher = c.get-watcher.result in
     let steps = t.steps.items in
-    let v = visit-start clauses n steps w.lists.items w.pairs.items w.head l place c.list_place-list.result c.index.result.now watcher c.requires.watched c.requires.exist c.requires.lit c.requires.place c.list_place-list.ensures c.index.ensures c.get-watcher.ensures in
+    let v = visit-start clauses n steps w.lists.items w.pairs.items w.qhead l place c.list_place-list.result c.index.result.now watcher c.requires.watched c.requires.exist c.requires.lit c.requires.place c.list_place-list.ensures c.index.ensures c.get-watcher.ensures in
     let other = c.other_than-other.result in
-    let o = visit-other clauses n steps w.lists.items w.pairs.items w.head l place watcher c.index-old.result.now other c.requires.watched v c.index-old.ensures c.other_than-other.ensures in
+    let o = visit-other clauses n steps w.lists.items w.pairs.items w.qhead l place watcher c.index-old.result.now other c.requires.watched v c.index-old.ensures c.other_than-other.ensures in
     let is : c.get-clause.result.now ≡ get_or clauses watcher.clause [] = sym (get_or_from_slice_get clauses watcher.clause c.get-clause.result.now [] c.get-clause.ensures) in
     let r = visit-unit (assignment_of t.values.items) clauses watcher.clause c.get-clause.result.now other is v.exists o.among c.in-None.ensures (iff_false c.is_true-2.ensures c.if-is_true-2.false) (iff_false c.is_false.ensures c.if-is_false.false) in
     let right = reason-right clauses n steps t.values.items t.indices.items t.decisions.items other (watcher.clause + 1) c.requires.state c.requires.exist r in
-    let done = visit-step clauses n steps c.assign.new.self.steps.items w.lists.items w.pairs.items w.head l place watcher other (watcher.clause + 1) c.requires.head.within c.in_ok-assign-in-None.ensures.steps v o.among right.1 c.requires.watched c.requires.passed in
+    let done = visit-step clauses n steps c.assign.new.self.steps.items w.lists.items w.pairs.items w.qhead l place watcher other (watcher.clause + 1) c.requires.qhead.within c.in_ok-assign-in-None.ensures.steps v o.among right.1 c.requires.watched c.requires.passed in
     done.0
 
 pub returns-in_ok-assign-in-None-clause-says : goal.returns-in_ok-assign-in-None-clause-says
@@ -235,11 +235,11 @@ returns-in_ok-assign-in-None-clause-says c =
     let place = c.args.place in
     let watcher = c.get-watcher.result in
     let steps = t.steps.items in
-    let v = visit-start clauses n steps w.lists.items w.pairs.items w.head l place c.list_place-list.result c.index.result.now watcher c.requires.watched c.requires.exist c.requires.lit c.requires.place c.list_place-list.ensures c.index.ensures c.get-watcher.ensures in
+    let v = visit-start clauses n steps w.lists.items w.pairs.items w.qhead l place c.list_place-list.result c.index.result.now watcher c.requires.watched c.requires.exist c.requires.lit c.requires.place c.list_place-list.ensures c.index.ensures c.get-watcher.ensures in
     let other = c.other_than-other.result in
-    let o = visit-other clauses n steps w.lists.items w.pairs.items w.head l place watcher c.index-old.result.now other c.requires.watched v c.index-old.ensures c.other_than-other.ensures in
+    let o = visit-other clauses n steps w.lists.items w.pairs.items w.qhead l place watcher c.index-old.result.now other c.requires.watched v c.index-old.ensures c.other_than-other.ensures in
     let is : c.get-clause.result.now ≡ get_or clauses watcher.clause [] = sym (get_or_from_slice_get clauses watcher.clause c.get-clause.result.now [] c.get-clause.ensures) in
     let r = visit-unit (assignment_of t.values.items) clauses watcher.clause c.get-clause.result.now other is v.exists o.among c.in-None.ensures (iff_false c.is_true-2.ensures c.if-is_true-2.false) (iff_false c.is_false.ensures c.if-is_false.false) in
     let right = reason-right clauses n steps t.values.items t.indices.items t.decisions.items other (watcher.clause + 1) c.requires.state c.requires.exist r in
-    let done = visit-step clauses n steps c.assign.new.self.steps.items w.lists.items w.pairs.items w.head l place watcher other (watcher.clause + 1) c.requires.head.within c.in_ok-assign-in-None.ensures.steps v o.among right.1 c.requires.watched c.requires.passed in
+    let done = visit-step clauses n steps c.assign.new.self.steps.items w.lists.items w.pairs.items w.qhead l place watcher other (watcher.clause + 1) c.requires.qhead.within c.in_ok-assign-in-None.ensures.steps v o.among right.1 c.requires.watched c.requires.passed in
     (done.1, refl)

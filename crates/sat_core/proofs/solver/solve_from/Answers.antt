@@ -14,7 +14,7 @@ use Rattle.sat_core.specs.Steps.{truth_value, assignment_of, var_count, IsTrailS
 use Rattle.sat_core.specs.Walks.{AreNoMarks}
 use Rattle.sat_core.specs.Watches.{AreWatched, KeepWatches}
 use Rattle.sat_core.proofs.Ending.{marks-none}
-use Rattle.sat_core.proofs.Watching.{kept-cut, kept-more}
+use Rattle.sat_core.proofs.Watching.{kept-backtrack, kept-more}
 use Rattle.sat_core.specs.FalseClauses.{IsFalsified}
 use Rattle.sat_core.specs.Picks.{free_list, has_var, next_score, AreScores}
 use Rattle.sat_core.proofs.Scoring.{scores-none, scores-add}
@@ -48,15 +48,15 @@ loop-made-init g c =
 
 pub learn-requires-clause-unmarked : goal.learn-requires-clause-unmarked
 learn-requires-clause-unmarked g c =
-    subst (λ (k : ℕ). AreNoMarks k c.loop-made.seen.items) (sym c.in_ok-advance.ensures.state.size) c.loop-made.invariant.unmarked
+    subst (λ (k : ℕ). AreNoMarks k c.loop-made.seen.items) (sym c.in_ok-search.ensures.state.size) c.loop-made.invariant.unmarked
 
 pub add-requires-clause-exist : goal.add-requires-clause-exist
 add-requires-clause-exist g c =
     let scored = c.loop-made.invariant.scored in
     let shown = c.in_ok-line-in-Some.ensures.shown in
-    let size : var_count c.advance.new.trail ≡ length c.advance.new.scores.counts.items =
-    c.in_ok-advance.ensures.state.size ∙ sym scored.size ∙ sym (ap (λ (v : Vec ℕ Global). length v.items) c.in_ok-advance.ensures.scores) in
-    subst (λ (lits : List Lit). All (IsLitOf (length c.advance.new.scores.counts.items)) lits) (sym c.as_slice-in-Some-2.ensures)
+    let size : var_count c.search.new.trail ≡ length c.search.new.scores.counts.items =
+    c.in_ok-search.ensures.state.size ∙ sym scored.size ∙ sym (ap (λ (v : Vec ℕ Global). length v.items) c.in_ok-search.ensures.scores) in
+    subst (λ (lits : List Lit). All (IsLitOf (length c.search.new.scores.counts.items)) lits) (sym c.as_slice-in-Some-2.ensures)
     (subst (λ (n : ℕ). All (IsLitOf n) c.in_ok-line-in-Some.line.lits) size shown.named.exist)
 
 pub add-requires-clause-differ : goal.add-requires-clause-differ
@@ -69,9 +69,9 @@ returns-in-None-clause-solved g c =
     let f = c.args.cnf.now in
     let h = c.loop-made.invariant.search in
     let clauses = c.loop-made.clauses in
-    let values = c.advance.new.trail.values.items in
-    let done = subst (λ (o : Option ℕ). MatchOption o (IsClosed (assignment_of values) clauses × (free_list values ≡ [])) (IsFalsified (assignment_of values) clauses)) c.in-None.is c.in_ok-advance.ensures.done in
-    let size : length values ≡ f.vars = c.in_ok-advance.ensures.state.size ∙ h.vars in
+    let values = c.search.new.trail.values.items in
+    let done = subst (λ (o : Option ℕ). MatchOption o (IsClosed (assignment_of values) clauses × (free_list values ≡ [])) (IsFalsified (assignment_of values) clauses)) c.in-None.is c.in_ok-search.ensures.done in
+    let size : length values ≡ f.vars = c.in_ok-search.ensures.state.size ∙ h.vars in
     search-solved f c.loop-made.lines clauses f.vars values c.in_ok-all_values-in-None.field-0 h.known' h.exist size done.0 done.1
     (c.in_ok-all_values-in-None.ensures ∙ ap (λ (vs : List Value). map (λ v. unwrap_or (truth_value v) false) vs) c.as_slice.ensures.value)
 
@@ -79,8 +79,8 @@ pub returns-then-refuted-clause-refuted : goal.returns-then-refuted-clause-refut
 returns-then-refuted-clause-refuted g c =
     let f = c.args.cnf.now in
     let clauses = c.loop-made.clauses in
-    let mid = c.advance.new.trail in
-    let h = search-moved f c.loop-made.lines clauses c.loop-made.trail mid c.loop-made.invariant.search c.in_ok-advance.ensures.state c.in_ok-advance.ensures.before in
+    let mid = c.search.new.trail in
+    let h = search-moved f c.loop-made.lines clauses c.loop-made.trail mid c.loop-made.invariant.search c.in_ok-search.ensures.state c.in_ok-search.ensures.before in
     search-refuted f c.loop-made.lines c.push-in-Some.new.self clauses mid c.in_ok-line-in-Some.line c.loop-made.made c.args.conflicts c.refutations_leave_no_solution.ensures h c.in_ok-line-in-Some.ensures.shown
     (c.is_empty-refuted.ensures.0 c.if-refuted.true) c.in_ok-push-in-Some-2.ensures.ok c.loop-made.invariant.count c.loop-made-test.true
 
@@ -88,9 +88,9 @@ pub loop-made-preserved : goal.loop-made-preserved
 loop-made-preserved g c =
     let f = c.args.cnf.now in
     let clauses = c.loop-made.clauses in
-    let mid = c.advance.new.trail in
+    let mid = c.search.new.trail in
     let line = c.in_ok-line-in-Some.line in
-    let h = search-moved f c.loop-made.lines clauses c.loop-made.trail mid c.loop-made.invariant.search c.in_ok-advance.ensures.state c.in_ok-advance.ensures.before in
+    let h = search-moved f c.loop-made.lines clauses c.loop-made.trail mid c.loop-made.invariant.search c.in_ok-search.ensures.state c.in_ok-search.ensures.before in
     let is-lines = c.in_ok-push-in-Some-2.ensures.ok in
     let is-clauses = c.in_ok-push-in-Some.ensures.ok ∙ ap (λ (lits : List Lit). clauses ++ lits ∷ []) c.as_slice-in-Some.ensures in
     let long = ap length is-lines ∙ length_push c.loop-made.lines line in
@@ -99,24 +99,24 @@ loop-made-preserved g c =
       search = search-more f c.loop-made.lines c.push-in-Some.new.self clauses c.push.new.self mid c.learn.new.trail line h c.in_ok-line-in-Some.ensures.size c.in_ok-line-in-Some.ensures.shown
           (c.in_ok-line-in-Some.ensures.goes_on (λ empty. false≢true (sym c.if-refuted.false ∙ c.is_empty-refuted.ensures.1 empty))) is-clauses is-lines;
       watched =
-          (let old = c.advance.new.watches in
+          (let old = c.search.new.watches in
           let n = var_count c.loop-made.trail in
           let back = c.in_ok-line-in-Some.ensures.back in
           let steps = c.learn.new.trail.steps.items in
-          let cut = kept-cut clauses n mid.steps.items steps old.lists.items old.pairs.items old.head back.count back.front back.decides c.in_ok-advance.ensures.watched in
-          let more = kept-more clauses (line.lits ∷ []) n steps old.lists.items old.pairs.items (min old.head (length steps)) cut in
-          let size = c.in_ok-line-in-Some.ensures.size ∙ c.in_ok-advance.ensures.state.size in
+          let backtrack = kept-backtrack clauses n mid.steps.items steps old.lists.items old.pairs.items old.qhead back.count back.front back.decides c.in_ok-search.ensures.watched in
+          let more = kept-more clauses (line.lits ∷ []) n steps old.lists.items old.pairs.items (min old.qhead (length steps)) backtrack in
+          let size = c.in_ok-line-in-Some.ensures.size ∙ c.in_ok-search.ensures.state.size in
           let m = var_count c.learn.new.trail in
           subst (λ (k : ℕ). KeepWatches c.push.new.self m steps old.lists.items old.pairs.items k)
-          (sym (c.min.ensures ∙ ap (λ (k : ℕ). min old.head k) (c.len.ensures ∙ c.learn.new.trail.steps.ok.0)))
-          (subst (λ (cs : List (List Lit)). KeepWatches cs m steps old.lists.items old.pairs.items (min old.head (length steps))) (sym is-clauses)
-          (subst (λ (k : ℕ). KeepWatches (clauses ++ line.lits ∷ []) k steps old.lists.items old.pairs.items (min old.head (length steps))) (sym size) more)));
+          (sym (c.min.ensures ∙ ap (λ (k : ℕ). min old.qhead k) (c.len.ensures ∙ c.learn.new.trail.steps.ok.0)))
+          (subst (λ (cs : List (List Lit)). KeepWatches cs m steps old.lists.items old.pairs.items (min old.qhead (length steps))) (sym is-clauses)
+          (subst (λ (k : ℕ). KeepWatches (clauses ++ line.lits ∷ []) k steps old.lists.items old.pairs.items (min old.qhead (length steps))) (sym size) more)));
       scored =
           (let n = var_count c.loop-made.trail in
-          let counts = c.advance.new.scores.counts.items in
-          let size = c.in_ok-line-in-Some.ensures.size ∙ c.in_ok-advance.ensures.state.size in
+          let counts = c.search.new.scores.counts.items in
+          let size = c.in_ok-line-in-Some.ensures.size ∙ c.in_ok-search.ensures.state.size in
           let given = c.args.scores.now in
-          let before = subst (λ (v : Vec ℕ Global). AreScores n given c.loop-made.lines v.items) (sym c.in_ok-advance.ensures.scores) c.loop-made.invariant.scored in
+          let before = subst (λ (v : Vec ℕ Global). AreScores n given c.loop-made.lines v.items) (sym c.in_ok-search.ensures.scores) c.loop-made.invariant.scored in
           let each = subst (λ (lits : List Lit). (x : ℕ) → 1 ≤ x → x ≤ length counts → get_or c.add.new.self.counts.items (x - 1) 0 ≡ next_score (has_var lits x) (get_or counts (x - 1) 0)) c.as_slice-in-Some-2.ensures c.add.ensures.counts in
           subst (λ (k : ℕ). AreScores k given c.push-in-Some.new.self c.add.new.self.counts.items) (sym size)
           (subst (λ (ls : List Line). AreScores n given ls c.add.new.self.counts.items) (sym is-lines)

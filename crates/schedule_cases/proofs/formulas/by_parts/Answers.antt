@@ -1,4 +1,5 @@
 use Rattle.std.proofs.Common.{◌≡◌, ◌∙◌, ◌≤◌, ℕ, ap, subst, sym}
+use Rattle.schedule_meaning.specs.Limits.{most_cycles}
 use Rattle.cnf_core.specs.Formula.{Formula}
 use Rattle.graph_meaning.specs.declared.graphs.LaunchGraph.{LaunchGraph}
 use Rattle.machine_table.specs.declared.tables.Table.{Table}
@@ -28,8 +29,8 @@ module _ (e : Encoding) (g : LaunchGraph) (table : Table) (k : ℕ) (p : Plan) (
   cycles_are : p.cycles ≡ k
   cycles_are = ap (λ (x : Plan). x.cycles) (of.is of.some.0 of.some.1)
 
-  few_cycles : k ≤ 24 → p.cycles ≤ 24
-  few_cycles few = subst (λ n. n ≤ 24) (sym cycles_are) few
+  few_cycles : k ≤ most_cycles → p.cycles ≤ most_cycles
+  few_cycles few = subst (λ n. n ≤ most_cycles) (sym cycles_are) few
 
   listed : (l : Listed) → AreListed p.encoding g table p.cycles l → AreListed e g table k l
   listed l are =

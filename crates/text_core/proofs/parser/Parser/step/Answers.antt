@@ -16,7 +16,7 @@ any = record { kind = kinds.Opening; place = 0; len = 0 }
 pub fault_inside-fault-requires-clause-inside : goal.fault_inside-fault-requires-clause-inside
 fault_inside-fault-requires-clause-inside c =
     let outer = c.args.self.now.outer in
-    let counted : length outer.items ≡ 64 = omega (arith, outer.ok.0, c.len.ensures, c.if-len-eq-MOST_DEPTH.true) in
+    let counted : length outer.items ≡ 64 = omega (arith, outer.ok.0, c.len.ensures, c.if-len-eq-MOST_NESTING.true) in
     let first = first_of outer.items c.index.result.now (omega arith) c.index.ensures in
     read_still (frame_of c.index.result.now) (map frame_of first.0) (map frame_of outer.items) (map sexp_tree c.args.self.now.parts.items) c.args.tokens.now c.args.at c.index.result.now.place 64 (ap (map frame_of) first.1) refl (omega (arith, counted, length-map outer.items frame_of)) (record { built = c.requires.parsed.built; nested = c.requires.parsed.nested })
 
@@ -31,7 +31,7 @@ pub returns-in_ok-enter-in-Opening-clause-parsed : goal.returns-in_ok-enter-in-O
 unfolding any
 returns-in_ok-enter-in-Opening-clause-parsed c =
     let outer = c.args.self.now.outer in
-    let room : length (map frame_of outer.items) ≡ 64 → ⊥ = λ full. c.if-len-eq-MOST_DEPTH.false (omega (arith, full, length-map outer.items frame_of, outer.ok.0, c.len.ensures)) in
+    let room : length (map frame_of outer.items) ≡ 64 → ⊥ = λ full. c.if-len-eq-MOST_NESTING.false (omega (arith, full, length-map outer.items frame_of, outer.ok.0, c.len.ensures)) in
     let read = read_opening (map frame_of outer.items) (map sexp_tree c.args.self.now.parts.items) c.args.tokens.now c.args.at any (record { built = c.requires.parsed.built; nested = c.requires.parsed.nested }) c.requires.within (map frame_of c.enter.new.self.outer.items) (map sexp_tree c.enter.new.self.parts.items) c.in-Opening.is room c.in_ok-enter-in-Opening.ensures.outer c.in_ok-enter-in-Opening.ensures.parts in
     record { built = read.built; nested = read.nested }
 
