@@ -1,21 +1,27 @@
 -- What the check of a code comes to, from what its calls promise.
-use Rattle.std.proofs.Common.{◌≡◌, ℕ, ◌+◌, ◌-◌, ◌*◌, ◌<◌, ◌≤◌, ◌^◌, ◌∙◌, List, [], ◌∷◌, map, length, get_or, Result, Ok, Err, Option, Some, None, refl, sym, ap, subst, arith}
+use Rattle.std.proofs.Common.{◌≡◌, ℕ, zero, suc, ◌+◌, ◌-◌, ◌*◌, ◌<◌, ◌≤◌, ◌^◌, ◌∙◌, List, [], ◌∷◌, ◌++◌, map, length, get_or, Result, Ok, Err, Option, Some, None, refl, sym, ap, subst, arith}
 use Rattle.std.specs.Prelude.{All, Contains, IfOk, IfSome, MatchOption, slice_get}
-use Rattle.std.proofs.lemmas.List.{get_or-map, length-map}
-use Rattle.std.proofs.lemmas.List.Elements.{All-weaker, Contains-get_or}
+use Rattle.std.proofs.lemmas.List.{get_or-map, length-map, length_push}
+use Rattle.std.proofs.lemmas.List.Elements.{All-weaker, Contains-append_left, Contains-append_right, Contains-get_or}
 use Rattle.std.proofs.lemmas.Option.{slice_get_read, slice_get_within}
 use Rattle.word_ops.specs.declared.sorts.Op.{Op}
+use Rattle.word_ops.specs.declared.sorts.Sort.{Sort}
 use Rattle.word_ops.specs.declared.sorts.Sort.TheVariants as sorts
-use Rattle.word_terms.specs.Tree.{AreBelow, Tree}
+use Rattle.word_terms.specs.Tree.{AreBelow, Tree, substituted}
+use Rattle.pattern_match.specs.Classes.{IsClass}
+use Rattle.std.specs.List.{AllZip}
+use Rattle.std.proofs.lemmas.Slice.Zip.{AllZip-long}
 use Rattle.egraph.specs.Graph.{Graph}
 use Rattle.alpha_encode.specs.Decoded.{decoded}
 use Rattle.alpha_encode.specs.declared.instructions.Instr.{Instr}
-use Rattle.goal_meaning.specs.Views.{GoalTree, InputTree, TargetTree, goal_view, target_view}
-use Rattle.goal_meaning.specs.WellFormed.{IsGoal, IsGoalTerm, IsTarget}
+use Rattle.goal_meaning.specs.Expanded.{expanded, expanded_terms, let_terms, let_values}
+use Rattle.goal_meaning.specs.Views.{LetTree, GoalTree, InputTree, TargetTree, goal_view, target_view}
+use Rattle.goal_meaning.specs.WellFormed.{AreLets, IsGoal, IsGoalTerm, IsTarget, let_sorts, sort_of_tree, sorts_of_lets}
+use Rattle.goal_meaning.specs.declared.goals.DeclaredOp.{DeclaredOp}
 use Rattle.goal_meaning.specs.declared.goals.Goal.{Goal}
 use Rattle.goal_meaning.specs.declared.goals.InputReg.{InputReg}
 use Rattle.saturation.specs.AtStart.{IsHopelessAtStart, StartFaultIs, StartNamesLowClass, most_rows_at_start}
-use Rattle.saturation.specs.GoalTerms.{rules_of}
+use Rattle.saturation.specs.GoalTerms.{entry_term, guard_terms, input_terms, kept_terms, rules_of, set_terms}
 use Rattle.saturation.specs.Rounds.{IsHopeless, IsImpossible, RoundsNameLowClass, SaturateFaultIs}
 use Rattle.saturation.specs.declared.faults.SaturateFault.{SaturateFault}
 use Rattle.saturation.specs.declared.faults.SaturateFault.TheVariants as round_faults
@@ -55,18 +61,75 @@ map_same (x ∷ xs) (y ∷ ys) e =
     tail_same : (o p : Option Instr) (os ps : List (Option Instr)) → o ∷ os ≡ p ∷ ps → os ≡ ps
     tail_same o p os ps e = cc
 
--- ---- the goal's terms have no variables
+-- ---- the goal's terms have only lets for variables
+
+sorts_long : (before : List Sort) (ts : List (Tree Op)) → length (sorts_of_lets before ts) ≡ length before + length ts
+sorts_long before [] = omega arith
+sorts_long before (t ∷ ts) =
+    let more = sorts_long (before ++ sort_of_tree before t ∷ []) ts in
+    let one = length_push before (sort_of_tree before t) in
+    omega (arith, more, one)
+
+lets_below : (declared : List DeclaredOp) (inputs : List InputReg) (before : List Sort) (ts : List (Tree Op)) → AreLets declared inputs before ts
+    → (k : ℕ) (d : Tree Op) → k < length ts → AreBelow (length before + k) (get_or ts k d)
+lets_below declared inputs before [] h k d lt = absurd (omega (arith, lt))
+lets_below declared inputs before (t ∷ ts) h zero d lt =
+    let same : length before ≡ length before + 0 = omega arith in
+    subst (λ n. AreBelow n t) same (sort_below before _ t h.0.sorted)
+lets_below declared inputs before (t ∷ ts) h (suc k) d lt =
+    let one = length_push before (sort_of_tree before t) in
+    subst (λ n. AreBelow n (get_or ts k d)) (let same : length (before ++ sort_of_tree before t ∷ []) + k ≡ length before + suc k = omega (arith, one) in same)
+    (lets_below declared inputs (before ++ sort_of_tree before t ∷ []) ts h.1 k d (omega (arith, lt)))
 
 module _ (input : InputTree) (goal : GoalTree) (is : IsGoal input.ops goal) where
   pub goal_below : IsGoalBelow goal
   goal_below = record {
+    lets = λ k d lt.
+        subst (λ n. AreBelow n (get_or (let_values goal.lets) k d)) (let same : 0 + k ≡ k = omega arith in same)
+        (lets_below input.ops goal.inputs [] (let_values goal.lets) is.lets k d lt);
     guard = guard_below goal.guard is.guard;
-    sets = All-weaker (IsTarget input.ops goal) (λ (t : TargetTree). AreBelow 0 t.value) (λ t h. sort_below [] _ t.value h.sorted) goal.sets is.sets;
+    sets = All-weaker (IsTarget input.ops goal) (λ (t : TargetTree). AreBelow (length goal.lets) t.value) (λ t h. term_below _ t.value h) goal.sets is.sets;
   }
     where
-      guard_below : (o : Option (Tree Op)) → IfSome o (IsGoalTerm input.ops goal sorts.Word) → IfSome o (AreBelow 0)
+      as_long : length (let_sorts goal) ≡ length goal.lets
+      as_long =
+          let all = sorts_long [] (let_values goal.lets) in
+          let each : length (let_values goal.lets) ≡ length goal.lets = length-map goal.lets (λ (l : LetTree). l.value) in
+          omega (arith, all, each)
+
+      term_below : (sort : Sort) (t : Tree Op) → IsGoalTerm input.ops goal sort t → AreBelow (length goal.lets) t
+      term_below sort t h = subst (λ n. AreBelow n t) as_long (sort_below (let_sorts goal) sort t h.sorted)
+
+      guard_below : (o : Option (Tree Op)) → IfSome o (IsGoalTerm input.ops goal sorts.Word) → IfSome o (AreBelow (length goal.lets))
       guard_below None h = tt
-      guard_below (Some t) h = sort_below [] _ t h.sorted
+      guard_below (Some t) h = term_below sorts.Word t h
+
+-- what a let stands for is among the terms that the graph keeps
+pub let_there : (goal : GoalTree) (more : List (Tree Op)) (k : ℕ) (d : Tree Op) → k < length (let_terms goal)
+    → Contains (kept_terms goal ++ more) (get_or (let_terms goal) k d)
+let_there goal more k d lt =
+    let t = get_or (let_terms goal) k d in
+    let front = entry_term ∷ input_terms goal.inputs in
+    let guards = guard_terms (expanded goal).guard in
+    Contains-append_left (kept_terms goal) more t
+    (Contains-append_left (front ++ let_terms goal ++ guards) (set_terms (expanded goal).sets) t
+    (Contains-append_left (front ++ let_terms goal) guards t
+    (Contains-append_right front (let_terms goal) t (Contains-get_or (let_terms goal) k d lt))))
+
+terms_long : (before ts : List (Tree Op)) → length (expanded_terms before ts) ≡ length before + length ts
+terms_long before [] = omega arith
+terms_long before (t ∷ ts) =
+    let more = terms_long (before ++ substituted before t ∷ []) ts in
+    let one = length_push before (substituted before t) in
+    omega (arith, more, one)
+
+-- each let has a class
+pub as_many : (goal : GoalTree) (g : Graph Op) (lets : List ℕ) → AllZip (IsClass g []) (let_terms goal) lets → length lets ≡ length goal.lets
+as_many goal g lets zip =
+    let long = AllZip-long (IsClass g []) (let_terms goal) lets zip in
+    let terms : length (let_terms goal) ≡ length (let_values goal.lets) = (let h = terms_long [] (let_values goal.lets) in omega (arith, h)) in
+    let each : length (let_values goal.lets) ≡ length goal.lets = length-map goal.lets (λ (l : LetTree). l.value) in
+    omega (arith, long, terms, each)
 
 -- ---- answers for each input
 
@@ -150,10 +213,10 @@ module _ (input : InputTree) (code : Code) (rounds nodes : ℕ) where
 
     -- what the comparison gives
     module _ (g : Graph Op) (j : ℕ) (stop : Stop) (compared : IsCompared input goal instrs rounds nodes g j stop)
-        (does : Same g goal instrs code.places → DoesGoal input goal code.words code.places) where
+        (does : Same g (expanded goal) instrs code.places → DoesGoal input goal code.words code.places) where
       pub answered :
           (found : Option Part) (answer : Verified) →
-          MatchOption found (Same g goal instrs code.places) (IsFirstDifferent g goal instrs code.places) →
+          MatchOption found (Same g (expanded goal) instrs code.places) (IsFirstDifferent g (expanded goal) instrs code.places) →
           IsAnswerOf j stop found answer →
           IsVerified input goal instrs code rounds nodes answer
       answered None answer same e =

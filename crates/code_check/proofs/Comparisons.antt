@@ -1,21 +1,22 @@
 -- What comparisons of classes tell of terms.
 use Rattle.std.proofs.Common.{◌≡◌, ◌≢◌, ℕ, zero, suc, ◌+◌, ◌<◌, ◌≤◌, List, [], ◌∷◌, length, map, take, get_or, refl, sym, ◌∙◌, ap, subst, inl, inr, arith, Bool, true, false, cond, Option, Some, None}
 use Rattle.std.specs.Prelude.{IsTrue, ◌↔◌, All, AllPairs, Contains, MatchOption, is_some, not, slice_get, slice_index, slice_index_or, if◌then◌else◌}
-use Rattle.std.specs.List.{find}
+use Rattle.std.specs.List.{find, AllZip}
 use Rattle.std.specs.Option.{option_map_or}
 use Rattle.std.proofs.lemmas.Bool.Decides.{eqb_tells}
 use Rattle.std.proofs.lemmas.Bool.{cases_lt}
 use Rattle.std.proofs.lemmas.List.{get_or-map, length-map, take_all}
-use Rattle.std.proofs.lemmas.List.Elements.{All-contains}
+use Rattle.std.proofs.lemmas.List.Elements.{All-cons, All-contains}
 use Rattle.std.proofs.lemmas.Option.{none-some, same_Some, slice_get_read}
 use Rattle.word_ops.specs.declared.sorts.Op.{Op}
 use Rattle.word_ops.specs.declared.sorts.Op.TheVariants.{Constant, Input}
 use Rattle.word_terms.specs.Keys.{op_signature}
-use Rattle.word_terms.specs.Tree.{AreBelow, Tree, application, none}
+use Rattle.word_terms.specs.Tree.{AreBelow, Tree, application, none, substituted}
 use Rattle.word_terms.specs.View.{tree_of}
 use Rattle.word_terms.specs.Building.{constant}
-use Rattle.egraph.specs.Graph.{Graph, IsGraph, Agree, HasRow, LacksRow, read_through}
-use Rattle.pattern_match.specs.Classes.{IsClass, at_row, no_classes}
+use Rattle.egraph.specs.Graph.{Graph, HasClass, IsGraph, Agree, HasRow, LacksRow, read_through}
+use Rattle.pattern_match.specs.Classes.{IsClass, at_row, at_variable, no_classes}
+use Rattle.goal_meaning.specs.Expanded.{expanded_target}
 use Rattle.goal_meaning.specs.Outcomes.{is_memory}
 use Rattle.goal_meaning.specs.Views.{TargetTree, target_view}
 use Rattle.goal_meaning.specs.declared.goals.Set.{Set}
@@ -305,16 +306,25 @@ module _ (sets : List Set) (i : ℕ) (set : Set) (lt : i < length sets) (is : se
   pub set_there : slice_get (map target_view sets) i ≡ Some (target_view set)
   set_there = slice_get_read (map target_view sets) (length (map target_view sets)) i (target_view set) refl below view_at
 
-  pub target_below : AreTargetsBelow (map target_view sets) → AreBelow 0 (tree_of set.value)
-  target_below all = subst (λ (t : TargetTree). AreBelow 0 t.value) (sym view_at) (all i (target_view set) below)
+  pub set_over : (es : List (Tree Op)) → slice_get (map (expanded_target es) (map target_view sets)) i ≡ Some (expanded_target es (target_view set))
+  set_over es =
+      let f = expanded_target es in
+      let ts = map target_view sets in
+      let within : i < length (map f ts) = subst (λ n. i < n) (sym (length-map ts f)) below in
+      slice_get_read (map f ts) (length (map f ts)) i (f (target_view set)) refl within
+      (ap f view_at ∙ sym (get_or-map f ts i (target_view set) (f (target_view set)) below))
+
+  pub target_below : (n : ℕ) → AreTargetsBelow n (map target_view sets) → AreBelow n (tree_of set.value)
+  target_below n all = subst (λ (t : TargetTree). AreBelow n t.value) (sym view_at) (all i (target_view set) below)
 
 -- the last one was compared
 pub no_more :
-    (g : Graph Op) (places : List At) (sets : List Set) (ts : TermState) (i : ℕ) →
+    (g : Graph Op) (places : List At) (sets : List Set) (es : List (Tree Op)) (ts : TermState) (i : ℕ) →
     length sets ≤ i →
-    AreSameBelow g places (map target_view sets) ts i →
-    IsFirstDifferentTarget g places (map target_view sets) ts None
-no_more g places sets ts i le same j t l there word = same j t (let n = length-map sets target_view in omega (arith, l, le, n)) there word
+    AreSameBelow g places (map (expanded_target es) (map target_view sets)) ts i →
+    IsFirstDifferentTarget g places (map (expanded_target es) (map target_view sets)) ts None
+no_more g places sets es ts i le same j t l there word =
+    same j t (let n = length-map sets target_view in let m = length-map (map target_view sets) (expanded_target es) in omega (arith, l, le, n, m)) there word
 
 -- no register is named
 pub none_named :
@@ -360,6 +370,32 @@ no_memory (x ∷ xs) all =
     ap (λ b. option_map_or (λ (y : TargetTree). y.value) (cond b (Some x) (find is_memory xs)) entry_term) (all 0 x (omega arith) refl)
     ∙ no_memory xs (λ j u l at. all (suc j) u (omega (arith, l)) at)
 
-pub no_memory_before : (sets : List Set) (i : ℕ) → length sets ≤ i → NoMemoryBefore (map target_view sets) i → memory_target_term (map target_view sets) ≡ entry_term
-no_memory_before sets i le before =
-    no_memory (map target_view sets) (λ j t l there. before j t (let n = length-map sets target_view in omega (arith, l, le, n)) there)
+pub no_memory_before : (sets : List Set) (es : List (Tree Op)) (i : ℕ) → length sets ≤ i → NoMemoryBefore (map (expanded_target es) (map target_view sets)) i → memory_target_term (map (expanded_target es) (map target_view sets)) ≡ entry_term
+no_memory_before sets es i le before =
+    no_memory (map (expanded_target es) (map target_view sets))
+    (λ j t l there. before j t (let n = length-map sets target_view in let m = length-map (map target_view sets) (expanded_target es) in omega (arith, l, le, n, m)) there)
+
+-- ---- terms over lets
+
+-- a term over classes of lets has the class of the term without lets, and that alone
+abbrev pub AreTheirTerms : Type 0
+AreTheirTerms =
+    (g : Graph Op) (es : List (Tree Op)) (lets : List ℕ) (t : Tree Op) (c : ℕ) → IsGraph op_signature g → AllZip (IsClass g []) es lets →
+    AreBelow (length lets) t → (IsClass g lets t c ↔ IsClass g [] (substituted es t) c)
+
+-- a class of a term without variables is that of a row
+has_class : (g : Graph Op) {t : Tree Op} {c : ℕ} → IsClass g [] t c → HasClass g c
+has_class g (at_variable l) = absurd (omega (arith, l))
+has_class g (at_row {op = op} {cs = cs} {c = c} h k) = record { row = record { op = op; operands = cs; class = c }; there = k; is = refl }
+
+pub have_class : (g : Graph Op) (es : List (Tree Op)) (lets : List ℕ) → AllZip (IsClass g []) es lets → All (HasClass g) lets
+have_class g es [] zip = λ k d l. absurd (omega (arith, l))
+have_class g [] (c ∷ lets) zip = absurd zip
+have_class g (e ∷ es) (c ∷ lets) zip = All-cons (HasClass g) c lets (has_class g zip.0) (have_class g es lets zip.1)
+
+pub found_over :
+    AreTheirTerms → (g : Graph Op) → IsGraph op_signature g → (es : List (Tree Op)) (lets : List ℕ) (t : Tree Op) (found : Option ℕ) →
+    AreBelow (length lets) t → MatchOption found ((c : ℕ) → IsClass g lets t c → ⊥) (IsClass g lets t) → AllZip (IsClass g []) es lets →
+    FindsClass g (substituted es t) found
+found_over law g is es lets t None below h zip = λ c k. h c ((law g es lets t c is zip below).1 k)
+found_over law g is es lets t (Some c) below h zip = (law g es lets t c is zip below).0 h

@@ -212,7 +212,7 @@ module _ (last : (n : ℕ) (instrs : List Instr) (s : MachineState) → after (s
   by_guard None none = fall_case (λ at ra lt branch. absurd (none at ra branch))
   by_guard (Some guard) b = by_branch b.at b.register b.branch guard b.one
 
-  pub decided : HasOutcome declared goal w words places (outcome declared w goal)
+  pub decided : HasOutcome declared goal w words places (if is_left declared w goal.guard then exit else fall (new_words declared w goal.sets) (new_memory declared w goal.sets))
   decided = by_guard goal.guard guard_part
 
 pub inputs_low : (inputs : List InputReg) (pool : List ℕ) → All (λ r. r < 31) (map (λ (i : InputReg). i.reg) inputs ++ pool) → All (λ (i : InputReg). i.reg < 31) inputs

@@ -6,6 +6,7 @@ use Rattle.word_terms.specs.Keys.{op_signature}
 use Rattle.word_terms.specs.Tree.{Tree}
 use Rattle.egraph.specs.Graph.{Graph, IsGraph}
 use Rattle.alpha_encode.specs.declared.instructions.Instr.{Instr}
+use Rattle.goal_meaning.specs.Expanded.{expanded}
 use Rattle.goal_meaning.specs.Views.{GoalTree, InputTree}
 use Rattle.saturation.specs.Derives.{Derives}
 use Rattle.saturation.specs.GoalTerms.{assumed_pairs, entry_term, input_term, rules_of}
@@ -104,15 +105,15 @@ module _ (input : InputTree) (goal : GoalTree) (instrs : List Instr) (rounds nod
     ]
 
     module _ (code : Code) where
-      none_differs : (g h : Graph Op) (j k : ℕ) (stop reason : Stop) (part : Part) → Compared g j stop → Compared h k reason → Same g goal instrs code.places → IsFirstDifferent h goal instrs code.places part → ⊥
+      none_differs : (g h : Graph Op) (j k : ℕ) (stop reason : Stop) (part : Part) → Compared g j stop → Compared h k reason → Same g (expanded goal) instrs code.places → IsFirstDifferent h (expanded goal) instrs code.places part → ⊥
       none_differs g h j k stop reason part first second same different =
-          different.differs (same_part g h (keeps g h j k stop reason first second) goal instrs code.places part
-          (middle (IsSamePart g goal instrs code.places) (compared_parts goal) different.before different.behind part different.order same))
+          different.differs (same_part g h (keeps g h j k stop reason first second) (expanded goal) instrs code.places part
+          (middle (IsSamePart g (expanded goal) instrs code.places) (compared_parts (expanded goal)) different.before different.behind part different.order same))
 
-      one_part : (g h : Graph Op) (j k : ℕ) (stop reason : Stop) (part other : Part) → Compared g j stop → Compared h k reason → IsFirstDifferent g goal instrs code.places part → IsFirstDifferent h goal instrs code.places other → part ≡ other
+      one_part : (g h : Graph Op) (j k : ℕ) (stop reason : Stop) (part other : Part) → Compared g j stop → Compared h k reason → IsFirstDifferent g (expanded goal) instrs code.places part → IsFirstDifferent h (expanded goal) instrs code.places other → part ≡ other
       one_part g h j k stop reason part other first second different also =
-          first_fails_once (IsSamePart g goal instrs code.places) (IsSamePart h goal instrs code.places)
-          (same_part g h (keeps g h j k stop reason first second) goal instrs code.places) (same_part h g (keeps h g k j reason stop second first) goal instrs code.places)
+          first_fails_once (IsSamePart g (expanded goal) instrs code.places) (IsSamePart h (expanded goal) instrs code.places)
+          (same_part g h (keeps g h j k stop reason first second) (expanded goal) instrs code.places) (same_part h g (keeps h g k j reason stop second first) (expanded goal) instrs code.places)
           different.before different.behind part also.before also.behind other (sym different.order ∙ also.order) different.same different.differs also.same also.differs
 
       pub one_answer : (x y : Verified) → IsVerified input goal instrs code rounds nodes x → IsVerified input goal instrs code rounds nodes y → AreOneAnswer x y

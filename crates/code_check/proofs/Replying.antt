@@ -2,11 +2,12 @@
 use Rattle.std.proofs.Common.{◌≡◌, ℕ, suc, ◌+◌, ◌<◌, ◌||◌, ◌++◌, if◌then◌else◌, Bool, true, false, All, Some, List, [], ◌∷◌, length, map, refl, sym, ap, ap₂, ◌∙◌, subst, arith, slice_get}
 use Rattle.std.specs.List.{list_any}
 use Rattle.std.specs.Option.{option_map_or}
-use Rattle.std.proofs.lemmas.List.{flat_map_more, get_or_at}
+use Rattle.std.proofs.lemmas.List.{flat_map_more, get_or_at, length-map}
 use Rattle.std.proofs.lemmas.List.Elements.{All-append, All-cons, All-get_or, All-map, All-nil}
 use Rattle.std.proofs.lemmas.List.Folds.{list_any-append}
 use Rattle.text_core.specs.LineTexts.{Words, line_text, lines_text}
 use Rattle.alpha_encode.specs.declared.instructions.Instr.{Instr}
+use Rattle.goal_meaning.specs.Expanded.{expanded, expanded_target, let_terms}
 use Rattle.goal_meaning.specs.Outcomes.{is_memory}
 use Rattle.goal_meaning.specs.Views.{GoalTree, InputTree, TargetTree}
 use Rattle.code_check.specs.Codes.{IsCodeOf}
@@ -14,6 +15,7 @@ use Rattle.code_check.specs.Replies.{AreReplies, AreSaid, CanBeSaid, IsPartOf, I
 use Rattle.code_check.specs.Same.{compared_parts, word_targets_from}
 use Rattle.code_check.specs.Verified.{IsRightFor, IsVerified}
 use Rattle.code_check.specs.declared.codes.Code.{Code}
+use Rattle.code_check.specs.declared.codes.Part.{Part}
 use Rattle.code_check.specs.declared.codes.Part.TheVariants as parts
 use Rattle.code_check.specs.declared.codes.Verified.{Verified}
 use Rattle.code_check.specs.declared.codes.Verified.TheVariants.{Yes, Unknown, NoWorld}
@@ -54,10 +56,17 @@ middle P all before behind x e h =
     within [] = omega arith
     within (y ∷ ys) = (let l = within ys in omega (arith, l))
 
+-- the goal without lets has the goal's targets
+of_goal : (goal : GoalTree) (part : Part) → IsPartOf (expanded goal) part → IsPartOf goal part
+of_goal goal parts.Guard h = h
+of_goal goal parts.Exit h = h
+of_goal goal (parts.Set i) h = subst (λ n. i < n) (length-map goal.sets (expanded_target (let_terms goal))) h
+of_goal goal parts.Memory h = h
+
 pub can_be_said : (input : InputTree) (goal : GoalTree) (instrs : List Instr) (code : Code) (rounds nodes : ℕ) (answer : Verified) → IsVerified input goal instrs code rounds nodes answer → CanBeSaid goal answer
 can_be_said input goal instrs code rounds nodes Yes h = tt
 can_be_said input goal instrs code rounds nodes (Unknown j stop part) h =
-    (let d = h.2 in middle (IsPartOf goal) (compared_parts goal) d.before d.behind part d.order (parts_are goal))
+    (let d = h.2 in of_goal goal part (middle (IsPartOf (expanded goal)) (compared_parts (expanded goal)) d.before d.behind part d.order (parts_are (expanded goal))))
 can_be_said input goal instrs code rounds nodes (NoWorld class a b) h = tt
 
 -- ---- one more line

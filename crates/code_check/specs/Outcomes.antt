@@ -8,6 +8,7 @@ use Rattle.alpha_encode.specs.declared.instructions.Instr.{Instr}
 use Rattle.alpha_machine.specs.States.{MachineState}
 use Rattle.alpha_machine.specs.Runs.{Runs, AllMayStand}
 use Rattle.alpha_machine.specs.declared.running.End.TheVariants.{Fall, Exit}
+use Rattle.goal_meaning.specs.Expanded.{expanded}
 use Rattle.goal_meaning.specs.Holds.{HoldsFor, goal_value}
 use Rattle.goal_meaning.specs.Outcomes.{Outcome, exit, fall, outcome, is_memory}
 use Rattle.goal_meaning.specs.Views.{GoalTree, InputTree, TargetTree}
@@ -61,4 +62,4 @@ DoesGoal input goal words places =
     (world : World) →
     IsWorld world →
     HoldsFor input goal world →
-    HasOutcome input.ops goal world words places (outcome input.ops world goal)
+    HasOutcome input.ops (expanded goal) world words places (outcome input.ops world goal)

@@ -1,4 +1,4 @@
--- When code and goal are the same in a graph: parts, in their order, each of which compares classes of terms. From
+-- When code and a goal without lets are the same in a graph: parts, in their order, each of which compares classes of terms. From
 -- Denali (PLDI 2002), in whose graph terms of one class have one value.
 use Rattle.std.specs.Prelude.{◌≡◌, ℕ, ℤ, ◌+◌, if◌then◌else◌, List, [], ◌∷◌, ◌++◌, length, map, slice_get, Option, Some, None, All, Contains}
 use Rattle.std.specs.Option.{option_map_or}

@@ -8,6 +8,7 @@ use Rattle.word_terms.specs.Tree.{Tree}
 use Rattle.egraph.specs.Graph.{Graph, IsGraph}
 use Rattle.alpha_encode.specs.Decoded.{decoded}
 use Rattle.alpha_encode.specs.declared.instructions.Instr.{Instr}
+use Rattle.goal_meaning.specs.Expanded.{expanded}
 use Rattle.goal_meaning.specs.Holds.{HoldsFor}
 use Rattle.goal_meaning.specs.Views.{GoalTree, InputTree}
 use Rattle.saturation.specs.Derives.{IsClash}
@@ -58,7 +59,7 @@ pub record IsYes (input : InputTree) (goal : GoalTree) (instrs : List Instr) (co
   pub round : ℕ
   pub stop : Stop
   pub compared : IsCompared input goal instrs rounds nodes graph round stop
-  pub same : Same graph goal instrs code.places
+  pub same : Same graph (expanded goal) instrs code.places
   pub does_goal : DoesGoal input goal code.words code.places
 
 -- an answer that is right
@@ -67,7 +68,7 @@ IsVerified input goal instrs code rounds nodes Yes = IsYes input goal instrs cod
 IsVerified input goal instrs code rounds nodes (Unknown j stop part) =
     (g : Graph Op)
     × IsCompared input goal instrs rounds nodes g j stop
-    × IsFirstDifferent g goal instrs code.places part
+    × IsFirstDifferent g (expanded goal) instrs code.places part
 IsVerified input goal instrs code rounds nodes (NoWorld class a b) =
     HasNoWorld input goal instrs rounds nodes a b × (class < 2 ^ 31)
 

@@ -1,7 +1,12 @@
 // The parts of a code and of its goal, compared by the classes that their terms have after the rounds.
-ghost use Rattle.std.specs.Prelude.{◌≡◌, ◌≢◌, ◌<◌, ◌^◌, ℕ, length, map, All, AllPairs, IfOk, IfSome, IsTrue, ◌↔◌, Some, option_map};
-ghost use Rattle.word_terms.specs.Tree.{AreBelow, application, none};
+ghost use Rattle.std.specs.Prelude.{◌≡◌, ◌≢◌, ◌<◌, ◌^◌, ℕ, [], List, length, map, All, AllPairs, IfOk, IfSome, IsTrue, ◌↔◌, Some, option_map};
+ghost use Rattle.std.specs.List.{AllZip};
+ghost use Rattle.word_ops.specs.declared.sorts.Op.{Op as TermOperator};
+ghost use Rattle.word_terms.specs.Tree.{AreBelow, Tree, application, none, substituted};
 ghost use Rattle.word_terms.specs.View.{tree_of};
+ghost use Rattle.egraph.specs.Graph.{HasClass};
+ghost use Rattle.pattern_match.specs.Classes.{IsClass};
+ghost use Rattle.goal_meaning.specs.Expanded.{expanded_target};
 ghost use Rattle.goal_meaning.specs.Outcomes.{is_memory};
 ghost use Rattle.goal_meaning.specs.Views.{target_view};
 ghost use Rattle.saturation.specs.GoalTerms.{input_term};
@@ -17,6 +22,7 @@ use egraph::Egraph;
 use goal_meaning::{InputReg, Set};
 use items::NoMemory;
 use pattern_match::{class_of_pattern, terms_have_one_class};
+use saturation::lets_are_their_terms;
 use std::alloc::Global;
 use word_ops::Op;
 use word_terms::Term;
@@ -28,13 +34,22 @@ pub(crate) fn find_leaf(graph: &Egraph<Op>, op: Op) -> Option<u32>
     graph.class_of(op, &[])
 }
 
-fn find_term(alloc: Global, graph: &Egraph<Op>, term: &Term<Op>) -> Result<Option<u32>, NoMemory>
-    requires below { AreBelow 0 (tree_of term.now) }
-    ensures { IfOk result (FindsClass graph.now (tree_of term.now)) }
+/// The class of a term, whose lets have these classes.
+fn find_term(
+    alloc: Global,
+    graph: &Egraph<Op>,
+    lets: &[u32],
+    term: &Term<Op>,
+) -> Result<Option<u32>, NoMemory>
+    requires present { All (HasClass graph.now) lets.now }
+    requires below { AreBelow (length lets.now) (tree_of term.now) }
+    ensures { IfOk result (λ found. (es : List (Tree TermOperator)) → AllZip (IsClass graph.now []) es lets.now →
+        FindsClass graph.now (substituted es (tree_of term.now)) found) }
 {
+    lets_are_their_terms();
     // A graph keeps its invariant, which is known here once one of its methods was called.
     let _made = graph.made();
-    class_of_pattern(alloc, graph, term, &[])
+    class_of_pattern(alloc, graph, term, lets)
 }
 
 /// The class of a register's term. A register that wasn't written has the one of its term at entry.
@@ -70,35 +85,41 @@ fn has_term(
     graph: &Egraph<Op>,
     classes: &[Option<u32>],
     register: u8,
+    lets: &[u32],
     term: &Term<Op>,
 ) -> Result<bool, NoMemory>
     requires low { register < 32 }
     requires classes { (memory : ℕ) × ArePresentClassesOfSome graph.now classes.now memory }
-    requires below { AreBelow 0 (tree_of term.now) }
-    ensures { IfOk result (λ same. (ts : TermState) (memory : ℕ) → ArePresentClasses graph.now classes.now memory ts →
-        (IsTrue same ↔ HaveSameClass graph.now (ts.registers register) (tree_of term.now))) }
+    requires present { All (HasClass graph.now) lets.now }
+    requires below { AreBelow (length lets.now) (tree_of term.now) }
+    ensures { IfOk result (λ same. (es : List (Tree TermOperator)) (ts : TermState) (memory : ℕ) →
+        AllZip (IsClass graph.now []) es lets.now → ArePresentClasses graph.now classes.now memory ts →
+        (IsTrue same ↔ HaveSameClass graph.now (ts.registers register) (substituted es (tree_of term.now)))) }
 {
     terms_have_one_class();
     let class = find_register(graph, classes, register);
-    let wanted = find_term(alloc, graph, term)?;
+    let wanted = find_term(alloc, graph, lets, term)?;
     Ok(is_one(class, wanted))
 }
 
 fn branches_on(
     alloc: Global,
     graph: &Egraph<Op>,
+    lets: &[u32],
     guard: &Term<Op>,
     branch: Option<Branch>,
     classes: &[Option<u32>],
 ) -> Result<bool, NoMemory>
-    requires below { AreBelow 0 (tree_of guard.now) }
+    requires present { All (HasClass graph.now) lets.now }
+    requires below { AreBelow (length lets.now) (tree_of guard.now) }
     requires register { IfSome branch (λ b. b.register < 32) }
     requires classes { (memory : ℕ) × ArePresentClassesOfSome graph.now classes.now memory }
-    ensures { IfOk result (λ same. (ts : TermState) (memory : ℕ) → ArePresentClasses graph.now classes.now memory ts →
-        (IsTrue same ↔ IsSameBranch graph.now (Some (tree_of guard.now)) branch ts)) }
+    ensures { IfOk result (λ same. (es : List (Tree TermOperator)) (ts : TermState) (memory : ℕ) →
+        AllZip (IsClass graph.now []) es lets.now → ArePresentClasses graph.now classes.now memory ts →
+        (IsTrue same ↔ IsSameBranch graph.now (Some (substituted es (tree_of guard.now))) branch ts)) }
 {
     match branch {
-        Some(branch) => has_term(alloc, graph, classes, branch.register, guard),
+        Some(branch) => has_term(alloc, graph, classes, branch.register, lets, guard),
         None => Ok(false),
     }
 }
@@ -107,18 +128,21 @@ fn branches_on(
 pub(crate) fn is_same_guard(
     alloc: Global,
     graph: &Egraph<Op>,
+    lets: &[u32],
     guard: &Option<Term<Op>>,
     branch: Option<Branch>,
     classes: &[Option<u32>],
 ) -> Result<bool, NoMemory>
-    requires below { IfSome (option_map tree_of guard.now) (AreBelow 0) }
+    requires present { All (HasClass graph.now) lets.now }
+    requires below { IfSome (option_map tree_of guard.now) (AreBelow (length lets.now)) }
     requires register { IfSome branch (λ b. b.register < 32) }
     requires classes { (memory : ℕ) × ArePresentClassesOfSome graph.now classes.now memory }
-    ensures { IfOk result (λ same. (ts : TermState) (memory : ℕ) → ArePresentClasses graph.now classes.now memory ts →
-        (IsTrue same ↔ IsSameBranch graph.now (option_map tree_of guard.now) branch ts)) }
+    ensures { IfOk result (λ same. (es : List (Tree TermOperator)) (ts : TermState) (memory : ℕ) →
+        AllZip (IsClass graph.now []) es lets.now → ArePresentClasses graph.now classes.now memory ts →
+        (IsTrue same ↔ IsSameBranch graph.now (option_map (substituted es) (option_map tree_of guard.now)) branch ts)) }
 {
     match guard {
-        Some(guard) => branches_on(alloc, graph, guard, branch, classes),
+        Some(guard) => branches_on(alloc, graph, lets, guard, branch, classes),
         None => Ok(branch.is_none()),
     }
 }
@@ -210,23 +234,26 @@ pub(crate) fn is_memory_set(set: &Set) -> bool
 fn is_same_target(
     alloc: Global,
     graph: &Egraph<Op>,
+    lets: &[u32],
     set: &Set,
     at: u32,
     places: &[At],
     classes: &[Option<u32>],
 ) -> Result<bool, NoMemory>
-    requires below { AreBelow 0 (tree_of set.now.value) }
+    requires present { All (HasClass graph.now) lets.now }
+    requires below { AreBelow (length lets.now) (tree_of set.now.value) }
     requires places { All (λ p. p.reg < 31) places.now }
     requires differ { AllPairs (λ p q. p.set ≢ q.set) places.now }
     requires classes { (memory : ℕ) × ArePresentClassesOfSome graph.now classes.now memory }
-    ensures { IfOk result (λ same. (ts : TermState) (memory : ℕ) → ArePresentClasses graph.now classes.now memory ts →
-        TellsTarget graph.now places.now (target_view set.now) ts at same) }
+    ensures { IfOk result (λ same. (es : List (Tree TermOperator)) (ts : TermState) (memory : ℕ) →
+        AllZip (IsClass graph.now []) es lets.now → ArePresentClasses graph.now classes.now memory ts →
+        TellsTarget graph.now places.now (expanded_target es (target_view set.now)) ts at same) }
 {
     if is_memory_set(set) {
         return Ok(true);
     }
     match find_place(places, at) {
-        Some(register) => has_term(alloc, graph, classes, register, &set.value),
+        Some(register) => has_term(alloc, graph, classes, register, lets, &set.value),
         None => Ok(true),
     }
 }
@@ -235,20 +262,23 @@ fn is_same_target(
 pub(crate) fn first_different_target(
     alloc: Global,
     graph: &Egraph<Op>,
+    lets: &[u32],
     sets: &[Set],
     places: &[At],
     classes: &[Option<u32>],
 ) -> Result<Option<u32>, NoMemory>
-    requires below { AreTargetsBelow (map target_view sets.now) }
+    requires present { All (HasClass graph.now) lets.now }
+    requires below { AreTargetsBelow (length lets.now) (map target_view sets.now) }
     requires few { length sets.now < 2 ^ 32 }
     requires places { ArePlaces (map target_view sets.now) places.now }
     requires classes { (memory : ℕ) × ArePresentClassesOfSome graph.now classes.now memory }
-    ensures { IfOk result (λ found. (ts : TermState) (memory : ℕ) → ArePresentClasses graph.now classes.now memory ts →
-        IsFirstDifferentTarget graph.now places.now (map target_view sets.now) ts found) }
+    ensures { IfOk result (λ found. (es : List (Tree TermOperator)) (ts : TermState) (memory : ℕ) →
+        AllZip (IsClass graph.now []) es lets.now → ArePresentClasses graph.now classes.now memory ts →
+        IsFirstDifferentTarget graph.now places.now (map (expanded_target es) (map target_view sets.now)) ts found) }
 {
     for at in 0..sets.len() {
         let number = at as u32;
-        let same = is_same_target(alloc, graph, &sets[at], number, places, classes)?;
+        let same = is_same_target(alloc, graph, lets, &sets[at], number, places, classes)?;
         if !same {
             return Ok(Some(number));
         }
@@ -257,13 +287,20 @@ pub(crate) fn first_different_target(
 }
 
 /// The class of the term that is set for `M`, or of the memory at entry.
-fn find_memory(alloc: Global, graph: &Egraph<Op>, sets: &[Set]) -> Result<Option<u32>, NoMemory>
-    requires below { AreTargetsBelow (map target_view sets.now) }
-    ensures { IfOk result (FindsClass graph.now (memory_target_term (map target_view sets.now))) }
+fn find_memory(
+    alloc: Global,
+    graph: &Egraph<Op>,
+    lets: &[u32],
+    sets: &[Set],
+) -> Result<Option<u32>, NoMemory>
+    requires present { All (HasClass graph.now) lets.now }
+    requires below { AreTargetsBelow (length lets.now) (map target_view sets.now) }
+    ensures { IfOk result (λ found. (es : List (Tree TermOperator)) → AllZip (IsClass graph.now []) es lets.now →
+        FindsClass graph.now (memory_target_term (map (expanded_target es) (map target_view sets.now))) found) }
 {
     for set in sets {
         if is_memory_set(set) {
-            return find_term(alloc, graph, &set.value);
+            return find_term(alloc, graph, lets, &set.value);
         }
     }
     Ok(find_leaf(graph, Op::Entry))
@@ -273,17 +310,21 @@ fn find_memory(alloc: Global, graph: &Egraph<Op>, sets: &[Set]) -> Result<Option
 pub(crate) fn is_same_memory(
     alloc: Global,
     graph: &Egraph<Op>,
+    lets: &[u32],
     sets: &[Set],
     classes: &[Option<u32>],
     memory: u32,
 ) -> Result<bool, NoMemory>
-    requires below { AreTargetsBelow (map target_view sets.now) }
+    requires present { All (HasClass graph.now) lets.now }
+    requires below { AreTargetsBelow (length lets.now) (map target_view sets.now) }
     requires classes { ArePresentClassesOfSome graph.now classes.now memory }
-    ensures { IfOk result (λ same. (ts : TermState) → ArePresentClasses graph.now classes.now memory ts →
-        (IsTrue same ↔ HaveSameClass graph.now ts.memory (memory_target_term (map target_view sets.now)))) }
+    ensures { IfOk result (λ same. (es : List (Tree TermOperator)) (ts : TermState) →
+        AllZip (IsClass graph.now []) es lets.now → ArePresentClasses graph.now classes.now memory ts →
+        (IsTrue same ↔ HaveSameClass graph.now ts.memory
+        (memory_target_term (map (expanded_target es) (map target_view sets.now))))) }
 {
     terms_have_one_class();
     let class = graph.now(memory);
-    let wanted = find_memory(alloc, graph, sets)?;
+    let wanted = find_memory(alloc, graph, lets, sets)?;
     Ok(is_one(Some(class), wanted))
 }

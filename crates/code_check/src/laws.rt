@@ -7,6 +7,7 @@ ghost use Rattle.word_terms.specs.Tree.{Tree};
 ghost use Rattle.egraph.specs.Graph.{Graph, IsGraph};
 ghost use Rattle.alpha_encode.specs.Formats.{IsWellFormed};
 ghost use Rattle.alpha_encode.specs.declared.instructions.Instr.{Instr};
+ghost use Rattle.goal_meaning.specs.Expanded.{expanded};
 ghost use Rattle.goal_meaning.specs.Names.{declared_name};
 ghost use Rattle.goal_meaning.specs.Views.{GoalTree, InputTree};
 ghost use Rattle.goal_meaning.specs.WellFormed.{IsInput, IsGoal};
@@ -73,7 +74,7 @@ pub fn same_code_does_the_goal()
         (terms : List (Tree TermOperator)) (graph : Graph TermOperator) →
         IsInput input → IsGoal input.ops goal → IsCode words instrs → length words < 2 ^ 29 → All (λ p. p.reg < 31) places →
         GraphStands (declared_name input.ops) (rules_of input) (assumed_pairs goal) terms graph →
-        Same graph goal instrs places →
+        Same graph (expanded goal) instrs places →
         DoesGoal input goal words places }
 {
     displacements_are_low_bits();

@@ -1,7 +1,10 @@
 // The check of a code against its goal.
-ghost use Rattle.std.specs.Prelude.{◌≡◌, ◌+◌, ◌<◌, ◌≤◌, ◌^◌, List, length, All, IfOk, IfSome, MatchOption, Some, slice_get};
+ghost use Rattle.std.specs.Prelude.{◌≡◌, ◌+◌, ◌<◌, ◌≤◌, ◌^◌, [], List, length, All, IfOk, IfSome, MatchOption, Some, slice_get};
 ghost use Rattle.word_terms.specs.Keys.{op_signature};
-ghost use Rattle.egraph.specs.Graph.{IsGraph};
+ghost use Rattle.egraph.specs.Graph.{HasClass, IsGraph};
+ghost use Rattle.std.specs.List.{AllZip};
+ghost use Rattle.pattern_match.specs.Classes.{IsClass};
+ghost use Rattle.goal_meaning.specs.Expanded.{expanded, let_terms};
 ghost use Rattle.alpha_encode.specs.declared.instructions.Instr.{Instr};
 ghost use Rattle.goal_meaning.specs.Views.{GoalTree, InputTree, goal_view, input_view};
 ghost use Rattle.goal_meaning.specs.WellFormed.{IsGoal, IsInput};
@@ -18,14 +21,15 @@ use crate::branches::{Branch, find_branch, words_before};
 use crate::code_terms::{Inserted, insert_code};
 use crate::codes::{At, Code, Part, Verified};
 use crate::comparing::{first_different_target, is_same_guard, is_same_leaving, is_same_memory};
-use crate::laws::{compared_graphs_decide, same_code_does_the_goal};
+use crate::laws::{compared_graphs_decide, same_code_does_the_goal, written_terms_are_sorted};
 use egraph::{Egraph, rows_name_present_classes};
 use goal_meaning::{Goal, Input};
 use graph_meaning::Stop;
 use items::NoMemory;
 use pattern_match::terms_have_one_class;
 use saturation::{
-    Rules, SaturateFault, StartFault, more_terms_may_be_inserted, rules, saturate, start,
+    Rules, SaturateFault, StartFault, let_classes, more_terms_may_be_inserted, rules, saturate,
+    start,
 };
 use std::alloc::{AllocError, Global};
 use word_ops::Op;
@@ -54,11 +58,14 @@ fn no_world_in_rounds(fault: SaturateFault) -> Result<Verified, NoMemory>
 fn first_different(
     alloc: Global,
     graph: &Egraph<Op>,
+    lets: &[u32],
     goal: &Goal,
     places: &[At],
     branch: Option<Branch>,
     inserted: &Inserted,
 ) -> Result<Option<Part>, NoMemory>
+    requires lets { AllZip (IsClass graph.now []) (let_terms (goal_view goal.now)) lets.now }
+    requires present { All (HasClass graph.now) lets.now }
     requires below { IsGoalBelow (goal_view goal.now) }
     requires inputs { All (λ i. i.reg < 32) goal.now.inputs }
     requires few { length goal.now.sets < 2 ^ 32 }
@@ -69,10 +76,10 @@ fn first_different(
     ensures { IfOk result (λ found. (instrs : List Instr) → IsBranchOf instrs branch → HasOneBranch instrs →
         ArePresentClasses graph.now inserted.now.at_branch inserted.now.memory_at_branch (terms_at_branch branch instrs) →
         ArePresentClasses graph.now inserted.now.at_end inserted.now.memory_at_end (terms_at_end instrs) →
-        MatchOption found (Same graph.now (goal_view goal.now) instrs places.now)
-        (IsFirstDifferent graph.now (goal_view goal.now) instrs places.now)) }
+        MatchOption found (Same graph.now (expanded (goal_view goal.now)) instrs places.now)
+        (IsFirstDifferent graph.now (expanded (goal_view goal.now)) instrs places.now)) }
 {
-    let guard = is_same_guard(alloc, graph, &goal.guard, branch, &inserted.at_branch)?;
+    let guard = is_same_guard(alloc, graph, lets, &goal.guard, branch, &inserted.at_branch)?;
     if !guard {
         return Ok(Some(Part::Guard));
     }
@@ -83,12 +90,12 @@ fn first_different(
         return Ok(Some(Part::Exit));
     }
     let sets = goal.sets.as_slice();
-    let different = first_different_target(alloc, graph, sets, places, &inserted.at_end)?;
+    let different = first_different_target(alloc, graph, lets, sets, places, &inserted.at_end)?;
     if let Some(set) = different {
         return Ok(Some(Part::Set(set)));
     }
     let memory = inserted.memory_at_end;
-    let same = is_same_memory(alloc, graph, sets, &inserted.at_end, memory)?;
+    let same = is_same_memory(alloc, graph, lets, sets, &inserted.at_end, memory)?;
     if !same {
         return Ok(Some(Part::Memory));
     }
@@ -132,6 +139,7 @@ fn verify_from(
     more_terms_may_be_inserted();
     terms_have_one_class();
     rows_name_present_classes::<Op>();
+    written_terms_are_sorted();
     let words = code.words.as_slice();
     let branch = find_branch(words);
     let before = words_before(words, branch);
@@ -142,7 +150,11 @@ fn verify_from(
         Err(fault) => return no_world_in_rounds(fault),
     };
     let places = code.places.as_slice();
-    let different = first_different(alloc, &saturated.graph, goal, places, branch, &inserted)?;
+    let named = goal.lets.as_slice();
+    let found = let_classes(alloc, &saturated.graph, named)?;
+    let lets = found.as_slice();
+    let graph = &saturated.graph;
+    let different = first_different(alloc, graph, lets, goal, places, branch, &inserted)?;
     Ok(verified(saturated.rounds, saturated.stop, different))
 }
 

@@ -12,6 +12,7 @@ use Rattle.word_terms.specs.Tree.{Tree}
 use Rattle.alpha_encode.specs.declared.instructions.Instr.{Instr}
 use Rattle.alpha_machine.specs.Runs.{trace}
 use Rattle.alpha_machine.specs.States.{MachineState}
+use Rattle.goal_meaning.specs.Expanded.{expanded}
 use Rattle.goal_meaning.specs.Holds.{HoldsFor, goal_value}
 use Rattle.goal_meaning.specs.Outcomes.{NewValue, exit, fall, is_left, is_memory, is_zero, new_memory, new_value, new_words}
 use Rattle.goal_meaning.specs.Views.{GoalTree, InputTree, TargetTree}
@@ -203,35 +204,35 @@ inputs_kept declared g R (c ∷ cs) (i ∷ is) z h =
 module _ (input : InputTree) (goal : GoalTree) (g : LaunchGraph) (stands : StandsFor input goal g)
     (table : Table) (ls : List Launch) (items : List Item) (words : List ℕ) (wheres : List Where)
     (listing : IsListing g table ls items wheres) (right : DoesAsGraphSays g items words wheres) where
-  others_kept : (s : MachineState) (world : World) → KeepsOthers g world s → KeepsOtherRegisters goal world s
+  others_kept : (s : MachineState) (world : World) → KeepsOthers g world s → KeepsOtherRegisters (expanded goal) world s
   others_kept s world kept = λ r free none. kept r (subst (λ (pool : List ℕ). ¬ Contains pool r) (sym stands.of.pool) free)
-      (λ pin. none (pin_of_target input.ops g r g.sets goal.sets stands.of.sets pin))
+      (λ pin. none (pin_of_target input.ops g r g.sets (expanded goal).sets stands.of.sets pin))
 
   ends_with : (world : World) (value : ℕ → Value) → HasValues input.ops goal g world value
       → Falls g world value words wheres
-      → EndsWith goal world words wheres (new_words input.ops world goal.sets) (new_memory input.ops world goal.sets)
+      → EndsWith (expanded goal) world words wheres (new_words input.ops world (expanded goal).sets) (new_memory input.ops world (expanded goal).sets)
   ends_with world value has f = record {
     state = f.state;
     runs = f.runs;
-    targets = all_targets input.ops g world value (λ r. word (slice_index f.state.registers r)) g.sets goal.sets
+    targets = all_targets input.ops g world value (λ r. word (slice_index f.state.registers r)) g.sets (expanded goal).sets
         stands.of.sets has.sets wheres f.targets;
     pins = own_targets input.ops g world value (λ r. word (slice_index f.state.registers r)) table listing.ordered g.sets
-        goal.sets stands.of.sets has.sets
+        (expanded goal).sets stands.of.sets has.sets
         (own_classes input.ops g world value (λ r. word (slice_index f.state.registers r)) table listing.ordered (word_targets g)
         (subst (λ (ps : List Where). AllZip (InClass input.ops g world value (λ r. word (slice_index f.state.registers r))) ps
         (word_targets g)) listing.wheres_are f.targets));
     memory_is = f.memory_is
         ∙ memory_found input.ops g world value (λ r. word (slice_index f.state.registers r)) g.entry
-        (memory world.memory_at_entry) has.rows.entry g.sets goal.sets stands.of.sets has.sets;
+        (memory world.memory_at_entry) has.rows.entry g.sets (expanded goal).sets stands.of.sets has.sets;
     inputs = inputs_kept input.ops g
-        (λ r. ¬ IsPinOf goal r → slice_index f.state.registers r ≡ slice_index world.registers r) g.inputs goal.inputs
+        (λ r. ¬ IsPinOf (expanded goal) r → slice_index f.state.registers r ≡ slice_index world.registers r) g.inputs goal.inputs
         stands.of.inputs
         (λ k d lt none. f.inputs k d lt
-        (λ pin. none (pin_of_target input.ops g (get_or g.inputs k d).reg g.sets goal.sets stands.of.sets pin)));
+        (λ pin. none (pin_of_target input.ops g (get_or g.inputs k d).reg g.sets (expanded goal).sets stands.of.sets pin)));
     others = others_kept f.state world f.others;
   }
 
-  leaves_by : (world : World) → Exits g world items words → LeavesByBranch goal world items words
+  leaves_by : (world : World) → Exits g world items words → LeavesByBranch (expanded goal) world items words
   leaves_by world e = record {
     state = e.state;
     runs = e.runs;
@@ -241,21 +242,21 @@ module _ (input : InputTree) (goal : GoalTree) (g : LaunchGraph) (stands : Stand
     others = others_kept e.state world e.others;
     no_load = held input.ops g world (λ n. word 0)
         (All (λ (i : Instr). ¬ IsTrue (loads i)) (trace (length items) (instrs_of items) (entry_state world)))
-        g.guard goal.guard stands.of.guard e.no_load;
+        g.guard (expanded goal).guard stands.of.guard e.no_load;
   }
 
   by_guard : (world : World) → IsWorld world → HoldsFor input goal world → (b : Bool)
-      → is_left input.ops world goal.guard ≡ b
-      → DoesAsSaid goal world items words wheres
-      (cond b exit (fall (new_words input.ops world goal.sets) (new_memory input.ops world goal.sets)))
+      → is_left input.ops world (expanded goal).guard ≡ b
+      → DoesAsSaid (expanded goal) world items words wheres
+      (cond b exit (fall (new_words input.ops world (expanded goal).sets) (new_memory input.ops world (expanded goal).sets)))
   by_guard world is holds true e =
       let v = stands.values world is holds in
       leaves_by world
-      (right.exits world v.0 is v.1.rows (exit_in input.ops g world v.0 g.guard goal.guard stands.of.guard v.1.guard e))
+      (right.exits world v.0 is v.1.rows (exit_in input.ops g world v.0 g.guard (expanded goal).guard stands.of.guard v.1.guard e))
   by_guard world is holds false e =
       let v = stands.values world is holds in
       ends_with world v.0 v.1
-      (right.falls world v.0 is v.1.rows (exit_out input.ops g world v.0 g.guard goal.guard stands.of.guard v.1.guard e))
+      (right.falls world v.0 is v.1.rows (exit_out input.ops g world v.0 g.guard (expanded goal).guard stands.of.guard v.1.guard e))
 
   pub computes : Computes input goal items words wheres
-  computes = λ world is holds. by_guard world is holds (is_left input.ops world goal.guard) refl
+  computes = λ world is holds. by_guard world is holds (is_left input.ops world (expanded goal).guard) refl

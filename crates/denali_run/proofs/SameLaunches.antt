@@ -5,9 +5,11 @@ use Rattle.std.specs.List.{AllZip}
 use Rattle.std.specs.Option.{option_map_or}
 use Rattle.std.proofs.lemmas.Bool.{cases_lt}
 use Rattle.std.proofs.lemmas.Bool.Decides.{Decides-eqb}
+use Rattle.std.proofs.lemmas.List.{length-map}
 use Rattle.std.proofs.lemmas.List.Elements.{All-head, All-tail}
 use Rattle.std.proofs.lemmas.Option.{get_or_from_slice_get, none-some, slice_get-get_or, slice_get_past, slice_get_within}
 use Rattle.schedule_meaning.specs.Limits.{most_cycles}
+use Rattle.goal_meaning.specs.Expanded.{expanded, expanded_target, let_terms}
 use Rattle.goal_meaning.specs.Views.{GoalTree, InputTree}
 use Rattle.goal_meaning.specs.WellFormed.{IsGoal}
 use Rattle.graph_meaning.specs.WellFormed.{IsLaunchGraph}
@@ -47,7 +49,9 @@ as_long P (x ∷ xs) (y ∷ ys) z = ap suc (as_long P xs ys z.1)
 -- and so has its graph
 pub few_sets : (input : InputTree) (goal : GoalTree) (g : LaunchGraph) → StandsFor input goal g → length goal.sets ≤ 16
     → length g.sets ≤ 16
-few_sets input goal g stands few = subst (λ n. n ≤ 16) (sym (as_long (IsSetClass input.ops g) g.sets goal.sets stands.of.sets)) few
+few_sets input goal g stands few =
+    subst (λ n. n ≤ 16)
+    (sym (as_long (IsSetClass input.ops g) g.sets (expanded goal).sets stands.of.sets ∙ length-map goal.sets (expanded_target (let_terms goal)))) few
 
 -- ---- where launches are
 

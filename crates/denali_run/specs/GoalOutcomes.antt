@@ -7,6 +7,7 @@ use Rattle.word_ops.specs.Worlds.{World, IsWorld, Value, word, memory}
 use Rattle.alpha_machine.specs.States.{MachineState}
 use Rattle.alpha_machine.specs.Runs.{Runs, trace}
 use Rattle.alpha_machine.specs.declared.running.End.TheVariants.{Fall, Exit}
+use Rattle.goal_meaning.specs.Expanded.{expanded}
 use Rattle.goal_meaning.specs.Holds.{HoldsFor}
 use Rattle.goal_meaning.specs.Outcomes.{NewValue, Outcome, exit, fall, is_memory, outcome}
 use Rattle.goal_meaning.specs.Views.{GoalTree, InputTree, TargetTree}
@@ -66,7 +67,7 @@ pub record LeavesByBranch (goal : GoalTree) (world : World) (items : List Item) 
   pub no_load : IfSome goal.guard (λ t. has_select t ≡ false
       → All (λ i. ¬ IsTrue (loads i)) (trace (length items) (instrs_of items) (entry_state world)))
 
--- the words do what the outcome says
+-- the words do what the outcome says, of a goal without lets
 abbrev pub DoesAsSaid : GoalTree → World → List Item → List ℕ → List Where → Outcome → Type 0
 DoesAsSaid goal world items words wheres exit = LeavesByBranch goal world items words
 DoesAsSaid goal world items words wheres (fall values new) = EndsWith goal world words wheres values new
@@ -77,4 +78,4 @@ Computes input goal items words wheres =
     (world : World)
     → IsWorld world
     → HoldsFor input goal world
-    → DoesAsSaid goal world items words wheres (outcome input.ops world goal)
+    → DoesAsSaid (expanded goal) world items words wheres (outcome input.ops world goal)

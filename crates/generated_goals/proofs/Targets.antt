@@ -13,6 +13,8 @@ use Rattle.graph_meaning.specs.WellFormed.{IsLaunchGraph}
 use Rattle.graph_meaning.specs.declared.graphs.Guard.{Guard}
 use Rattle.graph_meaning.specs.declared.graphs.LaunchGraph.{LaunchGraph}
 use Rattle.graph_meaning.specs.declared.graphs.SetClass.{SetClass}
+use Rattle.goal_meaning.specs.Expanded.{expanded}
+use Rattle.goal_meaning.specs.Views.{GoalTree}
 use Rattle.goal_meaning.specs.declared.goals.InputReg.{InputReg}
 use Rattle.saturation.specs.GoalTerms.{input_term}
 use Rattle.saturation.specs.StandsFor.{HasClassIn, IsGuardOf, IsInputClass, IsSetClass, StandsFor, graph_view}
@@ -121,12 +123,14 @@ module _ (g : LaunchGraph) (n : ℕ) (ls : List Launch) (class : ℕ) (made : Is
       let no_pins : HasNoPins g = subst (All (λ s. s.pin ≡ None)) (sym sets) (All-cons (λ s. s.pin ≡ None) s [] plain (All-nil (λ s. s.pin ≡ None))) in
       fits_where_plain g no_pins ev6 n ls chain_fits_plain (each (λ l. l.to ≡ Pool) (λ l s. s.to))
 
-pub scheduled : (size : ℕ) (g : LaunchGraph) → size ≤ 20 → IsLaunchGraph g → StandsFor (generated_input size) (generated_goal size) g → (ls : List Launch) × Fits g ev6 size ls
-scheduled size g few graph stands =
+-- the goal has no lets, so it is the goal without them
+pub scheduled : ((size : ℕ) → size ≤ 20 → expanded (generated_goal size) ≡ generated_goal size) → (size : ℕ) (g : LaunchGraph) → size ≤ 20 → IsLaunchGraph g → StandsFor (generated_input size) (generated_goal size) g → (ls : List Launch) × Fits g ev6 size ls
+scheduled same size g few graph stands =
     let of = stands.of in
     let a = input_is g graph (named_input (codes "a") 9) (first_zip (IsInputClass [] g) g.inputs _ _ of.inputs) in
     let b = input_is g graph (named_input (codes "b") 10) (second_zip (IsInputClass [] g) g.inputs _ _ _ of.inputs) in
-    let one = only_zip (IsSetClass [] g) g.sets _ of.sets in
+    let sets : AllZip (IsSetClass [] g) g.sets (generated_goal size).sets = subst (λ (goal : GoalTree). AllZip (IsSetClass [] g) g.sets goal.sets) (same size few) of.sets in
+    let one = only_zip (IsSetClass [] g) g.sets _ sets in
     let made = launched g a b size size one.0.class one.2.class in
     let pool : length g.pool ≡ 21 = ap length of.pool in
     (made.list, chain_fits g size made.list one.0.class made.fits one.0 one.1 refl (ap is_memory_name one.2.name) (no_guard g.guard g of.guard) (omega arith) one.2.pin)

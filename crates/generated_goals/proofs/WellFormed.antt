@@ -13,12 +13,12 @@ use Rattle.word_terms.specs.Sorting.{HasSort}
 use Rattle.forms.specs.Printing.{Plain, Plains, levels, more, most_levels, plains_from}
 use Rattle.machine_table.specs.Tables.{IsTable, ev6, slot_of}
 use Rattle.machine_table.specs.declared.tables.Slot.{Slot}
-use Rattle.goal_meaning.specs.Rules.{KeepsRules, default_pool}
+use Rattle.goal_meaning.specs.Rules.{KeepsRules, default_pool, names_of_inputs}
 use Rattle.goal_meaning.specs.Names.{IsNamedGoal}
 use Rattle.goal_meaning.specs.InputForms.{input_plains, naming, term_plain}
 use Rattle.goal_meaning.specs.Names.{is_reserved}
 use Rattle.goal_meaning.specs.Names.{is_written, word_named}
-use Rattle.goal_meaning.specs.Views.{GoalTree, TargetTree}
+use Rattle.goal_meaning.specs.Views.{GoalTree, LetTree, TargetTree}
 use Rattle.goal_meaning.specs.WellFormed.{IsAssume, IsAxiom, IsGoal, IsInput, IsOfGoal, IsTarget, operators_of_goal}
 use Rattle.goal_meaning.specs.declared.goals.InputReg.{InputReg}
 use Rattle.goal_meaning.specs.declared.goals.DeclaredOp.{DeclaredOp}
@@ -78,11 +78,16 @@ pool_apart = sure (dec_pairs (λ a b. a ≢ b) (λ a b. dec_not (dec_nat a b)) (
 abbrev IsUnpinned : TargetTree → Type 0
 IsUnpinned t = bytes_eq t.name (codes "M") ≡ true → t.pin ≡ None
 
+leaves_apart : AllPairs (λ m n. m ≢ n) (names_of_inputs inputs ++ [])
+leaves_apart = sure (dec_pairs (λ m n. m ≢ n) (λ m n. dec_not (dec_by (bytes_eq m n) (bytes_eq-Decides m n))) (names_of_inputs inputs ++ [])) refl
+
 rules : (size : ℕ) → KeepsRules [] (generated_goal size)
 rules size = record {
   input_names = names_apart;
   own_names = own_names;
   not_declared = λ k d l. refl;
+  leaf_names = leaves_apart;
+  own_lets = All-nil _;
   registers = registers_apart;
   low = registers_low;
   targets = pairs_cons (λ (s t : TargetTree). s.name ≢ t.name) _ [] (All-nil _) (pairs_nil (λ (s t : TargetTree). s.name ≢ t.name));
@@ -90,6 +95,7 @@ rules size = record {
   pins = pool_apart;
   low_pins = All-nil (λ r. r < 31);
   memory_unpinned = All-cons IsUnpinned _ [] (λ e. refl) (All-nil IsUnpinned);
+  few_lets = omega arith;
   few = (omega arith, omega arith, omega arith);
 }
 
@@ -98,16 +104,18 @@ named size = record {
   own = record { begins = refl; each = refl };
   inputs = All-cons (λ (i : InputReg). IsName i.name) (named_input (codes "a") 9) (named_input (codes "b") 10 ∷ []) (record { begins = refl; each = refl })
       (All-cons (λ (i : InputReg). IsName i.name) (named_input (codes "b") 10) [] (record { begins = refl; each = refl }) (All-nil (λ (i : InputReg). IsName i.name)));
+  lets = All-nil (λ (l : LetTree). IsName l.name);
   targets = All-cons (λ (t : TargetTree). IsName t.name) _ [] (record { begins = refl; each = refl }) (All-nil (λ (t : TargetTree). IsName t.name));
 }
 
 few_in_goal : (size : ℕ) → size ≤ 20 → operators_of_goal (generated_goal size) ≤ 41
 few_in_goal size few = let h = counted size size in omega arith
 
-goal_kept : (size : ℕ) → size ≤ 20 → IsGoal [] (generated_goal size)
+pub goal_kept : (size : ℕ) → size ≤ 20 → IsGoal [] (generated_goal size)
 goal_kept size few = record {
   named = named size;
   rules = rules size;
+  lets = tt;
   assumes = All-nil (IsAssume [] (generated_goal size));
   guard = tt;
   sets = All-cons (IsTarget [] (generated_goal size)) _ [] (record { sorted = sorted size size; operators = operators size size }) (All-nil (IsTarget [] (generated_goal size)));

@@ -57,6 +57,7 @@ generated_goal size = record {
   name = codes "gen";
   inputs = named_input (codes "a") 9 ∷ named_input (codes "b") 10 ∷ [];
   pool = default_pool registers;
+  lets = [];
   assumes = [];
   guard = None;
   sets = record { name = codes "x"; value = chain size size; pin = None } ∷ [];

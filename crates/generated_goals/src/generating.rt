@@ -114,6 +114,7 @@ fn goal(alloc: Global, size: u32) -> Result<Goal, NoMemory>
         name: Name::new(alloc, b"gen")?,
         inputs: Items::from(inputs(alloc)?),
         pool: pool(alloc)?,
+        lets: Items::new(alloc),
         assumes: Items::new(alloc),
         guard: None,
         sets: Items::from(vec![in alloc; target(alloc, size)?]?),

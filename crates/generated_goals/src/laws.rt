@@ -11,6 +11,7 @@ ghost use Rattle.schedule_meaning.specs.Fits.{Fits};
 ghost use Rattle.schedule_meaning.specs.declared.schedules.Launch.{Launch as LaunchOf};
 ghost use Rattle.generated_goals.specs.Generated.{generated_goal, generated_input};
 
+use goal_meaning::goals_without_lets_are_expanded;
 use machine_table::tables_keep_limits;
 
 /// Generated inputs are well formed.
@@ -31,4 +32,6 @@ pub fn generated_goals_have_a_world()
 pub fn generated_goals_can_be_scheduled()
     ensures { (size : ℕ) (g : LaunchGraph) → size ≤ 20 → IsLaunchGraph g
         → StandsFor (generated_input size) (generated_goal size) g → (ls : List LaunchOf) × Fits g ev6 size ls }
-{}
+{
+    goals_without_lets_are_expanded();
+}

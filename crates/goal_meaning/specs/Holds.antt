@@ -1,6 +1,7 @@
 -- When the axioms of an input, and the assumptions of a goal, hold in a world. From Denali (PLDI 2002): a declared
 -- operator has no meaning but what its axioms say, and a world gives it one by its name.
 use Rattle.std.specs.Prelude.{◌≡◌, ℕ, All, List, [], length, map, slice_index_or}
+use Rattle.goal_meaning.specs.Expanded.{expanded}
 use Rattle.goal_meaning.specs.Names.{declared_name}
 use Rattle.goal_meaning.specs.Views.{AxiomTree, GoalTree, InputTree, TwoTrees}
 use Rattle.goal_meaning.specs.declared.goals.DeclaredOp.{DeclaredOp}
@@ -15,7 +16,7 @@ abbrev pub value_in_world : List DeclaredOp → World → List ℕ → Tree Op �
 value_in_world declared world words t =
     value (meaning world (declared_name declared)) (λ n. slice_index_or (map word words) n (word 0)) t
 
--- the value of a term of a goal, which has no variables
+-- the value of a term of a goal without lets, which has no variables
 abbrev pub goal_value : List DeclaredOp → World → Tree Op → Value
 goal_value declared world t = value_in_world declared world [] t
 
@@ -34,4 +35,4 @@ IsMet declared world a = goal_value declared world a.left ≡ goal_value declare
 -- and so do the assumptions of one of its goals
 pub record HoldsFor (input : InputTree) (goal : GoalTree) (world : World) : Type 0 where
   pub axioms : Holds input world
-  pub assumes : All (IsMet input.ops world) goal.assumes
+  pub assumes : All (IsMet input.ops world) (expanded goal).assumes

@@ -13,8 +13,9 @@ use Rattle.forms.specs.Printing.{Plain, Plains, atom, list, none, more, plains_f
 use Rattle.machine_table.specs.Printing.{table_plain}
 use Rattle.goal_meaning.specs.declared.goals.DeclaredOp.{DeclaredOp}
 use Rattle.goal_meaning.specs.declared.goals.InputReg.{InputReg}
+use Rattle.goal_meaning.specs.Expanded.{let_names}
 use Rattle.goal_meaning.specs.Names.{declared_name}
-use Rattle.goal_meaning.specs.Views.{TwoTrees, TargetTree, GoalTree, AxiomTree, InputTree}
+use Rattle.goal_meaning.specs.Views.{LetTree, TwoTrees, TargetTree, GoalTree, AxiomTree, InputTree}
 
 -- the names that a term is written with: of declared operators by their numbers, of inputs by their registers, and of
 -- variables by theirs
@@ -69,6 +70,9 @@ input_plain i = keyword_list (codes "in") (atom (name i.name) ∷ register_plain
 abbrev pub pool_plain : List ℕ → Plain
 pool_plain pool = keyword_list (codes "pool") (map register_plain pool)
 
+abbrev pub let_plain : Naming → LetTree → Plain
+let_plain names l = keyword_list (codes "let") (atom (name l.name) ∷ term_plain names l.value ∷ [])
+
 abbrev pub assume_plain : Naming → TwoTrees → Plain
 assume_plain names a = keyword_list (codes "assume") (term_plain names a.left ∷ term_plain names a.right ∷ [])
 
@@ -85,6 +89,10 @@ abbrev pub target_plain : Naming → TargetTree → Plain
 target_plain names t =
     keyword_list (codes "set") (atom (name t.name) ∷ (pin_plains t.pin ++ term_plain names t.value ∷ []))
 
+-- in the terms of a goal the variables are its lets
+abbrev pub goal_naming : List DeclaredOp → GoalTree → Naming
+goal_naming declared g = naming declared g.inputs (let_names g.lets)
+
 -- the pool is explicit
 abbrev pub goal_plain : List DeclaredOp → GoalTree → Plain
 goal_plain declared g =
@@ -92,9 +100,10 @@ goal_plain declared g =
     (atom (name g.name)
     ∷ (map input_plain g.inputs
     ++ (pool_plain g.pool
-    ∷ (map (assume_plain (naming declared g.inputs [])) g.assumes
-    ++ (guard_plains (naming declared g.inputs []) g.guard
-    ++ map (target_plain (naming declared g.inputs [])) g.sets)))))
+    ∷ (map (let_plain (goal_naming declared g)) g.lets
+    ++ (map (assume_plain (goal_naming declared g)) g.assumes
+    ++ (guard_plains (goal_naming declared g) g.guard
+    ++ map (target_plain (goal_naming declared g)) g.sets))))))
 
 abbrev pub declaration_plain : DeclaredOp → Plain
 declaration_plain d = keyword_list (codes "op") (atom (name d.name) ∷ atom (number (count_of d.arity)) ∷ [])

@@ -1,4 +1,5 @@
 pub mod Views
+pub mod Expanded
 pub mod Names
 pub mod Rules
 pub mod InputForms

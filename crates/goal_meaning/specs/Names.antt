@@ -12,7 +12,7 @@ use Rattle.word_ops.specs.declared.sorts.Op.TheVariants.{Word, Select, Store}
 use Rattle.machine_table.specs.declared.tables.Slot.{Slot}
 use Rattle.goal_meaning.specs.declared.goals.DeclaredOp.{DeclaredOp}
 use Rattle.goal_meaning.specs.declared.goals.InputReg.{InputReg}
-use Rattle.goal_meaning.specs.Views.{TargetTree, GoalTree, AxiomTree, InputTree}
+use Rattle.goal_meaning.specs.Views.{LetTree, TargetTree, GoalTree, AxiomTree, InputTree}
 
 -- ---- names that every text has
 
@@ -58,10 +58,11 @@ declared_name declared at = slice_index_or (map (λ (d : DeclaredOp). d.name) de
 
 -- ---- all names of an input
 
--- the goal's own name, and those of its inputs and of its targets
+-- the goal's own name, and those of its inputs, its lets and its targets
 pub record IsNamedGoal (goal : GoalTree) : Type 0 where
   pub own : IsName goal.name
   pub inputs : All (λ (i : InputReg). IsName i.name) goal.inputs
+  pub lets : All (λ (l : LetTree). IsName l.name) goal.lets
   pub targets : All (λ (t : TargetTree). IsName t.name) goal.sets
 
 -- the names of the table's slots, of the declared operators, of the variables of the axioms, and of the goals

@@ -2,6 +2,7 @@
 -- where the guard is 0, and else all new values are those of the old state.
 use Rattle.std.specs.Prelude.{ℕ, Bool, false, not, ◌==◌, Option, List, map, filter, find, bytes_eq, codes, if◌then◌else◌}
 use Rattle.std.specs.Option.{option_map_or}
+use Rattle.goal_meaning.specs.Expanded.{expanded}
 use Rattle.goal_meaning.specs.Holds.{goal_value}
 use Rattle.goal_meaning.specs.Views.{GoalTree, TargetTree}
 use Rattle.goal_meaning.specs.declared.goals.DeclaredOp.{DeclaredOp}
@@ -45,5 +46,5 @@ new_memory declared world sets =
 
 abbrev pub outcome : List DeclaredOp → World → GoalTree → Outcome
 outcome declared world g =
-    if is_left declared world g.guard then exit
-    else fall (new_words declared world g.sets) (new_memory declared world g.sets)
+    if is_left declared world (expanded g).guard then exit
+    else fall (new_words declared world (expanded g).sets) (new_memory declared world (expanded g).sets)

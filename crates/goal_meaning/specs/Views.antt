@@ -7,6 +7,7 @@ use Rattle.word_terms.specs.View.{tree_of}
 use Rattle.machine_table.specs.declared.tables.Table.{Table}
 use Rattle.goal_meaning.specs.declared.goals.DeclaredOp.{DeclaredOp}
 use Rattle.goal_meaning.specs.declared.goals.InputReg.{InputReg}
+use Rattle.goal_meaning.specs.declared.goals.Let.{Let}
 use Rattle.goal_meaning.specs.declared.goals.Assume.{Assume}
 use Rattle.goal_meaning.specs.declared.goals.Set.{Set}
 use Rattle.goal_meaning.specs.declared.goals.Goal.{Goal}
@@ -17,6 +18,10 @@ pub record TwoTrees : Type 0 where
   pub left : Tree Op
   pub right : Tree Op
 
+pub record LetTree : Type 0 where
+  pub name : List ℕ
+  pub value : Tree Op
+
 pub record TargetTree : Type 0 where
   pub name : List ℕ
   pub value : Tree Op
@@ -26,6 +31,7 @@ pub record GoalTree : Type 0 where
   pub name : List ℕ
   pub inputs : List InputReg
   pub pool : List ℕ
+  pub lets : List LetTree
   pub assumes : List TwoTrees
   pub guard : Option (Tree Op)
   pub sets : List TargetTree
@@ -42,6 +48,9 @@ pub record InputTree : Type 0 where
   pub axioms : List AxiomTree
   pub goals : List GoalTree
 
+abbrev pub let_view : Let → LetTree
+let_view l = record { name = l.name; value = tree_of l.value }
+
 abbrev pub assume_view : Assume → TwoTrees
 assume_view a = record { left = tree_of a.left; right = tree_of a.right }
 
@@ -53,6 +62,7 @@ goal_view g = record {
   name = g.name;
   inputs = g.inputs;
   pool = g.pool;
+  lets = map let_view g.lets;
   assumes = map assume_view g.assumes;
   guard = option_map tree_of g.guard;
   sets = map target_view g.sets;

@@ -1,9 +1,9 @@
 -- Well-formed inputs: what holds of every input that was read. Source: this project.
-use Rattle.std.specs.Prelude.{true, false, ℕ, ◌≡◌, ◌≢◌, ◌+◌, ◌^◌, ◌<◌, ◌≤◌, if◌then◌else◌, List, [], ◌∷◌, length, map, replicate, slice_get, bytes_eq, codes, None, Some, IfSome, All, AllPairs, Contains}
+use Rattle.std.specs.Prelude.{true, false, ℕ, ◌≡◌, ◌≢◌, ◌+◌, ◌^◌, ◌<◌, ◌≤◌, if◌then◌else◌, List, [], ◌∷◌, ◌++◌, length, map, replicate, slice_get, bytes_eq, codes, None, Some, IfSome, All, AllPairs, Contains}
 use Rattle.std.specs.Option.{option_map_or}
 use Rattle.text_core.specs.Limits.{most_nesting, most_declared, most_axioms, most_goals, most_variables}
 use Rattle.text_core.specs.Names.{IsName, is_among}
-use Rattle.word_ops.specs.Meanings.{constant_in}
+use Rattle.word_ops.specs.Meanings.{constant_in, sort_of}
 use Rattle.word_ops.specs.declared.sorts.Arity.{Arity}
 use Rattle.word_ops.specs.declared.sorts.Op.{Op}
 use Rattle.word_ops.specs.declared.sorts.Op.TheVariants.{Entry, Input, Word, Load, Put, Declared}
@@ -11,11 +11,12 @@ use Rattle.word_ops.specs.declared.sorts.Sort.{Sort}
 use Rattle.word_ops.specs.declared.sorts.Sort.TheVariants as sorts
 use Rattle.word_terms.specs.Keys.{op_signature}
 use Rattle.word_terms.specs.OperatorsIn.{operators_in, EachOperator}
-use Rattle.word_terms.specs.Sorting.{HasSort, Occurs, IsApplication}
+use Rattle.word_terms.specs.Sorting.{HasSort, Occurs, IsApplication, sort_at}
 use Rattle.word_terms.specs.Tree.{Tree, variable, application}
 use Rattle.forms.specs.Printing.{most_levels, plains_from}
 use Rattle.machine_table.specs.Tables.{IsTable, ev6}
 use Rattle.machine_table.specs.declared.tables.Slot.{Slot}
+use Rattle.goal_meaning.specs.Expanded.{let_values}
 use Rattle.goal_meaning.specs.Rules.{KeepsRules}
 use Rattle.goal_meaning.specs.Names.{IsNamedGoal, is_reserved, names_of_declared, is_written}
 use Rattle.goal_meaning.specs.InputForms.{input_plains}
@@ -88,10 +89,36 @@ pub record IsAxiom (declared : List DeclaredOp) (a : AxiomTree) : Type 0 where
 
 -- ---- goals
 
--- a term of the sort without variables
-pub record IsGoalTerm (declared : List DeclaredOp) (goal : GoalTree) (sort : Sort) (t : Tree Op) : Type 0 where
-  pub sorted : HasSort op_signature [] sort t
-  pub operators : EachOperator (IsOfGoal declared goal.inputs) t
+-- the sort of a tree, where those of its variables are given
+abbrev pub sort_of_tree : List Sort → Tree Op → Sort
+sort_of_tree variables (variable n) = sort_at variables n
+sort_of_tree variables (application op ts) = sort_of op
+
+-- the sorts of terms in which each variable stands for an earlier one, behind those that are known
+abbrev pub sorts_of_lets : List Sort → List (Tree Op) → List Sort
+sorts_of_lets before [] = before
+sorts_of_lets before (t ∷ ts) = sorts_of_lets (before ++ sort_of_tree before t ∷ []) ts
+
+-- a let has the sort of its term
+abbrev pub let_sorts : GoalTree → List Sort
+let_sorts goal = sorts_of_lets [] (let_values goal.lets)
+
+-- a term of the sort over lets of these sorts
+pub record IsTermOver (declared : List DeclaredOp) (inputs : List InputReg) (lets : List Sort) (sort : Sort) (t : Tree Op)
+    : Type 0 where
+  pub sorted : HasSort op_signature lets sort t
+  pub operators : EachOperator (IsOfGoal declared inputs) t
+
+-- each let has a term over those before it
+abbrev pub AreLets : List DeclaredOp → List InputReg → List Sort → List (Tree Op) → Type 0
+AreLets declared inputs before [] = Unit {0}
+AreLets declared inputs before (t ∷ ts) =
+    IsTermOver declared inputs before (sort_of_tree before t) t
+    × AreLets declared inputs (before ++ sort_of_tree before t ∷ []) ts
+
+-- a term of the sort over the lets
+abbrev pub IsGoalTerm : List DeclaredOp → GoalTree → Sort → Tree Op → Type 0
+IsGoalTerm declared goal sort t = IsTermOver declared goal.inputs (let_sorts goal) sort t
 
 -- the two sides of an assume have one sort
 pub record IsAssume (declared : List DeclaredOp) (goal : GoalTree) (a : TwoTrees) : Type 0 where
@@ -112,15 +139,17 @@ operators_of_sides a = operators_in a.left + operators_in a.right
 abbrev pub operators_of_target : TargetTree → ℕ
 operators_of_target t = operators_in t.value
 
--- how many operators stand in the terms of a goal
+-- how many operators stand in the terms of a goal; a let counts once, however often its name stands
 abbrev pub operators_of_goal : GoalTree → ℕ
 operators_of_goal goal =
-    sum_over operators_of_sides goal.assumes
-    + (option_map_or operators_in goal.guard 0 + sum_over operators_of_target goal.sets)
+    sum_over operators_in (let_values goal.lets)
+    + (sum_over operators_of_sides goal.assumes
+    + (option_map_or operators_in goal.guard 0 + sum_over operators_of_target goal.sets))
 
 pub record IsGoal (declared : List DeclaredOp) (goal : GoalTree) : Type 0 where
   pub named : IsNamedGoal goal
   pub rules : KeepsRules declared goal
+  pub lets : AreLets declared goal.inputs [] (let_values goal.lets)
   pub assumes : All (IsAssume declared goal) goal.assumes
   pub guard : IfSome goal.guard (IsGoalTerm declared goal sorts.Word)
   pub sets : All (IsTarget declared goal) goal.sets

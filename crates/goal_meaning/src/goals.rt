@@ -10,6 +10,9 @@ pub const FREE_REGISTERS: [u8; 21] = [
     0, 1, 2, 3, 4, 5, 6, 7, 8, 16, 17, 18, 19, 20, 21, 22, 23, 24, 25, 27, 28,
 ];
 
+/// The most lets of a goal.
+pub const MOST_LETS: usize = 256;
+
 /// An operator that an input declares.
 #[derive(Drop)]
 pub struct DeclaredOp {
@@ -22,6 +25,13 @@ pub struct DeclaredOp {
 pub struct InputReg {
     pub name: Name,
     pub reg: u8,
+}
+
+/// A name for a term, which is a word or a memory.
+#[derive(Drop)]
+pub struct Let {
+    pub name: Name,
+    pub value: Term<Op>,
 }
 
 /// Two terms that are taken to be equal.
@@ -40,12 +50,14 @@ pub struct Set {
     pub pin: Option<u8>,
 }
 
-/// A guarded multi-assignment, with the registers of its inputs and those that it may use.
+/// A guarded multi-assignment, with the registers of its inputs and those that it may use. In its terms a variable is
+/// the let of this number; the term of a let has only lets before it.
 #[derive(Drop)]
 pub struct Goal {
     pub name: Name,
     pub inputs: Items<InputReg>,
     pub pool: Items<u8>,
+    pub lets: Items<Let>,
     pub assumes: Items<Assume>,
     pub guard: Option<Term<Op>>,
     pub sets: Items<Set>,

@@ -3,6 +3,10 @@
 //!
 //! `goal_reader` reads inputs from texts and prints them.
 //!
+//! A goal may name terms by lets. What it means is said of the expanded goal, which has no lets: a goal without lets is
+//! what it is expanded to (`goals_without_lets_are_expanded`), and the expanded terms have the sorts of the terms that
+//! they stand for (`expanded_terms_are_sorted`).
+//!
 //! These meanings are definitions, with laws on them: axioms hold for all goals of an input alike
 //! (`axioms_hold_for_all_goals`), and each goal has an outcome in a world (`goals_have_outcomes`).
 #![tactic(auto)]
@@ -10,5 +14,10 @@
 mod goals;
 mod laws;
 
-pub use goals::{Assume, Axiom, DeclaredOp, FREE_REGISTERS, Goal, Input, InputReg, Set};
-pub use laws::{axioms_hold_for_all_goals, goals_have_outcomes};
+pub use goals::{
+    Assume, Axiom, DeclaredOp, FREE_REGISTERS, Goal, Input, InputReg, Let, MOST_LETS, Set,
+};
+pub use laws::{
+    axioms_hold_for_all_goals, expanded_terms_are_sorted, goals_have_outcomes,
+    goals_without_lets_are_expanded,
+};

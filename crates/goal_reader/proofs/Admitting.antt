@@ -47,9 +47,10 @@ module _ (form : Form) (low high : ℕ) (h : Stands low high form) where
   beyond_first zero = past_first
   beyond_first (suc zero) = wrong_first form low high h
   beyond_first (suc (suc zero)) = past_first
-  beyond_first (suc (suc (suc zero))) = wrong_first form low high h
-  beyond_first (suc (suc (suc (suc zero)))) = past_first
-  beyond_first (suc (suc (suc (suc (suc at))))) = wrong_first form low high h
+  beyond_first (suc (suc (suc zero))) = past_first
+  beyond_first (suc (suc (suc (suc zero)))) = wrong_first form low high h
+  beyond_first (suc (suc (suc (suc (suc zero))))) = past_first
+  beyond_first (suc (suc (suc (suc (suc (suc at)))))) = wrong_first form low high h
 
   as_form : (role : Role) → (role ≡ a_machine → ⊥) → (place : ℕ) (kind : Kind) → IsFormFault role form place kind → IsFaultAs role form place kind
   as_form role n place kind (as_role f) = f

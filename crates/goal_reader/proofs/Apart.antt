@@ -10,9 +10,9 @@ use Rattle.forms.specs.Faults.{own, inside}
 use Rattle.forms.proofs.First.{no_fault}
 use Rattle.goal_reader.specs.declared.scopes.Scope.{Scope}
 use Rattle.goal_meaning.specs.declared.goals.DeclaredOp.{DeclaredOp}
-use Rattle.goal_reader.specs.declared.scopes.Named.TheVariants.{Memory, Input, Variable}
+use Rattle.goal_reader.specs.declared.scopes.Named.TheVariants.{Memory, Input, Variable, Let}
 use Rattle.goal_reader.specs.Scopes.{operator_named}
-use Rattle.goal_reader.specs.Terms.{Writes, WritesEach, memory, input, variable, constant, application, nothing, operand}
+use Rattle.goal_reader.specs.Terms.{Writes, WritesEach, memory, input, variable, binding, constant, application, nothing, operand}
 use Rattle.goal_reader.specs.Roles.{Role, term, operator, IsOwn, part_role, IsFaultAs, IsWanted, operator_in}
 use Rattle.goal_reader.proofs.Owns as owns
 
@@ -40,6 +40,8 @@ mutual
       atom_clear (term scope wanted) p (name bytes) (owns.name_clear scope p wanted bytes (Input r) l (λ e. cc) w) place kind fault
   writes_clear {scope} (variable {place = p} {bytes = bytes} {n = n} l) wanted w place kind fault =
       atom_clear (term scope wanted) p (name bytes) (owns.name_clear scope p wanted bytes (Variable n) l (λ e. cc) w) place kind fault
+  writes_clear {scope} (binding {place = p} {bytes = bytes} {n = n} {sort = s} l) wanted w place kind fault =
+      atom_clear (term scope wanted) p (name bytes) (owns.name_clear scope p wanted bytes (Let n s) l (λ e. cc) w) place kind fault
   writes_clear {scope} (constant {place = p} {n = n}) wanted w place kind fault =
       atom_clear (term scope wanted) p (number n) (owns.number_clear scope p wanted n w) place kind fault
   writes_clear {scope} (application {place = p} {head = q} {bytes = bytes} {op = op} {operands = operands} k s n each) wanted w place kind (own is placed) =

@@ -14,9 +14,9 @@ use Rattle.forms.specs.Forms.{Stands}
 use Rattle.forms.proofs.First.{first_own}
 use Rattle.goal_reader.specs.declared.scopes.Scope.{Scope}
 use Rattle.goal_reader.specs.declared.scopes.Named.{Named}
-use Rattle.goal_reader.specs.declared.scopes.Named.TheVariants.{Memory, Input, Variable, Lacking}
+use Rattle.goal_reader.specs.declared.scopes.Named.TheVariants.{Memory, Input, Variable, Lacking, Let}
 use Rattle.goal_reader.specs.Scopes.{leaf_named}
-use Rattle.goal_reader.specs.Terms.{Writes, memory, input, variable, constant}
+use Rattle.goal_reader.specs.Terms.{Writes, memory, input, variable, binding, constant}
 use Rattle.goal_reader.specs.Roles.{term, IsOwn, no_term, unknown_name, lacking, sort_of_leaf, sort_in, can_be_term, part_role, IsFaultAs, IsWanted, WritesTerm}
 use Rattle.goal_reader.proofs.Heads.{wanted_fails}
 use Rattle.goal_reader.proofs.Owns as owns
@@ -92,3 +92,6 @@ module _ (scope : Scope) (wanted : Option Sort) (form : Form) where
 
   pub variable_writes : (bytes : List ℕ) (n : ℕ) (t : Tree Op) → name_in form ≡ Some bytes → leaf_named scope.leaves bytes ≡ Some (Variable n) → IsWanted wanted sorts.Word → t ≡ tree.variable n → WritesTerm scope wanted form t
   variable_writes bytes n t e l w s = subst (λ (y : Tree Op). WritesTerm scope wanted form y) (sym s) (as_written sorts.Word _ _ (name_is form bytes e) w (variable l))
+
+  pub binding_writes : (bytes : List ℕ) (n : ℕ) (sort : Sort) (t : Tree Op) → name_in form ≡ Some bytes → leaf_named scope.leaves bytes ≡ Some (Let n sort) → IsWanted wanted sort → t ≡ tree.variable n → WritesTerm scope wanted form t
+  binding_writes bytes n sort t e l w s = subst (λ (y : Tree Op). WritesTerm scope wanted form y) (sym s) (as_written sort _ _ (name_is form bytes e) w (binding l))

@@ -13,7 +13,7 @@ use Rattle.forms.specs.Forms.{Form, Forms, atom, list, name, parts_of, forms_fro
 use Rattle.machine_table.specs.Grammar.{Each, more_of, IsNameOf}
 use Rattle.text_core.specs.declared.faults.Kind.{Kind}
 use Rattle.goal_meaning.specs.declared.goals.DeclaredOp.{DeclaredOp}
-use Rattle.goal_reader.specs.declared.scopes.Named.TheVariants.{Memory, Input, Variable, Lacking}
+use Rattle.goal_reader.specs.declared.scopes.Named.TheVariants.{Memory, Input, Variable, Lacking, Let}
 use Rattle.goal_reader.specs.declared.scopes.Scope.{Scope}
 use Rattle.goal_reader.specs.Grammar.{WritesAxiom, axiom_scope}
 use Rattle.goal_reader.specs.Reading.{IsClear, meaning_right, mentioned_scope}
@@ -21,7 +21,7 @@ use Rattle.goal_reader.specs.Roles as roles
 use Rattle.text_core.specs.Names.{is_among}
 use Rattle.goal_reader.specs.Roles.{a_list, own_name, left_side, term, IsOwn, too_few, rank_from, mentions, mentions_any, left_scope, right_scope, Role, past, part_role}
 use Rattle.goal_meaning.specs.Names.{is_reserved, names_of_declared}
-use Rattle.goal_reader.specs.Terms.{Writes, WritesEach, memory, input, variable, constant, application, nothing, operand}
+use Rattle.goal_reader.specs.Terms.{Writes, WritesEach, memory, input, variable, binding, constant, application, nothing, operand}
 use Rattle.goal_meaning.specs.Views.{AxiomTree}
 use Rattle.goal_reader.proofs.Apart.{writes_clear}
 use Rattle.goal_reader.proofs.AxiomForms.{equation_only, left_told, numbered, same_number, left_same, right_same}
@@ -112,6 +112,7 @@ module _ (declared : List DeclaredOp) (names : List (List ℕ)) where
     named_in (variable {bytes = bytes} {n = m} h) n o =
         let told = left_told declared names (atom 0 (name bytes)) bytes (Variable m) h in
         (bytes, told.1 ∙ ap Some (sym (same_number m told.0 told.2) ∙ sym o), (bytes_eq-Decides bytes bytes).1 refl)
+    named_in (binding {bytes = bytes} {n = m} {sort = s} h) n o = let told = left_told declared names (atom 0 (name bytes)) bytes (Let m s) h in absurd (let f : Let m s ≡ Variable told.0 = told.2 in cc)
     named_in constant n o = absurd o
     named_in (application h s l each) n o = named_in_any each n o
 
@@ -138,6 +139,7 @@ module _ (declared : List DeclaredOp) (names : List (List ℕ)) where
           let m = has n refl in
           let there : mentions bytes left ≡ true = ap (λ b. mentions b left) (same_name bytes m.0 n number m.1) ∙ m.2 in
           variable (numbered 0 (meaning_right left) names bytes ∙ ap (option_map (meaning_right left bytes)) number ∙ ap (λ b. Some (if b then Variable n else Lacking)) there)
+      on_right_too (binding {bytes = bytes} {n = n} {sort = s} h) has = let told = left_told declared names left bytes (Let n s) h in absurd (let f : Let n s ≡ Variable told.0 = told.2 in cc)
       on_right_too constant has = constant
       on_right_too (application h s l each) has = application h s l (each_on_right each has)
 

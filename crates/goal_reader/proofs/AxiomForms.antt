@@ -18,7 +18,7 @@ use Rattle.goal_meaning.specs.declared.goals.DeclaredOp.{DeclaredOp}
 use Rattle.goal_reader.specs.declared.scopes.Scope.{Scope}
 use Rattle.goal_reader.specs.declared.scopes.Leaf.{Leaf}
 use Rattle.goal_reader.specs.declared.scopes.Named.{Named}
-use Rattle.goal_reader.specs.declared.scopes.Named.TheVariants.{Memory, Input, Variable, Lacking}
+use Rattle.goal_reader.specs.declared.scopes.Named.TheVariants.{Memory, Input, Variable, Lacking, Let}
 use Rattle.goal_meaning.specs.declared.goals.Axiom.{Axiom}
 use Rattle.goal_reader.specs.Grammar.{WritesAxiom, axiom_scope}
 use Rattle.goal_reader.specs.Reading.{IsClear, meaning_right, mentioned_scope}
@@ -26,7 +26,7 @@ use Rattle.goal_reader.specs.Roles as roles
 use Rattle.goal_meaning.specs.Names as goal_names
 use Rattle.goal_reader.specs.Roles.{a_list, too_few, IsOwn, rank, rank_from, text_keywords, numbered_leaves, mentions, mentions_any, variables_in, left_scope, right_scope, WritesTerm, Role, Shape, wrong, wrong_part}
 use Rattle.goal_reader.specs.Scopes.{leaf_named}
-use Rattle.goal_reader.specs.Terms.{Writes, WritesEach, memory, input, variable, constant, application, nothing, operand}
+use Rattle.goal_reader.specs.Terms.{Writes, WritesEach, memory, input, variable, binding, constant, application, nothing, operand}
 use Rattle.goal_meaning.specs.Views.{axiom_view}
 use Rattle.goal_reader.proofs.ItemForms.{keyworded_by, list_from_list}
 use Rattle.goal_reader.proofs.VariableSteps.{is_seen, some_seen, all_free, none_free, each_named}
@@ -64,6 +64,10 @@ no_input : (b : Bool) (n r : ℕ) → Input r ≡ (if b then Variable n else Lac
 no_input true n r e = cc
 no_input false n r e = cc
 
+no_let : (b : Bool) (n k : ℕ) (s : Sort) → Let k s ≡ (if b then Variable n else Lacking) → ⊥
+no_let true n k s e = cc
+no_let false n k s e = cc
+
 pub same_number : (m n : ℕ) → Variable m ≡ Variable n → m ≡ n
 same_number m n e = cc
 
@@ -92,6 +96,7 @@ module _ (declared : List DeclaredOp) (names : List (List ℕ)) (left : Form) wh
         let told = right_told bytes (Variable n) h in
         let is = has_it (mentions bytes left) told.0 n told.2 in
         variable (left_known bytes n (told.1 ∙ ap Some (sym is.1)))
+    on_left_too (binding {bytes = bytes} {n = n} {sort = s} h) = let told = right_told bytes (Let n s) h in absurd (no_let (mentions bytes left) told.0 n s told.2)
     on_left_too constant = constant
     on_left_too (application h s l each) = application h s l (each_on_left each)
 
@@ -110,6 +115,7 @@ module _ (declared : List DeclaredOp) (names : List (List ℕ)) (left : Form) wh
         let told = right_told bytes (Variable m) h in
         let is = has_it (mentions bytes left) told.0 m told.2 in
         (bytes, told.1 ∙ ap Some (sym is.1 ∙ sym o), is.0)
+    mentioned (binding {bytes = bytes} {n = m} {sort = s} h) n o = let told = right_told bytes (Let m s) h in absurd (no_let (mentions bytes left) told.0 m s told.2)
     mentioned constant n o = absurd o
     mentioned (application h s l each) n o = mentioned_in each n o
 
@@ -132,6 +138,7 @@ module _ (declared : List DeclaredOp) (names : List (List ℕ)) (left : Form) wh
         let both : Some told.0 ≡ Some n = sym told.1 ∙ ap (rank_from 0 names) same ∙ e in
         let number : told.0 ≡ n = cc in
         sym (same_number k told.0 told.2 ∙ number)
+    occurs (binding {bytes = other} {n = k} {sort = s} h) bytes n e m = let told = left_told other (Let k s) h in absurd (let f : Let k s ≡ Variable told.0 = told.2 in cc)
     occurs constant bytes n e m = cc
     occurs (application h s l each) bytes n e m = occurs_in each bytes n e m
 

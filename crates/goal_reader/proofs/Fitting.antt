@@ -1,6 +1,7 @@
 -- Goals, axioms and declarations that a printable form writes are printable again, no deeper, and have names.
-use Rattle.std.proofs.Common.{◌≡◌, ℕ, ◌+◌, ◌<◌, ◌≤◌, ◌&&◌, ◌++◌, true, All, Option, List, [], ◌∷◌, map, decimal, refl, ap, ap₂, ◌∙◌, subst, arith, codes}
+use Rattle.std.proofs.Common.{◌≡◌, ℕ, ◌+◌, ◌<◌, ◌≤◌, ◌&&◌, ◌++◌, ◌≢◌, sym, true, All, Option, List, [], ◌∷◌, map, decimal, refl, ap, ap₂, ◌∙◌, subst, arith, codes}
 use Rattle.std.specs.Bool.{⊤}
+use Rattle.std.specs.Prelude.{AllPairs}
 use Rattle.std.proofs.lemmas.List.Elements.{All-nil, All-cons, All-head, All-tail}
 use Rattle.std.proofs.lemmas.Bool.Decides.{nat_tests}
 use Rattle.std.proofs.lemmas.Fmt.{decimal_is_IsNumeral}
@@ -21,17 +22,21 @@ use Rattle.word_terms.specs.Tree.{Tree}
 use Rattle.goal_meaning.specs.declared.goals.InputReg.{InputReg}
 use Rattle.goal_meaning.specs.declared.goals.DeclaredOp.{DeclaredOp}
 use Rattle.goal_reader.specs.declared.scopes.Scope.{Scope}
-use Rattle.goal_reader.specs.Grammar.{WritesInput, WritesAssume, WritesGuard, WritesPin, WritesTarget, WritesGoal, WritesDeclaration, WritesAxiom, axiom_scope, pinned, unpinned, unguarded, guarded}
+use Rattle.goal_reader.specs.Grammar.{WritesInput, WritesLet, WritesLets, no_lets, one_let, scope_of_goal, WritesAssume, WritesGuard, WritesPin, WritesTarget, WritesGoal, WritesDeclaration, WritesAxiom, axiom_scope, pinned, unpinned, unguarded, guarded}
 use Rattle.goal_meaning.specs.Names.{IsNamedGoal}
-use Rattle.goal_meaning.specs.InputForms.{Naming, naming, term_plain, register_plain, input_plain, pool_plain, assume_plain, guard_plains, pin_plains, target_plain, goal_plain, declaration_plain, variable_plain, axiom_plain}
+use Rattle.goal_meaning.specs.InputForms.{Naming, naming, goal_naming, term_plain, register_plain, input_plain, pool_plain, let_plain, assume_plain, guard_plains, pin_plains, target_plain, goal_plain, declaration_plain, variable_plain, axiom_plain}
 use Rattle.goal_meaning.specs.WellFormed.{input_registers}
-use Rattle.goal_reader.specs.Roles.{goal_scope}
-use Rattle.goal_meaning.specs.Views.{TwoTrees, TargetTree, GoalTree, AxiomTree}
+use Rattle.goal_meaning.specs.Expanded.{let_names}
+use Rattle.goal_reader.specs.Roles.{let_scope}
+use Rattle.goal_reader.specs.Scopes.{SortedName, sorted_names}
+use Rattle.goal_meaning.specs.Views.{LetTree, TwoTrees, TargetTree, GoalTree, AxiomTree}
 use Rattle.goal_reader.proofs.Different.{register_low}
 use Rattle.goal_reader.proofs.FormsPrint.{all_back}
 use Rattle.goal_reader.proofs.Moved.{AreNamed, term_told}
 use Rattle.goal_reader.proofs.PrintedForms.{pairs_front}
-use Rattle.goal_reader.proofs.PrintedNames.{goal_named, axiom_named}
+use Rattle.goal_reader.proofs.LetScopes.{names_more}
+use Rattle.goal_reader.proofs.PrintedLets.{let_named, whole_named}
+use Rattle.goal_reader.proofs.PrintedNames.{axiom_named}
 
 -- printable, with no more lists inside one another than these
 abbrev pub Fits : ℕ → Plain → Type 0
@@ -122,6 +127,9 @@ pin_fits n _ _ unpinned = fit_none n
 pin_fits n _ _ (pinned {register = r} is) = fit_more n (register_plain r) [] (register_fits n r (register_low is.bytes r is.number)) (fit_none n)
 
 -- ---- the items of a goal
+abbrev HasLetName : LetTree → Type 0
+HasLetName l = IsName l.name
+
 abbrev HasName : InputReg → Type 0
 HasName i = IsName i.name
 
@@ -145,6 +153,11 @@ module _ (scope : Scope) (names : Naming) (named : AreNamed scope names) where
   guard_told _ _ unguarded = refl
   guard_told _ _ (guarded {form = f} one is w) = ap (λ p. p ∷ []) (listed_told (codes "when") (one ∷ []) f is ∙ ap (λ x. keyword_list (codes "when") (x ∷ [])) (term_told scope names named w))
 
+  let_told : (f : Form) (l : LetTree) → WritesLet scope f l → plain_of f ≡ let_plain names l
+  let_told f l w =
+      listed_told (codes "let") (w.first ∷ w.second ∷ []) f w.is
+      ∙ ap₂ (λ x y. keyword_list (codes "let") (x ∷ y ∷ [])) (name_told l.name w.first w.named) (term_told scope names named w.value)
+
   assume_fits : (n : ℕ) (f : Form) (a : TwoTrees) → WritesAssume scope f a → Fits n (plain_of f) → Fits n (assume_plain names a) × ⊤
   assume_fits n f a w fits = (subst (Fits n) (assume_told f a w) fits, tt)
 
@@ -160,33 +173,51 @@ module _ (scope : Scope) (names : Naming) (named : AreNamed scope names) where
         own.0,
       )
 
+-- lets, whose terms are written over those before them
+lets_fit : (n : ℕ) (declared : List DeclaredOp) (inputs : List InputReg) → AllPairs (λ a b. a ≢ b) (input_registers inputs) → (all : List (List ℕ)) {before : List SortedName} {fs : List Form} {ls : List LetTree}
+    → WritesLets declared inputs before fs ls → all ≡ sorted_names before ++ let_names ls → FitAll n (map plain_of fs) → FitAll n (map (let_plain (naming declared inputs all)) ls) × All HasLetName ls
+lets_fit n declared inputs apart all no_lets is fits = (fit_none n, All-nil HasLetName)
+lets_fit n declared inputs apart all (one_let {before = before} {form = f} {forms = fs} {one = l} {others = ls} one others) is fits =
+    let names : Naming = naming declared inputs all in
+    let scope = let_scope declared inputs before in
+    let named = subst (λ ns. AreNamed scope (naming declared inputs ns)) (sym is) (let_named declared inputs before (let_names (l ∷ ls)) apart) in
+    let here : Fits n (let_plain names l) = subst (Fits n) (let_told scope names named f l one) (fit_head n (plain_of f) (map plain_of fs) fits) in
+    let rest = lets_fit n declared inputs apart all others (is ∙ sym (names_more before l (let_names ls))) (fit_tail n (plain_of f) (map plain_of fs) fits) in
+    (fit_more n (let_plain names l) (map (let_plain names) ls) here rest.0, All-cons HasLetName l ls here.0.1.0 rest.1)
+
 -- ---- a goal
 pub goal_fits : (n : ℕ) (declared : List DeclaredOp) (f : Form) (g : GoalTree) → WritesGoal declared f g → Fits (1 + (1 + n)) (plain_of f) → Fits (1 + (1 + n)) (goal_plain declared g) × IsNamedGoal g
 goal_fits n declared f g w fits =
-    let names : Naming = naming declared g.inputs [] in
-    let scope = goal_scope declared g.inputs in
-    let named = goal_named declared g.inputs (pairs_front (input_registers g.inputs) g.pool w.rules.registers) in
-    let after_pools = w.assumes ++ (w.whens ++ w.sets) in
+    let names : Naming = goal_naming declared g in
+    let scope = scope_of_goal declared g in
+    let apart = pairs_front (input_registers g.inputs) g.pool w.rules.registers in
+    let named = whole_named declared g apart in
+    let after_lets = w.assumes ++ (w.whens ++ w.sets) in
+    let after_pools = w.bindings ++ after_lets in
     let items = w.ins ++ (w.pools ++ after_pools) in
     let parts = parts_fit (1 + n) (codes "goal") (w.name_form ∷ items) f w.is fits in
     let own = subst (Fits (1 + n)) (name_told g.name w.name_form w.named) (fit_head (1 + n) (plain_of w.name_form) (map plain_of items) parts) in
     let all = fit_tail (1 + n) (plain_of w.name_form) (map plain_of items) parts in
-    let behind = back_fits (1 + n) w.pools after_pools (back_fits (1 + n) w.ins (w.pools ++ after_pools) all) in
+    let from_lets = back_fits (1 + n) w.pools after_pools (back_fits (1 + n) w.ins (w.pools ++ after_pools) all) in
+    let behind = back_fits (1 + n) w.bindings after_lets from_lets in
     let last = back_fits (1 + n) w.assumes (w.whens ++ w.sets) behind in
     let ins = each_fits (1 + n) WritesInput input_plain HasName (input_fits n) w.ins g.inputs w.inputs (front_fits (1 + n) w.ins (w.pools ++ after_pools) all) in
+    let lets = lets_fit (1 + n) declared g.inputs apart (let_names g.lets) w.lets refl (front_fits (1 + n) w.bindings after_lets from_lets) in
     let assumes = each_fits (1 + n) (WritesAssume scope) (assume_plain names) (λ a. ⊤) (assume_fits scope names named (1 + n)) w.assumes g.assumes w.assumptions (front_fits (1 + n) w.assumes (w.whens ++ w.sets) behind) in
     let guard = subst (FitAll (1 + n)) (guard_told scope names named w.whens g.guard w.guard) (front_fits (1 + n) w.whens w.sets last) in
     let sets = each_fits (1 + n) (WritesTarget scope) (target_plain names) (λ t. IsName t.name) (target_fits scope names named n) w.sets g.sets w.targets (back_fits (1 + n) w.whens w.sets last) in
     let pool = pool_fits n g.pool (all_back (λ r. r < 31) (input_registers g.inputs) g.pool w.rules.low) in
     let last_plains = guard_plains names g.guard ++ map (target_plain names) g.sets in
-    let plains_behind = map (assume_plain names) g.assumes ++ last_plains in
+    let assume_plains = map (assume_plain names) g.assumes ++ last_plains in
+    let plains_behind = map (let_plain names) g.lets ++ assume_plains in
     let item_plains = map input_plain g.inputs ++ pool_plain g.pool ∷ plains_behind in (
       listed_fits (1 + n) (codes "goal") (atom (name g.name) ∷ item_plains) (record { begins = refl; each = refl })
           (fit_more (1 + n) (atom (name g.name)) item_plains own
           (fit_both (1 + n) (map input_plain g.inputs) (pool_plain g.pool ∷ plains_behind) ins.0
           (fit_more (1 + n) (pool_plain g.pool) plains_behind pool
-          (fit_both (1 + n) (map (assume_plain names) g.assumes) last_plains assumes.0 (fit_both (1 + n) (guard_plains names g.guard) (map (target_plain names) g.sets) guard sets.0))))),
-      record { own = own.0; inputs = ins.1; targets = sets.1 },
+          (fit_both (1 + n) (map (let_plain names) g.lets) assume_plains lets.0
+          (fit_both (1 + n) (map (assume_plain names) g.assumes) last_plains assumes.0 (fit_both (1 + n) (guard_plains names g.guard) (map (target_plain names) g.sets) guard sets.0)))))),
+      record { own = own.0; inputs = ins.1; lets = lets.1; targets = sets.1 },
     )
 
 -- ---- a declaration and an axiom

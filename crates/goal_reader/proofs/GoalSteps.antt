@@ -3,7 +3,7 @@ use Rattle.std.proofs.Common.{◌≡◌, ℕ, zero, suc, ◌+◌, ◌-◌, ◌<�
 use Rattle.std.specs.List.{flat_map, list_any, cons_option}
 use Rattle.std.specs.Option.{option_map_or}
 use Rattle.std.proofs.lemmas.Bool.{cases_order}
-use Rattle.std.proofs.lemmas.List.{take_all, length-drop}
+use Rattle.std.proofs.lemmas.List.{take_all, length-drop, length-map}
 use Rattle.text_core.specs.declared.faults.Kind.{Kind}
 use Rattle.text_core.specs.declared.faults.Kind.TheVariants.{BadForm}
 use Rattle.text_core.specs.declared.sexps.Sexp.{Sexp}
@@ -15,15 +15,19 @@ use Rattle.forms.proofs.First.{ClearTo, first_own, first_inside, no_fault}
 use Rattle.goal_meaning.specs.declared.goals.DeclaredOp.{DeclaredOp}
 use Rattle.goal_reader.specs.declared.scopes.Scope.{Scope}
 use Rattle.goal_meaning.specs.declared.goals.InputReg.{InputReg}
+use Rattle.goal_meaning.specs.declared.goals.Let.{Let}
 use Rattle.goal_meaning.specs.declared.goals.Set.{Set}
+use Rattle.word_ops.specs.declared.sorts.Sort.{Sort}
+use Rattle.goal_reader.specs.Scopes.{SortedName, sorted_names}
+use Rattle.goal_reader.proofs.LetScopes.{lets_from_more, scope_more}
 use Rattle.goal_reader.specs.declared.drafts.Draft.{Draft}
 use Rattle.goal_reader.specs.declared.order.Admission.TheVariants.{Admitted}
 use Rattle.goal_reader.specs.Roles as roles
-use Rattle.goal_reader.specs.Roles.{Role, a_list, wrong, goal, IsOwn, too_few, no_set, part_role, IsFaultAs, rank, is_of_rank, of_rank, goal_keywords, goal_bounds, bound_at, items_of_goal, item_role, role_in, goal_scope, inputs_in, input_in, names_given, second_name, fresh_name, registers_in, pool_in, pin_in, pins_in}
+use Rattle.goal_reader.specs.Roles.{Role, a_list, wrong, goal, IsOwn, too_few, no_set, part_role, IsFaultAs, rank, is_of_rank, of_rank, goal_keywords, goal_bounds, bound_at, items_of_goal, item_role, role_in, goal_scope, let_scope, let_in, lets_from, lets_in, part_sort, ◌>>=◌, inputs_in, input_in, names_given, second_name, fresh_name, registers_in, pool_in, pin_in, pins_in}
 use Rattle.goal_reader.specs.Order.{IsAdmission}
-use Rattle.goal_reader.specs.Reading.{IsClear, names_of_targets, pins_of_targets}
+use Rattle.goal_reader.specs.Reading.{IsClear, names_of_inputs, names_of_lets, names_of_targets, pins_of_targets}
 use Rattle.goal_meaning.specs.WellFormed.{input_registers}
-use Rattle.goal_reader.specs.Drafts.{IsNext, IsDraft, draft_role, items_before, input_leaf, pool_read, with_input}
+use Rattle.goal_reader.specs.Drafts.{IsNext, IsDraft, draft_role, items_before, input_leaf, let_leaf, pool_read, with_input}
 use Rattle.goal_reader.specs.Drafts as drafts
 use Rattle.goal_reader.proofs.Admitting.{role_told}
 use Rattle.goal_reader.proofs.Fixed.{got_within}
@@ -92,36 +96,59 @@ mapped_more f (y ∷ ys) x = ap (λ zs. f y ∷ zs) (mapped_more f ys x)
 pub other_inputs : (at : ℕ) (form : Form) (before : List Form) → rank goal_keywords form ≡ Some at → (at == 0) ≡ false → inputs_in (before ++ form ∷ []) ≡ inputs_in before
 other_inputs at form before e t = ap (filter_map input_in) (same_rank at 0 form before false e t ∙ nothing_more (of_rank goal_keywords 0 before))
 
-pub other_targets : (at : ℕ) (form : Form) (before : List Form) → rank goal_keywords form ≡ Some at → (at == 4) ≡ false → names_given (of_rank goal_keywords 4 (before ++ form ∷ [])) ≡ names_given (of_rank goal_keywords 4 before)
-other_targets at form before e t = ap names_given (same_rank at 4 form before false e t ∙ nothing_more (of_rank goal_keywords 4 before))
+pub other_targets : (at : ℕ) (form : Form) (before : List Form) → rank goal_keywords form ≡ Some at → (at == 5) ≡ false → names_given (of_rank goal_keywords 5 (before ++ form ∷ [])) ≡ names_given (of_rank goal_keywords 5 before)
+other_targets at form before e t = ap names_given (same_rank at 5 form before false e t ∙ nothing_more (of_rank goal_keywords 5 before))
 
 pub other_pool : (at : ℕ) (form : Form) (before : List Form) → rank goal_keywords form ≡ Some at → (at == 1) ≡ false → pool_in (before ++ form ∷ []) ≡ pool_in before
 other_pool at form before e t = ap (λ fs. registers_in (flat_map parts_of fs)) (same_rank at 1 form before false e t ∙ nothing_more (of_rank goal_keywords 1 before))
 
-pub other_pins : (at : ℕ) (form : Form) (before : List Form) → rank goal_keywords form ≡ Some at → (at == 4) ≡ false → pins_in (before ++ form ∷ []) ≡ pins_in before
-other_pins at form before e t = ap (filter_map pin_in) (same_rank at 4 form before false e t ∙ nothing_more (of_rank goal_keywords 4 before))
+pub other_pins : (at : ℕ) (form : Form) (before : List Form) → rank goal_keywords form ≡ Some at → (at == 5) ≡ false → pins_in (before ++ form ∷ []) ≡ pins_in before
+other_pins at form before e t = ap (filter_map pin_in) (same_rank at 5 form before false e t ∙ nothing_more (of_rank goal_keywords 5 before))
 
 pub one_pool : (form : Form) (before : List Form) → rank goal_keywords form ≡ Some 1 → of_rank goal_keywords 1 before ≡ [] → pool_in (before ++ form ∷ []) ≡ registers_in (parts_of form)
 one_pool form before e none =
     ap (λ fs. registers_in (flat_map parts_of fs)) (same_rank 1 1 form before true e refl ∙ ap (λ (fs : List Form). fs ++ form ∷ []) none) ∙ ap registers_in (nothing_more (parts_of form))
 
-pub one_pin : (form : Form) (before : List Form) (o : Option ℕ) → rank goal_keywords form ≡ Some 4 → pin_in form ≡ o → pins_in (before ++ form ∷ []) ≡ pins_in before ++ cons_option o []
+pub one_pin : (form : Form) (before : List Form) (o : Option ℕ) → rank goal_keywords form ≡ Some 5 → pin_in form ≡ o → pins_in (before ++ form ∷ []) ≡ pins_in before ++ cons_option o []
 one_pin form before o e is =
-    ap (filter_map pin_in) (same_rank 4 4 form before true e refl) ∙ filter_more pin_in (of_rank goal_keywords 4 before) form ∙ ap (λ x. pins_in before ++ cons_option x []) is
+    ap (filter_map pin_in) (same_rank 5 5 form before true e refl) ∙ filter_more pin_in (of_rank goal_keywords 5 before) form ∙ ap (λ x. pins_in before ++ cons_option x []) is
 
 pub one_input : (form : Form) (before : List Form) (i : InputReg) → rank goal_keywords form ≡ Some 0 → input_in form ≡ Some i → inputs_in (before ++ form ∷ []) ≡ inputs_in before ++ i ∷ []
 one_input form before i e is = ap (filter_map input_in) (same_rank 0 0 form before true e refl) ∙ map_more input_in (of_rank goal_keywords 0 before) form i is
 
-pub one_target : (form : Form) (before : List Form) (name : List ℕ) → rank goal_keywords form ≡ Some 4 → second_name form ≡ Some name → names_given (of_rank goal_keywords 4 (before ++ form ∷ [])) ≡ names_given (of_rank goal_keywords 4 before) ++ name ∷ []
-one_target form before name e is = ap names_given (same_rank 4 4 form before true e refl) ∙ map_more second_name (of_rank goal_keywords 4 before) form name is
+pub one_target : (form : Form) (before : List Form) (name : List ℕ) → rank goal_keywords form ≡ Some 5 → second_name form ≡ Some name → names_given (of_rank goal_keywords 5 (before ++ form ∷ [])) ≡ names_given (of_rank goal_keywords 5 before) ++ name ∷ []
+one_target form before name e is = ap names_given (same_rank 5 5 form before true e refl) ∙ map_more second_name (of_rank goal_keywords 5 before) form name is
+
+let_known : (scope : Scope) (form : Form) (l : SortedName) → second_name form ≡ Some l.name → part_sort scope form 2 ≡ Some l.sort → let_in scope form ≡ Some l
+let_known scope form l named sorted =
+    let put : List ℕ → Sort → Option SortedName = λ n s. Some (record { name = n; sort = s }) in
+    ap (λ o. o >>= (λ n. part_sort scope form 2 >>= put n)) named ∙ ap (λ o. o >>= put l.name) sorted
+
+module _ (declared : List DeclaredOp) where
+  pub other_lets : (at : ℕ) (form : Form) (before : List Form) → rank goal_keywords form ≡ Some at → (at == 0) ≡ false → (at == 2) ≡ false → lets_in declared (before ++ form ∷ []) ≡ lets_in declared before
+  other_lets at form before e t0 t2 =
+      ap₂ (λ is fs. lets_from declared is [] fs) (other_inputs at form before e t0) (same_rank at 2 form before false e t2 ∙ nothing_more (of_rank goal_keywords 2 before))
+
+  pub no_lets_yet : (before : List Form) → of_rank goal_keywords 2 before ≡ [] → lets_in declared before ≡ []
+  no_lets_yet before none = ap (lets_from declared (inputs_in before) []) none
+
+  -- an input adds no let where there is none before it
+  pub no_lets_more : (form : Form) (before : List Form) → rank goal_keywords form ≡ Some 0 → of_rank goal_keywords 2 before ≡ [] → lets_in declared (before ++ form ∷ []) ≡ []
+  no_lets_more form before e none = no_lets_yet (before ++ form ∷ []) (same_rank 0 2 form before false e refl ∙ nothing_more (of_rank goal_keywords 2 before) ∙ none)
+
+  pub one_let_in : (form : Form) (before : List Form) (l : SortedName) → rank goal_keywords form ≡ Some 2 → let_in (let_scope declared (inputs_in before) (lets_in declared before)) form ≡ Some l → lets_in declared (before ++ form ∷ []) ≡ lets_in declared before ++ l ∷ []
+  one_let_in form before l e is =
+      ap₂ (λ xs fs. lets_from declared xs [] fs) (other_inputs 2 form before e refl) (same_rank 2 2 form before true e refl) ∙ lets_from_more declared (inputs_in before) [] (of_rank goal_keywords 2 before) form
+      ∙ ap (λ o. lets_in declared before ++ cons_option o []) is
 
 module _ (declared : List DeclaredOp) (before : List Form) (form : Form) (d : Draft) (h : IsDraft declared before d) where
-  -- an item that is no input and no target leaves these as they are
-  plain : (at : ℕ) (next : Draft) → rank goal_keywords form ≡ Some at → (at == 0) ≡ false → (at == 4) ≡ false → pool_read next.pool ≡ pool_in (before ++ form ∷ []) → next.scope ≡ d.scope → next.inputs ≡ d.inputs → next.sets ≡ d.sets
+  -- an item that is no input, no let and no target leaves these as they are
+  plain : (at : ℕ) (next : Draft) → rank goal_keywords form ≡ Some at → (at == 0) ≡ false → (at == 2) ≡ false → (at == 5) ≡ false → pool_read next.pool ≡ pool_in (before ++ form ∷ []) → next.scope ≡ d.scope → next.inputs ≡ d.inputs → next.lets ≡ d.lets → next.sets ≡ d.sets
       → IsDraft declared (before ++ form ∷ []) next
-  plain at next e t0 t4 pool scope inputs sets = record {
-    scope = scope ∙ h.scope ∙ ap (goal_scope declared) (sym (other_inputs at form before e t0));
+  plain at next e t0 t2 t4 pool scope inputs lets sets = record {
+    scope = scope ∙ h.scope ∙ ap₂ (λ is ls. let_scope declared is ls) (sym (other_inputs at form before e t0)) (sym (other_lets declared at form before e t0 t2));
     inputs = inputs ∙ h.inputs ∙ sym (other_inputs at form before e t0);
+    lets = ap names_of_lets lets ∙ h.lets ∙ ap sorted_names (sym (other_lets declared at form before e t0 t2));
     pool = pool;
     pins = ap pins_of_targets sets ∙ h.pins ∙ sym (other_pins at form before e t4);
     targets = ap names_of_targets sets ∙ h.targets ∙ sym (other_targets at form before e t4);
@@ -130,43 +157,74 @@ module _ (declared : List DeclaredOp) (before : List Form) (form : Form) (d : Dr
   pool_stays : (at : ℕ) (next : Draft) → rank goal_keywords form ≡ Some at → (at == 1) ≡ false → next.pool ≡ d.pool → pool_read next.pool ≡ pool_in (before ++ form ∷ [])
   pool_stays at next e t1 same = ap pool_read same ∙ h.pool ∙ sym (other_pool at form before e t1)
 
-  pub next_draft : (at : ℕ) (next : Draft) → rank goal_keywords form ≡ Some at → (at ≡ 1 → of_rank goal_keywords 1 before ≡ []) → IsNext form d at next → IsDraft declared (before ++ form ∷ []) next
-  next_draft at next e no_pool (drafts.input i is same) =
+  pub next_draft : (at : ℕ) (next : Draft) → rank goal_keywords form ≡ Some at → (at ≡ 0 → of_rank goal_keywords 2 before ≡ []) → (at ≡ 1 → of_rank goal_keywords 1 before ≡ []) → IsNext form d at next → IsDraft declared (before ++ form ∷ []) next
+  next_draft at next e no_let no_pool (drafts.input i is same) =
       let inputs = one_input form before i e is in
-      let more : List InputReg → Scope = λ xs. goal_scope declared xs in
-      let leaves : d.scope.leaves ++ input_leaf i ∷ [] ≡ (goal_scope declared (inputs_in before ++ i ∷ [])).leaves =
-      ap (λ (s : Scope). s.leaves ++ input_leaf i ∷ []) h.scope ∙ ap (λ ls. ((goal_scope declared []).leaves) ++ ls) (sym (mapped_more input_leaf (inputs_in before) i)) in
+      let was = no_lets_yet declared before (no_let refl) in
+      let is_now = no_lets_more declared form before e (no_let refl) in
+      let more = inputs_in before ++ i ∷ [] in
+      let leaves : d.scope.leaves ++ input_leaf i ∷ [] ≡ (let_scope declared more []).leaves =
+      ap (λ (s : Scope). s.leaves ++ input_leaf i ∷ []) (h.scope ∙ ap (λ ls. let_scope declared (inputs_in before) ls) was) ∙ ap (λ ls. ls ++ input_leaf i ∷ []) (nothing_more (goal_scope declared (inputs_in before)).leaves)
+      ∙ ap (λ ls. ((goal_scope declared []).leaves) ++ ls) (sym (mapped_more input_leaf (inputs_in before) i)) ∙ sym (nothing_more (goal_scope declared more).leaves) in
       record {
         scope = ap (λ (x : Draft). x.scope) same ∙ ap (λ ls. record { declared = d.scope.declared; leaves = ls }) leaves
-            ∙ ap (λ ds. record { declared = ds; leaves = (goal_scope declared (inputs_in before ++ i ∷ [])).leaves }) (ap (λ (s : Scope). s.declared) h.scope) ∙ ap more (sym inputs);
+            ∙ ap (λ ds. record { declared = ds; leaves = (let_scope declared more []).leaves }) (ap (λ (s : Scope). s.declared) h.scope) ∙ ap₂ (λ xs ls. let_scope declared xs ls) (sym inputs) (sym is_now);
         inputs = ap (λ (x : Draft). x.inputs) same ∙ ap (λ xs. xs ++ i ∷ []) h.inputs ∙ sym inputs;
+        lets = ap (λ (x : Draft). names_of_lets x.lets) same ∙ h.lets ∙ ap sorted_names (was ∙ sym is_now);
         pool = pool_stays 0 next e refl (ap (λ (x : Draft). x.pool) same);
         pins = ap (λ (x : Draft). pins_of_targets x.sets) same ∙ h.pins ∙ sym (other_pins 0 form before e refl);
         targets = ap (λ (x : Draft). names_of_targets x.sets) same ∙ h.targets ∙ sym (other_targets 0 form before e refl);
       }
-  next_draft at next e no_pool (drafts.pool registers is same) = plain 1 next e refl refl (ap (λ (x : Draft). pool_read x.pool) same ∙ is ∙ sym (one_pool form before e (no_pool refl))) (ap (λ (x : Draft). x.scope) same) (ap (λ (x : Draft). x.inputs) same) (ap (λ (x : Draft). x.sets) same)
-  next_draft at next e no_pool (drafts.assume one left right same) = plain 2 next e refl refl (pool_stays 2 next e refl (ap (λ (x : Draft). x.pool) same)) (ap (λ (x : Draft). x.scope) same) (ap (λ (x : Draft). x.inputs) same) (ap (λ (x : Draft). x.sets) same)
-  next_draft at next e no_pool (drafts.guard term is same) = plain 3 next e refl refl (pool_stays 3 next e refl (ap (λ (x : Draft). x.pool) same)) (ap (λ (x : Draft). x.scope) same) (ap (λ (x : Draft). x.inputs) same) (ap (λ (x : Draft). x.sets) same)
-  next_draft at next e no_pool (drafts.target one named pinned value same) = record {
-    scope = ap (λ (x : Draft). x.scope) same ∙ h.scope ∙ ap (goal_scope declared) (sym (other_inputs 4 form before e refl));
-    inputs = ap (λ (x : Draft). x.inputs) same ∙ h.inputs ∙ sym (other_inputs 4 form before e refl);
-    pool = pool_stays 4 next e refl (ap (λ (x : Draft). x.pool) same);
+  next_draft at next e no_let no_pool (drafts.pool registers is same) = plain 1 next e refl refl refl (ap (λ (x : Draft). pool_read x.pool) same ∙ is ∙ sym (one_pool form before e (no_pool refl))) (ap (λ (x : Draft). x.scope) same) (ap (λ (x : Draft). x.inputs) same) (ap (λ (x : Draft). x.lets) same) (ap (λ (x : Draft). x.sets) same)
+  next_draft at next e no_let no_pool (drafts.binding one sort named value sorted same) =
+      let before_lets = lets_in declared before in
+      let l : SortedName = record { name = one.name; sort = sort } in
+      let told : part_sort (let_scope declared (inputs_in before) before_lets) form 2 ≡ Some sort = subst (λ (s : Scope). part_sort s form 2 ≡ Some sort) h.scope sorted in
+      let more = one_let_in declared form before l e (let_known (let_scope declared (inputs_in before) before_lets) form l named told) in
+      let count : length d.lets ≡ length before_lets =
+      (let n = ap length h.lets in let a = length-map d.lets (λ (x : Let). x.name) in let b = length-map before_lets (λ (x : SortedName). x.name) in omega (arith, n, a, b)) in
+      let leaves : d.scope.leaves ++ let_leaf (length d.lets) one.name sort ∷ [] ≡ (let_scope declared (inputs_in before) (before_lets ++ l ∷ [])).leaves =
+      ap (λ (s : Scope). s.leaves ++ let_leaf (length d.lets) one.name sort ∷ []) h.scope ∙ ap (λ n. (let_scope declared (inputs_in before) before_lets).leaves ++ let_leaf n one.name sort ∷ []) count
+      ∙ scope_more declared (inputs_in before) before_lets l in
+      record {
+        scope = ap (λ (x : Draft). x.scope) same ∙ ap (λ ls. record { declared = d.scope.declared; leaves = ls }) leaves
+            ∙ ap (λ ds. record { declared = ds; leaves = (let_scope declared (inputs_in before) (before_lets ++ l ∷ [])).leaves }) (ap (λ (s : Scope). s.declared) h.scope)
+            ∙ ap₂ (λ xs ls. let_scope declared xs ls) (sym (other_inputs 2 form before e refl)) (sym more);
+        inputs = ap (λ (x : Draft). x.inputs) same ∙ h.inputs ∙ sym (other_inputs 2 form before e refl);
+        lets = ap (λ (x : Draft). names_of_lets x.lets) same ∙ mapped_more (λ (x : Let). x.name) d.lets one ∙ ap (λ ns. ns ++ one.name ∷ []) h.lets
+            ∙ sym (mapped_more (λ (x : SortedName). x.name) before_lets l) ∙ ap sorted_names (sym more);
+        pool = pool_stays 2 next e refl (ap (λ (x : Draft). x.pool) same);
+        pins = ap (λ (x : Draft). pins_of_targets x.sets) same ∙ h.pins ∙ sym (other_pins 2 form before e refl);
+        targets = ap (λ (x : Draft). names_of_targets x.sets) same ∙ h.targets ∙ sym (other_targets 2 form before e refl);
+      }
+  next_draft at next e no_let no_pool (drafts.assume one left right same) = plain 3 next e refl refl refl (pool_stays 3 next e refl (ap (λ (x : Draft). x.pool) same)) (ap (λ (x : Draft). x.scope) same) (ap (λ (x : Draft). x.inputs) same) (ap (λ (x : Draft). x.lets) same) (ap (λ (x : Draft). x.sets) same)
+  next_draft at next e no_let no_pool (drafts.guard term is same) = plain 4 next e refl refl refl (pool_stays 4 next e refl (ap (λ (x : Draft). x.pool) same)) (ap (λ (x : Draft). x.scope) same) (ap (λ (x : Draft). x.inputs) same) (ap (λ (x : Draft). x.lets) same) (ap (λ (x : Draft). x.sets) same)
+  next_draft at next e no_let no_pool (drafts.target one named pinned value same) = record {
+    scope = ap (λ (x : Draft). x.scope) same ∙ h.scope ∙ ap₂ (λ is ls. let_scope declared is ls) (sym (other_inputs 5 form before e refl)) (sym (other_lets declared 5 form before e refl refl));
+    inputs = ap (λ (x : Draft). x.inputs) same ∙ h.inputs ∙ sym (other_inputs 5 form before e refl);
+    lets = ap (λ (x : Draft). names_of_lets x.lets) same ∙ h.lets ∙ ap sorted_names (sym (other_lets declared 5 form before e refl refl));
+    pool = pool_stays 5 next e refl (ap (λ (x : Draft). x.pool) same);
     pins = ap (λ (x : Draft). pins_of_targets x.sets) same ∙ filter_more (λ (t : Set). t.pin) d.sets one ∙ ap (λ ps. ps ++ cons_option one.pin []) h.pins ∙ sym (one_pin form before one.pin e pinned);
     targets = ap (λ (x : Draft). names_of_targets x.sets) same ∙ mapped_more (λ (t : Set). t.name) d.sets one ∙ ap (λ ns. ns ++ one.name ∷ []) h.targets ∙ sym (one_target form before one.name e named);
   }
 
-  abbrev roles_of : List DeclaredOp → List InputReg → Scope → List (List ℕ) → List ℕ → ℕ → Role
-  roles_of ds is scope names taken at = get_or (a_list (roles.input ds is) ∷ a_list (roles.pool (input_registers is)) ∷ a_list (roles.assume scope) ∷ a_list (roles.guard scope) ∷ a_list (roles.set scope names taken) ∷ []) at wrong
+  abbrev roles_of : List DeclaredOp → List InputReg → Scope → List (List ℕ) → List (List ℕ) → List ℕ → ℕ → Role
+  roles_of ds is scope leaves names taken at =
+      get_or (a_list (roles.input ds is) ∷ a_list (roles.pool (input_registers is)) ∷ a_list (roles.binding scope leaves) ∷ a_list (roles.assume scope) ∷ a_list (roles.guard scope) ∷ a_list (roles.set scope names taken) ∷ []) at wrong
 
   -- what the code reads the item as is what the definition has
   pub role_same : (at : ℕ) → draft_role d at ≡ item_role declared before at
   role_same at =
       let taken = pool_read d.pool ++ pins_of_targets d.sets in
-      ap (λ ds. roles_of ds d.inputs d.scope (names_of_targets d.sets) taken at) (ap (λ (s : Scope). s.declared) h.scope)
-      ∙ ap (λ is. roles_of declared is d.scope (names_of_targets d.sets) taken at) h.inputs
-      ∙ ap (λ s. roles_of declared (inputs_in before) s (names_of_targets d.sets) taken at) h.scope
-      ∙ ap (λ ns. roles_of declared (inputs_in before) (goal_scope declared (inputs_in before)) ns taken at) h.targets
-      ∙ ap (λ rs. roles_of declared (inputs_in before) (goal_scope declared (inputs_in before)) (names_given (of_rank goal_keywords 4 before)) rs at) (ap₂ (λ p q. p ++ q) h.pool h.pins)
+      let leaves = names_of_inputs d.inputs ++ names_of_lets d.lets in
+      let all = names_of_inputs (inputs_in before) ++ sorted_names (lets_in declared before) in
+      let scope = let_scope declared (inputs_in before) (lets_in declared before) in
+      ap (λ ds. roles_of ds d.inputs d.scope leaves (names_of_targets d.sets) taken at) (ap (λ (s : Scope). s.declared) h.scope)
+      ∙ ap (λ is. roles_of declared is d.scope leaves (names_of_targets d.sets) taken at) h.inputs
+      ∙ ap (λ s. roles_of declared (inputs_in before) s leaves (names_of_targets d.sets) taken at) h.scope
+      ∙ ap (λ ns. roles_of declared (inputs_in before) scope ns (names_of_targets d.sets) taken at) (ap₂ (λ xs ns. names_of_inputs xs ++ ns) h.inputs h.lets)
+      ∙ ap (λ ns. roles_of declared (inputs_in before) scope all ns taken at) h.targets
+      ∙ ap (λ rs. roles_of declared (inputs_in before) scope all (names_given (of_rank goal_keywords 5 before)) rs at) (ap₂ (λ p q. p ++ q) h.pool h.pins)
 
   pub admitted_role : (at : ℕ) → rank goal_keywords form ≡ Some at → IsAdmission goal_keywords before at (bound_at goal_bounds at).most Admitted → role_in goal_keywords goal_bounds before (item_role declared before) form ≡ draft_role d at
   admitted_role at e admitted = role_told goal_keywords goal_bounds before (item_role declared before) form at Admitted e admitted ∙ sym (role_same at)
@@ -176,7 +234,7 @@ module _ (declared : List DeclaredOp) (names : List (List ℕ)) (form : Form) wh
   abbrev pub whole : Role
   whole = a_list (goal declared names)
 
-  pub goal_clear : 2 ≤ length (parts_of form) → list_any (is_of_rank goal_keywords 4) (items_of_goal form) ≡ true → (k : Kind) → IsOwn whole form k → ⊥
+  pub goal_clear : 2 ≤ length (parts_of form) → list_any (is_of_rank goal_keywords 5) (items_of_goal form) ≡ true → (k : Kind) → IsOwn whole form k → ⊥
   goal_clear enough some k (too_few l) = absurd (omega (arith, enough, l))
   goal_clear enough some k (no_set e) = let f : true ≡ false = sym some ∙ e in cc
 
@@ -217,7 +275,7 @@ module _ (declared : List DeclaredOp) (names : List (List ℕ)) (form : Form) wh
         | inr (inr after) ↦ absurd (omega (arith, below, after))
       ]
 
-  pub whole_clear : (n : ℕ) → 2 ≤ length (parts_of form) → list_any (is_of_rank goal_keywords 4) (items_of_goal form) ≡ true → length (parts_of form) ≤ n → ClearTo IsOwn part_role whole form n → IsClear whole form
+  pub whole_clear : (n : ℕ) → 2 ≤ length (parts_of form) → list_any (is_of_rank goal_keywords 5) (items_of_goal form) ≡ true → length (parts_of form) ≤ n → ClearTo IsOwn part_role whole form n → IsClear whole form
   whole_clear n enough some most clear =
       no_fault IsOwn part_role whole form (goal_clear enough some)
       (λ j part other place kind g e fault. clear j part other place kind (let l = got_within (parts_of form) j part g in omega (arith, l, most)) g e fault)
@@ -226,9 +284,9 @@ module _ (declared : List DeclaredOp) (names : List (List ℕ)) (form : Form) wh
     pub short_goal : length (parts_of form) < 2 → IsFirst (IsFaultAs whole form) (place_of form) BadForm
     short_goal l = first_own IsOwn part_role whole form low high BadForm h (too_few l) (λ k is. owns.own_at_least is)
 
-    pub no_set_first : list_any (is_of_rank goal_keywords 4) (items_of_goal form) ≡ false → IsFirst (IsFaultAs whole form) (place_of form) BadForm
+    pub no_set_first : list_any (is_of_rank goal_keywords 5) (items_of_goal form) ≡ false → IsFirst (IsFaultAs whole form) (place_of form) BadForm
     no_set_first e = first_own IsOwn part_role whole form low high BadForm h (no_set e) (λ k is. owns.own_at_least is)
 
-    pub part_first : (i : ℕ) (part : Form) (role : Role) (place : ℕ) (kind : Kind) → 2 ≤ length (parts_of form) → list_any (is_of_rank goal_keywords 4) (items_of_goal form) ≡ true
+    pub part_first : (i : ℕ) (part : Form) (role : Role) (place : ℕ) (kind : Kind) → 2 ≤ length (parts_of form) → list_any (is_of_rank goal_keywords 5) (items_of_goal form) ≡ true
         → slice_get (parts_of form) i ≡ Some part → part_role whole form i ≡ Some role → ClearTo IsOwn part_role whole form i → IsFirst (IsFaultAs role part) place kind → IsFirst (IsFaultAs whole form) place kind
     part_first i part role place kind enough some g e clear first = first_inside IsOwn part_role whole form low high i part role place kind h (goal_clear enough some) g e clear first

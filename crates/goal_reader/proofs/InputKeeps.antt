@@ -1,7 +1,7 @@
 -- What a text writes is well formed.
-use Rattle.std.proofs.Common.{◌≡◌, ℕ, zero, suc, ◌+◌, ◌<◌, ◌^◌, ◌++◌, if◌then◌else◌, Bool, true, false, Option, Some, List, [], ◌∷◌, map, length, get_or, replicate, refl, sym, ◌∙◌, subst, arith, bytes_eq, codes}
+use Rattle.std.proofs.Common.{◌≡◌, ℕ, zero, suc, ◌+◌, ◌<◌, ◌^◌, ◌++◌, if◌then◌else◌, Bool, true, false, Option, Some, List, [], ◌∷◌, map, length, get_or, replicate, refl, sym, ap, ◌∙◌, subst, arith, bytes_eq, codes}
 use Rattle.std.specs.Prelude.{All, Contains, IfSome}
-use Rattle.std.proofs.lemmas.List.{get_or-replicate, length-replicate}
+use Rattle.std.proofs.lemmas.List.{append-nil, get_or-replicate, length-replicate}
 use Rattle.std.proofs.lemmas.List.Elements.{All-nil, All-cons}
 use Rattle.forms.specs.Forms.{Form, atom, list, name, forms_from, is_list}
 use Rattle.forms.specs.Printing.{CanPrint, plain_of}
@@ -12,22 +12,26 @@ use Rattle.machine_table.specs.declared.tables.Table.{Table}
 use Rattle.word_ops.specs.declared.sorts.Op.{Op}
 use Rattle.word_ops.specs.declared.sorts.Sort.{Sort}
 use Rattle.word_ops.specs.declared.sorts.Sort.TheVariants as sorts
-use Rattle.word_terms.specs.Sorting.{IsApplication}
+use Rattle.word_terms.specs.Sorting.{IsApplication, sort_at}
 use Rattle.word_terms.specs.Tree.{Tree}
 use Rattle.goal_meaning.specs.declared.goals.DeclaredOp.{DeclaredOp}
-use Rattle.goal_reader.specs.declared.scopes.Named.TheVariants.{Memory, Input, Variable}
+use Rattle.goal_meaning.specs.declared.goals.InputReg.{InputReg}
+use Rattle.goal_meaning.specs.Expanded.{let_values}
+use Rattle.goal_reader.specs.declared.scopes.Leaf.{Leaf}
+use Rattle.goal_reader.specs.declared.scopes.Named.TheVariants.{Memory, Input, Variable, Let}
 use Rattle.goal_reader.specs.declared.scopes.Scope.{Scope}
-use Rattle.goal_reader.specs.Grammar.{WritesAssume, WritesGuard, WritesTarget, WritesGoal, WritesAxiom, WritesMachine, WritesText, axiom_scope, unguarded, guarded, built_in, own}
+use Rattle.goal_reader.specs.Grammar.{WritesLets, no_lets, one_let, sorted_from, scope_of_goal, WritesAssume, WritesGuard, WritesTarget, WritesGoal, WritesAxiom, WritesMachine, WritesText, axiom_scope, unguarded, guarded, built_in, own}
 use Rattle.goal_meaning.specs.Names.{IsNamedInput}
 use Rattle.goal_meaning.specs.InputForms.{input_plains}
-use Rattle.goal_meaning.specs.WellFormed.{input_registers, IsOfAxiom, IsOfGoal, IsOperation, IsAxiom, IsGoalTerm, IsAssume, IsTarget, IsGoal, IsInput, axiom_sorts, operators_of_axiom, operators_of_goal, operators_of_input}
-use Rattle.goal_reader.specs.Roles.{goal_scope, rank_from}
-use Rattle.goal_reader.specs.Scopes.{leaf_named}
-use Rattle.goal_reader.specs.Terms.{Writes, memory, input, variable, constant, application}
-use Rattle.goal_meaning.specs.Views.{TwoTrees, TargetTree, GoalTree, AxiomTree, InputTree}
+use Rattle.goal_meaning.specs.WellFormed.{input_registers, AreLets, IsTermOver, IsOfAxiom, IsOfGoal, IsOperation, IsAxiom, IsGoalTerm, IsAssume, IsTarget, IsGoal, IsInput, axiom_sorts, operators_of_axiom, operators_of_goal, operators_of_input}
+use Rattle.goal_reader.specs.Roles.{goal_scope, let_scope, rank_from}
+use Rattle.goal_reader.specs.Scopes.{SortedName, leaf_named, sorts_of_names}
+use Rattle.goal_reader.specs.Terms.{Writes, memory, input, variable, binding, constant, application}
+use Rattle.goal_meaning.specs.Views.{LetTree, TwoTrees, TargetTree, GoalTree, AxiomTree, InputTree}
 use Rattle.goal_reader.proofs.AxiomForms.{left_told}
 use Rattle.goal_reader.proofs.Fitting.{Fits, FitAll, fit_head, fit_tail, front_fits, back_fits, parts_fit, axiom_fits, goal_fits}
-use Rattle.goal_reader.proofs.PrintedNames.{leaves_of, input_leaf}
+use Rattle.goal_reader.proofs.LetForms.{in_goal, input_leaf, leaves_of, let_variables, sort_is}
+use Rattle.goal_reader.proofs.LetScopes.{sorts_from, sorts_more}
 use Rattle.goal_reader.proofs.WellSorted.{NamesVariables, Means, is_sorted, each_operator, of_operator, no_constant}
 use Rattle.goal_reader.proofs.WrittenSizes.{at_most_all}
 
@@ -52,6 +56,9 @@ variable_is m n e = cc
 no_memory : (k : ℕ) → Memory ≡ Variable k → ⊥
 no_memory k e = cc
 
+no_let : (n : ℕ) (s : Sort) (k : ℕ) → Let n s ≡ Variable k → ⊥
+no_let n s k e = cc
+
 no_input : (r k : ℕ) → Input r ≡ Variable k → ⊥
 no_input r k e = cc
 
@@ -59,13 +66,19 @@ module _ (declared : List DeclaredOp) (names : List (List ℕ)) where
   abbrev variables : List Sort
   variables = replicate (length names) sorts.Word
 
-  axiom_variables : NamesVariables (axiom_scope declared names) variables
-  axiom_variables bytes n l =
+  axiom_words : (bytes : List ℕ) (n : ℕ) → leaf_named (axiom_scope declared names).leaves bytes ≡ Some (Variable n) → (n < length variables) × (sort_at variables n ≡ sorts.Word)
+  axiom_words bytes n l =
       let told = left_told declared names (atom 0 (name bytes)) bytes (Variable n) l in
       let low = rank_below 0 told.0 names bytes told.1 in
       let same = variable_is n told.0 told.2 in
       let below : n < length names = omega (arith, low, same) in
       (omega (arith, below, length-replicate (length names) sorts.Word), get_or-replicate (length names) n sorts.Word sorts.Word below)
+
+  axiom_variables : NamesVariables (axiom_scope declared names) variables
+  axiom_variables = record {
+    words = axiom_words;
+    lets = λ bytes n s l. let told = left_told declared names (atom 0 (name bytes)) bytes (Let n s) l in absurd (no_let n s told.0 told.2);
+  }
 
   axiom_means : Means (axiom_scope declared names) (IsOfAxiom declared)
   axiom_means = record {
@@ -79,6 +92,7 @@ operation_of : (scope : Scope) {sort : Sort} {f : Form} {t : Tree Op} → Writes
 operation_of scope (memory l) e = cc
 operation_of scope (input l) e = cc
 operation_of scope (variable l) e = cc
+operation_of scope (binding l) e = cc
 operation_of scope constant e = cc
 operation_of scope (application {bytes = bytes} {op = op} k s n each) e = (tt, no_constant scope.declared bytes op k)
 
@@ -105,73 +119,99 @@ axiom_keeps declared f a w fits few =
     }
 
 -- ---- goals
+no_input_let : (r n : ℕ) (s : Sort) → Input r ≡ Let n s → ⊥
+no_input_let r n s e = cc
+
 register_is : (r s : ℕ) → Input r ≡ Input s → r ≡ s
 register_is r s e = cc
 
-module _ (declared : List DeclaredOp) (goal : GoalTree) where
-  abbrev scope_of : Scope
-  scope_of = goal_scope declared goal.inputs
+abbrev scope_with : List DeclaredOp → List Leaf → Scope
+scope_with declared leaves = record { declared = declared; leaves = leaves }
 
-  goal_variables : NamesVariables scope_of []
-  goal_variables bytes n l = by_test (bytes_eq (codes "M") bytes) l
-    where
-      by_test : (b : Bool) → (if b then Some Memory else leaf_named (leaves_of goal.inputs) bytes) ≡ Some (Variable n) → (n < 0) × (sorts.Word ≡ sorts.Word)
-      by_test true e = cc
-      by_test false e = let leaf = input_leaf goal.inputs bytes (Variable n) e in let f : Variable n ≡ Input leaf.1.reg = leaf.4 in cc
-
-  input_of : (bytes : List ℕ) (r : ℕ) → leaf_named scope_of.leaves bytes ≡ Some (Input r) → Contains (input_registers goal.inputs) r
+module _ (declared : List DeclaredOp) (inputs : List InputReg) where
+  input_of : (bytes : List ℕ) (r : ℕ) → leaf_named (goal_scope declared inputs).leaves bytes ≡ Some (Input r) → Contains (input_registers inputs) r
   input_of bytes r l = by_test (bytes_eq (codes "M") bytes) l
     where
-      by_test : (b : Bool) → (if b then Some Memory else leaf_named (leaves_of goal.inputs) bytes) ≡ Some (Input r) → Contains (input_registers goal.inputs) r
+      by_test : (b : Bool) → (if b then Some Memory else leaf_named (leaves_of inputs) bytes) ≡ Some (Input r) → Contains (input_registers inputs) r
       by_test true e = cc
       by_test false e =
-          let leaf = input_leaf goal.inputs bytes (Input r) e in
+          let leaf = input_leaf inputs bytes (Input r) e in
           let same = register_is r leaf.1.reg leaf.4 in
-          (leaf.0, leaf.2, at_any leaf.0 (input_registers goal.inputs) leaf.2 ∙ leaf.3 ∙ sym same)
+          (leaf.0, leaf.2, at_any leaf.0 (input_registers inputs) leaf.2 ∙ leaf.3 ∙ sym same)
         where
           at_any : (k : ℕ) (xs : List ℕ) → k < length xs → get_or xs k r ≡ get_or xs k 0
           at_any k [] h = omega (arith, h)
           at_any zero (x ∷ xs) h = refl
           at_any (suc k) (x ∷ xs) h = at_any k xs (omega (arith, h))
 
-  goal_means : Means scope_of (IsOfGoal declared goal.inputs)
-  goal_means = record {
+  goal_means : (lets : List SortedName) → Means (let_scope declared inputs lets) (IsOfGoal declared inputs)
+  goal_means lets = record {
     memory_is = λ bytes l. tt;
-    input_is = input_of;
+    input_is = λ bytes r l. input_of bytes r (in_goal declared inputs lets bytes (Input r) (no_input_let r) l);
     constant_is = λ n. tt;
-    operator_is = λ bytes op e. of_operator declared (IsOfGoal declared goal.inputs) (λ w t. t) tt tt (λ index arity is. is) bytes op e;
+    operator_is = λ bytes op e. of_operator declared (IsOfGoal declared inputs) (λ w t. t) tt tt (λ index arity is. is) bytes op e;
   }
 
-  pub term_keeps : {sort : Sort} {f : Form} {t : Tree Op} → Writes scope_of sort f t → CanPrint (plain_of f) → IsGoalTerm declared goal sort t
-  term_keeps w p = record { sorted = is_sorted scope_of [] goal_variables w p; operators = each_operator scope_of (IsOfGoal declared goal.inputs) goal_means w }
+  -- a term that is written over lets is one over their sorts
+  over_lets : (lets : List SortedName) {sort : Sort} {f : Form} {t : Tree Op} → Writes (let_scope declared inputs lets) sort f t → CanPrint (plain_of f) → IsTermOver declared inputs (sorts_of_names lets) sort t
+  over_lets lets w p = record {
+    sorted = is_sorted (let_scope declared inputs lets) (sorts_of_names lets) (let_variables declared inputs lets) w p;
+    operators = each_operator (let_scope declared inputs lets) (IsOfGoal declared inputs) (goal_means lets) w;
+  }
+
+  -- and without lets one over no sorts
+  pub term_keeps : {sort : Sort} {f : Form} {t : Tree Op} → Writes (goal_scope declared inputs) sort f t → CanPrint (plain_of f) → IsTermOver declared inputs [] sort t
+  term_keeps {sort} {f} {t} w p =
+      over_lets [] (subst (λ (s : Scope). Writes s sort f t) (ap (λ ls. scope_with declared ls) (sym (append-nil (goal_scope declared inputs).leaves))) w) p
+
+  lets_keep : {before : List SortedName} {fs : List Form} {ls : List LetTree} → WritesLets declared inputs before fs ls → FitAll 63 (map plain_of fs) → AreLets declared inputs (sorts_of_names before) (let_values ls)
+  lets_keep no_lets all = tt
+  lets_keep (one_let {before = before} {form = f} {forms = fs} {one = l} {others = ls} one others) all =
+      let parts = (parts_fit 62 (codes "let") (one.first ∷ one.second ∷ []) f one.is (fit_head 63 (plain_of f) (map plain_of fs) all)).0 in
+      let here = over_lets before one.value parts.1.0 in
+      let rest = lets_keep others (fit_tail 63 (plain_of f) (map plain_of fs) all) in (
+        subst (λ s. IsTermOver declared inputs (sorts_of_names before) s l.value) (sym (sort_is declared inputs before one.value)) here,
+        subst (λ ss. AreLets declared inputs ss (let_values ls)) (sorts_more before l) rest,
+      )
+
+module _ (declared : List DeclaredOp) (goal : GoalTree) where
+  abbrev scope_of : Scope
+  scope_of = scope_of_goal declared goal
+
+  goal_term : {sort : Sort} {f : Form} {t : Tree Op} → Writes scope_of sort f t → CanPrint (plain_of f) → IsGoalTerm declared goal sort t
+  goal_term {sort} {f} {t} w p =
+      subst (λ ss. IsTermOver declared goal.inputs ss sort t) (sorts_from [] goal.lets) (over_lets declared goal.inputs (sorted_from [] goal.lets) w p)
 
   assume_keeps : (f : Form) (a : TwoTrees) → WritesAssume scope_of f a → Fits 63 (plain_of f) → IsAssume declared goal a
   assume_keeps f a w fits =
       let parts = (parts_fit 62 (codes "assume") (w.first ∷ w.second ∷ []) f w.is fits).0 in
-      record { sort = w.sort; left = term_keeps w.left parts.0; right = term_keeps w.right parts.1.0 }
+      record { sort = w.sort; left = goal_term w.left parts.0; right = goal_term w.right parts.1.0 }
 
   guard_keeps : (fs : List Form) (t : Option (Tree Op)) → WritesGuard scope_of fs t → FitAll 63 (map plain_of fs) → IfSome t (IsGoalTerm declared goal sorts.Word)
   guard_keeps _ _ unguarded all = tt
-  guard_keeps _ _ (guarded {form = f} one is w) all = term_keeps w (parts_fit 62 (codes "when") (one ∷ []) f is (fit_head 63 (plain_of f) [] all)).0.0
+  guard_keeps _ _ (guarded {form = f} one is w) all = goal_term w (parts_fit 62 (codes "when") (one ∷ []) f is (fit_head 63 (plain_of f) [] all)).0.0
 
   target_keeps : (f : Form) (t : TargetTree) → WritesTarget scope_of f t → Fits 63 (plain_of f) → IsTarget declared goal t
   target_keeps f t w fits =
       let parts = parts_fit 62 (codes "set") (w.first ∷ (w.pins ++ w.last ∷ [])) f w.is fits in
       let behind = back_fits 62 w.pins (w.last ∷ []) (fit_tail 62 (plain_of w.first) (map plain_of (w.pins ++ w.last ∷ [])) parts) in
-      term_keeps w.value (fit_head 62 (plain_of w.last) [] behind).0
+      goal_term w.value (fit_head 62 (plain_of w.last) [] behind).0
 
 goal_keeps : (declared : List DeclaredOp) (f : Form) (g : GoalTree) → WritesGoal declared f g → Fits 64 (plain_of f) → operators_of_goal g < 2 ^ 29 → IsGoal declared g
 goal_keeps declared f g w fits few =
-    let scope = goal_scope declared g.inputs in
-    let after_pools = w.assumes ++ (w.whens ++ w.sets) in
+    let scope = scope_of_goal declared g in
+    let after_lets = w.assumes ++ (w.whens ++ w.sets) in
+    let after_pools = w.bindings ++ after_lets in
     let items = w.ins ++ (w.pools ++ after_pools) in
     let parts = parts_fit 63 (codes "goal") (w.name_form ∷ items) f w.is fits in
     let all = fit_tail 63 (plain_of w.name_form) (map plain_of items) parts in
-    let behind = back_fits 63 w.pools after_pools (back_fits 63 w.ins (w.pools ++ after_pools) all) in
+    let from_lets = back_fits 63 w.pools after_pools (back_fits 63 w.ins (w.pools ++ after_pools) all) in
+    let behind = back_fits 63 w.bindings after_lets from_lets in
     let last = back_fits 63 w.assumes (w.whens ++ w.sets) behind in
     record {
       named = (goal_fits 62 declared f g w fits).1;
       rules = w.rules;
+      lets = lets_keep declared g.inputs w.lets (front_fits 63 w.bindings after_lets from_lets);
       assumes = each_keeps 63 (WritesAssume scope) (IsAssume declared g) (assume_keeps declared g) w.assumes g.assumes w.assumptions (front_fits 63 w.assumes (w.whens ++ w.sets) behind);
       guard = guard_keeps declared g w.whens g.guard w.guard (front_fits 63 w.whens w.sets last);
       sets = each_keeps 63 (WritesTarget scope) (IsTarget declared g) (target_keeps declared g) w.sets g.sets w.targets (back_fits 63 w.whens w.sets last);

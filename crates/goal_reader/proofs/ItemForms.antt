@@ -8,7 +8,7 @@ use Rattle.word_terms.specs.Tree.{Tree}
 use Rattle.word_terms.specs.View.{tree_of}
 use Rattle.text_core.specs.declared.faults.Kind.TheVariants.{BadForm, LimitPassed, BadRegister}
 use Rattle.word_ops.specs.declared.sorts.Sort.TheVariants as sorts
-use Rattle.forms.specs.Forms.{Form, Forms, atom, list, none, more, name, parts_of, forms_list, forms_from, name_in, register_in, head_in}
+use Rattle.forms.specs.Forms.{Form, Forms, atom, list, none, more, name, part, parts_of, forms_list, forms_from, name_in, register_in, head_in}
 use Rattle.forms.specs.Forms as forms
 use Rattle.forms.specs.Faults.{own, inside}
 use Rattle.goal_reader.specs.declared.scopes.Scope.{Scope}
@@ -16,14 +16,15 @@ use Rattle.goal_meaning.specs.declared.goals.DeclaredOp.{DeclaredOp}
 use Rattle.goal_meaning.specs.declared.goals.InputReg.{InputReg}
 use Rattle.goal_meaning.specs.declared.goals.Assume.{Assume}
 use Rattle.goal_reader.specs.Roles as roles
-use Rattle.goal_reader.specs.Roles.{Role, Shape, a_list, wrong, wrong_part, IsOwn, too_few, no_register, bad_register, part_role, shape_part, least_parts, IsFaultAs, fresh_register, rank, rank_from, goal_keywords, register_of, register_number, registers_in, input_in, WritesTerm, ◌>>=◌}
-use Rattle.goal_reader.specs.Reading.{IsClear, WritesPart, tree_sort}
+use Rattle.goal_reader.specs.Roles.{Role, Shape, a_list, wrong, wrong_part, IsOwn, too_few, no_register, bad_register, part_role, shape_part, least_parts, IsFaultAs, fresh_register, rank, rank_from, goal_keywords, register_of, register_number, registers_in, input_in, second_name, sort_in, WritesTerm, ◌>>=◌}
+use Rattle.goal_reader.specs.Reading.{IsClear, WritesPart}
 use Rattle.goal_reader.specs.Terms.{Writes}
-use Rattle.goal_reader.specs.Grammar.{IsRegister, WritesInput}
+use Rattle.goal_reader.specs.Grammar.{IsRegister, WritesInput, WritesLet}
 use Rattle.goal_reader.specs.Drafts.{IsAssumed}
 use Rattle.machine_table.specs.Grammar.{Each, more_of, IsListOf, IsNameOf}
 use Rattle.machine_table.specs.Grammar as grammar
-use Rattle.goal_reader.proofs.Sorts.{writes_sort}
+use Rattle.goal_reader.proofs.Sorts.{sort_of_part}
+use Rattle.goal_meaning.specs.Views.{LetTree}
 
 pub bind_some : {A B : Type 0} (o : Option A) (f : A → Option B) (y : B) → (o >>= f) ≡ Some y → (x : A) × (o ≡ Some x) × (f x ≡ Some y)
 bind_some None f y e = cc
@@ -165,28 +166,47 @@ term_at scope wanted form a at t g w =
 pub writes_as : (scope : Scope) (s r : Sort) (form : Form) (t : Tree Op) → s ≡ r → Writes scope s form t → Writes scope r form t
 writes_as scope s r form t e w = subst (λ (x : Sort). Writes scope x form t) e w
 
-pub assume_writes : (scope : Scope) (form : Form) (one : Assume) → rank goal_keywords form ≡ Some 2 → WritesPart scope None form 1 (tree_of one.left) → WritesPart scope (Some (tree_sort (tree_of one.left))) form 2 (tree_of one.right)
-    → IsClear (a_list (roles.assume scope)) form → IsAssumed scope form one
-assume_writes scope form one e left right clear =
+pub binding_writes : (scope : Scope) (names : List (List ℕ)) (form : Form) (one : LetTree) → rank goal_keywords form ≡ Some 2 → second_name form ≡ Some one.name → WritesPart scope None form 2 one.value
+    → IsClear (a_list (roles.binding scope names)) form → WritesLet scope form one
+binding_writes scope names form one e named value clear =
     let k = keyworded 2 form e in
-    let shape : Shape = roles.assume scope in
-    let all = three shape k.place (atom k.head (name (codes "assume"))) k.rest (λ rest. refl) (λ rest. refl) (subst (λ (f : Form). IsClear (a_list shape) f) k.is clear) in
-    let whole : form ≡ list k.place (more (atom k.head (name (codes "assume"))) (more all.0 (more all.1 none))) = k.is ∙ ap (λ r. list k.place (more (atom k.head (name (codes "assume"))) r)) all.2 in
-    let l = term_at scope None form all.0 1 (tree_of one.left) (ap (λ (f : Form). slice_get (parts_of f) 1) whole) left in
-    let r = term_at scope (Some (tree_sort (tree_of one.left))) form all.1 2 (tree_of one.right) (ap (λ (f : Form). slice_get (parts_of f) 2) whole) right in
+    let shape : Shape = roles.binding scope names in
+    let all = three shape k.place (atom k.head (name (codes "let"))) k.rest (λ rest. refl) (λ rest. refl) (subst (λ (f : Form). IsClear (a_list shape) f) k.is clear) in
+    let whole : form ≡ list k.place (more (atom k.head (name (codes "let"))) (more all.0 (more all.1 none))) = k.is ∙ ap (λ r. list k.place (more (atom k.head (name (codes "let"))) r)) all.2 in
+    let v = term_at scope None form all.1 2 one.value (ap (λ (f : Form). slice_get (parts_of f) 2) whole) value in
     record {
       first = all.0;
       second = all.1;
-      sort = tree_sort (tree_of one.left);
+      sort = v.sort;
       is = record { place = k.place; head_place = k.head; is = whole };
-      left = writes_as scope l.sort (tree_sort (tree_of one.left)) all.0 (tree_of one.left) (sym (writes_sort l.writes)) l.writes;
-      right = writes_as scope r.sort (tree_sort (tree_of one.left)) all.1 (tree_of one.right) r.wanted_one r.writes;
+      named = is_name all.0 one.name (sym (ap second_name whole) ∙ named);
+      value = v.writes;
     }
 
-pub guard_writes : (scope : Scope) (form : Form) (t : Tree Op) → rank goal_keywords form ≡ Some 3 → WritesPart scope (Some sorts.Word) form 1 t → IsClear (a_list (roles.guard scope)) form
+pub assume_writes : (scope : Scope) (form : Form) (one : Assume) → rank goal_keywords form ≡ Some 3 → WritesPart scope None form 1 (tree_of one.left) → WritesPart scope (part 1 form >>= sort_in scope) form 2 (tree_of one.right)
+    → IsClear (a_list (roles.assume scope)) form → IsAssumed scope form one
+assume_writes scope form one e left right clear =
+    let k = keyworded 3 form e in
+    let shape : Shape = roles.assume scope in
+    let all = three shape k.place (atom k.head (name (codes "assume"))) k.rest (λ rest. refl) (λ rest. refl) (subst (λ (f : Form). IsClear (a_list shape) f) k.is clear) in
+    let whole : form ≡ list k.place (more (atom k.head (name (codes "assume"))) (more all.0 (more all.1 none))) = k.is ∙ ap (λ r. list k.place (more (atom k.head (name (codes "assume"))) r)) all.2 in
+    let g1 : slice_get (parts_of form) 1 ≡ Some all.0 = ap (λ (f : Form). slice_get (parts_of f) 1) whole in
+    let l = term_at scope None form all.0 1 (tree_of one.left) g1 left in
+    let second = subst (λ wanted. WritesPart scope wanted form 2 (tree_of one.right)) (sort_of_part scope form all.0 1 g1 l.writes) right in
+    let r = term_at scope (Some l.sort) form all.1 2 (tree_of one.right) (ap (λ (f : Form). slice_get (parts_of f) 2) whole) second in
+    record {
+      first = all.0;
+      second = all.1;
+      sort = l.sort;
+      is = record { place = k.place; head_place = k.head; is = whole };
+      left = l.writes;
+      right = writes_as scope r.sort l.sort all.1 (tree_of one.right) r.wanted_one r.writes;
+    }
+
+pub guard_writes : (scope : Scope) (form : Form) (t : Tree Op) → rank goal_keywords form ≡ Some 4 → WritesPart scope (Some sorts.Word) form 1 t → IsClear (a_list (roles.guard scope)) form
     → (one : Form) × IsListOf (codes "when") (one ∷ []) form × Writes scope sorts.Word one t
 guard_writes scope form t e term clear =
-    let k = keyworded 3 form e in
+    let k = keyworded 4 form e in
     let shape : Shape = roles.guard scope in
     let all = two shape k.place (atom k.head (name (codes "when"))) k.rest (λ rest. refl) (λ rest. refl) (subst (λ (f : Form). IsClear (a_list shape) f) k.is clear) in
     let whole : form ≡ list k.place (more (atom k.head (name (codes "when"))) (more all.0 none)) = k.is ∙ ap (λ r. list k.place (more (atom k.head (name (codes "when"))) r)) all.1 in

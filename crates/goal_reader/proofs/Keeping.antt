@@ -1,9 +1,9 @@
 -- A goal without a fault keeps the rules of names, registers and numbers.
-use Rattle.std.proofs.Common.{◌≡◌, ◌≢◌, ℕ, suc, ◌<◌, ◌≤◌, ◌||◌, ◌++◌, true, false, Option, None, Some, List, [], ◌∷◌, length, take, refl, sym, ap, ◌∙◌, subst, arith, slice_get, bytes_eq, codes, length-append}
-use Rattle.std.specs.Prelude.{is_some}
+use Rattle.std.proofs.Common.{◌≡◌, ◌≢◌, ℕ, suc, ◌<◌, ◌≤◌, ◌||◌, ◌++◌, true, false, Option, None, Some, List, [], ◌∷◌, length, take, map, get_or, All, refl, sym, ap, ◌∙◌, subst, arith, slice_get, bytes_eq, codes, length-append}
+use Rattle.std.specs.Prelude.{is_some, AllPairs}
 use Rattle.std.specs.Option.{option_map_or}
 use Rattle.std.specs.List.{list_any}
-use Rattle.std.proofs.lemmas.List.{append-nil}
+use Rattle.std.proofs.lemmas.List.{append-nil, append_assoc, length-map}
 use Rattle.std.proofs.lemmas.List.Elements.{All-push}
 use Rattle.std.proofs.lemmas.List.Quantifiers.{all_pairs_push}
 use Rattle.text_core.specs.declared.faults.Kind.TheVariants.{BadForm, Twice, LimitPassed}
@@ -13,27 +13,31 @@ use Rattle.machine_table.specs.Grammar.{Each, more_of, IsListOf, IsNameOf}
 use Rattle.goal_meaning.specs.declared.goals.DeclaredOp.{DeclaredOp}
 use Rattle.goal_reader.specs.declared.scopes.Scope.{Scope}
 use Rattle.goal_meaning.specs.declared.goals.InputReg.{InputReg}
+use Rattle.goal_meaning.specs.declared.goals.Let.{Let}
 use Rattle.goal_meaning.specs.declared.goals.Set.{Set}
+use Rattle.word_ops.specs.declared.sorts.Sort.{Sort}
+use Rattle.word_terms.specs.View.{tree_of}
 use Rattle.goal_reader.specs.declared.drafts.Draft.{Draft}
-use Rattle.goal_meaning.specs.Views.{TargetTree, target_view}
-use Rattle.goal_reader.specs.Drafts.{AreDifferent, KeepsSoFar, pool_read, IsNext, IsWritten, IsPoolWritten, draft_role, with_input, no_pool, one_pool, with_pool}
+use Rattle.goal_meaning.specs.Views.{TargetTree, let_view, target_view}
+use Rattle.goal_reader.specs.Drafts.{AreDifferent, KeepsSoFar, pool_read, IsNext, IsWritten, IsPoolWritten, draft_role, with_input, with_let, no_pool, one_pool, with_pool}
 use Rattle.goal_reader.specs.Drafts as drafts
 use Rattle.goal_reader.specs.Grammar.{IsRegister, WritesInput, WritesPin, WritesTarget, pinned, unpinned}
-use Rattle.goal_reader.specs.Reading.{IsClear, names_of_inputs, names_of_targets, pins_of_targets}
+use Rattle.goal_reader.specs.Reading.{IsClear, WritesPart, names_of_inputs, names_of_lets, names_of_targets, pins_of_targets}
 use Rattle.goal_meaning.specs.WellFormed.{input_registers}
 use Rattle.goal_reader.specs.Roles as roles
 use Rattle.text_core.specs.Names.{is_among}
 use Rattle.goal_reader.specs.Roles.{Role, a_list, own_name, fresh_name, fresh_register, name_used, name_taken, register_given, part_role, rank, of_rank, is_later_than, goal_keywords, goal_bounds, bound_at, is_pinned, second_name, registers_in, register_of, register_number, ◌>>=◌}
 use Rattle.goal_meaning.specs.Names.{is_reserved, names_of_declared}
-use Rattle.goal_meaning.specs.Rules.{has_register}
+use Rattle.goal_meaning.specs.Rules.{has_register, most_lets}
 use Rattle.goal_reader.proofs.Different.{or_left, or_right, among_apart, one_more, some_more, all_more, back_different, register_low}
 use Rattle.goal_reader.proofs.GoalSteps.{filter_more, mapped_more}
-use Rattle.goal_reader.proofs.ItemForms.{keyworded, bind_some, input_writes, register_known_by}
+use Rattle.goal_reader.proofs.ItemForms.{keyworded, binding_writes, bind_some, input_writes, register_known_by}
+use Rattle.goal_reader.proofs.LetForms.{lets_length, nothing_let}
 use Rattle.goal_reader.proofs.TargetForms.{name_role, pin_clear, pin_known, target_writes}
 use Rattle.goal_reader.proofs.Names.{not_true}
 use Rattle.goal_reader.proofs.NewNames.{among_both}
 use Rattle.goal_reader.proofs.Ranks.{none_of}
-use Rattle.goal_reader.proofs.WrittenItems.{fewer_than_one}
+use Rattle.goal_reader.proofs.WrittenItems.{fewer_than_one, no_items}
 
 -- a part of a form without faults has none
 pub part_clear : (role other : Role) (form part : Form) (at : ℕ) → IsClear role form → slice_get (parts_of form) at ≡ Some part → part_role role form at ≡ Some other → IsClear other part
@@ -146,8 +150,21 @@ pool_free before form e clear d =
     (part_clear (a_list (roles.pool before)) (fresh_register (before ++ registers_in (take j (forms_list k.rest)))) whole part (suc j) clear_whole g refl)) d in
     subst (λ (f : Form). AreDifferent (before ++ registers_in (parts_of f))) (sym k.is) grown
 
+pub itself : (ns : List (List ℕ)) → map (λ m. m) ns ≡ ns
+itself [] = refl
+itself (n ∷ ns) = ap (λ ms. n ∷ ms) (itself ns)
+
 -- ---- one item more
 module _ (declared : List DeclaredOp) (before : List Form) (form : Form) (d : Draft) (w : IsWritten before d) (same_ops : d.scope.declared ≡ declared) (k : KeepsSoFar declared d) where
+  abbrev Apart : List (List ℕ) → Type 0
+  Apart ns = AllPairs (λ m n. m ≢ n) ns
+
+  abbrev Own : List ℕ → Type 0
+  Own n = (is_reserved n ≡ false) × (is_among (names_of_declared declared) n ≡ false)
+
+  list_apart : (ns : List (List ℕ)) (n : List ℕ) → is_among ns n ≡ false → (k : ℕ) (d : List ℕ) → k < length ns → get_or ns k d ≢ n
+  list_apart ns n e = among_apart (λ m. m) ns n (ap (λ ms. is_among ms n) (itself ns) ∙ e)
+
   module _ (at : ℕ) (e : rank goal_keywords form ≡ Some at) (none_later : list_any (is_later_than goal_keywords at) before ≡ false) where
     later_empty : (n : ℕ) → at < n → of_rank goal_keywords n before ≡ []
     later_empty n l = none_of goal_keywords at n before l none_later
@@ -159,6 +176,7 @@ module _ (declared : List DeclaredOp) (before : List Form) (form : Form) (d : Dr
       let among = or_right (is_reserved i.name) (is_among (names_of_declared d.scope.declared ++ names_of_inputs d.inputs) i.name) free in
       let split = sym (among_both (names_of_declared d.scope.declared) (names_of_inputs d.inputs) i.name) ∙ among in
       let no_pool_yet = ap pool_read (none_yet (of_rank goal_keywords 1 before) d.pool (later_empty 0 e none_later 1 (omega arith)) w.pool) in
+      let no_let : d.lets ≡ [] = no_items let_view d.lets (nothing_let d.scope.declared d.inputs [] (of_rank goal_keywords 2 before) (map let_view d.lets) (later_empty 0 e none_later 2 (omega arith)) w.lets) in
       let old : AreDifferent (input_registers d.inputs) = subst AreDifferent (ap (λ rs. input_registers d.inputs ++ rs) no_pool_yet ∙ append-nil (input_registers d.inputs)) k.registers in
       let new = one_more (input_registers d.inputs) i.reg old (input_fresh d.scope.declared d.inputs form i wi clear) (below wi.second i.reg (register_told wi.second i.reg wi.placed)) in
       record {
@@ -167,6 +185,11 @@ module _ (declared : List DeclaredOp) (before : List Form) (form : Form) (d : Dr
         own_names = All-push (λ (a : InputReg). is_reserved a.name ≡ false) d.inputs i k.own_names (or_left (is_reserved i.name) (is_among (names_of_declared d.scope.declared ++ names_of_inputs d.inputs) i.name) free);
         not_declared = All-push (λ (a : InputReg). is_among (names_of_declared declared) a.name ≡ false) d.inputs i k.not_declared
             (subst (λ (ds : List DeclaredOp). is_among (names_of_declared ds) i.name ≡ false) same_ops (or_left (is_among (names_of_declared d.scope.declared) i.name) (is_among (names_of_inputs d.inputs) i.name) split));
+        leaf_names = subst Apart (sym (ap (λ (ls : List Let). names_of_inputs (d.inputs ++ i ∷ []) ++ names_of_lets ls) no_let ∙ append-nil (names_of_inputs (d.inputs ++ i ∷ [])) ∙ mapped_more (λ (a : InputReg). a.name) d.inputs i))
+            (all_pairs_push (λ (m n : List ℕ). m ≢ n) (names_of_inputs d.inputs) i.name (subst Apart (ap (λ (ls : List Let). names_of_inputs d.inputs ++ names_of_lets ls) no_let ∙ append-nil (names_of_inputs d.inputs)) k.leaf_names)
+            (list_apart (names_of_inputs d.inputs) i.name (or_right (is_among (names_of_declared d.scope.declared) i.name) (is_among (names_of_inputs d.inputs) i.name) split)));
+        own_lets = k.own_lets;
+        few_lets = k.few_lets;
         registers = subst AreDifferent (sym (ap (λ rs. input_registers (d.inputs ++ i ∷ []) ++ rs) no_pool_yet ∙ append-nil (input_registers (d.inputs ++ i ∷ [])) ∙ mapped_more (λ (a : InputReg). a.reg) d.inputs i)) new;
         pins = k.pins;
         unpinned = k.unpinned;
@@ -174,12 +197,40 @@ module _ (declared : List DeclaredOp) (before : List Form) (form : Form) (d : Dr
         few = (longer d.inputs i _ (each_length WritesInput (of_rank goal_keywords 0 before) d.inputs w.inputs) few, k.few.1, k.few.2);
       }
 
+  with_let_keeps : (one : Let) (sort : Sort) → second_name form ≡ Some one.name → WritesPart d.scope None form 2 (tree_of one.value) → IsClear (a_list (roles.binding d.scope (names_of_inputs d.inputs ++ names_of_lets d.lets))) form → rank goal_keywords form ≡ Some 2
+      → length (of_rank goal_keywords 2 before) < most_lets → KeepsSoFar declared (with_let d one sort)
+  with_let_keeps one sort named value clear e few =
+      let leaves = names_of_inputs d.inputs ++ names_of_lets d.lets in
+      let all = names_of_declared d.scope.declared ++ leaves in
+      let wl = binding_writes d.scope leaves form (let_view one) e named value clear in
+      let free = name_free all wl.first one.name wl.named
+      (part_clear (a_list (roles.binding d.scope leaves)) (own_name all) form wl.first 1 clear (ap (λ (f : Form). slice_get (parts_of f) 1) wl.is.is) refl) in
+      let split = sym (among_both (names_of_declared d.scope.declared) leaves one.name) ∙ or_right (is_reserved one.name) (is_among all one.name) free in
+      let fresh = or_right (is_among (names_of_declared d.scope.declared) one.name) (is_among leaves one.name) split in
+      let not_op = subst (λ (ds : List DeclaredOp). is_among (names_of_declared ds) one.name ≡ false) same_ops (or_left (is_among (names_of_declared d.scope.declared) one.name) (is_among leaves one.name) split) in
+      let n = lets_length d.scope.declared d.inputs w.lets in
+      let m = length-map d.lets let_view in
+      record {
+        input_names = k.input_names;
+        own_names = k.own_names;
+        not_declared = k.not_declared;
+        leaf_names = subst Apart (append_assoc (names_of_inputs d.inputs) (names_of_lets d.lets) (one.name ∷ []) ∙ ap (λ ns. names_of_inputs d.inputs ++ ns) (sym (mapped_more (λ (l : Let). l.name) d.lets one)))
+            (all_pairs_push (λ (a b : List ℕ). a ≢ b) leaves one.name k.leaf_names (list_apart leaves one.name fresh));
+        own_lets = subst (λ ns. All Own ns) (sym (mapped_more (λ (l : Let). l.name) d.lets one)) (All-push Own (names_of_lets d.lets) one.name k.own_lets (or_left (is_reserved one.name) (is_among all one.name) free, not_op));
+        few_lets = longer_by 256 d.lets one (length (of_rank goal_keywords 2 before)) (omega (arith, n, m)) few;
+        registers = k.registers;
+        pins = k.pins;
+        unpinned = k.unpinned;
+        targets = k.targets;
+        few = k.few;
+      }
+
   pub next_keeps : (at : ℕ) (next : Draft) → rank goal_keywords form ≡ Some at → list_any (is_later_than goal_keywords at) before ≡ false → length (of_rank goal_keywords at before) < (bound_at goal_bounds at).most
       → IsNext form d at next → IsClear (draft_role d at) form → KeepsSoFar declared next
   next_keeps at next e none_later few (drafts.input i is same) clear =
       subst (KeepsSoFar declared) (sym same) (with_input_keeps i (input_writes d.scope.declared d.inputs form i e is clear) clear e none_later few)
   next_keeps at next e none_later few (drafts.pool registers is same) clear =
-      let no_targets_yet = nothing_each (drafts.IsTargeted d.scope) (of_rank goal_keywords 4 before) d.sets (later_empty 1 e none_later 4 (omega arith)) w.targets in
+      let no_targets_yet = nothing_each (drafts.IsTargeted d.scope) (of_rank goal_keywords 5 before) d.sets (later_empty 1 e none_later 5 (omega arith)) w.targets in
       let no_pool_yet = ap pool_read (none_yet (of_rank goal_keywords 1 before) d.pool (fewer_than_one (of_rank goal_keywords 1 before) few) w.pool) in
       let old : AreDifferent (input_registers d.inputs) = subst AreDifferent (ap (λ rs. input_registers d.inputs ++ rs) no_pool_yet ∙ append-nil (input_registers d.inputs)) k.registers in
       let grown = pool_free (input_registers d.inputs) form e clear old in
@@ -187,6 +238,9 @@ module _ (declared : List DeclaredOp) (before : List Form) (form : Form) (d : Dr
         input_names = k.input_names;
         own_names = k.own_names;
         not_declared = k.not_declared;
+        leaf_names = k.leaf_names;
+        own_lets = k.own_lets;
+        few_lets = k.few_lets;
         registers = subst (λ rs. AreDifferent (input_registers d.inputs ++ rs)) (sym is) grown;
         pins = subst (λ ts. AreDifferent (registers ++ pins_of_targets ts)) (sym no_targets_yet)
             (subst AreDifferent (sym (append-nil registers)) (subst AreDifferent (sym is) (back_different (input_registers d.inputs) (registers_in (parts_of form)) grown)));
@@ -194,22 +248,30 @@ module _ (declared : List DeclaredOp) (before : List Form) (form : Form) (d : Dr
         targets = k.targets;
         few = k.few;
       })
+  next_keeps at next e none_later few (drafts.binding one sort named value sorted same) clear =
+      subst (KeepsSoFar declared) (sym same) (with_let_keeps one sort named value clear e few)
   next_keeps at next e none_later few (drafts.assume one left right same) clear =
       subst (KeepsSoFar declared) (sym same) (record {
         input_names = k.input_names;
         own_names = k.own_names;
         not_declared = k.not_declared;
+        leaf_names = k.leaf_names;
+        own_lets = k.own_lets;
+        few_lets = k.few_lets;
         registers = k.registers;
         pins = k.pins;
         unpinned = k.unpinned;
         targets = k.targets;
-        few = (k.few.0, longer d.assumes one _ (each_length (drafts.IsAssumed d.scope) (of_rank goal_keywords 2 before) d.assumes w.assumptions) few, k.few.2);
+        few = (k.few.0, longer d.assumes one _ (each_length (drafts.IsAssumed d.scope) (of_rank goal_keywords 3 before) d.assumes w.assumptions) few, k.few.2);
       })
   next_keeps at next e none_later few (drafts.guard term is same) clear =
       subst (KeepsSoFar declared) (sym same) (record {
         input_names = k.input_names;
         own_names = k.own_names;
         not_declared = k.not_declared;
+        leaf_names = k.leaf_names;
+        own_lets = k.own_lets;
+        few_lets = k.few_lets;
         registers = k.registers;
         pins = k.pins;
         unpinned = k.unpinned;
@@ -226,10 +288,13 @@ module _ (declared : List DeclaredOp) (before : List Form) (form : Form) (d : Dr
         input_names = k.input_names;
         own_names = k.own_names;
         not_declared = k.not_declared;
+        leaf_names = k.leaf_names;
+        own_lets = k.own_lets;
+        few_lets = k.few_lets;
         registers = k.registers;
         pins = subst (λ ps. AreDifferent (pool_read d.pool ++ ps)) (sym (filter_more (λ (s : Set). s.pin) d.sets one))
             (some_more (pool_read d.pool) (pins_of_targets d.sets) one.pin k.pins (λ r f. let p = pin_is r f in (p.fresh, p.low)));
         unpinned = All-push (λ (s : Set). bytes_eq s.name (codes "M") ≡ true → s.pin ≡ None) d.sets one k.unpinned (memory_unpinned d.scope names taken form (target_view one) writes clear);
         targets = all_pairs_push (λ (a b : Set). a.name ≢ b.name) d.sets one k.targets (among_apart (λ (t : Set). t.name) d.sets one.name free);
-        few = (k.few.0, k.few.1, longer d.sets one _ (each_length (drafts.IsTargeted d.scope) (of_rank goal_keywords 4 before) d.sets w.targets) few);
+        few = (k.few.0, k.few.1, longer d.sets one _ (each_length (drafts.IsTargeted d.scope) (of_rank goal_keywords 5 before) d.sets w.targets) few);
       })

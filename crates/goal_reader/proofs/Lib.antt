@@ -12,6 +12,7 @@ mod OneTerm
 mod PoolSteps
 mod Sorts
 mod Admitting
+mod LetScopes
 pub mod GoalSteps
 pub mod ItemForms
 mod TargetForms
@@ -36,7 +37,9 @@ mod AxiomClear
 mod TextRead
 pub mod Printed
 pub mod Moved
+pub mod LetForms
 pub mod PrintedNames
+mod PrintedLets
 pub mod PrintedForms
 pub mod PrintedTexts
 pub mod FormsPrint

@@ -12,13 +12,13 @@ use Rattle.forms.specs.Forms.{Form, Forms, Atom, name, register, number, parenth
 use Rattle.forms.specs.Printing.{Plain, Plains, atom, list, none, more, plain_of, plains_of, plains_from, keyword_list}
 use Rattle.machine_table.specs.Grammar.{Each, more_of, IsListOf, IsNameOf, IsNumberOf}
 use Rattle.machine_table.specs.Grammar as grammar
-use Rattle.goal_reader.specs.declared.scopes.Named.TheVariants.{Memory, Input, Variable}
+use Rattle.goal_reader.specs.declared.scopes.Named.TheVariants.{Memory, Input, Variable, Let}
 use Rattle.goal_reader.specs.declared.scopes.Scope.{Scope}
-use Rattle.goal_reader.specs.Grammar.{WritesAssume, WritesGuard, unguarded, guarded}
-use Rattle.goal_meaning.specs.InputForms.{Naming, leaf_atom, atom_or, operator_name, input_name, term_plain, terms_plain, assume_plain, guard_plains}
+use Rattle.goal_reader.specs.Grammar.{WritesLet, WritesAssume, WritesGuard, unguarded, guarded}
+use Rattle.goal_meaning.specs.InputForms.{Naming, leaf_atom, atom_or, operator_name, input_name, term_plain, terms_plain, let_plain, assume_plain, guard_plains}
 use Rattle.goal_reader.specs.Scopes.{leaf_named, operator_named}
-use Rattle.goal_reader.specs.Terms.{Writes, WritesEach, memory, input, variable, constant, application, nothing, operand}
-use Rattle.goal_meaning.specs.Views.{TwoTrees}
+use Rattle.goal_reader.specs.Terms.{Writes, WritesEach, memory, input, variable, binding, constant, application, nothing, operand}
+use Rattle.goal_meaning.specs.Views.{LetTree, TwoTrees}
 use Rattle.goal_reader.proofs.ItemForms.{list_from_list}
 
 -- ---- forms by what they print
@@ -115,6 +115,7 @@ module _ (scope : Scope) where
     writes_moved (memory {bytes = bytes} l) g e = let n = name_form g bytes e in subst (λ (x : Form). Writes scope sorts.Memory x (tree.application ops.Entry tree.none)) (sym n.1) (memory l)
     writes_moved (input {bytes = bytes} {register = r} l) g e = let n = name_form g bytes e in subst (λ (x : Form). Writes scope sorts.Word x (tree.application (ops.Input r) tree.none)) (sym n.1) (input l)
     writes_moved (variable {bytes = bytes} {n = k} l) g e = let n = name_form g bytes e in subst (λ (x : Form). Writes scope sorts.Word x (tree.variable k)) (sym n.1) (variable l)
+    writes_moved (binding {bytes = bytes} {n = k} {sort = s} l) g e = let n = name_form g bytes e in subst (λ (x : Form). Writes scope s x (tree.variable k)) (sym n.1) (binding l)
     writes_moved (constant {n = n}) g e = let m = number_form g n e in subst (λ (x : Form). Writes scope sorts.Word x (tree.application (ops.Constant n) tree.none)) (sym m.1) constant
     writes_moved {sort} (application {bytes = bytes} {op = op} {operands = operands} {trees = trees} k s n each) g e =
         let l = list_form g (more (atom (name bytes)) (plains_of operands)) e in
@@ -134,6 +135,7 @@ pub record AreNamed (scope : Scope) (names : Naming) : Type 0 where
   pub memory_is : (bytes : List ℕ) → leaf_named scope.leaves bytes ≡ Some Memory → bytes ≡ codes "M"
   pub input_is : (bytes : List ℕ) (r : ℕ) → leaf_named scope.leaves bytes ≡ Some (Input r) → bytes ≡ input_name names.inputs r
   pub variable_is : (bytes : List ℕ) (n : ℕ) → leaf_named scope.leaves bytes ≡ Some (Variable n) → bytes ≡ slice_index_or names.variables n []
+  pub let_is : (bytes : List ℕ) (n : ℕ) (sort : Sort) → leaf_named scope.leaves bytes ≡ Some (Let n sort) → bytes ≡ slice_index_or names.variables n []
   pub operator_is : (bytes : List ℕ) (op : Op) → operator_named scope.declared bytes ≡ Some op → (bytes ≡ operator_name names.declared op) × (leaf_atom names.inputs op ≡ None)
 
 module _ (scope : Scope) (names : Naming) (named : AreNamed scope names) where
@@ -142,6 +144,7 @@ module _ (scope : Scope) (names : Naming) (named : AreNamed scope names) where
     term_told (memory {bytes = bytes} l) = ap (λ b. atom (name b)) (named.memory_is bytes l)
     term_told (input {bytes = bytes} {register = r} l) = ap (λ b. atom (name b)) (named.input_is bytes r l)
     term_told (variable {bytes = bytes} {n = n} l) = ap (λ b. atom (name b)) (named.variable_is bytes n l)
+    term_told (binding {bytes = bytes} {n = n} {sort = s} l) = ap (λ b. atom (name b)) (named.let_is bytes n s l)
     term_told constant = refl
     term_told (application {bytes = bytes} {op = op} {trees = trees} k s n each) =
         let o = named.operator_is bytes op k in
@@ -155,6 +158,22 @@ module _ (scope : Scope) (names : Naming) (named : AreNamed scope names) where
   -- a form that prints as a term that some form writes, writes it
   pub term_again : {sort : Sort} {f : Form} {t : Tree Op} → Writes scope sort f t → (g : Form) → plain_of g ≡ term_plain names t → Writes scope sort g t
   term_again w g e = writes_moved scope w g (e ∙ sym (term_told w))
+
+  pub let_again : (f g : Form) (l : LetTree) → WritesLet scope f l → plain_of g ≡ let_plain names l → WritesLet scope g l
+  let_again f g l w e =
+      let k = listed_form (codes "let") (atom (name l.name) ∷ term_plain names l.value ∷ []) g e in
+      let m = one_more_form k.0 (atom (name l.name)) (term_plain names l.value ∷ []) k.2 in
+      let n = one_more_form m.1 (term_plain names l.value) [] m.4 in
+      let parts = m.2 ∙ ap (λ x. m.0 ∷ x) (n.2 ∙ ap (λ x. n.0 ∷ x) (no_more_form n.1 n.4)) in
+      let h = name_form m.0 l.name m.3 in
+      record {
+        first = m.0;
+        second = n.0;
+        sort = w.sort;
+        is = subst (λ ps. IsListOf (codes "let") ps g) parts k.1;
+        named = record { place = h.0; is = h.1 };
+        value = term_again w.value n.0 n.3;
+      }
 
   pub assume_again : (f g : Form) (a : TwoTrees) → WritesAssume scope f a → plain_of g ≡ assume_plain names a → WritesAssume scope g a
   assume_again f g a w e =

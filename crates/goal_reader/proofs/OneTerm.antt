@@ -9,8 +9,8 @@ use Rattle.text_core.specs.declared.faults.Kind.{Kind}
 use Rattle.text_core.specs.Faults.{IsFirst}
 use Rattle.forms.specs.Forms.{Form, Forms}
 use Rattle.goal_reader.specs.declared.scopes.Scope.{Scope}
-use Rattle.goal_reader.specs.declared.scopes.Named.TheVariants.{Memory, Input, Variable}
-use Rattle.goal_reader.specs.Terms.{Writes, WritesEach, memory, input, variable, constant, application, nothing, operand}
+use Rattle.goal_reader.specs.declared.scopes.Named.TheVariants.{Memory, Input, Variable, Let}
+use Rattle.goal_reader.specs.Terms.{Writes, WritesEach, memory, input, variable, binding, constant, application, nothing, operand}
 use Rattle.goal_reader.specs.Roles.{term, IsFaultAs, WritesTerm}
 use Rattle.goal_reader.proofs.Apart.{writes_clear}
 
@@ -19,15 +19,24 @@ mutual
   one_term (memory l) (memory m) = refl
   one_term (memory l) (input m) = let e : Some Memory ≡ Some (Input _) = sym l ∙ m in absurd cc
   one_term (memory l) (variable m) = let e : Some Memory ≡ Some (Variable _) = sym l ∙ m in absurd cc
+  one_term (memory l) (binding m) = let e : Some Memory ≡ Some (Let _ _) = sym l ∙ m in absurd cc
   one_term (input l) (memory m) = let e : Some (Input _) ≡ Some Memory = sym l ∙ m in absurd cc
   one_term (input {register = r} l) (input {register = s} m) =
       let e : Some (Input r) ≡ Some (Input s) = sym l ∙ m in
       let same : r ≡ s = cc in ap (λ n. tree.application (ops.Input n) tree.none) same
   one_term (input l) (variable m) = let e : Some (Input _) ≡ Some (Variable _) = sym l ∙ m in absurd cc
+  one_term (input l) (binding m) = let e : Some (Input _) ≡ Some (Let _ _) = sym l ∙ m in absurd cc
   one_term (variable l) (memory m) = let e : Some (Variable _) ≡ Some Memory = sym l ∙ m in absurd cc
   one_term (variable l) (input m) = let e : Some (Variable _) ≡ Some (Input _) = sym l ∙ m in absurd cc
   one_term (variable {n = r} l) (variable {n = s} m) =
       let e : Some (Variable r) ≡ Some (Variable s) = sym l ∙ m in
+      let same : r ≡ s = cc in ap tree.variable same
+  one_term (variable l) (binding m) = let e : Some (Variable _) ≡ Some (Let _ _) = sym l ∙ m in absurd cc
+  one_term (binding l) (memory m) = let e : Some (Let _ _) ≡ Some Memory = sym l ∙ m in absurd cc
+  one_term (binding l) (input m) = let e : Some (Let _ _) ≡ Some (Input _) = sym l ∙ m in absurd cc
+  one_term (binding l) (variable m) = let e : Some (Let _ _) ≡ Some (Variable _) = sym l ∙ m in absurd cc
+  one_term (binding {n = r} {sort = a} l) (binding {n = s} {sort = b} m) =
+      let e : Some (Let r a) ≡ Some (Let s b) = sym l ∙ m in
       let same : r ≡ s = cc in ap tree.variable same
   one_term constant constant = refl
   one_term (application {op = op} k s n each) (application {op = other} l t m all) =

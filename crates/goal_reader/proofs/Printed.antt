@@ -13,11 +13,12 @@ use Rattle.goal_meaning.specs.declared.goals.Assume.{Assume}
 use Rattle.goal_meaning.specs.declared.goals.Axiom.{Axiom}
 use Rattle.goal_meaning.specs.declared.goals.Goal.{Goal}
 use Rattle.goal_meaning.specs.declared.goals.Input.{Input}
+use Rattle.goal_meaning.specs.declared.goals.Let.{Let}
 use Rattle.goal_meaning.specs.declared.goals.Set.{Set}
 use Rattle.goal_meaning.specs.declared.goals.DeclaredOp.{DeclaredOp}
-use Rattle.goal_meaning.specs.InputForms.{Naming, term_plain, terms_plain, atom_or, assume_plain, axiom_plain, declaration_plain, goal_plain, guard_plains, input_plain, machine_plains, naming, pool_plain, target_plain}
+use Rattle.goal_meaning.specs.InputForms.{Naming, term_plain, terms_plain, atom_or, assume_plain, axiom_plain, declaration_plain, goal_plain, guard_plains, input_plain, let_plain, machine_plains, pool_plain, target_plain}
 use Rattle.goal_reader.specs.Printing.{input_text}
-use Rattle.goal_meaning.specs.Views.{assume_view, axiom_view, goal_view, input_view, target_view}
+use Rattle.goal_meaning.specs.Views.{assume_view, axiom_view, goal_view, input_view, let_view, target_view}
 use Rattle.std.proofs.lemmas.List.{take_more}
 use Rattle.std.proofs.lemmas.Grind.{flat_map-append}
 
@@ -71,21 +72,25 @@ map_twice f g [] = refl
 map_twice f g (x ∷ xs) = ap (λ l. f (g x) ∷ l) (map_twice f g xs)
 
 -- what stands in a goal behind its name
-pub goal_items : (declared : List DeclaredOp) (g : Goal) → others_of (plains_from (map input_plain g.inputs ++ (pool_plain g.pool ∷ (map (assume_plain (naming declared g.inputs [])) (map assume_view g.assumes)
-    ++ (guard_plains (naming declared g.inputs []) (option_map tree_of g.guard) ++ map (target_plain (naming declared g.inputs [])) (map target_view g.sets))))))
-    ≡ others_of (plains_from (map input_plain g.inputs)) ++ (32 ∷ plain_text (pool_plain g.pool) ++ (others_of (plains_from (map (λ (a : Assume). assume_plain (naming declared g.inputs []) (assume_view a)) g.assumes))
-    ++ (others_of (plains_from (guard_plains (naming declared g.inputs []) (option_map tree_of g.guard))) ++ others_of (plains_from (map (λ (t : Set). target_plain (naming declared g.inputs []) (target_view t)) g.sets)))))
-goal_items declared g =
-    let names = naming declared g.inputs [] in
+pub goal_items : (declared : List DeclaredOp) (g : Goal) (names : Naming) → others_of (plains_from (map input_plain g.inputs ++ (pool_plain g.pool ∷ (map (let_plain names) (map let_view g.lets) ++ (map (assume_plain names) (map assume_view g.assumes)
+    ++ (guard_plains names (option_map tree_of g.guard) ++ map (target_plain names) (map target_view g.sets)))))))
+    ≡ others_of (plains_from (map input_plain g.inputs)) ++ (32 ∷ plain_text (pool_plain g.pool) ++ (others_of (plains_from (map (λ (l : Let). let_plain names (let_view l)) g.lets)) ++ (others_of (plains_from (map (λ (a : Assume). assume_plain names (assume_view a)) g.assumes))
+    ++ (others_of (plains_from (guard_plains names (option_map tree_of g.guard))) ++ others_of (plains_from (map (λ (t : Set). target_plain names (target_view t)) g.sets))))))
+goal_items declared g names =
+    let lets = map_twice (let_plain names) let_view g.lets in
     let assumes = map_twice (assume_plain names) assume_view g.assumes in
     let targets = map_twice (target_plain names) target_view g.sets in
     let guards = guard_plains names (option_map tree_of g.guard) in
+    let behind = map (assume_plain names) (map assume_view g.assumes) ++ (guards ++ map (target_plain names) (map target_view g.sets)) in
     others_both (map input_plain g.inputs) _
     ∙ ap (λ l. others_of (plains_from (map input_plain g.inputs)) ++ (32 ∷ plain_text (pool_plain g.pool) ++ l))
+    (others_both (map (let_plain names) (map let_view g.lets)) behind
+    ∙ ap (λ l. others_of (plains_from l) ++ others_of (plains_from behind)) lets
+    ∙ ap (λ l. others_of (plains_from (map (λ (x : Let). let_plain names (let_view x)) g.lets)) ++ l)
     (others_both (map (assume_plain names) (map assume_view g.assumes)) (guards ++ map (target_plain names) (map target_view g.sets))
     ∙ ap (λ l. others_of (plains_from l) ++ others_of (plains_from (guards ++ map (target_plain names) (map target_view g.sets)))) assumes
     ∙ ap (λ l. others_of (plains_from (map (λ (a : Assume). assume_plain names (assume_view a)) g.assumes)) ++ l)
-    (others_both guards (map (target_plain names) (map target_view g.sets)) ∙ ap (λ l. others_of (plains_from guards) ++ others_of (plains_from l)) targets))
+    (others_both guards (map (target_plain names) (map target_view g.sets)) ∙ ap (λ l. others_of (plains_from guards) ++ others_of (plains_from l)) targets)))
 
 -- the lines of an input
 pub input_lines : (i : Input) → input_text (input_view i) ≡ lines_of (plains_from (machine_plains (input_view i))) ++ (lines_of (plains_from (map declaration_plain i.ops))
@@ -133,21 +138,23 @@ list_printed old a b c d n rest e1 e2 e3 e4 =
 then : (x0 x y u v : List ℕ) → x ≡ x0 ++ u → y ≡ x ++ v → y ≡ x0 ++ (u ++ v)
 then x0 x y u v e f = f ∙ ap (λ l. l ++ v) e ∙ append_assoc x0 u v
 
-pub goal_printed : (old x1 x2 x3 x4 x5 x6 x7 x8 x9 w n a p b g s o : List ℕ) → o ≡ a ++ (32 ∷ p ++ (b ++ (g ++ s))) → x1 ≡ old ++ w → x2 ≡ x1 ++ n → x3 ≡ x2 ++ a → x4 ≡ x3 ++ 32 ∷ [] → x5 ≡ x4 ++ p → x6 ≡ x5 ++ b → x7 ≡ x6 ++ g → x8 ≡ x7 ++ s → x9 ≡ x8 ++ 41 ∷ []
-    → x9 ≡ old ++ (w ++ ((n ++ o) ++ 41 ∷ []))
-goal_printed old x1 x2 x3 x4 x5 x6 x7 x8 x9 w n a p b g s o is e1 e2 e3 e4 e5 e6 e7 e8 e9 =
+pub goal_printed : (old x1 x2 x3 x4 x5 y x6 x7 x8 x9 w n a p t b g s o : List ℕ) → o ≡ a ++ (32 ∷ p ++ (t ++ (b ++ (g ++ s)))) → x1 ≡ old ++ w → x2 ≡ x1 ++ n → x3 ≡ x2 ++ a → x4 ≡ x3 ++ 32 ∷ [] → x5 ≡ x4 ++ p → y ≡ x5 ++ t → x6 ≡ y ++ b → x7 ≡ x6 ++ g → x8 ≡ x7 ++ s
+    → x9 ≡ x8 ++ 41 ∷ [] → x9 ≡ old ++ (w ++ ((n ++ o) ++ 41 ∷ []))
+goal_printed old x1 x2 x3 x4 x5 y x6 x7 x8 x9 w n a p t b g s o is e1 e2 e3 e4 e5 ey e6 e7 e8 e9 =
     let end : List ℕ = 41 ∷ [] in
     let f8 = then x7 x8 x9 s end e8 e9 in
     let f7 = then x6 x7 x9 g (s ++ end) e7 f8 in
-    let f6 = then x5 x6 x9 b (g ++ (s ++ end)) e6 f7 in
-    let f5 = then x4 x5 x9 p (b ++ (g ++ (s ++ end))) e5 f6 in
-    let f4 = then x3 x4 x9 (32 ∷ []) (p ++ (b ++ (g ++ (s ++ end)))) e4 f5 in
-    let f3 = then x2 x3 x9 a (32 ∷ p ++ (b ++ (g ++ (s ++ end)))) e3 f4 in
-    let f2 = then x1 x2 x9 n (a ++ (32 ∷ p ++ (b ++ (g ++ (s ++ end))))) e2 f3 in
-    let f1 = then old x1 x9 w (n ++ (a ++ (32 ∷ p ++ (b ++ (g ++ (s ++ end)))))) e1 f2 in
-    let moved : o ++ end ≡ a ++ (32 ∷ p ++ (b ++ (g ++ (s ++ end)))) =
-    ap (λ l. l ++ end) is ∙ append_assoc a (32 ∷ p ++ (b ++ (g ++ s))) end
-    ∙ ap (λ l. a ++ 32 ∷ l) (append_assoc p (b ++ (g ++ s)) end ∙ ap (λ l. p ++ l) (append_assoc b (g ++ s) end ∙ ap (λ l. b ++ l) (append_assoc g s end))) in
+    let f6 = then y x6 x9 b (g ++ (s ++ end)) e6 f7 in
+    let fy = then x5 y x9 t (b ++ (g ++ (s ++ end))) ey f6 in
+    let f5 = then x4 x5 x9 p (t ++ (b ++ (g ++ (s ++ end)))) e5 fy in
+    let f4 = then x3 x4 x9 (32 ∷ []) (p ++ (t ++ (b ++ (g ++ (s ++ end))))) e4 f5 in
+    let f3 = then x2 x3 x9 a (32 ∷ p ++ (t ++ (b ++ (g ++ (s ++ end))))) e3 f4 in
+    let f2 = then x1 x2 x9 n (a ++ (32 ∷ p ++ (t ++ (b ++ (g ++ (s ++ end)))))) e2 f3 in
+    let f1 = then old x1 x9 w (n ++ (a ++ (32 ∷ p ++ (t ++ (b ++ (g ++ (s ++ end))))))) e1 f2 in
+    let moved : o ++ end ≡ a ++ (32 ∷ p ++ (t ++ (b ++ (g ++ (s ++ end))))) =
+    ap (λ l. l ++ end) is ∙ append_assoc a (32 ∷ p ++ (t ++ (b ++ (g ++ s)))) end
+    ∙ ap (λ l. a ++ 32 ∷ l) (append_assoc p (t ++ (b ++ (g ++ s))) end ∙ ap (λ l. p ++ l) (append_assoc t (b ++ (g ++ s)) end
+    ∙ ap (λ l. t ++ l) (append_assoc b (g ++ s) end ∙ ap (λ l. b ++ l) (append_assoc g s end)))) in
     f1 ∙ ap (λ l. old ++ (w ++ l)) (ap (λ l. n ++ l) (sym moved) ∙ sym (append_assoc n o end))
 
 pub input_printed : (x0 x1 x2 x3 m d a g : List ℕ) → x0 ≡ m → x1 ≡ x0 ++ d → x2 ≡ x1 ++ a → x3 ≡ x2 ++ g → x3 ≡ m ++ (d ++ (a ++ g))

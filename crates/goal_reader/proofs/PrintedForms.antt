@@ -10,15 +10,17 @@ use Rattle.machine_table.specs.Grammar.{Each, more_of, IsListOf, IsNameOf}
 use Rattle.machine_table.specs.Grammar as grammar
 use Rattle.goal_meaning.specs.declared.goals.InputReg.{InputReg}
 use Rattle.goal_meaning.specs.declared.goals.DeclaredOp.{DeclaredOp}
-use Rattle.goal_reader.specs.Grammar.{IsRegister, WritesInput, WritesGoal, WritesDeclaration, WritesAxiom, WritesAssume, WritesPin, WritesTarget, axiom_scope, given, pinned, unpinned}
+use Rattle.goal_reader.specs.Grammar.{IsRegister, WritesInput, WritesGoal, WritesDeclaration, WritesAxiom, WritesAssume, WritesPin, WritesTarget, axiom_scope, scope_of_goal, given, pinned, unpinned}
 use Rattle.goal_reader.specs.declared.scopes.Scope.{Scope}
-use Rattle.goal_meaning.specs.InputForms.{Naming, naming, register_plain, input_plain, pool_plain, assume_plain, guard_plains, pin_plains, target_plain, goal_plain, declaration_plain, variable_plain, axiom_plain, term_plain}
+use Rattle.goal_meaning.specs.InputForms.{Naming, naming, goal_naming, register_plain, input_plain, pool_plain, let_plain, assume_plain, guard_plains, pin_plains, target_plain, goal_plain, declaration_plain, variable_plain, axiom_plain, term_plain}
+use Rattle.goal_meaning.specs.Expanded.{let_names}
 use Rattle.goal_meaning.specs.WellFormed.{input_registers}
-use Rattle.goal_reader.specs.Roles.{goal_scope, number_of_register, is_digit}
+use Rattle.goal_reader.specs.Roles.{number_of_register, is_digit}
 use Rattle.goal_meaning.specs.Views.{TargetTree, GoalTree, AxiomTree}
 use Rattle.goal_reader.proofs.Different.{register_low}
 use Rattle.goal_reader.proofs.Moved.{name_form, number_form, list_form, listed_form, one_more_form, no_more_form, split_forms, each_from, plains_map, plains_once, term_again, assume_again, guard_again, AreNamed}
-use Rattle.goal_reader.proofs.PrintedNames.{goal_named, axiom_named}
+use Rattle.goal_reader.proofs.PrintedLets.{lets_again, whole_named}
+use Rattle.goal_reader.proofs.PrintedNames.{axiom_named}
 use Rattle.std.proofs.lemmas.Fmt.{decimal_digit, decimal_step}
 use Rattle.goal_reader.proofs.ItemForms.{list_from_list}
 
@@ -148,24 +150,27 @@ target_again scope names named f g t w e =
 -- ---- a goal
 pub goal_again : (declared : List DeclaredOp) (f g : Form) (x : GoalTree) → WritesGoal declared f x → plain_of g ≡ goal_plain declared x → WritesGoal declared g x
 goal_again declared f g x w e =
-    let names : Naming = naming declared x.inputs [] in
-    let scope = goal_scope declared x.inputs in
+    let names : Naming = goal_naming declared x in
+    let scope = scope_of_goal declared x in
     let low = w.rules.low in
-    let named = goal_named declared x.inputs (pairs_front (input_registers x.inputs) x.pool w.rules.registers) in
+    let apart = pairs_front (input_registers x.inputs) x.pool w.rules.registers in
+    let named = whole_named declared x apart in
     let l = listed_form (codes "goal") _ g e in
     let m = one_more_form l.0 (atom (name x.name)) _ l.2 in
     let h = name_form m.0 x.name m.3 in
     let a = split_forms m.1 (map input_plain x.inputs) _ m.4 in
     let p = one_more_form a.1 (pool_plain x.pool) _ a.4 in
     let q = listed_form (codes "pool") (map register_plain x.pool) p.0 p.3 in
-    let b = split_forms p.1 (map (assume_plain names) x.assumes) _ p.4 in
+    let t = split_forms p.1 (map (let_plain names) x.lets) _ p.4 in
+    let b = split_forms t.1 (map (assume_plain names) x.assumes) _ t.4 in
     let c = split_forms b.1 (guard_plains names x.guard) (map (target_plain names) x.sets) b.4 in
-    let parts : l.0 ≡ m.0 ∷ (a.0 ++ ((p.0 ∷ []) ++ (b.0 ++ (c.0 ++ c.1)))) =
-    m.2 ∙ ap (λ y. m.0 ∷ y) (a.2 ∙ ap (λ y. a.0 ++ y) (p.2 ∙ ap (λ y. p.0 ∷ y) (b.2 ∙ ap (λ y. b.0 ++ y) c.2))) in
+    let parts : l.0 ≡ m.0 ∷ (a.0 ++ ((p.0 ∷ []) ++ (t.0 ++ (b.0 ++ (c.0 ++ c.1))))) =
+    m.2 ∙ ap (λ y. m.0 ∷ y) (a.2 ∙ ap (λ y. a.0 ++ y) (p.2 ∙ ap (λ y. p.0 ∷ y) (t.2 ∙ ap (λ y. t.0 ++ y) (b.2 ∙ ap (λ y. b.0 ++ y) c.2)))) in
     record {
       name_form = m.0;
       ins = a.0;
       pools = p.0 ∷ [];
+      bindings = t.0;
       assumes = b.0;
       whens = c.0;
       sets = c.1;
@@ -173,6 +178,7 @@ goal_again declared f g x w e =
       named = record { place = h.0; is = h.1 };
       inputs = inputs_again a.0 x.inputs x.pool low a.3;
       pool = given q.0 q.1 (registers_again q.0 x.pool (all_behind (input_registers x.inputs) x.pool low) q.2);
+      lets = lets_again declared x.inputs apart (let_names x.lets) w.lets refl t.0 t.3;
       assumptions = each_from (WritesAssume scope) (assume_plain names) (assume_again scope names named) w.assumes b.0 x.assumes w.assumptions b.3;
       guard = guard_again scope names named w.whens c.0 x.guard w.guard c.3;
       targets = each_from (WritesTarget scope) (target_plain names) (target_again scope names named) w.sets c.1 x.sets w.targets c.4;

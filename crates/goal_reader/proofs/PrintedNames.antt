@@ -1,5 +1,5 @@
 -- The names that terms are printed with are those of the scopes that they are read in.
-use Rattle.std.proofs.Common.{◌≡◌, ◌≢◌, ℕ, suc, ◌+◌, ◌-◌, ◌<◌, ◌==◌, if◌then◌else◌, Bool, true, false, Option, None, Some, List, [], ◌∷◌, length, map, get_or, refl, sym, ap, ◌∙◌, subst, arith, bytes_eq, codes, find}
+use Rattle.std.proofs.Common.{◌≡◌, ◌≢◌, inl, inr, ℕ, suc, ◌+◌, ◌-◌, ◌==◌, if◌then◌else◌, Bool, true, false, Option, None, Some, List, [], ◌∷◌, map, get_or, refl, sym, ap, ◌∙◌, subst, arith, bytes_eq, codes, find}
 use Rattle.std.specs.Prelude.{AllPairs, slice_index_or}
 use Rattle.std.proofs.lemmas.Bool.Decides.{Decides-eqb}
 use Rattle.std.proofs.lemmas.Slice.Eq.{bytes_eq-Decides}
@@ -8,12 +8,11 @@ use Rattle.word_ops.specs.Operators.{operators}
 use Rattle.word_ops.specs.declared.sorts.Access.TheVariants.{Quad}
 use Rattle.word_ops.specs.declared.operators.WordOp.{WordOp}
 use Rattle.word_ops.specs.declared.sorts.Op.{Op}
+use Rattle.word_ops.specs.declared.sorts.Sort.{Sort}
 use Rattle.word_ops.specs.declared.sorts.Op.TheVariants as ops
 use Rattle.goal_meaning.specs.declared.goals.InputReg.{InputReg}
 use Rattle.goal_meaning.specs.declared.goals.DeclaredOp.{DeclaredOp}
-use Rattle.goal_reader.specs.declared.scopes.Leaf.{Leaf}
-use Rattle.goal_reader.specs.declared.scopes.Named.{Named}
-use Rattle.goal_reader.specs.declared.scopes.Named.TheVariants.{Memory, Input, Variable}
+use Rattle.goal_reader.specs.declared.scopes.Named.TheVariants.{Memory, Input, Variable, Let}
 use Rattle.goal_reader.specs.Grammar.{axiom_scope}
 use Rattle.goal_meaning.specs.InputForms.{naming, input_name, operator_name, leaf_atom}
 use Rattle.goal_meaning.specs.WellFormed.{input_registers}
@@ -23,6 +22,8 @@ use Rattle.goal_reader.specs.Scopes.{leaf_named, declared_named, operator_named}
 use Rattle.goal_meaning.specs.Names.{is_written, word_named, memory_operator_named, written_or_memory}
 use Rattle.goal_reader.proofs.AxiomForms.{left_told, same_number}
 use Rattle.goal_reader.proofs.ItemForms.{rank_from_is}
+use Rattle.goal_reader.proofs.LetForms.{goal_leaf, input_leaf}
+pub use Rattle.goal_reader.proofs.LetForms.{leaves_of}
 use Rattle.goal_reader.proofs.Moved.{AreNamed}
 use Rattle.goal_reader.proofs.Names.{not_true}
 use Rattle.forms.specs.Forms.{atom, name}
@@ -93,19 +94,6 @@ operator_told declared n op e = by_word (word_named n) refl e
     by_word (Some w) f g = by_written w (is_written w) (word_found n w f) refl g
 
 -- ---- the names of a goal
-abbrev pub leaves_of : List InputReg → List Leaf
-leaves_of inputs = map (λ (i : InputReg). record { name = i.name; named = Input i.reg }) inputs
-
--- a leaf of an input has its register and its name
-pub input_leaf : (inputs : List InputReg) (n : List ℕ) (x : Named) → leaf_named (leaves_of inputs) n ≡ Some x → (k : ℕ) × (i : InputReg) × (k < length (input_registers inputs)) × (get_or (input_registers inputs) k 0 ≡ i.reg) × (x ≡ Input i.reg)
-input_leaf [] n x e = cc
-input_leaf (i ∷ is) n x e = by_test (bytes_eq i.name n) e (input_leaf is n x)
-  where
-    by_test : (b : Bool) → (if b then Some (Input i.reg) else leaf_named (leaves_of is) n) ≡ Some x → (leaf_named (leaves_of is) n ≡ Some x → (k : ℕ) × (j : InputReg) × (k < length (input_registers is)) × (get_or (input_registers is) k 0 ≡ j.reg) × (x ≡ Input j.reg))
-        → (k : ℕ) × (j : InputReg) × (k < length (input_registers (i ∷ is))) × (get_or (input_registers (i ∷ is)) k 0 ≡ j.reg) × (x ≡ Input j.reg)
-    by_test true f later = let same : x ≡ Input i.reg = cc in (0, i, omega arith, refl, same)
-    by_test false f later = let l = later f in let low = l.2 in (suc l.0, l.1, omega (arith, low), l.3, l.4)
-
 register_is : (r s : ℕ) → Input r ≡ Input s → r ≡ s
 register_is r s e = cc
 
@@ -130,6 +118,10 @@ goal_named declared inputs apart = record {
   memory_is = λ n e. memory_by n (bytes_eq (codes "M") n) refl e;
   input_is = λ n r e. input_by n r (bytes_eq (codes "M") n) e;
   variable_is = λ n k e. variable_by n k (bytes_eq (codes "M") n) e;
+  let_is = λ n k s e. elim (goal_leaf declared inputs n (Let k s) e) [
+    | inl f ↦ cc
+    | inr f ↦ (let g : Let k s ≡ Input f.0 = f.1 in cc)
+  ];
   operator_is = λ n op e. let o = operator_told declared n op e in (o.0, o.1 inputs);
 }
   where
@@ -154,11 +146,15 @@ axiom_named declared names = record {
       let told = left_told declared names (atom 0 (name n)) n (Variable k) e in
       let number : rank_from 0 names n ≡ Some k = told.1 ∙ ap Some (sym (same_number k told.0 told.2)) in
       sym (ap (λ m. get_or names m []) (let f : k ≡ k - 0 = omega arith in f) ∙ (rank_from_is 0 k names n number).1);
+  let_is = λ n k s e. let told = left_told declared names (atom 0 (name n)) n (Let k s) e in absurd (no_let k s told.0 told.2);
   operator_is = λ n op e. let o = operator_told declared n op e in (o.0, o.1 []);
 }
   where
     no_memory : (k : ℕ) → Memory ≡ Variable k → ⊥
     no_memory k e = cc
+
+    no_let : (m : ℕ) (s : Sort) (k : ℕ) → Let m s ≡ Variable k → ⊥
+    no_let m s k e = cc
 
     no_input : (r k : ℕ) → Input r ≡ Variable k → ⊥
     no_input r k e = cc

@@ -12,14 +12,15 @@ use Rattle.machine_table.specs.Grammar.{Each, more_of, IsListOf, IsNameOf}
 use Rattle.goal_meaning.specs.declared.goals.InputReg.{InputReg}
 use Rattle.goal_meaning.specs.declared.goals.DeclaredOp.{DeclaredOp}
 use Rattle.goal_reader.specs.declared.scopes.Scope.{Scope}
-use Rattle.goal_reader.specs.Grammar.{IsRegister, WritesInput, WritesPool, WritesAssume, WritesGuard, WritesPin, WritesTarget, WritesGoal, WritesDeclaration, WritesAxiom, absent, given, pinned, unpinned, unguarded, guarded, axiom_scope}
-use Rattle.goal_reader.specs.Roles.{rank, of_rank, goal_keywords, text_keywords, items_of_goal, goal_scope, second_name, pin_in, register_number, register_of, input_in, declaration_in, arity_named, ◌>>=◌}
-use Rattle.goal_reader.specs.Terms.{Writes, memory, input, variable, constant, application}
+use Rattle.goal_reader.specs.Grammar.{IsRegister, WritesInput, WritesLets, scope_of_goal, sorted_from, WritesPool, WritesAssume, WritesGuard, WritesPin, WritesTarget, WritesGoal, WritesDeclaration, WritesAxiom, absent, given, pinned, unpinned, unguarded, guarded, axiom_scope}
+use Rattle.goal_reader.specs.Roles.{rank, of_rank, goal_keywords, text_keywords, items_of_goal, let_scope, second_name, pin_in, register_number, register_of, input_in, declaration_in, arity_named, ◌>>=◌}
+use Rattle.goal_reader.specs.Terms.{Writes, memory, input, variable, binding, constant, application}
 use Rattle.goal_meaning.specs.Rules.{pins_of}
-use Rattle.goal_meaning.specs.Views.{TwoTrees, TargetTree, GoalTree, AxiomTree}
+use Rattle.goal_meaning.specs.Views.{LetTree, TwoTrees, TargetTree, GoalTree, AxiomTree}
 use Rattle.goal_meaning.specs.WellFormed.{input_registers}
 use Rattle.goal_reader.proofs.Grouped.{AllOf, all_ranked, listed_rank, first_of, skip_of, of_other}
 use Rattle.goal_reader.proofs.Heads.{list_from}
+use Rattle.goal_reader.proofs.LetForms.{all_lets, lets_once}
 use Rattle.goal_reader.proofs.OneTerm.{one_term}
 
 pub same_some : {X : Type 0} (o : Option X) (x y : X) → o ≡ Some x → o ≡ Some y → x ≡ y
@@ -108,6 +109,7 @@ pub no_register_writes : {scope : Scope} {sort : Sort} {f : Form} {t : Tree Op} 
 no_register_writes (memory l) = refl
 no_register_writes (input l) = refl
 no_register_writes (variable l) = refl
+no_register_writes (binding l) = refl
 no_register_writes constant = refl
 no_register_writes (application k s n each) = refl
 
@@ -118,7 +120,7 @@ last_same _ _ _ _ (pinned is) unpinned a b c d e = cc
 last_same _ _ _ _ (pinned is) (pinned has) a b c d e = cc
 
 module _ (scope : Scope) where
-  pub assume_ranked : (form : Form) (a : TwoTrees) → WritesAssume scope form a → rank goal_keywords form ≡ Some 2
+  pub assume_ranked : (form : Form) (a : TwoTrees) → WritesAssume scope form a → rank goal_keywords form ≡ Some 3
   assume_ranked form a w = listed_rank goal_keywords (codes "assume") (w.first ∷ w.second ∷ []) form w.is
 
   assume_once : (form : Form) (a b : TwoTrees) → WritesAssume scope form a → WritesAssume scope form b → a ≡ b
@@ -126,7 +128,7 @@ module _ (scope : Scope) where
       let same = two_same (codes "assume") w.first w.second v.first v.second form w.is v.is in
       sym (two_back a) ∙ ap₂ two_of (term_alone scope w.sort v.sort w.first v.first a.left b.left same.0 w.left v.left) (term_alone scope w.sort v.sort w.second v.second a.right b.right same.1 w.right v.right) ∙ two_back b
 
-  pub guard_ranked : (fs : List Form) (t : Option (Tree Op)) → WritesGuard scope fs t → AllOf goal_keywords 3 fs
+  pub guard_ranked : (fs : List Form) (t : Option (Tree Op)) → WritesGuard scope fs t → AllOf goal_keywords 4 fs
   guard_ranked _ _ unguarded = tt
   guard_ranked _ _ (guarded {form = form} one is term) = (listed_rank goal_keywords (codes "when") (one ∷ []) form is, tt)
 
@@ -135,7 +137,7 @@ module _ (scope : Scope) where
   guard_once _ _ _ (guarded {form = form} {term = t} one is w) (guarded {term = u} other has v) =
       ap Some (term_alone scope _ _ one other t u (one_same (codes "when") one other form is has) w v)
 
-  pub target_ranked : (form : Form) (t : TargetTree) → WritesTarget scope form t → rank goal_keywords form ≡ Some 4
+  pub target_ranked : (form : Form) (t : TargetTree) → WritesTarget scope form t → rank goal_keywords form ≡ Some 5
   target_ranked form t w = listed_rank goal_keywords (codes "set") (w.first ∷ (w.pins ++ w.last ∷ [])) form w.is
 
   pub target_named : (form : Form) (t : TargetTree) → WritesTarget scope form t → second_name form ≡ Some t.name
@@ -160,7 +162,7 @@ module _ (scope : Scope) where
 -- ---- a goal
 module _ (declared : List DeclaredOp) (form : Form) (g : GoalTree) (w : WritesGoal declared form g) where
   abbrev pub behind_name : List Form
-  behind_name = w.ins ++ (w.pools ++ (w.assumes ++ (w.whens ++ w.sets)))
+  behind_name = w.ins ++ (w.pools ++ (w.bindings ++ (w.assumes ++ (w.whens ++ w.sets))))
 
   pub parts_are : parts_of form ≡ atom w.is.head_place (name (codes "goal")) ∷ w.name_form ∷ behind_name
   parts_are = ap parts_of w.is.is ∙ ap (λ fs. atom w.is.head_place (name (codes "goal")) ∷ w.name_form ∷ fs) (list_from behind_name)
@@ -180,14 +182,20 @@ module _ (declared : List DeclaredOp) (form : Form) (g : GoalTree) (w : WritesGo
   pub all_pools : AllOf goal_keywords 1 w.pools
   all_pools = pool_ranked (input_registers g.inputs ++ pins_of g.sets) w.pools g.pool w.pool
 
-  pub all_assumes : AllOf goal_keywords 2 w.assumes
-  all_assumes = all_ranked goal_keywords (WritesAssume (goal_scope declared g.inputs)) 2 (assume_ranked (goal_scope declared g.inputs)) w.assumes g.assumes w.assumptions
+  abbrev scope : Scope
+  scope = scope_of_goal declared g
 
-  pub all_whens : AllOf goal_keywords 3 w.whens
-  all_whens = guard_ranked (goal_scope declared g.inputs) w.whens g.guard w.guard
+  pub all_bindings : AllOf goal_keywords 2 w.bindings
+  all_bindings = all_lets declared g.inputs w.lets
 
-  pub all_sets : AllOf goal_keywords 4 w.sets
-  all_sets = all_ranked goal_keywords (WritesTarget (goal_scope declared g.inputs)) 4 (target_ranked (goal_scope declared g.inputs)) w.sets g.sets w.targets
+  pub all_assumes : AllOf goal_keywords 3 w.assumes
+  all_assumes = all_ranked goal_keywords (WritesAssume scope) 3 (assume_ranked scope) w.assumes g.assumes w.assumptions
+
+  pub all_whens : AllOf goal_keywords 4 w.whens
+  all_whens = guard_ranked scope w.whens g.guard w.guard
+
+  pub all_sets : AllOf goal_keywords 5 w.sets
+  all_sets = all_ranked goal_keywords (WritesTarget scope) 5 (target_ranked scope) w.sets g.sets w.targets
 
   abbrev items : ℕ → List Form
   items at = of_rank goal_keywords at (items_of_goal form)
@@ -196,28 +204,36 @@ module _ (declared : List DeclaredOp) (form : Form) (g : GoalTree) (w : WritesGo
   ins_are =
       ap (of_rank goal_keywords 0) items_are
       ∙ first_of goal_keywords 0 w.ins _ all_ins
-      (skip_of goal_keywords 1 0 w.pools _ all_pools refl ∙ skip_of goal_keywords 2 0 w.assumes _ all_assumes refl ∙ skip_of goal_keywords 3 0 w.whens _ all_whens refl ∙ of_other goal_keywords 4 0 w.sets all_sets refl)
+      (skip_of goal_keywords 1 0 w.pools _ all_pools refl ∙ skip_of goal_keywords 2 0 w.bindings _ all_bindings refl ∙ skip_of goal_keywords 3 0 w.assumes _ all_assumes refl ∙ skip_of goal_keywords 4 0 w.whens _ all_whens refl ∙ of_other goal_keywords 5 0 w.sets all_sets refl)
 
   pools_are : items 1 ≡ w.pools
   pools_are =
       ap (of_rank goal_keywords 1) items_are ∙ skip_of goal_keywords 0 1 w.ins _ all_ins refl
       ∙ first_of goal_keywords 1 w.pools _ all_pools
-      (skip_of goal_keywords 2 1 w.assumes _ all_assumes refl ∙ skip_of goal_keywords 3 1 w.whens _ all_whens refl ∙ of_other goal_keywords 4 1 w.sets all_sets refl)
+      (skip_of goal_keywords 2 1 w.bindings _ all_bindings refl ∙ skip_of goal_keywords 3 1 w.assumes _ all_assumes refl ∙ skip_of goal_keywords 4 1 w.whens _ all_whens refl ∙ of_other goal_keywords 5 1 w.sets all_sets refl)
 
-  assumes_are : items 2 ≡ w.assumes
-  assumes_are =
+  bindings_are : items 2 ≡ w.bindings
+  bindings_are =
       ap (of_rank goal_keywords 2) items_are ∙ skip_of goal_keywords 0 2 w.ins _ all_ins refl ∙ skip_of goal_keywords 1 2 w.pools _ all_pools refl
-      ∙ first_of goal_keywords 2 w.assumes _ all_assumes (skip_of goal_keywords 3 2 w.whens _ all_whens refl ∙ of_other goal_keywords 4 2 w.sets all_sets refl)
+      ∙ first_of goal_keywords 2 w.bindings _ all_bindings
+      (skip_of goal_keywords 3 2 w.assumes _ all_assumes refl ∙ skip_of goal_keywords 4 2 w.whens _ all_whens refl ∙ of_other goal_keywords 5 2 w.sets all_sets refl)
 
-  whens_are : items 3 ≡ w.whens
+  assumes_are : items 3 ≡ w.assumes
+  assumes_are =
+      ap (of_rank goal_keywords 3) items_are ∙ skip_of goal_keywords 0 3 w.ins _ all_ins refl ∙ skip_of goal_keywords 1 3 w.pools _ all_pools refl ∙ skip_of goal_keywords 2 3 w.bindings _ all_bindings refl
+      ∙ first_of goal_keywords 3 w.assumes _ all_assumes
+      (skip_of goal_keywords 4 3 w.whens _ all_whens refl ∙ of_other goal_keywords 5 3 w.sets all_sets refl)
+
+  whens_are : items 4 ≡ w.whens
   whens_are =
-      ap (of_rank goal_keywords 3) items_are ∙ skip_of goal_keywords 0 3 w.ins _ all_ins refl ∙ skip_of goal_keywords 1 3 w.pools _ all_pools refl ∙ skip_of goal_keywords 2 3 w.assumes _ all_assumes refl
-      ∙ first_of goal_keywords 3 w.whens _ all_whens (of_other goal_keywords 4 3 w.sets all_sets refl)
+      ap (of_rank goal_keywords 4) items_are ∙ skip_of goal_keywords 0 4 w.ins _ all_ins refl ∙ skip_of goal_keywords 1 4 w.pools _ all_pools refl ∙ skip_of goal_keywords 2 4 w.bindings _ all_bindings refl ∙ skip_of goal_keywords 3 4 w.assumes _ all_assumes refl
+      ∙ first_of goal_keywords 4 w.whens _ all_whens
+      (of_other goal_keywords 5 4 w.sets all_sets refl)
 
-  sets_are : items 4 ≡ w.sets
+  sets_are : items 5 ≡ w.sets
   sets_are =
-      ap (of_rank goal_keywords 4) items_are ∙ skip_of goal_keywords 0 4 w.ins _ all_ins refl ∙ skip_of goal_keywords 1 4 w.pools _ all_pools refl ∙ skip_of goal_keywords 2 4 w.assumes _ all_assumes refl
-      ∙ skip_of goal_keywords 3 4 w.whens _ all_whens refl ∙ ap (of_rank goal_keywords 4) (sym (nothing_behind w.sets)) ∙ first_of goal_keywords 4 w.sets [] all_sets refl
+      ap (of_rank goal_keywords 5) items_are ∙ skip_of goal_keywords 0 5 w.ins _ all_ins refl ∙ skip_of goal_keywords 1 5 w.pools _ all_pools refl ∙ skip_of goal_keywords 2 5 w.bindings _ all_bindings refl ∙ skip_of goal_keywords 3 5 w.assumes _ all_assumes refl ∙ skip_of goal_keywords 4 5 w.whens _ all_whens refl
+      ∙ ap (of_rank goal_keywords 5) (sym (nothing_behind w.sets)) ∙ first_of goal_keywords 5 w.sets [] all_sets refl
     where
       nothing_behind : (xs : List Form) → xs ++ [] ≡ xs
       nothing_behind [] = refl
@@ -229,19 +245,22 @@ module _ (declared : List DeclaredOp) (form : Form) (g : GoalTree) (w : WritesGo
   pub reads_pool : WritesPool (input_registers g.inputs ++ pins_of g.sets) (items 1) g.pool
   reads_pool = subst (λ fs. WritesPool (input_registers g.inputs ++ pins_of g.sets) fs g.pool) (sym pools_are) w.pool
 
-  pub reads_assumes : Each (WritesAssume (goal_scope declared g.inputs)) (items 2) g.assumes
-  reads_assumes = subst (λ fs. Each (WritesAssume (goal_scope declared g.inputs)) fs g.assumes) (sym assumes_are) w.assumptions
+  pub reads_lets : WritesLets declared g.inputs [] (items 2) g.lets
+  reads_lets = subst (λ fs. WritesLets declared g.inputs [] fs g.lets) (sym bindings_are) w.lets
 
-  pub reads_guard : WritesGuard (goal_scope declared g.inputs) (items 3) g.guard
-  reads_guard = subst (λ fs. WritesGuard (goal_scope declared g.inputs) fs g.guard) (sym whens_are) w.guard
+  pub reads_assumes : Each (WritesAssume scope) (items 3) g.assumes
+  reads_assumes = subst (λ fs. Each (WritesAssume scope) fs g.assumes) (sym assumes_are) w.assumptions
 
-  pub reads_targets : Each (WritesTarget (goal_scope declared g.inputs)) (items 4) g.sets
-  reads_targets = subst (λ fs. Each (WritesTarget (goal_scope declared g.inputs)) fs g.sets) (sym sets_are) w.targets
+  pub reads_guard : WritesGuard scope (items 4) g.guard
+  reads_guard = subst (λ fs. WritesGuard scope fs g.guard) (sym whens_are) w.guard
 
-goal_of_parts : List ℕ → List InputReg → List ℕ → List TwoTrees → Option (Tree Op) → List TargetTree → GoalTree
-goal_of_parts n i p a u s = record { name = n; inputs = i; pool = p; assumes = a; guard = u; sets = s }
+  pub reads_targets : Each (WritesTarget scope) (items 5) g.sets
+  reads_targets = subst (λ fs. Each (WritesTarget scope) fs g.sets) (sym sets_are) w.targets
 
-goal_back : (g : GoalTree) → goal_of_parts g.name g.inputs g.pool g.assumes g.guard g.sets ≡ g
+goal_of_parts : List ℕ → List InputReg → List ℕ → List LetTree → List TwoTrees → Option (Tree Op) → List TargetTree → GoalTree
+goal_of_parts n i p l a u s = record { name = n; inputs = i; pool = p; lets = l; assumes = a; guard = u; sets = s }
+
+goal_back : (g : GoalTree) → goal_of_parts g.name g.inputs g.pool g.lets g.assumes g.guard g.sets ≡ g
 unfolding goal_of_parts
 goal_back g = refl
 
@@ -250,16 +269,19 @@ goal_once declared form g h w v =
     let items : ℕ → List Form = λ at. of_rank goal_keywords at (items_of_goal form) in
     let names = same_some (second_name form) g.name h.name (goal_told declared form g w) (goal_told declared form h v) in
     let inputs = each_once WritesInput input_once (items 0) g.inputs h.inputs (reads_inputs declared form g w) (reads_inputs declared form h v) in
-    let scope = goal_scope declared h.inputs in
-    let assumes = each_once (WritesAssume scope) (assume_once scope) (items 2) g.assumes h.assumes (subst (λ is. Each (WritesAssume (goal_scope declared is)) (items 2) g.assumes) inputs (reads_assumes declared form g w)) (reads_assumes declared form h v) in
-    let guards = guard_once scope (items 3) g.guard h.guard (subst (λ is. WritesGuard (goal_scope declared is) (items 3) g.guard) inputs (reads_guard declared form g w)) (reads_guard declared form h v) in
-    let sets = each_once (WritesTarget scope) (target_once scope) (items 4) g.sets h.sets (subst (λ is. Each (WritesTarget (goal_scope declared is)) (items 4) g.sets) inputs (reads_targets declared form g w)) (reads_targets declared form h v) in
+    let lets = lets_once declared h.inputs (subst (λ is. WritesLets declared is [] (items 2) g.lets) inputs (reads_lets declared form g w)) h.lets (reads_lets declared form h v) in
+    let scope = scope_of_goal declared h in
+    let same : scope_of_goal declared g ≡ scope = ap₂ (λ is ls. let_scope declared is (sorted_from [] ls)) inputs lets in
+    let assumes = each_once (WritesAssume scope) (assume_once scope) (items 3) g.assumes h.assumes (subst (λ (s : Scope). Each (WritesAssume s) (items 3) g.assumes) same (reads_assumes declared form g w)) (reads_assumes declared form h v) in
+    let guards = guard_once scope (items 4) g.guard h.guard (subst (λ (s : Scope). WritesGuard s (items 4) g.guard) same (reads_guard declared form g w)) (reads_guard declared form h v) in
+    let sets = each_once (WritesTarget scope) (target_once scope) (items 5) g.sets h.sets (subst (λ (s : Scope). Each (WritesTarget s) (items 5) g.sets) same (reads_targets declared form g w)) (reads_targets declared form h v) in
     let taken = ap₂ (λ is ts. input_registers is ++ pins_of ts) inputs sets in
     let pool = pool_once (input_registers h.inputs ++ pins_of h.sets) (items 1) g.pool h.pool (subst (λ rs. WritesPool rs (items 1) g.pool) taken (reads_pool declared form g w)) (reads_pool declared form h v) in
     sym (goal_back g)
-    ∙ ap₂ (λ n i. goal_of_parts n i g.pool g.assumes g.guard g.sets) names inputs
-    ∙ ap₂ (λ p a. goal_of_parts h.name h.inputs p a g.guard g.sets) pool assumes
-    ∙ ap₂ (λ u s. goal_of_parts h.name h.inputs h.pool h.assumes u s) guards sets
+    ∙ ap₂ (λ n i. goal_of_parts n i g.pool g.lets g.assumes g.guard g.sets) names inputs
+    ∙ ap₂ (λ p l. goal_of_parts h.name h.inputs p l g.assumes g.guard g.sets) pool lets
+    ∙ ap (λ a. goal_of_parts h.name h.inputs h.pool h.lets a g.guard g.sets) assumes
+    ∙ ap₂ (λ u s. goal_of_parts h.name h.inputs h.pool h.lets h.assumes u s) guards sets
     ∙ goal_back h
 
 -- ---- a declaration

@@ -113,9 +113,9 @@ module _ (scope : Scope) (names : List (List ℕ)) (taken : List ℕ) (form : Fo
         value = writes_as scope r.sort (sort_of_target one.name) c (tree_of one.value) r.wanted_one r.writes;
       }
 
-  pub target_writes : (one : Set) → rank goal_keywords form ≡ Some 4 → second_name form ≡ Some one.name → pin_in form ≡ one.pin
+  pub target_writes : (one : Set) → rank goal_keywords form ≡ Some 5 → second_name form ≡ Some one.name → pin_in form ≡ one.pin
       → WritesPart scope (Some (sort_of_target one.name)) form (value_part form) (tree_of one.value) → IsTargeted scope form one
   target_writes one e named has_pin value =
-      let k = keyworded 4 form e in
+      let k = keyworded 5 form e in
       let parts = set_parts scope names taken k.place (atom k.head (name (codes "set"))) k.rest (subst (λ (f : Form). IsClear (a_list (roles.set scope names taken)) f) k.is clear) in
       target_by one k.place k.head k.rest k.is parts named has_pin value

@@ -1,13 +1,12 @@
 -- The canonical text of a term by itself.
-use Rattle.std.proofs.Common.{◌≡◌, ◌≢◌, ℕ, zero, suc, ◌+◌, ◌*◌, ◌≤◌, None, Some, List, [], ◌∷◌, map, sym, ap, ◌∙◌, subst, arith, slice_get}
+use Rattle.std.proofs.Common.{◌≡◌, ◌≢◌, ℕ, zero, suc, ◌+◌, ◌*◌, ◌≤◌, Some, List, [], ◌∷◌, map, sym, ap, ◌∙◌, subst, arith, slice_get}
 use Rattle.std.specs.Prelude.{AllPairs}
 use Rattle.forms.specs.Forms.{Form, Stands, atom, list, more, parts_of, forms_list, forms_of}
 use Rattle.forms.specs.Printing.{CanPrintAll, most_levels, plain_of, plains_of, plains_from}
 use Rattle.forms.specs.Printing as printing
 use Rattle.forms.specs.Reading.{TextHasTrees}
 use Rattle.goal_meaning.specs.InputForms.{naming, term_plain}
-use Rattle.goal_meaning.specs.Views.{GoalTree}
-use Rattle.goal_meaning.specs.WellFormed.{IsGoalTerm, input_registers}
+use Rattle.goal_meaning.specs.WellFormed.{IsTermOver, input_registers}
 use Rattle.goal_meaning.specs.declared.goals.InputReg.{InputReg}
 use Rattle.goal_reader.specs.GoalTerms.{AreInputs, IsReadTerm, IsTextOfTerm, IsWithin, one, part, term_scope, term_text}
 use Rattle.goal_reader.specs.Terms.{Writes}
@@ -48,18 +47,14 @@ term_few inputs form t low high w stands =
     let b = signs_within low high form stands in
     omega (arith, a, b)
 
--- the inputs as those of a goal
-abbrev goal_over : List InputReg → GoalTree
-goal_over inputs = record { name = []; inputs = inputs; pool = []; assumes = []; guard = None; sets = [] }
-
 module _ (prints : (text : List ℕ) (all : SexpTrees) → TextHasTrees text all → CanPrintAll (plains_of (forms_of text all)) × (most_levels (plains_of (forms_of text all)) ≤ 64)) where
   read_fits : {inputs : List InputReg} {sort : Sort} {t : Tree Op} (r : IsReadTerm inputs sort t) → Fits 64 (plain_of r.form)
   read_fits r =
       let all : FitAll 64 (map plain_of (forms_list (forms_of r.text r.trees))) = subst (λ ps. CanPrintAll ps × (most_levels ps ≤ 64)) (plains_map (forms_of r.text r.trees)) (prints r.text r.trees r.has) in
       within_fits 64 r.form (forms_list (forms_of r.text r.trees)) r.within all
 
-  pub term_well_sorted : (inputs : List InputReg) (sort : Sort) (t : Tree Op) → IsReadTerm inputs sort t → IsGoalTerm [] (goal_over inputs) sort t
-  term_well_sorted inputs sort t r = term_keeps [] (goal_over inputs) r.writes (read_fits r).0
+  pub term_well_sorted : (inputs : List InputReg) (sort : Sort) (t : Tree Op) → IsReadTerm inputs sort t → IsTermOver [] inputs [] sort t
+  term_well_sorted inputs sort t r = term_keeps [] inputs r.writes (read_fits r).0
 
   module _ (inputs : List InputReg) (sort : Sort) (t : Tree Op) (are : AreInputs inputs) (r : IsReadTerm inputs sort t) where
     told : plain_of r.form ≡ term_plain (naming [] inputs []) t

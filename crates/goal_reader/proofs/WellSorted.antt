@@ -17,12 +17,12 @@ use Rattle.word_terms.specs.Tree.{Tree, Trees}
 use Rattle.forms.specs.Forms.{Form, Forms, forms_list}
 use Rattle.forms.specs.Printing.{CanPrint, CanPrintAll, plain_of, plains_of}
 use Rattle.goal_meaning.specs.declared.goals.DeclaredOp.{DeclaredOp}
-use Rattle.goal_reader.specs.declared.scopes.Named.TheVariants.{Memory, Input, Variable}
+use Rattle.goal_reader.specs.declared.scopes.Named.TheVariants.{Memory, Input, Variable, Let}
 use Rattle.goal_reader.specs.declared.scopes.Scope.{Scope}
 use Rattle.std.specs.Option.{option_or}
 use Rattle.goal_reader.specs.Scopes.{leaf_named, declared_named, operator_named}
 use Rattle.goal_meaning.specs.Names.{is_written, word_named, memory_operator_named, written_or_memory}
-use Rattle.goal_reader.specs.Terms.{Writes, WritesEach, memory, input, variable, constant, application, nothing, operand}
+use Rattle.goal_reader.specs.Terms.{Writes, WritesEach, memory, input, variable, binding, constant, application, nothing, operand}
 use Rattle.goal_meaning.specs.WellFormed.{IsDeclared}
 
 -- ---- the operator of a name
@@ -77,9 +77,10 @@ no_constant declared = of_operator declared (λ op. constant_in op ≡ None) (λ
 
 -- ---- sorts
 
--- each variable that a name means is one of these, and a word
-abbrev pub NamesVariables : Scope → List Sort → Type 0
-NamesVariables scope variables = (bytes : List ℕ) (n : ℕ) → leaf_named scope.leaves bytes ≡ Some (Variable n) → (n < length variables) × (sort_at variables n ≡ sorts.Word)
+-- each variable that a name means is one of these, a word or, where it is a let, of the let's sort
+pub record NamesVariables (scope : Scope) (variables : List Sort) : Type 0 where
+  pub words : (bytes : List ℕ) (n : ℕ) → leaf_named scope.leaves bytes ≡ Some (Variable n) → (n < length variables) × (sort_at variables n ≡ sorts.Word)
+  pub lets : (bytes : List ℕ) (n : ℕ) (sort : Sort) → leaf_named scope.leaves bytes ≡ Some (Let n sort) → (n < length variables) × (sort_at variables n ≡ sort)
 
 module _ (scope : Scope) (variables : List Sort) (named : NamesVariables scope variables) where
   as_many : {op : Op} {at : ℕ} {fs : Forms} {ts : Trees Op} → WritesEach scope op at fs ts → tree_count ts ≡ length (forms_list fs)
@@ -90,7 +91,8 @@ module _ (scope : Scope) (variables : List Sort) (named : NamesVariables scope v
     pub is_sorted : {sort : Sort} {f : Form} {t : Tree Op} → Writes scope sort f t → CanPrint (plain_of f) → HasSort op_signature variables sort t
     is_sorted (memory l) p = (refl, tt, refl, tt)
     is_sorted (input l) p = (refl, tt, refl, tt)
-    is_sorted (variable {bytes = bytes} {n = n} l) p = named bytes n l
+    is_sorted (variable {bytes = bytes} {n = n} l) p = named.words bytes n l
+    is_sorted (binding {bytes = bytes} {n = n} {sort = s} l) p = named.lets bytes n s l
     is_sorted (constant {n = n}) p = (refl, p, refl, tt)
     is_sorted (application {bytes = bytes} {op = op} k s n each) p =
         (sym s, subst (λ o. IfSome o IsWord) (sym (no_constant scope.declared bytes op k)) tt, as_many each ∙ n, are_sorted each p.1)
@@ -114,6 +116,7 @@ module _ (scope : Scope) (P : Op → Type 0) (means : Means scope P) where
     each_operator (memory {bytes = bytes} l) = (means.memory_is bytes l, tt)
     each_operator (input {bytes = bytes} {register = r} l) = (means.input_is bytes r l, tt)
     each_operator (variable l) = tt
+    each_operator (binding l) = tt
     each_operator (constant {n = n}) = (means.constant_is n, tt)
     each_operator (application {bytes = bytes} {op = op} k s n each) = (means.operator_is bytes op k, each_operator_of_all each)
 

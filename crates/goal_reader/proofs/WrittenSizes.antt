@@ -13,10 +13,13 @@ use Rattle.machine_table.specs.Grammar.{Each, more_of, IsListOf}
 use Rattle.machine_table.specs.Grammar as grammar
 use Rattle.goal_meaning.specs.declared.goals.DeclaredOp.{DeclaredOp}
 use Rattle.goal_reader.specs.declared.scopes.Scope.{Scope}
-use Rattle.goal_reader.specs.Grammar.{WritesAssume, WritesGuard, WritesTarget, WritesGoal, WritesAxiom, WritesText, unguarded, guarded, axiom_scope}
-use Rattle.goal_reader.specs.Roles.{goal_scope}
-use Rattle.goal_reader.specs.Terms.{Writes, WritesEach, memory, input, variable, constant, application, nothing, operand}
-use Rattle.goal_meaning.specs.Views.{TwoTrees, TargetTree, GoalTree, AxiomTree, InputTree}
+use Rattle.goal_reader.specs.Grammar.{WritesLet, WritesLets, no_lets, one_let, sorted_let, scope_of_goal, WritesAssume, WritesGuard, WritesTarget, WritesGoal, WritesAxiom, WritesText, unguarded, guarded, axiom_scope}
+use Rattle.goal_reader.specs.Roles.{let_scope}
+use Rattle.goal_reader.specs.Scopes.{SortedName}
+use Rattle.goal_meaning.specs.Expanded.{let_values}
+use Rattle.goal_meaning.specs.declared.goals.InputReg.{InputReg}
+use Rattle.goal_reader.specs.Terms.{Writes, WritesEach, memory, input, variable, binding, constant, application, nothing, operand}
+use Rattle.goal_meaning.specs.Views.{LetTree, TwoTrees, TargetTree, GoalTree, AxiomTree, InputTree}
 use Rattle.goal_meaning.specs.WellFormed.{sum_over, operators_of_sides, operators_of_target, operators_of_goal, operators_of_axiom, operators_of_input}
 
 abbrev mutual
@@ -75,6 +78,7 @@ module _ (scope : Scope) where
     few_operators (memory l) = omega arith
     few_operators (input l) = omega arith
     few_operators (variable l) = omega arith
+    few_operators (binding l) = omega arith
     few_operators constant = omega arith
     few_operators (application {op = op} {operands = operands} k s n each) =
         let a = few_of_all each in
@@ -88,6 +92,12 @@ module _ (scope : Scope) where
         let a = few_operators one in
         let b = few_of_all others in
         omega (arith, a, b)
+
+  let_few : (f : Form) (l : LetTree) → WritesLet scope f l → 5 * operators_in l.value ≤ 4 * signs f
+  let_few f l w =
+      let a = few_operators w.value in
+      let e = signs_listed _ (w.first ∷ w.second ∷ []) f w.is in
+      omega (arith, a, e)
 
   assume_few : (f : Form) (a : TwoTrees) → WritesAssume scope f a → 5 * operators_of_sides a ≤ 4 * signs f
   assume_few f a w =
@@ -110,18 +120,27 @@ module _ (scope : Scope) where
       let b = signs_behind w.pins (w.last ∷ []) in
       omega (arith, a, b, e)
 
+lets_few : (declared : List DeclaredOp) (inputs : List InputReg) (before : List SortedName) (fs : List Form) (ls : List LetTree) → WritesLets declared inputs before fs ls → 5 * sum_over operators_in (let_values ls) ≤ 4 * sum_over signs fs
+lets_few declared inputs before _ _ no_lets = omega arith
+lets_few declared inputs before _ _ (one_let {form = f} {forms = fs} {one = l} {others = ls} one others) =
+    let a = let_few (let_scope declared inputs before) f l one in
+    let b = lets_few declared inputs (before ++ sorted_let before l ∷ []) fs ls others in
+    omega (arith, a, b)
+
 pub goal_few : (declared : List DeclaredOp) (f : Form) (g : GoalTree) → WritesGoal declared f g → 5 * operators_of_goal g ≤ 4 * signs f
 goal_few declared f g w =
-    let scope = goal_scope declared g.inputs in
+    let scope = scope_of_goal declared g in
+    let m = lets_few declared g.inputs [] w.bindings g.lets w.lets in
     let a = each_few (WritesAssume scope) operators_of_sides (assume_few scope) w.assumes g.assumes w.assumptions in
     let b = guard_few scope w.whens g.guard w.guard in
     let c = each_few (WritesTarget scope) operators_of_target (target_few scope) w.sets g.sets w.targets in
-    let d = signs_listed _ (w.name_form ∷ w.ins ++ (w.pools ++ (w.assumes ++ (w.whens ++ w.sets)))) f w.is in
-    let i = signs_behind w.ins (w.pools ++ (w.assumes ++ (w.whens ++ w.sets))) in
-    let j = signs_behind w.pools (w.assumes ++ (w.whens ++ w.sets)) in
+    let d = signs_listed _ (w.name_form ∷ w.ins ++ (w.pools ++ (w.bindings ++ (w.assumes ++ (w.whens ++ w.sets))))) f w.is in
+    let i = signs_behind w.ins (w.pools ++ (w.bindings ++ (w.assumes ++ (w.whens ++ w.sets)))) in
+    let j = signs_behind w.pools (w.bindings ++ (w.assumes ++ (w.whens ++ w.sets))) in
+    let n = signs_behind w.bindings (w.assumes ++ (w.whens ++ w.sets)) in
     let k = signs_behind w.assumes (w.whens ++ w.sets) in
     let l = signs_behind w.whens w.sets in
-    omega (arith, a, b, c, d, i, j, k, l)
+    omega (arith, m, a, b, c, d, i, j, n, k, l)
 
 pub axiom_few : (declared : List DeclaredOp) (f : Form) (a : AxiomTree) → WritesAxiom declared f a → 5 * operators_of_axiom a ≤ 4 * signs f
 axiom_few declared f a w =

@@ -1,6 +1,7 @@
 -- A goal that is being read: what each item adds to it, and what the items before give. Source: this project.
 use Rattle.std.specs.Prelude.{All, AllPairs, true, false, bytes_eq, ◌≢◌, ◌<◌, ◌≤◌, ℕ, ◌≡◌, ◌-◌, List, [], ◌∷◌, ◌++◌, map, take, length, Option, Some, None}
 use Rattle.text_core.specs.Limits.{most_inputs, most_assumes, most_sets}
+use Rattle.word_ops.specs.declared.sorts.Sort.{Sort}
 use Rattle.word_ops.specs.declared.sorts.Sort.TheVariants as sorts
 use Rattle.word_ops.specs.declared.sorts.Op.{Op}
 use Rattle.word_terms.specs.View.{tree_of}
@@ -10,22 +11,25 @@ use Rattle.goal_meaning.specs.declared.goals.DeclaredOp.{DeclaredOp}
 use Rattle.goal_reader.specs.declared.scopes.Leaf.{Leaf}
 use Rattle.goal_reader.specs.declared.scopes.Scope.{Scope}
 use Rattle.goal_reader.specs.declared.scopes.Named.TheVariants.{Input}
+use Rattle.goal_reader.specs.declared.scopes.Named.TheVariants as nameds
 use Rattle.goal_meaning.specs.declared.goals.InputReg.{InputReg}
+use Rattle.goal_meaning.specs.declared.goals.Let.{Let}
 use Rattle.goal_meaning.specs.declared.goals.Assume.{Assume}
 use Rattle.goal_meaning.specs.declared.goals.Set.{Set}
 use Rattle.goal_meaning.specs.declared.goals.Goal.{Goal}
 use Rattle.goal_reader.specs.declared.drafts.Draft.{Draft}
 use Rattle.goal_reader.specs.Roles as roles
 use Rattle.text_core.specs.Names.{is_among}
-use Rattle.goal_reader.specs.Roles.{Role, a_list, wrong, goal_scope, inputs_in, input_in, names_given, of_rank, goal_keywords, items_of_goal, second_name, registers_in, pool_in, pin_in, pins_in, value_part}
+use Rattle.goal_reader.specs.Roles.{Role, a_list, wrong, let_scope, lets_in, part_sort, inputs_in, input_in, names_given, of_rank, goal_keywords, items_of_goal, second_name, registers_in, pool_in, pin_in, pins_in, value_part}
 use Rattle.goal_meaning.specs.Names.{is_reserved, names_of_declared}
 use Rattle.std.specs.Prelude.{get_or, codes}
-use Rattle.goal_meaning.specs.Rules.{default_pool}
-use Rattle.goal_reader.specs.Grammar.{IsRegister, WritesInput, WritesAssume, WritesGuard, WritesTarget}
+use Rattle.goal_reader.specs.Scopes.{sorted_names}
+use Rattle.goal_meaning.specs.Rules.{default_pool, most_lets}
+use Rattle.goal_reader.specs.Grammar.{IsRegister, WritesInput, WritesLets, WritesAssume, WritesGuard, WritesTarget, sorted_from}
 use Rattle.machine_table.specs.Grammar.{Each, IsListOf}
-use Rattle.goal_meaning.specs.Views.{assume_view, target_view}
+use Rattle.goal_meaning.specs.Views.{let_view, assume_view, target_view}
 use Rattle.std.specs.Prelude.{option_map}
-use Rattle.goal_reader.specs.Reading.{WritesPart, names_of_targets, pins_of_targets, tree_sort}
+use Rattle.goal_reader.specs.Reading.{WritesPart, names_of_inputs, names_of_lets, names_of_targets, pins_of_targets}
 use Rattle.goal_meaning.specs.WellFormed.{input_registers, sort_of_target}
 
 abbrev pub input_leaf : InputReg → Leaf
@@ -36,6 +40,7 @@ with_input d i = record {
   scope = record { declared = d.scope.declared; leaves = d.scope.leaves ++ input_leaf i ∷ [] };
   inputs = d.inputs ++ i ∷ [];
   pool = d.pool;
+  lets = d.lets;
   assumes = d.assumes;
   guard = d.guard;
   sets = d.sets;
@@ -46,6 +51,25 @@ with_pool d registers = record {
   scope = d.scope;
   inputs = d.inputs;
   pool = Some registers;
+  lets = d.lets;
+  assumes = d.assumes;
+  guard = d.guard;
+  sets = d.sets;
+}
+
+abbrev pub let_leaf : ℕ → List ℕ → Sort → Leaf
+let_leaf at name sort = record { name = name; named = nameds.Let at sort }
+
+-- the lets are numbered in their order
+abbrev pub with_let : Draft → Let → Sort → Draft
+with_let d one sort = record {
+  scope = record {
+    declared = d.scope.declared;
+    leaves = d.scope.leaves ++ let_leaf (length d.lets) one.name sort ∷ [];
+  };
+  inputs = d.inputs;
+  pool = d.pool;
+  lets = d.lets ++ one ∷ [];
   assumes = d.assumes;
   guard = d.guard;
   sets = d.sets;
@@ -56,6 +80,7 @@ with_assume d one = record {
   scope = d.scope;
   inputs = d.inputs;
   pool = d.pool;
+  lets = d.lets;
   assumes = d.assumes ++ one ∷ [];
   guard = d.guard;
   sets = d.sets;
@@ -66,6 +91,7 @@ with_guard d term = record {
   scope = d.scope;
   inputs = d.inputs;
   pool = d.pool;
+  lets = d.lets;
   assumes = d.assumes;
   guard = Some term;
   sets = d.sets;
@@ -76,6 +102,7 @@ with_target d one = record {
   scope = d.scope;
   inputs = d.inputs;
   pool = d.pool;
+  lets = d.lets;
   assumes = d.assumes;
   guard = d.guard;
   sets = d.sets ++ one ∷ [];
@@ -86,16 +113,19 @@ pub data IsNext (form : Form) (d : Draft) : ℕ → Draft → Type 0 where
   input : {next : Draft} (i : InputReg) → input_in form ≡ Some i → next ≡ with_input d i → IsNext form d 0 next
   pool : {next : Draft} (registers : List ℕ) → registers ≡ registers_in (parts_of form)
       → next ≡ with_pool d registers → IsNext form d 1 next
+  binding : {next : Draft} (one : Let) (sort : Sort)
+      → second_name form ≡ Some one.name → WritesPart d.scope None form 2 (tree_of one.value)
+      → part_sort d.scope form 2 ≡ Some sort → next ≡ with_let d one sort → IsNext form d 2 next
   assume : {next : Draft} (one : Assume)
       → WritesPart d.scope None form 1 (tree_of one.left)
-      → WritesPart d.scope (Some (tree_sort (tree_of one.left))) form 2 (tree_of one.right)
-      → next ≡ with_assume d one → IsNext form d 2 next
+      → WritesPart d.scope (part_sort d.scope form 1) form 2 (tree_of one.right)
+      → next ≡ with_assume d one → IsNext form d 3 next
   guard : {next : Draft} (term : Term Op)
-      → WritesPart d.scope (Some sorts.Word) form 1 (tree_of term) → next ≡ with_guard d term → IsNext form d 3 next
+      → WritesPart d.scope (Some sorts.Word) form 1 (tree_of term) → next ≡ with_guard d term → IsNext form d 4 next
   target : {next : Draft} (one : Set)
       → second_name form ≡ Some one.name → pin_in form ≡ one.pin
       → WritesPart d.scope (Some (sort_of_target one.name)) form (value_part form) (tree_of one.value)
-      → next ≡ with_target d one → IsNext form d 4 next
+      → next ≡ with_target d one → IsNext form d 5 next
 
 -- the registers of a pool, none where there is none yet
 abbrev pub pool_read : Option (List ℕ) → List ℕ
@@ -106,16 +136,18 @@ pool_read (Some registers) = registers
 abbrev pub draft_role : Draft → ℕ → Role
 draft_role d at =
     get_or (a_list (roles.input d.scope.declared d.inputs) ∷ a_list (roles.pool (input_registers d.inputs))
+    ∷ a_list (roles.binding d.scope (names_of_inputs d.inputs ++ names_of_lets d.lets))
     ∷ a_list (roles.assume d.scope) ∷ a_list (roles.guard d.scope)
     ∷ a_list (roles.set d.scope (names_of_targets d.sets) (pool_read d.pool ++ pins_of_targets d.sets)) ∷ []) at wrong
 
 -- the draft is that of the items before
 pub record IsDraft (declared : List DeclaredOp) (before : List Form) (d : Draft) : Type 0 where
-  pub scope : d.scope ≡ goal_scope declared (inputs_in before)
+  pub scope : d.scope ≡ let_scope declared (inputs_in before) (lets_in declared before)
   pub inputs : d.inputs ≡ inputs_in before
+  pub lets : names_of_lets d.lets ≡ sorted_names (lets_in declared before)
   pub pool : pool_read d.pool ≡ pool_in before
   pub pins : pins_of_targets d.sets ≡ pins_in before
-  pub targets : names_of_targets d.sets ≡ names_given (of_rank goal_keywords 4 before)
+  pub targets : names_of_targets d.sets ≡ names_given (of_rank goal_keywords 5 before)
 
 -- the items before the part of this number
 abbrev pub items_before : Form → ℕ → List Form
@@ -140,12 +172,15 @@ IsTargeted scope form one = WritesTarget scope form (target_view one)
 -- the items before stand in order, and each group writes what the draft has of it
 pub record IsWritten (before : List Form) (d : Draft) : Type 0 where
   pub sorted : before ≡ of_rank goal_keywords 0 before ++ (of_rank goal_keywords 1 before
-      ++ (of_rank goal_keywords 2 before ++ (of_rank goal_keywords 3 before ++ of_rank goal_keywords 4 before)))
+      ++ (of_rank goal_keywords 2 before ++ (of_rank goal_keywords 3 before
+      ++ (of_rank goal_keywords 4 before ++ of_rank goal_keywords 5 before))))
   pub inputs : Each WritesInput (of_rank goal_keywords 0 before) d.inputs
   pub pool : IsPoolWritten (of_rank goal_keywords 1 before) d.pool
-  pub assumptions : Each (IsAssumed d.scope) (of_rank goal_keywords 2 before) d.assumes
-  pub guard : WritesGuard d.scope (of_rank goal_keywords 3 before) (option_map tree_of d.guard)
-  pub targets : Each (IsTargeted d.scope) (of_rank goal_keywords 4 before) d.sets
+  pub lets : WritesLets d.scope.declared d.inputs [] (of_rank goal_keywords 2 before) (map let_view d.lets)
+  pub scope : d.scope ≡ let_scope d.scope.declared d.inputs (sorted_from [] (map let_view d.lets))
+  pub assumptions : Each (IsAssumed d.scope) (of_rank goal_keywords 3 before) d.assumes
+  pub guard : WritesGuard d.scope (of_rank goal_keywords 4 before) (option_map tree_of d.guard)
+  pub targets : Each (IsTargeted d.scope) (of_rank goal_keywords 5 before) d.sets
 
 -- the pool that a goal has: the one that was read, or else the default one, without the registers that are taken
 abbrev pub pool_kept : List ℕ → Option (List ℕ) → List ℕ
@@ -162,6 +197,10 @@ pub record KeepsSoFar (declared : List DeclaredOp) (d : Draft) : Type 0 where
   pub input_names : AllPairs (λ (i j : InputReg). i.name ≢ j.name) d.inputs
   pub own_names : All (λ (i : InputReg). is_reserved i.name ≡ false) d.inputs
   pub not_declared : All (λ (i : InputReg). is_among (names_of_declared declared) i.name ≡ false) d.inputs
+  pub leaf_names : AllPairs (λ m n. m ≢ n) (names_of_inputs d.inputs ++ names_of_lets d.lets)
+  pub own_lets : All (λ n. (is_reserved n ≡ false) × (is_among (names_of_declared declared) n ≡ false))
+      (names_of_lets d.lets)
+  pub few_lets : length d.lets ≤ most_lets
   pub registers : AreDifferent (input_registers d.inputs ++ pool_read d.pool)
   pub pins : AreDifferent (pool_read d.pool ++ pins_of_targets d.sets)
   pub unpinned : All (λ (t : Set). bytes_eq t.name (codes "M") ≡ true → t.pin ≡ None) d.sets

@@ -5,11 +5,13 @@ use Rattle.text_core.specs.Limits.{most_declared, most_axioms, most_goals, most_
 use Rattle.forms.specs.Forms.{Form, atom, list, forms_from, forms_list, forms_of, register, is_list}
 use Rattle.forms.specs.Reading.{TextHasTrees, IsFirstReadFault}
 use Rattle.text_core.specs.Names.{is_among}
-use Rattle.goal_reader.specs.Roles.{numbered_leaves, IsTextFault, goal_scope, register_number}
+use Rattle.goal_reader.specs.Roles.{numbered_leaves, IsTextFault, let_scope, register_number}
+use Rattle.goal_reader.specs.Scopes.{SortedName, sorts_of_names}
 use Rattle.goal_meaning.specs.Names.{is_reserved, names_of_declared}
 use Rattle.goal_reader.specs.Terms.{Writes}
 use Rattle.goal_meaning.specs.Rules.{default_pool, pins_of, KeepsRules}
-use Rattle.goal_meaning.specs.Views.{TwoTrees, TargetTree, GoalTree, AxiomTree, InputTree}
+use Rattle.goal_meaning.specs.WellFormed.{sort_of_tree}
+use Rattle.goal_meaning.specs.Views.{LetTree, TwoTrees, TargetTree, GoalTree, AxiomTree, InputTree}
 use Rattle.goal_meaning.specs.declared.goals.InputReg.{InputReg}
 use Rattle.goal_meaning.specs.declared.goals.DeclaredOp.{DeclaredOp}
 use Rattle.goal_reader.specs.declared.scopes.Named.TheVariants.{Variable}
@@ -49,6 +51,37 @@ pub data WritesPool (taken : List ℕ) : List Form → List ℕ → Type 0 where
       → IsListOf (codes "pool") forms form → Each (λ f r. IsRegister r f) forms registers
       → WritesPool taken (form ∷ []) registers
 
+-- ( let NAME term )
+pub record WritesLet (scope : Scope) (form : Form) (one : LetTree) : Type 0 where
+  pub first : Form
+  pub second : Form
+  pub sort : Sort
+  pub is : IsListOf (codes "let") (first ∷ second ∷ []) form
+  pub named : IsNameOf one.name first
+  pub value : Writes scope sort second one.value
+
+-- a let has the sort of its term, in which the variables are the lets before it
+abbrev pub sorted_let : List SortedName → LetTree → SortedName
+sorted_let before one = record { name = one.name; sort = sort_of_tree (sorts_of_names before) one.value }
+
+-- the names and the sorts of lets, behind those of others
+abbrev pub sorted_from : List SortedName → List LetTree → List SortedName
+sorted_from before [] = before
+sorted_from before (one ∷ others) = sorted_from (before ++ sorted_let before one ∷ []) others
+
+-- {let} behind other lets; in the term of each a name may mean a let before it
+pub data WritesLets (declared : List DeclaredOp) (inputs : List InputReg) : List SortedName → List Form → List LetTree
+    → Type 0 where
+  no_lets : {before : List SortedName} → WritesLets declared inputs before [] []
+  one_let : {before : List SortedName} {form : Form} {forms : List Form} {one : LetTree} {others : List LetTree}
+      → WritesLet (let_scope declared inputs before) form one
+      → WritesLets declared inputs (before ++ sorted_let before one ∷ []) forms others
+      → WritesLets declared inputs before (form ∷ forms) (one ∷ others)
+
+-- what names mean behind the lets of a goal
+abbrev pub scope_of_goal : List DeclaredOp → GoalTree → Scope
+scope_of_goal declared goal = let_scope declared goal.inputs (sorted_from [] goal.lets)
+
 -- ( assume term term ), the two of one sort
 pub record WritesAssume (scope : Scope) (form : Form) (assume : TwoTrees) : Type 0 where
   pub first : Form
@@ -80,21 +113,23 @@ pub record WritesTarget (scope : Scope) (form : Form) (target : TargetTree) : Ty
   pub pin : WritesPin pins target.pin
   pub value : Writes scope (if bytes_eq target.name (codes "M") then sorts.Memory else sorts.Word) last target.value
 
--- ( goal NAME {in} [pool] {assume} [when] set {set} )
+-- ( goal NAME {in} [pool] {let} {assume} [when] set {set} )
 pub record WritesGoal (declared : List DeclaredOp) (form : Form) (goal : GoalTree) : Type 0 where
   pub name_form : Form
   pub ins : List Form
   pub pools : List Form
+  pub bindings : List Form
   pub assumes : List Form
   pub whens : List Form
   pub sets : List Form
-  pub is : IsListOf (codes "goal") (name_form ∷ ins ++ (pools ++ (assumes ++ (whens ++ sets)))) form
+  pub is : IsListOf (codes "goal") (name_form ∷ ins ++ (pools ++ (bindings ++ (assumes ++ (whens ++ sets))))) form
   pub named : IsNameOf goal.name name_form
   pub inputs : Each WritesInput ins goal.inputs
   pub pool : WritesPool (map (λ (i : InputReg). i.reg) goal.inputs ++ pins_of goal.sets) pools goal.pool
-  pub assumptions : Each (WritesAssume (goal_scope declared goal.inputs)) assumes goal.assumes
-  pub guard : WritesGuard (goal_scope declared goal.inputs) whens goal.guard
-  pub targets : Each (WritesTarget (goal_scope declared goal.inputs)) sets goal.sets
+  pub lets : WritesLets declared goal.inputs [] bindings goal.lets
+  pub assumptions : Each (WritesAssume (scope_of_goal declared goal)) assumes goal.assumes
+  pub guard : WritesGuard (scope_of_goal declared goal) whens goal.guard
+  pub targets : Each (WritesTarget (scope_of_goal declared goal)) sets goal.sets
   pub rules : KeepsRules declared goal
 
 -- ( op NAME NUMBER )

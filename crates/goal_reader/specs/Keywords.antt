@@ -1,7 +1,7 @@
 -- The places of keywords in the order of the lists that begin with them. Source: this project.
 use Rattle.std.specs.Prelude.{ℕ}
 use Rattle.goal_reader.specs.declared.keywords.ItemKeyword.{ItemKeyword}
-use Rattle.goal_reader.specs.declared.keywords.ItemKeyword.TheVariants.{In, Pool, Assume, When, Set}
+use Rattle.goal_reader.specs.declared.keywords.ItemKeyword.TheVariants.{In, Pool, Let, Assume, When, Set}
 use Rattle.goal_reader.specs.declared.keywords.FormKeyword.{FormKeyword}
 use Rattle.goal_reader.specs.declared.keywords.FormKeyword.TheVariants.{Machine, Op, Axiom, Goal}
 
@@ -9,9 +9,10 @@ use Rattle.goal_reader.specs.declared.keywords.FormKeyword.TheVariants.{Machine,
 abbrev pub item_rank : ItemKeyword → ℕ
 item_rank In = 0
 item_rank Pool = 1
-item_rank Assume = 2
-item_rank When = 3
-item_rank Set = 4
+item_rank Let = 2
+item_rank Assume = 3
+item_rank When = 4
+item_rank Set = 5
 
 -- the place of a form's keyword among those of a text
 abbrev pub form_rank : FormKeyword → ℕ

@@ -2,9 +2,8 @@
 use Rattle.std.specs.Prelude.{ℕ, ◌≡◌, ◌||◌, false, List, map, filter_map, Option, Some, slice_get, if◌then◌else◌}
 use Rattle.word_ops.specs.declared.sorts.Sort.{Sort}
 use Rattle.word_ops.specs.declared.sorts.Op.{Op}
-use Rattle.word_terms.specs.Tree.{Tree, variable, application}
-use Rattle.word_ops.specs.Meanings.{sort_of}
-use Rattle.word_ops.specs.declared.sorts.Sort.TheVariants as sorts
+use Rattle.word_terms.specs.Tree.{Tree}
+use Rattle.goal_meaning.specs.declared.goals.Let.{Let}
 use Rattle.goal_meaning.specs.declared.goals.Set.{Set}
 use Rattle.goal_reader.specs.declared.scopes.Scope.{Scope}
 use Rattle.text_core.specs.declared.faults.Kind.{Kind}
@@ -36,10 +35,8 @@ pub record WritesPart (scope : Scope) (wanted : Option Sort) (form : Form) (at :
   pub found : slice_get (parts_of form) at ≡ Some part
   pub writes : WritesTerm scope wanted part term
 
--- the sort of a term
-abbrev pub tree_sort : Tree Op → Sort
-tree_sort (variable n) = sorts.Word
-tree_sort (application op operands) = sort_of op
+abbrev pub names_of_lets : List Let → List (List ℕ)
+names_of_lets lets = map (λ (l : Let). l.name) lets
 
 abbrev pub names_of_targets : List Set → List (List ℕ)
 names_of_targets targets = map (λ (t : Set). t.name) targets

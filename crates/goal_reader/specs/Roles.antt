@@ -1,7 +1,7 @@
 -- What a form can be read as, its role, and which faults of its own a form has in each role. Source: this project.
 use Rattle.std.specs.Prelude.{Bool, true, false, ℕ, zero, suc, ◌≡◌, ◌≢◌, ◌+◌, ◌<◌, ◌||◌, ◌&&◌, ◌-◌, ◌*◌, ◌==◌, nat_lt, nat_le, if◌then◌else◌, List, [], ◌∷◌, ◌++◌, length, map, take, drop, get_or, slice_get, filter, filter_map, codes, bytes_eq, Option, Some, None, option_map, is_some}
 use Rattle.std.specs.Option.{option_map_or}
-use Rattle.std.specs.List.{flat_map, list_any}
+use Rattle.std.specs.List.{cons_option, flat_map, list_any}
 use Rattle.text_core.specs.Limits.{most_inputs, most_assumes, most_sets, most_declared, most_axioms, most_goals}
 use Rattle.word_ops.specs.Meanings.{arity_of_op, sort_of, operand_sort}
 use Rattle.word_ops.specs.declared.sorts.Sort.{Sort}
@@ -18,14 +18,14 @@ use Rattle.machine_table.specs.Roles.{IsMachineFault}
 use Rattle.goal_reader.specs.declared.scopes.Scope.{Scope}
 use Rattle.goal_meaning.specs.declared.goals.DeclaredOp.{DeclaredOp}
 use Rattle.goal_reader.specs.declared.scopes.Named.{Named}
-use Rattle.goal_reader.specs.declared.scopes.Named.TheVariants.{Memory, Input, Variable, Lacking}
+use Rattle.goal_reader.specs.declared.scopes.Named.TheVariants.{Memory, Input, Variable, Lacking, Let}
 use Rattle.goal_reader.specs.declared.scopes.Leaf.{Leaf}
 use Rattle.goal_meaning.specs.Names.{is_reserved, names_of_declared}
-use Rattle.goal_meaning.specs.Rules.{has_register}
+use Rattle.goal_meaning.specs.Rules.{has_register, most_lets}
 use Rattle.goal_meaning.specs.declared.goals.InputReg.{InputReg}
 use Rattle.word_ops.specs.declared.sorts.Arity.{Arity}
 use Rattle.word_ops.specs.declared.sorts.Arity.TheVariants.{One, Two, Three, Four}
-use Rattle.goal_reader.specs.Scopes.{leaf_named, operator_named}
+use Rattle.goal_reader.specs.Scopes.{SortedName, leaf_named, let_leaves, operator_named, sorted_names}
 use Rattle.goal_reader.specs.Terms.{Writes}
 
 infixl 10 ◌>>=◌
@@ -39,6 +39,7 @@ operator_in declared form = head_in form >>= operator_named declared
 
 abbrev pub sort_of_leaf : Named → Sort
 sort_of_leaf Memory = sorts.Memory
+sort_of_leaf (Let n sort) = sort
 sort_of_leaf _ = sorts.Word
 
 abbrev pub sort_of_atom : Scope → Atom → Option Sort
@@ -50,6 +51,10 @@ sort_of_atom scope _ = None
 abbrev pub sort_in : Scope → Form → Option Sort
 sort_in scope (atom place a) = sort_of_atom scope a
 sort_in scope (list place parts) = option_map sort_of (operator_in scope.declared (list place parts))
+
+-- the sort that the part of this number tells
+abbrev pub part_sort : Scope → Form → ℕ → Option Sort
+part_sort scope form at = part at form >>= sort_in scope
 
 -- a name, a number, or a list that isn't empty
 abbrev pub can_be_term : Form → Bool
@@ -84,7 +89,7 @@ registers_in forms = filter_map register_of forms
 
 -- the keywords of the items of a goal, and of the forms of a text, in their order
 abbrev pub goal_keywords : List (List ℕ)
-goal_keywords = codes "in" ∷ codes "pool" ∷ codes "assume" ∷ codes "when" ∷ codes "set" ∷ []
+goal_keywords = codes "in" ∷ codes "pool" ∷ codes "let" ∷ codes "assume" ∷ codes "when" ∷ codes "set" ∷ []
 
 abbrev pub text_keywords : List (List ℕ)
 text_keywords = codes "machine" ∷ codes "op" ∷ codes "axiom" ∷ codes "goal" ∷ []
@@ -160,7 +165,7 @@ abbrev pub pin_in : Form → Option ℕ
 pin_in form = part 2 form >>= register_of
 
 abbrev pub pins_in : List Form → List ℕ
-pins_in items = filter_map pin_in (of_rank goal_keywords 4 items)
+pins_in items = filter_map pin_in (of_rank goal_keywords 5 items)
 
 -- in a goal a name means an input, and M the memory at entry
 abbrev pub goal_scope : List DeclaredOp → List InputReg → Scope
@@ -169,6 +174,29 @@ goal_scope declared inputs = record {
   leaves = (record { name = codes "M"; named = Memory })
       ∷ map (λ (i : InputReg). record { name = i.name; named = Input i.reg }) inputs;
 }
+
+-- and behind lets it may mean one of them
+abbrev pub let_scope : List DeclaredOp → List InputReg → List SortedName → Scope
+let_scope declared inputs lets = record {
+  declared = declared;
+  leaves = (goal_scope declared inputs).leaves ++ let_leaves 0 lets;
+}
+
+-- what a let is named, and the sort of its term
+abbrev pub let_in : Scope → Form → Option SortedName
+let_in scope form = do
+  name ← second_name form
+  sort ← part_sort scope form 2
+  Some (record { name = name; sort = sort })
+
+-- the lets of these forms behind other lets, each by what the names before it mean
+abbrev pub lets_from : List DeclaredOp → List InputReg → List SortedName → List Form → List SortedName
+lets_from declared inputs before [] = before
+lets_from declared inputs before (form ∷ forms) =
+    lets_from declared inputs (before ++ cons_option (let_in (let_scope declared inputs before) form) []) forms
+
+abbrev pub lets_in : List DeclaredOp → List Form → List SortedName
+lets_in declared items = lets_from declared (inputs_in items) [] (of_rank goal_keywords 2 items)
 
 abbrev mutual
   -- the name stands in the form, other than as an operator
@@ -210,6 +238,8 @@ pub data Shape : Type 0 where
   input : List DeclaredOp → List InputReg → Shape
   -- ( pool {REGISTER} ), with the registers of the inputs
   pool : List ℕ → Shape
+  -- ( let NAME term ), with the names of the inputs and of the lets before
+  binding : Scope → List (List ℕ) → Shape
   -- ( assume term term ), ( when term ), and ( set NAME [REGISTER] term ) with the names set before, and with the pool's
   -- registers and the pins before
   assume : Scope → Shape
@@ -249,6 +279,7 @@ pub data Role : Type 0 where
 abbrev pub least_parts : Shape → Form → ℕ
 least_parts (input declared inputs) form = 3
 least_parts (pool given) form = 1
+least_parts (binding scope names) form = 3
 least_parts (assume scope) form = 3
 least_parts (guard scope) form = 2
 least_parts (set scope names taken) form = if is_pinned form then 4 else 3
@@ -301,7 +332,7 @@ pub data IsOwn : Role → Form → Kind → Type 0 where
   too_few : {shape : Shape} {form : Form}
       → length (parts_of form) < least_parts shape form → IsOwn (a_list shape) form BadForm
   no_set : {declared : List DeclaredOp} {names : List (List ℕ)} {form : Form}
-      → list_any (is_of_rank goal_keywords 4) (items_of_goal form) ≡ false
+      → list_any (is_of_rank goal_keywords 5) (items_of_goal form) ≡ false
       → IsOwn (a_list (goal declared names)) form BadForm
   wrong_part : {form : Form} → IsOwn wrong form BadForm
   past_limit : {form : Form} → IsOwn past form LimitPassed
@@ -317,7 +348,8 @@ abbrev pub up_to : ℕ → Role → Bound
 up_to most beyond = record { most = most; beyond = beyond }
 
 abbrev pub goal_bounds : List Bound
-goal_bounds = up_to most_inputs past ∷ up_to 1 wrong ∷ up_to most_assumes past ∷ up_to 1 wrong ∷ up_to most_sets past ∷ []
+goal_bounds = up_to most_inputs past ∷ up_to 1 wrong ∷ up_to most_lets past ∷ up_to most_assumes past ∷ up_to 1 wrong
+    ∷ up_to most_sets past ∷ []
 
 abbrev pub text_bounds : List Bound
 text_bounds = up_to 1 wrong ∷ up_to most_declared past ∷ up_to most_axioms past ∷ up_to most_goals past ∷ []
@@ -339,10 +371,12 @@ role_in keywords bounds before inner form = role_of_rank keywords bounds before 
 abbrev pub item_role : List DeclaredOp → List Form → ℕ → Role
 item_role declared before at =
     let inputs = inputs_in before in
-    let scope = goal_scope declared inputs in
+    let lets = lets_in declared before in
+    let scope = let_scope declared inputs lets in
     get_or (a_list (input declared inputs) ∷ a_list (pool (map (λ (i : InputReg). i.reg) inputs))
+    ∷ a_list (binding scope (map (λ (i : InputReg). i.name) inputs ++ sorted_names lets))
     ∷ a_list (assume scope) ∷ a_list (guard scope)
-    ∷ a_list (set scope (names_given (of_rank goal_keywords 4 before)) (pool_in before ++ pins_in before)) ∷ []) at wrong
+    ∷ a_list (set scope (names_given (of_rank goal_keywords 5 before)) (pool_in before ++ pins_in before)) ∷ []) at wrong
 
 -- ---- the roles of parts
 
@@ -377,7 +411,9 @@ shape_part (input declared inputs) form at = listed_role (own_name (names_of_dec
     ++ map (λ (i : InputReg). i.name) inputs) ∷ fresh_register (map (λ (i : InputReg). i.reg) inputs) ∷ []) at
 shape_part (pool given) form zero = None
 shape_part (pool given) form (suc at) = Some (fresh_register (given ++ registers_in (take (suc at) (parts_of form))))
-shape_part (assume scope) form at = listed_role (term scope None ∷ term scope (part 1 form >>= sort_in scope) ∷ []) at
+shape_part (binding scope names) form at =
+    listed_role (own_name (names_of_declared scope.declared ++ names) ∷ term scope None ∷ []) at
+shape_part (assume scope) form at = listed_role (term scope None ∷ term scope (part_sort scope form 1) ∷ []) at
 shape_part (guard scope) form at = listed_role (term scope (Some sorts.Word) ∷ []) at
 shape_part (set scope names taken) form at = listed_role (set_roles scope names taken form (is_pinned form)) at
 shape_part (goal declared names) form at = goal_part declared names form at

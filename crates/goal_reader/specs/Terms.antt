@@ -9,7 +9,7 @@ use Rattle.word_terms.specs.Tree as tree
 use Rattle.word_terms.specs.Tree.{Tree, Trees}
 use Rattle.forms.specs.Forms.{Form, Forms, atom, list, none, more, name, number, forms_list}
 use Rattle.goal_reader.specs.declared.scopes.Scope.{Scope}
-use Rattle.goal_reader.specs.declared.scopes.Named.TheVariants.{Memory, Input, Variable}
+use Rattle.goal_reader.specs.declared.scopes.Named.TheVariants.{Memory, Input, Variable, Let}
 use Rattle.goal_reader.specs.Scopes.{leaf_named, operator_named}
 
 mutual
@@ -24,6 +24,9 @@ mutual
     variable : {place : ℕ} {bytes : List ℕ} {n : ℕ}
         → leaf_named scope.leaves bytes ≡ Some (Variable n)
         → Writes scope sorts.Word (atom place (name bytes)) (tree.variable n)
+    binding : {place : ℕ} {bytes : List ℕ} {n : ℕ} {sort : Sort}
+        → leaf_named scope.leaves bytes ≡ Some (Let n sort)
+        → Writes scope sort (atom place (name bytes)) (tree.variable n)
     constant : {place n : ℕ}
         → Writes scope sorts.Word (atom place (number n)) (tree.application (ops.Constant n) tree.none)
     application : {place head : ℕ} {bytes : List ℕ} {op : Op} {sort : Sort} {operands : Forms} {trees : Trees Op}

@@ -8,15 +8,17 @@ ghost use Rattle.goal_reader.specs.Roles.{IsFaultAs, is_of_rank, rank, goal_keyw
 ghost use Rattle.goal_reader.specs.Reading.{IsClear};
 ghost use Rattle.goal_reader.specs.Drafts.{IsNext, draft_role, pool_read};
 ghost use Rattle.goal_reader.specs.Keywords.{item_rank};
+ghost use Rattle.goal_meaning.specs.Rules.{most_lets};
 
 use crate::assumes::assume;
 use crate::guards::guard;
 use crate::inputs::input;
 use crate::keywords::ItemKeyword;
+use crate::lets::binding;
 use crate::pools::pool;
 use crate::scopes::{Leaf, Named, Scope};
 use crate::targets::target;
-use goal_meaning::{Assume, InputReg, Set};
+use goal_meaning::{Assume, InputReg, Let, Set};
 use items::Items;
 use std::alloc::Global;
 use text_core::{Sexp, TextFault};
@@ -29,6 +31,7 @@ pub struct Draft {
     pub scope: Scope,
     pub inputs: Items<InputReg>,
     pub pool: Option<Items<u8>>,
+    pub lets: Items<Let>,
     pub assumes: Items<Assume>,
     pub guard: Option<Term<Op>>,
     pub sets: Items<Set>,
@@ -52,6 +55,7 @@ fn add_input(alloc: Global, form: &Sexp, text: &[u8], draft: Draft) -> Result<Dr
         scope,
         mut inputs,
         pool,
+        lets,
         assumes,
         guard,
         sets,
@@ -69,6 +73,7 @@ fn add_input(alloc: Global, form: &Sexp, text: &[u8], draft: Draft) -> Result<Dr
         scope,
         inputs,
         pool,
+        lets,
         assumes,
         guard,
         sets,
@@ -86,6 +91,7 @@ fn add_pool(alloc: Global, form: &Sexp, text: &[u8], draft: Draft) -> Result<Dra
     let Draft {
         scope,
         inputs,
+        lets,
         assumes,
         guard,
         sets,
@@ -96,6 +102,54 @@ fn add_pool(alloc: Global, form: &Sexp, text: &[u8], draft: Draft) -> Result<Dra
         scope,
         inputs,
         pool,
+        lets,
+        assumes,
+        guard,
+        sets,
+    })
+}
+
+fn add_let(alloc: Global, form: &Sexp, text: &[u8], draft: Draft) -> Result<Draft, TextFault>
+    requires of { IsSexpOf text.now form.now }
+    requires few { length draft.scope.declared ≤ most_declared }
+    requires few_lets { length draft.lets < most_lets }
+    requires keyword { is_of_rank goal_keywords 2 (sexp_form text.now form.now) ≡ true }
+    ensures next { IfOk result (λ next. IsNext (sexp_form text.now form.now) draft 2 next) }
+    ensures clear { IfOk result (λ _. IsClear (draft_role draft 2) (sexp_form text.now form.now)) }
+    ensures fault { IfErr result (IsFaultBy (IsFirst (IsFaultAs (draft_role draft 2) (sexp_form text.now form.now)))) }
+{
+    let inputs = draft.inputs.as_slice();
+    let (one, sort) = binding(
+        alloc,
+        form,
+        text,
+        &draft.scope,
+        inputs,
+        draft.lets.as_slice(),
+    )?;
+    let Draft {
+        scope,
+        inputs,
+        pool,
+        mut lets,
+        assumes,
+        guard,
+        sets,
+    } = draft;
+    let Scope {
+        declared,
+        mut leaves,
+    } = scope;
+    let name = one.name.copy()?;
+    let named = Named::Let(lets.len() as u32, sort);
+    leaves.push(Leaf { name, named })?;
+    lets.push(one)?;
+    let scope = Scope { declared, leaves };
+    Ok(Draft {
+        scope,
+        inputs,
+        pool,
+        lets,
         assumes,
         guard,
         sets,
@@ -105,16 +159,17 @@ fn add_pool(alloc: Global, form: &Sexp, text: &[u8], draft: Draft) -> Result<Dra
 fn add_assume(alloc: Global, form: &Sexp, text: &[u8], draft: Draft) -> Result<Draft, TextFault>
     requires of { IsSexpOf text.now form.now }
     requires few { length draft.scope.declared ≤ most_declared }
-    requires keyword { is_of_rank goal_keywords 2 (sexp_form text.now form.now) ≡ true }
-    ensures next { IfOk result (λ next. IsNext (sexp_form text.now form.now) draft 2 next) }
-    ensures clear { IfOk result (λ _. IsClear (draft_role draft 2) (sexp_form text.now form.now)) }
-    ensures fault { IfErr result (IsFaultBy (IsFirst (IsFaultAs (draft_role draft 2) (sexp_form text.now form.now)))) }
+    requires keyword { is_of_rank goal_keywords 3 (sexp_form text.now form.now) ≡ true }
+    ensures next { IfOk result (λ next. IsNext (sexp_form text.now form.now) draft 3 next) }
+    ensures clear { IfOk result (λ _. IsClear (draft_role draft 3) (sexp_form text.now form.now)) }
+    ensures fault { IfErr result (IsFaultBy (IsFirst (IsFaultAs (draft_role draft 3) (sexp_form text.now form.now)))) }
 {
     let one = assume(alloc, form, text, &draft.scope)?;
     let Draft {
         scope,
         inputs,
         pool,
+        lets,
         mut assumes,
         guard,
         sets,
@@ -124,6 +179,7 @@ fn add_assume(alloc: Global, form: &Sexp, text: &[u8], draft: Draft) -> Result<D
         scope,
         inputs,
         pool,
+        lets,
         assumes,
         guard,
         sets,
@@ -133,16 +189,17 @@ fn add_assume(alloc: Global, form: &Sexp, text: &[u8], draft: Draft) -> Result<D
 fn add_guard(alloc: Global, form: &Sexp, text: &[u8], draft: Draft) -> Result<Draft, TextFault>
     requires of { IsSexpOf text.now form.now }
     requires few { length draft.scope.declared ≤ most_declared }
-    requires keyword { is_of_rank goal_keywords 3 (sexp_form text.now form.now) ≡ true }
-    ensures next { IfOk result (λ next. IsNext (sexp_form text.now form.now) draft 3 next) }
-    ensures clear { IfOk result (λ _. IsClear (draft_role draft 3) (sexp_form text.now form.now)) }
-    ensures fault { IfErr result (IsFaultBy (IsFirst (IsFaultAs (draft_role draft 3) (sexp_form text.now form.now)))) }
+    requires keyword { is_of_rank goal_keywords 4 (sexp_form text.now form.now) ≡ true }
+    ensures next { IfOk result (λ next. IsNext (sexp_form text.now form.now) draft 4 next) }
+    ensures clear { IfOk result (λ _. IsClear (draft_role draft 4) (sexp_form text.now form.now)) }
+    ensures fault { IfErr result (IsFaultBy (IsFirst (IsFaultAs (draft_role draft 4) (sexp_form text.now form.now)))) }
 {
     let term = guard(alloc, form, text, &draft.scope)?;
     let Draft {
         scope,
         inputs,
         pool,
+        lets,
         assumes,
         sets,
         ..
@@ -152,6 +209,7 @@ fn add_guard(alloc: Global, form: &Sexp, text: &[u8], draft: Draft) -> Result<Dr
         scope,
         inputs,
         pool,
+        lets,
         assumes,
         guard,
         sets,
@@ -171,10 +229,10 @@ fn registers_of_pool(pool: &Option<Items<u8>>) -> &[u8]
 fn add_target(alloc: Global, form: &Sexp, text: &[u8], draft: Draft) -> Result<Draft, TextFault>
     requires of { IsSexpOf text.now form.now }
     requires few { length draft.scope.declared ≤ most_declared }
-    requires keyword { is_of_rank goal_keywords 4 (sexp_form text.now form.now) ≡ true }
-    ensures next { IfOk result (λ next. IsNext (sexp_form text.now form.now) draft 4 next) }
-    ensures clear { IfOk result (λ _. IsClear (draft_role draft 4) (sexp_form text.now form.now)) }
-    ensures fault { IfErr result (IsFaultBy (IsFirst (IsFaultAs (draft_role draft 4) (sexp_form text.now form.now)))) }
+    requires keyword { is_of_rank goal_keywords 5 (sexp_form text.now form.now) ≡ true }
+    ensures next { IfOk result (λ next. IsNext (sexp_form text.now form.now) draft 5 next) }
+    ensures clear { IfOk result (λ _. IsClear (draft_role draft 5) (sexp_form text.now form.now)) }
+    ensures fault { IfErr result (IsFaultBy (IsFirst (IsFaultAs (draft_role draft 5) (sexp_form text.now form.now)))) }
 {
     let pool = registers_of_pool(&draft.pool);
     let one = target(alloc, form, text, &draft.scope, pool, draft.sets.as_slice())?;
@@ -182,6 +240,7 @@ fn add_target(alloc: Global, form: &Sexp, text: &[u8], draft: Draft) -> Result<D
         scope,
         inputs,
         pool,
+        lets,
         assumes,
         guard,
         mut sets,
@@ -191,6 +250,7 @@ fn add_target(alloc: Global, form: &Sexp, text: &[u8], draft: Draft) -> Result<D
         scope,
         inputs,
         pool,
+        lets,
         assumes,
         guard,
         sets,
@@ -207,14 +267,17 @@ pub fn item(
 ) -> Result<Draft, TextFault>
     requires of { IsSexpOf text.now form.now }
     requires few { length draft.scope.declared ≤ most_declared }
+    requires few_lets { item_rank keyword ≡ 2 → length draft.lets < most_lets }
     requires keyword { rank goal_keywords (sexp_form text.now form.now) ≡ Some (item_rank keyword) }
     ensures next { IfOk result (λ next. IsNext (sexp_form text.now form.now) draft (item_rank keyword) next) }
     ensures clear { IfOk result (λ _. IsClear (draft_role draft (item_rank keyword)) (sexp_form text.now form.now)) }
-    ensures fault { IfErr result (IsFaultBy (IsFirst (IsFaultAs (draft_role draft (item_rank keyword)) (sexp_form text.now form.now)))) }
+    ensures fault { IfErr result (IsFaultBy (IsFirst (IsFaultAs (draft_role draft (item_rank keyword))
+        (sexp_form text.now form.now)))) }
 {
     match keyword {
         ItemKeyword::In => add_input(alloc, form, text, draft),
         ItemKeyword::Pool => add_pool(alloc, form, text, draft),
+        ItemKeyword::Let => add_let(alloc, form, text, draft),
         ItemKeyword::Assume => add_assume(alloc, form, text, draft),
         ItemKeyword::When => add_guard(alloc, form, text, draft),
         ItemKeyword::Set => add_target(alloc, form, text, draft),

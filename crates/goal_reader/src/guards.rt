@@ -22,7 +22,7 @@ use word_terms::Term;
 pub fn guard(alloc: Global, form: &Sexp, text: &[u8], scope: &Scope) -> Result<Term<Op>, TextFault>
     requires of { IsSexpOf text.now form.now }
     requires few { length scope.now.declared ≤ most_declared }
-    requires keyword { is_of_rank goal_keywords 3 (sexp_form text.now form.now) ≡ true }
+    requires keyword { is_of_rank goal_keywords 4 (sexp_form text.now form.now) ≡ true }
     ensures term { IfOk result (λ t. WritesPart scope.now (Some sorts.Word) (sexp_form text.now form.now) 1
         (tree_of t)) }
     ensures clear { IfOk result (λ _. IsClear (roles.a_list (roles.guard scope.now)) (sexp_form text.now form.now)) }

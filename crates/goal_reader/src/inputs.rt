@@ -55,7 +55,7 @@ pub fn is_declared(declared: &[DeclaredOp], name: &[u8]) -> bool
     false
 }
 
-fn is_input(inputs: &[InputReg], name: &[u8]) -> bool
+pub fn is_input(inputs: &[InputReg], name: &[u8]) -> bool
     ensures { result ≡ is_among (names_of_inputs inputs.now) name.now }
 {
     for input in inputs {

@@ -11,6 +11,7 @@ ghost use Rattle.goal_reader.specs.declared.order.Admission.TheVariants as admis
 
 use crate::order::{Admission, Order};
 use forms::{at, name, parts, place, sexps_are_forms};
+use goal_meaning::MOST_LETS;
 use text_core::{
     Kind, MOST_ASSUMES, MOST_AXIOMS, MOST_DECLARED, MOST_GOALS, MOST_INPUTS, MOST_SETS, Sexp,
     TextFault,
@@ -21,6 +22,7 @@ use text_core::{
 pub enum ItemKeyword {
     In,
     Pool,
+    Let,
     Assume,
     When,
     Set,
@@ -60,6 +62,16 @@ impl ItemKeyword {
         if word == b"pool".as_slice() {
             return Some(ItemKeyword::Pool);
         }
+        if word == b"let".as_slice() {
+            return Some(ItemKeyword::Let);
+        }
+        ItemKeyword::later_named(word)
+    }
+
+    fn later_named(word: &[u8]) -> Option<ItemKeyword>
+        ensures { option_map item_rank result
+            ≡ rank_from 3 (codes "assume" ∷ codes "when" ∷ codes "set" ∷ []) word.now }
+    {
         if word == b"assume".as_slice() {
             return Some(ItemKeyword::Assume);
         }
@@ -79,19 +91,21 @@ impl ItemKeyword {
         match self {
             ItemKeyword::In => 0,
             ItemKeyword::Pool => 1,
-            ItemKeyword::Assume => 2,
-            ItemKeyword::When => 3,
-            ItemKeyword::Set => 4,
+            ItemKeyword::Let => 2,
+            ItemKeyword::Assume => 3,
+            ItemKeyword::When => 4,
+            ItemKeyword::Set => 5,
         }
     }
 
     /// How many items of it a goal may have.
     fn most(self) -> usize
         ensures most { result ≡ (bound_at goal_bounds (item_rank self)).most }
-        ensures few { result ≤ 64 }
+        ensures few { result ≤ 256 }
     {
         match self {
             ItemKeyword::In => MOST_INPUTS,
+            ItemKeyword::Let => MOST_LETS,
             ItemKeyword::Assume => MOST_ASSUMES,
             ItemKeyword::Set => MOST_SETS,
             ItemKeyword::Pool | ItemKeyword::When => 1,
@@ -103,7 +117,9 @@ impl ItemKeyword {
         ensures { result ≡ beyond_kind (bound_at goal_bounds (item_rank self)).beyond }
     {
         match self {
-            ItemKeyword::In | ItemKeyword::Assume | ItemKeyword::Set => Kind::LimitPassed,
+            ItemKeyword::In | ItemKeyword::Let | ItemKeyword::Assume | ItemKeyword::Set => {
+                Kind::LimitPassed
+            }
             ItemKeyword::Pool | ItemKeyword::When => Kind::BadForm,
         }
     }
@@ -128,7 +144,7 @@ pub fn admitted_item(form: &Sexp, text: &[u8], order: &Order) -> Result<ItemKeyw
         → IsAdmission goal_keywords before (item_rank keyword) (bound_at goal_bounds (item_rank keyword)).most
         admissions.Admitted) }
     ensures later { IfOk result (λ keyword. order.now.last ≤ item_rank keyword) }
-    ensures few { IfOk result (λ keyword. item_rank keyword ≡ order.now.last → order.now.count < 64) }
+    ensures few { IfOk result (λ keyword. item_rank keyword ≡ order.now.last → order.now.count < 256) }
     ensures fault { IfErr result (λ fault. (before : List Form) (inner : ℕ → Role)
         → IsOrderOf goal_keywords before order.now
         → IsFaultBy (IsFirst (IsFaultAs (role_in goal_keywords goal_bounds before inner (sexp_form text.now form.now))

@@ -25,6 +25,7 @@ mod guards;
 mod inputs;
 mod keywords;
 mod laws;
+mod lets;
 mod order;
 mod pools;
 mod printing;
@@ -38,7 +39,7 @@ mod whole;
 
 pub use axioms::axiom;
 pub use goal_meaning::{
-    Assume, Axiom, DeclaredOp, Goal, Input, InputReg, Set, axioms_hold_for_all_goals,
+    Assume, Axiom, DeclaredOp, Goal, Input, InputReg, Let, Set, axioms_hold_for_all_goals,
     goals_have_outcomes,
 };
 pub use goal_terms::{print_term, read_term};

@@ -3,16 +3,17 @@ ghost use Rattle.std.specs.Prelude.{◌≡◌, ◌+◌, ◌∷◌, ◌++◌, [],
 ghost use Rattle.std.specs.Option.{option_map_or};
 ghost use Rattle.std.specs.List.{flat_map};
 ghost use Rattle.forms.specs.Printing.{atom_text, lines_of, others_of, plain_text, plains_from, plains_text};
-ghost use Rattle.goal_meaning.specs.InputForms.{axiom_plain, declaration_plain, goal_plain, guard_plains, input_name as name_of_input, input_plain, leaf_atom, machine_plains, naming, operator_name, pin_plains, pool_plain, register_plain, target_plain, assume_plain, term_plain, variable_plain};
+ghost use Rattle.goal_meaning.specs.InputForms.{axiom_plain, declaration_plain, goal_plain, guard_plains, input_name as name_of_input, input_plain, leaf_atom, let_plain, machine_plains, naming, operator_name, pin_plains, pool_plain, register_plain, target_plain, assume_plain, term_plain, variable_plain};
+ghost use Rattle.goal_meaning.specs.Expanded.{let_names};
 ghost use Rattle.goal_meaning.specs.Names.{declared_name};
 ghost use Rattle.goal_reader.specs.Printing.{input_text};
-ghost use Rattle.goal_meaning.specs.Views.{assume_view, axiom_view, goal_view, input_view, target_view};
+ghost use Rattle.goal_meaning.specs.Views.{assume_view, axiom_view, goal_view, input_view, let_view, target_view};
 ghost use Rattle.goal_meaning.specs.declared.goals.InputReg.{InputReg as InputRegOf};
 ghost use Rattle.std.specs.Prelude.{List, slice_index_or};
 ghost use Rattle.word_terms.specs.View.{tree_of};
 
-use goal_meaning::{Assume, Axiom, DeclaredOp, Goal, Input, InputReg, Set};
-use items::NoMemory;
+use goal_meaning::{Assume, Axiom, DeclaredOp, Goal, Input, InputReg, Let, Set};
+use items::{Items, NoMemory};
 use itoa::Buffer;
 use std::alloc::Global;
 use text_core::Name;
@@ -151,6 +152,39 @@ pub fn put_pool(text: &mut Vec<u8>, pool: &[u8]) -> Result<(), NoMemory>
     Ok(())
 }
 
+/// The names of the lets.
+fn names_of_lets(alloc: Global, lets: &[Let]) -> Result<Items<Name>, NoMemory>
+    ensures { IfOk result (λ names. names ≡ let_names (map let_view lets.now)) }
+{
+    let mut names = Items::new(alloc);
+    for one in lets {
+        names.push(one.name.copy()?)?;
+    }
+    Ok(names)
+}
+
+/// Each let with a space before it.
+#[tactic(auto, using(crate::proofs::Printed::each_more, crate::proofs::Printed::others_each))]
+fn put_lets(
+    text: &mut Vec<u8>,
+    lets: &[Let],
+    declared: &[DeclaredOp],
+    inputs: &[InputReg],
+    names: &[Name],
+) -> Result<(), NoMemory>
+    ensures { OnOk result (text.new.items ≡ text.old.items ++ others_of (plains_from
+        (map (λ l. let_plain (naming declared.now inputs.now names.now) (let_view l)) lets.now))) }
+{
+    for one in lets {
+        text.extend_from_slice(b" (let ")?;
+        text.extend_from_slice(one.name.bytes())?;
+        text.extend_from_slice(b" ")?;
+        put_term(text, &one.value, declared, inputs, names)?;
+        text.extend_from_slice(b")")?;
+    }
+    Ok(())
+}
+
 /// Each assumption with a space before it.
 #[tactic(auto, using(crate::proofs::Printed::each_more, crate::proofs::Printed::others_each))]
 fn put_assumes(
@@ -158,15 +192,16 @@ fn put_assumes(
     assumes: &[Assume],
     declared: &[DeclaredOp],
     inputs: &[InputReg],
+    names: &[Name],
 ) -> Result<(), NoMemory>
     ensures { OnOk result (text.new.items ≡ text.old.items ++ others_of (plains_from
-        (map (λ a. assume_plain (naming declared.now inputs.now []) (assume_view a)) assumes.now))) }
+        (map (λ a. assume_plain (naming declared.now inputs.now names.now) (assume_view a)) assumes.now))) }
 {
     for assume in assumes {
         text.extend_from_slice(b" (assume ")?;
-        put_term(text, &assume.left, declared, inputs, &[])?;
+        put_term(text, &assume.left, declared, inputs, names)?;
         text.extend_from_slice(b" ")?;
-        put_term(text, &assume.right, declared, inputs, &[])?;
+        put_term(text, &assume.right, declared, inputs, names)?;
         text.extend_from_slice(b")")?;
     }
     Ok(())
@@ -178,13 +213,14 @@ fn put_guard(
     guard: &Option<Term<Op>>,
     declared: &[DeclaredOp],
     inputs: &[InputReg],
+    names: &[Name],
 ) -> Result<(), NoMemory>
     ensures { OnOk result (text.new.items ≡ text.old.items ++ others_of (plains_from
-        (guard_plains (naming declared.now inputs.now []) (option_map tree_of guard.now)))) }
+        (guard_plains (naming declared.now inputs.now names.now) (option_map tree_of guard.now)))) }
 {
     if let Some(term) = guard {
         text.extend_from_slice(b" (when ")?;
-        put_term(text, term, declared, inputs, &[])?;
+        put_term(text, term, declared, inputs, names)?;
         text.extend_from_slice(b")")?;
     }
     Ok(())
@@ -195,9 +231,10 @@ fn put_target(
     target: &Set,
     declared: &[DeclaredOp],
     inputs: &[InputReg],
+    names: &[Name],
 ) -> Result<(), NoMemory>
     ensures { OnOk result (text.new.items ≡ text.old.items
-        ++ plain_text (target_plain (naming declared.now inputs.now []) (target_view target.now))) }
+        ++ plain_text (target_plain (naming declared.now inputs.now names.now) (target_view target.now))) }
 {
     text.extend_from_slice(b"(set ")?;
     text.extend_from_slice(target.name.bytes())?;
@@ -206,7 +243,7 @@ fn put_target(
         put_register(text, register)?;
     }
     text.extend_from_slice(b" ")?;
-    put_term(text, &target.value, declared, inputs, &[])?;
+    put_term(text, &target.value, declared, inputs, names)?;
     text.extend_from_slice(b")")?;
     Ok(())
 }
@@ -218,30 +255,40 @@ fn put_targets(
     targets: &[Set],
     declared: &[DeclaredOp],
     inputs: &[InputReg],
+    names: &[Name],
 ) -> Result<(), NoMemory>
     ensures { OnOk result (text.new.items ≡ text.old.items ++ others_of (plains_from
-        (map (λ t. target_plain (naming declared.now inputs.now []) (target_view t)) targets.now))) }
+        (map (λ t. target_plain (naming declared.now inputs.now names.now) (target_view t)) targets.now))) }
 {
     for target in targets {
         text.extend_from_slice(b" ")?;
-        put_target(text, target, declared, inputs)?;
+        put_target(text, target, declared, inputs, names)?;
     }
     Ok(())
 }
 
-fn put_goal(text: &mut Vec<u8>, goal: &Goal, declared: &[DeclaredOp]) -> Result<(), NoMemory>
+fn put_goal(
+    alloc: Global,
+    text: &mut Vec<u8>,
+    goal: &Goal,
+    declared: &[DeclaredOp],
+) -> Result<(), NoMemory>
     ensures { OnOk result (text.new.items ≡ text.old.items
         ++ plain_text (goal_plain declared.now (goal_view goal.now))) }
 {
     let inputs = goal.inputs.as_slice();
+    let lets = goal.lets.as_slice();
+    let names = names_of_lets(alloc, lets)?;
+    let names = names.as_slice();
     text.extend_from_slice(b"(goal ")?;
     text.extend_from_slice(goal.name.bytes())?;
     put_inputs(text, inputs)?;
     text.extend_from_slice(b" ")?;
     put_pool(text, goal.pool.as_slice())?;
-    put_assumes(text, goal.assumes.as_slice(), declared, inputs)?;
-    put_guard(text, &goal.guard, declared, inputs)?;
-    put_targets(text, goal.sets.as_slice(), declared, inputs)?;
+    put_lets(text, lets, declared, inputs, names)?;
+    put_assumes(text, goal.assumes.as_slice(), declared, inputs, names)?;
+    put_guard(text, &goal.guard, declared, inputs, names)?;
+    put_targets(text, goal.sets.as_slice(), declared, inputs, names)?;
     text.extend_from_slice(b")")?;
     Ok(())
 }
@@ -315,12 +362,17 @@ fn put_axioms(text: &mut Vec<u8>, axioms: &[Axiom], declared: &[DeclaredOp]) -> 
 
 /// Each goal on a line.
 #[tactic(auto, using(crate::proofs::Printed::each_more, crate::proofs::Printed::lines_each))]
-fn put_goals(text: &mut Vec<u8>, goals: &[Goal], declared: &[DeclaredOp]) -> Result<(), NoMemory>
+fn put_goals(
+    alloc: Global,
+    text: &mut Vec<u8>,
+    goals: &[Goal],
+    declared: &[DeclaredOp],
+) -> Result<(), NoMemory>
     ensures { OnOk result (text.new.items ≡ text.old.items
         ++ lines_of (plains_from (map (λ g. goal_plain declared.now (goal_view g)) goals.now))) }
 {
     for goal in goals {
-        put_goal(text, goal, declared)?;
+        put_goal(alloc, text, goal, declared)?;
         text.extend_from_slice(b"\n")?;
     }
     Ok(())
@@ -338,6 +390,6 @@ pub fn print(alloc: Global, input: &Input) -> Result<Vec<u8>, NoMemory>
     };
     put_declarations(&mut text, declared)?;
     put_axioms(&mut text, input.axioms.as_slice(), declared)?;
-    put_goals(&mut text, input.goals.as_slice(), declared)?;
+    put_goals(alloc, &mut text, input.goals.as_slice(), declared)?;
     Ok(text)
 }

@@ -189,7 +189,7 @@ pub fn target(
 ) -> Result<Set, TextFault>
     requires of { IsSexpOf text.now form.now }
     requires few { length scope.now.declared ≤ most_declared }
-    requires keyword { is_of_rank goal_keywords 4 (sexp_form text.now form.now) ≡ true }
+    requires keyword { is_of_rank goal_keywords 5 (sexp_form text.now form.now) ≡ true }
     ensures named { IfOk result (λ t. second_name (sexp_form text.now form.now) ≡ Some t.name) }
     ensures pin { IfOk result (λ t. pin_in (sexp_form text.now form.now) ≡ t.pin) }
     ensures value { IfOk result (λ t. WritesPart scope.now (Some (sort_of_target t.name))

@@ -9,9 +9,10 @@ ghost use Rattle.word_terms.specs.Tree.{Tree};
 ghost use Rattle.word_terms.specs.View.{tree_of};
 ghost use Rattle.forms.specs.Forms.{sexp_form, is_list};
 ghost use Rattle.forms.specs.Reading.{IsSexpOf};
-ghost use Rattle.goal_reader.specs.Roles.{IsFaultAs, term as a_term, WritesTerm, IsApplicationForm, IsWanted, sort_of_leaf};
+ghost use Rattle.goal_reader.specs.Roles.{IsFaultAs, term as a_term, WritesTerm, IsApplicationForm, IsWanted, sort_in, sort_of_leaf};
 ghost use Rattle.std.specs.Prelude.{true, false};
 
+use crate::keywords::head;
 use crate::scopes::{Named, Scope, leaf_of, operator};
 use forms::{at, name, number, parts, place, sexps_are_forms};
 use std::alloc::Global;
@@ -62,6 +63,7 @@ fn atom(
     match named {
         Named::Memory => Ok(Term::App(Op::Entry, Vec::new(alloc))),
         Named::Input(register) => Ok(Term::App(Op::Input(register), Vec::new(alloc))),
+        Named::Let(n, _) => Ok(Term::Var(n)),
         Named::Variable(n) => Ok(Term::Var(n)),
         Named::Lacking => Err(at(place(form), Kind::BadAxiom)),
     }
@@ -72,7 +74,46 @@ fn sort_of(named: Named) -> Sort
 {
     match named {
         Named::Memory => Sort::Memory,
+        Named::Let(_, sort) => sort,
         _ => Sort::Word,
+    }
+}
+
+// The sort of a term that is an atom, where its name tells it.
+fn sort_of_atom(form: &Sexp, text: &[u8], scope: &Scope) -> Option<Sort>
+    requires of { IsSexpOf text.now form.now }
+    requires atom { is_list (sexp_form text.now form.now) ≡ false }
+    ensures { result ≡ sort_in scope.now (sexp_form text.now form.now) }
+{
+    sexps_are_forms();
+    if let Some(_) = number(form) {
+        return Some(Sort::Word);
+    }
+    match name(form, text) {
+        Some(bytes) => match leaf_of(scope.leaves.as_slice(), bytes) {
+            Some(named) => Some(sort_of(named)),
+            None => None,
+        },
+        None => None,
+    }
+}
+
+/// The sort of a term, where its own name or its operator tells it.
+pub fn sort_told(form: &Sexp, text: &[u8], scope: &Scope) -> Option<Sort>
+    requires of { IsSexpOf text.now form.now }
+    requires few { length scope.now.declared ≤ most_declared }
+    ensures { result ≡ sort_in scope.now (sexp_form text.now form.now) }
+{
+    sexps_are_forms();
+    match form {
+        Sexp::Atom(_) => sort_of_atom(form, text, scope),
+        Sexp::List { .. } => match head(form, text) {
+            Some(bytes) => match operator(scope.declared.as_slice(), bytes) {
+                Some(op) => Some(op.sort()),
+                None => None,
+            },
+            None => None,
+        },
     }
 }
 

@@ -61,7 +61,7 @@ fn goal_name<'a>(form: &Sexp, text: &'a [u8], goals: &[Goal]) -> Result<&'a [u8]
 // Whether some item is a `set`.
 fn has_target(items: &[Sexp], text: &[u8]) -> bool
     requires of { All (IsSexpOf text.now) items.now }
-    ensures { result ≡ list_any (is_of_rank goal_keywords 4) (sexp_forms text.now items.now) }
+    ensures { result ≡ list_any (is_of_rank goal_keywords 5) (sexp_forms text.now items.now) }
 {
     for item in items {
         if let Some(ItemKeyword::Set) = item_keyword(item, text) {
@@ -85,6 +85,7 @@ fn start(alloc: Global, declared: Items<DeclaredOp>) -> Result<Draft, NoMemory>
         scope: Scope { declared, leaves },
         inputs: Items::new(alloc),
         pool: None,
+        lets: Items::new(alloc),
         assumes: Items::new(alloc),
         guard: None,
         sets: Items::new(alloc),
@@ -191,6 +192,7 @@ fn read_goal(
         scope,
         inputs,
         pool,
+        lets,
         assumes,
         guard,
         sets,
@@ -201,6 +203,7 @@ fn read_goal(
         name,
         inputs,
         pool,
+        lets,
         assumes,
         guard,
         sets,

@@ -1,17 +1,17 @@
 -- The goals of a well-formed proc are a well-formed input.
 use Rattle.std.proofs.Common.{◌≡◌, ◌≢◌, ℕ, zero, suc, ◌+◌, ◌<◌, ◌≤◌, ◌^◌, ◌++◌, true, false, Option, None, Some, List, [], ◌∷◌, length, map, take, get_or, refl, sym, ap, ap₂, ◌∙◌, subst, arith, bytes_eq, codes, inl, inr, option_map}
-use Rattle.std.specs.Prelude.{All, AllPairs, Contains, IfSome}
+use Rattle.std.specs.Prelude.{All, AllPairs, Contains, IfSome, false}
 use Rattle.std.specs.List.{cons_option}
 use Rattle.std.specs.Option.{option_map_or}
 use Rattle.std.proofs.lemmas.Bool.{cases_order, or_parts}
-use Rattle.std.proofs.lemmas.List.{length-map, get_or-map, take_all}
+use Rattle.std.proofs.lemmas.List.{append-nil, length-map, get_or-map, take_all}
 use Rattle.std.proofs.lemmas.List.Elements.{All-nil, All-cons, All-head, All-tail, All-append, All-contains, All-map, Contains-append_right, Contains-get_or}
 use Rattle.std.proofs.lemmas.List.Kept.{AllPairs-cons}
 use Rattle.std.proofs.lemmas.Slice.Eq.{bytes_eq-Decides}
-use Rattle.text_core.specs.Names.{IsName}
-use Rattle.goal_meaning.specs.Names.{IsNamedGoal, is_reserved}
-use Rattle.goal_meaning.specs.Rules.{KeepsRules, pins_of}
-use Rattle.goal_meaning.specs.Views.{TargetTree, GoalTree, goal_view}
+use Rattle.text_core.specs.Names.{IsName, is_among}
+use Rattle.goal_meaning.specs.Names.{IsNamedGoal, is_reserved, names_of_declared}
+use Rattle.goal_meaning.specs.Rules.{KeepsRules, names_of_inputs, pins_of}
+use Rattle.goal_meaning.specs.Views.{LetTree, TargetTree, GoalTree, goal_view}
 use Rattle.goal_meaning.specs.WellFormed.{IsGoal, IsGoalTerm, IsInput, IsTarget, input_registers, operators_of_goal, operators_of_target, sum_over}
 use Rattle.goal_meaning.specs.declared.goals.Goal.{Goal}
 use Rattle.goal_meaning.specs.declared.goals.InputReg.{InputReg}
@@ -195,6 +195,7 @@ module _ (p : ProcTree) (is : IsProc p) where
     goal_named = record {
       own = block.named;
       inputs = is.variables;
+      lets = All-nil (λ (l : LetTree). IsName l.name);
       targets = all_sets (λ (t : TargetTree). IsName t.name) (record { begins = refl; each = refl }) b.sets (λ k d l. name_of_set p.vars is.variables _ _ (pinned_sets k d l));
     }
 
@@ -213,6 +214,11 @@ module _ (p : ProcTree) (is : IsProc p) where
     front_apart : AllPairs Apart (input_registers p.vars)
     front_apart = pairs_front (input_registers p.vars) p.pool is.rules.registers
 
+    names_apart : AllPairs (λ m n. m ≢ n) (names_of_inputs p.vars ++ [])
+    names_apart =
+        subst (AllPairs (λ m n. m ≢ n)) (sym (append-nil (names_of_inputs p.vars)))
+        (pairs_map (λ (m n : List ℕ). m ≢ n) (λ (i : InputReg). i.name) p.vars is.rules.variable_names)
+
     goal_rules : AllPairs (λ (s t : TargetTree). s.name ≢ t.name) b.sets → length b.sets ≤ 16 → KeepsRules [] goal
     goal_rules differ few =
         let regs = input_registers p.vars in
@@ -221,6 +227,9 @@ module _ (p : ProcTree) (is : IsProc p) where
           input_names = is.rules.variable_names;
           own_names = is.rules.own_names;
           not_declared = λ k d l. refl;
+          leaf_names = names_apart;
+          own_lets = All-nil (λ n. (is_reserved n ≡ false) × (is_among (names_of_declared []) n ≡ false));
+          few_lets = omega arith;
           registers = is.rules.registers;
           low = is.rules.low;
           targets = sets_differ b.sets differ;
@@ -238,6 +247,7 @@ module _ (p : ProcTree) (is : IsProc p) where
     goal_is differ few operators = record {
       named = goal_named;
       rules = goal_rules differ few;
+      lets = tt;
       assumes = λ k d l. absurd (omega (arith, l));
       guard = goal_guard b.when block.when;
       sets = goal_targets;

@@ -20,6 +20,7 @@ goal_of_block p b = record {
   name = b.name;
   inputs = p.vars;
   pool = p.pool;
+  lets = [];
   assumes = [];
   guard = option_map (λ (w : WhenTree). w.guard) b.when;
   sets = sets_or_memory b.sets;

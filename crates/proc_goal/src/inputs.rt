@@ -44,6 +44,7 @@ fn goal(alloc: Global, proc: &Proc, block: &Block) -> Result<Goal, NoMemory>
     let name = block.name.copy()?;
     let inputs = variables(alloc, proc.vars.as_slice())?;
     let pool = Items::from_slice(alloc, proc.pool.as_slice())?;
+    let lets = Items::new(alloc);
     let assumes = Items::new(alloc);
     let guard = guard(alloc, &block.when)?;
     let sets = targets(alloc, block)?;
@@ -51,6 +52,7 @@ fn goal(alloc: Global, proc: &Proc, block: &Block) -> Result<Goal, NoMemory>
         name,
         inputs,
         pool,
+        lets,
         assumes,
         guard,
         sets,

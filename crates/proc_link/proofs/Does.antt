@@ -16,6 +16,7 @@ use Rattle.alpha_machine.specs.States.{MachineState}
 use Rattle.alpha_machine.specs.Runs.{Runs, after, IsAllowedAt}
 use Rattle.alpha_machine.specs.declared.running.End.{End}
 use Rattle.denali_run.specs.GoalOutcomes.{DoesAsSaid, EndsWith, HasOwnValue, IsPinOf, LeavesByBranch}
+use Rattle.goal_meaning.specs.Expanded.{expanded}
 use Rattle.goal_meaning.specs.Holds.{HoldsOfAll, IsMet, goal_value}
 use Rattle.goal_meaning.specs.Names.{built_in_named, is_reserved}
 use Rattle.goal_meaning.specs.Outcomes.{exit, fall, is_left, is_memory, is_zero, new_memory, new_value, new_words}
@@ -175,7 +176,7 @@ module _ (p : ProcTree) (is_proc : IsProc p) where
     guard_same w None = refl
     guard_same w (Some k) = refl
 
-    module _ (l : Listing) (h : IsListingOfBlock p b l) where
+    module _ (l : Listing) (h : IsListingOfBlock p b l) (as_it_is : expanded (goal_of_block p b) ≡ goal_of_block p b) where
       abbrev is : List Instr
       is = instrs_of l.items
 
@@ -195,7 +196,8 @@ module _ (p : ProcTree) (is_proc : IsProc p) where
       said w is_world left e =
           subst (λ c. DoesAsSaid goal w l.items h.words l.wheres (if c then exit else fall (new_words [] w goal.sets) (new_memory [] w goal.sets)))
           (sym (guard_same w b.when) ∙ e)
-          (h.computes w is_world (record { axioms = All-nil (HoldsOfAll [] w); assumes = All-nil (IsMet [] w) }))
+          (subst (λ (x : GoalTree). DoesAsSaid x w l.items h.words l.wheres (if is_left [] w x.guard then exit else fall (new_words [] w x.sets) (new_memory [] w x.sets))) as_it_is
+          (h.computes w is_world (record { axioms = All-nil (HoldsOfAll [] w); assumes = All-nil (IsMet [] w) })))
 
       module _ (w : World) (f : EndsWith goal w h.words l.wheres (new_words [] w goal.sets) (new_memory [] w goal.sets)) where
         abbrev at_end : MachineState

@@ -5,7 +5,7 @@ use Rattle.std.specs.List.{AllZip}
 use Rattle.std.specs.Option.{option_map_or}
 use Rattle.std.proofs.lemmas.Bool.{false≢true}
 use Rattle.std.proofs.lemmas.List.{length-map}
-use Rattle.std.proofs.lemmas.List.Elements.{All-nil, All-cons, All-contains, All-head, All-tail, Contains-get_or}
+use Rattle.std.proofs.lemmas.List.Elements.{All-nil, All-cons, All-contains, All-head, All-tail, All-weaker, Contains-get_or}
 use Rattle.std.proofs.lemmas.Slice.Eq.{bytes_eq-Decides}
 use Rattle.std.proofs.lemmas.Slice.Zip.{AllZip-long}
 use Rattle.word_ops.specs.declared.operators.WordOp.{WordOp}
@@ -17,7 +17,12 @@ use Rattle.alpha_encode.specs.Decoded.{decoded}
 use Rattle.alpha_encode.specs.declared.instructions.Instr.{Instr}
 use Rattle.alpha_machine.specs.States.{MachineState, IsState}
 use Rattle.alpha_machine.specs.Runs.{stepped, after}
+use Rattle.goal_meaning.specs.Expanded.{expanded}
+use Rattle.goal_meaning.specs.Views.{GoalTree}
+use Rattle.goal_meaning.specs.WellFormed.{IsGoal, IsInput}
+use Rattle.goal_meaning.specs.declared.goals.DeclaredOp.{DeclaredOp}
 use Rattle.goal_meaning.specs.declared.goals.InputReg.{InputReg}
+use Rattle.proc_goal.specs.Goals.{goal_of_block, input_of_proc}
 use Rattle.proc_goal.specs.Views.{BlockTree, ProcTree}
 use Rattle.proc_goal.specs.WellFormed.{IsProc, IsProcBlock, IsProcTarget}
 use Rattle.proc_goal.specs.declared.procs.Target.{Target}
@@ -41,15 +46,31 @@ none_before : (ls : List (List Instr)) → words_before ls 0 ≡ 0
 none_before [] = refl
 none_before (l ∷ ls) = refl
 
-module _ (p : ProcTree) (is_proc : IsProc p) where
-  each_does : (bs : List BlockTree) (ls : List Listing) → All (IsProcBlock p.vars (length p.blocks)) bs → AllZip (IsListingOfBlock p) bs ls
+-- a block's goal has no lets
+abbrev pub IsAsItIs : ProcTree → BlockTree → Type 0
+IsAsItIs p b = expanded (goal_of_block p b) ≡ goal_of_block p b
+
+all_of_map : {X Y : Type 0} (P : Y → Type 0) (f : X → Y) (xs : List X) → All P (map f xs) → All (λ x. P (f x)) xs
+all_of_map P f [] h = All-nil (λ x. P (f x))
+all_of_map P f (x ∷ xs) h =
+    All-cons (λ x. P (f x)) x xs (All-head P (f x) (map f xs) h) (all_of_map P f xs (All-tail P (f x) (map f xs) h))
+
+pub as_they_are : (p : ProcTree)
+    → ((declared : List DeclaredOp) (goal : GoalTree) → IsGoal declared goal → goal.lets ≡ [] → expanded goal ≡ goal)
+    → IsInput (input_of_proc p) → All (IsAsItIs p) p.blocks
+as_they_are p law is =
+    All-weaker (λ b. IsGoal [] (goal_of_block p b)) (IsAsItIs p) (λ b h. law [] (goal_of_block p b) h refl) p.blocks
+    (all_of_map (IsGoal []) (goal_of_block p) p.blocks is.goals)
+
+module _ (p : ProcTree) (is_proc : IsProc p) (same : All (IsAsItIs p) p.blocks) where
+  each_does : (bs : List BlockTree) (ls : List Listing) → All (IsProcBlock p.vars (length p.blocks)) bs → All (IsAsItIs p) bs → AllZip (IsListingOfBlock p) bs ls
       → AllZip (Does p) bs (all_instrs ls)
-  each_does [] [] blocks h = tt
-  each_does [] (l ∷ ls) blocks h = absurd h
-  each_does (b ∷ bs) [] blocks h = absurd h
-  each_does (b ∷ bs) (l ∷ ls) blocks h = (
-    does p is_proc b (All-head (IsProcBlock p.vars (length p.blocks)) b bs blocks) l h.0,
-    each_does bs ls (All-tail (IsProcBlock p.vars (length p.blocks)) b bs blocks) h.1,
+  each_does [] [] blocks own h = tt
+  each_does [] (l ∷ ls) blocks own h = absurd h
+  each_does (b ∷ bs) [] blocks own h = absurd h
+  each_does (b ∷ bs) (l ∷ ls) blocks own h = (
+    does p is_proc b (All-head (IsProcBlock p.vars (length p.blocks)) b bs blocks) l h.0 (All-head (IsAsItIs p) b bs own),
+    each_does bs ls (All-tail (IsProcBlock p.vars (length p.blocks)) b bs blocks) (All-tail (IsAsItIs p) b bs own) h.1,
   )
 
   pub are_done : (ls : List Listing) → AreListings p ls → AreDone p (all_instrs ls)
@@ -57,7 +78,7 @@ module _ (p : ProcTree) (is_proc : IsProc p) where
     few = is_proc.rules.blocks.1;
     low = front_all (λ r. r < 31) (λ (v : InputReg). v.reg) p.vars p.pool is_proc.rules.low;
     blocks_are = is_proc.blocks;
-    listings_are = each_does p.blocks ls is_proc.blocks are;
+    listings_are = each_does p.blocks ls is_proc.blocks same are;
   }
 
   module _ (ls : List Listing) (are : AreListings p ls) where

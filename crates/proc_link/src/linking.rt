@@ -17,8 +17,9 @@ use crate::laws::linked_words_follow_the_blocks;
 use crate::links::Linked;
 use crate::places::{Places, lay_out, place};
 use alpha_encode::{Instr, encode, words_and_instructions};
+use goal_meaning::goals_without_lets_are_expanded;
 use items::{Items, NoMemory};
-use proc_goal::{Block, Proc, Target};
+use proc_goal::{Block, Proc, Target, goals_of_procs_are_well_formed};
 use register_assign::{Item, Listing};
 use std::alloc::Global;
 
@@ -140,6 +141,8 @@ pub fn link(alloc: Global, proc: &Proc, listings: &[Listing]) -> Result<Linked, 
 {
     words_and_instructions();
     linked_words_follow_the_blocks();
+    goals_of_procs_are_well_formed();
+    goals_without_lets_are_expanded();
     let places = lay_out(alloc, listings)?;
     let mut words = Vec::new(alloc);
     put_blocks(&mut words, proc.blocks.as_slice(), listings, &places)?;

@@ -5,9 +5,8 @@ use Rattle.std.proofs.lemmas.List.Elements.{Contains-append_left, Contains-appen
 use Rattle.word_ops.specs.declared.sorts.Op.{Op}
 use Rattle.word_terms.specs.Tree.{Tree, operands_of}
 use Rattle.axiom_base.specs.Rewrites.{Rewrite}
-use Rattle.word_ops.specs.Operators.{operators}
 use Rattle.word_terms.specs.OperatorsIn.{operators_in, operators_in_all}
-use Rattle.axiom_base.specs.Schemes.{Scheme, schemes, IsOf, weight}
+use Rattle.axiom_base.specs.Schemes.{Scheme, IsOf, weight}
 use Rattle.egraph.specs.Graph.{Graph}
 use Rattle.pattern_match.specs.Listing.{Lists}
 use Rattle.pattern_match.specs.Matches.{IsUnmetOf, IsNeed, AreNeeds, no_need, one_need}

@@ -3,6 +3,7 @@ use Rattle.std.proofs.Common.{◌≡◌, List, [], ◌∷◌, map, All, arith}
 use Rattle.std.proofs.lemmas.List.Elements.{All-cons, All-head, All-tail}
 use Rattle.word_ops.specs.Worlds.{World}
 use Rattle.axiom_base.specs.Rewrites.{IsRule, IsTrueIn, value_in}
+use Rattle.goal_meaning.specs.Expanded.{expanded}
 use Rattle.goal_meaning.specs.Holds.{HoldsOfAll, HoldsFor, IsMet}
 use Rattle.goal_meaning.specs.Names.{declared_name}
 use Rattle.goal_meaning.specs.Views.{AxiomTree, TwoTrees, GoalTree, InputTree}
@@ -39,5 +40,5 @@ are_rules input is = rules input.ops input.axioms is.axioms
 pub rules_hold : (input : InputTree) (goal : GoalTree) (world : World) → IsInput input → HoldsFor input goal world → RulesHold world (declared_name input.ops) (rules_of input) (assumed_pairs goal)
 rules_hold input goal world is holds = record {
   axioms_hold = true_rules input.ops world input.axioms is.axioms holds.axioms;
-  equal_hold = met input.ops world goal.assumes holds.assumes;
+  equal_hold = met input.ops world (expanded goal).assumes holds.assumes;
 }

@@ -23,15 +23,17 @@ use Rattle.axiom_base.specs.declared.kinds.Calc.TheVariants.{C1, C2, C3, C4, C5,
 use Rattle.egraph.specs.Graph.{Graph, IsGraph, HasClass}
 use Rattle.egraph.specs.declared.rows.Row.{Row}
 use Rattle.pattern_match.specs.Classes.{IsClass, AreClasses, at_row, no_classes, classes}
+use Rattle.goal_meaning.specs.Expanded.{expanded, let_terms}
 use Rattle.goal_meaning.specs.Views.{TwoTrees, TargetTree, GoalTree, AxiomTree, InputTree}
-use Rattle.goal_meaning.specs.WellFormed.{IsInput, IsGoal, IsAxiom, IsAssume, IsTarget, IsGoalTerm, IsOfGoal, IsOfAxiom}
-use Rattle.goal_meaning.specs.WellFormed.{input_registers}
+use Rattle.goal_meaning.specs.WellFormed.{IsInput, IsGoal, IsAxiom, IsAssume, IsTarget, IsTermOver, IsOfGoal, IsOfAxiom}
+use Rattle.goal_meaning.specs.WellFormed.{input_registers, let_sorts}
 use Rattle.goal_meaning.specs.declared.goals.InputReg.{InputReg}
 use Rattle.goal_meaning.specs.declared.goals.DeclaredOp.{DeclaredOp}
 use Rattle.saturation.specs.Derives.{Derives, DerivesEach, Pair, IsAmong, first, rest, given, assumed, symmetric, transitive, later, operand, congruent, by_rule, no_operands, operands}
 use Rattle.saturation.specs.GoalTerms.{entry_term, input_term, input_terms, guard_terms, set_terms, sides_of, assume_terms, kept_terms, present_terms, assumed_pair, assumed_pairs, renumbered, rule_of, rules_of, variables_below}
 use Rattle.saturation.specs.Grown.{IsGrown, AreInhabited}
 use Rattle.saturation.specs.Launched.{IsKnown, CanMakeLaunchGraph}
+use Rattle.saturation.proofs.Closed.{Closed, IsClosed, closed_lets}
 use Rattle.saturation.proofs.LaunchedGraphs.{all_left, all_of_map}
 
 -- ---- operators of trees
@@ -255,50 +257,56 @@ module _ (declared : List DeclaredOp) where
   all_flat P f [] h = All-nil P
   all_flat P f (x ∷ xs) h = All-append P (f x) (flat_map f xs) (All-head (λ x. All P (f x)) x xs h) (all_flat P f xs (All-tail (λ x. All P (f x)) x xs h))
 
-  module _ (goal : GoalTree) (is : IsGoal declared goal) where
+  module _ (goal : GoalTree) (is : IsGoal declared goal) (closed : Closed declared goal) where
     low : All (λ r. r < 31) (input_registers goal.inputs)
     low = all_left (λ r. r < 31) (input_registers goal.inputs) goal.pool is.rules.low
 
-    term_known : (sort : Sort) (t : Tree Op) → IsGoalTerm declared goal sort t → HasKnown t
+    term_known : (sort : Sort) (t : Tree Op) → IsTermOver declared goal.inputs [] sort t → HasKnown t
     term_known sort t k = each_weaker (IsOfGoal declared goal.inputs) (IsKnown declared) (goal_known goal.inputs low) t k.operators
 
     inputs_known : All HasKnown (input_terms goal.inputs)
     inputs_known = All-map HasKnown (λ (i : InputReg). input_term i.reg) goal.inputs
         (All-weaker (λ (i : InputReg). i.reg < 31) (λ (i : InputReg). HasKnown (input_term i.reg)) (λ i l. (l, tt)) goal.inputs (all_of_map (λ r. r < 31) (λ (i : InputReg). i.reg) goal.inputs low))
 
-    guard_known : (o : Option (Tree Op)) → IfSome o (IsGoalTerm declared goal sorts.Word) → All HasKnown (guard_terms o)
+    lets_known : All HasKnown (let_terms goal)
+    lets_known = All-weaker (IsClosed declared goal) HasKnown (λ t h. term_known h.sort t h.is) (let_terms goal) (closed_lets declared goal (let_sorts goal) (let_terms goal) closed.lets)
+
+    guard_known : (o : Option (Tree Op)) → IfSome o (IsTermOver declared goal.inputs [] sorts.Word) → All HasKnown (guard_terms o)
     guard_known None h = All-nil HasKnown
     guard_known (Some t) h = All-cons HasKnown t [] (term_known sorts.Word t h) (All-nil HasKnown)
 
-    sets_known : All HasKnown (set_terms goal.sets)
-    sets_known = All-map HasKnown (λ (s : TargetTree). s.value) goal.sets (All-weaker (IsTarget declared goal) (λ s. HasKnown s.value) (λ s k. term_known _ s.value k) goal.sets is.sets)
+    sets_known : All HasKnown (set_terms (expanded goal).sets)
+    sets_known = All-map HasKnown (λ (s : TargetTree). s.value) (expanded goal).sets (All-weaker (IsTarget declared (expanded goal)) (λ s. HasKnown s.value) (λ s k. term_known _ s.value k) (expanded goal).sets closed.sets)
 
-    sides_known : (a : TwoTrees) → IsAssume declared goal a → HasKnown a.left × HasKnown a.right
+    sides_known : (a : TwoTrees) → IsAssume declared (expanded goal) a → HasKnown a.left × HasKnown a.right
     sides_known a k = (term_known k.sort a.left k.left, term_known k.sort a.right k.right)
 
-    assumes_known : All HasKnown (assume_terms goal.assumes)
-    assumes_known = all_flat HasKnown sides_of goal.assumes
-        (All-weaker (IsAssume declared goal) (λ a. All HasKnown (sides_of a)) (λ a k. let p = sides_known a k in All-cons HasKnown a.left (a.right ∷ []) p.0 (All-cons HasKnown a.right [] p.1 (All-nil HasKnown))) goal.assumes is.assumes)
+    assumes_known : All HasKnown (assume_terms (expanded goal).assumes)
+    assumes_known = all_flat HasKnown sides_of (expanded goal).assumes
+        (All-weaker (IsAssume declared (expanded goal)) (λ a. All HasKnown (sides_of a)) (λ a k. let p = sides_known a k in All-cons HasKnown a.left (a.right ∷ []) p.0 (All-cons HasKnown a.right [] p.1 (All-nil HasKnown))) (expanded goal).assumes closed.assumes)
 
     pub present_known : All HasKnown (present_terms goal)
     present_known =
-        All-append HasKnown ((entry_term ∷ input_terms goal.inputs) ++ assume_terms goal.assumes ++ guard_terms goal.guard) (set_terms goal.sets)
-        (All-append HasKnown ((entry_term ∷ input_terms goal.inputs) ++ assume_terms goal.assumes) (guard_terms goal.guard)
-        (All-append HasKnown (entry_term ∷ input_terms goal.inputs) (assume_terms goal.assumes)
+        let first = entry_term ∷ input_terms goal.inputs in
+        All-append HasKnown (first ++ let_terms goal ++ assume_terms (expanded goal).assumes ++ guard_terms (expanded goal).guard) (set_terms (expanded goal).sets)
+        (All-append HasKnown (first ++ let_terms goal ++ assume_terms (expanded goal).assumes) (guard_terms (expanded goal).guard)
+        (All-append HasKnown (first ++ let_terms goal) (assume_terms (expanded goal).assumes)
+        (All-append HasKnown first (let_terms goal)
         (All-cons HasKnown entry_term (input_terms goal.inputs) (tt, tt) inputs_known)
+        lets_known)
         assumes_known)
-        (guard_known goal.guard is.guard))
+        (guard_known (expanded goal).guard closed.guard))
         sets_known
 
     pub equal_known : All (λ (p : Pair). HasKnown p.0 × HasKnown p.1) (assumed_pairs goal)
-    equal_known = All-map (λ (p : Pair). HasKnown p.0 × HasKnown p.1) assumed_pair goal.assumes (All-weaker (IsAssume declared goal) (λ a. HasKnown a.left × HasKnown a.right) sides_known goal.assumes is.assumes)
+    equal_known = All-map (λ (p : Pair). HasKnown p.0 × HasKnown p.1) assumed_pair (expanded goal).assumes (All-weaker (IsAssume declared (expanded goal)) (λ a. HasKnown a.left × HasKnown a.right) sides_known (expanded goal).assumes closed.assumes)
 
     pub kept_present : (t : Tree Op) → Contains (kept_terms goal) t → Contains (present_terms goal) t
     kept_present t h =
-        let A = entry_term ∷ input_terms goal.inputs in
-        let B = assume_terms goal.assumes in
-        let C = guard_terms goal.guard in
-        let D = set_terms goal.sets in
+        let A = (entry_term ∷ input_terms goal.inputs) ++ let_terms goal in
+        let B = assume_terms (expanded goal).assumes in
+        let C = guard_terms (expanded goal).guard in
+        let D = set_terms (expanded goal).sets in
         elim (Contains-append_cases (A ++ C) D t h) [
           | inl k ↦ Contains-append_left (A ++ B ++ C) D t (elim (Contains-append_cases A C t k) [
             | inl l ↦ Contains-append_left (A ++ B) C t (Contains-append_left A B t l)
@@ -321,9 +329,10 @@ later_all : (axioms : List Rewrite) (present : List (Tree Op)) (equal : List Pai
 later_all axioms present equal zero t u d = d
 later_all axioms present equal (suc j) t u d = let e : j + 1 ≡ suc j = omega arith in subst (λ n. Derives axioms present equal n t u) e (later (later_all axioms present equal j t u d))
 
-pub can_be_launched : (input : InputTree) (goal : GoalTree) (graph : Graph Op) (j : ℕ) → ((axioms : List Rewrite) (r : Rewrite) → All IsRule axioms → IsRuleOf axioms r → IsUsable r) → All IsRule (rules_of input) → IsInput input → Contains input.goals goal → IsGraph op_signature graph → length graph.rows < 2 ^ 30 → IsGrown (rules_of input) (present_terms goal) (assumed_pairs goal) graph j → CanMakeLaunchGraph input.ops goal graph
-can_be_launched input goal graph j usable rules is given_goal is_graph few grown =
+pub can_be_launched : (input : InputTree) (goal : GoalTree) (graph : Graph Op) (j : ℕ) → ((axioms : List Rewrite) (r : Rewrite) → All IsRule axioms → IsRuleOf axioms r → IsUsable r) → All IsRule (rules_of input) → (IsGoal input.ops goal → Closed input.ops goal) → IsInput input → Contains input.goals goal → IsGraph op_signature graph → length graph.rows < 2 ^ 30 → IsGrown (rules_of input) (present_terms goal) (assumed_pairs goal) graph j → CanMakeLaunchGraph input.ops goal graph
+can_be_launched input goal graph j usable rules law is given_goal is_graph few grown =
     let goal_is = All-contains (IsGoal input.ops) input.goals goal is.goals given_goal in
+    let closed = law goal_is in
     record {
       graph_is = is_graph;
       few = few;
@@ -333,9 +342,9 @@ can_be_launched input goal graph j usable rules is given_goal is_graph few grown
           let term = application r.op ts.0 in
           let class : IsClass graph [] term r.class = at_row ts.1 h in
           let derived = (grown.exact term term).0 (record { class = r.class; first = class; second = class }) in
-          (derived_known input.ops input.axioms is.axioms (λ q rule. usable (rules_of input) q rules rule) (present_terms goal) (present_known input.ops goal goal_is) (assumed_pairs goal) (equal_known input.ops goal goal_is) derived).0.0)
+          (derived_known input.ops input.axioms is.axioms (λ q rule. usable (rules_of input) q rules rule) (present_terms goal) (present_known input.ops goal goal_is closed) (assumed_pairs goal) (equal_known input.ops goal goal_is closed) derived).0.0)
           graph.rows (All-contains_itself graph.rows);
       classes = λ t h.
-          let has = (grown.exact t t).1 (later_all (rules_of input) (present_terms goal) (assumed_pairs goal) j t t (given t (kept_present input.ops goal goal_is t h))) in
+          let has = (grown.exact t t).1 (later_all (rules_of input) (present_terms goal) (assumed_pairs goal) j t t (given t (kept_present input.ops goal goal_is closed t h))) in
           (has.class, has.first);
     }

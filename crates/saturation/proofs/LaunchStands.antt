@@ -11,6 +11,7 @@ use Rattle.word_ops.specs.declared.sorts.Op.TheVariants as op
 use Rattle.word_ops.specs.declared.sorts.Arity.{Arity}
 use Rattle.word_terms.specs.Tree.{Tree, Trees, each_value}
 use Rattle.axiom_base.specs.Rewrites.{value_in}
+use Rattle.goal_meaning.specs.Expanded.{expanded}
 use Rattle.goal_meaning.specs.Holds.{HoldsFor}
 use Rattle.goal_meaning.specs.Names.{declared_name}
 use Rattle.goal_meaning.specs.Views.{TargetTree, GoalTree, InputTree}
@@ -116,8 +117,8 @@ module _ (declared : List DeclaredOp) (goal : GoalTree) (graph : Graph Op) (g : 
       inputs = inputs_have g.inputs goal.inputs launched.of.inputs;
       entry = class_value entry_term g.entry launched.of.entry;
     };
-    guard = guard_has g.guard goal.guard launched.of.guard;
-    sets = sets_have g.sets goal.sets launched.of.sets;
+    guard = guard_has g.guard (expanded goal).guard launched.of.guard;
+    sets = sets_have g.sets (expanded goal).sets launched.of.sets;
   }
 
 pub stands_for : (input : InputTree) (goal : GoalTree) (graph : Graph Op) (g : LaunchGraph) → IsLaunched input.ops goal graph g → GraphStands (declared_name input.ops) (rules_of input) (assumed_pairs goal) (kept_terms goal) graph → ((world : World) → IsWorld world → HoldsFor input goal world → RulesHold world (declared_name input.ops) (rules_of input) (assumed_pairs goal)) → StandsFor input goal g

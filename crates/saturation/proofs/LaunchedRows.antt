@@ -10,7 +10,6 @@ use Rattle.std.proofs.lemmas.Slice.Eq.{bytes_eq-Decides}
 use Rattle.text_core.specs.Names.{IsName}
 use Rattle.word_ops.specs.Words.{IsWord}
 use Rattle.word_ops.specs.Meanings.{arity_of_op, sort_of, operand_sort, constant_in}
-use Rattle.word_ops.specs.declared.sorts.Access.TheVariants.{Quad}
 use Rattle.word_ops.specs.declared.sorts.Arity.{Arity}
 use Rattle.word_ops.specs.declared.sorts.Sort.{Sort}
 use Rattle.word_ops.specs.declared.sorts.Op.{Op}

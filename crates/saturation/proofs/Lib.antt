@@ -49,3 +49,6 @@ pub mod Started
 pub mod Renumbering
 pub mod RuleSteps
 pub mod AxiomRules
+pub mod Closed
+pub mod LetTerms
+pub mod LetSteps

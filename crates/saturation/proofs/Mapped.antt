@@ -78,7 +78,7 @@ contains_filter_map f [] x y k l is e = absurd (omega arith)
 contains_filter_map f (z ∷ xs) x y zero l is e = contains_some f z (filter_map f xs) y (ap f is ∙ e)
 contains_filter_map f (z ∷ xs) x y (suc k) l is e = contains_past (f z) (filter_map f xs) y (contains_filter_map f xs x y k (omega arith) is e)
 
-zip_push : {X Y : Type 0} (R : Y → X → Type 0) (ys : List Y) (xs : List X) (y : Y) (x : X) → AllZip R ys xs → R y x → AllZip R (ys ++ y ∷ []) (xs ++ x ∷ [])
+pub zip_push : {X Y : Type 0} (R : Y → X → Type 0) (ys : List Y) (xs : List X) (y : Y) (x : X) → AllZip R ys xs → R y x → AllZip R (ys ++ y ∷ []) (xs ++ x ∷ [])
 zip_push R [] [] y x h r = (r, tt)
 zip_push R [] (z ∷ xs) y x h r = absurd h
 zip_push R (z ∷ ys) [] y x h r = absurd h

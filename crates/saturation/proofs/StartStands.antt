@@ -12,7 +12,8 @@ use Rattle.word_terms.specs.Tree.{Tree, value}
 use Rattle.axiom_base.specs.Rewrites.{value_in}
 use Rattle.egraph.specs.Graph.{Graph, IsGraph}
 use Rattle.goal_meaning.specs.Views.{TwoTrees}
-use Rattle.saturation.specs.AtStart.{IsSorted, AreSorted}
+use Rattle.saturation.specs.AtStart.{IsSorted}
+use Rattle.saturation.specs.OverLets.{AreSorted}
 use Rattle.saturation.specs.GoalTerms.{assumed_pair}
 use Rattle.saturation.specs.Trace.{MayJoin, IsBuilt, AreInserted, none_inserted, one_inserted, IsAssumeMade, AreAssumed, none_assumed, one_assumed, IsAssumedRefused, AreRefused, refused_here, refused_after}
 use Rattle.saturation.proofs.Below.{sort_below}

@@ -1,29 +1,28 @@
 -- What the first graph of a goal is, and what a refusal of it shows. From Denali (PLDI 2002), its matching phase, which
 -- begins with the goal's terms.
-use Rattle.std.specs.Prelude.{ℕ, ◌+◌, ◌<◌, ◌≤◌, ◌^◌, List, [], length, All}
+use Rattle.std.specs.Prelude.{ℕ, ◌+◌, ◌<◌, ◌^◌, List, [], length}
 use Rattle.word_ops.specs.Worlds.{World, IsWorld}
 use Rattle.word_ops.specs.declared.sorts.Op.{Op}
 use Rattle.word_ops.specs.declared.sorts.Sort.{Sort}
 use Rattle.word_terms.specs.Keys.{op_signature}
-use Rattle.word_terms.specs.OperatorsIn.{operators_in}
 use Rattle.word_terms.specs.Sorting.{HasSort}
 use Rattle.word_terms.specs.Tree.{Tree}
 use Rattle.axiom_base.specs.Rewrites.{Rewrite}
-use Rattle.egraph.specs.Graph.{Graph, IsGraph}
+use Rattle.egraph.specs.Graph.{Graph}
 use Rattle.egraph.specs.declared.faults.MergeFault.{MergeFault}
 use Rattle.egraph.specs.declared.faults.MergeFault.TheVariants as merging
-use Rattle.goal_meaning.specs.Views.{TwoTrees, GoalTree}
-use Rattle.goal_meaning.specs.WellFormed.{sum_over, operators_of_sides, operators_of_goal}
-use Rattle.saturation.specs.Derives.{Pair, IsClash}
+use Rattle.goal_meaning.specs.Views.{GoalTree}
+use Rattle.goal_meaning.specs.WellFormed.{operators_of_goal}
+use Rattle.saturation.specs.Derives.{IsClash}
 use Rattle.saturation.specs.GoalTerms.{present_terms, kept_terms, assumed_pairs}
 use Rattle.saturation.specs.GraphStands.{GraphStands, RulesHold}
 use Rattle.saturation.specs.Grown.{IsGrown}
-use Rattle.saturation.specs.Trace.{AreInserted, AreAssumed, IsAssumedRefused, AreRefused}
+use Rattle.saturation.specs.Trace.{AreInserted, AreAssumed}
 use Rattle.saturation.specs.declared.faults.StartFault.{StartFault}
 use Rattle.saturation.specs.declared.faults.StartFault.TheVariants.{NoWorld, Memory}
 
--- the terms are inserted one after another, operands before their application, and then the sides of each assumption
--- are made equal
+-- the terms without lets are inserted one after another, operands before their application, and then the sides of each
+-- assumption are made equal
 pub record IsStarted (goal : GoalTree) (g : Graph Op) : Type 0 where
   pub middle : Graph Op
   pub inserted : AreInserted (present_terms goal) (record { rows = []; current = [] }) middle
@@ -59,7 +58,8 @@ abbrev pub StartNamesLowClass : StartFault → Type 0
 StartNamesLowClass (NoWorld class a b) = class < 2 ^ 31
 StartNamesLowClass Memory = Unit {0}
 
--- as many rows as the first graph of a goal has at most: the memory at entry, each input, and each operator of a term
+-- as many rows as the first graph of a goal has at most: the memory at entry, each input, and each operator of a term;
+-- a let counts once, however often its name stands
 abbrev pub most_rows_at_start : GoalTree → ℕ
 most_rows_at_start goal = 1 + length goal.inputs + operators_of_goal goal
 
@@ -67,44 +67,7 @@ abbrev pub start_fault : MergeFault → StartFault
 start_fault (merging.NoWorld class a b) = NoWorld class a b
 start_fault merging.Memory = Memory
 
--- ---- what the steps want and give
-
 -- a term of some sort without variables
 pub record IsSorted (t : Tree Op) : Type 0 where
   pub sort : Sort
   pub is : HasSort op_signature [] sort t
-
--- two of one sort
-pub record AreSorted (a : TwoTrees) : Type 0 where
-  pub sort : Sort
-  pub left : HasSort op_signature [] sort a.left
-  pub right : HasSort op_signature [] sort a.right
-
-abbrev pub operators_of : List (Tree Op) → ℕ
-operators_of ts = sum_over operators_in ts
-
--- the terms may be inserted, with room for their operators
-pub record CanInsertAll (g : Graph Op) (ts : List (Tree Op)) : Type 0 where
-  pub graph : IsGraph op_signature g
-  pub sorted : All IsSorted ts
-  pub few : length g.current + operators_of ts ≤ 2 ^ 31
-
--- the sides may be merged, with room for their operators
-pub record CanAssume (g : Graph Op) (a : TwoTrees) : Type 0 where
-  pub graph : IsGraph op_signature g
-  pub sorted : AreSorted a
-  pub few : length g.current + operators_of_sides a ≤ 2 ^ 31
-
-pub record CanAssumeAll (g : Graph Op) (assumes : List TwoTrees) : Type 0 where
-  pub graph : IsGraph op_signature g
-  pub sorted : All AreSorted assumes
-  pub few : length g.current + sum_over operators_of_sides assumes ≤ 2 ^ 31
-
--- that there is no memory says nothing of the graph
-abbrev pub AssumeFaultIs : Pair → Graph Op → StartFault → Type 0
-AssumeFaultIs p g (NoWorld class a b) = IsAssumedRefused p g a b
-AssumeFaultIs p g Memory = Unit {0}
-
-abbrev pub AssumeFaultOfAll : List Pair → Graph Op → StartFault → Type 0
-AssumeFaultOfAll ps g (NoWorld class a b) = AreRefused ps g a b
-AssumeFaultOfAll ps g Memory = Unit {0}

@@ -7,6 +7,7 @@ use Rattle.word_ops.specs.declared.sorts.Op.TheVariants.{Entry, Input}
 use Rattle.word_ops.specs.declared.sorts.Sort.TheVariants as sorts
 use Rattle.word_terms.specs.Tree.{Tree, Trees, variable, application, none, more, substituted}
 use Rattle.axiom_base.specs.Rewrites.{Rewrite, rewrite}
+use Rattle.goal_meaning.specs.Expanded.{expanded, let_terms}
 use Rattle.goal_meaning.specs.declared.goals.InputReg.{InputReg}
 use Rattle.goal_meaning.specs.Views.{TwoTrees, TargetTree, GoalTree, AxiomTree, InputTree}
 use Rattle.saturation.specs.Derives.{Pair}
@@ -37,24 +38,29 @@ sides_of a = a.left ∷ a.right ∷ []
 abbrev pub assume_terms : List TwoTrees → List (Tree Op)
 assume_terms assumes = flat_map sides_of assumes
 
--- the memory at entry, the inputs, the guard and the new values
+-- the memory at entry, the inputs, what the lets stand for, the guard and the new values; none has a let in it
 abbrev pub kept_terms : GoalTree → List (Tree Op)
-kept_terms goal = (entry_term ∷ input_terms goal.inputs) ++ guard_terms goal.guard ++ set_terms goal.sets
+kept_terms goal =
+    (entry_term ∷ input_terms goal.inputs)
+    ++ let_terms goal
+    ++ guard_terms (expanded goal).guard
+    ++ set_terms (expanded goal).sets
 
 -- what is present before the first round, in the order in which it is made: these, and both sides of each assumption
 abbrev pub present_terms : GoalTree → List (Tree Op)
 present_terms goal =
     (entry_term ∷ input_terms goal.inputs)
-    ++ assume_terms goal.assumes
-    ++ guard_terms goal.guard
-    ++ set_terms goal.sets
+    ++ let_terms goal
+    ++ assume_terms (expanded goal).assumes
+    ++ guard_terms (expanded goal).guard
+    ++ set_terms (expanded goal).sets
 
 -- what is equal before the first round
 abbrev pub assumed_pair : TwoTrees → Pair
 assumed_pair a = (a.left, a.right)
 
 abbrev pub assumed_pairs : GoalTree → List Pair
-assumed_pairs goal = map assumed_pair goal.assumes
+assumed_pairs goal = map assumed_pair (expanded goal).assumes
 
 -- ---- axioms as rules
 

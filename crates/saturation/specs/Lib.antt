@@ -14,3 +14,4 @@ pub mod Renamed
 pub mod GoalTerms
 pub mod AtStart
 pub mod ProgramRules
+pub mod OverLets

@@ -3,7 +3,7 @@ use Rattle.std.specs.Prelude.{◌≡◌, ℕ, List, [], ◌∷◌, ◌++◌, map
 use Rattle.std.specs.List.{filter_map, position_or_len}
 use Rattle.word_ops.specs.declared.sorts.Op.{Op}
 use Rattle.word_ops.specs.declared.sorts.Op.TheVariants.{Declared}
-use Rattle.word_terms.specs.Tree.{Tree}
+use Rattle.word_terms.specs.Tree.{Tree, substituted}
 use Rattle.word_terms.specs.View.{tree_of}
 use Rattle.word_terms.specs.declared.term.Term.{Term}
 use Rattle.egraph.specs.Graph.{Graph, HasClass}
@@ -64,25 +64,26 @@ launched_row numbers used declared r = record {
   operands = map (slice_index numbers) r.operands;
 }
 
--- the number is that of the term's class
-abbrev pub IsClassNumber : Graph Op → List ℕ → Tree Op → ℕ → Type 0
-IsClassNumber g numbers t n = (c : ℕ) × IsClass g [] t c × (n ≡ slice_index numbers c)
+-- the number is that of the term's class, where its variables have the classes in `places`
+abbrev pub IsClassNumber : Graph Op → List ℕ → List ℕ → Tree Op → ℕ → Type 0
+IsClassNumber g places numbers t n = (c : ℕ) × IsClass g places t c × (n ≡ slice_index numbers c)
 
 -- the input's name and register, with the number of its class
 pub record IsInputNumber (g : Graph Op) (numbers : List ℕ) (c : InputClass) (i : InputReg) : Type 0 where
   pub name : c.name ≡ i.name
   pub register : c.reg ≡ i.reg
-  pub class : IsClassNumber g numbers (input_term i.reg) c.class
+  pub class : IsClassNumber g [] numbers (input_term i.reg) c.class
 
 -- the target's name and pin, with the number of its value's class
-pub record IsSetNumber (g : Graph Op) (numbers : List ℕ) (c : SetClass) (s : Set) : Type 0 where
+pub record IsSetNumber (g : Graph Op) (lets numbers : List ℕ) (c : SetClass) (s : Set) : Type 0 where
   pub name : c.name ≡ s.name
   pub pin : c.pin ≡ s.pin
-  pub class : IsClassNumber g numbers (tree_of s.value) c.class
+  pub class : IsClassNumber g lets numbers (tree_of s.value) c.class
 
--- the guard with the number of its term's class; it is held where the term reads no memory
-abbrev pub IsGuardNumber : Graph Op → List ℕ → Option Guard → Option (Term Op) → Type 0
-IsGuardNumber g numbers None None = Unit {0}
-IsGuardNumber g numbers (Some guard) (Some t) =
-    IsClassNumber g numbers (tree_of t) guard.class × (guard.held ≡ not (has_select (tree_of t)))
-IsGuardNumber g numbers _ _ = ⊥
+-- the guard with the number of its term's class; it is held where its term without lets reads no memory
+abbrev pub IsGuardNumber : Graph Op → List ℕ → List (Tree Op) → List ℕ → Option Guard → Option (Term Op) → Type 0
+IsGuardNumber g lets terms numbers None None = Unit {0}
+IsGuardNumber g lets terms numbers (Some guard) (Some t) =
+    IsClassNumber g lets numbers (tree_of t) guard.class
+    × (guard.held ≡ not (has_select (substituted terms (tree_of t))))
+IsGuardNumber g lets terms numbers _ _ = ⊥

@@ -16,6 +16,7 @@ use Rattle.graph_meaning.specs.declared.graphs.LaunchRow.{LaunchRow}
 use Rattle.graph_meaning.specs.declared.graphs.InputClass.{InputClass}
 use Rattle.graph_meaning.specs.declared.graphs.SetClass.{SetClass}
 use Rattle.graph_meaning.specs.declared.graphs.Guard.{Guard}
+use Rattle.goal_meaning.specs.Expanded.{expanded}
 use Rattle.goal_meaning.specs.Holds.{goal_value, HoldsFor}
 use Rattle.goal_meaning.specs.Views.{TargetTree, GoalTree, InputTree}
 use Rattle.goal_meaning.specs.declared.goals.InputReg.{InputReg}
@@ -78,13 +79,13 @@ IsGuardOf declared g None None = Unit {0}
 IsGuardOf declared g (Some guard) (Some t) = HasClassIn declared g t guard.class × (guard.held ≡ not (has_select t))
 IsGuardOf declared g _ _ = ⊥
 
--- inputs, pool, guard and sets are the goal's, with the classes of their terms
+-- inputs, pool, guard and sets are the goal's, with the classes of their terms without lets
 pub record IsGraphOf (declared : List DeclaredOp) (goal : GoalTree) (g : LaunchGraph) : Type 0 where
   pub entry : HasClassIn declared g entry_term g.entry
   pub inputs : AllZip (IsInputClass declared g) g.inputs goal.inputs
   pub pool : g.pool ≡ goal.pool
-  pub guard : IsGuardOf declared g g.guard goal.guard
-  pub sets : AllZip (IsSetClass declared g) g.sets goal.sets
+  pub guard : IsGuardOf declared g g.guard (expanded goal).guard
+  pub sets : AllZip (IsSetClass declared g) g.sets (expanded goal).sets
   pub proper : IsProper g
 
 -- ---- its values
@@ -100,8 +101,8 @@ HasSetValue declared world value c s = value c.class ≡ goal_value declared wor
 pub record HasValues (declared : List DeclaredOp) (goal : GoalTree) (g : LaunchGraph) (world : World)
     (value : ℕ → Value) : Type 0 where
   pub rows : IsTrueUnder g world value
-  pub guard : HasGuardValue declared world value g.guard goal.guard
-  pub sets : AllZip (HasSetValue declared world value) g.sets goal.sets
+  pub guard : HasGuardValue declared world value g.guard (expanded goal).guard
+  pub sets : AllZip (HasSetValue declared world value) g.sets (expanded goal).sets
 
 -- it is the goal's, and has such values in each world in which axioms and assumptions hold
 pub record StandsFor (input : InputTree) (goal : GoalTree) (g : LaunchGraph) : Type 0 where

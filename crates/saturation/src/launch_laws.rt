@@ -15,6 +15,7 @@ ghost use Rattle.saturation.specs.StandsFor.{StandsFor};
 
 use crate::goal_laws::axioms_make_rules_true;
 use axiom_base::schemes_are_true;
+use goal_meaning::expanded_terms_are_sorted;
 
 /// Does nothing. Its clause is a law: the launch graph made from a graph that stands for a goal's terms stands for the
 /// goal.
@@ -38,4 +39,5 @@ pub fn grown_graphs_can_be_launched()
 {
     axioms_make_rules_true();
     schemes_are_true();
+    expanded_terms_are_sorted();
 }

@@ -6,6 +6,7 @@ ghost use Rattle.word_terms.specs.Keys.{op_signature};
 ghost use Rattle.word_terms.specs.Tree.{Tree, application, none};
 ghost use Rattle.egraph.specs.Graph.{HasClass, IsGraph};
 ghost use Rattle.pattern_match.specs.Classes.{CanFindClass, IsClass};
+ghost use Rattle.goal_meaning.specs.Expanded.{let_terms};
 ghost use Rattle.goal_meaning.specs.Views.{goal_view, input_view};
 ghost use Rattle.goal_meaning.specs.WellFormed.{IsInput};
 ghost use Rattle.goal_meaning.specs.declared.goals.InputReg.{InputReg as InputOf};
@@ -13,24 +14,25 @@ ghost use Rattle.goal_meaning.specs.declared.goals.Set.{Set as SetOf};
 ghost use Rattle.saturation.specs.GoalTerms.{input_term};
 ghost use Rattle.saturation.specs.Launched.{CanMakeLaunchGraph, IsKnown, IsLaunched, KeepsGrown, KeepsStop};
 ghost use Rattle.saturation.specs.Numbered.{AreClassNumbers, IsGuardNumber, IsInputNumber, IsClassNumber, IsSetNumber, launched_name, launched_row};
-ghost use Rattle.saturation.specs.StandsFor.{graph_view, has_select};
+ghost use Rattle.saturation.specs.StandsFor.{graph_view};
 
+use crate::lets::{let_classes, lets_read_memory, reads_memory};
 use crate::numbering::{class_numbers, op_of_place, used_operators};
 use crate::rounds::Saturated;
 use axiom_base::schemes_are_true;
 use egraph::{Egraph, Row};
-use goal_meaning::{DeclaredOp, Goal, Input, InputReg, Set};
+use goal_meaning::{DeclaredOp, Goal, Input, InputReg, Set, expanded_terms_are_sorted};
 use graph_meaning::{Guard, InputClass, LaunchGraph, LaunchRow, SetClass};
 use items::{Items, NoMemory};
 use pattern_match::class_of_pattern;
 use std::alloc::Global;
 use text_core::Name;
 use word_ops::Op;
-use word_terms::{Term, terms_are_trees};
+use word_terms::Term;
 
 /// The launch graph made from the graph of a goal after its rounds. All rows are kept in their order; classes and
 /// declared operators are numbered from 0 in the order of their first rows. Each operator of a term of the goal costs a
-/// look-up.
+/// look-up, and a let's operators count once.
 pub fn to_launch(
     alloc: Global,
     saturated: &Saturated,
@@ -45,17 +47,19 @@ pub fn to_launch(
     ensures stops { IfOk result (λ g. KeepsStop saturated.now.graph (graph_view input.now.ops g)) }
 {
     schemes_are_true();
+    expanded_terms_are_sorted();
     let graph = &saturated.graph;
     let numbers = class_numbers(alloc, graph)?;
     let used = used_operators(alloc, graph)?;
     let rows = launch_rows(alloc, graph, &numbers, &used, input.ops.as_slice())?;
+    let lets = let_classes(alloc, graph, goal.lets.as_slice())?;
     Ok(LaunchGraph {
         rows: Items::from(rows),
         entry: leaf_number(graph, &numbers, Op::Entry),
         inputs: Items::from(launch_inputs(alloc, graph, &numbers, goal.inputs.as_slice())?),
         pool: Items::from_slice(alloc, goal.pool.as_slice())?,
-        guard: launch_guard(alloc, graph, &numbers, &goal.guard)?,
-        sets: Items::from(launch_sets(alloc, graph, &numbers, goal.sets.as_slice())?),
+        guard: launch_guard(alloc, graph, &numbers, goal, &lets)?,
+        sets: Items::from(launch_sets(alloc, graph, &numbers, goal.sets.as_slice(), &lets)?),
     })
 }
 
@@ -121,24 +125,25 @@ fn leaf_number(graph: &Egraph<Op>, numbers: &[u32], op: Op) -> u32
     requires graph { IsGraph op_signature graph.now }
     requires numbers { AreClassNumbers graph.now numbers.now }
     requires there { (c : ℕ) × IsClass graph.now [] (application op none) c }
-    ensures { IsClassNumber graph.now numbers.now (application op none) result }
+    ensures { IsClassNumber graph.now [] numbers.now (application op none) result }
 {
     numbers[graph.class_of(op, &[]).unwrap() as usize]
 }
 
-// The number of the class of a term.
+// The number of the class of a term, where the lets have these classes.
 fn term_number(
     alloc: Global,
     graph: &Egraph<Op>,
     numbers: &[u32],
     term: &Term<Op>,
+    lets: &[u32],
 ) -> Result<u32, NoMemory>
-    requires can { CanFindClass graph.now [] (tree_of term.now) }
+    requires can { CanFindClass graph.now lets.now (tree_of term.now) }
     requires numbers { AreClassNumbers graph.now numbers.now }
-    requires there { (c : ℕ) × IsClass graph.now [] (tree_of term.now) c }
-    ensures { IfOk result (IsClassNumber graph.now numbers.now (tree_of term.now)) }
+    requires there { (c : ℕ) × IsClass graph.now lets.now (tree_of term.now) c }
+    ensures { IfOk result (IsClassNumber graph.now lets.now numbers.now (tree_of term.now)) }
 {
-    let class = class_of_pattern(alloc, graph, term, &[])?.unwrap();
+    let class = class_of_pattern(alloc, graph, term, lets)?.unwrap();
     Ok(numbers[class as usize])
 }
 
@@ -169,17 +174,18 @@ fn launch_sets(
     graph: &Egraph<Op>,
     numbers: &[u32],
     sets: &[Set],
+    lets: &[u32],
 ) -> Result<Vec<SetClass>, NoMemory>
     requires numbers { AreClassNumbers graph.now numbers.now }
-    requires can { All (λ (s : SetOf). CanFindClass graph.now [] (tree_of s.value)) sets.now }
-    requires there { All (λ (s : SetOf). (c : ℕ) × IsClass graph.now [] (tree_of s.value) c) sets.now }
-    ensures { IfOk result (λ classes. AllZip (IsSetNumber graph.now numbers.now) classes.items sets.now) }
+    requires can { All (λ (s : SetOf). CanFindClass graph.now lets.now (tree_of s.value)) sets.now }
+    requires there { All (λ (s : SetOf). (c : ℕ) × IsClass graph.now lets.now (tree_of s.value) c) sets.now }
+    ensures { IfOk result (λ classes. AllZip (IsSetNumber graph.now lets.now numbers.now) classes.items sets.now) }
 {
     let mut classes = Vec::new(alloc);
     for set in sets {
         classes.push(SetClass {
             name: set.name.copy()?,
-            class: term_number(alloc, graph, numbers, &set.value)?,
+            class: term_number(alloc, graph, numbers, &set.value, lets)?,
             pin: set.pin,
         })?;
     }
@@ -190,39 +196,20 @@ fn launch_guard(
     alloc: Global,
     graph: &Egraph<Op>,
     numbers: &[u32],
-    guard: &Option<Term<Op>>,
+    goal: &Goal,
+    lets: &[u32],
 ) -> Result<Option<Guard>, NoMemory>
     requires numbers { AreClassNumbers graph.now numbers.now }
-    requires can { IfSome guard.now (λ t. CanFindClass graph.now [] (tree_of t)) }
-    requires there { IfSome guard.now (λ t. (c : ℕ) × IsClass graph.now [] (tree_of t) c) }
-    ensures { IfOk result (λ launched. IsGuardNumber graph.now numbers.now launched guard.now) }
+    requires can { IfSome goal.now.guard (λ t. CanFindClass graph.now lets.now (tree_of t)) }
+    requires there { IfSome goal.now.guard (λ t. (c : ℕ) × IsClass graph.now lets.now (tree_of t) c) }
+    ensures { IfOk result (λ launched.
+        IsGuardNumber graph.now lets.now (let_terms (goal_view goal.now)) numbers.now launched goal.now.guard) }
 {
-    match guard {
+    match &goal.guard {
         Some(term) => Ok(Some(Guard {
-            class: term_number(alloc, graph, numbers, term)?,
-            held: !reads_memory(term),
+            class: term_number(alloc, graph, numbers, term, lets)?,
+            held: !reads_memory(term, &lets_read_memory(alloc, goal.lets.as_slice())?),
         })),
         None => Ok(None),
-    }
-}
-
-/// Whether a select stands in the term.
-fn reads_memory(term: &Term<Op>) -> bool
-    ensures { result ≡ has_select (tree_of term.now) }
-{
-    terms_are_trees::<Op>();
-    match term {
-        Term::Var(_) => false,
-        Term::App(op, operands) => {
-            if matches!(op, Op::Select(_)) {
-                return true;
-            }
-            for operand in operands {
-                if reads_memory(operand) {
-                    return true;
-                }
-            }
-            false
-        }
     }
 }

@@ -11,6 +11,9 @@
 //! (`launched_graphs_stand`). Two graphs after one number of rounds differ in order and numbers alone
 //! (`grown_graphs_are_one`); terms inserted before any round are the goal's as much as the others
 //! (`more_terms_may_be_inserted`).
+//!
+//! All this is said of the goal without lets, which no call makes: a let is inserted once, its name stands for its
+//! class, and it has no more rows than its own term has operators (`few_rows`).
 #![tactic(auto)]
 
 mod applying;
@@ -23,6 +26,7 @@ mod instance;
 mod launch_laws;
 mod launching;
 mod laws;
+mod lets;
 mod more_terms;
 mod needing;
 mod numbering;
@@ -38,5 +42,6 @@ pub use goal_laws::axioms_make_rules_true;
 pub use launch_laws::{grown_graphs_can_be_launched, launched_graphs_stand};
 pub use launching::to_launch;
 pub use laws::{grown_graphs_are_one, rounds_end_once};
+pub use lets::{let_classes, lets_are_their_terms};
 pub use more_terms::more_terms_may_be_inserted;
 pub use rounds::{Rules, Saturated, saturate};

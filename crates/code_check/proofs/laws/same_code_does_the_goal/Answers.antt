@@ -1,3 +1,4 @@
+use Rattle.goal_meaning.specs.Expanded.{expanded}
 use Rattle.goal_meaning.specs.Names.{declared_name}
 use Rattle.code_check.proofs.Steps.{one_step, first_values}
 use Rattle.code_check.proofs.Deciding.{decided, inputs_low}
@@ -11,6 +12,6 @@ returns c = record {
       decided c.steps_add_up.ensures.last c.steps_add_up.ensures.sums c.steps_add_up.ensures.stays world input.ops
       (one_step world names c.displacements_are_low_bits.ensures.low c.displacements_are_low_bits.ensures.high
       c.meanings_are_in_range.ensures.words c.memories_hold_words.ensures.loaded c.memories_hold_words.ensures.stored)
-      words instrs code few (first_values world names is_world) goal places
+      words instrs code few (first_values world names is_world) (expanded goal) places
       (inputs_low goal.inputs goal.pool is_goal.rules.low) low graph v.0 v.1 same;
 }

@@ -1,9 +1,16 @@
-use Rattle.std.proofs.Common.{◌≡◌, ◌≤◌, ◌++◌, ℕ, List, Ok, Some, map, length, sym, subst}
+use Rattle.std.proofs.Common.{◌≡◌, ◌≤◌, ◌++◌, ℕ, All, List, [], get_or, Ok, Some, map, length, sym, subst}
 use Rattle.std.specs.Prelude.{MatchOption}
+use Rattle.std.specs.List.{AllZip}
+use Rattle.word_ops.specs.declared.sorts.Op.{Op}
+use Rattle.word_terms.specs.Tree.{Tree}
+use Rattle.pattern_match.specs.Classes.{IsClass}
 use Rattle.alpha_encode.specs.Decoded.{decoded}
-use Rattle.goal_meaning.specs.Views.{goal_view}
+use Rattle.goal_meaning.specs.Expanded.{expanded, expanded_terms, let_terms, let_values}
+use Rattle.goal_meaning.specs.Views.{goal_view, let_view}
+use Rattle.goal_meaning.specs.declared.goals.Let.{Let}
 use Rattle.goal_meaning.specs.WellFormed.{IsGoal, IsInput}
-use Rattle.saturation.specs.GoalTerms.{kept_terms, rules_of}
+use Rattle.saturation.specs.GoalTerms.{assumed_pairs, kept_terms, rules_of}
+use Rattle.saturation.specs.OverLets.{AreLetsBelow}
 use Rattle.saturation.specs.Rounds.{IsHopeless, IsSaturated, KeepsStanding, SaturateFaultIs}
 use Rattle.code_check.specs.Codes.{ArePlaces}
 use Rattle.code_check.specs.Compared.{ArePresentClasses, terms_at_branch}
@@ -11,9 +18,10 @@ use Rattle.code_check.specs.Same.{IsFirstDifferent, Same, terms_at_end}
 use Rattle.code_check.specs.Terms.{written_terms}
 use Rattle.code_check.specs.Verified.{IsRightFor}
 use Rattle.code_check.proofs.CodeTerms.{present_both}
-use Rattle.code_check.proofs.Answering.{answered, few_code, few_words, for_inputs, for_the_code, room_for, rounds_refused}
+use Rattle.code_check.proofs.Comparisons.{have_class}
+use Rattle.code_check.proofs.Answering.{answered, let_there, few_code, few_words, for_inputs, for_the_code, room_for, rounds_refused}
 use Rattle.code_check.proofs.verifying.verify_from.Goals as goal
-use Rattle.code_check.proofs.verifying.verify_from.Goals.{After-as_slice-places}
+use Rattle.code_check.proofs.verifying.verify_from.Goals.{After-as_slice-places, After-as_slice-lets}
 
 -- ---- the code's terms
 
@@ -74,11 +82,39 @@ present_is c =
     c.words_before-before.ensures (subst (λ ws. map decoded ws ≡ map Some fits.instrs) (sym c.as_slice-words.ensures) fits.is_code.decode)
     c.in-Ok.ensures.classes c.in-Ok.ensures.saturated.graph
 
+pub let_classes-requires : goal.let_classes-requires
+let_classes-requires c =
+    let tree = goal_view c.args.goal.now in
+    let fits = c.requires.fits in
+    let names : ℕ → List ℕ = λ n. [] in
+    let axioms = c.args.rules.now.program in
+    let is = c.in_ok-inserted.ensures.inserted fits.instrs (subst (λ ws. map decoded ws ≡ map Some fits.instrs) (sym c.as_slice-words.ensures) fits.is_code.decode) in
+    let stands = c.more_terms_may_be_inserted.ensures.stand names axioms (assumed_pairs tree) (kept_terms tree) (written_terms fits.instrs)
+    c.args.first c.insert_code.new.graph c.requires.graph (c.written_terms_are_sorted.ensures.sorted fits.instrs fits.is_code.well_formed) is.inserted
+    (c.requires.stands names axioms) in
+    let keeps = c.in-Ok.ensures.stands names (assumed_pairs tree) (kept_terms tree ++ written_terms fits.instrs) stands in
+    record {
+      graph = c.in-Ok.ensures.saturated.graph;
+      below = subst (λ (ls : List Let). AreLetsBelow (let_values (map let_view ls))) (sym c.as_slice-named.ensures) c.requires.below.lets;
+      there = subst (λ (ls : List Let). All (λ (t : Tree Op). (n : ℕ) × IsClass c.in-Ok.saturated.graph [] t n) (expanded_terms [] (let_values (map let_view ls))))
+          (sym c.as_slice-named.ensures) (λ k d l. keeps.classes (get_or (let_terms tree) k d) (let_there tree (written_terms fits.instrs) k d l));
+    }
+
+-- the lets have the classes of their terms
+lets_are : (c : After-as_slice-lets) → AllZip (IsClass c.in-Ok.saturated.graph []) (let_terms (goal_view c.args.goal.now)) c.as_slice-lets.result.now
+lets_are c =
+    subst (AllZip (IsClass c.in-Ok.saturated.graph []) (let_terms (goal_view c.args.goal.now))) (sym c.as_slice-lets.ensures.value)
+    (subst (λ (ls : List Let). AllZip (IsClass c.in-Ok.saturated.graph []) (expanded_terms [] (let_values (map let_view ls))) c.in_ok-found.found.items)
+    c.as_slice-named.ensures c.in_ok-found.ensures)
+
 pub first_different-requires : goal.first_different-requires
 first_different-requires c =
     let present = present_is (goal.at.first_different-requires c).After-as_slice-places in
     let instrs = c.requires.fits.instrs in
+    let lets = lets_are (goal.at.first_different-requires c).After-as_slice-lets in
     record {
+      lets = lets;
+      present = have_class c.in-Ok.saturated.graph (let_terms (goal_view c.args.goal.now)) c.as_slice-lets.result.now lets;
       below = c.requires.below;
       inputs = c.requires.inputs;
       few = c.requires.sets;
@@ -99,7 +135,7 @@ returns c =
     let is = c.in_ok-inserted.ensures.inserted fits.instrs (subst (λ ws. map decoded ws ≡ map Some fits.instrs) (sym c.as_slice-words.ensures) fits.is_code.decode) in
     let present = present_is (goal.at.returns c).After-as_slice-places in
     let decode = subst (λ ws. map decoded ws ≡ map Some instrs) (sym c.as_slice-words.ensures) fits.is_code.decode in
-    let found = subst (λ ps. MatchOption c.in_ok-different.different (Same sat.graph tree instrs ps) (IsFirstDifferent sat.graph tree instrs ps)) c.as_slice-places.ensures
+    let found = subst (λ ps. MatchOption c.in_ok-different.different (Same sat.graph (expanded tree) instrs ps) (IsFirstDifferent sat.graph (expanded tree) instrs ps)) c.as_slice-places.ensures
     (c.in_ok-different.ensures instrs (c.find_branch-branch.ensures.of_code instrs decode) fits.is_code.one_branch present.0 present.1) in
     record {
       right = λ input is_input rules is_goal.

@@ -1,4 +1,4 @@
-use Rattle.std.proofs.Common.{◌≡◌, ◌<◌, List, [], ◌∷◌, Option, Some, None, length, sym, ◌∙◌, ap, refl, subst, arith}
+use Rattle.std.proofs.Common.{◌≡◌, ◌<◌, List, [], ◌∷◌, Option, None, length, sym, ◌∙◌, ap, refl, subst, arith}
 use Rattle.std.proofs.lemmas.Result.{err_from_is_err_and}
 use Rattle.word_ops.specs.declared.sorts.Sort.{Sort}
 use Rattle.word_terms.specs.View.{tree_of}
@@ -11,16 +11,13 @@ use Rattle.goal_reader.specs.Roles.{Role, Shape, IsFaultAs, sort_in, ◌>>=◌, 
 use Rattle.goal_reader.proofs.Fixed.{short_first, clear_none, clear_more, part_first, whole_clear, wrong_first}
 use Rattle.goal_reader.proofs.NewNames.{nth_part, part_of, count_form}
 use Rattle.goal_reader.proofs.Apart.{writes_clear}
-use Rattle.goal_reader.proofs.Sorts.{sort_of_part, assume_only}
+use Rattle.goal_reader.proofs.Sorts.{assume_only}
 use Rattle.goal_reader.proofs.Ranks.{has_parts}
-use Rattle.goal_reader.specs.Reading.{tree_sort}
-use Rattle.goal_reader.proofs.Trees.{tree_of_variable, tree_of_application}
 use Rattle.goal_reader.proofs.assumes.assume.Goals as goal
-use Rattle.goal_reader.proofs.assumes.assume.Goals.{in-Var, in-App}
 
 pub unreachable-requires : goal.unreachable-requires
 unreachable-requires c =
-    has_parts goal_keywords 2 (sexp_form c.args.text.now c.args.form.now) c.requires.keyword (c.in_default.ensures.parts c.args.text.now)
+    has_parts goal_keywords 3 (sexp_form c.args.text.now c.args.form.now) c.requires.keyword (c.in_default.ensures.parts c.args.text.now)
 
 pub returns-then-parts-lt3-clause-fault : goal.returns-then-parts-lt3-clause-fault
 returns-then-parts-lt3-clause-fault c =
@@ -78,11 +75,7 @@ returns-in_err-right-clause-fault c =
     let g1 = nth_part text form (place_of form) parts 1 c.index-parts-1.result is (let f = c.if-parts-lt3.false in omega (arith, f)) c.index-parts-1.is in
     let clear1 = clear_more shape form each s.0 s.1 s.2 only (λ at. refl) 0 (sexp_form text c.index-parts-1.result) none g1 (writes_clear c.in_ok-left.ensures.term.writes None c.in_ok-left.ensures.term.wanted_one) in
     let g2 = nth_part text form (place_of form) parts 2 c.index-parts-2.result is (let f = c.if-parts-lt3.false in omega (arith, f)) c.index-parts-2.is in
-    let sort-is : c.match-left.sort ≡ tree_sort (tree_of c.in_ok-left.left) = elim c.match-left.branch [
-      | in-Var w ↦ w.sort-is ∙ sym (ap tree_sort (ap tree_of w.in-Var.is ∙ tree_of_variable _))
-      | in-App w ↦ w.sort-is ∙ w.sort-sort.ensures ∙ sym (ap tree_sort (ap tree_of w.in-App.is ∙ tree_of_application _ _))
-    ] in
-    let sorted : Some c.match-left.sort ≡ second = ap Some sort-is ∙ sort_of_part scope None form _ _ g1 c.in_ok-left.ensures.term in
+    let sorted : c.sort_told-sort.result ≡ second = c.sort_told-sort.ensures ∙ sym (ap (λ o. o >>= sort_in scope) g1) in
     let told = subst (λ w. IsFaultBy (IsFirst (IsFaultAs (roles.term scope w) (sexp_form text c.index-parts-2.result))) c.in_err-right.field-0.0) sorted c.in_err-right.ensures.fault in
     rw (p.1, p.2)
     (told_of_part (IsFaultAs (roles.term scope second) (sexp_form text c.index-parts-2.result)) (IsFaultAs (roles.a_list shape) form)
@@ -106,11 +99,7 @@ returns-then-parts-gt3-clause-fault c =
     let g1 = nth_part text form (place_of form) parts 1 c.index-parts-1.result is (let f = c.if-parts-lt3.false in omega (arith, f)) c.index-parts-1.is in
     let clear1 = clear_more shape form each s.0 s.1 s.2 only (λ at. refl) 0 (sexp_form text c.index-parts-1.result) none g1 (writes_clear c.in_ok-left.ensures.term.writes None c.in_ok-left.ensures.term.wanted_one) in
     let g2 = nth_part text form (place_of form) parts 2 c.index-parts-2.result is (let f = c.if-parts-lt3.false in omega (arith, f)) c.index-parts-2.is in
-    let sort-is : c.match-left.sort ≡ tree_sort (tree_of c.in_ok-left.left) = elim c.match-left.branch [
-      | in-Var w ↦ w.sort-is ∙ sym (ap tree_sort (ap tree_of w.in-Var.is ∙ tree_of_variable _))
-      | in-App w ↦ w.sort-is ∙ w.sort-sort.ensures ∙ sym (ap tree_sort (ap tree_of w.in-App.is ∙ tree_of_application _ _))
-    ] in
-    let sorted : Some c.match-left.sort ≡ second = ap Some sort-is ∙ sort_of_part scope None form _ _ g1 c.in_ok-left.ensures.term in
+    let sorted : c.sort_told-sort.result ≡ second = c.sort_told-sort.ensures ∙ sym (ap (λ o. o >>= sort_in scope) g1) in
     let right = subst (λ w. WritesTerm scope w (sexp_form text c.index-parts-2.result) (tree_of c.in_ok-right.right)) sorted c.in_ok-right.ensures.term in
     let clear2 = clear_more shape form each s.0 s.1 s.2 only (λ at. refl) 1 (sexp_form text c.index-parts-2.result) clear1 g2 (writes_clear right.writes second right.wanted_one) in
     let g3 = nth_part text form (place_of form) parts 3 c.index-parts-3.result is c.if-parts-gt3.true c.index-parts-3.is in
@@ -154,12 +143,8 @@ returns-clause-right c =
     let g1 = nth_part text form (place_of form) parts 1 c.index-parts-1.result is (let f = c.if-parts-lt3.false in omega (arith, f)) c.index-parts-1.is in
     let clear1 = clear_more shape form each s.0 s.1 s.2 only (λ at. refl) 0 (sexp_form text c.index-parts-1.result) none g1 (writes_clear c.in_ok-left.ensures.term.writes None c.in_ok-left.ensures.term.wanted_one) in
     let g2 = nth_part text form (place_of form) parts 2 c.index-parts-2.result is (let f = c.if-parts-lt3.false in omega (arith, f)) c.index-parts-2.is in
-    let sort-is : c.match-left.sort ≡ tree_sort (tree_of c.in_ok-left.left) = elim c.match-left.branch [
-      | in-Var w ↦ w.sort-is ∙ sym (ap tree_sort (ap tree_of w.in-Var.is ∙ tree_of_variable _))
-      | in-App w ↦ w.sort-is ∙ w.sort-sort.ensures ∙ sym (ap tree_sort (ap tree_of w.in-App.is ∙ tree_of_application _ _))
-    ] in
-    let sorted : Some c.match-left.sort ≡ second = ap Some sort-is ∙ sort_of_part scope None form _ _ g1 c.in_ok-left.ensures.term in
-    record { part = sexp_form text c.index-parts-2.result; found = g2; writes = subst (λ w. WritesTerm scope (Some w) (sexp_form text c.index-parts-2.result) (tree_of c.in_ok-right.right)) sort-is c.in_ok-right.ensures.term }
+    let sorted : c.sort_told-sort.result ≡ second = c.sort_told-sort.ensures ∙ sym (ap (λ o. o >>= sort_in scope) g1) in
+    record { part = sexp_form text c.index-parts-2.result; found = g2; writes = subst (λ w. WritesTerm scope w (sexp_form text c.index-parts-2.result) (tree_of c.in_ok-right.right)) sorted c.in_ok-right.ensures.term }
 
 pub returns-clause-clear : goal.returns-clause-clear
 returns-clause-clear c =
@@ -179,11 +164,7 @@ returns-clause-clear c =
     let g1 = nth_part text form (place_of form) parts 1 c.index-parts-1.result is (let f = c.if-parts-lt3.false in omega (arith, f)) c.index-parts-1.is in
     let clear1 = clear_more shape form each s.0 s.1 s.2 only (λ at. refl) 0 (sexp_form text c.index-parts-1.result) none g1 (writes_clear c.in_ok-left.ensures.term.writes None c.in_ok-left.ensures.term.wanted_one) in
     let g2 = nth_part text form (place_of form) parts 2 c.index-parts-2.result is (let f = c.if-parts-lt3.false in omega (arith, f)) c.index-parts-2.is in
-    let sort-is : c.match-left.sort ≡ tree_sort (tree_of c.in_ok-left.left) = elim c.match-left.branch [
-      | in-Var w ↦ w.sort-is ∙ sym (ap tree_sort (ap tree_of w.in-Var.is ∙ tree_of_variable _))
-      | in-App w ↦ w.sort-is ∙ w.sort-sort.ensures ∙ sym (ap tree_sort (ap tree_of w.in-App.is ∙ tree_of_application _ _))
-    ] in
-    let sorted : Some c.match-left.sort ≡ second = ap Some sort-is ∙ sort_of_part scope None form _ _ g1 c.in_ok-left.ensures.term in
+    let sorted : c.sort_told-sort.result ≡ second = c.sort_told-sort.ensures ∙ sym (ap (λ o. o >>= sort_in scope) g1) in
     let right = subst (λ w. WritesTerm scope w (sexp_form text c.index-parts-2.result) (tree_of c.in_ok-right.right)) sorted c.in_ok-right.ensures.term in
     let clear2 = clear_more shape form each s.0 s.1 s.2 only (λ at. refl) 1 (sexp_form text c.index-parts-2.result) clear1 g2 (writes_clear right.writes second right.wanted_one) in
     whole_clear shape form each s.0 s.1 s.2 only (λ at. refl) 2 enough (let f = c.if-parts-gt3.false in omega (arith, count, f)) clear2

@@ -7,7 +7,7 @@ use Rattle.goal_reader.specs.Drafts as drafts
 use Rattle.goal_reader.proofs.drafts.add_input.Goals as goal
 
 abbrev put : Draft → List Leaf → List InputReg → Draft
-put d leaves inputs = record { scope = record { declared = d.scope.declared; leaves = leaves }; inputs = inputs; pool = d.pool; assumes = d.assumes; guard = d.guard; sets = d.sets }
+put d leaves inputs = record { scope = record { declared = d.scope.declared; leaves = leaves }; inputs = inputs; pool = d.pool; lets = d.lets; assumes = d.assumes; guard = d.guard; sets = d.sets }
 
 pub returns-clause-next : goal.returns-clause-next
 returns-clause-next c =

@@ -14,7 +14,7 @@ use Rattle.goal_reader.proofs.guards.guard.Goals as goal
 
 pub unreachable-requires : goal.unreachable-requires
 unreachable-requires c =
-    has_parts goal_keywords 3 (sexp_form c.args.text.now c.args.form.now) c.requires.keyword (c.in_default.ensures.parts c.args.text.now)
+    has_parts goal_keywords 4 (sexp_form c.args.text.now c.args.form.now) c.requires.keyword (c.in_default.ensures.parts c.args.text.now)
 
 pub returns-then-parts-lt2-clause-fault : goal.returns-then-parts-lt2-clause-fault
 returns-then-parts-lt2-clause-fault c =

@@ -11,7 +11,7 @@ use Rattle.goal_reader.proofs.targets.target.Goals as goal
 
 pub unreachable-requires : goal.unreachable-requires
 unreachable-requires c =
-    has_parts goal_keywords 4 (sexp_form c.args.text.now c.args.form.now) c.requires.keyword (c.in_default.ensures.parts c.args.text.now)
+    has_parts goal_keywords 5 (sexp_form c.args.text.now c.args.form.now) c.requires.keyword (c.in_default.ensures.parts c.args.text.now)
 
 pub returns-then-parts-lt3-clause-fault : goal.returns-then-parts-lt3-clause-fault
 returns-then-parts-lt3-clause-fault c =

@@ -4,7 +4,7 @@ use Rattle.forms.proofs.Told.{told}
 use Rattle.goal_reader.specs.Roles.{term, IsFaultAs, IsWanted, sort_of_leaf}
 use Rattle.goal_reader.specs.Scopes.{leaf_named}
 use Rattle.goal_reader.proofs.Trees.{tree_of_variable, tree_of_constant}
-use Rattle.goal_reader.proofs.Atoms.{form_first, number_sort_first, unknown_name_first, name_sort_first, lacking_first, number_writes, memory_writes, input_writes, variable_writes}
+use Rattle.goal_reader.proofs.Atoms.{form_first, number_sort_first, unknown_name_first, name_sort_first, lacking_first, number_writes, memory_writes, input_writes, binding_writes, variable_writes}
 use Rattle.goal_reader.proofs.terms.atom.Goals as goal
 
 pub returns-then-not-fits-clause-fault : goal.returns-then-not-fits-clause-fault
@@ -64,6 +64,15 @@ returns-in-Input-clause-term c =
     let named : leaf_named c.args.scope.now.leaves c.in-Some-name.bytes.now ≡ Some c.in-Some-leaf_of.named = ap (λ ls. leaf_named ls c.in-Some-name.bytes.now) (sym c.as_slice.ensures) ∙ sym c.in-Some-leaf_of.ensures in
     let wanted : IsWanted c.args.wanted (sort_of_leaf c.in-Some-leaf_of.named) = subst (IsWanted c.args.wanted) c.sort_of.ensures (c.if-not-fits-2.ensures.0 refl) in
     input_writes c.args.scope.now c.args.wanted form c.in-Some-name.bytes.now c.in-Input.register _ c.in-Some-name.ensures.name (named ∙ ap Some c.in-Input.is) (subst (λ n. IsWanted c.args.wanted (sort_of_leaf n)) c.in-Input.is wanted) (tree_of_constant _ c.new-in-Input.result c.new-in-Input.ensures.items)
+
+pub returns-in-Let-clause-term : goal.returns-in-Let-clause-term
+returns-in-Let-clause-term c =
+    let text = c.args.text.now in
+    let form = sexp_form text c.args.form.now in
+    let s = c.sexps_are_forms.ensures.stands text c.args.form.now c.requires.of in
+    let named : leaf_named c.args.scope.now.leaves c.in-Some-name.bytes.now ≡ Some c.in-Some-leaf_of.named = ap (λ ls. leaf_named ls c.in-Some-name.bytes.now) (sym c.as_slice.ensures) ∙ sym c.in-Some-leaf_of.ensures in
+    let wanted : IsWanted c.args.wanted (sort_of_leaf c.in-Some-leaf_of.named) = subst (IsWanted c.args.wanted) c.sort_of.ensures (c.if-not-fits-2.ensures.0 refl) in
+    binding_writes c.args.scope.now c.args.wanted form c.in-Some-name.bytes.now c.in-Let.n _ _ c.in-Some-name.ensures.name (named ∙ ap Some c.in-Let.is) (subst (λ n. IsWanted c.args.wanted (sort_of_leaf n)) c.in-Let.is wanted) (tree_of_variable c.in-Let.n)
 
 pub returns-in-Variable-clause-term : goal.returns-in-Variable-clause-term
 returns-in-Variable-clause-term c =

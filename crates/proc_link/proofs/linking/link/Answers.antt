@@ -7,7 +7,7 @@ use Rattle.proc_link.specs.Follows.{FollowBlocks}
 use Rattle.proc_link.specs.Linked.{all_instrs, linked}
 use Rattle.proc_link.specs.Placed.{CanBeLinked}
 use Rattle.proc_link.proofs.Fitting.{linked_fit}
-use Rattle.proc_link.proofs.Following.{are_done}
+use Rattle.proc_link.proofs.Following.{are_done, as_they_are}
 use Rattle.proc_link.proofs.LinkedBlocks.{can_be_linked, decode_again}
 use Rattle.proc_link.proofs.linking.link.Goals as goal
 
@@ -39,7 +39,7 @@ returns-clause-decode c =
     ∙ (λ j. c.new-words.ensures.items j ++ map encoded (linked (map block_view (c.as_slice.ensures j)) (all_instrs c.args.listings.now))) in
     ap (map decoded) words
     ∙ decode_again c.words_and_instructions.ensures.back (linked p.blocks (all_instrs c.args.listings.now))
-    (linked_fit p (all_instrs c.args.listings.now) (are_done p c.requires.proc c.args.listings.now c.requires.listings))
+    (linked_fit p (all_instrs c.args.listings.now) (are_done p c.requires.proc (as_they_are p c.goals_without_lets_are_expanded.ensures (c.goals_of_procs_are_well_formed.ensures p c.requires.proc)) c.args.listings.now c.requires.listings))
 
 pub returns-clause-follow : goal.returns-clause-follow
 returns-clause-follow c =

@@ -1,55 +1,49 @@
-use Rattle.std.proofs.Common.{[], ◌∷◌, map, OnOk, option_map, sym, subst}
-use Rattle.std.proofs.lemmas.Result.{on_ok_weaker}
+use Rattle.std.proofs.Common.{[], ◌∷◌, map, sym, subst}
 use Rattle.word_ops.specs.declared.sorts.Op.TheVariants.{Entry}
-use Rattle.word_terms.specs.View.{tree_of}
-use Rattle.goal_meaning.specs.Views.{assume_view, target_view}
-use Rattle.saturation.specs.AtStart.{CanInsertAll}
-use Rattle.saturation.specs.GoalTerms.{entry_term, input_terms, assume_terms, guard_terms, set_terms}
-use Rattle.saturation.specs.Trace.{AreInserted}
-use Rattle.saturation.proofs.StartSteps.{leaf_is, second_of_five, third_of_five, fourth_of_five, fifth_of_five, inserted_append}
+use Rattle.goal_meaning.specs.Expanded.{let_values}
+use Rattle.goal_meaning.specs.Views.{goal_view, let_view}
+use Rattle.saturation.specs.OverLets.{AreInsertedOver, AreLetsInserted, CanInsertAll, CanInsertLets, terms_over_lets}
+use Rattle.saturation.specs.GoalTerms.{entry_term, input_terms}
+use Rattle.saturation.proofs.StartSteps.{entry_can, inputs_can, leaf_is, lets_can, over_append, terms_can}
 use Rattle.saturation.proofs.first_graph.insert_all.Goals as goal
-use Rattle.saturation.proofs.first_graph.insert_all.Goals.{After-as_slice, After-as_slice-2, After-as_slice-3, In_ok-insert_assumes}
+use Rattle.saturation.proofs.first_graph.insert_all.Goals.{After-as_slice, After-as_slice-2, In_ok-lets}
 
-entry_done : (c : After-as_slice) → AreInserted (entry_term ∷ []) c.args.graph.now c.insert_term.new.graph
-entry_done c = subst (λ t. AreInserted (t ∷ []) c.args.graph.now c.insert_term.new.graph) (leaf_is _ Entry _ c.new.ensures.items c.application.ensures.tree) c.in_ok-insert_term.ensures.inserted
+pub insert_term-requires : goal.insert_term-requires
+insert_term-requires c =
+    record { can = subst (λ t. CanInsertAll c.args.graph.now [] (t ∷ [])) (sym (leaf_is _ Entry _ c.new.ensures.items c.application.ensures.tree)) (entry_can (goal_view c.args.goal.now) c.args.graph.now c.requires.can) }
 
-inputs_done : (c : After-as_slice-2) → AreInserted (input_terms c.args.goal.now.inputs) c.insert_term.new.graph c.insert_inputs.new.graph
-inputs_done c = subst (λ xs. AreInserted (input_terms xs) c.insert_term.new.graph c.insert_inputs.new.graph) c.as_slice.ensures c.in_ok-insert_inputs.ensures.inserted
+entry_done : (c : After-as_slice) → AreInsertedOver [] (entry_term ∷ []) c.args.graph.now c.insert_term.new.graph
+entry_done c = subst (λ t. AreInsertedOver [] (t ∷ []) c.args.graph.now c.insert_term.new.graph) (leaf_is _ Entry _ c.new.ensures.items c.application.ensures.tree) c.in_ok-insert_term.ensures.inserted
 
 pub insert_inputs-requires : goal.insert_inputs-requires
 insert_inputs-requires c =
-    let g = c.args.goal.now in
-    let can = second_of_five c.args.graph.now (entry_term ∷ []) (input_terms g.inputs) (assume_terms (map assume_view g.assumes)) (guard_terms (option_map tree_of g.guard)) (set_terms (map target_view g.sets)) c.requires.can (entry_done c) in
-    record { can = subst (λ xs. CanInsertAll c.insert_term.new.graph (input_terms xs)) (sym c.as_slice.ensures) can }
+    record { can = subst (λ xs. CanInsertAll c.insert_term.new.graph [] (input_terms xs)) (sym c.as_slice.ensures) (inputs_can (goal_view c.args.goal.now) c.args.graph.now c.requires.can (entry_done c)) }
 
-pub insert_assumes-requires : goal.insert_assumes-requires
-insert_assumes-requires c =
-    let g = c.args.goal.now in
-    let can = third_of_five c.args.graph.now (entry_term ∷ []) (input_terms g.inputs) (assume_terms (map assume_view g.assumes)) (guard_terms (option_map tree_of g.guard)) (set_terms (map target_view g.sets)) c.requires.can
-    (entry_done (goal.at.insert_assumes-requires c).After-as_slice) (inputs_done c) in
-    record { can = subst (λ xs. CanInsertAll c.insert_inputs.new.graph (assume_terms (map assume_view xs))) (sym c.as_slice-2.ensures) can }
+leaves_done : (c : After-as_slice-2) → AreInsertedOver [] (entry_term ∷ input_terms c.args.goal.now.inputs) c.args.graph.now c.insert_inputs.new.graph
+leaves_done c =
+    over_append [] (entry_done (goal.at.insert_lets-requires c).After-as_slice)
+    (subst (λ xs. AreInsertedOver [] (input_terms xs) c.insert_term.new.graph c.insert_inputs.new.graph) c.as_slice.ensures c.in_ok-insert_inputs.ensures.inserted)
 
-pub insert_guard-requires : goal.insert_guard-requires
-insert_guard-requires c =
-    let g = c.args.goal.now in
-    let assumed = subst (λ xs. AreInserted (assume_terms (map assume_view xs)) c.insert_inputs.new.graph c.insert_assumes.new.graph) c.as_slice-2.ensures c.in_ok-insert_assumes.ensures.inserted in
-    record {
-      can = fourth_of_five c.args.graph.now (entry_term ∷ []) (input_terms g.inputs) (assume_terms (map assume_view g.assumes)) (guard_terms (option_map tree_of g.guard)) (set_terms (map target_view g.sets)) c.requires.can
-          (entry_done (goal.at.insert_guard-requires c).After-as_slice) (inputs_done (goal.at.insert_guard-requires c).After-as_slice-2) assumed;
-    }
+pub insert_lets-requires : goal.insert_lets-requires
+insert_lets-requires c =
+    record { can = subst (λ xs. CanInsertLets c.insert_inputs.new.graph (let_values (map let_view xs))) (sym c.as_slice-2.ensures) (lets_can (goal_view c.args.goal.now) c.args.graph.now c.requires.can c.insert_inputs.new.graph (leaves_done c)) }
 
-pub insert_sets-requires : goal.insert_sets-requires
-insert_sets-requires c =
-    let g = c.args.goal.now in
-    let assumed = subst (λ xs. AreInserted (assume_terms (map assume_view xs)) c.insert_inputs.new.graph c.insert_assumes.new.graph) c.as_slice-2.ensures c.in_ok-insert_assumes.ensures.inserted in
-    let can = fifth_of_five c.args.graph.now (entry_term ∷ []) (input_terms g.inputs) (assume_terms (map assume_view g.assumes)) (guard_terms (option_map tree_of g.guard)) (set_terms (map target_view g.sets)) c.requires.can
-    (entry_done (goal.at.insert_sets-requires c).After-as_slice) (inputs_done (goal.at.insert_sets-requires c).After-as_slice-2) assumed c.in_ok-insert_guard.ensures.inserted in
-    record { can = subst (λ xs. CanInsertAll c.insert_guard.new.graph (set_terms (map target_view xs))) (sym c.as_slice-3.ensures) can }
+lets_done : (c : In_ok-lets) → AreLetsInserted [] (let_values (goal_view c.args.goal.now).lets) c.insert_inputs.new.graph c.in_ok-lets.lets.items c.insert_lets.new.graph
+lets_done c = subst (λ xs. AreLetsInserted [] (let_values (map let_view xs)) c.insert_inputs.new.graph c.in_ok-lets.lets.items c.insert_lets.new.graph) c.as_slice-2.ensures c.in_ok-lets.ensures.inserted
+
+pub insert_terms-requires : goal.insert_terms-requires
+insert_terms-requires c =
+    let can = terms_can (goal_view c.args.goal.now) c.args.graph.now c.requires.can c.insert_inputs.new.graph (leaves_done (goal.at.insert_terms-requires c).After-as_slice-2) c.insert_lets.new.graph c.in_ok-lets.lets.items
+    (lets_done (goal.at.insert_terms-requires c).In_ok-lets) in
+    record { can = subst (λ ls. CanInsertAll c.insert_lets.new.graph ls (terms_over_lets (goal_view c.args.goal.now))) (sym c.deref.ensures.value) can }
 
 pub returns : goal.returns
-returns c =
-    let g = c.args.goal.now in
-    let assumed = subst (λ xs. AreInserted (assume_terms (map assume_view xs)) c.insert_inputs.new.graph c.insert_assumes.new.graph) c.as_slice-2.ensures c.in_ok-insert_assumes.ensures.inserted in
-    let before = inserted_append (inserted_append (inserted_append (entry_done (goal.at.returns c).After-as_slice) (inputs_done (goal.at.returns c).After-as_slice-2)) assumed) c.in_ok-insert_guard.ensures.inserted in
-    let last = subst (λ xs. OnOk c.insert_sets.result (AreInserted (set_terms (map target_view xs)) c.insert_guard.new.graph c.insert_sets.new.graph)) c.as_slice-3.ensures c.insert_sets.ensures.inserted in
-    record { inserted = on_ok_weaker c.insert_sets.result (inserted_append before) last }
+returns c = record {
+  inserted = record {
+    first = c.insert_inputs.new.graph;
+    second = c.insert_lets.new.graph;
+    leaves = leaves_done (goal.at.returns c).After-as_slice-2;
+    named = lets_done (goal.at.returns c).In_ok-lets;
+    terms = subst (λ ls. AreInsertedOver ls (terms_over_lets (goal_view c.args.goal.now)) c.insert_lets.new.graph c.insert_terms.new.graph) c.deref.ensures.value c.in_ok-insert_terms.ensures.inserted;
+  };
+}
