@@ -1,17 +1,18 @@
 -- A word's instruction has that word, and an instruction's word has that instruction.
-use Rattle.std.proofs.Common.{◌≡◌, ℕ, ◌/◌, ◌%◌, ◌^◌, ◌<◌, pos, negsuc, List, [], ◌∷◌, Bool, true, false, ◌&&◌, cond, if◌then◌else◌, ◌==◌, Option, Some, None, MatchOption, IsSome, IsTrue, IfSome, IfNone, ◌≢◌, find, refl, sym, ap, ap₂, subst, ◌∙◌, arith, rules}
+use Rattle.std.proofs.Common.{◌≡◌, ℕ, ◌/◌, ◌%◌, ◌^◌, ◌<◌, ℤ, pos, negsuc, FitsSigned, List, [], ◌∷◌, Bool, true, false, cond, if◌then◌else◌, ◌==◌, Option, Some, None, MatchOption, IsTrue, IfSome, IfNone, ◌≢◌, find, refl, sym, ap, ap₂, subst, ◌∙◌, arith, rules}
 use Rattle.std.proofs.lemmas.Bool.{false≢true}
 use Rattle.std.proofs.lemmas.Bool.Decides.{nat_tests}
-use Rattle.std.specs.Option.{option_map, option_and_then, option_map_or}
+use Rattle.std.specs.Int.{w16}
+use Rattle.std.specs.Option.{option_map, option_and_then}
 use Rattle.word_ops.specs.declared.operates.Operate.{Operate as OperateOf}
 use Rattle.word_ops.specs.declared.sorts.Access.TheVariants.{Quad}
 use Rattle.word_ops.specs.Operates.{operates, code_of, has_code}
 use Rattle.alpha_encode.specs.declared.instructions.Second.{Second}
 use Rattle.alpha_encode.specs.declared.instructions.Second.TheVariants.{Reg, Literal}
 use Rattle.alpha_encode.specs.declared.instructions.Instr.{Instr}
-use Rattle.alpha_encode.specs.declared.instructions.Instr.TheVariants.{Operate, Lda, Ldah, Load, Store, Beq}
-use Rattle.alpha_encode.specs.Codes.{operate_of, is_unary}
-use Rattle.alpha_encode.specs.Formats.{IsWellFormed, IsSecond, operate_word, second_bits, encoded}
+use Rattle.alpha_encode.specs.declared.instructions.Instr.TheVariants.{Operate, Lda, Ldah, Load, Store, Ldq, Stq, Beq}
+use Rattle.alpha_encode.specs.Codes.{lda_opcode, ldah_opcode, load_opcode, store_opcode, ldq_opcode, stq_opcode, operate_of, is_unary}
+use Rattle.alpha_encode.specs.Formats.{IsWellFormed, IsSecond, bits_of, operate_word, second_bits, memory_word, encoded}
 use Rattle.alpha_encode.specs.Decoded.{field, opcode, ra, rb, displacement, branch_displacement, second, allows_ra, operate_with, operate, decoded}
 use Rattle.alpha_encode.proofs.CodeSearch.{IsOperateCode, code_in_range, find-own_code}
 
@@ -39,7 +40,7 @@ operate_fields o r s f c ho hr hs hf hc = record {
 }
 
 -- a word whose opcode is that of an operate
-decoded-operate : (word : ℕ) → 15 < opcode word → opcode word < 57 → decoded word ≡ operate word
+decoded-operate : (word : ℕ) → 15 < opcode word → opcode word < 41 → decoded word ≡ operate word
 decoded-operate word l h = grind (arith, nat_tests)
 
 second_back : (word o r f c : ℕ) (s : Second) → IsSecond s → AreFields word o r (second_bits s) f c → second word ≡ Some s
@@ -71,13 +72,40 @@ operate_back op code r s c ranges own hr hs hc unary =
     ∙ ap (λ b. built op b r (field word 0 5) (second word)) (allowed op r unary)
     ∙ ap₂ (λ n o. built op true r n o) e.rc_is (second_back word code.0 r code.1 c s hs e)
 
+displacement_back : (o r b : ℕ) (d : ℤ) → FitsSigned w16 d → displacement (memory_word o r b d) ≡ d
+displacement_back o r b (pos n) h = grind (arith, nat_tests)
+displacement_back o r b (negsuc n) h = grind (arith, nat_tests)
+
+-- a load's, a store's or an address's word has that instruction, where its opcode tells this
+memory_back : (k : ℕ → ℕ → ℤ → Instr) (o r b : ℕ) (d : ℤ) →
+    ((word : ℕ) → opcode word ≡ o → decoded word ≡ Some (k (ra word) (rb word) (displacement word))) →
+    o < 64 → (r < 32) × (b < 32) × FitsSigned w16 d → decoded (memory_word o r b d) ≡ Some (k r b d)
+memory_back k o r b d tells ho h =
+    let word : ℕ = memory_word o r b d in
+    let low : bits_of 16 d < 2 ^ 16 = bits_fit d h.2 in
+    let first : opcode word ≡ o = omega (arith, h.0, h.1) in
+    let second : ra word ≡ r = omega (arith, h.0, h.1) in
+    let third : rb word ≡ b = omega (arith, h.0, h.1) in
+    tells word first
+    ∙ ap (λ n. Some (k n (rb word) (displacement word))) second
+    ∙ ap (λ n. Some (k r n (displacement word))) third
+    ∙ ap (λ z. Some (k r b z)) (displacement_back o r b d h.2)
+  where
+    bits_fit : (d : ℤ) → FitsSigned w16 d → bits_of 16 d < 2 ^ 16
+    bits_fit (pos n) h = omega arith
+    bits_fit (negsuc n) h = omega arith
+
 -- an instruction's word has that instruction
 pub decoded_encoded : (i : Instr) → IsWellFormed i → decoded (encoded i) ≡ Some i
 decoded_encoded (Operate op ra second rc) h = operate_back op (code_of op) ra second rc (code_in_range op) (find-own_code op) h.0 h.1 h.2 h.3
-decoded_encoded (Lda ra rb disp) h = search rules
-decoded_encoded (Ldah ra rb disp) h = search rules
-decoded_encoded (Load Quad ra rb disp) h = search rules
-decoded_encoded (Store Quad ra rb disp) h = search rules
+decoded_encoded (Lda ra rb disp) h = memory_back Lda lda_opcode ra rb disp (λ word e. rw e) (omega arith) h
+decoded_encoded (Ldah ra rb disp) h = memory_back Ldah ldah_opcode ra rb disp (λ word e. rw e) (omega arith) h
+decoded_encoded (Load Quad ra rb disp) h =
+    memory_back (Load Quad) (load_opcode Quad) ra rb disp (λ word e. rw e) (omega arith) h
+decoded_encoded (Store Quad ra rb disp) h =
+    memory_back (Store Quad) (store_opcode Quad) ra rb disp (λ word e. rw e) (omega arith) h
+decoded_encoded (Ldq ra rb disp) h = memory_back Ldq ldq_opcode ra rb disp (λ word e. rw e) (omega arith) h
+decoded_encoded (Stq ra rb disp) h = memory_back Stq stq_opcode ra rb disp (λ word e. rw e) (omega arith) h
 decoded_encoded (Beq ra (pos n)) h = grind (arith, nat_tests)
 decoded_encoded (Beq ra (negsuc n)) h = grind (arith, nat_tests)
 
@@ -100,6 +128,14 @@ ldq_u_sound word h e = search rules
 
 stq_u_sound : (word : ℕ) → word < 2 ^ 32 → (opcode word == 0x0F) ≡ true → IsSound word (Some (Store Quad (ra word) (rb word) (displacement word)))
 stq_u_sound word h e = search rules
+
+ldq_sound : (word : ℕ) → word < 2 ^ 32 → (opcode word == 0x29) ≡ true →
+    IsSound word (Some (Ldq (ra word) (rb word) (displacement word)))
+ldq_sound word h e = search rules
+
+stq_sound : (word : ℕ) → word < 2 ^ 32 → (opcode word == 0x2D) ≡ true →
+    IsSound word (Some (Stq (ra word) (rb word) (displacement word)))
+stq_sound word h e = search rules
 
 beq_sound : (word : ℕ) → word < 2 ^ 32 → (opcode word == 0x39) ≡ true → IsSound word (Some (Beq (ra word) (branch_displacement word)))
 beq_sound word h e = search rules
@@ -176,8 +212,10 @@ sound word h =
     choose (IsSound word) _ _ _ (ldah_sound word h) (λ _.
     choose (IsSound word) _ _ _ (ldq_u_sound word h) (λ _.
     choose (IsSound word) _ _ _ (stq_u_sound word h) (λ _.
+    choose (IsSound word) _ _ _ (ldq_sound word h) (λ _.
+    choose (IsSound word) _ _ _ (stq_sound word h) (λ _.
     choose (IsSound word) _ _ _ (beq_sound word h) (λ _.
-    operate_sound word h)))))
+    operate_sound word h)))))))
 
 -- a word that has no instruction is none's
 pub none_sound : (word : ℕ) → decoded word ≡ None → (i : Instr) → IsWellFormed i → encoded i ≡ word → ⊥

@@ -18,6 +18,12 @@ load_opcode Quad = 0x0B
 abbrev pub store_opcode : Access → ℕ
 store_opcode Quad = 0x0F
 
+abbrev pub ldq_opcode : ℕ
+ldq_opcode = 0x29
+
+abbrev pub stq_opcode : ℕ
+stq_opcode = 0x2D
+
 abbrev pub beq_opcode : ℕ
 beq_opcode = 0x39
 

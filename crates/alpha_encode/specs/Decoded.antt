@@ -8,8 +8,8 @@ use Rattle.word_ops.specs.declared.sorts.Access.TheVariants.{Quad}
 use Rattle.alpha_encode.specs.declared.instructions.Second.{Second}
 use Rattle.alpha_encode.specs.declared.instructions.Second.TheVariants.{Reg, Literal}
 use Rattle.alpha_encode.specs.declared.instructions.Instr.{Instr}
-use Rattle.alpha_encode.specs.declared.instructions.Instr.TheVariants.{Operate, Lda, Ldah, Load, Store, Beq}
-use Rattle.alpha_encode.specs.Codes.{lda_opcode, ldah_opcode, load_opcode, store_opcode, beq_opcode, operate_of, is_unary}
+use Rattle.alpha_encode.specs.declared.instructions.Instr.TheVariants.{Operate, Lda, Ldah, Load, Store, Ldq, Stq, Beq}
+use Rattle.alpha_encode.specs.Codes.{lda_opcode, ldah_opcode, load_opcode, store_opcode, ldq_opcode, stq_opcode, beq_opcode, operate_of, is_unary}
 
 -- the field of some width whose lowest bit is `low`
 abbrev pub field : ℕ → ℕ → ℕ → ℕ
@@ -57,5 +57,7 @@ decoded word =
     (if opcode word == ldah_opcode then Some (Ldah (ra word) (rb word) (displacement word)) else
     (if opcode word == load_opcode Quad then Some (Load Quad (ra word) (rb word) (displacement word)) else
     (if opcode word == store_opcode Quad then Some (Store Quad (ra word) (rb word) (displacement word)) else
+    (if opcode word == ldq_opcode then Some (Ldq (ra word) (rb word) (displacement word)) else
+    (if opcode word == stq_opcode then Some (Stq (ra word) (rb word) (displacement word)) else
     (if opcode word == beq_opcode then Some (Beq (ra word) (branch_displacement word)) else
-    operate word))))
+    operate word))))))

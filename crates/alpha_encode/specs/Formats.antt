@@ -6,8 +6,8 @@ use Rattle.word_ops.specs.Operates.{code_of}
 use Rattle.alpha_encode.specs.declared.instructions.Second.{Second}
 use Rattle.alpha_encode.specs.declared.instructions.Second.TheVariants.{Reg, Literal}
 use Rattle.alpha_encode.specs.declared.instructions.Instr.{Instr}
-use Rattle.alpha_encode.specs.declared.instructions.Instr.TheVariants.{Operate, Lda, Ldah, Load, Store, Beq}
-use Rattle.alpha_encode.specs.Codes.{lda_opcode, ldah_opcode, load_opcode, store_opcode, beq_opcode, is_unary}
+use Rattle.alpha_encode.specs.declared.instructions.Instr.TheVariants.{Operate, Lda, Ldah, Load, Store, Ldq, Stq, Beq}
+use Rattle.alpha_encode.specs.Codes.{lda_opcode, ldah_opcode, load_opcode, store_opcode, ldq_opcode, stq_opcode, beq_opcode, is_unary}
 
 -- the number fits in k bits of two's complement
 abbrev pub FitsBits : ℕ → ℤ → Type 0
@@ -27,6 +27,8 @@ IsWellFormed (Lda ra rb disp) = (ra < 32) × (rb < 32) × FitsSigned w16 disp
 IsWellFormed (Ldah ra rb disp) = (ra < 32) × (rb < 32) × FitsSigned w16 disp
 IsWellFormed (Load access ra rb disp) = (ra < 32) × (rb < 32) × FitsSigned w16 disp
 IsWellFormed (Store access ra rb disp) = (ra < 32) × (rb < 32) × FitsSigned w16 disp
+IsWellFormed (Ldq ra rb disp) = (ra < 32) × (rb < 32) × FitsSigned w16 disp
+IsWellFormed (Stq ra rb disp) = (ra < 32) × (rb < 32) × FitsSigned w16 disp
 IsWellFormed (Beq ra disp) = (ra < 32) × FitsBits 21 disp
 
 -- the k bits of a number in two's complement
@@ -58,4 +60,6 @@ encoded (Lda ra rb disp) = memory_word lda_opcode ra rb disp
 encoded (Ldah ra rb disp) = memory_word ldah_opcode ra rb disp
 encoded (Load access ra rb disp) = memory_word (load_opcode access) ra rb disp
 encoded (Store access ra rb disp) = memory_word (store_opcode access) ra rb disp
+encoded (Ldq ra rb disp) = memory_word ldq_opcode ra rb disp
+encoded (Stq ra rb disp) = memory_word stq_opcode ra rb disp
 encoded (Beq ra disp) = branch_word beq_opcode ra disp

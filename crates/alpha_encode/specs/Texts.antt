@@ -8,7 +8,7 @@ use Rattle.word_ops.specs.declared.sorts.Access.TheVariants.{Quad}
 use Rattle.alpha_encode.specs.declared.instructions.Second.{Second}
 use Rattle.alpha_encode.specs.declared.instructions.Second.TheVariants.{Reg, Literal}
 use Rattle.alpha_encode.specs.declared.instructions.Instr.{Instr}
-use Rattle.alpha_encode.specs.declared.instructions.Instr.TheVariants.{Operate, Lda, Ldah, Load, Store, Beq}
+use Rattle.alpha_encode.specs.declared.instructions.Instr.TheVariants.{Operate, Lda, Ldah, Load, Store, Ldq, Stq, Beq}
 use Rattle.alpha_encode.specs.Codes.{is_unary}
 
 abbrev pub register : ℕ → List ℕ
@@ -48,4 +48,6 @@ text_of (Lda ra rb disp) = memory_text (codes "lda ") ra rb disp
 text_of (Ldah ra rb disp) = memory_text (codes "ldah ") ra rb disp
 text_of (Load access ra rb disp) = memory_text (load_mnemonic access) ra rb disp
 text_of (Store access ra rb disp) = memory_text (store_mnemonic access) ra rb disp
+text_of (Ldq ra rb disp) = memory_text (codes "ldq ") ra rb disp
+text_of (Stq ra rb disp) = memory_text (codes "stq ") ra rb disp
 text_of (Beq ra disp) = branch_text ra disp

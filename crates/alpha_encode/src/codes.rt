@@ -12,6 +12,10 @@ pub(crate) const LDQ_U: u32 = 0x0b;
 
 pub(crate) const STQ_U: u32 = 0x0f;
 
+pub(crate) const LDQ: u32 = 0x29;
+
+pub(crate) const STQ: u32 = 0x2d;
+
 pub(crate) const BEQ: u32 = 0x39;
 
 pub(crate) fn load_opcode(access: Access) -> u32

@@ -4,7 +4,7 @@ ghost use Rattle.alpha_encode.specs.Formats.{IsWellFormed, encoded};
 ghost use Rattle.alpha_encode.specs.Decoded as decoding;
 ghost use Rattle.alpha_encode.specs.declared.instructions.Instr.{Instr as Instruction};
 
-use crate::codes::{BEQ, LDA, LDAH, LDQ_U, STQ_U};
+use crate::codes::{BEQ, LDA, LDAH, LDQ, LDQ_U, STQ, STQ_U};
 use crate::instructions::{Instr, Second};
 use word_ops::{Access, Operate};
 
@@ -32,6 +32,8 @@ pub fn decode(word: u32) -> Option<Instr>
             rb,
             disp,
         }),
+        LDQ => Some(Instr::Ldq { ra, rb, disp }),
+        STQ => Some(Instr::Stq { ra, rb, disp }),
         BEQ => Some(Instr::Beq {
             ra,
             disp: branch_displacement(word),

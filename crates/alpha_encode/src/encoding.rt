@@ -4,7 +4,7 @@ ghost use Rattle.word_ops.specs.Operates.{code_of};
 ghost use Rattle.alpha_encode.specs.Formats.{IsWellFormed, IsSecond, FitsBits, encoded, operate_word, second_bits, memory_word, branch_word};
 ghost use Rattle.alpha_encode.specs.Decoded.{decoded};
 
-use crate::codes::{BEQ, LDA, LDAH, load_opcode, store_opcode};
+use crate::codes::{BEQ, LDA, LDAH, LDQ, STQ, load_opcode, store_opcode};
 use crate::instructions::{Instr, Second};
 use word_ops::Operate;
 
@@ -30,6 +30,8 @@ pub fn encode(instr: Instr) -> u32
             rb,
             disp,
         } => memory(store_opcode(access), ra, rb, disp),
+        Instr::Ldq { ra, rb, disp } => memory(LDQ, ra, rb, disp),
+        Instr::Stq { ra, rb, disp } => memory(STQ, ra, rb, disp),
         Instr::Beq { ra, disp } => branch(BEQ, ra, disp),
     }
 }

@@ -40,6 +40,18 @@ pub enum Instr {
         rb: u8,
         disp: i16,
     },
+    /// A load of the word at an address that is a multiple of 8.
+    Ldq {
+        ra: u8,
+        rb: u8,
+        disp: i16,
+    },
+    /// A store of a word at such an address.
+    Stq {
+        ra: u8,
+        rb: u8,
+        disp: i16,
+    },
     Beq {
         ra: u8,
         disp: i32,

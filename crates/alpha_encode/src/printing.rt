@@ -30,6 +30,8 @@ pub fn text(alloc: Global, instr: Instr) -> Result<Vec<u8>, NoMemory>
             rb,
             disp,
         } => push_memory(&mut text, b"stq_u ", ra, rb, disp)?,
+        Instr::Ldq { ra, rb, disp } => push_memory(&mut text, b"ldq ", ra, rb, disp)?,
+        Instr::Stq { ra, rb, disp } => push_memory(&mut text, b"stq ", ra, rb, disp)?,
         Instr::Beq { ra, disp } => push_branch(&mut text, ra, disp)?,
     }
     Ok(text)

@@ -1,4 +1,3 @@
 pub mod Displacements
-pub mod Outcomes
 pub mod Standing
 pub mod StepsOfRuns

@@ -1,20 +1,25 @@
 -- Why a word or a list of words isn't executed, and what is left then.
 -- Source: this project.
-use Rattle.std.specs.Prelude.{◌≡◌, ℕ, ◌/◌, ◌<◌, List, length, map, slice_get, Some, None, IsSomeAnd}
+use Rattle.std.specs.Prelude.{◌≡◌, ℕ, ◌<◌, List, length, map, Some, None, IsSomeAnd, IsTrue, IsFalse}
 use Rattle.alpha_encode.specs.Decoded.{decoded}
 use Rattle.alpha_encode.specs.declared.instructions.Instr.{Instr}
 use Rattle.alpha_machine.specs.States.{MachineState}
-use Rattle.alpha_machine.specs.Steps.{TakesMemory}
-use Rattle.alpha_machine.specs.Runs.{after, AllMayStand, IsFirstBad}
+use Rattle.alpha_machine.specs.Steps.{TakesMemory, traps}
+use Rattle.alpha_machine.specs.Runs.{after, fetched, AllMayStand, IsFirstBad}
 use Rattle.alpha_machine.specs.declared.stepping.StepFault.{StepFault}
 use Rattle.alpha_machine.specs.declared.stepping.StepFault.TheVariants as step_faults
 use Rattle.alpha_machine.specs.declared.running.RunFault.{RunFault}
 use Rattle.alpha_machine.specs.declared.running.RunFault.TheVariants as run_faults
 
--- the word is no instruction, or a store for which there is no memory; the state stays
+-- it doesn't trap, and takes memory of the host
+abbrev pub MayLackMemory : MachineState → Instr → Type 0
+MayLackMemory s instr = IsFalse (traps instr s) × TakesMemory instr s
+
+-- the word is no instruction, or one that traps, or a store for which there is no memory; the state stays
 abbrev pub IsStepRefused : ℕ → MachineState → MachineState → StepFault → Type 0
 IsStepRefused word old new step_faults.NotWord = (decoded word ≡ None) × (new ≡ old)
-IsStepRefused word old new step_faults.Memory = IsSomeAnd (decoded word) (λ instr. TakesMemory instr old) × (new ≡ old)
+IsStepRefused word old new step_faults.Trap = IsSomeAnd (decoded word) (λ instr. IsTrue (traps instr old)) × (new ≡ old)
+IsStepRefused word old new step_faults.Memory = IsSomeAnd (decoded word) (MayLackMemory old) × (new ≡ old)
 
 -- fewer steps than there are words lead to this state, and a store comes next
 pub record IsBeforeStore (words : List ℕ) (start state : MachineState) : Type 0 where
@@ -23,7 +28,7 @@ pub record IsBeforeStore (words : List ℕ) (start state : MachineState) : Type 
   pub count : ℕ
   pub fewer : count < length words
   pub steps : after count instrs start ≡ state
-  pub next : IsSomeAnd (slice_get instrs (state.pc / 4)) (λ instr. TakesMemory instr state)
+  pub next : IsSomeAnd (fetched instrs state) (MayLackMemory state)
 
 -- a word may not stand where it does, and no step was made; or there is no memory for a store
 abbrev pub IsRunRefused : List ℕ → MachineState → MachineState → RunFault → Type 0

@@ -4,7 +4,7 @@ ghost use Rattle.alpha_machine.specs.Runs.{Runs, MayStandAt, AllMayStand, IsFirs
 ghost use Rattle.alpha_machine.specs.Refusals.{IsRunRefused};
 
 use crate::states::State;
-use crate::stepping::step;
+use crate::stepping::{StepFault, step};
 use alpha_encode::{Instr, decode};
 use thiserror::Error;
 
@@ -15,6 +15,8 @@ pub enum End {
     Fall,
     /// One word further: a branch was taken.
     Exit,
+    /// Before a word that traps.
+    Trap,
 }
 
 /// Why words weren't run.
@@ -56,7 +58,7 @@ fn first_bad(words: &[u32]) -> Option<u32>
 }
 
 /// Runs the words, which stand from address 0 on. A word that isn't allowed is found before the first step. Each word
-/// is executed at most once, since every branch leads past the words.
+/// is executed at most once, since every branch leads past the words. A word that traps isn't executed.
 pub fn run(words: &[u32], state: &mut State) -> Result<End, RunFault>
     requires few { length words.now < 2 ^ 29 }
     requires start { state.old.pc ≡ 0 }
@@ -72,9 +74,12 @@ pub fn run(words: &[u32], state: &mut State) -> Result<End, RunFault>
     }
     let fall = 4 * words.len() as u64;
     for word in words {
-        // Each word is an instruction, so memory alone can be missing.
-        if step(state, *word).is_err() {
-            return Err(RunFault::Memory);
+        match step(state, *word) {
+            Ok(()) => {}
+            Err(StepFault::Trap) => return Ok(End::Trap),
+            Err(StepFault::Memory) => return Err(RunFault::Memory),
+            // Each word is an instruction.
+            Err(StepFault::NotWord) => unreachable!(),
         }
         if state.pc() > fall {
             return Ok(End::Exit);

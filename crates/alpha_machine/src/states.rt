@@ -1,5 +1,5 @@
 // The state of the machine, and what each kind of instruction does to it.
-ghost use Rattle.std.specs.Prelude.{◌≡◌, ◌<◌, slice_index, All, OnOk, OnErr};
+ghost use Rattle.std.specs.Prelude.{◌≡◌, ◌≢◌, ◌<◌, slice_index, All, OnOk, OnErr};
 ghost use Rattle.alpha_encode.specs.Formats.{IsWellFormed, IsSecond};
 ghost use Rattle.alpha_encode.specs.declared.instructions.Instr.TheVariants as instructions;
 ghost use Rattle.word_ops.specs.Words.{IsWord};
@@ -70,7 +70,19 @@ impl State {
         self.pc
     }
 
-    /// Does what the instruction does. Only a store of a word that isn't 0 takes memory.
+    /// Whether the instruction traps. A load to register 31 is a prefetch, which never does.
+    pub(crate) fn traps(&self, instr: Instr) -> bool
+        requires { IsWellFormed instr }
+        ensures { result ≡ steps.traps instr self.now }
+    {
+        match instr {
+            Instr::Ldq { ra, rb, disp } => ra != 31 && !self.is_aligned(rb, disp),
+            Instr::Stq { rb, disp, .. } => !self.is_aligned(rb, disp),
+            _ => false,
+        }
+    }
+
+    /// Does what the instruction does, where it doesn't trap. Only a store of a word that isn't 0 takes memory.
     pub(crate) fn execute(&mut self, instr: Instr) -> Result<(), NoMemory>
         requires { IsWellFormed instr }
         ensures ok { OnOk result (self.new ≡ steps.step instr self.old) }
@@ -92,6 +104,8 @@ impl State {
                 rb,
                 disp,
             } => return self.store(access, ra, rb, disp),
+            Instr::Ldq { ra, rb, disp } => self.load(Access::Quad, ra, rb, disp),
+            Instr::Stq { ra, rb, disp } => return self.store(Access::Quad, ra, rb, disp),
             Instr::Beq { ra, disp } => self.branch(ra, disp),
         }
         Ok(())
@@ -130,9 +144,9 @@ impl State {
     fn load(&mut self, access: Access, ra: u8, rb: u8, disp: i16)
         requires ra { ra < 32 }
         requires rb { rb < 32 }
-        ensures { self.new ≡ steps.step (instructions.Load access ra rb disp) self.old }
+        ensures { self.new ≡ steps.with_loaded access ra rb disp self.old }
     {
-        let address = address(self.register(rb), 1, i64::from(disp));
+        let address = self.place_of(rb, disp);
         let value = match access {
             Access::Quad => self.memory.get(address / 8),
         };
@@ -143,10 +157,10 @@ impl State {
     fn store(&mut self, access: Access, ra: u8, rb: u8, disp: i16) -> Result<(), NoMemory>
         requires ra { ra < 32 }
         requires rb { rb < 32 }
-        ensures ok { OnOk result (self.new ≡ steps.step (instructions.Store access ra rb disp) self.old) }
-        ensures err { OnErr result ((self.new ≡ self.old) × steps.TakesMemory (instructions.Store access ra rb disp) self.old) }
+        ensures ok { OnOk result (self.new ≡ steps.with_stored access ra rb disp self.old) }
+        ensures err { OnErr result ((self.new ≡ self.old) × (slice_index self.old.registers ra ≢ 0)) }
     {
-        let address = address(self.register(rb), 1, i64::from(disp));
+        let address = self.place_of(rb, disp);
         let value = self.register(ra);
         match access {
             Access::Quad => self.memory.set(address / 8, value)?,
@@ -166,6 +180,21 @@ impl State {
         } else {
             next
         };
+    }
+
+    // The address of a load or a store.
+    fn place_of(&self, rb: u8, disp: i16) -> u64
+        requires { rb < 32 }
+        ensures { result ≡ steps.place_of self.now rb disp }
+    {
+        address(self.register(rb), 1, i64::from(disp))
+    }
+
+    fn is_aligned(&self, rb: u8, disp: i16) -> bool
+        requires { rb < 32 }
+        ensures { result ≡ steps.is_multiple_of_8 (steps.place_of self.now rb disp) }
+    {
+        self.place_of(rb, disp) % 8 == 0
     }
 
     fn second(&self, second: Second) -> u64

@@ -29,6 +29,7 @@ fn put_unknown(
     put_number(report, u64::from(rounds))?;
     put(report, stop)?;
     match part {
+        Part::Trap(at) => put_numbers(report, b"trap", &[u64::from(at)]),
         Part::Guard => put(report, b"guard\n"),
         Part::Exit => put(report, b"exit\n"),
         Part::Memory => put(report, b"memory\n"),

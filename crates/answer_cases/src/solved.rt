@@ -44,6 +44,7 @@ fn put_run(
             }
         }
         Ok(End::Exit) => put(report, b"exit")?,
+        Ok(End::Trap) => put(report, b"trap")?,
         Err(_) => return Err(Trouble::Unread),
     }
     put_memory(report, state.memory())

@@ -13,7 +13,7 @@ use Rattle.alpha_encode.specs.Decoded.{decoded}
 use Rattle.alpha_encode.specs.Formats.{FitsBits, IsSecond, IsWellFormed, encoded}
 use Rattle.alpha_encode.specs.Texts.{register, second_text}
 use Rattle.alpha_encode.specs.declared.instructions.Instr.{Instr}
-use Rattle.alpha_encode.specs.declared.instructions.Instr.TheVariants.{Operate, Lda, Ldah, Load, Store, Beq}
+use Rattle.alpha_encode.specs.declared.instructions.Instr.TheVariants.{Operate, Lda, Ldah, Load, Store, Ldq, Stq, Beq}
 use Rattle.alpha_encode.specs.declared.instructions.Second.{Second}
 use Rattle.alpha_encode.specs.declared.instructions.Second.TheVariants.{Reg, Literal}
 use Rattle.text_core.specs.LineTexts.{Words, CanBeLine}
@@ -168,6 +168,12 @@ module _ (number : NumbersAreWords) (listed : OperatorsAreListed) where
       (signed_word disp (of_sixteen disp is.2))
   instr_line_words (Store access ra rb disp) is =
       disp_words (instr_name (kinds.Store access)) ra rb disp (store_word access) is.0 is.1
+      (signed_word disp (of_sixteen disp is.2))
+  instr_line_words (Ldq ra rb disp) is =
+      disp_words (codes "ldq") ra rb disp (record { some = λ e. cc; printed = refl }) is.0 is.1
+      (signed_word disp (of_sixteen disp is.2))
+  instr_line_words (Stq ra rb disp) is =
+      disp_words (codes "stq") ra rb disp (record { some = λ e. cc; printed = refl }) is.0 is.1
       (signed_word disp (of_sixteen disp is.2))
   instr_line_words (Beq ra disp) is =
       a_word (record { some = λ e. cc; printed = refl })

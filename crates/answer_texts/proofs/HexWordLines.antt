@@ -5,7 +5,7 @@ use Rattle.std.proofs.lemmas.Bool.{false≢true}
 use Rattle.std.proofs.lemmas.List.Elements.{All-nil, All-cons, All-head}
 use Rattle.alpha_encode.specs.Decoded.{decoded}
 use Rattle.alpha_encode.specs.declared.instructions.Instr.{Instr}
-use Rattle.alpha_encode.specs.declared.instructions.Instr.TheVariants.{Operate, Lda, Ldah, Load, Store, Beq}
+use Rattle.alpha_encode.specs.declared.instructions.Instr.TheVariants.{Operate, Lda, Ldah, Load, Store, Ldq, Stq, Beq}
 use Rattle.text_core.specs.LineTexts.{Words}
 use Rattle.answer_texts.specs.AnswerLines.{hex_text, instr_words, text_words, word_words}
 use Rattle.answer_texts.specs.AnswerParts.{AreCodes}
@@ -27,6 +27,8 @@ some_words (Lda ra rb disp) = omega arith
 some_words (Ldah ra rb disp) = omega arith
 some_words (Load access ra rb disp) = omega arith
 some_words (Store access ra rb disp) = omega arith
+some_words (Ldq ra rb disp) = omega arith
+some_words (Stq ra rb disp) = omega arith
 some_words (Beq ra disp) = omega arith
 
 some_text : (o : Option Instr) → IsTrue (is_some o) → 1 ≤ length (text_words o)

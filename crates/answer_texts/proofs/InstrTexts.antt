@@ -4,7 +4,7 @@ use Rattle.std.specs.Fmt.{signed_decimal}
 use Rattle.alpha_encode.specs.Codes.{is_unary}
 use Rattle.alpha_encode.specs.Texts.{register, second_text, text_of, memory_text}
 use Rattle.alpha_encode.specs.declared.instructions.Instr.{Instr}
-use Rattle.alpha_encode.specs.declared.instructions.Instr.TheVariants.{Operate, Lda, Ldah, Load, Store, Beq}
+use Rattle.alpha_encode.specs.declared.instructions.Instr.TheVariants.{Operate, Lda, Ldah, Load, Store, Ldq, Stq, Beq}
 use Rattle.launch_graph.specs.LineParts.{words_behind}
 use Rattle.word_ops.specs.Operates.{row_of}
 use Rattle.word_ops.specs.declared.operates.Operate.{Operate as OperateOf}
@@ -65,6 +65,8 @@ instr_text (Lda ra rb disp) = disp_behind (codes "lda") (codes "lda ") ra rb dis
 instr_text (Ldah ra rb disp) = disp_behind (codes "ldah") (codes "ldah ") ra rb disp refl
 instr_text (Load Quad ra rb disp) = disp_behind (codes "ldq_u") (codes "ldq_u ") ra rb disp refl
 instr_text (Store Quad ra rb disp) = disp_behind (codes "stq_u") (codes "stq_u ") ra rb disp refl
+instr_text (Ldq ra rb disp) = disp_behind (codes "ldq") (codes "ldq ") ra rb disp refl
+instr_text (Stq ra rb disp) = disp_behind (codes "stq") (codes "stq ") ra rb disp refl
 instr_text (Beq ra disp) =
     ap (λ t. codes " " ++ (codes "beq " ++ t)) (last_word (register ra) (signed_decimal disp))
     ∙ sym (ap (λ t. codes " " ++ t) (four (codes "beq ") (register ra) (codes ", ") (signed_decimal disp)))

@@ -8,7 +8,7 @@ use Rattle.alpha_encode.specs.Codes.{is_unary}
 use Rattle.alpha_encode.specs.Decoded.{decoded}
 use Rattle.alpha_encode.specs.Texts.{register, second_text}
 use Rattle.alpha_encode.specs.declared.instructions.Instr.{Instr}
-use Rattle.alpha_encode.specs.declared.instructions.Instr.TheVariants.{Operate, Lda, Ldah, Load, Store, Beq}
+use Rattle.alpha_encode.specs.declared.instructions.Instr.TheVariants.{Operate, Lda, Ldah, Load, Store, Ldq, Stq, Beq}
 use Rattle.cnf_core.specs.declared.line.Line.{Line}
 use Rattle.cnf_core.specs.declared.line.Lines.{Lines}
 use Rattle.launch_graph.specs.GraphLines.{graph_lines, pin_words, said}
@@ -116,6 +116,8 @@ instr_words (Lda ra rb disp) = memory_words (codes "lda") ra rb disp
 instr_words (Ldah ra rb disp) = memory_words (codes "ldah") ra rb disp
 instr_words (Load access ra rb disp) = memory_words (instr_name (kinds.Load access)) ra rb disp
 instr_words (Store access ra rb disp) = memory_words (instr_name (kinds.Store access)) ra rb disp
+instr_words (Ldq ra rb disp) = memory_words (codes "ldq") ra rb disp
+instr_words (Stq ra rb disp) = memory_words (codes "stq") ra rb disp
 instr_words (Beq ra disp) = codes "beq" ∷ before_comma ra ∷ signed_decimal disp ∷ []
 
 -- the words of the instruction that a word is, and none for a word that is none

@@ -1,5 +1,5 @@
 -- What the check of a code comes to, from what its calls promise.
-use Rattle.std.proofs.Common.{◌≡◌, ℕ, zero, suc, ◌+◌, ◌-◌, ◌*◌, ◌<◌, ◌≤◌, ◌^◌, ◌∙◌, List, [], ◌∷◌, ◌++◌, map, length, get_or, Result, Ok, Err, Option, Some, None, refl, sym, ap, subst, arith}
+use Rattle.std.proofs.Common.{◌≡◌, ℕ, zero, suc, ◌+◌, ◌-◌, ◌*◌, ◌<◌, ◌≤◌, ◌^◌, ◌∙◌, max, List, [], ◌∷◌, ◌++◌, map, length, get_or, Result, Ok, Err, Option, Some, None, refl, sym, ap, subst, arith}
 use Rattle.std.specs.Prelude.{All, Contains, IfOk, IfSome, MatchOption, slice_get}
 use Rattle.std.proofs.lemmas.List.{get_or-map, length-map, length_push}
 use Rattle.std.proofs.lemmas.List.Elements.{All-weaker, Contains-append_left, Contains-append_right, Contains-get_or}
@@ -238,6 +238,12 @@ room_for first words a b = omega (arith, a, b)
 
 pub few_code : (words : List ℕ) → length words ≤ 4096 → length words < 2 ^ 29
 few_code words l = omega (arith, l)
+
+pub few_of_words : (words : ℕ) → words ≤ 4096 → words < 2 ^ 32
+few_of_words words l = omega (arith, l)
+
+pub few_rows : (before current rows nodes : ℕ) → current < 2 ^ 30 → before ≤ current → rows ≤ max before nodes → nodes ≤ 4096 → rows < 2 ^ 30
+few_rows before current rows nodes few fewer bound low = omega (arith, few, fewer, bound, low)
 
 pub few_sets : (input : InputTree) (goal : Goal) → IsGoal input.ops (goal_view goal) → length goal.sets < 2 ^ 32
 few_sets input goal is = (let e = length-map goal.sets target_view in omega (arith, e, is.rules.few.2))

@@ -5,7 +5,7 @@ use Rattle.std.proofs.lemmas.Bool.{cases_lt}
 use Rattle.std.proofs.lemmas.Option.{get_or_from_slice_get, slice_get_within}
 use Rattle.alpha_encode.specs.Decoded.{decoded}
 use Rattle.alpha_encode.specs.declared.instructions.Instr.{Instr}
-use Rattle.alpha_encode.specs.declared.instructions.Instr.TheVariants.{Operate, Lda, Ldah, Load, Store, Beq}
+use Rattle.alpha_encode.specs.declared.instructions.Instr.TheVariants.{Operate, Lda, Ldah, Load, Store, Ldq, Stq, Beq}
 use Rattle.code_check.specs.Compared.{IsBranchOfWords, branch_of}
 use Rattle.code_check.proofs.Running.{word_of}
 use Rattle.code_check.proofs.Stages.{read_code}
@@ -25,6 +25,8 @@ is_branch (Some (Lda ra rb disp)) r e = absurd (none_some r (sym e))
 is_branch (Some (Ldah ra rb disp)) r e = absurd (none_some r (sym e))
 is_branch (Some (Load access ra rb disp)) r e = absurd (none_some r (sym e))
 is_branch (Some (Store access ra rb disp)) r e = absurd (none_some r (sym e))
+is_branch (Some (Ldq ra rb disp)) r e = absurd (none_some r (sym e))
+is_branch (Some (Stq ra rb disp)) r e = absurd (none_some r (sym e))
 
 -- no word before place k is a branch
 abbrev pub NoneBefore : List ℕ → ℕ → Type 0

@@ -10,6 +10,8 @@ use Rattle.std.proofs.lemmas.Bool.Decides.{eqb_tells}
 use Rattle.std.proofs.lemmas.List.{length-append, length-set, get_or-set_same, get_or-set_other}
 use Rattle.word_ops.specs.Worlds.{Value}
 use Rattle.word_ops.specs.Meanings.{sort_of}
+use Rattle.word_ops.specs.declared.sorts.Access.{Access}
+use Rattle.word_ops.specs.declared.sorts.Access.TheVariants.{Quad}
 use Rattle.word_ops.specs.declared.sorts.Op.{Op}
 use Rattle.word_ops.specs.declared.sorts.Op.TheVariants.{Constant, Input}
 use Rattle.word_ops.specs.declared.sorts.Sort.{Sort}
@@ -23,8 +25,10 @@ use Rattle.egraph.specs.Values.{ExtendsValues}
 use Rattle.pattern_match.specs.Classes.{IsClass}
 use Rattle.saturation.specs.GoalTerms.{input_term}
 use Rattle.saturation.specs.Trace.{IsBuilt, put, none_built, one_built, AreInserted, none_inserted, one_inserted}
-use Rattle.code_check.specs.Terms.{TermState, sign_extended, terms_at_entry, unless_zero_register, with_term}
-use Rattle.code_check.specs.Classes.{HasClassOfSort, IsRowInserted, IsTermInserted, IsRegisterClass, AreClassesOf}
+use Rattle.alpha_encode.specs.declared.instructions.Instr.{Instr}
+use Rattle.alpha_encode.specs.declared.instructions.Instr.TheVariants.{Load, Ldq}
+use Rattle.code_check.specs.Terms.{TermState, alignment, sign_extended, term_step, terms_at_entry, terms_written, unless_zero_register, with_term}
+use Rattle.code_check.specs.Classes.{HasClassOfSort, IsLoaded, IsRowInserted, IsTermInserted, IsRegisterClass, IsWritten, AreClassesOf}
 
 -- ---- laws of inserted terms
 
@@ -152,6 +156,17 @@ over_three g h i j new op s r q sort t u v a b d c e x y z p = record {
   graph = p.is_put.graph;
 }
 
+-- a row over classes that are there takes no class from a term
+module _ (there : IsThere) (others : KeepsOthers) (late new : Graph Op) (is : IsGraph op_signature late) (op : Op) (t u : Tree Op) (a b c : ℕ) (x : IsClass late [] t a) (y : IsClass late [] u b) where
+  pub two_keep : IsRowInserted late op (a ∷ b ∷ []) c new → (v : Tree Op) (d : ℕ) → IsClass late [] v d → IsClass new [] v d
+  two_keep p v d k =
+      others (application op (more t (more u none))) v c d late new (put (one_built (there t a late is x) (one_built (there u b late is y) none_built)) p.is_put) k
+
+  pub three_keep : (w : Tree Op) (e : ℕ) → IsClass late [] w e → IsRowInserted late op (a ∷ b ∷ e ∷ []) c new → (v : Tree Op) (d : ℕ) → IsClass late [] v d → IsClass new [] v d
+  three_keep w e z p v d k =
+      others (application op (more t (more u (more w none)))) v c d late new
+      (put (one_built (there t a late is x) (one_built (there u b late is y) (one_built (there w e late is z) none_built))) p.is_put) k
+
 -- the memory's term is there
 pub memory_built : IsThere → (g : Graph Op) (classes : List (Option ℕ)) (memory : ℕ) (ts : TermState) → AreClassesOf g classes memory ts → IsTermInserted g sorts.Memory ts.memory memory g
 memory_built there g classes memory ts are = record { built = there ts.memory memory g are.graph are.memory_is.class; of_sort = are.memory_is.of_sort; keeps = λ class sort k. k; graph = are.graph }
@@ -213,6 +228,27 @@ skipped g classes memory ts are r t is = elim (eqb_tells r 31) [
         (record { graph = are.graph; count = are.count; registers = are.registers; memory_is = are.memory_is }),
   )
 ]
+
+-- an instruction without an address
+pub plain_written : (i : Instr) (old new : Graph Op) (ts : TermState) (classes : List (Option ℕ)) (memory : ℕ) → alignment i ≡ None → AreInserted (terms_written i ts) old new × AreClassesOf new classes memory (term_step i ts) → IsWritten i old ts new classes memory None
+plain_written i old new ts classes memory e p = record { inserted = p.0; after = p.1; address_is = e }
+
+-- a load, by the class of its address where it has one
+module _ (access : Access) (ra rb : ℕ) (disp : ℤ) (old : Graph Op) (ts : TermState) (new : Graph Op) (classes : List (Option ℕ)) (memory : ℕ) where
+  pub load_written : (address : Option ℕ) → IsLoaded access ra rb (sign_extended disp) old ts new classes memory address → IsWritten (Load access ra rb disp) old ts new classes memory address
+  load_written None h = record { inserted = h.inserted; after = h.after; address_is = refl }
+  load_written (Some c) h = record { inserted = h.inserted; after = h.after; address_is = h.address_is }
+
+module _ (ra rb : ℕ) (disp : ℤ) (old : Graph Op) (ts : TermState) (new : Graph Op) (classes : List (Option ℕ)) (memory : ℕ) where
+  prefetch : ra ≡ 31 → alignment (Ldq ra rb disp) ≡ None
+  prefetch e = elim (eqb_tells ra 31) [
+    | inl k ↦ ap (λ b. if b then None else Some 3) k.0
+    | inr k ↦ absurd (k.1 e)
+  ]
+
+  pub ldq_written : (address : Option ℕ) → IsLoaded Quad ra rb (sign_extended disp) old ts new classes memory address → IsWritten (Ldq ra rb disp) old ts new classes memory address
+  ldq_written None h = record { inserted = h.inserted; after = h.after; address_is = prefetch h.address_is }
+  ldq_written (Some c) h = record { inserted = h.inserted; after = h.after; address_is = h.address_is }
 
 -- the word of a displacement, as the code computes it
 pub word_of_disp : (n : ℕ) (z d : ℤ) → FitsSigned w16 d → z ≡ to_z w16 (of_z w16 d) → n ≡ of_z w64 (to_z w64 (of_z w64 z)) → n ≡ sign_extended d

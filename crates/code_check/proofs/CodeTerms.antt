@@ -20,17 +20,17 @@ use Rattle.goal_meaning.specs.Views.{GoalTree}
 use Rattle.saturation.specs.AtStart.{StandsAtStart}
 use Rattle.saturation.specs.GoalTerms.{entry_term}
 use Rattle.saturation.specs.Rounds.{KeepsClasses}
-use Rattle.saturation.specs.Trace.{AreInserted, none_inserted, one_inserted}
-use Rattle.code_check.specs.Classes.{AreClassesOf, HasClassOfSort, IsRegisterClass}
-use Rattle.code_check.specs.Compared.{ArePresentClasses, IsPresentClass, IsPresentRegister, before_branch, terms_at_branch}
+use Rattle.saturation.specs.Trace.{AreInserted, none_inserted}
+use Rattle.code_check.specs.Classes.{AreAddresses, AreClassesOf, HasClassOfSort, IsAddress, IsRegisterClass}
+use Rattle.code_check.specs.Compared.{ArePresentAddresses, ArePresentClasses, IsPresentAddress, IsPresentClass, IsPresentRegister, before_branch, terms_at_branch}
 use Rattle.code_check.specs.Inserted.{IsCodeInserted}
 use Rattle.code_check.specs.Same.{terms_at_end}
-use Rattle.code_check.specs.Terms.{TermState, term_step, terms_after, terms_at_entry, terms_from, terms_written, terms_written_from}
+use Rattle.code_check.specs.Terms.{TermState, place_term, term_step, terms_after, terms_at_entry, terms_from, terms_written, terms_written_from}
 use Rattle.code_check.specs.declared.branches.Branch.{Branch}
 use Rattle.code_check.specs.declared.code_terms.Inserted.{Inserted}
 use Rattle.code_check.proofs.Built.{KeepsOthers}
 use Rattle.code_check.proofs.Comparisons.{leaf_row}
-use Rattle.code_check.proofs.Stages.{InsertsBoth, append_twice}
+use Rattle.code_check.proofs.Stages.{InsertsBoth, addresses_append, addresses_later, append_twice, inserted_keeps}
 
 -- ---- instructions in two parts
 
@@ -79,23 +79,27 @@ few_both words n old middle new within first rest =
     omega (arith, e, f, length-drop n words, first, rest, within)
 
 -- what the insertion of words promises
-abbrev pub InsertsWords : List ℕ → Graph Op → List (Option ℕ) → ℕ → Graph Op → List (Option ℕ) → ℕ → Type 0
-InsertsWords words old classes memory new classes_then memory_then =
+abbrev pub InsertsWords : List ℕ → Graph Op → List (Option ℕ) → ℕ → Graph Op → List (Option ℕ) → ℕ → List (Option ℕ) → Type 0
+InsertsWords words old classes memory new classes_then memory_then addresses =
     (instrs : List Instr) (ts : TermState) →
     map decoded words ≡ map Some instrs →
     AreClassesOf old classes memory ts →
-    AreInserted (terms_written_from instrs ts) old new × AreClassesOf new classes_then memory_then (terms_from instrs ts)
+    AreInserted (terms_written_from instrs ts) old new
+    × AreClassesOf new classes_then memory_then (terms_from instrs ts)
+    × AreAddresses new instrs ts addresses
 
 pub code_inserted :
     InsertsBoth →
-    (old middle new : Graph Op) (words : List ℕ) (before : ℕ) (first : List (Option ℕ)) (entry : ℕ) (i : Inserted) →
+    KeepsOthers →
+    (old middle new : Graph Op) (words : List ℕ) (before : ℕ) (first : List (Option ℕ)) (entry : ℕ) (i : Inserted) (early late : List (Option ℕ)) →
+    i.addresses ≡ early ++ late →
     AreClassesOf old first entry terms_at_entry →
-    InsertsWords (take before words) old first entry middle i.at_branch i.memory_at_branch →
-    InsertsWords (drop before words) middle i.at_branch i.memory_at_branch new i.at_end i.memory_at_end →
+    InsertsWords (take before words) old first entry middle i.at_branch i.memory_at_branch early →
+    InsertsWords (drop before words) middle i.at_branch i.memory_at_branch new i.at_end i.memory_at_end late →
     (instrs : List Instr) →
     map decoded words ≡ map Some instrs →
     IsCodeInserted old instrs before i new
-code_inserted both old middle new words before first entry i at_entry inserts_first inserts_rest instrs code =
+code_inserted both others old middle new words before first entry i early late are_both at_entry inserts_first inserts_rest instrs code =
     let a = inserts_first (take before instrs) terms_at_entry (first_code words instrs code before) at_entry in
     let b = inserts_rest (drop before instrs) (terms_after before instrs) (rest_code words instrs code before) a.1 in
     let all : take (length instrs) instrs ≡ instrs = take_all (length instrs) instrs (omega arith) in
@@ -109,6 +113,12 @@ code_inserted both old middle new words before first entry i at_entry inserts_fi
       rest = b.0;
       at_branch = a.1;
       at_end = subst (AreClassesOf new i.at_end i.memory_at_end) (sym end) b.1;
+      addresses =
+          subst (AreAddresses new instrs terms_at_entry) (sym are_both)
+          (subst (λ is. AreAddresses new is terms_at_entry (early ++ late)) (take-append-drop before instrs)
+          (addresses_append new (take before instrs) (drop before instrs) terms_at_entry early late
+          (addresses_later others (terms_written_from (drop before instrs) (terms_after before instrs)) middle new b.0 (take before instrs) terms_at_entry early a.2)
+          b.2));
     }
 
 -- ---- the terms at the branch
@@ -155,10 +165,6 @@ entry_there goal g stands = (stands (λ n. []) []).classes entry_term (0, omega 
 
 -- ---- after the rounds
 
-pub inserted_keeps : KeepsOthers → {ts : List (Tree Op)} {g new : Graph Op} {u : Tree Op} {d : ℕ} → AreInserted ts g new → IsClass g [] u d → IsClass new [] u d
-inserted_keeps others none_inserted h = h
-inserted_keeps others {u} {d} (one_inserted {t} {ts} {g} {h} {new} {c} b w) k = inserted_keeps others w (others t u c d g h b k)
-
 module _ (others : KeepsOthers)
     (has : (g : Graph Op) (places : List ℕ) (t : Tree Op) (c : ℕ) → All (HasClass g) places → IsClass g places t c → HasClass g c)
     (present : (g : Graph Op) (c : ℕ) → IsGraph op_signature g → HasClass g c → IsPresent g c) where
@@ -204,3 +210,18 @@ module _ (others : KeepsOthers)
             (terms_written_from (drop before instrs) (terms_after before instrs)) is.at_branch is.rest keeps is.graph is_last),
         present_after new new last i.at_end i.memory_at_end (terms_at_end instrs) [] is.at_end none_inserted keeps is.graph is_last,
       )
+
+  -- so do the classes of addresses
+  module _ (new last : Graph Op) (keeps : KeepsClasses new last) (is_new : IsGraph op_signature new) where
+    present_address : (i : Instr) (ts : TermState) (a : Option ℕ) → IsAddress new i ts a → IsPresentAddress last i ts a
+    present_address i ts None h = h
+    present_address i ts (Some c) h =
+        let made = (present new c is_new (has new [] (place_term i ts) c (All-nil (HasClass new)) h)).made in
+        let kept = keeps is_new in
+        record { made = omega (arith, made, kept.0); is = kept.1 (place_term i ts) c h }
+
+    pub present_addresses : (is : List Instr) (ts : TermState) (addresses : List (Option ℕ)) → AreAddresses new is ts addresses → ArePresentAddresses last is ts addresses
+    present_addresses [] ts [] h = h
+    present_addresses [] ts (a ∷ addresses) h = h
+    present_addresses (i ∷ is) ts [] h = h
+    present_addresses (i ∷ is) ts (a ∷ addresses) h = (present_address i ts a h.0, present_addresses is (term_step i ts) addresses h.1)

@@ -1,28 +1,31 @@
 -- Where code and goal are the same in a graph, the words have the goal's outcome.
-use Rattle.std.proofs.Common.{◌≡◌, ◌≢◌, ℕ, zero, suc, ◌+◌, ◌<◌, ◌^◌, List, [], ◌∷◌, ◌++◌, length, map, refl, sym, ◌∙◌, ap, subst, inl, inr, arith, Bool, true, false, ◌/◌, ◌≤◌, get_or, Option, Some, None}
-use Rattle.std.specs.Prelude.{All, Contains, slice_get, slice_index, if◌then◌else◌}
+use Rattle.std.proofs.Common.{◌≡◌, ◌≢◌, ℕ, zero, suc, ◌+◌, ◌<◌, ◌%◌, ◌^◌, List, [], ◌∷◌, ◌++◌, length, map, refl, sym, ◌∙◌, ap, subst, inl, inr, arith, Bool, true, false, ◌/◌, ◌≤◌, get_or, Option, Some, None}
+use Rattle.std.specs.Prelude.{All, Contains, IsFalse, slice_get, slice_index, if◌then◌else◌}
 use Rattle.word_ops.specs.Memory.{Memory}
 use Rattle.std.specs.List.{find}
 use Rattle.std.specs.Option.{option_map_or}
 use Rattle.std.proofs.lemmas.Bool.Decides.{eqb_tells}
-use Rattle.std.proofs.lemmas.List.Elements.{All-nil, All-cons, All-head, All-tail, All-contains}
+use Rattle.std.proofs.lemmas.List.Elements.{All-nil, All-cons, All-head, All-map, All-tail, All-contains}
 use Rattle.std.proofs.lemmas.Option.{same_Some, none-some}
-use Rattle.word_ops.specs.Meanings.{meaning}
+use Rattle.word_ops.specs.Meanings.{as_word, meaning}
 use Rattle.word_ops.specs.Worlds.{World, Value, word, memory}
 use Rattle.word_ops.specs.declared.sorts.Op.{Op}
 use Rattle.word_terms.specs.Tree.{Tree, Trees, each_value}
 use Rattle.axiom_base.specs.Rewrites.{value_in}
 use Rattle.egraph.specs.Graph.{Graph}
 use Rattle.egraph.specs.declared.rows.Row.{Row}
+use Rattle.graph_meaning.specs.Graphs.{AreTrueRows, IsTrueRow, plain_row}
+use Rattle.graph_meaning.specs.Multiples.{IsShown}
+use Rattle.graph_meaning.specs.declared.graphs.LaunchRow.{LaunchRow}
 use Rattle.pattern_match.specs.Classes.{IsClass, AreClasses, at_variable, at_row, no_classes, classes}
 use Rattle.alpha_encode.specs.Formats.{IsWellFormed}
 use Rattle.alpha_encode.specs.declared.instructions.Instr.{Instr}
 use Rattle.alpha_encode.specs.declared.instructions.Instr.TheVariants.{Beq}
 use Rattle.alpha_machine.specs.States.{MachineState}
-use Rattle.alpha_machine.specs.Steps.{step}
-use Rattle.alpha_machine.specs.Runs.{after, stepped}
+use Rattle.alpha_machine.specs.Steps.{step, traps}
+use Rattle.alpha_machine.specs.Runs.{after, fetched, stepped}
 use Rattle.goal_meaning.specs.Holds.{goal_value}
-use Rattle.goal_meaning.specs.Outcomes.{Outcome, exit, fall, outcome, is_left, is_zero, is_memory, new_words, new_memory}
+use Rattle.goal_meaning.specs.Outcomes.{Outcome, exit, fall, is_left, is_zero, is_memory, new_words, new_memory}
 use Rattle.goal_meaning.specs.Names.{declared_name}
 use Rattle.goal_meaning.specs.Views.{GoalTree, TargetTree}
 use Rattle.goal_meaning.specs.declared.goals.InputReg.{InputReg}
@@ -30,19 +33,19 @@ use Rattle.goal_meaning.specs.declared.goals.DeclaredOp.{DeclaredOp}
 use Rattle.saturation.specs.GoalTerms.{entry_term, input_term}
 use Rattle.saturation.specs.GraphStands.{IsTrueGraph}
 use Rattle.code_check.specs.Outcomes.{IsCode, HasOutcome, FallsWith, ExitsUnchanged, entry_state}
-use Rattle.code_check.specs.Same.{HaveSameClass, IsBranchAt, IsSameGuard, IsSamePart, Same, word_targets_from, memory_target_term, terms_at_end}
-use Rattle.code_check.specs.Terms.{TermState, terms_at_entry, term_step, terms_after}
+use Rattle.code_check.specs.Same.{HaveSameClass, IsBranchAt, IsMultipleTerm, IsSameGuard, IsSamePart, Same, goal_parts, places_from, rows_of, word_targets_from, memory_target_term, terms_at_end}
+use Rattle.code_check.specs.Terms.{TermState, alignment, place_term, terms_at_entry, term_step, terms_after}
 use Rattle.code_check.specs.Values.{HaveValues}
 use Rattle.code_check.specs.declared.codes.At.{At}
 use Rattle.code_check.specs.declared.codes.Part.{Part}
 use Rattle.code_check.specs.declared.codes.Part.TheVariants as parts
-use Rattle.code_check.proofs.Running.{NoneTaken, falls, leaves, same_registers, same_memory, IsAt, at_branch, branch_register}
+use Rattle.code_check.proofs.Running.{well_formed_at, NoneTaken, falls, leaves, same_registers, same_memory, IsAt, at_branch, branch_register}
 
 -- ---- terms of one class have one value
 
 module _ (w : World) (names : ℕ → List ℕ) (V : ℕ → Value) (g : Graph Op) (true_in : IsTrueGraph w names V g) where
   mutual
-    class_value : {t : Tree Op} {c : ℕ} → IsClass g [] t c → V c ≡ value_in w names [] t
+    pub class_value : {t : Tree Op} {c : ℕ} → IsClass g [] t c → V c ≡ value_in w names [] t
     class_value (at_variable l) = absurd (omega (arith, l))
     class_value (at_row {op} {ts} {cs} {c} h k) =
         All-contains (λ (r : Row Op). V r.class ≡ meaning w names r.op (map V r.operands)) g.rows (record { op = op; operands = cs; class = c }) true_in.rows k
@@ -85,6 +88,29 @@ module _ (P : Part → Type 0) where
   set_part i (x ∷ ts) h (suc k) m t there no_memory e =
       set_part (i + 1) ts (rest_of i (word_targets_from (i + 1) ts) (is_memory x) h) k m t there no_memory (omega (arith, e))
 
+  trap_part : (at : ℕ) (is : List Instr) → All P (map parts.Trap (places_from at is)) → (k m : ℕ) (i : Instr) → slice_get is k ≡ Some i → m ≡ at + k → P (parts.Trap m)
+  trap_part at [] h k m i there e = absurd (none-some i there)
+  trap_part at (x ∷ is) h zero m i there e =
+      let same : at ≡ m = omega (arith, e) in
+      subst (λ n. P (parts.Trap n)) same (All-head P (parts.Trap at) (map parts.Trap (places_from (at + 1) is)) h)
+  trap_part at (x ∷ is) h (suc k) m i there e =
+      trap_part (at + 1) is (All-tail P (parts.Trap at) (map parts.Trap (places_from (at + 1) is)) h) k m i there (omega (arith, e))
+
+-- a multiple of 2, 4 or 8 is one of each lesser power
+lesser_power : (v n m : ℕ) → n ≤ m → m ≤ 3 → v % 2 ^ m ≡ 0 → v % 2 ^ n ≡ 0
+lesser_power v zero m le few e = omega arith
+lesser_power v (suc n) zero le few e = absurd (omega (arith, le))
+lesser_power v (suc zero) (suc zero) le few e = e
+lesser_power v (suc (suc n)) (suc zero) le few e = absurd (omega (arith, le))
+lesser_power v (suc zero) (suc (suc zero)) le few e = omega (arith, e)
+lesser_power v (suc (suc zero)) (suc (suc zero)) le few e = e
+lesser_power v (suc (suc (suc n))) (suc (suc zero)) le few e = absurd (omega (arith, le))
+lesser_power v (suc zero) (suc (suc (suc zero))) le few e = omega (arith, e)
+lesser_power v (suc (suc zero)) (suc (suc (suc zero))) le few e = omega (arith, e)
+lesser_power v (suc (suc (suc zero))) (suc (suc (suc zero))) le few e = e
+lesser_power v (suc (suc (suc (suc n)))) (suc (suc (suc zero))) le few e = absurd (omega (arith, le))
+lesser_power v n (suc (suc (suc (suc m)))) le few e = absurd (omega (arith, few))
+
 -- ---- the outcome
 
 abbrev register_of : Option Instr → ℕ
@@ -103,8 +129,13 @@ same_word m n e = cc
 module _ (last : (n : ℕ) (instrs : List Instr) (s : MachineState) → after (suc n) instrs s ≡ stepped instrs (after n instrs s))
     (sums : (m n : ℕ) (instrs : List Instr) (s : MachineState) → after (m + n) instrs s ≡ after n instrs (after m instrs s))
     (stays : (n : ℕ) (instrs : List Instr) (s : MachineState) → length instrs ≤ s.pc / 4 → after n instrs s ≡ s)
+    (steps : (instrs : List Instr) (s : MachineState) (i : Instr) → fetched instrs s ≡ Some i → IsFalse (traps i s) → stepped instrs s ≡ step i s)
+    (multiples : (rows : List LaunchRow) (world : World) (value : ℕ → Value) (class n : ℕ) → AreTrueRows world value rows → IsShown rows class n → as_word (value class) % 2 ^ n ≡ 0)
+    (few_shown : (rows : List LaunchRow) (class n : ℕ) → IsShown rows class n → n ≤ 3)
     (w : World) (declared : List DeclaredOp)
     (one : (ts : TermState) (s : MachineState) → HaveValues w (declared_name declared) ts s → (i : Instr) → IsWellFormed i → HaveValues w (declared_name declared) (term_step i ts) (step i s))
+    (unless : (ts : TermState) (s : MachineState) → HaveValues w (declared_name declared) ts s → (i : Instr) → IsWellFormed i
+    → ((n : ℕ) → alignment i ≡ Some n → as_word (value_in w (declared_name declared) [] (place_term i ts)) % 2 ^ n ≡ 0) → IsFalse (traps i s))
     (words : List ℕ) (is : List Instr) (code : IsCode words is) (few : length words < 2 ^ 29)
     (first : HaveValues w (declared_name declared) terms_at_entry (entry_state w))
     (goal : GoalTree) (places : List At)
@@ -126,14 +157,31 @@ module _ (last : (n : ℕ) (instrs : List Instr) (s : MachineState) → after (s
   abbrev late : List Part
   late = map parts.Set (word_targets_from 0 goal.sets) ++ parts.Memory ∷ []
 
+  of_goal : All P (goal_parts goal)
+  of_goal = all_behind P (map parts.Trap (places_from 0 is)) (goal_parts goal) same
+
   late_parts : All P late
-  late_parts = All-tail P parts.Exit late (All-tail P parts.Guard (parts.Exit ∷ late) same)
+  late_parts = All-tail P parts.Exit late (All-tail P parts.Guard (parts.Exit ∷ late) of_goal)
 
   guard_part : P parts.Guard
-  guard_part = All-head P parts.Guard (parts.Exit ∷ late) same
+  guard_part = All-head P parts.Guard (parts.Exit ∷ late) of_goal
 
   exit_part : P parts.Exit
-  exit_part = All-head P parts.Exit late (All-tail P parts.Guard (parts.Exit ∷ late) same)
+  exit_part = All-head P parts.Exit late (All-tail P parts.Guard (parts.Exit ∷ late) of_goal)
+
+  -- ---- no instruction traps
+
+  rows_true : AreTrueRows w V (rows_of g)
+  rows_true = All-map (λ (r : LaunchRow). IsTrueRow w V r) (λ (r : Row Op). plain_row r.class r.op r.operands) g.rows (λ k d l. (declared_name declared, true_in.rows k d l))
+
+  multiple_is : (t : Tree Op) (n : ℕ) → IsMultipleTerm g t n → as_word (val t) % 2 ^ n ≡ 0
+  multiple_is t n h = lesser_power (as_word (val t)) n h.power h.enough (few_shown (rows_of g) h.class h.power h.shown)
+      (subst (λ v. as_word v % 2 ^ h.power ≡ 0) (class_value w (declared_name declared) V g true_in h.is) (multiples (rows_of g) w V h.class h.power rows_true h.shown))
+
+  safe : (k : ℕ) (i : Instr) (s : MachineState) → slice_get is k ≡ Some i → HaveValues w (declared_name declared) (terms_after k is) s → IsFalse (traps i s)
+  safe k i s there values =
+      let part : P (parts.Trap k) = trap_part P 0 is (all_before P (map parts.Trap (places_from 0 is)) (goal_parts goal) same) k k i there (omega arith) in
+      unless (terms_after k is) s values i (well_formed_at is k i code.well_formed there) (λ n e. multiple_is (place_term i (terms_after k is)) n (part i there n e))
 
   memory_part : P parts.Memory
   memory_part = All-head P parts.Memory [] (all_behind P (map parts.Set (word_targets_from 0 goal.sets)) (parts.Memory ∷ []) late_parts)
@@ -150,9 +198,9 @@ module _ (last : (n : ℕ) (instrs : List Instr) (s : MachineState) → after (s
   place_low i reg named = (let k = All-contains (λ (p : At). p.reg < 31) places (record { set = i; reg = reg }) low_places named in omega (arith, k))
 
   -- no branch is taken
-  fall_case : NoneTaken last sums stays w (declared_name declared) one words is code few first (length is) → FallsWith declared goal w words places (new_memory declared w goal.sets)
+  fall_case : NoneTaken last sums stays steps w (declared_name declared) one words is code few first safe (length is) → FallsWith declared goal w words places (new_memory declared w goal.sets)
   fall_case none =
-      let f = falls last sums stays w (declared_name declared) one words is code few first none in
+      let f = falls last sums stays steps w (declared_name declared) one words is code few first safe none in
       record {
         state = at_place (length words);
         runs = f.0;
@@ -163,22 +211,22 @@ module _ (last : (n : ℕ) (instrs : List Instr) (s : MachineState) → after (s
 
   -- the branch is taken
   module _ (at ra : ℕ) (branch : IsBranchAt is at ra) where
-    here : IsAt last sums stays w (declared_name declared) one words is code few first at (at_place at)
-    here = at_branch last sums stays w (declared_name declared) one words is code few first at ra branch
+    here : IsAt last sums stays steps w (declared_name declared) one words is code few first safe at (at_place at)
+    here = at_branch last sums stays steps w (declared_name declared) one words is code few first safe at ra branch
 
     exit_case : slice_index (at_place at).registers ra ≡ 0 → ExitsUnchanged goal w words
     exit_case zero_word =
         let k = exit_part at ra branch in
         record {
           state = at_place (length words);
-          runs = leaves last sums stays w (declared_name declared) one words is code few first at ra branch zero_word;
+          runs = leaves last sums stays steps w (declared_name declared) one words is code few first safe at ra branch zero_word;
           memory_is =
-              same_memory last sums stays w (declared_name declared) one words is code few first at ra branch zero_word
+              same_memory last sums stays steps w (declared_name declared) one words is code few first safe at ra branch zero_word
               ∙ same_stored (at_place at).memory w.memory_at_entry (sym here.values.memory_is ∙ one_is (terms_after at is).memory entry_term k.memory_is);
           inputs = λ n d l.
               let i = get_or goal.inputs n d in
               let low = low_inputs n d l in
-              ap (λ rs. slice_index rs i.reg) (same_registers last sums stays w (declared_name declared) one words is code few first at ra branch zero_word)
+              ap (λ rs. slice_index rs i.reg) (same_registers last sums stays steps w (declared_name declared) one words is code few first safe at ra branch zero_word)
               ∙ same_word (slice_index (at_place at).registers i.reg) (slice_index w.registers i.reg)
               (sym (here.values.registers i.reg (omega (arith, low))) ∙ one_is ((terms_after at is).registers i.reg) (input_term i.reg) (k.inputs_are n d l));
         }
@@ -191,12 +239,12 @@ module _ (last : (n : ℕ) (instrs : List Instr) (s : MachineState) → after (s
       guard_value : val guard ≡ word tested
       guard_value =
           sym (one_is ((terms_after at is).registers ra) guard equal)
-          ∙ here.values.registers ra (branch_register last sums stays w (declared_name declared) one words is code few first at ra branch)
+          ∙ here.values.registers ra (branch_register last sums stays steps w (declared_name declared) one words is code few first safe at ra branch)
 
       abbrev said : Bool → Outcome
       said b = if b then exit else fall (new_words declared w goal.sets) (new_memory declared w goal.sets)
 
-      untaken : tested ≢ 0 → NoneTaken last sums stays w (declared_name declared) one words is code few first (length is)
+      untaken : tested ≢ 0 → NoneTaken last sums stays steps w (declared_name declared) one words is code few first safe (length is)
       untaken not_zero b rb lt other =
           let e : b ≡ at = code.one_branch b at rb ra other branch in
           let f : rb ≡ ra = same_register is b at rb ra other branch e in

@@ -1,3 +1,5 @@
+mod Aligning
+mod AlikeMultiples
 mod Answering
 mod Branching
 mod Built

@@ -8,13 +8,14 @@ use Rattle.egraph.specs.Graph.{Graph, IsGraph}
 use Rattle.alpha_encode.specs.declared.instructions.Instr.{Instr}
 use Rattle.goal_meaning.specs.Expanded.{expanded}
 use Rattle.goal_meaning.specs.Views.{GoalTree, InputTree}
+use Rattle.saturation.specs.Alike.{AreAlike}
 use Rattle.saturation.specs.Derives.{Derives}
 use Rattle.saturation.specs.GoalTerms.{assumed_pairs, entry_term, input_term, rules_of}
 use Rattle.saturation.specs.Grown.{Halts, IsGrown, NotBefore}
 use Rattle.saturation.specs.Rounds.{StopIs}
 use Rattle.graph_meaning.specs.declared.stops.Stop.{Stop}
-use Rattle.code_check.specs.Same.{HaveSameClass, IsAsAtEntry, IsFirstDifferent, IsSameGuard, IsSamePart, Same, compared_parts, memory_target_term, terms_at_end}
-use Rattle.code_check.specs.Terms.{TermState, terms_after}
+use Rattle.code_check.specs.Same.{HaveSameClass, IsAsAtEntry, IsFirstDifferent, IsMultipleTerm, IsSameGuard, IsSamePart, Same, compared_parts, memory_target_term, terms_at_end}
+use Rattle.code_check.specs.Terms.{TermState, place_term, terms_after}
 use Rattle.code_check.specs.Verified.{AreOneAnswer, HasNoWorld, IsCompared, IsVerified, compared_terms}
 use Rattle.code_check.specs.declared.codes.At.{At}
 use Rattle.code_check.specs.declared.codes.Code.{Code}
@@ -22,11 +23,13 @@ use Rattle.code_check.specs.declared.codes.Part.{Part}
 use Rattle.code_check.specs.declared.codes.Part.TheVariants as parts
 use Rattle.code_check.specs.declared.codes.Verified.{Verified}
 use Rattle.code_check.specs.declared.codes.Verified.TheVariants.{Yes, Unknown, NoWorld}
+use Rattle.code_check.proofs.AlikeMultiples.{multiple_kept}
 use Rattle.code_check.proofs.Replying.{middle}
 
 -- ---- what is the same in one graph is so in another with its equalities
 
-module _ (g h : Graph Op) (keeps : (t u : Tree Op) → HaveSameClass g t u → HaveSameClass h t u) (goal : GoalTree) (instrs : List Instr) (places : List At) where
+module _ (g h : Graph Op) (keeps : (t u : Tree Op) → HaveSameClass g t u → HaveSameClass h t u)
+    (multiple : (t : Tree Op) (n : ℕ) → IsMultipleTerm g t n → IsMultipleTerm h t n) (goal : GoalTree) (instrs : List Instr) (places : List At) where
   same_guard : (guard : Option (Tree Op)) → IsSameGuard g instrs guard → IsSameGuard h instrs guard
   same_guard None same = same
   same_guard (Some t) same = record {
@@ -45,6 +48,7 @@ module _ (g h : Graph Op) (keeps : (t u : Tree Op) → HaveSameClass g t u → H
   }
 
   same_part : (part : Part) → IsSamePart g goal instrs places part → IsSamePart h goal instrs places part
+  same_part (parts.Trap at) same = λ i there n e. multiple (place_term i (terms_after at instrs)) n (same i there n e)
   same_part parts.Guard same = same_guard goal.guard same
   same_part parts.Exit same = λ at ra branch. same_entry (terms_after at instrs) (same at ra branch)
   same_part (parts.Set i) same = λ t reg there named. keeps ((terms_at_end instrs).registers reg) t.value (same t reg there named)
@@ -80,7 +84,9 @@ module _ (input : InputTree) (goal : GoalTree) (instrs : List Instr) (rounds nod
 
   module _ (once : (i j : ℕ) → NotBefore (rules_of input) (compared_terms goal instrs) (assumed_pairs goal) rounds nodes j → i < j → Halts (rules_of input) (compared_terms goal instrs) (assumed_pairs goal) rounds nodes i → ⊥)
       (ends : (g : Graph Op) (j : ℕ) (stop : Stop) → IsGraph op_signature g → IsGrown (rules_of input) (compared_terms goal instrs) (assumed_pairs goal) g j → StopIs (rules_of input) g rounds nodes j stop
-      → Halts (rules_of input) (compared_terms goal instrs) (assumed_pairs goal) rounds nodes j) where
+      → Halts (rules_of input) (compared_terms goal instrs) (assumed_pairs goal) rounds nodes j)
+      (alike : (g h : Graph Op) (j : ℕ) → IsGraph op_signature g → IsGraph op_signature h → IsGrown (rules_of input) (compared_terms goal instrs) (assumed_pairs goal) g j
+      → IsGrown (rules_of input) (compared_terms goal instrs) (assumed_pairs goal) h j → AreAlike g h) where
     halts : (g : Graph Op) (j : ℕ) (stop : Stop) → Compared g j stop → HaltsAt j
     halts g j stop is = ends g j stop is.graph is.grown is.stops
 
@@ -98,6 +104,13 @@ module _ (input : InputTree) (goal : GoalTree) (instrs : List Instr) (rounds nod
         (second.grown.exact t u).1
         (subst (λ n. Derives (rules_of input) (compared_terms goal instrs) (assumed_pairs goal) n t u) (one_round g h j k stop reason first second) ((first.grown.exact t u).0 same))
 
+    multiple : (g h : Graph Op) (j k : ℕ) (stop reason : Stop) → Compared g j stop → Compared h k reason → (t : Tree Op) (n : ℕ) → IsMultipleTerm g t n → IsMultipleTerm h t n
+    multiple g h j k stop reason first second =
+        let one = one_round g h j k stop reason first second in
+        multiple_kept g h first.graph second.graph
+        (alike g h k first.graph second.graph (subst (λ n. IsGrown (rules_of input) (compared_terms goal instrs) (assumed_pairs goal) g n) one first.grown) second.grown)
+        (λ t same. keeps g h j k stop reason first second t t same)
+
     no_clash : (g : Graph Op) (j : ℕ) (stop : Stop) → Compared g j stop → (a b : ℕ) → HasNoWorld input goal instrs rounds nodes a b → ⊥
     no_clash g j stop is a b none = elim (cases_lt j none.round) [
       | inl lt ↦ once j none.round none.reached.1 lt (halts g j stop is)
@@ -107,13 +120,13 @@ module _ (input : InputTree) (goal : GoalTree) (instrs : List Instr) (rounds nod
     module _ (code : Code) where
       none_differs : (g h : Graph Op) (j k : ℕ) (stop reason : Stop) (part : Part) → Compared g j stop → Compared h k reason → Same g (expanded goal) instrs code.places → IsFirstDifferent h (expanded goal) instrs code.places part → ⊥
       none_differs g h j k stop reason part first second same different =
-          different.differs (same_part g h (keeps g h j k stop reason first second) (expanded goal) instrs code.places part
-          (middle (IsSamePart g (expanded goal) instrs code.places) (compared_parts (expanded goal)) different.before different.behind part different.order same))
+          different.differs (same_part g h (keeps g h j k stop reason first second) (multiple g h j k stop reason first second) (expanded goal) instrs code.places part
+          (middle (IsSamePart g (expanded goal) instrs code.places) (compared_parts (expanded goal) instrs) different.before different.behind part different.order same))
 
       one_part : (g h : Graph Op) (j k : ℕ) (stop reason : Stop) (part other : Part) → Compared g j stop → Compared h k reason → IsFirstDifferent g (expanded goal) instrs code.places part → IsFirstDifferent h (expanded goal) instrs code.places other → part ≡ other
       one_part g h j k stop reason part other first second different also =
           first_fails_once (IsSamePart g (expanded goal) instrs code.places) (IsSamePart h (expanded goal) instrs code.places)
-          (same_part g h (keeps g h j k stop reason first second) (expanded goal) instrs code.places) (same_part h g (keeps h g k j reason stop second first) (expanded goal) instrs code.places)
+          (same_part g h (keeps g h j k stop reason first second) (multiple g h j k stop reason first second) (expanded goal) instrs code.places) (same_part h g (keeps h g k j reason stop second first) (multiple h g k j reason stop second first) (expanded goal) instrs code.places)
           different.before different.behind part also.before also.behind other (sym different.order ∙ also.order) different.same different.differs also.same also.differs
 
       pub one_answer : (x y : Verified) → IsVerified input goal instrs code rounds nodes x → IsVerified input goal instrs code rounds nodes y → AreOneAnswer x y

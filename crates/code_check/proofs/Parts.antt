@@ -1,7 +1,7 @@
 -- The parts of a code and its goal, in their order, from what the comparisons tell.
-use Rattle.std.proofs.Common.{◌≡◌, ℕ, zero, suc, ◌+◌, ◌<◌, List, [], ◌∷◌, ◌++◌, map, take, drop, length, refl, sym, ◌∙◌, ap, subst, arith, Bool, true, false, Option, Some, None}
+use Rattle.std.proofs.Common.{◌≡◌, ℕ, zero, suc, ◌+◌, ◌<◌, ◌≤◌, List, [], ◌∷◌, ◌++◌, map, take, drop, length, refl, sym, ◌∙◌, ap, subst, arith, Bool, true, false, Option, Some, None}
 use Rattle.std.specs.Prelude.{IsTrue, ◌↔◌, All, slice_get, if◌then◌else◌}
-use Rattle.std.proofs.lemmas.List.{map-append}
+use Rattle.std.proofs.lemmas.List.{length-take-le, map-append, take_all}
 use Rattle.std.proofs.lemmas.List.Elements.{All-nil, All-cons, All-append}
 use Rattle.std.proofs.lemmas.Option.{none-some, same_Some, slice_get_within}
 use Rattle.word_ops.specs.declared.sorts.Op.{Op}
@@ -10,9 +10,9 @@ use Rattle.egraph.specs.Graph.{Graph}
 use Rattle.alpha_encode.specs.declared.instructions.Instr.{Instr}
 use Rattle.goal_meaning.specs.Outcomes.{is_memory}
 use Rattle.goal_meaning.specs.Views.{GoalTree, TargetTree}
-use Rattle.code_check.specs.Compared.{AreSameBelow, IsBranchOf, IsFirstDifferentTarget, IsSameBranch, IsSameLeaving, IsSameTarget, terms_at_branch}
+use Rattle.code_check.specs.Compared.{AreAlignedBelow, AreSameBelow, IsBranchOf, IsFirstDifferentTarget, IsFirstTrap, IsSameBranch, IsSameLeaving, IsSameTarget, terms_at_branch}
 use Rattle.code_check.specs.Outcomes.{HasOneBranch}
-use Rattle.code_check.specs.Same.{HaveSameClass, IsAsAtEntry, IsBranchAt, IsFirstDifferent, IsSameExit, IsSameGuard, IsSamePart, Same, memory_target_term, terms_at_end, word_targets_from}
+use Rattle.code_check.specs.Same.{HaveSameClass, IsAsAtEntry, IsBranchAt, IsFirstDifferent, IsSameExit, IsSameGuard, IsSamePart, Same, goal_parts, memory_target_term, places_from, terms_at_end, word_targets_from}
 use Rattle.code_check.specs.Terms.{TermState, terms_after}
 use Rattle.code_check.specs.declared.branches.Branch.{Branch}
 use Rattle.code_check.specs.declared.codes.At.{At}
@@ -106,6 +106,14 @@ append_back (x ∷ xs) ys zs = ap (λ us. x ∷ us) (append_back xs ys zs)
 
 -- ---- the first part that differs
 
+-- the first of these parts that isn't the same
+pub record IsFirstAmong (g : Graph Op) (goal : GoalTree) (instrs : List Instr) (places : List At) (ps : List Part) (part : Part) : Type 0 where
+  pub before : List Part
+  pub behind : List Part
+  pub order : ps ≡ before ++ part ∷ behind
+  pub same : All (IsSamePart g goal instrs places) before
+  pub differs : ¬ IsSamePart g goal instrs places part
+
 module _ (g : Graph Op) (goal : GoalTree) (instrs : List Instr) (places : List At) where
   abbrev P : Part → Type 0
   P part = IsSamePart g goal instrs places part
@@ -133,7 +141,10 @@ module _ (g : Graph Op) (goal : GoalTree) (instrs : List Instr) (places : List A
       let m_is : k ≡ m = omega (arith, e) in
       subst (λ n. P (parts.Set n)) m_is (set_is k t there (below k t (slice_get_within goal.sets k t there) there word)))
 
-  pub guard_differs : ¬ P parts.Guard → IsFirstDifferent g goal instrs places parts.Guard
+  abbrev IsFirst : Part → Type 0
+  IsFirst part = IsFirstAmong g goal instrs places (goal_parts goal) part
+
+  pub guard_differs : ¬ P parts.Guard → IsFirst parts.Guard
   guard_differs differs = record {
     before = [];
     behind = parts.Exit ∷ (map parts.Set (word_targets_from 0 goal.sets) ++ parts.Memory ∷ []);
@@ -143,7 +154,7 @@ module _ (g : Graph Op) (goal : GoalTree) (instrs : List Instr) (places : List A
   }
 
   module _ (guard : P parts.Guard) where
-    pub exit_differs : ¬ P parts.Exit → IsFirstDifferent g goal instrs places parts.Exit
+    pub exit_differs : ¬ P parts.Exit → IsFirst parts.Exit
     exit_differs differs = record {
       before = parts.Guard ∷ [];
       behind = map parts.Set (word_targets_from 0 goal.sets) ++ parts.Memory ∷ [];
@@ -156,7 +167,7 @@ module _ (g : Graph Op) (goal : GoalTree) (instrs : List Instr) (places : List A
       first_two : (ps : List Part) → All P ps → All P (parts.Guard ∷ parts.Exit ∷ ps)
       first_two ps h = All-cons P parts.Guard (parts.Exit ∷ ps) guard (All-cons P parts.Exit ps exit h)
 
-      pub set_differs : (i : ℕ) → IsFirstDifferentTarget g places goal.sets end (Some i) → IsFirstDifferent g goal instrs places (parts.Set i)
+      pub set_differs : (i : ℕ) → IsFirstDifferentTarget g places goal.sets end (Some i) → IsFirst (parts.Set i)
       set_differs i h =
           let d = h.0 in
           let numbers = split_targets 0 goal.sets i i d.target d.there d.is_word (omega arith) in
@@ -173,7 +184,7 @@ module _ (g : Graph Op) (goal : GoalTree) (instrs : List Instr) (places : List A
           }
 
       module _ (sets : AreSameBelow g places goal.sets end (length goal.sets)) where
-        pub memory_differs : ¬ P parts.Memory → IsFirstDifferent g goal instrs places parts.Memory
+        pub memory_differs : ¬ P parts.Memory → IsFirst parts.Memory
         memory_differs differs = record {
           before = parts.Guard ∷ parts.Exit ∷ map parts.Set (word_targets_from 0 goal.sets);
           behind = [];
@@ -182,17 +193,74 @@ module _ (g : Graph Op) (goal : GoalTree) (instrs : List Instr) (places : List A
           differs = differs;
         }
 
-        pub none_differs : P parts.Memory → Same g goal instrs places
+        pub none_differs : P parts.Memory → All P (goal_parts goal)
         none_differs memory =
             first_two (map parts.Set (word_targets_from 0 goal.sets) ++ parts.Memory ∷ [])
             (All-append P (map parts.Set (word_targets_from 0 goal.sets)) (parts.Memory ∷ []) (all_sets sets) (All-cons P parts.Memory [] memory (All-nil P)))
+
+-- ---- instructions before the parts of the goal
+
+-- all up to one of them, and from it on
+split_places : (start : ℕ) (is : List Instr) (k m : ℕ) → k < length is → m ≡ start + k → places_from start is ≡ places_from start (take k is) ++ m ∷ places_from (m + 1) (drop (suc k) is)
+split_places start [] k m l e = absurd (omega (arith, l))
+split_places start (i ∷ is) zero m l e = (let same : start ≡ m = omega (arith, e) in ap (λ n. n ∷ places_from (n + 1) is) same)
+split_places start (i ∷ is) (suc k) m l e = ap (λ ns. start ∷ ns) (split_places (start + 1) is k m (omega (arith, l)) (omega (arith, e)))
+
+all_places : (P : Part → Type 0) (start : ℕ) (is : List Instr) → ((k m : ℕ) → k < length is → m ≡ start + k → P (parts.Trap m)) → All P (map parts.Trap (places_from start is))
+all_places P start [] each = All-nil P
+all_places P start (i ∷ is) each =
+    All-cons P (parts.Trap start) (map parts.Trap (places_from (start + 1) is)) (each 0 start (omega arith) (omega arith))
+    (all_places P (start + 1) is (λ k m l e. each (suc k) m (omega (arith, l)) (omega (arith, e))))
+
+module _ (g : Graph Op) (goal : GoalTree) (instrs : List Instr) (places : List At) where
+  abbrev Q : Part → Type 0
+  Q part = IsSamePart g goal instrs places part
+
+  aligned_places : (n : ℕ) → n ≤ length instrs → AreAlignedBelow g instrs n → All Q (map parts.Trap (places_from 0 (take n instrs)))
+  aligned_places n le below = all_places Q 0 (take n instrs) (λ k m l e.
+      let m_is : k ≡ m = omega (arith, e) in
+      let within = length-take-le n instrs le in
+      subst (λ j. Q (parts.Trap j)) m_is (below k (omega (arith, l, within))))
+
+  -- the first instruction that isn't aligned
+  pub trap_differs : (at : ℕ) → IsFirstTrap g instrs (Some at) → IsFirstDifferent g goal instrs places (parts.Trap at)
+  trap_differs at h =
+      let first = map parts.Trap (places_from 0 (take at instrs)) in
+      let rest = map parts.Trap (places_from (at + 1) (drop (suc at) instrs)) in
+      let split : map parts.Trap (places_from 0 instrs) ≡ first ++ parts.Trap at ∷ rest =
+      ap (map parts.Trap) (split_places 0 instrs at at h.1 (omega arith)) ∙ map-append parts.Trap (places_from 0 (take at instrs)) (at ∷ places_from (at + 1) (drop (suc at) instrs)) in
+      record {
+        before = first;
+        behind = rest ++ goal_parts goal;
+        order = ap (λ ps. ps ++ goal_parts goal) split ∙ append_back first (parts.Trap at ∷ rest) (goal_parts goal);
+        same = aligned_places at (let l = h.1 in omega (arith, l)) h.2;
+        differs = h.0;
+      }
+
+  module _ (aligned : IsFirstTrap g instrs None) where
+    traps_same : All Q (map parts.Trap (places_from 0 instrs))
+    traps_same = (let all : take (length instrs) instrs ≡ instrs = take_all (length instrs) instrs (omega arith) in
+        subst (λ is. All Q (map parts.Trap (places_from 0 is))) all (aligned_places (length instrs) (omega arith) aligned))
+
+    -- where all are aligned, the first part of the goal that isn't the same
+    pub behind_traps : (part : Part) → IsFirstAmong g goal instrs places (goal_parts goal) part → IsFirstDifferent g goal instrs places part
+    behind_traps part h = record {
+      before = map parts.Trap (places_from 0 instrs) ++ h.before;
+      behind = h.behind;
+      order = ap (λ ps. map parts.Trap (places_from 0 instrs) ++ ps) h.order ∙ sym (append_back (map parts.Trap (places_from 0 instrs)) h.before (part ∷ h.behind));
+      same = All-append Q (map parts.Trap (places_from 0 instrs)) h.before traps_same h.same;
+      differs = h.differs;
+    }
+
+    pub all_same : All Q (goal_parts goal) → Same g goal instrs places
+    all_same h = All-append Q (map parts.Trap (places_from 0 instrs)) (goal_parts goal) traps_same h
 
 -- ---- what comparisons tell of the parts
 
 false_true : false ≡ true → ⊥
 false_true e = cc
 
-module _ (g : Graph Op) (goal : GoalTree) (instrs : List Instr) (places : List At) (branch : Option Branch) (of : IsBranchOf instrs branch) (one : HasOneBranch instrs) where
+module _ (g : Graph Op) (goal : GoalTree) (instrs : List Instr) (places : List At) (aligned : IsFirstTrap g instrs None) (branch : Option Branch) (of : IsBranchOf instrs branch) (one : HasOneBranch instrs) where
   abbrev at_branch : TermState
   at_branch = terms_at_branch branch instrs
 
@@ -209,25 +277,25 @@ module _ (g : Graph Op) (goal : GoalTree) (instrs : List Instr) (places : List A
 
   module _ (guard : Bool) (guard_tells : IsTrue guard ↔ IsSameBranch g goal.guard branch at_branch) where
     pub other_guard : guard ≡ false → IsFirstDifferent g goal instrs places parts.Guard
-    other_guard e = guard_differs g goal instrs places (λ same. false_true (sym e ∙ guard_tells.1 (is_guard g instrs one goal.guard branch of same)))
+    other_guard e = behind_traps g goal instrs places aligned parts.Guard (guard_differs g goal instrs places (λ same. false_true (sym e ∙ guard_tells.1 (is_guard g instrs one goal.guard branch of same))))
 
     module _ (guard_same : guard ≡ true) (exit : Bool) (exit_tells : IsTrue exit ↔ IsSameLeaving g goal.inputs branch at_branch) where
       first_part : IsSamePart g goal instrs places parts.Guard
       first_part = guard_is g instrs one goal.guard branch of (guard_tells.0 guard_same)
 
       pub other_exit : exit ≡ false → IsFirstDifferent g goal instrs places parts.Exit
-      other_exit e = exit_differs g goal instrs places first_part (λ same. false_true (sym e ∙ exit_tells.1 (is_leaving branch of same)))
+      other_exit e = behind_traps g goal instrs places aligned parts.Exit (exit_differs g goal instrs places first_part (λ same. false_true (sym e ∙ exit_tells.1 (is_leaving branch of same))))
 
       module _ (exit_same : exit ≡ true) where
         second_part : IsSamePart g goal instrs places parts.Exit
         second_part = leaving_is branch of (exit_tells.0 exit_same)
 
         pub other_set : (i : ℕ) → IsFirstDifferentTarget g places goal.sets at_end (Some i) → IsFirstDifferent g goal instrs places (parts.Set i)
-        other_set i h = set_differs g goal instrs places first_part second_part i h
+        other_set i h = behind_traps g goal instrs places aligned (parts.Set i) (set_differs g goal instrs places first_part second_part i h)
 
         module _ (sets : IsFirstDifferentTarget g places goal.sets at_end None) (same : Bool) (memory_tells : IsTrue same ↔ HaveSameClass g at_end.memory (memory_target_term goal.sets)) where
           pub other_memory : same ≡ false → IsFirstDifferent g goal instrs places parts.Memory
-          other_memory e = memory_differs g goal instrs places first_part second_part sets (λ h. false_true (sym e ∙ memory_tells.1 h))
+          other_memory e = behind_traps g goal instrs places aligned parts.Memory (memory_differs g goal instrs places first_part second_part sets (λ h. false_true (sym e ∙ memory_tells.1 h)))
 
           pub no_other : same ≡ true → Same g goal instrs places
-          no_other e = none_differs g goal instrs places first_part second_part sets (memory_tells.0 e)
+          no_other e = all_same g goal instrs places aligned (none_differs g goal instrs places first_part second_part sets (memory_tells.0 e))

@@ -12,7 +12,7 @@ use Rattle.goal_meaning.specs.Outcomes.{is_memory}
 use Rattle.goal_meaning.specs.Views.{GoalTree, InputTree, TargetTree}
 use Rattle.code_check.specs.Codes.{IsCodeOf}
 use Rattle.code_check.specs.Replies.{AreReplies, AreSaid, CanBeSaid, IsPartOf, IsReplyTo, code_words, is_no_world, is_unknown, none, one_more, reply_lines, reply_words}
-use Rattle.code_check.specs.Same.{compared_parts, word_targets_from}
+use Rattle.code_check.specs.Same.{compared_parts, goal_parts, places_from, word_targets_from}
 use Rattle.code_check.specs.Verified.{IsRightFor, IsVerified}
 use Rattle.code_check.specs.declared.codes.Code.{Code}
 use Rattle.code_check.specs.declared.codes.Part.{Part}
@@ -38,14 +38,19 @@ low_targets n (t ∷ ts) = with_target n ts (is_memory t) (more_targets n ts (lo
 targets_are : (goal : GoalTree) → All (λ i. IsPartOf goal (parts.Set i)) (word_targets_from 0 goal.sets)
 targets_are goal = λ k d l. (let h = low_targets 0 goal.sets k d l in omega (arith, h))
 
-pub parts_are : (goal : GoalTree) → All (IsPartOf goal) (compared_parts goal)
-parts_are goal =
+goal_parts_are : (goal : GoalTree) → All (IsPartOf goal) (goal_parts goal)
+goal_parts_are goal =
     let sets = map parts.Set (word_targets_from 0 goal.sets) in
     All-cons (IsPartOf goal) parts.Guard (parts.Exit ∷ (sets ++ parts.Memory ∷ [])) tt
     (All-cons (IsPartOf goal) parts.Exit (sets ++ parts.Memory ∷ []) tt
     (All-append (IsPartOf goal) sets (parts.Memory ∷ [])
     (All-map (IsPartOf goal) parts.Set (word_targets_from 0 goal.sets) (targets_are goal))
     (All-cons (IsPartOf goal) parts.Memory [] tt (All-nil (IsPartOf goal)))))
+
+pub parts_are : (goal : GoalTree) (instrs : List Instr) → All (IsPartOf goal) (compared_parts goal instrs)
+parts_are goal instrs =
+    All-append (IsPartOf goal) (map parts.Trap (places_from 0 instrs)) (goal_parts goal)
+    (All-map (IsPartOf goal) parts.Trap (places_from 0 instrs) (λ k d l. tt)) (goal_parts_are goal)
 
 pub middle : {X : Type 0} (P : X → Type 0) (all before behind : List X) (x : X) → all ≡ before ++ x ∷ behind → All P all → P x
 middle P all before behind x e h =
@@ -58,6 +63,7 @@ middle P all before behind x e h =
 
 -- the goal without lets has the goal's targets
 of_goal : (goal : GoalTree) (part : Part) → IsPartOf (expanded goal) part → IsPartOf goal part
+of_goal goal (parts.Trap at) h = h
 of_goal goal parts.Guard h = h
 of_goal goal parts.Exit h = h
 of_goal goal (parts.Set i) h = subst (λ n. i < n) (length-map goal.sets (expanded_target (let_terms goal))) h
@@ -66,7 +72,7 @@ of_goal goal parts.Memory h = h
 pub can_be_said : (input : InputTree) (goal : GoalTree) (instrs : List Instr) (code : Code) (rounds nodes : ℕ) (answer : Verified) → IsVerified input goal instrs code rounds nodes answer → CanBeSaid goal answer
 can_be_said input goal instrs code rounds nodes Yes h = tt
 can_be_said input goal instrs code rounds nodes (Unknown j stop part) h =
-    (let d = h.2 in of_goal goal part (middle (IsPartOf (expanded goal)) (compared_parts (expanded goal)) d.before d.behind part d.order (parts_are (expanded goal))))
+    (let d = h.2 in of_goal goal part (middle (IsPartOf (expanded goal)) (compared_parts (expanded goal) instrs) d.before d.behind part d.order (parts_are (expanded goal) instrs)))
 can_be_said input goal instrs code rounds nodes (NoWorld class a b) h = tt
 
 -- ---- one more line

@@ -1,7 +1,6 @@
 -- The run of words in a line: up to a branch that is taken, or to the end.
 use Rattle.std.proofs.Common.{◌≡◌, ◌≢◌, ℕ, ℤ, zero, suc, ◌+◌, ◌-◌, ◌*◌, ◌/◌, ◌^◌, ◌<◌, ◌≤◌, List, [], ◌∷◌, ◌++◌, length, map, take, refl, sym, ◌∙◌, ap, subst, inl, inr, arith, pos, Option, Some}
-use Rattle.std.specs.Prelude.{All, IsSomeAnd, slice_get, slice_index, if◌then◌else◌}
-use Rattle.std.specs.Option.{option_map_or}
+use Rattle.std.specs.Prelude.{All, IsFalse, IsSomeAnd, slice_get, slice_index, if◌then◌else◌}
 use Rattle.std.proofs.lemmas.Bool.Decides.{eqb_tells}
 use Rattle.std.proofs.lemmas.List.{length-map}
 use Rattle.std.proofs.lemmas.Option.{slice_get_cases, slice_get_within, get_or_from_slice_get, same_Some, none-some}
@@ -9,10 +8,10 @@ use Rattle.word_ops.specs.Worlds.{World}
 use Rattle.alpha_encode.specs.Decoded.{decoded}
 use Rattle.alpha_encode.specs.Formats.{IsWellFormed}
 use Rattle.alpha_encode.specs.declared.instructions.Instr.{Instr}
-use Rattle.alpha_encode.specs.declared.instructions.Instr.TheVariants.{Operate, Lda, Ldah, Load, Store, Beq}
+use Rattle.alpha_encode.specs.declared.instructions.Instr.TheVariants.{Operate, Lda, Ldah, Load, Store, Ldq, Stq, Beq}
 use Rattle.alpha_machine.specs.States.{MachineState}
-use Rattle.alpha_machine.specs.Steps.{step, next_pc, address}
-use Rattle.alpha_machine.specs.Runs.{Runs, stepped, after, IsAllowedAt}
+use Rattle.alpha_machine.specs.Steps.{step, next_pc, address, traps}
+use Rattle.alpha_machine.specs.Runs.{Runs, fetched, stepped, after, IsAllowedAt}
 use Rattle.alpha_machine.specs.declared.running.End.TheVariants.{Fall, Exit}
 use Rattle.code_check.specs.Outcomes.{IsCode, entry_state}
 use Rattle.code_check.specs.Same.{IsBranchAt}
@@ -30,7 +29,7 @@ pub terms_more : (is : List Instr) (i : Instr) (ts : TermState) → terms_from (
 terms_more [] i ts = refl
 terms_more (j ∷ is) i ts = terms_more is i (term_step j ts)
 
-well_formed_at : (is : List Instr) (k : ℕ) (i : Instr) → All IsWellFormed is → slice_get is k ≡ Some i → IsWellFormed i
+pub well_formed_at : (is : List Instr) (k : ℕ) (i : Instr) → All IsWellFormed is → slice_get is k ≡ Some i → IsWellFormed i
 well_formed_at is k i wf there = subst IsWellFormed (get_or_from_slice_get is k i i there) (wf k i (slice_get_within is k i there))
 
 -- the instruction goes on to the next
@@ -44,6 +43,8 @@ pc_on (Lda ra rb disp) s k on pc few = omega (arith, pc, few)
 pc_on (Ldah ra rb disp) s k on pc few = omega (arith, pc, few)
 pc_on (Load access ra rb disp) s k on pc few = omega (arith, pc, few)
 pc_on (Store access ra rb disp) s k on pc few = omega (arith, pc, few)
+pc_on (Ldq ra rb disp) s k on pc few = omega (arith, pc, few)
+pc_on (Stq ra rb disp) s k on pc few = omega (arith, pc, few)
 pc_on (Beq ra disp) s k on pc few = elim (eqb_tells (slice_index s.registers ra) 0) [
   | inl t ↦ absurd (on t.1)
   | inr t ↦ ap (λ b. if b then address (next_pc s.pc) 4 disp else next_pc s.pc) t.0 ∙ omega (arith, pc, few)
@@ -80,10 +81,12 @@ word_of (w ∷ words) (j ∷ is) e (suc k) i there = word_of words is (tail_same
 module _ (last : (n : ℕ) (instrs : List Instr) (s : MachineState) → after (suc n) instrs s ≡ stepped instrs (after n instrs s))
     (sums : (m n : ℕ) (instrs : List Instr) (s : MachineState) → after (m + n) instrs s ≡ after n instrs (after m instrs s))
     (stays : (n : ℕ) (instrs : List Instr) (s : MachineState) → length instrs ≤ s.pc / 4 → after n instrs s ≡ s)
+    (steps : (instrs : List Instr) (s : MachineState) (i : Instr) → fetched instrs s ≡ Some i → IsFalse (traps i s) → stepped instrs s ≡ step i s)
     (w : World) (names : ℕ → List ℕ)
     (one : (ts : TermState) (s : MachineState) → HaveValues w names ts s → (i : Instr) → IsWellFormed i → HaveValues w names (term_step i ts) (step i s))
     (words : List ℕ) (is : List Instr) (code : IsCode words is) (few : length words < 2 ^ 29)
-    (first : HaveValues w names terms_at_entry (entry_state w)) where
+    (first : HaveValues w names terms_at_entry (entry_state w))
+    (safe : (k : ℕ) (i : Instr) (s : MachineState) → slice_get is k ≡ Some i → HaveValues w names (terms_after k is) s → IsFalse (traps i s)) where
   count : length words ≡ length is
   count = sym (length-map words decoded) ∙ ap length code.decode ∙ length-map is Some
 
@@ -95,8 +98,10 @@ module _ (last : (n : ℕ) (instrs : List Instr) (s : MachineState) → after (s
     pub values : HaveValues w names (terms_after k is) s
     pub pc : s.pc ≡ 4 * k
 
-  stepped_is : (k : ℕ) (s : MachineState) (i : Instr) → s.pc ≡ 4 * k → slice_get is k ≡ Some i → stepped is s ≡ step i s
-  stepped_is k s i pc there = let place : s.pc / 4 ≡ k = omega (arith, pc) in ap (λ o. option_map_or (λ j. step j s) o s) (ap (slice_get is) place ∙ there)
+  stepped_is : (k : ℕ) (s : MachineState) (i : Instr) → IsAt k s → slice_get is k ≡ Some i → stepped is s ≡ step i s
+  stepped_is k s i h there =
+      let place : s.pc / 4 ≡ k = (let pc = h.pc in omega (arith, pc)) in
+      steps is s i (ap (slice_get is) place ∙ there) (safe k i s there h.values)
 
   next_values : (k : ℕ) (s : MachineState) (i : Instr) → HaveValues w names (terms_after k is) s → slice_get is k ≡ Some i → HaveValues w names (terms_after (suc k) is) (step i s)
   next_values k s i h there =
@@ -114,6 +119,8 @@ module _ (last : (n : ℕ) (instrs : List Instr) (s : MachineState) → after (s
   goes_on k (Ldah ra rb disp) there none = tt
   goes_on k (Load access ra rb disp) there none = tt
   goes_on k (Store access ra rb disp) there none = tt
+  goes_on k (Ldq ra rb disp) there none = tt
+  goes_on k (Stq ra rb disp) there none = tt
 
   pub reached : (k : ℕ) → k ≤ length is → NoneTaken k → IsAt k (state_at k)
   reached zero le none = record { values = first; pc = omega arith }
@@ -123,7 +130,7 @@ module _ (last : (n : ℕ) (instrs : List Instr) (s : MachineState) → after (s
         | inl a ↦ (
             let i = a.0 in
             let there : slice_get is k ≡ Some i = a.2 in
-            let e : state_at (suc k) ≡ step i (state_at k) = last k is (entry_state w) ∙ stepped_is k (state_at k) i h.pc there in
+            let e : state_at (suc k) ≡ step i (state_at k) = last k is (entry_state w) ∙ stepped_is k (state_at k) i h there in
             record {
               values = subst (HaveValues w names (terms_after (suc k) is)) (sym e) (next_values k (state_at k) i h.values there);
               pc = ap (λ s. s.pc) e ∙ pc_on i (state_at k) k (goes_on k i there none) h.pc (omega (arith, le, few, count));
@@ -166,7 +173,7 @@ module _ (last : (n : ℕ) (instrs : List Instr) (s : MachineState) → after (s
 
     module _ (zero_word : slice_index (state_at at).registers ra ≡ 0) where
       gone : state_at (suc at) ≡ record { registers = (state_at at).registers; memory = (state_at at).memory; pc = address (next_pc (state_at at).pc) 4 branch.disp }
-      gone = last at is (entry_state w) ∙ stepped_is at (state_at at) (Beq ra branch.disp) at_branch.pc branch.there ∙ left ra branch.disp (state_at at) zero_word
+      gone = last at is (entry_state w) ∙ stepped_is at (state_at at) (Beq ra branch.disp) at_branch branch.there ∙ left ra branch.disp (state_at at) zero_word
 
       gone_pc : (state_at (suc at)).pc ≡ 4 * length words + 4
       gone_pc = ap (λ s. s.pc) gone ∙ ap (λ d. address (next_pc (state_at at).pc) 4 d) leads ∙ omega (arith, at_branch.pc, within, few, count)

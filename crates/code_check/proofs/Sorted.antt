@@ -1,6 +1,6 @@
 -- The terms that well-formed instructions write are well formed.
 use Rattle.std.proofs.Common.{◌≡◌, ℕ, ℤ, List, [], ◌∷◌, refl, sym, ap, subst, inl, inr, ◌⊎◌, arith, Bool, true, false, ◌==◌}
-use Rattle.std.specs.Prelude.{All, FitsSigned, IsSome, if◌then◌else◌}
+use Rattle.std.specs.Prelude.{All, FitsSigned, if◌then◌else◌}
 use Rattle.std.specs.Int.{w16}
 use Rattle.std.proofs.lemmas.Bool.Decides.{nat_tests}
 use Rattle.std.proofs.lemmas.Int.{ints}
@@ -8,6 +8,7 @@ use Rattle.std.proofs.lemmas.List.Elements.{All-nil, All-cons, All-head, All-tai
 use Rattle.word_ops.specs.declared.operates.Operate.{Operate as OperateOf}
 use Rattle.word_ops.specs.declared.operates.Operate.TheVariants as operates
 use Rattle.word_ops.specs.declared.sorts.Access.{Access}
+use Rattle.word_ops.specs.declared.sorts.Access.TheVariants.{Quad}
 use Rattle.word_ops.specs.declared.operators.WordOp.{WordOp}
 use Rattle.word_ops.specs.declared.operators.WordOp.TheVariants as ops
 use Rattle.word_ops.specs.declared.sorts.Op.{Op}
@@ -18,17 +19,17 @@ use Rattle.word_ops.specs.Words.{IsWord}
 use Rattle.word_terms.specs.Keys.{op_signature}
 use Rattle.word_terms.specs.Sorting.{HasSort}
 use Rattle.word_terms.specs.Tree.{Tree}
-use Rattle.word_terms.specs.Building.{constant, w1, w2, o1, o2, read_of, written_of}
+use Rattle.word_terms.specs.Building.{constant, w1, w2, o1, o2}
 use Rattle.word_ops.specs.Operates.{row_of}
 use Rattle.alpha_encode.specs.Codes.{is_unary}
 use Rattle.alpha_encode.specs.Formats.{IsWellFormed, IsSecond}
 use Rattle.alpha_encode.specs.declared.instructions.Second.{Second}
 use Rattle.alpha_encode.specs.declared.instructions.Second.TheVariants.{Reg, Literal}
 use Rattle.alpha_encode.specs.declared.instructions.Instr.{Instr}
-use Rattle.alpha_encode.specs.declared.instructions.Instr.TheVariants.{Operate, Lda, Ldah, Load, Store, Beq}
+use Rattle.alpha_encode.specs.declared.instructions.Instr.TheVariants.{Operate, Lda, Ldah, Load, Store, Ldq, Stq, Beq}
 use Rattle.saturation.specs.AtStart.{IsSorted}
 use Rattle.saturation.specs.GoalTerms.{input_term}
-use Rattle.code_check.specs.Terms.{TermState, terms_at_entry, term_step, terms_written, terms_written_from, unless_zero_register, second_term, operate_term, address_term, sign_extended}
+use Rattle.code_check.specs.Terms.{TermState, loaded_term, stored_term, terms_at_entry, term_step, terms_written, terms_written_from, unless_zero_register, second_term, operate_term, address_term, sign_extended}
 
 abbrev IsOf : Sort → Tree Op → Type 0
 IsOf sort t = HasSort op_signature [] sort t
@@ -103,27 +104,34 @@ module _ (ts : TermState) (h : AreSortedTerms ts) where
   lda_given : (op : WordOp) (rb : ℕ) (disp : ℤ) → arity_of op ≡ 2 → FitsSigned w16 disp → IsOf sorts.Word (w2 op (ts.registers rb) (constant (sign_extended disp)))
   lda_given op rb disp two fits = w2_is op (ts.registers rb) (constant (sign_extended disp)) two (h.registers rb) (constant_is (sign_extended disp) (extended_word disp fits))
 
-  load_given : (access : Access) (rb : ℕ) (disp : ℤ) → FitsSigned w16 disp → IsOf sorts.Word (read_of access ts.memory (address_term (ts.registers rb) disp))
+  load_given : (access : Access) (rb : ℕ) (disp : ℤ) → FitsSigned w16 disp → IsOf sorts.Word (loaded_term access ts rb disp)
   load_given access rb disp fits = (refl, tt, refl, (h.memory_is, (address_is (ts.registers rb) disp fits (h.registers rb), tt)))
 
-  store_given : (access : Access) (ra rb : ℕ) (disp : ℤ) → FitsSigned w16 disp → IsOf sorts.Memory (written_of access ts.memory (address_term (ts.registers rb) disp) (ts.registers ra))
+  store_given : (access : Access) (ra rb : ℕ) (disp : ℤ) → FitsSigned w16 disp → IsOf sorts.Memory (stored_term access ts ra rb disp)
   store_given access ra rb disp fits = (refl, tt, refl, (h.memory_is, (address_is (ts.registers rb) disp fits (h.registers rb), (h.registers ra, tt))))
+
+  one_stored : (access : Access) (ra rb : ℕ) (disp : ℤ) → FitsSigned w16 disp → All IsSorted (stored_term access ts ra rb disp ∷ [])
+  one_stored access ra rb disp fits =
+      All-cons IsSorted (stored_term access ts ra rb disp) [] (record { sort = sorts.Memory; is = store_given access ra rb disp fits }) (All-nil IsSorted)
 
   next_sorted : (i : Instr) → IsWellFormed i → AreSortedTerms (term_step i ts)
   next_sorted (Operate op ra second rc) wf = with_sorted rc (operate_term op (ts.registers ra) (second_term second ts.registers)) (operate_given op ra second wf.1)
   next_sorted (Lda ra rb disp) wf = with_sorted ra (w2 ops.Lda (ts.registers rb) (constant (sign_extended disp))) (lda_given ops.Lda rb disp refl wf.2)
   next_sorted (Ldah ra rb disp) wf = with_sorted ra (w2 ops.Ldah (ts.registers rb) (constant (sign_extended disp))) (lda_given ops.Ldah rb disp refl wf.2)
-  next_sorted (Load access ra rb disp) wf = with_sorted ra (read_of access ts.memory (address_term (ts.registers rb) disp)) (load_given access rb disp wf.2)
+  next_sorted (Load access ra rb disp) wf = with_sorted ra (loaded_term access ts rb disp) (load_given access rb disp wf.2)
   next_sorted (Store access ra rb disp) wf = record { registers = h.registers; memory_is = store_given access ra rb disp wf.2 }
+  next_sorted (Ldq ra rb disp) wf = with_sorted ra (loaded_term Quad ts rb disp) (load_given Quad rb disp wf.2)
+  next_sorted (Stq ra rb disp) wf = record { registers = h.registers; memory_is = store_given Quad ra rb disp wf.2 }
   next_sorted (Beq ra disp) wf = record { registers = h.registers; memory_is = h.memory_is }
 
   given_sorted : (i : Instr) → IsWellFormed i → All IsSorted (terms_written i ts)
   given_sorted (Operate op ra second rc) wf = one_given rc (operate_term op (ts.registers ra) (second_term second ts.registers)) sorts.Word (operate_given op ra second wf.1)
   given_sorted (Lda ra rb disp) wf = one_given ra (w2 ops.Lda (ts.registers rb) (constant (sign_extended disp))) sorts.Word (lda_given ops.Lda rb disp refl wf.2)
   given_sorted (Ldah ra rb disp) wf = one_given ra (w2 ops.Ldah (ts.registers rb) (constant (sign_extended disp))) sorts.Word (lda_given ops.Ldah rb disp refl wf.2)
-  given_sorted (Load access ra rb disp) wf = one_given ra (read_of access ts.memory (address_term (ts.registers rb) disp)) sorts.Word (load_given access rb disp wf.2)
-  given_sorted (Store access ra rb disp) wf =
-      All-cons IsSorted (written_of access ts.memory (address_term (ts.registers rb) disp) (ts.registers ra)) [] (record { sort = sorts.Memory; is = store_given access ra rb disp wf.2 }) (All-nil IsSorted)
+  given_sorted (Load access ra rb disp) wf = one_given ra (loaded_term access ts rb disp) sorts.Word (load_given access rb disp wf.2)
+  given_sorted (Store access ra rb disp) wf = one_stored access ra rb disp wf.2
+  given_sorted (Ldq ra rb disp) wf = one_given ra (loaded_term Quad ts rb disp) sorts.Word (load_given Quad rb disp wf.2)
+  given_sorted (Stq ra rb disp) wf = one_stored Quad ra rb disp wf.2
   given_sorted (Beq ra disp) wf = All-nil IsSorted
 
 all_sorted : (is : List Instr) (ts : TermState) → All IsWellFormed is → AreSortedTerms ts → All IsSorted (terms_written_from is ts)

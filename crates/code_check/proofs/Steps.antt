@@ -1,6 +1,6 @@
 -- One instruction: the terms after it have the values that it leaves.
-use Rattle.std.proofs.Common.{◌≡◌, ℕ, ℤ, ◌+◌, ◌*◌, ◌/◌, ◌%◌, ◌^◌, ◌<◌, List, [], ◌∷◌, refl, sym, ◌∙◌, ap, subst, inl, inr, arith, Bool, true, false, ◌==◌, set, Option, Some, None}
-use Rattle.std.specs.Prelude.{All, FitsSigned, slice_index, if◌then◌else◌}
+use Rattle.std.proofs.Common.{◌≡◌, ℕ, ℤ, ◌+◌, ◌*◌, ◌%◌, ◌^◌, ◌<◌, ◌&&◌, not, List, [], ◌∷◌, refl, sym, ◌∙◌, ap, subst, inl, inr, arith, Bool, true, false, ◌==◌, set, Some, None}
+use Rattle.std.specs.Prelude.{All, FitsSigned, IsFalse, slice_index, if◌then◌else◌}
 use Rattle.std.specs.Int.{cast_signed, cast_unsigned, w16, w64}
 use Rattle.std.proofs.lemmas.Bool.Decides.{eqb_tells, nat_tests}
 use Rattle.std.proofs.lemmas.Int.{ints}
@@ -12,25 +12,26 @@ use Rattle.word_ops.specs.declared.sorts.Op.{Op}
 use Rattle.word_ops.specs.Memory.{Memory, IsMemory, loaded, stored}
 use Rattle.word_ops.specs.declared.operates.Operate.{Operate as OperateOf}
 use Rattle.word_ops.specs.declared.sorts.Access.{Access}
+use Rattle.word_ops.specs.declared.sorts.Access.TheVariants.{Quad}
 use Rattle.word_ops.specs.Operators.{value_at, value_of}
 use Rattle.word_ops.specs.Values.{lda, ldah}
 use Rattle.word_ops.specs.Words.{IsWord}
 use Rattle.word_ops.specs.Worlds.{World, IsWorld, Value, word, memory}
 use Rattle.word_ops.specs.Meanings.{as_word, as_memory}
 use Rattle.word_terms.specs.Tree.{Tree}
-use Rattle.word_terms.specs.Building.{constant, o1, o2, w2, read_of}
+use Rattle.word_terms.specs.Building.{constant, o1, o2, w2}
 use Rattle.axiom_base.specs.Rewrites.{value_in}
 use Rattle.alpha_encode.specs.Codes.{is_unary}
 use Rattle.alpha_encode.specs.Formats.{IsWellFormed, IsSecond}
 use Rattle.alpha_encode.specs.declared.instructions.Second.{Second}
 use Rattle.alpha_encode.specs.declared.instructions.Second.TheVariants.{Reg, Literal}
 use Rattle.alpha_encode.specs.declared.instructions.Instr.{Instr}
-use Rattle.alpha_encode.specs.declared.instructions.Instr.TheVariants.{Operate, Lda, Ldah, Load, Store, Beq}
+use Rattle.alpha_encode.specs.declared.instructions.Instr.TheVariants.{Operate, Lda, Ldah, Load, Store, Ldq, Stq, Beq}
 use Rattle.alpha_machine.specs.States.{MachineState}
-use Rattle.alpha_machine.specs.Steps.{step, second_value, operate_result, address, with_register, next_pc}
+use Rattle.alpha_machine.specs.Steps.{step, second_value, operate_result, address, is_multiple_of_8, place_of, traps, with_loaded, with_register, with_stored, next_pc}
 use Rattle.saturation.specs.GoalTerms.{input_term}
 use Rattle.code_check.specs.Outcomes.{entry_state}
-use Rattle.code_check.specs.Terms.{TermState, terms_at_entry, term_step, terms_from, with_term, second_term, operate_term, address_term, sign_extended}
+use Rattle.code_check.specs.Terms.{TermState, alignment, loaded_term, place_term, stored_term, terms_at_entry, term_step, terms_from, with_memory, with_term, second_term, operate_term, address_term, sign_extended}
 use Rattle.code_check.specs.Values.{HaveValues, after_all}
 
 lda_value : (a b c : ℕ) → value_at ops.Lda a b c ≡ lda a b
@@ -140,6 +141,33 @@ module _ (w : World) (names : ℕ → List ℕ)
     word_address : (x scale : ℕ) (disp : ℤ) → IsWord (address x scale disp)
     word_address x scale disp = omega arith
 
+    -- the address of a load or a store
+    place_is : (rb : ℕ) (disp : ℤ) → rb < 32 → FitsSigned w16 disp → V (address_term (ts.registers rb) disp) ≡ word (place_of s rb disp)
+    place_is rb disp below fits = address_is (ts.registers rb) (slice_index s.registers rb) disp fits (h.words rb below) (h.registers rb below)
+
+    load_step : (access : Access) (ra rb : ℕ) (disp : ℤ) → ra < 32 → rb < 32 → FitsSigned w16 disp → Fine (with_term ts ra (loaded_term access ts rb disp)) (with_loaded access ra rb disp s)
+    load_step access ra rb disp low below fits =
+        let a = place_of s rb disp in
+        wrote ra (loaded access s.memory a) (loaded_term access ts rb disp) low (is_loaded access s.memory a h.is_memory)
+        (ap (λ m. word (loaded access (as_memory m) (as_word (V (address_term (ts.registers rb) disp))))) h.memory_is
+        ∙ ap (λ y. word (loaded access s.memory (as_word y))) (place_is rb disp below fits))
+
+    store_step : (access : Access) (ra rb : ℕ) (disp : ℤ) → ra < 32 → rb < 32 → FitsSigned w16 disp → Fine (with_memory ts (stored_term access ts ra rb disp)) (with_stored access ra rb disp s)
+    store_step access ra rb disp low below fits =
+        let a = place_of s rb disp in
+        let v = slice_index s.registers ra in
+        let t = address_term (ts.registers rb) disp in
+        record {
+          count = h.count;
+          words = h.words;
+          registers = h.registers;
+          is_memory = is_stored access s.memory a v h.is_memory (word_address (slice_index s.registers rb) 1 disp) (h.words ra low);
+          memory_is =
+              ap (λ m. memory (stored access (as_memory m) (as_word (V t)) (as_word (V (ts.registers ra))))) h.memory_is
+              ∙ ap (λ y. memory (stored access s.memory (as_word y) (as_word (V (ts.registers ra))))) (place_is rb disp below fits)
+              ∙ ap (λ y. memory (stored access s.memory a (as_word y))) (h.registers ra low);
+        }
+
     -- one instruction
     pub one_step : (i : Instr) → IsWellFormed i → Fine (term_step i ts) (step i s)
     one_step (Operate op ra second rc) wf =
@@ -156,30 +184,32 @@ module _ (w : World) (names : ℕ → List ℕ)
         let x = slice_index s.registers rb in
         wrote ra (address x 65536 disp) (w2 ops.Ldah (ts.registers rb) (constant (sign_extended disp))) wf.0 (word_address x 65536 disp)
         (ldah_term_is (ts.registers rb) x disp wf.2 (h.registers rb wf.1))
-    one_step (Load access ra rb disp) wf =
-        let x = slice_index s.registers rb in
-        let a = address x 1 disp in
-        let e : V (address_term (ts.registers rb) disp) ≡ word a = address_is (ts.registers rb) x disp wf.2 (h.words rb wf.1) (h.registers rb wf.1) in
-        wrote ra (loaded access s.memory a) (read_of access ts.memory (address_term (ts.registers rb) disp)) wf.0 (is_loaded access s.memory a h.is_memory)
-        (ap (λ m. word (loaded access (as_memory m) (as_word (V (address_term (ts.registers rb) disp))))) h.memory_is
-        ∙ ap (λ y. word (loaded access s.memory (as_word y))) e)
-    one_step (Store access ra rb disp) wf =
-        let x = slice_index s.registers rb in
-        let a = address x 1 disp in
-        let v = slice_index s.registers ra in
-        let t = address_term (ts.registers rb) disp in
-        let e : V t ≡ word a = address_is (ts.registers rb) x disp wf.2 (h.words rb wf.1) (h.registers rb wf.1) in
-        record {
-          count = h.count;
-          words = h.words;
-          registers = h.registers;
-          is_memory = is_stored access s.memory a v h.is_memory (word_address x 1 disp) (h.words ra wf.0);
-          memory_is =
-              ap (λ m. memory (stored access (as_memory m) (as_word (V t)) (as_word (V (ts.registers ra))))) h.memory_is
-              ∙ ap (λ y. memory (stored access s.memory (as_word y) (as_word (V (ts.registers ra))))) e
-              ∙ ap (λ y. memory (stored access s.memory a (as_word y))) (h.registers ra wf.0);
-        }
+    one_step (Load access ra rb disp) wf = load_step access ra rb disp wf.0 wf.1 wf.2
+    one_step (Store access ra rb disp) wf = store_step access ra rb disp wf.0 wf.1 wf.2
+    one_step (Ldq ra rb disp) wf = load_step Quad ra rb disp wf.0 wf.1 wf.2
+    one_step (Stq ra rb disp) wf = store_step Quad ra rb disp wf.0 wf.1 wf.2
     one_step (Beq ra disp) wf = record { count = h.count; words = h.words; registers = h.registers; is_memory = h.is_memory; memory_is = h.memory_is }
+
+    -- an address whose term has a multiple of 8 for its value is one
+    at_multiple : (rb : ℕ) (disp : ℤ) → rb < 32 → FitsSigned w16 disp → as_word (V (address_term (ts.registers rb) disp)) % 8 ≡ 0 → is_multiple_of_8 (place_of s rb disp) ≡ true
+    at_multiple rb disp below fits e =
+        let zero_rest : place_of s rb disp % 8 ≡ 0 = sym (ap (λ v. as_word v % 8) (place_is rb disp below fits)) ∙ e in
+        ap (λ n. n == 0) zero_rest
+
+    -- an instruction whose address is the multiple that it must be doesn't trap
+    pub no_trap : (i : Instr) → IsWellFormed i → ((n : ℕ) → alignment i ≡ Some n → as_word (V (place_term i ts)) % 2 ^ n ≡ 0) → IsFalse (traps i s)
+    no_trap (Operate op ra second rc) wf multiple = refl
+    no_trap (Lda ra rb disp) wf multiple = refl
+    no_trap (Ldah ra rb disp) wf multiple = refl
+    no_trap (Load access ra rb disp) wf multiple = refl
+    no_trap (Store access ra rb disp) wf multiple = refl
+    no_trap (Ldq ra rb disp) wf multiple = elim (eqb_tells ra 31) [
+      | inl k ↦ ap (λ b. not b && not (is_multiple_of_8 (place_of s rb disp))) k.0
+      | inr k ↦ ap (λ b. not b && not (is_multiple_of_8 (place_of s rb disp))) k.0
+          ∙ ap not (at_multiple rb disp wf.1 wf.2 (multiple 3 (ap (λ b. if b then None else Some 3) k.0)))
+    ]
+    no_trap (Stq ra rb disp) wf multiple = ap not (at_multiple rb disp wf.1 wf.2 (multiple 3 refl))
+    no_trap (Beq ra disp) wf multiple = refl
 
   -- instructions in a line
   pub all_steps : (is : List Instr) (ts : TermState) (s : MachineState) → All IsWellFormed is → Fine ts s → Fine (terms_from is ts) (after_all is s)

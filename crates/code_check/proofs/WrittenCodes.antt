@@ -14,7 +14,7 @@ use Rattle.forms.specs.Forms.{Form, list, parts_of, forms_from, name_in, number_
 use Rattle.machine_table.specs.Grammar.{Each, IsListOf, IsNameOf, IsNumberOf}
 use Rattle.alpha_encode.specs.Decoded.{decoded}
 use Rattle.alpha_encode.specs.declared.instructions.Instr.{Instr}
-use Rattle.alpha_encode.specs.declared.instructions.Instr.TheVariants.{Operate, Lda, Ldah, Load, Store, Beq}
+use Rattle.alpha_encode.specs.declared.instructions.Instr.TheVariants.{Operate, Lda, Ldah, Load, Store, Ldq, Stq, Beq}
 use Rattle.alpha_machine.specs.Runs.{MayStandAt}
 use Rattle.goal_meaning.specs.Outcomes.{is_memory}
 use Rattle.goal_meaning.specs.Views.{GoalTree, TargetTree}
@@ -47,6 +47,8 @@ branch_instr (Some (Lda ra rb disp)) e = cc
 branch_instr (Some (Ldah ra rb disp)) e = cc
 branch_instr (Some (Load access ra rb disp)) e = cc
 branch_instr (Some (Store access ra rb disp)) e = cc
+branch_instr (Some (Ldq ra rb disp)) e = cc
+branch_instr (Some (Stq ra rb disp)) e = cc
 
 module _ (words : List ℕ) (instrs : List Instr) (code : IsCode words instrs) where
   branch_at : (k w : ℕ) → slice_get words k ≡ Some w → is_branch_word w ≡ true → (ra : ℕ) × IsBranchAt instrs k ra

@@ -1,10 +1,11 @@
 -- Classes of terms that are looked up after the rounds, and what a comparison of two of them says.
 -- Source: this project.
-use Rattle.std.specs.Prelude.{◌≡◌, ℕ, ◌<◌, ◌≤◌, ◌==◌, Bool, true, false, List, [], length, map, slice_get, slice_index, slice_index_or, Option, Some, None, IfSome, MatchOption, Contains}
+use Rattle.std.specs.Prelude.{◌≡◌, ℕ, ◌<◌, ◌≤◌, ◌==◌, Bool, true, false, List, [], ◌∷◌, length, map, slice_get, slice_index, slice_index_or, Option, Some, None, IfSome, MatchOption, Contains}
 use Rattle.word_ops.specs.declared.sorts.Op.{Op}
 use Rattle.word_terms.specs.Keys.{op_signature}
 use Rattle.word_terms.specs.Tree.{Tree}
 use Rattle.egraph.specs.Graph.{Graph, IsGraph}
+use Rattle.graph_meaning.specs.Multiples.{IsMultiple}
 use Rattle.pattern_match.specs.Classes.{IsClass}
 use Rattle.alpha_encode.specs.Decoded.{decoded}
 use Rattle.alpha_encode.specs.declared.instructions.Instr.{Instr}
@@ -12,8 +13,8 @@ use Rattle.alpha_encode.specs.declared.instructions.Instr.TheVariants.{Beq}
 use Rattle.goal_meaning.specs.Outcomes.{is_memory}
 use Rattle.goal_meaning.specs.Views.{TargetTree}
 use Rattle.goal_meaning.specs.declared.goals.InputReg.{InputReg}
-use Rattle.code_check.specs.Same.{HaveSameClass, IsAsAtEntry, IsBranchAt, terms_at_end}
-use Rattle.code_check.specs.Terms.{TermState, terms_after, terms_at_entry}
+use Rattle.code_check.specs.Same.{HasMultiple, HaveSameClass, IsAligned, IsAsAtEntry, IsBranchAt, rows_of, terms_at_end}
+use Rattle.code_check.specs.Terms.{TermState, alignment, place_term, term_step, terms_after, terms_at_entry}
 use Rattle.code_check.specs.declared.branches.Branch.{Branch}
 use Rattle.code_check.specs.declared.codes.At.{At}
 
@@ -46,6 +47,45 @@ pub record ArePresentClasses (g : Graph Op) (classes : List (Option ℕ)) (memor
 -- some terms have these classes
 abbrev pub ArePresentClassesOfSome : Graph Op → List (Option ℕ) → ℕ → Type 0
 ArePresentClassesOfSome g classes memory = (ts : TermState) × ArePresentClasses g classes memory ts
+
+-- ---- addresses
+
+-- the class of the instruction's address, read as it is at present; one that never traps may have none
+abbrev pub IsPresentAddress : Graph Op → Instr → TermState → Option ℕ → Type 0
+IsPresentAddress g i ts None = alignment i ≡ None
+IsPresentAddress g i ts (Some c) = IsPresentClass g c (place_term i ts)
+
+-- one for each instruction
+abbrev pub ArePresentAddresses : Graph Op → List Instr → TermState → List (Option ℕ) → Type 0
+ArePresentAddresses g [] ts [] = Unit {0}
+ArePresentAddresses g (i ∷ is) ts (a ∷ addresses) =
+    IsPresentAddress g i ts a × ArePresentAddresses g is (term_step i ts) addresses
+ArePresentAddresses g _ ts _ = ⊥
+
+-- the alignment of what a word is
+abbrev pub alignment_of : Option Instr → Option ℕ
+alignment_of None = None
+alignment_of (Some i) = alignment i
+
+-- by class, the greatest power of 2 that the rows show
+abbrev pub AreMultiples : Graph Op → List ℕ → Type 0
+AreMultiples g powers =
+    (length powers ≡ length g.current)
+    × ((class : ℕ) → class < length powers → IsMultiple (rows_of g) class (slice_index powers class))
+
+-- whether the instruction may trap and its address isn't shown to be the multiple that it must be
+abbrev pub TellsTrap : Graph Op → Instr → TermState → Bool → Type 0
+TellsTrap g i ts true = ¬ HasMultiple g i ts
+TellsTrap g i ts false = HasMultiple g i ts
+
+-- the instructions before place n are aligned
+abbrev pub AreAlignedBelow : Graph Op → List Instr → ℕ → Type 0
+AreAlignedBelow g instrs n = (at : ℕ) → at < n → IsAligned g instrs at
+
+-- the first instruction that isn't aligned, or that all are
+abbrev pub IsFirstTrap : Graph Op → List Instr → Option ℕ → Type 0
+IsFirstTrap g instrs found =
+    MatchOption found (AreAlignedBelow g instrs (length instrs)) (λ at. (¬ IsAligned g instrs at) × (at < length instrs) × AreAlignedBelow g instrs at)
 
 -- ---- the branch of a code
 

@@ -24,8 +24,9 @@ stop_name Full = codes "full"
 abbrev pub target_name : GoalTree → ℕ → List ℕ
 target_name goal i = option_map_or (λ (t : TargetTree). t.name) (slice_get goal.sets i) []
 
--- guard, exit, set TARGET, or memory
+-- trap WORD, guard, exit, set TARGET, or memory
 abbrev pub part_words : GoalTree → Part → Words
+part_words goal (parts.Trap at) = codes "trap" ∷ decimal at ∷ []
 part_words goal parts.Guard = codes "guard" ∷ []
 part_words goal parts.Exit = codes "exit" ∷ []
 part_words goal (parts.Set i) = codes "set" ∷ target_name goal i ∷ []

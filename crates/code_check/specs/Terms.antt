@@ -1,10 +1,12 @@
 -- The terms that straight-line code gives registers and memory, over those of the registers and the memory at entry.
 -- From Denali (PLDI 2002), terms over registers and memory; Alpha Architecture Handbook, version 4, for what each
 -- instruction writes.
-use Rattle.std.specs.Prelude.{ℕ, ℤ, List, [], ◌∷◌, ◌++◌, take, ◌==◌, if◌then◌else◌}
+use Rattle.std.specs.Prelude.{ℕ, ℤ, List, [], ◌∷◌, ◌++◌, take, ◌==◌, if◌then◌else◌, Option, Some, None}
 use Rattle.std.specs.Int.{cast_unsigned, w64}
 use Rattle.word_ops.specs.declared.operates.Operate.{Operate as OperateOf}
 use Rattle.word_ops.specs.declared.operators.WordOp.TheVariants.{Lda, Ldah}
+use Rattle.word_ops.specs.declared.sorts.Access.{Access}
+use Rattle.word_ops.specs.declared.sorts.Access.TheVariants.{Quad}
 use Rattle.word_ops.specs.declared.sorts.Op.{Op}
 use Rattle.word_terms.specs.Tree.{Tree}
 use Rattle.word_terms.specs.Building.{constant, o1, o2, w2, read_of, written_of}
@@ -51,18 +53,26 @@ address_at base n = if n == 0 then base else w2 Lda base (constant n)
 abbrev pub address_term : Tree Op → ℤ → Tree Op
 address_term base disp = address_at base (sign_extended disp)
 
+-- what a load reads, and the memory that a store leaves, with an address as instructions have it
+abbrev pub loaded_term : Access → TermState → ℕ → ℤ → Tree Op
+loaded_term access s rb disp = read_of access s.memory (address_term (s.registers rb) disp)
+
+abbrev pub stored_term : Access → TermState → ℕ → ℕ → ℤ → Tree Op
+stored_term access s ra rb disp = written_of access s.memory (address_term (s.registers rb) disp) (s.registers ra)
+
+abbrev pub with_memory : TermState → Tree Op → TermState
+with_memory s t = record { registers = s.registers; memory = t }
+
 -- the terms after one instruction; a branch changes none
 abbrev pub term_step : Instr → TermState → TermState
 term_step (instrs.Operate op ra second rc) s =
     with_term s rc (operate_term op (s.registers ra) (second_term second s.registers))
 term_step (instrs.Lda ra rb disp) s = with_term s ra (w2 Lda (s.registers rb) (constant (sign_extended disp)))
 term_step (instrs.Ldah ra rb disp) s = with_term s ra (w2 Ldah (s.registers rb) (constant (sign_extended disp)))
-term_step (instrs.Load access ra rb disp) s =
-    with_term s ra (read_of access s.memory (address_term (s.registers rb) disp))
-term_step (instrs.Store access ra rb disp) s = record {
-  registers = s.registers;
-  memory = written_of access s.memory (address_term (s.registers rb) disp) (s.registers ra);
-}
+term_step (instrs.Load access ra rb disp) s = with_term s ra (loaded_term access s rb disp)
+term_step (instrs.Store access ra rb disp) s = with_memory s (stored_term access s ra rb disp)
+term_step (instrs.Ldq ra rb disp) s = with_term s ra (loaded_term Quad s rb disp)
+term_step (instrs.Stq ra rb disp) s = with_memory s (stored_term Quad s ra rb disp)
 term_step (instrs.Beq ra disp) s = s
 
 -- the terms after the instructions, from those before
@@ -73,6 +83,22 @@ terms_from (i ∷ is) s = terms_from is (term_step i s)
 -- the terms after the first n of the instructions
 abbrev pub terms_after : ℕ → List Instr → TermState
 terms_after n instrs = terms_from (take n instrs) terms_at_entry
+
+-- ---- addresses
+
+-- the power of 2 of which the address must be a multiple where the instruction isn't to trap; none where it never traps
+abbrev pub alignment : Instr → Option ℕ
+alignment (instrs.Ldq ra rb disp) = if ra == 31 then None else Some 3
+alignment (instrs.Stq ra rb disp) = Some 3
+alignment _ = None
+
+-- the term of the address of a load or a store
+abbrev pub place_term : Instr → TermState → Tree Op
+place_term (instrs.Load access ra rb disp) s = address_term (s.registers rb) disp
+place_term (instrs.Store access ra rb disp) s = address_term (s.registers rb) disp
+place_term (instrs.Ldq ra rb disp) s = address_term (s.registers rb) disp
+place_term (instrs.Stq ra rb disp) s = address_term (s.registers rb) disp
+place_term _ s = constant 0
 
 -- ---- what is present beside the goal's terms
 
@@ -87,10 +113,10 @@ terms_written (instrs.Lda ra rb disp) s =
     unless_zero_register ra (w2 Lda (s.registers rb) (constant (sign_extended disp)))
 terms_written (instrs.Ldah ra rb disp) s =
     unless_zero_register ra (w2 Ldah (s.registers rb) (constant (sign_extended disp)))
-terms_written (instrs.Load access ra rb disp) s =
-    unless_zero_register ra (read_of access s.memory (address_term (s.registers rb) disp))
-terms_written (instrs.Store access ra rb disp) s =
-    written_of access s.memory (address_term (s.registers rb) disp) (s.registers ra) ∷ []
+terms_written (instrs.Load access ra rb disp) s = unless_zero_register ra (loaded_term access s rb disp)
+terms_written (instrs.Store access ra rb disp) s = stored_term access s ra rb disp ∷ []
+terms_written (instrs.Ldq ra rb disp) s = unless_zero_register ra (loaded_term Quad s rb disp)
+terms_written (instrs.Stq ra rb disp) s = stored_term Quad s ra rb disp ∷ []
 terms_written (instrs.Beq ra disp) s = []
 
 abbrev pub terms_written_from : List Instr → TermState → List (Tree Op)

@@ -11,21 +11,25 @@ ghost use Rattle.code_check.specs.Inserted.{IsCodeInserted};
 use crate::comparing::find_leaf;
 use crate::inserting::insert_words;
 use egraph::{Egraph, classes_have_one_sort};
-use items::NoMemory;
+use items::{Items, NoMemory};
 use saturation::more_terms_may_be_inserted;
+use std::alloc::Global;
 use word_ops::Op;
 
-/// The classes of the terms of registers and memory at the branch of a code, and at its end.
+/// The classes of the terms of registers and memory at the branch of a code, and at its end, and those of the addresses
+/// of its words.
 #[derive(Drop)]
 pub(crate) struct Inserted {
     pub at_branch: [Option<u32>; 32],
     pub memory_at_branch: u32,
     pub at_end: [Option<u32>; 32],
     pub memory_at_end: u32,
+    pub addresses: Items<Option<u32>>,
 }
 
 /// Inserts the terms of a code into the graph of its goal, where `before` words stand before the branch.
 pub(crate) fn insert_code(
+    alloc: Global,
     graph: &mut Egraph<Op>,
     words: &[u32],
     before: usize,
@@ -46,14 +50,16 @@ pub(crate) fn insert_code(
     };
     let mut classes: [Option<u32>; 32] = [None; 32];
     let mut memory = entry;
-    insert_words(graph, &mut classes, &mut memory, &words[..before])?;
+    let mut addresses = insert_words(alloc, graph, &mut classes, &mut memory, &words[..before])?;
     let at_branch = classes;
     let memory_at_branch = memory;
-    insert_words(graph, &mut classes, &mut memory, &words[before..])?;
+    let behind = insert_words(alloc, graph, &mut classes, &mut memory, &words[before..])?;
+    addresses.extend_from_slice(&behind)?;
     Ok(Inserted {
         at_branch,
         memory_at_branch,
         at_end: classes,
         memory_at_end: memory,
+        addresses: Items::from(addresses),
     })
 }

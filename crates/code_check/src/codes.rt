@@ -28,6 +28,8 @@ pub struct Checked {
 /// What is compared of a code and its goal.
 #[derive(Clone, Copy, PartialEq, Eq, Debug)]
 pub enum Part {
+    /// The address of the word of this number, where the word may trap.
+    Trap(u32),
     Guard,
     Exit,
     Set(u32),

@@ -12,12 +12,13 @@ ghost use Rattle.alpha_encode.specs.Formats.{IsSecond, IsWellFormed};
 ghost use Rattle.code_check.specs.Terms.{TermState, address_at, operate_term, second_term, terms_from, terms_written_from};
 ghost use Rattle.word_terms.specs.Building.{constant, read_of, written_of, w2};
 ghost use Rattle.word_ops.specs.Operators.{arity_of};
-ghost use Rattle.code_check.specs.Classes.{IsTermInserted, IsRowInserted, AreClassesOfSome, InsertsWritten, AreClassesOf};
+ghost use Rattle.code_check.specs.Classes.{AreAddresses, AreClassesOf, AreClassesOfSome, InsertsWritten, IsAccessed, IsLoaded, IsRowInserted, IsStored, IsTermInserted};
 
 use alpha_encode::{Instr, Second, decode};
 use egraph::{Egraph, classes_have_one_sort};
 use items::NoMemory;
 use saturation::more_terms_may_be_inserted;
+use std::alloc::Global;
 use word_ops::{Access, Op, Operate, WordOp};
 
 /// The class of the row with this operator and these operands.
@@ -144,7 +145,14 @@ fn address_class(
     displaced_class(graph, classes, WordOp::Lda, rb, n)
 }
 
-/// The class of what a load gives.
+/// The classes of an address, and of what a load reads or a store leaves there.
+#[derive(Clone, Copy, PartialEq, Eq, Debug)]
+struct Accessed {
+    address: u32,
+    class: u32,
+}
+
+/// The class of what a load gives, and that of its address.
 fn load_class(
     graph: &mut Egraph<Op>,
     classes: &[Option<u32>],
@@ -152,21 +160,23 @@ fn load_class(
     memory: u32,
     rb: u8,
     n: u64,
-) -> Result<u32, NoMemory>
+) -> Result<Accessed, NoMemory>
     requires rb { rb < 32 }
     requires count { length classes.now ≡ 32 }
     requires terms { AreClassesOfSome graph.old classes.now memory }
     requires few { length graph.old.current + 4 ≤ 2 ^ 31 }
-    ensures built { IfOk result (λ c. (ts : TermState) → AreClassesOf graph.old classes.now memory ts →
-        IsTermInserted graph.old sorts.Word (read_of access ts.memory (address_at (ts.registers rb) n)) c graph.new) }
+    ensures built { IfOk result (λ a. (ts : TermState) → AreClassesOf graph.old classes.now memory ts →
+        IsAccessed graph.old sorts.Word (read_of access ts.memory (address_at (ts.registers rb) n)) (address_at (ts.registers rb) n)
+        a graph.new) }
     ensures few { OnOk result (length graph.new.current ≤ length graph.old.current + 4) }
 {
     more_terms_may_be_inserted();
     let address = address_class(graph, classes, rb, n)?;
-    insert_row(graph, Op::Select(access), &[memory, address])
+    let class = insert_row(graph, Op::Select(access), &[memory, address])?;
+    Ok(Accessed { address, class })
 }
 
-/// The class of the memory after a store.
+/// The class of the memory after a store, and that of its address.
 fn store_class(
     graph: &mut Egraph<Op>,
     classes: &[Option<u32>],
@@ -175,20 +185,22 @@ fn store_class(
     ra: u8,
     rb: u8,
     n: u64,
-) -> Result<u32, NoMemory>
+) -> Result<Accessed, NoMemory>
     requires ra { ra < 32 }
     requires rb { rb < 32 }
     requires count { length classes.now ≡ 32 }
     requires terms { AreClassesOfSome graph.old classes.now memory }
     requires few { length graph.old.current + 5 ≤ 2 ^ 31 }
-    ensures built { IfOk result (λ c. (ts : TermState) → AreClassesOf graph.old classes.now memory ts →
-        IsTermInserted graph.old sorts.Memory (written_of access ts.memory (address_at (ts.registers rb) n) (ts.registers ra)) c graph.new) }
+    ensures built { IfOk result (λ a. (ts : TermState) → AreClassesOf graph.old classes.now memory ts →
+        IsAccessed graph.old sorts.Memory (written_of access ts.memory (address_at (ts.registers rb) n) (ts.registers ra))
+        (address_at (ts.registers rb) n) a graph.new) }
     ensures few { OnOk result (length graph.new.current ≤ length graph.old.current + 5) }
 {
     more_terms_may_be_inserted();
     let address = address_class(graph, classes, rb, n)?;
     let value = register_class(graph, classes, ra)?;
-    insert_row(graph, Op::Store(access), &[memory, address, value])
+    let class = insert_row(graph, Op::Store(access), &[memory, address, value])?;
+    Ok(Accessed { address, class })
 }
 
 /// The class of what the register holds from now on.
@@ -200,18 +212,72 @@ fn write_register(classes: &mut [Option<u32>], register: u8, class: u32)
     classes[register as usize] = Some(class);
 }
 
-/// Inserts the term that the word's instruction gives, where it writes a register other than 31 or memory.
+/// Inserts what a load to a register other than 31 writes, where n is the word of its displacement. It gives the class of the load's address.
+fn insert_load(
+    graph: &mut Egraph<Op>,
+    classes: &mut [Option<u32>],
+    memory: u32,
+    access: Access,
+    ra: u8,
+    rb: u8,
+    n: u64,
+) -> Result<Option<u32>, NoMemory>
+    requires ra { ra < 32 }
+    requires rb { rb < 32 }
+    requires count { length classes.old ≡ 32 }
+    requires terms { AreClassesOfSome graph.old classes.old memory }
+    requires few { length graph.old.current + 5 ≤ 2 ^ 31 }
+    ensures loaded { IfOk result (λ address. (ts : TermState) → AreClassesOf graph.old classes.old memory ts →
+        IsLoaded access ra rb n graph.old ts graph.new classes.new memory address) }
+    ensures few { OnOk result (length graph.new.current ≤ length graph.old.current + 5) }
+{
+    more_terms_may_be_inserted();
+    if ra == 31 {
+        return Ok(None);
+    }
+    let loaded = load_class(graph, classes, access, memory, rb, n)?;
+    write_register(classes, ra, loaded.class);
+    Ok(Some(loaded.address))
+}
+
+/// Inserts the memory that a store leaves, where n is the word of its displacement. It gives the class of the store's address.
+fn insert_store(
+    graph: &mut Egraph<Op>,
+    classes: &[Option<u32>],
+    memory: &mut u32,
+    access: Access,
+    ra: u8,
+    rb: u8,
+    n: u64,
+) -> Result<u32, NoMemory>
+    requires ra { ra < 32 }
+    requires rb { rb < 32 }
+    requires count { length classes.now ≡ 32 }
+    requires terms { AreClassesOfSome graph.old classes.now memory.old }
+    requires few { length graph.old.current + 5 ≤ 2 ^ 31 }
+    ensures stored { IfOk result (λ address. (ts : TermState) → AreClassesOf graph.old classes.now memory.old ts →
+        IsStored access ra rb n graph.old ts graph.new classes.now memory.new address) }
+    ensures few { OnOk result (length graph.new.current ≤ length graph.old.current + 5) }
+{
+    more_terms_may_be_inserted();
+    let stored = store_class(graph, classes, access, *memory, ra, rb, n)?;
+    *memory = stored.class;
+    Ok(stored.address)
+}
+
+/// Inserts the term that the word's instruction gives, where it writes a register other than 31 or memory. It gives the
+/// class of the instruction's address, where it has one.
 fn insert_instr(
     graph: &mut Egraph<Op>,
     classes: &mut [Option<u32>],
     memory: &mut u32,
     instr: Instr,
-) -> Result<(), NoMemory>
+) -> Result<Option<u32>, NoMemory>
     requires instr { IsWellFormed instr }
     requires count { length classes.old ≡ 32 }
     requires terms { AreClassesOfSome graph.old classes.old memory.old }
     requires few { length graph.old.current + 5 ≤ 2 ^ 31 }
-    ensures written { OnOk result (InsertsWritten instr graph.old classes.old memory.old graph.new classes.new memory.new) }
+    ensures written { IfOk result (InsertsWritten instr graph.old classes.old memory.old graph.new classes.new memory.new) }
     ensures few { OnOk result (length graph.new.current ≤ length graph.old.current + 5) }
 {
     more_terms_may_be_inserted();
@@ -242,11 +308,12 @@ fn insert_instr(
             rb,
             disp,
         } => {
-            if ra != 31 {
-                let n = i64::from(disp).cast_unsigned();
-                let class = load_class(graph, classes, access, *memory, rb, n)?;
-                write_register(classes, ra, class);
-            }
+            let n = i64::from(disp).cast_unsigned();
+            return insert_load(graph, classes, *memory, access, ra, rb, n);
+        }
+        Instr::Ldq { ra, rb, disp } => {
+            let n = i64::from(disp).cast_unsigned();
+            return insert_load(graph, classes, *memory, Access::Quad, ra, rb, n);
         }
         Instr::Store {
             access,
@@ -255,11 +322,17 @@ fn insert_instr(
             disp,
         } => {
             let n = i64::from(disp).cast_unsigned();
-            *memory = store_class(graph, classes, access, *memory, ra, rb, n)?;
+            let address = insert_store(graph, classes, memory, access, ra, rb, n)?;
+            return Ok(Some(address));
+        }
+        Instr::Stq { ra, rb, disp } => {
+            let n = i64::from(disp).cast_unsigned();
+            let address = insert_store(graph, classes, memory, Access::Quad, ra, rb, n)?;
+            return Ok(Some(address));
         }
         Instr::Beq { .. } => {}
     }
-    Ok(())
+    Ok(None)
 }
 
 fn insert_word(
@@ -267,39 +340,44 @@ fn insert_word(
     classes: &mut [Option<u32>],
     memory: &mut u32,
     word: u32,
-) -> Result<(), NoMemory>
+) -> Result<Option<u32>, NoMemory>
     requires count { length classes.old ≡ 32 }
     requires terms { AreClassesOfSome graph.old classes.old memory.old }
     requires few { length graph.old.current + 5 ≤ 2 ^ 31 }
-    ensures written { OnOk result ((i : Instruction) → decoded word ≡ Some i →
-        InsertsWritten i graph.old classes.old memory.old graph.new classes.new memory.new) }
+    ensures written { IfOk result (λ address. (i : Instruction) → decoded word ≡ Some i →
+        InsertsWritten i graph.old classes.old memory.old graph.new classes.new memory.new address) }
     ensures few { OnOk result (length graph.new.current ≤ length graph.old.current + 5) }
 {
     match decode(word) {
         Some(instr) => insert_instr(graph, classes, memory, instr),
-        None => Ok(()),
+        None => Ok(None),
     }
 }
 
-/// Inserts the terms that the words write, in order. Each word costs at most five rows, and each row one look-up.
+/// Inserts the terms that the words write, in order, and gives the classes of their addresses, one for each word. Each
+/// word costs at most five rows, and each row one look-up.
 pub(crate) fn insert_words(
+    alloc: Global,
     graph: &mut Egraph<Op>,
     classes: &mut [Option<u32>],
     memory: &mut u32,
     words: &[u32],
-) -> Result<(), NoMemory>
+) -> Result<Vec<Option<u32>>, NoMemory>
     requires code { (instrs : List Instruction) × (map decoded words.now ≡ map Some instrs) }
     requires terms { AreClassesOfSome graph.old classes.old memory.old }
     requires few { length graph.old.current + 5 * length words.now ≤ 2 ^ 31 }
-    ensures written { OnOk result ((instrs : List Instruction) (ts : TermState) → map decoded words.now ≡ map Some instrs →
+    ensures written { IfOk result (λ addresses. (instrs : List Instruction) (ts : TermState) → map decoded words.now ≡ map Some instrs →
         AreClassesOf graph.old classes.old memory.old ts →
         AreInserted (terms_written_from instrs ts) graph.old graph.new
-        × AreClassesOf graph.new classes.new memory.new (terms_from instrs ts)) }
+        × AreClassesOf graph.new classes.new memory.new (terms_from instrs ts)
+        × AreAddresses graph.new instrs ts addresses.items) }
     ensures few { OnOk result (length graph.new.current ≤ length graph.old.current + 5 * length words.now) }
 {
     more_terms_may_be_inserted();
+    let mut addresses = Vec::new(alloc);
     for word in words {
-        insert_word(graph, classes, memory, *word)?;
+        let address = insert_word(graph, classes, memory, *word)?;
+        addresses.push(address)?;
     }
-    Ok(())
+    Ok(addresses)
 }

@@ -36,6 +36,7 @@ use forms::one_reading;
 use goal_reader::{
     read_inputs_are_well_formed, texts_have_one_first_fault, texts_have_one_reading,
 };
+use graph_meaning::classes_are_multiples;
 use saturation::{
     axioms_make_rules_true, grown_graphs_are_one, more_terms_may_be_inserted, rounds_end_once,
 };
@@ -68,7 +69,7 @@ pub fn terms_are_what_words_compute()
 }
 
 /// Does nothing. Its clause is a law: where code and goal are the same in a graph that stands for any terms, the words
-/// have the goal's outcome in each world in which axioms and assumptions hold.
+/// have the goal's outcome in each world in which axioms and assumptions hold. So they don't trap there.
 pub fn same_code_does_the_goal()
     ensures does_goal { (input : InputTree) (goal : GoalTree) (words : List ℕ) (instrs : List Instr) (places : List Place)
         (terms : List (Tree TermOperator)) (graph : Graph TermOperator) →
@@ -82,6 +83,7 @@ pub fn same_code_does_the_goal()
     memories_hold_words();
     axioms_make_rules_true();
     steps_add_up();
+    classes_are_multiples();
 }
 
 /// Does nothing. Its clause is a law: the terms that well-formed instructions write are well formed.
@@ -128,4 +130,5 @@ pub fn codes_have_one_answer()
 {
     axioms_make_rules_true();
     rounds_end_once();
+    grown_graphs_are_one();
 }

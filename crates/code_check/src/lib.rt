@@ -7,9 +7,10 @@
 //! Proved: `read` gives exactly the goals and codes that a text says (`codes`, `read`, `well_formed`), or its first
 //! fault (`fault`, `refused`); a text has one reading (`codes_have_one_reading`). `verify` gives a right answer
 //! (`right`), and two right answers on a code say the same: `yes`, `unknown` with one number of rounds and one
-//! part, or `noworld` (`codes_have_one_answer`). `Yes` is right where guard, exit, targets and memory are the same
-//! in the graph of the goal's terms and of those that the words write; then the words have the goal's outcome in
-//! every world in which axioms and assumptions hold. `NoWorld` is right where two different constants are equal
+//! part, or `noworld` (`codes_have_one_answer`). `Yes` is right where the graph of the goal's terms and of those that
+//! the words write shows each address on which a word might trap to be a multiple of its width, and guard, exit, targets
+//! and memory are the same in it; then the words have the goal's outcome in every world in which axioms and assumptions
+//! hold, and don't trap on the way. `NoWorld` is right where two different constants are equal
 //! after a round that is reached. `verify_text` gives a line for each code (`told`). Laws:
 //! `terms_are_what_words_compute`, `same_code_does_the_goal`, `compared_graphs_decide`, `written_terms_are_sorted`.
 #![tactic(auto)]
@@ -24,6 +25,7 @@ mod laws;
 mod places;
 mod reading;
 mod replies;
+mod trapping;
 mod verifying;
 mod words;
 

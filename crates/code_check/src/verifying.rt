@@ -1,10 +1,11 @@
 // The check of a code against its goal.
-ghost use Rattle.std.specs.Prelude.{◌≡◌, ◌+◌, ◌<◌, ◌≤◌, ◌^◌, [], List, length, All, IfOk, IfSome, MatchOption, Some, slice_get};
+ghost use Rattle.std.specs.Prelude.{◌≡◌, ◌+◌, ◌<◌, ◌≤◌, ◌^◌, [], List, length, map, All, IfOk, IfSome, MatchOption, Some, slice_get};
 ghost use Rattle.word_terms.specs.Keys.{op_signature};
 ghost use Rattle.egraph.specs.Graph.{HasClass, IsGraph};
 ghost use Rattle.std.specs.List.{AllZip};
 ghost use Rattle.pattern_match.specs.Classes.{IsClass};
 ghost use Rattle.goal_meaning.specs.Expanded.{expanded, let_terms};
+ghost use Rattle.alpha_encode.specs.Decoded.{decoded};
 ghost use Rattle.alpha_encode.specs.declared.instructions.Instr.{Instr};
 ghost use Rattle.goal_meaning.specs.Views.{GoalTree, InputTree, goal_view, input_view};
 ghost use Rattle.goal_meaning.specs.WellFormed.{IsGoal, IsInput};
@@ -12,9 +13,10 @@ ghost use Rattle.saturation.specs.AtStart.{IsGrownAtStart, StandsAtStart};
 ghost use Rattle.saturation.specs.GoalTerms.{rules_of};
 ghost use Rattle.code_check.specs.Answers.{IsAnswerOf, IsGoalBelow, IsNoWorldAtStart, IsNoWorldInRounds};
 ghost use Rattle.code_check.specs.Codes.{ArePlaces, FitsGoal, IsCodeOf};
-ghost use Rattle.code_check.specs.Compared.{ArePresentClasses, ArePresentClassesOfSome, IsBranchOf, terms_at_branch};
+ghost use Rattle.code_check.specs.Compared.{ArePresentAddresses, ArePresentClasses, ArePresentClassesOfSome, IsBranchOf, terms_at_branch};
 ghost use Rattle.code_check.specs.Outcomes.{HasOneBranch};
 ghost use Rattle.code_check.specs.Same.{IsFirstDifferent, Same, terms_at_end};
+ghost use Rattle.code_check.specs.Terms.{terms_at_entry};
 ghost use Rattle.code_check.specs.Verified.{IsRightFor};
 
 use crate::branches::{Branch, find_branch, words_before};
@@ -22,6 +24,7 @@ use crate::code_terms::{Inserted, insert_code};
 use crate::codes::{At, Code, Part, Verified};
 use crate::comparing::{first_different_target, is_same_guard, is_same_leaving, is_same_memory};
 use crate::laws::{compared_graphs_decide, same_code_does_the_goal, written_terms_are_sorted};
+use crate::trapping::first_trap;
 use egraph::{Egraph, rows_name_present_classes};
 use goal_meaning::{Goal, Input};
 use graph_meaning::Stop;
@@ -54,12 +57,13 @@ fn no_world_in_rounds(fault: SaturateFault) -> Result<Verified, NoMemory>
     }
 }
 
-/// The first part of the goal that isn't the same in the code.
+/// The first word that may trap, or part of the goal that isn't the same in the code.
 fn first_different(
     alloc: Global,
     graph: &Egraph<Op>,
     lets: &[u32],
     goal: &Goal,
+    words: &[u32],
     places: &[At],
     branch: Option<Branch>,
     inserted: &Inserted,
@@ -69,16 +73,26 @@ fn first_different(
     requires below { IsGoalBelow (goal_view goal.now) }
     requires inputs { All (λ i. i.reg < 32) goal.now.inputs }
     requires few { length goal.now.sets < 2 ^ 32 }
+    requires few_words { length words.now < 2 ^ 32 }
+    requires few_rows { length graph.now.rows < 2 ^ 30 }
     requires places { ArePlaces (goal_view goal.now).sets places.now }
     requires register { IfSome branch (λ b. b.register < 32) }
     requires branch { ArePresentClassesOfSome graph.now inserted.now.at_branch inserted.now.memory_at_branch }
     requires end { ArePresentClassesOfSome graph.now inserted.now.at_end inserted.now.memory_at_end }
-    ensures { IfOk result (λ found. (instrs : List Instr) → IsBranchOf instrs branch → HasOneBranch instrs →
+    requires addresses { (instrs : List Instr) × (map decoded words.now ≡ map Some instrs)
+        × ArePresentAddresses graph.now instrs terms_at_entry inserted.now.addresses }
+    ensures { IfOk result (λ found. (instrs : List Instr) → map decoded words.now ≡ map Some instrs →
+        IsBranchOf instrs branch → HasOneBranch instrs →
+        ArePresentAddresses graph.now instrs terms_at_entry inserted.now.addresses →
         ArePresentClasses graph.now inserted.now.at_branch inserted.now.memory_at_branch (terms_at_branch branch instrs) →
         ArePresentClasses graph.now inserted.now.at_end inserted.now.memory_at_end (terms_at_end instrs) →
         MatchOption found (Same graph.now (expanded (goal_view goal.now)) instrs places.now)
         (IsFirstDifferent graph.now (expanded (goal_view goal.now)) instrs places.now)) }
 {
+    let trap = first_trap(alloc, graph, words, inserted.addresses.as_slice())?;
+    if let Some(at) = trap {
+        return Ok(Some(Part::Trap(at)));
+    }
     let guard = is_same_guard(alloc, graph, lets, &goal.guard, branch, &inserted.at_branch)?;
     if !guard {
         return Ok(Some(Part::Guard));
@@ -144,7 +158,7 @@ fn verify_from(
     let branch = find_branch(words);
     let before = words_before(words, branch);
     let mut graph = first;
-    let inserted = insert_code(&mut graph, words, before)?;
+    let inserted = insert_code(alloc, &mut graph, words, before)?;
     let saturated = match saturate(alloc, graph, rules, rounds, nodes) {
         Ok(saturated) => saturated,
         Err(fault) => return no_world_in_rounds(fault),
@@ -154,7 +168,7 @@ fn verify_from(
     let found = let_classes(alloc, &saturated.graph, named)?;
     let lets = found.as_slice();
     let graph = &saturated.graph;
-    let different = first_different(alloc, graph, lets, goal, places, branch, &inserted)?;
+    let different = first_different(alloc, graph, lets, goal, words, places, branch, &inserted)?;
     Ok(verified(saturated.rounds, saturated.stop, different))
 }
 

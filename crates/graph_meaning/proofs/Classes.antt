@@ -1,14 +1,14 @@
 -- What a well-formed graph says of a class.
 use Rattle.std.proofs.Common.{◌≡◌, ◌≢◌, ℕ, zero, suc, ◌+◌, ◌<◌, ◌≤◌, List, [], ◌∷◌, length, refl, sym, ◌∙◌, ap, subst, inl, inr, ◌⊎◌, arith, Bool, true, false, get_or, take, cond, Option, Some, None, max}
-use Rattle.std.specs.Prelude.{All, Any, Contains, find, slice_get, ◌==◌, option_map}
+use Rattle.std.specs.Prelude.{All, Any, Contains, find, slice_get, slice_index, ◌==◌, option_map}
 use Rattle.std.specs.Option.{option_map_or, option_or}
 use Rattle.std.proofs.lemmas.Bool.{false≢true}
 use Rattle.std.proofs.lemmas.List.{take_more}
 use Rattle.std.proofs.lemmas.List.Sums.{fold-append}
-use Rattle.std.proofs.lemmas.List.Elements.{Contains-get_or}
+use Rattle.std.proofs.lemmas.List.Elements.{All-from_get_or, Contains-get_or}
 use Rattle.std.proofs.lemmas.Option.{slice_get-get_or, same_Some, none-some}
 use Rattle.word_ops.specs.Words.{IsWord}
-use Rattle.word_ops.specs.Meanings.{sort_of, constant_in}
+use Rattle.word_ops.specs.Meanings.{sort_of, operand_sort, constant_in}
 use Rattle.word_ops.specs.declared.sorts.Op.{Op}
 use Rattle.word_ops.specs.declared.sorts.Op.TheVariants as op
 use Rattle.word_ops.specs.declared.sorts.Sort.{Sort}
@@ -113,6 +113,14 @@ module _ (g : LaunchGraph) (is : IsLaunchGraph g) where
   pub class_below : (sort : Sort) (class : ℕ) → ClassHasSort g sort class → class < length g.rows
   class_below sort class h =
       subst (λ n. n < length g.rows) (ap (λ (r : LaunchRow). r.class) h.3 ∙ h.4.0) (rows_low h.0 h.1 h.2)
+
+  pub all_low : All (λ r. (r.class < length g.rows) × All (λ c. c < length g.rows) r.operands) g.rows
+  all_low k d lt =
+      let r = get_or g.rows k d in (
+        rows_low k d lt,
+        All-from_get_or (λ c. c < length g.rows) r.operands 0
+            (λ at l. class_below (operand_sort r.op at) (slice_index r.operands at) (is.operands k d lt at l)),
+      )
 
   pub own_sorts : All (λ r. ClassHasSort g (sort_of r.op) r.class) g.rows
   own_sorts k d lt =

@@ -2,3 +2,8 @@ pub mod Lists
 pub mod Classes
 pub mod Values
 pub mod Registers
+pub mod Shown
+pub mod Raises
+pub mod Gathered
+pub mod Factors
+pub mod Sound

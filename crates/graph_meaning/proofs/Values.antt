@@ -14,17 +14,17 @@ use Rattle.graph_meaning.specs.declared.graphs.InputClass.{InputClass}
 use Rattle.graph_meaning.specs.declared.graphs.LaunchGraph.{LaunchGraph}
 use Rattle.graph_meaning.proofs.Classes.{constant_row, input_is}
 
-constant_means : (w : World) (name : List ℕ) (o : Op) (vs : List Value) (n : ℕ) → constant_in o ≡ Some n
-    → meaning w (λ _. name) o vs ≡ word n
-constant_means w name (Constant m) vs n e = ap word (same_Some m n e)
-constant_means w name Entry vs n e = cc
-constant_means w name (Input r) vs n e = cc
-constant_means w name (Word o) vs n e = cc
-constant_means w name (Select access) vs n e = cc
-constant_means w name (Store access) vs n e = cc
-constant_means w name (Load access) vs n e = cc
-constant_means w name (Put access) vs n e = cc
-constant_means w name (Declared i a) vs n e = cc
+pub constant_means : (w : World) (names : ℕ → List ℕ) (o : Op) (vs : List Value) (n : ℕ) → constant_in o ≡ Some n
+    → meaning w names o vs ≡ word n
+constant_means w names (Constant m) vs n e = ap word (same_Some m n e)
+constant_means w names Entry vs n e = cc
+constant_means w names (Input r) vs n e = cc
+constant_means w names (Word o) vs n e = cc
+constant_means w names (Select access) vs n e = cc
+constant_means w names (Store access) vs n e = cc
+constant_means w names (Load access) vs n e = cc
+constant_means w names (Put access) vs n e = cc
+constant_means w names (Declared i a) vs n e = cc
 
 module _ (g : LaunchGraph) (w : World) (value : ℕ → Value) (true_here : IsTrueUnder g w value) where
   pub constant_is : (class n : ℕ) → constant_of g class ≡ Some n → value class ≡ word n
@@ -32,7 +32,7 @@ module _ (g : LaunchGraph) (w : World) (value : ℕ → Value) (true_here : IsTr
       let h = constant_row g.rows class n e in
       let P : LaunchRow → Type 0 = λ r. value r.class ≡ row_meaning w r (map value r.operands) in
       let at : value h.1.class ≡ row_meaning w h.1 (map value h.1.operands) = subst P h.3 (true_here.rows h.0 h.1 h.2) in
-      sym (ap value h.4.0) ∙ at ∙ constant_means w h.1.name h.1.op (map value h.1.operands) n h.4.1
+      sym (ap value h.4.0) ∙ at ∙ constant_means w (λ _. h.1.name) h.1.op (map value h.1.operands) n h.4.1
 
   pub input_value : (class register : ℕ) → input_register g class ≡ Some register
       → value class ≡ word (slice_index w.registers register)

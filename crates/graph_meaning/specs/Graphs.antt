@@ -70,6 +70,13 @@ pub record IsProper (g : LaunchGraph) : Type 0 where
 abbrev pub row_meaning : World → LaunchRow → List Value → Value
 row_meaning world r vs = meaning world (λ _. r.name) r.op vs
 
+-- under these values of classes the row is true in the world, by some names of declared operators
+abbrev pub IsTrueRow : World → (ℕ → Value) → LaunchRow → Type 0
+IsTrueRow world value r = (names : ℕ → List ℕ) × (value r.class ≡ meaning world names r.op (map value r.operands))
+
+abbrev pub AreTrueRows : World → (ℕ → Value) → List LaunchRow → Type 0
+AreTrueRows world value rows = All (IsTrueRow world value) rows
+
 -- under these values of classes every row is true in the world
 pub record IsTrueUnder (g : LaunchGraph) (world : World) (value : ℕ → Value) : Type 0 where
   pub rows : All (λ r. value r.class ≡ row_meaning world r (map value r.operands)) g.rows

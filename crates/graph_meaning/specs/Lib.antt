@@ -1,2 +1,4 @@
 pub mod Graphs
+pub mod Multiples
+pub mod Raising
 pub mod WellFormed

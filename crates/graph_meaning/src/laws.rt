@@ -1,19 +1,24 @@
 // What is true of each launch graph. The calls do nothing: their clauses hold of all graphs.
-ghost use Rattle.std.specs.Prelude.{◌≡◌, ◌≢◌, ◌<◌, ℕ, All, AllPairs, Any, Contains, IfSome, Some, None, length, slice_index};
-ghost use Rattle.word_ops.specs.Meanings.{sort_of, constant_in};
+ghost use Rattle.std.specs.Prelude.{◌≡◌, ◌≢◌, ◌<◌, ◌≤◌, ◌%◌, ◌^◌, ℕ, List, All, AllPairs, Any, Contains, IfSome, Some, None, length, slice_index};
+ghost use Rattle.word_ops.specs.Meanings.{as_word, sort_of, constant_in};
 ghost use Rattle.word_ops.specs.Words.{IsWord};
 ghost use Rattle.word_ops.specs.Worlds.{Value, World, IsValue, word};
 ghost use Rattle.word_ops.specs.declared.sorts.Sort.{Sort as SortOf};
 ghost use Rattle.word_ops.specs.declared.sorts.Sort.TheVariants as sorts;
-ghost use Rattle.graph_meaning.specs.Graphs.{HaveOwnPins, IsProper, IsTrueUnder, constant_of, input_register, memory_target};
+ghost use Rattle.graph_meaning.specs.Graphs.{AreTrueRows, HaveOwnPins, IsProper, IsTrueUnder, constant_of, input_register, memory_target};
+ghost use Rattle.graph_meaning.specs.Multiples.{IsMultiple, IsShown};
 ghost use Rattle.graph_meaning.specs.WellFormed.{IsLaunchGraph, ClassHasSort};
 ghost use Rattle.graph_meaning.specs.declared.graphs.LaunchRow.{LaunchRow as Row};
 ghost use Rattle.graph_meaning.specs.declared.graphs.LaunchGraph.{LaunchGraph as Graph};
+
+use word_ops::words_have_bits;
 
 /// In a well-formed graph each class has one sort and at most one constant, its number is below the number of rows, and
 /// a class with a constant or an input is a word.
 pub fn graphs_are_consistent()
     ensures below { (g : Graph) → IsLaunchGraph g → All (λ r. r.class < length g.rows) g.rows }
+    ensures all_below { (g : Graph) → IsLaunchGraph g
+        → All (λ r. (r.class < length g.rows) × All (λ c. c < length g.rows) r.operands) g.rows }
     ensures classes { (g : Graph) (sort : SortOf) (class : ℕ) → IsLaunchGraph g
         → ClassHasSort g sort class → class < length g.rows }
     ensures own_sort { (g : Graph) → IsLaunchGraph g → All (λ r. ClassHasSort g (sort_of r.op) r.class) g.rows }
@@ -57,3 +62,14 @@ pub fn classes_have_values()
     ensures sort { (g : Graph) (world : World) (value : ℕ → Value) (sort : SortOf) (class : ℕ)
         → IsTrueUnder g world value → ClassHasSort g sort class → IsValue sort (value class) }
 {}
+
+/// Where rows are true, a class that they show to be a multiple of 2^n has a value that is one. No more than a multiple
+/// of 8 is shown, and the greatest power that is shown is one number.
+pub fn classes_are_multiples()
+    ensures shown { (rows : List Row) (world : World) (value : ℕ → Value) (class n : ℕ) → AreTrueRows world value rows
+        → IsShown rows class n → as_word (value class) % 2 ^ n ≡ 0 }
+    ensures few { (rows : List Row) (class n : ℕ) → IsShown rows class n → n ≤ 3 }
+    ensures one { (rows : List Row) (class m n : ℕ) → IsMultiple rows class m → IsMultiple rows class n → m ≡ n }
+{
+    words_have_bits();
+}

@@ -7,14 +7,20 @@
 //! Proved: the look-ups are exact. In a well-formed graph a class has one sort and at most one constant, and its number
 //! is below the number of rows (`graphs_are_consistent`); where the graph is true, a class has the value of its
 //! constant and of its input, and one of its sort (`classes_have_values`); the registers of a proper graph are apart
-//! (`registers_are_apart`).
+//! (`registers_are_apart`). `multiples` gives for each class of rows the greatest power of 2, at most 8, of which the
+//! rows show its value to be a multiple, and where the rows are true its value is one (`classes_are_multiples`).
 #![tactic(auto)]
 
 mod graphs;
 mod laws;
 mod lookups;
+mod powers;
+mod row_rules;
 mod stops;
 
 pub use graphs::{Guard, InputClass, LaunchGraph, LaunchRow, SetClass};
-pub use laws::{classes_have_values, graphs_are_consistent, registers_are_apart};
+pub use laws::{
+    classes_are_multiples, classes_have_values, graphs_are_consistent, registers_are_apart,
+};
+pub use powers::multiples;
 pub use stops::Stop;

@@ -8,7 +8,7 @@ use Rattle.std.proofs.lemmas.List.Elements.{All-nil, All-cons, All-head, All-tai
 use Rattle.std.proofs.lemmas.Slice.Zip.{AllZip-long}
 use Rattle.alpha_encode.specs.Formats.{FitsBits, IsWellFormed}
 use Rattle.alpha_encode.specs.declared.instructions.Instr.{Instr}
-use Rattle.alpha_encode.specs.declared.instructions.Instr.TheVariants.{Operate, Lda, Ldah, Load, Store, Beq}
+use Rattle.alpha_encode.specs.declared.instructions.Instr.TheVariants.{Operate, Lda, Ldah, Load, Store, Ldq, Stq, Beq}
 use Rattle.proc_goal.specs.Views.{BlockTree, ProcTree}
 use Rattle.proc_goal.specs.declared.procs.Target.{Target}
 use Rattle.proc_goal.specs.declared.procs.Target.TheVariants.{Block, Done}
@@ -31,6 +31,8 @@ word_fits p t lp lt (Lda ra rb disp) wf = wf
 word_fits p t lp lt (Ldah ra rb disp) wf = wf
 word_fits p t lp lt (Load access ra rb disp) wf = wf
 word_fits p t lp lt (Store access ra rb disp) wf = wf
+word_fits p t lp lt (Ldq ra rb disp) wf = wf
+word_fits p t lp lt (Stq ra rb disp) wf = wf
 word_fits p t lp lt (Beq ra disp) wf = (wf.0, fits p t lp lt)
 
 all_fit : (from to : ℕ) (is : List Instr) → from + length is ≤ 12352 → to ≤ 12352 → All IsWellFormed is → All IsWellFormed (led_from from to is)

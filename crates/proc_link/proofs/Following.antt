@@ -1,6 +1,6 @@
 -- Words that decode as the linked instructions follow the block machine.
-use Rattle.std.proofs.Common.{◌≡◌, ℕ, zero, suc, ◌+◌, ◌*◌, ◌/◌, ◌^◌, ◌<◌, ◌≤◌, List, [], ◌∷◌, ◌++◌, map, length, get_or, refl, sym, ◌∙◌, ap, arith, Option, Some, None}
-use Rattle.std.specs.Prelude.{All, Contains, bytes_eq, find, slice_index}
+use Rattle.std.proofs.Common.{◌≡◌, ℕ, zero, suc, ◌+◌, ◌*◌, ◌/◌, ◌<◌, ◌≤◌, List, [], ◌∷◌, ◌++◌, map, length, get_or, refl, sym, ◌∙◌, ap, arith, Option, Some, None}
+use Rattle.std.specs.Prelude.{All, Contains, bytes_eq, find, slice_index, IsFalse, IsSomeAnd, IsTrue}
 use Rattle.std.specs.List.{AllZip}
 use Rattle.std.specs.Option.{option_map_or}
 use Rattle.std.proofs.lemmas.Bool.{false≢true}
@@ -16,7 +16,8 @@ use Rattle.word_ops.specs.Words.{IsWord}
 use Rattle.alpha_encode.specs.Decoded.{decoded}
 use Rattle.alpha_encode.specs.declared.instructions.Instr.{Instr}
 use Rattle.alpha_machine.specs.States.{MachineState, IsState}
-use Rattle.alpha_machine.specs.Runs.{stepped, after}
+use Rattle.alpha_machine.specs.Steps.{step, traps}
+use Rattle.alpha_machine.specs.Runs.{fetched, stepped, after}
 use Rattle.goal_meaning.specs.Expanded.{expanded}
 use Rattle.goal_meaning.specs.Views.{GoalTree}
 use Rattle.goal_meaning.specs.WellFormed.{IsGoal, IsInput}
@@ -141,18 +142,20 @@ module _ (p : ProcTree) (is_proc : IsProc p) (same : All (IsAsItIs p) p.blocks) 
       module _ (last : (n : ℕ) (instrs : List Instr) (s : MachineState) → after (suc n) instrs s ≡ stepped instrs (after n instrs s))
           (sums : (m n : ℕ) (instrs : List Instr) (s : MachineState) → after (m + n) instrs s ≡ after n instrs (after m instrs s))
           (stays : (n : ℕ) (instrs : List Instr) (s : MachineState) → length instrs ≤ s.pc / 4 → after n instrs s ≡ s)
+          (steps : (instrs : List Instr) (s : MachineState) (i : Instr) → fetched instrs s ≡ Some i → IsFalse (traps i s) → stepped instrs s ≡ step i s)
+          (trapped : (n : ℕ) (instrs : List Instr) (s : MachineState) → IsSomeAnd (fetched instrs s) (λ i. IsTrue (traps i s)) → after n instrs s ≡ s)
           (is_word : (op : WordOp) (vs : List ℕ) → All IsWord vs → IsWord (value_of op vs))
           (is_loaded : (access : Access) (m : Memory) (a : ℕ) → IsMemory m → IsWord (loaded access m a))
           (is_stored : (access : Access) (m : Memory) (a v : ℕ) → IsMemory m → IsWord a → IsWord v → IsMemory (stored access m a v)) where
         steps_there : (n : ℕ) (s : BlockState) → IsProcTarget (length p.blocks) s.at → IsProcTarget (length p.blocks) (block_steps n p s).at
         steps_there zero s there = there
         steps_there (suc n) s there =
-            steps_there n (block_step p s) (next_target last sums stays is_word is_loaded is_stored p all (are_done ls are) s s.at refl there)
+            steps_there n (block_step p s) (next_target last sums stays steps trapped is_word is_loaded is_stored p all (are_done ls are) s s.at refl there)
 
         one : (s : BlockState) (m : MachineState) → IsProcTarget (length p.blocks) s.at → ShowsBlockState p (starts_of all) (4 * length words) s m
             → ComesTo p (starts_of all) (4 * length words) (linked p.blocks all) m 193 (block_step p s)
         one s m there h =
-            let run : LeadsOn p all m 193 (block_step p s) = one_step last sums stays is_word is_loaded is_stored p all (are_done ls are) s m there (shown_at s m there h) in
+            let run : LeadsOn p all m 193 (block_step p s) = one_step last sums stays steps trapped is_word is_loaded is_stored p all (are_done ls are) s m there (shown_at s m there h) in
             record {
               steps = run.steps;
               few = run.few;
@@ -168,7 +171,7 @@ module _ (p : ProcTree) (is_proc : IsProc p) (same : All (IsAsItIs p) p.blocks) 
           follow = λ n m is pc.
               let first : IsProcTarget (length p.blocks) (Block 0) = is_proc.rules.blocks.0 in
               let run : LeadsOn p all m (193 * n) (block_steps n p (begun p m)) =
-              all_steps last sums stays is_word is_loaded is_stored p all (are_done ls are) n (begun p m) m first (begins m is pc) in
+              all_steps last sums stays steps trapped is_word is_loaded is_stored p all (are_done ls are) n (begun p m) m first (begins m is pc) in
               record {
                 steps = run.steps;
                 few = run.few;

@@ -1,6 +1,6 @@
 -- Steps of the block machine are runs of the blocks' words, where they stand in the linked list.
-use Rattle.std.proofs.Common.{◌≡◌, ℕ, zero, suc, ◌+◌, ◌*◌, ◌/◌, ◌^◌, ◌<◌, ◌≤◌, List, [], ◌∷◌, length, refl, sym, ◌∙◌, ap, subst, inl, inr, arith, Bool, true, false, Option, Some, None}
-use Rattle.std.specs.Prelude.{All, Contains, IfSome, IsSomeAnd, MatchOption, codes, find, slice_get, slice_index, if◌then◌else◌}
+use Rattle.std.proofs.Common.{◌≡◌, ℕ, zero, suc, ◌+◌, ◌*◌, ◌/◌, ◌<◌, ◌≤◌, List, [], ◌∷◌, length, refl, sym, ◌∙◌, ap, subst, inl, inr, arith, Bool, true, false, Option, Some, None}
+use Rattle.std.specs.Prelude.{All, Contains, IfSome, IsSomeAnd, MatchOption, codes, find, slice_get, slice_index, if◌then◌else◌, IsFalse, IsTrue}
 use Rattle.std.specs.List.{AllZip}
 use Rattle.std.specs.Option.{option_map_or}
 use Rattle.std.proofs.lemmas.List.Elements.{All-nil, All-cons}
@@ -15,9 +15,10 @@ use Rattle.word_ops.specs.Operators.{value_of}
 use Rattle.word_ops.specs.Words.{IsWord}
 use Rattle.word_ops.specs.Worlds.{World, IsWorld, word, memory}
 use Rattle.alpha_encode.specs.declared.instructions.Instr.{Instr}
+use Rattle.alpha_encode.specs.declared.instructions.Instr.TheVariants.{Beq}
 use Rattle.alpha_machine.specs.States.{MachineState, IsState}
-use Rattle.alpha_machine.specs.Steps.{step, next_pc, address}
-use Rattle.alpha_machine.specs.Runs.{stepped, after}
+use Rattle.alpha_machine.specs.Steps.{step, next_pc, address, traps}
+use Rattle.alpha_machine.specs.Runs.{fetched, stepped, after}
 use Rattle.goal_meaning.specs.Holds.{goal_value}
 use Rattle.goal_meaning.specs.Outcomes.{is_zero}
 use Rattle.goal_meaning.specs.Views.{TargetTree}
@@ -85,6 +86,8 @@ other_there vars count b fact = by b.when fact.when
 module _ (last : (n : ℕ) (instrs : List Instr) (s : MachineState) → after (suc n) instrs s ≡ stepped instrs (after n instrs s))
     (sums : (m n : ℕ) (instrs : List Instr) (s : MachineState) → after (m + n) instrs s ≡ after n instrs (after m instrs s))
     (stays : (n : ℕ) (instrs : List Instr) (s : MachineState) → length instrs ≤ s.pc / 4 → after n instrs s ≡ s)
+    (steps : (instrs : List Instr) (s : MachineState) (i : Instr) → fetched instrs s ≡ Some i → IsFalse (traps i s) → stepped instrs s ≡ step i s)
+    (trapped : (n : ℕ) (instrs : List Instr) (s : MachineState) → IsSomeAnd (fetched instrs s) (λ i. IsTrue (traps i s)) → after n instrs s ≡ s)
     (is_word : (op : WordOp) (vs : List ℕ) → All IsWord vs → IsWord (value_of op vs))
     (is_loaded : (access : Access) (m : Memory) (a : ℕ) → IsMemory m → IsWord (loaded access m a))
     (is_stored : (access : Access) (m : Memory) (a v : ℕ) → IsMemory m → IsWord a → IsWord v → IsMemory (stored access m a v))
@@ -209,7 +212,7 @@ module _ (last : (n : ℕ) (instrs : List Instr) (s : MachineState) → after (s
         let at_place : next_pc (final.pc + 4 * from) ≡ 4 * (from + count) + 4 = omega (arith, pc, few, low) in
         let disp = displacement_between (from + count) (place_of_target listings b.go) in
         last count words m ∙ ap (stepped words) reached
-        ∙ ap (λ o. option_map_or (λ j. step j (moved from final)) o (moved from final)) (ap (slice_get words) place ∙ closes blocks listings i b is there listed)
+        ∙ steps words (moved from final) (Beq 31 disp) (ap (slice_get words) place ∙ closes blocks listings i b is there listed) refl
         ∙ leaves 31 disp (moved from final) final_state.zero_register
         ∙ ap (λ p. record { registers = final.registers; memory = final.memory; pc = p })
         (ap (λ x. address x 4 disp) at_place ∙ branch_leads (from + count) (place_of_target listings b.go) (omega (arith, few, low)) (omega (arith, to_low)))
@@ -232,7 +235,7 @@ module _ (last : (n : ℕ) (instrs : List Instr) (s : MachineState) → after (s
         let f = listing.falls w is_world (left_same ∙ h) in
         let reached : after count words m ≡ moved from final =
         ap (after count words) begins
-        ∙ falls_there last sums stays is (omega (arith, few)) listing.stand words from other (omega (arith, low)) (omega (arith, to_low))
+        ∙ falls_there last sums stays steps trapped is (omega (arith, few)) listing.stand words from other (omega (arith, low)) (omega (arith, to_low))
         (stands blocks listings i b is there listed) (entry_state w) refl f.ends in
         let e : after (suc count) words m ≡ behind b.go = closing reached f.ends in
         subst (LeadsOn p listings m 193) {x = fallen} (sym (through_is false h))
@@ -258,7 +261,7 @@ module _ (last : (n : ℕ) (instrs : List Instr) (s : MachineState) → after (s
         let low = from_low in
         let to_low = place_low (other_of b) in
         let f = listing.leaves w is_world (left_same ∙ h) in
-        let k = leaves_there last sums stays is (omega (arith, few)) listing.stand words from other (omega (arith, low)) (omega (arith, to_low))
+        let k = leaves_there last sums stays steps trapped is (omega (arith, few)) listing.stand words from other (omega (arith, low)) (omega (arith, to_low))
         (stands blocks listings i b is there listed) (entry_state w) refl f.ends in
         let few_steps = k.few_steps in
         let e : after k.steps words m ≡ behind (other_of b) = ap (after k.steps words) begins ∙ k.state in

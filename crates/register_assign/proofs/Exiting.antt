@@ -1,7 +1,7 @@
 -- A schedule whose guard's value is 0: its words leave by the branch, with memory and inputs as at entry.
 use Rattle.std.proofs.Common.{◌≡◌, ℕ, zero, suc, ◌+◌, ◌*◌, ◌/◌, ◌-◌, ◌<◌, ◌≤◌, List, [], ◌∷◌, length, take, refl, sym, ◌∙◌, ap, subst, inl, inr, ◌⊎◌, arith, Bool, true, false, cond, get_or, pos, Option, Some, None}
 use Rattle.std.specs.Prelude.{All, IsTrue, IsSomeAnd, IfSome, slice_get, slice_index, count_by, is_some, ◌==◌, if◌then◌else◌}
-use Rattle.std.specs.Option.{option_map_or}
+use Rattle.std.specs.Option.{option_and_then, option_map_or}
 use Rattle.std.proofs.lemmas.Bool.{false≢true}
 use Rattle.std.proofs.lemmas.List.Elements.{All-nil, All-cons, All-head, All-tail}
 use Rattle.std.proofs.lemmas.Option.{slice_get_past, slice_get_cases, same_Some, slice_get-get_or}
@@ -14,7 +14,7 @@ use Rattle.word_ops.specs.Worlds.{World, Value, word, memory}
 use Rattle.alpha_encode.specs.declared.instructions.Instr.{Instr}
 use Rattle.alpha_machine.specs.States.{MachineState}
 use Rattle.alpha_machine.specs.Steps.{step, address, next_pc}
-use Rattle.alpha_machine.specs.Runs.{stepped, after}
+use Rattle.alpha_machine.specs.Runs.{fetched, stepped, stepped_instr, unless_trap, after}
 use Rattle.graph_meaning.specs.Graphs.{constant_of}
 use Rattle.schedule_meaning.specs.Launches.{launches, is_store, is_load, is_branch, is_held, op_instr, word_op_instr, class_at, latest, later, group_of, copied_at, overwrites}
 use Rattle.schedule_meaning.specs.Fits.{Waits}
@@ -43,7 +43,7 @@ use Rattle.register_assign.proofs.Groups.{earlier_cycle, store_group, held_group
 use Rattle.register_assign.proofs.Stores.{at_take}
 use Rattle.register_assign.proofs.Branch.{branch_tests, other_step, left_by}
 use Rattle.register_assign.proofs.Obeying.{kind_at}
-use Rattle.register_assign.proofs.Whole.{after_more, word_at_place, reached_after, reached_first}
+use Rattle.register_assign.proofs.Whole.{after_more, instr_stepped, never_traps, word_at_place, reached_after, reached_first}
 use Rattle.register_assign.proofs.Falling.{words_count, items_count}
 
 -- ---- nothing passes
@@ -58,10 +58,13 @@ latest_none test (m ∷ ls) h = none_step test m (latest test ls) (test m) (All-
 
 -- ---- past the words
 
+none_stepped : (instrs : List Instr) (s : MachineState) → length instrs ≤ s.pc / 4 → stepped_instr instrs s ≡ None
+none_stepped instrs s past = ap (option_and_then (unless_trap s)) (slice_get_past instrs (s.pc / 4) past)
+
 stays : (n : ℕ) (instrs : List Instr) (s : MachineState) → length instrs ≤ s.pc / 4 → after n instrs s ≡ s
 stays zero instrs s past = refl
 stays (suc n) instrs s past =
-    ap (after n instrs) (ap (λ o. option_map_or (λ i. step i s) o s) (slice_get_past instrs (s.pc / 4) past)) ∙ stays n instrs s past
+    ap (after n instrs) (ap (λ o. option_map_or (λ i. step i s) o s) (none_stepped instrs s past)) ∙ stays n instrs s past
 
 after_sum : (m n : ℕ) (instrs : List Instr) (s : MachineState) → after (m + n) instrs s ≡ after n instrs (after m instrs s)
 after_sum zero n instrs s = (let e : 0 + n ≡ n = omega arith in ap (λ k. after k instrs s) e)
@@ -72,7 +75,7 @@ after_sum (suc m) n instrs s =
 nothing_traced : (n : ℕ) (instrs : List Instr) (s : MachineState) → length instrs ≤ s.pc / 4 → trace n instrs s ≡ []
 nothing_traced zero instrs s past = refl
 nothing_traced (suc n) instrs s past =
-    let none = slice_get_past instrs (s.pc / 4) past in
+    let none = none_stepped instrs s past in
     ap (λ o. stepped_first o (trace n instrs (stepped instrs s))) none
     ∙ ap (trace n instrs) (ap (λ o. option_map_or (λ i. step i s) o s) none)
     ∙ nothing_traced n instrs s past
@@ -187,10 +190,14 @@ module _ (g : LaunchGraph) (table : Table) (k : ℕ) (ordered : List Launch) (w 
       let few = scene.few in
       ap (λ p. address (next_pc p) 4 (pos (length ordered - b))) pc ∙ omega arith
 
-  at_place : (n : ℕ) (m : Launch) → n ≤ b → slice_get ordered n ≡ Some m → slice_get instrs ((after n instrs (entry_state w)).pc / 4) ≡ Some (instr_of g table ordered n m)
-  at_place n m le e =
+  fetched_at : (n : ℕ) (m : Launch) → n ≤ b → slice_get ordered n ≡ Some m → fetched instrs (after n instrs (entry_state w)) ≡ Some (instr_of g table ordered n m)
+  fetched_at n m le e =
       let pc : (after n instrs (entry_state w)).pc ≡ 4 * n = (reached_at n le).pc in
       ap (slice_get instrs) (let p : (after n instrs (entry_state w)).pc / 4 ≡ n = omega arith in p) ∙ word_at_place g table ordered n m e
+
+  at_place : (n : ℕ) (m : Launch) → n ≤ b → slice_get ordered n ≡ Some m → stepped_instr instrs (after n instrs (entry_state w)) ≡ Some (instr_of g table ordered n m)
+  at_place n m le e =
+      instr_stepped instrs (after n instrs (entry_state w)) (instr_of g table ordered n m) (fetched_at n m le e) (never_traps g table ordered n m (after n instrs (entry_state w)))
 
   leaves : stepped instrs at_branch ≡ left
   leaves =

@@ -4,22 +4,25 @@ use Rattle.std.specs.Prelude.{◌≡◌, ℕ, ◌+◌, ◌<◌, ◌≤◌, List,
 use Rattle.machine_table.specs.Tables.{MayUse, latency_of, cluster_of, ready}
 use Rattle.schedule_meaning.specs.Launches.{is_load, is_store}
 use Rattle.alpha_encode.specs.Codes.{is_unary}
+use Rattle.word_ops.specs.declared.sorts.Access.TheVariants.{Quad}
 use Rattle.machine_table.specs.declared.tables.InstrKind.{InstrKind}
 use Rattle.machine_table.specs.declared.tables.InstrKind.TheVariants as kinds
 use Rattle.alpha_encode.specs.declared.instructions.Second.{Second}
 use Rattle.alpha_encode.specs.declared.instructions.Second.TheVariants.{Reg, Literal}
 use Rattle.alpha_encode.specs.declared.instructions.Instr.{Instr}
-use Rattle.alpha_encode.specs.declared.instructions.Instr.TheVariants.{Operate, Lda, Ldah, Load, Store, Beq}
+use Rattle.alpha_encode.specs.declared.instructions.Instr.TheVariants.{Operate, Lda, Ldah, Load, Store, Ldq, Stq, Beq}
 use Rattle.register_assign.specs.declared.listings.Item.{Item}
 use Rattle.machine_table.specs.declared.tables.Table.{Table}
 
--- what the instruction is on a table
+-- what the instruction is on a table, where LDQ and STQ are as LDQ_U and STQ_U
 abbrev pub kind_of : Instr → InstrKind
 kind_of (Operate op ra second rc) = kinds.Operate op
 kind_of (Lda ra rb disp) = kinds.Lda
 kind_of (Ldah ra rb disp) = kinds.Ldah
 kind_of (Load access ra rb disp) = kinds.Load access
 kind_of (Store access ra rb disp) = kinds.Store access
+kind_of (Ldq ra rb disp) = kinds.Load Quad
+kind_of (Stq ra rb disp) = kinds.Store Quad
 kind_of (Beq ra disp) = kinds.Beq
 
 abbrev pub loads : Instr → Bool
@@ -39,6 +42,8 @@ reads (Lda ra rb disp) = rb ∷ []
 reads (Ldah ra rb disp) = rb ∷ []
 reads (Load access ra rb disp) = rb ∷ []
 reads (Store access ra rb disp) = ra ∷ rb ∷ []
+reads (Ldq ra rb disp) = rb ∷ []
+reads (Stq ra rb disp) = ra ∷ rb ∷ []
 reads (Beq ra disp) = ra ∷ []
 
 -- the register that it writes
@@ -47,6 +52,7 @@ writes (Operate op ra second rc) = Some rc
 writes (Lda ra rb disp) = Some ra
 writes (Ldah ra rb disp) = Some ra
 writes (Load access ra rb disp) = Some ra
+writes (Ldq ra rb disp) = Some ra
 writes _ = None
 
 abbrev pub latency_in : Table → Instr → ℕ

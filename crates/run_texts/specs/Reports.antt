@@ -6,7 +6,7 @@ use Rattle.text_core.specs.LineTexts.{Words, lines_text}
 use Rattle.alpha_machine.specs.States.{MachineState}
 use Rattle.alpha_machine.specs.Runs.{Runs, AllMayStand}
 use Rattle.alpha_machine.specs.declared.running.End.{End}
-use Rattle.alpha_machine.specs.declared.running.End.TheVariants.{Fall, Exit}
+use Rattle.alpha_machine.specs.declared.running.End.TheVariants.{Fall, Exit, Trap}
 use Rattle.run_texts.specs.declared.texts.RegisterWord.{RegisterWord}
 use Rattle.run_texts.specs.declared.texts.PlaceWord.{PlaceWord}
 use Rattle.run_texts.specs.declared.texts.RunText.{RunText}
@@ -33,6 +33,7 @@ pub record CanRun (run : RunText) : Type 0 where
 abbrev pub report_end_words : End → Words
 report_end_words Fall = codes "end" ∷ codes "fall" ∷ []
 report_end_words Exit = codes "end" ∷ codes "exit" ∷ []
+report_end_words Trap = codes "end" ∷ codes "trap" ∷ []
 
 -- the line of a register, where its word isn't 0
 abbrev pub register_line : ℕ → ℕ → List Words

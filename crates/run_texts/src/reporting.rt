@@ -66,6 +66,7 @@ fn put_end(text: &mut Vec<u8>, end: End) -> Result<(), NoMemory>
     match end {
         End::Fall => put(text, b"end fall\n"),
         End::Exit => put(text, b"end exit\n"),
+        End::Trap => put(text, b"end trap\n"),
     }
 }
 

@@ -1,7 +1,8 @@
-// The texts of launch graphs: what is read is printed again.
+// The texts of launch graphs: what is read is printed again, and what it says of multiples.
 ghost use Rattle.std.specs.Prelude.{◌≤◌, ◌^◌, length};
 
-use case_files::{Trouble, Words, faulty, put_numbers, split_line};
+use case_files::{Trouble, Words, faulty, put, put_number, put_numbers, split_line};
+use graph_meaning::graphs_are_consistent;
 use launch_graph::{print, read, read_as};
 use std::alloc::Global;
 
@@ -39,4 +40,29 @@ pub(crate) fn graphs(alloc: Global, input: &[u8]) -> Result<Vec<u8>, Trouble>
         }
         Err(fault) => faulty(alloc, fault),
     }
+}
+
+/// Input: the lines of a graph. Answers with the power of 2 for each of its classes of which the rows show it a multiple.
+pub(crate) fn multiples(alloc: Global, input: &[u8]) -> Result<Vec<u8>, Trouble>
+    requires { length input.now ≤ 2 ^ 24 }
+{
+    graphs_are_consistent();
+    let lines = text_core::lines(alloc, input).ok().ok_or(Trouble::Unread)?;
+    let Ok((graph, _)) = read(alloc, &lines, 0) else {
+        return Err(Trouble::Unread);
+    };
+    let rows = graph.rows.as_slice();
+    let powers = graph_meaning::multiples(alloc, rows, rows.len())?;
+    let classes = rows
+        .iter()
+        .map(|row| row.class as usize + 1)
+        .max()
+        .unwrap_or(0);
+    let mut report = Vec::new(alloc);
+    put(&mut report, b"multiples")?;
+    for power in powers.as_slice().iter().take(classes) {
+        put_number(&mut report, u64::from(*power))?;
+    }
+    put(&mut report, b"\n")?;
+    Ok(report)
 }

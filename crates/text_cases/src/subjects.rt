@@ -16,6 +16,7 @@ pub(crate) enum Subject {
     Tables,
     Instructions,
     Graphs,
+    Multiples,
     Operators,
     Memories,
     Words,
@@ -25,7 +26,7 @@ pub(crate) enum Subject {
 }
 
 /// The name of each subject.
-const NAMES: [(&str, Subject); 16] = [
+const NAMES: [(&str, Subject); 17] = [
     ("decimals", Subject::Decimals),
     ("tokens", Subject::Tokens),
     ("trees", Subject::Trees),
@@ -36,6 +37,7 @@ const NAMES: [(&str, Subject); 16] = [
     ("tables", Subject::Tables),
     ("instructions", Subject::Instructions),
     ("graphs", Subject::Graphs),
+    ("multiples", Subject::Multiples),
     ("operators", Subject::Operators),
     ("memories", Subject::Memories),
     ("words", Subject::Words),
@@ -66,6 +68,7 @@ impl case_files::Subject for Subject {
             Subject::Tables => tables::tables(alloc, input),
             Subject::Instructions => tables::instructions(alloc, input),
             Subject::Graphs => graphs::graphs(alloc, input),
+            Subject::Multiples => graphs::multiples(alloc, input),
             Subject::Operators => worlds::operators(alloc, input),
             Subject::Memories => worlds::memories(alloc, input),
             Subject::Words => machine::words(alloc, input),

@@ -9,6 +9,30 @@ returns-in-Operate-clause-word c = search rules
 pub returns-in-Operate-clause-back : goal.returns-in-Operate-clause-back
 returns-in-Operate-clause-back c = ap decoded (returns-in-Operate-clause-word c) ∙ decoded_encoded c.args.instr c.requires
 
+pub returns-in-Load-clause-word : goal.returns-in-Load-clause-word
+returns-in-Load-clause-word c = search rules
+
+pub returns-in-Load-clause-back : goal.returns-in-Load-clause-back
+returns-in-Load-clause-back c = ap decoded (returns-in-Load-clause-word c) ∙ decoded_encoded c.args.instr c.requires
+
+pub returns-in-Store-clause-word : goal.returns-in-Store-clause-word
+returns-in-Store-clause-word c = search rules
+
+pub returns-in-Store-clause-back : goal.returns-in-Store-clause-back
+returns-in-Store-clause-back c = ap decoded (returns-in-Store-clause-word c) ∙ decoded_encoded c.args.instr c.requires
+
+pub returns-in-Ldq-clause-word : goal.returns-in-Ldq-clause-word
+returns-in-Ldq-clause-word c = search rules
+
+pub returns-in-Ldq-clause-back : goal.returns-in-Ldq-clause-back
+returns-in-Ldq-clause-back c = ap decoded (returns-in-Ldq-clause-word c) ∙ decoded_encoded c.args.instr c.requires
+
+pub returns-in-Stq-clause-word : goal.returns-in-Stq-clause-word
+returns-in-Stq-clause-word c = search rules
+
+pub returns-in-Stq-clause-back : goal.returns-in-Stq-clause-back
+returns-in-Stq-clause-back c = ap decoded (returns-in-Stq-clause-word c) ∙ decoded_encoded c.args.instr c.requires
+
 pub returns-in-Beq-clause-word : goal.returns-in-Beq-clause-word
 returns-in-Beq-clause-word c = search rules
 

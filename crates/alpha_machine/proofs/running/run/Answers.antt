@@ -2,22 +2,35 @@
 use Rattle.std.proofs.Common.{◌≡◌, ◌*◌, ◌<◌, sym, ◌∙◌, ap, arith, length}
 use Rattle.std.proofs.lemmas.Option.{slice_get-get_or}
 use Rattle.alpha_machine.specs.Runs.{after}
-use Rattle.alpha_machine.proofs.Outcomes.{when_err, when_ok}
-use Rattle.alpha_machine.proofs.StepsOfRuns.{reached_more, pc_more, pc_leaves, leads_out, before_store, decode_all, instrs_of}
+use Rattle.alpha_machine.proofs.StepsOfRuns.{reached_more, pc_more, pc_leaves, leads_out, runs_to_trap, before_store, no_other, decode_all, instrs_of}
 use Rattle.alpha_machine.proofs.running.run.Goals as goal
 
-pub returns-then-is_err-clause-refused : goal.returns-then-is_err-clause-refused
-returns-then-is_err-clause-refused c =
+pub returns-in-Err-Trap-clause-runs : goal.returns-in-Err-Trap-clause-runs
+returns-in-Err-Trap-clause-runs c =
     let there = slice_get-get_or c.args.words.now c.loop-word.word-index 0 c.loop-word-test.true in
-    let stand = c.in_default.ensures in
-    let fault = when_err c.step.result c.is_err.result _ c.is_err.ensures.value c.if-is_err.true c.step.ensures.refused in
-    (stand, before_store _ _ _ _ _ _ stand there c.loop-word.invariant.reached c.loop-word.invariant.pc fault.0 c.loop-word-test.true fault.1)
+    runs_to_trap _ _ _ _ _ _ c.in_default.ensures there c.loop-word.invariant.reached c.loop-word.invariant.pc
+    c.in-Err-Trap.field-0 c.in-Err-Trap.field-0-is c.requires.start c.loop-word-test.true c.in-Err-Trap.ensures.refused
+
+pub returns-in-Err-Memory-clause-refused : goal.returns-in-Err-Memory-clause-refused
+returns-in-Err-Memory-clause-refused c =
+    let there = slice_get-get_or c.args.words.now c.loop-word.word-index 0 c.loop-word-test.true in (
+      c.in_default.ensures,
+      before_store _ _ _ _ _ _ c.in_default.ensures there c.loop-word.invariant.reached c.loop-word.invariant.pc
+          c.in-Err-Memory.field-0 c.in-Err-Memory.field-0-is c.loop-word-test.true c.in-Err-Memory.ensures.refused,
+    )
+
+pub unreachable-requires : goal.unreachable-requires
+unreachable-requires c =
+    let there = slice_get-get_or c.args.words.now c.loop-word.word-index 0 c.loop-word-test.true in
+    no_other _ _ _ _ _ c.step.new.state c.in_default.ensures there
+    c.loop-word.invariant.reached c.loop-word.invariant.pc
+    c.in-Err-NotWord.field-0 c.in-Err-NotWord.field-0-is c.in-Err-NotWord.ensures.refused
 
 pub returns-then-pc-fall-clause-runs : goal.returns-then-pc-fall-clause-runs
 returns-then-pc-fall-clause-runs c =
     let there = slice_get-get_or c.args.words.now c.loop-word.word-index 0 c.loop-word-test.true in
     let stand = c.in_default.ensures in
-    let did = when_ok c.step.result c.is_err.result _ c.is_err.ensures.value c.if-is_err.false c.step.ensures.ok in
+    let did = c.in-Ok.ensures.ok in
     let reached = reached_more _ _ _ _ _ _ stand there c.loop-word.invariant.reached c.loop-word.invariant.pc did in
     let out : 4 * length c.args.words.now < c.step.new.state.pc = omega (arith, c.pc.ensures, c.if-pc-fall.true) in
     let ends = pc_leaves _ _ _ _ _ _ stand there c.loop-word.invariant.reached c.loop-word.invariant.pc c.loop-word-test.true c.requires.few did out in
@@ -33,7 +46,7 @@ pub loop-word-preserved : goal.loop-word-preserved
 loop-word-preserved c =
     let there = slice_get-get_or c.args.words.now c.loop-word.word-index 0 c.loop-word-test.true in
     let stand = c.in_default.ensures in
-    let did = when_ok c.step.result c.is_err.result _ c.is_err.ensures.value c.if-is_err.false c.step.ensures.ok in
+    let did = c.in-Ok.ensures.ok in
     record {
       reached = reached_more _ _ _ _ _ _ stand there c.loop-word.invariant.reached c.loop-word.invariant.pc did;
       pc = pc_more _ _ _ _ _ _ stand there c.loop-word.invariant.reached c.loop-word.invariant.pc c.loop-word-test.true c.requires.few did

@@ -1,11 +1,9 @@
-use Rattle.std.proofs.Common.{◌∷◌, [], refl}
-use Rattle.std.proofs.lemmas.Result.{IfOk-weaker}
+use Rattle.std.proofs.Common.{refl}
 use Rattle.word_ops.specs.declared.sorts.Op.TheVariants.{Select}
 use Rattle.word_ops.specs.declared.sorts.Sort.TheVariants as sorts
 use Rattle.word_ops.specs.Meanings.{operand_sort}
 use Rattle.code_check.specs.Terms.{address_at}
-use Rattle.code_check.specs.Classes.{IsRowInserted}
-use Rattle.code_check.proofs.Built.{memory_built, over_two, two_sorted}
+use Rattle.code_check.proofs.Built.{memory_built, over_two, two_keep, two_sorted}
 use Rattle.code_check.proofs.inserting.load_class.Goals as goal
 
 pub insert_row-requires-clause-sorts : goal.insert_row-requires-clause-sorts
@@ -16,12 +14,18 @@ insert_row-requires-clause-sorts c =
     two_sorted c.address_class.new.graph (operand_sort (Select c.args.access)) c.args.memory c.in_ok-address.address (second.keeps c.args.memory sorts.Memory are.memory_is.of_sort) second.of_sort
 
 pub returns-clause-built : goal.returns-clause-built
-returns-clause-built c =
+returns-clause-built c = λ ts are.
+    let laws = c.more_terms_may_be_inserted.ensures in
     let old = c.args.graph.now in
     let late = c.address_class.new.graph in
     let new = c.insert_row.new.graph in
-    IfOk-weaker c.insert_row.result (λ k. IsRowInserted late (Select c.args.access) (c.args.memory ∷ c.in_ok-address.address ∷ []) k new) _
-    (λ k h ts are.
+    let t = address_at (ts.registers c.args.rb) c.args.n in
+    let address = c.in_ok-address.address in
     let second = c.in_ok-address.ensures.built ts c.args.memory are in
-    over_two old old late new (Select c.args.access) sorts.Memory sorts.Word sorts.Word ts.memory (address_at (ts.registers c.args.rb) c.args.n) c.args.memory c.in_ok-address.address k refl
-    (memory_built c.more_terms_may_be_inserted.ensures.there old c.args.classes.now c.args.memory ts are) second h) c.insert_row.ensures.row
+    let own = laws.class t address old late are.graph second.built in
+    record {
+      built = over_two old old late new (Select c.args.access) sorts.Memory sorts.Word sorts.Word ts.memory t c.args.memory address c.in_ok-class.class refl
+          (memory_built laws.there old c.args.classes.now c.args.memory ts are) second c.in_ok-class.ensures.row;
+      address_is = two_keep laws.there laws.others late new second.graph (Select c.args.access) ts.memory t c.args.memory address c.in_ok-class.class
+          (laws.others t ts.memory address c.args.memory old late second.built are.memory_is.class) own c.in_ok-class.ensures.row t address own;
+    }

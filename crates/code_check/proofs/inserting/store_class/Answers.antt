@@ -1,11 +1,9 @@
-use Rattle.std.proofs.Common.{◌∷◌, [], refl}
-use Rattle.std.proofs.lemmas.Result.{IfOk-weaker}
+use Rattle.std.proofs.Common.{refl}
 use Rattle.word_ops.specs.declared.sorts.Op.TheVariants.{Store}
 use Rattle.word_ops.specs.declared.sorts.Sort.TheVariants as sorts
 use Rattle.word_ops.specs.Meanings.{operand_sort}
 use Rattle.code_check.specs.Terms.{address_at}
-use Rattle.code_check.specs.Classes.{IsRowInserted}
-use Rattle.code_check.proofs.Built.{memory_built, are_later, over_three, three_sorted}
+use Rattle.code_check.proofs.Built.{memory_built, are_later, over_three, three_keep, three_sorted}
 use Rattle.code_check.proofs.inserting.store_class.Goals as goal
 
 pub insert_row-requires-clause-sorts : goal.insert_row-requires-clause-sorts
@@ -20,15 +18,23 @@ insert_row-requires-clause-sorts c =
     (third.keeps c.args.memory sorts.Memory (second.keeps c.args.memory sorts.Memory are.memory_is.of_sort)) (third.keeps c.in_ok-address.address sorts.Word second.of_sort) third.of_sort
 
 pub returns-clause-built : goal.returns-clause-built
-returns-clause-built c =
+returns-clause-built c = λ ts are.
+    let laws = c.more_terms_may_be_inserted.ensures in
     let old = c.args.graph.now in
     let mid = c.address_class.new.graph in
     let late = c.register_class.new.graph in
     let new = c.insert_row.new.graph in
-    IfOk-weaker c.insert_row.result (λ k. IsRowInserted late (Store c.args.access) (c.args.memory ∷ c.in_ok-address.address ∷ c.in_ok-value.value ∷ []) k new) _
-    (λ k h ts are.
-    let a = address_at (ts.registers c.args.rb) c.args.n in
+    let t = address_at (ts.registers c.args.rb) c.args.n in
+    let v = ts.registers c.args.ra in
+    let address = c.in_ok-address.address in
+    let value = c.in_ok-value.value in
     let second = c.in_ok-address.ensures.built ts c.args.memory are in
-    let third = c.in_ok-value.ensures.built ts c.args.memory (are_later c.more_terms_may_be_inserted.ensures.others old mid c.args.classes.now c.args.memory ts sorts.Word a c.in_ok-address.address second are) in
-    over_three old old mid late new (Store c.args.access) sorts.Memory sorts.Word sorts.Word sorts.Memory ts.memory a (ts.registers c.args.ra) c.args.memory c.in_ok-address.address c.in_ok-value.value k refl
-    (memory_built c.more_terms_may_be_inserted.ensures.there old c.args.classes.now c.args.memory ts are) second third h) c.insert_row.ensures.row
+    let third = c.in_ok-value.ensures.built ts c.args.memory (are_later laws.others old mid c.args.classes.now c.args.memory ts sorts.Word t address second are) in
+    let own = laws.others v t value address mid late third.built (laws.class t address old mid are.graph second.built) in
+    let kept = laws.others v ts.memory value c.args.memory mid late third.built (laws.others t ts.memory address c.args.memory old mid second.built are.memory_is.class) in
+    record {
+      built = over_three old old mid late new (Store c.args.access) sorts.Memory sorts.Word sorts.Word sorts.Memory ts.memory t v c.args.memory address value c.in_ok-class.class refl
+          (memory_built laws.there old c.args.classes.now c.args.memory ts are) second third c.in_ok-class.ensures.row;
+      address_is = three_keep laws.there laws.others late new third.graph (Store c.args.access) ts.memory t c.args.memory address c.in_ok-class.class kept own v value
+          (laws.class v value mid late second.graph third.built) c.in_ok-class.ensures.row t address own;
+    }

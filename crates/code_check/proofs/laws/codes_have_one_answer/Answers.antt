@@ -12,5 +12,6 @@ returns c = record {
       one_answer input goal instrs rounds nodes
       (λ i j. c.rounds_end_once.ensures.not_before (rules_of input) present (assumed_pairs goal) rounds nodes i j rules)
       (λ g j stop. c.rounds_end_once.ensures.halts (rules_of input) present (assumed_pairs goal) g rounds nodes j stop)
+      (λ g h j. c.grown_graphs_are_one.ensures.alike (rules_of input) present (assumed_pairs goal) g h j)
       code x y (right instrs fits.is_code.decode) (other instrs fits.is_code.decode);
 }

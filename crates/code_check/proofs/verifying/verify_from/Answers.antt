@@ -13,13 +13,13 @@ use Rattle.saturation.specs.GoalTerms.{assumed_pairs, kept_terms, rules_of}
 use Rattle.saturation.specs.OverLets.{AreLetsBelow}
 use Rattle.saturation.specs.Rounds.{IsHopeless, IsSaturated, KeepsStanding, SaturateFaultIs}
 use Rattle.code_check.specs.Codes.{ArePlaces}
-use Rattle.code_check.specs.Compared.{ArePresentClasses, terms_at_branch}
+use Rattle.code_check.specs.Compared.{ArePresentAddresses, ArePresentClasses, terms_at_branch}
 use Rattle.code_check.specs.Same.{IsFirstDifferent, Same, terms_at_end}
-use Rattle.code_check.specs.Terms.{written_terms}
+use Rattle.code_check.specs.Terms.{terms_at_entry, written_terms}
 use Rattle.code_check.specs.Verified.{IsRightFor}
-use Rattle.code_check.proofs.CodeTerms.{present_both}
+use Rattle.code_check.proofs.CodeTerms.{present_addresses, present_both}
 use Rattle.code_check.proofs.Comparisons.{have_class}
-use Rattle.code_check.proofs.Answering.{answered, let_there, few_code, few_words, for_inputs, for_the_code, room_for, rounds_refused}
+use Rattle.code_check.proofs.Answering.{answered, let_there, few_code, few_of_words, few_rows, few_words, for_inputs, for_the_code, room_for, rounds_refused}
 use Rattle.code_check.proofs.verifying.verify_from.Goals as goal
 use Rattle.code_check.proofs.verifying.verify_from.Goals.{After-as_slice-places, After-as_slice-lets}
 
@@ -82,6 +82,14 @@ present_is c =
     c.words_before-before.ensures (subst (λ ws. map decoded ws ≡ map Some fits.instrs) (sym c.as_slice-words.ensures) fits.is_code.decode)
     c.in-Ok.ensures.classes c.in-Ok.ensures.saturated.graph
 
+-- so are the classes of addresses
+addresses_are : (c : After-as_slice-places) → ArePresentAddresses c.in-Ok.saturated.graph c.requires.fits.instrs terms_at_entry c.in_ok-inserted.inserted.addresses
+addresses_are c =
+    let instrs = c.requires.fits.instrs in
+    let is = c.in_ok-inserted.ensures.inserted instrs (subst (λ ws. map decoded ws ≡ map Some instrs) (sym c.as_slice-words.ensures) c.requires.fits.is_code.decode) in
+    present_addresses c.more_terms_may_be_inserted.ensures.others c.terms_have_one_class.ensures.has c.rows_name_present_classes.ensures.present
+    c.insert_code.new.graph c.in-Ok.saturated.graph c.in-Ok.ensures.classes is.graph instrs terms_at_entry c.in_ok-inserted.inserted.addresses is.addresses
+
 pub let_classes-requires : goal.let_classes-requires
 let_classes-requires c =
     let tree = goal_view c.args.goal.now in
@@ -112,6 +120,9 @@ first_different-requires c =
     let present = present_is (goal.at.first_different-requires c).After-as_slice-places in
     let instrs = c.requires.fits.instrs in
     let lets = lets_are (goal.at.first_different-requires c).After-as_slice-lets in
+    let code_small = subst (λ (ws : List ℕ). length ws ≤ 4096) (sym c.as_slice-words.ensures) c.requires.fits.few in
+    let small = few_words (length c.args.first.current) (length c.insert_code.new.graph.current) (length c.as_slice-words.result.now) c.requires.few code_small c.in_ok-inserted.ensures.few in
+    let is = c.in_ok-inserted.ensures.inserted instrs (subst (λ ws. map decoded ws ≡ map Some instrs) (sym c.as_slice-words.ensures) c.requires.fits.is_code.decode) in
     record {
       lets = lets;
       present = have_class c.in-Ok.saturated.graph (let_terms (goal_view c.args.goal.now)) c.as_slice-lets.result.now lets;
@@ -122,6 +133,13 @@ first_different-requires c =
       register = c.find_branch-branch.ensures.low;
       branch = (terms_at_branch c.find_branch-branch.result instrs, present.0);
       end = (terms_at_end instrs, present.1);
+      addresses = (
+        instrs,
+        subst (λ ws. map decoded ws ≡ map Some instrs) (sym c.as_slice-words.ensures) c.requires.fits.is_code.decode,
+        addresses_are (goal.at.first_different-requires c).After-as_slice-places,
+      );
+      few_words = few_of_words (length c.as_slice-words.result.now) code_small;
+      few_rows = few_rows (length c.insert_code.new.graph.rows) (length c.insert_code.new.graph.current) (length c.in-Ok.saturated.graph.rows) c.args.nodes small is.graph.few_rows c.in-Ok.ensures.few c.requires.nodes;
     }
 
 pub returns : goal.returns
@@ -134,9 +152,10 @@ returns c =
     let sat = c.in-Ok.saturated in
     let is = c.in_ok-inserted.ensures.inserted fits.instrs (subst (λ ws. map decoded ws ≡ map Some fits.instrs) (sym c.as_slice-words.ensures) fits.is_code.decode) in
     let present = present_is (goal.at.returns c).After-as_slice-places in
+    let addresses = addresses_are (goal.at.returns c).After-as_slice-places in
     let decode = subst (λ ws. map decoded ws ≡ map Some instrs) (sym c.as_slice-words.ensures) fits.is_code.decode in
     let found = subst (λ ps. MatchOption c.in_ok-different.different (Same sat.graph (expanded tree) instrs ps) (IsFirstDifferent sat.graph (expanded tree) instrs ps)) c.as_slice-places.ensures
-    (c.in_ok-different.ensures instrs (c.find_branch-branch.ensures.of_code instrs decode) fits.is_code.one_branch present.0 present.1) in
+    (c.in_ok-different.ensures instrs decode (c.find_branch-branch.ensures.of_code instrs decode) fits.is_code.one_branch addresses present.0 present.1) in
     record {
       right = λ input is_input rules is_goal.
           let axioms = rules_of input in

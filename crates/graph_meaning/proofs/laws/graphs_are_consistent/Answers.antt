@@ -5,6 +5,7 @@ pub returns : goal.returns
 returns c =
     record {
       below = classes.rows_low;
+      all_below = classes.all_low;
       classes = λ g sort class h. classes.class_below g h sort class;
       own_sort = classes.own_sorts;
       one_sort = λ g sort other class h. classes.one_sort g h sort other class;
