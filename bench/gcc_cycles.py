@@ -1,8 +1,8 @@
 """gcc's code for a C function, and the least number of cycles in which its instructions fit on the table ev6.
 
 The table is that of crates/machine_table: slots U0 and L0 in cluster 0, U1 and L1 in cluster 1, and a value is seen one
-cycle later in the other cluster. What the table lacks is added here: loads and stores of other sizes as `ldq_u` and `stq_u`,
-and a conditional move as two instructions of a cycle each, as the 21264 executes it (Compiler Writer's Guide for the 21264)."""
+cycle later in the other cluster. What the table lacks is added here: `ldq` and `stq` as `ldq_u` and `stq_u`, and a
+conditional move as two instructions of a cycle each, as the 21264 executes it (Compiler Writer's Guide for the 21264)."""
 import re
 import subprocess
 from collections import namedtuple

@@ -6,7 +6,7 @@ use Rattle.word_ops.specs.Operates.{code_of, has_code, operates}
 
 -- 6 bits of opcode, 7 bits of function code, and no opcode of another format
 pub record IsOperateCode (code : ℕ × ℕ) : Type 0 where
-  pub opcode : (15 < code.0) × (code.0 < 41)
+  pub opcode : (15 < code.0) × (code.0 < 40)
   pub function : code.1 < 128
 
 pub code_in_range : (op : Operate) → IsOperateCode (code_of op)

@@ -5,7 +5,7 @@ use Rattle.std.proofs.lemmas.Bool.Decides.{nat_tests}
 use Rattle.std.specs.Int.{w16}
 use Rattle.std.specs.Option.{option_map, option_and_then}
 use Rattle.word_ops.specs.declared.operates.Operate.{Operate as OperateOf}
-use Rattle.word_ops.specs.declared.sorts.Access.TheVariants.{Quad}
+use Rattle.word_ops.specs.declared.sorts.Access.TheVariants.{Quad, Byte, Word, Long}
 use Rattle.word_ops.specs.Operates.{operates, code_of, has_code}
 use Rattle.alpha_encode.specs.declared.instructions.Second.{Second}
 use Rattle.alpha_encode.specs.declared.instructions.Second.TheVariants.{Reg, Literal}
@@ -13,7 +13,7 @@ use Rattle.alpha_encode.specs.declared.instructions.Instr.{Instr}
 use Rattle.alpha_encode.specs.declared.instructions.Instr.TheVariants.{Operate, Lda, Ldah, Load, Store, Ldq, Stq, Beq}
 use Rattle.alpha_encode.specs.Codes.{lda_opcode, ldah_opcode, load_opcode, store_opcode, ldq_opcode, stq_opcode, operate_of, is_unary}
 use Rattle.alpha_encode.specs.Formats.{IsWellFormed, IsSecond, bits_of, operate_word, second_bits, memory_word, encoded}
-use Rattle.alpha_encode.specs.Decoded.{field, opcode, ra, rb, displacement, branch_displacement, second, allows_ra, operate_with, operate, decoded}
+use Rattle.alpha_encode.specs.Decoded.{field, opcode, ra, rb, displacement, branch_displacement, second, allows_ra, operate_with, operate, load_in, store_in, decoded}
 use Rattle.alpha_encode.proofs.CodeSearch.{IsOperateCode, code_in_range, find-own_code}
 
 -- the fields of an operate's word
@@ -40,7 +40,7 @@ operate_fields o r s f c ho hr hs hf hc = record {
 }
 
 -- a word whose opcode is that of an operate
-decoded-operate : (word : ℕ) → 15 < opcode word → opcode word < 41 → decoded word ≡ operate word
+decoded-operate : (word : ℕ) → 15 < opcode word → opcode word < 40 → decoded word ≡ operate word
 decoded-operate word l h = grind (arith, nat_tests)
 
 second_back : (word o r f c : ℕ) (s : Second) → IsSecond s → AreFields word o r (second_bits s) f c → second word ≡ Some s
@@ -102,8 +102,20 @@ decoded_encoded (Lda ra rb disp) h = memory_back Lda lda_opcode ra rb disp (λ w
 decoded_encoded (Ldah ra rb disp) h = memory_back Ldah ldah_opcode ra rb disp (λ word e. rw e) (omega arith) h
 decoded_encoded (Load Quad ra rb disp) h =
     memory_back (Load Quad) (load_opcode Quad) ra rb disp (λ word e. rw e) (omega arith) h
+decoded_encoded (Load Byte ra rb disp) h =
+    memory_back (Load Byte) (load_opcode Byte) ra rb disp (λ word e. rw e) (omega arith) h
+decoded_encoded (Load Word ra rb disp) h =
+    memory_back (Load Word) (load_opcode Word) ra rb disp (λ word e. rw e) (omega arith) h
+decoded_encoded (Load Long ra rb disp) h =
+    memory_back (Load Long) (load_opcode Long) ra rb disp (λ word e. rw e) (omega arith) h
 decoded_encoded (Store Quad ra rb disp) h =
     memory_back (Store Quad) (store_opcode Quad) ra rb disp (λ word e. rw e) (omega arith) h
+decoded_encoded (Store Byte ra rb disp) h =
+    memory_back (Store Byte) (store_opcode Byte) ra rb disp (λ word e. rw e) (omega arith) h
+decoded_encoded (Store Word ra rb disp) h =
+    memory_back (Store Word) (store_opcode Word) ra rb disp (λ word e. rw e) (omega arith) h
+decoded_encoded (Store Long ra rb disp) h =
+    memory_back (Store Long) (store_opcode Long) ra rb disp (λ word e. rw e) (omega arith) h
 decoded_encoded (Ldq ra rb disp) h = memory_back Ldq ldq_opcode ra rb disp (λ word e. rw e) (omega arith) h
 decoded_encoded (Stq ra rb disp) h = memory_back Stq stq_opcode ra rb disp (λ word e. rw e) (omega arith) h
 decoded_encoded (Beq ra (pos n)) h = grind (arith, nat_tests)
@@ -123,11 +135,29 @@ lda_sound word h e = search rules
 ldah_sound : (word : ℕ) → word < 2 ^ 32 → (opcode word == 0x09) ≡ true → IsSound word (Some (Ldah (ra word) (rb word) (displacement word)))
 ldah_sound word h e = search rules
 
-ldq_u_sound : (word : ℕ) → word < 2 ^ 32 → (opcode word == 0x0B) ≡ true → IsSound word (Some (Load Quad (ra word) (rb word) (displacement word)))
+ldq_u_sound : (word : ℕ) → word < 2 ^ 32 → (opcode word == 0x0B) ≡ true → IsSound word (load_in Quad word)
 ldq_u_sound word h e = search rules
 
-stq_u_sound : (word : ℕ) → word < 2 ^ 32 → (opcode word == 0x0F) ≡ true → IsSound word (Some (Store Quad (ra word) (rb word) (displacement word)))
+stq_u_sound : (word : ℕ) → word < 2 ^ 32 → (opcode word == 0x0F) ≡ true → IsSound word (store_in Quad word)
 stq_u_sound word h e = search rules
+
+ldbu_sound : (word : ℕ) → word < 2 ^ 32 → (opcode word == 0x0A) ≡ true → IsSound word (load_in Byte word)
+ldbu_sound word h e = search rules
+
+ldwu_sound : (word : ℕ) → word < 2 ^ 32 → (opcode word == 0x0C) ≡ true → IsSound word (load_in Word word)
+ldwu_sound word h e = search rules
+
+ldl_sound : (word : ℕ) → word < 2 ^ 32 → (opcode word == 0x28) ≡ true → IsSound word (load_in Long word)
+ldl_sound word h e = search rules
+
+stb_sound : (word : ℕ) → word < 2 ^ 32 → (opcode word == 0x0E) ≡ true → IsSound word (store_in Byte word)
+stb_sound word h e = search rules
+
+stw_sound : (word : ℕ) → word < 2 ^ 32 → (opcode word == 0x0D) ≡ true → IsSound word (store_in Word word)
+stw_sound word h e = search rules
+
+stl_sound : (word : ℕ) → word < 2 ^ 32 → (opcode word == 0x2C) ≡ true → IsSound word (store_in Long word)
+stl_sound word h e = search rules
 
 ldq_sound : (word : ℕ) → word < 2 ^ 32 → (opcode word == 0x29) ≡ true →
     IsSound word (Some (Ldq (ra word) (rb word) (displacement word)))
@@ -212,10 +242,16 @@ sound word h =
     choose (IsSound word) _ _ _ (ldah_sound word h) (λ _.
     choose (IsSound word) _ _ _ (ldq_u_sound word h) (λ _.
     choose (IsSound word) _ _ _ (stq_u_sound word h) (λ _.
+    choose (IsSound word) _ _ _ (ldbu_sound word h) (λ _.
+    choose (IsSound word) _ _ _ (ldwu_sound word h) (λ _.
+    choose (IsSound word) _ _ _ (ldl_sound word h) (λ _.
+    choose (IsSound word) _ _ _ (stb_sound word h) (λ _.
+    choose (IsSound word) _ _ _ (stw_sound word h) (λ _.
+    choose (IsSound word) _ _ _ (stl_sound word h) (λ _.
     choose (IsSound word) _ _ _ (ldq_sound word h) (λ _.
     choose (IsSound word) _ _ _ (stq_sound word h) (λ _.
     choose (IsSound word) _ _ _ (beq_sound word h) (λ _.
-    operate_sound word h)))))))
+    operate_sound word h)))))))))))))
 
 -- a word that has no instruction is none's
 pub none_sound : (word : ℕ) → decoded word ≡ None → (i : Instr) → IsWellFormed i → encoded i ≡ word → ⊥

@@ -3,7 +3,7 @@
 use Rattle.std.specs.Prelude.{ℕ, Option, Bool, ◌==◌, find}
 use Rattle.word_ops.specs.declared.operates.Operate.{Operate}
 use Rattle.word_ops.specs.declared.sorts.Access.{Access}
-use Rattle.word_ops.specs.declared.sorts.Access.TheVariants.{Quad}
+use Rattle.word_ops.specs.declared.sorts.Access.TheVariants.{Quad, Byte, Word, Long}
 use Rattle.word_ops.specs.Operates.{has_code, operates, row_of}
 
 abbrev pub lda_opcode : ℕ
@@ -14,9 +14,15 @@ ldah_opcode = 0x09
 
 abbrev pub load_opcode : Access → ℕ
 load_opcode Quad = 0x0B
+load_opcode Byte = 0x0A
+load_opcode Word = 0x0C
+load_opcode Long = 0x28
 
 abbrev pub store_opcode : Access → ℕ
 store_opcode Quad = 0x0F
+store_opcode Byte = 0x0E
+store_opcode Word = 0x0D
+store_opcode Long = 0x2C
 
 abbrev pub ldq_opcode : ℕ
 ldq_opcode = 0x29

@@ -4,7 +4,8 @@
 use Rattle.std.specs.Prelude.{ℕ, ℤ, pos, negsuc, suc, ◌-◌, ◌/◌, ◌%◌, ◌^◌, ◌==◌, nat_lt, Bool, true, if◌then◌else◌, Option, Some, None}
 use Rattle.std.specs.Option.{option_map, option_and_then}
 use Rattle.word_ops.specs.declared.operates.Operate.{Operate as OperateOf}
-use Rattle.word_ops.specs.declared.sorts.Access.TheVariants.{Quad}
+use Rattle.word_ops.specs.declared.sorts.Access.{Access}
+use Rattle.word_ops.specs.declared.sorts.Access.TheVariants.{Quad, Byte, Word, Long}
 use Rattle.alpha_encode.specs.declared.instructions.Second.{Second}
 use Rattle.alpha_encode.specs.declared.instructions.Second.TheVariants.{Reg, Literal}
 use Rattle.alpha_encode.specs.declared.instructions.Instr.{Instr}
@@ -51,13 +52,25 @@ operate_with word op =
 abbrev pub operate : ℕ → Option Instr
 operate word = option_and_then (operate_with word) (operate_of (opcode word) (field word 5 7))
 
+abbrev pub load_in : Access → ℕ → Option Instr
+load_in access word = Some (Load access (ra word) (rb word) (displacement word))
+
+abbrev pub store_in : Access → ℕ → Option Instr
+store_in access word = Some (Store access (ra word) (rb word) (displacement word))
+
 abbrev pub decoded : ℕ → Option Instr
 decoded word =
     if opcode word == lda_opcode then Some (Lda (ra word) (rb word) (displacement word)) else
     (if opcode word == ldah_opcode then Some (Ldah (ra word) (rb word) (displacement word)) else
-    (if opcode word == load_opcode Quad then Some (Load Quad (ra word) (rb word) (displacement word)) else
-    (if opcode word == store_opcode Quad then Some (Store Quad (ra word) (rb word) (displacement word)) else
+    (if opcode word == load_opcode Quad then load_in Quad word else
+    (if opcode word == store_opcode Quad then store_in Quad word else
+    (if opcode word == load_opcode Byte then load_in Byte word else
+    (if opcode word == load_opcode Word then load_in Word word else
+    (if opcode word == load_opcode Long then load_in Long word else
+    (if opcode word == store_opcode Byte then store_in Byte word else
+    (if opcode word == store_opcode Word then store_in Word word else
+    (if opcode word == store_opcode Long then store_in Long word else
     (if opcode word == ldq_opcode then Some (Ldq (ra word) (rb word) (displacement word)) else
     (if opcode word == stq_opcode then Some (Stq (ra word) (rb word) (displacement word)) else
     (if opcode word == beq_opcode then Some (Beq (ra word) (branch_displacement word)) else
-    operate word))))))
+    operate word))))))))))))

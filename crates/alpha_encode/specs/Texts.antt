@@ -4,7 +4,7 @@ use Rattle.std.specs.Fmt.{signed_decimal}
 use Rattle.word_ops.specs.Operates.{row_of}
 use Rattle.word_ops.specs.declared.operates.Operate.{Operate as OperateOf}
 use Rattle.word_ops.specs.declared.sorts.Access.{Access}
-use Rattle.word_ops.specs.declared.sorts.Access.TheVariants.{Quad}
+use Rattle.word_ops.specs.declared.sorts.Access.TheVariants.{Quad, Byte, Word, Long}
 use Rattle.alpha_encode.specs.declared.instructions.Second.{Second}
 use Rattle.alpha_encode.specs.declared.instructions.Second.TheVariants.{Reg, Literal}
 use Rattle.alpha_encode.specs.declared.instructions.Instr.{Instr}
@@ -31,9 +31,15 @@ memory_text name ra rb disp =
 -- the mnemonic of a load and of a store, and a space
 abbrev pub load_mnemonic : Access → List ℕ
 load_mnemonic Quad = codes "ldq_u "
+load_mnemonic Byte = codes "ldbu "
+load_mnemonic Word = codes "ldwu "
+load_mnemonic Long = codes "ldl "
 
 abbrev pub store_mnemonic : Access → List ℕ
 store_mnemonic Quad = codes "stq_u "
+store_mnemonic Byte = codes "stb "
+store_mnemonic Word = codes "stw "
+store_mnemonic Long = codes "stl "
 
 abbrev pub operate_text : OperateOf → ℕ → Second → ℕ → List ℕ
 operate_text op ra second rc =

@@ -4,7 +4,7 @@ ghost use Rattle.alpha_encode.specs.Formats.{IsWellFormed, encoded};
 ghost use Rattle.alpha_encode.specs.Decoded as decoding;
 ghost use Rattle.alpha_encode.specs.declared.instructions.Instr.{Instr as Instruction};
 
-use crate::codes::{BEQ, LDA, LDAH, LDQ, LDQ_U, STQ, STQ_U};
+use crate::codes::{BEQ, LDA, LDAH, LDBU, LDL, LDQ, LDQ_U, LDWU, STB, STL, STQ, STQ_U, STW};
 use crate::instructions::{Instr, Second};
 use word_ops::{Access, Operate};
 
@@ -20,18 +20,14 @@ pub fn decode(word: u32) -> Option<Instr>
     match field(word, 26, 6) {
         LDA => Some(Instr::Lda { ra, rb, disp }),
         LDAH => Some(Instr::Ldah { ra, rb, disp }),
-        LDQ_U => Some(Instr::Load {
-            access: Access::Quad,
-            ra,
-            rb,
-            disp,
-        }),
-        STQ_U => Some(Instr::Store {
-            access: Access::Quad,
-            ra,
-            rb,
-            disp,
-        }),
+        LDQ_U => load(word, Access::Quad),
+        STQ_U => store(word, Access::Quad),
+        LDBU => load(word, Access::Byte),
+        LDWU => load(word, Access::Word),
+        LDL => load(word, Access::Long),
+        STB => store(word, Access::Byte),
+        STW => store(word, Access::Word),
+        STL => store(word, Access::Long),
         LDQ => Some(Instr::Ldq { ra, rb, disp }),
         STQ => Some(Instr::Stq { ra, rb, disp }),
         BEQ => Some(Instr::Beq {
@@ -40,6 +36,28 @@ pub fn decode(word: u32) -> Option<Instr>
         }),
         opcode => operate(word, opcode),
     }
+}
+
+fn load(word: u32, access: Access) -> Option<Instr>
+    ensures { result ≡ decoding.load_in access word }
+{
+    Some(Instr::Load {
+        access,
+        ra: register(word, 21),
+        rb: register(word, 16),
+        disp: displacement(word),
+    })
+}
+
+fn store(word: u32, access: Access) -> Option<Instr>
+    ensures { result ≡ decoding.store_in access word }
+{
+    Some(Instr::Store {
+        access,
+        ra: register(word, 21),
+        rb: register(word, 16),
+        disp: displacement(word),
+    })
 }
 
 fn operate(word: u32, opcode: u32) -> Option<Instr>

@@ -1,6 +1,7 @@
 //! The Alpha's instruction words: an instruction's word, a word's instruction, and an instruction's text.
 //!
-//! The instructions are the 55 integer operates, LDA, LDAH, LDQ_U, STQ_U, LDQ, STQ and BEQ.
+//! The instructions are the 55 integer operates, LDA, LDAH, LDBU, LDWU, LDL, LDQ_U, STB, STW, STL, STQ_U, LDQ, STQ and
+//! BEQ.
 //!
 //! Proved: `encode` gives the word of the formats; `decode` reads it back, and gives none exactly where no instruction
 //! has the word; instructions and words are one to one (`words_and_instructions`); `text` is exact.

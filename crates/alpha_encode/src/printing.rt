@@ -19,22 +19,44 @@ pub fn text(alloc: Global, instr: Instr) -> Result<Vec<u8>, NoMemory>
         Instr::Lda { ra, rb, disp } => push_memory(&mut text, b"lda ", ra, rb, disp)?,
         Instr::Ldah { ra, rb, disp } => push_memory(&mut text, b"ldah ", ra, rb, disp)?,
         Instr::Load {
-            access: Access::Quad,
+            access,
             ra,
             rb,
             disp,
-        } => push_memory(&mut text, b"ldq_u ", ra, rb, disp)?,
+        } => push_memory(&mut text, load_mnemonic(access), ra, rb, disp)?,
         Instr::Store {
-            access: Access::Quad,
+            access,
             ra,
             rb,
             disp,
-        } => push_memory(&mut text, b"stq_u ", ra, rb, disp)?,
+        } => push_memory(&mut text, store_mnemonic(access), ra, rb, disp)?,
         Instr::Ldq { ra, rb, disp } => push_memory(&mut text, b"ldq ", ra, rb, disp)?,
         Instr::Stq { ra, rb, disp } => push_memory(&mut text, b"stq ", ra, rb, disp)?,
         Instr::Beq { ra, disp } => push_branch(&mut text, ra, disp)?,
     }
     Ok(text)
+}
+
+fn load_mnemonic(access: Access) -> &'static [u8]
+    ensures { result.now ≡ texts.load_mnemonic access }
+{
+    match access {
+        Access::Quad => b"ldq_u ",
+        Access::Byte => b"ldbu ",
+        Access::Word => b"ldwu ",
+        Access::Long => b"ldl ",
+    }
+}
+
+fn store_mnemonic(access: Access) -> &'static [u8]
+    ensures { result.now ≡ texts.store_mnemonic access }
+{
+    match access {
+        Access::Quad => b"stq_u ",
+        Access::Byte => b"stb ",
+        Access::Word => b"stw ",
+        Access::Long => b"stl ",
+    }
 }
 
 fn push_operate(

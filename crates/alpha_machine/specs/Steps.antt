@@ -1,9 +1,10 @@
 -- What one instruction does.
--- Source: Alpha Architecture Handbook, version 4, "Instruction Descriptions": the integer operates, LDA, LDAH, LDQ_U,
--- STQ_U, LDQ, STQ and BEQ; and of the data alignment trap, at an address that isn't a multiple of the access's width.
-use Rattle.std.specs.Prelude.{ℕ, ℤ, ◌+◌, ◌*◌, ◌%◌, ◌^◌, Bool, false, not, ◌&&◌, List, slice_index, set, ◌==◌, if◌then◌else◌, ◌≢◌}
+-- Source: Alpha Architecture Handbook, version 4, "Instruction Descriptions": the integer operates, LDA, LDAH, LDBU,
+-- LDWU, LDL, LDQ_U, STB, STW, STL, STQ_U, LDQ, STQ and BEQ; and of the data alignment trap, at an address that isn't a
+-- multiple of the access's width.
+use Rattle.std.specs.Prelude.{ℕ, zero, suc, ℤ, ◌+◌, ◌*◌, ◌/◌, ◌%◌, ◌^◌, Bool, true, false, not, ◌&&◌, List, slice_index, set, ◌==◌, if◌then◌else◌, ◌≢◌}
 use Rattle.std.specs.Int.{cast_unsigned, w64}
-use Rattle.word_ops.specs.Memory.{loaded, stored}
+use Rattle.word_ops.specs.Memory.{alignment, loaded, stored, word_at}
 use Rattle.word_ops.specs.Operators.{value_at}
 use Rattle.word_ops.specs.declared.operates.Operate.{Operate as OperateOf}
 use Rattle.word_ops.specs.declared.sorts.Access.{Access}
@@ -72,17 +73,25 @@ step (Beq ra disp) s = record {
   pc = if slice_index s.registers ra == 0 then address (next_pc s.pc) 4 disp else next_pc s.pc;
 }
 
-abbrev pub is_multiple_of_8 : ℕ → Bool
-is_multiple_of_8 n = n % 8 == 0
+-- a multiple of 2 to this power; each number is one of 1
+abbrev pub is_multiple : ℕ → ℕ → Bool
+is_multiple zero n = true
+is_multiple (suc power) n = n % 2 ^ suc power == 0
 
 -- The instruction traps, so there is no step. A load to register 31 is a prefetch, which never does.
 abbrev pub traps : Instr → MachineState → Bool
-traps (Ldq ra rb disp) s = not (ra == 31) && not (is_multiple_of_8 (place_of s rb disp))
-traps (Stq ra rb disp) s = not (is_multiple_of_8 (place_of s rb disp))
+traps (Load access ra rb disp) s = not (is_multiple (alignment access) (place_of s rb disp)) && not (ra == 31)
+traps (Store access ra rb disp) s = not (is_multiple (alignment access) (place_of s rb disp))
+traps (Ldq ra rb disp) s = not (is_multiple 3 (place_of s rb disp)) && not (ra == 31)
+traps (Stq ra rb disp) s = not (is_multiple 3 (place_of s rb disp))
 traps _ s = false
 
--- the instruction stores a word that isn't 0; no other takes memory of the host
+-- after the store the word at its place isn't 0
+abbrev pub LeavesWord : Access → ℕ → ℕ → ℤ → MachineState → Type 0
+LeavesWord access ra rb disp s = word_at (with_stored access ra rb disp s).memory (place_of s rb disp / 8) ≢ 0
+
+-- the instruction is a store that leaves a word; no other takes memory of the host
 abbrev pub TakesMemory : Instr → MachineState → Type 0
-TakesMemory (Store access ra rb disp) s = slice_index s.registers ra ≢ 0
-TakesMemory (Stq ra rb disp) s = slice_index s.registers ra ≢ 0
+TakesMemory (Store access ra rb disp) s = LeavesWord access ra rb disp s
+TakesMemory (Stq ra rb disp) s = LeavesWord Quad ra rb disp s
 TakesMemory _ s = ⊥

@@ -1,15 +1,16 @@
 //! The machine: what one instruction word does to 32 registers, a memory and a program counter, and what a list of
 //! words does when it is run from its first one.
 //!
-//! The words are those of `alpha_encode`: 55 integer operates, LDA, LDAH, LDQ_U, STQ_U, LDQ, STQ and BEQ.
+//! The words are those of `alpha_encode`: 55 integer operates, LDA, LDAH, LDBU, LDWU, LDL, LDQ_U, STB, STW, STL, STQ_U,
+//! LDQ, STQ and BEQ.
 //!
 //! Proved: `step` changes the state as the Handbook says for the instruction that the word decodes to; it refuses
-//! exactly a word that is no instruction and one that traps, and runs out of memory only in a store of a word that
-//! isn't 0, and then the state stays. `run` names the first word that is no instruction, or a branch that doesn't lead
-//! to the place one word after the last, before any step; otherwise the end and the state are those that the steps lead
-//! to, where a word that traps is the last that is looked at. The low 16 bits of a word, as a displacement, give what
-//! `lda` and `ldah` give (`displacements_are_low_bits`); steps add up, and nothing happens past the words or at a word
-//! that traps (`steps_add_up`).
+//! exactly a word that is no instruction and one that traps, and runs out of memory only in a store that leaves a word
+//! other than 0, and then the state stays. `run` names the first word that is no instruction, or a branch that doesn't
+//! lead to the place one word after the last, before any step; otherwise the end and the state are those that the steps
+//! lead to, where a word that traps is the last that is looked at. The low 16 bits of a word, as a displacement, give
+//! what `lda` and `ldah` give (`displacements_are_low_bits`); steps add up, and nothing happens past the words or at a
+//! word that traps (`steps_add_up`).
 #![tactic(auto)]
 
 mod laws;

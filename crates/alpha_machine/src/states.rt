@@ -6,7 +6,7 @@ ghost use Rattle.word_ops.specs.Words.{IsWord};
 ghost use Rattle.alpha_machine.specs.States.{IsState};
 ghost use Rattle.alpha_machine.specs.Steps as steps;
 
-use crate::values::{address, operate_result};
+use crate::values::{address, is_multiple, operate_result};
 use alpha_encode::{Instr, Second};
 use items::NoMemory;
 use std::marker::Model;
@@ -76,13 +76,25 @@ impl State {
         ensures { result ≡ steps.traps instr self.now }
     {
         match instr {
-            Instr::Ldq { ra, rb, disp } => ra != 31 && !self.is_aligned(rb, disp),
-            Instr::Stq { rb, disp, .. } => !self.is_aligned(rb, disp),
+            Instr::Load {
+                access,
+                ra,
+                rb,
+                disp,
+            } => !self.is_aligned(access.alignment(), rb, disp) && ra != 31,
+            Instr::Store {
+                access,
+                rb,
+                disp,
+                ..
+            } => !self.is_aligned(access.alignment(), rb, disp),
+            Instr::Ldq { ra, rb, disp } => !self.is_aligned(3, rb, disp) && ra != 31,
+            Instr::Stq { rb, disp, .. } => !self.is_aligned(3, rb, disp),
             _ => false,
         }
     }
 
-    /// Does what the instruction does, where it doesn't trap. Only a store of a word that isn't 0 takes memory.
+    /// Does what the instruction does, where it doesn't trap. Only a store that leaves a word other than 0 takes memory.
     pub(crate) fn execute(&mut self, instr: Instr) -> Result<(), NoMemory>
         requires { IsWellFormed instr }
         ensures ok { OnOk result (self.new ≡ steps.step instr self.old) }
@@ -140,31 +152,24 @@ impl State {
         self.write(ra, value);
     }
 
-    #[tactic(auto, unfolding(word_ops::specs::Memory::loaded, word_ops::specs::Memory::select))]
     fn load(&mut self, access: Access, ra: u8, rb: u8, disp: i16)
         requires ra { ra < 32 }
         requires rb { rb < 32 }
         ensures { self.new ≡ steps.with_loaded access ra rb disp self.old }
     {
-        let address = self.place_of(rb, disp);
-        let value = match access {
-            Access::Quad => self.memory.get(address / 8),
-        };
+        let value = access.load(&self.memory, self.place_of(rb, disp));
         self.write(ra, value);
     }
 
-    #[tactic(auto, unfolding(word_ops::specs::Memory::stored, word_ops::specs::Memory::store))]
     fn store(&mut self, access: Access, ra: u8, rb: u8, disp: i16) -> Result<(), NoMemory>
         requires ra { ra < 32 }
         requires rb { rb < 32 }
         ensures ok { OnOk result (self.new ≡ steps.with_stored access ra rb disp self.old) }
-        ensures err { OnErr result ((self.new ≡ self.old) × (slice_index self.old.registers ra ≢ 0)) }
+        ensures err { OnErr result ((self.new ≡ self.old) × steps.LeavesWord access ra rb disp self.old) }
     {
         let address = self.place_of(rb, disp);
         let value = self.register(ra);
-        match access {
-            Access::Quad => self.memory.set(address / 8, value)?,
-        }
+        access.store(&mut self.memory, address, value)?;
         self.pc = self.next_pc();
         Ok(())
     }
@@ -190,11 +195,13 @@ impl State {
         address(self.register(rb), 1, i64::from(disp))
     }
 
-    fn is_aligned(&self, rb: u8, disp: i16) -> bool
-        requires { rb < 32 }
-        ensures { result ≡ steps.is_multiple_of_8 (steps.place_of self.now rb disp) }
+    // The address is a multiple of 2 to this power.
+    fn is_aligned(&self, power: u8, rb: u8, disp: i16) -> bool
+        requires power { power < 64 }
+        requires rb { rb < 32 }
+        ensures { result ≡ steps.is_multiple power (steps.place_of self.now rb disp) }
     {
-        self.place_of(rb, disp) % 8 == 0
+        is_multiple(power, self.place_of(rb, disp))
     }
 
     fn second(&self, second: Second) -> u64

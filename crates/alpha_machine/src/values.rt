@@ -1,5 +1,5 @@
 // What operates and addresses come to.
-ghost use Rattle.std.specs.Prelude.{◌≡◌};
+ghost use Rattle.std.specs.Prelude.{◌≡◌, ◌<◌};
 ghost use Rattle.alpha_machine.specs.Steps as steps;
 
 use word_ops::{Operate, WordOp, apply};
@@ -20,4 +20,12 @@ pub(crate) fn address(base: u64, scale: u64, disp: i64) -> u64
     ensures { result ≡ steps.address base scale disp }
 {
     base.wrapping_add(scale.wrapping_mul(disp.cast_unsigned()))
+}
+
+/// Whether the number is a multiple of 2 to this power.
+pub(crate) fn is_multiple(power: u8, number: u64) -> bool
+    requires { power < 64 }
+    ensures { result ≡ steps.is_multiple power number }
+{
+    number % (1 << power) == 0
 }

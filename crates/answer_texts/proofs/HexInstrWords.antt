@@ -23,7 +23,7 @@ use Rattle.word_ops.specs.Operators.{operators}
 use Rattle.word_ops.specs.declared.operators.WordOp.{WordOp}
 use Rattle.word_ops.specs.declared.operators.WordOp.TheVariants as operators_of
 use Rattle.word_ops.specs.declared.sorts.Access.{Access}
-use Rattle.word_ops.specs.declared.sorts.Access.TheVariants.{Quad}
+use Rattle.word_ops.specs.declared.sorts.Access.TheVariants.{Quad, Byte, Word, Long}
 use Rattle.machine_table.specs.InstrOrder.{instr_name}
 use Rattle.machine_table.specs.declared.tables.InstrKind.TheVariants as kinds
 use Rattle.answer_texts.specs.AnswerLines.{hex_digits, hex_text, before_comma, memory_words, instr_words, text_words, word_words}
@@ -77,9 +77,15 @@ operator_word listed op = All-contains (λ o. IsLineWord (name_of o)) operators 
 -- the mnemonics of loads and stores
 load_word : (access : Access) → IsLineWord (instr_name (kinds.Load access))
 load_word Quad = record { some = λ e. cc; printed = refl }
+load_word Byte = record { some = λ e. cc; printed = refl }
+load_word Word = record { some = λ e. cc; printed = refl }
+load_word Long = record { some = λ e. cc; printed = refl }
 
 store_word : (access : Access) → IsLineWord (instr_name (kinds.Store access))
 store_word Quad = record { some = λ e. cc; printed = refl }
+store_word Byte = record { some = λ e. cc; printed = refl }
+store_word Word = record { some = λ e. cc; printed = refl }
+store_word Long = record { some = λ e. cc; printed = refl }
 
 -- ---- hexadecimal digits
 

@@ -8,7 +8,7 @@ use Rattle.alpha_encode.specs.declared.instructions.Instr.TheVariants.{Operate, 
 use Rattle.launch_graph.specs.LineParts.{words_behind}
 use Rattle.word_ops.specs.Operates.{row_of}
 use Rattle.word_ops.specs.declared.operates.Operate.{Operate as OperateOf}
-use Rattle.word_ops.specs.declared.sorts.Access.TheVariants.{Quad}
+use Rattle.word_ops.specs.declared.sorts.Access.TheVariants.{Quad, Byte, Word, Long}
 use Rattle.answer_texts.specs.AnswerLines.{before_comma, memory_words, instr_words}
 
 -- pieces that were put together from the left
@@ -64,7 +64,13 @@ instr_text (Operate op ra second rc) = operate_behind op ra (second_text second)
 instr_text (Lda ra rb disp) = disp_behind (codes "lda") (codes "lda ") ra rb disp refl
 instr_text (Ldah ra rb disp) = disp_behind (codes "ldah") (codes "ldah ") ra rb disp refl
 instr_text (Load Quad ra rb disp) = disp_behind (codes "ldq_u") (codes "ldq_u ") ra rb disp refl
+instr_text (Load Byte ra rb disp) = disp_behind (codes "ldbu") (codes "ldbu ") ra rb disp refl
+instr_text (Load Word ra rb disp) = disp_behind (codes "ldwu") (codes "ldwu ") ra rb disp refl
+instr_text (Load Long ra rb disp) = disp_behind (codes "ldl") (codes "ldl ") ra rb disp refl
 instr_text (Store Quad ra rb disp) = disp_behind (codes "stq_u") (codes "stq_u ") ra rb disp refl
+instr_text (Store Byte ra rb disp) = disp_behind (codes "stb") (codes "stb ") ra rb disp refl
+instr_text (Store Word ra rb disp) = disp_behind (codes "stw") (codes "stw ") ra rb disp refl
+instr_text (Store Long ra rb disp) = disp_behind (codes "stl") (codes "stl ") ra rb disp refl
 instr_text (Ldq ra rb disp) = disp_behind (codes "ldq") (codes "ldq ") ra rb disp refl
 instr_text (Stq ra rb disp) = disp_behind (codes "stq") (codes "stq ") ra rb disp refl
 instr_text (Beq ra disp) =

@@ -7,6 +7,7 @@ pub mod Rows
 pub mod Variables
 pub mod Truth
 pub mod Rules
+pub mod NarrowRules
 pub mod Sides
 pub mod ConstantValues
 pub mod Displacements

@@ -9,7 +9,7 @@ use Rattle.word_ops.specs.Memory.{Memory, word_at, put_word, loaded, stored, loa
 use Rattle.word_ops.specs.Operators.{operate_value, value_at, value_of}
 use Rattle.word_ops.specs.Worlds.{word, memory, World}
 use Rattle.axiom_base.specs.Rewrites.{IsTrueIn}
-use Rattle.axiom_base.specs.Equations.{additions, differences, multiplications, shifts, scaled_sums, ands, ors, exclusive_ors, inversions, comparisons, bytes, memories, equations}
+use Rattle.axiom_base.specs.Equations.{additions, differences, multiplications, shifts, scaled_sums, ands, ors, exclusive_ors, inversions, comparisons, bytes, memories, narrow_loads, narrow_stores, narrow_displaced, equations}
 use Rattle.axiom_base.proofs.Rows.{Each, done, ◌▸◌, All-Each, joined}
 use Rattle.axiom_base.proofs.Variables.{x_is_word, x_in_range, v_is_word}
 use Rattle.axiom_base.proofs.Arithmetic as arithmetic
@@ -109,6 +109,19 @@ module _ (world : World) (names : ℕ → List ℕ) where
       (λ vs f. ap word (logic.cmpeq_is_commutative _ _))
       ▸ done
 
+  -- a narrow access means what the operators of its other side do
+  narrow_loads_are_true : Each (IsTrueIn world names) narrow_loads
+  unfolding value_at operate_value loaded
+  narrow_loads_are_true = (λ vs f. refl) ▸ (λ vs f. refl) ▸ (λ vs f. refl) ▸ (λ vs f. refl) ▸ (λ vs f. refl) ▸ (λ vs f. refl) ▸ done
+
+  narrow_stores_are_true : Each (IsTrueIn world names) narrow_stores
+  unfolding value_at operate_value loaded stored
+  narrow_stores_are_true = (λ vs f. refl) ▸ (λ vs f. refl) ▸ (λ vs f. refl) ▸ (λ vs f. refl) ▸ (λ vs f. refl) ▸ (λ vs f. refl) ▸ done
+
+  narrow_displaced_are_true : Each (IsTrueIn world names) narrow_displaced
+  unfolding value_at load put
+  narrow_displaced_are_true = (λ vs f. refl) ▸ (λ vs f. refl) ▸ (λ vs f. refl) ▸ (λ vs f. refl) ▸ (λ vs f. refl) ▸ (λ vs f. refl) ▸ done
+
 -- what `word_ops` promises of bits and of memories
 module _
     (world : World) (names : ℕ → List ℕ)
@@ -139,4 +152,4 @@ module _
         ▸ done
 
     pub equations_are_true : All (IsTrueIn world names) equations
-    equations_are_true = All-Each _ _ (joined (additions_are_true world names) (joined (differences_are_true world names) (joined (multiplications_are_true world names) (joined (shifts_are_true world names) (joined (scaled_sums_are_true world names) (joined (ands_are_true world names) (joined (ors_are_true world names) (joined (exclusive_ors_are_true world names) (joined (inversions_are_true world names) (joined (comparisons_are_true world names) (joined bytes_are_true memories_are_true)))))))))))
+    equations_are_true = All-Each _ _ (joined (additions_are_true world names) (joined (differences_are_true world names) (joined (multiplications_are_true world names) (joined (shifts_are_true world names) (joined (scaled_sums_are_true world names) (joined (ands_are_true world names) (joined (ors_are_true world names) (joined (exclusive_ors_are_true world names) (joined (inversions_are_true world names) (joined (comparisons_are_true world names) (joined bytes_are_true (joined memories_are_true (joined (narrow_loads_are_true world names) (joined (narrow_stores_are_true world names) (narrow_displaced_are_true world names)))))))))))))))

@@ -2,12 +2,15 @@
 -- operators; the choice is this project's. In each row the left side comes first, and the variables are named in the
 -- order of their numbers.
 use Rattle.std.specs.Prelude.{List, [], ◌∷◌, ◌++◌}
-use Rattle.word_ops.specs.declared.operates.Operate.TheVariants.{Addq, Subq, Mulq, Umulh, Sll, Srl, Sra, S4addq, S8addq, S4subq, S8subq, And, Bis, Xor, Bic, Ornot, Eqv, Cmpeq, Extbl, Mskbl, Insbl, Sextb, Sextw}
+use Rattle.word_ops.specs.declared.operates.Operate.{Operate}
+use Rattle.word_ops.specs.declared.operates.Operate.TheVariants.{Addq, Addl, Subq, Mulq, Umulh, Sll, Srl, Sra, S4addq, S8addq, S4subq, S8subq, And, Bis, Xor, Bic, Ornot, Eqv, Cmpeq, Extbl, Extwl, Extll, Mskbl, Mskwl, Mskll, Insbl, Inswl, Insll, Sextb, Sextw}
 use Rattle.word_ops.specs.declared.operators.WordOp.TheVariants.{Neg, Not, Selectb, Storeb, Lda}
+use Rattle.word_ops.specs.declared.sorts.Access.{Access}
+use Rattle.word_ops.specs.declared.sorts.Access.TheVariants.{Quad, Byte, Word, Long}
 use Rattle.word_ops.specs.declared.sorts.Op.{Op}
 use Rattle.word_ops.specs.declared.sorts.Sort.TheVariants as sorts
 use Rattle.word_terms.specs.Tree.{Tree, variable}
-use Rattle.word_terms.specs.Building.{w1, w2, w3, o1, o2, constant, select_of, store_of, load_of, put_of}
+use Rattle.word_terms.specs.Building.{w1, w2, w3, o1, o2, constant, select_of, store_of, read_of, written_of, displaced_read_of, displaced_written_of}
 use Rattle.axiom_base.specs.Rewrites.{Rewrite}
 
 -- ---- rules
@@ -37,7 +40,15 @@ words_3 sides = record {
   constants = [];
 }
 
--- over a memory, and then two and three words
+-- over a memory, and then one, two and three words
+abbrev pub memory_1 : (Tree Op → Tree Op → Tree Op × Tree Op) → Rewrite
+memory_1 sides = record {
+  variables = sorts.Memory ∷ sorts.Word ∷ [];
+  left = (sides (variable 0) (variable 1)).0;
+  right = (sides (variable 0) (variable 1)).1;
+  constants = [];
+}
+
 abbrev pub memory_2 : (Tree Op → Tree Op → Tree Op → Tree Op × Tree Op) → Rewrite
 memory_2 sides = record {
   variables = sorts.Memory ∷ sorts.Word ∷ sorts.Word ∷ [];
@@ -146,11 +157,59 @@ abbrev pub memories : List Rewrite
 memories =
     memory_2 (λ m a v. (select_of (store_of m a v) a, v))
     ∷ memory_3 (λ m a v w. (store_of (store_of m a v) a w, store_of m a w))
-    ∷ memory_2 (λ m x k. (select_of m (w2 Lda x k), load_of m x k))
-    ∷ memory_3 (λ m x k v. (store_of m (w2 Lda x k) v, put_of m x k v))
+    ∷ memory_2 (λ m x k. (select_of m (w2 Lda x k), displaced_read_of Quad m x k))
+    ∷ memory_3 (λ m x k v. (store_of m (w2 Lda x k) v, displaced_written_of Quad m x k v))
+    ∷ []
+
+-- what an access reads, out of the word at the address
+abbrev pub extracted : Access → Tree Op → Tree Op → Tree Op
+extracted Quad m a = select_of m a
+extracted Byte m a = o2 Extbl (select_of m a) a
+extracted Word m a = o2 Extwl (select_of m a) a
+extracted Long m a = o2 Addl (o2 Extll (select_of m a) a) (constant 0)
+
+abbrev pub narrow_loads : List Rewrite
+narrow_loads =
+    memory_1 (λ m a. (read_of Byte m a, extracted Byte m a))
+    ∷ memory_1 (λ m a. (extracted Byte m a, read_of Byte m a))
+    ∷ memory_1 (λ m a. (read_of Word m a, extracted Word m a))
+    ∷ memory_1 (λ m a. (extracted Word m a, read_of Word m a))
+    ∷ memory_1 (λ m a. (read_of Long m a, extracted Long m a))
+    ∷ memory_1 (λ m a. (extracted Long m a, read_of Long m a))
+    ∷ []
+
+-- the word at the address without its bytes there, joined with bytes of v in their place
+abbrev pub joined : Operate → Operate → Tree Op → Tree Op → Tree Op → Tree Op
+joined mask insert m a v = o2 Bis (o2 mask (select_of m a) a) (o2 insert v a)
+
+-- the word that stands at the address once an access wrote v
+abbrev pub inserted : Access → Tree Op → Tree Op → Tree Op → Tree Op
+inserted Quad m a v = v
+inserted Byte m a v = joined Mskbl Insbl m a v
+inserted Word m a v = joined Mskwl Inswl m a v
+inserted Long m a v = joined Mskll Insll m a v
+
+abbrev pub narrow_stores : List Rewrite
+narrow_stores =
+    memory_2 (λ m a v. (written_of Byte m a v, store_of m a (inserted Byte m a v)))
+    ∷ memory_2 (λ m a v. (store_of m a (inserted Byte m a v), written_of Byte m a v))
+    ∷ memory_2 (λ m a v. (written_of Word m a v, store_of m a (inserted Word m a v)))
+    ∷ memory_2 (λ m a v. (store_of m a (inserted Word m a v), written_of Word m a v))
+    ∷ memory_2 (λ m a v. (written_of Long m a v, store_of m a (inserted Long m a v)))
+    ∷ memory_2 (λ m a v. (store_of m a (inserted Long m a v), written_of Long m a v))
+    ∷ []
+
+abbrev pub narrow_displaced : List Rewrite
+narrow_displaced =
+    memory_2 (λ m x k. (read_of Byte m (w2 Lda x k), displaced_read_of Byte m x k))
+    ∷ memory_2 (λ m x k. (read_of Word m (w2 Lda x k), displaced_read_of Word m x k))
+    ∷ memory_2 (λ m x k. (read_of Long m (w2 Lda x k), displaced_read_of Long m x k))
+    ∷ memory_3 (λ m x k v. (written_of Byte m (w2 Lda x k) v, displaced_written_of Byte m x k v))
+    ∷ memory_3 (λ m x k v. (written_of Word m (w2 Lda x k) v, displaced_written_of Word m x k v))
+    ∷ memory_3 (λ m x k v. (written_of Long m (w2 Lda x k) v, displaced_written_of Long m x k v))
     ∷ []
 
 abbrev pub equations : List Rewrite
 equations =
     additions ++ differences ++ multiplications ++ shifts ++ scaled_sums ++ ands ++ ors ++ exclusive_ors ++ inversions
-    ++ comparisons ++ bytes ++ memories
+    ++ comparisons ++ bytes ++ memories ++ narrow_loads ++ narrow_stores ++ narrow_displaced

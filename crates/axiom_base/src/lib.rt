@@ -1,7 +1,7 @@
-//! Rewrite rules over terms: 48 equations between operators, 12 kinds of rules whose constants are computed, and
+//! Rewrite rules over terms: 66 equations between operators, 12 kinds of rules whose constants are computed, and
 //! folding, each of them true for all words and memories.
 //!
-//! Proved: `equations` gives the 48 rows of the table, in order, each true in every world for all words and memories,
+//! Proved: `equations` gives the 66 rows of the table, in order, each true in every world for all words and memories,
 //! and each a rule (`equations_are_true`). A `Rule` has an application on its left, well-formed sides of one sort,
 //! variables numbered from 0 without a gap, and none on its right that its left lacks; `Rule::new` makes one exactly
 //! where two terms keep this. Of the computed rules `calc` gives the constant of the right side exactly where those of
@@ -14,6 +14,7 @@ mod calc_sides;
 mod computed_laws;
 mod conditions;
 mod kinds;
+mod narrow;
 mod rule;
 mod shapes;
 mod stores;

@@ -9,8 +9,11 @@ ghost use Rattle.word_ops.specs.declared.operators.WordOp.TheVariants.{Storeb, L
 use crate::rule::Rule;
 use items::NoMemory;
 use std::alloc::Global;
-use word_ops::{Operate, Sort, WordOp};
-use word_terms::{load, operate_2, put, select, store, three, two, variable};
+use word_ops::{Access, Operate, Sort, WordOp};
+use word_terms::{
+    displaced_read, displaced_written, operate_2, read, select, store, three, two, variable,
+    written,
+};
 
 /// A byte put into a word: the word without that byte, joined with the byte in its place.
 pub(crate) fn stored_byte(alloc: Global) -> Result<Rule, NoMemory>
@@ -51,24 +54,31 @@ pub(crate) fn stored_again(alloc: Global) -> Result<Rule, NoMemory>
 }
 
 /// A read at a base and a displacement.
-pub(crate) fn read_displaced(alloc: Global) -> Result<Rule, NoMemory>
-    ensures { IfOk result (λ rule. rule ≡
-        memory_2 (λ m x k. (trees.select_of m (w2 Lda x k), trees.load_of m x k))) }
+pub(crate) fn read_displaced(alloc: Global, access: Access) -> Result<Rule, NoMemory>
+    ensures { IfOk result (λ rule. rule ≡ memory_2 (λ m x k.
+        (trees.read_of access m (w2 Lda x k), trees.displaced_read_of access m x k))) }
 {
     let address = two(alloc, WordOp::Lda, variable(1), variable(2))?;
-    let left = select(alloc, variable(0), address)?;
-    let right = load(alloc, variable(0), variable(1), variable(2))?;
+    let left = read(alloc, access, variable(0), address)?;
+    let right = displaced_read(alloc, access, variable(0), variable(1), variable(2))?;
     Rule::over(alloc, &[Sort::Memory, Sort::Word, Sort::Word], left, right)
 }
 
 /// A store at a base and a displacement.
-pub(crate) fn stored_displaced(alloc: Global) -> Result<Rule, NoMemory>
-    ensures { IfOk result (λ rule. rule ≡
-        memory_3 (λ m x k v. (trees.store_of m (w2 Lda x k) v, trees.put_of m x k v))) }
+pub(crate) fn stored_displaced(alloc: Global, access: Access) -> Result<Rule, NoMemory>
+    ensures { IfOk result (λ rule. rule ≡ memory_3 (λ m x k v.
+        (trees.written_of access m (w2 Lda x k) v, trees.displaced_written_of access m x k v))) }
 {
     let address = two(alloc, WordOp::Lda, variable(1), variable(2))?;
-    let left = store(alloc, variable(0), address, variable(3))?;
-    let right = put(alloc, variable(0), variable(1), variable(2), variable(3))?;
+    let left = written(alloc, access, variable(0), address, variable(3))?;
+    let right = displaced_written(
+        alloc,
+        access,
+        variable(0),
+        variable(1),
+        variable(2),
+        variable(3),
+    )?;
     Rule::over(
         alloc,
         &[Sort::Memory, Sort::Word, Sort::Word, Sort::Word],

@@ -4,6 +4,7 @@ ghost use Rattle.word_ops.specs.Worlds.{World};
 ghost use Rattle.axiom_base.specs.Rewrites.{IsRule, IsTrueIn};
 ghost use Rattle.axiom_base.specs.Equations as rows;
 
+use crate::narrow::{bytes_loaded, bytes_stored, narrow_load, narrow_store};
 use crate::rule::Rule;
 use crate::shapes::{
     absorbing, associative, by_inverse, cancelling, commutative, from_zero, idempotent, involutive,
@@ -13,11 +14,11 @@ use crate::stores::{read_back, read_displaced, stored_again, stored_byte, stored
 use items::{Items, NoMemory};
 use std::alloc::Global;
 use word_ops::{
-    Operate, Sort, WordOp, meanings_are_in_range, memories_hold_words, words_have_bits,
+    Access, Operate, Sort, WordOp, meanings_are_in_range, memories_hold_words, words_have_bits,
 };
 use word_terms::{constant, operate_2, two, variable};
 
-/// The 48 equations, in the order of the table. Where the left side stands, the right side equals it.
+/// The 66 equations, in the order of the table. Where the left side stands, the right side equals it.
 pub fn equations(alloc: Global) -> Result<Items<Rule>, NoMemory>
     ensures rows { IfOk result (λ rules. rules ≡ rows.equations) }
     ensures true_rows { OnOk result ((world : World) (names : ℕ → List ℕ) →
@@ -36,6 +37,9 @@ pub fn equations(alloc: Global) -> Result<Items<Rule>, NoMemory>
     rules.append(&mut comparisons(alloc)?)?;
     rules.append(&mut bytes(alloc)?)?;
     rules.append(&mut memories(alloc)?)?;
+    rules.append(&mut narrow_loads(alloc)?)?;
+    rules.append(&mut narrow_stores(alloc)?)?;
+    rules.append(&mut narrow_displaced(alloc)?)?;
     Ok(Items::from(rules))
 }
 
@@ -182,7 +186,46 @@ fn memories(alloc: Global) -> Result<Vec<Rule>, NoMemory>
     let mut rules = Vec::new(alloc);
     rules.push(read_back(alloc)?)?;
     rules.push(stored_again(alloc)?)?;
-    rules.push(read_displaced(alloc)?)?;
-    rules.push(stored_displaced(alloc)?)?;
+    rules.push(read_displaced(alloc, Access::Quad)?)?;
+    rules.push(stored_displaced(alloc, Access::Quad)?)?;
+    Ok(rules)
+}
+
+fn narrow_loads(alloc: Global) -> Result<Vec<Rule>, NoMemory>
+    ensures { IfOk result (λ rules. rules.items ≡ rows.narrow_loads) }
+{
+    let mut rules = Vec::new(alloc);
+    rules.push(narrow_load(alloc, Access::Byte)?)?;
+    rules.push(bytes_loaded(alloc, Access::Byte)?)?;
+    rules.push(narrow_load(alloc, Access::Word)?)?;
+    rules.push(bytes_loaded(alloc, Access::Word)?)?;
+    rules.push(narrow_load(alloc, Access::Long)?)?;
+    rules.push(bytes_loaded(alloc, Access::Long)?)?;
+    Ok(rules)
+}
+
+fn narrow_stores(alloc: Global) -> Result<Vec<Rule>, NoMemory>
+    ensures { IfOk result (λ rules. rules.items ≡ rows.narrow_stores) }
+{
+    let mut rules = Vec::new(alloc);
+    rules.push(narrow_store(alloc, Access::Byte)?)?;
+    rules.push(bytes_stored(alloc, Access::Byte)?)?;
+    rules.push(narrow_store(alloc, Access::Word)?)?;
+    rules.push(bytes_stored(alloc, Access::Word)?)?;
+    rules.push(narrow_store(alloc, Access::Long)?)?;
+    rules.push(bytes_stored(alloc, Access::Long)?)?;
+    Ok(rules)
+}
+
+fn narrow_displaced(alloc: Global) -> Result<Vec<Rule>, NoMemory>
+    ensures { IfOk result (λ rules. rules.items ≡ rows.narrow_displaced) }
+{
+    let mut rules = Vec::new(alloc);
+    rules.push(read_displaced(alloc, Access::Byte)?)?;
+    rules.push(read_displaced(alloc, Access::Word)?)?;
+    rules.push(read_displaced(alloc, Access::Long)?)?;
+    rules.push(stored_displaced(alloc, Access::Byte)?)?;
+    rules.push(stored_displaced(alloc, Access::Word)?)?;
+    rules.push(stored_displaced(alloc, Access::Long)?)?;
     Ok(rules)
 }

@@ -10,6 +10,7 @@ use Rattle.std.proofs.lemmas.Bool.Decides.{eqb_tells}
 use Rattle.std.proofs.lemmas.List.{length-append, length-set, get_or-set_same, get_or-set_other}
 use Rattle.word_ops.specs.Worlds.{Value}
 use Rattle.word_ops.specs.Meanings.{sort_of}
+use Rattle.word_ops.specs.Memory as accesses
 use Rattle.word_ops.specs.declared.sorts.Access.{Access}
 use Rattle.word_ops.specs.declared.sorts.Access.TheVariants.{Quad}
 use Rattle.word_ops.specs.declared.sorts.Op.{Op}
@@ -27,7 +28,7 @@ use Rattle.saturation.specs.GoalTerms.{input_term}
 use Rattle.saturation.specs.Trace.{IsBuilt, put, none_built, one_built, AreInserted, none_inserted, one_inserted}
 use Rattle.alpha_encode.specs.declared.instructions.Instr.{Instr}
 use Rattle.alpha_encode.specs.declared.instructions.Instr.TheVariants.{Load, Ldq}
-use Rattle.code_check.specs.Terms.{TermState, alignment, sign_extended, term_step, terms_at_entry, terms_written, unless_zero_register, with_term}
+use Rattle.code_check.specs.Terms.{TermState, alignment, needed_alignment, sign_extended, term_step, terms_at_entry, terms_written, unless_zero_register, with_term}
 use Rattle.code_check.specs.Classes.{HasClassOfSort, IsLoaded, IsRowInserted, IsTermInserted, IsRegisterClass, IsWritten, AreClassesOf}
 
 -- ---- laws of inserted terms
@@ -235,19 +236,25 @@ plain_written i old new ts classes memory e p = record { inserted = p.0; after =
 
 -- a load, by the class of its address where it has one
 module _ (access : Access) (ra rb : ℕ) (disp : ℤ) (old : Graph Op) (ts : TermState) (new : Graph Op) (classes : List (Option ℕ)) (memory : ℕ) where
+  prefetch : ra ≡ 31 → alignment (Load access ra rb disp) ≡ None
+  prefetch e = elim (eqb_tells ra 31) [
+    | inl k ↦ ap (λ b. if b then None else needed_alignment (accesses.alignment access)) k.0
+    | inr k ↦ absurd (k.1 e)
+  ]
+
   pub load_written : (address : Option ℕ) → IsLoaded access ra rb (sign_extended disp) old ts new classes memory address → IsWritten (Load access ra rb disp) old ts new classes memory address
-  load_written None h = record { inserted = h.inserted; after = h.after; address_is = refl }
+  load_written None h = record { inserted = h.inserted; after = h.after; address_is = prefetch h.address_is }
   load_written (Some c) h = record { inserted = h.inserted; after = h.after; address_is = h.address_is }
 
 module _ (ra rb : ℕ) (disp : ℤ) (old : Graph Op) (ts : TermState) (new : Graph Op) (classes : List (Option ℕ)) (memory : ℕ) where
-  prefetch : ra ≡ 31 → alignment (Ldq ra rb disp) ≡ None
-  prefetch e = elim (eqb_tells ra 31) [
+  ldq_prefetch : ra ≡ 31 → alignment (Ldq ra rb disp) ≡ None
+  ldq_prefetch e = elim (eqb_tells ra 31) [
     | inl k ↦ ap (λ b. if b then None else Some 3) k.0
     | inr k ↦ absurd (k.1 e)
   ]
 
   pub ldq_written : (address : Option ℕ) → IsLoaded Quad ra rb (sign_extended disp) old ts new classes memory address → IsWritten (Ldq ra rb disp) old ts new classes memory address
-  ldq_written None h = record { inserted = h.inserted; after = h.after; address_is = prefetch h.address_is }
+  ldq_written None h = record { inserted = h.inserted; after = h.after; address_is = ldq_prefetch h.address_is }
   ldq_written (Some c) h = record { inserted = h.inserted; after = h.after; address_is = h.address_is }
 
 -- the word of a displacement, as the code computes it

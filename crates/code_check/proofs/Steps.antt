@@ -1,5 +1,5 @@
 -- One instruction: the terms after it have the values that it leaves.
-use Rattle.std.proofs.Common.{◌≡◌, ℕ, ℤ, ◌+◌, ◌*◌, ◌%◌, ◌^◌, ◌<◌, ◌&&◌, not, List, [], ◌∷◌, refl, sym, ◌∙◌, ap, subst, inl, inr, arith, Bool, true, false, ◌==◌, set, Some, None}
+use Rattle.std.proofs.Common.{◌≡◌, ℕ, zero, suc, ℤ, ◌+◌, ◌*◌, ◌%◌, ◌^◌, ◌<◌, ◌&&◌, not, List, [], ◌∷◌, refl, sym, ◌∙◌, ap, subst, inl, inr, arith, Bool, true, false, ◌==◌, set, Some, None}
 use Rattle.std.specs.Prelude.{All, FitsSigned, IsFalse, slice_index, if◌then◌else◌}
 use Rattle.std.specs.Int.{cast_signed, cast_unsigned, w16, w64}
 use Rattle.std.proofs.lemmas.Bool.Decides.{eqb_tells, nat_tests}
@@ -9,6 +9,7 @@ use Rattle.std.proofs.lemmas.List.Elements.{All-nil, All-cons, All-head, All-tai
 use Rattle.word_ops.specs.declared.operators.WordOp.{WordOp}
 use Rattle.word_ops.specs.declared.operators.WordOp.TheVariants as ops
 use Rattle.word_ops.specs.declared.sorts.Op.{Op}
+use Rattle.word_ops.specs.Memory as accesses
 use Rattle.word_ops.specs.Memory.{Memory, IsMemory, loaded, stored}
 use Rattle.word_ops.specs.declared.operates.Operate.{Operate as OperateOf}
 use Rattle.word_ops.specs.declared.sorts.Access.{Access}
@@ -28,10 +29,10 @@ use Rattle.alpha_encode.specs.declared.instructions.Second.TheVariants.{Reg, Lit
 use Rattle.alpha_encode.specs.declared.instructions.Instr.{Instr}
 use Rattle.alpha_encode.specs.declared.instructions.Instr.TheVariants.{Operate, Lda, Ldah, Load, Store, Ldq, Stq, Beq}
 use Rattle.alpha_machine.specs.States.{MachineState}
-use Rattle.alpha_machine.specs.Steps.{step, second_value, operate_result, address, is_multiple_of_8, place_of, traps, with_loaded, with_register, with_stored, next_pc}
+use Rattle.alpha_machine.specs.Steps.{step, second_value, operate_result, address, is_multiple, place_of, traps, with_loaded, with_register, with_stored, next_pc}
 use Rattle.saturation.specs.GoalTerms.{input_term}
 use Rattle.code_check.specs.Outcomes.{entry_state}
-use Rattle.code_check.specs.Terms.{TermState, alignment, loaded_term, place_term, stored_term, terms_at_entry, term_step, terms_from, with_memory, with_term, second_term, operate_term, address_term, sign_extended}
+use Rattle.code_check.specs.Terms.{TermState, alignment, needed_alignment, loaded_term, place_term, stored_term, terms_at_entry, term_step, terms_from, with_memory, with_term, second_term, operate_term, address_term, sign_extended}
 use Rattle.code_check.specs.Values.{HaveValues, after_all}
 
 lda_value : (a b c : ℕ) → value_at ops.Lda a b c ≡ lda a b
@@ -130,7 +131,7 @@ module _ (w : World) (names : ℕ → List ℕ)
 
     -- the address with a displacement of 0 is the base
     at_base : (x : ℕ) (disp : ℤ) → IsWord x → sign_extended disp ≡ 0 → x ≡ address x 1 disp
-    at_base x disp is zero = let e : (x + 1 * 0) % 2 ^ 64 ≡ x = omega (arith, is) in sym (ap (λ k. (x + 1 * k) % 2 ^ 64) zero ∙ e)
+    at_base x disp is none = let e : (x + 1 * 0) % 2 ^ 64 ≡ x = omega (arith, is) in sym (ap (λ k. (x + 1 * k) % 2 ^ 64) none ∙ e)
 
     address_is : (t : Tree Op) (x : ℕ) (disp : ℤ) → FitsSigned w16 disp → IsWord x → V t ≡ word x → V (address_term t disp) ≡ word (address x 1 disp)
     address_is t x disp fits is e = elim (eqb_tells (sign_extended disp) 0) [
@@ -190,25 +191,40 @@ module _ (w : World) (names : ℕ → List ℕ)
     one_step (Stq ra rb disp) wf = store_step Quad ra rb disp wf.0 wf.1 wf.2
     one_step (Beq ra disp) wf = record { count = h.count; words = h.words; registers = h.registers; is_memory = h.is_memory; memory_is = h.memory_is }
 
-    -- an address whose term has a multiple of 8 for its value is one
-    at_multiple : (rb : ℕ) (disp : ℤ) → rb < 32 → FitsSigned w16 disp → as_word (V (address_term (ts.registers rb) disp)) % 8 ≡ 0 → is_multiple_of_8 (place_of s rb disp) ≡ true
-    at_multiple rb disp below fits e =
-        let zero_rest : place_of s rb disp % 8 ≡ 0 = sym (ap (λ v. as_word v % 8) (place_is rb disp below fits)) ∙ e in
-        ap (λ n. n == 0) zero_rest
+    -- an address whose term has such a multiple for its value is one
+    at_multiple : (n rb : ℕ) (disp : ℤ) → rb < 32 → FitsSigned w16 disp → as_word (V (address_term (ts.registers rb) disp)) % 2 ^ n ≡ 0 → is_multiple n (place_of s rb disp) ≡ true
+    at_multiple zero rb disp below fits e = refl
+    at_multiple (suc n) rb disp below fits e =
+        let zero_rest : place_of s rb disp % 2 ^ suc n ≡ 0 = sym (ap (λ v. as_word v % 2 ^ suc n) (place_is rb disp below fits)) ∙ e in
+        ap (λ k. k == 0) zero_rest
+
+    at_needed : (n rb : ℕ) (disp : ℤ) → rb < 32 → FitsSigned w16 disp → ((k : ℕ) → needed_alignment n ≡ Some k → as_word (V (address_term (ts.registers rb) disp)) % 2 ^ k ≡ 0) → is_multiple n (place_of s rb disp) ≡ true
+    at_needed zero rb disp below fits multiple = refl
+    at_needed (suc n) rb disp below fits multiple = at_multiple (suc n) rb disp below fits (multiple (suc n) refl)
+
+    -- a load to register 31 doesn't trap
+    prefetch : (b : Bool) → not b && not true ≡ false
+    prefetch true = refl
+    prefetch false = refl
+
+    loads : (n ra rb : ℕ) (disp : ℤ) → ((ra == 31) ≡ false → is_multiple n (place_of s rb disp) ≡ true) → (not (is_multiple n (place_of s rb disp)) && not (ra == 31)) ≡ false
+    loads n ra rb disp h = elim (eqb_tells ra 31) [
+      | inl k ↦ ap (λ b. not (is_multiple n (place_of s rb disp)) && not b) k.0 ∙ prefetch (is_multiple n (place_of s rb disp))
+      | inr k ↦ ap (λ b. not b && not (ra == 31)) (h k.0)
+    ]
 
     -- an instruction whose address is the multiple that it must be doesn't trap
     pub no_trap : (i : Instr) → IsWellFormed i → ((n : ℕ) → alignment i ≡ Some n → as_word (V (place_term i ts)) % 2 ^ n ≡ 0) → IsFalse (traps i s)
     no_trap (Operate op ra second rc) wf multiple = refl
     no_trap (Lda ra rb disp) wf multiple = refl
     no_trap (Ldah ra rb disp) wf multiple = refl
-    no_trap (Load access ra rb disp) wf multiple = refl
-    no_trap (Store access ra rb disp) wf multiple = refl
-    no_trap (Ldq ra rb disp) wf multiple = elim (eqb_tells ra 31) [
-      | inl k ↦ ap (λ b. not b && not (is_multiple_of_8 (place_of s rb disp))) k.0
-      | inr k ↦ ap (λ b. not b && not (is_multiple_of_8 (place_of s rb disp))) k.0
-          ∙ ap not (at_multiple rb disp wf.1 wf.2 (multiple 3 (ap (λ b. if b then None else Some 3) k.0)))
-    ]
-    no_trap (Stq ra rb disp) wf multiple = ap not (at_multiple rb disp wf.1 wf.2 (multiple 3 refl))
+    no_trap (Load access ra rb disp) wf multiple =
+        loads (accesses.alignment access) ra rb disp
+        (λ e. at_needed (accesses.alignment access) rb disp wf.1 wf.2 (λ k f. multiple k (ap (λ b. if b then None else needed_alignment (accesses.alignment access)) e ∙ f)))
+    no_trap (Store access ra rb disp) wf multiple = ap not (at_needed (accesses.alignment access) rb disp wf.1 wf.2 multiple)
+    no_trap (Ldq ra rb disp) wf multiple =
+        loads 3 ra rb disp (λ e. at_multiple 3 rb disp wf.1 wf.2 (multiple 3 (ap (λ b. if b then None else Some 3) e)))
+    no_trap (Stq ra rb disp) wf multiple = ap not (at_multiple 3 rb disp wf.1 wf.2 (multiple 3 refl))
     no_trap (Beq ra disp) wf multiple = refl
 
   -- instructions in a line

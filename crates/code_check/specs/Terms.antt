@@ -1,8 +1,9 @@
 -- The terms that straight-line code gives registers and memory, over those of the registers and the memory at entry.
 -- From Denali (PLDI 2002), terms over registers and memory; Alpha Architecture Handbook, version 4, for what each
 -- instruction writes.
-use Rattle.std.specs.Prelude.{ℕ, ℤ, List, [], ◌∷◌, ◌++◌, take, ◌==◌, if◌then◌else◌, Option, Some, None}
+use Rattle.std.specs.Prelude.{ℕ, zero, suc, ℤ, List, [], ◌∷◌, ◌++◌, take, ◌==◌, if◌then◌else◌, Option, Some, None}
 use Rattle.std.specs.Int.{cast_unsigned, w64}
+use Rattle.word_ops.specs.Memory as accesses
 use Rattle.word_ops.specs.declared.operates.Operate.{Operate as OperateOf}
 use Rattle.word_ops.specs.declared.operators.WordOp.TheVariants.{Lda, Ldah}
 use Rattle.word_ops.specs.declared.sorts.Access.{Access}
@@ -86,8 +87,15 @@ terms_after n instrs = terms_from (take n instrs) terms_at_entry
 
 -- ---- addresses
 
+-- the power of 2 of which an address must be a multiple; none where each address will do
+abbrev pub needed_alignment : ℕ → Option ℕ
+needed_alignment zero = None
+needed_alignment (suc n) = Some (suc n)
+
 -- the power of 2 of which the address must be a multiple where the instruction isn't to trap; none where it never traps
 abbrev pub alignment : Instr → Option ℕ
+alignment (instrs.Load access ra rb disp) = if ra == 31 then None else needed_alignment (accesses.alignment access)
+alignment (instrs.Store access ra rb disp) = needed_alignment (accesses.alignment access)
 alignment (instrs.Ldq ra rb disp) = if ra == 31 then None else Some 3
 alignment (instrs.Stq ra rb disp) = Some 3
 alignment _ = None

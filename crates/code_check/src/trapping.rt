@@ -5,7 +5,9 @@ ghost use Rattle.alpha_encode.specs.declared.instructions.Instr.{Instr as Instru
 ghost use Rattle.graph_meaning.specs.Graphs.{plain_row};
 ghost use Rattle.code_check.specs.Compared.{AreMultiples, ArePresentAddresses, IsFirstTrap, IsPresentAddress, TellsTrap, alignment_of};
 ghost use Rattle.code_check.specs.Same.{rows_of};
+ghost use Rattle.code_check.specs.Terms as terms;
 ghost use Rattle.code_check.specs.Terms.{TermState, terms_at_entry};
+ghost use Rattle.word_ops.specs.Memory as accesses;
 
 use alpha_encode::{Instr, decode};
 use egraph::{Egraph, Row, rows_name_present_classes};
@@ -14,7 +16,17 @@ use items::{Items, NoMemory};
 use pattern_match::terms_have_one_class;
 use std::alloc::Global;
 use text_core::Name;
-use word_ops::Op;
+use word_ops::{Access, Op};
+
+/// The power of 2 of which an access's addresses must be multiples, where it doesn't take each address.
+fn needed_alignment(access: Access) -> Option<u8>
+    ensures { result ≡ terms.needed_alignment (accesses.alignment access) }
+{
+    match access.alignment() {
+        0 => None,
+        power => Some(power),
+    }
+}
 
 /// The power of 2 of which the word's address must be a multiple, where the word may trap. A load to register 31 never
 /// does.
@@ -22,6 +34,8 @@ fn alignment(word: u32) -> Option<u8>
     ensures { result ≡ alignment_of (decoded word) }
 {
     match decode(word) {
+        Some(Instr::Load { access, ra, .. }) if ra != 31 => needed_alignment(access),
+        Some(Instr::Store { access, .. }) => needed_alignment(access),
         Some(Instr::Ldq { ra, .. }) if ra != 31 => Some(3),
         Some(Instr::Stq { .. }) => Some(3),
         _ => None,

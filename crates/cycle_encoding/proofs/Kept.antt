@@ -1,7 +1,6 @@
 -- Launches that keep the rules do so without those that have no variables in the pinned encoding.
 use Rattle.std.proofs.Common.{◌≡◌, ℕ, suc, zero, ◌+◌, ◌<◌, ◌≤◌, Bool, true, false, not, List, get_or, refl, sym, ap, ◌∙◌, subst, arith, inl, inr, ◌⊎◌, Some}
 use Rattle.std.specs.Prelude.{◌&&◌, ◌==◌, nat_lt, IsTrue, Any, Contains, Decides, unwrap_or, option_map}
-use Rattle.std.specs.Option.{option_map_or}
 use Rattle.std.specs.List.{All, AllPairs, filter}
 use Rattle.std.proofs.lemmas.Bool.{false≢true, cases_Bool, eqb-true, eq-eqb, and_parts, and_from, not-true}
 use Rattle.std.proofs.lemmas.Option.{same_Some, get_or_from_slice_get}
@@ -36,7 +35,6 @@ use Rattle.cycle_encoding.proofs.Counting.{count-one}
 use Rattle.cycle_encoding.proofs.MadeLists.{count_less}
 use Rattle.cycle_encoding.proofs.Members.{NoTwice, filter-in, filter-out, filter-once, find-out, All-from_members}
 use Rattle.cycle_encoding.proofs.RowFacts.{some-and, test-some}
-use Rattle.cycle_encoding.proofs.PinnedRows.{store-row}
 use Rattle.cycle_encoding.proofs.LaunchLists.{cluster-in, seen-in}
 use Rattle.cycle_encoding.proofs.Lists.{pinned-listed, listed-in, listed-one, launches-once}
 use Rattle.cycle_encoding.proofs.Complete.{ServesPins, pinned_made_class}
@@ -109,13 +107,13 @@ module _ (g : LaunchGraph) (table : Table) (k : ℕ) (is_table : IsTable table) 
     three_kinds i = inl refl
 
     want_by : (l : Launch) → Contains ls l → (o : Operand) → Lacks g (IsSafe g) l.row o → IsTrue (launches g is_store l) ⊎ IsTrue (launches g is_branch l) ⊎ Wanted g (class_at g l.row) → Wanted g o.class
-    want_by l h o need (inl s) = (let r = store-row g l s in store l.row r.0 o r.1 r.2 need)
+    want_by l h o need (inl s) = (let i = test-some (instr_at g l.row) is_store s in store l.row o i.0 i.1 i.2 need)
     want_by l h o need (inr (inl b)) = (let i = test-some (instr_at g l.row) is_branch b in guard l.row o i.0 i.1 i.2 need)
     want_by l h o need (inr (inr w)) =
         let can = some-and (instr_at g l.row) (λ i. MayUse table i l.slot) (All-contains (CanLaunch g table) ls l rules.rows h) in
         elim (three_kinds can.0) [
           | inl t ↦ operand l.row o can.0 can.1 t w need
-          | inr (inl t) ↦ (let s : launches g is_store l ≡ true = ap (λ o. option_map_or is_store o false) can.1 ∙ t in let r = store-row g l s in store l.row r.0 o r.1 r.2 need)
+          | inr (inl t) ↦ store l.row o can.0 can.1 t need
           | inr (inr t) ↦ guard l.row o can.0 can.1 t need
         ]
 

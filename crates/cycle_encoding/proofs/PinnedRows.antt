@@ -22,8 +22,7 @@ use Rattle.schedule_meaning.specs.declared.schedules.Launch.{Launch}
 use Rattle.schedule_meaning.proofs.Rules.{in_list}
 use Rattle.schedule_meaning.proofs.Copies.{copy_class, plain_kind}
 use Rattle.cycle_encoding.specs.Variables.{is_word_class}
-use Rattle.cycle_encoding.specs.Narrow.{is_store_op}
-use Rattle.cycle_encoding.proofs.RowFacts.{none_some, some_is, got, past, test-some, then-some, store-op, op_fits, word_class, at_row}
+use Rattle.cycle_encoding.proofs.RowFacts.{none_some, some_is, got, past, test-some, then-some, op_fits, word_class, at_row}
 
 module _ (g : LaunchGraph) where
   guard_instr : (o : Option Guard) (i : InstrKind) → option_map (λ _. Beq) o ≡ Some i → Beq ≡ i
@@ -88,10 +87,6 @@ module _ (g : LaunchGraph) where
 
   pub within : (row : ℕ) (i : InstrKind) → instr_at g row ≡ Some i → row < length g.rows + 1 + length g.sets
   within row i h = within_by row i (copied_at g row) refl h
-
-  pub store-row : (l : Launch) → launches g is_store l ≡ true → (r : LaunchRow) × (slice_get g.rows l.row ≡ Some r) × (is_store_op r.op ≡ true)
-  unfolding Row
-  store-row l h = (let r = row_of is_store refl refl l h in (r.0, r.2, store-op g r.0.op r.0.operands r.1 r.3 r.4))
 
   -- ---- classes
 

@@ -8,14 +8,13 @@ use Rattle.word_ops.specs.Meanings.{sort_of, takes_memory}
 use Rattle.word_ops.specs.declared.sorts.Access.{Access}
 use Rattle.word_ops.specs.declared.operators.WordOp.{WordOp}
 use Rattle.word_ops.specs.declared.operators.WordOp.TheVariants as ops
-use Rattle.cycle_encoding.specs.Narrow.{is_store_op}
 use Rattle.word_ops.specs.declared.sorts.Op.{Op}
 use Rattle.word_ops.specs.declared.sorts.Op.TheVariants.{Word, Select, Store, Load, Put}
 use Rattle.word_ops.specs.declared.sorts.Sort.TheVariants as sort
 use Rattle.machine_table.specs.InstrOrder.{operate_kind}
 use Rattle.graph_meaning.specs.Graphs.{constant_of, HasNoPins}
 use Rattle.graph_meaning.specs.WellFormed.{next_class}
-use Rattle.schedule_meaning.specs.Launches.{instr_at, launches, gives_word, is_store, is_load, word_op_instr, op_instr}
+use Rattle.schedule_meaning.specs.Launches.{instr_at, launches, gives_word, is_store, is_load, is_aligned, is_sum_aligned, word_op_instr, op_instr}
 use Rattle.schedule_meaning.specs.Launches.{class_at}
 use Rattle.machine_table.specs.declared.tables.InstrKind.{InstrKind}
 use Rattle.machine_table.specs.declared.tables.InstrKind.TheVariants as kinds
@@ -64,6 +63,10 @@ cond_some : {X : Type 0} (b : Bool) (x y : X) → cond b (Some x) None ≡ Some 
 cond_some true x y h = some_is x y h
 cond_some false x y h = absurd (none_some y h)
 
+sum_some : {X : Type 0} (a b : Bool) (x y : X) → cond a (cond b (Some x) None) None ≡ Some y → x ≡ y
+sum_some true b x y h = cond_some b x y h
+sum_some false b x y h = absurd (none_some y h)
+
 -- ---- instructions and operators
 
 stores_none : (op : WordOp) → option_map_or is_store (operate_kind op) false ≡ false
@@ -102,23 +105,24 @@ module _ (g : LaunchGraph) where
 
   pub op_fits : (op : Op) (operands : List ℕ) (i : InstrKind) → op_instr g op operands ≡ Some i → HasSorts op i
   op_fits (Word op) operands i h = word_fits op operands i h
-  op_fits (Select access) operands i h = subst (λ i. HasSorts (Select access) i) (some_is (kinds.Load access) i h) (load_kind (Select access) access refl refl)
-  op_fits (Store access) operands i h = subst (λ i. HasSorts (Store access) i) (some_is (kinds.Store access) i h) (store_kind (Store access) access refl refl)
-  op_fits (Load access) operands i h = subst (λ i. HasSorts (Load access) i) (cond_some (is_some (constant_of g (get_or operands 2 0))) (kinds.Load access) i h) (load_kind (Load access) access refl refl)
-  op_fits (Put access) operands i h = subst (λ i. HasSorts (Put access) i) (cond_some (is_some (constant_of g (get_or operands 2 0))) (kinds.Store access) i h) (store_kind (Put access) access refl refl)
+  op_fits (Select access) operands i h =
+      subst (HasSorts (Select access)) (cond_some (is_aligned g access operands) (kinds.Load access) i h)
+      (load_kind (Select access) access refl refl)
+  op_fits (Store access) operands i h =
+      subst (HasSorts (Store access)) (cond_some (is_aligned g access operands) (kinds.Store access) i h)
+      (store_kind (Store access) access refl refl)
+  op_fits (Load access) operands i h =
+      subst (HasSorts (Load access))
+      (sum_some (is_sum_aligned g access operands) (is_some (constant_of g (get_or operands 2 0))) (kinds.Load access) i h)
+      (load_kind (Load access) access refl refl)
+  op_fits (Put access) operands i h =
+      subst (HasSorts (Put access))
+      (sum_some (is_sum_aligned g access operands) (is_some (constant_of g (get_or operands 2 0))) (kinds.Store access) i h)
+      (store_kind (Put access) access refl refl)
   op_fits op operands i h = absurd (none_some i h)
 
   word_memory : sort.Word ≡ sort.Memory → ⊥
   word_memory h = cc
-
-  -- a store's operator
-  pub store-op : (op : Op) (operands : List ℕ) (i : InstrKind) → op_instr g op operands ≡ Some i → is_store i ≡ true → is_store_op op ≡ true
-  store-op (Store access) operands i h s = refl
-  store-op (Put access) operands i h s = refl
-  store-op (Word op) operands i h s = absurd (word_memory ((op_fits (Word op) operands i h).store s))
-  store-op (Select access) operands i h s = absurd (word_memory ((op_fits (Select access) operands i h).store s))
-  store-op (Load access) operands i h s = absurd (word_memory ((op_fits (Load access) operands i h).store s))
-  store-op op operands i h s = absurd (none_some i h)
 
   -- ---- the row of a launch
 
@@ -151,10 +155,6 @@ module _ (g : LaunchGraph) where
 
   pub within : HasNoPins g → (row : ℕ) (i : InstrKind) → instr_at g row ≡ Some i → row < length g.rows + 1
   within plain row i h = row_within row (row == length g.rows) refl i (sym (plain_rows g plain row).0 ∙ h)
-
-  pub store-row : HasNoPins g → (l : Launch) → launches g is_store l ≡ true → (r : LaunchRow) × (slice_get g.rows l.row ≡ Some r) × (is_store_op r.op ≡ true)
-  unfolding Row
-  store-row plain l h = (let r = row_of plain is_store refl l h in (r.0, r.2, store-op r.0.op r.0.operands r.1 r.3 r.4))
 
   -- ---- classes
 

@@ -14,7 +14,7 @@ use Rattle.word_ops.specs.declared.sorts.Op.{Op}
 use Rattle.word_ops.specs.declared.sorts.Op.TheVariants.{Word, Select, Store, Load, Put}
 use Rattle.machine_table.specs.InstrOrder.{operate_kind}
 use Rattle.graph_meaning.specs.Graphs.{constant_of, is_zero_class}
-use Rattle.schedule_meaning.specs.Launches.{instr_at, copied_at, launches, gives_word, is_branch, word_op_instr}
+use Rattle.schedule_meaning.specs.Launches.{instr_at, copied_at, launches, gives_word, is_branch, is_aligned, is_sum_aligned, word_op_instr}
 use Rattle.schedule_meaning.specs.Launches.{op_instr, class_at, IsZero, IsByteConstant, IsFree, IsClassOfInput, Gives}
 use Rattle.schedule_meaning.specs.Launches.{gives}
 use Rattle.schedule_meaning.specs.declared.schedules.Operand.{Operand}
@@ -152,6 +152,11 @@ module _ (g : LaunchGraph) where
   displaced_not i true n h = n h
   displaced_not i false n h = no_instr h
 
+  sum_not : (i : InstrKind) (a b : Bool) → (Some i ≡ Some kinds.Beq → ⊥)
+      → cond a (cond b (Some i) None) None ≡ Some kinds.Beq → ⊥
+  sum_not i true b n h = displaced_not i b n h
+  sum_not i false b n h = no_instr h
+
   word_not : (op : WordOp) (operands : List ℕ) → word_op_instr g op operands ≡ Some kinds.Beq → ⊥
   word_not ops.Lda operands h = displaced_not kinds.Lda (is_some (constant_of g (get_or operands 1 0))) (λ e. cc) h
   word_not ops.Ldah operands h = displaced_not kinds.Ldah (is_some (constant_of g (get_or operands 1 0))) (λ e. cc) h
@@ -159,10 +164,14 @@ module _ (g : LaunchGraph) where
 
   op_not : (op : Op) (operands : List ℕ) → op_instr g op operands ≡ Some kinds.Beq → ⊥
   op_not (Word op) operands h = word_not op operands h
-  op_not (Select access) operands h = cc
-  op_not (Store access) operands h = cc
-  op_not (Load access) operands h = displaced_not (kinds.Load access) (is_some (constant_of g (get_or operands 2 0))) (λ e. cc) h
-  op_not (Put access) operands h = displaced_not (kinds.Store access) (is_some (constant_of g (get_or operands 2 0))) (λ e. cc) h
+  op_not (Select access) operands h = displaced_not (kinds.Load access) (is_aligned g access operands) (λ e. cc) h
+  op_not (Store access) operands h = displaced_not (kinds.Store access) (is_aligned g access operands) (λ e. cc) h
+  op_not (Load access) operands h =
+      sum_not (kinds.Load access) (is_sum_aligned g access operands) (is_some (constant_of g (get_or operands 2 0)))
+      (λ e. cc) h
+  op_not (Put access) operands h =
+      sum_not (kinds.Store access) (is_sum_aligned g access operands) (is_some (constant_of g (get_or operands 2 0)))
+      (λ e. cc) h
   op_not op operands h = no_instr h
 
   row_not : (o : Option LaunchRow) → option_and_then (λ r. op_instr g r.op r.operands) o ≡ Some kinds.Beq → ⊥

@@ -1,6 +1,6 @@
 -- Marks of wanted classes, one more at a time.
 use Rattle.std.proofs.Common.{◌≡◌, ℕ, zero, suc, ◌+◌, ◌<◌, ◌≤◌, Bool, true, false, cond, List, [], ◌∷◌, ◌++◌, length, map, take, set, get_or, refl, sym, ap, ◌∙◌, subst, arith, inl, inr, Option, Some, None, append_assoc}
-use Rattle.std.specs.Prelude.{◌&&◌, ◌==◌, ◌↔◌, not, Contains, is_some, slice_get}
+use Rattle.std.specs.Prelude.{◌&&◌, ◌||◌, ◌==◌, ◌↔◌, not, Contains, is_some, slice_get}
 use Rattle.std.specs.Option.{option_map_or}
 use Rattle.std.specs.List.{count_by, filter, range_with_len}
 use Rattle.std.proofs.lemmas.Bool.{false≢true, cases_Bool, cases_eq, eq-eqb, eqb-true, and_from, and_parts, or_cases, or_left, or_right, not-true, not_from_false}
@@ -15,13 +15,14 @@ use Rattle.graph_meaning.specs.declared.graphs.LaunchRow.{LaunchRow}
 use Rattle.graph_meaning.specs.declared.graphs.SetClass.{SetClass}
 use Rattle.machine_table.specs.Tables.{ev6}
 use Rattle.machine_table.specs.declared.tables.InstrKind.{InstrKind}
-use Rattle.schedule_meaning.specs.Launches.{instr_at, gives_word, is_branch, class_at}
+use Rattle.schedule_meaning.specs.declared.schedules.Operand.{Operand}
+use Rattle.schedule_meaning.specs.Launches.{instr_at, gives_word, is_branch, is_store, class_at}
 use Rattle.cycle_encoding.specs.Variables.{is_safe, row_numbers}
 use Rattle.cycle_encoding.specs.Counts.{row_is}
-use Rattle.cycle_encoding.specs.Narrow.{Wanted, is_store_op}
-use Rattle.cycle_encoding.specs.Narrow.Wanted.{target, pinned, guard, store, operand}
+use Rattle.cycle_encoding.specs.Narrow.{IsSafe, Lacks, Wanted, is_quad_store}
+use Rattle.cycle_encoding.specs.Narrow.Wanted.{target, pinned, guard, store, quad_store, operand}
 use Rattle.cycle_encoding.specs.declared.operands.There.TheVariants.{Always}
-use Rattle.cycle_encoding.specs.Wanting.{is_marked_class, is_wanted_target, is_store_row, is_root, giving_rows, AreWantedMarks, AreAllMarked, IsFollowed, IsLonger, StillMarked, wanted_needs}
+use Rattle.cycle_encoding.specs.Wanting.{is_marked_class, is_wanted_target, is_quad_row, is_root, giving_rows, AreWantedMarks, AreAllMarked, IsFollowed, IsLonger, StillMarked, wanted_needs}
 use Rattle.cycle_encoding.proofs.Members.{here, nothing, filter-in, filter-out, range-in}
 use Rattle.cycle_encoding.proofs.PinnedTests.{safe-is, safe-from}
 use Rattle.cycle_encoding.proofs.PinnedRows.{within}
@@ -131,20 +132,26 @@ more-targets g old new i d s lt e still size before now x h t =
 
 -- ---- stores and the branch
 
-store_in : (g : LaunchGraph) (o : Option LaunchRow) → option_map_or (λ r. is_store_op r.op) o false ≡ true → (r : LaunchRow) × (o ≡ Some r) × (is_store_op r.op ≡ true)
-store_in g None h = absurd (false≢true h)
-store_in g (Some r) h = (r, refl, h)
+quad_in : (o : Option LaunchRow) → option_map_or (λ r. is_quad_store r.op) o false ≡ true
+    → (r : LaunchRow) × (o ≡ Some r) × (is_quad_store r.op ≡ true)
+quad_in None h = absurd (false≢true h)
+quad_in (Some r) h = (r, refl, h)
 
-branch_in : (o : Option InstrKind) → option_map_or is_branch o false ≡ true → (i : InstrKind) × (o ≡ Some i) × (is_branch i ≡ true)
-branch_in None h = absurd (false≢true h)
-branch_in (Some i) h = (i, refl, h)
+instr_in : (test : InstrKind → Bool) (o : Option InstrKind) → option_map_or test o false ≡ true
+    → (i : InstrKind) × (o ≡ Some i) × (test i ≡ true)
+instr_in test None h = absurd (false≢true h)
+instr_in test (Some i) h = (i, refl, h)
 
 pub root-needs : (g : LaunchGraph) (row : ℕ) → is_root g row ≡ true → (class : ℕ) → Contains (wanted_needs g row) class → Wanted g class
 root-needs g row h class k =
     let o = need-out Always g row class k in
-    elim (or_cases (row_is g is_branch row) (is_store_row g row) h) [
-      | inl b ↦ (let i = branch_in (instr_at g row) b in subst (Wanted g) o.2 (guard row o.0 i.0 i.1 i.2 o.1))
-      | inr s ↦ (let r = store_in g (slice_get g.rows row) s in subst (Wanted g) o.2 (store row r.0 o.0 r.1 r.2 o.1))
+    elim (or_cases (row_is g is_branch row) (row_is g is_store row || is_quad_row g row) h) [
+      | inl b ↦ (let i = instr_in is_branch (instr_at g row) b in subst (Wanted g) o.2 (guard row o.0 i.0 i.1 i.2 o.1))
+      | inr t ↦ elim (or_cases (row_is g is_store row) (is_quad_row g row) t) [
+        | inl s ↦ (let i = instr_in is_store (instr_at g row) s in subst (Wanted g) o.2 (store row o.0 i.0 i.1 i.2 o.1))
+        | inr q ↦
+            (let r = quad_in (slice_get g.rows row) q in subst (Wanted g) o.2 (quad_store row r.0 o.0 r.1 r.2 o.1))
+      ]
     ]
 
 pub more-roots : (g : LaunchGraph) (old new : List Bool) (row : ℕ) → StillMarked old new → length new ≡ length old
@@ -165,14 +172,10 @@ giving-out g class row h =
     let p = and_parts (row_is g gives_word row) (class_at g row == class) f.1 in
     (f.0, p.0, eqb-true (class_at g row) class p.1)
 
-word_in : (o : Option InstrKind) → option_map_or gives_word o false ≡ true → (i : InstrKind) × (o ≡ Some i) × (gives_word i ≡ true)
-word_in None h = absurd (false≢true h)
-word_in (Some i) h = (i, refl, h)
-
 pub follow-wanted : (g : LaunchGraph) (class row c : ℕ) → Wanted g class → Contains (giving_rows g class) row → Contains (wanted_needs g row) c → Wanted g c
 follow-wanted g class row c w h k =
     let r = giving-out g class row h in
-    let i = word_in (instr_at g row) r.1 in
+    let i = instr_in gives_word (instr_at g row) r.1 in
     let o = need-out Always g row c k in
     subst (Wanted g) o.2 (operand row o.0 i.0 i.1 i.2 (subst (Wanted g) (sym r.2) w) o.1)
 
@@ -216,6 +219,13 @@ module _ (g : LaunchGraph) (well : IsLaunchGraph g) (marks : List Bool) (order :
     (targets : (s : SetClass) → Contains g.sets s → is_wanted_target g s ≡ true → AreAllMarked marks (s.class ∷ []))
     (roots : (row : ℕ) → Contains (row_numbers g) row → is_root g row ≡ true → AreAllMarked marks (wanted_needs g row))
     (followed : (class : ℕ) → Contains order class → IsFollowed g marks class) where
+  abbrev is_wanting_store : ℕ → Bool
+  is_wanting_store row = row_is g is_store row || is_quad_row g row
+
+  root_marked : (row : ℕ) (o : Operand) → Contains (row_numbers g) row → is_root g row ≡ true → Lacks g (IsSafe g) row o
+      → o.class < length marks → is_marked_class marks o.class ≡ true
+  root_marked row o number root need lt = roots row number root o.class (need-in Always g row o need) lt
+
   all-marked : (class : ℕ) → Wanted g class → class < length marks → is_marked_class marks class ≡ true
   all-marked _ (target s h nm ns) lt =
       let memory : is_memory_name s.name ≡ false = elim (cases_Bool (is_memory_name s.name)) [ inl t ↦ absurd (nm t) | inr f ↦ f ] in
@@ -225,10 +235,18 @@ module _ (g : LaunchGraph) (well : IsLaunchGraph g) (marks : List Bool) (order :
       targets s h (or_right (not (is_memory_name s.name) && not (is_safe g s.class)) (is_some s.pin) (ap is_some e)) s.class (here s.class []) lt
   all-marked _ (guard row o i e b need) lt =
       let is : row_is g is_branch row ≡ true = ap (λ (o : Option InstrKind). option_map_or is_branch o false) e ∙ b in
-      roots row (number-in g row i e) (or_left (row_is g is_branch row) (is_store_row g row) is) o.class (need-in Always g row o need) lt
-  all-marked _ (store row r o e op need) lt =
-      let is : is_store_row g row ≡ true = ap (λ (o : Option LaunchRow). option_map_or (λ r. is_store_op r.op) o false) e ∙ op in
-      roots row (range-in 0 (length g.rows + 1 + length g.sets) row (omega arith) (let w = slice_get_within g.rows row r e in omega arith)) (or_right (row_is g is_branch row) (is_store_row g row) is) o.class (need-in Always g row o need) lt
+      root_marked row o (number-in g row i e) (or_left (row_is g is_branch row) (is_wanting_store row) is) need lt
+  all-marked _ (store row o i e s need) lt =
+      let is : row_is g is_store row ≡ true = ap (λ (o : Option InstrKind). option_map_or is_store o false) e ∙ s in
+      let wants : is_wanting_store row ≡ true = or_left (row_is g is_store row) (is_quad_row g row) is in
+      root_marked row o (number-in g row i e) (or_right (row_is g is_branch row) (is_wanting_store row) wants) need lt
+  all-marked _ (quad_store row r o e op need) lt =
+      let is : is_quad_row g row ≡ true =
+      ap (λ (o : Option LaunchRow). option_map_or (λ r. is_quad_store r.op) o false) e ∙ op in
+      let wants : is_wanting_store row ≡ true = or_right (row_is g is_store row) (is_quad_row g row) is in
+      let inside = slice_get_within g.rows row r e in
+      let number = range-in 0 (length g.rows + 1 + length g.sets) row (omega arith) (omega arith) in
+      root_marked row o number (or_right (row_is g is_branch row) (is_wanting_store row) wants) need lt
   all-marked _ (operand row o i e w inner need) lt =
       let bound = low-class g ev6 well row i e w in
       let mark = all-marked (class_at g row) inner (omega arith) in

@@ -2,6 +2,7 @@
 -- wanted, by where they go, and only for wanted classes. Source: this project.
 use Rattle.std.specs.Prelude.{◌≡◌, ℕ, ◌+◌, ◌≤◌, Bool, true, false, Some, IsTrue, Contains, Decides, ◌⊎◌, slice_get}
 use Rattle.std.specs.List.{filter}
+use Rattle.word_ops.specs.declared.sorts.Access.TheVariants.{Quad}
 use Rattle.word_ops.specs.declared.sorts.Op.{Op}
 use Rattle.word_ops.specs.declared.sorts.Op.TheVariants.{Store, Put}
 use Rattle.machine_table.specs.Tables.{use_of}
@@ -20,11 +21,11 @@ use Rattle.cycle_encoding.specs.Variables.{all_seen}
 use Rattle.cycle_encoding.specs.Variables.{all_launches, made_classes}
 use Rattle.cycle_encoding.specs.CycleFormula.{Listed}
 
--- the operators whose rows are stores
-abbrev pub is_store_op : Op → Bool
-is_store_op (Store access) = true
-is_store_op (Put access) = true
-is_store_op op = false
+-- the operators whose rows are stores of a 64-bit word
+abbrev pub is_quad_store : Op → Bool
+is_quad_store (Store Quad) = true
+is_quad_store (Put Quad) = true
+is_quad_store op = false
 
 -- an input of the class has a register that is no pin
 abbrev pub IsSafe : LaunchGraph → ℕ → Type 0
@@ -36,15 +37,18 @@ pub record Lacks (g : LaunchGraph) (IsThere : ℕ → Type 0) (row : ℕ) (o : O
   pub free : ¬ IsFree g o
   pub there : ¬ IsThere o.class
 
--- the least set of classes with those of word targets, of what the branch and each store lack, and of what each row or
--- copy of a wanted class lacks that can be launched; a safe class is wanted by a pinned target alone
+-- the least set of classes with those of word targets; of what the branch lacks, and each store that can be launched or
+-- is one of a 64-bit word; and of what each row or copy of a wanted class lacks that can be launched. A safe class is
+-- wanted by a pinned target alone
 pub data Wanted (g : LaunchGraph) : ℕ → Type 0 where
   target : (s : SetClass) → Contains g.sets s → ¬ IsTrue (is_memory_name s.name) → ¬ IsSafe g s.class
       → Wanted g s.class
   pinned : (s : SetClass) (r : ℕ) → Contains g.sets s → s.pin ≡ Some r → Wanted g s.class
   guard : (row : ℕ) (o : Operand) (i : InstrKind) → instr_at g row ≡ Some i → IsTrue (is_branch i)
       → Lacks g (IsSafe g) row o → Wanted g o.class
-  store : (row : ℕ) (r : LaunchRow) (o : Operand) → slice_get g.rows row ≡ Some r → IsTrue (is_store_op r.op)
+  store : (row : ℕ) (o : Operand) (i : InstrKind) → instr_at g row ≡ Some i → IsTrue (is_store i)
+      → Lacks g (IsSafe g) row o → Wanted g o.class
+  quad_store : (row : ℕ) (r : LaunchRow) (o : Operand) → slice_get g.rows row ≡ Some r → IsTrue (is_quad_store r.op)
       → Lacks g (IsSafe g) row o → Wanted g o.class
   operand : (row : ℕ) (o : Operand) (i : InstrKind) → instr_at g row ≡ Some i → IsTrue (gives_word i)
       → Wanted g (class_at g row) → Lacks g (IsSafe g) row o → Wanted g o.class

@@ -5,12 +5,12 @@ use Rattle.std.specs.Prelude.{IsTrue, is_some, slice_get, slice_index_or}
 use Rattle.std.specs.Option.{option_map_or}
 use Rattle.std.specs.List.{count_by, filter}
 use Rattle.graph_meaning.specs.Graphs.{is_memory_name}
-use Rattle.schedule_meaning.specs.Launches.{gives_word, is_branch, class_at}
+use Rattle.schedule_meaning.specs.Launches.{gives_word, is_branch, is_store, class_at}
 use Rattle.graph_meaning.specs.declared.graphs.LaunchGraph.{LaunchGraph}
 use Rattle.graph_meaning.specs.declared.graphs.SetClass.{SetClass}
 use Rattle.cycle_encoding.specs.Counts.{row_is}
 use Rattle.cycle_encoding.specs.Variables.{is_safe, row_numbers}
-use Rattle.cycle_encoding.specs.Narrow.{Wanted, is_store_op}
+use Rattle.cycle_encoding.specs.Narrow.{Wanted, is_quad_store}
 use Rattle.cycle_encoding.specs.Lacking.{needs_of}
 use Rattle.cycle_encoding.specs.declared.operands.There.TheVariants.{Always}
 
@@ -25,12 +25,13 @@ is_marked_class marks class = slice_index_or marks class false
 abbrev pub is_wanted_target : LaunchGraph → SetClass → Bool
 is_wanted_target g s = (not (is_memory_name s.name) && not (is_safe g s.class)) || is_some s.pin
 
-abbrev pub is_store_row : LaunchGraph → ℕ → Bool
-is_store_row g row = option_map_or (λ r. is_store_op r.op) (slice_get g.rows row) false
+abbrev pub is_quad_row : LaunchGraph → ℕ → Bool
+is_quad_row g row = option_map_or (λ r. is_quad_store r.op) (slice_get g.rows row) false
 
--- a row whose operands are wanted whatever its class is: a store, or the branch
+-- a row whose operands are wanted whatever its class is: the branch, or a store that can be launched or that is one of
+-- a 64-bit word
 abbrev pub is_root : LaunchGraph → ℕ → Bool
-is_root g row = row_is g is_branch row || is_store_row g row
+is_root g row = row_is g is_branch row || (row_is g is_store row || is_quad_row g row)
 
 -- the rows and copies that give the class's word
 abbrev pub giving_rows : LaunchGraph → ℕ → List ℕ

@@ -24,7 +24,7 @@ use items::{Items, NoMemory};
 use machine_table::InstrKind;
 use schedule_meaning::{class_at, gives_word};
 use std::alloc::Global;
-use word_ops::Op;
+use word_ops::{Access, Op};
 
 /// Marks a wanted class and lists it, if the table has it and it isn't marked yet.
 fn want(
@@ -108,14 +108,15 @@ fn want_targets(marks: &mut Vec<bool>, order: &mut Vec<u32>, facts: &Facts) -> R
     Ok(())
 }
 
-/// Whether the row's operands are wanted whatever its class is: it is a store, or the branch.
+/// Whether the row's operands are wanted whatever its class is: it is the branch, or a store that can be launched or
+/// that is one of a 64-bit word.
 fn is_root(facts: &Facts, row: u32) -> bool
     ensures { result ≡ wanting.is_root facts.now row }
 {
     match facts.instr_at(row) {
-        Some(InstrKind::Beq) => true,
+        Some(InstrKind::Beq | InstrKind::Store(_)) => true,
         _ => match facts.graph().rows.as_slice().get(row as usize) {
-            Some(found) => matches!(found.op, Op::Store(_) | Op::Put(_)),
+            Some(found) => matches!(found.op, Op::Store(Access::Quad) | Op::Put(Access::Quad)),
             None => false,
         },
     }

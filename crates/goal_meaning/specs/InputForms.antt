@@ -2,8 +2,7 @@
 -- Source: this project; the notation follows Denali's guarded multi-assignment (PLDI 2002).
 use Rattle.std.specs.Prelude.{ℕ, ◌==◌, if◌then◌else◌, Option, Some, None, List, [], ◌∷◌, ◌++◌, map, codes, decimal, slice_index_or}
 use Rattle.word_ops.specs.Meanings.{count_of}
-use Rattle.word_ops.specs.Names.{name_of}
-use Rattle.word_ops.specs.declared.sorts.Access.TheVariants.{Quad}
+use Rattle.word_ops.specs.Names.{name_of, select_name, store_name}
 use Rattle.word_ops.specs.declared.sorts.Op.{Op}
 use Rattle.word_ops.specs.declared.sorts.Op.TheVariants as ops
 use Rattle.word_terms.specs.Tree as tree
@@ -34,8 +33,8 @@ input_name (i ∷ inputs) r = if i.reg == r then i.name else input_name inputs r
 
 abbrev pub operator_name : List DeclaredOp → Op → List ℕ
 operator_name declared (ops.Word op) = name_of op
-operator_name declared (ops.Select Quad) = codes "select"
-operator_name declared (ops.Store Quad) = codes "store"
+operator_name declared (ops.Select access) = select_name access
+operator_name declared (ops.Store access) = store_name access
 operator_name declared (ops.Declared index arity) = declared_name declared index
 operator_name declared _ = []
 

@@ -1,10 +1,10 @@
 -- Names in goals: those that every text has, those of declared operators, and inputs all of whose names are names.
 -- Source: this project; the operators are Denali's (PLDI 2002) over the Alpha Architecture Handbook's.
-use Rattle.std.specs.Prelude.{ℕ, Bool, true, false, ◌||◌, if◌then◌else◌, Option, Some, None, is_some, find, List, [], map, codes, bytes_eq, slice_index_or, All}
+use Rattle.std.specs.Prelude.{ℕ, Bool, true, false, ◌||◌, if◌then◌else◌, Option, Some, None, is_some, find, List, [], ◌∷◌, map, codes, bytes_eq, slice_index_or, All}
 use Rattle.text_core.specs.Names.{IsName}
 use Rattle.word_ops.specs.Operators.{operators}
-use Rattle.word_ops.specs.Names.{name_of}
-use Rattle.word_ops.specs.declared.sorts.Access.TheVariants.{Quad}
+use Rattle.word_ops.specs.Names.{name_of, select_name, store_name}
+use Rattle.word_ops.specs.declared.sorts.Access.TheVariants as accesses
 use Rattle.word_ops.specs.declared.operators.WordOp.{WordOp}
 use Rattle.word_ops.specs.declared.operators.WordOp.TheVariants as words
 use Rattle.word_ops.specs.declared.sorts.Op.{Op}
@@ -29,17 +29,26 @@ word_named name = find (λ op. bytes_eq (name_of op) name) operators
 abbrev pub as_written : WordOp → Option Op
 as_written op = if is_written op then Some (Word op) else None
 
+-- the operators on memories that can be written; those with a displacement are made by rules alone
+abbrev pub memory_operators : List Op
+memory_operators =
+    Select accesses.Quad ∷ Store accesses.Quad
+    ∷ Select accesses.Byte ∷ Select accesses.Word ∷ Select accesses.Long
+    ∷ Store accesses.Byte ∷ Store accesses.Word ∷ Store accesses.Long ∷ []
+
+abbrev pub memory_operator_name : Op → List ℕ
+memory_operator_name (Select access) = select_name access
+memory_operator_name (Store access) = store_name access
+memory_operator_name _ = []
+
 abbrev pub memory_operator_named : List ℕ → Option Op
-memory_operator_named name =
-    if bytes_eq name (codes "select") then Some (Select Quad)
-    else if bytes_eq name (codes "store") then Some (Store Quad)
-    else None
+memory_operator_named name = find (λ op. bytes_eq (memory_operator_name op) name) memory_operators
 
 abbrev pub written_or_memory : Option WordOp → List ℕ → Option Op
 written_or_memory (Some op) name = as_written op
 written_or_memory None name = memory_operator_named name
 
--- the operator of the name that every text has: a word operator, select or store
+-- the operator of the name that every text has: of words, or on memories
 abbrev pub built_in_named : List ℕ → Option Op
 built_in_named name = written_or_memory (word_named name) name
 

@@ -85,7 +85,7 @@ module _ (declared : List DeclaredOp) (names : List (List ℕ)) where
     memory_is = λ bytes l. let told = left_told declared names (atom 0 (name bytes)) bytes Memory l in absurd (no_memory told.0 told.2);
     input_is = λ bytes r l. let told = left_told declared names (atom 0 (name bytes)) bytes (Input r) l in absurd (no_input r told.0 told.2);
     constant_is = λ n. tt;
-    operator_is = λ bytes op e. of_operator declared (IsOfAxiom declared) (λ w t. t) tt tt (λ index arity is. is) bytes op e;
+    operator_is = λ bytes op e. of_operator declared (IsOfAxiom declared) (λ w t. t) (λ access. tt) (λ access. tt) (λ index arity is. is) bytes op e;
   }
 
 operation_of : (scope : Scope) {sort : Sort} {f : Form} {t : Tree Op} → Writes scope sort f t → is_list f ≡ true → IsApplication t × IsOperation t
@@ -149,7 +149,7 @@ module _ (declared : List DeclaredOp) (inputs : List InputReg) where
     memory_is = λ bytes l. tt;
     input_is = λ bytes r l. input_of bytes r (in_goal declared inputs lets bytes (Input r) (no_input_let r) l);
     constant_is = λ n. tt;
-    operator_is = λ bytes op e. of_operator declared (IsOfGoal declared inputs) (λ w t. t) tt tt (λ index arity is. is) bytes op e;
+    operator_is = λ bytes op e. of_operator declared (IsOfGoal declared inputs) (λ w t. t) (λ access. tt) (λ access. tt) (λ index arity is. is) bytes op e;
   }
 
   -- a term that is written over lets is one over their sorts

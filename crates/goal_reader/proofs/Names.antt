@@ -1,17 +1,22 @@
 -- Searches for names.
 use Rattle.std.proofs.Common.{◌≡◌, ◌≢◌, ℕ, suc, ◌+◌, ◌<◌, Bool, true, false, if◌then◌else◌, Some, None, find, List, [], ◌∷◌, length, get_or, drop, refl, sym, ap, ◌∙◌, subst, add-one, bytes_eq}
 use Rattle.std.proofs.Math.Seq.{drop-cons}
+use Rattle.std.proofs.lemmas.Option.{none-some}
 use Rattle.std.proofs.lemmas.Slice.Eq.{bytes_eq-Decides}
+use Rattle.std.specs.List.{AllByRecursion}
 use Rattle.word_ops.specs.Operators.{operators}
 use Rattle.word_ops.specs.Names.{name_of}
 use Rattle.word_ops.specs.declared.operates.Operate.TheVariants as operates
 use Rattle.word_ops.specs.declared.operators.WordOp.{WordOp}
 use Rattle.word_ops.specs.declared.operators.WordOp.TheVariants as words
-use Rattle.word_ops.specs.declared.sorts.Op.TheVariants.{Declared}
+use Rattle.word_ops.specs.declared.sorts.Access.{Access}
+use Rattle.word_ops.specs.declared.sorts.Access.TheVariants as accesses
+use Rattle.word_ops.specs.declared.sorts.Op.{Op}
+use Rattle.word_ops.specs.declared.sorts.Op.TheVariants.{Select, Store, Declared}
 use Rattle.goal_meaning.specs.declared.goals.DeclaredOp.{DeclaredOp}
 use Rattle.goal_reader.specs.declared.scopes.Leaf.{Leaf}
 use Rattle.goal_reader.specs.Scopes.{leaf_named, declared_named}
-use Rattle.goal_meaning.specs.Names.{word_named, built_in_named, memory_operator_named, as_written, written_or_memory}
+use Rattle.goal_meaning.specs.Names.{word_named, built_in_named, memory_operators, memory_operator_name, memory_operator_named, as_written, written_or_memory}
 
 pub leaf_here : (leaves : List Leaf) (i : ℕ) (leaf : Leaf) (name : List ℕ) → i < length leaves → leaf ≡ get_or leaves i leaf
     → leaf_named (drop i leaves) name ≡ (if bytes_eq leaf.name name then Some leaf.named else leaf_named (drop (i + 1) leaves) name)
@@ -58,3 +63,33 @@ built_in_other name h = ap (λ found. written_or_memory found name) (word_named_
 
 pub none_some : (op : WordOp) → None ≡ Some op → ⊥
 none_some op e = cc
+
+-- what holds of each operator on memories that a name can mean holds of that of the name
+found_of : (Q : Op → Type 0) (p : Op → Bool) (xs : List Op) (x : Op) → AllByRecursion Q xs → find p xs ≡ Some x → Q x
+found_of Q p [] x h e = absurd (none-some x e)
+found_of Q p (o ∷ os) x h e = by_test (p o) e (found_of Q p os x h.1)
+  where
+    by_test : (b : Bool) → (if b then Some o else find p os) ≡ Some x → (find p os ≡ Some x → Q x) → Q x
+    by_test true f later = let same : o ≡ x = cc in subst Q same h.0
+    by_test false f later = later f
+
+pub of_memory_operator : (Q : Op → Type 0) → ((access : Access) → Q (Select access)) → ((access : Access) → Q (Store access)) →
+    (n : List ℕ) (op : Op) → memory_operator_named n ≡ Some op → Q op
+of_memory_operator Q selects stores n op e =
+    found_of Q (λ o. bytes_eq (memory_operator_name o) n) memory_operators op (
+      selects accesses.Quad,
+      (
+        stores accesses.Quad,
+        (
+          selects accesses.Byte,
+          (
+            selects accesses.Word,
+            (
+              selects accesses.Long,
+              (stores accesses.Byte, (stores accesses.Word, (stores accesses.Long, tt))),
+            ),
+          ),
+        ),
+      ),
+    )
+    e

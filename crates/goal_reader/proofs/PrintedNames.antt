@@ -5,7 +5,6 @@ use Rattle.std.proofs.lemmas.Bool.Decides.{Decides-eqb}
 use Rattle.std.proofs.lemmas.Slice.Eq.{bytes_eq-Decides}
 use Rattle.word_ops.specs.Names.{name_of}
 use Rattle.word_ops.specs.Operators.{operators}
-use Rattle.word_ops.specs.declared.sorts.Access.TheVariants.{Quad}
 use Rattle.word_ops.specs.declared.operators.WordOp.{WordOp}
 use Rattle.word_ops.specs.declared.sorts.Op.{Op}
 use Rattle.word_ops.specs.declared.sorts.Sort.{Sort}
@@ -19,27 +18,27 @@ use Rattle.goal_meaning.specs.WellFormed.{input_registers}
 use Rattle.goal_reader.specs.Roles.{goal_scope, rank_from}
 use Rattle.std.specs.Option.{option_or}
 use Rattle.goal_reader.specs.Scopes.{leaf_named, declared_named, operator_named}
-use Rattle.goal_meaning.specs.Names.{is_written, word_named, memory_operator_named, written_or_memory}
+use Rattle.goal_meaning.specs.Names.{is_written, word_named, memory_operators, memory_operator_name, memory_operator_named, written_or_memory}
 use Rattle.goal_reader.proofs.AxiomForms.{left_told, same_number}
 use Rattle.goal_reader.proofs.ItemForms.{rank_from_is}
 use Rattle.goal_reader.proofs.LetForms.{goal_leaf, input_leaf}
 pub use Rattle.goal_reader.proofs.LetForms.{leaves_of}
 use Rattle.goal_reader.proofs.Moved.{AreNamed}
-use Rattle.goal_reader.proofs.Names.{not_true}
+use Rattle.goal_reader.proofs.Names.{not_true, of_memory_operator}
 use Rattle.forms.specs.Forms.{atom, name}
 
 -- ---- operators
-found_by : (n : List ℕ) (os : List WordOp) (op : WordOp) → find (λ o. bytes_eq (name_of o) n) os ≡ Some op → name_of op ≡ n
-found_by n [] op e = cc
-found_by n (o ∷ os) op e = by_test (bytes_eq (name_of o) n) refl e (found_by n os op)
+found_by : {X : Type 0} (f : X → List ℕ) (n : List ℕ) (xs : List X) (x : X) → find (λ o. bytes_eq (f o) n) xs ≡ Some x → f x ≡ n
+found_by f n [] x e = cc
+found_by f n (o ∷ os) x e = by_test (bytes_eq (f o) n) refl e (found_by f n os x)
   where
-    by_test : (b : Bool) → bytes_eq (name_of o) n ≡ b → (if b then Some o else find (λ p. bytes_eq (name_of p) n) os) ≡ Some op → (find (λ p. bytes_eq (name_of p) n) os ≡ Some op → name_of op ≡ n) → name_of op ≡ n
-    by_test true t f later = let same : o ≡ op = cc in ap name_of (sym same) ∙ (bytes_eq-Decides (name_of o) n).0 t
-    by_test false t f later = later f
+    by_test : (b : Bool) → bytes_eq (f o) n ≡ b → (if b then Some o else find (λ p. bytes_eq (f p) n) os) ≡ Some x → (find (λ p. bytes_eq (f p) n) os ≡ Some x → f x ≡ n) → f x ≡ n
+    by_test true t e later = let same : o ≡ x = cc in ap f (sym same) ∙ (bytes_eq-Decides (f o) n).0 t
+    by_test false t e later = later e
 
 word_found : (n : List ℕ) (op : WordOp) → word_named n ≡ Some op → name_of op ≡ n
 unfolding word_named
-word_found n op e = found_by n operators op e
+word_found n op e = found_by name_of n operators op e
 
 -- what an operator is printed as, and that it is no atom
 abbrev IsNamedAs : List DeclaredOp → List ℕ → Op → Type 0
@@ -49,10 +48,14 @@ written_as : (declared : List DeclaredOp) (n : List ℕ) (w : WordOp) (op : Op) 
 written_as declared n w op true e f = let same : ops.Word w ≡ op = cc in subst (IsNamedAs declared n) same (sym e, λ inputs. refl)
 written_as declared n w op false e f = cc
 
-memory_as : (declared : List DeclaredOp) (n : List ℕ) (op : Op) (a b : Bool) → bytes_eq n (codes "select") ≡ a → bytes_eq n (codes "store") ≡ b → (if a then Some (ops.Select Quad) else if b then Some (ops.Store Quad) else None) ≡ Some op → IsNamedAs declared n op
-memory_as declared n op true b s t e = let same : (ops.Select Quad) ≡ op = cc in subst (IsNamedAs declared n) same ((bytes_eq-Decides n (codes "select")).0 s, λ inputs. refl)
-memory_as declared n op false true s t e = let same : (ops.Store Quad) ≡ op = cc in subst (IsNamedAs declared n) same ((bytes_eq-Decides n (codes "store")).0 t, λ inputs. refl)
-memory_as declared n op false false s t e = cc
+-- what is printed for an operator on memories is the name that it is written by
+abbrev IsPrinted : List DeclaredOp → Op → Type 0
+IsPrinted declared op = (memory_operator_name op ≡ operator_name declared op) × ((inputs : List InputReg) → leaf_atom inputs op ≡ None)
+
+memory_as : (declared : List DeclaredOp) (n : List ℕ) (op : Op) → memory_operator_named n ≡ Some op → IsNamedAs declared n op
+memory_as declared n op e =
+    let printed = of_memory_operator (IsPrinted declared) (λ access. (refl, λ inputs. refl)) (λ access. (refl, λ inputs. refl)) n op e in
+    (sym (found_by memory_operator_name n memory_operators op e) ∙ printed.0, printed.1)
 
 abbrev name_after : ℕ → List DeclaredOp → ℕ → List ℕ
 name_after at os index = slice_index_or (map (λ (d : DeclaredOp). d.name) os) index []
@@ -76,7 +79,7 @@ pub operator_told : (declared : List DeclaredOp) (n : List ℕ) (op : Op) → op
 operator_told declared n op e = by_word (word_named n) refl e
   where
     by_memory : (m : Option Op) → memory_operator_named n ≡ m → option_or m (declared_named 0 declared n) ≡ Some op → IsNamedAs declared n op
-    by_memory (Some x) f g = let same : x ≡ op = cc in memory_as declared n op (bytes_eq n (codes "select")) (bytes_eq n (codes "store")) refl refl (f ∙ ap Some same)
+    by_memory (Some x) f g = let same : x ≡ op = cc in memory_as declared n op (f ∙ ap Some same)
     by_memory None f g =
         let d = declared_as 0 declared n op g in
         let index : d.0 + 0 ≡ d.0 = omega arith in

@@ -3,7 +3,7 @@ use Rattle.std.proofs.Common.{◌≡◌, ℕ, suc, ◌+◌, ◌<◌, if◌then�
 use Rattle.std.specs.Prelude.{IfSome}
 use Rattle.word_ops.specs.Meanings.{constant_in}
 use Rattle.word_ops.specs.Words.{IsWord}
-use Rattle.word_ops.specs.declared.sorts.Access.TheVariants.{Quad}
+use Rattle.word_ops.specs.declared.sorts.Access.{Access}
 use Rattle.word_ops.specs.declared.operators.WordOp.{WordOp}
 use Rattle.word_ops.specs.declared.sorts.Arity.{Arity}
 use Rattle.word_ops.specs.declared.sorts.Op.{Op}
@@ -24,6 +24,7 @@ use Rattle.goal_reader.specs.Scopes.{leaf_named, declared_named, operator_named}
 use Rattle.goal_meaning.specs.Names.{is_written, word_named, memory_operator_named, written_or_memory}
 use Rattle.goal_reader.specs.Terms.{Writes, WritesEach, memory, input, variable, binding, constant, application, nothing, operand}
 use Rattle.goal_meaning.specs.WellFormed.{IsDeclared}
+use Rattle.goal_reader.proofs.Names.{of_memory_operator}
 
 -- ---- the operator of a name
 
@@ -43,7 +44,7 @@ declared_there at (o ∷ os) n op e = by_test (bytes_eq o.name n) e (declared_th
         (suc later.0, later.1, later.2 ∙ ap (λ m. ops.Declared m later.1.arity) (let z : later.0 + (at + 1) ≡ suc later.0 + at = omega arith in z), omega (arith, low), later.4)
 
 -- what holds of each operator that a name can mean holds of that of the name
-module _ (declared : List DeclaredOp) (Q : Op → Type 0) (words : (w : WordOp) → is_written w ≡ true → Q (ops.Word w)) (selects : Q (ops.Select Quad)) (stores : Q (ops.Store Quad))
+module _ (declared : List DeclaredOp) (Q : Op → Type 0) (words : (w : WordOp) → is_written w ≡ true → Q (ops.Word w)) (selects : (access : Access) → Q (ops.Select access)) (stores : (access : Access) → Q (ops.Store access))
     (others : (index : ℕ) (arity : Arity) → IsDeclared declared index arity → Q (ops.Declared index arity)) where
   of_declared : (n : List ℕ) (op : Op) → declared_named 0 declared n ≡ Some op → Q op
   of_declared n op e =
@@ -52,16 +53,11 @@ module _ (declared : List DeclaredOp) (Q : Op → Type 0) (words : (w : WordOp) 
       let is : IsDeclared declared d.0 d.1.arity = record { below = d.3; operator = d.1; found = d.4; takes = refl } in
       subst Q (sym (d.2 ∙ ap (λ m. ops.Declared m d.1.arity) index)) (others d.0 d.1.arity is)
 
-  of_memory : (op : Op) (a b : Bool) → (if a then Some (ops.Select Quad) else if b then Some (ops.Store Quad) else None) ≡ Some op → Q op
-  of_memory op true b e = let same : (ops.Select Quad) ≡ op = cc in subst Q same selects
-  of_memory op false true e = let same : (ops.Store Quad) ≡ op = cc in subst Q same stores
-  of_memory op false false e = cc
-
   pub of_operator : (n : List ℕ) (op : Op) → operator_named declared n ≡ Some op → Q op
   of_operator n op e = by_word (word_named n) e
     where
       by_memory : (m : Option Op) → memory_operator_named n ≡ m → option_or m (declared_named 0 declared n) ≡ Some op → Q op
-      by_memory (Some x) f g = let same : x ≡ op = cc in of_memory op (bytes_eq n (codes "select")) (bytes_eq n (codes "store")) (f ∙ ap Some same)
+      by_memory (Some x) f g = let same : x ≡ op = cc in of_memory_operator Q selects stores n op (f ∙ ap Some same)
       by_memory None f g = of_declared n op g
 
       by_written : (w : WordOp) (b : Bool) → is_written w ≡ b → option_or (if b then Some (ops.Word w) else None) (declared_named 0 declared n) ≡ Some op → Q op
@@ -73,7 +69,7 @@ module _ (declared : List DeclaredOp) (Q : Op → Type 0) (words : (w : WordOp) 
       by_word (Some w) g = by_written w (is_written w) refl g
 
 pub no_constant : (declared : List DeclaredOp) (n : List ℕ) (op : Op) → operator_named declared n ≡ Some op → constant_in op ≡ None
-no_constant declared = of_operator declared (λ op. constant_in op ≡ None) (λ w t. refl) refl refl (λ index arity is. refl)
+no_constant declared = of_operator declared (λ op. constant_in op ≡ None) (λ w t. refl) (λ access. refl) (λ access. refl) (λ index arity is. refl)
 
 -- ---- sorts
 

@@ -17,7 +17,7 @@ use items::{Items, NoMemory};
 use itoa::Buffer;
 use std::alloc::Global;
 use text_core::Name;
-use word_ops::{Access, Op, op_name};
+use word_ops::{Op, op_name};
 use word_terms::Term;
 
 fn put_number(text: &mut Vec<u8>, number: u64) -> Result<(), NoMemory>
@@ -46,8 +46,8 @@ fn put_operator(text: &mut Vec<u8>, declared: &[DeclaredOp], op: Op) -> Result<(
 {
     match op {
         Op::Word(word) => text.extend_from_slice(op_name(word))?,
-        Op::Select(Access::Quad) => text.extend_from_slice(b"select")?,
-        Op::Store(Access::Quad) => text.extend_from_slice(b"store")?,
+        Op::Select(access) => text.extend_from_slice(access.select_name())?,
+        Op::Store(access) => text.extend_from_slice(access.store_name())?,
         Op::Declared { index, .. } => {
             if let Some(operator) = declared.get(index as usize) {
                 text.extend_from_slice(operator.name.bytes())?;

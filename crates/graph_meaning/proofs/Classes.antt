@@ -14,7 +14,7 @@ use Rattle.word_ops.specs.declared.sorts.Op.TheVariants as op
 use Rattle.word_ops.specs.declared.sorts.Sort.{Sort}
 use Rattle.word_ops.specs.declared.sorts.Sort.TheVariants as sorts
 use Rattle.graph_meaning.specs.Graphs.{constant_among, constant_of, input_register, memory_target, is_memory_name}
-use Rattle.graph_meaning.specs.WellFormed.{IsLaunchGraph, ClassHasSort, next_class, set_sort}
+use Rattle.graph_meaning.specs.WellFormed.{AreInOrder, IsLaunchGraph, ClassHasSort, TakesItsSorts, next_class, set_sort}
 use Rattle.graph_meaning.specs.declared.graphs.LaunchRow.{LaunchRow}
 use Rattle.graph_meaning.specs.declared.graphs.InputClass.{InputClass}
 use Rattle.graph_meaning.specs.declared.graphs.SetClass.{SetClass}
@@ -30,7 +30,7 @@ next_more rows i d lt =
     ∙ fold-append (λ n (r : LaunchRow). max n (r.class + 1)) 0 (take i rows) (get_or rows i d ∷ [])
 
 module _ (rows : List LaunchRow) (d : LaunchRow)
-    (classes : (i : ℕ) (r : LaunchRow) → slice_get rows i ≡ Some r → r.class ≤ next_class (take i rows)) where
+    (classes : AreInOrder rows) where
   class_at : (i : ℕ) → i < length rows → (get_or rows i d).class ≤ next_class (take i rows)
   class_at i lt = classes i (get_or rows i d) (slice_get-get_or rows i d lt)
 
@@ -51,6 +51,23 @@ module _ (rows : List LaunchRow) (d : LaunchRow)
       let low : (get_or rows i d).class ≤ next_class (take i rows) = class_at i lt in
       let few : next_class (take i rows) ≤ i = few_classes i (omega arith) in
       omega arith
+
+module _ (g : LaunchGraph) (classes : AreInOrder g.rows) where
+  rows_below : All (λ r. r.class < length g.rows) g.rows
+  rows_below k d lt = class_low g.rows d classes k lt
+
+  sorted_below : (sort : Sort) (class : ℕ) → ClassHasSort g sort class → class < length g.rows
+  sorted_below sort class h =
+      subst (λ n. n < length g.rows) (ap (λ (r : LaunchRow). r.class) h.3 ∙ h.4.0) (rows_below h.0 h.1 h.2)
+
+  pub all_below : All (TakesItsSorts g) g.rows
+      → All (λ r. (r.class < length g.rows) × All (λ c. c < length g.rows) r.operands) g.rows
+  all_below operands k d lt =
+      let r = get_or g.rows k d in (
+        rows_below k d lt,
+        All-from_get_or (λ c. c < length g.rows) r.operands 0
+            (λ at l. sorted_below (operand_sort r.op at) (slice_index r.operands at) (operands k d lt at l)),
+      )
 
 -- ---- the constant of a class
 
@@ -108,19 +125,13 @@ module _ (g : LaunchGraph) (is : IsLaunchGraph g) where
   place_of_row k r lt e = slice_get-get_or g.rows k r lt ∙ ap Some e
 
   pub rows_low : All (λ r. r.class < length g.rows) g.rows
-  rows_low k d lt = class_low g.rows d is.classes k lt
+  rows_low = rows_below g is.classes
 
   pub class_below : (sort : Sort) (class : ℕ) → ClassHasSort g sort class → class < length g.rows
-  class_below sort class h =
-      subst (λ n. n < length g.rows) (ap (λ (r : LaunchRow). r.class) h.3 ∙ h.4.0) (rows_low h.0 h.1 h.2)
+  class_below = sorted_below g is.classes
 
   pub all_low : All (λ r. (r.class < length g.rows) × All (λ c. c < length g.rows) r.operands) g.rows
-  all_low k d lt =
-      let r = get_or g.rows k d in (
-        rows_low k d lt,
-        All-from_get_or (λ c. c < length g.rows) r.operands 0
-            (λ at l. class_below (operand_sort r.op at) (slice_index r.operands at) (is.operands k d lt at l)),
-      )
+  all_low = all_below g is.classes is.operands
 
   pub own_sorts : All (λ r. ClassHasSort g (sort_of r.op) r.class) g.rows
   own_sorts k d lt =

@@ -7,3 +7,4 @@ pub mod Raises
 pub mod Gathered
 pub mod Factors
 pub mod Sound
+pub mod Known

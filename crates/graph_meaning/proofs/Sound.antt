@@ -24,12 +24,12 @@ use Rattle.graph_meaning.proofs.Values.{constant_means}
 use Rattle.graph_meaning.proofs.Shown.{at_row, few}
 use Rattle.graph_meaning.proofs.Factors.{IsTimes, Four, four, times_of, lower, product, word_times, sum_times, negative_times, and_left, and_right, or_times, xor_times, zeros_times, inverted_times, masked_times}
 
-one_times : (v : ℕ) → IsTimes 0 v
+pub one_times : (v : ℕ) → IsTimes 0 v
 one_times v = omega arith
 
 -- ---- sums
 
-add_times : (a b v w : ℕ) → b ≤ 3 → IsTimes a v → IsTimes b w → IsTimes (min a b) ((v + w) % 2 ^ 64)
+pub add_times : (a b v w : ℕ) → b ≤ 3 → IsTimes a v → IsTimes b w → IsTimes (min a b) ((v + w) % 2 ^ 64)
 add_times a b v w m h g =
     let n : min a b ≤ 3 = omega arith in
     word_times (min a b) (v + w) n
@@ -68,7 +68,7 @@ chosen : (P : ℕ → Type 0) (b : Bool) (m n : ℕ) → P m → P n → P (cond
 chosen P true m n h g = h
 chosen P false m n h g = g
 
-extended_times : (n w : ℕ) → n ≤ 3 → IsTimes n w → IsTimes n (sign_extended 16 w)
+pub extended_times : (n w : ℕ) → n ≤ 3 → IsTimes n w → IsTimes n (sign_extended 16 w)
 unfolding sign_extended
 extended_times n w l h =
     let p =
@@ -180,7 +180,7 @@ module _ (mask_bits : (mask i : ℕ) → i < 64 → bit_at (byte_mask mask) i �
   -- ---- rows that are true
 
   module _ (rows : List LaunchRow) (world : World) (value : ℕ → Value) (holds : AreTrueRows world value rows) where
-    gives : (class : ℕ) (o : Op) (xs : List ℕ) → (h : HasRow rows class o xs)
+    pub gives : (class : ℕ) (o : Op) (xs : List ℕ) → (h : HasRow rows class o xs)
         → (names : ℕ → List ℕ) × (value class ≡ meaning world names o (map value xs))
     gives class o xs h =
         let a : IsTrueRow world value h.0 = at_row (IsTrueRow world value) rows h.0 holds h.1 in (

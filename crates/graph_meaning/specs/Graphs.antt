@@ -23,6 +23,10 @@ constant_among (r ∷ rows) class =
 abbrev pub constant_of : LaunchGraph → ℕ → Option ℕ
 constant_of g class = constant_among g.rows class
 
+-- the power of 2 of which the class is known to be a multiple, by its exponent
+abbrev pub multiple_of : LaunchGraph → ℕ → ℕ
+multiple_of g class = slice_index g.multiples class
+
 -- the class has the constant 0
 abbrev pub is_zero_class : LaunchGraph → ℕ → Bool
 is_zero_class g class = option_map_or (λ n. n == 0) (constant_of g class) false

@@ -1,13 +1,16 @@
 -- Which classes of rows are multiples of 2, 4 or 8, by what their rows say: the value of such a class is one wherever
 -- the rows are true. From this project.
-use Rattle.std.specs.Prelude.{◌≡◌, ℕ, ◌+◌, ◌%◌, ◌≤◌, ◌==◌, min, max, if◌then◌else◌, List, [], ◌∷◌, Option, Some, Contains}
+use Rattle.std.specs.Prelude.{◌≡◌, ℕ, ◌+◌, ◌%◌, ◌<◌, ◌≤◌, ◌==◌, ◌&&◌, ◌||◌, nat_lt, nat_le, min, max, if◌then◌else◌, List, [], ◌∷◌, length, slice_index, Option, Some, Contains, Bool, true, false}
+use Rattle.std.specs.List.{list_any}
+use Rattle.word_ops.specs.Memory.{alignment}
 use Rattle.word_ops.specs.declared.operates.Operate.{Operate as OperateOf}
 use Rattle.word_ops.specs.declared.operates.Operate.TheVariants.{Addq, Subq, And, Bic, Bis, Xor, Zap, Zapnot, Sll, S4addq, S4subq, S8addq, S8subq, Mulq}
 use Rattle.word_ops.specs.declared.operators.WordOp.TheVariants.{Operate, Neg, Lda, Ldah}
 use Rattle.word_ops.specs.declared.sorts.Op.{Op}
-use Rattle.word_ops.specs.declared.sorts.Op.TheVariants.{Constant, Word}
-use Rattle.graph_meaning.specs.Graphs.{constant_among}
+use Rattle.word_ops.specs.declared.sorts.Op.TheVariants.{Constant, Word, Select, Store, Load, Put}
+use Rattle.graph_meaning.specs.Graphs.{constant_among, multiple_of}
 use Rattle.graph_meaning.specs.declared.graphs.LaunchRow.{LaunchRow}
+use Rattle.graph_meaning.specs.declared.graphs.LaunchGraph.{LaunchGraph}
 
 -- how many low bits of a word are 0, at most 3
 abbrev pub low_zeros : ℕ → ℕ
@@ -66,3 +69,43 @@ pub data IsShown (rows : List LaunchRow) : ℕ → ℕ → Type 0 where
 pub record IsMultiple (rows : List LaunchRow) (class n : ℕ) : Type 0 where
   pub shown : IsShown rows class n
   pub most : (m : ℕ) → IsShown rows class m → m ≤ n
+
+-- ---- of a graph
+
+-- the power of 2 of which the address of an operator's instruction has to be a multiple, by its exponent
+abbrev pub alignment_of_op : Op → ℕ
+alignment_of_op (Select access) = alignment access
+alignment_of_op (Store access) = alignment access
+alignment_of_op (Load access) = alignment access
+alignment_of_op (Put access) = alignment access
+alignment_of_op _ = 0
+
+-- for the instruction of some row not every address will do
+abbrev pub wants_multiples : List LaunchRow → Bool
+wants_multiples rows = list_any (λ r. nat_lt 0 (alignment_of_op r.op)) rows
+
+-- the multiple of each class, where rows want them; else none
+pub record AreMultiplesOf (rows : List LaunchRow) (ms : List ℕ) : Type 0 where
+  pub unwanted : wants_multiples rows ≡ false → ms ≡ []
+  pub size : wants_multiples rows ≡ true → length ms ≡ length rows
+  pub each : wants_multiples rows ≡ true → (class : ℕ) → class < length rows
+      → IsMultiple rows class (slice_index ms class)
+
+abbrev pub are_two : ℕ → ℕ → List ℕ → Bool
+are_two x y (a ∷ b ∷ []) = (a == x) && (b == y)
+are_two x y _ = false
+
+abbrev pub is_lda : Op → Bool
+is_lda (Word Lda) = true
+is_lda _ = false
+
+-- an `lda` of base x and displacement k, whose class is known to be a multiple of 2 ^ n
+abbrev pub is_sum_row : LaunchGraph → ℕ → ℕ → ℕ → LaunchRow → Bool
+is_sum_row g n x k r = is_lda r.op && are_two x k r.operands && nat_le n (multiple_of g r.class)
+
+abbrev pub has_sum_row : LaunchGraph → ℕ → ℕ → ℕ → Bool
+has_sum_row g n x k = list_any (is_sum_row g n x k) g.rows
+
+-- the sum of base x and displacement k is known to be a multiple of 2 ^ n: both are, or a class that has the sum is
+abbrev pub is_sum_multiple : LaunchGraph → ℕ → ℕ → ℕ → Bool
+is_sum_multiple g n x k = nat_le n (min (multiple_of g x) (multiple_of g k)) || has_sum_row g n x k

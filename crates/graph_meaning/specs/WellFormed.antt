@@ -9,6 +9,7 @@ use Rattle.word_ops.specs.declared.sorts.Op.TheVariants.{Declared, Input}
 use Rattle.word_ops.specs.declared.sorts.Sort.{Sort}
 use Rattle.word_ops.specs.declared.sorts.Sort.TheVariants as sort
 use Rattle.graph_meaning.specs.Graphs.{is_memory_name, HaveOwnPins}
+use Rattle.graph_meaning.specs.Multiples.{AreMultiplesOf}
 use Rattle.graph_meaning.specs.declared.graphs.LaunchRow.{LaunchRow}
 use Rattle.graph_meaning.specs.declared.graphs.LaunchGraph.{LaunchGraph}
 
@@ -54,12 +55,15 @@ set_sort name = if is_memory_name name then sort.Memory else sort.Word
 abbrev pub HaveOneName : LaunchRow → LaunchRow → ℕ → ℕ → Type 0
 HaveOneName r s m n = (m ≡ n → (r.name ≡ s.name) × (r.op ≡ s.op)) × (r.name ≡ s.name → m ≡ n)
 
+-- a class is that of an earlier row, or the next number
+abbrev pub AreInOrder : List LaunchRow → Type 0
+AreInOrder rows = (i : ℕ) (r : LaunchRow) → slice_get rows i ≡ Some r → r.class ≤ next_class (take i rows)
+
 pub record IsLaunchGraph (g : LaunchGraph) : Type 0 where
   pub few : length g.rows < 2 ^ 30
   pub arities : All (λ r. length r.operands ≡ arity_of_op r.op) g.rows
   pub distinct : AllPairs (λ r s. ¬ ((r.op ≡ s.op) × (r.operands ≡ s.operands))) g.rows
-  -- a class is that of an earlier row, or the next number
-  pub classes : (i : ℕ) (r : LaunchRow) → slice_get g.rows i ≡ Some r → r.class ≤ next_class (take i g.rows)
+  pub classes : AreInOrder g.rows
   -- the rows of a class have one sort, and at most one constant
   pub sorts : (r s : LaunchRow) (i j : ℕ) → AreRows g r s i j → r.class ≡ s.class → sort_of r.op ≡ sort_of s.op
   pub constants : (r s : LaunchRow) (i j m n : ℕ) → AreRows g r s i j → r.class ≡ s.class
@@ -74,6 +78,7 @@ pub record IsLaunchGraph (g : LaunchGraph) : Type 0 where
   pub same_name : (r s : LaunchRow) (i j m n : ℕ) → AreRows g r s i j
       → declared_index r.op ≡ Some m → declared_index s.op ≡ Some n → HaveOneName r s m n
   pub named : All (λ r. IsTrue (is_some (declared_index r.op)) → IsName r.name) g.rows
+  pub multiples : AreMultiplesOf g.rows g.multiples
   pub entry : ClassHasSort g sort.Memory g.entry
   pub inputs : All (λ i. ClassHasSort g sort.Word i.class × (i.reg < 31)) g.inputs
   pub pool : All (λ r. r < 31) g.pool

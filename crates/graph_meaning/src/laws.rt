@@ -1,13 +1,14 @@
 // What is true of each launch graph. The calls do nothing: their clauses hold of all graphs.
-ghost use Rattle.std.specs.Prelude.{◌≡◌, ◌≢◌, ◌<◌, ◌≤◌, ◌%◌, ◌^◌, ℕ, List, All, AllPairs, Any, Contains, IfSome, Some, None, length, slice_index};
+ghost use Rattle.std.specs.Prelude.{◌≡◌, ◌≢◌, ◌<◌, ◌≤◌, ◌%◌, ◌^◌, ℕ, List, All, AllPairs, Any, Contains, IfSome, Some, None, length, slice_index, true};
 ghost use Rattle.word_ops.specs.Meanings.{as_word, sort_of, constant_in};
+ghost use Rattle.word_ops.specs.Values.{lda};
 ghost use Rattle.word_ops.specs.Words.{IsWord};
 ghost use Rattle.word_ops.specs.Worlds.{Value, World, IsValue, word};
 ghost use Rattle.word_ops.specs.declared.sorts.Sort.{Sort as SortOf};
 ghost use Rattle.word_ops.specs.declared.sorts.Sort.TheVariants as sorts;
-ghost use Rattle.graph_meaning.specs.Graphs.{AreTrueRows, HaveOwnPins, IsProper, IsTrueUnder, constant_of, input_register, memory_target};
-ghost use Rattle.graph_meaning.specs.Multiples.{IsMultiple, IsShown};
-ghost use Rattle.graph_meaning.specs.WellFormed.{IsLaunchGraph, ClassHasSort};
+ghost use Rattle.graph_meaning.specs.Graphs.{AreTrueRows, HaveOwnPins, IsProper, IsTrueUnder, constant_of, input_register, memory_target, multiple_of};
+ghost use Rattle.graph_meaning.specs.Multiples.{AreMultiplesOf, IsMultiple, IsShown, is_sum_multiple};
+ghost use Rattle.graph_meaning.specs.WellFormed.{AreInOrder, IsLaunchGraph, ClassHasSort, TakesItsSorts};
 ghost use Rattle.graph_meaning.specs.declared.graphs.LaunchRow.{LaunchRow as Row};
 ghost use Rattle.graph_meaning.specs.declared.graphs.LaunchGraph.{LaunchGraph as Graph};
 
@@ -18,6 +19,9 @@ use word_ops::words_have_bits;
 pub fn graphs_are_consistent()
     ensures below { (g : Graph) → IsLaunchGraph g → All (λ r. r.class < length g.rows) g.rows }
     ensures all_below { (g : Graph) → IsLaunchGraph g
+        → All (λ r. (r.class < length g.rows) × All (λ c. c < length g.rows) r.operands) g.rows }
+    // what `known_multiples` asks of rows, before the graph has its multiples
+    ensures rows_below { (g : Graph) → AreInOrder g.rows → All (TakesItsSorts g) g.rows
         → All (λ r. (r.class < length g.rows) × All (λ c. c < length g.rows) r.operands) g.rows }
     ensures classes { (g : Graph) (sort : SortOf) (class : ℕ) → IsLaunchGraph g
         → ClassHasSort g sort class → class < length g.rows }
@@ -64,12 +68,25 @@ pub fn classes_have_values()
 {}
 
 /// Where rows are true, a class that they show to be a multiple of 2^n has a value that is one. No more than a multiple
-/// of 8 is shown, and the greatest power that is shown is one number.
+/// of 8 is shown, and the greatest power that is shown is one number. So rows have one list of multiples.
 pub fn classes_are_multiples()
     ensures shown { (rows : List Row) (world : World) (value : ℕ → Value) (class n : ℕ) → AreTrueRows world value rows
         → IsShown rows class n → as_word (value class) % 2 ^ n ≡ 0 }
     ensures few { (rows : List Row) (class n : ℕ) → IsShown rows class n → n ≤ 3 }
     ensures one { (rows : List Row) (class m n : ℕ) → IsMultiple rows class m → IsMultiple rows class n → m ≡ n }
+    ensures one_list { (rows : List Row) (ms ns : List ℕ) → AreMultiplesOf rows ms → AreMultiplesOf rows ns → ms ≡ ns }
+{
+    words_have_bits();
+}
+
+/// Where a well-formed graph is true in a world, the value of a class, and the sum of a base and a displacement, are
+/// multiples of each power of 2 of which they are known to be.
+pub fn known_multiples_are_true()
+    ensures class { (g : Graph) (world : World) (value : ℕ → Value) (class n : ℕ) → IsLaunchGraph g
+        → IsTrueUnder g world value → n ≤ multiple_of g class → as_word (value class) % 2 ^ n ≡ 0 }
+    ensures sum { (g : Graph) (world : World) (value : ℕ → Value) (n x k : ℕ) → IsLaunchGraph g
+        → IsTrueUnder g world value → is_sum_multiple g n x k ≡ true
+        → lda (as_word (value x)) (as_word (value k)) % 2 ^ n ≡ 0 }
 {
     words_have_bits();
 }

@@ -8,7 +8,9 @@
 //! is below the number of rows (`graphs_are_consistent`); where the graph is true, a class has the value of its
 //! constant and of its input, and one of its sort (`classes_have_values`); the registers of a proper graph are apart
 //! (`registers_are_apart`). `multiples` gives for each class of rows the greatest power of 2, at most 8, of which the
-//! rows show its value to be a multiple, and where the rows are true its value is one (`classes_are_multiples`).
+//! rows show its value to be a multiple, and where the rows are true its value is one (`classes_are_multiples`). A
+//! graph keeps those of its rows (`known_multiples`); where it is true, the value of a class and the sum of a base and
+//! a displacement are multiples of what is known of them (`known_multiples_are_true`).
 #![tactic(auto)]
 
 mod graphs;
@@ -20,7 +22,8 @@ mod stops;
 
 pub use graphs::{Guard, InputClass, LaunchGraph, LaunchRow, SetClass};
 pub use laws::{
-    classes_are_multiples, classes_have_values, graphs_are_consistent, registers_are_apart,
+    classes_are_multiples, classes_have_values, graphs_are_consistent, known_multiples_are_true,
+    registers_are_apart,
 };
-pub use powers::multiples;
+pub use powers::{known_multiples, multiples};
 pub use stops::Stop;

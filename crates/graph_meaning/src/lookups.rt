@@ -1,9 +1,10 @@
 // What a graph has of one class.
 ghost use Rattle.std.specs.Prelude.{◌≡◌};
 ghost use Rattle.graph_meaning.specs.Graphs as graphs;
+ghost use Rattle.graph_meaning.specs.Multiples as multiples;
 
-use crate::graphs::{LaunchGraph, SetClass};
-use word_ops::Op;
+use crate::graphs::{LaunchGraph, LaunchRow, SetClass};
+use word_ops::{Op, WordOp};
 
 impl LaunchGraph {
     /// The constant of a class, where it has one: that of its first row that is a constant. It looks at each row in
@@ -19,6 +20,43 @@ impl LaunchGraph {
             }
         }
         None
+    }
+
+    /// The greatest power of 2, at most 8, of which the rows show the class to be a multiple: its exponent. It is 0
+    /// where the graph has no row whose instruction wants multiples.
+    pub fn multiple_of(&self, class: u32) -> u8
+        ensures { result ≡ graphs.multiple_of self.now class }
+    {
+        match self.multiples.as_slice().get(class as usize) {
+            Some(power) => *power,
+            None => 0,
+        }
+    }
+
+    /// Whether the sum of a base and a displacement is known to be a multiple of 2^power. It looks at each row in turn
+    /// where what is known of the two doesn't tell.
+    pub fn is_sum_multiple(&self, power: u8, base: u32, displacement: u32) -> bool
+        ensures { result ≡ multiples.is_sum_multiple self.now power base displacement }
+    {
+        let both = self.multiple_of(base).min(self.multiple_of(displacement));
+        power <= both || self.has_sum_row(power, base, displacement)
+    }
+
+    fn has_sum_row(&self, power: u8, base: u32, displacement: u32) -> bool
+        ensures { result ≡ multiples.has_sum_row self.now power base displacement }
+    {
+        self.rows
+            .as_slice()
+            .iter()
+            .any(|row| self.is_sum_row(power, base, displacement, row))
+    }
+
+    fn is_sum_row(&self, power: u8, base: u32, displacement: u32, row: &LaunchRow) -> bool
+        ensures { result ≡ multiples.is_sum_row self.now power base displacement row.now }
+    {
+        is_lda(row.op)
+            && are_two(row.operands.as_slice(), base, displacement)
+            && power <= self.multiple_of(row.class)
     }
 
     /// The register of the first input of a class, 0 to 30 where the graph is well formed. It looks at each input in
@@ -64,6 +102,24 @@ impl LaunchGraph {
             }
         }
         self.entry
+    }
+}
+
+fn is_lda(op: Op) -> bool
+    ensures { result ≡ multiples.is_lda op }
+{
+    match op {
+        Op::Word(WordOp::Lda) => true,
+        _ => false,
+    }
+}
+
+fn are_two(operands: &[u32], x: u32, y: u32) -> bool
+    ensures { result ≡ multiples.are_two x y operands.now }
+{
+    match operands {
+        [a, b] => *a == x && *b == y,
+        _ => false,
     }
 }
 

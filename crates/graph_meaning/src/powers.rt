@@ -8,13 +8,13 @@ ghost use Rattle.std.specs.Option.{option_map_or, option_or};
 ghost use Rattle.word_ops.specs.Meanings.{constant_in};
 ghost use Rattle.graph_meaning.specs.Graphs.{constant_among};
 ghost use Rattle.graph_meaning.specs.Multiples as shown;
-ghost use Rattle.graph_meaning.specs.Multiples.{IsMultiple, IsShown};
+ghost use Rattle.graph_meaning.specs.Multiples.{AreMultiplesOf, IsMultiple, IsShown};
 ghost use Rattle.graph_meaning.specs.Raising as raising;
 ghost use Rattle.graph_meaning.specs.Raising.{AreConstants, AreFollowed, AreRaises, AreUses, IsBelow, IsFollowed, IsMasked, IsRaised, IsSeen, IsState};
 ghost use Rattle.graph_meaning.specs.declared.graphs.LaunchRow.{LaunchRow as Row};
 
 use crate::graphs::LaunchRow;
-use crate::row_rules::{low_ones, said};
+use crate::row_rules::{alignment_of_op, low_ones, said};
 use items::{Items, NoMemory};
 use std::alloc::Global;
 use word_ops::{Op, Operate, WordOp};
@@ -37,6 +37,26 @@ pub fn multiples(alloc: Global, rows: &[LaunchRow], classes: usize) -> Result<It
     look_at_all(&mut powers, &mut queue, rows, &constants)?;
     follow_queue(&mut powers, &mut queue, rows, &constants, &uses)?;
     Ok(Items::from(powers))
+}
+
+/// The multiples of a graph with these rows: as `multiples` gives them where the instruction of some row doesn't take
+/// every address, else none.
+pub fn known_multiples(alloc: Global, rows: &[LaunchRow]) -> Result<Items<u8>, NoMemory>
+    requires few_rows { length rows.now < 2 ^ 30 }
+    requires below { All (λ r. (r.class < length rows.now) × All (λ c. c < length rows.now) r.operands) rows.now }
+    ensures { IfOk result (λ powers. AreMultiplesOf rows.now powers) }
+{
+    if !wants_multiples(rows) {
+        return Ok(Items::new(alloc));
+    }
+    multiples(alloc, rows, rows.len())
+}
+
+/// Whether for the instruction of some row not every address will do.
+fn wants_multiples(rows: &[LaunchRow]) -> bool
+    ensures { result ≡ shown.wants_multiples rows.now }
+{
+    rows.iter().any(|row| alignment_of_op(row.op) > 0)
 }
 
 /// The constant of each class.

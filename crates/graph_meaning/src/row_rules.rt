@@ -133,3 +133,15 @@ fn shifted(a: u8, distance: u64) -> u8
     let distance = (distance % 64) as u8;
     (a + distance).min(3)
 }
+
+/// The power of 2 of which the address of an operator's instruction has to be a multiple: its exponent, 0 to 2.
+pub(crate) fn alignment_of_op(op: Op) -> u8
+    ensures { result ≡ shown.alignment_of_op op }
+{
+    match op {
+        Op::Select(access) | Op::Store(access) | Op::Load(access) | Op::Put(access) => {
+            access.alignment()
+        }
+        _ => 0,
+    }
+}

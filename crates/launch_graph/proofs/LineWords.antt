@@ -3,12 +3,13 @@ use Rattle.std.proofs.Common.{◌≡◌, ℕ, zero, suc, ◌<◌, ◌≤◌, ◌
 use Rattle.std.specs.Prelude.{All, IfSome, IsTrue, is_some, slice_get}
 use Rattle.std.proofs.lemmas.List.Elements.{All-nil, All-cons, All-append, All-map, All-weaker}
 use Rattle.std.proofs.lemmas.Option.{slice_get-get_or}
-use Rattle.word_ops.specs.Names.{name_of}
+use Rattle.word_ops.specs.Names.{name_of, select_name, store_name, load_name, put_name}
 use Rattle.word_ops.specs.Meanings.{constant_in}
 use Rattle.word_ops.specs.declared.operators.WordOp.{WordOp}
 use Rattle.word_ops.specs.declared.operates.Operate.TheVariants.{Addl}
 use Rattle.word_ops.specs.declared.operators.WordOp.TheVariants.{Operate}
-use Rattle.word_ops.specs.declared.sorts.Access.TheVariants.{Quad}
+use Rattle.word_ops.specs.declared.sorts.Access.{Access}
+use Rattle.word_ops.specs.declared.sorts.Access.TheVariants as accesses
 use Rattle.word_ops.specs.declared.sorts.Op.{Op}
 use Rattle.word_ops.specs.declared.sorts.Op.TheVariants as op
 use Rattle.word_ops.specs.declared.sorts.Sort.{Sort}
@@ -33,6 +34,30 @@ pub operator_word : (op : WordOp) → IsLineWord (name_of op)
 operator_word (Operate Addl) = record { some = λ e. cc; printed = refl }
 operator_word (Operate _) = record { some = λ e. cc; printed = refl }
 operator_word _ = record { some = λ e. cc; printed = refl }
+
+select_word : (access : Access) → IsLineWord (select_name access)
+select_word accesses.Quad = record { some = λ e. cc; printed = refl }
+select_word accesses.Byte = record { some = λ e. cc; printed = refl }
+select_word accesses.Word = record { some = λ e. cc; printed = refl }
+select_word accesses.Long = record { some = λ e. cc; printed = refl }
+
+store_word : (access : Access) → IsLineWord (store_name access)
+store_word accesses.Quad = record { some = λ e. cc; printed = refl }
+store_word accesses.Byte = record { some = λ e. cc; printed = refl }
+store_word accesses.Word = record { some = λ e. cc; printed = refl }
+store_word accesses.Long = record { some = λ e. cc; printed = refl }
+
+load_word : (access : Access) → IsLineWord (load_name access)
+load_word accesses.Quad = record { some = λ e. cc; printed = refl }
+load_word accesses.Byte = record { some = λ e. cc; printed = refl }
+load_word accesses.Word = record { some = λ e. cc; printed = refl }
+load_word accesses.Long = record { some = λ e. cc; printed = refl }
+
+put_word : (access : Access) → IsLineWord (put_name access)
+put_word accesses.Quad = record { some = λ e. cc; printed = refl }
+put_word accesses.Byte = record { some = λ e. cc; printed = refl }
+put_word accesses.Word = record { some = λ e. cc; printed = refl }
+put_word accesses.Long = record { some = λ e. cc; printed = refl }
 
 op_row : (o : Op) (name : List ℕ) → ((n : ℕ) → register_of_input o ≡ Some n → n < 31) → ((n : ℕ) → constant_in o ≡ Some n → n < 2 ^ 64)
     → (IsTrue (is_some (declared_index o)) → IsName name) → IsLineOp (said_op o name)
@@ -162,10 +187,10 @@ module _ (g : LaunchGraph) (is : IsLaunchGraph g) where
     op_line (op.Input r) bytes h = two_words (codes "input") (decimal r) (record { some = λ e. cc; printed = refl }) (number r (omega arith))
     op_line (op.Constant n) bytes h = two_words (codes "const") (decimal n) (record { some = λ e. cc; printed = refl }) (number n h)
     op_line (op.Word o) bytes h = one_word (name_of o) (operator_word o)
-    op_line (op.Select Quad) bytes h = one_word (codes "select") (record { some = λ e. cc; printed = refl })
-    op_line (op.Store Quad) bytes h = one_word (codes "store") (record { some = λ e. cc; printed = refl })
-    op_line (op.Load Quad) bytes h = one_word (codes "load") (record { some = λ e. cc; printed = refl })
-    op_line (op.Put Quad) bytes h = one_word (codes "put") (record { some = λ e. cc; printed = refl })
+    op_line (op.Select access) bytes h = one_word (select_name access) (select_word access)
+    op_line (op.Store access) bytes h = one_word (store_name access) (store_word access)
+    op_line (op.Load access) bytes h = one_word (load_name access) (load_word access)
+    op_line (op.Put access) bytes h = one_word (put_name access) (put_word access)
     op_line (op.Declared i a) bytes h = two_words (codes "use") bytes (record { some = λ e. cc; printed = refl }) (name bytes h)
 
     row_line : (r : LaunchRow) → SaysRow r → CanBeLine (row_words (said_row r))

@@ -27,7 +27,8 @@ use Rattle.launch_graph.specs.Numbering.{AreNumbered}
 use Rattle.graph_meaning.specs.declared.graphs.InputClass.{InputClass}
 use Rattle.graph_meaning.specs.declared.graphs.Guard.{Guard}
 use Rattle.graph_meaning.specs.declared.graphs.SetClass.{SetClass}
-use Rattle.graph_meaning.specs.WellFormed.{IsLaunchGraph, ClassHasSort, next_class, next_index, declared_index, register_of_input, TakesItsSorts, AreRows, HaveOneName, set_sort}
+use Rattle.graph_meaning.specs.Multiples.{AreMultiplesOf}
+use Rattle.graph_meaning.specs.WellFormed.{AreInOrder, IsLaunchGraph, ClassHasSort, next_class, next_index, declared_index, register_of_input, TakesItsSorts, AreRows, HaveOneName, set_sort}
 use Rattle.launch_graph.proofs.GoodGraphs.{said_given, said_taken, said_constant, map_take, map_get, any_launch}
 use Rattle.launch_graph.proofs.GoodRows.{next_said, sort_said}
 use Rattle.graph_meaning.proofs.Lists.{any_nil, any_here, any_there, any_cases, number_itself}
@@ -293,28 +294,35 @@ module _ (g : LaunchGraph) (used : List UsedName) (keys : List RowKey) (h : AreN
       let few : length used ≤ 16 = h.few in
       (a.next_is, omega arith)
 
-  -- with right classes on the other lines, the graph is well formed
-  pub made_graph : length g.rows ≤ 1000000 → ClassHasSort g sorts.Memory g.entry
+  pub in_order : AreInOrder g.rows
+  in_order i r at = class_near i r at
+
+  pub all_take_sorts : All (TakesItsSorts g) g.rows
+  all_take_sorts k d lt = takes_sorts k (get_or g.rows k d) (at_place k d lt)
+
+  -- with the multiples of its rows, and right classes on the other lines, the graph is well formed
+  pub made_graph : length g.rows ≤ 1000000 → AreMultiplesOf g.rows g.multiples → ClassHasSort g sorts.Memory g.entry
       → All (λ (i : InputClass). ClassHasSort g sorts.Word i.class × (i.reg < 31)) g.inputs → All (λ r. r < 31) g.pool
       → IfSome g.guard (λ (o : Guard). ClassHasSort g sorts.Word o.class) → All (λ (s : SetClass). ClassHasSort g (set_sort s.name) s.class) g.sets
       → All (λ (i : InputClass). IsName i.name) g.inputs → All (λ (s : SetClass). IsName s.name) g.sets
       → All (λ (s : SetClass). IfSome s.pin (λ r. r < 31)) g.sets → HaveOwnPins g.sets → All (λ (s : SetClass). IsTrue (is_memory_name s.name) → s.pin ≡ None) g.sets → IsLaunchGraph g
-  made_graph few entry inputs pool guard sets input_names set_names pins own_pins memory_unpinned =
+  made_graph few multiples entry inputs pool guard sets input_names set_names pins own_pins memory_unpinned =
       record {
         few = omega arith;
         arities = h.arities;
         distinct = λ i j d low lt same.
             apart_from j (get_or g.rows j d) (at_place j d lt) i (get_or g.rows i d) (at_place i d (omega arith)) low same;
-        classes = λ i r at. class_near i r at;
+        classes = in_order;
         sorts = λ r s i j are same. same_Some (sort_of r.op) (sort_of s.op) (sym (sort_here i r are.0) ∙ ap (class_sort all) same ∙ sort_here j s are.1);
         constants = constants_agree;
         words = λ r i m at e. fits_word r.op r.name m (fits_here i r at) e;
         registers = λ r i n at e. fits_register r.op r.name n (fits_here i r at) e;
-        operands = λ k d lt. takes_sorts k (get_or g.rows k d) (at_place k d lt);
+        operands = all_take_sorts;
         indexes = numbers_low;
         unnamed = h.unnamed;
         same_name = names_agree;
         named = λ k d lt t. fits_name (get_or g.rows k d).op (get_or g.rows k d).name (fits_here k (get_or g.rows k d) (at_place k d lt)) t;
+        multiples = multiples;
         entry = entry;
         inputs = inputs;
         pool = pool;

@@ -30,6 +30,7 @@ use Rattle.launch_graph.specs.GraphStages.{InputFits, Low, GuardFits}
 use Rattle.launch_graph.specs.declared.row_lines.LineOp.TheVariants.{Use}
 use Rattle.launch_graph.specs.LineFaults.{AreRowLines}
 use Rattle.launch_graph.specs.RowFaults.{names_used, ops_of}
+use Rattle.graph_meaning.specs.Multiples.{AreMultiplesOf}
 use Rattle.graph_meaning.specs.WellFormed.{IsLaunchGraph, declared_index}
 use Rattle.launch_graph.proofs.Blocks.{rows_once, each_lines}
 use Rattle.launch_graph.proofs.ClassLines.{begin_same, head_same, rest_same}
@@ -249,15 +250,43 @@ module _ (g h : LaunchGraph) (is : IsLaunchGraph g) (also : IsLaunchGraph h) (e 
   pub rows_alike : g.rows ≡ h.rows
   rows_alike = same_lists g.rows h.rows any_launch sizes row_alike
 
-graph_of : List LaunchRow → ℕ → List InputClass → List ℕ → Option Guard → List SetClass → LaunchGraph
-graph_of rows entry inputs pool guard sets = record { rows = rows; entry = entry; inputs = inputs; pool = pool; guard = guard; sets = sets }
+graph_of : List LaunchRow → List ℕ → ℕ → List InputClass → List ℕ → Option Guard → List SetClass → LaunchGraph
+graph_of rows multiples entry inputs pool guard sets =
+    record {
+      rows = rows;
+      multiples = multiples;
+      entry = entry;
+      inputs = inputs;
+      pool = pool;
+      guard = guard;
+      sets = sets;
+    }
 
-pub same_graph : (g h : LaunchGraph) → g.rows ≡ h.rows → g.entry ≡ h.entry → g.inputs ≡ h.inputs → g.pool ≡ h.pool → g.guard ≡ h.guard → g.sets ≡ h.sets → g ≡ h
+-- rows have one list of multiples
+abbrev pub HaveOneList : Type 0
+HaveOneList = (rows : List LaunchRow) (ms ns : List ℕ) → AreMultiplesOf rows ms → AreMultiplesOf rows ns → ms ≡ ns
+
+multiples_alike : HaveOneList → (g h : LaunchGraph) → IsLaunchGraph g → IsLaunchGraph h → g.rows ≡ h.rows
+    → g.multiples ≡ h.multiples
+multiples_alike lists g h is also same =
+    lists h.rows g.multiples h.multiples (subst (λ rows. AreMultiplesOf rows g.multiples) same is.multiples)
+    also.multiples
+
+by_parts : (g h : LaunchGraph) → g.rows ≡ h.rows → g.multiples ≡ h.multiples → g.entry ≡ h.entry
+    → g.inputs ≡ h.inputs → g.pool ≡ h.pool → g.guard ≡ h.guard → g.sets ≡ h.sets → g ≡ h
 unfolding graph_of
-same_graph g h a b c d e f =
-    ap (λ x. graph_of x g.entry g.inputs g.pool g.guard g.sets) a ∙ ap (λ x. graph_of h.rows x g.inputs g.pool g.guard g.sets) b
-    ∙ ap (λ x. graph_of h.rows h.entry x g.pool g.guard g.sets) c ∙ ap (λ x. graph_of h.rows h.entry h.inputs x g.guard g.sets) d
-    ∙ ap (λ x. graph_of h.rows h.entry h.inputs h.pool x g.sets) e ∙ ap (λ x. graph_of h.rows h.entry h.inputs h.pool h.guard x) f
+by_parts g h a m b c d e f =
+    ap (λ x. graph_of x g.multiples g.entry g.inputs g.pool g.guard g.sets) a
+    ∙ ap (λ x. graph_of h.rows x g.entry g.inputs g.pool g.guard g.sets) m
+    ∙ ap (λ x. graph_of h.rows h.multiples x g.inputs g.pool g.guard g.sets) b
+    ∙ ap (λ x. graph_of h.rows h.multiples h.entry x g.pool g.guard g.sets) c
+    ∙ ap (λ x. graph_of h.rows h.multiples h.entry h.inputs x g.guard g.sets) d
+    ∙ ap (λ x. graph_of h.rows h.multiples h.entry h.inputs h.pool x g.sets) e
+    ∙ ap (λ x. graph_of h.rows h.multiples h.entry h.inputs h.pool h.guard x) f
+
+pub same_graph : HaveOneList → (g h : LaunchGraph) → IsLaunchGraph g → IsLaunchGraph h → g.rows ≡ h.rows
+    → g.entry ≡ h.entry → g.inputs ≡ h.inputs → g.pool ≡ h.pool → g.guard ≡ h.guard → g.sets ≡ h.sets → g ≡ h
+same_graph lists g h is also a b c d e f = by_parts g h a (multiples_alike lists g h is also a) b c d e f
 
 one_count : (a b : ℕ) (words : Words) → a ≤ 1000000 → b ≤ 1000000 → words ≡ rows_words a → words ≡ rows_words b → a ≡ b
 one_count a b words la lb e f =
@@ -273,7 +302,8 @@ words_count : (ls : List Line) → length (words_of_lines ls) ≡ length ls
 words_count [] = refl
 words_count (l ∷ ls) = ap suc (words_count ls)
 
-module _ {version : ℕ} (names : (o p : WordOp) → name_of o ≡ name_of p → o ≡ p) (lines : List Line) (from : ℕ) where
+module _ {version : ℕ} (names : (o p : WordOp) → name_of o ≡ name_of p → o ≡ p) (lists : HaveOneList)
+    (lines : List Line) (from : ℕ) where
   module _ (n m : ℕ) (g h : LaunchGraph) (p : IsGraphOf version lines from n g) (q : IsGraphOf version lines from m h) where
     abbrev count : ℕ
     count = length (map said_row g.rows)
@@ -323,5 +353,8 @@ module _ {version : ℕ} (names : (o p : WordOp) → name_of o ≡ name_of p →
         let x : length (drop n lines) ≡ length lines - n = length-drop n lines in
         let y : length (drop m lines) ≡ length lines - m = length-drop m lines in
         let wn : n ≤ length lines = p.within in
-        let wm : m ≤ length lines = q.within in
-        (omega arith, same_graph g h (rows_alike g h p.well_formed q.well_formed same_rows) entries second.0 second.1 third.0 third.1)
+        let wm : m ≤ length lines = q.within in (
+          omega arith,
+          same_graph lists g h p.well_formed q.well_formed (rows_alike g h p.well_formed q.well_formed same_rows)
+              entries second.0 second.1 third.0 third.1,
+        )

@@ -8,7 +8,7 @@ use Rattle.word_ops.specs.Names.{name_of}
 use Rattle.word_ops.specs.declared.operators.WordOp.{WordOp}
 use Rattle.word_ops.specs.declared.operates.Operate.TheVariants.{Addl}
 use Rattle.word_ops.specs.declared.operators.WordOp.TheVariants.{Operate, Neg}
-use Rattle.word_ops.specs.declared.sorts.Access.TheVariants.{Quad}
+use Rattle.word_ops.specs.declared.sorts.Access.TheVariants as accesses
 use Rattle.word_ops.specs.declared.sorts.Arity.TheVariants.{One}
 use Rattle.word_ops.specs.declared.sorts.Op.{Op}
 use Rattle.word_ops.specs.declared.sorts.Op.TheVariants.{Entry, Input, Constant, Word, Select, Store, Load, Put, Declared}
@@ -50,7 +50,10 @@ bare o = o
 -- an operator for each word that isn't the name of an operator on words
 listed : List Op
 listed =
-    Entry ∷ Input 0 ∷ Constant 0 ∷ Select Quad ∷ Store Quad ∷ Load Quad ∷ Put Quad ∷ Declared 0 One ∷ []
+    Entry ∷ Input 0 ∷ Constant 0 ∷ Select accesses.Quad ∷ Store accesses.Quad ∷ Load accesses.Quad
+    ∷ Put accesses.Quad ∷ Select accesses.Byte ∷ Select accesses.Word ∷ Select accesses.Long ∷ Store accesses.Byte
+    ∷ Store accesses.Word ∷ Store accesses.Long ∷ Load accesses.Byte ∷ Load accesses.Word ∷ Load accesses.Long
+    ∷ Put accesses.Byte ∷ Put accesses.Word ∷ Put accesses.Long ∷ Declared 0 One ∷ []
 
 named : List ℕ → Op
 named word = unwrap_or (find (λ o. bytes_eq (op_word o) word) listed) (Word Neg)
@@ -60,10 +63,22 @@ unfolding listed named
 named_back (Word (Operate Addl)) = refl
 named_back (Word (Operate _)) = refl
 named_back (Word _) = refl
-named_back (Select Quad) = refl
-named_back (Store Quad) = refl
-named_back (Load Quad) = refl
-named_back (Put Quad) = refl
+named_back (Select accesses.Quad) = refl
+named_back (Select accesses.Byte) = refl
+named_back (Select accesses.Word) = refl
+named_back (Select accesses.Long) = refl
+named_back (Store accesses.Quad) = refl
+named_back (Store accesses.Byte) = refl
+named_back (Store accesses.Word) = refl
+named_back (Store accesses.Long) = refl
+named_back (Load accesses.Quad) = refl
+named_back (Load accesses.Byte) = refl
+named_back (Load accesses.Word) = refl
+named_back (Load accesses.Long) = refl
+named_back (Put accesses.Quad) = refl
+named_back (Put accesses.Byte) = refl
+named_back (Put accesses.Word) = refl
+named_back (Put accesses.Long) = refl
 named_back _ = refl
 
 same_bare : (o p : Op) → op_word o ≡ op_word p → bare o ≡ bare p

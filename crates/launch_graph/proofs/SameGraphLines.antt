@@ -14,7 +14,7 @@ use Rattle.launch_graph.specs.RowLines.{IsRowLine, row_words}
 use Rattle.graph_meaning.specs.WellFormed.{IsLaunchGraph}
 use Rattle.launch_graph.proofs.ClassLines.{head_same, rest_same}
 use Rattle.launch_graph.proofs.LineWords.{entry_fits, guard_fits, inputs_fit, rows_fit, sets_low}
-use Rattle.launch_graph.proofs.OneGraph.{rows_alike, same_graph, same_inputs, same_targets}
+use Rattle.launch_graph.proofs.OneGraph.{HaveOneList, rows_alike, same_graph, same_inputs, same_targets}
 use Rattle.launch_graph.proofs.OneRow.{one_row_line}
 use Rattle.launch_graph.proofs.Printed.{map_count}
 use Rattle.launch_graph.proofs.WholeGraphs.{cons_same}
@@ -44,8 +44,8 @@ module _ (names : (o p : WordOp) → name_of o ≡ name_of p → o ≡ p) where
       (subst (λ ws. IsRowLine ws q) (sym both.0) (All-head Says q qs b)) in
       (ap (λ z. z ∷ rs) said_once ∙ ap (λ zs. q ∷ zs) rest.0, rest.1)
 
-  module _ (g h : LaunchGraph) (is : IsLaunchGraph g) (also : IsLaunchGraph h) (behind other : List Words)
-      (ends : EndsGraph behind) (stops : EndsGraph other)
+  module _ (lists : HaveOneList) (g h : LaunchGraph) (is : IsLaunchGraph g) (also : IsLaunchGraph h)
+      (behind other : List Words) (ends : EndsGraph behind) (stops : EndsGraph other)
       (same : graph_lines (said g) ++ behind ≡ graph_lines (said h) ++ other) where
     abbrev after : LaunchGraph → List Words → List Words
     after k rest =
@@ -92,4 +92,5 @@ module _ (names : (o p : WordOp) → name_of o ≡ name_of p → o ≡ p) where
         decimal_injective g.entry h.entry (omega arith) (omega arith)
         (head_same (decimal g.entry) (decimal h.entry) [] []
         (rest_same (codes "entry") (codes "entry") (decimal g.entry ∷ []) (decimal h.entry ∷ []) first.0)) in
-        (same_graph g h (rows_alike g h is also rows.0) entries second.0 second.1 third.0 third.1, third.2)
+        let same_rows = rows_alike g h is also rows.0 in
+        (same_graph lists g h is also same_rows entries second.0 second.1 third.0 third.1, third.2)

@@ -15,6 +15,7 @@ use Rattle.graph_meaning.specs.declared.graphs.InputClass.{InputClass}
 use Rattle.graph_meaning.specs.declared.graphs.Guard.{Guard}
 use Rattle.graph_meaning.specs.declared.graphs.SetClass.{SetClass}
 use Rattle.graph_meaning.specs.declared.graphs.LaunchGraph.{LaunchGraph}
+use Rattle.graph_meaning.specs.declared.graphs.LaunchRow.{LaunchRow}
 use Rattle.launch_graph.specs.declared.row_lines.RowLine.{RowLine}
 use Rattle.launch_graph.specs.declared.rows_reading.RowsSoFar.{RowsSoFar}
 use Rattle.launch_graph.specs.BehindRows.{IsRight, IsCleanBehindRows, IsReadBehind}
@@ -29,11 +30,12 @@ use Rattle.launch_graph.specs.Readings.{IsHeaderAt, IsBlockEnd}
 use Rattle.launch_graph.specs.RowFaults.{IsWrongClass}
 use Rattle.launch_graph.specs.RowLines.{row_words}
 use Rattle.launch_graph.specs.RowsRead.{AreRowsTo, IsBlockFrom, HasRead}
-use Rattle.graph_meaning.specs.WellFormed.{IsLaunchGraph, ClassHasSort, set_sort}
+use Rattle.graph_meaning.specs.Multiples.{AreMultiplesOf}
+use Rattle.graph_meaning.specs.WellFormed.{AreInOrder, IsLaunchGraph, TakesItsSorts, ClassHasSort, set_sort}
 use Rattle.launch_graph.proofs.SetLines.{set_low}
 use Rattle.launch_graph.proofs.Between.{between_split, between_first}
 use Rattle.launch_graph.proofs.GraphRuns.{row_itself}
-use Rattle.launch_graph.proofs.MadeGraphs.{right_class, made_graph}
+use Rattle.launch_graph.proofs.MadeGraphs.{all_take_sorts, in_order, right_class, made_graph}
 use Rattle.launch_graph.proofs.Printed.{map_count}
 use Rattle.launch_graph.proofs.RowsStart.{rows_end}
 
@@ -110,14 +112,34 @@ each_fits [] (r ∷ rs) h = elim h [ ]
 each_fits (l ∷ ls) [] h = elim h [ ]
 each_fits (l ∷ ls) (r ∷ rs) (row is more) = All-cons RowFits r rs (row_itself l.words r is) (each_fits ls rs more)
 
-abbrev pub graph_of : RowsSoFar → BehindRows → LaunchGraph
-graph_of so b = record { rows = so.rows; entry = b.entry; inputs = b.inputs; pool = b.pool; guard = b.guard; sets = b.sets }
+abbrev pub graph_of : RowsSoFar → List ℕ → BehindRows → LaunchGraph
+graph_of so ms b =
+    record {
+      rows = so.rows;
+      multiples = ms;
+      entry = b.entry;
+      inputs = b.inputs;
+      pool = b.pool;
+      guard = b.guard;
+      sets = b.sets;
+    }
 
-module _ {version : ℕ} (lines : List Line) (from at next : ℕ) (marks : List Mark) (so : RowsSoFar) (b : BehindRows)
-    (a : AreRowsTo version lines from (map said_row so.rows) (map said_row so.rows) marks at so) (full : length so.rows ≡ length marks)
-    (h : IsReadBehind version lines marks at next b) where
+-- what the finding of multiples asks of rows
+pub record CanHaveMultiples (rows : List LaunchRow) : Type 0 where
+  pub few : length rows < 2 ^ 30
+  pub below : All (λ r. (r.class < length rows) × All (λ c. c < length rows) r.operands) rows
+
+-- rows in order that take their sorts have classes below their number
+abbrev pub OrderedAreBelow : Type 0
+OrderedAreBelow =
+    (g : LaunchGraph) → AreInOrder g.rows → All (TakesItsSorts g) g.rows
+    → All (λ r. (r.class < length g.rows) × All (λ c. c < length g.rows) r.operands) g.rows
+
+module _ {version : ℕ} (lines : List Line) (from at next : ℕ) (marks : List Mark) (so : RowsSoFar) (ms : List ℕ)
+    (b : BehindRows) (a : AreRowsTo version lines from (map said_row so.rows) (map said_row so.rows) marks at so)
+    (full : length so.rows ≡ length marks) where
   abbrev g : LaunchGraph
-  g = graph_of so b
+  g = graph_of so ms b
 
   abbrev all : List RowLine
   all = map said_row so.rows
@@ -142,77 +164,99 @@ module _ {version : ℕ} (lines : List Line) (from at next : ℕ) (marks : List 
   both : {X : Type 0} (P Q R : X → Type 0) (xs : List X) → All P xs → All Q xs → ((x : X) → P x → Q x → R x) → All R xs
   both P Q R xs p q r = λ k d lt. r (get_or xs k d) (p k d lt) (q k d lt)
 
-  guard_has : (o : Option Guard) → IfSome o (λ (o : Guard). (o.class < 2 ^ 31) × IsRight marks sorts.Word o.class)
-      → IfSome o (λ (o : Guard). ClassHasSort g sorts.Word o.class)
-  guard_has None i = tt
-  guard_has (Some o) i = has sorts.Word o.class i.1
-
-  guard_small : (o : Option Guard) → IfSome o (λ (o : Guard). (o.class < 2 ^ 31) × IsRight marks sorts.Word o.class)
-      → IfSome o (λ (o : Guard). o.class < 2 ^ 31)
-  guard_small None i = tt
-  guard_small (Some o) i = i.0
-
-  well_formed : IsLaunchGraph g
-  well_formed =
-      made_graph g so.used so.index a.numbered fit good few (has sorts.Memory b.entry h.entry.1)
-      (both InputFits (λ (i : InputClass). IsRight marks sorts.Word i.class) (λ (i : InputClass). ClassHasSort g sorts.Word i.class × (i.reg < 31)) b.inputs
-      h.inputs.0 h.inputs.1 (λ i f r. (has sorts.Word i.class r, f.1)))
-      h.pool (guard_has b.guard h.guard)
-      (both (SetFits version) (λ (s : SetClass). IsRight marks (set_sort s.name) s.class) (λ (s : SetClass). ClassHasSort g (set_sort s.name) s.class) b.sets
-      h.sets.0 h.sets.1 (λ s f r. has (set_sort s.name) s.class r))
-      (λ k d lt. (h.inputs.0 k d lt).0) (λ k d lt. (h.sets.0 k d lt).0) (λ k d lt. (set_low version (get_or b.sets k d) (h.sets.0 k d lt)).2) h.own_pins (λ k d lt. (h.sets.0 k d lt).3)
-
-  are_lines : AreGraphLines version (said g)
-  are_lines =
+  pub can_have : OrderedAreBelow → CanHaveMultiples so.rows
+  can_have ordered =
       record {
-        few = omega (arith, few, counted);
-        rows = fit;
-        entry = h.entry.0;
-        inputs = h.inputs.0;
-        pool = h.pool;
-        guard = guard_small b.guard h.guard;
-        sets = h.sets.0;
-        own_pins = h.own_pins;
+        few = omega (arith, few);
+        below =
+            ordered g (in_order g so.used so.index a.numbered fit good)
+            (all_take_sorts g so.used so.index a.numbered fit good);
       }
 
-  row_lines : words_between lines (from + 1) at ≡ map row_words all
-  row_lines =
-      let p : at ≡ from + 1 + length all = a.place_is in
-      ap (λ n. words_of_lines (take n (drop (from + 1) lines))) (let e : at - (from + 1) ≡ length all = omega arith in e)
-      ∙ each_words (take (length all) (drop (from + 1) lines)) all a.clean.each
+  module _ (multiples : AreMultiplesOf so.rows ms) (h : IsReadBehind version lines marks at next b) where
+    guard_has : (o : Option Guard) → IfSome o (λ (o : Guard). (o.class < 2 ^ 31) × IsRight marks sorts.Word o.class)
+        → IfSome o (λ (o : Guard). ClassHasSort g sorts.Word o.class)
+    guard_has None i = tt
+    guard_has (Some o) i = has sorts.Word o.class i.1
 
-  whole : words_between lines from next ≡ graph_lines (said g)
-  whole =
-      let p : at ≡ from + 1 + length all = a.place_is in
-      let o : at ≤ next = h.order in
-      between_first lines from next (omega arith) a.clean.low
-      ∙ ap (λ (w : Words). w ∷ words_between lines (from + 1) next)
-      (a.clean.header_is ∙ ap rows_words (let e : length marks ≡ length all = omega (arith, full, counted) in e))
-      ∙ ap (λ (ws : List Words). rows_words (length all) ∷ ws)
-      (between_split lines (from + 1) at next (omega arith) h.order
-      ∙ ap (λ (ws : List Words). ws ++ words_between lines at next) row_lines
-      ∙ ap (λ (ws : List Words). map row_words all ++ ws) h.words)
+    guard_small : (o : Option Guard) → IfSome o (λ (o : Guard). (o.class < 2 ^ 31) × IsRight marks sorts.Word o.class)
+        → IfSome o (λ (o : Guard). o.class < 2 ^ 31)
+    guard_small None i = tt
+    guard_small (Some o) i = i.0
 
-  pub graph_read : IsGraphOf version lines from next g
-  graph_read =
-      record {
-        order = (let p : at ≡ from + 1 + length all = a.place_is in let o : at ≤ next = h.order in omega arith);
-        within = h.within;
-        well_formed = well_formed;
-        are = are_lines;
-        is = whole;
-        ends = h.ends;
-      }
+    well_formed : IsLaunchGraph g
+    well_formed =
+        made_graph g so.used so.index a.numbered fit good few multiples (has sorts.Memory b.entry h.entry.1)
+        (both InputFits (λ (i : InputClass). IsRight marks sorts.Word i.class) (λ (i : InputClass). ClassHasSort g sorts.Word i.class × (i.reg < 31)) b.inputs
+        h.inputs.0 h.inputs.1 (λ i f r. (has sorts.Word i.class r, f.1)))
+        h.pool (guard_has b.guard h.guard)
+        (both (SetFits version) (λ (s : SetClass). IsRight marks (set_sort s.name) s.class) (λ (s : SetClass). ClassHasSort g (set_sort s.name) s.class) b.sets
+        h.sets.0 h.sets.1 (λ s f r. has (set_sort s.name) s.class r))
+        (λ k d lt. (h.inputs.0 k d lt).0) (λ k d lt. (h.sets.0 k d lt).0) (λ k d lt. (set_low version (get_or b.sets k d) (h.sets.0 k d lt)).2) h.own_pins (λ k d lt. (h.sets.0 k d lt).3)
+
+    are_lines : AreGraphLines version (said g)
+    are_lines =
+        record {
+          few = omega (arith, few, counted);
+          rows = fit;
+          entry = h.entry.0;
+          inputs = h.inputs.0;
+          pool = h.pool;
+          guard = guard_small b.guard h.guard;
+          sets = h.sets.0;
+          own_pins = h.own_pins;
+        }
+
+    row_lines : words_between lines (from + 1) at ≡ map row_words all
+    row_lines =
+        let p : at ≡ from + 1 + length all = a.place_is in
+        ap (λ n. words_of_lines (take n (drop (from + 1) lines))) (let e : at - (from + 1) ≡ length all = omega arith in e)
+        ∙ each_words (take (length all) (drop (from + 1) lines)) all a.clean.each
+
+    whole : words_between lines from next ≡ graph_lines (said g)
+    whole =
+        let p : at ≡ from + 1 + length all = a.place_is in
+        let o : at ≤ next = h.order in
+        between_first lines from next (omega arith) a.clean.low
+        ∙ ap (λ (w : Words). w ∷ words_between lines (from + 1) next)
+        (a.clean.header_is ∙ ap rows_words (let e : length marks ≡ length all = omega (arith, full, counted) in e))
+        ∙ ap (λ (ws : List Words). rows_words (length all) ∷ ws)
+        (between_split lines (from + 1) at next (omega arith) h.order
+        ∙ ap (λ (ws : List Words). ws ++ words_between lines at next) row_lines
+        ∙ ap (λ (ws : List Words). map row_words all ++ ws) h.words)
+
+    pub graph_read : IsGraphOf version lines from next g
+    graph_read =
+        record {
+          order = (let p : at ≡ from + 1 + length all = a.place_is in let o : at ≤ next = h.order in omega arith);
+          within = h.within;
+          well_formed = well_formed;
+          are = are_lines;
+          is = whole;
+          ends = h.ends;
+        }
 
 -- the rows of the block are those that were read
-pub graph_by_rows : {version : ℕ} (lines : List Line) (from at next : ℕ) (all : List RowLine) (marks : List Mark) (so : RowsSoFar) (b : BehindRows)
-    → AreRowsTo version lines from all all marks at so → length all ≡ length marks → IsReadBehind version lines marks at next b
-    → IsGraphOf version lines from next (graph_of so b)
-graph_by_rows {version} lines from at next all marks so b a full h =
-    let same : all ≡ map said_row so.rows = sym a.numbered.said_are in
-    let count : length (map said_row so.rows) ≡ length so.rows = map_count said_row so.rows in
-    graph_read lines from at next marks so b (subst (λ rs. AreRowsTo version lines from rs rs marks at so) same a)
-    (sym count ∙ ap length (sym same) ∙ full) h
+module _ {version : ℕ} (lines : List Line) (from at next : ℕ) (all : List RowLine) (marks : List Mark) (so : RowsSoFar)
+    (ms : List ℕ) (b : BehindRows) (a : AreRowsTo version lines from all all marks at so)
+    (full : length all ≡ length marks) where
+  same : all ≡ map said_row so.rows
+  same = sym a.numbered.said_are
+
+  so_read : AreRowsTo version lines from (map said_row so.rows) (map said_row so.rows) marks at so
+  so_read = subst (λ rs. AreRowsTo version lines from rs rs marks at so) same a
+
+  all_read : length so.rows ≡ length marks
+  all_read =
+      let count : length (map said_row so.rows) ≡ length so.rows = map_count said_row so.rows in
+      sym count ∙ ap length (sym same) ∙ full
+
+  pub multiples_by_rows : OrderedAreBelow → CanHaveMultiples so.rows
+  multiples_by_rows ordered = can_have lines from at next marks so ms b so_read all_read ordered
+
+  pub graph_by_rows : AreMultiplesOf so.rows ms → IsReadBehind version lines marks at next b
+      → IsGraphOf version lines from next (graph_of so ms b)
+  graph_by_rows multiples h = graph_read lines from at next marks so ms b so_read all_read multiples h
 
 -- ---- behind the header
 
@@ -243,8 +287,13 @@ module _ (names : (o p : WordOp) → name_of o ≡ name_of p → o ≡ p) (lines
       subst (λ n. IsCleanBehindRows version lines from m.rows marks n (rows 0)) at_is
       (begins_behind names lines from m.rows marks at so rows_here full_here)
 
-  pub graph_here : (behind : BehindRows) (next : ℕ) → IsReadBehind version lines marks (from + 1 + count) next behind
-      → IsGraphOf version lines from next (graph_of so behind)
-  graph_here behind next is =
-      graph_by_rows lines from at next m.rows marks so behind rows_here full_here
+  pub multiples_here : BehindRows → OrderedAreBelow → CanHaveMultiples so.rows
+  multiples_here behind ordered =
+      multiples_by_rows lines from at at m.rows marks so [] behind rows_here full_here ordered
+
+  pub graph_here : (ms : List ℕ) → AreMultiplesOf so.rows ms → (behind : BehindRows) (next : ℕ)
+      → IsReadBehind version lines marks (from + 1 + count) next behind
+      → IsGraphOf version lines from next (graph_of so ms behind)
+  graph_here ms multiples behind next is =
+      graph_by_rows lines from at next m.rows marks so ms behind rows_here full_here multiples
       (subst (λ n. IsReadBehind version lines marks n next behind) (sym at_is) is)

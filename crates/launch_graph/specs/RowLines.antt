@@ -1,8 +1,6 @@
 -- The rows of a launch graph as lines, `CLASS OP OPERAND..`. Source: this project.
 use Rattle.std.specs.Prelude.{⊤, ℕ, ◌≡◌, ◌≢◌, ◌<◌, ◌^◌, List, [], ◌∷◌, ◌++◌, map, codes, decimal, All}
-use Rattle.word_ops.specs.Names.{name_of}
-use Rattle.word_ops.specs.declared.sorts.Access.{Access}
-use Rattle.word_ops.specs.declared.sorts.Access.TheVariants.{Quad}
+use Rattle.word_ops.specs.Names.{name_of, select_name, store_name, load_name, put_name}
 use Rattle.word_ops.specs.declared.sorts.Op.{Op}
 use Rattle.word_ops.specs.declared.sorts.Op.TheVariants.{Entry, Input, Constant, Word, Select, Store, Load, Put, Declared}
 use Rattle.text_core.specs.LineTexts.{Words}
@@ -10,19 +8,6 @@ use Rattle.text_core.specs.Names.{IsName}
 use Rattle.launch_graph.specs.declared.row_lines.LineOp.{LineOp}
 use Rattle.launch_graph.specs.declared.row_lines.LineOp.TheVariants.{Plain, Use, Unknown}
 use Rattle.launch_graph.specs.declared.row_lines.RowLine.{RowLine}
-
--- the words that name the operators on memories, by how much each of them reads or writes
-abbrev pub select_name : Access → List ℕ
-select_name Quad = codes "select"
-
-abbrev pub store_name : Access → List ℕ
-store_name Quad = codes "store"
-
-abbrev pub load_name : Access → List ℕ
-load_name Quad = codes "load"
-
-abbrev pub put_name : Access → List ℕ
-put_name Quad = codes "put"
 
 -- the word that names an operator
 abbrev pub op_word : Op → List ℕ

@@ -11,6 +11,7 @@ ghost use Rattle.graph_meaning.specs.Graphs.{HasNoPins};
 ghost use Rattle.graph_meaning.specs.WellFormed.{IsLaunchGraph};
 ghost use Rattle.graph_meaning.specs.declared.graphs.LaunchGraph.{LaunchGraph as Graph};
 
+use graph_meaning::classes_are_multiples;
 use text_core::printed_lines_are_lines;
 use word_ops::operators_are_listed;
 
@@ -46,6 +47,7 @@ pub fn one_graph()
         → graph_lines (said g) ++ behind ≡ graph_lines (said h) ++ other → (g ≡ h) × (behind ≡ other) }
 {
     operators_are_listed();
+    classes_are_multiples();
 }
 
 /// What `one_graph` says of version 1 holds of each version. In version 2 the lines of each well-formed graph are read
@@ -65,4 +67,5 @@ pub fn one_graph_of_each_version()
         → IsGraphOf 2 lines from next g × HasNoPins g }
 {
     operators_are_listed();
+    classes_are_multiples();
 }

@@ -14,7 +14,7 @@ use crate::laws::{one_graph, one_graph_of_each_version};
 use crate::line_faults::line_fault;
 use crate::line_reading::header_line;
 use crate::rows_reading::read_rows;
-use graph_meaning::LaunchGraph;
+use graph_meaning::{LaunchGraph, graphs_are_consistent, known_multiples};
 use std::alloc::Global;
 use text_core::{Kind, TextFault, TextLines};
 use word_ops::operators_are_listed;
@@ -46,15 +46,18 @@ fn graph_at(
     ensures fault { IfErr result (IsFaultBy (IsFirstFaultOf version text.now from)) }
 {
     operators_are_listed();
+    graphs_are_consistent();
     let count = read_header(text, from)?;
     let first = from + 1;
     let end = first + count.min(text.count() - first);
     let marks = class_marks(alloc, text, first, end, count)?;
     let so_far = read_rows(alloc, text, first, &marks)?;
     let (behind, next) = read_behind(alloc, version, text, &marks, first + count)?;
+    let multiples = known_multiples(alloc, so_far.rows.as_slice())?;
     Ok((
         LaunchGraph {
             rows: so_far.rows,
+            multiples,
             entry: behind.entry,
             inputs: behind.inputs,
             pool: behind.pool,

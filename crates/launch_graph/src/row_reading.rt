@@ -31,12 +31,24 @@ pub enum Argument {
 }
 
 /// The operators that take no argument on a line, beside those on words.
-const ALONE: [Op; 5] = [
+const ALONE: [Op; 17] = [
     Op::Entry,
     Op::Select(Access::Quad),
     Op::Store(Access::Quad),
     Op::Load(Access::Quad),
     Op::Put(Access::Quad),
+    Op::Select(Access::Byte),
+    Op::Select(Access::Word),
+    Op::Select(Access::Long),
+    Op::Store(Access::Byte),
+    Op::Store(Access::Word),
+    Op::Store(Access::Long),
+    Op::Load(Access::Byte),
+    Op::Load(Access::Word),
+    Op::Load(Access::Long),
+    Op::Put(Access::Byte),
+    Op::Put(Access::Word),
+    Op::Put(Access::Long),
 ];
 
 /// The number that a word is, below a limit.

@@ -12,7 +12,7 @@ use Rattle.word_ops.specs.declared.operators.WordOp.TheVariants as ops
 use Rattle.word_ops.specs.Operates.{operates, row_of}
 use Rattle.word_ops.specs.declared.operates.Operate.{Operate as OperateOf}
 use Rattle.word_ops.specs.declared.operates.Operate.TheVariants.{Addl}
-use Rattle.word_ops.specs.declared.sorts.Access.TheVariants.{Quad}
+use Rattle.word_ops.specs.declared.sorts.Access.TheVariants.{Quad, Byte, Word, Long}
 use Rattle.machine_table.specs.InstrOrder.{instr_name, instr_named, instructions, other_instructions, kind_number, operate_kind}
 use Rattle.machine_table.specs.declared.tables.InstrKind.{InstrKind}
 use Rattle.machine_table.specs.declared.tables.InstrKind.TheVariants.{Operate, Load, Store}
@@ -21,7 +21,13 @@ pub is_named : (instr : InstrKind) → IsName (instr_name instr)
 is_named (Operate Addl) = record { begins = refl; each = refl }
 is_named (Operate _) = record { begins = refl; each = refl }
 is_named (Load Quad) = record { begins = refl; each = refl }
+is_named (Load Byte) = record { begins = refl; each = refl }
+is_named (Load Word) = record { begins = refl; each = refl }
+is_named (Load Long) = record { begins = refl; each = refl }
 is_named (Store Quad) = record { begins = refl; each = refl }
+is_named (Store Byte) = record { begins = refl; each = refl }
+is_named (Store Word) = record { begins = refl; each = refl }
+is_named (Store Long) = record { begins = refl; each = refl }
 is_named _ = record { begins = refl; each = refl }
 
 pub found : (instr : InstrKind) → instr_named (instr_name instr) ≡ Some instr
@@ -29,7 +35,13 @@ unfolding instr_named
 found (Operate Addl) = refl
 found (Operate _) = refl
 found (Load Quad) = refl
+found (Load Byte) = refl
+found (Load Word) = refl
+found (Load Long) = refl
 found (Store Quad) = refl
+found (Store Byte) = refl
+found (Store Word) = refl
+found (Store Long) = refl
 found _ = refl
 
 own_in : (name : List ℕ) (among : List InstrKind) (instr : InstrKind) → find (λ i. bytes_eq (instr_name i) name) among ≡ Some instr → instr_name instr ≡ name
@@ -44,11 +56,17 @@ pub own : (name : List ℕ) (instr : InstrKind) → instr_named name ≡ Some in
 unfolding instr_named
 own name instr e = own_in name instructions instr e
 
-pub below : (instr : InstrKind) → kind_number instr < 60
+pub below : (instr : InstrKind) → kind_number instr < 66
 below (Operate Addl) = omega arith
 below (Operate _) = omega arith
 below (Load Quad) = omega arith
+below (Load Byte) = omega arith
+below (Load Word) = omega arith
+below (Load Long) = omega arith
 below (Store Quad) = omega arith
+below (Store Byte) = omega arith
+below (Store Word) = omega arith
+below (Store Long) = omega arith
 below _ = omega arith
 
 numbered : ℕ → Option InstrKind
@@ -59,7 +77,13 @@ unfolding numbered
 numbered_back (Operate Addl) = refl
 numbered_back (Operate _) = refl
 numbered_back (Load Quad) = refl
+numbered_back (Load Byte) = refl
+numbered_back (Load Word) = refl
+numbered_back (Load Long) = refl
 numbered_back (Store Quad) = refl
+numbered_back (Store Byte) = refl
+numbered_back (Store Word) = refl
+numbered_back (Store Long) = refl
 numbered_back _ = refl
 
 pub once : (instr other : InstrKind) → kind_number instr ≡ kind_number other → instr ≡ other

@@ -5,7 +5,7 @@ use Rattle.std.specs.Prelude.{ℕ, ◌+◌, ◌<◌, ◌≤◌, ◌≢◌, List,
 use Rattle.word_ops.specs.declared.operates.Operate.{Operate}
 use Rattle.word_ops.specs.declared.operates.Pipes.{Pipes}
 use Rattle.word_ops.specs.declared.operates.Pipes.TheVariants.{Any, Shifters, Multiplier}
-use Rattle.word_ops.specs.declared.sorts.Access.TheVariants.{Quad}
+use Rattle.word_ops.specs.declared.sorts.Access.TheVariants.{Quad, Byte, Word, Long}
 use Rattle.word_ops.specs.Operates.{operates, row_of}
 use Rattle.machine_table.specs.InstrOrder.{kind_number}
 use Rattle.machine_table.specs.declared.tables.InstrKind.{InstrKind}
@@ -84,5 +84,7 @@ ev6 = record {
       ++ uses_of 1 (0 ∷ 1 ∷ 2 ∷ 3 ∷ []) (kinds.Lda ∷ kinds.Ldah ∷ [])
       ++ uses_of 3 (2 ∷ 3 ∷ []) (kinds.Load Quad ∷ [])
       ++ uses_of 1 (2 ∷ 3 ∷ []) (kinds.Store Quad ∷ [])
+      ++ uses_of 3 (2 ∷ 3 ∷ []) (kinds.Load Byte ∷ kinds.Load Word ∷ kinds.Load Long ∷ [])
+      ++ uses_of 1 (2 ∷ 3 ∷ []) (kinds.Store Byte ∷ kinds.Store Word ∷ kinds.Store Long ∷ [])
       ++ uses_of 1 (0 ∷ 1 ∷ []) (kinds.Beq ∷ []);
 }

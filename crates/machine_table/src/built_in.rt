@@ -115,6 +115,28 @@ fn uses(alloc: Global) -> Result<Items<Use>, NoMemory>
         &lower,
         &[InstrKind::Store(Access::Quad)],
     )?;
+    add(
+        alloc,
+        &mut uses,
+        3,
+        &lower,
+        &[
+            InstrKind::Load(Access::Byte),
+            InstrKind::Load(Access::Word),
+            InstrKind::Load(Access::Long),
+        ],
+    )?;
+    add(
+        alloc,
+        &mut uses,
+        1,
+        &lower,
+        &[
+            InstrKind::Store(Access::Byte),
+            InstrKind::Store(Access::Word),
+            InstrKind::Store(Access::Long),
+        ],
+    )?;
     add(alloc, &mut uses, 1, upper, &[InstrKind::Beq])?;
     Ok(uses)
 }

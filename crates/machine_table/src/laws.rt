@@ -32,13 +32,13 @@ pub fn tables_keep_limits()
     ensures built_in { IsTable ev6 }
 {}
 
-/// The name of an instruction is a well-formed name, and its number is below 60; no other instruction has either. An
+/// The name of an instruction is a well-formed name, and its number is below 66; no other instruction has either. An
 /// operate has the name and the number of its operator, and an operator with a number below 55 has an operate.
 pub fn instructions_have_names()
     ensures named { (instr : InstrKind) → IsName (instr_name instr) }
     ensures found { (instr : InstrKind) → instr_named (instr_name instr) ≡ Some instr }
     ensures own { (name : List ℕ) (instr : InstrKind) → instr_named name ≡ Some instr → instr_name instr ≡ name }
-    ensures below { (instr : InstrKind) → kind_number instr < 60 }
+    ensures below { (instr : InstrKind) → kind_number instr < 66 }
     ensures once { (instr other : InstrKind) → kind_number instr ≡ kind_number other → instr ≡ other }
     ensures operate { (op : WordOp) (instr : InstrKind) → operate_kind op ≡ Some instr
         → (instr_name instr ≡ name_of op) × (kind_number instr ≡ number_of op) }

@@ -7,11 +7,17 @@ use crate::tables::InstrKind;
 use word_ops::{Access, Operate, WordOp};
 
 /// The instructions that are no operates, in their order.
-const OTHERS: [InstrKind; 5] = [
+const OTHERS: [InstrKind; 11] = [
     InstrKind::Lda,
     InstrKind::Ldah,
     InstrKind::Load(Access::Quad),
     InstrKind::Store(Access::Quad),
+    InstrKind::Load(Access::Byte),
+    InstrKind::Load(Access::Word),
+    InstrKind::Load(Access::Long),
+    InstrKind::Store(Access::Byte),
+    InstrKind::Store(Access::Word),
+    InstrKind::Store(Access::Long),
     InstrKind::Beq,
 ];
 
@@ -25,6 +31,12 @@ pub fn instr_name(instr: InstrKind) -> &'static [u8]
         InstrKind::Ldah => b"ldah",
         InstrKind::Load(Access::Quad) => b"ldq_u",
         InstrKind::Store(Access::Quad) => b"stq_u",
+        InstrKind::Load(Access::Byte) => b"ldbu",
+        InstrKind::Load(Access::Word) => b"ldwu",
+        InstrKind::Load(Access::Long) => b"ldl",
+        InstrKind::Store(Access::Byte) => b"stb",
+        InstrKind::Store(Access::Word) => b"stw",
+        InstrKind::Store(Access::Long) => b"stl",
         InstrKind::Beq => b"beq",
     }
 }
@@ -39,7 +51,13 @@ pub fn instr_number(instr: InstrKind) -> u32
         InstrKind::Ldah => 56,
         InstrKind::Load(Access::Quad) => 57,
         InstrKind::Store(Access::Quad) => 58,
-        InstrKind::Beq => 59,
+        InstrKind::Load(Access::Byte) => 59,
+        InstrKind::Load(Access::Word) => 60,
+        InstrKind::Load(Access::Long) => 61,
+        InstrKind::Store(Access::Byte) => 62,
+        InstrKind::Store(Access::Word) => 63,
+        InstrKind::Store(Access::Long) => 64,
+        InstrKind::Beq => 65,
     }
 }
 

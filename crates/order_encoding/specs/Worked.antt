@@ -29,6 +29,7 @@ abbrev pub one_sum_graph : LaunchGraph
 one_sum_graph = record {
   rows = plain_row 0 op.Entry [] ∷ plain_row 1 (op.Input 16) [] ∷ plain_row 2 (op.Input 17) []
       ∷ plain_row 3 (op.Word (ops.Operate operates.Addq)) (1 ∷ 2 ∷ []) ∷ [];
+  multiples = [];
   entry = 0;
   inputs = input_class (codes "a") 16 1 ∷ input_class (codes "b") 17 2 ∷ [];
   pool = 1 ∷ [];

@@ -10,8 +10,9 @@ use Rattle.forms.specs.Forms.{Form, Forms, name, forms_list}
 use Rattle.forms.specs.Printing.{CanPrint, CanPrintAll, atom, list, more, plain_of, plains_of}
 use Rattle.text_core.specs.Names.{IsName}
 use Rattle.word_ops.specs.Meanings.{arity_of_op, operand_sort, sort_of}
-use Rattle.word_ops.specs.Names.{name_of}
-use Rattle.word_ops.specs.declared.sorts.Access.TheVariants.{Quad}
+use Rattle.word_ops.specs.Names.{name_of, select_name, store_name}
+use Rattle.word_ops.specs.declared.sorts.Access.{Access}
+use Rattle.word_ops.specs.declared.sorts.Access.TheVariants as accesses
 use Rattle.word_ops.specs.declared.operators.WordOp.{WordOp}
 use Rattle.word_ops.specs.declared.operates.Operate.TheVariants.{Addl}
 use Rattle.word_ops.specs.declared.operators.WordOp.TheVariants.{Operate}
@@ -51,23 +52,35 @@ word_back (Operate Addl) = refl
 word_back (Operate _) = refl
 word_back _ = refl
 
-select_is_no_word : word_named (codes "select") ≡ None
+select_is_no_word : (access : Access) → word_named (select_name access) ≡ None
 unfolding word_named
-select_is_no_word = refl
+select_is_no_word accesses.Quad = refl
+select_is_no_word accesses.Byte = refl
+select_is_no_word accesses.Word = refl
+select_is_no_word accesses.Long = refl
 
-store_is_no_word : word_named (codes "store") ≡ None
+store_is_no_word : (access : Access) → word_named (store_name access) ≡ None
 unfolding word_named
-store_is_no_word = refl
+store_is_no_word accesses.Quad = refl
+store_is_no_word accesses.Byte = refl
+store_is_no_word accesses.Word = refl
+store_is_no_word accesses.Long = refl
 
 word_operator_back : (op : WordOp) → is_written op ≡ true → operator_named [] (operator_name [] (ops.Word op)) ≡ Some (ops.Word op)
 word_operator_back op w =
     ap (λ o. option_or (written_or_memory o (name_of op)) None) (word_back op) ∙ ap (λ b. option_or (if b then Some (ops.Word op) else None) None) w
 
-select_back : operator_named [] (operator_name [] (ops.Select Quad)) ≡ Some (ops.Select Quad)
-select_back = ap (λ o. option_or (written_or_memory o (codes "select")) None) select_is_no_word
+select_back : (access : Access) → operator_named [] (operator_name [] (ops.Select access)) ≡ Some (ops.Select access)
+select_back accesses.Quad = ap (λ o. option_or (written_or_memory o (select_name accesses.Quad)) None) (select_is_no_word accesses.Quad)
+select_back accesses.Byte = ap (λ o. option_or (written_or_memory o (select_name accesses.Byte)) None) (select_is_no_word accesses.Byte)
+select_back accesses.Word = ap (λ o. option_or (written_or_memory o (select_name accesses.Word)) None) (select_is_no_word accesses.Word)
+select_back accesses.Long = ap (λ o. option_or (written_or_memory o (select_name accesses.Long)) None) (select_is_no_word accesses.Long)
 
-store_back : operator_named [] (operator_name [] (ops.Store Quad)) ≡ Some (ops.Store Quad)
-store_back = ap (λ o. option_or (written_or_memory o (codes "store")) None) store_is_no_word
+store_back : (access : Access) → operator_named [] (operator_name [] (ops.Store access)) ≡ Some (ops.Store access)
+store_back accesses.Quad = ap (λ o. option_or (written_or_memory o (store_name accesses.Quad)) None) (store_is_no_word accesses.Quad)
+store_back accesses.Byte = ap (λ o. option_or (written_or_memory o (store_name accesses.Byte)) None) (store_is_no_word accesses.Byte)
+store_back accesses.Word = ap (λ o. option_or (written_or_memory o (store_name accesses.Word)) None) (store_is_no_word accesses.Word)
+store_back accesses.Long = ap (λ o. option_or (written_or_memory o (store_name accesses.Long)) None) (store_is_no_word accesses.Long)
 
 -- ---- variables
 reserved_memory : (n : List ℕ) → is_reserved n ≡ false → codes "M" ≢ n
@@ -189,10 +202,10 @@ module _ (vars : List InputReg) (are : AreNamedVariables vars) where
     term_of_sort (tree.application (ops.Word w) ts) sort h o g e =
         subst (λ (s : Sort). Writes (term_scope vars) s g (tree.application (ops.Word w) ts)) h.0
         (application_written (ops.Word w) ts g (word_operator_back w o.0) h.2 e (λ fs d. operands_written (ops.Word w) 0 ts h.3 o.1 fs d))
-    term_of_sort (tree.application (ops.Select Quad) ts) sort h o g e =
-        subst (λ (s : Sort). Writes (term_scope vars) s g (tree.application (ops.Select Quad) ts)) h.0 (application_written (ops.Select Quad) ts g select_back h.2 e (λ fs d. operands_written (ops.Select Quad) 0 ts h.3 o.1 fs d))
-    term_of_sort (tree.application (ops.Store Quad) ts) sort h o g e =
-        subst (λ (s : Sort). Writes (term_scope vars) s g (tree.application (ops.Store Quad) ts)) h.0 (application_written (ops.Store Quad) ts g store_back h.2 e (λ fs d. operands_written (ops.Store Quad) 0 ts h.3 o.1 fs d))
+    term_of_sort (tree.application (ops.Select access) ts) sort h o g e =
+        subst (λ (s : Sort). Writes (term_scope vars) s g (tree.application (ops.Select access) ts)) h.0 (application_written (ops.Select access) ts g (select_back access) h.2 e (λ fs d. operands_written (ops.Select access) 0 ts h.3 o.1 fs d))
+    term_of_sort (tree.application (ops.Store access) ts) sort h o g e =
+        subst (λ (s : Sort). Writes (term_scope vars) s g (tree.application (ops.Store access) ts)) h.0 (application_written (ops.Store access) ts g (store_back access) h.2 e (λ fs d. operands_written (ops.Store access) 0 ts h.3 o.1 fs d))
     term_of_sort (tree.application (ops.Load access) ts) sort h o g e = absurd o.0
     term_of_sort (tree.application (ops.Put access) ts) sort h o g e = absurd o.0
     term_of_sort (tree.application (ops.Declared index arity) ts) sort h o g e = absurd (let low = o.0.below in omega (arith, low))
@@ -208,6 +221,18 @@ module _ (vars : List InputReg) (are : AreNamedVariables vars) where
   term_written sort t is g e = term_of_sort t sort is.sorted is.operators g e
 
   -- ---- what can be printed
+  select_printable : (access : Access) → IsName (select_name access)
+  select_printable accesses.Quad = record { begins = refl; each = refl }
+  select_printable accesses.Byte = record { begins = refl; each = refl }
+  select_printable accesses.Word = record { begins = refl; each = refl }
+  select_printable accesses.Long = record { begins = refl; each = refl }
+
+  store_printable : (access : Access) → IsName (store_name access)
+  store_printable accesses.Quad = record { begins = refl; each = refl }
+  store_printable accesses.Byte = record { begins = refl; each = refl }
+  store_printable accesses.Word = record { begins = refl; each = refl }
+  store_printable accesses.Long = record { begins = refl; each = refl }
+
   memory_name : IsName (codes "M")
   memory_name = record { begins = refl; each = refl }
 
@@ -223,8 +248,8 @@ module _ (vars : List InputReg) (are : AreNamedVariables vars) where
     printable (tree.application (ops.Input r) ts) sort h o = input_printable r o.0
     printable (tree.application (ops.Constant k) ts) sort h o = h.1
     printable (tree.application (ops.Word w) ts) sort h o = (name_printable w, all_printable (ops.Word w) 0 ts h.3 o.1)
-    printable (tree.application (ops.Select Quad) ts) sort h o = (record { begins = refl; each = refl }, all_printable (ops.Select Quad) 0 ts h.3 o.1)
-    printable (tree.application (ops.Store Quad) ts) sort h o = (record { begins = refl; each = refl }, all_printable (ops.Store Quad) 0 ts h.3 o.1)
+    printable (tree.application (ops.Select access) ts) sort h o = (select_printable access, all_printable (ops.Select access) 0 ts h.3 o.1)
+    printable (tree.application (ops.Store access) ts) sort h o = (store_printable access, all_printable (ops.Store access) 0 ts h.3 o.1)
     printable (tree.application (ops.Load access) ts) sort h o = absurd o.0
     printable (tree.application (ops.Put access) ts) sort h o = absurd o.0
     printable (tree.application (ops.Declared index arity) ts) sort h o = absurd (let low = o.0.below in omega (arith, low))

@@ -16,7 +16,7 @@ use Rattle.alpha_machine.specs.States.{MachineState}
 use Rattle.alpha_machine.specs.Steps.{step, address, next_pc}
 use Rattle.alpha_machine.specs.Runs.{fetched, stepped, stepped_instr, unless_trap, after}
 use Rattle.graph_meaning.specs.Graphs.{constant_of}
-use Rattle.schedule_meaning.specs.Launches.{launches, is_store, is_load, is_branch, is_held, op_instr, word_op_instr, class_at, latest, later, group_of, copied_at, overwrites}
+use Rattle.schedule_meaning.specs.Launches.{launches, is_store, is_load, is_branch, is_held, is_aligned, is_sum_aligned, op_instr, word_op_instr, class_at, latest, later, group_of, copied_at, overwrites}
 use Rattle.schedule_meaning.specs.Fits.{Waits}
 use Rattle.alpha_encode.specs.declared.instructions.Instr.TheVariants.{Beq}
 use Rattle.register_assign.specs.Listings.{items_of, instr_of, copy_instr, plain_instr, row_instr, register_for}
@@ -43,7 +43,8 @@ use Rattle.register_assign.proofs.Groups.{earlier_cycle, store_group, held_group
 use Rattle.register_assign.proofs.Stores.{at_take}
 use Rattle.register_assign.proofs.Branch.{branch_tests, other_step, left_by}
 use Rattle.register_assign.proofs.Obeying.{kind_at}
-use Rattle.register_assign.proofs.Whole.{after_more, instr_stepped, never_traps, word_at_place, reached_after, reached_first}
+use Rattle.register_assign.proofs.Quiet.{never_traps}
+use Rattle.register_assign.proofs.Whole.{after_more, instr_stepped, word_at_place, reached_after, reached_first}
 use Rattle.register_assign.proofs.Falling.{words_count, items_count}
 
 -- ---- nothing passes
@@ -86,6 +87,11 @@ not_branch_if : (b : Bool) (i : InstrKind) → is_branch i ≡ false → option_
 not_branch_if true i h = h
 not_branch_if false i h = refl
 
+not_branch_if_both : (a b : Bool) (i : InstrKind) → is_branch i ≡ false
+    → option_map_or is_branch (if a then (if b then Some i else None) else None) false ≡ false
+not_branch_if_both true b i h = not_branch_if b i h
+not_branch_if_both false b i h = refl
+
 module _ (g : LaunchGraph) where
   no_branch_word : (o : WordOp) (xs : List ℕ) → option_map_or is_branch (word_op_instr g o xs) false ≡ false
   no_branch_word ops.Lda xs = not_branch_if (is_some (constant_of g (slice_index xs 1))) kinds.Lda refl
@@ -94,10 +100,12 @@ module _ (g : LaunchGraph) where
 
   no_branch_op : (o : Op) (xs : List ℕ) → option_map_or is_branch (op_instr g o xs) false ≡ false
   no_branch_op (op.Word o) xs = no_branch_word o xs
-  no_branch_op (op.Select access) xs = refl
-  no_branch_op (op.Store access) xs = refl
-  no_branch_op (op.Load access) xs = not_branch_if (is_some (constant_of g (slice_index xs 2))) (kinds.Load access) refl
-  no_branch_op (op.Put access) xs = not_branch_if (is_some (constant_of g (slice_index xs 2))) (kinds.Store access) refl
+  no_branch_op (op.Select access) xs = not_branch_if (is_aligned g access xs) (kinds.Load access) refl
+  no_branch_op (op.Store access) xs = not_branch_if (is_aligned g access xs) (kinds.Store access) refl
+  no_branch_op (op.Load access) xs =
+      not_branch_if_both (is_sum_aligned g access xs) (is_some (constant_of g (slice_index xs 2))) (kinds.Load access) refl
+  no_branch_op (op.Put access) xs =
+      not_branch_if_both (is_sum_aligned g access xs) (is_some (constant_of g (slice_index xs 2))) (kinds.Store access) refl
   no_branch_op op.Entry xs = refl
   no_branch_op (op.Input r) xs = refl
   no_branch_op (op.Constant c) xs = refl
@@ -168,7 +176,7 @@ module _ (g : LaunchGraph) (table : Table) (k : ℕ) (ordered : List Launch) (w 
   each n m s lt e reached = other_step g table k ordered w value scene n m e s reached (the_branch.4 n m lt e)
 
   reached_at : (n : ℕ) → n ≤ b → HasReached g w value ordered n (after n instrs (entry_state w))
-  reached_at n le = reached_after g table ordered w value b each n le (let i = inside in omega arith) (reached_first g w value ordered scene.world scene.true_in)
+  reached_at n le = reached_after g table ordered w value b each (λ n m s lt e reached. never_traps g table k ordered w value scene n m s reached e) n le (let i = inside in omega arith) (reached_first g w value ordered scene.world scene.true_in)
 
   same_memory : {a c : Memory} → memory a ≡ memory c → a ≡ c
   same_memory e = cc
@@ -197,7 +205,7 @@ module _ (g : LaunchGraph) (table : Table) (k : ℕ) (ordered : List Launch) (w 
 
   at_place : (n : ℕ) (m : Launch) → n ≤ b → slice_get ordered n ≡ Some m → stepped_instr instrs (after n instrs (entry_state w)) ≡ Some (instr_of g table ordered n m)
   at_place n m le e =
-      instr_stepped instrs (after n instrs (entry_state w)) (instr_of g table ordered n m) (fetched_at n m le e) (never_traps g table ordered n m (after n instrs (entry_state w)))
+      instr_stepped instrs (after n instrs (entry_state w)) (instr_of g table ordered n m) (fetched_at n m le e) (never_traps g table k ordered w value scene n m (after n instrs (entry_state w)) (reached_at n le) e)
 
   leaves : stepped instrs at_branch ≡ left
   leaves =

@@ -34,6 +34,7 @@ use Rattle.register_assign.proofs.Scene.{IsScene, positive}
 use Rattle.register_assign.proofs.Branch.{word_step}
 use Rattle.std.proofs.lemmas.List.{length-map}
 use Rattle.register_assign.proofs.Reading.{place_reads}
+use Rattle.register_assign.proofs.Quiet.{never_traps}
 use Rattle.register_assign.proofs.Whole.{reached_after, reached_first}
 
 pub words_count : (items : List Item) (words : List ℕ) → AreWordsOf items words → length words ≡ length (instrs_of items)
@@ -54,12 +55,12 @@ module _ (g : LaunchGraph) (table : Table) (k : ℕ) (ordered : List Launch) (w 
 
   reached_at : (n : ℕ) → n ≤ length ordered → HasReached g w value ordered n (after n (instrs_of (items_of g table ordered)) (entry_state w))
   reached_at n le =
-      reached_after g table ordered w value (length ordered) (λ n l s lt here reached. word_step g table k ordered w value scene n l here s reached no_exit) n le le (reached_first g w value ordered scene.world scene.true_in)
+      reached_after g table ordered w value (length ordered) (λ n l s lt here reached. word_step g table k ordered w value scene n l here s reached no_exit) (λ n l s lt here reached. never_traps g table k ordered w value scene n l s reached here) n le le (reached_first g w value ordered scene.world scene.true_in)
 
   final_reached : HasReached g w value ordered (length ordered) final
   final_reached =
       subst (λ n. HasReached g w value ordered (length ordered) (after n (instrs_of (items_of g table ordered)) (entry_state w))) (sym count)
-      (reached_after g table ordered w value (length ordered) (λ n l s lt here reached. word_step g table k ordered w value scene n l here s reached no_exit) (length ordered) (omega arith) (omega arith) (reached_first g w value ordered scene.world scene.true_in))
+      (reached_after g table ordered w value (length ordered) (λ n l s lt here reached. word_step g table k ordered w value scene n l here s reached no_exit) (λ n l s lt here reached. never_traps g table k ordered w value scene n l s reached here) (length ordered) (omega arith) (omega arith) (reached_first g w value ordered scene.world scene.true_in))
 
   -- the launch that goes to a pinned set leaves its class's value in the pin
   pinned_value : (j : ℕ) (s : SetClass) (r : ℕ) → slice_get g.sets j ≡ Some s → s.pin ≡ Some r → (p : ℕ) (m : Launch) → slice_get ordered p ≡ Some m → goes_to j m ≡ true → word (slice_index final.registers r) ≡ value s.class

@@ -15,6 +15,7 @@ mod OfListings
 mod Once
 mod Operands
 mod Proper
+mod Quiet
 mod Reached
 mod Reading
 mod Right

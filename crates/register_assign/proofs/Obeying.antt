@@ -13,7 +13,7 @@ use Rattle.word_ops.specs.declared.operators.WordOp.TheVariants.{Lda, Ldah}
 use Rattle.word_ops.specs.declared.operators.WordOp.TheVariants as ops
 use Rattle.graph_meaning.specs.Graphs.{constant_of}
 use Rattle.machine_table.specs.Tables.{MayUse}
-use Rattle.schedule_meaning.specs.Launches.{instr_at, copied_at, op_instr, word_op_instr as launch_instr, gives_word}
+use Rattle.schedule_meaning.specs.Launches.{instr_at, copied_at, is_aligned, is_sum_aligned, op_instr, word_op_instr as launch_instr, gives_word}
 use Rattle.register_assign.specs.Listings.{instr_of, copy_instr, row_instr, word_instr, operate_instr, reg, branch_class, register_for, register_at, literal_or}
 use Rattle.alpha_machine.specs.Steps.{is_unary}
 use Rattle.schedule_meaning.specs.Fits.{CanLaunch}
@@ -38,6 +38,10 @@ some_if : (b : Bool) (k i : InstrKind) → (if b then Some k else None) ≡ Some
 some_if true k i e = same_Some k i e
 some_if false k i e = absurd (none-some i e)
 
+some_if_both : (a b : Bool) (k i : InstrKind) → (if a then (if b then Some k else None) else None) ≡ Some i → k ≡ i
+some_if_both true b k i e = some_if b k i e
+some_if_both false b k i e = absurd (none-some i e)
+
 module _ (g : LaunchGraph) (table : Table) (ordered : List Launch) (n : ℕ) (l : Launch) where
   kind_of_operate : (o : OperateOf) (xs : List ℕ) → kind_of (operate_instr g table ordered n l o xs) ≡ kinds.Operate o
   kind_of_operate o [] = refl
@@ -52,10 +56,12 @@ module _ (g : LaunchGraph) (table : Table) (ordered : List Launch) (n : ℕ) (l 
 
   row_kind : (o : Op) (xs : List ℕ) (i : InstrKind) → op_instr g o xs ≡ Some i → kind_of (row_instr g table ordered n l o xs) ≡ i
   row_kind (op.Word o) xs i e = word_kind o xs i e
-  row_kind (op.Select access) xs i e = same_Some (kinds.Load access) i e
-  row_kind (op.Store access) xs i e = same_Some (kinds.Store access) i e
-  row_kind (op.Load access) xs i e = some_if (is_some (constant_of g (slice_index xs 2))) (kinds.Load access) i e
-  row_kind (op.Put access) xs i e = some_if (is_some (constant_of g (slice_index xs 2))) (kinds.Store access) i e
+  row_kind (op.Select access) xs i e = some_if (is_aligned g access xs) (kinds.Load access) i e
+  row_kind (op.Store access) xs i e = some_if (is_aligned g access xs) (kinds.Store access) i e
+  row_kind (op.Load access) xs i e =
+      some_if_both (is_sum_aligned g access xs) (is_some (constant_of g (slice_index xs 2))) (kinds.Load access) i e
+  row_kind (op.Put access) xs i e =
+      some_if_both (is_sum_aligned g access xs) (is_some (constant_of g (slice_index xs 2))) (kinds.Store access) i e
   row_kind op.Entry xs i e = absurd (none-some i e)
   row_kind (op.Input r) xs i e = absurd (none-some i e)
   row_kind (op.Constant c) xs i e = absurd (none-some i e)

@@ -2,7 +2,9 @@
 use Rattle.std.proofs.Common.{◌≡◌, ℕ, ◌^◌, ◌<◌, ◌≤◌, List, length, sym, subst, arith}
 use Rattle.schedule_meaning.specs.Limits.{most_cycles, most_launches}
 use Rattle.alpha_encode.specs.Formats.{IsWellFormed}
+use Rattle.word_ops.specs.Worlds.{World, Value}
 use Rattle.machine_table.specs.Tables.{IsTable}
+use Rattle.graph_meaning.specs.Graphs.{IsTrueUnder}
 use Rattle.graph_meaning.specs.WellFormed.{IsLaunchGraph}
 use Rattle.schedule_meaning.specs.Launches.{IsInWordOrder}
 use Rattle.schedule_meaning.specs.Fits.{Fits, CanLaunch}
@@ -21,6 +23,7 @@ use Rattle.schedule_meaning.proofs.Counted.{few_launches}
 use Rattle.register_assign.proofs.Once.{one_listing}
 use Rattle.register_assign.proofs.Encodable.{encodable}
 use Rattle.register_assign.proofs.Obeyed.{all_items, obeys_where_fits}
+use Rattle.register_assign.proofs.Scene.{AreTrueMultiples}
 use Rattle.register_assign.proofs.Right.{right_where_fits}
 use Rattle.register_assign.proofs.Standing.{words_stand}
 
@@ -50,11 +53,12 @@ module _ (g : LaunchGraph) (table : Table) (k : ℕ) (ls ordered : List Launch) 
     pub may_run : MayRun items
     may_run words are = words_stand g table ordered words (subst (λ (xs : List Item). AreWordsOf xs words) items_are are)
 
-    pub keeps_word : KeepsWord g table k items wheres
-    keeps_word = record {
+    pub keeps_word : ((w : World) (value : ℕ → Value) → IsTrueUnder g w value → AreTrueMultiples g value)
+        → KeepsWord g table k items wheres
+    keeps_word multiples = record {
       obeys = λ proper. subst (λ (xs : List Item). Obeys table k xs) (sym items_are) (obeys_where_fits g table k ls ordered is_table graph proper fits order);
       right = λ proper words are.
           subst (λ (ps : List Where). DoesAsGraphSays g items words ps) (sym wheres_are)
           (subst (λ (xs : List Item). DoesAsGraphSays g xs words (wheres_of g table ordered)) (sym items_are)
-          (right_where_fits g table k ls ordered is_table graph proper fits order (let m = few in omega arith) words (subst (λ (xs : List Item). AreWordsOf xs words) items_are are)));
+          (right_where_fits g table k ls ordered is_table graph proper fits order (let m = few in omega arith) multiples words (subst (λ (xs : List Item). AreWordsOf xs words) items_are are)));
     }

@@ -38,6 +38,11 @@ displaced_step (Some c) i P h = (c, refl)
 pub displaced_constant : (g : LaunchGraph) (class : ℕ) (i : InstrKind) (P : InstrKind → Type 0) → IsSomeAnd (if is_some (constant_of g class) then Some i else None) P → (c : ℕ) × (constant_of g class ≡ Some c)
 displaced_constant g class i P h = displaced_step (constant_of g class) i P h
 
+-- what is launched where a test passes
+pub where_passed : {X : Type 0} (b : Bool) (o : Option X) (P : X → Type 0) → IsSomeAnd (if b then o else None) P → (b ≡ true) × IsSomeAnd o P
+where_passed true o P h = (refl, h)
+where_passed false o P h = absurd h
+
 plain_address : (b : ℕ) → b < 2 ^ 64 → address b 1 (pos 0) ≡ b
 plain_address b h = omega arith
 

@@ -12,12 +12,13 @@ use Rattle.graph_meaning.specs.declared.graphs.LaunchGraph.{LaunchGraph}
 use Rattle.machine_table.specs.declared.tables.Table.{Table}
 use Rattle.schedule_meaning.specs.declared.schedules.Launch.{Launch}
 use Rattle.schedule_meaning.proofs.Ordered.{fits_permuted}
-use Rattle.register_assign.proofs.Scene.{IsScene}
+use Rattle.register_assign.proofs.Scene.{IsScene, AreTrueMultiples}
 use Rattle.register_assign.proofs.Falling.{falls}
 use Rattle.register_assign.proofs.Exiting.{exits}
 
 module _ (g : LaunchGraph) (table : Table) (k : ℕ) (ls ordered : List Launch) (is_table : IsTable table) (graph : IsLaunchGraph g) (proper : IsProper g)
-    (fits : Fits g table k ls) (order : IsInWordOrder g ls ordered) (few : length ordered < 2 ^ 32) where
+    (fits : Fits g table k ls) (order : IsInWordOrder g ls ordered) (few : length ordered < 2 ^ 32)
+    (multiples : (w : World) (value : ℕ → Value) → IsTrueUnder g w value → AreTrueMultiples g value) where
   scene : (w : World) (value : ℕ → Value) → IsWorld w → IsTrueUnder g w value → IsScene g table k ordered w value
   scene w value world true_in = record {
     is_table = is_table;
@@ -28,6 +29,7 @@ module _ (g : LaunchGraph) (table : Table) (k : ℕ) (ls ordered : List Launch) 
     few = few;
     world = world;
     true_in = true_in;
+    multiples = multiples w value true_in;
   }
 
   pub right_where_fits : (words : List ℕ) → AreWordsOf (items_of g table ordered) words → DoesAsGraphSays g (items_of g table ordered) words (wheres_of g table ordered)

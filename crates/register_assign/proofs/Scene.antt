@@ -1,15 +1,17 @@
 -- The premises of a run: a schedule that fits a proper graph, in word order, and a world in which the graph is true.
-use Rattle.std.proofs.Common.{◌≡◌, ℕ, zero, suc, ◌^◌, ◌<◌, ◌-◌, pos, List, [], ◌∷◌, length, map, refl, ◌∙◌, ap, subst, inl, inr, ◌⊎◌, arith, false, get_or, Option, Some, None}
+use Rattle.std.proofs.Common.{◌≡◌, ℕ, zero, suc, ◌%◌, ◌^◌, ◌<◌, ◌≤◌, ◌-◌, pos, List, [], ◌∷◌, length, map, refl, ◌∙◌, ap, subst, inl, inr, ◌⊎◌, arith, true, false, get_or, Option, Some, None}
 use Rattle.std.specs.Prelude.{All, AllPairs, IsSomeAnd, slice_get, slice_index, ◌==◌, if◌then◌else◌, option_map}
 use Rattle.std.specs.Option.{option_map_or, option_and_then}
 use Rattle.std.proofs.lemmas.Bool.Decides.{eqb_tells}
 use Rattle.std.proofs.lemmas.Option.{slice_get-get_or}
+use Rattle.word_ops.specs.Values.{lda}
 use Rattle.word_ops.specs.Worlds.{World, IsWorld, Value, IsValue}
-use Rattle.word_ops.specs.Meanings.{sort_of, arity_of_op, operand_sort}
+use Rattle.word_ops.specs.Meanings.{as_word, sort_of, arity_of_op, operand_sort}
 use Rattle.word_ops.specs.declared.sorts.Op.{Op}
 use Rattle.word_ops.specs.declared.sorts.Sort.{Sort}
 use Rattle.machine_table.specs.Tables.{IsTable, MayUse}
-use Rattle.graph_meaning.specs.Graphs.{IsProper, IsTrueUnder, row_meaning}
+use Rattle.graph_meaning.specs.Graphs.{IsProper, IsTrueUnder, multiple_of, row_meaning}
+use Rattle.graph_meaning.specs.Multiples.{is_sum_multiple}
 use Rattle.graph_meaning.specs.WellFormed.{IsLaunchGraph, ClassHasSort}
 use Rattle.schedule_meaning.specs.Launches.{instr_at, op_instr, class_at, copied_at, ready_in, StandsBefore, IsFree, IsReadable, operands_at, op_operands, row_operands, guard_operands, memory_class_at}
 use Rattle.schedule_meaning.specs.Fits.{Fits, CanLaunch, CanRead}
@@ -25,6 +27,11 @@ use Rattle.schedule_meaning.proofs.Rules.{at_each, in_list}
 use Rattle.schedule_meaning.proofs.Ordered.{takes_time}
 use Rattle.schedule_meaning.proofs.Copies.{row_no_copy, plain_kind, plain_class, plain_operands}
 
+-- the value of a class, and the sum of a base and a displacement, are the multiples that they are known to be
+pub record AreTrueMultiples (g : LaunchGraph) (value : ℕ → Value) : Type 0 where
+  pub class : (class n : ℕ) → n ≤ multiple_of g class → as_word (value class) % 2 ^ n ≡ 0
+  pub sum : (n x k : ℕ) → is_sum_multiple g n x k ≡ true → lda (as_word (value x)) (as_word (value k)) % 2 ^ n ≡ 0
+
 pub record IsScene (g : LaunchGraph) (table : Table) (k : ℕ) (ordered : List Launch) (w : World) (value : ℕ → Value) : Type 0 where
   pub is_table : IsTable table
   pub graph : IsLaunchGraph g
@@ -34,6 +41,7 @@ pub record IsScene (g : LaunchGraph) (table : Table) (k : ℕ) (ordered : List L
   pub few : length ordered < 2 ^ 32
   pub world : IsWorld w
   pub true_in : IsTrueUnder g w value
+  pub multiples : AreTrueMultiples g value
 
 abbrev pub row_with : ℕ → Op → List ℕ → List ℕ → LaunchRow
 row_with class o name xs = record { class = class; op = o; name = name; operands = xs }

@@ -22,8 +22,8 @@ use Rattle.word_ops.specs.Meanings.{as_word, as_memory, arity_of_op}
 use Rattle.alpha_machine.specs.States.{MachineState}
 use Rattle.alpha_machine.specs.Steps.{step, second_value, is_unary, operate_result, address, with_register, next_pc}
 use Rattle.machine_table.specs.Tables.{MayUse}
-use Rattle.graph_meaning.specs.Graphs.{row_meaning}
-use Rattle.schedule_meaning.specs.Launches.{launches, gives_word, is_store, is_load, instr_at, op_instr, word_op_instr as launch_instr, class_at, memory_after, IsFree, IsReadable, plain, op_operands, operate_operands, word_op_operands, copy_operands, copied_at}
+use Rattle.graph_meaning.specs.Graphs.{constant_of, row_meaning}
+use Rattle.schedule_meaning.specs.Launches.{launches, gives_word, is_store, is_load, instr_at, is_aligned, is_sum_aligned, op_instr, word_op_instr as launch_instr, class_at, memory_after, IsFree, IsReadable, plain, op_operands, operate_operands, word_op_operands, copy_operands, copied_at}
 use Rattle.schedule_meaning.specs.declared.schedules.Operand.{Operand}
 use Rattle.register_assign.specs.Listings.{register_at, register_for, second_for, displacement_of, instr_of, row_instr, word_instr, operate_instr, copy_instr, branch_class, reg}
 use Rattle.alpha_encode.specs.declared.instructions.Instr.{Instr}
@@ -36,7 +36,7 @@ use Rattle.machine_table.specs.declared.tables.InstrKind.TheVariants as kinds
 use Rattle.schedule_meaning.specs.declared.schedules.Launch.{Launch}
 use Rattle.register_assign.proofs.Reached.{HasReached}
 use Rattle.register_assign.proofs.Scene.{IsScene, can_read, row_with, kind_is, instr_is, value_is, arity_is, operand_value, can_is, reads_is, memory_class_is, place_few}
-use Rattle.register_assign.proofs.Operands.{displaced_constant, plain_reads, second_reads, address_reads, base_reads, high_base_reads}
+use Rattle.register_assign.proofs.Operands.{displaced_constant, where_passed, plain_reads, second_reads, address_reads, base_reads, high_base_reads}
 use Rattle.register_assign.proofs.Stores.{memory_found, all_stores_before, latest_push_last}
 use Rattle.register_assign.proofs.Running.{one_word_more, take_more, latest_push, less_or_last}
 use Rattle.register_assign.proofs.Proper.{pool_low}
@@ -76,17 +76,28 @@ one_of [] h = absurd (omega arith)
 one_of (x ∷ []) h = (x, refl)
 one_of (x ∷ y ∷ ys) h = absurd (omega arith)
 
-two_of : (xs : List ℕ) → length xs ≡ 2 → (x : ℕ) × (y : ℕ) × (xs ≡ x ∷ y ∷ [])
+pub two_of : (xs : List ℕ) → length xs ≡ 2 → (x : ℕ) × (y : ℕ) × (xs ≡ x ∷ y ∷ [])
 two_of [] h = absurd (omega arith)
 two_of (x ∷ xs) h = let t = one_of xs (omega arith) in (x, t.0, ap (λ ys. x ∷ ys) t.1)
 
-three_of : (xs : List ℕ) → length xs ≡ 3 → (x : ℕ) × (y : ℕ) × (z : ℕ) × (xs ≡ x ∷ y ∷ z ∷ [])
+pub three_of : (xs : List ℕ) → length xs ≡ 3 → (x : ℕ) × (y : ℕ) × (z : ℕ) × (xs ≡ x ∷ y ∷ z ∷ [])
 three_of [] h = absurd (omega arith)
 three_of (x ∷ xs) h = let t = two_of xs (omega arith) in (x, t.0, t.1, ap (λ ys. x ∷ ys) t.2)
 
-four_of : (xs : List ℕ) → length xs ≡ 4 → (x : ℕ) × (y : ℕ) × (z : ℕ) × (u : ℕ) × (xs ≡ x ∷ y ∷ z ∷ u ∷ [])
+pub four_of : (xs : List ℕ) → length xs ≡ 4 → (x : ℕ) × (y : ℕ) × (z : ℕ) × (u : ℕ) × (xs ≡ x ∷ y ∷ z ∷ u ∷ [])
 four_of [] h = absurd (omega arith)
 four_of (x ∷ xs) h = let t = three_of xs (omega arith) in (x, t.0, t.1, t.2, ap (λ ys. x ∷ ys) t.3)
+
+-- ---- the tests of an instruction that is launched where others pass
+
+tests_if : (b : Bool) (i : InstrKind) → b ≡ true → (f : InstrKind → Bool)
+    → option_map_or f (if b then Some i else None) false ≡ f i
+tests_if b i e f = ap (λ c. option_map_or f (if c then Some i else None) false) e
+
+tests_if_both : (a b : Bool) (i : InstrKind) → a ≡ true → b ≡ true → (f : InstrKind → Bool)
+    → option_map_or f (if a then (if b then Some i else None) else None) false ≡ f i
+tests_if_both a b i h e f =
+    ap (λ c. option_map_or f (if c then (if b then Some i else None) else None) false) h ∙ tests_if b i e f
 
 bis_value : (v : ℕ) → value_at (ops.Operate operates.Bis) 0 v 0 ≡ v
 unfolding value_at operate_gives bis
@@ -97,6 +108,9 @@ module _ (g : LaunchGraph) (table : Table) (k : ℕ) (ordered : List Launch) (w 
     (n : ℕ) (l : Launch) (s : MachineState) (reached : HasReached g w value ordered n s) (here : slice_get ordered n ≡ Some l) where
   abbrev Usable : Operand → Type 0
   Usable p = IsFree g p ⊎ IsReadable g table ordered l p.class
+
+  abbrev May : InstrKind → Type 0
+  May i = MayUse table i l.slot
 
   abbrev Next : MachineState → Type 0
   Next t = HasReached g w value ordered (n + 1) t
@@ -196,7 +210,10 @@ module _ (g : LaunchGraph) (table : Table) (k : ℕ) (ordered : List Launch) (w 
   module _ (access : Access) (class m a : ℕ) (name : List ℕ) (row : slice_get g.rows l.row ≡ Some (row_with class (op.Select access) name (m ∷ a ∷ []))) where
     select_step : Next (step now s)
     select_step =
-        let test : (f : InstrKind → Bool) → launches g f l ≡ f (kinds.Load access) = λ f. does class (op.Select access) name (m ∷ a ∷ []) row f (f (kinds.Load access)) refl in
+        let enough =
+        (where_passed (is_aligned g access (m ∷ a ∷ [])) (Some (kinds.Load access)) May (can class (op.Select access) name (m ∷ a ∷ []) row)).0 in
+        let test : (f : InstrKind → Bool) → launches g f l ≡ f (kinds.Load access) = λ f.
+        does class (op.Select access) name (m ∷ a ∷ []) row f (f (kinds.Load access)) (tests_if (is_aligned g access (m ∷ a ∷ [])) (kinds.Load access) enough f) in
         subst (λ i. Next (step i s)) (sym (instr class (op.Select access) name (m ∷ a ∷ []) row))
         (given (loaded access s.memory (address (slice_index s.registers (register_for g table ordered l a)) 1 (pos 0))) (test gives_word) (test is_store)
         (ap (λ b. word (loaded access s.memory b)) (address_reads g table k ordered w value scene n l s reached here a (All-head Usable (plain a) [] (reads class (op.Select access) name (m ∷ a ∷ []) row)) (operand_value g table k ordered w value scene n l here class (op.Select access) name (m ∷ a ∷ []) row 1 (omega arith)))
@@ -206,8 +223,13 @@ module _ (g : LaunchGraph) (table : Table) (k : ℕ) (ordered : List Launch) (w 
   module _ (access : Access) (class m x d : ℕ) (name : List ℕ) (row : slice_get g.rows l.row ≡ Some (row_with class (op.Load access) name (m ∷ x ∷ d ∷ []))) where
     load_step : Next (step now s)
     load_step =
-        let c = displaced_constant g d (kinds.Load access) (λ i. MayUse table i l.slot) (can class (op.Load access) name (m ∷ x ∷ d ∷ []) row) in
-        let test : (f : InstrKind → Bool) → launches g f l ≡ f (kinds.Load access) = λ f. does class (op.Load access) name (m ∷ x ∷ d ∷ []) row f (f (kinds.Load access)) (ap (λ q. option_map_or f (if is_some q then Some (kinds.Load access) else None) false) c.1) in
+        let p =
+        where_passed (is_sum_aligned g access (m ∷ x ∷ d ∷ [])) (if is_some (constant_of g d) then Some (kinds.Load access) else None) May
+        (can class (op.Load access) name (m ∷ x ∷ d ∷ []) row) in
+        let c = displaced_constant g d (kinds.Load access) May p.1 in
+        let test : (f : InstrKind → Bool) → launches g f l ≡ f (kinds.Load access) = λ f.
+        does class (op.Load access) name (m ∷ x ∷ d ∷ []) row f (f (kinds.Load access))
+        (tests_if_both (is_sum_aligned g access (m ∷ x ∷ d ∷ [])) (is_some (constant_of g d)) (kinds.Load access) p.0 (ap is_some c.1) f) in
         subst (λ i. Next (step i s)) (sym (instr class (op.Load access) name (m ∷ x ∷ d ∷ []) row))
         (given (loaded access s.memory (address (slice_index s.registers (register_for g table ordered l x)) 1 (displacement_of g d))) (test gives_word) (test is_store)
         (ap (λ b. word (loaded access s.memory b)) (base_reads g table k ordered w value scene n l s reached here x d c.0 (All-head Usable (plain x) [] (reads class (op.Load access) name (m ∷ x ∷ d ∷ []) row)) c.1)
@@ -220,7 +242,10 @@ module _ (g : LaunchGraph) (table : Table) (k : ℕ) (ordered : List Launch) (w 
   module _ (access : Access) (class m a v : ℕ) (name : List ℕ) (row : slice_get g.rows l.row ≡ Some (row_with class (op.Store access) name (m ∷ a ∷ v ∷ []))) where
     store_step : Next (step now s)
     store_step =
-        let test : (f : InstrKind → Bool) → launches g f l ≡ f (kinds.Store access) = λ f. does class (op.Store access) name (m ∷ a ∷ v ∷ []) row f (f (kinds.Store access)) refl in
+        let enough =
+        (where_passed (is_aligned g access (m ∷ a ∷ v ∷ [])) (Some (kinds.Store access)) May (can class (op.Store access) name (m ∷ a ∷ v ∷ []) row)).0 in
+        let test : (f : InstrKind → Bool) → launches g f l ≡ f (kinds.Store access) = λ f.
+        does class (op.Store access) name (m ∷ a ∷ v ∷ []) row f (f (kinds.Store access)) (tests_if (is_aligned g access (m ∷ a ∷ v ∷ [])) (kinds.Store access) enough f) in
         let both = reads class (op.Store access) name (m ∷ a ∷ v ∷ []) row in
         subst (λ i. Next (step i s)) (sym (instr class (op.Store access) name (m ∷ a ∷ v ∷ []) row))
         (stores (stored access s.memory (address (slice_index s.registers (register_for g table ordered l a)) 1 (pos 0)) (slice_index s.registers (register_for g table ordered l v))) (test is_store) (test gives_word)
@@ -232,8 +257,13 @@ module _ (g : LaunchGraph) (table : Table) (k : ℕ) (ordered : List Launch) (w 
   module _ (access : Access) (class m x d v : ℕ) (name : List ℕ) (row : slice_get g.rows l.row ≡ Some (row_with class (op.Put access) name (m ∷ x ∷ d ∷ v ∷ []))) where
     put_step : Next (step now s)
     put_step =
-        let c = displaced_constant g d (kinds.Store access) (λ i. MayUse table i l.slot) (can class (op.Put access) name (m ∷ x ∷ d ∷ v ∷ []) row) in
-        let test : (f : InstrKind → Bool) → launches g f l ≡ f (kinds.Store access) = λ f. does class (op.Put access) name (m ∷ x ∷ d ∷ v ∷ []) row f (f (kinds.Store access)) (ap (λ q. option_map_or f (if is_some q then Some (kinds.Store access) else None) false) c.1) in
+        let p =
+        where_passed (is_sum_aligned g access (m ∷ x ∷ d ∷ v ∷ [])) (if is_some (constant_of g d) then Some (kinds.Store access) else None) May
+        (can class (op.Put access) name (m ∷ x ∷ d ∷ v ∷ []) row) in
+        let c = displaced_constant g d (kinds.Store access) May p.1 in
+        let test : (f : InstrKind → Bool) → launches g f l ≡ f (kinds.Store access) = λ f.
+        does class (op.Put access) name (m ∷ x ∷ d ∷ v ∷ []) row f (f (kinds.Store access))
+        (tests_if_both (is_sum_aligned g access (m ∷ x ∷ d ∷ v ∷ [])) (is_some (constant_of g d)) (kinds.Store access) p.0 (ap is_some c.1) f) in
         let both = reads class (op.Put access) name (m ∷ x ∷ d ∷ v ∷ []) row in
         subst (λ i. Next (step i s)) (sym (instr class (op.Put access) name (m ∷ x ∷ d ∷ v ∷ []) row))
         (stores (stored access s.memory (address (slice_index s.registers (register_for g table ordered l x)) 1 (displacement_of g d)) (slice_index s.registers (register_for g table ordered l v))) (test is_store) (test gives_word)

@@ -1,25 +1,17 @@
 -- From one word more to all words.
-use Rattle.std.proofs.Common.{◌≡◌, ℕ, zero, suc, ◌+◌, ◌-◌, ◌*◌, ◌/◌, ◌<◌, ◌≤◌, List, [], ◌∷◌, length, pos, refl, sym, ◌∙◌, ap, subst, inl, inr, arith, Option, Some, None}
+use Rattle.std.proofs.Common.{◌≡◌, ℕ, zero, suc, ◌+◌, ◌*◌, ◌/◌, ◌<◌, ◌≤◌, List, [], ◌∷◌, length, refl, sym, ◌∙◌, ap, subst, inl, inr, arith, Some, None}
 use Rattle.std.specs.Prelude.{IsFalse, slice_get, if◌then◌else◌}
 use Rattle.std.specs.Option.{option_and_then, option_map_or}
 use Rattle.std.proofs.lemmas.Option.{slice_get_cases, same_Some, none-some}
-use Rattle.word_ops.specs.declared.operates.Operate.{Operate as OperateOf}
-use Rattle.word_ops.specs.declared.operators.WordOp.{WordOp}
-use Rattle.word_ops.specs.declared.operators.WordOp.TheVariants as ops
-use Rattle.word_ops.specs.declared.sorts.Op.{Op}
-use Rattle.word_ops.specs.declared.sorts.Op.TheVariants as op
 use Rattle.word_ops.specs.Worlds.{World, IsWorld, Value}
 use Rattle.graph_meaning.specs.Graphs.{IsTrueUnder}
 use Rattle.alpha_machine.specs.States.{MachineState}
 use Rattle.alpha_machine.specs.Steps.{step, traps}
 use Rattle.alpha_machine.specs.Runs.{fetched, stepped, stepped_instr, unless_trap, after}
-use Rattle.schedule_meaning.specs.Launches.{copied_at}
-use Rattle.register_assign.specs.Listings.{branch_class, copy_instr, items_from, items_of, instr_of, operate_instr, plain_instr, reg, row_instr, word_instr}
+use Rattle.register_assign.specs.Listings.{items_from, items_of, instr_of}
 use Rattle.register_assign.specs.Outcomes.{entry_state, instrs_of}
 use Rattle.register_assign.proofs.Reached.{HasReached}
 use Rattle.alpha_encode.specs.declared.instructions.Instr.{Instr}
-use Rattle.alpha_encode.specs.declared.instructions.Instr.TheVariants.{Beq}
-use Rattle.graph_meaning.specs.declared.graphs.LaunchRow.{LaunchRow}
 use Rattle.graph_meaning.specs.declared.graphs.LaunchGraph.{LaunchGraph}
 use Rattle.machine_table.specs.declared.tables.Table.{Table}
 use Rattle.schedule_meaning.specs.declared.schedules.Launch.{Launch}
@@ -35,42 +27,6 @@ instr_stepped is s i at quiet = ap (option_and_then (unless_trap s)) at ∙ ap (
 pub stepped_as : (is : List Instr) (s : MachineState) (i : Instr) → fetched is s ≡ Some i → IsFalse (traps i s) → stepped is s ≡ step i s
 stepped_as is s i at quiet = ap (λ o. option_map_or (λ j. step j s) o s) (instr_stepped is s i at quiet)
 
--- ---- no instruction of a launch traps
-
-module _ (g : LaunchGraph) (table : Table) (ordered : List Launch) (n : ℕ) (l : Launch) (s : MachineState) where
-  operate_quiet : (o : OperateOf) (xs : List ℕ) → IsFalse (traps (operate_instr g table ordered n l o xs) s)
-  operate_quiet o [] = refl
-  operate_quiet o (x ∷ []) = refl
-  operate_quiet o (x ∷ y ∷ ys) = refl
-
-  word_quiet : (o : WordOp) (xs : List ℕ) → IsFalse (traps (word_instr g table ordered n l o xs) s)
-  word_quiet ops.Lda xs = refl
-  word_quiet ops.Ldah xs = refl
-  word_quiet (ops.Operate o) xs = operate_quiet o xs
-  word_quiet _ xs = refl
-
-  row_quiet : (o : Op) (xs : List ℕ) → IsFalse (traps (row_instr g table ordered n l o xs) s)
-  row_quiet (op.Word o) xs = word_quiet o xs
-  row_quiet (op.Select access) xs = refl
-  row_quiet (op.Store access) xs = refl
-  row_quiet (op.Load access) xs = refl
-  row_quiet (op.Put access) xs = refl
-  row_quiet op.Entry xs = refl
-  row_quiet (op.Input r) xs = refl
-  row_quiet (op.Constant c) xs = refl
-  row_quiet (op.Declared d a) xs = refl
-
-  quiet_by : (o : Option LaunchRow) → IsFalse (traps (option_map_or (λ r. row_instr g table ordered n l r.op r.operands) o (Beq (reg g table ordered n l (branch_class g table ordered n l)) (pos (length ordered - n)))) s)
-  quiet_by None = refl
-  quiet_by (Some r) = row_quiet r.op r.operands
-
-  quiet_copied : (o : Option ℕ) → IsFalse (traps (option_map_or (copy_instr g table ordered n l) o (plain_instr g table ordered n l)) s)
-  quiet_copied (Some class) = refl
-  quiet_copied None = quiet_by (slice_get g.rows l.row)
-
-  pub never_traps : IsFalse (traps (instr_of g table ordered n l) s)
-  never_traps = quiet_copied (copied_at g l.row)
-
 module _ (g : LaunchGraph) (table : Table) (ordered : List Launch) where
   word_from : (i : ℕ) (ls : List Launch) (n m : ℕ) (l : Launch) → slice_get ls n ≡ Some l → m ≡ i + n → slice_get (instrs_of (items_from g table ordered i ls)) n ≡ Some (instr_of g table ordered m l)
   word_from i [] n m l e k = absurd (none-some l e)
@@ -81,9 +37,10 @@ module _ (g : LaunchGraph) (table : Table) (ordered : List Launch) where
   pub word_at_place : (n : ℕ) (l : Launch) → slice_get ordered n ≡ Some l → slice_get (instrs_of (items_of g table ordered)) n ≡ Some (instr_of g table ordered n l)
   word_at_place n l e = word_from 0 ordered n n l e (omega arith)
 
-  -- `each` is asked of the words before a place alone
+  -- `each` and `quiet` are asked of the words before a place alone
   module _ (w : World) (value : ℕ → Value) (bound : ℕ)
-      (each : (n : ℕ) (l : Launch) (s : MachineState) → n < bound → slice_get ordered n ≡ Some l → HasReached g w value ordered n s → HasReached g w value ordered (n + 1) (step (instr_of g table ordered n l) s)) where
+      (each : (n : ℕ) (l : Launch) (s : MachineState) → n < bound → slice_get ordered n ≡ Some l → HasReached g w value ordered n s → HasReached g w value ordered (n + 1) (step (instr_of g table ordered n l) s))
+      (quiet : (n : ℕ) (l : Launch) (s : MachineState) → n < bound → slice_get ordered n ≡ Some l → HasReached g w value ordered n s → IsFalse (traps (instr_of g table ordered n l) s)) where
     abbrev words : List Instr
     words = instrs_of (items_of g table ordered)
 
@@ -93,7 +50,7 @@ module _ (g : LaunchGraph) (table : Table) (ordered : List Launch) where
           let l = a.0 in
           let pc : s.pc ≡ 4 * n = h.pc in
           let at : fetched words s ≡ Some (instr_of g table ordered n l) = ap (slice_get words) (let k : s.pc / 4 ≡ n = omega arith in k) ∙ word_at_place n l a.2 in
-          subst (HasReached g w value ordered (n + 1)) (sym (stepped_as words s (instr_of g table ordered n l) at (never_traps g table ordered n l s))) (each n l s inside a.2 h))
+          subst (HasReached g w value ordered (n + 1)) (sym (stepped_as words s (instr_of g table ordered n l) at (quiet n l s inside a.2 h))) (each n l s inside a.2 h))
       | inr b ↦ (let le : length ordered ≤ n = b.0 in absurd (omega arith))
     ]
 

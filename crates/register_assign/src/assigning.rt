@@ -9,7 +9,7 @@ ghost use Rattle.register_assign.specs.Assigned.{IsTheListing, HaveWords, MayRun
 
 use crate::listings::Listing;
 use crate::registers::Ordered;
-use graph_meaning::LaunchGraph;
+use graph_meaning::{LaunchGraph, known_multiples_are_true};
 use items::NoMemory;
 use machine_table::Table;
 use schedule_meaning::{Launch, Schedule, group_of};
@@ -51,6 +51,7 @@ pub fn assign(
     ensures run { IfOk result (λ l. MayRun l.items) }
     ensures keeps { IfOk result (λ l. KeepsWord graph.now table.now k l.items l.wheres) }
 {
+    known_multiples_are_true();
     let launches = in_word_order(alloc, graph, schedule.launches.as_slice())?;
     let ordered = Ordered {
         graph,

@@ -8,8 +8,8 @@
 //! instructions keep to the table; in every world where the graph is true the words run to their end with each
 //! target's value in its place, the memory's new value, and all registers except those of the pool and the pins as
 //! at entry; or, where the guard is 0, leave by the branch with memory and all these registers as at entry, and
-//! without a load that waits for the guard (`keeps`). Out of memory is its one refusal. `worked_listing` has the
-//! words of small schedules.
+//! without a load that waits for the guard. They never trap there (`keeps`). Out of memory is its one refusal.
+//! `worked_listing` has the words of small schedules.
 #![tactic(auto)]
 
 mod assigning;

@@ -10,7 +10,7 @@ use items::NoMemory;
 use std::alloc::Global;
 
 /// The word of each item, in order.
-#[tactic(auto, using(crate::proofs::WordByWord::words_more, crate::proofs::WordByWord::words_all, crate::proofs::WordByWord::encoded_more, crate::proofs::WordByWord::encoded_all))]
+#[tactic(auto, using(crate::proofs::WordByWord::words_all, crate::proofs::WordByWord::encoded_all))]
 pub fn words_of(alloc: Global, items: &[Item]) -> Result<Vec<u32>, NoMemory>
     requires { HaveWords items.now }
     ensures words { IfOk result (λ words. words.items ≡ map (λ a. encoded a.instr) items.now) }

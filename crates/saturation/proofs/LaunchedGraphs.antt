@@ -1,5 +1,5 @@
 -- The launch graph of a goal: its rows, and the classes of the goal's terms.
-use Rattle.std.proofs.Common.{◌≡◌, ◌≢◌, ℕ, zero, suc, ◌+◌, ◌<◌, Option, Some, None, option_map, List, [], ◌∷◌, ◌++◌, length, map, get_or, slice_index, refl, sym, ap, ap₂, ◌∙◌, subst, arith, All, AllPairs, Contains}
+use Rattle.std.proofs.Common.{◌≡◌, ◌≢◌, ℕ, zero, suc, ◌+◌, ◌<◌, ◌^◌, Option, Some, None, option_map, List, [], ◌∷◌, ◌++◌, length, map, get_or, slice_index, refl, sym, ap, ap₂, ◌∙◌, subst, arith, All, AllPairs, Contains}
 use Rattle.std.specs.Prelude.{IfSome, IsTrue}
 use Rattle.std.specs.List.{AllZip, cons_option}
 use Rattle.std.proofs.lemmas.List.{get_or-map, length-map, length-append, get_or_append_left, get_or-append-add}
@@ -30,8 +30,10 @@ use Rattle.goal_meaning.specs.declared.goals.Goal.{Goal}
 use Rattle.goal_meaning.specs.declared.goals.InputReg.{InputReg}
 use Rattle.goal_meaning.specs.declared.goals.Set.{Set}
 use Rattle.graph_meaning.specs.Graphs.{HaveOwnPins, is_memory_name, registers_of}
-use Rattle.graph_meaning.specs.WellFormed.{IsLaunchGraph, ClassHasSort, set_sort}
+use Rattle.graph_meaning.specs.Multiples.{AreMultiplesOf}
+use Rattle.graph_meaning.specs.WellFormed.{AreInOrder, IsLaunchGraph, ClassHasSort, TakesItsSorts, set_sort}
 use Rattle.graph_meaning.specs.declared.graphs.LaunchGraph.{LaunchGraph}
+use Rattle.graph_meaning.specs.declared.graphs.LaunchRow.{LaunchRow}
 use Rattle.graph_meaning.specs.declared.graphs.InputClass.{InputClass}
 use Rattle.graph_meaning.specs.declared.graphs.SetClass.{SetClass}
 use Rattle.graph_meaning.specs.declared.graphs.Guard.{Guard}
@@ -89,6 +91,22 @@ below_lets declared inputs ss (t ∷ ts) h (suc k) d l =
     let e : length (ss ++ sort_of_tree ss t ∷ []) + k ≡ length ss + suc k = omega (arith, length-append ss (sort_of_tree ss t ∷ [])) in
     subst (λ n. AreBelow n (get_or ts k d)) e (below_lets declared inputs (ss ++ sort_of_tree ss t ∷ []) ts h.1 k d (omega (arith, l)))
 
+-- ---- rows whose multiples can be found
+
+-- what the finding of multiples asks of rows
+pub record CanHaveMultiples (rows : List LaunchRow) : Type 0 where
+  pub few : length rows < 2 ^ 30
+  pub below : All (λ r. (r.class < length rows) × All (λ c. c < length rows) r.operands) rows
+
+-- rows in order that take their sorts have classes below their number
+abbrev pub OrderedAreBelow : Type 0
+OrderedAreBelow =
+    (g : LaunchGraph) → AreInOrder g.rows → All (TakesItsSorts g) g.rows
+    → All (λ r. (r.class < length g.rows) × All (λ c. c < length g.rows) r.operands) g.rows
+
+graph_with : List LaunchRow → LaunchGraph
+graph_with rows = record { rows = rows; multiples = []; entry = 0; inputs = []; pool = []; guard = None; sets = [] }
+
 -- ---- a goal that may be launched
 
 module _ (input : InputTree) (goal : Goal) (is_input : IsInput input) (given : Contains input.goals (goal_view goal)) (graph : Graph Op) (can : CanMakeLaunchGraph input.ops (goal_view goal) graph) where
@@ -131,6 +149,20 @@ module _ (input : InputTree) (goal : Goal) (is_input : IsInput input) (given : C
   lets_below k d l =
       let e : 0 + k ≡ k = omega arith in
       subst (λ n. AreBelow n (get_or (let_values (goal_view goal).lets) k d)) e (below_lets input.ops goal.inputs [] (let_values (goal_view goal).lets) goal_is.lets k d l)
+
+  pub rows_can_have : OrderedAreBelow → (numbers : List ℕ) → AreClassNumbers graph numbers
+      → (launched : List LaunchRow)
+      → launched ≡ map (launched_row numbers (firsts (indexes_of graph.rows)) input.ops) graph.rows → CanHaveMultiples launched
+  unfolding graph_with
+  rows_can_have ordered numbers are launched rows_are =
+      let g : LaunchGraph = graph_with launched in
+      record {
+        few = omega (arith, can.few, ap length rows_are, length-map graph.rows (launched_row numbers (firsts (indexes_of graph.rows)) input.ops));
+        below =
+            ordered g
+            (rows.classes input.ops is_input.operators_differ is_input.operators is_input.few.0 graph can.graph_is can.operators numbers are g rows_are)
+            (rows.operands input.ops is_input.operators_differ is_input.operators is_input.few.0 graph can.graph_is can.operators numbers are g rows_are);
+      }
 
   -- ---- with the classes of its lets
 
@@ -195,6 +227,7 @@ module _ (input : InputTree) (goal : Goal) (is_input : IsInput input) (given : C
     pub record IsApplied (numbers : List ℕ) (g : LaunchGraph) : Type 0 where
       pub numbers_are : AreClassNumbers graph numbers
       pub rows_are : g.rows ≡ map (launched_row numbers (firsts (indexes_of graph.rows)) input.ops) graph.rows
+      pub multiples : AreMultiplesOf g.rows g.multiples
       pub entry : IsClassNumber graph [] numbers entry_term g.entry
       pub inputs : AllZip (IsInputNumber graph numbers) g.inputs goal.inputs
       pub pool : g.pool ≡ goal.pool
@@ -317,6 +350,7 @@ module _ (input : InputTree) (goal : Goal) (is_input : IsInput input) (given : C
         unnamed = rows.unnamed input.ops is_input.operators_differ is_input.operators is_input.few.0 graph can.graph_is can.operators numbers made.numbers_are g made.rows_are;
         same_name = rows.same_name input.ops is_input.operators_differ is_input.operators is_input.few.0 graph can.graph_is can.operators numbers made.numbers_are g made.rows_are;
         named = rows.named input.ops is_input.operators_differ is_input.operators is_input.few.0 graph can.graph_is can.operators numbers made.numbers_are g made.rows_are;
+        multiples = made.multiples;
         entry = subst (ClassHasSort g sorts.Memory) (sym made.entry.2) (leaf_sort Entry made.entry.0 made.entry.1);
         inputs = zip_all (IsInputNumber graph numbers) (λ (i : InputReg). i.reg < 31) (λ (c : InputClass). ClassHasSort g sorts.Word c.class × (c.reg < 31)) g.inputs goal.inputs
             (λ c i h low. (subst (ClassHasSort g sorts.Word) (sym h.class.2) (leaf_sort (Input i.reg) h.class.0 h.class.1), (let e = h.register in omega arith)))

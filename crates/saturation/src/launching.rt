@@ -22,7 +22,9 @@ use crate::rounds::Saturated;
 use axiom_base::schemes_are_true;
 use egraph::{Egraph, Row};
 use goal_meaning::{DeclaredOp, Goal, Input, InputReg, Set, expanded_terms_are_sorted};
-use graph_meaning::{Guard, InputClass, LaunchGraph, LaunchRow, SetClass};
+use graph_meaning::{
+    Guard, InputClass, LaunchGraph, LaunchRow, SetClass, graphs_are_consistent, known_multiples,
+};
 use items::{Items, NoMemory};
 use pattern_match::class_of_pattern;
 use std::alloc::Global;
@@ -48,13 +50,16 @@ pub fn to_launch(
 {
     schemes_are_true();
     expanded_terms_are_sorted();
+    graphs_are_consistent();
     let graph = &saturated.graph;
     let numbers = class_numbers(alloc, graph)?;
     let used = used_operators(alloc, graph)?;
     let rows = launch_rows(alloc, graph, &numbers, &used, input.ops.as_slice())?;
     let lets = let_classes(alloc, graph, goal.lets.as_slice())?;
+    let multiples = known_multiples(alloc, rows.as_slice())?;
     Ok(LaunchGraph {
         rows: Items::from(rows),
+        multiples,
         entry: leaf_number(graph, &numbers, Op::Entry),
         inputs: Items::from(launch_inputs(alloc, graph, &numbers, goal.inputs.as_slice())?),
         pool: Items::from_slice(alloc, goal.pool.as_slice())?,

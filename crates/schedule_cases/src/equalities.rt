@@ -3,7 +3,7 @@ use axiom_base::{CALC_KINDS, Calc, calc, calc_left, calc_right};
 use case_files::{Trouble, Words, put, put_number};
 use itoa::Buffer;
 use std::alloc::Global;
-use word_ops::{Access, Op, op_name};
+use word_ops::{Op, op_name};
 use word_terms::Term;
 
 /// The name of an operator, with what it holds.
@@ -16,10 +16,10 @@ fn put_operator(report: &mut Vec<u8>, op: Op) -> Result<(), Trouble> {
         }
         Op::Constant(word) => put(report, Buffer::new().format(word).as_bytes()),
         Op::Word(op) => put(report, op_name(op)),
-        Op::Select(Access::Quad) => put(report, b"select"),
-        Op::Store(Access::Quad) => put(report, b"store"),
-        Op::Load(Access::Quad) => put(report, b"load"),
-        Op::Put(Access::Quad) => put(report, b"put"),
+        Op::Select(access) => put(report, access.select_name()),
+        Op::Store(access) => put(report, access.store_name()),
+        Op::Load(access) => put(report, access.load_name()),
+        Op::Put(access) => put(report, access.put_name()),
         Op::Declared { index, .. } => {
             put(report, b"use")?;
             put_number(report, u64::from(index))

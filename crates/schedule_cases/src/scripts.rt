@@ -37,12 +37,30 @@ fn operator(name: &[u8], words: &mut Words<'_>) -> Result<Op, Trouble> {
         b"memory" => Op::Entry,
         b"input" => Op::Input((words.small()? % 31) as u8),
         b"const" => Op::Constant(words.number()?),
-        b"select" => Op::Select(Access::Quad),
-        b"store" => Op::Store(Access::Quad),
-        b"load" => Op::Load(Access::Quad),
-        b"put" => Op::Put(Access::Quad),
-        _ => Op::Word(op_of(name).ok_or(Trouble::Unread)?),
+        _ => match on_memory(name) {
+            Some(op) => op,
+            None => Op::Word(op_of(name).ok_or(Trouble::Unread)?),
+        },
     })
+}
+
+/// The operator on a memory that has the name.
+fn on_memory(name: &[u8]) -> Option<Op> {
+    for access in [Access::Quad, Access::Byte, Access::Word, Access::Long] {
+        if name == access.select_name() {
+            return Some(Op::Select(access));
+        }
+        if name == access.store_name() {
+            return Some(Op::Store(access));
+        }
+        if name == access.load_name() {
+            return Some(Op::Load(access));
+        }
+        if name == access.put_name() {
+            return Some(Op::Put(access));
+        }
+    }
+    None
 }
 
 /// The classes that are left on a line.

@@ -1,10 +1,13 @@
 -- Which rows can be launched, where a launch's word goes, what it reads and gives, and in which order the words stand.
 -- Source: this project, over the launches of Denali (PLDI 2002) and the clusters of the Alpha 21264.
-use Rattle.std.specs.Prelude.{◌≡◌, ℕ, ◌+◌, ◌-◌, ◌<◌, ◌≤◌, List, [], ◌∷◌, length, Option, Some, None, ◌==◌, ◌&&◌, nat_lt, Bool, true, false, not, unwrap_or, option_map, option_and_then, is_some, All, AllPairs, Any, if◌then◌else◌, IsTrue, ◌⊎◌, slice_get, slice_index, IsPermutation}
+use Rattle.std.specs.Prelude.{◌≡◌, ℕ, ◌+◌, ◌-◌, ◌<◌, ◌≤◌, List, [], ◌∷◌, length, Option, Some, None, ◌==◌, ◌&&◌, nat_lt, nat_le, Bool, true, false, not, unwrap_or, option_map, option_and_then, is_some, All, AllPairs, Any, if◌then◌else◌, IsTrue, ◌⊎◌, slice_get, slice_index, IsPermutation}
 use Rattle.std.specs.Option.{option_map_or}
 use Rattle.machine_table.specs.InstrOrder.{operate_kind}
 use Rattle.machine_table.specs.Tables.{cluster_of, ready}
-use Rattle.graph_meaning.specs.Graphs.{constant_of, is_input_register}
+use Rattle.graph_meaning.specs.Graphs.{constant_of, is_input_register, multiple_of}
+use Rattle.graph_meaning.specs.Multiples.{is_sum_multiple}
+use Rattle.word_ops.specs.Memory.{alignment}
+use Rattle.word_ops.specs.declared.sorts.Access.{Access}
 use Rattle.word_ops.specs.declared.operators.WordOp.{WordOp}
 use Rattle.word_ops.specs.declared.operators.WordOp.TheVariants as ops
 use Rattle.machine_table.specs.declared.tables.InstrKind.{InstrKind}
@@ -33,13 +36,25 @@ word_op_instr g ops.Lda operands = displaced g kinds.Lda (slice_index operands 1
 word_op_instr g ops.Ldah operands = displaced g kinds.Ldah (slice_index operands 1)
 word_op_instr g op operands = operate_kind op
 
+-- the class of an access's address is known to be the multiple that the address has to be for its instruction not to
+-- trap
+abbrev pub is_aligned : LaunchGraph → Access → List ℕ → Bool
+is_aligned g access operands = nat_le (alignment access) (multiple_of g (slice_index operands 1))
+
+-- the same of the sum of its base and displacement
+abbrev pub is_sum_aligned : LaunchGraph → Access → List ℕ → Bool
+is_sum_aligned g access operands =
+    is_sum_multiple g (alignment access) (slice_index operands 1) (slice_index operands 2)
+
 -- the instruction of a row that can be launched
 abbrev pub op_instr : LaunchGraph → Op → List ℕ → Option InstrKind
 op_instr g (Word op) operands = word_op_instr g op operands
-op_instr g (Select access) operands = Some (kinds.Load access)
-op_instr g (Store access) operands = Some (kinds.Store access)
-op_instr g (Load access) operands = displaced g (kinds.Load access) (slice_index operands 2)
-op_instr g (Put access) operands = displaced g (kinds.Store access) (slice_index operands 2)
+op_instr g (Select access) operands = if is_aligned g access operands then Some (kinds.Load access) else None
+op_instr g (Store access) operands = if is_aligned g access operands then Some (kinds.Store access) else None
+op_instr g (Load access) operands =
+    if is_sum_aligned g access operands then displaced g (kinds.Load access) (slice_index operands 2) else None
+op_instr g (Put access) operands =
+    if is_sum_aligned g access operands then displaced g (kinds.Store access) (slice_index operands 2) else None
 op_instr g _ operands = None
 
 -- the class of a set that has a pin

@@ -51,6 +51,7 @@ sum_graph = record {
   rows = plain_row 0 op.Entry [] ∷ plain_row 1 (op.Input 16) [] ∷ plain_row 2 (op.Input 17) []
       ∷ plain_row 3 (op.Word (ops.Operate operates.Addq)) (1 ∷ 2 ∷ [])
       ∷ plain_row 4 (op.Word (ops.Operate operates.Xor)) (3 ∷ 1 ∷ []) ∷ [];
+  multiples = [];
   entry = 0;
   inputs = input_class (codes "a") 16 1 ∷ input_class (codes "b") 17 2 ∷ [];
   pool = low_pool ++ 18 ∷ high_pool;
@@ -72,6 +73,7 @@ copy_graph_with held pool = record {
       ∷ plain_row 8 (op.Word (ops.Operate operates.Addq)) (1 ∷ 7 ∷ [])
       ∷ plain_row 9 (op.Word (ops.Operate operates.Addq)) (2 ∷ 7 ∷ [])
       ∷ [];
+  multiples = [];
   entry = 0;
   inputs = input_class (codes "p") 16 1 ∷ input_class (codes "q") 17 2 ∷ input_class (codes "r") 18 3 ∷ [];
   pool = pool;
@@ -129,6 +131,7 @@ abbrev pub step_graph : LaunchGraph
 step_graph = record {
   rows = plain_row 0 op.Entry [] ∷ plain_row 1 (op.Input 16) [] ∷ plain_row 2 (op.Constant 8) []
       ∷ plain_row 3 (op.Word (ops.Operate operates.Addq)) (1 ∷ 2 ∷ []) ∷ [];
+  multiples = [];
   entry = 0;
   inputs = input_class (codes "p") 16 1 ∷ [];
   pool = low_pool ++ high_pool;
@@ -143,6 +146,7 @@ step_in_one = to_set 0 0 3 0 ∷ []
 abbrev pub exchange_graph : LaunchGraph
 exchange_graph = record {
   rows = plain_row 0 op.Entry [] ∷ plain_row 1 (op.Input 16) [] ∷ plain_row 2 (op.Input 17) [] ∷ [];
+  multiples = [];
   entry = 0;
   inputs = input_class (codes "p") 16 1 ∷ input_class (codes "q") 17 2 ∷ [];
   pool = low_pool ++ high_pool;

@@ -9,7 +9,7 @@ ghost use Rattle.schedule_meaning.specs.Launches as launches;
 use crate::schedules::{Group, Launch, To};
 use graph_meaning::LaunchGraph;
 use machine_table::{InstrKind, Table, operate_kind};
-use word_ops::{Op, Operate, WordOp};
+use word_ops::{Access, Op, Operate, WordOp};
 
 /// The class of an operand by its place; 0 where there is none.
 pub fn operand_class(operands: &[u32], at: usize) -> u32
@@ -30,6 +30,19 @@ fn displaced(graph: &LaunchGraph, instr: InstrKind, class: u32) -> Option<InstrK
     }
 }
 
+fn is_aligned(graph: &LaunchGraph, access: Access, operands: &[u32]) -> bool
+    ensures { result ≡ launches.is_aligned graph.now access operands.now }
+{
+    access.alignment() <= graph.multiple_of(operand_class(operands, 1))
+}
+
+fn is_sum_aligned(graph: &LaunchGraph, access: Access, operands: &[u32]) -> bool
+    ensures { result ≡ launches.is_sum_aligned graph.now access operands.now }
+{
+    let (base, displacement) = (operand_class(operands, 1), operand_class(operands, 2));
+    graph.is_sum_multiple(access.alignment(), base, displacement)
+}
+
 /// The instruction of a row's operator, if it has one.
 fn op_instr(graph: &LaunchGraph, op: Op, operands: &[u32]) -> Option<InstrKind>
     ensures { result ≡ launches.op_instr graph.now op operands.now }
@@ -38,10 +51,14 @@ fn op_instr(graph: &LaunchGraph, op: Op, operands: &[u32]) -> Option<InstrKind>
         Op::Word(WordOp::Lda) => displaced(graph, InstrKind::Lda, operand_class(operands, 1)),
         Op::Word(WordOp::Ldah) => displaced(graph, InstrKind::Ldah, operand_class(operands, 1)),
         Op::Word(op) => operate_kind(op),
-        Op::Select(access) => Some(InstrKind::Load(access)),
-        Op::Store(access) => Some(InstrKind::Store(access)),
-        Op::Load(access) => displaced(graph, InstrKind::Load(access), operand_class(operands, 2)),
-        Op::Put(access) => displaced(graph, InstrKind::Store(access), operand_class(operands, 2)),
+        Op::Select(access) if is_aligned(graph, access, operands) => Some(InstrKind::Load(access)),
+        Op::Store(access) if is_aligned(graph, access, operands) => Some(InstrKind::Store(access)),
+        Op::Load(access) if is_sum_aligned(graph, access, operands) => {
+            displaced(graph, InstrKind::Load(access), operand_class(operands, 2))
+        }
+        Op::Put(access) if is_sum_aligned(graph, access, operands) => {
+            displaced(graph, InstrKind::Store(access), operand_class(operands, 2))
+        }
         _ => None,
     }
 }
@@ -68,7 +85,8 @@ pub fn copied_at(graph: &LaunchGraph, row: u32) -> Option<u32>
 }
 
 /// The instruction of a row's number, where the row can be launched; that of the number one past the last row is the
-/// branch of a guard, and a copy is a bis. It looks at each row in turn where the row has a displacement.
+/// branch of a guard, and a copy is a bis. It looks at each row in turn where the row has a displacement, twice where
+/// its access doesn't take every address.
 pub fn instr_at(graph: &LaunchGraph, row: u32) -> Option<InstrKind>
     ensures { result ≡ launches.instr_at graph.now row }
 {

@@ -3,16 +3,19 @@ use Rattle.std.proofs.Common.{◌≡◌, ℕ, ◌<◌, ◌^◌, List, length, ge
 use Rattle.std.proofs.lemmas.Bool.{cases_lt}
 use Rattle.std.proofs.lemmas.List.{get_or_past}
 use Rattle.word_ops.specs.Words.{IsWord}
-use Rattle.word_ops.specs.Memory.{Memory, IsMemory, select, store, loaded, stored, load, put}
+use Rattle.word_ops.specs.Memory.{Memory, IsMemory, select, store, read_in, with_bytes, written_in, loaded, stored, load, put}
+use Rattle.word_ops.specs.Values.{addq, ext_low, ins_low, msk_low}
 use Rattle.word_ops.specs.declared.sorts.Access.{Access}
-use Rattle.word_ops.specs.declared.sorts.Access.TheVariants.{Quad}
+use Rattle.word_ops.specs.declared.sorts.Access.TheVariants as accesses
 use Rattle.word_ops.specs.Worlds.{Value, word, memory, World, IsWorld, IsValue}
 use Rattle.word_ops.specs.Meanings.{meaning, sort_of, arity_of_op, operand_sort, AreOperands, IsInRange, as_word, as_memory, word_operand, memory_operand}
 use Rattle.word_ops.specs.declared.sorts.Sort.{Sort}
 use Rattle.word_ops.specs.declared.sorts.Sort.TheVariants as sorts
 use Rattle.word_ops.specs.declared.sorts.Op.{Op}
 use Rattle.word_ops.specs.declared.sorts.Op.TheVariants.{Entry, Input, Constant, Word, Select, Store, Load, Put, Declared}
-use Rattle.word_ops.proofs.ValueRanges.{value_at-lt, operand-lt, lda-lt}
+use Rattle.word_ops.proofs.OperatorBits.{sign_extended-lt}
+use Rattle.word_ops.proofs.StoredByte.{bis-lt, ins_low-lt, msk_low-lt}
+use Rattle.word_ops.proofs.ValueRanges.{value_at-lt, operand-lt, lda-lt, ext_low-lt}
 use Rattle.word_ops.proofs.Stored.{word_at-lt, IsMemory-put_word}
 
 word_of_value : (sort : Sort) (v : Value) → IsValue sort v → IsWord (as_word v)
@@ -41,13 +44,28 @@ store-is : (m : Memory) (a v : ℕ) → IsMemory m → a < 2 ^ 64 → v < 2 ^ 64
 unfolding store
 store-is m a v h f g = IsMemory-put_word m _ v h (omega arith) g
 
+with_bytes-lt : (w q a v : ℕ) → with_bytes w q a v < 2 ^ 64
+with_bytes-lt w q a v = bis-lt (msk_low w q a) (ins_low w v a) (msk_low-lt w q a) (ins_low-lt w v a)
+
+read_in-lt : (access : Access) (q a : ℕ) → IsWord q → IsWord (read_in access q a)
+read_in-lt accesses.Quad q a h = h
+read_in-lt accesses.Byte q a h = ext_low-lt 1 q a h
+read_in-lt accesses.Word q a h = ext_low-lt 2 q a h
+read_in-lt accesses.Long q a h = sign_extended-lt 32 (addq (ext_low 4 q a) 0) (omega arith)
+
+written_in-lt : (access : Access) (q a v : ℕ) → IsWord v → IsWord (written_in access q a v)
+written_in-lt accesses.Quad q a v h = h
+written_in-lt accesses.Byte q a v h = with_bytes-lt 1 q a v
+written_in-lt accesses.Word q a v h = with_bytes-lt 2 q a v
+written_in-lt accesses.Long q a v h = with_bytes-lt 4 q a v
+
 pub loaded-lt : (access : Access) (m : Memory) (a : ℕ) → IsMemory m → IsWord (loaded access m a)
 unfolding loaded
-loaded-lt Quad m a h = select-lt m a h
+loaded-lt access m a h = read_in-lt access (select m a) a (select-lt m a h)
 
 pub stored-is : (access : Access) (m : Memory) (a v : ℕ) → IsMemory m → a < 2 ^ 64 → v < 2 ^ 64 → IsMemory (stored access m a v)
 unfolding stored
-stored-is Quad m a v h f g = store-is m a v h f g
+stored-is access m a v h f g = store-is m a _ h f (written_in-lt access (select m a) a v g)
 
 load-lt : (access : Access) (m : Memory) (x k : ℕ) → IsMemory m → IsWord (load access m x k)
 unfolding load

@@ -127,7 +127,7 @@ eqv-lt : (a b : ℕ) → a < 2 ^ 64 → b < 2 ^ 64 → eqv a b < 2 ^ 64
 unfolding eqv
 eqv-lt a b f g = xor_lt 64 a (2 ^ 64 - 1 - b) f (omega arith)
 
-ext_low-lt : (w a b : ℕ) → a < 2 ^ 64 → ext_low w a b < 2 ^ 64
+pub ext_low-lt : (w a b : ℕ) → a < 2 ^ 64 → ext_low w a b < 2 ^ 64
 unfolding ext_low
 ext_low-lt w a b f = omega (arith, shr_le a (8 * (b % 8)), mod-le (a / 2 ^ (8 * (b % 8))) (2 ^ (8 * w)))
 

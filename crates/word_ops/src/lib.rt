@@ -6,11 +6,13 @@
 //!
 //! Proved: `apply` gives the Handbook's value of each operate, and this project's of the six other operators; `op_name`
 //! and `op_of` are one table of names, both ways; each operator stands at its number alone, with a name of its own
-//! (`operators_are_listed`). Each call of `Mem` is exact, also when it is refused. Laws: what operators give is in
-//! range (`meanings_are_in_range`), what a memory holds after a write, and when two are equal (`memories_hold_words`),
-//! the bits of shifts, extended signs and masks (`words_have_bits`).
+//! (`operators_are_listed`). Each call of `Mem` is exact, also when it is refused, and so are the loads and stores of
+//! each `Access`, which gives the names of the operators that read and write so. Laws: what operators give is in range
+//! (`meanings_are_in_range`), what a memory holds after a write, and when two are equal (`memories_hold_words`), the
+//! bits of shifts, extended signs and masks (`words_have_bits`).
 #![tactic(auto)]
 
+mod accesses;
 mod arithmetic;
 mod bitwise;
 mod bytes;

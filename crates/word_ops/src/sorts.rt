@@ -12,11 +12,18 @@ pub enum Sort {
     Memory,
 }
 
-/// How much of memory a load reads or a store writes.
+/// How much of memory a load reads or a store writes. All but `Quad` stay within the aligned 64-bit word that holds the
+/// address.
 #[derive(Clone, Copy, PartialEq, Eq, Debug)]
 pub enum Access {
     /// The aligned 64-bit word that holds the address.
     Quad,
+    /// The byte at the address.
+    Byte,
+    /// Two bytes, at an even address.
+    Word,
+    /// Four bytes, at a multiple of 4. A load extends their sign.
+    Long,
 }
 
 /// How many operands a declared operator takes.
@@ -37,9 +44,9 @@ pub enum Op {
     Input(u8),
     Constant(u64),
     Word(WordOp),
-    /// The word at an address of a memory.
+    /// What an access reads at an address of a memory.
     Select(Access),
-    /// A memory with a word put at an address.
+    /// A memory to which an access wrote at an address.
     Store(Access),
     /// `Select` at a base and a displacement, as an instruction has them.
     Load(Access),

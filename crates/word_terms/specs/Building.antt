@@ -30,7 +30,7 @@ o2 operate a b = w2 (words.Operate operate) a b
 abbrev pub constant : ℕ → Tree Op
 constant n = application (Constant n) none
 
--- the word of a memory at an address, and the memory with a word put there
+-- what an access reads of a memory at an address, and the memory that it leaves where it writes there
 abbrev pub read_of : Access → Tree Op → Tree Op → Tree Op
 read_of access m a = application (Select access) (more m (more a none))
 
@@ -44,8 +44,8 @@ abbrev pub store_of : Tree Op → Tree Op → Tree Op → Tree Op
 store_of m a v = written_of Quad m a v
 
 -- the same at a base and a displacement
-abbrev pub load_of : Tree Op → Tree Op → Tree Op → Tree Op
-load_of m x k = application (Load Quad) (more m (more x (more k none)))
+abbrev pub displaced_read_of : Access → Tree Op → Tree Op → Tree Op → Tree Op
+displaced_read_of access m x k = application (Load access) (more m (more x (more k none)))
 
-abbrev pub put_of : Tree Op → Tree Op → Tree Op → Tree Op → Tree Op
-put_of m x k v = application (Put Quad) (more m (more x (more k (more v none))))
+abbrev pub displaced_written_of : Access → Tree Op → Tree Op → Tree Op → Tree Op → Tree Op
+displaced_written_of access m x k v = application (Put access) (more m (more x (more k (more v none))))

@@ -4,14 +4,17 @@ use Rattle.std.specs.Prelude.{ℕ, ◌+◌}
 use Rattle.word_ops.specs.Operators.{number_of}
 use Rattle.word_ops.specs.Meanings.{count_of, arity_of_op, sort_of, operand_sort, constant_in}
 use Rattle.word_ops.specs.declared.sorts.Access.{Access}
-use Rattle.word_ops.specs.declared.sorts.Access.TheVariants.{Quad}
+use Rattle.word_ops.specs.declared.sorts.Access.TheVariants as accesses
 use Rattle.word_ops.specs.declared.sorts.Op.{Op}
 use Rattle.word_ops.specs.declared.sorts.Op.TheVariants.{Entry, Input, Constant, Word, Select, Store, Load, Put, Declared}
 use Rattle.word_terms.specs.Signature.{Signature}
 
 -- the access's place among the accesses, from 0
 abbrev pub access_number : Access → ℕ
-access_number Quad = 0
+access_number accesses.Quad = 0
+access_number accesses.Byte = 1
+access_number accesses.Word = 2
+access_number accesses.Long = 3
 
 abbrev pub key_of : Op → ℕ × ℕ
 key_of Entry = (0, 0)

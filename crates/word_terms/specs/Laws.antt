@@ -7,13 +7,14 @@ use Rattle.word_ops.specs.Worlds.{World, word}
 use Rattle.word_ops.specs.declared.operators.WordOp.{WordOp}
 use Rattle.word_ops.specs.declared.operators.WordOp.TheVariants.{Operate, Neg}
 use Rattle.word_ops.specs.declared.operates.Operate.TheVariants.{Addl}
-use Rattle.word_ops.specs.declared.sorts.Access.TheVariants.{Quad}
+use Rattle.word_ops.specs.declared.sorts.Access.{Access}
+use Rattle.word_ops.specs.declared.sorts.Access.TheVariants as accesses
 use Rattle.word_ops.specs.declared.sorts.Sort.TheVariants as sorts
 use Rattle.word_ops.specs.declared.sorts.Arity.{Arity}
 use Rattle.word_ops.specs.declared.sorts.Arity.TheVariants.{One, Two, Three, Four}
 use Rattle.word_ops.specs.declared.sorts.Op.{Op}
 use Rattle.word_ops.specs.declared.sorts.Op.TheVariants.{Entry, Input, Constant, Word, Select, Store, Load, Put, Declared}
-use Rattle.word_terms.specs.Keys.{key_of}
+use Rattle.word_terms.specs.Keys.{access_number, key_of}
 use Rattle.word_terms.specs.Small.{as_op, small_key}
 use Rattle.word_terms.specs.declared.small.SmallOp.{SmallOp}
 use Rattle.word_terms.specs.declared.small.SmallOp.TheVariants as small
@@ -37,6 +38,20 @@ op_takes_at_most_four _ = omega arith
 arity_of_count : ℕ → Arity
 arity_of_count n = if n == 1 then One else if n == 2 then Two else if n == 3 then Three else Four
 
+access_of_number : ℕ → Access
+access_of_number n =
+    if n == 0 then accesses.Quad
+    else if n == 1 then accesses.Byte
+    else if n == 2 then accesses.Word
+    else accesses.Long
+
+access_of_its_number : (access : Access) → access_of_number (access_number access) ≡ access
+unfolding access_of_number
+access_of_its_number accesses.Quad = refl
+access_of_its_number accesses.Byte = refl
+access_of_its_number accesses.Word = refl
+access_of_its_number accesses.Long = refl
+
 -- the operator of a key
 op_of_key : ℕ × ℕ → Op
 op_of_key key =
@@ -44,19 +59,19 @@ op_of_key key =
     else if key.0 == 1 then Input key.1
     else if key.0 == 2 then Constant key.1
     else if key.0 == 3 then Word (unwrap_or (slice_get operators key.1) Neg)
-    else if key.0 == 4 then Select Quad
-    else if key.0 == 5 then Store Quad
-    else if key.0 == 6 then Load Quad
-    else if key.0 == 7 then Put Quad
+    else if key.0 == 4 then Select (access_of_number key.1)
+    else if key.0 == 5 then Store (access_of_number key.1)
+    else if key.0 == 6 then Load (access_of_number key.1)
+    else if key.0 == 7 then Put (access_of_number key.1)
     else Declared key.1 (arity_of_count (key.0 - 7))
 
 of_its_key : (op : Op) → op_of_key (key_of op) ≡ op
 unfolding op_of_key arity_of_count
 of_its_key (Word op) = ap (λ o. Word (unwrap_or o Neg)) (at_its_number op)
-of_its_key (Select Quad) = refl
-of_its_key (Store Quad) = refl
-of_its_key (Load Quad) = refl
-of_its_key (Put Quad) = refl
+of_its_key (Select access) = ap Select (access_of_its_number access)
+of_its_key (Store access) = ap Store (access_of_its_number access)
+of_its_key (Load access) = ap Load (access_of_its_number access)
+of_its_key (Put access) = ap Put (access_of_its_number access)
 of_its_key (Declared index One) = refl
 of_its_key (Declared index Two) = refl
 of_its_key (Declared index Three) = refl

@@ -61,36 +61,64 @@ pub fn operate_2(
     two(alloc, WordOp::Operate(operate), a, b)
 }
 
+/// What an access reads of memory `m` at address `a`.
+pub fn read(alloc: Global, access: Access, m: Term<Op>, a: Term<Op>) -> Result<Term<Op>, NoMemory>
+    ensures { IfOk result (λ t. tree_of t ≡ trees.read_of access (tree_of m) (tree_of a)) }
+{
+    Ok(application(Op::Select(access), vec![in alloc; m, a]?))
+}
+
+/// Memory `m` once an access wrote `v` at address `a`.
+pub fn written(
+    alloc: Global,
+    access: Access,
+    m: Term<Op>,
+    a: Term<Op>,
+    v: Term<Op>,
+) -> Result<Term<Op>, NoMemory>
+    ensures { IfOk result (λ t. tree_of t ≡ trees.written_of access (tree_of m) (tree_of a) (tree_of v)) }
+{
+    Ok(application(Op::Store(access), vec![in alloc; m, a, v]?))
+}
+
+/// `read` at base `x` and displacement `k`.
+pub fn displaced_read(
+    alloc: Global,
+    access: Access,
+    m: Term<Op>,
+    x: Term<Op>,
+    k: Term<Op>,
+) -> Result<Term<Op>, NoMemory>
+    ensures { IfOk result (λ t. tree_of t ≡ trees.displaced_read_of access (tree_of m) (tree_of x) (tree_of k)) }
+{
+    Ok(application(Op::Load(access), vec![in alloc; m, x, k]?))
+}
+
+/// `written` at base `x` and displacement `k`.
+pub fn displaced_written(
+    alloc: Global,
+    access: Access,
+    m: Term<Op>,
+    x: Term<Op>,
+    k: Term<Op>,
+    v: Term<Op>,
+) -> Result<Term<Op>, NoMemory>
+    ensures { IfOk result (λ t. tree_of t ≡
+        trees.displaced_written_of access (tree_of m) (tree_of x) (tree_of k) (tree_of v)) }
+{
+    Ok(application(Op::Put(access), vec![in alloc; m, x, k, v]?))
+}
+
 /// The word of memory `m` at address `a`.
 pub fn select(alloc: Global, m: Term<Op>, a: Term<Op>) -> Result<Term<Op>, NoMemory>
     ensures { IfOk result (λ t. tree_of t ≡ trees.select_of (tree_of m) (tree_of a)) }
 {
-    Ok(application(Op::Select(Access::Quad), vec![in alloc; m, a]?))
+    read(alloc, Access::Quad, m, a)
 }
 
 /// Memory `m` with `v` at address `a`.
 pub fn store(alloc: Global, m: Term<Op>, a: Term<Op>, v: Term<Op>) -> Result<Term<Op>, NoMemory>
     ensures { IfOk result (λ t. tree_of t ≡ trees.store_of (tree_of m) (tree_of a) (tree_of v)) }
 {
-    Ok(application(Op::Store(Access::Quad), vec![in alloc; m, a, v]?))
-}
-
-/// `select` at base `x` and displacement `k`.
-pub fn load(alloc: Global, m: Term<Op>, x: Term<Op>, k: Term<Op>) -> Result<Term<Op>, NoMemory>
-    ensures { IfOk result (λ t. tree_of t ≡ trees.load_of (tree_of m) (tree_of x) (tree_of k)) }
-{
-    Ok(application(Op::Load(Access::Quad), vec![in alloc; m, x, k]?))
-}
-
-/// `store` at base `x` and displacement `k`.
-pub fn put(
-    alloc: Global,
-    m: Term<Op>,
-    x: Term<Op>,
-    k: Term<Op>,
-    v: Term<Op>,
-) -> Result<Term<Op>, NoMemory>
-    ensures { IfOk result (λ t. tree_of t ≡ trees.put_of (tree_of m) (tree_of x) (tree_of k) (tree_of v)) }
-{
-    Ok(application(Op::Put(Access::Quad), vec![in alloc; m, x, k, v]?))
+    written(alloc, Access::Quad, m, a, v)
 }

@@ -18,7 +18,10 @@ mod small;
 mod term;
 mod word_operator;
 
-pub use building::{constant, load, one, operate_1, operate_2, put, select, store, three, two};
+pub use building::{
+    constant, displaced_read, displaced_written, one, operate_1, operate_2, read, select, store,
+    three, two, written,
+};
 pub use laws::terms_are_trees;
 pub use operator::Operator;
 pub use small::SmallOp;

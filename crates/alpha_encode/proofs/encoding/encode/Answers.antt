@@ -9,6 +9,18 @@ returns-in-Operate-clause-word c = search rules
 pub returns-in-Operate-clause-back : goal.returns-in-Operate-clause-back
 returns-in-Operate-clause-back c = ap decoded (returns-in-Operate-clause-word c) ∙ decoded_encoded c.args.instr c.requires
 
+pub returns-in-Lda-clause-word : goal.returns-in-Lda-clause-word
+returns-in-Lda-clause-word c = search rules
+
+pub returns-in-Lda-clause-back : goal.returns-in-Lda-clause-back
+returns-in-Lda-clause-back c = ap decoded (returns-in-Lda-clause-word c) ∙ decoded_encoded c.args.instr c.requires
+
+pub returns-in-Ldah-clause-word : goal.returns-in-Ldah-clause-word
+returns-in-Ldah-clause-word c = search rules
+
+pub returns-in-Ldah-clause-back : goal.returns-in-Ldah-clause-back
+returns-in-Ldah-clause-back c = ap decoded (returns-in-Ldah-clause-word c) ∙ decoded_encoded c.args.instr c.requires
+
 pub returns-in-Load-clause-word : goal.returns-in-Load-clause-word
 returns-in-Load-clause-word c = search rules
 

@@ -6,6 +6,7 @@ returns c =
     record {
       below = classes.rows_low;
       all_below = classes.all_low;
+      rows_below = classes.all_below;
       classes = λ g sort class h. classes.class_below g h sort class;
       own_sort = classes.own_sorts;
       one_sort = λ g sort other class h. classes.one_sort g h sort other class;

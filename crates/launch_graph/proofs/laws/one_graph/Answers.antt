@@ -10,8 +10,9 @@ use Rattle.launch_graph.proofs.laws.one_graph.Goals as goal
 pub returns : goal.returns
 returns c =
     let names = c.operators_are_listed.ensures.names in
+    let lists = c.classes_are_multiples.ensures.one_list in
     record {
-      graph = λ lines from next other g h p q. graph_once names lines from next other g h p q;
+      graph = λ lines from next other g h p q. graph_once names lists lines from next other g h p q;
       apart = λ lines from next place g kind p f. no_fault_whole lines from next g p names f.at kind f.found;
       first = λ lines from place other kind another. once (BeginsWithGraph 1) (IsGraphText 1) lines from place other kind another;
       printed = λ lines from next g is unpinned few order within same ends.
@@ -23,5 +24,5 @@ returns c =
             is = same;
             ends = ends;
           };
-      alike = λ g h behind other is also ends stops same. lines_once names g h is also behind other ends stops same;
+      alike = λ g h behind other is also ends stops same. lines_once names lists g h is also behind other ends stops same;
     }

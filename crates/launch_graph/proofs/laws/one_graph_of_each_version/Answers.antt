@@ -9,8 +9,9 @@ use Rattle.launch_graph.proofs.laws.one_graph_of_each_version.Goals as goal
 pub returns : goal.returns
 returns c =
     let names = c.operators_are_listed.ensures.names in
+    let lists = c.classes_are_multiples.ensures.one_list in
     record {
-      graph = λ version lines from next other g h p q. graph_once names lines from next other g h p q;
+      graph = λ version lines from next other g h p q. graph_once names lists lines from next other g h p q;
       apart = λ version lines from next place g kind p f. no_fault_whole lines from next g p names f.at kind f.found;
       first = λ version lines from place other kind another. once (BeginsWithGraph version) (IsGraphText version) lines from place other kind another;
       printed = λ lines from next g is few order within same ends.

@@ -1,6 +1,6 @@
 use Rattle.std.proofs.Common.{List, [], ◌∷◌, refl, sym, ◌∙◌}
 use Rattle.word_ops.specs.declared.sorts.Arity.TheVariants.{One}
-use Rattle.word_ops.specs.declared.sorts.Access.TheVariants.{Quad}
+use Rattle.word_ops.specs.declared.sorts.Access.TheVariants as accesses
 use Rattle.word_ops.specs.declared.sorts.Op.{Op}
 use Rattle.word_ops.specs.declared.sorts.Op.TheVariants.{Entry, Input, Constant, Word, Select, Store, Load, Put, Declared}
 use Rattle.launch_graph.specs.RowReading.{named}
@@ -9,7 +9,11 @@ use Rattle.launch_graph.proofs.row_reading.op_head.Goals as goal
 
 pub returns-in-Some-clause-is : goal.returns-in-Some-clause-is
 returns-in-Some-clause-is c =
-    let among : List Op = Entry ∷ Select Quad ∷ Store Quad ∷ Load Quad ∷ Put Quad ∷ [] in
+    let among : List Op =
+    Entry ∷ Select accesses.Quad ∷ Store accesses.Quad ∷ Load accesses.Quad ∷ Put accesses.Quad
+    ∷ Select accesses.Byte ∷ Select accesses.Word ∷ Select accesses.Long ∷ Store accesses.Byte ∷ Store accesses.Word
+    ∷ Store accesses.Long ∷ Load accesses.Byte ∷ Load accesses.Word ∷ Load accesses.Long ∷ Put accesses.Byte
+    ∷ Put accesses.Word ∷ Put accesses.Long ∷ [] in
     found_alone c.args.word.now among c.in-Some.op refl (sym c.alone.ensures ∙ c.in-Some.is)
 
 pub returns-then-same-clause-is : goal.returns-then-same-clause-is

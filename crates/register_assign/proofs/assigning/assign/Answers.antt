@@ -26,7 +26,12 @@ returns-clause-keeps c =
     let order : IsInWordOrder c.args.graph.now c.args.schedule.now.launches c.deref.result.now = search rules in
     let items : c.in_ok-items_of.field-0 ≡ items_of c.args.graph.now c.args.table.now c.deref.result.now = search rules in
     let places : c.in_ok-wheres_of.field-0 ≡ wheres_of c.args.graph.now c.args.table.now c.deref.result.now = search rules in
+    let known = c.known_multiples_are_true.ensures in
     keeps_word c.args.graph.now c.args.table.now c.args.k c.args.schedule.now.launches c.deref.result.now c.requires.graph c.requires.table c.requires.fits c.requires.few order _ _ items places
+    (λ w value is. record {
+      class = λ class n l. known.class c.args.graph.now w value class n c.requires.graph is l;
+      sum = λ n x k e. known.sum c.args.graph.now w value n x k c.requires.graph is e;
+    })
 
 pub returns-clause-run : goal.returns-clause-run
 returns-clause-run c =
